@@ -449,7 +449,9 @@ fi
 check "a word that is no command" is_refused decod
 check "no word" is_refused
 for words in "decode --rate 44100" "decode --hf --threads" "decode --hf --rate 48000" "decode --hf --sensitive" "decode --sensitive --rate 48000" "decode --wav=yes" \
-    "decode recording.raw" "help nothing" "version 1" "bench" "bench --seed 7 --loss 91" "encode --opening 1" "encode --silence 1000001" "encode --level 9" "encode --level 32768" "show --modulo 16" "loop --seed 7" "loop --seed 7 --frames 1001"; do
+    "decode recording.raw" "help nothing" "version 1" "bench" "bench --seed 7 --loss 91" "encode --opening 1" "encode --silence 1000001" "encode --level 9" "encode --level 32768" "show --modulo 16" "loop --seed 7" "loop --seed 7 --frames 1001" \
+    "record --keep 0" "record --keep 17280001" "call --agw 8000 --from N7LEM" "call --agw 8000 --from N7LEM --to NJ7P --via N7LEM," \
+    "call --agw 8000 --from N7LEM --to NJ7P --polls 0"; do
     check "$words" is_refused $words
 done
 check "decode to a full disk" cannot_write decode <samples/direwolf-clean.raw

@@ -29,11 +29,16 @@ needed_beside() {
         "serve --kiss") echo "--agw 18101" ;;
         "serve --agw") echo "--kiss 18100" ;;
         serve*) echo "--kiss 18100 --agw 18101" ;;
+        "call --agw") echo "--from N7LEM --to NJ7P --polls 1" ;;
+        "call --from") echo "--agw 18102 --to NJ7P --polls 1" ;;
+        "call --to") echo "--agw 18102 --from N7LEM --polls 1" ;;
+        "call --polls") echo "--agw 18102 --from N7LEM --to NJ7P" ;;
+        call*) echo "--agw 18102 --from N7LEM --to NJ7P --polls 1" ;;
     esac
 }
 
 # WORDS..: the program refuses these words, or takes them, with nothing to read (which is no WAV file: status 2). Not
-# everybody may open every port (status 10). Where bench loses or gives most it may find no quiet channel, be spent, or run
+# everybody may open every port (status 10), and no station listens for a call (status 11). Where bench loses or gives most it may find no quiet channel, be spent, or run
 # for minutes (statuses 7, 8, and 124 of timeout).
 is_refused() {
     local status=0
@@ -45,10 +50,15 @@ is_taken() {
     if [ "$1" = bench ]; then most=5; fi
     timeout "$most" "$tnc" "$@" </dev/null >/dev/null 2>&1 || status=$?
     case "$1 $status" in
-        *" 0" | "serve 10" | "bench 7" | "bench 8" | "bench 124") ;;
+        *" 0" | "serve 10" | "call 11" | "bench 7" | "bench 8" | "bench 124") ;;
         *" 2") [[ " $* " = *" --wav "* ]] ;;
         *) return 1 ;;
     esac
+}
+
+# WORDS..: what the program writes, however it ends: no station listens for a call.
+written_by() {
+    "$tnc" "$@" 2>/dev/null || [ "$1" = call ]
 }
 
 # The number after a number of any length, and the one before, which is no number before 0.
@@ -129,6 +139,11 @@ for command in $commands; do
         elif [[ $entry == *"|$option call|"* ]]; then
             takes_words "$command" "$option" N7LEM N7LEM-15
             does_not_take "$command" "$option" N7LEM-16 TOOLONGX ""
+            [[ $text != *"It has to be given."* ]] || is_refused "$command" $beside || fault "$command does not need $option"
+            continue
+        elif [[ $entry == *"|$option calls|"* ]]; then
+            takes_words "$command" "$option" N7LEM N7LEM-15,W1AW
+            does_not_take "$command" "$option" N7LEM, ,N7LEM N7LEM,,W1AW A,B,C,D,E,F,G,H,I ""
             continue
         elif [[ $entry != *"|$option n|"* ]]; then
             is_taken "$command" $beside "$option" || fault "$command $option is refused"
@@ -151,8 +166,8 @@ for command in $commands; do
         # the default, or that there is none
         if [[ $text =~ \;\ ([0-9]+)\ if\ it\ is\ not\ given ]]; then
             given=samples/minimodem-clean.frames
-            "$tnc" "$command" $beside <$given >"$room/without"
-            "$tnc" "$command" $beside "$option" "${BASH_REMATCH[1]}" <$given | cmp -s - "$room/without" \
+            written_by "$command" $beside <$given >"$room/without"
+            written_by "$command" $beside "$option" "${BASH_REMATCH[1]}" <$given | cmp -s - "$room/without" \
                 || fault "$command $option has another default"
         elif [[ $text == *"It has to be given."* ]]; then
             is_refused "$command" $beside || fault "$command does not need $option"
@@ -190,7 +205,7 @@ for command in $commands; do
     [ "$("$tnc" "$command" --help)" = "$help" ] || fault "$command --help is not help $command"
     [ "$(joined <<<"$help" | sed -n '1s/^Usage: //p')" = "$(grep "^tnc $command\( \|$\)" <<<"$synopsis")" ] \
         || fault "help $command has another synopsis"
-    told=$(sed -n 's/^  \(--[a-z-]*\)\( n\| name\| call\|\) .*/\1\2/p' <<<"$help" | sort)
+    told=$(sed -n 's/^  \(--[a-z-]*\)\( n\| name\| calls\| call\|\) .*/\1\2/p' <<<"$help" | sort)
     [ "$told" = "$(sed -n "s/^$command|\([^|]*\)|.*/\1/p" <<<"$entries" | sort)" ] || fault "help $command has the options" $told
     while IFS='|' read -r _ option text; do
         line=$(grep -- "^  $option  *" <<<"$help" || true)

@@ -8,12 +8,14 @@ use Rattle.clap.specs.Words.{Kinds, Text}
 use Rattle.tnc_words.specs.declared.command.Command.{Command}
 use Rattle.tnc_words.specs.declared.command.Command.TheVariants.{Decode as ToDecode, Encode as ToEncode, Show as ToShow}
 use Rattle.tnc_words.specs.declared.command.Command.TheVariants.{Loop as ToLoop, Bench as ToBench, Serve as ToServe}
-use Rattle.tnc_words.specs.declared.command.Command.TheVariants.{Help, Version}
+use Rattle.tnc_words.specs.declared.command.Command.TheVariants.{Record as ToRecord, Call as ToCall, Help, Version}
 use Rattle.tnc_words.specs.declared.topic.Topic.{Topic}
-use Rattle.tnc_words.specs.declared.topic.Topic.TheVariants.{Program, Decode, Encode, Show, Loop, Bench, Serve}
+use Rattle.tnc_words.specs.declared.topic.Topic.TheVariants.{Program, Decode, Encode, Show, Loop, Bench, Serve, Record}
+use Rattle.tnc_words.specs.declared.topic.Topic.TheVariants.{Call}
 use Rattle.tnc_words.specs.Commands.{Asks, first_word}
 use Rattle.tnc_words.specs.Help.{IsHelp, IsVersion}
 use Rattle.tnc_words.specs.Options.{decode_faults, encode_faults, show_faults, loop_faults, bench_faults, serve_faults}
+use Rattle.tnc_words.specs.Options.{record_faults, call_faults}
 
 -- ---- what the words ask for, as a number
 
@@ -29,7 +31,7 @@ is_none (fault ∷ faults) = false
 abbrev takes : Text → Kinds → List Text → Bool
 takes name faults words = is_text (first_word words) name && is_none faults
 
--- each of the six
+-- each of the eight
 abbrev takes_decode : List Text → Bool
 takes_decode words = takes (codes "decode") (decode_faults words) words
 
@@ -48,14 +50,22 @@ takes_bench words = takes (codes "bench") (bench_faults words) words
 abbrev takes_serve : List Text → Bool
 takes_serve words = takes (codes "serve") (serve_faults words) words
 
+abbrev takes_record : List Text → Bool
+takes_record words = takes (codes "record") (record_faults words) words
+
+abbrev takes_call : List Text → Bool
+takes_call words = takes (codes "call") (call_faults words) words
+
 -- one of them
 takes_some : List Text → Bool
 takes_some words =
     takes_decode words
-    || (takes_encode words || (takes_show words || (takes_loop words || (takes_bench words || takes_serve words))))
+    || (takes_encode words || (takes_show words || (takes_loop words || (takes_bench words || (takes_serve words
+    || (takes_record words || takes_call words))))))
 
 help_takes_none : (words : List Text) (topic : Topic) → IsHelp words topic → takes_some words ≡ false
-unfolding takes_some decode_faults encode_faults show_faults loop_faults bench_faults serve_faults walk_fault
+unfolding takes_some decode_faults encode_faults show_faults loop_faults bench_faults serve_faults record_faults
+    call_faults walk_fault
 help_takes_none words Program (inl h) = ap takes_some h
 help_takes_none words Program (inr (inl h)) = ap takes_some h
 help_takes_none words Program (inr (inr h)) = ap takes_some h
@@ -71,6 +81,10 @@ help_takes_none words Bench (inl h) = ap takes_some h
 help_takes_none words Bench (inr h) = ap takes_some h
 help_takes_none words Serve (inl h) = ap takes_some h
 help_takes_none words Serve (inr h) = ap takes_some h
+help_takes_none words Record (inl h) = ap takes_some h
+help_takes_none words Record (inr h) = ap takes_some h
+help_takes_none words Call (inl h) = ap takes_some h
+help_takes_none words Call (inr h) = ap takes_some h
 
 version_takes_none : (words : List Text) → IsVersion words → takes_some words ≡ false
 unfolding takes_some
@@ -94,7 +108,7 @@ takes_named name faults words named none =
     ∙ ap (λ f. bytes_eq name name && is_none f) none
     ∙ ap (λ b. b && true) ((bytes_eq-Decides name name).1 refl)
 
--- words that ask for one of the six are so taken
+-- words that ask for one of the eight are so taken
 abbrev pub IsOther : Command → Type 0
 IsOther (ToDecode words) = Unit {0}
 IsOther (ToEncode words) = Unit {0}
@@ -102,6 +116,8 @@ IsOther (ToShow words) = Unit {0}
 IsOther (ToLoop words) = Unit {0}
 IsOther (ToBench words) = Unit {0}
 IsOther (ToServe words) = Unit {0}
+IsOther (ToRecord words) = Unit {0}
+IsOther (ToCall words) = Unit {0}
 IsOther (Help topic) = ⊥
 IsOther Version = ⊥
 
@@ -123,7 +139,16 @@ other_is_taken words (ToBench bench) other h =
     (or_right (takes_loop words) _ (or_left _ _ (takes_named _ _ words h.named h.taken)))))
 other_is_taken words (ToServe serve) other h =
     or_right (takes_decode words) _ (or_right (takes_encode words) _ (or_right (takes_show words) _
-    (or_right (takes_loop words) _ (or_right (takes_bench words) _ (takes_named _ _ words h.named h.taken)))))
+    (or_right (takes_loop words) _ (or_right (takes_bench words) _
+    (or_left _ _ (takes_named _ _ words h.named h.taken))))))
+other_is_taken words (ToRecord recorder) other h =
+    or_right (takes_decode words) _ (or_right (takes_encode words) _ (or_right (takes_show words) _
+    (or_right (takes_loop words) _ (or_right (takes_bench words) _ (or_right (takes_serve words) _
+    (or_left _ _ (takes_named _ _ words h.named h.taken)))))))
+other_is_taken words (ToCall call) other h =
+    or_right (takes_decode words) _ (or_right (takes_encode words) _ (or_right (takes_show words) _
+    (or_right (takes_loop words) _ (or_right (takes_bench words) _ (or_right (takes_serve words) _
+    (or_right (takes_record words) _ (takes_named _ _ words h.named h.taken)))))))
 other_is_taken words (Help topic) other h = absurd other
 other_is_taken words Version other h = absurd other
 
@@ -153,7 +178,9 @@ topic_in words =
     if names words (codes "show") then Show else
     if names words (codes "loop") then Loop else
     if names words (codes "bench") then Bench else
-    if names words (codes "serve") then Serve else Program
+    if names words (codes "serve") then Serve else
+    if names words (codes "record") then Record else
+    if names words (codes "call") then Call else Program
 
 topic_is : (words : List Text) (topic : Topic) → IsHelp words topic → topic_in words ≡ topic
 topic_is words Program (inl h) = ap topic_in h
@@ -171,6 +198,10 @@ topic_is words Bench (inl h) = ap topic_in h
 topic_is words Bench (inr h) = ap topic_in h
 topic_is words Serve (inl h) = ap topic_in h
 topic_is words Serve (inr h) = ap topic_in h
+topic_is words Record (inl h) = ap topic_in h
+topic_is words Record (inr h) = ap topic_in h
+topic_is words Call (inl h) = ap topic_in h
+topic_is words Call (inr h) = ap topic_in h
 
 pub one_topic : (words : List Text) (topic other : Topic) → IsHelp words topic → IsHelp words other → topic ≡ other
 one_topic words topic other h k = sym (topic_is words topic h) ∙ topic_is words other k
@@ -194,6 +225,10 @@ help_asks_none words Bench (inl h) = ap asks_version h
 help_asks_none words Bench (inr h) = ap asks_version h
 help_asks_none words Serve (inl h) = ap asks_version h
 help_asks_none words Serve (inr h) = ap asks_version h
+help_asks_none words Record (inl h) = ap asks_version h
+help_asks_none words Record (inr h) = ap asks_version h
+help_asks_none words Call (inl h) = ap asks_version h
+help_asks_none words Call (inr h) = ap asks_version h
 
 version_is_asked : (words : List Text) → IsVersion words → asks_version words ≡ true
 version_is_asked words (inl h) = ap asks_version h

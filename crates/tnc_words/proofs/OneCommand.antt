@@ -8,7 +8,7 @@ use Rattle.ax25_frames.specs.declared.frame.Modulus.{Modulus}
 use Rattle.ax25_frames.specs.declared.frame.Modulus.TheVariants.{Eight, OneTwentyEight}
 use Rattle.tnc_words.specs.declared.command.Command.{Command}
 use Rattle.tnc_words.specs.declared.command.Command.TheVariants.{Decode, Encode, Show, Loop, Bench, Serve, Help}
-use Rattle.tnc_words.specs.declared.command.Command.TheVariants.{Version}
+use Rattle.tnc_words.specs.declared.command.Command.TheVariants.{Record, Call, Version}
 use Rattle.tnc_words.specs.declared.command.DecodeWords.{DecodeWords}
 use Rattle.tnc_words.specs.declared.command.Receiving.{Receiving}
 use Rattle.tnc_words.specs.declared.command.Receiving.TheVariants.{Standard, Sensitive, ShortWave}
@@ -19,14 +19,18 @@ use Rattle.tnc_words.specs.declared.command.ShowWords.{ShowWords}
 use Rattle.tnc_words.specs.declared.command.LoopWords.{LoopWords}
 use Rattle.tnc_words.specs.declared.command.BenchOptions.{BenchOptions}
 use Rattle.tnc_words.specs.declared.command.ServeOptions.{ServeOptions}
+use Rattle.tnc_words.specs.declared.command.RecordOptions.{RecordOptions}
+use Rattle.tnc_words.specs.declared.command.CallOptions.{CallOptions}
 use Rattle.tnc_words.specs.declared.topic.Topic.{Topic}
 use Rattle.tnc_words.specs.Commands.{Asks, IsDecode, IsEncode, IsShow, IsLoop, IsBench, IsServe, first_word}
 use Rattle.tnc_words.specs.Commands.{HasDecodeOptions, HasEncodeOptions, HasShowOptions, HasLoopOptions}
-use Rattle.tnc_words.specs.Commands.{HasBenchOptions, HasServeOptions}
+use Rattle.tnc_words.specs.Commands.{HasBenchOptions, HasServeOptions, HasRecordOptions, HasCallOptions, IsRecord}
+use Rattle.tnc_words.specs.Commands.{IsCall}
 use Rattle.tnc_words.specs.Help.{IsHelp, IsVersion}
 use Rattle.tnc_words.specs.Rates.{HasReceiving, samples_a_second}
 use Rattle.tnc_words.proofs.AskedHelp.{help_alone, help_is_no_version, one_topic, version_alone}
-use Rattle.tnc_words.proofs.OneLink.{one_call, one_params}
+use Rattle.tnc_words.proofs.CallLists.{one_given_call, one_repeaters}
+use Rattle.tnc_words.proofs.OneLink.{one_call as one_digi, one_params}
 use Rattle.tnc_words.proofs.OneNumber.{given_number, one_number}
 
 eight_is_not : (n : ℕ) → n ≡ 128 → 8 ≡ n → ⊥
@@ -146,7 +150,7 @@ one_serve_options found serve other h k =
     ∙ ap (λ v. record serve { kiss = kiss; agw = agw; seed = seed; params = v })
     (one_params found serve.params other.params h.params.said k.params.said)
     ∙ ap (λ v. record serve { kiss = kiss; agw = agw; seed = seed; params = params; digi = v })
-    (one_call _ serve.digi other.digi h.digi k.digi)
+    (one_digi _ serve.digi other.digi h.digi k.digi)
     ∙ ap (λ v. record serve { kiss = kiss; agw = agw; seed = seed; params = params; digi = digi; dcd = v })
     (one_number _ _ _ _ _ _ h.dcd k.dcd)
     ∙ ap (λ v. record serve {
@@ -160,6 +164,29 @@ one_serve_options found serve other h k =
     })
     (h.sensitive ∙ sym k.sensitive)
     ∙ ap (λ v. record other { monitor = v }) (h.monitor ∙ sym k.monitor)
+
+one_record_options : (found : List Row) (recorder other : RecordOptions) → HasRecordOptions found recorder
+    → HasRecordOptions found other → recorder ≡ other
+one_record_options found recorder other h k =
+    ap (λ v. record recorder { keep = v }) (one_number _ _ _ _ _ _ h.keep k.keep)
+    ∙ ap (λ v. record other { sensitive = v }) (h.sensitive ∙ sym k.sensitive)
+
+one_call_options : (found : List Row) (call other : CallOptions) → HasCallOptions found call
+    → HasCallOptions found other → call ≡ other
+one_call_options found call other h k =
+    let agw = other.agw in
+    let own = other.own in
+    let remote = other.remote in
+    let via = other.via in
+    ap (λ v. record call { agw = v }) (given_number _ _ _ _ _ h.agw k.agw)
+    ∙ ap (λ v. record call { agw = agw; own = v }) (one_given_call _ call.own other.own h.own k.own)
+    ∙ ap (λ v. record call { agw = agw; own = own; remote = v })
+    (one_given_call _ call.remote other.remote h.remote k.remote)
+    ∙ ap (λ v. record call { agw = agw; own = own; remote = remote; via = record { items = v } })
+    (one_repeaters _ call.via.items other.via.items h.via k.via)
+    ∙ ap (λ v. record call { agw = agw; own = own; remote = remote; via = via; expect = v })
+    (one_number _ _ _ _ _ _ h.expect k.expect)
+    ∙ ap (λ v. record other { polls = v }) (one_number _ _ _ _ _ _ h.polls k.polls)
 
 -- ---- words give one set of options
 
@@ -185,6 +212,13 @@ pub one_serve : (words : List Text) (serve other : ServeOptions) → IsServe wor
     → serve ≡ other
 one_serve words serve other h k = one_serve_options _ serve other h.options k.options
 
+pub one_record : (words : List Text) (recorder other : RecordOptions) → IsRecord words recorder → IsRecord words other
+    → recorder ≡ other
+one_record words recorder other h k = one_record_options _ recorder other h.options k.options
+
+pub one_call : (words : List Text) (call other : CallOptions) → IsCall words call → IsCall words other → call ≡ other
+one_call words call other h k = one_call_options _ call other h.options k.options
+
 -- ---- words ask for one command
 
 -- the first two letters as one number
@@ -193,7 +227,7 @@ first_letters (Some (first ∷ second ∷ rest)) = 256 * first + second
 first_letters _ = 0
 
 -- words that begin with one name do not begin with another where already the first two letters differ, as those of the
--- six commands do
+-- eight commands do
 pub apart : (words : List Text) (name other : Text) → first_word words ≡ Some name → first_word words ≡ Some other
     → eqb (first_letters (Some name)) (first_letters (Some other)) ≡ false → ⊥
 apart words name other h k differ = eqb-false _ _ differ (ap first_letters (sym h ∙ k))
@@ -208,6 +242,8 @@ no_decode words is no_help no_version h (Show show) k = apart words _ _ is k.nam
 no_decode words is no_help no_version h (Loop run) k = apart words _ _ is k.named refl
 no_decode words is no_help no_version h (Bench bench) k = apart words _ _ is k.named refl
 no_decode words is no_help no_version h (Serve serve) k = apart words _ _ is k.named refl
+no_decode words is no_help no_version h (Record recorder) k = apart words _ _ is k.named refl
+no_decode words is no_help no_version h (Call call) k = apart words _ _ is k.named refl
 no_decode words is no_help no_version h (Help topic) k = no_help topic k
 no_decode words is no_help no_version h Version k = no_version k
 
@@ -220,6 +256,8 @@ one_command words (Decode decode) (Show show) h k = absurd (apart words _ _ h.na
 one_command words (Decode decode) (Loop run) h k = absurd (apart words _ _ h.named k.named refl)
 one_command words (Decode decode) (Bench bench) h k = absurd (apart words _ _ h.named k.named refl)
 one_command words (Decode decode) (Serve serve) h k = absurd (apart words _ _ h.named k.named refl)
+one_command words (Decode decode) (Record recorder) h k = absurd (apart words _ _ h.named k.named refl)
+one_command words (Decode decode) (Call call) h k = absurd (apart words _ _ h.named k.named refl)
 one_command words (Decode decode) (Help topic) h k = absurd (help_alone words topic (Decode decode) k tt h)
 one_command words (Decode decode) Version h k = absurd (version_alone words (Decode decode) k tt h)
 one_command words (Encode encode) (Decode decode) h k = absurd (apart words _ _ h.named k.named refl)
@@ -228,6 +266,8 @@ one_command words (Encode encode) (Show show) h k = absurd (apart words _ _ h.na
 one_command words (Encode encode) (Loop run) h k = absurd (apart words _ _ h.named k.named refl)
 one_command words (Encode encode) (Bench bench) h k = absurd (apart words _ _ h.named k.named refl)
 one_command words (Encode encode) (Serve serve) h k = absurd (apart words _ _ h.named k.named refl)
+one_command words (Encode encode) (Record recorder) h k = absurd (apart words _ _ h.named k.named refl)
+one_command words (Encode encode) (Call call) h k = absurd (apart words _ _ h.named k.named refl)
 one_command words (Encode encode) (Help topic) h k = absurd (help_alone words topic (Encode encode) k tt h)
 one_command words (Encode encode) Version h k = absurd (version_alone words (Encode encode) k tt h)
 one_command words (Show show) (Decode decode) h k = absurd (apart words _ _ h.named k.named refl)
@@ -236,6 +276,8 @@ one_command words (Show show) (Show other) h k = ap Show (one_show words show ot
 one_command words (Show show) (Loop run) h k = absurd (apart words _ _ h.named k.named refl)
 one_command words (Show show) (Bench bench) h k = absurd (apart words _ _ h.named k.named refl)
 one_command words (Show show) (Serve serve) h k = absurd (apart words _ _ h.named k.named refl)
+one_command words (Show show) (Record recorder) h k = absurd (apart words _ _ h.named k.named refl)
+one_command words (Show show) (Call call) h k = absurd (apart words _ _ h.named k.named refl)
 one_command words (Show show) (Help topic) h k = absurd (help_alone words topic (Show show) k tt h)
 one_command words (Show show) Version h k = absurd (version_alone words (Show show) k tt h)
 one_command words (Loop run) (Decode decode) h k = absurd (apart words _ _ h.named k.named refl)
@@ -244,6 +286,8 @@ one_command words (Loop run) (Show show) h k = absurd (apart words _ _ h.named k
 one_command words (Loop run) (Loop other) h k = ap Loop (one_loop words run other h k)
 one_command words (Loop run) (Bench bench) h k = absurd (apart words _ _ h.named k.named refl)
 one_command words (Loop run) (Serve serve) h k = absurd (apart words _ _ h.named k.named refl)
+one_command words (Loop run) (Record recorder) h k = absurd (apart words _ _ h.named k.named refl)
+one_command words (Loop run) (Call call) h k = absurd (apart words _ _ h.named k.named refl)
 one_command words (Loop run) (Help topic) h k = absurd (help_alone words topic (Loop run) k tt h)
 one_command words (Loop run) Version h k = absurd (version_alone words (Loop run) k tt h)
 one_command words (Bench bench) (Decode decode) h k = absurd (apart words _ _ h.named k.named refl)
@@ -252,6 +296,8 @@ one_command words (Bench bench) (Show show) h k = absurd (apart words _ _ h.name
 one_command words (Bench bench) (Loop run) h k = absurd (apart words _ _ h.named k.named refl)
 one_command words (Bench bench) (Bench other) h k = ap Bench (one_bench words bench other h k)
 one_command words (Bench bench) (Serve serve) h k = absurd (apart words _ _ h.named k.named refl)
+one_command words (Bench bench) (Record recorder) h k = absurd (apart words _ _ h.named k.named refl)
+one_command words (Bench bench) (Call call) h k = absurd (apart words _ _ h.named k.named refl)
 one_command words (Bench bench) (Help topic) h k = absurd (help_alone words topic (Bench bench) k tt h)
 one_command words (Bench bench) Version h k = absurd (version_alone words (Bench bench) k tt h)
 one_command words (Serve serve) (Decode decode) h k = absurd (apart words _ _ h.named k.named refl)
@@ -260,14 +306,38 @@ one_command words (Serve serve) (Show show) h k = absurd (apart words _ _ h.name
 one_command words (Serve serve) (Loop run) h k = absurd (apart words _ _ h.named k.named refl)
 one_command words (Serve serve) (Bench bench) h k = absurd (apart words _ _ h.named k.named refl)
 one_command words (Serve serve) (Serve other) h k = ap Serve (one_serve words serve other h k)
+one_command words (Serve serve) (Record recorder) h k = absurd (apart words _ _ h.named k.named refl)
+one_command words (Serve serve) (Call call) h k = absurd (apart words _ _ h.named k.named refl)
 one_command words (Serve serve) (Help topic) h k = absurd (help_alone words topic (Serve serve) k tt h)
 one_command words (Serve serve) Version h k = absurd (version_alone words (Serve serve) k tt h)
+one_command words (Record recorder) (Decode decode) h k = absurd (apart words _ _ h.named k.named refl)
+one_command words (Record recorder) (Encode encode) h k = absurd (apart words _ _ h.named k.named refl)
+one_command words (Record recorder) (Show show) h k = absurd (apart words _ _ h.named k.named refl)
+one_command words (Record recorder) (Loop run) h k = absurd (apart words _ _ h.named k.named refl)
+one_command words (Record recorder) (Bench bench) h k = absurd (apart words _ _ h.named k.named refl)
+one_command words (Record recorder) (Serve serve) h k = absurd (apart words _ _ h.named k.named refl)
+one_command words (Record recorder) (Record other) h k = ap Record (one_record words recorder other h k)
+one_command words (Record recorder) (Call call) h k = absurd (apart words _ _ h.named k.named refl)
+one_command words (Record recorder) (Help topic) h k = absurd (help_alone words topic (Record recorder) k tt h)
+one_command words (Record recorder) Version h k = absurd (version_alone words (Record recorder) k tt h)
+one_command words (Call call) (Decode decode) h k = absurd (apart words _ _ h.named k.named refl)
+one_command words (Call call) (Encode encode) h k = absurd (apart words _ _ h.named k.named refl)
+one_command words (Call call) (Show show) h k = absurd (apart words _ _ h.named k.named refl)
+one_command words (Call call) (Loop run) h k = absurd (apart words _ _ h.named k.named refl)
+one_command words (Call call) (Bench bench) h k = absurd (apart words _ _ h.named k.named refl)
+one_command words (Call call) (Serve serve) h k = absurd (apart words _ _ h.named k.named refl)
+one_command words (Call call) (Record recorder) h k = absurd (apart words _ _ h.named k.named refl)
+one_command words (Call call) (Call other) h k = ap Call (one_call words call other h k)
+one_command words (Call call) (Help topic) h k = absurd (help_alone words topic (Call call) k tt h)
+one_command words (Call call) Version h k = absurd (version_alone words (Call call) k tt h)
 one_command words (Help topic) (Decode decode) h k = absurd (help_alone words topic (Decode decode) h tt k)
 one_command words (Help topic) (Encode encode) h k = absurd (help_alone words topic (Encode encode) h tt k)
 one_command words (Help topic) (Show show) h k = absurd (help_alone words topic (Show show) h tt k)
 one_command words (Help topic) (Loop run) h k = absurd (help_alone words topic (Loop run) h tt k)
 one_command words (Help topic) (Bench bench) h k = absurd (help_alone words topic (Bench bench) h tt k)
 one_command words (Help topic) (Serve serve) h k = absurd (help_alone words topic (Serve serve) h tt k)
+one_command words (Help topic) (Record recorder) h k = absurd (help_alone words topic (Record recorder) h tt k)
+one_command words (Help topic) (Call call) h k = absurd (help_alone words topic (Call call) h tt k)
 one_command words (Help topic) (Help other) h k = ap Help (one_topic words topic other h k)
 one_command words (Help topic) Version h k = absurd (help_is_no_version words topic h k)
 one_command words Version (Decode decode) h k = absurd (version_alone words (Decode decode) h tt k)
@@ -276,5 +346,7 @@ one_command words Version (Show show) h k = absurd (version_alone words (Show sh
 one_command words Version (Loop run) h k = absurd (version_alone words (Loop run) h tt k)
 one_command words Version (Bench bench) h k = absurd (version_alone words (Bench bench) h tt k)
 one_command words Version (Serve serve) h k = absurd (version_alone words (Serve serve) h tt k)
+one_command words Version (Record recorder) h k = absurd (version_alone words (Record recorder) h tt k)
+one_command words Version (Call call) h k = absurd (version_alone words (Call call) h tt k)
 one_command words Version (Help topic) h k = absurd (help_is_no_version words topic k h)
 one_command words Version Version h k = refl

@@ -44,7 +44,7 @@ one_ssid tail ssid other small less (inr is) (inr same) =
     decimal_injective ssid other (omega arith) (omega arith) (cc both)
 
 -- a text spells one call
-one_spelled : (text : Text) (call other : Callsign) → IsCallText text call → IsCallText text other → call ≡ other
+pub one_spelled : (text : Text) (call other : Callsign) → IsCallText text call → IsCallText text other → call ≡ other
 one_spelled text call other h k =
     ap (λ v. record call { name = v }) (sym h.name ∙ k.name)
     ∙ ap (λ v. record other { ssid = v }) (one_ssid _ call.ssid other.ssid h.valid.ssid k.valid.ssid h.ssid k.ssid)

@@ -4,20 +4,24 @@ use Rattle.clap.specs.Words.{Row, Text, first_of}
 use Rattle.ax25_frames.specs.ControlField.{numbers}
 use Rattle.tnc_words.specs.declared.command.Command.{Command}
 use Rattle.tnc_words.specs.declared.command.Command.TheVariants.{Decode, Encode, Show, Loop, Bench, Serve, Help}
-use Rattle.tnc_words.specs.declared.command.Command.TheVariants.{Version}
+use Rattle.tnc_words.specs.declared.command.Command.TheVariants.{Record, Call, Version}
 use Rattle.tnc_words.specs.declared.command.DecodeWords.{DecodeWords}
 use Rattle.tnc_words.specs.declared.command.EncodeWords.{EncodeWords}
 use Rattle.tnc_words.specs.declared.command.ShowWords.{ShowWords}
 use Rattle.tnc_words.specs.declared.command.LoopWords.{LoopWords}
 use Rattle.tnc_words.specs.declared.command.BenchOptions.{BenchOptions}
 use Rattle.tnc_words.specs.declared.command.ServeOptions.{ServeOptions}
+use Rattle.tnc_words.specs.declared.command.RecordOptions.{RecordOptions}
+use Rattle.tnc_words.specs.declared.command.CallOptions.{CallOptions}
 use Rattle.tnc_words.specs.Options.{decode_faults, encode_faults, show_faults, loop_faults, bench_faults, serve_faults}
+use Rattle.tnc_words.specs.Options.{record_faults, record_rows, call_faults, call_rows}
 use Rattle.tnc_words.specs.Options.{decode_rows, encode_rows, show_rows, loop_rows, bench_rows, serve_rows, is_used}
 use Rattle.tnc_words.specs.Help.{IsHelp, IsVersion}
 use Rattle.tnc_words.specs.Forms.{audio_form, frame_form, modem}
 use Rattle.tnc_words.specs.Rates.{HasReceiving}
 use Rattle.tnc_words.specs.Links.{HasCall, HasParams}
 use Rattle.tnc_words.specs.Numbers.{GivesNumber, HasNumber}
+use Rattle.tnc_words.specs.Stations.{GivesCall, HasRepeaters}
 
 abbrev pub first_word : List Text → Option Text
 first_word words = slice_get words 0
@@ -110,6 +114,33 @@ pub record IsServe (words : List Text) (serve : ServeOptions) : Type 0 where
   pub taken : serve_faults words ≡ []
   pub options : HasServeOptions (serve_rows words) serve
 
+-- The options of record. If no other number was given, the last 576,000 samples are kept, a minute of sound.
+pub record HasRecordOptions (found : List Row) (recorder : RecordOptions) : Type 0 where
+  pub keep : HasNumber (first_of (codes "keep") found) 576000 1 17280000 recorder.keep
+  pub sensitive : recorder.sensitive ≡ is_used (codes "sensitive") found
+
+-- record with these options
+pub record IsRecord (words : List Text) (recorder : RecordOptions) : Type 0 where
+  pub named : first_word words ≡ Some (codes "record")
+  pub taken : record_faults words ≡ []
+  pub options : HasRecordOptions (record_rows words) recorder
+
+-- The options of call. Its port and its two calls have no default. If nothing else was given, no repeater stands
+-- between them, no octet is awaited, and there are 100,000 polls at most.
+pub record HasCallOptions (found : List Row) (call : CallOptions) : Type 0 where
+  pub agw : GivesNumber (first_of (codes "agw") found) 1 65535 call.agw
+  pub own : GivesCall (first_of (codes "from") found) call.own
+  pub remote : GivesCall (first_of (codes "to") found) call.remote
+  pub via : HasRepeaters (first_of (codes "via") found) call.via.items
+  pub expect : HasNumber (first_of (codes "expect") found) 0 0 1000000 call.expect
+  pub polls : HasNumber (first_of (codes "polls") found) 100000 1 1000000 call.polls
+
+-- call with these options
+pub record IsCall (words : List Text) (call : CallOptions) : Type 0 where
+  pub named : first_word words ≡ Some (codes "call")
+  pub taken : call_faults words ≡ []
+  pub options : HasCallOptions (call_rows words) call
+
 -- what the words ask for
 abbrev pub Asks : List Text → Command → Type 0
 Asks words (Decode decode) = IsDecode words decode
@@ -118,5 +149,7 @@ Asks words (Show show) = IsShow words show
 Asks words (Loop loop) = IsLoop words loop
 Asks words (Bench bench) = IsBench words bench
 Asks words (Serve serve) = IsServe words serve
+Asks words (Record recorder) = IsRecord words recorder
+Asks words (Call call) = IsCall words call
 Asks words (Help topic) = IsHelp words topic
 Asks words Version = IsVersion words

@@ -2,8 +2,10 @@
 use Rattle.std.specs.Prelude.{◌≡◌, ◌⊎◌, List, [], ◌∷◌, Option, Some, None, codes}
 use Rattle.clap.specs.Words.{Text}
 use Rattle.tnc_words.specs.declared.topic.Topic.{Topic}
-use Rattle.tnc_words.specs.declared.topic.Topic.TheVariants.{Program, Decode, Encode, Show, Loop, Bench, Serve}
+use Rattle.tnc_words.specs.declared.topic.Topic.TheVariants.{Program, Decode, Encode, Show, Loop, Bench, Serve, Record}
+use Rattle.tnc_words.specs.declared.topic.Topic.TheVariants.{Call}
 use Rattle.tnc_words.specs.declared.texts.TheConstants.{VERSION, PROGRAM, DECODE, ENCODE, SHOW, LOOP, BENCH, SERVE}
+use Rattle.tnc_words.specs.declared.texts.TheConstants.{RECORD, CALL}
 
 -- the command that a topic is about, by its name
 abbrev pub name_of : Topic → Option Text
@@ -14,6 +16,8 @@ name_of Show = Some (codes "show")
 name_of Loop = Some (codes "loop")
 name_of Bench = Some (codes "bench")
 name_of Serve = Some (codes "serve")
+name_of Record = Some (codes "record")
+name_of Call = Some (codes "call")
 
 -- the words that ask for help about all commands, or about the one with a name
 abbrev pub AskAbout : Option Text → List Text → Type 0
@@ -37,6 +41,8 @@ text_about Show = SHOW.now
 text_about Loop = LOOP.now
 text_about Bench = BENCH.now
 text_about Serve = SERVE.now
+text_about Record = RECORD.now
+text_about Call = CALL.now
 
 unfoldable pub version_text : Text
 version_text = VERSION.now

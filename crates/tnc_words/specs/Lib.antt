@@ -5,4 +5,5 @@ pub mod Forms
 pub mod Help
 pub mod Links
 pub mod Rates
+pub mod Stations
 pub mod Commands

@@ -83,6 +83,21 @@ abbrev pub serve_app : App
 serve_app = with_station (with_wide_window
     (with_window (with_rule (with_ports (new_app (codes "serve"))) (option_rule (codes "seed")))))
 
+-- record [--keep n] [--sensitive]
+abbrev pub record_app : App
+record_app = with_rule (with_rule (new_app (codes "record")) (option_rule (codes "keep")))
+    (flag_rule (codes "sensitive"))
+
+-- --agw n --from call --to call
+abbrev pub with_stations : App → App
+with_stations app = with_rule (with_rule (with_rule app (needed_rule (codes "agw"))) (needed_rule (codes "from")))
+    (needed_rule (codes "to"))
+
+-- call --agw n --from call --to call [--via call,call,..] [--expect n] [--polls n]
+abbrev pub call_app : App
+call_app = with_rule (with_rule (with_rule (with_stations (new_app (codes "call")))
+    (option_rule (codes "via"))) (option_rule (codes "expect"))) (option_rule (codes "polls"))
+
 -- Why clap refuses words, of which the first is the command's own: nothing if it takes them.
 unfoldable pub decode_faults : List Text → Kinds
 decode_faults words = fault_of decode_app words
@@ -102,6 +117,12 @@ bench_faults words = fault_of bench_app words
 unfoldable pub serve_faults : List Text → Kinds
 serve_faults words = fault_of serve_app words
 
+unfoldable pub record_faults : List Text → Kinds
+record_faults words = fault_of record_app words
+
+unfoldable pub call_faults : List Text → Kinds
+call_faults words = fault_of call_app words
+
 -- What clap finds in words for a command's options.
 unfoldable pub decode_rows : List Text → List Row
 decode_rows words = matches_of decode_app words
@@ -120,6 +141,12 @@ bench_rows words = matches_of bench_app words
 
 unfoldable pub serve_rows : List Text → List Row
 serve_rows words = matches_of serve_app words
+
+unfoldable pub record_rows : List Text → List Row
+record_rows words = matches_of record_app words
+
+unfoldable pub call_rows : List Text → List Row
+call_rows words = matches_of call_app words
 
 -- whether a value was given by the words, and not by default
 abbrev pub is_from_words : Option ValueSource → Bool

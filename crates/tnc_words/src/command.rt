@@ -1,5 +1,6 @@
 //! What words can ask for.
 use crate::topic::Topic;
+use arrayvec::ArrayVec;
 use ax25_address::Call;
 use ax25_frames::Modulus;
 use link_machine::Params;
@@ -43,7 +44,7 @@ pub enum Receiving {
 }
 
 /// A command with its options.
-#[derive(Clone, Copy, Debug, PartialEq, Eq)]
+#[derive(Clone, Debug, PartialEq, Eq, Drop)]
 pub enum Command {
     /// Samples in, frames out.
     Decode(DecodeWords),
@@ -57,6 +58,10 @@ pub enum Command {
     Bench(BenchOptions),
     /// A station on the air, with ports for host programs.
     Serve(ServeOptions),
+    /// Samples in, their sound and the frames in it out.
+    Record(RecordOptions),
+    /// One connected call through a station that others run.
+    Call(CallOptions),
     /// What the program says about itself.
     Help(Topic),
     /// The program's name and version.
@@ -162,4 +167,30 @@ pub struct ServeOptions {
     pub sensitive: bool,
     /// Each frame that is heard or sent is reported in a line.
     pub monitor: bool,
+}
+
+/// The options of `record`.
+#[derive(Clone, Copy, Debug, PartialEq, Eq)]
+pub struct RecordOptions {
+    /// How many samples are kept, the last ones, 1 to 17,280,000.
+    pub keep: u32,
+    /// More lanes hear, which take weaker and less exact signals.
+    pub sensitive: bool,
+}
+
+/// The options of `call`.
+#[derive(Clone, Debug, PartialEq, Eq, Drop)]
+pub struct CallOptions {
+    /// The TCP port of the station's AGWPE side, 1 to 65,535.
+    pub agw: u16,
+    /// The call that is registered, and calls.
+    pub own: Call,
+    /// The call that is called.
+    pub remote: Call,
+    /// The repeaters between them, in the order in which they repeat what `own` sends.
+    pub via: ArrayVec<Call, 8>,
+    /// How many octets are awaited before it hangs up, at most 1,000,000.
+    pub expect: u32,
+    /// How often the station is polled at most, 1 to 1,000,000. A poll waits for up to a tenth of a second.
+    pub polls: u32,
 }

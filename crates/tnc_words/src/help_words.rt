@@ -59,6 +59,8 @@ fn topic_named(name: &str) -> Option<Topic>
         "loop" => Some(Topic::Loop),
         "bench" => Some(Topic::Bench),
         "serve" => Some(Topic::Serve),
+        "record" => Some(Topic::Record),
+        "call" => Some(Topic::Call),
         _ => None,
     }
 }

@@ -6,6 +6,7 @@
 #![tactic(auto)]
 
 mod bench_words;
+mod call_words;
 mod command;
 mod decode_words;
 mod encode_words;
@@ -19,14 +20,16 @@ mod number;
 mod options;
 mod parsing;
 mod reading;
+mod record_words;
 mod serve_words;
 mod show_words;
+mod stations;
 mod texts;
 mod topic;
 
 pub use command::{
-    AudioForm, BenchOptions, Command, DecodeWords, EncodeWords, FrameForm, LoopWords, Modem,
-    Receiving, SampleRate, ServeOptions, ShowWords,
+    AudioForm, BenchOptions, CallOptions, Command, DecodeWords, EncodeWords, FrameForm, LoopWords,
+    Modem, Receiving, RecordOptions, SampleRate, ServeOptions, ShowWords,
 };
 pub use fault::WordsFault;
 pub use laws::one_command;

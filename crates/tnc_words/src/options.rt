@@ -75,6 +75,19 @@ pub(crate) const SERVE: [Entry; 11] = [
     Entry::Flag("monitor"),
 ];
 
+/// The options of `record`.
+pub(crate) const RECORD: [Entry; 2] = [Entry::Value("keep"), Entry::Flag("sensitive")];
+
+/// The options of `call`.
+pub(crate) const CALL: [Entry; 6] = [
+    Entry::Needed("agw"),
+    Entry::Needed("from"),
+    Entry::Needed("to"),
+    Entry::Value("via"),
+    Entry::Value("expect"),
+    Entry::Value("polls"),
+];
+
 /// A command with the options of a table, in order.
 pub(crate) fn command_of<'a>(
     alloc: Global,

@@ -4,12 +4,14 @@ ghost use Rattle.tnc_words.specs.declared.command.Command.{Command};
 ghost use Rattle.tnc_words.specs.Commands.{Asks};
 
 use crate::bench_words::read_bench;
+use crate::call_words::read_call;
 use crate::command::Command;
 use crate::decode_words::read_decode;
 use crate::encode_words::read_encode;
 use crate::fault::WordsFault;
 use crate::help_words::read_help;
 use crate::loop_words::read_loop;
+use crate::record_words::read_record;
 use crate::serve_words::read_serve;
 use crate::show_words::read_show;
 use std::alloc::Global;
@@ -33,6 +35,8 @@ pub fn read_words(alloc: Global, words: &[String]) -> Result<Command, WordsFault
         "loop" => Ok(Command::Loop(read_loop(alloc, words)?)),
         "bench" => Ok(Command::Bench(read_bench(alloc, words)?)),
         "serve" => Ok(Command::Serve(read_serve(alloc, words)?)),
+        "record" => Ok(Command::Record(read_record(alloc, words)?)),
+        "call" => Ok(Command::Call(read_call(alloc, words)?)),
         _ => Err(WordsFault::Refused),
     }
 }

@@ -20,6 +20,8 @@ A software terminal node controller for packet radio: AX.25 over the tones of Be
   tnc bench --seed n [--octets n] [--loss n] [--noise n] [--full] [--wide]
   tnc serve --kiss n --agw n [--seed n] [--mode name] [--window n] [--wide]
             [--wide-window n] [--digi call] [--dcd n] [--sensitive] [--monitor]
+  tnc record [--keep n] [--sensitive]
+  tnc call --agw n --from call --to call [--via calls] [--expect n] [--polls n]
   tnc help [COMMAND]
   tnc version
 
@@ -29,6 +31,8 @@ A software terminal node controller for packet radio: AX.25 over the tones of Be
   loop     tries the modem on itself
   bench    runs two stations that are joined by sound
   serve    runs a live station with ports for host programs
+  record   keeps the last of the sound as a WAV file, and prints the frames that are heard in it
+  call     calls a station through a live station, and carries a text there and back
 
 A command reads standard input and writes standard output. Sound is raw PCM of 9600 samples a second, 16 bits,
 little-endian, one channel. `tnc help COMMAND` says what the options are, and the manual page tnc(1) says all.
@@ -114,6 +118,29 @@ on 127.0.0.1.
   --monitor        tells each frame that is heard or sent on standard error
 ";
 
+const RECORD: &str = "\
+Usage: tnc record [--keep n] [--sensitive]
+
+Keeps the last of the sound on standard input, and writes it as a WAV file after the sound has ended. It tells each
+frame that is heard meanwhile on standard error, and at the end which samples were lost.
+
+  --keep n     samples that are kept, 9600 a second, 1 to 17280000 (576000)
+  --sensitive  hears in more noise and where the sender's clock is off, and takes longer
+";
+
+const CALL: &str = "\
+Usage: tnc call --agw n --from call --to call [--via calls] [--expect n] [--polls n]
+
+Calls a station through a live station at 127.0.0.1, sends standard input, prints what comes, and hangs up.
+
+  --agw n      the port of the live station for AGWPE hosts, 1 to 65535
+  --from call  the call that calls
+  --to call    the call that is called
+  --via calls  one to eight repeaters, joined by commas
+  --expect n   octets that are awaited before it hangs up, 0 to 1000000 (0)
+  --polls n    polls, of a tenth of a second at most, after which it gives up, 1 to 1000000 (100000)
+";
+
 /// What is told about a topic: some lines of ASCII.
 #[tactic(auto, unfolding(crate::specs::Help::text_about))]
 pub fn help_text(topic: Topic) -> &'static str
@@ -127,6 +154,8 @@ pub fn help_text(topic: Topic) -> &'static str
         Topic::Loop => LOOP,
         Topic::Bench => BENCH,
         Topic::Serve => SERVE,
+        Topic::Record => RECORD,
+        Topic::Call => CALL,
     }
 }
 

@@ -17,4 +17,8 @@ pub enum Topic {
     Bench,
     /// `serve` and its options.
     Serve,
+    /// `record` and its options.
+    Record,
+    /// `call` and its options.
+    Call,
 }

@@ -7,8 +7,10 @@ use tnc_words::{Command, WordsFault, read_words};
 
 mod batch;
 mod bench;
+mod call;
 mod decode;
 mod help;
+mod record;
 mod refused;
 mod serve;
 

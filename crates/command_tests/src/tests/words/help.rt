@@ -21,6 +21,10 @@ fn help_is_asked_for_alone(rt: HostRuntime) -> Result<(), Fail> {
         ("bench --help", Topic::Bench),
         ("help serve", Topic::Serve),
         ("serve --help", Topic::Serve),
+        ("help record", Topic::Record),
+        ("record --help", Topic::Record),
+        ("help call", Topic::Call),
+        ("call --help", Topic::Call),
     ];
     for &(line, topic) in &table {
         assert_asked(&rt, rt.alloc(), "", line, Command::Help(topic))?;
@@ -46,6 +50,8 @@ fn each_topic_has_its_text(rt: HostRuntime) -> Result<(), Fail> {
         (Topic::Loop, "Usage: tnc loop"),
         (Topic::Bench, "Usage: tnc bench"),
         (Topic::Serve, "Usage: tnc serve"),
+        (Topic::Record, "Usage: tnc record"),
+        (Topic::Call, "Usage: tnc call"),
     ];
     for (topic, first) in table {
         assert!(rt; help_text(topic).starts_with(first), "of {topic:?}");

@@ -148,6 +148,61 @@ x
 --sensitive --sensitive
 ";
 
+/// What stands after `record`.
+const RECORD: &str = "\
+x
+--keep
+--keep=
+--keep 0
+--keep 17280001
+--keep -1
+--keep +1
+--keep 1 --keep 1
+--sensitive=true
+--sensitive --sensitive
+--monitor
+--wav
+";
+
+/// What stands after `call`.
+const CALL: &str = "\
+--agw 8000
+--agw 8000 --from N7LEM
+--agw 8000 --to NJ7P
+--from N7LEM --to NJ7P
+--agw 0 --from N7LEM --to NJ7P
+--agw 65536 --from N7LEM --to NJ7P
+--agw 8000 --from N7LEM-16 --to NJ7P
+--agw 8000 --from N7LEM --to NJ/P
+--agw 8000 --from= --to NJ7P
+--agw 8000 --from N7LEM --to TOOLONG
+8000 N7LEM NJ7P
+";
+
+/// What stands after the least words of `call`.
+const WAY: &str = "\
+x
+--agw 8001
+--via
+--via=
+--via ,
+--via A1,
+--via ,A1
+--via A1,,B2
+--via A1,TOOLONG
+--via A1-16
+--via A1;B2
+--via A1,B2,C3,D4,E5,F6,G7,H8,I9
+--via A1 --via B2
+--expect
+--expect -1
+--expect 1000001
+--polls 0
+--polls 1000001
+--polls +1
+--keep 1
+";
+
 /// Whole lines.
 const OTHERS: &str = "\
 decod
@@ -176,6 +231,9 @@ fn other_words_are_refused(rt: HostRuntime) -> Result<(), Fail> {
         ("loop", LOOP),
         ("serve", SERVE),
         ("serve --kiss 8001 --agw=8000", STATION),
+        ("record", RECORD),
+        ("call", CALL),
+        ("call --agw 8000 --from N7LEM --to=NJ7P", WAY),
         ("", OTHERS),
     ] {
         let taken = taken(rt.alloc(), front, lines)?;
@@ -196,12 +254,13 @@ fn are_refused(alloc: Global, words: &[&str]) -> Result<bool, Fail> {
 // Words that a line cannot have.
 #[test]
 fn no_words_and_words_with_spaces_are_refused(rt: HostRuntime) -> Result<(), Fail> {
-    let table: [&[&str]; 5] = [
+    let table: [&[&str]; 6] = [
         &[],
         &[""],
         &["encode", "--opening", " 5"],
         &["serve", "--kiss=1", "--agw=2", "--mode", "srej "],
         &["serve", "--kiss=1", "--agw=2", "--digi", ""],
+        &["call", "--agw=1", "--from=A1", "--to=B2", "--via", "C3, D4"],
     ];
     for words in table {
         assert!(rt; are_refused(rt.alloc(), words)?, "of {words:?}");
