@@ -1,0 +1,5 @@
+mod BeginLemmas
+mod ListLemmas
+mod StepLemmas
+mod StreamLemmas
+mod NextLemmas
