@@ -7,7 +7,7 @@ ghost use Rattle.frame_merge.specs.declared.candidate.Candidate.{Candidate};
 ghost use Rattle.frame_merge.specs.Held.{StandsFor as MergerStandsFor};
 ghost use Rattle.slicer_bank.specs.Busy.{HearsCarrier};
 ghost use Rattle.slicer_bank.specs.MergedItems.{AreMergedBetween};
-ghost use Rattle.slicer_bank.specs.Merging.{CanBePut};
+ghost use Rattle.slicer_bank.specs.Merging.{CanBePut, AreInTime};
 ghost use Rattle.channel_bench.specs.Sounding.{mark_of};
 
 use frame_merge::{Candidate, Merger};
@@ -97,15 +97,13 @@ fn mark_after(count: u64) -> u64
 fn put_all(merger: &mut Merger, items: Vec<Candidate>) -> Result<(), OutOfMemory>
     requires marks { length merger.old.marks ≡ 8 }
     requires items { All CanBePut items.items }
+    requires in_time { AreInTime merger.old.marks items.items }
     ensures stands_for { OnOk result ((puts given : List Candidate) → MergerStandsFor merger.old puts given
         → MergerStandsFor merger.new (puts ++ items.items) given) }
     ensures marks { merger.new.marks ≡ merger.old.marks }
 {
     for item in items {
-        // No item is late, so want of memory is the one refusal.
-        let Ok(()) = merger.put(item) else {
-            return Err(OutOfMemory);
-        };
+        merger.put_in_time(item)?;
     }
     Ok(())
 }

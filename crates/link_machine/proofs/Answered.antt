@@ -1,30 +1,25 @@
 -- What a call answers for an event that is not refused.
-use Rattle.std.proofs.Common.{◌≡◌, ◌<◌, ◌≤◌, false, if◌then◌else◌, List}
+use Rattle.std.proofs.Common.{◌≡◌, false, List}
 use Rattle.std.proofs.Common.{length, Ok, Err, Result, refl, sym, ◌∙◌, ap, subst}
-use Rattle.selective_reject.specs.declared.packet.Packet.{Packet}
 use Rattle.link_machine.specs.declared.machine.Machine.{Machine as Held}
 use Rattle.link_machine.specs.Done.{Done}
 use Rattle.link_machine.specs.Machine.{Machine}
 use Rattle.link_machine.specs.Sent.{sent_frames}
 use Rattle.link_machine.specs.Turn.{Turn, begin}
 use Rattle.tnc_base.specs.declared.fault.OutOfMemory.{OutOfMemory}
-use Rattle.std.proofs.Common.{nat_lt, None}
-use Rattle.std.proofs.lemmas.Bool.{le-ltb, lt-leb}
+use Rattle.std.proofs.Common.{None}
 use Rattle.std.specs.Prelude.{IsErr, OnOk}
 use Rattle.std.specs.Prelude.{Option}
 use Rattle.std.proofs.lemmas.Bool.{cond-false}
 use Rattle.link_machine.specs.Step.{settled, step, row, refusal_of, done_of}
 use Rattle.link_machine.specs.Event.{Event}
-use Rattle.link_machine.specs.Event.Event.{Connect, Send, Disconnect}
 use Rattle.link_machine.specs.Requests.{refusal}
 use Rattle.link_machine.specs.declared.fault.LinkFault.{LinkFault}
-use Rattle.link_machine.specs.declared.fault.LinkFault.TheVariants.{WrongState, Full, TooLong}
-use Rattle.std.specs.Prelude.{IfOk, nat_le}
+use Rattle.std.specs.Prelude.{IfOk}
 use Rattle.link_machine.specs.StandsFor.{StandsFor}
 use Rattle.link_machine.specs.declared.acts.Told.{Told}
 use Rattle.link_machine.specs.declared.acts.SentFrame.{SentFrame}
 use Rattle.std.specs.Prelude.{is_some}
-use Rattle.std.proofs.Common.{Some}
 use Rattle.link_machine.specs.Held.{IsWhole, Holds, Made, Makes}
 
 -- what holds if a call did not fail

@@ -1,7 +1,6 @@
 -- Turns of the added lanes: one read after another.
-use Rattle.std.proofs.Common.{◌≡◌, ℕ, ◌+◌, ◌-◌, ◌<◌, ◌≤◌, Bool, true, false, List, [], ◌∷◌, ◌++◌, length, map, refl, ap, sym}
+use Rattle.std.proofs.Common.{◌≡◌, ℕ, ◌+◌, ◌-◌, ◌<◌, ◌≤◌, true, false, List, [], ◌∷◌, ◌++◌, length, map, refl, ap, sym}
 use Rattle.std.proofs.Common.{subst, ◌∙◌, arith, append_assoc, inl, inr}
-use Rattle.std.specs.Prelude.{◌↔◌}
 use Rattle.std.specs.List.{All}
 use Rattle.std.proofs.lemmas.Bool.{true≢false}
 use Rattle.std.proofs.lemmas.List.{append-nil, length_push, map-append}
@@ -14,9 +13,9 @@ use Rattle.frame_merge.specs.declared.candidate.Candidate.{Candidate}
 use Rattle.slicer_bank.specs.declared.advance.LaneGap.{LaneGap}
 use Rattle.slicer_bank.specs.RingJobs.{is_end}
 use Rattle.slicer_bank.specs.RingLanes.{answers_of}
-use Rattle.slicer_bank.specs.RingTurns.{IsReading, MeetsEnd, gaps_of, reads_on, most_reads, Leads}
+use Rattle.slicer_bank.specs.RingTurns.{gaps_of, reads_on, most_reads, Leads}
 use Rattle.slicer_bank.specs.Stretches.{last_stretch}
-use Rattle.slicer_bank.proofs.RingJobLemmas.{gaps_of-append, goes_on, meets_none, meets_last, last_meets}
+use Rattle.slicer_bank.proofs.RingJobLemmas.{gaps_of-append, meets_none, meets_last, last_meets}
 use Rattle.slicer_bank.proofs.StretchLemmas.{last-more, leads_more, leads_up}
 use Rattle.sensitive_receiver.specs.Found.{CanBePut, CanBePutFrom, IsAddedFrom}
 use Rattle.ring_receiver.specs.declared.added_ring.AddedRing.{AddedRing}

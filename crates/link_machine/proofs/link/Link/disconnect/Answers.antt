@@ -1,6 +1,5 @@
-use Rattle.std.proofs.Common.{◌≡◌, None, length, false, is_some, sym, ◌∙◌, ap, subst}
+use Rattle.std.proofs.Common.{◌≡◌, length, false, is_some, sym, ◌∙◌, ap, subst}
 use Rattle.link_machine.specs.declared.machine.Machine.{Machine as Held}
-use Rattle.link_machine.specs.Machine.{Machine}
 use Rattle.link_machine.specs.Requests.{refusal}
 use Rattle.link_machine.specs.Event.Event.{Disconnect}
 use Rattle.link_machine.specs.StandsFor.{StandsFor}

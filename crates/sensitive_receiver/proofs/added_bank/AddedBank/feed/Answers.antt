@@ -1,4 +1,4 @@
-use Rattle.std.proofs.Common.{◌-◌, ◌≤◌, ◌∙◌, ℤ, pos, List, FitsSigned, get_or, refl, sym, subst, arith, rules}
+use Rattle.std.proofs.Common.{◌-◌, ◌∙◌, ℤ, pos, List, FitsSigned, get_or, refl, sym, subst, arith, rules}
 use Rattle.std.specs.List.{All}
 use Rattle.std.proofs.lemmas.Int.{to_z-of_z}
 use Rattle.std.proofs.lemmas.List.Elements.{All-nil, All-weaker}
