@@ -1,3 +1,5 @@
+mod MemoryLemmas
+mod WindowLemmas
 mod Searches
 mod Places
 mod Standing

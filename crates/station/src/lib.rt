@@ -56,6 +56,7 @@ mod leaving;
 mod link_event;
 mod link_events;
 mod link_table;
+mod memory;
 mod messages;
 mod monitoring;
 mod new_links;
@@ -73,7 +74,7 @@ mod taking;
 mod ticks;
 mod unproto;
 
-pub use config::Config;
+pub use config::{Config, LinkParams};
 pub use connection::{Connection, Reader};
 pub use host_event::{HostEvent, PortKind};
 pub use host_out::{HostOut, Piece, TickOut};
