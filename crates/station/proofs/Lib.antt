@@ -1,10 +1,10 @@
-mod MemoryLemmas
-mod WindowLemmas
+pub mod MemoryLemmas
+pub mod WindowLemmas
 mod Searches
 mod Places
 mod Standing
 mod LinkLemmas
-mod FrameLemmas
+pub mod FrameLemmas
 mod TableLemmas
 mod TurnLemmas
 mod EventLemmas
@@ -20,7 +20,7 @@ mod OwnLemmas
 mod CallingLemmas
 mod GiveLemmas
 mod HostLemmas
-mod CallLemmas
+pub mod CallLemmas
 mod RouteLemmas
 mod TakeLemmas
 mod AnswerLemmas

@@ -83,7 +83,8 @@ impl HostOut {
         link: Option<u32>,
         octets: &Octets,
     ) -> Result<(), OutOfMemory>
-        ensures told { OnOk result (self.new ≡ record self.old { queued = self.old.queued ++ told_of link octets.now }) }
+        ensures told { OnOk result (self.new
+            ≡ record self.old { queued = self.old.queued ++ told_of link octets.now }) }
         ensures wanted { OnErr result (memory.new.refused ≡ true) }
     {
         if link.is_none() {

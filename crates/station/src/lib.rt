@@ -80,6 +80,7 @@ pub use host_event::{HostEvent, PortKind};
 pub use host_out::{HostOut, Piece, TickOut};
 pub use link_event::LinkEvent;
 pub use link_table::LinkTable;
+pub use memory::Memory;
 pub use owned_link::OwnedLink;
 pub use parts::Parts;
 pub use reading::Said;

@@ -1,6 +1,6 @@
 //! The links by their keys.
-ghost use Rattle.std.specs.Prelude.{◌≡◌, ℕ, ◌<◌, ◌≤◌, ◌↔◌, List, [], All, IfOk, OnOk, OnErr, IfSome, IsTrue, replicate, true};
-ghost use Rattle.std.specs.Prelude.{position, count_by, is_some, nat_lt, slice_set, Some, None};
+ghost use Rattle.std.specs.Prelude.{◌≡◌, ℕ, ◌<◌, ◌≤◌, ◌↔◌, List, [], All, IfOk, OnOk, OnErr, IfSome, IsTrue};
+ghost use Rattle.std.specs.Prelude.{replicate, true, position, count_by, is_some, nat_lt, slice_set, Some, None};
 ghost use Rattle.std.specs.Option.{option_copied, option_or};
 ghost use Rattle.link_machine.specs.Sent.{IsWritable};
 ghost use Rattle.link_machine.specs.Step.{step, done_of};

@@ -14,7 +14,7 @@ pub struct Memory {
 
 impl Memory {
     /// Memory that has refused nothing.
-    pub(crate) fn new(alloc: Global) -> Memory
+    pub fn new(alloc: Global) -> Memory
         ensures { result.refused ≡ false }
     {
         Memory {
@@ -36,7 +36,7 @@ impl Memory {
     }
 
     /// What a growth answered.
-    pub(crate) fn took<T, E: Drop>(&mut self, answer: Result<T, E>) -> Result<T, OutOfMemory>
+    pub fn took<T, E: Drop>(&mut self, answer: Result<T, E>) -> Result<T, OutOfMemory>
         ensures value { IfOk result (λ value. answer ≡ Ok value) }
         ensures wanted { OnErr result (self.new.refused ≡ true) }
     {
@@ -50,7 +50,7 @@ impl Memory {
     }
 
     /// Puts an item after the others.
-    pub(crate) fn push<T: Drop>(&mut self, items: &mut Vec<T>, item: T) -> Result<(), OutOfMemory>
+    pub fn push<T: Drop>(&mut self, items: &mut Vec<T>, item: T) -> Result<(), OutOfMemory>
         ensures items { OnOk result (items.new.items ≡ items.old.items ++ item ∷ []) }
         ensures wanted { OnErr result (self.new.refused ≡ true) }
     {
@@ -67,7 +67,7 @@ impl Memory {
     }
 
     /// A list of the same octets.
-    pub(crate) fn copy(&mut self, octets: &[u8]) -> Result<Octets, OutOfMemory>
+    pub fn copy(&mut self, octets: &[u8]) -> Result<Octets, OutOfMemory>
         ensures copy { IfOk result (λ copy. copy ≡ octets.now) }
         ensures wanted { OnErr result (self.new.refused ≡ true) }
     {

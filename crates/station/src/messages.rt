@@ -82,7 +82,8 @@ fn call_message(
     remote: &Call,
     words: &[u8],
 ) -> Result<Octets, OutOfMemory>
-    ensures spelled { IfOk result (λ octets. octets ≡ spelling (to_host kind 0 (call_field remote.now) (call_field local.now)
+    ensures spelled { IfOk result (λ octets. octets
+        ≡ spelling (to_host kind 0 (call_field remote.now) (call_field local.now)
         (words.now ++ (text_of_call remote.now ++ 13 ∷ [])))) }
     ensures wanted { OnErr result (memory.new.refused ≡ true) }
 {

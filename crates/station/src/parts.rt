@@ -1,6 +1,6 @@
 //! The parts of a station, and the transmit queue that all of them share.
-ghost use Rattle.std.specs.Prelude.{◌≡◌, ℕ, ◌<◌, ◌≤◌, ◌↔◌, List, [], ◌∷◌, ◌++◌, length, IfOk, OnOk, OnErr, IsTrue, Option, true};
-ghost use Rattle.std.specs.Prelude.{Some, None};
+ghost use Rattle.std.specs.Prelude.{◌≡◌, ℕ, ◌<◌, ◌≤◌, ◌↔◌, List, [], ◌∷◌, ◌++◌, length, IfOk, OnOk, IsTrue};
+ghost use Rattle.std.specs.Prelude.{OnErr, Option, Some, None, true};
 ghost use Rattle.hdlc_framer.specs.FrameLength.{HasFrameLength};
 ghost use Rattle.channel_access.specs.Channel.{Channel, with_frame};
 ghost use Rattle.channel_access.specs.StandsFor.{StandsFor as StandsForChannel};

@@ -49,8 +49,8 @@ fn show_to(
     octets: &[u8],
 ) -> Result<(), OutOfMemory>
     requires { HasFrameLength octets.now }
-    ensures shown { OnOk result (out.new ≡ with_shown (kind_of connection.now.reader) connection.now.id connection.now.raw
-        from to octets.now out.old) }
+    ensures shown { OnOk result (out.new
+        ≡ with_shown (kind_of connection.now.reader) connection.now.id connection.now.raw from to octets.now out.old) }
     ensures wanted { OnErr result (memory.new.refused ≡ true) }
 {
     match &connection.reader {
