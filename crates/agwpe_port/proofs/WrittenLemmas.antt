@@ -74,13 +74,16 @@ module _ (message : AgwMessage) (written : IsWritten message) where
 
 -- the parts of a message, one after the other
 pub in_parts : (message : AgwMessage)
-    → (((((message.port ∷ 0 ∷ 0 ∷ 0 ∷ message.kind ∷ 0 ∷ message.pid ∷ 0 ∷ []) ++ message.from) ++ message.to)
-    ++ little_bytes 4 (length message.body)) ++ 0 ∷ 0 ∷ 0 ∷ 0 ∷ []) ++ message.body
+    → (message.port ∷ 0 ∷ 0 ∷ 0 ∷ message.kind ∷ 0 ∷ message.pid ∷ 0 ∷ []) ++ (message.from ++ (message.to
+    ++ (little_bytes 4 (length message.body) ++ (0 ∷ 0 ∷ 0 ∷ 0 ∷ message.body))))
     ≡ spelling message
 unfolding spelling
 in_parts message =
-    let parts : ((message.from ++ message.to) ++ little_bytes 4 (length message.body)) ++ 0 ∷ 0 ∷ 0 ∷ 0 ∷ []
-    ≡ calls_of message =
-    append_assoc (message.from ++ message.to) (little_bytes 4 (length message.body)) (0 ∷ 0 ∷ 0 ∷ 0 ∷ [])
-    ∙ append_assoc message.from message.to (tail_of message) in
-    ap (λ xs. (message.port ∷ 0 ∷ 0 ∷ 0 ∷ message.kind ∷ 0 ∷ message.pid ∷ 0 ∷ xs) ++ message.body) parts
+    let size = little_bytes 4 (length message.body) in
+    let zeros : List ℕ = 0 ∷ 0 ∷ 0 ∷ 0 ∷ [] in
+    let calls : (message.from ++ (message.to ++ (size ++ zeros))) ++ message.body
+    ≡ message.from ++ (message.to ++ (size ++ (zeros ++ message.body))) =
+    append_assoc message.from (message.to ++ (size ++ zeros)) message.body
+    ∙ ap (λ xs. message.from ++ xs) (append_assoc message.to (size ++ zeros) message.body)
+    ∙ ap (λ xs. message.from ++ (message.to ++ xs)) (append_assoc size zeros message.body) in
+    ap (λ xs. message.port ∷ 0 ∷ 0 ∷ 0 ∷ message.kind ∷ 0 ∷ message.pid ∷ 0 ∷ xs) (sym calls)

@@ -17,4 +17,4 @@ pub use fault::AgwFault;
 pub use message::AgwMessage;
 pub use messages::read_messages;
 pub use reader::AgwIn;
-pub use writer::write_agw;
+pub use writer::{spell_agw, write_agw};

@@ -1,8 +1,10 @@
+pub mod MemoryLemmas
+pub mod WindowLemmas
 mod Searches
 mod Places
 mod Standing
 mod LinkLemmas
-mod FrameLemmas
+pub mod FrameLemmas
 mod TableLemmas
 mod TurnLemmas
 mod EventLemmas
@@ -18,7 +20,7 @@ mod OwnLemmas
 mod CallingLemmas
 mod GiveLemmas
 mod HostLemmas
-mod CallLemmas
+pub mod CallLemmas
 mod RouteLemmas
 mod TakeLemmas
 mod AnswerLemmas

@@ -1,6 +1,6 @@
 //! Hosts call: a message of kind C, v or c makes a link and calls along it, or is answered with d.
 ghost use Rattle.std.specs.Prelude.{◌≡◌, ◌<◌, ◌==◌, if◌then◌else◌, [], count_by, is_some, IfOk, OnOk, IsTrue, Some};
-ghost use Rattle.std.specs.Prelude.{option_map};
+ghost use Rattle.std.specs.Prelude.{option_map, true, OnErr};
 ghost use Rattle.agwpe_port.specs.Messages.{spelling};
 ghost use Rattle.station.specs.AgwKinds.{connect_via_kind};
 ghost use Rattle.station.specs.AgwRequests.{IsCall, IsCallMade, called_pid, called_route, may_call, refused_reply};
@@ -15,6 +15,7 @@ ghost use Rattle.station.specs.Turn.{Turn, with_piece};
 use crate::call_fields::{sent_back, text_of};
 use crate::host_out::HostOut;
 use crate::link_event::LinkEvent;
+use crate::memory::Memory;
 use crate::messages::{self, DISCONNECTED, station_text};
 use crate::new_links::{NO_LAYER_3, pid_or};
 use crate::parts::Parts;
@@ -22,7 +23,6 @@ use crate::routes::{Route, repeaters_in, route_in};
 use agwpe_port::AgwMessage;
 use arrayvec::ArrayVec;
 use ax25_address::Call;
-use std::alloc::Global;
 use tnc_base::{Octets, OutOfMemory};
 
 impl Parts {
@@ -30,7 +30,7 @@ impl Parts {
     /// connection has not registered the local call, that link exists, or 64 links do.
     pub(crate) fn call(
         &mut self,
-        alloc: Global,
+        memory: &mut Memory,
         out: &mut HostOut,
         id: u32,
         message: &AgwMessage,
@@ -39,20 +39,21 @@ impl Parts {
             × IsCall id message.now (called_route message.now) turn behind × Shows self.new out.new behind) }
         ensures ids { OnOk result (ids_in self.new ≡ ids_in self.old) }
         ensures closed { OnOk result (out.new.closed ≡ out.old.closed) }
+        ensures wanted { OnErr result (memory.new.refused ≡ true) }
     {
         let Some(route) = called_route(message) else {
-            return refuse(alloc, out, id, message);
+            return refuse(memory, out, id, message);
         };
         if !self.may_call(id, &route) {
-            return refuse(alloc, out, id, message);
+            return refuse(memory, out, id, message);
         }
-        self.connect(alloc, out, id, called_pid(message), &route)
+        self.connect(memory, out, id, called_pid(message), &route)
     }
 
     /// Makes a link along a route and calls.
     fn connect(
         &mut self,
-        alloc: Global,
+        memory: &mut Memory,
         out: &mut HostOut,
         id: u32,
         pid: u8,
@@ -63,9 +64,10 @@ impl Parts {
             × IsCallMade id pid (as_route route.now) turn behind × Shows self.new out.new behind) }
         ensures ids { OnOk result (ids_in self.new ≡ ids_in self.old) }
         ensures closed { OnOk result (out.new.closed ≡ out.old.closed) }
+        ensures wanted { OnErr result (memory.new.refused ≡ true) }
     {
-        let key = self.make_link(alloc, id, pid, route.local, route.remote, route.path())?;
-        self.link_event(alloc, out, key, LinkEvent::Connect)
+        let key = self.make_link(memory, id, pid, route.local, route.remote, route.path())?;
+        self.link_event(memory, out, key, LinkEvent::Connect)
     }
 
     /// Whether the connection has registered the local call of a route, no link has its calls, and there is room.
@@ -128,23 +130,25 @@ fn called_pid(message: &AgwMessage) -> u8
 
 /// Answers a call that is not made.
 fn refuse(
-    alloc: Global,
+    memory: &mut Memory,
     out: &mut HostOut,
     id: u32,
     message: &AgwMessage,
 ) -> Result<(), OutOfMemory>
-    ensures { OnOk result (out.new ≡ with_piece id (spelling (refused_reply message.now)) out.old) }
+    ensures sent { OnOk result (out.new ≡ with_piece id (spelling (refused_reply message.now)) out.old) }
+    ensures wanted { OnErr result (memory.new.refused ≡ true) }
 {
-    let octets = refusal(alloc, message)?;
-    out.send(id, octets)
+    let octets = refusal(memory, message)?;
+    out.send(memory, id, octets)
 }
 
 /// The answer: d with the calls swapped, each a call in its one text or else as it came.
-fn refusal(alloc: Global, message: &AgwMessage) -> Result<Octets, OutOfMemory>
-    ensures { IfOk result (λ octets. octets ≡ spelling (refused_reply message.now)) }
+fn refusal(memory: &mut Memory, message: &AgwMessage) -> Result<Octets, OutOfMemory>
+    ensures spelled { IfOk result (λ octets. octets ≡ spelling (refused_reply message.now)) }
+    ensures wanted { OnErr result (memory.new.refused ≡ true) }
 {
     let remote = sent_back(message.to);
     let local = sent_back(message.from);
-    let text = station_text(alloc, DISCONNECTED, text_of(&remote))?;
-    messages::message(alloc, b'd', 0, remote, local, &text)
+    let text = station_text(memory, DISCONNECTED, text_of(&remote))?;
+    messages::message(memory, b'd', 0, remote, local, &text)
 }

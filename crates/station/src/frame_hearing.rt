@@ -1,6 +1,6 @@
 //! A frame that is heard.
 ghost use Rattle.std.specs.Prelude.{◌&&◌, nat_lt, count_by, is_some, ◌≡◌, ℕ, ◌<◌, ◌↔◌, not, Some, None, OnOk, IfOk};
-ghost use Rattle.std.specs.Prelude.{IsTrue};
+ghost use Rattle.std.specs.Prelude.{IsTrue, true, OnErr};
 ghost use Rattle.ax25_address.specs.FramePath.{BeginsWithPath, way_back};
 ghost use Rattle.ax25_address.specs.declared.path.Role.TheVariants.{Command};
 ghost use Rattle.ax25_frames.specs.ControlField.{IsNumbered};
@@ -17,20 +17,20 @@ ghost use Rattle.station.specs.Turn.{Turn};
 
 use crate::host_out::HostOut;
 use crate::link_event::LinkEvent;
+use crate::memory::Memory;
 use crate::new_links::NO_LAYER_3;
 use crate::parts::Parts;
 use agwpe_port::call_text;
 use ax25_address::{Call, Path, Role, read_path, reversed};
 use ax25_frames::{Frame, FrameFault, Kind, Modulus, U, read_frame};
 use digipeater::repeat;
-use std::alloc::Global;
 use tnc_base::{Octets, OutOfMemory};
 
 impl Parts {
     /// Shows a frame to hosts, and repeats it or hands it to its link.
     pub(crate) fn hear(
         &mut self,
-        alloc: Global,
+        memory: &mut Memory,
         out: &mut HostOut,
         octets: &[u8],
     ) -> Result<(), OutOfMemory>
@@ -38,17 +38,18 @@ impl Parts {
         ensures heard { (turn : Turn) → Shows self.old out.old turn → OnOk result ((behind : Turn)
             × IsHeard octets.now turn behind × Shows self.new out.new behind) }
         ensures ids { OnOk result (ids_in self.new ≡ ids_in self.old) }
+        ensures wanted { OnErr result (memory.new.refused ≡ true) }
     {
         match read_path(octets) {
-            Ok((path, _)) => self.hear_along(alloc, out, &path, octets),
-            Err(_) => self.show(alloc, out, [0; 10], [0; 10], octets),
+            Ok((path, _)) => self.hear_along(memory, out, &path, octets),
+            Err(_) => self.show(memory, out, [0; 10], [0; 10], octets),
         }
     }
 
     /// The same, if the frame begins with this path.
     fn hear_along(
         &mut self,
-        alloc: Global,
+        memory: &mut Memory,
         out: &mut HostOut,
         path: &Path,
         octets: &[u8],
@@ -57,44 +58,51 @@ impl Parts {
         ensures heard { (turn : Turn) (len : ℕ) → BeginsWithPath octets.now path.now len → Shows self.old out.old turn
             → OnOk result ((behind : Turn) × IsHeard octets.now turn behind × Shows self.new out.new behind) }
         ensures ids { OnOk result (ids_in self.new ≡ ids_in self.old) }
+        ensures wanted { OnErr result (memory.new.refused ≡ true) }
     {
         self.show(
-            alloc,
+            memory,
             out,
             call_text(&path.source),
             call_text(&path.dest),
             octets,
         )?;
-        self.monitor_heard(alloc, out, path, octets)?;
+        self.monitor_heard(memory, out, path, octets)?;
         if waits_for_repeater(path) {
-            self.repeat(alloc, out, octets)
+            self.repeat(memory, out, octets)
         } else {
-            self.hear_octets(alloc, out, path, octets)
+            self.hear_octets(memory, out, path, octets)
         }
     }
 
     /// Queues a frame as the station repeats it, if it is the station's turn.
-    fn repeat(&mut self, alloc: Global, out: &mut HostOut, octets: &[u8]) -> Result<(), OutOfMemory>
+    fn repeat(
+        &mut self,
+        memory: &mut Memory,
+        out: &mut HostOut,
+        octets: &[u8],
+    ) -> Result<(), OutOfMemory>
         requires { HasFrameLength octets.now }
         ensures repeated { (turn : Turn) → Shows self.old out.old turn → OnOk result ((behind : Turn)
             × IsRepeatedFor turn.now.digi octets.now turn behind × Shows self.new out.new behind) }
         ensures ids { OnOk result (ids_in self.new ≡ ids_in self.old) }
+        ensures wanted { OnErr result (memory.new.refused ≡ true) }
     {
         let Some(call) = self.digi else {
             return Ok(());
         };
-        let mut copy = octets.to_vec(alloc)?;
+        let mut copy = memory.list(octets)?;
         if !repeat(&mut copy, &call) {
             return Ok(());
         }
-        let repeated = Octets::from_slice(alloc, &copy)?;
-        self.queue(alloc, out, None, repeated)
+        let repeated = memory.copy(&copy)?;
+        self.queue(memory, out, None, repeated)
     }
 
     /// Hands a frame on this path, which waits for no repeater, to the link of its calls.
     fn hear_octets(
         &mut self,
-        alloc: Global,
+        memory: &mut Memory,
         out: &mut HostOut,
         path: &Path,
         octets: &[u8],
@@ -102,17 +110,18 @@ impl Parts {
         ensures heard { (turn : Turn) → Shows self.old out.old turn → OnOk result ((behind : Turn)
             × AreOctetsHeard path.now octets.now turn behind × Shows self.new out.new behind) }
         ensures ids { OnOk result (ids_in self.new ≡ ids_in self.old) }
+        ensures wanted { OnErr result (memory.new.refused ≡ true) }
     {
         match self.links.key_between(&path.dest, &path.source) {
-            Some(key) => self.hear_at(alloc, out, key, octets),
-            None => self.hear_unlinked(alloc, out, octets),
+            Some(key) => self.hear_at(memory, out, key, octets),
+            None => self.hear_unlinked(memory, out, octets),
         }
     }
 
     /// Hands a frame to the link of a key, which tells the modulus.
     fn hear_at(
         &mut self,
-        alloc: Global,
+        memory: &mut Memory,
         out: &mut HostOut,
         key: u32,
         octets: &[u8],
@@ -120,10 +129,11 @@ impl Parts {
         ensures heard { (turn : Turn) → Shows self.old out.old turn → OnOk result ((behind : Turn)
             × AreHeardAt (Some key) octets.now turn behind × Shows self.new out.new behind) }
         ensures ids { OnOk result (ids_in self.new ≡ ids_in self.old) }
+        ensures wanted { OnErr result (memory.new.refused ≡ true) }
     {
         let modulus = self.links.modulus(key);
-        match frame_in(alloc, octets, modulus)? {
-            Some(frame) => self.link_event(alloc, out, key, LinkEvent::Hear(frame)),
+        match frame_in(memory, octets, modulus)? {
+            Some(frame) => self.link_event(memory, out, key, LinkEvent::Hear(frame)),
             None => Ok(()),
         }
     }
@@ -131,16 +141,17 @@ impl Parts {
     /// Hands a frame whose calls have no link to one that is made for it.
     fn hear_unlinked(
         &mut self,
-        alloc: Global,
+        memory: &mut Memory,
         out: &mut HostOut,
         octets: &[u8],
     ) -> Result<(), OutOfMemory>
         ensures heard { (turn : Turn) → Shows self.old out.old turn → OnOk result ((behind : Turn)
             × AreHeardAt None octets.now turn behind × Shows self.new out.new behind) }
         ensures ids { OnOk result (ids_in self.new ≡ ids_in self.old) }
+        ensures wanted { OnErr result (memory.new.refused ≡ true) }
     {
-        match frame_in(alloc, octets, Modulus::Eight)? {
-            Some(frame) => self.hear_anew(alloc, out, frame),
+        match frame_in(memory, octets, Modulus::Eight)? {
+            Some(frame) => self.hear_anew(memory, out, frame),
             None => Ok(()),
         }
     }
@@ -148,7 +159,7 @@ impl Parts {
     /// Hands a frame to a link that is made for it, if its destination is registered.
     fn hear_anew(
         &mut self,
-        alloc: Global,
+        memory: &mut Memory,
         out: &mut HostOut,
         frame: Frame,
     ) -> Result<(), OutOfMemory>
@@ -157,6 +168,7 @@ impl Parts {
             × IsHeardAnew (registrar frame.path.dest turn.now.registrations) frame turn behind
             × Shows self.new out.new behind) }
         ensures ids { OnOk result (ids_in self.new ≡ ids_in self.old) }
+        ensures wanted { OnErr result (memory.new.refused ≡ true) }
     {
         let (dest, source) = ends_of(&frame);
         let Some(id) = self.registrar(&dest) else {
@@ -166,8 +178,8 @@ impl Parts {
             return Ok(());
         }
         let back = back_from(&frame);
-        let key = self.make_link(alloc, id, NO_LAYER_3, dest, source, back)?;
-        self.link_event(alloc, out, key, LinkEvent::Hear(frame))
+        let key = self.make_link(memory, id, NO_LAYER_3, dest, source, back)?;
+        self.link_event(memory, out, key, LinkEvent::Hear(frame))
     }
 
     /// Whether a link is made for a frame.
@@ -180,15 +192,16 @@ impl Parts {
 
 /// What octets are read as.
 pub(crate) fn frame_in(
-    alloc: Global,
+    memory: &mut Memory,
     octets: &[u8],
     modulus: Modulus,
 ) -> Result<Option<Frame>, OutOfMemory>
-    ensures { IfOk result (IsReadAs modulus octets.now) }
+    ensures read { IfOk result (IsReadAs modulus octets.now) }
+    ensures wanted { OnErr result (memory.new.refused ≡ true) }
 {
-    match read_frame(alloc, octets, modulus) {
+    match read_frame(memory.alloc(), octets, modulus) {
         Ok(frame) => Ok(Some(frame)),
-        Err(fault) => unread(fault),
+        Err(fault) => memory.took(unread(fault)),
     }
 }
 

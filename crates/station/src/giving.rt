@@ -1,5 +1,5 @@
 //! Data that a host gives to a link of it, in packets.
-ghost use Rattle.std.specs.Prelude.{◌≡◌, ◌*◌, ◌<◌, length, IfOk, OnOk};
+ghost use Rattle.std.specs.Prelude.{◌≡◌, ◌*◌, ◌<◌, length, IfOk, OnOk, true, OnErr};
 ghost use Rattle.station.specs.AgwRequests.{own_key, giving, giving_packets, packet_at, packets_of};
 ghost use Rattle.station.specs.Held.{ids_in};
 ghost use Rattle.station.specs.StandsFor.{Shows};
@@ -7,10 +7,10 @@ ghost use Rattle.station.specs.Turn.{Turn};
 
 use crate::host_out::HostOut;
 use crate::link_event::LinkEvent;
+use crate::memory::Memory;
 use crate::parts::Parts;
 use agwpe_port::AgwMessage;
 use selective_reject::Packet;
-use std::alloc::Global;
 use tnc_base::{Octets, OutOfMemory};
 
 /// The most octets of a packet.
@@ -20,7 +20,7 @@ impl Parts {
     /// Gives the body of a message to the connection's link between its calls. Ignored if there is none.
     pub(crate) fn give(
         &mut self,
-        alloc: Global,
+        memory: &mut Memory,
         out: &mut HostOut,
         id: u32,
         message: &AgwMessage,
@@ -29,19 +29,20 @@ impl Parts {
             (giving message.now (own_key id message.now turn.now.links) turn)) }
         ensures ids { OnOk result (ids_in self.new ≡ ids_in self.old) }
         ensures closed { OnOk result (out.new.closed ≡ out.old.closed) }
+        ensures wanted { OnErr result (memory.new.refused ≡ true) }
     {
         let Some(key) = self.links.own_key(id, message) else {
             return Ok(());
         };
         let pid = self.links.data_pid(key, message.pid);
-        self.give_packets(alloc, out, key, pid, message.body.as_slice())
+        self.give_packets(memory, out, key, pid, message.body.as_slice())
     }
 
     /// Gives octets to the link of a key, in packets of 256 octets of which the last may be shorter. A packet that the
     /// link refuses is passed over.
     fn give_packets(
         &mut self,
-        alloc: Global,
+        memory: &mut Memory,
         out: &mut HostOut,
         key: u32,
         pid: u8,
@@ -51,24 +52,31 @@ impl Parts {
             → OnOk result (Shows self.new out.new (giving_packets key (packets_of pid octets.now) turn)) }
         ensures ids { OnOk result (ids_in self.new ≡ ids_in self.old) }
         ensures closed { OnOk result (out.new.closed ≡ out.old.closed) }
+        ensures wanted { OnErr result (memory.new.refused ≡ true) }
     {
         for place in 0..octets.len().div_ceil(MOST_OCTETS) {
-            let packet = packet_at(alloc, pid, octets, place)?;
-            self.link_event(alloc, out, key, LinkEvent::Send(packet))?;
+            let packet = packet_at(memory, pid, octets, place)?;
+            self.link_event(memory, out, key, LinkEvent::Send(packet))?;
         }
         Ok(())
     }
 }
 
 /// The packet at a place.
-fn packet_at(alloc: Global, pid: u8, octets: &[u8], place: usize) -> Result<Packet, OutOfMemory>
+fn packet_at(
+    memory: &mut Memory,
+    pid: u8,
+    octets: &[u8],
+    place: usize,
+) -> Result<Packet, OutOfMemory>
     requires { place * MOST_OCTETS < length octets.now }
-    ensures { IfOk result (λ packet. packet ≡ packet_at pid octets.now place) }
+    ensures packet { IfOk result (λ packet. packet ≡ packet_at pid octets.now place) }
+    ensures wanted { OnErr result (memory.new.refused ≡ true) }
 {
     let rest = &octets[place * MOST_OCTETS..];
     let len = rest.len().min(MOST_OCTETS);
     Ok(Packet {
         pid,
-        octets: Octets::from_slice(alloc, &rest[..len])?,
+        octets: memory.copy(&rest[..len])?,
     })
 }

@@ -1,5 +1,5 @@
 //! What KISS asks of a station.
-ghost use Rattle.std.specs.Prelude.{◌≡◌, ◌↔◌, IsTrue, OnOk};
+ghost use Rattle.std.specs.Prelude.{◌≡◌, ◌↔◌, IsTrue, OnOk, true, OnErr};
 ghost use Rattle.channel_access.specs.Channel.{Channel, with_setting};
 ghost use Rattle.channel_access.specs.StandsFor.{StandsFor as StandsForChannel};
 ghost use Rattle.station.specs.AgwRequests.{queueing_raw};
@@ -10,18 +10,18 @@ ghost use Rattle.station.specs.StandsFor.{Shows};
 ghost use Rattle.station.specs.Turn.{Out, Turn, changing};
 
 use crate::host_out::HostOut;
+use crate::memory::Memory;
 use crate::parts::Parts;
 use channel_access::Param;
 use hdlc_framer::has_frame_length;
 use kiss_port::KissItem;
-use std::alloc::Global;
 use tnc_base::{Octets, OutOfMemory};
 
 impl Parts {
     /// What the items of a connection ask, one after another.
     pub(crate) fn heed_all(
         &mut self,
-        alloc: Global,
+        memory: &mut Memory,
         out: &mut HostOut,
         items: &[KissItem],
     ) -> Result<(), OutOfMemory>
@@ -29,26 +29,33 @@ impl Parts {
             → OnOk result (Shows self.new out.new (heeding_all items.now turn)) }
         ensures ids { OnOk result (ids_in self.new ≡ ids_in self.old) }
         ensures closed { OnOk result (out.new.closed ≡ out.old.closed) }
+        ensures wanted { OnErr result (memory.new.refused ≡ true) }
     {
         for item in items {
-            self.heed(alloc, out, item)?;
+            self.heed(memory, out, item)?;
         }
         Ok(())
     }
 
     /// What an item asks. All but frames and parameters of port 0 is passed over.
-    fn heed(&mut self, alloc: Global, out: &mut HostOut, item: &KissItem) -> Result<(), OutOfMemory>
+    fn heed(
+        &mut self,
+        memory: &mut Memory,
+        out: &mut HostOut,
+        item: &KissItem,
+    ) -> Result<(), OutOfMemory>
         ensures shows { (turn : Turn) → Shows self.old out.old turn
             → OnOk result (Shows self.new out.new (heeding item.now turn)) }
         ensures ids { OnOk result (ids_in self.new ≡ ids_in self.old) }
         ensures closed { OnOk result (out.new.closed ≡ out.old.closed) }
+        ensures wanted { OnErr result (memory.new.refused ≡ true) }
     {
         match item {
             KissItem::Frame { port, octets } => {
                 if *port != 0 {
                     return Ok(());
                 }
-                self.queue_raw(alloc, out, octets.as_slice())
+                self.queue_raw(memory, out, octets.as_slice())
             }
             KissItem::Set {
                 port,
@@ -70,7 +77,7 @@ impl Parts {
     /// Queues octets of a host if they have the length of a frame.
     pub(crate) fn queue_raw(
         &mut self,
-        alloc: Global,
+        memory: &mut Memory,
         out: &mut HostOut,
         octets: &[u8],
     ) -> Result<(), OutOfMemory>
@@ -78,12 +85,13 @@ impl Parts {
             → OnOk result (Shows self.new out.new (queueing_raw octets.now turn)) }
         ensures ids { OnOk result (ids_in self.new ≡ ids_in self.old) }
         ensures closed { OnOk result (out.new.closed ≡ out.old.closed) }
+        ensures wanted { OnErr result (memory.new.refused ≡ true) }
     {
         if !has_frame_length(octets) {
             return Ok(());
         }
-        let frame = Octets::from_slice(alloc, octets)?;
-        self.queue(alloc, out, None, frame)
+        let frame = memory.copy(octets)?;
+        self.queue(memory, out, None, frame)
     }
 
     /// Sets a parameter of the channel.

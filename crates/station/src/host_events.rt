@@ -1,5 +1,5 @@
 //! What comes from host programs, event by event.
-ghost use Rattle.std.specs.Prelude.{◌≡◌, [], OnOk};
+ghost use Rattle.std.specs.Prelude.{◌≡◌, [], OnOk, true, OnErr};
 ghost use Rattle.station.specs.Held.{ids_in, ids_behind, JoinsAnew};
 ghost use Rattle.station.specs.Host.{IsHostTurn};
 ghost use Rattle.station.specs.StandsFor.{Shows};
@@ -7,15 +7,15 @@ ghost use Rattle.station.specs.Turn.{Turn};
 
 use crate::host_event::HostEvent;
 use crate::host_out::HostOut;
+use crate::memory::Memory;
 use crate::parts::Parts;
-use std::alloc::Global;
 use tnc_base::OutOfMemory;
 
 impl Parts {
     /// An event of a connection.
     pub(crate) fn host(
         &mut self,
-        alloc: Global,
+        memory: &mut Memory,
         out: &mut HostOut,
         event: HostEvent,
     ) -> Result<(), OutOfMemory>
@@ -24,11 +24,12 @@ impl Parts {
             × IsHostTurn event turn behind × Shows self.new out.new behind) }
         ensures ids { OnOk result (out.old.closed ≡ []
             → ids_in self.new ≡ ids_behind event out.new.closed (ids_in self.old)) }
+        ensures wanted { OnErr result (memory.new.refused ≡ true) }
     {
         match event {
-            HostEvent::Joined { id, kind } => self.join(alloc, out, id, kind),
-            HostEvent::Bytes { id, octets } => self.take(alloc, out, id, octets.as_slice()),
-            HostEvent::Left { id } => self.leave(alloc, out, id),
+            HostEvent::Joined { id, kind } => self.join(memory, out, id, kind),
+            HostEvent::Bytes { id, octets } => self.take(memory, out, id, octets.as_slice()),
+            HostEvent::Left { id } => self.leave(memory, out, id),
         }
     }
 }

@@ -1,7 +1,8 @@
 //! What a call of a station gives.
 
-ghost use Rattle.std.specs.Prelude.{◌≡◌, [], ◌∷◌, ◌++◌, OnOk};
+ghost use Rattle.std.specs.Prelude.{◌≡◌, [], ◌∷◌, ◌++◌, true, OnOk, OnErr};
 
+use crate::memory::Memory;
 use channel_access::AirTick;
 use std::alloc::Global;
 use std::marker::Model;
@@ -54,37 +55,43 @@ impl HostOut {
     }
 
     /// Octets for a connection.
-    pub(crate) fn send(&mut self, id: u32, octets: Octets) -> Result<(), OutOfMemory>
-        ensures { OnOk result (self.new
+    pub(crate) fn send(
+        &mut self,
+        memory: &mut Memory,
+        id: u32,
+        octets: Octets,
+    ) -> Result<(), OutOfMemory>
+        ensures sent { OnOk result (self.new
             ≡ record self.old { pieces = self.old.pieces ++ (record { id = id; octets = octets }) ∷ [] }) }
+        ensures wanted { OnErr result (memory.new.refused ≡ true) }
     {
-        self.pieces.push(Piece { id, octets })?;
-        Ok(())
+        memory.push(&mut self.pieces, Piece { id, octets })
     }
 
     /// A connection is closed.
-    pub(crate) fn close(&mut self, id: u32) -> Result<(), OutOfMemory>
-        ensures { OnOk result (self.new ≡ record self.old { closed = self.old.closed ++ id ∷ [] }) }
+    pub(crate) fn close(&mut self, memory: &mut Memory, id: u32) -> Result<(), OutOfMemory>
+        ensures closed { OnOk result (self.new ≡ record self.old { closed = self.old.closed ++ id ∷ [] }) }
+        ensures wanted { OnErr result (memory.new.refused ≡ true) }
     {
-        self.closed.push(id)?;
-        Ok(())
+        memory.push(&mut self.closed, id)
     }
 
     /// Tells of a frame that joins the transmit queue, if it is a link's.
     pub(crate) fn tell_queued(
         &mut self,
-        alloc: Global,
+        memory: &mut Memory,
         link: Option<u32>,
         octets: &Octets,
     ) -> Result<(), OutOfMemory>
-        ensures { OnOk result (self.new ≡ record self.old { queued = self.old.queued ++ told_of link octets.now }) }
+        ensures told { OnOk result (self.new
+            ≡ record self.old { queued = self.old.queued ++ told_of link octets.now }) }
+        ensures wanted { OnErr result (memory.new.refused ≡ true) }
     {
         if link.is_none() {
             return Ok(());
         }
-        let copy = Octets::from_slice(alloc, octets.as_slice())?;
-        self.queued.push(copy)?;
-        Ok(())
+        let copy = memory.copy(octets.as_slice())?;
+        memory.push(&mut self.queued, copy)
     }
 }
 

@@ -1,5 +1,5 @@
 //! Connections that join and leave.
-ghost use Rattle.std.specs.Prelude.{◌≡◌, ◌≢◌, [], ◌∷◌, ◌++◌, All, OnOk};
+ghost use Rattle.std.specs.Prelude.{◌≡◌, ◌≢◌, [], ◌∷◌, ◌++◌, All, OnOk, true, OnErr};
 ghost use Rattle.station.specs.Held.{ids_in, without_ids};
 ghost use Rattle.station.specs.Host.{joining};
 ghost use Rattle.station.specs.HeldConnections.{kind_of};
@@ -9,6 +9,7 @@ ghost use Rattle.station.specs.Turn.{Turn};
 use crate::connection::{Connection, Reader};
 use crate::host_event::PortKind;
 use crate::host_out::HostOut;
+use crate::memory::Memory;
 use crate::parts::Parts;
 use agwpe_port::AgwIn;
 use kiss_port::KissIn;
@@ -22,7 +23,7 @@ impl Parts {
     /// A connection joins under a new id, or is closed at once if 64 are there.
     pub(crate) fn join(
         &mut self,
-        alloc: Global,
+        memory: &mut Memory,
         out: &mut HostOut,
         id: u32,
         kind: PortKind,
@@ -32,17 +33,18 @@ impl Parts {
             → OnOk result (Shows self.new out.new (joining id kind turn)) }
         ensures ids { OnOk result (out.old.closed ≡ []
             → ids_in self.new ≡ without_ids out.new.closed (ids_in self.old ++ id ∷ [])) }
+        ensures wanted { OnErr result (memory.new.refused ≡ true) }
     {
         if self.connections.len() >= MOST_CONNECTIONS {
-            return out.close(id);
+            return out.close(memory, id);
         }
-        self.connections.push(Connection {
+        let connection = Connection {
             id,
             raw: false,
             monitors: false,
-            reader: new_reader(alloc, kind),
-        })?;
-        Ok(())
+            reader: new_reader(memory.alloc(), kind),
+        };
+        memory.push(&mut self.connections, connection)
     }
 }
 

@@ -1,5 +1,5 @@
 //! Connections that leave.
-ghost use Rattle.std.specs.Prelude.{◌≡◌, ◌==◌, not, filter, [], ◌∷◌, OnOk};
+ghost use Rattle.std.specs.Prelude.{◌≡◌, ◌==◌, not, filter, [], ◌∷◌, OnOk, true, OnErr};
 ghost use Rattle.station.specs.Held.{ids_in, without_ids};
 ghost use Rattle.station.specs.Leaving.{leaving, giving_up, giving_up_all, without_host};
 ghost use Rattle.station.specs.Registrations.{without_registrations};
@@ -10,16 +10,16 @@ use crate::connection::Connection;
 use crate::host_out::HostOut;
 use crate::link_event::LinkEvent;
 use crate::link_table::MOST_LINKS;
+use crate::memory::Memory;
 use crate::parts::Parts;
 use crate::registration::Registration;
-use std::alloc::Global;
 use tnc_base::OutOfMemory;
 
 impl Parts {
     /// A connection leaves: its registrations end, and its links are given up.
     pub(crate) fn leave(
         &mut self,
-        alloc: Global,
+        memory: &mut Memory,
         out: &mut HostOut,
         id: u32,
     ) -> Result<(), OutOfMemory>
@@ -27,20 +27,27 @@ impl Parts {
             → OnOk result (Shows self.new out.new (leaving id turn)) }
         ensures ids { OnOk result (ids_in self.new ≡ without_ids (id ∷ []) (ids_in self.old)) }
         ensures closed { OnOk result (out.new.closed ≡ out.old.closed) }
+        ensures wanted { OnErr result (memory.new.refused ≡ true) }
     {
         self.forget(id);
-        self.give_up_all(alloc, out, id)
+        self.give_up_all(memory, out, id)
     }
 
     /// Gives up each link of a connection, in the order of their keys.
-    fn give_up_all(&mut self, alloc: Global, out: &mut HostOut, id: u32) -> Result<(), OutOfMemory>
+    fn give_up_all(
+        &mut self,
+        memory: &mut Memory,
+        out: &mut HostOut,
+        id: u32,
+    ) -> Result<(), OutOfMemory>
         ensures shows { (turn : Turn) → Shows self.old out.old turn
             → OnOk result (Shows self.new out.new (giving_up_all id turn)) }
         ensures ids { OnOk result (ids_in self.new ≡ ids_in self.old) }
         ensures closed { OnOk result (out.new.closed ≡ out.old.closed) }
+        ensures wanted { OnErr result (memory.new.refused ≡ true) }
     {
         for key in 0..MOST_LINKS {
-            self.give_up(alloc, out, id, key)?;
+            self.give_up(memory, out, id, key)?;
         }
         Ok(())
     }
@@ -48,7 +55,7 @@ impl Parts {
     /// Gives up the link of a key, if it is the connection's: it has no owner from then on, and is disconnected.
     fn give_up(
         &mut self,
-        alloc: Global,
+        memory: &mut Memory,
         out: &mut HostOut,
         id: u32,
         key: u32,
@@ -57,6 +64,7 @@ impl Parts {
             → OnOk result (Shows self.new out.new (giving_up id key turn)) }
         ensures ids { OnOk result (ids_in self.new ≡ ids_in self.old) }
         ensures closed { OnOk result (out.new.closed ≡ out.old.closed) }
+        ensures wanted { OnErr result (memory.new.refused ≡ true) }
     {
         let Some(link) = self.links.get(key) else {
             return Ok(());
@@ -65,7 +73,7 @@ impl Parts {
             return Ok(());
         }
         self.links.disown(key);
-        self.link_event(alloc, out, key, LinkEvent::Disconnect)
+        self.link_event(memory, out, key, LinkEvent::Disconnect)
     }
 
     /// The connection and its registrations are there no more.

@@ -1,10 +1,12 @@
 //! The events of one link of a station.
-ghost use Rattle.std.specs.Prelude.{◌≡◌, IfOk, OnOk, Some};
+ghost use Rattle.std.specs.Prelude.{◌≡◌, true, All, IfOk, OnOk, OnErr, Some};
 ghost use Rattle.station.specs.LinkRequests.{event_of, HasNumbers, stepped_link, nothing_done, Passes};
 ghost use Rattle.station.specs.Links.{Link};
 ghost use Rattle.station.specs.StandsFor.{StandsForLink};
+ghost use Rattle.link_machine.specs.Sent.{IsWritable};
 ghost use Rattle.link_machine.specs.Step.{step, done_of};
 
+use crate::memory::Memory;
 use crate::owned_link::OwnedLink;
 use ax25_frames::Frame;
 use link_machine::{Acts, LinkFault};
@@ -29,19 +31,28 @@ pub enum LinkEvent {
 
 impl OwnedLink {
     /// The event of the link. One that the link refuses does nothing.
-    pub(crate) fn take(&mut self, alloc: Global, event: LinkEvent) -> Result<Acts, OutOfMemory>
+    pub(crate) fn take(
+        &mut self,
+        memory: &mut Memory,
+        event: LinkEvent,
+    ) -> Result<Acts, OutOfMemory>
         requires { HasNumbers event (Some self.old) }
         ensures acts { (link : Link) → StandsForLink self.old link
             → IfOk result (λ acts. acts ≡ done_of (step link.machine (event_of event))) }
         ensures stands_for { (link : Link) → StandsForLink self.old link
             → OnOk result (StandsForLink self.new (stepped_link (event_of event) link)) }
+        ensures writable { IfOk result (λ acts. All IsWritable acts.frames) }
+        ensures wanted { OnErr result (memory.new.refused ≡ true) }
     {
+        let alloc = memory.alloc();
         match event {
-            LinkEvent::Connect => unless_refused(alloc, self.machine.connect()),
-            LinkEvent::Send(packet) => unless_refused(alloc, self.machine.send(packet)),
-            LinkEvent::Disconnect => unless_refused(alloc, self.machine.disconnect()),
-            LinkEvent::Hear(frame) => self.machine.frame(&frame),
-            LinkEvent::Tick(waiting) => self.machine.tick(waiting),
+            LinkEvent::Connect => memory.took(unless_refused(alloc, self.machine.connect())),
+            LinkEvent::Send(packet) => {
+                memory.took(unless_refused(alloc, self.machine.send(packet)))
+            }
+            LinkEvent::Disconnect => memory.took(unless_refused(alloc, self.machine.disconnect())),
+            LinkEvent::Hear(frame) => memory.took(self.machine.frame(&frame)),
+            LinkEvent::Tick(waiting) => memory.took(self.machine.tick(waiting)),
         }
     }
 }

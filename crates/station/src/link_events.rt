@@ -1,5 +1,6 @@
 //! An event of a link within its station: what it sends is queued, and what it tells goes to its owner.
-ghost use Rattle.std.specs.Prelude.{◌≡◌, OnOk};
+ghost use Rattle.std.specs.Prelude.{◌≡◌, true, All, OnOk, OnErr};
+ghost use Rattle.link_machine.specs.Sent.{IsWritable};
 ghost use Rattle.station.specs.LinkEvents.{event_at, queueing_frames, telling_one, telling_to};
 ghost use Rattle.station.specs.Held.{ids_in};
 ghost use Rattle.station.specs.LinkRequests.{event_of, HasNumbers};
@@ -10,18 +11,18 @@ ghost use Rattle.station.specs.Turn.{Turn};
 use crate::frames::written;
 use crate::host_out::HostOut;
 use crate::link_event::LinkEvent;
+use crate::memory::Memory;
 use crate::messages::told_message;
 use crate::parts::Parts;
 use ax25_address::Call;
 use link_machine::{SentFrame, Told};
-use std::alloc::Global;
 use tnc_base::OutOfMemory;
 
 impl Parts {
     /// The event of the link that a key has. A link that is idle then is removed.
     pub(crate) fn link_event(
         &mut self,
-        alloc: Global,
+        memory: &mut Memory,
         out: &mut HostOut,
         key: u32,
         event: LinkEvent,
@@ -31,6 +32,7 @@ impl Parts {
             → OnOk result (Shows self.new out.new (event_at key (event_of event) turn)) }
         ensures ids { OnOk result (ids_in self.new ≡ ids_in self.old) }
         ensures closed { OnOk result (out.new.closed ≡ out.old.closed) }
+        ensures wanted { OnErr result (memory.new.refused ≡ true) }
     {
         let Some(link) = self.links.get(key) else {
             return Ok(());
@@ -38,29 +40,31 @@ impl Parts {
         let owner = link.owner;
         let local = link.local;
         let remote = link.remote;
-        let acts = self.links.take(alloc, key, event)?;
+        let acts = self.links.take(memory, key, event)?;
         self.links.settle(key);
-        self.queue_frames(alloc, out, key, &acts.frames)?;
-        self.tell(alloc, out, owner, &local, &remote, &acts.told)?;
+        self.queue_frames(memory, out, key, &acts.frames)?;
+        self.tell(memory, out, owner, &local, &remote, &acts.told)?;
         Ok(())
     }
 
     /// Queues the frames of a link.
     fn queue_frames(
         &mut self,
-        alloc: Global,
+        memory: &mut Memory,
         out: &mut HostOut,
         key: u32,
         frames: &[SentFrame],
     ) -> Result<(), OutOfMemory>
+        requires { All IsWritable frames.now }
         ensures shows { (turn : Turn) → Shows self.old out.old turn
             → OnOk result (Shows self.new out.new (queueing_frames key frames.now turn)) }
         ensures ids { OnOk result (ids_in self.new ≡ ids_in self.old) }
         ensures closed { OnOk result (out.new.closed ≡ out.old.closed) }
+        ensures wanted { OnErr result (memory.new.refused ≡ true) }
     {
         for sent in frames {
-            let octets = written(alloc, &sent.frame, sent.modulus)?;
-            self.queue(alloc, out, Some(key), octets)?;
+            let octets = written(memory, &sent.frame, sent.modulus)?;
+            self.queue(memory, out, Some(key), octets)?;
         }
         Ok(())
     }
@@ -68,7 +72,7 @@ impl Parts {
     /// Tells the owner of a link.
     fn tell(
         &self,
-        alloc: Global,
+        memory: &mut Memory,
         out: &mut HostOut,
         owner: Option<u32>,
         local: &Call,
@@ -78,16 +82,17 @@ impl Parts {
         ensures shows { (turn : Turn) → Shows self.now out.old turn
             → OnOk result (Shows self.now out.new (telling_to owner local.now remote.now told.now turn)) }
         ensures closed { OnOk result (out.new.closed ≡ out.old.closed) }
+        ensures wanted { OnErr result (memory.new.refused ≡ true) }
     {
         for item in told {
-            self.tell_one(alloc, out, owner, local, remote, item)?;
+            self.tell_one(memory, out, owner, local, remote, item)?;
         }
         Ok(())
     }
 
     fn tell_one(
         &self,
-        alloc: Global,
+        memory: &mut Memory,
         out: &mut HostOut,
         owner: Option<u32>,
         local: &Call,
@@ -97,12 +102,13 @@ impl Parts {
         ensures shows { (turn : Turn) → Shows self.now out.old turn
             → OnOk result (Shows self.now out.new (telling_one owner local.now remote.now told.now turn)) }
         ensures closed { OnOk result (out.new.closed ≡ out.old.closed) }
+        ensures wanted { OnErr result (memory.new.refused ≡ true) }
     {
         let Some(id) = owner else {
             return Ok(());
         };
-        let octets = told_message(alloc, local, remote, told)?;
-        out.send(id, octets)?;
+        let octets = told_message(memory, local, remote, told)?;
+        out.send(memory, id, octets)?;
         Ok(())
     }
 }

@@ -1,7 +1,8 @@
 //! The links by their keys.
-ghost use Rattle.std.specs.Prelude.{◌≡◌, ℕ, ◌<◌, ◌≤◌, ◌↔◌, List, [], All, IfOk, OnOk, IfSome, IsTrue, replicate};
-ghost use Rattle.std.specs.Prelude.{position, count_by, is_some, nat_lt, slice_set, Some, None};
+ghost use Rattle.std.specs.Prelude.{◌≡◌, ℕ, ◌<◌, ◌≤◌, ◌↔◌, List, [], All, IfOk, OnOk, OnErr, IfSome, IsTrue};
+ghost use Rattle.std.specs.Prelude.{replicate, true, position, count_by, is_some, nat_lt, slice_set, Some, None};
 ghost use Rattle.std.specs.Option.{option_copied, option_or};
+ghost use Rattle.link_machine.specs.Sent.{IsWritable};
 ghost use Rattle.link_machine.specs.Step.{step, done_of};
 ghost use Rattle.station.specs.HasFew.{HasFew};
 ghost use Rattle.station.specs.HeldLinks.{is_held_between};
@@ -13,6 +14,7 @@ ghost use Rattle.station.specs.StandsFor.{StandsForLinks};
 ghost use Rattle.station.specs.TableSteps.{place_at, HasAt, IsSetAt, settled_at};
 
 use crate::link_event::{LinkEvent, no_acts};
+use crate::memory::Memory;
 use crate::owned_link::OwnedLink;
 use ax25_address::Call;
 use ax25_frames::Modulus;
@@ -151,7 +153,7 @@ impl LinkTable {
     /// The event of the link that a key has.
     pub(crate) fn take(
         &mut self,
-        alloc: Global,
+        memory: &mut Memory,
         key: u32,
         event: LinkEvent,
     ) -> Result<Acts, OutOfMemory>
@@ -160,11 +162,13 @@ impl LinkTable {
             → IfOk result (λ acts. acts ≡ done_of (step link.machine (event_of event))) }
         ensures stands_for { (link : Link) → HasAt key self.old link
             → OnOk result (IsSetAt key self.old self.new (stepped_link (event_of event) link)) }
+        ensures writable { IfOk result (λ acts. All IsWritable acts.frames) }
+        ensures wanted { OnErr result (memory.new.refused ≡ true) }
     {
         let Some(link) = self.slab.get_mut(key as usize) else {
-            return Ok(no_acts(alloc));
+            return Ok(no_acts(memory.alloc()));
         };
-        link.take(alloc, event)
+        link.take(memory, event)
     }
 
     /// The link of a key has no owner any more.

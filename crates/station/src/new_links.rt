@@ -1,6 +1,8 @@
 //! Links that are made.
-ghost use Rattle.std.specs.Prelude.{◌≡◌, ℕ, ◌<◌, count_by, is_some, IfOk, OnOk, option_map};
+ghost use Rattle.std.specs.Prelude.{◌≡◌, ℕ, ◌<◌, true, count_by, is_some, Ok, IfOk, OnOk, OnErr, option_map};
 ghost use Rattle.std.specs.List.{find};
+ghost use Rattle.std.specs.Result.{IsErrOf};
+ghost use Rattle.link_machine.specs.declared.fault.NewFault.{NewFault};
 ghost use Rattle.station.specs.Held.{ids_in};
 ghost use Rattle.station.specs.Links.{IsNewKey};
 ghost use Rattle.ax25_frames.specs.declared.frame.Modulus.TheVariants.{Eight};
@@ -11,11 +13,11 @@ ghost use Rattle.station.specs.Registrations.{registrar};
 ghost use Rattle.station.specs.StandsFor.{Shows};
 ghost use Rattle.station.specs.Turn.{Out, Turn};
 
+use crate::memory::Memory;
 use crate::owned_link::OwnedLink;
 use crate::parts::Parts;
 use ax25_address::{Call, Path};
-use link_machine::Link;
-use std::alloc::Global;
+use link_machine::{Link, NewFault};
 use tnc_base::OutOfMemory;
 
 /// The PID of data that no layer 3 has.
@@ -44,7 +46,7 @@ impl Parts {
     /// Makes a link that is idle, and tells its key. The windows were found good when the station was made.
     pub(crate) fn make_link(
         &mut self,
-        alloc: Global,
+        memory: &mut Memory,
         owner: u32,
         pid: u8,
         local: Call,
@@ -56,18 +58,30 @@ impl Parts {
             IsNewKey key turn.now.links × Shows self.new out (making key owner pid local remote path turn)) }
         ensures modulus { IfOk result (λ key. held_modulus (place_at key self.new.links) ≡ Eight) }
         ensures ids { OnOk result (ids_in self.new ≡ ids_in self.old) }
+        ensures wanted { OnErr result (memory.new.refused ≡ true) }
     {
-        match Link::new(alloc, self.parameters, path) {
-            Ok(machine) => Ok(
-                self.links.insert(OwnedLink {
-                    local,
-                    remote,
-                    owner: Some(owner),
-                    pid,
-                    machine,
-                }),
-            ),
-            Err(_) => Err(OutOfMemory),
-        }
+        let machine = Link::new(memory.alloc(), self.parameters.get(), path);
+        let machine = memory.took(of_fitting_windows(machine))?;
+        Ok(
+            self.links.insert(OwnedLink {
+                local,
+                remote,
+                owner: Some(owner),
+                pid,
+                machine,
+            }),
+        )
+    }
+}
+
+/// A link whose windows fit, unless memory was wanted.
+fn of_fitting_windows(answer: Result<Link, NewFault>) -> Result<Link, OutOfMemory>
+    requires { (window : ℕ) → ¬ IsErrOf answer (NewFault.BadWindow window) }
+    ensures { IfOk result (λ link. answer ≡ Ok link) }
+{
+    match answer {
+        Ok(link) => Ok(link),
+        Err(NewFault::Memory) => Err(OutOfMemory),
+        Err(NewFault::BadWindow { .. }) => unreachable!(),
     }
 }

@@ -1,18 +1,18 @@
 //! The parts of a station, and the transmit queue that all of them share.
-ghost use Rattle.std.specs.Prelude.{◌≡◌, ℕ, ◌<◌, ◌≤◌, ◌↔◌, List, [], ◌∷◌, ◌++◌, length, IfOk, OnOk, IsTrue, Option};
-ghost use Rattle.std.specs.Prelude.{Some, None};
+ghost use Rattle.std.specs.Prelude.{◌≡◌, ℕ, ◌<◌, ◌≤◌, ◌↔◌, List, [], ◌∷◌, ◌++◌, length, IfOk, OnOk, IsTrue};
+ghost use Rattle.std.specs.Prelude.{OnErr, Option, Some, None, true};
 ghost use Rattle.hdlc_framer.specs.FrameLength.{HasFrameLength};
 ghost use Rattle.channel_access.specs.Channel.{Channel, with_frame};
 ghost use Rattle.channel_access.specs.StandsFor.{StandsFor as StandsForChannel};
 
-use crate::config::Config;
+use crate::config::LinkParams;
 use crate::connection::Connection;
 use crate::host_out::HostOut;
 use crate::link_table::LinkTable;
+use crate::memory::Memory;
 use crate::registration::Registration;
 use ax25_address::Call;
 use channel_access::Access;
-use link_machine::Params;
 use std::alloc::Global;
 use tnc_base::{Octets, OutOfMemory};
 
@@ -23,7 +23,7 @@ const CAPACITY: usize = 256;
 #[derive(Drop)]
 pub struct Parts {
     /// The mode and the window of each link.
-    pub parameters: Params,
+    pub parameters: LinkParams,
     /// The call of the digipeater, if the station is one.
     pub digi: Option<Call>,
     /// The connections, in the order in which they joined.
@@ -47,13 +47,19 @@ impl Parts {
     ghost use Rattle.station.specs.StandsFor.{AreParts, Shows};
 
     /// The parts of a new station.
-    pub(crate) fn new(alloc: Global, config: Config, seed: u64) -> Result<Parts, OutOfMemory>
-        ensures parts { IfOk result (λ parts. AreParts parts (new_station config seed)) }
+    pub(crate) fn new(
+        alloc: Global,
+        parameters: LinkParams,
+        digi: Option<Call>,
+        seed: u64,
+    ) -> Result<Parts, OutOfMemory>
+        ensures parts { IfOk result (λ parts. AreParts parts
+            (new_station (record { params = parameters; digi = digi }) seed)) }
         ensures no_connection { IfOk result (λ parts. parts.connections.items ≡ []) }
     {
         Ok(Parts {
-            parameters: config.params,
-            digi: config.digi,
+            parameters,
+            digi,
             connections: Vec::new(alloc),
             registrations: Vec::new(alloc),
             links: LinkTable::new(alloc)?,
@@ -66,7 +72,7 @@ impl Parts {
     /// Puts a frame into the transmit queue, for the link of a key or for none, or drops it if the queue is full.
     pub(crate) fn queue(
         &mut self,
-        alloc: Global,
+        memory: &mut Memory,
         out: &mut HostOut,
         link: Option<u32>,
         octets: Octets,
@@ -76,12 +82,13 @@ impl Parts {
             → OnOk result (Shows self.new out.new (queueing link octets turn)) }
         ensures ids { OnOk result (ids_in self.new ≡ ids_in self.old) }
         ensures closed { OnOk result (out.new.closed ≡ out.old.closed) }
+        ensures wanted { OnErr result (memory.new.refused ≡ true) }
     {
         if self.channel.len() >= CAPACITY {
             self.dropped = self.dropped.saturating_add(1);
             return Ok(());
         }
-        out.tell_queued(alloc, link, &octets)?;
+        out.tell_queued(memory, link, &octets)?;
         enter(&mut self.channel, link, octets);
         Ok(())
     }

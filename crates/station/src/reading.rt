@@ -1,5 +1,5 @@
 //! What the octets of a connection say.
-ghost use Rattle.std.specs.Prelude.{◌≡◌, ◌++◌, ℕ, List, IfOk, OnOk};
+ghost use Rattle.std.specs.Prelude.{◌≡◌, ◌++◌, ℕ, List, IfOk, OnOk, true, OnErr};
 ghost use Rattle.std.specs.Option.{option_to_list};
 ghost use Rattle.kiss_port.specs.Held.{StandsFor as KissStandsFor};
 ghost use Rattle.kiss_port.specs.Items.{items_in};
@@ -8,9 +8,9 @@ ghost use Rattle.station.specs.StandsFor.{Reads};
 ghost use Rattle.station.specs.declared.host_event.PortKind.{PortKind};
 
 use crate::connection::Reader;
+use crate::memory::Memory;
 use agwpe_port::{AgwMessage, read_messages};
 use kiss_port::{KissIn, KissItem};
-use std::alloc::Global;
 use tnc_base::OutOfMemory;
 
 /// What octets say.
@@ -24,19 +24,21 @@ pub enum Said {
 
 impl Reader {
     /// Takes octets, and gives what ends in them.
-    pub(crate) fn read(&mut self, alloc: Global, octets: &[u8]) -> Result<Said, OutOfMemory>
+    pub(crate) fn read(&mut self, memory: &mut Memory, octets: &[u8]) -> Result<Said, OutOfMemory>
         ensures stands_for { (kind : PortKind) (stream : List ℕ) → Reads self.old kind stream
             → OnOk result (Reads self.new kind (stream ++ octets.now)) }
         ensures says { (kind : PortKind) (stream : List ℕ) → Reads self.old kind stream
             → IfOk result (λ said. Says kind stream octets.now said) }
+        ensures wanted { OnErr result (memory.new.refused ≡ true) }
     {
         match self {
             Reader::KissReader(reader) => {
-                let items = read_items(alloc, reader, octets)?;
+                let items = read_items(memory, reader, octets)?;
                 Ok(Said::Items(items))
             }
             Reader::AgwReader(reader) => {
-                let messages = read_messages(alloc, reader, octets)?;
+                let messages = read_messages(memory.alloc(), reader, octets);
+                let messages = memory.took(messages)?;
                 let failed = reader.failed().is_some();
                 Ok(Said::Messages(messages, failed))
             }
@@ -46,7 +48,7 @@ impl Reader {
 
 /// The items that end in the octets.
 fn read_items(
-    alloc: Global,
+    memory: &mut Memory,
     reader: &mut KissIn,
     octets: &[u8],
 ) -> Result<Vec<KissItem>, OutOfMemory>
@@ -54,24 +56,27 @@ fn read_items(
         → OnOk result (KissStandsFor reader.new (stream ++ octets.now)) }
     ensures items { (stream : List ℕ) → KissStandsFor reader.old stream
         → IfOk result (λ items. items_in (stream ++ octets.now) ≡ items_in stream ++ items.items) }
+    ensures wanted { OnErr result (memory.new.refused ≡ true) }
 {
-    let mut items = Vec::new(alloc);
+    let mut items = Vec::new(memory.alloc());
     for octet in octets {
-        let item = reader.push(*octet)?;
-        keep(&mut items, item)?;
+        let item = memory.took(reader.push(*octet))?;
+        keep(memory, &mut items, item)?;
     }
     Ok(items)
 }
 
 /// Puts an item after the others, if there is one.
-fn keep(items: &mut Vec<KissItem>, item: Option<KissItem>) -> Result<(), OutOfMemory>
-    ensures { OnOk result (items.new.items ≡ items.old.items ++ option_to_list item) }
+fn keep(
+    memory: &mut Memory,
+    items: &mut Vec<KissItem>,
+    item: Option<KissItem>,
+) -> Result<(), OutOfMemory>
+    ensures kept { OnOk result (items.new.items ≡ items.old.items ++ option_to_list item) }
+    ensures wanted { OnErr result (memory.new.refused ≡ true) }
 {
     match item {
-        Some(item) => {
-            items.push(item)?;
-            Ok(())
-        }
+        Some(item) => { memory.push(items, item) }
         None => Ok(()),
     }
 }

@@ -1,5 +1,5 @@
 //! Calls that hosts register, and frames that they ask to be shown.
-ghost use Rattle.std.specs.Prelude.{◌≡◌, not, OnOk};
+ghost use Rattle.std.specs.Prelude.{◌≡◌, not, OnOk, true, OnErr};
 ghost use Rattle.agwpe_port.specs.Messages.{spelling};
 ghost use Rattle.station.specs.AgwRequests.{monitor_toggled, register_reply, registering, toggled, unregistering};
 ghost use Rattle.station.specs.CallFields.{call_in};
@@ -11,18 +11,18 @@ ghost use Rattle.station.specs.Turn.{Out, Turn, changing, with_piece};
 use crate::call_fields::{call_in, sent_back};
 use crate::connection::Connection;
 use crate::host_out::HostOut;
+use crate::memory::Memory;
 use crate::parts::Parts;
 use crate::registration::Registration;
 use crate::replies::reply;
 use ax25_address::Call;
-use std::alloc::Global;
 use tnc_base::OutOfMemory;
 
 impl Parts {
     /// X: registers the call of a field, if it is one that no other connection has.
     pub(crate) fn register(
         &mut self,
-        alloc: Global,
+        memory: &mut Memory,
         out: &mut HostOut,
         id: u32,
         from: [u8; 10],
@@ -31,15 +31,16 @@ impl Parts {
             → OnOk result (Shows self.new out.new (registering id from (call_in from) turn)) }
         ensures ids { OnOk result (ids_in self.new ≡ ids_in self.old) }
         ensures closed { OnOk result (out.new.closed ≡ out.old.closed) }
+        ensures wanted { OnErr result (memory.new.refused ≡ true) }
     {
         let Some(call) = call_in(&from) else {
-            return reply_registered(alloc, out, id, from, false);
+            return reply_registered(memory, out, id, from, false);
         };
         match self.registrar(&call) {
-            Some(other) => reply_registered(alloc, out, id, from, other == id),
+            Some(other) => reply_registered(memory, out, id, from, other == id),
             None => {
-                self.registrations.push(Registration { call, id })?;
-                reply_registered(alloc, out, id, from, true)
+                memory.push(&mut self.registrations, Registration { call, id })?;
+                reply_registered(memory, out, id, from, true)
             }
         }
     }
@@ -97,7 +98,7 @@ fn toggle_raw(connection: &mut Connection)
 
 /// Answers X.
 fn reply_registered(
-    alloc: Global,
+    memory: &mut Memory,
     out: &mut HostOut,
     id: u32,
     from: [u8; 10],
@@ -105,9 +106,10 @@ fn reply_registered(
 ) -> Result<(), OutOfMemory>
     ensures sent { OnOk result (out.new ≡ with_piece id (spelling (register_reply from done)) out.old) }
     ensures closed { OnOk result (out.new.closed ≡ out.old.closed) }
+    ensures wanted { OnErr result (memory.new.refused ≡ true) }
 {
     reply(
-        alloc,
+        memory,
         out,
         id,
         b'X',

@@ -1,5 +1,5 @@
 //! Replies to what hosts ask about the station.
-ghost use Rattle.std.specs.Prelude.{◌≡◌, ◌≤◌, length, IfOk, OnOk};
+ghost use Rattle.std.specs.Prelude.{◌≡◌, ◌≤◌, length, IfOk, OnOk, true, OnErr};
 ghost use Rattle.byteorder.specs.Endian.{little_bytes};
 ghost use Rattle.agwpe_port.specs.Messages.{spelling};
 ghost use Rattle.station.specs.AgwRequests.{capabilities_of, capabilities_reply, pending_in, pending_reply};
@@ -13,10 +13,10 @@ ghost use Rattle.station.specs.Turn.{Turn, with_piece};
 use crate::call_fields::sent_back;
 use crate::host_out::HostOut;
 use crate::link_table::LinkTable;
+use crate::memory::Memory;
 use crate::messages::message;
 use crate::parts::Parts;
 use agwpe_port::AgwMessage;
-use std::alloc::Global;
 use tnc_base::OutOfMemory;
 
 /// A call field that is not named.
@@ -26,16 +26,17 @@ impl Parts {
     /// R: the version.
     pub(crate) fn reply_version(
         &self,
-        alloc: Global,
+        memory: &mut Memory,
         out: &mut HostOut,
         id: u32,
     ) -> Result<(), OutOfMemory>
         ensures shows { (turn : Turn) → Shows self.now out.old turn
             → OnOk result (Shows self.now out.new (replying id version_reply turn)) }
         ensures closed { OnOk result (out.new.closed ≡ out.old.closed) }
+        ensures wanted { OnErr result (memory.new.refused ≡ true) }
     {
         reply(
-            alloc,
+            memory,
             out,
             id,
             b'R',
@@ -48,16 +49,17 @@ impl Parts {
     /// G: the radio ports.
     pub(crate) fn reply_ports(
         &self,
-        alloc: Global,
+        memory: &mut Memory,
         out: &mut HostOut,
         id: u32,
     ) -> Result<(), OutOfMemory>
         ensures shows { (turn : Turn) → Shows self.now out.old turn
             → OnOk result (Shows self.now out.new (replying id ports_reply turn)) }
         ensures closed { OnOk result (out.new.closed ≡ out.old.closed) }
+        ensures wanted { OnErr result (memory.new.refused ≡ true) }
     {
         reply(
-            alloc,
+            memory,
             out,
             id,
             b'G',
@@ -70,15 +72,24 @@ impl Parts {
     /// g: how the radio port is set.
     pub(crate) fn reply_capabilities(
         &self,
-        alloc: Global,
+        memory: &mut Memory,
         out: &mut HostOut,
         id: u32,
     ) -> Result<(), OutOfMemory>
         ensures shows { (turn : Turn) → Shows self.now out.old turn
             → OnOk result (Shows self.now out.new (replying id (capabilities_reply turn.now) turn)) }
         ensures closed { OnOk result (out.new.closed ≡ out.old.closed) }
+        ensures wanted { OnErr result (memory.new.refused ≡ true) }
     {
-        reply(alloc, out, id, b'g', NO_CALL, NO_CALL, &self.capabilities())
+        reply(
+            memory,
+            out,
+            id,
+            b'g',
+            NO_CALL,
+            NO_CALL,
+            &self.capabilities(),
+        )
     }
 
     /// The body of g.
@@ -93,7 +104,7 @@ impl Parts {
             set.tx_tail,
             set.persist,
             set.slot_time,
-            self.parameters.window,
+            self.parameters.get().window,
             self.links.len() as u8,
             1,
             0,
@@ -105,7 +116,7 @@ impl Parts {
     /// Y: how many packets of the link of two calls are not acknowledged.
     pub(crate) fn reply_pending(
         &self,
-        alloc: Global,
+        memory: &mut Memory,
         out: &mut HostOut,
         id: u32,
         message: &AgwMessage,
@@ -113,26 +124,28 @@ impl Parts {
         ensures shows { (turn : Turn) → Shows self.now out.old turn → OnOk result (Shows self.now out.new
             (replying id (pending_reply message.now (pending_in message.now turn.now.links)) turn)) }
         ensures closed { OnOk result (out.new.closed ≡ out.old.closed) }
+        ensures wanted { OnErr result (memory.new.refused ≡ true) }
     {
         let from = sent_back(message.from);
         let to = sent_back(message.to);
         let count = self.links.pending(message).to_le_bytes();
-        reply(alloc, out, id, b'Y', from, to, &count[..4])
+        reply(memory, out, id, b'Y', from, to, &count[..4])
     }
 
     /// y: how many frames wait to be sent.
     pub(crate) fn reply_waiting(
         &self,
-        alloc: Global,
+        memory: &mut Memory,
         out: &mut HostOut,
         id: u32,
     ) -> Result<(), OutOfMemory>
         ensures shows { (turn : Turn) → Shows self.now out.old turn → OnOk result (Shows self.now out.new
             (replying id (waiting_reply (length turn.now.channel.waiting)) turn)) }
         ensures closed { OnOk result (out.new.closed ≡ out.old.closed) }
+        ensures wanted { OnErr result (memory.new.refused ≡ true) }
     {
         let count = self.channel.len().to_le_bytes();
-        reply(alloc, out, id, b'y', NO_CALL, NO_CALL, &count[..4])
+        reply(memory, out, id, b'y', NO_CALL, NO_CALL, &count[..4])
     }
 }
 
@@ -153,7 +166,7 @@ impl LinkTable {
 
 /// Sends a message of a kind to a connection.
 pub(crate) fn reply(
-    alloc: Global,
+    memory: &mut Memory,
     out: &mut HostOut,
     id: u32,
     kind: u8,
@@ -161,10 +174,10 @@ pub(crate) fn reply(
     to: [u8; 10],
     body: &[u8],
 ) -> Result<(), OutOfMemory>
-    requires { length body.now ≤ 4096 }
     ensures sent { OnOk result (out.new ≡ with_piece id (spelling (to_host kind 0 from to body.now)) out.old) }
     ensures closed { OnOk result (out.new.closed ≡ out.old.closed) }
+    ensures wanted { OnErr result (memory.new.refused ≡ true) }
 {
-    let octets = message(alloc, kind, 0, from, to, body)?;
-    out.send(id, octets)
+    let octets = message(memory, kind, 0, from, to, body)?;
+    out.send(memory, id, octets)
 }

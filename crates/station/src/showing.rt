@@ -1,5 +1,5 @@
 //! Frames that are heard, as hosts are shown them.
-ghost use Rattle.std.specs.Prelude.{◌≡◌, ◌∷◌, ◌++◌, length, IfOk, OnOk};
+ghost use Rattle.std.specs.Prelude.{◌≡◌, ◌∷◌, ◌++◌, length, IfOk, OnOk, true, OnErr};
 ghost use Rattle.agwpe_port.specs.Messages.{spelling};
 ghost use Rattle.hdlc_framer.specs.FrameLength.{HasFrameLength};
 ghost use Rattle.station.specs.Heard.{showing, with_shown, kiss_data};
@@ -10,10 +10,10 @@ ghost use Rattle.station.specs.Turn.{Turn};
 
 use crate::connection::{Connection, Reader};
 use crate::host_out::HostOut;
+use crate::memory::Memory;
 use crate::messages::message;
 use crate::parts::Parts;
 use kiss_port::write_kiss;
-use std::alloc::Global;
 use tnc_base::{Octets, OutOfMemory};
 
 impl Parts {
@@ -21,7 +21,7 @@ impl Parts {
     /// asked for raw frames.
     pub(crate) fn show(
         &self,
-        alloc: Global,
+        memory: &mut Memory,
         out: &mut HostOut,
         from: [u8; 10],
         to: [u8; 10],
@@ -30,9 +30,10 @@ impl Parts {
         requires { HasFrameLength octets.now }
         ensures shows { (turn : Turn) → Shows self.now out.old turn
             → OnOk result (Shows self.now out.new (showing from to octets.now turn)) }
+        ensures wanted { OnErr result (memory.new.refused ≡ true) }
     {
         for connection in &self.connections {
-            show_to(alloc, out, connection, from, to, octets)?;
+            show_to(memory, out, connection, from, to, octets)?;
         }
         Ok(())
     }
@@ -40,7 +41,7 @@ impl Parts {
 
 /// Shows a frame to a connection.
 fn show_to(
-    alloc: Global,
+    memory: &mut Memory,
     out: &mut HostOut,
     connection: &Connection,
     from: [u8; 10],
@@ -48,36 +49,39 @@ fn show_to(
     octets: &[u8],
 ) -> Result<(), OutOfMemory>
     requires { HasFrameLength octets.now }
-    ensures { OnOk result (out.new ≡ with_shown (kind_of connection.now.reader) connection.now.id connection.now.raw
-        from to octets.now out.old) }
+    ensures shown { OnOk result (out.new
+        ≡ with_shown (kind_of connection.now.reader) connection.now.id connection.now.raw from to octets.now out.old) }
+    ensures wanted { OnErr result (memory.new.refused ≡ true) }
 {
     match &connection.reader {
         Reader::KissReader(_) => {
-            let shown = write_kiss(alloc, 0, 0, octets)?;
-            out.send(connection.id, shown)
+            let shown = write_kiss(memory.alloc(), 0, 0, octets);
+            let shown = memory.took(shown)?;
+            out.send(memory, connection.id, shown)
         }
         Reader::AgwReader(_) => {
             if !connection.raw {
                 return Ok(());
             }
-            let shown = raw_frame(alloc, from, to, octets)?;
-            out.send(connection.id, shown)
+            let shown = raw_frame(memory, from, to, octets)?;
+            out.send(memory, connection.id, shown)
         }
     }
 }
 
 /// A frame as an AGWPE message.
 fn raw_frame(
-    alloc: Global,
+    memory: &mut Memory,
     from: [u8; 10],
     to: [u8; 10],
     octets: &[u8],
 ) -> Result<Octets, OutOfMemory>
     requires { HasFrameLength octets.now }
-    ensures { IfOk result (λ written. written ≡ spelling (raw_message from to octets.now)) }
+    ensures spelled { IfOk result (λ written. written ≡ spelling (raw_message from to octets.now)) }
+    ensures wanted { OnErr result (memory.new.refused ≡ true) }
 {
-    let mut body = Vec::new(alloc);
-    body.push(0)?;
-    body.extend_from_slice(octets)?;
-    message(alloc, b'K', 0, from, to, &body)
+    let mut body = Vec::new(memory.alloc());
+    memory.push(&mut body, 0)?;
+    memory.took(body.extend_from_slice(octets))?;
+    message(memory, b'K', 0, from, to, &body)
 }

@@ -5,9 +5,10 @@ ghost use Rattle.std.specs.Result.{IsErrOf};
 ghost use Rattle.link_machine.specs.Params.{IsRefusedWindow};
 ghost use Rattle.hdlc_framer.specs.FrameLength.{HasFrameLength};
 
-use crate::config::{Config, check_windows};
+use crate::config::{Config, LinkParams};
 use crate::host_event::HostEvent;
 use crate::host_out::{HostOut, TickOut};
+use crate::memory::Memory;
 use crate::parts::Parts;
 use ax25_address::Call;
 use ax25_frames::Modulus;
@@ -24,9 +25,8 @@ const MOST_WAITING: usize = 100;
 /// them answers want of memory: from then on it is spent, and each call that may answer that does.
 #[derive(Drop)]
 pub struct Station {
-    alloc: Global,
+    memory: Memory,
     parts: Parts,
-    spent: bool,
 }
 
 impl Model for Station {
@@ -34,7 +34,7 @@ impl Model for Station {
 
     ghost Value = { Held };
 
-    ghost view = { λ s. record { parts = s.parts; spent = s.spent } };
+    ghost view = { λ s. record { parts = s.parts; spent = s.memory.refused } };
 }
 
 impl Station {
@@ -56,17 +56,16 @@ impl Station {
         ensures bad_window { (window : ℕ) → IsErrOf result (NewFault.BadWindow window)
             ↔ IsRefusedWindow config.params window }
     {
-        let checked = check_windows(config.params);
-        if let Err(BadWindow { window }) = checked {
-            return Err(NewFault::BadWindow { window });
-        }
-        let Ok(parts) = Parts::new(alloc, config, seed) else {
+        let params = match LinkParams::check(config.params) {
+            Ok(params) => params,
+            Err(BadWindow { window }) => return Err(NewFault::BadWindow { window }),
+        };
+        let Ok(parts) = Parts::new(alloc, params, config.digi, seed) else {
             return Err(NewFault::Memory);
         };
         Ok(Station {
-            alloc,
+            memory: Memory::new(alloc),
             parts,
-            spent: false,
         })
     }
 
@@ -90,13 +89,12 @@ impl Station {
         ensures spent { OnErr result (self.new.spent ≡ true) }
         ensures stays_spent { self.old.spent ≡ true → IsErr result }
     {
-        if self.spent {
+        if self.memory.has_refused() {
             return Err(OutOfMemory);
         }
-        self.spent = true;
-        let mut out = HostOut::new(self.alloc);
-        self.parts.host(self.alloc, &mut out, event)?;
-        self.spent = false;
+        let mut out = HostOut::new(self.memory.alloc());
+        self.parts.host(&mut self.memory, &mut out, event)?;
+        self.memory.settle();
         Ok(out)
     }
 
@@ -110,13 +108,12 @@ impl Station {
         ensures spent { OnErr result (self.new.spent ≡ true) }
         ensures stays_spent { self.old.spent ≡ true → IsErr result }
     {
-        if self.spent {
+        if self.memory.has_refused() {
             return Err(OutOfMemory);
         }
-        self.spent = true;
-        let mut out = HostOut::new(self.alloc);
-        self.parts.hear(self.alloc, &mut out, octets)?;
-        self.spent = false;
+        let mut out = HostOut::new(self.memory.alloc());
+        self.parts.hear(&mut self.memory, &mut out, octets)?;
+        self.memory.settle();
         Ok(out)
     }
 
@@ -130,13 +127,12 @@ impl Station {
         ensures spent { OnErr result (self.new.spent ≡ true) }
         ensures stays_spent { self.old.spent ≡ true → IsErr result }
     {
-        if self.spent {
+        if self.memory.has_refused() {
             return Err(OutOfMemory);
         }
-        self.spent = true;
-        let mut out = HostOut::new(self.alloc);
-        let air = self.parts.tick(self.alloc, &mut out, busy)?;
-        self.spent = false;
+        let mut out = HostOut::new(self.memory.alloc());
+        let air = self.parts.tick(&mut self.memory, &mut out, busy)?;
+        self.memory.settle();
         Ok(TickOut { air, out })
     }
 

@@ -1,5 +1,5 @@
 //! Octets of a connection.
-ghost use Rattle.std.specs.Prelude.{◌≡◌, ◌≢◌, ℕ, [], All, is_some, Option, None, OnOk, IfOk, IfSome};
+ghost use Rattle.std.specs.Prelude.{◌≡◌, ◌≢◌, ℕ, [], All, is_some, Option, None, OnOk, IfOk, IfSome, true, OnErr};
 ghost use Rattle.station.specs.Connections.{connection_of};
 ghost use Rattle.station.specs.Held.{ids_in, without_ids};
 ghost use Rattle.station.specs.HeldConnections.{HasIdAt};
@@ -9,16 +9,16 @@ ghost use Rattle.station.specs.StandsFor.{Shows};
 ghost use Rattle.station.specs.Turn.{Out, Turn};
 
 use crate::host_out::HostOut;
+use crate::memory::Memory;
 use crate::parts::Parts;
 use crate::reading::Said;
-use std::alloc::Global;
 use tnc_base::OutOfMemory;
 
 impl Parts {
     /// What the octets of a connection ask. Past a header that tells too long a body it is closed and has left.
     pub(crate) fn take(
         &mut self,
-        alloc: Global,
+        memory: &mut Memory,
         out: &mut HostOut,
         id: u32,
         octets: &[u8],
@@ -27,15 +27,16 @@ impl Parts {
             × AreTaken (connection_of id turn.now.connections) octets.now turn behind × Shows self.new out.new behind) }
         ensures ids { OnOk result (out.old.closed ≡ []
             → ids_in self.new ≡ without_ids out.new.closed (ids_in self.old)) }
+        ensures wanted { OnErr result (memory.new.refused ≡ true) }
     {
         let Some(place) = self.place_of(id) else {
             return Ok(());
         };
-        match self.read_at(alloc, id, place, octets)? {
-            Said::Items(items) => self.heed_all(alloc, out, &items),
+        match self.read_at(memory, id, place, octets)? {
+            Said::Items(items) => self.heed_all(memory, out, &items),
             Said::Messages(messages, failed) => {
-                self.answer_all(alloc, out, id, &messages)?;
-                self.end(alloc, out, id, failed)
+                self.answer_all(memory, out, id, &messages)?;
+                self.end(memory, out, id, failed)
             }
         }
     }
@@ -56,7 +57,7 @@ impl Parts {
     /// Reads octets of the connection of a place.
     fn read_at(
         &mut self,
-        alloc: Global,
+        memory: &mut Memory,
         id: u32,
         place: usize,
         octets: &[u8],
@@ -67,14 +68,15 @@ impl Parts {
         ensures said { (out : Out) (turn : Turn) → Shows self.old out turn
             → IfOk result (λ said. IsSaid (connection_of id turn.now.connections) octets.now said) }
         ensures ids { OnOk result (ids_in self.new ≡ ids_in self.old) }
+        ensures wanted { OnErr result (memory.new.refused ≡ true) }
     {
-        self.connections[place].reader.read(alloc, octets)
+        self.connections[place].reader.read(memory, octets)
     }
 
     /// Closes a connection whose octets told too long a body, and it has left.
     fn end(
         &mut self,
-        alloc: Global,
+        memory: &mut Memory,
         out: &mut HostOut,
         id: u32,
         failed: bool,
@@ -83,11 +85,12 @@ impl Parts {
             → OnOk result (Shows self.new out.new (ending id bad turn)) }
         ensures ids { OnOk result (out.old.closed ≡ []
             → ids_in self.new ≡ without_ids out.new.closed (ids_in self.old)) }
+        ensures wanted { OnErr result (memory.new.refused ≡ true) }
     {
         if !failed {
             return Ok(());
         }
-        out.close(id)?;
-        self.leave(alloc, out, id)
+        out.close(memory, id)?;
+        self.leave(memory, out, id)
     }
 }

@@ -1,5 +1,5 @@
 //! A tick of the links and of the channel.
-ghost use Rattle.std.specs.Prelude.{◌≡◌, IfOk, OnOk};
+ghost use Rattle.std.specs.Prelude.{◌≡◌, IfOk, OnOk, true, OnErr};
 ghost use Rattle.station.specs.Held.{ids_in};
 ghost use Rattle.station.specs.StandsFor.{Shows};
 ghost use Rattle.station.specs.State.{one_more};
@@ -9,16 +9,16 @@ ghost use Rattle.station.specs.Turn.{Turn};
 use crate::host_out::HostOut;
 use crate::link_event::LinkEvent;
 use crate::link_table::MOST_LINKS;
+use crate::memory::Memory;
 use crate::parts::Parts;
 use channel_access::AirTick;
-use std::alloc::Global;
 use tnc_base::OutOfMemory;
 
 impl Parts {
     /// A tick of each link, and then of the channel. Hosts that monitor are shown the frame whose sending has ended.
     pub(crate) fn tick(
         &mut self,
-        alloc: Global,
+        memory: &mut Memory,
         out: &mut HostOut,
         busy: bool,
     ) -> Result<AirTick, OutOfMemory>
@@ -26,34 +26,42 @@ impl Parts {
         ensures step { (turn : Turn) → Shows self.old out.old turn → OnOk result ((after : Turn)
             × IsTick busy turn after × Shows self.new out.new after) }
         ensures ids { OnOk result (ids_in self.new ≡ ids_in self.old) }
+        ensures wanted { OnErr result (memory.new.refused ≡ true) }
     {
-        self.tick_links(alloc, out)?;
+        self.tick_links(memory, out)?;
         let air = self.channel.tick(busy);
-        self.monitor_sent(alloc, out, &air.sent)?;
+        self.monitor_sent(memory, out, &air.sent)?;
         self.ticks = one_more(self.ticks);
         Ok(air)
     }
 
     /// A tick of each link, in the order of their keys.
-    fn tick_links(&mut self, alloc: Global, out: &mut HostOut) -> Result<(), OutOfMemory>
+    fn tick_links(&mut self, memory: &mut Memory, out: &mut HostOut) -> Result<(), OutOfMemory>
         ensures shows { (turn : Turn) → Shows self.old out.old turn
             → OnOk result (Shows self.new out.new (ticking_links turn)) }
         ensures ids { OnOk result (ids_in self.new ≡ ids_in self.old) }
+        ensures wanted { OnErr result (memory.new.refused ≡ true) }
     {
         for key in 0..MOST_LINKS {
-            self.tick_link(alloc, out, key)?;
+            self.tick_link(memory, out, key)?;
         }
         Ok(())
     }
 
     /// A tick of the link that a key has, which hears whether a frame of it waits to be sent.
-    fn tick_link(&mut self, alloc: Global, out: &mut HostOut, key: u32) -> Result<(), OutOfMemory>
+    fn tick_link(
+        &mut self,
+        memory: &mut Memory,
+        out: &mut HostOut,
+        key: u32,
+    ) -> Result<(), OutOfMemory>
         ensures shows { (turn : Turn) → Shows self.old out.old turn
             → OnOk result (Shows self.new out.new (ticking_at key turn)) }
         ensures ids { OnOk result (ids_in self.new ≡ ids_in self.old) }
+        ensures wanted { OnErr result (memory.new.refused ≡ true) }
     {
         let waiting = self.channel.waiting(key);
-        self.link_event(alloc, out, key, LinkEvent::Tick(waiting))
+        self.link_event(memory, out, key, LinkEvent::Tick(waiting))
     }
 }
 

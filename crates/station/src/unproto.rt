@@ -1,5 +1,5 @@
 //! Unnumbered frames that hosts send.
-ghost use Rattle.std.specs.Prelude.{◌≡◌, [], Some, drop, OnOk};
+ghost use Rattle.std.specs.Prelude.{◌≡◌, [], Some, drop, OnOk, true, OnErr};
 ghost use Rattle.station.specs.AgwRequests.{queueing_raw, sending_unnumbered};
 ghost use Rattle.station.specs.Held.{ids_in};
 ghost use Rattle.station.specs.HeldRoutes.{route_held};
@@ -9,13 +9,13 @@ ghost use Rattle.station.specs.Turn.{Turn};
 
 use crate::frames::written;
 use crate::host_out::HostOut;
+use crate::memory::Memory;
 use crate::new_links::{NO_LAYER_3, pid_or};
 use crate::parts::Parts;
 use crate::routes::{Route, behind_repeaters, repeaters_in, route_in};
 use agwpe_port::AgwMessage;
 use arrayvec::ArrayVec;
 use ax25_frames::{Frame, Kind, Modulus};
-use std::alloc::Global;
 use tnc_base::{Octets, OutOfMemory};
 
 /// The most octets that an unnumbered frame carries.
@@ -25,7 +25,7 @@ impl Parts {
     /// K: queues the octets of a body past its first, if they have the length of a frame.
     pub(crate) fn send_raw(
         &mut self,
-        alloc: Global,
+        memory: &mut Memory,
         out: &mut HostOut,
         message: &AgwMessage,
     ) -> Result<(), OutOfMemory>
@@ -33,18 +33,19 @@ impl Parts {
             → OnOk result (Shows self.new out.new (queueing_raw (drop 1 message.now.body) turn)) }
         ensures ids { OnOk result (ids_in self.new ≡ ids_in self.old) }
         ensures closed { OnOk result (out.new.closed ≡ out.old.closed) }
+        ensures wanted { OnErr result (memory.new.refused ≡ true) }
     {
         let body = message.body.as_slice();
         if body.is_empty() {
             return Ok(());
         }
-        self.queue_raw(alloc, out, &body[1..])
+        self.queue_raw(memory, out, &body[1..])
     }
 
     /// M: an unnumbered frame between the calls of a message.
     pub(crate) fn send_unproto(
         &mut self,
-        alloc: Global,
+        memory: &mut Memory,
         out: &mut HostOut,
         message: &AgwMessage,
     ) -> Result<(), OutOfMemory>
@@ -53,15 +54,16 @@ impl Parts {
             (route_in message.now.from message.now.to (Some [])) turn)) }
         ensures ids { OnOk result (ids_in self.new ≡ ids_in self.old) }
         ensures closed { OnOk result (out.new.closed ≡ out.old.closed) }
+        ensures wanted { OnErr result (memory.new.refused ≡ true) }
     {
         let route = route_in(&message.from, &message.to, Some(ArrayVec::new()));
-        self.send_unnumbered(alloc, out, message.pid, message.body.as_slice(), route)
+        self.send_unnumbered(memory, out, message.pid, message.body.as_slice(), route)
     }
 
     /// V: the same by way of the repeaters that the body begins with.
     pub(crate) fn send_unproto_via(
         &mut self,
-        alloc: Global,
+        memory: &mut Memory,
         out: &mut HostOut,
         message: &AgwMessage,
     ) -> Result<(), OutOfMemory>
@@ -70,17 +72,18 @@ impl Parts {
             (route_in message.now.from message.now.to (repeaters_in message.now.body)) turn)) }
         ensures ids { OnOk result (ids_in self.new ≡ ids_in self.old) }
         ensures closed { OnOk result (out.new.closed ≡ out.old.closed) }
+        ensures wanted { OnErr result (memory.new.refused ≡ true) }
     {
         let body = message.body.as_slice();
         let route = route_in(&message.from, &message.to, repeaters_in(body));
-        self.send_unnumbered(alloc, out, message.pid, behind_repeaters(body), route)
+        self.send_unnumbered(memory, out, message.pid, behind_repeaters(body), route)
     }
 
     /// Queues an unnumbered frame of information along a route. Ignored if there is none, or the information is
     /// too long.
     fn send_unnumbered(
         &mut self,
-        alloc: Global,
+        memory: &mut Memory,
         out: &mut HostOut,
         pid: u8,
         information: &[u8],
@@ -90,6 +93,7 @@ impl Parts {
             (sending_unnumbered pid information.now (route_held route) turn)) }
         ensures ids { OnOk result (ids_in self.new ≡ ids_in self.old) }
         ensures closed { OnOk result (out.new.closed ≡ out.old.closed) }
+        ensures wanted { OnErr result (memory.new.refused ≡ true) }
     {
         let Some(route) = route else {
             return Ok(());
@@ -102,10 +106,10 @@ impl Parts {
             kind: Kind::Ui {
                 flag: false,
                 pid: pid_or(NO_LAYER_3, pid),
-                octets: Octets::from_slice(alloc, information)?,
+                octets: memory.copy(information)?,
             },
         };
-        let octets = written(alloc, &frame, Modulus::Eight)?;
-        self.queue(alloc, out, None, octets)
+        let octets = written(memory, &frame, Modulus::Eight)?;
+        self.queue(memory, out, None, octets)
     }
 }

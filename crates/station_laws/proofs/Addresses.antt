@@ -71,7 +71,7 @@ fields_from path front (hop ∷ next ∷ hops) octets is few valid h =
     (fields_from path (front ++ hop ∷ []) (next ∷ hops) (octets ++ field_octets hop.call hop.done 3 false)
     (is ∙ sym (append_assoc front (hop ∷ []) (next ∷ hops))) few valid.1 more)
 
-path_written : (path : Path) → IsGoodPath path → IsWrittenPath path (path_octets path)
+pub path_written : (path : Path) → IsGoodPath path → IsWrittenPath path (path_octets path)
 path_written path good =
     subst (IsWrittenPath path)
     (append_assoc (field_octets path.dest (destination_bit path.role) 3 false)

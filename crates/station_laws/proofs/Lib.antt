@@ -1,6 +1,7 @@
 pub mod PathStays
 mod Flights
 pub mod Addresses
+pub mod OneSpelling
 pub mod Queues
 pub mod Tables
 pub mod Standing

@@ -12,3 +12,4 @@ pub mod Owners
 pub mod ProgramsTold
 pub mod LinksTell
 pub mod RunsTell
+pub mod OneSpelling

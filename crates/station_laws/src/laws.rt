@@ -4,6 +4,7 @@ ghost use Rattle.station_laws.specs.CallerLaw.{CallerLaw};
 ghost use Rattle.station_laws.specs.HostsAsk.{HostsAskNothing};
 ghost use Rattle.station_laws.specs.LinksTell.{LinksTellInOne};
 ghost use Rattle.station_laws.specs.MatchedLaw.{MatchedInOrder, MatchedLaw};
+ghost use Rattle.station_laws.specs.OneSpelling.{CallTextsAgree, WrittenFramesAgree};
 ghost use Rattle.station_laws.specs.Owners.{OwnersAreTold};
 ghost use Rattle.station_laws.specs.ProgramsTold.{ProgramsAreTold};
 ghost use Rattle.station_laws.specs.RunsTell.{RunsTellInOne};
@@ -89,4 +90,14 @@ pub fn links_tell_in_one()
 /// set-up runs, the set-up of a link that is up runs, and one that runs is of a link that is up or is being released.
 pub fn runs_tell_in_one()
     ensures { RunsTellInOne }
+{}
+
+/// The texts that a station reads as a call are the texts of that call (AX.25 2.2 section 3.12), and no other text is.
+pub fn call_texts_agree()
+    ensures { CallTextsAgree }
+{}
+
+/// What is written for a frame (AX.25 2.2 section 3.1) is the octets that a station speaks of, and nothing else is.
+pub fn written_frames_agree()
+    ensures { WrittenFramesAgree }
 {}

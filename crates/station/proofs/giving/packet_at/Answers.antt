@@ -14,13 +14,13 @@ first_of_rest octets from len is =
     ∙ ap (λ n. take n (drop from octets)) shorter
     ∙ take_min 256 (drop from octets)
 
-pub returns : goal.returns
-returns c =
+pub returns-clause-packet : goal.returns-clause-packet
+returns-clause-packet c =
     let octets = c.args.octets.now in
     let from = c.args.place * 256 in
     let least : c.min-len.result ≡ min (length octets - from) 256 = omega (arith, c.min-len.ensures) in
     let place : from ≡ 256 * c.args.place = omega arith in
-    let given : c.in_ok-from_slice.field-0 ≡ take c.min-len.result (take (length octets - from) (drop from octets)) =
-    c.in_ok-from_slice.ensures in
+    let given : c.in_ok-copy.field-0 ≡ take c.min-len.result (take (length octets - from) (drop from octets)) =
+    c.in_ok-copy.ensures.copy in
     let made : List ℕ → Packet = λ part. record { pid = c.args.pid; octets = part } in
     ap made (given ∙ first_of_rest octets from c.min-len.result least ∙ ap (λ n. take 256 (drop n octets)) place)

@@ -5,8 +5,8 @@ use Rattle.link_machine.specs.declared.acts.Told.{Told}
 use Rattle.station.specs.HostMessages.{message_of_told}
 use Rattle.station.proofs.messages.told_message.Goals as goal
 
-pub returns-in-Ended : goal.returns-in-Ended
-returns-in-Ended c =
+pub returns-in-Ended-clause-spelled : goal.returns-in-Ended-clause-spelled
+returns-in-Ended-clause-spelled c =
     subst (λ (told : Told). IfOk c.call_message-in-Ended.result (λ octets. octets
     ≡ spelling (message_of_told c.args.local.now c.args.remote.now told)))
-    (sym c.in-Ended.is) c.call_message-in-Ended.ensures
+    (sym c.in-Ended.is) c.call_message-in-Ended.ensures.spelled

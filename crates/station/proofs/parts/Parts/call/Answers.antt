@@ -15,7 +15,7 @@ returns-in_default-clause-step c = λ turn shows.
       replying id (refused_reply message) turn,
       call-astray id message (called_route message) turn c.in_default.ensures,
       shows-refused c.args.self.now c.args.out.now c.refuse.new.out turn id message shows is,
-    )) c.refuse.ensures
+    )) c.refuse.ensures.sent
 
 pub returns-then-not-may_call-clause-step : goal.returns-then-not-may_call-clause-step
 returns-then-not-may_call-clause-step c = λ turn shows.
@@ -29,7 +29,7 @@ returns-then-not-may_call-clause-step c = λ turn shows.
       replying id (refused_reply message) turn,
       call-refused id message route (called_route message) turn told may,
       shows-refused c.args.self.now c.args.out.now c.refuse-then-not-may_call.new.out turn id message shows is,
-    )) c.refuse-then-not-may_call.ensures
+    )) c.refuse-then-not-may_call.ensures.sent
 
 pub returns-clause-step : goal.returns-clause-step
 returns-clause-step c = λ turn shows.

@@ -13,6 +13,6 @@ returns-clause-shows c = λ bad turn told shows.
     (c.leave.ensures.shows (closing id turn)
     (record {
       holds = shows.holds;
-      gave = c.in_ok-close.ensures
+      gave = c.in_ok-close.ensures.closed
           ∙ ap (λ (out : Out). record out { closed = out.closed ++ id ∷ [] }) shows.gave;
     }))

@@ -16,7 +16,7 @@ loop-place-preserved c = record {
       let before : Turn = giving_packets key (first_packets c.args.pid octets k) turn in
       subst (λ (behind : Turn). Shows c.link_event.new.self c.link_event.new.out behind)
       (sym (packets-more key c.args.pid octets k turn ∙ ap (λ (packet : Packet). giving_packet key packet before)
-      (sym c.in_ok-packet.ensures)))
+      (sym c.in_ok-packet.ensures.packet)))
       (c.in_ok-link_event.ensures.shows before (c.loop-place.invariant.shows turn shows));
   ids = c.in_ok-link_event.ensures.ids ∙ c.loop-place.invariant.ids;
   closed = c.in_ok-link_event.ensures.closed ∙ c.loop-place.invariant.closed;

@@ -19,7 +19,7 @@ link_event-requires c =
     let frame = c.in-Some.frame in
     let is : IsReadAs c.modulus-modulus.result c.args.octets.now (Some frame) =
     subst (λ (reading : Option Frame). IsReadAs c.modulus-modulus.result c.args.octets.now reading)
-    c.in-Some.is c.in_ok-frame.ensures in
+    c.in-Some.is c.in_ok-frame.ensures.read in
     subst (λ (modulus : Modulus). IsNumbered modulus (control_of frame.kind)) c.modulus-modulus.ensures is.kind.numbered
 
 pub returns-in-Some-clause-heard : goal.returns-in-Some-clause-heard
@@ -33,7 +33,7 @@ returns-in-Some-clause-heard c = λ turn shows.
     (places-at links.places turn.now.links.places key shows.holds.links.places) in
     let is : IsReadAs c.modulus-modulus.result octets (Some frame) =
     subst (λ (reading : Option Frame). IsReadAs c.modulus-modulus.result octets reading)
-    c.in-Some.is c.in_ok-frame.ensures in
+    c.in-Some.is c.in_ok-frame.ensures.read in
     on_ok_weaker c.link_event.result (λ s. (
       event_at key (Hear frame) turn,
       (Some frame, subst (λ (m : Modulus). IsReadAs m octets (Some frame)) modulus is, refl),
@@ -51,5 +51,5 @@ returns-in-None-clause-heard c = λ turn shows.
     (places-at links.places turn.now.links.places key shows.holds.links.places) in
     let is : IsReadAs c.modulus-modulus.result octets None =
     subst (λ (reading : Option Frame). IsReadAs c.modulus-modulus.result octets reading)
-    c.in-None.is c.in_ok-frame.ensures in
+    c.in-None.is c.in_ok-frame.ensures.read in
     (turn, (None, subst (λ (m : Modulus). IsReadAs m octets None) modulus is, refl), shows)

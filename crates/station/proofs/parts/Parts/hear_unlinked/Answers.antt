@@ -10,14 +10,14 @@ pub hear_anew-requires : goal.hear_anew-requires
 hear_anew-requires c =
     let is : IsReadAs Eight c.args.octets.now (Some c.in-Some.frame) =
     subst (λ (reading : Option Frame). IsReadAs Eight c.args.octets.now reading)
-    c.in-Some.is c.in_ok-frame.ensures in
+    c.in-Some.is c.in_ok-frame.ensures.read in
     is.kind.numbered
 
 pub returns-in-Some-clause-heard : goal.returns-in-Some-clause-heard
 returns-in-Some-clause-heard c = λ turn shows.
     let is : IsReadAs Eight c.args.octets.now (Some c.in-Some.frame) =
     subst (λ (reading : Option Frame). IsReadAs Eight c.args.octets.now reading)
-    c.in-Some.is c.in_ok-frame.ensures in
+    c.in-Some.is c.in_ok-frame.ensures.read in
     on_ok_weaker c.hear_anew.result (λ p. (p.0, (Some c.in-Some.frame, is, p.1), p.2))
     (c.hear_anew.ensures.heard turn shows)
 
@@ -25,5 +25,5 @@ pub returns-in-None-clause-heard : goal.returns-in-None-clause-heard
 returns-in-None-clause-heard c = λ turn shows.
     let is : IsReadAs Eight c.args.octets.now None =
     subst (λ (reading : Option Frame). IsReadAs Eight c.args.octets.now reading)
-    c.in-None.is c.in_ok-frame.ensures in
+    c.in-None.is c.in_ok-frame.ensures.read in
     (turn, (None, is, refl), shows)

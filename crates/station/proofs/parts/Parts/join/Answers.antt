@@ -27,13 +27,13 @@ returns-then-len-ge-MOST_CONNECTIONS-clause-shows c = λ turn shows.
       holds = shows.holds;
       gave = e ∙ ap (λ (out : Out). record out { closed = out.closed ++ id ∷ [] })
           shows.gave;
-    })) c.close.ensures
+    })) c.close.ensures.closed
 
 pub returns-then-len-ge-MOST_CONNECTIONS-clause-ids : goal.returns-then-len-ge-MOST_CONNECTIONS-clause-ids
 returns-then-len-ge-MOST_CONNECTIONS-clause-ids c =
     let id = c.args.id in
     on_ok_weaker c.close.result (λ e none. ids_closed id (ids_in c.args.self.now) c.close.new.self.closed c.requires
-    (ap (λ (out : Out). out.closed) e ∙ ap (λ (gone : List ℕ). gone ++ id ∷ []) none)) c.close.ensures
+    (ap (λ (out : Out). out.closed) e ∙ ap (λ (gone : List ℕ). gone ++ id ∷ []) none)) c.close.ensures.closed
 
 pub returns-clause-shows : goal.returns-clause-shows
 returns-clause-shows c = λ turn shows.
@@ -43,9 +43,10 @@ returns-clause-shows c = λ turn shows.
     let room : nat_lt (length turn.now.connections) 64 ≡ true =
     grind (arith, nat_tests, c.len.ensures, parts.connections.ok) in
     let held : HeldConnection = record { id = id; raw = false; monitors = false; reader = c.new_reader.result } in
-    let joined = shows_joined parts c.args.out.now turn c.push.new.self.items held c.args.kind shows c.requires refl
-    refl c.new_reader.ensures c.in_ok-push.ensures.items in
-    subst (λ (behind : Turn). Shows (record parts { connections = c.push.new.self }) c.args.out.now behind)
+    on_ok_weaker c.push.result (λ items.
+    let joined = shows_joined parts c.args.out.now turn c.push.new.items.items held c.args.kind shows c.requires refl
+    refl c.new_reader.ensures items in
+    subst (λ (behind : Turn). Shows (record parts { connections = c.push.new.items }) c.args.out.now behind)
     (sym (cond-true (nat_lt (length turn.now.connections) 64) (changing (with_host id c.args.kind) turn)
     (closing id turn) room))
     (record {
@@ -61,13 +62,13 @@ returns-clause-shows c = λ turn shows.
         ticks = shows.holds.ticks;
       };
       gave = shows.gave;
-    })
+    })) c.push.ensures.items
 
 pub returns-clause-ids : goal.returns-clause-ids
-returns-clause-ids c = λ none.
+returns-clause-ids c =
     let id = c.args.id in
     let held : HeldConnection = record { id = id; raw = false; monitors = false; reader = c.new_reader.result } in
-    ap (λ (items : List HeldConnection). map (λ (connection : HeldConnection). connection.id) items)
-    c.in_ok-push.ensures.items
+    on_ok_weaker c.push.result (λ items none.
+    ap (λ (xs : List HeldConnection). map (λ (connection : HeldConnection). connection.id) xs) items
     ∙ map-append (λ (connection : HeldConnection). connection.id) c.args.self.now.connections.items (held ∷ [])
-    ∙ sym (ap (λ (gone : List ℕ). without_ids gone (ids_in c.args.self.now ++ id ∷ [])) none)
+    ∙ sym (ap (λ (gone : List ℕ). without_ids gone (ids_in c.args.self.now ++ id ∷ [])) none)) c.push.ensures.items

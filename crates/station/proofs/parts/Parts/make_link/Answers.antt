@@ -1,16 +1,29 @@
-use Rattle.std.specs.Prelude.{Some}
+use Rattle.std.specs.Prelude.{◌≡◌, Some, Ok}
 use Rattle.std.proofs.Common.{◌∙◌, ap, subst}
+use Rattle.link_machine.specs.declared.machine.Machine.{Machine as Held}
 use Rattle.link_machine.specs.declared.params.Params.{Params}
 use Rattle.link_machine.specs.Machine.{new_machine, modulus_named}
 use Rattle.link_machine.specs.StandsFor.{StandsFor}
 use Rattle.station.specs.declared.owned_link.OwnedLink.{OwnedLink}
 use Rattle.station.specs.LinkRequests.{held_modulus}
 use Rattle.station.proofs.InsertLemmas.{shows_made}
+use Rattle.station.proofs.MemoryLemmas.{if_took}
+use Rattle.station.proofs.WindowLemmas.{none_refused}
 use Rattle.station.proofs.parts.Parts.make_link.Goals as goal
 
-pub returns-in-Ok-clause-made : goal.returns-in-Ok-clause-made
-returns-in-Ok-clause-made c = λ out turn shows.
-    let machine = c.in-Ok.machine in
+pub of_fitting_windows-requires : goal.of_fitting_windows-requires
+of_fitting_windows-requires c = λ window is.
+    none_refused c.get.result window c.get.ensures.fits ((c.new-machine.ensures.bad_window window).0 is)
+
+pub returns-clause-made : goal.returns-clause-made
+returns-clause-made c = λ out turn shows.
+    let machine : Held = c.in_ok-machine.machine in
+    let new : Held → Type 0 = λ link. StandsFor link (new_machine c.args.path c.get.result) in
+    let stands : StandsFor machine (new_machine c.args.path c.get.result) =
+    if_took new c.new-machine.result machine
+    (if_took (λ (link : Held). c.new-machine.result ≡ Ok link) c.of_fitting_windows.result machine
+    c.in_ok-machine.ensures.value c.of_fitting_windows.ensures)
+    c.new-machine.ensures.stands_for in
     let held : OwnedLink = record {
       local = c.args.local;
       remote = c.args.remote;
@@ -27,10 +40,17 @@ returns-in-Ok-clause-made c = λ out turn shows.
       owner = λ i. Some c.args.owner;
       pid = λ i. c.args.pid;
       machine = subst (λ (parameters : Params). StandsFor machine (new_machine c.args.path parameters))
-          shows.holds.parameters c.in-Ok.ensures.stands_for;
+          (c.get.ensures.value ∙ shows.holds.parameters) stands;
     })
 
-pub returns-in-Ok-clause-modulus : goal.returns-in-Ok-clause-modulus
-returns-in-Ok-clause-modulus c =
+pub returns-clause-modulus : goal.returns-clause-modulus
+returns-clause-modulus c =
+    let machine : Held = c.in_ok-machine.machine in
+    let new : Held → Type 0 = λ link. StandsFor link (new_machine c.args.path c.get.result) in
+    let stands : StandsFor machine (new_machine c.args.path c.get.result) =
+    if_took new c.new-machine.result machine
+    (if_took (λ (link : Held). c.new-machine.result ≡ Ok link) c.of_fitting_windows.result machine
+    c.in_ok-machine.ensures.value c.of_fitting_windows.ensures)
+    c.new-machine.ensures.stands_for in
     ap held_modulus c.insert.ensures.there
-    ∙ ap modulus_named (c.in-Ok.ensures.stands_for.incoming.modulus)
+    ∙ ap modulus_named stands.incoming.modulus

@@ -1,5 +1,5 @@
 use Rattle.std.specs.Prelude.{◌≡◌, ◌++◌, ℕ, List, length, take, drop, slice_index, bit_or, Option, Some, None, refl}
-use Rattle.std.proofs.Common.{sym, ◌∙◌, ap, subst, inl}
+use Rattle.std.proofs.Common.{sym, ◌∙◌, ap, subst, arith, inl}
 use Rattle.std.proofs.lemmas.List.{take_at, length-set}
 use Rattle.std.proofs.lemmas.Result.{on_ok_weaker}
 use Rattle.ax25_address.specs.Callsign.{Callsign}
@@ -16,16 +16,22 @@ returns-clause-repeated c = λ turn shows.
     let octets = c.args.octets.now in
     let call : Callsign = c.in-Some.call in
     let before : c.deref_mut.result.now ≡ octets = c.deref_mut.ensures.value
-    ∙ c.in_ok-copy.ensures.items_if_clones_equal (λ x y e. e) in
+    ∙ c.in_ok-copy.ensures.items in
     let is = c.repeat.ensures.turn.0 c.if-not-repeat.false in
     let new : List ℕ = c.repeat.new.octets in
     let rest : List ℕ = drop (length new) c.in_ok-copy.copy.items in
     let set_once : new ≡ repeated c.deref_mut.result.now is.0 = c.repeat.ensures.repeated is.0 is.1 in
     let size : c.in_ok-copy.copy.len ≡ length new =
-    c.in_ok-copy.ensures.len ∙ sym (ap length set_once ∙ length-repeated c.deref_mut.result.now is.0 ∙ ap length before)
-    in
+    (let ok = c.in_ok-copy.copy.ok in omega (
+      arith,
+      ok,
+      ap length c.in_ok-copy.ensures.items,
+      ap length set_once,
+      length-repeated c.deref_mut.result.now is.0,
+      ap length before,
+    )) in
     let after : c.in_ok-repeated.repeated ≡ new =
-    c.in_ok-repeated.ensures ∙ c.deref.ensures.value ∙ ap (λ n. take n (new ++ rest)) size
+    c.in_ok-repeated.ensures.copy ∙ c.deref.ensures.value ∙ ap (λ n. take n (new ++ rest)) size
     ∙ take_at new rest (length new) refl in
     let mine : IsTurnOf call octets is.0 = subst (λ xs. IsTurnOf call xs is.0) before is.1 in
     let spelled : c.in_ok-repeated.repeated ≡ repeated octets is.0 = after ∙ c.repeat.ensures.repeated is.0 is.1

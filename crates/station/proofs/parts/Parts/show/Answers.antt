@@ -35,19 +35,17 @@ loop-connection-preserved c = λ turn shows.
     subst (λ (behind : Turn). Shows parts c.show_to.new.out behind) (sym (in_order-more one places i d turn within))
     (shows_shown parts c.loop-connection.out c.show_to.new.out before c.connection-item.result (get_or places i d)
     c.args.from c.args.to c.args.octets.now
-    (c.loop-connection.invariant turn shows) stands c.in_ok-show_to.ensures)
+    (c.loop-connection.invariant turn shows) stands c.in_ok-show_to.ensures.shown)
 
-pub returns : goal.returns
-returns c = record {
-  shows = λ turn shows.
-      let parts = c.args.self.now in
-      let places = turn.now.connections in
-      let one : Connection → Turn → Turn = showing_to c.args.from c.args.to c.args.octets.now in
-      let each = subst (λ xs. AllZip StandsForConnection xs places) (sym c.deref-connection-items.ensures.value)
-      shows.holds.connections in
-      let all : take c.loop-connection.connection-index places ≡ places =
-      take_all c.loop-connection.connection-index places
-      (omega (arith, AllZip-length StandsForConnection c.deref-connection-items.result.now places each)) in
-      subst (λ shown. Shows parts c.loop-connection.out (in_order (map one shown) turn)) all
-      (c.loop-connection.invariant turn shows);
-}
+pub returns-clause-shows : goal.returns-clause-shows
+returns-clause-shows c = λ turn shows.
+    let parts = c.args.self.now in
+    let places = turn.now.connections in
+    let one : Connection → Turn → Turn = showing_to c.args.from c.args.to c.args.octets.now in
+    let each = subst (λ xs. AllZip StandsForConnection xs places) (sym c.deref-connection-items.ensures.value)
+    shows.holds.connections in
+    let all : take c.loop-connection.connection-index places ≡ places =
+    take_all c.loop-connection.connection-index places
+    (omega (arith, AllZip-length StandsForConnection c.deref-connection-items.result.now places each)) in
+    subst (λ shown. Shows parts c.loop-connection.out (in_order (map one shown) turn)) all
+    (c.loop-connection.invariant turn shows)

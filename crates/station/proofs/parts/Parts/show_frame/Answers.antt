@@ -38,8 +38,8 @@ loop-connection-preserved c = λ turn shows.
           (sym w.out-is)
           (shown_more parts c.loop-connection.out w.send.new.self turn octets w.in_ok-shown.shown i d
           c.connection-item.result
-          (c.loop-connection.invariant turn shows) within stands w.if-connection.true w.in_ok-shown.ensures
-          w.in_ok-send.ensures)
+          (c.loop-connection.invariant turn shows) within stands w.if-connection.true w.in_ok-shown.ensures.spelled
+          w.in_ok-send.ensures.sent)
       | else-connection w ↦
           subst (λ (out : Out). Shows parts out (with_pieces (to_monitors octets (take (i + 1) places)) turn))
           (sym w.out-is)
@@ -47,22 +47,20 @@ loop-connection-preserved c = λ turn shows.
           (c.loop-connection.invariant turn shows) within stands w.if-connection.false)
     ]
 
-pub returns : goal.returns
-returns c = record {
-  shows = λ turn shows.
-      let parts = c.args.self.now in
-      let out = c.loop-connection.out in
-      let places = turn.now.connections in
-      let frame = c.args.frame.now in
-      let each = subst (λ xs. AllZip StandsForConnection xs places) (sym c.deref-connection-items.ensures.value)
-      shows.holds.connections in
-      let all : take c.loop-connection.connection-index places ≡ places =
-      take_all c.loop-connection.connection-index places
-      (omega (arith, AllZip-length StandsForConnection c.deref-connection-items.result.now places each)) in
-      let whole : Shows parts out (with_pieces (to_monitors (spelling (monitor_message c.args.sent parts.ticks frame))
-      places) turn) =
-      subst (λ shown. Shows parts out
-      (with_pieces (to_monitors (spelling (monitor_message c.args.sent parts.ticks frame)) shown) turn)) all
-      (c.loop-connection.invariant turn shows) in
-      subst (λ ticks. Shows parts out (monitoring c.args.sent ticks (Some frame) turn)) shows.holds.ticks whole;
-}
+pub returns-clause-shows : goal.returns-clause-shows
+returns-clause-shows c = λ turn shows.
+    let parts = c.args.self.now in
+    let out = c.loop-connection.out in
+    let places = turn.now.connections in
+    let frame = c.args.frame.now in
+    let each = subst (λ xs. AllZip StandsForConnection xs places) (sym c.deref-connection-items.ensures.value)
+    shows.holds.connections in
+    let all : take c.loop-connection.connection-index places ≡ places =
+    take_all c.loop-connection.connection-index places
+    (omega (arith, AllZip-length StandsForConnection c.deref-connection-items.result.now places each)) in
+    let whole : Shows parts out (with_pieces (to_monitors (spelling (monitor_message c.args.sent parts.ticks frame))
+    places) turn) =
+    subst (λ shown. Shows parts out
+    (with_pieces (to_monitors (spelling (monitor_message c.args.sent parts.ticks frame)) shown) turn)) all
+    (c.loop-connection.invariant turn shows) in
+    subst (λ ticks. Shows parts out (monitoring c.args.sent ticks (Some frame) turn)) shows.holds.ticks whole

@@ -17,21 +17,7 @@ refused_in (Err bad) = bad.window
 
 pub returns-in-Err-clause-bad_window : goal.returns-in-Err-clause-bad_window
 returns-in-Err-clause-bad_window c = λ w.
-    let is = c.in-Err.ensures w in (
+    let is = c.in-Err.ensures.refused w in (
       λ e. is.0 (ap (λ k. Err (record { window = k })) (ap window_in e)),
       λ r. ap (λ k. Err (BadWindow k)) (ap refused_in (is.1 r)),
     )
-
-pub returns-clause-bad_window : goal.returns-clause-bad_window
-returns-clause-bad_window c = λ w. (
-  λ e. absurd (cc),
-  λ r. let refused = (c.check_windows-checked.ensures w).1 r in let fine = c.in_default.is in
-      absurd (cc (refused, fine)),
-)
-
-pub returns-in_default-new-clause-bad_window : goal.returns-in_default-new-clause-bad_window
-returns-in_default-new-clause-bad_window c = λ w. (
-  λ e. absurd (cc),
-  λ r. let refused = (c.check_windows-checked.ensures w).1 r in let fine = c.in_default.is in
-      absurd (cc (refused, fine)),
-)

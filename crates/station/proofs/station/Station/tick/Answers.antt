@@ -20,5 +20,5 @@ returns-clause-step c = λ s h.
       p.0.now,
       subst (λ (out : Out). IsTick c.args.busy (begin s) (record { now = p.0.now; out = out })) (sym p.2.gave)
           p.1,
-      record { live = refl; parts = p.2.holds },
+      record { live = c.settle.ensures; parts = p.2.holds },
     )
