@@ -1,1 +1,3 @@
 pub mod HeardLemmas
+pub mod TraceLemmas
+pub mod TurnLemmas

@@ -1,5 +1,5 @@
 -- What is kept of a call under way, and how its parts end. No public clause looks inside.
-use Rattle.std.specs.Prelude.{◌≡◌, ◌≢◌, ℕ, ◌+◌, ◌^◌, ◌<◌, ◌≤◌, false, List, [], ◌∷◌, ◌++◌, All, length, take, min}
+use Rattle.std.specs.Prelude.{◌≡◌, ◌≢◌, ℕ, ◌+◌, ◌^◌, ◌<◌, ◌≤◌, ◌⊎◌, Any, false, List, [], ◌∷◌, ◌++◌, All, length, take, min}
 use Rattle.std.specs.Prelude.{Option, Some}
 use Rattle.tnc_base.specs.Streams.{WrotePart}
 use Rattle.station.specs.declared.host_event.HostEvent.{HostEvent}
@@ -15,7 +15,7 @@ use Rattle.tnc_call.specs.declared.call_end.CallEnd.TheVariants.{Refused, HostLo
 use Rattle.tnc_call.specs.CallEnding.{IsPrinted, IsPartPrinted, IsDone, IsRefused, IsBroken, HasLeft, IsEnded}
 use Rattle.tnc_call.specs.CallEnding.{count_of}
 use Rattle.tnc_call.specs.CallTrace.{CallPorts, CallTrace, CallOffer, IsTraced, IsAlike, IsAlwaysOffered, IsCallPoll}
-use Rattle.tnc_call.specs.CallTrace.{octets_of, octets_in, count_taken}
+use Rattle.tnc_call.specs.CallTrace.{octets_of, octets_in, count_taken, TookLess}
 
 -- these octets of the host were taken, and the call is not over
 pub record GoesOn (talk : Talk) (plan : CallPlan) (host before : List ℕ) (written : Option (List ℕ)) : Type 0 where
@@ -85,18 +85,31 @@ pub record IsRunning (talk : Talk) (plan : CallPlan) (id : ℕ) (before : List �
   pub offered : IsAlwaysOffered plan id trace
   pub polls : All IsCallPoll trace.polls
 
--- a turn more was made
-pub record TurnsOn (talk : Talk) (plan : CallPlan) (id : ℕ) (before : List ℕ) (written : Option (List ℕ))
+-- in a turn, between the offer and the poll
+pub record HasOffered (talk : Talk) (plan : CallPlan) (id : ℕ) (before : List ℕ) (written : Option (List ℕ))
     (start now : CallPorts) (trace : CallTrace) : Type 0 where
+  pub goes_on : GoesOn talk plan (octets_in id trace.polls) before written
+  pub traced : IsTraced id talk.sent.items trace start now
+  pub alike : IsAlike start now
+  pub taken : talk.taken ≡ count_taken trace.offers
+  pub early : All (λ offer. offer.after ≤ length trace.polls) trace.offers
+  pub offered : IsAlwaysOffered plan id trace
+  pub next : (count_taken trace.offers ≡ length (sent_after plan (octets_in id trace.polls)))
+      ⊎ Any (TookLess (length trace.polls)) trace.offers
+  pub polls : All IsCallPoll trace.polls
+
+-- a turn more was made, after so many polls
+pub record TurnsOn (talk : Talk) (plan : CallPlan) (id : ℕ) (before : List ℕ) (written : Option (List ℕ))
+    (start now : CallPorts) (made : ℕ) : Type 0 where
   pub next : CallTrace
-  pub count : length next.polls ≡ length trace.polls + 1
+  pub count : length next.polls ≡ made + 1
   pub running : IsRunning talk plan id before written start now next
 
--- the call ended in a turn
+-- the call ended in a turn, after so many polls
 pub record HasStopped (plan : CallPlan) (id : ℕ) (before : List ℕ) (written : Option (List ℕ)) (start now : CallPorts)
-    (trace : CallTrace) (end : CallEnd) : Type 0 where
+    (made : ℕ) (end : CallEnd) : Type 0 where
   pub next : CallTrace
-  pub count : length next.polls ≤ length trace.polls + 1
+  pub count : length next.polls ≤ made + 1
   pub traced : IsTraced id (sent_after plan (octets_in id next.polls)) next start now
   pub alike : IsAlike start now
   pub offered : IsAlwaysOffered plan id next

@@ -11,7 +11,7 @@ ghost use Rattle.tnc_call.specs.CallEnding.{plan_of};
 ghost use Rattle.tnc_call.specs.CallInput.{IsTalkEnd};
 ghost use Rattle.tnc_call.specs.CallTrace.{event_octets, octets_of, sends_of, ports_by, CallPorts};
 ghost use Rattle.tnc_call.specs.CallTrace.{CallTrace};
-ghost use Rattle.tnc_call.specs.HeldTalk.{HasBegun, GoesOn, IsAhead, Stops, StopsBy, IsRunning, TurnsOn, HasStopped};
+ghost use Rattle.tnc_call.specs.HeldTalk.{HasBegun, GoesOn, IsAhead, Stops, StopsBy, IsRunning, HasOffered, TurnsOn, HasStopped};
 
 use crate::call_end::CallEnd;
 use crate::call_words::CallWords;
@@ -81,17 +81,41 @@ impl Talk {
             → IsRunning self.old plan id before (O.written output.old) start
             (ports_by N.listens N.dials N.polls N.sends N.sent N.is_shut N.faults ports.old) trace
             → MatchOption result (TurnsOn self.new plan id before (O.written output.new) start
-            (ports_by N.listens N.dials N.polls N.sends N.sent N.is_shut N.faults ports.new) trace)
+            (ports_by N.listens N.dials N.polls N.sends N.sent N.is_shut N.faults ports.new) (length trace.polls))
             (HasStopped plan id before (O.written output.new) start
-            (ports_by N.listens N.dials N.polls N.sends N.sent N.is_shut N.faults ports.new) trace) }
+            (ports_by N.listens N.dials N.polls N.sends N.sent N.is_shut N.faults ports.new) (length trace.polls)) }
         ensures within { self.new.taken ≤ length self.new.sent.items }
         ensures only { IfSome result IsTalkEnd }
         ensures write { result ≡ Some CallEnd.WriteFault → HasRisen (O.faults output.old) (O.faults output.new) }
         ensures faultless { result ≢ Some CallEnd.WriteFault → O.faults output.new ≡ O.faults output.old }
     {
-        if self.offer(rt, id, ports).is_err() {
-            return Some(CallEnd::HostLost);
+        match self.offer(rt, id, ports) {
+            Ok(()) => self.hear(rt, id, output, ports),
+            Err(Failed) => Some(CallEnd::HostLost),
         }
+    }
+
+    /// Polls once, and takes what came. A poll that fails counts as no events.
+    fn hear<R: Net, O: Sink, N: Ports>(
+        &mut self,
+        rt: &R,
+        id: u32,
+        output: &mut O,
+        ports: &mut N,
+    ) -> Option<CallEnd>
+        requires within { self.old.taken ≤ length self.old.sent.items }
+        ensures heard { (plan : CallPlan) (before : List ℕ) (start : CallPorts) (trace : CallTrace)
+            → HasOffered self.old plan id before (O.written output.old) start
+            (ports_by N.listens N.dials N.polls N.sends N.sent N.is_shut N.faults ports.old) trace
+            → MatchOption result (TurnsOn self.new plan id before (O.written output.new) start
+            (ports_by N.listens N.dials N.polls N.sends N.sent N.is_shut N.faults ports.new) (length trace.polls))
+            (HasStopped plan id before (O.written output.new) start
+            (ports_by N.listens N.dials N.polls N.sends N.sent N.is_shut N.faults ports.new) (length trace.polls)) }
+        ensures within { self.new.taken ≤ length self.new.sent.items }
+        ensures only { IfSome result IsTalkEnd }
+        ensures write { result ≡ Some CallEnd.WriteFault → HasRisen (O.faults output.old) (O.faults output.new) }
+        ensures faultless { result ≢ Some CallEnd.WriteFault → O.faults output.new ≡ O.faults output.old }
+    {
         match ports.poll(rt, WAIT_MS, &[]) {
             Ok(events) => self.take_all(id, &events, output),
             Err(PollFault::Failed) => None,
@@ -117,7 +141,7 @@ impl Talk {
         ensures sent { (before : List ℕ) → N.sent ports.old id ≡ Some before
             → OnOk result (N.sent ports.new id ≡ Some (before
             ++ take (self.new.taken - self.old.taken) (drop self.old.taken self.old.sent.items))) }
-        ensures refused { OnErr result ((N.sent ports.new id ≡ N.sent ports.old id)
+        ensures refused { OnErr result (((other : ℕ) → N.sent ports.new other ≡ N.sent ports.old other)
             × (N.sends ports.new ≡ N.sends ports.old) × (self.old.taken ≢ length self.old.sent.items)) }
         ensures others { (other : ℕ) → other ≢ id → N.sent ports.new other ≡ N.sent ports.old other }
         ensures listens { N.listens ports.new ≡ N.listens ports.old }
