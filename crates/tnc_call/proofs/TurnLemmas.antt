@@ -19,7 +19,12 @@ use Rattle.tnc_call.specs.declared.call_end.CallEnd.TheVariants.{Refused, HostLo
 use Rattle.tnc_call.specs.CallEnding.{HasLeft, HasSendFailed, IsEnded, IsPartPrinted}
 use Rattle.tnc_call.specs.CallTrace.{CallPorts, CallTrace, IsTraced, IsAlike, IsCallPoll, octets_of, octets_in, events_in}
 use Rattle.tnc_call.specs.CallTrace.{count_taken}
-use Rattle.tnc_call.specs.HeldTalk.{GoesOn, Stops, StopsBy, IsRunning, HasOffered, TurnsOn, HasStopped}
+use Rattle.tnc_call.specs.HeldTalk.{HasBegun, GoesOn, Stops, StopsBy, IsRunning, HasOffered, TurnsOn, HasStopped}
+use Rattle.tnc_call.specs.HeldTalk.{HasTalked}
+use Rattle.tnc_call.specs.CallEnding.{count_of}
+use Rattle.tnc_call.specs.CallTrace.{no_trace}
+use Rattle.agwpe_client.specs.CallRun.{CallRun}
+use Rattle.agwpe_client.proofs.BeginLemmas.{run_begins}
 use Rattle.tnc_call.proofs.HeardLemmas.{all_is_part, octets_of_more}
 use Rattle.tnc_call.proofs.TraceLemmas.{IsOfferTold, with_offer, with_poll, traced_offer, traced_poll, traced_same}
 use Rattle.tnc_call.proofs.TraceLemmas.{traced_more, alike_on, count_with_offer, octets_with_poll, all_early, early_again}
@@ -198,3 +203,61 @@ module _ (talk : Talk) (plan : CallPlan) (id : ℕ) (before : List ℕ) (start o
     polls = offered.polls;
     ended = λ most. all_is_part plan (octets_in id trace.polls) before written offered.goes_on.is_printed;
   }
+
+-- ---- all turns
+
+-- before the first turn
+pub running_begins : (talk : Talk) (plan : CallPlan) (id : ℕ) (before : List ℕ) (written : Option (List ℕ))
+    (start : CallPorts) → HasBegun plan talk → written ≡ Some before
+    → IsRunning talk plan id before written start start no_trace
+running_begins talk plan id before written start begun is = record {
+  goes_on = record {
+    client = begun.client;
+    going = ap (λ (run : CallRun). is_over run.state) (run_begins plan);
+    sent = begun.sent;
+    got = begun.got ∙ ap (λ (run : CallRun). count_of run.printed) (sym (run_begins plan));
+    is_printed = is ∙ ap Some (sym (append-nil before))
+        ∙ ap (λ (run : CallRun). Some (before ++ run.printed)) (sym (run_begins plan));
+  };
+  traced = record {
+    polls = λ was at. at ∙ ap Some (sym (append-nil was));
+    sends = λ was at sends is_sends. is_sends ∙ ap Some (sym (append-nil sends));
+    within = omega arith;
+    sent = λ was at. at ∙ ap Some (sym (append-nil was));
+    others = λ other ne. refl;
+  };
+  alike = record { listens = refl; dials = refl; shut = λ other. refl; later = omega arith };
+  taken = begun.taken;
+  early = λ k d within. absurd (omega arith);
+  offered = λ k within. absurd (omega arith);
+  polls = λ k d within. absurd (omega arith);
+}
+
+-- the call ends in a turn
+pub talked : (plan : CallPlan) (most id : ℕ) (before : List ℕ) (written : Option (List ℕ)) (start now : CallPorts)
+    (made : ℕ) (end : CallEnd) → made < most → HasStopped plan id before written start now made end
+    → HasTalked plan most id before written start now end
+talked plan most id before written start now made end fits stopped = record {
+  trace = stopped.next;
+  count = omega (arith, stopped.count);
+  traced = stopped.traced;
+  alike = stopped.alike;
+  offered = stopped.offered;
+  polls = stopped.polls;
+  ended = stopped.ended most;
+}
+
+-- it does not end in so many turns
+pub gave_up : (talk : Talk) (plan : CallPlan) (most id : ℕ) (before : List ℕ) (written : Option (List ℕ))
+    (start now : CallPorts) (trace : CallTrace) → length trace.polls ≡ most
+    → IsRunning talk plan id before written start now trace
+    → HasTalked plan most id before written start now (GaveUp most)
+gave_up talk plan most id before written start now trace count running = record {
+  trace = trace;
+  count = omega (arith, count);
+  traced = subst (λ xs. IsTraced id xs trace start now) running.goes_on.sent running.traced;
+  alike = running.alike;
+  offered = running.offered;
+  polls = running.polls;
+  ended = (refl, count, running.goes_on.going, running.goes_on.is_printed);
+}

@@ -87,7 +87,7 @@ fn converse<R: Net, O: Sink, N: Ports>(
     ensures write { result ≡ CallEnd.WriteFault → HasRisen (O.faults output.old) (O.faults output.new) }
     ensures no_write { result ≢ CallEnd.WriteFault → O.faults output.new ≡ O.faults output.old }
 {
-    for _ in 0..most {
+    for _turn in 0..most {
         if let Some(end) = talk.turn(rt, id, output, ports) {
             return end;
         }

@@ -8,8 +8,8 @@ reading-preserved g c = record {
   so_far = λ whole is.
       let so_far = c.reading.invariant.so_far whole is in
       let gives = c.in-Ok.ensures.gives so_far.0 so_far.2 in
-      read_on _ _ _ _ _ _ _ _ so_far.1 c.in-Ok.ensures.bound gives c.in-Ok-2.ensures.items;
-  bound = let a = c.in-Ok-2.ensures.len in
+      read_on _ _ _ _ _ _ _ _ so_far.1 c.in-Ok.ensures.bound gives c.in-Ok-extend_from_slice.ensures.items;
+  bound = let a = c.in-Ok-extend_from_slice.ensures.len in
       let b = c.min-room.ensures in
       let d = c.in-Ok.ensures.bound in
       let e = c.read.auto.buffer in
