@@ -1,5 +1,6 @@
-mod BeginLemmas
-mod ListLemmas
-mod StepLemmas
-mod StreamLemmas
-mod NextLemmas
+pub mod BeginLemmas
+pub mod GrowLemmas
+pub mod ListLemmas
+pub mod NextLemmas
+pub mod StepLemmas
+pub mod StreamLemmas

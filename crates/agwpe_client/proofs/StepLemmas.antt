@@ -78,7 +78,7 @@ left_by plan run false true is = record { state = refl; printed = refl; leaving 
 left_by plan run false false is =
     record { state = refl; printed = refl; leaving = is; sent = sym (append-nil run.sent) }
 
-left : (plan : CallPlan) (run : CallRun)
+pub left : (plan : CallPlan) (run : CallRun)
     → Left plan run (leaving_if_enough plan run) run.leaving (leb plan.expect (length run.printed))
 left plan run = left_by plan run run.leaving (leb plan.expect (length run.printed)) refl
 

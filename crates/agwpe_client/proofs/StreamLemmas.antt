@@ -36,6 +36,12 @@ held_more held stream (octet ∷ more) stands =
 held_for : (stream : List ℕ) → (held : Held) × StandsForOctets held stream
 held_for stream = held_more new_held [] stream stands_new
 
+-- the messages of a stream are the first of a longer one
+pub messages_more : (stream more : List ℕ)
+    → (new : List AgwMessage) × (messages_in (stream ++ more) ≡ messages_in stream ++ new)
+messages_more stream more =
+    let reader = held_for stream in (_, ap (λ (r : Reading). r.messages) (reader.1.rest more))
+
 -- ---- a call that is over
 
 -- the call after messages alone

@@ -1,0 +1,4 @@
+pub mod HeardLemmas
+pub mod TraceLemmas
+pub mod TurnLemmas
+pub mod WholeLemmas

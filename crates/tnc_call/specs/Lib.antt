@@ -1,0 +1,4 @@
+pub mod CallInput
+pub mod CallTrace
+pub mod CallEnding
+pub mod HeldTalk
