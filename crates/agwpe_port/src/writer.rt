@@ -51,7 +51,13 @@ fn spell(alloc: Global, message: &AgwMessage) -> Result<Vec<u8>, OutOfMemory>
     ensures to { length message.now.to ≡ 10 }
 {
     let front = [message.port, 0, 0, 0, message.kind, 0, message.pid, 0];
-    spell_parts(alloc, front, message.from, message.to, message.body.as_slice())
+    spell_parts(
+        alloc,
+        front,
+        message.from,
+        message.to,
+        message.body.as_slice(),
+    )
 }
 
 // The first eight octets of a header, its call fields, the length of the body, the user number, and the body.

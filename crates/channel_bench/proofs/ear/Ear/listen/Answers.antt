@@ -4,6 +4,7 @@ use Rattle.std.proofs.Common.{length-append}
 use Rattle.std.specs.Prelude.{All}
 use Rattle.std.proofs.lemmas.List.Elements.{All-replicate}
 use Rattle.channel_bench.specs.Sounding.{mark_of}
+use Rattle.station.proofs.MemoryLemmas.{if_took}
 use Rattle.channel_bench.proofs.EarLemmas.{ear_more, ready_lengths}
 use Rattle.channel_bench.proofs.ear.Ear.listen.Goals as goal
 
@@ -23,15 +24,16 @@ returns-clause-heard c = λ x h.
     let y = c.args.samples.now in
     let size = length-append x y in
     let room : length (x ++ y) < 2 ^ 48 = omega
-    (arith, size, h.count, c.if-self-ge-MOST_SAMPLES.false, c.requires.samples) in
+    (arith, size, h.count, c.requires.few, c.requires.samples) in
     let mark : c.mark_after-mark.result ≡ mark_of (x ++ y) = omega (arith, size, h.count, c.mark_after-mark.ensures) in
     let eight = ap length (c.put_all.ensures.marks ∙ h.marks) in
     ear_more x y c.args.self.now _ c.put_all.new.merger c.mark_all.new.self c.in_ok-found.found.items
     c.in_ok-ready.ready.items room
-    (c.in_ok-found.ensures.found x) c.feed.ensures.flags refl c.in_ok-put_all.ensures.stands_for
+    (if_took _ c.feed.result c.in_ok-found.found c.in_ok-found.ensures.value c.feed.ensures.found x) c.feed.ensures.flags refl c.in_ok-put_all.ensures.stands_for
     c.mark_all.ensures.stands_for
     (c.mark_all.ensures.marks ∙ ap (λ n. replicate n c.mark_after-mark.result) eight ∙ ap (replicate 8) mark)
-    c.in_ok-ready.ensures.ready c.take_ready.ensures.marks h
+    (if_took _ c.take_ready.result c.in_ok-ready.ready c.in_ok-ready.ensures.value c.take_ready.ensures.ready)
+    c.take_ready.ensures.marks h
 
 pub returns-clause-lengths : goal.returns-clause-lengths
 returns-clause-lengths c =
