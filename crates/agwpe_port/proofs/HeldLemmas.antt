@@ -290,6 +290,12 @@ module _ (held : Held) (stream : List ℕ) (stands : StandsFor held stream) wher
           ∙ ap (λ ms. behind ms (rest_of (taken held octet) more)) (sym messages_next);
     }
 
+-- a length that was too long stays, whatever comes
+pub bad_after : (held : Held) (stream : List ℕ) → StandsFor held stream → (len : ℕ) → (reading stream).bad ≡ Some len
+    → (more : List ℕ) → (reading (stream ++ more)).bad ≡ Some len
+bad_after held stream stands len bad more =
+    ap (λ (r : Reading). r.bad) (failed_more held stream stands len (sym (bad_now held stream stands) ∙ bad) 0 more)
+
 -- before any octet
 pub stands_new : StandsFor new_held []
 stands_new = record {

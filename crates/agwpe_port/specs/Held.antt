@@ -1,7 +1,7 @@
 -- What is kept of a stream of messages: the message under way. No public clause looks inside: they cite `StandsFor`
 -- alone.
 use Rattle.std.specs.Prelude.{◌≡◌, ℕ, ◌+◌, ◌<◌, ◌≤◌, ◌⊎◌, ◌==◌, nat_lt, if◌then◌else◌, List, [], ◌∷◌, ◌++◌, length}
-use Rattle.std.specs.Prelude.{Option, Some, None}
+use Rattle.std.specs.Prelude.{take, Option, Some, None}
 use Rattle.agwpe_port.specs.declared.message.AgwMessage.{AgwMessage}
 use Rattle.agwpe_port.specs.Messages.{Reading, reading, header_size, most_body, told_length, message_of}
 
@@ -80,3 +80,12 @@ pub record StandsFor (held : Held) (stream : List ℕ) : Type 0 where
   -- whatever comes, the stream is the messages so far, and what is kept and comes
   pub rest : (more : List ℕ) → reading (stream ++ more)
       ≡ behind (reading stream).messages (rest_reading held.bad (held.header ++ held.body) more)
+
+-- Every reader is one to which the octets of some stream have come.
+abbrev pub StandsForSome : Held → Type 0
+StandsForSome held = (stream : List ℕ) × StandsFor held stream
+
+-- the octets of this stream have come, and some of these after them, from the first on
+abbrev pub StandsForPart : Held → List ℕ → List ℕ → Type 0
+StandsForPart held stream octets =
+    (count : ℕ) × (count ≤ length octets) × StandsFor held (stream ++ take count octets)

@@ -9,6 +9,7 @@ mod fault;
 mod message;
 mod messages;
 mod reader;
+mod under_way;
 mod writer;
 
 pub use call_field::call_text;

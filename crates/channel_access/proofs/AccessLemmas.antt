@@ -24,7 +24,7 @@ use Rattle.channel_access.proofs.TickLemmas.{all_waiting}
 use Rattle.channel_access.proofs.AirLemmas.{at_end, run_samples, run_sent, run_air}
 
 -- a new transmission, if a frame waits
-pub begins : (parameters : Parameters) (waiting : List WaitingFrame) (generator : Lcg) (slot : ℕ) → 1 ≤ length waiting
+unfoldable pub begins : (parameters : Parameters) (waiting : List WaitingFrame) (generator : Lcg) (slot : ℕ) → 1 ≤ length waiting
     → Goes (new_sending parameters) waiting (begun (record {
       waiting = waiting;
       parameters = parameters;
@@ -125,7 +125,7 @@ pub record IsTick (busy : Bool) (held : Held) (channel : Channel) : Type 0 where
   pub after : StandsFor (after_held_tick busy held) (after_tick busy channel)
 
 -- a transmission begins only when a frame waits
-some_wait : (busy : Bool) (channel : Channel) → (decision busy channel).begins ≡ true → 1 ≤ length channel.waiting
+pub some_wait : (busy : Bool) (channel : Channel) → (decision busy channel).begins ≡ true → 1 ≤ length channel.waiting
 some_wait busy channel begins =
     elim (cases_Bool (eqb (length channel.waiting) 0)) [
       | inl none ↦

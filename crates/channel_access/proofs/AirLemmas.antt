@@ -141,7 +141,7 @@ no_more_sent Over total sent count = count
 
 -- ---- naming a frame changes no bit
 
-bits_of-with_named : (bits : ℕ) (t : OnAir) → bits_of (with_named bits t) ≡ bits_of t
+pub bits_of-with_named : (bits : ℕ) (t : OnAir) → bits_of (with_named bits t) ≡ bits_of t
 unfolding bits_of
 bits_of-with_named bits t =
     by_test (λ (u : OnAir). bits_of u ≡ bits_of t) (names_next bits t)
@@ -236,7 +236,7 @@ starts_tick Over waiting t total sent h count fit =
     record { goes = frames_ended total t h.ends; flag = all_named total t h.named }
 
 -- the count of ticks is no matter
-retick : (stage : Stage) (waiting : List WaitingFrame) (t : OnAir) (ticks : ℕ) (sent : List Bool)
+pub retick : (stage : Stage) (waiting : List WaitingFrame) (t : OnAir) (ticks : ℕ) (sent : List Bool)
     → Stands stage waiting t sent
     → Stands stage waiting (record t { ticks = ticks }) sent
 retick (Opening left) [] t ticks sent h = h
@@ -316,10 +316,10 @@ module _ (s : Sending) (waiting : List WaitingFrame) (t : OnAir) (g : Goes s wai
       is_left run.sending.stage run.waiting then_on_air at_end.more at_end.sends.stands run_fits
       (omega (arith, at_end.sends.closing))
 
-  same_ticks : then_on_air.ticks ≡ t.ticks
+  pub same_ticks : then_on_air.ticks ≡ t.ticks
   same_ticks = ticks-with_named (bits_then t) decided_then ∙ ticks-decided (bits_then t) waiting t
 
-  full_before : length g.sent ≡ 12 * t.ticks
+  pub full_before : length g.sent ≡ 12 * t.ticks
   full_before = all_sent s.stage (12 * t.ticks) g.sent g.sends.count g.left
 
   pub run_samples : run.samples ≡ tick_samples decided_then
@@ -357,7 +357,7 @@ module _ (s : Sending) (waiting : List WaitingFrame) (t : OnAir) (g : Goes s wai
       at_end.is_sent ∙ ap (λ n. sent_at n (bits_then t) decided_then) ticks
 
   -- if something is left
-  goes_on : stage_over run.sending.stage ≡ false
+  unfoldable pub goes_on : stage_over run.sending.stage ≡ false
       → Goes run.sending run.waiting (record then_on_air { ticks = then_on_air.ticks + 1 })
   goes_on goes =
       let b = at_end in

@@ -1,13 +1,15 @@
 -- Worked examples, computed on the definitions.
-use Rattle.std.proofs.Common.{◌≡◌, ℕ, true, false, Some, None, List, [], ◌∷◌, ◌+◌, length, refl}
+use Rattle.std.proofs.Common.{◌≡◌, ℕ, true, false, Some, None, List, [], ◌∷◌, ◌+◌, length, replicate, refl}
 use Rattle.hdlc_framer.specs.BitOrder.{octet_bits}
 use Rattle.hdlc_framer.specs.Body.{body}
 use Rattle.hdlc_framer.specs.CheckSequence.{fcs_of}
 use Rattle.hdlc_framer.specs.Frames.{with_fcs, frame_bits}
-use Rattle.channel_access.specs.declared.parameters.Param.TheVariants.{FullDuplex, Persist}
+use Rattle.channel_access.specs.declared.parameters.Param.TheVariants.{FullDuplex, Persist, TxDelay, TxTail}
 use Rattle.channel_access.specs.Words.{generator_of, draw_stream, draw, after_word}
-use Rattle.channel_access.specs.OnAir.{OnAir, bits_of, flag_end, followed_by, frame_named}
-use Rattle.channel_access.specs.Channel.{Channel, new_channel, with_frame, with_setting, decision, begun}
+use Rattle.channel_access.specs.OnAir.{OnAir, bits_of, flag_end, followed_by, frame_named, frames_end}
+use Rattle.channel_access.specs.WholeTransmission.{GoesToItsEnd}
+use Rattle.channel_access.specs.WholeTransmission.Call.{Ticks}
+use Rattle.channel_access.specs.Channel.{Channel, new_channel, with_frame, with_setting, decision, begun, air_tick, after_tick}
 
 -- SABM with P from N7LEM to NJ7P
 abbrev shortest : List ℕ
@@ -60,3 +62,16 @@ a_slot_passes = refl
 
 at_p_begins : (decision false (with_setting (Persist 102) one_waits)).begins ≡ true
 at_p_begins = refl
+
+-- With no TXDELAY and no TXtail there are two flags before the frame and one after it: 162 bits, which are sent in
+-- fourteen ticks. So there are transmissions that end.
+short_one : Channel
+short_one = with_setting (TxTail 0) (with_setting (TxDelay 0) waiting)
+
+short_begins : (air_tick true short_one).began ≡ true
+unfolding short_one
+short_begins = refl
+
+short_ends : GoesToItsEnd (replicate 13 (Ticks true)) (after_tick true short_one)
+unfolding short_one fcs_of octet_bits with_fcs frame_bits body bits_of frames_end flag_end
+short_ends = (refl, (refl, (refl, (refl, (refl, (refl, (refl, (refl, (refl, (refl, (refl, (refl, (refl, refl)))))))))))))

@@ -8,5 +8,8 @@ pub mod TickLemmas
 pub mod AirLemmas
 pub mod OrderLemmas
 pub mod AccessLemmas
+pub mod QueueLemmas
 mod Examples
 pub mod WholeLemmas
+pub mod SoFarLemmas
+pub mod WholeRun

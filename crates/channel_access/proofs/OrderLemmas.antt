@@ -1,8 +1,10 @@
 -- Frames are sent in the order of the queue: the frame that a tick names is the front one of those that wait.
-use Rattle.std.proofs.Common.{◌≡◌, ℕ, ◌+◌, ◌-◌, ◌*◌, Bool, true, false, ltb, Option, Some, None, List, [], ◌∷◌, ◌++◌}
-use Rattle.std.proofs.Common.{length, get_or, drop, refl, ap, ◌∙◌, sym, subst, inl, inr, append_assoc, append-nil}
+use Rattle.std.proofs.Common.{◌≡◌, ℕ, ◌+◌, ◌-◌, ◌*◌, ◌≤◌, Bool, true, false, ltb, Option, Some, None, List, [], ◌∷◌, ◌++◌}
+use Rattle.std.proofs.Common.{length, get_or, drop, refl, ap, ◌∙◌, sym, subst, inl, inr, arith, append_assoc}
+use Rattle.std.proofs.Common.{append-nil}
 use Rattle.std.proofs.Math.Seq.{get_or-append_seam}
-use Rattle.std.proofs.lemmas.Bool.{cases_Bool, cond-true, cond-false}
+use Rattle.std.proofs.lemmas.Bool.{cases_Bool, cond-true, cond-false, ltb-true}
+use Rattle.std.proofs.lemmas.List.{length_push}
 use Rattle.channel_access.specs.declared.air_tick.Sent.{Sent}
 use Rattle.channel_access.specs.declared.sending.Sending.{Sending}
 use Rattle.channel_access.specs.declared.stage.Stage.{Stage}
@@ -14,24 +16,46 @@ use Rattle.channel_access.specs.Channel.{air_sent, air_waiting, Takes}
 use Rattle.channel_access.specs.StandsFor.{Stands, StandsForAir}
 use Rattle.channel_access.proofs.StageLemmas.{by_test, frames_ended, all_named}
 
--- a decision adds frames after those that the transmission has
+-- a decision adds frames after those that the transmission has, up to eight, and changes no flags
 pub record AddsFrames (t u : OnAir) : Type 0 where
   pub more : List (List ℕ)
   pub frames : u.frames ≡ t.frames ++ more
+  pub few : length t.frames ≤ most_frames → length u.frames ≤ most_frames
   pub named : u.named ≡ t.named
+  pub opening : u.opening ≡ t.opening
+  pub closing : u.closing ≡ t.closing
+
+-- none is added
+same_frames : (t u : OnAir) → u.frames ≡ t.frames → u.named ≡ t.named → u.opening ≡ t.opening → u.closing ≡ t.closing
+    → AddsFrames t u
+same_frames t u frames named opening closing = record {
+  more = [];
+  frames = frames ∙ sym (append-nil t.frames);
+  few = λ few. subst (λ (xs : List (List ℕ)). length xs ≤ most_frames) (sym frames) few;
+  named = named;
+  opening = opening;
+  closing = closing;
+}
 
 followed_frames : (others : List WaitingFrame) (t : OnAir) → AddsFrames t (followed_by others t)
-followed_frames [] t = record { more = []; frames = sym (append-nil t.frames); named = refl }
+followed_frames [] t = same_frames t (record t { ends = true }) refl refl refl refl
 followed_frames (next ∷ others) t =
     by_test (λ (u : OnAir). AddsFrames t u) (ltb (length t.frames) most_frames) _ _
-    (λ few. record { more = next.octets ∷ []; frames = refl; named = refl })
-    (λ many. record { more = []; frames = sym (append-nil t.frames); named = refl })
+    (λ few. record {
+      more = next.octets ∷ [];
+      frames = refl;
+      few = λ _. omega (arith, length_push t.frames next.octets, ltb-true (length t.frames) most_frames few);
+      named = refl;
+      opening = refl;
+      closing = refl;
+    })
+    (λ many. same_frames t (record t { ends = true }) refl refl refl refl)
 
-decided_frames : (bits : ℕ) (waiting : List WaitingFrame) (t : OnAir) → AddsFrames t (decided bits waiting t)
+pub decided_frames : (bits : ℕ) (waiting : List WaitingFrame) (t : OnAir) → AddsFrames t (decided bits waiting t)
 decided_frames bits waiting t =
     by_test (λ (u : OnAir). AddsFrames t u) (has_sent_frames bits t) (followed_by (drop 1 waiting) t) t
     (λ ended. followed_frames (drop 1 waiting) t)
-    (λ goes. record { more = []; frames = sym (append-nil t.frames); named = refl })
+    (λ goes. same_frames t t refl refl refl refl)
 
 -- the octets are those of the front frame
 abbrev FrontIs : List WaitingFrame → List ℕ → Type 0

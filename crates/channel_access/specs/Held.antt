@@ -14,7 +14,9 @@ use Rattle.channel_access.specs.declared.stage.Stage.{Stage}
 use Rattle.channel_access.specs.declared.stage.Stage.TheVariants.{Opening, Frame, Following, Closing, Over}
 use Rattle.channel_access.specs.declared.sending.Sending.{Sending}
 use Rattle.channel_access.specs.declared.parameters.Parameters.{Parameters}
-use Rattle.channel_access.specs.Parameters.{opening_flags, closing_flags}
+use Rattle.channel_access.specs.declared.parameters.Param.{Param}
+use Rattle.channel_access.specs.Parameters.{default_parameters, with_param, opening_flags, closing_flags}
+use Rattle.channel_access.specs.Words.{generator_of, draw_stream}
 use Rattle.channel_access.specs.Waiting.{WaitingFrame}
 use Rattle.channel_access.specs.OnAir.{most_frames}
 
@@ -232,3 +234,21 @@ pub record Held : Type 0 where
   pub generator : Lcg
   pub slot : ℕ
   pub sending : Option Sending
+
+-- before any call
+abbrev pub new_held : ℕ → Held
+new_held seed = record {
+  waiting = [];
+  parameters = default_parameters;
+  generator = generator_of seed draw_stream;
+  slot = 0;
+  sending = None;
+}
+
+-- with one frame more, or with a parameter set
+abbrev pub held_with_frame : Option ℕ → List ℕ → Held → Held
+held_with_frame link octets held =
+    record held { waiting = held.waiting ++ (record { link = link; octets = octets }) ∷ [] }
+
+abbrev pub held_with_setting : Param → Held → Held
+held_with_setting param held = record held { parameters = with_param param held.parameters }

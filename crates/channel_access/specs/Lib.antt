@@ -6,3 +6,4 @@ pub mod Channel
 pub mod Held
 pub mod HeldTick
 pub mod StandsFor
+pub mod WholeTransmission

@@ -114,3 +114,7 @@ pub record StandsFor (held : Held) (channel : Channel) : Type 0 where
   pub slot : held.slot ≡ channel.slot
   pub lengths : All (λ frame. HasFrameLength frame.octets) channel.waiting
   pub air : StandsForAir held.sending channel.waiting channel.air
+
+-- Every access stands for some channel.
+abbrev pub StandsForSome : Held → Type 0
+StandsForSome held = (channel : Channel) × StandsFor held channel

@@ -1,7 +1,10 @@
 //! Laws of the definitions, which hold of all values and need no work.
-ghost use Rattle.std.specs.Prelude.{◌≡◌, ℕ, ◌*◌, ◌≤◌, true, List, Bool, ◌++◌, length, take, drop};
+ghost use Rattle.std.specs.Prelude.{◌≡◌, ℕ, ◌*◌, ◌≤◌, true, List, Bool, ◌∷◌, ◌++◌, length, take, drop, None};
 ghost use Rattle.afsk_modulator.specs.Transmission.{transmission};
 ghost use Rattle.channel_access.specs.Waiting.{WaitingFrame};
+ghost use Rattle.channel_access.specs.Channel.{Channel, air_tick, after_tick};
+ghost use Rattle.channel_access.specs.WholeTransmission.{Call, joining, AreFrames, GoesToItsEnd, SendOneTransmission};
+ghost use Rattle.channel_access.specs.WholeTransmission.Call.{Ticks};
 ghost use Rattle.channel_access.specs.OnAir.{OnAir, bits_then, bits_of, samples_on_air, decided, tick_samples};
 
 /// What is decided of a transmission while it runs only adds bits after those that were decided before.
@@ -21,4 +24,13 @@ pub fn a_tick_is_a_part_of_the_whole()
     ensures { (t whole : OnAir) (rest : List Bool) → bits_of whole ≡ bits_of t ++ rest
         → bits_then t ≤ length (bits_of t)
         → tick_samples t ≡ take 96 (drop (96 * t.ticks) (samples_on_air whole)) }
+{}
+
+/// What is sent from the tick in which a transmission begins to the one after which none is under way, whatever is
+/// called meanwhile, is one transmission of at most eight frames, which are the front of the queue in order, and zeros up
+/// to a whole tick. Each frame is named once as sent, in order.
+pub fn a_transmission_is_whole()
+    ensures { (channel : Channel) (busy : Bool) (calls : List Call) → AreFrames channel.waiting
+        → AreFrames (joining calls) → channel.air ≡ None → (air_tick busy channel).began ≡ true
+        → GoesToItsEnd calls (after_tick busy channel) → SendOneTransmission (Ticks busy ∷ calls) channel }
 {}

@@ -12,8 +12,12 @@ mod parameters;
 mod queue;
 mod sending;
 mod stage;
+mod transmitter;
 
 pub use access::Access;
 pub use air_tick::{AirTick, Sent};
-pub use laws::{a_tick_is_a_part_of_the_whole, decisions_add_bits, the_end_is_a_transmission};
+pub use laws::{
+    a_tick_is_a_part_of_the_whole, a_transmission_is_whole, decisions_add_bits,
+    the_end_is_a_transmission,
+};
 pub use parameters::{Param, Parameters};

@@ -7,7 +7,7 @@ ghost use Rattle.frame_merge.specs.declared.candidate.Candidate.{Candidate};
 ghost use Rattle.frame_merge.specs.Held.{StandsFor as MergerStandsFor};
 ghost use Rattle.slicer_bank.specs.Busy.{HearsCarrier};
 ghost use Rattle.slicer_bank.specs.MergedItems.{AreMergedBetween};
-ghost use Rattle.slicer_bank.specs.Merging.{CanBePut};
+ghost use Rattle.slicer_bank.specs.Merging.{CanBePut, AreInTime};
 ghost use Rattle.channel_bench.specs.Sounding.{mark_of};
 
 use frame_merge::{Candidate, Merger};
@@ -101,14 +101,14 @@ fn put_all(
 ) -> Result<(), OutOfMemory>
     requires marks { length merger.old.marks ≡ 8 }
     requires items { All CanBePut items.items }
+    requires in_time { AreInTime merger.old.marks items.items }
     ensures stands_for { OnOk result ((puts given : List Candidate) → MergerStandsFor merger.old puts given
         → MergerStandsFor merger.new (puts ++ items.items) given) }
     ensures marks { merger.new.marks ≡ merger.old.marks }
     ensures wanted { OnErr result (memory.new.refused ≡ true) }
 {
     for item in items {
-        // No item is late, so want of memory is the one refusal.
-        memory.took(merger.put(item))?;
+        memory.took(merger.put_in_time(item))?;
     }
     Ok(())
 }

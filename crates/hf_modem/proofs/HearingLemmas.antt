@@ -1,6 +1,8 @@
 -- A block, sample by sample, and what a decoder has taken with it and at the end.
 use Rattle.std.proofs.Common.{◌≡◌, ℕ, ◌+◌, ◌/◌, ◌^◌, ◌<◌, ◌≤◌, ℤ, get_or, List, [], ◌∷◌, ◌++◌, length, replicate, ap}
 use Rattle.std.proofs.Common.{sym, ◌∙◌, arith, subst, append_assoc, length-append}
+use Rattle.std.proofs.Common.{Option, Some, None}
+use Rattle.std.specs.Prelude.{IfSome}
 use Rattle.std.specs.List.{All}
 use Rattle.std.proofs.lemmas.List.{append-nil, length-replicate, get_or-replicate}
 use Rattle.frame_merge.specs.declared.candidate.Candidate.{Candidate}
@@ -12,7 +14,7 @@ use Rattle.slicer_bank.proofs.MergingLemmas.{in_order-strictly}
 use Rattle.hf_modem.specs.Candidates.{AreCandidates, AreCandidatesAfter}
 use Rattle.hf_modem.specs.Held.{HeldBank, BankStandsFor}
 use Rattle.hf_modem.specs.Heard.{HasHeard}
-use Rattle.hf_modem.specs.HeldDecoder.{HaveTaken}
+use Rattle.hf_modem.specs.HeldDecoder.{CanBePut, HaveTaken}
 use Rattle.hf_modem.specs.MergedItems.{AreMergedBetween}
 use Rattle.hf_modem.proofs.CandidateLemmas.{candidates_none, candidates_join}
 use Rattle.hf_modem.proofs.MergedLemmas.{block_gives, end_gives}
@@ -106,3 +108,13 @@ pub gives_rest : (x : List ℤ) (bank : HeldBank) (was : HeldMerger) (rest : Lis
 gives_rest x bank was rest h last =
     end_gives x h.candidates rest h.are (last h.candidates (below (length x / 4) (merged h.candidates)) h.so_far
     ∙ ap merged (in_order-strictly h.candidates h.are.order))
+
+-- what is heard with a sample does not end below the marks that the block began with
+pub in_time_of : (marks : List ℕ) (from position : ℕ) (heard : Option Candidate) → marks ≡ replicate 32 (from / 4)
+    → from ≤ position → IfSome heard CanBePut → IfSome heard (λ item. position / 4 ≤ item.end)
+    → IfSome heard (λ item. get_or marks item.offset 0 ≤ item.end)
+in_time_of marks from position None is up can late = tt
+in_time_of marks from position (Some item) is up can late =
+    let mark : get_or marks item.offset 0 ≡ from / 4 =
+    ap (λ (m : List ℕ). get_or m item.offset 0) is ∙ get_or-replicate 32 item.offset (from / 4) 0 can.lane in
+    omega arith

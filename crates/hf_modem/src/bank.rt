@@ -1,6 +1,6 @@
 //! The lanes of the 32 offsets of a bit. With each sample the window of one of them ends.
 
-ghost use Rattle.std.specs.Prelude.{◌≡◌, ◌+◌, ◌<◌, ◌^◌, ℤ, List, [], ◌∷◌, ◌++◌, length, IfOk, IfSome};
+ghost use Rattle.std.specs.Prelude.{◌≡◌, ◌+◌, ◌/◌, ◌<◌, ◌≤◌, ◌^◌, ℤ, List, [], ◌∷◌, ◌++◌, length, IfOk, IfSome};
 ghost use Rattle.std.specs.Option.{option_to_list};
 ghost use Rattle.tone_table.specs.declared.tone.Tone.{Tone};
 ghost use Rattle.nrzi_bits.specs.Line.{bits_of};
@@ -64,6 +64,7 @@ impl Bank {
             → BankStandsFor self.new (x ++ sample ∷ [])
             × AreCandidatesAfter (length x) (x ++ sample ∷ []) (option_to_list heard)) }
         ensures bounds { IfOk result (λ heard. IfSome heard CanBePut) }
+        ensures late { IfOk result (λ heard. IfSome heard (λ item. self.old.position / 4 ≤ item.end)) }
         ensures position { self.new.position ≡ self.old.position + 1 }
     {
         self.recent.push(sample);
@@ -101,6 +102,7 @@ fn hear(
     ensures heard { IfOk result (λ heard. (tones : List Tone) → ToneLaneStandsFor lane.old tones
         → IsHeard offset at (bits_of (tones ++ tone ∷ [])) heard) }
     ensures bounds { IfOk result (λ heard. IfSome heard CanBePut) }
+    ensures end { IfOk result (λ heard. IfSome heard (λ item. item.end ≡ at / 4)) }
 {
     if !lane.push(tone) {
         return Ok(None);

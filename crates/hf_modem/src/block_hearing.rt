@@ -1,6 +1,7 @@
 //! A block: what the lanes hear in it is merged.
 
-ghost use Rattle.std.specs.Prelude.{◌≡◌, ◌+◌, ◌/◌, ◌<◌, ◌^◌, ℤ, List, ◌++◌, length, replicate, IfOk, OnOk, IfSome};
+ghost use Rattle.std.specs.Prelude.{◌≡◌, ◌+◌, ◌/◌, ◌<◌, ◌≤◌, ◌^◌, ℤ, List, ◌++◌, length, replicate, IfOk, OnOk, IfSome};
+ghost use Rattle.std.specs.Prelude.{slice_index};
 ghost use Rattle.std.specs.Option.{option_to_list};
 ghost use Rattle.frame_merge.specs.declared.candidate.Candidate.{Candidate};
 ghost use Rattle.frame_merge.specs.Held.{StandsFor as MergerStandsFor};
@@ -39,7 +40,7 @@ pub(crate) fn hear_block(
 /// Gives the bank the samples of a block one by one, and the merger each candidate that one of them ends.
 fn hear_all(bank: &mut Bank, merger: &mut Merger, block: &[i16]) -> Result<(), OutOfMemory>
     requires room { bank.old.position + length block.now < 2 ^ 48 }
-    requires marks { length merger.old.marks ≡ 32 }
+    requires marks { merger.old.marks ≡ replicate 32 (bank.old.position / 4) }
     ensures heard { OnOk result ((x : List ℤ) (puts given : List Candidate) → BankStandsFor bank.old x
         → MergerStandsFor merger.old puts given → HasHeard bank.new merger.new x block.now puts given) }
     ensures position { OnOk result (bank.new.position ≡ bank.old.position + length block.now) }
@@ -52,10 +53,11 @@ fn hear_all(bank: &mut Bank, merger: &mut Merger, block: &[i16]) -> Result<(), O
     Ok(())
 }
 
-/// Puts what was heard with a sample into the merger. It does not end below the mark of its lane.
+/// Puts what was heard with a sample into the merger.
 fn put(merger: &mut Merger, heard: Option<Candidate>) -> Result<(), OutOfMemory>
     requires marks { length merger.old.marks ≡ 32 }
     requires item { IfSome heard CanBePut }
+    requires in_time { IfSome heard (λ item. slice_index merger.old.marks item.offset ≤ item.end) }
     ensures stands_for { OnOk result ((puts given : List Candidate) → MergerStandsFor merger.old puts given
         → MergerStandsFor merger.new (puts ++ option_to_list heard) given) }
     ensures marks { merger.new.marks ≡ merger.old.marks }
@@ -63,9 +65,6 @@ fn put(merger: &mut Merger, heard: Option<Candidate>) -> Result<(), OutOfMemory>
     let Some(item) = heard else {
         return Ok(());
     };
-    // No item is late, so want of memory is the one refusal.
-    let Ok(()) = merger.put(item) else {
-        return Err(OutOfMemory);
-    };
+    merger.put_in_time(item)?;
     Ok(())
 }

@@ -11,7 +11,7 @@ use Rattle.kiss_port.specs.Escapes.{fend, fesc, tfend, tfesc, meant, unescaped, 
 use Rattle.kiss_port.specs.Pieces.{pieces}
 use Rattle.kiss_port.specs.Items.{item_of, items_in}
 use Rattle.kiss_port.specs.Held.{Held, StandsForPiece, StandsFor, rest_of_piece, new_held, kept_item, held_item}
-use Rattle.kiss_port.specs.Held.{keeping, unmarked, behind_escape, with_octet}
+use Rattle.kiss_port.specs.Held.{StandsForSome, keeping, unmarked, behind_escape, with_octet}
 use Rattle.kiss_port.proofs.PieceLemmas.{inside-append, pieces_inside, pieces_end}
 use Rattle.kiss_port.proofs.EscapeLemmas.{unescaped_plain, spelled_back, spelled_piece}
 
@@ -235,3 +235,15 @@ item_written kind octets =
     ap (flat_map (λ piece. option_to_list (item_of (unescaped piece)))) (spelled_piece (kind ∷ octets))
     ∙ append-nil (option_to_list (item_of (unescaped (spelled (kind ∷ octets)))))
     ∙ ap (λ xs. option_to_list (item_of xs)) (spelled_back (kind ∷ octets))
+
+-- before any octet
+pub stands_new : StandsFor new_held []
+stands_new = record { piece = []; piece_held = piece_new; cut = λ more. refl }
+
+-- ---- every reader stands for some stream
+
+pub some_end : (held : Held) → StandsForSome held → StandsForSome new_held
+some_end held (stream, stands) = (stream ++ fend ∷ [], stands_end held stream stands)
+
+pub some_octet : (held : Held) (octet : ℕ) → octet ≢ fend → StandsForSome held → StandsForSome (with_octet held octet)
+some_octet held octet other (stream, stands) = (stream ++ octet ∷ [], stands_octet held stream stands octet other)

@@ -68,3 +68,7 @@ pub record StandsFor (held : Held) (stream : List ℕ) : Type 0 where
   pub piece_held : StandsForPiece held piece
   -- whatever comes, the stream is cut as the pieces so far and those of the open piece and what comes
   pub cut : (more : List ℕ) → pieces (stream ++ more) ≡ pieces stream ++ pieces (piece ++ more)
+
+-- Every reader is one to which the octets of some stream have come.
+abbrev pub StandsForSome : Held → Type 0
+StandsForSome held = (stream : List ℕ) × StandsFor held stream

@@ -6,6 +6,7 @@
 
 mod item;
 mod octet;
+mod open_piece;
 mod reader;
 mod writer;
 

@@ -1,30 +1,25 @@
 -- What a call answers for an event that is not refused.
-use Rattle.std.proofs.Common.{◌≡◌, ◌<◌, ◌≤◌, false, if◌then◌else◌, List}
+use Rattle.std.proofs.Common.{◌≡◌, false, List}
 use Rattle.std.proofs.Common.{length, Ok, Err, Result, refl, sym, ◌∙◌, ap, subst}
-use Rattle.selective_reject.specs.declared.packet.Packet.{Packet}
 use Rattle.link_machine.specs.declared.machine.Machine.{Machine as Held}
 use Rattle.link_machine.specs.Done.{Done}
 use Rattle.link_machine.specs.Machine.{Machine}
 use Rattle.link_machine.specs.Sent.{sent_frames}
 use Rattle.link_machine.specs.Turn.{Turn, begin}
 use Rattle.tnc_base.specs.declared.fault.OutOfMemory.{OutOfMemory}
-use Rattle.std.proofs.Common.{nat_lt, None}
-use Rattle.std.proofs.lemmas.Bool.{le-ltb, lt-leb}
+use Rattle.std.proofs.Common.{None}
 use Rattle.std.specs.Prelude.{IsErr, OnOk}
 use Rattle.std.specs.Prelude.{Option}
 use Rattle.std.proofs.lemmas.Bool.{cond-false}
 use Rattle.link_machine.specs.Step.{settled, step, row, refusal_of, done_of}
 use Rattle.link_machine.specs.Event.{Event}
-use Rattle.link_machine.specs.Event.Event.{Connect, Send, Disconnect}
-use Rattle.link_machine.specs.Requests.{has_link, is_closed}
+use Rattle.link_machine.specs.Requests.{refusal}
 use Rattle.link_machine.specs.declared.fault.LinkFault.{LinkFault}
-use Rattle.link_machine.specs.declared.fault.LinkFault.TheVariants.{WrongState, Full, TooLong}
-use Rattle.std.specs.Prelude.{IfOk, nat_le}
+use Rattle.std.specs.Prelude.{IfOk}
 use Rattle.link_machine.specs.StandsFor.{StandsFor}
 use Rattle.link_machine.specs.declared.acts.Told.{Told}
 use Rattle.link_machine.specs.declared.acts.SentFrame.{SentFrame}
 use Rattle.std.specs.Prelude.{is_some}
-use Rattle.std.proofs.Common.{Some}
 use Rattle.link_machine.specs.Held.{IsWhole, Holds, Made, Makes}
 
 -- what holds if a call did not fail
@@ -66,21 +61,9 @@ answers_all before behind event (Ok done) free whole makes m h =
 answers_all before behind event (Err fault) free whole makes m h = (tt, tt)
 
 -- requests that are not refused
-pub free_connect : (m : Machine) → has_link m.control.state ≡ false → is_some (refusal_of m Connect) ≡ false
-free_connect m e = ap (λ b. is_some (if b then Some (WrongState m.control.state m.control.quit) else None)) e
-
-pub free_disconnect : (m : Machine) → is_closed m.control ≡ false → is_some (refusal_of m Disconnect) ≡ false
-free_disconnect m e = ap (λ b. is_some (if b then Some (WrongState m.control.state m.control.quit) else None)) e
-
-pub free_send :
-    (m : Machine) (packet : Packet) → is_closed m.control ≡ false → length m.outgoing.packets < 1024
-    → length packet.octets ≤ 256
-    → is_some (refusal_of m (Send packet)) ≡ false
-free_send m packet e room short =
-    let wrong : Option LinkFault = Some (WrongState m.control.state m.control.quit) in
-    let long : Option LinkFault = Some (TooLong (length packet.octets)) in
-    ap (λ b. is_some (if b then wrong else if nat_le 1024 (length m.outgoing.packets) then Some Full
-    else if nat_lt 256 (length packet.octets) then long else None)) e
-    ∙ ap (λ b. is_some (if b then Some Full else if nat_lt 256 (length packet.octets) then long else None))
-    (lt-leb 1024 (length m.outgoing.packets) room)
-    ∙ ap (λ b. is_some (if b then long else None)) (le-ltb 256 (length packet.octets) short)
+pub free_of : (held : Held) (m : Machine) (event : Event) (r : Option LinkFault)
+    → r ≡ refusal held.control (length held.outgoing.packets) event → r ≡ None → StandsFor held m
+    → is_some (refusal_of m event) ≡ false
+free_of held m event r is none stands =
+    ap is_some (ap (λ c. refusal c (length m.outgoing.packets) event) (sym stands.control)
+    ∙ ap (λ n. refusal held.control n event) (sym (ap length stands.outgoing.packets)) ∙ sym is ∙ none)

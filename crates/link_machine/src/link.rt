@@ -89,8 +89,8 @@ impl Link {
         ensures writable { IfOk result (λ acts. All IsWritable acts.frames) }
         ensures unchanged { OnErr result (self.new ≡ self.old) }
     {
-        if self.machine.control.has_link() {
-            return Err(self.machine.wrong_state());
+        if let Some(fault) = self.connect_refusal() {
+            return Err(fault);
         }
         let acts = self.machine.take_connect(self.alloc)?;
         Ok(acts)
@@ -112,15 +112,8 @@ impl Link {
         ensures writable { IfOk result (λ acts. All IsWritable acts.frames) }
         ensures unchanged { OnErr result (self.new ≡ self.old) }
     {
-        if self.machine.control.is_closed() {
-            return Err(self.machine.wrong_state());
-        }
-        if self.machine.outgoing.len() >= MOST_PACKETS {
-            return Err(LinkFault::Full);
-        }
-        let len = packet.octets.len();
-        if len > MOST_OCTETS {
-            return Err(LinkFault::TooLong { len });
+        if let Some(fault) = self.send_refusal(&packet) {
+            return Err(fault);
         }
         let acts = self.machine.take_packet(self.alloc, packet)?;
         Ok(acts)
@@ -140,8 +133,8 @@ impl Link {
         ensures writable { IfOk result (λ acts. All IsWritable acts.frames) }
         ensures unchanged { OnErr result (self.new ≡ self.old) }
     {
-        if self.machine.control.is_closed() {
-            return Err(self.machine.wrong_state());
+        if let Some(fault) = self.disconnect_refusal() {
+            return Err(fault);
         }
         let acts = self.machine.take_disconnect(self.alloc)?;
         Ok(acts)
@@ -171,6 +164,43 @@ impl Link {
         ensures unchanged { OnErr result (self.new ≡ self.old) }
     {
         self.machine.tick(self.alloc, waiting)
+    }
+
+    /// Why [`Link::connect`] would refuse, memory apart. It takes none.
+    pub fn connect_refusal(&self) -> Option<LinkFault>
+        ensures { result ≡ refusal self.now.control (length self.now.outgoing.packets) Connect }
+    {
+        if self.machine.control.has_link() {
+            return Some(self.machine.wrong_state());
+        }
+        None
+    }
+
+    /// Why [`Link::send`] would refuse the packet, memory apart. It takes none.
+    pub fn send_refusal(&self, packet: &Packet) -> Option<LinkFault>
+        ensures { result ≡ refusal self.now.control (length self.now.outgoing.packets) (Send packet.now) }
+    {
+        if self.machine.control.is_closed() {
+            return Some(self.machine.wrong_state());
+        }
+        if self.machine.outgoing.len() >= MOST_PACKETS {
+            return Some(LinkFault::Full);
+        }
+        let len = packet.octets.len();
+        if len > MOST_OCTETS {
+            return Some(LinkFault::TooLong { len });
+        }
+        None
+    }
+
+    /// Why [`Link::disconnect`] would refuse, memory apart. It takes none.
+    pub fn disconnect_refusal(&self) -> Option<LinkFault>
+        ensures { result ≡ refusal self.now.control (length self.now.outgoing.packets) Disconnect }
+    {
+        if self.machine.control.is_closed() {
+            return Some(self.machine.wrong_state());
+        }
+        None
     }
 
     /// Where the link stands.

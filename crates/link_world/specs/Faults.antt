@@ -29,6 +29,10 @@ refused_by (Tick end waiting) m = None
 refused_by (Hear end) m = None
 refused_by (Lose end index) m = None
 
+-- the same at the end of the event
+abbrev pub refused_at : Event → World → Option LinkFault
+refused_at event w = refused_by event (seen_from (end_of event) w).a.end.machine
+
 abbrev pub cause_by : Option LinkFault → Bool → ℕ → Option WorldFault
 cause_by (Some fault) quiet number = Some (Link fault)
 cause_by None true number = None

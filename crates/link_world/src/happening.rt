@@ -1,9 +1,10 @@
 //! One event at an end, and what it changes there and on the way to the partner.
-ghost use Rattle.std.specs.Prelude.{◌≡◌, ℕ, ◌≤◌, ◌⊎◌, false, drop, length, Err, IfOk, IfErr, OnErr};
+ghost use Rattle.std.specs.Prelude.{◌≡◌, ℕ, ◌≤◌, ◌⊎◌, false, drop, length, Err, Some, IfOk, IfErr, OnErr};
+ghost use Rattle.link_machine.specs.declared.fault.LinkFault.{LinkFault as AnyFault};
 ghost use Rattle.link_world.specs.declared.event.Event.TheVariants.{Hear, Lose};
 ghost use Rattle.link_world.specs.declared.end.End.{End as AnyEnd};
 ghost use Rattle.link_world.specs.World.{World as State, end_of};
-ghost use Rattle.link_world.specs.Faults.{is_there};
+ghost use Rattle.link_world.specs.Faults.{is_there, refused_by, refused_at};
 ghost use Rattle.link_world.specs.Held.{event_of, side_at, IsSide, AreSides, StandForBoth, MadeStep, IsRefusal, IsKept};
 ghost use Rattle.link_world.specs.Held.{MadeStepOf, IsRefusalOf, Flew, Stayed, asking_frames};
 
@@ -28,6 +29,8 @@ pub(crate) fn happen(
     ensures step { (w : State) → StandForBoth a.old b.old w
         → IfOk result (λ told. MadeStepOf event number w a.new b.new told.items) }
     ensures refused { (w : State) → StandForBoth a.old b.old w → IfErr result (IsRefusalOf event number w) }
+    ensures link_refuses { (w : State) (fault : AnyFault) → StandForBoth a.old b.old w
+        → refused_at event w ≡ Some fault → result ≡ Err (WorldFault.Link fault) }
     ensures nothing_there { is_there event (length (side_at (end_of event) a.old b.old).towards.items) ≡ false
         → result ≡ Err WorldFault.NothingThere }
     ensures kept { OnErr result (IsKept a.old b.old a.new b.new) }
@@ -51,6 +54,8 @@ fn happen_near(
     ensures step { (w : State) → StandForBoth near.old far.old w
         → IfOk result (λ told. MadeStep event number w near.new far.new told.items) }
     ensures refused { (w : State) → StandForBoth near.old far.old w → IfErr result (IsRefusal event number w) }
+    ensures link_refuses { (w : State) (fault : AnyFault) → StandForBoth near.old far.old w
+        → refused_by event w.a.end.machine ≡ Some fault → result ≡ Err (WorldFault.Link fault) }
     ensures nothing_there { is_there event (length near.old.towards.items) ≡ false
         → result ≡ Err WorldFault.NothingThere }
     ensures kept { OnErr result (IsKept near.old far.old near.new far.new) }
@@ -79,9 +84,14 @@ fn take(
         → IfOk result (λ told. MadeStep (event_of request end) number w near.new far.new told.items) }
     ensures refused { (w : State) (end : AnyEnd) → StandForBoth near.old far.old w
         → IfErr result (IsRefusal (event_of request end) number w) }
+    ensures link_refuses { (w : State) (end : AnyEnd) (fault : AnyFault) → StandForBoth near.old far.old w
+        → refused_by (event_of request end) w.a.end.machine ≡ Some fault → result ≡ Err (WorldFault.Link fault) }
     ensures kept { OnErr result (IsKept near.old far.old near.new far.new) }
     ensures formed { AreSides near.new far.new }
 {
+    if let Some(fault) = request.refusal(&near.link) {
+        return Err(WorldFault::from(fault));
+    }
     let mut link = near.link.copy()?;
     let acts = request.ask(&mut link)?;
     let told = deliver(near, far, acts, 0, false, number)?;

@@ -20,6 +20,18 @@ pub(crate) enum Request {
 }
 
 impl Request {
+    /// Why a link would refuse it, memory apart. It takes none.
+    pub(crate) fn refusal(&self, link: &Link) -> Option<LinkFault>
+        ensures { (m : State) → StandsFor link.now m → result ≡ refusal_of m (seen_of self.now) }
+    {
+        match self {
+            Request::Connect => link.connect_refusal(),
+            Request::Send(packet) => link.send_refusal(packet),
+            Request::Disconnect => link.disconnect_refusal(),
+            Request::Tick(_) => None,
+        }
+    }
+
     /// Asks a link. One that refuses is as it was.
     pub(crate) fn ask(self, link: &mut Link) -> Result<Acts, LinkFault>
         ensures step { (m : State) → StandsFor link.old m

@@ -41,9 +41,10 @@ impl Model for World {
 impl World {
     ghost use Rattle.link_world.specs.StandsFor.{IsAlike};
     ghost use Rattle.link_world.specs.World.{World as State, first_world, step, told_by, towards, end_of};
-    ghost use Rattle.link_world.specs.Faults.{cause_in, is_there};
+    ghost use Rattle.link_world.specs.Faults.{cause_in, is_there, refused_at};
     ghost use Rattle.link_world.specs.StandsFor.{StandsFor};
     ghost use Rattle.link_world.specs.declared.fault.WorldFault.{WorldFault};
+    ghost use Rattle.link_machine.specs.declared.fault.LinkFault.{LinkFault};
 
     /// Two idle links, and nothing in flight. Refused if a window is 0, over 7 with REJ or over 4 with SREJ (AX.25
     /// 2.2 section 6.4); that of A is told first.
@@ -95,6 +96,8 @@ impl World {
             ⊎ (cause_in self.old.stopped self.new.calls w event ≡ Some fault)) }
         ensures nothing_there { (w : State) → StandsFor self.old w → self.old.stopped ≡ None
             → is_there event (length (towards (end_of event) w)) ≡ false → result ≡ Err WorldFault.NothingThere }
+        ensures link_refuses { (w : State) (fault : LinkFault) → StandsFor self.old w → self.old.stopped ≡ None
+            → refused_at event w ≡ Some fault → result ≡ Err (WorldFault.Link fault) }
         ensures stopped { (index : ℕ) → self.old.stopped ≡ Some index → result ≡ Err (WorldFault.NotQuiet index) }
 
         // All calls are counted, and the number of the one at which the world stops is kept.

@@ -1,9 +1,9 @@
 -- What added lanes hear in answers, with one answer more.
-use Rattle.std.proofs.Common.{◌≡◌, ◌≢◌, ℕ, ◌+◌, ◌*◌, ◌<◌, ◌≤◌, ◌⊎◌, ⊎_elim, inl, inr, ℤ, List, [], ◌∷◌, ◌++◌, length}
+use Rattle.std.proofs.Common.{◌≡◌, ◌≢◌, ℕ, ◌+◌, ◌<◌, ◌≤◌, ◌⊎◌, ⊎_elim, inl, inr, ℤ, List, [], ◌∷◌, ◌++◌, length}
 use Rattle.std.proofs.Common.{map, get_or, refl, ap, sym, subst, ◌∙◌, arith}
 use Rattle.std.specs.List.{All, AllPairs, Contains}
 use Rattle.std.proofs.lemmas.Bool.{cases_lt}
-use Rattle.std.proofs.lemmas.List.{length_push, length-map, get_or-map, append-nil}
+use Rattle.std.proofs.lemmas.List.{length_push, length-map, get_or-map}
 use Rattle.std.proofs.lemmas.List.Elements.{All-nil, All-map, All-append, Contains-append_left, Contains-append_right}
 use Rattle.sample_ring.specs.declared.got.Got.{Got}
 use Rattle.sample_ring.specs.declared.got.Got.TheVariants.{Item, Gap, Empty, End}
@@ -21,7 +21,7 @@ use Rattle.sensitive_receiver.specs.AddedCandidates.{IsAdded, EndsAtPlace}
 use Rattle.sensitive_receiver.proofs.FoundLemmas.{one_place, delay_small}
 use Rattle.sensitive_receiver.proofs.PrefixLanes.{ends-append, ends-take}
 use Rattle.ring_receiver.specs.AddedOnRing.{IsAddedIn, moved}
-use Rattle.ring_receiver.specs.AddedTurns.{AreAddedInStretch, AreAddedWith, AreAddedSince}
+use Rattle.ring_receiver.specs.AddedTurns.{AreAddedWith, AreAddedSince}
 use Rattle.ring_receiver.proofs.StretchWalks.{HasOne, one_more, one_less, last_one, last_or_before}
 
 -- ---- one item in one stretch

@@ -1,11 +1,10 @@
 -- Turns of the added lanes: one read after another.
-use Rattle.std.proofs.Common.{◌≡◌, ℕ, ◌+◌, ◌<◌, Bool, true, false, List, [], ◌∷◌, ◌++◌, length, map, refl, ap, sym}
+use Rattle.std.proofs.Common.{◌≡◌, ℕ, ◌+◌, ◌-◌, ◌<◌, ◌≤◌, true, false, List, [], ◌∷◌, ◌++◌, length, map, refl, ap, sym}
 use Rattle.std.proofs.Common.{subst, ◌∙◌, arith, append_assoc, inl, inr}
-use Rattle.std.specs.Prelude.{◌↔◌}
 use Rattle.std.specs.List.{All}
 use Rattle.std.proofs.lemmas.Bool.{true≢false}
 use Rattle.std.proofs.lemmas.List.{append-nil, length_push, map-append}
-use Rattle.std.proofs.lemmas.List.Elements.{All-nil, All-push}
+use Rattle.std.proofs.lemmas.List.Elements.{All-nil, All-push, All-weaker}
 use Rattle.sample_ring.specs.declared.got.Got.{Got}
 use Rattle.sample_ring.specs.declared.view.Entry.{Entry}
 use Rattle.sample_ring.specs.Ends.{position_of, reads_of, reader_ring}
@@ -14,11 +13,11 @@ use Rattle.frame_merge.specs.declared.candidate.Candidate.{Candidate}
 use Rattle.slicer_bank.specs.declared.advance.LaneGap.{LaneGap}
 use Rattle.slicer_bank.specs.RingJobs.{is_end}
 use Rattle.slicer_bank.specs.RingLanes.{answers_of}
-use Rattle.slicer_bank.specs.RingTurns.{IsReading, MeetsEnd, gaps_of, reads_on, most_reads, Leads}
+use Rattle.slicer_bank.specs.RingTurns.{gaps_of, reads_on, most_reads, Leads}
 use Rattle.slicer_bank.specs.Stretches.{last_stretch}
-use Rattle.slicer_bank.proofs.RingJobLemmas.{gaps_of-append, goes_on, meets_none, meets_last, last_meets}
-use Rattle.slicer_bank.proofs.StretchLemmas.{last-more, leads_more}
-use Rattle.sensitive_receiver.specs.Found.{CanBePut}
+use Rattle.slicer_bank.proofs.RingJobLemmas.{gaps_of-append, meets_none, meets_last, last_meets}
+use Rattle.slicer_bank.proofs.StretchLemmas.{last-more, leads_more, leads_up}
+use Rattle.sensitive_receiver.specs.Found.{CanBePut, CanBePutFrom, IsAddedFrom}
 use Rattle.ring_receiver.specs.declared.added_ring.AddedRing.{AddedRing}
 use Rattle.ring_receiver.specs.declared.added_turn.AddedTurn.{AddedTurn}
 use Rattle.ring_receiver.specs.AddedTurns.{TookAdded, AreAddedSince, WentOnAdded, MadeAddedTurn}
@@ -75,7 +74,7 @@ pub record ReadsOnAdded (len : ℕ) (before now : AddedRing) (turn : AddedTurn) 
   pub ring : reader_ring now.reader ≡ reader_ring before.reader
   pub at : now.begin + now.bank.position ≡ position_of now.reader
   pub quiet : turn.ended ≡ false
-  pub bounds : All CanBePut turn.candidates.items
+  pub bounds : All (CanBePutFrom (position_of before.reader - 17)) turn.candidates.items
   pub answers : List Got
   pub on : WentOnAdded len before now answers turn.candidates.items turn.gaps.items
   pub each : All (λ got. reads_on got ≡ true) answers
@@ -88,7 +87,8 @@ reads_none len lanes turn at none no_gaps quiet = record {
   ring = refl;
   at = at;
   quiet = quiet;
-  bounds = subst (All CanBePut) (sym none) (All-nil CanBePut);
+  bounds = (let P : Candidate → Type 0 = CanBePutFrom (position_of lanes.reader - 17) in
+      subst (All P) (sym none) (All-nil P));
   answers = [];
   on = subst (λ items. WentOnAdded len lanes lanes [] items turn.gaps.items) (sym none)
       (subst (WentOnAdded len lanes lanes [] []) (sym no_gaps) (went_none len lanes));
@@ -96,17 +96,35 @@ reads_none len lanes turn at none no_gaps quiet = record {
   counted = refl;
 }
 
+-- the reader only goes forward, so what one read more brings is not late either
+pub bounds_more : (len : ℕ) (before now : AddedRing) (was turn : AddedTurn) (count : ℕ)
+    → ReadsOnAdded len before now was count
+    → ((from : ℕ) → from ≤ position_of now.reader - 17 → All (CanBePutFrom from) was.candidates.items
+    → All (CanBePutFrom from) turn.candidates.items)
+    → All (CanBePutFrom (position_of before.reader - 17)) turn.candidates.items
+bounds_more len before now was turn count r bounds =
+    let up = leads_up (position_of before.reader) r.answers (position_of now.reader) r.on.forward in
+    bounds (position_of before.reader - 17) (omega arith) r.bounds
+
+pub can_of : (low : ℕ) (items : List Candidate) → All (CanBePutFrom low) items → All CanBePut items
+can_of low items h = All-weaker (CanBePutFrom low) CanBePut (λ item fits. fits.can) items h
+
+pub added_from : (low : ℕ) (items : List Candidate) → All (CanBePutFrom low) items → All (IsAddedFrom low) items
+added_from low items h = All-weaker (CanBePutFrom low) (IsAddedFrom low) (λ item fits. fits.from) items h
+
 pub reads_more : (len : ℕ) (before now after : AddedRing) (was turn : AddedTurn) (count : ℕ) (got : Got)
     → ReadsOnAdded len before now was count → reader_ring after.reader ≡ reader_ring now.reader
     → after.begin + after.bank.position ≡ position_of after.reader → turn.ended ≡ was.ended
-    → (All CanBePut was.candidates.items → All CanBePut turn.candidates.items) → reads_on got ≡ true
+    → ((from : ℕ) → from ≤ position_of now.reader - 17 → All (CanBePutFrom from) was.candidates.items
+    → All (CanBePutFrom from) turn.candidates.items)
+    → reads_on got ≡ true
     → TookAdded len now after got was.candidates.items turn.candidates.items was.gaps.items turn.gaps.items
     → ReadsOnAdded len before after turn (count + 1)
 reads_more len before now after was turn count got r ring at quiet bounds more t = record {
   ring = ring ∙ r.ring;
   at = at;
   quiet = quiet ∙ r.quiet;
-  bounds = bounds r.bounds;
+  bounds = bounds_more len before now was turn count r bounds;
   answers = r.answers ++ got ∷ [];
   on = went_more len before now after r.answers got was.candidates.items turn.candidates.items was.gaps.items
       turn.gaps.items r.on t;

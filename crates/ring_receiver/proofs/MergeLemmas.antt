@@ -1,5 +1,5 @@
 -- What all lanes hear of a ring, merged turn by turn.
-use Rattle.std.proofs.Common.{◌≡◌, ◌≢◌, ℕ, ◌+◌, ◌-◌, ◌*◌, ◌^◌, ◌<◌, ◌≤◌, ◌⊎◌, ⊎_elim, inl, inr, true, List, [], ◌∷◌}
+use Rattle.std.proofs.Common.{◌≡◌, ◌≢◌, ℕ, ◌-◌, ◌^◌, ◌<◌, ◌≤◌, ◌⊎◌, ⊎_elim, inl, inr, true, List, [], ◌∷◌}
 use Rattle.std.proofs.Common.{◌++◌, length, map, take, get_or, replicate, refl, ap, sym, subst, ◌∙◌, arith, zero, suc}
 use Rattle.std.specs.Prelude.{fold, min}
 use Rattle.std.specs.List.{All, AllPairs, Contains}
@@ -19,13 +19,13 @@ use Rattle.frame_merge.proofs.Forgetting.{below_then_rest}
 use Rattle.frame_merge.proofs.Merging.{merged-rising}
 use Rattle.frame_merge.proofs.Ordering.{rising_ends}
 use Rattle.slicer_bank.specs.HeardOnRing.{IsHeardIn, IsHeardOnRing, lane_of, lane_positions, least_position}
-use Rattle.slicer_bank.specs.Stretches.{Stretch, stretches, position_after}
+use Rattle.slicer_bank.specs.Stretches.{Stretch, stretches}
 use Rattle.slicer_bank.specs.RingLanes.{answers_of}
 use Rattle.slicer_bank.proofs.CandidateLemmas.{AllPairs-append}
 use Rattle.slicer_bank.proofs.MergedLemmas.{next_is}
 use Rattle.slicer_bank.proofs.MergingLemmas.{rising_strictly}
 use Rattle.slicer_bank.proofs.OrderingLemmas.{strictly_more, contains_more, all_more, below_more}
-use Rattle.slicer_bank.proofs.RingMergingLemmas.{none_on_ring, heard_still, known_or_new, stands_apart, late, small}
+use Rattle.slicer_bank.proofs.RingMergingLemmas.{none_on_ring, heard_still, known_or_new, stands_apart, late}
 use Rattle.slicer_bank.proofs.RingMergingLemmas.{least_rises}
 use Rattle.ring_receiver.specs.AddedOnRing.{IsAddedIn}
 use Rattle.ring_receiver.specs.AllMerging.{BringsByAll}

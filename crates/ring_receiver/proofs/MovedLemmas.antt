@@ -1,12 +1,12 @@
 -- Candidates moved to where their stretch begins, one after another.
-use Rattle.std.proofs.Common.{◌≡◌, ℕ, ◌+◌, ◌^◌, ◌<◌, List, [], ◌∷◌, ◌++◌, length, map, get_or, refl, ap, sym, subst}
+use Rattle.std.proofs.Common.{◌≡◌, ℕ, ◌+◌, ◌^◌, ◌<◌, ◌≤◌, List, [], ◌∷◌, ◌++◌, length, map, get_or, ap, sym, subst}
 use Rattle.std.proofs.Common.{◌∙◌, arith, append_assoc, length-append}
 use Rattle.std.specs.List.{All}
 use Rattle.std.proofs.lemmas.List.{append-nil, nil_from_length, map-append}
 use Rattle.std.proofs.lemmas.List.Elements.{All-append, All-map}
 use Rattle.std.proofs.Math.Seq.{get_or-append_seam}
 use Rattle.frame_merge.specs.declared.candidate.Candidate.{Candidate}
-use Rattle.sensitive_receiver.specs.Found.{CanBePut, HasRoom}
+use Rattle.sensitive_receiver.specs.Found.{CanBePutFrom, HasRoom, IsAddedFrom}
 use Rattle.ring_receiver.specs.AddedOnRing.{moved}
 
 -- so many of the candidates that were heard are moved and found, and so many others are left
@@ -42,13 +42,18 @@ next_has_room begin before found all items left rest count item h is each =
     subst HasRoom (ap (λ t. get_or t (length items) item) (sym whole) ∙ get_or-append_seam items item rest item)
     (each (length items) item within)
 
--- what is moved can be put into a merger
-pub moved_bounds : (begin : ℕ) (before found heard : List Candidate) → begin < 2 ^ 48
-    → found ≡ before ++ map (moved begin) heard → All HasRoom heard → All CanBePut before → All CanBePut found
-moved_bounds begin before found heard small is room can =
-    subst (All CanBePut) (sym is) (All-append CanBePut before (map (moved begin) heard) can
-    (All-map CanBePut (moved begin) heard (λ k d l.
+-- what is moved can be put into a merger, and does not end below where it was heard, moved too
+pub moved_bounds : (begin low from : ℕ) (before found heard : List Candidate) → begin < 2 ^ 48
+    → found ≡ before ++ map (moved begin) heard → All HasRoom heard → from ≤ begin + low → All (IsAddedFrom low) heard
+    → All (CanBePutFrom from) before → All (CanBePutFrom from) found
+moved_bounds begin low from before found heard small is room under late can =
+    let P : Candidate → Type 0 = CanBePutFrom from in
+    subst (All P) (sym is) (All-append P before (map (moved begin) heard) can
+    (All-map P (moved begin) heard (λ k d l.
     let r = room k d l in
-    let lane = r.lane in
     let end = r.end in
-    record { lane = lane; end = omega arith })))
+    let ends = (late k d l).end in
+    record {
+      can = record { lane = r.lane; end = omega arith };
+      from = record { lane = (late k d l).lane; end = omega arith };
+    })))

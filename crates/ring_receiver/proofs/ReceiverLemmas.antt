@@ -21,7 +21,9 @@ use Rattle.slicer_bank.specs.RingLanes.{HeldRingBank, answers_of, Listens, reade
 use Rattle.slicer_bank.specs.RingLanes.{records_in as records_of_bank, positions_in as positions_of_bank}
 use Rattle.slicer_bank.specs.RingLanes.{answers_in as answers_of_bank}
 use Rattle.slicer_bank.specs.RingMerging.{HasMerged}
-use Rattle.slicer_bank.specs.RingTurns.{AreGrown, IsTurn, BringsOnRing}
+use Rattle.slicer_bank.specs.RingTurns.{AreGrown, ArePast, IsTurn, BringsOnRing}
+use Rattle.slicer_bank.specs.Merging.{CanBePut as CanBePutOfEight, AreInTime}
+use Rattle.sensitive_receiver.specs.Found.{CanBePut, IsAddedFrom}
 use Rattle.slicer_bank.specs.Stretches.{position_after}
 use Rattle.slicer_bank.proofs.RingMergingLemmas.{least_rises}
 use Rattle.slicer_bank.proofs.StretchLemmas.{leads_position, leads_up}
@@ -303,4 +305,44 @@ marks_added old added was position many step forward lane low most =
     ∙ ap (λ i. get_or (positions_of_bank old ++ replicate 15 mark) i 0) at
     ∙ get_or-append-add (positions_of_bank old) (replicate 15 mark) (lane - 8) 0
     ∙ get_or-replicate 15 (lane - 8) mark 0 (omega arith) in
+    omega arith
+
+-- ---- what a turn brings is not late
+
+pub eight_in_time : (old : HeldRingBank) (was : HeldMerger) (items : List Candidate) → AreInStep old None was
+    → ArePast (positions_of_bank old) items → AreInTime was.marks items
+eight_in_time old was items step past = λ k d l.
+    let is = past k d l in
+    subst (λ (m : List ℕ). get_or m (get_or items k d).offset 0 ≤ (get_or items k d).end) (sym step.marks) (omega arith)
+
+pub eight_in_time_of_all : (old : HeldRingBank) (added : AddedRing) (was : HeldMerger) (items : List Candidate)
+    → length (readers_of_bank old) ≡ 8 → AreInStep old (Some added) was → All CanBePutOfEight items
+    → ArePast (positions_of_bank old) items → AreInTime was.marks items
+eight_in_time_of_all old added was items many step can past = λ k d l.
+    let item : Candidate = get_or items k d in
+    let size = length-map (readers_of_bank old) position_of in
+    let is = past k d l in
+    let lane = (can k d l).lane in
+    let here : get_or was.marks item.offset 0 ≡ get_or (positions_of_bank old) item.offset 0 =
+    ap (λ (m : List ℕ). get_or m item.offset 0) step.marks
+    ∙ get_or_append_left (positions_of_bank old) (replicate 15 (position_of added.reader - 17)) 0 item.offset
+    (omega arith) in
+    omega arith
+
+pub added_in_time : (old : HeldRingBank) (added : AddedRing) (was : HeldMerger) (items : List Candidate)
+    → length (readers_of_bank old) ≡ 8 → AreInStep old (Some added) was → All CanBePut items
+    → All (IsAddedFrom (position_of added.reader - 17)) items → AreInTime was.marks items
+added_in_time old added was items many step can late = λ k d l.
+    let item : Candidate = get_or items k d in
+    let end = (late k d l).end in
+    let size = length-map (readers_of_bank old) position_of in
+    let low = (late k d l).lane in
+    let most = (can k d l).lane in
+    let mark : ℕ = position_of added.reader - 17 in
+    let at : item.offset ≡ length (positions_of_bank old) + (item.offset - 8) = omega arith in
+    let is : get_or was.marks item.offset 0 ≡ mark
+    = ap (λ (m : List ℕ). get_or m item.offset 0) step.marks
+    ∙ ap (λ i. get_or (positions_of_bank old ++ replicate 15 mark) i 0) at
+    ∙ get_or-append-add (positions_of_bank old) (replicate 15 mark) (item.offset - 8) 0
+    ∙ get_or-replicate 15 (item.offset - 8) mark 0 (omega arith) in
     omega arith

@@ -1,5 +1,5 @@
 -- One turn of nine readers: that of the first eight and that of the last.
-use Rattle.std.proofs.Common.{◌≡◌, ℕ, ◌+◌, ◌-◌, ◌<◌, ◌≤◌, Bool, true, false, ◌&&◌, ◌↔◌, List, [], ◌∷◌, ◌++◌, length}
+use Rattle.std.proofs.Common.{◌≡◌, ℕ, ◌+◌, ◌-◌, ◌<◌, Bool, true, false, ◌&&◌, ◌↔◌, List, [], ◌∷◌, ◌++◌, length}
 use Rattle.std.proofs.Common.{get_or, take, map, refl, ap, sym, subst, ◌∙◌, arith, append_assoc, inl, inr}
 use Rattle.std.specs.Prelude.{fold, min, ◌^◌}
 use Rattle.std.specs.List.{All}
@@ -18,7 +18,7 @@ use Rattle.slicer_bank.specs.RingTurns.{IsReading, MeetsEnd, gaps_of, gaps_from,
 use Rattle.slicer_bank.specs.Stretches.{position_after}
 use Rattle.ring_receiver.specs.AddedTurns.{AreAddedSince}
 use Rattle.ring_receiver.specs.AllMerging.{BringsByAll}
-use Rattle.ring_receiver.specs.Turns.{AreGrownBy, AreAnsweredMore, IsTurnOf}
+use Rattle.ring_receiver.specs.Turns.{AreGrownBy, IsTurnOf}
 
 -- ---- lists of nine
 

@@ -33,13 +33,13 @@ pub struct AddedRing {
 }
 
 impl AddedRing {
-    ghost use Rattle.std.specs.Prelude.{ℕ, ◌+◌, ◌-◌, ◌<◌, ◌^◌, List, ◌∷◌, ◌++◌, length, true, IfOk, OnOk};
+    ghost use Rattle.std.specs.Prelude.{ℕ, ◌+◌, ◌-◌, ◌<◌, ◌≤◌, ◌^◌, List, ◌∷◌, ◌++◌, length, true, IfOk, OnOk};
     ghost use Rattle.std.specs.List.{All};
     ghost use Rattle.sample_ring.specs.declared.view.Entry.{Entry};
     ghost use Rattle.frame_merge.specs.declared.candidate.Candidate.{Candidate};
     ghost use Rattle.sample_ring.specs.Ends.{IsNew, ring_id, ring_len, reader_ring, position_of, reads_of};
     ghost use Rattle.slicer_bank.specs.Stretches.{Stretch, stretch_at, with_sample};
-    ghost use Rattle.sensitive_receiver.specs.Found.{CanBePut};
+    ghost use Rattle.sensitive_receiver.specs.Found.{CanBePut, CanBePutFrom, IsAddedFrom};
     ghost use Rattle.tone_tracking.specs.Heard.{places_in};
     ghost use Rattle.ring_receiver.specs.AddedTurns.{AreAddedInStretch, TookAdded, MadeAddedTurn};
     ghost use Rattle.ring_receiver.specs.HeldReceiver.{StandsForStretch, AddedListens};
@@ -76,6 +76,8 @@ impl AddedRing {
         ensures made { IfOk result (λ turn. MadeAddedTurn (ring_len ring.now) self.old self.new turn) }
         ensures at { OnOk result (self.new.begin + self.new.bank.position ≡ position_of self.new.reader) }
         ensures bounds { IfOk result (λ turn. All CanBePut turn.candidates.items) }
+        ensures late { IfOk result (λ turn.
+            All (IsAddedFrom (position_of self.old.reader - 17)) turn.candidates.items) }
     {
         let mut turn = AddedTurn {
             candidates: Vec::new(self.alloc),
@@ -104,7 +106,9 @@ impl AddedRing {
         ensures took { IfOk result (λ got. TookAdded (ring_len ring.now) self.old self.new got
             turn.old.candidates.items turn.new.candidates.items turn.old.gaps.items turn.new.gaps.items) }
         ensures at { OnOk result (self.new.begin + self.new.bank.position ≡ position_of self.new.reader) }
-        ensures bounds { OnOk result (All CanBePut turn.old.candidates.items → All CanBePut turn.new.candidates.items) }
+        ensures bounds { (from : ℕ) → from ≤ position_of self.old.reader - 17
+            → OnOk result (All (CanBePutFrom from) turn.old.candidates.items
+            → All (CanBePutFrom from) turn.new.candidates.items) }
         ensures ended { turn.new.ended ≡ turn.old.ended }
     {
         let got = self.reader.read(ring);
@@ -131,7 +135,8 @@ impl AddedRing {
         ensures found { OnOk result ((items : List Candidate) × (found.new.items ≡ found.old.items ++ items)
             × ((s : Stretch) → StandsForStretch self.old s → AreAddedInStretch (places_in (length s.samples))
             (places_in (length (s.samples ++ sample ∷ []))) (with_sample s sample) items)) }
-        ensures bounds { OnOk result (All CanBePut found.old.items → All CanBePut found.new.items) }
+        ensures bounds { (from : ℕ) → from ≤ (self.old.begin + self.old.bank.position) - 17
+            → OnOk result (All (CanBePutFrom from) found.old.items → All (CanBePutFrom from) found.new.items) }
         ensures reader { self.new.reader ≡ self.old.reader }
         ensures position { OnOk result (self.new.begin + self.new.bank.position
             ≡ self.old.begin + self.old.bank.position + 1) }

@@ -6,7 +6,7 @@ ghost use Rattle.std.specs.List.{All};
 ghost use Rattle.sample_ring.specs.declared.got.Got.{Got};
 ghost use Rattle.frame_merge.specs.declared.candidate.Candidate.{Candidate};
 ghost use Rattle.frame_merge.specs.Held.{StandsFor, least};
-ghost use Rattle.slicer_bank.specs.Merging.{CanBePut as CanBePutOfEight};
+ghost use Rattle.slicer_bank.specs.Merging.{CanBePut as CanBePutOfEight, AreInTime};
 ghost use Rattle.sensitive_receiver.specs.Found.{CanBePut};
 ghost use Rattle.ring_receiver.specs.AllMerging.{BringsByAll};
 ghost use Rattle.ring_receiver.specs.HeardByAll.{AreMergedBy, AreRestBy, settled_position};
@@ -34,6 +34,8 @@ pub(crate) fn merge_all(
     requires position { (lane : ℕ) → 8 ≤ lane → lane < 23 → slice_index merger.old.marks lane ≤ position - 17 }
     requires eight { All CanBePutOfEight eight.items }
     requires added { All CanBePut added.items }
+    requires eight_in_time { AreInTime merger.old.marks eight.items }
+    requires added_in_time { AreInTime merger.old.marks added.items }
     ensures heard { IfOk result (λ items. ended ≡ false → (before now : List (List Got))
         → HasMergedBy true merger.old before
         → BringsByAll before now positions.now position eight.items added.items

@@ -1,8 +1,8 @@
 //! From places in a stretch of samples to places in the whole input.
 
-ghost use Rattle.std.specs.Prelude.{◌≡◌, ◌++◌, ◌<◌, ◌^◌, map, OnOk};
+ghost use Rattle.std.specs.Prelude.{◌≡◌, ℕ, ◌+◌, ◌++◌, ◌<◌, ◌≤◌, ◌^◌, map, OnOk};
 ghost use Rattle.std.specs.List.{All};
-ghost use Rattle.sensitive_receiver.specs.Found.{CanBePut, HasRoom};
+ghost use Rattle.sensitive_receiver.specs.Found.{CanBePutFrom, HasRoom, IsAddedFrom};
 ghost use Rattle.ring_receiver.specs.AddedOnRing.{moved};
 
 use frame_merge::Candidate;
@@ -17,7 +17,8 @@ pub(crate) fn add_moved(
     requires begin { begin < 2 ^ 48 }
     requires room { All HasRoom heard.items }
     ensures found { OnOk result (found.new.items ≡ found.old.items ++ map (moved begin) heard.items) }
-    ensures bounds { OnOk result (All CanBePut found.old.items → All CanBePut found.new.items) }
+    ensures bounds { (low from : ℕ) → from ≤ begin + low → All (IsAddedFrom low) heard.items
+        → OnOk result (All (CanBePutFrom from) found.old.items → All (CanBePutFrom from) found.new.items) }
 {
     for item in heard {
         found.push(Candidate {

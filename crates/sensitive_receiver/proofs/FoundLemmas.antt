@@ -11,7 +11,7 @@ use Rattle.hdlc_framer.specs.Frames.{EndsFrame}
 use Rattle.slicer_bank.proofs.CandidateLemmas.{AllPairs-append}
 use Rattle.sensitive_receiver.specs.Lanes.{delay_of, lane_bits}
 use Rattle.sensitive_receiver.specs.AddedCandidates.{EndsAtPlace}
-use Rattle.sensitive_receiver.specs.Found.{AreAddedWhere, AddsWhere, AddsAt, AddsBelow, AddsBetween, HasRoom}
+use Rattle.sensitive_receiver.specs.Found.{AreAddedWhere, AddsWhere, AddsAt, AddsBelow, AddsBetween, HasRoomFrom}
 
 abbrev Apart : Candidate → Candidate → Type 0
 Apart item later = standing item ≢ standing later
@@ -117,10 +117,11 @@ adds_one x place lane before after item is of ends unique =
     }
 
 -- what was found has room to be moved, and so has one item more
-pub bounds_more : (found after : List Candidate) (item : Candidate) → after ≡ found ++ item ∷ [] → HasRoom item
-    → All HasRoom found → All HasRoom after
-bounds_more found after item is can all = subst (All HasRoom) (sym is)
-    (All-append HasRoom found (item ∷ []) all (All-cons HasRoom item [] can (All-nil HasRoom)))
+pub bounds_more : (low : ℕ) (found after : List Candidate) (item : Candidate) → after ≡ found ++ item ∷ []
+    → HasRoomFrom low item → All (HasRoomFrom low) found → All (HasRoomFrom low) after
+bounds_more low found after item is can all =
+    let P : Candidate → Type 0 = HasRoomFrom low in
+    subst (All P) (sym is) (All-append P found (item ∷ []) all (All-cons P item [] can (All-nil P)))
 
 -- what the lanes below one find at a place, and what that one finds there
 pub adds_next_lane : (place lane : ℕ) (x : List ℤ) (before found after : List Candidate)

@@ -5,7 +5,7 @@ use Rattle.std.proofs.lemmas.List.{length-set}
 use Rattle.frame_merge.specs.declared.candidate.Candidate.{Candidate}
 use Rattle.tone_tracking.specs.HeldLists.{HeldLists}
 use Rattle.sensitive_receiver.specs.declared.readings.Readings.{Readings}
-use Rattle.sensitive_receiver.specs.Found.{AddsAt, HasRoom}
+use Rattle.sensitive_receiver.specs.Found.{AddsAt, HasRoomFrom}
 use Rattle.sensitive_receiver.specs.Hearing.{LanesHear}
 use Rattle.sensitive_receiver.specs.HeldLanes.{HeldLane, LaneStandsFor, LanesHaveRead, IsLastPlace}
 use Rattle.sensitive_receiver.specs.Lanes.{lane_tones}
@@ -33,7 +33,7 @@ pub record Visited (lists : HeldLists) (readings : Readings) (old now : List Hel
   pub least : first ≤ n
   pub size : length now ≡ 15
   pub hear : LanesHear first n lists readings old now before after
-  pub bounds : All HasRoom before → All HasRoom after
+  pub bounds : (low : ℕ) → low ≤ readings.place + 6 → All (HasRoomFrom low) before → All (HasRoomFrom low) after
 
 pub visited_none : (lists : HeldLists) (readings : Readings) (lanes : List HeldLane) (found : List Candidate)
     (first : ℕ)
@@ -46,7 +46,7 @@ visited_none lists readings lanes found first size = record {
     read = λ x last h. h;
     found = λ x last h. adds_nobody readings.place first x found;
   };
-  bounds = λ h. h;
+  bounds = λ low under h. h;
 }
 
 module _ (lists : HeldLists) (readings : Readings) (old now : List HeldLane) (before found after : List Candidate)
@@ -58,7 +58,7 @@ module _ (lists : HeldLists) (readings : Readings) (old now : List HeldLane) (be
     (adds : (x : List ℤ) → IsLastPlace lists readings x
     → LaneStandsFor (get_or now n was) (lane_tones x (8 + n) readings.place)
     → AddsAt readings.place (8 + n) x found after)
-    (bound : All HasRoom found → All HasRoom after) where
+    (bound : (low : ℕ) → low ≤ readings.place + 6 → All (HasRoomFrom low) found → All (HasRoomFrom low) after) where
   pub visited_more : Visited lists readings old (set now n lane) before after first (n + 1)
   visited_more =
       let least = h.least in
@@ -72,5 +72,5 @@ module _ (lists : HeldLists) (readings : Readings) (old now : List HeldLane) (be
               (h.hear.found x last start)
               (adds x last (lane_before readings.place n now was x l (h.hear.read x last start)));
         };
-        bounds = λ all. bound (h.bounds all);
+        bounds = λ low under all. bound low under (h.bounds low under all);
       }

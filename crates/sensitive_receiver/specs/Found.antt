@@ -15,6 +15,21 @@ pub record HasRoom (item : Candidate) : Type 0 where
   pub lane : item.offset < 23
   pub end : item.end < 2 ^ 49
 
+-- the candidate is of an added lane, and does not end below a position
+pub record IsAddedFrom (low : ℕ) (item : Candidate) : Type 0 where
+  pub lane : 8 ≤ item.offset
+  pub end : low ≤ item.end
+
+-- it may be put into a merger of 23 lanes besides
+pub record CanBePutFrom (low : ℕ) (item : Candidate) : Type 0 where
+  pub can : CanBePut item
+  pub from : IsAddedFrom low item
+
+-- it has room to be moved besides
+pub record HasRoomFrom (low : ℕ) (item : Candidate) : Type 0 where
+  pub room : HasRoom item
+  pub from : IsAddedFrom low item
+
 -- the items are all that the added lanes hear at a place and in a lane of some kind, each once, in any order
 pub record AreAddedWhere (Of : ℕ → ℕ → Type 0) (x : List ℤ) (items : List Candidate) : Type 0 where
   pub each : All (λ item. (place : ℕ) × Of place item.offset × EndsAtPlace x item place) items

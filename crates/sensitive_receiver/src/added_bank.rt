@@ -1,9 +1,9 @@
 //! The fifteen lanes that are added to one for each offset of a bit.
 
-ghost use Rattle.std.specs.Prelude.{◌≡◌, ◌+◌, ◌<◌, ◌^◌, ℤ, pos, List, [], ◌++◌, length, IfOk, OnOk, slice_index_or};
+ghost use Rattle.std.specs.Prelude.{◌≡◌, ◌+◌, ◌-◌, ◌<◌, ◌≤◌, ◌^◌, ℕ, ℤ, pos, List, [], ◌++◌, length, IfOk, OnOk, slice_index_or};
 ghost use Rattle.std.specs.List.{All};
 ghost use Rattle.tone_tracking.specs.Heard.{places_in};
-ghost use Rattle.sensitive_receiver.specs.Found.{AddsBetween, AreAddedBetween, HasRoom};
+ghost use Rattle.sensitive_receiver.specs.Found.{AddsBetween, AreAddedBetween, HasRoom, HasRoomFrom, IsAddedFrom};
 ghost use Rattle.sensitive_receiver.specs.HeldLanes.{HasTaken, LanesHaveRead, StandsFor};
 
 use crate::hearing::hear_place;
@@ -73,6 +73,7 @@ impl AddedBank {
             × AreAddedBetween (places_in (length x)) (places_in (length (x ++ block.now)))
             (x ++ block.now) found.items) }
         ensures bounds { IfOk result (λ found. All HasRoom found.items) }
+        ensures late { IfOk result (λ found. All (IsAddedFrom (self.old.position - 17)) found.items) }
         ensures position { OnOk result (self.new.position ≡ self.old.position + length block.now) }
     {
         let mut found = Vec::new(self.alloc);
@@ -91,7 +92,8 @@ impl AddedBank {
             → sample ≡ slice_index_or x self.old.position (pos 0)
             → AddsBetween (places_in self.old.position) (places_in (self.old.position + 1)) x
             found.old.items found.new.items) }
-        ensures bounds { OnOk result (All HasRoom found.old.items → All HasRoom found.new.items) }
+        ensures bounds { (low : ℕ) → low ≤ self.old.position - 17
+            → OnOk result (All (HasRoomFrom low) found.old.items → All (HasRoomFrom low) found.new.items) }
         ensures position { self.new.position ≡ self.old.position + 1 }
     {
         let decided = self.lists.push(sample);

@@ -5,7 +5,7 @@ ghost use Rattle.std.specs.Prelude.{OnOk, OnErr};
 ghost use Rattle.std.specs.List.{All};
 ghost use Rattle.slicer_bank.specs.Candidates.{AreCandidatesBehind};
 ghost use Rattle.slicer_bank.specs.Held.{HeldBank, StandsFor as BankStandsFor};
-ghost use Rattle.slicer_bank.specs.Merging.{CanBePut as CanBePutOfEight};
+ghost use Rattle.slicer_bank.specs.Merging.{CanBePut as CanBePutOfEight, AllPast};
 ghost use Rattle.slicer_bank.specs.Progress.{Finishes, TakesBlock};
 ghost use Rattle.sensitive_receiver.specs.HeldDecoder.{HaveTaken, StandsFor, progress};
 ghost use Rattle.sensitive_receiver.specs.MergedItems.{AreMergedBetween, settled};
@@ -113,6 +113,7 @@ impl SensitiveDecoder {
     ) -> Result<Vec<Candidate>, OutOfMemory>
         requires room { self.old.position + length block.now < 2 ^ 48 }
         requires items { All CanBePutOfEight found.items }
+        requires past { AllPast self.old.position found.items }
         requires spent { self.old.spent ≡ true }
         requires marks { self.old.merger.marks ≡ replicate 23 (settled self.old.position) }
         requires bank { self.old.bank.position ≡ self.old.position + length block.now }

@@ -8,7 +8,7 @@ ghost use Rattle.tone_tracking.specs.Clock.{changes};
 ghost use Rattle.tone_tracking.specs.Heard.{places_in};
 ghost use Rattle.tone_tracking.specs.HeldLists.{HasTaken as ListsHaveTaken};
 ghost use Rattle.sensitive_receiver.specs.AddedCandidates.{is_in_time};
-ghost use Rattle.sensitive_receiver.specs.Found.{AddsAt, AddsBelow, HasRoom};
+ghost use Rattle.sensitive_receiver.specs.Found.{AddsAt, AddsBelow, HasRoomFrom};
 ghost use Rattle.sensitive_receiver.specs.HeldLanes.{HoldsFrameOf, IsLastPlace};
 ghost use Rattle.sensitive_receiver.specs.HeldLanes.{LaneStandsFor, LanesHaveRead};
 ghost use Rattle.sensitive_receiver.specs.Hearing.{LanesHear};
@@ -40,7 +40,8 @@ pub(crate) fn hear_place(
     ensures found { OnOk result ((x : List ℤ) → IsLastPlace lists.now readings.now x
         → LanesHaveRead lanes.old readings.now.place x
         → AddsBelow readings.now.place 23 x found.old.items found.new.items) }
-    ensures bounds { OnOk result (All HasRoom found.old.items → All HasRoom found.new.items) }
+    ensures bounds { (low : ℕ) → low ≤ readings.now.place + 6
+        → OnOk result (All (HasRoomFrom low) found.old.items → All (HasRoomFrom low) found.new.items) }
 {
     hear_fixed(alloc, lists, lanes, readings, found)?;
     // Lanes 16 to 18 follow one clock, lanes 19 to 21 another, and lane 22 a third.
@@ -63,7 +64,8 @@ fn hear_fixed(
     ensures lanes { length lanes.new ≡ 15 }
     ensures hear { OnOk result (LanesHear 0 8 lists.now readings.now
         lanes.old lanes.new found.old.items found.new.items) }
-    ensures bounds { OnOk result (All HasRoom found.old.items → All HasRoom found.new.items) }
+    ensures bounds { (low : ℕ) → low ≤ readings.now.place + 6
+        → OnOk result (All (HasRoomFrom low) found.old.items → All (HasRoomFrom low) found.new.items) }
 {
     let index = (readings.place % 8) as u8;
     let lane = &mut lanes[usize::from(index)];
@@ -90,7 +92,8 @@ fn hear_clocked(
     ensures lanes { length lanes.new ≡ 15 }
     ensures hear { OnOk result (LanesHear first end lists.now readings.now
         lanes.old lanes.new found.old.items found.new.items) }
-    ensures bounds { OnOk result (All HasRoom found.old.items → All HasRoom found.new.items) }
+    ensures bounds { (low : ℕ) → low ≤ readings.now.place + 6
+        → OnOk result (All (HasRoomFrom low) found.old.items → All (HasRoomFrom low) found.new.items) }
 {
     if !readings.are_for(FIRST + first) {
         return Ok(());
@@ -121,7 +124,8 @@ fn hear(
     ensures found { OnOk result ((x : List ℤ) → IsLastPlace lists.now readings.now x
         → LaneStandsFor lane.old (lane_tones x number readings.now.place)
         → AddsAt readings.now.place number x found.old.items found.new.items) }
-    ensures bounds { OnOk result (All HasRoom found.old.items → All HasRoom found.new.items) }
+    ensures bounds { (low : ℕ) → low ≤ readings.now.place + 6
+        → OnOk result (All (HasRoomFrom low) found.old.items → All (HasRoomFrom low) found.new.items) }
 {
     let tone = lists.tone_before(list_of(number), delay_of(number));
     if !lane.push(tone) {
@@ -149,7 +153,8 @@ fn add_frame(
     ensures found { OnOk result ((x : List ℤ) → IsLastPlace lists.now readings.now x
         → HoldsFrameOf lane.now (lane_bits x number (readings.now.place + 1))
         → AddsAt readings.now.place number x found.old.items found.new.items) }
-    ensures bounds { OnOk result (All HasRoom found.old.items → All HasRoom found.new.items) }
+    ensures bounds { (low : ℕ) → low ≤ readings.now.place + 6
+        → OnOk result (All (HasRoomFrom low) found.old.items → All (HasRoomFrom low) found.new.items) }
 {
     if !ends_in_time(lists, number) {
         return Ok(());

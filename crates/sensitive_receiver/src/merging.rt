@@ -7,8 +7,8 @@ ghost use Rattle.frame_merge.specs.declared.candidate.Candidate.{Candidate};
 ghost use Rattle.frame_merge.specs.Held.{StandsFor};
 ghost use Rattle.slicer_bank.specs.Candidates.{AreCandidatesBehind};
 ghost use Rattle.slicer_bank.specs.Held.{HeldBank, StandsFor as BankStandsFor};
-ghost use Rattle.slicer_bank.specs.Merging.{CanBePut as CanBePutOfEight};
-ghost use Rattle.sensitive_receiver.specs.Found.{AreAddedBetween, CanBePut, HasRoom};
+ghost use Rattle.slicer_bank.specs.Merging.{CanBePut as CanBePutOfEight, AllPast, AreInTime};
+ghost use Rattle.sensitive_receiver.specs.Found.{AreAddedBetween, CanBePut, HasRoom, IsAddedFrom};
 ghost use Rattle.sensitive_receiver.specs.HeldDecoder.{HaveTaken};
 ghost use Rattle.sensitive_receiver.specs.HeldLanes.{HeldBank as HeldAdded, StandsFor as AddedStandsFor};
 ghost use Rattle.sensitive_receiver.specs.MergedItems.{AreMergedBetween, settled};
@@ -31,6 +31,8 @@ pub(crate) fn merge_block(
     requires room { position + count < 2 ^ 48 }
     requires found { All CanBePutOfEight found.items }
     requires added { All HasRoom added.items }
+    requires past { AllPast position found.items }
+    requires late { All (IsAddedFrom (settled position)) added.items }
     requires marks { merger.old.marks ≡ replicate 23 (settled position) }
     ensures given { IfOk result (λ ready. (old new : HeldBank) (before after : HeldAdded) (x y : List ℤ)
         → length x ≡ position → length y ≡ count
@@ -49,19 +51,17 @@ pub(crate) fn merge_block(
     Ok(ready)
 }
 
-/// Puts candidates into a merger of 23 lanes, in their order. None of them ends below the mark of its lane.
+/// Puts candidates into a merger of 23 lanes, in their order.
 pub fn put_all(merger: &mut Merger, items: Vec<Candidate>) -> Result<(), OutOfMemory>
     requires marks { length merger.old.marks ≡ 23 }
     requires items { All CanBePut items.items }
+    requires in_time { AreInTime merger.old.marks items.items }
     ensures stands_for { OnOk result ((puts given : List Candidate) → StandsFor merger.old puts given
         → StandsFor merger.new (puts ++ items.items) given) }
     ensures marks { merger.new.marks ≡ merger.old.marks }
 {
     for item in items {
-        // No item is late, so want of memory is the one refusal.
-        let Ok(()) = merger.put(item) else {
-            return Err(OutOfMemory);
-        };
+        merger.put_in_time(item)?;
     }
     Ok(())
 }

@@ -9,7 +9,7 @@ use Rattle.frame_merge.specs.declared.candidate.Candidate.{Candidate}
 use Rattle.slicer_bank.specs.Candidates.{IsCandidate, AreCandidatesBehind}
 use Rattle.slicer_bank.specs.Held.{HeldLane}
 use Rattle.slicer_bank.specs.Heard.{AreAlike, AreOfWindows, LanesKeep, LanesKeepFit}
-use Rattle.slicer_bank.specs.Merging.{CanBePut}
+use Rattle.slicer_bank.specs.Merging.{CanBePutPast}
 use Rattle.slicer_bank.proofs.CandidateLemmas.{end_within}
 use Rattle.slicer_bank.proofs.GatheringLemmas.{flat_all, flat_contains, some_of, stands_in_order}
 
@@ -27,10 +27,10 @@ GaveHeard offset was lane = AreAlike lane was × ((items : List Candidate) × (w
 module _ (lanes : List HeldLane) (eight : length lanes ≡ 8) (heard : (k : ℕ) (d : HeldLane) → k < 8
     → (items : List Candidate) × ((get_or lanes k d).heard ≡ Some items))
     (sorted : List Candidate) (moved : IsPermutation (flat_map heard_by lanes) sorted) where
-  pub fit_there : LanesKeepFit lanes → All CanBePut sorted
-  fit_there keep = All-permutation CanBePut (flat_map heard_by lanes) sorted moved
-      (flat_all CanBePut heard_by lanes (λ k d l. let h = heard k d (omega arith) in
-      subst (All CanBePut) (sym (ap items_of h.1)) (keep k d h.0 (omega arith) h.1)))
+  pub fit_there : (position : ℕ) → LanesKeepFit position lanes → All (CanBePutPast position) sorted
+  fit_there position keep = All-permutation (CanBePutPast position) (flat_map heard_by lanes) sorted moved
+      (flat_all (CanBePutPast position) heard_by lanes (λ k d l. let h = heard k d (omega arith) in
+      subst (All (CanBePutPast position)) (sym (ap items_of h.1)) (keep k d h.0 (omega arith) h.1)))
 
   pub lanes_in_order : (position : ℕ) (x : List ℤ) → IsNonDecreasingBy (λ item. item.end) sorted
       → LanesKeep position x lanes → AreCandidatesBehind position x sorted

@@ -4,6 +4,8 @@ use Rattle.std.specs.Prelude.{Result, IfOk, OnOk}
 use Rattle.std.specs.declared.result.Result.TheVariants.{Ok, Err}
 use Rattle.std.specs.List.{All}
 use Rattle.std.proofs.Math.Seq.{take-append_seam}
+use Rattle.std.proofs.lemmas.List.Elements.{All-weaker}
+use Rattle.std.proofs.lemmas.Result.{IfOk-weaker}
 use Rattle.frame_merge.specs.declared.candidate.Candidate.{Candidate}
 use Rattle.slicer_bank.specs.Candidates.{AreCandidatesBehind}
 use Rattle.std.proofs.Common.{◌<◌, Some, get_or}
@@ -12,7 +14,7 @@ use Rattle.hdlc_framer.specs.Held.{StandsFor as DeframerStandsFor, flags_asked}
 use Rattle.offset_slicers.specs.Windows.{tones_at}
 use Rattle.slicer_bank.specs.Held.{HeldBank, HeldLane, StandsFor, LanesStandFor, AsksFor, last_seven}
 use Rattle.slicer_bank.specs.Heard.{HearsAlone, LanesKeep, LanesAreAlike}
-use Rattle.slicer_bank.specs.Merging.{CanBePut}
+use Rattle.slicer_bank.specs.Merging.{CanBePut, CanBePutPast, AllPast}
 
 -- the lanes that were lent come back as they were left
 pub given_back : (n : ℕ) (lanes before : List HeldLane) → n ≡ length lanes
@@ -70,7 +72,7 @@ module _ {V : Type 0} (items_of : V → List Candidate) (was new : HeldBank) (le
 -- what a lane does in its job: it hears a block by itself
 pub record DidJob (position : ℕ) (seven block : List ℤ) (offset : ℕ) (was lane : HeldLane) : Type 0 where
   pub heard : HearsAlone offset position seven block was lane
-  pub fit : (items : List Candidate) → lane.heard ≡ Some items → All CanBePut items
+  pub fit : (items : List Candidate) → lane.heard ≡ Some items → All (CanBePutPast position) items
   pub asks : flags_asked lane.deframer ≡ flags_asked was.deframer
 
 -- lanes that heard a block each by itself, and then gave what they heard
@@ -111,3 +113,27 @@ gathered items_of position old mid new recent after block each last (Ok found) k
   last x is,
   are position (x ++ block) (each_keeps position old mid new recent block each kept alike x size is stand),
 )
+
+-- what can be put into a merger past a position can be put into one, and ends past it
+can_all : (position : ℕ) (items : List Candidate) → All (CanBePutPast position) items → All CanBePut items
+can_all position items h = All-weaker (CanBePutPast position) CanBePut (λ item fits. fits.can) items h
+
+past_all : (position : ℕ) (items : List Candidate) → All (CanBePutPast position) items → AllPast position items
+past_all position items h =
+    All-weaker (CanBePutPast position) (λ item. position < item.end) (λ item fits. fits.past) items h
+
+pub bounds_of : {V E : Type 0} (items_of : V → List Candidate) (position : ℕ) (result heard : Result V E)
+    → result ≡ heard → IfOk heard (λ found. All (CanBePutPast position) (items_of found))
+    → IfOk result (λ found. All CanBePut (items_of found))
+bounds_of items_of position result heard same h =
+    IfOk-weaker result (λ found. All (CanBePutPast position) (items_of found)) (λ found. All CanBePut (items_of found))
+    (λ found fits. can_all position (items_of found) fits)
+    (subst (λ r. IfOk r (λ found. All (CanBePutPast position) (items_of found))) (sym same) h)
+
+pub past_of : {V E : Type 0} (items_of : V → List Candidate) (position : ℕ) (result heard : Result V E)
+    → result ≡ heard → IfOk heard (λ found. All (CanBePutPast position) (items_of found))
+    → IfOk result (λ found. AllPast position (items_of found))
+past_of items_of position result heard same h =
+    IfOk-weaker result (λ found. All (CanBePutPast position) (items_of found)) (λ found. AllPast position (items_of found))
+    (λ found fits. past_all position (items_of found) fits)
+    (subst (λ r. IfOk r (λ found. All (CanBePutPast position) (items_of found))) (sym same) h)

@@ -1,11 +1,10 @@
 -- Candidates put into a merger, one after another.
 use Rattle.std.proofs.Common.{◌≡◌, ℕ, ◌+◌, ◌<◌, List, [], ◌∷◌, ◌++◌, length, get_or, append_assoc, sym, subst, ◌∙◌, ap}
-use Rattle.std.proofs.Common.{arith, inl, inr, length-append, ℤ}
+use Rattle.std.proofs.Common.{arith, inl, inr, ℤ}
 use Rattle.std.specs.List.{AllPairs}
 use Rattle.std.specs.List.Sorted.{IsNonDecreasingBy}
 use Rattle.std.proofs.lemmas.Bool.{cases_eq}
 use Rattle.std.proofs.lemmas.List.{append-nil, nil_from_length}
-use Rattle.std.proofs.Math.Seq.{get_or-append_seam}
 use Rattle.frame_merge.specs.declared.candidate.Candidate.{Candidate}
 use Rattle.frame_merge.specs.Held.{Held, StandsFor}
 use Rattle.frame_merge.specs.Order.{standing, in_order, IsInOrder}

@@ -23,7 +23,7 @@ use Rattle.frame_merge.specs.declared.candidate.Candidate.{Candidate}
 use Rattle.slicer_bank.specs.Candidates.{IsCandidate}
 use Rattle.slicer_bank.specs.Held.{HeldLane, LaneStandsFor, silence, last_seven}
 use Rattle.slicer_bank.specs.Heard.{candidate_at, Adds, AreOfWindows, LaneHearsMore, LaneHears}
-use Rattle.slicer_bank.specs.Merging.{CanBePut}
+use Rattle.slicer_bank.specs.Merging.{CanBePutPast}
 use Rattle.slicer_bank.proofs.CandidateLemmas.{candidate_more, candidate_less, AllPairs-append}
 use Rattle.slicer_bank.proofs.SevenLemmas.{seven_behind_first}
 
@@ -193,7 +193,7 @@ pub record OwnHeard (offset position end : ℕ) (piece rest : List ℤ) (initial
   pub few : taken ≤ windows_in offset (position + (length piece - 7))
   pub begun : position < end
   pub rest_is : rest ≡ drop (end - 1 - position) piece
-  pub bounds : All CanBePut before → All CanBePut after
+  pub bounds : (low : ℕ) → low ≤ position → All (CanBePutPast low) before → All (CanBePutPast low) after
   pub asks : flags_asked lane.deframer ≡ flags_asked initial.deframer
   pub heard : (x : List ℤ) → length x ≡ position → take 7 piece ≡ last_seven x
       → LaneStandsFor initial (tones_at offset x)
@@ -210,7 +210,7 @@ own_none offset position end piece rest lane found at is = record {
   few = omega arith;
   begun = omega arith;
   rest_is = is;
-  bounds = λ h. h;
+  bounds = λ low under h. h;
   asks = refl;
   heard = λ x size seven s. (
     subst (LaneStandsFor lane) (tones_at-append offset x (drop 7 piece)
@@ -223,7 +223,7 @@ pub own_more : (offset position end next : ℕ) (piece rest window left : List �
     (before found after : List Candidate)
     → offset < 8 → 7 ≤ length piece → next ≡ end + 8 → 8 ≤ length rest → window ≡ take 8 rest → left ≡ drop 8 rest
     → OwnHeard offset position end piece rest initial old before found
-    → (All CanBePut found → All CanBePut after)
+    → ((low : ℕ) → low < end → All (CanBePutPast low) found → All (CanBePutPast low) after)
     → flags_asked new.deframer ≡ flags_asked old.deframer
     → ((tones : List Tone) → LaneStandsFor old tones → LaneStandsFor new (tones ++ tone_of window ∷ []))
     → ((tones : List Tone) → LaneStandsFor old tones
@@ -244,7 +244,7 @@ own_more offset position end next piece rest window left initial old new before 
       begun = omega arith;
       rest_is = left_is ∙ ap (drop 8) h.rest_is ∙ drop-drop 8 index piece
           ∙ ap (λ m. drop m piece) (let e : index + 8 ≡ next - 1 - position = omega arith in e);
-      bounds = λ each. bounds (h.bounds each);
+      bounds = λ low under each. bounds low (omega arith) (h.bounds low under each);
       asks = same ∙ h.asks;
       heard = λ x size seven s.
           let more : List ℤ = drop 7 piece in

@@ -7,7 +7,7 @@ use Rattle.frame_merge.specs.declared.candidate.Candidate.{Candidate}
 use Rattle.offset_slicers.specs.Windows.{windows_in, tones_at}
 use Rattle.slicer_bank.specs.Candidates.{IsCandidate}
 use Rattle.slicer_bank.specs.Held.{HeldLane, LaneStandsFor, last_seven}
-use Rattle.slicer_bank.specs.Merging.{CanBePut}
+use Rattle.slicer_bank.specs.Merging.{CanBePutPast}
 
 -- a frame that ends at a place, as the lane of an offset hears it
 abbrev pub candidate_at : ℕ → ℕ → List ℕ → Candidate
@@ -58,10 +58,10 @@ LanesKeep position x lanes = (offset : ℕ) (d : HeldLane) (items : List Candida
     → (slice_index_or lanes offset d).heard ≡ Some items
     → AreOfWindows offset (windows_in offset position) (windows_in offset (length x)) x items
 
--- what each lane keeps can be put into a merger
-abbrev pub LanesKeepFit : List HeldLane → Type 0
-LanesKeepFit lanes = (offset : ℕ) (d : HeldLane) (items : List Candidate) → offset < 8
-    → (slice_index_or lanes offset d).heard ≡ Some items → All CanBePut items
+-- what each lane keeps can be put into a merger, and ends past a position
+abbrev pub LanesKeepFit : ℕ → List HeldLane → Type 0
+LanesKeepFit position lanes = (offset : ℕ) (d : HeldLane) (items : List Candidate) → offset < 8
+    → (slice_index_or lanes offset d).heard ≡ Some items → All (CanBePutPast position) items
 
 -- two lanes are the same but for what they keep of what they heard
 pub record AreAlike (lane other : HeldLane) : Type 0 where

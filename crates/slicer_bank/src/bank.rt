@@ -6,7 +6,7 @@ ghost use Rattle.std.specs.List.{All};
 ghost use Rattle.slicer_bank.specs.Busy.{HearsCarrier};
 ghost use Rattle.slicer_bank.specs.Held.{StandsFor};
 ghost use Rattle.slicer_bank.specs.Candidates.{AreCandidatesBehind};
-ghost use Rattle.slicer_bank.specs.Merging.{CanBePut};
+ghost use Rattle.slicer_bank.specs.Merging.{CanBePut, AllPast};
 
 use crate::gate::Gate;
 use crate::gathering::{hear_block, hear_block_threads};
@@ -79,6 +79,7 @@ impl Bank {
         ensures found { IfOk result (λ found. (x : List ℤ) → StandsFor self.old x
             → StandsFor self.new (x ++ block.now) × AreCandidatesBehind (length x) (x ++ block.now) found.items) }
         ensures bounds { IfOk result (λ found. All CanBePut found.items) }
+        ensures past { IfOk result (λ found. AllPast self.old.position found.items) }
         ensures position { OnOk result (self.new.position ≡ self.old.position + length block.now) }
         ensures stays { OnErr result (self.new.position ≡ self.old.position) }
         ensures flags { self.new.flags ≡ self.old.flags }
@@ -109,6 +110,7 @@ impl Bank {
         ensures found { IfOk result (λ found. (x : List ℤ) → StandsFor self.old x
             → StandsFor self.new (x ++ block.now) × AreCandidatesBehind (length x) (x ++ block.now) found.items) }
         ensures bounds { IfOk result (λ found. All CanBePut found.items) }
+        ensures past { IfOk result (λ found. AllPast self.old.position found.items) }
         ensures position { OnOk result (self.new.position ≡ self.old.position + length block.now) }
         ensures stays { OnErr result (self.new.position ≡ self.old.position) }
         ensures flags { self.new.flags ≡ self.old.flags }

@@ -6,7 +6,7 @@ ghost use Rattle.std.specs.List.{All};
 ghost use Rattle.slicer_bank.specs.Candidates.{AreCandidatesBehind};
 ghost use Rattle.slicer_bank.specs.Held.{HeldBank, StandsFor as BankStandsFor};
 ghost use Rattle.slicer_bank.specs.HeldDecoder.{HaveTaken, StandsFor, progress};
-ghost use Rattle.slicer_bank.specs.Merging.{CanBePut};
+ghost use Rattle.slicer_bank.specs.Merging.{CanBePut, AllPast};
 ghost use Rattle.slicer_bank.specs.MergedItems.{AreMergedBetween};
 ghost use Rattle.slicer_bank.specs.Progress.{Finishes, TakesBlock};
 
@@ -102,6 +102,7 @@ impl Decoder {
     fn settle(&mut self, found: Vec<Candidate>, count: usize) -> Result<Vec<Candidate>, OutOfMemory>
         requires room { self.old.position + count < 2 ^ 48 }
         requires items { All CanBePut found.items }
+        requires past { AllPast self.old.position found.items }
         requires spent { self.old.spent ≡ true }
         requires marks { self.old.merger.marks ≡ replicate 8 self.old.position }
         requires bank { self.old.bank.position ≡ self.old.position + count }

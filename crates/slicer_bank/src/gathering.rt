@@ -8,7 +8,7 @@ ghost use Rattle.hdlc_framer.specs.Held.{flags_asked};
 ghost use Rattle.slicer_bank.specs.Held.{AsksFor, LanesStandFor, last_seven};
 ghost use Rattle.slicer_bank.specs.Candidates.{AreCandidatesBehind};
 ghost use Rattle.slicer_bank.specs.Heard.{HearsAlone, LanesAreAlike, LanesKeep, LanesKeepFit};
-ghost use Rattle.slicer_bank.specs.Merging.{CanBePut};
+ghost use Rattle.slicer_bank.specs.Merging.{CanBePutPast};
 
 use crate::gate::Gate;
 use crate::job::hear_alone;
@@ -39,7 +39,7 @@ pub(crate) fn hear_block(
         → recent.old ≡ last_seven x → LanesStandFor lanes.old x
         → LanesStandFor lanes.new (x ++ block.now) × (recent.new ≡ last_seven (x ++ block.now))
         × AreCandidatesBehind position (x ++ block.now) found.items) }
-    ensures bounds { IfOk result (λ found. All CanBePut found.items) }
+    ensures bounds { IfOk result (λ found. All (CanBePutPast position) found.items) }
     ensures asks { OnOk result ((flags : ℕ) → All (AsksFor flags) lanes.old → All (AsksFor flags) lanes.new) }
 {
     hear_in_turn(alloc, lanes, recent, position, block);
@@ -64,7 +64,7 @@ pub(crate) fn hear_block_threads<R: Threads + Sync, G: Gate>(
         → recent.old ≡ last_seven x → LanesStandFor lanes.old x
         → LanesStandFor lanes.new (x ++ block.now) × (recent.new ≡ last_seven (x ++ block.now))
         × AreCandidatesBehind position (x ++ block.now) found.items) }
-    ensures bounds { IfOk result (λ found. All CanBePut found.items) }
+    ensures bounds { IfOk result (λ found. All (CanBePutPast position) found.items) }
     ensures asks { OnOk result ((flags : ℕ) → All (AsksFor flags) lanes.old → All (AsksFor flags) lanes.new) }
 {
     hear_on_threads(rt, alloc, lanes, recent, position, block, gate);
@@ -80,7 +80,7 @@ fn hear_in_turn(alloc: Global, lanes: &mut [Lane], recent: &[i16; 7], position: 
     ensures heard { (offset : ℕ) (d : _) → offset < 8
         → HearsAlone offset position recent.now block.now (slice_index_or lanes.old offset d)
         (slice_index_or lanes.new offset d) }
-    ensures bounds { LanesKeepFit lanes.new }
+    ensures bounds { LanesKeepFit position lanes.new }
     ensures asks { (offset : ℕ) (d : _) → offset < 8
         → flags_asked (slice_index_or lanes.new offset d).deframer
         ≡ flags_asked (slice_index_or lanes.old offset d).deframer }
@@ -107,7 +107,7 @@ fn hear_on_threads<R: Threads + Sync, G: Gate>(
     ensures heard { (offset : ℕ) (d : _) → offset < 8
         → HearsAlone offset position recent.now block.now (slice_index_or lanes.old offset d)
         (slice_index_or lanes.new offset d) }
-    ensures bounds { LanesKeepFit lanes.new }
+    ensures bounds { LanesKeepFit position lanes.new }
     ensures asks { (offset : ℕ) (d : _) → offset < 8
         → flags_asked (slice_index_or lanes.new offset d).deframer
         ≡ flags_asked (slice_index_or lanes.old offset d).deframer }
@@ -119,7 +119,8 @@ fn hear_on_threads<R: Threads + Sync, G: Gate>(
         &|index, lane: &mut Lane|
             requires { (index < 8) × (position + length block.now < 2 ^ 48) }
             ensures heard { HearsAlone index position recent.entry.now block.entry.now lane.old lane.new }
-            ensures bounds { (items : List Candidate) → lane.new.heard ≡ Some items → All CanBePut items }
+            ensures bounds { (items : List Candidate) → lane.new.heard ≡ Some items
+                → All (CanBePutPast position) items }
             ensures asks { flags_asked lane.new.deframer ≡ flags_asked lane.old.deframer }
         {
             let offset = index as u8;
@@ -139,7 +140,8 @@ fn gather(alloc: Global, lanes: &mut [Lane]) -> Result<Vec<Candidate>, OutOfMemo
         × ((slice_index_or lanes.old offset d).heard ≡ Some items)) }
     ensures found { IfOk result (λ found. (position : ℕ) (x : List ℤ) → LanesKeep position x lanes.old
         → AreCandidatesBehind position x found.items) }
-    ensures bounds { IfOk result (λ found. LanesKeepFit lanes.old → All CanBePut found.items) }
+    ensures bounds { IfOk result (λ found. (position : ℕ) → LanesKeepFit position lanes.old
+        → All (CanBePutPast position) found.items) }
 {
     let mut found = Vec::new(alloc);
     for index in 0..8 {

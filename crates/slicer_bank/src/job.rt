@@ -7,7 +7,7 @@ ghost use Rattle.frame_merge.specs.declared.candidate.Candidate.{Candidate};
 ghost use Rattle.hdlc_framer.specs.Held.{flags_asked};
 ghost use Rattle.slicer_bank.specs.Held.{LaneStandsFor, last_seven};
 ghost use Rattle.slicer_bank.specs.Heard.{AreOfWindows, HearsAlone, LaneHears};
-ghost use Rattle.slicer_bank.specs.Merging.{CanBePut};
+ghost use Rattle.slicer_bank.specs.Merging.{CanBePutPast};
 
 use crate::lane::{LANES, Lane};
 use crate::window_hearing::{bridge, hear};
@@ -28,7 +28,7 @@ pub(crate) fn hear_alone(
     requires lane { offset < 8 }
     requires room { position + length block.now < 2 ^ 48 }
     ensures heard { HearsAlone offset position recent.now block.now lane.old lane.new }
-    ensures bounds { (items : List Candidate) → lane.new.heard ≡ Some items → All CanBePut items }
+    ensures bounds { (items : List Candidate) → lane.new.heard ≡ Some items → All (CanBePutPast position) items }
     ensures asks { flags_asked lane.new.deframer ≡ flags_asked lane.old.deframer }
 {
     let heard = hear_lane(alloc, lane, offset, recent, position, block);
@@ -51,7 +51,7 @@ fn hear_lane(
         → LaneStandsFor lane.new (tones_at offset (x ++ block.now))
         × AreOfWindows offset (windows_in offset position) (windows_in offset (length (x ++ block.now))) (x
         ++ block.now) heard.items) }
-    ensures bounds { IfOk result (λ heard. All CanBePut heard.items) }
+    ensures bounds { IfOk result (λ heard. All (CanBePutPast position) heard.items) }
     ensures asks { flags_asked lane.new.deframer ≡ flags_asked lane.old.deframer }
 {
     let mut heard = Vec::new(alloc);
@@ -87,7 +87,8 @@ fn hear_own(
     requires room { position + length piece.now < 2 ^ 49 }
     ensures found { OnOk result (LaneHears offset position (take 7 piece.now)
         (drop 7 piece.now) lane.old lane.new found.old.items found.new.items) }
-    ensures bounds { OnOk result (All CanBePut found.old.items → All CanBePut found.new.items) }
+    ensures bounds { (before : ℕ) → before ≤ position
+        → OnOk result (All (CanBePutPast before) found.old.items → All (CanBePutPast before) found.new.items) }
     ensures asks { flags_asked lane.new.deframer ≡ flags_asked lane.old.deframer }
 {
     let taken = position.saturating_sub(u64::from(offset)) / LANES;

@@ -10,7 +10,7 @@ ghost use Rattle.slicer_bank.specs.Candidates.{AreCandidatesBehind};
 ghost use Rattle.slicer_bank.specs.Held.{HeldBank, StandsFor as BankStandsFor};
 ghost use Rattle.slicer_bank.specs.HeldDecoder.{HaveTaken};
 ghost use Rattle.slicer_bank.specs.MergedItems.{AreMergedBetween};
-ghost use Rattle.slicer_bank.specs.Merging.{CanBePut};
+ghost use Rattle.slicer_bank.specs.Merging.{CanBePut, AllPast, AreInTime};
 
 use frame_merge::{Candidate, Merger};
 use std::alloc::Global;
@@ -41,6 +41,7 @@ pub(crate) fn merge_block(
 ) -> Result<Vec<Candidate>, OutOfMemory>
     requires room { position + count < 2 ^ 48 }
     requires items { All CanBePut found.items }
+    requires past { AllPast position found.items }
     requires marks { merger.old.marks ≡ replicate 8 position }
     ensures given { IfOk result (λ ready. (before after : HeldBank) (x y : List ℤ) → length x ≡ position → length y
         ≡ count
@@ -55,19 +56,17 @@ pub(crate) fn merge_block(
     Ok(ready)
 }
 
-/// Puts candidates into a merger of eight lanes, in their order. None of them ends below the mark of its lane.
+/// Puts candidates into a merger of eight lanes, in their order.
 pub(crate) fn put_all(merger: &mut Merger, items: Vec<Candidate>) -> Result<(), OutOfMemory>
     requires marks { length merger.old.marks ≡ 8 }
     requires items { All CanBePut items.items }
+    requires in_time { AreInTime merger.old.marks items.items }
     ensures stands_for { OnOk result ((puts given : List Candidate) → StandsFor merger.old puts given
         → StandsFor merger.new (puts ++ items.items) given) }
     ensures marks { merger.new.marks ≡ merger.old.marks }
 {
     for item in items {
-        // No item is late, so want of memory is the one refusal.
-        let Ok(()) = merger.put(item) else {
-            return Err(OutOfMemory);
-        };
+        merger.put_in_time(item)?;
     }
     Ok(())
 }

@@ -7,7 +7,7 @@ ghost use Rattle.sample_ring.specs.declared.got.Got.{Got};
 ghost use Rattle.frame_merge.specs.Held.{Held, StandsFor, least};
 ghost use Rattle.frame_merge.specs.declared.candidate.Candidate.{Candidate};
 ghost use Rattle.slicer_bank.specs.HeardOnRing.{AreMergedOnRing, AreRestOnRing, least_position};
-ghost use Rattle.slicer_bank.specs.Merging.{CanBePut};
+ghost use Rattle.slicer_bank.specs.Merging.{CanBePut, AreInTime};
 ghost use Rattle.slicer_bank.specs.RingMerging.{HasMerged};
 ghost use Rattle.slicer_bank.specs.RingTurns.{BringsOnRing};
 
@@ -26,6 +26,7 @@ pub fn merge_advance(
     requires lanes { length merger.old.marks ≡ 8 }
     requires positions { (lane : ℕ) → lane < 8 → slice_index merger.old.marks lane ≤ slice_index positions.now lane }
     requires items { All CanBePut candidates.items }
+    requires in_time { AreInTime merger.old.marks candidates.items }
     ensures heard { IfOk result (λ items. ended ≡ false → (before now : List (List Got)) → HasMerged merger.old before
         → BringsOnRing before now positions.now candidates.items
         → HasMerged merger.new now × AreMergedOnRing (least_position before) (least_position now) now items.items) }

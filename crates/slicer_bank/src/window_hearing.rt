@@ -8,7 +8,7 @@ ghost use Rattle.offset_slicers.specs.Decision.{tone_of};
 ghost use Rattle.hdlc_framer.specs.Held.{flags_asked};
 ghost use Rattle.slicer_bank.specs.Held.{LaneStandsFor, last_seven};
 ghost use Rattle.slicer_bank.specs.Heard.{Adds};
-ghost use Rattle.slicer_bank.specs.Merging.{CanBePut};
+ghost use Rattle.slicer_bank.specs.Merging.{CanBePutPast};
 
 use crate::lane::Lane;
 use frame_merge::Candidate;
@@ -53,7 +53,8 @@ pub(crate) fn hear(
         → LaneStandsFor lane.new (tones ++ tone_of window.now ∷ []) }
     ensures found { OnOk result ((tones : List Tone) → LaneStandsFor lane.old tones
         → Adds offset end (bits_of (tones ++ tone_of window.now ∷ [])) found.old.items found.new.items) }
-    ensures bounds { OnOk result (All CanBePut found.old.items → All CanBePut found.new.items) }
+    ensures bounds { (position : ℕ) → position < end
+        → OnOk result (All (CanBePutPast position) found.old.items → All (CanBePutPast position) found.new.items) }
     ensures asks { flags_asked lane.new.deframer ≡ flags_asked lane.old.deframer }
 {
     if !lane.push(window) {

@@ -7,3 +7,8 @@ returns-in-Err-BadLength-clause-stands_for c = λ stream h. c.push.ensures.stand
 pub returns-in-Err-Failed-clause-stands_for : goal.returns-in-Err-Failed-clause-stands_for
 returns-in-Err-Failed-clause-stands_for c = λ stream h. c.push.ensures.stands_for stream h
     (λ e. absurd (cc (c.in-Err-Failed.is, e)))
+
+pub returns-in-Ok-clause-failed : goal.returns-in-Ok-clause-failed
+returns-in-Ok-clause-failed c = λ stream len h bad.
+    let failed = c.push.ensures.failed stream len h bad in
+    absurd (cc (c.in-Ok.is, failed))

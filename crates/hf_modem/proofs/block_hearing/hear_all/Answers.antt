@@ -7,7 +7,7 @@ use mir.Syntax.{w16}
 use Rattle.hf_modem.specs.Candidates.{AreCandidatesAfter}
 use Rattle.hf_modem.specs.Held.{BankStandsFor}
 use Rattle.hf_modem.specs.Heard.{HasHeard}
-use Rattle.hf_modem.proofs.HearingLemmas.{heard_none, heard_more}
+use Rattle.hf_modem.proofs.HearingLemmas.{heard_none, heard_more, in_time_of}
 use Rattle.hf_modem.proofs.block_hearing.hear_all.Goals as goal
 
 pub loop-sample-init : goal.loop-sample-init
@@ -46,3 +46,10 @@ returns-clause-heard c = λ x puts given b m.
     subst (λ (y : List ℤ). HasHeard c.loop-sample.bank c.loop-sample.merger x y puts given)
     (take_all c.loop-sample.sample-index c.args.block.now (omega arith))
     (c.loop-sample.invariant.heard x puts given b m)
+
+pub put-requires-clause-in_time : goal.put-requires-clause-in_time
+put-requires-clause-in_time c =
+    let place = c.loop-sample.invariant.position in
+    in_time_of c.loop-sample.merger.marks c.args.bank.now.position c.loop-sample.bank.position c.in_ok-heard.heard
+    (c.loop-sample.invariant.marks ∙ c.requires.marks) (omega arith) c.in_ok-heard.ensures.bounds
+    c.in_ok-heard.ensures.late

@@ -5,5 +5,5 @@ use Rattle.hf_modem.proofs.block_hearing.put.Goals as goal
 
 pub returns-clause-stands_for : goal.returns-clause-stands_for
 returns-clause-stands_for c = λ puts given h.
-    subst (λ heard. MergerStandsFor c.put.new.self (puts ++ option_to_list heard) given) (sym c.in-Some.is)
-    (c.in-Ok.ensures.ok puts given h)
+    subst (λ heard. MergerStandsFor c.put_in_time.new.self (puts ++ option_to_list heard) given) (sym c.in-Some.is)
+    (c.in_ok-put_in_time.ensures.ok puts given h)

@@ -26,8 +26,8 @@ returns-clause-found c =
     c.in-None.ensures.steps.0
 
 pub returns-clause-bounds : goal.returns-clause-bounds
-returns-clause-bounds c = λ can.
-    moved_bounds c.args.begin c.args.found.now.items c.loop-item.found.items c.args.heard.items c.requires.begin
+returns-clause-bounds c = λ low from under late can.
+    moved_bounds c.args.begin low from c.args.found.now.items c.loop-item.found.items c.args.heard.items c.requires.begin
     (moved_all c.args.begin c.args.found.now.items c.loop-item.found.items c.args.heard.items c.loop-item.yielded
     c.loop-item.item-iterator.rest.items c.loop-item.item-iterator.rest.len c.loop-item.invariant
-    c.in-None.ensures.steps.0) c.requires.room can
+    c.in-None.ensures.steps.0) c.requires.room under late can

@@ -5,7 +5,7 @@ use Rattle.sample_ring.specs.Ends.{ring_id, ring_len, position_of, reads_of}
 use Rattle.slicer_bank.specs.RingLanes.{positions_in as positions_of_bank}
 use Rattle.slicer_bank.specs.RingTurns.{AreForward}
 use Rattle.ring_receiver.proofs.ReceiverLemmas.{all_stay, all_turn, goes_forward, marks_added, marks_many, marks_eight}
-use Rattle.ring_receiver.proofs.ReceiverLemmas.{none_made}
+use Rattle.ring_receiver.proofs.ReceiverLemmas.{none_made, eight_in_time_of_all, added_in_time}
 use Rattle.ring_receiver.proofs.turn.hear_all.Goals.{then-advance, else-advance}
 use Rattle.ring_receiver.proofs.turn.hear_all.Goals as goal
 
@@ -100,3 +100,13 @@ merge_all-requires-clause-eight g c = c.in_ok-advance.ensures.bounds
 
 pub merge_all-requires-clause-added : goal.merge_all-requires-clause-added
 merge_all-requires-clause-added g c = c.in_ok-turn.ensures.bounds
+
+pub merge_all-requires-clause-eight_in_time : goal.merge_all-requires-clause-eight_in_time
+merge_all-requires-clause-eight_in_time g c =
+    eight_in_time_of_all c.args.bank.now c.args.added.now c.args.merger.now c.in_ok-advance.advance.candidates.items
+    c.requires.eight c.requires.step c.in_ok-advance.ensures.bounds c.in_ok-advance.ensures.past
+
+pub merge_all-requires-clause-added_in_time : goal.merge_all-requires-clause-added_in_time
+merge_all-requires-clause-added_in_time g c =
+    added_in_time c.args.bank.now c.args.added.now c.args.merger.now c.in_ok-turn.turn.candidates.items
+    c.requires.eight c.requires.step c.in_ok-turn.ensures.bounds c.in_ok-turn.ensures.late

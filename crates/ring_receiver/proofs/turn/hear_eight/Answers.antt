@@ -1,5 +1,5 @@
 use Rattle.sample_ring.specs.Ends.{ring_id, ring_len}
-use Rattle.ring_receiver.proofs.ReceiverLemmas.{eight_stay, eight_turn, none_made}
+use Rattle.ring_receiver.proofs.ReceiverLemmas.{eight_in_time, eight_stay, eight_turn, none_made}
 use Rattle.ring_receiver.proofs.turn.hear_eight.Goals as goal
 
 pub returns-clause-made : goal.returns-clause-made
@@ -31,3 +31,8 @@ returns-in_err-advance-clause-made g c = none_made _ c.from_residual.result _ c.
 pub returns-in_err-items-clause-made : goal.returns-in_err-items-clause-made
 returns-in_err-items-clause-made g c =
     none_made _ c.from_residual-in_err-items.result _ c.from_residual-in_err-items.ensures.1
+
+pub merge_advance-requires-clause-in_time : goal.merge_advance-requires-clause-in_time
+merge_advance-requires-clause-in_time g c =
+    eight_in_time c.args.bank.now c.args.merger.now c.in_ok-advance.advance.candidates.items c.requires.step
+    c.in_ok-advance.ensures.past

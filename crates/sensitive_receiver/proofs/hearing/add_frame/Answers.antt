@@ -31,7 +31,12 @@ returns-clause-found c = λ x last frame.
     (sym (c.ends_in_time.ensures x c.args.readings.now.place last.taken last.last) ∙ c.if-not-ends_in_time.false)
 
 pub returns-clause-bounds : goal.returns-clause-bounds
-returns-clause-bounds c = λ all.
+returns-clause-bounds c = λ low under all.
     let small = c.requires.place in
-    bounds_more c.args.found.now.items c.push.new.self.items _ c.in_ok-push.ensures.items
-    (record { lane = c.requires.number.1; end = omega arith }) all
+    let delay = c.delay_of.ensures.bound in
+    let same = c.from.ensures in
+    bounds_more low c.args.found.now.items c.push.new.self.items _ c.in_ok-push.ensures.items
+    (record {
+      room = record { lane = c.requires.number.1; end = omega arith };
+      from = record { lane = c.requires.number.0; end = omega arith };
+    }) all

@@ -31,8 +31,8 @@ returns-clause-found c =
     c.hear_clocked-3.ensures.hear
 
 pub returns-clause-bounds : goal.returns-clause-bounds
-returns-clause-bounds c =
+returns-clause-bounds c = λ low under.
     on_ok_weaker c.hear_clocked-3.result (λ bounds all.
-    bounds (c.in_ok-hear_clocked-2.ensures.bounds (c.in_ok-hear_clocked.ensures.bounds
-    (c.in_ok-hear_fixed.ensures.bounds all))))
-    c.hear_clocked-3.ensures.bounds
+    bounds (c.in_ok-hear_clocked-2.ensures.bounds low under (c.in_ok-hear_clocked.ensures.bounds low under
+    (c.in_ok-hear_fixed.ensures.bounds low under all))))
+    (c.hear_clocked-3.ensures.bounds low under)

@@ -1,4 +1,7 @@
-use Rattle.std.proofs.Common.{◌≡◌, ◌+◌, ◌<◌, ◌^◌, ◌++◌, ◌∙◌, ap, sym, length, length-append, replicate, arith}
+use Rattle.std.proofs.Common.{◌≡◌, ℕ, ◌+◌, ◌<◌, ◌^◌, List, ◌++◌, ◌∙◌, ap, sym, length, length-append, replicate, arith}
+use Rattle.std.proofs.Common.{get_or}
+use Rattle.std.proofs.lemmas.List.{get_or-replicate}
+use Rattle.frame_merge.specs.declared.candidate.Candidate.{Candidate}
 use Rattle.sensitive_receiver.specs.MergedItems.{settled}
 use Rattle.sensitive_receiver.proofs.DecoderLemmas.{block_gives}
 use Rattle.sensitive_receiver.proofs.merging.merge_block.Goals as goal
@@ -20,3 +23,13 @@ returns-clause-given c = λ old new before after x y size more heard read h.
     (c.in_ok-put_all-2.ensures.stands_for (puts ++ c.args.found.items) given
     (c.in_ok-put_all.ensures.stands_for puts given stands)))
     marks c.in_ok-ready.ensures.ready c.in_ok-ready.ensures.kept
+
+pub put_all-requires-2-clause-in_time : goal.put_all-requires-2-clause-in_time
+put_all-requires-2-clause-in_time c = λ k d l.
+    let item : Candidate = get_or c.args.added.items k d in
+    let lane = (c.requires.added k d l).lane in
+    let end = (c.requires.late k d l).end in
+    let mark : get_or c.put_all.new.merger.marks item.offset 0 ≡ settled c.args.position =
+    ap (λ (m : List ℕ). get_or m item.offset 0) (c.in_ok-put_all.ensures.marks ∙ c.requires.marks)
+    ∙ get_or-replicate 23 item.offset (settled c.args.position) 0 lane in
+    omega arith

@@ -48,7 +48,7 @@ returns-clause-found c = λ position x keep.
     c.sort_unstable_by_key.new.self.items moved position x rises keep
 
 pub returns-clause-bounds : goal.returns-clause-bounds
-returns-clause-bounds c = λ keep.
+returns-clause-bounds c = λ position keep.
     let past = c.loop-index-test.false in
     let most = c.loop-index.auto.index-end in
     let all = c.loop-index.invariant.1 ∙ ap (flat_map heard_by)
@@ -58,4 +58,4 @@ returns-clause-bounds c = λ keep.
     = subst (λ items. IsPermutation items c.sort_unstable_by_key.new.self.items)
     all c.sort_unstable_by_key.ensures.permutation in
     fit_there c.args.lanes.now c.requires.lanes (λ k d l. (c.loop-index.invariant.0.done k d (omega arith)).1)
-    c.sort_unstable_by_key.new.self.items moved keep
+    c.sort_unstable_by_key.new.self.items moved position keep

@@ -1,3 +1,8 @@
+use Rattle.std.proofs.Common.{ℕ}
+use Rattle.std.specs.List.{All}
+use Rattle.std.proofs.lemmas.Result.{IfOk-weaker}
+use Rattle.slicer_bank.specs.Heard.{LanesKeepFit}
+use Rattle.slicer_bank.specs.Merging.{CanBePutPast}
 use Rattle.slicer_bank.proofs.FeedLemmas.{gathered}
 use Rattle.slicer_bank.proofs.gathering.hear_block.Goals as goal
 
@@ -7,3 +12,12 @@ returns-clause-found c =
     c.args.recent.now c.keep_last.new.recent c.args.block.now
     c.hear_in_turn.ensures.heard c.keep_last.ensures c.gather.result c.gather.ensures.kept c.gather.ensures.alike
     c.gather.ensures.found
+
+pub returns-clause-bounds : goal.returns-clause-bounds
+returns-clause-bounds c =
+    IfOk-weaker c.gather.result
+    (λ found. (position : ℕ) → LanesKeepFit position c.hear_in_turn.new.lanes
+    → All (CanBePutPast position) found.items)
+    (λ found. All (CanBePutPast c.args.position) found.items)
+    (λ found fits. fits c.args.position c.hear_in_turn.ensures.bounds)
+    c.gather.ensures.bounds

@@ -1,3 +1,8 @@
+use Rattle.std.proofs.Common.{ℕ}
+use Rattle.std.specs.List.{All}
+use Rattle.std.proofs.lemmas.Result.{IfOk-weaker}
+use Rattle.slicer_bank.specs.Heard.{LanesKeepFit}
+use Rattle.slicer_bank.specs.Merging.{CanBePutPast}
 use Rattle.slicer_bank.proofs.FeedLemmas.{gathered}
 use Rattle.slicer_bank.proofs.gathering.hear_block_threads.Goals as goal
 
@@ -7,3 +12,12 @@ returns-clause-found g c =
     c.args.recent.now c.keep_last.new.recent c.args.block.now
     c.hear_on_threads.ensures.heard c.keep_last.ensures c.gather.result c.gather.ensures.kept c.gather.ensures.alike
     c.gather.ensures.found
+
+pub returns-clause-bounds : goal.returns-clause-bounds
+returns-clause-bounds g c =
+    IfOk-weaker c.gather.result
+    (λ found. (position : ℕ) → LanesKeepFit position c.hear_on_threads.new.lanes
+    → All (CanBePutPast position) found.items)
+    (λ found. All (CanBePutPast c.args.position) found.items)
+    (λ found fits. fits c.args.position c.hear_on_threads.ensures.bounds)
+    c.gather.ensures.bounds

@@ -1,6 +1,10 @@
-use Rattle.std.proofs.Common.{◌≡◌, take, arith, subst, ◌∙◌, ap}
+use Rattle.std.proofs.Common.{◌≡◌, take, arith, subst, sym, ◌∙◌, ap}
+use Rattle.std.specs.List.{All}
+use Rattle.std.proofs.lemmas.List.Elements.{All-nil}
 use Rattle.std.proofs.lemmas.List.{take_all}
+use Rattle.frame_merge.specs.declared.candidate.Candidate.{Candidate}
 use Rattle.slicer_bank.specs.Heard.{LaneHears}
+use Rattle.slicer_bank.specs.Merging.{CanBePutPast}
 use Rattle.slicer_bank.proofs.OwnLemmas.{own_first, own_block, own_found}
 use Rattle.slicer_bank.proofs.job.hear_lane.Goals as goal
 
@@ -44,3 +48,10 @@ returns-clause-heard c = λ x size is h.
       own_found c.args.offset x c.args.block.now c.args.position c.new-heard.result.items
           c.hear_own-2.new.found.items size c.new-heard.ensures.items heard.1,
     )
+
+pub returns-clause-bounds : goal.returns-clause-bounds
+returns-clause-bounds c =
+    let P : Candidate → Type 0 = CanBePutPast c.args.position in
+    c.in_ok-hear_own-2.ensures.bounds c.args.position (omega arith)
+    (c.in_ok-hear_own.ensures.bounds c.args.position (omega arith)
+    (subst (All P) (sym c.new-heard.ensures.items) (All-nil P)))

@@ -1,12 +1,28 @@
 -- The samples are heard, and the marks move on.
 use Rattle.std.proofs.Common.{◌≡◌, ◌^◌, ◌<◌, ◌≤◌, ◌++◌, length, replicate, refl, sym, ap, ◌∙◌, subst, arith}
-use Rattle.std.proofs.Common.{length-append}
+use Rattle.std.proofs.Common.{length-append, ℕ, List, get_or}
+use Rattle.std.proofs.lemmas.List.{get_or-replicate}
+use Rattle.frame_merge.specs.declared.candidate.Candidate.{Candidate}
 use Rattle.std.specs.Prelude.{All}
 use Rattle.std.proofs.lemmas.List.Elements.{All-replicate}
+use Rattle.slicer_bank.specs.Merging.{CanBePut}
 use Rattle.channel_bench.specs.Sounding.{mark_of}
 use Rattle.station.proofs.MemoryLemmas.{if_took}
 use Rattle.channel_bench.proofs.EarLemmas.{ear_more, ready_lengths}
 use Rattle.channel_bench.proofs.ear.Ear.listen.Goals as goal
+
+pub put_all-requires-clause-in_time : goal.put_all-requires-clause-in_time
+put_all-requires-clause-in_time c = λ k d l.
+    let item : Candidate = get_or c.in_ok-found.found.items k d in
+    let h = c.requires.stands.1 in
+    let past = if_took _ c.feed.result c.in_ok-found.found c.in_ok-found.ensures.value c.feed.ensures.past k d l in
+    let can : CanBePut item =
+    if_took _ c.feed.result c.in_ok-found.found c.in_ok-found.ensures.value c.feed.ensures.bounds k d l in
+    let lane = can.lane in
+    let mark : get_or c.args.self.now.merger.marks item.offset 0 ≡ mark_of c.requires.stands.0 =
+    ap (λ (m : List ℕ). get_or m item.offset 0) h.marks
+    ∙ get_or-replicate 8 item.offset (mark_of c.requires.stands.0) 0 lane in
+    omega (arith, h.bank.count)
 
 pub mark_all-requires : goal.mark_all-requires
 mark_all-requires c =

@@ -1,24 +1,28 @@
-use Rattle.std.proofs.Common.{sym, ◌∙◌, ap, subst}
+use Rattle.std.proofs.Common.{◌≡◌, length, false, is_some, sym, ◌∙◌, ap, subst}
 use Rattle.link_machine.specs.declared.machine.Machine.{Machine as Held}
-use Rattle.link_machine.specs.Requests.{is_closed}
+use Rattle.link_machine.specs.Requests.{refusal}
 use Rattle.link_machine.specs.Event.Event.{Disconnect}
 use Rattle.link_machine.specs.StandsFor.{StandsFor}
+use Rattle.link_machine.specs.Step.{refusal_of}
 use Rattle.link_machine.proofs.Events.{itself, holds_itself}
-use Rattle.link_machine.proofs.Answered.{answers_right, free_disconnect, holds_of}
+use Rattle.link_machine.proofs.Answered.{answers_right, free_of, holds_of}
 use Rattle.link_machine.proofs.Writable.{kept_behind, kept_by}
 use Rattle.link_machine.proofs.link.Link.disconnect.Goals as goal
 
 pub invariant_of-self-2 : goal.invariant_of-self-2
 invariant_of-self-2 c =
     let held = c.self.inside.machine in
-    let free = free_disconnect (itself held) (sym c.is_closed.ensures ∙ c.if-is_closed.false) in
-    (kept_by held c.take_disconnect.new.self Disconnect c.take_disconnect.result c.self.invariant free
-    c.take_disconnect.ensures).0
+    let free : is_some (refusal_of (itself held) Disconnect) ≡ false =
+    ap is_some (ap (λ (h : Held). refusal h.control (length h.outgoing.packets) Disconnect) c.self.view_is
+    ∙ sym c.disconnect_refusal.ensures ∙ c.in_default.is) in
+    (kept_by held c.take_disconnect.new.self Disconnect c.take_disconnect.result c.self.invariant free c.take_disconnect.ensures).0
 
 pub returns-clause-writable : goal.returns-clause-writable
 returns-clause-writable c =
     let held = c.self.inside.machine in
-    let free = free_disconnect (itself held) (sym c.is_closed.ensures ∙ c.if-is_closed.false) in
+    let free : is_some (refusal_of (itself held) Disconnect) ≡ false =
+    ap is_some (ap (λ (h : Held). refusal h.control (length h.outgoing.packets) Disconnect) c.self.view_is
+    ∙ sym c.disconnect_refusal.ensures ∙ c.in_default.is) in
     let made = c.in_ok-acts.ensures (itself held) (holds_itself held c.self.invariant.whole) in
     (kept_behind held c.take_disconnect.new.self Disconnect c.in_ok-acts.acts c.self.invariant free made).1
 
@@ -26,14 +30,14 @@ pub returns-clause-step : goal.returns-clause-step
 returns-clause-step c = λ m h.
     let P : Held → Type 0 = λ x. StandsFor x m in
     let stands : StandsFor c.self.inside.machine m = subst P (sym c.self.view_is) h in
-    let free = free_disconnect m (ap is_closed (sym stands.control) ∙ sym c.is_closed.ensures ∙ c.if-is_closed.false) in
-    (answers_right c.take_disconnect.new.self m (Disconnect) c.in_ok-acts.acts free
+    let free = free_of c.args.self.now m Disconnect c.disconnect_refusal.result c.disconnect_refusal.ensures c.in_default.is h in
+    (answers_right c.take_disconnect.new.self m Disconnect c.in_ok-acts.acts free
     (c.in_ok-acts.ensures m (holds_of c.self.inside.machine m c.self.invariant.whole stands))).0
 
 pub returns-clause-stands_for : goal.returns-clause-stands_for
 returns-clause-stands_for c = λ m h.
     let P : Held → Type 0 = λ x. StandsFor x m in
     let stands : StandsFor c.self.inside.machine m = subst P (sym c.self.view_is) h in
-    let free = free_disconnect m (ap is_closed (sym stands.control) ∙ sym c.is_closed.ensures ∙ c.if-is_closed.false) in
-    (answers_right c.take_disconnect.new.self m (Disconnect) c.in_ok-acts.acts free
+    let free = free_of c.args.self.now m Disconnect c.disconnect_refusal.result c.disconnect_refusal.ensures c.in_default.is h in
+    (answers_right c.take_disconnect.new.self m Disconnect c.in_ok-acts.acts free
     (c.in_ok-acts.ensures m (holds_of c.self.inside.machine m c.self.invariant.whole stands))).1

@@ -137,6 +137,11 @@ returns-clause-nothing_there c = λ w h none e.
     c.happen-outcome.ensures.nothing_there
     (ap (is_there c.args.event) (count_at (end_of c.args.event) _ w held) ∙ e)
 
+pub returns-clause-link_refuses : goal.returns-clause-link_refuses
+returns-clause-link_refuses c = λ w fault h none e.
+    let held = subst (λ (v : HeldWorld). StandsFor v w) (sym c.self.view_is) h in
+    c.happen-outcome.ensures.link_refuses w fault (both_of _ w held) e
+
 pub returns-clause-kept : goal.returns-clause-kept
 returns-clause-kept c =
     let P : HeldWorld → Type 0 = λ v. OnErr c.happen-outcome.result (IsAlike v (record {

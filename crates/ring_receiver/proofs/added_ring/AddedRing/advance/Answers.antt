@@ -3,6 +3,7 @@ use Rattle.sample_ring.specs.Ends.{ring_len}
 use Rattle.slicer_bank.specs.RingJobs.{is_end}
 use Rattle.slicer_bank.specs.RingTurns.{reads_on}
 use Rattle.ring_receiver.proofs.AddedTurnLemmas.{reads_none, reads_more, turn_over, turn_full, grown_more}
+use Rattle.ring_receiver.proofs.AddedTurnLemmas.{bounds_more, can_of, added_from}
 use Rattle.ring_receiver.proofs.added_ring.AddedRing.advance.Goals as goal
 
 pub loop-init : goal.loop-init
@@ -59,13 +60,27 @@ pub returns-in-Empty-clause-at : goal.returns-in-Empty-clause-at
 returns-in-Empty-clause-at c = c.in_ok-take.ensures.at
 
 pub returns-in-Empty-clause-bounds : goal.returns-in-Empty-clause-bounds
-returns-in-Empty-clause-bounds c = c.in_ok-take.ensures.bounds c.loop.invariant.bounds
+returns-in-Empty-clause-bounds c = can_of _ _
+    (bounds_more (ring_len c.args.ring.now) c.args.self.now c.loop.self c.loop.turn c.take.new.turn c.loop.counter
+    c.loop.invariant c.in_ok-take.ensures.bounds)
+
+pub returns-in-Empty-clause-late : goal.returns-in-Empty-clause-late
+returns-in-Empty-clause-late c = added_from _ _
+    (bounds_more (ring_len c.args.ring.now) c.args.self.now c.loop.self c.loop.turn c.take.new.turn c.loop.counter
+    c.loop.invariant c.in_ok-take.ensures.bounds)
 
 pub returns-in-End-clause-at : goal.returns-in-End-clause-at
 returns-in-End-clause-at c = c.in_ok-take.ensures.at
 
 pub returns-in-End-clause-bounds : goal.returns-in-End-clause-bounds
-returns-in-End-clause-bounds c = c.in_ok-take.ensures.bounds c.loop.invariant.bounds
+returns-in-End-clause-bounds c = can_of _ _
+    (bounds_more (ring_len c.args.ring.now) c.args.self.now c.loop.self c.loop.turn c.take.new.turn c.loop.counter
+    c.loop.invariant c.in_ok-take.ensures.bounds)
+
+pub returns-in-End-clause-late : goal.returns-in-End-clause-late
+returns-in-End-clause-late c = added_from _ _
+    (bounds_more (ring_len c.args.ring.now) c.args.self.now c.loop.self c.loop.turn c.take.new.turn c.loop.counter
+    c.loop.invariant c.in_ok-take.ensures.bounds)
 
 pub returns-clause-ring : goal.returns-clause-ring
 returns-clause-ring c = c.loop.invariant.ring
@@ -84,4 +99,7 @@ pub returns-clause-at : goal.returns-clause-at
 returns-clause-at c = c.loop.invariant.at
 
 pub returns-clause-bounds : goal.returns-clause-bounds
-returns-clause-bounds c = c.loop.invariant.bounds
+returns-clause-bounds c = can_of _ _ c.loop.invariant.bounds
+
+pub returns-clause-late : goal.returns-clause-late
+returns-clause-late c = added_from _ _ c.loop.invariant.bounds

@@ -1,9 +1,10 @@
-use Rattle.std.proofs.Common.{◌∙◌, ℤ, pos, List, FitsSigned, get_or, refl, sym, subst, arith, rules}
+use Rattle.std.proofs.Common.{◌-◌, ◌∙◌, ℤ, pos, List, FitsSigned, get_or, refl, sym, subst, arith, rules}
 use Rattle.std.specs.List.{All}
 use Rattle.std.proofs.lemmas.Int.{to_z-of_z}
-use Rattle.std.proofs.lemmas.List.Elements.{All-nil}
+use Rattle.std.proofs.lemmas.List.Elements.{All-nil, All-weaker}
+use Rattle.frame_merge.specs.declared.candidate.Candidate.{Candidate}
 use mir.Syntax.{w16}
-use Rattle.sensitive_receiver.specs.Found.{HasRoom}
+use Rattle.sensitive_receiver.specs.Found.{HasRoom, HasRoomFrom, IsAddedFrom}
 use Rattle.sensitive_receiver.proofs.BankLemmas.{HasFed, fed_none, fed_more, fed_all}
 use Rattle.sensitive_receiver.proofs.added_bank.AddedBank.feed.Goals as goal
 
@@ -11,7 +12,8 @@ pub loop-sample-init : goal.loop-sample-init
 loop-sample-init c = record {
   fed = subst (λ items. HasFed c.args.self.now c.args.self.now c.args.block.now items 0) (sym c.new-found.ensures.items)
       (fed_none c.args.self.now c.args.block.now);
-  bounds = subst (All HasRoom) (sym c.new-found.ensures.items) (All-nil HasRoom);
+  bounds = (let P : Candidate → Type 0 = HasRoomFrom (c.args.self.now.position - 17) in
+      subst (All P) (sym c.new-found.ensures.items) (All-nil P));
 }
 
 pub loop-sample-preserved : goal.loop-sample-preserved
@@ -26,7 +28,8 @@ loop-sample-preserved c =
           c.loop-sample-test.true refl c.take.ensures.position
           (λ x taken inside is. c.in_ok-take.ensures.has_taken x taken inside (to_z-of_z w16 sample fits ∙ is))
           (λ x taken inside is. c.in_ok-take.ensures.found x taken inside (to_z-of_z w16 sample fits ∙ is));
-      bounds = c.in_ok-take.ensures.bounds c.loop-sample.invariant.bounds;
+      bounds = (let at = c.loop-sample.invariant.fed.position in
+          c.in_ok-take.ensures.bounds (c.args.self.now.position - 17) (omega arith) c.loop-sample.invariant.bounds);
     }
 
 pub returns-clause-found : goal.returns-clause-found
@@ -35,3 +38,13 @@ returns-clause-found c =
     let most = c.loop-sample.auto.sample-index-end in
     fed_all c.args.self.now c.loop-sample.self c.args.block.now c.loop-sample.found.items c.loop-sample.sample-index
     c.loop-sample.invariant.fed (omega arith)
+
+pub returns-clause-bounds : goal.returns-clause-bounds
+returns-clause-bounds c =
+    All-weaker (HasRoomFrom (c.args.self.now.position - 17)) HasRoom (λ item fits. fits.room) c.loop-sample.found.items
+    c.loop-sample.invariant.bounds
+
+pub returns-clause-late : goal.returns-clause-late
+returns-clause-late c =
+    All-weaker (HasRoomFrom (c.args.self.now.position - 17)) (IsAddedFrom (c.args.self.now.position - 17))
+    (λ item fits. fits.from) c.loop-sample.found.items c.loop-sample.invariant.bounds

@@ -1,10 +1,11 @@
+use Rattle.std.specs.Prelude.{◌-◌}
 use Rattle.std.specs.List.{All}
-use Rattle.sensitive_receiver.specs.Found.{HasRoom}
+use Rattle.sensitive_receiver.specs.Found.{HasRoomFrom}
 use Rattle.sensitive_receiver.proofs.BankLemmas.{HasFed}
 use Rattle.sensitive_receiver.proofs.added_bank.AddedBank.feed.Given as goal
 
 abbrev pub invariant-loop-sample : goal.invariant-loop-sample
 invariant-loop-sample l = record {
   fed : HasFed l.initial.self l.self l.block l.found.items l.sample-index;
-  bounds : All HasRoom l.found.items;
+  bounds : All (HasRoomFrom (l.initial.self.position - 17)) l.found.items;
 }

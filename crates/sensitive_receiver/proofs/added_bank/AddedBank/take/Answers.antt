@@ -1,11 +1,13 @@
-use Rattle.std.proofs.Common.{◌≡◌, ◌+◌, ◌-◌, ◌<◌, ◌++◌, ◌∙◌, ℤ, pos, List, get_or, length, take, drop, ap}
-use Rattle.std.proofs.Common.{sym, subst}
+use Rattle.std.proofs.Common.{◌≡◌, ◌+◌, ◌-◌, ◌<◌, ◌≤◌, ◌++◌, ◌∙◌, ℕ, ℤ, pos, List, get_or, length, take, drop, ap}
+use Rattle.std.proofs.Common.{sym, subst, arith}
 use Rattle.std.proofs.lemmas.Result.{on_ok_weaker}
 use Rattle.std.proofs.lemmas.Int.{to_z-of_z}
 use mir.Syntax.{w16}
 use Rattle.tone_tracking.specs.Heard.{places_in}
 use Rattle.sensitive_receiver.specs.HeldLanes.{HeldBank, HeldLane, HasTaken, LanesHaveRead}
-use Rattle.sensitive_receiver.specs.Found.{AddsBetween}
+use Rattle.sensitive_receiver.specs.Found.{AddsBetween, HasRoomFrom}
+use Rattle.std.specs.List.{All}
+use Rattle.std.specs.Result.{OnOk}
 use Rattle.sensitive_receiver.proofs.BankLemmas.{bank_of, given_back, taken_few, adds_few, not_yet, already}
 use Rattle.sensitive_receiver.proofs.BankLemmas.{taken_place, found_place}
 use Rattle.sensitive_receiver.proofs.added_bank.AddedBank.take.Goals as goal
@@ -95,3 +97,13 @@ returns-clause-found c =
     (λ last before. adds x last
     (subst (λ ls. LanesHaveRead ls (s.position + 1 - 24) x) (sym c.deref_mut.ensures.value) before))))
     c.hear_place.ensures.found
+
+pub returns-clause-bounds : goal.returns-clause-bounds
+returns-clause-bounds c =
+    let s = c.self.inside in
+    let enough = already c.push-decided.result s.lists.count s.position c.push-decided.ensures.decided
+    c.if-not-decided.false c.self.invariant.1 in
+    let P : HeldBank → Type 0 = λ old. (low : ℕ) → low ≤ old.position - 17
+    → OnOk c.hear_place.result (All (HasRoomFrom low) c.args.found.now.items
+    → All (HasRoomFrom low) c.hear_place.new.found.items) in
+    subst P c.self.view_is (λ low under. c.hear_place.ensures.bounds low (omega arith))

@@ -2,7 +2,8 @@ use Rattle.std.proofs.Common.{◌≡◌, ℤ, List, ◌++◌, sym, ◌∙◌, su
 use Rattle.std.specs.Prelude.{IfOk}
 use Rattle.slicer_bank.specs.Candidates.{AreCandidatesBehind}
 use Rattle.slicer_bank.specs.Held.{HeldBank, StandsFor}
-use Rattle.slicer_bank.proofs.FeedLemmas.{given_back, fed}
+use Rattle.slicer_bank.specs.Merging.{AllPast}
+use Rattle.slicer_bank.proofs.FeedLemmas.{given_back, fed, bounds_of, past_of}
 use Rattle.slicer_bank.proofs.bank.Bank.feed_threads.Goals as goal
 
 pub returns-clause-found : goal.returns-clause-found
@@ -27,3 +28,15 @@ returns-clause-found g c =
     c.self.inside.lanes.items full)
     c.settle.result c.hear_block_threads-heard.result c.settle.ensures.same c.settle.ensures.counts
     c.hear_block_threads-heard.ensures.found c.hear_block_threads-heard.ensures.asks)
+
+pub returns-clause-bounds : goal.returns-clause-bounds
+returns-clause-bounds g c =
+    bounds_of (λ found. found.items) c.self.inside.position c.settle.result c.hear_block_threads-heard.result c.settle.ensures.same
+    c.hear_block_threads-heard.ensures.bounds
+
+pub returns-clause-past : goal.returns-clause-past
+returns-clause-past g c =
+    let P : HeldBank → Type 0 = λ old. IfOk c.settle.result (λ found. AllPast old.position found.items) in
+    subst P c.self.view_is
+    (past_of (λ found. found.items) c.self.inside.position c.settle.result c.hear_block_threads-heard.result c.settle.ensures.same
+    c.hear_block_threads-heard.ensures.bounds)

@@ -1,0 +1,445 @@
+-- The ticks of a transmission from its first one on are one transmission.
+use Rattle.std.proofs.Common.{◌≡◌, ℕ, ◌+◌, ◌-◌, ◌*◌, ◌/◌, ◌<◌, ◌≤◌, ◌⊎◌, Bool, true, false, cond, leb, Option}
+use Rattle.std.proofs.Common.{Some, None, is_some, pos, List, [], ◌∷◌, ◌++◌, length, take, get_or, replicate}
+use Rattle.std.proofs.Common.{refl, ap, ◌∙◌, sym, subst, inl, inr, arith, append_assoc, append-nil, length-append}
+use Rattle.std.specs.Option.{IsSome}
+use Rattle.std.proofs.lemmas.Bool.{cases_Bool}
+use Rattle.std.proofs.lemmas.List.{take_all}
+use Rattle.std.proofs.lemmas.List.Concat.{flat_map-append}
+use Rattle.std.proofs.lemmas.List.Elements.{All-nil, All-cons, All-head, All-tail, All-push}
+use Rattle.std.proofs.Math.Nat.{le-max_left}
+use Rattle.nrzi_bits.specs.Line.{line}
+use Rattle.tone_table.specs.Wave.{wave}
+use Rattle.hdlc_framer.specs.Body.{body}
+use Rattle.hdlc_framer.specs.FrameLength.{HasFrameLength}
+use Rattle.afsk_modulator.specs.Transmission.{transmission}
+use Rattle.channel_access.specs.declared.air_tick.AirTick.{AirTick}
+use Rattle.channel_access.specs.declared.sending.Sending.{Sending}
+use Rattle.channel_access.specs.declared.stage.Stage.{Stage}
+use Rattle.channel_access.specs.declared.stage.Stage.TheVariants.{Opening, Frame, Following, Closing, Over}
+use Rattle.rand_pcg.specs.Lcg.{Lcg}
+use Rattle.channel_access.specs.declared.parameters.Parameters.{Parameters}
+use Rattle.channel_access.specs.Parameters.{opening_flags, closing_flags}
+use Rattle.channel_access.specs.Waiting.{WaitingFrame}
+use Rattle.channel_access.specs.OnAir.{OnAir, bits_of, bits_then, decided, names_next, flag_end, frame_named}
+use Rattle.channel_access.specs.OnAir.{tick_samples, with_tick}
+use Rattle.channel_access.specs.Channel.{Channel, decision, begun, air_samples, air_sent, air_waiting, air_after}
+use Rattle.channel_access.specs.Channel.{air_tick, after_tick}
+use Rattle.channel_access.specs.Held.{new_sending, stage_over}
+use Rattle.channel_access.specs.HeldTick.{run_of}
+use Rattle.channel_access.specs.StandsFor.{Stands, StandsForAir, Goes, IsSent}
+use Rattle.channel_access.specs.WholeTransmission.{Call, after_call, after_calls, tick_of_call, ticks_of, joins_in}
+use Rattle.channel_access.specs.WholeTransmission.Call.{Queues, Sets, Ticks}
+use Rattle.channel_access.specs.WholeTransmission.{joining, AreFrames, GoesToItsEnd, octets_of, samples_in}
+use Rattle.channel_access.specs.WholeTransmission.{AreOneTransmission, SendOneTransmission}
+use Rattle.channel_access.proofs.OrderLemmas.{decided_frames, air_takes}
+use Rattle.channel_access.proofs.StageLemmas.{now_at, waiting_at}
+use Rattle.channel_access.proofs.SendingLemmas.{padded}
+use Rattle.channel_access.proofs.TickLemmas.{all_waiting}
+use Rattle.channel_access.proofs.AirLemmas.{at_end, run_samples, run_air, goes_on, same_ticks, full_before}
+use Rattle.channel_access.proofs.AirLemmas.{is_left, closed_bits, bits_of-with_named}
+use Rattle.channel_access.proofs.AccessLemmas.{begins, some_wait}
+use Rattle.channel_access.proofs.QueueLemmas.{GoesWith, goes_joined}
+use Rattle.channel_access.proofs.WholeLemmas.{decided_adds}
+use Rattle.channel_access.proofs.SoFarLemmas.{SoFar, so_far_joined, so_far_reticked, so_far_more, some_left}
+
+-- ---- what is so while a transmission goes on, and after it
+
+record UnderWay (opening closing : ℕ) (first joined : List WaitingFrame) (ticks : List AirTick) (channel : Channel)
+    : Type 0 where
+  pub t : OnAir
+  pub air : channel.air ≡ Some t
+  pub sending : Sending
+  pub goes : Goes sending channel.waiting t
+  pub fit : AreFrames channel.waiting
+  pub so_far : SoFar opening closing first joined ticks channel.waiting t
+  pub samples : samples_in ticks ≡ padded (12 * t.ticks) goes.sent
+
+record IsWhole (opening closing : ℕ) (first joined : List WaitingFrame) (ticks : List AirTick)
+    (waiting : List WaitingFrame)
+    : Type 0 where
+  pub frames : List WaitingFrame
+  pub front : first ++ joined ≡ frames ++ waiting
+  pub whole : AreOneTransmission (octets_of frames) opening closing ticks
+
+-- either
+abbrev After : ℕ → ℕ → List WaitingFrame → List WaitingFrame → List AirTick → Channel → Type 0
+After opening closing first joined ticks channel = UnderWay opening closing first joined ticks channel
+    ⊎ (IsWhole opening closing first joined ticks channel.waiting × (channel.air ≡ None))
+
+-- what a tick sends, whether or not the transmission began with it
+abbrev sends : List WaitingFrame → OnAir → Bool → AirTick
+sends waiting t began =
+    let then = decided (bits_then t) waiting t in
+    record { samples = tick_samples then; began = began; sent = frame_named (bits_then t) then }
+
+-- the channel after it
+abbrev behind : Channel → OnAir → Channel
+behind channel t = record channel {
+  waiting = waiting_at (bits_then t) channel.waiting t;
+  air = with_tick (now_at (bits_then t) channel.waiting t);
+}
+
+-- ---- what the end of a sender says
+
+some_air : (s : Sending) (waiting : List WaitingFrame) (t : OnAir) (over b : Bool) → over ≡ false
+    → StandsForAir (cond over None (Some s)) waiting (cond b None (Some t)) → cond b None (Some t) ≡ Some t
+some_air s waiting t true b goes h = absurd cc
+some_air s waiting t false true goes h = absurd h
+some_air s waiting t false false goes h = refl
+
+none_air : (s : Sending) (waiting : List WaitingFrame) (t : OnAir) (over b : Bool) → over ≡ true
+    → StandsForAir (cond over None (Some s)) waiting (cond b None (Some t)) → cond b None (Some t) ≡ None
+none_air s waiting t true true ends h = refl
+none_air s waiting t true false ends h = absurd h
+none_air s waiting t false b ends h = absurd cc
+
+over_sent : (stage : Stage) (waiting : List WaitingFrame) (t : OnAir) (sent : List Bool) → stage_over stage ≡ true
+    → Stands stage waiting t sent → IsSent t sent
+over_sent (Opening left) waiting t sent over h = absurd cc
+over_sent (Frame f) waiting t sent over h = absurd cc
+over_sent (Following left another) waiting t sent over h = absurd cc
+over_sent (Closing left) waiting t sent over h = absurd cc
+over_sent Over waiting t sent over h = h
+
+-- ---- a tick
+
+module _ (s : Sending) (waiting : List WaitingFrame) (t : OnAir) (g : Goes s waiting t) (fit : AreFrames waiting) where
+  abbrev decided_then : OnAir
+  decided_then = decided (bits_then t) waiting t
+
+  abbrev then_on_air : OnAir
+  then_on_air = now_at (bits_then t) waiting t
+
+  abbrev next_on_air : OnAir
+  next_on_air = record then_on_air { ticks = then_on_air.ticks + 1 }
+
+  abbrev over_then : Bool
+  over_then = stage_over (run_of s waiting).sending.stage
+
+  -- something is left
+  goes_then : over_then ≡ false → GoesWith (run_of s waiting).sending (waiting_at (bits_then t) waiting t) next_on_air
+      (at_end s waiting t g fit).more
+  unfolding goes_on
+  goes_then goes =
+      subst (λ w. GoesWith (run_of s waiting).sending w next_on_air (at_end s waiting t g fit).more)
+      (at_end s waiting t g fit).is_waiting (record { goes = goes_on s waiting t g fit goes; is = refl })
+
+  air_goes : over_then ≡ false → with_tick then_on_air ≡ Some next_on_air
+  air_goes goes =
+      some_air (run_of s waiting).sending (run_of s waiting).waiting next_on_air over_then
+      (leb (length (bits_of then_on_air)) (bits_then then_on_air)) goes (run_air s waiting t g fit)
+
+  air_ends : over_then ≡ true → with_tick then_on_air ≡ None
+  air_ends over =
+      none_air (run_of s waiting).sending (run_of s waiting).waiting next_on_air over_then
+      (leb (length (bits_of then_on_air)) (bits_then then_on_air)) over (run_air s waiting t g fit)
+
+  -- some bit is sent
+  bit_sent : then_on_air.ends ≡ true
+      → (at_end s waiting t g fit).more ≡ body then_on_air.frames then_on_air.opening then_on_air.closing
+      → 12 * t.ticks < length (at_end s waiting t g fit).more
+  bit_sent ends is =
+      let one : 1 ≤ t.closing = subst (λ n. 1 ≤ n) (sym g.sends.closing) (le-max_left 1 (3 * s.tail / 2)) in
+      let left = is_left s.stage waiting t g.sent g.sends.stands fit one in
+      let adds = decided_adds (bits_then t) waiting t in
+      let all : (at_end s waiting t g fit).more ≡ (g.sent ++ left.0) ++ adds.0 =
+      is ∙ closed_bits then_on_air ends ∙ bits_of-with_named (bits_then t) decided_then ∙ adds.1
+      ∙ ap (λ xs. xs ++ adds.0) (sym left.1.whole) in
+      let size = ap length all in
+      let whole = length-append (g.sent ++ left.0) adds.0 in
+      let part = length-append g.sent left.0 in
+      let some : 1 ≤ length left.0 = left.1.some g.left in
+      let full = full_before s waiting t g fit in
+      omega arith
+
+  module _ (opening closing : ℕ) (first joined : List WaitingFrame) (ticks : List AirTick)
+      (h : SoFar opening closing first joined ticks waiting t)
+      (heard : samples_in ticks ≡ padded (12 * t.ticks) g.sent) (began : Bool) where
+    abbrev more_ticks : List AirTick
+    more_ticks = ticks ++ sends waiting t began ∷ []
+
+    so_far_then : SoFar opening closing first joined more_ticks (waiting_at (bits_then t) waiting t) then_on_air
+    so_far_then =
+        let u : OnAir = decided_then in
+        so_far_more opening closing first joined ticks waiting t h u (decided_frames (bits_then t) waiting t)
+        (tick_samples u) began
+        (record { octets = get_or u.frames u.named []; after = 8 * (flag_end (u.named + 1) u - 12 * u.ticks) }) refl
+        (names_next (bits_then t) u) (some_left (bits_then t) u) (air_takes (Some s) waiting (Some t) g)
+
+    samples_then : samples_in more_ticks ≡ padded (bits_then t) (at_end s waiting t g fit).more
+    samples_then =
+        let b = at_end s waiting t g fit in
+        flat_map-append (λ (a : AirTick). a.samples) ticks (sends waiting t began ∷ [])
+        ∙ ap (λ xs. samples_in ticks ++ xs) (append-nil (tick_samples decided_then))
+        ∙ ap (λ xs. xs ++ tick_samples decided_then) heard
+        ∙ ap (λ xs. padded (12 * t.ticks) g.sent ++ xs) (sym (run_samples s waiting t g fit))
+        ∙ sym b.samples
+
+    -- nothing is left
+    whole_then : over_then ≡ true
+        → IsWhole opening closing first joined more_ticks (waiting_at (bits_then t) waiting t)
+    unfolding padded transmission
+    whole_then over =
+        let b = at_end s waiting t g fit in
+        let so = so_far_then in
+        let zeros : ℕ = 8 * (bits_then t - length b.more) in
+        let done = over_sent (run_of s waiting).sending.stage (run_of s waiting).waiting then_on_air b.more over
+        b.sends.stands in
+        let all : octets_of so.gone ≡ then_on_air.frames =
+        so.named ∙ take_all then_on_air.named then_on_air.frames (omega (arith, done.named)) in
+        let more = bit_sent done.ends done.bits in
+        let bits : b.more ≡ body (octets_of so.gone) opening closing =
+        done.bits
+        ∙ ap (λ xs. body xs then_on_air.opening then_on_air.closing) (sym all)
+        ∙ ap (λ n. body (octets_of so.gone) n then_on_air.closing) so.opening
+        ∙ ap (body (octets_of so.gone) opening) so.closing in
+        record {
+          frames = so.gone;
+          front = so.queue;
+          whole = record {
+            some = subst (λ (xs : List (List ℕ)). 1 ≤ length xs) (sym all) so.some;
+            few = subst (λ (xs : List (List ℕ)). length xs ≤ 8) (sym all) so.few;
+            zeros = zeros;
+            fewer = omega arith;
+            samples = samples_then ∙ ap (λ xs. wave (line xs) ++ replicate zeros (pos 0)) bits;
+            named = so.names;
+          };
+        }
+
+-- a tick of a transmission under way
+under_way_more : (opening closing : ℕ) (first joined : List WaitingFrame) (ticks : List AirTick) (channel : Channel)
+    (h : UnderWay opening closing first joined ticks channel) (began : Bool)
+    → After opening closing first joined (ticks ++ sends channel.waiting h.t began ∷ []) (behind channel h.t)
+under_way_more opening closing first joined ticks channel h began =
+    let s : Sending = h.sending in
+    let waiting : List WaitingFrame = channel.waiting in
+    let so = so_far_then s waiting h.t h.goes h.fit opening closing first joined ticks h.so_far h.samples began in
+    let heard = samples_then s waiting h.t h.goes h.fit opening closing first joined ticks h.so_far h.samples began in
+    let now : OnAir = now_at (bits_then h.t) waiting h.t in
+    elim (cases_Bool (stage_over (run_of s waiting).sending.stage)) [
+      | inl over ↦
+          inr (
+            whole_then s waiting h.t h.goes h.fit opening closing first joined ticks h.so_far h.samples began over,
+            air_ends s waiting h.t h.goes h.fit over,
+          )
+      | inr goes ↦
+          let next = goes_then s waiting h.t h.goes h.fit goes in
+          let same : bits_then h.t ≡ 12 * (now.ticks + 1) =
+          ap (λ n. 12 * (n + 1)) (sym (same_ticks s waiting h.t h.goes h.fit)) in
+          inl (record {
+            t = record now { ticks = now.ticks + 1 };
+            air = air_goes s waiting h.t h.goes h.fit goes;
+            sending = (run_of s waiting).sending;
+            goes = next.goes;
+            fit = all_waiting (bits_then h.t) (decided (bits_then h.t) waiting h.t) waiting h.fit;
+            so_far = so_far_reticked opening closing first joined (ticks ++ sends waiting h.t began ∷ [])
+                (waiting_at (bits_then h.t) waiting h.t) now so (now.ticks + 1);
+            samples = heard ∙ ap (λ n. padded n (at_end s waiting h.t h.goes h.fit).more) same
+                ∙ ap (padded (12 * (now.ticks + 1))) (sym next.is);
+          })
+    ]
+
+under_way_joined : (opening closing : ℕ) (first joined : List WaitingFrame) (ticks : List AirTick) (channel : Channel)
+    (frame : WaitingFrame) → HasFrameLength frame.octets → UnderWay opening closing first joined ticks channel
+    → UnderWay opening closing first (joined ++ frame ∷ []) ticks
+    (record channel { waiting = channel.waiting ++ frame ∷ [] })
+under_way_joined opening closing first joined ticks channel frame fits h =
+    let more = goes_joined h.sending channel.waiting (frame ∷ []) h.t h.goes in
+    record {
+      t = h.t;
+      air = h.air;
+      sending = h.sending;
+      goes = more.goes;
+      fit = All-push (λ (f : WaitingFrame). HasFrameLength f.octets) channel.waiting frame h.fit fits;
+      so_far = so_far_joined opening closing first joined ticks channel.waiting h.t h.so_far (frame ∷ []);
+      samples = h.samples ∙ ap (padded (12 * h.t.ticks)) (sym more.is);
+    }
+
+-- ---- a run of calls
+
+tick_is : (busy : Bool) (channel : Channel) (t : OnAir) → channel.air ≡ Some t
+    → air_tick busy channel ≡ sends channel.waiting t false
+tick_is busy channel t is =
+    subst (λ (a : Option OnAir). air_tick busy (record channel { air = a }) ≡ sends channel.waiting t false) (sym is) refl
+
+after_is : (busy : Bool) (channel : Channel) (t : OnAir) → channel.air ≡ Some t
+    → after_tick busy channel ≡ behind channel t
+after_is busy channel t is =
+    subst (λ (a : Option OnAir). after_tick busy (record channel { air = a }) ≡ behind channel t) (sym is) refl
+
+call_more : (opening closing : ℕ) (first joined : List WaitingFrame) (ticks : List AirTick) (channel : Channel)
+    (call : Call) → AreFrames (joins_in call) → UnderWay opening closing first joined ticks channel
+    → After opening closing first (joined ++ joins_in call) (ticks ++ tick_of_call call channel)
+    (after_call call channel)
+call_more opening closing first joined ticks channel (Queues link octets) fit h =
+    let frame : WaitingFrame = record { link = link; octets = octets } in
+    subst (λ ts. After opening closing first (joined ++ frame ∷ []) ts
+    (record channel { waiting = channel.waiting ++ frame ∷ [] })) (sym (append-nil ticks))
+    (inl (under_way_joined opening closing first joined ticks channel frame
+    (All-head (λ (f : WaitingFrame). HasFrameLength f.octets) frame [] fit) h))
+call_more opening closing first joined ticks channel (Sets param) fit h =
+    subst (λ ts. After opening closing first (joined ++ []) ts (after_call (Sets param) channel)) (sym (append-nil ticks))
+    (subst (λ js. After opening closing first js ticks (after_call (Sets param) channel)) (sym (append-nil joined))
+    (inl (record {
+      t = h.t;
+      air = h.air;
+      sending = h.sending;
+      goes = h.goes;
+      fit = h.fit;
+      so_far = h.so_far;
+      samples = h.samples;
+    })))
+call_more opening closing first joined ticks channel (Ticks busy) fit h =
+    subst (λ js. After opening closing first js (ticks ++ air_tick busy channel ∷ []) (after_tick busy channel))
+    (sym (append-nil joined))
+    (subst (λ tick. After opening closing first joined (ticks ++ tick ∷ []) (after_tick busy channel))
+    (sym (tick_is busy channel h.t h.air))
+    (subst (λ next. After opening closing first joined (ticks ++ sends channel.waiting h.t false ∷ []) next)
+    (sym (after_is busy channel h.t h.air))
+    (under_way_more opening closing first joined ticks channel h false)))
+
+both_fit : (xs ys : List WaitingFrame) → AreFrames (xs ++ ys) → AreFrames xs × AreFrames ys
+both_fit [] ys fit = (All-nil (λ (f : WaitingFrame). HasFrameLength f.octets), fit)
+both_fit (x ∷ xs) ys fit =
+    let P : WaitingFrame → Type 0 = λ f. HasFrameLength f.octets in
+    let rest = both_fit xs ys (All-tail P x (xs ++ ys) fit) in
+    (All-cons P x xs (All-head P x (xs ++ ys) fit) rest.0, rest.1)
+
+some_none : {A X : Type 0} (x : Option A) → IsSome x → x ≡ None → X
+some_none None some none = absurd cc
+some_none (Some a) some none = absurd cc
+
+run : (opening closing : ℕ) (first joined : List WaitingFrame) (ticks : List AirTick) (calls : List Call)
+    (channel : Channel) → AreFrames (joining calls) → After opening closing first joined ticks channel
+    → GoesToItsEnd calls channel
+    → IsWhole opening closing first (joined ++ joining calls) (ticks ++ ticks_of calls channel)
+    (after_calls calls channel).waiting
+run opening closing first joined ticks [] channel fit (inl h) end =
+    let both : None ≡ Some h.t = sym end ∙ h.air in
+    absurd cc
+run opening closing first joined ticks [] channel fit (inr h) end =
+    subst (λ ts. IsWhole opening closing first (joined ++ []) ts channel.waiting) (sym (append-nil ticks))
+    (subst (λ js. IsWhole opening closing first js ticks channel.waiting) (sym (append-nil joined)) h.0)
+run opening closing first joined ticks (call ∷ calls) channel fit (inr h) end = some_none channel.air end.0 h.1
+run opening closing first joined ticks (call ∷ calls) channel fit (inl h) end =
+    let fits = both_fit (joins_in call) (joining calls) fit in
+    let last : List WaitingFrame = (after_calls (call ∷ calls) channel).waiting in
+    subst (λ ts. IsWhole opening closing first (joined ++ joining (call ∷ calls)) ts last)
+    (append_assoc ticks (tick_of_call call channel) (ticks_of calls (after_call call channel)))
+    (subst (λ js. IsWhole opening closing first js ((ticks ++ tick_of_call call channel) ++ ticks_of calls
+    (after_call call channel)) last) (append_assoc joined (joins_in call) (joining calls))
+    (run opening closing first (joined ++ joins_in call) (ticks ++ tick_of_call call channel) calls
+    (after_call call channel) fits.1 (call_more opening closing first joined ticks channel call fits.0 h) end.1))
+
+-- ---- the first tick
+
+begins_with : (parameters : Parameters) (waiting : List WaitingFrame) (generator : Lcg) (slot : ℕ) → 1 ≤ length waiting
+    → GoesWith (new_sending parameters) waiting (begun (record {
+      waiting = waiting;
+      parameters = parameters;
+      generator = generator;
+      slot = slot;
+      air = None;
+    })) []
+unfolding begins
+begins_with parameters [] generator slot some = absurd (omega arith)
+begins_with parameters (front ∷ others) generator slot some =
+    record { goes = begins parameters (front ∷ others) generator slot some; is = refl }
+
+one_frame : (waiting : List WaitingFrame) → 1 ≤ length waiting → length (octets_of (take 1 waiting)) ≡ 1
+one_frame [] some = absurd (omega arith)
+one_frame (front ∷ others) some = refl
+
+nothing_sent : padded 0 [] ≡ []
+unfolding padded
+nothing_sent = refl
+
+module _ (busy : Bool) (channel : Channel) (fit : AreFrames channel.waiting) (rest : channel.air ≡ None) where
+  -- with the decision of the tick
+  abbrev then : Channel
+  then = record channel {
+    slot = (decision busy channel).slot;
+    generator = (decision busy channel).generator;
+    air = Some (begun channel);
+  }
+
+  begins_now : (air_tick busy channel).began ≡ true → (decision busy channel).begins ≡ true
+  begins_now began =
+      elim (cases_Bool (decision busy channel).begins) [
+        | inl begins ↦ begins
+        | inr not_yet ↦
+            let P : Option OnAir → Type 0 = λ a. (air_tick busy (record channel { air = a })).began ≡ false in
+            let never : (air_tick busy channel).began ≡ false =
+            subst P (sym rest) (ap (λ b. is_some (cond b (Some (begun channel)) None)) not_yet) in
+            let both : true ≡ false = sym began ∙ never in
+            cc
+      ]
+
+  module _ (begins : (decision busy channel).begins ≡ true) where
+    first_tick : air_tick busy channel ≡ sends channel.waiting (begun channel) true
+    first_tick =
+        let P : Option OnAir → Type 0 =
+        λ a. air_tick busy (record channel { air = a }) ≡ sends channel.waiting (begun channel) true in
+        let tick : Option OnAir → AirTick = λ air. record {
+          samples = air_samples channel.waiting air;
+          began = is_some air;
+          sent = air_sent channel.waiting air;
+        } in
+        subst P (sym rest) (ap (λ b. tick (cond b (Some (begun channel)) None)) begins)
+
+    after_first : after_tick busy channel ≡ behind then (begun channel)
+    after_first =
+        let P : Option OnAir → Type 0 =
+        λ a. after_tick busy (record channel { air = a }) ≡ behind then (begun channel) in
+        let next : Option OnAir → Channel = λ air. record then {
+          waiting = air_waiting channel.waiting air;
+          air = air_after channel.waiting air;
+        } in
+        subst P (sym rest) (ap (λ b. next (cond b (Some (begun channel)) None)) begins)
+
+    starts : UnderWay (opening_flags channel.parameters.tx_delay) (closing_flags channel.parameters.tx_tail)
+        channel.waiting [] [] then
+    starts =
+        let some : 1 ≤ length channel.waiting = some_wait busy channel begins in
+        let one = one_frame channel.waiting some in
+        let new = begins_with channel.parameters channel.waiting channel.generator channel.slot some in
+        record {
+          t = begun channel;
+          air = refl;
+          sending = new_sending channel.parameters;
+          goes = new.goes;
+          fit = fit;
+          so_far = record {
+            gone = [];
+            queue = append-nil channel.waiting;
+            names = refl;
+            named = refl;
+            within = omega arith;
+            some = omega arith;
+            few = omega arith;
+            opening = refl;
+            closing = refl;
+          };
+          samples = sym (ap (padded 0) new.is ∙ nothing_sent);
+        }
+
+-- a transmission, from the tick in which it begins to the one with which it ends
+pub whole_transmission : (channel : Channel) (busy : Bool) (calls : List Call) → AreFrames channel.waiting
+    → AreFrames (joining calls) → channel.air ≡ None → (air_tick busy channel).began ≡ true
+    → GoesToItsEnd calls (after_tick busy channel) → SendOneTransmission (Ticks busy ∷ calls) channel
+unfolding starts
+whole_transmission channel busy calls fit joins rest began end =
+    let opening : ℕ = opening_flags channel.parameters.tx_delay in
+    let closing : ℕ = closing_flags channel.parameters.tx_tail in
+    let begins = begins_now busy channel fit rest began in
+    let first = under_way_more opening closing channel.waiting [] [] (then busy channel fit rest)
+    (starts busy channel fit rest begins) true in
+    let after : After opening closing channel.waiting [] (air_tick busy channel ∷ []) (after_tick busy channel) =
+    subst (λ tick. After opening closing channel.waiting [] (tick ∷ []) (after_tick busy channel))
+    (sym (first_tick busy channel fit rest begins))
+    (subst (λ next. After opening closing channel.waiting [] (sends channel.waiting (begun channel) true ∷ []) next)
+    (sym (after_first busy channel fit rest begins)) first) in
+    let whole = run opening closing channel.waiting [] (air_tick busy channel ∷ []) calls (after_tick busy channel)
+    joins after end in
+    record { frames = whole.frames; front = whole.front; whole = whole.whole }

@@ -1,0 +1,11 @@
+use Rattle.std.proofs.Common.{subst, sym}
+use Rattle.channel_access.specs.Channel.{with_setting}
+use Rattle.channel_access.specs.StandsFor.{StandsForSome}
+use Rattle.channel_access.proofs.QueueLemmas.{stands_set}
+use Rattle.channel_access.proofs.access.Access.set.Goals as goal
+
+pub invariant_of-self : goal.invariant_of-self
+invariant_of-self c =
+    let some = c.self.invariant in
+    subst StandsForSome (sym c.set.ensures)
+    (with_setting c.args.param some.0, stands_set c.args.param c.self.inside.transmitter some.0 some.1)
