@@ -35,6 +35,7 @@ mod TowardsLemmas
 mod InTime
 mod TimedSteps
 mod TimedRun
+mod CountLemmas
 mod OwnLinks
 mod OwnMessages
 mod ProgramSees

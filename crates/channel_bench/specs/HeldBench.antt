@@ -1,5 +1,5 @@
 -- What the code keeps of the bench, and what that stands for. Public clauses cite none of this.
-use Rattle.std.specs.Prelude.{◌≡◌, ℕ, ◌≤◌, ℤ, List, [], ◌∷◌, length, map, replicate, unsigned_abs, All, false, None}
+use Rattle.std.specs.Prelude.{◌≡◌, ℕ, ◌*◌, ◌≤◌, ℤ, List, [], ◌∷◌, length, map, replicate, unsigned_abs, All, false, None}
 use Rattle.agwpe_port.specs.Held.{StandsFor as AgwStandsFor}
 use Rattle.frame_merge.specs.declared.candidate.Candidate.{Candidate}
 use Rattle.frame_merge.specs.Held.{StandsFor as MergerStandsFor}
@@ -136,6 +136,13 @@ with_both to_a to_b bench = record bench {
 }
 
 -- ---- the run, tick by tick
+
+-- what the ticks so far bound: the samples that reached each station, and the transmissions
+pub record IsCounted (bench : BenchState) : Type 0 where
+  pub a : length bench.a.samples ≤ 96 * bench.ticks
+  pub b : length bench.b.samples ≤ 96 * bench.ticks
+  pub transmissions : bench.common.transmissions ≤ 2 * bench.ticks
+  pub lost : bench.common.lost ≤ bench.common.transmissions
 
 -- so many ticks are made, and nothing has ended the run
 pub record HasMade (w : BenchWords) (count : ℕ) (run : Run) : Type 0 where

@@ -1,6 +1,6 @@
 //! What a station hears of the samples that reach it.
 ghost use Rattle.std.specs.Prelude.{◌≡◌, ◌+◌, ◌-◌, ◌<◌, ◌≤◌, ◌^◌, ◌↔◌, ℕ, ℤ, List, [], ◌++◌, length, IfOk, OnOk};
-ghost use Rattle.std.specs.Prelude.{IsTrue};
+ghost use Rattle.std.specs.Prelude.{IsTrue, OnErr, true};
 ghost use Rattle.std.specs.List.{All};
 ghost use Rattle.hdlc_framer.specs.FrameLength.{HasFrameLength};
 ghost use Rattle.frame_merge.specs.declared.candidate.Candidate.{Candidate};
@@ -12,6 +12,7 @@ ghost use Rattle.channel_bench.specs.Sounding.{mark_of};
 
 use frame_merge::{Candidate, Merger};
 use slicer_bank::Bank;
+use station::Memory;
 use std::alloc::Global;
 use tnc_base::OutOfMemory;
 
@@ -20,9 +21,6 @@ const LANES: u8 = 8;
 
 /// How far behind the samples the marks of the lanes stand.
 const BEHIND: u64 = 7;
-
-/// The most samples before a block of a tick.
-const MOST_SAMPLES: u64 = 1 << 47;
 
 /// A bank of slicers, and a merger of what they hear.
 #[derive(Drop)]
@@ -63,25 +61,27 @@ impl Ear {
         mark_after(self.count)
     }
 
-    /// Hears samples, and gives the frames that are ready with them. A bank takes fewer than 2^48 samples: past them
-    /// memory is wanted.
-    pub(crate) fn listen(&mut self, samples: &[i16]) -> Result<Vec<Candidate>, OutOfMemory>
+    /// Hears samples, and gives the frames that are ready with them.
+    pub(crate) fn listen(
+        &mut self,
+        memory: &mut Memory,
+        samples: &[i16],
+    ) -> Result<Vec<Candidate>, OutOfMemory>
         requires stands { (x : List ℤ) × EarStandsFor self.old x }
+        requires few { self.old.count < 2 ^ 47 }
         requires samples { length samples.now ≡ 96 }
         ensures heard { (x : List ℤ) → EarStandsFor self.old x → IfOk result (λ items.
             EarStandsFor self.new (x ++ samples.now)
             × AreMergedBetween (mark_of x) (mark_of (x ++ samples.now)) (x ++ samples.now) items.items) }
         ensures lengths { IfOk result (λ items. All (λ item. HasFrameLength item.octets) items.items) }
+        ensures wanted { OnErr result (memory.new.refused ≡ true) }
     {
-        if self.count >= MOST_SAMPLES {
-            return Err(OutOfMemory);
-        }
-        let found = self.bank.feed(samples)?;
-        put_all(&mut self.merger, found)?;
+        let found = memory.took(self.bank.feed(samples))?;
+        put_all(memory, &mut self.merger, found)?;
         self.count += samples.len() as u64;
         let mark = mark_after(self.count);
         self.merger.mark_all(mark);
-        let ready = self.merger.take_ready()?;
+        let ready = memory.took(self.merger.take_ready())?;
         Ok(ready)
     }
 }
@@ -94,16 +94,21 @@ fn mark_after(count: u64) -> u64
 }
 
 /// Puts candidates into a merger, in their order.
-fn put_all(merger: &mut Merger, items: Vec<Candidate>) -> Result<(), OutOfMemory>
+fn put_all(
+    memory: &mut Memory,
+    merger: &mut Merger,
+    items: Vec<Candidate>,
+) -> Result<(), OutOfMemory>
     requires marks { length merger.old.marks ≡ 8 }
     requires items { All CanBePut items.items }
     requires in_time { AreInTime merger.old.marks items.items }
     ensures stands_for { OnOk result ((puts given : List Candidate) → MergerStandsFor merger.old puts given
         → MergerStandsFor merger.new (puts ++ items.items) given) }
     ensures marks { merger.new.marks ≡ merger.old.marks }
+    ensures wanted { OnErr result (memory.new.refused ≡ true) }
 {
     for item in items {
-        merger.put_in_time(item)?;
+        memory.took(merger.put_in_time(item))?;
     }
     Ok(())
 }

@@ -117,20 +117,10 @@ impl Flight {
     }
 
     /// How many frames were queued, and one more.
-    fn next_number(&self) -> Result<u64, OutOfMemory>
-        ensures { (ways : BothWays) → StandsForWays self.now ways → IfOk result (λ number. number ≡ count_of ways + 1) }
+    fn next_number(&self) -> u64
+        ensures { (ways : BothWays) → StandsForWays self.now ways → result ≡ count_of ways + 1 }
     {
-        let counts = (
-            self.from_a.queued.len() as u64,
-            self.from_b.queued.len() as u64,
-        );
-        let Some(count) = counts.0.checked_add(counts.1) else {
-            return Err(OutOfMemory);
-        };
-        match count.checked_add(1) {
-            Some(number) => Ok(number),
-            None => Err(OutOfMemory),
-        }
+        self.from_a.queued.len() as u64 + self.from_b.queued.len() as u64 + 1
     }
 
     /// A frame that joins the transmit queue of a station finds a quiet channel.
@@ -169,27 +159,22 @@ impl Flight {
         let mut first = None;
         for frame in frames {
             let octets = frame.as_slice();
-            first = self.first_with(first, sender, octets)?;
+            first = self.first_with(first, sender, octets);
             self.queue(sender, on_ask, octets)?;
         }
         Ok(first)
     }
 
     /// The number of the first that finds no quiet channel, with one frame more that is to join.
-    fn first_with(
-        &self,
-        first: Option<u64>,
-        sender: End,
-        octets: &[u8],
-    ) -> Result<Option<u64>, OutOfMemory>
-        ensures { (ways : BothWays) → StandsForWays self.now ways → IfOk result (λ next.
-            next ≡ (if is_some first || is_quiet_at sender octets.now ways then first else Some (count_of ways + 1))) }
+    fn first_with(&self, first: Option<u64>, sender: End, octets: &[u8]) -> Option<u64>
+        ensures { (ways : BothWays) → StandsForWays self.now ways → result
+            ≡ (if is_some first || is_quiet_at sender octets.now ways then first else Some (count_of ways + 1)) }
     {
         if first.is_some() || self.is_quiet(sender, octets) {
-            return Ok(first);
+            first
+        } else {
+            Some(self.next_number())
         }
-        let number = self.next_number()?;
-        Ok(Some(number))
     }
 
     /// A station hears the frame of a number.

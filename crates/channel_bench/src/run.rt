@@ -66,6 +66,7 @@ struct Ready {
 
 impl Run {
     ghost use Rattle.channel_bench.specs.HeldBench.{StandsForRun, MovesRun, Unless, acts, hears, sounds, reaching_a};
+    ghost use Rattle.channel_bench.specs.HeldBench.{IsCounted};
     ghost use Rattle.channel_bench.specs.HeldBench.{reaching_b, with_both, with_noise_drawn};
 
     /// Before the first tick.
@@ -114,7 +115,8 @@ impl Run {
 
     /// Makes a tick.
     pub(crate) fn tick(&mut self) -> Result<(), OutOfMemory>
-        requires stands { (w : BenchWords) × (bench : BenchState) × StandsForRun self.old w bench × AreInRange w }
+        requires stands { (w : BenchWords) × (bench : BenchState) × StandsForRun self.old w bench × AreInRange w
+            × IsCounted bench }
         requires few { self.old.ticks < 2 ^ 32 }
         ensures tick { (w : BenchWords) → OnOk result (MovesRun w (IsTick w) self.old self.new) }
         ensures count { OnOk result (self.new.ticks ≤ self.old.ticks + 1) }
@@ -218,7 +220,8 @@ impl Run {
 
     /// The parts of every tick.
     fn make_parts(&mut self) -> Result<(), OutOfMemory>
-        requires stands { (w : BenchWords) × (bench : BenchState) × StandsForRun self.old w bench × AreInRange w }
+        requires stands { (w : BenchWords) × (bench : BenchState) × StandsForRun self.old w bench × AreInRange w
+            × IsCounted bench }
         requires few { self.old.ticks < 2 ^ 32 }
         ensures made { (w : BenchWords) → OnOk result (MovesRun w (ArePartsMade w each_tick) self.old self.new) }
         ensures count { OnOk result (self.new.ticks ≤ self.old.ticks + 1) }
@@ -244,7 +247,8 @@ impl Run {
 
     /// What both stations send reaches them, and is heard.
     fn sound(&mut self) -> Result<(), OutOfMemory>
-        requires stands { (w : BenchWords) × (bench : BenchState) × StandsForRun self.old w bench × AreInRange w }
+        requires stands { (w : BenchWords) × (bench : BenchState) × StandsForRun self.old w bench × AreInRange w
+            × IsCounted bench }
         requires few { self.old.ticks < 2 ^ 32 }
         ensures made { (w : BenchWords) → OnOk result (MovesRun w (ArePartsMade w sounds) self.old self.new) }
         ensures count { OnOk result (self.new.ticks ≤ self.old.ticks + 1) }
@@ -259,7 +263,8 @@ impl Run {
 
     /// What both stations send reaches them. Gives the frames that are ready.
     fn carry(&mut self) -> Result<Ready, OutOfMemory>
-        requires stands { (w : BenchWords) × (bench : BenchState) × StandsForRun self.old w bench × AreInRange w }
+        requires stands { (w : BenchWords) × (bench : BenchState) × StandsForRun self.old w bench × AreInRange w
+            × IsCounted bench }
         requires few { self.old.ticks < 2 ^ 32 }
         ensures carried { (w : BenchWords) (bench : BenchState) → StandsForRun self.old w bench
             → OnOk result (StandsForRun self.new w (sounding w bench)) }
@@ -270,7 +275,7 @@ impl Run {
             × All (λ item. HasFrameLength item.octets) ready.at_b.items) }
         ensures ticks { self.new.ticks ≡ self.old.ticks }
     {
-        self.draw_losses()?;
+        self.draw_losses();
         let both = self.add_noise()?;
         let ready = self.take_in(&both)?;
         Ok(ready)
@@ -387,19 +392,21 @@ impl Run {
     }
 
     /// The transmissions that begin are lost, or not.
-    fn draw_losses(&mut self) -> Result<(), OutOfMemory>
+    fn draw_losses(&mut self)
+        requires { (self.old.shared.transmissions < 2 ^ 36) × (self.old.shared.lost < 2 ^ 36) }
         ensures lost { (w : BenchWords) (bench : BenchState) → StandsForRun self.old w bench
-            → OnOk result (StandsForRun self.new w (with_losses w.loss bench)) }
+            → StandsForRun self.new w (with_losses w.loss bench) }
+        ensures ears { (self.new.a.ear ≡ self.old.a.ear) × (self.new.b.ear ≡ self.old.b.ear) }
         ensures ticks { self.new.ticks ≡ self.old.ticks }
     {
-        self.a.draw_loss(&mut self.shared, self.words.loss)?;
-        self.b.draw_loss(&mut self.shared, self.words.loss)?;
-        Ok(())
+        self.a.draw_loss(&mut self.shared, self.words.loss);
+        self.b.draw_loss(&mut self.shared, self.words.loss);
     }
 
     /// The samples that reach both stations.
     fn add_noise(&mut self) -> Result<Both, OutOfMemory>
         requires { (w : BenchWords) × (bench : BenchState) × StandsForRun self.old w bench × AreInRange w }
+        ensures ears { (self.new.a.ear ≡ self.old.a.ear) × (self.new.b.ear ≡ self.old.b.ear) }
         ensures drawn { (w : BenchWords) (bench : BenchState) → StandsForRun self.old w bench
             → OnOk result (StandsForRun self.new w (with_noise_drawn w bench)) }
         ensures samples { (w : BenchWords) (bench : BenchState) → StandsForRun self.old w bench → IfOk result (λ both.
@@ -421,6 +428,7 @@ impl Run {
     fn take_in(&mut self, both: &Both) -> Result<Ready, OutOfMemory>
         requires stands { (w : BenchWords) × (bench : BenchState) × StandsForRun self.old w bench }
         requires few { self.old.ticks < 2 ^ 32 }
+        requires ears { (self.old.a.ear.count < 2 ^ 47) × (self.old.b.ear.count < 2 ^ 47) }
         requires lengths { (length both.now.to_a.items ≡ 96) × (length both.now.to_b.items ≡ 96) }
         ensures taken { (w : BenchWords) (bench : BenchState) → StandsForRun self.old w bench
             → OnOk result (StandsForRun self.new w (with_both both.now.to_a.items both.now.to_b.items bench)) }

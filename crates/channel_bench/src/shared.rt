@@ -1,5 +1,5 @@
 //! What the two stations of the bench share: the channel between them.
-ghost use Rattle.std.specs.Prelude.{◌≡◌, ◌+◌, if◌then◌else◌, Some, None, IfOk, OnOk, is_some};
+ghost use Rattle.std.specs.Prelude.{◌≡◌, ◌+◌, ◌<◌, ◌^◌, if◌then◌else◌, Some, None, IfOk, OnOk, is_some};
 ghost use Rattle.channel_bench.specs.declared.trouble.Trouble.TheVariants.{Stray};
 ghost use Rattle.channel_bench.specs.declared.words.BenchWords.{BenchWords};
 
@@ -85,36 +85,31 @@ impl Shared {
     }
 
     /// Draws whether a transmission that begins is lost, and counts it.
-    pub(crate) fn draw_loss(&mut self, loss: u8) -> Result<bool, OutOfMemory>
-        ensures lost { IfOk result (λ lost. lost ≡ is_lost loss self.old.draws) }
-        ensures counted { IfOk result (λ lost. self.new ≡ record self.old {
+    pub(crate) fn draw_loss(&mut self, loss: u8) -> bool
+        requires { (self.old.transmissions < 2 ^ 40) × (self.old.lost < 2 ^ 40) }
+        ensures lost { result ≡ is_lost loss self.old.draws }
+        ensures counted { self.new ≡ record self.old {
           draws = after_word self.old.draws;
           transmissions = self.old.transmissions + 1;
-          lost = if lost then self.old.lost + 1 else self.old.lost;
-        }) }
+          lost = if result then self.old.lost + 1 else self.old.lost;
+        } }
     {
         let lost = self.draws.next_word() % 100 < u32::from(loss);
-        self.count(lost)?;
-        Ok(lost)
+        self.count(lost);
+        lost
     }
 
     /// Counts a transmission that began.
-    fn count(&mut self, lost: bool) -> Result<(), OutOfMemory>
-        ensures { OnOk result (self.new ≡ record self.old {
+    fn count(&mut self, lost: bool)
+        requires { (self.old.transmissions < 2 ^ 40) × (self.old.lost < 2 ^ 40) }
+        ensures { self.new ≡ record self.old {
           transmissions = self.old.transmissions + 1;
           lost = if lost then self.old.lost + 1 else self.old.lost;
-        }) }
+        } }
     {
-        let (Some(transmissions), Some(more)) = (
-            self.transmissions.checked_add(1),
-            self.lost.checked_add(1),
-        ) else {
-            return Err(OutOfMemory);
-        };
-        self.transmissions = transmissions;
+        self.transmissions += 1;
         if lost {
-            self.lost = more;
+            self.lost += 1;
         }
-        Ok(())
     }
 }

@@ -1,6 +1,9 @@
 //! A station of the bench, with its host program and what it hears.
 ghost use Rattle.std.specs.Prelude.{◌≡◌, ◌≢◌, ◌==◌, not, filter, ◌+◌, ◌*◌, ◌<◌, ◌≤◌, ◌^◌, ◌↔◌, ℕ, IsTrue, List, []};
-ghost use Rattle.std.specs.Prelude.{◌++◌, length, All, Any, Some, None, IfOk, OnOk};
+ghost use Rattle.std.specs.Prelude.{◌++◌, length, All, Any, Some, None, Ok, IfOk, OnOk, OnErr, true};
+ghost use Rattle.std.specs.Result.{IsErrOf};
+ghost use Rattle.link_machine.specs.Params.{HasWindows};
+ghost use Rattle.link_machine.specs.declared.fault.NewFault.{NewFault};
 ghost use Rattle.station.specs.Held.{without_ids};
 ghost use Rattle.std.specs.Bool.{IsFalse};
 ghost use Rattle.hdlc_framer.specs.FrameLength.{HasFrameLength};
@@ -24,8 +27,9 @@ use crate::shared::Shared;
 use agwpe_port::{AgwIn, read_messages};
 use channel_access::{AirTick, Sent};
 use frame_merge::Candidate;
+use link_machine::NewFault;
 use link_world::End;
-use station::{Config, HostEvent, HostOut, Piece, PortKind, Station, TickOut};
+use station::{Config, HostEvent, HostOut, Memory, Piece, PortKind, Station, TickOut};
 use std::alloc::Global;
 use tnc_base::{Octets, OutOfMemory};
 
@@ -54,6 +58,8 @@ pub struct Side {
     pub(crate) air: AirTick,
     /// The transmission that it sends is lost.
     pub(crate) silenced: bool,
+    /// What it hears with.
+    memory: Memory,
     ghost within: { matched ≤ length towards.items },
 }
 
@@ -69,13 +75,11 @@ impl Side {
         config: Config,
         seed: u64,
     ) -> Result<Side, OutOfMemory>
+        requires { HasWindows config.params }
         ensures { (w : BenchWords) → config ≡ config_of w → seed ≡ seed_at w end
             → IfOk result (λ side. StandsForSide end side (new_side w end)) }
     {
-        // The windows fit, so want of memory is the one refusal.
-        let Ok(station) = Station::new(alloc, config, seed) else {
-            return Err(OutOfMemory);
-        };
+        let station = of_fitting_windows(Station::new(alloc, config, seed))?;
         let ear = Ear::new(alloc)?;
         Ok(Side {
             alloc,
@@ -93,6 +97,7 @@ impl Side {
                 sent: None,
             },
             silenced: false,
+            memory: Memory::new(alloc),
         })
     }
 
@@ -217,15 +222,18 @@ impl Side {
     }
 
     /// A transmission that begins draws a word, and may be lost.
-    pub(crate) fn draw_loss(&mut self, shared: &mut Shared, loss: u8) -> Result<(), OutOfMemory>
-        ensures { (end : End) (n : Near) → StandsForNear end self.old shared.old n
-            → OnOk result (StandsForNear end self.new shared.new (with_loss loss n)) }
+    pub(crate) fn draw_loss(&mut self, shared: &mut Shared, loss: u8)
+        requires { (shared.old.transmissions < 2 ^ 40) × (shared.old.lost < 2 ^ 40) }
+        ensures drawn { (end : End) (n : Near) → StandsForNear end self.old shared.old n
+            → StandsForNear end self.new shared.new (with_loss loss n) }
+        ensures ear { self.new.ear ≡ self.old.ear }
+        ensures few { (shared.new.transmissions ≤ shared.old.transmissions + 1)
+            × (shared.new.lost ≤ shared.old.lost + 1) }
     {
         if !self.air.began {
-            return Ok(());
+            return;
         }
-        self.silenced = shared.draw_loss(loss)?;
-        Ok(())
+        self.silenced = shared.draw_loss(loss);
     }
 
     /// Samples of a tick reach it, and the frame whose sending has ended at the sender. Gives the frames that are
@@ -237,15 +245,17 @@ impl Side {
         samples: &[i16],
     ) -> Result<Vec<Candidate>, OutOfMemory>
         requires stands { (end : End) × (side : SideState) × StandsForSide end self.old side }
+        requires few { self.old.ear.count < 2 ^ 47 }
         requires tick { tick < 2 ^ 32 }
         requires samples { length samples.now ≡ 96 }
         ensures heard { (end : End) (side : SideState) → StandsForSide end self.old side → IfOk result (λ items.
             StandsForSide end self.new (with_samples samples.now (sent_in tick sender.now.air.sent) side)
             × AreReady (side.samples ++ samples.now) items.items) }
         ensures lengths { IfOk result (λ items. All (λ item. HasFrameLength item.octets) items.items) }
+        ensures wanted { OnErr result (self.new.memory.refused ≡ true) }
     {
-        note_sent(self.alloc, &mut self.towards, tick, &sender.air.sent)?;
-        let items = self.ear.listen(samples)?;
+        note_sent(&mut self.memory, &mut self.towards, tick, &sender.air.sent)?;
+        let items = self.ear.listen(&mut self.memory, samples)?;
         Ok(items)
     }
 
@@ -360,9 +370,21 @@ impl Side {
     }
 }
 
+/// A station whose windows fit, unless memory was wanted.
+fn of_fitting_windows(answer: Result<Station, NewFault>) -> Result<Station, OutOfMemory>
+    requires { (window : ℕ) → ¬ IsErrOf answer (NewFault.BadWindow window) }
+    ensures { IfOk result (λ station. answer ≡ Ok station) }
+{
+    match answer {
+        Ok(station) => Ok(station),
+        Err(NewFault::Memory) => Err(OutOfMemory),
+        Err(NewFault::BadWindow { .. }) => unreachable!(),
+    }
+}
+
 /// Notes a frame whose sending has ended in a tick, if one has.
 fn note_sent(
-    alloc: Global,
+    memory: &mut Memory,
     towards: &mut Vec<SentAt>,
     tick: u64,
     sent: &Option<Sent>,
@@ -370,13 +392,13 @@ fn note_sent(
     requires { tick < 2 ^ 32 }
     ensures noted { OnOk result (towards.new.items ≡ towards.old.items ++ sent_in tick sent.now) }
     ensures kept { length towards.old.items ≤ length towards.new.items }
+    ensures wanted { OnErr result (memory.new.refused ≡ true) }
 {
     match sent {
         Some(sent) => {
-            let octets = Octets::from_slice(alloc, sent.octets.as_slice())?;
+            let octets = memory.copy(sent.octets.as_slice())?;
             let end = end_of(tick, sent.after);
-            towards.push(SentAt { octets, end })?;
-            Ok(())
+            memory.took(towards.push(SentAt { octets, end }))
         }
         None => Ok(()),
     }

@@ -1,11 +1,17 @@
 -- A tick more, unless it ends the run or memory is wanted.
 use Rattle.std.proofs.Common.{◌≡◌, Some, None, sym, ◌∙◌, arith}
+use Rattle.channel_bench.proofs.CountLemmas.{run_counted}
 use Rattle.channel_bench.proofs.BenchLemmas.{ended_by, made_more}
 use Rattle.channel_bench.proofs.benching.advance.Goals as goal
 
 pub tick-requires-clause-stands : goal.tick-requires-clause-stands
-tick-requires-clause-stands c = let going = c.requires.2 in
-    (c.requires.0, going.made.bench, going.made.stands, c.requires.3)
+tick-requires-clause-stands c = let going = c.requires.2 in (
+  c.requires.0,
+  going.made.bench,
+  going.made.stands,
+  c.requires.3,
+  run_counted c.requires.0 c.requires.1 going.made.bench going.made.ticks going.made.no_trouble,
+)
 
 pub tick-requires-clause-few : goal.tick-requires-clause-few
 tick-requires-clause-few c = omega (arith, c.requires.2.made.few, c.requires.4)

@@ -5,7 +5,9 @@ use Rattle.std.proofs.lemmas.List.{get_or-replicate}
 use Rattle.frame_merge.specs.declared.candidate.Candidate.{Candidate}
 use Rattle.std.specs.Prelude.{All}
 use Rattle.std.proofs.lemmas.List.Elements.{All-replicate}
+use Rattle.slicer_bank.specs.Merging.{CanBePut}
 use Rattle.channel_bench.specs.Sounding.{mark_of}
+use Rattle.station.proofs.MemoryLemmas.{if_took}
 use Rattle.channel_bench.proofs.EarLemmas.{ear_more, ready_lengths}
 use Rattle.channel_bench.proofs.ear.Ear.listen.Goals as goal
 
@@ -13,8 +15,10 @@ pub put_all-requires-clause-in_time : goal.put_all-requires-clause-in_time
 put_all-requires-clause-in_time c = λ k d l.
     let item : Candidate = get_or c.in_ok-found.found.items k d in
     let h = c.requires.stands.1 in
-    let past = c.in_ok-found.ensures.past k d l in
-    let lane = (c.in_ok-found.ensures.bounds k d l).lane in
+    let past = if_took _ c.feed.result c.in_ok-found.found c.in_ok-found.ensures.value c.feed.ensures.past k d l in
+    let can : CanBePut item =
+    if_took _ c.feed.result c.in_ok-found.found c.in_ok-found.ensures.value c.feed.ensures.bounds k d l in
+    let lane = can.lane in
     let mark : get_or c.args.self.now.merger.marks item.offset 0 ≡ mark_of c.requires.stands.0 =
     ap (λ (m : List ℕ). get_or m item.offset 0) h.marks
     ∙ get_or-replicate 8 item.offset (mark_of c.requires.stands.0) 0 lane in
@@ -36,15 +40,16 @@ returns-clause-heard c = λ x h.
     let y = c.args.samples.now in
     let size = length-append x y in
     let room : length (x ++ y) < 2 ^ 48 = omega
-    (arith, size, h.count, c.if-self-ge-MOST_SAMPLES.false, c.requires.samples) in
+    (arith, size, h.count, c.requires.few, c.requires.samples) in
     let mark : c.mark_after-mark.result ≡ mark_of (x ++ y) = omega (arith, size, h.count, c.mark_after-mark.ensures) in
     let eight = ap length (c.put_all.ensures.marks ∙ h.marks) in
     ear_more x y c.args.self.now _ c.put_all.new.merger c.mark_all.new.self c.in_ok-found.found.items
     c.in_ok-ready.ready.items room
-    (c.in_ok-found.ensures.found x) c.feed.ensures.flags refl c.in_ok-put_all.ensures.stands_for
+    (if_took _ c.feed.result c.in_ok-found.found c.in_ok-found.ensures.value c.feed.ensures.found x) c.feed.ensures.flags refl c.in_ok-put_all.ensures.stands_for
     c.mark_all.ensures.stands_for
     (c.mark_all.ensures.marks ∙ ap (λ n. replicate n c.mark_after-mark.result) eight ∙ ap (replicate 8) mark)
-    c.in_ok-ready.ensures.ready c.take_ready.ensures.marks h
+    (if_took _ c.take_ready.result c.in_ok-ready.ready c.in_ok-ready.ensures.value c.take_ready.ensures.ready)
+    c.take_ready.ensures.marks h
 
 pub returns-clause-lengths : goal.returns-clause-lengths
 returns-clause-lengths c =

@@ -1,6 +1,7 @@
 -- What hosts and stations do, and then what comes of it.
 use Rattle.channel_bench.specs.BenchTick.{each_tick}
 use Rattle.channel_bench.specs.HeldBench.{acts, sounds}
+use Rattle.channel_bench.proofs.CountLemmas.{acts_counted}
 use Rattle.channel_bench.proofs.PartLemmas.{parts_append}
 use Rattle.channel_bench.proofs.run.Run.make_parts.Goals as goal
 
@@ -11,7 +12,7 @@ pub sound-requires-clause-stands : goal.sound-requires-clause-stands
 sound-requires-clause-stands c =
     let need = c.requires.stands in
     let one = c.in_ok-act.ensures.made need.0 need.1 need.2 in
-    (need.0, one.0, one.2, need.3)
+    (need.0, one.0, one.2, need.3, acts_counted need.0 need.1 one.0 one.1 need.4)
 
 pub returns-clause-made : goal.returns-clause-made
 unfolding each_tick

@@ -1,5 +1,6 @@
 -- In the first tick the run begins.
 use Rattle.std.proofs.Common.{◌≡◌, ◌<◌, subst, arith}
+use Rattle.channel_bench.proofs.CountLemmas.{beginning_counted}
 use Rattle.channel_bench.proofs.TickLemmas.{tick_first, tick_later}
 use Rattle.channel_bench.proofs.run.Run.tick.Goals as goal
 
@@ -13,7 +14,7 @@ pub make_parts-requires-2-clause-stands : goal.make_parts-requires-2-clause-stan
 make_parts-requires-2-clause-stands c =
     let need = c.requires.stands in
     let one = c.in_ok-begin.ensures.begun need.0 need.1 need.2 in
-    (need.0, one.0, one.2, need.3)
+    (need.0, one.0, one.2, need.3, beginning_counted need.0 need.1 one.0 one.1 need.4)
 
 pub returns-then-self-gt0-clause-tick : goal.returns-then-self-gt0-clause-tick
 returns-then-self-gt0-clause-tick c = λ w bench h.
