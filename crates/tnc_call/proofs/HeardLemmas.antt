@@ -1,12 +1,12 @@
 -- What comes of the host, octet by octet.
-use Rattle.std.proofs.Common.{◌≡◌, ◌≢◌, ℕ, ◌^◌, ◌-◌, ◌+◌, min, Bool, true, false, List, [], ◌∷◌, ◌++◌, length, refl, ap, subst, ◌∙◌}
+use Rattle.std.proofs.Common.{◌≡◌, ◌≢◌, ℕ, ◌^◌, ◌-◌, ◌+◌, min, true, false, List, [], ◌∷◌, ◌++◌, length, refl, ap, subst, ◌∙◌}
 use Rattle.std.proofs.Common.{sym, append_assoc, append-nil, Option, Some, None, arith, length-append, MatchOption}
 use Rattle.tnc_base.specs.Streams.{WrotePart}
 use Rattle.agwpe_client.specs.declared.call_state.CallState.{CallState}
 use Rattle.agwpe_client.specs.declared.call_state.CallState.TheVariants.{Asking, Calling, Up}
 use Rattle.agwpe_client.specs.declared.call_state.CallState.TheVariants.{Done as DoneState, Refused as RefusedState}
 use Rattle.agwpe_client.specs.declared.call_state.CallState.TheVariants.{Broken as BrokenState}
-use Rattle.agwpe_client.specs.CallRun.{CallPlan, CallRun, call_run, is_over, state_after, sent_after, printed_after}
+use Rattle.agwpe_client.specs.CallRun.{CallPlan, CallRun, call_run, is_over, state_after, printed_after}
 use Rattle.agwpe_client.proofs.GrowLemmas.{Grows, run_grows}
 use Rattle.agwpe_client.proofs.StreamLemmas.{over_stays}
 use Rattle.tnc_call.specs.declared.call_end.CallEnd.{CallEnd}
@@ -34,10 +34,12 @@ all_is_part plan host before written is =
 pub part_stays : (plan : CallPlan) (host more before : List ℕ) (written : Option (List ℕ))
     → IsPartPrinted plan host before written → IsPartPrinted plan (host ++ more) before written
 part_stays plan host more before written part =
-    let grows : Grows (call_run plan host) (call_run plan (host ++ more)) = run_grows plan host more in
-    (part.0, part.1 ++ grows.more_printed,
+    let grows : Grows (call_run plan host) (call_run plan (host ++ more)) = run_grows plan host more in (
+      part.0,
+      part.1 ++ grows.more_printed,
       grows.printed ∙ ap (λ xs. xs ++ grows.more_printed) part.2 ∙ append_assoc part.0 part.1 grows.more_printed,
-      part.3)
+      part.3,
+    )
 
 -- a call that ended stays as it ended
 pub stop_stays : (plan : CallPlan) (host more before : List ℕ) (written : Option (List ℕ)) (end : CallEnd)
@@ -74,10 +76,12 @@ not_over (BrokenState len) done refused broken = absurd (broken len refl)
 pub part_of_last : (plan : CallPlan) (host before printed last : List ℕ) (written : Option (List ℕ))
     → printed_after plan host ≡ printed ++ last → WrotePart (before ++ printed) last written
     → IsPartPrinted plan host before written
-part_of_last plan host before printed last written is part =
-    (printed ++ part.0, part.1,
-      is ∙ ap (λ xs. printed ++ xs) part.2 ∙ sym (append_assoc printed part.0 part.1),
-      part.3 ∙ ap Some (append_assoc before printed part.0))
+part_of_last plan host before printed last written is part = (
+  printed ++ part.0,
+  part.1,
+  is ∙ ap (λ xs. printed ++ xs) part.2 ∙ sym (append_assoc printed part.0 part.1),
+  part.3 ∙ ap Some (append_assoc before printed part.0),
+)
 
 -- counts stop at the greatest
 pub counts_more : (first last : List ℕ) (count : ℕ)
@@ -189,17 +193,19 @@ stops_in plan id host first rest event before written end stops = by_end end sto
     by_end NoHost stops = absurd stops
     by_end Refused stops = more Refused stops
     by_end HostLost stops =
-        let left = stops.0 in
-        (record {
-          front = first ++ left.front;
-          rest = left.rest ++ rest;
-          is = ap (λ es. first ++ (es ++ rest)) left.is
-              ∙ ap (λ es. first ++ es) (append_assoc left.front (Left id ∷ left.rest) rest)
-              ∙ sym (append_assoc first left.front (Left id ∷ (left.rest ++ rest)));
-          going = subst (λ xs. is_over (state_after plan xs) ≡ false)
-              (append_assoc host (octets_of id first) (octets_of id left.front)
-              ∙ ap (λ xs. host ++ xs) (sym (octets_of_more id first left.front))) left.going;
-        }, more Memory stops.1)
+        let left = stops.0 in (
+          record {
+            front = first ++ left.front;
+            rest = left.rest ++ rest;
+            is = ap (λ es. first ++ (es ++ rest)) left.is
+                ∙ ap (λ es. first ++ es) (append_assoc left.front (Left id ∷ left.rest) rest)
+                ∙ sym (append_assoc first left.front (Left id ∷ (left.rest ++ rest)));
+            going = subst (λ xs. is_over (state_after plan xs) ≡ false)
+                (append_assoc host (octets_of id first) (octets_of id left.front)
+                ∙ ap (λ xs. host ++ xs) (sym (octets_of_more id first left.front))) left.going;
+          },
+          more Memory stops.1,
+        )
     by_end (Broken len) stops = more (Broken len) stops
     by_end (GaveUp polls) stops = absurd stops
 

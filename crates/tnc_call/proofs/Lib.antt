@@ -1,3 +1,4 @@
+pub mod FaultlessLemmas
 pub mod HeardLemmas
 pub mod TraceLemmas
 pub mod TurnLemmas

@@ -1,17 +1,15 @@
 -- The polls and offers of a call, one after the other.
-use Rattle.std.proofs.Common.{◌≡◌, ◌≢◌, ℕ, zero, suc, ◌+◌, ◌-◌, ◌<◌, ◌≤◌, ◌⊎◌, eqb, leb, cond, Bool, true, false, List, [], ◌∷◌}
+use Rattle.std.proofs.Common.{◌≡◌, ◌≢◌, ℕ, suc, ◌+◌, ◌<◌, ◌≤◌, ◌⊎◌, eqb, leb, cond, Bool, true, false, List, [], ◌∷◌}
 use Rattle.std.proofs.Common.{◌++◌, All, length, map, take, drop, get_or, refl, ap, subst, ◌∙◌, sym, inl, inr, arith, append_assoc}
-use Rattle.std.proofs.Common.{append-nil, length-append, Option, Some, add-zero, not}
-use Rattle.std.specs.Prelude.{Any, filter, sum_by}
-use Rattle.std.specs.List.{flat_map}
+use Rattle.std.proofs.Common.{append-nil, length-append, Some}
+use Rattle.std.specs.Prelude.{Any, filter}
 use Rattle.std.proofs.Math.ListN.{get_or-append}
 use Rattle.std.proofs.Math.Seq.{get_or-append_seam, take-add}
-use Rattle.std.proofs.lemmas.Bool.{le-leb, leb-true, leb-false, cases_lt, cases_eq, eqb-true, eqb-false, eq-eqb}
+use Rattle.std.proofs.lemmas.Bool.{le-leb, leb-true, cases_lt, cases_eq, eqb-true, eq-eqb}
 use Rattle.std.proofs.lemmas.Grind.{flat_map-append}
-use Rattle.std.proofs.lemmas.List.{map-append, take-append-le, take_at, take_all, length_push}
-use Rattle.std.proofs.lemmas.List.Elements.{All-append, All-cons, All-push, filter-append}
+use Rattle.std.proofs.lemmas.List.{map-append, take-append-le, take_at, length_push}
+use Rattle.std.proofs.lemmas.List.Elements.{All-append, All-push, filter-append}
 use Rattle.std.proofs.lemmas.List.Sums.{sum_by-append, sum_by_push}
-use Rattle.station.specs.declared.host_event.HostEvent.{HostEvent}
 use Rattle.tnc_ports.specs.SampledRun.{GrowsBy}
 use Rattle.tnc_ports.specs.Sockets.{Poll, Send}
 use Rattle.agwpe_client.specs.CallRun.{CallPlan, sent_after}

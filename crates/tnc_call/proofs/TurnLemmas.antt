@@ -1,5 +1,5 @@
 -- A turn of a call.
-use Rattle.std.proofs.Common.{◌≡◌, ◌≢◌, ℕ, ◌+◌, ◌-◌, ◌<◌, ◌≤◌, List, [], ◌∷◌, ◌++◌, All, length, refl, ap, subst, ◌∙◌, sym, inl, inr}
+use Rattle.std.proofs.Common.{◌≡◌, ◌≢◌, ℕ, ◌-◌, ◌<◌, ◌≤◌, List, [], ◌∷◌, ◌++◌, length, refl, ap, subst, ◌∙◌, sym, inl, inr}
 use Rattle.std.proofs.Common.{arith, append_assoc, append-nil, Option, Some, None, MatchOption}
 use Rattle.std.proofs.Common.{false}
 use Rattle.std.proofs.lemmas.Grind.{flat_map-append}
@@ -10,15 +10,14 @@ use Rattle.station.specs.declared.host_event.HostEvent.{HostEvent}
 use Rattle.station.specs.declared.host_event.HostEvent.TheVariants.{Left}
 use Rattle.tnc_ports.specs.SampledRun.{GrowsBy}
 use Rattle.tnc_ports.specs.Sockets.{Poll}
-use Rattle.agwpe_client.specs.CallRun.{CallPlan, call_run, is_over, state_after, sent_after, printed_after}
+use Rattle.agwpe_client.specs.CallRun.{CallPlan, call_run, is_over, state_after, sent_after}
 use Rattle.agwpe_client.proofs.GrowLemmas.{Grows, run_grows}
 use Rattle.tnc_call.specs.declared.talk.Talk.{Talk}
 use Rattle.tnc_call.specs.declared.call_end.CallEnd.{CallEnd}
 use Rattle.tnc_call.specs.declared.call_end.CallEnd.TheVariants.{Done, TooLong, Memory, ReadFault, WriteFault, NoHost}
 use Rattle.tnc_call.specs.declared.call_end.CallEnd.TheVariants.{Refused, HostLost, Broken, GaveUp}
-use Rattle.tnc_call.specs.CallEnding.{HasLeft, HasSendFailed, IsEnded, IsPartPrinted}
+use Rattle.tnc_call.specs.CallEnding.{IsEnded, IsPartPrinted}
 use Rattle.tnc_call.specs.CallTrace.{CallPorts, CallTrace, IsTraced, IsAlike, IsCallPoll, octets_of, octets_in, events_in}
-use Rattle.tnc_call.specs.CallTrace.{count_taken}
 use Rattle.tnc_call.specs.HeldTalk.{HasBegun, GoesOn, Stops, StopsBy, IsRunning, HasOffered, TurnsOn, HasStopped}
 use Rattle.tnc_call.specs.HeldTalk.{HasTalked}
 use Rattle.tnc_call.specs.CallEnding.{count_of}
@@ -86,8 +85,10 @@ module _ (talk : Talk) (plan : CallPlan) (id : ℕ) (before : List ℕ) (written
         offered = running.offered;
         polls = running.polls;
         ended = λ most. (
-          inr (rose start.faults old.faults now.faults running.alike.later risen,
-            (let size = ap length octets in omega (arith, running.taken))),
+          inr (
+            rose start.faults old.faults now.faults running.alike.later risen,
+            (let size = ap length octets in omega (arith, running.taken)),
+          ),
           all_is_part plan (octets_in id trace.polls) before written running.goes_on.is_printed,
         );
       }
@@ -114,80 +115,82 @@ module _ (talk : Talk) (plan : CallPlan) (id : ℕ) (before : List ℕ) (start o
 
   module _ (poll : Poll) (quiet : IsCallPoll poll) (now : CallPorts) (polls : GrowsBy (poll ∷ []) old.polls now.polls)
       (sends : now.sends ≡ old.sends) (sent : (other : ℕ) → now.sent other ≡ old.sent other) (alike : IsAlike old now)
-      where
-    abbrev next : CallTrace
-    next = with_poll poll trace
+    where
+      abbrev next : CallTrace
+      next = with_poll poll trace
 
-    whole : octets_in id (with_poll poll trace).polls ≡ host ++ octets_of id poll.events
-    whole = octets_with_poll id trace.polls poll
+      whole : octets_in id (with_poll poll trace).polls ≡ host ++ octets_of id poll.events
+      whole = octets_with_poll id trace.polls poll
 
-    traced_next : IsTraced id (sent_after plan (octets_in id (with_poll poll trace).polls)) (with_poll poll trace) start now
-    traced_next = traced_poll id (sent_after plan (octets_in id (with_poll poll trace).polls)) trace poll start old now
-        (more_to_send poll.events poll refl offered.traced) polls sends sent
+      traced_next : IsTraced id (sent_after plan (octets_in id (with_poll poll trace).polls)) (with_poll poll trace) start now
+      traced_next = traced_poll id (sent_after plan (octets_in id (with_poll poll trace).polls)) trace poll start old now
+          (more_to_send poll.events poll refl offered.traced) polls sends sent
 
-    pub turns_on : (heard : Talk) (output : Option (List ℕ)) → heard.taken ≡ talk.taken
-        → GoesOn heard plan (host ++ octets_of id poll.events) before output
-        → TurnsOn heard plan id before output start now (length trace.polls)
-    turns_on heard output kept goes =
-        let goes' : GoesOn heard plan (octets_in id (with_poll poll trace).polls) before output =
-        subst (λ xs. GoesOn heard plan xs before output) (sym whole) goes in
-        record {
-          next = next;
-          count = length_push trace.polls poll;
-          running = record {
-            goes_on = goes';
-            traced = subst (λ xs. IsTraced id xs (with_poll poll trace) start now) (sym goes'.sent) traced_next;
-            alike = alike_on start old now offered.alike alike;
-            taken = kept ∙ offered.taken;
-            early = early_again trace poll offered.early;
-            offered = always_with_poll plan id trace poll offered.early offered.next offered.offered;
-            polls = All-push IsCallPoll trace.polls poll offered.polls quiet;
-          };
-        }
+      pub turns_on : (heard : Talk) (output : Option (List ℕ)) → heard.taken ≡ talk.taken
+          → GoesOn heard plan (host ++ octets_of id poll.events) before output
+          → TurnsOn heard plan id before output start now (length trace.polls)
+      turns_on heard output kept goes =
+          let goes' : GoesOn heard plan (octets_in id (with_poll poll trace).polls) before output =
+          subst (λ xs. GoesOn heard plan xs before output) (sym whole) goes in
+          record {
+            next = next;
+            count = length_push trace.polls poll;
+            running = record {
+              goes_on = goes';
+              traced = subst (λ xs. IsTraced id xs (with_poll poll trace) start now) (sym goes'.sent) traced_next;
+              alike = alike_on start old now offered.alike alike;
+              taken = kept ∙ offered.taken;
+              early = early_again trace poll offered.early;
+              offered = always_with_poll plan id trace poll offered.early offered.next offered.offered;
+              polls = All-push IsCallPoll trace.polls poll offered.polls quiet;
+            };
+          }
 
-    -- the end that events make is the end of the call
-    ends_by : (output : Option (List ℕ)) (most : ℕ) (end : CallEnd) → StopsBy plan id host poll.events before output end
-        → IsEnded plan most id (with_poll poll trace) before output start.faults now.faults end
-    ends_by output most (Done got) stops = subst (λ xs. Stops plan xs before output (Done got)) (sym whole) stops
-    ends_by output most TooLong stops = absurd stops
-    ends_by output most Memory stops = subst (λ xs. Stops plan xs before output Memory) (sym whole) stops
-    ends_by output most ReadFault stops = absurd stops
-    ends_by output most WriteFault stops = subst (λ xs. Stops plan xs before output WriteFault) (sym whole) stops
-    ends_by output most NoHost stops = absurd stops
-    ends_by output most Refused stops = subst (λ xs. Stops plan xs before output Refused) (sym whole) stops
-    ends_by output most HostLost stops =
-        let left = stops.0 in
-        (inl (record {
-          front = events_in trace.polls ++ left.front;
-          rest = left.rest;
-          is = flat_map-append (λ (p : Poll). p.events) trace.polls (poll ∷ [])
-              ∙ ap (λ es. events_in trace.polls ++ es) (append-nil poll.events ∙ left.is)
-              ∙ sym (append_assoc (events_in trace.polls) left.front (Left id ∷ left.rest));
-          going = subst (λ xs. is_over (state_after plan xs) ≡ false)
-              (sym (octets_of_more id (events_in trace.polls) left.front)) left.going;
-        }), subst (λ xs. IsPartPrinted plan xs before output) (sym whole) stops.1)
-    ends_by output most (Broken len) stops = subst (λ xs. Stops plan xs before output (Broken len)) (sym whole) stops
-    ends_by output most (GaveUp polls') stops = absurd stops
+      -- the end that events make is the end of the call
+      ends_by : (output : Option (List ℕ)) (most : ℕ) (end : CallEnd) → StopsBy plan id host poll.events before output end
+          → IsEnded plan most id (with_poll poll trace) before output start.faults now.faults end
+      ends_by output most (Done got) stops = subst (λ xs. Stops plan xs before output (Done got)) (sym whole) stops
+      ends_by output most TooLong stops = absurd stops
+      ends_by output most Memory stops = subst (λ xs. Stops plan xs before output Memory) (sym whole) stops
+      ends_by output most ReadFault stops = absurd stops
+      ends_by output most WriteFault stops = subst (λ xs. Stops plan xs before output WriteFault) (sym whole) stops
+      ends_by output most NoHost stops = absurd stops
+      ends_by output most Refused stops = subst (λ xs. Stops plan xs before output Refused) (sym whole) stops
+      ends_by output most HostLost stops =
+          let left = stops.0 in (
+            inl (record {
+              front = events_in trace.polls ++ left.front;
+              rest = left.rest;
+              is = flat_map-append (λ (p : Poll). p.events) trace.polls (poll ∷ [])
+                  ∙ ap (λ es. events_in trace.polls ++ es) (append-nil poll.events ∙ left.is)
+                  ∙ sym (append_assoc (events_in trace.polls) left.front (Left id ∷ left.rest));
+              going = subst (λ xs. is_over (state_after plan xs) ≡ false)
+                  (sym (octets_of_more id (events_in trace.polls) left.front)) left.going;
+            }),
+            subst (λ xs. IsPartPrinted plan xs before output) (sym whole) stops.1,
+          )
+      ends_by output most (Broken len) stops = subst (λ xs. Stops plan xs before output (Broken len)) (sym whole) stops
+      ends_by output most (GaveUp polls') stops = absurd stops
 
-    pub turn_stops : (output : Option (List ℕ)) (end : CallEnd) → StopsBy plan id host poll.events before output end
-        → HasStopped plan id before output start now (length trace.polls) end
-    turn_stops output end stops = record {
-      next = next;
-      count = let n = length_push trace.polls poll in omega arith;
-      traced = traced_next;
-      alike = alike_on start old now offered.alike alike;
-      offered = always_with_poll plan id trace poll offered.early offered.next offered.offered;
-      polls = All-push IsCallPoll trace.polls poll offered.polls quiet;
-      ended = λ most. ends_by output most end stops;
-    }
+      pub turn_stops : (output : Option (List ℕ)) (end : CallEnd) → StopsBy plan id host poll.events before output end
+          → HasStopped plan id before output start now (length trace.polls) end
+      turn_stops output end stops = record {
+        next = next;
+        count = let n = length_push trace.polls poll in omega arith;
+        traced = traced_next;
+        alike = alike_on start old now offered.alike alike;
+        offered = always_with_poll plan id trace poll offered.early offered.next offered.offered;
+        polls = All-push IsCallPoll trace.polls poll offered.polls quiet;
+        ended = λ most. ends_by output most end stops;
+      }
 
-    pub turn_goes : (heard : Talk) (output : Option (List ℕ)) (result : Option CallEnd) → heard.taken ≡ talk.taken
-        → MatchOption result (GoesOn heard plan (host ++ octets_of id poll.events) before output)
-        (StopsBy plan id host poll.events before output)
-        → MatchOption result (TurnsOn heard plan id before output start now (length trace.polls))
-        (HasStopped plan id before output start now (length trace.polls))
-    turn_goes heard output None kept goes = turns_on heard output kept goes
-    turn_goes heard output (Some end) kept stops = turn_stops output end stops
+      pub turn_goes : (heard : Talk) (output : Option (List ℕ)) (result : Option CallEnd) → heard.taken ≡ talk.taken
+          → MatchOption result (GoesOn heard plan (host ++ octets_of id poll.events) before output)
+          (StopsBy plan id host poll.events before output)
+          → MatchOption result (TurnsOn heard plan id before output start now (length trace.polls))
+          (HasStopped plan id before output start now (length trace.polls))
+      turn_goes heard output None kept goes = turns_on heard output kept goes
+      turn_goes heard output (Some end) kept stops = turn_stops output end stops
 
   -- no memory for the events
   pub no_memory : (now : CallPorts) → now.polls ≡ old.polls → now.sends ≡ old.sends

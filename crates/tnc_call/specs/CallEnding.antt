@@ -1,7 +1,6 @@
 -- What a whole call is: what it printed and did with the sockets, and why it ended.
 use Rattle.std.specs.Prelude.{◌≡◌, ◌≢◌, ℕ, ◌-◌, ◌^◌, ◌<◌, ◌≤◌, ◌⊎◌, Bool, true, false, List, [], ◌∷◌, ◌++◌, All, length, min}
 use Rattle.std.specs.Prelude.{Option, Some}
-use Rattle.ax25_address.specs.Callsign.{Callsign}
 use Rattle.tnc_base.specs.Faults.{HasRisen}
 use Rattle.tnc_base.specs.Streams.{WrotePart}
 use Rattle.station.specs.declared.host_event.HostEvent.{HostEvent}

@@ -1,6 +1,6 @@
 -- What a call did with the sockets: its polls, and what it offered the host before each of them.
-use Rattle.std.specs.Prelude.{◌≡◌, ◌≢◌, ℕ, ◌+◌, ◌<◌, ◌≤◌, ◌⊎◌, ◌==◌, nat_le, Bool, if◌then◌else◌, List, [], ◌∷◌, ◌++◌}
-use Rattle.std.specs.Prelude.{All, Any, length, map, filter, sum_by, take, Option, Some}
+use Rattle.std.specs.Prelude.{◌≡◌, ◌≢◌, ℕ, ◌+◌, ◌<◌, ◌≤◌, ◌⊎◌, ◌==◌, nat_le, Bool, if◌then◌else◌, List, [], ◌∷◌}
+use Rattle.std.specs.Prelude.{Any, length, map, filter, sum_by, take, Option, Some}
 use Rattle.std.specs.List.{flat_map}
 use Rattle.station.specs.declared.host_event.HostEvent.{HostEvent}
 use Rattle.station.specs.declared.host_event.HostEvent.TheVariants.{Joined, Bytes, Left}

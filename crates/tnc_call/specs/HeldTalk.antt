@@ -1,9 +1,7 @@
 -- What is kept of a call under way, and how its parts end. No public clause looks inside.
-use Rattle.std.specs.Prelude.{◌≡◌, ◌≢◌, ℕ, ◌+◌, ◌^◌, ◌<◌, ◌≤◌, ◌⊎◌, Any, false, List, [], ◌∷◌, ◌++◌, All, length, take, min}
+use Rattle.std.specs.Prelude.{◌≡◌, ◌≢◌, ℕ, ◌+◌, ◌<◌, ◌≤◌, ◌⊎◌, Any, false, List, [], ◌++◌, All, length}
 use Rattle.std.specs.Prelude.{Option, Some}
-use Rattle.tnc_base.specs.Streams.{WrotePart}
 use Rattle.station.specs.declared.host_event.HostEvent.{HostEvent}
-use Rattle.tnc_ports.specs.Sockets.{Poll}
 use Rattle.agwpe_client.specs.declared.call_state.CallState.TheVariants.{Refused as RefusedState, Broken as BrokenState}
 use Rattle.agwpe_client.specs.declared.client_out.ClientOut.{ClientOut}
 use Rattle.agwpe_client.specs.CallRun.{CallPlan, is_over, state_after, sent_after, printed_after}
@@ -14,7 +12,7 @@ use Rattle.tnc_call.specs.declared.call_end.CallEnd.TheVariants.{Done, TooLong, 
 use Rattle.tnc_call.specs.declared.call_end.CallEnd.TheVariants.{Refused, HostLost, Broken, GaveUp}
 use Rattle.tnc_call.specs.CallEnding.{IsPrinted, IsPartPrinted, IsDone, IsRefused, IsBroken, HasLeft, IsEnded}
 use Rattle.tnc_call.specs.CallEnding.{count_of}
-use Rattle.tnc_call.specs.CallTrace.{CallPorts, CallTrace, CallOffer, IsTraced, IsAlike, IsAlwaysOffered, IsCallPoll}
+use Rattle.tnc_call.specs.CallTrace.{CallPorts, CallTrace, IsTraced, IsAlike, IsAlwaysOffered, IsCallPoll}
 use Rattle.tnc_call.specs.CallTrace.{octets_of, octets_in, count_taken, TookLess}
 
 -- these octets of the host were taken, and the call is not over

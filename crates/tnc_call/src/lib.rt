@@ -7,6 +7,7 @@
 mod call_end;
 mod call_words;
 mod calling;
+mod laws;
 mod printing;
 mod reading;
 mod talk;
@@ -14,3 +15,4 @@ mod talk;
 pub use call_end::CallEnd;
 pub use call_words::CallWords;
 pub use calling::call;
+pub use laws::faultless_ends;

@@ -41,11 +41,7 @@ pub(crate) struct Talk {
 
 impl Talk {
     /// A call that has not begun: the registration waits to be sent.
-    pub(crate) fn new(
-        alloc: Global,
-        words: CallWords,
-        text: &[u8],
-    ) -> Result<Talk, OutOfMemory>
+    pub(crate) fn new(alloc: Global, words: CallWords, text: &[u8]) -> Result<Talk, OutOfMemory>
         ensures begun { IfOk result (HasBegun (plan_of words text.now)) }
         ensures within { IfOk result (λ talk. talk.taken ≤ length talk.sent.items) }
     {
@@ -124,12 +120,7 @@ impl Talk {
     }
 
     /// Offers the host what waits for it, if anything does.
-    fn offer<R: Net, N: Ports>(
-        &mut self,
-        rt: &R,
-        id: u32,
-        ports: &mut N,
-    ) -> Result<(), Failed>
+    fn offer<R: Net, N: Ports>(&mut self, rt: &R, id: u32, ports: &mut N) -> Result<(), Failed>
         requires within { self.old.taken ≤ length self.old.sent.items }
         ensures kept { self.new ≡ record self.old { taken = self.new.taken } }
         ensures failed { OnErr result (self.new.taken ≡ self.old.taken) }

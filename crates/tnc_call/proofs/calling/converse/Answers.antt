@@ -1,4 +1,4 @@
-use Rattle.std.proofs.Common.{◌≡◌, ◌+◌, ◌∙◌, ℕ, length, refl, ap, None, arith}
+use Rattle.std.proofs.Common.{◌+◌, ◌∙◌, length, refl, ap, None, arith}
 use Rattle.tnc_call.specs.declared.call_end.CallEnd.TheVariants.{WriteFault}
 use Rattle.tnc_call.specs.CallTrace.{no_trace, ports_by}
 use Rattle.tnc_call.proofs.HeardLemmas.{none_is_no_end}
@@ -7,9 +7,13 @@ use Rattle.tnc_call.proofs.calling.converse.Goals as goal
 
 pub loop-turn-init : goal.loop-turn-init
 loop-turn-init g c = record {
-  running = λ plan before begun is. (no_trace, refl, running_begins c.args.talk.now plan c.args.id before
-      (g.O.Sink.written c.args.output.now) (ports_by g.N.Ports.listens g.N.Ports.dials g.N.Ports.polls g.N.Ports.sends
-      g.N.Ports.sent g.N.Ports.is_shut g.N.Ports.faults c.args.ports.now) begun is);
+  running = λ plan before begun is. (
+    no_trace,
+    refl,
+    running_begins c.args.talk.now plan c.args.id before
+        (g.O.Sink.written c.args.output.now) (ports_by g.N.Ports.listens g.N.Ports.dials g.N.Ports.polls g.N.Ports.sends
+        g.N.Ports.sent g.N.Ports.is_shut g.N.Ports.faults c.args.ports.now) begun is,
+  );
   within = c.requires.within;
   faultless = refl;
 }

@@ -1,4 +1,4 @@
-use Rattle.std.proofs.Common.{◌≡◌, ◌+◌, ◌++◌, ◌∷◌, [], ℕ, List, take, drop, subst, sym, ◌∙◌, MatchOption}
+use Rattle.std.proofs.Common.{◌+◌, ◌++◌, ◌∷◌, [], ℕ, List, take, drop, subst, sym, ◌∙◌, MatchOption}
 use Rattle.station.specs.declared.host_event.HostEvent.{HostEvent}
 use Rattle.tnc_call.specs.declared.call_end.CallEnd.TheVariants.{WriteFault}
 use Rattle.tnc_call.specs.CallTrace.{octets_of, event_octets}
