@@ -1,0 +1,6 @@
+pub mod FieldLemmas
+pub mod ValueLemmas
+pub mod Vandermonde
+pub mod GeneratorLemmas
+pub mod RegisterLemmas
+pub mod DistanceLemmas
