@@ -28,11 +28,11 @@ pub distance-other : (x y : ℕ) (xs ys : List ℕ) → (x ≡ y → ⊥) → di
 distance-other x y xs ys other =
     distance-cons x y xs ys ∙ ap (λ t. cond t 0 1 + distance xs ys) (ne_eqb x y other) ∙ omega arith
 
-weight-zero : (xs : List ℕ) → weight (0 ∷ xs) ≡ weight xs
+pub weight-zero : (xs : List ℕ) → weight (0 ∷ xs) ≡ weight xs
 unfolding weight
 weight-zero xs = refl
 
-weight-some : (x : ℕ) (xs : List ℕ) → (x ≡ 0 → ⊥) → weight (x ∷ xs) ≡ suc (weight xs)
+pub weight-some : (x : ℕ) (xs : List ℕ) → (x ≡ 0 → ⊥) → weight (x ∷ xs) ≡ suc (weight xs)
 unfolding weight
 weight-some zero xs some = absurd (some refl)
 weight-some (suc x) xs some = refl

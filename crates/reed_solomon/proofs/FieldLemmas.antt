@@ -338,3 +338,40 @@ pub product-one : (a : ℕ) → a < 256 → product a 1 ≡ a
 unfolding product
 product-one zero fits = refl
 product-one (suc a) fits = power-logarithm (suc a) (omega arith) fits
+
+pub product_comm : (a b : ℕ) → a < 256 → b < 256 → product a b ≡ product b a
+product_comm zero b a_fits b_fits = zero-product b ∙ sym (product-zero b)
+product_comm (suc a) zero a_fits b_fits = product-zero (suc a) ∙ sym (zero-product (suc a))
+product_comm (suc a) (suc b) a_fits b_fits =
+    let turned : logarithm (suc a) + logarithm (suc b) ≡ logarithm (suc b) + logarithm (suc a) = omega arith in
+    sym (product_by_logarithms (suc a) (suc b) (omega arith) (omega arith) b_fits) ∙ ap power turned
+    ∙ product_by_logarithms (suc b) (suc a) (omega arith) (omega arith) a_fits
+
+pub zero_from_product : (a b : ℕ) → 0 < a → b < 256 → product a b ≡ 0 → b ≡ 0
+zero_from_product a b some fits none =
+    zero_from_times_power (logarithm a) b fits (sym (by_logarithm a b some) ∙ none)
+
+pub product_assoc : (a b c : ℕ) → b < 256 → c < 256 → product (product a b) c ≡ product a (product b c)
+product_assoc zero b c b_fits c_fits =
+    ap (λ n. product n c) (zero-product b) ∙ zero-product c ∙ sym (zero-product (product b c))
+product_assoc (suc a) b c b_fits c_fits =
+    let k = logarithm (suc a) in
+    let by = λ (n : ℕ). by_logarithm (suc a) n (omega arith) in
+    ap (λ n. product n c) (by b) ∙ product_comm (times_power k b) c (times_power-lt k b b_fits) c_fits
+    ∙ product-times_power c k b ∙ ap (times_power k) (product_comm c b c_fits b_fits) ∙ sym (by (product b c))
+
+pub xor-product : (a b c : ℕ) → a < 256 → b < 256 → c < 256
+    → product (bit_xor a b) c ≡ bit_xor (product a c) (product b c)
+xor-product a b c a_fits b_fits c_fits =
+    product_comm (bit_xor a b) c (xor_of_8 a b a_fits b_fits) c_fits ∙ product-xor c a b a_fits b_fits
+    ∙ ap (λ n. bit_xor n (product c b)) (product_comm c a c_fits a_fits)
+    ∙ ap (bit_xor (product a c)) (product_comm c b c_fits b_fits)
+
+-- what is divided by an octet, times that octet
+pub quotient-product : (a b : ℕ) → 0 < b → b < 256 → a < 256 → times_power (255 - logarithm b) (product a b) ≡ a
+quotient-product a b some b_fits a_fits =
+    let k = logarithm b in
+    let low = logarithm-lt b some b_fits in
+    let round : 255 - k + k ≡ 255 = omega arith in
+    ap (times_power (255 - k)) (product_comm a b a_fits b_fits ∙ by_logarithm b a some)
+    ∙ sym (times_power-add (255 - k) k a) ∙ ap (λ n. times_power n a) round ∙ times_power_of_255 a a_fits

@@ -12,7 +12,7 @@ use Rattle.reed_solomon.proofs.FieldLemmas.{times_power-lt, times_power-zero, pr
 use Rattle.reed_solomon.proofs.ValueLemmas.{Octets, Octets-append, Octets-added, Octets-product, length-added, value_at-lt}
 use Rattle.reed_solomon.proofs.ValueLemmas.{value_at-added, value_at-product, value_at-append, value_at-zero}
 
-value_at-single : (j x : ℕ) → value_at j (x ∷ []) ≡ x
+pub value_at-single : (j x : ℕ) → value_at j (x ∷ []) ≡ x
 unfolding value_at times_power
 value_at-single j x =
     let none : j * 0 ≡ 0 = omega arith in

@@ -4,3 +4,5 @@ pub mod Vandermonde
 pub mod GeneratorLemmas
 pub mod RegisterLemmas
 pub mod DistanceLemmas
+pub mod ScaledLemmas
+pub mod FewRoots

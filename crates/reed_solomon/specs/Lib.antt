@@ -4,3 +4,4 @@ pub mod Distance
 pub mod Codeword
 pub mod Product
 pub mod Register
+pub mod Kernel
