@@ -1,9 +1,9 @@
 -- Words that differ in few octets.
 use Rattle.std.proofs.Common.{◌≡◌, ℕ, zero, suc, ◌+◌, ◌-◌, ◌*◌, ◌<◌, ◌≤◌, ◌==◌, cond, eqb, bit_xor, List, [], ◌∷◌, ◌++◌}
-use Rattle.std.proofs.Common.{length, take, drop, replicate, All, refl, ap, ◌∙◌, sym, inl, inr, arith, length-append}
+use Rattle.std.proofs.Common.{length, take, drop, replicate, All, refl, ap, subst, ◌∙◌, sym, inl, inr, arith, length-append}
 use Rattle.std.specs.Int.Bits.{xor_self}
 use Rattle.std.proofs.lemmas.Bool.{cases_eq, eq-eqb, ne_eqb}
-use Rattle.std.proofs.lemmas.List.{length-replicate, length-take, length-drop, take-append-drop, append_cancel_left}
+use Rattle.std.proofs.lemmas.List.{get_or_default, length-replicate, length-take, length-drop, take-append-drop, append_cancel_left}
 use Rattle.reed_solomon.specs.declared.code.Code.{Code}
 use Rattle.reed_solomon.specs.declared.code.Zeros.{Zeros}
 use Rattle.reed_solomon.specs.declared.code.Zeros.TheVariants.{Leading, Between}
@@ -12,7 +12,7 @@ use Rattle.reed_solomon.specs.Distance.{distance}
 use Rattle.reed_solomon.specs.Register.{added}
 use Rattle.reed_solomon.specs.Values.{value_at, Vanishes}
 use Rattle.reed_solomon.proofs.FieldLemmas.{same_from_xor}
-use Rattle.reed_solomon.proofs.ValueLemmas.{Octets, Octets-append, Octets-added, Octets-replicate, length-added, octets_from}
+use Rattle.reed_solomon.proofs.ValueLemmas.{Octets, Octets-append, Octets-added, Octets-replicate, length-added, octets_from, octet_at}
 use Rattle.reed_solomon.proofs.ValueLemmas.{value_at-added, weight}
 use Rattle.reed_solomon.proofs.Vandermonde.{few_zeros}
 
@@ -158,15 +158,20 @@ apart code xs ys check other xs_octets ys_octets check_octets other_octets size 
     (omega (arith, length-whole code xs check short check_size)) (Octets-whole code xs check xs_octets check_octets)
     (Octets-whole code ys other ys_octets other_octets) is other_is (omega arith)
 
+pub all_of_octets : (xs : List ℕ) → Octets xs → All (λ x. x < 256) xs
+all_of_octets xs octets = λ k d below.
+    let P : ℕ → Type 0 = λ n. n < 256 in
+    subst P (get_or_default xs k 0 d below) (octet_at xs k octets)
+
 pub octets_of_all : (xs : List ℕ) → All (λ x. x < 256) xs → Octets xs
 octets_of_all xs all = octets_from xs (λ k below. all k 0 below)
 
-Octets-take : (n : ℕ) (xs : List ℕ) → Octets xs → Octets (take n xs)
+pub Octets-take : (n : ℕ) (xs : List ℕ) → Octets xs → Octets (take n xs)
 Octets-take zero xs octets = tt
 Octets-take (suc n) [] octets = tt
 Octets-take (suc n) (x ∷ xs) octets = (octets.0, Octets-take n xs octets.1)
 
-Octets-drop : (n : ℕ) (xs : List ℕ) → Octets xs → Octets (drop n xs)
+pub Octets-drop : (n : ℕ) (xs : List ℕ) → Octets xs → Octets (drop n xs)
 Octets-drop zero xs octets = octets
 Octets-drop (suc n) [] octets = tt
 Octets-drop (suc n) (x ∷ xs) octets = Octets-drop n xs octets.1

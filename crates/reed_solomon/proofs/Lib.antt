@@ -6,3 +6,4 @@ pub mod RegisterLemmas
 pub mod DistanceLemmas
 pub mod ScaledLemmas
 pub mod FewRoots
+pub mod KernelLemmas

@@ -1,6 +1,6 @@
 -- What the decoder works with. No public clause cites it.
 use Rattle.std.specs.Prelude.{◌≡◌, ℕ, zero, suc, ◌+◌, ◌==◌, ◌<◌, ◌≢◌, Bool, List, [], ◌∷◌, length, if◌then◌else◌}
-use Rattle.std.specs.Prelude.{slice_index, slice_index_or, bit_xor}
+use Rattle.std.specs.Prelude.{slice_index, slice_index_or, bit_xor, All}
 use Rattle.reed_solomon.specs.Values.{value_at}
 use Rattle.reed_solomon.specs.Product.{product}
 
@@ -33,7 +33,17 @@ IsBasis width rows left = (k : ℕ) → k < left → (u : ℕ) × (u < width) ×
 abbrev pub Meet : List (List ℕ) → ℕ → List ℕ → Type 0
 Meet rows left equation = (k : ℕ) → k < left → dot (row rows k) equation ≡ 0
 
--- how many of the first n tests hold
+-- A multiple of a row: what is 0 stays 0, at a place and in an equation.
+pub record IsMultiple (old new : List ℕ) : Type 0 where
+  pub at : (u : ℕ) → slice_index old u ≡ 0 → slice_index new u ≡ 0
+  pub in_equation : (other : List ℕ) → All (λ x. x < 256) other → dot old other ≡ 0 → dot new other ≡ 0
+
+-- A row with a multiple of the pivot added: where the pivot is 0, at a place or in an equation, nothing changes.
+pub record AddsMultiple (pivot old new : List ℕ) : Type 0 where
+  pub at : (u : ℕ) → slice_index pivot u ≡ 0 → slice_index new u ≡ slice_index old u
+  pub in_equation : (other : List ℕ) → All (λ x. x < 256) other → dot pivot other ≡ 0 → dot new other ≡ dot old other
+
+-- how many tests hold
 unfoldable pub count_true : List Bool → ℕ
 count_true [] = 0
 count_true (b ∷ bs) = (if b then 1 else 0) + count_true bs

@@ -97,3 +97,11 @@ pub fn times_power(i: usize, a: u8) -> u8
     }
     power(i % 255 + logarithm(a) as usize)
 }
+
+// The octet whose product with `a` is 1.
+pub fn inverse(a: u8) -> u8
+    requires { 0 < a }
+    ensures { product result a ≡ 1 }
+{
+    power(255 - logarithm(a) as usize)
+}

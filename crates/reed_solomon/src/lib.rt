@@ -10,6 +10,7 @@ mod encoder;
 mod code;
 mod field;
 mod generator;
+mod kernel;
 mod laws;
 
 pub use encoder::check_octets;
