@@ -76,6 +76,16 @@ distance-append (x ∷ xs) ys (u ∷ us) vs size =
     let head = λ (ps qs : List ℕ). distance-cons x u ps qs in
     omega (arith, rest, head (xs ++ ys) (us ++ vs), head xs us)
 
+distance_nil : distance [] [] ≡ 0
+unfolding distance
+distance_nil = refl
+
+pub distance-push : (xs ys : List ℕ) (x y : ℕ) → length xs ≡ length ys
+    → distance (xs ++ x ∷ []) (ys ++ y ∷ []) ≡ distance xs ys + cond (eqb x y) 0 1
+distance-push xs ys x y size =
+    distance-append xs (x ∷ []) ys (y ∷ []) size
+    ∙ ap (λ n. distance xs ys + n) (distance-cons x y [] [] ∙ ap (λ n. cond (eqb x y) 0 1 + n) distance_nil ∙ omega arith)
+
 pub distance-refl : (xs : List ℕ) → distance xs xs ≡ 0
 unfolding distance
 distance-refl [] = refl

@@ -254,7 +254,7 @@ times_power-mod i a fits =
     let split : i / 255 * 255 + i % 255 ≡ i = omega arith in
     sym (times_power_rounds (i / 255) (i % 255) a fits) ∙ ap (λ n. times_power n a) split
 
-power_of_zero : (a : ℕ) → times_power 0 a ≡ a
+pub power_of_zero : (a : ℕ) → times_power 0 a ≡ a
 unfolding times_power
 power_of_zero a = refl
 

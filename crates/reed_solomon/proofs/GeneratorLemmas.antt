@@ -36,14 +36,14 @@ with_root_is : {A : Type 0} (root : ℕ) (rest : List ℕ) (f : List ℕ → A)
 unfolding with_root
 with_root_is root rest f = refl
 
-length-with_root : (root : ℕ) (rest : List ℕ) → length (with_root root rest) ≡ suc (length rest)
+pub length-with_root : (root : ℕ) (rest : List ℕ) → length (with_root root rest) ≡ suc (length rest)
 unfolding with_root
 length-with_root root rest =
     length-added (rest ++ 0 ∷ []) (map (product root) (1 ∷ rest))
     (omega (arith, length-append rest (0 ∷ []), length-map rest (product root)))
     ∙ omega (arith, length-append rest (0 ∷ []))
 
-Octets-with_root : (root : ℕ) (rest : List ℕ) → Octets rest → Octets (with_root root rest)
+pub Octets-with_root : (root : ℕ) (rest : List ℕ) → Octets rest → Octets (with_root root rest)
 unfolding with_root
 Octets-with_root root rest octets =
     Octets-added (rest ++ 0 ∷ []) (map (product root) (1 ∷ rest))
@@ -51,7 +51,7 @@ Octets-with_root root rest octets =
     (Octets-product root (1 ∷ rest) (omega arith, octets))
 
 -- the value of the product is the value times the sum of the point and the root
-value_at-with_root : (j root : ℕ) (rest : List ℕ) → Octets rest → value_at j (1 ∷ with_root root rest)
+pub value_at-with_root : (j root : ℕ) (rest : List ℕ) → Octets rest → value_at j (1 ∷ with_root root rest)
     ≡ bit_xor (times_power j (value_at j (1 ∷ rest))) (product root (value_at j (1 ∷ rest)))
 value_at-with_root j root rest octets =
     let shifted = rest ++ 0 ∷ [] in

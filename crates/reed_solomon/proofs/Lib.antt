@@ -7,3 +7,5 @@ pub mod DistanceLemmas
 pub mod ScaledLemmas
 pub mod FewRoots
 pub mod KernelLemmas
+pub mod RootLemmas
+pub mod ErrorLemmas

@@ -1,7 +1,8 @@
 -- What the decoder works with. No public clause cites it.
-use Rattle.std.specs.Prelude.{◌≡◌, ℕ, zero, suc, ◌+◌, ◌==◌, ◌<◌, ◌≢◌, Bool, List, [], ◌∷◌, length, if◌then◌else◌}
+use Rattle.std.specs.Prelude.{◌≡◌, ℕ, zero, suc, ◌+◌, ◌*◌, ◌==◌, ◌<◌, ◌≤◌, ◌≢◌, Bool, List, [], ◌∷◌, length, if◌then◌else◌}
 use Rattle.std.specs.Prelude.{slice_index, slice_index_or, bit_xor, All}
-use Rattle.reed_solomon.specs.Values.{value_at}
+use Rattle.reed_solomon.specs.Values.{value_at, Vanishes}
+use Rattle.reed_solomon.specs.Distance.{distance}
 use Rattle.reed_solomon.specs.Product.{product}
 
 -- the sum of the products of two lists, place by place, as far as both go
@@ -47,3 +48,11 @@ pub record AddsMultiple (pivot old new : List ℕ) : Type 0 where
 unfoldable pub count_true : List Bool → ℕ
 count_true [] = 0
 count_true (b ∷ bs) = (if b then 1 else 0) + count_true bs
+
+-- v is a list of octets with the same zeros as a codeword, which a word comes to if at most half as many octets as
+-- there are roots are changed
+pub record IsWrong (first count : ℕ) (word v : List ℕ) : Type 0 where
+  pub octets : All (λ x. x < 256) v
+  pub size : length v ≡ length word
+  pub vanishes : Vanishes first count v
+  pub near : 2 * distance word v ≤ count

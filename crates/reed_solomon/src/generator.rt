@@ -22,7 +22,7 @@ pub fn generator(first_root: u8, check_count: usize) -> ArrayVec<u8, 64>
 }
 
 // One root more: the polynomial times the sum of x and the root.
-fn add_root(rest: &mut ArrayVec<u8, 64>, root: u8)
+pub fn add_root(rest: &mut ArrayVec<u8, 64>, root: u8)
     requires { array_vec_len rest.old < 64 }
     ensures items { rest.new.items ≡ with_root root rest.old.items }
     ensures len { array_vec_len rest.new ≡ array_vec_len rest.old + 1 }
@@ -33,7 +33,7 @@ fn add_root(rest: &mut ArrayVec<u8, 64>, root: u8)
 }
 
 // All coefficients, the highest too.
-fn with_highest(rest: &[u8]) -> ArrayVec<u8, 65>
+pub fn with_highest(rest: &[u8]) -> ArrayVec<u8, 65>
     requires { length rest.now < 65 }
     ensures { result.items ≡ 1 ∷ rest.now }
 {

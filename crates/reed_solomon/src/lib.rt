@@ -6,13 +6,20 @@
 #![tactic(auto)]
 
 mod add_multiple;
-mod encoder;
 mod code;
+mod decoder;
+mod encoder;
 mod field;
 mod generator;
 mod kernel;
 mod laws;
 
-pub use encoder::check_octets;
+mod values;
+mod words;
+mod wrong_octets;
+
 pub use code::{Code, Zeros};
+pub use decoder::{NoCodeword, is_codeword, repair};
+pub use encoder::check_octets;
 pub use laws::{check_octets_are_one, codewords_are_apart};
+
