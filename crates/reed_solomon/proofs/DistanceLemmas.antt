@@ -115,7 +115,7 @@ one_list first count xs ys size short xs_octets ys_octets xs_zero ys_zero near =
 
 -- ---- with the zeros of a shortened code
 
-length-with_zeros : (zeros : Zeros) (n : ℕ) (xs : List ℕ) → length (with_zeros zeros n xs) ≡ n + length xs
+pub length-with_zeros : (zeros : Zeros) (n : ℕ) (xs : List ℕ) → length (with_zeros zeros n xs) ≡ n + length xs
 length-with_zeros Leading n xs = omega (arith, length-append (replicate n 0) xs, length-replicate {A = ℕ} n 0)
 length-with_zeros Between n xs = omega (arith, length-append xs (replicate n 0), length-replicate {A = ℕ} n 0)
 

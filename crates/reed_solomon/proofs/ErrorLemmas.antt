@@ -1,9 +1,9 @@
 -- Where a word is wrong, and by how much.
-use Rattle.std.proofs.Common.{◌≡◌, ◌≢◌, ℕ, zero, suc, ◌+◌, ◌-◌, ◌*◌, ◌<◌, ◌≤◌, cond, eqb, bit_xor, List, [], ◌∷◌, length}
+use Rattle.std.proofs.Common.{◌≡◌, ◌≢◌, ℕ, zero, suc, ◌+◌, ◌-◌, ◌*◌, ◌<◌, ◌≤◌, Bool, true, false, cond, eqb, bit_xor, List, [], ◌∷◌, length}
 use Rattle.std.proofs.Common.{get_or, take, drop, refl, ap, subst, ◌∙◌, sym, inl, inr, arith}
 use Rattle.std.specs.Int.Bits.{xor_zero_r}
 use Rattle.std.proofs.lemmas.Bool.{cases_eq, eq-eqb, ne_eqb}
-use Rattle.std.proofs.lemmas.List.{length-take, get_or_past}
+use Rattle.std.proofs.lemmas.List.{length-take, get_or_default}
 use Rattle.reed_solomon.specs.Field.{times_power}
 use Rattle.reed_solomon.specs.Values.{value_at, Vanishes}
 use Rattle.reed_solomon.specs.Product.{product}
@@ -12,9 +12,9 @@ use Rattle.reed_solomon.specs.Register.{added}
 use Rattle.reed_solomon.specs.Kernel.{dot, values_down, octet_before, IsWrong}
 use Rattle.reed_solomon.proofs.FieldLemmas.{times_power-lt, times_power-add, times_power_rounds, product-lt, zero-product, product-zero, power_of_zero}
 use Rattle.reed_solomon.proofs.FieldLemmas.{product_comm, product_assoc, product-one, xor_twice}
-use Rattle.reed_solomon.proofs.ValueLemmas.{Octets, Octets-added, length-added, value_at-lt, value_at-added, weight, octet_at}
+use Rattle.reed_solomon.proofs.ValueLemmas.{Octets, Octets-added, length-added, get_or-added, value_at-lt, value_at-added, weight}
 use Rattle.reed_solomon.proofs.Vandermonde.{few_zeros}
-use Rattle.reed_solomon.proofs.DistanceLemmas.{weight-added, Octets-take}
+use Rattle.reed_solomon.proofs.DistanceLemmas.{weight-added, octets_of_all}
 use Rattle.reed_solomon.proofs.ScaledLemmas.{scaled, length-scaled, Octets-scaled, dot-values_down, weight-scaled, zero_at_octet}
 use Rattle.reed_solomon.proofs.ScaledLemmas.{IsAloneAt, value_at-alone}
 use Rattle.reed_solomon.proofs.KernelLemmas.{dot-take}
@@ -67,24 +67,17 @@ same_values u w first (suc n) same =
 -- ---- where a word is wrong
 
 -- A list whose sums with the values of a word are 0 is 0 at each octet of the word.
-pub zero_at_errors : (first most : ℕ) (k errors : List ℕ) → length k ≡ 33 → most < 33 → Octets k → Octets errors
+pub zero_at_errors : (first most : ℕ) (l errors : List ℕ) → length l ≡ most + 1 → Octets l → Octets errors
     → length errors ≤ 255 → weight errors ≤ most
-    → ((i : ℕ) → i < most → dot k (take (most + 1) (drop i (values_down errors first (2 * most)))) ≡ 0)
-    → (q : ℕ) → q < length errors → octet_before q errors ≢ 0 → value_at q (take (most + 1) k) ≡ 0
-zero_at_errors first most k errors size low k_octets octets short light met q below some =
-    let l = take (most + 1) k in
-    let l_octets = Octets-take (most + 1) k k_octets in
-    let l_size : length l ≡ most + 1 = omega (arith, length-take (most + 1) k) in
+    → ((i : ℕ) → i < most → dot l (take (most + 1) (drop i (values_down errors first (2 * most)))) ≡ 0)
+    → (q : ℕ) → q < length errors → octet_before q errors ≢ 0 → value_at q l ≡ 0
+zero_at_errors first most l errors size l_octets octets short light met q below some =
     let vanishes : Vanishes first most (scaled l errors) = λ j from j_below.
     let i = first + most - 1 - j in
     let window : take (most + 1) (drop i (values_down errors first (2 * most))) ≡ values_down errors j (most + 1) =
     values_window errors first j i (most + 1) (2 * most) (omega arith) from in
-    let shorter : length (values_down errors j (most + 1)) ≤ most + 1 =
-    omega (arith, length-values_down errors j (most + 1)) in
-    sym (dot-values_down j l errors l_octets octets)
-    ∙ ap (λ n. dot l (values_down errors j n)) l_size
-    ∙ dot-take (most + 1) k (values_down errors j (most + 1)) shorter
-    ∙ ap (dot k) (sym window) ∙ met i (omega arith) in
+    sym (dot-values_down j l errors l_octets octets) ∙ ap (λ n. dot l (values_down errors j n)) size
+    ∙ ap (dot l) (sym window) ∙ met i (omega arith) in
     let gone = few_zeros most (scaled l errors) first (Octets-scaled l errors l_octets)
     (omega (arith, length-scaled l errors)) (omega (arith, weight-scaled l errors)) vanishes in
     zero_at_octet l errors q l_octets gone below some
@@ -137,6 +130,12 @@ octet_before-lt q (x ∷ xs) octets =
           (octet_before-lt q xs octets.1)
     ]
 
+round_trip : (first p : ℕ) → first < 255 → (255 - first) * p + first * p ≡ p * 255 + 0
+round_trip first p low =
+    let parts : 255 - first + first ≡ 255 = omega arith in
+    let joined : (255 - first) * p + first * p ≡ (255 - first + first) * p = omega arith in
+    joined ∙ ap (λ m. m * p) parts ∙ omega arith
+
 -- The share of one wrong octet, if the list is 0 at all others.
 pub error_value : (first p count inverted : ℕ) (all errors : List ℕ) → first < 255 → length all ≤ count
     → Octets all → Octets errors → inverted < 256 → product inverted (value_at p all) ≡ 1
@@ -163,14 +162,6 @@ error_value first p count inverted all errors low few all_octets octets fits one
     ap (λ m. product inverted (times_power ((255 - first) * p) m)) sum ∙ ap (product inverted) share
     ∙ ap (product inverted) (product_comm e v e_fits v_fits) ∙ sym (product_assoc inverted v e v_fits e_fits)
     ∙ ap (λ m. product m e) one ∙ product_comm 1 e (omega arith) e_fits ∙ product-one e e_fits
-  where
-    round_trip : (first p : ℕ) → first < 255 → (255 - first) * p + first * p ≡ p * 255 + 0
-    round_trip first p low =
-        let parts : 255 - first + first ≡ 255 = omega arith in
-        sym (add_mul (255 - first) first p) ∙ ap (λ m. m * p) parts ∙ omega arith
-
-    add_mul : (a b c : ℕ) → (a + b) * c ≡ a * c + b * c
-    add_mul a b c = omega arith
 
 -- ---- the errors of a word beside a codeword
 
@@ -183,3 +174,34 @@ errors_values first count word v wrong octets v_octets =
     same_values word (added word v) first count (λ j from below.
     sym (value_at-added j word v (sym wrong.size) octets v_octets
     ∙ ap (bit_xor (value_at j word)) (wrong.vanishes j from below) ∙ xor_zero_r (value_at j word)))
+
+-- The kernel of a word's syndromes is 0 wherever the word is wrong.
+pub errors_at_roots : (first most : ℕ) (syndromes word v k : List ℕ) (roots : List Bool) → length k ≡ 33
+    → Octets (take (most + 1) k) → Octets word → length word ≡ 255 → length syndromes ≡ 2 * most → most < 33
+    → syndromes ≡ values_down word first (length syndromes)
+    → ((i : ℕ) → i < most → dot k (take (most + 1) (drop i syndromes)) ≡ 0)
+    → ((p : ℕ) → p < 255 → get_or roots p false ≡ eqb (value_at p (take (most + 1) k)) 0)
+    → IsWrong first (length syndromes) word v
+    → (q : ℕ) → q < 255 → octet_before q (added word v) ≢ 0 → get_or roots q false ≡ true
+errors_at_roots first most syndromes word v k roots k_size l_octets octets size even low is met roots_are wrong q below some =
+    let v_octets = octets_of_all v wrong.octets in
+    let errors = added word v in
+    let l = take (most + 1) k in
+    let same : syndromes ≡ values_down errors first (2 * most) =
+    is ∙ errors_values first (length syndromes) word v wrong octets v_octets ∙ ap (values_down errors first) even in
+    let errors_size = length-added word v (sym wrong.size) in
+    let met_l : (i : ℕ) → i < most → dot l (take (most + 1) (drop i (values_down errors first (2 * most)))) ≡ 0 =
+    λ i inside. dot-take (most + 1) k (take (most + 1) (drop i (values_down errors first (2 * most))))
+    (omega (arith, length-take (most + 1) (drop i (values_down errors first (2 * most)))))
+    ∙ ap (λ xs. dot k (take (most + 1) (drop i xs))) (sym same) ∙ met i inside in
+    roots_are q below
+    ∙ eq-eqb (value_at q l) 0 (zero_at_errors first most l errors (omega (arith, length-take (most + 1) k)) l_octets
+    (Octets-added word v octets v_octets) (omega (arith, errors_size))
+    (omega (arith, errors_near first (length syndromes) word v wrong)) met_l q (omega (arith, errors_size)) some)
+
+-- the octet by which a word is wrong
+pub error_is : (word v : List ℕ) (k p : ℕ) → k + p + 1 ≡ length word → length v ≡ length word
+    → octet_before p (added word v) ≡ bit_xor (get_or word k 0) (get_or v k 0)
+error_is word v k p place size =
+    octet_before-at (added word v) k p (place ∙ sym (length-added word v (sym size)))
+    ∙ get_or-added word v k (sym size)

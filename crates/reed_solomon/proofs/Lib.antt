@@ -9,3 +9,4 @@ pub mod FewRoots
 pub mod KernelLemmas
 pub mod RootLemmas
 pub mod ErrorLemmas
+pub mod WordLemmas

@@ -3,7 +3,7 @@ use Rattle.std.proofs.Common.{◌≡◌, ◌≢◌, ℕ, zero, suc, ◌+◌, ◌
 use Rattle.std.proofs.Common.{◌∷◌, ◌++◌, length, get_or, take, drop, refl, ap, subst, ◌∙◌, sym, inl, inr, arith, take_all}
 use Rattle.std.specs.Int.Bits.{xor_self}
 use Rattle.std.proofs.lemmas.Bool.{cases_lt, cases_eq, cases_Bool}
-use Rattle.std.proofs.lemmas.List.{take_more, length-take}
+use Rattle.std.proofs.lemmas.List.{take_more, length-take, get_or-take}
 use Rattle.reed_solomon.specs.Field.{times_power, power}
 use Rattle.reed_solomon.specs.Values.{value_at}
 use Rattle.reed_solomon.specs.Product.{product}
@@ -99,3 +99,14 @@ weight_at [] u some none = some refl
 weight_at (zero ∷ xs) zero some none = some refl
 weight_at (zero ∷ xs) (suc u) some none = weight_at xs u some none
 weight_at (suc x ∷ xs) u some none = absurd (omega arith)
+
+-- So has the kernel of a word's syndromes.
+pub few_kernel_roots : (most u : ℕ) (k : List ℕ) (roots : List Bool) → length roots ≡ 255 → length k ≡ 33 → most < 33
+    → Octets (take (most + 1) k)
+    → ((p : ℕ) → p < 255 → get_or roots p false ≡ eqb (value_at p (take (most + 1) k)) 0)
+    → u < most + 1 → get_or k u 0 ≡ 1 → count_true roots ≤ most
+few_kernel_roots most u k roots size k_size low octets is below one =
+    let l = take (most + 1) k in
+    let at : get_or l u 0 ≡ 1 = get_or-take (most + 1) k u 0 below ∙ one in
+    omega (arith, count_true-lt l roots size is octets (weight_at l u (λ none. absurd (omega (arith, at, none)))),
+    length-take (most + 1) k)

@@ -29,3 +29,8 @@ taken generator register octet =
 abbrev pub zeros_after : Zeros → ℕ → ℕ
 zeros_after Leading n = 0
 zeros_after Between n = n
+
+-- how many of them stand before the data octets
+abbrev pub zeros_before : Zeros → ℕ → ℕ
+zeros_before Leading n = n
+zeros_before Between n = 0

@@ -3,11 +3,12 @@
 ghost use Rattle.std.specs.Prelude.{◌≡◌, ◌+◌, ◌-◌, ◌<◌, ◌≤◌, length, replicate};
 ghost use Rattle.arrayvec.specs.ArrayVec.{array_vec_len};
 ghost use Rattle.reed_solomon.specs.Codeword.{ChecksOf};
-ghost use Rattle.reed_solomon.specs.Register.{taken, zeros_after};
+ghost use Rattle.reed_solomon.specs.Register.{taken};
 
 use crate::add_multiple::add_multiple;
-use crate::code::{Code, Zeros};
+use crate::code::Code;
 use crate::generator::generator;
+use crate::words::zeros_after;
 use arrayvec::ArrayVec;
 
 /// The check octets of data: the only octets that, after the data, make a codeword.
@@ -25,17 +26,6 @@ pub fn check_octets(code: &Code, octets: &[u8]) -> ArrayVec<u8, 64>
         take(&mut register, generator.as_slice(), 0);
     }
     register
-}
-
-// How many zeros stand after so many data octets.
-pub fn zeros_after(code: &Code, count: usize) -> usize
-    requires { count + code.now.check_count ≤ 255 }
-    ensures { result ≡ zeros_after code.now.zeros (255 - code.now.check_count - count) }
-{
-    match code.zeros() {
-        Zeros::Leading => 0,
-        Zeros::Between => 255 - code.check_count() - count,
-    }
 }
 
 fn zero_register(count: usize) -> ArrayVec<u8, 64>

@@ -21,6 +21,7 @@ pub fn kernel(syndromes: &[u8]) -> Row
     ensures meets { (i : ℕ) → i < length syndromes.now / 2
         → dot result (take (length syndromes.now / 2 + 1) (drop i syndromes.now)) ≡ 0 }
     ensures some { (u : ℕ) × (u < length syndromes.now / 2 + 1) × (slice_index result u ≡ 1) }
+    ensures size { length result ≡ 33 }
 {
     let most = syndromes.len() / 2;
     let mut rows = [[0; 33]; 33];
@@ -31,7 +32,15 @@ pub fn kernel(syndromes: &[u8]) -> Row
     for i in 0..most {
         left = meet(&mut rows, left, &syndromes[i..i + most + 1]);
     }
-    rows[0]
+    copied(&rows[0])
+}
+
+// A copy of a row, which is told to have as many coefficients as its type says.
+fn copied(row: &Row) -> Row
+    ensures same { result ≡ row.now }
+    ensures size { length result ≡ 33 }
+{
+    *row
 }
 
 // 1 at one place, and 0 elsewhere.

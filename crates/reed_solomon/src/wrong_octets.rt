@@ -22,6 +22,7 @@ pub fn correct(first_root: u8, syndromes: &[u8], word: &mut [u8])
     requires count { length syndromes.now ≤ 64 }
     requires even { length syndromes.now % 2 ≡ 0 }
     requires size { length word.old ≡ 255 }
+    requires octets { All (λ x. x < 256) word.old }
     requires syndromes { syndromes.now ≡ values_down word.old first_root (length syndromes.now) }
     ensures { (v : List ℕ) → IsWrong first_root (length syndromes.now) word.old v → word.new ≡ v }
 {
@@ -36,7 +37,9 @@ pub fn correct(first_root: u8, syndromes: &[u8], word: &mut [u8])
 
 // At which powers a list of coefficients is 0.
 fn roots(coefficients: &[u8]) -> [bool; 255]
-    ensures { (p : ℕ) → p < 255 → slice_index_or result p false ≡ (value_at p coefficients.now == 0) }
+    ensures roots { (p : ℕ) → p < 255 → slice_index_or result p false ≡ (value_at p coefficients.now == 0) }
+    ensures size { length result ≡ 255 }
+    ensures octets { All (λ x. x < 256) coefficients.now }
 {
     let mut roots = [false; 255];
     for p in 0..255 {
@@ -73,6 +76,7 @@ fn other_roots(p: usize, roots: &[bool; 255]) -> ArrayVec<u8, 64>
         → value_at q (1 ∷ result.items) ≡ 0 }
     ensures some { value_at p (1 ∷ result.items) ≢ 0 }
     ensures count { length result.items + 1 ≤ count_true roots.now }
+    ensures octets { All (λ x. x < 256) result.items }
 {
     let mut others = ArrayVec::new();
     for q in 0..255 {
