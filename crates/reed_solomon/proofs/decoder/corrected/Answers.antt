@@ -7,10 +7,7 @@ use Rattle.reed_solomon.proofs.RegisterLemmas.{refill_all}
 use Rattle.reed_solomon.proofs.WordLemmas.{long, length-long, repaired_is, same_wrong}
 use Rattle.reed_solomon.proofs.decoder.corrected.Goals as goal
 
--- what the decoder takes
-abbrev syndromes_of : ℕ → ℕ → List ℕ → List ℕ
-syndromes_of first count word = values_down word first count
-
+-- the syndromes, however the word and its numbers are read
 syndromes_same : (syndromes word now : List ℕ) (first other count : ℕ) → syndromes ≡ values_down word first count
     → word ≡ now → first ≡ other → syndromes ≡ values_down now other (length syndromes)
 syndromes_same syndromes word now first other count is same same_first =
@@ -43,8 +40,32 @@ correct-requires c =
           (c.first_root.ensures ∙ sym c.first_root-2.ensures);
     }
 
+-- the whole word once it is corrected
+now_is : (c : goal.After-as_slice-3) → c.as_slice-3.result.now ≡ c.correct.new.word
+now_is c =
+    c.as_slice-3.ensures.value
+    ∙ refill_all _ c.whole_word-whole.result.items c.correct.new.word
+    (c.correct.auto.word ∙ ap length c.as_mut_slice.ensures.value)
+
 pub sent_word-requires-clause-size : goal.sent_word-requires-clause-size
-sent_word-requires-clause-size c = ?
+sent_word-requires-clause-size c =
+    ap length (now_is c) ∙ c.correct.auto.word
+    ∙ ap length (c.as_mut_slice.ensures.value ∙ c.whole_word-whole.ensures.items)
+    ∙ length-long c.args.code.now c.args.word.now c.requires.least c.requires.most
 
 pub returns-clause-found : goal.returns-clause-found
-returns-clause-found c = λ v within. let h = c.as_slice-3.ensures.value in ?
+returns-clause-found c = λ v within.
+    let code = c.args.code.now in
+    let word = c.args.word.now in
+    let whole_is : long code word ≡ c.as_mut_slice.result.now =
+    sym (c.as_mut_slice.ensures.value ∙ c.whole_word-whole.ensures.items) in
+    let size : code.check_count ≡ length c.as_slice-2.result.now =
+    sym (ap length (c.as_slice-2.ensures.value ∙ c.syndromes-syndromes.ensures)
+    ∙ length-values_down c.as_slice.result.now c.first_root.result c.check_count.result ∙ c.check_count.ensures) in
+    let is = c.as_slice-3.ensures.value
+    ∙ refill_all _ c.whole_word-whole.result.items c.correct.new.word
+    (c.correct.auto.word ∙ ap length c.as_mut_slice.ensures.value) in
+    repaired_is code word v c.as_slice-3.result.now c.sent_word.result.items c.requires.least c.requires.most within
+    (λ u wrong. is ∙ c.correct.ensures u (same_wrong code.first_root c.first_root-2.result code.check_count
+    (length c.as_slice-2.result.now) (long code word) c.as_mut_slice.result.now u (sym c.first_root-2.ensures) size
+    whole_is wrong)) c.sent_word.ensures.sent

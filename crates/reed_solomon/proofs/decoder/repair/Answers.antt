@@ -21,7 +21,7 @@ returns-then-not-vanishes-clause-refused c = λ v within.
     let taken : c.as_slice.result.now ≡ v = c.as_slice.ensures.value ∙ c.corrected-repaired.ensures.found v within in
     let P : List ℕ → Type 0 = λ xs. IsCodeword code xs in
     let yes = c.if-not-vanishes.ensures.value.1 (subst P (sym taken) within.codeword) in
-    ?
+    absurd (false≢true yes)
 
 pub returns-then-count-check_count-clause-refused : goal.returns-then-count-check_count-clause-refused
 returns-then-count-check_count-clause-refused c = λ v within.
