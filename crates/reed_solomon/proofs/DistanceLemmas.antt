@@ -3,7 +3,7 @@ use Rattle.std.proofs.Common.{◌≡◌, ℕ, zero, suc, ◌+◌, ◌-◌, ◌*�
 use Rattle.std.proofs.Common.{length, take, drop, replicate, All, refl, ap, subst, ◌∙◌, sym, inl, inr, arith, length-append}
 use Rattle.std.specs.Int.Bits.{xor_self}
 use Rattle.std.proofs.lemmas.Bool.{cases_eq, eq-eqb, ne_eqb}
-use Rattle.std.proofs.lemmas.List.{get_or_default, length-replicate, length-take, length-drop, take-append-drop, append_cancel_left}
+use Rattle.std.proofs.lemmas.List.{get_or_default, length-replicate, length-take, length-drop, take-append-drop, take_at, drop_at}
 use Rattle.reed_solomon.specs.declared.code.Code.{Code}
 use Rattle.reed_solomon.specs.declared.code.Zeros.{Zeros}
 use Rattle.reed_solomon.specs.declared.code.Zeros.TheVariants.{Leading, Between}
@@ -203,11 +203,26 @@ codewords_apart code u v u_octets v_octets size long short u_is v_is near =
     (omega (arith, length-drop m v)) u_is v_is (omega arith) in
     same_from_distance u v size (split ∙ none)
 
+-- data and check octets as one word
+pub codeword_parts : (code : Code) (P : List ℕ → List ℕ → Type 0) (xs check : List ℕ) → length check ≡ code.check_count
+    → let n = length (xs ++ check) - code.check_count in
+    (P (take n (xs ++ check)) (drop n (xs ++ check)) → P xs check) × (P xs check
+    → P (take n (xs ++ check)) (drop n (xs ++ check)))
+codeword_parts code P xs check size =
+    let n = length (xs ++ check) - code.check_count in
+    let place : length xs ≡ n = omega (arith, length-append xs check) in
+    let front = take_at xs check n place in
+    let back = drop_at xs check n place in
+    let Q : List ℕ → Type 0 = λ ys. P ys (drop n (xs ++ check)) in
+    let R : List ℕ → Type 0 = λ ys. P xs ys in
+    (λ p. subst R back (subst Q front p), λ p. subst Q (sym front) (subst R (sym back) p))
+
 pub one_check : (code : Code) (xs check other : List ℕ) → Octets xs → Octets check → Octets other
     → length check ≡ code.check_count → length other ≡ code.check_count → length xs + code.check_count ≤ 255
-    → ChecksOf code xs check → ChecksOf code xs other → check ≡ other
+    → IsCodeword code (xs ++ check) → IsCodeword code (xs ++ other) → check ≡ other
 one_check code xs check other xs_octets check_octets other_octets check_size other_size short is other_is =
     let same = distance-refl xs in
     let none = apart code xs xs check other xs_octets xs_octets check_octets other_octets refl short check_size other_size
-    is other_is (omega (arith, distance-le check other)) in
+    ((codeword_parts code (ChecksOf code) xs check check_size).0 is)
+    ((codeword_parts code (ChecksOf code) xs other other_size).0 other_is) (omega (arith, distance-le check other)) in
     same_from_distance check other (check_size ∙ sym other_size) (omega arith)

@@ -108,5 +108,8 @@ pub few_kernel_roots : (most u : ℕ) (k : List ℕ) (roots : List Bool) → len
 few_kernel_roots most u k roots size k_size low octets is below one =
     let l = take (most + 1) k in
     let at : get_or l u 0 ≡ 1 = get_or-take (most + 1) k u 0 below ∙ one in
-    omega (arith, count_true-lt l roots size is octets (weight_at l u (λ none. absurd (omega (arith, at, none)))),
-    length-take (most + 1) k)
+    omega (
+      arith,
+      count_true-lt l roots size is octets (weight_at l u (λ none. absurd (omega (arith, at, none)))),
+      length-take (most + 1) k,
+    )

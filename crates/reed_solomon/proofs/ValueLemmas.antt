@@ -37,7 +37,6 @@ Octets-replicate (suc n) = (omega arith, Octets-replicate n)
 
 -- ---- lists of one length added place by place
 
-
 pub length-added : (xs ys : List ℕ) → length xs ≡ length ys → length (added xs ys) ≡ length xs
 length-added [] ys same = refl
 length-added (x ∷ xs) [] same = absurd (omega arith)

@@ -58,7 +58,11 @@ fn corrected(code: &Code, word: &[u8]) -> Word
 {
     let mut whole = whole_word(code, word);
     let syndromes = syndromes(code.first_root(), code.check_count(), whole.as_slice());
-    correct(code.first_root(), syndromes.as_slice(), whole.as_mut_slice());
+    correct(
+        code.first_root(),
+        syndromes.as_slice(),
+        whole.as_mut_slice(),
+    );
     sent_word(code, whole.as_slice(), word.len())
 }
 

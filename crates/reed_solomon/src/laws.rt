@@ -1,8 +1,8 @@
 // Laws on the definitions. A law is the contract of a function that does nothing.
 
-ghost use Rattle.std.specs.Prelude.{◌≡◌, ◌+◌, ◌<◌, ◌≤◌, ℕ, List, length, All};
+ghost use Rattle.std.specs.Prelude.{◌≡◌, ◌+◌, ◌++◌, ◌<◌, ◌≤◌, ℕ, List, length, All};
 ghost use Rattle.reed_solomon.specs.declared.code.Code.{Code};
-ghost use Rattle.reed_solomon.specs.Codeword.{ChecksOf, IsCodeword};
+ghost use Rattle.reed_solomon.specs.Codeword.{IsCodeword};
 ghost use Rattle.reed_solomon.specs.Distance.{distance};
 
 /// Two codewords of one length that differ in at most as many octets as there are check octets are one. So at most one
@@ -19,5 +19,5 @@ pub fn check_octets_are_one()
         → All (λ x. x < 256) octets → All (λ x. x < 256) check → All (λ x. x < 256) other
         → length check ≡ code.check_count → length other ≡ code.check_count
         → length octets + code.check_count ≤ 255
-        → ChecksOf code octets check → ChecksOf code octets other → check ≡ other }
+        → IsCodeword code (octets ++ check) → IsCodeword code (octets ++ other) → check ≡ other }
 {}

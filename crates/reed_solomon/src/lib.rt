@@ -13,7 +13,6 @@ mod field;
 mod generator;
 mod kernel;
 mod laws;
-
 mod values;
 mod words;
 mod wrong_octets;
@@ -22,4 +21,3 @@ pub use code::{Code, Zeros};
 pub use decoder::{NoCodeword, is_codeword, repair};
 pub use encoder::check_octets;
 pub use laws::{check_octets_are_one, codewords_are_apart};
-

@@ -3,14 +3,14 @@ use Rattle.std.proofs.Common.{arith, refl, subst, take, take_all}
 use Rattle.std.specs.List.{fold}
 use Rattle.std.proofs.lemmas.List.{append-nil, append_assoc, replicate_more, length-replicate}
 use Rattle.std.proofs.lemmas.List.Sums.{fold_more, fold_push}
-use Rattle.reed_solomon.specs.Codeword.{whole, with_zeros}
+use Rattle.reed_solomon.specs.Codeword.{ChecksOf, whole}
 use Rattle.reed_solomon.specs.Register.{generator_of, taken, zeros_after}
 use Rattle.reed_solomon.specs.Values.{value_at}
+use Rattle.reed_solomon.proofs.DistanceLemmas.{codeword_parts}
 use Rattle.reed_solomon.proofs.GeneratorLemmas.{length-generator_of, Octets-generator_of, generator_vanishes}
 use Rattle.reed_solomon.proofs.RegisterLemmas.{length-taken, register_checks, value_at-with_zeros}
 use Rattle.reed_solomon.proofs.ValueLemmas.{Octets, Octets-append, Octets-replicate, octets_from}
 use Rattle.reed_solomon.proofs.encoder.check_octets.Goals as goal
-
 
 pub take-requires-clause-size : goal.take-requires-clause-size
 take-requires-clause-size c =
@@ -60,9 +60,9 @@ loop-preserved c =
           (omega (arith, code.least, c.loop.invariant.count)) ∙ sym sizes ∙ c.loop.invariant.count;
     }
 
-pub returns-clause-codeword : goal.returns-clause-codeword
+checks : (c : goal.After-loop) → ChecksOf c.args.code.now c.args.octets.now c.loop.register.items
 unfolding whole
-returns-clause-codeword c = λ j from below.
+checks c = λ j from below.
     let code = c.args.code.now in
     let octets = c.args.octets.now in
     let r = c.loop.register.items in
@@ -86,3 +86,8 @@ returns-clause-codeword c = λ j from below.
     ∙ register_checks j g (octets ++ replicate k 0) (omega (arith, size, code.least))
     (Octets-generator_of code.first_root code.check_count) all
     (generator_vanishes code.first_root code.check_count j from below)
+
+pub returns-clause-codeword : goal.returns-clause-codeword
+returns-clause-codeword c =
+    let code = c.args.code.now in
+    (codeword_parts code (ChecksOf code) c.args.octets.now c.loop.register.items c.loop.invariant.count).1 (checks c)

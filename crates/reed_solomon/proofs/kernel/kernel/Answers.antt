@@ -39,8 +39,13 @@ pub loop-i-init : goal.loop-i-init
 loop-i-init c = record {
   left = omega arith;
   few = omega arith;
-  basis = λ k below. (k, below, c.loop-k.invariant.here k (omega arith), λ m m_below apart.
-      c.loop-k.invariant.elsewhere m (omega arith) k (λ e. apart (sym e)));
+  basis = λ k below. (
+    k,
+    below,
+    c.loop-k.invariant.here k (omega arith),
+    λ m m_below apart.
+        c.loop-k.invariant.elsewhere m (omega arith) k (λ e. apart (sym e)),
+  );
   met = λ i below. absurd (omega arith);
 }
 
