@@ -1,0 +1,207 @@
+-- Where a word is wrong, and by how much.
+use Rattle.std.proofs.Common.{◌≡◌, ◌≢◌, ℕ, zero, suc, ◌+◌, ◌-◌, ◌*◌, ◌<◌, ◌≤◌, Bool, true, false, cond, eqb, bit_xor, List, [], ◌∷◌, length}
+use Rattle.std.proofs.Common.{get_or, take, drop, refl, ap, subst, ◌∙◌, sym, inl, inr, arith}
+use Rattle.std.specs.Int.Bits.{xor_zero_r}
+use Rattle.std.proofs.lemmas.Bool.{cases_eq, eq-eqb, ne_eqb}
+use Rattle.std.proofs.lemmas.List.{length-take, get_or_default}
+use Rattle.reed_solomon.specs.Field.{times_power}
+use Rattle.reed_solomon.specs.Values.{value_at, Vanishes}
+use Rattle.reed_solomon.specs.Product.{product}
+use Rattle.reed_solomon.specs.Distance.{distance}
+use Rattle.reed_solomon.specs.Register.{added}
+use Rattle.reed_solomon.specs.Kernel.{dot, values_down, octet_before, IsWrong}
+use Rattle.reed_solomon.proofs.FieldLemmas.{times_power-lt, times_power-add, times_power_rounds, product-lt, zero-product, product-zero, power_of_zero}
+use Rattle.reed_solomon.proofs.FieldLemmas.{product_comm, product_assoc, product-one, xor_twice}
+use Rattle.reed_solomon.proofs.ValueLemmas.{Octets, Octets-added, length-added, get_or-added, value_at-lt, value_at-added, weight}
+use Rattle.reed_solomon.proofs.Vandermonde.{few_zeros}
+use Rattle.reed_solomon.proofs.DistanceLemmas.{weight-added, octets_of_all}
+use Rattle.reed_solomon.proofs.ScaledLemmas.{scaled, length-scaled, Octets-scaled, dot-values_down, weight-scaled, zero_at_octet}
+use Rattle.reed_solomon.proofs.ScaledLemmas.{IsAloneAt, value_at-alone}
+use Rattle.reed_solomon.proofs.KernelLemmas.{dot-take}
+
+-- ---- lists of values
+
+pub length-values_down : (w : List ℕ) (first n : ℕ) → length (values_down w first n) ≡ n
+unfolding values_down
+length-values_down w first zero = refl
+length-values_down w first (suc n) = ap suc (length-values_down w first n)
+
+drop-values_down : (w : List ℕ) (first k n : ℕ) → drop k (values_down w first (k + n)) ≡ values_down w first n
+unfolding values_down
+drop-values_down w first zero n = ap (values_down w first) (omega arith)
+drop-values_down w first (suc k) n =
+    let more : suc k + n ≡ suc (k + n) = omega arith in
+    ap (λ m. drop (suc k) (values_down w first m)) more ∙ drop-values_down w first k n
+
+take-values_down : (w : List ℕ) (first k n : ℕ) → take n (values_down w first (k + n)) ≡ values_down w (first + k) n
+unfolding values_down
+take-values_down w first k zero = refl
+take-values_down w first k (suc n) =
+    let more : k + suc n ≡ suc (k + n) = omega arith in
+    let place : first + (k + n) ≡ first + k + n = omega arith in
+    ap (λ m. take (suc n) (values_down w first m)) more
+    ∙ ap (λ m. value_at m w ∷ take n (values_down w first (k + n))) place
+    ∙ ap (λ xs. value_at (first + k + n) w ∷ xs) (take-values_down w first k n)
+
+-- so many values in a row
+values_window : (w : List ℕ) (first j i n count : ℕ) → i + n + j ≡ first + count → first ≤ j
+    → take n (drop i (values_down w first count)) ≡ values_down w j n
+values_window w first j i n count sum from =
+    let k = j - first in
+    let whole : count ≡ i + (k + n) = omega arith in
+    let place : first + k ≡ j = omega arith in
+    ap (λ m. take n (drop i (values_down w first m))) whole ∙ ap (take n) (drop-values_down w first i (k + n))
+    ∙ take-values_down w first k n ∙ ap (λ m. values_down w m n) place
+
+-- words with the same values
+pub same_values : (u w : List ℕ) (first count : ℕ)
+    → ((j : ℕ) → first ≤ j → j < first + count → value_at j u ≡ value_at j w)
+    → values_down u first count ≡ values_down w first count
+unfolding values_down
+same_values u w first zero same = refl
+same_values u w first (suc n) same =
+    ap (λ m. m ∷ values_down u first n) (same (first + n) (omega arith) (omega arith))
+    ∙ ap (λ xs. value_at (first + n) w ∷ xs)
+    (same_values u w first n (λ j from below. same j from (omega arith)))
+
+-- ---- where a word is wrong
+
+-- A list whose sums with the values of a word are 0 is 0 at each octet of the word.
+pub zero_at_errors : (first most : ℕ) (l errors : List ℕ) → length l ≡ most + 1 → Octets l → Octets errors
+    → length errors ≤ 255 → weight errors ≤ most
+    → ((i : ℕ) → i < most → dot l (take (most + 1) (drop i (values_down errors first (2 * most)))) ≡ 0)
+    → (q : ℕ) → q < length errors → octet_before q errors ≢ 0 → value_at q l ≡ 0
+zero_at_errors first most l errors size l_octets octets short light met q below some =
+    let vanishes : Vanishes first most (scaled l errors) = λ j from j_below.
+    let i = first + most - 1 - j in
+    let window : take (most + 1) (drop i (values_down errors first (2 * most))) ≡ values_down errors j (most + 1) =
+    values_window errors first j i (most + 1) (2 * most) (omega arith) from in
+    sym (dot-values_down j l errors l_octets octets) ∙ ap (λ n. dot l (values_down errors j n)) size
+    ∙ ap (dot l) (sym window) ∙ met i (omega arith) in
+    let gone = few_zeros most (scaled l errors) first (Octets-scaled l errors l_octets)
+    (omega (arith, length-scaled l errors)) (omega (arith, weight-scaled l errors)) vanishes in
+    zero_at_octet l errors q l_octets gone below some
+
+-- ---- by how much
+
+octet_before-here : (x : ℕ) (xs : List ℕ) → octet_before (length xs) (x ∷ xs) ≡ x
+unfolding octet_before
+octet_before-here x xs = ap (λ t. cond t x (octet_before (length xs) xs)) (eq-eqb (length xs) (length xs) refl)
+
+octet_before-later : (q x : ℕ) (xs : List ℕ) → q < length xs → octet_before q (x ∷ xs) ≡ octet_before q xs
+unfolding octet_before
+octet_before-later q x xs below =
+    ap (λ t. cond t x (octet_before q xs)) (ne_eqb q (length xs) (λ e. absurd (omega arith)))
+
+-- by places from the front
+pub octet_before-at : (w : List ℕ) (k q : ℕ) → k + q + 1 ≡ length w → octet_before q w ≡ get_or w k 0
+octet_before-at [] k q place = absurd (omega arith)
+octet_before-at (x ∷ xs) zero q place =
+    let last : q ≡ length xs = omega arith in
+    ap (λ n. octet_before n (x ∷ xs)) last ∙ octet_before-here x xs
+octet_before-at (x ∷ xs) (suc k) q place =
+    octet_before-later q x xs (omega arith) ∙ octet_before-at xs k q (omega arith)
+
+alone_from : (p : ℕ) (l w : List ℕ)
+    → ((q : ℕ) → q < length w → q ≢ p → octet_before q w ≢ 0 → value_at q l ≡ 0) → IsAloneAt p l w
+alone_from p l [] zeros = tt
+alone_from p l (x ∷ xs) zeros = (
+  λ other.
+      elim (cases_eq x 0) [
+        | inl none ↦ ap (λ n. product n (value_at (length xs) l)) none ∙ zero-product (value_at (length xs) l)
+        | inr some ↦
+            ap (product x) (zeros (length xs) (omega arith) other (λ e. some (sym (octet_before-here x xs) ∙ e)))
+            ∙ product-zero x
+      ],
+  alone_from p l xs (λ q below other some. zeros q (omega arith) other
+      (λ e. some (sym (octet_before-later q x xs below) ∙ e))),
+)
+
+octet_before-lt : (q : ℕ) (w : List ℕ) → Octets w → octet_before q w < 256
+unfolding octet_before
+octet_before-lt q [] octets = omega arith
+octet_before-lt q (x ∷ xs) octets =
+    let P : ℕ → Type 0 = λ n. n < 256 in
+    elim (cases_eq q (length xs)) [
+      | inl here ↦
+          subst P (sym (ap (λ t. cond t x (octet_before q xs)) (eq-eqb q (length xs) here))) octets.0
+      | inr other ↦
+          subst P (sym (ap (λ t. cond t x (octet_before q xs)) (ne_eqb q (length xs) other)))
+          (octet_before-lt q xs octets.1)
+    ]
+
+round_trip : (first p : ℕ) → first < 255 → (255 - first) * p + first * p ≡ p * 255 + 0
+round_trip first p low =
+    let parts : 255 - first + first ≡ 255 = omega arith in
+    let joined : (255 - first) * p + first * p ≡ (255 - first + first) * p = omega arith in
+    joined ∙ ap (λ m. m * p) parts ∙ omega arith
+
+-- The share of one wrong octet, if the list is 0 at all others.
+pub error_value : (first p count inverted : ℕ) (all errors : List ℕ) → first < 255 → length all ≤ count
+    → Octets all → Octets errors → inverted < 256 → product inverted (value_at p all) ≡ 1
+    → ((q : ℕ) → q < length errors → q ≢ p → octet_before q errors ≢ 0 → value_at q all ≡ 0)
+    → product inverted (times_power ((255 - first) * p) (dot all (drop (count - length all)
+    (values_down errors first count)))) ≡ octet_before p errors
+error_value first p count inverted all errors low few all_octets octets fits one zeros =
+    let n = length all in
+    let e = octet_before p errors in
+    let v = value_at p all in
+    let v_fits = value_at-lt p all all_octets in
+    let e_fits = octet_before-lt p errors octets in
+    let whole : count ≡ count - n + n = omega arith in
+    let sum : dot all (drop (count - n) (values_down errors first count)) ≡ times_power (first * p) (product e v) =
+    ap (dot all) (ap (λ m. drop (count - n) (values_down errors first m)) whole
+    ∙ drop-values_down errors first (count - n) n)
+    ∙ dot-values_down first all errors all_octets octets
+    ∙ value_at-alone first p all errors (alone_from p all errors zeros) in
+    let round : (255 - first) * p + first * p ≡ p * 255 + 0 = round_trip first p low in
+    let share : times_power ((255 - first) * p) (times_power (first * p) (product e v)) ≡ product e v =
+    sym (times_power-add ((255 - first) * p) (first * p) (product e v))
+    ∙ ap (λ m. times_power m (product e v)) round
+    ∙ times_power_rounds p 0 (product e v) (product-lt e v v_fits) ∙ power_of_zero (product e v) in
+    ap (λ m. product inverted (times_power ((255 - first) * p) m)) sum ∙ ap (product inverted) share
+    ∙ ap (product inverted) (product_comm e v e_fits v_fits) ∙ sym (product_assoc inverted v e v_fits e_fits)
+    ∙ ap (λ m. product m e) one ∙ product_comm 1 e (omega arith) e_fits ∙ product-one e e_fits
+
+-- ---- the errors of a word beside a codeword
+
+pub errors_near : (first count : ℕ) (word v : List ℕ) → IsWrong first count word v → 2 * weight (added word v) ≤ count
+errors_near first count word v wrong = omega (arith, wrong.near, weight-added word v)
+
+pub errors_values : (first count : ℕ) (word v : List ℕ) → IsWrong first count word v → Octets word → Octets v
+    → values_down word first count ≡ values_down (added word v) first count
+errors_values first count word v wrong octets v_octets =
+    same_values word (added word v) first count (λ j from below.
+    sym (value_at-added j word v (sym wrong.size) octets v_octets
+    ∙ ap (bit_xor (value_at j word)) (wrong.vanishes j from below) ∙ xor_zero_r (value_at j word)))
+
+-- The kernel of a word's syndromes is 0 wherever the word is wrong.
+pub errors_at_roots : (first most : ℕ) (syndromes word v k : List ℕ) (roots : List Bool) → length k ≡ 33
+    → Octets (take (most + 1) k) → Octets word → length word ≡ 255 → length syndromes ≡ 2 * most → most < 33
+    → syndromes ≡ values_down word first (length syndromes)
+    → ((i : ℕ) → i < most → dot k (take (most + 1) (drop i syndromes)) ≡ 0)
+    → ((p : ℕ) → p < 255 → get_or roots p false ≡ eqb (value_at p (take (most + 1) k)) 0)
+    → IsWrong first (length syndromes) word v
+    → (q : ℕ) → q < 255 → octet_before q (added word v) ≢ 0 → get_or roots q false ≡ true
+errors_at_roots first most syndromes word v k roots k_size l_octets octets size even low is met roots_are wrong q below some =
+    let v_octets = octets_of_all v wrong.octets in
+    let errors = added word v in
+    let l = take (most + 1) k in
+    let same : syndromes ≡ values_down errors first (2 * most) =
+    is ∙ errors_values first (length syndromes) word v wrong octets v_octets ∙ ap (values_down errors first) even in
+    let errors_size = length-added word v (sym wrong.size) in
+    let met_l : (i : ℕ) → i < most → dot l (take (most + 1) (drop i (values_down errors first (2 * most)))) ≡ 0 =
+    λ i inside. dot-take (most + 1) k (take (most + 1) (drop i (values_down errors first (2 * most))))
+    (omega (arith, length-take (most + 1) (drop i (values_down errors first (2 * most)))))
+    ∙ ap (λ xs. dot k (take (most + 1) (drop i xs))) (sym same) ∙ met i inside in
+    roots_are q below
+    ∙ eq-eqb (value_at q l) 0 (zero_at_errors first most l errors (omega (arith, length-take (most + 1) k)) l_octets
+    (Octets-added word v octets v_octets) (omega (arith, errors_size))
+    (omega (arith, errors_near first (length syndromes) word v wrong)) met_l q (omega (arith, errors_size)) some)
+
+-- the octet by which a word is wrong
+pub error_is : (word v : List ℕ) (k p : ℕ) → k + p + 1 ≡ length word → length v ≡ length word
+    → octet_before p (added word v) ≡ bit_xor (get_or word k 0) (get_or v k 0)
+error_is word v k p place size =
+    octet_before-at (added word v) k p (place ∙ sym (length-added word v (sym size)))
+    ∙ get_or-added word v k (sym size)

@@ -1,0 +1,9 @@
+use Rattle.std.proofs.Common.{◌≡◌, length}
+use Rattle.reed_solomon.specs.Register.{generator_of}
+use Rattle.reed_solomon.proofs.generator.generator.Given as goal
+
+abbrev pub invariant-loop-k : goal.invariant-loop-k
+invariant-loop-k l = record {
+  items : l.rest.items ≡ generator_of l.first_root l.k;
+  count : length l.rest.items ≡ l.k;
+}

@@ -1,0 +1,9 @@
+use Rattle.std.proofs.Common.{◌≡◌, ℕ, ◌<◌, false, eqb, get_or, length}
+use Rattle.reed_solomon.specs.Values.{value_at}
+use Rattle.reed_solomon.proofs.wrong_octets.roots.Given as goal
+
+abbrev pub invariant-loop-p : goal.invariant-loop-p
+invariant-loop-p l = record {
+  long : length l.roots ≡ 255;
+  done : (p : ℕ) → p < l.p → get_or l.roots p false ≡ eqb (value_at p l.coefficients) 0;
+}

@@ -1,0 +1,23 @@
+//! Reed-Solomon codes over octets, as FX.25 and IL2P send them.
+//!
+//! A `Code` has from 2 to 64 check octets, and shortened words of at most 255 octets. `check_octets` gives the only
+//! octets that make a codeword of data, and `repair` finds the codeword that differs in at most half as many octets as
+//! there are check octets, exactly when there is one. Nothing takes memory.
+#![tactic(auto)]
+
+mod add_multiple;
+mod code;
+mod decoder;
+mod encoder;
+mod field;
+mod generator;
+mod kernel;
+mod laws;
+mod values;
+mod words;
+mod wrong_octets;
+
+pub use code::{Code, Zeros};
+pub use decoder::{NoCodeword, is_codeword, repair};
+pub use encoder::check_octets;
+pub use laws::{check_octets_are_one, codewords_are_apart};
