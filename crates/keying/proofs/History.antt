@@ -1,5 +1,5 @@
 -- What is kept stands for what has happened.
-use Rattle.std.proofs.Common.{◌≡◌, ℕ, ◌||◌, ltb, Bool, true, false, List, [], ◌∷◌, ◌++◌, Option, refl, ap, sym, ◌∙◌}
+use Rattle.std.proofs.Common.{◌≡◌, ℕ, ◌&&◌, Bool, true, false, List, [], ◌∷◌, ◌++◌, Option, refl, ap, sym, ◌∙◌}
 use Rattle.keying.specs.declared.line.End.{End}
 use Rattle.keying.specs.declared.machine.Words.{Words}
 use Rattle.keying.specs.Marks.{Mark}
@@ -84,4 +84,32 @@ stands_ticked words past sounds key between new stands acts ticks_on =
         ∙ ap (λ w. after_rule (rule w) (key_of words past)) (kept_wanted words sounds past)
         ∙ sym (kept_rule words (rule (wanted words.tail (sounds ∷ ticks past))) past))
         ∙ sym (kept_mark words (Ticked sounds) (by_rule words (rule (wanted words.tail (sounds ∷ ticks past))) past));
+    }
+
+-- a turn
+pub stands_turned : (words : Words) (now : ℕ) (octets : List ℕ) (end : Option End) (past : List Mark)
+    (key between new : Key) → StandsFor words past key
+    → between ≡ after_rule silence_marks (after_reading now octets end key)
+    → new ≡ after_rule stall_marks between
+    → StandsFor words (turned words now octets end past) new
+stands_turned words now octets end past key between new stands listens stalls =
+    record {
+      is = stalls ∙ ap (after_rule stall_marks) (listens
+        ∙ ap (λ k. after_rule silence_marks (after_reading now octets end k)) stands.is
+        ∙ sym (kept_listened words now octets end past))
+        ∙ sym (kept_rule words stall_marks (listened words now octets end past));
+    }
+
+-- the end of the run
+pub stands_ended : (words : Words) (now : ℕ) (octets : List ℕ) (end : Option End) (past : List Mark)
+    (key between new : Key) → StandsFor words past key
+    → between ≡ after_reading now octets end key
+    → new ≡ after_rule closing_marks between
+    → StandsFor words (ended words now octets end past) new
+stands_ended words now octets end past key between new stands reads closes =
+    record {
+      is = closes ∙ ap (after_rule closing_marks) (reads
+        ∙ ap (λ k. after_reading now octets end k) stands.is
+        ∙ sym (kept_read words now octets end past))
+        ∙ sym (kept_rule words closing_marks (read words now octets end past));
     }

@@ -58,18 +58,19 @@ next_in Down key = if is_try_due key then ToConnect else Rest
 next_in Opening key = ToOpen
 next_in Up key = if is_stalled key then ToRelease else Rest
 
--- from one moment to another
-abbrev pub turn_between : Key → Key → Turn
-turn_between before key = record {
-  ready = not before.ready && key.ready;
-  dropped = is_lost_since before.phase key;
-  lost = loss_since before.phase before.last_loss key;
+-- since the connection, whether it was ready and the last loss stood so
+abbrev pub turn_since : Phase → Bool → Option Why → Key → Turn
+turn_since before ready loss key = record {
+  ready = not ready && key.ready;
+  dropped = is_lost_since before key;
+  lost = loss_since before loss key;
   next = next_in key.phase key;
 }
 
 abbrev pub turn_told : Words → ℕ → List ℕ → Option End → List Mark → Turn
 turn_told words now octets end past =
-    turn_between (key_of words past) (key_of words (listened words now octets end past))
+    let before = key_of words past in
+    turn_since before.phase before.ready before.last_loss (key_of words (listened words now octets end past))
 
 -- ---- tries and faults
 

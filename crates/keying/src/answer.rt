@@ -14,6 +14,7 @@ pub(crate) enum Answer {
 }
 
 /// What a line says, without the line feed that ended it.
+#[tactic(auto, unfolding(crate::specs::Answers::answer_of))]
 pub(crate) fn answer_of(line: &[u8]) -> Answer
     ensures { result ≡ answer_of line.now }
 {

@@ -8,7 +8,7 @@ ghost use Rattle.keying.specs.declared.line.Phase.TheVariants.{Opening};
 ghost use Rattle.keying.specs.Kept.{after_reading, after_rule};
 ghost use Rattle.keying.specs.Rules.{end_marks, silence_marks, stall_marks, try_marks, opening_marks, is_overdue};
 ghost use Rattle.keying.specs.Rules.{is_try_due, is_stalled};
-ghost use Rattle.keying.specs.Told.{turn_told, turn_between, next_in, told_loss, is_another, is_lost_since, loss_since};
+ghost use Rattle.keying.specs.Told.{turn_told, turn_since, next_in, told_loss, is_another, is_lost_since, loss_since};
 ghost use Rattle.keying.specs.Told.{try_told, try_told_of, fault_told};
 
 use crate::line::{End, Phase, Try};
@@ -57,14 +57,21 @@ impl Keying {
     {
         let (phase, ready, loss) = (self.phase, self.ready, self.last_loss);
         self.listen(now, octets, end);
-        let turn = Turn {
+        let turn = self.turn_since(phase, ready, loss);
+        self.stop_if_stalled();
+        turn
+    }
+
+    /// What is told, since the connection, whether it was ready and the last loss stood so.
+    fn turn_since(&self, phase: Phase, ready: bool, loss: Option<Why>) -> Turn
+        ensures { result ≡ turn_since phase ready loss self.now }
+    {
+        Turn {
             ready: !ready && self.ready,
             dropped: self.is_lost_since(phase),
             lost: self.loss_since(phase, loss),
             next: self.next(),
-        };
-        self.stop_if_stalled();
-        turn
+        }
     }
 
     /// After the caller tried what [`Next::ToConnect`] or [`Next::ToOpen`] asks for. Answers the loss that is to be
