@@ -1,2 +1,5 @@
 pub mod Lingering
 pub mod History
+pub mod Sound
+pub mod RulesAreSound
+pub mod Tails

@@ -1,6 +1,6 @@
 -- What is kept of what has happened. Public clauses cite `StandsFor` alone.
 use Rattle.std.specs.Prelude.{◌≡◌, ℕ, ◌+◌, ◌-◌, ◌==◌, ◌&&◌, ◌||◌, not, nat_lt, Bool, true, false, if◌then◌else◌, List, []}
-use Rattle.std.specs.Prelude.{◌∷◌, ◌++◌, drop, length, Option, Some, None, unwrap_or}
+use Rattle.std.specs.Prelude.{◌∷◌, ◌++◌, drop, length, Option, Some, unwrap_or, is_some}
 use Rattle.keying.specs.declared.line.End.{End}
 use Rattle.keying.specs.declared.line.Phase.TheVariants.{Down, Opening, Up}
 use Rattle.keying.specs.declared.machine.Words.{Words}
@@ -28,6 +28,7 @@ after Tried key = record key {
   ready = false;
   part = [];
   last_try = Some key.time;
+  retried = is_some key.ending;
 }
 after Opened key = record key { phase = Up; on = false }
 after Keyed key = record key { on = true; lit = 0; owed = true; waiting = key.waiting ++ key.time ∷ [] }

@@ -26,6 +26,7 @@ pub record Key : Type 0 where
   pub cut : Bool
   pub failed : Bool
   pub ending : Option ℕ
+  pub retried : Bool
 
 -- for how many further ticks without sound the key is wanted
 abbrev pub linger_after : ℕ → List Bool → ℕ
@@ -52,6 +53,7 @@ key_of words past = record {
   cut = keyed.cut words.tail past;
   failed = keyed.failed past;
   ending = keyed.ending past;
+  retried = keyed.retried past;
 }
 
 abbrev pub is_up : Phase → Bool

@@ -1,6 +1,6 @@
 -- The key of the transmitter, by what has happened so far (the newest first).
 use Rattle.std.specs.Prelude.{ℕ, suc, ◌+◌, ◌==◌, ◌&&◌, not, Bool, true, false, if◌then◌else◌, List, [], ◌∷◌, take, drop}
-use Rattle.std.specs.Prelude.{length, Option, Some, None, unwrap_or}
+use Rattle.std.specs.Prelude.{length, Option, Some, None, unwrap_or, is_some}
 use Rattle.std.specs.List.{list_any}
 use Rattle.keying.specs.Marks.{Mark}
 use Rattle.keying.specs.Marks.Mark.{Tried, Opened, Keyed, Released, Accepted, Lost, Ticked, Cut, WriteFault, Ends}
@@ -65,3 +65,9 @@ abbrev pub ending : List Mark → Option ℕ
 ending [] = None
 ending (Ends ∷ past) = Some (unwrap_or (ending past) (time past))
 ending (_ ∷ past) = ending past
+
+-- whether the last connection was begun after that
+abbrev pub retried : List Mark → Bool
+retried [] = false
+retried (Tried ∷ past) = is_some (ending past)
+retried (_ ∷ past) = retried past

@@ -1,6 +1,6 @@
 -- What each call answers: what to write, what to report, what to do with the connection.
 use Rattle.std.specs.Prelude.{ℕ, ◌-◌, ◌==◌, ◌&&◌, ◌||◌, not, nat_lt, Bool, true, false, if◌then◌else◌, List, ◌∷◌}
-use Rattle.std.specs.Prelude.{length, Option, Some, None, is_none}
+use Rattle.std.specs.Prelude.{length, Option, Some, None}
 use Rattle.keying.specs.declared.command.Command.{Command}
 use Rattle.keying.specs.declared.command.Command.TheVariants.{Release, Key as KeyOn, KeyData}
 use Rattle.keying.specs.declared.line.End.{End}
@@ -112,8 +112,9 @@ abbrev pub is_in_time : Option ℕ → ℕ → Bool
 is_in_time None now = true
 is_in_time (Some began) now = nat_lt (now - began) 1000
 
+-- A keying command that was not released by an accepted release asks for one more connection.
 abbrev pub ending_in : Phase → Key → Ending
-ending_in Down key = if key.owed && is_none key.ending then ConnectNow else Over
+ending_in Down key = if key.owed && (not key.retried && is_in_time key.ending key.time) then ConnectNow else Over
 ending_in Opening key = if key.owed && is_in_time key.ending key.time then OpenNow else Over
 ending_in Up key = if key.on then ReleaseNow
     else if not (length key.waiting == 0) && is_in_time key.ending key.time then Wait else Over

@@ -47,7 +47,11 @@ impl Keying {
     {
         match self.phase {
             Phase::Down => {
-                if self.owed && self.ending.is_none() { Ending::ConnectNow } else { Ending::Over }
+                if self.owed && !self.retried && self.is_in_time() {
+                    Ending::ConnectNow
+                } else {
+                    Ending::Over
+                }
             }
             Phase::Opening => {
                 if self.owed && self.is_in_time() { Ending::OpenNow } else { Ending::Over }

@@ -51,6 +51,8 @@ pub struct Keying {
     pub(crate) failed: bool,
     /// When the end of the run began.
     pub(crate) ending: Option<u64>,
+    /// A connection was begun after that.
+    pub(crate) retried: bool,
 }
 
 impl Model for Keying {
@@ -77,6 +79,7 @@ impl Model for Keying {
       cut = k.cut;
       failed = k.failed;
       ending = k.ending;
+      retried = k.retried;
     } };
 
     ghost invariant = { λ k. (k.on ≡ true → length k.waiting.items ≤ 1) × (k.lit ≤ 9000) };
@@ -104,6 +107,7 @@ impl Keying {
             cut: false,
             failed: false,
             ending: None,
+            retried: false,
         }
     }
 
@@ -134,6 +138,7 @@ impl Keying {
         self.ready = false;
         self.part.clear();
         self.last_try = Some(self.time);
+        self.retried = self.ending.is_some();
     }
 
     pub(crate) fn mark_opened(&mut self)

@@ -1,0 +1,237 @@
+-- Each rule adds only marks that may stand there.
+use Rattle.std.proofs.Common.{◌≡◌, ℕ, ◌+◌, ◌<◌, ◌≤◌, ◌&&◌, not, eqb, if◌then◌else◌, Bool, true, false, List, [], ◌∷◌}
+use Rattle.std.proofs.Common.{◌++◌, length, Option, None, Some, refl, ap, sym, subst, ◌∙◌, arith, inl, inr}
+use Rattle.std.proofs.lemmas.Bool.{and_parts, and_cases, cond_both, cases_Bool, eqb-true, eqb-false, not-true}
+use Rattle.keying.specs.declared.answer.Answer.{Answer}
+use Rattle.keying.specs.declared.answer.Answer.TheVariants.{Accepts, Refuses, Unclear}
+use Rattle.keying.specs.declared.line.End.{End}
+use Rattle.keying.specs.declared.line.End.TheVariants.{Closed, Fault}
+use Rattle.keying.specs.declared.line.Phase.{Phase}
+use Rattle.keying.specs.declared.line.Phase.TheVariants.{Down, Opening, Up}
+use Rattle.keying.specs.declared.line.Try.{Try}
+use Rattle.keying.specs.declared.line.Try.TheVariants.{Refused as NoLine, NotYet, Written}
+use Rattle.keying.specs.declared.machine.Words.{Words}
+use Rattle.keying.specs.Answers.{answer_of}
+use Rattle.keying.specs.Marks.{Mark}
+use Rattle.keying.specs.Marks.Mark.{Turned, Tried, Opened, Keyed, Released, Heard, Accepted, Readied, Lost}
+use Rattle.keying.specs.Marks.Mark.{Ticked, Cut, WriteFault, Ends}
+use Rattle.keying.specs.Line.{phase, waiting, part}
+use Rattle.keying.specs.Keyed.{on, lit, ticks, wanted}
+use Rattle.keying.specs.Key.{Key, key_of, free, is_free}
+use Rattle.keying.specs.Rules.{settles, accept_marks, due_marks, answer_marks, line_marks, octet_marks_in, octet_marks}
+use Rattle.keying.specs.Rules.{end_marks_in, end_marks, is_overdue, silence_marks, opening_marks, try_marks_in, try_marks}
+use Rattle.keying.specs.Rules.{is_stalled, stall_marks, is_at_limit, tick_marks, written_marks, closing_marks}
+use Rattle.keying.specs.Calls.{by_rule, heard, read, listened, turned, tried, ticked, written, command_failed, ended}
+use Rattle.keying.specs.Calls.{Call, called, history}
+use Rattle.keying.specs.Calls.Call.{Turn, AfterTry, Tick, AfterWrite, CommandFailed, Release}
+use Rattle.keying.proofs.Sound.{Sound, AllAllowed, sound_marks, sound_mark, sound_nothing, AllCalm, all_calm}
+use Rattle.keying.proofs.Sound.{calm-append, Same, same_along, all_same}
+
+-- ---- octets
+
+some_from : (xs : List ℕ) → eqb (length xs) 0 ≡ false → 1 ≤ length xs
+some_from [] is = absurd (cc)
+some_from (x ∷ xs) is = omega arith
+
+accept_calm : (words : Words) (past : List Mark) (octet : ℕ) → phase past ≡ Up → 1 ≤ length (waiting past)
+    → AllCalm words (accept_marks (key_of words past)) (Heard octet ∷ past)
+accept_calm words past octet up some =
+    cond_both (settles (key_of words past) && not (key_of words past).ready) _ _
+    (λ marks. AllCalm words marks (Heard octet ∷ past)) (λ _. (tt, ((up, some), tt))) (λ _. ((up, some), tt))
+
+due_calm : (words : Words) (answer : Answer) (past : List Mark) (octet : ℕ) → phase past ≡ Up
+    → 1 ≤ length (waiting past) → AllCalm words (due_marks answer (key_of words past)) (Heard octet ∷ past)
+due_calm words Unclear past octet up some = (tt, tt)
+due_calm words (Refuses number) past octet up some = (tt, tt)
+due_calm words Accepts past octet up some = accept_calm words past octet up some
+
+answer_calm : (words : Words) (answer : Answer) (past : List Mark) (octet : ℕ) → phase past ≡ Up
+    → AllCalm words (answer_marks answer (key_of words past)) (Heard octet ∷ past)
+answer_calm words answer past octet up =
+    cond_both (eqb (length (waiting past)) 0) _ _ (λ marks. AllCalm words marks (Heard octet ∷ past))
+    (λ _. (tt, tt)) (λ some. due_calm words answer past octet up (some_from (waiting past) some))
+
+line_calm : (words : Words) (octet : ℕ) (past : List Mark) → phase past ≡ Up
+    → AllCalm words (line_marks octet (key_of words past)) past
+line_calm words octet past up =
+    cond_both (eqb octet 10) _ _ (λ marks. AllCalm words marks past)
+    (λ _. calm-append words (answer_marks (answer_of (part past)) (key_of words past)) (Heard octet ∷ []) past
+      (answer_calm words (answer_of (part past)) past octet up) (tt, tt))
+    (λ _. cond_both (eqb (length (part past)) 63) _ _ (λ marks. AllCalm words marks past) (λ _. (tt, tt)) (λ _. (tt, tt)))
+
+octet_calm_in : (words : Words) (p : Phase) (octet : ℕ) (past : List Mark) → phase past ≡ p
+    → AllCalm words (octet_marks_in p octet (key_of words past)) past
+octet_calm_in words Down octet past is = tt
+octet_calm_in words Opening octet past is = (tt, tt)
+octet_calm_in words Up octet past is = line_calm words octet past is
+
+octet_calm : (words : Words) (octet : ℕ) (past : List Mark)
+    → AllCalm words (octet_marks octet (key_of words past)) past
+octet_calm words octet past = octet_calm_in words (phase past) octet past refl
+
+-- ---- losses, tries and ends
+
+end_calm_in : (words : Words) (p : Phase) (end : End) (past : List Mark) → AllCalm words (end_marks_in p end) past
+end_calm_in words Down end past = tt
+end_calm_in words Opening end past = (tt, tt)
+end_calm_in words Up Closed past = (tt, tt)
+end_calm_in words Up Fault past = (tt, tt)
+
+end_calm : (words : Words) (end : Option End) (past : List Mark)
+    → AllCalm words (end_marks end (key_of words past)) past
+end_calm words None past = tt
+end_calm words (Some end) past = end_calm_in words (phase past) end past
+
+silence_calm : (words : Words) (past : List Mark) → AllCalm words (silence_marks (key_of words past)) past
+silence_calm words past =
+    cond_both (is_overdue (key_of words past).time (waiting past)) _ _ (λ marks. AllCalm words marks past)
+    (λ _. (tt, tt)) (λ _. tt)
+
+try_calm_in : (words : Words) (p : Phase) (how : Try) (past : List Mark) → phase past ≡ p
+    → AllCalm words (try_marks_in p how) past
+try_calm_in words Down NoLine past is = (tt, (is, tt))
+try_calm_in words Down NotYet past is = (is, tt)
+try_calm_in words Down Written past is = (refl, (is, tt))
+try_calm_in words Opening NoLine past is = (tt, tt)
+try_calm_in words Opening NotYet past is = tt
+try_calm_in words Opening Written past is = (is, tt)
+try_calm_in words Up how past is = tt
+
+try_calm : (words : Words) (how : Try) (past : List Mark) → AllCalm words (try_marks how (key_of words past)) past
+try_calm words how past = try_calm_in words (phase past) how past refl
+
+stall_calm : (words : Words) (past : List Mark) → AllCalm words (stall_marks (key_of words past)) past
+stall_calm words past =
+    cond_both (is_stalled (key_of words past)) _ _ (λ marks. AllCalm words marks past)
+    (λ stalled. (tt, ((and_parts _ _ stalled).0, tt))) (λ _. tt)
+
+written_calm : (words : Words) (fault : Bool) (past : List Mark)
+    → AllCalm words (written_marks fault (key_of words past)) past
+written_calm words false past = tt
+written_calm words true past =
+    cond_both (on past) _ _ (λ marks. AllCalm words marks past) (λ keyed. (tt, (keyed, tt))) (λ _. (tt, tt))
+
+closing_calm : (words : Words) (past : List Mark) → AllCalm words (closing_marks (key_of words past)) past
+closing_calm words past =
+    cond_both (on past) _ _ (λ marks. AllCalm words marks past) (λ keyed. (tt, (keyed, tt))) (λ _. (tt, tt))
+
+-- ---- a tick
+
+below_limit : (n : ℕ) → eqb n 9000 ≡ false → n ≤ 9000 → n < 9000
+below_limit n other most = let differs = eqb-false n 9000 other in omega arith
+
+-- the key may stay on for one more tick
+abbrev TickFits : List Mark → Type 0
+TickFits past = on past ≡ true → lit past < 9000
+
+under_limit : (b : Bool) (n : ℕ) → (b && eqb n 9000) ≡ false → n ≤ 9000 → b ≡ true → n < 9000
+under_limit true n other most is = below_limit n other most
+under_limit false n other most is = absurd (cc)
+
+tick_fits : (words : Words) (sounds needed : Bool) (past : List Mark) → Sound past
+    → TickFits (tick_marks sounds needed (key_of words past) ++ past)
+tick_fits words sounds needed past s =
+    let key = key_of words past in
+    cond_both (free key && sounds) _ _ (λ marks. TickFits (marks ++ past)) (λ _. λ _. omega arith)
+    (λ _. cond_both (is_at_limit key) _ _ (λ marks. TickFits (marks ++ past)) (λ _. λ keyed. absurd (cc))
+    (λ under. cond_both (on past && not needed) _ _ (λ marks. TickFits (marks ++ past)) (λ _. λ keyed. absurd (cc))
+    (λ _. under_limit (on past) (lit past) under s.lit)))
+
+tick_allowed : (words : Words) (sounds needed : Bool) (past : List Mark)
+    → AllAllowed words (tick_marks sounds needed (key_of words past)) past
+tick_allowed words sounds needed past =
+    let key = key_of words past in
+    cond_both (free key && sounds) _ _ (λ marks. AllAllowed words marks past)
+    (λ begins. ((and_parts _ _ begins).0, tt))
+    (λ _. cond_both (is_at_limit key) _ _ (λ marks. AllAllowed words marks past)
+    (λ limit. (tt, ((and_parts _ _ limit).0, tt)))
+    (λ _. cond_both (on past && not needed) _ _ (λ marks. AllAllowed words marks past)
+    (λ over. ((and_parts _ _ over).0, tt)) (λ _. tt)))
+
+-- ---- calls
+
+-- a rule, or rules one after another, that neither key nor make a tick
+pub record Calmly (past new : List Mark) : Type 0 where
+  pub sound : Sound past → Sound new
+  pub same : Same past new
+
+calm_rule : (words : Words) (rule : Key → List Mark) (past : List Mark)
+    → AllCalm words (rule (key_of words past)) past → Calmly past (by_rule words rule past)
+calm_rule words rule past calm = record {
+  sound = sound_marks words (rule (key_of words past)) past (all_calm words (rule (key_of words past)) past calm);
+  same = all_same words (rule (key_of words past)) past calm;
+}
+
+calm_along : (first second third : List Mark) → Calmly first second → Calmly second third → Calmly first third
+calm_along first second third a b = record {
+  sound = λ s. b.sound (a.sound s);
+  same = same_along first second third a.same b.same;
+}
+
+calm_heard : (words : Words) (octets : List ℕ) (past : List Mark) → Calmly past (heard words octets past)
+calm_heard words [] past = record { sound = λ s. s; same = record { on = λ is. is; ticks = refl; lit = refl } }
+calm_heard words (octet ∷ octets) past =
+    calm_along past (by_rule words (octet_marks octet) past) _
+    (calm_rule words (octet_marks octet) past (octet_calm words octet past))
+    (calm_heard words octets (by_rule words (octet_marks octet) past))
+
+calm_turn_begins : (words : Words) (now : ℕ) (past : List Mark) → Calmly past (Turned now ∷ past)
+calm_turn_begins words now past = calm_rule words (λ _. Turned now ∷ []) past (tt, tt)
+
+pub calm_read : (words : Words) (now : ℕ) (octets : List ℕ) (end : Option End) (past : List Mark)
+    → Calmly past (read words now octets end past)
+calm_read words now octets end past =
+    let began = Turned now ∷ past in
+    let came = heard words octets began in
+    calm_along past began _ (calm_turn_begins words now past)
+    (calm_along began came _ (calm_heard words octets began)
+    (calm_rule words (end_marks end) came (end_calm words end came)))
+
+pub calm_listened : (words : Words) (now : ℕ) (octets : List ℕ) (end : Option End) (past : List Mark)
+    → Calmly past (listened words now octets end past)
+calm_listened words now octets end past =
+    let come = read words now octets end past in
+    calm_along past come _ (calm_read words now octets end past)
+    (calm_rule words silence_marks come (silence_calm words come))
+
+pub calm_turned : (words : Words) (now : ℕ) (octets : List ℕ) (end : Option End) (past : List Mark)
+    → Calmly past (turned words now octets end past)
+calm_turned words now octets end past =
+    let come = listened words now octets end past in
+    calm_along past come _ (calm_listened words now octets end past)
+    (calm_rule words stall_marks come (stall_calm words come))
+
+pub calm_tried : (words : Words) (how : Try) (past : List Mark) → Calmly past (tried words how past)
+calm_tried words how past = calm_rule words (try_marks how) past (try_calm words how past)
+
+pub calm_written : (words : Words) (fault : Bool) (past : List Mark) → Calmly past (written words fault past)
+calm_written words fault past = calm_rule words (written_marks fault) past (written_calm words fault past)
+
+pub calm_failed : (words : Words) (past : List Mark) → Calmly past (command_failed words past)
+calm_failed words past = calm_rule words (end_marks (Some Fault)) past (end_calm words (Some Fault) past)
+
+pub calm_ended : (words : Words) (now : ℕ) (octets : List ℕ) (end : Option End) (past : List Mark)
+    → Calmly past (ended words now octets end past)
+calm_ended words now octets end past =
+    let come = read words now octets end past in
+    calm_along past come _ (calm_read words now octets end past)
+    (calm_rule words closing_marks come (closing_calm words come))
+
+pub sound_ticked : (words : Words) (sounds : Bool) (past : List Mark) → Sound past → Sound (ticked words sounds past)
+sound_ticked words sounds past s =
+    let needed = wanted words.tail (sounds ∷ ticks past) in
+    let marks = tick_marks sounds needed (key_of words past) in
+    sound_mark words (Ticked sounds) (marks ++ past) (tick_fits words sounds needed past s)
+    (sound_marks words marks past (tick_allowed words sounds needed past) s)
+
+sound_called : (words : Words) (call : Call) (past : List Mark) → Sound past → Sound (called words call past)
+sound_called words (Turn now octets end) past s = (calm_turned words now octets end past).sound s
+sound_called words (AfterTry how) past s = (calm_tried words how past).sound s
+sound_called words (Tick sounds) past s = sound_ticked words sounds past s
+sound_called words (AfterWrite fault) past s = (calm_written words fault past).sound s
+sound_called words CommandFailed past s = (calm_failed words past).sound s
+sound_called words (Release now octets end) past s = (calm_ended words now octets end past).sound s
+
+pub sound_history : (words : Words) (calls : List Call) → Sound (history words calls)
+sound_history words [] = sound_nothing
+sound_history words (call ∷ before) = sound_called words call (history words before) (sound_history words before)
