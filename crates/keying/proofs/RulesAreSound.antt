@@ -1,7 +1,7 @@
 -- Each rule adds only marks that may stand there.
 use Rattle.std.proofs.Common.{◌≡◌, ℕ, ◌+◌, ◌<◌, ◌≤◌, ◌&&◌, not, eqb, if◌then◌else◌, Bool, true, false, List, [], ◌∷◌}
 use Rattle.std.proofs.Common.{◌++◌, length, Option, None, Some, refl, ap, sym, subst, ◌∙◌, arith, inl, inr}
-use Rattle.std.proofs.lemmas.Bool.{and_parts, and_cases, cond_both, cases_Bool, eqb-true, eqb-false, not-true}
+use Rattle.std.proofs.lemmas.Bool.{and_parts, and_cases, cond_both, cases_Bool, eqb-true, eqb-false, eq-eqb, not-true}
 use Rattle.keying.specs.declared.answer.Answer.{Answer}
 use Rattle.keying.specs.declared.answer.Answer.TheVariants.{Accepts, Refuses, Unclear}
 use Rattle.keying.specs.declared.line.End.{End}
@@ -15,9 +15,10 @@ use Rattle.keying.specs.Answers.{answer_of}
 use Rattle.keying.specs.Marks.{Mark}
 use Rattle.keying.specs.Marks.Mark.{Turned, Tried, Opened, Keyed, Released, Heard, Accepted, Readied, Lost}
 use Rattle.keying.specs.Marks.Mark.{Ticked, Cut, WriteFault, Ends}
-use Rattle.keying.specs.Line.{phase, waiting, part}
+use Rattle.keying.specs.Line.{phase, waiting, ready, part}
 use Rattle.keying.specs.Keyed.{on, lit, ticks, wanted}
 use Rattle.keying.specs.Key.{Key, key_of, free, is_free}
+use Rattle.keying.specs.Laws.{newest_keys}
 use Rattle.keying.specs.Rules.{settles, accept_marks, due_marks, answer_marks, line_marks, octet_marks_in, octet_marks}
 use Rattle.keying.specs.Rules.{end_marks_in, end_marks, is_overdue, silence_marks, opening_marks, try_marks_in, try_marks}
 use Rattle.keying.specs.Rules.{is_stalled, stall_marks, is_at_limit, tick_marks, written_marks, closing_marks}
@@ -33,41 +34,60 @@ some_from : (xs : List ℕ) → eqb (length xs) 0 ≡ false → 1 ≤ length xs
 some_from [] is = absurd (cc)
 some_from (x ∷ xs) is = omega arith
 
-accept_calm : (words : Words) (past : List Mark) (octet : ℕ) → phase past ≡ Up → 1 ≤ length (waiting past)
-    → AllCalm words (accept_marks (key_of words past)) (Heard octet ∷ past)
-accept_calm words past octet up some =
+-- an answer to the first release makes the line ready
+ready_else : (got off one : Bool) → ((off && one) && not got) ≡ false → off ≡ true → one ≡ true → got ≡ true
+ready_else true off one other first second = refl
+ready_else false true true other first second = absurd (cc)
+ready_else false true false other first second = absurd (cc)
+ready_else false false one other first second = absurd (cc)
+
+got_ready : (past : List Mark) → Sound past → phase past ≡ Up
+    → ((not (on past) && eqb (length (waiting past)) 1) && not (ready past)) ≡ false → ready past ≡ true
+got_ready past s up other =
+    elim (s.readies up) [
+      | inl got ↦ got
+      | inr waits ↦
+          let off : on past ≡ false = sym s.newest ∙ ap newest_keys waits.0 in
+          ready_else (ready past) (not (on past)) (eqb (length (waiting past)) 1) other (ap not off)
+          (eq-eqb (length (waiting past)) 1 waits.1)
+    ]
+
+accept_calm : (words : Words) (past : List Mark) (octet : ℕ) → Sound past → phase past ≡ Up
+    → 1 ≤ length (waiting past) → AllCalm words (accept_marks (key_of words past)) (Heard octet ∷ past)
+accept_calm words past octet s up some =
     cond_both (settles (key_of words past) && not (key_of words past).ready) _ _
-    (λ marks. AllCalm words marks (Heard octet ∷ past)) (λ _. (tt, ((up, some), tt))) (λ _. ((up, some), tt))
+    (λ marks. AllCalm words marks (Heard octet ∷ past)) (λ _. ((up, some, refl), (tt, tt)))
+    (λ other. ((up, some, got_ready past s up other), tt))
 
-due_calm : (words : Words) (answer : Answer) (past : List Mark) (octet : ℕ) → phase past ≡ Up
+due_calm : (words : Words) (answer : Answer) (past : List Mark) (octet : ℕ) → Sound past → phase past ≡ Up
     → 1 ≤ length (waiting past) → AllCalm words (due_marks answer (key_of words past)) (Heard octet ∷ past)
-due_calm words Unclear past octet up some = (tt, tt)
-due_calm words (Refuses number) past octet up some = (tt, tt)
-due_calm words Accepts past octet up some = accept_calm words past octet up some
+due_calm words Unclear past octet s up some = (tt, tt)
+due_calm words (Refuses number) past octet s up some = (tt, tt)
+due_calm words Accepts past octet s up some = accept_calm words past octet s up some
 
-answer_calm : (words : Words) (answer : Answer) (past : List Mark) (octet : ℕ) → phase past ≡ Up
+answer_calm : (words : Words) (answer : Answer) (past : List Mark) (octet : ℕ) → Sound past → phase past ≡ Up
     → AllCalm words (answer_marks answer (key_of words past)) (Heard octet ∷ past)
-answer_calm words answer past octet up =
+answer_calm words answer past octet s up =
     cond_both (eqb (length (waiting past)) 0) _ _ (λ marks. AllCalm words marks (Heard octet ∷ past))
-    (λ _. (tt, tt)) (λ some. due_calm words answer past octet up (some_from (waiting past) some))
+    (λ _. (tt, tt)) (λ some. due_calm words answer past octet s up (some_from (waiting past) some))
 
-line_calm : (words : Words) (octet : ℕ) (past : List Mark) → phase past ≡ Up
+line_calm : (words : Words) (octet : ℕ) (past : List Mark) → Sound past → phase past ≡ Up
     → AllCalm words (line_marks octet (key_of words past)) past
-line_calm words octet past up =
+line_calm words octet past s up =
     cond_both (eqb octet 10) _ _ (λ marks. AllCalm words marks past)
     (λ _. calm-append words (answer_marks (answer_of (part past)) (key_of words past)) (Heard octet ∷ []) past
-      (answer_calm words (answer_of (part past)) past octet up) (tt, tt))
+      (answer_calm words (answer_of (part past)) past octet s up) (tt, tt))
     (λ _. cond_both (eqb (length (part past)) 63) _ _ (λ marks. AllCalm words marks past) (λ _. (tt, tt)) (λ _. (tt, tt)))
 
-octet_calm_in : (words : Words) (p : Phase) (octet : ℕ) (past : List Mark) → phase past ≡ p
+octet_calm_in : (words : Words) (p : Phase) (octet : ℕ) (past : List Mark) → Sound past → phase past ≡ p
     → AllCalm words (octet_marks_in p octet (key_of words past)) past
-octet_calm_in words Down octet past is = tt
-octet_calm_in words Opening octet past is = (tt, tt)
-octet_calm_in words Up octet past is = line_calm words octet past is
+octet_calm_in words Down octet past s is = tt
+octet_calm_in words Opening octet past s is = (tt, tt)
+octet_calm_in words Up octet past s is = line_calm words octet past s is
 
-octet_calm : (words : Words) (octet : ℕ) (past : List Mark)
+octet_calm : (words : Words) (octet : ℕ) (past : List Mark) → Sound past
     → AllCalm words (octet_marks octet (key_of words past)) past
-octet_calm words octet past = octet_calm_in words (phase past) octet past refl
+octet_calm words octet past s = octet_calm_in words (phase past) octet past s refl
 
 -- ---- losses, tries and ends
 
@@ -152,70 +172,69 @@ tick_allowed words sounds needed past =
 
 -- a rule, or rules one after another, that neither key nor make a tick
 pub record Calmly (past new : List Mark) : Type 0 where
-  pub sound : Sound past → Sound new
+  pub sound : Sound new
   pub same : Same past new
 
-calm_rule : (words : Words) (rule : Key → List Mark) (past : List Mark)
+calm_rule : (words : Words) (rule : Key → List Mark) (past : List Mark) → Sound past
     → AllCalm words (rule (key_of words past)) past → Calmly past (by_rule words rule past)
-calm_rule words rule past calm = record {
-  sound = sound_marks words (rule (key_of words past)) past (all_calm words (rule (key_of words past)) past calm);
-  same = all_same words (rule (key_of words past)) past calm;
-}
+calm_rule words rule past s calm =
+    let marks = rule (key_of words past) in
+    record {
+      sound = sound_marks words marks past (all_calm words marks past calm) s;
+      same = all_same words marks past calm;
+    }
 
 calm_along : (first second third : List Mark) → Calmly first second → Calmly second third → Calmly first third
-calm_along first second third a b = record {
-  sound = λ s. b.sound (a.sound s);
-  same = same_along first second third a.same b.same;
-}
+calm_along first second third a b = record { sound = b.sound; same = same_along first second third a.same b.same }
 
-calm_heard : (words : Words) (octets : List ℕ) (past : List Mark) → Calmly past (heard words octets past)
-calm_heard words [] past = record { sound = λ s. s; same = record { on = λ is. is; ticks = refl; lit = refl } }
-calm_heard words (octet ∷ octets) past =
-    calm_along past (by_rule words (octet_marks octet) past) _
-    (calm_rule words (octet_marks octet) past (octet_calm words octet past))
-    (calm_heard words octets (by_rule words (octet_marks octet) past))
+calm_heard : (words : Words) (octets : List ℕ) (past : List Mark) → Sound past
+    → Calmly past (heard words octets past)
+calm_heard words [] past s = record { sound = s; same = record { on = λ is. is; ticks = refl; lit = refl } }
+calm_heard words (octet ∷ octets) past s =
+    let come = by_rule words (octet_marks octet) past in
+    let first : Calmly past come = calm_rule words (octet_marks octet) past s (octet_calm words octet past s) in
+    calm_along past come _ first (calm_heard words octets come first.sound)
 
-calm_turn_begins : (words : Words) (now : ℕ) (past : List Mark) → Calmly past (Turned now ∷ past)
-calm_turn_begins words now past = calm_rule words (λ _. Turned now ∷ []) past (tt, tt)
-
-pub calm_read : (words : Words) (now : ℕ) (octets : List ℕ) (end : Option End) (past : List Mark)
+pub calm_read : (words : Words) (now : ℕ) (octets : List ℕ) (end : Option End) (past : List Mark) → Sound past
     → Calmly past (read words now octets end past)
-calm_read words now octets end past =
+calm_read words now octets end past s =
     let began = Turned now ∷ past in
-    let came = heard words octets began in
-    calm_along past began _ (calm_turn_begins words now past)
-    (calm_along began came _ (calm_heard words octets began)
-    (calm_rule words (end_marks end) came (end_calm words end came)))
+    let first : Calmly past began = calm_rule words (λ _. Turned now ∷ []) past s (tt, tt) in
+    let come = heard words octets began in
+    let second : Calmly began come = calm_heard words octets began first.sound in
+    calm_along past began _ first (calm_along began come _ second
+    (calm_rule words (end_marks end) come second.sound (end_calm words end come)))
 
-pub calm_listened : (words : Words) (now : ℕ) (octets : List ℕ) (end : Option End) (past : List Mark)
+pub calm_listened : (words : Words) (now : ℕ) (octets : List ℕ) (end : Option End) (past : List Mark) → Sound past
     → Calmly past (listened words now octets end past)
-calm_listened words now octets end past =
+calm_listened words now octets end past s =
     let come = read words now octets end past in
-    calm_along past come _ (calm_read words now octets end past)
-    (calm_rule words silence_marks come (silence_calm words come))
+    let first : Calmly past come = calm_read words now octets end past s in
+    calm_along past come _ first (calm_rule words silence_marks come first.sound (silence_calm words come))
 
-pub calm_turned : (words : Words) (now : ℕ) (octets : List ℕ) (end : Option End) (past : List Mark)
+pub calm_turned : (words : Words) (now : ℕ) (octets : List ℕ) (end : Option End) (past : List Mark) → Sound past
     → Calmly past (turned words now octets end past)
-calm_turned words now octets end past =
+calm_turned words now octets end past s =
     let come = listened words now octets end past in
-    calm_along past come _ (calm_listened words now octets end past)
-    (calm_rule words stall_marks come (stall_calm words come))
+    let first : Calmly past come = calm_listened words now octets end past s in
+    calm_along past come _ first (calm_rule words stall_marks come first.sound (stall_calm words come))
 
-pub calm_tried : (words : Words) (how : Try) (past : List Mark) → Calmly past (tried words how past)
-calm_tried words how past = calm_rule words (try_marks how) past (try_calm words how past)
+pub calm_tried : (words : Words) (how : Try) (past : List Mark) → Sound past → Calmly past (tried words how past)
+calm_tried words how past s = calm_rule words (try_marks how) past s (try_calm words how past)
 
-pub calm_written : (words : Words) (fault : Bool) (past : List Mark) → Calmly past (written words fault past)
-calm_written words fault past = calm_rule words (written_marks fault) past (written_calm words fault past)
+pub calm_written : (words : Words) (fault : Bool) (past : List Mark) → Sound past
+    → Calmly past (written words fault past)
+calm_written words fault past s = calm_rule words (written_marks fault) past s (written_calm words fault past)
 
-pub calm_failed : (words : Words) (past : List Mark) → Calmly past (command_failed words past)
-calm_failed words past = calm_rule words (end_marks (Some Fault)) past (end_calm words (Some Fault) past)
+pub calm_failed : (words : Words) (past : List Mark) → Sound past → Calmly past (command_failed words past)
+calm_failed words past s = calm_rule words (end_marks (Some Fault)) past s (end_calm words (Some Fault) past)
 
-pub calm_ended : (words : Words) (now : ℕ) (octets : List ℕ) (end : Option End) (past : List Mark)
+pub calm_ended : (words : Words) (now : ℕ) (octets : List ℕ) (end : Option End) (past : List Mark) → Sound past
     → Calmly past (ended words now octets end past)
-calm_ended words now octets end past =
+calm_ended words now octets end past s =
     let come = read words now octets end past in
-    calm_along past come _ (calm_read words now octets end past)
-    (calm_rule words closing_marks come (closing_calm words come))
+    let first : Calmly past come = calm_read words now octets end past s in
+    calm_along past come _ first (calm_rule words closing_marks come first.sound (closing_calm words come))
 
 pub sound_ticked : (words : Words) (sounds : Bool) (past : List Mark) → Sound past → Sound (ticked words sounds past)
 sound_ticked words sounds past s =
@@ -225,12 +244,12 @@ sound_ticked words sounds past s =
     (sound_marks words marks past (tick_allowed words sounds needed past) s)
 
 sound_called : (words : Words) (call : Call) (past : List Mark) → Sound past → Sound (called words call past)
-sound_called words (Turn now octets end) past s = (calm_turned words now octets end past).sound s
-sound_called words (AfterTry how) past s = (calm_tried words how past).sound s
+sound_called words (Turn now octets end) past s = (calm_turned words now octets end past s).sound
+sound_called words (AfterTry how) past s = (calm_tried words how past s).sound
 sound_called words (Tick sounds) past s = sound_ticked words sounds past s
-sound_called words (AfterWrite fault) past s = (calm_written words fault past).sound s
-sound_called words CommandFailed past s = (calm_failed words past).sound s
-sound_called words (Release now octets end) past s = (calm_ended words now octets end past).sound s
+sound_called words (AfterWrite fault) past s = (calm_written words fault past s).sound
+sound_called words CommandFailed past s = (calm_failed words past s).sound
+sound_called words (Release now octets end) past s = (calm_ended words now octets end past s).sound
 
 pub sound_history : (words : Words) (calls : List Call) → Sound (history words calls)
 sound_history words [] = sound_nothing

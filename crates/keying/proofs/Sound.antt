@@ -9,7 +9,7 @@ use Rattle.keying.specs.declared.machine.Words.{Words}
 use Rattle.keying.specs.Marks.{Mark}
 use Rattle.keying.specs.Marks.Mark.{Turned, Tried, Opened, Keyed, Released, Heard, Accepted, Readied, Lost}
 use Rattle.keying.specs.Marks.Mark.{Ticked, Cut, WriteFault, Ends}
-use Rattle.keying.specs.Line.{phase, waiting}
+use Rattle.keying.specs.Line.{phase, waiting, ready}
 use Rattle.keying.specs.Keyed.{on, lit, owed, ticks}
 use Rattle.keying.specs.Key.{is_up, key_of, free, is_free}
 use Rattle.keying.specs.Laws.{commands, accepted, Alternate, newest_keys}
@@ -20,6 +20,10 @@ Stands Down commands waiting accepted = (commands ≡ []) × (waiting ≡ 0) × 
 Stands Opening commands waiting accepted = (commands ≡ []) × (waiting ≡ 1) × (accepted ≡ 0)
 Stands Up commands waiting accepted = (accepted + waiting ≡ length commands) × (1 ≤ length commands)
 
+-- a line is ready, or waits for the answer to its first release
+abbrev pub IsReadying : List Mark → Type 0
+IsReadying past = (ready past ≡ true) ⊎ ((commands past ≡ false ∷ []) × (length (waiting past) ≡ 1))
+
 pub record Sound (past : List Mark) : Type 0 where
   pub newest : newest_keys (commands past) ≡ on past
   pub alternate : Alternate (commands past)
@@ -28,6 +32,7 @@ pub record Sound (past : List Mark) : Type 0 where
   pub few : on past ≡ true → length (waiting past) ≤ 1
   pub two : length (waiting past) ≤ 2
   pub owes : phase past ≡ Up → owed past ≡ true → (on past ≡ true) ⊎ (1 ≤ length (waiting past))
+  pub readies : phase past ≡ Up → IsReadying past
 
 -- where a mark may stand
 abbrev pub Allowed : Words → Mark → List Mark → Type 0
@@ -35,7 +40,7 @@ Allowed words Tried past = phase past ≡ Down
 Allowed words Opened past = phase past ≡ Opening
 Allowed words Keyed past = is_free words past ≡ true
 Allowed words Released past = on past ≡ true
-Allowed words Accepted past = (phase past ≡ Up) × (1 ≤ length (waiting past))
+Allowed words Accepted past = (phase past ≡ Up) × (1 ≤ length (waiting past)) × (ready past ≡ true)
 Allowed words (Ticked sounds) past = on past ≡ true → lit past < 9000
 Allowed words _ past = Unit {0}
 
@@ -90,8 +95,9 @@ lit_more false n most below = most
 made : (past : List Mark) → newest_keys (commands past) ≡ on past → Alternate (commands past) → lit past ≤ 9000
     → Stands (phase past) (commands past) (length (waiting past)) (accepted past)
     → (on past ≡ true → length (waiting past) ≤ 1) → length (waiting past) ≤ 2
-    → (phase past ≡ Up → owed past ≡ true → (on past ≡ true) ⊎ (1 ≤ length (waiting past))) → Sound past
-made past newest alternate lit_most stands few two owes = record {
+    → (phase past ≡ Up → owed past ≡ true → (on past ≡ true) ⊎ (1 ≤ length (waiting past)))
+    → (phase past ≡ Up → IsReadying past) → Sound past
+made past newest alternate lit_most stands few two owes readies = record {
   newest = newest;
   alternate = alternate;
   lit = lit_most;
@@ -99,7 +105,26 @@ made past newest alternate lit_most stands few two owes = record {
   few = few;
   two = two;
   owes = owes;
+  readies = readies;
 }
+
+-- the key is on only after the line got ready
+pub ready_on : (past : List Mark) → on past ≡ true → Sound past → ready past ≡ true
+ready_on past is s =
+    let up = on_up (phase past) (commands past) (length (waiting past)) (accepted past) (s.newest ∙ is) s.stands in
+    elim (s.readies up) [
+      | inl got ↦ got
+      | inr waits ↦ absurd (let keys : newest_keys (commands past) ≡ false = ap newest_keys waits.0 in
+          let on_is = s.newest in cc)
+    ]
+
+pub ready_free : (words : Words) (past : List Mark) → Free words past → Sound past → ready past ≡ true
+ready_free words past f s =
+    elim (s.readies f.up) [
+      | inl got ↦ got
+      | inr waits ↦ absurd (let none : length (waiting past) ≡ 0 = f.answered in
+          let one : length (waiting past) ≡ 1 = waits.1 in omega arith)
+    ]
 
 sound_keyed : (words : Words) (past : List Mark) → is_free words past ≡ true → Sound past → Sound (Keyed ∷ past)
 sound_keyed words past allowed s =
@@ -116,6 +141,7 @@ sound_keyed words past allowed s =
       few = λ _. omega arith;
       two = omega arith;
       owes = λ at due. inl refl;
+      readies = λ at. inl (ready_free words past f s);
     }
 
 sound_released : (past : List Mark) → on past ≡ true → Sound past → Sound (Released ∷ past)
@@ -133,6 +159,7 @@ sound_released past is s =
       few = λ keys. absurd (cc);
       two = omega arith;
       owes = λ at due. inr (omega arith);
+      readies = λ at. inl (ready_on past is s);
     }
 
 sound_opened : (past : List Mark) → phase past ≡ Opening → Sound past → Sound (Opened ∷ past)
@@ -148,6 +175,7 @@ sound_opened past is s =
       few = λ keys. absurd (cc);
       two = s.two;
       owes = λ at due. inr (omega arith);
+      readies = λ at. inr (refl, one);
     }
 
 still_owed : (b : Bool) (n : ℕ) (due : Bool) → (if not b && eqb n 0 then false else due) ≡ true → (b ≡ true) ⊎ (1 ≤ n)
@@ -155,8 +183,9 @@ still_owed true n due is = inl refl
 still_owed false zero due is = absurd (cc)
 still_owed false (suc n) due is = inr (omega arith)
 
-sound_accepted : (past : List Mark) → phase past ≡ Up → 1 ≤ length (waiting past) → Sound past → Sound (Accepted ∷ past)
-sound_accepted past is some s =
+sound_accepted : (past : List Mark) → phase past ≡ Up → 1 ≤ length (waiting past) → ready past ≡ true → Sound past
+    → Sound (Accepted ∷ past)
+sound_accepted past is some got s =
     let up = stands_at (phase past) Up (commands past) (length (waiting past)) (accepted past) is s.stands in
     let less : length (drop 1 (waiting past)) ≡ length (waiting past) - 1 = length-drop 1 (waiting past) in
     let two : length (waiting past) ≤ 2 = s.two in
@@ -169,12 +198,13 @@ sound_accepted past is some s =
       few = λ keys. omega arith;
       two = omega arith;
       owes = λ at due. still_owed (on past) (length (drop 1 (waiting past))) (owed past) due;
+      readies = λ at. inl got;
     }
 
 pub sound_mark : (words : Words) (mark : Mark) (past : List Mark) → Allowed words mark past → Sound past
     → Sound (mark ∷ past)
 sound_mark words (Turned now) past allowed s =
-    made (Turned now ∷ past) s.newest s.alternate s.lit s.stands s.few s.two s.owes
+    made (Turned now ∷ past) s.newest s.alternate s.lit s.stands s.few s.two s.owes s.readies
 sound_mark words Tried past allowed s = record {
   newest = refl;
   alternate = tt;
@@ -183,15 +213,16 @@ sound_mark words Tried past allowed s = record {
   few = λ keys. omega arith;
   two = omega arith;
   owes = λ at due. absurd (cc);
+  readies = λ at. absurd (cc);
 }
 sound_mark words Opened past allowed s = sound_opened past allowed s
 sound_mark words Keyed past allowed s = sound_keyed words past allowed s
 sound_mark words Released past allowed s = sound_released past allowed s
 sound_mark words (Heard octet) past allowed s =
-    made (Heard octet ∷ past) s.newest s.alternate s.lit s.stands s.few s.two s.owes
-sound_mark words Accepted past allowed s = sound_accepted past allowed.0 allowed.1 s
+    made (Heard octet ∷ past) s.newest s.alternate s.lit s.stands s.few s.two s.owes s.readies
+sound_mark words Accepted past allowed s = sound_accepted past allowed.0 allowed.1 allowed.2 s
 sound_mark words Readied past allowed s =
-    made (Readied ∷ past) s.newest s.alternate s.lit s.stands s.few s.two s.owes
+    made (Readied ∷ past) s.newest s.alternate s.lit s.stands s.few s.two s.owes (λ at. inl refl)
 sound_mark words (Lost why) past allowed s = record {
   newest = refl;
   alternate = tt;
@@ -200,6 +231,7 @@ sound_mark words (Lost why) past allowed s = record {
   few = λ keys. omega arith;
   two = omega arith;
   owes = λ at due. absurd (cc);
+  readies = λ at. absurd (cc);
 }
 sound_mark words (Ticked sounds) past allowed s = record {
   newest = s.newest;
@@ -209,13 +241,14 @@ sound_mark words (Ticked sounds) past allowed s = record {
   few = s.few;
   two = s.two;
   owes = s.owes;
+  readies = s.readies;
 }
 sound_mark words (Cut why) past allowed s =
-    made (Cut why ∷ past) s.newest s.alternate s.lit s.stands s.few s.two s.owes
+    made (Cut why ∷ past) s.newest s.alternate s.lit s.stands s.few s.two s.owes s.readies
 sound_mark words WriteFault past allowed s =
-    made (WriteFault ∷ past) s.newest s.alternate s.lit s.stands s.few s.two s.owes
+    made (WriteFault ∷ past) s.newest s.alternate s.lit s.stands s.few s.two s.owes s.readies
 sound_mark words Ends past allowed s =
-    made (Ends ∷ past) s.newest s.alternate s.lit s.stands s.few s.two s.owes
+    made (Ends ∷ past) s.newest s.alternate s.lit s.stands s.few s.two s.owes s.readies
 
 pub sound_nothing : Sound []
 sound_nothing = record {
@@ -226,6 +259,7 @@ sound_nothing = record {
   few = λ keys. omega arith;
   two = omega arith;
   owes = λ at due. absurd (cc);
+  readies = λ at. absurd (cc);
 }
 
 -- marks, the newest first

@@ -21,8 +21,9 @@ use Rattle.keying.specs.Calls.Call.{Turn, AfterTry, Tick, AfterWrite, CommandFai
 use Rattle.keying.specs.Told.{keying_command, act_told, tick_told}
 use Rattle.keying.specs.Laws.{EndsTail}
 use Rattle.keying.proofs.Lingering.{sounded}
-use Rattle.keying.proofs.Sound.{Same, Free, free_parts}
+use Rattle.keying.proofs.Sound.{Sound, Same, Free, free_parts}
 use Rattle.keying.proofs.RulesAreSound.{calm_turned, calm_tried, calm_written, calm_failed, calm_ended}
+use Rattle.keying.proofs.RulesAreSound.{sound_history}
 
 -- ---- lists of ticks
 
@@ -89,21 +90,22 @@ lingers_ticked words sounds past =
     λ keyed. ap (λ older. wanted words.tail (sounds ∷ older)) (tick_ticks words sounds needed past)
     ∙ tick_wanted words sounds needed past (sound_is_wanted words.tail sounds (ticks past)) keyed
 
-lingers_called : (words : Words) (call : Call) (past : List Mark) → Lingers words past
+lingers_called : (words : Words) (call : Call) (past : List Mark) → Sound past → Lingers words past
     → Lingers words (called words call past)
-lingers_called words (Turn now octets end) past lingers =
-    lingers_same words past _ (calm_turned words now octets end past).same lingers
-lingers_called words (AfterTry how) past lingers = lingers_same words past _ (calm_tried words how past).same lingers
-lingers_called words (Tick sounds) past lingers = lingers_ticked words sounds past
-lingers_called words (AfterWrite fault) past lingers =
-    lingers_same words past _ (calm_written words fault past).same lingers
-lingers_called words CommandFailed past lingers = lingers_same words past _ (calm_failed words past).same lingers
-lingers_called words (AtEnd now octets end) past lingers =
-    lingers_same words past _ (calm_ended words now octets end past).same lingers
+lingers_called words (Turn now octets end) past s lingers =
+    lingers_same words past _ (calm_turned words now octets end past s).same lingers
+lingers_called words (AfterTry how) past s lingers = lingers_same words past _ (calm_tried words how past s).same lingers
+lingers_called words (Tick sounds) past s lingers = lingers_ticked words sounds past
+lingers_called words (AfterWrite fault) past s lingers =
+    lingers_same words past _ (calm_written words fault past s).same lingers
+lingers_called words CommandFailed past s lingers = lingers_same words past _ (calm_failed words past s).same lingers
+lingers_called words (AtEnd now octets end) past s lingers =
+    lingers_same words past _ (calm_ended words now octets end past s).same lingers
 
 pub lingers_history : (words : Words) (calls : List Call) → Lingers words (history words calls)
 lingers_history words [] = λ keyed. absurd (cc)
-lingers_history words (call ∷ before) = lingers_called words call (history words before) (lingers_history words before)
+lingers_history words (call ∷ before) =
+    lingers_called words call (history words before) (sound_history words before) (lingers_history words before)
 
 -- ---- laws
 
@@ -157,7 +159,7 @@ stays_on words past sounds keyed below =
     cond_both (free key && sounds) _ _ P
     (λ begins. absurd (let off = (free_parts words past (and_parts _ _ begins).0).off in cc))
     (λ _. cond_both (is_at_limit key) _ _ P
-    (λ limit. absurd (let at : lit past ≡ 9000 = eqb-true (lit past) 9000 (and_parts _ _ limit).1 in omega arith))
+    (λ limit. absurd (let at : lit past ≡ 9000 = eqb-true (lit past) 9000 (and_parts (on past) (eqb (lit past) 9000) limit).1 in omega arith))
     (λ _. cond_both (on past && not needed) _ _ P (λ over. sym (not-true needed (and_parts _ _ over).1))
     (λ other. keyed ∙ sym (needed_from (on past) needed other keyed))))
 

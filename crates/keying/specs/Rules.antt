@@ -28,7 +28,7 @@ settles key = not key.on && (length key.waiting == 1)
 
 -- the oldest command is accepted; with its first release the line is ready
 abbrev pub accept_marks : Key → List Mark
-accept_marks key = if settles key && not key.ready then Readied ∷ Accepted ∷ [] else Accepted ∷ []
+accept_marks key = if settles key && not key.ready then Accepted ∷ Readied ∷ [] else Accepted ∷ []
 
 abbrev pub due_marks : Answer → Key → List Mark
 due_marks Unclear key = Lost NoAnswer ∷ []

@@ -73,11 +73,10 @@ impl Keying {
         requires { 1 ≤ length self.old.waiting }
         ensures { self.new ≡ after_rule accept_marks self.old }
     {
-        let settles = !self.on && self.waiting.len() == 1;
-        self.mark_accepted();
-        if settles && !self.ready {
+        if !self.on && self.waiting.len() == 1 && !self.ready {
             self.mark_ready();
         }
+        self.mark_accepted();
     }
 
     /// Reading or writing ended so.
