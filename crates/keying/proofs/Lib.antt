@@ -3,3 +3,4 @@ pub mod History
 pub mod Sound
 pub mod RulesAreSound
 pub mod Tails
+pub mod Losses

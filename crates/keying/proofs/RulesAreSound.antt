@@ -25,8 +25,9 @@ use Rattle.keying.specs.Rules.{is_stalled, stall_marks, is_at_limit, tick_marks,
 use Rattle.keying.specs.Calls.{by_rule, heard, read, listened, turned, tried, ticked, written, command_failed, ended}
 use Rattle.keying.specs.Calls.{Call, called, history}
 use Rattle.keying.specs.Calls.Call.{Turn, AfterTry, Tick, AfterWrite, CommandFailed, Release}
-use Rattle.keying.proofs.Sound.{Sound, AllAllowed, sound_marks, sound_mark, sound_nothing, AllCalm, all_calm}
-use Rattle.keying.proofs.Sound.{calm-append, Same, same_along, all_same}
+use Rattle.keying.proofs.Sound.{Sound, AllAllowed, sound_marks, sound_mark, sound_nothing, AllCalm, all_calm, AllHeard, all_heard}
+use Rattle.keying.proofs.Sound.{heard-append, OnOrGone, on_or_gone}
+use Rattle.keying.proofs.Sound.{Same, same_along, all_same}
 
 -- ---- octets
 
@@ -52,59 +53,59 @@ got_ready past s up other =
           (eq-eqb (length (waiting past)) 1 waits.1)
     ]
 
-accept_calm : (words : Words) (past : List Mark) (octet : ℕ) → Sound past → phase past ≡ Up
-    → 1 ≤ length (waiting past) → AllCalm words (accept_marks (key_of words past)) (Heard octet ∷ past)
-accept_calm words past octet s up some =
+accept_heard : (words : Words) (past : List Mark) (octet : ℕ) → Sound past → phase past ≡ Up
+    → 1 ≤ length (waiting past) → AllHeard words (accept_marks (key_of words past)) (Heard octet ∷ past)
+accept_heard words past octet s up some =
     cond_both (settles (key_of words past) && not (key_of words past).ready) _ _
-    (λ marks. AllCalm words marks (Heard octet ∷ past)) (λ _. ((up, some, refl), (tt, tt)))
+    (λ marks. AllHeard words marks (Heard octet ∷ past)) (λ _. ((up, some, refl), (tt, tt)))
     (λ other. ((up, some, got_ready past s up other), tt))
 
-due_calm : (words : Words) (answer : Answer) (past : List Mark) (octet : ℕ) → Sound past → phase past ≡ Up
-    → 1 ≤ length (waiting past) → AllCalm words (due_marks answer (key_of words past)) (Heard octet ∷ past)
-due_calm words Unclear past octet s up some = (tt, tt)
-due_calm words (Refuses number) past octet s up some = (tt, tt)
-due_calm words Accepts past octet s up some = accept_calm words past octet s up some
+due_heard : (words : Words) (answer : Answer) (past : List Mark) (octet : ℕ) → Sound past → phase past ≡ Up
+    → 1 ≤ length (waiting past) → AllHeard words (due_marks answer (key_of words past)) (Heard octet ∷ past)
+due_heard words Unclear past octet s up some = (tt, tt)
+due_heard words (Refuses number) past octet s up some = (tt, tt)
+due_heard words Accepts past octet s up some = accept_heard words past octet s up some
 
-answer_calm : (words : Words) (answer : Answer) (past : List Mark) (octet : ℕ) → Sound past → phase past ≡ Up
-    → AllCalm words (answer_marks answer (key_of words past)) (Heard octet ∷ past)
-answer_calm words answer past octet s up =
-    cond_both (eqb (length (waiting past)) 0) _ _ (λ marks. AllCalm words marks (Heard octet ∷ past))
-    (λ _. (tt, tt)) (λ some. due_calm words answer past octet s up (some_from (waiting past) some))
+answer_heard : (words : Words) (answer : Answer) (past : List Mark) (octet : ℕ) → Sound past → phase past ≡ Up
+    → AllHeard words (answer_marks answer (key_of words past)) (Heard octet ∷ past)
+answer_heard words answer past octet s up =
+    cond_both (eqb (length (waiting past)) 0) _ _ (λ marks. AllHeard words marks (Heard octet ∷ past))
+    (λ _. (tt, tt)) (λ some. due_heard words answer past octet s up (some_from (waiting past) some))
 
-line_calm : (words : Words) (octet : ℕ) (past : List Mark) → Sound past → phase past ≡ Up
-    → AllCalm words (line_marks octet (key_of words past)) past
-line_calm words octet past s up =
-    cond_both (eqb octet 10) _ _ (λ marks. AllCalm words marks past)
-    (λ _. calm-append words (answer_marks (answer_of (part past)) (key_of words past)) (Heard octet ∷ []) past
-      (answer_calm words (answer_of (part past)) past octet s up) (tt, tt))
-    (λ _. cond_both (eqb (length (part past)) 63) _ _ (λ marks. AllCalm words marks past) (λ _. (tt, tt)) (λ _. (tt, tt)))
+line_heard : (words : Words) (octet : ℕ) (past : List Mark) → Sound past → phase past ≡ Up
+    → AllHeard words (line_marks octet (key_of words past)) past
+line_heard words octet past s up =
+    cond_both (eqb octet 10) _ _ (λ marks. AllHeard words marks past)
+    (λ _. heard-append words (answer_marks (answer_of (part past)) (key_of words past)) (Heard octet ∷ []) past
+      (answer_heard words (answer_of (part past)) past octet s up) (tt, tt))
+    (λ _. cond_both (eqb (length (part past)) 63) _ _ (λ marks. AllHeard words marks past) (λ _. (tt, tt)) (λ _. (tt, tt)))
 
-octet_calm_in : (words : Words) (p : Phase) (octet : ℕ) (past : List Mark) → Sound past → phase past ≡ p
-    → AllCalm words (octet_marks_in p octet (key_of words past)) past
-octet_calm_in words Down octet past s is = tt
-octet_calm_in words Opening octet past s is = (tt, tt)
-octet_calm_in words Up octet past s is = line_calm words octet past s is
+octet_heard_in : (words : Words) (p : Phase) (octet : ℕ) (past : List Mark) → Sound past → phase past ≡ p
+    → AllHeard words (octet_marks_in p octet (key_of words past)) past
+octet_heard_in words Down octet past s is = tt
+octet_heard_in words Opening octet past s is = (tt, tt)
+octet_heard_in words Up octet past s is = line_heard words octet past s is
 
-octet_calm : (words : Words) (octet : ℕ) (past : List Mark) → Sound past
-    → AllCalm words (octet_marks octet (key_of words past)) past
-octet_calm words octet past s = octet_calm_in words (phase past) octet past s refl
+octet_heard : (words : Words) (octet : ℕ) (past : List Mark) → Sound past
+    → AllHeard words (octet_marks octet (key_of words past)) past
+octet_heard words octet past s = octet_heard_in words (phase past) octet past s refl
 
 -- ---- losses, tries and ends
 
-end_calm_in : (words : Words) (p : Phase) (end : End) (past : List Mark) → AllCalm words (end_marks_in p end) past
-end_calm_in words Down end past = tt
-end_calm_in words Opening end past = (tt, tt)
-end_calm_in words Up Closed past = (tt, tt)
-end_calm_in words Up Fault past = (tt, tt)
+end_heard_in : (words : Words) (p : Phase) (end : End) (past : List Mark) → AllHeard words (end_marks_in p end) past
+end_heard_in words Down end past = tt
+end_heard_in words Opening end past = (tt, tt)
+end_heard_in words Up Closed past = (tt, tt)
+end_heard_in words Up Fault past = (tt, tt)
 
-end_calm : (words : Words) (end : Option End) (past : List Mark)
-    → AllCalm words (end_marks end (key_of words past)) past
-end_calm words None past = tt
-end_calm words (Some end) past = end_calm_in words (phase past) end past
+end_heard : (words : Words) (end : Option End) (past : List Mark)
+    → AllHeard words (end_marks end (key_of words past)) past
+end_heard words None past = tt
+end_heard words (Some end) past = end_heard_in words (phase past) end past
 
-silence_calm : (words : Words) (past : List Mark) → AllCalm words (silence_marks (key_of words past)) past
-silence_calm words past =
-    cond_both (is_overdue (key_of words past).time (waiting past)) _ _ (λ marks. AllCalm words marks past)
+silence_heard : (words : Words) (past : List Mark) → AllHeard words (silence_marks (key_of words past)) past
+silence_heard words past =
+    cond_both (is_overdue (key_of words past).time (waiting past)) _ _ (λ marks. AllHeard words marks past)
     (λ _. (tt, tt)) (λ _. tt)
 
 try_calm_in : (words : Words) (p : Phase) (how : Try) (past : List Mark) → phase past ≡ p
@@ -187,36 +188,59 @@ calm_rule words rule past s calm =
 calm_along : (first second third : List Mark) → Calmly first second → Calmly second third → Calmly first third
 calm_along first second third a b = record { sound = b.sound; same = same_along first second third a.same b.same }
 
-calm_heard : (words : Words) (octets : List ℕ) (past : List Mark) → Sound past
-    → Calmly past (heard words octets past)
-calm_heard words [] past s = record { sound = s; same = record { on = λ is. is; ticks = refl; lit = refl } }
-calm_heard words (octet ∷ octets) past s =
+-- what was read on the line
+pub record Reads (past new : List Mark) : Type 0 where
+  pub calm : Calmly past new
+  pub lasts : OnOrGone past → OnOrGone new
+
+reads_rule : (words : Words) (rule : Key → List Mark) (past : List Mark) → Sound past
+    → AllHeard words (rule (key_of words past)) past → Reads past (by_rule words rule past)
+reads_rule words rule past s hears =
+    let marks = rule (key_of words past) in
+    record {
+      calm = calm_rule words rule past s (all_heard words marks past hears);
+      lasts = on_or_gone words marks past hears s;
+    }
+
+reads_along : (first second third : List Mark) → Reads first second → Reads second third → Reads first third
+reads_along first second third a b = record {
+  calm = calm_along first second third a.calm b.calm;
+  lasts = λ is. b.lasts (a.lasts is);
+}
+
+reads_octets : (words : Words) (octets : List ℕ) (past : List Mark) → Sound past
+    → Reads past (heard words octets past)
+reads_octets words [] past s = record {
+  calm = record { sound = s; same = record { on = λ is. is; ticks = refl; lit = refl } };
+  lasts = λ is. is;
+}
+reads_octets words (octet ∷ octets) past s =
     let come = by_rule words (octet_marks octet) past in
-    let first : Calmly past come = calm_rule words (octet_marks octet) past s (octet_calm words octet past s) in
-    calm_along past come _ first (calm_heard words octets come first.sound)
+    let first : Reads past come = reads_rule words (octet_marks octet) past s (octet_heard words octet past s) in
+    reads_along past come _ first (reads_octets words octets come first.calm.sound)
 
-pub calm_read : (words : Words) (now : ℕ) (octets : List ℕ) (end : Option End) (past : List Mark) → Sound past
-    → Calmly past (read words now octets end past)
-calm_read words now octets end past s =
+pub reads_read : (words : Words) (now : ℕ) (octets : List ℕ) (end : Option End) (past : List Mark) → Sound past
+    → Reads past (read words now octets end past)
+reads_read words now octets end past s =
     let began = Turned now ∷ past in
-    let first : Calmly past began = calm_rule words (λ _. Turned now ∷ []) past s (tt, tt) in
+    let first : Reads past began = reads_rule words (λ _. Turned now ∷ []) past s (tt, tt) in
     let come = heard words octets began in
-    let second : Calmly began come = calm_heard words octets began first.sound in
-    calm_along past began _ first (calm_along began come _ second
-    (calm_rule words (end_marks end) come second.sound (end_calm words end come)))
+    let second : Reads began come = reads_octets words octets began first.calm.sound in
+    reads_along past began _ first (reads_along began come _ second
+    (reads_rule words (end_marks end) come second.calm.sound (end_heard words end come)))
 
-pub calm_listened : (words : Words) (now : ℕ) (octets : List ℕ) (end : Option End) (past : List Mark) → Sound past
-    → Calmly past (listened words now octets end past)
-calm_listened words now octets end past s =
+pub reads_listened : (words : Words) (now : ℕ) (octets : List ℕ) (end : Option End) (past : List Mark) → Sound past
+    → Reads past (listened words now octets end past)
+reads_listened words now octets end past s =
     let come = read words now octets end past in
-    let first : Calmly past come = calm_read words now octets end past s in
-    calm_along past come _ first (calm_rule words silence_marks come first.sound (silence_calm words come))
+    let first : Reads past come = reads_read words now octets end past s in
+    reads_along past come _ first (reads_rule words silence_marks come first.calm.sound (silence_heard words come))
 
 pub calm_turned : (words : Words) (now : ℕ) (octets : List ℕ) (end : Option End) (past : List Mark) → Sound past
     → Calmly past (turned words now octets end past)
 calm_turned words now octets end past s =
     let come = listened words now octets end past in
-    let first : Calmly past come = calm_listened words now octets end past s in
+    let first : Calmly past come = (reads_listened words now octets end past s).calm in
     calm_along past come _ first (calm_rule words stall_marks come first.sound (stall_calm words come))
 
 pub calm_tried : (words : Words) (how : Try) (past : List Mark) → Sound past → Calmly past (tried words how past)
@@ -227,13 +251,13 @@ pub calm_written : (words : Words) (fault : Bool) (past : List Mark) → Sound p
 calm_written words fault past s = calm_rule words (written_marks fault) past s (written_calm words fault past)
 
 pub calm_failed : (words : Words) (past : List Mark) → Sound past → Calmly past (command_failed words past)
-calm_failed words past s = calm_rule words (end_marks (Some Fault)) past s (end_calm words (Some Fault) past)
+calm_failed words past s = (reads_rule words (end_marks (Some Fault)) past s (end_heard words (Some Fault) past)).calm
 
 pub calm_ended : (words : Words) (now : ℕ) (octets : List ℕ) (end : Option End) (past : List Mark) → Sound past
     → Calmly past (ended words now octets end past)
 calm_ended words now octets end past s =
     let come = read words now octets end past in
-    let first : Calmly past come = calm_read words now octets end past s in
+    let first : Calmly past come = (reads_read words now octets end past s).calm in
     calm_along past come _ first (calm_rule words closing_marks come first.sound (closing_calm words come))
 
 pub sound_ticked : (words : Words) (sounds : Bool) (past : List Mark) → Sound past → Sound (ticked words sounds past)

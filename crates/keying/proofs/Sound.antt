@@ -1,6 +1,6 @@
 -- What holds in every history that the rules make: the commands alternate, each waits for its answer or was accepted, and
 -- the key is never on for too long.
-use Rattle.std.proofs.Common.{◌≡◌, ℕ, zero, suc, ◌⊎◌, inl, inr, ◌+◌, ◌-◌, ◌<◌, ◌≤◌, ◌&&◌, not, eqb, if◌then◌else◌, Bool, true, false, List, [], ◌∷◌, ◌++◌}
+use Rattle.std.proofs.Common.{◌≡◌, ℕ, zero, suc, ◌⊎◌, inl, inr, Some, ◌+◌, ◌-◌, ◌<◌, ◌≤◌, ◌&&◌, not, eqb, if◌then◌else◌, Bool, true, false, List, [], ◌∷◌, ◌++◌}
 use Rattle.std.proofs.Common.{length, drop, refl, ap, sym, subst, ◌∙◌, arith, length-append, length-drop, append_assoc}
 use Rattle.std.proofs.lemmas.Bool.{and_parts, cond_both, eqb-true, eqb-false, not-true}
 use Rattle.keying.specs.declared.line.Phase.{Phase}
@@ -9,7 +9,8 @@ use Rattle.keying.specs.declared.machine.Words.{Words}
 use Rattle.keying.specs.Marks.{Mark}
 use Rattle.keying.specs.Marks.Mark.{Turned, Tried, Opened, Keyed, Released, Heard, Accepted, Readied, Lost}
 use Rattle.keying.specs.Marks.Mark.{Ticked, Cut, WriteFault, Ends}
-use Rattle.keying.specs.Line.{phase, waiting, ready}
+use Rattle.keying.specs.declared.report.Why.{Why}
+use Rattle.keying.specs.Line.{phase, waiting, ready, last_loss}
 use Rattle.keying.specs.Keyed.{on, lit, owed, ticks}
 use Rattle.keying.specs.Key.{is_up, key_of, free, is_free}
 use Rattle.keying.specs.Laws.{commands, accepted, Alternate, newest_keys}
@@ -77,11 +78,11 @@ push_alternate true (true ∷ others) some newest alternate = absurd (cc)
 push_alternate false (true ∷ others) some newest alternate = (refl, alternate)
 push_alternate false (false ∷ others) some newest alternate = absurd (cc)
 
-stands_at : (p q : Phase) (c : List Bool) (w a : ℕ) → p ≡ q → Stands p c w a → Stands q c w a
+pub stands_at : (p q : Phase) (c : List Bool) (w a : ℕ) → p ≡ q → Stands p c w a → Stands q c w a
 stands_at p q c w a is stands = let P : Phase → Type 0 = λ r. Stands r c w a in subst P is stands
 
 -- the key is on only on a line that is up
-on_up : (p : Phase) (c : List Bool) (w a : ℕ) → newest_keys c ≡ true → Stands p c w a → p ≡ Up
+pub on_up : (p : Phase) (c : List Bool) (w a : ℕ) → newest_keys c ≡ true → Stands p c w a → p ≡ Up
 on_up Down c w a newest stands = absurd (cc (ap newest_keys stands.0))
 on_up Opening c w a newest stands = absurd (cc (ap newest_keys stands.0))
 on_up Up c w a newest stands = refl
@@ -304,13 +305,6 @@ all_calm words [] past calm = calm
 all_calm words (mark ∷ marks) past calm =
     (calm_allowed words mark (marks ++ past) calm.0, all_calm words marks past calm.1)
 
-pub calm-append : (words : Words) (marks others past : List Mark) → AllCalm words marks (others ++ past)
-    → AllCalm words others past → AllCalm words (marks ++ others) past
-calm-append words [] others past first second = second
-calm-append words (mark ∷ marks) others past first second =
-    let P : List Mark → Type 0 = λ before. Calm words mark before in
-    (subst P (sym (append_assoc marks others past)) first.0, calm-append words marks others past first.1 second)
-
 -- The key stays off, and no tick is made.
 pub record Same (before new : List Mark) : Type 0 where
   pub on : on new ≡ true → on before ≡ true
@@ -344,3 +338,103 @@ all_same words [] past calm = record { on = λ is. is; ticks = refl; lit = refl 
 all_same words (mark ∷ marks) past calm =
     same_along past (marks ++ past) (mark ∷ (marks ++ past)) (all_same words marks past calm.1)
     (calm_same words mark (marks ++ past) calm.0)
+
+-- ---- marks of what is read on the line
+
+abbrev pub Hears : Words → Mark → List Mark → Type 0
+Hears words (Turned now) past = Unit {0}
+Hears words (Heard octet) past = Unit {0}
+Hears words Accepted past = Allowed words Accepted past
+Hears words Readied past = Unit {0}
+Hears words (Lost why) past = Unit {0}
+Hears words _ past = ⊥
+
+abbrev pub AllHeard : Words → List Mark → List Mark → Type 0
+AllHeard words [] past = Unit {0}
+AllHeard words (mark ∷ marks) past = Hears words mark (marks ++ past) × AllHeard words marks past
+
+heard_calm : (words : Words) (mark : Mark) (past : List Mark) → Hears words mark past → Calm words mark past
+heard_calm words (Turned now) past hears = hears
+heard_calm words Tried past hears = absurd hears
+heard_calm words Opened past hears = absurd hears
+heard_calm words Keyed past hears = hears
+heard_calm words Released past hears = absurd hears
+heard_calm words (Heard octet) past hears = hears
+heard_calm words Accepted past hears = hears
+heard_calm words Readied past hears = hears
+heard_calm words (Lost why) past hears = hears
+heard_calm words (Ticked sounds) past hears = hears
+heard_calm words (Cut why) past hears = absurd hears
+heard_calm words WriteFault past hears = absurd hears
+heard_calm words Ends past hears = absurd hears
+
+pub all_heard : (words : Words) (marks past : List Mark) → AllHeard words marks past → AllCalm words marks past
+all_heard words [] past hears = hears
+all_heard words (mark ∷ marks) past hears =
+    (heard_calm words mark (marks ++ past) hears.0, all_heard words marks past hears.1)
+
+pub heard-append : (words : Words) (marks others past : List Mark) → AllHeard words marks (others ++ past)
+    → AllHeard words others past → AllHeard words (marks ++ others) past
+heard-append words [] others past first second = second
+heard-append words (mark ∷ marks) others past first second =
+    let P : List Mark → Type 0 = λ before. Hears words mark before in
+    (subst P (sym (append_assoc marks others past)) first.0, heard-append words marks others past first.1 second)
+
+-- the line was lost after it had got ready
+pub record Gone (past : List Mark) : Type 0 where
+  pub down : phase past ≡ Down
+  pub got : ready past ≡ true
+  pub why : Why
+  pub loss : last_loss past ≡ Some why
+
+-- the key is on, or the line was lost
+abbrev pub OnOrGone : List Mark → Type 0
+OnOrGone past = (on past ≡ true) ⊎ Gone past
+
+gone_more : (words : Words) (mark : Mark) (past : List Mark) → Hears words mark past → Gone past → Gone (mark ∷ past)
+gone_more words (Turned now) past hears g = record { down = g.down; got = g.got; why = g.why; loss = g.loss }
+gone_more words Tried past hears g = absurd hears
+gone_more words Opened past hears g = absurd hears
+gone_more words Keyed past hears g = absurd hears
+gone_more words Released past hears g = absurd hears
+gone_more words (Heard octet) past hears g = record { down = g.down; got = g.got; why = g.why; loss = g.loss }
+gone_more words Accepted past hears g = record { down = g.down; got = g.got; why = g.why; loss = g.loss }
+gone_more words Readied past hears g = record { down = g.down; got = refl; why = g.why; loss = g.loss }
+gone_more words (Lost why) past hears g = record { down = refl; got = g.got; why = why; loss = refl }
+gone_more words (Ticked sounds) past hears g = absurd hears
+gone_more words (Cut why) past hears g = absurd hears
+gone_more words WriteFault past hears g = absurd hears
+gone_more words Ends past hears g = absurd hears
+
+on_more : (words : Words) (mark : Mark) (past : List Mark) → Hears words mark past → Sound past → on past ≡ true
+    → OnOrGone (mark ∷ past)
+on_more words (Turned now) past hears s keyed = inl keyed
+on_more words Tried past hears s keyed = absurd hears
+on_more words Opened past hears s keyed = absurd hears
+on_more words Keyed past hears s keyed = absurd hears
+on_more words Released past hears s keyed = absurd hears
+on_more words (Heard octet) past hears s keyed = inl keyed
+on_more words Accepted past hears s keyed = inl keyed
+on_more words Readied past hears s keyed = inl keyed
+on_more words (Lost why) past hears s keyed = inr (record {
+  down = refl;
+  got = ready_on past keyed s;
+  why = why;
+  loss = refl;
+})
+on_more words (Ticked sounds) past hears s keyed = absurd hears
+on_more words (Cut why) past hears s keyed = absurd hears
+on_more words WriteFault past hears s keyed = absurd hears
+on_more words Ends past hears s keyed = absurd hears
+
+pub on_or_gone : (words : Words) (marks past : List Mark) → AllHeard words marks past → Sound past → OnOrGone past
+    → OnOrGone (marks ++ past)
+on_or_gone words [] past hears s is = is
+on_or_gone words (mark ∷ marks) past hears s is =
+    let before : OnOrGone (marks ++ past) = on_or_gone words marks past hears.1 s is in
+    let sound : Sound (marks ++ past) =
+      sound_marks words marks past (all_calm words marks past (all_heard words marks past hears.1)) s in
+    elim before [
+      | inl keyed ↦ on_more words mark (marks ++ past) hears.0 sound keyed
+      | inr gone ↦ inr (gone_more words mark (marks ++ past) hears.0 gone)
+    ]

@@ -7,21 +7,23 @@ use Rattle.std.proofs.lemmas.Bool.{and_parts, and_from, and_cases, cond-true, co
 use Rattle.std.proofs.lemmas.Bool.{eqb-true, eqb-false, not-true, not-false}
 use Rattle.keying.specs.declared.command.Command.{Command}
 use Rattle.keying.specs.declared.command.Command.TheVariants.{Release, Key as KeyOn, KeyData}
+use Rattle.keying.specs.declared.line.Phase.TheVariants.{Up}
 use Rattle.keying.specs.declared.machine.Words.{Words}
 use Rattle.keying.specs.declared.report.Report.TheVariants.{Off}
 use Rattle.keying.specs.declared.report.OffWhy.TheVariants.{Limit}
 use Rattle.keying.specs.declared.ticking.Act.{Act}
 use Rattle.keying.specs.Marks.{Mark}
 use Rattle.keying.specs.Marks.Mark.{Ticked, Keyed, Released, Cut}
+use Rattle.keying.specs.Line.{phase, waiting}
 use Rattle.keying.specs.Keyed.{on, lit, ticks, wanted}
 use Rattle.keying.specs.Key.{key_of, free, is_free}
 use Rattle.keying.specs.Rules.{is_at_limit, tick_marks}
 use Rattle.keying.specs.Calls.{ticked, Call, called, history}
 use Rattle.keying.specs.Calls.Call.{Turn, AfterTry, Tick, AfterWrite, CommandFailed, Release as AtEnd}
 use Rattle.keying.specs.Told.{keying_command, act_told, tick_told}
-use Rattle.keying.specs.Laws.{EndsTail}
+use Rattle.keying.specs.Laws.{EndsTail, commands, accepted, newest_keys}
 use Rattle.keying.proofs.Lingering.{sounded}
-use Rattle.keying.proofs.Sound.{Sound, Same, Free, free_parts}
+use Rattle.keying.proofs.Sound.{Sound, Same, Free, free_parts, stands_at}
 use Rattle.keying.proofs.RulesAreSound.{calm_turned, calm_tried, calm_written, calm_failed, calm_ended}
 use Rattle.keying.proofs.RulesAreSound.{sound_history}
 
@@ -184,3 +186,14 @@ keys_free words past sounds =
     (λ _. cond_both (is_at_limit key) _ _ P (λ _. λ is. absurd (keys_not words.data (cc)))
     (λ _. cond_both (on past && not needed) _ _ P (λ _. λ is. absurd (keys_not words.data (cc)))
     (λ _. λ is. absurd (cc))))
+
+-- a free radio has accepted each command, the newest of which releases
+pub free_accepted : (words : Words) (past : List Mark) → Sound past → is_free words past ≡ true
+    → (accepted past ≡ length (commands past)) × (1 ≤ length (commands past))
+    × (newest_keys (commands past) ≡ false)
+free_accepted words past s is =
+    let f = free_parts words past is in
+    let none : length (waiting past) ≡ 0 = f.answered in
+    let up = stands_at (phase past) Up (commands past) (length (waiting past)) (accepted past) f.up s.stands in
+    let sum : accepted past + length (waiting past) ≡ length (commands past) = up.0 in
+    (omega arith, up.1, s.newest ∙ f.off)

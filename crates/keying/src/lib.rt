@@ -14,6 +14,7 @@
 mod answer;
 mod command;
 mod ending;
+mod laws;
 mod line;
 mod machine;
 mod reading;
@@ -23,6 +24,24 @@ mod turning;
 
 pub use command::Command;
 pub use ending::Ending;
+pub use laws::{
+    a_failed_command_is_told,
+    a_failed_write_releases,
+    a_free_radio_accepted_each_command,
+    a_tick_releases,
+    a_transmission_is_keyed,
+    a_turn_tells_why,
+    at_most_two_are_due,
+    commands_alternate,
+    only_a_free_radio_is_keyed,
+    pieces_do_not_matter,
+    the_end_owes_nothing,
+    the_end_releases,
+    the_key_follows_the_sound,
+    the_key_has_a_limit,
+    the_key_stays_on,
+    the_tail_is_exact,
+};
 pub use line::{End, Try};
 pub use machine::{Keying, Words};
 pub use report::{OffWhy, Report, Why};
