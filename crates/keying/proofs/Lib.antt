@@ -4,3 +4,4 @@ pub mod Sound
 pub mod RulesAreSound
 pub mod Tails
 pub mod Losses
+pub mod KeyLasts

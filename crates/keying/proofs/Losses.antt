@@ -32,7 +32,7 @@ use Rattle.keying.specs.Laws.{commands, accepted, newest_keys}
 use Rattle.keying.proofs.Sound.{Sound, on_up, ready_on, Gone, OnOrGone}
 use Rattle.keying.proofs.RulesAreSound.{reads_read, reads_listened, calm_ended}
 
-up_if_on : (past : List Mark) → Sound past → on past ≡ true → phase past ≡ Up
+pub up_if_on : (past : List Mark) → Sound past → on past ≡ true → phase past ≡ Up
 up_if_on past s keyed = on_up (phase past) (commands past) (length (waiting past)) (accepted past) (s.newest ∙ keyed) s.stands
 
 -- a line that was up and is gone: its loss is told

@@ -1,18 +1,17 @@
 //! Laws on the key, over any list of calls (the newest first). A law is the contract of a function that does nothing.
 ghost use Rattle.std.specs.Prelude.{◌≡◌, ◌≤◌, ◌<◌, ◌+◌, ◌-◌, ◌++◌, ◌∷◌, ◌⊎◌, ℕ, true, false, Bool, List, Option, Some};
-ghost use Rattle.std.specs.Prelude.{None, IsSome, length, take};
+ghost use Rattle.std.specs.Prelude.{None, length, take};
 ghost use Rattle.std.specs.List.{list_any};
 ghost use Rattle.keying.specs.declared.command.Command.TheVariants.{Release};
 ghost use Rattle.keying.specs.declared.ending.Ending.TheVariants.{Over};
-ghost use Rattle.keying.specs.declared.report.Why.TheVariants.{Failed};
-ghost use Rattle.keying.specs.declared.turning.Next.TheVariants.{ToRelease};
-ghost use Rattle.keying.specs.Calls.{Call, history, heard, read, turned, ticked, written, ended};
-ghost use Rattle.keying.specs.Key.{key_of, is_free};
+ghost use Rattle.keying.specs.Calls.{Call, called, history, heard, read, ticked, ended};
+ghost use Rattle.keying.specs.Calls.Call.{Tick};
+ghost use Rattle.keying.specs.Key.{is_free};
 ghost use Rattle.keying.specs.Keyed.{on, lit, owed, ticks, wanted, ending, retried};
-ghost use Rattle.keying.specs.Laws.{commands, accepted, newest_keys, Alternate, EndsTail};
+ghost use Rattle.keying.specs.Laws.{commands, accepted, newest_keys, Alternate, EndsTail, TellsEnd, NoneTellsEnd};
 ghost use Rattle.keying.specs.Line.{waiting, time};
 ghost use Rattle.keying.specs.Marks.{Mark};
-ghost use Rattle.keying.specs.Told.{keying_command, tick_told, turn_told, written_told, fault_told, ending_told, is_in_time};
+ghost use Rattle.keying.specs.Told.{keying_command, tick_told, ending_told, is_in_time};
 
 use crate::line::End;
 use crate::machine::Words;
@@ -39,12 +38,6 @@ pub fn only_a_free_radio_is_keyed()
     ensures { (words : Words) (calls : List Call) (sounds : Bool) → let past = history words calls in
         (tick_told words sounds past).command ≡ Some (keying_command words)
         → (is_free words past ≡ true) × (sounds ≡ true) }
-{}
-
-/// A transmission that begins while the radio is free has the key on from before its first samples.
-pub fn a_transmission_is_keyed()
-    ensures { (words : Words) (calls : List Call) → let past = history words calls in is_free words past ≡ true
-        → on (ticked words true past) ≡ true }
 {}
 
 /// Below its limit, a tick leaves the key on exactly if it, or one of the `tail` ticks before it, has sound.
@@ -74,30 +67,17 @@ pub fn the_key_follows_the_sound()
         → lit past ≤ first + words.tail }
 {}
 
-/// A turn ends the key only with a loss that it reports, or with a release that is reported.
-pub fn a_turn_tells_why()
-    ensures { (words : Words) (calls : List Call) (now : ℕ) (octets : List ℕ) (end : Option End)
-        → let past = history words calls in on past ≡ true → on (turned words now octets end past) ≡ false
-        → IsSome (turn_told words now octets end past).lost
-        ⊎ ((turn_told words now octets end past).next ≡ ToRelease) }
+/// A call ends the key only if its answer tells it: by a loss that is reported, or by a release that is written.
+pub fn an_end_of_the_key_is_told()
+    ensures { (words : Words) (calls : List Call) (call : Call) → let past = history words calls in on past ≡ true
+        → on (called words call past) ≡ false → TellsEnd words call past }
 {}
 
-/// A command that is not written whole while the key is on is a loss that is reported.
-pub fn a_failed_command_is_told()
-    ensures { (words : Words) (calls : List Call) → let past = history words calls in on past ≡ true
-        → fault_told words past ≡ Some Failed }
-{}
-
-/// A tick ends the key only by a release.
-pub fn a_tick_releases()
-    ensures { (words : Words) (calls : List Call) (sounds : Bool) → let past = history words calls in on past ≡ true
-        → on (ticked words sounds past) ≡ false → (tick_told words sounds past).command ≡ Some Release }
-{}
-
-/// A failed write of the output or of the report ends the key, and only by a release.
-pub fn a_failed_write_releases()
-    ensures { (words : Words) (calls : List Call) (fault : Bool) → let past = history words calls in on past ≡ true
-        → on (written words fault past) ≡ false → written_told fault (key_of words past) ≡ Some Release }
+/// No sound without a key: from the first tick of a transmission that begins while the radio is free, the key is on until
+/// the answer of a call tells its end.
+pub fn a_transmission_stays_keyed()
+    ensures { (words : Words) (calls later : List Call) → is_free words (history words calls) ≡ true
+        → NoneTellsEnd words later (Tick true ∷ calls) → on (history words (later ++ Tick true ∷ calls)) ≡ true }
 {}
 
 /// After a call at the end of the run, the newest command on the connection releases, or there is no connection.

@@ -25,12 +25,9 @@ mod turning;
 pub use command::Command;
 pub use ending::Ending;
 pub use laws::{
-    a_failed_command_is_told,
-    a_failed_write_releases,
     a_free_radio_accepted_each_command,
-    a_tick_releases,
-    a_transmission_is_keyed,
-    a_turn_tells_why,
+    a_transmission_stays_keyed,
+    an_end_of_the_key_is_told,
     at_most_two_are_due,
     commands_alternate,
     only_a_free_radio_is_keyed,
