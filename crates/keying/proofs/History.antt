@@ -81,9 +81,9 @@ stands_ticked words past sounds key between new stands acts ticks_on =
     let rule : Bool → Key → List Mark = λ w. tick_marks sounds w in
     record {
       is = ticks_on ∙ ap (after (Ticked sounds)) (acts ∙ ap (λ k. after_rule (rule (is_wanted sounds k)) k) stands.is
-        ∙ ap (λ w. after_rule (rule w) (key_of words past)) (kept_wanted words sounds past)
-        ∙ sym (kept_rule words (rule (wanted words.tail (sounds ∷ ticks past))) past))
-        ∙ sym (kept_mark words (Ticked sounds) (by_rule words (rule (wanted words.tail (sounds ∷ ticks past))) past));
+          ∙ ap (λ w. after_rule (rule w) (key_of words past)) (kept_wanted words sounds past)
+          ∙ sym (kept_rule words (rule (wanted words.tail (sounds ∷ ticks past))) past))
+          ∙ sym (kept_mark words (Ticked sounds) (by_rule words (rule (wanted words.tail (sounds ∷ ticks past))) past));
     }
 
 -- a turn
@@ -95,9 +95,9 @@ pub stands_turned : (words : Words) (now : ℕ) (octets : List ℕ) (end : Optio
 stands_turned words now octets end past key between new stands listens stalls =
     record {
       is = stalls ∙ ap (after_rule stall_marks) (listens
-        ∙ ap (λ k. after_rule silence_marks (after_reading now octets end k)) stands.is
-        ∙ sym (kept_listened words now octets end past))
-        ∙ sym (kept_rule words stall_marks (listened words now octets end past));
+          ∙ ap (λ k. after_rule silence_marks (after_reading now octets end k)) stands.is
+          ∙ sym (kept_listened words now octets end past))
+          ∙ sym (kept_rule words stall_marks (listened words now octets end past));
     }
 
 -- the end of the run
@@ -109,7 +109,7 @@ pub stands_ended : (words : Words) (now : ℕ) (octets : List ℕ) (end : Option
 stands_ended words now octets end past key between new stands reads closes =
     record {
       is = closes ∙ ap (after_rule closing_marks) (reads
-        ∙ ap (λ k. after_reading now octets end k) stands.is
-        ∙ sym (kept_read words now octets end past))
-        ∙ sym (kept_rule words closing_marks (read words now octets end past));
+          ∙ ap (λ k. after_reading now octets end k) stands.is
+          ∙ sym (kept_read words now octets end past))
+          ∙ sym (kept_rule words closing_marks (read words now octets end past));
     }

@@ -41,7 +41,7 @@ gone_told : (words : Words) (past new : List Mark) → phase past ≡ Up → Gon
 gone_told words past new up gone =
     let P : Phase → Type 0 = λ p. IsSome (loss_since p (last_loss past) (key_of words new)) in
     let Q : Phase → Type 0 = λ p. IsSome (if not (is_down Up) && is_down p
-      then told_loss (ready new) (last_loss new) (last_loss past) else None) in
+    then told_loss (ready new) (last_loss new) (last_loss past) else None) in
     let R : Bool → Type 0 = λ b. IsSome (told_loss b (last_loss new) (last_loss past)) in
     let S : Option Why → Type 0 = λ w. IsSome (told_loss true w (last_loss past)) in
     subst P (sym up) (subst Q (sym gone.down) (subst R (sym gone.got) (subst S (sym gone.loss) refl)))
@@ -159,7 +159,7 @@ acts begins limit over words = if begins then record { command = Some (keying_co
 
 tick_release : (begins limit over : Bool) (words : Words) (past : List Mark) → on past ≡ true
     → on ((if begins then Keyed ∷ [] else if limit then Cut Limit ∷ Released ∷ []
-      else if over then Released ∷ [] else []) ++ past) ≡ false
+    else if over then Released ∷ [] else []) ++ past) ≡ false
     → (acts begins limit over words).command ≡ Some Release
 tick_release true limit over words past keyed off = absurd (cc)
 tick_release false true over words past keyed off = refl

@@ -77,7 +77,7 @@ line_heard : (words : Words) (octet : ℕ) (past : List Mark) → Sound past →
 line_heard words octet past s up =
     cond_both (eqb octet 10) _ _ (λ marks. AllHeard words marks past)
     (λ _. heard-append words (answer_marks (answer_of (part past)) (key_of words past)) (Heard octet ∷ []) past
-      (answer_heard words (answer_of (part past)) past octet s up) (tt, tt))
+    (answer_heard words (answer_of (part past)) past octet s up) (tt, tt))
     (λ _. cond_both (eqb (length (part past)) 63) _ _ (λ marks. AllHeard words marks past) (λ _. (tt, tt)) (λ _. (tt, tt)))
 
 octet_heard_in : (words : Words) (p : Phase) (octet : ℕ) (past : List Mark) → Sound past → phase past ≡ p

@@ -138,7 +138,7 @@ sound_keyed words past allowed s =
       alternate = push_alternate true (commands past) up.1 (s.newest ∙ f.off) s.alternate;
       lit = omega arith;
       stands = stands_at Up (phase past) (true ∷ commands past) _ (accepted past) (sym f.up)
-        (let sum : accepted past + length (waiting past) ≡ length (commands past) = up.0 in omega arith, omega arith);
+          (let sum : accepted past + length (waiting past) ≡ length (commands past) = up.0 in omega arith, omega arith);
       few = λ _. omega arith;
       two = omega arith;
       owes = λ at due. inl refl;
@@ -156,7 +156,7 @@ sound_released past is s =
       alternate = push_alternate false (commands past) up.1 (s.newest ∙ is) s.alternate;
       lit = s.lit;
       stands = stands_at Up (phase past) (false ∷ commands past) _ (accepted past) (sym at_up)
-        (let sum : accepted past + length (waiting past) ≡ length (commands past) = up.0 in omega arith, omega arith);
+          (let sum : accepted past + length (waiting past) ≡ length (commands past) = up.0 in omega arith, omega arith);
       few = λ keys. absurd (cc);
       two = omega arith;
       owes = λ at due. inr (omega arith);
@@ -195,7 +195,7 @@ sound_accepted past is some got s =
       alternate = s.alternate;
       lit = s.lit;
       stands = stands_at Up (phase past) (commands past) _ _ (sym is)
-        (let sum : accepted past + length (waiting past) ≡ length (commands past) = up.0 in omega arith, up.1);
+          (let sum : accepted past + length (waiting past) ≡ length (commands past) = up.0 in omega arith, up.1);
       few = λ keys. omega arith;
       two = omega arith;
       owes = λ at due. still_owed (on past) (length (drop 1 (waiting past))) (owed past) due;
@@ -433,7 +433,7 @@ on_or_gone words [] past hears s is = is
 on_or_gone words (mark ∷ marks) past hears s is =
     let before : OnOrGone (marks ++ past) = on_or_gone words marks past hears.1 s is in
     let sound : Sound (marks ++ past) =
-      sound_marks words marks past (all_calm words marks past (all_heard words marks past hears.1)) s in
+    sound_marks words marks past (all_calm words marks past (all_heard words marks past hears.1)) s in
     elim before [
       | inl keyed ↦ on_more words mark (marks ++ past) hears.0 sound keyed
       | inr gone ↦ inr (gone_more words mark (marks ++ past) hears.0 gone)

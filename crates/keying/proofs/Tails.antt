@@ -146,9 +146,9 @@ exact_tail words past sounds lingers =
     (λ _. cond_both (is_at_limit key) _ _ P (λ _. λ is. absurd (let some = ap (λ act. act.report) is in cc))
     (λ _. cond_both (on past && not needed) _ _ P
     (λ over. λ is.
-      let parts = and_parts _ _ over in
-      let quiet = quiet_tick words.tail sounds (ticks past) (not-true needed parts.1) in
-      (quiet.0, ends_tail words.tail (ticks past) quiet.1 (lingers parts.0)))
+    let parts = and_parts _ _ over in
+    let quiet = quiet_tick words.tail sounds (ticks past) (not-true needed parts.1) in
+    (quiet.0, ends_tail words.tail (ticks past) quiet.1 (lingers parts.0)))
     (λ _. λ is. absurd (let some = ap (λ act. act.command) is in cc))))
 
 -- a tick leaves the key on exactly if it is wanted
@@ -181,7 +181,7 @@ keys_free words past sounds =
     let key = key_of words past in
     let needed = wanted words.tail (sounds ∷ ticks past) in
     let P : Act → Type 0 = λ act. act.command ≡ Some (keying_command words)
-        → (is_free words past ≡ true) × (sounds ≡ true) in
+    → (is_free words past ≡ true) × (sounds ≡ true) in
     cond_both (free key && sounds) _ _ P (λ begins. λ _. and_parts _ _ begins)
     (λ _. cond_both (is_at_limit key) _ _ P (λ _. λ is. absurd (keys_not words.data (cc)))
     (λ _. cond_both (on past && not needed) _ _ P (λ _. λ is. absurd (keys_not words.data (cc)))

@@ -42,7 +42,9 @@ fn refused_number(digits: &[u8]) -> Option<u32>
         if !digit.is_ascii_digit() {
             return None;
         }
-        number = number.saturating_mul(10).saturating_add(u32::from(*digit - b'0'));
+        number = number
+            .saturating_mul(10)
+            .saturating_add(u32::from(*digit - b'0'));
     }
     Some(number)
 }

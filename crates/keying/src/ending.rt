@@ -54,7 +54,11 @@ impl Keying {
                 }
             }
             Phase::Opening => {
-                if self.owed && self.is_in_time() { Ending::OpenNow } else { Ending::Over }
+                if self.owed && self.is_in_time() {
+                    Ending::OpenNow
+                } else {
+                    Ending::Over
+                }
             }
             Phase::Up => {
                 if self.on {

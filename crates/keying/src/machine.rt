@@ -207,7 +207,11 @@ impl Keying {
         ensures { self.new ≡ after (Ticked sounds) self.old }
     {
         self.cut = self.cut && (sounds || self.linger > 0);
-        self.linger = if sounds { self.words.tail } else { self.linger.saturating_sub(1) };
+        self.linger = if sounds {
+            self.words.tail
+        } else {
+            self.linger.saturating_sub(1)
+        };
         if self.on {
             self.lit += 1;
         }

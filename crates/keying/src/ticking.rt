@@ -83,7 +83,11 @@ impl Keying {
     fn keying_command(&self) -> Command
         ensures { result ≡ keying_command self.now.words }
     {
-        if self.words.data { Command::KeyData } else { Command::Key }
+        if self.words.data {
+            Command::KeyData
+        } else {
+            Command::Key
+        }
     }
 
     /// After the samples of a tick were written: `fault` says whether that write, or an earlier one of the output or the

@@ -132,7 +132,11 @@ impl Keying {
     fn loss_since(&self, phase: Phase, loss: Option<Why>) -> Option<Why>
         ensures { result ≡ loss_since phase loss self.now }
     {
-        if self.is_lost_since(phase) { told_loss(self.ready, self.last_loss, loss) } else { None }
+        if self.is_lost_since(phase) {
+            told_loss(self.ready, self.last_loss, loss)
+        } else {
+            None
+        }
     }
 
     fn next(&self) -> Next
@@ -140,11 +144,19 @@ impl Keying {
     {
         match self.phase {
             Phase::Down => {
-                if self.is_try_due() { Next::ToConnect } else { Next::Rest }
+                if self.is_try_due() {
+                    Next::ToConnect
+                } else {
+                    Next::Rest
+                }
             }
             Phase::Opening => Next::ToOpen,
             Phase::Up => {
-                if self.is_stalled() { Next::ToRelease } else { Next::Rest }
+                if self.is_stalled() {
+                    Next::ToRelease
+                } else {
+                    Next::Rest
+                }
             }
         }
     }
@@ -167,7 +179,7 @@ impl Keying {
     fn stop_if_stalled(&mut self)
         ensures { self.new ≡ after_rule stall_marks self.old }
     {
-        if self.on && self.time.saturating_sub(self.ticked) >= PATIENCE {
+        if self.is_stalled() {
             self.mark_released();
             self.mark_cut(OffWhy::Sound);
         }
@@ -210,7 +222,11 @@ fn told_loss(ready: bool, loss: Option<Why>, before: Option<Why>) -> Option<Why>
     ensures { result ≡ told_loss ready loss before }
 {
     let why = loss?;
-    if ready || is_another(before, why) { Some(why) } else { None }
+    if ready || is_another(before, why) {
+        Some(why)
+    } else {
+        None
+    }
 }
 
 fn is_another(before: Option<Why>, why: Why) -> bool
