@@ -6,7 +6,7 @@ use Rattle.keying.specs.Marks.{Mark}
 use Rattle.keying.specs.Marks.Mark.{Turned, Tried, Opened, Keyed, Released, Heard, Accepted, Readied, Lost}
 use Rattle.keying.specs.Marks.Mark.{Ticked, Cut, WriteFault, Ends}
 use Rattle.keying.specs.Keyed.{ticks, wanted, cut}
-use Rattle.keying.specs.Key.{Key, key_of, linger_after}
+use Rattle.keying.specs.Key.{Key, key_of}
 use Rattle.keying.specs.Rules.{octet_marks, end_marks, silence_marks, stall_marks, tick_marks, closing_marks}
 use Rattle.keying.specs.Calls.{by_rule, heard, read, listened, turned, ticked, ended}
 use Rattle.keying.specs.Kept.{StandsFor, is_wanted, after, after_all, after_octets, after_rule, after_reading}

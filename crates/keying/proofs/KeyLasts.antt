@@ -1,12 +1,10 @@
 -- The key lasts until the answer of a call tells its end.
-use Rattle.std.proofs.Common.{◌≡◌, ℕ, Bool, true, false, List, [], ◌∷◌, ◌++◌, ap, sym, subst, ◌∙◌, inl, inr}
+use Rattle.std.proofs.Common.{◌≡◌, true, false, List, [], ◌∷◌, ◌++◌, sym, subst, inl, inr}
 use Rattle.std.proofs.lemmas.Bool.{cases_Bool}
 use Rattle.keying.specs.declared.line.Phase.{Phase}
-use Rattle.keying.specs.declared.line.Phase.TheVariants.{Up}
 use Rattle.keying.specs.declared.line.Try.{Try}
 use Rattle.keying.specs.declared.machine.Words.{Words}
 use Rattle.keying.specs.Marks.{Mark}
-use Rattle.keying.specs.Line.{phase}
 use Rattle.keying.specs.Keyed.{on}
 use Rattle.keying.specs.Key.{is_free}
 use Rattle.keying.specs.Rules.{try_marks_in}

@@ -5,3 +5,4 @@ pub mod RulesAreSound
 pub mod Tails
 pub mod Losses
 pub mod KeyLasts
+mod Examples

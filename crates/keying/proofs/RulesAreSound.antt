@@ -1,7 +1,7 @@
 -- Each rule adds only marks that may stand there.
-use Rattle.std.proofs.Common.{◌≡◌, ℕ, ◌+◌, ◌<◌, ◌≤◌, ◌&&◌, not, eqb, if◌then◌else◌, Bool, true, false, List, [], ◌∷◌}
-use Rattle.std.proofs.Common.{◌++◌, length, Option, None, Some, refl, ap, sym, subst, ◌∙◌, arith, inl, inr}
-use Rattle.std.proofs.lemmas.Bool.{and_parts, and_cases, cond_both, cases_Bool, eqb-true, eqb-false, eq-eqb, not-true}
+use Rattle.std.proofs.Common.{◌≡◌, ℕ, ◌<◌, ◌≤◌, ◌&&◌, not, eqb, Bool, true, false, List, [], ◌∷◌}
+use Rattle.std.proofs.Common.{◌++◌, length, Option, None, Some, refl, ap, sym, ◌∙◌, arith, inl, inr}
+use Rattle.std.proofs.lemmas.Bool.{and_parts, cond_both, eqb-false, eq-eqb}
 use Rattle.keying.specs.declared.answer.Answer.{Answer}
 use Rattle.keying.specs.declared.answer.Answer.TheVariants.{Accepts, Refuses, Unclear}
 use Rattle.keying.specs.declared.line.End.{End}
@@ -13,14 +13,14 @@ use Rattle.keying.specs.declared.line.Try.TheVariants.{Refused as NoLine, NotYet
 use Rattle.keying.specs.declared.machine.Words.{Words}
 use Rattle.keying.specs.Answers.{answer_of}
 use Rattle.keying.specs.Marks.{Mark}
-use Rattle.keying.specs.Marks.Mark.{Turned, Tried, Opened, Keyed, Released, Heard, Accepted, Readied, Lost}
-use Rattle.keying.specs.Marks.Mark.{Ticked, Cut, WriteFault, Ends}
+use Rattle.keying.specs.Marks.Mark.{Turned, Heard}
+use Rattle.keying.specs.Marks.Mark.{Ticked}
 use Rattle.keying.specs.Line.{phase, waiting, ready, part}
 use Rattle.keying.specs.Keyed.{on, lit, ticks, wanted}
-use Rattle.keying.specs.Key.{Key, key_of, free, is_free}
+use Rattle.keying.specs.Key.{Key, key_of, free}
 use Rattle.keying.specs.Laws.{newest_keys}
 use Rattle.keying.specs.Rules.{settles, accept_marks, due_marks, answer_marks, line_marks, octet_marks_in, octet_marks}
-use Rattle.keying.specs.Rules.{end_marks_in, end_marks, is_overdue, silence_marks, opening_marks, try_marks_in, try_marks}
+use Rattle.keying.specs.Rules.{end_marks_in, end_marks, is_overdue, silence_marks, try_marks_in, try_marks}
 use Rattle.keying.specs.Rules.{is_stalled, stall_marks, is_at_limit, tick_marks, written_marks, closing_marks}
 use Rattle.keying.specs.Calls.{by_rule, heard, read, listened, turned, tried, ticked, written, command_failed, ended}
 use Rattle.keying.specs.Calls.{Call, called, history}

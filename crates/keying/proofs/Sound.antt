@@ -2,7 +2,7 @@
 -- the key is never on for too long.
 use Rattle.std.proofs.Common.{◌≡◌, ℕ, zero, suc, ◌⊎◌, inl, inr, Some, ◌+◌, ◌-◌, ◌<◌, ◌≤◌, ◌&&◌, not, eqb, if◌then◌else◌, Bool, true, false, List, [], ◌∷◌, ◌++◌}
 use Rattle.std.proofs.Common.{length, drop, refl, ap, sym, subst, ◌∙◌, arith, length-append, length-drop, append_assoc}
-use Rattle.std.proofs.lemmas.Bool.{and_parts, cond_both, eqb-true, eqb-false, not-true}
+use Rattle.std.proofs.lemmas.Bool.{and_parts, eqb-true, not-true}
 use Rattle.keying.specs.declared.line.Phase.{Phase}
 use Rattle.keying.specs.declared.line.Phase.TheVariants.{Down, Opening, Up}
 use Rattle.keying.specs.declared.machine.Words.{Words}
@@ -12,7 +12,7 @@ use Rattle.keying.specs.Marks.Mark.{Ticked, Cut, WriteFault, Ends}
 use Rattle.keying.specs.declared.report.Why.{Why}
 use Rattle.keying.specs.Line.{phase, waiting, ready, last_loss}
 use Rattle.keying.specs.Keyed.{on, lit, owed, ticks}
-use Rattle.keying.specs.Key.{is_up, key_of, free, is_free}
+use Rattle.keying.specs.Key.{is_up, is_free}
 use Rattle.keying.specs.Laws.{commands, accepted, Alternate, newest_keys}
 
 -- how commands, those without an answer, and those accepted stand to one another

@@ -1,29 +1,24 @@
 -- The key and the ticks: it is on for exactly the tail after the last tick with sound.
-use Rattle.std.proofs.Common.{◌≡◌, ◌≢◌, ℕ, zero, suc, ◌+◌, ◌-◌, ◌<◌, ◌≤◌, ◌&&◌, ◌||◌, not, eqb, if◌then◌else◌, Bool, true}
-use Rattle.std.proofs.Common.{false, List, [], ◌∷◌, ◌++◌, length, take, replicate, None, Some, refl, ap, sym, subst, ◌∙◌}
-use Rattle.std.proofs.Common.{arith, inl, inr, ◌⊎◌}
-use Rattle.std.specs.List.{list_any}
-use Rattle.std.proofs.lemmas.Bool.{and_parts, and_from, and_cases, cond-true, cond_both, cases_Bool, cases_lt, eq-eqb}
-use Rattle.std.proofs.lemmas.Bool.{eqb-true, eqb-false, not-true, not-false}
-use Rattle.keying.specs.declared.command.Command.{Command}
+use Rattle.std.proofs.Common.{◌≡◌, ℕ, zero, suc, ◌+◌, ◌-◌, ◌<◌, ◌≤◌, ◌&&◌, not, eqb, if◌then◌else◌, Bool, true}
+use Rattle.std.proofs.Common.{false, List, [], ◌∷◌, ◌++◌, length, take, None, Some, refl, ap, sym, subst, ◌∙◌}
+use Rattle.std.proofs.Common.{arith, inl, inr}
+use Rattle.std.proofs.lemmas.Bool.{and_parts, and_from, cond-true, cond_both, cases_lt}
+use Rattle.std.proofs.lemmas.Bool.{eqb-true, not-true}
 use Rattle.keying.specs.declared.command.Command.TheVariants.{Release, Key as KeyOn, KeyData}
 use Rattle.keying.specs.declared.line.Phase.TheVariants.{Up}
 use Rattle.keying.specs.declared.machine.Words.{Words}
-use Rattle.keying.specs.declared.report.Report.TheVariants.{Off}
-use Rattle.keying.specs.declared.report.OffWhy.TheVariants.{Limit}
 use Rattle.keying.specs.declared.ticking.Act.{Act}
 use Rattle.keying.specs.Marks.{Mark}
-use Rattle.keying.specs.Marks.Mark.{Ticked, Keyed, Released, Cut}
 use Rattle.keying.specs.Line.{phase, waiting}
 use Rattle.keying.specs.Keyed.{on, lit, ticks, wanted}
 use Rattle.keying.specs.Key.{key_of, free, is_free}
 use Rattle.keying.specs.Rules.{is_at_limit, tick_marks}
 use Rattle.keying.specs.Calls.{ticked, Call, called, history}
 use Rattle.keying.specs.Calls.Call.{Turn, AfterTry, Tick, AfterWrite, CommandFailed, Release as AtEnd}
-use Rattle.keying.specs.Told.{keying_command, act_told, tick_told}
+use Rattle.keying.specs.Told.{keying_command, tick_told}
 use Rattle.keying.specs.Laws.{EndsTail, commands, accepted, newest_keys}
 use Rattle.keying.proofs.Lingering.{sounded}
-use Rattle.keying.proofs.Sound.{Sound, Same, Free, free_parts, stands_at}
+use Rattle.keying.proofs.Sound.{Sound, Same, free_parts, stands_at}
 use Rattle.keying.proofs.RulesAreSound.{calm_turned, calm_tried, calm_written, calm_failed, calm_ended}
 use Rattle.keying.proofs.RulesAreSound.{sound_history}
 
@@ -197,3 +192,20 @@ free_accepted words past s is =
     let up = stands_at (phase past) Up (commands past) (length (waiting past)) (accepted past) f.up s.stands in
     let sum : accepted past + length (waiting past) ≡ length (commands past) = up.0 in
     (omega arith, up.1, s.newest ∙ f.off)
+
+-- short sound meets no limit
+pub no_limit : (words : Words) (past : List Mark) (first : ℕ) (sounds : Bool) → Lingers words past
+    → sounded (take (lit past - first) (ticks past)) ≡ false → first + words.tail < 9000
+    → (tick_told words sounds past).report ≡ None
+no_limit words past first sounds lingers quiet short =
+    let key = key_of words past in
+    let needed = wanted words.tail (sounds ∷ ticks past) in
+    let P : Act → Type 0 = λ act. act.report ≡ None in
+    cond_both (free key && sounds) _ _ P (λ _. refl)
+    (λ _. cond_both (is_at_limit key) _ _ P
+    (λ limit.
+    let parts = and_parts (on past) (eqb (lit past) 9000) limit in
+    let most : lit past ≤ first + words.tail = short_sound words past first lingers parts.0 quiet in
+    let full : lit past ≡ 9000 = eqb-true (lit past) 9000 parts.1 in
+    absurd (omega arith))
+    (λ _. cond_both (on past && not needed) _ _ P (λ _. refl) (λ _. refl)))

@@ -1,5 +1,5 @@
 -- The history after each call of the machine.
-use Rattle.std.specs.Prelude.{ℕ, Bool, List, [], ◌∷◌, ◌++◌, Option, Some, None}
+use Rattle.std.specs.Prelude.{ℕ, Bool, List, [], ◌∷◌, ◌++◌, Option, Some}
 use Rattle.keying.specs.declared.line.End.{End}
 use Rattle.keying.specs.declared.line.End.TheVariants.{Fault}
 use Rattle.keying.specs.declared.line.Try.{Try}

@@ -1,6 +1,6 @@
 -- The rules: what each thing that happens adds to the history, the newest mark first, by the line and the key as they
 -- stand. Times are in ms, limits of the key in ticks of 10 ms.
-use Rattle.std.specs.Prelude.{ℕ, ◌-◌, ◌==◌, ◌&&◌, ◌||◌, not, nat_le, nat_lt, Bool, true, false, if◌then◌else◌, List, []}
+use Rattle.std.specs.Prelude.{ℕ, ◌-◌, ◌==◌, ◌&&◌, ◌||◌, not, nat_le, Bool, true, false, if◌then◌else◌, List, []}
 use Rattle.std.specs.Prelude.{◌∷◌, ◌++◌, length, Option, Some, None}
 use Rattle.keying.specs.declared.answer.Answer.{Answer}
 use Rattle.keying.specs.declared.answer.Answer.TheVariants.{Accepts, Refuses, Unclear}
@@ -10,14 +10,12 @@ use Rattle.keying.specs.declared.line.End.{End}
 use Rattle.keying.specs.declared.line.End.TheVariants.{Closed, Fault}
 use Rattle.keying.specs.declared.line.Try.{Try}
 use Rattle.keying.specs.declared.line.Try.TheVariants.{Refused as NoLine, NotYet, Written}
-use Rattle.keying.specs.declared.report.Why.{Why}
 use Rattle.keying.specs.declared.report.Why.TheVariants.{Connect, Ended, Failed, Refused, Answer as NoAnswer, Silent}
-use Rattle.keying.specs.declared.report.OffWhy.{OffWhy}
 use Rattle.keying.specs.declared.report.OffWhy.TheVariants.{Limit, Sound}
 use Rattle.keying.specs.Answers.{answer_of}
 use Rattle.keying.specs.Marks.{Mark}
-use Rattle.keying.specs.Marks.Mark.{Turned, Tried, Opened, Keyed, Released, Heard, Accepted, Readied, Lost}
-use Rattle.keying.specs.Marks.Mark.{Ticked, Cut, WriteFault, Ends}
+use Rattle.keying.specs.Marks.Mark.{Tried, Opened, Keyed, Released, Heard, Accepted, Readied, Lost}
+use Rattle.keying.specs.Marks.Mark.{Cut, WriteFault, Ends}
 use Rattle.keying.specs.Key.{Key, free}
 
 -- ---- answers

@@ -1,5 +1,5 @@
 -- What is written on the line of rigctld (its manual page, rigctld(1)) and in the report.
-use Rattle.std.specs.Prelude.{ℕ, ◌==◌, Bool, true, false, List, [], ◌∷◌, ◌++◌, codes, decimal}
+use Rattle.std.specs.Prelude.{ℕ, ◌==◌, Bool, true, false, List, ◌++◌, codes, decimal}
 use Rattle.keying.specs.declared.command.Command.{Command}
 use Rattle.keying.specs.declared.command.Command.TheVariants.{Release, Key, KeyData}
 use Rattle.keying.specs.declared.report.Why.{Why}

@@ -7,10 +7,9 @@ use Rattle.keying.specs.declared.line.End.{End}
 use Rattle.keying.specs.declared.line.Phase.{Phase}
 use Rattle.keying.specs.declared.line.Phase.TheVariants.{Down, Opening, Up}
 use Rattle.keying.specs.declared.line.Try.{Try}
-use Rattle.keying.specs.declared.line.Try.TheVariants.{Refused as NoLine, NotYet, Written}
+use Rattle.keying.specs.declared.line.Try.TheVariants.{Refused as NoLine}
 use Rattle.keying.specs.declared.report.Why.{Why}
 use Rattle.keying.specs.declared.report.Why.TheVariants.{Connect}
-use Rattle.keying.specs.declared.report.Report.{Report}
 use Rattle.keying.specs.declared.report.Report.TheVariants.{Off}
 use Rattle.keying.specs.declared.report.OffWhy.TheVariants.{Limit}
 use Rattle.keying.specs.declared.machine.Words.{Words}
@@ -23,7 +22,7 @@ use Rattle.keying.specs.declared.ending.Ending.TheVariants.{ConnectNow, OpenNow,
 use Rattle.keying.specs.Texts.{same_why}
 use Rattle.keying.specs.Marks.{Mark}
 use Rattle.keying.specs.Keyed.{ticks, wanted}
-use Rattle.keying.specs.Key.{Key, key_of, is_up, is_down, free}
+use Rattle.keying.specs.Key.{Key, key_of, is_down, free}
 use Rattle.keying.specs.Rules.{is_try_due, is_stalled, is_at_limit}
 use Rattle.keying.specs.Calls.{read, listened, command_failed}
 

@@ -67,6 +67,13 @@ pub fn the_key_follows_the_sound()
         → lit past ≤ first + words.tail }
 {}
 
+/// So sound among the first ticks alone, if these and the tail are fewer than 9000, is never cut off by the limit.
+pub fn short_sound_meets_no_limit()
+    ensures { (words : Words) (calls : List Call) (first : ℕ) (sounds : Bool) → let past = history words calls in
+        list_any (λ sounds. sounds) (take (lit past - first) (ticks past)) ≡ false → first + words.tail < 9000
+        → (tick_told words sounds past).report ≡ None }
+{}
+
 /// A call ends the key only if its answer tells it: by a loss that is reported, or by a release that is written.
 pub fn an_end_of_the_key_is_told()
     ensures { (words : Words) (calls : List Call) (call : Call) → let past = history words calls in on past ≡ true

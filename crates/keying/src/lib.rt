@@ -29,8 +29,8 @@ pub use ending::Ending;
 pub use laws::{
     a_free_radio_accepted_each_command, a_transmission_stays_keyed, an_end_of_the_key_is_told,
     at_most_two_are_due, commands_alternate, only_a_free_radio_is_keyed, pieces_do_not_matter,
-    the_end_owes_nothing, the_end_releases, the_key_follows_the_sound, the_key_has_a_limit,
-    the_key_stays_on, the_tail_is_exact,
+    short_sound_meets_no_limit, the_end_owes_nothing, the_end_releases, the_key_follows_the_sound,
+    the_key_has_a_limit, the_key_stays_on, the_tail_is_exact,
 };
 pub use line::{End, Try};
 pub use machine::{Keying, Words};

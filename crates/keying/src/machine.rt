@@ -113,8 +113,13 @@ impl Keying {
 
     /// Whether a transmission may begin: the radio is connected, released, and has accepted each command.
     pub fn is_free(&self) -> bool
-        ensures free { (words : Words) (past : List Mark) → StandsFor words past self.now → result ≡ is_free words past }
-        ensures kept { result ≡ free self.now }
+        ensures { (words : Words) (past : List Mark) → StandsFor words past self.now → result ≡ is_free words past }
+    {
+        self.can_be_keyed()
+    }
+
+    pub(crate) fn can_be_keyed(&self) -> bool
+        ensures { result ≡ free self.now }
     {
         match self.phase {
             Phase::Up => !self.on && self.waiting.is_empty() && !self.cut && !self.failed,

@@ -51,7 +51,7 @@ impl Keying {
         ensures kept { self.new ≡ after_rule (tick_marks sounds (is_wanted sounds self.old)) self.old }
         ensures within { self.new.on ≡ true → self.new.lit < 9000 }
     {
-        if self.is_free() && sounds {
+        if self.can_be_keyed() && sounds {
             self.mark_keyed();
             return Act {
                 command: Some(self.keying_command()),

@@ -1,5 +1,4 @@
-use Rattle.std.proofs.Common.{◌≡◌, ◌∷◌, ap, ◌∙◌}
-use Rattle.keying.specs.Keyed.{ticks, wanted}
+use Rattle.std.proofs.Common.{ap, ◌∙◌}
 use Rattle.keying.specs.Key.{key_of}
 use Rattle.keying.specs.Kept.{is_wanted}
 use Rattle.keying.specs.Told.{act_told}

@@ -1,4 +1,4 @@
-use Rattle.std.proofs.Common.{◌≡◌, ap, sym, ◌∙◌}
+use Rattle.std.proofs.Common.{ap, sym, ◌∙◌}
 use Rattle.keying.specs.Kept.{after_reading, after_rule}
 use Rattle.keying.specs.Key.{key_of}
 use Rattle.keying.specs.Rules.{silence_marks}
