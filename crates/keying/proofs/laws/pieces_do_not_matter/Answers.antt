@@ -1,0 +1,5 @@
+use Rattle.keying.proofs.Losses.{heard_pieces}
+use Rattle.keying.proofs.laws.pieces_do_not_matter.Goals as goal
+
+pub returns : goal.returns
+returns c = heard_pieces

@@ -1,0 +1,8 @@
+use Rattle.keying.specs.Calls.{history}
+use Rattle.keying.proofs.RulesAreSound.{sound_history}
+use Rattle.keying.proofs.Losses.{closed_off}
+use Rattle.keying.proofs.laws.the_end_releases.Goals as goal
+
+pub returns : goal.returns
+returns c = λ words calls now octets end.
+    closed_off words (history words calls) now octets end (sound_history words calls)

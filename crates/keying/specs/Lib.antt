@@ -1,0 +1,11 @@
+pub mod Texts
+pub mod Answers
+pub mod Marks
+pub mod Line
+pub mod Keyed
+pub mod Key
+pub mod Rules
+pub mod Calls
+pub mod Told
+pub mod Kept
+pub mod Laws
