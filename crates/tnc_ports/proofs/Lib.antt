@@ -1,4 +1,5 @@
 pub mod PairLemmas
+pub mod RealLemmas
 pub mod PumpLemmas
 pub mod PaceLemmas
 pub mod OutgoingLemmas

@@ -160,7 +160,7 @@ end_at len from to published (e ∷ reads) stands tiles (total, c) =
     (Contains-append_cases (answer len e ∷ []) (map (answer len) reads) (End total) c)
 
 -- each record that meets the end is read to the last published sample
-ends_whole : (published : List ℤ) (records : List Track) → All (StandsIn ring_cells published true) records
+pub ends_whole : (published : List ℤ) (records : List Track) → All (StandsIn ring_cells published true) records
     → HaveEnded (map answers_of_record records)
     → All (λ track. track.at ≡ length published) records
 ends_whole published records stand ended = λ k d lt.

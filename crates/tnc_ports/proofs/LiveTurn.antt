@@ -14,7 +14,7 @@ use Rattle.tnc_ports.specs.Hosts.{Hosts}
 use Rattle.tnc_ports.specs.HostTurns.{Asked}
 use Rattle.tnc_ports.specs.Sampled.{Live, HaveEnded, with_hosts, AreHeard, AreTicked, HearsAll, MakesTicks, MakesAll}
 use Rattle.tnc_ports.specs.SampledHeld.{Keeps, StandsForLive, HearsFrames, HearsSome, Ticks, TicksAll, ServesAll, Reads}
-use Rattle.tnc_ports.specs.SampledHeld.{Turns, IsCutOff}
+use Rattle.tnc_ports.specs.SampledHeld.{Makes, Turns, IsCutOff}
 use Rattle.tnc_ports.specs.SampledRun.{IsCutInReading, IsCutInHearing, IsCutInTicking, IsCutInServing}
 use Rattle.tnc_ports.specs.SampledWrites.{Stream, WritesMore}
 use Rattle.tnc_ports.proofs.AskedLemmas.{unasked}
@@ -108,58 +108,76 @@ read_ticks ended least items before a len receiver live r0 r1 h = ap (λ (l : Li
 
 -- ---- a whole turn
 
-pub whole_turn : (ended busy : Bool) (least : ℕ) (items : List Candidate) (before a b c d : Turning) (len : ℕ)
-    (old receiver : HeldReceiver) (live : Live) (o o' r0 r1 r2 r3 r4 : Stream) (told told' : Told)
+pub all_made : (ended busy : Bool) (least : ℕ) (items : List Candidate) (before a b c : Turning) (len : ℕ)
+    (old receiver : HeldReceiver) (live : Live) (o o' r0 r1 r2 r3 : Stream)
     → StandsForLive before len old live
     → Reads ended least items before a len receiver live r0 r1
     → ((hosts : Hosts) → Keeps a.hosts hosts → HearsFrames items a b hosts r1 r2)
     → ((live : Live) → Keeps b.hosts live.hosts → b.ticks ≡ live.ticks
     → TicksAll busy (least / 96 - live.ticks) b c live o o' r2 r3)
-    → ((hosts : Hosts) → Keeps c.hosts hosts → ServesAll c d hosts r3 r4 told told')
     → ((n : ℕ) → EightListen n receiver → IsTrue busy ↔ IsBusyOnRing receiver.flags (answers_in n receiver))
     → receiver.flags ≡ before.words.dcd
-    → a.words ≡ before.words → b.words ≡ a.words
-    → a.ticks ≡ before.ticks → b.ticks ≡ a.ticks → d.ticks ≡ c.ticks
-    → c.words ≡ b.words → d.words ≡ c.words
-    → Turns ended before d len receiver live o o' r0 r4 told told'
-whole_turn ended busy least items before a b c d len old receiver live o o' r0 r1 r2 r3 r4 told told' stands reads hear
-    tick serve carrier flags wa wb ta tb td wc wd =
+    → a.words ≡ before.words → b.words ≡ a.words → a.ticks ≡ before.ticks → b.ticks ≡ a.ticks
+    → Makes ended before c len receiver live o o' r0 r3
+all_made ended busy least items before a b c len old receiver live o o' r0 r1 r2 r3 stands reads hear
+    tick carrier flags wa wb ta tb =
     let h = hear reads.read.hosts reads.keeps in
     let heard : Live = with_hosts h.next reads.read in
     let at : reads.read.ticks ≡ live.ticks = read_ticks ended least items before a len receiver live r0 r1 reads in
     let bt : b.ticks ≡ heard.ticks = tb ∙ ta ∙ stands.ticks ∙ sym at in
     let t = tick heard h.keeps bt in
     let to = ticked_to b.words.monitor busy (least / 96 - heard.ticks) heard t.next t.ticked in
-    let s = serve t.next.hosts t.keeps in
-    let next : Live = record t.next { hosts = s.next; asked = t.next.asked ++ s.asked ∷ [] } in
     let passed : 96 * heard.ticks ≤ least = let p = stands.passed in let f = reads.forward in omega (arith, p, f, at) in
-    let makes : MakesAll before.words ended live t.next =
-    makes_all ended busy least before b len receiver live heard t.next
-    (hears_all ended least items before a b len receiver live r0 r1 r2 reads h wa)
-    reads.lanes (carrier len reads.listens) flags (wb ∙ wa) t.ticked reads.is_least passed in
     record {
+      made = t.next;
+      makes = makes_all ended busy least before b len receiver live heard t.next
+          (hears_all ended least items before a b len receiver live r0 r1 r2 reads h wa)
+          reads.lanes (carrier len reads.listens) flags (wb ∙ wa) t.ticked reads.is_least passed;
+      lanes = reads.lanes ∙ sym to.lanes;
+      sensitive = reads.sensitive;
+      hears = reads.hears;
+      ends = λ e. subst HaveEnded (sym to.lanes) (reads.ends e);
+      keeps = t.keeps;
+      ticks = t.ticks;
+      asked = to.asked ∙ ap (λ (l : Live). l.asked) reads.reads.is;
+      writes = writes_more before.failed b.failed c.failed live heard t.next o o o' r0 r2 r3
+          (heard_writes ended least items before a b len receiver live o r0 r1 r2 reads h) t.writes;
+    }
+
+pub whole_turn : (ended : Bool) (before c d : Turning) (len : ℕ) (receiver : HeldReceiver) (live : Live)
+    (o o' r0 r3 r4 : Stream) (told told' : Told)
+    → Makes ended before c len receiver live o o' r0 r3
+    → ((hosts : Hosts) → Keeps c.hosts hosts → ServesAll c d hosts r3 r4 told told')
+    → d.ticks ≡ c.ticks → c.words ≡ before.words → d.words ≡ c.words
+    → Turns ended before d len receiver live o o' r0 r4 told told'
+whole_turn ended before c d len receiver live o o' r0 r3 r4 told told' m serve td wc wd =
+    let s = serve m.made.hosts m.keeps in
+    let next : Live = record m.made { hosts = s.next; asked = m.made.asked ++ s.asked ∷ [] } in
+    record {
+      between = c;
+      reported = r3;
+      makes = m;
+      serves = s;
       next = next;
       turn = record {
-        made = t.next;
-        makes = makes;
+        made = m.made;
+        makes = m.makes;
         serves = record { asked = s.asked; hosts = s.next; part = s.part; is = refl };
       };
       goes_on = λ e. record {
         hosts = s.keeps;
-        ticks = td ∙ t.ticks;
-        sensitive = reads.sensitive ∙ ap (λ (w : ServeWords). w.sensitive) (sym (wd ∙ wc ∙ wb ∙ wa));
-        lanes = reads.lanes ∙ sym to.lanes;
-        hears = reads.hears e;
-        passed = makes.makes.passed;
+        ticks = td ∙ m.ticks;
+        sensitive = m.sensitive ∙ ap (λ (w : ServeWords). w.sensitive) (sym (wd ∙ wc));
+        lanes = m.lanes;
+        hears = m.hears e;
+        passed = m.makes.makes.passed;
       };
-      over = λ e. subst HaveEnded (sym to.lanes) (reads.ends e);
-      lanes = reads.lanes ∙ sym to.lanes;
-      writes = writes_more before.failed c.failed d.failed live t.next next o o' o' r0 r3 r4
-          (writes_more before.failed b.failed c.failed live heard t.next o o o' r0 r2 r3
-          (heard_writes ended least items before a b len receiver live o r0 r1 r2 reads h) t.writes)
-          (writes_report c.failed d.failed t.next next o' r3 r4 refl s.writes);
+      over = m.ends;
+      lanes = m.lanes;
+      writes = writes_more before.failed c.failed d.failed live m.made next o o' o' r0 r3 r4
+          m.writes (writes_report c.failed d.failed m.made next o' r3 r4 refl s.writes);
       asked = s.asked;
-      asks = ap (λ xs. xs ++ s.asked ∷ []) (to.asked ∙ ap (λ (l : Live). l.asked) reads.reads.is);
+      asks = ap (λ xs. xs ++ s.asked ∷ []) m.asked;
       tells = s.tells;
     }
 
@@ -256,39 +274,17 @@ in_serving words ended before made told told' makes (inl none) = inl none
 in_serving words ended before made told told' makes (inr some) =
     inr (some.0, some.1, record { ended = ended; makes = makes; part = some.2 }, some.3)
 
-pub cut_serving : (ended busy : Bool) (least : ℕ) (items : List Candidate) (before a b c d : Turning) (len : ℕ)
-    (old receiver : HeldReceiver) (live : Live) (o o' r0 r1 r2 r3 r4 : Stream) (told told' : Told)
-    → StandsForLive before len old live
-    → Reads ended least items before a len receiver live r0 r1
-    → ((hosts : Hosts) → Keeps a.hosts hosts → HearsFrames items a b hosts r1 r2)
-    → ((live : Live) → Keeps b.hosts live.hosts → b.ticks ≡ live.ticks
-    → TicksAll busy (least / 96 - live.ticks) b c live o o' r2 r3)
-    → ((n : ℕ) → EightListen n receiver → IsTrue busy ↔ IsBusyOnRing receiver.flags (answers_in n receiver))
-    → receiver.flags ≡ before.words.dcd
-    → a.words ≡ before.words → b.words ≡ a.words → a.ticks ≡ before.ticks → b.ticks ≡ a.ticks
+pub cut_serving : (ended : Bool) (before c d : Turning) (len : ℕ) (receiver : HeldReceiver) (live : Live)
+    (o o' r0 r3 r4 : Stream) (told told' : Told)
+    → Makes ended before c len receiver live o o' r0 r3
     → d.failed ≡ c.failed → r4 ≡ r3 → ((hosts : Hosts) → Keeps c.hosts hosts → HasCutPart hosts told told')
     → IsCutOff before d len receiver live o o' r0 r4 told told'
-cut_serving ended busy least items before a b c d len old receiver live o o' r0 r1 r2 r3 r4 told told' stands reads hear
-    tick carrier flags wa wb ta tb failed same cut =
-    let h = hear reads.read.hosts reads.keeps in
-    let heard : Live = with_hosts h.next reads.read in
-    let at : reads.read.ticks ≡ live.ticks = read_ticks ended least items before a len receiver live r0 r1 reads in
-    let bt : b.ticks ≡ heard.ticks = tb ∙ ta ∙ stands.ticks ∙ sym at in
-    let t = tick heard h.keeps bt in
-    let to = ticked_to b.words.monitor busy (least / 96 - heard.ticks) heard t.next t.ticked in
-    let passed : 96 * heard.ticks ≤ least = let p = stands.passed in let f = reads.forward in omega (arith, p, f, at) in
-    let makes : MakesAll before.words ended live t.next =
-    makes_all ended busy least before b len receiver live heard t.next
-    (hears_all ended least items before a b len receiver live r0 r1 r2 reads h wa)
-    reads.lanes (carrier len reads.listens) flags (wb ∙ wa) t.ticked reads.is_least passed in
-    record {
-      next = t.next;
-      cut = inr (inr (inr (ended, makes)));
-      lanes = reads.lanes ∙ sym to.lanes;
-      writes = writes_more before.failed c.failed d.failed live t.next t.next o o' o' r0 r3 r4
-          (writes_more before.failed b.failed c.failed live heard t.next o o o' r0 r2 r3
-          (heard_writes ended least items before a b len receiver live o r0 r1 r2 reads h) t.writes)
-          (writes_nothing c.failed d.failed t.next t.next o' o' r3 r4 failed refl same refl refl);
-      asks = to.asked ∙ ap (λ (l : Live). l.asked) reads.reads.is;
-      tells = in_serving before.words ended live t.next told told' makes (cut t.next.hosts t.keeps);
-    }
+cut_serving ended before c d len receiver live o o' r0 r3 r4 told told' m failed same cut = record {
+  next = m.made;
+  cut = inr (inr (inr (ended, m.makes)));
+  lanes = m.lanes;
+  writes = writes_more before.failed c.failed d.failed live m.made m.made o o' o' r0 r3 r4
+      m.writes (writes_nothing c.failed d.failed m.made m.made o' o' r3 r4 failed refl same refl refl);
+  asks = m.asked;
+  tells = in_serving before.words ended live m.made told told' m.makes (cut m.made.hosts m.keeps);
+}

@@ -1,5 +1,6 @@
 pub mod Sockets
 pub mod Scripts
+pub mod RealSockets
 pub mod Waiting
 pub mod OddOctet
 pub mod Inlet

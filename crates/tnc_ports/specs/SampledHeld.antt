@@ -11,7 +11,7 @@ use Rattle.tnc_ports.specs.AskedPorts.{Told, AreUnasked, IsAsked}
 use Rattle.tnc_ports.specs.HeldHosts.{HeldHosts, StandsFor}
 use Rattle.tnc_ports.specs.Hosts.{Hosts}
 use Rattle.tnc_ports.specs.HostTurns.{Asked, IsHostPart}
-use Rattle.tnc_ports.specs.Sampled.{Live, new_live, HaveEnded, LanesReadOn, AreHeard, AreTicked, IsTurn, tick_samples}
+use Rattle.tnc_ports.specs.Sampled.{Live, new_live, HaveEnded, LanesReadOn, AreHeard, AreTicked, MakesAll, IsTurn, tick_samples}
 use Rattle.tnc_ports.specs.SampledFrames.{IsFrameHeard}
 use Rattle.tnc_ports.specs.SampledRun.{IsCutTurn, IsCutInServing, AreTurns, Outside, PortsTell, PortsStay}
 use Rattle.tnc_ports.specs.SampledWrites.{Stream, ReportsMore, WritesMore}
@@ -101,8 +101,29 @@ pub record Reads (ended : Bool) (least : ℕ) (items : List Candidate) (before a
 
 -- ---- a turn
 
+-- All of a turn that is not for hosts. The samples of its ticks are handed to the output here, before the ports are
+-- asked anything.
+pub record Makes (ended : Bool) (before after : Turning) (len : ℕ) (receiver : HeldReceiver) (live : Live)
+    (output output' report report' : Stream) : Type 0 where
+  pub made : Live
+  pub makes : MakesAll before.words ended live made
+  pub lanes : answers_in len receiver ≡ made.lanes
+  pub sensitive : receiver.sensitive ≡ before.words.sensitive
+  pub hears : ended ≡ false → Hears len receiver
+  pub ends : ended ≡ true → HaveEnded made.lanes
+  pub keeps : Keeps after.hosts made.hosts
+  pub ticks : after.ticks ≡ made.ticks
+  pub asked : made.asked ≡ live.asked
+  pub writes : WritesMore before.failed after.failed live made output output' report report'
+
 pub record Turns (ended : Bool) (before after : Turning) (len : ℕ) (receiver : HeldReceiver) (live : Live)
     (output output' report report' : Stream) (told told' : Told) : Type 0 where
+  -- what is kept after the part that is not for hosts, and the report then: it has written all that it had to, and
+  -- only then the part for hosts asks the ports
+  pub between : Turning
+  pub reported : Stream
+  pub makes : Makes ended before between len receiver live output output' report reported
+  pub serves : ServesAll between after makes.made.hosts reported report' told told'
   pub next : Live
   pub turn : IsTurn before.words ended live next
   pub goes_on : ended ≡ false → StandsForLive after len receiver next

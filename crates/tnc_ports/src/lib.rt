@@ -7,6 +7,8 @@
 #![tactic(auto)]
 
 mod delivering;
+mod dialing;
+mod door;
 mod host_parts;
 mod host_side;
 mod id_range;
@@ -35,6 +37,8 @@ mod sending;
 mod serve_words;
 mod serving;
 mod shutting;
+mod socket;
+mod sockets;
 mod spawner;
 mod starting;
 mod taking;

@@ -1,5 +1,6 @@
 //! A live side in memory.
 ghost use Rattle.std.specs.Prelude.{◌≡◌, ◌-◌, ◌^◌, All};
+ghost use Rattle.tnc_ports.specs.declared.spawner.Order.TheVariants.{PumpFirst};
 ghost use Rattle.tnc_ports.specs.Sockets.{IsWholePiece};
 ghost use Rattle.tnc_ports.specs.Scripts.{new_ports};
 
@@ -14,7 +15,9 @@ use std::alloc::Global;
 pub struct MemSpawner;
 
 impl Spawner for MemSpawner {
-    fn order(&self) -> Order {
+    fn order(&self) -> Order
+        ensures { result ≡ PumpFirst }
+    {
         Order::PumpFirst
     }
 }

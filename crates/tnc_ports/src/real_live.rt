@@ -1,4 +1,6 @@
 //! The live side of the system.
+ghost use Rattle.std.specs.Prelude.{◌≡◌};
+ghost use Rattle.tnc_ports.specs.declared.spawner.Order.TheVariants.{AtOnce};
 
 use crate::live::Live;
 use crate::real_ports::RealPorts;
@@ -9,7 +11,9 @@ use crate::spawner::{Order, Spawner};
 pub struct RealSpawner;
 
 impl Spawner for RealSpawner {
-    fn order(&self) -> Order {
+    fn order(&self) -> Order
+        ensures { result ≡ AtOnce }
+    {
         Order::AtOnce
     }
 }

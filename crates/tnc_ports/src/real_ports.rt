@@ -1,64 +1,29 @@
 //! The sockets of the system, on 127.0.0.1. They tell nothing, since no contract can know what a socket gives or takes.
 //!
-//! `mio` reports a change once. So each socket keeps whether it may have more octets, from the event that says so until
-//! a read would block, also while its connection is paused. A poll takes one piece of each such socket, and waits only
-//! if none is left that may have more.
-ghost use Rattle.std.specs.Prelude.{◌≡◌, ◌≢◌, ℕ, List, ◌≤◌, None, All, length, IfSome, OnOk};
-ghost use Rattle.tnc_base.specs.Faults.{next_count};
+//! A poll takes one piece of each connection that may have more octets, and waits only if none is left that may. Each
+//! connection, whether it came or was dialed, has an id that none had before.
+ghost use Rattle.std.specs.Prelude.{◌≡◌, ◌≢◌, ℕ, List, ◌≤◌, ◌+◌, false, None, All, length, IfOk, OnOk};
+ghost use Rattle.std.specs.List.{range_with_len};
+ghost use Rattle.std.specs.Prelude.{OnErr, IsErr, IsErrOf};
+ghost use Rattle.tnc_base.specs.Faults.{HasRisen, next_count};
+ghost use Rattle.tnc_ports.specs.Hosts.{is_among};
+ghost use Rattle.tnc_ports.specs.RealSockets.{JoinNext, joined_ids};
 ghost use Rattle.tnc_ports.specs.Sockets.{MayCome};
 
-use crate::lines::is_among;
+use crate::dialing::connected;
+use crate::door::{AGW, Doors, KISS};
 use crate::ports::{PollFault, Ports};
-use mio::net::{TcpListener, TcpStream};
-use mio::{Events, Interest, Poll, Token};
-use station::{HostEvent, PortKind};
+use crate::sockets::Sockets;
+use mio::{Events, Poll};
+use station::HostEvent;
 use std::alloc::Global;
 use std::io;
-use std::io::{ErrorKind, Read, Write};
-use std::net::{Ipv4Addr, Net, SocketAddr};
+use std::net::Net;
 use std::time::Duration;
-use tnc_base::{Failed, Octets, OutOfMemory};
-
-/// The most octets of a piece.
-const PIECE: usize = 4096;
+use tnc_base::{Failed, OutOfMemory};
 
 /// The most events that the system reports at once.
 const MOST_EVENTS: usize = 256;
-
-/// The most connections that join at one poll on one port.
-const MOST_JOINING: u32 = 64;
-
-/// The token of the KISS port.
-const KISS: usize = 0;
-
-/// The token of the AGWPE port.
-const AGW: usize = 1;
-
-/// The first token of a connection.
-const FIRST: usize = 2;
-
-/// How often a dial looks whether it is connected.
-const LOOKS: u32 = 40;
-
-/// How long it waits between two looks, at most, in milliseconds.
-const LOOK: u64 = 100;
-
-/// A connection.
-#[derive(Drop)]
-struct Socket {
-    id: u32,
-    stream: TcpStream,
-    ready: bool,
-    gone: bool,
-}
-
-/// A port that hosts connect to.
-#[derive(Drop)]
-struct Door {
-    kind: PortKind,
-    listener: TcpListener,
-    ready: bool,
-}
 
 /// What the system watches, and what it reports of it.
 #[derive(Drop)]
@@ -67,21 +32,14 @@ struct Watch {
     events: Events<Global>,
 }
 
-/// The ports after a listen.
-#[derive(Drop)]
-struct Doors {
-    kiss: Door,
-    agw: Door,
-}
-
 /// The sockets of the system.
 #[derive(Drop)]
 pub struct RealPorts {
     alloc: Global,
+    /// What a poll needs, from the first listen or dial on.
     watch: Option<Watch>,
     doors: Option<Doors>,
-    sockets: Vec<Socket>,
-    next_id: u32,
+    sockets: Sockets,
     faults: u64,
 }
 
@@ -94,18 +52,18 @@ impl RealPorts {
             alloc,
             watch: None,
             doors: None,
-            sockets: Vec::new(alloc),
-            next_id: 1,
+            sockets: Sockets::new(alloc),
             faults: 0,
         }
     }
 
     /// Opens both ports.
     fn open<R: Net>(&mut self, rt: &R, kiss: u16, agw: u16) -> io::Result<()>
-        ensures { self.new.faults ≡ self.old.faults }
+        ensures faults { self.new.faults ≡ self.old.faults }
+        ensures sockets { self.new.sockets ≡ self.old.sockets }
     {
         let watch = watching(rt, self.alloc, self.watch.take())?;
-        let doors = open_doors(rt, &watch.poll, kiss, agw);
+        let doors = Doors::open(rt, &watch.poll, kiss, agw);
         self.watch = Some(watch);
         self.doors = Some(doors?);
         Ok(())
@@ -113,7 +71,8 @@ impl RealPorts {
 
     /// Connects to a port, and gives the connection its id.
     fn connect<R: Net>(&mut self, rt: &R, port: u16) -> Result<u32, Failed>
-        ensures { self.new.faults ≡ self.old.faults }
+        ensures faults { self.new.faults ≡ self.old.faults }
+        ensures new { IfOk result (λ id. (id ≡ self.old.sockets.next) × (self.new.sockets.next ≡ id + 1)) }
     {
         let Ok(stream) = connected(rt, self.alloc, port) else {
             return Err(Failed);
@@ -121,11 +80,12 @@ impl RealPorts {
         let Ok(watch) = watching(rt, self.alloc, self.watch.take()) else {
             return Err(Failed);
         };
-        let id = add(&watch.poll, stream, &mut self.sockets, &mut self.next_id);
+        let added = self.sockets.add(&watch.poll, stream);
         self.watch = Some(watch);
-        match id {
+        match added {
             Ok(Some(id)) => Ok(id),
-            Ok(None) | Err(_) => Err(Failed),
+            Ok(None) => Err(Failed),
+            Err(_) => Err(Failed),
         }
     }
 
@@ -163,7 +123,11 @@ impl Ports for RealPorts {
         }
     }
 
-    fn dial<R: Net>(&mut self, rt: &R, port: u16) -> Result<u32, Failed> {
+    fn dial<R: Net>(&mut self, rt: &R, port: u16) -> Result<u32, Failed>
+        ensures new { IfOk result (λ id. (id ≡ self.old.sockets.next) × (self.new.sockets.next ≡ id + 1)) }
+        ensures later { self.old.faults ≤ self.new.faults }
+        ensures failed { OnErr result (HasRisen self.old.faults self.new.faults) }
+    {
         match self.connect(rt, port) {
             Ok(id) => Ok(id),
             Err(_) => {
@@ -178,8 +142,15 @@ impl Ports for RealPorts {
         _rt: &R,
         wait_ms: u32,
         paused: &[u32],
-    ) -> Result<Vec<HostEvent>, PollFault> {
-        let wait = wait_of(&self.sockets, wait_ms, paused);
+    ) -> Result<Vec<HostEvent>, PollFault>
+        ensures events { IfOk result (λ events. All (MayCome paused.now) events.items) }
+        ensures joined { IfOk result (λ events. (count : ℕ)
+            × (joined_ids events.items ≡ range_with_len self.old.sockets.next count)
+            × (self.new.sockets.next ≡ self.old.sockets.next + count)) }
+        ensures later { self.old.faults ≤ self.new.faults }
+        ensures failed { IsErrOf result PollFault.Failed → HasRisen self.old.faults self.new.faults }
+    {
+        let wait = wait_of(self.sockets.is_ready(paused), wait_ms);
         let Some(watch) = &mut self.watch else {
             self.fail();
             return Err(PollFault::Failed);
@@ -190,20 +161,19 @@ impl Ports for RealPorts {
         }
         note_ready(&watch.events, &mut self.doors, &mut self.sockets);
         let mut events = Vec::new(self.alloc);
-        admit_all(
-            &watch.poll,
-            &mut self.doors,
-            &mut self.sockets,
-            &mut self.next_id,
-            &mut events,
-        )?;
-        gather(self.alloc, &mut self.sockets, paused, &mut events)?;
-        self.sockets.retain(|socket| !socket.gone);
+        admit(&watch.poll, &mut self.doors, &mut self.sockets, &mut events)?;
+        self.sockets.gather(self.alloc, paused, &mut events)?;
+        self.sockets.remove_gone();
         Ok(events)
     }
 
-    fn send<R: Net>(&mut self, _rt: &R, id: u32, octets: &[u8]) -> Result<usize, Failed> {
-        match write(&mut self.sockets, id, octets) {
+    fn send<R: Net>(&mut self, _rt: &R, id: u32, octets: &[u8]) -> Result<usize, Failed>
+        ensures bound { IfOk result (λ count. count ≤ length octets.now) }
+        ensures open { is_among id self.old.sockets.ids ≡ false → IsErr result }
+        ensures later { self.old.faults ≤ self.new.faults }
+        ensures failed { OnErr result (HasRisen self.old.faults self.new.faults) }
+    {
+        match self.sockets.write(id, octets) {
             Some(count) => Ok(count),
             None => {
                 self.fail();
@@ -213,7 +183,7 @@ impl Ports for RealPorts {
     }
 
     fn shut(&mut self, id: u32) {
-        self.sockets.retain(|socket| socket.id != id);
+        self.sockets.remove(id);
     }
 }
 
@@ -228,247 +198,46 @@ fn watching<R: Net>(rt: &R, alloc: Global, watch: Option<Watch>) -> io::Result<W
     }
 }
 
-fn open_doors<R: Net>(rt: &R, poll: &Poll, kiss: u16, agw: u16) -> io::Result<Doors> {
-    let kiss = open_door(rt, poll, PortKind::Kiss, KISS, kiss)?;
-    let agw = open_door(rt, poll, PortKind::Agw, AGW, agw)?;
-    Ok(Doors { kiss, agw })
-}
-
-/// A connection to a port of 127.0.0.1. One that is refused, or that takes more than a few seconds, is a fault.
-fn connected<R: Net>(rt: &R, alloc: Global, port: u16) -> io::Result<TcpStream> {
-    let mut stream = TcpStream::connect(rt, SocketAddr::from((Ipv4Addr::LOCALHOST, port)))?;
-    let mut poll = Poll::new(rt)?;
-    let mut events = Events::with_capacity(alloc, 1)?;
-    poll.registry()
-        .register(&mut stream, Token(0), Interest::WRITABLE)?;
-    for _ in 0..LOOKS {
-        if let Some(fault) = stream.take_error()? {
-            return Err(fault);
-        }
-        if stream.peer_addr().is_ok() {
-            poll.registry().deregister(&mut stream)?;
-            return Ok(stream);
-        }
-        poll.poll(&mut events, Some(Duration::from_millis(LOOK)))?;
-    }
-    Err(io::Error::from(ErrorKind::TimedOut))
-}
-
-fn open_door<R: Net>(
-    rt: &R,
-    poll: &Poll,
-    kind: PortKind,
-    token: usize,
-    port: u16,
-) -> io::Result<Door> {
-    let mut listener = TcpListener::bind(rt, SocketAddr::from((Ipv4Addr::LOCALHOST, port)))?;
-    poll.registry()
-        .register(&mut listener, Token(token), Interest::READABLE)?;
-    Ok(Door {
-        kind,
-        listener,
-        ready: true,
-    })
-}
-
-/// How long a poll waits: not at all if a connection that is not paused may have more octets.
-fn wait_of(sockets: &[Socket], wait_ms: u32, paused: &[u32]) -> Duration {
-    for socket in sockets {
-        if socket.ready && !paused.contains(&socket.id) {
-            return Duration::ZERO;
-        }
+/// How long a poll waits: not at all if a connection may have more octets.
+fn wait_of(ready: bool, wait_ms: u32) -> Duration {
+    if ready {
+        return Duration::ZERO;
     }
     Duration::from_millis(u64::from(wait_ms))
 }
 
-/// Notes which doors and sockets the system reported.
-fn note_ready(events: &Events<Global>, doors: &mut Option<Doors>, sockets: &mut [Socket]) {
+/// Notes which ports and connections the system reported.
+fn note_ready(events: &Events<Global>, doors: &mut Option<Doors>, sockets: &mut Sockets)
+    ensures { sockets.new ≡ sockets.old }
+{
     for event in events.iter() {
         match event.token().0 {
-            KISS | AGW => note_door(doors, event.token().0),
-            token => note_socket(sockets, token),
+            KISS => note_door(doors, KISS),
+            AGW => note_door(doors, AGW),
+            token => sockets.note(token),
         }
     }
 }
 
 fn note_door(doors: &mut Option<Doors>, token: usize) {
     if let Some(doors) = doors {
-        if token == KISS {
-            doors.kiss.ready = true;
-        } else {
-            doors.agw.ready = true;
-        }
+        doors.note(token);
     }
 }
 
-fn note_socket(sockets: &mut [Socket], token: usize) {
-    for socket in sockets {
-        if socket.id as usize + FIRST == token {
-            socket.ready = true;
-        }
-    }
-}
-
-/// Takes the connections that wait at the doors, if there are doors.
-fn admit_all(
-    poll: &Poll,
-    doors: &mut Option<Doors>,
-    sockets: &mut Vec<Socket>,
-    next_id: &mut u32,
-    events: &mut Vec<HostEvent>,
-) -> Result<(), OutOfMemory>
-    ensures kept { (paused : List ℕ) → All (MayCome paused) events.old.items
-        → OnOk result (All (MayCome paused) events.new.items) }
-{
-    let Some(doors) = doors else {
-        return Ok(());
-    };
-    admit(poll, &mut doors.kiss, sockets, next_id, events)?;
-    admit(poll, &mut doors.agw, sockets, next_id, events)?;
-    Ok(())
-}
-
-/// Takes the connections that wait at a door.
+/// Takes the connections that wait, if there are ports for them.
 fn admit(
     poll: &Poll,
-    door: &mut Door,
-    sockets: &mut Vec<Socket>,
-    next_id: &mut u32,
+    doors: &mut Option<Doors>,
+    sockets: &mut Sockets,
     events: &mut Vec<HostEvent>,
 ) -> Result<(), OutOfMemory>
     ensures kept { (paused : List ℕ) → All (MayCome paused) events.old.items
         → OnOk result (All (MayCome paused) events.new.items) }
+    ensures joined { OnOk result (JoinNext events.old.items events.new.items sockets.old.next sockets.new.next) }
 {
-    if !door.ready {
-        return Ok(());
-    }
-    for _ in 0..MOST_JOINING {
-        let Ok((stream, _)) = door.listener.accept() else {
-            door.ready = false;
-            return Ok(());
-        };
-        join(poll, door.kind, stream, sockets, next_id, events)?;
+    if let Some(doors) = doors {
+        doors.admit(poll, sockets, events)?;
     }
     Ok(())
-}
-
-/// Gives a connection that came its id. One that can't be watched, or for which no id is left, is dropped.
-fn join(
-    poll: &Poll,
-    kind: PortKind,
-    stream: TcpStream,
-    sockets: &mut Vec<Socket>,
-    next_id: &mut u32,
-    events: &mut Vec<HostEvent>,
-) -> Result<(), OutOfMemory>
-    ensures kept { (paused : List ℕ) → All (MayCome paused) events.old.items
-        → OnOk result (All (MayCome paused) events.new.items) }
-{
-    if let Some(id) = add(poll, stream, sockets, next_id)? {
-        events.push(HostEvent::Joined { id, kind })?;
-    }
-    Ok(())
-}
-
-/// Adds a connection and answers its id. One that can't be watched, or for which no id is left, is dropped.
-fn add(
-    poll: &Poll,
-    mut stream: TcpStream,
-    sockets: &mut Vec<Socket>,
-    next_id: &mut u32,
-) -> Result<Option<u32>, OutOfMemory> {
-    let id = *next_id;
-    let token = Token(id as usize + FIRST);
-    let interests = Interest::READABLE | Interest::WRITABLE;
-    if id == u32::MAX
-        || poll
-            .registry()
-            .register(&mut stream, token, interests)
-            .is_err()
-    {
-        return Ok(None);
-    }
-    // Each piece goes out at once: the system would gather pieces, and a host that reads two at a time may break.
-    let _ = stream.set_nodelay(true);
-    sockets.push(Socket {
-        id,
-        stream,
-        ready: true,
-        gone: false,
-    })?;
-    *next_id = id + 1;
-    Ok(Some(id))
-}
-
-/// Takes a piece of each socket that may have more and is not paused.
-fn gather(
-    alloc: Global,
-    sockets: &mut [Socket],
-    paused: &[u32],
-    events: &mut Vec<HostEvent>,
-) -> Result<(), OutOfMemory>
-    ensures kept { All (MayCome paused.now) events.old.items
-        → OnOk result (All (MayCome paused.now) events.new.items) }
-{
-    for socket in sockets {
-        take_unpaused(alloc, socket, paused, events)?;
-    }
-    Ok(())
-}
-
-/// Takes a piece of a socket that may have more, unless it is paused.
-fn take_unpaused(
-    alloc: Global,
-    socket: &mut Socket,
-    paused: &[u32],
-    events: &mut Vec<HostEvent>,
-) -> Result<(), OutOfMemory>
-    ensures kept { All (MayCome paused.now) events.old.items
-        → OnOk result (All (MayCome paused.now) events.new.items) }
-{
-    if socket.ready && !is_among(socket.id, paused) {
-        take_piece(alloc, socket, events)?;
-    }
-    Ok(())
-}
-
-/// Reads once from a socket. Its end, or a fault of it, is that the host has left.
-fn take_piece(
-    alloc: Global,
-    socket: &mut Socket,
-    events: &mut Vec<HostEvent>,
-) -> Result<(), OutOfMemory>
-    ensures kept { (paused : List ℕ) → All (MayCome paused) events.old.items
-        → All (λ id. id ≢ socket.old.id) paused → OnOk result (All (MayCome paused) events.new.items) }
-{
-    let id = socket.id;
-    let mut buffer = [0; PIECE];
-    match socket.stream.read(&mut buffer) {
-        Ok(count) if count > 0 => {
-            let octets = Octets::from_slice(alloc, &buffer[..count])?;
-            events.push(HostEvent::Bytes { id, octets })?;
-        }
-        Err(fault) if fault.kind() == ErrorKind::WouldBlock => socket.ready = false,
-        _ => {
-            socket.gone = true;
-            events.push(HostEvent::Left { id })?;
-        }
-    }
-    Ok(())
-}
-
-/// Writes what the connection takes now, or `None` if it is gone or fails.
-fn write(sockets: &mut [Socket], id: u32, octets: &[u8]) -> Option<usize>
-    ensures { IfSome result (λ count. count ≤ length octets.now) }
-{
-    for socket in sockets {
-        if socket.id == id {
-            return match socket.stream.write(octets) {
-                Ok(count) => Some(count),
-                Err(fault) if fault.kind() == ErrorKind::WouldBlock => Some(0),
-                Err(_) => None,
-            };
-        }
-    }
-    None
 }

@@ -11,7 +11,7 @@ ghost use Rattle.sample_ring.specs.Ends.{ring_id, ring_len, reader_ring};
 ghost use Rattle.ring_receiver.specs.HeldReceiver.{readers_in, answers_in};
 ghost use Rattle.station.specs.Heard.{IsPathOf};
 ghost use Rattle.station.specs.Monitored.{heard_modulus, sent_modulus};
-ghost use Rattle.tnc_ports.specs.AskedPorts.{told_by};
+ghost use Rattle.tnc_ports.specs.AskedPorts.{Told, told_by};
 ghost use Rattle.tnc_ports.specs.CutPart.{HasCutPart};
 ghost use Rattle.tnc_ports.specs.declared.report_line.ReportLine.{ReportLine};
 ghost use Rattle.tnc_ports.specs.HeldHosts.{StandsFor};
@@ -57,7 +57,7 @@ pub(crate) struct Turning {
 
 impl Turning {
     ghost use Rattle.tnc_ports.specs.SampledHeld.{Keeps, StandsForLive, HearsFrame, HearsFrames, HearsSome, Ticks};
-    ghost use Rattle.tnc_ports.specs.SampledHeld.{TicksAll, ServesAll, Reads, Turns, IsCutOff};
+    ghost use Rattle.tnc_ports.specs.SampledHeld.{TicksAll, ServesAll, Reads, Makes, Turns, IsCutOff};
 
     /// Makes a turn, and answers whether every reader has met the end of the ring.
     pub(crate) fn turn<R: Threads + Net + Sync, O: Sink, E: Sink, N: Ports>(
@@ -90,10 +90,39 @@ impl Turning {
         ensures listens { N.listens ports.new ≡ N.listens ports.old }
         ensures later { N.faults ports.old ≤ N.faults ports.new }
     {
+        let ended = self.make(rt, ring, receiver, output, report)?;
+        self.serve_hosts(rt, report, ports)?;
+        Ok(ended)
+    }
+
+    /// Makes all of a turn that is not for hosts, and answers whether every reader has met the end of the ring. The
+    /// samples of its ticks are handed to the output here, before the ports are polled.
+    fn make<R: Threads + Sync, O: Sink, E: Sink>(
+        &mut self,
+        rt: &R,
+        ring: &Ring,
+        receiver: &mut RingReceiver,
+        output: &mut O,
+        report: &mut E,
+    ) -> Result<bool, OutOfMemory>
+        requires stands { (live : Live) × StandsForLive self.old (ring_len ring.now) receiver.old live }
+        requires readers { All (λ reader. reader_ring reader ≡ ring_id ring.now) (readers_in receiver.old) }
+        requires flags { receiver.old.flags ≡ self.old.words.dcd }
+        ensures made { (live : Live) → StandsForLive self.old (ring_len ring.now) receiver.old live
+            → IfOk result (λ ended. Makes ended self.old self.new (ring_len ring.now) receiver.new live
+            (stream_of O.written O.faults output.old) (stream_of O.written O.faults output.new)
+            (stream_of E.written E.faults report.old) (stream_of E.written E.faults report.new)) }
+        ensures cut { (live : Live) → StandsForLive self.old (ring_len ring.now) receiver.old live
+            → OnErr result ((told : Told) → IsCutOff self.old self.new (ring_len ring.now) receiver.new live
+            (stream_of O.written O.faults output.old) (stream_of O.written O.faults output.new)
+            (stream_of E.written E.faults report.old) (stream_of E.written E.faults report.new) told told) }
+        ensures words { self.new.words ≡ self.old.words }
+        ensures readers { All (λ reader. reader_ring reader ≡ ring_id ring.now) (readers_in receiver.new) }
+        ensures flags { receiver.new.flags ≡ receiver.old.flags }
+    {
         let heard = self.read(rt, ring, receiver, report)?;
         self.hear_all(report, &heard.items)?;
         self.tick_up_to(output, report, receiver.busy(), heard.least)?;
-        self.serve_hosts(rt, report, ports)?;
         Ok(heard.ended)
     }
 

@@ -11,7 +11,7 @@ use std::sync::atomic::{AtomicU64, Ordering};
 use std::test::Fail;
 use std::thread;
 use std::thread::Threads;
-use tnc_base::{Failed, MemSink, OutOfMemory, Source};
+use tnc_base::{Failed, MemSink, OutOfMemory, Sink, Source};
 use tnc_ports::{Live, PollFault, Ports, RealSpawner, ServeEnd, serve};
 
 /// Sockets without hosts. They count their polls, for another thread to see, and after so many they want memory.
@@ -64,13 +64,15 @@ impl Ports for CountingPorts<'_> {
     fn shut(&mut self, _id: u32) {}
 }
 
-/// How often a held read looks at the count of polls before it goes on.
+/// How often a held read looks at the count before it goes on.
 const LIMIT: u64 = 10_000_000;
 
-/// An input of one sample, whose end comes only after two polls. It gives up after a limit.
+/// An input of some octets, whose end comes only once a count has reached a number. It gives up after a limit.
 #[derive(Drop)]
 struct HeldSource<'a> {
-    polls: &'a AtomicU64,
+    octets: usize,
+    count: &'a AtomicU64,
+    least: u64,
     reads: u64,
     gave_up: bool,
 }
@@ -83,10 +85,10 @@ impl Source for HeldSource<'_> {
     fn read(&mut self, buffer: &mut [u8]) -> Result<usize, Failed> {
         self.reads = self.reads.saturating_add(1);
         if self.reads == 1 {
-            return Ok(buffer.len().min(2));
+            return Ok(buffer.len().min(self.octets));
         }
         for _ in 0..LIMIT {
-            if self.polls.load(Ordering::SeqCst) >= 2 {
+            if self.count.load(Ordering::SeqCst) >= self.least {
                 return Ok(0);
             }
             thread::yield_now();
@@ -94,6 +96,58 @@ impl Source for HeldSource<'_> {
         self.gave_up = true;
         Ok(0)
     }
+}
+
+/// An output that counts its writes, for another thread to see.
+#[derive(Drop)]
+struct CountingSink<'a> {
+    writes: &'a AtomicU64,
+}
+
+impl Sink for CountingSink<'_> {
+    ghost written = { λ _. None };
+
+    ghost faults = { λ _. 0 };
+
+    fn write(&mut self, _octets: &[u8]) -> Result<(), Failed> {
+        self.writes.fetch_add(1, Ordering::SeqCst);
+        Ok(())
+    }
+}
+
+/// How a station ends whose input of a tick ends only once something was written, and whether it gave up waiting.
+fn written<R: Threads + Wait + Net + Sync>(
+    rt: &R,
+    alloc: Global,
+) -> Result<(ServeEnd, bool), OutOfMemory> {
+    let (polls, writes) = (AtomicU64::new(0), AtomicU64::new(0));
+    let mut source = HeldSource {
+        octets: 192,
+        count: &writes,
+        least: 1,
+        reads: 0,
+        gave_up: false,
+    };
+    let ports = CountingPorts {
+        alloc,
+        polls: &polls,
+        most: u64::MAX,
+    };
+    let spawner = RealSpawner;
+    let mut live = Live { ports, spawner };
+    let mut output = CountingSink { writes: &writes };
+    let mut report = MemSink::new(alloc, 1000, Vec::new(alloc))?;
+    let words = words(false, false);
+    let end = serve(
+        rt,
+        alloc,
+        words,
+        &mut source,
+        &mut output,
+        &mut report,
+        &mut live,
+    );
+    Ok((end, source.gave_up))
 }
 
 /// How a station ends whose sockets want memory after so many polls, and whether its input gave up waiting for polls.
@@ -104,7 +158,9 @@ fn held<R: Threads + Wait + Net + Sync>(
 ) -> Result<(ServeEnd, bool), OutOfMemory> {
     let polls = AtomicU64::new(0);
     let mut source = HeldSource {
-        polls: &polls,
+        octets: 2,
+        count: &polls,
+        least: 2,
         reads: 0,
         gave_up: false,
     };
@@ -141,5 +197,13 @@ fn the_ports_are_polled_while_the_input_is_held(rt: HostRuntime) -> Result<(), F
 fn want_of_memory_ends_it(rt: HostRuntime) -> Result<(), Fail> {
     let (end, _) = held(&rt, rt.alloc(), 2)?;
     assert_equal(&rt, &end, &ServeEnd::Memory);
+    Ok(())
+}
+
+// The samples of a tick are published before the next read, and the tick is written in its turn.
+#[test]
+fn a_tick_is_written_while_the_input_is_held(rt: HostRuntime) -> Result<(), Fail> {
+    let got = written(&rt, rt.alloc())?;
+    assert_equal(&rt, &got, &(ServeEnd::Done, false));
     Ok(())
 }

@@ -31,12 +31,16 @@ fn polled<R: Net>(
     Ok(String::new(alloc))
 }
 
-/// Sockets that listen, and the address at which they do for AGWPE.
-fn opened(rt: &HostRuntime) -> Result<(Box<RealPorts>, SocketAddr), Fail> {
+fn at(port: u16) -> SocketAddr {
+    SocketAddr::from((Ipv4Addr::LOCALHOST, port))
+}
+
+/// Sockets that listen, and the addresses at which they do for KISS and for AGWPE.
+fn opened(rt: &HostRuntime) -> Result<(Box<RealPorts>, SocketAddr, SocketAddr), Fail> {
     let (kiss, agw) = (free_port(rt)?, free_port(rt)?);
     let mut ports = Box::new(rt.alloc(), RealPorts::new(rt.alloc()))?;
     ports.listen(rt, kiss, agw)?;
-    Ok((ports, SocketAddr::from((Ipv4Addr::LOCALHOST, agw))))
+    Ok((ports, at(kiss), at(agw)))
 }
 
 /// A host that has brought some octets.
@@ -72,13 +76,58 @@ fn no_host_connects_before_they_listen(rt: HostRuntime) {
 
 #[test]
 fn hosts_connect_on_loopback(rt: HostRuntime) -> Result<(), Fail> {
-    let (mut ports, to) = opened(&rt)?;
+    let (mut ports, _, to) = opened(&rt)?;
     let host = connected(&rt, to)?;
-    assert_polled(&rt, rt.alloc(), &mut ports, &[1], "J1 ")?;
+    assert_polled(&rt, rt.alloc(), &mut ports, &[1], "A1 ")?;
     assert_polled(&rt, rt.alloc(), &mut ports, &[], "B1 ")?;
     assert_equal(&rt, &ports.send(&rt, 1, b"67"), &Ok(2));
     assert_equal(&rt, &answer(host)?, b"67");
     ports.shut(1);
     assert!(rt; ports.send(&rt, 1, b"8").is_err());
+    Ok(())
+}
+
+// Each host gets its own answer, and joins by the protocol of its port.
+#[test]
+fn two_hosts_at_each_port_are_told_apart(rt: HostRuntime) -> Result<(), Fail> {
+    let (mut ports, kiss, agw) = opened(&rt)?;
+    let mut hosts = Vec::new(rt.alloc());
+    let table = [
+        (kiss, "K1 ", b"1a"),
+        (agw, "A2 ", b"2b"),
+        (kiss, "K3 ", b"3c"),
+        (agw, "A4 ", b"4d"),
+    ];
+    for (to, joins, _) in table {
+        hosts.push(TcpStream::connect(&rt, to)?)?;
+        assert_polled(&rt, rt.alloc(), &mut ports, &[], joins)?;
+    }
+    for (id, (_, _, text)) in (1..5).zip(table) {
+        assert_equal(&rt, &ports.send(&rt, id, text), &Ok(2));
+    }
+    for (host, (_, _, text)) in hosts.into_iter().zip(table) {
+        assert_equal(&rt, &answer(host)?, text);
+    }
+    Ok(())
+}
+
+#[test]
+fn a_host_is_dialed(rt: HostRuntime) -> Result<(), Fail> {
+    let listener = TcpListener::bind(&rt, at(0))?;
+    let mut ports = Box::new(rt.alloc(), RealPorts::new(rt.alloc()))?;
+    assert_equal(&rt, &ports.dial(&rt, listener.local_addr()?.port()), &Ok(1));
+    let (mut host, _) = listener.accept()?;
+    host.write_all(b"12345")?;
+    assert_polled(&rt, rt.alloc(), &mut ports, &[], "B1 ")?;
+    assert_equal(&rt, &ports.send(&rt, 1, b"67"), &Ok(2));
+    assert_equal(&rt, &answer(host)?, b"67");
+    assert_polled(&rt, rt.alloc(), &mut ports, &[], "L1 ")?;
+    Ok(())
+}
+
+#[test]
+fn a_dial_is_refused_where_nobody_listens(rt: HostRuntime) -> Result<(), Fail> {
+    let mut ports = Box::new(rt.alloc(), RealPorts::new(rt.alloc()))?;
+    assert!(rt; ports.dial(&rt, free_port(&rt)?).is_err());
     Ok(())
 }

@@ -8,7 +8,7 @@ use std::net::Net;
 use std::process::Abort;
 use std::test::Fail;
 use tnc_base::{Octets, OutOfMemory};
-use tnc_ports::{MemLive, MemPorts, Ports};
+use tnc_ports::{Dial, MemLive, MemPorts, Ports};
 
 /// The most octets of an event.
 const MOST: usize = 4096;
@@ -78,7 +78,7 @@ impl Script {
     }
 }
 
-/// The events of a poll as text: J, B or L, and an id.
+/// The events of a poll as text.
 fn polled<R: Net>(
     rt: &R,
     alloc: Global,
@@ -91,12 +91,15 @@ fn polled<R: Net>(
     names(alloc, &events)
 }
 
-/// Each event as a letter and an id.
+/// Each event as a letter and an id: K or A for one that joins by KISS or AGWPE, B for octets, L for one that left.
 pub(super) fn names(alloc: Global, events: &[HostEvent]) -> Result<String, OutOfMemory> {
     let mut text = String::new(alloc);
     for event in events {
         match event {
-            HostEvent::Joined { id, .. } => write!(text, "J{id} ")?,
+            HostEvent::Joined { id, kind } => match kind {
+                PortKind::Kiss => write!(text, "K{id} ")?,
+                PortKind::Agw => write!(text, "A{id} ")?,
+            },
             HostEvent::Bytes { id, .. } => write!(text, "B{id} ")?,
             HostEvent::Left { id } => write!(text, "L{id} ")?,
         }
@@ -142,7 +145,7 @@ fn assert_polled<R: Net + Abort>(
 /// Each row: the connections that a poll pauses, and its events. Poll 1 pauses connection 1, poll 2 fails, and poll 3
 /// pauses nobody.
 const POLLS: &[(&[u32], &str)] = &[
-    (&[], "J1 J2 "),
+    (&[], "A1 K2 "),
     (&[1], "B2 "),
     (&[], "failed"),
     (&[], "B1 L1 B2 "),
@@ -160,5 +163,37 @@ fn is_given_poll_by_poll(rt: HostRuntime) -> Result<(), Fail> {
     live.ports.shut(3);
     let came = came(rt.alloc(), &live.ports)?;
     assert_equal(&rt, &came.as_str(), &"1:shut 2:open ");
+    Ok(())
+}
+
+/// Sockets that dial a host, which brings octets and goes.
+fn dialing(alloc: Global, failing: &[u64]) -> Result<Box<MemLive>, OutOfMemory> {
+    let mut script = Script::new(alloc);
+    script.brings(0, 1, b"a")?;
+    script.leaves(0, 1)?;
+    script.failing(failing)
+}
+
+#[test]
+fn gives_the_events_of_a_dialed_connection(rt: HostRuntime) -> Result<(), Fail> {
+    let mut live = dialing(rt.alloc(), &[])?;
+    assert_equal(&rt, &live.ports.dial(&rt, 8000), &Ok(1));
+    assert_equal(
+        &rt,
+        &live.ports.dials(),
+        &[Dial { port: 8000, id: 1 }].as_slice(),
+    );
+    assert_polled(&rt, rt.alloc(), &mut live.ports, &[], "B1 L1 ")?;
+    live.ports.shut(1);
+    let came = came(rt.alloc(), &live.ports)?;
+    assert_equal(&rt, &came.as_str(), &"1:shut ");
+    Ok(())
+}
+
+#[test]
+fn dials_in_vain_at_a_listed_call(rt: HostRuntime) -> Result<(), Fail> {
+    let mut live = dialing(rt.alloc(), &[0])?;
+    assert!(rt; live.ports.dial(&rt, 8000).is_err());
+    assert!(rt; live.ports.dials().is_empty());
     Ok(())
 }

@@ -60,7 +60,7 @@ fn without_a_thread_it_ends(rt: HostRuntime) -> Result<(), Fail> {
     let mut live = Box::new(alloc, Live { ports, spawner })?;
     let served = served_silence(&rt, alloc, &mut live)?;
     let got = (served.end, served.output.len(), served.report.len());
-    assert_equal(&rt, &got, &(ServeEnd::Memory, 0, 0));
+    assert_equal(&rt, &got, &(ServeEnd::NoThread, 0, 0));
     let calls = (live.ports.listens().len(), live.ports.polls().len());
     assert_equal(&rt, &calls, &(1, 0));
     Ok(())

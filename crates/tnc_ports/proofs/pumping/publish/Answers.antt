@@ -14,8 +14,11 @@ loop-octet-init g c = record {
   samples = λ read published low.
       (published ∙ ap samples (sym (append-nil read)), low ∙ ap odd_octet (sym (append-nil read)));
   count = omega arith;
-  steps = ([], sym (append-nil (g.T.Inlet.published c.args.inlet.now)),
-      λ before told. told ∙ ap Some (sym (append-nil before)));
+  steps = (
+    [],
+    sym (append-nil (g.T.Inlet.published c.args.inlet.now)),
+    λ before told. told ∙ ap Some (sym (append-nil before)),
+  );
   left = refl;
   faults = refl;
 }

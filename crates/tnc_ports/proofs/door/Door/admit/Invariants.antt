@@ -1,0 +1,10 @@
+-- Those that came so far have joined.
+use Rattle.std.proofs.Common.{◌≡◌}
+use Rattle.tnc_ports.specs.RealSockets.{Admits}
+use Rattle.tnc_ports.proofs.door.Door.admit.Given as goal
+
+abbrev pub invariant-loop : goal.invariant-loop
+invariant-loop l = record {
+  admits : Admits l.initial.self.kind l.initial.events.items l.events.items l.initial.sockets.next l.sockets.next;
+  kind : l.self.kind ≡ l.initial.self.kind;
+}

@@ -1,0 +1,53 @@
+use Rattle.std.proofs.Common.{ap, ◌∙◌}
+use Rattle.sample_ring.specs.Ends.{ring_len}
+use Rattle.tnc_ports.specs.SampledWrites.{stream_of}
+use Rattle.tnc_ports.proofs.LiveSteps.{hears_same, hears_some_same, on_err}
+use Rattle.tnc_ports.proofs.LiveTurn.{all_made, cut_reading, cut_hearing, cut_ticking}
+use Rattle.tnc_ports.proofs.turning.Turning.make.Goals as goal
+
+pub returns-in_err-heard-clause-cut : goal.returns-in_err-heard-clause-cut
+returns-in_err-heard-clause-cut g c = λ live stands.
+    on_err c.from_residual.result _
+    (λ told. cut_reading c.args.self.now c.read.new.self (ring_len c.args.ring.now) c.read.new.receiver live _ _ _ _
+    (c.in_err-heard.ensures.cut live stands) c.in_err-heard.ensures.unwritten.1
+    (ap (stream_of g.E.Sink.written g.E.Sink.faults) c.in_err-heard.ensures.unwritten.0))
+
+pub returns-in_err-hear_all-clause-cut : goal.returns-in_err-hear_all-clause-cut
+returns-in_err-hear_all-clause-cut g c = λ live stands.
+    on_err c.from_residual-in_err-hear_all.result _
+    (λ told. cut_hearing c.in_ok-heard.heard.ended c.in_ok-heard.heard.least c.in_ok-heard.heard.items.items c.args.self.now
+    c.read.new.self c.hear_all.new.self (ring_len c.args.ring.now) c.read.new.receiver live _ _
+    (stream_of g.E.Sink.written g.E.Sink.faults c.read.new.report) _ _
+    (c.in_ok-heard.ensures.reads live stands)
+    (λ hosts keeps. hears_some_same c.deref.result.now c.in_ok-heard.heard.items.items c.read.new.self
+    c.hear_all.new.self hosts _ _ c.deref.ensures.value (c.in_err-hear_all.ensures.cut hosts keeps))
+    c.in_ok-heard.ensures.rest.0)
+
+pub returns-in_err-tick_up_to-clause-cut : goal.returns-in_err-tick_up_to-clause-cut
+returns-in_err-tick_up_to-clause-cut g c = λ live stands.
+    on_err c.from_residual-in_err-tick_up_to.result _
+    (λ told. cut_ticking c.in_ok-heard.heard.ended c.busy.result c.in_ok-heard.heard.least c.in_ok-heard.heard.items.items
+    c.args.self.now c.read.new.self c.hear_all.new.self c.tick_up_to.new.self
+    (ring_len c.args.ring.now) c.args.receiver.now c.read.new.receiver live _ _ _
+    (stream_of g.E.Sink.written g.E.Sink.faults c.read.new.report)
+    (stream_of g.E.Sink.written g.E.Sink.faults c.hear_all.new.report) _ _
+    stands (c.in_ok-heard.ensures.reads live stands)
+    (λ hosts keeps. hears_same c.deref.result.now c.in_ok-heard.heard.items.items c.read.new.self c.hear_all.new.self
+    hosts _ _ c.deref.ensures.value (c.in_ok-hear_all.ensures.heard hosts keeps))
+    c.in_err-tick_up_to.ensures.cut c.busy.ensures (c.in_ok-heard.ensures.flags ∙ c.requires.flags)
+    c.in_ok-heard.ensures.rest.0 c.in_ok-hear_all.ensures.rest.0 c.in_ok-heard.ensures.rest.2
+    c.in_ok-hear_all.ensures.rest.1)
+
+pub returns-clause-made : goal.returns-clause-made
+returns-clause-made g c = λ live stands.
+    all_made c.in_ok-heard.heard.ended c.busy.result c.in_ok-heard.heard.least c.in_ok-heard.heard.items.items
+    c.args.self.now c.read.new.self c.hear_all.new.self c.tick_up_to.new.self
+    (ring_len c.args.ring.now) c.args.receiver.now c.read.new.receiver live _ _ _
+    (stream_of g.E.Sink.written g.E.Sink.faults c.read.new.report)
+    (stream_of g.E.Sink.written g.E.Sink.faults c.hear_all.new.report) _
+    stands (c.in_ok-heard.ensures.reads live stands)
+    (λ hosts keeps. hears_same c.deref.result.now c.in_ok-heard.heard.items.items c.read.new.self c.hear_all.new.self
+    hosts _ _ c.deref.ensures.value (c.in_ok-hear_all.ensures.heard hosts keeps))
+    c.in_ok-tick_up_to.ensures.ticked c.busy.ensures (c.in_ok-heard.ensures.flags ∙ c.requires.flags)
+    c.in_ok-heard.ensures.rest.0 c.in_ok-hear_all.ensures.rest.0 c.in_ok-heard.ensures.rest.2
+    c.in_ok-hear_all.ensures.rest.1
