@@ -1,6 +1,6 @@
 -- The ring once the pump and the turns have ended, and the recording as a whole.
-use Rattle.std.specs.Prelude.{ℤ, Bool, true, false, Some, All, Result, Ok, Err, IsOk, is_ok, if◌then◌else◌}
-use Rattle.std.proofs.Common.{◌≡◌, ℕ, ◌<◌, ◌≤◌, List, [], ◌∷◌, ◌++◌, length, map, take, refl, sym, ap, subst, ◌∙◌, inl, inr, arith}
+use Rattle.std.specs.Prelude.{ℤ, Bool, true, All, Result, Ok, Err, IsOk, is_ok, if◌then◌else◌}
+use Rattle.std.proofs.Common.{◌≡◌, ℕ, List, [], ◌∷◌, ◌++◌, length, map, take, refl, sym, ap, subst, ◌∙◌, inr, arith}
 use Rattle.std.proofs.lemmas.Bool.{false≢true}
 use Rattle.std.proofs.lemmas.List.{map-append, take-map}
 use Rattle.std.proofs.lemmas.List.Elements.{All-nil, All-cons, All-head, All-tail, All-push, All-take}
@@ -10,8 +10,7 @@ use Rattle.sample_ring.specs.declared.ring.Ring.{Ring}
 use Rattle.sample_ring.specs.Ends.{ring_id, reader_ring, record_of, reads_of}
 use Rattle.sample_ring.specs.Record.{StandsIn}
 use Rattle.slicer_bank.specs.RingLanes.{answers_of as answers_of_lane}
-use Rattle.ring_receiver.specs.HeldReceiver.{readers_in, answers_in}
-use Rattle.ring_recorder.specs.Held.{HeldRecorder, StandsFor}
+use Rattle.ring_receiver.specs.HeldReceiver.{readers_in}
 use Rattle.ring_recorder.specs.Recording.{answers_of, items, losses, has_ended}
 use Rattle.ring_recorder.specs.Tiling.{Tile}
 use Rattle.tnc_ports.specs.declared.looping.LoopEnd.{LoopEnd}

@@ -3,3 +3,4 @@ pub mod TurnLemmas
 pub mod LoopLemmas
 pub mod RecordedLemmas
 pub mod EndLemmas
+pub mod GapLemmas

@@ -1,5 +1,5 @@
 -- The end of the loop: what is written past the last turn, or where memory was wanted.
-use Rattle.std.specs.Prelude.{Bool, true, false, Some, ◌⊎◌}
+use Rattle.std.specs.Prelude.{Bool, true, false, Some}
 use Rattle.std.proofs.Common.{◌≡◌, ℕ, suc, List, [], ◌++◌, refl, sym, ap, subst, inl, inr, ◌∙◌}
 use Rattle.std.proofs.lemmas.List.{append-nil}
 use Rattle.tnc_base.specs.Faults.{HasRisen}
@@ -16,7 +16,7 @@ use Rattle.tnc_record.specs.declared.recording.RecordWords.{RecordWords}
 use Rattle.tnc_record.specs.HeldListening.{IsAnswered, Turns, IsCutOff, Runs}
 use Rattle.tnc_record.specs.RecordLoop.{AllIsWritten, PartIsWritten, TurnsAreWritten, IsLooped}
 use Rattle.tnc_record.specs.RecordText.{report_text, text_of_losses}
-use Rattle.tnc_record.specs.RecordTurns.{Recording, new_recording, lines_of, IsRun, IsCutRun}
+use Rattle.tnc_record.specs.RecordTurns.{Recording, new_recording, lines_of, IsRun}
 use Rattle.tnc_record.proofs.TextLemmas.{report_append, losses_text}
 use Rattle.tnc_record.proofs.TurnLemmas.{turns_more, reported_more}
 

@@ -1,6 +1,6 @@
 -- The record of the recorder's reader stands in the published list.
-use Rattle.std.specs.Prelude.{ℤ, true, false, Some, slice_get}
-use Rattle.std.proofs.Common.{◌≡◌, ℕ, ◌<◌, ◌≤◌, List, [], ◌∷◌, ◌++◌, length, map, refl, sym, ap, subst, ◌∙◌, arith}
+use Rattle.std.specs.Prelude.{ℤ, true, Some, slice_get}
+use Rattle.std.proofs.Common.{◌≡◌, ℕ, ◌<◌, ◌≤◌, List, [], ◌∷◌, length, map, sym, subst, ◌∙◌, arith}
 use Rattle.std.specs.List.{All}
 use Rattle.std.proofs.lemmas.Bool.{false≢true}
 use Rattle.std.proofs.lemmas.List.Elements.{All-nil, All-cons, All-head, All-tail}

@@ -1,8 +1,8 @@
 -- One turn of a recording, and all turns so far.
-use Rattle.std.specs.Prelude.{Bool, true, false, All, Result, Ok, Err, OnOk, OnErr, ◌&&◌}
-use Rattle.std.proofs.Common.{◌≡◌, ℕ, zero, suc, ◌<◌, ◌≤◌, ◌⊎◌, List, [], ◌∷◌, ◌++◌, map, get_or, take, length, refl}
-use Rattle.std.proofs.Common.{inl, inr, ◌∙◌, append_assoc, Some, sym, ap, subst, arith}
-use Rattle.std.proofs.lemmas.Bool.{true≢false, false≢true}
+use Rattle.std.specs.Prelude.{Bool, true, false, Result, Ok, Err, OnErr, ◌&&◌}
+use Rattle.std.proofs.Common.{◌≡◌, ℕ, zero, suc, ◌<◌, ◌≤◌, List, [], ◌++◌, map, get_or, take, length, refl}
+use Rattle.std.proofs.Common.{inl, inr, ◌∙◌, Some, sym, ap, subst, arith}
+use Rattle.std.proofs.lemmas.Bool.{false≢true}
 use Rattle.std.proofs.lemmas.List.{append-nil, map-append, take_all, get_or-take}
 use Rattle.frame_merge.specs.declared.candidate.Candidate.{Candidate}
 use Rattle.sample_ring.specs.declared.got.Got.{Got}
@@ -12,7 +12,7 @@ use Rattle.sample_ring.specs.Record.{answer}
 use Rattle.slicer_bank.specs.declared.advance.LaneGap.{LaneGap}
 use Rattle.slicer_bank.specs.HeardOnRing.{lane_of}
 use Rattle.ring_receiver.specs.HeardByAll.{AreDueBy}
-use Rattle.ring_receiver.specs.HeldReceiver.{HeldReceiver, records_in, answers_in, Hears as HearsSoFar}
+use Rattle.ring_receiver.specs.HeldReceiver.{records_in, answers_in, Hears as HearsSoFar}
 use Rattle.ring_receiver.specs.Readers.{readers_wanted}
 use Rattle.ring_receiver.specs.Turns.{IsTurnOf, AreGrownBy}
 use Rattle.ring_recorder.specs.Held.{HeldRecorder, StandsFor}
@@ -25,9 +25,8 @@ use Rattle.tnc_record.specs.declared.listening.Listening.{Listening}
 use Rattle.tnc_record.specs.declared.recording.RecordWords.{RecordWords}
 use Rattle.tnc_record.specs.HeldListening.{IsAnswered, StandsForRecording, ReportsMore, HearsMore, StopsHearing, Turns}
 use Rattle.tnc_record.specs.HeldListening.{IsCutOff, Runs}
-use Rattle.tnc_record.specs.RecordText.{Line, report_text, turn_lines}
-use Rattle.tnc_record.specs.RecordTurns.{Recording, new_recording, HasEnded, HearsUnlessOver, Hears, IsTurn, AreTurns}
-use Rattle.tnc_record.specs.RecordTurns.{IsCutInHearing, IsCutInRecording}
+use Rattle.tnc_record.specs.RecordText.{report_text, turn_lines}
+use Rattle.tnc_record.specs.RecordTurns.{Recording, new_recording, HasEnded, HearsUnlessOver, IsTurn, AreTurns}
 use Rattle.tnc_record.proofs.TextLemmas.{report_append}
 
 pub on_err : {T E P : Type 0} (r : Result T E) → P → OnErr r P

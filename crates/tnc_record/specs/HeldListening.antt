@@ -1,7 +1,7 @@
 -- What the code keeps of a recording between two turns, and what a turn makes of it. No public clause cites this.
 use Rattle.std.specs.Prelude.{◌≡◌, ℕ, ◌⊎◌, Bool, true, false, List, ◌++◌, All, take}
 use Rattle.sample_ring.specs.declared.ring.Ring.{Ring}
-use Rattle.sample_ring.specs.Ends.{ring_id, ring_len, reader_ring}
+use Rattle.sample_ring.specs.Ends.{ring_id, reader_ring}
 use Rattle.ring_receiver.specs.HeldReceiver.{readers_in, answers_in, Hears as HearsSoFar}
 use Rattle.ring_recorder.specs.Recording.{answers_of}
 use Rattle.ring_recorder.specs.Held.{StandsFor}

@@ -4,3 +4,4 @@ pub mod RecordLoop
 pub mod RecordRun
 pub mod HeldListening
 pub mod HeldRecord
+pub mod ToldGaps

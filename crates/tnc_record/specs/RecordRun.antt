@@ -1,6 +1,6 @@
 -- A recording as a whole: a pump publishes the samples of its input in a ring, and a run reads them there, reports what
 -- it hears and at its end what the recorder lost, and writes the sound.
-use Rattle.std.specs.Prelude.{◌≡◌, ℕ, ℤ, ◌⊎◌, true, List, length, map, All, Some, slice_get}
+use Rattle.std.specs.Prelude.{◌≡◌, ℕ, ℤ, ◌⊎◌, true, List, length, All, Some, slice_get}
 use Rattle.sample_ring.specs.declared.got.Got.{Got}
 use Rattle.sample_ring.specs.declared.view.Track.{Track}
 use Rattle.sample_ring.specs.Record.{StandsIn}

@@ -1,6 +1,6 @@
 -- A recording, turn by turn. In a turn the receiver's readers read on in the ring, the frames that are settled by what
 -- they have read are reported, and then the recorder's reader reads on.
-use Rattle.std.specs.Prelude.{◌≡◌, ℕ, zero, suc, ◌<◌, ◌⊎◌, Bool, true, false, List, [], ◌∷◌, ◌++◌, map, replicate}
+use Rattle.std.specs.Prelude.{◌≡◌, ℕ, zero, suc, ◌<◌, ◌⊎◌, Bool, true, false, List, [], ◌++◌, map, replicate}
 use Rattle.frame_merge.specs.declared.candidate.Candidate.{Candidate}
 use Rattle.sample_ring.specs.declared.got.Got.{Got}
 use Rattle.slicer_bank.specs.declared.advance.LaneGap.{LaneGap}

@@ -9,9 +9,11 @@
 //! that are reported they cover the whole input.
 #![tactic(auto)]
 
+mod laws;
 mod lines;
 mod listening;
 mod looping;
 mod recording;
 
+pub use laws::gaps_are_told;
 pub use recording::{RecordEnd, RecordWords, record};

@@ -1,6 +1,6 @@
 use Rattle.std.proofs.Common.{ap, ◌∙◌}
 use Rattle.tnc_record.specs.RecordText.{text_of_losses}
-use Rattle.tnc_record.proofs.LoopLemmas.{all_reported, same_wave, report_failed, all_written, output_failed, no_memory}
+use Rattle.tnc_record.proofs.LoopLemmas.{all_reported, same_wave, report_failed, all_written, output_failed}
 use Rattle.tnc_record.proofs.looping.finish.Goals as goal
 
 pub returns-then-failed : goal.returns-then-failed

@@ -1,6 +1,5 @@
-use Rattle.std.proofs.Common.{refl, ap, ◌∙◌}
+use Rattle.std.proofs.Common.{refl, ◌∙◌}
 use Rattle.sample_ring.specs.Ends.{ring_len}
-use Rattle.tnc_record.specs.RecordText.{report_text, turn_lines}
 use Rattle.tnc_record.proofs.TurnLemmas.{on_err, hears_on, stops_hearing}
 use Rattle.tnc_record.proofs.listening.Listening.hear.Goals as goal
 
