@@ -70,10 +70,3 @@ pub record TookAnswer (len : ℕ) (before after : HeldRecorder) (got : Got) : Ty
   pub sound : after.sound ≡ sound_after before.keep before.sound got
   pub losses : after.losses ≡ losses_after before.losses got
   pub ended : after.ended ≡ ended_after before.ended got
-
--- the reader was answered these
-pub record ReadMore (len : ℕ) (before after : HeldRecorder) (reads : List Entry) : Type 0 where
-  pub same_ring : reader_ring after.reader ≡ reader_ring before.reader
-  pub keep : after.keep ≡ before.keep
-  pub are : reads_of after.reader ≡ reads_of before.reader ++ reads
-  pub stands : StandsFor len before → StandsFor len after

@@ -57,7 +57,8 @@ impl Recorder {
     ghost use Rattle.sample_ring.specs.Record.{answer};
     ghost use Rattle.tnc_base.specs.Faults.{HasRisen};
     ghost use Rattle.tnc_base.specs.Streams.{WrotePart};
-    ghost use Rattle.ring_recorder.specs.Held.{StandsFor, TookAnswer, ReadMore};
+    ghost use Rattle.ring_recorder.specs.Held.{StandsFor, TookAnswer};
+    ghost use Rattle.ring_recorder.specs.Recording.{answers_of};
     ghost use Rattle.ring_recorder.specs.Turns.{IsTurn, reads_on};
     ghost use Rattle.ring_recorder.specs.Wave.{wave_of};
 
@@ -68,6 +69,7 @@ impl Recorder {
         requires keep { (1 ≤ keep) × (keep ≤ 17280000) }
         ensures reader { IfOk result (λ recorder. recorder.reader ≡ reader) }
         ensures keep { IfOk result (λ recorder. recorder.keep ≡ keep) }
+        ensures nothing { IfOk result (λ recorder. (len : ℕ) → answers_of len recorder.reader ≡ []) }
         ensures stands { IfOk result (λ recorder. (len : ℕ) → StandsFor len recorder) }
     {
         Ok(Recorder {

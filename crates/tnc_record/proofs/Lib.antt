@@ -1,0 +1,6 @@
+pub mod TextLemmas
+pub mod TurnLemmas
+pub mod LoopLemmas
+pub mod RecordedLemmas
+pub mod EndLemmas
+pub mod GapLemmas
