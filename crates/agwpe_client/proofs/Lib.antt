@@ -1,4 +1,5 @@
 pub mod BeginLemmas
+pub mod DoneLemmas
 pub mod GrowLemmas
 pub mod ListLemmas
 pub mod NextLemmas

@@ -66,7 +66,7 @@ over_ignores plan run message over = by_state run.state refl over
     by_state Refused is over = ignored Refused is refl
     by_state (Broken len) is over = ignored (Broken len) is refl
 
-over_folded : (plan : CallPlan) (run : CallRun) (messages : List AgwMessage) → is_over run.state ≡ true
+pub over_folded : (plan : CallPlan) (run : CallRun) (messages : List AgwMessage) → is_over run.state ≡ true
     → folded plan run messages ≡ run
 over_folded plan run [] over = refl
 over_folded plan run (message ∷ messages) over =

@@ -2,3 +2,4 @@ pub mod CallMessages
 pub mod CallSteps
 pub mod CallRun
 pub mod HeldCall
+pub mod DoneCall

@@ -18,6 +18,7 @@ mod call_state;
 mod client;
 mod client_out;
 mod fault;
+mod laws;
 mod messages;
 mod step;
 
@@ -25,3 +26,4 @@ pub use call_state::CallState;
 pub use client::Client;
 pub use client_out::ClientOut;
 pub use fault::ClientFault;
+pub use laws::done_prints_its_data;
