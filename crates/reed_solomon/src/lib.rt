@@ -13,6 +13,8 @@ mod field;
 mod generator;
 mod kernel;
 mod laws;
+#[cfg(test)]
+mod tests;
 mod values;
 mod words;
 mod wrong_octets;
