@@ -3,15 +3,14 @@ use Rattle.std.proofs.Common.{◌≡◌, ◌≢◌, ℕ, zero, suc, ◌+◌, ◌
 use Rattle.std.proofs.Common.{get_or, take, drop, refl, ap, subst, ◌∙◌, sym, inl, inr, arith}
 use Rattle.std.specs.Int.Bits.{xor_zero_r}
 use Rattle.std.proofs.lemmas.Bool.{cases_eq, eq-eqb, ne_eqb}
-use Rattle.std.proofs.lemmas.List.{length-take, get_or_default}
+use Rattle.std.proofs.lemmas.List.{length-take}
 use Rattle.reed_solomon.specs.Field.{times_power}
 use Rattle.reed_solomon.specs.Values.{value_at, Vanishes}
 use Rattle.reed_solomon.specs.Product.{product}
-use Rattle.reed_solomon.specs.Distance.{distance}
 use Rattle.reed_solomon.specs.Register.{added}
 use Rattle.reed_solomon.specs.Kernel.{dot, values_down, octet_before, IsWrong}
-use Rattle.reed_solomon.proofs.FieldLemmas.{times_power-lt, times_power-add, times_power_rounds, product-lt, zero-product, product-zero, power_of_zero}
-use Rattle.reed_solomon.proofs.FieldLemmas.{product_comm, product_assoc, product-one, xor_twice}
+use Rattle.reed_solomon.proofs.FieldLemmas.{times_power-add, times_power_rounds, product-lt, zero-product, product-zero, power_of_zero}
+use Rattle.reed_solomon.proofs.FieldLemmas.{product_comm, product_assoc, product-one}
 use Rattle.reed_solomon.proofs.ValueLemmas.{Octets, Octets-added, length-added, get_or-added, value_at-lt, value_at-added, weight}
 use Rattle.reed_solomon.proofs.Vandermonde.{few_zeros}
 use Rattle.reed_solomon.proofs.DistanceLemmas.{weight-added, octets_of_all}

@@ -1,14 +1,14 @@
 -- A list that is not 0 has fewer zeros than coefficients: it is divided by the difference to one zero after another, as
 -- Horner does.
-use Rattle.std.proofs.Common.{◌≡◌, ℕ, zero, suc, ◌+◌, ◌*◌, ◌<◌, ◌≤◌, ◌≢◌, cond, eqb, bit_xor, List, [], ◌∷◌, length, refl}
-use Rattle.std.proofs.Common.{ap, subst, ◌∙◌, sym, inl, inr, arith}
-use Rattle.std.specs.Int.Bits.{xor_zero_l, xor_zero_r, xor_self, xor_assoc}
+use Rattle.std.proofs.Common.{◌≡◌, ℕ, zero, suc, ◌+◌, ◌*◌, ◌<◌, ◌≤◌, cond, eqb, bit_xor, List, [], ◌∷◌, length, refl}
+use Rattle.std.proofs.Common.{ap, ◌∙◌, sym, inl, inr, arith}
+use Rattle.std.specs.Int.Bits.{xor_zero_l, xor_assoc}
 use Rattle.std.proofs.lemmas.Bool.{cases_eq, eq-eqb, ne_eqb}
-use Rattle.std.proofs.lemmas.Nat.{xor_comm, xor_of_8}
+use Rattle.std.proofs.lemmas.Nat.{xor_of_8}
 use Rattle.reed_solomon.specs.Field.{times_power}
 use Rattle.reed_solomon.specs.Values.{value_at}
 use Rattle.reed_solomon.proofs.FieldLemmas.{xor_pairs, same_from_xor, times_power-lt, times_power-zero, times_power-xor}
-use Rattle.reed_solomon.proofs.FieldLemmas.{times_power-add, times_power_comm, same_power, xor_twice}
+use Rattle.reed_solomon.proofs.FieldLemmas.{times_power-add, same_power, xor_twice}
 use Rattle.reed_solomon.proofs.ValueLemmas.{Octets, value_at-lt, value_at-zero, weight}
 use Rattle.reed_solomon.proofs.GeneratorLemmas.{value_at-cons, value_at-single}
 use Rattle.reed_solomon.proofs.DistanceLemmas.{weight-zero, weight-some}

@@ -1,7 +1,7 @@
 -- The register of the check octets: at each root of the generator its value is that of the octets so far, times the
 -- power of as many places as it has.
-use Rattle.std.proofs.Common.{◌≡◌, ℕ, zero, suc, ◌+◌, ◌*◌, ◌<◌, ◌≤◌, bit_xor, List, [], ◌∷◌, ◌++◌, length, map, drop}
-use Rattle.std.proofs.Common.{take, replicate, get_or, refl, ap, ◌∙◌, sym, arith, length-append}
+use Rattle.std.proofs.Common.{◌≡◌, ℕ, zero, suc, ◌+◌, ◌*◌, ◌<◌, bit_xor, List, [], ◌∷◌, ◌++◌, length, map, drop}
+use Rattle.std.proofs.Common.{replicate, refl, ap, ◌∙◌, sym, arith, length-append}
 use Rattle.std.specs.List.{fold, refill}
 use Rattle.std.specs.Int.Bits.{xor_zero_r, xor_self, xor_assoc}
 use Rattle.std.proofs.lemmas.List.{length-map, length-replicate, take_at, append_assoc, append-nil}
@@ -12,9 +12,9 @@ use Rattle.reed_solomon.specs.Codeword.{with_zeros}
 use Rattle.reed_solomon.specs.Field.{times_power}
 use Rattle.reed_solomon.specs.Values.{value_at}
 use Rattle.reed_solomon.specs.Product.{product}
-use Rattle.reed_solomon.specs.Register.{added, taken, zeros_after}
+use Rattle.reed_solomon.specs.Register.{taken, zeros_after}
 use Rattle.reed_solomon.proofs.FieldLemmas.{times_power-lt, times_power-zero, times_power-xor, times_power-add, times_power_comm}
-use Rattle.reed_solomon.proofs.FieldLemmas.{product-times_power, product-one, same_from_xor, xor_twice}
+use Rattle.reed_solomon.proofs.FieldLemmas.{product-times_power, product-one, same_from_xor}
 use Rattle.reed_solomon.proofs.ValueLemmas.{Octets, Octets-append, Octets-added, Octets-product, Octets-replicate}
 use Rattle.reed_solomon.proofs.ValueLemmas.{length-added, value_at-lt, value_at-added, value_at-product, value_at-append}
 use Rattle.reed_solomon.proofs.ValueLemmas.{value_at-zeros, value_at-zero}

@@ -1,5 +1,5 @@
 -- If a codeword is within reach, the word that is taken is that one.
-use Rattle.std.proofs.Common.{◌≡◌, ℕ, ◌*◌, ◌<◌, ◌≤◌, List, ap, subst, sym, ◌∙◌, refl, true, false, arith}
+use Rattle.std.proofs.Common.{◌≡◌, ℕ, List, ap, subst, sym, ◌∙◌, refl, arith}
 use Rattle.std.proofs.lemmas.Bool.{false≢true}
 use Rattle.reed_solomon.specs.Codeword.{IsCodeword}
 use Rattle.reed_solomon.specs.Distance.{distance}

@@ -1,7 +1,7 @@
-use Rattle.std.proofs.Common.{◌≡◌, ℕ, zero, ◌+◌, ◌-◌, ◌<◌, ◌≤◌, List, ◌++◌, [], ◌∷◌, length, get_or, replicate, ap, sym, ◌∙◌}
-use Rattle.std.proofs.Common.{arith, refl, subst, take, take_all}
+use Rattle.std.proofs.Common.{◌≡◌, ℕ, ◌+◌, ◌-◌, List, ◌++◌, [], ◌∷◌, length, get_or, replicate, ap, sym, ◌∙◌}
+use Rattle.std.proofs.Common.{arith}
 use Rattle.std.specs.List.{fold}
-use Rattle.std.proofs.lemmas.List.{append-nil, append_assoc, replicate_more, length-replicate}
+use Rattle.std.proofs.lemmas.List.{append_assoc, replicate_more}
 use Rattle.std.proofs.lemmas.List.Sums.{fold_more, fold_push}
 use Rattle.reed_solomon.specs.Codeword.{ChecksOf, whole}
 use Rattle.reed_solomon.specs.Register.{generator_of, taken, zeros_after}
@@ -9,7 +9,7 @@ use Rattle.reed_solomon.specs.Values.{value_at}
 use Rattle.reed_solomon.proofs.DistanceLemmas.{codeword_parts}
 use Rattle.reed_solomon.proofs.GeneratorLemmas.{length-generator_of, Octets-generator_of, generator_vanishes}
 use Rattle.reed_solomon.proofs.RegisterLemmas.{length-taken, register_checks, value_at-with_zeros}
-use Rattle.reed_solomon.proofs.ValueLemmas.{Octets, Octets-append, Octets-replicate, octets_from}
+use Rattle.reed_solomon.proofs.ValueLemmas.{Octets-append, Octets-replicate, octets_from}
 use Rattle.reed_solomon.proofs.encoder.check_octets.Goals as goal
 
 pub take-requires-clause-size : goal.take-requires-clause-size

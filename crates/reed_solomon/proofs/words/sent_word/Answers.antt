@@ -1,6 +1,6 @@
-use Rattle.std.proofs.Common.{◌≡◌, ℕ, ◌+◌, ◌-◌, List, ◌++◌, [], length, take, drop, ap, sym, ◌∙◌, arith}
+use Rattle.std.proofs.Common.{◌≡◌, ◌+◌, ◌-◌, ◌++◌, length, take, drop, ap, sym, ◌∙◌, arith}
 use Rattle.std.proofs.lemmas.List.{take_rest}
-use Rattle.reed_solomon.specs.Codeword.{whole, with_zeros}
+use Rattle.reed_solomon.specs.Codeword.{whole}
 use Rattle.reed_solomon.specs.Register.{zeros_before}
 use Rattle.reed_solomon.proofs.WordLemmas.{sent_octets, sent_check}
 use Rattle.reed_solomon.proofs.words.sent_word.Goals as goal

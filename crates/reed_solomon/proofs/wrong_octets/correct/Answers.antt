@@ -1,8 +1,8 @@
-use Rattle.std.proofs.Common.{◌≡◌, ◌≢◌, ℕ, ◌+◌, ◌-◌, ◌*◌, ◌/◌, ◌<◌, ◌≤◌, Bool, true, false, List, length, get_or, set, take, drop}
+use Rattle.std.proofs.Common.{◌≡◌, ◌≢◌, ℕ, ◌+◌, ◌-◌, ◌/◌, ◌<◌, true, false, List, length, get_or, take}
 use Rattle.std.proofs.Common.{bit_xor, ap, sym, ◌∙◌, inl, inr, arith}
 use Rattle.std.proofs.lemmas.Bool.{cases_eq, false≢true}
 use Rattle.std.proofs.lemmas.List.{get_or-set_same, get_or-set_other, ext_get_or}
-use Rattle.reed_solomon.specs.Kernel.{IsWrong, count_true, octet_before, values_down}
+use Rattle.reed_solomon.specs.Kernel.{IsWrong, octet_before}
 use Rattle.reed_solomon.specs.Register.{added}
 use Rattle.reed_solomon.proofs.DistanceLemmas.{octets_of_all, all_of_octets}
 use Rattle.reed_solomon.proofs.ErrorLemmas.{errors_at_roots, errors_values, error_is}

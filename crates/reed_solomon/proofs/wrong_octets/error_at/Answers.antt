@@ -1,7 +1,7 @@
-use Rattle.std.proofs.Common.{◌≡◌, ◌≢◌, ℕ, ◌+◌, ◌-◌, ◌*◌, ◌<◌, ◌≤◌, List, [], ◌∷◌, length, drop, ap, subst, sym, ◌∙◌, arith}
+use Rattle.std.proofs.Common.{◌≡◌, ◌-◌, ◌*◌, ◌∷◌, length, drop, ap, sym, ◌∙◌, arith}
 use Rattle.std.proofs.lemmas.List.{take_rest}
 use Rattle.reed_solomon.specs.Field.{times_power}
-use Rattle.reed_solomon.specs.Kernel.{dot, values_down, octet_before}
+use Rattle.reed_solomon.specs.Kernel.{dot, values_down}
 use Rattle.reed_solomon.specs.Product.{product}
 use Rattle.reed_solomon.specs.Values.{value_at}
 use Rattle.reed_solomon.proofs.DistanceLemmas.{octets_of_all}

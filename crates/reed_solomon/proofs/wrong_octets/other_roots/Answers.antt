@@ -1,8 +1,7 @@
-use Rattle.std.proofs.Common.{◌≡◌, ◌≢◌, ℕ, ◌+◌, ◌<◌, ◌≤◌, Bool, true, false, ◌⊎◌, List, [], ◌∷◌, length, get_or, take, ap, subst, sym, ◌∙◌}
+use Rattle.std.proofs.Common.{◌≡◌, ◌≢◌, ℕ, ◌+◌, ◌<◌, Bool, true, false, ◌⊎◌, List, [], ◌∷◌, length, get_or, ap, subst, sym, ◌∙◌}
 use Rattle.std.proofs.Common.{inl, inr, arith}
 use Rattle.std.proofs.lemmas.Bool.{cases_eq, false≢true}
 use Rattle.reed_solomon.specs.Field.{power}
-use Rattle.reed_solomon.specs.Kernel.{count_true}
 use Rattle.reed_solomon.specs.Register.{with_root}
 use Rattle.reed_solomon.specs.Values.{value_at}
 use Rattle.reed_solomon.proofs.DistanceLemmas.{all_of_octets}
