@@ -1,9 +1,11 @@
 -- Words that differ in few octets.
 use Rattle.std.proofs.Common.{◌≡◌, ℕ, zero, suc, ◌+◌, ◌-◌, ◌<◌, ◌≤◌, cond, eqb, bit_xor, List, [], ◌∷◌, ◌++◌}
-use Rattle.std.proofs.Common.{length, take, drop, replicate, All, refl, ap, subst, ◌∙◌, sym, inl, inr, arith, length-append}
+use Rattle.std.proofs.Common.{length, take, drop, replicate, All, refl, ap, subst, ◌∙◌, sym, inl, inr, arith}
+use Rattle.std.proofs.Common.{length-append}
 use Rattle.std.specs.Int.Bits.{xor_self}
 use Rattle.std.proofs.lemmas.Bool.{cases_eq, eq-eqb, ne_eqb}
-use Rattle.std.proofs.lemmas.List.{get_or_default, length-replicate, length-take, length-drop, take-append-drop, take_at, drop_at}
+use Rattle.std.proofs.lemmas.List.{get_or_default, length-replicate, length-take, length-drop, take-append-drop}
+use Rattle.std.proofs.lemmas.List.{take_at, drop_at}
 use Rattle.reed_solomon.specs.declared.code.Code.{Code}
 use Rattle.reed_solomon.specs.declared.code.Zeros.{Zeros}
 use Rattle.reed_solomon.specs.declared.code.Zeros.TheVariants.{Leading, Between}
@@ -12,7 +14,8 @@ use Rattle.reed_solomon.specs.Distance.{distance}
 use Rattle.reed_solomon.specs.Register.{added}
 use Rattle.reed_solomon.specs.Values.{value_at, Vanishes}
 use Rattle.reed_solomon.proofs.FieldLemmas.{same_from_xor}
-use Rattle.reed_solomon.proofs.ValueLemmas.{Octets, Octets-append, Octets-added, Octets-replicate, length-added, octets_from, octet_at}
+use Rattle.reed_solomon.proofs.ValueLemmas.{Octets, Octets-append, Octets-added, Octets-replicate, length-added}
+use Rattle.reed_solomon.proofs.ValueLemmas.{octets_from, octet_at}
 use Rattle.reed_solomon.proofs.ValueLemmas.{value_at-added, weight}
 use Rattle.reed_solomon.proofs.Vandermonde.{few_zeros}
 
@@ -84,7 +87,8 @@ pub distance-push : (xs ys : List ℕ) (x y : ℕ) → length xs ≡ length ys
     → distance (xs ++ x ∷ []) (ys ++ y ∷ []) ≡ distance xs ys + cond (eqb x y) 0 1
 distance-push xs ys x y size =
     distance-append xs (x ∷ []) ys (y ∷ []) size
-    ∙ ap (λ n. distance xs ys + n) (distance-cons x y [] [] ∙ ap (λ n. cond (eqb x y) 0 1 + n) distance_nil ∙ omega arith)
+    ∙ ap (λ n. distance xs ys + n) (distance-cons x y [] [] ∙ ap (λ n. cond (eqb x y) 0 1 + n) distance_nil
+    ∙ omega arith)
 
 pub distance-refl : (xs : List ℕ) → distance xs xs ≡ 0
 unfolding distance
@@ -161,7 +165,8 @@ pub apart : (code : Code) (xs ys check other : List ℕ) → Octets xs → Octet
     → length xs ≡ length ys → length xs + code.check_count ≤ 255 → length check ≡ code.check_count
     → length other ≡ code.check_count → ChecksOf code xs check → ChecksOf code ys other
     → distance xs ys + distance check other ≤ code.check_count → distance xs ys + distance check other ≡ 0
-apart code xs ys check other xs_octets ys_octets check_octets other_octets size short check_size other_size is other_is near =
+apart code xs ys check other xs_octets ys_octets check_octets other_octets size short check_size other_size is other_is
+    near =
     let law = distance-whole code xs ys check other size in
     sym law ∙ one_list code.first_root code.check_count (whole code xs check) (whole code ys other)
     (length-whole code xs check short check_size ∙ sym (length-whole code ys other (omega arith) other_size))
@@ -222,7 +227,8 @@ pub one_check : (code : Code) (xs check other : List ℕ) → Octets xs → Octe
     → IsCodeword code (xs ++ check) → IsCodeword code (xs ++ other) → check ≡ other
 one_check code xs check other xs_octets check_octets other_octets check_size other_size short is other_is =
     let same = distance-refl xs in
-    let none = apart code xs xs check other xs_octets xs_octets check_octets other_octets refl short check_size other_size
+    let none = apart code xs xs check other xs_octets xs_octets check_octets other_octets refl short check_size
+    other_size
     ((codeword_parts code (ChecksOf code) xs check check_size).0 is)
     ((codeword_parts code (ChecksOf code) xs other other_size).0 other_is) (omega (arith, distance-le check other)) in
     same_from_distance check other (check_size ∙ sym other_size) (omega arith)

@@ -52,7 +52,8 @@ joined : (r p a b : ℕ) (bs : List ℕ) → a < 256 → b < 256 → Octets bs
 joined r p a b bs a_fits b_fits octets =
     let n = length bs in
     value_at-cons r (bit_xor (times_power p a) b) bs
-    ∙ ap (λ m. bit_xor m (value_at r bs)) (times_power-xor (r * n) (times_power p a) b (times_power-lt p a a_fits) b_fits)
+    ∙ ap (λ m. bit_xor m (value_at r bs)) (times_power-xor (r * n) (times_power p a) b
+    (times_power-lt p a a_fits) b_fits)
     ∙ xor_assoc (times_power (r * n) (times_power p a)) (times_power (r * n) b) (value_at r bs)
     ∙ ap (λ m. bit_xor m (bit_xor (times_power (r * n) b) (value_at r bs))) (sym (times_power-add (r * n) p a))
     ∙ ap (bit_xor (times_power (r * n + p) a)) (sym (value_at-cons r b bs))

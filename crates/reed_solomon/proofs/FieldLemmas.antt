@@ -262,7 +262,8 @@ power_of_zero a = refl
 pub zero_from_times_power : (i a : ℕ) → a < 256 → times_power i a ≡ 0 → a ≡ 0
 zero_from_times_power i a fits none =
     let round : i * 255 + 0 ≡ 254 * i + i = omega arith in
-    sym (times_power_rounds i 0 a fits ∙ power_of_zero a) ∙ ap (λ n. times_power n a) round ∙ times_power-add (254 * i) i a
+    sym (times_power_rounds i 0 a fits ∙ power_of_zero a) ∙ ap (λ n. times_power n a) round
+    ∙ times_power-add (254 * i) i a
     ∙ ap (times_power (254 * i)) none ∙ times_power-zero (254 * i)
 
 -- the same product of one octet comes of one power

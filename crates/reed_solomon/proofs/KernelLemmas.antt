@@ -135,7 +135,8 @@ pub record Cleared (old new : List (List ℕ)) (k last : ℕ) (pivot equation : 
   pub multiple : IsMultiple (row old k) pivot
   pub rows : (m : ℕ) → m < last → AddsMultiple pivot (row old (source k last m)) (row new m)
 
-module _ {old new : List (List ℕ)} {k last : ℕ} {pivot equation : List ℕ} (cleared : Cleared old new k last pivot equation) where
+module _ {old new : List (List ℕ)} {k last : ℕ} {pivot equation : List ℕ}
+    (cleared : Cleared old new k last pivot equation) where
   pub cleared-stays : (other : List ℕ) → All (λ x. x < 256) other → Meet old (suc last) other → Meet new last other
   cleared-stays other octets met = λ m below.
       (cleared.rows m below).in_equation other octets (cleared.multiple.in_equation other octets

@@ -13,10 +13,12 @@ use Rattle.reed_solomon.specs.Field.{times_power}
 use Rattle.reed_solomon.specs.Values.{value_at}
 use Rattle.reed_solomon.specs.Product.{product}
 use Rattle.reed_solomon.specs.Register.{taken, zeros_after}
-use Rattle.reed_solomon.proofs.FieldLemmas.{times_power-lt, times_power-zero, times_power-xor, times_power-add, times_power_comm}
+use Rattle.reed_solomon.proofs.FieldLemmas.{times_power-lt, times_power-zero, times_power-xor, times_power-add}
+use Rattle.reed_solomon.proofs.FieldLemmas.{times_power_comm}
 use Rattle.reed_solomon.proofs.FieldLemmas.{product-times_power, product-one, same_from_xor}
 use Rattle.reed_solomon.proofs.ValueLemmas.{Octets, Octets-append, Octets-added, Octets-product, Octets-replicate}
-use Rattle.reed_solomon.proofs.ValueLemmas.{length-added, value_at-lt, value_at-added, value_at-product, value_at-append}
+use Rattle.reed_solomon.proofs.ValueLemmas.{length-added, value_at-lt, value_at-added, value_at-product}
+use Rattle.reed_solomon.proofs.ValueLemmas.{value_at-append}
 use Rattle.reed_solomon.proofs.ValueLemmas.{value_at-zeros, value_at-zero}
 use Rattle.reed_solomon.proofs.GeneratorLemmas.{value_at-push, value_at-cons}
 
@@ -124,8 +126,10 @@ register_checks j g xs some g_octets octets root =
     let zeros : value_at j (replicate c 0) ≡ times_power (j * c) (value_at j []) =
     value_at-zeros j c ∙ sym (ap (times_power (j * c)) (value_at-zeros j 0) ∙ times_power-zero (j * c)) in
     value_at-append j xs r octets
-    ∙ ap (λ n. bit_xor (times_power (j * n) (value_at j xs)) (value_at j r)) (length-register g (replicate c 0) xs start some)
-    ∙ ap (bit_xor v) (value_at-register j g (replicate c 0) [] xs start some g_octets (Octets-replicate c) tt octets root
+    ∙ ap (λ n. bit_xor (times_power (j * n) (value_at j xs)) (value_at j r)) (length-register g
+    (replicate c 0) xs start some)
+    ∙ ap (bit_xor v) (value_at-register j g (replicate c 0) [] xs start some g_octets
+    (Octets-replicate c) tt octets root
     zeros) ∙ xor_self v
 
 -- zeros in front add nothing

@@ -57,7 +57,8 @@ count_true-take (suc n) (x ∷ xs) = omega (arith, count_true-take n xs)
 
 pub count_true_more : (xs : List Bool) (i : ℕ) → i < length xs
     → count_true (take (i + 1) xs) ≡ count_true (take i xs) + cond (get_or xs i false) 1 0
-count_true_more xs i below = ap count_true (take_more xs i false below) ∙ count_true-push (take i xs) (get_or xs i false)
+count_true_more xs i below = ap count_true (take_more xs i false below)
+    ∙ count_true-push (take i xs) (get_or xs i false)
 
 -- a root counts one more
 pub count_true_root : (xs : List Bool) (i : ℕ) → i < length xs → get_or xs i false ≡ true

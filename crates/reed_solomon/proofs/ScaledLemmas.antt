@@ -1,4 +1,5 @@
--- The sum of a list's coefficients times the values of a word is a value of the word scaled: each octet times the list's
+-- The sum of a list's coefficients times the values of a word is a value of the word scaled: each octet times the
+-- list's
 -- value at the octet's own point. Two sums change places, and nothing else happens.
 use Rattle.std.proofs.Common.{◌≡◌, ℕ, zero, suc, ◌+◌, ◌*◌, ◌<◌, ◌≤◌, ◌≢◌, cond, bit_xor, List, [], ◌∷◌, length}
 use Rattle.std.proofs.Common.{refl, ap, ◌∙◌, sym, inl, inr, arith}
@@ -71,7 +72,8 @@ value_at-scaled_by_power j a n (x ∷ xs) fits octets =
     let place : j * k + k * n ≡ (j + n) * k = omega arith in
     let rest = value_at j (scaled_by_power a n xs) in
     let part : times_power (j * k) (product x (times_power (k * n) a)) ≡ product a (times_power ((j + n) * k) x) =
-    ap (times_power (j * k)) (product-times_power x (k * n) a ∙ ap (times_power (k * n)) (product_comm x a octets.0 fits))
+    ap (times_power (j * k)) (product-times_power x (k * n) a
+    ∙ ap (times_power (k * n)) (product_comm x a octets.0 fits))
     ∙ sym (times_power-add (j * k) (k * n) (product a x)) ∙ ap (λ m. times_power m (product a x)) place
     ∙ sym (product-times_power a ((j + n) * k) x) in
     ap (λ m. bit_xor (times_power (j * m) (product x (times_power (k * n) a))) rest) (length-scaled_by_power a n xs)

@@ -72,9 +72,11 @@ value_at-added j (x ∷ xs) (y ∷ ys) same left right =
     let n = length xs in
     ap (λ m. bit_xor (times_power (j * m) (bit_xor x y)) (value_at j (added xs ys))) (length-added xs ys rest)
     ∙ ap (λ m. bit_xor m (value_at j (added xs ys))) (times_power-xor (j * n) x y left.0 right.0)
-    ∙ ap (bit_xor (bit_xor (times_power (j * n) x) (times_power (j * n) y))) (value_at-added j xs ys rest left.1 right.1)
+    ∙ ap (bit_xor (bit_xor (times_power (j * n) x) (times_power (j * n) y)))
+    (value_at-added j xs ys rest left.1 right.1)
     ∙ xor_pairs (times_power (j * n) x) (times_power (j * n) y) (value_at j xs) (value_at j ys)
-    ∙ ap (λ m. bit_xor (bit_xor (times_power (j * n) x) (value_at j xs)) (bit_xor (times_power (j * m) y) (value_at j ys)))
+    ∙ ap (λ m. bit_xor (bit_xor (times_power (j * n) x) (value_at j xs)) (bit_xor (times_power (j * m) y)
+    (value_at j ys)))
     rest
 
 -- ---- a list times an octet
@@ -112,7 +114,8 @@ value_at-append j (x ∷ xs) ys octets =
     ap (λ k. bit_xor (times_power k x) (value_at j (xs ++ ys))) place
     ∙ ap (λ k. bit_xor k (value_at j (xs ++ ys))) (times_power-add (j * m) (j * n) x)
     ∙ ap (bit_xor (times_power (j * m) (times_power (j * n) x))) (value_at-append j xs ys octets.1)
-    ∙ sym (xor_assoc (times_power (j * m) (times_power (j * n) x)) (times_power (j * m) (value_at j xs)) (value_at j ys))
+    ∙ sym (xor_assoc (times_power (j * m) (times_power (j * n) x)) (times_power (j * m) (value_at j xs))
+    (value_at j ys))
     ∙ ap (λ k. bit_xor k (value_at j ys)) (sym (times_power-xor (j * m) (times_power (j * n) x) (value_at j xs)
     (times_power-lt (j * n) x octets.0) (value_at-lt j xs octets.1)))
 

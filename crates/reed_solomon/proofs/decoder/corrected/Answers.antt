@@ -19,7 +19,8 @@ correct-requires c =
     let word = c.args.word.now in
     let now : c.as_mut_slice.result.now ≡ long code word =
     c.as_mut_slice.ensures.value ∙ c.whole_word-whole.ensures.items in
-    let syndromes : c.as_slice-2.result.now ≡ values_down c.as_slice.result.now c.first_root.result c.check_count.result =
+    let syndromes : c.as_slice-2.result.now
+    ≡ values_down c.as_slice.result.now c.first_root.result c.check_count.result =
     c.as_slice-2.ensures.value ∙ c.syndromes-syndromes.ensures in
     let size : length c.as_slice-2.result.now ≡ code.check_count =
     ap length syndromes ∙ length-values_down c.as_slice.result.now c.first_root.result c.check_count.result

@@ -26,6 +26,7 @@ returns-then-not-vanishes-clause-refused c = λ v within.
 pub returns-then-count-check_count-clause-refused : goal.returns-then-count-check_count-clause-refused
 returns-then-count-check_count-clause-refused c = λ v within.
     let word = c.args.word.now in
-    let taken : c.as_slice-2.result.now ≡ v = c.as_slice-2.ensures.value ∙ c.corrected-repaired.ensures.found v within in
+    let taken : c.as_slice-2.result.now ≡ v = c.as_slice-2.ensures.value
+    ∙ c.corrected-repaired.ensures.found v within in
     let count = c.distance-count.ensures.value ∙ ap (distance word) taken in
     absurd (omega (arith, within.near, count, c.check_count.ensures, c.if-count-check_count.true))

@@ -27,7 +27,8 @@ loop-octet-preserved c =
     let size = ap length c.generator-generator.ensures ∙ length-generator_of c.first_root.result c.check_count.result in
     let sizes : length c.loop-octet.register.items ≡ length g =
     omega (arith, size, c.loop-octet.invariant.count, c.check_count.ensures) in
-    let is = c.take.ensures ∙ ap (λ xs. taken xs c.loop-octet.register.items (get_or octets i 0)) c.as_slice.ensures.value in
+    let is = c.take.ensures ∙ ap (λ xs. taken xs c.loop-octet.register.items
+    (get_or octets i 0)) c.as_slice.ensures.value in
     record {
       register = is ∙ ap (λ r. taken g r (get_or octets i 0)) c.loop-octet.invariant.register
           ∙ sym (fold_more (taken g) start octets i 0 (omega arith));
