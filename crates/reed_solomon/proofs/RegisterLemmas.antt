@@ -85,7 +85,7 @@ length-register g r [] same some = same
 length-register g r (x ∷ xs) same some =
     length-register g (taken g r x) xs (length-taken g r x same some) some
 
-Octets-register : (g r xs : List ℕ) → length r ≡ length g → 0 < length g → Octets g → Octets r
+pub Octets-register : (g r xs : List ℕ) → length r ≡ length g → 0 < length g → Octets g → Octets r
     → Octets (fold (taken g) r xs)
 Octets-register g r [] same some g_octets octets = octets
 Octets-register g r (x ∷ xs) same some g_octets octets =
