@@ -1,18 +1,21 @@
 -- Words that differ in few octets.
-use Rattle.std.proofs.Common.{◌≡◌, ℕ, zero, suc, ◌+◌, ◌-◌, ◌*◌, ◌<◌, ◌≤◌, ◌==◌, cond, eqb, bit_xor, List, [], ◌∷◌, ◌++◌}
-use Rattle.std.proofs.Common.{length, take, drop, replicate, All, refl, ap, subst, ◌∙◌, sym, inl, inr, arith, length-append}
+use Rattle.std.proofs.Common.{◌≡◌, ℕ, zero, suc, ◌+◌, ◌-◌, ◌<◌, ◌≤◌, cond, eqb, bit_xor, List, [], ◌∷◌, ◌++◌}
+use Rattle.std.proofs.Common.{length, take, drop, replicate, All, refl, ap, subst, ◌∙◌, sym, inl, inr, arith}
+use Rattle.std.proofs.Common.{length-append}
 use Rattle.std.specs.Int.Bits.{xor_self}
 use Rattle.std.proofs.lemmas.Bool.{cases_eq, eq-eqb, ne_eqb}
-use Rattle.std.proofs.lemmas.List.{get_or_default, length-replicate, length-take, length-drop, take-append-drop, take_at, drop_at}
+use Rattle.std.proofs.lemmas.List.{get_or_default, length-replicate, length-take, length-drop, take-append-drop}
+use Rattle.std.proofs.lemmas.List.{take_at, drop_at}
 use Rattle.reed_solomon.specs.declared.code.Code.{Code}
 use Rattle.reed_solomon.specs.declared.code.Zeros.{Zeros}
 use Rattle.reed_solomon.specs.declared.code.Zeros.TheVariants.{Leading, Between}
-use Rattle.reed_solomon.specs.Codeword.{whole, with_zeros, ChecksOf, IsCodeword}
+use Rattle.reed_solomon.specs.Codeword.{whole, with_zeros, ChecksOf, IsCodeword, IsWithinReach}
 use Rattle.reed_solomon.specs.Distance.{distance}
 use Rattle.reed_solomon.specs.Register.{added}
 use Rattle.reed_solomon.specs.Values.{value_at, Vanishes}
 use Rattle.reed_solomon.proofs.FieldLemmas.{same_from_xor}
-use Rattle.reed_solomon.proofs.ValueLemmas.{Octets, Octets-append, Octets-added, Octets-replicate, length-added, octets_from, octet_at}
+use Rattle.reed_solomon.proofs.ValueLemmas.{Octets, Octets-append, Octets-added, Octets-replicate, length-added}
+use Rattle.reed_solomon.proofs.ValueLemmas.{octets_from, octet_at}
 use Rattle.reed_solomon.proofs.ValueLemmas.{value_at-added, weight}
 use Rattle.reed_solomon.proofs.Vandermonde.{few_zeros}
 
@@ -84,7 +87,8 @@ pub distance-push : (xs ys : List ℕ) (x y : ℕ) → length xs ≡ length ys
     → distance (xs ++ x ∷ []) (ys ++ y ∷ []) ≡ distance xs ys + cond (eqb x y) 0 1
 distance-push xs ys x y size =
     distance-append xs (x ∷ []) ys (y ∷ []) size
-    ∙ ap (λ n. distance xs ys + n) (distance-cons x y [] [] ∙ ap (λ n. cond (eqb x y) 0 1 + n) distance_nil ∙ omega arith)
+    ∙ ap (λ n. distance xs ys + n) (distance-cons x y [] [] ∙ ap (λ n. cond (eqb x y) 0 1 + n) distance_nil
+    ∙ omega arith)
 
 pub distance-refl : (xs : List ℕ) → distance xs xs ≡ 0
 unfolding distance
@@ -161,7 +165,8 @@ pub apart : (code : Code) (xs ys check other : List ℕ) → Octets xs → Octet
     → length xs ≡ length ys → length xs + code.check_count ≤ 255 → length check ≡ code.check_count
     → length other ≡ code.check_count → ChecksOf code xs check → ChecksOf code ys other
     → distance xs ys + distance check other ≤ code.check_count → distance xs ys + distance check other ≡ 0
-apart code xs ys check other xs_octets ys_octets check_octets other_octets size short check_size other_size is other_is near =
+apart code xs ys check other xs_octets ys_octets check_octets other_octets size short check_size other_size is other_is
+    near =
     let law = distance-whole code xs ys check other size in
     sym law ∙ one_list code.first_root code.check_count (whole code xs check) (whole code ys other)
     (length-whole code xs check short check_size ∙ sym (length-whole code ys other (omega arith) other_size))
@@ -222,7 +227,89 @@ pub one_check : (code : Code) (xs check other : List ℕ) → Octets xs → Octe
     → IsCodeword code (xs ++ check) → IsCodeword code (xs ++ other) → check ≡ other
 one_check code xs check other xs_octets check_octets other_octets check_size other_size short is other_is =
     let same = distance-refl xs in
-    let none = apart code xs xs check other xs_octets xs_octets check_octets other_octets refl short check_size other_size
+    let none = apart code xs xs check other xs_octets xs_octets check_octets other_octets refl short check_size
+    other_size
     ((codeword_parts code (ChecksOf code) xs check check_size).0 is)
     ((codeword_parts code (ChecksOf code) xs other other_size).0 other_is) (omega (arith, distance-le check other)) in
     same_from_distance check other (check_size ∙ sym other_size) (omega arith)
+
+abbrev nothing : ℕ
+nothing = 0
+
+abbrev single : ℕ
+single = 1
+
+distance-comm : (xs ys : List ℕ) → distance xs ys ≡ distance ys xs
+unfolding distance
+distance-comm [] [] = refl
+distance-comm [] (y ∷ ys) = refl
+distance-comm (x ∷ xs) [] = refl
+distance-comm (x ∷ xs) (y ∷ ys) =
+    elim (cases_eq x y) [
+      | inl same ↦
+          ap (λ n. distance (x ∷ xs) (n ∷ ys)) (sym same) ∙ distance-same x xs ys ∙ distance-comm xs ys
+          ∙ sym (distance-same x ys xs) ∙ ap (λ n. distance (n ∷ ys) (x ∷ xs)) same
+      | inr other ↦
+          distance-other x y xs ys other ∙ ap suc (distance-comm xs ys)
+          ∙ sym (distance-other y x ys xs (λ e. other (sym e)))
+    ]
+
+-- what the first octets add
+differs : ℕ → ℕ → ℕ
+differs x y = cond (eqb x y) 0 1
+
+differs-same : (x y : ℕ) → x ≡ y → differs x y ≡ 0
+unfolding differs
+differs-same x y same = ap (λ t. cond t nothing single) (eq-eqb x y same)
+
+differs-other : (x y : ℕ) → (x ≡ y → ⊥) → differs x y ≡ 1
+unfolding differs
+differs-other x y other = ap (λ t. cond t nothing single) (ne_eqb x y other)
+
+differs-le : (x y : ℕ) → differs x y ≤ 1
+differs-le x y =
+    elim (cases_eq x y) [
+      | inl same ↦ omega (arith, differs-same x y same)
+      | inr other ↦ omega (arith, differs-other x y other)
+    ]
+
+distance-differs : (x y : ℕ) (xs ys : List ℕ) → distance (x ∷ xs) (y ∷ ys) ≡ differs x y + distance xs ys
+unfolding differs
+distance-differs x y xs ys = distance-cons x y xs ys
+
+-- The way over another list is no shorter.
+pub distance-triangle : (xs ys zs : List ℕ) → length xs ≡ length ys → length ys ≡ length zs
+    → distance xs zs ≤ distance xs ys + distance ys zs
+distance-triangle [] [] [] first second = omega (arith, distance_nil)
+distance-triangle [] [] (z ∷ zs) first second = absurd (omega arith)
+distance-triangle [] (y ∷ ys) zs first second = absurd (omega arith)
+distance-triangle (x ∷ xs) [] zs first second = absurd (omega arith)
+distance-triangle (x ∷ xs) (y ∷ ys) [] first second = absurd (omega arith)
+distance-triangle (x ∷ xs) (y ∷ ys) (z ∷ zs) first second =
+    let rest = distance-triangle xs ys zs (omega arith) (omega arith) in
+    let a = distance-differs x y xs ys in
+    let b = distance-differs y z ys zs in
+    let c = distance-differs x z xs zs in
+    elim (cases_eq x y) [
+      | inl same ↦
+          elim (cases_eq y z) [
+            | inl later ↦ omega (arith, rest, a, b, c, differs-same x z (same ∙ later))
+            | inr other ↦ omega (arith, rest, a, b, c, differs-le x z, differs-other y z other)
+          ]
+      | inr other ↦ omega (arith, rest, a, b, c, differs-le x z, differs-other x y other)
+    ]
+
+-- One codeword at most is within reach of a word.
+pub one_within_reach : (code : Code) (word u v : List ℕ) → code.check_count ≤ length word → length word ≤ 255
+    → IsWithinReach code word u → IsWithinReach code word v → u ≡ v
+one_within_reach code word u v least most u_within v_within =
+    codewords_apart code u v (octets_of_all u u_within.octets) (octets_of_all v v_within.octets)
+    (u_within.size ∙ sym v_within.size) (omega (arith, u_within.size)) (omega (arith, u_within.size))
+    u_within.codeword v_within.codeword
+    (omega (
+      arith,
+      distance-triangle u word v u_within.size (sym v_within.size),
+      distance-comm u word,
+      u_within.near,
+      v_within.near,
+    ))

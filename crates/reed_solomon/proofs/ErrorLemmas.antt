@@ -1,21 +1,24 @@
 -- Where a word is wrong, and by how much.
-use Rattle.std.proofs.Common.{◌≡◌, ◌≢◌, ℕ, zero, suc, ◌+◌, ◌-◌, ◌*◌, ◌<◌, ◌≤◌, Bool, true, false, cond, eqb, bit_xor, List, [], ◌∷◌, length}
+use Rattle.std.proofs.Common.{◌≡◌, ◌≢◌, ℕ, zero, suc, ◌+◌, ◌-◌, ◌*◌, ◌<◌, ◌≤◌, Bool, true, false, cond, eqb, bit_xor}
+use Rattle.std.proofs.Common.{List, [], ◌∷◌, length}
 use Rattle.std.proofs.Common.{get_or, take, drop, refl, ap, subst, ◌∙◌, sym, inl, inr, arith}
 use Rattle.std.specs.Int.Bits.{xor_zero_r}
 use Rattle.std.proofs.lemmas.Bool.{cases_eq, eq-eqb, ne_eqb}
-use Rattle.std.proofs.lemmas.List.{length-take, get_or_default}
+use Rattle.std.proofs.lemmas.List.{length-take}
 use Rattle.reed_solomon.specs.Field.{times_power}
 use Rattle.reed_solomon.specs.Values.{value_at, Vanishes}
 use Rattle.reed_solomon.specs.Product.{product}
-use Rattle.reed_solomon.specs.Distance.{distance}
 use Rattle.reed_solomon.specs.Register.{added}
 use Rattle.reed_solomon.specs.Kernel.{dot, values_down, octet_before, IsWrong}
-use Rattle.reed_solomon.proofs.FieldLemmas.{times_power-lt, times_power-add, times_power_rounds, product-lt, zero-product, product-zero, power_of_zero}
-use Rattle.reed_solomon.proofs.FieldLemmas.{product_comm, product_assoc, product-one, xor_twice}
-use Rattle.reed_solomon.proofs.ValueLemmas.{Octets, Octets-added, length-added, get_or-added, value_at-lt, value_at-added, weight}
+use Rattle.reed_solomon.proofs.FieldLemmas.{times_power-add, times_power_rounds, product-lt, zero-product}
+use Rattle.reed_solomon.proofs.FieldLemmas.{product-zero, power_of_zero}
+use Rattle.reed_solomon.proofs.FieldLemmas.{product_comm, product_assoc, product-one}
+use Rattle.reed_solomon.proofs.ValueLemmas.{Octets, Octets-added, length-added, get_or-added, value_at-lt}
+use Rattle.reed_solomon.proofs.ValueLemmas.{value_at-added, weight}
 use Rattle.reed_solomon.proofs.Vandermonde.{few_zeros}
 use Rattle.reed_solomon.proofs.DistanceLemmas.{weight-added, octets_of_all}
-use Rattle.reed_solomon.proofs.ScaledLemmas.{scaled, length-scaled, Octets-scaled, dot-values_down, weight-scaled, zero_at_octet}
+use Rattle.reed_solomon.proofs.ScaledLemmas.{scaled, length-scaled, Octets-scaled, dot-values_down, weight-scaled}
+use Rattle.reed_solomon.proofs.ScaledLemmas.{zero_at_octet}
 use Rattle.reed_solomon.proofs.ScaledLemmas.{IsAloneAt, value_at-alone}
 use Rattle.reed_solomon.proofs.KernelLemmas.{dot-take}
 
@@ -183,7 +186,8 @@ pub errors_at_roots : (first most : ℕ) (syndromes word v k : List ℕ) (roots 
     → ((p : ℕ) → p < 255 → get_or roots p false ≡ eqb (value_at p (take (most + 1) k)) 0)
     → IsWrong first (length syndromes) word v
     → (q : ℕ) → q < 255 → octet_before q (added word v) ≢ 0 → get_or roots q false ≡ true
-errors_at_roots first most syndromes word v k roots k_size l_octets octets size even low is met roots_are wrong q below some =
+errors_at_roots first most syndromes word v k roots k_size l_octets octets size even low is met are_roots wrong q below
+    some =
     let v_octets = octets_of_all v wrong.octets in
     let errors = added word v in
     let l = take (most + 1) k in
@@ -194,7 +198,7 @@ errors_at_roots first most syndromes word v k roots k_size l_octets octets size 
     λ i inside. dot-take (most + 1) k (take (most + 1) (drop i (values_down errors first (2 * most))))
     (omega (arith, length-take (most + 1) (drop i (values_down errors first (2 * most)))))
     ∙ ap (λ xs. dot k (take (most + 1) (drop i xs))) (sym same) ∙ met i inside in
-    roots_are q below
+    are_roots q below
     ∙ eq-eqb (value_at q l) 0 (zero_at_errors first most l errors (omega (arith, length-take (most + 1) k)) l_octets
     (Octets-added word v octets v_octets) (omega (arith, errors_size))
     (omega (arith, errors_near first (length syndromes) word v wrong)) met_l q (omega (arith, errors_size)) some)

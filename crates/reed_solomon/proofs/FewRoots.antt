@@ -1,14 +1,14 @@
 -- A list that is not 0 has fewer zeros than coefficients: it is divided by the difference to one zero after another, as
 -- Horner does.
-use Rattle.std.proofs.Common.{◌≡◌, ℕ, zero, suc, ◌+◌, ◌*◌, ◌<◌, ◌≤◌, ◌≢◌, cond, eqb, bit_xor, List, [], ◌∷◌, length, refl}
-use Rattle.std.proofs.Common.{ap, subst, ◌∙◌, sym, inl, inr, arith}
-use Rattle.std.specs.Int.Bits.{xor_zero_l, xor_zero_r, xor_self, xor_assoc}
+use Rattle.std.proofs.Common.{◌≡◌, ℕ, zero, suc, ◌+◌, ◌*◌, ◌<◌, ◌≤◌, cond, eqb, bit_xor, List, [], ◌∷◌, length, refl}
+use Rattle.std.proofs.Common.{ap, ◌∙◌, sym, inl, inr, arith}
+use Rattle.std.specs.Int.Bits.{xor_zero_l, xor_assoc}
 use Rattle.std.proofs.lemmas.Bool.{cases_eq, eq-eqb, ne_eqb}
-use Rattle.std.proofs.lemmas.Nat.{xor_comm, xor_of_8}
+use Rattle.std.proofs.lemmas.Nat.{xor_of_8}
 use Rattle.reed_solomon.specs.Field.{times_power}
 use Rattle.reed_solomon.specs.Values.{value_at}
 use Rattle.reed_solomon.proofs.FieldLemmas.{xor_pairs, same_from_xor, times_power-lt, times_power-zero, times_power-xor}
-use Rattle.reed_solomon.proofs.FieldLemmas.{times_power-add, times_power_comm, same_power, xor_twice}
+use Rattle.reed_solomon.proofs.FieldLemmas.{times_power-add, same_power, xor_twice}
 use Rattle.reed_solomon.proofs.ValueLemmas.{Octets, value_at-lt, value_at-zero, weight}
 use Rattle.reed_solomon.proofs.GeneratorLemmas.{value_at-cons, value_at-single}
 use Rattle.reed_solomon.proofs.DistanceLemmas.{weight-zero, weight-some}
@@ -52,7 +52,8 @@ joined : (r p a b : ℕ) (bs : List ℕ) → a < 256 → b < 256 → Octets bs
 joined r p a b bs a_fits b_fits octets =
     let n = length bs in
     value_at-cons r (bit_xor (times_power p a) b) bs
-    ∙ ap (λ m. bit_xor m (value_at r bs)) (times_power-xor (r * n) (times_power p a) b (times_power-lt p a a_fits) b_fits)
+    ∙ ap (λ m. bit_xor m (value_at r bs)) (times_power-xor (r * n) (times_power p a) b
+    (times_power-lt p a a_fits) b_fits)
     ∙ xor_assoc (times_power (r * n) (times_power p a)) (times_power (r * n) b) (value_at r bs)
     ∙ ap (λ m. bit_xor m (bit_xor (times_power (r * n) b) (value_at r bs))) (sym (times_power-add (r * n) p a))
     ∙ ap (bit_xor (times_power (r * n + p) a)) (sym (value_at-cons r b bs))

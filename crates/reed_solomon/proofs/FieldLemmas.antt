@@ -1,10 +1,10 @@
 -- The field's laws: doubling is linear, and the powers of 2 are all octets but 0.
-use Rattle.std.proofs.Common.{◌≡◌, ℕ, zero, suc, ◌+◌, ◌-◌, ◌*◌, ◌/◌, ◌%◌, ◌^◌, ◌<◌, ◌≤◌, Bool, true, false}
+use Rattle.std.proofs.Common.{◌≡◌, ℕ, zero, suc, ◌+◌, ◌-◌, ◌*◌, ◌/◌, ◌%◌, ◌^◌, ◌<◌, ◌≤◌, Bool, true}
 use Rattle.std.proofs.Common.{◌&&◌, cond, eqb, ltb, bit_xor, List, [], ◌∷◌, length, get_or, drop, refl, ap, subst}
 use Rattle.std.proofs.Common.{◌∙◌, sym}
 use Rattle.std.proofs.Common.{inl, inr, arith}
 use Rattle.std.specs.Int.Bits.{xor_zero_l, xor_zero_r, xor_self, xor_assoc}
-use Rattle.std.proofs.lemmas.Bool.{cases_lt, cases_eq, lt-ltb, le-ltb, eq-eqb, ne_eqb, eqb-true, ltb-true}
+use Rattle.std.proofs.lemmas.Bool.{cases_lt, lt-ltb, le-ltb, eqb-true, ltb-true}
 use Rattle.std.proofs.lemmas.Bool.{and_parts}
 use Rattle.std.proofs.lemmas.Nat.{xor_block, xor_comm, xor_lt, xor_of_8}
 use Rattle.reed_solomon.specs.Field.{double, times_power, power}
@@ -262,7 +262,8 @@ power_of_zero a = refl
 pub zero_from_times_power : (i a : ℕ) → a < 256 → times_power i a ≡ 0 → a ≡ 0
 zero_from_times_power i a fits none =
     let round : i * 255 + 0 ≡ 254 * i + i = omega arith in
-    sym (times_power_rounds i 0 a fits ∙ power_of_zero a) ∙ ap (λ n. times_power n a) round ∙ times_power-add (254 * i) i a
+    sym (times_power_rounds i 0 a fits ∙ power_of_zero a) ∙ ap (λ n. times_power n a) round
+    ∙ times_power-add (254 * i) i a
     ∙ ap (times_power (254 * i)) none ∙ times_power-zero (254 * i)
 
 -- the same product of one octet comes of one power

@@ -1,5 +1,5 @@
 -- The generator is 0 at each root of its code.
-use Rattle.std.proofs.Common.{◌≡◌, ℕ, zero, suc, ◌+◌, ◌*◌, ◌<◌, ◌≤◌, bit_xor, List, [], ◌∷◌, ◌++◌, length, map, refl, ap}
+use Rattle.std.proofs.Common.{◌≡◌, ℕ, zero, suc, ◌+◌, ◌*◌, ◌<◌, bit_xor, List, [], ◌∷◌, ◌++◌, length, map, refl, ap}
 use Rattle.std.proofs.Common.{◌∙◌, sym, inl, inr, arith, length-append}
 use Rattle.std.specs.Int.Bits.{xor_zero_r, xor_self, xor_assoc}
 use Rattle.std.proofs.lemmas.Bool.{cases_lt}
@@ -8,9 +8,10 @@ use Rattle.reed_solomon.specs.Field.{times_power, power}
 use Rattle.reed_solomon.specs.Values.{value_at, Vanishes}
 use Rattle.reed_solomon.specs.Product.{product}
 use Rattle.reed_solomon.specs.Register.{added, with_root, generator_of}
-use Rattle.reed_solomon.proofs.FieldLemmas.{times_power-lt, times_power-zero, product-zero, power-product}
-use Rattle.reed_solomon.proofs.ValueLemmas.{Octets, Octets-append, Octets-added, Octets-product, length-added, value_at-lt}
-use Rattle.reed_solomon.proofs.ValueLemmas.{value_at-added, value_at-product, value_at-append, value_at-zero}
+use Rattle.reed_solomon.proofs.FieldLemmas.{times_power-zero, product-zero, power-product}
+use Rattle.reed_solomon.proofs.ValueLemmas.{Octets, Octets-append, Octets-added, Octets-product, length-added}
+use Rattle.reed_solomon.proofs.ValueLemmas.{value_at-lt}
+use Rattle.reed_solomon.proofs.ValueLemmas.{value_at-added, value_at-product, value_at-append}
 
 pub value_at-single : (j x : ℕ) → value_at j (x ∷ []) ≡ x
 unfolding value_at times_power
@@ -27,7 +28,8 @@ value_at-push j x xs octets =
     ∙ ap (λ n. bit_xor (times_power n (value_at j xs)) (value_at j (x ∷ []))) one
     ∙ ap (bit_xor (times_power j (value_at j xs))) (value_at-single j x)
 
-pub value_at-cons : (j x : ℕ) (xs : List ℕ) → value_at j (x ∷ xs) ≡ bit_xor (times_power (j * length xs) x) (value_at j xs)
+pub value_at-cons : (j x : ℕ) (xs : List ℕ) → value_at j (x ∷ xs) ≡ bit_xor (times_power (j * length xs) x)
+    (value_at j xs)
 unfolding value_at
 value_at-cons j x xs = refl
 
@@ -64,7 +66,8 @@ value_at-with_root j root rest octets =
     with_root_is root rest (λ xs. value_at j xs)
     ∙ value_at-added j shifted scaled same wide (Octets-product root (1 ∷ rest) all) in
     value_at-cons j 1 (with_root root rest)
-    ∙ ap (λ n. bit_xor (times_power (j * n) 1) (value_at j (with_root root rest))) (length-with_root root rest ∙ sym size)
+    ∙ ap (λ n. bit_xor (times_power (j * n) 1) (value_at j (with_root root rest))) (length-with_root root rest
+    ∙ sym size)
     ∙ ap (bit_xor (times_power (j * length shifted) 1)) split
     ∙ sym (xor_assoc (times_power (j * length shifted) 1) (value_at j shifted) (value_at j scaled))
     ∙ ap (λ n. bit_xor n (value_at j scaled)) (sym (value_at-cons j 1 shifted) ∙ value_at-push j 0 (1 ∷ rest) all

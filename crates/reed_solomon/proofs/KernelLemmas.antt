@@ -1,6 +1,6 @@
 -- The rows of the kernel.
-use Rattle.std.proofs.Common.{◌≡◌, ℕ, zero, suc, ◌+◌, ◌*◌, ◌<◌, ◌≤◌, ◌≢◌, cond, eqb, bit_xor, List, [], ◌∷◌, ◌++◌, length}
-use Rattle.std.proofs.Common.{get_or, map, set, take, replicate, All, refl, ap, subst, ◌∙◌, sym, inl, inr, arith}
+use Rattle.std.proofs.Common.{◌≡◌, ℕ, zero, suc, ◌<◌, ◌≤◌, ◌≢◌, cond, eqb, bit_xor, List, [], ◌∷◌, ◌++◌, length}
+use Rattle.std.proofs.Common.{get_or, map, set, take, replicate, All, refl, ap, ◌∙◌, sym, inl, inr, arith}
 use Rattle.std.specs.Int.Bits.{xor_zero_l, xor_zero_r, xor_self, xor_assoc}
 use Rattle.std.proofs.lemmas.Bool.{cases_eq, eq-eqb, ne_eqb}
 use Rattle.std.proofs.lemmas.List.{length-map, get_or-set_same, get_or-set_other}
@@ -8,10 +8,10 @@ use Rattle.std.proofs.lemmas.Nat.{xor_of_8}
 use Rattle.reed_solomon.specs.Product.{product}
 use Rattle.reed_solomon.specs.Register.{added}
 use Rattle.reed_solomon.specs.Kernel.{dot, row, IsBasis, Meet, IsMultiple, AddsMultiple}
-use Rattle.reed_solomon.proofs.FieldLemmas.{xor_pairs, product-lt, product-zero, zero-product, product-xor, product_assoc}
-use Rattle.reed_solomon.proofs.FieldLemmas.{product_comm, product-one, xor-product}
+use Rattle.reed_solomon.proofs.FieldLemmas.{xor_pairs, product-lt, product-zero, product-xor, product_assoc}
+use Rattle.reed_solomon.proofs.FieldLemmas.{product-one, xor-product}
 use Rattle.reed_solomon.proofs.DistanceLemmas.{octets_of_all}
-use Rattle.reed_solomon.proofs.ValueLemmas.{Octets, Octets-product, length-added, get_or-added}
+use Rattle.reed_solomon.proofs.ValueLemmas.{Octets, Octets-product, get_or-added}
 
 pub dot-lt : (xs ys : List ℕ) → Octets ys → dot xs ys < 256
 unfolding dot
@@ -135,7 +135,8 @@ pub record Cleared (old new : List (List ℕ)) (k last : ℕ) (pivot equation : 
   pub multiple : IsMultiple (row old k) pivot
   pub rows : (m : ℕ) → m < last → AddsMultiple pivot (row old (source k last m)) (row new m)
 
-module _ {old new : List (List ℕ)} {k last : ℕ} {pivot equation : List ℕ} (cleared : Cleared old new k last pivot equation) where
+module _ {old new : List (List ℕ)} {k last : ℕ} {pivot equation : List ℕ}
+    (cleared : Cleared old new k last pivot equation) where
   pub cleared-stays : (other : List ℕ) → All (λ x. x < 256) other → Meet old (suc last) other → Meet new last other
   cleared-stays other octets met = λ m below.
       (cleared.rows m below).in_equation other octets (cleared.multiple.in_equation other octets

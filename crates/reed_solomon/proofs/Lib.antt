@@ -10,3 +10,4 @@ pub mod KernelLemmas
 pub mod RootLemmas
 pub mod ErrorLemmas
 pub mod WordLemmas
+mod Examples

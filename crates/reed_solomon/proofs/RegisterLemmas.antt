@@ -1,7 +1,7 @@
 -- The register of the check octets: at each root of the generator its value is that of the octets so far, times the
 -- power of as many places as it has.
-use Rattle.std.proofs.Common.{◌≡◌, ℕ, zero, suc, ◌+◌, ◌*◌, ◌<◌, ◌≤◌, bit_xor, List, [], ◌∷◌, ◌++◌, length, map, drop}
-use Rattle.std.proofs.Common.{take, replicate, get_or, refl, ap, ◌∙◌, sym, arith, length-append}
+use Rattle.std.proofs.Common.{◌≡◌, ℕ, zero, suc, ◌+◌, ◌*◌, ◌<◌, bit_xor, List, [], ◌∷◌, ◌++◌, length, map, drop}
+use Rattle.std.proofs.Common.{replicate, refl, ap, ◌∙◌, sym, arith, length-append}
 use Rattle.std.specs.List.{fold, refill}
 use Rattle.std.specs.Int.Bits.{xor_zero_r, xor_self, xor_assoc}
 use Rattle.std.proofs.lemmas.List.{length-map, length-replicate, take_at, append_assoc, append-nil}
@@ -12,11 +12,13 @@ use Rattle.reed_solomon.specs.Codeword.{with_zeros}
 use Rattle.reed_solomon.specs.Field.{times_power}
 use Rattle.reed_solomon.specs.Values.{value_at}
 use Rattle.reed_solomon.specs.Product.{product}
-use Rattle.reed_solomon.specs.Register.{added, taken, zeros_after}
-use Rattle.reed_solomon.proofs.FieldLemmas.{times_power-lt, times_power-zero, times_power-xor, times_power-add, times_power_comm}
-use Rattle.reed_solomon.proofs.FieldLemmas.{product-times_power, product-one, same_from_xor, xor_twice}
+use Rattle.reed_solomon.specs.Register.{taken, zeros_after}
+use Rattle.reed_solomon.proofs.FieldLemmas.{times_power-lt, times_power-zero, times_power-xor, times_power-add}
+use Rattle.reed_solomon.proofs.FieldLemmas.{times_power_comm}
+use Rattle.reed_solomon.proofs.FieldLemmas.{product-times_power, product-one, same_from_xor}
 use Rattle.reed_solomon.proofs.ValueLemmas.{Octets, Octets-append, Octets-added, Octets-product, Octets-replicate}
-use Rattle.reed_solomon.proofs.ValueLemmas.{length-added, value_at-lt, value_at-added, value_at-product, value_at-append}
+use Rattle.reed_solomon.proofs.ValueLemmas.{length-added, value_at-lt, value_at-added, value_at-product}
+use Rattle.reed_solomon.proofs.ValueLemmas.{value_at-append}
 use Rattle.reed_solomon.proofs.ValueLemmas.{value_at-zeros, value_at-zero}
 use Rattle.reed_solomon.proofs.GeneratorLemmas.{value_at-push, value_at-cons}
 
@@ -83,7 +85,7 @@ length-register g r [] same some = same
 length-register g r (x ∷ xs) same some =
     length-register g (taken g r x) xs (length-taken g r x same some) some
 
-Octets-register : (g r xs : List ℕ) → length r ≡ length g → 0 < length g → Octets g → Octets r
+pub Octets-register : (g r xs : List ℕ) → length r ≡ length g → 0 < length g → Octets g → Octets r
     → Octets (fold (taken g) r xs)
 Octets-register g r [] same some g_octets octets = octets
 Octets-register g r (x ∷ xs) same some g_octets octets =
@@ -124,8 +126,10 @@ register_checks j g xs some g_octets octets root =
     let zeros : value_at j (replicate c 0) ≡ times_power (j * c) (value_at j []) =
     value_at-zeros j c ∙ sym (ap (times_power (j * c)) (value_at-zeros j 0) ∙ times_power-zero (j * c)) in
     value_at-append j xs r octets
-    ∙ ap (λ n. bit_xor (times_power (j * n) (value_at j xs)) (value_at j r)) (length-register g (replicate c 0) xs start some)
-    ∙ ap (bit_xor v) (value_at-register j g (replicate c 0) [] xs start some g_octets (Octets-replicate c) tt octets root
+    ∙ ap (λ n. bit_xor (times_power (j * n) (value_at j xs)) (value_at j r)) (length-register g
+    (replicate c 0) xs start some)
+    ∙ ap (bit_xor v) (value_at-register j g (replicate c 0) [] xs start some g_octets
+    (Octets-replicate c) tt octets root
     zeros) ∙ xor_self v
 
 -- zeros in front add nothing

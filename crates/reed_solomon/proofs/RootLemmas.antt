@@ -1,12 +1,11 @@
 -- The polynomial with all roots but one, and how many roots there are.
-use Rattle.std.proofs.Common.{◌≡◌, ◌≢◌, ℕ, zero, suc, ◌+◌, ◌*◌, ◌<◌, ◌≤◌, Bool, true, false, cond, eqb, bit_xor, List, []}
-use Rattle.std.proofs.Common.{◌∷◌, ◌++◌, length, get_or, take, drop, refl, ap, subst, ◌∙◌, sym, inl, inr, arith, take_all}
+use Rattle.std.proofs.Common.{◌≡◌, ◌≢◌, ℕ, zero, suc, ◌+◌, ◌<◌, ◌≤◌, Bool, true, false, cond, eqb, bit_xor, List, []}
+use Rattle.std.proofs.Common.{◌∷◌, ◌++◌, length, get_or, take, refl, ap, ◌∙◌, sym, inl, inr, arith, take_all}
 use Rattle.std.specs.Int.Bits.{xor_self}
-use Rattle.std.proofs.lemmas.Bool.{cases_lt, cases_eq, cases_Bool}
+use Rattle.std.proofs.lemmas.Bool.{cases_lt}
 use Rattle.std.proofs.lemmas.List.{take_more, length-take, get_or-take}
 use Rattle.reed_solomon.specs.Field.{times_power, power}
 use Rattle.reed_solomon.specs.Values.{value_at}
-use Rattle.reed_solomon.specs.Product.{product}
 use Rattle.reed_solomon.specs.Register.{with_root}
 use Rattle.reed_solomon.specs.Kernel.{count_true}
 use Rattle.reed_solomon.proofs.FieldLemmas.{same_from_xor, times_power-zero, power-product, same_power}
@@ -58,7 +57,8 @@ count_true-take (suc n) (x ∷ xs) = omega (arith, count_true-take n xs)
 
 pub count_true_more : (xs : List Bool) (i : ℕ) → i < length xs
     → count_true (take (i + 1) xs) ≡ count_true (take i xs) + cond (get_or xs i false) 1 0
-count_true_more xs i below = ap count_true (take_more xs i false below) ∙ count_true-push (take i xs) (get_or xs i false)
+count_true_more xs i below = ap count_true (take_more xs i false below)
+    ∙ count_true-push (take i xs) (get_or xs i false)
 
 -- a root counts one more
 pub count_true_root : (xs : List Bool) (i : ℕ) → i < length xs → get_or xs i false ≡ true

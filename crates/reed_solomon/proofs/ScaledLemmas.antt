@@ -1,15 +1,16 @@
--- The sum of a list's coefficients times the values of a word is a value of the word scaled: each octet times the list's
+-- The sum of a list's coefficients times the values of a word is a value of the word scaled: each octet times the
+-- list's
 -- value at the octet's own point. Two sums change places, and nothing else happens.
-use Rattle.std.proofs.Common.{◌≡◌, ℕ, zero, suc, ◌+◌, ◌-◌, ◌*◌, ◌<◌, ◌≤◌, ◌≢◌, cond, eqb, bit_xor, List, [], ◌∷◌, length}
-use Rattle.std.proofs.Common.{get_or, take, drop, refl, ap, subst, ◌∙◌, sym, inl, inr, arith}
-use Rattle.std.specs.Int.Bits.{xor_zero_l, xor_zero_r, xor_self}
+use Rattle.std.proofs.Common.{◌≡◌, ℕ, zero, suc, ◌+◌, ◌*◌, ◌<◌, ◌≤◌, ◌≢◌, cond, bit_xor, List, [], ◌∷◌, length}
+use Rattle.std.proofs.Common.{refl, ap, ◌∙◌, sym, inl, inr, arith}
+use Rattle.std.specs.Int.Bits.{xor_zero_l, xor_zero_r}
 use Rattle.std.proofs.lemmas.Bool.{cases_eq, eq-eqb, ne_eqb}
 use Rattle.reed_solomon.specs.Field.{times_power}
 use Rattle.reed_solomon.specs.Values.{value_at}
 use Rattle.reed_solomon.specs.Product.{product}
 use Rattle.reed_solomon.specs.Register.{added}
 use Rattle.reed_solomon.specs.Kernel.{dot, values_down, octet_before}
-use Rattle.reed_solomon.proofs.FieldLemmas.{times_power-lt, times_power-zero, times_power-xor, times_power-add}
+use Rattle.reed_solomon.proofs.FieldLemmas.{times_power-lt, times_power-zero, times_power-add}
 use Rattle.reed_solomon.proofs.FieldLemmas.{product-lt, product-zero, zero-product, product-xor, product-times_power}
 use Rattle.reed_solomon.proofs.FieldLemmas.{product_comm, zero_from_product}
 use Rattle.reed_solomon.proofs.ValueLemmas.{Octets, value_at-lt, value_at-added, weight}
@@ -71,7 +72,8 @@ value_at-scaled_by_power j a n (x ∷ xs) fits octets =
     let place : j * k + k * n ≡ (j + n) * k = omega arith in
     let rest = value_at j (scaled_by_power a n xs) in
     let part : times_power (j * k) (product x (times_power (k * n) a)) ≡ product a (times_power ((j + n) * k) x) =
-    ap (times_power (j * k)) (product-times_power x (k * n) a ∙ ap (times_power (k * n)) (product_comm x a octets.0 fits))
+    ap (times_power (j * k)) (product-times_power x (k * n) a
+    ∙ ap (times_power (k * n)) (product_comm x a octets.0 fits))
     ∙ sym (times_power-add (j * k) (k * n) (product a x)) ∙ ap (λ m. times_power m (product a x)) place
     ∙ sym (product-times_power a ((j + n) * k) x) in
     ap (λ m. bit_xor (times_power (j * m) (product x (times_power (k * n) a))) rest) (length-scaled_by_power a n xs)

@@ -1,8 +1,7 @@
 -- Values of polynomials: sums, products, and lists put together.
-use Rattle.std.proofs.Common.{◌≡◌, ℕ, zero, suc, ◌+◌, ◌-◌, ◌*◌, ◌<◌, ◌≤◌, cond, eqb, bit_xor, List, [], ◌∷◌, ◌++◌}
-use Rattle.std.proofs.Common.{length, get_or, map, replicate, refl, ap, subst, ◌∙◌, sym, inl, inr, arith, length-append}
-use Rattle.std.specs.Int.Bits.{xor_zero_l, xor_zero_r, xor_self, xor_assoc}
-use Rattle.std.proofs.lemmas.Bool.{cases_eq, eq-eqb, ne_eqb}
+use Rattle.std.proofs.Common.{◌≡◌, ℕ, zero, suc, ◌+◌, ◌*◌, ◌<◌, bit_xor, List, [], ◌∷◌, ◌++◌}
+use Rattle.std.proofs.Common.{length, get_or, map, replicate, refl, ap, ◌∙◌, sym, arith, length-append}
+use Rattle.std.specs.Int.Bits.{xor_zero_l, xor_assoc}
 use Rattle.std.proofs.lemmas.List.{length-map}
 use Rattle.std.proofs.lemmas.Nat.{xor_of_8}
 use Rattle.reed_solomon.specs.Field.{times_power}
@@ -10,7 +9,7 @@ use Rattle.reed_solomon.specs.Values.{value_at}
 use Rattle.reed_solomon.specs.Product.{product}
 use Rattle.reed_solomon.specs.Register.{added}
 use Rattle.reed_solomon.proofs.FieldLemmas.{xor_pairs, times_power-lt, times_power-zero, times_power-xor}
-use Rattle.reed_solomon.proofs.FieldLemmas.{times_power-add, times_power_comm, product-lt, product-zero, product-xor}
+use Rattle.reed_solomon.proofs.FieldLemmas.{times_power-add, product-lt, product-zero, product-xor}
 use Rattle.reed_solomon.proofs.FieldLemmas.{product-times_power}
 
 -- each element is an octet
@@ -73,9 +72,11 @@ value_at-added j (x ∷ xs) (y ∷ ys) same left right =
     let n = length xs in
     ap (λ m. bit_xor (times_power (j * m) (bit_xor x y)) (value_at j (added xs ys))) (length-added xs ys rest)
     ∙ ap (λ m. bit_xor m (value_at j (added xs ys))) (times_power-xor (j * n) x y left.0 right.0)
-    ∙ ap (bit_xor (bit_xor (times_power (j * n) x) (times_power (j * n) y))) (value_at-added j xs ys rest left.1 right.1)
+    ∙ ap (bit_xor (bit_xor (times_power (j * n) x) (times_power (j * n) y)))
+    (value_at-added j xs ys rest left.1 right.1)
     ∙ xor_pairs (times_power (j * n) x) (times_power (j * n) y) (value_at j xs) (value_at j ys)
-    ∙ ap (λ m. bit_xor (bit_xor (times_power (j * n) x) (value_at j xs)) (bit_xor (times_power (j * m) y) (value_at j ys)))
+    ∙ ap (λ m. bit_xor (bit_xor (times_power (j * n) x) (value_at j xs)) (bit_xor (times_power (j * m) y)
+    (value_at j ys)))
     rest
 
 -- ---- a list times an octet
@@ -113,7 +114,8 @@ value_at-append j (x ∷ xs) ys octets =
     ap (λ k. bit_xor (times_power k x) (value_at j (xs ++ ys))) place
     ∙ ap (λ k. bit_xor k (value_at j (xs ++ ys))) (times_power-add (j * m) (j * n) x)
     ∙ ap (bit_xor (times_power (j * m) (times_power (j * n) x))) (value_at-append j xs ys octets.1)
-    ∙ sym (xor_assoc (times_power (j * m) (times_power (j * n) x)) (times_power (j * m) (value_at j xs)) (value_at j ys))
+    ∙ sym (xor_assoc (times_power (j * m) (times_power (j * n) x)) (times_power (j * m) (value_at j xs))
+    (value_at j ys))
     ∙ ap (λ k. bit_xor k (value_at j ys)) (sym (times_power-xor (j * m) (times_power (j * n) x) (value_at j xs)
     (times_power-lt (j * n) x octets.0) (value_at-lt j xs octets.1)))
 

@@ -1,8 +1,8 @@
 -- A list with few octets that are not 0 has not as many zeros in a row among the powers: the determinant of
 -- Vandermonde, by induction on how many octets are not 0.
-use Rattle.std.proofs.Common.{◌≡◌, ℕ, zero, suc, ◌+◌, ◌*◌, ◌<◌, ◌≤◌, bit_xor, List, [], ◌∷◌, length, refl, ap, subst}
-use Rattle.std.proofs.Common.{◌∙◌, sym, inl, inr, arith}
-use Rattle.std.specs.Int.Bits.{xor_zero_r, xor_self}
+use Rattle.std.proofs.Common.{◌≡◌, ℕ, zero, suc, ◌+◌, ◌*◌, ◌<◌, ◌≤◌, bit_xor, List, [], ◌∷◌, length, refl, ap}
+use Rattle.std.proofs.Common.{◌∙◌, sym, arith}
+use Rattle.std.specs.Int.Bits.{xor_self}
 use Rattle.std.proofs.lemmas.Nat.{xor_of_8}
 use Rattle.reed_solomon.specs.Field.{times_power}
 use Rattle.reed_solomon.specs.Values.{value_at, Vanishes}

@@ -1,7 +1,8 @@
 -- Words as they are sent, and whole.
-use Rattle.std.proofs.Common.{◌≡◌, ℕ, ◌+◌, ◌-◌, ◌*◌, ◌<◌, ◌≤◌, List, [], ◌∷◌, ◌++◌, length, take, drop, replicate, All, refl, ap}
-use Rattle.std.proofs.Common.{◌∙◌, sym, subst, arith, length-append}
-use Rattle.std.proofs.lemmas.List.{length-replicate, length-take, length-drop, take_at, drop_at, append_assoc, take-append-drop}
+use Rattle.std.proofs.Common.{◌≡◌, ℕ, ◌+◌, ◌-◌, ◌<◌, ◌≤◌, List, ◌++◌, length, take, drop, replicate, All, refl, ap}
+use Rattle.std.proofs.Common.{◌∙◌, sym, subst, arith}
+use Rattle.std.proofs.lemmas.List.{length-replicate, length-take, length-drop, take_at, drop_at, append_assoc}
+use Rattle.std.proofs.lemmas.List.{take-append-drop}
 use Rattle.reed_solomon.specs.declared.code.Code.{Code}
 use Rattle.reed_solomon.specs.declared.code.Zeros.{Zeros}
 use Rattle.reed_solomon.specs.declared.code.Zeros.TheVariants.{Leading, Between}
@@ -9,8 +10,8 @@ use Rattle.reed_solomon.specs.Codeword.{whole, with_zeros, IsCodeword, IsWithinR
 use Rattle.reed_solomon.specs.Distance.{distance}
 use Rattle.reed_solomon.specs.Kernel.{IsWrong}
 use Rattle.reed_solomon.specs.Register.{zeros_before}
-use Rattle.reed_solomon.specs.Values.{Vanishes}
-use Rattle.reed_solomon.proofs.DistanceLemmas.{length-with_zeros, length-whole, Octets-whole, distance-whole, distance-append}
+use Rattle.reed_solomon.proofs.DistanceLemmas.{length-with_zeros, length-whole, Octets-whole, distance-whole}
+use Rattle.reed_solomon.proofs.DistanceLemmas.{distance-append}
 use Rattle.reed_solomon.proofs.ValueLemmas.{Octets}
 use Rattle.reed_solomon.proofs.DistanceLemmas.{distance-refl, Octets-take, Octets-drop, octets_of_all, all_of_octets}
 

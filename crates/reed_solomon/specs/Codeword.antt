@@ -1,5 +1,5 @@
 -- The codewords of a Reed-Solomon code, shortened or not.
-use Rattle.std.specs.Prelude.{◌≡◌, ℕ, ◌+◌, ◌-◌, ◌*◌, ◌<◌, ◌≤◌, List, ◌++◌, length, take, drop, replicate, All}
+use Rattle.std.specs.Prelude.{◌≡◌, ℕ, ◌-◌, ◌*◌, ◌<◌, ◌≤◌, List, ◌++◌, length, take, drop, replicate, All}
 use Rattle.reed_solomon.specs.declared.code.Code.{Code}
 use Rattle.reed_solomon.specs.declared.code.Zeros.{Zeros}
 use Rattle.reed_solomon.specs.declared.code.Zeros.TheVariants.{Leading, Between}

@@ -1,5 +1,5 @@
--- The field of 256 elements that FX.25 and IL2P use: octets as polynomials over two elements, by x^8 + x^4 + x^3 + x^2 + 1.
--- The sum of two octets is their exclusive or.
+-- The field of 256 elements that FX.25 and IL2P use: octets as polynomials over two elements, by
+-- x^8 + x^4 + x^3 + x^2 + 1. The sum of two octets is their exclusive or.
 use Rattle.std.specs.Prelude.{ℕ, zero, suc, ◌-◌, ◌*◌, nat_lt, if◌then◌else◌, bit_xor}
 
 -- an octet times x, the element 2

@@ -1,6 +1,6 @@
 -- What the decoder works with. No public clause cites it.
-use Rattle.std.specs.Prelude.{◌≡◌, ℕ, zero, suc, ◌+◌, ◌*◌, ◌==◌, ◌<◌, ◌≤◌, ◌≢◌, Bool, List, [], ◌∷◌, length, if◌then◌else◌}
-use Rattle.std.specs.Prelude.{slice_index, slice_index_or, bit_xor, All}
+use Rattle.std.specs.Prelude.{◌≡◌, ℕ, zero, suc, ◌+◌, ◌*◌, ◌==◌, ◌<◌, ◌≤◌, ◌≢◌, Bool, List, [], ◌∷◌, length}
+use Rattle.std.specs.Prelude.{if◌then◌else◌, slice_index, slice_index_or, bit_xor, All}
 use Rattle.reed_solomon.specs.Values.{value_at, Vanishes}
 use Rattle.reed_solomon.specs.Distance.{distance}
 use Rattle.reed_solomon.specs.Product.{product}
@@ -49,8 +49,7 @@ unfoldable pub count_true : List Bool → ℕ
 count_true [] = 0
 count_true (b ∷ bs) = (if b then 1 else 0) + count_true bs
 
--- v is a list of octets with the same zeros as a codeword, which a word comes to if at most half as many octets as
--- there are roots are changed
+-- A word that is wrong in at most half as many octets as there are roots: v is the right one.
 pub record IsWrong (first count : ℕ) (word v : List ℕ) : Type 0 where
   pub octets : All (λ x. x < 256) v
   pub size : length v ≡ length word

@@ -30,6 +30,7 @@ pub fn repair(code: &Code, word: &mut [u8]) -> Result<usize, NoCodeword>
     requires least { code.now.check_count ≤ length word.old }
     requires most { length word.old ≤ 255 }
     ensures repaired { IfOk result (λ _. IsWithinReach code.now word.old word.new) }
+    ensures only { IfOk result (λ _. (v : List ℕ) → IsWithinReach code.now word.old v → v ≡ word.new) }
     ensures count { IfOk result (λ count. count ≡ distance word.old word.new) }
     ensures refused { OnErr result ((v : List ℕ) → ¬ IsWithinReach code.now word.old v) }
     ensures unchanged { OnErr result (word.new ≡ word.old) }

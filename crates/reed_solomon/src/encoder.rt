@@ -1,6 +1,6 @@
 // The check octets of data, by a division: the register holds the remainder of what it has taken.
 
-ghost use Rattle.std.specs.Prelude.{◌≡◌, ◌+◌, ◌<◌, ◌≤◌, ◌++◌, length, replicate};
+ghost use Rattle.std.specs.Prelude.{◌≡◌, ◌+◌, ◌<◌, ◌≤◌, ◌++◌, ℕ, List, All, length, replicate};
 ghost use Rattle.arrayvec.specs.ArrayVec.{array_vec_len};
 ghost use Rattle.reed_solomon.specs.Codeword.{IsCodeword};
 ghost use Rattle.reed_solomon.specs.Register.{taken};
@@ -16,6 +16,8 @@ pub fn check_octets(code: &Code, octets: &[u8]) -> ArrayVec<u8, 64>
     requires { length octets.now + code.now.check_count ≤ 255 }
     ensures count { array_vec_len result ≡ code.now.check_count }
     ensures codeword { IsCodeword code.now (octets.now ++ result.items) }
+    ensures only { (other : List ℕ) → All (λ x. x < 256) other → length other ≡ code.now.check_count
+        → IsCodeword code.now (octets.now ++ other) → other ≡ result.items }
 {
     let generator = generator(code.first_root(), code.check_count());
     let mut register = zero_register(code.check_count());

@@ -2,15 +2,21 @@
 
 ghost use Rattle.std.specs.Prelude.{◌≡◌, ◌+◌, ◌++◌, ◌<◌, ◌≤◌, ℕ, List, length, All};
 ghost use Rattle.reed_solomon.specs.declared.code.Code.{Code};
-ghost use Rattle.reed_solomon.specs.Codeword.{IsCodeword};
+ghost use Rattle.reed_solomon.specs.Codeword.{IsCodeword, IsWithinReach};
 ghost use Rattle.reed_solomon.specs.Distance.{distance};
 
-/// Two codewords of one length that differ in at most as many octets as there are check octets are one. So at most one
-/// codeword differs from a word in at most half as many.
+/// Two codewords of one length that differ in at most as many octets as there are check octets are one.
 pub fn codewords_are_apart()
     ensures { (code : Code) → (u : List ℕ) → (v : List ℕ) → All (λ x. x < 256) u → All (λ x. x < 256) v
         → length u ≡ length v → code.check_count ≤ length u → length u ≤ 255
         → IsCodeword code u → IsCodeword code v → distance u v ≤ code.check_count → u ≡ v }
+{}
+
+/// At most one codeword differs from a word in at most half as many octets as there are check octets.
+pub fn one_codeword_is_within_reach()
+    ensures { (code : Code) → (word : List ℕ) → (u : List ℕ) → (v : List ℕ)
+        → code.check_count ≤ length word → length word ≤ 255
+        → IsWithinReach code word u → IsWithinReach code word v → u ≡ v }
 {}
 
 /// Data have one list of check octets.

@@ -13,6 +13,8 @@ mod field;
 mod generator;
 mod kernel;
 mod laws;
+#[cfg(test)]
+mod tests;
 mod values;
 mod words;
 mod wrong_octets;
@@ -20,4 +22,4 @@ mod wrong_octets;
 pub use code::{Code, Zeros};
 pub use decoder::{NoCodeword, is_codeword, repair};
 pub use encoder::check_octets;
-pub use laws::{check_octets_are_one, codewords_are_apart};
+pub use laws::{check_octets_are_one, codewords_are_apart, one_codeword_is_within_reach};

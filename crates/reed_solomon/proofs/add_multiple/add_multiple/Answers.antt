@@ -1,4 +1,4 @@
-use Rattle.std.proofs.Common.{ℕ, ◌<◌, ◌≡◌, length, get_or, map, bit_xor, ap, sym, ◌∙◌, arith}
+use Rattle.std.proofs.Common.{◌≡◌, length, get_or, map, bit_xor, ap, sym, ◌∙◌, arith}
 use Rattle.std.proofs.lemmas.List.{ext_get_or, get_or-map, length-map}
 use Rattle.reed_solomon.specs.Product.{product}
 use Rattle.reed_solomon.specs.Register.{added}

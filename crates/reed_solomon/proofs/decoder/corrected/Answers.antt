@@ -1,7 +1,5 @@
-use Rattle.std.proofs.Common.{◌≡◌, ℕ, ◌+◌, ◌%◌, ◌<◌, ◌≤◌, List, ◌++◌, All, length, ap, subst, sym, ◌∙◌, refl, arith}
-use Rattle.std.specs.List.{refill}
-use Rattle.reed_solomon.specs.Codeword.{whole, IsWithinReach}
-use Rattle.reed_solomon.specs.Kernel.{IsWrong, values_down}
+use Rattle.std.proofs.Common.{◌≡◌, ℕ, ◌%◌, ◌<◌, List, All, length, ap, subst, sym, ◌∙◌, arith}
+use Rattle.reed_solomon.specs.Kernel.{values_down}
 use Rattle.reed_solomon.proofs.ErrorLemmas.{length-values_down}
 use Rattle.reed_solomon.proofs.RegisterLemmas.{refill_all}
 use Rattle.reed_solomon.proofs.WordLemmas.{long, length-long, repaired_is, same_wrong}
@@ -21,7 +19,8 @@ correct-requires c =
     let word = c.args.word.now in
     let now : c.as_mut_slice.result.now ≡ long code word =
     c.as_mut_slice.ensures.value ∙ c.whole_word-whole.ensures.items in
-    let syndromes : c.as_slice-2.result.now ≡ values_down c.as_slice.result.now c.first_root.result c.check_count.result =
+    let syndromes : c.as_slice-2.result.now
+    ≡ values_down c.as_slice.result.now c.first_root.result c.check_count.result =
     c.as_slice-2.ensures.value ∙ c.syndromes-syndromes.ensures in
     let size : length c.as_slice-2.result.now ≡ code.check_count =
     ap length syndromes ∙ length-values_down c.as_slice.result.now c.first_root.result c.check_count.result

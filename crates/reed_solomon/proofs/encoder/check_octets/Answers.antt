@@ -1,14 +1,14 @@
-use Rattle.std.proofs.Common.{◌≡◌, ℕ, zero, ◌+◌, ◌-◌, ◌<◌, ◌≤◌, List, ◌++◌, [], ◌∷◌, length, get_or, replicate, ap, sym, ◌∙◌}
-use Rattle.std.proofs.Common.{arith, refl, subst, take, take_all}
+use Rattle.std.proofs.Common.{◌≡◌, ℕ, ◌+◌, ◌-◌, List, ◌++◌, [], ◌∷◌, length, get_or, replicate, ap, sym, ◌∙◌}
+use Rattle.std.proofs.Common.{subst, arith}
 use Rattle.std.specs.List.{fold}
-use Rattle.std.proofs.lemmas.List.{append-nil, append_assoc, replicate_more, length-replicate}
+use Rattle.std.proofs.lemmas.List.{append_assoc, length-replicate, replicate_more}
 use Rattle.std.proofs.lemmas.List.Sums.{fold_more, fold_push}
 use Rattle.reed_solomon.specs.Codeword.{ChecksOf, whole}
 use Rattle.reed_solomon.specs.Register.{generator_of, taken, zeros_after}
 use Rattle.reed_solomon.specs.Values.{value_at}
-use Rattle.reed_solomon.proofs.DistanceLemmas.{codeword_parts}
+use Rattle.reed_solomon.proofs.DistanceLemmas.{codeword_parts, octets_of_all, one_check}
 use Rattle.reed_solomon.proofs.GeneratorLemmas.{length-generator_of, Octets-generator_of, generator_vanishes}
-use Rattle.reed_solomon.proofs.RegisterLemmas.{length-taken, register_checks, value_at-with_zeros}
+use Rattle.reed_solomon.proofs.RegisterLemmas.{length-taken, Octets-register, register_checks, value_at-with_zeros}
 use Rattle.reed_solomon.proofs.ValueLemmas.{Octets, Octets-append, Octets-replicate, octets_from}
 use Rattle.reed_solomon.proofs.encoder.check_octets.Goals as goal
 
@@ -27,7 +27,8 @@ loop-octet-preserved c =
     let size = ap length c.generator-generator.ensures ∙ length-generator_of c.first_root.result c.check_count.result in
     let sizes : length c.loop-octet.register.items ≡ length g =
     omega (arith, size, c.loop-octet.invariant.count, c.check_count.ensures) in
-    let is = c.take.ensures ∙ ap (λ xs. taken xs c.loop-octet.register.items (get_or octets i 0)) c.as_slice.ensures.value in
+    let is = c.take.ensures ∙ ap (λ xs. taken xs c.loop-octet.register.items
+    (get_or octets i 0)) c.as_slice.ensures.value in
     record {
       register = is ∙ ap (λ r. taken g r (get_or octets i 0)) c.loop-octet.invariant.register
           ∙ sym (fold_more (taken g) start octets i 0 (omega arith));
@@ -91,3 +92,24 @@ pub returns-clause-codeword : goal.returns-clause-codeword
 returns-clause-codeword c =
     let code = c.args.code.now in
     (codeword_parts code (ChecksOf code) c.args.octets.now c.loop.register.items c.loop.invariant.count).1 (checks c)
+
+pub returns-clause-only : goal.returns-clause-only
+returns-clause-only c = λ other all size is.
+    let code = c.args.code.now in
+    let octets = c.args.octets.now in
+    let g = c.generator-generator.result.items in
+    let data_octets = octets_from octets (λ i inside. (c.type_inv.octets i).fits) in
+    let P : List ℕ → Type 0 = λ xs. Octets xs in
+    let g_size : length g ≡ code.check_count =
+    ap length c.generator-generator.ensures ∙ length-generator_of c.first_root.result c.check_count.result
+    ∙ c.check_count.ensures in
+    let g_octets = subst P (sym c.generator-generator.ensures)
+    (Octets-generator_of c.first_root.result c.check_count.result) in
+    let start : length (replicate {A = ℕ} code.check_count 0) ≡ length g =
+    length-replicate {A = ℕ} code.check_count 0 ∙ sym g_size in
+    let register = subst P (sym c.loop.invariant.register)
+    (Octets-register g (replicate code.check_count 0) (octets ++ replicate c.loop.counter 0) start
+    (omega (arith, g_size, code.least)) g_octets (Octets-replicate code.check_count)) in
+    one_check code octets other c.loop.register.items data_octets (octets_of_all other all) register size
+    c.loop.invariant.count c.requires is
+    ((codeword_parts code (ChecksOf code) octets c.loop.register.items c.loop.invariant.count).1 (checks c))

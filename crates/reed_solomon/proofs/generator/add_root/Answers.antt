@@ -1,4 +1,4 @@
-use Rattle.std.proofs.Common.{◌≡◌, List, [], ◌∷◌, ◌++◌, ℕ, length, map, ap, sym, ◌∙◌, arith}
+use Rattle.std.proofs.Common.{◌≡◌, [], ◌∷◌, ◌++◌, length, map, ap, ◌∙◌}
 use Rattle.reed_solomon.specs.Product.{product}
 use Rattle.reed_solomon.specs.Register.{added, with_root}
 use Rattle.reed_solomon.proofs.RegisterLemmas.{refill_all}

@@ -1,4 +1,4 @@
-use Rattle.std.proofs.Common.{◌≡◌, ◌+◌, suc, ℕ, length, ap, sym, ◌∙◌, arith, refl}
+use Rattle.std.proofs.Common.{◌≡◌, ◌+◌, suc, length, ap, ◌∙◌, arith}
 use Rattle.reed_solomon.specs.Field.{power}
 use Rattle.reed_solomon.specs.Register.{generator_of, with_root}
 use Rattle.reed_solomon.proofs.generator.generator.Goals as goal

@@ -1,4 +1,4 @@
-use Rattle.std.proofs.Common.{◌≡◌, ◌+◌, ◌++◌, [], ◌∷◌, length, get_or, take, take_all, bit_xor, ap, sym, ◌∙◌, refl, arith}
+use Rattle.std.proofs.Common.{◌+◌, ◌++◌, [], ◌∷◌, get_or, take, take_all, bit_xor, ap, sym, ◌∙◌, refl, arith}
 use Rattle.std.proofs.lemmas.List.{take_more, length-take}
 use Rattle.reed_solomon.specs.Product.{product}
 use Rattle.reed_solomon.specs.Kernel.{dot}

@@ -1,9 +1,9 @@
-use Rattle.std.proofs.Common.{◌≡◌, ℕ, ◌+◌, ◌-◌, ◌/◌, ◌<◌, ◌≤◌, ◌≢◌, List, [], length, set, get_or, take, drop, All, ap, subst, sym}
+use Rattle.std.proofs.Common.{◌≡◌, ℕ, ◌+◌, ◌-◌, ◌/◌, ◌≢◌, [], length, set, get_or, take, drop, ap, subst, sym}
 use Rattle.std.proofs.Common.{◌∙◌, inl, inr, arith}
-use Rattle.std.proofs.lemmas.Bool.{cases_eq, cases_lt}
-use Rattle.std.proofs.lemmas.List.{get_or-set_same, get_or-set_other, get_or-take, get_or-drop, get_or_default, length-take, length-set}
+use Rattle.std.proofs.lemmas.Bool.{cases_eq}
+use Rattle.std.proofs.lemmas.List.{get_or-set_same, get_or-set_other, length-take, length-set}
 use Rattle.std.proofs.lemmas.List.{length-drop}
-use Rattle.reed_solomon.specs.Kernel.{IsBasis, Meet, row, dot}
+use Rattle.reed_solomon.specs.Kernel.{IsBasis, Meet, row}
 use Rattle.reed_solomon.proofs.DistanceLemmas.{Octets-take, Octets-drop, all_of_octets}
 use Rattle.reed_solomon.proofs.ValueLemmas.{octets_from}
 use Rattle.reed_solomon.proofs.kernel.kernel.Goals as goal

@@ -1,6 +1,6 @@
-use Rattle.std.proofs.Common.{◌≡◌, ℕ, ◌-◌, ◌<◌, suc, List, length, set, ap, subst, sym, ◌∙◌, arith}
+use Rattle.std.proofs.Common.{◌≡◌, ℕ, ◌-◌, suc, List, length, subst, sym, arith}
 use Rattle.reed_solomon.specs.Kernel.{AddsMultiple, IsBasis, row}
-use Rattle.reed_solomon.proofs.KernelLemmas.{Cleared, cleared-basis, row-set, source}
+use Rattle.reed_solomon.proofs.KernelLemmas.{Cleared, cleared-basis, row-set}
 use Rattle.reed_solomon.proofs.kernel.meet.Goals as goal
 
 pub returns-clause-basis : goal.returns-clause-basis

@@ -5,6 +5,7 @@ use Rattle.reed_solomon.proofs.values.syndromes.Given as goal
 
 abbrev pub invariant-loop-k : goal.invariant-loop-k
 invariant-loop-k l = record {
-  items : l.syndromes.items ++ values_down l.word l.first_root (l.count - l.k) ≡ values_down l.word l.first_root l.count;
+  items : l.syndromes.items ++ values_down l.word l.first_root
+      (l.count - l.k) ≡ values_down l.word l.first_root l.count;
   count : length l.syndromes.items ≡ l.k;
 }

@@ -1,4 +1,4 @@
-use Rattle.std.proofs.Common.{◌≡◌, get_or, take, bit_xor, ap, sym, ◌∙◌, refl, arith}
+use Rattle.std.proofs.Common.{get_or, take, bit_xor, ap, sym, ◌∙◌, refl, arith}
 use Rattle.std.proofs.lemmas.List.{take_more}
 use Rattle.reed_solomon.specs.Field.{times_power}
 use Rattle.reed_solomon.specs.Values.{value_at}

@@ -1,6 +1,6 @@
-use Rattle.std.proofs.Common.{◌≡◌, ℕ, ◌+◌, ◌-◌, List, ◌++◌, [], length, take, drop, ap, sym, ◌∙◌, arith}
+use Rattle.std.proofs.Common.{◌≡◌, ◌+◌, ◌-◌, ◌++◌, length, take, drop, ap, sym, ◌∙◌, arith}
 use Rattle.std.proofs.lemmas.List.{take_rest}
-use Rattle.reed_solomon.specs.Codeword.{whole, with_zeros}
+use Rattle.reed_solomon.specs.Codeword.{whole}
 use Rattle.reed_solomon.specs.Register.{zeros_before}
 use Rattle.reed_solomon.proofs.WordLemmas.{sent_octets, sent_check}
 use Rattle.reed_solomon.proofs.words.sent_word.Goals as goal
@@ -23,7 +23,8 @@ returns-clause-sent c = λ octets check size is.
     ∙ sent_octets code.zeros n part octets check (sym same) in
     let back : drop (255 - count) long ≡ check =
     ap (drop (255 - count)) is
-    ∙ sent_check code.zeros n (255 - count) octets check (omega (arith, c.check_count-count.ensures, c.requires.most)) in
+    ∙ sent_check code.zeros n (255 - count) octets check (omega
+    (arith, c.check_count-count.ensures, c.requires.most)) in
     let len = start + c.args.len - count - start in
     let cut : len ≡ part = omega arith in
     c.push_all-2.ensures

@@ -1,8 +1,8 @@
-use Rattle.std.proofs.Common.{◌≡◌, ◌≢◌, ℕ, ◌+◌, ◌-◌, ◌*◌, ◌/◌, ◌<◌, ◌≤◌, Bool, true, false, List, length, get_or, set, take, drop}
+use Rattle.std.proofs.Common.{◌≡◌, ◌≢◌, ℕ, ◌+◌, ◌-◌, ◌/◌, ◌<◌, true, false, List, length, get_or, take}
 use Rattle.std.proofs.Common.{bit_xor, ap, sym, ◌∙◌, inl, inr, arith}
 use Rattle.std.proofs.lemmas.Bool.{cases_eq, false≢true}
 use Rattle.std.proofs.lemmas.List.{get_or-set_same, get_or-set_other, ext_get_or}
-use Rattle.reed_solomon.specs.Kernel.{IsWrong, count_true, octet_before, values_down}
+use Rattle.reed_solomon.specs.Kernel.{IsWrong, octet_before}
 use Rattle.reed_solomon.specs.Register.{added}
 use Rattle.reed_solomon.proofs.DistanceLemmas.{octets_of_all, all_of_octets}
 use Rattle.reed_solomon.proofs.ErrorLemmas.{errors_at_roots, errors_values, error_is}
@@ -18,7 +18,8 @@ error_at-requires-clause-few c =
     let one = c.kernel-coefficients.ensures.some in
     let few = few_kernel_roots most one.0 c.kernel-coefficients.result c.roots-roots.result c.roots-roots.ensures.size
     c.kernel-coefficients.ensures.size (omega arith)
-    (octets_of_all (take (most + 1) c.kernel-coefficients.result) c.roots-roots.ensures.octets) c.roots-roots.ensures.roots
+    (octets_of_all (take (most + 1) c.kernel-coefficients.result) c.roots-roots.ensures.octets)
+    c.roots-roots.ensures.roots
     one.1 one.2 in
     omega (arith, few)
 
@@ -48,7 +49,8 @@ loop-p-preserved c =
           let v_octets = octets_of_all v wrong.octets in
           w.error_at.ensures (added word v) (all_of_octets (added word v) (Octets-added word v octets v_octets))
           (length-added word v (sym wrong.size) ∙ c.requires.size)
-          (c.requires.syndromes ∙ errors_values first (length syndromes) word v wrong octets v_octets) (at_roots v wrong)
+          (c.requires.syndromes ∙ errors_values first (length syndromes) word v wrong octets v_octets)
+          (at_roots v wrong)
           ∙ error_is word v here p place wrong.size in
           record {
             done = λ v wrong n inside past.
@@ -77,7 +79,8 @@ loop-p-preserved c =
                       let right : octet_before p (added word v) ≡ 0 =
                       elim (cases_eq (octet_before p (added word v)) 0) [
                         | inl none ↦ none
-                        | inr some ↦ absurd (false≢true (sym w.if-roots-p.false ∙ at_roots v wrong p (omega arith) some))
+                        | inr some ↦ absurd (false≢true (sym w.if-roots-p.false
+                            ∙ at_roots v wrong p (omega arith) some))
                       ] in
                       ap (λ m. get_or c.if-roots-p.word m 0) same ∙ ap (λ xs. get_or xs here 0) w.word-is
                       ∙ c.loop-p.invariant.rest here (omega arith)

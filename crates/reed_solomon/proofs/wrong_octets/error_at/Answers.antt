@@ -1,7 +1,7 @@
-use Rattle.std.proofs.Common.{◌≡◌, ◌≢◌, ℕ, ◌+◌, ◌-◌, ◌*◌, ◌<◌, ◌≤◌, List, [], ◌∷◌, length, drop, ap, subst, sym, ◌∙◌, arith}
+use Rattle.std.proofs.Common.{◌≡◌, ◌-◌, ◌*◌, ◌∷◌, length, drop, ap, sym, ◌∙◌, arith}
 use Rattle.std.proofs.lemmas.List.{take_rest}
 use Rattle.reed_solomon.specs.Field.{times_power}
-use Rattle.reed_solomon.specs.Kernel.{dot, values_down, octet_before}
+use Rattle.reed_solomon.specs.Kernel.{dot, values_down}
 use Rattle.reed_solomon.specs.Product.{product}
 use Rattle.reed_solomon.specs.Values.{value_at}
 use Rattle.reed_solomon.proofs.DistanceLemmas.{octets_of_all}
@@ -35,7 +35,8 @@ returns c = λ errors all_octets size is zeros.
     c.value_at.ensures ∙ ap (value_at p) (c.as_slice-3.ensures.value ∙ all_is c) in
     let coefficients : c.as_slice-2.result.now ≡ all = c.as_slice-2.ensures.value ∙ all_is c in
     let size_all : c.len.result ≡ length all = c.len.ensures.value ∙ ap length (all_is c) in
-    let sum : c.dot-sum.result ≡ dot all (drop (length syndromes - length all) (values_down errors first (length syndromes))) =
+    let sum : c.dot-sum.result ≡ dot all (drop (length syndromes - length all) (values_down errors first
+    (length syndromes))) =
     c.dot-sum.ensures
     ∙ ap (dot c.as_slice-2.result.now) (take_rest syndromes (length syndromes - c.len.result))
     ∙ ap (λ xs. dot xs (drop (length syndromes - c.len.result) syndromes)) coefficients

@@ -1,8 +1,8 @@
-use Rattle.std.proofs.Common.{◌≡◌, ◌≢◌, ℕ, ◌+◌, ◌<◌, ◌≤◌, Bool, true, false, ◌⊎◌, List, [], ◌∷◌, length, get_or, take, ap, subst, sym, ◌∙◌}
+use Rattle.std.proofs.Common.{◌≡◌, ◌≢◌, ℕ, ◌+◌, ◌<◌, Bool, true, false, ◌⊎◌, List, [], ◌∷◌, length, get_or, ap, subst}
+use Rattle.std.proofs.Common.{sym, ◌∙◌}
 use Rattle.std.proofs.Common.{inl, inr, arith}
 use Rattle.std.proofs.lemmas.Bool.{cases_eq, false≢true}
 use Rattle.reed_solomon.specs.Field.{power}
-use Rattle.reed_solomon.specs.Kernel.{count_true}
 use Rattle.reed_solomon.specs.Register.{with_root}
 use Rattle.reed_solomon.specs.Values.{value_at}
 use Rattle.reed_solomon.proofs.DistanceLemmas.{all_of_octets}
@@ -12,7 +12,8 @@ use Rattle.reed_solomon.proofs.RootLemmas.{count_true_root, count_true_step}
 use Rattle.reed_solomon.proofs.ValueLemmas.{Octets}
 use Rattle.reed_solomon.proofs.wrong_octets.other_roots.Goals as goal
 use Rattle.reed_solomon.proofs.wrong_octets.other_roots.Goals.{then-roots-q+then-q-p, else-roots-q}
-use Rattle.reed_solomon.proofs.wrong_octets.other_roots.Goals.{else-roots-q-via-then-roots-q+else-q-p, else-roots-q-via-else-roots-q}
+use Rattle.reed_solomon.proofs.wrong_octets.other_roots.Goals.{else-roots-q-via-then-roots-q+else-q-p}
+use Rattle.reed_solomon.proofs.wrong_octets.other_roots.Goals.{else-roots-q-via-else-roots-q}
 
 pub loop-q-init : goal.loop-q-init
 loop-q-init c =
@@ -70,7 +71,8 @@ loop-q-preserved c =
     let inside : q < length roots = omega (arith, c.told-roots) in
     elim c.if-roots-q.branch [
       | then-roots-q+then-q-p w ↦
-          let is = ap (λ v. v.items) w.others-is ∙ w.add_root.ensures.items ∙ ap (λ n. with_root n before) w.power.ensures in
+          let is = ap (λ v. v.items) w.others-is ∙ w.add_root.ensures.items
+          ∙ ap (λ n. with_root n before) w.power.ensures in
           let P : List ℕ → Type 0 = λ xs. Octets xs in
           let value : (j : ℕ) → value_at j (1 ∷ c.if-roots-q.others.items)
           ≡ value_at j (1 ∷ with_root (power q) before) = λ j. ap (λ xs. value_at j (1 ∷ xs)) is in
