@@ -17,12 +17,14 @@ mod command;
 mod ending;
 mod laws;
 mod line;
+mod losses;
 mod machine;
 mod reading;
 mod report;
 #[cfg(test)]
 mod tests;
 mod ticking;
+mod trying;
 mod turning;
 
 pub use command::Command;
