@@ -24,9 +24,11 @@ kept_mark words (Heard octet) past = refl
 kept_mark words Accepted past = refl
 kept_mark words Readied past = refl
 kept_mark words (Lost why) past = refl
-kept_mark words (Ticked true) past = ap (λ w. record (key_of words (Ticked true ∷ past)) { cut = cut words.tail past && w })
+kept_mark words (Ticked true) past =
+    ap (λ w. record (key_of words (Ticked true ∷ past)) { cut = cut words.tail past && w })
     (wanted_kept words.tail true (ticks past))
-kept_mark words (Ticked false) past = ap (λ w. record (key_of words (Ticked false ∷ past)) { cut = cut words.tail past && w })
+kept_mark words (Ticked false) past =
+    ap (λ w. record (key_of words (Ticked false ∷ past)) { cut = cut words.tail past && w })
     (wanted_kept words.tail false (ticks past))
 kept_mark words (Cut why) past = refl
 kept_mark words WriteFault past = refl

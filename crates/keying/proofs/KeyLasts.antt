@@ -14,7 +14,7 @@ use Rattle.keying.specs.Laws.{TellsEnd, NoneTellsEnd}
 use Rattle.keying.proofs.Sound.{Sound}
 use Rattle.keying.proofs.RulesAreSound.{sound_history}
 use Rattle.keying.proofs.Tails.{begins_keyed}
-use Rattle.keying.proofs.Losses.{up_if_on, turn_tells, tick_tells, written_tells, fault_tells}
+use Rattle.keying.proofs.ToldEnds.{up_if_on, turn_tells, tick_tells, written_tells, fault_tells}
 
 -- a line that is up is not tried
 try_keeps : (words : Words) (how : Try) (past : List Mark) → Sound past → on past ≡ true

@@ -3,6 +3,6 @@ pub mod History
 pub mod Sound
 pub mod RulesAreSound
 pub mod Tails
-pub mod Losses
+pub mod ToldEnds
 pub mod KeyLasts
 mod Examples

@@ -25,7 +25,8 @@ use Rattle.keying.specs.Rules.{is_stalled, stall_marks, is_at_limit, tick_marks,
 use Rattle.keying.specs.Calls.{by_rule, heard, read, listened, turned, tried, ticked, written, command_failed, ended}
 use Rattle.keying.specs.Calls.{Call, called, history}
 use Rattle.keying.specs.Calls.Call.{Turn, AfterTry, Tick, AfterWrite, CommandFailed, Release}
-use Rattle.keying.proofs.Sound.{Sound, AllAllowed, sound_marks, sound_mark, sound_nothing, AllCalm, all_calm, AllHeard, all_heard}
+use Rattle.keying.proofs.Sound.{Sound, AllAllowed, sound_marks, sound_mark, sound_nothing, AllCalm, all_calm}
+use Rattle.keying.proofs.Sound.{AllHeard, all_heard}
 use Rattle.keying.proofs.Sound.{heard-append, OnOrGone, on_or_gone}
 use Rattle.keying.proofs.Sound.{Same, same_along, all_same}
 
@@ -78,7 +79,8 @@ line_heard words octet past s up =
     cond_both (eqb octet 10) _ _ (λ marks. AllHeard words marks past)
     (λ _. heard-append words (answer_marks (answer_of (part past)) (key_of words past)) (Heard octet ∷ []) past
     (answer_heard words (answer_of (part past)) past octet s up) (tt, tt))
-    (λ _. cond_both (eqb (length (part past)) 63) _ _ (λ marks. AllHeard words marks past) (λ _. (tt, tt)) (λ _. (tt, tt)))
+    (λ _. cond_both (eqb (length (part past)) 63) _ _ (λ marks. AllHeard words marks past) (λ _. (tt, tt))
+    (λ _. (tt, tt)))
 
 octet_heard_in : (words : Words) (p : Phase) (octet : ℕ) (past : List Mark) → Sound past → phase past ≡ p
     → AllHeard words (octet_marks_in p octet (key_of words past)) past

@@ -1,6 +1,7 @@
--- What holds in every history that the rules make: the commands alternate, each waits for its answer or was accepted, and
--- the key is never on for too long.
-use Rattle.std.proofs.Common.{◌≡◌, ℕ, zero, suc, ◌⊎◌, inl, inr, Some, ◌+◌, ◌-◌, ◌<◌, ◌≤◌, ◌&&◌, not, eqb, if◌then◌else◌, Bool, true, false, List, [], ◌∷◌, ◌++◌}
+-- What holds in every history that the rules make: the commands alternate, each waits for its answer or was accepted,
+-- and the key is never on for too long.
+use Rattle.std.proofs.Common.{◌≡◌, ℕ, zero, suc, ◌⊎◌, inl, inr, Some, ◌+◌, ◌-◌, ◌<◌, ◌≤◌, ◌&&◌, not, eqb}
+use Rattle.std.proofs.Common.{if◌then◌else◌, Bool, true, false, List, [], ◌∷◌, ◌++◌}
 use Rattle.std.proofs.Common.{length, drop, refl, ap, sym, subst, ◌∙◌, arith, length-append, length-drop, append_assoc}
 use Rattle.std.proofs.lemmas.Bool.{and_parts, eqb-true, not-true}
 use Rattle.keying.specs.declared.line.Phase.{Phase}

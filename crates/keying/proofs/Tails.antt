@@ -91,7 +91,8 @@ lingers_called : (words : Words) (call : Call) (past : List Mark) → Sound past
     → Lingers words (called words call past)
 lingers_called words (Turn now octets end) past s lingers =
     lingers_same words past _ (calm_turned words now octets end past s).same lingers
-lingers_called words (AfterTry how) past s lingers = lingers_same words past _ (calm_tried words how past s).same lingers
+lingers_called words (AfterTry how) past s lingers =
+    lingers_same words past _ (calm_tried words how past s).same lingers
 lingers_called words (Tick sounds) past s lingers = lingers_ticked words sounds past
 lingers_called words (AfterWrite fault) past s lingers =
     lingers_same words past _ (calm_written words fault past s).same lingers
@@ -156,7 +157,10 @@ stays_on words past sounds keyed below =
     cond_both (free key && sounds) _ _ P
     (λ begins. absurd (let off = (free_parts words past (and_parts _ _ begins).0).off in cc))
     (λ _. cond_both (is_at_limit key) _ _ P
-    (λ limit. absurd (let at : lit past ≡ 9000 = eqb-true (lit past) 9000 (and_parts (on past) (eqb (lit past) 9000) limit).1 in omega arith))
+    (λ limit.
+    let parts = and_parts (on past) (eqb (lit past) 9000) limit in
+    let full : lit past ≡ 9000 = eqb-true (lit past) 9000 parts.1 in
+    absurd (omega arith))
     (λ _. cond_both (on past && not needed) _ _ P (λ over. sym (not-true needed (and_parts _ _ over).1))
     (λ other. keyed ∙ sym (needed_from (on past) needed other keyed))))
 

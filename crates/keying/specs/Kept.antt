@@ -1,6 +1,6 @@
 -- What is kept of what has happened. Public clauses cite `StandsFor` alone.
-use Rattle.std.specs.Prelude.{◌≡◌, ℕ, ◌+◌, ◌-◌, ◌==◌, ◌&&◌, ◌||◌, not, nat_lt, Bool, true, false, if◌then◌else◌, List, []}
-use Rattle.std.specs.Prelude.{◌∷◌, ◌++◌, drop, length, Option, Some, unwrap_or, is_some}
+use Rattle.std.specs.Prelude.{◌≡◌, ℕ, ◌+◌, ◌-◌, ◌==◌, ◌&&◌, ◌||◌, not, nat_lt, Bool, true, false, if◌then◌else◌, List}
+use Rattle.std.specs.Prelude.{[], ◌∷◌, ◌++◌, drop, length, Option, Some, unwrap_or, is_some}
 use Rattle.keying.specs.declared.line.End.{End}
 use Rattle.keying.specs.declared.line.Phase.TheVariants.{Down, Opening, Up}
 use Rattle.keying.specs.declared.machine.Words.{Words}

@@ -67,7 +67,7 @@ pub fn the_key_follows_the_sound()
         → lit past ≤ first + words.tail }
 {}
 
-/// So sound among the first ticks alone, if these and the tail are fewer than 9000, is never cut off by the limit.
+/// Sound among the first ticks alone is never cut off by the limit, if these and the tail are fewer than 9000.
 pub fn short_sound_meets_no_limit()
     ensures { (words : Words) (calls : List Call) (first : ℕ) (sounds : Bool) → let past = history words calls in
         list_any (λ sounds. sounds) (take (lit past - first) (ticks past)) ≡ false → first + words.tail < 9000
@@ -80,8 +80,8 @@ pub fn an_end_of_the_key_is_told()
         → on (called words call past) ≡ false → TellsEnd words call past }
 {}
 
-/// No sound without a key: from the first tick of a transmission that begins while the radio is free, the key is on until
-/// the answer of a call tells its end.
+/// No sound without a key: from the first tick of a transmission that begins while the radio is free, the key is on
+/// until the answer of a call tells its end.
 pub fn a_transmission_stays_keyed()
     ensures { (words : Words) (calls later : List Call) → is_free words (history words calls) ≡ true
         → NoneTellsEnd words later (Tick true ∷ calls) → on (history words (later ++ Tick true ∷ calls)) ≡ true }
@@ -93,8 +93,8 @@ pub fn the_end_releases()
         → newest_keys (commands (ended words now octets end (history words calls))) ≡ false }
 {}
 
-/// The end of the run is over only if no keying command waits for an accepted release, or one more connection was begun,
-/// or 1000 ms have passed.
+/// The end of the run is over only if no keying command waits for an accepted release, or one more connection was
+/// begun, or 1000 ms have passed.
 pub fn the_end_owes_nothing()
     ensures { (words : Words) (calls : List Call) (now : ℕ) (octets : List ℕ) (end : Option End)
         → let past = history words calls in let come = read words now octets end past in

@@ -1,14 +1,15 @@
-//! The key of a transmitter behind `rigctld`, the daemon of hamlib: when a keying command and a release are written on its
-//! line, what of the line is reported, and when a transmission may begin. The machine has no handle, takes no memory and
-//! cannot fail: the caller owns the connection and the clock. What is promised: over any list of calls each command and
-//! each report is exactly the one that the rules give on what has happened so far.
+//! The key of a transmitter behind `rigctld`, the daemon of hamlib: when a keying command and a release are written
+//! on its line, what of the line is reported, and when a transmission may begin. The machine has no handle, takes no
+//! memory and cannot fail: the caller owns the connection and the clock. What is promised: over any list of calls each
+//! command and each report is exactly the one that the rules give on what has happened so far.
 //!
-//! A turn of the station is [`turn`](Keying::turn) with what was read on the line, the drop of a lost connection, then
-//! what `next` asks for: [`tried`](Keying::tried) after a try to connect or to write the first release. For each tick:
-//! [`is_free`](Keying::is_free) -> the tick's samples -> [`tick`](Keying::tick) -> its command -> the samples are written
-//! -> [`written`](Keying::written) -> its command. A command that is not written whole by one write goes to
-//! [`command_failed`](Keying::command_failed) at once. At the end of the run [`release`](Keying::release) is called until
-//! it answers `Over`.
+//! In a turn the caller reads the line -> [`turn`](Keying::turn) -> reports `ready`, drops the connection if `dropped`,
+//! reports `lost` -> does what `next` asks for. After a try to connect or to write the first release it calls
+//! [`tried`](Keying::tried), and drops a connection that was refused. For each tick:
+//! [`is_free`](Keying::is_free), by which the samples are made -> [`tick`](Keying::tick) -> writes the command,
+//! reports -> writes the samples -> [`written`](Keying::written) -> writes the command. A command that is not written
+//! whole by one write goes to [`command_failed`](Keying::command_failed) at once. At the end of the run the caller
+//! reads the line -> [`release`](Keying::release) -> does what it asks for, again and again until it answers `Over`.
 #![tactic(auto)]
 
 mod answer;
@@ -16,12 +17,14 @@ mod command;
 mod ending;
 mod laws;
 mod line;
+mod losses;
 mod machine;
 mod reading;
 mod report;
 #[cfg(test)]
 mod tests;
 mod ticking;
+mod trying;
 mod turning;
 
 pub use command::Command;

@@ -90,8 +90,8 @@ impl Keying {
         }
     }
 
-    /// After the samples of a tick were written: `fault` says whether that write, or an earlier one of the output or the
-    /// report, failed. Answers what to write on the line. From the first fault on nothing is keyed.
+    /// After the samples of a tick were written: `fault` says whether that write, or an earlier one of the output or of
+    /// the report, failed. Answers what to write on the line. From the first fault on nothing is keyed.
     pub fn written(&mut self, fault: bool) -> Option<Command>
         ensures command { (words : Words) (past : List Mark) → StandsFor words past self.old
             → result ≡ written_told fault (key_of words past) }

@@ -1,4 +1,4 @@
-use Rattle.keying.proofs.Losses.{heard_pieces}
+use Rattle.keying.proofs.ToldEnds.{heard_pieces}
 use Rattle.keying.proofs.laws.pieces_do_not_matter.Goals as goal
 
 pub returns : goal.returns

@@ -31,7 +31,8 @@ use Rattle.keying.proofs.Sound.{Sound, on_up, ready_on, Gone, OnOrGone}
 use Rattle.keying.proofs.RulesAreSound.{reads_read, reads_listened, calm_ended}
 
 pub up_if_on : (past : List Mark) → Sound past → on past ≡ true → phase past ≡ Up
-up_if_on past s keyed = on_up (phase past) (commands past) (length (waiting past)) (accepted past) (s.newest ∙ keyed) s.stands
+up_if_on past s keyed =
+    on_up (phase past) (commands past) (length (waiting past)) (accepted past) (s.newest ∙ keyed) s.stands
 
 -- a line that was up and is gone: its loss is told
 gone_told : (words : Words) (past new : List Mark) → phase past ≡ Up → Gone new
@@ -137,7 +138,8 @@ over_done words past now octets end s =
 pub heard_pieces : (words : Words) (first second : List ℕ) (past : List Mark)
     → heard words (first ++ second) past ≡ heard words second (heard words first past)
 heard_pieces words [] second past = refl
-heard_pieces words (octet ∷ first) second past = heard_pieces words first second (by_rule words (octet_marks octet) past)
+heard_pieces words (octet ∷ first) second past =
+    heard_pieces words first second (by_rule words (octet_marks octet) past)
 
 -- a command that is not written whole is a loss that is told, while the key is on
 pub fault_tells : (words : Words) (past : List Mark) → Sound past → on past ≡ true
