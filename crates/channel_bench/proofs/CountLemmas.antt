@@ -1,4 +1,5 @@
--- What is counted in a run grows with its ticks: 96 samples reach a station in each, and at most two transmissions begin.
+-- What is counted in a run grows with its ticks: 96 samples reach a station in each, and at most two transmissions
+-- begin.
 use Rattle.std.proofs.Common.{◌≡◌, ℕ, zero, suc, ◌+◌, ◌*◌, ◌≤◌, ◌==◌, Bool, true, false, ℤ, List, [], ◌∷◌, ◌++◌}
 use Rattle.std.proofs.Common.{length, cond, Option, Some, None, refl, sym, ap, ◌∙◌, subst, arith}
 use Rattle.std.specs.Prelude.{MatchBool}
@@ -11,8 +12,8 @@ use Rattle.channel_bench.specs.declared.trouble.Trouble.{Trouble}
 use Rattle.channel_bench.specs.declared.words.BenchWords.{BenchWords}
 use Rattle.channel_bench.specs.BenchRun.{AreTicks}
 use Rattle.channel_bench.specs.BenchState.{AtEnd, BenchState, Near, near, new_bench, with_near}
-use Rattle.channel_bench.specs.BenchSteps.{AreHeardAt, GoesOn, IsHeardAs, IsHeardAt, IsStep, IsTicking, IsTold, match_of}
-use Rattle.channel_bench.specs.BenchSteps.{with_matched}
+use Rattle.channel_bench.specs.BenchSteps.{AreHeardAt, GoesOn, IsHeardAs, IsHeardAt, IsStep, IsTicking, IsTold}
+use Rattle.channel_bench.specs.BenchSteps.{match_of, with_matched}
 use Rattle.channel_bench.specs.BenchTick.{ArePartsMade, IsAsked, IsAskedOrCalled, IsCalled, IsGiven, IsGivenPiece}
 use Rattle.channel_bench.specs.BenchTick.{IsListening, IsPart, IsTick, Part, beginning, each_tick, is_complete, joins}
 use Rattle.channel_bench.specs.BenchTick.{sets_duplex, sets_full_duplex, with_asking, with_calling, with_giving}

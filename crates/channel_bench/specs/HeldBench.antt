@@ -1,5 +1,6 @@
 -- What the code keeps of the bench, and what that stands for. Public clauses cite none of this.
-use Rattle.std.specs.Prelude.{◌≡◌, ℕ, ◌*◌, ◌≤◌, ℤ, List, [], ◌∷◌, length, map, replicate, unsigned_abs, All, false, None}
+use Rattle.std.specs.Prelude.{◌≡◌, ℕ, ◌*◌, ◌≤◌, ℤ, List, [], ◌∷◌, length, map, replicate, unsigned_abs, All, false}
+use Rattle.std.specs.Prelude.{None}
 use Rattle.agwpe_port.specs.Held.{StandsFor as AgwStandsFor}
 use Rattle.frame_merge.specs.declared.candidate.Candidate.{Candidate}
 use Rattle.frame_merge.specs.Held.{StandsFor as MergerStandsFor}
