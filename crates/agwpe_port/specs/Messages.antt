@@ -69,8 +69,8 @@ abbrev pub given : Result (Option AgwMessage) AgwFault → List AgwMessage
 given (Ok message) = option_to_list message
 given (Err fault) = []
 
--- The fault that an octet after a stream meets: it ends a header that tells too long a body, or stands after one. Memory
--- is wanted only if it does not.
+-- The fault that an octet after a stream meets: it ends a header that tells too long a body, or stands after one.
+-- Memory is wanted only if it does not.
 abbrev pub IsFault : List ℕ → ℕ → AgwFault → Type 0
 IsFault stream octet (BadLength len) = (bad_length_in stream ≡ None) × (bad_length_in (stream ++ octet ∷ []) ≡ Some len)
 IsFault stream octet (Failed len) = bad_length_in stream ≡ Some len

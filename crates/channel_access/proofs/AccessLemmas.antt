@@ -24,7 +24,8 @@ use Rattle.channel_access.proofs.TickLemmas.{all_waiting}
 use Rattle.channel_access.proofs.AirLemmas.{at_end, run_samples, run_sent, run_air}
 
 -- a new transmission, if a frame waits
-unfoldable pub begins : (parameters : Parameters) (waiting : List WaitingFrame) (generator : Lcg) (slot : ℕ) → 1 ≤ length waiting
+unfoldable pub begins : (parameters : Parameters) (waiting : List WaitingFrame) (generator : Lcg) (slot : ℕ)
+    → 1 ≤ length waiting
     → Goes (new_sending parameters) waiting (begun (record {
       waiting = waiting;
       parameters = parameters;

@@ -9,7 +9,8 @@ use Rattle.channel_access.specs.Words.{generator_of, draw_stream, draw, after_wo
 use Rattle.channel_access.specs.OnAir.{OnAir, bits_of, flag_end, followed_by, frame_named, frames_end}
 use Rattle.channel_access.specs.WholeTransmission.{GoesToItsEnd}
 use Rattle.channel_access.specs.WholeTransmission.Call.{Ticks}
-use Rattle.channel_access.specs.Channel.{Channel, new_channel, with_frame, with_setting, decision, begun, air_tick, after_tick}
+use Rattle.channel_access.specs.Channel.{Channel, new_channel, with_frame, with_setting, decision, begun, air_tick}
+use Rattle.channel_access.specs.Channel.{after_tick}
 
 -- SABM with P from N7LEM to NJ7P
 abbrev shortest : List ℕ

@@ -261,7 +261,8 @@ under_way_joined opening closing first joined ticks channel frame fits h =
 tick_is : (busy : Bool) (channel : Channel) (t : OnAir) → channel.air ≡ Some t
     → air_tick busy channel ≡ sends channel.waiting t false
 tick_is busy channel t is =
-    subst (λ (a : Option OnAir). air_tick busy (record channel { air = a }) ≡ sends channel.waiting t false) (sym is) refl
+    subst (λ (a : Option OnAir). air_tick busy (record channel { air = a }) ≡ sends channel.waiting t false)
+    (sym is) refl
 
 after_is : (busy : Bool) (channel : Channel) (t : OnAir) → channel.air ≡ Some t
     → after_tick busy channel ≡ behind channel t
@@ -279,7 +280,8 @@ call_more opening closing first joined ticks channel (Queues link octets) fit h 
     (inl (under_way_joined opening closing first joined ticks channel frame
     (All-head (λ (f : WaitingFrame). HasFrameLength f.octets) frame [] fit) h))
 call_more opening closing first joined ticks channel (Sets param) fit h =
-    subst (λ ts. After opening closing first (joined ++ []) ts (after_call (Sets param) channel)) (sym (append-nil ticks))
+    subst (λ ts. After opening closing first (joined ++ []) ts (after_call (Sets param) channel))
+    (sym (append-nil ticks))
     (subst (λ js. After opening closing first js ticks (after_call (Sets param) channel)) (sym (append-nil joined))
     (inl (record {
       t = h.t;

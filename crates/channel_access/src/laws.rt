@@ -27,8 +27,8 @@ pub fn a_tick_is_a_part_of_the_whole()
 {}
 
 /// What is sent from the tick in which a transmission begins to the one after which none is under way, whatever is
-/// called meanwhile, is one transmission of at most eight frames, which are the front of the queue in order, and zeros up
-/// to a whole tick. Each frame is named once as sent, in order.
+/// called meanwhile, is one transmission of at most eight frames, which are the front of the queue in order, and zeros
+/// up to a whole tick. Each frame is named once as sent, in order.
 pub fn a_transmission_is_whole()
     ensures { (channel : Channel) (busy : Bool) (calls : List Call) → AreFrames channel.waiting
         → AreFrames (joining calls) → channel.air ≡ None → (air_tick busy channel).began ≡ true

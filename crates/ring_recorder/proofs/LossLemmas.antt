@@ -1,5 +1,6 @@
 -- The losses after one more answer.
-use Rattle.std.proofs.Common.{◌≡◌, ℕ, zero, suc, ◌+◌, ◌<◌, ◌⊎◌, List, [], ◌∷◌, ◌++◌, length, get_or, set, refl, sym, ap, ◌∙◌}
+use Rattle.std.proofs.Common.{◌≡◌, ℕ, zero, suc, ◌+◌, ◌<◌, ◌⊎◌, List, [], ◌∷◌, ◌++◌, length, get_or, set, refl, sym, ap}
+use Rattle.std.proofs.Common.{◌∙◌}
 use Rattle.std.proofs.Common.{inl, inr, arith, ne_eqb, Bool, true, false, cond}
 use Rattle.std.specs.Prelude.{◌==◌, if◌then◌else◌}
 use Rattle.std.proofs.lemmas.Bool.{cases_eq, cond-true, cond-false, eq-eqb}
@@ -75,7 +76,8 @@ before_and_after from to a b (last ∷ []) =
     at_front meets (inl on) =
         ap (gap_before from to) (cond-true (last.to == a) (loss last.from b ∷ []) (last ∷ loss a b ∷ [])
         (eq-eqb last.to a on))
-        ∙ cond-true (last.from == to) (loss from b ∷ []) (loss from to ∷ loss last.from b ∷ []) (eq-eqb last.from to meets)
+        ∙ cond-true (last.from == to) (loss from b ∷ []) (loss from to ∷ loss last.from b ∷ [])
+        (eq-eqb last.from to meets)
         ∙ sym (ap (λ l. with_gap l a b) (front meets)
         ∙ cond-true (last.to == a) (loss from b ∷ []) (loss from last.to ∷ loss a b ∷ []) (eq-eqb last.to a on))
     at_front meets (inr off) =

@@ -87,7 +87,8 @@ pub record ReadOnce (len : ℕ) (start after : HeldRecorder) (so_far : List Entr
   pub answers : map (answer len) (so_far ++ entry ∷ []) ≡ map (answer len) so_far ++ got ∷ []
   pub stands : StandsFor len start → StandsFor len after
 
-answers_once : (len : ℕ) (now after : HeldRecorder) (so_far : List Entry) (got : Got) (took : TookAnswer len now after got)
+answers_once : (len : ℕ) (now after : HeldRecorder) (so_far : List Entry) (got : Got)
+    (took : TookAnswer len now after got)
     → map (answer len) (so_far ++ took.read.0 ∷ []) ≡ map (answer len) so_far ++ got ∷ []
 answers_once len now after so_far got took =
     map-append (answer len) so_far (took.read.0 ∷ []) ∙ ap (λ g. map (answer len) so_far ++ g ∷ []) (sym took.read.4)

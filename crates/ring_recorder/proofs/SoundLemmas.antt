@@ -72,7 +72,8 @@ stays_ended (Gap from to) = refl
 stays_ended (Empty at) = refl
 stays_ended (End total) = refl
 
-pub ended_more : (answers : List Got) (got : Got) → has_ended (answers ++ got ∷ []) ≡ ended_after (has_ended answers) got
+pub ended_more : (answers : List Got) (got : Got) → has_ended (answers ++ got ∷ []) ≡ ended_after
+    (has_ended answers) got
 ended_more [] got = alone got
 ended_more (Item at sample ∷ answers) got = ended_more answers got
 ended_more (Gap from to ∷ answers) got = ended_more answers got

@@ -241,7 +241,8 @@ tile_gap from gap_end to items (next ∷ others) on tile = elim (cases_eq next.f
         let low : gap_end ≤ next.from = first.0 in
         let fits : next.from < next.to = first.1 in
         All-cons (λ l. gap_end < l.from) next others (omega arith)
-        (λ k d lt. let rises : next.to < (get_or others k d).from = tile.losses_rise 0 (suc k) d (omega arith) (omega arith) in
+        (λ k d lt. let rises : next.to < (get_or others k d).from = tile.losses_rise 0 (suc k) d (omega arith)
+        (omega arith) in
         omega arith)
 
 -- ---- all answers

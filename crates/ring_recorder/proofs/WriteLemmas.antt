@@ -1,5 +1,6 @@
 -- Samples that are written piece after piece.
-use Rattle.std.proofs.Common.{◌≡◌, ℕ, List, [], ◌++◌, length, take, drop, Option, Some, append_assoc, refl, sym, ap, ◌∙◌, subst}
+use Rattle.std.proofs.Common.{◌≡◌, ℕ, List, [], ◌++◌, length, take, drop, Option, Some, append_assoc, refl, sym, ap}
+use Rattle.std.proofs.Common.{◌∙◌, subst}
 use Rattle.std.specs.Prelude.{ℤ, Result, Ok, Err, OnOk, OnErr}
 use Rattle.std.proofs.lemmas.List.{append-nil, take-append-drop}
 use Rattle.std.proofs.lemmas.Grind.{flat_map-append}
@@ -99,13 +100,15 @@ wave_parts head n sound first second is count parts =
     ap (λ h. h ++ octets_of sound) (sym (is ∙ ap head_of count))
     ∙ ap (λ o. head ++ o) (ap octets_of (sym parts) ∙ octets_append first second)
 
-pub head_part : (head : List ℕ) (sound first second : List ℤ) → wave_of sound ≡ head ++ (octets_of first ++ octets_of second)
+pub head_part : (head : List ℕ) (sound first second : List ℤ) → wave_of sound ≡ head ++
+    (octets_of first ++ octets_of second)
     → (before : List ℕ) (now : Option (List ℕ)) → WrotePart before head now → WrotePart before (wave_of sound) now
 head_part head sound first second whole before now part =
     subst (λ (t : List ℕ). WrotePart before t now) (sym whole)
     (part_of_front before head (octets_of first ++ octets_of second) now part)
 
-pub first_part : (head : List ℕ) (sound first second : List ℤ) → wave_of sound ≡ head ++ (octets_of first ++ octets_of second)
+pub first_part : (head : List ℕ) (sound first second : List ℤ) → wave_of sound ≡ head ++
+    (octets_of first ++ octets_of second)
     → (before : List ℕ) (now : Option (List ℕ)) → WrotePart (before ++ head) (octets_of first) now
     → WrotePart before (wave_of sound) now
 first_part head sound first second whole before now part =
@@ -113,7 +116,8 @@ first_part head sound first second whole before now part =
     (part_past_front before head (octets_of first ++ octets_of second) now
     (part_of_front (before ++ head) (octets_of first) (octets_of second) now part))
 
-pub second_part : (head : List ℕ) (sound first second : List ℤ) → wave_of sound ≡ head ++ (octets_of first ++ octets_of second)
+pub second_part : (head : List ℕ) (sound first second : List ℤ) → wave_of sound ≡ head ++
+    (octets_of first ++ octets_of second)
     → (before : List ℕ) (now : Option (List ℕ)) → WrotePart ((before ++ head) ++ octets_of first) (octets_of second) now
     → WrotePart before (wave_of sound) now
 second_part head sound first second whole before now part =
@@ -121,7 +125,8 @@ second_part head sound first second whole before now part =
     (part_past_front before head (octets_of first ++ octets_of second) now
     (part_past_front (before ++ head) (octets_of first) (octets_of second) now part))
 
-pub all_parts : (head : List ℕ) (sound first second : List ℤ) → wave_of sound ≡ head ++ (octets_of first ++ octets_of second)
+pub all_parts : (head : List ℕ) (sound first second : List ℤ) → wave_of sound ≡ head ++
+    (octets_of first ++ octets_of second)
     → (before : List ℕ) (now : Option (List ℕ)) → now ≡ Some (((before ++ head) ++ octets_of first) ++ octets_of second)
     → now ≡ Some (before ++ wave_of sound)
 all_parts head sound first second whole before now is =

@@ -1,6 +1,7 @@
 //! The fifteen lanes that are added to one for each offset of a bit.
 
-ghost use Rattle.std.specs.Prelude.{◌≡◌, ◌+◌, ◌-◌, ◌<◌, ◌≤◌, ◌^◌, ℕ, ℤ, pos, List, [], ◌++◌, length, IfOk, OnOk, slice_index_or};
+ghost use Rattle.std.specs.Prelude.{◌≡◌, ◌+◌, ◌-◌, ◌<◌, ◌≤◌, ◌^◌, ℕ, ℤ, pos, List, [], ◌++◌, length, IfOk, OnOk};
+ghost use Rattle.std.specs.Prelude.{slice_index_or};
 ghost use Rattle.std.specs.List.{All};
 ghost use Rattle.tone_tracking.specs.Heard.{places_in};
 ghost use Rattle.sensitive_receiver.specs.Found.{AddsBetween, AreAddedBetween, HasRoom, HasRoomFrom, IsAddedFrom};

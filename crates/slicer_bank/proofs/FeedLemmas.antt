@@ -134,6 +134,7 @@ pub past_of : {V E : Type 0} (items_of : V → List Candidate) (position : ℕ) 
     → result ≡ heard → IfOk heard (λ found. All (CanBePutPast position) (items_of found))
     → IfOk result (λ found. AllPast position (items_of found))
 past_of items_of position result heard same h =
-    IfOk-weaker result (λ found. All (CanBePutPast position) (items_of found)) (λ found. AllPast position (items_of found))
+    IfOk-weaker result (λ found. All (CanBePutPast position) (items_of found))
+    (λ found. AllPast position (items_of found))
     (λ found fits. past_all position (items_of found) fits)
     (subst (λ r. IfOk r (λ found. All (CanBePutPast position) (items_of found))) (sym same) h)

@@ -1,5 +1,6 @@
 -- What comes of the host, octet by octet.
-use Rattle.std.proofs.Common.{◌≡◌, ◌≢◌, ℕ, ◌^◌, ◌-◌, ◌+◌, min, true, false, List, [], ◌∷◌, ◌++◌, length, refl, ap, subst, ◌∙◌}
+use Rattle.std.proofs.Common.{◌≡◌, ◌≢◌, ℕ, ◌^◌, ◌-◌, ◌+◌, min, true, false, List, [], ◌∷◌, ◌++◌, length, refl, ap}
+use Rattle.std.proofs.Common.{subst, ◌∙◌}
 use Rattle.std.proofs.Common.{sym, append_assoc, append-nil, Option, Some, None, arith, length-append, MatchOption}
 use Rattle.tnc_base.specs.Streams.{WrotePart}
 use Rattle.agwpe_client.specs.declared.call_state.CallState.{CallState}

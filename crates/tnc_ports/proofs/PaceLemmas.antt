@@ -5,7 +5,8 @@ use Rattle.std.proofs.Common.{sym, ap, ◌∙◌, subst, append_assoc, inl, inr}
 use Rattle.std.proofs.lemmas.Grind.{flat_map-append}
 use Rattle.std.proofs.lemmas.List.{append-nil}
 use Rattle.wav_file.specs.Samples.{samples}
-use Rattle.tnc_ports.specs.Inlet.{Step, octets_of_step, samples_of_step, octets_read, samples_published, AreAllPublished, KeepsPace}
+use Rattle.tnc_ports.specs.Inlet.{Step, octets_of_step, samples_of_step, octets_read, samples_published}
+use Rattle.tnc_ports.specs.Inlet.{AreAllPublished, KeepsPace}
 use Rattle.tnc_ports.specs.Inlet.Step.{Reads, Publishes}
 use Rattle.tnc_ports.specs.OddOctet.{odd_octet}
 

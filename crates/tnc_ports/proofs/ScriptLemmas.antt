@@ -13,7 +13,8 @@ use Rattle.station.specs.declared.host_event.HostEvent.{HostEvent}
 use Rattle.station.specs.declared.host_event.HostEvent.TheVariants.{Joined, Bytes, Left}
 use Rattle.tnc_ports.specs.declared.records.Came.{Came}
 use Rattle.tnc_ports.specs.declared.records.Dial.{Dial}
-use Rattle.tnc_ports.specs.Sockets.{Poll, id_of, is_octets_of, is_joining_of, MayCome, IsWholePiece, has_come, has_dialed}
+use Rattle.tnc_ports.specs.Sockets.{Poll, id_of, is_octets_of, is_joining_of, MayCome, IsWholePiece, has_come}
+use Rattle.tnc_ports.specs.Sockets.{has_dialed}
 use Rattle.tnc_ports.specs.Scripts.{scripted_for, is_paused, has_to_wait, waiting_of, given_of, joined_in, joined_of}
 use Rattle.tnc_ports.specs.Scripts.{due_of, was_shut, shut_one, with_shut}
 

@@ -11,7 +11,8 @@ use Rattle.tnc_ports.specs.AskedPorts.{Told, AreUnasked, IsAsked}
 use Rattle.tnc_ports.specs.HeldHosts.{HeldHosts, StandsFor}
 use Rattle.tnc_ports.specs.Hosts.{Hosts}
 use Rattle.tnc_ports.specs.HostTurns.{Asked, IsHostPart}
-use Rattle.tnc_ports.specs.Sampled.{Live, new_live, HaveEnded, LanesReadOn, AreHeard, AreTicked, MakesAll, IsTurn, tick_samples}
+use Rattle.tnc_ports.specs.Sampled.{Live, new_live, HaveEnded, LanesReadOn, AreHeard, AreTicked, MakesAll, IsTurn}
+use Rattle.tnc_ports.specs.Sampled.{tick_samples}
 use Rattle.tnc_ports.specs.SampledFrames.{IsFrameHeard}
 use Rattle.tnc_ports.specs.SampledRun.{IsCutTurn, IsCutInServing, AreTurns, Outside, PortsTell, PortsStay}
 use Rattle.tnc_ports.specs.SampledWrites.{Stream, ReportsMore, WritesMore}

@@ -1,8 +1,9 @@
 //! The sockets that host programs connect to, by KISS on one port and by AGWPE on another, or that connect to a host.
 //!
 //! The calls are made in this order: `listen` or `dial`, and then in each turn one `poll` and the `send`s. Like a
-//! stream, the sockets count their faults, so that nobody can blame them for a failure of its own, and they tell what was done
-//! with them if they know it. A contract on code that works with them can then say what it does to each connection.
+//! stream, the sockets count their faults, so that nobody can blame them for a failure of its own, and they tell what
+//! was done with them if they know it. A contract on code that works with them can then say what it does to each
+//! connection.
 ghost use Rattle.std.specs.Prelude.{◌≡◌, ◌≢◌, ℕ, ◌≤◌, ◌<◌, Bool, true, List, Option, Some, [], ◌∷◌, ◌++◌, All, length};
 ghost use Rattle.std.specs.Prelude.{take, IfOk, OnOk, OnErr, IsErrOf};
 ghost use Rattle.tnc_base.specs.Faults.{HasRisen};
@@ -72,8 +73,8 @@ pub trait Ports {
         ensures later { faults self.old ≤ faults self.new }
         ensures failed { OnErr result (HasRisen (faults self.old) (faults self.new)) };
 
-    /// Opens a connection to a port of 127.0.0.1 and answers its id. Its octets and its end come as events of a poll; no
-    /// event says that it joins.
+    /// Opens a connection to a port of 127.0.0.1 and answers its id. Its octets and its end come as events of a poll;
+    /// no event says that it joins.
     fn dial<R: Net>(&mut self, rt: &R, port: u16) -> Result<u32, Failed>
         ensures dialed { (before : List Dial) → dials self.old ≡ Some before → IfOk result (λ id.
             dials self.new ≡ Some (before ++ (record { port = port; id = id }) ∷ [])) }

@@ -49,7 +49,8 @@ pub enum ServeEnd {
 
 /// Opens the ports, reads the input to its end or until it fails, and serves hosts meanwhile: a pump publishes the
 /// samples of the input in a ring, and beside it the turns of the station read them there. It may wait for the input.
-/// What the turns met counts before what the pump met. If no thread can be started for the pump it ends, without a turn.
+/// What the turns met counts before what the pump met. If no thread can be started for the pump it ends, without a
+/// turn.
 pub fn serve<
     R: Threads + Wait + Net + Sync,
     I: Source + Send,
@@ -152,7 +153,8 @@ fn run_beside<
                 × ((window : ℕ) → ¬ IsRefusedWindow words.now.config.params window)
                 × IsFresh words.now ring.now receiver.now }
             ensures { All (λ reader. reader_ring reader ≡ ring_id ring.entry.now) (readers_in receiver.exit.now)
-                × IsLoopedIf begins words.entry.now end.exit.now (answers_in (ring_len ring.entry.now) receiver.exit.now)
+                × IsLoopedIf begins words.entry.now end.exit.now
+                (answers_in (ring_len ring.entry.now) receiver.exit.now)
                 (outside_by N.listens N.polls N.sends N.sent N.is_shut N.faults O.written O.faults E.written E.faults
                 ports.entry.now output.entry.now report.entry.now)
                 (outside_by N.listens N.polls N.sends N.sent N.is_shut N.faults O.written O.faults E.written E.faults

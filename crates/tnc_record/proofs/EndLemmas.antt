@@ -88,7 +88,8 @@ lanes_closed published listening recording stand answered =
     subst (LanesStandIn published)
     (sym (take-map (answers_of_lane ring_cells) 9 (readers_in listening.receiver)) ∙ answered.lanes)
     (lanes_stand published readers (map record_of readers) refl
-    (all_front (StandsIn ring_cells published true) (map record_of readers) (record_of listening.recorder.reader) stand))
+    (all_front (StandsIn ring_cells published true) (map record_of readers)
+    (record_of listening.recorder.reader) stand))
 
 pub recorder_closed : (published : List ℤ) (listening : Listening) (recording : Recording)
     → All (StandsIn ring_cells published true) (all_records listening) → IsAnswered ring_cells listening recording

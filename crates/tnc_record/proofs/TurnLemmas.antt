@@ -301,7 +301,8 @@ pub runs_more : (words : RecordWords) (ended : Bool) (before after : Listening) 
 runs_more words ended before after len start s s' h t on = record {
   count = suc h.count;
   recording = t.next;
-  turns = turns_more words.sensitive h.count (new_recording words.sensitive) h.recording t.next h.turns h.goes_on t.turn;
+  turns = turns_more words.sensitive h.count
+      (new_recording words.sensitive) h.recording t.next h.turns h.goes_on t.turn;
   goes_on = t.goes_on on;
   stands = t.stands;
   writes = reported_more before.failed after.failed h.recording t.next start s s' h.writes t.writes;

@@ -65,7 +65,8 @@ pub record DoesNothing (input left : InputSide) (output output' report report' :
   pub no_output : output' ≡ output
   pub no_report : report' ≡ report
 
--- Without memory for the ring, the receiver and the recorder nothing is done, and nothing without a thread for the pump.
+-- Without memory for the ring, the receiver and the recorder nothing is done, and nothing without a thread for the
+-- pump.
 abbrev pub IsRecorded : RecordWords → RecordEnd → InputSide → InputSide → Stream → Stream → Stream → Stream → Type 0
 IsRecorded words Done input left output output' report report' =
     HasRecorded words Done input left output output' report report'

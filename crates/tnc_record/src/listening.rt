@@ -1,7 +1,7 @@
 //! One turn of a recording.
 //!
-//! What is heard in a turn is written once nothing of it can fail any more. So if memory is wanted, no line is written of
-//! a turn whose lines are not all made.
+//! What is heard in a turn is written once nothing of it can fail any more. So if memory is wanted, no line is written
+//! of a turn whose lines are not all made.
 
 ghost use Rattle.std.specs.Prelude.{◌≡◌, ◌+◌, ◌≤◌, ◌++◌, ℕ, [], ◌∷◌, false, length, All, IfOk, OnOk, OnErr};
 ghost use Rattle.sample_ring.specs.Ends.{ring_len, IsNew};
@@ -9,7 +9,8 @@ ghost use Rattle.ring_receiver.specs.HeldReceiver.{readers_in};
 ghost use Rattle.ring_receiver.specs.Readers.{readers_wanted};
 ghost use Rattle.tnc_ports.specs.SampledWrites.{stream_of};
 ghost use Rattle.tnc_record.specs.declared.recording.RecordWords.{RecordWords};
-ghost use Rattle.tnc_record.specs.HeldListening.{ReadsRing, StandsForRecording, HearsMore, StopsHearing, Turns, IsCutOff};
+ghost use Rattle.tnc_record.specs.HeldListening.{ReadsRing, StandsForRecording, HearsMore, StopsHearing, Turns};
+ghost use Rattle.tnc_record.specs.HeldListening.{IsCutOff};
 ghost use Rattle.tnc_record.specs.RecordTurns.{Recording, new_recording};
 
 use crate::lines::text_of_turn;

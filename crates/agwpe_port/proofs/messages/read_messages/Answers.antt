@@ -27,7 +27,8 @@ loop-octet-preserved c =
           ∙ ap (λ (xs : List AgwMessage). messages_in stream ++ xs) (sym c.in_ok-keep_message.ensures.kept);
       bad = λ stream len h is.
           subst (λ (read : List ℕ). bad_length_in read ≡ Some len) (one_more stream octets i c.loop-octet-test.true)
-          (bad_after c.loop-octet.reader (stream ++ take i octets) (read.stands_for stream h) len (read.bad stream len h is)
+          (bad_after c.loop-octet.reader (stream ++ take i octets) (read.stands_for stream h) len
+          (read.bad stream len h is)
           (get_or octets i 0 ∷ []));
       none = λ stream len h is.
           let failed = c.next_message.ensures.failed (stream ++ take i octets) len (read.stands_for stream h)

@@ -12,7 +12,8 @@ returns-clause-spelled c =
     let message = c.args.message.now in
     let remote : List ℕ = c.sent_back-remote.result in
     let local : List ℕ = c.sent_back-local.result in
-    let text : c.deref.result.now ≡ disconnected_text (field_text remote) = c.deref.ensures.value ∙ c.in_ok-text.ensures.text
+    let text : c.deref.result.now ≡ disconnected_text (field_text remote) = c.deref.ensures.value
+    ∙ c.in_ok-text.ensures.text
     ∙ ap disconnected_text c.text_of.ensures.text in
     let same : spelling (to_host disconnect_kind 0 remote local c.deref.result.now) ≡ spelling (refused_reply message) =
     ap (λ (body : List ℕ). spelling (to_host disconnect_kind 0 remote local body)) text

@@ -9,7 +9,8 @@ pub turns-preserved : goal.turns-preserved
 turns-preserved g c =
     let runs = c.turns.invariant.1 in (
       c.in-Ok-false.ensures.ring,
-      runs_more c.args.words.now c.in-Ok-false.field-0 c.turns.listening c.turn.new.self (ring_len c.args.ring.now) _ _ _
+      runs_more c.args.words.now c.in-Ok-false.field-0 c.turns.listening c.turn.new.self
+          (ring_len c.args.ring.now) _ _ _
           runs (c.in-Ok-false.ensures.turned c.args.words.now runs.recording runs.stands) c.in-Ok-false.field-0-test,
       c.turns.invariant.2,
     )

@@ -31,5 +31,6 @@ unfolding record_rows
 returns-clause-refused c = λ refused recorder asks.
     let words = map string_bytes c.args.words.now in
     let found : rows_of (found_of c.in_ok-found.found) ≡ record_rows words = c.in_ok-found.ensures.rows in
-    c.record_options.ensures.none (not_chosen c.record_options.result c.ok_or.result _ _ c.ok_or.ensures.value refused) recorder
+    c.record_options.ensures.none
+    (not_chosen c.record_options.result c.ok_or.result _ _ c.ok_or.ensures.value refused) recorder
     (subst (λ (rows : List Row). HasRecordOptions rows recorder) (sym found) asks.options)

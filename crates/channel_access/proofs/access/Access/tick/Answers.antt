@@ -22,7 +22,8 @@ pub returns-clause-stands_for : goal.returns-clause-stands_for
 returns-clause-stands_for c channel h =
     let P : Held → Type 0 = λ held. StandsFor held (after_tick c.args.busy channel) in
     subst P (sym c.tick.ensures.held)
-    (tick_of c.args.busy c.self.inside.transmitter channel (subst (λ k. StandsFor k channel) (sym c.self.view_is) h)).after
+    (tick_of c.args.busy c.self.inside.transmitter channel (subst (λ k. StandsFor k channel)
+    (sym c.self.view_is) h)).after
 
 pub returns-clause-order : goal.returns-clause-order
 returns-clause-order c channel h =

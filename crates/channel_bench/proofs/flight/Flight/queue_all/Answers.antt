@@ -23,7 +23,8 @@ loop-frame-preserved c =
           (c.in_ok-queue.ensures (queueing_all c.args.sender c.args.on_ask (take i frames) ways)
           (c.loop-frame.invariant.queued ways h)));
       first = λ ways h.
-          first_more c.args.sender c.args.on_ask (take i frames) octets ways c.loop-frame.first c.first_with-first.result
+          first_more c.args.sender c.args.on_ask
+          (take i frames) octets ways c.loop-frame.first c.first_with-first.result
           (c.loop-frame.invariant.first ways h)
           (c.first_with-first.ensures (queueing_all c.args.sender c.args.on_ask (take i frames) ways)
           (c.loop-frame.invariant.queued ways h))

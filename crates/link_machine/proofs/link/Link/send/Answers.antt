@@ -15,7 +15,8 @@ invariant_of-self-2 c =
     let free : is_some (refusal_of (itself held) (Send c.args.packet)) ≡ false =
     ap is_some (ap (λ (h : Held). refusal h.control (length h.outgoing.packets) (Send c.args.packet)) c.self.view_is
     ∙ sym c.send_refusal.ensures ∙ c.in_default.is) in
-    (kept_by held c.take_packet.new.self (Send c.args.packet) c.take_packet.result c.self.invariant free c.take_packet.ensures).0
+    (kept_by held c.take_packet.new.self
+    (Send c.args.packet) c.take_packet.result c.self.invariant free c.take_packet.ensures).0
 
 pub returns-clause-writable : goal.returns-clause-writable
 returns-clause-writable c =
@@ -30,7 +31,8 @@ pub returns-clause-step : goal.returns-clause-step
 returns-clause-step c = λ m h.
     let P : Held → Type 0 = λ x. StandsFor x m in
     let stands : StandsFor c.self.inside.machine m = subst P (sym c.self.view_is) h in
-    let free = free_of c.args.self.now m (Send c.args.packet) c.send_refusal.result c.send_refusal.ensures c.in_default.is h in
+    let free = free_of c.args.self.now m
+    (Send c.args.packet) c.send_refusal.result c.send_refusal.ensures c.in_default.is h in
     (answers_right c.take_packet.new.self m (Send c.args.packet) c.in_ok-acts.acts free
     (c.in_ok-acts.ensures m (holds_of c.self.inside.machine m c.self.invariant.whole stands))).0
 
@@ -38,6 +40,7 @@ pub returns-clause-stands_for : goal.returns-clause-stands_for
 returns-clause-stands_for c = λ m h.
     let P : Held → Type 0 = λ x. StandsFor x m in
     let stands : StandsFor c.self.inside.machine m = subst P (sym c.self.view_is) h in
-    let free = free_of c.args.self.now m (Send c.args.packet) c.send_refusal.result c.send_refusal.ensures c.in_default.is h in
+    let free = free_of c.args.self.now m
+    (Send c.args.packet) c.send_refusal.result c.send_refusal.ensures c.in_default.is h in
     (answers_right c.take_packet.new.self m (Send c.args.packet) c.in_ok-acts.acts free
     (c.in_ok-acts.ensures m (holds_of c.self.inside.machine m c.self.invariant.whole stands))).1

@@ -38,9 +38,11 @@ pub returns-in-Send-clause-acts : goal.returns-in-Send-clause-acts
 returns-in-Send-clause-acts c = λ link h.
     let held = c.args.self.now.machine in
     let packet = c.in-Send.packet in
-    subst (λ (event : LinkEvent). IfOk c.took-in-Send.result (λ acts. acts ≡ done_of (step link.machine (event_of event))))
+    subst (λ (event : LinkEvent). IfOk c.took-in-Send.result (λ acts. acts ≡ done_of (step link.machine
+    (event_of event))))
     (sym c.in-Send.is)
-    (took_if (λ (acts : Done). acts ≡ done_of (step link.machine (Send packet))) c.unless_refused-in-Send.result c.took-in-Send.result
+    (took_if (λ (acts : Done). acts ≡ done_of (step link.machine
+    (Send packet))) c.unless_refused-in-Send.result c.took-in-Send.result
     c.took-in-Send.ensures.value
     (passes_acts held link.machine (Send packet) c.send.result c.unless_refused-in-Send.result h.machine
     (c.send.ensures.step link.machine h.machine) c.send.ensures.fault c.unless_refused-in-Send.ensures))
@@ -52,7 +54,8 @@ returns-in-Send-clause-stands_for c = λ link h.
     let packet = c.in-Send.packet in
     subst (λ (event : LinkEvent). OnOk c.took-in-Send.result
     (StandsForLink (record held { machine = new }) (stepped_link (event_of event) link))) (sym c.in-Send.is)
-    (took_on (StandsForLink (record held { machine = new }) (stepped_link (Send packet) link)) c.unless_refused-in-Send.result
+    (took_on (StandsForLink (record held { machine = new }) (stepped_link
+    (Send packet) link)) c.unless_refused-in-Send.result
     c.took-in-Send.result c.took-in-Send.ensures.value
     (link_stands held new link (Send packet) c.unless_refused-in-Send.result h
     (passes_stands held.machine new link.machine (Send packet) c.send.result c.unless_refused-in-Send.result h.machine
@@ -62,9 +65,11 @@ returns-in-Send-clause-stands_for c = λ link h.
 pub returns-in-Disconnect-clause-acts : goal.returns-in-Disconnect-clause-acts
 returns-in-Disconnect-clause-acts c = λ link h.
     let held = c.args.self.now.machine in
-    subst (λ (event : LinkEvent). IfOk c.took-in-Disconnect.result (λ acts. acts ≡ done_of (step link.machine (event_of event))))
+    subst (λ (event : LinkEvent). IfOk c.took-in-Disconnect.result (λ acts. acts ≡ done_of (step link.machine
+    (event_of event))))
     (sym c.in-Disconnect.is)
-    (took_if (λ (acts : Done). acts ≡ done_of (step link.machine Disconnect)) c.unless_refused-in-Disconnect.result c.took-in-Disconnect.result
+    (took_if (λ (acts : Done). acts ≡ done_of
+    (step link.machine Disconnect)) c.unless_refused-in-Disconnect.result c.took-in-Disconnect.result
     c.took-in-Disconnect.ensures.value
     (passes_acts held link.machine Disconnect c.disconnect.result c.unless_refused-in-Disconnect.result h.machine
     (c.disconnect.ensures.step link.machine h.machine) c.disconnect.ensures.fault c.unless_refused-in-Disconnect.ensures))
@@ -75,7 +80,8 @@ returns-in-Disconnect-clause-stands_for c = λ link h.
     let new = c.disconnect.new.self in
     subst (λ (event : LinkEvent). OnOk c.took-in-Disconnect.result
     (StandsForLink (record held { machine = new }) (stepped_link (event_of event) link))) (sym c.in-Disconnect.is)
-    (took_on (StandsForLink (record held { machine = new }) (stepped_link Disconnect link)) c.unless_refused-in-Disconnect.result
+    (took_on (StandsForLink (record held { machine = new })
+    (stepped_link Disconnect link)) c.unless_refused-in-Disconnect.result
     c.took-in-Disconnect.result c.took-in-Disconnect.ensures.value
     (link_stands held new link Disconnect c.unless_refused-in-Disconnect.result h
     (passes_stands held.machine new link.machine Disconnect c.disconnect.result c.unless_refused-in-Disconnect.result h.machine
