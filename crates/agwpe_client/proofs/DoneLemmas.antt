@@ -1,5 +1,6 @@
 -- A call that is done, message by message.
-use Rattle.std.proofs.Common.{◌≡◌, ℕ, eqb, cond, Bool, true, false, ◌&&◌, List, [], ◌∷◌, ◌++◌, All, refl, ap, subst, ◌∙◌, sym, inl, inr, ◌⊎◌}
+use Rattle.std.proofs.Common.{◌≡◌, ℕ, eqb, cond, Bool, true, false, ◌&&◌, List, [], ◌∷◌, ◌++◌, All, refl, ap, subst}
+use Rattle.std.proofs.Common.{◌∙◌, sym, inl, inr, ◌⊎◌}
 use Rattle.std.proofs.Common.{append_assoc, append-nil, arith, Option, Some, None}
 use Rattle.std.specs.List.{flat_map}
 use Rattle.std.proofs.lemmas.Bool.{eqb-true}

@@ -12,7 +12,8 @@ use Rattle.agwpe_client.specs.declared.call_state.CallState.{CallState}
 use Rattle.agwpe_client.specs.declared.call_state.CallState.TheVariants.{Asking, Calling, Up, Done, Refused, Broken}
 use Rattle.agwpe_client.specs.declared.step.Step.TheVariants.{Ignore}
 use Rattle.agwpe_client.specs.CallSteps.{step_of}
-use Rattle.agwpe_client.specs.CallRun.{CallPlan, CallRun, begin, moving, stepped, with_message, is_over, with_bad_length}
+use Rattle.agwpe_client.specs.CallRun.{CallPlan, CallRun, begin, moving, stepped, with_message, is_over}
+use Rattle.agwpe_client.specs.CallRun.{with_bad_length}
 use Rattle.agwpe_client.specs.CallRun.{call_run, state_after}
 
 -- ---- a reader for each stream

@@ -18,8 +18,8 @@ is_of kind plan message =
 abbrev pub data_of : CallPlan → AgwMessage → List ℕ
 data_of plan message = if is_of data_kind plan message then message.body else []
 
--- The messages that made the call: one that connects it, one that ends it, with none between them, and the data of those
--- between them.
+-- The messages that made the call: one that connects it, one that ends it, with none between them, and the data of
+-- those between them.
 pub record IsDoneCall (plan : CallPlan) (messages : List AgwMessage) (printed : List ℕ) : Type 0 where
   pub front : List AgwMessage
   pub connected : AgwMessage

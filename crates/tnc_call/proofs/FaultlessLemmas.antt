@@ -1,5 +1,6 @@
 -- How a call ends if nothing fails.
-use Rattle.std.proofs.Common.{◌≡◌, ◌≢◌, ℕ, ◌⊎◌, List, [], ◌∷◌, ◌++◌, All, length, get_or, refl, ap, subst, ◌∙◌, sym, inl, inr}
+use Rattle.std.proofs.Common.{◌≡◌, ◌≢◌, ℕ, ◌⊎◌, List, [], ◌∷◌, ◌++◌, All, length, get_or, refl, ap, subst, ◌∙◌, sym}
+use Rattle.std.proofs.Common.{inl, inr}
 use Rattle.std.proofs.Common.{arith, Option, Some, false, length-append}
 use Rattle.std.proofs.Math.Seq.{get_or-append_seam}
 use Rattle.std.proofs.lemmas.List.{append_cancel_left}
@@ -83,7 +84,8 @@ module _ (words : CallWords) (text before : List ℕ) (written : Option (List �
   no_loss trace faultless (inl left) = not_left id (events_in polls) left.front left.rest faultless.stays left.is
   no_loss trace faultless (inr failed) = faultless.sockets failed.0
 
-  by_end : (end : CallEnd) → IsFaultless words text start now id polls end → IsCalled words text before written start now end
+  by_end : (end : CallEnd) → IsFaultless words text start now id polls end
+      → IsCalled words text before written start now end
       → Ends end
   by_end (Done got) faultless called =
       let e = ended (Done got) faultless called in by_state DoneState (Done got) e.0 (ap Done e.2)

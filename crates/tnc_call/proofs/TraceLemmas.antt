@@ -1,6 +1,7 @@
 -- The polls and offers of a call, one after the other.
 use Rattle.std.proofs.Common.{◌≡◌, ◌≢◌, ℕ, suc, ◌+◌, ◌<◌, ◌≤◌, ◌⊎◌, eqb, leb, cond, Bool, true, false, List, [], ◌∷◌}
-use Rattle.std.proofs.Common.{◌++◌, All, length, map, take, drop, get_or, refl, ap, subst, ◌∙◌, sym, inl, inr, arith, append_assoc}
+use Rattle.std.proofs.Common.{◌++◌, All, length, map, take, drop, get_or, refl, ap, subst, ◌∙◌, sym, inl, inr, arith}
+use Rattle.std.proofs.Common.{append_assoc}
 use Rattle.std.proofs.Common.{append-nil, length-append, Some}
 use Rattle.std.specs.Prelude.{Any, filter}
 use Rattle.std.proofs.Math.ListN.{get_or-append}
@@ -13,7 +14,8 @@ use Rattle.std.proofs.lemmas.List.Sums.{sum_by-append, sum_by_push}
 use Rattle.tnc_ports.specs.SampledRun.{GrowsBy}
 use Rattle.tnc_ports.specs.Sockets.{Poll, Send}
 use Rattle.agwpe_client.specs.CallRun.{CallPlan, sent_after}
-use Rattle.tnc_call.specs.CallTrace.{CallPorts, CallTrace, CallOffer, IsTraced, IsAlike, IsAlwaysOffered, IsOfferedBefore}
+use Rattle.tnc_call.specs.CallTrace.{CallPorts, CallTrace, CallOffer, IsTraced, IsAlike, IsAlwaysOffered}
+use Rattle.tnc_call.specs.CallTrace.{IsOfferedBefore}
 use Rattle.tnc_call.specs.CallTrace.{TookLess, count_taken, offers_before, send_of, sends_of, octets_in, octets_of}
 use Rattle.tnc_call.specs.CallTrace.{events_in, event_octets}
 

@@ -1,5 +1,6 @@
 -- A turn of a call.
-use Rattle.std.proofs.Common.{◌≡◌, ◌≢◌, ℕ, ◌-◌, ◌<◌, ◌≤◌, List, [], ◌∷◌, ◌++◌, length, refl, ap, subst, ◌∙◌, sym, inl, inr}
+use Rattle.std.proofs.Common.{◌≡◌, ◌≢◌, ℕ, ◌-◌, ◌<◌, ◌≤◌, List, [], ◌∷◌, ◌++◌, length, refl, ap, subst, ◌∙◌, sym, inl}
+use Rattle.std.proofs.Common.{inr}
 use Rattle.std.proofs.Common.{arith, append_assoc, append-nil, Option, Some, None, MatchOption}
 use Rattle.std.proofs.Common.{false}
 use Rattle.std.proofs.lemmas.Grind.{flat_map-append}
@@ -17,7 +18,8 @@ use Rattle.tnc_call.specs.declared.call_end.CallEnd.{CallEnd}
 use Rattle.tnc_call.specs.declared.call_end.CallEnd.TheVariants.{Done, TooLong, Memory, ReadFault, WriteFault, NoHost}
 use Rattle.tnc_call.specs.declared.call_end.CallEnd.TheVariants.{Refused, HostLost, Broken, GaveUp}
 use Rattle.tnc_call.specs.CallEnding.{IsEnded, IsPartPrinted}
-use Rattle.tnc_call.specs.CallTrace.{CallPorts, CallTrace, IsTraced, IsAlike, IsCallPoll, octets_of, octets_in, events_in}
+use Rattle.tnc_call.specs.CallTrace.{CallPorts, CallTrace, IsTraced, IsAlike, IsCallPoll, octets_of, octets_in}
+use Rattle.tnc_call.specs.CallTrace.{events_in}
 use Rattle.tnc_call.specs.HeldTalk.{HasBegun, GoesOn, Stops, StopsBy, IsRunning, HasOffered, TurnsOn, HasStopped}
 use Rattle.tnc_call.specs.HeldTalk.{HasTalked}
 use Rattle.tnc_call.specs.CallEnding.{count_of}
@@ -26,7 +28,8 @@ use Rattle.agwpe_client.specs.CallRun.{CallRun}
 use Rattle.agwpe_client.proofs.BeginLemmas.{run_begins}
 use Rattle.tnc_call.proofs.HeardLemmas.{all_is_part, octets_of_more}
 use Rattle.tnc_call.proofs.TraceLemmas.{IsOfferTold, with_offer, with_poll, traced_offer, traced_poll, traced_same}
-use Rattle.tnc_call.proofs.TraceLemmas.{traced_more, alike_on, count_with_offer, octets_with_poll, all_early, early_again}
+use Rattle.tnc_call.proofs.TraceLemmas.{traced_more, alike_on, count_with_offer, octets_with_poll, all_early}
+use Rattle.tnc_call.proofs.TraceLemmas.{early_again}
 use Rattle.tnc_call.proofs.TraceLemmas.{offered_now, always_with_poll, always_with_offer}
 
 -- ---- the offer
@@ -101,7 +104,8 @@ module _ (talk : Talk) (plan : CallPlan) (id : ℕ) (before : List ℕ) (start o
   host = octets_in id trace.polls
 
   -- the octets to be sent after more came
-  more_to_send : (events : List HostEvent) (poll : Poll) → poll.events ≡ events → IsTraced id talk.sent.items trace start old
+  more_to_send : (events : List HostEvent) (poll : Poll) → poll.events ≡ events
+      → IsTraced id talk.sent.items trace start old
       → IsTraced id (sent_after plan (octets_in id (trace.polls ++ poll ∷ []))) trace start old
   more_to_send events poll is traced =
       let whole : octets_in id (trace.polls ++ poll ∷ []) ≡ host ++ octets_of id events =
@@ -147,7 +151,8 @@ module _ (talk : Talk) (plan : CallPlan) (id : ℕ) (before : List ℕ) (start o
           }
 
       -- the end that events make is the end of the call
-      ends_by : (output : Option (List ℕ)) (most : ℕ) (end : CallEnd) → StopsBy plan id host poll.events before output end
+      ends_by : (output : Option (List ℕ)) (most : ℕ) (end : CallEnd)
+          → StopsBy plan id host poll.events before output end
           → IsEnded plan most id (with_poll poll trace) before output start.faults now.faults end
       ends_by output most (Done got) stops = subst (λ xs. Stops plan xs before output (Done got)) (sym whole) stops
       ends_by output most TooLong stops = absurd stops

@@ -1,5 +1,6 @@
 -- What a whole call is: what it printed and did with the sockets, and why it ended.
-use Rattle.std.specs.Prelude.{◌≡◌, ◌≢◌, ℕ, ◌-◌, ◌^◌, ◌<◌, ◌≤◌, ◌⊎◌, Bool, true, false, List, [], ◌∷◌, ◌++◌, All, length, min}
+use Rattle.std.specs.Prelude.{◌≡◌, ◌≢◌, ℕ, ◌-◌, ◌^◌, ◌<◌, ◌≤◌, ◌⊎◌, Bool, true, false, List, [], ◌∷◌, ◌++◌, All}
+use Rattle.std.specs.Prelude.{length, min}
 use Rattle.std.specs.Prelude.{Option, Some}
 use Rattle.tnc_base.specs.Faults.{HasRisen}
 use Rattle.tnc_base.specs.Streams.{WrotePart}
@@ -35,7 +36,8 @@ count_of octets = min (length octets) (2 ^ 64 - 1)
 
 abbrev pub IsDone : CallPlan → List ℕ → List ℕ → Option (List ℕ) → ℕ → Type 0
 IsDone plan host before written got =
-    (state_after plan host ≡ DoneState) × IsPrinted plan host before written × (got ≡ count_of (printed_after plan host))
+    (state_after plan host ≡ DoneState) × IsPrinted plan host before written
+    × (got ≡ count_of (printed_after plan host))
 
 abbrev pub IsRefused : CallPlan → List ℕ → List ℕ → Option (List ℕ) → Type 0
 IsRefused plan host before written = (state_after plan host ≡ RefusedState) × IsPrinted plan host before written
@@ -82,9 +84,9 @@ IsEnded plan most id trace before written faults later (GaveUp polls) =
 abbrev pub plan_of : CallWords → List ℕ → CallPlan
 plan_of words text = call_plan words.own words.remote words.via.items text words.expect
 
--- The port of the words is dialed, once. Each poll waits up to 100 ms and pauses nobody, and before it nothing waits that
--- the host would have taken. What the host took is the first of what is to be sent to it. In the end its connection is
--- shut, and no other one.
+-- The port of the words is dialed, once. Each poll waits up to 100 ms and pauses nobody, and before it nothing waits
+-- that the host would have taken. What the host took is the first of what is to be sent to it. In the end its
+-- connection is shut, and no other one.
 pub record HasCalled (words : CallWords) (text before : List ℕ) (written : Option (List ℕ)) (start now : CallPorts)
     (end : CallEnd) : Type 0 where
   pub fits : length text ≤ text_limit

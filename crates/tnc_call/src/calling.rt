@@ -17,8 +17,8 @@ use tnc_base::{Sink, Source};
 use tnc_ports::Ports;
 
 /// Makes one call. The input is read to its end, and then the port is dialed. Each turn offers the host what waits for
-/// it and polls once, for at most 100 ms, and prints what comes of the remote station as it comes. The connection to the
-/// host is shut at every end. Returns after at most so many polls.
+/// it and polls once, for at most 100 ms, and prints what comes of the remote station as it comes. The connection to
+/// the host is shut at every end. Returns after at most so many polls.
 pub fn call<R: Net, I: Source, O: Sink, N: Ports>(
     rt: &R,
     alloc: Global,

@@ -1,5 +1,6 @@
 //! A call under way: what the client has sent, and how much of it the host took.
-ghost use Rattle.std.specs.Prelude.{◌≡◌, ◌≢◌, ◌≤◌, ◌-◌, ◌++◌, ◌∷◌, [], ℕ, List, Some, length, take, drop, IfOk, OnOk, OnErr};
+ghost use Rattle.std.specs.Prelude.{◌≡◌, ◌≢◌, ◌≤◌, ◌-◌, ◌++◌, ◌∷◌, [], ℕ, List, Some, length, take, drop, IfOk, OnOk};
+ghost use Rattle.std.specs.Prelude.{OnErr};
 ghost use Rattle.std.specs.Prelude.{MatchOption, IfSome};
 ghost use Rattle.tnc_base.specs.Faults.{HasRisen};
 ghost use Rattle.station.specs.declared.host_event.HostEvent.{HostEvent};
@@ -11,7 +12,8 @@ ghost use Rattle.tnc_call.specs.CallEnding.{plan_of};
 ghost use Rattle.tnc_call.specs.CallInput.{IsTalkEnd};
 ghost use Rattle.tnc_call.specs.CallTrace.{event_octets, octets_of, sends_of, ports_by, CallPorts};
 ghost use Rattle.tnc_call.specs.CallTrace.{CallTrace};
-ghost use Rattle.tnc_call.specs.HeldTalk.{HasBegun, GoesOn, IsAhead, Stops, StopsBy, IsRunning, HasOffered, TurnsOn, HasStopped};
+ghost use Rattle.tnc_call.specs.HeldTalk.{HasBegun, GoesOn, IsAhead, Stops, StopsBy, IsRunning, HasOffered, TurnsOn};
+ghost use Rattle.tnc_call.specs.HeldTalk.{HasStopped};
 
 use crate::call_end::CallEnd;
 use crate::call_words::CallWords;
@@ -158,7 +160,8 @@ impl Talk {
         output: &mut O,
     ) -> Option<CallEnd>
         requires within { self.old.taken ≤ length self.old.sent.items }
-        ensures taken { (plan : CallPlan) (host before : List ℕ) → GoesOn self.old plan host before (O.written output.old)
+        ensures taken { (plan : CallPlan) (host before : List ℕ)
+            → GoesOn self.old plan host before (O.written output.old)
             → MatchOption result (GoesOn self.new plan (host ++ octets_of id events.now) before (O.written output.new))
             (StopsBy plan id host events.now before (O.written output.new)) }
         ensures kept { self.new.taken ≡ self.old.taken }
@@ -179,8 +182,10 @@ impl Talk {
     /// Takes an event. One of another connection is passed over.
     fn take<O: Sink>(&mut self, id: u32, event: &HostEvent, output: &mut O) -> Option<CallEnd>
         requires within { self.old.taken ≤ length self.old.sent.items }
-        ensures taken { (plan : CallPlan) (host before : List ℕ) → GoesOn self.old plan host before (O.written output.old)
-            → MatchOption result (GoesOn self.new plan (host ++ event_octets id event.now) before (O.written output.new))
+        ensures taken { (plan : CallPlan) (host before : List ℕ)
+            → GoesOn self.old plan host before (O.written output.old)
+            → MatchOption result
+            (GoesOn self.new plan (host ++ event_octets id event.now) before (O.written output.new))
             (StopsBy plan id host (event.now ∷ []) before (O.written output.new)) }
         ensures kept { self.new.taken ≡ self.old.taken }
         ensures within { self.new.taken ≤ length self.new.sent.items }
@@ -208,7 +213,8 @@ impl Talk {
     /// Takes octets of the host in order, up to the end of the call.
     fn take_octets<O: Sink>(&mut self, octets: &[u8], output: &mut O) -> Option<CallEnd>
         requires within { self.old.taken ≤ length self.old.sent.items }
-        ensures taken { (plan : CallPlan) (host before : List ℕ) → GoesOn self.old plan host before (O.written output.old)
+        ensures taken { (plan : CallPlan) (host before : List ℕ)
+            → GoesOn self.old plan host before (O.written output.old)
             → MatchOption result (GoesOn self.new plan (host ++ octets.now) before (O.written output.new))
             (Stops plan (host ++ octets.now) before (O.written output.new)) }
         ensures kept { self.new.taken ≡ self.old.taken }
@@ -229,7 +235,8 @@ impl Talk {
     /// Takes an octet of the host. Octets after the end of the call are passed over.
     fn take_octet<O: Sink>(&mut self, octet: u8, output: &mut O) -> Option<CallEnd>
         requires within { self.old.taken ≤ length self.old.sent.items }
-        ensures taken { (plan : CallPlan) (host before : List ℕ) → GoesOn self.old plan host before (O.written output.old)
+        ensures taken { (plan : CallPlan) (host before : List ℕ)
+            → GoesOn self.old plan host before (O.written output.old)
             → MatchOption result (GoesOn self.new plan (host ++ octet ∷ []) before (O.written output.new))
             (Stops plan (host ++ octet ∷ []) before (O.written output.new)) }
         ensures kept { self.new.taken ≡ self.old.taken }

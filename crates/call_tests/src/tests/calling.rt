@@ -138,8 +138,8 @@ fn called<R: Net>(
     Ok(Box::new(alloc, outcome)?)
 }
 
-/// Each row: what the host sends, whether it then leaves, the calls of the sockets that fail, how many polls are made at
-/// most; how the call ends, what it prints, and what the host takes.
+/// Each row: what the host sends, whether it then leaves, the calls of the sockets that fail, how many polls are made
+/// at most; how the call ends, what it prints, and what the host takes.
 type Row<'a> = (
     (&'a [&'a [u8]], bool),
     (&'a [u64], u32),
