@@ -23,8 +23,7 @@ use Rattle.agwpe_client.proofs.StreamLemmas.{over_stays, run_more}
 
 -- the call takes an octet, and what is kept goes along
 pub record Next (next : HeldCall) (plan : CallPlan) (stream : List ℕ) (octet : ℕ)
-    (result : Result ClientOut ClientFault)
-    : Type 0 where
+    (result : Result ClientOut ClientFault) : Type 0 where
   pub stands : StandsFor next plan (stream ++ octet ∷ [])
   pub sent : sent_after plan (stream ++ octet ∷ []) ≡ sent_after plan stream ++ sent_by result
   pub printed : printed_after plan (stream ++ octet ∷ []) ≡ printed_after plan stream ++ printed_by result

@@ -87,8 +87,8 @@ pub record IsAt (held : HeldCall) (plan : CallPlan) (run : CallRun) : Type 0 whe
   pub remote : held.remote ≡ call_field plan.remote
   pub state : held.state ≡ run.state
   pub connect : run.state ≡ Asking → held.connect ≡ Some (spelling (connect_message plan.own plan.remote plan.via))
-  pub opening : is_before_up run.state ≡ true → held.opening ≡ Some
-      (opening_octets plan.own plan.remote plan.text plan.expect)
+  pub opening : is_before_up run.state ≡ true
+      → held.opening ≡ Some (opening_octets plan.own plan.remote plan.text plan.expect)
   pub printed : is_before_up run.state ≡ true → run.printed ≡ []
   pub not_leaving : is_before_up run.state ≡ true → run.leaving ≡ false
   pub wanted : held.wanted ≡ plan.expect - length run.printed

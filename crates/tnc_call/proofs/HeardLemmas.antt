@@ -131,31 +131,6 @@ pub nothing_printed : (plan : CallPlan) (host : List ℕ) (octet : ℕ) (before 
 nothing_printed plan host octet before written none is =
     is ∙ ap (λ xs. Some (before ++ xs)) (sym (none ∙ append-nil (printed_after plan host)))
 
--- ---- one event
-
--- octets of the connection
-pub stops_by : (plan : CallPlan) (id : ℕ) (host : List ℕ) (event : HostEvent) (octets before : List ℕ)
-    (written : Option (List ℕ)) (end : CallEnd) → event_octets id event ≡ octets
-    → Stops plan (host ++ octets) before written end → StopsBy plan id host (event ∷ []) before written end
-stops_by plan id host event octets before written end is stops =
-    by_end end (subst (λ xs. Stops plan (host ++ xs) before written end) all stops)
-  where
-    all : octets ≡ octets_of id (event ∷ [])
-    all = sym is ∙ sym (append-nil (event_octets id event))
-
-    by_end : (end : CallEnd) → Stops plan (host ++ octets_of id (event ∷ [])) before written end
-        → StopsBy plan id host (event ∷ []) before written end
-    by_end (Done got) stops = stops
-    by_end TooLong stops = absurd stops
-    by_end Memory stops = stops
-    by_end ReadFault stops = absurd stops
-    by_end WriteFault stops = stops
-    by_end NoHost stops = absurd stops
-    by_end Refused stops = stops
-    by_end HostLost stops = absurd stops
-    by_end (Broken len) stops = stops
-    by_end (GaveUp polls) stops = absurd stops
-
 -- ---- events in order
 
 -- the octets of more events

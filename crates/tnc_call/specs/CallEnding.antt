@@ -1,6 +1,6 @@
 -- What a whole call is: what it printed and did with the sockets, and why it ended.
-use Rattle.std.specs.Prelude.{◌≡◌, ◌≢◌, ℕ, ◌-◌, ◌^◌, ◌<◌, ◌≤◌, ◌⊎◌, Bool, true, false, List, [], ◌∷◌, ◌++◌, All, length}
-use Rattle.std.specs.Prelude.{min}
+use Rattle.std.specs.Prelude.{◌≡◌, ◌≢◌, ℕ, ◌-◌, ◌^◌, ◌<◌, ◌≤◌, ◌⊎◌, Bool, true, false, List, [], ◌∷◌, ◌++◌, All}
+use Rattle.std.specs.Prelude.{length, min}
 use Rattle.std.specs.Prelude.{Option, Some}
 use Rattle.tnc_base.specs.Faults.{HasRisen}
 use Rattle.tnc_base.specs.Streams.{WrotePart}
@@ -36,8 +36,8 @@ count_of octets = min (length octets) (2 ^ 64 - 1)
 
 abbrev pub IsDone : CallPlan → List ℕ → List ℕ → Option (List ℕ) → ℕ → Type 0
 IsDone plan host before written got =
-    (state_after plan host ≡ DoneState) × IsPrinted plan host before written ×
-    (got ≡ count_of (printed_after plan host))
+    (state_after plan host ≡ DoneState) × IsPrinted plan host before written
+    × (got ≡ count_of (printed_after plan host))
 
 abbrev pub IsRefused : CallPlan → List ℕ → List ℕ → Option (List ℕ) → Type 0
 IsRefused plan host before written = (state_after plan host ≡ RefusedState) × IsPrinted plan host before written

@@ -184,8 +184,8 @@ impl Talk {
         requires within { self.old.taken ≤ length self.old.sent.items }
         ensures taken { (plan : CallPlan) (host before : List ℕ)
             → GoesOn self.old plan host before (O.written output.old)
-            → MatchOption result (GoesOn self.new plan (host
-            ++ event_octets id event.now) before (O.written output.new))
+            → MatchOption result
+            (GoesOn self.new plan (host ++ event_octets id event.now) before (O.written output.new))
             (StopsBy plan id host (event.now ∷ []) before (O.written output.new)) }
         ensures kept { self.new.taken ≡ self.old.taken }
         ensures within { self.new.taken ≤ length self.new.sent.items }
