@@ -54,7 +54,7 @@ gaps_by_frames gaps = record {
 
 -- ---- the gaps of a turn
 
-gaps_of-append : (lane : ℕ) (a b : List Got) → gaps_of lane (a ++ b) ≡ gaps_of lane a ++ gaps_of lane b
+pub gaps_of-append : (lane : ℕ) (a b : List Got) → gaps_of lane (a ++ b) ≡ gaps_of lane a ++ gaps_of lane b
 gaps_of-append lane [] b = refl
 gaps_of-append lane (Item at x ∷ a) b = gaps_of-append lane a b
 gaps_of-append lane (Gap from to ∷ a) b = ap (λ l. record { lane = lane; from = from; to = to } ∷ l)
@@ -117,7 +117,7 @@ lane_gaps first (suc k) (answers ∷ lanes) within =
     ∙ subst (λ n. gaps_in n (map gap_line (gaps_from (first + 1) lanes)) ≡ gaps_of n (get_or lanes k [])) (sym next)
     (lane_gaps (first + 1) k lanes (omega (arith, within)))
 
-lane_gaps_first : (lane : ℕ) (lanes : List (List Got)) → lane < length lanes
+pub lane_gaps_first : (lane : ℕ) (lanes : List (List Got)) → lane < length lanes
     → gaps_in lane (map gap_line (gaps_from 0 lanes)) ≡ gaps_of lane (get_or lanes lane [])
 lane_gaps_first lane lanes within =
     let same : 0 + lane ≡ lane = omega arith in

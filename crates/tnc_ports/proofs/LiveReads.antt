@@ -47,7 +47,7 @@ ends_now count before now gaps ended h e = all_end count before h.reads now h.lo
 
 -- ---- readers that read on without a turn
 
-nothing_read : Track
+pub nothing_read : Track
 nothing_read = record { at = 0; reads = [] }
 
 answers_in_record : ℕ → Track → List Got
@@ -59,7 +59,7 @@ unfolding answers_in_record
 map_records len [] = refl
 map_records len (reader ∷ readers) = ap (λ xs. answers_of len reader ∷ xs) (map_records len readers)
 
-lane_answers : (len : ℕ) (receiver : HeldReceiver) (k : ℕ)
+pub lane_answers : (len : ℕ) (receiver : HeldReceiver) (k : ℕ)
     → lane_of (answers_in len receiver) k ≡ map (answer len) (get_or (records_in receiver) k nothing_read).reads
 unfolding answers_in_record nothing_read
 lane_answers len receiver k =

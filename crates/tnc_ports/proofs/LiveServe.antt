@@ -25,9 +25,9 @@ use Rattle.tnc_ports.specs.declared.looping.LoopEnd.TheVariants.{Done as LoopDon
 use Rattle.std.proofs.lemmas.Bool.{false≢true}
 use Rattle.tnc_ports.specs.declared.records.Listen.{Listen}
 use Rattle.tnc_ports.specs.declared.serving.ServeEnd.{ServeEnd}
-use Rattle.tnc_ports.specs.declared.serving.ServeEnd.TheVariants.{Memory as NoMemory}
+use Rattle.tnc_ports.specs.declared.serving.ServeEnd.TheVariants.{Memory as NoMemory, NoThread}
 use Rattle.tnc_ports.specs.declared.pumping.PumpEnd.{PumpEnd}
-use Rattle.tnc_ports.specs.declared.pumping.PumpEnd.TheVariants.{InputEnd, ReadFault, TooLong, NotBegun}
+use Rattle.tnc_ports.specs.declared.pumping.PumpEnd.TheVariants.{InputEnd, ReadFault, TooLong}
 use Rattle.tnc_ports.specs.declared.serve_words.ServeWords.{ServeWords}
 use Rattle.tnc_ports.specs.Sampled.{new_live, HaveEnded}
 use Rattle.tnc_ports.specs.declared.turning.Turning.{Turning}
@@ -37,7 +37,7 @@ use Rattle.tnc_ports.specs.SampledHeld.{StandsForLive}
 use Rattle.tnc_ports.specs.SampledRun.{Outside, IsCutInReading, IsCutRun, IsLooped, AllIsWritten}
 use Rattle.tnc_ports.specs.ServeRun.{InputSide, ring_cells, answers_of_record, LanesStandIn, end_of}
 use Rattle.tnc_ports.specs.ServeRun.{OnlyListens, HasOpened, HasServed, IsServed}
-use Rattle.tnc_ports.specs.SampledPump.{IsClosed}
+use Rattle.tnc_ports.specs.SampledPump.{IsClosed, IsLoopedIf}
 use Rattle.tnc_ports.proofs.LiveAccounts.{are_sent, are_shut}
 use Rattle.tnc_ports.proofs.LiveServed.{served_cut}
 use Rattle.tnc_ports.proofs.LiveTold.{tells_nothing}
@@ -201,9 +201,6 @@ served words LoopDone ReadFault end input left before after e h =
 served words LoopDone TooLong end input left before after e h =
     subst (λ r. IsServed words r input left before after) (sym e)
     (subst (λ r. HasServed words r input left before after) e h)
-served words LoopDone NotBegun end input left before after e h =
-    subst (λ r. IsServed words r input left before after) (sym e)
-    (inr (subst (λ r. HasServed words r input left before after) e h))
 served words Memory pump end input left before after e h =
     subst (λ r. IsServed words r input left before after) (sym e)
     (inr (subst (λ r. HasServed words r input left before after) e h))
@@ -225,6 +222,14 @@ has_opened words before after (Err x) failed e f opens only = absurd (false≢tr
 pub no_ring : (words : ServeWords) (input : InputSide) (before after : Outside) → HasOpened words before after
     → IsServed words NoMemory input input before after
 no_ring words input before after h = inl (record { opens = h; unread = refl })
+
+-- without a thread
+pub no_thread : (words : ServeWords) (end : LoopEnd) (lanes : List (List Got)) (begins : Bool) (input left : InputSide)
+    (before opened after : Outside) → HasOpened words before opened → begins ≡ false → left ≡ input
+    → IsLoopedIf begins words end lanes opened after → IsServed words NoThread input left before after
+no_thread words end lanes begins input left before opened after opens given_up unread looped =
+    let same : after ≡ opened = subst (λ b. IsLoopedIf b words end lanes opened after) given_up looped in
+    record { opens = subst (HasOpened words before) (sym same) opens; unread = unread }
 
 pub all_served : (words : ServeWords) (loop : LoopEnd) (end : ServeEnd) (len : ℕ) (receiver : HeldReceiver)
     (input left : InputSide) (before opened after : Outside)

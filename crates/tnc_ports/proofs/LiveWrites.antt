@@ -119,7 +119,7 @@ reports_none failed hosts r = record { lines = []; more = sym (append-nil hosts.
     none true = (refl, refl)
     none false = all_none r
 
-puts_puts : (f m f' : Bool) (t u : List ℕ) (r r' r'' : Stream) → Puts f m t r r' → Puts m f' u r' r''
+pub puts_puts : (f m f' : Bool) (t u : List ℕ) (r r' r'' : Stream) → Puts f m t r r' → Puts m f' u r' r''
     → Puts f f' (t ++ u) r r''
 puts_puts true true f' t u r r' r'' h g = (g.0, g.1 ∙ h.1)
 puts_puts true false f' t u r r' r'' h g = absurd (false≢true h.0)

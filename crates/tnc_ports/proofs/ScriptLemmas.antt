@@ -12,7 +12,8 @@ use Rattle.std.proofs.lemmas.List.Folds.{list_any-append, list_any_at}
 use Rattle.station.specs.declared.host_event.HostEvent.{HostEvent}
 use Rattle.station.specs.declared.host_event.HostEvent.TheVariants.{Joined, Bytes, Left}
 use Rattle.tnc_ports.specs.declared.records.Came.{Came}
-use Rattle.tnc_ports.specs.Sockets.{Poll, id_of, is_octets_of, is_joining_of, MayCome, IsWholePiece, has_come}
+use Rattle.tnc_ports.specs.declared.records.Dial.{Dial}
+use Rattle.tnc_ports.specs.Sockets.{Poll, id_of, is_octets_of, is_joining_of, MayCome, IsWholePiece, has_come, has_dialed}
 use Rattle.tnc_ports.specs.Scripts.{scripted_for, is_paused, has_to_wait, waiting_of, given_of, joined_in, joined_of}
 use Rattle.tnc_ports.specs.Scripts.{due_of, was_shut, shut_one, with_shut}
 
@@ -274,18 +275,50 @@ has_come_more id polls poll =
     list_any-append (λ (one : Poll). list_any (is_joining_of id) one.events) polls (poll ∷ [])
     ∙ ap (λ b. has_come id polls || b) (or_nothing (list_any (is_joining_of id) poll.events))
 
+-- the connection is among these
+abbrev pub is_one_of : ℕ → List Came → Bool
+is_one_of id came = list_any (λ one. one.id == id) came
+
+either_comes : (a b c d : Bool) → (a ≡ true → c ≡ true) → b ≡ d → (a || b) ≡ true → (c || d) ≡ true
+either_comes true b c d f same h = or_left c d (f refl)
+either_comes false b c d f same h = or_right c d (sym same ∙ h)
+
 -- everybody so far is among those that came
 pub come_more : (id : ℕ) (polls : List Poll) (poll : Poll) (came : List Came)
-    → has_come id polls ≡ list_any (λ one. one.id == id) came → has_come id (polls ++ poll ∷ [])
-    ≡ list_any (λ one. one.id == id) (came ++ joined_in poll.events)
-come_more id polls poll came before =
-    has_come_more id polls poll ∙ ap (λ b. b || list_any (is_joining_of id) poll.events) before
-    ∙ ap (λ b. list_any (λ (one : Came). one.id == id) came || b) (joins_come id poll.events)
-    ∙ sym (list_any-append (λ (one : Came). one.id == id) came (joined_in poll.events))
+    → (has_come id polls ≡ true → is_one_of id came ≡ true) → has_come id (polls ++ poll ∷ []) ≡ true
+    → is_one_of id (came ++ joined_in poll.events) ≡ true
+come_more id polls poll came before comes =
+    list_any-append (λ (one : Came). one.id == id) came (joined_in poll.events)
+    ∙ either_comes (has_come id polls) (list_any (is_joining_of id) poll.events) (is_one_of id came)
+    (is_one_of id (joined_in poll.events)) before (joins_come id poll.events)
+    (sym (has_come_more id polls poll) ∙ comes)
 
-pub come_in_vain : (id : ℕ) (polls : List Poll) (poll : Poll) (came : List Came) → poll.events ≡ []
-    → has_come id polls ≡ list_any (λ one. one.id == id) came → has_come id (polls ++ poll ∷ [])
-    ≡ list_any (λ one. one.id == id) came
-come_in_vain id polls poll came none before =
+pub come_in_vain : (id : ℕ) (polls : List Poll) (poll : Poll) → poll.events ≡ []
+    → has_come id (polls ++ poll ∷ []) ≡ has_come id polls
+come_in_vain id polls poll none =
     has_come_more id polls poll ∙ ap (λ events. has_come id polls || list_any (is_joining_of id) events) none
-    ∙ or_nothing (has_come id polls) ∙ before
+    ∙ or_nothing (has_come id polls)
+
+pub still_one_of : (id : ℕ) (came more : List Came) → is_one_of id came ≡ true → is_one_of id (came ++ more) ≡ true
+still_one_of id came more is_one =
+    list_any-append (λ (one : Came). one.id == id) came more ∙ or_left (is_one_of id came) (is_one_of id more) is_one
+
+-- and everybody who was dialed
+pub dialed_more : (id : ℕ) (dials : List Dial) (dial : Dial) (came : List Came)
+    → (has_dialed id dials ≡ true → is_one_of id came ≡ true) → has_dialed id (dials ++ dial ∷ []) ≡ true
+    → is_one_of id (came ++ (record { id = dial.id; shut = false }) ∷ []) ≡ true
+dialed_more id dials dial came before dialed =
+    list_any-append (λ (one : Came). one.id == id) came ((record { id = dial.id; shut = false }) ∷ [])
+    ∙ either_comes (has_dialed id dials) ((dial.id == id) || false) (is_one_of id came) ((dial.id == id) || false)
+    before refl (sym (list_any-append (λ (one : Dial). one.id == id) dials (dial ∷ [])) ∙ dialed)
+
+-- one that is dialed is not shut
+pub was_shut-dialed : (came : List Came) (other id : ℕ)
+    → was_shut (came ++ (record { id = other; shut = false }) ∷ []) id ≡ was_shut came id
+was_shut-dialed came other id =
+    list_any-append (λ one. if one.id == id then one.shut else false) came ((record { id = other; shut = false }) ∷ [])
+    ∙ ap (λ b. was_shut came id || (b || false)) (never (other == id)) ∙ or_nothing (was_shut came id)
+  where
+    never : (b : Bool) → (if b then false else false) ≡ false
+    never true = refl
+    never false = refl

@@ -3,6 +3,7 @@ pub mod Scripts
 pub mod Waiting
 pub mod OddOctet
 pub mod Pumped
+pub mod PumpRun
 pub mod IdRanges
 pub mod Hosts
 pub mod HostTurns

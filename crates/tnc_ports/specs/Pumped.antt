@@ -2,19 +2,17 @@
 use Rattle.std.specs.Prelude.{◌≡◌, ℕ, ℤ, ◌+◌, ◌^◌, ◌≤◌, List, [], ◌++◌, length, Option, Some}
 use Rattle.wav_file.specs.Samples.{samples}
 use Rattle.tnc_ports.specs.declared.pumping.PumpEnd.{PumpEnd}
-use Rattle.tnc_ports.specs.declared.pumping.PumpEnd.TheVariants.{InputEnd, ReadFault, TooLong, NotBegun}
+use Rattle.tnc_ports.specs.declared.pumping.PumpEnd.TheVariants.{InputEnd, ReadFault, TooLong}
 
 -- the most octets of an input
 abbrev pub most_input : ℕ
 most_input = 2 ^ 40
 
--- where a pump may stop: at the end, at a fault, at the octet after the last that an input may have, or before the
--- first one, if it has not begun
+-- where a pump may stop: at the end, at a fault, or at the octet after the last that an input may have
 abbrev pub StopsAt : PumpEnd → List ℕ → List ℕ → Type 0
 StopsAt InputEnd read rest = (rest ≡ []) × (length read ≤ most_input)
 StopsAt ReadFault read rest = length read ≤ most_input
 StopsAt TooLong read rest = length read ≡ most_input + 1
-StopsAt NotBegun read rest = read ≡ []
 
 -- Of these octets a first part was read and the rest is left, and the samples of what was read are published.
 pub record IsPumped (octets : List ℕ) (left : Option (List ℕ)) (published : List ℤ) (end : PumpEnd) : Type 0 where

@@ -1,30 +1,41 @@
--- The writer of the ring on its way through the pump. No public clause cites this.
-use Rattle.std.specs.Prelude.{◌≡◌, ℕ, ℤ, List, [], Some}
-use Rattle.sample_ring.specs.declared.ring.Ring.{Ring}
-use Rattle.sample_ring.specs.Ends.{ring_id, writer_ring, done_ring, published_by, all_published}
-use Rattle.tnc_ports.specs.declared.serving.Pumping.{Pumping}
-use Rattle.tnc_ports.specs.declared.serving.Pumping.TheVariants.{Before, After, Nothing}
-use Rattle.tnc_ports.specs.Pumped.{IsPumped}
+-- The writer of the ring on its way through the pump, and the pump beside the turns. No public clause cites this.
+use Rattle.std.specs.Prelude.{◌≡◌, ℕ, ℤ, Bool, true, false, List, [], Option, Some, None}
 use Rattle.sample_ring.specs.declared.got.Got.{Got}
+use Rattle.sample_ring.specs.declared.ring.Ring.{Ring}
+use Rattle.sample_ring.specs.Ends.{ring_id, writer_ring, published_by}
 use Rattle.tnc_ports.specs.declared.looping.LoopEnd.{LoopEnd}
+use Rattle.tnc_ports.specs.declared.pump_run.Pumping.{Pumping}
+use Rattle.tnc_ports.specs.declared.pump_run.Pumping.TheVariants.{Before, After, Nothing}
+use Rattle.tnc_ports.specs.declared.pumping.Pumped.{Pumped}
 use Rattle.tnc_ports.specs.declared.pumping.PumpEnd.{PumpEnd}
+use Rattle.tnc_ports.specs.declared.serve_words.ServeWords.{ServeWords}
 use Rattle.tnc_ports.specs.declared.serving.ServeEnd.{ServeEnd}
-use Rattle.tnc_ports.specs.ServeRun.{InputSide, ReadFaults, LanesStandIn, end_of}
+use Rattle.tnc_ports.specs.Pumped.{IsPumped}
+use Rattle.tnc_ports.specs.PumpRun.{InputSide, ReadFaults, Pumps}
+use Rattle.tnc_ports.specs.SampledRun.{Outside, IsLooped}
+use Rattle.tnc_ports.specs.ServeRun.{LanesStandIn, end_of}
 
 -- a writer of the ring that has published nothing
 abbrev pub IsWriting : Ring → Pumping → Type 0
 IsWriting ring (Before writer) = (writer_ring writer ≡ ring_id ring) × (published_by writer ≡ [])
-IsWriting ring (After pumped) = ⊥
+IsWriting ring (After pumped token) = ⊥
 IsWriting ring Nothing = ⊥
 
--- the ring is ended, and has the samples of what was read
-abbrev pub HasPumped : Ring → Pumping → InputSide → InputSide → Type 0
-HasPumped ring (Before writer) input left = ⊥
-HasPumped ring (After pumped) input left =
-    (done_ring pumped.done ≡ ring_id ring)
-    × ((octets : List ℕ) → input.left ≡ Some octets → IsPumped octets left.left (all_published pumped.done) pumped.end)
-    × ReadFaults pumped.end input left
-HasPumped ring Nothing input left = ⊥
+-- the pump ran exactly if it was to begin
+abbrev pub IsPumpedIf : Bool → Ring → Option Pumped → InputSide → InputSide → Type 0
+IsPumpedIf begins ring (Some pumped) input left = (begins ≡ true) × Pumps ring pumped input left
+IsPumpedIf begins ring None input left = (begins ≡ false) × (left ≡ input)
+
+-- and a lock says whether it was
+abbrev pub HasRun : ℕ → Ring → Pumping → InputSide → InputSide → Type 0
+HasRun lock ring (Before writer) input left = ⊥
+HasRun lock ring (After pumped token) input left = (token.of ≡ lock) × IsPumpedIf token.value ring pumped input left
+HasRun lock ring Nothing input left = ⊥
+
+-- the turns are made exactly if the pump begins
+abbrev pub IsLoopedIf : Bool → ServeWords → LoopEnd → List (List Got) → Outside → Outside → Type 0
+IsLoopedIf true words end lanes before after = IsLooped words end lanes before after
+IsLoopedIf false words end lanes before after = after ≡ before
 
 -- the ring is closed after the loop and the pump
 pub record IsClosed (loop : LoopEnd) (end : ServeEnd) (lanes : List (List Got)) (input left : InputSide) : Type 0 where

@@ -3,6 +3,7 @@ use Rattle.std.specs.Prelude.{ℕ, ◌==◌, Bool, false, true, if◌then◌else
 use Rattle.std.specs.List.{list_any, flat_map}
 use Rattle.station.specs.declared.host_event.HostEvent.{HostEvent}
 use Rattle.tnc_ports.specs.declared.records.Listen.{Listen}
+use Rattle.tnc_ports.specs.declared.records.Dial.{Dial}
 use Rattle.tnc_ports.specs.declared.records.Taken.{Taken}
 use Rattle.tnc_ports.specs.declared.records.Came.{Came}
 use Rattle.tnc_ports.specs.Sockets.{Poll, Send, id_of, is_octets_of, is_joining_of}
@@ -10,7 +11,7 @@ use Rattle.tnc_ports.specs.Sockets.{Poll, Send, id_of, is_octets_of, is_joining_
 pub record PortsView : Type 0 where
   -- each event with the number of its poll, counted from 0
   pub script : List (ℕ × HostEvent)
-  -- the numbers of the calls of listen, poll and send that fail, counted together
+  -- the numbers of the calls of listen, dial, poll and send that fail, counted together
   pub failing : List ℕ
   -- the most octets that a send takes
   pub takes : ℕ
@@ -18,9 +19,11 @@ pub record PortsView : Type 0 where
   pub calls : ℕ
   pub faults : ℕ
   pub listens : List Listen
+  pub dials : List Dial
   pub polls : List Poll
   -- the events that were due at a poll so far and are not given yet
   pub waiting : List HostEvent
+  -- the connections that came or were dialed
   pub came : List Came
   pub sends : List Taken
 
@@ -33,6 +36,7 @@ new_ports script failing takes = record {
   calls = 0;
   faults = 0;
   listens = [];
+  dials = [];
   polls = [];
   waiting = [];
   came = [];
@@ -77,6 +81,10 @@ given_of paused before (event ∷ events) =
 
 -- ---- what is told
 
+-- the connection that each dial gives
+abbrev pub dialed_id : ℕ
+dialed_id = 1
+
 -- the connection that joins with an event
 abbrev pub joined_of : HostEvent → List Came
 joined_of event = if is_joining_of (id_of event) event then (record { id = id_of event; shut = false }) ∷ [] else []
@@ -86,7 +94,7 @@ abbrev pub joined_in : List HostEvent → List Came
 joined_in [] = []
 joined_in (event ∷ events) = joined_of event ++ joined_in events
 
--- the connection came and was shut
+-- the connection came or was dialed, and was shut
 abbrev pub was_shut : List Came → ℕ → Bool
 was_shut came id = list_any (λ one. if one.id == id then one.shut else false) came
 

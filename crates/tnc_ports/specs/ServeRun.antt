@@ -7,14 +7,16 @@ use Rattle.sample_ring.specs.Record.{StandsIn, answer}
 use Rattle.tnc_base.specs.Faults.{HasRisen}
 use Rattle.tnc_ports.specs.declared.pumping.PumpEnd.{PumpEnd}
 use Rattle.tnc_ports.specs.declared.pumping.PumpEnd.TheVariants.{InputEnd, ReadFault as PumpFailed}
-use Rattle.tnc_ports.specs.declared.pumping.PumpEnd.TheVariants.{TooLong as InputTooLong, NotBegun}
+use Rattle.tnc_ports.specs.declared.pumping.PumpEnd.TheVariants.{TooLong as InputTooLong}
 use Rattle.tnc_ports.specs.declared.serving.ServeEnd.{ServeEnd}
 use Rattle.tnc_ports.specs.declared.serving.ServeEnd.TheVariants.{Done, TooLong, Memory, ReadFault, WriteFault, NoPort}
+use Rattle.tnc_ports.specs.declared.serving.ServeEnd.TheVariants.{NoThread}
 use Rattle.tnc_ports.specs.declared.serve_words.ServeWords.{ServeWords}
 use Rattle.tnc_ports.specs.declared.looping.LoopEnd.{LoopEnd}
 use Rattle.tnc_ports.specs.declared.looping.LoopEnd.TheVariants.{Done as LoopDone, Memory as LoopMemory}
 use Rattle.tnc_ports.specs.declared.looping.LoopEnd.TheVariants.{WriteFault as LoopFault}
 use Rattle.tnc_ports.specs.Pumped.{IsPumped}
+pub use Rattle.tnc_ports.specs.PumpRun.{InputSide, input_by, ReadFaults}
 use Rattle.tnc_ports.specs.Sampled.{HaveEnded}
 use Rattle.tnc_ports.specs.SampledRun.{Outside, GrowsBy, IsLooped}
 
@@ -38,13 +40,11 @@ pub record LanesStandIn (published : List ℤ) (lanes : List (List Got)) : Type 
 
 -- ---- serving
 
--- How serving ends by the ends of the loop and of the pump, of which the loop's counts first. A pump that has not begun
--- had no thread, which counts as want of memory.
+-- How serving ends by the ends of the loop and of the pump, of which the loop's counts first.
 abbrev pub end_of : LoopEnd → PumpEnd → ServeEnd
 end_of LoopDone InputEnd = Done
 end_of LoopDone PumpFailed = ReadFault
 end_of LoopDone InputTooLong = TooLong
-end_of LoopDone NotBegun = Memory
 end_of LoopMemory pump = Memory
 end_of LoopFault pump = WriteFault
 
@@ -71,21 +71,6 @@ pub record HasNoPort (before after : Outside) : Type 0 where
   pub only : OnlyListens before after
   pub failed : HasRisen before.port_faults after.port_faults
 
--- What is read of the input, and how often reading failed.
-pub record InputSide : Type 0 where
-  pub left : Option (List ℕ)
-  pub faults : ℕ
-
-abbrev pub input_by : {I : Type 0} → (I → Option (List ℕ)) → (I → ℕ) → I → InputSide
-input_by left faults input = record { left = left input; faults = faults input }
-
--- reading failed exactly when the pump says so
-abbrev pub ReadFaults : PumpEnd → InputSide → InputSide → Type 0
-ReadFaults InputEnd before after = after.faults ≡ before.faults
-ReadFaults PumpFailed before after = HasRisen before.faults after.faults
-ReadFaults InputTooLong before after = after.faults ≡ before.faults
-ReadFaults NotBegun before after = after.faults ≡ before.faults
-
 -- The ports are opened. The pump publishes the samples of what it reads of the input, and beside it the loop's readers
 -- read what is published.
 pub record HasServed (words : ServeWords) (end : ServeEnd) (input left : InputSide) (before after : Outside)
@@ -107,11 +92,17 @@ pub record HasNoRing (words : ServeWords) (input left : InputSide) (before after
   pub opens : HasOpened words before after
   pub unread : left ≡ input
 
+-- Without a thread for the pump nothing is read, and no turn is made.
+pub record HasNoThread (words : ServeWords) (input left : InputSide) (before after : Outside) : Type 0 where
+  pub opens : HasOpened words before after
+  pub unread : left ≡ input
+
 abbrev pub IsServed : ServeWords → ServeEnd → InputSide → InputSide → Outside → Outside → Type 0
 IsServed words Done input left before after = HasServed words Done input left before after
 IsServed words TooLong input left before after = HasServed words TooLong input left before after
 IsServed words Memory input left before after =
     HasNoRing words input left before after ⊎ HasServed words Memory input left before after
+IsServed words NoThread input left before after = HasNoThread words input left before after
 IsServed words ReadFault input left before after = HasServed words ReadFault input left before after
 IsServed words WriteFault input left before after = HasServed words WriteFault input left before after
 IsServed words NoPort input left before after = (left ≡ input) × HasNoPort before after

@@ -1,9 +1,10 @@
--- What contracts see of the sockets that host programs connect to: which ports were opened, what each poll asked and
--- gave, and what each connection was sent.
+-- What contracts see of sockets: which ports were opened and dialed, what each poll asked and gave, and what each
+-- connection was sent.
 use Rattle.std.specs.Prelude.{⊤, ℕ, ◌<◌, ◌≤◌, ◌==◌, ◌≢◌, Bool, true, false, List, length, All}
 use Rattle.std.specs.List.{list_any}
 use Rattle.station.specs.declared.host_event.HostEvent.{HostEvent}
 use Rattle.station.specs.declared.host_event.HostEvent.TheVariants.{Joined, Bytes, Left}
+use Rattle.tnc_ports.specs.declared.records.Dial.{Dial}
 
 -- a poll: how many milliseconds it waits, the ids that it pauses, and the events that it gives, of which one that
 -- failed has none
@@ -51,3 +52,7 @@ pub record MayCome (paused : List ℕ) (event : HostEvent) : Type 0 where
 -- the connection came with one of these polls
 abbrev pub has_come : ℕ → List Poll → Bool
 has_come id polls = list_any (λ poll. list_any (is_joining_of id) poll.events) polls
+
+-- the connection was opened by one of these dials
+abbrev pub has_dialed : ℕ → List Dial → Bool
+has_dialed id dials = list_any (λ dial. dial.id == id) dials

@@ -23,7 +23,7 @@ impl Spawner for MemSpawner {
 pub type MemLive = Live<MemPorts, MemSpawner>;
 
 impl Live<MemPorts, MemSpawner> {
-    /// Gives each event of the script at the poll of its number. The calls of `listen`, `poll` and `send` whose
+    /// Gives each event of the script at the poll of its number. The calls of `listen`, `dial`, `poll` and `send` whose
     /// numbers, counted together from 0, are in `failing` fail.
     pub fn new(alloc: Global, script: Vec<(u64, HostEvent)>, failing: Vec<u64>) -> MemLive
         requires { All (λ entry. IsWholePiece entry.1) script.items }

@@ -7,18 +7,21 @@ ghost use Rattle.std.specs.Prelude.{◌≡◌, ◌≢◌, ℕ, ◌≤◌, ◌<�
 ghost use Rattle.std.specs.Prelude.{◌++◌, All, Contains, length, take, map, min, if◌then◌else◌, IfOk, OnOk, OnErr};
 ghost use Rattle.std.specs.Prelude.{IsErr, IsErrOf, IsTrue};
 ghost use Rattle.tnc_base.specs.Faults.{next_count, HasRisen};
-ghost use Rattle.tnc_ports.specs.Sockets.{Poll, Send, MayCome, IsWholePiece, has_come};
+ghost use Rattle.tnc_ports.specs.Sockets.{Poll, Send, MayCome, IsWholePiece, has_come, has_dialed};
 ghost use Rattle.tnc_ports.specs.Scripts.{PortsView, new_ports, due, waiting_of, given_of, joined_in, was_shut};
-ghost use Rattle.tnc_ports.specs.Scripts.{shut_one, with_shut, sent_to, as_told};
+ghost use Rattle.tnc_ports.specs.Scripts.{shut_one, with_shut, sent_to, as_told, dialed_id};
 
 use crate::ports::{PollFault, Ports};
-use crate::records::{Came, Listen, PollRecord, Taken};
+use crate::records::{Came, Dial, Listen, PollRecord, Taken};
 use crate::script::{came_with, due, part};
 use station::HostEvent;
 use std::alloc::Global;
 use std::marker::Model;
 use std::net::Net;
 use tnc_base::{Failed, Octets, OutOfMemory};
+
+/// The id of each connection that is dialed.
+const DIALED: u32 = 1;
 
 /// Sockets over a script of events.
 #[derive(Drop)]
@@ -30,6 +33,7 @@ pub struct MemPorts {
     calls: u64,
     faults: u64,
     listens: Vec<Listen>,
+    dials: Vec<Dial>,
     polls: Vec<PollRecord>,
     waiting: Vec<HostEvent>,
     came: Vec<Came>,
@@ -37,9 +41,9 @@ pub struct MemPorts {
 }
 
 impl Model for MemPorts {
-    ghost use Rattle.std.specs.Prelude.{◌≡◌, ℕ, ◌==◌, All};
+    ghost use Rattle.std.specs.Prelude.{◌≡◌, ℕ, ◌==◌, true, All};
     ghost use Rattle.std.specs.List.{list_any};
-    ghost use Rattle.tnc_ports.specs.Sockets.{IsWholePiece, has_come};
+    ghost use Rattle.tnc_ports.specs.Sockets.{IsWholePiece, has_come, has_dialed};
     ghost use Rattle.tnc_ports.specs.Scripts.{PortsView};
 
     ghost Value = { PortsView };
@@ -51,6 +55,7 @@ impl Model for MemPorts {
       calls = s.calls;
       faults = s.faults;
       listens = s.listens.items;
+      dials = s.dials.items;
       polls = s.polls.items;
       waiting = s.waiting.items;
       came = s.came.items;
@@ -59,13 +64,14 @@ impl Model for MemPorts {
 
     ghost invariant = { λ s. All (λ entry. IsWholePiece entry.1) s.script.items
         × All IsWholePiece s.waiting.items
-        × ((id : ℕ) → has_come id s.polls.items ≡ list_any (λ one. one.id == id) s.came.items) };
+        × ((id : ℕ) → has_come id s.polls.items ≡ true → list_any (λ one. one.id == id) s.came.items ≡ true)
+        × ((id : ℕ) → has_dialed id s.dials.items ≡ true → list_any (λ one. one.id == id) s.came.items ≡ true) };
 }
 
 impl MemPorts {
     /// Sockets that give each event of the script at the poll of its number, counted from 0. Each send takes at most
-    /// `takes` octets, and the calls of `listen`, `poll` and `send` whose numbers, counted together from 0, are in
-    /// `failing` fail.
+    /// `takes` octets, and the calls of `listen`, `dial`, `poll` and `send` whose numbers, counted together from 0, are
+    /// in `failing` fail.
     pub(crate) fn new(
         alloc: Global,
         script: Vec<(u64, HostEvent)>,
@@ -83,6 +89,7 @@ impl MemPorts {
             calls: 0,
             faults: 0,
             listens: Vec::new(alloc),
+            dials: Vec::new(alloc),
             polls: Vec::new(alloc),
             waiting: Vec::new(alloc),
             came: Vec::new(alloc),
@@ -97,6 +104,13 @@ impl MemPorts {
         &self.listens
     }
 
+    /// The dials that did not fail, each with the id that it answered.
+    pub fn dials(&self) -> &[Dial]
+        ensures { result.now ≡ self.now.dials }
+    {
+        &self.dials
+    }
+
     /// The polls so far.
     pub fn polls(&self) -> &[PollRecord]
         ensures { result.now ≡ self.now.polls }
@@ -104,7 +118,7 @@ impl MemPorts {
         &self.polls
     }
 
-    /// The connections that came so far, and which of them were shut.
+    /// The connections that came or were dialed so far, and which of them were shut.
     pub fn came(&self) -> &[Came]
         ensures { result.now ≡ self.now.came }
     {
@@ -183,6 +197,25 @@ impl MemPorts {
         Ok(parted.given)
     }
 
+    /// Records a connection that is dialed, and takes the room to record that it is shut.
+    fn add_dial(&mut self, port: u16) -> Result<(), OutOfMemory>
+        ensures opened { OnOk result (self.new ≡ record self.old {
+          dials = self.old.dials ++ (record { port = port; id = dialed_id }) ∷ [];
+          came = self.old.came ++ (record { id = dialed_id; shut = false }) ∷ [];
+        }) }
+        ensures shut { (id : ℕ) → was_shut self.new.came id ≡ was_shut self.old.came id }
+        ensures memory { OnErr result (self.new ≡ self.old) }
+    {
+        let mut came = self.came.to_vec(self.alloc)?;
+        came.push(Came {
+            id: DIALED,
+            shut: false,
+        })?;
+        self.dials.push(Dial { port, id: DIALED })?;
+        self.came = came;
+        Ok(())
+    }
+
     /// Takes a first part of the octets.
     fn accept(&mut self, id: u32, octets: &[u8]) -> Result<usize, OutOfMemory>
         ensures count { IfOk result (λ count. count ≡ min (length octets.now) self.old.takes) }
@@ -211,6 +244,8 @@ impl MemPorts {
 impl Ports for MemPorts {
     ghost listens = { λ s. Some s.listens };
 
+    ghost dials = { λ s. Some s.dials };
+
     ghost polls = { λ s. Some s.polls };
 
     ghost is_shut = { λ s id. Some (was_shut s.came id) };
@@ -238,6 +273,28 @@ impl Ports for MemPorts {
             return Err(Failed);
         }
         Ok(())
+    }
+
+    fn dial<R: Net>(&mut self, _rt: &R, port: u16) -> Result<u32, Failed>
+        ensures fails { Contains self.old.failing self.old.calls → IsErr result }
+        ensures id { IfOk result (λ id. id ≡ dialed_id) }
+        ensures opened { OnOk result (self.new ≡ record self.old {
+          calls = next_count self.old.calls;
+          dials = self.old.dials ++ (record { port = port; id = dialed_id }) ∷ [];
+          came = self.old.came ++ (record { id = dialed_id; shut = false }) ∷ [];
+        }) }
+        ensures failed { OnErr result (self.new ≡ record self.old {
+          calls = next_count self.old.calls;
+          faults = next_count self.old.faults;
+        }) }
+        ensures shut { (id : ℕ) → was_shut self.new.came id ≡ was_shut self.old.came id }
+        ensures later { self.old.faults ≤ self.new.faults }
+    {
+        if self.begin() || self.add_dial(port).is_err() {
+            self.fail();
+            return Err(Failed);
+        }
+        Ok(DIALED)
     }
 
     fn poll<R: Net>(
@@ -306,6 +363,7 @@ impl Ports for MemPorts {
     fn shut(&mut self, id: u32)
         ensures came { self.new ≡ record self.old { came = with_shut id self.old.came } }
         ensures shut { has_come id self.old.polls ≡ true → was_shut self.new.came id ≡ true }
+        ensures shut_dialed { has_dialed id self.old.dials ≡ true → was_shut self.new.came id ≡ true }
         ensures others { (other : ℕ) → other ≢ id → was_shut self.new.came other ≡ was_shut self.old.came other }
     {
         shut_all_of(id, &mut self.came);

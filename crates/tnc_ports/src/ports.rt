@@ -1,13 +1,14 @@
-//! The sockets that host programs connect to, by KISS on one port and by AGWPE on another.
+//! The sockets that host programs connect to, by KISS on one port and by AGWPE on another, or that connect to a host.
 //!
-//! The calls are made in this order: `listen`, and then in each turn one `poll` and the `send`s. Like a stream, the
-//! sockets count their faults, so that nobody can blame them for a failure of its own, and they tell what was done
+//! The calls are made in this order: `listen` or `dial`, and then in each turn one `poll` and the `send`s. Like a
+//! stream, the sockets count their faults, so that nobody can blame them for a failure of its own, and they tell what was done
 //! with them if they know it. A contract on code that works with them can then say what it does to each connection.
 ghost use Rattle.std.specs.Prelude.{◌≡◌, ◌≢◌, ℕ, ◌≤◌, ◌<◌, Bool, true, List, Option, Some, [], ◌∷◌, ◌++◌, All, length};
 ghost use Rattle.std.specs.Prelude.{take, IfOk, OnOk, OnErr, IsErrOf};
 ghost use Rattle.tnc_base.specs.Faults.{HasRisen};
 ghost use Rattle.tnc_ports.specs.declared.records.Listen.{Listen};
-ghost use Rattle.tnc_ports.specs.Sockets.{Poll, Send, MayCome, has_come};
+ghost use Rattle.tnc_ports.specs.declared.records.Dial.{Dial};
+ghost use Rattle.tnc_ports.specs.Sockets.{Poll, Send, MayCome, has_come, has_dialed};
 
 use station::HostEvent;
 use std::net::Net;
@@ -40,10 +41,13 @@ pub trait Ports {
     /// The ports of each listen that did not fail, if the object tells them.
     ghost listens: { Self → Option (List Listen) };
 
+    /// The dials that did not fail, if the object tells them.
+    ghost dials: { Self → Option (List Dial) };
+
     /// The polls, if the object tells them.
     ghost polls: { Self → Option (List Poll) };
 
-    /// Whether the connection of an id came and was shut, if the object tells it.
+    /// Whether the connection of an id came or was dialed, and was shut, if the object tells it.
     ghost is_shut: { Self → ℕ → Option Bool };
 
     /// The octets that the connection of an id was sent, if the object tells them.
@@ -60,6 +64,21 @@ pub trait Ports {
         ensures opened { (before : List Listen) → listens self.old ≡ Some before → OnOk result (listens self.new
             ≡ Some (before ++ (record { kiss = kiss; agw = agw }) ∷ [])) }
         ensures refused { OnErr result (listens self.new ≡ listens self.old) }
+        ensures dials { dials self.new ≡ dials self.old }
+        ensures polls { polls self.new ≡ polls self.old }
+        ensures shut { (id : ℕ) → is_shut self.new id ≡ is_shut self.old id }
+        ensures sent { (id : ℕ) → sent self.new id ≡ sent self.old id }
+        ensures sends { sends self.new ≡ sends self.old }
+        ensures later { faults self.old ≤ faults self.new }
+        ensures failed { OnErr result (HasRisen (faults self.old) (faults self.new)) };
+
+    /// Opens a connection to a port of 127.0.0.1 and answers its id. Its octets and its end come as events of a poll; no
+    /// event says that it joins.
+    fn dial<R: Net>(&mut self, rt: &R, port: u16) -> Result<u32, Failed>
+        ensures dialed { (before : List Dial) → dials self.old ≡ Some before → IfOk result (λ id.
+            dials self.new ≡ Some (before ++ (record { port = port; id = id }) ∷ [])) }
+        ensures refused { OnErr result (dials self.new ≡ dials self.old) }
+        ensures listens { listens self.new ≡ listens self.old }
         ensures polls { polls self.new ≡ polls self.old }
         ensures shut { (id : ℕ) → is_shut self.new id ≡ is_shut self.old id }
         ensures sent { (id : ℕ) → sent self.new id ≡ sent self.old id }
@@ -83,6 +102,7 @@ pub trait Ports {
             → polls self.new ≡ Some (before ++ (record { wait = wait_ms; paused = paused.now; events = [] }) ∷ []) }
         ensures memory { IsErrOf result PollFault.Memory → polls self.new ≡ polls self.old }
         ensures listens { listens self.new ≡ listens self.old }
+        ensures dials { dials self.new ≡ dials self.old }
         ensures shut { (id : ℕ) → is_shut self.new id ≡ is_shut self.old id }
         ensures sent { (id : ℕ) → sent self.new id ≡ sent self.old id }
         ensures sends { sends self.new ≡ sends self.old }
@@ -101,6 +121,7 @@ pub trait Ports {
             ++ (record { id = id; polls = length polled; offered = length octets.now; took = count }) ∷ [])) }
         ensures refused { OnErr result ((sent self.new id ≡ sent self.old id) × (sends self.new ≡ sends self.old)) }
         ensures listens { listens self.new ≡ listens self.old }
+        ensures dials { dials self.new ≡ dials self.old }
         ensures polls { polls self.new ≡ polls self.old }
         ensures shut { (other : ℕ) → is_shut self.new other ≡ is_shut self.old other }
         ensures later { faults self.old ≤ faults self.new }
@@ -110,8 +131,11 @@ pub trait Ports {
     fn shut(&mut self, id: u32)
         ensures shut { (before : List Poll) → polls self.old ≡ Some before → has_come id before ≡ true
             → (was : Bool) → is_shut self.old id ≡ Some was → is_shut self.new id ≡ Some true }
+        ensures shut_dialed { (before : List Dial) → dials self.old ≡ Some before → has_dialed id before ≡ true
+            → (was : Bool) → is_shut self.old id ≡ Some was → is_shut self.new id ≡ Some true }
         ensures others { (other : ℕ) → other ≢ id → is_shut self.new other ≡ is_shut self.old other }
         ensures listens { listens self.new ≡ listens self.old }
+        ensures dials { dials self.new ≡ dials self.old }
         ensures polls { polls self.new ≡ polls self.old }
         ensures sent { (other : ℕ) → sent self.new other ≡ sent self.old other }
         ensures sends { sends self.new ≡ sends self.old }

@@ -26,8 +26,6 @@ pub enum PumpEnd {
     ReadFault,
     /// The input has more than 2^40 octets.
     TooLong,
-    /// The pump was given up before it began, and read nothing.
-    NotBegun,
 }
 
 /// A ring that was filled and ended, and why.
@@ -57,20 +55,6 @@ pub fn pump<I: Source>(source: &mut I, ring: &Ring, writer: Writer) -> Pumped
     Pumped {
         done: writer.end(ring),
         end,
-    }
-}
-
-/// Ends the ring without a sample.
-pub(crate) fn end_unread(ring: &Ring, writer: Writer) -> Pumped
-    requires ring { writer_ring writer ≡ ring_id ring.now }
-    requires new { published_by writer ≡ [] }
-    ensures ring { done_ring result.done ≡ writer_ring writer }
-    ensures nothing { all_published result.done ≡ [] }
-    ensures not_begun { result.end ≡ PumpEnd.NotBegun }
-{
-    Pumped {
-        done: writer.end(ring),
-        end: PumpEnd::NotBegun,
     }
 }
 

@@ -37,6 +37,12 @@ const AGW: usize = 1;
 /// The first token of a connection.
 const FIRST: usize = 2;
 
+/// How often a dial looks whether it is connected.
+const LOOKS: u32 = 40;
+
+/// How long it waits between two looks, at most, in milliseconds.
+const LOOK: u64 = 100;
+
 /// A connection.
 #[derive(Drop)]
 struct Socket {
@@ -54,11 +60,16 @@ struct Door {
     ready: bool,
 }
 
-/// What is open after a listen.
+/// What the system watches, and what it reports of it.
 #[derive(Drop)]
-struct Opened {
+struct Watch {
     poll: Poll,
     events: Events<Global>,
+}
+
+/// The ports after a listen.
+#[derive(Drop)]
+struct Doors {
     kiss: Door,
     agw: Door,
 }
@@ -67,7 +78,8 @@ struct Opened {
 #[derive(Drop)]
 pub struct RealPorts {
     alloc: Global,
-    opened: Option<Opened>,
+    watch: Option<Watch>,
+    doors: Option<Doors>,
     sockets: Vec<Socket>,
     next_id: u32,
     faults: u64,
@@ -80,13 +92,44 @@ impl RealPorts {
     {
         RealPorts {
             alloc,
-            opened: None,
+            watch: None,
+            doors: None,
             sockets: Vec::new(alloc),
             next_id: 1,
             faults: 0,
         }
     }
 
+    /// Opens both ports.
+    fn open<R: Net>(&mut self, rt: &R, kiss: u16, agw: u16) -> io::Result<()>
+        ensures { self.new.faults ≡ self.old.faults }
+    {
+        let watch = watching(rt, self.alloc, self.watch.take())?;
+        let doors = open_doors(rt, &watch.poll, kiss, agw);
+        self.watch = Some(watch);
+        self.doors = Some(doors?);
+        Ok(())
+    }
+
+    /// Connects to a port, and gives the connection its id.
+    fn connect<R: Net>(&mut self, rt: &R, port: u16) -> Result<u32, Failed>
+        ensures { self.new.faults ≡ self.old.faults }
+    {
+        let Ok(stream) = connected(rt, self.alloc, port) else {
+            return Err(Failed);
+        };
+        let Ok(watch) = watching(rt, self.alloc, self.watch.take()) else {
+            return Err(Failed);
+        };
+        let id = add(&watch.poll, stream, &mut self.sockets, &mut self.next_id);
+        self.watch = Some(watch);
+        match id {
+            Ok(Some(id)) => Ok(id),
+            Ok(None) | Err(_) => Err(Failed),
+        }
+    }
+
+    /// Counts a fault.
     fn fail(&mut self)
         ensures later { self.old.faults ≤ self.new.faults }
         ensures counted { self.new ≡ record self.old { faults = next_count self.old.faults } }
@@ -97,6 +140,8 @@ impl RealPorts {
 
 impl Ports for RealPorts {
     ghost listens = { λ _. None };
+
+    ghost dials = { λ _. None };
 
     ghost polls = { λ _. None };
 
@@ -109,11 +154,18 @@ impl Ports for RealPorts {
     ghost faults = { λ s. s.faults };
 
     fn listen<R: Net>(&mut self, rt: &R, kiss: u16, agw: u16) -> Result<(), Failed> {
-        match open(rt, self.alloc, kiss, agw) {
-            Ok(opened) => {
-                self.opened = Some(opened);
-                Ok(())
+        match self.open(rt, kiss, agw) {
+            Ok(()) => Ok(()),
+            Err(_) => {
+                self.fail();
+                Err(Failed)
             }
+        }
+    }
+
+    fn dial<R: Net>(&mut self, rt: &R, port: u16) -> Result<u32, Failed> {
+        match self.connect(rt, port) {
+            Ok(id) => Ok(id),
             Err(_) => {
                 self.fail();
                 Err(Failed)
@@ -128,26 +180,19 @@ impl Ports for RealPorts {
         paused: &[u32],
     ) -> Result<Vec<HostEvent>, PollFault> {
         let wait = wait_of(&self.sockets, wait_ms, paused);
-        let Some(opened) = &mut self.opened else {
+        let Some(watch) = &mut self.watch else {
             self.fail();
             return Err(PollFault::Failed);
         };
-        if opened.poll.poll(&mut opened.events, Some(wait)).is_err() {
+        if watch.poll.poll(&mut watch.events, Some(wait)).is_err() {
             self.fail();
             return Err(PollFault::Failed);
         }
-        note_ready(opened, &mut self.sockets);
+        note_ready(&watch.events, &mut self.doors, &mut self.sockets);
         let mut events = Vec::new(self.alloc);
-        admit(
-            &opened.poll,
-            &mut opened.kiss,
-            &mut self.sockets,
-            &mut self.next_id,
-            &mut events,
-        )?;
-        admit(
-            &opened.poll,
-            &mut opened.agw,
+        admit_all(
+            &watch.poll,
+            &mut self.doors,
             &mut self.sockets,
             &mut self.next_id,
             &mut events,
@@ -172,17 +217,41 @@ impl Ports for RealPorts {
     }
 }
 
-fn open<R: Net>(rt: &R, alloc: Global, kiss: u16, agw: u16) -> io::Result<Opened> {
-    let poll = Poll::new(rt)?;
-    let events = Events::with_capacity(alloc, MOST_EVENTS)?;
-    let kiss = open_door(rt, &poll, PortKind::Kiss, KISS, kiss)?;
-    let agw = open_door(rt, &poll, PortKind::Agw, AGW, agw)?;
-    Ok(Opened {
-        poll,
-        events,
-        kiss,
-        agw,
-    })
+/// What a poll needs: that which is there, or a new one.
+fn watching<R: Net>(rt: &R, alloc: Global, watch: Option<Watch>) -> io::Result<Watch> {
+    match watch {
+        Some(watch) => Ok(watch),
+        None => Ok(Watch {
+            poll: Poll::new(rt)?,
+            events: Events::with_capacity(alloc, MOST_EVENTS)?,
+        }),
+    }
+}
+
+fn open_doors<R: Net>(rt: &R, poll: &Poll, kiss: u16, agw: u16) -> io::Result<Doors> {
+    let kiss = open_door(rt, poll, PortKind::Kiss, KISS, kiss)?;
+    let agw = open_door(rt, poll, PortKind::Agw, AGW, agw)?;
+    Ok(Doors { kiss, agw })
+}
+
+/// A connection to a port of 127.0.0.1. One that is refused, or that takes more than a few seconds, is a fault.
+fn connected<R: Net>(rt: &R, alloc: Global, port: u16) -> io::Result<TcpStream> {
+    let mut stream = TcpStream::connect(rt, SocketAddr::from((Ipv4Addr::LOCALHOST, port)))?;
+    let mut poll = Poll::new(rt)?;
+    let mut events = Events::with_capacity(alloc, 1)?;
+    poll.registry()
+        .register(&mut stream, Token(0), Interest::WRITABLE)?;
+    for _ in 0..LOOKS {
+        if let Some(fault) = stream.take_error()? {
+            return Err(fault);
+        }
+        if stream.peer_addr().is_ok() {
+            poll.registry().deregister(&mut stream)?;
+            return Ok(stream);
+        }
+        poll.poll(&mut events, Some(Duration::from_millis(LOOK)))?;
+    }
+    Err(io::Error::from(ErrorKind::TimedOut))
 }
 
 fn open_door<R: Net>(
@@ -213,12 +282,21 @@ fn wait_of(sockets: &[Socket], wait_ms: u32, paused: &[u32]) -> Duration {
 }
 
 /// Notes which doors and sockets the system reported.
-fn note_ready(opened: &mut Opened, sockets: &mut [Socket]) {
-    for event in opened.events.iter() {
+fn note_ready(events: &Events<Global>, doors: &mut Option<Doors>, sockets: &mut [Socket]) {
+    for event in events.iter() {
         match event.token().0 {
-            KISS => opened.kiss.ready = true,
-            AGW => opened.agw.ready = true,
+            KISS | AGW => note_door(doors, event.token().0),
             token => note_socket(sockets, token),
+        }
+    }
+}
+
+fn note_door(doors: &mut Option<Doors>, token: usize) {
+    if let Some(doors) = doors {
+        if token == KISS {
+            doors.kiss.ready = true;
+        } else {
+            doors.agw.ready = true;
         }
     }
 }
@@ -229,6 +307,25 @@ fn note_socket(sockets: &mut [Socket], token: usize) {
             socket.ready = true;
         }
     }
+}
+
+/// Takes the connections that wait at the doors, if there are doors.
+fn admit_all(
+    poll: &Poll,
+    doors: &mut Option<Doors>,
+    sockets: &mut Vec<Socket>,
+    next_id: &mut u32,
+    events: &mut Vec<HostEvent>,
+) -> Result<(), OutOfMemory>
+    ensures kept { (paused : List ℕ) → All (MayCome paused) events.old.items
+        → OnOk result (All (MayCome paused) events.new.items) }
+{
+    let Some(doors) = doors else {
+        return Ok(());
+    };
+    admit(poll, &mut doors.kiss, sockets, next_id, events)?;
+    admit(poll, &mut doors.agw, sockets, next_id, events)?;
+    Ok(())
 }
 
 /// Takes the connections that wait at a door.
@@ -255,11 +352,11 @@ fn admit(
     Ok(())
 }
 
-/// Gives a connection its id. One that can't be watched, or for which no id is left, is dropped.
+/// Gives a connection that came its id. One that can't be watched, or for which no id is left, is dropped.
 fn join(
     poll: &Poll,
     kind: PortKind,
-    mut stream: TcpStream,
+    stream: TcpStream,
     sockets: &mut Vec<Socket>,
     next_id: &mut u32,
     events: &mut Vec<HostEvent>,
@@ -267,6 +364,19 @@ fn join(
     ensures kept { (paused : List ℕ) → All (MayCome paused) events.old.items
         → OnOk result (All (MayCome paused) events.new.items) }
 {
+    if let Some(id) = add(poll, stream, sockets, next_id)? {
+        events.push(HostEvent::Joined { id, kind })?;
+    }
+    Ok(())
+}
+
+/// Adds a connection and answers its id. One that can't be watched, or for which no id is left, is dropped.
+fn add(
+    poll: &Poll,
+    mut stream: TcpStream,
+    sockets: &mut Vec<Socket>,
+    next_id: &mut u32,
+) -> Result<Option<u32>, OutOfMemory> {
     let id = *next_id;
     let token = Token(id as usize + FIRST);
     let interests = Interest::READABLE | Interest::WRITABLE;
@@ -276,7 +386,7 @@ fn join(
             .register(&mut stream, token, interests)
             .is_err()
     {
-        return Ok(());
+        return Ok(None);
     }
     // Each piece goes out at once: the system would gather pieces, and a host that reads two at a time may break.
     let _ = stream.set_nodelay(true);
@@ -286,9 +396,8 @@ fn join(
         ready: true,
         gone: false,
     })?;
-    events.push(HostEvent::Joined { id, kind })?;
     *next_id = id + 1;
-    Ok(())
+    Ok(Some(id))
 }
 
 /// Takes a piece of each socket that may have more and is not paused.

@@ -15,6 +15,15 @@ pub struct Listen {
     pub agw: u16,
 }
 
+/// A connection that was opened.
+#[derive(Clone, Copy, Debug, PartialEq, Eq)]
+pub struct Dial {
+    /// The port.
+    pub port: u16,
+    /// The connection.
+    pub id: u32,
+}
+
 /// A poll: what it was asked and what it gave. One that failed has no events.
 #[derive(Debug, Drop)]
 pub struct PollRecord {
@@ -69,7 +78,7 @@ pub struct Taken {
     pub octets: Octets,
 }
 
-/// A connection that came, and whether it was shut.
+/// A connection that came or was dialed, and whether it was shut.
 #[derive(Clone, Copy, Debug, PartialEq, Eq)]
 pub struct Came {
     /// The connection.

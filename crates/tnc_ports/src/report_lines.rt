@@ -8,7 +8,7 @@ use std::alloc::Global;
 use tnc_base::{Octets, OutOfMemory};
 
 /// The text of lines, each ended by a line feed.
-pub(crate) fn text_of_lines(alloc: Global, lines: &[ReportLine]) -> Result<Vec<u8>, OutOfMemory>
+pub fn text_of_lines(alloc: Global, lines: &[ReportLine]) -> Result<Vec<u8>, OutOfMemory>
     ensures { IfOk result (λ text. text.items ≡ report_text lines.now) }
 {
     let mut text = Vec::new(alloc);

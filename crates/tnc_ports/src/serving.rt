@@ -1,27 +1,25 @@
 //! A live station from its first poll to the end of its input.
-ghost use Rattle.std.specs.Prelude.{◌≡◌, ℕ, List, [], ◌≤◌, Some, All};
+ghost use Rattle.std.specs.Prelude.{◌≡◌, ℕ, List, [], ◌≤◌, Some, All, IfSome, IsNone, is_some};
 ghost use Rattle.std.specs.Thread.{IsSync};
 ghost use Rattle.link_machine.specs.Params.{IsRefusedWindow};
-ghost use Rattle.sample_ring.specs.Ends.{ring_id, ring_len, reader_ring, writer_ring, done_ring, published_by};
-ghost use Rattle.sample_ring.specs.Ends.{all_published};
+ghost use Rattle.sample_ring.specs.Ends.{ring_id, ring_len, reader_ring, writer_ring, published_by};
 ghost use Rattle.ring_receiver.specs.HeldReceiver.{readers_in, answers_in};
 ghost use Rattle.tnc_ports.specs.FreshReceiver.{IsFresh};
-ghost use Rattle.tnc_ports.specs.Pumped.{IsPumped};
-ghost use Rattle.tnc_ports.specs.SampledPump.{IsWriting, HasPumped, IsClosed};
-ghost use Rattle.tnc_ports.specs.SampledRun.{IsLooped, outside_by};
-ghost use Rattle.tnc_ports.specs.ServeRun.{InputSide, ReadFaults, IsServed, end_of, input_by};
+ghost use Rattle.tnc_ports.specs.PumpRun.{InputSide, Pumps, input_by};
+ghost use Rattle.tnc_ports.specs.SampledPump.{IsClosed, IsLoopedIf};
+ghost use Rattle.tnc_ports.specs.SampledRun.{outside_by};
+ghost use Rattle.tnc_ports.specs.ServeRun.{IsServed, end_of};
 
 use crate::live::Live;
 use crate::looping::{LoopEnd, station_loop};
 use crate::ports::Ports;
-use crate::pumping::{PumpEnd, Pumped, end_unread, pump};
+use crate::pump_run::pump_beside;
+use crate::pumping::{PumpEnd, Pumped};
 use crate::serve_words::ServeWords;
 use crate::spawner::Spawner;
-use crate::starting::Start;
 use ring_receiver::{RingReceiver, readers_wanted};
 use sample_ring::{Ring, Writer};
 use std::alloc::Global;
-use std::mem;
 use std::net::Net;
 use std::sync::Wait;
 use std::thread::Threads;
@@ -37,8 +35,10 @@ pub enum ServeEnd {
     Done,
     /// The input has more than 2^40 octets. All is written of those before.
     TooLong,
-    /// Memory was wanted and not given, or the thread of the pump. Without that thread nothing was read.
+    /// Memory was wanted and not given.
     Memory,
+    /// No thread could be started for the pump. Nothing was read, and no turn was made.
+    NoThread,
     /// The input failed. All is written of what was read.
     ReadFault,
     /// The output or the report failed.
@@ -47,17 +47,9 @@ pub enum ServeEnd {
     NoPort,
 }
 
-/// The writer of the ring, until the pump has taken it and ended the ring.
-#[derive(Drop)]
-pub enum Pumping {
-    Before(Writer),
-    After(Pumped),
-    Nothing,
-}
-
 /// Opens the ports, reads the input to its end or until it fails, and serves hosts meanwhile: a pump publishes the
 /// samples of the input in a ring, and beside it the turns of the station read them there. It may wait for the input.
-/// What the turns met counts before what the pump met. If no thread can be started it ends, without a turn.
+/// What the turns met counts before what the pump met. If no thread can be started for the pump it ends, without a turn.
 pub fn serve<
     R: Threads + Wait + Net + Sync,
     I: Source + Send,
@@ -93,16 +85,13 @@ pub fn serve<
     let Ok(mut receiver) = RingReceiver::new(alloc, readers, words.dcd, words.sensitive) else {
         return ServeEnd::Memory;
     };
-    let start = Start::new();
-    let mut pumping = Pumping::Before(writer);
     let mut end = LoopEnd::Memory;
-    run_beside(
+    let Some(pumped) = run_beside(
         rt,
         alloc,
         &words,
         &ring,
-        &start,
-        &mut pumping,
+        writer,
         &mut receiver,
         &mut end,
         input,
@@ -110,8 +99,10 @@ pub fn serve<
         report,
         ports,
         spawner,
-    );
-    close(ring, pumping, receiver, end)
+    ) else {
+        return ServeEnd::NoThread;
+    };
+    close(ring, pumped, receiver, end)
 }
 
 /// Runs the pump beside the turns.
@@ -127,8 +118,7 @@ fn run_beside<
     alloc: Global,
     words: &ServeWords,
     ring: &Ring,
-    start: &Start,
-    pumping: &mut Pumping,
+    writer: Writer,
     receiver: &mut RingReceiver,
     end: &mut LoopEnd,
     input: &mut I,
@@ -136,112 +126,83 @@ fn run_beside<
     report: &mut E,
     ports: &mut N,
     spawner: &mut W,
-)
+) -> Option<Pumped>
     requires window { (window : ℕ) → ¬ IsRefusedWindow words.now.config.params window }
-    requires writing { IsWriting ring.now pumping.old }
+    requires ring { writer_ring writer ≡ ring_id ring.now }
+    requires new { published_by writer ≡ [] }
     requires fresh { IsFresh words.now ring.now receiver.old }
-    ensures pumped { HasPumped ring.now pumping.new (input_by I.left I.faults input.old)
-        (input_by I.left I.faults input.new) }
+    ensures pumped { IfSome result (λ pumped. Pumps ring.now pumped (input_by I.left I.faults input.old)
+        (input_by I.left I.faults input.new)) }
+    ensures unread { IsNone result → input_by I.left I.faults input.new ≡ input_by I.left I.faults input.old }
     ensures readers { All (λ reader. reader_ring reader ≡ ring_id ring.now) (readers_in receiver.new) }
-    ensures looped { IsLooped words.now end.new (answers_in (ring_len ring.now) receiver.new)
+    ensures looped { IsLoopedIf (is_some result) words.now end.new (answers_in (ring_len ring.now) receiver.new)
         (outside_by N.listens N.polls N.sends N.sent N.is_shut N.faults O.written O.faults E.written E.faults
         ports.old output.old report.old)
         (outside_by N.listens N.polls N.sends N.sent N.is_shut N.faults O.written O.faults E.written E.faults
         ports.new output.new report.new) }
 {
-    spawner.beside(
+    pump_beside(
         rt,
-        &mut || pump_once(ring, start, pumping, input),
-        &mut ||
+        ring,
+        writer,
+        input,
+        spawner,
+        &mut |begins: bool|
             requires { IsSync R.row
                 × ((window : ℕ) → ¬ IsRefusedWindow words.now.config.params window)
                 × IsFresh words.now ring.now receiver.now }
             ensures { All (λ reader. reader_ring reader ≡ ring_id ring.entry.now) (readers_in receiver.exit.now)
-                × IsLooped words.entry.now end.exit.now (answers_in (ring_len ring.entry.now) receiver.exit.now)
+                × IsLoopedIf begins words.entry.now end.exit.now (answers_in (ring_len ring.entry.now) receiver.exit.now)
                 (outside_by N.listens N.polls N.sends N.sent N.is_shut N.faults O.written O.faults E.written E.faults
                 ports.entry.now output.entry.now report.entry.now)
                 (outside_by N.listens N.polls N.sends N.sent N.is_shut N.faults O.written O.faults E.written E.faults
                 ports.exit.now output.exit.now report.exit.now) }
         {
-            *end = turns(
-                rt, alloc, words, ring, receiver, output, report, ports, start,
+            loop_if(
+                begins, rt, alloc, words, ring, receiver, end, output, report, ports,
             )
         },
-    );
+    )
 }
 
-/// Makes the turns once the pump has begun, and none if it has not begun in time.
-fn turns<R: Threads + Wait + Net + Sync, O: Sink, E: Sink, N: Ports>(
+/// Makes the turns if the pump begins, and none if not.
+fn loop_if<R: Threads + Wait + Net + Sync, O: Sink, E: Sink, N: Ports>(
+    begins: bool,
     rt: &R,
     alloc: Global,
     words: &ServeWords,
     ring: &Ring,
     receiver: &mut RingReceiver,
+    end: &mut LoopEnd,
     output: &mut O,
     report: &mut E,
     ports: &mut N,
-    start: &Start,
-) -> LoopEnd
+)
     requires window { (window : ℕ) → ¬ IsRefusedWindow words.now.config.params window }
     requires fresh { IsFresh words.now ring.now receiver.old }
     ensures readers { All (λ reader. reader_ring reader ≡ ring_id ring.now) (readers_in receiver.new) }
-    ensures looped { IsLooped words.now result (answers_in (ring_len ring.now) receiver.new)
+    ensures looped { IsLoopedIf begins words.now end.new (answers_in (ring_len ring.now) receiver.new)
         (outside_by N.listens N.polls N.sends N.sent N.is_shut N.faults O.written O.faults E.written E.faults
         ports.old output.old report.old)
         (outside_by N.listens N.polls N.sends N.sent N.is_shut N.faults O.written O.faults E.written E.faults
         ports.new output.new report.new) }
 {
-    if !start.wait(rt) {
-        return LoopEnd::Memory;
-    }
-    station_loop(rt, alloc, words, ring, receiver, output, report, ports)
-}
-
-/// Lets the pump take the writer, and end the ring.
-fn pump_once<I: Source>(ring: &Ring, start: &Start, pumping: &mut Pumping, input: &mut I)
-    requires { IsWriting ring.now pumping.old }
-    ensures { HasPumped ring.now pumping.new (input_by I.left I.faults input.old) (input_by I.left I.faults input.new) }
-{
-    match mem::replace(pumping, Pumping::Nothing) {
-        Pumping::Before(writer) => *pumping = Pumping::After(pumped(ring, start, writer, input)),
-        Pumping::After(_pumped) => {}
-        Pumping::Nothing => {}
-    }
-}
-
-/// Pumps, unless the turns have given the pump up.
-fn pumped<I: Source>(ring: &Ring, start: &Start, writer: Writer, input: &mut I) -> Pumped
-    requires ring { writer_ring writer ≡ ring_id ring.now }
-    requires new { published_by writer ≡ [] }
-    ensures ring { done_ring result.done ≡ writer_ring writer }
-    ensures pumped { (octets : List ℕ) → I.left input.old ≡ Some octets
-        → IsPumped octets (I.left input.new) (all_published result.done) result.end }
-    ensures faults { ReadFaults result.end (input_by I.left I.faults input.old) (input_by I.left I.faults input.new) }
-{
-    if start.begin() {
-        pump(input, ring, writer)
-    } else {
-        end_unread(ring, writer)
+    if begins {
+        *end = station_loop(rt, alloc, words, ring, receiver, output, report, ports);
     }
 }
 
 /// Closes the ring once both have ended.
-fn close(ring: Ring, pumping: Pumping, receiver: RingReceiver, end: LoopEnd) -> ServeEnd
+fn close(ring: Ring, pumped: Pumped, receiver: RingReceiver, end: LoopEnd) -> ServeEnd
     requires cells { ring_len ring ≡ CELLS }
     requires readers { All (λ reader. reader_ring reader ≡ ring_id ring) (readers_in receiver) }
-    requires pumped { (input : InputSide) × (left : InputSide) × HasPumped ring pumping input left }
-    ensures { (input left : InputSide) → HasPumped ring pumping input left
+    requires pumped { (input : InputSide) × (left : InputSide) × Pumps ring pumped input left }
+    ensures { (input left : InputSide) → Pumps ring pumped input left
         → IsClosed end result (answers_in CELLS receiver) input left }
 {
     let readers = receiver.finish();
-    match pumping {
-        Pumping::After(pumped) => {
-            let _history = ring.close(pumped.done, readers);
-            end_of(end, pumped.end)
-        }
-        Pumping::Before(_writer) => ServeEnd::Memory,
-        Pumping::Nothing => ServeEnd::Memory,
-    }
+    let _history = ring.close(pumped.done, readers);
+    end_of(end, pumped.end)
 }
 
 /// How serving ends by the ends of the turns and of the pump, of which that of the turns counts first.
@@ -254,6 +215,5 @@ fn end_of(end: LoopEnd, pump: PumpEnd) -> ServeEnd
         (LoopEnd::Done, PumpEnd::InputEnd) => ServeEnd::Done,
         (LoopEnd::Done, PumpEnd::ReadFault) => ServeEnd::ReadFault,
         (LoopEnd::Done, PumpEnd::TooLong) => ServeEnd::TooLong,
-        (LoopEnd::Done, PumpEnd::NotBegun) => ServeEnd::Memory,
     }
 }

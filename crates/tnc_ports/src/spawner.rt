@@ -1,6 +1,5 @@
 //! What runs two jobs beside each other.
 
-use std::net::Net;
 use std::sync::Wait;
 use std::thread::{Threads, join_mut};
 
@@ -21,7 +20,7 @@ pub trait Spawner {
     fn order(&self) -> Order;
 
     /// Calls `pump` once and `here` once, and returns after both have. Each closure is left as its one call leaves it.
-    final fn beside<R: Threads + Wait + Net + Sync, P: FnMut() + Send, S: FnMut()>(
+    final fn beside<R: Threads + Wait + Sync, P: FnMut() + Send, S: FnMut()>(
         &mut self,
         rt: &R,
         pump: &mut P,

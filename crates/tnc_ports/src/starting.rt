@@ -3,9 +3,9 @@
 //! `join_mut` calls the pump after the turns if no thread can be started, and tells nobody. The turns would then wait
 //! forever for samples that the pump has not read. So they begin only when the pump has begun, and give it up after ten
 //! seconds. A pump that is given up reads nothing.
+ghost use Rattle.std.specs.Prelude.{◌≡◌};
 
-use std::sync::Wait;
-use std::sync::atomic::{AtomicU64, Ordering};
+use std::sync::{OnceLock, OnceToken, Wait};
 use std::thread::Parker;
 use std::time::Duration;
 
@@ -15,51 +15,48 @@ const LOOKS: u32 = 100;
 /// How long they wait between two looks, at most, in milliseconds.
 const WAIT: u64 = 100;
 
-/// Neither has the pump begun nor is it given up.
-const OPEN: u64 = 0;
-
-/// The pump has begun.
-const BEGUN: u64 = 1;
-
-/// The pump is given up.
-const GIVEN_UP: u64 = 2;
-
 /// Whether the pump has begun, or is given up. What is settled first stays.
 #[derive(Drop)]
 pub(crate) struct Start {
-    state: AtomicU64,
-    begun: Parker,
+    begins: OnceLock<bool>,
+    settled: Parker,
 }
 
 impl Start {
     pub(crate) fn new() -> Start {
         Start {
-            state: AtomicU64::new(OPEN),
-            begun: Parker::new(),
+            begins: OnceLock::new(),
+            settled: Parker::new(),
         }
     }
 
-    /// The pump begins, unless it is given up. Answers whether it begins.
-    pub(crate) fn begin(&self) -> bool {
-        let begins = self.settle(BEGUN);
-        self.begun.unpark();
-        begins
+    /// The pump begins, unless it is given up.
+    pub(crate) fn begin<R: Wait>(&self, rt: &R) -> OnceToken<'_, bool>
+        ensures { result.of ≡ self.now.begins.id }
+    {
+        let token = self.begins.init(rt, || true);
+        self.settled.unpark();
+        token
     }
 
-    /// Waits until the pump has begun, and gives it up after ten seconds. Answers whether it has begun.
-    pub(crate) fn wait<R: Wait>(&self, rt: &R) -> bool {
+    /// Waits until the pump has begun, and gives it up after ten seconds.
+    pub(crate) fn wait<R: Wait>(&self, rt: &R) -> OnceToken<'_, bool>
+        ensures { result.of ≡ self.now.begins.id }
+    {
         for _ in 0..LOOKS {
-            if self.state.load(Ordering::SeqCst) == BEGUN {
-                return true;
+            if let Some(token) = self.begins.witness() {
+                return token;
             }
-            self.begun.park_timeout(rt, Duration::from_millis(WAIT));
+            self.settled.park_timeout(rt, Duration::from_millis(WAIT));
         }
-        !self.settle(GIVEN_UP)
+        self.begins.init(rt, || false)
     }
 
-    fn settle(&self, state: u64) -> bool {
-        self.state
-            .compare_exchange(OPEN, state, Ordering::SeqCst, Ordering::SeqCst)
-            .is_ok()
+    /// Whether the pump begins, as a token shows it.
+    pub(crate) fn begins<'a>(&'a self, token: &OnceToken<'a, bool>) -> bool
+        requires { token.now.of ≡ self.now.begins.id }
+        ensures { result ≡ token.now.value }
+    {
+        *self.begins.value(token)
     }
 }

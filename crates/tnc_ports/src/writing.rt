@@ -4,7 +4,7 @@ ghost use Rattle.tnc_ports.specs.SampledWrites.{Puts, stream_of};
 use tnc_base::Sink;
 
 /// Writes octets, unless there are none or a write failed before.
-pub(crate) fn put<S: Sink>(sink: &mut S, failed: &mut bool, octets: &[u8])
+pub fn put<S: Sink>(sink: &mut S, failed: &mut bool, octets: &[u8])
     ensures { Puts failed.old failed.new octets.now (stream_of S.written S.faults sink.old)
         (stream_of S.written S.faults sink.new) }
 {

@@ -25,6 +25,8 @@ struct CountingPorts<'a> {
 impl Ports for CountingPorts<'_> {
     ghost listens = { λ _. None };
 
+    ghost dials = { λ _. None };
+
     ghost polls = { λ _. None };
 
     ghost is_shut = { λ _ _. None };
@@ -37,6 +39,10 @@ impl Ports for CountingPorts<'_> {
 
     fn listen<R: Net>(&mut self, _rt: &R, _kiss: u16, _agw: u16) -> Result<(), Failed> {
         Ok(())
+    }
+
+    fn dial<R: Net>(&mut self, _rt: &R, _port: u16) -> Result<u32, Failed> {
+        Ok(1)
     }
 
     fn poll<R: Net>(

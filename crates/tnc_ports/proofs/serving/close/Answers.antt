@@ -1,27 +1,23 @@
 use Rattle.std.specs.Prelude.{true, All, ℤ}
 use Rattle.std.proofs.Common.{ap, map, subst, ◌∙◌, List, ℕ}
-use Rattle.sample_ring.specs.Ends.{record_of, records_of}
+use Rattle.sample_ring.specs.Ends.{record_of, records_of, all_published}
 use Rattle.sample_ring.specs.Record.{StandsIn}
 use Rattle.ring_receiver.specs.HeldReceiver.{readers_in}
-use Rattle.tnc_ports.specs.SampledPump.{HasPumped}
-use Rattle.sample_ring.specs.Ends.{all_published}
 use Rattle.tnc_ports.proofs.LiveServe.{lanes_stand}
 use Rattle.tnc_ports.proofs.serving.close.Goals as goal
 
-pub returns-in-After : goal.returns-in-After
-returns-in-After c = λ input left h.
-    let pumped = subst (λ x. HasPumped c.args.ring x input left) c.in-After.is h in
-    record {
-      pump = c.in-After.pumped.end;
-      published = all_published c.in-After.pumped.done;
-      pumped = pumped.1;
-      faults = pumped.2;
-      stand = lanes_stand (all_published c.in-After.pumped.done) (readers_in c.args.receiver)
-          (records_of c.close-history.result)
-          (c.close-history.ensures.records ∙ ap (map record_of) c.finish-readers.ensures)
-          (subst (λ (n : ℕ). All (StandsIn n (all_published c.in-After.pumped.done) true)
-          (records_of c.close-history.result)) c.requires.cells
-          (subst (λ (xs : List ℤ). All (StandsIn c.args.ring.len xs true) (records_of c.close-history.result))
-          c.close-history.ensures.list c.close-history.ensures.stand));
-      ends = c.end_of.ensures;
-    }
+pub returns : goal.returns
+returns c = λ input left pumps. record {
+  pump = c.args.pumped.end;
+  published = all_published c.args.pumped.done;
+  pumped = pumps.samples;
+  faults = pumps.faults;
+  stand = lanes_stand (all_published c.args.pumped.done) (readers_in c.args.receiver)
+      (records_of c.close-history.result)
+      (c.close-history.ensures.records ∙ ap (map record_of) c.finish-readers.ensures)
+      (subst (λ (n : ℕ). All (StandsIn n (all_published c.args.pumped.done) true) (records_of c.close-history.result))
+      c.requires.cells
+      (subst (λ (xs : List ℤ). All (StandsIn c.args.ring.len xs true) (records_of c.close-history.result))
+      c.close-history.ensures.list c.close-history.ensures.stand));
+  ends = c.end_of.ensures;
+}

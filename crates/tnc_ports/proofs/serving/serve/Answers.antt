@@ -1,8 +1,9 @@
+use Rattle.std.specs.Prelude.{false}
 use Rattle.std.proofs.Common.{◌≡◌, refl}
 use Rattle.std.proofs.lemmas.List.Elements.{All-same, All-weaker}
 use Rattle.sample_ring.specs.Ends.{IsNew, ring_id, ring_len, reader_ring}
-use Rattle.ring_receiver.specs.HeldReceiver.{readers_in}
-use Rattle.tnc_ports.proofs.LiveServe.{has_opened, no_ring, all_served}
+use Rattle.ring_receiver.specs.HeldReceiver.{readers_in, answers_in}
+use Rattle.tnc_ports.proofs.LiveServe.{has_opened, no_ring, no_thread, all_served}
 use Rattle.tnc_ports.proofs.serving.serve.Goals as goal
 
 pub returns-in_default : goal.returns-in_default
@@ -50,6 +51,24 @@ run_beside-requires-clause-fresh g c = λ κs within. record {
   sensitive = c.in-Ok-new.ensures.sensitive;
 }
 
+pub returns-in_default-run_beside : goal.returns-in_default-run_beside
+returns-in_default-run_beside g c =
+    no_thread c.args.words c.run_beside.new.end (answers_in (ring_len c.in-Ok.ring) c.run_beside.new.receiver) false
+    _ _ _ _ _
+    (has_opened c.args.words _ _ c.listen.result c.is_err.result c.is_err.ensures.value c.if-is_err.false
+    c.listen.ensures.opened (record {
+      polls = c.listen.ensures.polls;
+      sends = c.listen.ensures.sends;
+      sent_to = c.listen.ensures.sent;
+      is_shut = c.listen.ensures.shut;
+      faults = c.listen.ensures.later;
+      output = refl;
+      output_faults = refl;
+      report = refl;
+      report_faults = refl;
+    }))
+    refl (c.in_default-run_beside.ensures.unread refl) c.in_default-run_beside.ensures.looped
+
 pub returns : goal.returns
 returns g c =
     all_served c.args.words c.run_beside.new.end c.close.result (ring_len c.in-Ok.ring)
@@ -66,4 +85,4 @@ returns g c =
       report = refl;
       report_faults = refl;
     }))
-    c.run_beside.ensures.looped (c.close.ensures _ _ c.run_beside.ensures.pumped) c.in-Ok.ensures.len
+    c.in-Some.ensures.looped (c.close.ensures _ _ c.in-Some.ensures.pumped) c.in-Ok.ensures.len

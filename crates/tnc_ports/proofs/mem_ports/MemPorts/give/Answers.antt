@@ -1,11 +1,9 @@
 use Rattle.std.proofs.Common.{◌≡◌, All, [], sym, ap, subst, ◌∙◌, ◌++◌}
-use Rattle.std.specs.List.{list_any}
-use Rattle.std.specs.Prelude.{◌==◌}
 use Rattle.std.proofs.lemmas.List.Elements.{All-append}
-use Rattle.tnc_ports.specs.declared.records.Came.{Came}
 use Rattle.tnc_ports.specs.Scripts.{PortsView, scripted_for, waiting_of, given_of, joined_in, was_shut}
 use Rattle.tnc_ports.specs.Sockets.{Poll, MayCome, IsWholePiece, has_come}
 use Rattle.tnc_ports.proofs.ScriptLemmas.{whole_scripted, whole_waiting, given_may_come, come_more, was_shut-joined}
+use Rattle.tnc_ports.proofs.ScriptLemmas.{is_one_of, still_one_of}
 use Rattle.tnc_ports.proofs.mem_ports.MemPorts.give.Goals as goal
 
 pub invariant_of-self-2 : goal.invariant_of-self-2
@@ -26,12 +24,14 @@ invariant_of-self-2 c =
       subst (All IsWholePiece) (sym (c.in_ok-parted.ensures.waiting
           ∙ ap (waiting_of c.args.paused.now []) c.deref-3.ensures.value))
           (whole_waiting c.args.paused.now [] c.in_ok-all.all.items whole),
-      λ id.
-          ap (has_come id) c.in_ok-push.ensures.items
+      λ id comes.
+          ap (is_one_of id) (came ∙ ap (λ new. c.self.inside.came.items ++ joined_in new) (sym events))
           ∙ come_more id c.self.inside.polls.items c.in_ok-record.record c.self.inside.came.items
-          (c.self.invariant.2 id)
-          ∙ ap (λ new. list_any (λ (one : Came). one.id == id) (c.self.inside.came.items ++ joined_in new)) events
-          ∙ sym (ap (list_any (λ (one : Came). one.id == id)) came),
+          (c.self.invariant.2 id) (sym (ap (has_come id) c.in_ok-push.ensures.items) ∙ comes),
+      λ id dialed.
+          ap (is_one_of id) came
+          ∙ still_one_of id c.self.inside.came.items (joined_in c.in_ok-parted.parted.given.items)
+          (c.self.invariant.3 id dialed),
     )
 
 pub returns-clause-events : goal.returns-clause-events

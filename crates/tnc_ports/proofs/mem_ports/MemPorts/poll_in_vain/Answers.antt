@@ -18,7 +18,9 @@ invariant_of-self-2 c =
     c.self.invariant.1 (whole_scripted c.len.result c.self.inside.script.items c.self.invariant.0)) in (
       c.self.invariant.0,
       whole,
-      λ id. ap (has_come id) c.in_ok-push.ensures.items
-          ∙ come_in_vain id c.self.inside.polls.items c.in_ok-record.record c.self.inside.came.items
-          (ap (λ (poll : Poll). poll.events) c.in_ok-record.ensures) (c.self.invariant.2 id),
+      λ id comes. c.self.invariant.2 id
+          (sym (ap (has_come id) c.in_ok-push.ensures.items
+          ∙ come_in_vain id c.self.inside.polls.items c.in_ok-record.record
+          (ap (λ (poll : Poll). poll.events) c.in_ok-record.ensures)) ∙ comes),
+      c.self.invariant.3,
     )

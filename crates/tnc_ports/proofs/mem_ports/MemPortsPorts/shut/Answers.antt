@@ -1,24 +1,30 @@
 use Rattle.std.proofs.Common.{sym, ap, ◌∙◌}
-use Rattle.std.specs.List.{list_any}
-use Rattle.std.specs.Prelude.{◌==◌}
 use Rattle.tnc_ports.specs.Scripts.{PortsView, was_shut}
-use Rattle.tnc_ports.specs.Sockets.{has_come}
-use Rattle.tnc_ports.proofs.ScriptLemmas.{with_shut-itself, with_shut-others, with_shut-ids}
+use Rattle.tnc_ports.specs.Sockets.{has_come, has_dialed}
+use Rattle.tnc_ports.proofs.ScriptLemmas.{with_shut-itself, with_shut-others, with_shut-ids, is_one_of}
 use Rattle.tnc_ports.proofs.mem_ports.MemPortsPorts.shut.Goals as goal
 
 pub invariant_of-self : goal.invariant_of-self
 invariant_of-self c = (
   c.self.invariant.0,
   c.self.invariant.1,
-  λ id. c.self.invariant.2 id ∙ sym (with_shut-ids c.args.id id c.self.inside.came.items)
-      ∙ ap (list_any (λ one. one.id == id)) (sym c.shut_all_of.ensures),
+  λ id comes. ap (is_one_of id) c.shut_all_of.ensures ∙ with_shut-ids c.args.id id c.self.inside.came.items
+      ∙ c.self.invariant.2 id comes,
+  λ id dialed. ap (is_one_of id) c.shut_all_of.ensures ∙ with_shut-ids c.args.id id c.self.inside.came.items
+      ∙ c.self.invariant.3 id dialed,
 )
 
 pub returns-clause-shut : goal.returns-clause-shut
 returns-clause-shut c = λ come.
     ap (λ all. was_shut all c.args.id) c.shut_all_of.ensures
-    ∙ with_shut-itself c.args.id c.self.inside.came.items (sym (c.self.invariant.2 c.args.id)
-    ∙ ap (λ (view : PortsView). has_come c.args.id view.polls) c.self.view_is ∙ come)
+    ∙ with_shut-itself c.args.id c.self.inside.came.items (c.self.invariant.2 c.args.id
+    (ap (λ (view : PortsView). has_come c.args.id view.polls) c.self.view_is ∙ come))
+
+pub returns-clause-shut_dialed : goal.returns-clause-shut_dialed
+returns-clause-shut_dialed c = λ dialed.
+    ap (λ all. was_shut all c.args.id) c.shut_all_of.ensures
+    ∙ with_shut-itself c.args.id c.self.inside.came.items (c.self.invariant.3 c.args.id
+    (ap (λ (view : PortsView). has_dialed c.args.id view.dials) c.self.view_is ∙ dialed))
 
 pub returns-clause-others : goal.returns-clause-others
 returns-clause-others c = λ other differs.
