@@ -1,0 +1,4 @@
+pub mod CallMessages
+pub mod CallSteps
+pub mod CallRun
+pub mod HeldCall

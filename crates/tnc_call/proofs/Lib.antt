@@ -1,0 +1,5 @@
+pub mod FaultlessLemmas
+pub mod HeardLemmas
+pub mod TraceLemmas
+pub mod TurnLemmas
+pub mod WholeLemmas

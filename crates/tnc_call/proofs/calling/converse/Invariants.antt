@@ -1,0 +1,20 @@
+use Rattle.std.proofs.Common.{◌≡◌, ◌≤◌, List, ℕ, Some, length}
+use Rattle.agwpe_client.specs.CallRun.{CallPlan}
+use Rattle.tnc_call.specs.CallTrace.{CallTrace, ports_by}
+use Rattle.tnc_call.specs.HeldTalk.{HasBegun, IsRunning}
+use Rattle.tnc_call.proofs.calling.converse.Given as goal
+
+-- so many turns were made
+abbrev pub invariant-loop-turn : goal.invariant-loop-turn
+invariant-loop-turn g l = record {
+  running : (plan : CallPlan) (before : List ℕ) → HasBegun plan l.fn.talk
+      → g.O.Sink.written l.fn.output ≡ Some before
+      → (trace : CallTrace) × (length trace.polls ≡ l._turn)
+      × IsRunning l.talk plan l.id before (g.O.Sink.written l.output)
+      (ports_by g.N.Ports.listens g.N.Ports.dials g.N.Ports.polls g.N.Ports.sends g.N.Ports.sent g.N.Ports.is_shut
+      g.N.Ports.faults l.fn.ports)
+      (ports_by g.N.Ports.listens g.N.Ports.dials g.N.Ports.polls g.N.Ports.sends g.N.Ports.sent g.N.Ports.is_shut
+      g.N.Ports.faults l.ports) trace;
+  within : l.talk.taken ≤ length l.talk.sent.items;
+  faultless : g.O.Sink.faults l.output ≡ g.O.Sink.faults l.fn.output;
+}

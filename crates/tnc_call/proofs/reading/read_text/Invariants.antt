@@ -1,0 +1,16 @@
+use Rattle.std.proofs.Common.{◌≡◌, ◌≤◌, ◌+◌, ◌-◌, List, ℕ, Some, vec_len}
+use Rattle.tnc_forms.proofs.ReadingLemmas.{HasRead}
+use Rattle.tnc_call.specs.CallInput.{text_limit}
+use Rattle.tnc_call.proofs.reading.read_text.Given as goal
+
+-- the octets so far are the first of the input
+abbrev pub invariant-reading : goal.invariant-reading
+invariant-reading g l = record {
+  so_far : (whole : List ℕ) → g.I.Source.left l.initial.input ≡ Some whole
+      → HasRead whole l.text.items (g.I.Source.left l.input);
+  bound : vec_len l.text ≤ text_limit + 1;
+  faultless : g.I.Source.faults l.input ≡ g.I.Source.faults l.initial.input;
+}
+
+abbrev pub decreases-reading : goal.decreases-reading
+decreases-reading g l = text_limit + 1 - vec_len l.text

@@ -1,0 +1,16 @@
+use Rattle.std.proofs.Common.{◌≡◌, ◌≤◌, ◌++◌, ℕ, List, length, take}
+use Rattle.agwpe_client.specs.CallRun.{CallPlan}
+use Rattle.tnc_call.specs.CallTrace.{octets_of}
+use Rattle.tnc_call.specs.HeldTalk.{GoesOn}
+use Rattle.tnc_call.proofs.talk.Talk.take_all.Given as goal
+
+-- the call goes on with the events so far
+abbrev pub invariant-loop-event : goal.invariant-loop-event
+invariant-loop-event g l = record {
+  goes_on : (plan : CallPlan) (host before : List ℕ)
+      → GoesOn l.fn.self plan host before (g.O.Sink.written l.fn.output)
+      → GoesOn l.self plan (host ++ octets_of l.id (take l.event-index l.events)) before (g.O.Sink.written l.output);
+  kept : l.self.taken ≡ l.fn.self.taken;
+  within : l.self.taken ≤ length l.self.sent.items;
+  faultless : g.O.Sink.faults l.output ≡ g.O.Sink.faults l.fn.output;
+}

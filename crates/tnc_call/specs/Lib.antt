@@ -1,0 +1,5 @@
+pub mod CallInput
+pub mod CallTrace
+pub mod CallEnding
+pub mod Faultless
+pub mod HeldTalk

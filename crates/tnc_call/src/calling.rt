@@ -1,0 +1,96 @@
+//! A call from its text to its end.
+ghost use Rattle.std.specs.Prelude.{◌≡◌, ◌≢◌, ◌≤◌, ◌<◌, ℕ, List, Some, length, IfOk, IfErr, IsErrOf};
+ghost use Rattle.tnc_base.specs.Faults.{HasRisen};
+ghost use Rattle.agwpe_client.specs.CallRun.{CallPlan};
+ghost use Rattle.tnc_call.specs.CallEnding.{IsCalled, plan_of};
+ghost use Rattle.tnc_call.specs.CallInput.{text_limit, IsReadingEnd, IsTalkEnd};
+ghost use Rattle.tnc_call.specs.CallTrace.{CallPorts, ports_by};
+ghost use Rattle.tnc_call.specs.HeldTalk.{HasBegun, HasTalked};
+
+use crate::call_end::CallEnd;
+use crate::call_words::CallWords;
+use crate::reading::read_text;
+use crate::talk::Talk;
+use std::alloc::Global;
+use std::net::Net;
+use tnc_base::{Sink, Source};
+use tnc_ports::Ports;
+
+/// Makes one call. The input is read to its end, and then the port is dialed. Each turn offers the host what waits for
+/// it and polls once, for at most 100 ms, and prints what comes of the remote station as it comes. The connection to the
+/// host is shut at every end. Returns after at most so many polls.
+pub fn call<R: Net, I: Source, O: Sink, N: Ports>(
+    rt: &R,
+    alloc: Global,
+    words: CallWords,
+    input: &mut I,
+    output: &mut O,
+    ports: &mut N,
+) -> CallEnd
+    ensures called { (text before : List ℕ) → I.left input.old ≡ Some text → O.written output.old ≡ Some before
+        → IsCalled words text before (O.written output.new)
+        (ports_by N.listens N.dials N.polls N.sends N.sent N.is_shut N.faults ports.old)
+        (ports_by N.listens N.dials N.polls N.sends N.sent N.is_shut N.faults ports.new) result }
+    ensures read { result ≡ CallEnd.ReadFault → HasRisen (I.faults input.old) (I.faults input.new) }
+    ensures no_read { result ≢ CallEnd.ReadFault → I.faults input.new ≡ I.faults input.old }
+    ensures write { result ≡ CallEnd.WriteFault → HasRisen (O.faults output.old) (O.faults output.new) }
+    ensures no_write { result ≢ CallEnd.WriteFault → O.faults output.new ≡ O.faults output.old }
+    ensures no_host { result ≡ CallEnd.NoHost → HasRisen (N.faults ports.old) (N.faults ports.new) }
+{
+    let most = words.polls;
+    let agw = words.agw;
+    let mut talk = match begin(alloc, words, input) {
+        Ok(talk) => talk,
+        Err(end) => return end,
+    };
+    let Ok(id) = ports.dial(rt, agw) else {
+        return CallEnd::NoHost;
+    };
+    let end = converse(rt, &mut talk, id, most, output, ports);
+    ports.shut(id);
+    end
+}
+
+/// Reads the text, and makes the call ready to begin.
+fn begin<I: Source>(alloc: Global, words: CallWords, input: &mut I) -> Result<Talk, CallEnd>
+    ensures begun { (text : List ℕ) → I.left input.old ≡ Some text
+        → IfOk result (λ talk. HasBegun (plan_of words text) talk × (length text ≤ text_limit)) }
+    ensures within { IfOk result (λ talk. talk.taken ≤ length talk.sent.items) }
+    ensures too_long { (text : List ℕ) → I.left input.old ≡ Some text
+        → IsErrOf result CallEnd.TooLong → text_limit < length text }
+    ensures only { IfErr result IsReadingEnd }
+    ensures read { IsErrOf result CallEnd.ReadFault → HasRisen (I.faults input.old) (I.faults input.new) }
+    ensures no_read { ¬ IsErrOf result CallEnd.ReadFault → I.faults input.new ≡ I.faults input.old }
+{
+    let text = read_text(alloc, input)?;
+    match Talk::new(alloc, words, &text) {
+        Ok(talk) => Ok(talk),
+        Err(_) => Err(CallEnd::Memory),
+    }
+}
+
+/// Makes turns until the call ends, but at most so many.
+fn converse<R: Net, O: Sink, N: Ports>(
+    rt: &R,
+    talk: &mut Talk,
+    id: u32,
+    most: u32,
+    output: &mut O,
+    ports: &mut N,
+) -> CallEnd
+    requires within { talk.old.taken ≤ length talk.old.sent.items }
+    ensures talked { (plan : CallPlan) (before : List ℕ) → HasBegun plan talk.old
+        → O.written output.old ≡ Some before → HasTalked plan most id before (O.written output.new)
+        (ports_by N.listens N.dials N.polls N.sends N.sent N.is_shut N.faults ports.old)
+        (ports_by N.listens N.dials N.polls N.sends N.sent N.is_shut N.faults ports.new) result }
+    ensures only { IsTalkEnd result }
+    ensures write { result ≡ CallEnd.WriteFault → HasRisen (O.faults output.old) (O.faults output.new) }
+    ensures no_write { result ≢ CallEnd.WriteFault → O.faults output.new ≡ O.faults output.old }
+{
+    for _turn in 0..most {
+        if let Some(end) = talk.turn(rt, id, output, ports) {
+            return end;
+        }
+    }
+    CallEnd::GaveUp { polls: most }
+}
