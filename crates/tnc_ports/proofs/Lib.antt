@@ -1,5 +1,6 @@
 pub mod PairLemmas
 pub mod PumpLemmas
+pub mod PaceLemmas
 pub mod OutgoingLemmas
 pub mod ScriptLemmas
 pub mod LineLemmas

@@ -2,6 +2,7 @@ pub mod Sockets
 pub mod Scripts
 pub mod Waiting
 pub mod OddOctet
+pub mod Inlet
 pub mod Pumped
 pub mod PumpRun
 pub mod IdRanges

@@ -1,12 +1,15 @@
 //! The pump: it carries the samples of the input into the ring, while the station's turns read them there.
-ghost use Rattle.std.specs.Prelude.{◌≡◌, ◌≢◌, ◌≤◌, ◌<◌, ◌+◌, ◌-◌, ◌*◌, ◌^◌, ℕ, List, Some, [], ◌++◌, length};
+ghost use Rattle.std.specs.Prelude.{◌≡◌, ◌≢◌, ◌≤◌, ◌<◌, ◌+◌, ◌-◌, ◌*◌, ◌^◌, ℕ, ℤ, List, Some, [], ◌++◌, length, map};
 ghost use Rattle.std.specs.Prelude.{option_map};
 ghost use Rattle.sample_ring.specs.Ends.{ring_id, writer_ring, done_ring, published_by, all_published};
 ghost use Rattle.tnc_base.specs.Faults.{HasRisen};
 ghost use Rattle.wav_file.specs.Samples.{samples, sample_of};
+ghost use Rattle.tnc_ports.specs.Inlet.{Step, KeepsPace};
+ghost use Rattle.tnc_ports.specs.Inlet.Step.{Publishes};
 ghost use Rattle.tnc_ports.specs.Pumped.{IsPumped};
 ghost use Rattle.tnc_ports.specs.OddOctet.{odd_octet, odd_after, count_of, ended};
 
+use crate::inlet::{Inlet, RingInlet};
 use byteorder::{ByteOrder, LittleEndian};
 use sample_ring::{Ring, Writer, WriterDone};
 use tnc_base::Source;
@@ -70,48 +73,89 @@ fn fill<I: Source>(source: &mut I, ring: &Ring, writer: &mut Writer) -> PumpEnd
     ensures read { result ≡ PumpEnd.ReadFault → HasRisen (I.faults source.old) (I.faults source.new) }
     ensures faultless { result ≢ PumpEnd.ReadFault → I.faults source.new ≡ I.faults source.old }
 {
+    let mut inlet = RingInlet {
+        source,
+        ring,
+        writer,
+    };
+    let end = pump_inlet(&mut inlet);
+    let RingInlet {
+        source: _,
+        ring: _,
+        writer: _,
+    } = inlet;
+    end
+}
+
+/// The same for an inlet. Each sample is published after the read that brought its high octet, and before the next
+/// read.
+pub fn pump_inlet<T: Inlet>(inlet: &mut T) -> PumpEnd
+    requires new { T.published inlet.old ≡ [] }
+    ensures input { T.input inlet.new ≡ T.input inlet.old }
+    ensures output { T.output inlet.new ≡ T.output inlet.old }
+    ensures ring { T.ring inlet.new ≡ T.ring inlet.old }
+    ensures pumped { (octets : List ℕ) → T.left inlet.old ≡ Some octets
+        → IsPumped octets (T.left inlet.new) (T.published inlet.new) result }
+    ensures pace { (before : List Step) → T.steps inlet.old ≡ Some before
+        → (more : List Step) × (T.steps inlet.new ≡ Some (before ++ more)) × KeepsPace more }
+    ensures count { length (T.published inlet.new) ≤ 2 ^ 39 }
+    ensures later { T.faults inlet.old ≤ T.faults inlet.new }
+    ensures read { result ≡ PumpEnd.ReadFault → HasRisen (T.faults inlet.old) (T.faults inlet.new) }
+    ensures faultless { result ≢ PumpEnd.ReadFault → T.faults inlet.new ≡ T.faults inlet.old }
+{
     let mut low = None;
     let mut buffer = [0; PIECE];
     let mut total: usize = 0;
     'reading: while total <= MOST_INPUT {
         let room = PIECE.min(MOST_INPUT + 1 - total);
-        let Ok(count) = source.read(&mut buffer[..room]) else {
+        let Ok(count) = inlet.read(&mut buffer[..room]) else {
             return PumpEnd::ReadFault;
         };
         if count == 0 {
             return PumpEnd::InputEnd;
         }
-        publish(ring, writer, &mut low, &buffer[..count]);
+        publish(inlet, &mut low, &buffer[..count]);
         total += count;
     }
     PumpEnd::TooLong
 }
 
 /// Publishes the samples that end in these octets; `low` is the low octet of a sample that is not whole yet.
-fn publish(ring: &Ring, writer: &mut Writer, low: &mut Option<u8>, octets: &[u8])
-    requires ring { writer_ring writer.old ≡ ring_id ring.now }
-    requires room { length (published_by writer.old) + length octets.now < 2 ^ 48 - 2 }
-    ensures ring { writer_ring writer.new ≡ writer_ring writer.old }
-    ensures samples { (read : List ℕ) → published_by writer.old ≡ samples read → low.old ≡ odd_octet read
-        → (published_by writer.new ≡ samples (read ++ octets.now)) × (low.new ≡ odd_octet (read ++ octets.now)) }
-    ensures count { 2 * length (published_by writer.new) + count_of low.new
-        ≡ 2 * length (published_by writer.old) + count_of low.old + length octets.now }
+fn publish<T: Inlet>(inlet: &mut T, low: &mut Option<u8>, octets: &[u8])
+    requires room { length (T.published inlet.old) + length octets.now < 2 ^ 48 - 2 }
+    ensures input { T.input inlet.new ≡ T.input inlet.old }
+    ensures output { T.output inlet.new ≡ T.output inlet.old }
+    ensures ring { T.ring inlet.new ≡ T.ring inlet.old }
+    ensures samples { (read : List ℕ) → T.published inlet.old ≡ samples read → low.old ≡ odd_octet read
+        → (T.published inlet.new ≡ samples (read ++ octets.now)) × (low.new ≡ odd_octet (read ++ octets.now)) }
+    ensures count { 2 * length (T.published inlet.new) + count_of low.new
+        ≡ 2 * length (T.published inlet.old) + count_of low.old + length octets.now }
+    ensures steps { (more : List ℤ) × (T.published inlet.new ≡ T.published inlet.old ++ more)
+        × ((before : List Step) → T.steps inlet.old ≡ Some before
+        → T.steps inlet.new ≡ Some (before ++ map Publishes more)) }
+    ensures left { T.left inlet.new ≡ T.left inlet.old }
+    ensures faults { T.faults inlet.new ≡ T.faults inlet.old }
 {
     for octet in octets {
-        push_octet(ring, writer, low, *octet);
+        push_octet(inlet, low, *octet);
     }
 }
 
 /// Publishes the sample that ends with the octet, if one does.
-fn push_octet(ring: &Ring, writer: &mut Writer, low: &mut Option<u8>, octet: u8)
-    requires ring { writer_ring writer.old ≡ ring_id ring.now }
-    requires room { length (published_by writer.old) < 2 ^ 48 - 2 }
-    ensures ring { writer_ring writer.new ≡ writer_ring writer.old }
-    ensures published { published_by writer.new ≡ published_by writer.old ++ ended low.old octet }
+fn push_octet<T: Inlet>(inlet: &mut T, low: &mut Option<u8>, octet: u8)
+    requires room { length (T.published inlet.old) < 2 ^ 48 - 2 }
+    ensures input { T.input inlet.new ≡ T.input inlet.old }
+    ensures output { T.output inlet.new ≡ T.output inlet.old }
+    ensures ring { T.ring inlet.new ≡ T.ring inlet.old }
+    ensures published { T.published inlet.new ≡ T.published inlet.old ++ ended low.old octet }
+    ensures steps { (before : List Step) → T.steps inlet.old ≡ Some before
+        → T.steps inlet.new ≡ Some (before ++ map Publishes (ended low.old octet)) }
     ensures rest { low.new ≡ odd_after low.old octet }
+    ensures left { T.left inlet.new ≡ T.left inlet.old }
+    ensures faults { T.faults inlet.new ≡ T.faults inlet.old }
 {
     if let Some(sample) = take_octet(low, octet) {
-        writer.publish(ring, sample).unwrap();
+        inlet.publish(sample);
     }
 }
 

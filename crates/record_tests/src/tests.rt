@@ -1,0 +1,3 @@
+mod recorder;
+mod recording;
+mod wave;

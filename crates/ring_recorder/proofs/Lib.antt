@@ -1,0 +1,5 @@
+pub mod LossLemmas
+pub mod SoundLemmas
+pub mod TileLemmas
+pub mod ReadLemmas
+pub mod WriteLemmas

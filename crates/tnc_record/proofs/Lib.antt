@@ -1,0 +1,5 @@
+pub mod TextLemmas
+pub mod TurnLemmas
+pub mod LoopLemmas
+pub mod RecordedLemmas
+pub mod EndLemmas
