@@ -75,6 +75,19 @@ has_no_port() {
     answers 10 "tnc: no port" serve --kiss 18100 --agw 18100 </dev/null && [ ! -s "$room/output" ]
 }
 
+# No station listens for a call.
+has_no_host() {
+    answers 11 "tnc: no host" call --agw 18102 --from N7LEM --to NJ7P </dev/null && [ ! -s "$room/output" ]
+}
+
+# RECORDING: its sound, as much as the ring holds, is kept sample by sample, and its frames are told.
+records() {
+    head -c 120000 "$1.raw" >"$room/heard.raw"
+    "$tnc" record <"$room/heard.raw" >"$room/kept.wav" 2>"$room/report" \
+        && tail -c +45 "$room/kept.wav" | cmp -s - "$room/heard.raw" \
+        && sed 's/^frame [0-9]* //' "$room/report" | cmp -s - <("$tnc" decode <"$room/heard.raw")
+}
+
 # OPTION..: what two stations carry to each other's hosts is what these gave.
 stations_agree() {
     scripts/check_serve.py --tnc "$tnc" --octets 1500 "$@" >"$room/told" || { cat "$room/told"; return 1; }
@@ -365,6 +378,7 @@ for raw in samples/*.raw; do
         check "encode $words of $of.frames, and back" comes_back "$of.frames" $words
         check "encode --wav $words of $of.frames, and back" comes_back_from_wav "$of.frames" $words
     done
+    check "record of $raw" records "$of"
     check "the lengths of what encode makes of $of.frames" has_lengths "$of.frames"
     check "encode --hf of $of.frames, and back" comes_back_on_short_wave "$of.frames" --silence 77
 done
@@ -433,6 +447,7 @@ check "a wide bench" benches "ticks 252\nsent 4 lost 0\nA 1 $nothing\nB 1 $nothi
 # ways between their host programs.
 check "a station that hears nothing" hears_nothing
 check "a station without its ports" has_no_port
+check "a call without its station" has_no_host
 if has python3; then
     check "two stations" stations_agree
     check "two stations by SREJ, a fifth of the transmissions lost" stations_agree --mode srej --loss 20

@@ -4,7 +4,7 @@ use Rattle.std.proofs.lemmas.List.{append_cancel_left}
 use Rattle.tnc_base.specs.Streams.{WrotePart}
 use Rattle.tnc_words.specs.declared.command.Command.{Command}
 use Rattle.tnc_words.specs.declared.command.Command.TheVariants.{Decode, Encode, Show, Loop, Bench, Serve, Help}
-use Rattle.tnc_words.specs.declared.command.Command.TheVariants.{Version}
+use Rattle.tnc_words.specs.declared.command.Command.TheVariants.{Record, Call, Version}
 use Rattle.tnc_words.specs.declared.command.DecodeWords.{DecodeWords}
 use Rattle.tnc_forms.specs.declared.fault.InputFault.{InputFault}
 use Rattle.tnc_forms.specs.declared.fault.InputFault.TheVariants.{TooLong, Line, Wav, LongWav}
@@ -135,5 +135,7 @@ unread (Show words) octets left reads = show_unread words octets left reads
 unread (Loop words) octets left reads = tt
 unread (Bench options) octets left reads = tt
 unread (Serve options) octets left reads = absurd reads
+unread (Record options) octets left reads = absurd reads
+unread (Call options) octets left reads = absurd reads
 unread (Help topic) octets left reads = tt
 unread Version octets left reads = tt

@@ -11,4 +11,8 @@ pub mod PcmRoundTrip
 pub mod SentFrames
 pub mod RoundTrip
 pub mod ServingLemmas
+pub mod EndLemmas
+pub mod CallingLemmas
+pub mod RecordingLemmas
+pub mod LiveCommandLemmas
 pub mod LiveRuns

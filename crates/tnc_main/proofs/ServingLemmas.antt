@@ -4,16 +4,18 @@ use Rattle.std.proofs.Common.{subst, ap, ◌∙◌, arith}
 use Rattle.std.specs.Prelude.{◌⊎◌}
 use Rattle.sample_ring.specs.declared.got.Got.{Got}
 use Rattle.tnc_base.specs.Faults.{HasRisen}
+use Rattle.tnc_words.specs.declared.command.ServeOptions.{ServeOptions}
 use Rattle.tnc_forms.specs.Reading.{input_limit}
 use Rattle.tnc_ports.specs.declared.looping.LoopEnd.{LoopEnd}
 use Rattle.tnc_ports.specs.declared.looping.LoopEnd.TheVariants.{Done as LoopDone, Memory as LoopMemory}
 use Rattle.tnc_ports.specs.declared.looping.LoopEnd.TheVariants.{WriteFault as LoopFault}
 use Rattle.tnc_ports.specs.declared.pumping.PumpEnd.{PumpEnd}
 use Rattle.tnc_ports.specs.declared.pumping.PumpEnd.TheVariants.{InputEnd, ReadFault as PumpFailed}
-use Rattle.tnc_ports.specs.declared.pumping.PumpEnd.TheVariants.{TooLong as InputTooLong, NotBegun}
+use Rattle.tnc_ports.specs.declared.pumping.PumpEnd.TheVariants.{TooLong as InputTooLong}
 use Rattle.tnc_ports.specs.declared.serve_words.ServeWords.{ServeWords}
 use Rattle.tnc_ports.specs.declared.serving.ServeEnd.{ServeEnd}
 use Rattle.tnc_ports.specs.declared.serving.ServeEnd.TheVariants.{Done, TooLong, Memory, ReadFault, WriteFault, NoPort}
+use Rattle.tnc_ports.specs.declared.serving.ServeEnd.TheVariants.{NoThread}
 use Rattle.tnc_ports.specs.Pumped.{IsPumped}
 use Rattle.tnc_ports.specs.SampledRun.{IsLooped, Outside}
 use Rattle.tnc_ports.specs.ServeRun.{HasServed, InputSide, IsServed, OnlyListens, ReadFaults, end_of}
@@ -22,7 +24,8 @@ use Rattle.tnc_main.specs.declared.status.Status.TheVariants.{Done as WellDone, 
 use Rattle.tnc_main.specs.declared.status.Status.TheVariants.{ReadFault as InputFailed, WriteFault as OutputFailed}
 use Rattle.tnc_main.specs.declared.status.Status.TheVariants.{Stray as HeardStray, NotQuiet as FoundNoQuiet}
 use Rattle.tnc_main.specs.declared.status.Status.TheVariants.{Spent as WasSpent, NoPort as PortsFailed}
-use Rattle.tnc_main.specs.Serving.{IsToldAs, LacksLine, last_line, status_of_end}
+use Rattle.tnc_main.specs.Serving.{IsInWant, IsToldAs, LacksLine, RunsLive, last_line, status_of_end, words_of}
+use Rattle.tnc_main.specs.Status.{code_of}
 
 -- ---- when serving has ended
 
@@ -46,7 +49,6 @@ module _ (words : ServeWords) (input left : InputSide) (before open_ports after 
   by_done LoopDone InputEnd is looped faults = (faults, all_written looped)
   by_done LoopDone PumpFailed is looped faults = cc is
   by_done LoopDone InputTooLong is looped faults = cc is
-  by_done LoopDone NotBegun is looped faults = cc is
   by_done LoopMemory pump is looped faults = cc is
   by_done LoopFault pump is looped faults = cc is
 
@@ -56,7 +58,6 @@ module _ (words : ServeWords) (input left : InputSide) (before open_ports after 
   by_too_long LoopDone InputEnd is looped = cc is
   by_too_long LoopDone PumpFailed is looped = cc is
   by_too_long LoopDone InputTooLong is looped = (refl, all_written looped)
-  by_too_long LoopDone NotBegun is looped = cc is
   by_too_long LoopMemory pump is looped = cc is
   by_too_long LoopFault pump is looped = cc is
 
@@ -65,7 +66,6 @@ module _ (words : ServeWords) (input left : InputSide) (before open_ports after 
   by_read_fault LoopDone InputEnd is faults = cc is
   by_read_fault LoopDone PumpFailed is faults = faults
   by_read_fault LoopDone InputTooLong is faults = cc is
-  by_read_fault LoopDone NotBegun is faults = cc is
   by_read_fault LoopMemory pump is faults = cc is
   by_read_fault LoopFault pump is faults = cc is
 
@@ -74,7 +74,6 @@ module _ (words : ServeWords) (input left : InputSide) (before open_ports after 
   by_write_fault LoopDone InputEnd is looped = cc is
   by_write_fault LoopDone PumpFailed is looped = cc is
   by_write_fault LoopDone InputTooLong is looped = cc is
-  by_write_fault LoopDone NotBegun is looped = cc is
   by_write_fault LoopMemory pump is looped = cc is
   by_write_fault LoopFault pump is looped = elim looped.2.failed [
     | inl output ↦ inl (subst (λ n. HasRisen n after.output_faults) only.output_faults output)
@@ -131,6 +130,7 @@ module _ (words : ServeWords) (input left : InputSide) (before between after : O
   at_done TooLong (served, inl (is, more)) e = let both : WellDone ≡ BadInput = sym e ∙ is in cc both
   at_done TooLong (served, inr (is, less)) e = let both : WellDone ≡ OutputFailed = sym e ∙ is in cc both
   at_done Memory (served, (is, same)) e = let both : WellDone ≡ NoMemory = sym e ∙ is in cc both
+  at_done NoThread (served, (is, same)) e = let both : WellDone ≡ NoMemory = sym e ∙ is in cc both
   at_done ReadFault (served, (is, same)) e = let both : WellDone ≡ InputFailed = sym e ∙ is in cc both
   at_done WriteFault (served, (is, same)) e = let both : WellDone ≡ OutputFailed = sym e ∙ is in cc both
   at_done NoPort (served, inl (is, more)) e = let both : WellDone ≡ PortsFailed = sym e ∙ is in cc both
@@ -141,6 +141,7 @@ module _ (words : ServeWords) (input left : InputSide) (before between after : O
   at_read_fault TooLong (served, inl (is, more)) e = let both : InputFailed ≡ BadInput = sym e ∙ is in cc both
   at_read_fault TooLong (served, inr (is, less)) e = let both : InputFailed ≡ OutputFailed = sym e ∙ is in cc both
   at_read_fault Memory (served, (is, same)) e = let both : InputFailed ≡ NoMemory = sym e ∙ is in cc both
+  at_read_fault NoThread (served, (is, same)) e = let both : InputFailed ≡ NoMemory = sym e ∙ is in cc both
   at_read_fault ReadFault (served, (is, same)) e = read_failed words input left before between served
   at_read_fault WriteFault (served, (is, same)) e = let both : InputFailed ≡ OutputFailed = sym e ∙ is in cc both
   at_read_fault NoPort (served, inl (is, more)) e = let both : InputFailed ≡ PortsFailed = sym e ∙ is in cc both
@@ -152,6 +153,7 @@ module _ (words : ServeWords) (input left : InputSide) (before between after : O
   at_write_fault TooLong (served, inr (is, less)) e =
       cut_line _ before between after (too_long words input left before between served).1.1 less
   at_write_fault Memory (served, (is, same)) e = let both : OutputFailed ≡ NoMemory = sym e ∙ is in cc both
+  at_write_fault NoThread (served, (is, same)) e = let both : OutputFailed ≡ NoMemory = sym e ∙ is in cc both
   at_write_fault ReadFault (served, (is, same)) e = let both : OutputFailed ≡ InputFailed = sym e ∙ is in cc both
   at_write_fault WriteFault (served, (is, same)) e = subst (WritesFailed before) (sym same)
       (write_failed words input left before between served)
@@ -163,6 +165,7 @@ module _ (words : ServeWords) (input left : InputSide) (before between after : O
   at_no_port TooLong (served, inl (is, more)) e = let both : PortsFailed ≡ BadInput = sym e ∙ is in cc both
   at_no_port TooLong (served, inr (is, less)) e = let both : PortsFailed ≡ OutputFailed = sym e ∙ is in cc both
   at_no_port Memory (served, (is, same)) e = let both : PortsFailed ≡ NoMemory = sym e ∙ is in cc both
+  at_no_port NoThread (served, (is, same)) e = let both : PortsFailed ≡ NoMemory = sym e ∙ is in cc both
   at_no_port ReadFault (served, (is, same)) e = let both : PortsFailed ≡ InputFailed = sym e ∙ is in cc both
   at_no_port WriteFault (served, (is, same)) e = let both : PortsFailed ≡ OutputFailed = sym e ∙ is in cc both
   at_no_port NoPort (served, inl (is, more)) e =
@@ -179,6 +182,7 @@ module _ (words : ServeWords) (input left : InputSide) (before between after : O
   ends_well TooLong (served, told) octets tells few no_read no_write no_report no_port =
       absurd (not_too_long words input left before between octets tells few served)
   ends_well Memory (served, (is, same)) octets tells few no_read no_write no_report no_port = inr is
+  ends_well NoThread (served, (is, same)) octets tells few no_read no_write no_report no_port = inr is
   ends_well ReadFault (served, (is, same)) octets tells few no_read no_write no_report no_port =
       absurd (no_read (read_failed words input left before between served))
   ends_well WriteFault (served, (is, same)) octets tells few no_read no_write no_report no_port =
@@ -191,22 +195,33 @@ module _ (words : ServeWords) (input left : InputSide) (before between after : O
       [ inl output ↦ absurd (no_write output) | inr report ↦ absurd (no_report report) ]
 
 -- the statuses of a live station
-own_status : (end : ServeEnd) (status : Status) (between after : Outside)
+pub own_status : (end : ServeEnd) (status : Status) (between after : Outside)
     → IsToldAs (last_line end) (status_of_end end) status between after
     → (status ≡ status_of_end end) ⊎ (status ≡ OutputFailed)
 own_status Done status between after (is, same) = inl is
 own_status TooLong status between after (inl (is, more)) = inl is
 own_status TooLong status between after (inr (is, less)) = inr is
 own_status Memory status between after (is, same) = inl is
+own_status NoThread status between after (is, same) = inl is
 own_status ReadFault status between after (is, same) = inl is
 own_status WriteFault status between after (is, same) = inl is
 own_status NoPort status between after (inl (is, more)) = inl is
 own_status NoPort status between after (inr (is, less)) = inr is
 
+pub up_to_ten : (end : ServeEnd) → code_of (status_of_end end) ≤ 10
+up_to_ten Done = omega arith
+up_to_ten TooLong = omega arith
+up_to_ten Memory = omega arith
+up_to_ten NoThread = omega arith
+up_to_ten ReadFault = omega arith
+up_to_ten WriteFault = omega arith
+up_to_ten NoPort = omega arith
+
 not_bad_words : (end : ServeEnd) → BadWords ≡ status_of_end end → ⊥
 not_bad_words Done e = cc e
 not_bad_words TooLong e = cc e
 not_bad_words Memory e = cc e
+not_bad_words NoThread e = cc e
 not_bad_words ReadFault e = cc e
 not_bad_words WriteFault e = cc e
 not_bad_words NoPort e = cc e
@@ -215,6 +230,7 @@ not_stray : (end : ServeEnd) → HeardStray ≡ status_of_end end → ⊥
 not_stray Done e = cc e
 not_stray TooLong e = cc e
 not_stray Memory e = cc e
+not_stray NoThread e = cc e
 not_stray ReadFault e = cc e
 not_stray WriteFault e = cc e
 not_stray NoPort e = cc e
@@ -223,6 +239,7 @@ not_unquiet : (end : ServeEnd) → FoundNoQuiet ≡ status_of_end end → ⊥
 not_unquiet Done e = cc e
 not_unquiet TooLong e = cc e
 not_unquiet Memory e = cc e
+not_unquiet NoThread e = cc e
 not_unquiet ReadFault e = cc e
 not_unquiet WriteFault e = cc e
 not_unquiet NoPort e = cc e
@@ -231,6 +248,7 @@ not_spent : (end : ServeEnd) → WasSpent ≡ status_of_end end → ⊥
 not_spent Done e = cc e
 not_spent TooLong e = cc e
 not_spent Memory e = cc e
+not_spent NoThread e = cc e
 not_spent ReadFault e = cc e
 not_spent WriteFault e = cc e
 not_spent NoPort e = cc e
@@ -260,3 +278,26 @@ module _ (end : ServeEnd) (status : Status) (between after : Outside)
     | inl own ↦ not_spent end (sym e ∙ own)
     | inr failed ↦ let both : WasSpent ≡ OutputFailed = sym e ∙ failed in cc both
   ]
+
+-- what status 3 stands for
+module _ (options : ServeOptions) (input left : InputSide) (before between after : Outside) (status : Status) where
+  in_want : (end : ServeEnd) → Ends (words_of options) input left before between after status end → status ≡ NoMemory
+      → IsInWant options input left before after
+  in_want Done (served, (is, same)) e = let both : NoMemory ≡ WellDone = sym e ∙ is in cc both
+  in_want TooLong (served, inl (is, more)) e = let both : NoMemory ≡ BadInput = sym e ∙ is in cc both
+  in_want TooLong (served, inr (is, less)) e = let both : NoMemory ≡ OutputFailed = sym e ∙ is in cc both
+  in_want Memory (served, (is, same)) e =
+      inr (inl (subst (IsServed (words_of options) Memory input left before) (sym same) served))
+  in_want NoThread (served, (is, same)) e =
+      inr (inr (subst (IsServed (words_of options) NoThread input left before) (sym same) served))
+  in_want ReadFault (served, (is, same)) e = let both : NoMemory ≡ InputFailed = sym e ∙ is in cc both
+  in_want WriteFault (served, (is, same)) e = let both : NoMemory ≡ OutputFailed = sym e ∙ is in cc both
+  in_want NoPort (served, inl (is, more)) e = let both : NoMemory ≡ PortsFailed = sym e ∙ is in cc both
+  in_want NoPort (served, inr (is, less)) e = let both : NoMemory ≡ OutputFailed = sym e ∙ is in cc both
+
+pub want : (options : ServeOptions) (input left : InputSide) (before after : Outside) (status : Status)
+    → RunsLive options status input left before after → status ≡ NoMemory → IsInWant options input left before after
+want options input left before after status (inl h) is =
+    inl (record { memory = refl; unread = h.unread; untouched = h.untouched })
+want options input left before after status (inr h) is =
+    in_want options input left before h.between after status h.end (h.served, h.told) is

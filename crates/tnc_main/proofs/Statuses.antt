@@ -1,31 +1,30 @@
 -- Statuses and their codes, and what a status says of a command's end.
-use Rattle.std.proofs.Common.{◌≡◌, ◌≢◌, ℕ, zero, suc, Result, Ok, Err, inl, inr, refl, sym, ap, ◌∙◌, arith, true≢false}
-use Rattle.std.specs.Prelude.{IsOk, List}
+use Rattle.std.proofs.Common.{◌≡◌, ◌≢◌, ◌≤◌, ℕ, List, [], ◌∷◌, get_or, Result, Ok, Err, inl, inr, refl, sym, ap, ◌∙◌}
+use Rattle.std.proofs.Common.{arith, subst, true≢false}
+use Rattle.std.specs.Prelude.{IsOk}
 use Rattle.tnc_forms.specs.declared.fault.InputFault.{InputFault}
 use Rattle.tnc_main.specs.declared.status.Status.{Status}
 use Rattle.tnc_main.specs.declared.status.Status.TheVariants.{Done, BadWords, BadInput, Memory as NoMemory, ReadFault}
 use Rattle.tnc_main.specs.declared.status.Status.TheVariants.{WriteFault, Stray as HeardStray, NotQuiet as FoundNoQuiet}
-use Rattle.tnc_main.specs.declared.status.Status.TheVariants.{Spent as WasSpent, NoPort}
+use Rattle.tnc_main.specs.declared.status.Status.TheVariants.{Spent as WasSpent, NoPort, NoHost, Refused}
+use Rattle.tnc_main.specs.declared.status.Status.TheVariants.{HostLost, HostBroke, GaveUp}
 use Rattle.tnc_main.specs.declared.stop.Stop.{Stop}
 use Rattle.tnc_main.specs.declared.stop.Stop.TheVariants.{Input, Stray, NotQuiet, Spent, Memory, Read, Write}
 use Rattle.tnc_main.specs.Status.{code_of}
 use Rattle.tnc_main.specs.Stops.{EndsAs, status_of}
 
+-- the statuses by their codes; no status has the code 9
+statuses : List Status
+statuses =
+    Done ∷ BadWords ∷ BadInput ∷ NoMemory ∷ ReadFault ∷ WriteFault ∷ HeardStray ∷ FoundNoQuiet ∷ WasSpent ∷ NoPort
+    ∷ NoPort ∷ NoHost ∷ Refused ∷ HostLost ∷ HostBroke ∷ GaveUp ∷ []
+
 -- the status of a code
 status_at : ℕ → Status
-status_at zero = Done
-status_at (suc zero) = BadWords
-status_at (suc (suc zero)) = BadInput
-status_at (suc (suc (suc zero))) = NoMemory
-status_at (suc (suc (suc (suc zero)))) = ReadFault
-status_at (suc (suc (suc (suc (suc zero))))) = WriteFault
-status_at (suc (suc (suc (suc (suc (suc zero)))))) = HeardStray
-status_at (suc (suc (suc (suc (suc (suc (suc zero))))))) = FoundNoQuiet
-status_at (suc (suc (suc (suc (suc (suc (suc (suc zero)))))))) = WasSpent
-status_at (suc (suc (suc (suc (suc (suc (suc (suc (suc n))))))))) = NoPort
+status_at code = get_or statuses code NoPort
 
 status_at-code : (status : Status) → status_at (code_of status) ≡ status
-unfolding status_at
+unfolding statuses status_at
 status_at-code Done = refl
 status_at-code BadWords = refl
 status_at-code BadInput = refl
@@ -36,6 +35,11 @@ status_at-code HeardStray = refl
 status_at-code FoundNoQuiet = refl
 status_at-code WasSpent = refl
 status_at-code NoPort = refl
+status_at-code NoHost = refl
+status_at-code Refused = refl
+status_at-code HostLost = refl
+status_at-code HostBroke = refl
+status_at-code GaveUp = refl
 
 -- a status is known by its code
 pub one_status : (status other : Status) → code_of status ≡ code_of other → status ≡ other
@@ -159,3 +163,19 @@ module _ (end : Result (Unit {0}) Stop) (status : Status) (ends : EndsAs end sta
       go (Err Memory) e = absurd (omega arith)
       go (Err Read) e = absurd (omega arith)
       go (Err Write) e = absurd (omega arith)
+
+-- a command that is not live has one of the first nine codes
+own_up_to_eight : (end : Result (Unit {0}) Stop) → code_of (status_of end) ≤ 8
+own_up_to_eight (Ok x) = omega arith
+own_up_to_eight (Err (Input fault)) = omega arith
+own_up_to_eight (Err (Stray frame)) = omega arith
+own_up_to_eight (Err (NotQuiet index)) = omega arith
+own_up_to_eight (Err (Spent ticks)) = omega arith
+own_up_to_eight (Err Memory) = omega arith
+own_up_to_eight (Err Read) = omega arith
+own_up_to_eight (Err Write) = omega arith
+
+pub up_to_eight : (end : Result (Unit {0}) Stop) (status : Status) → EndsAs end status → code_of status ≤ 8
+up_to_eight end status (inl same) = subst (λ s. code_of s ≤ 8) (sym same) (own_up_to_eight end)
+up_to_eight end status (inr (told, inl memory)) = subst (λ s. code_of s ≤ 8) (sym memory) (omega arith)
+up_to_eight end status (inr (told, inr write)) = subst (λ s. code_of s ≤ 8) (sym write) (omega arith)

@@ -9,7 +9,7 @@ use Rattle.clean_signal.proofs.Law.{near_law}
 use Rattle.wide_input.proofs.WideLaw.{near_stream_law}
 use Rattle.tnc_words.specs.declared.command.Command.{Command}
 use Rattle.tnc_words.specs.declared.command.Command.TheVariants.{Decode, Encode, Show, Loop, Bench, Serve, Help}
-use Rattle.tnc_words.specs.declared.command.Command.TheVariants.{Version}
+use Rattle.tnc_words.specs.declared.command.Command.TheVariants.{Record, Call, Version}
 use Rattle.tnc_words.specs.declared.command.DecodeWords.{DecodeWords}
 use Rattle.tnc_forms.specs.declared.fault.InputFault.TheVariants.{TooLong}
 use Rattle.tnc_forms.specs.Reading.{input_limit}
@@ -45,6 +45,8 @@ long_fault (Loop words) left octets last read long = let none : length octets �
 long_fault (Bench options) left octets last read long = let none : length octets ≡ 0 = ap length read in
     absurd (omega arith)
 long_fault (Serve options) left octets last read long = absurd last
+long_fault (Record options) left octets last read long = absurd last
+long_fault (Call options) left octets last read long = absurd last
 long_fault (Help topic) left octets last read long = let none : length octets ≡ 0 = ap length read in
     absurd (omega arith)
 long_fault Version left octets last read long = let none : length octets ≡ 0 = ap length read in absurd (omega arith)

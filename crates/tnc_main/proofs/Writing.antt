@@ -9,7 +9,7 @@ use Rattle.slicer_bank.proofs.SomeList.{some_list}
 use Rattle.clean_signal.specs.TrueEnds.{true_ends}
 use Rattle.tnc_words.specs.declared.command.Command.{Command}
 use Rattle.tnc_words.specs.declared.command.Command.TheVariants.{Decode, Encode, Show, Loop, Bench, Serve, Help}
-use Rattle.tnc_words.specs.declared.command.Command.TheVariants.{Version}
+use Rattle.tnc_words.specs.declared.command.Command.TheVariants.{Record, Call, Version}
 use Rattle.tnc_words.specs.declared.command.LoopWords.{LoopWords}
 use Rattle.tnc_words.specs.declared.command.BenchOptions.{BenchOptions}
 use Rattle.tnc_forms.specs.declared.fault.Fault.{Fault}
@@ -63,6 +63,8 @@ makes_first (Show words) octets text h = (frames_in_lines 0 octets, [], sym (app
 makes_first (Loop words) octets text h = h
 makes_first (Bench options) octets text h = h
 makes_first (Serve options) octets text h = absurd h
+makes_first (Record options) octets text h = absurd h
+makes_first (Call options) octets text h = absurd h
 makes_first (Help topic) octets text h = h
 makes_first Version octets text h = h
 
@@ -88,6 +90,8 @@ up_to_fault (Show words) octets text h = inr (text, makes_first (Show words) oct
 up_to_fault (Loop words) octets text h = absurd h
 up_to_fault (Bench options) octets text h = absurd h
 up_to_fault (Serve options) octets text h = absurd h
+up_to_fault (Record options) octets text h = absurd h
+up_to_fault (Call options) octets text h = absurd h
 up_to_fault (Help topic) octets text h = absurd h
 up_to_fault Version octets text h = absurd h
 
@@ -101,6 +105,8 @@ module _ (octets : List ℕ) (left : Option (List ℕ)) (text : List ℕ) where
   refused_memory (Loop words) h = tt
   refused_memory (Bench options) h = tt
   refused_memory (Serve options) (fault, is, before) = cc is
+  refused_memory (Record options) (fault, is, before) = cc is
+  refused_memory (Call options) (fault, is, before) = cc is
   refused_memory (Help topic) h = tt
   refused_memory Version h = tt
 
@@ -111,6 +117,8 @@ module _ (octets : List ℕ) (left : Option (List ℕ)) (text : List ℕ) where
   refused_write (Loop words) h = tt
   refused_write (Bench options) h = tt
   refused_write (Serve options) (fault, is, before) = cc is
+  refused_write (Record options) (fault, is, before) = cc is
+  refused_write (Call options) (fault, is, before) = cc is
   refused_write (Help topic) h = tt
   refused_write Version h = tt
 
@@ -122,6 +130,8 @@ module _ (octets : List ℕ) (left : Option (List ℕ)) (text : List ℕ) where
   has_memory (Loop words) last = tt
   has_memory (Bench options) last = tt
   has_memory (Serve options) last = absurd last
+  has_memory (Record options) last = absurd last
+  has_memory (Call options) last = absurd last
   has_memory (Help topic) last = tt
   has_memory Version last = tt
 
@@ -132,6 +142,8 @@ module _ (octets : List ℕ) (left : Option (List ℕ)) (text : List ℕ) where
   has_write (Loop words) last = tt
   has_write (Bench options) last = tt
   has_write (Serve options) last = absurd last
+  has_write (Record options) last = absurd last
+  has_write (Call options) last = absurd last
   has_write (Help topic) last = tt
   has_write Version last = tt
 
@@ -143,6 +155,8 @@ strays_at_end (Show words) frame h = absurd h
 strays_at_end (Loop words) frame h = tt
 strays_at_end (Bench options) frame h = tt
 strays_at_end (Serve options) frame h = absurd h
+strays_at_end (Record options) frame h = absurd h
+strays_at_end (Call options) frame h = absurd h
 strays_at_end (Help topic) frame h = absurd h
 strays_at_end Version frame h = absurd h
 
@@ -153,6 +167,8 @@ unquiet_at_end (Show words) index h = absurd h
 unquiet_at_end (Loop words) index h = absurd h
 unquiet_at_end (Bench options) index h = tt
 unquiet_at_end (Serve options) index h = absurd h
+unquiet_at_end (Record options) index h = absurd h
+unquiet_at_end (Call options) index h = absurd h
 unquiet_at_end (Help topic) index h = absurd h
 unquiet_at_end Version index h = absurd h
 
@@ -163,6 +179,8 @@ spent_at_end (Show words) ticks h = absurd h
 spent_at_end (Loop words) ticks h = absurd h
 spent_at_end (Bench options) ticks h = tt
 spent_at_end (Serve options) ticks h = absurd h
+spent_at_end (Record options) ticks h = absurd h
+spent_at_end (Call options) ticks h = absurd h
 spent_at_end (Help topic) ticks h = absurd h
 spent_at_end Version ticks h = absurd h
 
@@ -175,6 +193,8 @@ stray_part (Show words) octets text h = absurd h
 stray_part (Loop words) octets text h = inr (text, h, begins_all text)
 stray_part (Bench options) octets text h = inl h
 stray_part (Serve options) octets text h = absurd h
+stray_part (Record options) octets text h = absurd h
+stray_part (Call options) octets text h = absurd h
 stray_part (Help topic) octets text h = absurd h
 stray_part Version octets text h = absurd h
 
@@ -287,6 +307,8 @@ none_at_read octets left (Show words) last = absurd last
 none_at_read octets left (Loop words) last = refl
 none_at_read octets left (Bench options) last = refl
 none_at_read octets left (Serve options) last = absurd last
+none_at_read octets left (Record options) last = absurd last
+none_at_read octets left (Call options) last = absurd last
 none_at_read octets left (Help topic) last = refl
 none_at_read octets left Version last = refl
 

@@ -4,7 +4,7 @@ use Rattle.std.specs.Prelude.{◌≡◌, ℕ, ⊤, List, [], Option, Some, None}
 use Rattle.tnc_forms.specs.declared.fault.InputFault.{InputFault}
 use Rattle.tnc_words.specs.declared.command.Command.{Command}
 use Rattle.tnc_words.specs.declared.command.Command.TheVariants.{Decode, Encode, Show, Loop, Bench, Serve, Help}
-use Rattle.tnc_words.specs.declared.command.Command.TheVariants.{Version}
+use Rattle.tnc_words.specs.declared.command.Command.TheVariants.{Record, Call, Version}
 use Rattle.tnc_words.specs.declared.command.LoopWords.{LoopWords}
 use Rattle.tnc_words.specs.Help.{text_about, version_text}
 use Rattle.tnc_decode.specs.Audio.{audio_fault}
@@ -29,6 +29,8 @@ Reads (Show words) left octets = left ≡ Some octets
 Reads (Loop words) left octets = octets ≡ []
 Reads (Bench options) left octets = octets ≡ []
 Reads (Serve options) left octets = ⊥
+Reads (Record options) left octets = ⊥
+Reads (Call options) left octets = ⊥
 Reads (Help topic) left octets = octets ≡ []
 Reads Version left octets = octets ≡ []
 
@@ -40,6 +42,8 @@ ReadsNothing (Show words) = ⊥
 ReadsNothing (Loop words) = ⊤
 ReadsNothing (Bench options) = ⊤
 ReadsNothing (Serve options) = ⊥
+ReadsNothing (Record options) = ⊥
+ReadsNothing (Call options) = ⊥
 ReadsNothing (Help topic) = ⊤
 ReadsNothing Version = ⊤
 
@@ -51,6 +55,8 @@ Makes (Show words) octets text = IsShown words octets text
 Makes (Loop words) octets text = IsSummary words text
 Makes (Bench options) octets text = IsReportOf options text
 Makes (Serve options) octets text = ⊥
+Makes (Record options) octets text = ⊥
+Makes (Call options) octets text = ⊥
 Makes (Help topic) octets text = text ≡ text_about topic
 Makes Version octets text = text ≡ version_text
 
@@ -62,6 +68,8 @@ fault_of (Show words) octets = show_fault octets
 fault_of (Loop words) octets = None
 fault_of (Bench options) octets = None
 fault_of (Serve options) octets = None
+fault_of (Record options) octets = None
+fault_of (Call options) octets = None
 fault_of (Help topic) octets = None
 fault_of Version octets = None
 
@@ -73,6 +81,8 @@ MakesUpToFault (Show words) octets text = IsShown words octets text
 MakesUpToFault (Loop words) octets text = ⊥
 MakesUpToFault (Bench options) octets text = ⊥
 MakesUpToFault (Serve options) octets text = ⊥
+MakesUpToFault (Record options) octets text = ⊥
+MakesUpToFault (Call options) octets text = ⊥
 MakesUpToFault (Help topic) octets text = ⊥
 MakesUpToFault Version octets text = ⊥
 
@@ -84,6 +94,8 @@ Strays (Show words) octets = ⊥
 Strays (Loop words) octets = IsFirstStray words octets
 Strays (Bench options) octets = IsFaultOf (words_of options) (Stray octets)
 Strays (Serve options) octets = ⊥
+Strays (Record options) octets = ⊥
+Strays (Call options) octets = ⊥
 Strays (Help topic) octets = ⊥
 Strays Version octets = ⊥
 
@@ -95,6 +107,8 @@ FindsNoQuiet (Show words) index = ⊥
 FindsNoQuiet (Loop words) index = ⊥
 FindsNoQuiet (Bench options) index = IsFaultOf (words_of options) (NotQuiet index)
 FindsNoQuiet (Serve options) index = ⊥
+FindsNoQuiet (Record options) index = ⊥
+FindsNoQuiet (Call options) index = ⊥
 FindsNoQuiet (Help topic) index = ⊥
 FindsNoQuiet Version index = ⊥
 
@@ -106,6 +120,8 @@ IsSpent (Show words) ticks = ⊥
 IsSpent (Loop words) ticks = ⊥
 IsSpent (Bench options) ticks = IsFaultOf (words_of options) (Spent ticks)
 IsSpent (Serve options) ticks = ⊥
+IsSpent (Record options) ticks = ⊥
+IsSpent (Call options) ticks = ⊥
 IsSpent (Help topic) ticks = ⊥
 IsSpent Version ticks = ⊥
 

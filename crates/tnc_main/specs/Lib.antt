@@ -1,5 +1,9 @@
+pub mod Calling
 pub mod Clean
 pub mod Commands
+pub mod EndTold
+pub mod LiveCommands
+pub mod RecordRuns
 pub mod Parts
 pub mod Report
 pub mod Runs

@@ -9,7 +9,7 @@ use Rattle.tnc_forms.specs.Reading.{input_limit, piece_limit}
 use Rattle.tnc_forms.specs.Taken.{WereRead}
 use Rattle.tnc_words.specs.declared.command.Command.{Command}
 use Rattle.tnc_words.specs.declared.command.Command.TheVariants.{Decode, Encode, Show, Loop, Bench, Serve, Help}
-use Rattle.tnc_words.specs.declared.command.Command.TheVariants.{Version}
+use Rattle.tnc_words.specs.declared.command.Command.TheVariants.{Record, Call, Version}
 use Rattle.tnc_words.specs.declared.command.DecodeWords.{DecodeWords}
 use Rattle.tnc_words.specs.Help.{text_about, version_text}
 use Rattle.tnc_decode.specs.Audio.{audio_fault}
@@ -30,6 +30,8 @@ WritesAtEnd (Show words) = ⊥
 WritesAtEnd (Loop words) = ⊤
 WritesAtEnd (Bench options) = ⊤
 WritesAtEnd (Serve options) = ⊥
+WritesAtEnd (Record options) = ⊥
+WritesAtEnd (Call options) = ⊥
 WritesAtEnd (Help topic) = ⊤
 WritesAtEnd Version = ⊤
 
@@ -46,6 +48,8 @@ MakesFirst (Show words) octets text = (frames others : List (List ℕ)) × (fram
 MakesFirst (Loop words) octets text = IsSummary words text
 MakesFirst (Bench options) octets text = IsReportOf options text
 MakesFirst (Serve options) octets text = ⊥
+MakesFirst (Record options) octets text = ⊥
+MakesFirst (Call options) octets text = ⊥
 MakesFirst (Help topic) octets text = text ≡ text_about topic
 MakesFirst Version octets text = text ≡ version_text
 
@@ -65,6 +69,8 @@ Settles (Show words) octets text = IsShownSoFar words octets text
 Settles (Loop words) octets text = ⊥
 Settles (Bench options) octets text = ⊥
 Settles (Serve options) octets text = ⊥
+Settles (Record options) octets text = ⊥
+Settles (Call options) octets text = ⊥
 Settles (Help topic) octets text = ⊥
 Settles Version octets text = ⊥
 
@@ -130,6 +136,8 @@ MakesOfTooMany (Show words) octets left text = IsShownOfMany words octets text
 MakesOfTooMany (Loop words) octets left text = text ≡ []
 MakesOfTooMany (Bench options) octets left text = text ≡ []
 MakesOfTooMany (Serve options) octets left text = ⊥
+MakesOfTooMany (Record options) octets left text = ⊥
+MakesOfTooMany (Call options) octets left text = ⊥
 MakesOfTooMany (Help topic) octets left text = text ≡ []
 MakesOfTooMany Version octets left text = text ≡ []
 
@@ -153,6 +161,8 @@ MakesAtReadFault (Show words) octets left text = SettledByRead (Show words) octe
 MakesAtReadFault (Loop words) octets left text = text ≡ []
 MakesAtReadFault (Bench options) octets left text = text ≡ []
 MakesAtReadFault (Serve options) octets left text = ⊥
+MakesAtReadFault (Record options) octets left text = ⊥
+MakesAtReadFault (Call options) octets left text = ⊥
 MakesAtReadFault (Help topic) octets left text = text ≡ []
 MakesAtReadFault Version octets left text = text ≡ []
 
@@ -165,6 +175,8 @@ MakesAtStray (Show words) octets text = ⊥
 MakesAtStray (Loop words) octets text = IsSummary words text
 MakesAtStray (Bench options) octets text = text ≡ []
 MakesAtStray (Serve options) octets text = ⊥
+MakesAtStray (Record options) octets text = ⊥
+MakesAtStray (Call options) octets text = ⊥
 MakesAtStray (Help topic) octets text = ⊥
 MakesAtStray Version octets text = ⊥
 
@@ -180,6 +192,8 @@ HasAtMemory (Show words) octets left text = SettledByMost (Show words) octets le
 HasAtMemory (Loop words) octets left text = ⊤
 HasAtMemory (Bench options) octets left text = ⊤
 HasAtMemory (Serve options) octets left text = ⊥
+HasAtMemory (Record options) octets left text = ⊥
+HasAtMemory (Call options) octets left text = ⊥
 HasAtMemory (Help topic) octets left text = ⊤
 HasAtMemory Version octets left text = ⊤
 
@@ -195,5 +209,7 @@ HasAtWriteFault (Show words) octets left text = MostOfLines (Show words) octets 
 HasAtWriteFault (Loop words) octets left text = ⊤
 HasAtWriteFault (Bench options) octets left text = ⊤
 HasAtWriteFault (Serve options) octets left text = ⊥
+HasAtWriteFault (Record options) octets left text = ⊥
+HasAtWriteFault (Call options) octets left text = ⊥
 HasAtWriteFault (Help topic) octets left text = ⊤
 HasAtWriteFault Version octets left text = ⊤

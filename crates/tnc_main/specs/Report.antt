@@ -59,6 +59,30 @@ not_quiet_line index = codes "tnc: not quiet" ++ at_place index
 abbrev pub spent_line : ℕ → List ℕ
 spent_line ticks = codes "tnc: spent after " ++ (decimal ticks ++ (codes " ticks" ++ 10 ∷ []))
 
+-- the input of a call is too long at its octet 2^20 + 1
+abbrev pub long_text_line : List ℕ
+long_text_line = codes "tnc: bad input: too long at 1048576" ++ 10 ∷ []
+
+-- how many octets a call has printed
+abbrev pub got_line : ℕ → List ℕ
+got_line count = codes "got " ++ (decimal count ++ 10 ∷ [])
+
+abbrev pub no_host_line : List ℕ
+no_host_line = codes "tnc: no host" ++ 10 ∷ []
+
+abbrev pub refused_line : List ℕ
+refused_line = codes "tnc: refused" ++ 10 ∷ []
+
+abbrev pub host_lost_line : List ℕ
+host_lost_line = codes "tnc: host lost" ++ 10 ∷ []
+
+-- the length that the header of a message tells
+abbrev pub host_broke_line : ℕ → List ℕ
+host_broke_line len = codes "tnc: host broke at length " ++ (decimal len ++ 10 ∷ [])
+
+abbrev pub gave_up_line : ℕ → List ℕ
+gave_up_line polls = codes "tnc: gave up after " ++ (decimal polls ++ (codes " polls" ++ 10 ∷ []))
+
 -- the line for what stopped a command, if there is one
 abbrev pub line_of : Stop → List ℕ
 line_of (Input fault) = input_line fault

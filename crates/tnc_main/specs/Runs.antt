@@ -2,14 +2,14 @@
 -- status.
 use Rattle.std.specs.Prelude.{◌≡◌, ℕ, ⊤, ◌+◌, List, [], drop, Option, Some, None}
 use Rattle.tnc_words.specs.declared.command.Command.{Command}
-use Rattle.tnc_words.specs.declared.command.ServeOptions.{ServeOptions}
-use Rattle.tnc_words.specs.Commands.{Asks, IsServe}
+use Rattle.tnc_words.specs.Commands.{Asks}
 use Rattle.tnc_forms.specs.declared.fault.InputFault.{InputFault}
 use Rattle.tnc_forms.specs.declared.fault.InputFault.TheVariants.{TooLong}
 use Rattle.tnc_forms.specs.Reading.{input_limit}
 use Rattle.tnc_main.specs.declared.status.Status.{Status}
 use Rattle.tnc_main.specs.declared.status.Status.TheVariants.{Done, BadWords, BadInput, Memory, ReadFault, WriteFault}
-use Rattle.tnc_main.specs.declared.status.Status.TheVariants.{Stray, NotQuiet, Spent, NoPort}
+use Rattle.tnc_main.specs.declared.status.Status.TheVariants.{Stray, NotQuiet, Spent, NoPort, NoHost, Refused}
+use Rattle.tnc_main.specs.declared.status.Status.TheVariants.{HostLost, HostBroke, GaveUp}
 use Rattle.tnc_main.specs.declared.stop.Stop.{Stop}
 use Rattle.tnc_main.specs.Commands.{FindsNoQuiet, IsSpent, Makes, Reads, Strays, fault_of}
 use Rattle.tnc_main.specs.Parts.{Begins, HasAtMemory, HasAtWriteFault, MakesAtReadFault, MakesAtStray, MakesBefore}
@@ -17,10 +17,6 @@ use Rattle.tnc_main.specs.Parts.{MakesPart}
 use Rattle.tnc_main.specs.Report.{input_line, line_of, not_quiet_line, spent_line, stray_line}
 use Rattle.tnc_main.specs.Status.{code_of}
 use Rattle.tnc_main.specs.Stops.{IsStopOf}
-
--- The words ask for no live command.
-abbrev pub AskNoServe : List (List ℕ) → Type 0
-AskNoServe words = (options : ServeOptions) → ¬ IsServe words options
 
 -- The words ask for nothing.
 abbrev pub AskNothing : List (List ℕ) → Type 0
@@ -49,6 +45,11 @@ Leaves command octets Stray left = ⊤
 Leaves command octets NotQuiet left = ⊤
 Leaves command octets Spent left = ⊤
 Leaves command octets NoPort left = ⊥
+Leaves command octets NoHost left = ⊥
+Leaves command octets Refused left = ⊥
+Leaves command octets HostLost left = ⊥
+Leaves command octets HostBroke left = ⊥
+Leaves command octets GaveUp left = ⊥
 
 -- The text is what a run adds to its output when it ends with a status and has this left of its input.
 abbrev pub Writes : Command → List ℕ → Option (List ℕ) → Status → List ℕ → Type 0
@@ -62,6 +63,11 @@ Writes command octets left Stray text = MakesAtStray command octets text
 Writes command octets left NotQuiet text = text ≡ []
 Writes command octets left Spent text = text ≡ []
 Writes command octets left NoPort text = ⊥
+Writes command octets left NoHost text = ⊥
+Writes command octets left Refused text = ⊥
+Writes command octets left HostLost text = ⊥
+Writes command octets left HostBroke text = ⊥
+Writes command octets left GaveUp text = ⊥
 
 -- Why a run ends with a status, if that lies in the octets or in what the command sent to itself.
 abbrev pub IsCaused : Command → List ℕ → Status → Type 0
@@ -75,6 +81,11 @@ IsCaused command octets Stray = (frame : List ℕ) × Strays command frame
 IsCaused command octets NotQuiet = (index : ℕ) × FindsNoQuiet command index
 IsCaused command octets Spent = (ticks : ℕ) × IsSpent command ticks
 IsCaused command octets NoPort = ⊥
+IsCaused command octets NoHost = ⊥
+IsCaused command octets Refused = ⊥
+IsCaused command octets HostLost = ⊥
+IsCaused command octets HostBroke = ⊥
+IsCaused command octets GaveUp = ⊥
 
 -- The line is what a run adds to its report when it ends with a status: it names the cause, which is there.
 abbrev pub Tells : Command → List ℕ → Status → List ℕ → Type 0
@@ -89,3 +100,8 @@ Tells command octets Stray line = (frame : List ℕ) × Strays command frame × 
 Tells command octets NotQuiet line = (index : ℕ) × FindsNoQuiet command index × (line ≡ not_quiet_line index)
 Tells command octets Spent line = (ticks : ℕ) × IsSpent command ticks × (line ≡ spent_line ticks)
 Tells command octets NoPort line = ⊥
+Tells command octets NoHost line = ⊥
+Tells command octets Refused line = ⊥
+Tells command octets HostLost line = ⊥
+Tells command octets HostBroke line = ⊥
+Tells command octets GaveUp line = ⊥

@@ -7,6 +7,7 @@ use Rattle.tnc_forms.specs.declared.fault.InputFault.TheVariants.{TooLong as Inp
 use Rattle.tnc_ports.specs.declared.serve_words.ServeWords.{ServeWords}
 use Rattle.tnc_ports.specs.declared.serving.ServeEnd.{ServeEnd}
 use Rattle.tnc_ports.specs.declared.serving.ServeEnd.TheVariants.{Done, TooLong, Memory, ReadFault, WriteFault, NoPort}
+use Rattle.tnc_ports.specs.declared.serving.ServeEnd.TheVariants.{NoThread}
 use Rattle.tnc_ports.specs.SampledRun.{Outside, GrowsBy}
 use Rattle.tnc_ports.specs.ServeRun.{InputSide, IsServed}
 use Rattle.tnc_main.specs.declared.status.Status.{Status}
@@ -32,6 +33,7 @@ abbrev pub status_of_end : ServeEnd → Status
 status_of_end Done = WellDone
 status_of_end TooLong = BadInput
 status_of_end Memory = NoMemory
+status_of_end NoThread = NoMemory
 status_of_end ReadFault = InputFailed
 status_of_end WriteFault = OutputFailed
 status_of_end NoPort = PortsFailed
@@ -41,6 +43,7 @@ abbrev pub last_line : ServeEnd → Option (List ℕ)
 last_line Done = None
 last_line TooLong = Some (input_line InputTooLong)
 last_line Memory = None
+last_line NoThread = None
 last_line ReadFault = None
 last_line WriteFault = None
 last_line NoPort = Some no_port_line
@@ -91,3 +94,11 @@ pub record HasNotBegun (status : Status) (input left : InputSide) (before after 
 abbrev pub RunsLive : ServeOptions → Status → InputSide → InputSide → Outside → Outside → Type 0
 RunsLive options status input left before after =
     HasNotBegun status input left before after ⊎ Serves (words_of options) status input left before after
+
+-- What status 3 stands for. Memory was wanted and not given, before serving began or while a station was served; or no
+-- thread could be started, and then the ports were opened, nothing was read and no turn was made.
+abbrev pub IsInWant : ServeOptions → InputSide → InputSide → Outside → Outside → Type 0
+IsInWant options input left before after =
+    HasNotBegun NoMemory input left before after
+    ⊎ (IsServed (words_of options) Memory input left before after
+    ⊎ IsServed (words_of options) NoThread input left before after)

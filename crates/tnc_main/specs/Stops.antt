@@ -16,7 +16,7 @@ use Rattle.tnc_bench.specs.Reported.{words_of}
 use Rattle.afsk_modulator.specs.Modulation.{IsLevel}
 use Rattle.tnc_words.specs.declared.command.Command.{Command}
 use Rattle.tnc_words.specs.declared.command.Command.TheVariants.{Decode, Encode, Show, Loop, Bench, Serve, Help}
-use Rattle.tnc_words.specs.declared.command.Command.TheVariants.{Version}
+use Rattle.tnc_words.specs.declared.command.Command.TheVariants.{Record, Call, Version}
 use Rattle.tnc_main.specs.declared.status.Status.{Status}
 use Rattle.tnc_main.specs.declared.status.Status.TheVariants.{Done, BadInput, Memory as NoMemory, ReadFault, WriteFault}
 use Rattle.tnc_main.specs.declared.status.Status.TheVariants.{Stray as HeardStray, NotQuiet as FoundNoQuiet}
@@ -113,5 +113,7 @@ CanRun (Show words) = ⊤
 CanRun (Loop words) = ⊤
 CanRun (Bench options) = AreInRange (words_of options)
 CanRun (Serve options) = ⊥
+CanRun (Record options) = ⊥
+CanRun (Call options) = ⊥
 CanRun (Help topic) = ⊤
 CanRun Version = ⊤

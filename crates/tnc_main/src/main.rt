@@ -5,10 +5,15 @@
 
 #[cfg(test)]
 mod assertions;
+mod batch;
+mod calling;
 mod laws;
+mod live_command;
+mod live_run;
 mod performing;
 mod printing;
 mod program;
+mod recording;
 mod report;
 mod serving;
 mod status;

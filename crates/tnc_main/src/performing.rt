@@ -31,6 +31,7 @@ pub(crate) fn perform<R: Threads + Sync, I: Source, O: Sink>(
     output: &mut O,
 ) -> Result<(), Stop>
     requires { CanRun command }
+    ensures not_live { CanRun command }
 
     // what is read and written
     ensures end { (octets : List ℕ) → Reads command (I.left input.old) octets
@@ -65,6 +66,8 @@ pub(crate) fn perform<R: Threads + Sync, I: Source, O: Sink>(
         Command::Loop(words) => ended_loop(loop_back(rt, alloc, words, output)),
         Command::Bench(options) => ended_bench(bench(alloc, options, output)),
         Command::Serve(_) => unreachable!(),
+        Command::Record(_) => unreachable!(),
+        Command::Call(_) => unreachable!(),
         Command::Help(topic) => print_text(output, help_text(topic)),
         Command::Version => print_text(output, version_line()),
     }

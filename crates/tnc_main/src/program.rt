@@ -1,5 +1,5 @@
 //! The program as one call: from the words of a command line, over streams that are handed in, to an exit status.
-ghost use Rattle.std.specs.Prelude.{◌≡◌, ◌⊎◌, ◌<◌, ◌≤◌, ◌++◌, IfErr, IsErrAnd, Err, ℕ, List, Some, length, map};
+ghost use Rattle.std.specs.Prelude.{◌≡◌, ◌⊎◌, ◌<◌, ◌≤◌, ◌++◌, ℕ, List, Some, length, map};
 ghost use Rattle.std.specs.Prelude.{string_bytes};
 ghost use Rattle.tnc_base.specs.Faults.{HasRisen};
 ghost use Rattle.tnc_base.specs.Streams.{WrotePart};
@@ -8,8 +8,10 @@ ghost use Rattle.clean_signal.specs.NearSignal.{Received, transmissions_of};
 ghost use Rattle.tnc_words.specs.declared.command.DecodeWords.{DecodeWords};
 ghost use Rattle.tnc_words.specs.declared.command.BenchOptions.{BenchOptions};
 ghost use Rattle.tnc_words.specs.declared.command.LoopWords.{LoopWords};
+ghost use Rattle.tnc_words.specs.declared.command.CallOptions.{CallOptions};
+ghost use Rattle.tnc_words.specs.declared.command.RecordOptions.{RecordOptions};
 ghost use Rattle.tnc_words.specs.declared.command.ServeOptions.{ServeOptions};
-ghost use Rattle.tnc_words.specs.Commands.{Asks, IsBench, IsLoop, IsServe};
+ghost use Rattle.tnc_words.specs.Commands.{Asks, IsBench, IsCall, IsLoop, IsRecord, IsServe};
 ghost use Rattle.tnc_forms.specs.Reading.{input_limit};
 ghost use Rattle.tnc_decode.specs.Audio.{samples_read};
 ghost use Rattle.tnc_decode.specs.Modem.{modem_of};
@@ -19,30 +21,30 @@ ghost use Rattle.channel_bench.specs.KeepsOrder.{KeepsOrder};
 ghost use Rattle.channel_bench.specs.Report.{Report};
 ghost use Rattle.tnc_bench.specs.Reported.{report_text, words_of as bench_words};
 ghost use Rattle.tnc_ports.specs.SampledRun.{outside_by};
+ghost use Rattle.tnc_ports.specs.SampledWrites.{stream_of};
 ghost use Rattle.tnc_ports.specs.ServeRun.{input_by};
+ghost use Rattle.tnc_call.specs.CallTrace.{ports_by};
 ghost use Rattle.tnc_main.specs.declared.status.Status.{Status};
-ghost use Rattle.tnc_main.specs.declared.stop.Stop.{Stop};
+ghost use Rattle.tnc_main.specs.Calling.{RunsCall};
+ghost use Rattle.tnc_main.specs.RecordRuns.{RunsRecord};
 ghost use Rattle.tnc_main.specs.Clean.{IsNearlyClean};
 ghost use Rattle.tnc_main.specs.Commands.{FindsNoQuiet, HeardAsMade, IsFaultless, IsSpent, ReadsNothing, Strays};
+ghost use Rattle.tnc_main.specs.LiveCommands.{AskNoLive, AskNoPorts};
 ghost use Rattle.tnc_main.specs.Parts.{WritesAtEnd};
-ghost use Rattle.tnc_main.specs.Report.{bad_words_line, line_of};
-ghost use Rattle.tnc_main.specs.Runs.{AskNoServe, AskNothing, IsCaused, Job, Leaves, Tells, Writes};
-ghost use Rattle.tnc_main.specs.Serving.{RunsLive};
+ghost use Rattle.tnc_main.specs.Report.{bad_words_line};
+ghost use Rattle.tnc_main.specs.Runs.{AskNothing, IsCaused, Job, Leaves, Tells, Writes};
+ghost use Rattle.tnc_main.specs.Serving.{IsInWant, RunsLive};
 ghost use Rattle.tnc_main.specs.Status.{code_of};
-ghost use Rattle.tnc_main.specs.Stops.{EndsAs, IsTold};
 
-use crate::performing::perform;
-use crate::report::{BAD_WORDS, of_input, of_no_quiet, of_spent, of_stray, told};
-use crate::serving::{serve, serve_words};
-use crate::status::Status;
-use crate::stop::Stop;
+use crate::batch::run_batch;
+use crate::live_run::run_live;
 use std::alloc::Global;
 use std::net::Net;
 use std::sync::Wait;
 use std::thread::Threads;
-use tnc_base::{OutOfMemory, Sink, Source};
+use tnc_base::{Sink, Source};
 use tnc_ports::{Live, Ports, Spawner};
-use tnc_words::{Command, WordsFault, read_words};
+use tnc_words::Command;
 
 /// Does what `words`, those after the program's name, ask for, and answers the exit status:
 ///
@@ -51,17 +53,22 @@ use tnc_words::{Command, WordsFault, read_words};
 /// | 0 | The input was read to its end, and all was written. | Nothing. |
 /// | 1 | The words ask for nothing. Nothing was read or written. | Corrects the command line. |
 /// | 2 | The input breaks the rules of its form. The report names what is wrong, and where. | Corrects the input. |
-/// | 3 | Memory ran out. The output may be cut. | Runs it again with more memory. |
+/// | 3 | Memory ran out, and the output may be cut; or a live station could start no thread, and nothing was read. | Runs it again with more memory, or with fewer threads beside it. |
 /// | 4 | The input failed. What had ended in what was read is written. | Looks at where it comes from. |
 /// | 5 | The output or the report failed, and may be cut. | Looks at where it goes to. |
 /// | 6 | A loop or a bench heard a frame that was not sent. The report names it. | Reports the seed: the receiver was fooled. |
 /// | 7 | A frame of a bench that sets a link up or ends it found no quiet channel. The report names it. | Tries another seed. |
 /// | 8 | A bench was not over in time. The report says after how many ticks. | Loses less, or adds less noise. |
 /// | 10 | A live station could not open its ports. | Ends what listens there, or names other ports. |
+/// | 11 | A call found no live station at its port. | Starts one, or names its port. |
+/// | 12 | The live station or the called one refused a call. | Looks whether the called station can be heard. |
+/// | 13 | The live station of a call was lost. | Looks at why it ended. |
+/// | 14 | The live station of a call sent what is no message. | Names the port for AGWPE hosts. |
+/// | 15 | A call was not over after its polls. | Allows more polls. |
 ///
-/// A command that makes one text of its input is a `Job`, and the clauses that speak of a job say all of it. `serve` is
-/// a live command and no job: `served` and `complete_served` speak of it alone. All other clauses hold of both kinds,
-/// or say of which.
+/// A command that makes one text of its input is a `Job`, and the clauses that speak of a job say all of it: they are
+/// those of [`run_batch`], which comes to an end in any case. `serve`, `record` and `call` are live commands and no
+/// jobs. The clauses that name them speak of each alone; all other clauses hold of all commands, or say of which.
 pub fn run<
     Rt: Threads + Wait + Net + Sync,
     I: Source + Send,
@@ -78,12 +85,45 @@ pub fn run<
     report: &mut E,
     live: &mut Live<N, W>,
 ) -> u8
-    // what the words may be: if they ask for nothing, nothing is touched but the report, and no port is opened but by
-    // serve
+    // what a decode hears, what a bench tells, and what a live station, a recording and a call do
+    ensures heard { (job : Job (map string_bytes words.now) (I.left input.old) result) → (decode : DecodeWords)
+        → (received : List Received) → (before : List ℕ) → job.command ≡ Command.Decode decode
+        → IsNearlyClean (modem_of decode job.octets) (samples_read decode job.octets) received
+        → O.written output.old ≡ Some before
+        → result ≡ 0
+        → O.written output.new ≡ Some (before ++ print decode.frames (frames_of (transmissions_of received))) }
+    ensures benched { (bench : BenchOptions) → (before : List ℕ) → IsBench (map string_bytes words.now) bench
+        → O.written output.old ≡ Some before → result ≡ 0
+        → (told : Report) × IsOver (bench_words bench) told × KeepsOrder told
+        × (O.written output.new ≡ Some (before ++ report_text told)) }
+    ensures served { (options : ServeOptions) → IsServe (map string_bytes words.now) options
+        → (status : Status) × (result ≡ code_of status)
+        × RunsLive options status (input_by I.left I.faults input.old) (input_by I.left I.faults input.new)
+        (outside_by N.listens N.polls N.sends N.sent N.is_shut N.faults O.written O.faults E.written E.faults
+        live.old.ports output.old report.old)
+        (outside_by N.listens N.polls N.sends N.sent N.is_shut N.faults O.written O.faults E.written E.faults
+        live.new.ports output.new report.new) }
+
+    ensures recorded { (options : RecordOptions) → IsRecord (map string_bytes words.now) options
+        → (status : Status) × (result ≡ code_of status)
+        × RunsRecord options status (input_by I.left I.faults input.old) (input_by I.left I.faults input.new)
+        (stream_of O.written O.faults output.old) (stream_of O.written O.faults output.new)
+        (stream_of E.written E.faults report.old) (stream_of E.written E.faults report.new) }
+    ensures called { (options : CallOptions) → (text before : List ℕ) → IsCall (map string_bytes words.now) options
+        → I.left input.old ≡ Some text → O.written output.old ≡ Some before
+        → (status : Status) × (result ≡ code_of status)
+        × RunsCall options text before (O.written output.new)
+        (ports_by N.listens N.dials N.polls N.sends N.sent N.is_shut N.faults live.old.ports)
+        (ports_by N.listens N.dials N.polls N.sends N.sent N.is_shut N.faults live.new.ports) status
+        (stream_of E.written E.faults report.old) (stream_of E.written E.faults report.new) }
+
+    // what the words may be: if they ask for nothing, nothing is touched but the report, and no command but a live one has
+    // to do with ports or threads that may wait
     ensures bad_words { result ≡ 1 → AskNothing (map string_bytes words.now) }
     ensures refused { AskNothing (map string_bytes words.now) → (input.new ≡ input.old) × (output.new ≡ output.old)
         × ((result ≡ 1) ⊎ ((result ≡ 3) ⊎ (result ≡ 5))) }
-    ensures ports_alone { AskNoServe (map string_bytes words.now) → live.new ≡ live.old }
+    ensures live_alone { AskNoLive (map string_bytes words.now) → live.new ≡ live.old }
+    ensures ports_alone { AskNoPorts (map string_bytes words.now) → live.new.ports ≡ live.old.ports }
 
     // what each command reads and writes
     ensures read { (job : Job (map string_bytes words.now) (I.left input.old) result)
@@ -96,26 +136,9 @@ pub fn run<
         → result ≡ 4 → output.new ≡ output.old }
     ensures too_long { (job : Job (map string_bytes words.now) (I.left input.old) result)
         → WritesAtEnd job.command → input_limit < length job.octets → result ≡ 2 → output.new ≡ output.old }
-    ensures heard { (job : Job (map string_bytes words.now) (I.left input.old) result) → (decode : DecodeWords)
-        → (received : List Received) → (before : List ℕ) → job.command ≡ Command.Decode decode
-        → IsNearlyClean (modem_of decode job.octets) (samples_read decode job.octets) received
-        → O.written output.old ≡ Some before
-        → result ≡ 0
-        → O.written output.new ≡ Some (before ++ print decode.frames (frames_of (transmissions_of received))) }
     ensures unread { (command : Command) → Asks (map string_bytes words.now) command → ReadsNothing command
         → input.new ≡ input.old }
     ensures looped { (loop : LoopWords) → IsLoop (map string_bytes words.now) loop → result ≡ 0 → HeardAsMade loop }
-    ensures benched { (bench : BenchOptions) → (before : List ℕ) → IsBench (map string_bytes words.now) bench
-        → O.written output.old ≡ Some before → result ≡ 0
-        → (told : Report) × IsOver (bench_words bench) told × KeepsOrder told
-        × (O.written output.new ≡ Some (before ++ report_text told)) }
-    ensures served { (options : ServeOptions) → IsServe (map string_bytes words.now) options
-        → (status : Status) × (result ≡ code_of status)
-        × RunsLive options status (input_by I.left I.faults input.old) (input_by I.left I.faults input.new)
-        (outside_by N.listens N.polls N.sends N.sent N.is_shut N.faults O.written O.faults E.written E.faults
-        live.old.ports output.old report.old)
-        (outside_by N.listens N.polls N.sends N.sent N.is_shut N.faults O.written O.faults E.written E.faults
-        live.new.ports output.new report.new) }
 
     // each status and its cause
     ensures known { (status : Status) × (result ≡ code_of status) }
@@ -132,11 +155,19 @@ pub fn run<
         × ((index : ℕ) × FindsNoQuiet command index) }
     ensures spent { result ≡ 8 → (command : Command) × Asks (map string_bytes words.now) command
         × ((ticks : ℕ) × IsSpent command ticks) }
+    ensures no_thread { (options : ServeOptions) → IsServe (map string_bytes words.now) options → result ≡ 3
+        → IsInWant options (input_by I.left I.faults input.old) (input_by I.left I.faults input.new)
+        (outside_by N.listens N.polls N.sends N.sent N.is_shut N.faults O.written O.faults E.written E.faults
+        live.old.ports output.old report.old)
+        (outside_by N.listens N.polls N.sends N.sent N.is_shut N.faults O.written O.faults E.written E.faults
+        live.new.ports output.new report.new) }
     ensures no_port { result ≡ 10 → (options : ServeOptions) × IsServe (map string_bytes words.now) options
         × HasRisen (N.faults live.old.ports) (N.faults live.new.ports) }
+    ensures of_call { 11 ≤ result → (options : CallOptions) × IsCall (map string_bytes words.now) options }
+    ensures no_host { result ≡ 11 → HasRisen (N.faults live.old.ports) (N.faults live.new.ports) }
 
     // what is told; a live command tells more while it runs
-    ensures silent { AskNoServe (map string_bytes words.now) → (result ≡ 0) ⊎ ((result ≡ 3) ⊎ (result ≡ 4))
+    ensures silent { AskNoLive (map string_bytes words.now) → (result ≡ 0) ⊎ ((result ≡ 3) ⊎ (result ≡ 4))
         → report.new ≡ report.old }
     ensures told { (job : Job (map string_bytes words.now) (I.left input.old) result) → (before : List ℕ)
         → E.written report.old ≡ Some before → (line : List ℕ) × Tells job.command job.octets job.status line
@@ -156,56 +187,13 @@ pub fn run<
         → ¬ HasRisen (I.faults input.old) (I.faults input.new) → ¬ HasRisen (O.faults output.old) (O.faults output.new)
         → ¬ HasRisen (E.faults report.old) (E.faults report.new)
         → ¬ HasRisen (N.faults live.old.ports) (N.faults live.new.ports) → (result ≡ 0) ⊎ (result ≡ 3) }
+    ensures complete_recorded { (options : RecordOptions) → IsRecord (map string_bytes words.now) options
+        → (octets : List ℕ) → I.left input.old ≡ Some octets → length octets ≤ input_limit
+        → ¬ HasRisen (I.faults input.old) (I.faults input.new) → ¬ HasRisen (O.faults output.old) (O.faults output.new)
+        → ¬ HasRisen (E.faults report.old) (E.faults report.new) → (result ≡ 0) ⊎ (result ≡ 3) }
 {
-    match read_words(alloc, words) {
-        Ok(Command::Serve(options)) => {
-            serve(rt, alloc, serve_words(options), input, output, report, live)
-        }
-        Ok(command) => {
-            let end = perform(rt, alloc, command, input, output);
-            explained(alloc, end, report).code()
-        }
-        Err(WordsFault::Refused) => told(report, BAD_WORDS, Status::BadWords).code(),
-        Err(WordsFault::Memory) => Status::Memory.code(),
-    }
-}
-
-/// The exit status of a command that has ended, with the line that explains it.
-fn explained<E: Sink>(alloc: Global, end: Result<(), Stop>, report: &mut E) -> Status
-    ensures ends { EndsAs end result }
-    ensures fault { result ≡ Status.WriteFault → (end ≡ Err Stop.Write)
-        ⊎ (IsErrAnd end IsTold × HasRisen (E.faults report.old) (E.faults report.new)) }
-
-    // what is told
-    ensures silent { (result ≡ Status.Done) ⊎ ((result ≡ Status.Memory) ⊎ (result ≡ Status.ReadFault))
-        → report.new ≡ report.old }
-    ensures told { (before : List ℕ) → E.written report.old ≡ Some before
-        → (result ≡ Status.BadInput) ⊎ ((result ≡ Status.Stray)
-        ⊎ ((result ≡ Status.NotQuiet) ⊎ (result ≡ Status.Spent)))
-        → IfErr end (λ stop. E.written report.new ≡ Some (before ++ line_of stop)) }
-    ensures cut { (before : List ℕ) → E.written report.old ≡ Some before
-        → result ≡ Status.WriteFault → IfErr end (λ stop. WrotePart before (line_of stop) (E.written report.new)) }
-{
-    match end {
-        Ok(()) => Status::Done,
-        Err(Stop::Input(fault)) => match of_input(alloc, fault) {
-            Ok(line) => told(report, &line, Status::BadInput),
-            Err(OutOfMemory) => Status::Memory,
-        },
-        Err(Stop::Stray(octets)) => match of_stray(alloc, octets.as_slice()) {
-            Ok(line) => told(report, &line, Status::Stray),
-            Err(OutOfMemory) => Status::Memory,
-        },
-        Err(Stop::NotQuiet(index)) => match of_no_quiet(alloc, index) {
-            Ok(line) => told(report, &line, Status::NotQuiet),
-            Err(OutOfMemory) => Status::Memory,
-        },
-        Err(Stop::Spent(ticks)) => match of_spent(alloc, ticks) {
-            Ok(line) => told(report, &line, Status::Spent),
-            Err(OutOfMemory) => Status::Memory,
-        },
-        Err(Stop::Memory) => Status::Memory,
-        Err(Stop::Read) => Status::ReadFault,
-        Err(Stop::Write) => Status::WriteFault,
+    match run_batch(rt, alloc, words, input, output, report) {
+        Ok(status) => status,
+        Err(command) => run_live(rt, alloc, command, input, output, report, live),
     }
 }

@@ -3,7 +3,8 @@ ghost use Rattle.std.specs.Prelude.{◌≡◌, ◌≢◌, ◌⊎◌, ◌++◌, L
 ghost use Rattle.tnc_base.specs.Faults.{HasRisen};
 ghost use Rattle.tnc_base.specs.Streams.{WrotePart};
 ghost use Rattle.tnc_forms.specs.declared.fault.InputFault.{InputFault};
-ghost use Rattle.tnc_main.specs.Report.{input_line, name_of_flaw, not_quiet_line, spent_line, stray_line};
+ghost use Rattle.tnc_main.specs.Report.{gave_up_line, got_line, host_broke_line, input_line, name_of_flaw};
+ghost use Rattle.tnc_main.specs.Report.{not_quiet_line, spent_line, stray_line};
 
 use crate::status::Status;
 use std::alloc::Global;
@@ -19,6 +20,18 @@ pub(crate) const TOO_LONG: &str = "tnc: bad input: too long at 1099511627776\n";
 
 /// The ports of a live station could not be opened.
 pub(crate) const NO_PORT: &str = "tnc: no port\n";
+
+/// The input of a call has more than 2^20 octets.
+pub(crate) const LONG_TEXT: &str = "tnc: bad input: too long at 1048576\n";
+
+/// No connection to the live station of a call could be opened.
+pub(crate) const NO_HOST: &str = "tnc: no host\n";
+
+/// The live station or the called one refused a call.
+pub(crate) const REFUSED: &str = "tnc: refused\n";
+
+/// The connection to the live station of a call was lost.
+pub(crate) const HOST_LOST: &str = "tnc: host lost\n";
 
 /// The line for an input that breaks the rules of its form.
 pub(crate) fn of_input(alloc: Global, fault: InputFault) -> Result<String, OutOfMemory>
@@ -84,6 +97,27 @@ pub(crate) fn of_spent(alloc: Global, ticks: u64) -> Result<String, OutOfMemory>
     ensures { IfOk result (λ line. string_bytes line ≡ spent_line ticks) }
 {
     Ok(format!(in alloc; "tnc: spent after {ticks} ticks\n")?)
+}
+
+/// The line for a call that has printed so many octets.
+pub(crate) fn of_got(alloc: Global, count: usize) -> Result<String, OutOfMemory>
+    ensures { IfOk result (λ line. string_bytes line ≡ got_line count) }
+{
+    Ok(format!(in alloc; "got {count}\n")?)
+}
+
+/// The line for a host whose message has a body of so many octets.
+pub(crate) fn of_broken_host(alloc: Global, len: u32) -> Result<String, OutOfMemory>
+    ensures { IfOk result (λ line. string_bytes line ≡ host_broke_line len) }
+{
+    Ok(format!(in alloc; "tnc: host broke at length {len}\n")?)
+}
+
+/// The line for a call that is not over after so many polls.
+pub(crate) fn of_long_call(alloc: Global, polls: u32) -> Result<String, OutOfMemory>
+    ensures { IfOk result (λ line. string_bytes line ≡ gave_up_line polls) }
+{
+    Ok(format!(in alloc; "tnc: gave up after {polls} polls\n")?)
 }
 
 /// Reports the line, and answers the status that it explains, or a write fault if the report can't be written.

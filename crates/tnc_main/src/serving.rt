@@ -1,11 +1,13 @@
 //! The command `serve`: a station on the air, until its input ends.
-ghost use Rattle.std.specs.Prelude.{◌≡◌, ◌≤◌, ℕ};
+ghost use Rattle.std.specs.Prelude.{◌≡◌, ◌⊎◌, ◌≤◌, ℕ, List, Some, length};
+ghost use Rattle.tnc_base.specs.Faults.{HasRisen};
 ghost use Rattle.link_machine.specs.Params.{IsRefusedWindow};
+ghost use Rattle.tnc_forms.specs.Reading.{input_limit};
 ghost use Rattle.tnc_ports.specs.SampledRun.{Outside, outside_by};
 ghost use Rattle.tnc_ports.specs.ServeRun.{input_by};
 ghost use Rattle.tnc_main.specs.declared.status.Status.{Status};
 ghost use Rattle.tnc_main.specs.Serving.{IsToldAs, Serves, last_line, status_of_end, words_of};
-ghost use Rattle.tnc_main.specs.Status.{code_of};
+ghost use Rattle.tnc_main.specs.Status.{code_of, IsLiveCode};
 
 use crate::report::{NO_PORT, TOO_LONG, told};
 use crate::status::Status;
@@ -19,7 +21,7 @@ use tnc_ports::{Live, Ports, ServeEnd, ServeWords, Spawner};
 use tnc_words::ServeOptions;
 
 /// Serves hosts until the input ends, tells how that ended, and answers the exit status. It may wait for the input.
-pub fn serve<
+pub(crate) fn serve<
     Rt: Threads + Wait + Net + Sync,
     I: Source + Send,
     O: Sink,
@@ -37,12 +39,26 @@ pub fn serve<
 ) -> u8
     requires window { (window : ℕ) → ¬ IsRefusedWindow words.config.params window }
     requires dcd { (1 ≤ words.dcd) × (words.dcd ≤ 8) }
-    ensures { (status : Status) × (result ≡ code_of status)
+    ensures served { (status : Status) × (result ≡ code_of status)
         × Serves words status (input_by I.left I.faults input.old) (input_by I.left I.faults input.new)
         (outside_by N.listens N.polls N.sends N.sent N.is_shut N.faults O.written O.faults E.written E.faults
         live.old.ports output.old report.old)
         (outside_by N.listens N.polls N.sends N.sent N.is_shut N.faults O.written O.faults E.written E.faults
         live.new.ports output.new report.new) }
+
+    // each status and its cause
+    ensures own { IsLiveCode result }
+    ensures faultless { result ≡ 0 → (I.faults input.new ≡ I.faults input.old)
+        × (O.faults output.new ≡ O.faults output.old) × (E.faults report.new ≡ E.faults report.old) }
+    ensures read_fault { result ≡ 4 → HasRisen (I.faults input.old) (I.faults input.new) }
+    ensures write_fault { result ≡ 5
+        → HasRisen (O.faults output.old) (O.faults output.new) ⊎ HasRisen (E.faults report.old) (E.faults report.new) }
+    ensures no_port { result ≡ 10 → HasRisen (N.faults live.old.ports) (N.faults live.new.ports) }
+    ensures not_called { result ≤ 10 }
+    ensures complete { (octets : List ℕ) → I.left input.old ≡ Some octets → length octets ≤ input_limit
+        → ¬ HasRisen (I.faults input.old) (I.faults input.new) → ¬ HasRisen (O.faults output.old) (O.faults output.new)
+        → ¬ HasRisen (E.faults report.old) (E.faults report.new)
+        → ¬ HasRisen (N.faults live.old.ports) (N.faults live.new.ports) → (result ≡ 0) ⊎ (result ≡ 3) }
 {
     let end = tnc_ports::serve(rt, alloc, words, input, output, report, live);
     tell_end(end, report).code()
@@ -58,6 +74,7 @@ fn tell_end<E: Sink>(end: ServeEnd, report: &mut E) -> Status
         ServeEnd::Done => Status::Done,
         ServeEnd::TooLong => told(report, TOO_LONG, Status::BadInput),
         ServeEnd::Memory => Status::Memory,
+        ServeEnd::NoThread => Status::Memory,
         ServeEnd::ReadFault => Status::ReadFault,
         ServeEnd::WriteFault => Status::WriteFault,
         ServeEnd::NoPort => told(report, NO_PORT, Status::NoPort),

@@ -24,6 +24,16 @@ pub(crate) enum Status {
     Spent,
     /// The ports of a live station could not be opened.
     NoPort,
+    /// No connection to the live station of a call could be opened.
+    NoHost,
+    /// The live station or the called one refused a call.
+    Refused,
+    /// The connection to the live station of a call was lost.
+    HostLost,
+    /// The live station of a call sent what is no message.
+    HostBroke,
+    /// A call was not over in time.
+    GaveUp,
 }
 
 impl Status {
@@ -44,6 +54,11 @@ impl Status {
             Status::NotQuiet => 7,
             Status::Spent => 8,
             Status::NoPort => 10,
+            Status::NoHost => 11,
+            Status::Refused => 12,
+            Status::HostLost => 13,
+            Status::HostBroke => 14,
+            Status::GaveUp => 15,
         }
     }
 }

@@ -11,9 +11,12 @@ use tnc_base::{MemSink, MemSource};
 use tnc_ports::MemLive;
 
 mod audio;
+mod calling;
 mod failing;
 mod lines;
 mod live;
+mod recording;
+mod script;
 
 /// A SABM with P from N7LEM to NJ7P: the shortest legal frame.
 const SHORTEST: &str = "9c946ea04040e09c6e988a9a40613f";

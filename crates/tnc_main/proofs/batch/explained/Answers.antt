@@ -4,7 +4,7 @@ use Rattle.tnc_main.specs.declared.stop.Stop.{Stop}
 use Rattle.tnc_main.specs.Report.{line_of, stray_line}
 use Rattle.tnc_main.specs.declared.status.Status.TheVariants.{BadInput, WriteFault, Stray as HeardStray}
 use Rattle.tnc_main.specs.declared.status.Status.TheVariants.{NotQuiet as FoundNoQuiet, Spent as WasSpent}
-use Rattle.tnc_main.proofs.program.explained.Goals as goal
+use Rattle.tnc_main.proofs.batch.explained.Goals as goal
 
 pub returns-in-Ok-of_stray-clause-told : goal.returns-in-Ok-of_stray-clause-told
 returns-in-Ok-of_stray-clause-told g c = λ before was which.

@@ -1,337 +1,216 @@
-use Rattle.std.proofs.Common.{rules, ◌≡◌, [], ◌++◌, Some, None, Err, IfErr, map, string_bytes, append-nil, inl, inr}
-use Rattle.std.proofs.Common.{refl, sym, subst, ap, ◌∙◌, arith, true≢false}
-use Rattle.std.specs.Prelude.{is_some}
-use Rattle.tnc_words.specs.declared.command.Command.TheVariants.{Bench, Decode, Loop, Serve}
-use Rattle.tnc_words.specs.Commands.{Asks, IsServe}
-use Rattle.tnc_words.proofs.OneCommand.{one_command}
-use Rattle.tnc_forms.specs.declared.fault.InputFault.TheVariants.{TooLong}
-use Rattle.tnc_forms.proofs.Ends.{at_ok}
-use Rattle.tnc_bench.specs.Reported.{IsReportOf}
+use Rattle.std.proofs.Common.{◌≡◌, inl, inr, refl, sym, subst, ap, ◌∙◌, map, string_bytes, arith}
+use Rattle.tnc_words.specs.Commands.{Asks}
+use Rattle.tnc_main.specs.LiveCommands.{command_of}
+use Rattle.tnc_base.specs.Faults.{HasRisen}
 use Rattle.tnc_ports.specs.SampledRun.{outside_by}
 use Rattle.tnc_ports.specs.ServeRun.{input_by}
-use Rattle.tnc_main.specs.declared.status.Status.TheVariants.{Done, Memory as NoMemory, WriteFault}
-use Rattle.tnc_main.specs.declared.stop.Stop.TheVariants.{Input}
-use Rattle.tnc_main.specs.Commands.{IsFaultless, Makes, Reads, ReadsNothing, fault_of}
-use Rattle.tnc_main.specs.Parts.{WritesAtEnd}
-use Rattle.tnc_main.specs.Runs.{IsCaused, Leaves, Tells, Writes}
-use Rattle.tnc_main.specs.Status.{code_of}
-use Rattle.tnc_main.specs.Stops.{CanRun, IsStopOfRun, status_of}
-use Rattle.tnc_main.proofs.Statuses.{at_bad_input, at_done, at_not_quiet, at_read_fault, at_spent, at_stray, one_status}
-use Rattle.tnc_main.proofs.Statuses.{status_done}
-use Rattle.tnc_main.proofs.CommandLemmas.{last as last_of}
-use Rattle.tnc_main.proofs.Jobs.{same_command, reads, for_job}
-use Rattle.tnc_main.proofs.TextLemmas.{long_fault, near_text}
-use Rattle.tnc_main.proofs.Writing.{told_writes}
-use Rattle.tnc_main.proofs.DecodeWriting.{unread}
-use Rattle.tnc_main.proofs.Telling.{caused, ends_well, leaves, tells}
-use Rattle.tnc_main.proofs.LiveRuns.{complete as complete_live, no_job}
-use Rattle.tnc_main.proofs.LiveRuns.{not_live}
-use Rattle.tnc_main.proofs.LiveRuns.{served as served_live}
+use Rattle.tnc_main.specs.declared.live_command.LiveCommand.TheVariants.{Serve as LiveServe, Record as LiveRecord}
+use Rattle.tnc_main.specs.declared.live_command.LiveCommand.TheVariants.{Call as LiveCall}
+use Rattle.tnc_main.specs.declared.status.Status.TheVariants.{Memory as NoMemory}
+use Rattle.tnc_main.proofs.LiveCommandLemmas.{can_run_live, no_bench, no_job, no_loop, not_at_end, not_unread, one_live}
+use Rattle.tnc_main.proofs.LiveCommandLemmas.{only_record}
+use Rattle.tnc_ports.specs.SampledWrites.{stream_of}
+use Rattle.tnc_main.specs.Calling.{words_of}
+use Rattle.tnc_main.proofs.CallingLemmas.{called_from}
+use Rattle.tnc_main.proofs.LiveRuns.{rebased}
+use Rattle.tnc_main.proofs.RecordingLemmas.{recorded_from}
+use Rattle.tnc_main.proofs.ServingLemmas.{want}
+use Rattle.tnc_main.proofs.Statuses.{one_status}
 use Rattle.tnc_main.proofs.program.run.Goals as goal
 
--- ---- a command
-
-pub returns-in-Ok-clause-read : goal.returns-in-Ok-clause-read
-returns-in-Ok-clause-read g c = λ job.
-    let mine = reads (map string_bytes c.args.words.now) (g.I.Source.left c.args.input.now)
-    c.code.result c.in-Ok.command c.explained.result c.in-Ok.ensures.asks c.code.ensures job in
-    for_job (map string_bytes c.args.words.now) (g.I.Source.left c.args.input.now)
-    c.code.result c.in-Ok.command c.explained.result c.in-Ok.ensures.asks c.code.ensures job
-    (λ command status. Leaves command job.octets status (g.I.Source.left c.perform-end.new.input))
-    (leaves c.in-Ok.command job.octets _ c.perform-end.result c.explained.result c.explained.ensures.ends
-    (c.perform-end.ensures.end job.octets mine) (λ fault is. c.perform-end.ensures.bad job.octets fault mine is)
-    (c.perform-end.ensures.stops job.octets mine))
-
-pub returns-in-Ok-clause-written : goal.returns-in-Ok-clause-written
-returns-in-Ok-clause-written g c = λ job before was.
-    let mine = reads (map string_bytes c.args.words.now) (g.I.Source.left c.args.input.now)
-    c.code.result c.in-Ok.command c.explained.result c.in-Ok.ensures.asks c.code.ensures job in
-    let made = c.perform-end.ensures.written job.octets before mine was in (
-      made.0,
-      for_job (map string_bytes c.args.words.now) (g.I.Source.left c.args.input.now)
-          c.code.result c.in-Ok.command c.explained.result c.in-Ok.ensures.asks c.code.ensures job
-          (λ command status. Writes command job.octets (g.I.Source.left c.perform-end.new.input) status made.0)
-          (told_writes c.in-Ok.command job.octets _ made.0 c.perform-end.result c.explained.result
-          c.explained.ensures.ends
-          (λ fault is. c.perform-end.ensures.bad job.octets fault mine is) c.perform-end.ensures.sent made.1),
-      made.2,
-    )
-
-pub returns-in-Ok-clause-unwritten : goal.returns-in-Ok-clause-unwritten
-returns-in-Ok-clause-unwritten g c = λ command asks at_end four.
-    let same = one_command (map string_bytes c.args.words.now) command c.in-Ok.command asks c.in-Ok.ensures.asks in
-    c.perform-end.ensures.unwritten (last_of command c.in-Ok.command same at_end)
-    (inr (at_read_fault c.perform-end.result c.explained.result c.explained.ensures.ends (sym c.code.ensures ∙ four)))
-
-pub returns-in-Ok-clause-too_long : goal.returns-in-Ok-clause-too_long
-returns-in-Ok-clause-too_long g c = λ job at_end over two.
-    let mine = reads (map string_bytes c.args.words.now) (g.I.Source.left c.args.input.now)
-    c.code.result c.in-Ok.command c.explained.result c.in-Ok.ensures.asks c.code.ensures job in
-    let last = last_of job.command c.in-Ok.command (same_command (map string_bytes c.args.words.now)
-    (g.I.Source.left c.args.input.now) c.code.result c.in-Ok.command c.explained.result c.in-Ok.ensures.asks
-    c.code.ensures job) at_end in
-    let bad = at_bad_input c.perform-end.result c.explained.result c.explained.ensures.ends (sym c.code.ensures ∙ two)
-    in
-    let both : Some bad.0 ≡ Some TooLong =
-    sym (c.perform-end.ensures.bad job.octets bad.0 mine bad.1)
-    ∙ long_fault c.in-Ok.command _ job.octets last mine over in
-    let same : bad.0 ≡ TooLong = cc both in
-    c.perform-end.ensures.unwritten last (inl (bad.1 ∙ ap (λ fault. Err (Input fault)) same))
-
-pub returns-in-Ok-clause-heard : goal.returns-in-Ok-clause-heard
-returns-in-Ok-clause-heard g c = λ job decode received before is clean was zero.
-    let mine = reads (map string_bytes c.args.words.now) (g.I.Source.left c.args.input.now)
-    c.code.result c.in-Ok.command c.explained.result c.in-Ok.ensures.asks c.code.ensures job in
-    let made = c.perform-end.ensures.written job.octets before mine was in
-    let done : Done ≡ status_of c.perform-end.result =
-    sym (status_done c.perform-end.result (at_done c.perform-end.result c.explained.result c.explained.ensures.ends
-    (sym c.code.ensures ∙ zero))) in
-    let decoded : Makes c.in-Ok.command job.octets made.0 =
-    subst (λ status. Writes c.in-Ok.command job.octets (g.I.Source.left c.perform-end.new.input) status made.0)
-    (sym done) made.1 in
-    let text : Makes (Decode decode) job.octets made.0 =
-    subst (λ command. Makes command job.octets made.0)
-    (sym (same_command (map string_bytes c.args.words.now) (g.I.Source.left c.args.input.now)
-    c.code.result c.in-Ok.command c.explained.result c.in-Ok.ensures.asks c.code.ensures job) ∙ is) decoded in
-    made.2 ∙ ap (λ t. Some (before ++ t)) (near_text decode received job.octets made.0 clean text)
-
-pub returns-in-Ok-clause-looped : goal.returns-in-Ok-clause-looped
-returns-in-Ok-clause-looped g c = λ loop is.
-    let same : c.in-Ok.command ≡ Loop loop = one_command (map string_bytes c.args.words.now) c.in-Ok.command (Loop loop)
-    c.in-Ok.ensures.asks is in
-    λ zero. at_ok c.perform-end.result (c.perform-end.ensures.heard_as_made loop same)
-    (at_done c.perform-end.result c.explained.result c.explained.ensures.ends (sym c.code.ensures ∙ zero))
-
-pub returns-in-Ok-clause-benched : goal.returns-in-Ok-clause-benched
-returns-in-Ok-clause-benched g c = λ bench before is was zero.
-    let same : c.in-Ok.command ≡ Bench bench = one_command (map string_bytes c.args.words.now) c.in-Ok.command
-    (Bench bench) c.in-Ok.ensures.asks is in
-    let made = c.perform-end.ensures.written [] before
-    (subst (λ command. Reads command (g.I.Source.left c.args.input.now) []) (sym same) refl) was in
-    let done : Done ≡ status_of c.perform-end.result =
-    sym (status_done c.perform-end.result (at_done c.perform-end.result c.explained.result c.explained.ensures.ends
-    (sym c.code.ensures ∙ zero))) in
-    let told : Makes c.in-Ok.command [] made.0 =
-    subst (λ status. Writes c.in-Ok.command [] (g.I.Source.left c.perform-end.new.input) status made.0) (sym done)
-    made.1 in
-    let report : IsReportOf bench made.0 = subst (λ command. Makes command [] made.0) same told in
-    (report.report, report.over, report.order, made.2 ∙ ap (λ t. Some (before ++ t)) report.is)
-
-pub returns-in-Ok-clause-unread : goal.returns-in-Ok-clause-unread
-returns-in-Ok-clause-unread g c = λ command asked none.
-    c.perform-end.ensures.unread (subst ReadsNothing
-    (one_command (map string_bytes c.args.words.now) command c.in-Ok.command asked c.in-Ok.ensures.asks) none)
-
-pub returns-in-Ok-clause-cause : goal.returns-in-Ok-clause-cause
-returns-in-Ok-clause-cause g c = λ job.
-    let mine = reads (map string_bytes c.args.words.now) (g.I.Source.left c.args.input.now)
-    c.code.result c.in-Ok.command c.explained.result c.in-Ok.ensures.asks c.code.ensures job in
-    for_job (map string_bytes c.args.words.now) (g.I.Source.left c.args.input.now)
-    c.code.result c.in-Ok.command c.explained.result c.in-Ok.ensures.asks c.code.ensures job
-    (λ command status. IsCaused command job.octets status)
-    (caused c.in-Ok.command job.octets c.perform-end.result c.explained.result c.explained.ensures.ends
-    (c.perform-end.ensures.good job.octets mine) (λ fault is. c.perform-end.ensures.bad job.octets fault mine is)
-    c.perform-end.ensures.sent)
-
-pub returns-in-Ok-clause-stray : goal.returns-in-Ok-clause-stray
-returns-in-Ok-clause-stray g c = λ six.
-    let found = at_stray c.perform-end.result c.explained.result c.explained.ensures.ends (sym c.code.ensures ∙ six)
-    in (
-      c.in-Ok.command,
-      c.in-Ok.ensures.asks,
-      (found.0, subst (λ end. IfErr end (IsStopOfRun c.in-Ok.command)) found.1 c.perform-end.ensures.sent),
-    )
-
-pub returns-in-Ok-clause-not_quiet : goal.returns-in-Ok-clause-not_quiet
-returns-in-Ok-clause-not_quiet g c = λ seven.
-    let found = at_not_quiet c.perform-end.result c.explained.result c.explained.ensures.ends (sym c.code.ensures
-    ∙ seven) in (
-      c.in-Ok.command,
-      c.in-Ok.ensures.asks,
-      (found.0, subst (λ end. IfErr end (IsStopOfRun c.in-Ok.command)) found.1 c.perform-end.ensures.sent),
-    )
-
-pub returns-in-Ok-clause-spent : goal.returns-in-Ok-clause-spent
-returns-in-Ok-clause-spent g c = λ eight.
-    let found = at_spent c.perform-end.result c.explained.result c.explained.ensures.ends (sym c.code.ensures ∙ eight)
-    in (
-      c.in-Ok.command,
-      c.in-Ok.ensures.asks,
-      (found.0, subst (λ end. IfErr end (IsStopOfRun c.in-Ok.command)) found.1 c.perform-end.ensures.sent),
-    )
-
-pub returns-in-Ok-clause-told : goal.returns-in-Ok-clause-told
-returns-in-Ok-clause-told g c = λ job before was.
-    let mine = reads (map string_bytes c.args.words.now) (g.I.Source.left c.args.input.now)
-    c.code.result c.in-Ok.command c.explained.result c.in-Ok.ensures.asks c.code.ensures job in
-    let line = tells c.in-Ok.command job.octets before (g.E.Sink.written c.explained.new.report)
-    c.perform-end.result c.explained.result
-    c.explained.ensures.ends (λ fault is. c.perform-end.ensures.bad job.octets fault mine is) c.perform-end.ensures.sent
-    (λ quiet. ap g.E.Sink.written (c.explained.ensures.silent quiet) ∙ was)
-    (c.explained.ensures.told before was) (c.explained.ensures.cut before was) in (
-      line.0,
-      for_job (map string_bytes c.args.words.now) (g.I.Source.left c.args.input.now)
-          c.code.result c.in-Ok.command c.explained.result c.in-Ok.ensures.asks c.code.ensures job
-          (λ command status. Tells command job.octets status line.0) line.1,
-      line.2,
-    )
-
-pub returns-in-Ok-clause-complete : goal.returns-in-Ok-clause-complete
-returns-in-Ok-clause-complete g c = λ job faultless no_input no_output no_report.
-    let mine = reads (map string_bytes c.args.words.now) (g.I.Source.left c.args.input.now)
-    c.code.result c.in-Ok.command c.explained.result c.in-Ok.ensures.asks c.code.ensures job in
-    let same = same_command (map string_bytes c.args.words.now) (g.I.Source.left c.args.input.now)
-    c.code.result c.in-Ok.command c.explained.result c.in-Ok.ensures.asks c.code.ensures job in
-    let ended = ends_well c.in-Ok.command job.octets c.perform-end.result c.explained.result c.explained.ensures.ends
-    (λ fault is.
-    let none : Some fault ≡ None =
-    sym (c.perform-end.ensures.bad job.octets fault mine is) ∙ ap (λ command. fault_of command job.octets) (sym same)
-    ∙ faultless.input in
-    true≢false (ap is_some none))
-    c.perform-end.ensures.sent (subst (λ command. IsFaultless command job.octets) same faultless)
-    (λ is. no_input (c.perform-end.ensures.read is))
-    (λ is. no_output (c.perform-end.ensures.write is)) in
-    elim ended [ inl zero ↦ inl (c.code.ensures ∙ zero) | inr three ↦ inr (c.code.ensures ∙ three) ]
-
--- ---- no command
-
-pub returns-in-Err-Refused-clause-bad_words_told : goal.returns-in-Err-Refused-clause-bad_words_told
-returns-in-Err-Refused-clause-bad_words_told g c = λ before nothing was. (
-  λ one. elim (c.told.ensures.line before was) [
-    | inl whole ↦ whole
-    | inr fault ↦ let code : c.code-in-Err-Refused.result ≡ 5 = c.code-in-Err-Refused.ensures
-        ∙ ap code_of fault in absurd (omega arith)
-  ],
-  λ five. c.told.ensures.cut before was (one_status c.told.result WriteFault (sym c.code-in-Err-Refused.ensures
-      ∙ five)),
-)
-
-pub returns-in-Err-Refused-clause-cause : goal.returns-in-Err-Refused-clause-cause
-returns-in-Err-Refused-clause-cause g c = λ job.
-    absurd (c.read_words.ensures.refused (c.in-Err-Refused.is ∙ ap Err c.in-Err-Refused.field-0-is)
-    job.command job.asked)
-
--- ---- no memory for the words
-
-pub returns-in-Err-Memory-clause-written : goal.returns-in-Err-Memory-clause-written
-returns-in-Err-Memory-clause-written g c = λ job before was.
-    let memory = one_status job.status NoMemory (sym job.ends ∙ c.code-in-Err-Memory.ensures) in
-    let left = g.I.Source.left c.args.input.now in (
-      [],
-      subst (λ status. Writes job.command job.octets left status []) (sym memory)
-          (inl refl, unread job.command job.octets left job.reads),
-      was ∙ ap Some (sym (append-nil before)),
-    )
-
-pub returns-in-Err-Memory-clause-cause : goal.returns-in-Err-Memory-clause-cause
-returns-in-Err-Memory-clause-cause g c = λ job.
-    let memory = one_status job.status NoMemory (sym job.ends ∙ c.code-in-Err-Memory.ensures) in
-    subst (λ status. IsCaused job.command job.octets status) (sym memory) tt
-
--- ---- a live command
-
-pub returns-in-Ok-Serve-clause-served : goal.returns-in-Ok-Serve-clause-served
-returns-in-Ok-Serve-clause-served g c =
-    let asks : IsServe (map string_bytes c.args.words.now) c.in-Ok-Serve.options =
-    subst (Asks (map string_bytes c.args.words.now)) c.in-Ok-Serve.field-0-is c.in-Ok-Serve.ensures.asks in
-    served_live (map string_bytes c.args.words.now) c.serve.result c.in-Ok-Serve.options asks c.serve_words.result
-    c.serve_words.ensures (input_by g.I.Source.left g.I.Source.faults c.args.input.now)
-    (input_by g.I.Source.left g.I.Source.faults c.serve.new.input)
-    (outside_by g.N.Ports.listens g.N.Ports.polls g.N.Ports.sends g.N.Ports.sent g.N.Ports.is_shut g.N.Ports.faults
-    g.O.Sink.written g.O.Sink.faults g.E.Sink.written g.E.Sink.faults
-    c.args.live.now.ports c.args.output.now c.args.report.now)
-    (outside_by g.N.Ports.listens g.N.Ports.polls g.N.Ports.sends g.N.Ports.sent g.N.Ports.is_shut g.N.Ports.faults
-    g.O.Sink.written g.O.Sink.faults g.E.Sink.written g.E.Sink.faults
-    c.serve.new.live.ports c.serve.new.output c.serve.new.report)
-    c.serve.ensures
-
-pub returns-in-Ok-Serve-clause-read : goal.returns-in-Ok-Serve-clause-read
-returns-in-Ok-Serve-clause-read g c = λ job.
-    let asks : IsServe (map string_bytes c.args.words.now) c.in-Ok-Serve.options =
-    subst (Asks (map string_bytes c.args.words.now)) c.in-Ok-Serve.field-0-is c.in-Ok-Serve.ensures.asks in
-    absurd (no_job (map string_bytes c.args.words.now) c.in-Ok-Serve.options (g.I.Source.left c.args.input.now)
-    c.serve.result asks job)
-
-pub returns-in-Ok-Serve-clause-written : goal.returns-in-Ok-Serve-clause-written
-returns-in-Ok-Serve-clause-written g c = λ job.
-    let asks : IsServe (map string_bytes c.args.words.now) c.in-Ok-Serve.options =
-    subst (Asks (map string_bytes c.args.words.now)) c.in-Ok-Serve.field-0-is c.in-Ok-Serve.ensures.asks in
-    absurd (no_job (map string_bytes c.args.words.now) c.in-Ok-Serve.options (g.I.Source.left c.args.input.now)
-    c.serve.result asks job)
-
-pub returns-in-Ok-Serve-clause-told : goal.returns-in-Ok-Serve-clause-told
-returns-in-Ok-Serve-clause-told g c = λ job.
-    let asks : IsServe (map string_bytes c.args.words.now) c.in-Ok-Serve.options =
-    subst (Asks (map string_bytes c.args.words.now)) c.in-Ok-Serve.field-0-is c.in-Ok-Serve.ensures.asks in
-    absurd (no_job (map string_bytes c.args.words.now) c.in-Ok-Serve.options (g.I.Source.left c.args.input.now)
-    c.serve.result asks job)
-
-pub returns-in-Ok-Serve-clause-complete : goal.returns-in-Ok-Serve-clause-complete
-returns-in-Ok-Serve-clause-complete g c = λ job.
-    let asks : IsServe (map string_bytes c.args.words.now) c.in-Ok-Serve.options =
-    subst (Asks (map string_bytes c.args.words.now)) c.in-Ok-Serve.field-0-is c.in-Ok-Serve.ensures.asks in
-    absurd (no_job (map string_bytes c.args.words.now) c.in-Ok-Serve.options (g.I.Source.left c.args.input.now)
-    c.serve.result asks job)
-
-pub returns-in-Ok-Serve-clause-unwritten : goal.returns-in-Ok-Serve-clause-unwritten
-returns-in-Ok-Serve-clause-unwritten g c = λ command asked at_end.
-    let asks : IsServe (map string_bytes c.args.words.now) c.in-Ok-Serve.options =
-    subst (Asks (map string_bytes c.args.words.now)) c.in-Ok-Serve.field-0-is c.in-Ok-Serve.ensures.asks in
-    absurd (subst WritesAtEnd (one_command (map string_bytes c.args.words.now) command (Serve c.in-Ok-Serve.options)
-    asked asks) at_end)
-
-pub returns-in-Ok-Serve-clause-unread : goal.returns-in-Ok-Serve-clause-unread
-returns-in-Ok-Serve-clause-unread g c = λ command asked none.
-    let asks : IsServe (map string_bytes c.args.words.now) c.in-Ok-Serve.options =
-    subst (Asks (map string_bytes c.args.words.now)) c.in-Ok-Serve.field-0-is c.in-Ok-Serve.ensures.asks in
-    absurd (subst ReadsNothing (one_command (map string_bytes c.args.words.now) command (Serve c.in-Ok-Serve.options)
-    asked asks) none)
-
-pub returns-in-Ok-Serve-clause-cause : goal.returns-in-Ok-Serve-clause-cause
-returns-in-Ok-Serve-clause-cause g c = λ job.
-    let asks : IsServe (map string_bytes c.args.words.now) c.in-Ok-Serve.options =
-    subst (Asks (map string_bytes c.args.words.now)) c.in-Ok-Serve.field-0-is c.in-Ok-Serve.ensures.asks in
-    absurd (no_job (map string_bytes c.args.words.now) c.in-Ok-Serve.options (g.I.Source.left c.args.input.now)
-    c.serve.result asks job)
-
-pub returns-in-Ok-Serve-clause-complete_served : goal.returns-in-Ok-Serve-clause-complete_served
-returns-in-Ok-Serve-clause-complete_served g c = λ options asked.
-    let asks : IsServe (map string_bytes c.args.words.now) c.in-Ok-Serve.options =
-    subst (Asks (map string_bytes c.args.words.now)) c.in-Ok-Serve.field-0-is c.in-Ok-Serve.ensures.asks in
-    complete_live (map string_bytes c.args.words.now) c.serve.result c.in-Ok-Serve.options asks c.serve_words.result
-    c.serve_words.ensures (input_by g.I.Source.left g.I.Source.faults c.args.input.now)
-    (input_by g.I.Source.left g.I.Source.faults c.serve.new.input)
-    (outside_by g.N.Ports.listens g.N.Ports.polls g.N.Ports.sends g.N.Ports.sent g.N.Ports.is_shut g.N.Ports.faults
-    g.O.Sink.written g.O.Sink.faults g.E.Sink.written g.E.Sink.faults
-    c.args.live.now.ports c.args.output.now c.args.report.now)
-    (outside_by g.N.Ports.listens g.N.Ports.polls g.N.Ports.sends g.N.Ports.sent g.N.Ports.is_shut g.N.Ports.faults
-    g.O.Sink.written g.O.Sink.faults g.E.Sink.written g.E.Sink.faults
-    c.serve.new.live.ports c.serve.new.output c.serve.new.report)
-    c.serve.ensures
+-- ---- a command that is not live, or no memory for the words of one that is
 
 pub returns-in-Ok-clause-served : goal.returns-in-Ok-clause-served
 returns-in-Ok-clause-served g c = λ options asked.
-    let can : CanRun c.in-Ok.command = search rules in
-    absurd (not_live _ _ options can c.in-Ok.ensures.asks asked)
+    let kept = c.in-Ok.ensures.not_begun (LiveServe options) asked in (
+      NoMemory,
+      kept.0,
+      inl (record {
+        memory = refl;
+        unread = ap (input_by g.I.Source.left g.I.Source.faults) kept.1;
+        untouched =
+            ap (λ output. outside_by g.N.Ports.listens g.N.Ports.polls g.N.Ports.sends g.N.Ports.sent g.N.Ports.is_shut
+            g.N.Ports.faults g.O.Sink.written g.O.Sink.faults g.E.Sink.written g.E.Sink.faults
+            c.args.live.now.ports output c.run_batch.new.report) kept.2
+            ∙ ap (outside_by g.N.Ports.listens g.N.Ports.polls g.N.Ports.sends g.N.Ports.sent g.N.Ports.is_shut
+            g.N.Ports.faults g.O.Sink.written g.O.Sink.faults g.E.Sink.written g.E.Sink.faults
+            c.args.live.now.ports c.args.output.now) kept.3;
+      }),
+    )
 
 pub returns-in-Ok-clause-complete_served : goal.returns-in-Ok-clause-complete_served
-returns-in-Ok-clause-complete_served g c = λ options asked.
-    let can : CanRun c.in-Ok.command = search rules in
-    absurd (not_live _ _ options can c.in-Ok.ensures.asks asked)
+returns-in-Ok-clause-complete_served g c = λ options asked octets tells few no_read no_write no_report no_port.
+    inr (c.in-Ok.ensures.not_begun (LiveServe options) asked).0
 
-pub returns-in-Err-Refused-clause-served : goal.returns-in-Err-Refused-clause-served
-returns-in-Err-Refused-clause-served g c = λ options asked.
-    absurd (c.read_words.ensures.refused (c.in-Err-Refused.is ∙ ap Err c.in-Err-Refused.field-0-is) (Serve options)
-    asked)
+-- ---- a live command
 
-pub returns-in-Err-Refused-clause-complete_served : goal.returns-in-Err-Refused-clause-complete_served
-returns-in-Err-Refused-clause-complete_served g c = λ options asked.
-    absurd (c.read_words.ensures.refused (c.in-Err-Refused.is ∙ ap Err c.in-Err-Refused.field-0-is) (Serve options)
-    asked)
+pub run_live-requires-clause-can_run : goal.run_live-requires-clause-can_run
+run_live-requires-clause-can_run g c κs within =
+    can_run_live (map string_bytes c.args.words.now) c.in-Err.command c.in-Err.ensures.live
 
-pub returns-in-Err-Memory-clause-served : goal.returns-in-Err-Memory-clause-served
-returns-in-Err-Memory-clause-served g c = λ options asked. (
-  NoMemory,
-  c.code-in-Err-Memory.ensures,
-  inl (record { memory = refl; unread = refl; untouched = refl }),
-)
+pub returns-in-Err-clause-heard : goal.returns-in-Err-clause-heard
+returns-in-Err-clause-heard g c = λ job.
+    absurd (no_job (map string_bytes c.args.words.now) c.in-Err.command c.in-Err.ensures.live _ _ job)
+
+pub returns-in-Err-clause-read : goal.returns-in-Err-clause-read
+returns-in-Err-clause-read g c = λ job.
+    absurd (no_job (map string_bytes c.args.words.now) c.in-Err.command c.in-Err.ensures.live _ _ job)
+
+pub returns-in-Err-clause-written : goal.returns-in-Err-clause-written
+returns-in-Err-clause-written g c = λ job.
+    absurd (no_job (map string_bytes c.args.words.now) c.in-Err.command c.in-Err.ensures.live _ _ job)
+
+pub returns-in-Err-clause-too_long : goal.returns-in-Err-clause-too_long
+returns-in-Err-clause-too_long g c = λ job.
+    absurd (no_job (map string_bytes c.args.words.now) c.in-Err.command c.in-Err.ensures.live _ _ job)
+
+pub returns-in-Err-clause-cause : goal.returns-in-Err-clause-cause
+returns-in-Err-clause-cause g c = λ job.
+    absurd (no_job (map string_bytes c.args.words.now) c.in-Err.command c.in-Err.ensures.live _ _ job)
+
+pub returns-in-Err-clause-told : goal.returns-in-Err-clause-told
+returns-in-Err-clause-told g c = λ job.
+    absurd (no_job (map string_bytes c.args.words.now) c.in-Err.command c.in-Err.ensures.live _ _ job)
+
+pub returns-in-Err-clause-complete : goal.returns-in-Err-clause-complete
+returns-in-Err-clause-complete g c = λ job.
+    absurd (no_job (map string_bytes c.args.words.now) c.in-Err.command c.in-Err.ensures.live _ _ job)
+
+pub returns-in-Err-clause-benched : goal.returns-in-Err-clause-benched
+returns-in-Err-clause-benched g c = λ bench before asked.
+    absurd (no_bench (map string_bytes c.args.words.now) c.in-Err.command c.in-Err.ensures.live bench asked)
+
+pub returns-in-Err-clause-looped : goal.returns-in-Err-clause-looped
+returns-in-Err-clause-looped g c = λ loop asked.
+    absurd (no_loop (map string_bytes c.args.words.now) c.in-Err.command c.in-Err.ensures.live loop asked)
+
+pub returns-in-Err-clause-unwritten : goal.returns-in-Err-clause-unwritten
+returns-in-Err-clause-unwritten g c = λ command asked at_end.
+    absurd (not_at_end (map string_bytes c.args.words.now) c.in-Err.command c.in-Err.ensures.live command asked
+    at_end)
+
+pub returns-in-Err-clause-unread : goal.returns-in-Err-clause-unread
+returns-in-Err-clause-unread g c = λ command asked none.
+    absurd (not_unread (map string_bytes c.args.words.now) c.in-Err.command c.in-Err.ensures.live command asked
+    none)
+
+pub returns-in-Err-clause-served : goal.returns-in-Err-clause-served
+returns-in-Err-clause-served g c = λ options asked.
+    let same = one_live (map string_bytes c.args.words.now) c.in-Err.command c.in-Err.ensures.live
+    (LiveServe options) asked in
+    let kept = c.in-Err.ensures.untouched in
+    rebased options c.run_live.result _ _ _ _ _ _ (ap (input_by g.I.Source.left g.I.Source.faults) kept.0)
+    (ap (λ output. outside_by g.N.Ports.listens g.N.Ports.polls g.N.Ports.sends g.N.Ports.sent g.N.Ports.is_shut
+    g.N.Ports.faults g.O.Sink.written g.O.Sink.faults g.E.Sink.written g.E.Sink.faults
+    c.args.live.now.ports output c.run_batch.new.report) kept.1
+    ∙ ap (outside_by g.N.Ports.listens g.N.Ports.polls g.N.Ports.sends g.N.Ports.sent g.N.Ports.is_shut
+    g.N.Ports.faults g.O.Sink.written g.O.Sink.faults g.E.Sink.written g.E.Sink.faults
+    c.args.live.now.ports c.args.output.now) kept.2)
+    (c.run_live.ensures.served options same)
+
+pub returns-in-Ok-clause-no_thread : goal.returns-in-Ok-clause-no_thread
+returns-in-Ok-clause-no_thread g c = λ options asked three.
+    let served = returns-in-Ok-clause-served g c options asked in
+    want options _ _ _ _ served.0 served.2 (one_status served.0 NoMemory (sym served.1 ∙ three))
+
+pub returns-in-Err-clause-no_thread : goal.returns-in-Err-clause-no_thread
+returns-in-Err-clause-no_thread g c = λ options asked three.
+    let served = returns-in-Err-clause-served g c options asked in
+    want options _ _ _ _ served.0 served.2 (one_status served.0 NoMemory (sym served.1 ∙ three))
+
+pub returns-in-Ok-clause-called : goal.returns-in-Ok-clause-called
+returns-in-Ok-clause-called g c = λ options text before asked reads was.
+    let kept = c.in-Ok.ensures.not_begun (LiveCall options) asked in (
+      NoMemory,
+      kept.0,
+      inl (record {
+        memory = refl;
+        unwritten = ap g.O.Sink.written kept.2 ∙ was;
+        untouched = refl;
+        untold = ap (stream_of g.E.Sink.written g.E.Sink.faults) kept.3;
+      }),
+    )
+
+pub returns-in-Err-clause-called : goal.returns-in-Err-clause-called
+returns-in-Err-clause-called g c = λ options text before asked reads was.
+    let same = one_live (map string_bytes c.args.words.now) c.in-Err.command c.in-Err.ensures.live
+    (LiveCall options) asked in
+    let kept = c.in-Err.ensures.untouched in
+    let made = called_from (words_of options) c.run_live.result text before _ _ _ _ _ _
+    (ap (stream_of g.E.Sink.written g.E.Sink.faults) kept.2)
+    (c.run_live.ensures.called options text before same (ap g.I.Source.left kept.0 ∙ reads)
+    (ap g.O.Sink.written kept.1 ∙ was)) in
+    (made.0, made.1, inr made.2)
+
+pub returns-in-Ok-clause-of_call : goal.returns-in-Ok-clause-of_call
+returns-in-Ok-clause-of_call g c = λ own. absurd (omega (arith, own, c.in-Ok.ensures.no_others))
+
+pub returns-in-Err-clause-of_call : goal.returns-in-Err-clause-of_call
+returns-in-Err-clause-of_call g c = λ own.
+    let of = c.run_live.ensures.of_call own in
+    (of.0, subst (λ live. Asks (map string_bytes c.args.words.now) (command_of live)) of.1 c.in-Err.ensures.live)
+
+pub returns-in-Ok-clause-recorded : goal.returns-in-Ok-clause-recorded
+returns-in-Ok-clause-recorded g c = λ options asked.
+    let kept = c.in-Ok.ensures.not_begun (LiveRecord options) asked in (
+      NoMemory,
+      kept.0,
+      inl (
+        refl,
+        record {
+          unread = ap (input_by g.I.Source.left g.I.Source.faults) kept.1;
+          no_output = ap (stream_of g.O.Sink.written g.O.Sink.faults) kept.2;
+          no_report = ap (stream_of g.E.Sink.written g.E.Sink.faults) kept.3;
+        },
+      ),
+    )
+
+pub returns-in-Err-clause-recorded : goal.returns-in-Err-clause-recorded
+returns-in-Err-clause-recorded g c = λ options asked.
+    let same = one_live (map string_bytes c.args.words.now) c.in-Err.command c.in-Err.ensures.live
+    (LiveRecord options) asked in
+    let kept = c.in-Err.ensures.untouched in
+    recorded_from options c.run_live.result _ _ _ _ _ _ _ _ _ (ap (input_by g.I.Source.left g.I.Source.faults) kept.0)
+    (ap (stream_of g.O.Sink.written g.O.Sink.faults) kept.1) (ap (stream_of g.E.Sink.written g.E.Sink.faults) kept.2)
+    (c.run_live.ensures.recorded options same)
+
+pub returns-in-Ok-clause-complete_recorded : goal.returns-in-Ok-clause-complete_recorded
+returns-in-Ok-clause-complete_recorded g c = λ options asked octets tells few no_read no_write no_report.
+    inr (c.in-Ok.ensures.not_begun (LiveRecord options) asked).0
+
+pub returns-in-Ok-clause-cause : goal.returns-in-Ok-clause-cause
+returns-in-Ok-clause-cause g c = c.in-Ok.ensures.cause
+
+pub returns-in-Ok-clause-bad_words_told : goal.returns-in-Ok-clause-bad_words_told
+returns-in-Ok-clause-bad_words_told g c = λ before nothing was. c.in-Ok.ensures.bad_words_told before nothing was
+
+pub returns-in-Err-clause-ports_alone : goal.returns-in-Err-clause-ports_alone
+returns-in-Err-clause-ports_alone g c = λ alone.
+    let kept = only_record (map string_bytes c.args.words.now) c.in-Err.command alone c.in-Err.ensures.live in
+    c.run_live.ensures.no_ports kept.0 kept.1
+
+pub returns-in-Err-clause-complete_served : goal.returns-in-Err-clause-complete_served
+returns-in-Err-clause-complete_served g c = λ options asked octets tells few no_read no_write no_report no_port.
+    let same = one_live (map string_bytes c.args.words.now) c.in-Err.command c.in-Err.ensures.live
+    (LiveServe options) asked in
+    let kept = c.in-Err.ensures.untouched in
+    c.run_live.ensures.complete_served options same octets (ap g.I.Source.left kept.0 ∙ tells) few
+    (λ rose. no_read (subst (λ input. HasRisen (g.I.Source.faults input) (g.I.Source.faults c.run_live.new.input))
+    kept.0 rose))
+    (λ rose. no_write (subst (λ output. HasRisen (g.O.Sink.faults output) (g.O.Sink.faults c.run_live.new.output))
+    kept.1 rose))
+    (λ rose. no_report (subst (λ report. HasRisen (g.E.Sink.faults report) (g.E.Sink.faults c.run_live.new.report))
+    kept.2 rose)) no_port
+
+pub returns-in-Err-clause-complete_recorded : goal.returns-in-Err-clause-complete_recorded
+returns-in-Err-clause-complete_recorded g c = λ options asked octets tells few no_read no_write no_report.
+    let same = one_live (map string_bytes c.args.words.now) c.in-Err.command c.in-Err.ensures.live
+    (LiveRecord options) asked in
+    let kept = c.in-Err.ensures.untouched in
+    c.run_live.ensures.complete_recorded options same octets (ap g.I.Source.left kept.0 ∙ tells) few
+    (λ rose. no_read (subst (λ input. HasRisen (g.I.Source.faults input) (g.I.Source.faults c.run_live.new.input))
+    kept.0 rose))
+    (λ rose. no_write (subst (λ output. HasRisen (g.O.Sink.faults output) (g.O.Sink.faults c.run_live.new.output))
+    kept.1 rose))
+    (λ rose. no_report (subst (λ report. HasRisen (g.E.Sink.faults report) (g.E.Sink.faults c.run_live.new.report))
+    kept.2 rose))

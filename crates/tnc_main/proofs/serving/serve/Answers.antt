@@ -1,9 +1,14 @@
-use Rattle.std.proofs.Common.{refl}
+use Rattle.std.proofs.Common.{◌≡◌, refl}
 use Rattle.tnc_ports.specs.SampledRun.{outside_by}
+use Rattle.tnc_ports.specs.ServeRun.{input_by}
+use Rattle.tnc_main.specs.declared.status.Status.{Status}
+use Rattle.tnc_main.specs.Serving.{Serves}
+use Rattle.tnc_main.specs.Status.{code_of}
+use Rattle.tnc_main.proofs.LiveRuns as run
 use Rattle.tnc_main.proofs.serving.serve.Goals as goal
 
-pub returns : goal.returns
-returns g c = (
+pub returns-clause-served : goal.returns-clause-served
+returns-clause-served g c = (
   c.tell_end.result,
   c.code.ensures,
   record {
@@ -15,3 +20,24 @@ returns g c = (
     told = c.tell_end.ensures _ refl refl;
   },
 )
+
+pub returns-clause-own : goal.returns-clause-own
+returns-clause-own g c = run.own c.args.words c.code.result _ _ _ _ (returns-clause-served g c)
+
+pub returns-clause-faultless : goal.returns-clause-faultless
+returns-clause-faultless g c = run.faultless c.args.words c.code.result _ _ _ _ (returns-clause-served g c)
+
+pub returns-clause-read_fault : goal.returns-clause-read_fault
+returns-clause-read_fault g c = run.read_fault c.args.words c.code.result _ _ _ _ (returns-clause-served g c)
+
+pub returns-clause-write_fault : goal.returns-clause-write_fault
+returns-clause-write_fault g c = run.write_fault c.args.words c.code.result _ _ _ _ (returns-clause-served g c)
+
+pub returns-clause-no_port : goal.returns-clause-no_port
+returns-clause-no_port g c = run.no_port c.args.words c.code.result _ _ _ _ (returns-clause-served g c)
+
+pub returns-clause-complete : goal.returns-clause-complete
+returns-clause-complete g c = run.complete c.args.words c.code.result _ _ _ _ (returns-clause-served g c)
+
+pub returns-clause-not_called : goal.returns-clause-not_called
+returns-clause-not_called g c = run.not_called c.args.words c.code.result _ _ _ _ (returns-clause-served g c)

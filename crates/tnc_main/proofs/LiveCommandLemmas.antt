@@ -1,0 +1,117 @@
+-- Words that ask for a live command ask for one, for no job and within its ranges.
+use Rattle.std.proofs.Common.{◌≡◌, ℕ, ◌≤◌, List, Option, Some, None, refl, subst, sym, ap, ◌∙◌, arith}
+use Rattle.link_world.proofs.WindowLemmas.{none_refused}
+use Rattle.tnc_words.specs.declared.command.BenchOptions.{BenchOptions}
+use Rattle.tnc_words.specs.declared.command.Command.{Command}
+use Rattle.tnc_words.specs.declared.command.Command.TheVariants.{Bench, Loop, Serve, Record, Call}
+use Rattle.tnc_words.specs.declared.command.LoopWords.{LoopWords}
+use Rattle.tnc_words.specs.declared.command.RecordOptions.{RecordOptions}
+use Rattle.tnc_words.specs.Commands.{Asks, IsBench, IsLoop}
+use Rattle.tnc_words.specs.Numbers.{HasNumber}
+use Rattle.tnc_words.proofs.OneCommand.{one_command}
+use Rattle.tnc_main.specs.declared.live_command.LiveCommand.{LiveCommand}
+use Rattle.tnc_main.specs.declared.live_command.LiveCommand.TheVariants.{Serve as LiveServe, Record as LiveRecord}
+use Rattle.tnc_main.specs.declared.live_command.LiveCommand.TheVariants.{Call as LiveCall}
+use Rattle.tnc_main.specs.Commands.{Reads, ReadsNothing}
+use Rattle.tnc_main.specs.LiveCommands.{AskNoPorts, CanRunLive, command_of}
+use Rattle.tnc_main.specs.Parts.{WritesAtEnd}
+use Rattle.tnc_main.specs.Runs.{Job}
+use Rattle.tnc_main.specs.Stops.{CanRun}
+
+-- a live command is known by the command that it is
+one_of_command : (live other : LiveCommand) → command_of live ≡ command_of other → live ≡ other
+one_of_command (LiveServe options) (LiveServe others) is = let both : Serve options ≡ Serve others = is in cc both
+one_of_command (LiveServe options) (LiveRecord others) is = let both : Serve options ≡ Record others = is in cc both
+one_of_command (LiveServe options) (LiveCall others) is = let both : Serve options ≡ Call others = is in cc both
+one_of_command (LiveRecord options) (LiveServe others) is = let both : Record options ≡ Serve others = is in cc both
+one_of_command (LiveRecord options) (LiveRecord others) is = let both : Record options ≡ Record others = is in cc both
+one_of_command (LiveRecord options) (LiveCall others) is = let both : Record options ≡ Call others = is in cc both
+one_of_command (LiveCall options) (LiveServe others) is = let both : Call options ≡ Serve others = is in cc both
+one_of_command (LiveCall options) (LiveRecord others) is = let both : Call options ≡ Record others = is in cc both
+one_of_command (LiveCall options) (LiveCall others) is = let both : Call options ≡ Call others = is in cc both
+
+never_at_end : (live : LiveCommand) → WritesAtEnd (command_of live) → ⊥
+never_at_end (LiveServe options) h = h
+never_at_end (LiveRecord options) h = h
+never_at_end (LiveCall options) h = h
+
+reads_on : (live : LiveCommand) → ReadsNothing (command_of live) → ⊥
+reads_on (LiveServe options) h = h
+reads_on (LiveRecord options) h = h
+reads_on (LiveCall options) h = h
+
+reads_as_no_job : (live : LiveCommand) (left : Option (List ℕ)) (octets : List ℕ) → Reads (command_of live) left octets
+    → ⊥
+reads_as_no_job (LiveServe options) left octets h = h
+reads_as_no_job (LiveRecord options) left octets h = h
+reads_as_no_job (LiveCall options) left octets h = h
+
+is_no_bench : (live : LiveCommand) (bench : BenchOptions) → Bench bench ≡ command_of live → ⊥
+is_no_bench (LiveServe options) bench is = let both : Bench bench ≡ Serve options = is in cc both
+is_no_bench (LiveRecord options) bench is = let both : Bench bench ≡ Record options = is in cc both
+is_no_bench (LiveCall options) bench is = let both : Bench bench ≡ Call options = is in cc both
+
+is_no_loop : (live : LiveCommand) (loop : LoopWords) → Loop loop ≡ command_of live → ⊥
+is_no_loop (LiveServe options) loop is = let both : Loop loop ≡ Serve options = is in cc both
+is_no_loop (LiveRecord options) loop is = let both : Loop loop ≡ Record options = is in cc both
+is_no_loop (LiveCall options) loop is = let both : Loop loop ≡ Call options = is in cc both
+
+runs_on : (live : LiveCommand) → CanRun (command_of live) → ⊥
+runs_on (LiveServe options) h = h
+runs_on (LiveRecord options) h = h
+runs_on (LiveCall options) h = h
+
+-- words that ask for a command that is run to its end ask for no live one
+pub not_live : (words : List (List ℕ)) (command : Command) (live : LiveCommand) → CanRun command → Asks words command
+    → Asks words (command_of live) → ⊥
+not_live words command live can asks asked =
+    runs_on live (subst CanRun (one_command words command (command_of live) asks asked) can)
+
+-- a number of an option, or its default, is within the bounds if the default is
+within : (text : Option (List ℕ)) (default least greatest number : ℕ) → least ≤ default → default ≤ greatest
+    → HasNumber text default least greatest number → (least ≤ number) × (number ≤ greatest)
+within None default least greatest number low high h = (omega (arith, h), omega (arith, h))
+within (Some text) default least greatest number low high h = (h.1, h.2)
+
+module _ (words : List (List ℕ)) (live : LiveCommand) (asks : Asks words (command_of live)) where
+  pub one_live : (other : LiveCommand) → Asks words (command_of other) → live ≡ other
+  one_live other asked = one_of_command live other (one_command words (command_of live) (command_of other) asks asked)
+
+  pub no_job : (left : Option (List ℕ)) (code : ℕ) → Job words left code → ⊥
+  no_job left code job =
+      reads_as_no_job live left job.octets
+      (subst (λ command. Reads command left job.octets)
+      (one_command words job.command (command_of live) job.asked asks) job.reads)
+
+  pub not_at_end : (command : Command) → Asks words command → WritesAtEnd command → ⊥
+  not_at_end command asked h =
+      never_at_end live (subst WritesAtEnd (one_command words command (command_of live) asked asks) h)
+
+  pub not_unread : (command : Command) → Asks words command → ReadsNothing command → ⊥
+  not_unread command asked h =
+      reads_on live (subst ReadsNothing (one_command words command (command_of live) asked asks) h)
+
+  pub no_bench : (bench : BenchOptions) → IsBench words bench → ⊥
+  no_bench bench asked = is_no_bench live bench (one_command words (Bench bench) (command_of live) asked asks)
+
+  pub no_loop : (loop : LoopWords) → IsLoop words loop → ⊥
+  no_loop loop asked = is_no_loop live loop (one_command words (Loop loop) (command_of live) asked asks)
+
+-- of the live commands record alone has nothing to do with ports
+pub only_record : (words : List (List ℕ)) (live : LiveCommand) → AskNoPorts words → Asks words (command_of live)
+    → (options : RecordOptions) × (live ≡ LiveRecord options)
+only_record words (LiveServe options) alone asks = absurd (alone.serve options asks)
+only_record words (LiveRecord options) alone asks = (options, refl)
+only_record words (LiveCall options) alone asks = absurd (alone.call options asks)
+
+-- the options of a live command that words ask for are within their ranges
+pub can_run_live : (words : List (List ℕ)) (live : LiveCommand) → Asks words (command_of live) → CanRunLive live
+can_run_live words (LiveServe options) h =
+    let flags = within _ 3 1 8 options.dcd (omega arith) (omega arith) h.options.dcd in
+    (λ window. none_refused options.params window h.options.params.fit, flags.0, flags.1)
+can_run_live words (LiveRecord options) h =
+    within _ 576000 1 17280000 options.keep (omega arith) (omega arith) h.options.keep
+can_run_live words (LiveCall options) h =
+    let expect = within _ 0 0 1000000 options.expect (omega arith) (omega arith) h.options.expect in
+    let polls = within _ 100000 1 1000000 options.polls (omega arith) (omega arith) h.options.polls in
+    (expect.1, polls.0, polls.1)

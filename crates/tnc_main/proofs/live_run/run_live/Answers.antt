@@ -1,0 +1,41 @@
+use Rattle.std.proofs.Common.{◌≡◌, ℕ, sym, subst, ap, ◌∙◌}
+use Rattle.link_machine.specs.Params.{IsRefusedWindow}
+use Rattle.tnc_ports.specs.declared.serve_words.ServeWords.{ServeWords}
+use Rattle.tnc_main.specs.declared.live_command.LiveCommand.TheVariants.{Serve as LiveServe}
+use Rattle.tnc_main.specs.LiveCommands.{CanRunLive}
+use Rattle.tnc_main.specs.Serving.{words_of}
+use Rattle.tnc_main.proofs.LiveRuns.{served_as}
+use Rattle.tnc_call.specs.declared.call_words.CallWords.{CallWords}
+use Rattle.tnc_main.specs.declared.live_command.LiveCommand.TheVariants.{Call as LiveCall}
+use Rattle.tnc_main.specs.Calling.{words_of as call_words_of}
+use Rattle.tnc_main.proofs.CallingLemmas.{called_as}
+use Rattle.tnc_main.specs.declared.live_command.LiveCommand.TheVariants.{Record as LiveRecord}
+use Rattle.tnc_main.specs.RecordRuns.{words_of as record_words_of}
+use Rattle.tnc_main.proofs.RecordingLemmas.{recorded_as}
+use Rattle.tnc_main.proofs.live_run.run_live.Goals as goal
+
+pub serve-requires-clause-window : goal.serve-requires-clause-window
+serve-requires-clause-window g c κs within =
+    subst (λ (words : ServeWords). (window : ℕ) → IsRefusedWindow words.config.params window → ⊥)
+    (sym c.serve_words.ensures) (subst CanRunLive c.in-Serve.is c.requires.can_run).0
+
+pub returns-in-Serve-clause-served : goal.returns-in-Serve-clause-served
+returns-in-Serve-clause-served g c = λ options is.
+    let both : LiveServe c.in-Serve.options ≡ LiveServe options = sym c.in-Serve.is ∙ is in
+    let same : c.in-Serve.options ≡ options = cc both in
+    served_as c.serve_words.result options c.serve.result _ _ _ _ (c.serve_words.ensures ∙ ap words_of same)
+    c.serve.ensures.served
+
+pub returns-in-Call-clause-called : goal.returns-in-Call-clause-called
+returns-in-Call-clause-called g c = λ options text before is reads was.
+    let both : LiveCall c.in-Call.options ≡ LiveCall options = sym c.in-Call.is ∙ is in
+    let same : c.in-Call.options ≡ options = cc both in
+    called_as c.call_words.result (call_words_of options) c.call.result text before _ _ _ _ _
+    (c.call_words.ensures ∙ ap call_words_of same) (c.call.ensures.called text before reads was)
+
+pub returns-in-Record-clause-recorded : goal.returns-in-Record-clause-recorded
+returns-in-Record-clause-recorded g c = λ options is.
+    let both : LiveRecord c.in-Record.options ≡ LiveRecord options = sym c.in-Record.is ∙ is in
+    let same : c.in-Record.options ≡ options = cc both in
+    recorded_as c.record_words.result (record_words_of options) c.record.result _ _ _ _ _ _
+    (c.record_words.ensures ∙ ap record_words_of same) c.record.ensures.recorded

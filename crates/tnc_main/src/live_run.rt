@@ -1,0 +1,123 @@
+//! The live commands: from one with its options to an exit status.
+ghost use Rattle.std.specs.Prelude.{◌≡◌, ◌⊎◌, ◌≤◌, ℕ, List, Some, length};
+ghost use Rattle.tnc_base.specs.Faults.{HasRisen};
+ghost use Rattle.tnc_words.specs.declared.command.CallOptions.{CallOptions};
+ghost use Rattle.tnc_words.specs.declared.command.RecordOptions.{RecordOptions};
+ghost use Rattle.tnc_words.specs.declared.command.ServeOptions.{ServeOptions};
+ghost use Rattle.tnc_forms.specs.Reading.{input_limit};
+ghost use Rattle.tnc_ports.specs.SampledRun.{outside_by};
+ghost use Rattle.tnc_ports.specs.SampledWrites.{stream_of};
+ghost use Rattle.tnc_ports.specs.ServeRun.{input_by};
+ghost use Rattle.tnc_call.specs.CallTrace.{ports_by};
+ghost use Rattle.tnc_main.specs.declared.status.Status.{Status};
+ghost use Rattle.tnc_main.specs.Calling.{Calls, words_of as call_words_of};
+ghost use Rattle.tnc_main.specs.RecordRuns.{Records, words_of as record_words_of};
+ghost use Rattle.tnc_main.specs.LiveCommands.{CanRunLive};
+ghost use Rattle.tnc_main.specs.Serving.{Serves, words_of};
+ghost use Rattle.tnc_main.specs.Status.{code_of, IsLiveCode};
+
+use crate::calling::{call, call_words};
+use crate::live_command::LiveCommand;
+use crate::recording::{record, record_words};
+use crate::serving::{serve, serve_words};
+use std::alloc::Global;
+use std::net::Net;
+use std::sync::Wait;
+use std::thread::Threads;
+use tnc_base::{Sink, Source};
+use tnc_ports::{Live, Ports, Spawner};
+
+/// Does a live command, and answers the exit status. It may wait for the input.
+pub(crate) fn run_live<
+    Rt: Threads + Wait + Net + Sync,
+    I: Source + Send,
+    O: Sink,
+    E: Sink,
+    N: Ports,
+    W: Spawner,
+>(
+    rt: &Rt,
+    alloc: Global,
+    command: LiveCommand,
+    input: &mut I,
+    output: &mut O,
+    report: &mut E,
+    live: &mut Live<N, W>,
+) -> u8
+    requires can_run { CanRunLive command }
+    ensures served { (options : ServeOptions) → command ≡ LiveCommand.Serve options
+        → (status : Status) × (result ≡ code_of status)
+        × Serves (words_of options) status (input_by I.left I.faults input.old) (input_by I.left I.faults input.new)
+        (outside_by N.listens N.polls N.sends N.sent N.is_shut N.faults O.written O.faults E.written E.faults
+        live.old.ports output.old report.old)
+        (outside_by N.listens N.polls N.sends N.sent N.is_shut N.faults O.written O.faults E.written E.faults
+        live.new.ports output.new report.new) }
+
+    ensures recorded { (options : RecordOptions) → command ≡ LiveCommand.Record options
+        → (status : Status) × (result ≡ code_of status)
+        × Records (record_words_of options) status (input_by I.left I.faults input.old)
+        (input_by I.left I.faults input.new)
+        (stream_of O.written O.faults output.old) (stream_of O.written O.faults output.new)
+        (stream_of E.written E.faults report.old) (stream_of E.written E.faults report.new) }
+    ensures no_ports { (options : RecordOptions) → command ≡ LiveCommand.Record options
+        → live.new.ports ≡ live.old.ports }
+    ensures called { (options : CallOptions) → (text before : List ℕ) → command ≡ LiveCommand.Call options
+        → I.left input.old ≡ Some text → O.written output.old ≡ Some before
+        → (status : Status) × (result ≡ code_of status)
+        × Calls (call_words_of options) text before (O.written output.new)
+        (ports_by N.listens N.dials N.polls N.sends N.sent N.is_shut N.faults live.old.ports)
+        (ports_by N.listens N.dials N.polls N.sends N.sent N.is_shut N.faults live.new.ports) status
+        (stream_of E.written E.faults report.old) (stream_of E.written E.faults report.new) }
+
+    // each status and its cause
+    ensures known { (status : Status) × (result ≡ code_of status) }
+    ensures own { IsLiveCode result }
+    ensures faultless { result ≡ 0 → (I.faults input.new ≡ I.faults input.old)
+        × (O.faults output.new ≡ O.faults output.old) × (E.faults report.new ≡ E.faults report.old) }
+    ensures read_fault { result ≡ 4 → HasRisen (I.faults input.old) (I.faults input.new) }
+    ensures write_fault { result ≡ 5
+        → HasRisen (O.faults output.old) (O.faults output.new) ⊎ HasRisen (E.faults report.old) (E.faults report.new) }
+    ensures no_port { result ≡ 10 → (options : ServeOptions) × (command ≡ LiveCommand.Serve options)
+        × HasRisen (N.faults live.old.ports) (N.faults live.new.ports) }
+    ensures of_call { 11 ≤ result → (options : CallOptions) × (command ≡ LiveCommand.Call options) }
+    ensures no_host { result ≡ 11 → HasRisen (N.faults live.old.ports) (N.faults live.new.ports) }
+
+    // completeness: an input that is not too long, and no fault of the outside
+    ensures complete_recorded { (options : RecordOptions) → command ≡ LiveCommand.Record options
+        → (octets : List ℕ) → I.left input.old ≡ Some octets → length octets ≤ input_limit
+        → ¬ HasRisen (I.faults input.old) (I.faults input.new) → ¬ HasRisen (O.faults output.old) (O.faults output.new)
+        → ¬ HasRisen (E.faults report.old) (E.faults report.new) → (result ≡ 0) ⊎ (result ≡ 3) }
+    ensures complete_served { (options : ServeOptions) → command ≡ LiveCommand.Serve options
+        → (octets : List ℕ) → I.left input.old ≡ Some octets → length octets ≤ input_limit
+        → ¬ HasRisen (I.faults input.old) (I.faults input.new) → ¬ HasRisen (O.faults output.old) (O.faults output.new)
+        → ¬ HasRisen (E.faults report.old) (E.faults report.new)
+        → ¬ HasRisen (N.faults live.old.ports) (N.faults live.new.ports) → (result ≡ 0) ⊎ (result ≡ 3) }
+{
+    match command {
+        LiveCommand::Serve(options) => {
+            serve(rt, alloc, serve_words(options), input, output, report, live)
+        }
+        LiveCommand::Record(options) => {
+            record(
+                rt,
+                alloc,
+                record_words(options),
+                input,
+                output,
+                report,
+                &mut live.spawner,
+            )
+        }
+        LiveCommand::Call(options) => {
+            call(
+                rt,
+                alloc,
+                call_words(options),
+                input,
+                output,
+                report,
+                &mut live.ports,
+            )
+        }
+    }
+}
