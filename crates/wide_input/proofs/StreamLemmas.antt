@@ -1,13 +1,16 @@
 -- The streams of samples that come in pieces, and how many samples they have.
 use Rattle.std.proofs.Common.{◌≡◌, ℕ, zero, suc, ◌+◌, ◌-◌, ◌*◌, ◌/◌, ◌<◌, ◌≤◌, ℤ, List, [], ◌∷◌, ◌++◌, length, get_or}
-use Rattle.std.proofs.Common.{◌^◌, take, append-nil, pos, Option, Result, Ok, Err, refl, ap, sym, subst, ◌∙◌, arith}
-use Rattle.std.specs.Prelude.{OnOk, OnErr}
+use Rattle.std.proofs.Common.{◌^◌, take, append-nil, pos, Option, Some, None, Result, Ok, Err, refl, ap, sym, subst, ◌∙◌, arith}
+use Rattle.std.specs.Prelude.{OnOk, OnErr, IfOk, option_map}
+use Rattle.std.specs.Result.{result_ok}
+use Rattle.std.proofs.lemmas.Option.{none-some, same_Some}
 use Rattle.std.proofs.lemmas.List.{take_more}
 use Rattle.frame_merge.specs.declared.candidate.Candidate.{Candidate}
 use Rattle.slicer_bank.specs.Candidates.{AreCandidatesBehind}
 use Rattle.slicer_bank.specs.Held.{HeldBank, StandsFor as BankStandsFor}
 use Rattle.wide_input.specs.Streams.{stream, least_count}
-use Rattle.wide_input.specs.Held.{HeldStream, StreamStandsFor, next_skipped}
+use Rattle.slicer_bank.specs.Merging.{AllPast}
+use Rattle.wide_input.specs.Held.{HeldStream, StreamStandsFor, HasFound, IsAbreast, TakesPart, AreAlike, next_skipped}
 
 -- the stream of samples and more
 pub stream-append : (skipped : ℕ) (x y : List ℤ) → stream skipped (x ++ y)
@@ -126,3 +129,61 @@ part_fits inside outside part whole same few room = omega arith
 pub part_ends : (inside outside now part whole : ℕ) → inside ≡ outside → part ≤ whole → now ≤ inside + part
     → now ≤ outside + whole
 part_ends inside outside now part whole same few past = omega arith
+
+-- ---- no stream falls behind the least one
+
+-- what a stream takes of a block, and what it skips past it
+pub taken-skipped : (skipped : ℕ) (x : List ℤ) → length x + next_skipped skipped x
+    ≡ skipped + 5 * length (stream skipped x)
+taken-skipped skipped [] = omega arith
+taken-skipped zero (sample ∷ x) = omega (arith, taken-skipped 4 x)
+taken-skipped (suc skipped) (sample ∷ x) = omega (arith, taken-skipped skipped x)
+
+-- with its part of a block a stream stays abreast
+pub abreast_more : (position : ℕ) (was now : HeldStream) (block : List ℤ)
+    → now.skipped ≡ next_skipped was.skipped block
+    → now.bank.position ≡ was.bank.position + length (stream was.skipped block)
+    → IsAbreast position was → IsAbreast (position + length block) now
+abreast_more position was now block after moved h = omega (arith, taken-skipped was.skipped block)
+
+-- if it had memory for what it heard
+pub stays_abreast : {V E : Type 0} (result : Result V E) (was now : HeldStream) (block : List ℤ)
+    → now.skipped ≡ next_skipped was.skipped block
+    → OnOk result (now.bank.position ≡ was.bank.position + length (stream was.skipped block))
+    → OnOk result ((position : ℕ) → IsAbreast position was → IsAbreast (position + length block) now)
+stays_abreast (Ok v) was now block after moved = λ position h. abreast_more position was now block after moved h
+stays_abreast (Err e) was now block after moved = tt
+
+-- what it keeps of what it heard changes nothing of that
+pub abreast_alike : (position : ℕ) (was now : HeldStream) → AreAlike now was → IsAbreast position was
+    → IsAbreast position now
+abreast_alike position was now alike h =
+    let here = ap (λ (bank : HeldBank). bank.position) alike.bank in
+    let skipped = alike.skipped in
+    omega arith
+
+-- and what ends past its bank's position ends past the least stream's
+pub takes_part : (position count : ℕ) (was now : HeldStream) → IsAbreast position was
+    → ((found : List Candidate) → now.found ≡ Some found → AllPast was.bank.position found)
+    → (HasFound now → IsAbreast (position + count) now) → TakesPart position count now
+takes_part position count was now h past more = record {
+  past = λ found is k d l. let ends = past found is k d l in omega arith;
+  abreast = more;
+}
+
+-- so a stream that keeps what it heard, or nothing if it wanted memory
+pub kept_part : {V E : Type 0} (items : V → List Candidate) (result : Result V E) (kept : Option V) (count : ℕ)
+    (was after now : HeldStream) → kept ≡ result_ok result → now.found ≡ option_map items kept → AreAlike now after
+    → IfOk result (λ found. AllPast was.bank.position (items found))
+    → OnOk result ((position : ℕ) → IsAbreast position was → IsAbreast (position + count) after)
+    → (position : ℕ) → IsAbreast position was → TakesPart position count now
+kept_part items (Ok v) kept count was after now is keeps alike past more position h =
+    let there : now.found ≡ Some (items v) = keeps ∙ ap (option_map items) is in
+    takes_part position count was now h
+    (λ found found_is. subst (AllPast was.bank.position) (same_Some (items v) found (sym there ∙ found_is)) past)
+    (λ has. abreast_alike (position + count) after now alike (more position h))
+kept_part items (Err e) kept count was after now is keeps alike past more position h =
+    let none : now.found ≡ None = keeps ∙ ap (option_map items) is in
+    takes_part position count was now h
+    (λ found found_is. absurd (none-some found (sym none ∙ found_is)))
+    (λ has. absurd (none-some has.0 (sym none ∙ has.1)))

@@ -1,5 +1,5 @@
 -- Streams that are visited one after another.
-use Rattle.std.proofs.Common.{◌≡◌, ℕ, ◌+◌, ◌<◌, ◌≤◌, ℤ, List, [], ◌∷◌, ◌++◌, Some, map, take, drop, replicate}
+use Rattle.std.proofs.Common.{◌≡◌, ℕ, ◌+◌, ◌/◌, ◌<◌, ◌≤◌, ℤ, List, [], ◌∷◌, ◌++◌, Some, map, take, drop, replicate}
 use Rattle.std.proofs.Common.{append-nil, length, get_or, set, ap, sym, ◌∙◌, arith, subst, inl, inr}
 use Rattle.std.proofs.Common.{get_or-set_same, get_or-set_other}
 use Rattle.std.specs.List.{All}
@@ -10,6 +10,7 @@ use Rattle.std.proofs.Math.Seq.{get_or-append_seam, take-append_seam}
 use Rattle.frame_merge.specs.declared.candidate.Candidate.{Candidate}
 use Rattle.wide_input.specs.Candidates.{in_stream}
 use Rattle.wide_input.specs.Held.{HeldStream, HearsBlock, KeepsFit, AreAlike, HasFound, items_of, found_by, brought}
+use Rattle.wide_input.specs.Held.{IsAbreast, TakesPart, KeepsInTime}
 use Rattle.wide_input.proofs.WideLemmas.{brought-append}
 
 -- what a stream does in its job
@@ -17,6 +18,7 @@ pub record DidHear (block : List ℤ) (was now : HeldStream) : Type 0 where
   pub heard : HearsBlock block was now
   pub fits : KeepsFit now
   pub position : now.bank.position ≤ was.bank.position + length block
+  pub part : (from : ℕ) → IsAbreast from was → TakesPart from (length block) now
 
 -- a stream gave what it found: it had not wanted memory
 abbrev pub GaveFound : HeldStream → HeldStream → Type 0
@@ -94,4 +96,13 @@ pub all_marks : (n mark most : ℕ) (marks : List ℕ) → mark ≤ most → mar
 all_marks n mark most marks le is k d l =
     let size : length marks ≡ n = ap length is ∙ length-replicate n mark in
     let at : get_or marks k d ≡ mark = ap (λ t. get_or t k d) is ∙ get_or-replicate n k mark d (omega arith) in
+    omega arith
+
+-- what streams heard in their parts of a block is in time for marks where the least stream stood
+pub all_in_time : (position count : ℕ) (marks : List ℕ) (streams : List HeldStream)
+    → marks ≡ replicate 40 (position / 5) → All (TakesPart position count) streams
+    → All (KeepsInTime marks) streams
+all_in_time position count marks streams is part k d l found kept i item il j mark jl =
+    let ends = (part k d l).past found kept i item il in
+    let least = all_marks 40 (position / 5) (position / 5) marks (omega arith) is j mark jl in
     omega arith

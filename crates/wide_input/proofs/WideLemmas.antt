@@ -1,5 +1,5 @@
 -- The candidates of forty lanes: those of samples, and those that more samples bring.
-use Rattle.std.proofs.Common.{◌≡◌, ◌≢◌, ℕ, zero, suc, ◌+◌, ◌*◌, ◌/◌, ◌<◌, ◌≤◌, ℤ, List, [], ◌∷◌, ◌++◌, length, get_or}
+use Rattle.std.proofs.Common.{◌≡◌, ◌≢◌, ℕ, suc, ◌+◌, ◌*◌, ◌<◌, ◌≤◌, ℤ, List, [], ◌∷◌, ◌++◌, length, get_or}
 use Rattle.std.proofs.Common.{map, append_assoc, refl, ap, sym, subst, ◌∙◌, arith, inl, inr}
 use Rattle.std.specs.Prelude.{fold}
 use Rattle.std.specs.List.{All, AllPairs, Contains}
@@ -7,7 +7,7 @@ use Rattle.std.proofs.lemmas.Bool.{cases_lt}
 use Rattle.std.proofs.lemmas.List.{get_or-map, length-map}
 use Rattle.std.proofs.lemmas.List.Elements.{All-nil, All-append, Contains-append_left, Contains-append_right}
 use Rattle.frame_merge.specs.declared.candidate.Candidate.{Candidate}
-use Rattle.frame_merge.specs.Order.{standing, place, in_order, IsInOrder}
+use Rattle.frame_merge.specs.Order.{standing, place, IsInOrder}
 use Rattle.frame_merge.specs.Merged.{merged, below}
 use Rattle.slicer_bank.specs.Candidates.{IsCandidate, AreCandidatesBehind}
 use Rattle.slicer_bank.proofs.CandidateLemmas.{end_within, candidate_more, candidate_less, AllPairs-append}

@@ -1,6 +1,6 @@
 -- What a wide bank keeps, and what that stands for.
-use Rattle.std.specs.Prelude.{◌≡◌, ℕ, zero, suc, ◌<◌, ℤ, List, [], ◌∷◌, ◌++◌, length, map, Bool, false, Option, Some}
-use Rattle.std.specs.Prelude.{None, slice_index_or}
+use Rattle.std.specs.Prelude.{◌≡◌, ℕ, zero, suc, ◌+◌, ◌*◌, ◌/◌, ◌<◌, ◌≤◌, ℤ, List, [], ◌∷◌, ◌++◌, length, map, Bool}
+use Rattle.std.specs.Prelude.{false, Option, Some, None, slice_index_or}
 use Rattle.std.specs.List.{All}
 use Rattle.frame_merge.specs.declared.candidate.Candidate.{Candidate}
 use Rattle.frame_merge.specs.Held.{Held as HeldMerger, StandsFor as MergerStandsFor}
@@ -9,7 +9,7 @@ use Rattle.frame_merge.specs.Order.{in_order}
 use Rattle.slicer_bank.specs.declared.progress.Progress.{Progress}
 use Rattle.slicer_bank.specs.Candidates.{AreCandidatesBehind}
 use Rattle.slicer_bank.specs.Held.{HeldBank, StandsFor as BankStandsFor}
-use Rattle.slicer_bank.specs.Merging.{CanBePut}
+use Rattle.slicer_bank.specs.Merging.{CanBePut, AllPast}
 use Rattle.wide_input.specs.Streams.{stream, least_count}
 use Rattle.wide_input.specs.Candidates.{in_stream, AreWideCandidates}
 
@@ -45,6 +45,25 @@ KeepsFit held = (found : List Candidate) → held.found ≡ Some found → All C
 -- the stream had memory for what it heard
 abbrev pub HasFound : HeldStream → Type 0
 HasFound held = (found : List Candidate) × (held.found ≡ Some found)
+
+-- after so many samples of all streams, a stream has come at least as far as the least one: the place of its next sample
+-- is at most the fourth past five for each sample that it took
+abbrev pub IsAbreast : ℕ → HeldStream → Type 0
+IsAbreast position held = position + held.skipped ≤ 5 * held.bank.position + 4
+
+-- a stream had its part of a block of so many samples, from a position on: what it heard ends past where the least
+-- stream stood, and if it had memory it has come as far as the least one
+pub record TakesPart (position count : ℕ) (now : HeldStream) : Type 0 where
+  pub past : (found : List Candidate) → now.found ≡ Some found → AllPast (position / 5) found
+  pub abreast : HasFound now → IsAbreast (position + count) now
+
+-- the candidate ends at or past each mark
+abbrev pub IsPastMarks : List ℕ → Candidate → Type 0
+IsPastMarks marks item = All (λ mark. mark ≤ item.end) marks
+
+-- what a stream heard ends at or past each mark
+abbrev pub KeepsInTime : List ℕ → HeldStream → Type 0
+KeepsInTime marks held = (found : List Candidate) → held.found ≡ Some found → All (IsPastMarks marks) found
 
 abbrev pub items_of : Option (List Candidate) → List Candidate
 items_of None = []

@@ -4,7 +4,7 @@ ghost use Rattle.std.specs.Prelude.{◌≡◌, ℕ, ◌+◌, ◌<◌, ◌≤◌,
 ghost use Rattle.std.specs.List.{All};
 ghost use Rattle.frame_merge.specs.declared.candidate.Candidate.{Candidate};
 ghost use Rattle.slicer_bank.specs.Candidates.{AreCandidatesBehind};
-ghost use Rattle.slicer_bank.specs.Merging.{CanBePut};
+ghost use Rattle.slicer_bank.specs.Merging.{CanBePut, AllPast};
 ghost use Rattle.wide_input.specs.Streams.{stream};
 ghost use Rattle.wide_input.specs.Held.{next_skipped};
 
@@ -40,12 +40,14 @@ impl Model for Stream {
 }
 
 impl Stream {
-    ghost use Rattle.wide_input.specs.Held.{StreamStandsFor, HearsBlock, KeepsFit, AreAlike};
+    ghost use Rattle.wide_input.specs.Held.{StreamStandsFor, HearsBlock, KeepsFit, IsAbreast, TakesPart, AreAlike};
 
     /// The stream of a number, which has taken nothing.
     pub(crate) fn new(alloc: Global, number: u8) -> Result<Stream, OutOfMemory>
+        requires { number < 5 }
         ensures stands_for { IfOk result (λ made. StreamStandsFor number made []) }
         ensures position { IfOk result (λ made. made.bank.position ≡ 0) }
+        ensures abreast { IfOk result (λ made. IsAbreast 0 made) }
     {
         Ok(Stream {
             bank: Bank::new(alloc)?,
@@ -60,6 +62,7 @@ impl Stream {
         requires room { self.old.bank.position + length block.now < 2 ^ 48 }
         ensures heard { HearsBlock block.now self.old self.new }
         ensures fits { KeepsFit self.new }
+        ensures part { (position : ℕ) → IsAbreast position self.old → TakesPart position (length block.now) self.new }
         ensures position { self.new.bank.position ≤ self.old.bank.position + length block.now }
     {
         let heard = self.hear_part(block);
@@ -73,6 +76,9 @@ impl Stream {
             → StreamStandsFor number self.new (x ++ block.now)
             × AreCandidatesBehind (length (stream number x)) (stream number (x ++ block.now)) found.items) }
         ensures fits { IfOk result (λ found. All CanBePut found.items) }
+        ensures past { IfOk result (λ found. AllPast self.old.bank.position found.items) }
+        ensures abreast { OnOk result ((position : ℕ) → IsAbreast position self.old
+            → IsAbreast (position + length block.now) self.new) }
         ensures position { self.new.bank.position ≤ self.old.bank.position + length block.now }
     {
         self.part.clear();

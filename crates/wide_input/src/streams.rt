@@ -10,7 +10,7 @@ ghost use Rattle.wide_input.specs.Candidates.{in_stream};
 ghost use Rattle.wide_input.specs.Streams.{least_count};
 ghost use Rattle.wide_input.specs.MergedItems.{AreWideMergedBetween};
 ghost use Rattle.wide_input.specs.Held.{HeldStream, HearsBlock, KeepsFit, StreamsStandFor, AreAlike, HaveTaken};
-ghost use Rattle.wide_input.specs.Held.{HasFound, found_by, brought};
+ghost use Rattle.wide_input.specs.Held.{HasFound, IsAbreast, TakesPart, IsPastMarks, KeepsInTime, found_by, brought};
 
 use crate::stream::{STREAMS, Stream};
 use frame_merge::{Candidate, Merger};
@@ -34,6 +34,7 @@ pub(crate) fn new_streams(alloc: Global) -> Result<Vec<Stream>, OutOfMemory>
     ensures count { IfOk result (λ streams. length streams.items ≡ 5) }
     ensures stand_for { IfOk result (λ streams. StreamsStandFor streams.items []) }
     ensures positions { IfOk result (λ streams. All (λ held. held.bank.position ≤ 0) streams.items) }
+    ensures abreast { IfOk result (λ streams. All (IsAbreast 0) streams.items) }
 {
     let mut streams = Vec::new(alloc);
     for number in 0..STREAMS {
@@ -46,11 +47,13 @@ pub(crate) fn new_streams(alloc: Global) -> Result<Vec<Stream>, OutOfMemory>
 pub(crate) fn hear_in_turn(streams: &mut [Stream], position: u64, block: &[i16])
     requires streams { length streams.old ≡ 5 }
     requires positions { All (λ held. held.bank.position ≤ position) streams.old }
+    requires abreast { All (IsAbreast position) streams.old }
     requires room { position + length block.now < 2 ^ 48 }
     ensures streams { length streams.new ≡ 5 }
     ensures heard { (number : ℕ) (d : HeldStream) → number < 5
         → HearsBlock block.now (slice_index_or streams.old number d) (slice_index_or streams.new number d) }
     ensures fits { All KeepsFit streams.new }
+    ensures part { All (TakesPart position (length block.now)) streams.new }
     ensures positions { All (λ held. held.bank.position ≤ position + length block.now) streams.new }
 {
     for stream in streams.iter_mut() {
@@ -68,11 +71,13 @@ pub(crate) fn hear_on_threads<R: Threads + Sync, G: Gate>(
 )
     requires streams { length streams.old ≡ 5 }
     requires positions { All (λ held. held.bank.position ≤ position) streams.old }
+    requires abreast { All (IsAbreast position) streams.old }
     requires room { position + length block.now < 2 ^ 48 }
     ensures streams { length streams.new ≡ 5 }
     ensures heard { (number : ℕ) (d : HeldStream) → number < 5
         → HearsBlock block.now (slice_index_or streams.old number d) (slice_index_or streams.new number d) }
     ensures fits { All KeepsFit streams.new }
+    ensures part { All (TakesPart position (length block.now)) streams.new }
     ensures positions { All (λ held. held.bank.position ≤ position + length block.now) streams.new }
 {
     thread::for_each_mut(
@@ -83,6 +88,7 @@ pub(crate) fn hear_on_threads<R: Threads + Sync, G: Gate>(
             requires { (index < 5) × (stream.old.bank.position + length block.now < 2 ^ 48) }
             ensures heard { HearsBlock block.entry.now stream.old stream.new }
             ensures fits { KeepsFit stream.new }
+            ensures part { (from : ℕ) → IsAbreast from stream.old → TakesPart from (length block.entry.now) stream.new }
             ensures position { stream.new.bank.position ≤ stream.old.bank.position + length block.entry.now }
         {
             tell_lanes(gate, index as u8);
@@ -105,6 +111,7 @@ pub(crate) fn put_found(streams: &mut [Stream], merger: &mut Merger) -> Result<(
     requires streams { length streams.old ≡ 5 }
     requires fits { All KeepsFit streams.old }
     requires marks { length merger.old.marks ≡ 40 }
+    requires in_time { All (KeepsInTime merger.old.marks) streams.old }
     ensures streams { length streams.new ≡ 5 }
     ensures alike { OnOk result ((number : ℕ) (d : HeldStream) → number < 5
         → AreAlike (slice_index_or streams.new number d) (slice_index_or streams.old number d)) }
@@ -125,6 +132,7 @@ fn put_stream(merger: &mut Merger, number: u8, found: Vec<Candidate>) -> Result<
     requires number { number < 5 }
     requires fits { All CanBePut found.items }
     requires marks { length merger.old.marks ≡ 40 }
+    requires in_time { All (IsPastMarks merger.old.marks) found.items }
     ensures stands_for { OnOk result ((puts given : List Candidate) → MergerStandsFor merger.old puts given
         → MergerStandsFor merger.new (puts ++ map (in_stream number) found.items) given) }
     ensures marks { merger.new.marks ≡ merger.old.marks }
@@ -135,10 +143,7 @@ fn put_stream(merger: &mut Merger, number: u8, found: Vec<Candidate>) -> Result<
             offset: OFFSETS * number + heard.offset,
             octets: heard.octets,
         };
-        // No item is late, so want of memory is the one refusal.
-        let Ok(()) = merger.put(item) else {
-            return Err(OutOfMemory);
-        };
+        merger.put_in_time(item)?;
     }
     Ok(())
 }
@@ -155,6 +160,7 @@ pub(crate) fn merge_found(
     requires room { position < 2 ^ 48 }
     requires lanes { length merger.old.marks ≡ 40 }
     requires marks { All (λ mark. mark ≤ position / 5) merger.old.marks }
+    requires in_time { All (KeepsInTime merger.old.marks) streams.old }
     ensures given { IfOk result (λ ready. (before : List HeldStream) (x y : List ℤ) → length (x ++ y) ≡ position
         → ((number : ℕ) (d : HeldStream) → number < 5
         → HearsBlock y (slice_index_or before number d) (slice_index_or streams.old number d))
@@ -165,6 +171,8 @@ pub(crate) fn merge_found(
     ensures marks { OnOk result (merger.new.marks ≡ replicate 40 (position / 5)) }
     ensures positions { OnOk result ((most : ℕ) → All (λ held. held.bank.position ≤ most) streams.old
         → All (λ held. held.bank.position ≤ most) streams.new) }
+    ensures abreast { OnOk result ((from count : ℕ) → All (TakesPart from count) streams.old
+        → All (IsAbreast (from + count)) streams.new) }
 {
     put_found(streams, merger)?;
     merger.mark_all(position / STREAMS as u64);

@@ -6,7 +6,7 @@ ghost use Rattle.std.specs.List.{All};
 ghost use Rattle.slicer_bank.specs.Progress.{Finishes, TakesBlock};
 ghost use Rattle.wide_input.specs.Streams.{least_count};
 ghost use Rattle.wide_input.specs.MergedItems.{AreWideMergedBetween, AreWideRest};
-ghost use Rattle.wide_input.specs.Held.{HeldStream, HearsBlock, KeepsFit, HaveTaken, StandsFor, progress};
+ghost use Rattle.wide_input.specs.Held.{HeldStream, HearsBlock, KeepsFit, TakesPart, HaveTaken, StandsFor, progress};
 
 use crate::stream::{STREAMS, Stream};
 use crate::streams::{LANES, hear_in_turn, hear_on_threads, merge_found, new_streams};
@@ -33,7 +33,7 @@ pub struct WideBank {
 
 impl Model for WideBank {
     ghost use Rattle.std.specs.Prelude.{◌≡◌, ◌≤◌, ◌/◌, false, length, replicate, All};
-    ghost use Rattle.wide_input.specs.Held.{HeldWide};
+    ghost use Rattle.wide_input.specs.Held.{HeldWide, IsAbreast};
 
     ghost Value = { HeldWide };
 
@@ -48,6 +48,7 @@ impl Model for WideBank {
     ghost invariant = { λ s. (length s.streams.items ≡ 5)
         × (s.progress.spent ≡ false → s.progress.finished ≡ false
         → All (λ held. held.bank.position ≤ s.progress.position) s.streams.items
+        × All (IsAbreast s.progress.position) s.streams.items
         × (s.merger.marks ≡ replicate 40 (s.progress.position / 5))) };
 }
 
@@ -105,6 +106,7 @@ impl WideBank {
     fn settle(&mut self, count: usize) -> Result<Vec<Candidate>, OutOfMemory>
         requires room { self.old.position + count < 2 ^ 48 }
         requires fits { All KeepsFit self.old.streams }
+        requires part { All (TakesPart self.old.position count) self.old.streams }
         requires spent { self.old.spent ≡ true }
         requires marks { self.old.merger.marks ≡ replicate 40 (self.old.position / 5) }
         requires positions { All (λ held. held.bank.position ≤ self.old.position + count) self.old.streams }

@@ -1,8 +1,7 @@
-use Rattle.std.proofs.Common.{◌≡◌, ◌+◌, ◌-◌, ◌++◌, ◌∷◌, [], ℕ, ℤ, List, suc, take, get_or, pos, ap, sym, ◌∙◌}
+use Rattle.std.proofs.Common.{◌≡◌, ◌-◌, ◌++◌, ◌∷◌, [], ℕ, ℤ, List, suc, take, get_or, pos, ap, sym, ◌∙◌}
 use Rattle.std.proofs.Common.{append_assoc, arith}
 use Rattle.std.proofs.lemmas.Grind.{common_steps}
 use Rattle.wide_input.specs.Streams.{stream}
-use Rattle.wide_input.specs.Held.{next_skipped}
 use Rattle.wide_input.proofs.StreamLemmas.{step_taken, step_skipped}
 use Rattle.wide_input.proofs.stream.take_part.Goals as goal
 use Rattle.wide_input.proofs.stream.take_part.Goals.{then-left-gt0, else-left-gt0+in_ok-append}

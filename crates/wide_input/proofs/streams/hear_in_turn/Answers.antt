@@ -8,7 +8,7 @@ loop-stream-preserved c =
     let Did : HeldStream → HeldStream → Type 0 = DidHear c.args.block.now in
     let heard = c.hear.ensures in
     let did : Did (get_or c.loop-stream.streams c.loop-stream.stream-index c.stream-item.result) c.hear.new.self
-    = record { heard = heard.heard; fits = heard.fits; position = heard.position } in
+    = record { heard = heard.heard; fits = heard.fits; position = heard.position; part = heard.part } in
     visited_more Did c.args.streams.now c.loop-stream.streams c.loop-stream.stream-index c.stream-item.result
     c.hear.new.self c.loop-stream.invariant c.loop-stream-test.true did
 

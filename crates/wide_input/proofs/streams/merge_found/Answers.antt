@@ -1,8 +1,8 @@
-use Rattle.std.proofs.Common.{◌≡◌, ◌+◌, ◌/◌, ◌^◌, ◌<◌, ◌≤◌, ◌++◌, ◌∙◌, ℕ, List, ap, sym, subst, length, map, replicate}
-use Rattle.std.proofs.Common.{arith}
-use Rattle.std.specs.List.{All}
+use Rattle.std.proofs.Common.{◌≡◌, ◌+◌, ◌/◌, ◌^◌, ◌<◌, ◌≤◌, ◌++◌, ◌∙◌, ap, sym, subst, length, map, replicate}
+use Rattle.std.proofs.Common.{arith, get_or}
 use Rattle.slicer_bank.specs.Held.{HeldBank}
 use Rattle.wide_input.specs.Held.{brought, found_by}
+use Rattle.wide_input.proofs.StreamLemmas.{abreast_alike}
 use Rattle.wide_input.proofs.WideSteps.{taken_more}
 use Rattle.wide_input.proofs.streams.merge_found.Goals as goal
 
@@ -26,3 +26,11 @@ returns-clause-positions c = λ most each k d l.
     let still = c.put_found.ensures.streams in
     let same = c.in_ok-put_found.ensures.alike k d (omega arith) in
     subst (λ (b : HeldBank). b.position ≤ most) (sym same.bank) (each k d (omega arith))
+
+pub returns-clause-abreast : goal.returns-clause-abreast
+returns-clause-abreast c = λ from count each k d l.
+    let five = c.requires.streams in
+    let still = c.put_found.ensures.streams in
+    let put = c.in_ok-put_found.ensures in
+    abreast_alike (from + count) (get_or c.args.streams.now k d) (get_or c.put_found.new.streams k d)
+    (put.alike k d (omega arith)) ((each k d (omega arith)).abreast (put.kept k d (omega arith)))

@@ -1,8 +1,8 @@
-use Rattle.std.proofs.Common.{◌≡◌, ◌≤◌, ◌+◌, ◌++◌, ◌∷◌, [], ℕ, ap, sym, subst, ◌∙◌, arith, length, get_or}
+use Rattle.std.proofs.Common.{◌≤◌, ◌+◌, ◌∷◌, [], ℕ, ap, sym, subst, ◌∙◌, arith, length, get_or}
 use Rattle.std.specs.List.{All}
 use Rattle.std.proofs.lemmas.List.{length_push}
 use Rattle.std.proofs.lemmas.List.Elements.{All-append, All-cons, All-nil}
-use Rattle.wide_input.specs.Held.{HeldStream, StreamStandsFor}
+use Rattle.wide_input.specs.Held.{HeldStream, StreamStandsFor, IsAbreast}
 use Rattle.wide_input.proofs.Visits.{each_push}
 use Rattle.wide_input.proofs.streams.new_streams.Goals as goal
 
@@ -20,4 +20,6 @@ loop-number-preserved c =
           before.stand_for c.in_ok-new.ensures.stands_for k d l);
       positions = subst (All P) (sym items) (All-append P c.loop-number.streams.items (made ∷ []) before.positions
           (All-cons P made [] (let at = c.in_ok-new.ensures.position in omega arith) (All-nil P)));
+      abreast = subst (All (IsAbreast 0)) (sym items) (All-append (IsAbreast 0) c.loop-number.streams.items (made ∷ [])
+          before.abreast (All-cons (IsAbreast 0) made [] c.in_ok-new.ensures.abreast (All-nil (IsAbreast 0))));
     }

@@ -11,12 +11,13 @@ loop-heard-preserved c =
     let f : Candidate → Candidate = in_stream c.args.number in
     let heard : Candidate = c.in-Some.heard in
     let rest : List Candidate = c.next.new.self.rest.items in
-    subst (λ t. HasPut c.args.merger.now c.put.new.self (map f c.args.found.items) t (map f rest)
+    subst (λ t. HasPut c.args.merger.now c.put_in_time.new.self (map f c.args.found.items) t (map f rest)
     c.next.new.self.rest.len) (sym (map-append f c.loop-heard.yielded (heard ∷ [])))
-    (has_put_more c.args.merger.now c.loop-heard.merger c.put.new.self (map f c.args.found.items)
+    (has_put_more c.args.merger.now c.loop-heard.merger c.put_in_time.new.self (map f c.args.found.items)
     (map f c.loop-heard.yielded) (map f c.loop-heard.heard-iterator.rest.items) (map f rest)
     c.loop-heard.heard-iterator.rest.len c.next.new.self.rest.len (f heard) c.loop-heard.invariant
-    (ap (map f) c.in-Some.ensures.steps.0) c.in-Some.ensures.steps.1 c.in-Ok.ensures.marks c.in-Ok.ensures.ok)
+    (ap (map f) c.in-Some.ensures.steps.0) c.in-Some.ensures.steps.1 c.in_ok-put_in_time.ensures.marks
+    c.in_ok-put_in_time.ensures.ok)
 
 pub returns-clause-stands_for : goal.returns-clause-stands_for
 returns-clause-stands_for c = λ puts given h.

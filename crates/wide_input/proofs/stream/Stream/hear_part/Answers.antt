@@ -1,11 +1,13 @@
 use Rattle.std.proofs.Common.{◌≡◌, ◌+◌, ◌≤◌, ◌++◌, ◌∙◌, ℕ, ℤ, List, ap, sym, subst, length}
-use Rattle.std.specs.Prelude.{IfOk, option_map}
+use Rattle.std.specs.Prelude.{IfOk, OnOk, option_map}
 use Rattle.std.proofs.lemmas.Result.{IfOk-weaker}
 use Rattle.slicer_bank.specs.Candidates.{AreCandidatesBehind}
 use Rattle.slicer_bank.specs.Held.{StandsFor as BankStandsFor}
+use Rattle.slicer_bank.specs.Merging.{AllPast}
 use Rattle.wide_input.specs.Streams.{stream}
-use Rattle.wide_input.specs.Held.{HeldStream, StreamStandsFor}
-use Rattle.wide_input.proofs.StreamLemmas.{heard_part, position_past, stream-few, part_fits, part_ends}
+use Rattle.wide_input.specs.Held.{HeldStream, StreamStandsFor, IsAbreast}
+use Rattle.wide_input.proofs.StreamLemmas.{heard_part, position_past, stays_abreast, stream-few, part_fits}
+use Rattle.wide_input.proofs.StreamLemmas.{part_ends}
 use Rattle.wide_input.proofs.stream.Stream.hear_part.Goals as goal
 
 pub feed-requires : goal.feed-requires
@@ -62,3 +64,30 @@ returns-clause-position c =
     part_ends c.self.inside.bank.position c.args.self.now.bank.position c.feed.new.self.position
     (length c.deref.result.now) (length c.args.block.now) (ap (λ (h : HeldStream). h.bank.position) c.self.view_is) few
     past
+
+pub returns-clause-past : goal.returns-clause-past
+returns-clause-past c =
+    subst (λ (old : HeldStream). IfOk c.feed.result (λ found. AllPast old.bank.position found.items)) c.self.view_is
+    c.feed.ensures.past
+
+pub returns-clause-abreast : goal.returns-clause-abreast
+returns-clause-abreast c =
+    let block : List ℤ = c.args.block.now in
+    let part : c.deref.result.now ≡ stream c.self.inside.skipped block
+    = c.deref.ensures.value ∙ c.in_ok-self-inside.ensures.part
+    ∙ ap (λ t. t ++ stream c.self.inside.skipped block) c.clear.ensures.items in
+    let was : HeldStream = record {
+      bank = c.self.inside.bank;
+      skipped = c.self.inside.skipped;
+      found = option_map (λ v. v.items) c.self.inside.found;
+    } in
+    let now : HeldStream = record {
+      bank = c.feed.new.self;
+      skipped = c.in_ok-self-inside.field-0;
+      found = option_map (λ v. v.items) c.self.inside.found;
+    } in
+    subst (λ (old : HeldStream). OnOk c.feed.result ((position : ℕ) → IsAbreast position old
+    → IsAbreast (position + length block) now)) c.self.view_is
+    (stays_abreast c.feed.result was now block c.in_ok-self-inside.ensures.skipped
+    (subst (λ t. OnOk c.feed.result (c.feed.new.self.position ≡ c.self.inside.bank.position + length t)) part
+    c.feed.ensures.position))

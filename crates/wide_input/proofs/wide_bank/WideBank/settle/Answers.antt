@@ -3,8 +3,9 @@ use Rattle.std.proofs.Common.{length-append, get_or, take, drop, replicate, fals
 use Rattle.std.specs.List.{All}
 use Rattle.wide_input.specs.Streams.{least_count}
 use Rattle.wide_input.specs.MergedItems.{AreWideMergedBetween}
-use Rattle.wide_input.specs.Held.{HeldStream, HeldWide, HearsBlock, HaveTaken, StandsFor}
-use Rattle.wide_input.proofs.Visits.{given_back, all_marks}
+use Rattle.wide_input.specs.Held.{HeldStream, HeldWide, HearsBlock, IsAbreast, TakesPart, KeepsInTime, HaveTaken}
+use Rattle.wide_input.specs.Held.{StandsFor}
+use Rattle.wide_input.proofs.Visits.{given_back, all_marks, all_in_time}
 use Rattle.wide_input.proofs.wide_bank.WideBank.settle.Goals as goal
 
 pub merge_found-requires-clause-marks : goal.merge_found-requires-clause-marks
@@ -14,6 +15,16 @@ merge_found-requires-clause-marks c =
     all_marks 40 (c.self.inside.progress.position / 5) ((c.self.inside.progress.position + c.args.count) / 5)
     c.self.inside.merger.marks
     (omega arith) marks
+
+pub merge_found-requires-clause-in_time : goal.merge_found-requires-clause-in_time
+merge_found-requires-clause-in_time c =
+    let was = c.self.inside in
+    let marks = subst (λ (h : HeldWide). h.merger.marks ≡ replicate 40 (h.position / 5)) (sym c.self.view_is)
+    c.requires.marks in
+    let part = subst (λ (h : HeldWide). All (TakesPart h.position c.args.count) h.streams) (sym c.self.view_is)
+    c.requires.part in
+    subst (All (KeepsInTime was.merger.marks)) (sym c.deref_mut.ensures.value)
+    (all_in_time was.progress.position c.args.count was.merger.marks was.streams.items marks part)
 
 pub invariant_of-self-2 : goal.invariant_of-self-2
 invariant_of-self-2 c =
@@ -26,12 +37,20 @@ invariant_of-self-2 c =
     let P : HeldStream → Type 0 = λ held. held.bank.position ≤ most in
     let before : All P c.self.inside.streams.items
     = subst (λ (h : HeldWide). All (λ (held : HeldStream). held.bank.position ≤ h.position + c.args.count) h.streams)
-    (sym c.self.view_is) c.requires.positions in (
+    (sym c.self.view_is) c.requires.positions in
+    let part : All (TakesPart c.self.inside.progress.position c.args.count) c.self.inside.streams.items
+    = subst (λ (h : HeldWide). All (TakesPart h.position c.args.count) h.streams) (sym c.self.view_is) c.requires.part
+    in (
       ap length back ∙ c.merge_found.ensures.streams,
       λ unspent unfinished. (
         subst (λ (n : ℕ). All (λ (held : HeldStream). held.bank.position ≤ n) lent) (sym c.take.ensures.position)
             (subst (All P) (sym back) (c.in_ok-items.ensures.positions most
             (subst (All P) (sym c.deref_mut.ensures.value) before))),
+        subst (λ (n : ℕ). All (IsAbreast n) lent) (sym c.take.ensures.position)
+            (subst (All (IsAbreast most)) (sym back)
+            (c.in_ok-items.ensures.abreast c.self.inside.progress.position c.args.count
+            (subst (All (TakesPart c.self.inside.progress.position c.args.count)) (sym c.deref_mut.ensures.value)
+            part))),
         c.in_ok-items.ensures.marks ∙ ap (λ n. replicate 40 (n / 5)) (sym c.take.ensures.position),
       ),
     )
