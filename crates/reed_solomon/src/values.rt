@@ -1,6 +1,6 @@
 // Values of words at powers.
 
-ghost use Rattle.std.specs.Prelude.{◌≡◌, ◌+◌, ◌≤◌, ℕ, length};
+ghost use Rattle.std.specs.Prelude.{◌≡◌, ◌+◌, ◌≤◌};
 ghost use Rattle.reed_solomon.specs.Kernel.{values_down};
 ghost use Rattle.reed_solomon.specs.Values.{value_at};
 

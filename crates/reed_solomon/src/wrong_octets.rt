@@ -4,12 +4,10 @@
 // more points than octets can be repaired. The product of the differences to all these points but one is 0 at all of
 // them but one, so its sum with the syndromes is the one wrong octet's share.
 
-ghost use Rattle.std.specs.Prelude.{◌≡◌, ◌≢◌, ◌+◌, ◌*◌, ◌/◌, ◌%◌, ◌<◌, ◌≤◌, ◌==◌, ℕ, Bool, true, false, List, ◌∷◌};
-ghost use Rattle.std.specs.Prelude.{length};
+ghost use Rattle.std.specs.Prelude.{◌≡◌, ◌≢◌, ◌+◌, ◌*◌, ◌/◌, ◌%◌, ◌<◌, ◌≤◌, ◌==◌, ℕ, true, false, List, ◌∷◌, length};
 ghost use Rattle.std.specs.Prelude.{slice_index_or, All};
-ghost use Rattle.reed_solomon.specs.Distance.{distance};
 ghost use Rattle.reed_solomon.specs.Kernel.{IsWrong, count_true, octet_before, values_down};
-ghost use Rattle.reed_solomon.specs.Values.{Vanishes, value_at};
+ghost use Rattle.reed_solomon.specs.Values.{value_at};
 
 use crate::code::MOST_CHECK_OCTETS;
 use crate::field::{inverse, power, product, times_power};
