@@ -2,8 +2,8 @@
 
 ghost use Rattle.std.specs.Prelude.{◌≡◌, ◌+◌, ◌-◌, ◌<◌, ◌≤◌, ◌++◌, ℕ, List, All, length, take, drop, replicate};
 ghost use Rattle.arrayvec.specs.ArrayVec.{array_vec_len};
-ghost use Rattle.reed_solomon.specs.Codeword.{whole, with_zeros};
-ghost use Rattle.reed_solomon.specs.Register.{zeros_after, zeros_before};
+ghost use Rattle.reed_solomon.specs.Codeword.{with_zeros};
+ghost use Rattle.reed_solomon.specs.Register.{whole, zeros_after, zeros_before};
 
 use crate::code::{Code, Zeros};
 use arrayvec::ArrayVec;
