@@ -9,9 +9,9 @@ use Rattle.std.proofs.lemmas.List.{take_at, drop_at}
 use Rattle.reed_solomon.specs.declared.code.Code.{Code}
 use Rattle.reed_solomon.specs.declared.code.Zeros.{Zeros}
 use Rattle.reed_solomon.specs.declared.code.Zeros.TheVariants.{Leading, Between}
-use Rattle.reed_solomon.specs.Codeword.{whole, with_zeros, ChecksOf, IsCodeword, IsWithinReach}
+use Rattle.reed_solomon.specs.Codeword.{whole_of, with_zeros, IsCodeword, IsWithinReach}
 use Rattle.reed_solomon.specs.Distance.{distance}
-use Rattle.reed_solomon.specs.Register.{added}
+use Rattle.reed_solomon.specs.Register.{added, whole, ChecksOf}
 use Rattle.reed_solomon.specs.Values.{value_at, Vanishes}
 use Rattle.reed_solomon.proofs.FieldLemmas.{same_from_xor}
 use Rattle.reed_solomon.proofs.ValueLemmas.{Octets, Octets-append, Octets-added, Octets-replicate, length-added}
@@ -136,20 +136,20 @@ distance-with_zeros Between n xs ys size =
 
 pub length-whole : (code : Code) (xs check : List ℕ) → length xs + code.check_count ≤ 255
     → length check ≡ code.check_count → length (whole code xs check) ≡ 255
-unfolding whole
+unfolding whole_of
 length-whole code xs check short size =
     let n = 255 - code.check_count - length xs in
     omega (arith, length-append (with_zeros code.zeros n xs) check, length-with_zeros code.zeros n xs)
 
 pub Octets-whole : (code : Code) (xs check : List ℕ) → Octets xs → Octets check → Octets (whole code xs check)
-unfolding whole
+unfolding whole_of
 Octets-whole code xs check xs_octets octets =
     let n = 255 - code.check_count - length xs in
     Octets-append (with_zeros code.zeros n xs) check (Octets-with_zeros code.zeros n xs xs_octets) octets
 
 pub distance-whole : (code : Code) (xs ys check other : List ℕ) → length xs ≡ length ys
     → distance (whole code xs check) (whole code ys other) ≡ distance xs ys + distance check other
-unfolding whole
+unfolding whole_of
 distance-whole code xs ys check other size =
     let n = 255 - code.check_count - length xs in
     let m = 255 - code.check_count - length ys in

@@ -45,3 +45,13 @@ fx25_second = refl
 two_apart : distance (1 ∷ 2 ∷ 3 ∷ 4 ∷ []) (1 ∷ 0 ∷ 3 ∷ 5 ∷ []) ≡ 2
 unfolding distance
 two_apart = refl
+
+-- A block whose octets are wrong at the powers 251 and 7: the kernel of its syndromes is x^2 + 88 x + 8, which is 0 at
+-- both points.
+kernel_at_251 : value_at 251 (1 ∷ 88 ∷ 8 ∷ []) ≡ 0
+unfolding value_at double times_power
+kernel_at_251 = refl
+
+kernel_at_7 : value_at 7 (1 ∷ 88 ∷ 8 ∷ []) ≡ 0
+unfolding value_at double times_power
+kernel_at_7 = refl

@@ -6,10 +6,10 @@ use Rattle.std.proofs.lemmas.List.{take-append-drop}
 use Rattle.reed_solomon.specs.declared.code.Code.{Code}
 use Rattle.reed_solomon.specs.declared.code.Zeros.{Zeros}
 use Rattle.reed_solomon.specs.declared.code.Zeros.TheVariants.{Leading, Between}
-use Rattle.reed_solomon.specs.Codeword.{whole, with_zeros, IsCodeword, IsWithinReach}
+use Rattle.reed_solomon.specs.Codeword.{with_zeros, IsCodeword, IsWithinReach}
 use Rattle.reed_solomon.specs.Distance.{distance}
 use Rattle.reed_solomon.specs.Kernel.{IsWrong}
-use Rattle.reed_solomon.specs.Register.{zeros_before}
+use Rattle.reed_solomon.specs.Register.{whole, zeros_before}
 use Rattle.reed_solomon.proofs.DistanceLemmas.{length-with_zeros, length-whole, Octets-whole, distance-whole}
 use Rattle.reed_solomon.proofs.DistanceLemmas.{distance-append}
 use Rattle.reed_solomon.proofs.ValueLemmas.{Octets}

@@ -11,18 +11,19 @@ abbrev pub with_zeros : Zeros → ℕ → List ℕ → List ℕ
 with_zeros Leading n octets = replicate n 0 ++ octets
 with_zeros Between n octets = octets ++ replicate n 0
 
--- data and check octets as a word of 255 octets
-unfoldable pub whole : Code → List ℕ → List ℕ → List ℕ
-whole code octets check = with_zeros code.zeros (255 - code.check_count - length octets) octets ++ check
+-- data octets and so many check octets as a word of 255 octets
+unfoldable pub whole_of : Zeros → ℕ → List ℕ → List ℕ → List ℕ
+whole_of zeros count octets check = with_zeros zeros (255 - count - length octets) octets ++ check
 
--- data and check octets are a codeword: as a polynomial, the whole word is 0 at each root of the code
-abbrev pub ChecksOf : Code → List ℕ → List ℕ → Type 0
-ChecksOf code octets check = Vanishes code.first_root code.check_count (whole code octets check)
+-- The last octets of a word, so many, are its check octets. The word is a codeword if, as a polynomial, it is 0 at
+-- power(first_root) and the powers that follow, one for each check octet.
+abbrev pub IsCodewordOf : ℕ → ℕ → Zeros → List ℕ → Type 0
+IsCodewordOf first_root count zeros word =
+    let n = length word - count in Vanishes first_root count (whole_of zeros count (take n word) (drop n word))
 
--- a word whose last octets are its check octets is a codeword
+-- the same by a code
 abbrev pub IsCodeword : Code → List ℕ → Type 0
-IsCodeword code word =
-    let n = length word - code.check_count in ChecksOf code (take n word) (drop n word)
+IsCodeword code word = IsCodewordOf code.first_root code.check_count code.zeros word
 
 -- v is a codeword that differs from a word in at most half as many octets as there are check octets
 pub record IsWithinReach (code : Code) (word v : List ℕ) : Type 0 where

@@ -1,8 +1,11 @@
 -- The register of the check octets. No public clause cites it.
 use Rattle.std.specs.Prelude.{ℕ, zero, suc, ◌+◌, List, [], ◌∷◌, ◌++◌, map, drop, slice_index, bit_xor}
+use Rattle.reed_solomon.specs.declared.code.Code.{Code}
 use Rattle.reed_solomon.specs.declared.code.Zeros.{Zeros}
 use Rattle.reed_solomon.specs.declared.code.Zeros.TheVariants.{Leading, Between}
+use Rattle.reed_solomon.specs.Codeword.{whole_of}
 use Rattle.reed_solomon.specs.Field.{power}
+use Rattle.reed_solomon.specs.Values.{Vanishes}
 use Rattle.reed_solomon.specs.Product.{product}
 
 -- lists of one length added place by place
@@ -34,3 +37,11 @@ zeros_after Between n = n
 abbrev pub zeros_before : Zeros → ℕ → ℕ
 zeros_before Leading n = n
 zeros_before Between n = 0
+
+-- data and check octets of a code as a word of 255 octets
+abbrev pub whole : Code → List ℕ → List ℕ → List ℕ
+whole code octets check = whole_of code.zeros code.check_count octets check
+
+-- data and check octets that are a codeword
+abbrev pub ChecksOf : Code → List ℕ → List ℕ → Type 0
+ChecksOf code octets check = Vanishes code.first_root code.check_count (whole code octets check)

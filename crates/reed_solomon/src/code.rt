@@ -1,13 +1,16 @@
-// The numbers of a code.
+// Which code it is: its roots, its check octets, and where it is shortened.
 
 ghost use Rattle.std.specs.Prelude.{◌≡◌, ◌<◌, ◌≤◌, ◌%◌, ◌↔◌, IsSome, IfSome};
+
+/// The most check octets that a code has.
+pub const MOST_CHECK_OCTETS: usize = 64;
 
 /// Where the zeros stand that a shortened code leaves out.
 #[derive(Clone, Copy, PartialEq, Eq, Debug, Drop)]
 pub enum Zeros {
-    /// Before the data octets, as in IL2P: the first octet sent has the power of its distance from the last one.
+    /// Before the data octets, as IL2P has them.
     Leading,
-    /// Between data and check octets, as in FX.25: the first octet sent always has the power 254.
+    /// Between data and check octets, as FX.25 has them: the first octet sent always stands at the power 254.
     Between,
 }
 
@@ -33,7 +36,11 @@ impl Code {
         ensures exactly { IsSome result
             ↔ ((first_root < 255) × (2 ≤ check_count) × (check_count ≤ 64) × (check_count % 2 ≡ 0)) }
     {
-        if first_root == u8::MAX || check_count < 2 || check_count > 64 || check_count % 2 != 0 {
+        if first_root == u8::MAX
+            || check_count < 2
+            || check_count > MOST_CHECK_OCTETS
+            || check_count % 2 != 0
+        {
             return None;
         }
         Some(Code {
@@ -56,6 +63,9 @@ impl Code {
     {
         self.check_count
     }
+
+    /// The most check octets that a code has.
+    pub const MOST_CHECK_OCTETS: usize = 64;
 
     /// Where the zeros stand that a shortened code leaves out.
     pub fn zeros(&self) -> Zeros

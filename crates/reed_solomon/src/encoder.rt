@@ -6,13 +6,13 @@ ghost use Rattle.reed_solomon.specs.Codeword.{IsCodeword};
 ghost use Rattle.reed_solomon.specs.Register.{taken};
 
 use crate::add_multiple::add_multiple;
-use crate::code::Code;
+use crate::code::{Code, MOST_CHECK_OCTETS};
 use crate::generator::generator;
 use crate::words::zeros_after;
 use arrayvec::ArrayVec;
 
 /// The check octets of data: the only octets that, after the data, make a codeword.
-pub fn check_octets(code: &Code, octets: &[u8]) -> ArrayVec<u8, 64>
+pub fn check_octets(code: &Code, octets: &[u8]) -> ArrayVec<u8, MOST_CHECK_OCTETS>
     requires { length octets.now + code.now.check_count ≤ 255 }
     ensures count { array_vec_len result ≡ code.now.check_count }
     ensures codeword { IsCodeword code.now (octets.now ++ result.items) }
@@ -30,7 +30,7 @@ pub fn check_octets(code: &Code, octets: &[u8]) -> ArrayVec<u8, 64>
     register
 }
 
-fn zero_register(count: usize) -> ArrayVec<u8, 64>
+fn zero_register(count: usize) -> ArrayVec<u8, MOST_CHECK_OCTETS>
     requires { count ≤ 64 }
     ensures { result.items ≡ replicate count 0 }
 {
@@ -42,7 +42,7 @@ fn zero_register(count: usize) -> ArrayVec<u8, 64>
 }
 
 // The register after one octet more.
-fn take(register: &mut ArrayVec<u8, 64>, generator: &[u8], octet: u8)
+fn take(register: &mut ArrayVec<u8, MOST_CHECK_OCTETS>, generator: &[u8], octet: u8)
     requires some { 0 < array_vec_len register.old }
     requires most { array_vec_len register.old ≤ 64 }
     requires size { array_vec_len register.old ≡ length generator.now }

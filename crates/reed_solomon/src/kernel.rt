@@ -10,10 +10,14 @@ ghost use Rattle.std.specs.Prelude.{IfSome, IfNone};
 ghost use Rattle.reed_solomon.specs.Kernel.{AddsMultiple, IsBasis, IsMultiple, Meet, dot, row};
 
 use crate::add_multiple::add_multiple;
+use crate::code::MOST_CHECK_OCTETS;
 use crate::field::{inverse, product};
 
+// One more than the most octets that are repaired.
+const MOST_COEFFICIENTS: usize = MOST_CHECK_OCTETS / 2 + 1;
+
 // A list of coefficients, that of the highest power first. With c check octets the first c / 2 + 1 count.
-pub type Row = [u8; 33];
+pub type Row = [u8; MOST_COEFFICIENTS];
 
 // A list that meets each equation of the syndromes and is not 0.
 pub fn kernel(syndromes: &[u8]) -> Row
@@ -24,7 +28,7 @@ pub fn kernel(syndromes: &[u8]) -> Row
     ensures size { length result ≡ 33 }
 {
     let most = syndromes.len() / 2;
-    let mut rows = [[0; 33]; 33];
+    let mut rows = [[0; MOST_COEFFICIENTS]; MOST_COEFFICIENTS];
     for k in 0..most + 1 {
         rows[k] = unit(k);
     }
@@ -49,7 +53,7 @@ fn unit(place: usize) -> Row
     ensures here { slice_index result place ≡ 1 }
     ensures elsewhere { (u : ℕ) → u ≢ place → slice_index result u ≡ 0 }
 {
-    let mut row = [0; 33];
+    let mut row = [0; MOST_COEFFICIENTS];
     row[place] = 1;
     row
 }
@@ -99,7 +103,7 @@ fn normal(row: &Row, equation: &[u8]) -> Row
     ensures multiple { IsMultiple row.now result }
     ensures one { dot result equation.now ≡ 1 }
 {
-    let mut multiple = [0; 33];
+    let mut multiple = [0; MOST_COEFFICIENTS];
     add_multiple(&mut multiple, inverse(dot(row, equation)), row);
     multiple
 }

@@ -19,7 +19,7 @@ mod values;
 mod words;
 mod wrong_octets;
 
-pub use code::{Code, Zeros};
+pub use code::{Code, MOST_CHECK_OCTETS, Zeros};
 pub use decoder::{NoCodeword, is_codeword, repair};
 pub use encoder::check_octets;
 pub use laws::{check_octets_are_one, codewords_are_apart, one_codeword_is_within_reach};

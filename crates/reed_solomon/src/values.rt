@@ -1,9 +1,10 @@
 // Values of words at powers.
 
-ghost use Rattle.std.specs.Prelude.{◌≡◌, ◌+◌, ◌≤◌, ℕ, length};
+ghost use Rattle.std.specs.Prelude.{◌≡◌, ◌+◌, ◌≤◌};
 ghost use Rattle.reed_solomon.specs.Kernel.{values_down};
 ghost use Rattle.reed_solomon.specs.Values.{value_at};
 
+use crate::code::MOST_CHECK_OCTETS;
 use crate::field::times_power;
 use arrayvec::ArrayVec;
 
@@ -19,7 +20,7 @@ pub fn value_at(j: usize, octets: &[u8]) -> u8
 }
 
 // The values at each root of a code, that of the last root first.
-pub fn syndromes(first_root: u8, count: usize, word: &[u8]) -> ArrayVec<u8, 64>
+pub fn syndromes(first_root: u8, count: usize, word: &[u8]) -> ArrayVec<u8, MOST_CHECK_OCTETS>
     requires { count ≤ 64 }
     ensures { result.items ≡ values_down word.now first_root count }
 {

@@ -2,15 +2,19 @@
 
 ghost use Rattle.std.specs.Prelude.{◌≡◌, ◌+◌, ◌-◌, ◌<◌, ◌≤◌, ◌++◌, ℕ, List, All, length, take, drop, replicate};
 ghost use Rattle.arrayvec.specs.ArrayVec.{array_vec_len};
-ghost use Rattle.reed_solomon.specs.Codeword.{whole, with_zeros};
-ghost use Rattle.reed_solomon.specs.Register.{zeros_after, zeros_before};
+ghost use Rattle.reed_solomon.specs.Codeword.{with_zeros};
+ghost use Rattle.reed_solomon.specs.Register.{whole, zeros_after, zeros_before};
 
 use crate::code::{Code, Zeros};
 use arrayvec::ArrayVec;
 
-pub type Word = ArrayVec<u8, 255>;
+// How many octets a word has with the zeros that a shortened code leaves out.
+pub const WHOLE_LENGTH: usize = 255;
 
-// A word of 255 octets.
+// At most so many octets.
+pub type Word = ArrayVec<u8, WHOLE_LENGTH>;
+
+// A word with those zeros.
 pub fn whole_word(code: &Code, word: &[u8]) -> Word
     requires least { code.now.check_count ≤ length word.now }
     requires most { length word.now ≤ 255 }
@@ -19,7 +23,7 @@ pub fn whole_word(code: &Code, word: &[u8]) -> Word
     ensures octets { All (λ x. x < 256) result.items }
 {
     let (octets, check) = word.split_at(word.len() - code.check_count());
-    let mut whole = with_zeros(code.zeros(), 255 - word.len(), octets);
+    let mut whole = with_zeros(code.zeros(), WHOLE_LENGTH - word.len(), octets);
     push_all(&mut whole, check);
     whole
 }
@@ -57,7 +61,7 @@ pub fn sent_word(code: &Code, long: &[u8], len: usize) -> Word
     let start = zeros_before(code, len - count);
     let mut word = ArrayVec::new();
     push_all(&mut word, &long[start..start + len - count]);
-    push_all(&mut word, &long[255 - count..]);
+    push_all(&mut word, &long[WHOLE_LENGTH - count..]);
     word
 }
 
@@ -67,7 +71,7 @@ fn zeros_before(code: &Code, count: usize) -> usize
     ensures { result ≡ zeros_before code.now.zeros (255 - code.now.check_count - count) }
 {
     match code.zeros() {
-        Zeros::Leading => 255 - code.check_count() - count,
+        Zeros::Leading => WHOLE_LENGTH - code.check_count() - count,
         Zeros::Between => 0,
     }
 }
@@ -79,7 +83,7 @@ pub fn zeros_after(code: &Code, count: usize) -> usize
 {
     match code.zeros() {
         Zeros::Leading => 0,
-        Zeros::Between => 255 - code.check_count() - count,
+        Zeros::Between => WHOLE_LENGTH - code.check_count() - count,
     }
 }
 

@@ -4,17 +4,17 @@
 // more points than octets can be repaired. The product of the differences to all these points but one is 0 at all of
 // them but one, so its sum with the syndromes is the one wrong octet's share.
 
-ghost use Rattle.std.specs.Prelude.{◌≡◌, ◌≢◌, ◌+◌, ◌*◌, ◌/◌, ◌%◌, ◌<◌, ◌≤◌, ◌==◌, ℕ, Bool, true, false, List, ◌∷◌};
-ghost use Rattle.std.specs.Prelude.{length};
+ghost use Rattle.std.specs.Prelude.{◌≡◌, ◌≢◌, ◌+◌, ◌*◌, ◌/◌, ◌%◌, ◌<◌, ◌≤◌, ◌==◌, ℕ, true, false, List, ◌∷◌, length};
 ghost use Rattle.std.specs.Prelude.{slice_index_or, All};
-ghost use Rattle.reed_solomon.specs.Distance.{distance};
 ghost use Rattle.reed_solomon.specs.Kernel.{IsWrong, count_true, octet_before, values_down};
-ghost use Rattle.reed_solomon.specs.Values.{Vanishes, value_at};
+ghost use Rattle.reed_solomon.specs.Values.{value_at};
 
+use crate::code::MOST_CHECK_OCTETS;
 use crate::field::{inverse, power, product, times_power};
 use crate::generator::{add_root, with_highest};
 use crate::kernel::{dot, kernel};
 use crate::values::value_at;
+use crate::words::WHOLE_LENGTH;
 use arrayvec::ArrayVec;
 
 // Writes the codeword that differs in at most half as many octets as there are syndromes, if there is one.
@@ -29,28 +29,28 @@ pub fn correct(first_root: u8, syndromes: &[u8], word: &mut [u8])
 {
     let coefficients = kernel(syndromes);
     let roots = roots(&coefficients[..syndromes.len() / 2 + 1]);
-    for p in 0..255 {
+    for p in 0..WHOLE_LENGTH {
         if roots[p] {
-            word[254 - p] ^= error_at(p, &roots, syndromes, first_root);
+            word[WHOLE_LENGTH - 1 - p] ^= error_at(p, &roots, syndromes, first_root);
         }
     }
 }
 
 // At which powers a list of coefficients is 0.
-fn roots(coefficients: &[u8]) -> [bool; 255]
+fn roots(coefficients: &[u8]) -> [bool; WHOLE_LENGTH]
     ensures roots { (p : ℕ) → p < 255 → slice_index_or result p false ≡ (value_at p coefficients.now == 0) }
     ensures size { length result ≡ 255 }
     ensures octets { All (λ x. x < 256) coefficients.now }
 {
-    let mut roots = [false; 255];
-    for p in 0..255 {
+    let mut roots = [false; WHOLE_LENGTH];
+    for p in 0..WHOLE_LENGTH {
         roots[p] = value_at(p, coefficients) == 0;
     }
     roots
 }
 
 // By how much the octet is wrong that p others follow, if all wrong octets are at roots.
-fn error_at(p: usize, roots: &[bool; 255], syndromes: &[u8], first_root: u8) -> u8
+fn error_at(p: usize, roots: &[bool; WHOLE_LENGTH], syndromes: &[u8], first_root: u8) -> u8
     requires first_root { first_root < 255 }
     requires place { p < 255 }
     requires root { slice_index_or roots.now p false ≡ true }
@@ -69,7 +69,7 @@ fn error_at(p: usize, roots: &[bool; 255], syndromes: &[u8], first_root: u8) -> 
 }
 
 // The coefficients, but the highest, which is 1, of the polynomial that is 0 at each root but one.
-fn other_roots(p: usize, roots: &[bool; 255]) -> ArrayVec<u8, 64>
+fn other_roots(p: usize, roots: &[bool; WHOLE_LENGTH]) -> ArrayVec<u8, MOST_CHECK_OCTETS>
     requires place { p < 255 }
     requires root { slice_index_or roots.now p false ≡ true }
     requires few { count_true roots.now ≤ 64 }
@@ -80,7 +80,7 @@ fn other_roots(p: usize, roots: &[bool; 255]) -> ArrayVec<u8, 64>
     ensures octets { All (λ x. x < 256) result.items }
 {
     let mut others = ArrayVec::new();
-    for q in 0..255 {
+    for q in 0..WHOLE_LENGTH {
         if roots[q] && q != p {
             add_root(&mut others, power(q));
         }

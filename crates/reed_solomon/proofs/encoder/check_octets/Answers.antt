@@ -3,8 +3,8 @@ use Rattle.std.proofs.Common.{subst, arith}
 use Rattle.std.specs.List.{fold}
 use Rattle.std.proofs.lemmas.List.{append_assoc, length-replicate, replicate_more}
 use Rattle.std.proofs.lemmas.List.Sums.{fold_more, fold_push}
-use Rattle.reed_solomon.specs.Codeword.{ChecksOf, whole}
-use Rattle.reed_solomon.specs.Register.{generator_of, taken, zeros_after}
+use Rattle.reed_solomon.specs.Codeword.{whole_of}
+use Rattle.reed_solomon.specs.Register.{ChecksOf, generator_of, taken, zeros_after}
 use Rattle.reed_solomon.specs.Values.{value_at}
 use Rattle.reed_solomon.proofs.DistanceLemmas.{codeword_parts, octets_of_all, one_check}
 use Rattle.reed_solomon.proofs.GeneratorLemmas.{length-generator_of, Octets-generator_of, generator_vanishes}
@@ -62,7 +62,7 @@ loop-preserved c =
     }
 
 checks : (c : goal.After-loop) → ChecksOf c.args.code.now c.args.octets.now c.loop.register.items
-unfolding whole
+unfolding whole_of
 checks c = λ j from below.
     let code = c.args.code.now in
     let octets = c.args.octets.now in

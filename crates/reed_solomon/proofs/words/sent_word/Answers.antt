@@ -1,12 +1,12 @@
 use Rattle.std.proofs.Common.{◌≡◌, ◌+◌, ◌-◌, ◌++◌, length, take, drop, ap, sym, ◌∙◌, arith}
 use Rattle.std.proofs.lemmas.List.{take_rest}
-use Rattle.reed_solomon.specs.Codeword.{whole}
+use Rattle.reed_solomon.specs.Codeword.{whole_of}
 use Rattle.reed_solomon.specs.Register.{zeros_before}
 use Rattle.reed_solomon.proofs.WordLemmas.{sent_octets, sent_check}
 use Rattle.reed_solomon.proofs.words.sent_word.Goals as goal
 
 pub returns-clause-sent : goal.returns-clause-sent
-unfolding whole
+unfolding whole_of
 returns-clause-sent c = λ octets check size is.
     let code = c.args.code.now in
     let long = c.args.long.now in

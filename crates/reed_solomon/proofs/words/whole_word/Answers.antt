@@ -1,13 +1,13 @@
 use Rattle.std.proofs.Common.{◌≡◌, ℕ, ◌-◌, List, ◌++◌, length, take, drop, All, ◌<◌, ap, subst, sym, ◌∙◌, arith}
 use Rattle.std.proofs.lemmas.List.{length-take}
-use Rattle.reed_solomon.specs.Codeword.{whole, with_zeros}
+use Rattle.reed_solomon.specs.Codeword.{whole_of, with_zeros}
 use Rattle.reed_solomon.proofs.DistanceLemmas.{all_of_octets}
 use Rattle.reed_solomon.proofs.ValueLemmas.{octets_from}
 use Rattle.reed_solomon.proofs.WordLemmas.{long, Octets-long}
 use Rattle.reed_solomon.proofs.words.whole_word.Goals as goal
 
 items_is : (c : goal.After-push_all) → c.push_all.new.word.items ≡ long c.args.code.now c.args.word.now
-unfolding whole
+unfolding whole_of
 items_is c =
     let word = c.args.word.now in
     let code = c.args.code.now in
