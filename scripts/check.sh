@@ -454,10 +454,14 @@ if has python3; then
     check "two stations modulo 128, half duplex, some lost" stations_agree --wide --half --loss 10
     check "hosts that send each message" scripts/check_hosts.py --tnc "$tnc"
     check "the ports are those of 127.0.0.1 alone" scripts/check_sockets.py --tnc "$tnc"
+    check "a recording at twenty times the pace of sound" scripts/check_record.py --tnc "$tnc" >/dev/null
+    check "calls over two stations" scripts/check_call.py --tnc "$tnc" >/dev/null
 else
     skip "two stations" python3
     skip "hosts that send each message" python3
     skip "the ports are those of 127.0.0.1 alone" python3
+    skip "a recording at twenty times the pace of sound" python3
+    skip "calls over two stations" python3
 fi
 
 # Words that are refused, and streams that fail.

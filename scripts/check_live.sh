@@ -21,6 +21,8 @@ check() {
 
 if command -v direwolf >/dev/null; then
     check "sessions with Dire Wolf" scripts/check_peers.py --tnc "$tnc"
+    check "a call to a station that is a Dire Wolf" scripts/check_call.py --tnc "$tnc" --appserver
+    check "a call by a station that is a Dire Wolf" scripts/check_call.py --tnc "$tnc" --appserver --direwolf
 else
     echo "skipped: sessions with Dire Wolf (direwolf is not installed)"
 fi
