@@ -47,6 +47,11 @@ answers_to() {
     printf "$4" | answers "$1" "$2" "${@:5}" && cmp -s "$room/output" <(printf "$3")
 }
 
+# COMMAND..: what it prints is shown only if it fails.
+quietly() {
+    "$@" >"$room/told" || { cat "$room/told"; return 1; }
+}
+
 # WORDS..: refused, with nothing written.
 is_refused() {
     answers 1 "tnc: bad words" "$@" </dev/null && [ ! -s "$room/output" ]
@@ -454,8 +459,8 @@ if has python3; then
     check "two stations modulo 128, half duplex, some lost" stations_agree --wide --half --loss 10
     check "hosts that send each message" scripts/check_hosts.py --tnc "$tnc"
     check "the ports are those of 127.0.0.1 alone" scripts/check_sockets.py --tnc "$tnc"
-    check "a recording at twenty times the pace of sound" scripts/check_record.py --tnc "$tnc" >/dev/null
-    check "calls over two stations" scripts/check_call.py --tnc "$tnc" >/dev/null
+    check "a recording at twenty times the pace of sound" quietly scripts/check_record.py --tnc "$tnc"
+    check "calls over two stations" quietly scripts/check_call.py --tnc "$tnc"
 else
     skip "two stations" python3
     skip "hosts that send each message" python3
