@@ -61,7 +61,7 @@ fn script_of(alloc: Global, messages: &[Message<'_>], piece: usize) -> Result<Sc
         push_message(&mut octets, *message)?;
     }
     let mut script = Script::new(alloc);
-    for piece in octets.chunks(piece) {
+    for piece in octets.chunks(piece.max(1)) {
         script.brings(piece)?;
     }
     Ok(script)
