@@ -8,7 +8,6 @@ to be told, no sample lost, the file has to be the recording, and `tnc decode --
 the recording's frames in it. With a `--keep` of five seconds the file has to be the last five. It ends with status 0 if all is
 well."""
 import argparse
-import os
 import shutil
 import subprocess
 import sys
@@ -18,6 +17,15 @@ from pathlib import Path
 
 RATE = 9600
 HEAD = 44
+
+
+def peak_of(program):
+    """The most memory that a running program has had so far, in KiB, as Linux tells it in /proc."""
+    try:
+        lines = Path(f"/proc/{program.pid}/status").read_text().splitlines()
+    except OSError:
+        return 0
+    return max((int(line.split()[1]) for line in lines if line.startswith("VmHWM")), default=0)
 
 
 def recorded(tnc, sound, pace, *words):
@@ -31,11 +39,13 @@ def recorded(tnc, sound, pace, *words):
             ahead = at / (2 * RATE * pace) - (time.monotonic() - began)
             if ahead > 0:
                 time.sleep(ahead)
+        peak = peak_of(program)
         program.stdin.close()
-        _, status, usage = os.wait4(program.pid, 0)
-        program.returncode = os.waitstatus_to_exitcode(status)
+        # What it still takes to write the file shows here, if it is not over at once.
+        while program.poll() is None:
+            peak = max(peak, peak_of(program))
         out.seek(0), told.seek(0)
-        return program.returncode, out.read(), told.read().decode(), usage.ru_maxrss
+        return program.returncode, out.read(), told.read().decode(), peak
 
 
 def frames_in(report):
