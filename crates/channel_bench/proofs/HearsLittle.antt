@@ -1,24 +1,27 @@
 -- A link that is not up sends no SABM, SABME or DISC when it hears a frame of a link, if it does not wish to disconnect
 -- while it is idle or calls.
-use Rattle.std.proofs.Common.{◌≡◌, ◌&&◌, Bool, true, false, cond, if◌then◌else◌, is_some, refl, sym, ap, ◌∙◌, subst}
+use Rattle.std.proofs.Common.{◌≡◌, Bool, false, refl, sym, subst}
 use Rattle.std.specs.Bool.{⊤}
 use Rattle.std.specs.List.{list_any}
-use Rattle.ax25_frames.specs.FrameText.{is_command_of}
 use Rattle.ax25_frames.specs.declared.frame.Frame.{Frame}
 use Rattle.ax25_frames.specs.declared.frame.Kind.{Kind}
 use Rattle.ax25_frames.specs.declared.frame.Kind.TheVariants.{Info, Super, Setup, Ui, Other}
-use Rattle.ax25_frames.specs.declared.frame.U.TheVariants.{Sabm, Sabme, Disc, Dm, Ua}
 use Rattle.link_machine.specs.declared.state.LinkState.{LinkState}
 use Rattle.link_machine.specs.declared.state.LinkState.TheVariants.{Idle, Calling, Up, Releasing}
-use Rattle.link_machine.specs.Event.{Event}
 use Rattle.link_machine.specs.Event.Event.{Hear}
-use Rattle.link_machine.specs.Frames.{answer_dm, hear_calling_in, hear_in, hear_releasing}
-use Rattle.link_machine.specs.Machine.{Machine, is_wide}
-use Rattle.link_machine.specs.Step.{refusal_of, row, settled, step}
-use Rattle.link_machine.specs.Turn.{Turn, begin}
+use Rattle.link_machine.specs.Machine.{Machine}
+use Rattle.link_machine.specs.Step.{step}
+use Rattle.link_machine.specs.Turn.{Turn}
+use Rattle.link_steps.proofs.Rows.{IsDown, IsFrmr, Row, Settles, Stepped, step_is}
+use Rattle.link_steps.proofs.Rows.Rests.{as_timed}
+use Rattle.link_steps.proofs.Rows.Row.{agrees, calls_again, connects, declines, ends_by_disc, ends_by_dm, ends_call}
+use Rattle.link_steps.proofs.Rows.Row.{gives_up, is_answered, is_called, is_called_again, narrows, releases_again}
+use Rattle.link_steps.proofs.Rows.Row.{resets}
+use Rattle.link_steps.proofs.Rows.Row.{rests, takes, wishes, works}
+use Rattle.link_steps.proofs.Rows.Settles.{goes_on, is_down, releases}
+use Rattle.link_steps.proofs.Rows.Stepped.{is_refused, makes}
 use Rattle.station_laws.proofs.Acts.{asks_when_sent}
-use Rattle.channel_bench.proofs.AsksLittle.{IsDown, settled_down}
-use Rattle.station_laws.proofs.Calm.{CalmTurn, IsCalmState, calm_step, settled_keeps}
+use Rattle.station_laws.proofs.Calm.{CalmTurn, settles_calm}
 use Rattle.station_laws.proofs.Chains.{StandsAsked}
 use Rattle.station_laws.proofs.LinkKinds.{IsLinkKind}
 
@@ -41,78 +44,55 @@ data Quiet (t : Turn) : Type 0 where
   stays : IsDown t.now.control.state → list_any asks_when_sent t.sent ≡ false → Quiet t
   opens : CalmTurn t → Quiet t
 
-quiet_row : (m : Machine) (event : Event) → Quiet (row event (begin m))
-    → list_any asks_when_sent (step m event).sent ≡ false
-unfolding step
-quiet_row m event h = go (is_some (refusal_of m event)) h
-  where
-    go : (b : Bool) → Quiet (row event (begin m))
-        → list_any asks_when_sent (cond b (begin m) (settled (row event (begin m)))).sent ≡ false
-    go true quiet = refl
-    go false (stays down none) =
-        let t = row event (begin m) in
-        ap (λ (u : Turn). list_any asks_when_sent u.sent) (settled_down t.now.control.state t down) ∙ none
-    go false (opens calm) = (settled_keeps (row event (begin m)) calm).asked
+quiet_settles : (t u : Turn) → Settles t u → Quiet t → list_any asks_when_sent u.sent ≡ false
+quiet_settles t u settles (opens calm) = (settles_calm t u settles calm).asked
+quiet_settles t u (is_down _) (stays down none) = none
+quiet_settles t u (goes_on up run) (stays down none) = absurd (subst IsDown up down)
+quiet_settles t u (releases up run quitting) (stays down none) = absurd (subst IsDown up down)
 
-calling_quiet :
-    (wide : Bool) (kind : Kind) (m : Machine) → IsLinkKind kind → IsDown m.control.state → m.control.quit ≡ false
-    → Quiet (hear_calling_in wide kind (begin m))
-calling_quiet true (Setup Sabm flag) m link down quit = stays down refl
-calling_quiet false (Setup Sabm flag) m link down quit = stays down refl
-calling_quiet true (Setup Sabme flag) m link down quit = stays down refl
-calling_quiet false (Setup Sabme flag) m link down quit = stays down refl
-calling_quiet wide (Setup Disc flag) m link down quit = stays down refl
-calling_quiet wide (Setup Dm true) m link down quit = stays tt refl
-calling_quiet wide (Setup Dm false) m link down quit = stays down refl
-calling_quiet wide (Setup Ua true) m link down quit =
-    opens (record { control = record { state = tt; quit = quit }; asked = refl })
-calling_quiet wide (Setup Ua false) m link down quit = stays down refl
-calling_quiet wide (Info ns nr flag pid octets) m link down quit = stays down refl
-calling_quiet wide (Super which nr flag) m link down quit = stays down refl
-calling_quiet wide (Ui flag pid octets) m link down quit = absurd link
-calling_quiet wide (Other which flag octets) m link down quit = absurd link
+no_frmr : (kind : Kind) → IsLinkKind kind → IsFrmr kind → ⊥
+no_frmr (Info ns nr flag pid octets) link h = h
+no_frmr (Super which nr flag) link h = h
+no_frmr (Setup which flag) link h = h
+no_frmr (Ui flag pid octets) link h = h
+no_frmr (Other which flag octets) link h = link
 
-dm_quiet : (b : Bool) (m : Machine) → IsDown m.control.state
-    → Quiet ((if b then answer_dm true else (λ u. u)) (begin m))
-dm_quiet true m down = stays down refl
-dm_quiet false m down = stays down refl
+wishes_in : (state : LinkState) (m : Machine) → m.control.state ≡ state → WishesNothing m.control.state m.control.quit
+    → WishesNothing state m.control.quit
+wishes_in state m is h = subst (λ s. WishesNothing s m.control.quit) is h
 
-releasing_quiet :
-    (command : Bool) (kind : Kind) (m : Machine) → IsLinkKind kind → IsDown m.control.state
-    → Quiet (hear_releasing command kind (begin m))
-releasing_quiet command (Setup Sabm flag) m link down = stays down refl
-releasing_quiet command (Setup Sabme flag) m link down = stays down refl
-releasing_quiet command (Setup Disc flag) m link down = stays down refl
-releasing_quiet command (Setup Dm true) m link down = stays tt refl
-releasing_quiet command (Setup Dm false) m link down = stays down refl
-releasing_quiet command (Setup Ua true) m link down = stays tt refl
-releasing_quiet command (Setup Ua false) m link down = stays down refl
-releasing_quiet command (Info ns nr flag pid octets) m link down = dm_quiet flag m down
-releasing_quiet command (Super which nr flag) m link down = dm_quiet (command && flag) m down
-releasing_quiet command (Ui flag pid octets) m link down = absurd link
-releasing_quiet command (Other which flag octets) m link down = absurd link
+row_quiet :
+    (m : Machine) (frame : Frame) (t : Turn) → IsLinkKind frame.kind → IsDown m.control.state
+    → WishesNothing m.control.state m.control.quit
+    → Row m (Hear frame) t → Quiet t
+row_quiet m frame t link down none (rests (as_timed c mode)) = stays (subst IsDown (sym mode.0) down) refl
+row_quiet m frame t link down none (works up run) = absurd (subst IsDown up down)
+row_quiet m frame t link down none (declines flag is heard) = stays down refl
+row_quiet m frame t link down none (agrees flag is heard) = stays down refl
+row_quiet m frame t link down none (calls_again run calling tick) = absurd tick
+row_quiet m frame t link down none (releases_again run releasing tick) = absurd tick
+row_quiet m frame t link down none (ends_call why (as_timed c mode) is) = stays tt refl
+row_quiet m frame t link down none (ends_by_dm up) = absurd (subst IsDown up down)
+row_quiet m frame t link down none (ends_by_disc flag up heard) = absurd (subst IsDown up down)
+row_quiet m frame t link down none (gives_up up run told tick) = absurd tick
+row_quiet m frame t link down none (is_called modulus flag idle known heard) =
+    opens (record { control = record { state = tt; quit = refl }; asked = refl })
+row_quiet m frame t link down none (is_called_again modulus flag up known heard) = absurd (subst IsDown up down)
+row_quiet m frame t link down none (is_answered calling heard) =
+    opens (record { control = record { state = tt; quit = wishes_in Calling m calling none }; asked = refl })
+row_quiet m frame t link down none (narrows calling heard) = absurd (no_frmr frame.kind link heard)
+row_quiet m frame t link down none (resets up wrong) = absurd (subst IsDown up down)
+row_quiet m frame t link down none (connects idle connecting) = absurd connecting
+row_quiet m frame t link down none (takes packet sending short) = absurd sending
+row_quiet m frame t link down none (wishes wishing) = absurd wishing
 
 -- so a frame of a link makes it ask for nothing
 pub hear_asks :
     (m : Machine) (frame : Frame) → IsLinkKind frame.kind → IsDown m.control.state
     → WishesNothing m.control.state m.control.quit
     → list_any asks_when_sent (step m (Hear frame)).sent ≡ false
-hear_asks m frame link down wishes = go m.control.state refl down wishes
+hear_asks m frame link down none = go (step m (Hear frame)) (step_is m (Hear frame))
   where
-    command : Bool
-    command = is_command_of frame.path.role frame.kind
-
-    heard : (state : LinkState) → m.control.state ≡ state → Quiet (hear_in state command frame.kind (begin m))
-        → list_any asks_when_sent (step m (Hear frame)).sent ≡ false
-    heard state is quiet =
-        quiet_row m (Hear frame) (subst (λ s. Quiet (hear_in s command frame.kind (begin m))) (sym is) quiet)
-
-    go : (state : LinkState) → m.control.state ≡ state → IsDown state → WishesNothing state m.control.quit
-        → list_any asks_when_sent (step m (Hear frame)).sent ≡ false
-    go Idle is d none =
-        (calm_step m (Hear frame) tt (link, λ up. let clash : Idle ≡ Up = sym is ∙ up in absurd (cc))
-        (record { state = subst IsCalmState (sym is) tt; quit = none })).none
-    go Calling is d none =
-        heard Calling is (calling_quiet (is_wide m) frame.kind m link (subst IsDown (sym is) tt) none)
-    go Up is d none = absurd d
-    go Releasing is d none = heard Releasing is (releasing_quiet command frame.kind m link (subst IsDown (sym is) tt))
+    go : (u : Turn) → Stepped m (Hear frame) u → list_any asks_when_sent u.sent ≡ false
+    go u is_refused = refl
+    go u (makes {t = t} row settles) = quiet_settles t u settles (row_quiet m frame t link down none row)

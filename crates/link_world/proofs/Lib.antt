@@ -1,7 +1,4 @@
 pub mod Rereading
-pub mod Growth
-pub mod ActGrowth
-pub mod HearingGrowth
 pub mod StepGrowth
 pub mod TagLemmas
 pub mod Untagging

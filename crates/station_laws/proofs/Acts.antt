@@ -131,7 +131,7 @@ own_by s back stays turn w key link event h caused H at is =
     let own : OwnTags s.local s.remote s.on_ask (map (tagged (hears_ask h) now) m.sent) stepped.first =
     own_tags s.local s.remote s.on_ask (hears_ask h) now m.sent stepped.first stepped.rest caused next.path (next.source
     ∙ calls.local_is)
-    (next.dest ∙ calls.remote_is) ((step_keeps link.machine event good.counts).good tt) stepped.split in
+    (next.dest ∙ calls.remote_is) (step_keeps link.machine event good.counts).good stepped.split in
     let count : length after.out.queued - length turn.out.queued ≡ length own.joined =
     ap (λ (q : List (List ℕ)). length q - length turn.out.queued) stepped.queued
     ∙ more_queued turn.out.queued (map octets_of stepped.first) (length own.joined)

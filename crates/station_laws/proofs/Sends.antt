@@ -1,14 +1,13 @@
 -- The frames that acts of a link send: at most one SABM, SABME, DISC, UA or DM, none that asks if the link is up then,
 -- and UA only in answer to one that asks. The link comes up only as it hears UA or one that asks.
-use Rattle.std.proofs.Common.{◌≡◌, ◌+◌, ◌≤◌, ◌==◌, ◌&&◌, ◌||◌, Bool, true, false, List, [], ◌∷◌, ◌++◌, length, cond}
+use Rattle.std.proofs.Common.{◌≡◌, ◌+◌, ◌≤◌, ◌||◌, Bool, true, false, List, [], ◌∷◌, ◌++◌, cond}
 use Rattle.std.proofs.Common.{refl, sym, ap, ◌∙◌, subst, arith, ℕ}
 use Rattle.std.specs.List.{count_by, list_any}
-use Rattle.std.proofs.lemmas.Bool.{and_parts}
 use Rattle.ax25_frames.specs.declared.frame.Kind.{Kind}
 use Rattle.ax25_frames.specs.declared.frame.Kind.TheVariants.{Info, Super, Setup, Ui, Other}
 use Rattle.ax25_frames.specs.declared.frame.U.{U}
 use Rattle.ax25_frames.specs.declared.frame.U.TheVariants.{Sabm, Sabme, Disc, Dm, Ua}
-use Rattle.link_machine.specs.Acts.{close, release}
+use Rattle.link_machine.specs.Acts.{release}
 use Rattle.link_machine.specs.Event.{Event}
 use Rattle.link_machine.specs.Event.Event.{Connect, Send, Disconnect, Hear, Tick}
 use Rattle.link_machine.specs.Machine.{Machine}
@@ -158,11 +157,6 @@ opened m ua u modulus flag sent quit = record {
   quits = λ is wish. absurd (let clash : true ≡ false = sym wish ∙ quit in cc);
 }
 
-pub one_of : (m : Machine) (asking ua b : Bool) (x y : Turn) → Sends m asking ua x → Sends m asking ua y
-    → Sends m asking ua (cond b x y)
-one_of m asking ua true x y h k = h
-one_of m asking ua false x y h k = k
-
 -- ---- how an event ends
 
 -- I and S frames follow
@@ -185,7 +179,7 @@ flushed m asking ua t u h s =
     }
 
 -- a DISC follows, if a disconnect is wished
-released :
+pub released :
     (m : Machine) (asking ua : Bool) (t : Turn) → t.now.control.state ≡ Up → t.now.control.quit ≡ true
     → Sends m asking ua t → Sends m asking ua (release t)
 released m asking ua t up wish h =
@@ -197,14 +191,3 @@ released m asking ua t up wish h =
       answers = λ is. any_append ua_when_sent t.sent (disc ∷ []) (h.answers is) refl;
       quits = λ is wished. absurd (cc);
     }
-
-pub closes :
-    (m : Machine) (asking ua : Bool) (t : Turn) → t.now.control.state ≡ Up → Sends m asking ua t
-    → Sends m asking ua (close t)
-closes m asking ua t up h = go (t.now.control.quit && length t.now.outgoing.packets == 0) refl
-  where
-    go : (b : Bool) → (t.now.control.quit && length t.now.outgoing.packets == 0) ≡ b
-        → Sends m asking ua (cond b (release t) t)
-    go true is =
-        released m asking ua t up (and_parts t.now.control.quit (length t.now.outgoing.packets == 0) is).0 h
-    go false is = h

@@ -17,7 +17,7 @@ use Rattle.link_machine.specs.Sent.Sent.{InfoSent, SuperSent, SetupSent}
 use Rattle.link_world.specs.Flight.{Tagged, is_answer}
 use Rattle.link_world.specs.Held.{IsModulus}
 use Rattle.link_world.specs.Recorded.{RecordedEnd, tagged}
-use Rattle.link_world.proofs.Growth.{IsGood, IsShortSent}
+use Rattle.link_machine.proofs.Writable.{CanSend, HasShort}
 use Rattle.station.specs.FrameSpelling.{frame_octets, path_octets}
 use Rattle.station_laws.proofs.Addresses.{IsGoodPath, frame_spelled}
 use Rattle.station_laws.specs.InFlight.{LinkFrame}
@@ -69,17 +69,17 @@ tags_append l r (tag ∷ tags) more [] others h k = absurd h
 tags_append l r (tag ∷ tags) more (queued ∷ rest) others h k = (h.0, tags_append l r tags more rest others h.1 k)
 
 -- a good frame is a kind of its modulus
-narrow_kind : (sent : Sent) → IsShortSent sent → IsKind (modulus_named 8) (sent_kind 8 sent)
+narrow_kind : (sent : Sent) → HasShort sent → IsKind (modulus_named 8) (sent_kind 8 sent)
 narrow_kind (InfoSent number nr packet) short = record { numbered = (omega arith, omega arith); fits = short }
 narrow_kind (SuperSent which command nr flag) short = record { numbered = omega arith; fits = tt }
 narrow_kind (SetupSent which flag) short = record { numbered = tt; fits = tt }
 
-wide_kind : (sent : Sent) → IsShortSent sent → IsKind (modulus_named 128) (sent_kind 128 sent)
+wide_kind : (sent : Sent) → HasShort sent → IsKind (modulus_named 128) (sent_kind 128 sent)
 wide_kind (InfoSent number nr packet) short = record { numbered = (omega arith, omega arith); fits = short }
 wide_kind (SuperSent which command nr flag) short = record { numbered = omega arith; fits = tt }
 wide_kind (SetupSent which flag) short = record { numbered = tt; fits = tt }
 
-kind_by : (modulus : ℕ) (sent : Sent) → IsModulus modulus → IsShortSent sent
+kind_by : (modulus : ℕ) (sent : Sent) → IsModulus modulus → HasShort sent
     → IsKind (modulus_named modulus) (sent_kind modulus sent)
 kind_by modulus sent (inl is) short = subst (λ m. IsKind (modulus_named m) (sent_kind m sent)) (sym is)
     (narrow_kind sent short)
@@ -112,7 +112,7 @@ own_more l r on f sent x first tag more = record {
 pub own_tags :
     (l r : Callsign) (on on_ask : Bool) (now : RecordedEnd) (sent : List SentIn) (first rest : List SentFrame)
     → (on_ask ≡ true → on ≡ true) → IsGoodPath now.machine.path → now.machine.path.source ≡ l
-    → now.machine.path.dest ≡ r → Each IsGood sent
+    → now.machine.path.dest ≡ r → Each CanSend sent
     → map (sent_frame now.machine.path) sent ≡ first ++ rest → OwnTags l r on (map (tagged on_ask now) sent) first
 own_tags l r on on_ask now sent [] rest caused good source dest all is =
     record { joined = []; lost = map (tagged on_ask now) sent; split = refl; count = refl; tags = tt }
@@ -125,7 +125,7 @@ own_tags l r on on_ask now (s ∷ sent) (x ∷ first) rest caused good source de
       path = good_in_role now.machine.path s.frame good;
       source = source;
       dest = dest;
-      kind = kind_by s.modulus s.frame all.0.modulus all.0.short;
+      kind = kind_by s.modulus s.frame all.0.0 all.0.1;
       cause = λ answers. caused (and_parts on_ask (is_answer (tagged on_ask now s).frame.kind) answers).0;
       answer = λ answers. (and_parts on_ask (is_answer (tagged on_ask now s).frame.kind) answers).1;
       of_link = sent_link_kind s.modulus s.frame;

@@ -1,8 +1,7 @@
 -- Lists of calls: their length, one more call, a text that is no call, and that a text spells one list. Then how the
 -- calls of a text are read one after another.
 use denote.Ref.{Bor}
-use Rattle.std.proofs.Common.{◌≡◌, ℕ, suc, ◌+◌, ◌<◌, ◌≤◌, List, [], ◌∷◌, ◌++◌, length, length-append, Option, Some}
-use Rattle.std.proofs.Common.{None}
+use Rattle.std.proofs.Common.{◌≡◌, suc, ◌+◌, ◌<◌, ◌≤◌, List, [], ◌∷◌, ◌++◌, length, length-append, Option, Some, None}
 use Rattle.std.proofs.Common.{append_assoc, refl, sym, subst, ap, ◌∙◌, arith, lit<, false}
 use Rattle.std.specs.Prelude.{MatchOption}
 use Rattle.std.specs.List.{after_first}

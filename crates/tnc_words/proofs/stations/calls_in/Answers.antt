@@ -1,4 +1,4 @@
-use Rattle.std.proofs.Common.{rules, ◌<◌, ◌∷◌, [], Some, None, length, refl, sym, subst}
+use Rattle.std.proofs.Common.{rules, ◌<◌, Some, None, length, refl, sym, subst}
 use Rattle.tnc_words.specs.Stations.{IsCallList}
 use Rattle.tnc_words.proofs.CallLists.{SpelledSoFar, bad_part, first_part, last_one, one_more, too_many}
 use Rattle.tnc_words.proofs.stations.calls_in.Goals as goal
