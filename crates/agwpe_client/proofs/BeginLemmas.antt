@@ -1,13 +1,11 @@
 -- A call to which no octet of the host has come.
-use Rattle.std.proofs.Common.{◌≡◌, ℕ, List, [], refl, ap, subst, sym, arith, lit<, Option, Some}
-use Rattle.agwpe_port.specs.CallField.{call_field}
-use Rattle.agwpe_port.specs.Held.{Held, StandsFor as StandsForOctets}
-use Rattle.agwpe_port.specs.Messages.{spelling}
+use Rattle.agwpe_client.proofs.Common.{◌≡◌, ℕ, List, [], refl, ap, subst, sym, arith, Option, Some, call_field, Held}
+use Rattle.agwpe_client.proofs.Common.{spelling, Asking, connect_message, CallPlan, begin, call_run, HeldCall, IsAt}
+use Rattle.agwpe_client.proofs.Common.{StandsFor, opening_octets}
+use Rattle.std.proofs.Common.{lit<}
+use Rattle.agwpe_port.specs.Held.{StandsFor as StandsForOctets}
 use Rattle.agwpe_port.proofs.ReadingLemmas.{reading_short}
-use Rattle.agwpe_client.specs.declared.call_state.CallState.TheVariants.{Asking}
-use Rattle.agwpe_client.specs.CallMessages.{connect_message}
-use Rattle.agwpe_client.specs.CallRun.{CallPlan, begin, call_run}
-use Rattle.agwpe_client.specs.HeldCall.{HeldCall, IsAt, StandsFor, opening_octets, farewell_octets}
+use Rattle.agwpe_client.specs.HeldCall.{farewell_octets}
 use Rattle.agwpe_client.proofs.StreamLemmas.{run_of}
 
 pub run_begins : (plan : CallPlan) → call_run plan [] ≡ begin plan

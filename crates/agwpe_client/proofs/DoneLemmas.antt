@@ -1,22 +1,13 @@
 -- A call that is done, message by message.
-use Rattle.std.proofs.Common.{◌≡◌, ℕ, eqb, cond, Bool, true, false, ◌&&◌, List, [], ◌∷◌, ◌++◌, All, refl, ap, subst}
-use Rattle.std.proofs.Common.{◌∙◌, sym, inl, inr, ◌⊎◌}
-use Rattle.std.proofs.Common.{append_assoc, append-nil, arith, Option, Some, None}
-use Rattle.std.specs.List.{flat_map}
-use Rattle.std.proofs.lemmas.Bool.{eqb-true}
+use Rattle.agwpe_client.proofs.Common.{◌≡◌, ℕ, eqb, cond, Bool, true, false, List, [], ◌∷◌, ◌++◌, refl, ap, subst, ◌∙◌}
+use Rattle.agwpe_client.proofs.Common.{sym, append_assoc, append-nil, arith, Option, Some, None, flat_map, eqb-true}
+use Rattle.agwpe_client.proofs.Common.{call_field, messages_in, bad_length_in, AgwMessage, CallState, Calling, Up, Done}
+use Rattle.agwpe_client.proofs.Common.{Refused, Broken, Step, Ignore, Connect, Talk, Print, End, Refuse, connect_kind}
+use Rattle.agwpe_client.proofs.Common.{data_kind, disconnect_kind, text_octets, CallPlan, CallRun, begin, moving}
+use Rattle.agwpe_client.proofs.Common.{printing, sending, stepped, with_message, is_over, with_bad_length, call_run}
+use Rattle.agwpe_client.proofs.Common.{is_before_up, step_of, is_of_call}
+use Rattle.std.proofs.Common.{◌&&◌, All, inl, inr, ◌⊎◌}
 use Rattle.std.proofs.lemmas.List.Elements.{All-cons}
-use Rattle.agwpe_port.specs.CallField.{call_field}
-use Rattle.agwpe_port.specs.Messages.{messages_in, bad_length_in}
-use Rattle.agwpe_port.specs.declared.message.AgwMessage.{AgwMessage}
-use Rattle.agwpe_client.specs.declared.call_state.CallState.{CallState}
-use Rattle.agwpe_client.specs.declared.call_state.CallState.TheVariants.{Calling, Up, Done, Refused, Broken}
-use Rattle.agwpe_client.specs.declared.step.Step.{Step}
-use Rattle.agwpe_client.specs.declared.step.Step.TheVariants.{Ignore, Connect, Talk, Print, End, Refuse}
-use Rattle.agwpe_client.specs.CallMessages.{connect_kind, data_kind, disconnect_kind, text_octets}
-use Rattle.agwpe_client.specs.CallRun.{CallPlan, CallRun, begin, moving, printing, sending, stepped, with_message}
-use Rattle.agwpe_client.specs.CallRun.{is_over, with_bad_length, call_run}
-use Rattle.agwpe_client.specs.HeldCall.{is_before_up}
-use Rattle.agwpe_client.specs.CallSteps.{step_of, is_of_call}
 use Rattle.agwpe_client.proofs.StepLemmas.{left, FitsState, step_fits}
 use Rattle.agwpe_client.proofs.StreamLemmas.{folded, over_folded}
 use Rattle.agwpe_client.specs.DoneCall.{is_of, data_of, IsDoneCall, DonePrintsItsData}

@@ -1,17 +1,10 @@
 -- What was sent and printed stays so, whatever comes.
-use Rattle.std.proofs.Common.{◌≡◌, ℕ, cond, Bool, true, false, List, [], ◌∷◌, ◌++◌, refl, ap, ◌∙◌, sym}
-use Rattle.std.proofs.Common.{append_assoc, append-nil, Option, Some, None}
-use Rattle.std.proofs.lemmas.List.Sums.{fold-append}
-use Rattle.agwpe_port.specs.declared.message.AgwMessage.{AgwMessage}
-use Rattle.agwpe_port.specs.CallField.{call_field}
-use Rattle.agwpe_port.specs.Messages.{spelling, messages_in, bad_length_in}
-use Rattle.agwpe_client.specs.declared.call_state.CallState.TheVariants.{Up, Broken}
-use Rattle.agwpe_client.specs.declared.step.Step.{Step}
-use Rattle.agwpe_client.specs.declared.step.Step.TheVariants.{Ignore, Connect, Talk, Print, End, Refuse}
-use Rattle.agwpe_client.specs.CallMessages.{connect_message, text_octets}
-use Rattle.agwpe_client.specs.CallSteps.{step_of}
-use Rattle.agwpe_client.specs.CallRun.{CallPlan, CallRun, begin, moving, sending, printing, stepped, with_message}
-use Rattle.agwpe_client.specs.CallRun.{leaving_if_enough, is_over, with_bad_length, call_run}
+use Rattle.agwpe_client.proofs.Common.{◌≡◌, ℕ, cond, Bool, true, false, List, [], ◌∷◌, ◌++◌, refl, ap, ◌∙◌, sym}
+use Rattle.agwpe_client.proofs.Common.{append_assoc, append-nil, Option, Some, None, fold-append, AgwMessage}
+use Rattle.agwpe_client.proofs.Common.{call_field, spelling, messages_in, bad_length_in, Up, Broken, Step, Ignore}
+use Rattle.agwpe_client.proofs.Common.{Connect, Talk, Print, End, Refuse, connect_message, text_octets, step_of}
+use Rattle.agwpe_client.proofs.Common.{CallPlan, CallRun, begin, moving, sending, printing, stepped, with_message}
+use Rattle.agwpe_client.proofs.Common.{leaving_if_enough, is_over, with_bad_length, call_run}
 use Rattle.agwpe_client.proofs.StepLemmas.{left}
 use Rattle.agwpe_client.proofs.StreamLemmas.{folded, messages_more}
 

@@ -1,7 +1,7 @@
 -- Lists that a loop joins piece by piece.
-use Rattle.std.proofs.Common.{◌≡◌, ℕ, ◌+◌, ◌-◌, ◌<◌, min, List, [], ◌∷◌, ◌++◌, length, take, drop, get_or, ap}
-use Rattle.std.proofs.Common.{◌∙◌, sym, arith, append-nil, map-id, zero-add}
-use Rattle.std.specs.List.{flat_map, range_with_len}
+use Rattle.agwpe_client.proofs.Common.{◌≡◌, ℕ, ◌+◌, ◌-◌, min, List, [], ◌∷◌, ◌++◌, length, take, drop, ap, ◌∙◌, sym}
+use Rattle.agwpe_client.proofs.Common.{arith, append-nil, flat_map, range_with_len}
+use Rattle.std.proofs.Common.{◌<◌, get_or, map-id, zero-add}
 use Rattle.std.proofs.lemmas.Grind.{flat_map-append}
 use Rattle.std.proofs.lemmas.List.{length-drop, take_all, take_min, take_more}
 use Rattle.std.proofs.lemmas.List.FromFn.{map-range_with_len_more}

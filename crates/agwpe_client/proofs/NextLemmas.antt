@@ -1,23 +1,15 @@
 -- What one octet makes of what is kept and of the call.
-use Rattle.std.proofs.Common.{◌≡◌, ◌≢◌, ℕ, cond, true, false, List, [], ◌∷◌, ◌++◌, refl, ap, subst, ◌∙◌, sym}
-use Rattle.std.proofs.Common.{append-nil, Some, None, Result, Ok, Err}
-use Rattle.std.specs.Result.{MatchResult}
-use Rattle.agwpe_port.specs.declared.message.AgwMessage.{AgwMessage}
-use Rattle.agwpe_port.specs.CallField.{call_field}
-use Rattle.agwpe_port.specs.Messages.{messages_in, bad_length_in}
-use Rattle.agwpe_port.specs.Held.{Held, StandsFor as StandsForOctets}
-use Rattle.agwpe_client.specs.declared.call_state.CallState.{CallState}
-use Rattle.agwpe_client.specs.declared.call_state.CallState.TheVariants.{Refused, Broken}
-use Rattle.agwpe_client.specs.declared.client_out.ClientOut.{ClientOut}
-use Rattle.agwpe_client.specs.declared.fault.ClientFault.{ClientFault}
-use Rattle.agwpe_client.specs.declared.fault.ClientFault.TheVariants.{Over, Broken as BrokenFault}
-use Rattle.agwpe_client.specs.declared.step.Step.{Step}
-use Rattle.agwpe_client.specs.declared.step.Step.TheVariants.{Ignore, Connect, Talk, Print, End, Refuse}
-use Rattle.agwpe_client.specs.CallSteps.{step_of}
-use Rattle.agwpe_client.specs.CallRun.{CallPlan, CallRun, GoesOn, IsFault, call_run, is_over, moving, with_message}
-use Rattle.agwpe_client.specs.CallRun.{with_bad_length, state_after, sent_after, printed_after, sent_by, printed_by}
-use Rattle.agwpe_client.specs.CallRun.{stepped}
-use Rattle.agwpe_client.specs.HeldCall.{HeldCall, IsAt, StandsFor, no_out, kept_after, given_by}
+use Rattle.agwpe_client.proofs.Common.{◌≡◌, ◌≢◌, ℕ, cond, true, false, List, [], ◌∷◌, ◌++◌, refl, ap, subst, ◌∙◌, sym}
+use Rattle.agwpe_client.proofs.Common.{append-nil, Some, None, Result, Ok, Err, MatchResult, AgwMessage, call_field}
+use Rattle.agwpe_client.proofs.Common.{messages_in, bad_length_in, Held, CallState, Refused, Broken, ClientOut}
+use Rattle.agwpe_client.proofs.Common.{ClientFault, Over, Step, Ignore, Connect, Talk, Print, End, Refuse, step_of}
+use Rattle.agwpe_client.proofs.Common.{CallPlan, CallRun, GoesOn, IsFault, call_run, is_over, moving, with_message}
+use Rattle.agwpe_client.proofs.Common.{with_bad_length, state_after, sent_by, printed_by, stepped, HeldCall, IsAt}
+use Rattle.agwpe_client.proofs.Common.{StandsFor, kept_after, given_by}
+use Rattle.agwpe_port.specs.Held.{StandsFor as StandsForOctets}
+use Rattle.agwpe_client.specs.declared.fault.ClientFault.TheVariants.{Broken as BrokenFault}
+use Rattle.agwpe_client.specs.CallRun.{sent_after, printed_after}
+use Rattle.agwpe_client.specs.HeldCall.{no_out}
 use Rattle.agwpe_client.proofs.StepLemmas.{FitsState, step_fits, kept, sends, gives, fault_of_step}
 use Rattle.agwpe_client.proofs.StreamLemmas.{over_stays, run_more}
 

@@ -1,22 +1,18 @@
 -- What a step does to what is kept is what it does to the call.
-use Rattle.std.proofs.Common.{◌≡◌, ◌≢◌, ℕ, ◌-◌, eqb, leb, cond, Bool, true, false, List, [], ◌∷◌, ◌++◌, length}
-use Rattle.std.proofs.Common.{refl, ap, subst, ◌∙◌, sym, arith, append_assoc, append-nil, length-append}
-use Rattle.std.proofs.Common.{Some, None, unwrap_or}
+use Rattle.agwpe_client.proofs.Common.{◌≡◌, ◌≢◌, ℕ, ◌-◌, eqb, cond, Bool, true, false, List, [], ◌∷◌, ◌++◌, length}
+use Rattle.agwpe_client.proofs.Common.{refl, ap, subst, ◌∙◌, sym, arith, append_assoc, append-nil, length-append, Some}
+use Rattle.agwpe_client.proofs.Common.{None, eqb-true, AgwMessage, CallState, Asking, Calling, Up, Done, Refused}
+use Rattle.agwpe_client.proofs.Common.{Broken, Step, Ignore, Connect, Talk, Print, End, Refuse, connect_kind, data_kind}
+use Rattle.agwpe_client.proofs.Common.{disconnect_kind, text_octets, step_of, is_of_call, CallPlan, CallRun, stepped}
+use Rattle.agwpe_client.proofs.Common.{moving, sending, printing, leaving_if_enough, sent_by, printed_by, is_over}
+use Rattle.agwpe_client.proofs.Common.{call_run, state_after, GoesOn, IsFault, MatchResult, HeldCall, IsAt}
+use Rattle.agwpe_client.proofs.Common.{is_before_up, kept_after, given_by}
+use Rattle.std.proofs.Common.{leb, unwrap_or}
 use Rattle.std.specs.Str.{bytes_eq}
-use Rattle.std.proofs.lemmas.Bool.{eqb-true, eq-eqb}
+use Rattle.std.proofs.lemmas.Bool.{eq-eqb}
 use Rattle.std.proofs.lemmas.Bool.Decides.{nat_tests}
-use Rattle.agwpe_port.specs.declared.message.AgwMessage.{AgwMessage}
-use Rattle.agwpe_client.specs.declared.call_state.CallState.{CallState}
-use Rattle.agwpe_client.specs.declared.call_state.CallState.TheVariants.{Asking, Calling, Up, Done, Refused, Broken}
-use Rattle.agwpe_client.specs.declared.step.Step.{Step}
-use Rattle.agwpe_client.specs.declared.step.Step.TheVariants.{Ignore, Connect, Talk, Print, End, Refuse}
-use Rattle.agwpe_client.specs.CallMessages.{connect_kind, data_kind, disconnect_kind, text_octets}
-use Rattle.agwpe_client.specs.CallSteps.{step_of, is_reply, is_of_call}
-use Rattle.agwpe_client.specs.CallRun.{CallPlan, CallRun, stepped, moving, sending, printing, disconnecting}
-use Rattle.agwpe_client.specs.CallRun.{leaving_if_enough, sent_by, printed_by, is_over, call_run, state_after}
-use Rattle.agwpe_client.specs.CallRun.{GoesOn, IsFault}
-use Rattle.std.specs.Result.{MatchResult}
-use Rattle.agwpe_client.specs.HeldCall.{HeldCall, IsAt, is_before_up, kept_after, given_by}
+use Rattle.agwpe_client.specs.CallSteps.{is_reply}
+use Rattle.agwpe_client.specs.CallRun.{disconnecting}
 use Rattle.agwpe_client.specs.HeldCall.{disconnect_octets}
 
 -- the states in which a step is made

@@ -1,20 +1,13 @@
 -- A call as the octets of its host come.
-use Rattle.std.proofs.Common.{◌≡◌, ℕ, cond, Bool, true, false, List, [], ◌∷◌, ◌++◌, refl, ap, subst, ◌∙◌, sym}
-use Rattle.std.proofs.Common.{append_assoc, append-nil, Option, Some, None}
+use Rattle.agwpe_client.proofs.Common.{◌≡◌, ℕ, cond, Bool, true, false, List, [], ◌∷◌, ◌++◌, refl, ap, subst, ◌∙◌, sym}
+use Rattle.agwpe_client.proofs.Common.{append_assoc, append-nil, Option, Some, None, fold-append, AgwMessage}
+use Rattle.agwpe_client.proofs.Common.{call_field, messages_in, bad_length_in, Held, CallState, Asking, Calling, Up}
+use Rattle.agwpe_client.proofs.Common.{Done, Refused, Broken, Ignore, step_of, CallPlan, CallRun, begin, moving}
+use Rattle.agwpe_client.proofs.Common.{stepped, with_message, is_over, with_bad_length, call_run, state_after}
 use Rattle.std.specs.Prelude.{fold}
-use Rattle.std.proofs.lemmas.List.Sums.{fold-append}
-use Rattle.agwpe_port.specs.declared.message.AgwMessage.{AgwMessage}
-use Rattle.agwpe_port.specs.CallField.{call_field}
-use Rattle.agwpe_port.specs.Messages.{Reading, reading, messages_in, bad_length_in}
-use Rattle.agwpe_port.specs.Held.{Held, StandsFor as StandsForOctets, new_held, rest_reading, behind}
+use Rattle.agwpe_port.specs.Messages.{Reading, reading}
+use Rattle.agwpe_port.specs.Held.{StandsFor as StandsForOctets, new_held, rest_reading, behind}
 use Rattle.agwpe_port.proofs.HeldLemmas.{bad_now, stands_new, stands_next, stands_failed}
-use Rattle.agwpe_client.specs.declared.call_state.CallState.{CallState}
-use Rattle.agwpe_client.specs.declared.call_state.CallState.TheVariants.{Asking, Calling, Up, Done, Refused, Broken}
-use Rattle.agwpe_client.specs.declared.step.Step.TheVariants.{Ignore}
-use Rattle.agwpe_client.specs.CallSteps.{step_of}
-use Rattle.agwpe_client.specs.CallRun.{CallPlan, CallRun, begin, moving, stepped, with_message, is_over}
-use Rattle.agwpe_client.specs.CallRun.{with_bad_length}
-use Rattle.agwpe_client.specs.CallRun.{call_run, state_after}
 
 -- ---- a reader for each stream
 

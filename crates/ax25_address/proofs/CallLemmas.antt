@@ -1,15 +1,12 @@
 -- Facts on names and on their faults.
-use Rattle.std.proofs.Common.{◌≡◌, ℕ, suc, ◌+◌, ◌-◌, ◌<◌, ◌≤◌, ◌++◌, List, [], ◌∷◌, length, get_or, set, take}
-use Rattle.std.proofs.Common.{replicate, refl, sym, ap, subst, ◌∙◌, arith, None, Some, inl, inr, append_assoc}
-use Rattle.std.proofs.Common.{length-append}
-use Rattle.std.proofs.lemmas.List.{set_at, take_at, take_all, take_more, length-take-le, length-replicate}
-use Rattle.std.proofs.lemmas.List.{get_or_default}
-use Rattle.std.proofs.lemmas.Bool.{cases_lt}
-use Rattle.ax25_address.specs.Callsign.{IsName, IsCallCharacter, padded}
-use Rattle.ax25_address.specs.Held.{IsHeld}
-use Rattle.ax25_address.specs.CallText.{IsFaultOf, IsFirstBadCharacter}
-use Rattle.ax25_address.specs.declared.call.CallFault.{CallFault}
-use Rattle.ax25_address.specs.declared.call.CallFault.TheVariants.{Empty, TooLong, BadChar, BadSsid}
+use Rattle.ax25_address.proofs.Common.{◌≡◌, ℕ, suc, ◌+◌, ◌-◌, ◌<◌, ◌≤◌, ◌++◌, List, [], ◌∷◌, length, get_or, take}
+use Rattle.ax25_address.proofs.Common.{replicate, refl, sym, ap, subst, ◌∙◌, arith, Some, inl, inr, take_at, take_all}
+use Rattle.ax25_address.proofs.Common.{take_more, length-take-le, length-replicate, get_or_default, cases_lt, IsName}
+use Rattle.ax25_address.proofs.Common.{IsCallCharacter, padded, IsHeld, IsFaultOf, CallFault, TooLong, BadSsid}
+use Rattle.std.proofs.Common.{set, None, append_assoc, length-append}
+use Rattle.std.proofs.lemmas.List.{set_at}
+use Rattle.ax25_address.specs.CallText.{IsFirstBadCharacter}
+use Rattle.ax25_address.specs.declared.call.CallFault.TheVariants.{Empty, BadChar}
 
 -- the first n characters of a name are good, and stand in six characters before nothing but spaces
 pub record IsFilling (name characters : List ℕ) (n : ℕ) : Type 0 where

@@ -1,20 +1,14 @@
 -- Address fields octet by octet.
-use Rattle.std.proofs.Common.{◌≡◌, ℕ, ◌+◌, ◌-◌, ◌*◌, ◌/◌, ◌%◌, ◌<◌, ◌≤◌, ◌++◌, List, [], ◌∷◌, length, get_or, take}
-use Rattle.std.proofs.Common.{drop, map, replicate, refl, sym, ap, subst, arith, inl, inr, ◌∙◌, Bool, true, false, leb}
-use Rattle.std.proofs.Common.{eqb}
-use Rattle.std.proofs.lemmas.List.{length-append, length-map, length-replicate, get_or-replicate, get_or_append_left}
-use Rattle.std.proofs.lemmas.List.{get_or-append_right, get_or-map, get_or-take, get_or-drop, length-take, length-drop}
-use Rattle.std.proofs.lemmas.List.{length-take-le, ext_get_or, get_or_default, take_more, take-take, take_at, get_or_at}
-use Rattle.std.proofs.lemmas.Bool.{cases_lt}
-use Rattle.std.proofs.lemmas.Bool.Decides.{nat_tests}
-use Rattle.ax25_address.specs.AddressField.{bit, ssid_octet, IsField}
-use Rattle.ax25_address.specs.FramePath.{field_at}
-use Rattle.ax25_address.specs.Callsign.{Callsign, IsName, IsCall, IsCallCharacter, padded}
-use Rattle.ax25_address.specs.Held.{IsHeld}
-use Rattle.ax25_address.specs.PathFault.{IsNamePlace, GoesOnFor, ShowsFault}
+use Rattle.ax25_address.proofs.Common.{◌≡◌, ℕ, ◌+◌, ◌-◌, ◌*◌, ◌/◌, ◌%◌, ◌<◌, ◌≤◌, ◌++◌, List, [], ◌∷◌, length, get_or}
+use Rattle.ax25_address.proofs.Common.{take, drop, map, replicate, refl, sym, ap, subst, arith, inl, inr, ◌∙◌, Bool}
+use Rattle.ax25_address.proofs.Common.{true, false, leb, eqb, length-append, length-map, length-replicate}
+use Rattle.ax25_address.proofs.Common.{get_or_append_left, get_or-append_right, get_or-map, length-take-le, ext_get_or}
+use Rattle.ax25_address.proofs.Common.{get_or_default, take_more, take-take, take_at, cases_lt, nat_tests, bit}
+use Rattle.ax25_address.proofs.Common.{ssid_octet, IsField, field_at, Callsign, IsName, IsCall, IsCallCharacter, padded}
+use Rattle.ax25_address.proofs.Common.{IsHeld, GoesOnFor, ShowsFault, AddrFault, Short, BadChar, OneAddress, NoEnd}
+use Rattle.std.proofs.lemmas.List.{get_or-replicate, get_or-take, get_or-drop, length-take, length-drop, get_or_at}
+use Rattle.ax25_address.specs.PathFault.{IsNamePlace}
 use Rattle.ax25_address.specs.FieldFault.{HasNameUpTo, IsShiftedCharacter, IsFieldFault}
-use Rattle.ax25_address.specs.declared.fault.AddrFault.{AddrFault}
-use Rattle.ax25_address.specs.declared.fault.AddrFault.TheVariants.{Short, BadChar, OneAddress, NoEnd}
 
 -- the first i octets of a field that begins at start are the first i of six characters, of which the first len are no
 -- padding

@@ -1,21 +1,16 @@
 -- Octets spell at most one path, or show one fault, but not both.
-use Rattle.std.proofs.Common.{◌≡◌, ℕ, zero, suc, ◌+◌, ◌-◌, ◌*◌, ◌/◌, ◌%◌, ◌<◌, ◌≤◌, ◌⊎◌, List, length, get_or, take}
-use Rattle.std.proofs.Common.{refl, sym, ap, subst, arith, inl, inr, ◌∙◌, Bool, true, false, eqb, Result, Ok, Err, IfOk}
-use Rattle.std.proofs.Common.{IfErr}
-use Rattle.std.proofs.lemmas.List.{ext_get_or, same_lists, length-take-le}
-use Rattle.std.proofs.lemmas.Bool.{cases_lt}
-use Rattle.std.proofs.lemmas.Bool.Decides.{nat_tests}
-use Rattle.ax25_address.specs.Callsign.{Callsign}
+use Rattle.ax25_address.proofs.Common.{◌≡◌, ℕ, suc, ◌+◌, ◌-◌, ◌*◌, ◌/◌, ◌%◌, ◌<◌, ◌≤◌, ◌⊎◌, List, length, get_or, take}
+use Rattle.ax25_address.proofs.Common.{refl, sym, ap, subst, arith, inl, inr, ◌∙◌, Bool, true, false, eqb, Result, Err}
+use Rattle.ax25_address.proofs.Common.{ext_get_or, length-take-le, cases_lt, nat_tests, Callsign, bit, ssid_octet}
+use Rattle.ax25_address.proofs.Common.{IsField, field_at, IsPath, BeginsWithPath, repeater_count, destination_bit}
+use Rattle.ax25_address.proofs.Common.{source_bit, GoesOnFor, ShowsFault, Hop, Path, AddrFault, Short, BadChar}
+use Rattle.ax25_address.proofs.Common.{OneAddress, NoEnd}
+use Rattle.std.proofs.Common.{zero, Ok, IfOk, IfErr}
+use Rattle.std.proofs.lemmas.List.{same_lists}
 use Rattle.ax25_address.specs.SameCall.{call_same}
-use Rattle.ax25_address.specs.AddressField.{bit, ssid_octet, IsField}
-use Rattle.ax25_address.specs.FramePath.{field_at, IsPath, BeginsWithPath, repeater_count, destination_bit, source_bit}
-use Rattle.ax25_address.specs.PathFault.{GoesOn, GoesOnFor, ShowsFault}
-use Rattle.ax25_address.specs.declared.path.Hop.{Hop}
-use Rattle.ax25_address.specs.declared.path.Path.{Path}
+use Rattle.ax25_address.specs.PathFault.{GoesOn}
 use Rattle.ax25_address.specs.declared.path.Role.{Role}
 use Rattle.ax25_address.specs.declared.path.Role.TheVariants.{Command, Response, Old}
-use Rattle.ax25_address.specs.declared.fault.AddrFault.{AddrFault}
-use Rattle.ax25_address.specs.declared.fault.AddrFault.TheVariants.{Short, BadChar, OneAddress, NoEnd}
 use Rattle.ax25_address.proofs.FieldLemmas.{bit_small, bit_same, field_octet, last_octet, padded-name, padded-space}
 use Rattle.ax25_address.proofs.FieldLemmas.{HasNameUpTo-field, field_end}
 use Rattle.ax25_address.proofs.PathLemmas.{field_at-take}

@@ -1,16 +1,11 @@
 -- Paths field by field.
-use Rattle.std.proofs.Common.{◌≡◌, ℕ, ◌+◌, ◌-◌, ◌*◌, ◌<◌, ◌≤◌, ◌++◌, List, [], ◌∷◌, length, get_or, take, drop, sym, ap}
-use Rattle.std.proofs.Common.{arith, inl, inr, ◌∙◌, Bool, true, false, eqb}
-use Rattle.std.proofs.lemmas.List.{length_push, get_or_append_left, get_or_push, drop-take, take-take, length-take-le}
-use Rattle.std.proofs.lemmas.Bool.{cases_lt}
-use Rattle.std.proofs.lemmas.Bool.Decides.{nat_tests}
-use Rattle.ax25_address.specs.Callsign.{Callsign}
-use Rattle.ax25_address.specs.AddressField.{IsField}
-use Rattle.ax25_address.specs.FramePath.{field_at, BeginsWithPath, repeater_count, destination_bit, source_bit}
-use Rattle.ax25_address.specs.declared.path.Path.{Path}
-use Rattle.ax25_address.specs.PathFault.{GoesOnFor}
+use Rattle.ax25_address.proofs.Common.{◌≡◌, ℕ, ◌+◌, ◌-◌, ◌*◌, ◌<◌, ◌≤◌, ◌++◌, List, [], ◌∷◌, length, get_or, take, drop}
+use Rattle.ax25_address.proofs.Common.{sym, ap, arith, inl, inr, ◌∙◌, Bool, true, false, eqb, get_or_append_left}
+use Rattle.ax25_address.proofs.Common.{take-take, length-take-le, cases_lt, nat_tests, Callsign, IsField, field_at}
+use Rattle.ax25_address.proofs.Common.{BeginsWithPath, repeater_count, destination_bit, source_bit, Path, GoesOnFor}
+use Rattle.ax25_address.proofs.Common.{Hop}
+use Rattle.std.proofs.lemmas.List.{length_push, get_or_push, drop-take}
 use Rattle.ax25_address.specs.Repeaters.{AreRepeaters}
-use Rattle.ax25_address.specs.declared.path.Hop.{Hop}
 use Rattle.ax25_address.proofs.FieldLemmas.{GoesOnFor-field, whole_field}
 
 -- the fields from the third to field k are these repeaters, and none has the end bit

@@ -1,10 +1,8 @@
 -- What tells an SSID, octet by octet.
-use Rattle.std.proofs.Common.{◌≡◌, ℕ, ◌+◌, ◌-◌, ◌/◌, ◌%◌, ◌++◌, ◌<◌, ◌≤◌, ◌⊎◌, List, [], ◌∷◌, length, get_or, sym, ap}
-use Rattle.std.proofs.Common.{arith, inl, inr, ◌∙◌}
+use Rattle.ax25_address.proofs.Common.{◌≡◌, ℕ, ◌+◌, ◌-◌, ◌/◌, ◌%◌, ◌++◌, ◌<◌, ◌≤◌, ◌⊎◌, List, [], ◌∷◌, length, get_or}
+use Rattle.ax25_address.proofs.Common.{sym, ap, arith, inl, inr, ◌∙◌, decimal_digit, cases_lt, TellsSsid, ssid_suffix}
 use Rattle.std.specs.Fmt.{decimal}
-use Rattle.std.proofs.lemmas.Fmt.{decimal_digit, decimal_step}
-use Rattle.std.proofs.lemmas.Bool.{cases_lt}
-use Rattle.ax25_address.specs.CallText.{TellsSsid, ssid_suffix}
+use Rattle.std.proofs.lemmas.Fmt.{decimal_step}
 
 -- a number from 10 to 15 has a 1 and one more digit
 pub decimal_two_digits : (n : ℕ) → 10 ≤ n → n < 16 → decimal n ≡ 49 ∷ (48 + (n - 10)) ∷ []

@@ -1,14 +1,13 @@
 -- The text of a call is read as that call.
-use Rattle.std.proofs.Common.{◌≡◌, ℕ, ◌+◌, ◌<◌, ◌++◌, List, [], length, get_or, take, drop, map, refl, sym, ap, subst}
-use Rattle.std.proofs.Common.{arith, inl, inr, ◌∙◌, eqb, false, append-nil, cond, Bool}
+use Rattle.ax25_address.proofs.Common.{◌≡◌, ℕ, ◌+◌, ◌<◌, ◌++◌, List, [], length, get_or, take, drop, map, refl, sym, ap}
+use Rattle.ax25_address.proofs.Common.{subst, arith, inl, inr, ◌∙◌, eqb, false, Bool, to_ascii_uppercase, ext_get_or}
+use Rattle.ax25_address.proofs.Common.{length-map, length-append, get_or-map, get_or_append_left, get_or-append_right}
+use Rattle.ax25_address.proofs.Common.{take_at, drop_at, position_or_len_is, nat_tests, Callsign, IsCall}
+use Rattle.ax25_address.proofs.Common.{IsCallCharacter, IsCallText, TellsSsid, ssid_suffix, text_of_call}
+use Rattle.std.proofs.Common.{append-nil, cond}
 use Rattle.std.specs.List.{All}
-use Rattle.std.specs.Char.{to_ascii_uppercase}
-use Rattle.std.proofs.lemmas.List.{ext_get_or, length-map, length-append, get_or-map, get_or_append_left}
-use Rattle.std.proofs.lemmas.List.{get_or-append_right, take_at, drop_at}
-use Rattle.std.proofs.lemmas.List.Sums.{position_or_len_is}
-use Rattle.std.proofs.lemmas.Bool.Decides.{nat_tests, eqb_tells}
-use Rattle.ax25_address.specs.Callsign.{Callsign, IsCall, IsCallCharacter}
-use Rattle.ax25_address.specs.CallText.{IsCallText, TellsSsid, dash_place, ssid_suffix, text_of_call}
+use Rattle.std.proofs.lemmas.Bool.Decides.{eqb_tells}
+use Rattle.ax25_address.specs.CallText.{dash_place}
 
 upper_character : (c : ℕ) → IsCallCharacter c → to_ascii_uppercase c ≡ c
 upper_character c h = elim h [ inl capital ↦ grind (arith, nat_tests) | inr digit ↦ grind (arith, nat_tests) ]

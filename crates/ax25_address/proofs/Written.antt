@@ -1,14 +1,10 @@
 -- Paths as they are written.
-use Rattle.std.proofs.Common.{◌≡◌, ℕ, ◌+◌, ◌*◌, ◌<◌, ◌≤◌, ◌++◌, List, [], length, get_or, take, refl, sym, ap, subst}
-use Rattle.std.proofs.Common.{arith, inl, inr, ◌∙◌, Bool, false, eqb}
-use Rattle.std.proofs.lemmas.List.{length-append, take_at, take_all, drop_at}
-use Rattle.std.proofs.lemmas.Bool.{cases_lt}
-use Rattle.ax25_address.specs.Callsign.{Callsign, IsCall}
-use Rattle.ax25_address.specs.AddressField.{field_octets, IsField, IsWrittenField}
-use Rattle.ax25_address.specs.FramePath.{field_at, IsPath, IsWrittenPath, BeginsWithPath, repeater_count}
-use Rattle.ax25_address.specs.FramePath.{destination_bit, source_bit}
-use Rattle.ax25_address.specs.declared.path.Hop.{Hop}
-use Rattle.ax25_address.specs.declared.path.Path.{Path}
+use Rattle.ax25_address.proofs.Common.{◌≡◌, ℕ, ◌+◌, ◌*◌, ◌<◌, ◌≤◌, ◌++◌, List, [], length, get_or, take, refl, sym, ap}
+use Rattle.ax25_address.proofs.Common.{subst, arith, inl, inr, ◌∙◌, Bool, false, eqb, length-append, take_at, take_all}
+use Rattle.ax25_address.proofs.Common.{drop_at, cases_lt, Callsign, IsCall, field_octets, IsField, field_at, IsPath}
+use Rattle.ax25_address.proofs.Common.{BeginsWithPath, repeater_count, destination_bit, source_bit, Hop, Path}
+use Rattle.ax25_address.specs.AddressField.{IsWrittenField}
+use Rattle.ax25_address.specs.FramePath.{IsWrittenPath}
 use Rattle.ax25_address.proofs.FieldLemmas.{length-field}
 use Rattle.ax25_address.proofs.PathLemmas.{field_at-take}
 

@@ -1,22 +1,13 @@
 -- A tick of the whole channel.
-use Rattle.std.proofs.Common.{◌≡◌, ℕ, ◌≤◌, Bool, true, false, cond, eqb, Option, Some, None, is_some, List, [], ◌∷◌}
-use Rattle.std.proofs.Common.{length, refl, ap, ◌∙◌, sym, subst, inl, inr, arith}
-use Rattle.std.specs.List.{All}
-use Rattle.std.proofs.Math.Nat.{le-max_left}
-use Rattle.std.proofs.lemmas.Bool.{cases_Bool, cond-true, eqb-false}
-use Rattle.rand_pcg.specs.Lcg.{Lcg}
-use Rattle.channel_access.specs.declared.parameters.Parameters.{Parameters}
-use Rattle.channel_access.specs.declared.sending.Sending.{Sending}
-use Rattle.channel_access.specs.Parameters.{opening_flags}
-use Rattle.channel_access.specs.Waiting.{WaitingFrame}
-use Rattle.hdlc_framer.specs.FrameLength.{HasFrameLength}
-use Rattle.channel_access.specs.OnAir.{OnAir, bits_then, decided, with_tick}
-use Rattle.channel_access.specs.Channel.{Channel, Decision, decision, begun, air_samples, air_sent, air_waiting}
-use Rattle.channel_access.specs.Channel.{air_after, air_tick, after_tick, Takes}
-use Rattle.channel_access.specs.Held.{Held, new_sending}
-use Rattle.channel_access.specs.HeldTick.{run_of, going_on, held_samples, held_sent, after_held_send, held_tick}
-use Rattle.channel_access.specs.HeldTick.{after_held_tick}
-use Rattle.channel_access.specs.StandsFor.{StandsFor, StandsForAir, Goes}
+use Rattle.channel_access.proofs.Common.{◌≡◌, ℕ, ◌≤◌, Bool, true, false, cond, eqb, Option, Some, None, is_some, List}
+use Rattle.channel_access.proofs.Common.{[], ◌∷◌, length, refl, ap, ◌∙◌, sym, subst, inl, inr, arith, All, le-max_left}
+use Rattle.channel_access.proofs.Common.{cases_Bool, cond-true, Lcg, Parameters, Sending, opening_flags, WaitingFrame}
+use Rattle.channel_access.proofs.Common.{HasFrameLength, OnAir, bits_then, decided, with_tick, Channel, decision, begun}
+use Rattle.channel_access.proofs.Common.{air_samples, air_sent, air_waiting, air_after, air_tick, after_tick, Takes}
+use Rattle.channel_access.proofs.Common.{Held, new_sending, run_of, going_on, held_tick, StandsFor, StandsForAir, Goes}
+use Rattle.std.proofs.lemmas.Bool.{eqb-false}
+use Rattle.channel_access.specs.Channel.{Decision}
+use Rattle.channel_access.specs.HeldTick.{held_samples, held_sent, after_held_send, after_held_tick}
 use Rattle.channel_access.proofs.BodyLemmas.{flags-is}
 use Rattle.channel_access.proofs.OrderLemmas.{air_takes}
 use Rattle.channel_access.proofs.StageLemmas.{now_at}

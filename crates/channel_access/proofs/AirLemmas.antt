@@ -1,32 +1,20 @@
 -- A tick of a transmission: its samples, and what is left of it.
-use Rattle.std.proofs.Common.{◌≡◌, ℕ, ◌+◌, ◌-◌, ◌*◌, ◌/◌, ◌≤◌, ◌⊎◌, Bool, true, false, cond, leb, ltb, Option, Some}
-use Rattle.std.proofs.Common.{None, ℤ, pos, List, [], ◌∷◌, ◌++◌, length, take, drop, replicate, refl, ap, ◌∙◌, sym}
-use Rattle.std.proofs.Common.{subst, inl, inr, arith, length-append, append_assoc, append-nil}
-use Rattle.std.specs.List.{All}
-use Rattle.std.proofs.Math.Nat.{le-max_left}
+use Rattle.channel_access.proofs.Common.{◌≡◌, ℕ, ◌+◌, ◌-◌, ◌*◌, ◌/◌, ◌≤◌, ◌⊎◌, Bool, true, false, cond, leb, ltb}
+use Rattle.channel_access.proofs.Common.{Option, Some, None, ℤ, pos, List, [], ◌∷◌, ◌++◌, length, take, drop, replicate}
+use Rattle.channel_access.proofs.Common.{refl, ap, ◌∙◌, sym, subst, inl, inr, arith, length-append, append_assoc}
+use Rattle.channel_access.proofs.Common.{append-nil, All, le-max_left, cases_Bool, cond-true, cond-false, le-leb}
+use Rattle.channel_access.proofs.Common.{lt-leb, replicate-append-replicate, All-head, wave_from, wave, line}
+use Rattle.channel_access.proofs.Common.{transmission, Mark, flags, body, frame_bits, Sending, Stage, Opening, Frame}
+use Rattle.channel_access.proofs.Common.{Following, Closing, Over, WaitingFrame, HasFrameLength, OnAir, bits_then}
+use Rattle.channel_access.proofs.Common.{bits_of, samples_on_air, decided, followed_by, has_sent_frames, names_next}
+use Rattle.channel_access.proofs.Common.{with_named, frame_named, tick_samples, with_tick, most_frames, Run, tick_start}
+use Rattle.channel_access.proofs.Common.{stage_over, run_of, going_on, Stands, Counts, Sends, Goes, StandsForAir}
+use Rattle.channel_access.proofs.Common.{flag_rest, frame_rest}
 use Rattle.std.proofs.Math.Seq.{take-append_seam, drop-append_seam}
-use Rattle.std.proofs.lemmas.Bool.{cases_Bool, cond-true, cond-false, le-leb, lt-leb}
-use Rattle.std.proofs.lemmas.List.{replicate-append-replicate}
-use Rattle.std.proofs.lemmas.List.Elements.{All-head}
-use Rattle.tone_table.specs.Wave.{wave_from, wave}
-use Rattle.nrzi_bits.specs.Line.{line_from, last_from, line}
+use Rattle.nrzi_bits.specs.Line.{line_from, last_from}
 use Rattle.nrzi_bits.proofs.LineLemmas.{line_from-append}
 use Rattle.afsk_modulator.specs.Phase.{phase_from}
-use Rattle.afsk_modulator.specs.Transmission.{transmission}
 use Rattle.afsk_modulator.proofs.WaveLemmas.{wave_from-append}
-use Rattle.tone_table.specs.declared.tone.Tone.TheVariants.{Mark}
-use Rattle.hdlc_framer.specs.Body.{flags, body}
-use Rattle.hdlc_framer.specs.Frames.{frame_bits}
-use Rattle.channel_access.specs.declared.sending.Sending.{Sending}
-use Rattle.channel_access.specs.declared.stage.Stage.{Stage}
-use Rattle.channel_access.specs.declared.stage.Stage.TheVariants.{Opening, Frame, Following, Closing, Over}
-use Rattle.channel_access.specs.Waiting.{WaitingFrame}
-use Rattle.hdlc_framer.specs.FrameLength.{HasFrameLength}
-use Rattle.channel_access.specs.OnAir.{OnAir, bits_then, bits_of, samples_on_air, decided, followed_by, has_sent_frames}
-use Rattle.channel_access.specs.OnAir.{names_next, with_named, frame_named, tick_samples, with_tick, most_frames}
-use Rattle.channel_access.specs.Held.{Run, tick_start, stage_over}
-use Rattle.channel_access.specs.HeldTick.{run_of, going_on}
-use Rattle.channel_access.specs.StandsFor.{Stands, Counts, Sends, Goes, StandsForAir, flag_rest, frame_rest}
 use Rattle.channel_access.proofs.BodyLemmas.{length-flag_rest, body-more_closing, body-single, body-push}
 use Rattle.channel_access.proofs.FrameLemmas.{next_given}
 use Rattle.channel_access.proofs.StageLemmas.{now_at, by_test, same_now, same_waiting, frames_go_on, frames_ended}

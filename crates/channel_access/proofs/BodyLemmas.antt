@@ -1,18 +1,11 @@
 -- The bits of a transmission, cut where a frame or a flag ends.
-use Rattle.std.proofs.Common.{◌≡◌, ℕ, zero, suc, ◌+◌, ◌*◌, ◌/◌, ◌%◌, ◌≤◌, Bool, true, false, cond, ltb, List, [], ◌∷◌}
-use Rattle.std.proofs.Common.{◌++◌, length, refl, ap, ◌∙◌, sym, arith, length-append, append_assoc, append-nil}
+use Rattle.channel_access.proofs.Common.{◌≡◌, ℕ, zero, suc, ◌+◌, ◌*◌, ◌/◌, ◌%◌, ◌≤◌, Bool, true, false, cond, ltb, List}
+use Rattle.channel_access.proofs.Common.{[], ◌∷◌, ◌++◌, length, refl, ap, ◌∙◌, sym, arith, length-append, append_assoc}
+use Rattle.channel_access.proofs.Common.{append-nil, sent_bits, flags, body, fcs_of, frame_bits, with_fcs, flag}
+use Rattle.channel_access.proofs.Common.{length-sent_bits, joined-push, stuffed_is, flag_bit, flag_rest}
 use Rattle.std.proofs.lemmas.Bool.{ne_eqb}
-use Rattle.hdlc_framer.specs.BitOrder.{sent_bits}
-use Rattle.hdlc_framer.specs.Body.{flags, joined, body}
-use Rattle.hdlc_framer.specs.CheckSequence.{fcs_of}
+use Rattle.hdlc_framer.specs.Body.{joined}
 use Rattle.hdlc_framer.specs.Counted.{stuffed_from}
-use Rattle.hdlc_framer.specs.Frames.{frame_bits, with_fcs}
-use Rattle.hdlc_framer.specs.Stuffing.{flag}
-use Rattle.hdlc_framer.proofs.BitLemmas.{length-sent_bits}
-use Rattle.hdlc_framer.proofs.StuffLemmas.{joined-push}
-use Rattle.hdlc_framer.proofs.StuffingLemmas.{stuffed_is}
-use Rattle.channel_access.specs.Held.{flag_bit}
-use Rattle.channel_access.specs.StandsFor.{flag_rest}
 
 -- flags are all their last bits
 pub flags-is : (count : ℕ) → flags count ≡ flag_rest (8 * count)

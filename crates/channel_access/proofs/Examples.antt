@@ -1,16 +1,10 @@
 -- Worked examples, computed on the definitions.
-use Rattle.std.proofs.Common.{◌≡◌, ℕ, true, false, Some, None, List, [], ◌∷◌, ◌+◌, length, replicate, refl}
-use Rattle.hdlc_framer.specs.BitOrder.{octet_bits}
-use Rattle.hdlc_framer.specs.Body.{body}
-use Rattle.hdlc_framer.specs.CheckSequence.{fcs_of}
-use Rattle.hdlc_framer.specs.Frames.{with_fcs, frame_bits}
+use Rattle.channel_access.proofs.Common.{◌≡◌, ℕ, true, false, Some, None, List, [], ◌∷◌, ◌+◌, length, replicate, refl}
+use Rattle.channel_access.proofs.Common.{octet_bits, body, fcs_of, with_fcs, frame_bits, OnAir, bits_of, flag_end}
+use Rattle.channel_access.proofs.Common.{followed_by, frame_named, frames_end, GoesToItsEnd, Ticks, Channel}
+use Rattle.channel_access.proofs.Common.{new_channel, with_frame, with_setting, decision, begun, air_tick, after_tick}
 use Rattle.channel_access.specs.declared.parameters.Param.TheVariants.{FullDuplex, Persist, TxDelay, TxTail}
 use Rattle.channel_access.specs.Words.{generator_of, draw_stream, draw, after_word}
-use Rattle.channel_access.specs.OnAir.{OnAir, bits_of, flag_end, followed_by, frame_named, frames_end}
-use Rattle.channel_access.specs.WholeTransmission.{GoesToItsEnd}
-use Rattle.channel_access.specs.WholeTransmission.Call.{Ticks}
-use Rattle.channel_access.specs.Channel.{Channel, new_channel, with_frame, with_setting, decision, begun, air_tick}
-use Rattle.channel_access.specs.Channel.{after_tick}
 
 -- SABM with P from N7LEM to NJ7P
 abbrev shortest : List ℕ

@@ -1,19 +1,17 @@
 -- The bits of a frame, one at a time.
-use Rattle.std.proofs.Common.{◌≡◌, ℕ, zero, suc, ◌+◌, ◌*◌, ◌/◌, ◌%◌, ◌^◌, ◌<◌, ◌≤◌, Bool, true, false, eqb, bit_and}
-use Rattle.std.proofs.Common.{List, [], ◌∷◌, length, get_or, refl, ap, ◌∙◌, sym, inl, inr, cond, leb, ltb, drop, Some}
-use Rattle.std.proofs.Common.{arith, length-append, add-one}
+use Rattle.channel_access.proofs.Common.{◌≡◌, ℕ, zero, suc, ◌+◌, ◌*◌, ◌/◌, ◌%◌, ◌^◌, ◌<◌, ◌≤◌, Bool, true, false, eqb}
+use Rattle.channel_access.proofs.Common.{bit_and, List, [], ◌∷◌, length, get_or, refl, ap, ◌∙◌, sym, inl, inr, cond}
+use Rattle.channel_access.proofs.Common.{leb, ltb, drop, Some, arith, length-append, add-one, cases_Bool, cond-true}
+use Rattle.channel_access.proofs.Common.{cond-false, le-leb, lt-leb, lt-ltb, leb-true, leb-false, nat_tests, octet_bits}
+use Rattle.channel_access.proofs.Common.{sent_bits, length-sent_bits, frame_bits, with_fcs, stuffed_is, FrameBits}
+use Rattle.channel_access.proofs.Common.{checked, frame_start, frame_over, frame_rest}
 use Rattle.std.proofs.Math.Seq.{drop-cons}
-use Rattle.std.proofs.lemmas.Bool.{cases_Bool, cond-true, cond-false, le-leb, lt-leb, lt-ltb, leb-true, leb-false}
-use Rattle.std.proofs.lemmas.Bool.Decides.{nat_tests}
 use Rattle.std.proofs.lemmas.List.{drop_all, get_or_append_left, get_or-append_right}
 use Rattle.std.proofs.lemmas.Nat.{and_mask, shr-shr}
-use Rattle.hdlc_framer.specs.BitOrder.{low_bits, octet_bits, sent_bits}
-use Rattle.hdlc_framer.proofs.BitLemmas.{length-octet_bits, length-sent_bits}
-use Rattle.hdlc_framer.specs.Frames.{frame_bits, with_fcs}
-use Rattle.hdlc_framer.proofs.StuffingLemmas.{stuffed_is}
-use Rattle.channel_access.specs.declared.frame_bits.FrameBits.{FrameBits}
-use Rattle.channel_access.specs.Held.{checked, bits_in, bit_count, frame_start, behind_place, next_in_frame, frame_over}
-use Rattle.channel_access.specs.StandsFor.{rest_behind, frame_rest}
+use Rattle.hdlc_framer.specs.BitOrder.{low_bits}
+use Rattle.hdlc_framer.proofs.BitLemmas.{length-octet_bits}
+use Rattle.channel_access.specs.Held.{bits_in, bit_count, behind_place, next_in_frame}
+use Rattle.channel_access.specs.StandsFor.{rest_behind}
 
 low_bits-at : (count n k : ℕ) → k < count → get_or (low_bits count n) k false ≡ eqb (n / 2 ^ k % 2) 1
 low_bits-at zero n k below = absurd (omega arith)

@@ -1,19 +1,12 @@
 -- Bits of one tick: what is decided and named bit by bit is what is decided and named at its end. Frames are
 -- longer than a tick, so a tick sees at most one end of a frame and one flag after a frame.
-use Rattle.std.proofs.Common.{◌≡◌, ℕ, ◌+◌, ◌<◌, ◌≤◌, ◌⊎◌, Bool, true, false, not, ◌&&◌, leb, ltb, List, [], ◌∷◌, ◌++◌}
-use Rattle.std.proofs.Common.{length, drop, refl, ap, ◌∙◌, sym, subst, inl, inr, arith, length-append, append-nil}
-use Rattle.std.specs.List.{All}
-use Rattle.std.proofs.lemmas.Bool.{cases_Bool, cond-true, cond-false, leb-true, leb-false}
-use Rattle.std.proofs.lemmas.List.Elements.{All-head, All-tail}
-use Rattle.hdlc_framer.specs.Body.{body}
-use Rattle.channel_access.specs.declared.frame_bits.FrameBits.{FrameBits}
-use Rattle.channel_access.specs.declared.stage.Stage.{Stage}
-use Rattle.channel_access.specs.declared.stage.Stage.TheVariants.{Opening, Frame, Following, Closing, Over}
-use Rattle.channel_access.specs.Waiting.{WaitingFrame}
-use Rattle.hdlc_framer.specs.FrameLength.{HasFrameLength}
-use Rattle.channel_access.specs.OnAir.{OnAir, most_frames, has_sent_frames, followed_by, decided, names_next}
-use Rattle.channel_access.specs.OnAir.{frames_end, flag_end}
-use Rattle.channel_access.specs.StandsFor.{Stands, Counts, InFrame}
+use Rattle.channel_access.proofs.Common.{◌≡◌, ℕ, ◌+◌, ◌<◌, ◌≤◌, ◌⊎◌, Bool, true, false, not, ◌&&◌, leb, ltb, List, []}
+use Rattle.channel_access.proofs.Common.{◌∷◌, ◌++◌, length, drop, refl, ap, ◌∙◌, sym, subst, inl, inr, arith}
+use Rattle.channel_access.proofs.Common.{length-append, append-nil, All, cases_Bool, cond-true, cond-false, leb-true}
+use Rattle.channel_access.proofs.Common.{leb-false, All-head, All-tail, body, FrameBits, Stage, Opening, Frame}
+use Rattle.channel_access.proofs.Common.{Following, Closing, Over, WaitingFrame, HasFrameLength, OnAir, most_frames}
+use Rattle.channel_access.proofs.Common.{has_sent_frames, followed_by, decided, names_next, frames_end, flag_end}
+use Rattle.channel_access.proofs.Common.{Stands, Counts, InFrame}
 use Rattle.channel_access.proofs.BodyLemmas.{frame_bits-long}
 use Rattle.channel_access.proofs.FrameLemmas.{next_given}
 use Rattle.channel_access.proofs.StageLemmas.{frames_go_on, frames_ended, frames_end_here, flag_goes_on, all_named}

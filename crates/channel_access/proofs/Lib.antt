@@ -1,3 +1,4 @@
+pub mod Common
 pub mod FrameLemmas
 pub mod RunLemmas
 pub mod BodyLemmas

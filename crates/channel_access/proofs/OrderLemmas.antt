@@ -1,20 +1,12 @@
 -- Frames are sent in the order of the queue: the frame that a tick names is the front one of those that wait.
-use Rattle.std.proofs.Common.{◌≡◌, ℕ, ◌+◌, ◌-◌, ◌*◌, ◌≤◌, Bool, true, false, ltb, Option, Some, None, List, [], ◌∷◌}
-use Rattle.std.proofs.Common.{◌++◌}
-use Rattle.std.proofs.Common.{length, get_or, drop, refl, ap, ◌∙◌, sym, subst, inl, inr, arith, append_assoc}
-use Rattle.std.proofs.Common.{append-nil}
-use Rattle.std.proofs.Math.Seq.{get_or-append_seam}
-use Rattle.std.proofs.lemmas.Bool.{cases_Bool, cond-true, cond-false, ltb-true}
+use Rattle.channel_access.proofs.Common.{◌≡◌, ℕ, ◌+◌, ◌-◌, ◌*◌, ◌≤◌, Bool, true, false, ltb, Option, Some, None, List}
+use Rattle.channel_access.proofs.Common.{[], ◌∷◌, ◌++◌, length, get_or, drop, refl, ap, ◌∙◌, sym, subst, inl, inr}
+use Rattle.channel_access.proofs.Common.{arith, append_assoc, append-nil, get_or-append_seam, cases_Bool, cond-true}
+use Rattle.channel_access.proofs.Common.{cond-false, ltb-true, Sent, Sending, Stage, Opening, Frame, Following, Closing}
+use Rattle.channel_access.proofs.Common.{Over, WaitingFrame, OnAir, bits_then, has_sent_frames, followed_by, decided}
+use Rattle.channel_access.proofs.Common.{names_next, flag_end, waiting_with_named, most_frames, air_sent, air_waiting}
+use Rattle.channel_access.proofs.Common.{Takes, Stands, StandsForAir}
 use Rattle.std.proofs.lemmas.List.{length_push}
-use Rattle.channel_access.specs.declared.air_tick.Sent.{Sent}
-use Rattle.channel_access.specs.declared.sending.Sending.{Sending}
-use Rattle.channel_access.specs.declared.stage.Stage.{Stage}
-use Rattle.channel_access.specs.declared.stage.Stage.TheVariants.{Opening, Frame, Following, Closing, Over}
-use Rattle.channel_access.specs.Waiting.{WaitingFrame}
-use Rattle.channel_access.specs.OnAir.{OnAir, bits_then, has_sent_frames, followed_by, decided, names_next, flag_end}
-use Rattle.channel_access.specs.OnAir.{waiting_with_named, most_frames}
-use Rattle.channel_access.specs.Channel.{air_sent, air_waiting, Takes}
-use Rattle.channel_access.specs.StandsFor.{Stands, StandsForAir}
 use Rattle.channel_access.proofs.StageLemmas.{by_test, frames_ended, all_named}
 
 -- a decision adds frames after those that the transmission has, up to eight, and changes no flags

@@ -1,18 +1,12 @@
 -- A new access, a frame that joins the queue after all others, and a parameter that is set: none changes what is under
 -- way.
-use Rattle.std.proofs.Common.{◌≡◌, ℕ, Bool, true, false, Option, Some, None, List, [], ◌∷◌, ◌++◌, refl, ap}
-use Rattle.std.proofs.lemmas.List.Elements.{All-nil, All-push}
-use Rattle.hdlc_framer.specs.FrameLength.{HasFrameLength}
-use Rattle.channel_access.specs.declared.sending.Sending.{Sending}
-use Rattle.channel_access.specs.declared.stage.Stage.{Stage}
-use Rattle.channel_access.specs.declared.stage.Stage.TheVariants.{Opening, Frame, Following, Closing, Over}
+use Rattle.channel_access.proofs.Common.{◌≡◌, ℕ, Bool, true, false, Option, Some, None, List, [], ◌∷◌, ◌++◌, refl, ap}
+use Rattle.channel_access.proofs.Common.{All-nil, All-push, HasFrameLength, Sending, Stage, Opening, Frame, Following}
+use Rattle.channel_access.proofs.Common.{Closing, Over, WaitingFrame, OnAir, Channel, new_channel, with_frame}
+use Rattle.channel_access.proofs.Common.{with_setting, Held, held_with_frame, StandsFor, StandsForAir, Goes, Stands}
 use Rattle.channel_access.specs.declared.parameters.Param.{Param}
 use Rattle.channel_access.specs.Parameters.{with_param}
-use Rattle.channel_access.specs.Waiting.{WaitingFrame}
-use Rattle.channel_access.specs.OnAir.{OnAir}
-use Rattle.channel_access.specs.Channel.{Channel, new_channel, with_frame, with_setting}
-use Rattle.channel_access.specs.Held.{Held, new_held, held_with_frame, held_with_setting}
-use Rattle.channel_access.specs.StandsFor.{StandsFor, StandsForAir, Goes, Stands}
+use Rattle.channel_access.specs.Held.{new_held, held_with_setting}
 
 -- a sender that has sent these bits
 pub record GoesWith (s : Sending) (waiting : List WaitingFrame) (t : OnAir) (sent : List Bool) : Type 0 where

@@ -1,9 +1,7 @@
 -- Bits of a tick, one more at a time.
-use Rattle.std.proofs.Common.{◌≡◌, ℕ, ◌+◌, Bool, Option, List, ◌++◌, ℤ, ap, add-one}
-use Rattle.channel_access.specs.declared.air_tick.Sent.{Sent}
-use Rattle.channel_access.specs.declared.sending.Sending.{Sending}
-use Rattle.channel_access.specs.Waiting.{WaitingFrame}
-use Rattle.channel_access.specs.Held.{Run, step_of, with_step, behind_bit, window_of, sent_with, with_bit, with_bits}
+use Rattle.channel_access.proofs.Common.{◌≡◌, ℕ, ◌+◌, Bool, Option, List, ◌++◌, ℤ, ap, add-one, Sent, Sending}
+use Rattle.channel_access.proofs.Common.{WaitingFrame, Run, step_of, with_step, behind_bit, window_of, sent_with}
+use Rattle.channel_access.proofs.Common.{with_bit, with_bits}
 
 pub with_bits-more : (count : ℕ) (run : Run) → with_bits (count + 1) run ≡ with_bit count (with_bits count run)
 unfolding with_bits

@@ -1,25 +1,18 @@
 -- One bit of a sender, with its samples.
-use Rattle.std.proofs.Common.{◌≡◌, ℕ, ◌+◌, ◌-◌, ◌*◌, ◌≤◌, Bool, true, Option, ℤ, pos, List, [], ◌∷◌, ◌++◌, length}
-use Rattle.std.proofs.Common.{replicate, refl, ap, ◌∙◌, sym, subst, inl, inr, arith, length-append, append_assoc}
-use Rattle.std.proofs.Common.{append-nil}
-use Rattle.std.specs.List.{All}
-use Rattle.std.proofs.lemmas.List.{replicate-append-replicate, length-replicate}
+use Rattle.channel_access.proofs.Common.{◌≡◌, ℕ, ◌+◌, ◌-◌, ◌*◌, ◌≤◌, Bool, true, Option, ℤ, pos, List, [], ◌∷◌, ◌++◌}
+use Rattle.channel_access.proofs.Common.{length, replicate, refl, ap, ◌∙◌, sym, subst, inl, inr, arith, length-append}
+use Rattle.channel_access.proofs.Common.{append_assoc, append-nil, All, replicate-append-replicate, Mark, wave_from}
+use Rattle.channel_access.proofs.Common.{wave, line, length-line_from, Sending, Stage, Opening, Frame, Following}
+use Rattle.channel_access.proofs.Common.{Closing, Over, WaitingFrame, HasFrameLength, OnAir, names_next, decided}
+use Rattle.channel_access.proofs.Common.{flag_end, Step, step_of, with_step, behind_bit, window_of, Sends, Counts}
+use Rattle.std.proofs.lemmas.List.{length-replicate}
 use Rattle.tone_table.specs.declared.tone.Tone.{Tone}
-use Rattle.tone_table.specs.declared.tone.Tone.TheVariants.{Mark}
 use Rattle.tone_table.specs.Tones.{next_phase}
-use Rattle.tone_table.specs.Wave.{pure_window, wave_from, wave}
-use Rattle.nrzi_bits.specs.Line.{sent_tone, line, last_tone}
-use Rattle.nrzi_bits.proofs.LineLemmas.{length-line_from, line-push, last_tone-push}
+use Rattle.tone_table.specs.Wave.{pure_window}
+use Rattle.nrzi_bits.specs.Line.{sent_tone, last_tone}
+use Rattle.nrzi_bits.proofs.LineLemmas.{line-push, last_tone-push}
 use Rattle.afsk_modulator.specs.Modulation.{full, tone_window, behind}
 use Rattle.afsk_modulator.proofs.WaveLemmas.{behind-push, wave-push}
-use Rattle.channel_access.specs.declared.sending.Sending.{Sending}
-use Rattle.channel_access.specs.declared.stage.Stage.{Stage}
-use Rattle.channel_access.specs.declared.stage.Stage.TheVariants.{Opening, Frame, Following, Closing, Over}
-use Rattle.channel_access.specs.Waiting.{WaitingFrame}
-use Rattle.hdlc_framer.specs.FrameLength.{HasFrameLength}
-use Rattle.channel_access.specs.OnAir.{OnAir, names_next, decided, flag_end}
-use Rattle.channel_access.specs.Held.{Step, step_of, with_step, behind_bit, window_of}
-use Rattle.channel_access.specs.StandsFor.{Sends, Counts}
 use Rattle.channel_access.proofs.StageLemmas.{Steps, IsOver, stage_cases, now_at, waiting_at, named_at}
 
 -- the samples of the bits sent so far, and zeros if there were none

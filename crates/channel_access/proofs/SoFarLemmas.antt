@@ -1,16 +1,11 @@
 -- What the ticks of a transmission have sent so far of its frames, and what one tick more sends.
-use Rattle.std.proofs.Common.{◌≡◌, ℕ, ◌+◌, ◌<◌, ◌≤◌, Bool, true, false, ◌&&◌, cond, leb, ltb, Option, Some}
-use Rattle.std.proofs.Common.{None, ℤ, List, [], ◌∷◌, ◌++◌, length, take, drop, get_or, refl, ap, ◌∙◌, sym}
-use Rattle.std.proofs.Common.{inl, inr, arith, append_assoc, append-nil}
-use Rattle.std.proofs.lemmas.Bool.{cases_Bool, ltb-true}
-use Rattle.std.proofs.lemmas.List.{map-append, take-append-le, take_more, length-append}
-use Rattle.std.proofs.lemmas.List.Concat.{flat_map-append}
-use Rattle.channel_access.specs.declared.air_tick.AirTick.{AirTick}
-use Rattle.channel_access.specs.declared.air_tick.Sent.{Sent}
-use Rattle.channel_access.specs.Waiting.{WaitingFrame}
-use Rattle.channel_access.specs.OnAir.{OnAir, most_frames, names_next, flag_end}
-use Rattle.channel_access.specs.Channel.{Takes}
-use Rattle.channel_access.specs.WholeTransmission.{octets_of, names_of, named_in}
+use Rattle.channel_access.proofs.Common.{◌≡◌, ℕ, ◌+◌, ◌<◌, ◌≤◌, Bool, true, false, ◌&&◌, cond, leb, ltb, Option, Some}
+use Rattle.channel_access.proofs.Common.{None, ℤ, List, [], ◌∷◌, ◌++◌, length, take, drop, get_or, refl, ap, ◌∙◌, sym}
+use Rattle.channel_access.proofs.Common.{inl, inr, arith, append_assoc, append-nil, cases_Bool, ltb-true}
+use Rattle.channel_access.proofs.Common.{take-append-le, flat_map-append, AirTick, Sent, WaitingFrame, OnAir}
+use Rattle.channel_access.proofs.Common.{most_frames, names_next, flag_end, Takes, octets_of}
+use Rattle.std.proofs.lemmas.List.{map-append, take_more, length-append}
+use Rattle.channel_access.specs.WholeTransmission.{names_of, named_in}
 use Rattle.channel_access.proofs.OrderLemmas.{AddsFrames}
 
 -- These frames waited when the transmission began, and those joined since. Of them the first are gone, named by its

@@ -1,28 +1,19 @@
 -- One bit of a sender, as the definitions see it: what it decides and names, and where the sender stands then.
-use Rattle.std.proofs.Common.{◌≡◌, ℕ, zero, suc, ◌+◌, ◌-◌, ◌*◌, ◌/◌, ◌<◌, ◌≤◌, ◌⊎◌, Bool, true, false, not, ◌&&◌, cond}
-use Rattle.std.proofs.Common.{leb, ltb, Option, Some, None, List, [], ◌∷◌, ◌++◌, length, take, drop, get_or, refl, ap}
-use Rattle.std.proofs.Common.{◌∙◌, sym, subst, inl, inr, arith, length-append, append_assoc, append-nil}
+use Rattle.channel_access.proofs.Common.{◌≡◌, ℕ, zero, suc, ◌+◌, ◌-◌, ◌*◌, ◌/◌, ◌<◌, ◌≤◌, ◌⊎◌, Bool, true, false, not}
+use Rattle.channel_access.proofs.Common.{◌&&◌, cond, leb, ltb, Option, Some, None, List, [], ◌∷◌, ◌++◌, length, take}
+use Rattle.channel_access.proofs.Common.{drop, get_or, refl, ap, ◌∙◌, sym, subst, inl, inr, arith, length-append}
+use Rattle.channel_access.proofs.Common.{append_assoc, append-nil, get_or-append_seam, cases_Bool, cond-true}
+use Rattle.channel_access.proofs.Common.{cond-false, le-leb, lt-leb, lt-ltb, ltb-true, All, All-head, All-tail}
+use Rattle.channel_access.proofs.Common.{le-max_left, flags, body, frame_bits, FrameBits, Stage, Opening, Frame}
+use Rattle.channel_access.proofs.Common.{Following, Closing, Over, closing_flags, WaitingFrame, HasFrameLength, OnAir}
+use Rattle.channel_access.proofs.Common.{most_frames, has_sent_frames, followed_by, decided, names_next, with_named}
+use Rattle.channel_access.proofs.Common.{waiting_with_named, frames_end, flag_end, Step, flag_bit, frame_start}
+use Rattle.channel_access.proofs.Common.{frame_over, Stands, Counts, InFrame, IsSent, flag_rest, frame_rest}
 use Rattle.std.proofs.Math.Bool.{and-false}
-use Rattle.std.proofs.Math.Seq.{take-append-add, get_or-append_seam}
-use Rattle.std.proofs.lemmas.Bool.{cases_Bool, cond-true, cond-false, le-leb, lt-leb, lt-ltb, le-ltb, ltb-true}
-use Rattle.std.proofs.lemmas.Bool.{ltb-false}
-use Rattle.std.specs.List.{All}
-use Rattle.std.proofs.lemmas.List.Elements.{All-head, All-tail}
-use Rattle.std.proofs.Math.Nat.{le-max_left}
-use Rattle.hdlc_framer.specs.Body.{flags, body}
-use Rattle.hdlc_framer.specs.Frames.{frame_bits}
-use Rattle.channel_access.specs.declared.frame_bits.FrameBits.{FrameBits}
-use Rattle.channel_access.specs.declared.stage.Stage.{Stage}
-use Rattle.channel_access.specs.declared.stage.Stage.TheVariants.{Opening, Frame, Following, Closing, Over}
-use Rattle.channel_access.specs.Parameters.{closing_flags}
-use Rattle.channel_access.specs.Waiting.{WaitingFrame}
-use Rattle.hdlc_framer.specs.FrameLength.{HasFrameLength}
-use Rattle.channel_access.specs.OnAir.{OnAir, most_frames, has_sent_frames, followed_by, decided, names_next}
-use Rattle.channel_access.specs.OnAir.{with_named, waiting_with_named, frames_end, flag_end}
-use Rattle.channel_access.specs.Held.{Step, flag_bit, stage_step, frame_step, behind_opening, frame_start, frame_over}
-use Rattle.channel_access.specs.Held.{joins, other_closing}
-use Rattle.channel_access.specs.StandsFor.{Stands, Counts, InOpening, InFrame, InFlag, InClosing, IsSent, flag_rest}
-use Rattle.channel_access.specs.StandsFor.{frame_rest}
+use Rattle.std.proofs.Math.Seq.{take-append-add}
+use Rattle.std.proofs.lemmas.Bool.{le-ltb, ltb-false}
+use Rattle.channel_access.specs.Held.{stage_step, frame_step, behind_opening, joins, other_closing}
+use Rattle.channel_access.specs.StandsFor.{InOpening, InFlag, InClosing}
 use Rattle.channel_access.proofs.BodyLemmas.{flags-is, length-flag_rest, body-closing, body-more_closing, body-single}
 use Rattle.channel_access.proofs.BodyLemmas.{body-push, frame_bits-long}
 use Rattle.channel_access.proofs.FrameLemmas.{NextInFrame, next_given, frame_rest-start, frame_rest-over}

@@ -1,18 +1,10 @@
 -- The bits of a tick, from its first one on.
-use Rattle.std.proofs.Common.{◌≡◌, ℕ, zero, suc, ◌+◌, ◌-◌, ◌*◌, ◌≤◌, Bool, true, cond, Option, Some, None, ℤ, List, []}
-use Rattle.std.proofs.Common.{◌∷◌, ◌++◌, length, get_or, drop, refl, ap, ◌∙◌, sym, subst, inl, inr, arith, append_assoc}
-use Rattle.std.specs.List.{All}
-use Rattle.std.proofs.lemmas.Bool.{cases_Bool, cond-true, cond-false}
-use Rattle.std.proofs.lemmas.Bool.Decides.{nat_tests}
-use Rattle.std.proofs.lemmas.List.Elements.{All-tail}
-use Rattle.channel_access.specs.declared.air_tick.Sent.{Sent}
-use Rattle.channel_access.specs.declared.sending.Sending.{Sending}
-use Rattle.channel_access.specs.Waiting.{WaitingFrame}
-use Rattle.hdlc_framer.specs.FrameLength.{HasFrameLength}
-use Rattle.channel_access.specs.OnAir.{OnAir, decided, names_next, with_named, waiting_with_named, flag_end}
-use Rattle.channel_access.specs.Held.{Run, step_of, with_step, behind_bit, window_of, sent_with, with_bit, with_bits}
-use Rattle.channel_access.specs.Held.{tick_start}
-use Rattle.channel_access.specs.StandsFor.{Sends}
+use Rattle.channel_access.proofs.Common.{◌≡◌, ℕ, zero, suc, ◌+◌, ◌-◌, ◌*◌, ◌≤◌, Bool, true, cond, Option, Some, None, ℤ}
+use Rattle.channel_access.proofs.Common.{List, [], ◌∷◌, ◌++◌, length, get_or, drop, refl, ap, ◌∙◌, sym, subst, inl, inr}
+use Rattle.channel_access.proofs.Common.{arith, append_assoc, All, cases_Bool, cond-true, cond-false, nat_tests}
+use Rattle.channel_access.proofs.Common.{All-tail, Sent, Sending, WaitingFrame, HasFrameLength, OnAir, decided}
+use Rattle.channel_access.proofs.Common.{names_next, with_named, waiting_with_named, flag_end, Run, step_of, with_step}
+use Rattle.channel_access.proofs.Common.{behind_bit, window_of, sent_with, with_bit, with_bits, tick_start, Sends}
 use Rattle.channel_access.proofs.StageLemmas.{now_at, waiting_at, named_at, named_of, same_now, same_waiting}
 use Rattle.channel_access.proofs.StageLemmas.{none_named, by_test}
 use Rattle.channel_access.proofs.SendingLemmas.{SendsMore, sends_more, padded}

@@ -1,21 +1,12 @@
 -- What a transmission is as a whole, over all its ticks.
-use Rattle.std.proofs.Common.{◌≡◌, ℕ, ◌+◌, ◌*◌, ◌≤◌, Bool, true, false, not, ◌&&◌, cond, eqb, leb, ltb, ℤ, pos, List}
-use Rattle.std.proofs.Common.{[], ◌∷◌, ◌++◌, length, take, drop, replicate, refl, ap, ◌∙◌, sym, inl, inr, arith}
-use Rattle.std.proofs.Common.{append_assoc, append-nil}
-use Rattle.std.proofs.lemmas.Bool.{cases_Bool}
-use Rattle.std.proofs.lemmas.List.{take-append-le, drop-append-le, length-drop}
-use Rattle.afsk_modulator.specs.Transmission.{transmission}
-use Rattle.hdlc_framer.specs.Body.{flags, body}
-use Rattle.hdlc_framer.specs.Frames.{frame_bits}
-use Rattle.hdlc_framer.specs.Stuffing.{flag}
-use Rattle.hdlc_framer.proofs.StuffLemmas.{joined-push}
-use Rattle.nrzi_bits.specs.Line.{line}
-use Rattle.nrzi_bits.proofs.LineLemmas.{length-line_from}
-use Rattle.tone_table.specs.declared.tone.Tone.TheVariants.{Mark}
-use Rattle.tone_table.specs.Wave.{wave}
-use Rattle.channel_access.specs.Waiting.{WaitingFrame}
-use Rattle.channel_access.specs.OnAir.{OnAir, bits_then, bits_of, samples_on_air, frames_end, has_sent_frames}
-use Rattle.channel_access.specs.OnAir.{followed_by, decided, tick_samples, most_frames}
+use Rattle.channel_access.proofs.Common.{◌≡◌, ℕ, ◌+◌, ◌*◌, ◌≤◌, Bool, true, false, not, ◌&&◌, cond, eqb, leb, ltb, ℤ}
+use Rattle.channel_access.proofs.Common.{pos, List, [], ◌∷◌, ◌++◌, length, take, drop, replicate, refl, ap, ◌∙◌, sym}
+use Rattle.channel_access.proofs.Common.{inl, inr, arith, append_assoc, append-nil, cases_Bool, take-append-le}
+use Rattle.channel_access.proofs.Common.{transmission, flags, body, frame_bits, flag, joined-push, line}
+use Rattle.channel_access.proofs.Common.{length-line_from, Mark, wave, WaitingFrame, OnAir, bits_then, bits_of}
+use Rattle.channel_access.proofs.Common.{samples_on_air, frames_end, has_sent_frames, followed_by, decided}
+use Rattle.channel_access.proofs.Common.{tick_samples, most_frames}
+use Rattle.std.proofs.lemmas.List.{drop-append-le, length-drop}
 use Rattle.channel_access.proofs.BodyLemmas.{body-closing}
 use Rattle.channel_access.proofs.StageLemmas.{by_test}
 use Rattle.channel_access.proofs.SendingLemmas.{length-wave_from}

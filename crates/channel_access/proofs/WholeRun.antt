@@ -1,43 +1,27 @@
 -- The ticks of a transmission from its first one on are one transmission.
-use Rattle.std.proofs.Common.{◌≡◌, ℕ, ◌+◌, ◌-◌, ◌*◌, ◌/◌, ◌<◌, ◌≤◌, ◌⊎◌, Bool, true, false, cond, leb, Option}
-use Rattle.std.proofs.Common.{Some, None, is_some, pos, List, [], ◌∷◌, ◌++◌, length, take, get_or, replicate}
-use Rattle.std.proofs.Common.{refl, ap, ◌∙◌, sym, subst, inl, inr, arith, append_assoc, append-nil, length-append}
+use Rattle.channel_access.proofs.Common.{◌≡◌, ℕ, ◌+◌, ◌-◌, ◌*◌, ◌/◌, ◌<◌, ◌≤◌, ◌⊎◌, Bool, true, false, cond, leb}
+use Rattle.channel_access.proofs.Common.{Option, Some, None, is_some, pos, List, [], ◌∷◌, ◌++◌, length, take, get_or}
+use Rattle.channel_access.proofs.Common.{replicate, refl, ap, ◌∙◌, sym, subst, inl, inr, arith, append_assoc}
+use Rattle.channel_access.proofs.Common.{append-nil, length-append, cases_Bool, take_all, flat_map-append, All-nil}
+use Rattle.channel_access.proofs.Common.{All-head, All-tail, All-push, le-max_left, line, wave, body, HasFrameLength}
+use Rattle.channel_access.proofs.Common.{transmission, AirTick, Sending, Stage, Opening, Frame, Following, Closing}
+use Rattle.channel_access.proofs.Common.{Over, Lcg, Parameters, opening_flags, closing_flags, WaitingFrame, OnAir}
+use Rattle.channel_access.proofs.Common.{bits_of, bits_then, decided, names_next, flag_end, frame_named, tick_samples}
+use Rattle.channel_access.proofs.Common.{with_tick, Channel, decision, begun, air_samples, air_sent, air_waiting}
+use Rattle.channel_access.proofs.Common.{air_after, air_tick, after_tick, new_sending, stage_over, run_of, Stands}
+use Rattle.channel_access.proofs.Common.{StandsForAir, Goes, IsSent, Ticks, GoesToItsEnd, octets_of}
 use Rattle.std.specs.Option.{IsSome}
-use Rattle.std.proofs.lemmas.Bool.{cases_Bool}
-use Rattle.std.proofs.lemmas.List.{take_all}
-use Rattle.std.proofs.lemmas.List.Concat.{flat_map-append}
-use Rattle.std.proofs.lemmas.List.Elements.{All-nil, All-cons, All-head, All-tail, All-push}
-use Rattle.std.proofs.Math.Nat.{le-max_left}
-use Rattle.nrzi_bits.specs.Line.{line}
-use Rattle.tone_table.specs.Wave.{wave}
-use Rattle.hdlc_framer.specs.Body.{body}
-use Rattle.hdlc_framer.specs.FrameLength.{HasFrameLength}
-use Rattle.afsk_modulator.specs.Transmission.{transmission}
-use Rattle.channel_access.specs.declared.air_tick.AirTick.{AirTick}
-use Rattle.channel_access.specs.declared.sending.Sending.{Sending}
-use Rattle.channel_access.specs.declared.stage.Stage.{Stage}
-use Rattle.channel_access.specs.declared.stage.Stage.TheVariants.{Opening, Frame, Following, Closing, Over}
-use Rattle.rand_pcg.specs.Lcg.{Lcg}
-use Rattle.channel_access.specs.declared.parameters.Parameters.{Parameters}
-use Rattle.channel_access.specs.Parameters.{opening_flags, closing_flags}
-use Rattle.channel_access.specs.Waiting.{WaitingFrame}
-use Rattle.channel_access.specs.OnAir.{OnAir, bits_of, bits_then, decided, names_next, flag_end, frame_named}
-use Rattle.channel_access.specs.OnAir.{tick_samples, with_tick}
-use Rattle.channel_access.specs.Channel.{Channel, decision, begun, air_samples, air_sent, air_waiting, air_after}
-use Rattle.channel_access.specs.Channel.{air_tick, after_tick}
-use Rattle.channel_access.specs.Held.{new_sending, stage_over}
-use Rattle.channel_access.specs.HeldTick.{run_of}
-use Rattle.channel_access.specs.StandsFor.{Stands, StandsForAir, Goes, IsSent}
+use Rattle.std.proofs.lemmas.List.Elements.{All-cons}
 use Rattle.channel_access.specs.WholeTransmission.{Call, after_call, after_calls, tick_of_call, ticks_of, joins_in}
-use Rattle.channel_access.specs.WholeTransmission.Call.{Queues, Sets, Ticks}
-use Rattle.channel_access.specs.WholeTransmission.{joining, AreFrames, GoesToItsEnd, octets_of, samples_in}
-use Rattle.channel_access.specs.WholeTransmission.{AreOneTransmission, SendOneTransmission}
+use Rattle.channel_access.specs.WholeTransmission.{joining, AreFrames, samples_in, AreOneTransmission}
+use Rattle.channel_access.specs.WholeTransmission.{SendOneTransmission}
+use Rattle.channel_access.specs.WholeTransmission.Call.{Queues, Sets}
 use Rattle.channel_access.proofs.OrderLemmas.{decided_frames, air_takes}
 use Rattle.channel_access.proofs.StageLemmas.{now_at, waiting_at}
 use Rattle.channel_access.proofs.SendingLemmas.{padded}
 use Rattle.channel_access.proofs.TickLemmas.{all_waiting}
-use Rattle.channel_access.proofs.AirLemmas.{at_end, run_samples, run_air, goes_on, same_ticks, full_before}
-use Rattle.channel_access.proofs.AirLemmas.{is_left, closed_bits, bits_of-with_named}
+use Rattle.channel_access.proofs.AirLemmas.{at_end, run_samples, run_air, goes_on, same_ticks, full_before, is_left}
+use Rattle.channel_access.proofs.AirLemmas.{closed_bits, bits_of-with_named}
 use Rattle.channel_access.proofs.AccessLemmas.{begins, some_wait}
 use Rattle.channel_access.proofs.QueueLemmas.{GoesWith, goes_joined}
 use Rattle.channel_access.proofs.WholeLemmas.{decided_adds}

@@ -1,9 +1,6 @@
 -- A sends d, or C again, or neither.
-use Rattle.std.proofs.Common.{◌≡◌, Bool, true, false, refl, sym, subst}
-use Rattle.std.specs.Prelude.{MatchBool, ◌↔◌, IsTrue}
-use Rattle.channel_bench.specs.declared.words.BenchWords.{BenchWords}
-use Rattle.channel_bench.specs.BenchState.{BenchState}
-use Rattle.channel_bench.specs.BenchTick.{AcceptsProgram, IsAsked, IsAskedOrCalled, IsCalled, is_complete}
+use Rattle.channel_bench.proofs.Common.{◌≡◌, Bool, true, false, refl, sym, subst, MatchBool, ◌↔◌, IsTrue, BenchWords}
+use Rattle.channel_bench.proofs.Common.{BenchState, AcceptsProgram, IsAsked, IsAskedOrCalled, IsCalled, is_complete}
 
 module _ (w : BenchWords) (before after : BenchState) (accepts : Bool)
     (exactly : IsTrue accepts ↔ AcceptsProgram before.a) where

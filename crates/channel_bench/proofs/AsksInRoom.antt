@@ -1,28 +1,18 @@
 -- In a run of the bench no SABM, SABME or DISC of A's link that is not up finds the transmit queue full.
-use Rattle.std.proofs.Common.{◌≡◌, ℕ, zero, suc, ◌==◌, Bool, true, false, List, [], ◌∷◌, ◌++◌, cond, None, refl, sym}
-use Rattle.std.proofs.Common.{ap, subst}
-use Rattle.std.specs.Prelude.{MatchBool}
+use Rattle.channel_bench.proofs.Common.{◌≡◌, ℕ, zero, suc, ◌==◌, Bool, true, false, List, [], ◌∷◌, ◌++◌, cond, None}
+use Rattle.channel_bench.proofs.Common.{refl, sym, ap, subst, MatchBool, append_assoc, A, B, each_append, BenchWords}
+use Rattle.channel_bench.proofs.Common.{stations_of, steps_of_run, the_calls, AreTicks, BenchState, near, new_bench}
+use Rattle.channel_bench.proofs.Common.{IsStep, IsTicking, IsTold, ArePartsMade, IsAsked, IsCalled, IsGiven}
+use Rattle.channel_bench.proofs.Common.{IsListening, IsPart, IsTick, Part, beginning, each_tick, is_complete, parts_of}
+use Rattle.channel_bench.proofs.Common.{with_asking, with_calling, AsksOrCalls, Closes, Gives, Listens, Sounds, Tells}
+use Rattle.channel_bench.proofs.Common.{Ticks, Passes, passed_below, sounding, ticked, AsksFindRoom}
 use Rattle.std.specs.List.{AllByRecursion as Each}
-use Rattle.std.proofs.lemmas.List.{append_assoc}
-use Rattle.link_world.specs.declared.end.End.TheVariants.{A, B}
-use Rattle.link_world.proofs.law.Each.{each_append}
-use Rattle.channel_bench.specs.declared.words.BenchWords.{BenchWords}
-use Rattle.channel_bench.specs.BenchOrder.{stations_of, steps_of_run, the_calls}
-use Rattle.channel_bench.specs.BenchRun.{AreTicks}
-use Rattle.channel_bench.specs.BenchState.{BenchState, near, new_bench}
-use Rattle.channel_bench.specs.BenchSteps.{IsStep, IsTicking, IsTold}
-use Rattle.channel_bench.specs.BenchTick.{ArePartsMade, IsAsked, IsCalled, IsGiven, IsListening, IsPart, IsTick, Part}
-use Rattle.channel_bench.specs.BenchTick.{beginning, each_tick, is_complete, parts_of, with_asking, with_calling}
-use Rattle.channel_bench.specs.BenchTick.Part.{AsksOrCalls, Closes, Gives, Listens, Sounds, Tells, Ticks}
-use Rattle.station_laws.specs.InFlight.Moment.{Passes}
-use Rattle.channel_bench.specs.Sounding.{passed_below, sounding, ticked}
 use Rattle.channel_bench.proofs.BenchSees.{Holds, reprogrammed}
 use Rattle.channel_bench.proofs.CoreRun.{IsUsualPart, beginning_usual, input_of, tick_usual}
 use Rattle.channel_bench.proofs.CoreRun.Usual.{connects, disconnects}
 use Rattle.channel_bench.proofs.FindingRoom.{TakesCall}
 use Rattle.channel_bench.proofs.FindsNear.{FindingAt, at_end_finds, given_finds, heard_finds, knows_near, new_keyed}
 use Rattle.channel_bench.proofs.FindsNear.{passed, step_near, ticking_finds, told_finds}
-use Rattle.station_laws.proofs.RoomForAsks.{AsksFindRoom}
 use Rattle.channel_bench.proofs.RunOfParts.{IsCalm, parted}
 use Rattle.channel_bench.proofs.RunSees.{AllLead, Behind, Phase, Stands, behind_ticks, first_parts, later_parts}
 use Rattle.channel_bench.proofs.RunSees.{new_stands}

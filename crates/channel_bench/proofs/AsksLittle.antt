@@ -1,31 +1,18 @@
 -- A link that is not up sends at most one frame by a connect or a tick, and none by a packet or a disconnect.
-use Rattle.std.proofs.Common.{◌≡◌, ℕ, zero, suc, ◌≤◌, Bool, true, false, List, [], ◌∷◌, length, drop, cond}
-use Rattle.std.proofs.Common.{is_some, refl, sym, ap, ◌∙◌, subst, arith}
-use Rattle.std.specs.List.{list_any}
-use Rattle.std.proofs.lemmas.Bool.{or_parts, false≢true}
-use Rattle.std.specs.Bool.{⊤}
-use Rattle.ax25_frames.specs.declared.frame.Kind.{Kind}
-use Rattle.selective_reject.specs.declared.packet.Packet.{Packet}
-use Rattle.link_machine.specs.declared.state.LinkState.{LinkState}
-use Rattle.link_machine.specs.declared.state.LinkState.TheVariants.{Idle, Calling, Up, Releasing}
+use Rattle.channel_bench.proofs.Common.{◌≡◌, ℕ, zero, suc, ◌≤◌, Bool, true, false, List, [], ◌∷◌, length, drop, cond}
+use Rattle.channel_bench.proofs.Common.{is_some, refl, sym, ap, ◌∙◌, subst, arith, list_any, or_parts, false≢true, ⊤}
+use Rattle.channel_bench.proofs.Common.{Kind, Packet, LinkState, Idle, Calling, Up, Releasing, Hear, Machine, SentIn}
+use Rattle.channel_bench.proofs.Common.{refusal_of, step, IsDown, IsFrmr, Row, Settles, Stepped, step_is, as_timed}
+use Rattle.channel_bench.proofs.Common.{agrees, calls_again, connects, declines, ends_by_disc, ends_by_dm, ends_call}
+use Rattle.channel_bench.proofs.Common.{gives_up, is_answered, is_called, is_called_again, narrows, releases_again}
+use Rattle.channel_bench.proofs.Common.{resets, rests, takes, wishes, works, goes_on, is_down, releases, is_refused}
+use Rattle.channel_bench.proofs.Common.{makes, LinkStep, AsksInRoom, DropsNoAsk, asks_when_sent}
 use Rattle.link_machine.specs.Event.{Event}
-use Rattle.link_machine.specs.Event.Event.{Connect, Send, Disconnect, Hear, Tick}
-use Rattle.link_machine.specs.Machine.{Machine}
-use Rattle.link_machine.specs.Sent.{SentIn}
-use Rattle.link_machine.specs.Step.{refusal_of, row, settled, step}
+use Rattle.link_machine.specs.Event.Event.{Connect, Send, Disconnect, Tick}
+use Rattle.link_machine.specs.Step.{row, settled}
 use Rattle.link_machine.specs.Turn.{Turn, begin}
-use Rattle.link_steps.proofs.Rows.{Hears, IsAny, IsAsking, IsConnect, IsDown, IsFrmr, IsT1Tick, IsUa, Row, Settles}
-use Rattle.link_steps.proofs.Rows.{Stepped, step_is}
-use Rattle.link_steps.proofs.Rows.Rests.{as_timed}
-use Rattle.link_steps.proofs.Rows.Row.{agrees, calls_again, connects, declines, ends_by_disc, ends_by_dm, ends_call}
-use Rattle.link_steps.proofs.Rows.Row.{gives_up, is_answered, is_called, is_called_again, narrows, releases_again}
-use Rattle.link_steps.proofs.Rows.Row.{resets}
-use Rattle.link_steps.proofs.Rows.Row.{rests, takes, wishes, works}
-use Rattle.link_steps.proofs.Rows.Settles.{goes_on, is_down, releases}
-use Rattle.link_steps.proofs.Rows.Stepped.{is_refused, makes}
-use Rattle.station_laws.specs.LinkSteps.{LinkStep}
-use Rattle.station_laws.specs.MatchedLaw.{AsksInRoom, DropsNoAsk, FindsRoom}
-use Rattle.station_laws.proofs.Acts.{asks_when_sent}
+use Rattle.link_steps.proofs.Rows.{Hears, IsAny, IsAsking, IsConnect, IsT1Tick, IsUa}
+use Rattle.station_laws.specs.MatchedLaw.{FindsRoom}
 
 -- an event in which a frame may be sent: a connect, or a tick if no frame of the link waits
 abbrev MaySend : Event → Type 0

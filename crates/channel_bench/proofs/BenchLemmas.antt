@@ -1,12 +1,8 @@
 -- A run of the bench, tick by tick.
-use Rattle.std.proofs.Common.{◌≡◌, ℕ, ◌+◌, ◌≤◌, Some, None, sym, subst, add-one, arith}
-use Rattle.channel_bench.specs.declared.run.Run.{Run}
-use Rattle.channel_bench.specs.declared.words.BenchWords.{BenchWords}
-use Rattle.channel_bench.specs.declared.trouble.Trouble.{Trouble}
-use Rattle.channel_bench.specs.BenchRun.{AreTicks, IsEndedBy, IsUnderWay}
-use Rattle.channel_bench.specs.BenchState.{BenchState}
-use Rattle.channel_bench.specs.BenchTick.{IsTick}
-use Rattle.channel_bench.specs.HeldBench.{HasMade, IsGoing, StandsForRun}
+use Rattle.channel_bench.proofs.Common.{◌≡◌, ℕ, ◌+◌, ◌≤◌, Some, None, sym, subst, arith, Run, BenchWords, Trouble}
+use Rattle.channel_bench.proofs.Common.{AreTicks, IsEndedBy, BenchState, IsTick, HasMade, IsGoing, StandsForRun}
+use Rattle.std.proofs.Common.{add-one}
+use Rattle.channel_bench.specs.BenchRun.{IsUnderWay}
 
 ticks_more : (w : BenchWords) (count : ℕ) (before bench : BenchState) → AreTicks w count before
     → IsUnderWay before → IsTick w before bench

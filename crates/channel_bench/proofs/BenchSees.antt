@@ -1,36 +1,20 @@
 -- In a run of the bench each host program sees the set-ups of its link, and gives only while the link is up: part by
 -- part.
-use Rattle.std.proofs.Common.{◌≡◌, ℕ, zero, suc, ◌==◌, ◌&&◌, not, Bool, true, false, List, [], ◌∷◌, ◌++◌, length}
-use Rattle.std.proofs.Common.{replicate, Option, Some, None, is_some, refl, sym, ap, ◌∙◌, subst}
-use Rattle.std.specs.Prelude.{MatchBool}
+use Rattle.channel_bench.proofs.Common.{◌≡◌, ℕ, zero, suc, ◌==◌, ◌&&◌, not, Bool, true, false, List, [], ◌∷◌, ◌++◌}
+use Rattle.channel_bench.proofs.Common.{length, replicate, Option, Some, None, is_some, refl, sym, ap, ◌∙◌, subst}
+use Rattle.channel_bench.proofs.Common.{MatchBool, option_to_list, and_parts, eqb-true, append_assoc, Candidate, End, A}
+use Rattle.channel_bench.proofs.Common.{B, other, most_links, StationState, SetUp, BenchWords, IsNoted, stations_of}
+use Rattle.channel_bench.proofs.Common.{the_calls, AtEnd, BenchState, Near, SideState, near, new_bench, side_at}
+use Rattle.channel_bench.proofs.Common.{with_near, AreHeardAt, GoesOn, IsHeardAs, IsHeardAt, IsStep, IsTicking}
+use Rattle.channel_bench.proofs.Common.{match_of, with_matched, with_stray, AcceptsProgram, IsAsked, IsAskedOrCalled}
+use Rattle.channel_bench.proofs.Common.{IsCalled, IsGiven, IsGivenPiece, IsListening, is_complete, with_asking}
+use Rattle.channel_bench.proofs.Common.{with_calling, with_giving, ProgramState, next_piece, AreMatched, BothWays}
+use Rattle.channel_bench.proofs.Common.{LinkFrame, Moment, after_moment, after_moments, nothing_sent, sent_by, steps_in}
+use Rattle.channel_bench.proofs.Common.{Passes, Steps, Step, Stations, state_of, with_state, LinkStep, link_steps_at}
+use Rattle.channel_bench.proofs.Common.{passed_below, sounding, ticked, text_at, AsksFindRoom, queued_passed}
 use Rattle.std.specs.List.{AllByRecursion as Each}
-use Rattle.std.specs.Option.{option_to_list}
-use Rattle.std.proofs.lemmas.Bool.{and_parts, eqb-true}
-use Rattle.std.proofs.lemmas.List.{append_assoc}
-use Rattle.frame_merge.specs.declared.candidate.Candidate.{Candidate}
-use Rattle.link_world.specs.declared.end.End.{End}
-use Rattle.link_world.specs.declared.end.End.TheVariants.{A, B}
-use Rattle.link_world.specs.World.{other}
-use Rattle.station.specs.Links.{most_links}
-use Rattle.station.specs.State.{StationState}
-use Rattle.channel_bench.specs.declared.report.SetUp.{SetUp}
-use Rattle.channel_bench.specs.declared.words.BenchWords.{BenchWords}
-use Rattle.channel_bench.specs.BenchOrder.{IsNoted, stations_of, the_calls}
-use Rattle.channel_bench.specs.BenchState.{AtEnd, BenchState, Near, SideState, near, new_bench, new_side, side_at}
-use Rattle.channel_bench.specs.BenchState.{with_near}
-use Rattle.channel_bench.specs.BenchSteps.{AreHeardAt, GoesOn, IsHeardAs, IsHeardAt, IsStep, IsTicking, match_of}
-use Rattle.channel_bench.specs.BenchSteps.{with_matched, with_stray}
-use Rattle.channel_bench.specs.BenchTick.{AcceptsProgram, IsAsked, IsAskedOrCalled, IsCalled, IsGiven, IsGivenPiece}
-use Rattle.channel_bench.specs.BenchTick.{IsListening, is_complete, with_asking, with_calling, with_giving}
-use Rattle.channel_bench.specs.HostProgram.{ProgramState, has_all, has_all_in, next_piece}
-use Rattle.station_laws.specs.InFlight.{AreMatched, BothWays, LinkFrame, Moment, after_moment, after_moments}
-use Rattle.station_laws.specs.InFlight.{nothing_sent, sent_by, steps_in}
-use Rattle.station_laws.specs.InFlight.Moment.{Passes, Steps}
-use Rattle.station_laws.specs.JointRun.{Step, Stations, state_of, with_state}
-use Rattle.station_laws.specs.LinkSteps.{LinkStep}
-use Rattle.station_laws.specs.SetUpsSeen.{link_steps_at}
-use Rattle.channel_bench.specs.Sounding.{passed_below, sounding, ticked}
-use Rattle.channel_bench.specs.Words.{text_at}
+use Rattle.channel_bench.specs.BenchState.{new_side}
+use Rattle.channel_bench.specs.HostProgram.{has_all, has_all_in}
 use Rattle.channel_bench.proofs.CoreRun.{Occurs, Usual, heard_calm, input_of, piece_short}
 use Rattle.channel_bench.proofs.CoreRun.Usual.{connects, disconnects, gives, hears, ticks}
 use Rattle.channel_bench.proofs.GivesSees.{gives_sees}
@@ -41,13 +25,11 @@ use Rattle.channel_bench.proofs.HostStreams.{IsWhole, new_stream}
 use Rattle.channel_bench.proofs.OwnLinks.{IsOwnPlace, OwnsAll}
 use Rattle.channel_bench.proofs.ProgramSees.{GaveAll, GaveAllIn}
 use Rattle.channel_bench.proofs.ProgramsAsk.{AskLittle, asks_kept}
-use Rattle.station_laws.proofs.RoomForAsks.{AsksFindRoom}
 use Rattle.channel_bench.proofs.RunOfParts.{IsCalm}
 use Rattle.channel_bench.proofs.SideSees.{SideSees}
 use Rattle.channel_bench.proofs.Sounded.{heard_as, sounded}
 use Rattle.channel_bench.proofs.StepSees.{IsReady, SeesAt, queue_of}
 use Rattle.channel_bench.proofs.ThereStays.{HasProgram, is_there}
-use Rattle.station_laws.proofs.Ways.{queued_passed}
 
 -- ---- what holds of a bench
 

@@ -1,27 +1,25 @@
 -- A channel sends the frames that wait in their order: a tick that names a frame as sent takes the front one. This
 -- holds of frames of any length, since the check sequence of a frame alone is longer than a tick.
-use Rattle.std.proofs.Common.{◌≡◌, ℕ, zero, suc, ◌+◌, ◌-◌, ◌*◌, ◌/◌, ◌%◌, ◌<◌, ◌≤◌, ◌&&◌, nat_lt, nat_le, not}
-use Rattle.std.proofs.Common.{slice_index_or, Bool, true, false, ℤ, pos, List, [], ◌∷◌, ◌++◌, length, map, replicate}
-use Rattle.std.proofs.Common.{take, drop, cond, Option, Some, None, is_none, refl, sym, ap, ◌∙◌, subst, arith}
-use Rattle.std.proofs.Common.{length-append, append_assoc, append-nil}
+use Rattle.channel_bench.proofs.Common.{◌≡◌, ℕ, zero, suc, ◌+◌, ◌-◌, ◌*◌, ◌/◌, ◌%◌, ◌<◌, ◌≤◌, ◌&&◌, nat_lt, nat_le, not}
+use Rattle.channel_bench.proofs.Common.{Bool, true, false, ℤ, pos, List, [], ◌∷◌, ◌++◌, length, map, replicate, take}
+use Rattle.channel_bench.proofs.Common.{drop, cond, Option, Some, None, is_none, refl, sym, ap, ◌∙◌, subst, arith}
+use Rattle.channel_bench.proofs.Common.{length-append, length-drop, length-replicate, length-take, leb-true, leb-false}
+use Rattle.channel_bench.proofs.Common.{lt-ltb, Sent, Channel, air_samples, air_waiting, after_rules, decision}
+use Rattle.channel_bench.proofs.Common.{with_decision, OnAir, bits_then, decided, names_next, samples_on_air}
+use Rattle.channel_bench.proofs.Common.{tick_samples, WaitingFrame, line}
+use Rattle.std.proofs.Common.{slice_index_or, append_assoc, append-nil}
 use Rattle.std.proofs.Math.Seq.{get_or-append_seam}
-use Rattle.std.proofs.lemmas.List.{length-drop, length-replicate, length-take}
-use Rattle.std.proofs.lemmas.Bool.{and_right, leb-true, leb-false, le-leb, lt-leb, le-ltb, lt-ltb}
+use Rattle.std.proofs.lemmas.Bool.{and_right, le-leb, lt-leb, le-ltb}
 use Rattle.hdlc_framer.specs.BitOrder.{sent_bits}
 use Rattle.hdlc_framer.specs.CheckSequence.{fcs_of}
 use Rattle.hdlc_framer.specs.Counted.{stuffed_from}
 use Rattle.hdlc_framer.specs.Frames.{frame_bits, with_fcs}
 use Rattle.hdlc_framer.proofs.BitLemmas.{length-sent_bits}
 use Rattle.hdlc_framer.proofs.StuffingLemmas.{stuffed_is}
-use Rattle.channel_access.specs.declared.air_tick.Sent.{Sent}
-use Rattle.channel_access.specs.Channel.{Channel, air_after, air_samples, air_sent, air_waiting, after_rules}
-use Rattle.channel_access.specs.Channel.{after_tick, air_tick, begun, decision, with_decision}
-use Rattle.channel_access.specs.OnAir.{OnAir, bits_of, bits_then, decided, flag_end, followed_by, frame_named}
-use Rattle.channel_access.specs.OnAir.{frames_end, has_sent_frames, most_frames, names_next, samples_on_air}
-use Rattle.channel_access.specs.OnAir.{tick_samples, waiting_with_named, with_named, with_tick}
-use Rattle.channel_access.specs.Waiting.{WaitingFrame}
+use Rattle.channel_access.specs.Channel.{air_after, air_sent, after_tick, air_tick, begun}
+use Rattle.channel_access.specs.OnAir.{bits_of, flag_end, followed_by, frame_named, frames_end, has_sent_frames}
+use Rattle.channel_access.specs.OnAir.{most_frames, waiting_with_named, with_named, with_tick}
 use Rattle.tone_table.specs.declared.tone.Tone.TheVariants.{Mark}
-use Rattle.nrzi_bits.specs.Line.{line}
 use Rattle.nrzi_bits.proofs.LineLemmas.{length-line_from}
 use Rattle.channel_access.proofs.SendingLemmas.{length-wave_from}
 use Rattle.channel_access.proofs.AirLemmas.{samples_on_air-is}

@@ -1,39 +1,19 @@
 -- What is kept by each step of a station that occurs in a bench, and when frames have passed, holds of the moments and
 -- the stations of each run that nothing has ended.
-use Rattle.std.proofs.Common.{◌≡◌, ℕ, ◌≤◌, ◌==◌, Bool, true, false, List, [], ◌∷◌, ◌++◌, length, take, drop, cond}
-use Rattle.std.proofs.Common.{nat_lt, Option, Some, None, refl, sym, ap, ◌∙◌, subst, arith}
-use Rattle.std.specs.Prelude.{MatchBool}
+use Rattle.channel_bench.proofs.Common.{◌≡◌, ℕ, ◌≤◌, ◌==◌, Bool, true, false, List, [], ◌∷◌, ◌++◌, length, take, drop}
+use Rattle.channel_bench.proofs.Common.{cond, nat_lt, Option, Some, None, refl, sym, ap, ◌∙◌, subst, arith, MatchBool}
+use Rattle.channel_bench.proofs.Common.{append_assoc, length-take, Candidate, End, A, B, each_append, HostEvent, Joined}
+use Rattle.channel_bench.proofs.Common.{Bytes, Kiss, Agw, Piece, StationState, Trouble, BenchWords, first_stations}
+use Rattle.channel_bench.proofs.Common.{stations_of, BenchState, SideState, Near, AtEnd, near, IsStep, IsTold}
+use Rattle.channel_bench.proofs.Common.{IsTicking, IsHeardAs, IsHeardAt, AreHeardAt, GoesOn, match_of, program_id}
+use Rattle.channel_bench.proofs.Common.{told_piece, told_pieces, told_octets, with_matched, with_stray, Part, IsGiven}
+use Rattle.channel_bench.proofs.Common.{IsGivenPiece, IsAsked, IsCalled, IsListening, beginning, each_tick, is_complete}
+use Rattle.channel_bench.proofs.Common.{joins, kiss_id, sets_duplex, sets_full_duplex, with_asking, with_calling}
+use Rattle.channel_bench.proofs.Common.{with_giving, Tells, Gives, AsksOrCalls, Ticks, Sounds, Listens, Closes}
+use Rattle.channel_bench.proofs.Common.{connect_octets, data_octets, disconnect_octets, full_duplex_octets, most_octets}
+use Rattle.channel_bench.proofs.Common.{next_piece, register_octets, SetUp, Moment, Passes, Input, Stations, state_of}
+use Rattle.channel_bench.proofs.Common.{with_state, FromHost, OffAir, OfClock, passed_below, sounding, ticked, text_at}
 use Rattle.std.specs.List.{AllByRecursion as Each}
-use Rattle.std.proofs.lemmas.List.{append_assoc, length-take}
-use Rattle.frame_merge.specs.declared.candidate.Candidate.{Candidate}
-use Rattle.link_world.specs.declared.end.End.{End}
-use Rattle.link_world.specs.declared.end.End.TheVariants.{A, B}
-use Rattle.link_world.proofs.law.Each.{each_append}
-use Rattle.station.specs.declared.host_event.HostEvent.{HostEvent}
-use Rattle.station.specs.declared.host_event.HostEvent.TheVariants.{Joined, Bytes}
-use Rattle.station.specs.declared.host_event.PortKind.TheVariants.{Kiss, Agw}
-use Rattle.station.specs.declared.host_out.Piece.{Piece}
-use Rattle.station.specs.State.{StationState}
-use Rattle.channel_bench.specs.declared.trouble.Trouble.{Trouble}
-use Rattle.channel_bench.specs.declared.words.BenchWords.{BenchWords}
-use Rattle.channel_bench.specs.BenchOrder.{first_stations, stations_of}
-use Rattle.channel_bench.specs.BenchState.{BenchState, SideState, Near, AtEnd, near}
-use Rattle.channel_bench.specs.BenchSteps.{IsStep, IsTold, IsTicking, IsHeardAs, IsHeardAt, AreHeardAt, GoesOn}
-use Rattle.channel_bench.specs.BenchSteps.{match_of, program_id, told_piece, told_pieces, told_octets, with_matched}
-use Rattle.channel_bench.specs.BenchSteps.{with_stray}
-use Rattle.channel_bench.specs.BenchTick.{Part, IsGiven, IsGivenPiece, IsAsked, IsCalled, IsListening, beginning}
-use Rattle.channel_bench.specs.BenchTick.{each_tick, is_complete, joins, kiss_id, sets_duplex, sets_full_duplex}
-use Rattle.channel_bench.specs.BenchTick.{with_asking, with_calling, with_giving}
-use Rattle.channel_bench.specs.BenchTick.Part.{Tells, Gives, AsksOrCalls, Ticks, Sounds, Listens, Closes}
-use Rattle.channel_bench.specs.HostProgram.{connect_octets, data_octets, disconnect_octets, full_duplex_octets}
-use Rattle.channel_bench.specs.HostProgram.{most_octets, next_piece, register_octets}
-use Rattle.channel_bench.specs.declared.report.SetUp.{SetUp}
-use Rattle.station_laws.specs.InFlight.{Moment}
-use Rattle.station_laws.specs.InFlight.Moment.{Passes}
-use Rattle.station_laws.specs.JointRun.{Input, Stations, state_of, with_state}
-use Rattle.station_laws.specs.JointRun.Input.{FromHost, OffAir, OfClock}
-use Rattle.channel_bench.specs.Sounding.{passed_below, sounding, ticked}
-use Rattle.channel_bench.specs.Words.{text_at}
 use Rattle.channel_bench.proofs.RunOfParts.{IsCalm, KeptBy, KeptInTicks}
 use Rattle.channel_bench.proofs.Sounded.{sounded}
 

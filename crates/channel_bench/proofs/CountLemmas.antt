@@ -1,29 +1,18 @@
 -- What is counted in a run grows with its ticks: 96 samples reach a station in each, and at most two transmissions
 -- begin.
-use Rattle.std.proofs.Common.{◌≡◌, ℕ, zero, suc, ◌+◌, ◌*◌, ◌≤◌, ◌==◌, Bool, true, false, ℤ, List, [], ◌∷◌, ◌++◌}
-use Rattle.std.proofs.Common.{length, cond, Option, Some, None, refl, sym, ap, ◌∙◌, subst, arith}
-use Rattle.std.specs.Prelude.{MatchBool}
+use Rattle.channel_bench.proofs.Common.{◌≡◌, ℕ, zero, suc, ◌+◌, ◌*◌, ◌≤◌, ◌==◌, Bool, true, false, ℤ, List, [], ◌∷◌}
+use Rattle.channel_bench.proofs.Common.{◌++◌, length, cond, Option, Some, None, refl, sym, ap, ◌∙◌, subst, arith}
+use Rattle.channel_bench.proofs.Common.{MatchBool, Candidate, End, A, B, each_append, Trouble, BenchWords, AreTicks}
+use Rattle.channel_bench.proofs.Common.{AtEnd, BenchState, Near, near, new_bench, with_near, AreHeardAt, GoesOn}
+use Rattle.channel_bench.proofs.Common.{IsHeardAs, IsHeardAt, IsStep, IsTicking, IsTold, match_of, with_matched}
+use Rattle.channel_bench.proofs.Common.{ArePartsMade, IsAsked, IsAskedOrCalled, IsCalled, IsGiven, IsGivenPiece}
+use Rattle.channel_bench.proofs.Common.{IsListening, IsPart, IsTick, Part, beginning, each_tick, is_complete, joins}
+use Rattle.channel_bench.proofs.Common.{sets_duplex, sets_full_duplex, with_asking, with_calling, with_giving}
+use Rattle.channel_bench.proofs.Common.{AsksOrCalls, Closes, Gives, Listens, Sounds, Tells, Ticks, acts, carried}
+use Rattle.channel_bench.proofs.Common.{is_lost, sounding, ticked, with_loss, with_losses, with_transmission}
+use Rattle.channel_bench.proofs.Common.{next_piece, text_at, Input, FromHost, OfClock}
 use Rattle.std.specs.List.{AllByRecursion as Each}
-use Rattle.frame_merge.specs.declared.candidate.Candidate.{Candidate}
-use Rattle.link_world.specs.declared.end.End.{End}
-use Rattle.link_world.specs.declared.end.End.TheVariants.{A, B}
-use Rattle.link_world.proofs.law.Each.{each_append}
-use Rattle.channel_bench.specs.declared.trouble.Trouble.{Trouble}
-use Rattle.channel_bench.specs.declared.words.BenchWords.{BenchWords}
-use Rattle.channel_bench.specs.BenchRun.{AreTicks}
-use Rattle.channel_bench.specs.BenchState.{AtEnd, BenchState, Near, near, new_bench, with_near}
-use Rattle.channel_bench.specs.BenchSteps.{AreHeardAt, GoesOn, IsHeardAs, IsHeardAt, IsStep, IsTicking, IsTold}
-use Rattle.channel_bench.specs.BenchSteps.{match_of, with_matched}
-use Rattle.channel_bench.specs.BenchTick.{ArePartsMade, IsAsked, IsAskedOrCalled, IsCalled, IsGiven, IsGivenPiece}
-use Rattle.channel_bench.specs.BenchTick.{IsListening, IsPart, IsTick, Part, beginning, each_tick, is_complete, joins}
-use Rattle.channel_bench.specs.BenchTick.{sets_duplex, sets_full_duplex, with_asking, with_calling, with_giving}
-use Rattle.channel_bench.specs.BenchTick.Part.{AsksOrCalls, Closes, Gives, Listens, Sounds, Tells, Ticks}
-use Rattle.channel_bench.specs.HeldBench.{IsCounted, acts}
-use Rattle.channel_bench.specs.Sounding.{carried, is_lost, sounding, ticked, with_loss, with_losses, with_transmission}
-use Rattle.channel_bench.specs.HostProgram.{next_piece}
-use Rattle.channel_bench.specs.Words.{text_at}
-use Rattle.station_laws.specs.JointRun.{Input}
-use Rattle.station_laws.specs.JointRun.Input.{FromHost, OfClock}
+use Rattle.channel_bench.specs.HeldBench.{IsCounted}
 use Rattle.channel_bench.proofs.InTime.{step_facts}
 use Rattle.channel_bench.proofs.RunOfParts.{IsCalm, parted}
 use Rattle.channel_bench.proofs.TimedRun.{run_in_time}

@@ -1,26 +1,20 @@
 -- An ear that hears more samples.
-use Rattle.std.proofs.Common.{◌≡◌, ℕ, ◌+◌, ◌^◌, ◌<◌, ◌≤◌, ℤ, List, [], ◌++◌, length, replicate, ap, sym, ◌∙◌, arith}
-use Rattle.std.proofs.Common.{subst, length-append}
-use Rattle.std.specs.Prelude.{All}
+use Rattle.channel_bench.proofs.Common.{◌≡◌, ℕ, ◌+◌, ◌^◌, ◌<◌, ◌≤◌, ℤ, List, [], ◌++◌, length, replicate, ap, sym, ◌∙◌}
+use Rattle.channel_bench.proofs.Common.{arith, subst, length-append, All, HasFrameLength, Candidate, merged}
+use Rattle.channel_bench.proofs.Common.{AreMergedBetween, Ear, EarStandsFor, mark_of}
 use Rattle.std.specs.List.Sorted.{IsNonDecreasingBy}
 use Rattle.std.proofs.lemmas.List.Elements.{All-filter}
-use Rattle.hdlc_framer.specs.FrameLength.{HasFrameLength}
-use Rattle.frame_merge.specs.declared.candidate.Candidate.{Candidate}
 use Rattle.frame_merge.specs.Held.{Held as HeldMerger, StandsFor as MergerStandsFor, least}
 use Rattle.frame_merge.specs.Order.{in_order}
-use Rattle.frame_merge.specs.Merged.{merged, below}
+use Rattle.frame_merge.specs.Merged.{below}
 use Rattle.frame_merge.proofs.Merging.{merged-rising, All-merged}
 use Rattle.frame_merge.proofs.Ordering.{rising_ends}
 use Rattle.frame_merge.proofs.Taking.{least-one}
 use Rattle.slicer_bank.specs.Candidates.{AreCandidates, AreCandidatesBehind, IsCandidate}
 use Rattle.slicer_bank.specs.Held.{StandsFor as BankStandsFor}
-use Rattle.slicer_bank.specs.MergedItems.{AreMergedBetween}
 use Rattle.slicer_bank.proofs.CandidateLemmas.{candidates_none, candidates_join}
 use Rattle.slicer_bank.proofs.MergingLemmas.{in_order-strictly, is_in_order}
 use Rattle.slicer_bank.proofs.MergedLemmas.{below_more, next_is}
-use Rattle.channel_bench.specs.declared.ear.Ear.{Ear}
-use Rattle.channel_bench.specs.HeldBench.{EarStandsFor}
-use Rattle.channel_bench.specs.Sounding.{mark_of}
 
 -- nothing is heard
 pub ear_none : (held : Ear) → BankStandsFor held.bank [] → held.bank.flags ≡ 1 → held.count ≡ 0

@@ -1,40 +1,20 @@
 -- Each step of A's station in a bench keeps one key for all frames that wait there. Each SABM, SABME and DISC of its
 -- link that is not up finds room, if the link does not wish to disconnect while it is idle or calls.
-use Rattle.std.proofs.Common.{◌≡◌, ℕ, ◌<◌, Bool, true, false, nat_lt, List, [], ◌∷◌, length, drop, cond, Option, Some}
-use Rattle.std.proofs.Common.{None, is_none, refl, sym, ap, ◌∙◌, subst, arith, inl, inr}
-use Rattle.std.specs.Bool.{⊤}
-use Rattle.std.specs.List.{range_with_len, list_any, AllByRecursion as Each}
-use Rattle.agwpe_port.specs.CallField.{call_field}
-use Rattle.agwpe_port.specs.Messages.{spelling}
-use Rattle.agwpe_port.specs.declared.message.AgwMessage.{AgwMessage}
-use Rattle.channel_access.specs.Channel.{Channel, after_rules, air_waiting, decision, with_decision}
-use Rattle.channel_access.specs.OnAir.{OnAir, bits_then, decided, names_next}
-use Rattle.channel_access.specs.Waiting.{WaitingFrame}
+use Rattle.channel_bench.proofs.Common.{◌≡◌, ℕ, ◌<◌, Bool, true, false, nat_lt, List, [], ◌∷◌, length, drop, cond}
+use Rattle.channel_bench.proofs.Common.{Option, Some, None, is_none, refl, sym, ap, ◌∙◌, subst, arith, inl, inr, ⊤}
+use Rattle.channel_bench.proofs.Common.{range_with_len, list_any, call_field, spelling, AgwMessage, Channel}
+use Rattle.channel_bench.proofs.Common.{after_rules, air_waiting, decision, with_decision, OnAir, bits_then, decided}
+use Rattle.channel_bench.proofs.Common.{names_next, WaitingFrame, A, each_weaker, PortKind, Kiss, Agw, connect_kind}
+use Rattle.channel_bench.proofs.Common.{data_kind, disconnect_kind, register_kind, IsAnswered, called_route, own_key}
+use Rattle.channel_bench.proofs.Common.{call_in, most_connections, joining, taking, with_host, no_call, Links}
+use Rattle.channel_bench.proofs.Common.{most_links, StationState, most_waiting, ticking_links, Turn, begin, changing}
+use Rattle.channel_bench.proofs.Common.{closing, program_id, kiss_id, call_at, request, request_between, IsTurn}
+use Rattle.channel_bench.proofs.Common.{LinkStep, tick_steps, turn_steps, AsksInRoom, asks_when_sent}
+use Rattle.std.specs.List.{AllByRecursion as Each}
 use Rattle.link_machine.specs.Event.{Event as LinkEvent}
 use Rattle.link_machine.specs.Event.Event.{Connect as LinkConnect, Send as LinkSend, Disconnect as LinkDisconnect}
 use Rattle.link_machine.specs.Event.Event.{Hear as LinkHear, Tick as LinkTick}
 use Rattle.link_machine.specs.Step.{step as link_turn}
-use Rattle.link_world.specs.declared.end.End.TheVariants.{A}
-use Rattle.link_world.proofs.law.Each.{each_weaker}
-use Rattle.station.specs.declared.host_event.PortKind.{PortKind}
-use Rattle.station.specs.declared.host_event.PortKind.TheVariants.{Kiss, Agw}
-use Rattle.station.specs.AgwKinds.{connect_kind, data_kind, disconnect_kind, register_kind}
-use Rattle.station.specs.AgwRequests.{IsAnswered, called_route, own_key}
-use Rattle.station.specs.CallFields.{call_in}
-use Rattle.station.specs.Connections.{most_connections}
-use Rattle.station.specs.Host.{joining, taking, with_host}
-use Rattle.station.specs.HostMessages.{no_call}
-use Rattle.station.specs.Links.{Links, most_links}
-use Rattle.station.specs.State.{StationState, most_waiting}
-use Rattle.station.specs.Ticks.{ticking_links}
-use Rattle.station.specs.Turn.{Turn, begin, changing, closing}
-use Rattle.channel_bench.specs.BenchSteps.{program_id}
-use Rattle.channel_bench.specs.BenchTick.{kiss_id}
-use Rattle.channel_bench.specs.HostProgram.{call_at, request, request_between}
-use Rattle.station_laws.specs.JointRun.{IsTurn}
-use Rattle.station_laws.specs.LinkSteps.{LinkStep, tick_steps, turn_steps}
-use Rattle.station_laws.specs.MatchedLaw.{AsksInRoom}
-use Rattle.station_laws.proofs.Acts.{asks_when_sent}
 use Rattle.channel_bench.proofs.AsksLittle.{disconnect_silent, drops_none, if_down, send_silent, sends_none}
 use Rattle.channel_bench.proofs.CoreRun.{Occurs, Usual, input_of}
 use Rattle.channel_bench.proofs.CoreRun.Usual.{connects, disconnects, gives, hears, joins_kiss, joins_program}

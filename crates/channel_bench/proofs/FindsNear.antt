@@ -1,27 +1,14 @@
 -- What connections tell, what host programs give, a tick, and what is heard in the bench keep one key for all frames
 -- that wait at A. Each SABM, SABME and DISC of A's link that is not up finds room.
-use Rattle.std.proofs.Common.{◌≡◌, ℕ, zero, suc, Bool, true, false, List, [], ◌∷◌, ◌++◌, replicate, Option, Some, None}
-use Rattle.std.proofs.Common.{get_or, refl, sym, ap, ◌∙◌, subst, inr}
-use Rattle.std.specs.Prelude.{MatchBool}
-use Rattle.std.proofs.lemmas.List.{length-replicate}
-use Rattle.frame_merge.specs.declared.candidate.Candidate.{Candidate}
-use Rattle.link_world.specs.declared.end.End.{End}
-use Rattle.link_world.specs.declared.end.End.TheVariants.{A, B}
-use Rattle.station.specs.declared.host_event.HostEvent.{HostEvent}
-use Rattle.station.specs.declared.host_event.HostEvent.TheVariants.{Bytes}
-use Rattle.station.specs.Links.{Link, most_links, no_links}
-use Rattle.channel_bench.specs.declared.words.BenchWords.{BenchWords}
-use Rattle.channel_bench.specs.BenchOrder.{stations_of, the_calls}
-use Rattle.channel_bench.specs.BenchState.{AtEnd, BenchState, Near, SideState, near}
-use Rattle.channel_bench.specs.BenchSteps.{AreHeardAt, GoesOn, IsHeardAs, IsHeardAt, IsStep, IsTicking, IsTold, MayCome}
-use Rattle.channel_bench.specs.BenchSteps.{match_of, program_id, with_matched, with_stray}
-use Rattle.channel_bench.specs.BenchTick.{IsGiven, IsGivenPiece, with_giving}
-use Rattle.channel_bench.specs.HostProgram.{connect_octets, next_piece}
-use Rattle.station_laws.specs.InFlight.{Moment, nothing_sent}
-use Rattle.station_laws.specs.InFlight.Moment.{Passes}
-use Rattle.station_laws.specs.JointRun.{Stations, with_state}
-use Rattle.station_laws.specs.JointRun.Input.{FromHost}
-use Rattle.channel_bench.specs.Words.{text_at}
+use Rattle.channel_bench.proofs.Common.{◌≡◌, ℕ, zero, suc, Bool, true, false, List, [], ◌∷◌, ◌++◌, replicate, Option}
+use Rattle.channel_bench.proofs.Common.{Some, None, get_or, refl, sym, ap, ◌∙◌, subst, inr, MatchBool, length-replicate}
+use Rattle.channel_bench.proofs.Common.{Candidate, End, A, B, HostEvent, Bytes, Link, most_links, BenchWords}
+use Rattle.channel_bench.proofs.Common.{stations_of, the_calls, AtEnd, BenchState, Near, SideState, near, AreHeardAt}
+use Rattle.channel_bench.proofs.Common.{GoesOn, IsHeardAs, IsHeardAt, IsStep, IsTicking, IsTold, MayCome, match_of}
+use Rattle.channel_bench.proofs.Common.{program_id, with_matched, with_stray, IsGiven, IsGivenPiece, with_giving}
+use Rattle.channel_bench.proofs.Common.{connect_octets, next_piece, Moment, nothing_sent, Passes, Stations, with_state}
+use Rattle.channel_bench.proofs.Common.{FromHost, text_at, AsksFindRoom}
+use Rattle.station.specs.Links.{no_links}
 use Rattle.channel_bench.proofs.BenchSees.{Holds, HoldsNear, Premises, item_holds, matched_front, near_there}
 use Rattle.channel_bench.proofs.CoreRun.{IsToldUsual, Occurs, Usual, heard_calm, input_of, piece_short, state_there}
 use Rattle.channel_bench.proofs.CoreRun.{state_twice}
@@ -30,7 +17,6 @@ use Rattle.channel_bench.proofs.CoreRun.Usual.{registers, sets_full, ticks}
 use Rattle.channel_bench.proofs.FindingRoom.{TakesCall}
 use Rattle.channel_bench.proofs.NotedRun.{steps_passed}
 use Rattle.channel_bench.proofs.OneKey.{IsKeyed}
-use Rattle.station_laws.proofs.RoomForAsks.{AsksFindRoom}
 use Rattle.channel_bench.proofs.RunOfParts.{IsCalm}
 use Rattle.channel_bench.proofs.StepFinds.{Finding, Knows, finding_step}
 

@@ -1,16 +1,13 @@
 -- What is kept of the frames in flight, and moments one after another.
-use Rattle.std.proofs.Common.{◌≡◌, ℕ, ◌+◌, Bool, true, false, ◌||◌, List, [], ◌∷◌, ◌++◌, map, drop, cond, Option, Some}
-use Rattle.std.proofs.Common.{None, refl, sym, ap, ◌∙◌}
+use Rattle.channel_bench.proofs.Common.{◌≡◌, ℕ, ◌+◌, Bool, true, false, ◌||◌, List, [], ◌∷◌, ◌++◌, map, drop, cond}
+use Rattle.channel_bench.proofs.Common.{Option, Some, None, refl, sym, ap, ◌∙◌, list_any, map-append, End, Flags}
+use Rattle.channel_bench.proofs.Common.{count_of, first_unquiet, OneWay, BothWays, Moment, is_quiet_at, queueing_at}
+use Rattle.channel_bench.proofs.Common.{queueing_all, after_moment, after_moments}
 use Rattle.std.specs.Prelude.{is_some}
-use Rattle.std.specs.List.{list_any}
-use Rattle.std.proofs.lemmas.List.{drop-map, map-append}
-use Rattle.link_world.specs.declared.end.End.{End}
-use Rattle.channel_bench.specs.declared.flight.Flags.{Flags}
+use Rattle.std.proofs.lemmas.List.{drop-map}
 use Rattle.channel_bench.specs.declared.flight.OneWay.{OneWay as HeldOneWay}
-use Rattle.channel_bench.specs.BenchSteps.{count_of, first_unquiet}
 use Rattle.channel_bench.specs.HeldBench.{flags_of, StandsForWay}
-use Rattle.station_laws.specs.InFlight.{OneWay, BothWays, Moment, in_flight, is_quiet_at, queueing_at}
-use Rattle.station_laws.specs.InFlight.{queueing_all, after_moment, after_moments}
+use Rattle.station_laws.specs.InFlight.{in_flight}
 
 list_any-map : {X Y : Type 0} (p : Y → Bool) (f : X → Y) (xs : List X)
     → list_any p (map f xs) ≡ list_any (λ x. p (f x)) xs

@@ -1,15 +1,9 @@
 -- A host program gives the next piece of its text, or nothing.
-use Rattle.std.proofs.Common.{◌≡◌, ℕ, Bool, true, false, List, Option, Some, None, refl, sym, ap, ◌∙◌, subst}
-use Rattle.std.specs.Prelude.{MatchBool, ◌↔◌, IsTrue}
-use Rattle.link_world.specs.declared.end.End.{End}
-use Rattle.channel_bench.specs.declared.shared.Shared.{Shared}
-use Rattle.channel_bench.specs.declared.side.Side.{Side}
-use Rattle.channel_bench.specs.declared.words.BenchWords.{BenchWords}
-use Rattle.channel_bench.specs.BenchState.{Near}
-use Rattle.channel_bench.specs.BenchTick.{AcceptsProgram, IsGiven, IsGivenPiece, Says, with_giving}
-use Rattle.channel_bench.specs.HeldBench.{StandsForNear}
-use Rattle.channel_bench.specs.HostProgram.{ProgramState, data_octets, giving, next_piece}
-use Rattle.channel_bench.specs.Words.{text_at}
+use Rattle.channel_bench.proofs.Common.{◌≡◌, ℕ, Bool, true, false, List, Option, Some, None, refl, sym, ap, ◌∙◌, subst}
+use Rattle.channel_bench.proofs.Common.{MatchBool, ◌↔◌, IsTrue, End, Shared, Side, BenchWords, Near, AcceptsProgram}
+use Rattle.channel_bench.proofs.Common.{IsGiven, IsGivenPiece, Says, with_giving, StandsForNear, ProgramState}
+use Rattle.channel_bench.proofs.Common.{data_octets, next_piece, text_at}
+use Rattle.channel_bench.specs.HostProgram.{giving}
 use Rattle.channel_bench.proofs.SideLemmas.{KeepsAllElse, stands_program}
 
 module _ (w : BenchWords) (end : End) (n next : Near) (accepts : Bool)

@@ -1,48 +1,31 @@
 -- A piece that a host program gives while its link is up is one packet, and the link takes it.
-use Rattle.std.proofs.Common.{◌≡◌, ℕ, ◌+◌, ◌/◌, ◌<◌, ◌≤◌, ◌||◌, nat_le, nat_lt, true, false, List, [], ◌∷◌, length, map}
-use Rattle.std.proofs.Common.{cond, get_or, Option, Some, None, is_some, is_none, refl, sym, ap, ◌∙◌, subst, arith}
-use Rattle.std.specs.Prelude.{IfSome, position}
-use Rattle.std.specs.List.{range_with_len}
+use Rattle.channel_bench.proofs.Common.{◌≡◌, ℕ, ◌+◌, ◌/◌, ◌<◌, ◌≤◌, ◌||◌, nat_le, nat_lt, true, false, List, [], ◌∷◌}
+use Rattle.channel_bench.proofs.Common.{length, map, cond, get_or, Option, Some, None, is_some, is_none, refl, sym, ap}
+use Rattle.channel_bench.proofs.Common.{◌∙◌, subst, arith, position, range_with_len, append-nil, take_all}
+use Rattle.channel_bench.proofs.Common.{recursion_from_All, Packet, Up, Machine, refusal_of, End, A, B, other, spelling}
+use Rattle.channel_bench.proofs.Common.{data_kind, data_pid, giving_packet, own_key, packets_of, connection_of, taking}
+use Rattle.channel_bench.proofs.Common.{Link, Links, key_between, link_at, is_number, Route, StationState, most_held}
+use Rattle.channel_bench.proofs.Common.{Turn, begin, program_id, call_at, most_octets, request_between, IsTurn, Choice}
+use Rattle.channel_bench.proofs.Common.{LinkStep, data_steps, link_step, sends_at, steps_along, steps_for, turn_steps}
+use Rattle.channel_bench.proofs.Common.{first_chosen, each_get, not_both, none_by_position}
+use Rattle.std.specs.Prelude.{IfSome}
 use Rattle.std.proofs.lemmas.Bool.Decides.{nat_tests}
-use Rattle.std.proofs.lemmas.List.{append-nil, take_all}
-use Rattle.std.proofs.lemmas.List.Elements.{recursion_from_All}
-use Rattle.selective_reject.specs.declared.packet.Packet.{Packet}
 use Rattle.link_machine.specs.declared.control.Control.{Control}
 use Rattle.link_machine.specs.declared.fault.LinkFault.{LinkFault}
 use Rattle.link_machine.specs.declared.fault.LinkFault.TheVariants.{WrongState, Full, TooLong}
-use Rattle.link_machine.specs.declared.state.LinkState.TheVariants.{Up}
 use Rattle.link_machine.specs.Event.Event.{Send as LinkSend}
-use Rattle.link_machine.specs.Machine.{Machine}
 use Rattle.link_machine.specs.Requests.{is_closed, takes_none}
-use Rattle.link_machine.specs.Step.{refusal_of}
-use Rattle.link_world.specs.declared.end.End.{End}
-use Rattle.link_world.specs.declared.end.End.TheVariants.{A, B}
-use Rattle.link_world.specs.World.{other}
-use Rattle.agwpe_port.specs.Messages.{spelling}
-use Rattle.station.specs.AgwKinds.{data_kind}
-use Rattle.station.specs.AgwRequests.{data_pid, giving_packet, if_own, is_owner, key_of_route, own_key, packet_at}
-use Rattle.station.specs.AgwRequests.{packets_of}
-use Rattle.station.specs.Connections.{connection_of}
-use Rattle.station.specs.Host.{taking}
-use Rattle.station.specs.Links.{Link, Links, key_between, link_at}
-use Rattle.station.specs.Registrations.{is_number}
-use Rattle.station.specs.Routes.{Route, route_in}
-use Rattle.station.specs.State.{Accepts, HoldsFew, StationState, most_held}
-use Rattle.station.specs.Turn.{Turn, begin}
-use Rattle.channel_bench.specs.BenchSteps.{program_id}
-use Rattle.channel_bench.specs.HostProgram.{call_at, most_octets, request_between}
-use Rattle.station_laws.specs.JointRun.{IsTurn}
-use Rattle.station_laws.specs.LinkSteps.{Choice, LinkStep, data_steps, link_step, sends_at, steps_along, steps_for}
-use Rattle.station_laws.specs.LinkSteps.{turn_steps}
-use Rattle.station_laws.specs.StationsLaw.{first_chosen}
+use Rattle.station.specs.AgwRequests.{if_own, is_owner, key_of_route, packet_at}
+use Rattle.station.specs.Routes.{route_in}
+use Rattle.station.specs.State.{Accepts, HoldsFew}
 use Rattle.channel_bench.proofs.CoreRun.{input_of}
 use Rattle.channel_bench.proofs.CoreRun.Usual.{gives}
 use Rattle.channel_bench.proofs.HostsStay.{HasHosts}
 use Rattle.channel_bench.proofs.OwnLinks.{IsOwn, IsOwnPlace, OwnsAll, chosen}
 use Rattle.channel_bench.proofs.OwnMessages.{called, said_go}
 use Rattle.channel_bench.proofs.ProgramsAsk.{between_written}
-use Rattle.station_laws.proofs.Tables.{each_get, none_chosen, not_both}
-use Rattle.station_laws.proofs.ValidCalls.{at_position, none_by_position}
+use Rattle.station_laws.proofs.Tables.{none_chosen}
+use Rattle.station_laws.proofs.ValidCalls.{at_position}
 
 -- ---- one packet
 

@@ -1,46 +1,25 @@
 -- A host program of the bench gives a piece: its link takes it as a packet of the set-up that runs.
-use Rattle.std.proofs.Common.{◌≡◌, ℕ, zero, suc, ◌<◌, ◌≤◌, ◌==◌, ◌%◌, nat_lt, Bool, true, false, List, [], ◌∷◌, ◌++◌}
-use Rattle.std.proofs.Common.{length, take, drop, cond, Option, Some, None, is_some, refl, sym, ap, ◌∙◌, subst, arith}
-use Rattle.std.proofs.Common.{inl, inr}
+use Rattle.channel_bench.proofs.Common.{◌≡◌, ℕ, zero, suc, ◌<◌, ◌≤◌, ◌==◌, ◌%◌, nat_lt, Bool, true, false, List, []}
+use Rattle.channel_bench.proofs.Common.{◌∷◌, ◌++◌, length, take, drop, cond, Option, Some, None, is_some, refl, sym, ap}
+use Rattle.channel_bench.proofs.Common.{◌∙◌, subst, arith, inl, inr, eq-eqb, ltb-true, length-drop, length-map}
+use Rattle.channel_bench.proofs.Common.{length-take, LinkState, Idle, Calling, Up, Releasing, Machine, End, other}
+use Rattle.channel_bench.proofs.Common.{each_append, Lcg, Link, StationState, most_held, Turn, begin, SetUp, BenchWords}
+use Rattle.channel_bench.proofs.Common.{Near, SideState, IsStep, program_id, there_after, AcceptsProgram, with_giving}
+use Rattle.channel_bench.proofs.Common.{most_octets, next_piece, told_all, Moment, hears_ask, Steps, Stations, state_of}
+use Rattle.channel_bench.proofs.Common.{with_state, LinkStep, steps_of, AreToldInOne, RunsIn, runs_behind, told_in}
+use Rattle.channel_bench.proofs.Common.{IsGivenWhileUp, seen_by_all, IsMachineOf, first_chosen, text_at, text_of, words}
+use Rattle.channel_bench.proofs.Common.{after_word, IsChain, StandsAsked, asked_append, asked_behind, behind_append}
+use Rattle.channel_bench.proofs.Common.{called_append, called_behind, chain_parts, last_machine, made_by, framed}
+use Rattle.channel_bench.proofs.Common.{is_connect, is_disconnect}
 use Rattle.std.specs.Prelude.{Any}
-use Rattle.std.proofs.lemmas.Bool.{eq-eqb, ltb-true}
-use Rattle.std.proofs.lemmas.List.{length-drop, length-map, length-take}
 use Rattle.std.proofs.lemmas.List.Folds.{list_any-from_Any}
 use Rattle.link_machine.specs.Event.Event.{Send as LinkSend}
-use Rattle.link_machine.specs.declared.state.LinkState.{LinkState}
-use Rattle.link_machine.specs.declared.state.LinkState.TheVariants.{Idle, Calling, Up, Releasing}
-use Rattle.link_machine.specs.Machine.{Machine}
-use Rattle.link_world.specs.declared.end.End.{End}
-use Rattle.link_world.specs.World.{other}
-use Rattle.link_world.proofs.law.Each.{each_append}
-use Rattle.rand_pcg.specs.Lcg.{Lcg}
-use Rattle.station.specs.Links.{Link}
-use Rattle.station.specs.State.{StationState, most_held}
-use Rattle.station.specs.Turn.{Turn, begin}
-use Rattle.channel_bench.specs.declared.report.SetUp.{SetUp}
-use Rattle.channel_bench.specs.declared.words.BenchWords.{BenchWords}
-use Rattle.channel_bench.specs.BenchState.{Near, SideState}
-use Rattle.channel_bench.specs.BenchSteps.{IsStep, program_id, there_after}
-use Rattle.channel_bench.specs.BenchTick.{AcceptsProgram, with_giving}
-use Rattle.channel_bench.specs.HostProgram.{giving, most_octets, next_piece, told_all}
-use Rattle.station_laws.specs.InFlight.{Moment, hears_ask}
-use Rattle.station_laws.specs.InFlight.Moment.{Steps}
-use Rattle.station_laws.specs.JointRun.{Stations, state_of, with_state}
-use Rattle.station_laws.specs.LinkSteps.{LinkStep, steps_of}
-use Rattle.station_laws.specs.LinksTell.{AreToldInOne, RunsIn}
-use Rattle.station_laws.specs.RunsTell.{runs_behind, told_in}
-use Rattle.station_laws.specs.SetUpsSeen.{IsGivenWhileUp, seen_by_all}
-use Rattle.station_laws.specs.StationsLaw.{IsMachineOf, first_chosen}
-use Rattle.channel_bench.specs.Words.{text_at, text_of}
-use Rattle.channel_access.specs.Words.{words, after_word, generator_of}
-use Rattle.station_laws.proofs.Chains.{IsChain, StandsAsked, asked_append, asked_behind, behind_append, called_append}
-use Rattle.station_laws.proofs.Chains.{called_behind, chain_parts, last_machine, made_by}
+use Rattle.channel_bench.specs.HostProgram.{giving}
+use Rattle.channel_access.specs.Words.{generator_of}
 use Rattle.channel_bench.proofs.CoreRun.{input_of}
 use Rattle.channel_bench.proofs.CoreRun.Usual.{gives}
-use Rattle.station_laws.proofs.Framed.{framed}
 use Rattle.channel_bench.proofs.GivesOne.{GivesOne, gives_one, taken}
 use Rattle.channel_bench.proofs.HostsStay.{HasHosts}
-use Rattle.station_laws.proofs.LinkDid.{is_connect, is_disconnect}
 use Rattle.channel_bench.proofs.LinkNow.{GivenUp, Known, LinkNow, first_machine, link_chain, link_now, links_of}
 use Rattle.channel_bench.proofs.NextSees.{BothSee, noted_step, own_events, own_queue}
 use Rattle.channel_bench.proofs.OwnLinks.{chosen, messages_of}

@@ -1,21 +1,15 @@
 -- From packets to octets: set-ups of a link's ends that got packets in order, as host programs see them, got octets in
 -- order.
-use Rattle.std.proofs.Common.{◌≡◌, ◌≢◌, ℕ, suc, ◌<◌, List, [], ◌∷◌, map, cond, Some, refl, sym, ap, ◌∙◌, subst, arith}
-use Rattle.std.specs.Prelude.{All, AllPairs, filter, option_map, slice_get}
+use Rattle.channel_bench.proofs.Common.{◌≡◌, ◌≢◌, ℕ, suc, ◌<◌, List, [], ◌∷◌, map, cond, Some, refl, sym, ap, ◌∙◌}
+use Rattle.channel_bench.proofs.Common.{subst, arith, All, filter, option_map, slice_get, flat_map-append}
+use Rattle.channel_bench.proofs.Common.{All-from_recursion, recursion_from_All, slice_get-map, Packet, GotNothingElse}
+use Rattle.channel_bench.proofs.Common.{RecordedEnd, SetUp, octets_in, set_up_of, AreGotFrom, GotInOrder, as_seen}
+use Rattle.std.specs.Prelude.{AllPairs}
 use Rattle.std.specs.List.{AllByRecursion as Each, cons_option}
-use Rattle.std.proofs.lemmas.Grind.{flat_map-append}
-use Rattle.std.proofs.lemmas.List.Elements.{All-from_recursion, recursion_from_All}
 use Rattle.std.proofs.lemmas.List.Kept.{AllPairs-cons}
-use Rattle.std.proofs.lemmas.Option.{slice_get-map}
-use Rattle.selective_reject.specs.declared.packet.Packet.{Packet}
-use Rattle.link_world.specs.Origin.{GotPrefix, GotNothingElse, GotInOrder as PacketsInOrder, RiseStrictly, origin_of}
-use Rattle.link_world.specs.Origin.{origins}
-use Rattle.link_world.specs.Recorded.{RecordedEnd}
+use Rattle.link_world.specs.Origin.{GotPrefix, GotInOrder as PacketsInOrder, RiseStrictly, origin_of, origins}
 use Rattle.link_world.specs.SetUps.{SetUp as LinkSetUp}
-use Rattle.channel_bench.specs.declared.report.SetUp.{SetUp}
-use Rattle.channel_bench.specs.BenchOrder.{octets_in, set_up_of}
-use Rattle.channel_bench.specs.KeepsOrder.{AreGotFrom, GotInOrder, IsGotFrom, got_octets, has_octets}
-use Rattle.station_laws.specs.SetUpsSeen.{as_seen}
+use Rattle.channel_bench.specs.KeepsOrder.{IsGotFrom, got_octets, has_octets}
 
 -- ---- numbers that rise
 

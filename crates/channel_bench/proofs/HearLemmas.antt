@@ -1,25 +1,11 @@
 -- Frames, messages and pieces one after another.
-use Rattle.std.proofs.Common.{◌≡◌, ℕ, ◌+◌, ◌<◌, List, [], ◌∷◌, ◌++◌, length, take, drop, get_or, Option, Some, None}
-use Rattle.std.proofs.Common.{refl, sym, ap, ◌∙◌, subst}
-use Rattle.std.proofs.Common.{true}
-use Rattle.std.specs.Prelude.{is_some, position, option_map}
-use Rattle.std.proofs.lemmas.Bool.{false≢true}
-use Rattle.std.proofs.lemmas.List.{take_more}
-use Rattle.agwpe_port.specs.declared.message.AgwMessage.{AgwMessage}
-use Rattle.frame_merge.specs.declared.candidate.Candidate.{Candidate}
-use Rattle.link_world.specs.declared.end.End.{End}
-use Rattle.station.specs.declared.host_out.Piece.{Piece}
-use Rattle.channel_bench.specs.declared.matching.SentAt.{SentAt}
-use Rattle.channel_bench.specs.declared.shared.Shared.{Shared}
-use Rattle.channel_bench.specs.declared.side.Side.{Side}
-use Rattle.channel_bench.specs.declared.trouble.Trouble.{Trouble}
-use Rattle.channel_bench.specs.declared.trouble.Trouble.TheVariants.{Stray}
-use Rattle.channel_bench.specs.BenchState.{SideState, Near}
-use Rattle.channel_bench.specs.BenchSteps.{GoesOn, IsStep, IsHeardAs, IsHeardAt, AreHeardAt, is_match, match_of}
-use Rattle.channel_bench.specs.BenchSteps.{told_piece, told_pieces, with_matched, with_stray}
-use Rattle.channel_bench.specs.HeldBench.{StandsForCommon, StandsForNear}
-use Rattle.station_laws.specs.JointRun.Input.{OffAir}
-use Rattle.channel_bench.specs.HostProgram.{ProgramState, told, told_all}
+use Rattle.channel_bench.proofs.Common.{◌≡◌, ℕ, ◌+◌, ◌<◌, List, [], ◌∷◌, ◌++◌, length, take, drop, get_or, Option, Some}
+use Rattle.channel_bench.proofs.Common.{None, refl, sym, ap, ◌∙◌, subst, true, position, option_map, false≢true}
+use Rattle.channel_bench.proofs.Common.{take_more, AgwMessage, Candidate, End, Piece, SentAt, Shared, Side, Trouble}
+use Rattle.channel_bench.proofs.Common.{Stray, SideState, Near, GoesOn, IsStep, IsHeardAs, IsHeardAt, AreHeardAt}
+use Rattle.channel_bench.proofs.Common.{is_match, match_of, told_piece, told_pieces, with_matched, with_stray}
+use Rattle.channel_bench.proofs.Common.{StandsForCommon, StandsForNear, OffAir, ProgramState, told, told_all}
+use Rattle.std.specs.Prelude.{is_some}
 
 told_pieces_push : (pieces : List Piece) (piece : Piece) (side : SideState)
     → told_pieces (pieces ++ piece ∷ []) side ≡ told_piece piece (told_pieces pieces side)

@@ -1,20 +1,11 @@
 -- A step of a station of the bench that hears a frame, from what its calls gave.
-use Rattle.std.proofs.Common.{◌≡◌, ℕ, ◌+◌, ◌<◌, Bool, List, Some, None, sym, ap, ◌∙◌, subst}
-use Rattle.std.specs.Prelude.{All}
+use Rattle.channel_bench.proofs.Common.{◌≡◌, ℕ, ◌+◌, ◌<◌, Bool, List, Some, None, sym, ap, ◌∙◌, subst, All, End}
+use Rattle.channel_bench.proofs.Common.{IsHeard, ids_of, StationState, Out, begin, Shared, Side, SideState, Near}
+use Rattle.channel_bench.proofs.Common.{ways_of, IsStep, first_unquiet, told_pieces, trouble_of, with_matched}
+use Rattle.channel_bench.proofs.Common.{EarStandsFor, StandsForSide, StandsForNear, StandsForWays, BothWays, hearing_at}
+use Rattle.channel_bench.proofs.Common.{is_ask, queueing_all, OffAir}
 use Rattle.agwpe_port.specs.Held.{StandsFor as AgwStandsFor}
-use Rattle.link_world.specs.declared.end.End.{End}
-use Rattle.station.specs.Heard.{IsHeard}
-use Rattle.station.specs.Held.{ids_of}
 use Rattle.station.specs.StandsFor.{StandsFor as StationStandsFor}
-use Rattle.station.specs.State.{StationState}
-use Rattle.station.specs.Turn.{Out, begin}
-use Rattle.channel_bench.specs.declared.shared.Shared.{Shared}
-use Rattle.channel_bench.specs.declared.side.Side.{Side}
-use Rattle.channel_bench.specs.BenchState.{SideState, Near, ways_of}
-use Rattle.channel_bench.specs.BenchSteps.{IsStep, first_unquiet, told_pieces, trouble_of, with_matched}
-use Rattle.channel_bench.specs.HeldBench.{EarStandsFor, StandsForSide, StandsForNear, StandsForWays}
-use Rattle.station_laws.specs.InFlight.{BothWays, hearing_at, is_ask, queueing_all}
-use Rattle.station_laws.specs.JointRun.Input.{OffAir}
 use Rattle.channel_bench.proofs.HostSteps.{settles}
 use Rattle.channel_bench.proofs.SideLemmas.{HasSettled, heard_made}
 

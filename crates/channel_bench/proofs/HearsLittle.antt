@@ -1,28 +1,14 @@
 -- A link that is not up sends no SABM, SABME or DISC when it hears a frame of a link, if it does not wish to disconnect
 -- while it is idle or calls.
-use Rattle.std.proofs.Common.{◌≡◌, Bool, false, refl, sym, subst}
-use Rattle.std.specs.Bool.{⊤}
-use Rattle.std.specs.List.{list_any}
-use Rattle.ax25_frames.specs.declared.frame.Frame.{Frame}
-use Rattle.ax25_frames.specs.declared.frame.Kind.{Kind}
+use Rattle.channel_bench.proofs.Common.{◌≡◌, Bool, false, refl, sym, subst, ⊤, list_any, Frame, Kind, LinkState, Idle}
+use Rattle.channel_bench.proofs.Common.{Calling, Up, Releasing, Hear, Machine, step, IsDown, IsFrmr, Row, Settles}
+use Rattle.channel_bench.proofs.Common.{Stepped, step_is, as_timed, agrees, calls_again, connects, declines}
+use Rattle.channel_bench.proofs.Common.{ends_by_disc, ends_by_dm, ends_call, gives_up, is_answered, is_called}
+use Rattle.channel_bench.proofs.Common.{is_called_again, narrows, releases_again, resets, rests, takes, wishes, works}
+use Rattle.channel_bench.proofs.Common.{goes_on, is_down, releases, is_refused, makes, asks_when_sent, StandsAsked}
 use Rattle.ax25_frames.specs.declared.frame.Kind.TheVariants.{Info, Super, Setup, Ui, Other}
-use Rattle.link_machine.specs.declared.state.LinkState.{LinkState}
-use Rattle.link_machine.specs.declared.state.LinkState.TheVariants.{Idle, Calling, Up, Releasing}
-use Rattle.link_machine.specs.Event.Event.{Hear}
-use Rattle.link_machine.specs.Machine.{Machine}
-use Rattle.link_machine.specs.Step.{step}
 use Rattle.link_machine.specs.Turn.{Turn}
-use Rattle.link_steps.proofs.Rows.{IsDown, IsFrmr, Row, Settles, Stepped, step_is}
-use Rattle.link_steps.proofs.Rows.Rests.{as_timed}
-use Rattle.link_steps.proofs.Rows.Row.{agrees, calls_again, connects, declines, ends_by_disc, ends_by_dm, ends_call}
-use Rattle.link_steps.proofs.Rows.Row.{gives_up, is_answered, is_called, is_called_again, narrows, releases_again}
-use Rattle.link_steps.proofs.Rows.Row.{resets}
-use Rattle.link_steps.proofs.Rows.Row.{rests, takes, wishes, works}
-use Rattle.link_steps.proofs.Rows.Settles.{goes_on, is_down, releases}
-use Rattle.link_steps.proofs.Rows.Stepped.{is_refused, makes}
-use Rattle.station_laws.proofs.Acts.{asks_when_sent}
 use Rattle.station_laws.proofs.Calm.{CalmTurn, settles_calm}
-use Rattle.station_laws.proofs.Chains.{StandsAsked}
 use Rattle.station_laws.proofs.LinkKinds.{IsLinkKind}
 
 -- an idle link, and one that calls, does not wish to disconnect

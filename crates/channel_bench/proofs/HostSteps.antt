@@ -1,20 +1,10 @@
 -- A step of a station of the bench with an event of a host, or a tick, from what its calls gave.
-use Rattle.std.proofs.Common.{◌≡◌, ℕ, Bool, false, List, None, ap, ◌∙◌, subst}
-use Rattle.link_world.specs.declared.end.End.{End}
-use Rattle.station.specs.declared.host_event.HostEvent.{HostEvent}
-use Rattle.station.specs.Held.{ids_of, ids_behind}
-use Rattle.station.specs.Host.{IsHostTurn}
+use Rattle.channel_bench.proofs.Common.{◌≡◌, ℕ, Bool, false, List, None, ap, ◌∙◌, subst, End, HostEvent, ids_of}
+use Rattle.channel_bench.proofs.Common.{ids_behind, IsHostTurn, StationState, Out, Turn, begin, Shared, Side, SideState}
+use Rattle.channel_bench.proofs.Common.{Near, ways_of, IsStep, first_unquiet, told_pieces, trouble_of, StandsForSide}
+use Rattle.channel_bench.proofs.Common.{StandsForNear, StandsForWays, BothWays, queueing_all, FromHost, OfClock}
 use Rattle.station.specs.StandsFor.{StandsFor as StationStandsFor}
-use Rattle.station.specs.State.{StationState}
 use Rattle.station.specs.Ticks.{IsTick}
-use Rattle.station.specs.Turn.{Out, Turn, begin}
-use Rattle.channel_bench.specs.declared.shared.Shared.{Shared}
-use Rattle.channel_bench.specs.declared.side.Side.{Side}
-use Rattle.channel_bench.specs.BenchState.{SideState, Near, ways_of}
-use Rattle.channel_bench.specs.BenchSteps.{IsStep, first_unquiet, told_pieces, trouble_of}
-use Rattle.channel_bench.specs.HeldBench.{StandsForSide, StandsForNear, StandsForWays}
-use Rattle.station_laws.specs.InFlight.{BothWays, queueing_all}
-use Rattle.station_laws.specs.JointRun.Input.{FromHost, OfClock}
 use Rattle.channel_bench.proofs.SideLemmas.{HasSettled, IsSameBesides, host_made, stands_with, tick_made}
 
 -- what a station's frames come to, from the clauses of the call that tells of them

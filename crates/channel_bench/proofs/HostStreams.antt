@@ -1,14 +1,14 @@
 -- The stream of a host program whose messages are whole: with one message more, that message alone is new.
-use Rattle.std.proofs.Common.{◌≡◌, ℕ, List, [], ◌∷◌, ◌++◌, length, drop, None, refl, sym, ap, ◌∙◌}
-use Rattle.std.proofs.lemmas.List.{append-nil, append_assoc, drop_at}
-use Rattle.agwpe_port.specs.Messages.{Reading, bad_length_in, messages_in, reading, spelling}
-use Rattle.agwpe_port.specs.declared.message.AgwMessage.{AgwMessage}
-use Rattle.agwpe_port.proofs.WrittenLemmas.{IsWritten, written_reads}
+use Rattle.channel_bench.proofs.Common.{◌≡◌, ℕ, List, [], ◌∷◌, ◌++◌, length, drop, None, refl, sym, ap, ◌∙◌, append-nil}
+use Rattle.channel_bench.proofs.Common.{append_assoc, bad_length_in, messages_in, spelling, AgwMessage, IsWritten}
+use Rattle.channel_bench.proofs.Common.{new_messages, full_duplex_octets}
+use Rattle.std.proofs.lemmas.List.{drop_at}
+use Rattle.agwpe_port.specs.Messages.{Reading, reading}
+use Rattle.agwpe_port.proofs.WrittenLemmas.{written_reads}
 use Rattle.kiss_port.specs.Items.{items_in}
 use Rattle.kiss_port.specs.declared.item.KissItem.{KissItem}
 use Rattle.kiss_port.specs.declared.item.KissItem.TheVariants.{Set}
-use Rattle.station.specs.Host.{new_items, new_messages}
-use Rattle.channel_bench.specs.HostProgram.{full_duplex_octets}
+use Rattle.station.specs.Host.{new_items}
 
 -- messages, and what is read after them
 abbrev pub read_behind : List AgwMessage → Reading → Reading

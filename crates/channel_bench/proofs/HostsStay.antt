@@ -1,24 +1,14 @@
 -- The host programs of a bench: which connections they have, what has come from each, and that a step of a station
 -- changes no more of that than what comes in it.
-use Rattle.std.proofs.Common.{◌≡◌, ℕ, ◌==◌, Bool, true, false, List, [], ◌∷◌, length, cond, nat_lt, Option, Some, None}
-use Rattle.std.proofs.Common.{refl, sym, ap, ◌∙◌, subst}
+use Rattle.channel_bench.proofs.Common.{◌≡◌, ℕ, ◌==◌, Bool, true, false, List, [], ◌∷◌, length, cond, nat_lt, Option}
+use Rattle.channel_bench.proofs.Common.{Some, None, refl, sym, ap, ◌∙◌, subst, eqb-true, spelling, AgwMessage}
+use Rattle.channel_bench.proofs.Common.{IsWritten, each_append, PortKind, Kiss, Agw, AreAnswered, IsAnswered}
+use Rattle.channel_bench.proofs.Common.{Connection, connection_of, most_connections, new_connection, with_connection}
+use Rattle.channel_bench.proofs.Common.{AreTaken, AreTakenBy, ending, joining, taking, with_host, with_octets}
+use Rattle.channel_bench.proofs.Common.{StationState, Turn, begin, changing, closing, program_id, kiss_id}
+use Rattle.channel_bench.proofs.Common.{full_duplex_octets}
 use Rattle.std.specs.List.{AllByRecursion as Each}
-use Rattle.std.proofs.lemmas.Bool.{eqb-true}
-use Rattle.agwpe_port.specs.Messages.{spelling}
-use Rattle.agwpe_port.specs.declared.message.AgwMessage.{AgwMessage}
-use Rattle.agwpe_port.proofs.WrittenLemmas.{IsWritten}
-use Rattle.link_world.proofs.law.Each.{each_append}
-use Rattle.station.specs.declared.host_event.PortKind.{PortKind}
-use Rattle.station.specs.declared.host_event.PortKind.TheVariants.{Kiss, Agw}
-use Rattle.station.specs.AgwRequests.{AreAnswered, IsAnswered}
-use Rattle.station.specs.Connections.{Connection, connection_of, most_connections, new_connection, with_connection}
-use Rattle.station.specs.Host.{AreTaken, AreTakenBy, ending, joining, taking, with_host, with_octets}
 use Rattle.station.specs.Kiss.{heeding_all, param_of, with_param}
-use Rattle.station.specs.State.{StationState}
-use Rattle.station.specs.Turn.{Turn, begin, changing, closing}
-use Rattle.channel_bench.specs.BenchSteps.{program_id}
-use Rattle.channel_bench.specs.BenchTick.{kiss_id}
-use Rattle.channel_bench.specs.HostProgram.{full_duplex_octets}
 use Rattle.channel_bench.proofs.HostStreams.{IsSetting, IsWhole, none_bad, one_new, one_setting, setting_more}
 use Rattle.channel_bench.proofs.HostStreams.{whole_more}
 use Rattle.channel_bench.proofs.TurnWalks.{Kept, kept_by_acts}

@@ -1,38 +1,25 @@
 -- A heard frame is matched with one in flight: what a station sends comes to the other one in order, and a frame that
 -- a mark has passed is not heard later.
-use Rattle.std.proofs.Common.{◌≡◌, ℕ, cond, ◌+◌, ◌-◌, ◌*◌, ◌<◌, ◌≤◌, ◌==◌, ◌⊎◌, max, Bool, true, false, List, [], ◌∷◌}
-use Rattle.std.proofs.Common.{◌++◌, length, map, drop, get_or, Option, Some, None, refl, sym, ap, ◌∙◌, subst, inl, inr}
-use Rattle.std.proofs.Common.{arith, length-append}
-use Rattle.std.specs.Prelude.{count_by, option_map, slice_get}
+use Rattle.channel_bench.proofs.Common.{◌≡◌, ℕ, cond, ◌+◌, ◌-◌, ◌*◌, ◌<◌, ◌≤◌, ◌==◌, ◌⊎◌, max, Bool, true, false, List}
+use Rattle.channel_bench.proofs.Common.{[], ◌∷◌, ◌++◌, length, map, drop, get_or, Option, Some, None, refl, sym, ap}
+use Rattle.channel_bench.proofs.Common.{◌∙◌, subst, inl, inr, arith, length-append, count_by, option_map, slice_get}
+use Rattle.channel_bench.proofs.Common.{cases_lt, append-nil, append_assoc, map-append, slice_get-get_or, slice_get-map}
+use Rattle.channel_bench.proofs.Common.{Sent, Candidate, End, A, B, other, Piece, StationState, air_of, SentAt, Near}
+use Rattle.channel_bench.proofs.Common.{SideState, IsStep, distance, program_id, told_octets, told_piece, told_pieces}
+use Rattle.channel_bench.proofs.Common.{Moment, AreMatched, BothWays, IsMatched, IsMatchedIn, LinkFrame, OneWay}
+use Rattle.channel_bench.proofs.Common.{after_moment, after_moments, hears_ask, hearing_at, nothing_sent, sent_by}
+use Rattle.channel_bench.proofs.Common.{steps_in, Steps, Passes, Input, Step, at_end, queued_at, OffAir, OfClock}
+use Rattle.channel_bench.proofs.Common.{sent_in, framed, queued_by, queued_passed}
 use Rattle.std.proofs.Math.Nat.{max-le}
-use Rattle.std.proofs.lemmas.Bool.{cases_lt}
-use Rattle.std.proofs.lemmas.List.{append-nil, append_assoc, map-append}
-use Rattle.std.proofs.lemmas.Option.{slice_get-get_or, slice_get-map, slice_get_within}
-use Rattle.channel_access.specs.declared.air_tick.Sent.{Sent}
-use Rattle.frame_merge.specs.declared.candidate.Candidate.{Candidate}
-use Rattle.link_world.specs.declared.end.End.{End}
-use Rattle.link_world.specs.declared.end.End.TheVariants.{A, B}
-use Rattle.link_world.specs.World.{other}
-use Rattle.station.specs.declared.host_out.Piece.{Piece}
-use Rattle.station.specs.State.{StationState}
-use Rattle.station.specs.Ticks.{air_of}
-use Rattle.channel_bench.specs.declared.matching.SentAt.{SentAt}
-use Rattle.channel_bench.specs.BenchState.{Near, SideState}
-use Rattle.channel_bench.specs.BenchSteps.{IsStep, distance, program_id, told_octets, told_piece, told_pieces}
-use Rattle.station_laws.specs.InFlight.{Moment, AreMatched, BothWays, IsInFlight, IsMatched, IsMatchedIn, LinkFrame}
-use Rattle.station_laws.specs.InFlight.{OneWay, after_moment, after_moments, hears_ask, hearing_at, nothing_sent}
-use Rattle.station_laws.specs.InFlight.{sent_by, steps_in}
-use Rattle.station_laws.specs.InFlight.Moment.{Steps, Passes}
-use Rattle.station_laws.specs.JointRun.{Input, Step, at_end, queued_at}
-use Rattle.station_laws.specs.JointRun.Input.{OffAir, OfClock}
-use Rattle.channel_bench.specs.Sounding.{sent_in}
+use Rattle.std.proofs.lemmas.Option.{slice_get_within}
+use Rattle.station_laws.specs.InFlight.{IsInFlight}
 use Rattle.channel_bench.proofs.ChannelOrder.{octets_of, sent_octets}
-use Rattle.station_laws.proofs.Framed.{framed, octets_framed, octets_in}
+use Rattle.station_laws.proofs.Framed.{octets_framed, octets_in}
 use Rattle.channel_bench.proofs.NotedRun.{moments_more, steps_more}
 use Rattle.channel_bench.proofs.SentInOrder.{InOrder, sent_at, sent_in_step, sent_more}
 use Rattle.channel_bench.proofs.TowardsLemmas.{IsMatchAt, Rising, counted_within, has_passed, octets_at, passed_counted}
 use Rattle.channel_bench.proofs.TowardsLemmas.{rising_later, rising_more, still_there}
-use Rattle.station_laws.proofs.Ways.{hearing_one, hearing_none, queued_by, queued_passed, stepped_other, stepped_own}
+use Rattle.station_laws.proofs.Ways.{hearing_one, hearing_none, stepped_other, stepped_own}
 
 -- ---- the frames that links have queued, in a run with its matches
 

@@ -1,8 +1,7 @@
 -- The order of two host programs, computed: two set-ups of which the second got a first part keep it; octets that
 -- nobody gave do not.
-use Rattle.std.proofs.Common.{◌≡◌, ℕ, zero, suc, List, [], ◌∷◌, refl, ap, ◌∙◌, arith}
-use Rattle.channel_bench.specs.declared.report.SetUp.{SetUp}
-use Rattle.channel_bench.specs.KeepsOrder.{AreGotFrom, GotInOrder}
+use Rattle.channel_bench.proofs.Common.{◌≡◌, ℕ, zero, suc, List, [], ◌∷◌, refl, ap, ◌∙◌, arith, SetUp, AreGotFrom}
+use Rattle.channel_bench.proofs.Common.{GotInOrder}
 
 abbrev pub one : List ℕ → List ℕ → SetUp
 one given got = record { given = given; got = got }

@@ -1,30 +1,17 @@
 -- When A's station in a bench hears a frame, all frames that wait there keep one key, and its link has no other event.
-use Rattle.std.proofs.Common.{◌≡◌, ℕ, Bool, true, false, List, [], ◌∷◌, map, cond, Option, Some, None, is_none, refl}
-use Rattle.std.proofs.Common.{sym, ap, ◌∙◌, subst}
-use Rattle.std.specs.Bool.{⊤}
-use Rattle.std.specs.Prelude.{MatchBool}
+use Rattle.channel_bench.proofs.Common.{◌≡◌, ℕ, Bool, true, false, List, [], ◌∷◌, map, cond, Option, Some, None}
+use Rattle.channel_bench.proofs.Common.{is_none, refl, sym, ap, ◌∙◌, subst, ⊤, MatchBool, Callsign, way_back, Path}
+use Rattle.channel_bench.proofs.Common.{Command, Frame, A, B, Connection, AreOctetsHeard, IsHeard, IsHeardAnew}
+use Rattle.channel_bench.proofs.Common.{IsHeardBy, IsHeardMaking, IsReadingHeardAnew, IsRepeatedFor, destination_field}
+use Rattle.channel_bench.proofs.Common.{may_make, showing_to, shown_to_hosts, source_field, waits_for_repeater, Link}
+use Rattle.channel_bench.proofs.Common.{key_between, link_at, making, no_layer_3, registrar, StationState, Turn}
+use Rattle.channel_bench.proofs.Common.{in_order, call_at, LinkStep, anew_steps, by_path_steps, heard_steps, hears_at}
+use Rattle.channel_bench.proofs.Common.{key_steps, link_step, new_steps, path_steps, reading_steps, steps_at, steps_for}
 use Rattle.std.specs.List.{AllByRecursion as Each}
-use Rattle.ax25_address.specs.Callsign.{Callsign}
-use Rattle.ax25_address.specs.FramePath.{way_back}
-use Rattle.ax25_address.specs.declared.path.Path.{Path}
-use Rattle.ax25_address.specs.declared.path.Role.TheVariants.{Command}
-use Rattle.ax25_frames.specs.declared.frame.Frame.{Frame}
 use Rattle.link_machine.specs.Event.{Event as LinkEvent}
 use Rattle.link_machine.specs.Event.Event.{Connect as LinkConnect, Send as LinkSend, Disconnect as LinkDisconnect}
 use Rattle.link_machine.specs.Event.Event.{Hear as LinkHear, Tick as LinkTick}
-use Rattle.link_world.specs.declared.end.End.TheVariants.{A, B}
-use Rattle.station.specs.Connections.{Connection}
-use Rattle.station.specs.Heard.{AreHeardAt, AreOctetsHeard, IsHeard, IsHeardAnew, IsHeardBy, IsHeardMaking, IsPathOf}
-use Rattle.station.specs.Heard.{IsReadingHeardAnew, IsRepeatedFor, destination_field, hearing_at, may_make, showing_to}
-use Rattle.station.specs.Heard.{shown_to_hosts, source_field, waits_for_repeater}
-use Rattle.station.specs.Links.{Link, key_between, link_at}
-use Rattle.station.specs.NewLinks.{making, no_layer_3}
-use Rattle.station.specs.Registrations.{registrar}
-use Rattle.station.specs.State.{StationState}
-use Rattle.station.specs.Turn.{Turn, in_order}
-use Rattle.channel_bench.specs.HostProgram.{call_at}
-use Rattle.station_laws.specs.LinkSteps.{LinkStep, anew_steps, by_path_steps, heard_steps, hears_at, key_steps}
-use Rattle.station_laws.specs.LinkSteps.{link_step, new_steps, path_steps, reading_steps, steps_at, steps_for}
+use Rattle.station.specs.Heard.{AreHeardAt, IsPathOf, hearing_at}
 use Rattle.channel_bench.proofs.KeyedSteps.{none_there}
 use Rattle.channel_bench.proofs.OneKey.{HasNoLinks, Keyed, event_keyed, made_keyed}
 use Rattle.channel_bench.proofs.OwnLinks.{IsFromPartner, OwnsAll, chosen}

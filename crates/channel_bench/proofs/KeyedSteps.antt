@@ -1,45 +1,29 @@
 -- The acts of A's station in a bench keep one key for all frames that wait. So a SABM, SABME or DISC that its link
 -- sends by a connect or a tick finds room in the transmit queue.
-use Rattle.std.proofs.Common.{◌≡◌, ℕ, ◌+◌, ◌<◌, ◌≤◌, ◌-◌, ◌&&◌, Bool, true, false, nat_lt, List, [], ◌∷◌, length, map}
-use Rattle.std.proofs.Common.{cond, Option, Some, None, is_none, refl, sym, ap, ◌∙◌, subst, arith}
-use Rattle.std.specs.Prelude.{MatchBool}
-use Rattle.std.specs.List.{list_any, AllByRecursion as Each}
-use Rattle.std.proofs.lemmas.Bool.{and_parts}
-use Rattle.std.proofs.lemmas.List.{drop_all, length-map}
-use Rattle.ax25_address.specs.Callsign.{Callsign}
-use Rattle.ax25_address.specs.declared.path.Path.{Path}
-use Rattle.agwpe_port.specs.declared.message.AgwMessage.{AgwMessage}
+use Rattle.channel_bench.proofs.Common.{◌≡◌, ℕ, ◌+◌, ◌<◌, ◌≤◌, ◌-◌, ◌&&◌, Bool, true, false, nat_lt, List, [], ◌∷◌}
+use Rattle.channel_bench.proofs.Common.{length, map, cond, Option, Some, None, is_none, refl, sym, ap, ◌∙◌, subst}
+use Rattle.channel_bench.proofs.Common.{arith, MatchBool, list_any, and_parts, drop_all, length-map, Callsign, Path}
+use Rattle.channel_bench.proofs.Common.{AgwMessage, sent_frame, done_of, A, B, each_append, IsCall, IsCallMade}
+use Rattle.channel_bench.proofs.Common.{called_pid, data_pid, disconnecting, giving, giving_packet, may_call}
+use Rattle.channel_bench.proofs.Common.{packets_of, refused_reply, register_reply, registering, replying}
+use Rattle.channel_bench.proofs.Common.{with_registration, event_at, event_of, queueing_frames, settled_link}
+use Rattle.channel_bench.proofs.Common.{with_links, Link, key_between, link_at, most_links, making, is_number}
+use Rattle.channel_bench.proofs.Common.{may_register, registrar, Route, path_along, StationState, most_waiting}
+use Rattle.channel_bench.proofs.Common.{ticking_at, waits, Act, Turn, capacity, changing, in_order, program_id, call_at}
+use Rattle.channel_bench.proofs.Common.{LinkStep, call_steps, link_step, made_steps, steps_along, steps_at, steps_for}
+use Rattle.channel_bench.proofs.Common.{ticks_at, AsksInRoom, DropsNoAsk, asks_when_sent, calls_chosen, each_get}
+use Rattle.channel_bench.proofs.Common.{not_both, none_by_position}
+use Rattle.std.specs.List.{AllByRecursion as Each}
 use Rattle.link_machine.specs.Event.{Event as LinkEvent}
 use Rattle.link_machine.specs.Event.Event.{Connect as LinkConnect, Send as LinkSend, Disconnect as LinkDisconnect}
 use Rattle.link_machine.specs.Event.Event.{Tick as LinkTick}
-use Rattle.link_machine.specs.Sent.{sent_frame}
-use Rattle.link_machine.specs.Step.{done_of, step as link_turn}
-use Rattle.link_world.specs.declared.end.End.TheVariants.{A, B}
-use Rattle.link_world.proofs.law.Each.{each_append}
-use Rattle.station.specs.AgwRequests.{IsCall, IsCallMade, called_pid, data_pid, disconnecting, giving, giving_packet}
-use Rattle.station.specs.AgwRequests.{may_call, packets_of, refused_reply, register_reply, registering, replying}
-use Rattle.station.specs.AgwRequests.{with_registration}
-use Rattle.station.specs.LinkEvents.{event_at, event_of, queueing_frames, settled_link, with_links}
-use Rattle.station.specs.Links.{Link, count_of_links, key_between, link_at, most_links}
-use Rattle.station.specs.NewLinks.{making}
-use Rattle.station.specs.Registrations.{is_number, may_register, registrar}
-use Rattle.station.specs.Routes.{Route, path_along}
-use Rattle.station.specs.State.{StationState, most_waiting}
-use Rattle.station.specs.Ticks.{ticking_at, waits}
-use Rattle.station.specs.Turn.{Act, Turn, capacity, changing, in_order}
-use Rattle.channel_bench.specs.BenchSteps.{program_id}
-use Rattle.channel_bench.specs.HostProgram.{call_at}
-use Rattle.station_laws.specs.LinkSteps.{LinkStep, call_steps, link_step, made_steps, steps_along, steps_at, steps_for}
-use Rattle.station_laws.specs.LinkSteps.{ticks_at}
-use Rattle.station_laws.specs.MatchedLaw.{AsksInRoom, DropsNoAsk}
-use Rattle.station_laws.proofs.Acts.{asks_when_sent}
+use Rattle.link_machine.specs.Step.{step as link_turn}
+use Rattle.station.specs.Links.{count_of_links}
 use Rattle.channel_bench.proofs.AsksLittle.{connect_few, if_down, sends_none, tick_sends}
 use Rattle.channel_bench.proofs.OneKey.{HasNoLinks, Keyed, all_enter, empty_queue, event_keyed, made_keyed}
 use Rattle.channel_bench.proofs.OwnLinks.{IsOwn, IsOwnPlace, OwnsAll, chosen}
 use Rattle.station_laws.proofs.Queues.{told_silent}
-use Rattle.station_laws.proofs.Standing.{calls_chosen}
-use Rattle.station_laws.proofs.Tables.{each_get, none_at, not_both}
-use Rattle.station_laws.proofs.ValidCalls.{none_by_position}
+use Rattle.station_laws.proofs.Tables.{none_at}
 
 -- ---- frames that find room
 

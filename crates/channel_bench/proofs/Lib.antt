@@ -1,3 +1,4 @@
+mod Common
 mod EarLemmas
 mod WordLemmas
 mod Loudness

@@ -1,37 +1,24 @@
 -- What the laws say of the link of the two calls at each moment of a run of the bench.
-use Rattle.std.proofs.Common.{◌≡◌, false, List, [], ◌∷◌, refl, sym, subst, arith}
+use Rattle.channel_bench.proofs.Common.{◌≡◌, false, List, [], ◌∷◌, refl, sym, subst, arith, All-from_recursion}
+use Rattle.channel_bench.proofs.Common.{recursion_from_All, Machine, End, A, B, changes_law_holds, BenchWords, IsNoted}
+use Rattle.channel_bench.proofs.Common.{first_stations, the_calls, config_of, params_of, BAsksNothing, AreMatched}
+use Rattle.channel_bench.proofs.Common.{Moment, nothing_sent, steps_in, Step, Stations, all_stepped, state_of}
+use Rattle.channel_bench.proofs.Common.{first_world, link_at_end, world_of, LinkStep, steps_of, RunsIn, pairs_in}
+use Rattle.channel_bench.proofs.Common.{AllToldInOne, runs_behind, IsGivenWhileUp, link_steps_at, set_ups_seen}
+use Rattle.channel_bench.proofs.Common.{IsMachineOf, first_chosen, seed_at, RunChain, run_chained, AsksInSetUp, IsChain}
+use Rattle.channel_bench.proofs.Common.{StandsAsked, StandsCalled, asked_behind, called_behind, chain_asked}
+use Rattle.channel_bench.proofs.Common.{last_machine, matched_law_holds, matched_in_order_holds, AsksFindRoom}
+use Rattle.channel_bench.proofs.Common.{AsksFindRoomAt, set_ups_law_holds}
 use Rattle.std.specs.List.{AllByRecursion as Each}
-use Rattle.std.proofs.lemmas.List.Elements.{All-from_recursion, recursion_from_All}
-use Rattle.link_machine.specs.Machine.{Machine}
-use Rattle.link_world.specs.declared.end.End.{End}
-use Rattle.link_world.specs.declared.end.End.TheVariants.{A, B}
 use Rattle.link_world.specs.Windows.{WindowsFit}
-use Rattle.link_world.proofs.law.ChangesLaw.{changes_law_holds}
-use Rattle.channel_bench.specs.declared.words.BenchWords.{BenchWords}
-use Rattle.channel_bench.specs.BenchOrder.{IsNoted, first_stations, the_calls}
-use Rattle.channel_bench.specs.BenchState.{config_of, params_of}
-use Rattle.station_laws.specs.CallerLaw.{BAsksNothing}
-use Rattle.station_laws.specs.InFlight.{AreMatched, Moment, nothing_sent, steps_in}
-use Rattle.station_laws.specs.JointRun.{Step, Stations, all_stepped, state_of}
-use Rattle.station_laws.specs.LinkOfCalls.{first_world, link_at_end, world_of}
-use Rattle.station_laws.specs.LinkSteps.{LinkStep, steps_of}
-use Rattle.station_laws.specs.LinksTell.{RunsIn}
-use Rattle.station_laws.specs.MatchedLaw.{IsEventOfCaller, OnlyACalls, pairs_in}
-use Rattle.station_laws.specs.RunsTell.{AllToldInOne, runs_behind}
-use Rattle.station_laws.specs.SetUpsSeen.{IsGivenWhileUp, link_steps_at, set_ups_seen}
-use Rattle.station_laws.specs.StationsLaw.{IsMachineOf, LinkKeepsOrder, first_chosen}
-use Rattle.channel_bench.specs.Words.{seed_at}
+use Rattle.station_laws.specs.MatchedLaw.{IsEventOfCaller, OnlyACalls}
+use Rattle.station_laws.specs.StationsLaw.{LinkKeepsOrder}
 use Rattle.station_laws.proofs.CallerLaws.{events_by}
-use Rattle.station_laws.proofs.ChainRun.{BIsPassive, EndAsks, RunChain, run_chained}
-use Rattle.station_laws.proofs.Chains.{AsksInSetUp, HearsWell, IsChain, StandsAsked, StandsCalled, asked_behind}
-use Rattle.station_laws.proofs.Chains.{called_behind, chain_asked, chain_called, chain_tells, last_machine}
+use Rattle.station_laws.proofs.ChainRun.{BIsPassive, EndAsks}
+use Rattle.station_laws.proofs.Chains.{HearsWell, chain_called, chain_tells}
 use Rattle.station_laws.proofs.LinkTells.{none_idle}
-use Rattle.station_laws.proofs.MatchedLaws.{matched_law_holds}
-use Rattle.station_laws.proofs.MatchedOrder.{matched_in_order_holds}
 use Rattle.channel_bench.proofs.OwnLinks.{chosen}
 use Rattle.channel_bench.proofs.ProgramsAsk.{AskLittle}
-use Rattle.station_laws.proofs.RoomForAsks.{AsksFindRoom, AsksFindRoomAt}
-use Rattle.station_laws.proofs.SeenLemmas.{set_ups_law_holds}
 use Rattle.channel_bench.proofs.Shorts.{GivenShort, GotShort, ShortStep, got_short, steps_given}
 
 -- what is known of a run at a moment

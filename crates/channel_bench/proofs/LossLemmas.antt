@@ -1,16 +1,8 @@
 -- A transmission that begins draws a word, and may be lost.
-use Rattle.std.proofs.Common.{◌≡◌, ℕ, ◌+◌, Bool, true, false, cond, sym, ap, ◌∙◌, subst}
-use Rattle.link_world.specs.declared.end.End.{End}
-use Rattle.link_world.specs.declared.end.End.TheVariants.{A, B}
-use Rattle.channel_bench.specs.declared.shared.Shared.{Shared}
-use Rattle.channel_bench.specs.declared.side.Side.{Side}
-use Rattle.channel_bench.specs.declared.run.Run.{Run}
-use Rattle.channel_bench.specs.declared.words.BenchWords.{BenchWords}
-use Rattle.channel_bench.specs.BenchState.{BenchState, Common, Near, near, with_near}
-use Rattle.channel_bench.specs.HeldBench.{EarStandsFor, StandsForCommon, StandsForNear, StandsForRun, StandsForSide}
-use Rattle.channel_bench.specs.Sounding.{is_lost, with_loss, with_losses, with_transmission}
-use Rattle.channel_bench.specs.Words.{text_at}
-use Rattle.channel_access.specs.Words.{after_word}
+use Rattle.channel_bench.proofs.Common.{◌≡◌, ℕ, ◌+◌, Bool, true, false, cond, sym, ap, ◌∙◌, subst, End, A, B, Shared}
+use Rattle.channel_bench.proofs.Common.{Side, Run, BenchWords, BenchState, Common, Near, near, with_near, EarStandsFor}
+use Rattle.channel_bench.proofs.Common.{StandsForCommon, StandsForNear, StandsForRun, StandsForSide, is_lost, with_loss}
+use Rattle.channel_bench.proofs.Common.{with_losses, with_transmission, text_at, after_word}
 use Rattle.channel_bench.proofs.SideLemmas.{KeepsStation, stands_kept}
 
 -- none begins

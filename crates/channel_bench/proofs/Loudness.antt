@@ -1,22 +1,18 @@
 -- No sample of a tick is louder than 10000.
-use Rattle.std.proofs.Common.{ℕ, ◌+◌, ◌*◌, ◌≤◌, Bool, ℤ, pos, List, [], ◌∷◌, ◌++◌, unsigned_abs, get_or, drop}
-use Rattle.std.proofs.Common.{replicate, Option, Some, None, arith}
-use Rattle.std.specs.List.{All, range_with_len}
-use Rattle.std.proofs.lemmas.List.Elements.{All-nil, All-map, All-append, All-replicate, All-take, All-drop}
+use Rattle.channel_bench.proofs.Common.{ℕ, ◌+◌, ◌*◌, ◌≤◌, Bool, ℤ, pos, List, [], ◌∷◌, ◌++◌, unsigned_abs, get_or, drop}
+use Rattle.channel_bench.proofs.Common.{replicate, Option, Some, None, arith, range_with_len, All-replicate, line}
+use Rattle.channel_bench.proofs.Common.{Channel, after_rules, air_samples, OnAir, bits_then, decided, samples_on_air}
+use Rattle.channel_bench.proofs.Common.{tick_samples, WaitingFrame, StationState, air_of, ticking_links, begin}
+use Rattle.std.specs.List.{All}
+use Rattle.std.proofs.lemmas.List.Elements.{All-nil, All-map, All-append, All-take, All-drop}
 use Rattle.tone_table.specs.declared.tone.Tone.{Tone}
 use Rattle.tone_table.specs.Sine.{wave_sample}
 use Rattle.tone_table.specs.Tones.{phase_step, next_phase}
 use Rattle.tone_table.specs.Wave.{pure_window, wave_from}
 use Rattle.tone_table.proofs.SineLemmas.{unsigned_abs-wave_sample}
-use Rattle.nrzi_bits.specs.Line.{line}
 use Rattle.hdlc_framer.specs.Body.{body}
 use Rattle.afsk_modulator.specs.Transmission.{transmission}
-use Rattle.channel_access.specs.Channel.{Channel, after_rules, air_samples}
-use Rattle.channel_access.specs.OnAir.{OnAir, bits_then, decided, flags_behind, samples_on_air, tick_samples}
-use Rattle.channel_access.specs.Waiting.{WaitingFrame}
-use Rattle.station.specs.State.{StationState}
-use Rattle.station.specs.Ticks.{air_of, ticking_links}
-use Rattle.station.specs.Turn.{begin}
+use Rattle.channel_access.specs.OnAir.{flags_behind}
 
 abbrev pub IsLoudAtMost : ℤ → Type 0
 IsLoudAtMost sample = unsigned_abs sample ≤ 10000

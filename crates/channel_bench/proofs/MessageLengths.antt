@@ -1,8 +1,7 @@
 -- How many octets a message has.
-use Rattle.std.proofs.Common.{◌≡◌, ◌+◌, [], ◌∷◌, ◌++◌, length, length-append, arith}
+use Rattle.channel_bench.proofs.Common.{◌≡◌, ◌+◌, [], ◌∷◌, ◌++◌, length, length-append, arith, AgwMessage, spelling}
 use Rattle.byteorder.specs.Endian.{little_bytes}
-use Rattle.agwpe_port.specs.declared.message.AgwMessage.{AgwMessage}
-use Rattle.agwpe_port.specs.Messages.{header_of, spelling}
+use Rattle.agwpe_port.specs.Messages.{header_of}
 
 pub length-spelling : (m : AgwMessage) → length m.from ≡ 10 → length m.to ≡ 10
     → length (spelling m) ≡ 36 + length m.body

@@ -1,32 +1,16 @@
 -- A step of a station of the bench keeps what its host program has seen of its link.
-use Rattle.std.proofs.Common.{◌≡◌, ℕ, Bool, true, false, List, [], ◌∷◌, ◌++◌, Option, is_some, refl, sym, ap, ◌∙◌}
-use Rattle.std.proofs.Common.{subst}
+use Rattle.channel_bench.proofs.Common.{◌≡◌, ℕ, Bool, true, false, List, [], ◌∷◌, ◌++◌, Option, is_some, refl, sym, ap}
+use Rattle.channel_bench.proofs.Common.{◌∙◌, subst, Machine, End, A, B, other, each_append, StationState, Turn, begin}
+use Rattle.channel_bench.proofs.Common.{BenchWords, Near, SideState, IsStep, there_after, ProgramState, told_all}
+use Rattle.channel_bench.proofs.Common.{Moment, after_moments, hears_ask, nothing_sent, sent_by, Steps, IsTurn, Step}
+use Rattle.channel_bench.proofs.Common.{Stations, at_end, state_of, with_state, LinkStep, steps_of, turn_steps, RunsIn}
+use Rattle.channel_bench.proofs.Common.{runs_behind, seen_by_all, IsChain, asked_behind, behind_append, called_behind}
+use Rattle.channel_bench.proofs.Common.{chain_parts, last_machine, framed, is_connect, is_disconnect}
 use Rattle.std.specs.List.{AllByRecursion as Each}
-use Rattle.link_machine.specs.Machine.{Machine}
-use Rattle.link_world.specs.declared.end.End.{End}
-use Rattle.link_world.specs.declared.end.End.TheVariants.{A, B}
-use Rattle.link_world.specs.World.{other}
-use Rattle.link_world.proofs.law.Each.{each_append}
-use Rattle.station.specs.State.{StationState}
-use Rattle.station.specs.Turn.{Turn, begin}
-use Rattle.channel_bench.specs.declared.words.BenchWords.{BenchWords}
-use Rattle.channel_bench.specs.BenchState.{Near, SideState}
-use Rattle.channel_bench.specs.BenchSteps.{IsStep, there_after}
-use Rattle.channel_bench.specs.HostProgram.{ProgramState, told_all}
-use Rattle.station_laws.specs.InFlight.{Moment, after_moments, hears_ask, nothing_sent, sent_by}
-use Rattle.station_laws.specs.InFlight.Moment.{Steps}
-use Rattle.station_laws.specs.JointRun.{IsTurn, Step, Stations, at_end, state_of, with_state}
-use Rattle.station_laws.specs.LinkSteps.{LinkStep, steps_of, turn_steps}
-use Rattle.station_laws.specs.LinksTell.{RunsIn}
-use Rattle.station_laws.specs.RunsTell.{runs_behind}
-use Rattle.station_laws.specs.SetUpsSeen.{seen_by_all}
-use Rattle.station_laws.proofs.Chains.{IsChain, asked_behind, behind_append, called_behind, chain_parts, last_machine}
 use Rattle.channel_bench.proofs.CoreRun.{Occurs, Usual, input_of}
 use Rattle.channel_bench.proofs.CoreRun.Usual.{connects, disconnects, gives, hears, joins_kiss, joins_program}
 use Rattle.channel_bench.proofs.CoreRun.Usual.{registers, sets_full, ticks}
-use Rattle.station_laws.proofs.Framed.{framed}
 use Rattle.channel_bench.proofs.HostsStay.{HasHosts}
-use Rattle.station_laws.proofs.LinkDid.{is_connect, is_disconnect}
 use Rattle.channel_bench.proofs.LinkNow.{GivenUp, Known, LinkNow, first_machine, link_chain, link_now, links_of}
 use Rattle.channel_bench.proofs.OwnLinks.{Cause, IsBy, chosen, messages_of}
 use Rattle.channel_bench.proofs.OwnLinks.Cause.{connecting, disconnecting, nothing, others, sending}

@@ -1,17 +1,13 @@
 -- The moments that a bench notes are a joint run of its stations, in which each SABM, SABME and DISC found a quiet
 -- channel.
-use Rattle.std.proofs.Common.{◌≡◌, ℕ, ◌+◌, Bool, true, false, List, [], ◌∷◌, ◌++◌, cond, Option, Some, None, refl, sym}
-use Rattle.std.proofs.Common.{ap, ◌∙◌, subst}
-use Rattle.link_world.specs.declared.end.End.{End}
-use Rattle.channel_bench.specs.declared.words.BenchWords.{BenchWords}
-use Rattle.channel_bench.specs.BenchOrder.{IsNoted, first_stations}
-use Rattle.channel_bench.specs.BenchState.{Near}
-use Rattle.channel_bench.specs.BenchSteps.{IsStep, first_unquiet, trouble_of, count_of}
-use Rattle.station_laws.specs.InFlight.{Moment, BothWays, AreQuietAt, AreQuietThrough, IsQuietIn, after_moment}
-use Rattle.station_laws.specs.InFlight.{after_moments, hears_ask, hearing_at, is_quiet_at, nothing_sent, queueing_at}
-use Rattle.station_laws.specs.InFlight.{steps_in}
-use Rattle.station_laws.specs.InFlight.Moment.{Steps, Passes}
-use Rattle.station_laws.specs.JointRun.{Input, Step, Stations, IsJointRun, all_stepped, state_of, stepped, with_state}
+use Rattle.channel_bench.proofs.Common.{◌≡◌, ℕ, ◌+◌, Bool, true, false, List, [], ◌∷◌, ◌++◌, cond, Option, Some, None}
+use Rattle.channel_bench.proofs.Common.{refl, sym, ap, ◌∙◌, subst, End, BenchWords, IsNoted, first_stations, Near}
+use Rattle.channel_bench.proofs.Common.{IsStep, first_unquiet, trouble_of, count_of, Moment, BothWays, after_moment}
+use Rattle.channel_bench.proofs.Common.{after_moments, hears_ask, hearing_at, is_quiet_at, nothing_sent, queueing_at}
+use Rattle.channel_bench.proofs.Common.{steps_in, Steps, Passes, Input, Step, Stations, all_stepped, state_of}
+use Rattle.channel_bench.proofs.Common.{with_state}
+use Rattle.station_laws.specs.InFlight.{AreQuietAt, AreQuietThrough, IsQuietIn}
+use Rattle.station_laws.specs.JointRun.{IsJointRun, stepped}
 use Rattle.channel_bench.proofs.CoreRun.{KeptByCore, input_of, told_station}
 use Rattle.station_laws.proofs.Growing.{all_stepped_more, joint_more}
 

@@ -1,28 +1,20 @@
 -- At a station that has one link at a time, all frames that wait carry one key: that of the link, or of the link before
 -- it. So if no frame of its link waits, no frame waits.
-use Rattle.std.proofs.Common.{◌≡◌, ◌⊎◌, ℕ, ◌+◌, ◌<◌, ◌≤◌, Bool, true, false, nat_lt, List, [], ◌∷◌, length, cond}
-use Rattle.std.proofs.Common.{Option, Some, None, get_or, set, refl, sym, ap, ◌∙◌, subst, arith, inl, inr}
+use Rattle.channel_bench.proofs.Common.{◌≡◌, ◌⊎◌, ℕ, ◌+◌, ◌<◌, ◌≤◌, Bool, true, false, nat_lt, List, [], ◌∷◌, length}
+use Rattle.channel_bench.proofs.Common.{cond, Option, Some, None, get_or, refl, sym, ap, ◌∙◌, subst, arith, inl, inr}
+use Rattle.channel_bench.proofs.Common.{cases_lt, eq-eqb, lt-ltb, or_parts, Callsign, Path, WaitingFrame, SentFrame}
+use Rattle.channel_bench.proofs.Common.{Told, Machine, done_of, each_append, event_at, event_of, is_idle, link_event}
+use Rattle.channel_bench.proofs.Common.{queueing_frame, queueing_frames, settled_link, telling_one, telling_to}
+use Rattle.channel_bench.proofs.Common.{with_links, Link, Links, link_at, most_links, with_link, without_link}
+use Rattle.channel_bench.proofs.Common.{idle_link, making, is_number, StationState, waits, Turn, capacity, changing}
+use Rattle.channel_bench.proofs.Common.{dropping, entering, queueing, link_stepped, octets_of}
+use Rattle.std.proofs.Common.{set}
 use Rattle.std.specs.List.{AllByRecursion as Each}
-use Rattle.std.proofs.lemmas.Bool.{cases_eq, cases_lt, cond-true, eq-eqb, lt-ltb, or_parts}
+use Rattle.std.proofs.lemmas.Bool.{cases_eq, cond-true}
 use Rattle.std.proofs.lemmas.List.{get_or-set_other, get_or-set_same, get_or_past, length-append, length-set}
-use Rattle.ax25_address.specs.Callsign.{Callsign}
-use Rattle.ax25_address.specs.declared.path.Path.{Path}
-use Rattle.channel_access.specs.Waiting.{WaitingFrame}
-use Rattle.link_machine.specs.declared.acts.SentFrame.{SentFrame}
-use Rattle.link_machine.specs.declared.acts.Told.{Told}
 use Rattle.link_machine.specs.Event.{Event as LinkEvent}
-use Rattle.link_machine.specs.Machine.{Machine}
-use Rattle.link_machine.specs.Step.{done_of, step as link_turn}
-use Rattle.link_world.proofs.law.Each.{each_append}
-use Rattle.station.specs.LinkEvents.{event_at, event_of, is_idle, link_event, queueing_frame, queueing_frames}
-use Rattle.station.specs.LinkEvents.{settled_link, telling_one, telling_to, with_links}
-use Rattle.station.specs.Links.{IsNewKey, Link, Links, link_at, most_links, with_link, without_link}
-use Rattle.station.specs.NewLinks.{idle_link, making}
-use Rattle.station.specs.Registrations.{is_number}
-use Rattle.station.specs.State.{StationState}
-use Rattle.station.specs.Ticks.{waits}
-use Rattle.station.specs.Turn.{Turn, capacity, changing, dropping, entering, queueing}
-use Rattle.station_laws.proofs.Queues.{link_stepped, octets_of}
+use Rattle.link_machine.specs.Step.{step as link_turn}
+use Rattle.station.specs.Links.{IsNewKey}
 
 -- ---- what is so
 

@@ -1,40 +1,25 @@
 -- The law on a bench, from the law on two stations of which one alone calls: what the ends of the link got in order,
 -- the host programs got in order.
-use Rattle.std.proofs.Common.{◌≡◌, List, [], ◌∷◌, map, refl, sym, ap, ◌∙◌, subst}
-use Rattle.std.proofs.lemmas.List.Elements.{All-from_recursion}
-use Rattle.link_world.specs.declared.end.End.TheVariants.{A, B}
+use Rattle.channel_bench.proofs.Common.{◌≡◌, List, [], ◌∷◌, map, refl, sym, ap, ◌∙◌, subst, All-from_recursion, A, B}
+use Rattle.channel_bench.proofs.Common.{RecordedEnd, changes_law_holds, SetUp, BenchWords, IsNoted, set_up_of}
+use Rattle.channel_bench.proofs.Common.{stations_of, steps_of_run, the_calls, BenchState, config_of, ProgramState}
+use Rattle.channel_bench.proofs.Common.{set_ups_of, GotInOrder, KeepsOrder, AreMatched, nothing_sent, IsOver, world_of}
+use Rattle.channel_bench.proofs.Common.{pairs_in, Seen, as_seen, set_ups_seen, seed_at, matched_law_holds}
+use Rattle.channel_bench.proofs.Common.{matched_in_order_holds, AsksFindRoom, set_ups_law_holds}
 use Rattle.link_world.specs.Origin.{GotInOrder as PacketsInOrder}
-use Rattle.link_world.specs.Recorded.{RecordedEnd}
 use Rattle.link_world.specs.SetUps.{SetUp as LinkSetUp}
-use Rattle.link_world.proofs.law.ChangesLaw.{changes_law_holds}
-use Rattle.channel_bench.specs.declared.report.SetUp.{SetUp}
-use Rattle.channel_bench.specs.declared.words.BenchWords.{BenchWords}
 use Rattle.channel_bench.specs.BenchLaw.{BenchLaw, IsFollowed, ProgramsFollow}
-use Rattle.channel_bench.specs.BenchOrder.{IsNoted, set_up_of, stations_of, steps_of_run, the_calls}
-use Rattle.channel_bench.specs.BenchState.{BenchState, config_of}
-use Rattle.channel_bench.specs.HostProgram.{ProgramState, set_ups_of}
-use Rattle.channel_bench.specs.KeepsOrder.{GotInOrder, KeepsOrder}
-use Rattle.station_laws.specs.InFlight.{AreMatched, nothing_sent}
 use Rattle.channel_bench.specs.Report.{Report}
-use Rattle.channel_bench.specs.BenchRun.{IsOver}
-use Rattle.station_laws.specs.LinkOfCalls.{world_of}
-use Rattle.station_laws.specs.MatchedLaw.{pairs_in}
-use Rattle.station_laws.specs.SetUpsSeen.{Seen, as_seen, set_ups_seen}
-use Rattle.channel_bench.specs.Words.{seed_at}
 use Rattle.channel_bench.proofs.AsksInRoom.{asks_find_room}
 use Rattle.channel_bench.proofs.CoreRun.{core_kept}
 use Rattle.channel_bench.proofs.LinkNow.{GivenUp, links_of, only_a_calls, windows}
 use Rattle.channel_bench.proofs.GotOctets.{octets_in_order, seen_as}
-use Rattle.station_laws.proofs.MatchedLaws.{matched_law_holds}
-use Rattle.station_laws.proofs.MatchedOrder.{matched_in_order_holds}
 use Rattle.channel_bench.proofs.NotedRun.{noted_kept}
 use Rattle.channel_bench.proofs.ProgramsAsk.{AskLittle, asks_kept}
-use Rattle.station_laws.proofs.RoomForAsks.{AsksFindRoom}
 use Rattle.channel_bench.proofs.RunOfParts.{ticks_keep}
 use Rattle.channel_bench.proofs.RunSees.{run_sees}
 use Rattle.channel_bench.proofs.StepSees.{both_ends}
 use Rattle.channel_bench.proofs.TimedRun.{run_in_time}
-use Rattle.station_laws.proofs.SeenLemmas.{set_ups_law_holds}
 
 -- the set-ups of an end, as its host program saw them
 both_maps : (set_ups : List LinkSetUp) → map set_up_of (map as_seen set_ups) ≡ map seen_as set_ups

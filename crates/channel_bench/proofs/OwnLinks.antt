@@ -1,70 +1,46 @@
 -- At a station of a bench each link is between the two calls, and the host program owns it: what the acts of a step
 -- make of that, what the program is sent, and which frames join the queue.
-use Rattle.std.proofs.Common.{◌≡◌, ℕ, ◌==◌, nat_lt, Bool, true, false, List, [], ◌∷◌, ◌++◌, length, map, cond, Option}
-use Rattle.std.proofs.Common.{Some, None, refl, sym, ap, ◌∙◌, subst}
-use Rattle.std.specs.Bool.{⊤}
-use Rattle.std.specs.Prelude.{MatchBool, filter, find, flat_map, option_map}
-use Rattle.std.specs.List.{range_with_len, AllByRecursion as Each}
-use Rattle.std.proofs.lemmas.Bool.{false_from_ne_true, eqb-true}
-use Rattle.std.proofs.lemmas.Grind.{flat_map-append}
-use Rattle.std.proofs.lemmas.List.{append-nil, append_assoc, map-append}
-use Rattle.std.proofs.lemmas.List.Elements.{filter-append}
-use Rattle.ax25_address.specs.Callsign.{Callsign}
-use Rattle.ax25_address.specs.FramePath.{BeginsWithPath, way_back}
+use Rattle.channel_bench.proofs.Common.{◌≡◌, ℕ, ◌==◌, nat_lt, Bool, true, false, List, [], ◌∷◌, ◌++◌, length, map, cond}
+use Rattle.channel_bench.proofs.Common.{Option, Some, None, refl, sym, ap, ◌∙◌, subst, ⊤, MatchBool, filter, option_map}
+use Rattle.channel_bench.proofs.Common.{range_with_len, eqb-true, flat_map-append, append-nil, append_assoc, map-append}
+use Rattle.channel_bench.proofs.Common.{filter-append, Callsign, way_back, Path, Command, Frame, spelling, AgwMessage}
+use Rattle.channel_bench.proofs.Common.{SentFrame, Told, Machine, SentIn, sent_frame, done_of, End, A, B, other}
+use Rattle.channel_bench.proofs.Common.{PortKind, Kiss, Agw, Piece, Connection, AreOctetsHeard, IsHeard, IsHeardAnew}
+use Rattle.channel_bench.proofs.Common.{IsHeardBy, IsHeardMaking, IsReadingHeardAnew, IsRepeatedFor, destination_field}
+use Rattle.channel_bench.proofs.Common.{kiss_data, may_make, showing, showing_to, shown_to_hosts, source_field}
+use Rattle.channel_bench.proofs.Common.{waits_for_repeater, with_shown, message_of_told, event_at, event_of, is_idle}
+use Rattle.channel_bench.proofs.Common.{link_event, queueing_frame, queueing_frames, settled_link, telling_one}
+use Rattle.channel_bench.proofs.Common.{telling_to, with_links, Link, Links, key_between, link_at, most_links}
+use Rattle.channel_bench.proofs.Common.{with_link, without_link, monitor_pieces, idle_link, making, no_layer_3}
+use Rattle.channel_bench.proofs.Common.{registrar, StationState, ticking_at, ticking_links, waits, Act, Turn, capacity}
+use Rattle.channel_bench.proofs.Common.{changing, dropping, entering, in_order, queueing, the_calls, program_id}
+use Rattle.channel_bench.proofs.Common.{call_at, link_at_end, Choice, LinkStep, anew_steps, by_path_steps, heard_steps}
+use Rattle.channel_bench.proofs.Common.{hears_at, key_steps, link_step, new_steps, path_steps, reading_steps}
+use Rattle.channel_bench.proofs.Common.{steps_along, steps_at, steps_for, tick_steps, ticks_at, told_in, link_stepped}
+use Rattle.channel_bench.proofs.Common.{octets_of, calls_chosen, each_get}
+use Rattle.std.specs.Prelude.{find, flat_map}
+use Rattle.std.specs.List.{AllByRecursion as Each}
+use Rattle.std.proofs.lemmas.Bool.{false_from_ne_true}
+use Rattle.ax25_address.specs.FramePath.{BeginsWithPath}
 use Rattle.ax25_address.specs.SameCall.{is_same_call}
-use Rattle.ax25_address.specs.declared.path.Path.{Path}
-use Rattle.ax25_address.specs.declared.path.Role.TheVariants.{Command}
 use Rattle.ax25_frames.specs.FrameOctets.{IsFrame}
-use Rattle.ax25_frames.specs.declared.frame.Frame.{Frame}
 use Rattle.ax25_frames.specs.declared.frame.Modulus.{Modulus}
 use Rattle.ax25_frames.specs.declared.frame.Modulus.TheVariants.{Eight}
-use Rattle.agwpe_port.specs.Messages.{spelling}
-use Rattle.agwpe_port.specs.declared.message.AgwMessage.{AgwMessage}
-use Rattle.link_machine.specs.declared.acts.SentFrame.{SentFrame}
-use Rattle.link_machine.specs.declared.acts.Told.{Told}
 use Rattle.link_machine.specs.Event.{Event as LinkEvent}
 use Rattle.link_machine.specs.Event.Event.{Connect as LinkConnect, Send as LinkSend, Disconnect as LinkDisconnect}
 use Rattle.link_machine.specs.Event.Event.{Hear as LinkHear, Tick as LinkTick}
-use Rattle.link_machine.specs.Machine.{Machine, modulus_named}
-use Rattle.link_machine.specs.Sent.{SentIn, frame_of, sent_frame}
-use Rattle.link_machine.specs.Step.{done_of, step as link_turn}
-use Rattle.link_world.specs.declared.end.End.{End}
-use Rattle.link_world.specs.declared.end.End.TheVariants.{A, B}
-use Rattle.link_world.specs.World.{other}
-use Rattle.station.specs.declared.host_event.PortKind.{PortKind}
-use Rattle.station.specs.declared.host_event.PortKind.TheVariants.{Kiss, Agw}
-use Rattle.station.specs.declared.host_out.Piece.{Piece}
+use Rattle.link_machine.specs.Machine.{modulus_named}
+use Rattle.link_machine.specs.Sent.{frame_of}
+use Rattle.link_machine.specs.Step.{step as link_turn}
 use Rattle.station.specs.declared.registration.Registration.{Registration}
-use Rattle.station.specs.Connections.{Connection}
 use Rattle.station.specs.FrameSpelling.{path_octets}
-use Rattle.station.specs.Heard.{AreHeardAt, AreOctetsHeard, IsHeard, IsHeardAnew, IsHeardBy, IsHeardMaking, IsReadAs}
-use Rattle.station.specs.Heard.{IsReadingHeardAnew, IsRepeatedFor, destination_field, hearing_at, kiss_data, may_make}
-use Rattle.station.specs.Heard.{showing, showing_to, shown_to_hosts, source_field, waits_for_repeater, with_shown}
-use Rattle.station.specs.HostMessages.{message_of_told}
-use Rattle.station.specs.LinkEvents.{event_at, event_of, is_idle, link_event, queueing_frame, queueing_frames}
-use Rattle.station.specs.LinkEvents.{settled_link, telling_one, telling_to, with_links}
-use Rattle.station.specs.Links.{Link, Links, key_between, link_at, most_links, with_link, without_link}
-use Rattle.station.specs.Monitoring.{monitor_pieces, piece_for, to_monitors}
-use Rattle.station.specs.NewLinks.{idle_link, making, no_layer_3}
-use Rattle.station.specs.Registrations.{registrar}
-use Rattle.station.specs.State.{StationState}
-use Rattle.station.specs.Ticks.{ticking_at, ticking_links, waits}
-use Rattle.station.specs.Turn.{Act, Turn, capacity, changing, dropping, entering, in_order, queueing}
-use Rattle.channel_bench.specs.BenchOrder.{the_calls}
-use Rattle.channel_bench.specs.BenchSteps.{program_id}
-use Rattle.channel_bench.specs.HostProgram.{call_at}
-use Rattle.station_laws.specs.LinkOfCalls.{link_at_end}
-use Rattle.station_laws.specs.LinkSteps.{Choice, LinkStep, anew_steps, by_path_steps, heard_steps, hears_at, key_steps}
-use Rattle.station_laws.specs.LinkSteps.{link_step, new_steps, path_steps, reading_steps, steps_along, steps_at}
-use Rattle.station_laws.specs.LinkSteps.{steps_for, tick_steps, ticks_at}
+use Rattle.station.specs.Heard.{AreHeardAt, IsReadAs, hearing_at}
+use Rattle.station.specs.Monitoring.{piece_for, to_monitors}
 use Rattle.station_laws.specs.Owners.{pieces_to}
-use Rattle.station_laws.specs.RunsTell.{told_in}
 use Rattle.station_laws.proofs.Addresses.{IsGoodPath, frame_spelled}
 use Rattle.station_laws.proofs.OwnerLemmas.{owners_are_told}
 use Rattle.station_laws.proofs.PathStays.{step_stays}
-use Rattle.station_laws.proofs.Queues.{link_stepped, octets_of}
-use Rattle.station_laws.proofs.Standing.{calls_chosen}
-use Rattle.station_laws.proofs.Tables.{each_get, each_set}
+use Rattle.station_laws.proofs.Tables.{each_set}
 use Rattle.station_laws.proofs.ValidCalls.{heard_good}
 
 -- ---- what a station has

@@ -1,47 +1,27 @@
 -- The messages of a host program of the bench, each as what it makes of its station and of what the program is sent.
-use Rattle.std.proofs.Common.{◌≡◌, ℕ, ◌==◌, nat_lt, Bool, true, false, List, [], ◌∷◌, ◌++◌, length, map, cond}
-use Rattle.std.proofs.Common.{if◌then◌else◌, Option, Some, None, refl, sym, ap, ◌∙◌, subst, arith}
-use Rattle.std.specs.Bool.{⊤}
-use Rattle.std.specs.Prelude.{MatchBool}
+use Rattle.channel_bench.proofs.Common.{◌≡◌, ℕ, ◌==◌, nat_lt, Bool, true, false, List, [], ◌∷◌, ◌++◌, length, map, cond}
+use Rattle.channel_bench.proofs.Common.{Option, Some, None, refl, sym, ap, ◌∙◌, subst, arith, ⊤, MatchBool, append-nil}
+use Rattle.channel_bench.proofs.Common.{filter-append, each_append, Callsign, call_field, bad_length_in, spelling}
+use Rattle.channel_bench.proofs.Common.{AgwMessage, IsWritten, End, A, B, other, PortKind, Kiss, Agw, Piece}
+use Rattle.channel_bench.proofs.Common.{connect_kind, data_kind, disconnect_kind, register_kind, AreAnswered}
+use Rattle.channel_bench.proofs.Common.{IsAnswered, IsCall, IsCallMade, called_pid, called_route, data_pid, giving}
+use Rattle.channel_bench.proofs.Common.{giving_packet, may_call, own_key, packets_of, refused_reply, register_reply}
+use Rattle.channel_bench.proofs.Common.{registering, replying, with_registration, call_in, Connection, connection_of}
+use Rattle.channel_bench.proofs.Common.{most_connections, AreTaken, AreTakenBy, ending, joining, new_messages, taking}
+use Rattle.channel_bench.proofs.Common.{with_host, no_call, link_at, monitor_pieces, may_register, registrar, Route}
+use Rattle.channel_bench.proofs.Common.{path_along, StationState, ticking_links, Out, Turn, begin, changing, closing}
+use Rattle.channel_bench.proofs.Common.{program_id, kiss_id, call_at, full_duplex_octets, request, request_between}
+use Rattle.channel_bench.proofs.Common.{IsTurn, LinkStep, call_steps, data_steps, disconnect_steps, made_steps}
+use Rattle.channel_bench.proofs.Common.{sends_at, turn_steps}
+use Rattle.std.proofs.Common.{if◌then◌else◌}
 use Rattle.std.specs.List.{AllByRecursion as Each}
-use Rattle.std.proofs.lemmas.List.{append-nil}
-use Rattle.std.proofs.lemmas.List.Elements.{filter-append}
-use Rattle.link_world.proofs.law.Each.{each_append}
-use Rattle.ax25_address.specs.Callsign.{Callsign}
-use Rattle.agwpe_port.specs.CallField.{call_field}
-use Rattle.agwpe_port.specs.Messages.{bad_length_in, spelling}
-use Rattle.agwpe_port.specs.declared.message.AgwMessage.{AgwMessage}
-use Rattle.agwpe_port.proofs.WrittenLemmas.{IsWritten}
 use Rattle.link_machine.specs.Event.Event.{Connect as LinkConnect, Send as LinkSend, Disconnect as LinkDisconnect}
-use Rattle.link_world.specs.declared.end.End.{End}
-use Rattle.link_world.specs.declared.end.End.TheVariants.{A, B}
-use Rattle.link_world.specs.World.{other}
-use Rattle.station.specs.declared.host_event.PortKind.{PortKind}
-use Rattle.station.specs.declared.host_event.PortKind.TheVariants.{Kiss, Agw}
-use Rattle.station.specs.declared.host_out.Piece.{Piece}
-use Rattle.station.specs.AgwKinds.{connect_kind, connect_via_kind, data_kind, disconnect_kind, register_kind}
-use Rattle.station.specs.AgwRequests.{AreAnswered, IsAnswered, IsCall, IsCallMade, called_pid, called_route, calls}
-use Rattle.station.specs.AgwRequests.{data_pid, disconnecting as disconnecting_act, giving, giving_packet, may_call}
-use Rattle.station.specs.AgwRequests.{own_key, packets_of, refused_reply, register_reply, registering, replying}
-use Rattle.station.specs.AgwRequests.{with_registration}
-use Rattle.station.specs.CallFields.{call_in, call_of_text}
-use Rattle.station.specs.Connections.{Connection, connection_of, most_connections}
-use Rattle.station.specs.Host.{AreTaken, AreTakenBy, ending, joining, new_messages, taking, with_host}
-use Rattle.station.specs.HostMessages.{no_call}
-use Rattle.station.specs.Links.{link_at}
-use Rattle.station.specs.Monitoring.{monitor_pieces}
-use Rattle.station.specs.Registrations.{may_register, registered, registrar}
-use Rattle.station.specs.Routes.{Route, path_along, repeaters_in}
-use Rattle.station.specs.State.{StationState}
-use Rattle.station.specs.Ticks.{ticking_links}
-use Rattle.station.specs.Turn.{Out, Turn, begin, changing, closing}
-use Rattle.channel_bench.specs.BenchSteps.{program_id}
-use Rattle.channel_bench.specs.BenchTick.{kiss_id}
-use Rattle.channel_bench.specs.HostProgram.{call_at, full_duplex_octets, request, request_between}
-use Rattle.station_laws.specs.JointRun.{IsTurn}
-use Rattle.station_laws.specs.LinkSteps.{LinkStep, answer_steps, call_steps, data_steps, disconnect_steps}
-use Rattle.station_laws.specs.LinkSteps.{ending_steps, made_steps, message_steps, octet_steps, octet_steps_by}
-use Rattle.station_laws.specs.LinkSteps.{sends_at, turn_steps}
+use Rattle.station.specs.AgwKinds.{connect_via_kind}
+use Rattle.station.specs.AgwRequests.{calls, disconnecting as disconnecting_act}
+use Rattle.station.specs.CallFields.{call_of_text}
+use Rattle.station.specs.Registrations.{registered}
+use Rattle.station.specs.Routes.{repeaters_in}
+use Rattle.station_laws.specs.LinkSteps.{answer_steps, ending_steps, message_steps, octet_steps, octet_steps_by}
 use Rattle.channel_bench.proofs.CoreRun.{Occurs, Usual, input_of}
 use Rattle.channel_bench.proofs.CoreRun.Usual.{connects, disconnects, gives, hears, joins_kiss, joins_program}
 use Rattle.channel_bench.proofs.CoreRun.Usual.{registers, sets_full, ticks}

@@ -1,11 +1,6 @@
 -- Parts of a tick one after another.
-use Rattle.std.proofs.Common.{◌≡◌, List, [], ◌∷◌, ◌++◌, Option, Some, None, refl, sym, ap, ◌∙◌, subst}
-use Rattle.channel_bench.specs.declared.trouble.Trouble.{Trouble}
-use Rattle.channel_bench.specs.declared.words.BenchWords.{BenchWords}
-use Rattle.channel_bench.specs.BenchState.{BenchState}
-use Rattle.channel_bench.specs.BenchSteps.{GoesOn}
-use Rattle.channel_bench.specs.BenchTick.{Part, IsPart, ArePartsMade}
-use Rattle.channel_bench.specs.HeldBench.{Unless}
+use Rattle.channel_bench.proofs.Common.{◌≡◌, List, [], ◌∷◌, ◌++◌, Option, Some, None, refl, sym, ap, ◌∙◌, subst}
+use Rattle.channel_bench.proofs.Common.{Trouble, BenchWords, BenchState, GoesOn, Part, IsPart, ArePartsMade, Unless}
 
 -- once something has ended the run, nothing more comes to pass
 over : (f : Option Trouble) (trouble : Trouble) (on stay : Type 0) → f ≡ Some trouble → GoesOn f on stay → stay

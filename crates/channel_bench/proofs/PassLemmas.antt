@@ -1,15 +1,9 @@
 -- The end of a tick: what has passed both stations is in flight no longer.
-use Rattle.std.proofs.Common.{◌≡◌, ℕ, ◌+◌, sym, ap, ◌∙◌, subst}
-use Rattle.link_world.specs.declared.end.End.{End}
-use Rattle.link_world.specs.declared.end.End.TheVariants.{A, B}
+use Rattle.channel_bench.proofs.Common.{◌≡◌, ℕ, ◌+◌, sym, ap, ◌∙◌, subst, End, A, B, Run, BenchWords, BenchState}
+use Rattle.channel_bench.proofs.Common.{SideState, ways_of, StandsForSide, StandsForRun, StandsForWays, BothWays}
+use Rattle.channel_bench.proofs.Common.{nothing_sent, sent_by, Passes, passed_below, ticked}
 use Rattle.channel_bench.specs.declared.flight.Flight.{Flight}
-use Rattle.channel_bench.specs.declared.run.Run.{Run}
-use Rattle.channel_bench.specs.declared.words.BenchWords.{BenchWords}
-use Rattle.channel_bench.specs.BenchState.{BenchState, SideState, ways_of}
-use Rattle.channel_bench.specs.HeldBench.{StandsForSide, StandsForRun, StandsForWays}
-use Rattle.station_laws.specs.InFlight.{BothWays, nothing_sent, sent_by, with_front, with_sent_by}
-use Rattle.station_laws.specs.InFlight.Moment.{Passes}
-use Rattle.channel_bench.specs.Sounding.{passed_below, ticked}
+use Rattle.station_laws.specs.InFlight.{with_front, with_sent_by}
 use Rattle.channel_bench.proofs.FlightLemmas.{moments_two}
 
 -- all but what is in flight, and the count of ticks, is as it was

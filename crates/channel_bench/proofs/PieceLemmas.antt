@@ -1,19 +1,9 @@
 -- A piece that a station sends a connection.
-use Rattle.std.proofs.Common.{◌≡◌, ◌≢◌, List, ◌++◌, cond, sym, ap, ◌∙◌, subst}
-use Rattle.std.proofs.lemmas.Bool.{eq-eqb, ne_eqb}
-use Rattle.agwpe_port.specs.declared.message.AgwMessage.{AgwMessage}
+use Rattle.channel_bench.proofs.Common.{◌≡◌, ◌≢◌, List, ◌++◌, cond, sym, ap, ◌∙◌, subst, eq-eqb, ne_eqb, AgwMessage}
+use Rattle.channel_bench.proofs.Common.{messages_in, End, Piece, ids_of, new_messages, Side, SideState, told_octets}
+use Rattle.channel_bench.proofs.Common.{told_piece, EarStandsFor, StandsForSide, told_all}
 use Rattle.agwpe_port.specs.Held.{StandsFor as AgwStandsFor}
-use Rattle.agwpe_port.specs.Messages.{messages_in}
-use Rattle.link_world.specs.declared.end.End.{End}
-use Rattle.station.specs.declared.host_out.Piece.{Piece}
-use Rattle.station.specs.Held.{ids_of}
-use Rattle.station.specs.Host.{new_messages}
 use Rattle.station.specs.StandsFor.{StandsFor as StationStandsFor}
-use Rattle.channel_bench.specs.declared.side.Side.{Side}
-use Rattle.channel_bench.specs.BenchState.{SideState}
-use Rattle.channel_bench.specs.BenchSteps.{told_octets, told_piece}
-use Rattle.channel_bench.specs.HeldBench.{EarStandsFor, StandsForSide}
-use Rattle.channel_bench.specs.HostProgram.{told_all}
 use Rattle.agwpe_port.proofs.StreamLemmas.{behind}
 
 -- it is another's, and is dropped

@@ -1,36 +1,20 @@
 -- A host program of the bench sees the set-ups of its link: it is told what the link tells, message by message.
-use Rattle.std.proofs.Common.{◌≡◌, ℕ, ◌==◌, ◌||◌, Bool, true, false, List, [], ◌∷◌, ◌++◌, length, map, fold, cond}
-use Rattle.std.proofs.Common.{Option, Some, None, is_some, refl, sym, ap, ◌∙◌, subst}
-use Rattle.std.specs.Bool.{⊤}
-use Rattle.std.specs.Prelude.{option_map}
-use Rattle.std.specs.Option.{option_to_list}
+use Rattle.channel_bench.proofs.Common.{◌≡◌, ℕ, ◌==◌, ◌||◌, Bool, true, false, List, [], ◌∷◌, ◌++◌, length, map, fold}
+use Rattle.channel_bench.proofs.Common.{cond, Option, Some, None, is_some, refl, sym, ap, ◌∙◌, subst, ⊤, option_map}
+use Rattle.channel_bench.proofs.Common.{option_to_list, flat_map-append, append-nil, map-append, spelling, AgwMessage}
+use Rattle.channel_bench.proofs.Common.{IsWritten, Packet, Told, Opened, Given, Ended, End, Piece, SetUp, octets_in}
+use Rattle.channel_bench.proofs.Common.{set_up_of, SideState, program_id, told_octets, told_piece, told_pieces}
+use Rattle.channel_bench.proofs.Common.{ProgramState, getting, opening, set_ups_of, told_all, LinkStep, AreToldInOne}
+use Rattle.channel_bench.proofs.Common.{runs_after, AllToldInOne, runs_behind, told_in, Seen, change_last_seen, seen_by}
+use Rattle.channel_bench.proofs.Common.{seen_by_all, seen_giving, seen_told, with_given, with_got, asked_after}
+use Rattle.channel_bench.proofs.Common.{called_after}
 use Rattle.std.specs.List.{AllByRecursion as Each}
-use Rattle.std.proofs.lemmas.Grind.{flat_map-append}
-use Rattle.std.proofs.lemmas.List.{append-nil, map-append}
-use Rattle.agwpe_port.specs.Messages.{spelling}
-use Rattle.agwpe_port.specs.declared.message.AgwMessage.{AgwMessage}
-use Rattle.agwpe_port.proofs.WrittenLemmas.{IsWritten}
-use Rattle.selective_reject.specs.declared.packet.Packet.{Packet}
-use Rattle.link_machine.specs.declared.acts.Told.{Told}
-use Rattle.link_machine.specs.declared.acts.Told.TheVariants.{Opened, Given, Ended}
 use Rattle.link_machine.specs.Event.{Event as LinkEvent}
 use Rattle.link_machine.specs.Event.Event.{Connect as LinkConnect, Send as LinkSend, Disconnect as LinkDisconnect}
 use Rattle.link_machine.specs.Event.Event.{Hear as LinkHear, Tick as LinkTick}
-use Rattle.link_world.specs.declared.end.End.{End}
-use Rattle.station.specs.declared.host_out.Piece.{Piece}
-use Rattle.channel_bench.specs.declared.report.SetUp.{SetUp}
-use Rattle.channel_bench.specs.BenchOrder.{octets_in, set_up_of}
-use Rattle.channel_bench.specs.BenchState.{SideState}
-use Rattle.channel_bench.specs.BenchSteps.{program_id, told_octets, told_piece, told_pieces}
-use Rattle.channel_bench.specs.HostProgram.{ProgramState, closing, getting, giving, opening, set_ups_of}
-use Rattle.channel_bench.specs.HostProgram.{told as told_message, told_all, with_got as with_got_octets}
+use Rattle.channel_bench.specs.HostProgram.{closing, giving, told as told_message, with_got as with_got_octets}
 use Rattle.channel_bench.specs.HostProgram.{with_given as with_given_octets}
-use Rattle.station_laws.specs.LinkSteps.{LinkStep}
-use Rattle.station_laws.specs.LinksTell.{AreToldInOne, runs_after}
-use Rattle.station_laws.specs.RunsTell.{AllToldInOne, runs_behind, told_in}
-use Rattle.station_laws.specs.SetUpsSeen.{Seen, change_last_seen, seen_by, seen_by_all, seen_giving, seen_told}
-use Rattle.station_laws.specs.SetUpsSeen.{with_given, with_got}
-use Rattle.station_laws.proofs.Chains.{asked_after, called_after, ended_in, opened_in}
+use Rattle.station_laws.proofs.Chains.{ended_in, opened_in}
 use Rattle.channel_bench.proofs.HostStreams.{IsWhole, one_new, whole_more}
 use Rattle.channel_bench.proofs.OwnLinks.{message_at, messages_by, messages_of, own_pieces, piece_to}
 

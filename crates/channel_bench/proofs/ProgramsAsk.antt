@@ -1,36 +1,14 @@
 -- In a run of the bench the host program of B neither connects nor disconnects, and each station has the connections
 -- of the bench.
-use Rattle.std.proofs.Common.{◌≡◌, ℕ, ◌≤◌, List, [], ◌∷◌, ◌++◌, length, Option, Some, None, refl, sym, ap, ◌∙◌, subst}
-use Rattle.std.proofs.Common.{arith}
-use Rattle.std.specs.Prelude.{All}
-use Rattle.std.proofs.lemmas.List.Elements.{All-from_recursion}
-use Rattle.agwpe_port.specs.CallField.{call_field}
-use Rattle.agwpe_port.specs.Messages.{spelling}
-use Rattle.agwpe_port.specs.declared.message.AgwMessage.{AgwMessage}
-use Rattle.agwpe_port.proofs.WrittenLemmas.{IsWritten}
-use Rattle.link_world.specs.declared.end.End.{End}
-use Rattle.link_world.specs.declared.end.End.TheVariants.{A, B}
-use Rattle.link_world.specs.World.{other}
-use Rattle.station.specs.declared.host_event.PortKind.{PortKind}
-use Rattle.station.specs.declared.host_event.PortKind.TheVariants.{Kiss, Agw}
-use Rattle.station.specs.AgwKinds.{register_kind, connect_kind, data_kind, disconnect_kind}
-use Rattle.station.specs.AgwRequests.{IsAnswered}
-use Rattle.station.specs.Connections.{Connection, connection_of, new_connection}
-use Rattle.station.specs.Host.{taking}
-use Rattle.station.specs.HostMessages.{no_call}
-use Rattle.station.specs.State.{StationState}
-use Rattle.station.specs.Ticks.{ticking_links}
-use Rattle.station.specs.Turn.{Turn, begin}
-use Rattle.channel_bench.specs.declared.words.BenchWords.{BenchWords}
-use Rattle.channel_bench.specs.BenchState.{Near}
-use Rattle.channel_bench.specs.BenchSteps.{IsStep, program_id}
-use Rattle.channel_bench.specs.BenchTick.{kiss_id}
-use Rattle.station_laws.specs.CallerLaw.{BAsksNothing}
-use Rattle.channel_bench.specs.HostProgram.{call_at, full_duplex_octets, most_octets, request, request_between}
+use Rattle.channel_bench.proofs.Common.{◌≡◌, ℕ, ◌≤◌, List, [], ◌∷◌, ◌++◌, length, Option, Some, None, refl, sym, ap}
+use Rattle.channel_bench.proofs.Common.{◌∙◌, subst, arith, All, All-from_recursion, call_field, spelling, AgwMessage}
+use Rattle.channel_bench.proofs.Common.{IsWritten, End, A, B, other, PortKind, Kiss, Agw, register_kind, connect_kind}
+use Rattle.channel_bench.proofs.Common.{data_kind, disconnect_kind, IsAnswered, Connection, connection_of}
+use Rattle.channel_bench.proofs.Common.{new_connection, taking, no_call, StationState, ticking_links, Turn, begin}
+use Rattle.channel_bench.proofs.Common.{BenchWords, Near, IsStep, program_id, kiss_id, BAsksNothing, call_at}
+use Rattle.channel_bench.proofs.Common.{full_duplex_octets, most_octets, request, request_between, Moment, steps_in}
+use Rattle.channel_bench.proofs.Common.{Steps, IsTurn, Step, Stations, state_of, with_state}
 use Rattle.station_laws.specs.HostsAsk.{AsksNothing, InputAsksNothing, OctetsAskBy, OctetsAskNothing}
-use Rattle.station_laws.specs.InFlight.{Moment, steps_in}
-use Rattle.station_laws.specs.InFlight.Moment.{Steps}
-use Rattle.station_laws.specs.JointRun.{IsTurn, Step, Stations, state_of, with_state}
 use Rattle.channel_bench.proofs.CoreRun.{KeptByCore, Occurs, Usual, input_of, told_station}
 use Rattle.channel_bench.proofs.CoreRun.Usual.{joins_kiss, sets_full, joins_program, registers, connects, gives}
 use Rattle.channel_bench.proofs.CoreRun.Usual.{disconnects, hears, ticks}

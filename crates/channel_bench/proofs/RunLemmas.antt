@@ -1,16 +1,8 @@
 -- What a run stands for after something came to pass at one of its stations.
-use Rattle.std.proofs.Common.{◌≡◌, Bool, true, false, Option, Some, None, refl, sym, ap, ◌∙◌, subst}
+use Rattle.channel_bench.proofs.Common.{◌≡◌, Bool, true, false, Option, Some, None, refl, sym, ap, ◌∙◌, subst}
+use Rattle.channel_bench.proofs.Common.{false≢true, End, A, B, Trouble, Run, BenchWords, BenchState, Near, AtEnd, near}
+use Rattle.channel_bench.proofs.Common.{with_near, GoesOn, StandsForSide, StandsForNear, StandsForRun, Unless, text_at}
 use Rattle.std.specs.Prelude.{is_some}
-use Rattle.std.proofs.lemmas.Bool.{false≢true}
-use Rattle.link_world.specs.declared.end.End.{End}
-use Rattle.link_world.specs.declared.end.End.TheVariants.{A, B}
-use Rattle.channel_bench.specs.declared.trouble.Trouble.{Trouble}
-use Rattle.channel_bench.specs.declared.run.Run.{Run}
-use Rattle.channel_bench.specs.declared.words.BenchWords.{BenchWords}
-use Rattle.channel_bench.specs.BenchState.{BenchState, Near, AtEnd, near, with_near}
-use Rattle.channel_bench.specs.BenchSteps.{GoesOn}
-use Rattle.channel_bench.specs.HeldBench.{StandsForSide, StandsForNear, StandsForRun, Unless}
-use Rattle.channel_bench.specs.Words.{text_at}
 
 -- all but a station and what both share is as it was
 pub record IsSameBesidesA (before after : Run) : Type 0 where

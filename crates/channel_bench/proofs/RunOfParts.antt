@@ -1,14 +1,9 @@
 -- What holds of a bench at first, and is kept by each part of a tick, holds of each run that nothing has ended.
-use Rattle.std.proofs.Common.{◌≡◌, ℕ, zero, suc, ◌==◌, Bool, true, false, List, [], ◌∷◌, ◌++◌, cond, Option, Some, None}
-use Rattle.std.proofs.Common.{refl, sym, ap, ◌∙◌, subst}
+use Rattle.channel_bench.proofs.Common.{◌≡◌, ℕ, zero, suc, ◌==◌, Bool, true, false, List, [], ◌∷◌, ◌++◌, cond, Option}
+use Rattle.channel_bench.proofs.Common.{Some, None, refl, sym, ap, ◌∙◌, subst, each_append, Trouble, BenchWords}
+use Rattle.channel_bench.proofs.Common.{AreTicks, BenchState, new_bench, GoesOn, Part, IsPart, IsTick, ArePartsMade}
+use Rattle.channel_bench.proofs.Common.{beginning, each_tick, parts_of}
 use Rattle.std.specs.List.{AllByRecursion as Each}
-use Rattle.link_world.proofs.law.Each.{each_append}
-use Rattle.channel_bench.specs.declared.trouble.Trouble.{Trouble}
-use Rattle.channel_bench.specs.declared.words.BenchWords.{BenchWords}
-use Rattle.channel_bench.specs.BenchRun.{AreTicks}
-use Rattle.channel_bench.specs.BenchState.{BenchState, new_bench}
-use Rattle.channel_bench.specs.BenchSteps.{GoesOn}
-use Rattle.channel_bench.specs.BenchTick.{Part, IsPart, IsTick, ArePartsMade, beginning, each_tick, parts_of}
 
 -- nothing has ended the run
 abbrev pub IsCalm : BenchState → Type 0

@@ -1,36 +1,18 @@
 -- In a run of the bench each host program sees the set-ups of its link: the first call, and then tick by tick.
-use Rattle.std.proofs.Common.{◌≡◌, ℕ, zero, suc, ◌+◌, ◌≤◌, Bool, true, false, List, [], ◌∷◌, ◌++◌, map, cond, None}
-use Rattle.std.proofs.Common.{refl, sym, ap, ◌∙◌, subst, arith}
-use Rattle.std.specs.Bool.{⊤}
-use Rattle.std.specs.Prelude.{MatchBool}
+use Rattle.channel_bench.proofs.Common.{◌≡◌, ℕ, zero, suc, ◌+◌, ◌≤◌, Bool, true, false, List, [], ◌∷◌, ◌++◌, map, cond}
+use Rattle.channel_bench.proofs.Common.{None, refl, sym, ap, ◌∙◌, subst, arith, ⊤, MatchBool, ne_eqb, append-nil, End}
+use Rattle.channel_bench.proofs.Common.{A, B, HostEvent, Bytes, Turn, begin, BenchWords, AreTicks, BenchState, Near}
+use Rattle.channel_bench.proofs.Common.{SideState, near, new_bench, with_near, IsStep, IsTold, program_id, there_after}
+use Rattle.channel_bench.proofs.Common.{ArePartsMade, IsPart, IsTick, Part, beginning, each_tick, joins, parts_of}
+use Rattle.channel_bench.proofs.Common.{sets_duplex, sets_full_duplex, Closes, Tells, ProgramState, connect_octets}
+use Rattle.channel_bench.proofs.Common.{Steps, IsTurn, FromHost, LinkStep, steps_of, turn_steps, ticked, called_behind}
 use Rattle.std.specs.List.{AllByRecursion as Each}
-use Rattle.std.proofs.lemmas.Bool.{ne_eqb}
-use Rattle.std.proofs.lemmas.List.{append-nil}
 use Rattle.link_machine.specs.Event.{Event as LinkEvent}
 use Rattle.link_machine.specs.Event.Event.{Connect as LinkConnect, Send as LinkSend, Disconnect as LinkDisconnect}
 use Rattle.link_machine.specs.Event.Event.{Hear as LinkHear, Tick as LinkTick}
-use Rattle.link_world.specs.declared.end.End.{End}
-use Rattle.link_world.specs.declared.end.End.TheVariants.{A, B}
-use Rattle.station.specs.declared.host_event.HostEvent.{HostEvent}
-use Rattle.station.specs.declared.host_event.HostEvent.TheVariants.{Bytes}
-use Rattle.station.specs.Turn.{Turn, begin}
-use Rattle.channel_bench.specs.declared.words.BenchWords.{BenchWords}
-use Rattle.channel_bench.specs.BenchRun.{AreTicks}
-use Rattle.channel_bench.specs.BenchState.{BenchState, Near, SideState, near, new_bench, with_near}
-use Rattle.channel_bench.specs.BenchSteps.{IsStep, IsTold, program_id, there_after}
-use Rattle.channel_bench.specs.BenchTick.{ArePartsMade, IsPart, IsTick, Part, beginning, each_tick, joins, parts_of}
-use Rattle.channel_bench.specs.BenchTick.{sets_duplex, sets_full_duplex}
-use Rattle.channel_bench.specs.BenchTick.Part.{Closes, Tells}
-use Rattle.channel_bench.specs.HostProgram.{ProgramState, connect_octets}
-use Rattle.station_laws.specs.InFlight.Moment.{Steps}
-use Rattle.station_laws.specs.JointRun.{IsTurn}
-use Rattle.station_laws.specs.JointRun.Input.{FromHost}
-use Rattle.station_laws.specs.LinkSteps.{LinkStep, steps_of, turn_steps}
-use Rattle.channel_bench.specs.Sounding.{ticked}
 use Rattle.channel_bench.proofs.BenchSees.{Holds, HoldsNear, Premises, asks_or_calls_holds, at_end_holds, both_of}
 use Rattle.channel_bench.proofs.BenchSees.{closes_hold, front, gives_hold, listens_hold, near_holds, near_there}
 use Rattle.channel_bench.proofs.BenchSees.{new_holds, sounds_hold, ticks_hold}
-use Rattle.station_laws.proofs.Chains.{called_behind}
 use Rattle.channel_bench.proofs.CoreRun.{Occurs, Usual, input_of}
 use Rattle.channel_bench.proofs.CoreRun.Usual.{connects, disconnects, gives, hears, joins_kiss, joins_program}
 use Rattle.channel_bench.proofs.CoreRun.Usual.{registers, sets_full, ticks}

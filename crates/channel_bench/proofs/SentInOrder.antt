@@ -1,32 +1,14 @@
 -- In a run of the bench nothing but the frames of links joins a transmit queue, and a station sends them in the order
 -- in which they joined it.
-use Rattle.std.proofs.Common.{◌≡◌, ℕ, ◌≤◌, Bool, true, false, List, [], ◌∷◌, ◌++◌, length, map, cond, nat_lt, Option}
-use Rattle.std.proofs.Common.{Some, None, refl, sym, ap, ◌∙◌, subst, arith}
-use Rattle.std.proofs.lemmas.List.{append-nil, append_assoc, map-append}
-use Rattle.agwpe_port.specs.CallField.{call_field}
-use Rattle.agwpe_port.specs.Messages.{spelling}
-use Rattle.agwpe_port.specs.declared.message.AgwMessage.{AgwMessage}
-use Rattle.channel_access.specs.declared.air_tick.Sent.{Sent}
-use Rattle.link_world.specs.declared.end.End.{End}
-use Rattle.link_world.specs.declared.end.End.TheVariants.{A, B}
-use Rattle.station.specs.declared.host_event.PortKind.{PortKind}
-use Rattle.station.specs.declared.host_event.PortKind.TheVariants.{Kiss, Agw}
-use Rattle.station.specs.AgwKinds.{register_kind, connect_kind, data_kind, disconnect_kind}
-use Rattle.station.specs.AgwRequests.{IsAnswered}
-use Rattle.station.specs.Connections.{most_connections}
-use Rattle.station.specs.Host.{joining, taking, with_host}
-use Rattle.station.specs.HostMessages.{no_call}
-use Rattle.station.specs.State.{StationState}
-use Rattle.station.specs.Ticks.{air_of, ticking_links}
-use Rattle.station.specs.Turn.{Turn, begin, changing, closing}
-use Rattle.channel_bench.specs.declared.words.BenchWords.{BenchWords}
-use Rattle.channel_bench.specs.BenchState.{Near}
-use Rattle.channel_bench.specs.BenchSteps.{IsStep, program_id}
-use Rattle.channel_bench.specs.BenchTick.{kiss_id}
-use Rattle.channel_bench.specs.HostProgram.{call_at, request, request_between}
-use Rattle.station_laws.specs.InFlight.{Moment, steps_in}
-use Rattle.station_laws.specs.JointRun.{Input, IsTurn, Step, Stations, at_end, queued_at, state_of, with_state}
-use Rattle.station_laws.specs.JointRun.Input.{FromHost, OffAir, OfClock}
+use Rattle.channel_bench.proofs.Common.{◌≡◌, ℕ, ◌≤◌, Bool, true, false, List, [], ◌∷◌, ◌++◌, length, map, cond, nat_lt}
+use Rattle.channel_bench.proofs.Common.{Option, Some, None, refl, sym, ap, ◌∙◌, subst, arith, append-nil, append_assoc}
+use Rattle.channel_bench.proofs.Common.{map-append, call_field, spelling, AgwMessage, Sent, End, A, B, PortKind, Kiss}
+use Rattle.channel_bench.proofs.Common.{Agw, register_kind, connect_kind, data_kind, disconnect_kind, IsAnswered}
+use Rattle.channel_bench.proofs.Common.{most_connections, joining, taking, with_host, no_call, StationState, air_of}
+use Rattle.channel_bench.proofs.Common.{ticking_links, Turn, begin, changing, closing, BenchWords, Near, IsStep}
+use Rattle.channel_bench.proofs.Common.{program_id, kiss_id, call_at, request, request_between, Moment, steps_in, Input}
+use Rattle.channel_bench.proofs.Common.{IsTurn, Step, Stations, at_end, queued_at, state_of, with_state, FromHost}
+use Rattle.channel_bench.proofs.Common.{OffAir, OfClock}
 use Rattle.channel_bench.proofs.ChannelOrder.{Fits, fits_more, octets_of, sent_octets, tick_long, tick_sends}
 use Rattle.channel_bench.proofs.CoreRun.{KeptByCore, Occurs, Usual, input_of, told_station}
 use Rattle.channel_bench.proofs.CoreRun.Usual.{joins_kiss, sets_full, joins_program, registers, connects, gives}

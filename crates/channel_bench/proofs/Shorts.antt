@@ -1,30 +1,18 @@
 -- No packet that a link tells of is longer than those that host programs give: by the law, what an end got it was
 -- given.
-use Rattle.std.proofs.Common.{◌≡◌, ◌≢◌, ℕ, zero, suc, ◌≤◌, Bool, true, false, List, [], ◌∷◌, ◌++◌, length, map, fold}
-use Rattle.std.proofs.Common.{Some, None, refl, subst, arith}
-use Rattle.std.specs.Bool.{⊤}
-use Rattle.std.specs.Prelude.{slice_get}
+use Rattle.channel_bench.proofs.Common.{◌≡◌, ◌≢◌, ℕ, zero, suc, ◌≤◌, Bool, true, false, List, [], ◌∷◌, ◌++◌, length}
+use Rattle.channel_bench.proofs.Common.{map, fold, Some, None, refl, subst, arith, ⊤, slice_get, recursion_from_All}
+use Rattle.channel_bench.proofs.Common.{IsWritten, Packet, Told, Opened, Given, Ended, End, A, B, GotNothingElse}
+use Rattle.channel_bench.proofs.Common.{RecordedEnd, each_append, most_octets, LinkStep, AreToldInOne, runs_after}
+use Rattle.channel_bench.proofs.Common.{AllToldInOne, told_in, Seen, as_seen, change_last_seen, seen_by, seen_by_all}
+use Rattle.channel_bench.proofs.Common.{seen_giving, seen_told, with_given, with_got}
 use Rattle.std.specs.List.{AllByRecursion as Each}
-use Rattle.std.proofs.lemmas.List.Elements.{recursion_from_All}
-use Rattle.agwpe_port.proofs.WrittenLemmas.{IsWritten}
-use Rattle.selective_reject.specs.declared.packet.Packet.{Packet}
-use Rattle.link_machine.specs.declared.acts.Told.{Told}
-use Rattle.link_machine.specs.declared.acts.Told.TheVariants.{Opened, Given, Ended}
 use Rattle.link_machine.specs.Event.{Event as LinkEvent}
 use Rattle.link_machine.specs.Event.Event.{Connect as LinkConnect, Send as LinkSend, Disconnect as LinkDisconnect}
 use Rattle.link_machine.specs.Event.Event.{Hear as LinkHear, Tick as LinkTick}
-use Rattle.link_world.specs.declared.end.End.{End}
-use Rattle.link_world.specs.declared.end.End.TheVariants.{A, B}
-use Rattle.link_world.specs.Origin.{GotInOrder as PacketsInOrder, GotNothingElse}
-use Rattle.link_world.specs.Recorded.{RecordedEnd}
+use Rattle.link_world.specs.Origin.{GotInOrder as PacketsInOrder}
 use Rattle.link_world.specs.SetUps.{SetUp as LinkSetUp}
-use Rattle.link_world.proofs.law.Each.{each_append}
-use Rattle.channel_bench.specs.HostProgram.{most_octets}
-use Rattle.station_laws.specs.LinkSteps.{LinkStep}
-use Rattle.station_laws.specs.LinksTell.{AreToldInOne, runs_after}
-use Rattle.station_laws.specs.RunsTell.{AllToldInOne, told_in}
-use Rattle.station_laws.specs.SetUpsSeen.{Seen, as_seen, change_last_seen, last_seen_changed, seen_by, seen_by_all}
-use Rattle.station_laws.specs.SetUpsSeen.{seen_giving, seen_told, with_given, with_got}
+use Rattle.station_laws.specs.SetUpsSeen.{last_seen_changed}
 use Rattle.channel_bench.proofs.OwnLinks.{message_at, messages_by, messages_of}
 
 abbrev pub IsShort : Packet → Type 0

@@ -1,27 +1,15 @@
 -- What a station of the bench stands for after its calls.
-use Rattle.std.proofs.Common.{◌≡◌, ℕ, ◌<◌, Bool, true, false, ℤ, List, Some, None, refl, sym, ap, ◌∙◌, subst}
-use Rattle.std.specs.Prelude.{All, MatchBool, ◌↔◌, IsTrue}
+use Rattle.channel_bench.proofs.Common.{◌≡◌, ℕ, ◌<◌, Bool, true, false, ℤ, List, Some, None, refl, sym, ap, ◌∙◌, subst}
+use Rattle.channel_bench.proofs.Common.{All, MatchBool, ◌↔◌, IsTrue, End, A, B, HostEvent, IsHeard, ids_of, ids_behind}
+use Rattle.channel_bench.proofs.Common.{IsHostTurn, StationState, air_of, Out, Turn, begin, SentAt, Shared, Side}
+use Rattle.channel_bench.proofs.Common.{SideState, Near, ways_of, MayCome, IsStep, IsTicking, IsTold, told_pieces}
+use Rattle.channel_bench.proofs.Common.{first_unquiet, trouble_of, EarStandsFor, StandsForSide, StandsForCommon}
+use Rattle.channel_bench.proofs.Common.{StandsForNear, StandsForWays, ProgramState, BothWays, is_ask, hearing_at}
+use Rattle.channel_bench.proofs.Common.{queueing_all, FromHost, OffAir, OfClock}
 use Rattle.agwpe_port.specs.Held.{StandsFor as AgwStandsFor}
-use Rattle.link_world.specs.declared.end.End.{End}
-use Rattle.link_world.specs.declared.end.End.TheVariants.{A, B}
 use Rattle.slicer_bank.specs.Busy.{HearsCarrier}
-use Rattle.station.specs.declared.host_event.HostEvent.{HostEvent}
-use Rattle.station.specs.Heard.{IsHeard}
-use Rattle.station.specs.Held.{ids_of, ids_behind}
-use Rattle.station.specs.Host.{IsHostTurn}
 use Rattle.station.specs.StandsFor.{StandsFor as StationStandsFor}
-use Rattle.station.specs.State.{StationState}
-use Rattle.station.specs.Ticks.{IsTick, air_of}
-use Rattle.station.specs.Turn.{Out, Turn, begin}
-use Rattle.channel_bench.specs.declared.matching.SentAt.{SentAt}
-use Rattle.channel_bench.specs.declared.shared.Shared.{Shared}
-use Rattle.channel_bench.specs.declared.side.Side.{Side}
-use Rattle.channel_bench.specs.BenchState.{SideState, Near, ways_of}
-use Rattle.channel_bench.specs.BenchSteps.{MayCome, IsStep, IsTicking, IsTold, told_pieces, first_unquiet, trouble_of}
-use Rattle.channel_bench.specs.HeldBench.{EarStandsFor, StandsForSide, StandsForCommon, StandsForNear, StandsForWays}
-use Rattle.channel_bench.specs.HostProgram.{ProgramState}
-use Rattle.station_laws.specs.InFlight.{BothWays, is_ask, hearing_at, queueing_all}
-use Rattle.station_laws.specs.JointRun.Input.{FromHost, OffAir, OfClock}
+use Rattle.station.specs.Ticks.{IsTick}
 use Rattle.channel_bench.proofs.Loudness.{air_within}
 use Rattle.channel_bench.proofs.StepLemmas.{step_made}
 

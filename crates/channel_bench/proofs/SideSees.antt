@@ -1,35 +1,19 @@
 -- At each side of a bench the host program has seen the set-ups of its link: what holds of a side, and how a step keeps
 -- it.
-use Rattle.std.proofs.Common.{◌≡◌, ℕ, ◌==◌, ◌||◌, Bool, true, false, List, [], ◌∷◌, ◌++◌, map, cond, Option, Some, None}
-use Rattle.std.proofs.Common.{is_some, refl, sym, ap, ◌∙◌, subst, inl, inr}
+use Rattle.channel_bench.proofs.Common.{◌≡◌, ℕ, ◌==◌, ◌||◌, Bool, true, false, List, [], ◌∷◌, ◌++◌, map, cond, Option}
+use Rattle.channel_bench.proofs.Common.{Some, None, is_some, refl, sym, ap, ◌∙◌, subst, inl, inr, option_to_list}
+use Rattle.channel_bench.proofs.Common.{or_cases, append-nil, AgwMessage, IsWritten, End, each_append, connect_kind}
+use Rattle.channel_bench.proofs.Common.{data_kind, disconnect_kind, register_kind, Turn, begin, SetUp, BenchWords}
+use Rattle.channel_bench.proofs.Common.{set_up_of, SideState, told_pieces, ProgramState, getting, opening, set_ups_of}
+use Rattle.channel_bench.proofs.Common.{told_all, LinkFrame, LinkStep, runs_behind, told_in, IsGivenWhileUp, Seen}
+use Rattle.channel_bench.proofs.Common.{seen_by, seen_by_all, AsksInSetUp, asked_after, asked_behind, called_after}
+use Rattle.channel_bench.proofs.Common.{called_behind, framed, is_connect, is_disconnect, not_both}
 use Rattle.std.specs.List.{AllByRecursion as Each}
-use Rattle.std.specs.Option.{option_to_list}
-use Rattle.std.proofs.lemmas.Bool.{or_cases}
-use Rattle.std.proofs.lemmas.List.{append-nil}
-use Rattle.agwpe_port.specs.declared.message.AgwMessage.{AgwMessage}
-use Rattle.agwpe_port.proofs.WrittenLemmas.{IsWritten}
 use Rattle.link_machine.specs.Event.{Event as LinkEvent}
 use Rattle.link_machine.specs.Event.Event.{Connect as LinkConnect, Send as LinkSend, Disconnect as LinkDisconnect}
 use Rattle.link_machine.specs.Event.Event.{Hear as LinkHear, Tick as LinkTick}
-use Rattle.link_world.specs.declared.end.End.{End}
-use Rattle.link_world.proofs.law.Each.{each_append}
-use Rattle.station.specs.AgwKinds.{connect_kind, data_kind, disconnect_kind, register_kind}
-use Rattle.station.specs.Turn.{Turn, begin}
-use Rattle.channel_bench.specs.declared.report.SetUp.{SetUp}
-use Rattle.channel_bench.specs.declared.words.BenchWords.{BenchWords}
-use Rattle.channel_bench.specs.BenchOrder.{set_up_of}
-use Rattle.channel_bench.specs.BenchState.{SideState}
-use Rattle.channel_bench.specs.BenchSteps.{told_pieces}
-use Rattle.channel_bench.specs.HostProgram.{ProgramState, closing, getting, opening, set_ups_of, told as told_message}
-use Rattle.channel_bench.specs.HostProgram.{told_all}
-use Rattle.station_laws.specs.InFlight.{LinkFrame}
-use Rattle.station_laws.specs.LinkSteps.{LinkStep}
-use Rattle.station_laws.specs.RunsTell.{runs_behind, told_in}
-use Rattle.station_laws.specs.SetUpsSeen.{IsGivenWhileUp, Seen, seen_by, seen_by_all}
-use Rattle.station_laws.proofs.Chains.{AsksInSetUp, asked_after, asked_behind, called_after, called_behind}
-use Rattle.station_laws.proofs.Framed.{framed}
+use Rattle.channel_bench.specs.HostProgram.{closing, told as told_message}
 use Rattle.channel_bench.proofs.HostStreams.{IsWhole}
-use Rattle.station_laws.proofs.LinkDid.{is_connect, is_disconnect}
 use Rattle.channel_bench.proofs.LinkNow.{GivenUp}
 use Rattle.channel_bench.proofs.OwnLinks.{Cause, IsOwnFrame, OwnsAll, Says, cause_of, messages_of, own_pieces}
 use Rattle.channel_bench.proofs.OwnLinks.Cause.{connecting, disconnecting, sending}
@@ -37,7 +21,6 @@ use Rattle.channel_bench.proofs.OwnMessages.{Replied}
 use Rattle.channel_bench.proofs.ProgramSees.{GaveAll, GivesNothing, Sees, items_asked, items_called, items_of}
 use Rattle.channel_bench.proofs.ProgramSees.{pieces_told, told_items}
 use Rattle.channel_bench.proofs.Shorts.{GivesShort, IsSome, ShortStep}
-use Rattle.station_laws.proofs.Tables.{not_both}
 use Rattle.channel_bench.proofs.ThereStays.{HasProgram, is_there}
 
 -- What holds of a side after these events of its link, of which these frames were queued.

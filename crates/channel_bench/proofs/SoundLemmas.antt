@@ -1,16 +1,9 @@
 -- What reaches the stations in a tick.
-use Rattle.std.proofs.Common.{◌≡◌, ◌-◌, Bool, true, false, ◌||◌, ◌&&◌, ℤ, pos, List, ◌++◌, length, replicate, not, cond}
-use Rattle.std.proofs.Common.{sym, ap, ◌∙◌, subst, arith, length-append}
-use Rattle.std.specs.Prelude.{All}
-use Rattle.frame_merge.specs.declared.candidate.Candidate.{Candidate}
-use Rattle.slicer_bank.specs.MergedItems.{AreMergedBetween}
-use Rattle.rand_pcg.specs.Lcg.{Lcg}
+use Rattle.channel_bench.proofs.Common.{◌≡◌, ◌-◌, Bool, true, false, ◌||◌, ◌&&◌, ℤ, pos, List, ◌++◌, length, replicate}
+use Rattle.channel_bench.proofs.Common.{not, cond, sym, ap, ◌∙◌, subst, arith, length-append, All, Candidate}
+use Rattle.channel_bench.proofs.Common.{AreMergedBetween, Lcg, Shared, SideState, Common, ways_of, StandsForCommon}
+use Rattle.channel_bench.proofs.Common.{StandsForWays, AreReady, mark_of, reaching, sends}
 use Rattle.channel_access.specs.declared.air_tick.AirTick.{AirTick}
-use Rattle.channel_bench.specs.declared.shared.Shared.{Shared}
-use Rattle.channel_bench.specs.BenchState.{SideState, Common, ways_of}
-use Rattle.channel_bench.specs.HeldBench.{StandsForCommon, StandsForWays}
-use Rattle.channel_bench.specs.BenchTick.{AreReady}
-use Rattle.channel_bench.specs.Sounding.{mark_of, reaching, sends}
 use Rattle.channel_bench.proofs.Loudness.{IsLoudAtMost, silence_within}
 
 -- no sample that reaches a station is louder than those that are sent

@@ -1,14 +1,9 @@
 -- What both stations send reaches them: what that changes of the bench, and what it leaves.
-use Rattle.std.proofs.Common.{◌≡◌, ℕ, suc, ◌==◌, ◌||◌, ◌&&◌, not, Bool, true, false, ℤ, pos, List, [], ◌∷◌, length}
-use Rattle.std.proofs.Common.{replicate, cond, refl, ap, ◌∙◌}
-use Rattle.std.proofs.lemmas.List.{length-replicate}
-use Rattle.rand_pcg.specs.Lcg.{Lcg}
-use Rattle.link_world.specs.declared.end.End.TheVariants.{A, B}
-use Rattle.channel_bench.specs.declared.words.BenchWords.{BenchWords}
-use Rattle.channel_bench.specs.BenchState.{BenchState, Near, SideState, near, with_near}
-use Rattle.channel_bench.specs.Sounding.{after_noise, carried, is_lost, reaching, sends, sent_in, sounding, with_loss}
-use Rattle.channel_bench.specs.Sounding.{with_losses, with_noise, with_samples, with_transmission, with_words}
-use Rattle.channel_access.specs.Words.{after_word}
+use Rattle.channel_bench.proofs.Common.{◌≡◌, ℕ, suc, ◌==◌, ◌||◌, ◌&&◌, not, Bool, true, false, ℤ, pos, List, [], ◌∷◌}
+use Rattle.channel_bench.proofs.Common.{length, replicate, cond, refl, ap, ◌∙◌, length-replicate, Lcg, A, B, BenchWords}
+use Rattle.channel_bench.proofs.Common.{BenchState, Near, SideState, near, with_near, after_noise, carried, is_lost}
+use Rattle.channel_bench.proofs.Common.{reaching, sends, sent_in, sounding, with_loss, with_losses, with_noise}
+use Rattle.channel_bench.proofs.Common.{with_samples, with_transmission, with_words, after_word}
 
 -- a transmission that begins is lost or not
 abbrev lost_as : Bool → Lcg → ℕ → ℕ → Near → Near

@@ -1,33 +1,21 @@
 -- A step of a station of the bench keeps one key for all frames that wait at A. Each SABM, SABME and DISC of A's link
 -- that is not up finds room, by what is known before the step.
-use Rattle.std.proofs.Common.{◌≡◌, ℕ, Bool, false, List, [], ◌∷◌, ◌++◌, Option, None, refl, sym, ap, ◌∙◌, subst}
-use Rattle.std.specs.Prelude.{All}
+use Rattle.channel_bench.proofs.Common.{◌≡◌, ℕ, Bool, false, List, [], ◌∷◌, ◌++◌, Option, None, refl, sym, ap, ◌∙◌}
+use Rattle.channel_bench.proofs.Common.{subst, All, All-from_recursion, Machine, End, A, B, begin, BenchWords, IsNoted}
+use Rattle.channel_bench.proofs.Common.{the_calls, Near, config_of, params_of, IsStep, AreMatched, LinkFrame, Moment}
+use Rattle.channel_bench.proofs.Common.{after_moments, nothing_sent, sent_by, steps_in, Steps, IsTurn, Step, Stations}
+use Rattle.channel_bench.proofs.Common.{state_of, with_state, Calls, first_world, link_at_end, LinkStep, steps_of}
+use Rattle.channel_bench.proofs.Common.{turn_steps, pairs_in, seed_at, RunChain, run_chained, AsksInSetUp, IsChain}
+use Rattle.channel_bench.proofs.Common.{StandsAsked, asked_after, asked_behind, chain_asked, chain_parts, last_machine}
+use Rattle.channel_bench.proofs.Common.{is_disconnect, matched_in_order_holds, AsksFindRoom, AsksFindRoomAt, not_both}
 use Rattle.std.specs.List.{AllByRecursion as Each}
-use Rattle.std.proofs.lemmas.List.Elements.{All-from_recursion}
 use Rattle.link_machine.specs.Event.{Event as LinkEvent}
 use Rattle.link_machine.specs.Event.Event.{Connect as LinkConnect, Send as LinkSend, Disconnect as LinkDisconnect}
 use Rattle.link_machine.specs.Event.Event.{Hear as LinkHear, Tick as LinkTick}
-use Rattle.link_machine.specs.Machine.{Machine}
 use Rattle.link_machine.specs.Step.{step as link_turn}
-use Rattle.link_world.specs.declared.end.End.{End}
-use Rattle.link_world.specs.declared.end.End.TheVariants.{A, B}
 use Rattle.link_world.proofs.law.Each.{each_of_all}
-use Rattle.station.specs.Turn.{begin}
-use Rattle.channel_bench.specs.declared.words.BenchWords.{BenchWords}
-use Rattle.channel_bench.specs.BenchOrder.{IsNoted, the_calls}
-use Rattle.channel_bench.specs.BenchState.{Near, config_of, params_of}
-use Rattle.channel_bench.specs.BenchSteps.{IsStep}
-use Rattle.station_laws.specs.InFlight.{AreMatched, LinkFrame, Moment, after_moments, nothing_sent, sent_by, steps_in}
-use Rattle.station_laws.specs.InFlight.Moment.{Steps}
-use Rattle.station_laws.specs.JointRun.{IsTurn, Step, Stations, state_of, with_state}
-use Rattle.station_laws.specs.LinkOfCalls.{Calls, first_world, link_at_end}
-use Rattle.station_laws.specs.LinkSteps.{LinkStep, steps_of, turn_steps}
-use Rattle.station_laws.specs.MatchedLaw.{pairs_in}
-use Rattle.channel_bench.specs.Words.{seed_at}
 use Rattle.channel_bench.proofs.BenchSees.{matched_front}
-use Rattle.station_laws.proofs.ChainRun.{RunChain, run_chained}
-use Rattle.station_laws.proofs.Chains.{AsksInSetUp, IsChain, OfLink, StandsAsked, asked_after, asked_behind}
-use Rattle.station_laws.proofs.Chains.{asked_step, chain_asked, chain_parts, last_machine, made_like}
+use Rattle.station_laws.proofs.Chains.{OfLink, asked_step, made_like}
 use Rattle.channel_bench.proofs.CoreRun.{Occurs, Usual, input_of, told_station}
 use Rattle.channel_bench.proofs.CoreRun.Usual.{connects, disconnects, gives, hears, joins_kiss, joins_program}
 use Rattle.channel_bench.proofs.CoreRun.Usual.{registers, sets_full, ticks}
@@ -36,17 +24,13 @@ use Rattle.channel_bench.proofs.HearsLittle.{asked_wishes}
 use Rattle.channel_bench.proofs.HostsStay.{HasHosts}
 use Rattle.channel_bench.proofs.KeyedHearing.{Hearing, IsHearing, heard_hears}
 use Rattle.channel_bench.proofs.KeyedSteps.{Finds}
-use Rattle.station_laws.proofs.LinkDid.{is_disconnect}
 use Rattle.channel_bench.proofs.LinkNow.{first_machine, links_of}
-use Rattle.station_laws.proofs.MatchedOrder.{matched_in_order_holds}
 use Rattle.channel_bench.proofs.NextSees.{noted_step, own_events}
 use Rattle.channel_bench.proofs.NotedRun.{noted_kept, steps_more}
 use Rattle.channel_bench.proofs.OneKey.{Keyed}
 use Rattle.channel_bench.proofs.OwnLinks.{IsOwnFrame, OwnsAll, chosen}
 use Rattle.channel_bench.proofs.OwnMessages.{IsHeardFrom}
-use Rattle.station_laws.proofs.RoomForAsks.{AsksFindRoom, AsksFindRoomAt}
 use Rattle.channel_bench.proofs.StepSees.{heard_from, matched_last, queue_of, unshown_of}
-use Rattle.station_laws.proofs.Tables.{not_both}
 
 -- ---- what is known
 

@@ -1,15 +1,10 @@
 -- A step of a station of the bench, from what its call gave.
-use Rattle.std.proofs.Common.{◌≡◌, ℕ, Option, refl, sym, subst}
-use Rattle.link_world.specs.declared.end.End.{End}
-use Rattle.station.specs.Turn.{Turn, begin}
-use Rattle.channel_bench.specs.declared.shared.Shared.{Shared}
-use Rattle.channel_bench.specs.declared.side.Side.{Side}
-use Rattle.channel_bench.specs.BenchState.{Near, ways_of}
-use Rattle.channel_bench.specs.BenchSteps.{IsStep, told_pieces, there_after, first_unquiet, trouble_of, stepped_common}
-use Rattle.channel_bench.specs.HeldBench.{StandsForSide, StandsForNear, StandsForWays}
-use Rattle.station_laws.specs.InFlight.{hears_ask, hearing_at, queueing_all, nothing_sent}
-use Rattle.station_laws.specs.InFlight.Moment.{Steps}
-use Rattle.station_laws.specs.JointRun.{Input, IsTurn, HasOctets, Step}
+use Rattle.channel_bench.proofs.Common.{◌≡◌, ℕ, Option, refl, sym, subst, End, Turn, begin, Shared, Side, Near, ways_of}
+use Rattle.channel_bench.proofs.Common.{IsStep, told_pieces, there_after, first_unquiet, trouble_of, StandsForSide}
+use Rattle.channel_bench.proofs.Common.{StandsForNear, StandsForWays, hears_ask, hearing_at, queueing_all, nothing_sent}
+use Rattle.channel_bench.proofs.Common.{Steps, Input, IsTurn, Step}
+use Rattle.channel_bench.specs.BenchSteps.{stepped_common}
+use Rattle.station_laws.specs.JointRun.{HasOctets}
 use Rattle.channel_bench.proofs.FlightLemmas.{moments_more}
 
 -- A step: the station made its turn, the program was told, and the frames joined.

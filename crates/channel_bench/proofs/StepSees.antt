@@ -1,56 +1,28 @@
 -- A step of a bench keeps what its host programs have seen, by the laws of the link.
-use Rattle.std.proofs.Common.{◌≡◌, ℕ, Bool, true, false, List, [], ◌∷◌, ◌++◌, cond, Option, Some, None, is_some, refl}
-use Rattle.std.proofs.Common.{sym, ap, ◌∙◌, subst, arith, inl, inr}
-use Rattle.std.specs.Bool.{⊤}
-use Rattle.std.specs.Prelude.{MatchBool}
+use Rattle.channel_bench.proofs.Common.{◌≡◌, ℕ, Bool, true, false, List, [], ◌∷◌, ◌++◌, cond, Option, Some, None}
+use Rattle.channel_bench.proofs.Common.{is_some, refl, sym, ap, ◌∙◌, subst, arith, inl, inr, ⊤, MatchBool, append-nil}
+use Rattle.channel_bench.proofs.Common.{append_assoc, Path, spelling, AgwMessage, LinkState, Idle, Calling, Up}
+use Rattle.channel_bench.proofs.Common.{Releasing, Machine, End, A, B, other, Kiss, Agw, connect_kind, disconnect_kind}
+use Rattle.channel_bench.proofs.Common.{IsCall, called_pid, called_route, may_call, own_key, refused_reply, replying}
+use Rattle.channel_bench.proofs.Common.{IsCallMade, Connection, taking, Link, Route, StationState, Turn, begin}
+use Rattle.channel_bench.proofs.Common.{BenchWords, the_calls, SideState, program_id, ProgramState, request_between}
+use Rattle.channel_bench.proofs.Common.{told_all, AreMatched, BothWays, IsMatched, IsMatchedIn, LinkFrame, Moment}
+use Rattle.channel_bench.proofs.Common.{OneWay, after_moment, after_moments, hears_ask, nothing_sent, sent_by, steps_in}
+use Rattle.channel_bench.proofs.Common.{Steps, IsTurn, Step, Stations, at_end, OffAir, Calls, link_at_end, Choice}
+use Rattle.channel_bench.proofs.Common.{LinkStep, call_steps, disconnect_steps, link_step, made_steps, steps_for}
+use Rattle.channel_bench.proofs.Common.{steps_of, turn_steps, RunsIn, AllToldInOne, runs_behind, told_in, link_steps_at}
+use Rattle.channel_bench.proofs.Common.{seen_by_all, AsksInSetUp, IsChain, StandsCalled, asked_append, asked_behind}
+use Rattle.channel_bench.proofs.Common.{called_append, called_behind, made_by, framed, is_connect, is_disconnect}
+use Rattle.channel_bench.proofs.Common.{not_both, queued_by}
 use Rattle.std.specs.List.{AllByRecursion as Each}
-use Rattle.std.proofs.lemmas.List.{append-nil, append_assoc}
-use Rattle.ax25_address.specs.declared.path.Path.{Path}
 use Rattle.ax25_address.proofs.OneReading.{BeginsWithPath-same}
-use Rattle.agwpe_port.specs.Messages.{spelling}
-use Rattle.agwpe_port.specs.declared.message.AgwMessage.{AgwMessage}
-use Rattle.link_machine.specs.declared.state.LinkState.{LinkState}
-use Rattle.link_machine.specs.declared.state.LinkState.TheVariants.{Idle, Calling, Up, Releasing}
 use Rattle.link_machine.specs.Event.{Event as LinkEvent}
 use Rattle.link_machine.specs.Event.Event.{Connect as LinkConnect, Disconnect as LinkDisconnect}
-use Rattle.link_machine.specs.Machine.{Machine}
-use Rattle.link_world.specs.declared.end.End.{End}
-use Rattle.link_world.specs.declared.end.End.TheVariants.{A, B}
-use Rattle.link_world.specs.World.{other}
-use Rattle.station.specs.declared.host_event.PortKind.TheVariants.{Kiss, Agw}
-use Rattle.station.specs.AgwKinds.{connect_kind, disconnect_kind}
-use Rattle.station.specs.AgwRequests.{IsCall, called_pid, called_route, may_call, own_key, refused_reply, replying}
-use Rattle.station.specs.AgwRequests.{IsCallMade}
-use Rattle.station.specs.Connections.{Connection}
-use Rattle.station.specs.Host.{taking}
-use Rattle.station.specs.Links.{Link}
-use Rattle.station.specs.Routes.{Route}
-use Rattle.station.specs.State.{StationState}
-use Rattle.station.specs.Turn.{Turn, begin}
-use Rattle.channel_bench.specs.declared.words.BenchWords.{BenchWords}
-use Rattle.channel_bench.specs.BenchOrder.{the_calls}
-use Rattle.channel_bench.specs.BenchState.{SideState}
-use Rattle.channel_bench.specs.BenchSteps.{program_id}
-use Rattle.channel_bench.specs.HostProgram.{ProgramState, request_between, told_all}
-use Rattle.station_laws.specs.InFlight.{AreMatched, BothWays, IsMatched, IsMatchedIn, LinkFrame, Moment, OneWay}
-use Rattle.station_laws.specs.InFlight.{after_moment, after_moments, hears_ask, nothing_sent, sent_by, steps_in}
-use Rattle.station_laws.specs.InFlight.Moment.{Steps}
-use Rattle.station_laws.specs.JointRun.{IsTurn, Step, Stations, at_end}
-use Rattle.station_laws.specs.JointRun.Input.{OffAir}
-use Rattle.station_laws.specs.LinkOfCalls.{Calls, link_at_end}
-use Rattle.station_laws.specs.LinkSteps.{Choice, LinkStep, call_steps, disconnect_steps, link_step, made_steps}
-use Rattle.station_laws.specs.LinkSteps.{steps_for, steps_of, turn_steps}
-use Rattle.station_laws.specs.LinksTell.{RunsIn}
-use Rattle.station_laws.specs.RunsTell.{AllToldInOne, runs_behind, told_in}
-use Rattle.station_laws.specs.SetUpsSeen.{link_steps_at, seen_by_all}
-use Rattle.station_laws.proofs.Chains.{AsksInSetUp, HasSetUp, IsChain, StandsCalled, asked_append, asked_behind}
-use Rattle.station_laws.proofs.Chains.{called_append, called_behind, made_by, made_of, told_append}
+use Rattle.station_laws.proofs.Chains.{HasSetUp, made_of, told_append}
 use Rattle.channel_bench.proofs.CoreRun.{Usual, input_of}
 use Rattle.channel_bench.proofs.CoreRun.Usual.{connects, disconnects, gives, hears, joins_kiss, joins_program}
 use Rattle.channel_bench.proofs.CoreRun.Usual.{registers, sets_full, ticks}
-use Rattle.station_laws.proofs.Framed.{framed}
 use Rattle.channel_bench.proofs.HostsStay.{HasHosts, IsHosts}
-use Rattle.station_laws.proofs.LinkDid.{is_connect, is_disconnect}
 use Rattle.channel_bench.proofs.LinkNow.{GivenUp, Known, law_short, link_told, links_of}
 use Rattle.channel_bench.proofs.NotedRun.{moments_more, steps_more}
 use Rattle.channel_bench.proofs.OwnLinks.{IsFromPartner, IsOwnFrame, IsUnshown, chosen, messages_of}
@@ -61,8 +33,6 @@ use Rattle.channel_bench.proofs.ProgramsAsk.{between_written}
 use Rattle.channel_bench.proofs.Shorts.{GotShort, ShortStep, TellsShort, each_slice, steps_short}
 use Rattle.channel_bench.proofs.SideSees.{SideSees, asked_kept, asked_one, called_kept, called_one, each_map}
 use Rattle.channel_bench.proofs.SideSees.{never_asks, seen_append, some_seen}
-use Rattle.station_laws.proofs.Tables.{not_both}
-use Rattle.station_laws.proofs.Ways.{queued_by}
 
 -- ---- a run with a step more
 

@@ -1,14 +1,8 @@
 -- Samples that reach both stations, with the frames that were sent and the words that were drawn.
-use Rattle.std.proofs.Common.{◌≡◌, ℤ, List, sym, ap, ◌∙◌, subst}
-use Rattle.rand_pcg.specs.Lcg.{Lcg}
-use Rattle.link_world.specs.declared.end.End.TheVariants.{A, B}
-use Rattle.channel_bench.specs.declared.run.Run.{Run}
-use Rattle.channel_bench.specs.declared.words.BenchWords.{BenchWords}
-use Rattle.channel_bench.specs.BenchState.{BenchState}
-use Rattle.channel_bench.specs.HeldBench.{StandsForCommon, StandsForSide, StandsForRun, after_b, reaching_a, reaching_b}
-use Rattle.channel_bench.specs.HeldBench.{with_both, with_noise_drawn}
-use Rattle.channel_bench.specs.Sounding.{after_noise, carried, reaching, sent_in, sounding, with_losses, with_noise}
-use Rattle.channel_bench.specs.Sounding.{with_samples}
+use Rattle.channel_bench.proofs.Common.{◌≡◌, ℤ, List, sym, ap, ◌∙◌, subst, Lcg, A, B, Run, BenchWords, BenchState}
+use Rattle.channel_bench.proofs.Common.{StandsForCommon, StandsForSide, StandsForRun, with_noise_drawn, after_noise}
+use Rattle.channel_bench.proofs.Common.{carried, reaching, sent_in, sounding, with_losses, with_noise, with_samples}
+use Rattle.channel_bench.specs.HeldBench.{after_b, reaching_a, reaching_b, with_both}
 use Rattle.channel_bench.proofs.SoundLemmas.{DrawsMore, stands_drawing}
 
 -- all but both stations is as it was

@@ -1,31 +1,14 @@
 -- The connection of a host program of the bench: if the program is there, its station has the connection, which speaks
 -- for it.
-use Rattle.std.proofs.Common.{◌≡◌, ℕ, ◌==◌, ◌||◌, not, nat_lt, Bool, true, false, List, [], ◌∷◌, ◌++◌, length, cond}
-use Rattle.std.proofs.Common.{Option, Some, is_some, refl, sym, ap, ◌∙◌, subst, arith, inl, inr}
-use Rattle.std.specs.Prelude.{filter}
-use Rattle.std.specs.List.{list_any}
-use Rattle.std.proofs.lemmas.Bool.{or_cases}
+use Rattle.channel_bench.proofs.Common.{◌≡◌, ℕ, ◌==◌, ◌||◌, not, nat_lt, Bool, true, false, List, [], ◌∷◌, ◌++◌, length}
+use Rattle.channel_bench.proofs.Common.{cond, Option, Some, is_some, refl, sym, ap, ◌∙◌, subst, arith, inl, inr, filter}
+use Rattle.channel_bench.proofs.Common.{list_any, or_cases, call_field, spelling, AgwMessage, End, Joined, PortKind}
+use Rattle.channel_bench.proofs.Common.{Kiss, Agw, connect_kind, data_kind, disconnect_kind, register_kind, IsAnswered}
+use Rattle.channel_bench.proofs.Common.{Connection, connection_of, most_connections, new_connection, with_connection}
+use Rattle.channel_bench.proofs.Common.{joining, taking, with_host, with_octets, without_ids, no_call, StationState}
+use Rattle.channel_bench.proofs.Common.{Turn, begin, changing, closing, program_id, there_after, kiss_id, call_at}
+use Rattle.channel_bench.proofs.Common.{full_duplex_octets, request, request_between, Input, IsTurn, FromHost, not_both}
 use Rattle.std.proofs.lemmas.List.Folds.{list_any-append}
-use Rattle.agwpe_port.specs.CallField.{call_field}
-use Rattle.agwpe_port.specs.Messages.{spelling}
-use Rattle.agwpe_port.specs.declared.message.AgwMessage.{AgwMessage}
-use Rattle.link_world.specs.declared.end.End.{End}
-use Rattle.station.specs.declared.host_event.HostEvent.TheVariants.{Joined}
-use Rattle.station.specs.declared.host_event.PortKind.{PortKind}
-use Rattle.station.specs.declared.host_event.PortKind.TheVariants.{Kiss, Agw}
-use Rattle.station.specs.AgwKinds.{connect_kind, data_kind, disconnect_kind, register_kind}
-use Rattle.station.specs.AgwRequests.{IsAnswered}
-use Rattle.station.specs.Connections.{Connection, connection_of, most_connections, new_connection, with_connection}
-use Rattle.station.specs.Host.{joining, taking, with_host, with_octets}
-use Rattle.station.specs.Held.{without_ids}
-use Rattle.station.specs.HostMessages.{no_call}
-use Rattle.station.specs.State.{StationState}
-use Rattle.station.specs.Turn.{Turn, begin, changing, closing}
-use Rattle.channel_bench.specs.BenchSteps.{program_id, there_after}
-use Rattle.channel_bench.specs.BenchTick.{kiss_id}
-use Rattle.channel_bench.specs.HostProgram.{call_at, full_duplex_octets, request, request_between}
-use Rattle.station_laws.specs.JointRun.{Input, IsTurn}
-use Rattle.station_laws.specs.JointRun.Input.{FromHost}
 use Rattle.channel_bench.proofs.CoreRun.{Occurs, Usual, input_of}
 use Rattle.channel_bench.proofs.CoreRun.Usual.{connects, disconnects, gives, hears, joins_kiss, joins_program}
 use Rattle.channel_bench.proofs.CoreRun.Usual.{registers, sets_full, ticks}
@@ -33,7 +16,6 @@ use Rattle.channel_bench.proofs.HostsStay.{HasHosts, IsSaid, IsSet, said_by, set
 use Rattle.channel_bench.proofs.HostsStay.IsSaid.{said, unheard}
 use Rattle.channel_bench.proofs.HostsStay.IsSet.{full, unheard as alone}
 use Rattle.channel_bench.proofs.ProgramsAsk.{between_written, registers_written}
-use Rattle.station_laws.proofs.Tables.{not_both}
 use Rattle.channel_bench.proofs.TurnWalks.{Kept, connect_kept, data_kept, disconnect_kept, heard_kept, kept_by_acts}
 use Rattle.channel_bench.proofs.TurnWalks.{register_kept, ticks_kept}
 

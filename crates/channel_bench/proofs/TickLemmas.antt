@@ -1,20 +1,10 @@
 -- The parts of a tick from what the calls of the code made.
-use Rattle.std.proofs.Common.{◌≡◌, ◌<◌, cond, arith, true, List, [], ◌∷◌, ◌++◌, Option, Some, None, refl, sym, ap, ◌∙◌}
-use Rattle.std.proofs.Common.{subst}
+use Rattle.channel_bench.proofs.Common.{◌≡◌, ◌<◌, cond, arith, true, List, [], ◌∷◌, ◌++◌, Option, Some, None, refl, sym}
+use Rattle.channel_bench.proofs.Common.{ap, ◌∙◌, subst, false≢true, ne_eqb, Candidate, End, A, B, Trouble, BenchWords}
+use Rattle.channel_bench.proofs.Common.{BenchState, SideState, Near, AtEnd, near, side_at, with_near, GoesOn, IsHeardAt}
+use Rattle.channel_bench.proofs.Common.{AreHeardAt, Part, AreReady, IsListening, ArePartsMade, IsTick, beginning}
+use Rattle.channel_bench.proofs.Common.{each_tick, parts_of, Closes, Listens, Unless, hears, ticked}
 use Rattle.std.specs.Prelude.{is_some}
-use Rattle.std.proofs.lemmas.Bool.{false≢true, ne_eqb}
-use Rattle.frame_merge.specs.declared.candidate.Candidate.{Candidate}
-use Rattle.link_world.specs.declared.end.End.{End}
-use Rattle.link_world.specs.declared.end.End.TheVariants.{A, B}
-use Rattle.channel_bench.specs.declared.trouble.Trouble.{Trouble}
-use Rattle.channel_bench.specs.declared.words.BenchWords.{BenchWords}
-use Rattle.channel_bench.specs.BenchState.{BenchState, SideState, Near, AtEnd, near, side_at, with_near}
-use Rattle.channel_bench.specs.BenchSteps.{GoesOn, IsHeardAt, AreHeardAt}
-use Rattle.channel_bench.specs.BenchTick.{Part, AreReady, IsListening, ArePartsMade, IsTick, beginning, each_tick}
-use Rattle.channel_bench.specs.BenchTick.{parts_of}
-use Rattle.channel_bench.specs.BenchTick.Part.{Closes, Listens}
-use Rattle.channel_bench.specs.HeldBench.{Unless, hears}
-use Rattle.channel_bench.specs.Sounding.{ticked}
 use Rattle.channel_bench.proofs.PartLemmas.{parts_append, parts_cons, parts_one, parts_stop}
 
 -- nothing more comes to pass

@@ -1,36 +1,17 @@
 -- In a run of the bench each heard frame was in flight: part by part, tick by tick.
-use Rattle.std.proofs.Common.{◌≡◌, ℕ, zero, suc, ◌+◌, ◌-◌, ◌*◌, ◌≤◌, max, ◌==◌, ◌&&◌, nat_lt, nat_le, Bool, true, false}
-use Rattle.std.proofs.Common.{ℤ, List, [], ◌∷◌, ◌++◌, length, map, cond, Option, None, refl, sym, ap, ◌∙◌, subst, arith}
-use Rattle.std.proofs.Common.{length-append}
-use Rattle.std.specs.Prelude.{MatchBool}
+use Rattle.channel_bench.proofs.Common.{◌≡◌, ℕ, zero, suc, ◌+◌, ◌-◌, ◌*◌, ◌≤◌, max, ◌==◌, ◌&&◌, nat_lt, nat_le, Bool}
+use Rattle.channel_bench.proofs.Common.{true, false, ℤ, List, [], ◌∷◌, ◌++◌, length, map, cond, Option, None, refl, sym}
+use Rattle.channel_bench.proofs.Common.{ap, ◌∙◌, subst, arith, length-append, MatchBool, leb-true, append_assoc}
+use Rattle.channel_bench.proofs.Common.{length-map, Sent, Candidate, merged, End, A, B, each_append, each_weaker}
+use Rattle.channel_bench.proofs.Common.{HostEvent, StationState, air_of, SentAt, BenchWords, stations_of, AreTicks}
+use Rattle.channel_bench.proofs.Common.{AtEnd, BenchState, Near, SideState, near, new_bench, with_near, IsTicking}
+use Rattle.channel_bench.proofs.Common.{IsTold, ArePartsMade, AreReady, IsAsked, IsAskedOrCalled, IsCalled, IsGiven}
+use Rattle.channel_bench.proofs.Common.{IsListening, IsPart, IsTick, Part, beginning, each_tick, is_complete, joins}
+use Rattle.channel_bench.proofs.Common.{sets_duplex, sets_full_duplex, with_asking, with_calling, Tells, Gives}
+use Rattle.channel_bench.proofs.Common.{AsksOrCalls, Ticks, Sounds, Listens, Closes, next_piece, AreMatched, BothWays}
+use Rattle.channel_bench.proofs.Common.{IsMatchedIn, LinkFrame, Moment, after_moment, nothing_sent, sent_by, steps_in}
+use Rattle.channel_bench.proofs.Common.{Passes, passed_below, sent_in, sounding, ticked, text_at}
 use Rattle.std.specs.List.{AllByRecursion as Each, filter}
-use Rattle.std.proofs.lemmas.Bool.{leb-true}
-use Rattle.std.proofs.lemmas.List.{append_assoc, length-map}
-use Rattle.channel_access.specs.declared.air_tick.Sent.{Sent}
-use Rattle.frame_merge.specs.declared.candidate.Candidate.{Candidate}
-use Rattle.frame_merge.specs.Merged.{merged}
-use Rattle.link_world.specs.declared.end.End.{End}
-use Rattle.link_world.specs.declared.end.End.TheVariants.{A, B}
-use Rattle.link_world.proofs.law.Each.{each_append, each_weaker}
-use Rattle.station.specs.declared.host_event.HostEvent.{HostEvent}
-use Rattle.station.specs.State.{StationState}
-use Rattle.station.specs.Ticks.{air_of}
-use Rattle.channel_bench.specs.declared.matching.SentAt.{SentAt}
-use Rattle.channel_bench.specs.declared.words.BenchWords.{BenchWords}
-use Rattle.channel_bench.specs.BenchOrder.{stations_of}
-use Rattle.channel_bench.specs.BenchRun.{AreTicks}
-use Rattle.channel_bench.specs.BenchState.{AtEnd, BenchState, Near, SideState, near, new_bench, with_near}
-use Rattle.channel_bench.specs.BenchSteps.{IsTicking, IsTold}
-use Rattle.channel_bench.specs.BenchTick.{ArePartsMade, AreReady, IsAsked, IsAskedOrCalled, IsCalled, IsGiven}
-use Rattle.channel_bench.specs.BenchTick.{IsListening, IsPart, IsTick, Part, beginning, each_tick, is_complete, joins}
-use Rattle.channel_bench.specs.BenchTick.{sets_duplex, sets_full_duplex, with_asking, with_calling}
-use Rattle.channel_bench.specs.BenchTick.Part.{Tells, Gives, AsksOrCalls, Ticks, Sounds, Listens, Closes}
-use Rattle.channel_bench.specs.HostProgram.{next_piece}
-use Rattle.station_laws.specs.InFlight.{AreMatched, BothWays, IsMatchedIn, LinkFrame, Moment, after_moment}
-use Rattle.station_laws.specs.InFlight.{nothing_sent, sent_by, steps_in}
-use Rattle.station_laws.specs.InFlight.Moment.{Passes}
-use Rattle.channel_bench.specs.Sounding.{passed_below, sent_in, sounding, ticked}
-use Rattle.channel_bench.specs.Words.{text_at}
 use Rattle.channel_bench.proofs.ChannelOrder.{octets_of}
 use Rattle.channel_bench.proofs.CoreRun.{IsToldUsual, piece_short, told_as}
 use Rattle.channel_bench.proofs.CoreRun.Usual.{joins_kiss, sets_full, joins_program, registers, connects, disconnects}

@@ -1,26 +1,12 @@
 -- What comes to pass at a station of a bench keeps both directions in order and in time.
-use Rattle.std.proofs.Common.{◌≡◌, ℕ, ◌+◌, ◌*◌, ◌≤◌, Bool, true, false, List, [], ◌∷◌, length, Option, Some, None, refl}
-use Rattle.std.proofs.Common.{sym, ap, ◌∙◌, subst}
-use Rattle.std.specs.Prelude.{MatchBool}
+use Rattle.channel_bench.proofs.Common.{◌≡◌, ℕ, ◌+◌, ◌*◌, ◌≤◌, Bool, true, false, List, [], ◌∷◌, length, Option, Some}
+use Rattle.channel_bench.proofs.Common.{None, refl, sym, ap, ◌∙◌, subst, MatchBool, Sent, Candidate, End, A, B, other}
+use Rattle.channel_bench.proofs.Common.{HostEvent, StationState, air_of, BenchWords, stations_of, AtEnd, BenchState}
+use Rattle.channel_bench.proofs.Common.{Near, SideState, near, with_near, AreHeardAt, GoesOn, IsHeardAs, IsHeardAt}
+use Rattle.channel_bench.proofs.Common.{IsStep, match_of, with_matched, with_stray, IsGivenPiece, with_giving}
+use Rattle.channel_bench.proofs.Common.{most_octets, IsMatched, sent_by, steps_in, Stations, state_of, with_state}
+use Rattle.channel_bench.proofs.Common.{FromHost, OffAir, OfClock}
 use Rattle.std.specs.List.{AllByRecursion as Each}
-use Rattle.channel_access.specs.declared.air_tick.Sent.{Sent}
-use Rattle.frame_merge.specs.declared.candidate.Candidate.{Candidate}
-use Rattle.link_world.specs.declared.end.End.{End}
-use Rattle.link_world.specs.declared.end.End.TheVariants.{A, B}
-use Rattle.link_world.specs.World.{other}
-use Rattle.station.specs.declared.host_event.HostEvent.{HostEvent}
-use Rattle.station.specs.State.{StationState}
-use Rattle.station.specs.Ticks.{air_of}
-use Rattle.channel_bench.specs.declared.words.BenchWords.{BenchWords}
-use Rattle.channel_bench.specs.BenchOrder.{stations_of}
-use Rattle.channel_bench.specs.BenchState.{AtEnd, BenchState, Near, SideState, near, with_near}
-use Rattle.channel_bench.specs.BenchSteps.{AreHeardAt, GoesOn, IsHeardAs, IsHeardAt, IsStep, match_of, with_matched}
-use Rattle.channel_bench.specs.BenchSteps.{with_stray}
-use Rattle.channel_bench.specs.BenchTick.{IsGivenPiece, with_giving}
-use Rattle.channel_bench.specs.HostProgram.{most_octets}
-use Rattle.station_laws.specs.InFlight.{IsMatched, sent_by, steps_in}
-use Rattle.station_laws.specs.JointRun.{Stations, state_of, with_state}
-use Rattle.station_laws.specs.JointRun.Input.{FromHost, OffAir, OfClock}
 use Rattle.channel_bench.proofs.ChannelOrder.{Fits}
 use Rattle.channel_bench.proofs.CoreRun.{IsToldUsual, Occurs, Usual, heard_calm, input_of, state_there, state_twice}
 use Rattle.channel_bench.proofs.CoreRun.Usual.{gives, hears, ticks}

@@ -1,19 +1,14 @@
 -- The frames towards a station, in time: which of them have passed, and which one a heard frame is matched with.
-use Rattle.std.proofs.Common.{◌≡◌, get_or, ℕ, zero, suc, ◌+◌, ◌-◌, ◌<◌, ◌≤◌, ◌&&◌, nat_lt, nat_le, Bool, true, false}
-use Rattle.std.proofs.Common.{List, [], ◌∷◌, ◌++◌, length, drop, cond, Option, Some, None, refl, sym, ap, ◌∙◌, subst}
-use Rattle.std.proofs.Common.{arith}
-use Rattle.std.specs.Prelude.{count_by, option_map, position, slice_get}
+use Rattle.channel_bench.proofs.Common.{◌≡◌, get_or, ℕ, zero, suc, ◌+◌, ◌-◌, ◌<◌, ◌≤◌, ◌&&◌, nat_lt, nat_le, Bool, true}
+use Rattle.channel_bench.proofs.Common.{false, List, [], ◌∷◌, ◌++◌, length, drop, cond, Option, Some, None, refl, sym}
+use Rattle.channel_bench.proofs.Common.{ap, ◌∙◌, subst, arith, count_by, option_map, position, slice_get, leb-true}
+use Rattle.channel_bench.proofs.Common.{leb-false, ltb-true, slice_get-get_or, Candidate, SentAt, distance, is_match}
 use Rattle.std.specs.Str.{bytes_eq}
 use Rattle.std.specs.List.{AllByRecursion as Each, filter}
 use Rattle.std.proofs.lemmas.List.Sums.{count_by-le-length, sum_by-cons}
 use Rattle.std.proofs.lemmas.Slice.Eq.{bytes_eq-Decides}
-use Rattle.std.proofs.lemmas.Bool.{leb-true, leb-false, ltb-true}
 use Rattle.std.proofs.lemmas.List.Quantifiers.{position-Some}
-use Rattle.std.proofs.lemmas.Option.{slice_get-get_or}
-use Rattle.frame_merge.specs.declared.candidate.Candidate.{Candidate}
 use Rattle.link_machine.proofs.PacketLemmas.{slice_get-drop}
-use Rattle.channel_bench.specs.declared.matching.SentAt.{SentAt}
-use Rattle.channel_bench.specs.BenchSteps.{distance, is_match}
 
 abbrev pub octets_at : SentAt → List ℕ
 octets_at sent = sent.octets

@@ -1,45 +1,29 @@
 -- What holds between the turns before and after each single act of a station holds between those before and after a
 -- whole step of the bench: a message of a host program, a frame that is heard, or the ticks of links.
-use Rattle.std.proofs.Common.{◌≡◌, ℕ, Bool, true, false, List, [], ◌∷◌, length, map, cond, nat_lt, Option, Some, None}
-use Rattle.std.proofs.Common.{refl, sym, ◌∙◌, subst}
-use Rattle.std.specs.Prelude.{MatchBool}
-use Rattle.std.specs.List.{range_with_len}
-use Rattle.ax25_address.specs.Callsign.{Callsign}
-use Rattle.ax25_address.specs.FramePath.{way_back}
-use Rattle.ax25_address.specs.declared.path.Path.{Path}
-use Rattle.ax25_address.specs.declared.path.Role.TheVariants.{Command}
-use Rattle.ax25_frames.specs.declared.frame.Frame.{Frame}
-use Rattle.agwpe_port.specs.Messages.{spelling}
-use Rattle.agwpe_port.specs.declared.message.AgwMessage.{AgwMessage}
-use Rattle.link_machine.specs.declared.acts.SentFrame.{SentFrame}
-use Rattle.link_machine.specs.declared.acts.Told.{Told}
+use Rattle.channel_bench.proofs.Common.{◌≡◌, ℕ, Bool, true, false, List, [], ◌∷◌, length, map, cond, nat_lt, Option}
+use Rattle.channel_bench.proofs.Common.{Some, None, refl, sym, ◌∙◌, subst, MatchBool, range_with_len, Callsign}
+use Rattle.channel_bench.proofs.Common.{way_back, Path, Command, Frame, spelling, AgwMessage, SentFrame, Told, done_of}
+use Rattle.channel_bench.proofs.Common.{PortKind, Kiss, Agw, Piece, register_kind, connect_kind, data_kind}
+use Rattle.channel_bench.proofs.Common.{disconnect_kind, IsAnswered, IsCall, IsCallMade, called_route, data_pid}
+use Rattle.channel_bench.proofs.Common.{disconnecting, giving, giving_packet, may_call, own_key, packets_of}
+use Rattle.channel_bench.proofs.Common.{refused_reply, register_reply, registering, replying, with_registration}
+use Rattle.channel_bench.proofs.Common.{call_in, Connection, IsHeard, IsHeardAnew, IsHeardBy, IsHeardMaking}
+use Rattle.channel_bench.proofs.Common.{IsReadingHeardAnew, IsRepeatedFor, AreOctetsHeard, destination_field, kiss_data}
+use Rattle.channel_bench.proofs.Common.{may_make, shown_to_hosts, showing, showing_to, source_field, waits_for_repeater}
+use Rattle.channel_bench.proofs.Common.{with_shown, message_of_told, event_at, event_of, queueing_frame}
+use Rattle.channel_bench.proofs.Common.{queueing_frames, settled_link, telling_one, with_links, Link, Links}
+use Rattle.channel_bench.proofs.Common.{key_between, link_at, most_links, idle_link, making, no_layer_3, may_register}
+use Rattle.channel_bench.proofs.Common.{registrar, Route, path_along, ticking_at, ticking_links, waits, Act, Turn}
+use Rattle.channel_bench.proofs.Common.{capacity, changing, dropping, entering, in_order, queueing, request}
 use Rattle.link_machine.specs.Event.{Event as LinkEvent}
 use Rattle.link_machine.specs.Event.Event.{Connect as LinkConnect, Send as LinkSend, Disconnect as LinkDisconnect}
 use Rattle.link_machine.specs.Event.Event.{Hear as LinkHear, Tick as LinkTick}
-use Rattle.link_machine.specs.Step.{done_of, step as link_turn}
-use Rattle.station.specs.declared.host_event.PortKind.{PortKind}
-use Rattle.station.specs.declared.host_event.PortKind.TheVariants.{Kiss, Agw}
-use Rattle.station.specs.declared.host_out.Piece.{Piece}
-use Rattle.station.specs.AgwKinds.{register_kind, connect_kind, data_kind, disconnect_kind}
-use Rattle.station.specs.AgwRequests.{IsAnswered, IsCall, IsCallMade, called_route, data_pid, disconnecting, giving}
-use Rattle.station.specs.AgwRequests.{giving_packet, may_call, own_key, packets_of, refused_reply, register_reply}
-use Rattle.station.specs.AgwRequests.{registering, replying, with_registration}
-use Rattle.station.specs.CallFields.{call_in}
-use Rattle.station.specs.Connections.{Connection}
-use Rattle.station.specs.Heard.{AreHeardAt, IsHeard, IsHeardAnew, IsHeardBy, IsHeardMaking, IsReadingHeardAnew}
-use Rattle.station.specs.Heard.{IsRepeatedFor, AreOctetsHeard, destination_field, hearing_at, kiss_data, may_make}
-use Rattle.station.specs.Heard.{shown_to_hosts, showing, showing_to, source_field, waits_for_repeater, with_shown}
+use Rattle.link_machine.specs.Step.{step as link_turn}
+use Rattle.station.specs.Heard.{AreHeardAt, hearing_at}
 use Rattle.station.specs.FrameSpelling.{frame_octets}
-use Rattle.station.specs.HostMessages.{message_of_told, raw_message}
-use Rattle.station.specs.LinkEvents.{event_at, event_of, queueing_frame, queueing_frames, settled_link, telling_one}
-use Rattle.station.specs.LinkEvents.{with_links}
-use Rattle.station.specs.Links.{Link, Links, key_between, link_at, most_links, with_new_link}
-use Rattle.station.specs.NewLinks.{idle_link, making, no_layer_3}
-use Rattle.station.specs.Registrations.{may_register, registrar}
-use Rattle.station.specs.Routes.{Route, path_along}
-use Rattle.station.specs.Ticks.{ticking_at, ticking_links, waits}
-use Rattle.station.specs.Turn.{Act, Turn, capacity, changing, dropping, entering, in_order, queueing, with_piece}
-use Rattle.channel_bench.specs.HostProgram.{request}
+use Rattle.station.specs.HostMessages.{raw_message}
+use Rattle.station.specs.Links.{with_new_link}
+use Rattle.station.specs.Turn.{with_piece}
 
 -- what the single acts keep
 pub record Kept (R : Turn → Turn → Type 0) : Type 0 where

@@ -1,11 +1,11 @@
 -- Octets and noise, one word after another.
-use Rattle.std.proofs.Common.{◌≡◌, ℕ, suc, ◌+◌, ◌-◌, ◌%◌, ◌<◌, ◌≤◌, ℤ, pos, ◌+ℤ◌, List, [], ◌∷◌, ◌++◌, length, map}
-use Rattle.std.proofs.Common.{drop, get_or, refl, ap, sym, ◌∙◌, arith, append_assoc, append-nil}
-use Rattle.std.proofs.lemmas.List.{drop_more, drop_all}
-use Rattle.rand_pcg.specs.Lcg.{Lcg}
+use Rattle.channel_bench.proofs.Common.{◌≡◌, ℕ, suc, ◌+◌, ◌-◌, ◌%◌, ◌<◌, ◌≤◌, ℤ, pos, List, [], ◌∷◌, ◌++◌, length, map}
+use Rattle.channel_bench.proofs.Common.{drop, get_or, refl, ap, sym, ◌∙◌, arith, drop_more, drop_all, Lcg, words}
+use Rattle.channel_bench.proofs.Common.{after_word, with_words}
+use Rattle.std.proofs.Common.{◌+ℤ◌, append_assoc, append-nil}
 use Rattle.rand_pcg.specs.Pcg.{pcg32}
-use Rattle.channel_access.specs.Words.{words, after_word, next_word}
-use Rattle.channel_bench.specs.Sounding.{noise_of, with_words, after_words}
+use Rattle.channel_access.specs.Words.{next_word}
+use Rattle.channel_bench.specs.Sounding.{noise_of, after_words}
 
 abbrev pub octet_of : ℕ → ℕ
 octet_of word = word % 256

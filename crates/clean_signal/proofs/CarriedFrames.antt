@@ -1,22 +1,13 @@
 -- Each frame of carried transmissions is a candidate, exactly at its true end: the slicer whose windows are those of
 -- the transmission hears it.
-use Rattle.std.proofs.Common.{◌≡◌, ℕ, ◌+◌, ◌*◌, ◌/◌, ◌%◌, ℤ, Bool, List, ◌++◌, length, subst, ◌∙◌}
-use Rattle.std.proofs.Common.{arith, append_assoc}
-use Rattle.std.specs.List.{AllByRecursion}
-use Rattle.nrzi_bits.specs.Line.{line, last_tone}
-use Rattle.hdlc_framer.specs.Stuffing.{flag}
-use Rattle.hdlc_framer.specs.Frames.{IsFrame}
-use Rattle.frame_merge.specs.declared.candidate.Candidate.{Candidate}
+use Rattle.clean_signal.proofs.Common.{◌≡◌, ℕ, ◌+◌, ◌*◌, ◌/◌, ◌%◌, ℤ, Bool, List, ◌++◌, length, subst, ◌∙◌, arith}
+use Rattle.clean_signal.proofs.Common.{append_assoc, AllByRecursion, line, flag, IsFrame, Candidate, candidate_at}
+use Rattle.clean_signal.proofs.Common.{Transmission, TrueEnd, IsTransmission, true_ends_from, Carries, CarriesAll}
+use Rattle.nrzi_bits.specs.Line.{last_tone}
 use Rattle.offset_slicers.specs.Windows.{tones_at, bits}
 use Rattle.offset_slicers.proofs.WindowLemmas.{length-bits, bits-aligned}
 use Rattle.slicer_bank.specs.Candidates.{IsCandidate}
-use Rattle.slicer_bank.specs.Heard.{candidate_at}
 use Rattle.slicer_bank.proofs.CandidateLemmas.{candidate_more}
-use Rattle.afsk_modulator.specs.Signal.{Transmission}
-use Rattle.clean_signal.specs.declared.true_end.TrueEnd.{TrueEnd}
-use Rattle.clean_signal.specs.GoodTransmission.{IsTransmission}
-use Rattle.clean_signal.specs.TrueEnds.{true_ends_from}
-use Rattle.clean_signal.specs.Carried.{Carries, CarriesAll}
 use Rattle.clean_signal.proofs.FrameBits.{upto, flag_tail, frame_ends}
 use Rattle.clean_signal.proofs.FoundFrames.{all_found_by}
 

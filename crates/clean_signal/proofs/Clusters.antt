@@ -1,14 +1,12 @@
 -- Merging when candidates lie in clusters: equal octets and ends at most 15 apart, each cluster more than 15 after the
 -- one before. One candidate of each cluster remains.
-use Rattle.std.proofs.Common.{◌≡◌, ℕ, ◌+◌, ◌<◌, ◌≤◌, Bool, true, false, List, [], ◌∷◌, ◌++◌, map, refl, ap, sym, ◌∙◌}
-use Rattle.std.proofs.Common.{arith, inl, inr}
-use Rattle.std.specs.Prelude.{◌⊎◌, nat_le, ◌||◌, ◌&&◌}
-use Rattle.std.specs.List.{AllByRecursion, list_any}
-use Rattle.std.specs.Str.{bytes_eq}
+use Rattle.clean_signal.proofs.Common.{◌≡◌, ℕ, ◌+◌, ◌<◌, ◌≤◌, Bool, true, false, List, [], ◌∷◌, ◌++◌, map, refl, ap}
+use Rattle.clean_signal.proofs.Common.{sym, ◌∙◌, arith, inl, inr, ◌&&◌, AllByRecursion, bytes_eq, bytes_eq-Decides}
+use Rattle.clean_signal.proofs.Common.{Candidate}
+use Rattle.std.specs.Prelude.{◌⊎◌, nat_le, ◌||◌}
+use Rattle.std.specs.List.{list_any}
 use Rattle.std.proofs.lemmas.Bool.{cond-true, cond-false, le-leb, lt-leb}
 use Rattle.std.proofs.lemmas.List.Folds.{list_any-append}
-use Rattle.std.proofs.lemmas.Slice.Eq.{bytes_eq-Decides}
-use Rattle.frame_merge.specs.declared.candidate.Candidate.{Candidate}
 use Rattle.frame_merge.specs.Merged.{repeats, merged_after}
 
 -- the octets of a frame, and the least and the greatest end at which it is heard

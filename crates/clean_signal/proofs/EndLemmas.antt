@@ -1,14 +1,9 @@
 -- The true ends of transmissions: how far apart, with which frames, and those of one transmission more.
-use Rattle.std.proofs.Common.{◌≡◌, ℕ, ◌+◌, ◌-◌, ◌*◌, ◌≤◌, List, [], ◌∷◌, ◌++◌, length}
-use Rattle.std.proofs.Common.{map, ap, sym, ◌∙◌, arith, length-append, append_assoc, append-nil}
-use Rattle.std.specs.List.{AllByRecursion}
-use Rattle.std.proofs.lemmas.List.Concat.{flat_map-cons, flat_map-append}
-use Rattle.hdlc_framer.specs.Body.{flags, body}
-use Rattle.hdlc_framer.specs.Frames.{frame_bits}
-use Rattle.hdlc_framer.specs.Stuffing.{flag}
-use Rattle.afsk_modulator.specs.Signal.{Transmission, samples_of, signal}
-use Rattle.clean_signal.specs.GoodTransmission.{IsTransmission, sample_count, frames_of}
-use Rattle.clean_signal.specs.TrueEnds.{end_of, ends_of, true_ends_from, true_ends}
+use Rattle.clean_signal.proofs.Common.{◌≡◌, ℕ, ◌+◌, ◌-◌, ◌*◌, ◌≤◌, List, [], ◌∷◌, ◌++◌, length, map, ap, sym, ◌∙◌}
+use Rattle.clean_signal.proofs.Common.{arith, length-append, append_assoc, append-nil, AllByRecursion, flat_map-cons}
+use Rattle.clean_signal.proofs.Common.{flat_map-append, flags, body, frame_bits, flag, Transmission, samples_of, signal}
+use Rattle.clean_signal.proofs.Common.{IsTransmission, sample_count, frames_of, true_ends_from, true_ends}
+use Rattle.clean_signal.specs.TrueEnds.{end_of, ends_of}
 use Rattle.clean_signal.proofs.WaveLemmas.{length-samples_of}
 use Rattle.clean_signal.proofs.EndsBySize.{Spaced, spaced_by, octets-true_ends_by}
 use Rattle.clean_signal.proofs.FrameBits.{length-flags}

@@ -1,16 +1,10 @@
 -- The true ends of transmissions, whatever the samples of a bit: how far apart, and with which frames.
-use Rattle.std.proofs.Common.{◌≡◌, ℕ, ◌+◌, ◌*◌, ◌≤◌, List, [], ◌∷◌, ◌++◌, length, map, refl, ap, sym, ◌∙◌, arith}
-use Rattle.std.proofs.Common.{length-append}
-use Rattle.std.specs.List.{AllByRecursion}
-use Rattle.std.proofs.Math.Nat.{mul-add, mul-le-mul_left}
+use Rattle.clean_signal.proofs.Common.{◌≡◌, ℕ, ◌+◌, ◌*◌, ◌≤◌, List, [], ◌∷◌, ◌++◌, length, map, refl, ap, sym, ◌∙◌}
+use Rattle.clean_signal.proofs.Common.{arith, length-append, AllByRecursion, mul-add, flat_map-cons, recursion_from_All}
+use Rattle.clean_signal.proofs.Common.{IsFrame, frame_bits, flag, Transmission, TrueEnd, IsTransmission, body_of}
+use Rattle.clean_signal.proofs.Common.{frames_of}
+use Rattle.std.proofs.Math.Nat.{mul-le-mul_left}
 use Rattle.std.proofs.lemmas.List.{map-append}
-use Rattle.std.proofs.lemmas.List.Concat.{flat_map-cons}
-use Rattle.std.proofs.lemmas.List.Elements.{recursion_from_All}
-use Rattle.hdlc_framer.specs.Frames.{IsFrame, frame_bits}
-use Rattle.hdlc_framer.specs.Stuffing.{flag}
-use Rattle.afsk_modulator.specs.Signal.{Transmission}
-use Rattle.clean_signal.specs.declared.true_end.TrueEnd.{TrueEnd}
-use Rattle.clean_signal.specs.GoodTransmission.{IsTransmission, body_of, frames_of}
 use Rattle.clean_signal.proofs.FrameBits.{closed, length-body, length-frame_bits}
 
 -- how many samples a transmission takes: its silence, and so many a bit

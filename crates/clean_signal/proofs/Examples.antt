@@ -1,18 +1,9 @@
 -- Worked examples, computed on the definitions.
-use Rattle.std.proofs.Common.{◌≡◌, ℕ, pos, List, [], ◌∷◌, true, false, length, refl}
+use Rattle.clean_signal.proofs.Common.{◌≡◌, ℕ, pos, List, [], ◌∷◌, true, false, length, refl, body, with_fcs}
+use Rattle.clean_signal.proofs.Common.{frame_bits, Candidate, pure_window, distance, transmission, Transmission, signal}
+use Rattle.clean_signal.proofs.Common.{TrueEnd, body_of, true_ends, is_sent}
 use Rattle.hdlc_framer.specs.BitOrder.{octet_bits}
-use Rattle.hdlc_framer.specs.Body.{body}
 use Rattle.hdlc_framer.specs.CheckSequence.{fcs_of}
-use Rattle.hdlc_framer.specs.Frames.{with_fcs, frame_bits}
-use Rattle.frame_merge.specs.declared.candidate.Candidate.{Candidate}
-use Rattle.tone_table.specs.Wave.{pure_window}
-use Rattle.offset_slicers.specs.Near.{distance}
-use Rattle.afsk_modulator.specs.Transmission.{transmission}
-use Rattle.afsk_modulator.specs.Signal.{Transmission, signal}
-use Rattle.clean_signal.specs.declared.true_end.TrueEnd.{TrueEnd}
-use Rattle.clean_signal.specs.GoodTransmission.{body_of}
-use Rattle.clean_signal.specs.TrueEnds.{true_ends}
-use Rattle.clean_signal.specs.Stray.{is_sent}
 
 -- SABM with P from N7LEM to NJ7P
 abbrev shortest : List ℕ

@@ -1,20 +1,9 @@
 -- Each frame of carried transmissions is found, exactly at its true end, if one frame is: for any count of samples a
 -- bit, and whatever it means that samples carry tones and that a frame is found.
-use Rattle.std.proofs.Common.{◌≡◌, ℕ, zero, suc, ◌+◌, ◌*◌, ◌≤◌, ℤ, Bool, List, [], ◌∷◌, ◌++◌, length, ap, sym, subst}
-use Rattle.std.proofs.Common.{◌∙◌, arith, length-append, append_assoc}
-use Rattle.std.specs.List.{AllByRecursion}
-use Rattle.std.proofs.Math.Nat.{mul-add}
-use Rattle.std.proofs.lemmas.List.Elements.{recursion_from_All}
-use Rattle.tone_table.specs.declared.tone.Tone.{Tone}
-use Rattle.tone_table.specs.declared.tone.Tone.TheVariants.{Mark}
-use Rattle.nrzi_bits.specs.Line.{line}
-use Rattle.nrzi_bits.proofs.LineLemmas.{length-line_from}
-use Rattle.hdlc_framer.specs.Stuffing.{flag}
-use Rattle.hdlc_framer.specs.Body.{flags, body}
-use Rattle.hdlc_framer.specs.Frames.{IsFrame, frame_bits}
-use Rattle.afsk_modulator.specs.Signal.{Transmission}
-use Rattle.clean_signal.specs.declared.true_end.TrueEnd.{TrueEnd}
-use Rattle.clean_signal.specs.GoodTransmission.{IsTransmission, body_of}
+use Rattle.clean_signal.proofs.Common.{◌≡◌, ℕ, zero, suc, ◌+◌, ◌*◌, ◌≤◌, ℤ, Bool, List, [], ◌∷◌, ◌++◌, length, ap, sym}
+use Rattle.clean_signal.proofs.Common.{subst, ◌∙◌, arith, length-append, append_assoc, AllByRecursion, mul-add}
+use Rattle.clean_signal.proofs.Common.{recursion_from_All, Tone, Mark, line, length-line_from, flag, flags, body}
+use Rattle.clean_signal.proofs.Common.{IsFrame, frame_bits, Transmission, TrueEnd, IsTransmission, body_of}
 use Rattle.clean_signal.proofs.FrameBits.{upto, closed, length-flags, body_shape}
 use Rattle.clean_signal.proofs.EndsBySize.{count_by, end_by, ends_by, true_ends_by}
 

@@ -1,16 +1,16 @@
 -- The bits of a transmission: its flags, and its frames, each with a flag.
-use Rattle.std.proofs.Common.{◌≡◌, ℕ, zero, suc, ◌+◌, ◌*◌, ◌<◌, ◌≤◌, Bool, true, false, List, [], ◌∷◌, ◌++◌, length}
-use Rattle.std.proofs.Common.{take, refl, ap, sym, subst, ◌∙◌, arith, length-append, append_assoc, add-one}
+use Rattle.clean_signal.proofs.Common.{◌≡◌, ℕ, zero, suc, ◌+◌, ◌*◌, ◌<◌, ◌≤◌, Bool, true, false, List, [], ◌∷◌, ◌++◌}
+use Rattle.clean_signal.proofs.Common.{length, take, refl, ap, sym, subst, ◌∙◌, arith, length-append, append_assoc}
+use Rattle.clean_signal.proofs.Common.{Tone, Mark, line, flags, body, IsFrame, with_fcs, frame_bits, flag}
+use Rattle.std.proofs.Common.{add-one}
 use Rattle.std.proofs.lemmas.List.{take_at}
-use Rattle.tone_table.specs.declared.tone.Tone.{Tone}
-use Rattle.tone_table.specs.declared.tone.Tone.TheVariants.{Mark}
-use Rattle.nrzi_bits.specs.Line.{sent_tone, line, same_tone, bits_from}
+use Rattle.nrzi_bits.specs.Line.{sent_tone, same_tone, bits_from}
 use Rattle.nrzi_bits.proofs.LineLemmas.{bits_from-line_from}
 use Rattle.hdlc_framer.specs.BitOrder.{sent_bits}
-use Rattle.hdlc_framer.specs.Body.{flags, joined, body}
+use Rattle.hdlc_framer.specs.Body.{joined}
 use Rattle.hdlc_framer.specs.Counted.{stuffed_from}
-use Rattle.hdlc_framer.specs.Frames.{IsFrame, with_fcs, frame_bits, EndsFrame}
-use Rattle.hdlc_framer.specs.Stuffing.{flag, stuffed}
+use Rattle.hdlc_framer.specs.Frames.{EndsFrame}
+use Rattle.hdlc_framer.specs.Stuffing.{stuffed}
 use Rattle.hdlc_framer.proofs.BitLemmas.{length-sent_bits}
 use Rattle.hdlc_framer.proofs.FrameEnds.{length-with_fcs}
 use Rattle.hdlc_framer.proofs.StuffLemmas.{flags-more}

@@ -1,25 +1,17 @@
 -- The law of signals near a clean one: from the candidates of the samples to clusters of them, and from there to the
 -- frames.
-use Rattle.std.proofs.Common.{◌≡◌, ℕ, zero, suc, ◌+◌, ◌-◌, ◌<◌, ℤ, true, List, [], ◌∷◌, get_or, map, refl, ap, sym}
-use Rattle.std.proofs.Common.{subst, ◌∙◌, arith, inl, inr}
-use Rattle.std.specs.Prelude.{nat_lt, ◌&&◌}
-use Rattle.std.specs.List.{All, AllPairs, AllByRecursion, Contains}
-use Rattle.std.specs.Str.{bytes_eq}
+use Rattle.clean_signal.proofs.Common.{◌≡◌, ℕ, zero, suc, ◌+◌, ◌-◌, ◌<◌, ℤ, true, List, [], ◌∷◌, get_or, map, refl, ap}
+use Rattle.clean_signal.proofs.Common.{sym, subst, ◌∙◌, arith, inl, inr, ◌&&◌, All, AllByRecursion, bytes_eq}
+use Rattle.clean_signal.proofs.Common.{recursion_from_All, bytes_eq-Decides, Candidate, candidate_at, IsLevel}
+use Rattle.clean_signal.proofs.Common.{Transmission, signal, signal_at, TrueEnd, IsTransmission, frames_of, true_ends}
+use Rattle.clean_signal.proofs.Common.{is_sent, CarriesAll, Received, IsReceived, IsNearAll, transmissions_of}
+use Rattle.std.specs.Prelude.{nat_lt}
+use Rattle.std.specs.List.{AllPairs, Contains}
 use Rattle.std.proofs.lemmas.Bool.{or_cases, and_parts, ltb-true}
-use Rattle.std.proofs.lemmas.List.Elements.{recursion_from_All, All-head, All-tail}
-use Rattle.std.proofs.lemmas.Slice.Eq.{bytes_eq-Decides}
-use Rattle.frame_merge.specs.declared.candidate.Candidate.{Candidate}
+use Rattle.std.proofs.lemmas.List.Elements.{All-head, All-tail}
 use Rattle.frame_merge.specs.Order.{standing}
 use Rattle.slicer_bank.specs.Candidates.{AreCandidates}
-use Rattle.slicer_bank.specs.Heard.{candidate_at}
-use Rattle.afsk_modulator.specs.Modulation.{IsLevel}
-use Rattle.afsk_modulator.specs.Signal.{Transmission, signal, signal_at}
-use Rattle.clean_signal.specs.declared.true_end.TrueEnd.{TrueEnd}
-use Rattle.clean_signal.specs.GoodTransmission.{IsTransmission, frames_of}
-use Rattle.clean_signal.specs.TrueEnds.{true_ends}
-use Rattle.clean_signal.specs.Stray.{is_of, is_sent, NoStray}
-use Rattle.clean_signal.specs.Carried.{CarriesAll}
-use Rattle.clean_signal.specs.NearSignal.{Received, IsReceived, IsNearAll, transmissions_of}
+use Rattle.clean_signal.specs.Stray.{is_of, NoStray}
 use Rattle.clean_signal.specs.MergedFrames.{MergesTo}
 use Rattle.clean_signal.proofs.Clusters.{Cluster, IsIn, AreApart, IsInOne, HasOne, Rising, Known, merge_keeps}
 use Rattle.clean_signal.proofs.CarriedFrames.{IsFound, all_found}

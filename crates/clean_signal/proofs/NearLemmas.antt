@@ -1,23 +1,17 @@
 -- Samples near a signal carry its transmissions, and a signal at a level is near its own.
-use Rattle.std.proofs.Common.{◌≡◌, ℕ, ◌*◌, ◌/◌, ◌<◌, ◌≤◌, ℤ, pos, List, [], ◌∷◌, ◌++◌, length, map, get_or, replicate}
-use Rattle.std.proofs.Common.{refl, ap, sym, subst, ◌∙◌, arith, append_assoc}
-use Rattle.std.specs.List.{All, AllByRecursion}
-use Rattle.std.proofs.lemmas.List.Elements.{recursion_from_All}
-use Rattle.std.proofs.lemmas.List.{length-map, length-replicate, get_or-map}
-use Rattle.std.proofs.lemmas.List.Concat.{flat_map-cons}
-use Rattle.tone_table.specs.declared.tone.Tone.{Tone}
-use Rattle.tone_table.specs.Wave.{wave_from, wave}
-use Rattle.nrzi_bits.specs.Line.{line}
-use Rattle.offset_slicers.specs.Near.{distance, IsNear}
+use Rattle.clean_signal.proofs.Common.{◌≡◌, ℕ, ◌*◌, ◌/◌, ◌<◌, ◌≤◌, ℤ, pos, List, [], ◌∷◌, ◌++◌, length, map, get_or}
+use Rattle.clean_signal.proofs.Common.{replicate, refl, ap, sym, subst, ◌∙◌, arith, append_assoc, All, AllByRecursion}
+use Rattle.clean_signal.proofs.Common.{recursion_from_All, length-replicate, flat_map-cons, Tone, wave_from, wave, line}
+use Rattle.clean_signal.proofs.Common.{distance, IsLevel, transmission, Transmission, samples_of, signal, signal_at}
+use Rattle.clean_signal.proofs.Common.{IsTransmission, body_of, Carries, CarriesAll, Received, IsReceived, IsNearAll}
+use Rattle.clean_signal.proofs.Common.{transmissions_of}
+use Rattle.std.proofs.lemmas.List.{length-map, get_or-map}
+use Rattle.offset_slicers.specs.Near.{IsNear}
 use Rattle.offset_slicers.proofs.NearWaves.{tones_at-near}
 use Rattle.afsk_modulator.specs.Level.{sample_at, at_level}
-use Rattle.afsk_modulator.specs.Modulation.{IsBitPhase, IsLevel}
-use Rattle.afsk_modulator.specs.Transmission.{transmission}
-use Rattle.afsk_modulator.specs.Signal.{Transmission, samples_of, signal, signal_at}
+use Rattle.afsk_modulator.specs.Modulation.{IsBitPhase}
 use Rattle.afsk_modulator.proofs.LevelLemmas.{sample_at-close, at_level-append, at_level-full}
-use Rattle.clean_signal.specs.GoodTransmission.{IsTransmission, body_of}
-use Rattle.clean_signal.specs.Carried.{Carries, CarriesAll}
-use Rattle.clean_signal.specs.NearSignal.{Received, IsReceived, IsNearAll, transmissions_of, sent_at}
+use Rattle.clean_signal.specs.NearSignal.{sent_at}
 use Rattle.clean_signal.proofs.WaveLemmas.{length-wave_from}
 
 -- ---- what they carry

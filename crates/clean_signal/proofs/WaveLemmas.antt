@@ -1,21 +1,15 @@
 -- The samples of a wave and of a signal: how many, and each by its place.
-use Rattle.std.proofs.Common.{◌≡◌, ℕ, zero, suc, ◌+◌, ◌-◌, ◌*◌, ◌%◌, ◌<◌, ℤ, pos, List, [], ◌∷◌, ◌++◌, length, get_or}
-use Rattle.std.proofs.Common.{take, replicate, refl, ap, ◌∙◌, arith, length-append, append-nil}
-use Rattle.std.proofs.lemmas.List.{get_or_append_left, get_or-append_right, length-replicate}
-use Rattle.std.proofs.lemmas.List.Concat.{flat_map-append}
+use Rattle.clean_signal.proofs.Common.{◌≡◌, ℕ, zero, suc, ◌+◌, ◌-◌, ◌*◌, ◌%◌, ◌<◌, ℤ, pos, List, [], ◌∷◌, ◌++◌, length}
+use Rattle.clean_signal.proofs.Common.{get_or, take, replicate, refl, ap, ◌∙◌, arith, length-append, append-nil}
+use Rattle.clean_signal.proofs.Common.{length-replicate, flat_map-append, Tone, Mark, pure_window, wave_from, wave}
+use Rattle.clean_signal.proofs.Common.{line, length-line_from, transmission, Transmission, samples_of, signal, body_of}
+use Rattle.clean_signal.proofs.Common.{sample_count}
+use Rattle.std.proofs.lemmas.List.{get_or_append_left, get_or-append_right}
 use Rattle.std.proofs.lemmas.List.FromFn.{get_or-map-range_with_len}
 use Rattle.std.proofs.lemmas.List.Sums.{sum_by-cons}
-use Rattle.tone_table.specs.declared.tone.Tone.{Tone}
-use Rattle.tone_table.specs.declared.tone.Tone.TheVariants.{Mark}
 use Rattle.tone_table.specs.Sine.{cycle_sample, wave_sample}
 use Rattle.tone_table.specs.Tones.{phase_step, next_phase}
-use Rattle.tone_table.specs.Wave.{pure_window, wave_from, wave}
-use Rattle.nrzi_bits.specs.Line.{line}
-use Rattle.nrzi_bits.proofs.LineLemmas.{length-line_from}
 use Rattle.offset_slicers.proofs.WaveLemmas.{length-pure_window}
-use Rattle.afsk_modulator.specs.Transmission.{transmission}
-use Rattle.afsk_modulator.specs.Signal.{Transmission, samples_of, signal}
-use Rattle.clean_signal.specs.GoodTransmission.{body_of, sample_count}
 use Rattle.clean_signal.specs.WavePlace.{phase_at}
 
 pub length-wave_from : (phase : ℕ) (tones : List Tone) → length (wave_from phase tones) ≡ 8 * length tones

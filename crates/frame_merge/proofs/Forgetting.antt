@@ -1,20 +1,14 @@
 -- What a merger may forget: candidates that end more than 15 samples before the position below which all was given.
-use Rattle.std.proofs.Common.{◌≡◌, ℕ, ◌+◌, ◌-◌, ◌<◌, ◌≤◌, List, [], ◌∷◌, ◌++◌, true, false, ◌||◌, ◌&&◌, cond, refl, ap}
-use Rattle.std.proofs.Common.{sym, ◌∙◌, arith, inl, inr, get_or, append_assoc}
-use Rattle.std.specs.Prelude.{nat_lt, nat_le, if◌then◌else◌}
-use Rattle.std.specs.List.{All, list_any}
-use Rattle.std.specs.List.Sorted.{IsNonDecreasingBy}
-use Rattle.std.specs.Str.{bytes_eq}
-use Rattle.std.proofs.Math.Bool.{and-false}
-use Rattle.std.proofs.lemmas.Bool.{cases_lt, lt-ltb, le-leb, lt-leb, ltb-true}
-use Rattle.std.proofs.lemmas.List.{append-nil}
-use Rattle.std.proofs.lemmas.List.Elements.{All-cons, All-head, All-tail, All-weaker, All-filter, filter-append}
-use Rattle.std.proofs.lemmas.List.Elements.{filter_passes}
+use Rattle.frame_merge.proofs.Common.{◌≡◌, ℕ, ◌+◌, ◌-◌, ◌<◌, ◌≤◌, List, [], ◌∷◌, ◌++◌, true, false, ◌||◌, ◌&&◌, cond}
+use Rattle.frame_merge.proofs.Common.{refl, ap, sym, ◌∙◌, arith, inl, inr, get_or, nat_lt, nat_le, if◌then◌else◌, All}
+use Rattle.frame_merge.proofs.Common.{list_any, IsNonDecreasingBy, bytes_eq, and-false, cases_lt, lt-ltb, le-leb}
+use Rattle.frame_merge.proofs.Common.{lt-leb, append-nil, All-cons, All-head, All-tail, All-weaker, filter-append}
+use Rattle.frame_merge.proofs.Common.{filter_passes, list_any-append, list_any_none, Candidate, standing, place}
+use Rattle.frame_merge.proofs.Common.{IsInOrder, repeats, merged, merged_after, below, not_below, between}
+use Rattle.std.proofs.Common.{append_assoc}
+use Rattle.std.proofs.lemmas.Bool.{ltb-true}
+use Rattle.std.proofs.lemmas.List.Elements.{All-filter}
 use Rattle.std.proofs.lemmas.List.Kept.{IsNonDecreasingBy-filter}
-use Rattle.std.proofs.lemmas.List.Folds.{list_any-append, list_any_none}
-use Rattle.frame_merge.specs.declared.candidate.Candidate.{Candidate}
-use Rattle.frame_merge.specs.Order.{standing, place, IsInOrder}
-use Rattle.frame_merge.specs.Merged.{repeats, merged, merged_after, below, not_below, between}
 use Rattle.frame_merge.proofs.Ordering.{place_here, place_behind, rising_tail, rising_head, rising_ends}
 use Rattle.frame_merge.proofs.Merging.{merged_after-append, All-merged, below_none}
 

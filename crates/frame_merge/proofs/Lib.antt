@@ -1,3 +1,4 @@
+pub mod Common
 pub mod Ordering
 pub mod Merging
 pub mod Searching

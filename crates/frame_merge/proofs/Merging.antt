@@ -1,16 +1,10 @@
 -- What merging leaves out, along a list in order, and which part of it ends below a position.
-use Rattle.std.proofs.Common.{◌≡◌, ℕ, ◌*◌, ◌<◌, ◌≤◌, List, [], ◌∷◌, ◌++◌, true, false, cond, refl, ap, sym, ◌∙◌, arith}
-use Rattle.std.proofs.Common.{inl, inr, ◌&&◌}
-use Rattle.std.specs.Prelude.{nat_lt, nat_le, if◌then◌else◌}
-use Rattle.std.specs.List.{All, list_any}
-use Rattle.std.specs.List.Sorted.{IsNonDecreasingBy}
-use Rattle.std.proofs.Math.Seq.{append_snoc}
-use Rattle.std.proofs.lemmas.Bool.{cases_lt, lt-ltb, le-ltb, le-leb, lt-leb}
-use Rattle.std.proofs.lemmas.List.{append-nil}
-use Rattle.std.proofs.lemmas.List.Elements.{All-cons, All-head, All-tail, All-nil, All-weaker}
-use Rattle.frame_merge.specs.declared.candidate.Candidate.{Candidate}
-use Rattle.frame_merge.specs.Order.{standing, place}
-use Rattle.frame_merge.specs.Merged.{repeats, merged_after, below, between}
+use Rattle.frame_merge.proofs.Common.{◌≡◌, ℕ, ◌<◌, ◌≤◌, List, [], ◌∷◌, ◌++◌, true, false, cond, refl, ap, sym, ◌∙◌}
+use Rattle.frame_merge.proofs.Common.{arith, inl, inr, ◌&&◌, nat_lt, nat_le, if◌then◌else◌, All, list_any}
+use Rattle.frame_merge.proofs.Common.{IsNonDecreasingBy, append_snoc, cases_lt, lt-ltb, le-ltb, le-leb, lt-leb}
+use Rattle.frame_merge.proofs.Common.{append-nil, All-cons, All-head, All-tail, All-nil, All-weaker, Candidate}
+use Rattle.frame_merge.proofs.Common.{standing, place, repeats, merged_after, below, between}
+use Rattle.std.proofs.Common.{◌*◌}
 use Rattle.frame_merge.proofs.Ordering.{place_here, place_behind, rising_tail, rising_head, rising_cons}
 
 -- merging goes along a list: what comes later is compared with all that came before

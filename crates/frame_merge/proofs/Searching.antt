@@ -1,15 +1,9 @@
 -- A search from the back of a list in order for an item that is repeated.
-use Rattle.std.proofs.Common.{◌≡◌, ◌+◌, ◌-◌, ◌<◌, List, [], ◌∷◌, ◌++◌, false, ◌||◌, ◌&&◌, length, get_or, ap, ◌∙◌}
-use Rattle.std.proofs.Common.{arith, refl}
-use Rattle.std.specs.List.{list_any}
-use Rattle.std.specs.List.Sorted.{IsNonDecreasingBy}
-use Rattle.std.specs.Str.{bytes_eq}
-use Rattle.std.proofs.Math.Bool.{or-false, and-false}
-use Rattle.std.proofs.lemmas.Bool.{lt-leb}
-use Rattle.std.proofs.lemmas.List.{get_or_push, get_or_append_left}
-use Rattle.std.proofs.lemmas.List.Folds.{list_any-append, list_any_none}
-use Rattle.frame_merge.specs.declared.candidate.Candidate.{Candidate}
-use Rattle.frame_merge.specs.Merged.{repeats}
+use Rattle.frame_merge.proofs.Common.{◌≡◌, ◌+◌, ◌-◌, ◌<◌, List, [], ◌∷◌, ◌++◌, false, ◌||◌, ◌&&◌, length, get_or, ap}
+use Rattle.frame_merge.proofs.Common.{◌∙◌, arith, refl, list_any, IsNonDecreasingBy, bytes_eq, and-false, lt-leb}
+use Rattle.frame_merge.proofs.Common.{get_or_append_left, list_any-append, list_any_none, Candidate, repeats}
+use Rattle.std.proofs.Math.Bool.{or-false}
+use Rattle.std.proofs.lemmas.List.{get_or_push}
 
 -- what the search has passed holds no repeated item, and what is left is in order
 pub record Searched (item : Candidate) (earlier rest : List Candidate) : Type 0 where

@@ -1,15 +1,13 @@
 -- What is taken from a merger: the merged candidates up to the least mark.
-use Rattle.std.proofs.Common.{◌≡◌, ℕ, ◌+◌, ◌-◌, ◌^◌, ◌<◌, ◌≤◌, List, [], ◌∷◌, ◌++◌, true, false, ◌&&◌, not, cond, ap}
-use Rattle.std.proofs.Common.{sym, ◌∙◌, arith, length, get_or, take, min, refl, zero, suc, replicate}
-use Rattle.std.specs.Prelude.{fold, nat_lt, nat_le, if◌then◌else◌}
-use Rattle.std.specs.List.{All, list_any}
-use Rattle.std.proofs.lemmas.Bool.{lt-ltb, leb-true}
-use Rattle.std.proofs.lemmas.List.{take_more, append-nil}
-use Rattle.std.proofs.lemmas.List.Elements.{All-head, All-tail, All-weaker, filter-append, filter_passes}
-use Rattle.frame_merge.specs.declared.candidate.Candidate.{Candidate}
-use Rattle.frame_merge.specs.Order.{in_order}
-use Rattle.frame_merge.specs.Merged.{repeats, merged, merged_after, below, not_below, between, is_ready_after}
-use Rattle.frame_merge.specs.Held.{Held, StandsFor, least}
+use Rattle.frame_merge.proofs.Common.{◌≡◌, ℕ, ◌+◌, ◌-◌, ◌^◌, ◌<◌, ◌≤◌, List, [], ◌∷◌, ◌++◌, true, false, ◌&&◌, not}
+use Rattle.frame_merge.proofs.Common.{cond, ap, sym, ◌∙◌, arith, length, get_or, take, refl, zero, suc, fold, nat_lt}
+use Rattle.frame_merge.proofs.Common.{nat_le, if◌then◌else◌, All, list_any, lt-ltb, append-nil, All-head, All-tail}
+use Rattle.frame_merge.proofs.Common.{All-weaker, filter-append, filter_passes, Candidate, in_order, repeats, merged}
+use Rattle.frame_merge.proofs.Common.{merged_after, below, not_below, between, Held, StandsFor, least}
+use Rattle.std.proofs.Common.{min, replicate}
+use Rattle.std.proofs.lemmas.Bool.{leb-true}
+use Rattle.std.proofs.lemmas.List.{take_more}
+use Rattle.frame_merge.specs.Merged.{is_ready_after}
 use Rattle.frame_merge.proofs.Ordering.{rising_ends, All-in_order}
 use Rattle.frame_merge.proofs.Merging.{merged_after-append, merged-rising, below_between, All-merged}
 use Rattle.frame_merge.proofs.Forgetting.{between-kept, not_below-not_below}

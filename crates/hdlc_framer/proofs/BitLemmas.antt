@@ -1,14 +1,12 @@
 -- Octets and numbers read back from their bits.
-use Rattle.std.proofs.Common.{◌≡◌, ℕ, zero, suc, ◌+◌, ◌*◌, ◌/◌, ◌%◌, ◌^◌, ◌<◌, Bool, true, false, eqb, bit_and, bit_or}
-use Rattle.std.proofs.Common.{List, [], ◌∷◌, ◌++◌, length, refl, ap, ◌∙◌, sym, inl, inr, arith, length-append}
-use Rattle.std.proofs.Common.{append_assoc, append-nil, add-one}
-use Rattle.std.proofs.Math.Nat.{pow-suc}
-use Rattle.std.specs.List.{All}
-use Rattle.std.proofs.lemmas.Bool.{cases_Bool, eq-eqb, ne_eqb, eqb-true, eqb-false}
-use Rattle.std.proofs.lemmas.List.Concat.{flat_map-append}
-use Rattle.std.proofs.lemmas.Nat.{and_mask, one_shl, or_comm, or_shifted, shr-shr}
+use Rattle.hdlc_framer.proofs.Common.{◌≡◌, ℕ, zero, suc, ◌+◌, ◌*◌, ◌/◌, ◌%◌, ◌^◌, ◌<◌, Bool, true, false, eqb, bit_and}
+use Rattle.hdlc_framer.proofs.Common.{List, [], ◌∷◌, ◌++◌, length, refl, ap, ◌∙◌, sym, inl, inr, arith, length-append}
+use Rattle.hdlc_framer.proofs.Common.{append_assoc, append-nil, add-one, pow-suc, All, cases_Bool, eq-eqb, ne_eqb}
+use Rattle.hdlc_framer.proofs.Common.{eqb-true, eqb-false, flat_map-append, and_mask, low_bits, octet_bits, sent_bits}
+use Rattle.hdlc_framer.proofs.Common.{number_of}
+use Rattle.std.proofs.Common.{bit_or}
+use Rattle.std.proofs.lemmas.Nat.{one_shl, or_comm, or_shifted, shr-shr}
 use Rattle.std.proofs.lemmas.List.Elements.{All-head, All-tail}
-use Rattle.hdlc_framer.specs.BitOrder.{low_bits, octet_bits, sent_bits, number_of}
 
 pub length-low_bits : (count n : ℕ) → length (low_bits count n) ≡ count
 length-low_bits zero n = refl

@@ -1,13 +1,12 @@
 -- A carrier of one flag, told from the last flag.
-use Rattle.std.proofs.Common.{◌≡◌, ℕ, zero, suc, ◌+◌, ◌-◌, ◌<◌, ◌≤◌, ◌⊎◌, Bool, true, false, List, [], ◌∷◌, ◌++◌}
-use Rattle.std.proofs.Common.{length, get_or, take, ap, subst, ◌∙◌, sym, inl, inr, arith, length-append}
+use Rattle.hdlc_framer.proofs.Common.{◌≡◌, ℕ, zero, suc, ◌+◌, ◌-◌, ◌<◌, ◌≤◌, Bool, true, false, List, [], ◌∷◌, ◌++◌}
+use Rattle.hdlc_framer.proofs.Common.{length, get_or, take, ap, subst, ◌∙◌, sym, inl, inr, arith, length-append}
+use Rattle.hdlc_framer.proofs.Common.{cases_lt, cases_eq, cases_Bool, true≢false, take_all, length-take-le, flag}
+use Rattle.hdlc_framer.proofs.Common.{EndsFlag, line_after, IsQuiet, IsLost, HoldsCarrier}
+use Rattle.std.proofs.Common.{◌⊎◌}
 use Rattle.std.proofs.Math.Seq.{take-suc}
-use Rattle.std.proofs.lemmas.Bool.{cases_lt, cases_eq, cases_Bool, true≢false}
-use Rattle.std.proofs.lemmas.List.{take_all, take-take, length-take-le}
-use Rattle.hdlc_framer.specs.Stuffing.{flag}
-use Rattle.hdlc_framer.specs.Frames.{EndsFlag}
-use Rattle.hdlc_framer.specs.Held.{line_after}
-use Rattle.hdlc_framer.specs.Carrier.{IsQuiet, IsLost, HoldsCarrier, IsBusy}
+use Rattle.std.proofs.lemmas.List.{take-take}
+use Rattle.hdlc_framer.specs.Carrier.{IsBusy}
 use Rattle.hdlc_framer.proofs.FrameEnds.{ends_flag, ends_on_zero, no_flag_on_one}
 
 -- a flag ends with a bit, or none does

@@ -1,19 +1,16 @@
 -- One bit more of a carrier: which flags are in a row, and whether it is held.
-use Rattle.std.proofs.Common.{◌≡◌, ◌↔◌, ℕ, zero, suc, ◌+◌, ◌-◌, ◌<◌, ◌≤◌, min, Bool, true, false, ◌||◌, cond, eqb, List}
-use Rattle.std.proofs.Common.{[], ◌∷◌, ◌++◌, length, take, ap, subst, ◌∙◌, sym, inl, inr, arith, append_assoc}
-use Rattle.std.proofs.Common.{length-append, length-take-le, take_all, take-take}
+use Rattle.hdlc_framer.proofs.Common.{◌≡◌, ◌↔◌, ℕ, zero, suc, ◌+◌, ◌-◌, ◌<◌, ◌≤◌, min, Bool, true, false, cond, eqb}
+use Rattle.hdlc_framer.proofs.Common.{List, [], ◌∷◌, ◌++◌, length, take, ap, subst, ◌∙◌, sym, inl, inr, arith}
+use Rattle.hdlc_framer.proofs.Common.{append_assoc, length-append, cases_lt, cases_eq, eq-eqb, ne_eqb, false≢true}
+use Rattle.hdlc_framer.proofs.Common.{length_push, Event, Flag, Abort, Frame, flag, EndsFlag, EndsAbort, EventAt}
+use Rattle.hdlc_framer.proofs.Common.{IsQuiet, IsLost, HoldsCarrier, HeldCarrier, CarrierStandsFor, next_carrier}
+use Rattle.std.proofs.Common.{◌||◌, length-take-le, take_all, take-take}
 use Rattle.std.specs.Prelude.{◌⊎◌}
 use Rattle.std.proofs.Math.Seq.{take-length, take-append-add}
-use Rattle.std.proofs.lemmas.Bool.{cases_lt, cases_eq, eq-eqb, ne_eqb, false≢true}
-use Rattle.std.proofs.lemmas.List.{length_push, take-append-le}
-use Rattle.hdlc_framer.specs.declared.event.Event.{Event}
-use Rattle.hdlc_framer.specs.declared.event.Event.TheVariants.{None as NoEvent, Flag, Abort, Frame}
-use Rattle.hdlc_framer.specs.Stuffing.{flag}
-use Rattle.hdlc_framer.specs.Frames.{EndsFlag, EndsAbort}
-use Rattle.hdlc_framer.specs.Events.{EventAt}
-use Rattle.hdlc_framer.specs.Carrier.{EndsFlags, IsQuiet, IsLost, HoldsCarrier}
-use Rattle.hdlc_framer.specs.HeldCarrier.{HeldCarrier, IsRow, CarrierStandsFor, new_carrier, bit_later, row_with}
-use Rattle.hdlc_framer.specs.HeldCarrier.{flag_later, next_carrier}
+use Rattle.std.proofs.lemmas.List.{take-append-le}
+use Rattle.hdlc_framer.specs.declared.event.Event.TheVariants.{None as NoEvent}
+use Rattle.hdlc_framer.specs.Carrier.{EndsFlags}
+use Rattle.hdlc_framer.specs.HeldCarrier.{IsRow, new_carrier, bit_later, row_with, flag_later}
 use Rattle.hdlc_framer.proofs.FrameEnds.{no_flag_on_one, flag_no_abort, frame_flag}
 
 -- ---- flags lie 7 bits apart or more

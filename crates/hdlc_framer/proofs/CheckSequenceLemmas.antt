@@ -1,19 +1,17 @@
 -- The frame check sequence as a register of 16 bits that takes one bit, or one octet, at a time.
-use Rattle.std.proofs.Common.{◌≡◌, ◌↔◌, ℕ, zero, suc, ◌+◌, ◌-◌, ◌*◌, ◌/◌, ◌%◌, ◌^◌, ◌<◌, ◌≤◌, Bool, true, false, not}
-use Rattle.std.proofs.Common.{cond, eqb, bit_xor, List, [], ◌∷◌, ◌++◌, map, length, take, drop, replicate, refl, ap}
-use Rattle.std.proofs.Common.{subst, ◌∙◌, sym, inl, inr, arith, length-append}
-use Rattle.std.specs.List.{fold}
+use Rattle.hdlc_framer.proofs.Common.{◌≡◌, ◌↔◌, ℕ, zero, suc, ◌+◌, ◌-◌, ◌*◌, ◌/◌, ◌%◌, ◌^◌, ◌<◌, ◌≤◌, Bool, true, false}
+use Rattle.hdlc_framer.proofs.Common.{not, cond, eqb, bit_xor, List, [], ◌∷◌, ◌++◌, length, take, drop, replicate, refl}
+use Rattle.hdlc_framer.proofs.Common.{ap, subst, ◌∙◌, sym, inl, inr, arith, length-append, fold, pow-suc, cases_Bool}
+use Rattle.hdlc_framer.proofs.Common.{eq-eqb, ne_eqb, eqb-true, eqb-false, fold-append, low_bits, octet_bits, sent_bits}
+use Rattle.hdlc_framer.proofs.Common.{number_of, fcs_of, shifted, step_of, after_octet}
+use Rattle.std.proofs.Common.{map}
 use Rattle.std.specs.Int.Bits.{xor_zero_l, xor_zero_r}
-use Rattle.std.proofs.Math.Nat.{pow-suc}
-use Rattle.std.proofs.lemmas.Bool.{cases_Bool, eq-eqb, ne_eqb, eqb-true, eqb-false}
 use Rattle.std.proofs.lemmas.List.{length-map, length-take, length-drop}
-use Rattle.std.proofs.lemmas.List.Sums.{fold-append}
 use Rattle.std.proofs.lemmas.Nat.{xor_block, xor_comm, xor_mod, xor_shr}
 use lib.Bits.{xor_assoc}
-use Rattle.hdlc_framer.specs.BitOrder.{low_bits, octet_bits, sent_bits, number_of}
-use Rattle.hdlc_framer.specs.CheckSequence.{plus, add_front, generator_rest, divide, remainder, invert_front, fcs_of}
+use Rattle.hdlc_framer.specs.CheckSequence.{plus, add_front, generator_rest, divide, remainder, invert_front}
 use Rattle.hdlc_framer.specs.Division.{times_generator, IsRemainder}
-use Rattle.hdlc_framer.specs.Register.{generator_number, shifted, step_of, bit_number, after_bit, after_octet}
+use Rattle.hdlc_framer.specs.Register.{generator_number, bit_number, after_bit}
 use Rattle.hdlc_framer.proofs.BitLemmas.{number_of-lt}
 
 length-add_front : (q p : List Bool) → length (add_front q p) ≡ length p

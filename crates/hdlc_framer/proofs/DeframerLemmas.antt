@@ -1,16 +1,11 @@
 -- One bit of a deframer, from what it holds.
-use Rattle.std.proofs.Common.{◌≡◌, ℕ, Bool, true, false, List, [], ◌∷◌, ◌++◌, refl, ap, subst, ◌∙◌, sym}
+use Rattle.hdlc_framer.proofs.Common.{◌≡◌, ℕ, Bool, true, false, List, [], ◌∷◌, ◌++◌, refl, ap, subst, ◌∙◌, sym}
+use Rattle.hdlc_framer.proofs.Common.{false≢true, Event, Flag, Abort, Frame, EndsFrame, EventAt, Line, Held, StandsFor}
+use Rattle.hdlc_framer.proofs.Common.{HoldsFrame, next_line, open_line, line_after, line_of, content_after_zero}
+use Rattle.hdlc_framer.proofs.Common.{ClosesFrame, EndsOnZero, LineEvent, HeldCarrier, next_carrier}
 use denote.Enum.Bare.{sameb}
-use Rattle.std.proofs.lemmas.Bool.{false≢true}
 use Rattle.hdlc_framer.specs.contracts.event.Event.{the_type}
-use Rattle.hdlc_framer.specs.declared.event.Event.{Event}
-use Rattle.hdlc_framer.specs.declared.event.Event.TheVariants.{None as NoEvent, Flag, Abort, Frame}
-use Rattle.hdlc_framer.specs.Frames.{EndsFrame}
-use Rattle.hdlc_framer.specs.Events.{EventAt}
-use Rattle.hdlc_framer.specs.Held.{Line, Held, StandsFor, HoldsFrame, next_line, open_line, line_after, line_of}
-use Rattle.hdlc_framer.specs.Held.{content_after_zero}
-use Rattle.hdlc_framer.specs.LineEvents.{ClosesFrame, EndsOnZero, LineEvent}
-use Rattle.hdlc_framer.specs.HeldCarrier.{HeldCarrier, next_carrier}
+use Rattle.hdlc_framer.specs.declared.event.Event.TheVariants.{None as NoEvent}
 use Rattle.hdlc_framer.proofs.CarrierLemmas.{carrier_next}
 use Rattle.hdlc_framer.proofs.Lines.{at, line_after-push}
 use Rattle.hdlc_framer.proofs.FrameEnds.{event_told, frame_told}

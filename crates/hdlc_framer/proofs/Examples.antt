@@ -1,10 +1,6 @@
 -- Worked examples, computed on the definitions.
-use Rattle.std.proofs.Common.{◌≡◌, ℕ, true, false, List, [], ◌∷◌, ◌++◌, length, refl}
-use Rattle.hdlc_framer.specs.BitOrder.{octet_bits, sent_bits}
-use Rattle.hdlc_framer.specs.Body.{body}
-use Rattle.hdlc_framer.specs.CheckSequence.{fcs_of}
-use Rattle.hdlc_framer.specs.Frames.{with_fcs, frame_bits, run_of_ones}
-use Rattle.hdlc_framer.specs.Stuffing.{stuffed}
+use Rattle.hdlc_framer.proofs.Common.{◌≡◌, ℕ, true, false, List, [], ◌∷◌, ◌++◌, length, refl, octet_bits, sent_bits}
+use Rattle.hdlc_framer.proofs.Common.{body, fcs_of, with_fcs, frame_bits, run_of_ones, stuffed}
 
 -- the text 123456789
 digits_fcs : fcs_of (49 ∷ 50 ∷ 51 ∷ 52 ∷ 53 ∷ 54 ∷ 55 ∷ 56 ∷ 57 ∷ []) ≡ 0x906E

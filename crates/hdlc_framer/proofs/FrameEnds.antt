@@ -1,21 +1,13 @@
 -- The kept line tells exactly what a bit ends, and at most one frame ends with a bit.
-use Rattle.std.proofs.Common.{◌≡◌, ℕ, ◌+◌, ◌-◌, ◌/◌, ◌%◌, ◌<◌, ◌≤◌, Bool, true, false, Some, List, [], ◌∷◌, ◌++◌}
-use Rattle.std.proofs.Common.{length, take, replicate, refl, ap, subst, ◌∙◌, sym, arith, length-append, append_assoc}
-use Rattle.std.specs.List.{All, fold}
-use Rattle.std.proofs.lemmas.Bool.{true≢false}
+use Rattle.hdlc_framer.proofs.Common.{◌≡◌, ℕ, ◌+◌, ◌-◌, ◌/◌, ◌%◌, ◌<◌, ◌≤◌, Bool, true, false, Some, List, [], ◌∷◌}
+use Rattle.hdlc_framer.proofs.Common.{◌++◌, length, take, replicate, refl, ap, subst, ◌∙◌, sym, arith, length-append}
+use Rattle.hdlc_framer.proofs.Common.{append_assoc, All, fold, true≢false, fold-append, stuffed_from, Event, Flag}
+use Rattle.hdlc_framer.proofs.Common.{Abort, Frame, sent_bits, fcs_of, flag, stuffed, IsFrame, with_fcs, frame_bits}
+use Rattle.hdlc_framer.proofs.Common.{EndsFrame, EndsFlag, EndsAbort, run_of_ones, EventAt, next_line, new_line}
+use Rattle.hdlc_framer.proofs.Common.{line_after, flag_start, ClosesFrame, EndsOnZero, LineEvent}
 use Rattle.std.proofs.lemmas.List.{append_cancel_right, same_from_push, take_at}
 use Rattle.std.proofs.lemmas.List.Elements.{All-append, All-cons, All-nil}
-use Rattle.std.proofs.lemmas.List.Sums.{fold-append}
-use Rattle.hdlc_framer.specs.Counted.{stuffed_from}
-use Rattle.hdlc_framer.specs.declared.event.Event.{Event}
-use Rattle.hdlc_framer.specs.declared.event.Event.TheVariants.{None as NoEvent, Flag, Abort, Frame}
-use Rattle.hdlc_framer.specs.BitOrder.{sent_bits}
-use Rattle.hdlc_framer.specs.CheckSequence.{fcs_of}
-use Rattle.hdlc_framer.specs.Stuffing.{flag, stuffed}
-use Rattle.hdlc_framer.specs.Frames.{IsFrame, with_fcs, frame_bits, EndsFrame, EndsFlag, EndsAbort, run_of_ones}
-use Rattle.hdlc_framer.specs.Events.{EventAt}
-use Rattle.hdlc_framer.specs.Held.{next_line, new_line, line_after, flag_start}
-use Rattle.hdlc_framer.specs.LineEvents.{ClosesFrame, EndsOnZero, LineEvent}
+use Rattle.hdlc_framer.specs.declared.event.Event.TheVariants.{None as NoEvent}
 use Rattle.hdlc_framer.proofs.BitLemmas.{length-sent_bits, same_octets}
 use Rattle.hdlc_framer.proofs.CheckSequenceLemmas.{fcs_of-lt}
 use Rattle.hdlc_framer.proofs.Lines.{flag_front, five_bits, stuffed_five, over_frame, Raw, few, five, six, told_after}

@@ -1,3 +1,4 @@
+pub mod Common
 pub mod StuffingLemmas
 pub mod Lines
 pub mod BitLemmas

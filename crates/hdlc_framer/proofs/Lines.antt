@@ -1,17 +1,15 @@
 -- The line that a deframer keeps tells exactly where flags, aborts and frames end.
-use Rattle.std.proofs.Common.{◌≡◌, ℕ, zero, suc, ◌+◌, ◌-◌, ◌<◌, ◌≤◌, min, Bool, true, false, ◌&&◌, ltb, eqb, Option}
-use Rattle.std.proofs.Common.{Some, None, List, [], ◌∷◌, ◌++◌, length, replicate, refl, ap, subst, ◌∙◌, sym, inl, inr}
-use Rattle.std.proofs.Common.{arith, length-append, append_assoc, append-nil, fold}
+use Rattle.hdlc_framer.proofs.Common.{◌≡◌, ℕ, zero, suc, ◌+◌, ◌-◌, ◌<◌, ◌≤◌, min, Bool, true, false, ltb, eqb, Some}
+use Rattle.hdlc_framer.proofs.Common.{List, [], ◌∷◌, ◌++◌, length, replicate, refl, ap, subst, ◌∙◌, sym, inl, inr}
+use Rattle.hdlc_framer.proofs.Common.{arith, length-append, append_assoc, append-nil, lt-ltb, le-ltb, eq-eqb, ne_eqb}
+use Rattle.hdlc_framer.proofs.Common.{cases_lt, cases_eq, cases_Bool, eqb-true, false≢true, fold-append, length_push}
+use Rattle.hdlc_framer.proofs.Common.{stuffed_from, left_after, flag, stuffed, run_of_ones, Line, next_line, new_line}
+use Rattle.hdlc_framer.proofs.Common.{open_line, line_after, flag_start, content_after_zero}
+use Rattle.std.proofs.Common.{◌&&◌, Option, None, fold}
 use Rattle.std.specs.List.{prefix_len}
-use Rattle.std.proofs.lemmas.Bool.{cond-true, cond-false, lt-ltb, le-ltb, eq-eqb, ne_eqb, cases_lt, cases_eq}
-use Rattle.std.proofs.lemmas.Bool.{cases_Bool, and_parts, eqb-true, false≢true}
-use Rattle.std.proofs.lemmas.List.Sums.{fold-append}
-use Rattle.std.proofs.lemmas.List.{length_push, reverse-append, replicate_more}
-use Rattle.hdlc_framer.specs.Counted.{stuffed_from, left_after}
-use Rattle.hdlc_framer.specs.Stuffing.{flag, stuffed}
-use Rattle.hdlc_framer.specs.Frames.{run_of_ones}
-use Rattle.hdlc_framer.specs.Held.{Line, longer, next_line, new_line, open_line, line_after, flag_start}
-use Rattle.hdlc_framer.specs.Held.{content_after_one, content_after_zero}
+use Rattle.std.proofs.lemmas.Bool.{cond-true, cond-false, and_parts}
+use Rattle.std.proofs.lemmas.List.{reverse-append, replicate_more}
+use Rattle.hdlc_framer.specs.Held.{longer, content_after_one}
 use Rattle.hdlc_framer.proofs.StuffingLemmas.{stuffed_is, stuffed_from-append, left_after-append}
 
 -- ---- one bit more

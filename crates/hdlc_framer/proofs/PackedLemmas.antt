@@ -1,15 +1,11 @@
 -- Octets and a part of an octet, as bits and as a frame.
-use Rattle.std.proofs.Common.{◌≡◌, ℕ, ◌+◌, ◌-◌, ◌*◌, ◌/◌, ◌%◌, ◌<◌, ◌≤◌, Bool, not, eqb, ltb, List, [], ◌∷◌, ◌++◌}
-use Rattle.std.proofs.Common.{length, get_or, take, drop, refl, ap, subst, ◌∙◌, sym, inl, inr, arith, length-append}
+use Rattle.hdlc_framer.proofs.Common.{◌≡◌, ℕ, ◌+◌, ◌-◌, ◌*◌, ◌/◌, ◌%◌, ◌<◌, ◌≤◌, Bool, not, eqb, ltb, List, [], ◌∷◌}
+use Rattle.hdlc_framer.proofs.Common.{◌++◌, length, get_or, take, drop, refl, ap, subst, ◌∙◌, sym, inl, inr, arith}
+use Rattle.hdlc_framer.proofs.Common.{length-append, All, lt-ltb, le-ltb, eq-eqb, ne_eqb, cases_eq, low_bits, sent_bits}
+use Rattle.hdlc_framer.proofs.Common.{number_of, fcs_of, IsFrame, with_fcs, flag_start}
 use Rattle.std.proofs.Common.{length-take, length-drop, take-append-drop}
-use Rattle.std.specs.List.{All}
-use Rattle.std.proofs.lemmas.Bool.{lt-ltb, le-ltb, eq-eqb, ne_eqb, cases_eq}
 use Rattle.std.proofs.lemmas.List.{append_cancel_left, drop_at}
 use Rattle.std.proofs.lemmas.List.Elements.{All-take, All-drop, All-get_or}
-use Rattle.hdlc_framer.specs.BitOrder.{low_bits, sent_bits, number_of}
-use Rattle.hdlc_framer.specs.CheckSequence.{fcs_of}
-use Rattle.hdlc_framer.specs.Frames.{IsFrame, with_fcs}
-use Rattle.hdlc_framer.specs.Held.{flag_start}
 use Rattle.hdlc_framer.specs.Packed.{IsPacked}
 use Rattle.hdlc_framer.proofs.BitLemmas.{length-low_bits, number_of-low_bits, packed_octet, same_octets}
 use Rattle.hdlc_framer.proofs.FrameEnds.{with_fcs_fits, length-with_fcs, without_fcs}

@@ -1,15 +1,8 @@
 -- The bits of a transmission, one piece after another.
-use Rattle.std.proofs.Common.{◌≡◌, ℕ, zero, suc, ◌+◌, ◌/◌, ◌%◌, ◌<◌, ◌≤◌, Bool, cond, eqb, List, [], ◌∷◌, ◌++◌, length}
-use Rattle.std.proofs.Common.{get_or, take, refl, ap, ◌∙◌, sym, arith, append_assoc, add-one}
-use Rattle.std.proofs.lemmas.Bool.{ne_eqb}
-use Rattle.std.proofs.lemmas.List.{take_all, take_more, length-take-le}
-use Rattle.std.proofs.lemmas.List.Concat.{flat_map-append}
-use Rattle.hdlc_framer.specs.BitOrder.{octet_bits, sent_bits}
-use Rattle.hdlc_framer.specs.Body.{flags, joined, body}
-use Rattle.hdlc_framer.specs.CheckSequence.{fcs_of}
-use Rattle.hdlc_framer.specs.Counted.{stuffed_from, left_after}
-use Rattle.hdlc_framer.specs.Frames.{frame_bits, with_fcs}
-use Rattle.hdlc_framer.specs.Stuffing.{flag}
+use Rattle.hdlc_framer.proofs.Common.{◌≡◌, ℕ, zero, suc, ◌+◌, ◌/◌, ◌%◌, ◌<◌, ◌≤◌, Bool, cond, eqb, List, [], ◌∷◌, ◌++◌}
+use Rattle.hdlc_framer.proofs.Common.{length, get_or, take, refl, ap, ◌∙◌, sym, arith, append_assoc, add-one, ne_eqb}
+use Rattle.hdlc_framer.proofs.Common.{take_all, take_more, length-take-le, flat_map-append, octet_bits, sent_bits}
+use Rattle.hdlc_framer.proofs.Common.{flags, joined, body, fcs_of, stuffed_from, left_after, frame_bits, with_fcs, flag}
 use Rattle.hdlc_framer.proofs.StuffingLemmas.{stuffed_is, stuffed_from-append, left_after-append}
 
 -- stuffed bits, and more of them if the count goes on

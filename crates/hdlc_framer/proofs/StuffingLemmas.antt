@@ -1,8 +1,6 @@
 -- Inserted zeros, counted, are those of the definition.
-use Rattle.std.proofs.Common.{◌≡◌, ℕ, zero, suc, ◌+◌, ◌≤◌, Bool, true, false, List, [], ◌∷◌, ◌++◌, refl, ap, subst, ◌∙◌}
-use Rattle.std.proofs.Common.{sym, arith}
-use Rattle.hdlc_framer.specs.Counted.{stuffed_from, left_after}
-use Rattle.hdlc_framer.specs.Stuffing.{stuffed}
+use Rattle.hdlc_framer.proofs.Common.{◌≡◌, ℕ, zero, suc, ◌+◌, ◌≤◌, Bool, true, false, List, [], ◌∷◌, ◌++◌, refl, ap}
+use Rattle.hdlc_framer.proofs.Common.{subst, ◌∙◌, sym, arith, stuffed_from, left_after, stuffed}
 
 -- so many 1s and then the bits
 abbrev ones_before : ℕ → List Bool → List Bool

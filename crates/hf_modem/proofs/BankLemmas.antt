@@ -1,17 +1,8 @@
 -- A bank with one sample more, and what is heard with it.
-use Rattle.std.proofs.Common.{◌≡◌, ℕ, ◌+◌, ◌-◌, ◌*◌, ◌/◌, ◌%◌, ◌<◌, ◌≤◌, ℤ, List, [], ◌∷◌, ◌++◌, Option, length, get_or}
-use Rattle.std.proofs.Common.{set, ap, sym, ◌∙◌, arith, subst}
-use Rattle.std.specs.Option.{option_to_list}
-use Rattle.std.proofs.lemmas.List.{length_push}
-use Rattle.tone_table.specs.declared.tone.Tone.{Tone}
-use Rattle.nrzi_bits.specs.Line.{bits_of}
-use Rattle.frame_merge.specs.declared.candidate.Candidate.{Candidate}
-use Rattle.hf_modem.specs.Decision.{tone_of}
-use Rattle.hf_modem.specs.Windows.{EndsWindow, tones_at, bits}
-use Rattle.hf_modem.specs.Candidates.{AreCandidatesAfter}
-use Rattle.slicer_bank.specs.ToneLanes.{HeldToneLane, ToneLaneStandsFor}
-use Rattle.hf_modem.specs.Held.{BankStandsFor, last_window}
-use Rattle.hf_modem.specs.Heard.{IsHeard}
+use Rattle.hf_modem.proofs.Common.{◌≡◌, ℕ, ◌+◌, ◌-◌, ◌*◌, ◌/◌, ◌%◌, ◌<◌, ◌≤◌, ℤ, List, [], ◌∷◌, ◌++◌, Option, length}
+use Rattle.hf_modem.proofs.Common.{get_or, set, ap, sym, ◌∙◌, arith, subst, option_to_list, length_push, Tone, bits_of}
+use Rattle.hf_modem.proofs.Common.{Candidate, tone_of, EndsWindow, tones_at, bits, AreCandidatesAfter, HeldToneLane}
+use Rattle.hf_modem.proofs.Common.{ToneLaneStandsFor, BankStandsFor, last_window, IsHeard}
 use Rattle.hf_modem.proofs.LastWindow.{tones_at-last}
 use Rattle.hf_modem.proofs.LaneLemmas.{lanes_none, lanes_more}
 use Rattle.hf_modem.proofs.HeardLemmas.{lane_hears, nothing_heard}

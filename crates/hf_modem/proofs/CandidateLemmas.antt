@@ -1,16 +1,12 @@
 -- The candidates of samples, with one sample more.
-use Rattle.std.proofs.Common.{◌≡◌, ℕ, ◌+◌, ◌*◌, ◌/◌, ◌%◌, ◌<◌, ◌≤◌, ℤ, List, [], ◌++◌, length, get_or, take, ap, sym}
-use Rattle.std.proofs.Common.{◌∙◌, arith, subst, inl, inr}
-use Rattle.std.proofs.lemmas.Bool.{cases_lt}
-use Rattle.std.proofs.lemmas.List.{take_all}
-use Rattle.std.proofs.lemmas.List.Elements.{All-append, All-nil, Contains-append_left, Contains-append_right}
-use Rattle.hf_modem.specs.Windows.{bits, windows_in}
+use Rattle.hf_modem.proofs.Common.{◌≡◌, ℕ, ◌+◌, ◌*◌, ◌/◌, ◌%◌, ◌<◌, ◌≤◌, ℤ, List, [], ◌++◌, length, get_or, take, ap}
+use Rattle.hf_modem.proofs.Common.{sym, ◌∙◌, arith, subst, inl, inr, cases_lt, take_all, All-append, All-nil, bits}
+use Rattle.hf_modem.proofs.Common.{windows_in, EndsFrame, Candidate, standing, IsCandidate, AreCandidatesAfter}
+use Rattle.hf_modem.proofs.Common.{end_sample}
+use Rattle.std.proofs.lemmas.List.Elements.{Contains-append_left, Contains-append_right}
 use Rattle.offset_slicers.proofs.TonesOfWindows.{first_of}
 use Rattle.hf_modem.proofs.WindowLemmas.{length-bits, bits-append}
-use Rattle.hdlc_framer.specs.Frames.{EndsFrame}
-use Rattle.frame_merge.specs.declared.candidate.Candidate.{Candidate}
-use Rattle.frame_merge.specs.Order.{standing}
-use Rattle.hf_modem.specs.Candidates.{EndsAtBit, IsCandidate, AreCandidatesAfter, EndsWith, end_sample}
+use Rattle.hf_modem.specs.Candidates.{EndsAtBit, EndsWith}
 use Rattle.slicer_bank.proofs.CandidateLemmas.{AllPairs-append}
 
 -- the sample at which a frame ends, from its end and offset

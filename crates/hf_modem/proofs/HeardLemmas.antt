@@ -1,15 +1,9 @@
 -- What is heard of one sample more.
-use Rattle.std.proofs.Common.{◌≡◌, ℕ, ◌+◌, ◌/◌, ◌<◌, ℤ, List, [], ◌∷◌, ◌++◌, Option, Some, None, length, ap, sym, ◌∙◌}
-use Rattle.std.proofs.Common.{arith, subst}
-use Rattle.std.specs.Option.{option_to_list}
-use Rattle.std.proofs.lemmas.List.{length_push}
-use Rattle.std.proofs.lemmas.List.Elements.{All-nil, All-cons}
-use Rattle.hdlc_framer.specs.Frames.{EndsFrame}
+use Rattle.hf_modem.proofs.Common.{◌≡◌, ℕ, ◌+◌, ◌/◌, ◌<◌, ℤ, List, [], ◌∷◌, ◌++◌, Option, Some, None, length, ap, sym}
+use Rattle.hf_modem.proofs.Common.{◌∙◌, arith, subst, option_to_list, length_push, All-nil, EndsFrame, Candidate, bits}
+use Rattle.hf_modem.proofs.Common.{EndsWindow, IsCandidate, AreCandidatesAfter, candidate_at, end_sample, IsHeard}
+use Rattle.std.proofs.lemmas.List.Elements.{All-cons}
 use Rattle.hdlc_framer.proofs.FrameEnds.{one_frame}
-use Rattle.frame_merge.specs.declared.candidate.Candidate.{Candidate}
-use Rattle.hf_modem.specs.Windows.{bits, EndsWindow}
-use Rattle.hf_modem.specs.Candidates.{IsCandidate, AreCandidatesAfter, candidate_at, end_sample}
-use Rattle.hf_modem.specs.Heard.{IsHeard}
 use Rattle.hf_modem.proofs.CandidateLemmas.{candidate_at_last, ends_with_last, end_within, end_sample-is}
 
 module _ (offset : ℕ) (x : List ℤ) (sample : ℤ) (small : offset < 32) (window : EndsWindow offset (x ++ sample ∷ []))

@@ -1,21 +1,14 @@
 -- A block, sample by sample, and what a decoder has taken with it and at the end.
-use Rattle.std.proofs.Common.{◌≡◌, ℕ, ◌+◌, ◌/◌, ◌^◌, ◌<◌, ◌≤◌, ℤ, get_or, List, [], ◌∷◌, ◌++◌, length, replicate, ap}
-use Rattle.std.proofs.Common.{sym, ◌∙◌, arith, subst, append_assoc, length-append}
-use Rattle.std.proofs.Common.{Option, Some, None}
+use Rattle.hf_modem.proofs.Common.{◌≡◌, ℕ, ◌+◌, ◌/◌, ◌^◌, ◌<◌, ◌≤◌, ℤ, get_or, List, [], ◌∷◌, ◌++◌, length, replicate}
+use Rattle.hf_modem.proofs.Common.{ap, sym, ◌∙◌, arith, subst, append_assoc, length-append, Option, Some, None, All}
+use Rattle.hf_modem.proofs.Common.{append-nil, length-replicate, Candidate, in_order, merged, below, AreCandidates}
+use Rattle.hf_modem.proofs.Common.{AreCandidatesAfter, HeldBank, BankStandsFor, HasHeard, AreMergedBetween}
 use Rattle.std.specs.Prelude.{IfSome}
-use Rattle.std.specs.List.{All}
-use Rattle.std.proofs.lemmas.List.{append-nil, length-replicate, get_or-replicate}
-use Rattle.frame_merge.specs.declared.candidate.Candidate.{Candidate}
+use Rattle.std.proofs.lemmas.List.{get_or-replicate}
 use Rattle.frame_merge.specs.Held.{Held as HeldMerger, StandsFor as MergerStandsFor, least}
-use Rattle.frame_merge.specs.Order.{in_order}
-use Rattle.frame_merge.specs.Merged.{merged, below}
 use Rattle.frame_merge.proofs.Taking.{least-one}
 use Rattle.slicer_bank.proofs.MergingLemmas.{in_order-strictly}
-use Rattle.hf_modem.specs.Candidates.{AreCandidates, AreCandidatesAfter}
-use Rattle.hf_modem.specs.Held.{HeldBank, BankStandsFor}
-use Rattle.hf_modem.specs.Heard.{HasHeard}
 use Rattle.hf_modem.specs.HeldDecoder.{CanBePut, HaveTaken}
-use Rattle.hf_modem.specs.MergedItems.{AreMergedBetween}
 use Rattle.hf_modem.proofs.CandidateLemmas.{candidates_none, candidates_join}
 use Rattle.hf_modem.proofs.MergedLemmas.{block_gives, end_gives}
 

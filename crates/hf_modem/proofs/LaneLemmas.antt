@@ -1,14 +1,9 @@
 -- Lanes as they are made, and all of them with one sample more.
-use Rattle.std.proofs.Common.{◌≡◌, ℕ, ◌+◌, ◌*◌, ◌<◌, ℤ, List, [], ◌∷◌, ◌++◌, length, get_or, set, ap, sym, ◌∙◌, arith}
-use Rattle.std.proofs.Common.{subst, inl, inr}
-use Rattle.std.specs.List.{All}
-use Rattle.std.proofs.lemmas.Bool.{cases_eq}
+use Rattle.hf_modem.proofs.Common.{◌≡◌, ℕ, ◌+◌, ◌*◌, ◌<◌, ℤ, List, [], ◌∷◌, ◌++◌, length, get_or, set, ap, sym, ◌∙◌}
+use Rattle.hf_modem.proofs.Common.{arith, subst, inl, inr, All, cases_eq, Tone, tone_of, tones_at, HeldToneLane}
+use Rattle.hf_modem.proofs.Common.{ToneLaneStandsFor, last_window}
 use Rattle.std.proofs.lemmas.List.{get_or-set_same, get_or-set_other}
-use Rattle.tone_table.specs.declared.tone.Tone.{Tone}
-use Rattle.hf_modem.specs.Decision.{tone_of}
-use Rattle.hf_modem.specs.Windows.{tones_at}
-use Rattle.slicer_bank.specs.ToneLanes.{HeldToneLane, ToneLaneStandsFor}
-use Rattle.hf_modem.specs.Held.{LanesStandFor, last_window}
+use Rattle.hf_modem.specs.Held.{LanesStandFor}
 use Rattle.hf_modem.proofs.SlicerLemmas.{tones_of_none}
 use Rattle.hf_modem.proofs.LastWindow.{tones_at-none, tones_at-last}
 

@@ -1,18 +1,16 @@
 -- What one sample more changes: the window that ends with it, and the tones and bits of an offset.
-use Rattle.std.proofs.Common.{◌≡◌, ◌↔◌, ◌⊎◌, inl, inr, ℕ, ◌+◌, ◌-◌, ◌*◌, ◌/◌, ◌%◌, ◌<◌, ◌≤◌, ℤ, pos, List, [], ◌∷◌}
-use Rattle.std.proofs.Common.{◌++◌, Bool, true, length, take, drop, set, nat_eq, ap, sym, ◌∙◌, arith}
-use Rattle.std.proofs.Common.{length-append, length-drop, append_assoc}
+use Rattle.hf_modem.proofs.Common.{◌≡◌, ◌↔◌, inl, inr, ℕ, ◌+◌, ◌-◌, ◌*◌, ◌/◌, ◌%◌, ◌<◌, ◌≤◌, ℤ, pos, List, [], ◌∷◌}
+use Rattle.hf_modem.proofs.Common.{◌++◌, Bool, true, length, take, drop, set, nat_eq, ap, sym, ◌∙◌, arith}
+use Rattle.hf_modem.proofs.Common.{length-append, append_assoc, cases_eq, take_all, take_more_set, length-set}
+use Rattle.hf_modem.proofs.Common.{length_push, length-replicate, append-nil, Tone, bits_of, tone_of, windows_in}
+use Rattle.hf_modem.proofs.Common.{window_at, tones_at, bits, last_window}
+use Rattle.std.proofs.Common.{◌⊎◌, length-drop}
 use Rattle.std.specs.List.{copy_within}
 use Rattle.std.proofs.Math.Seq.{drop-append-add}
-use Rattle.std.proofs.lemmas.Bool.{cases_eq, eq-eqb, eqb-true}
-use Rattle.std.proofs.lemmas.List.{drop-append-le, drop-drop, take_all, take_more_set, length-set, length_push}
-use Rattle.std.proofs.lemmas.List.{length-replicate, append-nil}
+use Rattle.std.proofs.lemmas.Bool.{eq-eqb, eqb-true}
+use Rattle.std.proofs.lemmas.List.{drop-append-le, drop-drop}
 use Rattle.std.proofs.lemmas.List.Edits.{take-paste}
-use Rattle.tone_table.specs.declared.tone.Tone.{Tone}
-use Rattle.nrzi_bits.specs.Line.{bits_of}
-use Rattle.hf_modem.specs.Decision.{tone_of}
-use Rattle.hf_modem.specs.Windows.{windows_in, window_at, tones_at, bits}
-use Rattle.hf_modem.specs.Held.{silence, last_window}
+use Rattle.hf_modem.specs.Held.{silence}
 use Rattle.offset_slicers.proofs.TonesOfWindows.{tones_of-push_none, tones_of-push_one}
 
 -- ---- the last 32 samples

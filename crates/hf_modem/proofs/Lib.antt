@@ -1,3 +1,4 @@
+pub mod Common
 pub mod WindowLemmas
 pub mod LastWindow
 pub mod WaveLemmas

@@ -1,21 +1,12 @@
 -- No sample that is sent is louder than its level.
-use Rattle.std.proofs.Common.{ℕ, ◌+◌, ◌*◌, ◌≤◌, ℤ, pos, List, [], ◌∷◌, replicate, unsigned_abs, get_or, sym, subst}
-use Rattle.std.proofs.Common.{arith}
-use Rattle.std.specs.List.{All, range_with_len}
-use Rattle.std.proofs.lemmas.List.Elements.{All-nil, All-map, All-append, All-replicate}
+use Rattle.hf_modem.proofs.Common.{ℕ, ◌+◌, ◌*◌, ◌≤◌, ℤ, pos, List, [], ◌∷◌, replicate, unsigned_abs, get_or, sym, subst}
+use Rattle.hf_modem.proofs.Common.{arith, All, range_with_len, All-nil, All-append, Tone, wave_sample, line, sample_at}
+use Rattle.hf_modem.proofs.Common.{at_level, unsigned_abs-sample_at, Transmission, hf_samples_of, hf_signal, phase_step}
+use Rattle.hf_modem.proofs.Common.{next_phase, pure_window, wave_from, hf_transmission}
+use Rattle.std.proofs.lemmas.List.Elements.{All-map, All-replicate}
 use Rattle.std.proofs.lemmas.List.Concat.{flat_map-cons}
-use Rattle.tone_table.specs.declared.tone.Tone.{Tone}
-use Rattle.tone_table.specs.Sine.{wave_sample}
 use Rattle.tone_table.proofs.SineLemmas.{unsigned_abs-wave_sample}
-use Rattle.nrzi_bits.specs.Line.{line}
 use Rattle.hdlc_framer.specs.Body.{body}
-use Rattle.afsk_modulator.specs.Level.{sample_at, at_level}
-use Rattle.afsk_modulator.proofs.LevelLemmas.{unsigned_abs-sample_at}
-use Rattle.afsk_modulator.specs.Signal.{Transmission}
-use Rattle.hf_modem.specs.Signal.{hf_samples_of, hf_signal}
-use Rattle.hf_modem.specs.Tones.{phase_step, next_phase}
-use Rattle.hf_modem.specs.Wave.{pure_window, wave_from}
-use Rattle.hf_modem.specs.Transmission.{hf_transmission}
 
 abbrev IsWithin : ℕ → ℤ → Type 0
 IsWithin level sample = unsigned_abs sample ≤ level

@@ -1,24 +1,23 @@
 -- The merged candidates of samples, and of these with more samples.
-use Rattle.std.proofs.Common.{◌≡◌, ℕ, ◌+◌, ◌/◌, ◌<◌, ◌≤◌, ℤ, List, [], ◌∷◌, ◌++◌, length, ap, sym, ◌∙◌}
-use Rattle.std.proofs.Common.{arith, cond, refl, length-append, get_or, ◌&&◌, Bool}
+use Rattle.hf_modem.proofs.Common.{◌≡◌, ℕ, ◌+◌, ◌/◌, ◌<◌, ◌≤◌, ℤ, List, [], ◌∷◌, ◌++◌, length, ap, sym, ◌∙◌, arith}
+use Rattle.hf_modem.proofs.Common.{refl, length-append, get_or, Bool, All, append-nil, Candidate, standing, merged}
+use Rattle.hf_modem.proofs.Common.{below, IsCandidate, AreCandidates, AreCandidatesAfter, end_sample, AreMergedBetween}
+use Rattle.std.proofs.Common.{cond, ◌&&◌}
 use Rattle.std.specs.Prelude.{nat_lt, nat_le}
-use Rattle.std.specs.List.{All, filter}
+use Rattle.std.specs.List.{filter}
 use Rattle.std.specs.List.Sorted.{IsNonDecreasingBy}
 use Rattle.std.proofs.Math.Bool.{and-false}
 use Rattle.std.proofs.lemmas.Bool.{ltb-true, lt-ltb, le-ltb}
-use Rattle.std.proofs.lemmas.List.{append-nil}
 use Rattle.std.proofs.lemmas.List.Elements.{All-weaker, All-head, All-tail, All-filter, filter-append, filter_passes}
 use Rattle.std.proofs.lemmas.List.Kept.{AllPairs-filter}
-use Rattle.frame_merge.specs.declared.candidate.Candidate.{Candidate}
-use Rattle.frame_merge.specs.Order.{standing, IsInOrder}
-use Rattle.frame_merge.specs.Merged.{merged, merged_after, below, between}
+use Rattle.frame_merge.specs.Order.{IsInOrder}
+use Rattle.frame_merge.specs.Merged.{merged_after, between}
 use Rattle.frame_merge.proofs.Ordering.{rising_ends}
 use Rattle.frame_merge.proofs.Merging.{merged_after-append, merged-rising, between_all, All-merged}
 use Rattle.frame_merge.proofs.Taking.{below_all}
 use Rattle.slicer_bank.proofs.MergingLemmas.{rising_strictly}
 use Rattle.slicer_bank.proofs.MergedLemmas.{below_more, next_is, contains_passing, between_between}
-use Rattle.hf_modem.specs.Candidates.{IsCandidate, AreCandidates, AreCandidatesAfter, end_sample}
-use Rattle.hf_modem.specs.MergedItems.{AreMerged, AreMergedBetween}
+use Rattle.hf_modem.specs.MergedItems.{AreMerged}
 use Rattle.hf_modem.proofs.CandidateLemmas.{end_within, candidates_join}
 use Rattle.hf_modem.proofs.OneList.{one_list}
 

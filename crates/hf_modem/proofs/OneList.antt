@@ -1,8 +1,6 @@
 -- Samples have one list of candidates: two that strictly rise and have the same elements are the same.
-use Rattle.std.proofs.Common.{◌≡◌, ℤ, List, get_or}
-use Rattle.frame_merge.specs.declared.candidate.Candidate.{Candidate}
+use Rattle.hf_modem.proofs.Common.{◌≡◌, ℤ, List, get_or, Candidate, AreCandidates}
 use Rattle.slicer_bank.proofs.OneList.{same_list}
-use Rattle.hf_modem.specs.Candidates.{AreCandidates}
 
 pub one_list : (x : List ℤ) (items others : List Candidate) → AreCandidates x items → AreCandidates x others
     → items ≡ others

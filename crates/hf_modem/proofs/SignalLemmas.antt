@@ -1,9 +1,7 @@
 -- Signals of transmissions, one after another.
-use Rattle.std.proofs.Common.{◌≡◌, ℕ, List, [], ◌∷◌, ◌++◌, refl}
-use Rattle.std.proofs.lemmas.List.{append-nil}
+use Rattle.hf_modem.proofs.Common.{◌≡◌, ℕ, List, [], ◌∷◌, ◌++◌, refl, append-nil, Transmission, hf_samples_of}
+use Rattle.hf_modem.proofs.Common.{hf_signal}
 use Rattle.std.proofs.lemmas.List.Concat.{flat_map-append}
-use Rattle.afsk_modulator.specs.Signal.{Transmission}
-use Rattle.hf_modem.specs.Signal.{hf_samples_of, hf_signal}
 
 pub hf_signal-none : (level : ℕ) → hf_signal level [] ≡ []
 unfolding hf_signal

@@ -1,13 +1,8 @@
 -- What a slicer keeps, as it is made and with one sample more.
-use Rattle.std.proofs.Common.{◌≡◌, ◌∙◌, ℕ, ◌+◌, ◌*◌, ℤ, List, [], ◌∷◌, ◌++◌, Bool, length, refl, ap, sym, arith}
-use Rattle.std.proofs.lemmas.List.{length_push}
-use Rattle.tone_table.specs.declared.tone.Tone.{Tone}
-use Rattle.tone_table.specs.declared.tone.Tone.TheVariants.{Mark}
-use Rattle.nrzi_bits.specs.Line.{bits_of, last_tone}
+use Rattle.hf_modem.proofs.Common.{◌≡◌, ◌∙◌, ℕ, ◌+◌, ◌*◌, ℤ, List, [], ◌∷◌, ◌++◌, Bool, length, refl, ap, sym, arith}
+use Rattle.hf_modem.proofs.Common.{length_push, Tone, Mark, bits_of, last_tone, tone_of, tones_at, bits}
+use Rattle.hf_modem.proofs.Common.{SlicerStandsFor, last_window}
 use Rattle.nrzi_bits.proofs.LineLemmas.{last_tone-push}
-use Rattle.hf_modem.specs.Decision.{tone_of}
-use Rattle.hf_modem.specs.Windows.{tones_at, bits}
-use Rattle.hf_modem.specs.Held.{SlicerStandsFor, last_window}
 use Rattle.hf_modem.proofs.WindowLemmas.{length-tones_at}
 use Rattle.hf_modem.proofs.LastWindow.{tones_at-none, tones_at-last, bits-push_none, bits-push_one}
 

@@ -1,12 +1,8 @@
 -- Samples have a list of candidates: it is found sample by sample.
-use Rattle.std.proofs.Common.{ℕ, ◌+◌, ◌-◌, ◌/◌, ◌%◌, ◌<◌, ◌≤◌, ℤ, List, [], ◌∷◌, ◌++◌, Some, None, length, inl, inr}
-use Rattle.std.proofs.Common.{refl, subst, sym, arith, append_assoc}
-use Rattle.std.proofs.lemmas.Bool.{cases_lt}
-use Rattle.std.proofs.lemmas.List.{append-nil, length_push}
+use Rattle.hf_modem.proofs.Common.{ℕ, ◌+◌, ◌-◌, ◌/◌, ◌%◌, ◌<◌, ◌≤◌, ℤ, List, [], ◌∷◌, ◌++◌, Some, None, length, inl}
+use Rattle.hf_modem.proofs.Common.{inr, refl, subst, sym, arith, append_assoc, cases_lt, append-nil, length_push}
+use Rattle.hf_modem.proofs.Common.{Candidate, bits, EndsWindow, AreCandidates, AreCandidatesAfter, candidate_at}
 use Rattle.slicer_bank.proofs.FrameDecided.{frame_or_none}
-use Rattle.frame_merge.specs.declared.candidate.Candidate.{Candidate}
-use Rattle.hf_modem.specs.Windows.{bits, EndsWindow}
-use Rattle.hf_modem.specs.Candidates.{AreCandidates, AreCandidatesAfter, candidate_at}
 use Rattle.hf_modem.proofs.CandidateLemmas.{candidates_none, candidates_join}
 use Rattle.hf_modem.proofs.HeardLemmas.{lane_hears, nothing_heard}
 

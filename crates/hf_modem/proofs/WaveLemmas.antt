@@ -1,18 +1,13 @@
 -- The wave of short-wave packet, one tone and one sample more at a time.
-use Rattle.std.proofs.Common.{◌≡◌, ℕ, ◌+◌, ◌*◌, ◌%◌, ◌<◌, ◌≤◌, ℤ, List, [], ◌∷◌, ◌++◌, length, map, take, set}
-use Rattle.std.proofs.Common.{unsigned_abs, FitsSigned, to_z, of_z, append_assoc, refl, sym, ap, ◌∙◌, zero-add, arith}
-use Rattle.std.specs.List.{range_with_len}
-use Rattle.std.proofs.lemmas.Int.{ints, to_z-of_z}
-use Rattle.std.proofs.lemmas.List.{append-nil, take_more_set, take_all}
+use Rattle.hf_modem.proofs.Common.{◌≡◌, ℕ, ◌+◌, ◌*◌, ◌%◌, ◌<◌, ◌≤◌, ℤ, List, [], ◌∷◌, ◌++◌, length, take, set}
+use Rattle.hf_modem.proofs.Common.{unsigned_abs, FitsSigned, to_z, of_z, append_assoc, refl, sym, ap, ◌∙◌, arith}
+use Rattle.hf_modem.proofs.Common.{range_with_len, ints, to_z-of_z, append-nil, take_more_set, take_all, w16, Tone}
+use Rattle.hf_modem.proofs.Common.{cycle_sample, wave_sample, sample_at, at_level, phase_step, next_phase, pure_window}
+use Rattle.hf_modem.proofs.Common.{wave_from, phase_from}
+use Rattle.std.proofs.Common.{map, zero-add}
 use Rattle.std.proofs.lemmas.List.FromFn.{map-range_with_len_more}
 use Rattle.std.proofs.Math.Nat.{mod-mod}
-use mir.Syntax.{w16}
-use Rattle.tone_table.specs.declared.tone.Tone.{Tone}
-use Rattle.tone_table.specs.Sine.{cycle_sample, wave_sample}
-use Rattle.afsk_modulator.specs.Level.{sample_at, at_level}
 use Rattle.afsk_modulator.proofs.LevelLemmas.{at_level-append}
-use Rattle.hf_modem.specs.Tones.{phase_step, next_phase}
-use Rattle.hf_modem.specs.Wave.{pure_window, wave_from, phase_from}
 
 -- ---- tones
 

@@ -1,11 +1,9 @@
 -- The tones and bits of samples that are put together and cut.
-use Rattle.std.proofs.Common.{◌≡◌, ℕ, ◌+◌, ◌*◌, ℤ, List, ◌++◌, length, take, ap, ◌∙◌, arith}
-use Rattle.tone_table.specs.declared.tone.Tone.TheVariants.{Mark}
-use Rattle.nrzi_bits.specs.Line.{bits_of, bits_from, last_tone}
+use Rattle.hf_modem.proofs.Common.{◌≡◌, ℕ, ◌+◌, ◌*◌, ℤ, List, ◌++◌, length, take, ap, ◌∙◌, arith, Mark, bits_of}
+use Rattle.hf_modem.proofs.Common.{last_tone, tone_of, windows_in, window_at, tones_at, bits}
+use Rattle.nrzi_bits.specs.Line.{bits_from}
 use Rattle.nrzi_bits.proofs.LineLemmas.{bits_from-append, bits_from-take, length-bits_from}
 use Rattle.offset_slicers.proofs.TonesOfWindows.{length-tones_of, tones_of-append, tones_of-aligned}
-use Rattle.hf_modem.specs.Decision.{tone_of}
-use Rattle.hf_modem.specs.Windows.{windows_in, window_at, tones_at, bits}
 
 pub length-tones_at : (offset : ℕ) (x : List ℤ) → length (tones_at offset x) ≡ windows_in offset (length x)
 unfolding tones_at window_at

@@ -1,16 +1,9 @@
 -- Worked examples, computed on the definitions.
-use Rattle.std.proofs.Common.{◌≡◌, true, false, List, [], ◌∷◌, None, Some, refl, codes}
-use Rattle.keying.specs.declared.answer.Answer.TheVariants.{Accepts, Refuses, Unclear}
-use Rattle.keying.specs.declared.command.Command.TheVariants.{Release as Unkey, KeyData}
-use Rattle.keying.specs.declared.line.Try.TheVariants.{Written}
-use Rattle.keying.specs.declared.machine.Words.{Words}
-use Rattle.keying.specs.Answers.{answer_of}
-use Rattle.keying.specs.Calls.{Call, history}
-use Rattle.keying.specs.Calls.Call.{Turn, AfterTry, Tick}
-use Rattle.keying.specs.Keyed.{on, lit}
-use Rattle.keying.specs.Key.{is_free}
-use Rattle.keying.specs.Laws.{commands, accepted}
-use Rattle.keying.specs.Told.{tick_told}
+use Rattle.keying.proofs.Common.{◌≡◌, true, false, List, [], ◌∷◌, None, Some, refl, Accepts, Refuses, Unclear, KeyData}
+use Rattle.keying.proofs.Common.{Written, Words, answer_of, Call, history, Turn, AfterTry, Tick, on, lit, is_free}
+use Rattle.keying.proofs.Common.{commands, accepted, tick_told}
+use Rattle.std.proofs.Common.{codes}
+use Rattle.keying.specs.declared.command.Command.TheVariants.{Release as Unkey}
 
 -- ---- answers
 

@@ -1,15 +1,11 @@
 -- What is kept stands for what has happened.
-use Rattle.std.proofs.Common.{◌≡◌, ℕ, ◌&&◌, Bool, true, false, List, [], ◌∷◌, ◌++◌, Option, refl, ap, sym, ◌∙◌}
-use Rattle.keying.specs.declared.line.End.{End}
-use Rattle.keying.specs.declared.machine.Words.{Words}
-use Rattle.keying.specs.Marks.{Mark}
-use Rattle.keying.specs.Marks.Mark.{Turned, Tried, Opened, Keyed, Released, Heard, Accepted, Readied, Lost}
-use Rattle.keying.specs.Marks.Mark.{Ticked, Cut, WriteFault, Ends}
-use Rattle.keying.specs.Keyed.{ticks, wanted, cut}
-use Rattle.keying.specs.Key.{Key, key_of}
-use Rattle.keying.specs.Rules.{octet_marks, end_marks, silence_marks, stall_marks, tick_marks, closing_marks}
-use Rattle.keying.specs.Calls.{by_rule, heard, read, listened, turned, ticked, ended}
-use Rattle.keying.specs.Kept.{StandsFor, is_wanted, after, after_all, after_octets, after_rule, after_reading}
+use Rattle.keying.proofs.Common.{◌≡◌, ℕ, ◌&&◌, Bool, true, false, List, [], ◌∷◌, ◌++◌, Option, refl, ap, sym, ◌∙◌, End}
+use Rattle.keying.proofs.Common.{Words, Mark, Turned, Tried, Opened, Keyed, Released, Heard, Accepted, Readied, Lost}
+use Rattle.keying.proofs.Common.{Ticked, Cut, WriteFault, Ends, ticks, wanted, Key, key_of, octet_marks, end_marks}
+use Rattle.keying.proofs.Common.{silence_marks, stall_marks, tick_marks, closing_marks, by_rule, heard, read, listened}
+use Rattle.keying.proofs.Common.{turned, ticked, ended, is_wanted, after_octets, after_rule, after_reading}
+use Rattle.keying.specs.Keyed.{cut}
+use Rattle.keying.specs.Kept.{StandsFor, after, after_all}
 use Rattle.keying.proofs.Lingering.{wanted_kept}
 
 -- a mark

@@ -1,15 +1,9 @@
 -- The key lasts until the answer of a call tells its end.
-use Rattle.std.proofs.Common.{◌≡◌, true, false, List, [], ◌∷◌, ◌++◌, sym, subst, inl, inr}
+use Rattle.keying.proofs.Common.{◌≡◌, true, false, List, [], ◌∷◌, ◌++◌, sym, subst, inl, inr, Phase, Try, Words, Mark}
+use Rattle.keying.proofs.Common.{on, is_free, try_marks_in, called, history, tried, Call, Turn, AfterTry, Tick}
+use Rattle.keying.proofs.Common.{AfterWrite, CommandFailed}
 use Rattle.std.proofs.lemmas.Bool.{cases_Bool}
-use Rattle.keying.specs.declared.line.Phase.{Phase}
-use Rattle.keying.specs.declared.line.Try.{Try}
-use Rattle.keying.specs.declared.machine.Words.{Words}
-use Rattle.keying.specs.Marks.{Mark}
-use Rattle.keying.specs.Keyed.{on}
-use Rattle.keying.specs.Key.{is_free}
-use Rattle.keying.specs.Rules.{try_marks_in}
-use Rattle.keying.specs.Calls.{called, history, tried, Call}
-use Rattle.keying.specs.Calls.Call.{Turn, AfterTry, Tick, AfterWrite, CommandFailed, Release}
+use Rattle.keying.specs.Calls.Call.{Release}
 use Rattle.keying.specs.Laws.{TellsEnd, NoneTellsEnd}
 use Rattle.keying.proofs.Sound.{Sound}
 use Rattle.keying.proofs.RulesAreSound.{sound_history}

@@ -1,3 +1,4 @@
+pub mod Common
 pub mod Lingering
 pub mod History
 pub mod Sound

@@ -1,9 +1,9 @@
 -- A count of ticks says whether the key is wanted.
-use Rattle.std.proofs.Common.{◌≡◌, ℕ, zero, suc, ◌+◌, ◌-◌, ◌≤◌, ltb, Bool, true, false, ◌||◌, List, [], ◌∷◌, take, refl}
-use Rattle.std.proofs.Common.{ap, sym, ◌∙◌, inl, inr, arith}
+use Rattle.keying.proofs.Common.{◌≡◌, ℕ, zero, suc, ◌+◌, ◌-◌, ◌≤◌, Bool, true, false, List, [], ◌∷◌, take, refl, ap}
+use Rattle.keying.proofs.Common.{sym, ◌∙◌, inl, inr, arith, cases_lt, wanted}
+use Rattle.std.proofs.Common.{ltb, ◌||◌}
 use Rattle.std.specs.List.{list_any}
-use Rattle.std.proofs.lemmas.Bool.{lt-ltb, le-ltb, cases_lt}
-use Rattle.keying.specs.Keyed.{wanted}
+use Rattle.std.proofs.lemmas.Bool.{lt-ltb, le-ltb}
 use Rattle.keying.specs.Key.{linger_after}
 
 -- one of these ticks had sound
@@ -14,9 +14,6 @@ pub linger_most : (tail : ℕ) (ticks : List Bool) → linger_after tail ticks �
 linger_most tail [] = omega arith
 linger_most tail (true ∷ ticks) = omega arith
 linger_most tail (false ∷ ticks) = let most = linger_most tail ticks in omega arith
-
-take_some : (n m : ℕ) (sounds : Bool) (ticks : List Bool) → n ≡ suc m → take n (sounds ∷ ticks) ≡ sounds ∷ take m ticks
-take_some n m sounds ticks is = ap (λ k. take k (sounds ∷ ticks)) is
 
 same_test : (a b c d : ℕ) → (a + 1 ≡ c) → (b ≡ d - 1) → ltb c d ≡ ltb a b
 same_test a b c d first second =

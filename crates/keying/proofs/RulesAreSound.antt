@@ -1,34 +1,23 @@
 -- Each rule adds only marks that may stand there.
-use Rattle.std.proofs.Common.{◌≡◌, ℕ, ◌<◌, ◌≤◌, ◌&&◌, not, eqb, Bool, true, false, List, [], ◌∷◌}
-use Rattle.std.proofs.Common.{◌++◌, length, Option, None, Some, refl, ap, sym, ◌∙◌, arith, inl, inr}
-use Rattle.std.proofs.lemmas.Bool.{and_parts, cond_both, eqb-false, eq-eqb}
+use Rattle.keying.proofs.Common.{◌≡◌, ℕ, ◌<◌, ◌≤◌, ◌&&◌, not, eqb, Bool, true, false, List, [], ◌∷◌, ◌++◌, length}
+use Rattle.keying.proofs.Common.{Option, None, Some, refl, ap, sym, ◌∙◌, arith, inl, inr, and_parts, cond_both, Accepts}
+use Rattle.keying.proofs.Common.{Refuses, Unclear, End, Fault, Phase, Down, Opening, Up, Try, Written, Words, answer_of}
+use Rattle.keying.proofs.Common.{Mark, Turned, Heard, Ticked, phase, waiting, ready, on, lit, ticks, wanted, Key}
+use Rattle.keying.proofs.Common.{key_of, free, newest_keys, octet_marks, end_marks_in, end_marks, silence_marks}
+use Rattle.keying.proofs.Common.{try_marks_in, is_stalled, stall_marks, is_at_limit, tick_marks, closing_marks, by_rule}
+use Rattle.keying.proofs.Common.{heard, read, listened, turned, tried, ticked, written, ended, Call, called, history}
+use Rattle.keying.proofs.Common.{Turn, AfterTry, Tick, AfterWrite, CommandFailed}
+use Rattle.std.proofs.lemmas.Bool.{eqb-false, eq-eqb}
 use Rattle.keying.specs.declared.answer.Answer.{Answer}
-use Rattle.keying.specs.declared.answer.Answer.TheVariants.{Accepts, Refuses, Unclear}
-use Rattle.keying.specs.declared.line.End.{End}
-use Rattle.keying.specs.declared.line.End.TheVariants.{Closed, Fault}
-use Rattle.keying.specs.declared.line.Phase.{Phase}
-use Rattle.keying.specs.declared.line.Phase.TheVariants.{Down, Opening, Up}
-use Rattle.keying.specs.declared.line.Try.{Try}
-use Rattle.keying.specs.declared.line.Try.TheVariants.{Refused as NoLine, NotYet, Written}
-use Rattle.keying.specs.declared.machine.Words.{Words}
-use Rattle.keying.specs.Answers.{answer_of}
-use Rattle.keying.specs.Marks.{Mark}
-use Rattle.keying.specs.Marks.Mark.{Turned, Heard}
-use Rattle.keying.specs.Marks.Mark.{Ticked}
-use Rattle.keying.specs.Line.{phase, waiting, ready, part}
-use Rattle.keying.specs.Keyed.{on, lit, ticks, wanted}
-use Rattle.keying.specs.Key.{Key, key_of, free}
-use Rattle.keying.specs.Laws.{newest_keys}
-use Rattle.keying.specs.Rules.{settles, accept_marks, due_marks, answer_marks, line_marks, octet_marks_in, octet_marks}
-use Rattle.keying.specs.Rules.{end_marks_in, end_marks, is_overdue, silence_marks, try_marks_in, try_marks}
-use Rattle.keying.specs.Rules.{is_stalled, stall_marks, is_at_limit, tick_marks, written_marks, closing_marks}
-use Rattle.keying.specs.Calls.{by_rule, heard, read, listened, turned, tried, ticked, written, command_failed, ended}
-use Rattle.keying.specs.Calls.{Call, called, history}
-use Rattle.keying.specs.Calls.Call.{Turn, AfterTry, Tick, AfterWrite, CommandFailed, Release}
-use Rattle.keying.proofs.Sound.{Sound, AllAllowed, sound_marks, sound_mark, sound_nothing, AllCalm, all_calm}
-use Rattle.keying.proofs.Sound.{AllHeard, all_heard}
-use Rattle.keying.proofs.Sound.{heard-append, OnOrGone, on_or_gone}
-use Rattle.keying.proofs.Sound.{Same, same_along, all_same}
+use Rattle.keying.specs.declared.line.End.TheVariants.{Closed}
+use Rattle.keying.specs.declared.line.Try.TheVariants.{Refused as NoLine, NotYet}
+use Rattle.keying.specs.Line.{part}
+use Rattle.keying.specs.Rules.{settles, accept_marks, due_marks, answer_marks, line_marks, octet_marks_in, is_overdue}
+use Rattle.keying.specs.Rules.{try_marks, written_marks}
+use Rattle.keying.specs.Calls.{command_failed}
+use Rattle.keying.specs.Calls.Call.{Release}
+use Rattle.keying.proofs.Sound.{Sound, AllAllowed, sound_marks, sound_mark, sound_nothing, AllCalm, all_calm, AllHeard}
+use Rattle.keying.proofs.Sound.{all_heard, heard-append, OnOrGone, on_or_gone, Same, same_along, all_same}
 
 -- ---- octets
 

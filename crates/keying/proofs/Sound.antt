@@ -1,20 +1,14 @@
 -- What holds in every history that the rules make: the commands alternate, each waits for its answer or was accepted,
 -- and the key is never on for too long.
-use Rattle.std.proofs.Common.{◌≡◌, ℕ, zero, suc, ◌⊎◌, inl, inr, Some, ◌+◌, ◌-◌, ◌<◌, ◌≤◌, ◌&&◌, not, eqb}
-use Rattle.std.proofs.Common.{if◌then◌else◌, Bool, true, false, List, [], ◌∷◌, ◌++◌}
-use Rattle.std.proofs.Common.{length, drop, refl, ap, sym, subst, ◌∙◌, arith, length-append, length-drop, append_assoc}
-use Rattle.std.proofs.lemmas.Bool.{and_parts, eqb-true, not-true}
-use Rattle.keying.specs.declared.line.Phase.{Phase}
-use Rattle.keying.specs.declared.line.Phase.TheVariants.{Down, Opening, Up}
-use Rattle.keying.specs.declared.machine.Words.{Words}
-use Rattle.keying.specs.Marks.{Mark}
-use Rattle.keying.specs.Marks.Mark.{Turned, Tried, Opened, Keyed, Released, Heard, Accepted, Readied, Lost}
-use Rattle.keying.specs.Marks.Mark.{Ticked, Cut, WriteFault, Ends}
-use Rattle.keying.specs.declared.report.Why.{Why}
-use Rattle.keying.specs.Line.{phase, waiting, ready, last_loss}
-use Rattle.keying.specs.Keyed.{on, lit, owed, ticks}
-use Rattle.keying.specs.Key.{is_up, is_free}
-use Rattle.keying.specs.Laws.{commands, accepted, Alternate, newest_keys}
+use Rattle.keying.proofs.Common.{◌≡◌, ℕ, zero, suc, ◌⊎◌, inl, inr, Some, ◌+◌, ◌-◌, ◌<◌, ◌≤◌, ◌&&◌, not, eqb}
+use Rattle.keying.proofs.Common.{if◌then◌else◌, Bool, true, false, List, [], ◌∷◌, ◌++◌, length, drop, refl, ap, sym}
+use Rattle.keying.proofs.Common.{subst, ◌∙◌, arith, and_parts, eqb-true, not-true, Phase, Down, Opening, Up, Words}
+use Rattle.keying.proofs.Common.{Mark, Turned, Tried, Opened, Keyed, Released, Heard, Accepted, Readied, Lost, Ticked}
+use Rattle.keying.proofs.Common.{Cut, WriteFault, Ends, Why, phase, waiting, ready, last_loss, on, lit, owed, ticks}
+use Rattle.keying.proofs.Common.{is_free, commands, accepted, newest_keys}
+use Rattle.std.proofs.Common.{length-append, length-drop, append_assoc}
+use Rattle.keying.specs.Key.{is_up}
+use Rattle.keying.specs.Laws.{Alternate}
 
 -- how commands, those without an answer, and those accepted stand to one another
 abbrev pub Stands : Phase → List Bool → ℕ → ℕ → Type 0

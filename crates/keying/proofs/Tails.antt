@@ -1,26 +1,17 @@
 -- The key and the ticks: it is on for exactly the tail after the last tick with sound.
-use Rattle.std.proofs.Common.{◌≡◌, ℕ, zero, suc, ◌+◌, ◌-◌, ◌<◌, ◌≤◌, ◌&&◌, not, eqb, if◌then◌else◌, Bool, true}
-use Rattle.std.proofs.Common.{false, List, [], ◌∷◌, ◌++◌, length, take, None, Some, refl, ap, sym, subst, ◌∙◌}
-use Rattle.std.proofs.Common.{arith, inl, inr}
-use Rattle.std.proofs.lemmas.Bool.{and_parts, and_from, cond-true, cond_both, cases_lt}
-use Rattle.std.proofs.lemmas.Bool.{eqb-true, not-true}
-use Rattle.keying.specs.declared.command.Command.TheVariants.{Release, Key as KeyOn, KeyData}
-use Rattle.keying.specs.declared.line.Phase.TheVariants.{Up}
-use Rattle.keying.specs.declared.machine.Words.{Words}
-use Rattle.keying.specs.declared.ticking.Act.{Act}
-use Rattle.keying.specs.Marks.{Mark}
-use Rattle.keying.specs.Line.{phase, waiting}
-use Rattle.keying.specs.Keyed.{on, lit, ticks, wanted}
-use Rattle.keying.specs.Key.{key_of, free, is_free}
-use Rattle.keying.specs.Rules.{is_at_limit, tick_marks}
-use Rattle.keying.specs.Calls.{ticked, Call, called, history}
-use Rattle.keying.specs.Calls.Call.{Turn, AfterTry, Tick, AfterWrite, CommandFailed, Release as AtEnd}
-use Rattle.keying.specs.Told.{keying_command, tick_told}
-use Rattle.keying.specs.Laws.{EndsTail, commands, accepted, newest_keys}
+use Rattle.keying.proofs.Common.{◌≡◌, ℕ, zero, suc, ◌+◌, ◌-◌, ◌<◌, ◌≤◌, ◌&&◌, not, eqb, if◌then◌else◌, Bool, true}
+use Rattle.keying.proofs.Common.{false, List, [], ◌∷◌, ◌++◌, length, take, None, Some, refl, ap, sym, subst, ◌∙◌, arith}
+use Rattle.keying.proofs.Common.{inl, inr, and_parts, cond-true, cond_both, cases_lt, eqb-true, not-true, Release}
+use Rattle.keying.proofs.Common.{KeyData, Up, Words, Act, Mark, phase, waiting, on, lit, ticks, wanted, key_of, free}
+use Rattle.keying.proofs.Common.{is_free, is_at_limit, tick_marks, ticked, Call, called, history, Turn, AfterTry, Tick}
+use Rattle.keying.proofs.Common.{AfterWrite, CommandFailed, keying_command, tick_told, commands, accepted, newest_keys}
+use Rattle.std.proofs.lemmas.Bool.{and_from}
+use Rattle.keying.specs.declared.command.Command.TheVariants.{Key as KeyOn}
+use Rattle.keying.specs.Calls.Call.{Release as AtEnd}
+use Rattle.keying.specs.Laws.{EndsTail}
 use Rattle.keying.proofs.Lingering.{sounded}
 use Rattle.keying.proofs.Sound.{Sound, Same, free_parts, stands_at}
-use Rattle.keying.proofs.RulesAreSound.{calm_turned, calm_tried, calm_written, calm_failed, calm_ended}
-use Rattle.keying.proofs.RulesAreSound.{sound_history}
+use Rattle.keying.proofs.RulesAreSound.{calm_turned, calm_tried, calm_written, calm_failed, calm_ended, sound_history}
 
 -- ---- lists of ticks
 

@@ -1,32 +1,24 @@
 -- The key is turned off only as the answers tell.
-use Rattle.std.proofs.Common.{◌≡◌, ℕ, ◌≤◌, ◌&&◌, not, eqb, if◌then◌else◌, Bool, true, false, List, [], ◌∷◌, ◌++◌}
-use Rattle.std.proofs.Common.{length, Option, None, Some, refl, ap, sym, subst, ◌∙◌, arith, inl, inr, ◌⊎◌}
+use Rattle.keying.proofs.Common.{◌≡◌, ℕ, ◌≤◌, ◌&&◌, not, eqb, if◌then◌else◌, Bool, true, false, List, [], ◌∷◌, ◌++◌}
+use Rattle.keying.proofs.Common.{length, Option, None, Some, refl, ap, sym, subst, ◌∙◌, arith, inl, inr, ◌⊎◌, cond-true}
+use Rattle.keying.proofs.Common.{cond_both, Release, End, Phase, Down, Opening, Up, Words, Why, Act, Mark, Fault}
+use Rattle.keying.proofs.Common.{Released, Keyed, Cut, phase, waiting, ready, last_loss, on, owed, ticks, wanted}
+use Rattle.keying.proofs.Common.{key_of, free, is_stalled, stall_marks, octet_marks, end_marks_in, is_at_limit, by_rule}
+use Rattle.keying.proofs.Common.{heard, read, listened, turned, ticked, written, ended, ending_in, keying_command}
+use Rattle.keying.proofs.Common.{tick_told, commands, accepted, newest_keys}
 use Rattle.std.specs.Option.{IsSome}
-use Rattle.std.proofs.lemmas.Bool.{cond-true, cond_both, ne_eqb}
-use Rattle.keying.specs.declared.command.Command.TheVariants.{Release}
+use Rattle.std.proofs.lemmas.Bool.{ne_eqb}
 use Rattle.keying.specs.declared.ending.Ending.{Ending}
 use Rattle.keying.specs.declared.ending.Ending.TheVariants.{Over}
-use Rattle.keying.specs.declared.line.End.{End}
-use Rattle.keying.specs.declared.line.Phase.{Phase}
-use Rattle.keying.specs.declared.line.Phase.TheVariants.{Down, Opening, Up}
-use Rattle.keying.specs.declared.machine.Words.{Words}
-use Rattle.keying.specs.declared.report.Why.{Why}
-use Rattle.keying.specs.declared.ticking.Act.{Act}
 use Rattle.keying.specs.declared.turning.Next.TheVariants.{ToRelease}
-use Rattle.keying.specs.Marks.{Mark}
-use Rattle.keying.specs.declared.line.End.TheVariants.{Fault}
 use Rattle.keying.specs.declared.report.Why.TheVariants.{Failed}
 use Rattle.keying.specs.declared.report.Report.TheVariants.{Off}
 use Rattle.keying.specs.declared.report.OffWhy.TheVariants.{Limit}
-use Rattle.keying.specs.Marks.Mark.{Released, Keyed, Cut}
-use Rattle.keying.specs.Line.{phase, time, waiting, ready, last_loss}
-use Rattle.keying.specs.Keyed.{on, owed, ending, retried, ticks, wanted}
-use Rattle.keying.specs.Key.{key_of, is_down, free}
-use Rattle.keying.specs.Rules.{is_stalled, stall_marks, octet_marks, end_marks_in, is_at_limit}
-use Rattle.keying.specs.Calls.{by_rule, heard, read, listened, turned, ticked, written, ended}
-use Rattle.keying.specs.Told.{next_in, told_loss, loss_since, turn_told, ending_in, ending_told, is_in_time}
-use Rattle.keying.specs.Told.{keying_command, tick_told, written_told, fault_told}
-use Rattle.keying.specs.Laws.{commands, accepted, newest_keys}
+use Rattle.keying.specs.Line.{time}
+use Rattle.keying.specs.Keyed.{ending, retried}
+use Rattle.keying.specs.Key.{is_down}
+use Rattle.keying.specs.Told.{next_in, told_loss, loss_since, turn_told, ending_told, is_in_time, written_told}
+use Rattle.keying.specs.Told.{fault_told}
 use Rattle.keying.proofs.Sound.{Sound, on_up, ready_on, Gone, OnOrGone}
 use Rattle.keying.proofs.RulesAreSound.{reads_read, reads_listened, calm_ended}
 

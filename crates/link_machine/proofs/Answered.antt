@@ -1,26 +1,11 @@
 -- What a call answers for an event that is not refused.
-use Rattle.std.proofs.Common.{◌≡◌, false, List}
-use Rattle.std.proofs.Common.{length, Ok, Err, Result, refl, sym, ◌∙◌, ap, subst}
+use Rattle.link_machine.proofs.Common.{◌≡◌, false, List, length, Ok, Err, refl, sym, ◌∙◌, ap, subst, Done, Machine}
+use Rattle.link_machine.proofs.Common.{sent_frames, Turn, begin, OutOfMemory, None, IsErr, Option, cond-false, settled}
+use Rattle.link_machine.proofs.Common.{step, row, refusal_of, done_of, Event, refusal, LinkFault, IfOk, StandsFor, Told}
+use Rattle.link_machine.proofs.Common.{SentFrame, is_some, IsWhole, Holds, Made, Makes}
+use Rattle.std.proofs.Common.{Result}
 use Rattle.link_machine.specs.declared.machine.Machine.{Machine as Held}
-use Rattle.link_machine.specs.Done.{Done}
-use Rattle.link_machine.specs.Machine.{Machine}
-use Rattle.link_machine.specs.Sent.{sent_frames}
-use Rattle.link_machine.specs.Turn.{Turn, begin}
-use Rattle.tnc_base.specs.declared.fault.OutOfMemory.{OutOfMemory}
-use Rattle.std.proofs.Common.{None}
-use Rattle.std.specs.Prelude.{IsErr, OnOk}
-use Rattle.std.specs.Prelude.{Option}
-use Rattle.std.proofs.lemmas.Bool.{cond-false}
-use Rattle.link_machine.specs.Step.{settled, step, row, refusal_of, done_of}
-use Rattle.link_machine.specs.Event.{Event}
-use Rattle.link_machine.specs.Requests.{refusal}
-use Rattle.link_machine.specs.declared.fault.LinkFault.{LinkFault}
-use Rattle.std.specs.Prelude.{IfOk}
-use Rattle.link_machine.specs.StandsFor.{StandsFor}
-use Rattle.link_machine.specs.declared.acts.Told.{Told}
-use Rattle.link_machine.specs.declared.acts.SentFrame.{SentFrame}
-use Rattle.std.specs.Prelude.{is_some}
-use Rattle.link_machine.specs.Held.{IsWhole, Holds, Made, Makes}
+use Rattle.std.specs.Prelude.{OnOk}
 
 -- what holds if a call did not fail
 pub on_ok : {A E : Type 0} (r : Result A E) (P : Type 0) → (IsErr r → ⊥) → OnOk r P → P

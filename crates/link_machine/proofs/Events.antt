@@ -1,43 +1,24 @@
 -- An event from its first act to its last.
-use Rattle.std.proofs.Common.{◌≡◌, ℕ, ◌+◌, ◌-◌, ◌<◌, ◌≤◌, ◌&&◌, Bool, true, false, if◌then◌else◌, List, []}
-use Rattle.std.proofs.Common.{length, take, drop, min, max, Ok, Err, Result, refl, sym, ◌∙◌, ap, subst, arith}
-use Rattle.std.proofs.Common.{inl}
-use Rattle.std.proofs.lemmas.Bool.{false≢true}
+use Rattle.link_machine.proofs.Common.{◌≡◌, ℕ, ◌+◌, ◌-◌, ◌<◌, ◌≤◌, Bool, true, false, if◌then◌else◌, List, [], length}
+use Rattle.link_machine.proofs.Common.{take, drop, min, max, Ok, Err, refl, sym, ◌∙◌, ap, subst, arith, inl, false≢true}
+use Rattle.link_machine.proofs.Common.{Packet, ahead, Outgoing, StandsForOutgoing, back, restarted, acknowledgement}
+use Rattle.link_machine.proofs.Common.{Control, Room, LinkState, Idle, Calling, Up, Releasing, Done, Machine, is_wide}
+use Rattle.link_machine.proofs.Common.{is_valid, named, Turn, Act, begin, acknowledged, answer_poll, recover, in_window}
+use Rattle.link_machine.proofs.Common.{settle, reset, close, send_packets, Asked, hear_in, hear, hear_idle}
+use Rattle.link_machine.proofs.Common.{hear_calling_in, hear_calling, hear_releasing, open_called, end_call}
+use Rattle.link_machine.proofs.Common.{acknowledged_by_srej, Kind, Info, Super, Setup, Ui, Other, Sabm, Sabme, Disc, Dm}
+use Rattle.link_machine.proofs.Common.{Ua, Frmr, Xid, Test, Incoming, OutOfMemory, zero, suc, ◌==◌, nat_lt, inr, lt-ltb}
+use Rattle.link_machine.proofs.Common.{ltb-true, ltb-false, eqb-true, not, cond-true, cond-false, settle_in, settled}
+use Rattle.link_machine.proofs.Common.{IsWhole, Holds, Shows, Made, Makes, hear_numbered, outgoing_behind}
+use Rattle.std.proofs.Common.{◌&&◌, Result}
 use Rattle.std.proofs.Math.Nat.{mod-eq_of_lt}
-use Rattle.selective_reject.specs.declared.packet.Packet.{Packet}
 use Rattle.selective_reject.specs.declared.outgoing.BadNr.{BadNr}
-use Rattle.selective_reject.specs.Numbers.{ahead}
-use Rattle.selective_reject.specs.Outgoing.{Outgoing, StandsForOutgoing}
-use Rattle.selective_reject.specs.Outgoing.{acknowledged as without_acknowledged, back, restarted, is_named}
-use Rattle.selective_reject.specs.Outgoing.{acknowledgement}
+use Rattle.selective_reject.specs.Outgoing.{acknowledged as without_acknowledged, is_named}
 use Rattle.selective_reject.proofs.OutgoingRounds.{same_acknowledgement}
-use Rattle.link_machine.specs.declared.control.Control.{Control}
 use Rattle.link_machine.specs.declared.machine.Machine.{Machine as Held}
-use Rattle.link_machine.specs.declared.room.Room.{Room}
-use Rattle.link_machine.specs.declared.state.LinkState.{LinkState}
-use Rattle.link_machine.specs.declared.state.LinkState.TheVariants.{Idle, Calling, Up, Releasing}
-use Rattle.link_machine.specs.Done.{Done}
-use Rattle.link_machine.specs.Machine.{Machine, is_wide, is_valid, named}
-use Rattle.link_machine.specs.Turn.{Turn, Act, begin}
-use Rattle.link_machine.specs.Acts.{acknowledged, timed_anew, answer_poll, recover, in_window, settle, reset, close}
-use Rattle.link_machine.specs.Acts.{send_packets}
-use Rattle.link_machine.specs.declared.acts.Why.TheVariants.{Asked}
-use Rattle.link_machine.specs.Frames.{hear_in, hear, hear_idle, hear_calling_in, hear_calling, hear_releasing}
-use Rattle.link_machine.specs.Frames.{open_called, end_call, acknowledged_by_srej}
-use Rattle.ax25_frames.specs.declared.frame.Kind.{Kind}
-use Rattle.ax25_frames.specs.declared.frame.Kind.TheVariants.{Info, Super, Setup, Ui, Other}
-use Rattle.ax25_frames.specs.declared.frame.U.TheVariants.{Sabm, Sabme, Disc, Dm, Ua}
-use Rattle.ax25_frames.specs.declared.frame.W.TheVariants.{Frmr, Xid, Test}
-use Rattle.selective_reject.specs.Incoming.{Incoming}
-use Rattle.tnc_base.specs.declared.fault.OutOfMemory.{OutOfMemory}
-use Rattle.std.proofs.Common.{zero, suc, ◌==◌, nat_lt, inr}
-use Rattle.std.proofs.lemmas.Bool.{lt-ltb, le-ltb, cases_lt, ltb-true, ltb-false, leb-true, eqb-false}
-use Rattle.std.proofs.Common.{eqb-true}
-use Rattle.std.specs.Prelude.{not}
-use Rattle.std.proofs.lemmas.Bool.{cond-true, cond-false}
-use Rattle.link_machine.specs.Step.{settle_in, settled}
+use Rattle.link_machine.specs.Acts.{timed_anew}
+use Rattle.std.proofs.lemmas.Bool.{le-ltb, cases_lt, leb-true, eqb-false}
 use Rattle.link_machine.specs.Room.{HasRoom}
-use Rattle.link_machine.specs.Held.{IsWhole, Holds, Shows, Made, Makes, hear_numbered, outgoing_behind}
 use Rattle.link_machine.proofs.PacketLemmas.{in_window_behind, in_order as in_number_order}
 
 abbrev pub is_up : LinkState → Bool

@@ -1,28 +1,13 @@
 -- Worked examples of the link's step, by computation.
+use Rattle.link_machine.proofs.Common.{Path, Command, Kind, Info, Super, Setup, Other, Rr, Rej, Srej, Sabm, Sabme, Ua}
+use Rattle.link_machine.proofs.Common.{Dm, Disc, Frmr, Packet, Mode, ahead, missing, asked, Opened, Given, Ended, Asked}
+use Rattle.link_machine.proofs.Common.{Failed, Params, Sent, SentIn, all_sent_in, InfoSent, SuperSent, SetupSent, Turn}
+use Rattle.link_machine.proofs.Common.{begin, Event, step, Connect, Send, Disconnect, Hear, Tick}
 use Rattle.std.specs.Prelude.{◌≡◌, ℕ, Bool, true, false, List, [], ◌∷◌, ◌++◌, map, fold, replicate, refl}
-use Rattle.ax25_address.specs.declared.path.Path.{Path}
 use Rattle.ax25_address.specs.declared.path.Role.{Role}
-use Rattle.ax25_address.specs.declared.path.Role.TheVariants.{Command, Response}
-use Rattle.ax25_frames.specs.declared.frame.Kind.{Kind}
-use Rattle.ax25_frames.specs.declared.frame.Kind.TheVariants.{Info, Super, Setup, Other}
-use Rattle.ax25_frames.specs.declared.frame.S.TheVariants.{Rr, Rej, Srej}
-use Rattle.ax25_frames.specs.declared.frame.U.TheVariants.{Sabm, Sabme, Ua, Dm, Disc}
-use Rattle.ax25_frames.specs.declared.frame.W.TheVariants.{Frmr}
-use Rattle.selective_reject.specs.declared.packet.Packet.{Packet}
-use Rattle.selective_reject.specs.declared.window.Mode.{Mode}
+use Rattle.ax25_address.specs.declared.path.Role.TheVariants.{Response}
 use Rattle.selective_reject.specs.declared.window.Mode.TheVariants.{Rej as RejMode, Srej as SrejMode}
-use Rattle.selective_reject.specs.Numbers.{ahead}
-use Rattle.selective_reject.specs.Places.{missing, asked}
-use Rattle.link_machine.specs.declared.acts.Told.TheVariants.{Opened, Given, Ended}
-use Rattle.link_machine.specs.declared.acts.Why.TheVariants.{Asked, Failed}
-use Rattle.link_machine.specs.declared.params.Params.{Params}
 use Rattle.link_machine.specs.Machine.{new_machine}
-use Rattle.link_machine.specs.Sent.{Sent, SentIn, all_sent_in}
-use Rattle.link_machine.specs.Sent.Sent.{InfoSent, SuperSent, SetupSent}
-use Rattle.link_machine.specs.Turn.{Turn, begin}
-use Rattle.link_machine.specs.Event.{Event}
-use Rattle.link_machine.specs.Step.{step}
-use Rattle.link_machine.specs.Event.Event.{Connect, Send, Disconnect, Hear, Tick}
 
 -- the last of several events
 abbrev run_on : List Event → Turn → Turn

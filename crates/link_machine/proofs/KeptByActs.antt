@@ -1,39 +1,21 @@
 -- What the acts of an event leave of the packets, the window and the timers.
-use Rattle.std.proofs.Common.{◌≡◌, ℕ, ◌+◌, ◌-◌, ◌%◌, ◌<◌, ◌≤◌, Bool, true, false, if◌then◌else◌, List, [], ◌∷◌}
-use Rattle.std.proofs.Common.{◌++◌, length, take, drop, min, refl, sym, ◌∙◌, ap, arith}
-use Rattle.std.proofs.Common.{inl}
-use Rattle.std.proofs.lemmas.Bool.{false≢true}
-use Rattle.selective_reject.specs.declared.packet.Packet.{Packet}
-use Rattle.selective_reject.specs.Numbers.{IsModulus, ahead}
-use Rattle.selective_reject.specs.Outgoing.{Outgoing, StandsForOutgoing, IsOutgoing}
+use Rattle.link_machine.proofs.Common.{◌≡◌, ℕ, ◌+◌, ◌-◌, ◌%◌, ◌<◌, ◌≤◌, Bool, true, false, if◌then◌else◌, List, [], ◌∷◌}
+use Rattle.link_machine.proofs.Common.{◌++◌, length, take, drop, min, refl, sym, ◌∙◌, ap, arith, inl, false≢true}
+use Rattle.link_machine.proofs.Common.{Packet, IsModulus, ahead, Outgoing, StandsForOutgoing, IsOutgoing, Control}
+use Rattle.link_machine.proofs.Common.{LinkState, Idle, Calling, Up, Releasing, Machine, ahead_of_vr, all_sent_in}
+use Rattle.link_machine.proofs.Common.{infos_from, InfoSent, Turn, setting, sending, in_order, answer_poll, in_window}
+use Rattle.link_machine.proofs.Common.{send_again, sent_packet, give, with_rej, owing, watching, nothing_due}
+use Rattle.link_machine.proofs.Common.{acknowledged_by_srej, hear_info_by_rej, take_selected, hear_info_by, ◌==◌}
+use Rattle.link_machine.proofs.Common.{nat_lt, inr, None, ltb-true, slice_get_cases, ◌⊎◌, get_or, slice_get}
+use Rattle.link_machine.proofs.Common.{option_to_list, Option, Mode, runs_out, with_t1, with_t2, with_t3, is_spent}
+use Rattle.link_machine.proofs.Common.{t2_out, t3_out, t1_out, tick_t2_of, tick_t2, tick_t3_of, tick_t1_of, tick_t1}
+use Rattle.link_machine.proofs.Common.{tick_in, Some, length-append, length-drop, drop-append-le, after_push}
+use Rattle.link_machine.proofs.Common.{outgoing_behind}
 use Rattle.selective_reject.specs.Outgoing.{acknowledged as without_acknowledged}
-use Rattle.link_machine.specs.declared.control.Control.{Control}
-use Rattle.link_machine.specs.declared.state.LinkState.{LinkState}
-use Rattle.link_machine.specs.declared.state.LinkState.TheVariants.{Idle, Calling, Up, Releasing}
-use Rattle.link_machine.specs.Machine.{Machine, ahead_of_vr}
-use Rattle.link_machine.specs.Sent.{all_sent_in, infos_from}
-use Rattle.link_machine.specs.Sent.Sent.{InfoSent}
-use Rattle.link_machine.specs.Turn.{Turn, setting, sending, in_order}
-use Rattle.link_machine.specs.Acts.{answer_poll, in_window}
-use Rattle.link_machine.specs.Acts.{send_again, sent_packet, give, with_rej, owing, watching, nothing_due}
-use Rattle.link_machine.specs.Frames.{acknowledged_by_srej, hear_info_by_rej, take_selected}
-use Rattle.link_machine.specs.Frames.{hear_info_by_srej, hear_info_by}
-use Rattle.std.proofs.Common.{◌==◌, nat_lt, inr, None}
-use Rattle.std.proofs.lemmas.Bool.{ltb-true}
-use Rattle.std.proofs.lemmas.Option.{slice_get_cases}
-use Rattle.std.specs.Prelude.{◌⊎◌, get_or}
-use Rattle.std.specs.List.{slice_get}
-use Rattle.std.specs.Option.{option_to_list}
-use Rattle.std.specs.Prelude.{Option}
-use Rattle.selective_reject.specs.declared.window.Mode.{Mode}
+use Rattle.link_machine.specs.Frames.{hear_info_by_srej}
 use Rattle.selective_reject.specs.declared.window.Mode.TheVariants.{Rej as RejMode, Srej as SrejMode}
 use Rattle.link_machine.proofs.PacketLemmas.{slice_get-drop}
-use Rattle.link_machine.specs.Ticks.{runs_out, with_t1, with_t2, with_t3, is_spent, t2_out, t3_out, t1_out, tick_t2_of}
-use Rattle.link_machine.specs.Ticks.{tick_t2, tick_t3_of, tick_t1_of, tick_t1, tick_in}
-use Rattle.std.proofs.Common.{Some, length-append, length-drop}
-use Rattle.std.proofs.lemmas.List.{take_all, drop-append-le, take-append-le}
-use Rattle.selective_reject.specs.Outgoing.{after_push}
-use Rattle.link_machine.specs.Held.{outgoing_behind}
+use Rattle.std.proofs.lemmas.List.{take_all, take-append-le}
 use Rattle.link_machine.proofs.Events.{acknowledged_poll, in_window_now, is_up, same_less}
 
 -- what a turn leaves of the packets and the window

@@ -1,28 +1,19 @@
 -- Packets that go out one by one.
-use Rattle.std.proofs.Common.{◌≡◌, ℕ, ◌+◌, ◌-◌, ◌%◌, ◌≤◌, Bool, true, false, List, [], ◌∷◌, ◌++◌, length, take, drop}
-use Rattle.std.proofs.Common.{min, max, Some, refl, sym, ◌∙◌, ap, subst, arith, append_assoc, length-append}
-use Rattle.std.proofs.Common.{length-take, length-drop}
-use Rattle.std.proofs.Common.{suc, zero}
-use Rattle.std.proofs.lemmas.Bool.{lt-ltb, cond-true}
+use Rattle.link_machine.proofs.Common.{◌≡◌, ℕ, ◌+◌, ◌-◌, ◌%◌, ◌≤◌, Bool, true, false, List, [], ◌∷◌, ◌++◌, length, take}
+use Rattle.link_machine.proofs.Common.{drop, min, max, Some, refl, sym, ◌∙◌, ap, subst, arith, append_assoc}
+use Rattle.link_machine.proofs.Common.{length-append, length-drop, suc, zero, lt-ltb, cond-true, drop-drop, map-append}
+use Rattle.link_machine.proofs.Common.{slice_get, option_to_list, Room, Machine, number_to_send, outgoing_behind}
+use Rattle.link_machine.proofs.Common.{Option, Packet, Outgoing, StandsForOutgoing, IsOutgoing, after_next, SentIn}
+use Rattle.link_machine.proofs.Common.{sent_in, all_sent_in, infos_from, InfoSent, Turn, in_window, Holds, Shows}
+use Rattle.link_machine.proofs.Common.{sending_packets}
+use Rattle.std.proofs.Common.{length-take}
 use Rattle.std.proofs.lemmas.Grind.{common_steps}
-use Rattle.std.proofs.lemmas.List.{drop-drop, map-append}
-use Rattle.std.specs.List.{slice_get}
-use Rattle.std.specs.Option.{option_to_list}
 use Rattle.std.specs.Option.{unwrap_or}
 use Rattle.link_machine.specs.declared.machine.Machine.{Machine as Held}
-use Rattle.link_machine.specs.declared.room.Room.{Room}
-use Rattle.link_machine.specs.Machine.{Machine}
 use Rattle.link_machine.proofs.Showing.{shows_changing, holds_outgoing}
-use Rattle.selective_reject.specs.Outgoing.{number_to_send}
-use Rattle.link_machine.specs.Held.{outgoing_behind}
-use Rattle.std.specs.Prelude.{Option}
-use Rattle.selective_reject.specs.declared.packet.Packet.{Packet}
-use Rattle.selective_reject.specs.Outgoing.{Outgoing, StandsForOutgoing, IsOutgoing, may_send, after_next}
-use Rattle.link_machine.specs.Sent.{SentIn, sent_in, all_sent_in, infos_from}
-use Rattle.link_machine.specs.Sent.Sent.{InfoSent}
-use Rattle.link_machine.specs.Turn.{Turn}
-use Rattle.link_machine.specs.Acts.{in_window, sent_to}
-use Rattle.link_machine.specs.Held.{Holds, Shows, sending_packets, send_next}
+use Rattle.selective_reject.specs.Outgoing.{may_send}
+use Rattle.link_machine.specs.Acts.{sent_to}
+use Rattle.link_machine.specs.Held.{send_next}
 
 -- one packet more
 pub infos_from_more :

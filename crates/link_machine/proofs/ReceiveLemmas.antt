@@ -1,26 +1,20 @@
 -- What becomes of the packet of an I frame.
-use Rattle.std.proofs.Common.{◌≡◌, ℕ, zero, suc, ◌+◌, ◌%◌, ◌<◌, ◌≤◌, ◌==◌, ◌&&◌, not, Bool, true, false, if◌then◌else◌}
-use Rattle.std.proofs.Common.{List, [], ◌∷◌, ◌++◌, length, drop, map, replicate, Some, refl, sym, ◌∙◌, ap, arith}
-use Rattle.std.proofs.Common.{nat_lt, eqb-true}
+use Rattle.link_machine.proofs.Common.{◌≡◌, ℕ, zero, suc, ◌+◌, ◌%◌, ◌<◌, ◌≤◌, ◌==◌, Bool, true, false, if◌then◌else◌}
+use Rattle.link_machine.proofs.Common.{List, [], ◌∷◌, ◌++◌, length, drop, map, replicate, Some, refl, sym, ◌∙◌, ap}
+use Rattle.link_machine.proofs.Common.{arith, nat_lt, eqb-true, false≢true, lt-ltb, ltb-true, cond-true, Packet, Place}
+use Rattle.link_machine.proofs.Common.{Next, Stored, Mode, ahead, empty_place, packet_at, is_full, with_packet, missing}
+use Rattle.link_machine.proofs.Common.{asked, Incoming, took, keeps, after_accept, before_number, numbers_to_ask}
+use Rattle.link_machine.proofs.Common.{moved_on, srej_for, Machine, all_sent_in, sent_frames, IsReady, srej_frame}
+use Rattle.std.proofs.Common.{◌&&◌, not}
 use Rattle.std.proofs.lemmas.List.{length-map}
 use Rattle.std.specs.Prelude.{filter}
 use Rattle.std.specs.List.{range_with_len}
-use Rattle.std.proofs.lemmas.Bool.{false≢true, lt-ltb, ltb-true, cond-true}
-use Rattle.selective_reject.specs.declared.packet.Packet.{Packet}
-use Rattle.selective_reject.specs.declared.place.Place.{Place}
 use Rattle.selective_reject.specs.declared.incoming.Took.{Took}
-use Rattle.selective_reject.specs.declared.incoming.Took.TheVariants.{Next, NotNext, Stored, Again, Outside}
-use Rattle.selective_reject.specs.declared.window.Mode.{Mode}
+use Rattle.selective_reject.specs.declared.incoming.Took.TheVariants.{NotNext, Again, Outside}
 use Rattle.selective_reject.specs.declared.window.Mode.TheVariants.{Rej, Srej}
-use Rattle.selective_reject.specs.Numbers.{ahead}
-use Rattle.selective_reject.specs.Places.{empty_place, packet_at, is_full, with_packet, missing, asked, is_missing}
-use Rattle.selective_reject.specs.Incoming.{Incoming, taking_by, took, keeps, after_accept, empty_incoming}
-use Rattle.selective_reject.specs.Incoming.{before_number, numbers_to_ask}
-use Rattle.link_machine.specs.Acts.{moved_on, srej_for}
-use Rattle.link_machine.specs.Machine.{Machine}
+use Rattle.selective_reject.specs.Places.{is_missing}
+use Rattle.selective_reject.specs.Incoming.{taking_by, empty_incoming}
 use Rattle.link_machine.specs.declared.machine.Machine.{Machine as Held}
-use Rattle.link_machine.specs.Sent.{all_sent_in, sent_frames}
-use Rattle.link_machine.specs.Held.{IsReady, srej_frame}
 
 abbrev pub is_next : Took → Bool
 is_next Next = true

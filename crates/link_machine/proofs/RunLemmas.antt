@@ -1,16 +1,12 @@
 -- Packets that are given in sequence, and those that are asked for.
-use Rattle.std.proofs.Common.{◌≡◌, ℕ, zero, suc, ◌+◌, ◌%◌, ◌<◌, ◌≤◌, Bool, true, false, if◌then◌else◌, List, [], ◌∷◌}
-use Rattle.std.proofs.Common.{◌++◌, length, take, drop, replicate, Some, None, refl, sym, ◌∙◌, ap, subst, arith}
-use Rattle.std.proofs.Common.{append_assoc}
-use Rattle.std.specs.Prelude.{Option, is_some}
-use Rattle.std.proofs.lemmas.Bool.{false≢true}
-use Rattle.std.proofs.lemmas.List.{drop-drop, drop-append-le}
-use Rattle.std.proofs.Common.{length-drop, append-nil, zero-add}
-use Rattle.selective_reject.specs.declared.packet.Packet.{Packet}
-use Rattle.selective_reject.specs.declared.place.Place.{Place}
-use Rattle.selective_reject.specs.Places.{empty_place, packet_at, is_full, with_packet}
-use Rattle.selective_reject.specs.Incoming.{Incoming, StandsForIncoming, after_take, reduced_incoming}
-use Rattle.link_machine.specs.Acts.{before_gap, run, moved_on}
+use Rattle.link_machine.proofs.Common.{◌≡◌, ℕ, zero, suc, ◌+◌, ◌%◌, ◌<◌, ◌≤◌, Bool, true, false, if◌then◌else◌, List}
+use Rattle.link_machine.proofs.Common.{[], ◌∷◌, ◌++◌, length, take, drop, replicate, Some, None, refl, sym, ◌∙◌, ap}
+use Rattle.link_machine.proofs.Common.{subst, arith, append_assoc, Option, is_some, false≢true, drop-drop}
+use Rattle.link_machine.proofs.Common.{drop-append-le, length-drop, Packet, Place, empty_place, packet_at, is_full}
+use Rattle.link_machine.proofs.Common.{with_packet, Incoming, StandsForIncoming, run, moved_on}
+use Rattle.std.proofs.Common.{append-nil, zero-add}
+use Rattle.selective_reject.specs.Incoming.{after_take, reduced_incoming}
+use Rattle.link_machine.specs.Acts.{before_gap}
 
 -- an empty place after changes no run
 pub run-push : (ps : List Place) → run (ps ++ empty_place ∷ []) ≡ run ps

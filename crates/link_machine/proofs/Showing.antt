@@ -1,18 +1,10 @@
 -- How what a link keeps follows the acts of a turn.
-use Rattle.std.proofs.Common.{◌≡◌, ℕ, ◌%◌, List, [], ◌∷◌, ◌++◌, length, map, refl, sym, ◌∙◌, ap, subst}
-use Rattle.std.proofs.lemmas.List.{map-append}
-use Rattle.selective_reject.specs.Outgoing.{Outgoing, IsOutgoing, StandsForOutgoing}
-use Rattle.selective_reject.specs.Incoming.{Incoming, IsIncoming, StandsForIncoming}
-use Rattle.selective_reject.specs.declared.packet.Packet.{Packet}
-use Rattle.link_machine.specs.Acts.{moved_on, give}
-use Rattle.link_machine.specs.declared.acts.Told.TheVariants.{Given}
-use Rattle.link_machine.specs.declared.control.Control.{Control}
+use Rattle.link_machine.proofs.Common.{◌≡◌, ℕ, ◌%◌, List, [], ◌∷◌, ◌++◌, length, map, refl, sym, ◌∙◌, ap, subst}
+use Rattle.link_machine.proofs.Common.{map-append, Outgoing, IsOutgoing, StandsForOutgoing, Incoming, IsIncoming}
+use Rattle.link_machine.proofs.Common.{StandsForIncoming, Packet, moved_on, give, Given, Control, Room, Machine, fresh}
+use Rattle.link_machine.proofs.Common.{emptied, in_modulus, Sent, sent_in, sent_frame, sent_frames, Turn, changing}
+use Rattle.link_machine.proofs.Common.{setting, sending, IsReady, Holds, Shows}
 use Rattle.link_machine.specs.declared.machine.Machine.{Machine as Held}
-use Rattle.link_machine.specs.declared.room.Room.{Room}
-use Rattle.link_machine.specs.Machine.{Machine, fresh, emptied, in_modulus}
-use Rattle.link_machine.specs.Sent.{Sent, sent_in, sent_frame, sent_frames}
-use Rattle.link_machine.specs.Turn.{Turn, changing, setting, sending}
-use Rattle.link_machine.specs.Held.{IsReady, Holds, Shows}
 
 -- only the variables change
 pub holds_setting :

@@ -1,70 +1,45 @@
 -- Every frame that a link sends can be written in its modulus: its numbers are below it, and its packet is short.
-use Rattle.std.proofs.Common.{◌≡◌, ℕ, ◌+◌, ◌-◌, ◌<◌, ◌≤◌, ◌==◌, ◌&&◌, ◌||◌, not, Bool, true, false, if◌then◌else◌}
-use Rattle.std.proofs.Common.{List, [], ◌∷◌, ◌++◌, length, drop, map, min, None, Some, refl, sym, ap, subst}
-use Rattle.std.proofs.Common.{arith, nat_lt, nat_le, inl, inr}
-use Rattle.std.specs.Prelude.{All, Option, is_some, get_or, ◌⊎◌, ⊤}
-use Rattle.std.specs.List.{slice_get}
-use Rattle.std.specs.Option.{option_to_list}
-use Rattle.std.proofs.lemmas.Option.{slice_get_cases}
+use Rattle.link_machine.proofs.Common.{◌≡◌, ℕ, ◌+◌, ◌-◌, ◌<◌, ◌≤◌, ◌==◌, Bool, true, false, if◌then◌else◌, List, []}
+use Rattle.link_machine.proofs.Common.{◌∷◌, ◌++◌, length, drop, map, min, None, Some, refl, sym, ap, subst, arith}
+use Rattle.link_machine.proofs.Common.{nat_lt, inl, inr, Option, is_some, get_or, ◌⊎◌, slice_get, option_to_list}
+use Rattle.link_machine.proofs.Common.{slice_get_cases, ltb-false, false≢true, Path, Kind, Info, Super, Setup, Ui}
+use Rattle.link_machine.proofs.Common.{Other, S, Rr, Rnr, Rej, Srej, Sabm, Sabme, Disc, Dm, Ua, Frmr, Xid, Test, Packet}
+use Rattle.link_machine.proofs.Common.{Mode, IsModulus, Outgoing, is_full, missing, Told, Opened, Ended, Failed, Reset}
+use Rattle.link_machine.proofs.Common.{Control, LinkFault, LinkState, Idle, Calling, Up, Releasing, Machine, fresh}
+use Rattle.link_machine.proofs.Common.{emptied, in_modulus, narrowed, in_state, is_wide, is_valid, named, ahead_of_vr}
+use Rattle.link_machine.proofs.Common.{Sent, SentIn, sent_in, all_sent_in, infos_from, sent_frame, InfoSent, SuperSent}
+use Rattle.link_machine.proofs.Common.{SetupSent, Turn, Act, begin, changing, setting, sending, telling, acknowledged}
+use Rattle.link_machine.proofs.Common.{nothing_due, report, answer_poll, gone_back, recover, polling, poll, in_window}
+use Rattle.link_machine.proofs.Common.{send_packets, flush, releasing, close, settle, calling, reset, owing, with_rej}
+use Rattle.link_machine.proofs.Common.{reject, run_with, give, stored, srej_for, ask, watching, sent_packet, send_again}
+use Rattle.link_machine.proofs.Common.{quitting, answer_dm, stopped_t1, end_call, stopped, leave, open_called}
+use Rattle.link_machine.proofs.Common.{unretried_call, hear_idle, hear_calling_in, hear_releasing, with_busy, hear_rr}
+use Rattle.link_machine.proofs.Common.{hear_rnr, hear_rej, acknowledged_by_srej, hear_srej, take_in_sequence}
+use Rattle.link_machine.proofs.Common.{hear_info_by_rej, take_selected, hear_info_by, hear_info, open_again}
+use Rattle.link_machine.proofs.Common.{end_by_disc, end_by_dm, hear_in, runs_out, lowered, with_t1, with_t2, with_t3}
+use Rattle.link_machine.proofs.Common.{t2_out, retried, is_spent, t1_out, unretried, t3_out, tick_t2_of, tick_t2}
+use Rattle.link_machine.proofs.Common.{tick_t3_of, tick_t1_of, tick_t1, tick_in, Event, Connect, Send, Disconnect, Hear}
+use Rattle.link_machine.proofs.Common.{Tick, refusal_of, row, settle_in, settled, step, done_of, Done, Made, Makes}
+use Rattle.link_machine.proofs.Common.{OutOfMemory, Result, IfOk, Ok, Err}
+use Rattle.std.proofs.Common.{◌&&◌, ◌||◌, not, nat_le}
+use Rattle.std.specs.Prelude.{All, ⊤}
 use Rattle.std.proofs.lemmas.List.Elements.{All-nil, All-cons, All-head, All-tail, All-same, All-append, All-push}
 use Rattle.std.proofs.lemmas.List.Elements.{All-take, All-drop, All-map, All-get_or, All-weaker}
-use Rattle.std.proofs.lemmas.Bool.{ltb-false, false≢true}
-use Rattle.ax25_address.specs.declared.path.Path.{Path}
-use Rattle.ax25_frames.specs.declared.frame.Kind.{Kind}
-use Rattle.ax25_frames.specs.declared.frame.Kind.TheVariants.{Info, Super, Setup, Ui, Other}
 use Rattle.ax25_frames.specs.declared.frame.Modulus.TheVariants.{Eight, OneTwentyEight}
-use Rattle.ax25_frames.specs.declared.frame.S.{S}
-use Rattle.ax25_frames.specs.declared.frame.S.TheVariants.{Rr, Rnr, Rej, Srej}
-use Rattle.ax25_frames.specs.declared.frame.U.TheVariants.{Sabm, Sabme, Disc, Dm, Ua}
-use Rattle.ax25_frames.specs.declared.frame.W.TheVariants.{Frmr, Xid, Test}
 use Rattle.ax25_frames.specs.FrameOctets.{CanWrite}
-use Rattle.selective_reject.specs.declared.packet.Packet.{Packet}
-use Rattle.selective_reject.specs.declared.window.Mode.{Mode}
 use Rattle.selective_reject.specs.declared.window.Mode.TheVariants.{Rej as RejMode, Srej as SrejMode}
-use Rattle.selective_reject.specs.Numbers.{IsModulus}
-use Rattle.selective_reject.specs.Outgoing.{Outgoing}
-use Rattle.selective_reject.specs.Places.{is_full, missing}
-use Rattle.link_machine.specs.declared.acts.Told.{Told}
-use Rattle.link_machine.specs.declared.acts.Told.TheVariants.{Opened, Ended}
 use Rattle.link_machine.specs.declared.acts.Why.{Why}
-use Rattle.link_machine.specs.declared.acts.Why.TheVariants.{Failed, Peer, Reset}
-use Rattle.link_machine.specs.declared.control.Control.{Control}
-use Rattle.link_machine.specs.declared.fault.LinkFault.{LinkFault}
+use Rattle.link_machine.specs.declared.acts.Why.TheVariants.{Peer}
 use Rattle.link_machine.specs.declared.fault.LinkFault.TheVariants.{Full, TooLong}
-use Rattle.link_machine.specs.declared.state.LinkState.{LinkState}
-use Rattle.link_machine.specs.declared.state.LinkState.TheVariants.{Idle, Calling, Up, Releasing}
-use Rattle.link_machine.specs.Machine.{Machine, fresh, emptied, in_modulus, narrowed, in_own_modulus, modulus_named}
-use Rattle.link_machine.specs.Machine.{in_state, is_wide, is_valid, named, ahead_of_vr}
-use Rattle.link_machine.specs.Sent.{Sent, SentIn, sent_in, all_sent_in, infos_from, frame_of, sent_frame}
-use Rattle.link_machine.specs.Sent.{IsWritable}
-use Rattle.link_machine.specs.Sent.Sent.{InfoSent, SuperSent, SetupSent}
-use Rattle.link_machine.specs.Turn.{Turn, Act, begin, changing, setting, sending, telling}
-use Rattle.link_machine.specs.Acts.{acknowledged, nothing_due, report, respond_ready, answer_poll, gone_back}
-use Rattle.link_machine.specs.Acts.{behind_poll, recover, polling, poll, in_window, to_send, send_packets}
-use Rattle.link_machine.specs.Acts.{flush, releasing, release, close, settle, calling_frame, send_call, calling, call}
-use Rattle.link_machine.specs.Acts.{reset, owing, with_rej, reject, run_with, give, stored, srej_for, ask, watching}
-use Rattle.link_machine.specs.Acts.{sent_packet, send_again}
-use Rattle.link_machine.specs.Requests.{quitting, is_closed}
-use Rattle.link_machine.specs.Frames.{answer_ua, answer_dm, stopped_t1, end_call, stopped, leave, open_called}
-use Rattle.link_machine.specs.Frames.{open_answered, unretried_call, call_narrow, hear_idle, hear_calling_in}
-use Rattle.link_machine.specs.Frames.{hear_releasing, with_busy, hear_rr, hear_rnr, hear_rej}
-use Rattle.link_machine.specs.Frames.{acknowledged_by_srej, hear_srej, hear_supervisory, take_in_sequence}
-use Rattle.link_machine.specs.Frames.{hear_info_by_rej, take_selected}
-use Rattle.link_machine.specs.Frames.{hear_info_by, hear_info, open_again, end_by_disc, end_by_dm, hear_up, hear_in}
-use Rattle.link_machine.specs.Ticks.{runs_out, lowered, with_t1, with_t2, with_t3, t2_out, retried, is_spent}
-use Rattle.link_machine.specs.Ticks.{t1_out, unretried, t3_out, tick_t2_of}
-use Rattle.link_machine.specs.Ticks.{tick_t2, tick_t3_of, tick_t1_of, tick_t1, tick_in}
-use Rattle.link_machine.specs.Event.{Event}
-use Rattle.link_machine.specs.Event.Event.{Connect, Send, Disconnect, Hear, Tick}
-use Rattle.link_machine.specs.Step.{refusal_of, row, settle_in, settled, step, done_of}
+use Rattle.link_machine.specs.Machine.{in_own_modulus, modulus_named}
+use Rattle.link_machine.specs.Sent.{frame_of, IsWritable}
+use Rattle.link_machine.specs.Acts.{respond_ready, behind_poll, to_send, release, calling_frame, send_call, call}
+use Rattle.link_machine.specs.Requests.{is_closed}
+use Rattle.link_machine.specs.Frames.{answer_ua, open_answered, call_narrow, hear_supervisory, hear_up}
 use Rattle.link_machine.specs.declared.machine.Machine.{Machine as Held}
-use Rattle.link_machine.specs.Done.{Done}
-use Rattle.link_machine.specs.Held.{IsShort, IsKept, Made, Makes}
+use Rattle.link_machine.specs.Held.{IsShort, IsKept}
 use Rattle.link_machine.proofs.Events.{itself, holds_itself, whole_of}
 use Rattle.link_machine.proofs.Answered.{answers_right}
-use Rattle.tnc_base.specs.declared.fault.OutOfMemory.{OutOfMemory}
-use Rattle.std.specs.Prelude.{Result, IfOk}
-use Rattle.std.proofs.Common.{Ok, Err}
 
 -- a machine with a modulus of AX.25, whose packets are short
 pub record IsSound (m : Machine) : Type 0 where

@@ -1,16 +1,13 @@
 -- A link that counts goes on doing so, and each frame that it sends may be written in its modulus.
-use Rattle.std.proofs.Common.{◌≡◌, Bool, ◌++◌, map, sym, subst}
-use Rattle.std.specs.Prelude.{All}
+use Rattle.link_world.proofs.Common.{◌≡◌, Bool, ◌++◌, map, sym, subst, All, Done, Machine, step, done_of, CanFly}
+use Rattle.link_world.proofs.Common.{flying}
 use Rattle.std.proofs.lemmas.List.Elements.{All-append, All-map}
 use Rattle.link_machine.specs.declared.machine.Machine.{Machine as HeldLink}
-use Rattle.link_machine.specs.Done.{Done}
-use Rattle.link_machine.specs.Machine.{Machine}
 use Rattle.link_machine.specs.StandsFor.{StandsFor as LinkStandsFor}
 use Rattle.link_machine.specs.Event.{Event}
-use Rattle.link_machine.specs.Step.{step, done_of}
 use Rattle.link_machine.proofs.Writable.{writable_step}
 use Rattle.link_world.specs.declared.side.Side.{Side as HeldSide}
-use Rattle.link_world.specs.Held.{IsRunning, CanFly, IsSide, flying}
+use Rattle.link_world.specs.Held.{IsRunning, IsSide}
 use Rattle.link_world.proofs.StepGrowth.{counting_sound, step_keeps}
 
 -- the step of a link, if its calls say so

@@ -1,6 +1,5 @@
 -- Errors that are passed on.
-use Rattle.std.proofs.Common.{◌≡◌, sym, ◌∙◌, ap, Result, Err}
-use Rattle.std.specs.Prelude.{◌↔◌}
+use Rattle.link_world.proofs.Common.{◌≡◌, sym, ◌∙◌, ap, Result, Err, ◌↔◌}
 
 -- a result has one error
 error_is : {T E : Type 0} (r : Result T E) (f e : E) → r ≡ Err f → r ≡ Err e → f ≡ e

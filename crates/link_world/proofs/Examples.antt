@@ -1,28 +1,14 @@
 -- Worked examples of two links, by computation.
+use Rattle.link_world.proofs.Common.{Packet, Mode, ahead, missing, asked, Opened, Ended, Reset, Refused, Params, Sent}
+use Rattle.link_world.proofs.Common.{InfoSent, SuperSent, SetupSent, Sabm, Dm, Info, Super, Eight, OneTwentyEight, End}
+use Rattle.link_world.proofs.Common.{A, B, Event, Connect, Send, Tick, Hear, Lose, kind_read, Tagged, World, run}
+use Rattle.link_world.proofs.Common.{towards, is_quiet}
 use Rattle.std.specs.Prelude.{◌≡◌, ℕ, true, false, List, [], ◌∷◌, ◌++◌, map, replicate, length, refl, Some, None}
-use Rattle.selective_reject.specs.declared.packet.Packet.{Packet}
-use Rattle.selective_reject.specs.declared.window.Mode.{Mode}
 use Rattle.selective_reject.specs.declared.window.Mode.TheVariants.{Rej, Srej}
-use Rattle.selective_reject.specs.Numbers.{ahead}
-use Rattle.selective_reject.specs.Places.{missing, asked}
-use Rattle.link_machine.specs.declared.acts.Told.TheVariants.{Opened, Ended}
-use Rattle.link_machine.specs.declared.acts.Why.TheVariants.{Reset, Refused}
-use Rattle.link_machine.specs.declared.params.Params.{Params}
-use Rattle.link_machine.specs.Sent.{Sent}
-use Rattle.link_machine.specs.Sent.Sent.{InfoSent, SuperSent, SetupSent}
 use Rattle.link_machine.specs.Step.{step as link_step}
 use Rattle.ax25_frames.specs.declared.frame.S.TheVariants.{Rr as RrFrame, Rej as RejFrame, Srej as SrejFrame}
-use Rattle.ax25_frames.specs.declared.frame.U.TheVariants.{Sabm, Dm}
-use Rattle.ax25_frames.specs.declared.frame.Kind.TheVariants.{Info, Super}
-use Rattle.ax25_frames.specs.declared.frame.Modulus.TheVariants.{Eight, OneTwentyEight}
-use Rattle.link_world.specs.declared.end.End.{End}
-use Rattle.link_world.specs.declared.end.End.TheVariants.{A, B}
-use Rattle.link_world.specs.declared.event.Event.{Event}
-use Rattle.link_world.specs.declared.event.Event.TheVariants.{Connect, Send, Tick, Hear, Lose}
-use Rattle.link_world.specs.Reading.{kind_read}
-use Rattle.link_world.specs.Flight.{Tagged}
-use Rattle.link_world.specs.World.{World, first_world, run, towards, told_by}
-use Rattle.link_world.specs.Quiet.{is_quiet, is_quiet_to_send}
+use Rattle.link_world.specs.World.{first_world, told_by}
+use Rattle.link_world.specs.Quiet.{is_quiet_to_send}
 
 abbrev params : Mode → ℕ → Params
 params mode window = record { mode = mode; window = window; wide = false; wide_window = 32 }

@@ -1,27 +1,16 @@
 -- How two sides follow the step of a world.
-use Rattle.std.proofs.Common.{◌≡◌, ℕ, ◌+◌, Bool, true, false, if◌then◌else◌, List, ◌++◌, length, map, sym, ◌∙◌, ap}
-use Rattle.std.proofs.Common.{subst, Some, None}
+use Rattle.link_world.proofs.Common.{◌≡◌, ℕ, ◌+◌, Bool, true, false, if◌then◌else◌, List, ◌++◌, length, map, sym, ◌∙◌}
+use Rattle.link_world.proofs.Common.{ap, subst, Some, None, map-append, Told, LinkFault, Done, step, done_of, Event}
+use Rattle.link_world.proofs.Common.{WorldFault, NothingThere, InFlight, asks_in, answers_in, Happening, EndTurn}
+use Rattle.link_world.proofs.Common.{end_turn, seen, hears_ask, World, near_turn, staying, is_alone, sends_alone}
+use Rattle.link_world.proofs.Common.{is_there, refused_by, near_cause, in_flight, all_in_flight, StandForBoth, flying}
+use Rattle.link_world.proofs.Common.{asking_frames, asking, answering, MadeStep, Flew, Stayed}
 use Rattle.std.specs.Prelude.{Option}
-use Rattle.std.proofs.lemmas.List.{map-append}
-use Rattle.link_machine.specs.declared.acts.Told.{Told}
-use Rattle.link_machine.specs.declared.fault.LinkFault.{LinkFault}
 use Rattle.link_machine.specs.declared.machine.Machine.{Machine as HeldLink}
-use Rattle.link_machine.specs.Done.{Done}
 use Rattle.link_machine.specs.StandsFor.{StandsFor as LinkStandsFor}
-use Rattle.link_machine.specs.Step.{step, done_of}
-use Rattle.link_world.specs.declared.event.Event.{Event}
-use Rattle.link_world.specs.declared.fault.WorldFault.{WorldFault}
-use Rattle.link_world.specs.declared.fault.WorldFault.TheVariants.{NothingThere}
-use Rattle.link_world.specs.declared.flight.InFlight.{InFlight}
 use Rattle.link_world.specs.declared.side.Side.{Side as HeldSide}
-use Rattle.link_world.specs.Flight.{asks_in, answers_in}
-use Rattle.link_world.specs.Recorded.{Happening, EndTurn, end_turn, seen, hears_ask}
-use Rattle.link_world.specs.World.{World, near_turn, staying}
-use Rattle.link_world.specs.Quiet.{is_alone, sends_alone}
-use Rattle.link_world.specs.Faults.{is_there, refused_by, cause_by, near_cause}
-use Rattle.link_world.specs.StandsFor.{in_flight, all_in_flight}
-use Rattle.link_world.specs.Held.{StandForBoth, flying, asking_frames, asking, answering, may_fly, MadeStep, Flew}
-use Rattle.link_world.specs.Held.{Stayed}
+use Rattle.link_world.specs.Faults.{cause_by}
+use Rattle.link_world.specs.Held.{may_fly}
 use Rattle.link_world.proofs.TagLemmas.{frames-tagged, all_in_flight-tagged, asks_in-flight, answers_in-flight}
 use Rattle.link_world.proofs.TagLemmas.{asks_in-frames}
 

@@ -1,3 +1,4 @@
+pub mod Common
 pub mod Rereading
 pub mod StepGrowth
 pub mod TagLemmas

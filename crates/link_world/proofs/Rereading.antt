@@ -1,25 +1,21 @@
 -- A frame that is written in one modulus and read in another, in octets: what it is read as, and that it is read as
 -- nothing else.
-use Rattle.std.proofs.Common.{◌≡◌, ℕ, ◌+◌, ◌*◌, ◌/◌, ◌%◌, ◌<◌, ◌≤◌, Bool, true, false, ◌==◌, nat_lt, if◌then◌else◌}
-use Rattle.std.proofs.Common.{List, [], ◌∷◌, length, drop, Option, Some, None, ◌⊎◌, inl, inr, refl, sym, ap, ◌∙◌, subst}
-use Rattle.std.proofs.Common.{arith}
-use Rattle.std.specs.Prelude.{All, Result, Ok, Err, IfOk, IfErr}
-use Rattle.std.proofs.lemmas.List.Elements.{All-drop}
-use Rattle.std.proofs.lemmas.Bool.{eqb-true, eqb-false, ltb-true, ltb-false}
+use Rattle.link_world.proofs.Common.{◌≡◌, ℕ, ◌+◌, ◌%◌, ◌<◌, ◌≤◌, Bool, true, false, ◌==◌, nat_lt, if◌then◌else◌, List}
+use Rattle.link_world.proofs.Common.{[], ◌∷◌, length, drop, Option, Some, None, ◌⊎◌, inl, inr, refl, sym, ap, ◌∙◌}
+use Rattle.link_world.proofs.Common.{subst, arith, All, IfOk, IfErr, All-drop, eqb-true, eqb-false, ltb-true, Modulus}
+use Rattle.link_world.proofs.Common.{Eight, OneTwentyEight, Kind, Info, Super, Setup, Ui, Other, S, Sabm, Dm, Frame}
+use Rattle.link_world.proofs.Common.{IsFrame, kind_read, frame_read, with_kind, read_narrow}
+use Rattle.std.proofs.Common.{◌*◌, ◌/◌}
+use Rattle.std.specs.Prelude.{Result, Ok, Err}
+use Rattle.std.proofs.lemmas.Bool.{ltb-false}
 use Rattle.ax25_address.specs.AddressField.{bit}
-use Rattle.ax25_frames.specs.declared.frame.Modulus.{Modulus}
-use Rattle.ax25_frames.specs.declared.frame.Modulus.TheVariants.{Eight, OneTwentyEight}
-use Rattle.ax25_frames.specs.declared.frame.Kind.{Kind}
-use Rattle.ax25_frames.specs.declared.frame.Kind.TheVariants.{Info, Super, Setup, Ui, Other}
-use Rattle.ax25_frames.specs.declared.frame.S.{S}
-use Rattle.ax25_frames.specs.declared.frame.U.TheVariants.{Sabm, Sabme, Disc, Dm, Ua}
+use Rattle.ax25_frames.specs.declared.frame.U.TheVariants.{Sabme, Disc, Ua}
 use Rattle.ax25_frames.specs.declared.frame.W.TheVariants.{Frmr, Xid, Test}
 use Rattle.ax25_address.proofs.OneReading.{BeginsWithPath-same}
-use Rattle.ax25_frames.specs.declared.frame.Frame.{Frame}
 use Rattle.ax25_frames.specs.declared.fault.FrameFault.{FrameFault}
 use Rattle.ax25_frames.specs.declared.fault.FrameFault.TheVariants.{Memory}
-use Rattle.ax25_frames.specs.FrameOctets.{IsKind, IsFrame, body_octets}
-use Rattle.link_world.specs.Reading.{is_odd, kind_read, frame_read, with_kind, read_narrow, info_read_wide}
+use Rattle.ax25_frames.specs.FrameOctets.{IsKind, body_octets}
+use Rattle.link_world.specs.Reading.{is_odd, info_read_wide}
 
 -- octets that are read as a kind
 pub record IsKindOf (read : Modulus) (body : List ℕ) (kind : Kind) : Type 0 where

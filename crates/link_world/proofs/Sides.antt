@@ -1,37 +1,24 @@
 -- What a request, a tick, a frame heard and a frame lost make of two sides.
-use Rattle.std.proofs.Common.{◌≡◌, ℕ, suc, ◌+◌, ◌<◌, Bool, true, false, List, [], ◌∷◌, ◌++◌, length, drop, refl, sym}
-use Rattle.std.proofs.Common.{◌∙◌, ap, subst, arith, Some, None, Result, Ok, Err}
-use Rattle.std.specs.Prelude.{Option, remove, slice_index_or}
-use Rattle.std.proofs.lemmas.Bool.{lt-ltb}
-use Rattle.std.proofs.lemmas.List.{append-nil, length-map}
-use Rattle.link_machine.specs.declared.acts.Told.{Told}
-use Rattle.link_machine.specs.declared.fault.LinkFault.{LinkFault}
+use Rattle.link_world.proofs.Common.{◌≡◌, ℕ, suc, ◌+◌, ◌<◌, Bool, true, false, List, [], ◌∷◌, ◌++◌, length, drop, refl}
+use Rattle.link_world.proofs.Common.{sym, ◌∙◌, ap, subst, arith, Some, None, Result, Ok, Err, remove, slice_index_or}
+use Rattle.link_world.proofs.Common.{lt-ltb, length-map, Told, LinkFault, Done, Machine, modulus_named, step, done_of}
+use Rattle.link_world.proofs.Common.{refusal_of, Frame, Modulus, End, Hear, Lose, WorldFault, InFlight, frame_read}
+use Rattle.link_world.proofs.Common.{is_alone, Tagged, asks, asks_in, answers_in, RecordedEnd, EndTurn, seen, hears_ask}
+use Rattle.link_world.proofs.Common.{Hears, Side, World, read_in, hearing_as, turn_of, near_turn, refused_by}
+use Rattle.link_world.proofs.Common.{near_cause, in_flight, all_in_flight, event_of, seen_of, StandForBoth, MadeStep}
+use Rattle.link_world.proofs.Common.{Flew, Stayed}
+use Rattle.std.specs.Prelude.{Option}
+use Rattle.std.proofs.lemmas.List.{append-nil}
 use Rattle.link_machine.specs.declared.machine.Machine.{Machine as HeldLink}
-use Rattle.link_machine.specs.Done.{Done}
 use Rattle.link_machine.specs.Event.{Event as LinkEvent}
 use Rattle.link_machine.specs.Event.Event.{Hear as LinkHear}
-use Rattle.link_machine.specs.Machine.{Machine, modulus_named}
 use Rattle.link_machine.specs.StandsFor.{StandsFor as LinkStandsFor}
-use Rattle.link_machine.specs.Step.{step, done_of, refusal_of}
-use Rattle.ax25_frames.specs.declared.frame.Frame.{Frame}
-use Rattle.ax25_frames.specs.declared.frame.Modulus.{Modulus}
-use Rattle.link_world.specs.declared.end.End.{End}
-use Rattle.link_world.specs.declared.event.Event.TheVariants.{Hear, Lose}
-use Rattle.link_world.specs.declared.fault.WorldFault.{WorldFault}
-use Rattle.link_world.specs.declared.flight.InFlight.{InFlight}
 use Rattle.link_world.specs.declared.request.Request.{Request}
 use Rattle.link_world.specs.declared.request.Request.TheVariants.{Connect as ConnectRequest, Send as SendRequest}
 use Rattle.link_world.specs.declared.request.Request.TheVariants.{Disconnect as DisconnectRequest, Tick as TickRequest}
 use Rattle.link_world.specs.declared.side.Side.{Side as HeldSide}
-use Rattle.link_world.specs.Reading.{frame_read}
-use Rattle.link_world.specs.Quiet.{is_alone}
-use Rattle.link_world.specs.Flight.{Tagged, asks, asks_in, answers_in}
-use Rattle.link_world.specs.Recorded.{RecordedEnd, EndTurn, no_turn, seen, hears_ask}
-use Rattle.link_world.specs.Recorded.Happening.{Hears}
-use Rattle.link_world.specs.World.{Side, World, read_in, hearing_as, turn_of, near_turn}
-use Rattle.link_world.specs.Faults.{refused_by, near_cause}
-use Rattle.link_world.specs.StandsFor.{in_flight, all_in_flight}
-use Rattle.link_world.specs.Held.{event_of, happening_of, seen_of, StandForBoth, MadeStep, Flew, Stayed}
+use Rattle.link_world.specs.Recorded.{no_turn}
+use Rattle.link_world.specs.Held.{happening_of}
 use Rattle.link_world.proofs.Counting.{Steps}
 use Rattle.link_world.proofs.TagLemmas.{map-remove}
 use Rattle.link_world.proofs.Happens.{IsAsked, cause_is, made, noisy}

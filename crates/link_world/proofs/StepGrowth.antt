@@ -1,11 +1,9 @@
 -- In each event a link goes on counting, and each frame that it sends may be written.
+use Rattle.link_world.proofs.Common.{All-from_recursion, Machine, step, Turn}
 use Rattle.std.specs.List.{AllByRecursion as Each}
-use Rattle.std.proofs.lemmas.List.Elements.{All-from_recursion, recursion_from_All}
+use Rattle.std.proofs.lemmas.List.Elements.{recursion_from_All}
 use Rattle.link_machine.proofs.Writable.{CanSend, IsSound, sound_step}
 use Rattle.link_machine.specs.Event.{Event}
-use Rattle.link_machine.specs.Machine.{Machine}
-use Rattle.link_machine.specs.Step.{step}
-use Rattle.link_machine.specs.Turn.{Turn}
 use Rattle.link_world.specs.Held.{IsCounting, IsShort}
 
 pub record Grows (turn : Turn) : Type 0 where

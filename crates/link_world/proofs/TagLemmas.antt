@@ -1,16 +1,12 @@
 -- Frames with their tags and without.
-use Rattle.std.proofs.Common.{◌≡◌, ℕ, ◌+◌, Bool, suc, List, [], ◌∷◌, ◌++◌, map, take, drop, refl, sym, ◌∙◌, ap}
-use Rattle.std.specs.Prelude.{count_by, fold, cond, remove}
-use Rattle.std.proofs.lemmas.List.{map-append, take-map, drop-map}
+use Rattle.link_world.proofs.Common.{◌≡◌, ℕ, ◌+◌, Bool, suc, List, [], ◌∷◌, ◌++◌, map, take, drop, refl, sym, ◌∙◌, ap}
+use Rattle.link_world.proofs.Common.{remove, map-append, SentFrame, SentIn, sent_frames, InFlight, Tagged, asks}
+use Rattle.link_world.proofs.Common.{asks_in, answers_in, RecordedEnd, tagged, frames, sent_tagged, in_flight}
+use Rattle.link_world.proofs.Common.{all_in_flight, flying, asking, answering, asking_frames}
+use Rattle.std.specs.Prelude.{count_by, fold, cond}
+use Rattle.std.proofs.lemmas.List.{take-map, drop-map}
 use Rattle.std.proofs.lemmas.Simd.{map-map}
-use Rattle.link_machine.specs.declared.acts.SentFrame.{SentFrame}
-use Rattle.link_machine.specs.Sent.{SentIn, sent_frame, sent_frames}
-use Rattle.link_world.specs.declared.flight.InFlight.{InFlight}
-use Rattle.link_world.specs.Flight.{Tagged, asks, asks_in, answers_in}
-use Rattle.link_world.specs.Recorded.{RecordedEnd, tagged}
-use Rattle.link_world.specs.Untagged.{frames}
-use Rattle.link_world.specs.StandsFor.{sent_tagged, in_flight, all_in_flight}
-use Rattle.link_world.specs.Held.{flying, asking, answering, asking_frames}
+use Rattle.link_machine.specs.Sent.{sent_frame}
 
 -- frames that are tagged are the frames that were sent
 pub frames-tagged :

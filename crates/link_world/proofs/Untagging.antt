@@ -1,23 +1,13 @@
 -- No step depends on the tags: the world without its tags makes the step of the world without its tags.
-use Rattle.std.proofs.Common.{◌≡◌, List, [], ◌∷◌, ◌++◌, ◌∙◌, ap, Option, Some, None}
-use Rattle.std.specs.Prelude.{remove}
-use Rattle.std.proofs.lemmas.List.{map-append}
-use Rattle.ax25_frames.specs.declared.frame.Frame.{Frame}
-use Rattle.link_machine.specs.declared.acts.SentFrame.{SentFrame}
-use Rattle.link_machine.specs.Machine.{Machine}
-use Rattle.link_machine.specs.Sent.{sent_frames}
+use Rattle.link_world.proofs.Common.{◌≡◌, List, [], ◌∷◌, ◌++◌, ◌∙◌, ap, Option, Some, None, remove, map-append, Frame}
+use Rattle.link_world.proofs.Common.{SentFrame, Machine, sent_frames, End, A, B, Event, Connect, Send, Disconnect, Tick}
+use Rattle.link_world.proofs.Common.{Hear, Lose, Tagged, RecordedEnd, Happening, end_turn, seen, hears_ask, Connects}
+use Rattle.link_world.proofs.Common.{Sends, Disconnects, Ticks, Hears, Side, World, read_in, hearing_as, turn_of}
+use Rattle.link_world.proofs.Common.{seen_from, end_of, near_step, sent_tagged, frames}
 use Rattle.link_machine.specs.Step.{step as link_step}
-use Rattle.link_world.specs.declared.end.End.{End}
-use Rattle.link_world.specs.declared.end.End.TheVariants.{A, B}
-use Rattle.link_world.specs.declared.event.Event.{Event}
-use Rattle.link_world.specs.declared.event.Event.TheVariants.{Connect, Send, Disconnect, Tick, Hear, Lose}
-use Rattle.link_world.specs.Flight.{Tagged}
-use Rattle.link_world.specs.Recorded.{RecordedEnd, Happening, end_turn, seen, hears_ask}
-use Rattle.link_world.specs.Recorded.Happening.{Connects, Sends, Disconnects, Ticks, Hears}
-use Rattle.link_world.specs.World.{Side, World, read_in, hearing_as, turn_of, seen_from, end_of, near_step, step}
-use Rattle.link_world.specs.StandsFor.{sent_tagged}
-use Rattle.link_world.specs.Untagged.{UntaggedWorld, hear_frame, link_turn, frames, untagged, untagged_from}
-use Rattle.link_world.specs.Untagged.{untagged_near_step, untagged_step}
+use Rattle.link_world.specs.World.{step}
+use Rattle.link_world.specs.Untagged.{UntaggedWorld, hear_frame, link_turn, untagged, untagged_from, untagged_near_step}
+use Rattle.link_world.specs.Untagged.{untagged_step}
 use Rattle.link_world.proofs.TagLemmas.{frames-tagged, map-remove}
 
 -- frames that are sent go after the others

@@ -1,13 +1,10 @@
 -- Windows that fit are not refused.
-use Rattle.std.proofs.Common.{◌≡◌, ℕ, inl, inr, refl, sym, ap, ◌∙◌, subst, arith, Result, Err}
-use Rattle.std.specs.Prelude.{◌↔◌, IfErr}
-use Rattle.selective_reject.specs.declared.window.Mode.{Mode}
+use Rattle.link_world.proofs.Common.{◌≡◌, ℕ, inl, inr, refl, sym, ap, ◌∙◌, subst, arith, Result, Err, ◌↔◌, IfErr, Mode}
+use Rattle.link_world.proofs.Common.{IsWindow, Params, NewFault, HasWindows}
 use Rattle.selective_reject.specs.declared.window.BadWindow.{BadWindow}
-use Rattle.selective_reject.specs.Window.{IsWindow, IsBadWindow}
-use Rattle.link_machine.specs.declared.params.Params.{Params}
-use Rattle.link_machine.specs.declared.fault.NewFault.{NewFault}
+use Rattle.selective_reject.specs.Window.{IsBadWindow}
 use Rattle.link_machine.specs.declared.fault.NewFault.TheVariants.{BadWindow as RefusedWindow}
-use Rattle.link_machine.specs.Params.{HasWindows, IsRefusedWindow}
+use Rattle.link_machine.specs.Params.{IsRefusedWindow}
 
 fits_or_not : (modulus window : ℕ) (mode : Mode) → IsWindow modulus window mode → IsBadWindow modulus window mode → ⊥
 fits_or_not modulus window mode h (inl none) = let low = h.0 in omega arith

@@ -1,13 +1,10 @@
 -- Sums of products, and how large a correlation can be.
-use Rattle.std.proofs.Common.{◌≡◌, ℕ, zero, suc, ◌+◌, ◌*◌, ◌<◌, ◌≤◌, ℤ, pos, ◌+ℤ◌, ◌*ℤ◌, List, map, get_or}
-use Rattle.std.proofs.Common.{unsigned_abs, FitsSigned, to_z, of_z, refl, ap, ◌∙◌, add-one, arith}
-use Rattle.std.proofs.lemmas.Int.{ints, to_z-of_z, unsigned_abs-mul}
-use mir.Syntax.{Width, w16}
-use Rattle.std.proofs.Math.Nat.{mul-le-mul_right}
-use Rattle.std.proofs.lemmas.List.FromFn.{get_or-map-range_with_len}
-use Rattle.std.specs.List.{range_with_len}
-use Rattle.tone_table.specs.Sine.{wave_sample}
-use Rattle.offset_slicers.specs.Decision.{sum_below, product_of}
+use Rattle.offset_slicers.proofs.Common.{◌≡◌, ℕ, zero, suc, ◌+◌, ◌*◌, ◌<◌, ◌≤◌, ℤ, pos, ◌+ℤ◌, ◌*ℤ◌, List, map, get_or}
+use Rattle.offset_slicers.proofs.Common.{unsigned_abs, FitsSigned, to_z, of_z, refl, ap, ◌∙◌, arith, ints, to_z-of_z}
+use Rattle.offset_slicers.proofs.Common.{unsigned_abs-mul, w16, mul-le-mul_right, get_or-map-range_with_len}
+use Rattle.offset_slicers.proofs.Common.{range_with_len, wave_sample, sum_below, product_of}
+use Rattle.std.proofs.Common.{add-one}
+use mir.Syntax.{Width}
 
 -- sums of numbers that agree are equal
 pub sum_below-agree : (f g : ℕ → ℤ) (n : ℕ) → ((i : ℕ) → i < n → f i ≡ g i) → sum_below f n ≡ sum_below g n

@@ -1,3 +1,4 @@
+pub mod Common
 pub mod DecisionLemmas
 pub mod PureWindows
 pub mod IntegerLemmas

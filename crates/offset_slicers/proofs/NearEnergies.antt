@@ -1,18 +1,15 @@
 -- Energies of tones in windows near others, whatever their length and the steps of the tones. An error of a tenth of
 -- the level can change a correlation by a tenth of the sum of the weights' sizes at most; where that is too little to
 -- make the other tone the louder one, a window near another is decided as that one is.
-use Rattle.std.proofs.Common.{◌≡◌, ℕ, zero, suc, ◌+◌, ◌-◌, ◌*◌, ◌<◌, ◌≤◌, ℤ, pos, ◌+ℤ◌, ◌-ℤ◌, ◌*ℤ◌, Bool, true, List}
-use Rattle.std.proofs.Common.{length, get_or, unsigned_abs, nat_lt, nat_le, ap, sym, ◌∙◌, arith}
+use Rattle.offset_slicers.proofs.Common.{◌≡◌, ℕ, zero, suc, ◌+◌, ◌-◌, ◌*◌, ◌<◌, ◌≤◌, ℤ, pos, ◌+ℤ◌, ◌-ℤ◌, ◌*ℤ◌, Bool}
+use Rattle.offset_slicers.proofs.Common.{true, List, length, get_or, unsigned_abs, ap, sym, ◌∙◌, arith, agree_below_at}
+use Rattle.offset_slicers.proofs.Common.{ints, unsigned_abs-mul, mul-le-mul_left, mul-le-mul_right, mul-add, Tone, Mark}
+use Rattle.offset_slicers.proofs.Common.{Space, wave_sample, sum_below, distance, IsNear}
+use Rattle.std.proofs.Common.{nat_lt, nat_le}
 use Rattle.std.specs.Prelude.{◌&&◌, if◌then◌else◌}
-use Rattle.std.proofs.lemmas.Bool.{agree_below, agree_below_at, and_parts, leb-true, ltb-true, le-leb, lt-leb}
-use Rattle.std.proofs.lemmas.Bool.{cond-true, cond-false}
-use Rattle.std.proofs.lemmas.Int.{ints, unsigned_abs-mul}
-use Rattle.std.proofs.Math.Nat.{mul-le-mul, mul-le-mul_left, mul-le-mul_right, mul-lt-mul_of_pos_left, mul-sub, mul-add}
-use Rattle.tone_table.specs.declared.tone.Tone.{Tone}
-use Rattle.tone_table.specs.declared.tone.Tone.TheVariants.{Mark, Space}
-use Rattle.tone_table.specs.Sine.{wave_sample}
-use Rattle.offset_slicers.specs.Decision.{sum_below, square}
-use Rattle.offset_slicers.specs.Near.{distance, IsNear}
+use Rattle.std.proofs.lemmas.Bool.{agree_below, and_parts, leb-true, ltb-true, le-leb, lt-leb, cond-true, cond-false}
+use Rattle.std.proofs.Math.Nat.{mul-le-mul, mul-lt-mul_of_pos_left, mul-sub}
+use Rattle.offset_slicers.specs.Decision.{square}
 use Rattle.offset_slicers.proofs.IntegerLemmas.{mul-add_right, mul-sub_left, mul-assoc}
 
 -- ---- sums of products

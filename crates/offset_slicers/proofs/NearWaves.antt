@@ -1,15 +1,10 @@
 -- Samples near a wave are heard as the wave is: window by window they are near pure ones.
-use Rattle.std.proofs.Common.{◌≡◌, ℕ, ◌+◌, ◌-◌, ◌*◌, ◌/◌, ◌<◌, ◌≤◌, ℤ, pos, List, [], ◌∷◌, ◌++◌, length, map, take}
-use Rattle.std.proofs.Common.{drop, get_or, subst, refl, ap, sym, ◌∙◌, arith, length-append, length-drop}
-use Rattle.std.specs.List.{range_with_len}
-use Rattle.std.proofs.lemmas.List.{take_all, get_or_append_left, get_or-append_right, get_or-take, get_or-drop}
-use Rattle.std.proofs.lemmas.List.{length-take-le, take-append-drop}
-use Rattle.tone_table.specs.declared.tone.Tone.{Tone}
-use Rattle.tone_table.specs.Tones.{next_phase}
-use Rattle.tone_table.specs.Wave.{pure_window, wave_from}
-use Rattle.offset_slicers.specs.Decision.{tone_of}
-use Rattle.offset_slicers.specs.Windows.{window_at, tones_at}
-use Rattle.offset_slicers.specs.Near.{distance, IsNear}
+use Rattle.offset_slicers.proofs.Common.{◌≡◌, ℕ, ◌+◌, ◌-◌, ◌*◌, ◌/◌, ◌<◌, ◌≤◌, ℤ, pos, List, [], ◌∷◌, ◌++◌, length, map}
+use Rattle.offset_slicers.proofs.Common.{take, drop, get_or, subst, refl, ap, sym, ◌∙◌, arith, length-append}
+use Rattle.offset_slicers.proofs.Common.{length-drop, range_with_len, take_all, Tone, next_phase, pure_window}
+use Rattle.offset_slicers.proofs.Common.{wave_from, tone_of, window_at, tones_at, distance, IsNear}
+use Rattle.std.proofs.lemmas.List.{get_or_append_left, get_or-append_right, get_or-take, get_or-drop, length-take-le}
+use Rattle.std.proofs.lemmas.List.{take-append-drop}
 use Rattle.offset_slicers.proofs.NearWindows.{tone_of-near}
 use Rattle.offset_slicers.proofs.WaveLemmas.{length-pure_window, next_phase-sixth}
 use Rattle.offset_slicers.proofs.WindowLemmas.{tones_at-aligned}

@@ -1,11 +1,7 @@
 -- Windows near a pure one are decided as it is.
-use Rattle.std.proofs.Common.{◌≡◌, ℕ, ◌*◌, ◌<◌, ◌≤◌, ℤ, List, true, refl}
-use Rattle.tone_table.specs.declared.tone.Tone.{Tone}
-use Rattle.tone_table.specs.Sine.{quarter, half_wave, cycle_sample, wave_sample}
-use Rattle.tone_table.specs.Tones.{phase_step}
-use Rattle.tone_table.specs.Wave.{pure_window}
-use Rattle.offset_slicers.specs.Decision.{sum_below, sine_sum, cosine_sum, energy, tone_of}
-use Rattle.offset_slicers.specs.Near.{IsNear}
+use Rattle.offset_slicers.proofs.Common.{◌≡◌, ℕ, ◌*◌, ◌<◌, ◌≤◌, ℤ, List, true, refl, Tone, quarter, half_wave}
+use Rattle.offset_slicers.proofs.Common.{cycle_sample, wave_sample, phase_step, pure_window, sum_below, sine_sum}
+use Rattle.offset_slicers.proofs.Common.{cosine_sum, energy, tone_of, IsNear}
 use Rattle.offset_slicers.proofs.NearEnergies.{Correlators, is_clear, decided}
 use Rattle.offset_slicers.proofs.WaveLemmas.{length-pure_window}
 

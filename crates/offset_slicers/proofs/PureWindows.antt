@@ -1,12 +1,7 @@
 -- The twelve pure windows, by computation.
-use Rattle.std.proofs.Common.{◌≡◌, ℕ, ◌*◌, ◌<◌, true, refl}
-use Rattle.std.proofs.lemmas.Bool.{agree_below_at}
-use Rattle.tone_table.specs.declared.tone.Tone.{Tone}
-use Rattle.tone_table.specs.declared.tone.Tone.TheVariants.{Mark, Space}
-use Rattle.tone_table.specs.Sine.{quarter, half_wave, cycle_sample, wave_sample}
-use Rattle.tone_table.specs.Wave.{pure_window}
-use Rattle.nrzi_bits.specs.Line.{same_tone}
-use Rattle.offset_slicers.specs.Decision.{sum_below, sine_sum, cosine_sum, energy, tone_of}
+use Rattle.offset_slicers.proofs.Common.{◌≡◌, ℕ, ◌*◌, ◌<◌, true, refl, agree_below_at, Tone, Mark, Space, quarter}
+use Rattle.offset_slicers.proofs.Common.{half_wave, cycle_sample, wave_sample, pure_window, same_tone, sum_below}
+use Rattle.offset_slicers.proofs.Common.{sine_sum, cosine_sum, energy, tone_of}
 
 same : (t u : Tone) → same_tone t u ≡ true → t ≡ u
 same Mark Mark agree = refl

@@ -1,16 +1,12 @@
 -- What one sample more changes of the tones, and of what a slicer keeps.
-use Rattle.std.proofs.Common.{◌≡◌, ℕ, ◌+◌, ◌-◌, ◌*◌, ◌/◌, ◌%◌, ◌<◌, ◌≤◌, ℤ, List, [], ◌∷◌, ◌++◌, Bool, length, map}
-use Rattle.std.proofs.Common.{take, drop, set, refl, ap, subst, sym, ◌∙◌, arith, length-drop}
-use Rattle.std.proofs.lemmas.List.{drop-append-le, take_all, drop_all, take_more_set, length-set, length_push}
-use Rattle.std.proofs.lemmas.List.{append-nil}
-use Rattle.std.specs.List.{range_with_len}
-use Rattle.tone_table.specs.declared.tone.Tone.{Tone}
-use Rattle.tone_table.specs.declared.tone.Tone.TheVariants.{Mark}
-use Rattle.nrzi_bits.specs.Line.{bits_of, last_tone}
+use Rattle.offset_slicers.proofs.Common.{◌≡◌, ℕ, ◌+◌, ◌-◌, ◌*◌, ◌/◌, ◌%◌, ◌<◌, ◌≤◌, ℤ, List, [], ◌∷◌, ◌++◌, Bool}
+use Rattle.offset_slicers.proofs.Common.{length, map, take, drop, set, refl, ap, subst, sym, ◌∙◌, arith, length-drop}
+use Rattle.offset_slicers.proofs.Common.{drop-append-le, take_all, length_push, append-nil, range_with_len, Tone, Mark}
+use Rattle.offset_slicers.proofs.Common.{bits_of, last_tone, tone_of, windows_in, window_at, tones_at, bits, EndsWindow}
+use Rattle.offset_slicers.proofs.Common.{held_of, offset_from, StandsFor}
+use Rattle.std.proofs.lemmas.List.{drop_all, take_more_set, length-set}
 use Rattle.nrzi_bits.proofs.LineLemmas.{last_tone-push}
-use Rattle.offset_slicers.specs.Decision.{tone_of}
-use Rattle.offset_slicers.specs.Windows.{windows_in, window_at, tones_at, bits, EndsWindow}
-use Rattle.offset_slicers.specs.Held.{held_of, part_behind, offset_from, StandsFor}
+use Rattle.offset_slicers.specs.Held.{part_behind}
 use Rattle.offset_slicers.proofs.TonesOfWindows.{tones_of-push_none, tones_of-push_one}
 
 -- a sample that ends no window adds no tone

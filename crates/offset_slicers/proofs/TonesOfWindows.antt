@@ -1,16 +1,15 @@
 -- The tones of samples that are put together and cut, whatever the size of a window and the decision of its tone.
-use Rattle.std.proofs.Common.{◌≡◌, ℕ, zero, suc, ◌+◌, ◌-◌, ◌*◌, ◌/◌, ◌<◌, ◌≤◌, ℤ, List, [], ◌∷◌, ◌++◌, length, map}
-use Rattle.std.proofs.Common.{take, drop, min, refl, ap, sym, ◌∙◌, arith, length-append, length-drop}
-use Rattle.std.proofs.Math.Nat.{mul-add, mul-le-mul_left, mul-div-le, div-mul-le_self, mul-div_cancel_left, mul-add-div}
+use Rattle.offset_slicers.proofs.Common.{◌≡◌, ℕ, zero, suc, ◌+◌, ◌-◌, ◌*◌, ◌/◌, ◌<◌, ◌≤◌, ℤ, List, [], ◌∷◌, ◌++◌}
+use Rattle.offset_slicers.proofs.Common.{length, map, take, drop, refl, ap, sym, ◌∙◌, arith, length-append, length-drop}
+use Rattle.offset_slicers.proofs.Common.{mul-add, mul-le-mul_left, drop-append-le, append-nil, take_all, length_push}
+use Rattle.offset_slicers.proofs.Common.{get_or-map-range_with_len, range_with_len, Tone, Mark}
+use Rattle.std.proofs.Common.{min}
+use Rattle.std.proofs.Math.Nat.{mul-div-le, div-mul-le_self, mul-div_cancel_left, mul-add-div}
 use Rattle.std.proofs.Math.Seq.{drop-append-add}
 use Rattle.std.proofs.lemmas.Nat.{le-div}
-use Rattle.std.proofs.lemmas.List.{take-append-le, drop-append-le, append-nil, append_assoc, take_all, length_push}
-use Rattle.std.proofs.lemmas.List.{length-take, take-take}
-use Rattle.std.proofs.lemmas.List.FromFn.{length-map-range_with_len, get_or-map-range_with_len, take-map-range_with_len}
-use Rattle.std.proofs.lemmas.List.FromFn.{map-range_with_len_more, fill_by_all}
-use Rattle.std.specs.List.{range_with_len}
-use Rattle.tone_table.specs.declared.tone.Tone.{Tone}
-use Rattle.tone_table.specs.declared.tone.Tone.TheVariants.{Mark}
+use Rattle.std.proofs.lemmas.List.{take-append-le, append_assoc, length-take, take-take}
+use Rattle.std.proofs.lemmas.List.FromFn.{length-map-range_with_len, take-map-range_with_len, map-range_with_len_more}
+use Rattle.std.proofs.lemmas.List.FromFn.{fill_by_all}
 
 -- ---- lists by place
 

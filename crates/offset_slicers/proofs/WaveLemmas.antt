@@ -1,12 +1,10 @@
 -- A wave is heard as it was sent: its windows are pure, so its tones and bits come back.
-use Rattle.std.proofs.Common.{◌≡◌, ℕ, ◌+◌, ◌*◌, ◌%◌, ◌<◌, ℤ, List, [], ◌∷◌, ◌++◌, Bool, length, refl, ap, ◌∙◌, arith}
-use Rattle.tone_table.specs.declared.tone.Tone.{Tone}
-use Rattle.tone_table.specs.declared.tone.Tone.TheVariants.{Mark, Space}
-use Rattle.tone_table.specs.Tones.{next_phase}
-use Rattle.tone_table.specs.Wave.{pure_window, wave_from, wave}
-use Rattle.nrzi_bits.specs.Line.{sent_tone, line, same_tone, bits_from, last_tone}
+use Rattle.offset_slicers.proofs.Common.{◌≡◌, ℕ, ◌+◌, ◌*◌, ◌%◌, ◌<◌, ℤ, List, [], ◌∷◌, ◌++◌, Bool, length, refl, ap}
+use Rattle.offset_slicers.proofs.Common.{◌∙◌, arith, Tone, Mark, Space, next_phase, pure_window, wave_from, same_tone}
+use Rattle.offset_slicers.proofs.Common.{bits_from, last_tone, window_at, tones_at, bits}
+use Rattle.tone_table.specs.Wave.{wave}
+use Rattle.nrzi_bits.specs.Line.{sent_tone, line}
 use Rattle.nrzi_bits.proofs.LineLemmas.{bits_from-line_from}
-use Rattle.offset_slicers.specs.Windows.{window_at, tones_at, bits}
 use Rattle.offset_slicers.proofs.PureWindows.{tone_of-pure_window}
 use Rattle.offset_slicers.proofs.WindowLemmas.{tones_at-aligned, bits-aligned}
 

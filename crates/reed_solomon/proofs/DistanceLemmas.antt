@@ -1,22 +1,14 @@
 -- Words that differ in few octets.
-use Rattle.std.proofs.Common.{◌≡◌, ℕ, zero, suc, ◌+◌, ◌-◌, ◌<◌, ◌≤◌, cond, eqb, bit_xor, List, [], ◌∷◌, ◌++◌}
-use Rattle.std.proofs.Common.{length, take, drop, replicate, All, refl, ap, subst, ◌∙◌, sym, inl, inr, arith}
-use Rattle.std.proofs.Common.{length-append}
-use Rattle.std.specs.Int.Bits.{xor_self}
-use Rattle.std.proofs.lemmas.Bool.{cases_eq, eq-eqb, ne_eqb}
-use Rattle.std.proofs.lemmas.List.{get_or_default, length-replicate, length-take, length-drop, take-append-drop}
-use Rattle.std.proofs.lemmas.List.{take_at, drop_at}
-use Rattle.reed_solomon.specs.declared.code.Code.{Code}
-use Rattle.reed_solomon.specs.declared.code.Zeros.{Zeros}
-use Rattle.reed_solomon.specs.declared.code.Zeros.TheVariants.{Leading, Between}
-use Rattle.reed_solomon.specs.Codeword.{whole_of, with_zeros, IsCodeword, IsWithinReach}
-use Rattle.reed_solomon.specs.Distance.{distance}
-use Rattle.reed_solomon.specs.Register.{added, whole, ChecksOf}
-use Rattle.reed_solomon.specs.Values.{value_at, Vanishes}
+use Rattle.reed_solomon.proofs.Common.{◌≡◌, ℕ, zero, suc, ◌+◌, ◌-◌, ◌<◌, ◌≤◌, cond, eqb, bit_xor, List, [], ◌∷◌, ◌++◌}
+use Rattle.reed_solomon.proofs.Common.{length, take, drop, replicate, All, refl, ap, subst, ◌∙◌, sym, inl, inr, arith}
+use Rattle.reed_solomon.proofs.Common.{length-append, xor_self, cases_eq, eq-eqb, ne_eqb, length-replicate, length-take}
+use Rattle.reed_solomon.proofs.Common.{length-drop, take-append-drop, take_at, drop_at, Code, Zeros, Leading, Between}
+use Rattle.reed_solomon.proofs.Common.{whole_of, with_zeros, IsCodeword, IsWithinReach, distance, added, whole}
+use Rattle.reed_solomon.proofs.Common.{ChecksOf, value_at, Vanishes}
+use Rattle.std.proofs.lemmas.List.{get_or_default}
 use Rattle.reed_solomon.proofs.FieldLemmas.{same_from_xor}
 use Rattle.reed_solomon.proofs.ValueLemmas.{Octets, Octets-append, Octets-added, Octets-replicate, length-added}
-use Rattle.reed_solomon.proofs.ValueLemmas.{octets_from, octet_at}
-use Rattle.reed_solomon.proofs.ValueLemmas.{value_at-added, weight}
+use Rattle.reed_solomon.proofs.ValueLemmas.{octets_from, octet_at, value_at-added, weight}
 use Rattle.reed_solomon.proofs.Vandermonde.{few_zeros}
 
 distance-cons : (x y : ℕ) (xs ys : List ℕ) → distance (x ∷ xs) (y ∷ ys) ≡ cond (eqb x y) 0 1 + distance xs ys

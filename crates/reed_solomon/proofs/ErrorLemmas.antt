@@ -1,25 +1,16 @@
 -- Where a word is wrong, and by how much.
-use Rattle.std.proofs.Common.{◌≡◌, ◌≢◌, ℕ, zero, suc, ◌+◌, ◌-◌, ◌*◌, ◌<◌, ◌≤◌, Bool, true, false, cond, eqb, bit_xor}
-use Rattle.std.proofs.Common.{List, [], ◌∷◌, length}
-use Rattle.std.proofs.Common.{get_or, take, drop, refl, ap, subst, ◌∙◌, sym, inl, inr, arith}
-use Rattle.std.specs.Int.Bits.{xor_zero_r}
-use Rattle.std.proofs.lemmas.Bool.{cases_eq, eq-eqb, ne_eqb}
-use Rattle.std.proofs.lemmas.List.{length-take}
-use Rattle.reed_solomon.specs.Field.{times_power}
-use Rattle.reed_solomon.specs.Values.{value_at, Vanishes}
-use Rattle.reed_solomon.specs.Product.{product}
-use Rattle.reed_solomon.specs.Register.{added}
-use Rattle.reed_solomon.specs.Kernel.{dot, values_down, octet_before, IsWrong}
-use Rattle.reed_solomon.proofs.FieldLemmas.{times_power-add, times_power_rounds, product-lt, zero-product}
-use Rattle.reed_solomon.proofs.FieldLemmas.{product-zero, power_of_zero}
-use Rattle.reed_solomon.proofs.FieldLemmas.{product_comm, product_assoc, product-one}
+use Rattle.reed_solomon.proofs.Common.{◌≡◌, ◌≢◌, ℕ, zero, suc, ◌+◌, ◌-◌, ◌*◌, ◌<◌, ◌≤◌, Bool, true, false, cond, eqb}
+use Rattle.reed_solomon.proofs.Common.{bit_xor, List, [], ◌∷◌, length, get_or, take, drop, refl, ap, subst, ◌∙◌, sym}
+use Rattle.reed_solomon.proofs.Common.{inl, inr, arith, xor_zero_r, cases_eq, eq-eqb, ne_eqb, length-take, times_power}
+use Rattle.reed_solomon.proofs.Common.{value_at, Vanishes, product, added, dot, values_down, octet_before, IsWrong}
+use Rattle.reed_solomon.proofs.FieldLemmas.{times_power-add, times_power_rounds, product-lt, zero-product, product-zero}
+use Rattle.reed_solomon.proofs.FieldLemmas.{power_of_zero, product_comm, product_assoc, product-one}
 use Rattle.reed_solomon.proofs.ValueLemmas.{Octets, Octets-added, length-added, get_or-added, value_at-lt}
 use Rattle.reed_solomon.proofs.ValueLemmas.{value_at-added, weight}
 use Rattle.reed_solomon.proofs.Vandermonde.{few_zeros}
 use Rattle.reed_solomon.proofs.DistanceLemmas.{weight-added, octets_of_all}
 use Rattle.reed_solomon.proofs.ScaledLemmas.{scaled, length-scaled, Octets-scaled, dot-values_down, weight-scaled}
-use Rattle.reed_solomon.proofs.ScaledLemmas.{zero_at_octet}
-use Rattle.reed_solomon.proofs.ScaledLemmas.{IsAloneAt, value_at-alone}
+use Rattle.reed_solomon.proofs.ScaledLemmas.{zero_at_octet, IsAloneAt, value_at-alone}
 use Rattle.reed_solomon.proofs.KernelLemmas.{dot-take}
 
 -- ---- lists of values

@@ -1,8 +1,6 @@
 -- Worked examples, computed on the definitions.
-use Rattle.std.proofs.Common.{◌≡◌, ℕ, List, [], ◌∷◌, ◌++◌, replicate, refl}
-use Rattle.reed_solomon.specs.Distance.{distance}
-use Rattle.reed_solomon.specs.Field.{double, times_power, power}
-use Rattle.reed_solomon.specs.Values.{value_at}
+use Rattle.reed_solomon.proofs.Common.{◌≡◌, ℕ, List, [], ◌∷◌, ◌++◌, replicate, refl, distance, double, times_power}
+use Rattle.reed_solomon.proofs.Common.{power, value_at}
 
 -- x^8 is x^4 + x^3 + x^2 + 1, and the 255th power is 1 again
 eighth_power : power 8 ≡ 29

@@ -1,12 +1,8 @@
 -- A list that is not 0 has fewer zeros than coefficients: it is divided by the difference to one zero after another, as
 -- Horner does.
-use Rattle.std.proofs.Common.{◌≡◌, ℕ, zero, suc, ◌+◌, ◌*◌, ◌<◌, ◌≤◌, cond, eqb, bit_xor, List, [], ◌∷◌, length, refl}
-use Rattle.std.proofs.Common.{ap, ◌∙◌, sym, inl, inr, arith}
-use Rattle.std.specs.Int.Bits.{xor_zero_l, xor_assoc}
-use Rattle.std.proofs.lemmas.Bool.{cases_eq, eq-eqb, ne_eqb}
-use Rattle.std.proofs.lemmas.Nat.{xor_of_8}
-use Rattle.reed_solomon.specs.Field.{times_power}
-use Rattle.reed_solomon.specs.Values.{value_at}
+use Rattle.reed_solomon.proofs.Common.{◌≡◌, ℕ, zero, suc, ◌+◌, ◌*◌, ◌<◌, ◌≤◌, cond, eqb, bit_xor, List, [], ◌∷◌, length}
+use Rattle.reed_solomon.proofs.Common.{refl, ap, ◌∙◌, sym, inl, inr, arith, xor_zero_l, xor_assoc, cases_eq, eq-eqb}
+use Rattle.reed_solomon.proofs.Common.{ne_eqb, xor_of_8, times_power, value_at}
 use Rattle.reed_solomon.proofs.FieldLemmas.{xor_pairs, same_from_xor, times_power-lt, times_power-zero, times_power-xor}
 use Rattle.reed_solomon.proofs.FieldLemmas.{times_power-add, same_power, xor_twice}
 use Rattle.reed_solomon.proofs.ValueLemmas.{Octets, value_at-lt, value_at-zero, weight}

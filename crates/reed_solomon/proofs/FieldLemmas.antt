@@ -1,14 +1,12 @@
 -- The field's laws: doubling is linear, and the powers of 2 are all octets but 0.
-use Rattle.std.proofs.Common.{◌≡◌, ℕ, zero, suc, ◌+◌, ◌-◌, ◌*◌, ◌/◌, ◌%◌, ◌^◌, ◌<◌, ◌≤◌, Bool, true}
-use Rattle.std.proofs.Common.{◌&&◌, cond, eqb, ltb, bit_xor, List, [], ◌∷◌, length, get_or, drop, refl, ap, subst}
-use Rattle.std.proofs.Common.{◌∙◌, sym}
-use Rattle.std.proofs.Common.{inl, inr, arith}
-use Rattle.std.specs.Int.Bits.{xor_zero_l, xor_zero_r, xor_self, xor_assoc}
-use Rattle.std.proofs.lemmas.Bool.{cases_lt, lt-ltb, le-ltb, eqb-true, ltb-true}
-use Rattle.std.proofs.lemmas.Bool.{and_parts}
-use Rattle.std.proofs.lemmas.Nat.{xor_block, xor_comm, xor_lt, xor_of_8}
-use Rattle.reed_solomon.specs.Field.{double, times_power, power}
-use Rattle.reed_solomon.specs.Product.{logarithms, logarithm, product}
+use Rattle.reed_solomon.proofs.Common.{◌≡◌, ℕ, zero, suc, ◌+◌, ◌-◌, ◌*◌, ◌/◌, ◌%◌, ◌<◌, ◌≤◌, Bool, true, cond, eqb}
+use Rattle.reed_solomon.proofs.Common.{bit_xor, List, [], ◌∷◌, length, get_or, drop, refl, ap, subst, ◌∙◌, sym, inl}
+use Rattle.reed_solomon.proofs.Common.{inr, arith, xor_zero_l, xor_zero_r, xor_self, xor_assoc, cases_lt, xor_comm}
+use Rattle.reed_solomon.proofs.Common.{xor_of_8, double, times_power, power, logarithm, product}
+use Rattle.std.proofs.Common.{◌^◌, ◌&&◌, ltb}
+use Rattle.std.proofs.lemmas.Bool.{lt-ltb, le-ltb, eqb-true, ltb-true, and_parts}
+use Rattle.std.proofs.lemmas.Nat.{xor_block, xor_lt}
+use Rattle.reed_solomon.specs.Product.{logarithms}
 
 -- ---- sums
 

@@ -1,17 +1,11 @@
 -- The generator is 0 at each root of its code.
-use Rattle.std.proofs.Common.{◌≡◌, ℕ, zero, suc, ◌+◌, ◌*◌, ◌<◌, bit_xor, List, [], ◌∷◌, ◌++◌, length, map, refl, ap}
-use Rattle.std.proofs.Common.{◌∙◌, sym, inl, inr, arith, length-append}
-use Rattle.std.specs.Int.Bits.{xor_zero_r, xor_self, xor_assoc}
-use Rattle.std.proofs.lemmas.Bool.{cases_lt}
-use Rattle.std.proofs.lemmas.List.{length-map}
-use Rattle.reed_solomon.specs.Field.{times_power, power}
-use Rattle.reed_solomon.specs.Values.{value_at, Vanishes}
-use Rattle.reed_solomon.specs.Product.{product}
-use Rattle.reed_solomon.specs.Register.{added, with_root, generator_of}
+use Rattle.reed_solomon.proofs.Common.{◌≡◌, ℕ, zero, suc, ◌+◌, ◌*◌, ◌<◌, bit_xor, List, [], ◌∷◌, ◌++◌, length, map}
+use Rattle.reed_solomon.proofs.Common.{refl, ap, ◌∙◌, sym, inl, inr, arith, length-append, xor_zero_r, xor_self}
+use Rattle.reed_solomon.proofs.Common.{xor_assoc, cases_lt, length-map, times_power, power, value_at, Vanishes, product}
+use Rattle.reed_solomon.proofs.Common.{added, with_root, generator_of}
 use Rattle.reed_solomon.proofs.FieldLemmas.{times_power-zero, product-zero, power-product}
 use Rattle.reed_solomon.proofs.ValueLemmas.{Octets, Octets-append, Octets-added, Octets-product, length-added}
-use Rattle.reed_solomon.proofs.ValueLemmas.{value_at-lt}
-use Rattle.reed_solomon.proofs.ValueLemmas.{value_at-added, value_at-product, value_at-append}
+use Rattle.reed_solomon.proofs.ValueLemmas.{value_at-lt, value_at-added, value_at-product, value_at-append}
 
 pub value_at-single : (j x : ℕ) → value_at j (x ∷ []) ≡ x
 unfolding value_at times_power

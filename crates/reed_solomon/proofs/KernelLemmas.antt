@@ -1,13 +1,9 @@
 -- The rows of the kernel.
-use Rattle.std.proofs.Common.{◌≡◌, ℕ, zero, suc, ◌<◌, ◌≤◌, ◌≢◌, cond, eqb, bit_xor, List, [], ◌∷◌, ◌++◌, length}
-use Rattle.std.proofs.Common.{get_or, map, set, take, replicate, All, refl, ap, ◌∙◌, sym, inl, inr, arith}
-use Rattle.std.specs.Int.Bits.{xor_zero_l, xor_zero_r, xor_self, xor_assoc}
-use Rattle.std.proofs.lemmas.Bool.{cases_eq, eq-eqb, ne_eqb}
-use Rattle.std.proofs.lemmas.List.{length-map, get_or-set_same, get_or-set_other}
-use Rattle.std.proofs.lemmas.Nat.{xor_of_8}
-use Rattle.reed_solomon.specs.Product.{product}
-use Rattle.reed_solomon.specs.Register.{added}
-use Rattle.reed_solomon.specs.Kernel.{dot, row, IsBasis, Meet, IsMultiple, AddsMultiple}
+use Rattle.reed_solomon.proofs.Common.{◌≡◌, ℕ, zero, suc, ◌<◌, ◌≤◌, ◌≢◌, cond, eqb, bit_xor, List, [], ◌∷◌, ◌++◌}
+use Rattle.reed_solomon.proofs.Common.{length, get_or, map, set, take, replicate, All, refl, ap, ◌∙◌, sym, inl, inr}
+use Rattle.reed_solomon.proofs.Common.{arith, xor_zero_l, xor_zero_r, xor_self, xor_assoc, cases_eq, eq-eqb, ne_eqb}
+use Rattle.reed_solomon.proofs.Common.{length-map, get_or-set_same, get_or-set_other, xor_of_8, product, added, dot}
+use Rattle.reed_solomon.proofs.Common.{row, IsBasis, Meet, IsMultiple, AddsMultiple}
 use Rattle.reed_solomon.proofs.FieldLemmas.{xor_pairs, product-lt, product-zero, product-xor, product_assoc}
 use Rattle.reed_solomon.proofs.FieldLemmas.{product-one, xor-product}
 use Rattle.reed_solomon.proofs.DistanceLemmas.{octets_of_all}

@@ -1,25 +1,16 @@
 -- The register of the check octets: at each root of the generator its value is that of the octets so far, times the
 -- power of as many places as it has.
-use Rattle.std.proofs.Common.{◌≡◌, ℕ, zero, suc, ◌+◌, ◌*◌, ◌<◌, bit_xor, List, [], ◌∷◌, ◌++◌, length, map, drop}
-use Rattle.std.proofs.Common.{replicate, refl, ap, ◌∙◌, sym, arith, length-append}
-use Rattle.std.specs.List.{fold, refill}
-use Rattle.std.specs.Int.Bits.{xor_zero_r, xor_self, xor_assoc}
-use Rattle.std.proofs.lemmas.List.{length-map, length-replicate, take_at, append_assoc, append-nil}
-use Rattle.std.proofs.lemmas.Nat.{xor_comm, xor_of_8}
-use Rattle.reed_solomon.specs.declared.code.Zeros.{Zeros}
-use Rattle.reed_solomon.specs.declared.code.Zeros.TheVariants.{Leading, Between}
-use Rattle.reed_solomon.specs.Codeword.{with_zeros}
-use Rattle.reed_solomon.specs.Field.{times_power}
-use Rattle.reed_solomon.specs.Values.{value_at}
-use Rattle.reed_solomon.specs.Product.{product}
-use Rattle.reed_solomon.specs.Register.{taken, zeros_after}
+use Rattle.reed_solomon.proofs.Common.{◌≡◌, ℕ, zero, suc, ◌+◌, ◌*◌, ◌<◌, bit_xor, List, [], ◌∷◌, ◌++◌, length, map}
+use Rattle.reed_solomon.proofs.Common.{drop, replicate, refl, ap, ◌∙◌, sym, arith, length-append, fold, xor_zero_r}
+use Rattle.reed_solomon.proofs.Common.{xor_self, xor_assoc, length-map, length-replicate, take_at, append_assoc}
+use Rattle.reed_solomon.proofs.Common.{append-nil, xor_comm, xor_of_8, Zeros, Leading, Between, with_zeros, times_power}
+use Rattle.reed_solomon.proofs.Common.{value_at, product, taken, zeros_after}
+use Rattle.std.specs.List.{refill}
 use Rattle.reed_solomon.proofs.FieldLemmas.{times_power-lt, times_power-zero, times_power-xor, times_power-add}
-use Rattle.reed_solomon.proofs.FieldLemmas.{times_power_comm}
-use Rattle.reed_solomon.proofs.FieldLemmas.{product-times_power, product-one, same_from_xor}
+use Rattle.reed_solomon.proofs.FieldLemmas.{times_power_comm, product-times_power, product-one, same_from_xor}
 use Rattle.reed_solomon.proofs.ValueLemmas.{Octets, Octets-append, Octets-added, Octets-product, Octets-replicate}
 use Rattle.reed_solomon.proofs.ValueLemmas.{length-added, value_at-lt, value_at-added, value_at-product}
-use Rattle.reed_solomon.proofs.ValueLemmas.{value_at-append}
-use Rattle.reed_solomon.proofs.ValueLemmas.{value_at-zeros, value_at-zero}
+use Rattle.reed_solomon.proofs.ValueLemmas.{value_at-append, value_at-zeros, value_at-zero}
 use Rattle.reed_solomon.proofs.GeneratorLemmas.{value_at-push, value_at-cons}
 
 -- a whole list written over another one

@@ -1,13 +1,9 @@
 -- The polynomial with all roots but one, and how many roots there are.
-use Rattle.std.proofs.Common.{◌≡◌, ◌≢◌, ℕ, zero, suc, ◌+◌, ◌<◌, ◌≤◌, Bool, true, false, cond, eqb, bit_xor, List, []}
-use Rattle.std.proofs.Common.{◌∷◌, ◌++◌, length, get_or, take, refl, ap, ◌∙◌, sym, inl, inr, arith, take_all}
-use Rattle.std.specs.Int.Bits.{xor_self}
-use Rattle.std.proofs.lemmas.Bool.{cases_lt}
-use Rattle.std.proofs.lemmas.List.{take_more, length-take, get_or-take}
-use Rattle.reed_solomon.specs.Field.{times_power, power}
-use Rattle.reed_solomon.specs.Values.{value_at}
-use Rattle.reed_solomon.specs.Register.{with_root}
-use Rattle.reed_solomon.specs.Kernel.{count_true}
+use Rattle.reed_solomon.proofs.Common.{◌≡◌, ◌≢◌, ℕ, zero, suc, ◌+◌, ◌<◌, ◌≤◌, Bool, true, false, cond, eqb, bit_xor}
+use Rattle.reed_solomon.proofs.Common.{List, [], ◌∷◌, ◌++◌, length, get_or, take, refl, ap, ◌∙◌, sym, inl, inr, arith}
+use Rattle.reed_solomon.proofs.Common.{take_all, xor_self, cases_lt, take_more, length-take, times_power, power}
+use Rattle.reed_solomon.proofs.Common.{value_at, with_root, count_true}
+use Rattle.std.proofs.lemmas.List.{get_or-take}
 use Rattle.reed_solomon.proofs.FieldLemmas.{same_from_xor, times_power-zero, power-product, same_power}
 use Rattle.reed_solomon.proofs.ValueLemmas.{Octets, value_at-lt, weight}
 use Rattle.reed_solomon.proofs.GeneratorLemmas.{value_at-single, value_at-with_root}

@@ -1,18 +1,12 @@
 -- The sum of a list's coefficients times the values of a word is a value of the word scaled: each octet times the
 -- list's
 -- value at the octet's own point. Two sums change places, and nothing else happens.
-use Rattle.std.proofs.Common.{◌≡◌, ℕ, zero, suc, ◌+◌, ◌*◌, ◌<◌, ◌≤◌, ◌≢◌, cond, bit_xor, List, [], ◌∷◌, length}
-use Rattle.std.proofs.Common.{refl, ap, ◌∙◌, sym, inl, inr, arith}
-use Rattle.std.specs.Int.Bits.{xor_zero_l, xor_zero_r}
-use Rattle.std.proofs.lemmas.Bool.{cases_eq, eq-eqb, ne_eqb}
-use Rattle.reed_solomon.specs.Field.{times_power}
-use Rattle.reed_solomon.specs.Values.{value_at}
-use Rattle.reed_solomon.specs.Product.{product}
-use Rattle.reed_solomon.specs.Register.{added}
-use Rattle.reed_solomon.specs.Kernel.{dot, values_down, octet_before}
-use Rattle.reed_solomon.proofs.FieldLemmas.{times_power-lt, times_power-zero, times_power-add}
-use Rattle.reed_solomon.proofs.FieldLemmas.{product-lt, product-zero, zero-product, product-xor, product-times_power}
-use Rattle.reed_solomon.proofs.FieldLemmas.{product_comm, zero_from_product}
+use Rattle.reed_solomon.proofs.Common.{◌≡◌, ℕ, zero, suc, ◌+◌, ◌*◌, ◌<◌, ◌≤◌, ◌≢◌, cond, bit_xor, List, [], ◌∷◌, length}
+use Rattle.reed_solomon.proofs.Common.{refl, ap, ◌∙◌, sym, inl, inr, arith, xor_zero_l, xor_zero_r, cases_eq, eq-eqb}
+use Rattle.reed_solomon.proofs.Common.{ne_eqb, times_power, value_at, product, added, dot, values_down, octet_before}
+use Rattle.reed_solomon.proofs.FieldLemmas.{times_power-lt, times_power-zero, times_power-add, product-lt, product-zero}
+use Rattle.reed_solomon.proofs.FieldLemmas.{zero-product, product-xor, product-times_power, product_comm}
+use Rattle.reed_solomon.proofs.FieldLemmas.{zero_from_product}
 use Rattle.reed_solomon.proofs.ValueLemmas.{Octets, value_at-lt, value_at-added, weight}
 use Rattle.reed_solomon.proofs.GeneratorLemmas.{value_at-cons}
 use Rattle.reed_solomon.proofs.DistanceLemmas.{weight-zero, weight-some}

@@ -1,16 +1,9 @@
 -- Values of polynomials: sums, products, and lists put together.
-use Rattle.std.proofs.Common.{◌≡◌, ℕ, zero, suc, ◌+◌, ◌*◌, ◌<◌, bit_xor, List, [], ◌∷◌, ◌++◌}
-use Rattle.std.proofs.Common.{length, get_or, map, replicate, refl, ap, ◌∙◌, sym, arith, length-append}
-use Rattle.std.specs.Int.Bits.{xor_zero_l, xor_assoc}
-use Rattle.std.proofs.lemmas.List.{length-map}
-use Rattle.std.proofs.lemmas.Nat.{xor_of_8}
-use Rattle.reed_solomon.specs.Field.{times_power}
-use Rattle.reed_solomon.specs.Values.{value_at}
-use Rattle.reed_solomon.specs.Product.{product}
-use Rattle.reed_solomon.specs.Register.{added}
+use Rattle.reed_solomon.proofs.Common.{◌≡◌, ℕ, zero, suc, ◌+◌, ◌*◌, ◌<◌, bit_xor, List, [], ◌∷◌, ◌++◌, length, get_or}
+use Rattle.reed_solomon.proofs.Common.{map, replicate, refl, ap, ◌∙◌, sym, arith, length-append, xor_zero_l, xor_assoc}
+use Rattle.reed_solomon.proofs.Common.{length-map, xor_of_8, times_power, value_at, product, added}
 use Rattle.reed_solomon.proofs.FieldLemmas.{xor_pairs, times_power-lt, times_power-zero, times_power-xor}
-use Rattle.reed_solomon.proofs.FieldLemmas.{times_power-add, product-lt, product-zero, product-xor}
-use Rattle.reed_solomon.proofs.FieldLemmas.{product-times_power}
+use Rattle.reed_solomon.proofs.FieldLemmas.{times_power-add, product-lt, product-zero, product-xor, product-times_power}
 
 -- each element is an octet
 abbrev pub Octets : List ℕ → Type 0

@@ -1,11 +1,7 @@
 -- A list with few octets that are not 0 has not as many zeros in a row among the powers: the determinant of
 -- Vandermonde, by induction on how many octets are not 0.
-use Rattle.std.proofs.Common.{◌≡◌, ℕ, zero, suc, ◌+◌, ◌*◌, ◌<◌, ◌≤◌, bit_xor, List, [], ◌∷◌, length, refl, ap}
-use Rattle.std.proofs.Common.{◌∙◌, sym, arith}
-use Rattle.std.specs.Int.Bits.{xor_self}
-use Rattle.std.proofs.lemmas.Nat.{xor_of_8}
-use Rattle.reed_solomon.specs.Field.{times_power}
-use Rattle.reed_solomon.specs.Values.{value_at, Vanishes}
+use Rattle.reed_solomon.proofs.Common.{◌≡◌, ℕ, zero, suc, ◌+◌, ◌*◌, ◌<◌, ◌≤◌, bit_xor, List, [], ◌∷◌, length, refl, ap}
+use Rattle.reed_solomon.proofs.Common.{◌∙◌, sym, arith, xor_self, xor_of_8, times_power, value_at, Vanishes}
 use Rattle.reed_solomon.proofs.FieldLemmas.{xor_pairs, same_from_xor, times_power-lt, times_power-zero, times_power-xor}
 use Rattle.reed_solomon.proofs.FieldLemmas.{times_power-add, times_power_comm, same_power, zero_from_times_power}
 use Rattle.reed_solomon.proofs.ValueLemmas.{Octets, value_at-lt, weight, value_at-weightless, value_at-zero}

@@ -1,19 +1,12 @@
 -- Words as they are sent, and whole.
-use Rattle.std.proofs.Common.{◌≡◌, ℕ, ◌+◌, ◌-◌, ◌<◌, ◌≤◌, List, ◌++◌, length, take, drop, replicate, All, refl, ap}
-use Rattle.std.proofs.Common.{◌∙◌, sym, subst, arith}
-use Rattle.std.proofs.lemmas.List.{length-replicate, length-take, length-drop, take_at, drop_at, append_assoc}
-use Rattle.std.proofs.lemmas.List.{take-append-drop}
-use Rattle.reed_solomon.specs.declared.code.Code.{Code}
-use Rattle.reed_solomon.specs.declared.code.Zeros.{Zeros}
-use Rattle.reed_solomon.specs.declared.code.Zeros.TheVariants.{Leading, Between}
-use Rattle.reed_solomon.specs.Codeword.{with_zeros, IsCodeword, IsWithinReach}
-use Rattle.reed_solomon.specs.Distance.{distance}
-use Rattle.reed_solomon.specs.Kernel.{IsWrong}
-use Rattle.reed_solomon.specs.Register.{whole, zeros_before}
+use Rattle.reed_solomon.proofs.Common.{◌≡◌, ℕ, ◌+◌, ◌-◌, ◌<◌, ◌≤◌, List, ◌++◌, length, take, drop, replicate, All, refl}
+use Rattle.reed_solomon.proofs.Common.{ap, ◌∙◌, sym, subst, arith, length-replicate, length-take, length-drop, take_at}
+use Rattle.reed_solomon.proofs.Common.{drop_at, append_assoc, take-append-drop, Code, Zeros, Leading, Between}
+use Rattle.reed_solomon.proofs.Common.{with_zeros, IsCodeword, IsWithinReach, distance, IsWrong, whole, zeros_before}
 use Rattle.reed_solomon.proofs.DistanceLemmas.{length-with_zeros, length-whole, Octets-whole, distance-whole}
-use Rattle.reed_solomon.proofs.DistanceLemmas.{distance-append}
+use Rattle.reed_solomon.proofs.DistanceLemmas.{distance-append, distance-refl, Octets-take, Octets-drop, octets_of_all}
+use Rattle.reed_solomon.proofs.DistanceLemmas.{all_of_octets}
 use Rattle.reed_solomon.proofs.ValueLemmas.{Octets}
-use Rattle.reed_solomon.proofs.DistanceLemmas.{distance-refl, Octets-take, Octets-drop, octets_of_all, all_of_octets}
 
 -- ---- the sent part of a whole word
 

@@ -1,27 +1,19 @@
 -- What added lanes hear in answers, with one answer more.
-use Rattle.std.proofs.Common.{◌≡◌, ◌≢◌, ℕ, ◌+◌, ◌<◌, ◌≤◌, ◌⊎◌, ⊎_elim, inl, inr, ℤ, List, [], ◌∷◌, ◌++◌, length}
-use Rattle.std.proofs.Common.{map, get_or, refl, ap, sym, subst, ◌∙◌, arith}
-use Rattle.std.specs.List.{All, AllPairs, Contains}
-use Rattle.std.proofs.lemmas.Bool.{cases_lt}
-use Rattle.std.proofs.lemmas.List.{length_push, length-map, get_or-map}
-use Rattle.std.proofs.lemmas.List.Elements.{All-nil, All-map, All-append, Contains-append_left, Contains-append_right}
-use Rattle.sample_ring.specs.declared.got.Got.{Got}
-use Rattle.sample_ring.specs.declared.got.Got.TheVariants.{Item, Gap, Empty, End}
+use Rattle.ring_receiver.proofs.Common.{◌≡◌, ◌≢◌, ℕ, ◌+◌, ◌<◌, ◌≤◌, ◌⊎◌, ⊎_elim, inl, inr, ℤ, List, [], ◌∷◌, ◌++◌}
+use Rattle.ring_receiver.proofs.Common.{length, map, get_or, refl, ap, sym, subst, ◌∙◌, arith, All, AllPairs, Contains}
+use Rattle.ring_receiver.proofs.Common.{cases_lt, length_push, length-map, All-nil, All-map, All-append}
+use Rattle.ring_receiver.proofs.Common.{Contains-append_left, Contains-append_right, Got, Item, Gap, Empty, End}
+use Rattle.ring_receiver.proofs.Common.{Candidate, standing, Leads, Stretch, stretch_at, with_sample, stretches}
+use Rattle.ring_receiver.proofs.Common.{stretch_after, last_stretch, end_of, position_after, AllPairs-append, last-more}
+use Rattle.ring_receiver.proofs.Common.{leads_position, leads_up, next_is, IsAddedIn, moved, AreAddedSince}
+use Rattle.std.proofs.lemmas.List.{get_or-map}
 use Rattle.sample_ring.specs.Ends.{GoesForward}
 use Rattle.sample_ring.specs.Record.{next}
-use Rattle.frame_merge.specs.declared.candidate.Candidate.{Candidate}
-use Rattle.frame_merge.specs.Order.{standing}
-use Rattle.slicer_bank.specs.RingTurns.{Leads}
-use Rattle.slicer_bank.specs.Stretches.{Stretch, stretch_at, with_sample, stretches, stretch_after, last_stretch}
-use Rattle.slicer_bank.specs.Stretches.{end_of, position_after}
-use Rattle.slicer_bank.proofs.CandidateLemmas.{AllPairs-append}
-use Rattle.slicer_bank.proofs.StretchLemmas.{last-more, leads_position, leads_up, next_is}
 use Rattle.tone_tracking.specs.Heard.{places_in}
 use Rattle.sensitive_receiver.specs.AddedCandidates.{IsAdded, EndsAtPlace}
 use Rattle.sensitive_receiver.proofs.FoundLemmas.{one_place, delay_small}
 use Rattle.sensitive_receiver.proofs.PrefixLanes.{ends-append, ends-take}
-use Rattle.ring_receiver.specs.AddedOnRing.{IsAddedIn, moved}
-use Rattle.ring_receiver.specs.AddedTurns.{AreAddedWith, AreAddedSince}
+use Rattle.ring_receiver.specs.AddedTurns.{AreAddedWith}
 use Rattle.ring_receiver.proofs.StretchWalks.{HasOne, one_more, one_less, last_one, last_or_before}
 
 -- ---- one item in one stretch

@@ -1,27 +1,17 @@
 -- Turns of the added lanes: one read after another.
-use Rattle.std.proofs.Common.{◌≡◌, ℕ, ◌+◌, ◌-◌, ◌<◌, ◌≤◌, true, false, List, [], ◌∷◌, ◌++◌, length, map, refl, ap, sym}
-use Rattle.std.proofs.Common.{subst, ◌∙◌, arith, append_assoc, inl, inr}
-use Rattle.std.specs.List.{All}
+use Rattle.ring_receiver.proofs.Common.{◌≡◌, ℕ, ◌+◌, ◌-◌, ◌<◌, ◌≤◌, true, false, List, [], ◌∷◌, ◌++◌, length, map, refl}
+use Rattle.ring_receiver.proofs.Common.{ap, sym, subst, ◌∙◌, arith, append_assoc, inl, inr, All, append-nil}
+use Rattle.ring_receiver.proofs.Common.{length_push, map-append, All-nil, All-push, Got, Entry, position_of, reads_of}
+use Rattle.ring_receiver.proofs.Common.{reader_ring, answer, Candidate, LaneGap, is_end, answers_of, gaps_of, reads_on}
+use Rattle.ring_receiver.proofs.Common.{Leads, last_stretch, last-more, leads_up, CanBePut, CanBePutFrom, IsAddedFrom}
+use Rattle.ring_receiver.proofs.Common.{AddedRing, AddedTurn, AreAddedSince, MadeAddedTurn, AddedListens}
 use Rattle.std.proofs.lemmas.Bool.{true≢false}
-use Rattle.std.proofs.lemmas.List.{append-nil, length_push, map-append}
-use Rattle.std.proofs.lemmas.List.Elements.{All-nil, All-push, All-weaker}
-use Rattle.sample_ring.specs.declared.got.Got.{Got}
-use Rattle.sample_ring.specs.declared.view.Entry.{Entry}
-use Rattle.sample_ring.specs.Ends.{position_of, reads_of, reader_ring}
-use Rattle.sample_ring.specs.Record.{answer}
-use Rattle.frame_merge.specs.declared.candidate.Candidate.{Candidate}
-use Rattle.slicer_bank.specs.declared.advance.LaneGap.{LaneGap}
-use Rattle.slicer_bank.specs.RingJobs.{is_end}
-use Rattle.slicer_bank.specs.RingLanes.{answers_of}
-use Rattle.slicer_bank.specs.RingTurns.{gaps_of, reads_on, most_reads, Leads}
-use Rattle.slicer_bank.specs.Stretches.{last_stretch}
+use Rattle.std.proofs.lemmas.List.Elements.{All-weaker}
+use Rattle.slicer_bank.specs.RingTurns.{most_reads}
 use Rattle.slicer_bank.proofs.RingJobLemmas.{gaps_of-append, meets_none, meets_last, last_meets}
-use Rattle.slicer_bank.proofs.StretchLemmas.{last-more, leads_more, leads_up}
-use Rattle.sensitive_receiver.specs.Found.{CanBePut, CanBePutFrom, IsAddedFrom}
-use Rattle.ring_receiver.specs.declared.added_ring.AddedRing.{AddedRing}
-use Rattle.ring_receiver.specs.declared.added_turn.AddedTurn.{AddedTurn}
-use Rattle.ring_receiver.specs.AddedTurns.{TookAdded, AreAddedSince, WentOnAdded, MadeAddedTurn}
-use Rattle.ring_receiver.specs.HeldReceiver.{StandsForStretch, AddedListens}
+use Rattle.slicer_bank.proofs.StretchLemmas.{leads_more}
+use Rattle.ring_receiver.specs.AddedTurns.{TookAdded, WentOnAdded}
+use Rattle.ring_receiver.specs.HeldReceiver.{StandsForStretch}
 use Rattle.ring_receiver.proofs.AddedLemmas.{since_none, since_more}
 
 went_none : (len : ℕ) (lanes : AddedRing) → WentOnAdded len lanes lanes [] [] []

@@ -1,14 +1,10 @@
 -- The lists of answers of a receiver: those of the readers of the eight lanes, and then that of the added ones.
-use Rattle.std.specs.Prelude.{Option, Some, None}
-use Rattle.std.proofs.Common.{◌≡◌, ◌↔◌, ℕ, ◌<◌, List, [], ◌∷◌, ◌++◌, ◌∙◌, length, map, sym, subst, arith}
-use Rattle.std.proofs.lemmas.List.{get_or_append_left, map-append, length-map}
+use Rattle.ring_receiver.proofs.Common.{Some, None, ◌≡◌, ◌↔◌, ℕ, ◌<◌, List, [], ◌∷◌, ◌++◌, ◌∙◌, length, map, sym, subst}
+use Rattle.ring_receiver.proofs.Common.{arith, get_or_append_left, map-append, length-map, Got, Reader, IsBusyOnRing}
+use Rattle.ring_receiver.proofs.Common.{lane_of, answers_of, last_stretch, AddedRing}
+use Rattle.std.specs.Prelude.{Option}
 use Rattle.hdlc_framer.specs.Carrier.{HoldsCarrier}
-use Rattle.sample_ring.specs.declared.got.Got.{Got}
-use Rattle.sample_ring.specs.declared.reader.Reader.{Reader}
-use Rattle.slicer_bank.specs.HeardOnRing.{IsBusyOnRing, lane_of}
-use Rattle.slicer_bank.specs.RingLanes.{answers_of}
-use Rattle.slicer_bank.specs.Stretches.{stretch_bits, last_stretch}
-use Rattle.ring_receiver.specs.declared.added_ring.AddedRing.{AddedRing}
+use Rattle.slicer_bank.specs.Stretches.{stretch_bits}
 use Rattle.ring_receiver.specs.HeldReceiver.{readers_with}
 
 -- further lists change nothing of the first ones

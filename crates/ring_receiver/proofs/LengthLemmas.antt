@@ -1,14 +1,9 @@
 -- What is due has the length of a frame.
-use Rattle.std.proofs.Common.{Bool, true, false, List, [], ap, sym, subst, inl, inr}
-use Rattle.std.specs.List.{All}
+use Rattle.ring_receiver.proofs.Common.{Bool, true, false, List, [], ap, sym, subst, inl, inr, All, Got, Candidate}
+use Rattle.ring_receiver.proofs.Common.{merged, IsHeardOnRing, IsHeardBy, AreHeardBy, AreDueBy}
 use Rattle.std.proofs.lemmas.List.Elements.{All-filter}
 use Rattle.hdlc_framer.specs.FrameLength.{HasFrameLength}
-use Rattle.sample_ring.specs.declared.got.Got.{Got}
-use Rattle.frame_merge.specs.declared.candidate.Candidate.{Candidate}
-use Rattle.frame_merge.specs.Merged.{merged}
 use Rattle.frame_merge.proofs.Merging.{All-merged}
-use Rattle.slicer_bank.specs.HeardOnRing.{IsHeardOnRing}
-use Rattle.ring_receiver.specs.HeardByAll.{IsHeardBy, AreHeardBy, AreDueBy}
 
 abbrev pub IsOfLength : Candidate → Type 0
 IsOfLength item = HasFrameLength item.octets

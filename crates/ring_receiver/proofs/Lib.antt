@@ -1,3 +1,4 @@
+pub mod Common
 pub mod ReaderLemmas
 pub mod AnswerLemmas
 pub mod StretchWalks

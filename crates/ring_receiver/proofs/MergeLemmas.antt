@@ -1,36 +1,25 @@
 -- What all lanes hear of a ring, merged turn by turn.
-use Rattle.std.proofs.Common.{◌≡◌, ◌≢◌, ℕ, ◌-◌, ◌^◌, ◌<◌, ◌≤◌, ◌⊎◌, ⊎_elim, inl, inr, true, List, [], ◌∷◌}
-use Rattle.std.proofs.Common.{◌++◌, length, map, take, get_or, replicate, refl, ap, sym, subst, ◌∙◌, arith, zero, suc}
-use Rattle.std.specs.Prelude.{fold, min}
-use Rattle.std.specs.List.{All, AllPairs, Contains}
+use Rattle.ring_receiver.proofs.Common.{◌≡◌, ◌≢◌, ℕ, ◌-◌, ◌^◌, ◌<◌, ◌≤◌, ◌⊎◌, ⊎_elim, inl, inr, true, List, [], ◌∷◌}
+use Rattle.ring_receiver.proofs.Common.{◌++◌, length, map, take, get_or, replicate, refl, ap, sym, subst, ◌∙◌, arith}
+use Rattle.ring_receiver.proofs.Common.{zero, suc, fold, min, All, AllPairs, Contains, map-append, fold-append, All-nil}
+use Rattle.ring_receiver.proofs.Common.{All-append, Contains-append_left, Contains-append_right, Got, Reader, reads_of}
+use Rattle.ring_receiver.proofs.Common.{answer, Candidate, least, merged, standing, IsHeardOnRing, lane_of}
+use Rattle.ring_receiver.proofs.Common.{least_position, Stretch, stretches, answers_of, AllPairs-append, least_rises}
+use Rattle.ring_receiver.proofs.Common.{IsAddedIn, BringsByAll, IsHeardBy, AreHeardBy, AreMergedBy, AreRestBy}
+use Rattle.ring_receiver.proofs.Common.{settled_position, HasMergedBy, HasMergedAll}
 use Rattle.std.specs.List.Sorted.{IsNonDecreasingBy}
-use Rattle.std.proofs.lemmas.List.{get_or-take, append_cancel_left, map-append}
-use Rattle.std.proofs.lemmas.List.Sums.{fold-append}
-use Rattle.std.proofs.lemmas.List.Elements.{All-nil, All-append, Contains-append_left, Contains-append_right}
-use Rattle.sample_ring.specs.declared.got.Got.{Got}
-use Rattle.sample_ring.specs.declared.reader.Reader.{Reader}
-use Rattle.sample_ring.specs.Ends.{reads_of}
-use Rattle.sample_ring.specs.Record.{answer}
-use Rattle.frame_merge.specs.declared.candidate.Candidate.{Candidate}
-use Rattle.frame_merge.specs.Held.{Held as HeldMerger, StandsFor as MergerStandsFor, least}
-use Rattle.frame_merge.specs.Merged.{merged, below, not_below}
-use Rattle.frame_merge.specs.Order.{standing, place, in_order, IsInOrder}
+use Rattle.std.proofs.lemmas.List.{get_or-take, append_cancel_left}
+use Rattle.frame_merge.specs.Held.{Held as HeldMerger, StandsFor as MergerStandsFor}
+use Rattle.frame_merge.specs.Merged.{below, not_below}
+use Rattle.frame_merge.specs.Order.{place, in_order, IsInOrder}
 use Rattle.frame_merge.proofs.Forgetting.{below_then_rest}
 use Rattle.frame_merge.proofs.Merging.{merged-rising}
 use Rattle.frame_merge.proofs.Ordering.{rising_ends}
-use Rattle.slicer_bank.specs.HeardOnRing.{IsHeardIn, IsHeardOnRing, lane_of, lane_positions, least_position}
-use Rattle.slicer_bank.specs.Stretches.{Stretch, stretches}
-use Rattle.slicer_bank.specs.RingLanes.{answers_of}
-use Rattle.slicer_bank.proofs.CandidateLemmas.{AllPairs-append}
+use Rattle.slicer_bank.specs.HeardOnRing.{IsHeardIn, lane_positions}
 use Rattle.slicer_bank.proofs.MergedLemmas.{next_is}
 use Rattle.slicer_bank.proofs.MergingLemmas.{rising_strictly}
 use Rattle.slicer_bank.proofs.OrderingLemmas.{strictly_more, contains_more, all_more, below_more}
 use Rattle.slicer_bank.proofs.RingMergingLemmas.{none_on_ring, heard_still, known_or_new, stands_apart, late}
-use Rattle.slicer_bank.proofs.RingMergingLemmas.{least_rises}
-use Rattle.ring_receiver.specs.AddedOnRing.{IsAddedIn}
-use Rattle.ring_receiver.specs.AllMerging.{BringsByAll}
-use Rattle.ring_receiver.specs.HeardByAll.{IsHeardBy, AreHeardBy, AreMergedBy, AreRestBy, settled_position}
-use Rattle.ring_receiver.specs.HeldReceiver.{HasMergedBy, HasMergedAll}
 
 -- ---- the eight lanes of nine readers
 

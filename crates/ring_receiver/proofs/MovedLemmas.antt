@@ -1,13 +1,9 @@
 -- Candidates moved to where their stretch begins, one after another.
-use Rattle.std.proofs.Common.{◌≡◌, ℕ, ◌+◌, ◌^◌, ◌<◌, ◌≤◌, List, [], ◌∷◌, ◌++◌, length, map, get_or, ap, sym, subst}
-use Rattle.std.proofs.Common.{◌∙◌, arith, append_assoc, length-append}
-use Rattle.std.specs.List.{All}
-use Rattle.std.proofs.lemmas.List.{append-nil, nil_from_length, map-append}
-use Rattle.std.proofs.lemmas.List.Elements.{All-append, All-map}
-use Rattle.std.proofs.Math.Seq.{get_or-append_seam}
-use Rattle.frame_merge.specs.declared.candidate.Candidate.{Candidate}
-use Rattle.sensitive_receiver.specs.Found.{CanBePutFrom, HasRoom, IsAddedFrom}
-use Rattle.ring_receiver.specs.AddedOnRing.{moved}
+use Rattle.ring_receiver.proofs.Common.{◌≡◌, ℕ, ◌+◌, ◌^◌, ◌<◌, ◌≤◌, List, [], ◌∷◌, ◌++◌, length, map, get_or, ap, sym}
+use Rattle.ring_receiver.proofs.Common.{subst, ◌∙◌, arith, append_assoc, length-append, All, append-nil}
+use Rattle.ring_receiver.proofs.Common.{nil_from_length, map-append, All-append, All-map, get_or-append_seam, Candidate}
+use Rattle.ring_receiver.proofs.Common.{CanBePutFrom, IsAddedFrom, moved}
+use Rattle.sensitive_receiver.specs.Found.{HasRoom}
 
 -- so many of the candidates that were heard are moved and found, and so many others are left
 pub record HasMoved (begin : ℕ) (before found all items left : List Candidate) (count : ℕ) : Type 0 where

@@ -1,7 +1,6 @@
 -- The readers of a receiver go back to the Vec that they came in.
-use Rattle.std.proofs.Common.{◌≡◌, ℕ, suc, ◌+◌, ◌<◌, List, [], ◌∷◌, ◌++◌, length, ap, ◌∙◌, sym, append_assoc, arith}
-use Rattle.std.proofs.lemmas.List.{append-nil, nil_from_length}
-use Rattle.sample_ring.specs.declared.reader.Reader.{Reader}
+use Rattle.ring_receiver.proofs.Common.{◌≡◌, ℕ, suc, ◌+◌, ◌<◌, List, [], ◌∷◌, ◌++◌, length, ap, ◌∙◌, sym, append_assoc}
+use Rattle.ring_receiver.proofs.Common.{arith, append-nil, nil_from_length, Reader}
 
 -- So many readers went back into the room, and there is room for those that are left and for one more.
 pub record HaveGoneBack (all left : List Reader) (count : ℕ) (items : List Reader) (len capacity : ℕ) : Type 0 where

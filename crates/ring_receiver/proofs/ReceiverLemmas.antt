@@ -1,41 +1,27 @@
 -- What a turn makes of a receiver: with the eight lanes alone, and with the added ones.
-use Rattle.std.specs.Prelude.{Some, None, min, Result, Ok, Err, IfOk}
+use Rattle.ring_receiver.proofs.Common.{Some, None, min, ◌≡◌, ℕ, ◌+◌, ◌-◌, ◌<◌, ◌≤◌, Bool, true, false, ◌&&◌, List, []}
+use Rattle.ring_receiver.proofs.Common.{◌∷◌, ◌++◌, length, map, replicate, get_or, refl, ap, sym, subst, ◌∙◌, arith}
+use Rattle.ring_receiver.proofs.Common.{length-append, get_or-append-add, All, length-map, map-append}
+use Rattle.ring_receiver.proofs.Common.{get_or_append_left, get_or-replicate, All-push, Got, Reader, Entry, Track}
+use Rattle.ring_receiver.proofs.Common.{position_of, reads_of, reader_ring, answer, Candidate, least, LaneGap}
+use Rattle.ring_receiver.proofs.Common.{least_position, answers_of, Listens, HasMerged, AreGrown, IsTurn, BringsOnRing}
+use Rattle.ring_receiver.proofs.Common.{CanBePut, IsAddedFrom, position_after, least_rises, leads_position, leads_up}
+use Rattle.ring_receiver.proofs.Common.{AddedRing, AddedTurn, MadeAddedTurn, AreAddedSince, BringsByAll, AreHeardBy}
+use Rattle.ring_receiver.proofs.Common.{AreMergedBy, AreRestBy, AreDueBy, settled_position, HasMergedBy, AddedListens}
+use Rattle.ring_receiver.proofs.Common.{held_of, IsTurnOf, AreGrownBy}
+use Rattle.std.specs.Prelude.{Result, Ok, Err, IfOk}
 use Rattle.std.specs.Result.{IsErrAnd}
-use Rattle.std.proofs.Common.{◌≡◌, ℕ, ◌+◌, ◌-◌, ◌<◌, ◌≤◌, Bool, true, false, ◌&&◌, List, [], ◌∷◌, ◌++◌, length, map}
-use Rattle.std.proofs.Common.{replicate, get_or, refl, ap, sym, subst, ◌∙◌, arith, length-append, get_or-append-add}
-use Rattle.std.specs.List.{All}
-use Rattle.std.proofs.lemmas.List.{length-map, map-append, get_or_append_left, get_or-replicate}
-use Rattle.std.proofs.lemmas.List.Elements.{All-push}
 use Rattle.atomic_table.specs.Seated.{TableId}
-use Rattle.sample_ring.specs.declared.got.Got.{Got}
-use Rattle.sample_ring.specs.declared.reader.Reader.{Reader}
-use Rattle.sample_ring.specs.declared.view.Entry.{Entry}
-use Rattle.sample_ring.specs.declared.view.Track.{Track}
-use Rattle.sample_ring.specs.Ends.{position_of, reads_of, reader_ring, record_of}
-use Rattle.sample_ring.specs.Record.{answer}
-use Rattle.frame_merge.specs.declared.candidate.Candidate.{Candidate}
-use Rattle.frame_merge.specs.Held.{Held as HeldMerger, least}
-use Rattle.slicer_bank.specs.declared.advance.LaneGap.{LaneGap}
-use Rattle.slicer_bank.specs.HeardOnRing.{AreHeardOnRing, AreMergedOnRing, AreRestOnRing, least_position}
-use Rattle.slicer_bank.specs.RingLanes.{HeldRingBank, answers_of, Listens, readers_in as readers_of_bank}
-use Rattle.slicer_bank.specs.RingLanes.{records_in as records_of_bank, positions_in as positions_of_bank}
-use Rattle.slicer_bank.specs.RingLanes.{answers_in as answers_of_bank}
-use Rattle.slicer_bank.specs.RingMerging.{HasMerged}
-use Rattle.slicer_bank.specs.RingTurns.{AreGrown, ArePast, IsTurn, BringsOnRing}
+use Rattle.sample_ring.specs.Ends.{record_of}
+use Rattle.frame_merge.specs.Held.{Held as HeldMerger}
+use Rattle.slicer_bank.specs.HeardOnRing.{AreHeardOnRing, AreMergedOnRing, AreRestOnRing}
+use Rattle.slicer_bank.specs.RingLanes.{HeldRingBank, readers_in as readers_of_bank, records_in as records_of_bank}
+use Rattle.slicer_bank.specs.RingLanes.{positions_in as positions_of_bank, answers_in as answers_of_bank}
+use Rattle.slicer_bank.specs.RingTurns.{ArePast}
 use Rattle.slicer_bank.specs.Merging.{CanBePut as CanBePutOfEight, AreInTime}
-use Rattle.sensitive_receiver.specs.Found.{CanBePut, IsAddedFrom}
-use Rattle.slicer_bank.specs.Stretches.{position_after}
-use Rattle.slicer_bank.proofs.RingMergingLemmas.{least_rises}
-use Rattle.slicer_bank.proofs.StretchLemmas.{leads_position, leads_up}
-use Rattle.ring_receiver.specs.declared.added_ring.AddedRing.{AddedRing}
-use Rattle.ring_receiver.specs.declared.added_turn.AddedTurn.{AddedTurn}
 use Rattle.ring_receiver.specs.declared.heard.Heard.{Heard}
-use Rattle.ring_receiver.specs.AddedTurns.{MadeAddedTurn, AreAddedSince}
-use Rattle.ring_receiver.specs.AllMerging.{BringsByAll}
-use Rattle.ring_receiver.specs.HeardByAll.{AreHeardBy, AreMergedBy, AreRestBy, AreDueBy, settled_position}
-use Rattle.ring_receiver.specs.HeldReceiver.{Hears, HasMergedBy, AddedListens}
-use Rattle.ring_receiver.specs.ReceiverTurns.{held_of, AreInStep, MakesTurn, ReadersStay}
-use Rattle.ring_receiver.specs.Turns.{IsTurnOf, AreGrownBy}
+use Rattle.ring_receiver.specs.HeldReceiver.{Hears}
+use Rattle.ring_receiver.specs.ReceiverTurns.{AreInStep, MakesTurn, ReadersStay}
 use Rattle.ring_receiver.proofs.LengthLemmas.{due_lengths}
 use Rattle.ring_receiver.proofs.TurnLemmas.{grown_nine, turn_eight, turn_nine, brings_nine, least_nine}
 

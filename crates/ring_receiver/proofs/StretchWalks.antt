@@ -1,14 +1,10 @@
 -- What is so of some stretch of answers, with one answer more, and how the other stretches lie to the last.
-use Rattle.std.proofs.Common.{◌≡◌, ℕ, ◌<◌, ◌≤◌, ◌⊎◌, ⊎_elim, inl, inr, ℤ, List, [], ◌∷◌, ◌++◌, zero, suc, length}
-use Rattle.std.proofs.Common.{refl, ap, sym, subst, arith}
-use Rattle.std.specs.Prelude.{fold}
-use Rattle.std.specs.List.{Contains}
-use Rattle.std.proofs.lemmas.List.Elements.{Contains-append_right, Contains-append_cases}
-use Rattle.sample_ring.specs.declared.got.Got.{Got}
-use Rattle.sample_ring.specs.declared.got.Got.TheVariants.{Item, Gap, Empty, End}
-use Rattle.slicer_bank.specs.RingTurns.{Leads}
-use Rattle.slicer_bank.specs.Stretches.{Stretch, stretch_at, with_sample, stretches_from, stretch_after, end_of}
-use Rattle.slicer_bank.proofs.StretchLemmas.{next_is}
+use Rattle.ring_receiver.proofs.Common.{◌≡◌, ℕ, ◌<◌, ◌≤◌, ◌⊎◌, ⊎_elim, inl, inr, ℤ, List, [], ◌∷◌, ◌++◌, zero, suc}
+use Rattle.ring_receiver.proofs.Common.{length, refl, ap, sym, subst, arith, fold, Contains, Contains-append_right, Got}
+use Rattle.ring_receiver.proofs.Common.{Item, Gap, Empty, End, Leads, Stretch, stretch_at, with_sample, stretch_after}
+use Rattle.ring_receiver.proofs.Common.{end_of, next_is}
+use Rattle.std.proofs.lemmas.List.Elements.{Contains-append_cases}
+use Rattle.slicer_bank.specs.Stretches.{stretches_from}
 
 -- one of the stretches is such
 abbrev pub HasOne : (Stretch → Type 0) → List Stretch → Type 0

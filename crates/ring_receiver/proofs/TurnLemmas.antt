@@ -1,24 +1,14 @@
 -- One turn of nine readers: that of the first eight and that of the last.
-use Rattle.std.proofs.Common.{◌≡◌, ℕ, ◌+◌, ◌-◌, ◌<◌, Bool, true, false, ◌&&◌, ◌↔◌, List, [], ◌∷◌, ◌++◌, length}
-use Rattle.std.proofs.Common.{get_or, take, map, refl, ap, sym, subst, ◌∙◌, arith, append_assoc, inl, inr}
-use Rattle.std.specs.Prelude.{fold, min, ◌^◌}
-use Rattle.std.specs.List.{All}
-use Rattle.std.proofs.lemmas.Bool.{cases_lt, false≢true}
-use Rattle.std.proofs.lemmas.List.{append-nil, length_push, map-append, get_or_append_left}
-use Rattle.std.proofs.lemmas.List.Elements.{All-push}
-use Rattle.std.proofs.lemmas.List.Sums.{fold-append}
-use Rattle.std.proofs.Math.Seq.{get_or-append_seam, take-append_seam}
-use Rattle.sample_ring.specs.declared.got.Got.{Got}
-use Rattle.sample_ring.specs.declared.view.Entry.{Entry}
-use Rattle.sample_ring.specs.declared.view.Track.{Track}
-use Rattle.frame_merge.specs.declared.candidate.Candidate.{Candidate}
-use Rattle.slicer_bank.specs.declared.advance.LaneGap.{LaneGap}
-use Rattle.slicer_bank.specs.HeardOnRing.{lane_of, least_position}
-use Rattle.slicer_bank.specs.RingTurns.{IsReading, MeetsEnd, gaps_of, gaps_from, AreGrown, IsTurn, BringsOnRing}
-use Rattle.slicer_bank.specs.Stretches.{position_after}
-use Rattle.ring_receiver.specs.AddedTurns.{AreAddedSince}
-use Rattle.ring_receiver.specs.AllMerging.{BringsByAll}
-use Rattle.ring_receiver.specs.Turns.{AreGrownBy, IsTurnOf}
+use Rattle.ring_receiver.proofs.Common.{◌≡◌, ℕ, ◌+◌, ◌-◌, ◌<◌, Bool, true, false, ◌&&◌, ◌↔◌, List, [], ◌∷◌, ◌++◌}
+use Rattle.ring_receiver.proofs.Common.{length, get_or, take, map, refl, ap, sym, subst, ◌∙◌, arith, append_assoc, inl}
+use Rattle.ring_receiver.proofs.Common.{inr, fold, min, All, cases_lt, append-nil, length_push, map-append}
+use Rattle.ring_receiver.proofs.Common.{get_or_append_left, All-push, fold-append, get_or-append_seam, Got, Entry}
+use Rattle.ring_receiver.proofs.Common.{Track, Candidate, LaneGap, lane_of, least_position, gaps_of, AreGrown, IsTurn}
+use Rattle.ring_receiver.proofs.Common.{BringsOnRing, position_after, AreAddedSince, BringsByAll, AreGrownBy, IsTurnOf}
+use Rattle.std.specs.Prelude.{◌^◌}
+use Rattle.std.proofs.lemmas.Bool.{false≢true}
+use Rattle.std.proofs.Math.Seq.{take-append_seam}
+use Rattle.slicer_bank.specs.RingTurns.{IsReading, MeetsEnd, gaps_from}
 
 -- ---- lists of nine
 

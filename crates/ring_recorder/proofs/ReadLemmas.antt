@@ -67,17 +67,6 @@ pub record ReadsOn (len : ℕ) (start now : HeldRecorder) (count : ℕ) : Type 0
   pub on : All (λ got. reads_on got ≡ true) (map (answer len) reads)
   pub stands : StandsFor len start → StandsFor len now
 
-pub reads_none : (len : ℕ) (start : HeldRecorder) → ReadsOn len start start 0
-reads_none len start = record {
-  ring = refl;
-  keep = refl;
-  reads = [];
-  are = sym (append-nil (reads_of start.reader));
-  many = refl;
-  on = All-nil (λ got. reads_on got ≡ true);
-  stands = λ stands. stands;
-}
-
 -- the reads of a turn and one more
 pub record ReadOnce (len : ℕ) (start after : HeldRecorder) (so_far : List Entry) (got : Got) : Type 0 where
   pub ring : reader_ring after.reader ≡ reader_ring start.reader
@@ -122,16 +111,3 @@ reads_more len start now after count got h took on =
     }
 
 -- ---- the end of a turn
-
--- the turn stopped at an answer
-pub stopped : (len : ℕ) (start now after : HeldRecorder) (count : ℕ) (got : Got) (h : ReadsOn len start now count)
-    (took : TookAnswer len now after got) → count < most_reads → reads_on got ≡ false
-    → IsTurn (map (answer len) (h.reads ++ took.read.0 ∷ []))
-stopped len start now after count got h took few off =
-    let long : length (map (answer len) h.reads) ≡ count = length-map h.reads (answer len) ∙ h.many in
-    inr (map (answer len) h.reads, got, answers_once len now after h.reads got took, h.on, off, omega arith)
-
--- or had as many answers as it may have
-pub full : (len : ℕ) (start now : HeldRecorder) (count : ℕ) (h : ReadsOn len start now count) → count ≡ most_reads
-    → IsTurn (map (answer len) h.reads)
-full len start now count h all = inl (h.on, length-map h.reads (answer len) ∙ h.many ∙ all)

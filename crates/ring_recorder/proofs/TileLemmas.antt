@@ -50,9 +50,6 @@ no_pairs R i j d lt within = absurd (omega arith)
 none_given : (position : ℕ) → IsGiven [] position → ⊥
 none_given position given = let lt = given.1.1 in omega arith
 
-none_lost : (position : ℕ) → IsLost [] position → ⊥
-none_lost position lost = let lt = lost.1.1 in omega arith
-
 tile_none : (from : ℕ) → TileFrom from from [] []
 tile_none from = record {
   forward = omega arith;

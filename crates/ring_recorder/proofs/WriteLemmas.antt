@@ -38,14 +38,6 @@ pub record WroteUpTo (all rest : List ℤ) (was now : Option (List ℕ)) (faults
   pub written : (before : List ℕ) → was ≡ Some before → now ≡ Some (before ++ octets_of done)
   pub faultless : faults_now ≡ faults
 
-pub wrote_none : (all : List ℤ) (was : Option (List ℕ)) (faults : ℕ) → WroteUpTo all all was was faults faults
-wrote_none all was faults = record {
-  done = [];
-  parts = refl;
-  written = λ before is. is ∙ ap Some (sym (append-nil before));
-  faultless = refl;
-}
-
 pub wrote_piece : (all rest piece others : List ℤ) (was now after : Option (List ℕ)) (faults faults_now faults' : ℕ)
     → WroteUpTo all rest was now faults faults_now → rest ≡ piece ++ others
     → ((before : List ℕ) → now ≡ Some before → after ≡ Some (before ++ octets_of piece)) → faults' ≡ faults_now
@@ -64,14 +56,6 @@ pub cut : (rest piece others : List ℤ) (mid : ℕ) → piece ≡ take mid rest
     → rest ≡ piece ++ others
 cut rest piece others mid front back =
     sym (ap (λ p. p ++ others) front ∙ ap (λ o. take mid rest ++ o) back ∙ take-append-drop mid rest)
-
--- all are written
-pub wrote_all : (all rest : List ℤ) (was now : Option (List ℕ)) (faults faults_now : ℕ)
-    → WroteUpTo all rest was now faults faults_now → rest ≡ [] → (before : List ℕ) → was ≡ Some before
-    → now ≡ Some (before ++ octets_of all)
-wrote_all all rest was now faults faults_now h none before is =
-    h.written before is ∙ ap (λ s. Some (before ++ octets_of s))
-    (sym (h.parts ∙ ap (λ r. h.done ++ r) none ∙ append-nil h.done))
 
 -- or a first part, if the next piece was cut short
 pub wrote_part : (all rest piece others : List ℤ) (was now after : Option (List ℕ)) (faults faults_now : ℕ)

@@ -1,13 +1,9 @@
 -- Closing a ring: one reader after another is handed in.
-use Rattle.std.proofs.Common.{◌≡◌, ℕ, suc, ◌+◌, List, [], ◌∷◌, ◌++◌, length, map, true, ap, ◌∙◌, sym, subst}
-use Rattle.std.proofs.Common.{append_assoc, arith}
-use Rattle.std.specs.Prelude.{ℤ}
-use Rattle.std.specs.List.{All}
-use Rattle.atomic_table.specs.Seated.{TableId}
+use Rattle.sample_ring.proofs.Common.{◌≡◌, ℕ, suc, ◌+◌, List, [], ◌∷◌, ◌++◌, length, true, ap, ◌∙◌, sym, subst, arith}
+use Rattle.sample_ring.proofs.Common.{ℤ, All, TableId, Reader, reader_ring, listed, StandsIn}
+use Rattle.std.proofs.Common.{map, append_assoc}
 use Rattle.sample_ring.specs.declared.history.History.{History}
-use Rattle.sample_ring.specs.declared.reader.Reader.{Reader}
-use Rattle.sample_ring.specs.Ends.{history_ring, reader_ring, record_of, listed, records_of}
-use Rattle.sample_ring.specs.Record.{StandsIn}
+use Rattle.sample_ring.specs.Ends.{history_ring, record_of, records_of}
 
 -- the history keeps the records of the readers handed in, and `left` are still to come
 pub record HasKept (ring : TableId) (len : ℕ) (list : List ℤ) (all : List Reader) (history : History)

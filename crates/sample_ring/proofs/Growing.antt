@@ -1,15 +1,11 @@
 -- A record stands in the published list: after one more read, and after more is published.
-use Rattle.std.proofs.Common.{◌≡◌, ℕ, ◌+◌, ◌<◌, ◌≤◌, List, [], ◌∷◌, ◌++◌, length, Some, Bool, false, true≢false, refl}
-use Rattle.std.proofs.Common.{sym, ◌∙◌, zero, suc, get_or, arith}
-use Rattle.std.specs.Prelude.{ℤ, slice_get}
-use Rattle.std.specs.List.{All}
-use Rattle.std.proofs.lemmas.List.Elements.{All-push, All-nil}
+use Rattle.sample_ring.proofs.Common.{◌≡◌, ℕ, ◌+◌, ◌<◌, ◌≤◌, List, [], ◌∷◌, ◌++◌, length, Some, Bool, false, true≢false}
+use Rattle.sample_ring.proofs.Common.{refl, sym, ◌∙◌, zero, suc, arith, ℤ, slice_get, All, All-push, All-nil, Got, Item}
+use Rattle.sample_ring.proofs.Common.{Gap, Empty, End, Entry, answer, StandsAs, Stands, StandsIn, with_read}
+use Rattle.std.proofs.Common.{get_or}
 use Rattle.std.proofs.lemmas.Option.{slice_get_within}
-use Rattle.sample_ring.specs.declared.got.Got.{Got}
-use Rattle.sample_ring.specs.declared.got.Got.TheVariants.{Item, Gap, Empty, End}
-use Rattle.sample_ring.specs.declared.view.Entry.{Entry}
 use Rattle.sample_ring.specs.declared.view.Track.{Track}
-use Rattle.sample_ring.specs.Record.{answer, next, StandsAs, Stands, Tiles, StandsIn, with_read}
+use Rattle.sample_ring.specs.Record.{next, Tiles}
 
 pub slice_get-front : (xs ys : List ℤ) (k : ℕ) (x : ℤ) → slice_get xs k ≡ Some x → slice_get (xs ++ ys) k ≡ Some x
 slice_get-front [] ys k x e = absurd (cc)

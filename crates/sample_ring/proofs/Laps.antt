@@ -1,17 +1,13 @@
 -- What a reader finds in the cell of its position, and what `answer` then computes to.
-use Rattle.std.proofs.Common.{◌≡◌, ◌≢◌, ℕ, ◌+◌, ◌-◌, ◌%◌, ◌<◌, ◌≤◌, List, length, Some, Bool, false, sym, ap, ◌∙◌}
-use Rattle.std.proofs.Common.{subst, inl, inr, arith, lt_of_not-le, eq-eqb, ne_eqb, if◌then◌else◌}
-use Rattle.std.specs.Prelude.{ℤ, slice_get, nat_lt, ◌==◌}
-use Rattle.std.proofs.Math.Nat.{mod-le, add-mod, add-mod_right}
+use Rattle.sample_ring.proofs.Common.{◌≡◌, ◌≢◌, ℕ, ◌+◌, ◌-◌, ◌%◌, ◌<◌, ◌≤◌, List, length, Some, Bool, false, sym, ap}
+use Rattle.sample_ring.proofs.Common.{◌∙◌, subst, inl, inr, arith, lt_of_not-le, if◌then◌else◌, ℤ, slice_get}
+use Rattle.sample_ring.proofs.Common.{add-mod_right, dite, dec_le, Got, Item, Gap, Empty, End, Entry, lap_of, sample_of}
+use Rattle.sample_ring.proofs.Common.{TellsCell, answer}
+use Rattle.std.proofs.Common.{eq-eqb, ne_eqb}
+use Rattle.std.specs.Prelude.{nat_lt, ◌==◌}
+use Rattle.std.proofs.Math.Nat.{mod-le, add-mod}
 use Rattle.std.proofs.lemmas.Bool.{lt-ltb, le-ltb}
-use mathlib.Core.Logic.{dite}
-use native.Mathlib.Decide.{dec_le}
 use Rattle.atomic_table.proofs.Lists.{one_turn}
-use Rattle.sample_ring.specs.declared.got.Got.{Got}
-use Rattle.sample_ring.specs.declared.got.Got.TheVariants.{Item, Gap, Empty, End}
-use Rattle.sample_ring.specs.declared.view.Entry.{Entry}
-use Rattle.sample_ring.specs.Cells.{lap_of, sample_of, TellsCell}
-use Rattle.sample_ring.specs.Record.{answer}
 
 -- what the word of a position's cell says to a reader that stands there
 pub record Finds (n : ℕ) (published : List ℤ) (at word : ℕ) : Type 0 where

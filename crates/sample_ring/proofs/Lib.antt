@@ -1,3 +1,4 @@
+pub mod Common
 pub mod Laps
 pub mod Growing
 pub mod Standing

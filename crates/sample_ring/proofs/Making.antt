@@ -1,10 +1,7 @@
 -- Making the readers of a new ring, one by one.
-use Rattle.std.proofs.Common.{◌≡◌, ℕ, List, [], length}
-use Rattle.std.specs.List.{All}
-use Rattle.atomic_table.specs.Seated.{TableId}
-use Rattle.sample_ring.specs.declared.reader.Reader.{Reader}
+use Rattle.sample_ring.proofs.Common.{◌≡◌, ℕ, List, [], length, All, TableId, Reader, writer_ring, reader_ring}
 use Rattle.sample_ring.specs.declared.writer.Writer.{Writer}
-use Rattle.sample_ring.specs.Ends.{writer_ring, reader_ring, published_by, IsNew}
+use Rattle.sample_ring.specs.Ends.{published_by, IsNew}
 
 -- so many readers were made, each new and of the ring
 pub record HasMade (ring : TableId) (writer : Writer) (ends : List Reader) (count : ℕ) : Type 0 where

@@ -1,21 +1,10 @@
 -- What each seat knows stays so: of the seat that steps, and of the others.
-use Rattle.std.proofs.Common.{◌≡◌, ◌≢◌, ℕ, ◌+◌, ◌<◌, ◌≤◌, List, length, set, Bool, true, false, true≢false, refl, sym}
-use Rattle.std.proofs.Common.{ap, ◌∙◌, subst, ⊎_elim, zero-le, arith, if◌then◌else◌}
-use Rattle.std.specs.Prelude.{ℤ}
-use Rattle.std.proofs.lemmas.List.Elements.{All-push, All-nil}
-use Rattle.std.proofs.lemmas.Bool.{le-leb, lt-leb}
-use mathlib.Core.Logic.{dite}
-use mathlib.Core.Option.{some}
-use native.Mathlib.Decide.{dec_le, ℕ_discrete}
-use Rattle.std.proofs.Common.{lt_of_not-le}
-use lib.ListN.{get_elem?}
-use Rattle.atomic_table.proofs.Lists.{at_set}
-use Rattle.sample_ring.specs.declared.view.Entry.{Entry}
-use Rattle.sample_ring.specs.declared.view.View.{View}
-use Rattle.sample_ring.specs.Cells.{lap_of, TellsEnd}
-use Rattle.sample_ring.specs.Record.{StandsAs, Stands, StandsIn, with_read}
-use Rattle.sample_ring.specs.Views.{spent_view, note_of, noted, keeping, entry_of, looked_view, looked_last_view}
-use Rattle.sample_ring.specs.Rule.{IsSo}
+use Rattle.sample_ring.proofs.Common.{◌≡◌, ◌≢◌, ℕ, ◌+◌, ◌<◌, ◌≤◌, List, length, set, Bool, true, false, true≢false}
+use Rattle.sample_ring.proofs.Common.{refl, sym, ap, ◌∙◌, subst, ⊎_elim, zero-le, arith, if◌then◌else◌, ℤ, All-push}
+use Rattle.sample_ring.proofs.Common.{All-nil, le-leb, dite, some, dec_le, ℕ_discrete, lt_of_not-le, get_elem?, at_set}
+use Rattle.sample_ring.proofs.Common.{Entry, View, lap_of, TellsEnd, StandsAs, Stands, StandsIn, with_read, spent_view}
+use Rattle.sample_ring.proofs.Common.{note_of, noted, keeping, entry_of, looked_view, looked_last_view, IsSo}
+use Rattle.std.proofs.lemmas.Bool.{lt-leb}
 use Rattle.sample_ring.proofs.Laps.{Finds, answer_item, answer_gap, answer_end, answer_empty}
 use Rattle.sample_ring.proofs.Growing.{stands_with_read, stands_new, GoesOn, stands_later, all_later}
 

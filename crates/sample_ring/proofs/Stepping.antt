@@ -1,26 +1,18 @@
 -- Each kind of step keeps the rule of the table, and tells its caller what `specs/Steps.antt` says.
-use Rattle.std.proofs.Common.{◌≡◌, ◌≢◌, ◌⊎◌, ℕ, zero, suc, ◌+◌, ◌-◌, ◌^◌, ◌%◌, ◌<◌, ◌≤◌, List, [], ◌∷◌, ◌++◌, length}
-use Rattle.std.proofs.Common.{replicate, set, Some, Bool, true, false, refl, sym, ap, ◌∙◌, subst, ⊎_elim, inl, inr}
-use Rattle.std.proofs.Common.{zero-le, le_refl, arith, length-append, if◌then◌else◌}
-use Rattle.std.specs.Prelude.{ℤ, slice_index}
-use Rattle.std.specs.List.{All}
-use Rattle.std.proofs.Math.Nat.{mod-lt, mod-eq_of_lt, add-mod_right}
-use Rattle.std.proofs.lemmas.Bool.{le-leb}
-use Rattle.std.proofs.lemmas.List.Elements.{All-nil}
+use Rattle.sample_ring.proofs.Common.{◌≡◌, ◌≢◌, ℕ, zero, suc, ◌+◌, ◌-◌, ◌^◌, ◌%◌, ◌<◌, ◌≤◌, List, [], ◌∷◌, ◌++◌, length}
+use Rattle.sample_ring.proofs.Common.{replicate, set, Some, Bool, true, false, refl, sym, ap, ◌∙◌, subst, ⊎_elim, inl}
+use Rattle.sample_ring.proofs.Common.{inr, zero-le, arith, if◌then◌else◌, ℤ, All, mod-lt, add-mod_right, le-leb}
+use Rattle.sample_ring.proofs.Common.{All-nil, dite, some, ℕ_discrete, get_elem?, opening, at_set, View, lap_of}
+use Rattle.sample_ring.proofs.Common.{sample_of, TellsCell, TellsEnd, StandsIn, with_read, spent_view, first_view}
+use Rattle.sample_ring.proofs.Common.{note_of, noted, keeping, entry_of, looked_view, looked_last_view, Holds, IsSo}
+use Rattle.std.proofs.Common.{◌⊎◌, le_refl, length-append}
+use Rattle.std.specs.Prelude.{slice_index}
+use Rattle.std.proofs.Math.Nat.{mod-eq_of_lt}
 use Rattle.std.proofs.lemmas.List.{set-get_or, length-set, get_or-set_same, get_or-set_other, get_or-replicate}
 use Rattle.std.proofs.lemmas.List.{length-replicate}
-use mathlib.Core.Logic.{dite}
-use mathlib.Core.Option.{none, some, some-injective, some-ne-none}
-use native.Mathlib.Decide.{ℕ_discrete}
-use lib.ListN.{get_elem?}
-use Rattle.atomic_table.specs.Table.{State, Me, step, keeps, stepped, Allows, Splits, Joins, opening}
-use Rattle.atomic_table.proofs.Lists.{at_set, at_snoc, set_again}
-use Rattle.sample_ring.specs.declared.view.View.{View}
-use Rattle.sample_ring.specs.Cells.{lap_of, sample_of, TellsCell, TellsEnd}
-use Rattle.sample_ring.specs.Record.{StandsIn, with_read}
-use Rattle.sample_ring.specs.Views.{spent_view, first_view, note_of, noted, keeping, entry_of, looked_view}
-use Rattle.sample_ring.specs.Views.{looked_last_view}
-use Rattle.sample_ring.specs.Rule.{Holds, IsSo}
+use mathlib.Core.Option.{none, some-injective, some-ne-none}
+use Rattle.atomic_table.specs.Table.{State, Me, step, keeps, stepped, Allows, Splits, Joins}
+use Rattle.atomic_table.proofs.Lists.{at_snoc, set_again}
 use Rattle.sample_ring.specs.Steps.{published, ended, looked, looked_last, settled}
 use Rattle.sample_ring.proofs.Laps.{Finds, finds}
 use Rattle.sample_ring.proofs.Growing.{slice_get-front, slice_get-last, stands_new, GoesOn, stands_later, all_later}

@@ -1,25 +1,17 @@
 -- A bank of added lanes with one sample more.
-use Rattle.std.proofs.Common.{◌≡◌, ℕ, ◌+◌, ◌-◌, ◌<◌, ◌≤◌, Bool, ℤ, pos, List, [], ◌++◌, length, get_or, take, drop}
-use Rattle.std.proofs.Common.{true, false, ap, sym, subst, ◌∙◌, arith, inl, inr, length-append, get_or-append-add}
+use Rattle.sensitive_receiver.proofs.Common.{◌≡◌, ℕ, ◌+◌, ◌-◌, ◌<◌, ◌≤◌, Bool, ℤ, pos, List, [], ◌++◌, length, get_or}
+use Rattle.sensitive_receiver.proofs.Common.{take, drop, true, false, ap, sym, subst, ◌∙◌, arith, inl, inr}
+use Rattle.sensitive_receiver.proofs.Common.{length-append, cases_lt, true≢false, Tone, Candidate, Pull, Slow, Fast}
+use Rattle.sensitive_receiver.proofs.Common.{Reach, Near, Far, clock_after, reads, heard, places_in, HeldLists}
+use Rattle.sensitive_receiver.proofs.Common.{tone_before, Readings, AddsBelow, AddsBetween, AreAddedBetween, HeldLane}
+use Rattle.sensitive_receiver.proofs.Common.{LanesHaveRead, IsLastPlace, HasTaken, readings_at}
+use Rattle.std.proofs.Common.{get_or-append-add}
 use Rattle.std.specs.Prelude.{IsTrue, ◌↔◌}
-use Rattle.std.proofs.lemmas.Bool.{cases_lt, true≢false}
 use Rattle.std.proofs.Math.Seq.{take-append_seam}
-use Rattle.tone_table.specs.declared.tone.Tone.{Tone}
-use Rattle.frame_merge.specs.declared.candidate.Candidate.{Candidate}
-use Rattle.tone_tracking.specs.declared.bit_clock.Pull.{Pull}
-use Rattle.tone_tracking.specs.declared.bit_clock.Pull.TheVariants.{Slow, Fast}
-use Rattle.tone_tracking.specs.declared.reach.Reach.{Reach}
-use Rattle.tone_tracking.specs.declared.reach.Reach.TheVariants.{Near, Far}
-use Rattle.tone_tracking.specs.Clock.{Clock, clock_after, reads}
-use Rattle.tone_tracking.specs.Heard.{heard, places_in}
-use Rattle.tone_tracking.specs.HeldLists.{HeldLists, HasTaken as ListsHaveTaken}
-use Rattle.tone_tracking.specs.HeldTracker.{tone_before}
+use Rattle.tone_tracking.specs.Clock.{Clock}
+use Rattle.tone_tracking.specs.HeldLists.{HasTaken as ListsHaveTaken}
 use Rattle.tone_tracking.proofs.TrackerLemmas.{tone_before-last}
-use Rattle.sensitive_receiver.specs.declared.readings.Readings.{Readings}
-use Rattle.sensitive_receiver.specs.Found.{AddsBelow, AddsBetween, AreAddedBetween}
-use Rattle.sensitive_receiver.specs.HeldLanes.{HeldLane, HeldBank, ClocksHaveTaken, LanesHaveRead, IsLastPlace}
-use Rattle.sensitive_receiver.specs.HeldLanes.{HasTaken, StandsFor}
-use Rattle.sensitive_receiver.specs.Lanes.{readings_at}
+use Rattle.sensitive_receiver.specs.HeldLanes.{HeldBank, ClocksHaveTaken, StandsFor}
 use Rattle.sensitive_receiver.proofs.FoundLemmas.{adds_none, adds_next_places}
 use Rattle.sensitive_receiver.proofs.PrefixLanes.{bank_taken-append}
 

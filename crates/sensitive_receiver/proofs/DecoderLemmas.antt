@@ -1,23 +1,14 @@
 -- A decoder with a block more, and at its end.
-use Rattle.std.proofs.Common.{◌≡◌, ◌+◌, ◌-◌, ◌^◌, ◌<◌, ℤ, List, [], ◌++◌, length, replicate, refl, ap, sym, subst, ◌∙◌}
-use Rattle.std.proofs.Common.{arith, length-append, append_assoc}
-use Rattle.std.specs.Prelude.{fold}
+use Rattle.sensitive_receiver.proofs.Common.{◌≡◌, ◌+◌, ◌-◌, ◌^◌, ◌<◌, ℤ, List, [], ◌++◌, length, replicate, refl, ap}
+use Rattle.sensitive_receiver.proofs.Common.{sym, subst, ◌∙◌, arith, length-append, append_assoc, fold, Candidate}
+use Rattle.sensitive_receiver.proofs.Common.{place, in_order, merged, below, not_below, AreCandidatesBehind, HeldBank}
+use Rattle.sensitive_receiver.proofs.Common.{next_is, below_more, places_in, AreHeard, AreAddedBetween, HaveTaken}
+use Rattle.sensitive_receiver.proofs.Common.{settled, AreMergedBetween}
 use Rattle.std.proofs.lemmas.List.Sums.{fold-append}
-use Rattle.frame_merge.specs.declared.candidate.Candidate.{Candidate}
 use Rattle.frame_merge.specs.Held.{Held as HeldMerger, StandsFor as MergerStandsFor, least}
-use Rattle.frame_merge.specs.Order.{place, in_order}
-use Rattle.frame_merge.specs.Merged.{merged, below, not_below}
 use Rattle.frame_merge.proofs.Taking.{least-one}
-use Rattle.slicer_bank.specs.Candidates.{AreCandidatesBehind}
-use Rattle.slicer_bank.specs.Held.{HeldBank, StandsFor as BankStandsFor}
-use Rattle.slicer_bank.proofs.MergedLemmas.{next_is}
-use Rattle.slicer_bank.proofs.OrderingLemmas.{below_more}
-use Rattle.tone_tracking.specs.Heard.{places_in}
-use Rattle.sensitive_receiver.specs.Candidates.{AreHeard}
-use Rattle.sensitive_receiver.specs.Found.{AreAddedBetween}
+use Rattle.slicer_bank.specs.Held.{StandsFor as BankStandsFor}
 use Rattle.sensitive_receiver.specs.HeldLanes.{HeldBank as HeldAdded, StandsFor as AddedStandsFor}
-use Rattle.sensitive_receiver.specs.HeldDecoder.{HaveTaken}
-use Rattle.sensitive_receiver.specs.MergedItems.{settled, AreMergedBetween}
 use Rattle.sensitive_receiver.proofs.HeardLemmas.{all_of, heard_join, rest_late, rest_small, heard_in_order, none_heard}
 use Rattle.sensitive_receiver.proofs.MergedLemmas.{rising_heard, end_gives, nothing_kept}
 

@@ -1,12 +1,12 @@
 -- Two frames of one line do not end close to one another.
-use Rattle.std.proofs.Common.{◌≡◌, ℕ, ◌+◌, ◌<◌, ◌≤◌, Bool, true, false, Option, Some, None, List, [], ◌∷◌, ◌++◌, length}
-use Rattle.std.proofs.Common.{ap, ◌∙◌, arith, length-append}
-use Rattle.std.specs.Prelude.{nat_lt, ◌==◌, ◌&&◌, if◌then◌else◌}
+use Rattle.sensitive_receiver.proofs.Common.{◌≡◌, ℕ, ◌+◌, ◌<◌, ◌≤◌, Bool, true, false, List, [], ◌∷◌, ◌++◌, length, ap}
+use Rattle.sensitive_receiver.proofs.Common.{◌∙◌, arith, length-append, nat_lt, ◌==◌, ◌&&◌, if◌then◌else◌, length_push}
+use Rattle.sensitive_receiver.proofs.Common.{EndsFrame}
+use Rattle.std.proofs.Common.{Option, Some, None}
 use Rattle.std.specs.List.{fold}
-use Rattle.std.proofs.lemmas.List.{length_push}
 use Rattle.hdlc_framer.specs.BitOrder.{sent_bits}
 use Rattle.hdlc_framer.specs.Stuffing.{flag}
-use Rattle.hdlc_framer.specs.Frames.{EndsFrame, with_fcs}
+use Rattle.hdlc_framer.specs.Frames.{with_fcs}
 use Rattle.hdlc_framer.specs.Held.{Line, longer, next_line, open_line, line_after, flag_start}
 use Rattle.hdlc_framer.proofs.BitLemmas.{length-sent_bits}
 use Rattle.hdlc_framer.proofs.FrameEnds.{line_after-append, frame_flag, frame_told, length-with_fcs}

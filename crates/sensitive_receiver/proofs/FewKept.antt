@@ -1,32 +1,25 @@
 -- Of the last places each lane has one candidate at most, so a merger keeps at most 23.
-use Rattle.std.proofs.Common.{◌≡◌, ℕ, zero, suc, ◌+◌, ◌-◌, ◌<◌, ◌≤◌, ℤ, Bool, true, false, List, [], ◌∷◌, ◌++◌, length}
-use Rattle.std.proofs.Common.{get_or, take, drop, map, refl, ap, sym, subst, ◌∙◌, arith, append-nil, append_assoc}
-use Rattle.std.proofs.Common.{length-append, inl, inr}
-use Rattle.std.specs.Prelude.{nat_le}
+use Rattle.sensitive_receiver.proofs.Common.{◌≡◌, ℕ, zero, suc, ◌+◌, ◌-◌, ◌<◌, ◌≤◌, ℤ, Bool, true, false, List, [], ◌∷◌}
+use Rattle.sensitive_receiver.proofs.Common.{◌++◌, length, get_or, take, drop, map, refl, ap, sym, subst, ◌∙◌, arith}
+use Rattle.sensitive_receiver.proofs.Common.{append_assoc, length-append, inl, inr, nat_le, All, AllPairs, cases_lt}
+use Rattle.sensitive_receiver.proofs.Common.{leb-true, eqb-true, take-take, get_or-map, length-map, length-take-le}
+use Rattle.sensitive_receiver.proofs.Common.{All-filter, filter_passes, AllPairs-filter, bits_of, EndsFrame, Candidate}
+use Rattle.sensitive_receiver.proofs.Common.{standing, not_below, IsCandidate, end_within, delay_of, is_read_at}
+use Rattle.sensitive_receiver.proofs.Common.{tone_read, lane_tones, lane_bits, EndsAtPlace, IsHeard, AreHeard, settled}
+use Rattle.std.proofs.Common.{append-nil}
 use Rattle.std.proofs.Math.Dec.{eqb}
-use Rattle.std.specs.List.{All, AllPairs, IsDistinct}
-use Rattle.std.proofs.lemmas.Bool.{cases_lt, leb-true, eqb-true}
+use Rattle.std.specs.List.{IsDistinct}
 use Rattle.std.proofs.lemmas.Bool.Decides.{Decides-eqb}
-use Rattle.std.proofs.lemmas.List.{take_more, take-take, get_or-map, length-map, length-take-le, take-append-drop}
-use Rattle.std.proofs.lemmas.List.Elements.{All-filter, All-map, All-contains, filter_passes}
-use Rattle.std.proofs.lemmas.List.Kept.{AllPairs-filter}
+use Rattle.std.proofs.lemmas.List.{take_more, take-append-drop}
+use Rattle.std.proofs.lemmas.List.Elements.{All-map, All-contains}
 use Rattle.std.proofs.lemmas.Map.Made.{IsDistinct-from_AllPairs}
 use Rattle.std.proofs.lemmas.Map.Views.{Contains-from_any}
 use Rattle.std.proofs.lemmas.Map.Steps.{length-le_from_distinct_below}
-use Rattle.nrzi_bits.specs.Line.{bits_of, bits_from, last_from, same_tone}
+use Rattle.nrzi_bits.specs.Line.{bits_from, last_from, same_tone}
 use Rattle.tone_table.specs.declared.tone.Tone.TheVariants.{Mark}
 use Rattle.nrzi_bits.proofs.LineLemmas.{bits_from-append}
-use Rattle.hdlc_framer.specs.Frames.{EndsFrame}
 use Rattle.offset_slicers.specs.Windows.{bits}
-use Rattle.frame_merge.specs.declared.candidate.Candidate.{Candidate}
-use Rattle.frame_merge.specs.Order.{standing}
-use Rattle.frame_merge.specs.Merged.{not_below}
-use Rattle.slicer_bank.specs.Candidates.{IsCandidate}
-use Rattle.slicer_bank.proofs.CandidateLemmas.{end_within}
-use Rattle.sensitive_receiver.specs.Lanes.{delay_of, is_read_at, tone_read, lane_tones, lane_bits}
-use Rattle.sensitive_receiver.specs.AddedCandidates.{EndsAtPlace, IsAdded}
-use Rattle.sensitive_receiver.specs.Candidates.{IsHeard, AreHeard}
-use Rattle.sensitive_receiver.specs.MergedItems.{settled}
+use Rattle.sensitive_receiver.specs.AddedCandidates.{IsAdded}
 use Rattle.sensitive_receiver.proofs.FarFrames.{frames_far}
 use Rattle.sensitive_receiver.proofs.LaneLemmas.{lane_tones-read, lane_tones-not}
 use Rattle.sensitive_receiver.proofs.FoundLemmas.{delay_small}

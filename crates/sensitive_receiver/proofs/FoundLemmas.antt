@@ -1,17 +1,11 @@
 -- What the added lanes find, joined.
-use Rattle.std.proofs.Common.{◌≡◌, ◌≢◌, ℕ, ◌+◌, ◌<◌, ◌≤◌, ℤ, List, [], ◌∷◌, ◌++◌, length, get_or, refl, ap, sym, subst}
-use Rattle.std.proofs.Common.{◌∙◌, arith, append_assoc, inl, inr, ◌⊎◌}
-use Rattle.std.specs.List.{All}
-use Rattle.std.proofs.lemmas.Bool.{cases_lt}
-use Rattle.std.proofs.lemmas.List.{append-nil}
-use Rattle.std.proofs.lemmas.List.Elements.{All-nil, All-cons, All-append, Contains-append_left, Contains-append_right}
-use Rattle.frame_merge.specs.declared.candidate.Candidate.{Candidate}
-use Rattle.frame_merge.specs.Order.{standing}
-use Rattle.hdlc_framer.specs.Frames.{EndsFrame}
-use Rattle.slicer_bank.proofs.CandidateLemmas.{AllPairs-append}
-use Rattle.sensitive_receiver.specs.Lanes.{delay_of, lane_bits}
-use Rattle.sensitive_receiver.specs.AddedCandidates.{EndsAtPlace}
-use Rattle.sensitive_receiver.specs.Found.{AreAddedWhere, AddsWhere, AddsAt, AddsBelow, AddsBetween, HasRoomFrom}
+use Rattle.sensitive_receiver.proofs.Common.{◌≡◌, ◌≢◌, ℕ, ◌+◌, ◌<◌, ◌≤◌, ℤ, List, [], ◌∷◌, ◌++◌, length, get_or, refl}
+use Rattle.sensitive_receiver.proofs.Common.{ap, sym, subst, ◌∙◌, arith, append_assoc, inl, inr, ◌⊎◌, All, cases_lt}
+use Rattle.sensitive_receiver.proofs.Common.{append-nil, All-nil, All-cons, All-append, Contains-append_left}
+use Rattle.sensitive_receiver.proofs.Common.{Contains-append_right, Candidate, standing, EndsFrame, AllPairs-append}
+use Rattle.sensitive_receiver.proofs.Common.{delay_of, lane_bits, EndsAtPlace, AddsAt, AddsBelow, AddsBetween}
+use Rattle.sensitive_receiver.proofs.Common.{HasRoomFrom}
+use Rattle.sensitive_receiver.specs.Found.{AreAddedWhere, AddsWhere}
 
 abbrev Apart : Candidate → Candidate → Type 0
 Apart item later = standing item ≢ standing later

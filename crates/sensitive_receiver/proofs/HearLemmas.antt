@@ -1,21 +1,14 @@
 -- What one lane hears at the place that was decided last.
-use Rattle.std.proofs.Common.{◌≡◌, ℕ, ◌+◌, ◌-◌, ◌<◌, ◌≤◌, true, false, ℤ, List, [], ◌∷◌, ◌++◌, refl, ap, sym, subst}
-use Rattle.std.proofs.Common.{◌∙◌, arith}
-use Rattle.std.proofs.lemmas.Bool.{true≢false}
-use Rattle.tone_table.specs.declared.tone.Tone.{Tone}
-use Rattle.nrzi_bits.specs.Line.{bits_of}
-use Rattle.hdlc_framer.specs.Frames.{EndsFrame, IsFrame}
+use Rattle.sensitive_receiver.proofs.Common.{◌≡◌, ℕ, ◌+◌, ◌-◌, ◌<◌, ◌≤◌, true, false, ℤ, List, [], ◌∷◌, ◌++◌, refl, ap}
+use Rattle.sensitive_receiver.proofs.Common.{sym, subst, ◌∙◌, arith, true≢false, Tone, bits_of, EndsFrame, Candidate}
+use Rattle.sensitive_receiver.proofs.Common.{Reach, heard, places_in, HeldLists, tone_before, Readings, delay_of}
+use Rattle.sensitive_receiver.proofs.Common.{list_of, is_read_by, is_read_at, tone_read, lane_tones, lane_bits}
+use Rattle.sensitive_receiver.proofs.Common.{EndsAtPlace, HasPath, is_in_time, AddsAt, HeldLane, LaneStandsFor}
+use Rattle.sensitive_receiver.proofs.Common.{IsLastPlace}
+use Rattle.hdlc_framer.specs.Frames.{IsFrame}
 use Rattle.hdlc_framer.specs.Held.{HoldsFrame}
-use Rattle.frame_merge.specs.declared.candidate.Candidate.{Candidate}
-use Rattle.tone_tracking.specs.declared.reach.Reach.{Reach}
-use Rattle.tone_tracking.specs.Heard.{heard, places_in}
-use Rattle.tone_tracking.specs.HeldLists.{HeldLists, HasTaken as ListsHaveTaken}
-use Rattle.tone_tracking.specs.HeldTracker.{tone_before}
-use Rattle.sensitive_receiver.specs.declared.readings.Readings.{Readings}
-use Rattle.sensitive_receiver.specs.Lanes.{delay_of, list_of, is_read_by, is_read_at, tone_read, lane_tones, lane_bits}
-use Rattle.sensitive_receiver.specs.AddedCandidates.{EndsAtPlace, HasPath, is_in_time}
-use Rattle.sensitive_receiver.specs.Found.{AddsAt}
-use Rattle.sensitive_receiver.specs.HeldLanes.{HeldLane, HoldsFrameOf, LaneStandsFor, IsLastPlace}
+use Rattle.tone_tracking.specs.HeldLists.{HasTaken as ListsHaveTaken}
+use Rattle.sensitive_receiver.specs.HeldLanes.{HoldsFrameOf}
 use Rattle.sensitive_receiver.proofs.LaneLemmas.{tone_is_back, tones-pushed}
 use Rattle.sensitive_receiver.proofs.FoundLemmas.{adds_none, adds_one}
 

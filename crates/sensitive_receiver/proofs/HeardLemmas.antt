@@ -1,20 +1,14 @@
 -- What all lanes hear with more samples.
-use Rattle.std.proofs.Common.{◌≢◌, ℕ, ◌<◌, ◌≤◌, ℤ, List, [], ◌++◌, length, get_or, arith, inl, inr, length-append}
-use Rattle.std.specs.Prelude.{fold}
-use Rattle.std.specs.List.{All, AllPairs, Contains}
-use Rattle.std.proofs.lemmas.Bool.{cases_lt}
-use Rattle.std.proofs.lemmas.List.Elements.{All-append, All-nil, Contains-append_left, Contains-append_right}
-use Rattle.frame_merge.specs.declared.candidate.Candidate.{Candidate}
-use Rattle.frame_merge.specs.Order.{standing, place, IsInOrder}
-use Rattle.slicer_bank.specs.Candidates.{IsCandidate, AreCandidatesBehind}
-use Rattle.slicer_bank.proofs.CandidateLemmas.{AllPairs-append, candidate_more, candidate_less, end_within}
+use Rattle.sensitive_receiver.proofs.Common.{◌≢◌, ℕ, ◌<◌, ◌≤◌, ℤ, List, [], ◌++◌, length, get_or, arith, inl, inr}
+use Rattle.sensitive_receiver.proofs.Common.{length-append, fold, All, AllPairs, cases_lt, All-append, All-nil}
+use Rattle.sensitive_receiver.proofs.Common.{Contains-append_left, Contains-append_right, Candidate, standing, place}
+use Rattle.sensitive_receiver.proofs.Common.{IsCandidate, AreCandidatesBehind, AllPairs-append, end_within, places_in}
+use Rattle.sensitive_receiver.proofs.Common.{EndsAtPlace, IsHeard, AreHeard, AreAddedBetween, settled}
+use Rattle.std.specs.List.{Contains}
+use Rattle.frame_merge.specs.Order.{IsInOrder}
+use Rattle.slicer_bank.proofs.CandidateLemmas.{candidate_more, candidate_less}
 use Rattle.slicer_bank.proofs.MergingLemmas.{rising_strictly}
 use Rattle.slicer_bank.proofs.OrderingLemmas.{strictly_more, contains_more, all_more}
-use Rattle.tone_tracking.specs.Heard.{places_in}
-use Rattle.sensitive_receiver.specs.AddedCandidates.{EndsAtPlace}
-use Rattle.sensitive_receiver.specs.Candidates.{IsHeard, AreHeard}
-use Rattle.sensitive_receiver.specs.Found.{AreAddedBetween}
-use Rattle.sensitive_receiver.specs.MergedItems.{settled}
 use Rattle.sensitive_receiver.proofs.FewKept.{lane_below}
 use Rattle.sensitive_receiver.proofs.FoundLemmas.{one_place, delay_small}
 use Rattle.sensitive_receiver.proofs.PrefixLanes.{ends-append, ends-take}

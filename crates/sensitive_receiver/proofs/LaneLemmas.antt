@@ -1,17 +1,12 @@
 -- What a lane reads, with one place more.
-use Rattle.std.proofs.Common.{◌≡◌, ℕ, zero, suc, ◌+◌, Bool, true, false, ℤ, List, [], ◌∷◌, ◌++◌, map, ap, sym, ◌∙◌}
-use Rattle.std.proofs.Common.{arith}
-use Rattle.std.specs.Prelude.{filter, if◌then◌else◌, not, ◌&&◌}
+use Rattle.sensitive_receiver.proofs.Common.{◌≡◌, ℕ, zero, suc, ◌+◌, Bool, true, false, ℤ, List, [], ◌∷◌, ◌++◌, map, ap}
+use Rattle.sensitive_receiver.proofs.Common.{sym, ◌∙◌, arith, if◌then◌else◌, not, ◌&&◌, append-nil, Tone, Reach}
+use Rattle.sensitive_receiver.proofs.Common.{changes, heard, tone_before, is_in_time, list_of, delay_of, is_read_at}
+use Rattle.sensitive_receiver.proofs.Common.{tone_back, tone_read, lane_tones}
+use Rattle.std.specs.Prelude.{filter}
 use Rattle.std.specs.List.{range_with_len}
-use Rattle.std.proofs.lemmas.List.{map-append, append-nil}
+use Rattle.std.proofs.lemmas.List.{map-append}
 use Rattle.std.proofs.lemmas.List.Elements.{filter-append}
-use Rattle.tone_table.specs.declared.tone.Tone.{Tone}
-use Rattle.tone_tracking.specs.declared.reach.Reach.{Reach}
-use Rattle.tone_tracking.specs.Clock.{changes}
-use Rattle.tone_tracking.specs.Heard.{heard}
-use Rattle.tone_tracking.specs.HeldTracker.{tone_before}
-use Rattle.sensitive_receiver.specs.AddedCandidates.{is_in_time}
-use Rattle.sensitive_receiver.specs.Lanes.{list_of, delay_of, is_read_at, tone_back, tone_read, lane_tones}
 
 range-more : (a n : ℕ) → range_with_len a (suc n) ≡ range_with_len a n ++ (a + n) ∷ []
 range-more a zero = ap (λ k. k ∷ []) (let e : a ≡ a + 0 = omega arith in e)

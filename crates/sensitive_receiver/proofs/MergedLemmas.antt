@@ -1,29 +1,23 @@
 -- What is given of samples, and of these with more samples.
-use Rattle.std.proofs.Common.{◌≡◌, ℕ, ◌+◌, ◌-◌, ◌<◌, ◌≤◌, Bool, true, ℤ, List, [], ◌∷◌, ◌++◌, length, get_or, refl, inl}
-use Rattle.std.proofs.Common.{inr, ap, sym, ◌∙◌, arith, cond}
-use Rattle.std.specs.Prelude.{nat_le, nat_lt, ◌&&◌}
-use Rattle.std.specs.List.{All, filter}
+use Rattle.sensitive_receiver.proofs.Common.{◌≡◌, ℕ, ◌+◌, ◌-◌, ◌<◌, ◌≤◌, Bool, true, ℤ, List, [], ◌∷◌, ◌++◌, length}
+use Rattle.sensitive_receiver.proofs.Common.{get_or, refl, inl, inr, ap, sym, ◌∙◌, arith, nat_le, nat_lt, ◌&&◌, All}
+use Rattle.sensitive_receiver.proofs.Common.{ltb-true, leb-true, lt-ltb, and_parts, All-weaker, All-head, All-tail}
+use Rattle.sensitive_receiver.proofs.Common.{All-filter, filter_passes, AllPairs-filter, Candidate, standing, merged}
+use Rattle.sensitive_receiver.proofs.Common.{below, not_below, IsCandidate, AreCandidatesBehind, next_is, below_more}
+use Rattle.sensitive_receiver.proofs.Common.{places_in, delay_of, EndsAtPlace, IsHeard, AreHeard, AreAddedBetween}
+use Rattle.sensitive_receiver.proofs.Common.{settled, AreMergedBetween}
+use Rattle.std.proofs.Common.{cond}
+use Rattle.std.specs.List.{filter}
 use Rattle.std.specs.List.Sorted.{IsNonDecreasingBy}
-use Rattle.std.proofs.lemmas.Bool.{ltb-true, leb-true, lt-ltb, le-leb, lt-leb, and_parts}
+use Rattle.std.proofs.lemmas.Bool.{le-leb, lt-leb}
 use Rattle.std.proofs.lemmas.List.{append_cancel_left}
-use Rattle.std.proofs.lemmas.List.Elements.{All-weaker, All-head, All-tail, All-filter, filter_passes}
-use Rattle.std.proofs.lemmas.List.Kept.{AllPairs-filter}
-use Rattle.frame_merge.specs.declared.candidate.Candidate.{Candidate}
-use Rattle.frame_merge.specs.Order.{standing}
-use Rattle.frame_merge.specs.Merged.{merged, below, not_below, between}
+use Rattle.frame_merge.specs.Merged.{between}
 use Rattle.frame_merge.proofs.Ordering.{rising_ends}
 use Rattle.frame_merge.proofs.Merging.{merged-rising, below_between, between_all, All-merged}
 use Rattle.frame_merge.proofs.Taking.{below_all}
-use Rattle.slicer_bank.specs.Candidates.{IsCandidate, AreCandidatesBehind}
-use Rattle.slicer_bank.proofs.MergedLemmas.{next_is, contains_passing, between_between}
+use Rattle.slicer_bank.proofs.MergedLemmas.{contains_passing, between_between}
 use Rattle.slicer_bank.proofs.OneList.{same_list}
-use Rattle.slicer_bank.proofs.OrderingLemmas.{below_more}
-use Rattle.tone_tracking.specs.Heard.{places_in}
-use Rattle.sensitive_receiver.specs.Lanes.{delay_of}
-use Rattle.sensitive_receiver.specs.AddedCandidates.{EndsAtPlace}
-use Rattle.sensitive_receiver.specs.Candidates.{IsHeard, AreHeard}
-use Rattle.sensitive_receiver.specs.Found.{AreAddedBetween}
-use Rattle.sensitive_receiver.specs.MergedItems.{settled, AreMerged, AreMergedBetween}
+use Rattle.sensitive_receiver.specs.MergedItems.{AreMerged}
 use Rattle.sensitive_receiver.proofs.FewKept.{heard_within}
 use Rattle.sensitive_receiver.proofs.FoundLemmas.{delay_small}
 use Rattle.sensitive_receiver.proofs.HeardLemmas.{all_of, heard_join, rest_late, rest_small, heard_in_order}

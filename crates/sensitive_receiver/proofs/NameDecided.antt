@@ -1,15 +1,12 @@
 -- Whether a call's name is read at a field of an address can be decided.
-use Rattle.std.proofs.Common.{◌≡◌, ℕ, zero, suc, ◌*◌, ◌/◌, ◌<◌, ◌⊎◌, Bool, List, [], ◌∷◌, length, get_or, take, drop}
-use Rattle.std.proofs.Common.{map, refl, ap, sym, subst, ◌∙◌, arith, inl, inr}
-use Rattle.std.specs.List.{All}
-use Rattle.std.proofs.lemmas.Bool.{cases_lt, cases_eq}
-use Rattle.std.proofs.lemmas.List.{ext_get_or, get_or-take, get_or-map, length-map, length-take-le, length-drop}
-use Rattle.std.proofs.lemmas.List.{take-take, take_at}
-use Rattle.std.proofs.lemmas.List.Elements.{All-nil, All-cons, All-head, All-tail}
-use Rattle.ax25_address.specs.AddressField.{IsField, ssid_octet}
-use Rattle.ax25_address.specs.Callsign.{Callsign, IsName, IsCallCharacter, padded}
-use Rattle.ax25_address.specs.FramePath.{field_at}
-use Rattle.ax25_address.proofs.FieldLemmas.{length-padded, padded-name, field_octet, whole_field}
+use Rattle.sensitive_receiver.proofs.Common.{◌≡◌, ℕ, zero, suc, ◌*◌, ◌/◌, ◌<◌, ◌⊎◌, Bool, List, [], ◌∷◌, length, get_or}
+use Rattle.sensitive_receiver.proofs.Common.{take, drop, map, refl, ap, sym, subst, ◌∙◌, arith, inl, inr, All, cases_lt}
+use Rattle.sensitive_receiver.proofs.Common.{cases_eq, get_or-map, length-map, length-take-le, take-take, All-nil}
+use Rattle.sensitive_receiver.proofs.Common.{All-cons, All-head, All-tail, IsField, Callsign, field_at, whole_field}
+use Rattle.std.proofs.lemmas.List.{ext_get_or, get_or-take, length-drop, take_at}
+use Rattle.ax25_address.specs.AddressField.{ssid_octet}
+use Rattle.ax25_address.specs.Callsign.{IsName, IsCallCharacter, padded}
+use Rattle.ax25_address.proofs.FieldLemmas.{length-padded, padded-name, field_octet}
 
 -- it is so, or it is not
 abbrev pub Decided : Type 0 → Type 0

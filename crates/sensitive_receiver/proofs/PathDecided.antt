@@ -1,19 +1,18 @@
 -- Whether octets begin with a path can be decided.
-use Rattle.std.proofs.Common.{◌≡◌, ℕ, zero, suc, ◌+◌, ◌*◌, ◌/◌, ◌%◌, ◌<◌, ◌≤◌, ◌⊎◌, Bool, true, false, leb, eqb, List}
-use Rattle.std.proofs.Common.{[], ◌∷◌, ◌++◌, length, get_or, refl, sym, subst, ◌∙◌, arith, inl, inr}
-use Rattle.std.proofs.lemmas.Bool.{cases_lt, cases_eq}
-use Rattle.std.proofs.lemmas.List.{get_or_push, get_or_append_left, length_push, length-take-le}
-use Rattle.ax25_address.specs.AddressField.{IsField}
-use Rattle.ax25_address.specs.Callsign.{Callsign}
-use Rattle.ax25_address.specs.FramePath.{field_at, BeginsWithPath, repeater_count, destination_bit, source_bit}
+use Rattle.sensitive_receiver.proofs.Common.{◌≡◌, ℕ, zero, suc, ◌+◌, ◌*◌, ◌/◌, ◌%◌, ◌<◌, ◌≤◌, ◌⊎◌, Bool, true, false}
+use Rattle.sensitive_receiver.proofs.Common.{List, [], ◌∷◌, ◌++◌, length, get_or, refl, sym, subst, ◌∙◌, arith, inl}
+use Rattle.sensitive_receiver.proofs.Common.{inr, cases_lt, cases_eq, get_or_append_left, length_push, length-take-le}
+use Rattle.sensitive_receiver.proofs.Common.{IsField, Callsign, field_at, whole_field, HasPath}
+use Rattle.std.proofs.Common.{leb, eqb}
+use Rattle.std.proofs.lemmas.List.{get_or_push}
+use Rattle.ax25_address.specs.FramePath.{BeginsWithPath, repeater_count, destination_bit, source_bit}
 use Rattle.ax25_address.specs.declared.path.Hop.{Hop}
 use Rattle.ax25_address.specs.declared.path.Path.{Path}
 use Rattle.ax25_address.specs.declared.path.Role.{Role}
 use Rattle.ax25_address.specs.declared.path.Role.TheVariants.{Command, Response, Old}
-use Rattle.ax25_address.proofs.FieldLemmas.{bit_small, field_ssid, whole_field, IsField-read}
+use Rattle.ax25_address.proofs.FieldLemmas.{bit_small, field_ssid, IsField-read}
 use Rattle.ax25_address.proofs.OneReading.{field_same}
 use Rattle.ax25_address.proofs.PathLemmas.{field_at-take, BeginsWithPath-fields}
-use Rattle.sensitive_receiver.specs.AddedCandidates.{HasPath}
 use Rattle.sensitive_receiver.proofs.NameDecided.{Decided, name_in, named_below, named_field}
 
 -- ---- one field

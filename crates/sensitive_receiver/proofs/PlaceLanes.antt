@@ -1,14 +1,13 @@
 -- The added lanes at one place: which of them read, and what they have read once some of them have.
-use Rattle.std.proofs.Common.{◌≡◌, ◌≢◌, ℕ, ◌+◌, ◌-◌, ◌%◌, ◌<◌, ◌≤◌, true, false, ℤ, List, length, get_or, set, ap, sym}
-use Rattle.std.proofs.Common.{subst, ◌∙◌, arith, inl, inr, get_or-set_same, get_or-set_other}
-use Rattle.std.specs.Prelude.{nat_lt, if◌then◌else◌, ◌==◌}
-use Rattle.std.proofs.lemmas.Bool.{cases_lt, cases_eq, lt-ltb, le-ltb, ne_eqb, eqb-true, true≢false}
-use Rattle.frame_merge.specs.declared.candidate.Candidate.{Candidate}
-use Rattle.sensitive_receiver.specs.declared.readings.Readings.{Readings}
-use Rattle.sensitive_receiver.specs.AddedCandidates.{EndsAtPlace}
-use Rattle.sensitive_receiver.specs.Found.{AddsAmong, AddsAt, AddsBelow}
-use Rattle.sensitive_receiver.specs.HeldLanes.{HeldLane, LaneStandsFor, LanesAreAt, LanesHaveRead, places_read}
-use Rattle.sensitive_receiver.specs.Lanes.{is_read_by, is_read_at, lane_tones, readings_at}
+use Rattle.sensitive_receiver.proofs.Common.{◌≡◌, ◌≢◌, ℕ, ◌+◌, ◌-◌, ◌%◌, ◌<◌, ◌≤◌, true, false, ℤ, List, length, get_or}
+use Rattle.sensitive_receiver.proofs.Common.{set, ap, sym, subst, ◌∙◌, arith, inl, inr, nat_lt, if◌then◌else◌, ◌==◌}
+use Rattle.sensitive_receiver.proofs.Common.{cases_lt, cases_eq, lt-ltb, eqb-true, true≢false, Candidate, Readings}
+use Rattle.sensitive_receiver.proofs.Common.{EndsAtPlace, AddsAt, AddsBelow, HeldLane, LaneStandsFor, LanesAreAt}
+use Rattle.sensitive_receiver.proofs.Common.{LanesHaveRead, is_read_by, is_read_at, lane_tones, readings_at}
+use Rattle.std.proofs.Common.{get_or-set_same, get_or-set_other}
+use Rattle.std.proofs.lemmas.Bool.{le-ltb, ne_eqb}
+use Rattle.sensitive_receiver.specs.Found.{AddsAmong}
+use Rattle.sensitive_receiver.specs.HeldLanes.{places_read}
 use Rattle.sensitive_receiver.proofs.FoundLemmas.{adds_join, adds_none}
 use Rattle.sensitive_receiver.proofs.LaneLemmas.{lane_tones-not}
 

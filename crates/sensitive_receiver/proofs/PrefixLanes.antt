@@ -1,21 +1,13 @@
 -- What the added lanes hear in samples stays as it is when more samples follow.
-use Rattle.std.proofs.Common.{◌≡◌, ℕ, zero, suc, ◌+◌, ◌<◌, ◌≤◌, Bool, true, false, ℤ, List, [], ◌∷◌, ◌++◌, length}
-use Rattle.std.proofs.Common.{get_or, refl, ap, sym, subst, ◌∙◌, arith, add-one}
-use Rattle.std.specs.Prelude.{not, ◌&&◌}
-use Rattle.nrzi_bits.specs.Line.{bits_of}
-use Rattle.hdlc_framer.specs.Frames.{EndsFrame}
-use Rattle.frame_merge.specs.declared.candidate.Candidate.{Candidate}
-use Rattle.tone_tracking.specs.declared.bit_clock.Pull.{Pull}
-use Rattle.tone_tracking.specs.declared.bit_clock.Pull.TheVariants.{Slow, Fast}
-use Rattle.tone_tracking.specs.declared.reach.Reach.{Reach}
-use Rattle.tone_tracking.specs.declared.reach.Reach.TheVariants.{Near, Far}
-use Rattle.tone_tracking.specs.Clock.{changes, clock_after, reads}
-use Rattle.tone_tracking.specs.Heard.{heard, places_in}
+use Rattle.sensitive_receiver.proofs.Common.{◌≡◌, ℕ, zero, suc, ◌+◌, ◌<◌, ◌≤◌, Bool, true, false, ℤ, List, [], ◌∷◌}
+use Rattle.sensitive_receiver.proofs.Common.{◌++◌, length, get_or, refl, ap, sym, subst, ◌∙◌, arith, not, ◌&&◌, bits_of}
+use Rattle.sensitive_receiver.proofs.Common.{EndsFrame, Candidate, Pull, Slow, Fast, Reach, Near, Far, changes}
+use Rattle.sensitive_receiver.proofs.Common.{clock_after, reads, heard, places_in, delay_of, list_of, is_read_by}
+use Rattle.sensitive_receiver.proofs.Common.{is_read_at, readings_at, tone_back, lane_tones, EndsAtPlace, is_in_time}
+use Rattle.sensitive_receiver.proofs.Common.{LaneStandsFor, HasTaken}
+use Rattle.std.proofs.Common.{add-one}
 use Rattle.sensitive_receiver.proofs.PrefixLemmas.{heard-append, heard_before-append, clock_after-agree, taken-append}
-use Rattle.sensitive_receiver.specs.Lanes.{delay_of, list_of, is_read_by, is_read_at, readings_at, tone_back}
-use Rattle.sensitive_receiver.specs.Lanes.{lane_tones}
-use Rattle.sensitive_receiver.specs.AddedCandidates.{EndsAtPlace, is_in_time}
-use Rattle.sensitive_receiver.specs.HeldLanes.{HeldBank, LaneStandsFor, HasTaken}
+use Rattle.sensitive_receiver.specs.HeldLanes.{HeldBank}
 use Rattle.sensitive_receiver.proofs.LaneLemmas.{lane_tones-read, lane_tones-not}
 use Rattle.sensitive_receiver.proofs.VisitedLanes.{tones_of_none}
 

@@ -1,17 +1,14 @@
 -- What is decided of samples stays as it is when more samples follow.
-use Rattle.std.proofs.Common.{◌≡◌, ℕ, zero, suc, ◌+◌, ◌-◌, ◌*◌, ◌/◌, ◌%◌, ◌<◌, ◌≤◌, ℤ, pos, List, ◌++◌, length, refl}
-use Rattle.std.proofs.Common.{sym, ◌∙◌, arith, inl, inr, length-append}
-use Rattle.std.proofs.lemmas.Bool.{cases_lt}
-use Rattle.std.proofs.lemmas.List.{get_or_append_left}
-use Rattle.tone_table.specs.declared.tone.Tone.{Tone}
-use Rattle.tone_tracking.specs.declared.bit_clock.Pull.{Pull}
+use Rattle.sensitive_receiver.proofs.Common.{◌≡◌, ℕ, zero, suc, ◌+◌, ◌-◌, ◌*◌, ◌/◌, ◌%◌, ◌<◌, ◌≤◌, ℤ, pos, List, ◌++◌}
+use Rattle.sensitive_receiver.proofs.Common.{length, refl, sym, ◌∙◌, arith, inl, inr, length-append, cases_lt}
+use Rattle.sensitive_receiver.proofs.Common.{get_or_append_left, Tone, Pull, Reach, clock_after, heard, places_in}
+use Rattle.sensitive_receiver.proofs.Common.{tone_before, HeldLists}
 use Rattle.tone_tracking.specs.declared.correlation.Correlations.{Correlations}
-use Rattle.tone_tracking.specs.declared.reach.Reach.{Reach}
-use Rattle.tone_tracking.specs.Clock.{next_clock, clock_after}
+use Rattle.tone_tracking.specs.Clock.{next_clock}
 use Rattle.tone_tracking.specs.Correlation.{correlations}
-use Rattle.tone_tracking.specs.Heard.{decided, open_of, passed, past_of, past_at, tone_at, heard, places_in}
-use Rattle.tone_tracking.specs.HeldTracker.{HeldTracker, tone_before}
-use Rattle.tone_tracking.specs.HeldLists.{HeldLists, HasDecided, HasTaken}
+use Rattle.tone_tracking.specs.Heard.{decided, open_of, passed, past_of, past_at, tone_at}
+use Rattle.tone_tracking.specs.HeldTracker.{HeldTracker}
+use Rattle.tone_tracking.specs.HeldLists.{HasDecided, HasTaken}
 use Rattle.tone_tracking.proofs.CorrelationLemmas.{correlations-agree}
 use Rattle.tone_tracking.proofs.TrackerLemmas.{past_at-first, tone_before-within, tone_before-outside}
 

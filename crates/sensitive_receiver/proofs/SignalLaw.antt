@@ -1,13 +1,13 @@
 -- The law of signals near a clean one, over all lanes. The eight lanes alone hear each frame; what the added lanes hear
 -- is in a cluster of some frame, since it is not stray.
-use Rattle.std.proofs.Common.{◌≡◌, ℕ, ◌+◌, ◌<◌, ℤ, true, List, [], ◌∷◌, get_or, map, refl, subst, ◌∙◌, arith, inl, inr}
-use Rattle.std.specs.Prelude.{nat_lt, ◌&&◌}
-use Rattle.std.specs.List.{All, AllByRecursion}
+use Rattle.sensitive_receiver.proofs.Common.{◌≡◌, ℕ, ◌+◌, ◌<◌, ℤ, true, List, [], ◌∷◌, get_or, map, refl, subst, ◌∙◌}
+use Rattle.sensitive_receiver.proofs.Common.{arith, inl, inr, nat_lt, ◌&&◌, All, and_parts, ltb-true, Candidate}
+use Rattle.sensitive_receiver.proofs.Common.{AreHeard}
+use Rattle.std.specs.List.{AllByRecursion}
 use Rattle.std.specs.Str.{bytes_eq}
-use Rattle.std.proofs.lemmas.Bool.{or_cases, and_parts, ltb-true}
+use Rattle.std.proofs.lemmas.Bool.{or_cases}
 use Rattle.std.proofs.lemmas.List.Elements.{recursion_from_All}
 use Rattle.std.proofs.lemmas.Slice.Eq.{bytes_eq-Decides}
-use Rattle.frame_merge.specs.declared.candidate.Candidate.{Candidate}
 use Rattle.slicer_bank.specs.Heard.{candidate_at}
 use Rattle.afsk_modulator.specs.Modulation.{IsLevel}
 use Rattle.afsk_modulator.specs.Signal.{Transmission, signal_at}
@@ -22,7 +22,6 @@ use Rattle.clean_signal.proofs.CarriedFrames.{IsFound, all_found}
 use Rattle.clean_signal.proofs.EndLemmas.{spaced, octets-true_ends_from}
 use Rattle.clean_signal.proofs.NearLemmas.{near_carries, signal_at-carries}
 use Rattle.clean_signal.proofs.Law.{cluster_of, apart, all_known, has_one, rising, octets-clusters, all_transmissions}
-use Rattle.sensitive_receiver.specs.Candidates.{AreHeard}
 use Rattle.sensitive_receiver.specs.Stray.{NoneStray, MergesTo}
 use Rattle.sensitive_receiver.proofs.FewKept.{lane_below}
 

@@ -1,17 +1,11 @@
 -- Samples have a list of candidates: it is found place by place and lane by lane.
-use Rattle.std.proofs.Common.{◌≡◌, ℕ, zero, suc, ◌+◌, ◌-◌, ◌<◌, ◌≤◌, Bool, true, false, ℤ, List, [], ◌∷◌, ◌++◌, length}
-use Rattle.std.proofs.Common.{refl, sym, subst, ◌∙◌, arith, inl, inr}
-use Rattle.std.proofs.lemmas.Bool.{true≢false}
-use Rattle.hdlc_framer.specs.Frames.{EndsFrame}
+use Rattle.sensitive_receiver.proofs.Common.{◌≡◌, ℕ, zero, suc, ◌+◌, ◌-◌, ◌<◌, ◌≤◌, Bool, true, false, ℤ, List, [], ◌∷◌}
+use Rattle.sensitive_receiver.proofs.Common.{◌++◌, length, refl, sym, subst, ◌∙◌, arith, inl, inr, true≢false}
+use Rattle.sensitive_receiver.proofs.Common.{EndsFrame, Candidate, places_in, delay_of, is_read_at, lane_bits}
+use Rattle.sensitive_receiver.proofs.Common.{EndsAtPlace, HasPath, is_in_time, AreHeard, AddsAt, AddsBelow, AddsBetween}
 use Rattle.hdlc_framer.proofs.FrameEnds.{one_frame}
-use Rattle.frame_merge.specs.declared.candidate.Candidate.{Candidate}
 use Rattle.slicer_bank.proofs.FrameDecided.{frame_or_none}
 use Rattle.slicer_bank.proofs.SomeList.{some_list as some_of_eight}
-use Rattle.tone_tracking.specs.Heard.{places_in}
-use Rattle.sensitive_receiver.specs.Lanes.{delay_of, is_read_at, lane_bits}
-use Rattle.sensitive_receiver.specs.AddedCandidates.{EndsAtPlace, HasPath, is_in_time}
-use Rattle.sensitive_receiver.specs.Candidates.{AreHeard}
-use Rattle.sensitive_receiver.specs.Found.{AddsAt, AddsBelow, AddsBetween}
 use Rattle.sensitive_receiver.proofs.FoundLemmas.{adds_none, adds_one, adds_next_lane, adds_next_places}
 use Rattle.sensitive_receiver.proofs.BankLemmas.{adds_place}
 use Rattle.sensitive_receiver.proofs.HeardLemmas.{all_of, heard_join, none_heard}

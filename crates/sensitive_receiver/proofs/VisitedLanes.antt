@@ -1,14 +1,8 @@
 -- The added lanes as they are made, and visited one after another.
-use Rattle.std.proofs.Common.{◌≡◌, ℕ, ◌+◌, ◌<◌, ◌≤◌, ℤ, List, [], length, get_or, set, refl, sym, subst, ◌∙◌, arith}
-use Rattle.std.specs.List.{All}
+use Rattle.sensitive_receiver.proofs.Common.{◌≡◌, ℕ, ◌+◌, ◌<◌, ◌≤◌, ℤ, List, [], length, get_or, set, refl, sym, subst}
+use Rattle.sensitive_receiver.proofs.Common.{◌∙◌, arith, All, Candidate, HeldLists, Readings, AddsAt, HasRoomFrom}
+use Rattle.sensitive_receiver.proofs.Common.{LanesHear, HeldLane, LaneStandsFor, LanesHaveRead, IsLastPlace, lane_tones}
 use Rattle.std.proofs.lemmas.List.{length-set}
-use Rattle.frame_merge.specs.declared.candidate.Candidate.{Candidate}
-use Rattle.tone_tracking.specs.HeldLists.{HeldLists}
-use Rattle.sensitive_receiver.specs.declared.readings.Readings.{Readings}
-use Rattle.sensitive_receiver.specs.Found.{AddsAt, HasRoomFrom}
-use Rattle.sensitive_receiver.specs.Hearing.{LanesHear}
-use Rattle.sensitive_receiver.specs.HeldLanes.{HeldLane, LaneStandsFor, LanesHaveRead, IsLastPlace}
-use Rattle.sensitive_receiver.specs.Lanes.{lane_tones}
 use Rattle.sensitive_receiver.proofs.PlaceLanes.{adds_next_among, adds_nobody, lane_before, lane_read}
 
 -- so many lanes that have read nothing

@@ -1,15 +1,10 @@
 -- What the eight lanes of a bank heard, each in a job of its own, as one list.
-use Rattle.std.proofs.Common.{◌≡◌, ℕ, ◌+◌, ◌<◌, ℤ, List, [], length, get_or, Option, Some, None, refl, ap, sym, arith}
-use Rattle.std.proofs.Common.{subst}
-use Rattle.std.specs.List.{All, flat_map}
-use Rattle.std.specs.List.Sorted.{IsPermutation, IsNonDecreasingBy}
-use Rattle.std.proofs.lemmas.List.Sorted.{Contains-permutation, All-permutation}
-use Rattle.offset_slicers.specs.Windows.{windows_in}
-use Rattle.frame_merge.specs.declared.candidate.Candidate.{Candidate}
-use Rattle.slicer_bank.specs.Candidates.{IsCandidate, AreCandidatesBehind}
-use Rattle.slicer_bank.specs.Held.{HeldLane}
-use Rattle.slicer_bank.specs.Heard.{AreAlike, AreOfWindows, LanesKeep, LanesKeepFit}
-use Rattle.slicer_bank.specs.Merging.{CanBePutPast}
+use Rattle.slicer_bank.proofs.Common.{◌≡◌, ℕ, ◌+◌, ◌<◌, ℤ, List, [], length, get_or, Option, Some, None, refl, ap, sym}
+use Rattle.slicer_bank.proofs.Common.{arith, subst, All, flat_map, IsPermutation, IsNonDecreasingBy}
+use Rattle.slicer_bank.proofs.Common.{Contains-permutation, All-permutation, windows_in, Candidate, IsCandidate}
+use Rattle.slicer_bank.proofs.Common.{AreCandidatesBehind, HeldLane, AreOfWindows, LanesKeep, LanesKeepFit}
+use Rattle.slicer_bank.proofs.Common.{CanBePutPast}
+use Rattle.slicer_bank.specs.Heard.{AreAlike}
 use Rattle.slicer_bank.proofs.CandidateLemmas.{end_within}
 use Rattle.slicer_bank.proofs.GatheringLemmas.{flat_all, flat_contains, some_of, stands_in_order}
 

@@ -1,16 +1,8 @@
 -- When some lane holds a carrier.
-use Rattle.std.proofs.Common.{◌≡◌, ℕ, ◌+◌, ◌<◌, ℤ, List, Bool, true, false, length, get_or, sym, ◌∙◌, arith, subst, inl}
-use Rattle.std.proofs.Common.{inr, refl}
-use Rattle.std.specs.Prelude.{◌↔◌, IsTrue}
-use Rattle.std.specs.List.{All}
-use Rattle.std.proofs.lemmas.Bool.{cases_lt, true≢false}
-use Rattle.tone_table.specs.declared.tone.Tone.{Tone}
-use Rattle.nrzi_bits.specs.Line.{bits_of}
-use Rattle.offset_slicers.specs.Windows.{bits, tones_at}
-use Rattle.hdlc_framer.specs.Carrier.{HoldsCarrier}
-use Rattle.hdlc_framer.specs.Held.{flags_asked}
-use Rattle.slicer_bank.specs.Held.{HeldLane, AsksFor, LaneStandsFor, LanesStandFor}
-use Rattle.slicer_bank.specs.Busy.{HearsCarrier}
+use Rattle.slicer_bank.proofs.Common.{◌≡◌, ℕ, ◌+◌, ◌<◌, ℤ, List, Bool, true, false, length, get_or, sym, ◌∙◌, arith}
+use Rattle.slicer_bank.proofs.Common.{subst, inl, inr, refl, ◌↔◌, IsTrue, All, cases_lt, true≢false, Tone, bits_of}
+use Rattle.slicer_bank.proofs.Common.{bits, tones_at, HoldsCarrier, flags_asked, HeldLane, AsksFor, LaneStandsFor}
+use Rattle.slicer_bank.proofs.Common.{LanesStandFor, HearsCarrier}
 
 -- no carrier is held at the first offsets
 abbrev pub NoneHolds : ℕ → List HeldLane → Type 0

@@ -1,17 +1,12 @@
 -- The candidates of samples, with one sample more.
-use Rattle.std.proofs.Common.{◌≡◌, ℕ, ◌+◌, ◌-◌, ◌<◌, ◌≤◌, ℤ, List, [], ◌++◌, length, get_or, take, ap, sym, ◌∙◌, arith}
-use Rattle.std.proofs.Common.{subst, length-append, inl, inr}
-use Rattle.std.specs.List.{AllPairs}
-use Rattle.std.proofs.lemmas.Bool.{cases_lt}
-use Rattle.std.proofs.lemmas.List.{take_all, get_or_append_left, get_or-append-add}
-use Rattle.std.proofs.lemmas.List.Elements.{All-append, All-nil, Contains-append_left, Contains-append_right}
-use Rattle.offset_slicers.specs.Windows.{bits, windows_in}
+use Rattle.slicer_bank.proofs.Common.{◌≡◌, ℕ, ◌+◌, ◌-◌, ◌<◌, ◌≤◌, ℤ, List, [], ◌++◌, length, get_or, take, ap, sym, ◌∙◌}
+use Rattle.slicer_bank.proofs.Common.{arith, subst, length-append, inl, inr, AllPairs, cases_lt, take_all}
+use Rattle.slicer_bank.proofs.Common.{get_or_append_left, get_or-append-add, All-append, All-nil, Contains-append_left}
+use Rattle.slicer_bank.proofs.Common.{Contains-append_right, bits, windows_in, length-bits, EndsFrame, Candidate}
+use Rattle.slicer_bank.proofs.Common.{standing, IsCandidate, AreCandidatesBehind}
 use Rattle.offset_slicers.proofs.TonesOfWindows.{first_of}
-use Rattle.offset_slicers.proofs.WindowLemmas.{length-bits, bits-append}
-use Rattle.hdlc_framer.specs.Frames.{EndsFrame}
-use Rattle.frame_merge.specs.declared.candidate.Candidate.{Candidate}
-use Rattle.frame_merge.specs.Order.{standing}
-use Rattle.slicer_bank.specs.Candidates.{IsCandidate, AreCandidatesBehind, EndsWith}
+use Rattle.offset_slicers.proofs.WindowLemmas.{bits-append}
+use Rattle.slicer_bank.specs.Candidates.{EndsWith}
 
 -- a candidate ends within the samples
 pub end_within : (x : List ℤ) (item : Candidate) → IsCandidate x item → item.end ≤ length x

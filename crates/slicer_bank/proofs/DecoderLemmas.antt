@@ -1,14 +1,10 @@
 -- A decoder with a block more, and at its end.
-use Rattle.std.proofs.Common.{◌≡◌, ◌+◌, ◌-◌, ◌^◌, ◌<◌, ℤ, List, [], ◌++◌, length, replicate, ap, ◌∙◌, arith, subst}
-use Rattle.frame_merge.specs.declared.candidate.Candidate.{Candidate}
-use Rattle.frame_merge.specs.Held.{Held as HeldMerger, StandsFor as MergerStandsFor, least}
-use Rattle.frame_merge.specs.Order.{in_order}
-use Rattle.frame_merge.specs.Merged.{merged, below, not_below}
+use Rattle.slicer_bank.proofs.Common.{◌≡◌, ◌+◌, ◌-◌, ◌^◌, ◌<◌, ℤ, List, [], ◌++◌, length, replicate, ap, ◌∙◌, arith}
+use Rattle.slicer_bank.proofs.Common.{subst, Candidate, least, in_order, merged, below, not_below, AreCandidates}
+use Rattle.slicer_bank.proofs.Common.{AreCandidatesBehind, HeldBank, HaveTaken, AreMergedBetween}
+use Rattle.frame_merge.specs.Held.{Held as HeldMerger, StandsFor as MergerStandsFor}
 use Rattle.frame_merge.proofs.Taking.{least-one}
-use Rattle.slicer_bank.specs.Candidates.{AreCandidates, AreCandidatesBehind}
-use Rattle.slicer_bank.specs.Held.{HeldBank, StandsFor as BankStandsFor}
-use Rattle.slicer_bank.specs.HeldDecoder.{HaveTaken}
-use Rattle.slicer_bank.specs.MergedItems.{AreMergedBetween}
+use Rattle.slicer_bank.specs.Held.{StandsFor as BankStandsFor}
 use Rattle.slicer_bank.proofs.CandidateLemmas.{candidates_none, candidates_join}
 use Rattle.slicer_bank.proofs.MergingLemmas.{in_order-strictly}
 use Rattle.slicer_bank.proofs.MergedLemmas.{block_gives, end_gives, nothing_kept}

@@ -1,20 +1,14 @@
 -- A bank that was fed a block, on one thread or on two.
-use Rattle.std.proofs.Common.{◌≡◌, ℕ, ◌+◌, ℤ, List, ◌++◌, ap, sym, ◌∙◌, subst, length, length-append, take, drop}
-use Rattle.std.specs.Prelude.{Result, IfOk, OnOk}
+use Rattle.slicer_bank.proofs.Common.{◌≡◌, ℕ, ◌+◌, ℤ, List, ◌++◌, ap, sym, ◌∙◌, subst, length, length-append, take}
+use Rattle.slicer_bank.proofs.Common.{drop, IfOk, OnOk, All, take-append_seam, All-weaker, IfOk-weaker, Candidate}
+use Rattle.slicer_bank.proofs.Common.{AreCandidatesBehind, ◌<◌, Some, get_or, bits_of, flags_asked, tones_at, HeldBank}
+use Rattle.slicer_bank.proofs.Common.{HeldLane, LanesStandFor, AsksFor, last_seven, HearsAlone, LanesKeep, CanBePut}
+use Rattle.slicer_bank.proofs.Common.{CanBePutPast, AllPast}
+use Rattle.std.specs.Prelude.{Result}
 use Rattle.std.specs.declared.result.Result.TheVariants.{Ok, Err}
-use Rattle.std.specs.List.{All}
-use Rattle.std.proofs.Math.Seq.{take-append_seam}
-use Rattle.std.proofs.lemmas.List.Elements.{All-weaker}
-use Rattle.std.proofs.lemmas.Result.{IfOk-weaker}
-use Rattle.frame_merge.specs.declared.candidate.Candidate.{Candidate}
-use Rattle.slicer_bank.specs.Candidates.{AreCandidatesBehind}
-use Rattle.std.proofs.Common.{◌<◌, Some, get_or}
-use Rattle.nrzi_bits.specs.Line.{bits_of}
-use Rattle.hdlc_framer.specs.Held.{StandsFor as DeframerStandsFor, flags_asked}
-use Rattle.offset_slicers.specs.Windows.{tones_at}
-use Rattle.slicer_bank.specs.Held.{HeldBank, HeldLane, StandsFor, LanesStandFor, AsksFor, last_seven}
-use Rattle.slicer_bank.specs.Heard.{HearsAlone, LanesKeep, LanesAreAlike}
-use Rattle.slicer_bank.specs.Merging.{CanBePut, CanBePutPast, AllPast}
+use Rattle.hdlc_framer.specs.Held.{StandsFor as DeframerStandsFor}
+use Rattle.slicer_bank.specs.Held.{StandsFor}
+use Rattle.slicer_bank.specs.Heard.{LanesAreAlike}
 
 -- the lanes that were lent come back as they were left
 pub given_back : (n : ℕ) (lanes before : List HeldLane) → n ≡ length lanes

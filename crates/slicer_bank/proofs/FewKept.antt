@@ -1,25 +1,17 @@
 -- Two frames of one lane do not end with neighbouring bits, so of the last 16 places a lane has one candidate at most.
-use Rattle.std.proofs.Common.{◌≡◌, ℕ, ◌+◌, ◌-◌, ◌<◌, ◌≤◌, ℤ, Bool, true, false, true≢false, List, [], ◌∷◌, ◌++◌, length}
-use Rattle.std.proofs.Common.{get_or, take, map, ap, sym, subst, ◌∙◌, arith, append_assoc, length-append, inl, inr}
-use Rattle.std.specs.Prelude.{nat_le}
+use Rattle.slicer_bank.proofs.Common.{◌≡◌, ℕ, ◌+◌, ◌-◌, ◌<◌, ◌≤◌, ℤ, Bool, true, false, List, [], ◌∷◌, ◌++◌, length}
+use Rattle.slicer_bank.proofs.Common.{get_or, take, map, ap, sym, subst, ◌∙◌, arith, append_assoc, length-append, inl}
+use Rattle.slicer_bank.proofs.Common.{inr, nat_le, All, AllPairs, IsDistinct, cases_lt, Decides-eqb, take_more}
+use Rattle.slicer_bank.proofs.Common.{get_or_append_left, get_or-append-add, get_or-map, length-map, length_push}
+use Rattle.slicer_bank.proofs.Common.{All-filter, All-map, filter_passes, AllPairs-filter, IsDistinct-from_AllPairs}
+use Rattle.slicer_bank.proofs.Common.{EndsFrame, frame_bits, flag, bits, Candidate, standing, not_below, IsCandidate}
+use Rattle.slicer_bank.proofs.Common.{AreCandidates}
+use Rattle.std.proofs.Common.{true≢false}
 use Rattle.std.proofs.Math.Dec.{eqb}
-use Rattle.std.specs.List.{All, AllPairs, IsDistinct}
-use Rattle.std.proofs.lemmas.Bool.{cases_lt, leb-true, eqb-true}
-use Rattle.std.proofs.lemmas.Bool.Decides.{Decides-eqb}
-use Rattle.std.proofs.lemmas.List.{take_more, get_or_append_left, get_or-append-add, get_or-map, length-map}
-use Rattle.std.proofs.lemmas.List.{length_push}
-use Rattle.std.proofs.lemmas.List.Elements.{All-filter, All-map, All-contains, filter_passes}
-use Rattle.std.proofs.lemmas.List.Kept.{AllPairs-filter}
-use Rattle.std.proofs.lemmas.Map.Made.{IsDistinct-from_AllPairs}
+use Rattle.std.proofs.lemmas.Bool.{leb-true, eqb-true}
+use Rattle.std.proofs.lemmas.List.Elements.{All-contains}
 use Rattle.std.proofs.lemmas.Map.Views.{Contains-from_any}
 use Rattle.std.proofs.lemmas.Map.Steps.{length-le_from_distinct_below}
-use Rattle.hdlc_framer.specs.Frames.{EndsFrame, frame_bits}
-use Rattle.hdlc_framer.specs.Stuffing.{flag}
-use Rattle.offset_slicers.specs.Windows.{bits}
-use Rattle.frame_merge.specs.declared.candidate.Candidate.{Candidate}
-use Rattle.frame_merge.specs.Order.{standing}
-use Rattle.frame_merge.specs.Merged.{not_below}
-use Rattle.slicer_bank.specs.Candidates.{IsCandidate, AreCandidates}
 use Rattle.slicer_bank.proofs.CandidateLemmas.{end_within}
 
 -- the bits of a frame's end: its flag stands last

@@ -1,18 +1,16 @@
 -- Whether a frame ends with the last of some bits can be decided.
-use Rattle.std.proofs.Common.{◌≡◌, ℕ, ◌-◌, ◌<◌, Bool, true, false, Option, Some, None, List, [], ◌∷◌, ◌++◌, length}
-use Rattle.std.proofs.Common.{take, inl, inr, refl, ap, subst, sym, ◌∙◌, arith, length-append, true≢false}
+use Rattle.slicer_bank.proofs.Common.{◌≡◌, ℕ, ◌-◌, ◌<◌, Bool, true, false, Option, Some, None, List, [], ◌∷◌, ◌++◌}
+use Rattle.slicer_bank.proofs.Common.{length, take, inl, inr, refl, ap, subst, sym, ◌∙◌, arith, length-append, All}
+use Rattle.slicer_bank.proofs.Common.{cases_eq, cases_lt, All-nil, All-cons, All-head, All-tail, Frame, flag, EndsFrame}
+use Rattle.slicer_bank.proofs.Common.{frame_bits, frame_told}
+use Rattle.std.proofs.Common.{true≢false}
 use Rattle.std.specs.Prelude.{◌⊎◌}
-use Rattle.std.specs.List.{All}
-use Rattle.std.proofs.lemmas.Bool.{cases_eq, cases_lt}
-use Rattle.std.proofs.lemmas.List.Elements.{All-nil, All-cons, All-head, All-tail}
-use Rattle.hdlc_framer.specs.declared.event.Event.TheVariants.{Frame}
 use Rattle.hdlc_framer.specs.BitOrder.{sent_bits}
-use Rattle.hdlc_framer.specs.Stuffing.{flag}
-use Rattle.hdlc_framer.specs.Frames.{IsFrame, EndsFrame, frame_bits, with_fcs}
+use Rattle.hdlc_framer.specs.Frames.{IsFrame, with_fcs}
 use Rattle.hdlc_framer.specs.Held.{Line, flag_start, line_after}
 use Rattle.hdlc_framer.specs.LineEvents.{ClosesFrame, EndsOnZero}
 use Rattle.hdlc_framer.proofs.BitLemmas.{whole_octets, whole_octets-sent_bits}
-use Rattle.hdlc_framer.proofs.FrameEnds.{event_told, frame_told, with_fcs_fits, without_fcs}
+use Rattle.hdlc_framer.proofs.FrameEnds.{event_told, with_fcs_fits, without_fcs}
 
 -- it is so, or it is not
 abbrev Decided : Type 0 → Type 0

@@ -1,14 +1,9 @@
 -- Lanes as they are made.
-use Rattle.std.proofs.Common.{◌≡◌, ℕ, ◌+◌, ◌<◌, List, [], ◌∷◌, ◌++◌, length, get_or, ap, sym, ◌∙◌, arith, subst, refl}
-use Rattle.std.proofs.Common.{inl, inr}
-use Rattle.std.proofs.lemmas.Bool.{cases_lt}
-use Rattle.std.proofs.lemmas.List.{get_or_push, get_or_append_left, length_push}
-use Rattle.tone_table.specs.declared.tone.Tone.{Tone}
-use Rattle.offset_slicers.specs.Windows.{tones_at}
-use Rattle.offset_slicers.proofs.WindowLemmas.{length-tones_at}
-use Rattle.std.specs.List.{All}
-use Rattle.std.proofs.lemmas.List.Elements.{All-nil, All-cons, All-append}
-use Rattle.slicer_bank.specs.Held.{HeldLane, AsksFor, LaneStandsFor, LanesStandFor}
+use Rattle.slicer_bank.proofs.Common.{◌≡◌, ℕ, ◌+◌, ◌<◌, List, [], ◌∷◌, ◌++◌, length, get_or, ap, sym, ◌∙◌, arith, subst}
+use Rattle.slicer_bank.proofs.Common.{refl, inl, inr, cases_lt, get_or_append_left, length_push, Tone, tones_at}
+use Rattle.slicer_bank.proofs.Common.{length-tones_at, All, All-nil, All-cons, All-append, HeldLane, AsksFor}
+use Rattle.slicer_bank.proofs.Common.{LaneStandsFor, LanesStandFor}
+use Rattle.std.proofs.lemmas.List.{get_or_push}
 
 -- so many lanes that have taken nothing, and listen for so many flags in a row
 pub record AreFresh (flags n : ℕ) (lanes : List HeldLane) : Type 0 where

@@ -1,19 +1,16 @@
 -- Eight lanes that are visited one after another; and what they found, put into the order of its ends.
-use Rattle.std.proofs.Common.{◌≡◌, ◌≢◌, ℕ, zero, suc, ◌+◌, ◌*◌, ◌<◌, ◌≤◌, List, [], ◌∷◌, ◌++◌, length, get_or, set}
-use Rattle.std.proofs.Common.{take, map, refl, ap, sym, ◌∙◌, arith, subst, inl, inr, get_or-set_same, get_or-set_other}
+use Rattle.slicer_bank.proofs.Common.{◌≡◌, ◌≢◌, ℕ, zero, suc, ◌+◌, ◌*◌, ◌<◌, ◌≤◌, List, [], ◌∷◌, ◌++◌, length, get_or}
+use Rattle.slicer_bank.proofs.Common.{set, take, map, refl, ap, sym, ◌∙◌, arith, subst, inl, inr, get_or-set_same}
+use Rattle.slicer_bank.proofs.Common.{get_or-set_other, All, AllPairs, Contains, IsDistinct, flat_map, IsPermutation}
+use Rattle.slicer_bank.proofs.Common.{IsNonDecreasingBy, cases_lt, cases_eq, Decides-eqb, get_or-map, get_or_default}
+use Rattle.slicer_bank.proofs.Common.{length-map, length-set, take_all, take_more, All-nil, All-append}
+use Rattle.slicer_bank.proofs.Common.{Contains-append_left, Contains-append_right, All-permutation}
+use Rattle.slicer_bank.proofs.Common.{IsDistinct-from_AllPairs, Candidate, standing}
 use Rattle.std.specs.Prelude.{◌==◌}
-use Rattle.std.specs.List.{All, AllPairs, Contains, IsDistinct, flat_map}
-use Rattle.std.specs.List.Sorted.{IsPermutation, IsNonDecreasingBy}
-use Rattle.std.proofs.lemmas.Bool.{cases_lt, cases_eq}
-use Rattle.std.proofs.lemmas.Bool.Decides.{Decides-eqb}
-use Rattle.std.proofs.lemmas.List.{get_or-map, get_or_default, length-map, length-set, take_all, take_more}
 use Rattle.std.proofs.lemmas.List.{flat_map_more}
-use Rattle.std.proofs.lemmas.List.Elements.{All-nil, All-append, Contains-append_left, Contains-append_right}
-use Rattle.std.proofs.lemmas.List.Sorted.{IsPermutation-map, All-permutation}
+use Rattle.std.proofs.lemmas.List.Sorted.{IsPermutation-map}
 use Rattle.std.proofs.lemmas.Map.Keys.{IsDistinct-IsPermutation}
-use Rattle.std.proofs.lemmas.Map.Made.{AllPairs-from_IsDistinct, IsDistinct-from_AllPairs}
-use Rattle.frame_merge.specs.declared.candidate.Candidate.{Candidate}
-use Rattle.frame_merge.specs.Order.{standing}
+use Rattle.std.proofs.lemmas.Map.Made.{AllPairs-from_IsDistinct}
 use Rattle.slicer_bank.proofs.CandidateLemmas.{AllPairs-append}
 
 -- ---- the lists of several lanes as one

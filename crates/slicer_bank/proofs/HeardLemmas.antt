@@ -1,14 +1,8 @@
 -- What is heard of one window, and of one sample more.
-use Rattle.std.proofs.Common.{◌≡◌, ℕ, ◌+◌, ◌<◌, ℤ, List, [], ◌∷◌, ◌++◌, Bool, length, map, ap, sym, ◌∙◌, arith, refl}
-use Rattle.std.proofs.Common.{subst}
-use Rattle.std.specs.List.{All}
-use Rattle.std.proofs.lemmas.List.{append-nil, length_push}
-use Rattle.std.proofs.lemmas.List.Elements.{All-nil, All-cons, All-head}
-use Rattle.offset_slicers.specs.Windows.{bits, EndsWindow}
-use Rattle.hdlc_framer.specs.Frames.{EndsFrame}
-use Rattle.frame_merge.specs.declared.candidate.Candidate.{Candidate}
-use Rattle.slicer_bank.specs.Candidates.{IsCandidate, AreCandidatesBehind}
-use Rattle.slicer_bank.specs.Heard.{candidate_at, Adds}
+use Rattle.slicer_bank.proofs.Common.{◌≡◌, ℕ, ◌+◌, ◌<◌, ℤ, List, [], ◌∷◌, ◌++◌, Bool, length, map, ap, sym, ◌∙◌, arith}
+use Rattle.slicer_bank.proofs.Common.{refl, subst, All, append-nil, length_push, All-nil, All-cons, All-head, bits}
+use Rattle.slicer_bank.proofs.Common.{EndsWindow, EndsFrame, Candidate, IsCandidate, AreCandidatesBehind, candidate_at}
+use Rattle.slicer_bank.proofs.Common.{Adds}
 use Rattle.slicer_bank.proofs.CandidateLemmas.{candidate_at_last, ends_with_last, end_within}
 
 -- what was found is followed by the candidates that end in these samples, past those before them

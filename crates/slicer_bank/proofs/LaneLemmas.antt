@@ -1,15 +1,11 @@
 -- What a bit that ends a frame is told as.
-use Rattle.std.proofs.Common.{◌≡◌, ℕ, Bool, true, false, List, [], ◌∷◌, ◌++◌, ap, sym, ◌∙◌, arith, append_assoc, refl}
-use denote.Enum.Bare.{sameb}
-use Rattle.hdlc_framer.specs.contracts.event.Event.{the_type}
+use Rattle.slicer_bank.proofs.Common.{◌≡◌, ℕ, Bool, true, false, List, [], ◌∷◌, ◌++◌, ap, sym, ◌∙◌, arith, append_assoc}
+use Rattle.slicer_bank.proofs.Common.{refl, sameb, the_type, Event, Frame, flag, EndsFrame, frame_bits, EventAt}
+use Rattle.slicer_bank.proofs.Common.{frame_told}
 use Rattle.hdlc_framer.proofs.DeframerLemmas.{test_by_frame}
-use Rattle.hdlc_framer.specs.declared.event.Event.{Event}
-use Rattle.hdlc_framer.specs.declared.event.Event.TheVariants.{None as NoEvent, Flag, Abort, Frame}
-use Rattle.hdlc_framer.specs.Stuffing.{flag}
-use Rattle.hdlc_framer.specs.Frames.{EndsFrame, run_of_ones, frame_bits}
-use Rattle.hdlc_framer.specs.Events.{EventAt}
+use Rattle.hdlc_framer.specs.declared.event.Event.TheVariants.{None as NoEvent, Flag, Abort}
+use Rattle.hdlc_framer.specs.Frames.{run_of_ones}
 use Rattle.hdlc_framer.proofs.Lines.{run-push_zero}
-use Rattle.hdlc_framer.proofs.FrameEnds.{frame_told}
 
 -- if a frame ends with a bit, its event says so
 frame_is_told : (bits : List Bool) (bit : Bool) (event : Event) (octets : List ℕ)

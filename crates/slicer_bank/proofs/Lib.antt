@@ -1,3 +1,4 @@
+pub mod Common
 pub mod LaneLemmas
 pub mod CandidateLemmas
 pub mod SevenLemmas

@@ -1,10 +1,7 @@
 -- The marks of lanes set one after another.
-use Rattle.std.proofs.Common.{◌≡◌, ℕ, ◌+◌, ◌<◌, ◌≤◌, List, length, get_or, set, ap, sym, ◌∙◌, arith, inl, inr}
-use Rattle.std.proofs.Common.{get_or-set_same, get_or-set_other}
-use Rattle.std.proofs.lemmas.Bool.{cases_eq}
-use Rattle.std.proofs.lemmas.List.{length-set}
-use Rattle.frame_merge.specs.declared.candidate.Candidate.{Candidate}
-use Rattle.frame_merge.specs.Held.{Held, StandsFor}
+use Rattle.slicer_bank.proofs.Common.{◌≡◌, ℕ, ◌+◌, ◌<◌, ◌≤◌, List, length, get_or, set, ap, sym, ◌∙◌, arith, inl, inr}
+use Rattle.slicer_bank.proofs.Common.{get_or-set_same, get_or-set_other, cases_eq, length-set, Candidate, Held}
+use Rattle.frame_merge.specs.Held.{StandsFor}
 use Rattle.slicer_bank.proofs.GatheringLemmas.{same_list}
 
 -- so many of all lanes are marked at their positions

@@ -1,25 +1,21 @@
 -- The merged candidates of samples, and of these with more samples.
-use Rattle.std.proofs.Common.{◌≡◌, ℕ, ◌+◌, ◌<◌, ◌≤◌, ℤ, List, [], ◌∷◌, ◌++◌, true, false, length, ap, sym, ◌∙◌, arith}
-use Rattle.std.proofs.Common.{subst, cond, refl, length-append, get_or, zero, suc, ◌&&◌, append_assoc, Bool}
-use Rattle.std.specs.Prelude.{nat_lt, nat_le}
-use Rattle.std.specs.List.{All, Contains, filter}
-use Rattle.std.specs.List.Sorted.{IsNonDecreasingBy}
+use Rattle.slicer_bank.proofs.Common.{◌≡◌, ℕ, ◌+◌, ◌<◌, ◌≤◌, ℤ, List, [], ◌∷◌, ◌++◌, true, false, length, ap, sym, ◌∙◌}
+use Rattle.slicer_bank.proofs.Common.{arith, subst, refl, length-append, get_or, zero, suc, ◌&&◌, append_assoc, Bool}
+use Rattle.slicer_bank.proofs.Common.{nat_le, All, Contains, IsNonDecreasingBy, append-nil, append_cancel_left}
+use Rattle.slicer_bank.proofs.Common.{All-weaker, All-head, All-tail, All-filter, filter_passes, Contains-append_right}
+use Rattle.slicer_bank.proofs.Common.{AllPairs-filter, Candidate, standing, merged, below, not_below, rising_ends}
+use Rattle.slicer_bank.proofs.Common.{merged-rising, below_then_rest, IsCandidate, AreCandidates, AreCandidatesBehind}
+use Rattle.slicer_bank.proofs.Common.{AreMergedBetween}
+use Rattle.std.proofs.Common.{cond}
+use Rattle.std.specs.Prelude.{nat_lt}
+use Rattle.std.specs.List.{filter}
 use Rattle.std.proofs.Math.Bool.{and-false}
 use Rattle.std.proofs.lemmas.Bool.{ltb-true, lt-leb, lt-ltb, le-ltb}
-use Rattle.std.proofs.lemmas.List.{append-nil, append_cancel_left}
-use Rattle.std.proofs.lemmas.List.Elements.{All-weaker, All-head, All-tail, All-filter, filter-append, filter_passes}
-use Rattle.std.proofs.lemmas.List.Elements.{Contains-append_right}
-use Rattle.std.proofs.lemmas.List.Kept.{AllPairs-filter}
-use Rattle.frame_merge.specs.declared.candidate.Candidate.{Candidate}
-use Rattle.frame_merge.specs.Order.{standing}
-use Rattle.frame_merge.specs.Merged.{merged, merged_after, below, not_below, between}
-use Rattle.frame_merge.proofs.Ordering.{rising_ends}
-use Rattle.frame_merge.proofs.Merging.{merged_after-append, merged-rising, below_none, below_between, between_all}
-use Rattle.frame_merge.proofs.Merging.{All-merged}
+use Rattle.std.proofs.lemmas.List.Elements.{filter-append}
+use Rattle.frame_merge.specs.Merged.{merged_after, between}
+use Rattle.frame_merge.proofs.Merging.{merged_after-append, below_none, below_between, between_all, All-merged}
 use Rattle.frame_merge.proofs.Taking.{below_all}
-use Rattle.frame_merge.proofs.Forgetting.{below_then_rest}
-use Rattle.slicer_bank.specs.Candidates.{IsCandidate, AreCandidates, AreCandidatesBehind}
-use Rattle.slicer_bank.specs.MergedItems.{AreMerged, AreMergedBetween}
+use Rattle.slicer_bank.specs.MergedItems.{AreMerged}
 use Rattle.slicer_bank.proofs.CandidateLemmas.{end_within, candidates_join}
 use Rattle.slicer_bank.proofs.MergingLemmas.{is_in_order}
 use Rattle.slicer_bank.proofs.OneList.{one_list}

@@ -1,15 +1,9 @@
 -- Candidates put into a merger, one after another.
-use Rattle.std.proofs.Common.{◌≡◌, ℕ, ◌+◌, ◌<◌, List, [], ◌∷◌, ◌++◌, length, get_or, append_assoc, sym, subst, ◌∙◌, ap}
-use Rattle.std.proofs.Common.{arith, inl, inr, ℤ}
-use Rattle.std.specs.List.{AllPairs}
-use Rattle.std.specs.List.Sorted.{IsNonDecreasingBy}
-use Rattle.std.proofs.lemmas.Bool.{cases_eq}
-use Rattle.std.proofs.lemmas.List.{append-nil, nil_from_length}
-use Rattle.frame_merge.specs.declared.candidate.Candidate.{Candidate}
-use Rattle.frame_merge.specs.Held.{Held, StandsFor}
-use Rattle.frame_merge.specs.Order.{standing, in_order, IsInOrder}
+use Rattle.slicer_bank.proofs.Common.{◌≡◌, ℕ, ◌+◌, ◌<◌, List, [], ◌∷◌, ◌++◌, length, get_or, append_assoc, sym, subst}
+use Rattle.slicer_bank.proofs.Common.{◌∙◌, ap, arith, inl, inr, ℤ, AllPairs, IsNonDecreasingBy, cases_eq, append-nil}
+use Rattle.slicer_bank.proofs.Common.{nil_from_length, Candidate, Held, standing, in_order, IsInOrder, AreCandidates}
+use Rattle.frame_merge.specs.Held.{StandsFor}
 use Rattle.frame_merge.proofs.Ordering.{in_order-rising}
-use Rattle.slicer_bank.specs.Candidates.{AreCandidates}
 
 -- the merger was given these candidates since, and so many others are left
 pub record HasPut (initial now : Held) (all items left : List Candidate) (count : ℕ) : Type 0 where

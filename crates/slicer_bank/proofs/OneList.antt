@@ -1,10 +1,6 @@
 -- Two lists that strictly rise and have the same elements are the same.
-use Rattle.std.proofs.Common.{◌≡◌, ℕ, ◌<◌, ℤ, List, [], ◌∷◌, length, get_or, ap, sym, ◌∙◌, arith, refl, subst, zero}
-use Rattle.std.proofs.Common.{suc}
-use Rattle.std.specs.List.{AllPairs, Contains}
-use Rattle.frame_merge.specs.declared.candidate.Candidate.{Candidate}
-use Rattle.frame_merge.specs.Order.{standing}
-use Rattle.slicer_bank.specs.Candidates.{AreCandidates}
+use Rattle.slicer_bank.proofs.Common.{◌≡◌, ℕ, ◌<◌, ℤ, List, [], ◌∷◌, length, get_or, ap, sym, ◌∙◌, arith, refl, subst}
+use Rattle.slicer_bank.proofs.Common.{zero, suc, AllPairs, Contains, Candidate, standing, AreCandidates}
 
 abbrev pub Rises : List Candidate → Type 0
 Rises = AllPairs (λ item later. standing item < standing later)

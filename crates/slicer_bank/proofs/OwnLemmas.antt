@@ -1,29 +1,21 @@
 -- One lane over its own windows: of a piece, and of a block as two pieces.
-use Rattle.std.proofs.Common.{◌≡◌, ℕ, ◌+◌, ◌-◌, ◌*◌, ◌<◌, ◌≤◌, ℤ, pos, List, [], ◌∷◌, ◌++◌, Bool, length, get_or, take}
-use Rattle.std.proofs.Common.{drop, map, ap, sym, ◌∙◌, arith, append_assoc, refl, subst, inl, inr, min, length-append}
-use Rattle.std.proofs.Common.{length-drop}
-use Rattle.std.specs.List.{All}
-use Rattle.std.proofs.lemmas.Bool.{cases_lt}
-use Rattle.std.proofs.Math.Seq.{drop-append-add, drop-append_seam, take-append_seam}
-use Rattle.std.proofs.lemmas.List.{append-nil, drop-append-le, drop-drop, take_more, take_all, length-take-le}
-use Rattle.std.proofs.lemmas.List.{length-replicate, take-append-drop, nil_from_length}
+use Rattle.slicer_bank.proofs.Common.{◌≡◌, ℕ, ◌+◌, ◌-◌, ◌*◌, ◌<◌, ◌≤◌, ℤ, pos, List, [], ◌∷◌, ◌++◌, Bool, length}
+use Rattle.slicer_bank.proofs.Common.{get_or, take, drop, map, ap, sym, ◌∙◌, arith, append_assoc, refl, subst, inl, inr}
+use Rattle.slicer_bank.proofs.Common.{length-append, length-drop, All, cases_lt, drop-append-add, take-append_seam}
+use Rattle.slicer_bank.proofs.Common.{append-nil, drop-append-le, drop-drop, take_more, take_all, length-take-le}
+use Rattle.slicer_bank.proofs.Common.{length-replicate, nil_from_length, All-nil, All-cons, All-head, All-append}
+use Rattle.slicer_bank.proofs.Common.{Contains-append_left, Contains-append_right, Tone, bits_of, tone_of, bits}
+use Rattle.slicer_bank.proofs.Common.{tones_at, window_at, windows_in, length-bits, length-tones_at, EndsFrame}
+use Rattle.slicer_bank.proofs.Common.{flags_asked, Candidate, IsCandidate, HeldLane, LaneStandsFor, silence, last_seven}
+use Rattle.slicer_bank.proofs.Common.{candidate_at, Adds, AreOfWindows, LaneHears, CanBePutPast}
+use Rattle.std.proofs.Common.{min}
+use Rattle.std.proofs.Math.Seq.{drop-append_seam}
+use Rattle.std.proofs.lemmas.List.{take-append-drop}
 use Rattle.std.proofs.lemmas.List.FromFn.{get_or-map-range_with_len}
-use Rattle.std.proofs.lemmas.List.Elements.{All-nil, All-cons, All-head, All-append, Contains-append_left}
-use Rattle.std.proofs.lemmas.List.Elements.{Contains-append_right}
-use Rattle.tone_table.specs.declared.tone.Tone.{Tone}
 use Rattle.tone_table.specs.declared.tone.Tone.TheVariants.{Mark}
-use Rattle.nrzi_bits.specs.Line.{bits_of}
 use Rattle.nrzi_bits.proofs.LineLemmas.{bits_from-take}
-use Rattle.offset_slicers.specs.Decision.{tone_of}
-use Rattle.offset_slicers.specs.Windows.{bits, tones_at, window_at, windows_in}
-use Rattle.offset_slicers.proofs.WindowLemmas.{length-bits, length-tones_at, tones_at-append}
-use Rattle.hdlc_framer.specs.Frames.{EndsFrame}
-use Rattle.hdlc_framer.specs.Held.{flags_asked}
-use Rattle.frame_merge.specs.declared.candidate.Candidate.{Candidate}
-use Rattle.slicer_bank.specs.Candidates.{IsCandidate}
-use Rattle.slicer_bank.specs.Held.{HeldLane, LaneStandsFor, silence, last_seven}
-use Rattle.slicer_bank.specs.Heard.{candidate_at, Adds, AreOfWindows, LaneHearsMore, LaneHears}
-use Rattle.slicer_bank.specs.Merging.{CanBePutPast}
+use Rattle.offset_slicers.proofs.WindowLemmas.{tones_at-append}
+use Rattle.slicer_bank.specs.Heard.{LaneHearsMore}
 use Rattle.slicer_bank.proofs.CandidateLemmas.{candidate_more, candidate_less, AllPairs-append}
 use Rattle.slicer_bank.proofs.SevenLemmas.{seven_behind_first}
 

@@ -1,17 +1,11 @@
 -- Eight lanes made of eight readers, one after another.
-use Rattle.std.proofs.Common.{◌≡◌, ℕ, ◌+◌, ◌<◌, List, [], ◌∷◌, ◌++◌, refl, ap, sym, ◌∙◌, arith, subst, length, get_or}
-use Rattle.std.proofs.Common.{map, take, drop, replicate, inl, inr}
-use Rattle.std.specs.List.{All}
-use Rattle.std.proofs.lemmas.Bool.{cases_lt}
-use Rattle.std.proofs.lemmas.List.{take_more, drop-drop, get_or-drop, length_push, map-append, get_or_append_left}
-use Rattle.std.proofs.lemmas.List.Elements.{All-push, All-nil, All-head, All-tail}
-use Rattle.std.proofs.Math.Seq.{get_or-append_seam}
-use Rattle.sample_ring.specs.declared.reader.Reader.{Reader}
-use Rattle.sample_ring.specs.Ends.{IsNew, position_of}
-use Rattle.sample_ring.specs.Record.{answer}
-use Rattle.slicer_bank.specs.declared.ring_lane.RingLane.{RingLane}
-use Rattle.slicer_bank.specs.RingJobs.{IsTaken}
-use Rattle.slicer_bank.specs.RingLanes.{LaneListens, readers_of, answers_of}
+use Rattle.slicer_bank.proofs.Common.{◌≡◌, ℕ, ◌+◌, ◌<◌, List, [], ◌∷◌, ◌++◌, refl, ap, sym, ◌∙◌, arith, subst, length}
+use Rattle.slicer_bank.proofs.Common.{get_or, map, take, drop, replicate, inl, inr, All, cases_lt, take_more, drop-drop}
+use Rattle.slicer_bank.proofs.Common.{length_push, map-append, get_or_append_left, All-push, All-nil, All-head}
+use Rattle.slicer_bank.proofs.Common.{All-tail, get_or-append_seam, Reader, position_of, answer, RingLane, IsTaken}
+use Rattle.slicer_bank.proofs.Common.{LaneListens, readers_of, answers_of}
+use Rattle.std.proofs.lemmas.List.{get_or-drop}
+use Rattle.sample_ring.specs.Ends.{IsNew}
 
 -- so many readers have a lane, and the others are left
 pub record HaveLanes (all left : List Reader) (lanes : List RingLane) (flags n : ℕ) : Type 0 where

@@ -1,9 +1,6 @@
 -- The readers of a bank go back to the Vec that they came in.
-use Rattle.std.proofs.Common.{◌≡◌, ℕ, suc, ◌+◌, ◌≤◌, List, [], ◌∷◌, ◌++◌, length, ap, ◌∙◌, sym, append_assoc, arith}
-use Rattle.std.proofs.lemmas.List.{append-nil, nil_from_length}
-use Rattle.sample_ring.specs.declared.reader.Reader.{Reader}
-use Rattle.slicer_bank.specs.declared.ring_lane.RingLane.{RingLane}
-use Rattle.slicer_bank.specs.RingLanes.{readers_of}
+use Rattle.slicer_bank.proofs.Common.{◌≡◌, ℕ, suc, ◌+◌, ◌≤◌, List, [], ◌∷◌, ◌++◌, length, ap, ◌∙◌, sym, append_assoc}
+use Rattle.slicer_bank.proofs.Common.{arith, append-nil, nil_from_length, Reader, RingLane, readers_of}
 
 -- so many readers went back into the room, and there is room for those of the lanes that are left
 pub record HasGivenBack (all left : List RingLane) (count : ℕ) (items : List Reader) (len capacity : ℕ) : Type 0 where

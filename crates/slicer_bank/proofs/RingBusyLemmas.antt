@@ -1,14 +1,9 @@
 -- Which of eight lanes that read a ring hold a carrier.
-use Rattle.std.proofs.Common.{◌≡◌, ℕ, ◌<◌, List, [], ◌∷◌, ap, sym, ◌∙◌, arith, subst, length}
+use Rattle.slicer_bank.proofs.Common.{◌≡◌, ℕ, ◌<◌, List, [], ◌∷◌, ap, sym, ◌∙◌, arith, subst, length, get_or-map}
+use Rattle.slicer_bank.proofs.Common.{length-map, HoldsCarrier, flags_asked, RingLane, IsBusyOnRing, lane_of}
+use Rattle.slicer_bank.proofs.Common.{answers_of, readers_of, answers_by, LaneListens, LanesListen, Stretch}
+use Rattle.slicer_bank.proofs.Common.{last_stretch, stretch_bits, StretchStandsFor}
 use Rattle.std.specs.Prelude.{slice_index_or}
-use Rattle.std.proofs.lemmas.List.{get_or-map, length-map}
-use Rattle.hdlc_framer.specs.Carrier.{HoldsCarrier}
-use Rattle.hdlc_framer.specs.Held.{flags_asked}
-use Rattle.slicer_bank.specs.declared.ring_lane.RingLane.{RingLane}
-use Rattle.slicer_bank.specs.HeardOnRing.{IsBusyOnRing, lane_of}
-use Rattle.slicer_bank.specs.RingLanes.{answers_of, readers_of, answers_by, LaneListens, LanesListen}
-use Rattle.slicer_bank.specs.Stretches.{Stretch, last_stretch, stretch_bits}
-use Rattle.slicer_bank.specs.StretchLanes.{StretchStandsFor}
 
 -- what a lane holds, as its answers tell
 abbrev pub Holds : RingLane → Type 0

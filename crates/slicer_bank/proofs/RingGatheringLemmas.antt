@@ -1,18 +1,13 @@
 -- What the eight lanes of a ring found in a turn, and how far they came.
-use Rattle.std.proofs.Common.{◌≡◌, ℕ, ◌+◌, ◌<◌, List, [], ◌∷◌, ◌++◌, Bool, true, false, ◌&&◌, refl, ap, sym, ◌∙◌, arith}
-use Rattle.std.proofs.Common.{subst, length, get_or, map, set, take, inl, inr, get_or-set_same, get_or-set_other}
-use Rattle.std.specs.List.{flat_map, list_all}
-use Rattle.std.specs.List.Sorted.{IsPermutation, IsNonDecreasingBy}
-use Rattle.std.proofs.lemmas.Bool.{cases_eq}
-use Rattle.std.proofs.lemmas.List.{take_more, length-set, length-map, get_or-map}
+use Rattle.slicer_bank.proofs.Common.{◌≡◌, ℕ, ◌+◌, ◌<◌, List, [], ◌∷◌, ◌++◌, Bool, true, false, ◌&&◌, refl, ap, sym}
+use Rattle.slicer_bank.proofs.Common.{◌∙◌, arith, subst, length, get_or, map, set, take, inl, inr, get_or-set_same}
+use Rattle.slicer_bank.proofs.Common.{get_or-set_other, flat_map, list_all, IsPermutation, IsNonDecreasingBy, cases_eq}
+use Rattle.slicer_bank.proofs.Common.{take_more, length-set, length-map, get_or-map, position_of, Candidate, LaneGap}
+use Rattle.slicer_bank.proofs.Common.{RingLane, IsTaken, IsAlike}
 use Rattle.std.proofs.lemmas.List.Folds.{list_all-append}
-use Rattle.sample_ring.specs.Ends.{position_of}
-use Rattle.frame_merge.specs.declared.candidate.Candidate.{Candidate}
-use Rattle.slicer_bank.specs.declared.advance.LaneGap.{LaneGap}
-use Rattle.slicer_bank.specs.declared.ring_lane.RingLane.{RingLane}
-use Rattle.slicer_bank.specs.RingJobs.{IsTaken, IsAlike, IsGathered}
-use Rattle.slicer_bank.proofs.GatheringLemmas.{Visited, visited_here, visited_more, alike_more}
-use Rattle.slicer_bank.proofs.GatheringLemmas.{found_more, all_visited, same_list, some_of}
+use Rattle.slicer_bank.specs.RingJobs.{IsGathered}
+use Rattle.slicer_bank.proofs.GatheringLemmas.{Visited, visited_here, visited_more, alike_more, found_more, all_visited}
+use Rattle.slicer_bank.proofs.GatheringLemmas.{same_list, some_of}
 
 abbrev pub found_by : RingLane → List Candidate
 found_by lane = lane.found.items

@@ -1,26 +1,15 @@
 -- A lane with one answer more, and after a turn of answers.
-use Rattle.std.proofs.Common.{◌≡◌, ℕ, ◌+◌, ◌<◌, ◌≤◌, List, [], ◌∷◌, ◌++◌, ⊎_elim, inl, inr, true, false, refl, ap, sym}
-use Rattle.std.proofs.Common.{◌∙◌, arith, subst, length, get_or, map, append_assoc, zero, suc}
-use Rattle.std.specs.List.{All, Contains}
-use Rattle.std.proofs.lemmas.Bool.{true≢false}
-use Rattle.std.proofs.lemmas.List.{append-nil, length_push, map-append, length-map}
-use Rattle.std.proofs.lemmas.List.Elements.{All-nil, All-map, All-append, All-push, Contains-append_left}
-use Rattle.std.proofs.lemmas.List.Elements.{Contains-append_right, Contains-append_cases}
-use Rattle.sample_ring.specs.declared.got.Got.{Got}
-use Rattle.sample_ring.specs.declared.got.Got.TheVariants.{Item, Gap, Empty, End}
+use Rattle.slicer_bank.proofs.Common.{◌≡◌, ℕ, ◌+◌, ◌<◌, ◌≤◌, List, [], ◌∷◌, ◌++◌, ⊎_elim, inl, inr, true, false, refl}
+use Rattle.slicer_bank.proofs.Common.{ap, sym, ◌∙◌, arith, subst, length, get_or, map, append_assoc, zero, suc, All}
+use Rattle.slicer_bank.proofs.Common.{Contains, true≢false, append-nil, length_push, map-append, length-map, All-nil}
+use Rattle.slicer_bank.proofs.Common.{All-map, All-append, All-push, Contains-append_left, Contains-append_right}
+use Rattle.slicer_bank.proofs.Common.{Contains-append_cases, Got, Item, Gap, Empty, End, GoesForward, position_of}
+use Rattle.slicer_bank.proofs.Common.{reads_of, answer, next, Candidate, RingLane, candidate_at, IsHeardIn, EndsWithGot}
+use Rattle.slicer_bank.proofs.Common.{AreHeardPast, MadeTurn, answers_of, LaneListens, MeetsEnd, gaps_of, Leads}
+use Rattle.slicer_bank.proofs.Common.{stretch_after, last_stretch, end_of, position_after, StretchStandsFor}
 use Rattle.sample_ring.specs.declared.view.Entry.{Entry}
-use Rattle.sample_ring.specs.Ends.{GoesForward, position_of, reads_of}
-use Rattle.sample_ring.specs.Record.{answer, next}
-use Rattle.frame_merge.specs.declared.candidate.Candidate.{Candidate}
-use Rattle.slicer_bank.specs.declared.ring_lane.RingLane.{RingLane}
-use Rattle.slicer_bank.specs.Heard.{candidate_at}
-use Rattle.slicer_bank.specs.HeardOnRing.{IsHeardIn}
-use Rattle.slicer_bank.specs.RingJobs.{EndsWithGot, is_end, is_sample, StaysLane, TookAnswer, ArePlaced, AreHeardPast}
-use Rattle.slicer_bank.specs.RingJobs.{WentOn, MadeTurn}
-use Rattle.slicer_bank.specs.RingLanes.{answers_of, LaneListens}
-use Rattle.slicer_bank.specs.RingTurns.{MeetsEnd, gaps_of, reads_on, most_reads, Leads}
-use Rattle.slicer_bank.specs.Stretches.{stretch_after, last_stretch, end_of, position_after}
-use Rattle.slicer_bank.specs.StretchLanes.{StretchStandsFor}
+use Rattle.slicer_bank.specs.RingJobs.{is_end, is_sample, StaysLane, TookAnswer, ArePlaced, WentOn}
+use Rattle.slicer_bank.specs.RingTurns.{reads_on, most_reads}
 use Rattle.slicer_bank.proofs.CandidateLemmas.{AllPairs-append}
 use Rattle.slicer_bank.proofs.StretchLemmas.{last-more, EndsNow, heard_more, heard_less, heard_new, heard_within}
 use Rattle.slicer_bank.proofs.StretchLemmas.{leads_up, leads_more, leads_position, next_is}

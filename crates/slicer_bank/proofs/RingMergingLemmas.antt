@@ -1,26 +1,18 @@
 -- What eight lanes that read a ring hear, merged turn by turn.
-use Rattle.std.proofs.Common.{◌≡◌, ℕ, ◌<◌, ◌≤◌, List, [], ◌∷◌, ◌++◌, refl, ap, sym, ◌∙◌, arith, subst, replicate}
-use Rattle.std.proofs.Common.{get_or, zero, suc, ◌-◌, ◌^◌, inl, inr, le_refl, ◌⊎◌, ⊎_elim, ◌≢◌, length}
-use Rattle.std.specs.Prelude.{fold, min}
-use Rattle.std.specs.List.{All, Contains}
-use Rattle.std.specs.List.Sorted.{IsNonDecreasingBy}
-use Rattle.std.proofs.lemmas.Bool.{cases_lt}
-use Rattle.std.proofs.lemmas.List.Sums.{fold-append}
-use Rattle.std.proofs.lemmas.List.{get_or-replicate, get_or-map, length-map, append_cancel_left}
-use Rattle.std.proofs.lemmas.List.Elements.{All-nil, Contains-append_left, Contains-append_right}
-use Rattle.frame_merge.specs.declared.candidate.Candidate.{Candidate}
-use Rattle.frame_merge.specs.Held.{Held as HeldMerger, StandsFor as MergerStandsFor, least}
-use Rattle.frame_merge.specs.Order.{place, in_order, standing, IsInOrder}
-use Rattle.frame_merge.specs.Merged.{merged, below, not_below}
-use Rattle.frame_merge.proofs.Ordering.{rising_ends}
-use Rattle.frame_merge.proofs.Merging.{merged-rising}
-use Rattle.frame_merge.proofs.Forgetting.{below_then_rest}
+use Rattle.slicer_bank.proofs.Common.{◌≡◌, ℕ, ◌<◌, ◌≤◌, List, [], ◌∷◌, ◌++◌, refl, ap, sym, ◌∙◌, arith, subst}
+use Rattle.slicer_bank.proofs.Common.{replicate, get_or, zero, suc, ◌-◌, ◌^◌, inl, inr, ◌⊎◌, ⊎_elim, ◌≢◌, length, fold}
+use Rattle.slicer_bank.proofs.Common.{All, Contains, IsNonDecreasingBy, cases_lt, fold-append, get_or-map, length-map}
+use Rattle.slicer_bank.proofs.Common.{append_cancel_left, All-nil, Contains-append_left, Contains-append_right}
+use Rattle.slicer_bank.proofs.Common.{Candidate, least, place, in_order, standing, IsInOrder, merged, below, not_below}
+use Rattle.slicer_bank.proofs.Common.{rising_ends, merged-rising, below_then_rest, Got, position_after, IsHeardIn}
+use Rattle.slicer_bank.proofs.Common.{IsHeardOnRing, lane_of, lane_positions, Leads, BringsOnRing}
+use Rattle.std.proofs.Common.{le_refl}
+use Rattle.std.specs.Prelude.{min}
+use Rattle.std.proofs.lemmas.List.{get_or-replicate}
+use Rattle.frame_merge.specs.Held.{Held as HeldMerger, StandsFor as MergerStandsFor}
 use Rattle.frame_merge.proofs.Taking.{least-each, le-least}
-use Rattle.sample_ring.specs.declared.got.Got.{Got}
-use Rattle.slicer_bank.specs.Stretches.{stretches, position_after}
-use Rattle.slicer_bank.specs.HeardOnRing.{IsHeardIn, IsHeardOnRing, AreHeardOnRing, AreMergedOnRing, AreRestOnRing}
-use Rattle.slicer_bank.specs.HeardOnRing.{lane_of, lane_positions, least_position}
-use Rattle.slicer_bank.specs.RingTurns.{Leads, BringsOnRing}
+use Rattle.slicer_bank.specs.Stretches.{stretches}
+use Rattle.slicer_bank.specs.HeardOnRing.{AreHeardOnRing, AreMergedOnRing, AreRestOnRing, least_position}
 use Rattle.slicer_bank.specs.RingMerging.{HasMerged}
 use Rattle.slicer_bank.proofs.StretchLemmas.{InStretch, none_ends, heard_longer, heard_shorter, heard_within, leads_up}
 use Rattle.slicer_bank.proofs.StretchLemmas.{leads_position, leads_split, leads_join}

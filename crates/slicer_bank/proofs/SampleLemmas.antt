@@ -1,17 +1,9 @@
 -- A stretch with one more sample, as the slicer and the deframer of a lane tell it.
-use Rattle.std.proofs.Common.{◌≡◌, ℕ, ℤ, Bool, true, List, [], ◌∷◌, ◌++◌, Option, None, subst, sym, ◌∙◌}
-use Rattle.std.specs.Prelude.{◌↔◌, IsSome, option_to_list}
-use Rattle.std.proofs.lemmas.List.{append-nil}
-use denote.Enum.Bare.{sameb}
-use Rattle.hdlc_framer.specs.contracts.event.Event.{the_type}
-use Rattle.hdlc_framer.specs.declared.event.Event.{Event}
-use Rattle.hdlc_framer.specs.declared.event.Event.TheVariants.{Frame}
-use Rattle.hdlc_framer.specs.Events.{EventAt}
-use Rattle.hdlc_framer.proofs.DeframerLemmas.{frame_by_test}
-use Rattle.offset_slicers.specs.Windows.{bits, EndsWindow}
-use Rattle.offset_slicers.specs.Held.{Held, offset_from}
-use Rattle.slicer_bank.specs.Stretches.{Stretch, with_sample, stretch_bits}
-use Rattle.slicer_bank.specs.StretchLanes.{EndsLast}
+use Rattle.slicer_bank.proofs.Common.{◌≡◌, ℕ, ℤ, Bool, true, List, [], ◌∷◌, ◌++◌, Option, None, subst, sym, ◌∙◌, ◌↔◌}
+use Rattle.slicer_bank.proofs.Common.{append-nil, sameb, the_type, Event, Frame, EventAt, frame_by_test, bits}
+use Rattle.slicer_bank.proofs.Common.{EndsWindow, offset_from, Stretch, with_sample, stretch_bits, EndsLast}
+use Rattle.std.specs.Prelude.{IsSome, option_to_list}
+use Rattle.offset_slicers.specs.Held.{Held}
 
 module _ (offset : ℕ) (slicer : Held) (slices : slicer.offset ≡ offset) (x z : ℤ) (stored : z ≡ x) (s : Stretch) where
   -- the bits, which are those before and the bit that the slicer gives, if it gives one

@@ -1,15 +1,13 @@
 -- The last seven of samples, the windows that follow them, and the last seven of more samples.
-use Rattle.std.proofs.Common.{◌≡◌, ℕ, ◌+◌, ◌-◌, ◌*◌, ◌<◌, ◌≤◌, ℤ, pos, List, [], ◌∷◌, ◌++◌, length, take, drop}
-use Rattle.std.proofs.Common.{ap, sym, ◌∙◌, arith, append_assoc, length-append, length-drop}
+use Rattle.slicer_bank.proofs.Common.{◌≡◌, ℕ, ◌+◌, ◌-◌, ◌*◌, ◌<◌, ◌≤◌, ℤ, pos, List, [], ◌∷◌, ◌++◌, length, take, drop}
+use Rattle.slicer_bank.proofs.Common.{ap, sym, ◌∙◌, arith, append_assoc, length-append, length-drop, drop-append-add}
+use Rattle.slicer_bank.proofs.Common.{take-append_seam, drop-append-le, drop-drop, take_all, length-take-le}
+use Rattle.slicer_bank.proofs.Common.{length-replicate, length_push, tone_of, window_at, windows_in, tones_at, silence}
+use Rattle.slicer_bank.proofs.Common.{last_seven}
 use borrow.Rule.Slice.PartMut.{put_mid}
-use Rattle.std.proofs.Math.Seq.{drop-append-add, take-append_seam}
 use Rattle.std.proofs.lemmas.Slice.{take-put_mid}
-use Rattle.std.proofs.lemmas.List.{drop-append-le, drop-drop, drop-take, take_all, length-take-le}
-use Rattle.std.proofs.lemmas.List.{length-replicate, length_push}
-use Rattle.offset_slicers.specs.Decision.{tone_of}
-use Rattle.offset_slicers.specs.Windows.{window_at, windows_in, tones_at}
+use Rattle.std.proofs.lemmas.List.{drop-take}
 use Rattle.offset_slicers.proofs.SlicerLemmas.{tones_at-push_one}
-use Rattle.slicer_bank.specs.Held.{silence, last_seven}
 
 -- they are those of the last seven and what follows
 pub last_seven-append : (x y : List ℤ) → last_seven (x ++ y) ≡ drop (length y) (last_seven x ++ y)

@@ -1,13 +1,8 @@
 -- Samples have a list of candidates: it is found sample by sample.
-use Rattle.std.proofs.Common.{ℕ, ◌+◌, ◌-◌, ◌/◌, ◌%◌, ◌<◌, ◌≤◌, ℤ, List, [], ◌∷◌, ◌++◌, length, inl, inr, refl, subst}
-use Rattle.std.proofs.Common.{sym, arith, append_assoc}
-use Rattle.std.proofs.lemmas.Bool.{cases_lt}
-use Rattle.std.proofs.lemmas.List.{append-nil, length_push}
-use Rattle.offset_slicers.specs.Windows.{bits, EndsWindow}
+use Rattle.slicer_bank.proofs.Common.{ℕ, ◌+◌, ◌-◌, ◌/◌, ◌%◌, ◌<◌, ◌≤◌, ℤ, List, [], ◌∷◌, ◌++◌, length, inl, inr, refl}
+use Rattle.slicer_bank.proofs.Common.{subst, sym, arith, append_assoc, cases_lt, append-nil, length_push, bits}
+use Rattle.slicer_bank.proofs.Common.{EndsWindow, Candidate, AreCandidates, candidate_at}
 use Rattle.hdlc_framer.proofs.FrameEnds.{one_frame}
-use Rattle.frame_merge.specs.declared.candidate.Candidate.{Candidate}
-use Rattle.slicer_bank.specs.Candidates.{AreCandidates}
-use Rattle.slicer_bank.specs.Heard.{candidate_at}
 use Rattle.slicer_bank.proofs.CandidateLemmas.{candidates_none, candidates_join}
 use Rattle.slicer_bank.proofs.HeardLemmas.{HearsMore, adds_nothing, adds_one, lane_hears, nothing_heard}
 use Rattle.slicer_bank.proofs.FrameDecided.{frame_or_none}

@@ -1,27 +1,13 @@
 -- Stretches of answers, and what is heard in them: with one answer more, with many, and up to where.
-use Rattle.std.proofs.Common.{◌≡◌, ℕ, ◌+◌, ◌-◌, ◌^◌, ◌<◌, ◌≤◌, ℤ, List, [], ◌∷◌, ◌++◌, ◌⊎◌, ⊎_elim, inl, inr, refl, ap}
-use Rattle.std.proofs.Common.{sym, ◌∙◌, arith, subst, length, zero, suc, append_assoc}
-use Rattle.std.specs.Prelude.{fold}
-use Rattle.std.specs.List.{Contains}
-use Rattle.std.proofs.lemmas.Bool.{cases_lt}
-use Rattle.std.proofs.lemmas.List.{append-nil, nil_from_length, length_push}
-use Rattle.std.proofs.lemmas.List.Sums.{fold-append}
-use Rattle.std.proofs.lemmas.List.Elements.{Contains-append_left, Contains-append_right, Contains-append_cases}
-use Rattle.offset_slicers.specs.Windows.{windows_in}
-use Rattle.offset_slicers.specs.Held.{offset_from}
-use Rattle.offset_slicers.proofs.WindowLemmas.{length-bits}
-use Rattle.sample_ring.specs.declared.got.Got.{Got}
-use Rattle.sample_ring.specs.declared.got.Got.TheVariants.{Item, Gap, Empty, End}
-use Rattle.sample_ring.specs.Ends.{GoesForward}
-use Rattle.sample_ring.specs.Record.{next}
-use Rattle.frame_merge.specs.declared.candidate.Candidate.{Candidate}
-use Rattle.slicer_bank.specs.Candidates.{IsCandidate}
-use Rattle.slicer_bank.specs.HeardOnRing.{EndsInStretch, IsHeardIn}
-use Rattle.slicer_bank.specs.RingJobs.{EndsWithGot}
-use Rattle.slicer_bank.specs.RingTurns.{Leads}
-use Rattle.slicer_bank.specs.Stretches.{Stretch, stretch_at, with_sample, stretches_from, stretch_after, last_stretch}
-use Rattle.slicer_bank.specs.Stretches.{end_of, position_after, stretch_bits}
-use Rattle.slicer_bank.specs.StretchLanes.{EndsLast}
+use Rattle.slicer_bank.proofs.Common.{◌≡◌, ℕ, ◌+◌, ◌-◌, ◌^◌, ◌<◌, ◌≤◌, ℤ, List, [], ◌∷◌, ◌++◌, ◌⊎◌, ⊎_elim, inl, inr}
+use Rattle.slicer_bank.proofs.Common.{refl, ap, sym, ◌∙◌, arith, subst, length, zero, suc, append_assoc, fold, Contains}
+use Rattle.slicer_bank.proofs.Common.{cases_lt, append-nil, nil_from_length, length_push, fold-append}
+use Rattle.slicer_bank.proofs.Common.{Contains-append_left, Contains-append_right, Contains-append_cases, windows_in}
+use Rattle.slicer_bank.proofs.Common.{offset_from, length-bits, Got, Item, Gap, Empty, End, GoesForward, next}
+use Rattle.slicer_bank.proofs.Common.{Candidate, IsCandidate, IsHeardIn, EndsWithGot, Leads, Stretch, with_sample}
+use Rattle.slicer_bank.proofs.Common.{stretch_after, last_stretch, end_of, position_after, stretch_bits, EndsLast}
+use Rattle.slicer_bank.specs.HeardOnRing.{EndsInStretch}
+use Rattle.slicer_bank.specs.Stretches.{stretch_at, stretches_from}
 use Rattle.slicer_bank.proofs.CandidateLemmas.{end_within, candidate_more, candidate_less, ends_with_last}
 use Rattle.slicer_bank.proofs.CandidateLemmas.{candidate_at_last}
 

@@ -1,33 +1,22 @@
 -- A turn of eight lanes: what each of them made of it is what all of them made.
-use Rattle.std.proofs.Common.{◌≡◌, ℕ, zero, suc, ◌+◌, ◌-◌, ◌*◌, ◌/◌, ◌%◌, ◌^◌, ◌<◌, ◌≤◌, ◌↔◌, List, [], ◌∷◌, ◌++◌}
-use Rattle.std.proofs.Common.{⊎_elim, inl, inr, Bool, true, false, ◌&&◌, refl, ap, sym, ◌∙◌, arith, subst, length}
-use Rattle.std.proofs.Common.{get_or, map, take, drop}
-use Rattle.std.specs.List.{All, flat_map, list_all}
-use Rattle.std.specs.List.Sorted.{IsPermutation, IsNonDecreasingBy}
-use Rattle.std.proofs.lemmas.Bool.{cases_lt, false≢true}
-use Rattle.std.proofs.lemmas.List.{length-map, get_or-map, get_or_default, map-append, get_or_append_left, length_push}
-use Rattle.std.proofs.lemmas.List.Elements.{All-nil, All-head, All-tail}
-use Rattle.std.proofs.lemmas.List.Sorted.{Contains-permutation, All-permutation}
-use Rattle.std.proofs.Math.Seq.{get_or-append_seam, take-append_seam}
+use Rattle.slicer_bank.proofs.Common.{◌≡◌, ℕ, zero, suc, ◌+◌, ◌-◌, ◌*◌, ◌/◌, ◌%◌, ◌^◌, ◌<◌, ◌≤◌, List, [], ◌∷◌, ◌++◌}
+use Rattle.slicer_bank.proofs.Common.{⊎_elim, inl, inr, Bool, true, false, ◌&&◌, refl, ap, sym, ◌∙◌, arith, subst}
+use Rattle.slicer_bank.proofs.Common.{length, get_or, map, take, drop, All, flat_map, list_all, IsPermutation}
+use Rattle.slicer_bank.proofs.Common.{IsNonDecreasingBy, cases_lt, false≢true, length-map, get_or-map, get_or_default}
+use Rattle.slicer_bank.proofs.Common.{map-append, get_or_append_left, length_push, All-nil, All-head, All-tail}
+use Rattle.slicer_bank.proofs.Common.{Contains-permutation, All-permutation, get_or-append_seam, take-append_seam}
+use Rattle.slicer_bank.proofs.Common.{flags_asked, Got, Reader, position_of, reads_of, reader_ring, record_of, answer}
+use Rattle.slicer_bank.proofs.Common.{Candidate, LaneGap, RingLane, IsHeardIn, IsHeardOnRing, lane_of, lane_positions}
+use Rattle.slicer_bank.proofs.Common.{CanBePut, MadeTurn, IsAlike, AreHeardPast, IsTaken, AreInPlace, LanesAreReady}
+use Rattle.slicer_bank.proofs.Common.{answers_of, answers_by, readers_of, LaneListens, LanesListen, MeetsEnd, gaps_of}
+use Rattle.slicer_bank.proofs.Common.{AreGrown, IsTurn, Leads, BringsOnRing, AreForward, StretchStandsFor}
+use Rattle.slicer_bank.proofs.Common.{position_after, last_stretch}
+use Rattle.std.proofs.Common.{◌↔◌}
 use Rattle.atomic_table.specs.Seated.{TableId}
-use Rattle.hdlc_framer.specs.Held.{flags_asked}
-use Rattle.sample_ring.specs.declared.got.Got.{Got}
-use Rattle.sample_ring.specs.declared.reader.Reader.{Reader}
 use Rattle.sample_ring.specs.declared.view.Track.{Track}
-use Rattle.sample_ring.specs.Ends.{position_of, reads_of, reader_ring, record_of}
-use Rattle.sample_ring.specs.Record.{answer}
-use Rattle.frame_merge.specs.declared.candidate.Candidate.{Candidate}
-use Rattle.slicer_bank.specs.declared.advance.LaneGap.{LaneGap}
-use Rattle.slicer_bank.specs.declared.ring_lane.RingLane.{RingLane}
-use Rattle.slicer_bank.specs.HeardOnRing.{IsHeardIn, IsHeardOnRing, AreHeardSince, lane_of, lane_positions}
-use Rattle.slicer_bank.specs.Merging.{CanBePut}
-use Rattle.slicer_bank.specs.RingJobs.{MadeTurn, Advanced, IsAlike, AreHeardPast, IsTaken, AreInPlace, LanesStay}
-use Rattle.slicer_bank.specs.RingJobs.{LanesAreReady}
-use Rattle.slicer_bank.specs.RingLanes.{answers_of, answers_by, readers_of, LaneListens, LanesListen}
-use Rattle.slicer_bank.specs.RingTurns.{IsReading, MeetsEnd, gaps_of, gaps_from, AreGrown, AreLonger, IsTurn, Leads}
-use Rattle.slicer_bank.specs.RingTurns.{BringsOnRing, AreForward}
-use Rattle.slicer_bank.specs.StretchLanes.{StretchStandsFor}
-use Rattle.slicer_bank.specs.Stretches.{position_after, last_stretch}
+use Rattle.slicer_bank.specs.HeardOnRing.{AreHeardSince}
+use Rattle.slicer_bank.specs.RingJobs.{Advanced, LanesStay}
+use Rattle.slicer_bank.specs.RingTurns.{IsReading, gaps_from, AreLonger}
 use Rattle.slicer_bank.proofs.GatheringLemmas.{IsOfLane, flat_all, flat_contains, same_list, some_of, stands_in_order}
 use Rattle.slicer_bank.proofs.RingGatheringLemmas.{found_by, gaps_by, ended_by}
 use Rattle.slicer_bank.proofs.StretchLemmas.{heard_within, heard_shorter, leads_up, leads_below, leads_position}

@@ -1,10 +1,7 @@
 -- What messages ask.
-use Rattle.std.specs.Prelude.{◌≡◌, ℕ, List, [], ◌∷◌, ◌++◌, refl}
-use Rattle.std.proofs.Common.{subst}
-use Rattle.agwpe_port.specs.declared.message.AgwMessage.{AgwMessage}
-use Rattle.station.specs.AgwRequests.{AreAnswered, IsAnswered, answering_else, toggled, monitor_toggled, unregistering}
-use Rattle.station.specs.CallFields.{call_in}
-use Rattle.station.specs.Turn.{Turn, changing}
+use Rattle.station.proofs.Common.{◌≡◌, ℕ, List, [], ◌∷◌, ◌++◌, refl, subst, AgwMessage, AreAnswered, call_in, Turn}
+use Rattle.station.proofs.Common.{changing}
+use Rattle.station.specs.AgwRequests.{IsAnswered, answering_else, toggled, monitor_toggled, unregistering}
 
 -- messages one after another, and one more
 pub answered-more : (id : ℕ) (messages : List AgwMessage) (message : AgwMessage) (first between last : Turn)

@@ -1,22 +1,22 @@
 -- The call of a text, as it is defined and as it is parsed.
-use Rattle.std.specs.Prelude.{◌≡◌, ℕ, zero, suc, ◌+◌, ◌<◌, ◌≤◌, ◌==◌, nat_lt, nat_le, Bool, true, false, ◌&&◌, cond}
-use Rattle.std.specs.Prelude.{List, [], ◌∷◌, length, map, take, drop, find, option_map, Option, Some, None, All, refl}
+use Rattle.station.proofs.Common.{◌≡◌, ℕ, zero, suc, ◌+◌, ◌<◌, ◌≤◌, ◌==◌, nat_lt, Bool, true, false, ◌&&◌, cond, List}
+use Rattle.station.proofs.Common.{[], ◌∷◌, length, map, take, drop, find, option_map, Option, Some, None, All, refl}
+use Rattle.station.proofs.Common.{range_with_len, sym, ◌∙◌, ap, subst, arith, get_or, inl, inr, cases_lt, cond-true}
+use Rattle.station.proofs.Common.{cond-false, false≢true, nat_tests, take-append-drop, Callsign, IsCallText}
+use Rattle.std.specs.Prelude.{nat_le}
 use Rattle.std.specs.Char.{to_ascii_uppercase}
-use Rattle.std.specs.List.{list_all, range_with_len}
+use Rattle.std.specs.List.{list_all}
 use Rattle.std.specs.Str.{bytes_eq, IsAscii, IsUtf8}
 use Rattle.std.specs.Fmt.{decimal}
-use Rattle.std.proofs.Common.{sym, ◌∙◌, ap, subst, arith, get_or, inl, inr}
-use Rattle.std.proofs.lemmas.Bool.{cases_lt, cond-true, cond-false, and_from, and_parts, false≢true}
-use Rattle.std.proofs.lemmas.Bool.Decides.{nat_tests}
+use Rattle.std.proofs.lemmas.Bool.{and_from, and_parts}
 use Rattle.std.proofs.lemmas.Fmt.{IsAscii-decimal, decimal_injective}
 use Rattle.std.proofs.lemmas.List.FromFn.{length-range_with_len, get_or-range_with_len}
 use Rattle.station.proofs.Searches.{find_at}
-use Rattle.std.proofs.lemmas.List.{take-append-drop}
 use Rattle.std.proofs.lemmas.List.Sums.{AllPass-from_list_all, list_all-from_AllPass}
 use Rattle.std.proofs.lemmas.Slice.Eq.{bytes_eq-Decides}
 use Rattle.std.proofs.lemmas.Str.{IsAscii-append, IsUtf8-from_ascii}
-use Rattle.ax25_address.specs.Callsign.{Callsign, IsName, IsCallCharacter}
-use Rattle.ax25_address.specs.CallText.{IsCallText, TellsSsid, name_part, ssid_part, ssid_suffix, dash_place}
+use Rattle.ax25_address.specs.Callsign.{IsName, IsCallCharacter}
+use Rattle.ax25_address.specs.CallText.{TellsSsid, name_part, ssid_part, ssid_suffix, dash_place}
 use Rattle.station.specs.CallFields.{is_call_character, is_name, told_ssid, named, call_of_text}
 
 -- ---- names

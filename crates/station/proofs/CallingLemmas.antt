@@ -1,18 +1,11 @@
 -- A call that is made, or refused.
-use Rattle.std.specs.Prelude.{◌≡◌, ℕ, ◌&&◌, Bool, true, false, nat_lt, is_some, is_none, Option, Some, None, MatchBool}
-use Rattle.std.specs.Prelude.{refl}
-use Rattle.std.proofs.Common.{sym, ◌∙◌, ap, subst}
-use Rattle.std.proofs.lemmas.Bool.{false≢true}
-use Rattle.agwpe_port.specs.declared.message.AgwMessage.{AgwMessage}
-use Rattle.agwpe_port.specs.Messages.{spelling}
-use Rattle.station.specs.AgwRequests.{IsCall, IsCallMade, called_pid, may_call, refused_reply, replying}
-use Rattle.station.specs.Links.{key_between, count_of_links, most_links}
-use Rattle.station.specs.Registrations.{is_number, registrar}
-use Rattle.station.specs.Routes.{Route}
-use Rattle.station.specs.StandsFor.{Shows}
-use Rattle.station.specs.State.{StationState}
-use Rattle.station.specs.Turn.{Out, Turn, with_piece}
-use Rattle.station.specs.declared.parts.Parts.{Parts}
+use Rattle.station.proofs.Common.{◌≡◌, ℕ, ◌&&◌, Bool, true, false, nat_lt, is_some, Option, Some, None, MatchBool, refl}
+use Rattle.station.proofs.Common.{sym, ◌∙◌, ap, subst, false≢true, AgwMessage, spelling, IsCallMade, may_call}
+use Rattle.station.proofs.Common.{refused_reply, replying, key_between, count_of_links, most_links, is_number}
+use Rattle.station.proofs.Common.{registrar, Route, Shows, StationState, Out, Turn, Parts}
+use Rattle.std.specs.Prelude.{is_none}
+use Rattle.station.specs.AgwRequests.{IsCall, called_pid}
+use Rattle.station.specs.Turn.{with_piece}
 
 none_there : (key : Option ℕ) → is_some key ≡ true → is_none key ≡ false
 none_there None h = absurd (false≢true h)

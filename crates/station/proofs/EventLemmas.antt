@@ -1,18 +1,10 @@
 -- A station after an event of one of its links.
-use Rattle.std.specs.Prelude.{◌≡◌, ◌≢◌, ℕ, zero, suc, ◌<◌, Bool, true, false, List, [], ◌∷◌, length, cond, Option, Some}
-use Rattle.std.specs.Prelude.{None, IfSome, refl}
-use Rattle.std.specs.List.{AllZip}
-use Rattle.std.proofs.Common.{sym, ◌∙◌, ap, subst, arith, get_or, set}
-use Rattle.std.proofs.lemmas.List.{get_or-set_same, get_or-set_other, length-set}
-use Rattle.link_machine.specs.Machine.{Machine}
-use Rattle.station.specs.declared.owned_link.OwnedLink.{OwnedLink}
-use Rattle.station.specs.declared.parts.Parts.{Parts}
-use Rattle.station.specs.HeldLinks.{HeldLinks}
-use Rattle.station.specs.LinkEvents.{is_idle, settled_link, with_links}
-use Rattle.station.specs.Links.{Link, Links, link_at, with_link, without_link}
-use Rattle.station.specs.StandsFor.{StandsForPlace, StandsForLinks, IsFreed, Shows}
-use Rattle.station.specs.TableSteps.{HasAt, IsSetAt, settled_at}
-use Rattle.station.specs.Turn.{Out, Turn, changing}
+use Rattle.station.proofs.Common.{◌≡◌, ◌≢◌, ℕ, zero, suc, ◌<◌, Bool, true, false, List, [], ◌∷◌, length, cond, Option}
+use Rattle.station.proofs.Common.{Some, None, IfSome, refl, AllZip, sym, ◌∙◌, ap, subst, arith, get_or, set}
+use Rattle.station.proofs.Common.{get_or-set_same, get_or-set_other, length-set, Machine, OwnedLink, Parts, HeldLinks}
+use Rattle.station.proofs.Common.{is_idle, settled_link, with_links, Link, Links, link_at, with_link, StandsForPlace}
+use Rattle.station.proofs.Common.{StandsForLinks, IsFreed, Shows, HasAt, IsSetAt, settled_at, Out, Turn, changing}
+use Rattle.station.specs.Links.{without_link}
 use Rattle.station.proofs.Places.{within_slots}
 use Rattle.station.proofs.Standing.{AllZip-length}
 

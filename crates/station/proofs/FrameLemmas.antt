@@ -1,17 +1,13 @@
 -- The octets that are written for a frame are its spelling.
-use Rattle.std.specs.Prelude.{◌≡◌, ℕ, suc, ◌+◌, ◌*◌, ◌<◌, ◌-◌, ◌==◌, false, List, [], ◌∷◌, ◌++◌, length, take, drop}
-use Rattle.std.specs.Prelude.{refl}
-use Rattle.std.proofs.Common.{sym, ◌∙◌, ap, arith, get_or, eqb}
+use Rattle.station.proofs.Common.{◌≡◌, ℕ, suc, ◌+◌, ◌*◌, ◌<◌, ◌-◌, ◌==◌, false, List, [], ◌∷◌, ◌++◌, length, take, drop}
+use Rattle.station.proofs.Common.{refl, sym, ◌∙◌, ap, arith, get_or, eqb, take-append-drop, take_all, drop-drop}
+use Rattle.station.proofs.Common.{length-drop, Path, Frame, Modulus, IsWrittenFrame, frame_octets}
 use Rattle.std.proofs.Math.Dec.{eqb-suc-suc, eqb-zero-suc}
-use Rattle.std.proofs.lemmas.List.{take-append-drop, take_all, drop-drop, length-drop}
 use Rattle.ax25_address.specs.AddressField.{field_octets}
 use Rattle.ax25_address.specs.FramePath.{destination_bit, source_bit, repeater_count, IsWrittenPath}
-use Rattle.ax25_address.specs.declared.path.Path.{Path}
 use Rattle.ax25_address.specs.declared.path.Hop.{Hop}
-use Rattle.ax25_frames.specs.declared.frame.Frame.{Frame}
-use Rattle.ax25_frames.specs.declared.frame.Modulus.{Modulus}
-use Rattle.ax25_frames.specs.FrameOctets.{body_octets, IsWrittenFrame}
-use Rattle.station.specs.FrameSpelling.{repeater_fields, path_octets, frame_octets}
+use Rattle.ax25_frames.specs.FrameOctets.{body_octets}
+use Rattle.station.specs.FrameSpelling.{repeater_fields, path_octets}
 
 no_octets : (octets : List ℕ) → length octets ≡ 0 → octets ≡ []
 no_octets [] none = refl

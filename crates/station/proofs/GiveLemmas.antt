@@ -1,12 +1,7 @@
 -- Data of a host, packet by packet.
-use Rattle.std.specs.Prelude.{◌≡◌, ℕ, ◌+◌, List, [], ◌∷◌, map}
-use Rattle.std.specs.List.{range_with_len}
-use Rattle.std.proofs.Common.{◌∙◌, ap, arith}
-use Rattle.std.proofs.lemmas.List.{map-append}
-use Rattle.std.proofs.lemmas.List.FromFn.{map-range_with_len_more}
-use Rattle.selective_reject.specs.declared.packet.Packet.{Packet}
-use Rattle.station.specs.AgwRequests.{packet_at, giving_packet, giving_packets}
-use Rattle.station.specs.Turn.{Turn, in_order}
+use Rattle.station.proofs.Common.{◌≡◌, ℕ, ◌+◌, List, [], ◌∷◌, map, range_with_len, ◌∙◌, ap, arith, map-append}
+use Rattle.station.proofs.Common.{map-range_with_len_more, Packet, giving_packet, giving_packets, Turn, in_order}
+use Rattle.station.specs.AgwRequests.{packet_at}
 use Rattle.station.proofs.TurnLemmas.{in_order-append}
 
 -- the first packets of octets

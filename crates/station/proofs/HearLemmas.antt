@@ -1,25 +1,13 @@
 -- A frame that is heard by a link, or by none.
-use Rattle.std.specs.Prelude.{◌≡◌, ℕ, ◌+◌, true, false, ◌&&◌, List, [], ◌∷◌, count_by, is_some, cond, position, Option}
-use Rattle.std.specs.Prelude.{Some, None, MatchBool, refl}
-use Rattle.std.specs.List.{AllZip}
-use Rattle.std.proofs.Common.{sym, ◌∙◌, ap, subst}
+use Rattle.station.proofs.Common.{◌≡◌, ℕ, ◌+◌, true, false, ◌&&◌, List, [], ◌∷◌, count_by, is_some, cond, position}
+use Rattle.station.proofs.Common.{Option, Some, None, MatchBool, refl, AllZip, sym, ◌∙◌, ap, subst, Callsign}
+use Rattle.station.proofs.Common.{is_same_call, way_back, Command, Frame, modulus_named, Hear, OwnedLink, may_make}
+use Rattle.station.proofs.Common.{HeldLinks, is_held_between, event_at, held_modulus, Link, Links, IsNewKey}
+use Rattle.station.proofs.Common.{key_between, count_of_links, link_modulus, making, no_layer_3, StandsForPlace}
+use Rattle.station.proofs.Common.{StandsForLinks, Turn}
 use Rattle.std.proofs.lemmas.List.Sums.{sum_by-cons}
-use Rattle.ax25_address.specs.Callsign.{Callsign}
-use Rattle.ax25_address.specs.SameCall.{is_same_call}
-use Rattle.ax25_address.specs.FramePath.{way_back}
-use Rattle.ax25_address.specs.declared.path.Role.TheVariants.{Command}
-use Rattle.ax25_frames.specs.declared.frame.Frame.{Frame}
-use Rattle.link_machine.specs.Machine.{modulus_named}
-use Rattle.link_machine.specs.Event.Event.{Hear}
-use Rattle.station.specs.declared.owned_link.OwnedLink.{OwnedLink}
-use Rattle.station.specs.Heard.{IsHeardAnew, may_make}
-use Rattle.station.specs.HeldLinks.{HeldLinks, is_held_between}
-use Rattle.station.specs.LinkEvents.{event_at}
-use Rattle.station.specs.LinkRequests.{held_modulus}
-use Rattle.station.specs.Links.{Link, Links, IsNewKey, is_between, key_between, count_of_links, link_modulus}
-use Rattle.station.specs.NewLinks.{making, no_layer_3}
-use Rattle.station.specs.StandsFor.{StandsForPlace, StandsForLinks}
-use Rattle.station.specs.Turn.{Turn}
+use Rattle.station.specs.Heard.{IsHeardAnew}
+use Rattle.station.specs.Links.{is_between}
 use Rattle.station.proofs.Searches.{position-AllZip}
 use Rattle.station.proofs.Standing.{AllZip-length}
 

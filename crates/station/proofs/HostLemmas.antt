@@ -1,7 +1,7 @@
 -- An event that is admitted.
-use Rattle.station.specs.declared.host_event.HostEvent.{HostEvent}
+use Rattle.station.proofs.Common.{HostEvent, Held, JoinsAnew}
 use Rattle.station.specs.declared.host_event.HostEvent.TheVariants.{Joined, Bytes, Left}
-use Rattle.station.specs.Held.{Held, IsAdmitted, JoinsAnew}
+use Rattle.station.specs.Held.{IsAdmitted}
 
 -- joins under a new id
 pub admitted_anew : (event : HostEvent) (held : Held) → IsAdmitted event held → JoinsAnew event held.parts

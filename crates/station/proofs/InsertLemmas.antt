@@ -1,22 +1,12 @@
 -- A table of links in which one is put into a vacant place.
-use Rattle.std.specs.Prelude.{◌≡◌, ◌≢◌, ℕ, ◌+◌, ◌<◌, count_by, is_some, Option, Some, None, IfSome}
-use Rattle.std.specs.List.{AllZip}
-use Rattle.std.proofs.Common.{sym, ◌∙◌, ap, subst, arith, set}
-use Rattle.slab.specs.Slab.{Slab, get, slab_len, Updates}
-use Rattle.ax25_address.specs.Callsign.{Callsign}
-use Rattle.ax25_address.specs.declared.path.Path.{Path}
-use Rattle.station.specs.declared.owned_link.OwnedLink.{OwnedLink}
-use Rattle.station.specs.declared.parts.Parts.{Parts}
-use Rattle.station.specs.HeldLinks.{HeldLinks, places_of, IsTable}
-use Rattle.station.specs.Links.{Link, Links, IsNewKey, link_at}
-use Rattle.station.specs.NewLinks.{idle_link, making}
-use Rattle.station.specs.StandsFor.{StandsForLink, StandsForPlace, IsFreed, Shows}
-use Rattle.station.specs.TableSteps.{place_at}
-use Rattle.station.specs.Turn.{Out, Turn}
+use Rattle.station.proofs.Common.{◌≡◌, ◌≢◌, ℕ, ◌+◌, ◌<◌, count_by, is_some, Option, Some, None, IfSome, AllZip, sym}
+use Rattle.station.proofs.Common.{◌∙◌, ap, subst, arith, set, Slab, get, slab_len, Updates, Callsign, Path, OwnedLink}
+use Rattle.station.proofs.Common.{Parts, HeldLinks, places_of, IsTable, Link, Links, IsNewKey, link_at, making}
+use Rattle.station.proofs.Common.{StandsForLink, StandsForPlace, IsFreed, Shows, place_at, Out, Turn, length-set}
+use Rattle.station.specs.NewLinks.{idle_link}
 use Rattle.station.proofs.EventLemmas.{places-at, AllZip-set}
 use Rattle.station.proofs.Places.{length-places_of, place-places_of, places_of-set}
 use Rattle.station.proofs.TableLemmas.{count_set}
-use Rattle.std.proofs.lemmas.List.{length-set}
 
 -- the places then
 pub places-inserted : (old new : Slab OwnedLink) (key : ℕ) (value : OwnedLink) → IsTable old → key < new.capacity

@@ -1,20 +1,11 @@
 -- Connections that join, and their ids.
-use Rattle.std.specs.Prelude.{◌≡◌, ◌≢◌, ℕ, zero, suc, ◌<◌, ◌==◌, not, false, List, [], ◌∷◌, ◌++◌, length, map, filter}
-use Rattle.std.specs.Prelude.{All, AllPairs, refl}
-use Rattle.std.specs.List.{AllZip}
-use Rattle.std.proofs.Common.{sym, ◌∙◌, ap, subst, arith, get_or, append-nil}
-use Rattle.std.proofs.lemmas.Bool.{cond-true, cond-false}
-use Rattle.std.proofs.lemmas.Bool.Decides.{nat_tests}
-use Rattle.std.proofs.lemmas.List.Elements.{filter-append}
+use Rattle.station.proofs.Common.{◌≡◌, ◌≢◌, ℕ, zero, suc, ◌<◌, ◌==◌, not, false, List, [], ◌∷◌, ◌++◌, length, map}
+use Rattle.station.proofs.Common.{filter, All, AllPairs, refl, AllZip, sym, ◌∙◌, ap, subst, arith, get_or, append-nil}
+use Rattle.station.proofs.Common.{cond-true, cond-false, nat_tests, filter-append, PortKind, Parts, Connection}
+use Rattle.station.proofs.Common.{new_connection, ids_in, without_ids, with_host, StandsForConnection, HasOtherId}
+use Rattle.station.proofs.Common.{Reads, Shows, Out, Turn}
 use Rattle.std.proofs.lemmas.List.Quantifiers.{all_pairs_push}
 use Rattle.station.specs.declared.connection.Connection.{Connection as HeldConnection}
-use Rattle.station.specs.declared.host_event.PortKind.{PortKind}
-use Rattle.station.specs.declared.parts.Parts.{Parts}
-use Rattle.station.specs.Connections.{Connection, new_connection}
-use Rattle.station.specs.Held.{ids_in, without_ids}
-use Rattle.station.specs.Host.{with_host}
-use Rattle.station.specs.StandsFor.{StandsForConnection, HasOtherId, Reads, Shows}
-use Rattle.station.specs.Turn.{Out, Turn}
 
 -- one more on both sides
 pub AllZip-more : {A B : Type 0} (R : A → B → Type 0) (xs : List A) (ys : List B) (a : A) (b : B) → AllZip R xs ys

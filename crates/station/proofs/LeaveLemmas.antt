@@ -1,26 +1,16 @@
 -- A connection that leaves.
-use Rattle.std.specs.Prelude.{◌≡◌, ℕ, ◌==◌, not, Bool, true, false, List, [], ◌∷◌, map, filter, cond, Option, Some}
-use Rattle.std.specs.Prelude.{None, refl}
-use Rattle.std.specs.List.{AllZip, range_with_len}
-use Rattle.std.proofs.Common.{sym, ◌∙◌, ap, subst, set}
-use Rattle.std.proofs.lemmas.Bool.{cond-true, cond-false, false≢true}
-use Rattle.std.proofs.lemmas.List.{length-set}
+use Rattle.station.proofs.Common.{◌≡◌, ℕ, ◌==◌, not, Bool, true, false, List, [], ◌∷◌, map, filter, cond, Option, Some}
+use Rattle.station.proofs.Common.{None, refl, AllZip, range_with_len, sym, ◌∙◌, ap, subst, set, cond-true, cond-false}
+use Rattle.station.proofs.Common.{false≢true, length-set, Disconnect, OwnedLink, Parts, HeldLinks, giving_up}
+use Rattle.station.proofs.Common.{without_owner, event_at, with_links, Link, link_at, most_links, with_link, is_number}
+use Rattle.station.proofs.Common.{StandsForConnection, HasOtherId, StandsForPlace, StandsForLink, StandsForLinks, Shows}
+use Rattle.station.proofs.Common.{IsSetAt, Out, Turn, in_order, changing}
 use Rattle.std.proofs.lemmas.List.Kept.{AllPairs-filter}
 use Rattle.channel_access.specs.StandsFor.{StandsFor as StandsForChannel}
-use Rattle.link_machine.specs.Event.Event.{Disconnect}
 use Rattle.station.specs.declared.connection.Connection.{Connection as HeldConnection}
 use Rattle.station.specs.Connections.{without_connection}
-use Rattle.station.specs.declared.owned_link.OwnedLink.{OwnedLink}
-use Rattle.station.specs.declared.parts.Parts.{Parts}
-use Rattle.station.specs.HeldLinks.{HeldLinks}
-use Rattle.station.specs.Leaving.{without_host, giving_up, giving_up_all, giving_up_link, without_owner}
-use Rattle.station.specs.LinkEvents.{event_at, with_links}
-use Rattle.station.specs.Links.{Link, link_at, most_links, with_link}
-use Rattle.station.specs.Registrations.{is_number, without_registrations}
-use Rattle.station.specs.StandsFor.{StandsForConnection, HasOtherId, StandsForPlace, StandsForLink, StandsForLinks}
-use Rattle.station.specs.StandsFor.{Shows}
-use Rattle.station.specs.TableSteps.{IsSetAt}
-use Rattle.station.specs.Turn.{Out, Turn, in_order, changing}
+use Rattle.station.specs.Leaving.{without_host, giving_up_all, giving_up_link}
+use Rattle.station.specs.Registrations.{without_registrations}
 use Rattle.station.proofs.EventLemmas.{AllZip-set, freed-kept}
 
 -- the links of all keys

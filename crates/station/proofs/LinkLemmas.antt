@@ -1,23 +1,17 @@
 -- What a link makes of a refusal.
-use Rattle.std.specs.Prelude.{◌≡◌, Bool, true, false, length, Some, Result, Ok, Err, IfOk, IfErr, OnOk, OnErr, is_some}
-use Rattle.std.specs.Prelude.{◌⊎◌, refl}
-use Rattle.std.proofs.Common.{sym, ◌∙◌, ap, subst, cond, inl, inr}
-use Rattle.std.proofs.lemmas.Bool.{false≢true}
-use Rattle.tnc_base.specs.declared.fault.OutOfMemory.{OutOfMemory}
+use Rattle.station.proofs.Common.{◌≡◌, Bool, true, false, length, Some, Result, Ok, Err, IfOk, OnOk, is_some, ◌⊎◌, refl}
+use Rattle.station.proofs.Common.{sym, ◌∙◌, ap, subst, inl, inr, false≢true, OutOfMemory, Done, Event, Machine, step}
+use Rattle.station.proofs.Common.{done_of, OwnedLink, stepped_link, Link, StandsForLink}
+use Rattle.std.specs.Prelude.{IfErr, OnErr}
+use Rattle.std.proofs.Common.{cond}
 use Rattle.link_machine.specs.declared.fault.LinkFault.{LinkFault}
 use Rattle.link_machine.specs.declared.fault.LinkFault.TheVariants.{WrongState, Full, TooLong, Memory}
 use Rattle.link_machine.specs.declared.machine.Machine.{Machine as Held}
-use Rattle.link_machine.specs.Done.{Done}
-use Rattle.link_machine.specs.Event.{Event}
-use Rattle.link_machine.specs.Machine.{Machine}
 use Rattle.link_machine.specs.Requests.{refusal}
-use Rattle.link_machine.specs.Step.{step, done_of, refusal_of, settled, row}
+use Rattle.link_machine.specs.Step.{refusal_of, settled, row}
 use Rattle.link_machine.specs.Turn.{Turn, begin}
 use Rattle.link_machine.specs.StandsFor.{StandsFor}
-use Rattle.station.specs.declared.owned_link.OwnedLink.{OwnedLink}
-use Rattle.station.specs.LinkRequests.{nothing_done, stepped_link, Passes}
-use Rattle.station.specs.Links.{Link}
-use Rattle.station.specs.StandsFor.{StandsForLink}
+use Rattle.station.specs.LinkRequests.{nothing_done, Passes}
 
 -- a request that is refused changes nothing
 pub refused_step : (held : Held) (m : Machine) (event : Event) (fault : LinkFault) → StandsFor held m

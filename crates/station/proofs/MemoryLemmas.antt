@@ -1,7 +1,5 @@
 -- What a growth answered, once the memory was told of it.
-use Rattle.std.specs.Prelude.{◌≡◌, Result, Ok, Err, IfOk, OnOk}
-use Rattle.std.proofs.Common.{subst}
-use Rattle.tnc_base.specs.declared.fault.OutOfMemory.{OutOfMemory}
+use Rattle.station.proofs.Common.{◌≡◌, Result, Ok, Err, IfOk, OnOk, subst, OutOfMemory}
 
 -- what holds of a good answer holds of its value
 pub if_took : {A E : Type 0} (P : A → Type 0) (answer : Result A E) (value : A) → answer ≡ Ok value → IfOk answer P

@@ -1,15 +1,10 @@
 -- What is shown to hosts that monitor, connection by connection.
-use Rattle.std.specs.Prelude.{◌≡◌, ℕ, ◌+◌, ◌<◌, Bool, true, false, List, [], ◌∷◌, ◌++◌, length, map, filter, take, cond}
-use Rattle.std.proofs.Common.{sym, ◌∙◌, ap, subst, get_or, append-nil, append_assoc}
-use Rattle.std.proofs.lemmas.List.{take_more, map-append}
-use Rattle.std.proofs.lemmas.List.Elements.{filter-append}
+use Rattle.station.proofs.Common.{◌≡◌, ℕ, ◌+◌, ◌<◌, Bool, true, false, List, [], ◌∷◌, ◌++◌, length, map, filter, take}
+use Rattle.station.proofs.Common.{cond, sym, ◌∙◌, ap, subst, get_or, append-nil, append_assoc, take_more, map-append}
+use Rattle.station.proofs.Common.{filter-append, Parts, Connection, to_monitors, Shows, StandsForConnection, Out, Turn}
 use Rattle.station.specs.declared.connection.Connection.{Connection as HeldConnection}
 use Rattle.station.specs.declared.host_out.Piece.{Piece}
-use Rattle.station.specs.declared.parts.Parts.{Parts}
-use Rattle.station.specs.Connections.{Connection}
-use Rattle.station.specs.Monitoring.{piece_for, to_monitors}
-use Rattle.station.specs.StandsFor.{Shows, StandsForConnection}
-use Rattle.station.specs.Turn.{Out, Turn}
+use Rattle.station.specs.Monitoring.{piece_for}
 
 -- a turn with more pieces
 abbrev pub with_pieces : List Piece → Turn → Turn

@@ -1,14 +1,8 @@
 -- The link that a connection speaks of.
-use Rattle.std.specs.Prelude.{◌≡◌, ℕ, false, Option, Some, None, refl}
-use Rattle.std.proofs.Common.{sym, ap, subst}
-use Rattle.station.specs.declared.owned_link.OwnedLink.{OwnedLink}
+use Rattle.station.proofs.Common.{◌≡◌, ℕ, false, Option, Some, None, refl, sym, ap, subst, OwnedLink, HeldLinks, Link}
+use Rattle.station.proofs.Common.{Links, link_at, is_number, StandsForPlace, StandsForLinks, place_at}
 use Rattle.station.specs.AgwRequests.{data_pid, is_owner}
-use Rattle.station.specs.HeldLinks.{HeldLinks}
-use Rattle.station.specs.Links.{Link, Links, link_at}
 use Rattle.station.specs.NewLinks.{pid_or}
-use Rattle.station.specs.Registrations.{is_number}
-use Rattle.station.specs.StandsFor.{StandsForPlace, StandsForLinks}
-use Rattle.station.specs.TableSteps.{place_at}
 use Rattle.station.proofs.EventLemmas.{places-at}
 
 -- what is at a key stands for the link there

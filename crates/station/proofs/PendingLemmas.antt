@@ -1,10 +1,6 @@
 -- The packets that a link holds.
-use Rattle.std.specs.Prelude.{◌≡◌, length, Option, Some, None, refl}
-use Rattle.std.proofs.Common.{ap}
-use Rattle.station.specs.declared.owned_link.OwnedLink.{OwnedLink}
+use Rattle.station.proofs.Common.{◌≡◌, length, Option, Some, None, refl, ap, OwnedLink, Link, StandsForPlace}
 use Rattle.station.specs.AgwRequests.{packets_held}
-use Rattle.station.specs.Links.{Link}
-use Rattle.station.specs.StandsFor.{StandsForPlace}
 
 pub held_some : (held : OwnedLink) (place : Option Link) → StandsForPlace (Some held) place
     → length held.machine.outgoing.packets ≡ packets_held place

@@ -1,12 +1,9 @@
 -- The 64 places of a slab of links.
-use Rattle.std.specs.Prelude.{◌≡◌, ◌≢◌, ℕ, ◌<◌, List, [], ◌∷◌, zero, suc, length, All, Option, Some, None}
-use Rattle.std.proofs.Common.{sym, ◌∙◌, ap, subst, arith, get_or, set, inl, inr}
+use Rattle.station.proofs.Common.{◌≡◌, ◌≢◌, ℕ, ◌<◌, List, [], ◌∷◌, zero, suc, length, All, Option, Some, None, sym, ◌∙◌}
+use Rattle.station.proofs.Common.{ap, subst, arith, get_or, set, inl, inr, get_or-set_same, get_or-set_other}
+use Rattle.station.proofs.Common.{length-set, Slab, get, OwnedLink, places_of}
 use Rattle.std.proofs.lemmas.List.FromFn.{length-map-range_with_len, get_or-map-range_with_len, fill_by_all}
 use Rattle.std.proofs.lemmas.Bool.{cases_eq}
-use Rattle.std.proofs.lemmas.List.{get_or-set_same, get_or-set_other, length-set}
-use Rattle.slab.specs.Slab.{Slab, get}
-use Rattle.station.specs.declared.owned_link.OwnedLink.{OwnedLink}
-use Rattle.station.specs.HeldLinks.{places_of}
 
 -- there are 64
 pub length-places_of : (slab : Slab OwnedLink) → length (places_of slab) ≡ 64

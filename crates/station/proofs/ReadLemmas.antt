@@ -1,15 +1,10 @@
 -- Octets that cannot be read are no frame.
-use Rattle.std.specs.Prelude.{◌≡◌, ◌⊎◌, Bool, true, false, List, ℕ, Option, None, Result, Ok, Err, IfOk, refl}
-use Rattle.std.proofs.Common.{sym, ◌∙◌, ap, subst, inl, inr}
-use Rattle.std.proofs.lemmas.Bool.{false≢true}
-use Rattle.tnc_base.specs.declared.fault.OutOfMemory.{OutOfMemory}
+use Rattle.station.proofs.Common.{◌≡◌, ◌⊎◌, Bool, true, false, List, ℕ, Option, None, Result, Ok, Err, IfOk, refl, sym}
+use Rattle.station.proofs.Common.{◌∙◌, ap, subst, inl, inr, false≢true, OutOfMemory, Frame, Modulus, IsReadAs}
 use Rattle.ax25_frames.specs.declared.fault.FrameFault.{FrameFault}
 use Rattle.ax25_frames.specs.declared.fault.FrameFault.TheVariants.{Address, NoControl, NoPid, UnknownControl}
 use Rattle.ax25_frames.specs.declared.fault.FrameFault.TheVariants.{InfoTooLong, StrayInfo, Memory}
-use Rattle.ax25_frames.specs.declared.frame.Frame.{Frame}
-use Rattle.ax25_frames.specs.declared.frame.Modulus.{Modulus}
 use Rattle.ax25_frames.specs.FrameOctets.{IsFrame}
-use Rattle.station.specs.Heard.{IsReadAs}
 use Rattle.station.specs.HeldFrames.{IsUnread}
 
 is_memory : Result Frame FrameFault → Bool

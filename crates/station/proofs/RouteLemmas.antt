@@ -1,11 +1,7 @@
 -- The calls of a list of repeaters, one after another.
-use Rattle.std.specs.Prelude.{◌≡◌, ℕ, suc, ◌+◌, ◌-◌, ◌*◌, ◌<◌, List, [], ◌∷◌, ◌++◌, take, drop, Option, Some, None}
-use Rattle.std.specs.Prelude.{refl}
-use Rattle.std.proofs.Common.{sym, ◌∙◌, ap, arith, append_assoc}
-use Rattle.std.proofs.lemmas.List.{drop-drop}
-use Rattle.ax25_address.specs.Callsign.{Callsign}
-use Rattle.station.specs.CallFields.{call_in}
-use Rattle.station.specs.Routes.{before_calls, calls_in}
+use Rattle.station.proofs.Common.{◌≡◌, ℕ, suc, ◌+◌, ◌-◌, ◌*◌, ◌<◌, List, [], ◌∷◌, ◌++◌, take, drop, Option, Some, None}
+use Rattle.station.proofs.Common.{refl, sym, ◌∙◌, ap, arith, append_assoc, drop-drop, Callsign, call_in, calls_in}
+use Rattle.station.specs.Routes.{before_calls}
 
 -- calls that are read, before what the rest gives
 abbrev pub before_rest : List Callsign → Option (List Callsign) → Option (List Callsign)

@@ -1,11 +1,8 @@
 -- The first place, or the first item, that passes a test.
-use Rattle.std.specs.Prelude.{◌≡◌, ℕ, zero, suc, ◌+◌, ◌<◌, Bool, true, false, not, List, [], ◌∷◌, length, nat_lt, cond}
-use Rattle.std.specs.Prelude.{position, find, Some, None, refl}
-use Rattle.std.specs.List.{AllZip, position_or_len}
-use Rattle.std.proofs.Common.{◌∙◌, ap, arith, get_or}
-use Rattle.std.proofs.lemmas.Bool.{cond-true, cond-false}
-use Rattle.std.proofs.lemmas.Bool.Decides.{nat_tests}
-use Rattle.std.proofs.lemmas.List.Sums.{position_or_len_is}
+use Rattle.station.proofs.Common.{◌≡◌, ℕ, zero, suc, ◌+◌, ◌<◌, Bool, true, false, not, List, [], ◌∷◌, length, nat_lt}
+use Rattle.station.proofs.Common.{cond, position, find, Some, None, refl, AllZip, ◌∙◌, ap, arith, get_or, cond-true}
+use Rattle.station.proofs.Common.{cond-false, nat_tests, position_or_len_is}
+use Rattle.std.specs.List.{position_or_len}
 
 -- a place that passes, if none before it does
 pub position_is : {X : Type 0} (p : X → Bool) (xs : List X) (k : ℕ) (d : X) → k < length xs

@@ -1,23 +1,14 @@
 -- A station after what it shows to a connection.
-use Rattle.std.specs.Prelude.{◌≡◌, ℕ, List, [], ◌∷◌, map, Option, Some, false, refl}
-use Rattle.std.proofs.Common.{◌∙◌, ap, subst}
-use Rattle.ax25_address.specs.declared.path.Path.{Path}
-use Rattle.ax25_frames.specs.declared.frame.Frame.{Frame}
+use Rattle.station.proofs.Common.{◌≡◌, ℕ, List, [], ◌∷◌, map, Option, Some, false, refl, ◌∙◌, ap, subst, Path, Frame}
+use Rattle.station.proofs.Common.{PortKind, Kiss, Agw, Parts, Connection, IsReadAs, showing, showing_to, shown_to_hosts}
+use Rattle.station.proofs.Common.{monitoring, StationState, Reads, Shows, StandsForConnection, Out, Turn, in_order}
 use Rattle.agwpe_port.specs.CallField.{call_field}
 use Rattle.station.specs.declared.connection.Connection.{Connection as HeldConnection}
 use Rattle.station.specs.declared.connection.Reader.{Reader}
 use Rattle.station.specs.declared.connection.Reader.TheVariants.{KissReader, AgwReader}
-use Rattle.station.specs.declared.host_event.PortKind.{PortKind}
-use Rattle.station.specs.declared.host_event.PortKind.TheVariants.{Kiss, Agw}
-use Rattle.station.specs.declared.parts.Parts.{Parts}
-use Rattle.station.specs.Connections.{Connection}
-use Rattle.station.specs.Heard.{IsReadAs, showing, showing_to, shown_to_hosts, with_shown}
+use Rattle.station.specs.Heard.{with_shown}
 use Rattle.station.specs.HeldConnections.{kind_of}
 use Rattle.station.specs.Monitored.{heard_modulus}
-use Rattle.station.specs.Monitoring.{monitoring}
-use Rattle.station.specs.State.{StationState}
-use Rattle.station.specs.StandsFor.{Reads, Shows, StandsForConnection}
-use Rattle.station.specs.Turn.{Out, Turn, in_order}
 
 -- a reader reads a stream of its own kind
 pub kind_read : (reader : Reader) (kind : PortKind) (stream : List ℕ) → Reads reader kind stream → kind_of reader ≡ kind

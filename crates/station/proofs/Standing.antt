@@ -1,12 +1,7 @@
 -- What stands for what, place by place.
-use Rattle.std.specs.Prelude.{◌≡◌, ℕ, zero, suc, ◌<◌, ◌≤◌, List, [], ◌∷◌, length, All, Option, Some, None, IfSome}
-use Rattle.std.specs.List.{AllZip}
-use Rattle.std.proofs.Common.{sym, ◌∙◌, ap, subst, arith, get_or}
-use Rattle.station.specs.declared.owned_link.OwnedLink.{OwnedLink}
-use Rattle.station.specs.HasFew.{HasFew}
-use Rattle.station.specs.Links.{Link}
+use Rattle.station.proofs.Common.{◌≡◌, ℕ, zero, suc, ◌<◌, ◌≤◌, List, [], ◌∷◌, length, All, Option, Some, None, IfSome}
+use Rattle.station.proofs.Common.{AllZip, sym, ◌∙◌, ap, subst, arith, get_or, OwnedLink, HasFew, Link, StandsForPlace}
 use Rattle.station.specs.State.{HoldsFew}
-use Rattle.station.specs.StandsFor.{StandsForPlace}
 
 -- items at one place stand in the relation of the lists
 pub AllZip-at : {A B : Type 0} (R : A → B → Type 0) (xs : List A) (ys : List B) (k : ℕ) (d : A) (e : B) → AllZip R xs ys

@@ -1,18 +1,12 @@
 -- What a change of one place makes of a table of links.
-use Rattle.std.specs.Prelude.{◌≡◌, ◌≢◌, ℕ, ◌+◌, ◌<◌, true, false, List, length, count_by, is_some, cond, Option, Some}
-use Rattle.std.specs.Prelude.{None, Result, Ok, Err, OnOk}
-use Rattle.std.proofs.Common.{sym, ◌∙◌, ap, subst, arith, get_or, set, inl, inr}
-use Rattle.std.proofs.lemmas.Bool.{cases_lt, cond-true, cond-false}
-use Rattle.std.proofs.lemmas.List.{get_or-set_same, get_or-set_other, get_or_past}
+use Rattle.station.proofs.Common.{◌≡◌, ◌≢◌, ℕ, ◌+◌, ◌<◌, true, false, List, length, count_by, is_some, cond, Option}
+use Rattle.station.proofs.Common.{Some, None, Result, Ok, Err, OnOk, sym, ◌∙◌, ap, subst, arith, get_or, set, inl, inr}
+use Rattle.station.proofs.Common.{cases_lt, cond-true, cond-false, get_or-set_same, get_or-set_other, Slab, get}
+use Rattle.station.proofs.Common.{slab_len, Updates, OutOfMemory, OwnedLink, HeldLinks, places_of, IsTable, is_idle}
+use Rattle.station.proofs.Common.{Link, StandsForLink, StandsForPlace, place_at, HasAt, IsSetAt, settled_at}
+use Rattle.std.proofs.lemmas.List.{get_or_past}
 use Rattle.std.proofs.lemmas.List.Sums.{sum_by-set}
-use Rattle.slab.specs.Slab.{Slab, get, slab_len, with_value, Updates}
-use Rattle.tnc_base.specs.declared.fault.OutOfMemory.{OutOfMemory}
-use Rattle.station.specs.declared.owned_link.OwnedLink.{OwnedLink}
-use Rattle.station.specs.HeldLinks.{HeldLinks, places_of, IsTable}
-use Rattle.station.specs.LinkEvents.{is_idle}
-use Rattle.station.specs.Links.{Link}
-use Rattle.station.specs.StandsFor.{StandsForLink, StandsForPlace}
-use Rattle.station.specs.TableSteps.{place_at, HasAt, IsSetAt, settled_at}
+use Rattle.slab.specs.Slab.{with_value}
 use Rattle.station.proofs.Places.{length-places_of, place-places_of, within_slots, places_of-set}
 
 -- the table that a slab is seen as

@@ -1,18 +1,15 @@
 -- A connection that is changed, and the station around it.
-use Rattle.std.specs.Prelude.{◌≡◌, ◌≢◌, ℕ, zero, suc, ◌<◌, ◌==◌, Bool, true, false, List, [], ◌∷◌, length, map, cond}
-use Rattle.std.specs.Prelude.{not, All, AllPairs, Some, None, Result, Ok, Err, OnOk, refl}
-use Rattle.std.specs.List.{AllZip}
-use Rattle.std.proofs.Common.{sym, ◌∙◌, ap, subst, arith, get_or, set, inl, inr}
-use Rattle.std.proofs.lemmas.Bool.{cond-true, cond-false, cases_lt, false_from_ne_true, eq-eqb, eqb-true}
+use Rattle.station.proofs.Common.{◌≡◌, ◌≢◌, ℕ, zero, suc, ◌<◌, ◌==◌, Bool, true, false, List, [], ◌∷◌, length, map}
+use Rattle.station.proofs.Common.{cond, not, All, AllPairs, Some, None, Result, Ok, Err, OnOk, refl, AllZip, sym, ◌∙◌}
+use Rattle.station.proofs.Common.{ap, subst, arith, get_or, set, inl, inr, cond-true, cond-false, cases_lt, eq-eqb}
+use Rattle.station.proofs.Common.{eqb-true, Parts, Connection, connection_of, turned_raw, turned_monitor, HeldLinks}
+use Rattle.station.proofs.Common.{StandsForConnection, StandsForLinks, HasOtherId, Shows, StationState, Out, Turn}
+use Rattle.station.proofs.Common.{changing}
+use Rattle.std.proofs.lemmas.Bool.{false_from_ne_true}
 use Rattle.station.specs.declared.connection.Connection.{Connection as HeldConnection}
-use Rattle.station.specs.declared.parts.Parts.{Parts}
-use Rattle.station.specs.Connections.{Connection, connection_of, with_connection, turned_raw, turned_monitor}
+use Rattle.station.specs.Connections.{with_connection}
 use Rattle.channel_access.specs.StandsFor.{StandsFor as StandsForChannel}
 use Rattle.station.specs.HeldConnections.{HasIdAt}
-use Rattle.station.specs.HeldLinks.{HeldLinks}
-use Rattle.station.specs.StandsFor.{StandsForConnection, StandsForLinks, HasOtherId, Shows}
-use Rattle.station.specs.State.{StationState}
-use Rattle.station.specs.Turn.{Out, Turn, changing}
 use Rattle.station.proofs.Searches.{find_at, find_none}
 use Rattle.station.proofs.Standing.{AllZip-at, AllZip-length}
 

@@ -1,22 +1,13 @@
 -- What the octets of a connection do, by what they say.
-use Rattle.std.specs.Prelude.{◌≡◌, ℕ, ◌==◌, Bool, true, false, List, [], ◌∷◌, ◌++◌, cond, is_some, Option, Some, None}
-use Rattle.std.specs.Prelude.{IfSome, refl}
-use Rattle.std.proofs.Common.{sym, ◌∙◌, ap, subst}
-use Rattle.std.proofs.lemmas.Bool.{eqb-true, false≢true}
-use Rattle.agwpe_port.specs.declared.message.AgwMessage.{AgwMessage}
+use Rattle.station.proofs.Common.{◌≡◌, ℕ, ◌==◌, Bool, true, false, List, [], ◌∷◌, ◌++◌, cond, is_some, Option, Some}
+use Rattle.station.proofs.Common.{None, IfSome, refl, sym, ◌∙◌, ap, subst, eqb-true, false≢true, AgwMessage, KissItem}
+use Rattle.station.proofs.Common.{PortKind, Kiss, Agw, Said, Items, Messages, AreAnswered, Connection, connection_of}
+use Rattle.station.proofs.Common.{AreSaidItems, AreSaidMessages, IsSaid, Says, taking, ending, heeding_all, Turn}
+use Rattle.station.proofs.Common.{closing}
 use Rattle.agwpe_port.specs.Messages.{bad_length_in}
-use Rattle.kiss_port.specs.declared.item.KissItem.{KissItem}
-use Rattle.station.specs.declared.host_event.PortKind.{PortKind}
-use Rattle.station.specs.declared.host_event.PortKind.TheVariants.{Kiss, Agw}
-use Rattle.station.specs.declared.reading.Said.{Said}
-use Rattle.station.specs.declared.reading.Said.TheVariants.{Items, Messages}
-use Rattle.station.specs.AgwRequests.{AreAnswered}
-use Rattle.station.specs.Connections.{Connection, connection_of}
-use Rattle.station.specs.HeldReading.{AreSaidItems, AreSaidMessages, IsSaid, Says, SaysItems, SaysMessages}
-use Rattle.station.specs.Host.{AreTaken, AreTakenBy, new_items, taking, ending}
-use Rattle.station.specs.Kiss.{heeding_all}
+use Rattle.station.specs.HeldReading.{SaysItems, SaysMessages}
+use Rattle.station.specs.Host.{AreTaken, AreTakenBy, new_items}
 use Rattle.station.specs.Leaving.{leaving}
-use Rattle.station.specs.Turn.{Turn, closing}
 
 -- the connection that is found has the id
 pub found_id : (id : ℕ) (connections : List Connection)

@@ -1,15 +1,11 @@
 -- Whether a frame of a link waits.
-use Rattle.std.specs.Prelude.{◌≡◌, ℕ, Bool, true, List, map, Option, Some, None, IsTrue, ◌↔◌}
-use Rattle.std.specs.List.{range_with_len}
-use Rattle.std.proofs.Common.{ap}
-use Rattle.std.proofs.lemmas.Bool.{false≢true, eqb-true, eq-eqb}
+use Rattle.station.proofs.Common.{◌≡◌, ℕ, Bool, true, List, map, Option, Some, None, IsTrue, range_with_len, ap}
+use Rattle.station.proofs.Common.{false≢true, eqb-true, eq-eqb, is_number, most_links, waits, ticking_at, ticking_links}
+use Rattle.station.proofs.Common.{Turn, in_order}
+use Rattle.std.specs.Prelude.{◌↔◌}
 use Rattle.std.proofs.lemmas.Bool.Decides.{same_from_decides}
 use Rattle.std.proofs.lemmas.List.Folds.{Any-from_list_any, list_any-from_Any}
 use Rattle.channel_access.specs.Waiting.{WaitingFrame, IsWaiting}
-use Rattle.station.specs.Registrations.{is_number}
-use Rattle.station.specs.Links.{most_links}
-use Rattle.station.specs.Ticks.{waits, ticking_at, ticking_links}
-use Rattle.station.specs.Turn.{Turn, in_order}
 
 -- the number is there if the test says so
 pub number_there : (n : ℕ) (number : Option ℕ) → is_number n number ≡ true → number ≡ Some n

@@ -1,10 +1,8 @@
 -- Acts one after another.
-use Rattle.std.specs.Prelude.{◌≡◌, ℕ, ◌+◌, ◌<◌, List, [], ◌∷◌, ◌++◌, length, map, take, refl}
-use Rattle.std.proofs.Common.{◌∙◌, ap, arith, get_or}
-use Rattle.std.specs.List.{range_with_len}
-use Rattle.std.proofs.lemmas.List.{take_more, map-append}
-use Rattle.std.proofs.lemmas.List.FromFn.{map-range_with_len_more}
-use Rattle.station.specs.Turn.{Turn, Act, in_order}
+use Rattle.station.proofs.Common.{◌≡◌, ℕ, ◌+◌, ◌<◌, List, [], ◌∷◌, ◌++◌, length, map, take, refl, ◌∙◌, ap, arith}
+use Rattle.station.proofs.Common.{get_or, range_with_len, take_more, map-append, map-range_with_len_more, Turn}
+use Rattle.station.proofs.Common.{in_order}
+use Rattle.station.specs.Turn.{Act}
 
 -- the acts of two lists one after another
 pub in_order-append : (first second : List Act) (turn : Turn)

@@ -1,9 +1,7 @@
 -- Windows that fit are not refused.
-use Rattle.std.specs.Prelude.{ℕ}
-use Rattle.std.proofs.Common.{arith, inl, inr}
+use Rattle.station.proofs.Common.{ℕ, arith, inl, inr, Params}
 use Rattle.selective_reject.specs.declared.window.Mode.{Mode}
 use Rattle.selective_reject.specs.Window.{IsWindow, IsBadWindow}
-use Rattle.link_machine.specs.declared.params.Params.{Params}
 use Rattle.link_machine.specs.Params.{HasWindows, IsRefusedWindow}
 
 fits_or_not : (modulus window : ℕ) (mode : Mode) → IsWindow modulus window mode → ¬ IsBadWindow modulus window mode

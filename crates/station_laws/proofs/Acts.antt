@@ -1,37 +1,21 @@
 -- What holds of a station and of the end of its link between two calls, act by act: the end's machine is the link's,
 -- and what is in flight from it is what was queued, as the pairs that are still to be heard name it.
-use Rattle.std.proofs.Common.{◌≡◌, ℕ, ◌+◌, ◌-◌, ◌<◌, ◌≤◌, Bool, true, false, List, [], ◌∷◌, ◌++◌, length, map, drop}
-use Rattle.std.proofs.Common.{Option, Some, refl, sym, ap, ◌∙◌, subst, arith}
-use Rattle.std.specs.Bool.{⊤}
+use Rattle.station_laws.proofs.Common.{◌≡◌, ℕ, ◌+◌, ◌-◌, ◌<◌, ◌≤◌, Bool, true, false, List, [], ◌∷◌, ◌++◌, length, map}
+use Rattle.station_laws.proofs.Common.{drop, Option, Some, refl, sym, ap, ◌∙◌, subst, arith, ⊤, append_assoc}
+use Rattle.station_laws.proofs.Common.{length-append, length-map, Callsign, Frame, Params, Machine, SentIn, sent_kind}
+use Rattle.station_laws.proofs.Common.{step, End, kept, near_kept, Tagged, asks, RecordedEnd, Happening, behind, seen}
+use Rattle.station_laws.proofs.Common.{tagged, Connects, Sends, Disconnects, Ticks, Hears, World, near_turn, staying}
+use Rattle.station_laws.proofs.Common.{read_in, hearing_as, hearing_first, turn_of, step_keeps, event_of, event_at}
+use Rattle.station_laws.proofs.Common.{link_event, Link, Links, is_between, link_at, Turn, Pair, marks_from}
+use Rattle.station_laws.proofs.Common.{event_at_end, IsMachineOf, LinkFrame}
 use Rattle.std.specs.List.{AllByRecursion as Each}
-use Rattle.std.proofs.lemmas.List.{append_assoc, length-append, length-map}
-use Rattle.ax25_address.specs.Callsign.{Callsign}
-use Rattle.ax25_frames.specs.declared.frame.Frame.{Frame}
-use Rattle.link_machine.specs.declared.params.Params.{Params}
 use Rattle.link_machine.specs.Event.{Event as LinkEvent}
 use Rattle.link_machine.specs.Event.Event.{Connect as LinkConnect, Send as LinkSend, Disconnect as LinkDisconnect}
 use Rattle.link_machine.specs.Event.Event.{Hear as LinkHear, Tick as LinkTick}
-use Rattle.link_machine.specs.Machine.{Machine}
-use Rattle.link_machine.specs.Sent.{SentIn, sent_kind}
-use Rattle.link_machine.specs.Step.{step}
 use Rattle.link_machine.specs.Turn.{Turn as LinkTurn}
-use Rattle.link_world.specs.declared.end.End.{End}
-use Rattle.link_world.specs.Changes.{kept, near_kept}
-use Rattle.link_world.specs.Flight.{Tagged, asks}
-use Rattle.link_world.specs.Recorded.{RecordedEnd, Happening, end_turn_of, behind, hears_ask, seen, tagged}
-use Rattle.link_world.specs.Recorded.Happening.{Connects, Sends, Disconnects, Ticks, Hears}
-use Rattle.link_world.specs.World.{World, near_turn, staying, read_in, hearing_as, hearing_first, turn_of}
-use Rattle.link_world.proofs.StepGrowth.{step_keeps}
-use Rattle.station.specs.LinkEvents.{event_of, event_at, link_event}
-use Rattle.station.specs.Links.{Link, Links, is_between, link_at}
-use Rattle.station.specs.Turn.{Turn}
-use Rattle.station_laws.specs.HeardInOrder.{Pair}
-use Rattle.station_laws.specs.LinkOfCalls.{marks_from, event_at_end}
-use Rattle.station_laws.specs.StationsLaw.{IsMachineOf}
-use Rattle.station_laws.specs.InFlight.{LinkFrame}
+use Rattle.link_world.specs.Recorded.{end_turn_of, hears_ask}
 use Rattle.station_laws.proofs.Framed.{framed, framed-append, length-framed}
-use Rattle.station_laws.proofs.Flights.{RiseFrom, flight, flight_own, flight_others, kept_first, marks}
-use Rattle.station_laws.proofs.Flights.{marks_from_rest}
+use Rattle.station_laws.proofs.Flights.{RiseFrom, flight, flight_own, flight_others, kept_first, marks, marks_from_rest}
 use Rattle.station_laws.proofs.LinkKinds.{IsLinkKind}
 use Rattle.station_laws.proofs.Queues.{HasStepped, link_stepped, octets_of}
 use Rattle.station_laws.proofs.Standing.{IsGoodLink, IsTable, between_calls, chosen_calls, calls_chosen, good_stepped}

@@ -1,23 +1,19 @@
 -- A frame of a link as it is written, and as it is heard again: the same calls, the same role, and the kind that its
 -- modulus makes of it.
+use Rattle.station_laws.proofs.Common.{sym, ◌∙◌, ap, subst, arith, get_or, eq-eqb, ne_eqb, append_assoc, append-nil}
+use Rattle.station_laws.proofs.Common.{get_or-append-add, length-append, repeater_count, BeginsWithPath, Path, Hop}
+use Rattle.station_laws.proofs.Common.{BeginsWithPath-same, Frame, Modulus, body_octets, path_octets, frame_octets}
+use Rattle.station_laws.proofs.Common.{with_none_done, AreAlikeButForH}
 use Rattle.std.specs.Prelude.{◌≡◌, ℕ, suc, ◌+◌, ◌≤◌, false, List, [], ◌∷◌, ◌++◌, length, drop, refl}
-use Rattle.std.proofs.Common.{sym, ◌∙◌, ap, subst, arith, get_or, eqb}
+use Rattle.std.proofs.Common.{eqb}
 use Rattle.std.specs.List.{AllByRecursion as Each}
-use Rattle.std.proofs.lemmas.Bool.{eq-eqb, ne_eqb}
-use Rattle.std.proofs.lemmas.List.{drop_at, append_assoc, append-nil, get_or-append-add, length-append}
+use Rattle.std.proofs.lemmas.List.{drop_at}
 use Rattle.ax25_address.specs.AddressField.{field_octets}
 use Rattle.ax25_address.specs.Callsign.{IsCall}
-use Rattle.ax25_address.specs.FramePath.{destination_bit, source_bit, repeater_count, IsWrittenPath, BeginsWithPath}
-use Rattle.ax25_address.specs.declared.path.Path.{Path}
-use Rattle.ax25_address.specs.declared.path.Hop.{Hop}
-use Rattle.ax25_address.proofs.OneReading.{BeginsWithPath-same}
+use Rattle.ax25_address.specs.FramePath.{destination_bit, source_bit, IsWrittenPath}
 use Rattle.ax25_address.proofs.Written.{AreWrittenSoFar, AreWrittenSoFar-ends, AreWrittenSoFar-push}
 use Rattle.ax25_address.proofs.Written.{IsWrittenPath-so_far, BeginsWithPath-written}
-use Rattle.ax25_frames.specs.declared.frame.Frame.{Frame}
-use Rattle.ax25_frames.specs.declared.frame.Modulus.{Modulus}
-use Rattle.ax25_frames.specs.FrameOctets.{body_octets}
-use Rattle.station.specs.FrameSpelling.{repeater_fields, path_octets, frame_octets}
-use Rattle.station_laws.specs.HeardInOrder.{with_none_done, AreAlikeButForH}
+use Rattle.station.specs.FrameSpelling.{repeater_fields}
 
 -- a path that can be written
 pub record IsGoodPath (path : Path) : Type 0 where

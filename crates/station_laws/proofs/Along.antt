@@ -1,23 +1,13 @@
 -- The changes of a world as the end sees them to which they happen, and acts of a station one after another.
-use Rattle.std.proofs.Common.{◌≡◌, ℕ, ◌+◌, Bool, List, [], ◌∷◌, ◌++◌, length, map, Option, Some, None, refl, sym, ap}
-use Rattle.std.proofs.Common.{◌∙◌, subst}
-use Rattle.ax25_address.specs.declared.path.Path.{Path}
-use Rattle.std.specs.Bool.{⊤}
+use Rattle.station_laws.proofs.Common.{◌≡◌, ℕ, ◌+◌, Bool, List, [], ◌∷◌, ◌++◌, length, map, Option, Some, None, refl}
+use Rattle.station_laws.proofs.Common.{sym, ap, ◌∙◌, subst, Path, ⊤, End, A, B, Change, changed, run_changes, near_made}
+use Rattle.station_laws.proofs.Common.{near_kept, Makes, Keeps, Tagged, World, near_turn, seen_from, other, staying}
+use Rattle.station_laws.proofs.Common.{Turn, Act, in_order, Pair, Pairs, heard_at, marks_from, event_at_end, makes}
+use Rattle.station_laws.proofs.Common.{changes_by, all_changes_by, FollowsAll, LinkStep, steps_along}
 use Rattle.link_machine.specs.Step.{step as link_turn}
 use Rattle.link_machine.specs.Event.{Event as LinkEvent}
 use Rattle.link_machine.specs.Event.Event.{Connect as LinkConnect, Send as LinkSend, Disconnect as LinkDisconnect}
 use Rattle.link_machine.specs.Event.Event.{Hear as LinkHear, Tick as LinkTick}
-use Rattle.link_world.specs.declared.end.End.{End}
-use Rattle.link_world.specs.declared.end.End.TheVariants.{A, B}
-use Rattle.link_world.specs.Changes.{Change, changed, run_changes, near_made, near_kept}
-use Rattle.link_world.specs.Changes.Change.{Makes, Keeps}
-use Rattle.link_world.specs.Flight.{Tagged}
-use Rattle.link_world.specs.World.{World, near_turn, seen_from, other, staying}
-use Rattle.station.specs.Turn.{Turn, Act, in_order}
-use Rattle.station_laws.specs.HeardInOrder.{Pair}
-use Rattle.station_laws.specs.LinkOfCalls.{Pairs, heard_at, marks_from, event_at_end, makes, changes_by}
-use Rattle.station_laws.specs.LinkOfCalls.{all_changes_by, FollowsAll}
-use Rattle.station_laws.specs.LinkSteps.{LinkStep, steps_along}
 use Rattle.station_laws.proofs.Acts.{Setting, Holds, ReadsFront, is_asking, asks_when_sent}
 
 -- ---- changes as their end sees them

@@ -1,43 +1,24 @@
 -- The events of a step in which no host program connects or disconnects.
-use Rattle.std.proofs.Common.{◌≡◌, ℕ, Bool, true, false, ◌==◌, List, [], ◌∷◌, ◌++◌, cond, Option, Some, None, sym}
-use Rattle.std.proofs.Common.{subst}
-use Rattle.std.specs.Prelude.{MatchBool}
-use Rattle.std.specs.List.{range_with_len, AllByRecursion as Each}
-use Rattle.std.proofs.lemmas.List.Elements.{recursion_from_All, All-from_recursion}
-use Rattle.ax25_address.specs.FramePath.{way_back}
-use Rattle.ax25_address.specs.declared.path.Path.{Path}
-use Rattle.ax25_address.specs.declared.path.Role.TheVariants.{Command}
-use Rattle.ax25_frames.specs.declared.frame.Frame.{Frame}
-use Rattle.agwpe_port.specs.Messages.{bad_length_in}
-use Rattle.agwpe_port.specs.declared.message.AgwMessage.{AgwMessage}
+use Rattle.station_laws.proofs.Common.{◌≡◌, ℕ, Bool, true, false, ◌==◌, List, [], ◌∷◌, ◌++◌, cond, Option, Some, None}
+use Rattle.station_laws.proofs.Common.{sym, subst, MatchBool, range_with_len, recursion_from_All, All-from_recursion}
+use Rattle.station_laws.proofs.Common.{way_back, Path, Command, Frame, bad_length_in, AgwMessage, each_append}
+use Rattle.station_laws.proofs.Common.{HostEvent, Joined, Bytes, Left, PortKind, Kiss, Agw, data_kind, disconnect_kind}
+use Rattle.station_laws.proofs.Common.{IsCall, calls, called_route, own_key, giving_packet, packets_of, data_pid}
+use Rattle.station_laws.proofs.Common.{answering_else, AreAnswered, Connection, connection_of, IsHeardBy, IsHeardAnew}
+use Rattle.station_laws.proofs.Common.{IsHeardMaking, IsReadingHeardAnew, IsRepeatedFor, AreHeardAt, AreOctetsHeard}
+use Rattle.station_laws.proofs.Common.{may_make, shown_to_hosts, waits_for_repeater, new_messages, taking, AreTaken}
+use Rattle.station_laws.proofs.Common.{AreTakenBy, IsHostTurn, Link, link_at, key_between, most_links, making}
+use Rattle.station_laws.proofs.Common.{no_layer_3, registrar, ticking_at, waits, Turn, Act, InputAsksNothing, Input}
+use Rattle.station_laws.proofs.Common.{IsTurn, FromHost, OffAir, OfClock, LinkStep, Choice, link_step, steps_for}
+use Rattle.station_laws.proofs.Common.{steps_at, steps_along, ticks_at, sends_at, data_steps, disconnect_steps}
+use Rattle.station_laws.proofs.Common.{else_steps, answer_steps, message_steps, ending_steps, octet_steps_by}
+use Rattle.station_laws.proofs.Common.{octet_steps, host_steps, hears_at, new_steps, anew_steps, reading_steps}
+use Rattle.station_laws.proofs.Common.{key_steps, path_steps, by_path_steps, turn_steps, steps_of, IsOfNoHost}
+use Rattle.std.specs.List.{AllByRecursion as Each}
 use Rattle.link_machine.specs.Event.{Event as LinkEvent}
 use Rattle.link_machine.specs.Event.Event.{Send as LinkSend, Hear as LinkHear, Tick as LinkTick}
-use Rattle.link_world.proofs.law.Each.{each_append}
-use Rattle.station.specs.declared.host_event.HostEvent.{HostEvent}
-use Rattle.station.specs.declared.host_event.HostEvent.TheVariants.{Joined, Bytes, Left}
-use Rattle.station.specs.declared.host_event.PortKind.{PortKind}
-use Rattle.station.specs.declared.host_event.PortKind.TheVariants.{Kiss, Agw}
-use Rattle.station.specs.AgwKinds.{data_kind, disconnect_kind}
-use Rattle.station.specs.AgwRequests.{IsCall, calls, called_route, own_key, giving_packet, packets_of, data_pid}
-use Rattle.station.specs.AgwRequests.{answering_else, AreAnswered}
-use Rattle.station.specs.Connections.{Connection, connection_of}
-use Rattle.station.specs.Heard.{IsHeardBy, IsHeardAnew, IsHeardMaking, IsReadingHeardAnew, IsRepeatedFor, AreHeardAt}
-use Rattle.station.specs.Heard.{AreOctetsHeard, may_make, shown_to_hosts, waits_for_repeater}
-use Rattle.station.specs.Host.{new_messages, taking, AreTaken, AreTakenBy, IsHostTurn}
-use Rattle.station.specs.Links.{Link, link_at, key_between, most_links}
-use Rattle.station.specs.NewLinks.{making, no_layer_3}
-use Rattle.station.specs.Registrations.{registrar}
-use Rattle.station.specs.Ticks.{ticking_at, waits}
-use Rattle.station.specs.Turn.{Turn, Act, begin}
-use Rattle.station_laws.specs.HostsAsk.{AsksNothing, OctetsAskBy, OctetsAskNothing, InputAsksNothing, HostsAskNothing}
-use Rattle.station_laws.specs.JointRun.{Input, IsTurn}
-use Rattle.station_laws.specs.JointRun.Input.{FromHost, OffAir, OfClock}
-use Rattle.station_laws.specs.LinkSteps.{LinkStep, Choice, link_step, steps_for, steps_at, steps_along, ticks_at}
-use Rattle.station_laws.specs.LinkSteps.{sends_at, data_steps, disconnect_steps, else_steps, answer_steps}
-use Rattle.station_laws.specs.LinkSteps.{message_steps, ending_steps, octet_steps_by, octet_steps, host_steps}
-use Rattle.station_laws.specs.LinkSteps.{hears_at, new_steps, anew_steps, reading_steps, key_steps, path_steps}
-use Rattle.station_laws.specs.LinkSteps.{by_path_steps, turn_steps, steps_of}
-use Rattle.station_laws.specs.MatchedLaw.{IsOfNoHost}
+use Rattle.station.specs.Turn.{begin}
+use Rattle.station_laws.specs.HostsAsk.{AsksNothing, OctetsAskBy, OctetsAskNothing, HostsAskNothing}
 
 abbrev OfNoHost : LinkStep → Type 0
 OfNoHost s = IsOfNoHost s.event

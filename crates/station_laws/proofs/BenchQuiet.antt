@@ -1,16 +1,12 @@
 -- The frames of a step, if each SABM, SABME and DISC of them finds a quiet channel: at most one is such a frame, and
 -- then nothing of the kind is in flight.
-use Rattle.std.proofs.Common.{◌≡◌, ℕ, ◌+◌, ◌≤◌, Bool, true, false, not, ◌||◌, List, [], ◌∷◌, length, ◌⊎◌, refl, ap, ◌∙◌}
-use Rattle.std.proofs.Common.{arith, inl, inr}
-use Rattle.std.specs.Bool.{⊤}
-use Rattle.std.specs.List.{count_by, list_any}
-use Rattle.std.proofs.lemmas.Bool.{or_cases, or_parts, not-true, both_ways}
-use Rattle.std.proofs.lemmas.List.{drop-append-le, length-append}
-use Rattle.link_world.specs.declared.end.End.{End}
-use Rattle.link_world.specs.declared.end.End.TheVariants.{A, B}
-use Rattle.link_world.specs.World.{other}
-use Rattle.station_laws.specs.InFlight.{LinkFrame, OneWay, BothWays, sent_by, with_queued, in_flight, asks, answers}
-use Rattle.station_laws.specs.InFlight.{is_ask, is_quiet_for, queueing_at, AreQuietAt}
+use Rattle.station_laws.proofs.Common.{◌≡◌, ℕ, ◌+◌, ◌≤◌, Bool, true, false, not, ◌||◌, List, [], ◌∷◌, length, ◌⊎◌, refl}
+use Rattle.station_laws.proofs.Common.{ap, ◌∙◌, arith, inl, inr, ⊤, count_by, list_any, or_cases, or_parts}
+use Rattle.station_laws.proofs.Common.{length-append, End, A, B, other, LinkFrame, OneWay, BothWays, sent_by}
+use Rattle.station_laws.proofs.Common.{with_queued, in_flight, answers, is_ask, queueing_at, AreQuietAt}
+use Rattle.std.proofs.lemmas.Bool.{not-true, both_ways}
+use Rattle.std.proofs.lemmas.List.{drop-append-le}
+use Rattle.station_laws.specs.InFlight.{asks, is_quiet_for}
 use Rattle.station_laws.proofs.Counts.{one, count_cons, count_append, count_none}
 use Rattle.station_laws.proofs.Framed.{one_framed, framed}
 

@@ -1,23 +1,12 @@
 -- The law in the terms of host programs: what it asks of the events of a link follows from what hosts ask and from the
 -- counts of dropped frames.
-use Rattle.std.proofs.Common.{◌≡◌, List, [], ◌∷◌, refl, sym, ap, ◌∙◌}
+use Rattle.station_laws.proofs.Common.{◌≡◌, List, [], ◌∷◌, refl, sym, ap, ◌∙◌, All-from_recursion, recursion_from_All}
+use Rattle.station_laws.proofs.Common.{LinkState, Idle, Calling, Up, Releasing, End, A, B, ChangesLaw, each_weaker}
+use Rattle.station_laws.proofs.Common.{StationState, InputAsksNothing, steps_in, Step, Stations, new_stations, state_of}
+use Rattle.station_laws.proofs.Common.{with_state, stepped, IsJointRun, all_stepped, Calls, link_at_end, LinkStep}
+use Rattle.station_laws.proofs.Common.{steps_of, DropsNoAsk, FindsRoom, IsOfNoHost, IsEventOfCaller, OnlyACalls}
 use Rattle.std.specs.List.{AllByRecursion as Each}
-use Rattle.std.proofs.lemmas.List.Elements.{All-from_recursion, recursion_from_All}
-use Rattle.link_machine.specs.declared.state.LinkState.{LinkState}
-use Rattle.link_machine.specs.declared.state.LinkState.TheVariants.{Idle, Calling, Up, Releasing}
-use Rattle.link_world.specs.declared.end.End.{End}
-use Rattle.link_world.specs.declared.end.End.TheVariants.{A, B}
-use Rattle.link_world.specs.Changes.{ChangesLaw}
-use Rattle.link_world.proofs.law.Each.{each_weaker}
-use Rattle.station.specs.State.{StationState}
 use Rattle.station_laws.specs.CallerLaw.{BAsksNothing, DroppedNothing, CallerLaw}
-use Rattle.station_laws.specs.HostsAsk.{InputAsksNothing}
-use Rattle.station_laws.specs.InFlight.{steps_in}
-use Rattle.station_laws.specs.JointRun.{Step, Stations, new_stations, state_of, with_state, stepped, IsJointRun}
-use Rattle.station_laws.specs.JointRun.{all_stepped}
-use Rattle.station_laws.specs.LinkOfCalls.{Calls, link_at_end}
-use Rattle.station_laws.specs.LinkSteps.{LinkStep, steps_of}
-use Rattle.station_laws.specs.MatchedLaw.{DropsNoAsk, FindsRoom, IsOfNoHost, IsEventOfCaller, OnlyACalls}
 use Rattle.station_laws.proofs.Asking.{hosts_ask_nothing_holds}
 use Rattle.station_laws.proofs.Dropping.{DropsNothing, drops_nothing}
 use Rattle.station_laws.proofs.MatchedLaws.{matched_law_holds}

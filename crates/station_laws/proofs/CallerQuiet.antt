@@ -1,26 +1,18 @@
 -- The events of the end that asks find a quiet channel: while it is up nothing that asks or answers is in flight, and
 -- else none of its SABM, SABME and DISC is dropped. So do those of the end that never asks.
-use Rattle.std.proofs.Common.{◌≡◌, ℕ, ◌+◌, List, [], ◌∷◌, ◌++◌, take, refl, ap, ◌∙◌, arith, inl, inr, ◌==◌, ◌≤◌}
+use Rattle.station_laws.proofs.Common.{◌≡◌, ℕ, ◌+◌, List, [], ◌∷◌, ◌++◌, take, refl, ap, ◌∙◌, arith, inl, inr, ◌==◌}
+use Rattle.station_laws.proofs.Common.{◌≤◌, cases_eq, eq-eqb, or_right, LinkState, Idle, Calling, Up, Releasing}
+use Rattle.station_laws.proofs.Common.{Machine, End, Tagged, answers_in, asks_in, World, happening, near_turn, staying}
+use Rattle.station_laws.proofs.Common.{Pair, event_at_end, marks_from, LinkStep, AsksInRoom, FindsRoom}
 use Rattle.std.specs.List.{AllByRecursion as Each}
-use Rattle.std.proofs.lemmas.Bool.{cases_eq, eq-eqb, or_right}
-use Rattle.link_machine.specs.declared.state.LinkState.{LinkState}
-use Rattle.link_machine.specs.declared.state.LinkState.TheVariants.{Idle, Calling, Up, Releasing}
 use Rattle.link_machine.specs.Event.{Event as LinkEvent}
-use Rattle.link_machine.specs.Machine.{Machine}
-use Rattle.link_world.specs.declared.end.End.{End}
-use Rattle.link_world.specs.Flight.{Tagged, answers_in, asks_in}
-use Rattle.link_world.specs.World.{World, happening, near_turn, staying}
-use Rattle.station_laws.specs.HeardInOrder.{Pair}
-use Rattle.station_laws.specs.LinkOfCalls.{event_at_end, marks_from}
-use Rattle.station_laws.specs.LinkSteps.{LinkStep}
-use Rattle.station_laws.specs.MatchedLaw.{AsksInRoom, FindsRoom}
 use Rattle.station_laws.proofs.Acts.{is_asking}
 use Rattle.station_laws.proofs.Along.{AllFollowNear, FollowsNear, makes_near, near_all, near_by}
 use Rattle.station_laws.proofs.Counts.{count_append}
 use Rattle.station_laws.proofs.EndSends.{Makes, Takes, end_makes, takes}
 use Rattle.station_laws.proofs.Exchanges.{AsksIn, AsksOut, out_made, out_moves}
-use Rattle.station_laws.proofs.NearQuiet.{AllQuietNear, QuietNear, SendsAlone, alone, joined_near, one_quiet}
-use Rattle.station_laws.proofs.NearQuiet.{sent_near, towards_by}
+use Rattle.station_laws.proofs.NearQuiet.{AllQuietNear, QuietNear, SendsAlone, alone, joined_near, one_quiet, sent_near}
+use Rattle.station_laws.proofs.NearQuiet.{towards_by}
 
 -- ---- one event
 

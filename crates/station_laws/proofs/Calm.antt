@@ -1,32 +1,18 @@
 -- A link that no host of its own connects or disconnects sends no SABM, SABME or DISC, if it hears no invalid N(R) and
 -- no FRMR: it is idle or up, and stays so.
-use Rattle.std.proofs.Common.{◌≡◌, true, false, [], ◌∷◌, refl, sym, ap, ◌∙◌, subst}
-use Rattle.std.specs.Bool.{⊤}
-use Rattle.std.specs.List.{list_any}
-use Rattle.std.proofs.lemmas.Bool.{false≢true}
-use Rattle.ax25_frames.specs.declared.frame.U.TheVariants.{Dm}
-use Rattle.link_machine.specs.declared.control.Control.{Control}
-use Rattle.link_machine.specs.declared.state.LinkState.{LinkState}
-use Rattle.link_machine.specs.declared.state.LinkState.TheVariants.{Idle, Calling, Up, Releasing}
+use Rattle.station_laws.proofs.Common.{◌≡◌, true, false, [], ◌∷◌, refl, sym, ap, ◌∙◌, subst, ⊤, list_any, false≢true}
+use Rattle.station_laws.proofs.Common.{Dm, Control, LinkState, Idle, Calling, Up, Releasing, Machine, sent_in}
+use Rattle.station_laws.proofs.Common.{SetupSent, step, begin, names_valid, IsConnect, IsDisconnect, Row, Settles}
+use Rattle.station_laws.proofs.Common.{Stepped, flush_traffic, rests_traffic, step_is, agrees, calls_again, connects}
+use Rattle.station_laws.proofs.Common.{declines, ends_by_disc, ends_by_dm, ends_call, gives_up, is_answered, is_called}
+use Rattle.station_laws.proofs.Common.{is_called_again, narrows, releases_again, resets, rests, takes, wishes, works}
+use Rattle.station_laws.proofs.Common.{goes_on, is_down, releases, is_refused, Traffic, IsOfNoHost}
 use Rattle.link_machine.specs.Event.{Event as LinkEvent}
 use Rattle.link_machine.specs.Event.Event.{Connect as LinkConnect, Send as LinkSend, Disconnect as LinkDisconnect}
 use Rattle.link_machine.specs.Event.Event.{Hear as LinkHear, Tick as LinkTick}
-use Rattle.link_machine.specs.Machine.{Machine}
-use Rattle.link_machine.specs.Sent.{sent_in}
-use Rattle.link_machine.specs.Sent.Sent.{SetupSent}
-use Rattle.link_machine.specs.Step.{step}
-use Rattle.link_machine.specs.Turn.{Turn, begin}
-use Rattle.link_world.specs.Law.{names_valid}
-use Rattle.link_steps.proofs.Rows.{Hears, IsConnect, IsDisconnect, IsWrong, Row, Settles, Stepped, flush_traffic}
-use Rattle.link_steps.proofs.Rows.{rests_traffic, step_is}
-use Rattle.link_steps.proofs.Rows.Row.{agrees, calls_again, connects, declines, ends_by_disc, ends_by_dm, ends_call}
-use Rattle.link_steps.proofs.Rows.Row.{gives_up, is_answered, is_called, is_called_again, narrows, releases_again}
-use Rattle.link_steps.proofs.Rows.Row.{resets}
-use Rattle.link_steps.proofs.Rows.Row.{rests, takes, wishes, works}
-use Rattle.link_steps.proofs.Rows.Settles.{goes_on, is_down, releases}
-use Rattle.link_steps.proofs.Rows.Stepped.{is_refused, makes}
-use Rattle.link_steps.proofs.Traffic.{Traffic}
-use Rattle.station_laws.specs.MatchedLaw.{IsOfNoHost}
+use Rattle.link_machine.specs.Turn.{Turn}
+use Rattle.link_steps.proofs.Rows.{Hears, IsWrong}
+use Rattle.link_steps.proofs.Rows.Stepped.{makes}
 use Rattle.station_laws.proofs.Acts.{asks_when_sent}
 use Rattle.station_laws.proofs.LinkDid.{wrong_kind}
 use Rattle.station_laws.proofs.LinkKinds.{IsLinkKind}

@@ -1,27 +1,16 @@
 -- A step of the station whose hosts never connect nor disconnect: its end stays idle or up, and sends nothing that
 -- asks. None of its own asks is in flight and no answer to one, so each event finds a quiet channel, and by the law no
 -- N(R) is invalid, for which it would call.
-use Rattle.std.proofs.Common.{◌≡◌, ℕ, ◌+◌, Bool, true, List, [], ◌∷◌, ◌++◌, Option, Some, None, refl, sym, ap, ◌∙◌}
-use Rattle.std.proofs.Common.{subst}
+use Rattle.station_laws.proofs.Common.{◌≡◌, ℕ, ◌+◌, Bool, true, List, [], ◌∷◌, ◌++◌, Option, Some, None, refl, sym, ap}
+use Rattle.station_laws.proofs.Common.{◌∙◌, subst, append_assoc, Path, LinkState, Idle, Calling, Up, Releasing, Machine}
+use Rattle.station_laws.proofs.Common.{B, Change, changed, run_changes, made_in, AreQuiet, hears_valid_in}
+use Rattle.station_laws.proofs.Common.{ChangesAreValid, Keeps, Tagged, names_valid, read_names_valid, first_names_valid}
+use Rattle.station_laws.proofs.Common.{reads_valid, hears_valid, RecordedEnd, World, seen_from, Pairs, makes}
+use Rattle.station_laws.proofs.Common.{marks_from, event_at_end, changes_by, all_changes_by, LinkStep, IsOfNoHost}
 use Rattle.std.specs.List.{AllByRecursion as Each}
-use Rattle.std.proofs.lemmas.List.{append_assoc}
-use Rattle.ax25_address.specs.declared.path.Path.{Path}
-use Rattle.link_machine.specs.declared.state.LinkState.{LinkState}
-use Rattle.link_machine.specs.declared.state.LinkState.TheVariants.{Idle, Calling, Up, Releasing}
 use Rattle.link_machine.specs.Event.{Event as LinkEvent}
 use Rattle.link_machine.specs.Event.Event.{Connect as LinkConnect, Send as LinkSend, Disconnect as LinkDisconnect}
 use Rattle.link_machine.specs.Event.Event.{Hear as LinkHear, Tick as LinkTick}
-use Rattle.link_machine.specs.Machine.{Machine}
-use Rattle.link_world.specs.declared.end.End.TheVariants.{B}
-use Rattle.link_world.specs.Changes.{Change, changed, run_changes, made_in, AreQuiet, hears_valid_in, ChangesAreValid}
-use Rattle.link_world.specs.Changes.Change.{Keeps}
-use Rattle.link_world.specs.Flight.{Tagged}
-use Rattle.link_world.specs.Law.{names_valid, read_names_valid, first_names_valid, reads_valid, hears_valid}
-use Rattle.link_world.specs.Recorded.{RecordedEnd}
-use Rattle.link_world.specs.World.{World, seen_from}
-use Rattle.station_laws.specs.LinkOfCalls.{Pairs, makes, marks_from, event_at_end, changes_by, all_changes_by}
-use Rattle.station_laws.specs.LinkSteps.{LinkStep}
-use Rattle.station_laws.specs.MatchedLaw.{IsOfNoHost}
 use Rattle.station_laws.proofs.Acts.{ReadsFront}
 use Rattle.station_laws.proofs.Along.{makes_near, near_by, AllFollowNear, FollowsNear, by_seen, makes_seen}
 use Rattle.station_laws.proofs.Along.{run_changes-append}

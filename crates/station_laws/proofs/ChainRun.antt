@@ -1,41 +1,22 @@
 -- In a joint run that is heard in order the events of a link at a station are a chain: each finds the machine that the
 -- one before it left. If only A calls and no N(R) is invalid, A hears no SABM, SABME or DISC, and no frame that resets
 -- its link.
-use Rattle.std.proofs.Common.{◌≡◌, ℕ, ◌+◌, Bool, true, false, List, [], ◌∷◌, ◌++◌, length, take, Option, Some, None}
-use Rattle.std.proofs.Common.{refl, sym, ap, ◌∙◌, subst, arith}
-use Rattle.std.specs.Bool.{⊤}
-use Rattle.std.specs.Prelude.{slice_get}
+use Rattle.station_laws.proofs.Common.{◌≡◌, ℕ, ◌+◌, Bool, true, false, List, [], ◌∷◌, ◌++◌, length, take, Option, Some}
+use Rattle.station_laws.proofs.Common.{None, refl, sym, ap, ◌∙◌, subst, arith, ⊤, slice_get, take-append_seam}
+use Rattle.station_laws.proofs.Common.{append_assoc, length-append, Path, Params, LinkState, Idle, Calling, Up}
+use Rattle.station_laws.proofs.Common.{Releasing, Machine, modulus_named, End, A, B, Change, ChangesAreValid, changed}
+use Rattle.station_laws.proofs.Common.{hears_valid_in, made_in, run_changes, Keeps, Tagged, asks, asks_in}
+use Rattle.station_laws.proofs.Common.{first_names_valid, hears_valid, names_valid, read_names_valid, reads_valid}
+use Rattle.station_laws.proofs.Common.{RecordedEnd, Side, World, other, seen_from, each_append, Config, AreHeardInOrder}
+use Rattle.station_laws.proofs.Common.{Pair, hears_ask, Step, Stations, IsJointRun, at_end, new_stations, stepped}
+use Rattle.station_laws.proofs.Common.{Calls, Counts, Pairs, all_changes_by, changes_by, changes_from, count_at}
+use Rattle.station_laws.proofs.Common.{event_at_end, first_world, heard_at, link_at_end, makes, marks_from, with_more}
+use Rattle.station_laws.proofs.Common.{LinkStep, steps_of, IsOfNoHost, link_steps_at}
 use Rattle.std.specs.List.{AllByRecursion as Each}
-use Rattle.std.proofs.Math.Seq.{take-append_seam}
-use Rattle.std.proofs.lemmas.List.{append_assoc, length-append}
-use Rattle.ax25_address.specs.declared.path.Path.{Path}
-use Rattle.link_machine.specs.declared.params.Params.{Params}
-use Rattle.link_machine.specs.declared.state.LinkState.{LinkState}
-use Rattle.link_machine.specs.declared.state.LinkState.TheVariants.{Idle, Calling, Up, Releasing}
 use Rattle.link_machine.specs.Event.{Event as LinkEvent}
 use Rattle.link_machine.specs.Event.Event.{Connect as LinkConnect, Send as LinkSend, Disconnect as LinkDisconnect}
 use Rattle.link_machine.specs.Event.Event.{Hear as LinkHear, Tick as LinkTick}
-use Rattle.link_machine.specs.Machine.{Machine, modulus_named}
 use Rattle.link_machine.specs.Step.{step as link_turn}
-use Rattle.link_world.specs.declared.end.End.{End}
-use Rattle.link_world.specs.declared.end.End.TheVariants.{A, B}
-use Rattle.link_world.specs.Changes.{Change, ChangesAreValid, changed, hears_valid_in, made_in, run_changes}
-use Rattle.link_world.specs.Changes.Change.{Keeps}
-use Rattle.link_world.specs.Flight.{Tagged, asks, asks_in}
-use Rattle.link_world.specs.Law.{first_names_valid, hears_valid, names_valid, read_names_valid, reads_valid}
-use Rattle.link_world.specs.Recorded.{RecordedEnd}
-use Rattle.link_world.specs.World.{Side, World, other, seen_from}
-use Rattle.link_world.proofs.law.Each.{each_append}
-use Rattle.station.specs.declared.config.Config.{Config}
-use Rattle.station_laws.specs.HeardInOrder.{AreHeardInOrder, Pair}
-use Rattle.station_laws.specs.InFlight.{hears_ask}
-use Rattle.station_laws.specs.JointRun.{Step, Stations, IsJointRun, at_end, new_stations, stepped}
-use Rattle.station_laws.specs.LinkOfCalls.{Calls, Counts, Pairs, all_changes_by, changes_by, changes_from, count_at}
-use Rattle.station_laws.specs.LinkOfCalls.{event_at_end, first_world, heard_at, link_at_end, makes, marks_from}
-use Rattle.station_laws.specs.LinkOfCalls.{with_more}
-use Rattle.station_laws.specs.LinkSteps.{LinkStep, steps_of}
-use Rattle.station_laws.specs.MatchedLaw.{IsOfNoHost}
-use Rattle.station_laws.specs.SetUpsSeen.{link_steps_at}
 use Rattle.station_laws.proofs.Acts.{ReadsFront, is_asking}
 use Rattle.station_laws.proofs.Along.{AllFollowNear, FollowsNear, by_seen, changes_seen, makes_near, makes_seen}
 use Rattle.station_laws.proofs.Along.{near_all, near_by, run_changes-append}

@@ -1,26 +1,16 @@
 -- The events of a link at a station, each with the machine that the event before it left: what they tell, and how the
 -- link stands then.
-use Rattle.std.proofs.Common.{◌≡◌, ◌||◌, Bool, true, false, List, [], ◌∷◌, ◌++◌, map, if◌then◌else◌, cond, Option, Some}
-use Rattle.std.proofs.Common.{None, refl, sym, ap, ◌∙◌, subst}
-use Rattle.std.specs.Bool.{⊤}
+use Rattle.station_laws.proofs.Common.{◌≡◌, ◌||◌, Bool, true, false, List, [], ◌∷◌, ◌++◌, map, if◌then◌else◌, cond}
+use Rattle.station_laws.proofs.Common.{Option, Some, None, refl, sym, ap, ◌∙◌, subst, ⊤, or_left, or_right, Path}
+use Rattle.station_laws.proofs.Common.{Packet, Told, Opened, Given, Ended, Control, LinkState, Idle, Calling, Up}
+use Rattle.station_laws.proofs.Common.{Releasing, Event, Machine, new_machine, begin, LinkStep, RunsIn, runs_after}
+use Rattle.station_laws.proofs.Common.{runs_behind}
 use Rattle.std.specs.List.{AllByRecursion as Each}
-use Rattle.std.proofs.lemmas.Bool.{or_left, or_right}
-use Rattle.ax25_address.specs.declared.path.Path.{Path}
-use Rattle.selective_reject.specs.declared.packet.Packet.{Packet}
-use Rattle.link_machine.specs.declared.acts.Told.{Told}
-use Rattle.link_machine.specs.declared.acts.Told.TheVariants.{Opened, Given, Ended}
-use Rattle.link_machine.specs.declared.control.Control.{Control}
-use Rattle.link_machine.specs.declared.state.LinkState.{LinkState}
-use Rattle.link_machine.specs.declared.state.LinkState.TheVariants.{Idle, Calling, Up, Releasing}
-use Rattle.link_machine.specs.Event.{Event}
-use Rattle.link_machine.specs.Machine.{Machine, new_machine}
 use Rattle.link_machine.specs.Step.{step as link_turn}
-use Rattle.link_machine.specs.Turn.{Turn, begin}
-use Rattle.station_laws.specs.LinkSteps.{LinkStep}
-use Rattle.station_laws.specs.LinksTell.{RunsIn, runs_after}
-use Rattle.station_laws.specs.RunsTell.{AllToldInOne, runs_behind, told_in}
-use Rattle.station_laws.proofs.LinkDid.{Closes, DidIn, HearsAsk, HearsWrong, IsOfLink, Steps, is_connect}
-use Rattle.station_laws.proofs.LinkDid.{is_disconnect, step_steps}
+use Rattle.link_machine.specs.Turn.{Turn}
+use Rattle.station_laws.specs.RunsTell.{AllToldInOne, told_in}
+use Rattle.station_laws.proofs.LinkDid.{Closes, DidIn, HearsAsk, HearsWrong, IsOfLink, Steps, is_connect, is_disconnect}
+use Rattle.station_laws.proofs.LinkDid.{step_steps}
 use Rattle.station_laws.proofs.LinkDid.Closes.{releases, stays}
 use Rattle.station_laws.proofs.LinkDid.Did.{calls, ends, gives, is_called, opens, resets, wishes}
 use Rattle.station_laws.proofs.LinkDid.Steps.{made, refused}

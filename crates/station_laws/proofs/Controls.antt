@@ -1,27 +1,20 @@
 -- SABM, SABME, DISC, UA and DM told by their control octet: the one after the address is that of the frame as it is
 -- read.
-use Rattle.std.proofs.Common.{◌≡◌, ◌≢◌, ℕ, zero, suc, ◌+◌, ◌-◌, ◌*◌, ◌<◌, ◌==◌, ◌%◌, Bool, true, false, ◌||◌, List, []}
-use Rattle.std.proofs.Common.{◌∷◌, ◌++◌, length, map, take, drop, cond, get_or, Option, Some, refl, sym, ap, ◌∙◌, subst}
-use Rattle.std.proofs.Common.{arith, inl, inr}
-use Rattle.std.proofs.lemmas.Bool.{cases_eq, eq-eqb, ne_eqb, or_from}
-use Rattle.std.proofs.lemmas.List.{append_assoc, take-append-drop, length-drop, drop-drop}
-use Rattle.ax25_address.specs.AddressField.{bit, ssid_octet, IsField}
-use Rattle.ax25_address.specs.Callsign.{Callsign, padded}
-use Rattle.ax25_address.specs.FramePath.{BeginsWithPath, IsPath, field_at, repeater_count}
-use Rattle.ax25_address.specs.declared.path.Hop.{Hop}
-use Rattle.ax25_address.specs.declared.path.Path.{Path}
-use Rattle.ax25_frames.specs.declared.frame.Frame.{Frame}
-use Rattle.ax25_frames.specs.declared.frame.Kind.{Kind}
-use Rattle.ax25_frames.specs.declared.frame.Kind.TheVariants.{Info, Super, Setup, Ui, Other}
-use Rattle.ax25_frames.specs.declared.frame.Modulus.{Modulus}
-use Rattle.ax25_frames.specs.declared.frame.Modulus.TheVariants.{Eight, OneTwentyEight}
-use Rattle.ax25_frames.specs.declared.frame.U.TheVariants.{Sabm, Sabme, Disc, Dm, Ua}
+use Rattle.station_laws.proofs.Common.{◌≡◌, ◌≢◌, ℕ, zero, suc, ◌+◌, ◌-◌, ◌*◌, ◌<◌, ◌==◌, ◌%◌, Bool, true, false, ◌||◌}
+use Rattle.station_laws.proofs.Common.{List, [], ◌∷◌, ◌++◌, length, map, take, drop, cond, get_or, Option, Some, refl}
+use Rattle.station_laws.proofs.Common.{sym, ap, ◌∙◌, subst, arith, inl, inr, cases_eq, eq-eqb, ne_eqb, or_from}
+use Rattle.station_laws.proofs.Common.{append_assoc, drop-drop, bit, Callsign, BeginsWithPath, repeater_count, Hop}
+use Rattle.station_laws.proofs.Common.{Path, Frame, Kind, Info, Super, Setup, Ui, Other, Modulus, Eight, OneTwentyEight}
+use Rattle.station_laws.proofs.Common.{Sabm, Sabme, Disc, Dm, Ua, body_octets, IsFrame, asks, is_answer, is_ask}
+use Rattle.station_laws.proofs.Common.{is_ua_or_dm}
+use Rattle.std.proofs.lemmas.List.{take-append-drop, length-drop}
+use Rattle.ax25_address.specs.AddressField.{ssid_octet, IsField}
+use Rattle.ax25_address.specs.Callsign.{padded}
+use Rattle.ax25_address.specs.FramePath.{IsPath, field_at}
 use Rattle.ax25_frames.specs.declared.frame.W.TheVariants.{Frmr, Xid, Test}
 use Rattle.ax25_frames.specs.ControlField.{supervisory_code}
-use Rattle.ax25_frames.specs.FrameOctets.{body_octets, IsFrame}
-use Rattle.link_world.specs.Flight.{asks, is_answer}
 use Rattle.station_laws.specs.InFlight.{sabm, sabme, disc, ua, dm, is_control_of, first_of, control_octet}
-use Rattle.station_laws.specs.InFlight.{is_ask_control, is_answer_control, is_ask, is_ua_or_dm}
+use Rattle.station_laws.specs.InFlight.{is_ask_control, is_answer_control}
 
 -- ---- the octet after the address
 

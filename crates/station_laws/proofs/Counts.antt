@@ -1,15 +1,9 @@
 -- How many frames of a kind are in flight: as many at most as are among those that were queued from a number on.
-use Rattle.std.proofs.Common.{◌≡◌, ℕ, ◌+◌, ◌-◌, ◌≤◌, Bool, true, false, List, [], ◌∷◌, ◌++◌, length, map, take, drop}
-use Rattle.std.proofs.Common.{cond, get_or, Option, Some, None, refl, sym, ap, ◌∙◌, subst, arith, inl, inr}
-use Rattle.std.specs.List.{count_by, list_any}
-use Rattle.std.proofs.lemmas.Bool.{cases_lt, or_parts}
-use Rattle.std.proofs.lemmas.List.{drop-drop, get_or_past}
+use Rattle.station_laws.proofs.Common.{◌≡◌, ℕ, ◌+◌, ◌-◌, ◌≤◌, Bool, true, false, List, [], ◌∷◌, ◌++◌, length, map, take}
+use Rattle.station_laws.proofs.Common.{drop, cond, get_or, Option, Some, None, refl, sym, ap, ◌∙◌, subst, arith, inl}
+use Rattle.station_laws.proofs.Common.{inr, count_by, list_any, cases_lt, or_parts, drop-drop, get_or_past, Callsign}
+use Rattle.station_laws.proofs.Common.{kept, Tagged, Pair, LinkFrame}
 use Rattle.std.proofs.lemmas.List.Sums.{sum_by-cons, sum_by-append, sum_by-drop_more, sum_by-take-drop}
-use Rattle.ax25_address.specs.Callsign.{Callsign}
-use Rattle.link_world.specs.Changes.{kept}
-use Rattle.link_world.specs.Flight.{Tagged}
-use Rattle.station_laws.specs.HeardInOrder.{Pair}
-use Rattle.station_laws.specs.InFlight.{LinkFrame}
 use Rattle.station_laws.proofs.Flights.{RiseFrom, before_flight, tag_at, flight}
 use Rattle.station_laws.proofs.Runs.{nothing, tag_of}
 use Rattle.station_laws.proofs.Tags.{IsTagged, IsTag, AreTags, tags_length}

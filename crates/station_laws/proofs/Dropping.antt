@@ -1,73 +1,48 @@
 -- A step after which a station has dropped no frame: each frame that its links sent joined the queue.
-use Rattle.std.proofs.Common.{◌≡◌, ℕ, ◌+◌, ◌-◌, Bool, true, false, ◌==◌, nat_lt, nat_le, List, [], ◌∷◌, ◌++◌, length}
-use Rattle.std.proofs.Common.{map, drop, cond, if◌then◌else◌, Option, Some, None, refl, sym, ap, ◌∙◌, subst, arith, inl}
-use Rattle.std.proofs.Common.{inr}
-use Rattle.std.specs.Prelude.{MatchBool}
-use Rattle.std.specs.List.{range_with_len, list_any, AllByRecursion as Each}
-use Rattle.std.proofs.lemmas.Bool.{ltb-false, eqb-true}
-use Rattle.std.proofs.lemmas.List.{drop_all, length-append, length-map}
-use Rattle.ax25_address.specs.Callsign.{Callsign}
-use Rattle.ax25_address.specs.FramePath.{way_back}
-use Rattle.ax25_address.specs.declared.path.Path.{Path}
-use Rattle.ax25_address.specs.declared.path.Role.TheVariants.{Command}
-use Rattle.ax25_frames.specs.declared.frame.Frame.{Frame}
-use Rattle.ax25_frames.specs.declared.frame.Modulus.TheVariants.{Eight}
-use Rattle.agwpe_port.specs.Messages.{bad_length_in}
-use Rattle.agwpe_port.specs.declared.message.AgwMessage.{AgwMessage}
-use Rattle.digipeater.specs.Repeated.{repeated}
-use Rattle.kiss_port.specs.declared.item.KissItem.{KissItem}
-use Rattle.kiss_port.specs.declared.item.KissItem.TheVariants.{Frame as KissFrame, Set, Hardware, Return, TooLong}
-use Rattle.kiss_port.specs.declared.item.KissItem.TheVariants.{Other}
-use Rattle.link_machine.specs.declared.acts.SentFrame.{SentFrame}
-use Rattle.link_machine.specs.declared.acts.Told.{Told}
+use Rattle.station_laws.proofs.Common.{◌≡◌, ℕ, ◌+◌, ◌-◌, Bool, true, false, ◌==◌, nat_lt, nat_le, List, [], ◌∷◌, ◌++◌}
+use Rattle.station_laws.proofs.Common.{length, map, drop, cond, if◌then◌else◌, Option, Some, None, refl, sym, ap, ◌∙◌}
+use Rattle.station_laws.proofs.Common.{subst, arith, inl, inr, MatchBool, range_with_len, list_any, ltb-false, eqb-true}
+use Rattle.station_laws.proofs.Common.{length-append, length-map, Callsign, way_back, Path, Command, Frame, Eight}
+use Rattle.station_laws.proofs.Common.{bad_length_in, AgwMessage, repeated, KissItem, Set, Hardware, Return, TooLong}
+use Rattle.station_laws.proofs.Common.{SentFrame, Told, sent_frame, done_of, each_append, HostEvent, Joined, Bytes}
+use Rattle.station_laws.proofs.Common.{Left, PortKind, Kiss, Agw, version_kind, ports_kind, capabilities_kind}
+use Rattle.station_laws.proofs.Common.{register_kind, unregister_kind, toggle_kind, monitor_kind, raw_kind}
+use Rattle.station_laws.proofs.Common.{unproto_kind, unproto_via_kind, data_kind, disconnect_kind, pending_kind}
+use Rattle.station_laws.proofs.Common.{waiting_kind, replying, version_reply, ports_reply, capabilities_reply, toggled}
+use Rattle.station_laws.proofs.Common.{monitor_toggled, register_reply, with_registration, registering, unregistering}
+use Rattle.station_laws.proofs.Common.{queueing_raw, most_information, unnumbered_frame, sending_unnumbered}
+use Rattle.station_laws.proofs.Common.{refused_reply, may_call, calls, called_route, called_pid, IsCall, IsCallMade}
+use Rattle.station_laws.proofs.Common.{own_key, giving, giving_packet, packets_of, data_pid, disconnecting, pending_in}
+use Rattle.station_laws.proofs.Common.{pending_reply, waiting_reply, answering_else, AreAnswered, has_frame_length}
+use Rattle.station_laws.proofs.Common.{call_in, Connection, connection_of, most_connections, frame_octets, IsHeardBy}
+use Rattle.station_laws.proofs.Common.{IsHeardAnew, IsHeardMaking, IsReadingHeardAnew, IsRepeatedFor, AreHeardAt}
+use Rattle.station_laws.proofs.Common.{AreOctetsHeard, may_make, showing_to, shown_to_hosts, source_field}
+use Rattle.station_laws.proofs.Common.{destination_field, waits_for_repeater, joining, with_host, new_messages}
+use Rattle.station_laws.proofs.Common.{new_items, taking, ending, AreTaken, AreTakenBy, IsHostTurn, param_of}
+use Rattle.station_laws.proofs.Common.{with_param, heeding, heeding_all, giving_up, giving_up_all, giving_up_link}
+use Rattle.station_laws.proofs.Common.{leaving, without_host, without_owner, settled_link, telling_one, telling_to}
+use Rattle.station_laws.proofs.Common.{queueing_frame, queueing_frames, link_event, event_of, event_at, with_links}
+use Rattle.station_laws.proofs.Common.{Link, key_between, link_at, most_links, with_link, making, no_layer_3, registrar}
+use Rattle.station_laws.proofs.Common.{may_register, is_number, Route, route_in, repeaters_in, behind_repeaters}
+use Rattle.station_laws.proofs.Common.{path_along, ticking, ticking_at, ticking_links, waits, Turn, Act, in_order}
+use Rattle.station_laws.proofs.Common.{changing, closing, queueing, entering, dropping, capacity, Input, IsTurn, Step}
+use Rattle.station_laws.proofs.Common.{FromHost, OffAir, OfClock, LinkStep, Choice, link_step, steps_for, steps_at}
+use Rattle.station_laws.proofs.Common.{steps_along, ticks_at, tick_steps, given_up, gives_up_at, leaving_steps}
+use Rattle.station_laws.proofs.Common.{made_steps, call_steps, sends_at, data_steps, disconnect_steps, else_steps}
+use Rattle.station_laws.proofs.Common.{answer_steps, message_steps, ending_steps, octet_steps_by, octet_steps}
+use Rattle.station_laws.proofs.Common.{host_steps, hears_at, new_steps, anew_steps, reading_steps, key_steps}
+use Rattle.station_laws.proofs.Common.{path_steps, by_path_steps, turn_steps, steps_of, DropsNoAsk}
+use Rattle.std.specs.List.{AllByRecursion as Each}
+use Rattle.std.proofs.lemmas.List.{drop_all}
+use Rattle.kiss_port.specs.declared.item.KissItem.TheVariants.{Frame as KissFrame, Other}
 use Rattle.link_machine.specs.Event.{Event as LinkEvent}
 use Rattle.link_machine.specs.Event.Event.{Connect as LinkConnect, Send as LinkSend, Disconnect as LinkDisconnect}
 use Rattle.link_machine.specs.Event.Event.{Hear as LinkHear, Tick as LinkTick}
-use Rattle.link_machine.specs.Sent.{sent_frame}
-use Rattle.link_machine.specs.Step.{step as link_turn, done_of}
-use Rattle.link_world.proofs.law.Each.{each_append}
-use Rattle.station.specs.declared.host_event.HostEvent.{HostEvent}
-use Rattle.station.specs.declared.host_event.HostEvent.TheVariants.{Joined, Bytes, Left}
-use Rattle.station.specs.declared.host_event.PortKind.{PortKind}
-use Rattle.station.specs.declared.host_event.PortKind.TheVariants.{Kiss, Agw}
-use Rattle.station.specs.AgwKinds.{version_kind, ports_kind, capabilities_kind, register_kind, unregister_kind}
-use Rattle.station.specs.AgwKinds.{toggle_kind, monitor_kind, raw_kind, unproto_kind, unproto_via_kind, data_kind}
-use Rattle.station.specs.AgwKinds.{disconnect_kind, pending_kind, waiting_kind}
-use Rattle.station.specs.AgwRequests.{replying, version_reply, ports_reply, capabilities_reply, toggled}
-use Rattle.station.specs.AgwRequests.{monitor_toggled, register_reply, with_registration, registering, unregistering}
-use Rattle.station.specs.AgwRequests.{queueing_raw, most_information, unnumbered_frame, sending_unnumbered}
-use Rattle.station.specs.AgwRequests.{refused_reply, may_call, calls, called_route, called_pid, IsCall, IsCallMade}
-use Rattle.station.specs.AgwRequests.{own_key, giving, giving_packet, packets_of, data_pid, disconnecting, pending_in}
-use Rattle.station.specs.AgwRequests.{pending_reply, waiting_reply, answering_else, AreAnswered}
-use Rattle.hdlc_framer.specs.FrameLength.{has_frame_length}
-use Rattle.station.specs.CallFields.{call_in}
-use Rattle.station.specs.Connections.{Connection, connection_of, most_connections}
-use Rattle.station.specs.FrameSpelling.{frame_octets}
-use Rattle.station.specs.Heard.{IsHeardBy, IsHeardAnew, IsHeardMaking, IsReadingHeardAnew, IsRepeatedFor, AreHeardAt}
-use Rattle.station.specs.Heard.{AreOctetsHeard, may_make, hearing_at, showing_to, shown_to_hosts, source_field}
-use Rattle.station.specs.Heard.{destination_field, waits_for_repeater}
-use Rattle.station.specs.Host.{joining, with_host, new_messages, new_items, taking, ending, AreTaken, AreTakenBy}
-use Rattle.station.specs.Host.{IsHostTurn}
-use Rattle.station.specs.Kiss.{param_of, with_param, heeding, heeding_all}
-use Rattle.station.specs.Leaving.{giving_up, giving_up_all, giving_up_link, leaving, without_host, without_owner}
-use Rattle.station.specs.LinkEvents.{settled_link, telling_one, telling_to, queueing_frame, queueing_frames, link_event}
-use Rattle.station.specs.LinkEvents.{event_of, event_at, with_links}
-use Rattle.station.specs.Links.{Link, key_between, link_at, most_links, with_link}
-use Rattle.station.specs.NewLinks.{making, no_layer_3}
-use Rattle.station.specs.Registrations.{registrar, may_register, is_number}
-use Rattle.station.specs.Routes.{Route, route_in, repeaters_in, behind_repeaters, path_along}
+use Rattle.link_machine.specs.Step.{step as link_turn}
+use Rattle.station.specs.Heard.{hearing_at}
 use Rattle.station.specs.State.{one_more}
-use Rattle.station.specs.Ticks.{ticking, ticking_at, ticking_links, waits}
-use Rattle.station.specs.Turn.{Turn, Act, begin, in_order, changing, closing, queueing, entering, dropping, capacity}
-use Rattle.station_laws.specs.JointRun.{Input, IsTurn, Step}
-use Rattle.station_laws.specs.JointRun.Input.{FromHost, OffAir, OfClock}
-use Rattle.station_laws.specs.LinkSteps.{LinkStep, Choice, link_step, steps_for, steps_at, steps_along, ticks_at}
-use Rattle.station_laws.specs.LinkSteps.{tick_steps, given_up, gives_up_at, leaving_steps, made_steps, call_steps}
-use Rattle.station_laws.specs.LinkSteps.{sends_at, data_steps, disconnect_steps, else_steps, answer_steps}
-use Rattle.station_laws.specs.LinkSteps.{message_steps, ending_steps, octet_steps_by, octet_steps, host_steps}
-use Rattle.station_laws.specs.LinkSteps.{hears_at, new_steps, anew_steps, reading_steps, key_steps, path_steps}
-use Rattle.station_laws.specs.LinkSteps.{by_path_steps, turn_steps, steps_of}
-use Rattle.station_laws.specs.MatchedLaw.{DropsNoAsk, asks_when_sent}
+use Rattle.station.specs.Turn.{begin}
+use Rattle.station_laws.specs.MatchedLaw.{asks_when_sent}
 use Rattle.station_laws.proofs.Queues.{octets_of}
 
 -- ---- what no drop says

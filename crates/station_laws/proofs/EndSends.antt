@@ -1,27 +1,17 @@
 -- What an end takes from what is in flight to it, and what it sends: at most one frame that asks, and an answer only to
 -- one.
-use Rattle.std.proofs.Common.{◌≡◌, ℕ, ◌+◌, ◌≤◌, Bool, true, false, ◌&&◌, List, [], ◌∷◌, map, Option, Some, None, refl}
-use Rattle.std.proofs.Common.{sym, ap, ◌∙◌, subst, arith}
-use Rattle.std.specs.List.{count_by, list_any, AllByRecursion as Each}
-use Rattle.std.proofs.lemmas.Bool.{or_parts}
-use Rattle.ax25_frames.specs.declared.frame.Frame.{Frame}
-use Rattle.ax25_frames.specs.declared.frame.Kind.{Kind}
-use Rattle.ax25_frames.specs.declared.frame.Kind.TheVariants.{Info, Super, Setup, Ui, Other}
-use Rattle.ax25_frames.specs.declared.frame.U.TheVariants.{Sabm, Sabme, Disc, Dm, Ua}
-use Rattle.link_machine.specs.declared.state.LinkState.TheVariants.{Up}
+use Rattle.station_laws.proofs.Common.{◌≡◌, ℕ, ◌+◌, ◌≤◌, Bool, true, false, ◌&&◌, List, [], ◌∷◌, map, Option, Some}
+use Rattle.station_laws.proofs.Common.{None, refl, sym, ap, ◌∙◌, subst, arith, count_by, list_any, or_parts, Frame}
+use Rattle.station_laws.proofs.Common.{Kind, Info, Super, Setup, Ui, Other, Sabm, Sabme, Disc, Dm, Ua, Up}
+use Rattle.station_laws.proofs.Common.{modulus_named, Sent, SentIn, sent_kind, InfoSent, SetupSent, SuperSent, step}
+use Rattle.station_laws.proofs.Common.{End, Tagged, answers_in, asks, asks_in, is_answer, Happening, RecordedEnd}
+use Rattle.station_laws.proofs.Common.{behind, seen, tagged, Connects, Sends, Disconnects, Ticks, Hears, happening}
+use Rattle.station_laws.proofs.Common.{hearing_as, read_in, staying, turn_of, event_at_end}
+use Rattle.std.specs.List.{AllByRecursion as Each}
 use Rattle.link_machine.specs.Event.{Event as LinkEvent}
 use Rattle.link_machine.specs.Event.Event.{Connect as LinkConnect, Send as LinkSend, Disconnect as LinkDisconnect}
 use Rattle.link_machine.specs.Event.Event.{Hear as LinkHear, Tick as LinkTick}
-use Rattle.link_machine.specs.Machine.{modulus_named}
-use Rattle.link_machine.specs.Sent.{Sent, SentIn, sent_kind}
-use Rattle.link_machine.specs.Sent.Sent.{InfoSent, SetupSent, SuperSent}
-use Rattle.link_machine.specs.Step.{step}
-use Rattle.link_world.specs.declared.end.End.{End}
-use Rattle.link_world.specs.Flight.{Tagged, answers_in, asks, asks_in, is_answer}
-use Rattle.link_world.specs.Recorded.{Happening, RecordedEnd, behind, hears_ask, seen, tagged}
-use Rattle.link_world.specs.Recorded.Happening.{Connects, Sends, Disconnects, Ticks, Hears}
-use Rattle.link_world.specs.World.{happening, hearing_as, read_in, staying, turn_of}
-use Rattle.station_laws.specs.LinkOfCalls.{event_at_end}
+use Rattle.link_world.specs.Recorded.{hears_ask}
 use Rattle.station_laws.proofs.Acts.{asks_when_sent}
 use Rattle.station_laws.proofs.Counts.{count_cons, count_none, one, one_less}
 use Rattle.station_laws.proofs.LinkAsks.{step_sends}

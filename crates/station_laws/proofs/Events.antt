@@ -1,29 +1,16 @@
 -- Each act of a station keeps what holds of its link between two calls.
-use Rattle.std.proofs.Common.{◌≡◌, ℕ, Bool, true, false, List, [], ◌∷◌, cond, Option, Some, None, refl, sym, ap, ◌∙◌}
-use Rattle.std.proofs.Common.{subst}
-use Rattle.std.specs.List.{range_with_len}
-use Rattle.ax25_address.specs.declared.path.Path.{Path}
-use Rattle.agwpe_port.specs.declared.message.AgwMessage.{AgwMessage}
+use Rattle.station_laws.proofs.Common.{◌≡◌, ℕ, Bool, true, false, List, [], ◌∷◌, cond, Option, Some, None, refl, sym}
+use Rattle.station_laws.proofs.Common.{ap, ◌∙◌, subst, range_with_len, Path, AgwMessage, Machine, new_machine}
+use Rattle.station_laws.proofs.Common.{LinkState, Idle, End, near_made, made_in, Tagged, RecordedEnd, World}
+use Rattle.station_laws.proofs.Common.{giving_packet, packets_of, data_pid, giving, disconnecting, giving_up}
+use Rattle.station_laws.proofs.Common.{giving_up_all, giving_up_link, leaving, without_host, without_owner, event_of}
+use Rattle.station_laws.proofs.Common.{event_at, with_links, Link, IsNewKey, is_between, link_at, most_links, with_link}
+use Rattle.station_laws.proofs.Common.{with_new_link, is_number, ticking_at, ticking_links, waits, Turn, changing}
+use Rattle.station_laws.proofs.Common.{LinkStep, link_step, steps_for, steps_at, ticks_at, tick_steps, given_up}
+use Rattle.station_laws.proofs.Common.{gives_up_at, leaving_steps, sends_at, data_steps, disconnect_steps, first_chosen}
+use Rattle.station_laws.proofs.Common.{IsMachineOf}
 use Rattle.link_machine.specs.Event.{Event as LinkEvent}
 use Rattle.link_machine.specs.Event.Event.{Send as LinkSend, Disconnect as LinkDisconnect, Tick as LinkTick}
-use Rattle.link_machine.specs.Machine.{Machine, new_machine}
-use Rattle.link_machine.specs.declared.state.LinkState.{LinkState}
-use Rattle.link_machine.specs.declared.state.LinkState.TheVariants.{Idle}
-use Rattle.link_world.specs.declared.end.End.{End}
-use Rattle.link_world.specs.Changes.{near_made, made_in}
-use Rattle.link_world.specs.Flight.{Tagged}
-use Rattle.link_world.specs.Recorded.{RecordedEnd}
-use Rattle.link_world.specs.World.{World}
-use Rattle.station.specs.AgwRequests.{giving_packet, packets_of, data_pid, giving, disconnecting}
-use Rattle.station.specs.Leaving.{giving_up, giving_up_all, giving_up_link, leaving, without_host, without_owner}
-use Rattle.station.specs.LinkEvents.{event_of, event_at, with_links}
-use Rattle.station.specs.Links.{Link, IsNewKey, is_between, link_at, most_links, with_link, with_new_link}
-use Rattle.station.specs.Registrations.{is_number}
-use Rattle.station.specs.Ticks.{ticking_at, ticking_links, waits}
-use Rattle.station.specs.Turn.{Turn, changing}
-use Rattle.station_laws.specs.LinkSteps.{LinkStep, link_step, steps_for, steps_at, ticks_at, tick_steps, given_up}
-use Rattle.station_laws.specs.LinkSteps.{gives_up_at, leaving_steps, sends_at, data_steps, disconnect_steps}
-use Rattle.station_laws.specs.StationsLaw.{first_chosen, IsMachineOf}
 use Rattle.station_laws.proofs.Acts.{Setting, Holds, IsAsked, own_asked, own_machine, asked_told, asked_stays}
 use Rattle.station_laws.proofs.Acts.{asked_asking, asked_next, asked_reads, other_event, still_holds}
 use Rattle.station_laws.proofs.Along.{FollowsNear, Kept, Goes, goes_along}

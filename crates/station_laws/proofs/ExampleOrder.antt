@@ -1,24 +1,15 @@
 -- The worked joint run is heard in order, so that the law on any two stations speaks of it.
-use Rattle.std.specs.Prelude.{◌≡◌, ◌≢◌, ℕ, zero, suc, ◌<◌, All, AllPairs, Contains, List, [], ◌∷◌, length, Some, None}
-use Rattle.std.specs.Prelude.{slice_get, refl}
-use Rattle.std.proofs.Common.{arith, get_or, inl, inr, sym, ◌∙◌, subst}
-use Rattle.std.proofs.lemmas.List.Elements.{All-from_recursion, All-contains_itself}
+use Rattle.station_laws.proofs.Common.{All, AllPairs, slice_get, arith, get_or, inl, inr, sym, ◌∙◌, subst}
+use Rattle.station_laws.proofs.Common.{All-from_recursion, All-contains_itself, reading, End, A, B, call_of_text}
+use Rattle.station_laws.proofs.Common.{frame_octets, default_params, WindowsFit, changes_law_holds, Step, new_stations}
+use Rattle.station_laws.proofs.Common.{all_stepped, LinkKeepsOrder, Pair, RiseBoth, AreAlikeButForH, HearsLinkFrame}
+use Rattle.station_laws.proofs.Common.{IsHeardPair, HasPair, AreHeardInOrder}
+use Rattle.std.specs.Prelude.{◌≡◌, ◌≢◌, ℕ, zero, suc, ◌<◌, Contains, List, [], ◌∷◌, length, Some, None, refl}
 use Rattle.std.proofs.lemmas.List.Kept.{AllPairs-cons}
 use Rattle.std.proofs.lemmas.Option.{slice_get_past}
-use Rattle.agwpe_port.specs.Messages.{reading}
 use Rattle.link_machine.specs.Step.{step as link_turn}
-use Rattle.link_world.specs.declared.end.End.{End}
-use Rattle.link_world.specs.declared.end.End.TheVariants.{A, B}
-use Rattle.station.specs.CallFields.{call_of_text}
-use Rattle.station.specs.FrameSpelling.{frame_octets}
-use Rattle.link_machine.specs.Params.{default_params, HasWindows}
-use Rattle.link_world.specs.Windows.{WindowsFit}
-use Rattle.link_world.proofs.law.ChangesLaw.{changes_law_holds}
-use Rattle.station_laws.specs.JointRun.{Step, new_stations, all_stepped}
-use Rattle.station_laws.specs.StationsLaw.{LinkKeepsOrder}
+use Rattle.link_machine.specs.Params.{HasWindows}
 use Rattle.station_laws.proofs.JointLaw.{stations_law_holds}
-use Rattle.station_laws.specs.HeardInOrder.{Pair, RiseBoth, AreAlikeButForH, HearsLinkFrame, IsHeardPair, HasPair}
-use Rattle.station_laws.specs.HeardInOrder.{AreHeardInOrder}
 use Rattle.station_laws.proofs.Examples.{sabm, disc, ua, command_path, response_path, command_begins, response_begins}
 use Rattle.station_laws.proofs.Examples.{a_joins, b_joins, a_registers, b_registers, a_calls, b_hears_sabm, a_hears_ua}
 use Rattle.station_laws.proofs.Examples.{a_disconnects, b_hears_disc, a_hears_ua_again, config, steps, calls, pairs}

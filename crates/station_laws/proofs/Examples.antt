@@ -1,46 +1,23 @@
 -- A worked joint run with no data: a host at AAAA calls BBBB (SABM, UA) and disconnects (DISC, UA). What its
 -- definitions compute to, and what one lost frame makes of them.
-use Rattle.std.specs.Prelude.{◌≡◌, ℕ, ◌<◌, true, false, All, nat_lt, List, [], ◌∷◌, ◌++◌, Some, None, refl}
-use Rattle.std.proofs.Common.{inl, arith}
-use Rattle.std.specs.List.{list_all, AllByRecursion as Each}
-use Rattle.std.proofs.lemmas.Bool.{and_parts, ltb-true}
-use Rattle.std.proofs.lemmas.List.Elements.{All-from_recursion}
-use Rattle.ax25_address.specs.Callsign.{Callsign, IsCall, IsCallCharacter}
-use Rattle.ax25_address.specs.FramePath.{BeginsWithPath, way_back}
-use Rattle.ax25_address.specs.declared.path.Path.{Path}
-use Rattle.ax25_address.specs.declared.path.Role.{Role}
-use Rattle.ax25_address.specs.declared.path.Role.TheVariants.{Command, Response}
-use Rattle.ax25_frames.specs.declared.frame.Frame.{Frame}
-use Rattle.ax25_frames.specs.declared.frame.Kind.TheVariants.{Setup}
-use Rattle.ax25_frames.specs.declared.frame.Modulus.TheVariants.{Eight}
-use Rattle.ax25_frames.specs.declared.frame.U.TheVariants.{Sabm, Disc, Ua}
-use Rattle.ax25_frames.specs.FrameOctets.{IsFrame}
-use Rattle.agwpe_port.specs.Messages.{reading, message_of}
-use Rattle.link_machine.specs.declared.state.LinkState.TheVariants.{Idle, Calling}
+use Rattle.station_laws.proofs.Common.{All, inl, arith, list_all, and_parts, ltb-true, All-from_recursion, Callsign}
+use Rattle.station_laws.proofs.Common.{IsCallCharacter, BeginsWithPath, way_back, Path, Role, Command, Frame, Setup}
+use Rattle.station_laws.proofs.Common.{Eight, Sabm, Disc, Ua, IsFrame, reading, Idle, Calling, default_params, End, A}
+use Rattle.station_laws.proofs.Common.{B, Makes, Keeps, World, Config, Joined, Bytes, Agw, answering_else, call_of_text}
+use Rattle.station_laws.proofs.Common.{shown_to_hosts, joining, taking, event_at, making, no_layer_3, Route, path_along}
+use Rattle.station_laws.proofs.Common.{StationState, new_station, Turn, Step, new_stations, IsJointRun, FromHost}
+use Rattle.station_laws.proofs.Common.{OffAir, Calls, Pairs, changes_of, IsQuietLink}
+use Rattle.std.specs.Prelude.{◌≡◌, ℕ, ◌<◌, true, false, nat_lt, List, [], ◌∷◌, ◌++◌, Some, None, refl}
+use Rattle.std.specs.List.{AllByRecursion as Each}
+use Rattle.ax25_address.specs.Callsign.{IsCall}
+use Rattle.ax25_address.specs.declared.path.Role.TheVariants.{Response}
+use Rattle.agwpe_port.specs.Messages.{message_of}
 use Rattle.link_machine.specs.Event.Event.{Connect as LinkConnect, Hear as LinkHear}
-use Rattle.link_machine.specs.Params.{default_params}
 use Rattle.link_machine.specs.Step.{step as link_turn}
-use Rattle.link_world.specs.declared.end.End.{End}
-use Rattle.link_world.specs.declared.end.End.TheVariants.{A, B}
 use Rattle.link_world.specs.declared.event.Event.TheVariants.{Connect, Disconnect, Hear}
-use Rattle.link_world.specs.Changes.Change.{Makes, Keeps}
 use Rattle.link_world.specs.SetUps.{opened}
-use Rattle.link_world.specs.World.{World}
-use Rattle.station.specs.declared.config.Config.{Config}
-use Rattle.station.specs.declared.host_event.HostEvent.TheVariants.{Joined, Bytes}
-use Rattle.station.specs.declared.host_event.PortKind.TheVariants.{Agw}
-use Rattle.station.specs.AgwRequests.{answering_else}
-use Rattle.station.specs.CallFields.{call_of_text}
-use Rattle.station.specs.Heard.{shown_to_hosts}
-use Rattle.station.specs.Host.{joining, taking}
-use Rattle.station.specs.LinkEvents.{event_at}
-use Rattle.station.specs.NewLinks.{making, no_layer_3}
-use Rattle.station.specs.Routes.{Route, path_along}
-use Rattle.station.specs.State.{StationState, new_station}
-use Rattle.station.specs.Turn.{Turn, begin}
-use Rattle.station_laws.specs.JointRun.{Step, new_stations, IsJointRun}
-use Rattle.station_laws.specs.JointRun.Input.{FromHost, OffAir}
-use Rattle.station_laws.specs.LinkOfCalls.{Calls, Pairs, changes_of, world_of, IsQuietLink}
+use Rattle.station.specs.Turn.{begin}
+use Rattle.station_laws.specs.LinkOfCalls.{world_of}
 
 abbrev pub aaaa : Callsign
 aaaa = record { name = 65 ∷ 65 ∷ 65 ∷ 65 ∷ []; ssid = 0 }

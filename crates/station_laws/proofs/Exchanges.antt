@@ -1,21 +1,12 @@
 -- An end that asks, and another that never does: of SABM, SABME, DISC and their answers at most one is in flight, and
 -- none while the first end is up.
-use Rattle.std.proofs.Common.{◌≡◌, ℕ, ◌+◌, ◌≤◌, ◌==◌, Bool, true, false, List, [], ◌∷◌, ◌++◌, length, Option, Some}
-use Rattle.std.proofs.Common.{None, ◌⊎◌, inl, inr, refl, ap, arith}
-use Rattle.std.specs.List.{count_by, AllByRecursion as Each}
-use Rattle.std.proofs.lemmas.Bool.{eqb-true, or_cases}
-use Rattle.ax25_address.specs.declared.path.Path.{Path}
-use Rattle.link_machine.specs.declared.state.LinkState.{LinkState}
-use Rattle.link_machine.specs.declared.state.LinkState.TheVariants.{Idle, Calling, Up, Releasing}
+use Rattle.station_laws.proofs.Common.{◌≡◌, ℕ, ◌+◌, ◌≤◌, ◌==◌, Bool, true, false, List, [], ◌∷◌, ◌++◌, length, Option}
+use Rattle.station_laws.proofs.Common.{Some, None, ◌⊎◌, inl, inr, refl, ap, arith, count_by, eqb-true, or_cases, Path}
+use Rattle.station_laws.proofs.Common.{LinkState, Idle, Calling, Up, Releasing, End, kept, made_in, near_kept, Tagged}
+use Rattle.station_laws.proofs.Common.{answers_in, asks_in, is_alone, sends_alone, Happening, RecordedEnd, World}
+use Rattle.station_laws.proofs.Common.{happening, turn_of, each_append, event_at_end}
+use Rattle.std.specs.List.{AllByRecursion as Each}
 use Rattle.link_machine.specs.Event.{Event as LinkEvent}
-use Rattle.link_world.specs.declared.end.End.{End}
-use Rattle.link_world.specs.Changes.{kept, made_in, near_kept}
-use Rattle.link_world.specs.Flight.{Tagged, answers_in, asks_in}
-use Rattle.link_world.specs.Quiet.{is_alone, sends_alone}
-use Rattle.link_world.specs.Recorded.{Happening, RecordedEnd}
-use Rattle.link_world.specs.World.{World, happening, turn_of}
-use Rattle.link_world.proofs.law.Each.{each_append}
-use Rattle.station_laws.specs.LinkOfCalls.{event_at_end}
 use Rattle.station_laws.proofs.Acts.{is_asking}
 use Rattle.station_laws.proofs.Along.{makes_near}
 use Rattle.station_laws.proofs.Counts.{count_append, count_kept, count_take, one}

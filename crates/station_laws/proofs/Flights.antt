@@ -1,16 +1,12 @@
 -- What is in flight from the links of a station: the frames that were queued, each with its tags if it is a frame of
 -- the link that is meant, read along the pairs that are still to be heard.
-use Rattle.std.proofs.Common.{◌≡◌, ℕ, zero, suc, ◌+◌, ◌<◌, ◌≤◌, Bool, true, false, ◌||◌, List, [], ◌∷◌, ◌++◌, length}
-use Rattle.std.proofs.Common.{map, Option, Some, None, get_or, refl, sym, ap, ◌∙◌, arith, inl, inr}
-use Rattle.std.specs.Bool.{⊤}
-use Rattle.std.specs.List.{range_with_len, AllByRecursion as Each}
-use Rattle.std.proofs.lemmas.Bool.{cases_lt, cases_eq, eq-eqb, ne_eqb}
-use Rattle.std.proofs.lemmas.List.{append-nil, append_assoc, get_or_append_left, get_or-append-add, get_or_past}
-use Rattle.std.proofs.lemmas.List.{length-append}
-use Rattle.link_world.specs.Flight.{Tagged}
-use Rattle.link_world.specs.Changes.{kept, kept_by}
-use Rattle.station_laws.specs.HeardInOrder.{Pair}
-use Rattle.station_laws.specs.LinkOfCalls.{is_named, marks_from}
+use Rattle.station_laws.proofs.Common.{◌≡◌, ℕ, zero, suc, ◌+◌, ◌<◌, ◌≤◌, Bool, true, false, ◌||◌, List, [], ◌∷◌, ◌++◌}
+use Rattle.station_laws.proofs.Common.{length, map, Option, Some, None, get_or, refl, sym, ap, ◌∙◌, arith, inl, inr, ⊤}
+use Rattle.station_laws.proofs.Common.{range_with_len, cases_lt, cases_eq, eq-eqb, ne_eqb, append-nil, append_assoc}
+use Rattle.station_laws.proofs.Common.{get_or_append_left, get_or-append-add, get_or_past, length-append, Tagged, kept}
+use Rattle.station_laws.proofs.Common.{Pair, is_named, marks_from}
+use Rattle.std.specs.List.{AllByRecursion as Each}
+use Rattle.link_world.specs.Changes.{kept_by}
 
 -- pairs that rise in both numbers, from two numbers on
 abbrev pub RiseFrom : (heard sent : ℕ) → List Pair → Type 0

@@ -1,10 +1,7 @@
 -- What the links of a station queue, each frame with whether its step heard SABM, SABME or DISC.
-use Rattle.std.proofs.Common.{◌≡◌, ℕ, Bool, List, [], ◌∷◌, ◌++◌, length, map, refl, sym, ap, ◌∙◌}
-use Rattle.std.proofs.lemmas.List.{append-nil, append_assoc, map-append, length-map}
-use Rattle.link_world.specs.declared.end.End.{End}
-use Rattle.link_world.specs.declared.end.End.TheVariants.{A, B}
-use Rattle.station_laws.specs.InFlight.{LinkFrame, hears_ask}
-use Rattle.station_laws.specs.JointRun.{Step, at_end, queued_at}
+use Rattle.station_laws.proofs.Common.{◌≡◌, ℕ, Bool, List, [], ◌∷◌, ◌++◌, length, map, refl, sym, ap, ◌∙◌, append-nil}
+use Rattle.station_laws.proofs.Common.{append_assoc, map-append, length-map, End, A, B, LinkFrame, hears_ask, Step}
+use Rattle.station_laws.proofs.Common.{at_end, queued_at}
 
 abbrev pub one_framed : Bool → List ℕ → LinkFrame
 one_framed on_ask octets = record { octets = octets; on_ask = on_ask }

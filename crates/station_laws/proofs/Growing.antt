@@ -1,20 +1,14 @@
 -- A joint run with one step more: it is a run, and it is heard in order, if the step adds the next pair or none.
 -- Whoever makes a run step by step keeps these.
-use Rattle.std.proofs.Common.{◌≡◌, ℕ, ◌+◌, ◌<◌, ◌≤◌, List, [], ◌∷◌, ◌++◌, length, take, Some, get_or, refl, sym, ap}
-use Rattle.std.proofs.Common.{◌∙◌, subst, arith, inl, inr}
-use Rattle.std.specs.Prelude.{All, slice_get}
-use Rattle.std.proofs.lemmas.Bool.{cases_lt}
-use Rattle.std.proofs.lemmas.List.{length-append, get_or_append_left, take-append-le}
-use Rattle.std.proofs.lemmas.List.Elements.{All-append, All-contains_itself, All-from_recursion, Contains-append_left}
-use Rattle.std.proofs.lemmas.List.Elements.{Contains-append_right}
+use Rattle.station_laws.proofs.Common.{◌≡◌, ℕ, ◌+◌, ◌<◌, ◌≤◌, List, [], ◌∷◌, ◌++◌, length, take, Some, get_or, refl}
+use Rattle.station_laws.proofs.Common.{sym, ap, ◌∙◌, subst, arith, inl, inr, All, slice_get, cases_lt, length-append}
+use Rattle.station_laws.proofs.Common.{get_or_append_left, All-contains_itself, All-from_recursion, slice_get-get_or}
+use Rattle.station_laws.proofs.Common.{slice_get_within, get_or-append_seam, take-append_seam, End, other, Step}
+use Rattle.station_laws.proofs.Common.{Stations, state_of, stepped, IsJointRun, all_stepped, queued_at, AreAlikeButForH}
+use Rattle.station_laws.proofs.Common.{Pair, RiseBoth, HearsLinkFrame, IsHeardPair, AreHeardInOrder}
+use Rattle.std.proofs.lemmas.List.{take-append-le}
+use Rattle.std.proofs.lemmas.List.Elements.{All-append, Contains-append_left, Contains-append_right}
 use Rattle.std.proofs.lemmas.List.Quantifiers.{all_pairs_push}
-use Rattle.std.proofs.lemmas.Option.{slice_get-get_or, slice_get_within}
-use Rattle.std.proofs.Math.Seq.{get_or-append_seam, take-append_seam}
-use Rattle.link_world.specs.declared.end.End.{End}
-use Rattle.link_world.specs.World.{other}
-use Rattle.station_laws.specs.JointRun.{Step, Stations, state_of, stepped, IsJointRun, all_stepped, queued_at}
-use Rattle.station_laws.specs.HeardInOrder.{AreAlikeButForH, Pair, RiseBoth, HearsLinkFrame, IsHeardPair}
-use Rattle.station_laws.specs.HeardInOrder.{AreHeardInOrder}
 
 -- ---- a run
 

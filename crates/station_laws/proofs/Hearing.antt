@@ -1,43 +1,24 @@
 -- A frame that is heard keeps what holds of a link between two calls: as an event of that link it is the frame in front
 -- of those in flight, and as an event of another it is not among them.
-use Rattle.std.proofs.Common.{◌≡◌, ℕ, ◌<◌, Bool, true, false, List, [], ◌∷◌, length, drop, arith, cond, Option, Some}
-use Rattle.std.proofs.Common.{None, is_some, refl, sym, ap, ◌∙◌, subst, inl, inr}
-use Rattle.std.specs.Prelude.{All, MatchBool, map, is_none}
-use Rattle.std.proofs.lemmas.List.{get_or-set_same}
-use Rattle.ax25_address.specs.Callsign.{Callsign}
-use Rattle.ax25_address.specs.FramePath.{BeginsWithPath, way_back}
-use Rattle.ax25_address.specs.declared.path.Path.{Path}
-use Rattle.ax25_address.specs.declared.path.Role.TheVariants.{Command}
-use Rattle.ax25_address.proofs.OneReading.{BeginsWithPath-same}
-use Rattle.ax25_frames.specs.declared.frame.Frame.{Frame}
-use Rattle.ax25_frames.specs.declared.frame.Modulus.TheVariants.{Eight}
-use Rattle.ax25_frames.specs.FrameOctets.{IsFrame}
+use Rattle.station_laws.proofs.Common.{◌≡◌, ℕ, ◌<◌, Bool, true, false, List, [], ◌∷◌, length, drop, arith, cond, Option}
+use Rattle.station_laws.proofs.Common.{Some, None, is_some, refl, sym, ap, ◌∙◌, subst, inl, inr, All, MatchBool}
+use Rattle.station_laws.proofs.Common.{is_none, get_or-set_same, Callsign, BeginsWithPath, way_back, Path, Command}
+use Rattle.station_laws.proofs.Common.{BeginsWithPath-same, Frame, Eight, IsFrame, Machine, new_machine, modulus_named}
+use Rattle.station_laws.proofs.Common.{step, End, near_made, near_kept, Tagged, asks, World, near_turn, read_in}
+use Rattle.station_laws.proofs.Common.{repeated, PortKind, Kiss, Agw, Connection, IsPathOf, with_shown, IsHeard}
+use Rattle.station_laws.proofs.Common.{IsHeardBy, IsHeardAnew, IsHeardMaking, IsReadingHeardAnew, IsRepeatedFor}
+use Rattle.station_laws.proofs.Common.{AreHeardAt, AreOctetsHeard, may_make, showing_to, shown_to_hosts, source_field}
+use Rattle.station_laws.proofs.Common.{destination_field, waits_for_repeater, event_at, with_links, Link, Links}
+use Rattle.station_laws.proofs.Common.{most_links, is_between, key_between, link_at, with_new_link, making, idle_link}
+use Rattle.station_laws.proofs.Common.{no_layer_3, registrar, Out, Turn, in_order, changing, AreAlikeButForH}
+use Rattle.station_laws.proofs.Common.{with_none_done, LinkFrame, is_ask, event_at_end, LinkStep, link_step, steps_for}
+use Rattle.station_laws.proofs.Common.{steps_at, hears_at, new_steps, anew_steps, reading_steps, key_steps, path_steps}
+use Rattle.station_laws.proofs.Common.{by_path_steps, heard_steps, first_chosen}
+use Rattle.std.specs.Prelude.{map}
 use Rattle.link_machine.specs.Event.{Event as LinkEvent}
 use Rattle.link_machine.specs.Event.Event.{Hear as LinkHear}
-use Rattle.link_machine.specs.Machine.{Machine, new_machine, modulus_named}
-use Rattle.link_machine.specs.Step.{step}
-use Rattle.link_world.specs.declared.end.End.{End}
-use Rattle.link_world.specs.Changes.{near_made, near_kept}
-use Rattle.link_world.specs.Flight.{Tagged, asks}
-use Rattle.link_world.specs.World.{World, near_turn, read_in}
-use Rattle.digipeater.specs.Repeated.{repeated}
-use Rattle.station.specs.declared.host_event.PortKind.{PortKind}
-use Rattle.station.specs.declared.host_event.PortKind.TheVariants.{Kiss, Agw}
-use Rattle.station.specs.Connections.{Connection}
-use Rattle.station.specs.Heard.{IsPathOf, hearing_at, with_shown, IsHeard, IsHeardBy, IsHeardAnew, IsHeardMaking}
-use Rattle.station.specs.Heard.{IsReadingHeardAnew, IsRepeatedFor, IsReadAs, AreHeardAt, AreOctetsHeard, may_make}
-use Rattle.station.specs.Heard.{showing_to, shown_to_hosts, source_field, destination_field, waits_for_repeater}
-use Rattle.station.specs.LinkEvents.{event_at, with_links}
-use Rattle.station.specs.Links.{Link, Links, most_links, is_between, key_between, link_at, with_new_link, link_modulus}
-use Rattle.station.specs.NewLinks.{making, idle_link, no_layer_3}
-use Rattle.station.specs.Registrations.{registrar}
-use Rattle.station.specs.Turn.{Out, Turn, in_order, changing}
-use Rattle.station_laws.specs.HeardInOrder.{AreAlikeButForH, with_none_done}
-use Rattle.station_laws.specs.InFlight.{LinkFrame, is_ask}
-use Rattle.station_laws.specs.LinkOfCalls.{event_at_end}
-use Rattle.station_laws.specs.LinkSteps.{LinkStep, link_step, steps_for, steps_at, hears_at, new_steps, anew_steps}
-use Rattle.station_laws.specs.LinkSteps.{reading_steps, key_steps, path_steps, by_path_steps, heard_steps}
-use Rattle.station_laws.specs.StationsLaw.{first_chosen}
+use Rattle.station.specs.Heard.{hearing_at, IsReadAs}
+use Rattle.station.specs.Links.{link_modulus}
 use Rattle.station_laws.proofs.Acts.{Setting, Holds, marks_of, still_holds, own_machine, own_heard, heard_told}
 use Rattle.station_laws.proofs.Acts.{heard_asking, heard_next, FrontRead, is_asking, asks_when_sent, other_event}
 use Rattle.station_laws.proofs.Addresses.{heard_again}

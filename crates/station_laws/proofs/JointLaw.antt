@@ -1,34 +1,19 @@
 -- The law on any two stations: over a joint run that is heard in order, the two ends of a link follow it, so that the
 -- law of two links is the law of what the stations did.
-use Rattle.std.proofs.Common.{◌≡◌, ℕ, zero, suc, ◌+◌, ◌<◌, ◌≤◌, Bool, List, [], ◌∷◌, ◌++◌, length, take, replicate}
-use Rattle.std.proofs.Common.{Option, Some, None, refl, sym, ap, ◌∙◌, subst, arith}
-use Rattle.std.specs.Prelude.{AllPairs, slice_get}
-use Rattle.std.specs.Bool.{⊤}
+use Rattle.station_laws.proofs.Common.{◌≡◌, ℕ, zero, suc, ◌+◌, ◌<◌, ◌≤◌, Bool, List, [], ◌∷◌, ◌++◌, length, take}
+use Rattle.station_laws.proofs.Common.{Option, Some, None, refl, sym, ap, ◌∙◌, subst, arith, AllPairs, slice_get, ⊤}
+use Rattle.station_laws.proofs.Common.{append-nil, append_assoc, length-append, slice_get-get_or, get_or-append_seam}
+use Rattle.station_laws.proofs.Common.{take-append_seam, Callsign, Params, new_machine, End, A, B, ChangesLaw}
+use Rattle.station_laws.proofs.Common.{run_changes, Tagged, World, seen_from, other, Config, Link, is_between}
+use Rattle.station_laws.proofs.Common.{most_links, StationState, new_station, Input, Step, Stations, new_stations}
+use Rattle.station_laws.proofs.Common.{state_of, with_state, stepped, IsJointRun, all_stepped, at_end, Pair, RiseBoth}
+use Rattle.station_laws.proofs.Common.{IsOffAir, HearsLinkFrame, AreHeardInOrder, LinkFrame, hears_ask, is_ask}
+use Rattle.station_laws.proofs.Common.{FromHost, OffAir, OfClock, Calls, Pairs, Counts, link_at_end, count_at, heard_at}
+use Rattle.station_laws.proofs.Common.{with_more, all_changes_by, changes_from, changes_of, FollowsAll, FollowsThrough}
+use Rattle.station_laws.proofs.Common.{path_between, first_world, steps_of, IsMachineOf}
+use Rattle.std.proofs.Common.{replicate}
 use Rattle.std.specs.List.{AllByRecursion as Each}
-use Rattle.std.proofs.lemmas.List.{append-nil, append_assoc, length-append}
-use Rattle.std.proofs.lemmas.Option.{slice_get-get_or}
-use Rattle.std.proofs.Math.Seq.{get_or-append_seam, take-append_seam}
-use Rattle.ax25_address.specs.Callsign.{Callsign}
-use Rattle.link_machine.specs.declared.params.Params.{Params}
-use Rattle.link_machine.specs.Machine.{new_machine}
-use Rattle.link_world.specs.declared.end.End.{End}
-use Rattle.link_world.specs.declared.end.End.TheVariants.{A, B}
-use Rattle.link_world.specs.Changes.{ChangesLaw, run_changes}
-use Rattle.link_world.specs.Flight.{Tagged}
-use Rattle.link_world.specs.World.{World, seen_from, other}
-use Rattle.station.specs.declared.config.Config.{Config}
-use Rattle.station.specs.Links.{Link, is_between, most_links}
-use Rattle.station.specs.State.{StationState, new_station}
-use Rattle.station_laws.specs.JointRun.{Input, Step, Stations, new_stations, state_of, with_state, stepped, IsJointRun}
-use Rattle.station_laws.specs.JointRun.{all_stepped, at_end}
-use Rattle.station_laws.specs.HeardInOrder.{Pair, RiseBoth, IsOffAir, HearsLinkFrame, AreHeardInOrder}
-use Rattle.station_laws.specs.InFlight.{LinkFrame, hears_ask, is_ask}
-use Rattle.station_laws.specs.JointRun.Input.{FromHost, OffAir, OfClock}
-use Rattle.station_laws.specs.LinkOfCalls.{Calls, Pairs, Counts, link_at_end, count_at, heard_at, with_more}
-use Rattle.station_laws.specs.LinkOfCalls.{all_changes_by, changes_from, changes_of, FollowsAll, FollowsThrough}
-use Rattle.station_laws.specs.LinkOfCalls.{path_between, first_world}
-use Rattle.station_laws.specs.LinkSteps.{steps_of}
-use Rattle.station_laws.specs.StationsLaw.{IsMachineOf, AreEndsOf, FollowingLaw, StationsLaw}
+use Rattle.station_laws.specs.StationsLaw.{AreEndsOf, FollowingLaw, StationsLaw}
 use Rattle.station_laws.proofs.Along.{AllFollowNear, near_all, changes_seen, follow_seen, run_changes-append}
 use Rattle.station_laws.proofs.Flights.{RiseFrom, flight_past}
 use Rattle.station_laws.proofs.Framed.{framed, length-framed, frames_at, frames_more}

@@ -1,3 +1,4 @@
+pub mod Common
 pub mod PathStays
 mod Flights
 pub mod Addresses

@@ -1,30 +1,18 @@
 -- What a link sends in an event, row by row.
-use Rattle.std.proofs.Common.{◌≡◌, ◌==◌, Bool, true, false, refl, sym, ◌∙◌, subst}
-use Rattle.ax25_frames.specs.declared.frame.Kind.{Kind}
-use Rattle.ax25_frames.specs.declared.frame.Kind.TheVariants.{Info, Super, Setup, Ui, Other}
-use Rattle.ax25_frames.specs.declared.frame.U.{U}
-use Rattle.ax25_frames.specs.declared.frame.U.TheVariants.{Sabm, Sabme, Disc, Dm, Ua}
+use Rattle.station_laws.proofs.Common.{◌≡◌, ◌==◌, Bool, true, false, refl, sym, ◌∙◌, subst, Kind, Info, Super, Setup}
+use Rattle.station_laws.proofs.Common.{Ui, Other, U, Sabm, Sabme, Disc, Dm, Ua, Event, Connect, Send, Disconnect, Hear}
+use Rattle.station_laws.proofs.Common.{Tick, Machine, sent_in, SetupSent, step, begin, LinkState, Up, IsAsking, Row}
+use Rattle.station_laws.proofs.Common.{Settles, Stepped, flush_traffic, rests_traffic, step_is, agrees, calls_again}
+use Rattle.station_laws.proofs.Common.{connects, declines, ends_by_disc, ends_by_dm, ends_call, gives_up, is_answered}
+use Rattle.station_laws.proofs.Common.{is_called, is_called_again, narrows, releases_again, resets, rests, takes}
+use Rattle.station_laws.proofs.Common.{wishes, works, goes_on, is_down, releases, is_refused, traffic_mode}
 use Rattle.link_machine.specs.Acts.{calling_frame}
-use Rattle.link_machine.specs.Event.{Event}
-use Rattle.link_machine.specs.Event.Event.{Connect, Send, Disconnect, Hear, Tick}
 use Rattle.link_machine.specs.Frames.{open_answered}
-use Rattle.link_machine.specs.Machine.{Machine, is_wide}
+use Rattle.link_machine.specs.Machine.{is_wide}
 use Rattle.link_machine.specs.Params.{called_modulus}
-use Rattle.link_machine.specs.Sent.{sent_in}
-use Rattle.link_machine.specs.Sent.Sent.{SetupSent}
-use Rattle.link_machine.specs.Step.{step}
-use Rattle.link_machine.specs.Turn.{Turn, begin}
-use Rattle.link_machine.specs.declared.state.LinkState.{LinkState}
-use Rattle.link_machine.specs.declared.state.LinkState.TheVariants.{Up}
-use Rattle.link_steps.proofs.Rows.{Hears, IsAsking, IsDown, IsUa, IsUaSetup, Row, Settles, Stepped, flush_traffic}
-use Rattle.link_steps.proofs.Rows.{rests_mode, rests_traffic, step_is}
-use Rattle.link_steps.proofs.Rows.Row.{agrees, calls_again, connects, declines, ends_by_disc, ends_by_dm, ends_call}
-use Rattle.link_steps.proofs.Rows.Row.{gives_up, is_answered, is_called, is_called_again, narrows, releases_again}
-use Rattle.link_steps.proofs.Rows.Row.{resets}
-use Rattle.link_steps.proofs.Rows.Row.{rests, takes, wishes, works}
-use Rattle.link_steps.proofs.Rows.Settles.{goes_on, is_down, releases}
-use Rattle.link_steps.proofs.Rows.Stepped.{is_refused, makes}
-use Rattle.link_steps.proofs.Traffic.{traffic_mode}
+use Rattle.link_machine.specs.Turn.{Turn}
+use Rattle.link_steps.proofs.Rows.{Hears, IsDown, IsUa, IsUaSetup, rests_mode}
+use Rattle.link_steps.proofs.Rows.Stepped.{makes}
 use Rattle.station_laws.proofs.LinkDid.{asks_is}
 use Rattle.station_laws.proofs.Sends.{Sends, ends, flushed, hears_asking, hears_ua, is_ua, is_ua_frame, numbers, opened}
 use Rattle.station_laws.proofs.Sends.{released, sends_one, stands}

@@ -1,31 +1,19 @@
 -- What an event of a link does to its set-up and to a wish to disconnect, row by row.
-use Rattle.std.proofs.Common.{◌≡◌, Bool, true, false, List, [], ◌∷◌, ◌++◌, refl, sym, ap, ◌∙◌}
-use Rattle.std.specs.Bool.{⊤}
-use Rattle.std.proofs.lemmas.List.{append_assoc}
-use Rattle.ax25_frames.specs.declared.frame.Kind.{Kind}
-use Rattle.ax25_frames.specs.declared.frame.Kind.TheVariants.{Info, Super, Setup, Ui, Other}
-use Rattle.link_machine.specs.declared.acts.Told.{Told}
-use Rattle.link_machine.specs.declared.acts.Told.TheVariants.{Opened, Ended}
-use Rattle.link_machine.specs.declared.acts.Why.{Why}
-use Rattle.link_machine.specs.declared.acts.Why.TheVariants.{Failed, Peer, Reset}
-use Rattle.link_machine.specs.declared.state.LinkState.TheVariants.{Idle, Calling, Up, Releasing}
-use Rattle.link_machine.specs.Event.{Event}
-use Rattle.link_machine.specs.Event.Event.{Connect, Send, Disconnect, Hear, Tick}
-use Rattle.link_machine.specs.Machine.{Machine, is_valid}
-use Rattle.link_machine.specs.Step.{step}
-use Rattle.link_machine.specs.Turn.{Turn, begin}
-use Rattle.link_world.specs.Flight.{asks}
-use Rattle.link_world.specs.Law.{names_valid}
-use Rattle.link_steps.proofs.Rows.{Flushes, Hears, IsAsking, IsConnect, IsDisconnect, IsWrong as IsWrongKind, Row}
-use Rattle.link_steps.proofs.Rows.{Settles, Stepped, flush_traffic, step_is}
+use Rattle.station_laws.proofs.Common.{◌≡◌, Bool, true, false, List, [], ◌∷◌, ◌++◌, refl, sym, ap, ◌∙◌, ⊤, append_assoc}
+use Rattle.station_laws.proofs.Common.{Kind, Info, Super, Setup, Ui, Other, Told, Opened, Ended, Why, Failed, Peer}
+use Rattle.station_laws.proofs.Common.{Reset, Idle, Calling, Up, Releasing, Event, Connect, Send, Disconnect, Hear}
+use Rattle.station_laws.proofs.Common.{Tick, Machine, step, begin, asks, names_valid, IsAsking, IsConnect, IsDisconnect}
+use Rattle.station_laws.proofs.Common.{Row, Settles, Stepped, flush_traffic, step_is, as_timed, agrees, calls_again}
+use Rattle.station_laws.proofs.Common.{connects, declines, ends_by_disc, ends_by_dm, ends_call, gives_up, is_answered}
+use Rattle.station_laws.proofs.Common.{is_called_again, narrows, releases_again, rests, takes, works, goes_on, is_down}
+use Rattle.station_laws.proofs.Common.{is_refused, traffic_mode}
+use Rattle.link_machine.specs.Machine.{is_valid}
+use Rattle.link_machine.specs.Turn.{Turn}
+use Rattle.link_steps.proofs.Rows.{Flushes, Hears, IsWrong as IsWrongKind}
 use Rattle.link_steps.proofs.Rows.Flushes.{sends_all, sends_none}
-use Rattle.link_steps.proofs.Rows.Rests.{as_timed}
-use Rattle.link_steps.proofs.Rows.Row.{agrees, calls_again, connects, declines, ends_by_disc, ends_by_dm, ends_call}
-use Rattle.link_steps.proofs.Rows.Row.{gives_up, is_answered, is_called as opens_called, is_called_again, narrows}
-use Rattle.link_steps.proofs.Rows.Row.{releases_again, resets as calls_anew, rests, takes, wishes as quits, works}
-use Rattle.link_steps.proofs.Rows.Settles.{goes_on, is_down, releases as is_released}
-use Rattle.link_steps.proofs.Rows.Stepped.{is_refused, makes}
-use Rattle.link_steps.proofs.Traffic.{traffic_mode}
+use Rattle.link_steps.proofs.Rows.Row.{is_called as opens_called, resets as calls_anew, wishes as quits}
+use Rattle.link_steps.proofs.Rows.Settles.{releases as is_released}
+use Rattle.link_steps.proofs.Rows.Stepped.{makes}
 use Rattle.station_laws.proofs.LinkKinds.{IsLinkKind}
 use Rattle.station_laws.proofs.LinkTells.{Gives, gives_none, traffic_gives}
 use Rattle.station_laws.proofs.Tables.{not_both}

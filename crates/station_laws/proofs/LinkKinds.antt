@@ -1,13 +1,8 @@
 -- What a link sends is I, S, or a frame that sets up or ends; and so is what another link reads of it.
-use Rattle.std.proofs.Common.{◌≡◌, ℕ, Bool, true, false, nat_lt, List, [], ◌∷◌, length, cond, Option, Some, None, subst}
-use Rattle.std.specs.Bool.{⊤}
-use Rattle.ax25_frames.specs.declared.frame.Kind.{Kind}
-use Rattle.ax25_frames.specs.declared.frame.Kind.TheVariants.{Info, Super, Setup, Ui, Other}
-use Rattle.ax25_frames.specs.declared.frame.Modulus.{Modulus}
-use Rattle.ax25_frames.specs.declared.frame.Modulus.TheVariants.{Eight, OneTwentyEight}
-use Rattle.link_machine.specs.Sent.{Sent, sent_kind}
-use Rattle.link_machine.specs.Sent.Sent.{InfoSent, SuperSent, SetupSent}
-use Rattle.link_world.specs.Reading.{info_read_wide, kind_read}
+use Rattle.station_laws.proofs.Common.{◌≡◌, ℕ, Bool, true, false, nat_lt, List, [], ◌∷◌, length, cond, Option, Some}
+use Rattle.station_laws.proofs.Common.{None, subst, ⊤, Kind, Info, Super, Setup, Ui, Other, Modulus, Eight}
+use Rattle.station_laws.proofs.Common.{OneTwentyEight, Sent, sent_kind, InfoSent, SuperSent, SetupSent, info_read_wide}
+use Rattle.station_laws.proofs.Common.{kind_read}
 
 abbrev pub IsLinkKind : Kind → Type 0
 IsLinkKind (Info ns nr flag pid octets) = ⊤

@@ -1,33 +1,20 @@
 -- A link tells of data only while a set-up runs: row by row.
-use Rattle.std.proofs.Common.{◌≡◌, ℕ, Bool, true, false, List, [], ◌∷◌, ◌++◌, map}
-use Rattle.std.proofs.Common.{refl, sym, ap, ◌∙◌, subst, inl, inr}
-use Rattle.std.proofs.lemmas.List.{append-nil, append_assoc, map-append}
-use Rattle.selective_reject.specs.declared.packet.Packet.{Packet}
-use Rattle.link_machine.specs.declared.acts.Told.{Told}
-use Rattle.link_machine.specs.declared.acts.Told.TheVariants.{Opened, Given, Ended}
-use Rattle.link_machine.specs.declared.acts.Why.{Why}
-use Rattle.link_machine.specs.declared.acts.Why.TheVariants.{Failed, Peer, Reset}
-use Rattle.link_machine.specs.declared.state.LinkState.TheVariants.{Idle, Calling, Up}
-use Rattle.link_machine.specs.Acts.{release, reset}
-use Rattle.link_machine.specs.Event.{Event}
+use Rattle.station_laws.proofs.Common.{◌≡◌, ℕ, Bool, true, false, List, [], ◌∷◌, ◌++◌, map, refl, sym, ap, ◌∙◌, subst}
+use Rattle.station_laws.proofs.Common.{inl, inr, append-nil, append_assoc, map-append, Packet, Told, Opened, Given}
+use Rattle.station_laws.proofs.Common.{Ended, Why, Failed, Peer, Reset, Idle, Calling, Up, release, Event, Machine}
+use Rattle.station_laws.proofs.Common.{step, begin, along_run, Row, Settles, Stepped, flush_traffic, step_is, as_timed}
+use Rattle.station_laws.proofs.Common.{agrees, calls_again, connects, declines, ends_by_disc, ends_by_dm, ends_call}
+use Rattle.station_laws.proofs.Common.{gives_up, is_answered, is_called, is_called_again, narrows, releases_again}
+use Rattle.station_laws.proofs.Common.{resets, rests, takes, wishes, works, goes_on, is_down, releases, is_refused}
+use Rattle.station_laws.proofs.Common.{Single, Traffic, acknowledges, flushes, goes_back, repeats, reports, stores}
+use Rattle.station_laws.proofs.Common.{times, RunsIn, runs_after}
+use Rattle.link_machine.specs.Acts.{reset}
 use Rattle.link_machine.specs.Frames.{open_again}
-use Rattle.link_machine.specs.Machine.{Machine}
 use Rattle.link_machine.specs.Requests.{connect}
-use Rattle.link_machine.specs.Step.{step}
-use Rattle.link_machine.specs.Turn.{Turn, begin}
-use Rattle.step_laws.proofs.Runs.{along_run}
-use Rattle.link_steps.proofs.Rows.{Row, Settles, Stepped, flush_traffic, step_is}
-use Rattle.link_steps.proofs.Rows.Rests.{as_timed}
-use Rattle.link_steps.proofs.Rows.Row.{agrees, calls_again, connects, declines, ends_by_disc, ends_by_dm, ends_call}
-use Rattle.link_steps.proofs.Rows.Row.{gives_up, is_answered, is_called, is_called_again, narrows, releases_again}
-use Rattle.link_steps.proofs.Rows.Row.{resets}
-use Rattle.link_steps.proofs.Rows.Row.{rests, takes, wishes, works}
-use Rattle.link_steps.proofs.Rows.Settles.{goes_on, is_down, releases}
-use Rattle.link_steps.proofs.Rows.Stepped.{is_refused, makes}
-use Rattle.link_steps.proofs.Traffic.{Single, Traffic}
-use Rattle.link_steps.proofs.Traffic.Single.{acknowledges, asks, flushes, gives as give_packets, goes_back, repeats}
-use Rattle.link_steps.proofs.Traffic.Single.{reports, stores, times}
-use Rattle.station_laws.specs.LinksTell.{AreToldInOne, LinksTellInOne, RunsIn, runs_after}
+use Rattle.link_machine.specs.Turn.{Turn}
+use Rattle.link_steps.proofs.Rows.Stepped.{makes}
+use Rattle.link_steps.proofs.Traffic.Single.{asks, gives as give_packets}
+use Rattle.station_laws.specs.LinksTell.{AreToldInOne, LinksTellInOne}
 
 -- ---- what acts tell
 

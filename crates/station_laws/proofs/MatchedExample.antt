@@ -1,22 +1,12 @@
 -- The worked joint run with its matches: each heard frame was in flight, and SABM and DISC found a quiet channel, so
 -- that the law over matched runs speaks of it. A DISC that follows the SABM at once would find no quiet channel.
+use Rattle.station_laws.proofs.Common.{arith, All-from_recursion, reading, A, B, changes_law_holds, call_of_text}
+use Rattle.station_laws.proofs.Common.{frame_octets, Moment, AreMatched, AreQuietThrough, nothing_sent, steps_in, Steps}
+use Rattle.station_laws.proofs.Common.{Passes, new_stations, all_stepped, link_at_end, steps_of, IsEventOfCaller}
+use Rattle.station_laws.proofs.Common.{OnlyACalls, pairs_in, LinkKeepsOrder}
 use Rattle.std.specs.Prelude.{◌≡◌, true, false, List, [], ◌∷◌, Some, None, refl}
-use Rattle.std.proofs.Common.{arith}
-use Rattle.std.proofs.lemmas.List.Elements.{All-from_recursion}
-use Rattle.agwpe_port.specs.Messages.{reading}
 use Rattle.link_machine.specs.Step.{step as link_turn}
-use Rattle.link_world.specs.declared.end.End.TheVariants.{A, B}
-use Rattle.link_world.proofs.law.ChangesLaw.{changes_law_holds}
-use Rattle.station.specs.CallFields.{call_of_text}
-use Rattle.station.specs.FrameSpelling.{frame_octets}
-use Rattle.station_laws.specs.InFlight.{Moment, AreMatched, AreQuietThrough, nothing_sent, steps_in, is_quiet_at}
-use Rattle.station_laws.specs.InFlight.{after_moments}
-use Rattle.station_laws.specs.InFlight.Moment.{Steps, Passes}
-use Rattle.station_laws.specs.JointRun.{new_stations, all_stepped}
-use Rattle.station_laws.specs.LinkOfCalls.{link_at_end}
-use Rattle.station_laws.specs.LinkSteps.{steps_of}
-use Rattle.station_laws.specs.MatchedLaw.{IsEventOfCaller, OnlyACalls, pairs_in}
-use Rattle.station_laws.specs.StationsLaw.{LinkKeepsOrder}
+use Rattle.station_laws.specs.InFlight.{is_quiet_at, after_moments}
 use Rattle.station_laws.proofs.ExampleOrder.{fits}
 use Rattle.station_laws.proofs.Examples.{sabm, disc, ua, a_joins, b_joins, a_registers, b_registers, a_calls}
 use Rattle.station_laws.proofs.Examples.{b_hears_sabm, a_hears_ua, a_disconnects, b_hears_disc, a_hears_ua_again}

@@ -1,14 +1,9 @@
 -- The law on two stations of which only one calls, over a run with its matches.
-use Rattle.std.proofs.Common.{ℕ, List, [], ◌∷◌, refl, arith}
-use Rattle.std.proofs.lemmas.List.Elements.{recursion_from_All}
-use Rattle.link_world.specs.Changes.{ChangesLaw}
-use Rattle.link_world.specs.Windows.{WindowsFit}
-use Rattle.station.specs.declared.config.Config.{Config}
-use Rattle.station_laws.specs.InFlight.{Moment, AreMatched, AreQuietThrough, nothing_sent, steps_in}
-use Rattle.station_laws.specs.JointRun.{Step, new_stations, IsJointRun}
-use Rattle.station_laws.specs.LinkOfCalls.{Calls, IsQuietLink, link_at_end, path_between, first_world}
-use Rattle.station_laws.specs.LinkSteps.{steps_of}
-use Rattle.station_laws.specs.MatchedLaw.{IsEventOfCaller, OnlyACalls, MatchedLaw, pairs_in}
+use Rattle.station_laws.proofs.Common.{ℕ, List, [], ◌∷◌, refl, arith, recursion_from_All, ChangesLaw, WindowsFit}
+use Rattle.station_laws.proofs.Common.{Config, Moment, AreMatched, AreQuietThrough, nothing_sent, steps_in, Step}
+use Rattle.station_laws.proofs.Common.{new_stations, IsJointRun, Calls, IsQuietLink, link_at_end, path_between}
+use Rattle.station_laws.proofs.Common.{first_world, steps_of, IsEventOfCaller, OnlyACalls, pairs_in}
+use Rattle.station_laws.specs.MatchedLaw.{MatchedLaw}
 use Rattle.station_laws.proofs.JointLaw.{new_side, new_sent, stations_law_holds}
 use Rattle.station_laws.proofs.MatchedOrder.{matched_in_order_holds}
 use Rattle.station_laws.proofs.QuietJoint.{EventsHold, quiet_run}

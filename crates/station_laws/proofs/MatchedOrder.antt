@@ -1,27 +1,17 @@
 -- The pairs that the matches of a run make: what is heard is heard in order and once, and was sent before.
-use Rattle.std.proofs.Common.{◌≡◌, ◌≢◌, ℕ, ◌<◌, ◌≤◌, Bool, true, false, List, [], ◌∷◌, ◌++◌, length, Option, Some, None}
-use Rattle.std.proofs.Common.{is_some, refl, sym, ap, ◌∙◌, subst, arith}
-use Rattle.std.specs.Prelude.{slice_get, option_map}
+use Rattle.station_laws.proofs.Common.{◌≡◌, ◌≢◌, ℕ, ◌<◌, ◌≤◌, Bool, true, false, List, [], ◌∷◌, ◌++◌, length, Option}
+use Rattle.station_laws.proofs.Common.{Some, None, is_some, refl, sym, ap, ◌∙◌, subst, arith, slice_get, option_map}
+use Rattle.station_laws.proofs.Common.{append-nil, append_assoc, length-append, All-from_recursion, BeginsWithPath}
+use Rattle.station_laws.proofs.Common.{Path, End, A, B, other, each_weaker, each_append, IsHeardBy, IsPathOf}
+use Rattle.station_laws.proofs.Common.{shown_to_hosts, Turn, AreAlikeButForH, Pair, IsOffAir, AreHeardInOrder, Moment}
+use Rattle.station_laws.proofs.Common.{LinkFrame, OneWay, BothWays, IsMatched, AreMatched, hears_ask, nothing_sent}
+use Rattle.station_laws.proofs.Common.{sent_by, steps_in, queueing_all, hearing_at, after_moment, Steps, Passes, Input}
+use Rattle.station_laws.proofs.Common.{IsTurn, Step, at_end, queued_at, FromHost, OffAir, OfClock, LinkStep, steps_of}
+use Rattle.station_laws.proofs.Common.{turn_steps, by_path_steps, is_event, pair_of, pairs_from}
 use Rattle.std.specs.List.{AllByRecursion as Each}
-use Rattle.std.proofs.lemmas.List.{append-nil, append_assoc, length-append}
-use Rattle.std.proofs.lemmas.List.Elements.{All-from_recursion}
 use Rattle.std.proofs.lemmas.Option.{slice_get-map}
-use Rattle.ax25_address.specs.FramePath.{BeginsWithPath}
-use Rattle.ax25_address.specs.declared.path.Path.{Path}
-use Rattle.link_world.specs.declared.end.End.{End}
-use Rattle.link_world.specs.declared.end.End.TheVariants.{A, B}
-use Rattle.link_world.specs.World.{other}
-use Rattle.link_world.proofs.law.Each.{each_weaker, each_append}
-use Rattle.station.specs.Heard.{IsHeardBy, IsPathOf, shown_to_hosts}
-use Rattle.station.specs.Turn.{Turn, begin}
-use Rattle.station_laws.specs.HeardInOrder.{AreAlikeButForH, Pair, IsOffAir, AreHeardInOrder}
-use Rattle.station_laws.specs.InFlight.{Moment, LinkFrame, OneWay, BothWays, IsMatched, AreMatched, hears_ask}
-use Rattle.station_laws.specs.InFlight.{nothing_sent, sent_by, steps_in, queueing_all, hearing_at, after_moment}
-use Rattle.station_laws.specs.InFlight.Moment.{Steps, Passes}
-use Rattle.station_laws.specs.JointRun.{Input, IsTurn, Step, at_end, queued_at}
-use Rattle.station_laws.specs.JointRun.Input.{FromHost, OffAir, OfClock}
-use Rattle.station_laws.specs.LinkSteps.{LinkStep, steps_of, turn_steps, by_path_steps}
-use Rattle.station_laws.specs.MatchedLaw.{is_event, pair_of, pairs_from, MatchedInOrder}
+use Rattle.station.specs.Turn.{begin}
+use Rattle.station_laws.specs.MatchedLaw.{MatchedInOrder}
 use Rattle.station_laws.proofs.Framed.{framed, octets_in, octets_at, frames_at, frames_more}
 use Rattle.station_laws.proofs.Growing.{heard_none_more, heard_one_more}
 use Rattle.station_laws.proofs.Ways.{queued_by, front_by, front_passed, front_heard, queued_passed}

@@ -1,48 +1,29 @@
 -- What comes from a host program keeps what holds of a link between two calls.
-use Rattle.std.proofs.Common.{◌≡◌, ℕ, Bool, true, false, ◌==◌, ◌&&◌, nat_lt, nat_le, List, [], ◌∷◌, ◌++◌, length, drop}
-use Rattle.std.proofs.Common.{cond, if◌then◌else◌, Option, Some, None, refl, sym, ap, ◌∙◌, subst, inl}
-use Rattle.std.specs.Prelude.{MatchBool, is_none}
-use Rattle.std.proofs.lemmas.Bool.{and_parts, cond-true, cond-false, eqb-true}
-use Rattle.std.proofs.lemmas.List.{append-nil}
-use Rattle.ax25_address.specs.Callsign.{Callsign}
-use Rattle.ax25_frames.specs.declared.frame.Modulus.TheVariants.{Eight}
-use Rattle.agwpe_port.specs.Messages.{bad_length_in}
-use Rattle.agwpe_port.specs.declared.message.AgwMessage.{AgwMessage}
-use Rattle.kiss_port.specs.declared.item.KissItem.{KissItem}
-use Rattle.kiss_port.specs.declared.item.KissItem.TheVariants.{Frame as KissFrame, Set, Hardware, Return, TooLong}
-use Rattle.kiss_port.specs.declared.item.KissItem.TheVariants.{Other}
+use Rattle.station_laws.proofs.Common.{◌≡◌, ℕ, Bool, true, false, ◌==◌, ◌&&◌, nat_lt, nat_le, List, [], ◌∷◌, ◌++◌}
+use Rattle.station_laws.proofs.Common.{length, drop, cond, if◌then◌else◌, Option, Some, None, refl, sym, ap, ◌∙◌, subst}
+use Rattle.station_laws.proofs.Common.{inl, MatchBool, is_none, and_parts, cond-true, cond-false, eqb-true, append-nil}
+use Rattle.station_laws.proofs.Common.{Callsign, Eight, bad_length_in, AgwMessage, KissItem, Set, Hardware, Return}
+use Rattle.station_laws.proofs.Common.{TooLong, new_machine, End, Tagged, HostEvent, Joined, Bytes, Left, PortKind}
+use Rattle.station_laws.proofs.Common.{Kiss, Agw, version_kind, ports_kind, capabilities_kind, register_kind}
+use Rattle.station_laws.proofs.Common.{unregister_kind, toggle_kind, monitor_kind, raw_kind, unproto_kind}
+use Rattle.station_laws.proofs.Common.{unproto_via_kind, data_kind, disconnect_kind, pending_kind, waiting_kind}
+use Rattle.station_laws.proofs.Common.{replying, register_reply, with_registration, registering, unregistering}
+use Rattle.station_laws.proofs.Common.{queueing_raw, most_information, unnumbered_frame, sending_unnumbered}
+use Rattle.station_laws.proofs.Common.{refused_reply, may_call, calls, called_route, called_pid, IsCall, IsCallMade}
+use Rattle.station_laws.proofs.Common.{own_key, giving, disconnecting, pending_in, pending_reply, waiting_reply}
+use Rattle.station_laws.proofs.Common.{answering_else, AreAnswered, has_frame_length, call_in, Connection}
+use Rattle.station_laws.proofs.Common.{connection_of, most_connections, frame_octets, joining, with_host, new_messages}
+use Rattle.station_laws.proofs.Common.{new_items, taking, ending, AreTaken, AreTakenBy, IsHostTurn, param_of}
+use Rattle.station_laws.proofs.Common.{with_param, heeding, heeding_all, IsNewKey, is_between, key_between, most_links}
+use Rattle.station_laws.proofs.Common.{making, idle_link, registrar, may_register, is_number, Route, route_in}
+use Rattle.station_laws.proofs.Common.{repeaters_in, behind_repeaters, path_along, Turn, Act, changing, closing}
+use Rattle.station_laws.proofs.Common.{queueing, entering, dropping, capacity, LinkStep, data_steps, disconnect_steps}
+use Rattle.station_laws.proofs.Common.{else_steps, made_steps, call_steps, answer_steps, message_steps, ending_steps}
+use Rattle.station_laws.proofs.Common.{octet_steps_by, octet_steps, host_steps, first_chosen}
+use Rattle.kiss_port.specs.declared.item.KissItem.TheVariants.{Frame as KissFrame, Other}
 use Rattle.link_machine.specs.Event.Event.{Connect as LinkConnect}
-use Rattle.link_machine.specs.Machine.{new_machine}
-use Rattle.link_world.specs.declared.end.End.{End}
-use Rattle.link_world.specs.Flight.{Tagged}
-use Rattle.station.specs.declared.host_event.HostEvent.{HostEvent}
-use Rattle.station.specs.declared.host_event.HostEvent.TheVariants.{Joined, Bytes, Left}
-use Rattle.station.specs.declared.host_event.PortKind.{PortKind}
-use Rattle.station.specs.declared.host_event.PortKind.TheVariants.{Kiss, Agw}
-use Rattle.station.specs.AgwKinds.{version_kind, ports_kind, capabilities_kind, register_kind, unregister_kind}
-use Rattle.station.specs.AgwKinds.{toggle_kind, monitor_kind, raw_kind, unproto_kind, unproto_via_kind}
-use Rattle.station.specs.AgwKinds.{connect_via_kind, data_kind, disconnect_kind, pending_kind, waiting_kind}
-use Rattle.station.specs.AgwRequests.{replying, register_reply, with_registration, registering, unregistering}
-use Rattle.station.specs.AgwRequests.{queueing_raw, most_information, unnumbered_frame, sending_unnumbered}
-use Rattle.station.specs.AgwRequests.{refused_reply, may_call, calls, called_route, called_pid, IsCall, IsCallMade}
-use Rattle.station.specs.AgwRequests.{own_key, giving, disconnecting, pending_in, pending_reply, waiting_reply}
-use Rattle.station.specs.AgwRequests.{answering_else, AreAnswered}
-use Rattle.hdlc_framer.specs.FrameLength.{has_frame_length}
-use Rattle.station.specs.CallFields.{call_in}
-use Rattle.station.specs.Connections.{Connection, connection_of, most_connections}
-use Rattle.station.specs.FrameSpelling.{frame_octets}
-use Rattle.station.specs.Host.{joining, with_host, new_messages, new_items, taking, ending, AreTaken, AreTakenBy}
-use Rattle.station.specs.Host.{IsHostTurn}
-use Rattle.station.specs.Kiss.{param_of, with_param, heeding, heeding_all}
-use Rattle.station.specs.Links.{IsNewKey, is_between, key_between, count_of_links, most_links}
-use Rattle.station.specs.NewLinks.{making, idle_link}
-use Rattle.station.specs.Registrations.{registrar, may_register, is_number}
-use Rattle.station.specs.Routes.{Route, route_in, repeaters_in, behind_repeaters, path_along}
-use Rattle.station.specs.Turn.{Turn, Act, changing, closing, queueing, entering, dropping, capacity}
-use Rattle.station_laws.specs.LinkSteps.{LinkStep, data_steps, disconnect_steps, else_steps, made_steps, call_steps}
-use Rattle.station_laws.specs.LinkSteps.{answer_steps, message_steps, ending_steps, octet_steps_by, octet_steps}
-use Rattle.station_laws.specs.LinkSteps.{host_steps}
-use Rattle.station_laws.specs.StationsLaw.{first_chosen}
+use Rattle.station.specs.AgwKinds.{connect_via_kind}
+use Rattle.station.specs.Links.{count_of_links}
 use Rattle.station_laws.proofs.Acts.{Setting, still_holds}
 use Rattle.station_laws.proofs.Along.{Kept, Goes, goes_on}
 use Rattle.station_laws.proofs.Events.{meant, leaving_goes, data_goes, disconnect_goes, MayMake, made_asked}

@@ -1,29 +1,16 @@
 -- Of the frames that a step queues as many ask for an answer as its events sent that joined the queue, at least. This
 -- is seen by pairs that name all of them: then all are in flight.
-use Rattle.std.proofs.Common.{◌≡◌, ℕ, zero, suc, ◌+◌, ◌<◌, ◌≤◌, ◌==◌, Bool, true, List, [], ◌∷◌, ◌++◌, length, take}
-use Rattle.std.proofs.Common.{drop, Option, Some, None, refl, sym, ap, ◌∙◌, subst, arith}
-use Rattle.std.specs.Prelude.{max, slice_get}
-use Rattle.std.specs.List.{count_by, AllByRecursion as Each}
-use Rattle.std.proofs.Math.Nat.{le-max_left, le-max_right}
+use Rattle.station_laws.proofs.Common.{◌≡◌, ℕ, zero, suc, ◌+◌, ◌<◌, ◌≤◌, ◌==◌, Bool, true, List, [], ◌∷◌, ◌++◌, length}
+use Rattle.station_laws.proofs.Common.{take, drop, Option, Some, None, refl, sym, ap, ◌∙◌, subst, arith, slice_get}
+use Rattle.station_laws.proofs.Common.{count_by, le-max_left, le-max_right, eq-eqb, or_left, or_right, append-nil}
+use Rattle.station_laws.proofs.Common.{append_assoc, Callsign, Path, Params, modulus_named, End, kept, near_made}
+use Rattle.station_laws.proofs.Common.{near_kept, Tagged, asks_in, World, Side, near_turn, other, frame_octets}
+use Rattle.station_laws.proofs.Common.{is_between, StationState, Pair, AreHeardInOrder, LinkFrame, hears_ask, Step}
+use Rattle.station_laws.proofs.Common.{is_named, marks_from, event_at_end, LinkStep, steps_of}
+use Rattle.std.specs.Prelude.{max}
+use Rattle.std.specs.List.{AllByRecursion as Each}
 use Rattle.std.proofs.Math.Seq.{drop-append_seam}
-use Rattle.std.proofs.lemmas.Bool.{eq-eqb, or_left, or_right}
-use Rattle.std.proofs.lemmas.List.{append-nil, append_assoc}
-use Rattle.ax25_address.specs.Callsign.{Callsign}
-use Rattle.ax25_address.specs.declared.path.Path.{Path}
-use Rattle.link_machine.specs.declared.params.Params.{Params}
-use Rattle.link_machine.specs.Machine.{modulus_named}
-use Rattle.link_world.specs.declared.end.End.{End}
-use Rattle.link_world.specs.Changes.{kept, near_made, near_kept}
-use Rattle.link_world.specs.Flight.{Tagged, asks_in}
-use Rattle.link_world.specs.World.{World, Side, near_turn, other}
-use Rattle.station.specs.FrameSpelling.{frame_octets}
-use Rattle.station.specs.Links.{is_between}
-use Rattle.station.specs.State.{StationState}
-use Rattle.station_laws.specs.HeardInOrder.{Pair, AreHeardInOrder}
-use Rattle.station_laws.specs.InFlight.{LinkFrame, hears_ask, asks}
-use Rattle.station_laws.specs.JointRun.{Step}
-use Rattle.station_laws.specs.LinkOfCalls.{is_named, marks_from, event_at_end}
-use Rattle.station_laws.specs.LinkSteps.{LinkStep, steps_of}
+use Rattle.station_laws.specs.InFlight.{asks}
 use Rattle.station_laws.proofs.Acts.{is_asking}
 use Rattle.station_laws.proofs.Addresses.{frame_spelled}
 use Rattle.station_laws.proofs.Along.{makes_near, near_by, near_all}

@@ -1,28 +1,18 @@
 -- When an event finds a quiet channel, as its end sees it, and how much the events of a step leave in flight that asks.
-use Rattle.std.proofs.Common.{◌≡◌, ℕ, ◌+◌, ◌≤◌, Bool, true, false, not, ◌==◌, List, [], ◌∷◌, ◌++◌, length, map, take}
-use Rattle.std.proofs.Common.{drop, Option, Some, None, ◌⊎◌, refl, sym, ap, ◌∙◌, arith, inl, inr}
-use Rattle.std.specs.Bool.{⊤}
-use Rattle.std.specs.List.{count_by, list_any}
-use Rattle.std.proofs.lemmas.Bool.{cases_eq, eq-eqb, or_left, or_right, not_from_false, and_right}
+use Rattle.station_laws.proofs.Common.{◌≡◌, ℕ, ◌+◌, ◌≤◌, Bool, true, false, not, ◌==◌, List, [], ◌∷◌, ◌++◌, length, map}
+use Rattle.station_laws.proofs.Common.{take, drop, Option, Some, None, ◌⊎◌, refl, sym, ap, ◌∙◌, arith, inl, inr, ⊤}
+use Rattle.station_laws.proofs.Common.{count_by, list_any, cases_eq, eq-eqb, or_left, or_right, and_right, Path, Kind}
+use Rattle.station_laws.proofs.Common.{Info, Super, Setup, Ui, Other, Sabm, Sabme, Disc, Dm, Ua, End, kept, Tagged}
+use Rattle.station_laws.proofs.Common.{asks, asks_in, answers_in, is_alone, sends_alone, World, Side, near_turn}
+use Rattle.station_laws.proofs.Common.{staying, Pair, is_named, marks_from, event_at_end, LinkStep, DropsNoAsk}
+use Rattle.std.proofs.lemmas.Bool.{not_from_false}
 use Rattle.std.proofs.lemmas.List.{drop-map}
 use Rattle.std.proofs.lemmas.List.FromFn.{length-map-range_with_len}
-use Rattle.ax25_address.specs.declared.path.Path.{Path}
-use Rattle.ax25_frames.specs.declared.frame.Kind.{Kind}
-use Rattle.ax25_frames.specs.declared.frame.Kind.TheVariants.{Info, Super, Setup, Ui, Other}
-use Rattle.ax25_frames.specs.declared.frame.U.TheVariants.{Sabm, Sabme, Disc, Dm, Ua}
 use Rattle.link_machine.specs.Event.{Event as LinkEvent}
 use Rattle.link_machine.specs.Event.Event.{Connect as LinkConnect, Send as LinkSend, Disconnect as LinkDisconnect}
 use Rattle.link_machine.specs.Event.Event.{Hear as LinkHear, Tick as LinkTick}
 use Rattle.link_machine.specs.Step.{step as link_turn}
-use Rattle.link_world.specs.declared.end.End.{End}
-use Rattle.link_world.specs.Changes.{kept}
-use Rattle.link_world.specs.Flight.{Tagged, asks, asks_in, answers_in}
-use Rattle.link_world.specs.Quiet.{is_alone, sends_alone, called_alone, is_called, is_idle, is_sabm, begins_with_sabm}
-use Rattle.link_world.specs.World.{World, Side, near_turn, staying}
-use Rattle.station_laws.specs.HeardInOrder.{Pair}
-use Rattle.station_laws.specs.LinkOfCalls.{is_named, marks_from, event_at_end}
-use Rattle.station_laws.specs.LinkSteps.{LinkStep}
-use Rattle.station_laws.specs.MatchedLaw.{DropsNoAsk}
+use Rattle.link_world.specs.Quiet.{called_alone, is_called, is_idle, is_sabm, begins_with_sabm}
 use Rattle.station_laws.proofs.Acts.{is_asking, asks_when_sent}
 use Rattle.station_laws.proofs.Along.{makes_near, near_by, near_all, FollowsNear}
 use Rattle.station_laws.proofs.Counts.{one, count_cons, count_append, count_drop, count_take, count_none, count_map}

@@ -1,15 +1,10 @@
 -- What an event of a link sends to hosts.
-use Rattle.std.proofs.Common.{◌≡◌, ℕ, Bool, true, false, nat_lt, List, [], ◌∷◌, ◌++◌, length, cond, Option, Some, None}
-use Rattle.std.proofs.Common.{refl, sym, ap, ◌∙◌}
-use Rattle.std.proofs.lemmas.List.{append-nil, append_assoc}
-use Rattle.ax25_address.specs.Callsign.{Callsign}
-use Rattle.link_machine.specs.declared.acts.SentFrame.{SentFrame}
-use Rattle.link_machine.specs.declared.acts.Told.{Told}
-use Rattle.link_machine.specs.Step.{step, done_of}
-use Rattle.station.specs.LinkEvents.{settled_link, with_links, telling_one, telling_to, queueing_frame, queueing_frames}
-use Rattle.station.specs.LinkEvents.{event_of}
-use Rattle.station.specs.Turn.{Turn, changing, queueing, entering, dropping, capacity}
-use Rattle.station_laws.specs.Owners.{piece_of, pieces_to, OwnersAreTold}
+use Rattle.station_laws.proofs.Common.{◌≡◌, ℕ, Bool, true, false, nat_lt, List, [], ◌∷◌, ◌++◌, length, cond, Option}
+use Rattle.station_laws.proofs.Common.{Some, None, refl, sym, ap, ◌∙◌, append-nil, append_assoc, Callsign, SentFrame}
+use Rattle.station_laws.proofs.Common.{Told, step, done_of, settled_link, with_links, telling_one, telling_to}
+use Rattle.station_laws.proofs.Common.{queueing_frame, queueing_frames, event_of, Turn, changing, queueing, entering}
+use Rattle.station_laws.proofs.Common.{dropping, capacity, pieces_to}
+use Rattle.station_laws.specs.Owners.{piece_of, OwnersAreTold}
 
 -- a frame that is queued is nothing to a host
 pub queued_pieces : (link : Option ℕ) (octets : List ℕ) (turn : Turn)

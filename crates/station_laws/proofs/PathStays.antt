@@ -1,14 +1,10 @@
 -- Whatever happens to a link, it stays on its path, and keeps what it was made with.
-use Rattle.std.proofs.Common.{◌≡◌, refl, ◌∙◌}
-use Rattle.link_machine.specs.Event.{Event}
-use Rattle.link_machine.specs.Machine.{Machine}
-use Rattle.link_machine.specs.Step.{step}
-use Rattle.link_machine.specs.Turn.{Turn, begin}
+use Rattle.station_laws.proofs.Common.{◌≡◌, refl, ◌∙◌, Event, Machine, step, begin, Single, acknowledges, flushes}
+use Rattle.station_laws.proofs.Common.{gives, goes_back, repeats, reports, stores, times}
+use Rattle.link_machine.specs.Turn.{Turn}
 use Rattle.link_steps.proofs.StepActs.{OneAct, along_step}
 use Rattle.link_steps.proofs.StepActs.OneAct.{begins, controls, counts, empties, goes, joins, sets_up, tells}
-use Rattle.link_steps.proofs.Traffic.{Single}
-use Rattle.link_steps.proofs.Traffic.Single.{acknowledges, asks, flushes, gives, goes_back, repeats, reports, stores}
-use Rattle.link_steps.proofs.Traffic.Single.{times}
+use Rattle.link_steps.proofs.Traffic.Single.{asks}
 
 pub record Stays (before after : Turn) : Type 0 where
   pub path : after.now.path ≡ before.now.path

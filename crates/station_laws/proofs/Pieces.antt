@@ -1,73 +1,53 @@
 -- What a step sends to host programs, act by act: C and D are told by events of links alone.
-use Rattle.std.proofs.Common.{◌≡◌, ℕ, Bool, true, false, ◌==◌, ◌||◌, nat_lt, nat_le, List, [], ◌∷◌, ◌++◌, length, map}
-use Rattle.std.proofs.Common.{drop, cond, if◌then◌else◌, Option, Some, None, is_some, refl, sym, ap, ◌∙◌, subst, inl}
-use Rattle.std.proofs.Common.{inr}
-use Rattle.std.specs.Prelude.{MatchBool, filter, flat_map}
-use Rattle.std.specs.List.{range_with_len, AllByRecursion as Each}
-use Rattle.std.proofs.lemmas.Bool.{and_left, and_right, eqb-true, false_from_ne_true}
-use Rattle.std.proofs.lemmas.List.{append-nil, append_assoc}
-use Rattle.std.proofs.lemmas.List.Elements.{recursion_from_All}
-use Rattle.ax25_address.specs.Callsign.{Callsign}
-use Rattle.ax25_address.specs.FramePath.{way_back}
-use Rattle.ax25_address.specs.declared.path.Path.{Path}
-use Rattle.ax25_address.specs.declared.path.Role.TheVariants.{Command}
-use Rattle.ax25_frames.specs.declared.frame.Frame.{Frame}
-use Rattle.ax25_frames.specs.declared.frame.Kind.{Kind}
-use Rattle.ax25_frames.specs.declared.frame.Kind.TheVariants.{Info, Super, Setup, Ui, Other as OtherKind}
-use Rattle.ax25_frames.specs.declared.frame.Modulus.TheVariants.{Eight}
+use Rattle.station_laws.proofs.Common.{◌≡◌, ℕ, Bool, true, false, ◌==◌, ◌||◌, nat_lt, nat_le, List, [], ◌∷◌, ◌++◌}
+use Rattle.station_laws.proofs.Common.{length, map, drop, cond, if◌then◌else◌, Option, Some, None, is_some, refl, sym}
+use Rattle.station_laws.proofs.Common.{ap, ◌∙◌, subst, inl, inr, MatchBool, range_with_len, and_right, eqb-true}
+use Rattle.station_laws.proofs.Common.{append-nil, append_assoc, recursion_from_All, Callsign, way_back, Path, Command}
+use Rattle.station_laws.proofs.Common.{Frame, Kind, Info, Super, Setup, Ui, Eight, bad_length_in, AgwMessage, repeated}
+use Rattle.station_laws.proofs.Common.{KissItem, Set, Hardware, Return, TooLong, HostEvent, Joined, Bytes, Left}
+use Rattle.station_laws.proofs.Common.{PortKind, Kiss, Agw, version_kind, ports_kind, capabilities_kind, register_kind}
+use Rattle.station_laws.proofs.Common.{unregister_kind, toggle_kind, monitor_kind, raw_kind, unproto_kind}
+use Rattle.station_laws.proofs.Common.{unproto_via_kind, data_kind, disconnect_kind, pending_kind, waiting_kind}
+use Rattle.station_laws.proofs.Common.{replying, version_reply, ports_reply, capabilities_reply, toggled}
+use Rattle.station_laws.proofs.Common.{monitor_toggled, register_reply, with_registration, registering, unregistering}
+use Rattle.station_laws.proofs.Common.{queueing_raw, most_information, unnumbered_frame, sending_unnumbered}
+use Rattle.station_laws.proofs.Common.{refused_reply, may_call, calls, called_route, called_pid, IsCall, IsCallMade}
+use Rattle.station_laws.proofs.Common.{own_key, giving, giving_packet, packets_of, data_pid, disconnecting, pending_in}
+use Rattle.station_laws.proofs.Common.{pending_reply, waiting_reply, answering_else, AreAnswered, has_frame_length}
+use Rattle.station_laws.proofs.Common.{call_in, Connection, connection_of, most_connections, frame_octets, IsHeard}
+use Rattle.station_laws.proofs.Common.{IsHeardBy, IsHeardAnew, IsHeardMaking, IsReadingHeardAnew, IsRepeatedFor}
+use Rattle.station_laws.proofs.Common.{AreHeardAt, AreOctetsHeard, may_make, with_shown, shown_to_hosts, showing_to}
+use Rattle.station_laws.proofs.Common.{source_field, destination_field, waits_for_repeater, joining, with_host}
+use Rattle.station_laws.proofs.Common.{new_messages, new_items, taking, ending, AreTaken, AreTakenBy, IsHostTurn}
+use Rattle.station_laws.proofs.Common.{param_of, with_param, heeding, heeding_all, giving_up, giving_up_all}
+use Rattle.station_laws.proofs.Common.{giving_up_link, leaving, without_host, without_owner, event_of, event_at}
+use Rattle.station_laws.proofs.Common.{with_links, Link, key_between, link_at, most_links, with_link, making}
+use Rattle.station_laws.proofs.Common.{no_layer_3, registrar, may_register, is_number, Route, route_in, repeaters_in}
+use Rattle.station_laws.proofs.Common.{behind_repeaters, path_along, ticking_at, ticking_links, waits, Out, Turn, Act}
+use Rattle.station_laws.proofs.Common.{in_order, changing, closing, queueing, Input, IsTurn, FromHost, OffAir, OfClock}
+use Rattle.station_laws.proofs.Common.{LinkStep, steps_for, steps_at, steps_along, ticks_at, tick_steps, given_up}
+use Rattle.station_laws.proofs.Common.{gives_up_at, leaving_steps, made_steps, call_steps, sends_at, data_steps}
+use Rattle.station_laws.proofs.Common.{disconnect_steps, else_steps, answer_steps, message_steps, ending_steps}
+use Rattle.station_laws.proofs.Common.{octet_steps_by, octet_steps, host_steps, hears_at, new_steps, anew_steps}
+use Rattle.station_laws.proofs.Common.{reading_steps, key_steps, path_steps, by_path_steps, heard_steps, turn_steps}
+use Rattle.station_laws.proofs.Common.{pieces_to}
+use Rattle.std.specs.Prelude.{filter, flat_map}
+use Rattle.std.specs.List.{AllByRecursion as Each}
+use Rattle.std.proofs.lemmas.Bool.{and_left, false_from_ne_true}
+use Rattle.ax25_frames.specs.declared.frame.Kind.TheVariants.{Other as OtherKind}
 use Rattle.frame_monitor.specs.MonitorText.{monitor_letter}
-use Rattle.agwpe_port.specs.Messages.{bad_length_in, spelling}
-use Rattle.agwpe_port.specs.declared.message.AgwMessage.{AgwMessage}
-use Rattle.digipeater.specs.Repeated.{repeated}
-use Rattle.kiss_port.specs.declared.item.KissItem.{KissItem}
-use Rattle.kiss_port.specs.declared.item.KissItem.TheVariants.{Frame as KissFrame, Set, Hardware, Return, TooLong}
-use Rattle.kiss_port.specs.declared.item.KissItem.TheVariants.{Other}
+use Rattle.agwpe_port.specs.Messages.{spelling}
+use Rattle.kiss_port.specs.declared.item.KissItem.TheVariants.{Frame as KissFrame, Other}
 use Rattle.link_machine.specs.Event.{Event as LinkEvent}
 use Rattle.link_machine.specs.Event.Event.{Connect as LinkConnect, Send as LinkSend, Disconnect as LinkDisconnect}
 use Rattle.link_machine.specs.Event.Event.{Hear as LinkHear, Tick as LinkTick}
 use Rattle.link_machine.specs.Step.{step as link_turn}
-use Rattle.station.specs.declared.host_event.HostEvent.{HostEvent}
-use Rattle.station.specs.declared.host_event.HostEvent.TheVariants.{Joined, Bytes, Left}
-use Rattle.station.specs.declared.host_event.PortKind.{PortKind}
-use Rattle.station.specs.declared.host_event.PortKind.TheVariants.{Kiss, Agw}
 use Rattle.station.specs.declared.host_out.Piece.{Piece}
-use Rattle.station.specs.AgwKinds.{version_kind, ports_kind, capabilities_kind, register_kind, unregister_kind}
-use Rattle.station.specs.AgwKinds.{toggle_kind, monitor_kind, raw_kind, unproto_kind, unproto_via_kind, connect_kind}
-use Rattle.station.specs.AgwKinds.{data_kind, disconnect_kind, pending_kind, waiting_kind}
-use Rattle.station.specs.AgwRequests.{replying, version_reply, ports_reply, capabilities_reply, toggled}
-use Rattle.station.specs.AgwRequests.{monitor_toggled, register_reply, with_registration, registering, unregistering}
-use Rattle.station.specs.AgwRequests.{queueing_raw, most_information, unnumbered_frame, sending_unnumbered}
-use Rattle.station.specs.AgwRequests.{refused_reply, may_call, calls, called_route, called_pid, IsCall, IsCallMade}
-use Rattle.station.specs.AgwRequests.{own_key, giving, giving_packet, packets_of, data_pid, disconnecting, pending_in}
-use Rattle.station.specs.AgwRequests.{pending_reply, waiting_reply, answering_else, AreAnswered}
-use Rattle.hdlc_framer.specs.FrameLength.{has_frame_length}
-use Rattle.station.specs.CallFields.{call_in}
-use Rattle.station.specs.Connections.{Connection, connection_of, most_connections}
-use Rattle.station.specs.FrameSpelling.{frame_octets}
-use Rattle.station.specs.Heard.{IsHeard, IsHeardBy, IsHeardAnew, IsHeardMaking, IsReadingHeardAnew, IsRepeatedFor}
-use Rattle.station.specs.Heard.{AreHeardAt, AreOctetsHeard, may_make, hearing_at, kiss_data, with_shown, showing}
-use Rattle.station.specs.Heard.{shown_to_hosts, showing_to, source_field, destination_field, waits_for_repeater}
-use Rattle.station.specs.Host.{joining, with_host, new_messages, new_items, taking, ending, AreTaken, AreTakenBy}
-use Rattle.station.specs.Host.{IsHostTurn}
+use Rattle.station.specs.AgwKinds.{connect_kind}
+use Rattle.station.specs.Heard.{hearing_at, kiss_data, showing}
 use Rattle.station.specs.HostMessages.{raw_message}
-use Rattle.station.specs.Kiss.{param_of, with_param, heeding, heeding_all}
-use Rattle.station.specs.Leaving.{giving_up, giving_up_all, giving_up_link, leaving, without_host, without_owner}
-use Rattle.station.specs.LinkEvents.{event_of, event_at, with_links}
-use Rattle.station.specs.Links.{Link, key_between, link_at, most_links, with_link}
 use Rattle.station.specs.Monitoring.{monitor_message, monitor_pieces, monitoring, piece_for, to_monitors}
-use Rattle.station.specs.NewLinks.{making, no_layer_3}
-use Rattle.station.specs.Registrations.{registrar, may_register, is_number}
-use Rattle.station.specs.Routes.{Route, route_in, repeaters_in, behind_repeaters, path_along}
-use Rattle.station.specs.Ticks.{ticking_at, ticking_links, waits}
-use Rattle.station.specs.Turn.{Out, Turn, Act, begin, in_order, changing, closing, queueing}
-use Rattle.station_laws.specs.JointRun.{Input, IsTurn}
-use Rattle.station_laws.specs.JointRun.Input.{FromHost, OffAir, OfClock}
-use Rattle.station_laws.specs.LinkSteps.{LinkStep, steps_for, steps_at, steps_along, ticks_at, tick_steps, given_up}
-use Rattle.station_laws.specs.LinkSteps.{gives_up_at, leaving_steps, made_steps, call_steps, sends_at, data_steps}
-use Rattle.station_laws.specs.LinkSteps.{disconnect_steps, else_steps, answer_steps, message_steps, ending_steps}
-use Rattle.station_laws.specs.LinkSteps.{octet_steps_by, octet_steps, host_steps, hears_at, new_steps, anew_steps}
-use Rattle.station_laws.specs.LinkSteps.{reading_steps, key_steps, path_steps, by_path_steps, heard_steps, turn_steps}
-use Rattle.station_laws.specs.Owners.{pieces_to}
+use Rattle.station.specs.Turn.{begin}
 use Rattle.station_laws.specs.ProgramsTold.{kind_of, is_of_link, of_links, told_by, ProgramsAreTold}
 use Rattle.station_laws.proofs.OwnerLemmas.{owners_are_told, queued_pieces}
 

@@ -1,19 +1,10 @@
 -- What an event of a link makes of the transmit queue and of a station's table.
-use Rattle.std.proofs.Common.{◌≡◌, ℕ, Bool, true, false, nat_lt, List, [], ◌∷◌, ◌++◌, length, map, cond, Option, Some}
-use Rattle.std.proofs.Common.{None, refl, sym, ap, ◌∙◌, subst}
-use Rattle.std.proofs.lemmas.Bool.{cond-false}
-use Rattle.std.proofs.lemmas.List.{append-nil, append_assoc}
-use Rattle.ax25_address.specs.Callsign.{Callsign}
-use Rattle.link_machine.specs.declared.acts.SentFrame.{SentFrame}
-use Rattle.link_machine.specs.declared.acts.Told.{Told}
-use Rattle.link_machine.specs.Event.{Event}
+use Rattle.station_laws.proofs.Common.{◌≡◌, ℕ, Bool, true, false, nat_lt, List, [], ◌∷◌, ◌++◌, length, map, cond}
+use Rattle.station_laws.proofs.Common.{Option, Some, None, refl, sym, ap, ◌∙◌, subst, cond-false, append-nil}
+use Rattle.station_laws.proofs.Common.{append_assoc, Callsign, SentFrame, Told, Event, step, done_of, frame_octets}
+use Rattle.station_laws.proofs.Common.{settled_link, with_links, telling_one, telling_to, queueing_frame}
+use Rattle.station_laws.proofs.Common.{queueing_frames, link_event, Link, Turn, changing, entering, dropping, capacity}
 use Rattle.link_machine.specs.Sent.{sent_frames}
-use Rattle.link_machine.specs.Step.{step, done_of}
-use Rattle.station.specs.FrameSpelling.{frame_octets}
-use Rattle.station.specs.LinkEvents.{settled_link, with_links, telling_one, telling_to, queueing_frame, queueing_frames}
-use Rattle.station.specs.LinkEvents.{link_event}
-use Rattle.station.specs.Links.{Link}
-use Rattle.station.specs.Turn.{Turn, changing, entering, dropping, capacity}
 
 abbrev pub octets_of : SentFrame → List ℕ
 octets_of sent = frame_octets sent.modulus sent.frame

@@ -1,31 +1,17 @@
 -- A run whose frames find a quiet channel as far as one can know, moment by moment: the link of two calls is quiet.
-use Rattle.std.proofs.Common.{◌≡◌, ℕ, ◌+◌, ◌<◌, ◌≤◌, Bool, List, [], ◌∷◌, ◌++◌, length, take, Option, Some, None}
-use Rattle.std.proofs.Common.{is_some, refl, sym, ap, ◌∙◌, subst, arith}
-use Rattle.std.specs.Prelude.{slice_get}
-use Rattle.std.specs.Bool.{⊤}
+use Rattle.station_laws.proofs.Common.{◌≡◌, ℕ, ◌+◌, ◌<◌, ◌≤◌, Bool, List, [], ◌∷◌, ◌++◌, length, take, Option, Some}
+use Rattle.station_laws.proofs.Common.{None, is_some, refl, sym, ap, ◌∙◌, subst, arith, slice_get, ⊤, take-append_seam}
+use Rattle.station_laws.proofs.Common.{append_assoc, length-append, slice_get_within, Params, End, A, B, Change}
+use Rattle.station_laws.proofs.Common.{run_changes, AreQuiet, ChangesAreValid, RecordedEnd, World, Side, seen_from}
+use Rattle.station_laws.proofs.Common.{other, each_weaker, each_append, Pair, AreHeardInOrder, Moment, LinkFrame}
+use Rattle.station_laws.proofs.Common.{OneWay, BothWays, IsMatched, AreMatched, AreQuietThrough, AreQuietAt, hears_ask}
+use Rattle.station_laws.proofs.Common.{steps_in, sent_by, queueing_all, hearing_at, after_moment, Steps, Passes, Input}
+use Rattle.station_laws.proofs.Common.{Step, Stations, state_of, stepped, IsJointRun, at_end, FromHost, OffAir, OfClock}
+use Rattle.station_laws.proofs.Common.{Calls, Pairs, Counts, link_at_end, count_at, with_more, all_changes_by}
+use Rattle.station_laws.proofs.Common.{changes_from, LinkStep, steps_of, IsEventOfCaller, is_event, pair_of, pairs_from}
 use Rattle.std.specs.List.{AllByRecursion as Each}
 use Rattle.std.proofs.Math.Nat.{max-le}
-use Rattle.std.proofs.Math.Seq.{take-append_seam}
-use Rattle.std.proofs.lemmas.List.{append_assoc, length-append}
-use Rattle.std.proofs.lemmas.Option.{slice_get_within}
-use Rattle.link_machine.specs.declared.params.Params.{Params}
-use Rattle.link_world.specs.declared.end.End.{End}
-use Rattle.link_world.specs.declared.end.End.TheVariants.{A, B}
-use Rattle.link_world.specs.Changes.{Change, run_changes, AreQuiet, ChangesAreValid}
-use Rattle.link_world.specs.Recorded.{RecordedEnd}
-use Rattle.link_world.specs.World.{World, Side, seen_from, other}
-use Rattle.link_world.proofs.law.Each.{each_weaker, each_append}
-use Rattle.station_laws.specs.HeardInOrder.{Pair, AreHeardInOrder}
-use Rattle.station_laws.specs.InFlight.{Moment, LinkFrame, OneWay, BothWays, IsMatched, AreMatched, AreQuietThrough}
-use Rattle.station_laws.specs.InFlight.{AreQuietAt, hears_ask, steps_in, sent_by, past_heard, queueing_all, hearing_at}
-use Rattle.station_laws.specs.InFlight.{after_moment}
-use Rattle.station_laws.specs.InFlight.Moment.{Steps, Passes}
-use Rattle.station_laws.specs.JointRun.{Input, Step, Stations, state_of, stepped, IsJointRun, at_end}
-use Rattle.station_laws.specs.JointRun.Input.{FromHost, OffAir, OfClock}
-use Rattle.station_laws.specs.LinkOfCalls.{Calls, Pairs, Counts, link_at_end, count_at, with_more, all_changes_by}
-use Rattle.station_laws.specs.LinkOfCalls.{changes_from}
-use Rattle.station_laws.specs.LinkSteps.{LinkStep, steps_of}
-use Rattle.station_laws.specs.MatchedLaw.{IsEventOfCaller, is_event, pair_of, pairs_from}
+use Rattle.station_laws.specs.InFlight.{past_heard}
 use Rattle.station_laws.proofs.Along.{near_by, near_all, changes_seen, run_changes-append}
 use Rattle.station_laws.proofs.BenchQuiet.{quiet_one}
 use Rattle.station_laws.proofs.CallerQuiet.{CallerQuiet, caller_quiet}

@@ -1,36 +1,23 @@
 -- A run whose frames find a quiet channel by what is in flight as far as one can know: each event of a link finds a
 -- quiet channel.
-use Rattle.std.proofs.Common.{◌≡◌, ℕ, ◌+◌, ◌<◌, ◌≤◌, Bool, true, false, List, [], ◌∷◌, ◌++◌, length, take, drop, Option}
-use Rattle.std.proofs.Common.{Some, None, is_some, refl, sym, ap, ◌∙◌, subst, arith, inl, inr}
-use Rattle.std.specs.Prelude.{slice_get}
-use Rattle.std.specs.List.{count_by, AllByRecursion as Each}
+use Rattle.station_laws.proofs.Common.{◌≡◌, ℕ, ◌+◌, ◌<◌, ◌≤◌, Bool, true, false, List, [], ◌∷◌, ◌++◌, length, take}
+use Rattle.station_laws.proofs.Common.{drop, Option, Some, None, is_some, refl, sym, ap, ◌∙◌, subst, arith, inl, inr}
+use Rattle.station_laws.proofs.Common.{slice_get, count_by, Callsign, Path, Params, End, A, B, Change, changed}
+use Rattle.station_laws.proofs.Common.{run_changes, AreQuiet, Makes, Keeps, Tagged, asks_in, answers_in, World}
+use Rattle.station_laws.proofs.Common.{seen_from, other, each_weaker, each_append, is_between, StationState, Pair}
+use Rattle.station_laws.proofs.Common.{AreHeardInOrder, Moment, LinkFrame, OneWay, BothWays, IsMatched, AreMatched}
+use Rattle.station_laws.proofs.Common.{hears_ask, sent_by, in_flight, answers, is_ua_or_dm, after_moment, Steps, Passes}
+use Rattle.station_laws.proofs.Common.{Input, Step, at_end, FromHost, OffAir, OfClock, Pairs, heard_at, makes}
+use Rattle.station_laws.proofs.Common.{marks_from, event_at_end, changes_by, all_changes_by, LinkStep, steps_of}
+use Rattle.station_laws.proofs.Common.{is_event, pair_of, pairs_from}
+use Rattle.std.specs.List.{AllByRecursion as Each}
 use Rattle.std.proofs.lemmas.Bool.{and_from}
-use Rattle.ax25_address.specs.Callsign.{Callsign}
-use Rattle.ax25_address.specs.declared.path.Path.{Path}
-use Rattle.link_machine.specs.declared.params.Params.{Params}
 use Rattle.link_machine.specs.Event.{Event as LinkEvent}
 use Rattle.link_machine.specs.Event.Event.{Connect as LinkConnect, Send as LinkSend, Disconnect as LinkDisconnect}
 use Rattle.link_machine.specs.Event.Event.{Hear as LinkHear, Tick as LinkTick}
-use Rattle.link_world.specs.declared.end.End.{End}
-use Rattle.link_world.specs.declared.end.End.TheVariants.{A, B}
-use Rattle.link_world.specs.Changes.{Change, changed, run_changes, AreQuiet}
-use Rattle.link_world.specs.Changes.Change.{Makes, Keeps}
-use Rattle.link_world.specs.Flight.{Tagged, asks_in, answers_in}
 use Rattle.link_world.specs.Quiet.{is_quiet}
-use Rattle.link_world.specs.World.{World, seen_from, other}
-use Rattle.link_world.proofs.law.Each.{each_weaker, each_both, each_append}
-use Rattle.station.specs.Links.{is_between}
-use Rattle.station.specs.State.{StationState}
-use Rattle.station_laws.specs.HeardInOrder.{Pair, AreHeardInOrder}
-use Rattle.station_laws.specs.InFlight.{Moment, LinkFrame, OneWay, BothWays, IsMatched, AreMatched, hears_ask, sent_by}
-use Rattle.station_laws.specs.InFlight.{in_flight, asks, answers, is_ua_or_dm, after_moment}
-use Rattle.station_laws.specs.InFlight.Moment.{Steps, Passes}
-use Rattle.station_laws.specs.JointRun.{Input, Step, at_end}
-use Rattle.station_laws.specs.JointRun.Input.{FromHost, OffAir, OfClock}
-use Rattle.station_laws.specs.LinkOfCalls.{Pairs, heard_at, makes, marks_from, event_at_end, changes_by}
-use Rattle.station_laws.specs.LinkOfCalls.{all_changes_by}
-use Rattle.station_laws.specs.LinkSteps.{LinkStep, steps_of}
-use Rattle.station_laws.specs.MatchedLaw.{is_event, pair_of, pairs_from}
+use Rattle.link_world.proofs.law.Each.{each_both}
+use Rattle.station_laws.specs.InFlight.{asks}
 use Rattle.station_laws.proofs.Acts.{is_asking}
 use Rattle.station_laws.proofs.Along.{makes_near, near_all, AllFollowNear, by_seen, makes_seen}
 use Rattle.station_laws.proofs.BenchQuiet.{AreQuietOne, bench_quiet}

@@ -1,13 +1,10 @@
 -- A frame that is read in another modulus passes a test that no I frame passes only if it passed it as it was sent.
-use Rattle.std.proofs.Common.{◌≡◌, ℕ, ◌+◌, ◌*◌, ◌/◌, ◌%◌, nat_lt, Bool, true, false, List, [], ◌∷◌, length, cond}
-use Rattle.std.proofs.Common.{Option, Some, None, refl, sym, ap, ◌∙◌}
-use Rattle.ax25_address.specs.AddressField.{bit}
-use Rattle.ax25_frames.specs.declared.frame.Frame.{Frame}
-use Rattle.ax25_frames.specs.declared.frame.Kind.{Kind}
-use Rattle.ax25_frames.specs.declared.frame.Kind.TheVariants.{Info, Super, Setup, Ui, Other}
-use Rattle.ax25_frames.specs.declared.frame.Modulus.{Modulus}
-use Rattle.ax25_frames.specs.declared.frame.Modulus.TheVariants.{Eight, OneTwentyEight}
-use Rattle.link_world.specs.Reading.{frame_read, info_read_wide, is_odd, kind_read, with_kind}
+use Rattle.station_laws.proofs.Common.{◌≡◌, ℕ, ◌+◌, ◌*◌, ◌%◌, nat_lt, Bool, true, false, List, [], ◌∷◌, length, cond}
+use Rattle.station_laws.proofs.Common.{Option, Some, None, refl, sym, ap, ◌∙◌, bit, Frame, Kind, Info, Super, Setup, Ui}
+use Rattle.station_laws.proofs.Common.{Other, Modulus, Eight, OneTwentyEight, frame_read, info_read_wide, kind_read}
+use Rattle.station_laws.proofs.Common.{with_kind}
+use Rattle.std.proofs.Common.{◌/◌}
+use Rattle.link_world.specs.Reading.{is_odd}
 
 -- no I frame passes the test
 abbrev pub PassesNoInfo : (Kind → Bool) → Type 0

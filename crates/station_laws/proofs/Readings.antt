@@ -1,28 +1,16 @@
 -- What a station reads of a frame of a link that it hears: the kind that its modulus makes of the one that was sent, in
 -- the same role.
-use Rattle.std.proofs.Common.{◌≡◌, ℕ, ◌<◌, List, drop, Option, Some, None, refl, sym, ap, ◌∙◌, subst, inl}
-use Rattle.std.specs.Prelude.{All, Result, Ok}
-use Rattle.ax25_address.specs.Callsign.{Callsign}
-use Rattle.ax25_address.specs.declared.path.Path.{Path}
-use Rattle.ax25_address.specs.declared.path.Role.{Role}
-use Rattle.ax25_address.proofs.OneReading.{BeginsWithPath-same}
+use Rattle.station_laws.proofs.Common.{◌≡◌, ℕ, ◌<◌, List, drop, Option, Some, None, refl, sym, ap, ◌∙◌, subst, inl, All}
+use Rattle.station_laws.proofs.Common.{Callsign, Path, Role, BeginsWithPath-same, Frame, Kind, Modulus, IsFrame, Hear}
+use Rattle.station_laws.proofs.Common.{Machine, modulus_named, step, begin, Tagged, frame_read, kind_read, with_kind}
+use Rattle.station_laws.proofs.Common.{AreAlikeButForH, LinkFrame}
+use Rattle.std.specs.Prelude.{Result, Ok}
 use Rattle.ax25_frames.specs.declared.fault.FrameFault.{FrameFault}
-use Rattle.ax25_frames.specs.declared.frame.Frame.{Frame}
-use Rattle.ax25_frames.specs.declared.frame.Kind.{Kind}
-use Rattle.ax25_frames.specs.declared.frame.Modulus.{Modulus}
-use Rattle.ax25_frames.specs.FrameOctets.{IsFrame}
 use Rattle.ax25_frames.specs.FrameText.{is_command_of}
 use Rattle.ax25_frames.proofs.Outcomes.{IsOutcome-same}
-use Rattle.link_machine.specs.Event.Event.{Hear}
 use Rattle.link_machine.specs.Frames.{hear}
-use Rattle.link_machine.specs.Machine.{Machine, modulus_named}
-use Rattle.link_machine.specs.Step.{step, settled}
-use Rattle.link_machine.specs.Turn.{begin}
-use Rattle.link_world.specs.Flight.{Tagged}
-use Rattle.link_world.specs.Reading.{frame_read, kind_read, with_kind}
+use Rattle.link_machine.specs.Step.{settled}
 use Rattle.link_world.proofs.Rereading.{reads_frame}
-use Rattle.station_laws.specs.HeardInOrder.{AreAlikeButForH}
-use Rattle.station_laws.specs.InFlight.{LinkFrame}
 use Rattle.station_laws.proofs.Addresses.{IsHeardAgain, heard_again}
 use Rattle.station_laws.proofs.LinkKinds.{IsLinkKind, read_link_kind}
 use Rattle.station_laws.proofs.Tags.{IsTagged}

@@ -1,15 +1,8 @@
 -- A link tells of data only while a set-up runs: over a whole run of two stations.
-use Rattle.std.proofs.Common.{◌≡◌, false, List, Option, Some, None, ap, ◌∙◌, subst}
-use Rattle.link_machine.specs.Machine.{Machine}
-use Rattle.link_world.specs.declared.end.End.{End}
-use Rattle.link_world.specs.declared.end.End.TheVariants.{A, B}
-use Rattle.station.specs.Links.{Link}
-use Rattle.station_laws.specs.JointRun.{all_stepped, new_stations, state_of}
-use Rattle.station_laws.specs.LinkOfCalls.{first_world}
-use Rattle.station_laws.specs.LinksTell.{RunsIn}
-use Rattle.station_laws.specs.RunsTell.{RunsTellInOne, ToldInOneAt, runs_behind, state_of_link}
-use Rattle.station_laws.specs.SetUpsSeen.{link_steps_at}
-use Rattle.station_laws.specs.StationsLaw.{IsMachineOf}
+use Rattle.station_laws.proofs.Common.{◌≡◌, false, List, Option, Some, None, ap, ◌∙◌, subst, Machine, End, A, B, Link}
+use Rattle.station_laws.proofs.Common.{all_stepped, new_stations, state_of, first_world, RunsIn, runs_behind}
+use Rattle.station_laws.proofs.Common.{link_steps_at, IsMachineOf}
+use Rattle.station_laws.specs.RunsTell.{RunsTellInOne, ToldInOneAt, state_of_link}
 use Rattle.station_laws.proofs.ChainRun.{run_chained}
 use Rattle.station_laws.proofs.Chains.{chain_tells}
 use Rattle.station_laws.proofs.JointLaw.{following_law_holds}

@@ -1,30 +1,20 @@
 -- A joint run, step by step: the two ends of the link between two calls follow it.
-use Rattle.std.proofs.Common.{◌≡◌, ◌≢◌, ℕ, zero, suc, ◌+◌, ◌<◌, ◌≤◌, Bool, true, false, List, [], ◌∷◌, ◌++◌, length}
-use Rattle.std.proofs.Common.{take, Option, Some, None, get_or, refl, sym, ap, ◌∙◌, subst, arith, inl, inr}
-use Rattle.std.specs.Prelude.{slice_get, is_some}
+use Rattle.station_laws.proofs.Common.{◌≡◌, ◌≢◌, ℕ, zero, suc, ◌+◌, ◌<◌, ◌≤◌, Bool, true, false, List, [], ◌∷◌, ◌++◌}
+use Rattle.station_laws.proofs.Common.{length, take, Option, Some, None, get_or, refl, sym, ap, ◌∙◌, subst, arith, inl}
+use Rattle.station_laws.proofs.Common.{inr, slice_get, cases_eq, append-nil, append_assoc, length-append, length-map}
+use Rattle.station_laws.proofs.Common.{All-from_recursion, recursion_from_All, slice_get_within, Callsign, Params}
+use Rattle.station_laws.proofs.Common.{Machine, End, Tagged, RecordedEnd, World, other, each_weaker, each_append}
+use Rattle.station_laws.proofs.Common.{StationState, ticking, ticking_links, is_between, Turn, Input, IsTurn, Step}
+use Rattle.station_laws.proofs.Common.{queued_at, FromHost, OffAir, OfClock, AreAlikeButForH, Pair, IsOffAir}
+use Rattle.station_laws.proofs.Common.{HearsLinkFrame, IsHeardPair, HasPair, AreHeardInOrder, LinkFrame, is_ask}
+use Rattle.station_laws.proofs.Common.{LinkStep, turn_steps}
+use Rattle.std.specs.Prelude.{is_some}
 use Rattle.std.specs.List.{AllByRecursion as Each}
-use Rattle.std.proofs.lemmas.Bool.{cases_eq}
-use Rattle.std.proofs.lemmas.List.{append-nil, append_assoc, length-append, length-map}
-use Rattle.std.proofs.lemmas.List.Elements.{All-from_recursion, recursion_from_All, All-contains}
-use Rattle.std.proofs.lemmas.Option.{slice_get_within, get_or_from_slice_get}
-use Rattle.ax25_address.specs.Callsign.{Callsign}
-use Rattle.link_machine.specs.declared.params.Params.{Params}
-use Rattle.link_machine.specs.Machine.{Machine}
-use Rattle.link_world.specs.declared.end.End.{End}
-use Rattle.link_world.specs.Flight.{Tagged}
-use Rattle.link_world.specs.Recorded.{RecordedEnd}
-use Rattle.link_world.specs.World.{World, other}
-use Rattle.link_world.proofs.law.Each.{each_weaker, each_pushed, each_append}
-use Rattle.station.specs.State.{StationState}
-use Rattle.station.specs.Ticks.{ticking, ticking_links}
-use Rattle.station.specs.Links.{is_between}
-use Rattle.station.specs.Turn.{Turn, begin}
-use Rattle.station_laws.specs.JointRun.{Input, IsTurn, HasOctets, Step, queued_at}
-use Rattle.station_laws.specs.JointRun.Input.{FromHost, OffAir, OfClock}
-use Rattle.station_laws.specs.HeardInOrder.{AreAlikeButForH, Pair, IsOffAir, HearsLinkFrame, IsHeardPair, HasPair}
-use Rattle.station_laws.specs.HeardInOrder.{AreHeardInOrder}
-use Rattle.station_laws.specs.InFlight.{LinkFrame, is_ask}
-use Rattle.station_laws.specs.LinkSteps.{LinkStep, turn_steps}
+use Rattle.std.proofs.lemmas.List.Elements.{All-contains}
+use Rattle.std.proofs.lemmas.Option.{get_or_from_slice_get}
+use Rattle.link_world.proofs.law.Each.{each_pushed}
+use Rattle.station.specs.Turn.{begin}
+use Rattle.station_laws.specs.JointRun.{HasOctets}
 use Rattle.station_laws.proofs.Acts.{Setting, Holds, still_holds}
 use Rattle.station_laws.proofs.Along.{near_all, AllFollowNear, Kept}
 use Rattle.station_laws.proofs.Events.{ticks_go}

@@ -1,39 +1,25 @@
 -- The set-ups of a link's ends are those that are seen at its stations.
-use Rattle.std.proofs.Common.{◌≡◌, ℕ, Bool, true, false, List, [], ◌∷◌, ◌++◌, length, map, fold, cond, Option, Some}
-use Rattle.std.proofs.Common.{None, is_some, refl, sym, ap, ◌∙◌, subst}
+use Rattle.station_laws.proofs.Common.{◌≡◌, ℕ, Bool, true, false, List, [], ◌∷◌, ◌++◌, length, map, cond, Option, Some}
+use Rattle.station_laws.proofs.Common.{None, is_some, refl, sym, ap, ◌∙◌, subst, map-append, recursion_from_All, Path}
+use Rattle.station_laws.proofs.Common.{Frame, Packet, Told, Opened, Given, Ended, LinkState, Idle, Calling, Up}
+use Rattle.station_laws.proofs.Common.{Releasing, Machine, End, A, B, made_in, run_changes, Tagged, RecordedEnd}
+use Rattle.station_laws.proofs.Common.{Happening, behind, Connects, Sends, Disconnects, Ticks, Hears, World, seen_from}
+use Rattle.station_laws.proofs.Common.{other, near_turn, turn_of, hearing_as, hearing_first, read_in, Step, at_end}
+use Rattle.station_laws.proofs.Common.{Calls, Pairs, Counts, link_at_end, count_at, with_more, event_at_end, makes}
+use Rattle.station_laws.proofs.Common.{heard_at, changes_by, all_changes_by, changes_from, FollowsAll, FollowsThrough}
+use Rattle.station_laws.proofs.Common.{first_world, LinkStep, steps_of, link_steps_at}
+use Rattle.std.proofs.Common.{fold}
 use Rattle.std.specs.List.{AllByRecursion as Each}
-use Rattle.std.proofs.lemmas.List.{map-append}
-use Rattle.std.proofs.lemmas.List.Elements.{recursion_from_All}
-use Rattle.ax25_address.specs.declared.path.Path.{Path}
-use Rattle.ax25_frames.specs.declared.frame.Frame.{Frame}
-use Rattle.selective_reject.specs.declared.packet.Packet.{Packet}
-use Rattle.link_machine.specs.declared.acts.Told.{Told}
-use Rattle.link_machine.specs.declared.acts.Told.TheVariants.{Opened, Given, Ended}
-use Rattle.link_machine.specs.declared.state.LinkState.{LinkState}
-use Rattle.link_machine.specs.declared.state.LinkState.TheVariants.{Idle, Calling, Up, Releasing}
 use Rattle.link_machine.specs.Event.{Event as LinkEvent}
 use Rattle.link_machine.specs.Event.Event.{Connect as LinkConnect, Send as LinkSend, Disconnect as LinkDisconnect}
 use Rattle.link_machine.specs.Event.Event.{Hear as LinkHear, Tick as LinkTick}
-use Rattle.link_machine.specs.Machine.{Machine}
 use Rattle.link_machine.specs.Step.{refusal_of, step as link_turn}
 use Rattle.link_machine.specs.Turn.{Turn as LinkTurn}
-use Rattle.link_world.specs.declared.end.End.{End}
-use Rattle.link_world.specs.declared.end.End.TheVariants.{A, B}
-use Rattle.link_world.specs.Changes.{made_in, run_changes}
-use Rattle.link_world.specs.Flight.{Tagged, is_numbered}
-use Rattle.link_world.specs.Recorded.{RecordedEnd, Happening, accepts, taking, hearing, noting, opening, told_of}
-use Rattle.link_world.specs.Recorded.{waiting_in, behind, end_turn}
-use Rattle.link_world.specs.Recorded.Happening.{Connects, Sends, Disconnects, Ticks, Hears}
+use Rattle.link_world.specs.Flight.{is_numbered}
+use Rattle.link_world.specs.Recorded.{accepts, taking, hearing, noting, opening, told_of, waiting_in, end_turn}
 use Rattle.link_world.specs.SetUps.{SetUp, giving, getting, acting, change_last, last_changed}
-use Rattle.link_world.specs.World.{World, seen_from, other, near_turn, turn_of, hearing_as, hearing_first, read_in}
-use Rattle.station_laws.specs.JointRun.{Step, at_end}
-use Rattle.station_laws.specs.LinkOfCalls.{Calls, Pairs, Counts, link_at_end, count_at, with_more, event_at_end, makes}
-use Rattle.station_laws.specs.LinkOfCalls.{heard_at, changes_by, all_changes_by, changes_from, FollowsAll}
-use Rattle.station_laws.specs.LinkOfCalls.{FollowsThrough, first_world}
-use Rattle.station_laws.specs.LinkSteps.{LinkStep, steps_of}
 use Rattle.station_laws.specs.SetUpsSeen.{Seen, last_seen_changed, change_last_seen, with_given, with_got, seen_giving}
-use Rattle.station_laws.specs.SetUpsSeen.{seen_told, seen_by, seen_by_all, link_steps_at, IsGivenWhileUp, as_seen}
-use Rattle.station_laws.specs.SetUpsSeen.{SetUpsLaw}
+use Rattle.station_laws.specs.SetUpsSeen.{seen_told, seen_by, seen_by_all, IsGivenWhileUp, as_seen, SetUpsLaw}
 use Rattle.station_laws.proofs.Along.{makes_near, near_by, by_seen, makes_seen, run_changes-append}
 use Rattle.station_laws.proofs.JointLaw.{following_law_holds}
 

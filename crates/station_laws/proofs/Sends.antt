@@ -1,21 +1,11 @@
 -- The frames that acts of a link send: at most one SABM, SABME, DISC, UA or DM, none that asks if the link is up then,
 -- and UA only in answer to one that asks. The link comes up only as it hears UA or one that asks.
-use Rattle.std.proofs.Common.{◌≡◌, ◌+◌, ◌≤◌, ◌||◌, Bool, true, false, List, [], ◌∷◌, ◌++◌, cond}
-use Rattle.std.proofs.Common.{refl, sym, ap, ◌∙◌, subst, arith, ℕ}
-use Rattle.std.specs.List.{count_by, list_any}
-use Rattle.ax25_frames.specs.declared.frame.Kind.{Kind}
-use Rattle.ax25_frames.specs.declared.frame.Kind.TheVariants.{Info, Super, Setup, Ui, Other}
-use Rattle.ax25_frames.specs.declared.frame.U.{U}
-use Rattle.ax25_frames.specs.declared.frame.U.TheVariants.{Sabm, Sabme, Disc, Dm, Ua}
-use Rattle.link_machine.specs.Acts.{release}
-use Rattle.link_machine.specs.Event.{Event}
-use Rattle.link_machine.specs.Event.Event.{Connect, Send, Disconnect, Hear, Tick}
-use Rattle.link_machine.specs.Machine.{Machine}
-use Rattle.link_machine.specs.Sent.{Sent, SentIn, sent_in, sent_kind}
-use Rattle.link_machine.specs.Sent.Sent.{InfoSent, SetupSent, SuperSent}
-use Rattle.link_machine.specs.Turn.{Turn, begin}
-use Rattle.link_machine.specs.declared.state.LinkState.TheVariants.{Up}
-use Rattle.link_world.specs.Flight.{asks}
+use Rattle.station_laws.proofs.Common.{◌≡◌, ◌+◌, ◌≤◌, ◌||◌, Bool, true, false, List, [], ◌∷◌, ◌++◌, cond, refl, sym, ap}
+use Rattle.station_laws.proofs.Common.{◌∙◌, subst, arith, ℕ, count_by, list_any, Kind, Info, Super, Setup, Ui, Other, U}
+use Rattle.station_laws.proofs.Common.{Sabm, Sabme, Disc, Dm, Ua, release, Event, Connect, Send, Disconnect, Hear, Tick}
+use Rattle.station_laws.proofs.Common.{Machine, Sent, SentIn, sent_in, sent_kind, InfoSent, SetupSent, SuperSent, begin}
+use Rattle.station_laws.proofs.Common.{Up, asks}
+use Rattle.link_machine.specs.Turn.{Turn}
 use Rattle.station_laws.proofs.Acts.{asks_when_sent}
 use Rattle.station_laws.proofs.Counts.{count_append, count_none}
 use Rattle.station_laws.proofs.StillActs.{Still, any_append, is_unnumbered, is_unnumbered_frame, none_more}

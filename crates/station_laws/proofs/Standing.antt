@@ -1,27 +1,15 @@
 -- The table of links of a station, and the machine of the end that stands for its link between two calls.
-use Rattle.std.proofs.Common.{◌≡◌, ℕ, ◌<◌, Bool, true, false, ◌&&◌, length, cond, Option, Some, None, get_or, set, refl}
-use Rattle.std.proofs.Common.{sym, ap, ◌∙◌, subst, arith}
-use Rattle.std.specs.Bool.{⊤}
+use Rattle.station_laws.proofs.Common.{◌≡◌, ℕ, ◌<◌, Bool, true, false, ◌&&◌, length, cond, Option, Some, None, get_or}
+use Rattle.station_laws.proofs.Common.{set, refl, sym, ap, ◌∙◌, subst, arith, ⊤, and_parts, get_or-set_same, Callsign}
+use Rattle.station_laws.proofs.Common.{Path, Params, LinkState, Idle, Calling, Up, Releasing, Event, Machine, step}
+use Rattle.station_laws.proofs.Common.{step_keeps, settled_link, without_owner, Link, Links, IsNewKey, is_between}
+use Rattle.station_laws.proofs.Common.{link_at, most_links, with_link, with_new_link, Choice, first_chosen, IsMachineOf}
 use Rattle.std.specs.List.{AllByRecursion as Each}
-use Rattle.std.proofs.lemmas.Bool.{and_parts}
-use Rattle.std.proofs.lemmas.List.{length-set, get_or-set_same}
-use Rattle.ax25_address.specs.Callsign.{Callsign}
+use Rattle.std.proofs.lemmas.List.{length-set}
 use Rattle.ax25_address.specs.SameCall.{is_same_call, is_same_call-Decides}
-use Rattle.ax25_address.specs.declared.path.Path.{Path}
-use Rattle.link_machine.specs.declared.params.Params.{Params}
-use Rattle.link_machine.specs.declared.state.LinkState.{LinkState}
-use Rattle.link_machine.specs.declared.state.LinkState.TheVariants.{Idle, Calling, Up, Releasing}
-use Rattle.link_machine.specs.Event.{Event}
-use Rattle.link_machine.specs.Machine.{Machine}
-use Rattle.link_machine.specs.Step.{step}
 use Rattle.link_world.specs.Held.{IsCounting}
-use Rattle.link_world.proofs.StepGrowth.{step_keeps}
-use Rattle.station.specs.LinkEvents.{is_idle, settled_link}
-use Rattle.station.specs.Leaving.{without_owner}
-use Rattle.station.specs.Links.{Link, Links, IsNewKey, is_between, link_at, most_links, with_link, with_new_link}
+use Rattle.station.specs.LinkEvents.{is_idle}
 use Rattle.station.specs.Links.{without_link}
-use Rattle.station_laws.specs.LinkSteps.{Choice}
-use Rattle.station_laws.specs.StationsLaw.{first_chosen, IsMachineOf}
 use Rattle.station_laws.proofs.Addresses.{IsGoodPath}
 use Rattle.station_laws.proofs.PathStays.{step_stays}
 use Rattle.station_laws.proofs.Tables.{ChoosesOne, not_both, none_chosen, one_of_none, chosen_at, each_set, each_get}

@@ -1,20 +1,13 @@
 -- A link that goes on leaves its state and a wish to disconnect as they are, and sends I and S frames alone.
-use Rattle.std.proofs.Common.{◌≡◌, ℕ, ◌+◌, Bool, true, false, List, [], ◌∷◌, ◌++◌, map}
-use Rattle.std.proofs.Common.{refl, sym, ap, ◌∙◌}
-use Rattle.std.specs.List.{list_any}
-use Rattle.std.proofs.lemmas.Bool.{or_from, or_parts}
-use Rattle.std.proofs.lemmas.List.{append-nil, append_assoc}
+use Rattle.station_laws.proofs.Common.{◌≡◌, ℕ, ◌+◌, Bool, true, false, List, [], ◌∷◌, ◌++◌, map, refl, sym, ap, ◌∙◌}
+use Rattle.station_laws.proofs.Common.{list_any, or_from, or_parts, append-nil, append_assoc, Packet, Machine, Sent}
+use Rattle.station_laws.proofs.Common.{SentIn, sent_in, InfoSent, SetupSent, SuperSent, along_run, Single, Traffic}
+use Rattle.station_laws.proofs.Common.{acknowledges, flushes, gives, goes_back, repeats, reports, stores, times}
 use Rattle.selective_reject.specs.Places.{missing}
-use Rattle.selective_reject.specs.declared.packet.Packet.{Packet}
 use Rattle.link_machine.specs.Acts.{sent_packet, srej_for, to_send}
-use Rattle.link_machine.specs.Machine.{Machine}
-use Rattle.link_machine.specs.Sent.{Sent, SentIn, all_sent_in, infos_from, sent_in}
-use Rattle.link_machine.specs.Sent.Sent.{InfoSent, SetupSent, SuperSent}
+use Rattle.link_machine.specs.Sent.{all_sent_in, infos_from}
 use Rattle.link_machine.specs.Turn.{Turn}
-use Rattle.step_laws.proofs.Runs.{along_run}
-use Rattle.link_steps.proofs.Traffic.{Single, Traffic}
-use Rattle.link_steps.proofs.Traffic.Single.{acknowledges, asks, flushes, gives, goes_back, repeats, reports, stores}
-use Rattle.link_steps.proofs.Traffic.Single.{times}
+use Rattle.link_steps.proofs.Traffic.Single.{asks}
 
 -- ---- frames that are sent
 

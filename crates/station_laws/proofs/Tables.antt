@@ -1,12 +1,8 @@
 -- The one link of a table that is chosen, when a place of the table changes.
-use Rattle.std.proofs.Common.{◌≡◌, ℕ, zero, suc, ◌<◌, Bool, true, false, List, [], ◌∷◌, length, Option, None, get_or}
-use Rattle.std.proofs.Common.{set, refl, sym, ap, ◌∙◌, arith}
-use Rattle.std.specs.Bool.{⊤}
+use Rattle.station_laws.proofs.Common.{◌≡◌, ℕ, zero, suc, ◌<◌, Bool, true, false, List, [], ◌∷◌, length, Option, None}
+use Rattle.station_laws.proofs.Common.{get_or, set, refl, sym, ap, ◌∙◌, arith, ⊤, cond-true, cond-false, false≢true}
+use Rattle.station_laws.proofs.Common.{Link, Choice, first_chosen}
 use Rattle.std.specs.List.{AllByRecursion as Each}
-use Rattle.std.proofs.lemmas.Bool.{cond-true, cond-false, false≢true}
-use Rattle.station.specs.Links.{Link}
-use Rattle.station_laws.specs.LinkSteps.{Choice}
-use Rattle.station_laws.specs.StationsLaw.{first_chosen}
 
 abbrev pub NotChosen : Choice → Option Link → Type 0
 NotChosen chosen place = chosen place ≡ false

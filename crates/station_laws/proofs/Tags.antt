@@ -1,26 +1,16 @@
 -- The frames that the links of a station have queued: each is a frame of the link between two calls, with its tags, or
 -- of another.
-use Rattle.std.proofs.Common.{◌≡◌, ℕ, suc, Bool, true, List, [], ◌∷◌, ◌++◌, length, map, Option, Some, None, refl, sym}
-use Rattle.std.proofs.Common.{ap, ◌∙◌, subst, arith, inl, inr}
-use Rattle.std.specs.Bool.{⊤}
+use Rattle.station_laws.proofs.Common.{◌≡◌, ℕ, suc, Bool, true, List, [], ◌∷◌, ◌++◌, length, map, Option, Some, None}
+use Rattle.station_laws.proofs.Common.{refl, sym, ap, ◌∙◌, subst, arith, inl, inr, ⊤, and_parts, Callsign}
+use Rattle.station_laws.proofs.Common.{BeginsWithPath, Path, BeginsWithPath-same, SentFrame, modulus_named, Sent}
+use Rattle.station_laws.proofs.Common.{SentIn, sent_kind, sent_frame, InfoSent, SuperSent, SetupSent, Tagged, is_answer}
+use Rattle.station_laws.proofs.Common.{RecordedEnd, tagged, frame_octets, path_octets, LinkFrame}
 use Rattle.std.specs.List.{AllByRecursion as Each}
-use Rattle.std.proofs.lemmas.Bool.{and_parts}
-use Rattle.ax25_address.specs.Callsign.{Callsign}
-use Rattle.ax25_address.specs.FramePath.{BeginsWithPath}
-use Rattle.ax25_address.specs.declared.path.Path.{Path}
-use Rattle.ax25_address.proofs.OneReading.{BeginsWithPath-same}
 use Rattle.ax25_frames.specs.FrameOctets.{IsKind}
-use Rattle.link_machine.specs.declared.acts.SentFrame.{SentFrame}
-use Rattle.link_machine.specs.Machine.{modulus_named}
-use Rattle.link_machine.specs.Sent.{Sent, SentIn, sent_kind, sent_role, sent_frame, frame_of}
-use Rattle.link_machine.specs.Sent.Sent.{InfoSent, SuperSent, SetupSent}
-use Rattle.link_world.specs.Flight.{Tagged, is_answer}
+use Rattle.link_machine.specs.Sent.{sent_role, frame_of}
 use Rattle.link_world.specs.Held.{IsModulus}
-use Rattle.link_world.specs.Recorded.{RecordedEnd, tagged}
 use Rattle.link_machine.proofs.Writable.{CanSend, HasShort}
-use Rattle.station.specs.FrameSpelling.{frame_octets, path_octets}
 use Rattle.station_laws.proofs.Addresses.{IsGoodPath, frame_spelled}
-use Rattle.station_laws.specs.InFlight.{LinkFrame}
 use Rattle.station_laws.proofs.Flights.{AreNone}
 use Rattle.station_laws.proofs.Framed.{one_framed, framed}
 use Rattle.station_laws.proofs.LinkKinds.{IsLinkKind, sent_link_kind}

@@ -1,27 +1,23 @@
 -- Calls that a host program names or a frame carries are calls, and their paths can be written.
-use Rattle.std.proofs.Common.{◌≡◌, ℕ, zero, suc, ◌+◌, ◌-◌, ◌==◌, take, drop, ◌*◌, ◌<◌, ◌≤◌, Bool, true, false, ◌&&◌}
-use Rattle.std.proofs.Common.{nat_lt, nat_le, List, [], ◌∷◌, length, map, reverse, cond, if◌then◌else◌, Option, Some}
-use Rattle.std.proofs.Common.{None, get_or, refl, sym, ap, ◌∙◌, subst, arith, inl, inr}
-use Rattle.std.specs.Prelude.{find, position, is_none, option_map}
-use Rattle.std.specs.Bool.{⊤}
-use Rattle.std.specs.List.{range_with_len, list_all, position_or_len, AllByRecursion as Each}
-use Rattle.std.proofs.lemmas.Bool.{and_parts, cond-true, cond-false, false≢true, ltb-true, ltb-false, leb-true}
-use Rattle.std.proofs.lemmas.Bool.{or_cases}
-use Rattle.std.proofs.lemmas.List.{length-map, length-reverse, get_or-reverse}
+use Rattle.station_laws.proofs.Common.{◌≡◌, ℕ, zero, suc, ◌+◌, ◌-◌, ◌==◌, take, drop, ◌*◌, ◌<◌, ◌≤◌, Bool, true, false}
+use Rattle.station_laws.proofs.Common.{◌&&◌, nat_lt, nat_le, List, [], ◌∷◌, length, map, cond, if◌then◌else◌, Option}
+use Rattle.station_laws.proofs.Common.{Some, None, get_or, refl, sym, ap, ◌∙◌, subst, arith, inl, inr, is_none}
+use Rattle.station_laws.proofs.Common.{option_map, ⊤, range_with_len, list_all, and_parts, cond-true, cond-false}
+use Rattle.station_laws.proofs.Common.{false≢true, ltb-true, ltb-false, or_cases, length-map, All-from_recursion}
+use Rattle.station_laws.proofs.Common.{Callsign, IsCallCharacter, BeginsWithPath, way_back, Hop, Path, Role}
+use Rattle.station_laws.proofs.Common.{call_of_text, call_in, Link, Route, repeaters_in, route_in, path_along, Choice}
+use Rattle.std.proofs.Common.{reverse}
+use Rattle.std.specs.Prelude.{find, position}
+use Rattle.std.specs.List.{position_or_len, AllByRecursion as Each}
+use Rattle.std.proofs.lemmas.Bool.{leb-true}
+use Rattle.std.proofs.lemmas.List.{length-reverse, get_or-reverse}
 use Rattle.std.proofs.lemmas.List.Sums.{fails_before_first, passes_at_first}
-use Rattle.std.proofs.lemmas.List.Elements.{All-from_recursion}
-use Rattle.ax25_address.specs.Callsign.{Callsign, IsCall, IsName, IsCallCharacter}
+use Rattle.ax25_address.specs.Callsign.{IsCall, IsName}
 use Rattle.std.specs.Str.{bytes_eq}
 use Rattle.ax25_address.specs.CallText.{name_part, ssid_part, ssid_suffix}
-use Rattle.ax25_address.specs.FramePath.{BeginsWithPath, undone, way_back}
-use Rattle.ax25_address.specs.declared.path.Hop.{Hop}
-use Rattle.ax25_address.specs.declared.path.Path.{Path}
-use Rattle.ax25_address.specs.declared.path.Role.{Role}
-use Rattle.station.specs.CallFields.{is_call_character, is_name, told_ssid, named, call_of_text, call_in, field_text}
-use Rattle.station.specs.Links.{Link}
-use Rattle.station.specs.Routes.{Route, before_calls, calls_in, repeaters_in, route_of, route_in, waiting_hop}
-use Rattle.station.specs.Routes.{path_along}
-use Rattle.station_laws.specs.LinkSteps.{Choice}
+use Rattle.ax25_address.specs.FramePath.{undone}
+use Rattle.station.specs.CallFields.{is_call_character, is_name, told_ssid, named, field_text}
+use Rattle.station.specs.Routes.{before_calls, calls_in, route_of, waiting_hop}
 use Rattle.station_laws.proofs.Addresses.{IsGoodPath}
 use Rattle.station_laws.proofs.Tables.{NotChosen}
 

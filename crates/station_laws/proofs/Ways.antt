@@ -1,15 +1,9 @@
 -- What a moment makes of the two directions: which frames are queued, and from which number on they are in flight.
-use Rattle.std.proofs.Common.{◌≡◌, ℕ, ◌+◌, ◌≤◌, Bool, List, [], ◌∷◌, ◌++◌, Option, Some, None, refl, sym, ap, ◌∙◌}
-use Rattle.std.proofs.Common.{arith}
-use Rattle.std.proofs.Math.Nat.{le-max_left, le-max_right}
-use Rattle.std.proofs.lemmas.List.{append-nil, append_assoc}
-use Rattle.link_world.specs.declared.end.End.{End}
-use Rattle.link_world.specs.declared.end.End.TheVariants.{A, B}
-use Rattle.link_world.specs.World.{other}
-use Rattle.station_laws.specs.InFlight.{LinkFrame, OneWay, BothWays, sent_by, with_front, with_queued, queueing_at}
-use Rattle.station_laws.specs.InFlight.{queueing_all, hearing_at, after_moment}
-use Rattle.station_laws.specs.InFlight.Moment.{Passes}
-use Rattle.station_laws.specs.JointRun.{at_end}
+use Rattle.station_laws.proofs.Common.{◌≡◌, ℕ, ◌+◌, ◌≤◌, Bool, List, [], ◌∷◌, ◌++◌, Option, Some, None, refl, sym, ap}
+use Rattle.station_laws.proofs.Common.{◌∙◌, arith, le-max_left, le-max_right, append-nil, append_assoc, End, A, B}
+use Rattle.station_laws.proofs.Common.{other, LinkFrame, OneWay, BothWays, sent_by, with_queued, queueing_at}
+use Rattle.station_laws.proofs.Common.{queueing_all, hearing_at, after_moment, Passes, at_end}
+use Rattle.station_laws.specs.InFlight.{with_front}
 use Rattle.station_laws.proofs.Framed.{one_framed, framed}
 
 -- ---- frames join

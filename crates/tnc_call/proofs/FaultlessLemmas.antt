@@ -1,24 +1,14 @@
 -- How a call ends if nothing fails.
-use Rattle.std.proofs.Common.{◌≡◌, ◌≢◌, ℕ, ◌⊎◌, List, [], ◌∷◌, ◌++◌, All, length, get_or, refl, ap, subst, ◌∙◌, sym}
-use Rattle.std.proofs.Common.{inl, inr}
-use Rattle.std.proofs.Common.{arith, Option, Some, false, length-append}
-use Rattle.std.proofs.Math.Seq.{get_or-append_seam}
+use Rattle.tnc_call.proofs.Common.{◌≡◌, ◌≢◌, ℕ, ◌⊎◌, List, [], ◌∷◌, ◌++◌, All, length, get_or, refl, ap, subst, ◌∙◌}
+use Rattle.tnc_call.proofs.Common.{sym, inl, inr, arith, Option, Some, false, length-append, get_or-append_seam}
+use Rattle.tnc_call.proofs.Common.{HostEvent, Left, Dial, Poll, CallState, Asking, Calling, Up, CallPlan, is_over}
+use Rattle.tnc_call.proofs.Common.{state_after, printed_after, CallWords, CallEnd, Done, TooLong, Memory, ReadFault}
+use Rattle.tnc_call.proofs.Common.{WriteFault, NoHost, Refused, HostLost, Broken, GaveUp, HasCalled, HasLeft}
+use Rattle.tnc_call.proofs.Common.{HasSendFailed, IsCalled, IsEnded, count_of, plan_of, CallPorts, CallTrace, events_in}
+use Rattle.tnc_call.proofs.Common.{octets_in}
 use Rattle.std.proofs.lemmas.List.{append_cancel_left}
-use Rattle.station.specs.declared.host_event.HostEvent.{HostEvent}
-use Rattle.station.specs.declared.host_event.HostEvent.TheVariants.{Left}
-use Rattle.tnc_ports.specs.declared.records.Dial.{Dial}
-use Rattle.tnc_ports.specs.Sockets.{Poll}
-use Rattle.agwpe_client.specs.declared.call_state.CallState.{CallState}
-use Rattle.agwpe_client.specs.declared.call_state.CallState.TheVariants.{Asking, Calling, Up, Done as DoneState}
-use Rattle.agwpe_client.specs.declared.call_state.CallState.TheVariants.{Refused as RefusedState}
+use Rattle.agwpe_client.specs.declared.call_state.CallState.TheVariants.{Done as DoneState, Refused as RefusedState}
 use Rattle.agwpe_client.specs.declared.call_state.CallState.TheVariants.{Broken as BrokenState}
-use Rattle.agwpe_client.specs.CallRun.{CallPlan, is_over, state_after, printed_after}
-use Rattle.tnc_call.specs.declared.call_words.CallWords.{CallWords}
-use Rattle.tnc_call.specs.declared.call_end.CallEnd.{CallEnd}
-use Rattle.tnc_call.specs.declared.call_end.CallEnd.TheVariants.{Done, TooLong, Memory, ReadFault, WriteFault, NoHost}
-use Rattle.tnc_call.specs.declared.call_end.CallEnd.TheVariants.{Refused, HostLost, Broken, GaveUp}
-use Rattle.tnc_call.specs.CallEnding.{HasCalled, HasLeft, HasSendFailed, IsCalled, IsEnded, count_of, plan_of}
-use Rattle.tnc_call.specs.CallTrace.{CallPorts, CallTrace, events_in, octets_in}
 use Rattle.tnc_call.specs.Faultless.{FaultlessEnds, IsFaultless, end_in}
 
 some_same : {A : Type 0} (o : Option A) (x y : A) → o ≡ Some x → o ≡ Some y → x ≡ y

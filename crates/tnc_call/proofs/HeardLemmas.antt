@@ -1,29 +1,20 @@
 -- What comes of the host, octet by octet.
-use Rattle.std.proofs.Common.{◌≡◌, ◌≢◌, ℕ, ◌^◌, ◌-◌, ◌+◌, min, true, false, List, [], ◌∷◌, ◌++◌, length, refl, ap}
-use Rattle.std.proofs.Common.{subst, ◌∙◌}
-use Rattle.std.proofs.Common.{sym, append_assoc, append-nil, Option, Some, None, arith, length-append, MatchOption}
-use Rattle.tnc_base.specs.Streams.{WrotePart}
-use Rattle.agwpe_client.specs.declared.call_state.CallState.{CallState}
-use Rattle.agwpe_client.specs.declared.call_state.CallState.TheVariants.{Asking, Calling, Up}
+use Rattle.tnc_call.proofs.Common.{◌≡◌, ◌≢◌, ℕ, ◌^◌, ◌-◌, ◌+◌, min, true, false, List, [], ◌∷◌, ◌++◌, length, refl, ap}
+use Rattle.tnc_call.proofs.Common.{subst, ◌∙◌, sym, append_assoc, append-nil, Option, Some, None, arith, length-append}
+use Rattle.tnc_call.proofs.Common.{MatchOption, WrotePart, CallState, Asking, Calling, Up, CallPlan, CallRun, call_run}
+use Rattle.tnc_call.proofs.Common.{is_over, state_after, printed_after, Grows, run_grows, CallEnd, Done, TooLong}
+use Rattle.tnc_call.proofs.Common.{Memory, ReadFault, WriteFault, NoHost, Refused, HostLost, Broken, GaveUp}
+use Rattle.tnc_call.proofs.Common.{IsPartPrinted, count_of, ClientOut, Talk, Stops, StopsBy, GoesOn, event_octets}
+use Rattle.tnc_call.proofs.Common.{octets_of, HostEvent, Left, ◌<◌, take, drop, get_or, flat_map-append}
+use Rattle.tnc_call.proofs.Common.{take-append-drop}
 use Rattle.agwpe_client.specs.declared.call_state.CallState.TheVariants.{Done as DoneState, Refused as RefusedState}
 use Rattle.agwpe_client.specs.declared.call_state.CallState.TheVariants.{Broken as BrokenState}
-use Rattle.agwpe_client.specs.CallRun.{CallPlan, CallRun, call_run, is_over, state_after, printed_after}
-use Rattle.agwpe_client.proofs.GrowLemmas.{Grows, run_grows}
 use Rattle.agwpe_client.proofs.StreamLemmas.{over_stays}
-use Rattle.tnc_call.specs.declared.call_end.CallEnd.{CallEnd}
-use Rattle.tnc_call.specs.declared.call_end.CallEnd.TheVariants.{Done, TooLong, Memory, ReadFault, WriteFault, NoHost}
-use Rattle.tnc_call.specs.declared.call_end.CallEnd.TheVariants.{Refused, HostLost, Broken, GaveUp}
-use Rattle.tnc_call.specs.CallEnding.{IsPrinted, IsPartPrinted, count_of}
-use Rattle.agwpe_client.specs.declared.client_out.ClientOut.{ClientOut}
+use Rattle.tnc_call.specs.CallEnding.{IsPrinted}
 use Rattle.agwpe_client.specs.HeldCall.{StandsFor}
-use Rattle.tnc_call.specs.declared.talk.Talk.{Talk}
-use Rattle.tnc_call.specs.HeldTalk.{Stops, StopsBy, GoesOn, IsAhead}
-use Rattle.tnc_call.specs.CallTrace.{event_octets, octets_of}
-use Rattle.station.specs.declared.host_event.HostEvent.{HostEvent}
-use Rattle.station.specs.declared.host_event.HostEvent.TheVariants.{Left}
-use Rattle.std.proofs.Common.{◌<◌, take, drop, get_or, is_some}
-use Rattle.std.proofs.lemmas.Grind.{flat_map-append}
-use Rattle.std.proofs.lemmas.List.{take_more, take-append-drop}
+use Rattle.tnc_call.specs.HeldTalk.{IsAhead}
+use Rattle.std.proofs.Common.{is_some}
+use Rattle.std.proofs.lemmas.List.{take_more}
 
 -- all that is printed is a part of it
 pub all_is_part : (plan : CallPlan) (host before : List ℕ) (written : Option (List ℕ))

@@ -1,3 +1,4 @@
+pub mod Common
 pub mod FaultlessLemmas
 pub mod HeardLemmas
 pub mod TraceLemmas

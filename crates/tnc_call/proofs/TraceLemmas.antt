@@ -1,23 +1,20 @@
 -- The polls and offers of a call, one after the other.
-use Rattle.std.proofs.Common.{◌≡◌, ◌≢◌, ℕ, suc, ◌+◌, ◌<◌, ◌≤◌, ◌⊎◌, eqb, leb, cond, Bool, true, false, List, [], ◌∷◌}
-use Rattle.std.proofs.Common.{◌++◌, All, length, map, take, drop, get_or, refl, ap, subst, ◌∙◌, sym, inl, inr, arith}
-use Rattle.std.proofs.Common.{append_assoc}
-use Rattle.std.proofs.Common.{append-nil, length-append, Some}
+use Rattle.tnc_call.proofs.Common.{◌≡◌, ◌≢◌, ℕ, ◌+◌, ◌<◌, ◌≤◌, ◌⊎◌, eqb, Bool, true, false, List, [], ◌∷◌, ◌++◌, All}
+use Rattle.tnc_call.proofs.Common.{length, take, drop, get_or, refl, ap, subst, ◌∙◌, sym, inl, inr, arith, append_assoc}
+use Rattle.tnc_call.proofs.Common.{append-nil, length-append, Some, get_or-append_seam, eq-eqb, flat_map-append}
+use Rattle.tnc_call.proofs.Common.{length_push, All-push, GrowsBy, Poll, CallPlan, sent_after, CallPorts, CallTrace}
+use Rattle.tnc_call.proofs.Common.{IsTraced, IsAlike, octets_in, octets_of, events_in, event_octets}
+use Rattle.std.proofs.Common.{suc, leb, cond, map}
 use Rattle.std.specs.Prelude.{Any, filter}
 use Rattle.std.proofs.Math.ListN.{get_or-append}
-use Rattle.std.proofs.Math.Seq.{get_or-append_seam, take-add}
-use Rattle.std.proofs.lemmas.Bool.{le-leb, leb-true, cases_lt, cases_eq, eqb-true, eq-eqb}
-use Rattle.std.proofs.lemmas.Grind.{flat_map-append}
-use Rattle.std.proofs.lemmas.List.{map-append, take-append-le, take_at, length_push}
-use Rattle.std.proofs.lemmas.List.Elements.{All-append, All-push, filter-append}
+use Rattle.std.proofs.Math.Seq.{take-add}
+use Rattle.std.proofs.lemmas.Bool.{le-leb, leb-true, cases_lt, cases_eq, eqb-true}
+use Rattle.std.proofs.lemmas.List.{map-append, take-append-le, take_at}
+use Rattle.std.proofs.lemmas.List.Elements.{All-append, filter-append}
 use Rattle.std.proofs.lemmas.List.Sums.{sum_by-append, sum_by_push}
-use Rattle.tnc_ports.specs.SampledRun.{GrowsBy}
-use Rattle.tnc_ports.specs.Sockets.{Poll, Send}
-use Rattle.agwpe_client.specs.CallRun.{CallPlan, sent_after}
-use Rattle.tnc_call.specs.CallTrace.{CallPorts, CallTrace, CallOffer, IsTraced, IsAlike, IsAlwaysOffered}
-use Rattle.tnc_call.specs.CallTrace.{IsOfferedBefore}
-use Rattle.tnc_call.specs.CallTrace.{TookLess, count_taken, offers_before, send_of, sends_of, octets_in, octets_of}
-use Rattle.tnc_call.specs.CallTrace.{events_in, event_octets}
+use Rattle.tnc_ports.specs.Sockets.{Send}
+use Rattle.tnc_call.specs.CallTrace.{CallOffer, IsAlwaysOffered, IsOfferedBefore, TookLess, count_taken, offers_before}
+use Rattle.tnc_call.specs.CallTrace.{send_of, sends_of}
 
 -- ---- lists
 

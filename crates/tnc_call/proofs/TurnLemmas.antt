@@ -1,36 +1,19 @@
 -- A turn of a call.
-use Rattle.std.proofs.Common.{◌≡◌, ◌≢◌, ℕ, ◌-◌, ◌<◌, ◌≤◌, List, [], ◌∷◌, ◌++◌, length, refl, ap, subst, ◌∙◌, sym, inl}
-use Rattle.std.proofs.Common.{inr}
-use Rattle.std.proofs.Common.{arith, append_assoc, append-nil, Option, Some, None, MatchOption}
-use Rattle.std.proofs.Common.{false}
-use Rattle.std.proofs.lemmas.Grind.{flat_map-append}
-use Rattle.std.proofs.lemmas.List.{length_push}
-use Rattle.std.proofs.lemmas.List.Elements.{All-push}
-use Rattle.tnc_base.specs.Faults.{HasRisen}
-use Rattle.station.specs.declared.host_event.HostEvent.{HostEvent}
-use Rattle.station.specs.declared.host_event.HostEvent.TheVariants.{Left}
-use Rattle.tnc_ports.specs.SampledRun.{GrowsBy}
-use Rattle.tnc_ports.specs.Sockets.{Poll}
-use Rattle.agwpe_client.specs.CallRun.{CallPlan, call_run, is_over, state_after, sent_after}
-use Rattle.agwpe_client.proofs.GrowLemmas.{Grows, run_grows}
-use Rattle.tnc_call.specs.declared.talk.Talk.{Talk}
-use Rattle.tnc_call.specs.declared.call_end.CallEnd.{CallEnd}
-use Rattle.tnc_call.specs.declared.call_end.CallEnd.TheVariants.{Done, TooLong, Memory, ReadFault, WriteFault, NoHost}
-use Rattle.tnc_call.specs.declared.call_end.CallEnd.TheVariants.{Refused, HostLost, Broken, GaveUp}
-use Rattle.tnc_call.specs.CallEnding.{IsEnded, IsPartPrinted}
-use Rattle.tnc_call.specs.CallTrace.{CallPorts, CallTrace, IsTraced, IsAlike, IsCallPoll, octets_of, octets_in}
-use Rattle.tnc_call.specs.CallTrace.{events_in}
-use Rattle.tnc_call.specs.HeldTalk.{HasBegun, GoesOn, Stops, StopsBy, IsRunning, HasOffered, TurnsOn, HasStopped}
-use Rattle.tnc_call.specs.HeldTalk.{HasTalked}
-use Rattle.tnc_call.specs.CallEnding.{count_of}
-use Rattle.tnc_call.specs.CallTrace.{no_trace}
-use Rattle.agwpe_client.specs.CallRun.{CallRun}
+use Rattle.tnc_call.proofs.Common.{◌≡◌, ◌≢◌, ℕ, ◌-◌, ◌<◌, ◌≤◌, List, [], ◌∷◌, ◌++◌, length, refl, ap, subst, ◌∙◌, sym}
+use Rattle.tnc_call.proofs.Common.{inl, inr, arith, append_assoc, append-nil, Option, Some, None, MatchOption, false}
+use Rattle.tnc_call.proofs.Common.{flat_map-append, length_push, All-push, HasRisen, HostEvent, Left, GrowsBy, Poll}
+use Rattle.tnc_call.proofs.Common.{CallPlan, call_run, is_over, state_after, sent_after, Grows, run_grows, Talk}
+use Rattle.tnc_call.proofs.Common.{CallEnd, Done, TooLong, Memory, ReadFault, WriteFault, NoHost, Refused, HostLost}
+use Rattle.tnc_call.proofs.Common.{Broken, GaveUp, IsEnded, IsPartPrinted, CallPorts, CallTrace, IsTraced, IsAlike}
+use Rattle.tnc_call.proofs.Common.{octets_of, octets_in, events_in, HasBegun, GoesOn, Stops, StopsBy, IsRunning}
+use Rattle.tnc_call.proofs.Common.{HasOffered, HasTalked, count_of, no_trace, CallRun}
+use Rattle.tnc_call.specs.CallTrace.{IsCallPoll}
+use Rattle.tnc_call.specs.HeldTalk.{TurnsOn, HasStopped}
 use Rattle.agwpe_client.proofs.BeginLemmas.{run_begins}
 use Rattle.tnc_call.proofs.HeardLemmas.{all_is_part, octets_of_more}
 use Rattle.tnc_call.proofs.TraceLemmas.{IsOfferTold, with_offer, with_poll, traced_offer, traced_poll, traced_same}
 use Rattle.tnc_call.proofs.TraceLemmas.{traced_more, alike_on, count_with_offer, octets_with_poll, all_early}
-use Rattle.tnc_call.proofs.TraceLemmas.{early_again}
-use Rattle.tnc_call.proofs.TraceLemmas.{offered_now, always_with_poll, always_with_offer}
+use Rattle.tnc_call.proofs.TraceLemmas.{early_again, offered_now, always_with_poll, always_with_offer}
 
 -- ---- the offer
 

@@ -1,22 +1,13 @@
 -- A whole call: dialed, talked and shut.
-use Rattle.std.proofs.Common.{◌≡◌, ◌≢◌, ℕ, ◌≤◌, ◌⊎◌, eqb, Bool, true, false, ◌||◌, List, [], ◌∷◌, ◌++◌, length, refl}
-use Rattle.std.proofs.Common.{◌∙◌, inl, inr}
-use Rattle.std.proofs.Common.{arith, Option, Some}
-use Rattle.std.proofs.lemmas.Bool.{eq-eqb}
+use Rattle.tnc_call.proofs.Common.{◌≡◌, ◌≢◌, ℕ, ◌≤◌, ◌⊎◌, eqb, Bool, true, false, List, [], ◌∷◌, ◌++◌, length, refl}
+use Rattle.tnc_call.proofs.Common.{◌∙◌, inl, inr, arith, Option, Some, eq-eqb, HasRisen, Dial, GrowsBy, CallPlan}
+use Rattle.tnc_call.proofs.Common.{CallWords, CallEnd, Done, TooLong, Memory, ReadFault, WriteFault, NoHost, Refused}
+use Rattle.tnc_call.proofs.Common.{HostLost, Broken, GaveUp, text_limit, IsEnded, HasLeft, HasSendFailed, HasCalled}
+use Rattle.tnc_call.proofs.Common.{IsCalled, plan_of, CallPorts, CallTrace, events_in, HasTalked}
+use Rattle.std.proofs.Common.{◌||◌}
 use Rattle.std.proofs.lemmas.List.Folds.{list_any-append}
-use Rattle.tnc_base.specs.Faults.{HasRisen}
-use Rattle.tnc_ports.specs.declared.records.Dial.{Dial}
-use Rattle.tnc_ports.specs.SampledRun.{GrowsBy}
 use Rattle.tnc_ports.specs.Sockets.{has_dialed}
-use Rattle.agwpe_client.specs.CallRun.{CallPlan}
-use Rattle.tnc_call.specs.declared.call_words.CallWords.{CallWords}
-use Rattle.tnc_call.specs.declared.call_end.CallEnd.{CallEnd}
-use Rattle.tnc_call.specs.declared.call_end.CallEnd.TheVariants.{Done, TooLong, Memory, ReadFault, WriteFault, NoHost}
-use Rattle.tnc_call.specs.declared.call_end.CallEnd.TheVariants.{Refused, HostLost, Broken, GaveUp}
-use Rattle.tnc_call.specs.CallInput.{text_limit, IsTalkEnd}
-use Rattle.tnc_call.specs.CallEnding.{IsEnded, HasLeft, HasSendFailed, HasCalled, IsCalled, plan_of}
-use Rattle.tnc_call.specs.CallTrace.{CallPorts, CallTrace, events_in}
-use Rattle.tnc_call.specs.HeldTalk.{HasTalked}
+use Rattle.tnc_call.specs.CallInput.{IsTalkEnd}
 
 -- what a dial leaves as it was, and what a shut does
 pub record IsUntouched (before after : CallPorts) : Type 0 where

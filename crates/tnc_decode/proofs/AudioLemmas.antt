@@ -1,29 +1,24 @@
 -- Audio, one octet more at a time.
-use Rattle.std.proofs.Common.{◌≡◌, ℕ, ◌+◌, ◌<◌, ◌≤◌, ℤ, List, [], ◌∷◌, ◌++◌, length, take, drop, get_or, refl, ap, sym}
-use Rattle.std.proofs.Common.{subst, ◌∙◌, arith, append_assoc, inl, inr}
-use Rattle.std.proofs.lemmas.List.{append-nil, take_more, take-append-drop}
-use Rattle.std.specs.Prelude.{Option, Some, None, Result, Ok, Err, option_map, ◌⊎◌}
+use Rattle.tnc_decode.proofs.Common.{◌≡◌, ℕ, ◌+◌, ◌<◌, ◌≤◌, ℤ, List, [], ◌∷◌, ◌++◌, length, take, drop, get_or, refl}
+use Rattle.tnc_decode.proofs.Common.{ap, sym, subst, ◌∙◌, arith, append_assoc, inl, inr, append-nil, Option, Some, None}
+use Rattle.tnc_decode.proofs.Common.{Result, Ok, ◌⊎◌, WavFault, Rates, chunks, Reading, reading, samples_in, fault_in}
+use Rattle.tnc_decode.proofs.Common.{rate_in, sample_of, InputFault, AudioForm, Raw, Wav, DecodeWords, File, rates_of}
+use Rattle.tnc_decode.proofs.Common.{samples_at, samples_read, stopping_fault_at, form_fault_at, modem_of, HasTakenAt}
+use Rattle.std.proofs.lemmas.List.{take_more, take-append-drop}
+use Rattle.std.specs.Prelude.{Err, option_map}
 use Rattle.std.specs.Result.{result_err}
-use Rattle.wav_file.specs.declared.fault.WavFault.{WavFault}
-use Rattle.wav_file.specs.declared.rates.Rates.{Rates}
 use Rattle.wav_file.specs.declared.rates.Rates.TheVariants.{NarrowOrWide}
-use Rattle.wav_file.specs.Chunks.{chunks}
 use Rattle.wav_file.specs.Held.{Held as HeldFile, StandsFor as FileStandsFor, rest_reading}
-use Rattle.wav_file.specs.Reading.{Reading, reading, samples_in, fault_in, given, verdict_of, rate_in}
-use Rattle.wav_file.specs.Samples.{sample_of, samples}
-use Rattle.tnc_forms.specs.declared.fault.InputFault.{InputFault}
+use Rattle.wav_file.specs.Reading.{given, verdict_of}
+use Rattle.wav_file.specs.Samples.{samples}
 use Rattle.tnc_forms.specs.declared.fault.InputFault.TheVariants.{Wav as BadWav}
-use Rattle.tnc_words.specs.declared.command.AudioForm.{AudioForm}
-use Rattle.tnc_words.specs.declared.command.AudioForm.TheVariants.{Raw, Wav}
-use Rattle.tnc_words.specs.declared.command.DecodeWords.{DecodeWords}
 use Rattle.tnc_words.specs.declared.command.Receiving.{Receiving}
 use Rattle.tnc_words.specs.declared.command.Receiving.TheVariants.{Standard, Sensitive, ShortWave}
 use Rattle.tnc_decode.specs.declared.audio.Audio.{Audio}
-use Rattle.tnc_decode.specs.declared.audio.Audio.TheVariants.{Pcm, File}
-use Rattle.tnc_decode.specs.Audio.{rates_of, samples_at, samples_read, stopping_fault_at, form_fault_at}
+use Rattle.tnc_decode.specs.declared.audio.Audio.TheVariants.{Pcm}
 use Rattle.tnc_decode.specs.Audio.{fault_in_verdict}
-use Rattle.tnc_decode.specs.Modem.{modem_of, modem_for, modem_of_file}
-use Rattle.tnc_decode.specs.Held.{odd_octet, HasTakenAt}
+use Rattle.tnc_decode.specs.Modem.{modem_for, modem_of_file}
+use Rattle.tnc_decode.specs.Held.{odd_octet}
 use Rattle.tnc_decode.proofs.WavFaults.{fault_stays, rate_stays, silent_before, quiet_before}
 
 -- ---- raw PCM

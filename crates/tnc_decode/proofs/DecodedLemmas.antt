@@ -1,21 +1,12 @@
 -- An input has one text, and an input is refused for the first fault that reading it meets.
-use Rattle.std.proofs.Common.{◌≡◌, ℕ, ◌+◌, ◌-◌, ◌<◌, ◌≤◌, List, ◌++◌, length, take, refl, ap, sym, ◌∙◌, arith, inl, inr}
-use Rattle.std.proofs.Common.{length-append}
-use Rattle.std.specs.Prelude.{Some, None, if◌then◌else◌}
+use Rattle.tnc_decode.proofs.Common.{◌≡◌, ℕ, ◌+◌, ◌-◌, ◌<◌, ◌≤◌, List, ◌++◌, length, take, refl, ap, sym, ◌∙◌, arith}
+use Rattle.tnc_decode.proofs.Common.{inl, inr, length-append, Some, None, if◌then◌else◌, cases_lt, lt-ltb, le-ltb}
+use Rattle.tnc_decode.proofs.Common.{merged, candidate_frames, Rates, DecodeWords, AudioForm, InputFault, TooLong}
+use Rattle.tnc_decode.proofs.Common.{input_limit, samples_read, form_fault_at, stopping_fault_at, modem_of, IsDecoded}
+use Rattle.tnc_decode.proofs.Common.{print}
 use Rattle.std.specs.Option.{option_or}
 use Rattle.std.proofs.Math.Seq.{take-append-add, take-append_seam}
-use Rattle.std.proofs.lemmas.Bool.{cases_lt, lt-ltb, le-ltb}
-use Rattle.frame_merge.specs.Merged.{merged, candidate_frames}
-use Rattle.wav_file.specs.declared.rates.Rates.{Rates}
-use Rattle.tnc_words.specs.declared.command.DecodeWords.{DecodeWords}
-use Rattle.tnc_words.specs.declared.command.AudioForm.{AudioForm}
-use Rattle.tnc_forms.specs.declared.fault.InputFault.{InputFault}
-use Rattle.tnc_forms.specs.declared.fault.InputFault.TheVariants.{TooLong}
-use Rattle.tnc_forms.specs.Reading.{input_limit}
-use Rattle.tnc_decode.specs.Audio.{samples_read, form_fault_at, stopping_fault_at, audio_fault_at}
-use Rattle.tnc_decode.specs.Modem.{modem_of}
-use Rattle.tnc_decode.specs.Decoded.{IsDecoded}
-use Rattle.tnc_decode.specs.Printing.{print}
+use Rattle.tnc_decode.specs.Audio.{audio_fault_at}
 use Rattle.tnc_decode.proofs.AudioLemmas.{stops_still, stops_form}
 use Rattle.tnc_decode.proofs.ModemLemmas.{one_heard, some_heard}
 

@@ -1,23 +1,13 @@
 -- An input that is decoded in blocks: how far it is, and what was written where it stops.
-use Rattle.std.proofs.Common.{◌≡◌, ℕ, ◌+◌, ◌<◌, ◌≤◌, ℤ, List, [], ◌++◌, length, take, drop, refl, ap, sym, subst, ◌∙◌}
-use Rattle.std.proofs.Common.{arith, append_assoc, length-append}
-use Rattle.std.specs.Prelude.{Option, Some}
-use Rattle.std.proofs.lemmas.List.{append-nil, nil_from_length, length-take-le}
-use Rattle.tnc_base.specs.Streams.{Gives, WrotePart}
-use Rattle.tnc_forms.specs.declared.fault.InputFault.{InputFault}
-use Rattle.tnc_forms.specs.declared.fault.InputFault.TheVariants.{TooLong}
-use Rattle.tnc_forms.specs.Reading.{input_limit}
+use Rattle.tnc_decode.proofs.Common.{◌≡◌, ℕ, ◌+◌, ◌<◌, ◌≤◌, ℤ, List, [], ◌++◌, length, take, drop, refl, ap, sym, subst}
+use Rattle.tnc_decode.proofs.Common.{◌∙◌, arith, append_assoc, length-append, Option, Some, append-nil, Gives}
+use Rattle.tnc_decode.proofs.Common.{WrotePart, InputFault, TooLong, input_limit, DecodeWords, Receiver, rates_of}
+use Rattle.tnc_decode.proofs.Common.{samples_read, form_fault, stopping_fault, audio_fault, IsDecoded, HasHeard}
+use Rattle.tnc_decode.proofs.Common.{HasTaken, CutShort, IsSettled, WereRead, WroteMost}
+use Rattle.std.proofs.lemmas.List.{nil_from_length, length-take-le}
 use Rattle.tnc_forms.proofs.Lists.{drop-parts}
 use Rattle.tnc_forms.proofs.ReadingLemmas.{read_on}
 use Rattle.tnc_forms.proofs.WrittenParts.{wrote_front, wrote_behind, wrote_all}
-use Rattle.tnc_words.specs.declared.command.DecodeWords.{DecodeWords}
-use Rattle.tnc_decode.specs.declared.receiver.Receiver.{Receiver}
-use Rattle.tnc_decode.specs.Audio.{rates_of, samples_read, form_fault, stopping_fault, audio_fault}
-use Rattle.tnc_decode.specs.Decoded.{IsDecoded}
-use Rattle.tnc_decode.specs.Held.{HasHeard, HasTaken, CutShort}
-use Rattle.tnc_decode.specs.Settled.{IsSettled}
-use Rattle.tnc_forms.specs.Taken.{WereRead}
-use Rattle.tnc_decode.specs.Written.{WroteMost}
 use Rattle.tnc_decode.proofs.AudioLemmas.{begins_with, none_stops, stops_silent, stops_still}
 use Rattle.tnc_decode.proofs.DecodedLemmas.{some_text, one_text, audio_fault_short, audio_fault_stops}
 use Rattle.tnc_decode.proofs.DecodedLemmas.{audio_fault_too_long}

@@ -1,24 +1,14 @@
 -- How a decoding ends: where it stops, and what each clause says of its answer.
-use Rattle.std.proofs.Common.{◌≡◌, ℕ, ◌+◌, ◌≤◌, List, [], ◌++◌, length, drop, refl, ap, sym, subst, ◌∙◌, arith, inl}
-use Rattle.std.proofs.Common.{inr, take, true, false, length-append}
-use Rattle.std.specs.Prelude.{Option, Some, None, Result, Ok, Err, OnOk, OnErr, ◌⊎◌}
-use Rattle.std.proofs.lemmas.List.{append-nil}
-use Rattle.tnc_base.specs.Streams.{Gives, WrotePart}
+use Rattle.tnc_decode.proofs.Common.{◌≡◌, ℕ, ◌+◌, ◌≤◌, List, [], ◌++◌, length, drop, refl, ap, sym, subst, ◌∙◌, arith}
+use Rattle.tnc_decode.proofs.Common.{inl, inr, take, true, false, length-append, Option, Some, None, Result, Ok, ◌⊎◌}
+use Rattle.tnc_decode.proofs.Common.{append-nil, Gives, WrotePart, InputFault, TooLong, input_limit, DecodeWords}
+use Rattle.tnc_decode.proofs.Common.{Receiver, rates_of, form_fault, stopping_fault, audio_fault, IsDecoded, IsEnded}
+use Rattle.tnc_decode.proofs.Common.{HasHeard, CutShort, IsSettled, WereRead, WroteMost}
+use Rattle.std.specs.Prelude.{Err, OnOk, OnErr}
 use Rattle.tnc_forms.specs.declared.fault.Fault.{Fault}
 use Rattle.tnc_forms.specs.declared.fault.Fault.TheVariants.{Input, Memory, Read, Write}
-use Rattle.tnc_forms.specs.declared.fault.InputFault.{InputFault}
-use Rattle.tnc_forms.specs.declared.fault.InputFault.TheVariants.{TooLong}
-use Rattle.tnc_forms.specs.Reading.{input_limit}
 use Rattle.tnc_forms.proofs.WrittenParts.{wrote_nothing}
-use Rattle.tnc_words.specs.declared.command.DecodeWords.{DecodeWords}
-use Rattle.tnc_decode.specs.declared.receiver.Receiver.{Receiver}
-use Rattle.tnc_decode.specs.Audio.{rates_of, form_fault, stopping_fault, audio_fault}
-use Rattle.tnc_decode.specs.Decoded.{IsDecoded}
-use Rattle.tnc_decode.specs.Ended.{WroteAll, WroteSettled, WroteFirst, IsStopped, IsEnded}
-use Rattle.tnc_decode.specs.Held.{HasHeard, CutShort}
-use Rattle.tnc_decode.specs.Settled.{IsSettled}
-use Rattle.tnc_forms.specs.Taken.{WereRead}
-use Rattle.tnc_decode.specs.Written.{WroteMost}
+use Rattle.tnc_decode.specs.Ended.{WroteAll, WroteSettled, WroteFirst, IsStopped}
 use Rattle.tnc_decode.proofs.AudioLemmas.{form_is_wav, stops_form}
 use Rattle.tnc_decode.proofs.DecodedLemmas.{some_text}
 use Rattle.tnc_decode.proofs.DecodingLemmas.{Progress, part_of_whole, part_with, piece_read, piece_bad, piece_silent}

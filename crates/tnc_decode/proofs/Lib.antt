@@ -1,3 +1,4 @@
+pub mod Common
 pub mod WavFaults
 pub mod AudioLemmas
 pub mod ModemLemmas

@@ -1,14 +1,12 @@
 -- What every modem has: samples have one list of candidates, and more samples change nothing of what is settled.
-use Rattle.std.proofs.Common.{◌≡◌, ℕ, ◌+◌, ◌/◌, ◌^◌, ◌<◌, ◌≤◌, ℤ, List, [], ◌++◌, length, refl, ap, sym, ◌∙◌, arith}
-use Rattle.std.proofs.Common.{length-append}
-use Rattle.std.specs.List.Sorted.{IsNonDecreasingBy}
-use Rattle.std.proofs.lemmas.List.{append_cancel_left}
-use Rattle.frame_merge.specs.declared.candidate.Candidate.{Candidate}
-use Rattle.frame_merge.specs.Merged.{merged, below, between, not_below}
+use Rattle.tnc_decode.proofs.Common.{◌≡◌, ℕ, ◌+◌, ◌/◌, ◌^◌, ◌<◌, ◌≤◌, ℤ, List, [], ◌++◌, length, refl, ap, sym, ◌∙◌}
+use Rattle.tnc_decode.proofs.Common.{arith, length-append, IsNonDecreasingBy, append_cancel_left, Candidate, merged}
+use Rattle.tnc_decode.proofs.Common.{below, between, not_below, below_between, below_then_rest, AreMergedBetween}
+use Rattle.tnc_decode.proofs.Common.{least_count, AreWideMergedBetween, Modem, Plain, Wide, Sensitive, ShortWave}
+use Rattle.tnc_decode.proofs.Common.{HasDecoded, AreHeard, settled_count, AreGivenBetween, AreGivenBelow, AreGivenRest}
 use Rattle.frame_merge.proofs.Ordering.{rising_ends}
-use Rattle.frame_merge.proofs.Merging.{merged-rising, below_between, between_all}
-use Rattle.frame_merge.proofs.Forgetting.{below_then_rest}
-use Rattle.slicer_bank.specs.MergedItems.{AreMerged, AreMergedBetween}
+use Rattle.frame_merge.proofs.Merging.{merged-rising, between_all}
+use Rattle.slicer_bank.specs.MergedItems.{AreMerged}
 use Rattle.slicer_bank.proofs.CandidateLemmas.{candidates_none}
 use Rattle.slicer_bank.proofs.MergingLemmas.{is_in_order}
 use Rattle.slicer_bank.proofs.MergedLemmas.{all, given_still}
@@ -23,8 +21,6 @@ use Rattle.sensitive_receiver.proofs.HeardLemmas.{none_heard as no_sensitive}
 use Rattle.sensitive_receiver.proofs.MergedLemmas.{one_list as one_sensitive, rising_heard as rising_sensitive}
 use Rattle.sensitive_receiver.proofs.MergedLemmas.{below_still as sensitive_still}
 use Rattle.sensitive_receiver.proofs.SomeList.{some_list as some_sensitive}
-use Rattle.wide_input.specs.Streams.{least_count}
-use Rattle.wide_input.specs.MergedItems.{AreWideMergedBetween}
 use Rattle.wide_input.proofs.StreamLemmas.{least_count-is}
 use Rattle.wide_input.proofs.WideSteps.{no_wide, rising_wide}
 use Rattle.wide_input.proofs.WideMerged.{one_wide, some_wide, below_still}
@@ -33,10 +29,6 @@ use Rattle.hf_modem.specs.HeldDecoder.{HeldDecoder as HeldHf, StandsFor as HfSta
 use Rattle.wide_input.specs.Held.{HeldWide, StandsFor as BankStandsFor}
 use Rattle.tnc_decode.specs.declared.decoders.Decoders.TheVariants.{Plain as PlainDecoder, Wide as WideDecoder}
 use Rattle.tnc_decode.specs.declared.decoders.Decoders.TheVariants.{ShortWave as ShortWaveDecoder}
-use Rattle.tnc_decode.specs.declared.modem.Modem.{Modem}
-use Rattle.tnc_decode.specs.declared.modem.Modem.TheVariants.{Plain, Wide, Sensitive, ShortWave}
-use Rattle.tnc_decode.specs.Held.{HasDecoded}
-use Rattle.tnc_decode.specs.Modem.{AreHeard, settled_count, AreGivenBetween, AreGivenBelow, AreGivenRest}
 
 -- ---- case by case
 

@@ -1,11 +1,8 @@
 -- Printed frames, one more at a time.
-use Rattle.std.proofs.Common.{◌≡◌, ℕ, ◌+◌, ◌<◌, ◌≤◌, List, [], ◌∷◌, ◌++◌, length, get_or, drop, sym, ◌∙◌, ap}
+use Rattle.tnc_decode.proofs.Common.{◌≡◌, ℕ, ◌+◌, ◌<◌, ◌≤◌, List, [], ◌∷◌, ◌++◌, length, get_or, drop, sym, ◌∙◌, ap}
+use Rattle.tnc_decode.proofs.Common.{drop_all, Candidate, FrameForm, candidate_frames, print, printed}
 use Rattle.std.specs.List.{flat_map}
-use Rattle.std.proofs.lemmas.List.{drop_more, drop_all}
-use Rattle.frame_merge.specs.declared.candidate.Candidate.{Candidate}
-use Rattle.tnc_words.specs.declared.command.FrameForm.{FrameForm}
-use Rattle.frame_merge.specs.Merged.{candidate_frames}
-use Rattle.tnc_decode.specs.Printing.{print, printed}
+use Rattle.std.proofs.lemmas.List.{drop_more}
 
 -- past the last item nothing is left to print
 pub print_end : (form : FrameForm) (items : List Candidate) (i : ℕ) → length items ≤ i

@@ -1,18 +1,9 @@
 -- A receiver with octets more, and at the end of the input.
-use Rattle.std.proofs.Common.{◌≡◌, ℕ, ◌+◌, ◌≤◌, ℤ, List, [], ◌++◌, length, ap, sym, subst, ◌∙◌, arith, length-append}
-use Rattle.std.proofs.Common.{inl, inr}
-use Rattle.frame_merge.specs.declared.candidate.Candidate.{Candidate}
-use Rattle.frame_merge.specs.Merged.{candidate_frames}
-use Rattle.tnc_words.specs.declared.command.DecodeWords.{DecodeWords}
-use Rattle.tnc_decode.specs.declared.decoders.Decoders.{Decoders}
-use Rattle.tnc_decode.specs.declared.modem.Modem.{Modem}
-use Rattle.tnc_decode.specs.declared.receiver.Receiver.{Receiver}
-use Rattle.tnc_decode.specs.Audio.{rates_of, samples_read}
-use Rattle.tnc_decode.specs.Decoded.{IsDecoded}
-use Rattle.tnc_decode.specs.Held.{HasDecoded, HasHeard, HasTaken}
-use Rattle.tnc_decode.specs.Modem.{modem_of, settled_count, AreGivenBetween, AreGivenRest}
-use Rattle.tnc_decode.specs.Printing.{print}
-use Rattle.tnc_decode.specs.Settled.{IsSettled, sample_count}
+use Rattle.tnc_decode.proofs.Common.{◌≡◌, ℕ, ◌+◌, ◌≤◌, ℤ, List, [], ◌++◌, length, ap, sym, subst, ◌∙◌, arith}
+use Rattle.tnc_decode.proofs.Common.{length-append, inl, inr, Candidate, candidate_frames, DecodeWords, Decoders, Modem}
+use Rattle.tnc_decode.proofs.Common.{Receiver, rates_of, samples_read, IsDecoded, HasDecoded, HasHeard, HasTaken}
+use Rattle.tnc_decode.proofs.Common.{modem_of, settled_count, AreGivenBetween, AreGivenRest, print, IsSettled}
+use Rattle.tnc_decode.proofs.Common.{sample_count}
 use Rattle.tnc_decode.proofs.AudioLemmas.{modem_stays}
 use Rattle.tnc_decode.proofs.SettledLemmas.{no_sample, settled_none, settled_more, decoded_at_end}
 

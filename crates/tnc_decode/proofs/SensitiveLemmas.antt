@@ -1,19 +1,12 @@
 -- What the decoder of 23 lanes gives, as what its modem gives.
-use Rattle.std.proofs.Common.{◌≡◌, ℕ, ◌+◌, ◌^◌, ◌<◌, ℤ, List, ◌++◌, length, refl, ap, sym, ◌∙◌, arith}
-use Rattle.std.specs.List.Sorted.{IsNonDecreasingBy}
-use Rattle.std.proofs.lemmas.List.{append_cancel_left}
-use Rattle.frame_merge.specs.declared.candidate.Candidate.{Candidate}
-use Rattle.frame_merge.specs.Merged.{merged, below, between, not_below}
-use Rattle.frame_merge.proofs.Merging.{below_between}
-use Rattle.frame_merge.proofs.Forgetting.{below_then_rest}
+use Rattle.tnc_decode.proofs.Common.{◌≡◌, ℕ, ◌+◌, ◌^◌, ◌<◌, ℤ, List, ◌++◌, length, refl, ap, sym, ◌∙◌, arith}
+use Rattle.tnc_decode.proofs.Common.{IsNonDecreasingBy, append_cancel_left, Candidate, merged, below, between}
+use Rattle.tnc_decode.proofs.Common.{not_below, below_between, below_then_rest, settled, Modem, Plain, Wide, Sensitive}
+use Rattle.tnc_decode.proofs.Common.{ShortWave, HasDecoded, settled_count, AreGivenBetween, AreGivenRest}
 use Rattle.sensitive_receiver.specs.HeldDecoder.{HeldDecoder, StandsFor}
-use Rattle.sensitive_receiver.specs.MergedItems.{AreMerged, AreMergedBetween, settled}
+use Rattle.sensitive_receiver.specs.MergedItems.{AreMerged, AreMergedBetween}
 use Rattle.sensitive_receiver.proofs.MergedLemmas.{one_list, rising_heard, all_items}
 use Rattle.tnc_decode.specs.declared.decoders.Decoders.TheVariants.{Sensitive as SensitiveDecoder}
-use Rattle.tnc_decode.specs.declared.modem.Modem.{Modem}
-use Rattle.tnc_decode.specs.declared.modem.Modem.TheVariants.{Plain, Wide, Sensitive, ShortWave}
-use Rattle.tnc_decode.specs.Held.{HasDecoded}
-use Rattle.tnc_decode.specs.Modem.{settled_count, AreGivenBetween, AreGivenRest}
 use Rattle.tnc_decode.proofs.ModemLemmas.{from_zero}
 
 given_sensitive : (from to : ℕ) (x : List ℤ) (items : List Candidate) → AreMergedBetween from to x items

@@ -1,27 +1,14 @@
 -- What octets settle: with more octets after them, at the end of the input, and as a first part of what the whole input
 -- gives.
-use Rattle.std.proofs.Common.{◌≡◌, ℕ, ◌-◌, ◌≤◌, ℤ, List, [], ◌++◌, length, refl, ap, sym, subst, ◌∙◌, arith}
-use Rattle.std.proofs.Common.{append_assoc, inl, inr}
-use Rattle.std.specs.Prelude.{Option, Some}
-use Rattle.std.proofs.lemmas.List.{append-nil, map-append}
+use Rattle.tnc_decode.proofs.Common.{◌≡◌, ℕ, ◌-◌, ◌≤◌, ℤ, List, [], ◌++◌, length, refl, ap, sym, subst, ◌∙◌, arith}
+use Rattle.tnc_decode.proofs.Common.{append_assoc, inl, inr, Option, Some, append-nil, WrotePart, Candidate, merged}
+use Rattle.tnc_decode.proofs.Common.{below, candidate_frames, Rates, chunks, reading, AudioForm, Raw, Wav, DecodeWords}
+use Rattle.tnc_decode.proofs.Common.{FrameForm, Modem, rates_of, samples_at, samples_read, IsDecoded, modem_of}
+use Rattle.tnc_decode.proofs.Common.{AreHeard, settled_count, AreGivenBelow, AreGivenBetween, AreGivenRest, print}
+use Rattle.tnc_decode.proofs.Common.{printed, IsSettled, sample_count, WroteMost}
+use Rattle.std.proofs.lemmas.List.{map-append}
 use Rattle.std.proofs.lemmas.Grind.{flat_map-append}
-use Rattle.tnc_base.specs.Streams.{WrotePart}
-use Rattle.frame_merge.specs.declared.candidate.Candidate.{Candidate}
-use Rattle.frame_merge.specs.Merged.{merged, below, candidate_frames}
-use Rattle.wav_file.specs.declared.rates.Rates.{Rates}
-use Rattle.wav_file.specs.Chunks.{chunks}
-use Rattle.wav_file.specs.Reading.{reading}
-use Rattle.tnc_words.specs.declared.command.AudioForm.{AudioForm}
-use Rattle.tnc_words.specs.declared.command.AudioForm.TheVariants.{Raw, Wav}
-use Rattle.tnc_words.specs.declared.command.DecodeWords.{DecodeWords}
-use Rattle.tnc_words.specs.declared.command.FrameForm.{FrameForm}
-use Rattle.tnc_decode.specs.declared.modem.Modem.{Modem}
-use Rattle.tnc_decode.specs.Audio.{rates_of, samples_at, samples_read}
-use Rattle.tnc_decode.specs.Decoded.{IsDecoded}
-use Rattle.tnc_decode.specs.Modem.{modem_of, AreHeard, settled_count, AreGivenBelow, AreGivenBetween, AreGivenRest}
-use Rattle.tnc_decode.specs.Printing.{print, printed}
-use Rattle.tnc_decode.specs.Settled.{IsPrintBelow, IsSettled, sample_count}
-use Rattle.tnc_decode.specs.Written.{WroteMost}
+use Rattle.tnc_decode.specs.Settled.{IsPrintBelow}
 use Rattle.tnc_decode.proofs.AudioLemmas.{modem_stays}
 use Rattle.tnc_decode.proofs.ModemLemmas.{none_heard, one_heard, settled_rises, given_join, given_all, given_first}
 use Rattle.tnc_decode.proofs.ModemLemmas.{given_early}

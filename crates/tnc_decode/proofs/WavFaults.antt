@@ -1,20 +1,20 @@
 -- A fault or a rate that the octets of a WAV file tell is told as well if more octets follow, and before any sample.
-use Rattle.std.proofs.Common.{◌≡◌, ℕ, zero, suc, ◌+◌, ◌*◌, ◌-◌, ◌<◌, ◌≤◌, Bool, true, false, List, [], ◌∷◌, ◌++◌}
-use Rattle.std.proofs.Common.{length, take, drop, get_or, refl, ap, sym, subst, ◌∙◌, arith, inl, inr, length-append}
-use Rattle.std.proofs.Common.{length-drop}
-use Rattle.std.specs.Prelude.{Option, Some, None, codes, ◌==◌, nat_lt, if◌then◌else◌}
-use Rattle.std.proofs.lemmas.Bool.{cases_lt, lt-ltb, le-ltb, ltb-false}
-use Rattle.std.proofs.lemmas.List.{take-append-le, drop-append-le, drop_all, get_or_append_left}
+use Rattle.tnc_decode.proofs.Common.{◌≡◌, ℕ, ◌+◌, ◌-◌, ◌<◌, ◌≤◌, true, false, List, [], ◌∷◌, ◌++◌, length, take, drop}
+use Rattle.tnc_decode.proofs.Common.{get_or, refl, ap, sym, subst, ◌∙◌, arith, inl, inr, length-append, length-drop}
+use Rattle.tnc_decode.proofs.Common.{Option, Some, None, if◌then◌else◌, cases_lt, lt-ltb, le-ltb, drop_all, WavFault}
+use Rattle.tnc_decode.proofs.Common.{Rates, chunks, Reading, reading, fault_in, rate_in, samples_in}
+use Rattle.std.proofs.Common.{zero, suc, ◌*◌, Bool}
+use Rattle.std.specs.Prelude.{codes, ◌==◌, nat_lt}
+use Rattle.std.proofs.lemmas.Bool.{ltb-false}
+use Rattle.std.proofs.lemmas.List.{take-append-le, drop-append-le, get_or_append_left}
 use Rattle.byteorder.specs.Endian.{little_from, little_number}
-use Rattle.wav_file.specs.declared.fault.WavFault.{WavFault}
 use Rattle.wav_file.specs.declared.fault.WavFault.TheVariants.{NotRiff, NotWave, NoFormat, BadFormat}
 use Rattle.wav_file.specs.declared.field.Field.{Field}
-use Rattle.wav_file.specs.declared.rates.Rates.{Rates}
 use Rattle.wav_file.specs.Place.{told_place}
-use Rattle.wav_file.specs.Chunks.{Chunk, chunk_at, chunks, padded}
+use Rattle.wav_file.specs.Chunks.{Chunk, chunk_at, padded}
 use Rattle.wav_file.specs.Format.{fields, field_fault, width_of, number_of, accepts, rate_at_front}
-use Rattle.wav_file.specs.Reading.{Reading, unfinished, failed, unless, difference, is_format, is_data, endless_size}
-use Rattle.wav_file.specs.Reading.{of_data, formatted, of_format, unformatted, reading, fault_in, rate_in, samples_in}
+use Rattle.wav_file.specs.Reading.{unfinished, failed, unless, difference, is_format, is_data, endless_size, of_data}
+use Rattle.wav_file.specs.Reading.{formatted, of_format, unformatted}
 use Rattle.wav_file.proofs.ChunkLemmas.{chunks_short, chunks_whole}
 
 -- what a reader of these rates reads

@@ -1,12 +1,9 @@
 -- How many samples frames take, one frame more at a time.
-use Rattle.std.proofs.Common.{◌≡◌, ℕ, zero, suc, eqb, true≢false, ◌+◌, ◌<◌, ℤ, List, [], ◌∷◌, ◌++◌, true, false, cond}
-use Rattle.std.proofs.Common.{length, length-append, map, take, get_or, sym, ap, ◌∙◌, arith}
-use Rattle.std.proofs.lemmas.List.{map-append, take_more}
-use Rattle.tnc_words.specs.declared.command.EncodeWords.{EncodeWords}
-use Rattle.afsk_modulator.specs.Signal.{Transmission}
-use Rattle.tnc_encode.specs.Sending.{signal_by}
+use Rattle.tnc_encode.proofs.Common.{◌≡◌, ℕ, true≢false, ◌+◌, ◌<◌, ℤ, List, [], ◌∷◌, ◌++◌, true, false, cond, length}
+use Rattle.tnc_encode.proofs.Common.{map, take, get_or, sym, ap, ◌∙◌, arith, map-append, take_more, EncodeWords}
+use Rattle.tnc_encode.proofs.Common.{Transmission, signal_by, sent_at_once, joined, samples_at_once, signal_of}
+use Rattle.std.proofs.Common.{zero, suc, eqb, length-append}
 use Rattle.tnc_encode.proofs.ModemLemmas.{signal_by-none, signal_by-one, signal_by-append}
-use Rattle.tnc_encode.specs.Encoded.{sent_at_once, joined, samples_at_once, signal_of}
 
 pub some_of : (n : ℕ) → eqb n 0 ≡ false → 0 < n
 some_of zero none = absurd (true≢false none)

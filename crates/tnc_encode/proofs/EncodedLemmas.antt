@@ -1,24 +1,15 @@
 -- What encode makes of an input, and what is wrong with it.
-use Rattle.std.proofs.Common.{◌≡◌, ℕ, ◌≤◌, ℤ, List, [], ◌∷◌, ◌++◌, length, Option, Some, None, true≢false, refl, sym}
-use Rattle.std.proofs.Common.{subst, ap, ◌∙◌, le-ltb, arith}
-use Rattle.std.proofs.lemmas.List.{append-nil}
-use Rattle.std.specs.Prelude.{is_some, if◌then◌else◌}
-use Rattle.tnc_base.specs.Streams.{WrotePart}
-use Rattle.tnc_forms.specs.declared.fault.InputFault.{InputFault}
-use Rattle.tnc_forms.specs.declared.fault.InputFault.TheVariants.{TooLong, Line}
+use Rattle.tnc_encode.proofs.Common.{◌≡◌, ℕ, ◌≤◌, ℤ, List, [], ◌∷◌, ◌++◌, length, Option, Some, None, true≢false, refl}
+use Rattle.tnc_encode.proofs.Common.{sym, subst, ap, ◌∙◌, arith, append-nil, if◌then◌else◌, WrotePart, InputFault}
+use Rattle.tnc_encode.proofs.Common.{TooLong, input_limit, wrote_nothing, AudioForm, Raw, Wav, FrameForm, Hex, Kiss}
+use Rattle.tnc_encode.proofs.Common.{EncodeWords, form_fault, encoded, encoded_before, fault_of_whole, first_of}
+use Rattle.tnc_encode.proofs.Common.{length_fault, samples_sent, written_as, written_before}
+use Rattle.std.proofs.Common.{le-ltb}
+use Rattle.std.specs.Prelude.{is_some}
+use Rattle.tnc_forms.specs.declared.fault.InputFault.TheVariants.{Line}
 use Rattle.tnc_forms.specs.declared.line_fault.LineFault.{LineFault}
 use Rattle.tnc_forms.specs.Faults.{fault_in_line}
 use Rattle.tnc_forms.specs.HexFrames.{line_fault}
-use Rattle.tnc_forms.specs.Reading.{input_limit}
-use Rattle.tnc_forms.proofs.WrittenParts.{wrote_nothing}
-use Rattle.tnc_words.specs.declared.command.AudioForm.{AudioForm}
-use Rattle.tnc_words.specs.declared.command.AudioForm.TheVariants.{Raw, Wav}
-use Rattle.tnc_words.specs.declared.command.FrameForm.{FrameForm}
-use Rattle.tnc_words.specs.declared.command.FrameForm.TheVariants.{Hex, Kiss}
-use Rattle.tnc_words.specs.declared.command.EncodeWords.{EncodeWords}
-use Rattle.tnc_encode.specs.Frames.{form_fault}
-use Rattle.tnc_encode.specs.Encoded.{encoded, encoded_before, fault_of_whole, first_of, length_fault, samples_sent}
-use Rattle.tnc_encode.specs.Encoded.{written_as, written_before}
 
 some_is_not_none : (fault : InputFault) → Some fault ≡ None → ⊥
 some_is_not_none fault e = true≢false (ap is_some e)

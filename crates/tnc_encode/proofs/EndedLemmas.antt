@@ -1,31 +1,21 @@
 -- How an encoding ends whose frames are sent as they come: what each clause says of its answer.
-use Rattle.std.proofs.Common.{◌≡◌, ℕ, ◌+◌, ◌<◌, ◌≤◌, Bool, true, false, true≢false, List, [], ◌++◌, length, take, drop}
-use Rattle.std.proofs.Common.{append_assoc, Option, Some, None, Result, Ok, Err, inl, inr, refl, sym, subst, ap, ◌∙◌}
-use Rattle.std.proofs.Common.{lt-ltb, arith}
-use Rattle.std.specs.Prelude.{OnOk, OnErr, if◌then◌else◌}
+use Rattle.tnc_encode.proofs.Common.{◌≡◌, ℕ, ◌+◌, ◌<◌, ◌≤◌, Bool, true, false, true≢false, List, [], ◌++◌, length, take}
+use Rattle.tnc_encode.proofs.Common.{drop, append_assoc, Option, Some, None, Result, Ok, Err, inl, inr, refl, sym}
+use Rattle.tnc_encode.proofs.Common.{subst, ap, ◌∙◌, arith, OnOk, OnErr, if◌then◌else◌, append-nil, take-append-drop}
+use Rattle.tnc_encode.proofs.Common.{WrotePart, Fault, Input, Memory, Read, Write, InputFault, TooLong, pcm}
+use Rattle.tnc_encode.proofs.Common.{input_limit, IsEnded, WroteFrames, wrote_behind, wrote_front, wrote_nothing}
+use Rattle.tnc_encode.proofs.Common.{AudioForm, Raw, Wav, EncodeWords, encoded, encoded_before, fault_of_whole}
+use Rattle.tnc_encode.proofs.Common.{first_of, length_fault, samples_sent, signal_of, written_as, written_before}
+use Rattle.tnc_encode.proofs.Common.{form_fault, form_fault_so_far, frames_of_input, frames_so_far, IsSignal, form_of}
+use Rattle.tnc_encode.proofs.Common.{EncodesWhole}
+use Rattle.std.proofs.Common.{lt-ltb}
 use Rattle.std.proofs.lemmas.Bool.{cases_lt}
-use Rattle.std.proofs.lemmas.List.{append-nil, take-append-drop}
-use Rattle.tnc_base.specs.Streams.{WrotePart}
-use Rattle.tnc_forms.specs.declared.fault.Fault.{Fault}
-use Rattle.tnc_forms.specs.declared.fault.Fault.TheVariants.{Input, Memory, Read, Write}
-use Rattle.tnc_forms.specs.declared.fault.InputFault.{InputFault}
-use Rattle.tnc_forms.specs.declared.fault.InputFault.TheVariants.{TooLong}
-use Rattle.tnc_forms.specs.Pcm.{pcm}
-use Rattle.tnc_forms.specs.Reading.{input_limit, piece_limit}
-use Rattle.tnc_forms.specs.Streaming.{IsEnded, WroteFrames, fault_in}
+use Rattle.tnc_forms.specs.Reading.{piece_limit}
+use Rattle.tnc_forms.specs.Streaming.{fault_in}
 use Rattle.tnc_forms.specs.Taken.{WereRead}
 use Rattle.tnc_forms.proofs.Ends.{same_fault}
 use Rattle.tnc_forms.proofs.StreamingLemmas.{first_frames}
-use Rattle.tnc_forms.proofs.WrittenParts.{wrote_behind, wrote_front, wrote_nothing}
-use Rattle.tnc_words.specs.declared.command.AudioForm.{AudioForm}
-use Rattle.tnc_words.specs.declared.command.AudioForm.TheVariants.{Raw, Wav}
-use Rattle.tnc_words.specs.declared.command.EncodeWords.{EncodeWords}
-use Rattle.tnc_encode.specs.Encoded.{encode_fault, encoded, encoded_before, encoded_so_far, fault_of_pieces}
-use Rattle.tnc_encode.specs.Encoded.{fault_of_whole, first_of, keeps_frames, length_fault, samples_sent, signal_of}
-use Rattle.tnc_encode.specs.Encoded.{written_as, written_before}
-use Rattle.tnc_encode.specs.Frames.{form_fault, form_fault_so_far, frames_of_input, frames_so_far}
-use Rattle.tnc_encode.specs.HeldFrames.{IsSignal, form_of}
-use Rattle.tnc_encode.specs.Writing.{EncodesWhole}
+use Rattle.tnc_encode.specs.Encoded.{encode_fault, encoded_so_far, fault_of_pieces, keeps_frames}
 use Rattle.tnc_encode.proofs.FormLemmas.{forms_stay, signals_join}
 
 pub raw_apart : (form : AudioForm) (join : Bool) → keeps_frames form join ≡ false → (form ≡ Raw) × (join ≡ false)

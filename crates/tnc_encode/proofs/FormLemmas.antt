@@ -1,24 +1,15 @@
 -- What is known of frames in either form stays so, and their signals follow one another.
-use Rattle.std.proofs.Common.{◌≡◌, ℕ, ◌==◌, Bool, true, false, List, [], ◌∷◌, ◌++◌, Some, None, refl, sym, ap, ◌∙◌}
-use Rattle.std.specs.Prelude.{if◌then◌else◌}
-use Rattle.std.specs.List.{filter_map, flat_map}
-use Rattle.std.specs.Option.{option_to_list}
+use Rattle.tnc_encode.proofs.Common.{◌≡◌, ℕ, ◌==◌, Bool, true, false, List, [], ◌∷◌, ◌++◌, Some, None, refl, sym, ap}
+use Rattle.tnc_encode.proofs.Common.{◌∙◌, if◌then◌else◌, filter_map, option_to_list, filter_map-append, KissItem}
+use Rattle.tnc_encode.proofs.Common.{items_in, InputFault, pcm, EncodeWords, FrameForm, Hex, Kiss, samples_at_once}
+use Rattle.tnc_encode.proofs.Common.{frame_of, kiss_frames, IsSignal, form_of}
+use Rattle.std.specs.List.{flat_map}
 use Rattle.std.proofs.lemmas.Grind.{flat_map-append}
-use Rattle.std.proofs.lemmas.List.Elements.{filter_map-append}
-use Rattle.kiss_port.specs.declared.item.KissItem.{KissItem}
 use Rattle.kiss_port.specs.Escapes.{fend, unescaped}
-use Rattle.kiss_port.specs.Items.{item_of, items_in}
+use Rattle.kiss_port.specs.Items.{item_of}
 use Rattle.kiss_port.specs.Pieces.{onto_first, pieces}
-use Rattle.tnc_forms.specs.declared.fault.InputFault.{InputFault}
-use Rattle.tnc_forms.specs.Pcm.{pcm}
 use Rattle.tnc_forms.proofs.LinesForm.{lines_are_form}
 use Rattle.tnc_forms.proofs.StreamingLemmas.{IsForm, IsJoined}
-use Rattle.tnc_words.specs.declared.command.EncodeWords.{EncodeWords}
-use Rattle.tnc_words.specs.declared.command.FrameForm.{FrameForm}
-use Rattle.tnc_words.specs.declared.command.FrameForm.TheVariants.{Hex, Kiss}
-use Rattle.tnc_encode.specs.Encoded.{samples_at_once}
-use Rattle.tnc_encode.specs.Frames.{frame_of, kiss_frames}
-use Rattle.tnc_encode.specs.HeldFrames.{IsSignal, form_of}
 use Rattle.tnc_encode.proofs.FrameLemmas.{kiss_frames-none}
 use Rattle.tnc_encode.proofs.SendingLemmas.{own_octets, own_octets-all, own_octets-append, own_octets-none}
 use Rattle.tnc_encode.proofs.SendingLemmas.{own_octets-one}

@@ -1,20 +1,15 @@
 -- Frames of an input have the length of a frame.
-use Rattle.std.proofs.Common.{◌≡◌, ℕ, ◌+◌, ◌<◌, ◌≤◌, ◌==◌, nat_le, ◌&&◌, Bool, true, false, List, [], ◌∷◌, ◌++◌, length}
-use Rattle.std.proofs.Common.{take, get_or, ap, ◌∙◌, All, IfSome, Option, Some, None, inl, inr, refl, sym, arith}
-use Rattle.std.specs.Prelude.{if◌then◌else◌}
-use Rattle.std.specs.List.{cons_option, filter_map}
-use Rattle.std.specs.Option.{option_to_list}
+use Rattle.tnc_encode.proofs.Common.{◌≡◌, ℕ, ◌+◌, ◌<◌, ◌≤◌, ◌==◌, Bool, true, false, List, [], ◌∷◌, ◌++◌, length, take}
+use Rattle.tnc_encode.proofs.Common.{get_or, ap, ◌∙◌, All, IfSome, Option, Some, None, inl, inr, refl, sym, arith}
+use Rattle.tnc_encode.proofs.Common.{if◌then◌else◌, filter_map, option_to_list, take_more, filter_map-append, KissItem}
+use Rattle.tnc_encode.proofs.Common.{items_in, FrameForm, Hex, Kiss, frame_of, frames_of_input, kiss_frames}
+use Rattle.std.proofs.Common.{nat_le, ◌&&◌}
+use Rattle.std.specs.List.{cons_option}
 use Rattle.std.proofs.lemmas.Bool.{and_parts, leb-true}
-use Rattle.std.proofs.lemmas.List.{take_more}
-use Rattle.std.proofs.lemmas.List.Elements.{All-cons, All-nil, filter_map-append}
-use Rattle.kiss_port.specs.declared.item.KissItem.{KissItem}
+use Rattle.std.proofs.lemmas.List.Elements.{All-cons, All-nil}
 use Rattle.kiss_port.specs.declared.item.KissItem.TheVariants.{Frame, Set, Hardware, Return, TooLong, Other}
-use Rattle.kiss_port.specs.Items.{items_in}
 use Rattle.hdlc_framer.specs.FrameLength.{IsBadLength}
 use Rattle.tnc_forms.proofs.HexFrameLemmas.{frames_in_lines-good}
-use Rattle.tnc_words.specs.declared.command.FrameForm.{FrameForm}
-use Rattle.tnc_words.specs.declared.command.FrameForm.TheVariants.{Hex, Kiss}
-use Rattle.tnc_encode.specs.Frames.{frame_of, frames_of_input, kiss_frames}
 
 abbrev pub IsSendable : List ℕ → Type 0
 IsSendable octets = ¬ IsBadLength octets

@@ -1,11 +1,11 @@
 -- Signals of transmissions by either modem, one after another.
-use Rattle.std.proofs.Common.{◌≡◌, ℕ, pos, List, [], ◌∷◌, ◌++◌, replicate, refl}
-use Rattle.afsk_modulator.specs.Signal.{Transmission}
+use Rattle.tnc_encode.proofs.Common.{◌≡◌, ℕ, pos, List, [], ◌∷◌, ◌++◌, replicate, refl, Transmission, transmission_by}
+use Rattle.tnc_encode.proofs.Common.{signal_by}
 use Rattle.afsk_modulator.proofs.SignalLemmas.{at_level-samples_of, signal_at-none, signal_at-one, signal_at-append}
 use Rattle.hf_modem.proofs.SignalLemmas.{hf_signal-none, hf_signal-one, hf_signal-append}
 use Rattle.tnc_words.specs.declared.command.Modem.{Modem}
 use Rattle.tnc_words.specs.declared.command.Modem.TheVariants.{Bell202, ShortWave}
-use Rattle.tnc_encode.specs.Sending.{transmission_by, samples_by, signal_by}
+use Rattle.tnc_encode.specs.Sending.{samples_by}
 
 -- a transmission: its silence, and then its flags and frames
 pub samples_by-is : (modem : Modem) (level : ℕ) (t : Transmission)

@@ -1,27 +1,19 @@
 -- A piece of an input, sent frame by frame.
-use Rattle.std.proofs.Common.{◌≡◌, ℕ, List, [], ◌++◌, length, take, drop, append_assoc, false, Option, Some, None}
-use Rattle.std.proofs.Common.{Result, Ok, Err, refl, sym, subst, ap, ◌∙◌, inl, inr}
-use Rattle.std.specs.Prelude.{◌⊎◌, OnOk, OnErr, ◌∷◌}
-use Rattle.std.specs.Option.{option_to_list}
-use Rattle.std.proofs.lemmas.List.{append-nil, nil_from_length, take-append-drop}
-use Rattle.tnc_forms.specs.declared.fault.Fault.{Fault}
-use Rattle.tnc_forms.specs.declared.fault.Fault.TheVariants.{Input, Memory, Read, Write}
-use Rattle.tnc_forms.specs.declared.fault.InputFault.{InputFault}
-use Rattle.tnc_base.specs.Streams.{WrotePart}
+use Rattle.tnc_encode.proofs.Common.{◌≡◌, ℕ, List, [], ◌++◌, length, take, drop, append_assoc, false, Option, Some}
+use Rattle.tnc_encode.proofs.Common.{None, Result, Ok, Err, refl, sym, subst, ap, ◌∙◌, inl, inr, OnOk, OnErr}
+use Rattle.tnc_encode.proofs.Common.{option_to_list, append-nil, take-append-drop, Fault, Input, Memory, Read, Write}
+use Rattle.tnc_encode.proofs.Common.{InputFault, WrotePart, pcm, IsTaken, WroteFrames, EncodeWords, FrameForm, Hex}
+use Rattle.tnc_encode.proofs.Common.{Kiss, samples_at_once, signal_of, form_fault_so_far, frames_so_far, HasTaken}
+use Rattle.tnc_encode.proofs.Common.{IsReader, IsSignal, SentFront, form_of}
+use Rattle.std.specs.Prelude.{◌⊎◌, ◌∷◌}
+use Rattle.std.proofs.lemmas.List.{nil_from_length}
 use Rattle.tnc_forms.specs.HeldLine.{HeldLine, StandsFor}
 use Rattle.tnc_forms.specs.LinesSoFar.{fault_so_far, frames_so_far as lines_so_far}
-use Rattle.tnc_forms.specs.Pcm.{pcm}
-use Rattle.tnc_forms.specs.Streaming.{IsTaken, WroteFrames, WroteFront, WroteMore, WroteSome}
+use Rattle.tnc_forms.specs.Streaming.{WroteFront, WroteMore, WroteSome}
 use Rattle.tnc_forms.proofs.HeldLineLemmas.{fault_held}
 use Rattle.tnc_forms.proofs.StreamingLemmas.{wrote_no_more, wrote_none, wrote_on}
-use Rattle.tnc_words.specs.declared.command.EncodeWords.{EncodeWords}
-use Rattle.tnc_words.specs.declared.command.FrameForm.{FrameForm}
-use Rattle.tnc_words.specs.declared.command.FrameForm.TheVariants.{Hex, Kiss}
 use Rattle.tnc_encode.specs.declared.frame_in.FrameIn.{FrameIn}
 use Rattle.tnc_encode.specs.declared.frame_in.FrameIn.TheVariants.{Lines, Items}
-use Rattle.tnc_encode.specs.Encoded.{samples_at_once, signal_of}
-use Rattle.tnc_encode.specs.Frames.{form_fault_so_far, frames_so_far}
-use Rattle.tnc_encode.specs.HeldFrames.{HasTaken, IsReader, IsSignal, SentFront, form_of}
 use Rattle.tnc_encode.proofs.FormLemmas.{forms_stay, signal_one, signals_join}
 
 -- nothing is wrong with what a reader has taken

@@ -1,15 +1,10 @@
 -- Signals as octets, one piece after another.
-use Rattle.std.proofs.Common.{◌≡◌, ℕ, ◌+◌, ◌<◌, List, [], ◌∷◌, ◌++◌, true, false, cond, length, map, take, drop, get_or}
-use Rattle.std.proofs.Common.{Option, Some, append_assoc, sym, ap, ◌∙◌, arith}
-use Rattle.std.proofs.lemmas.List.{map-append, take_more, take-append-drop}
-use Rattle.tnc_base.specs.Streams.{WrotePart}
+use Rattle.tnc_encode.proofs.Common.{◌≡◌, ℕ, ◌+◌, ◌<◌, List, [], ◌∷◌, ◌++◌, true, false, cond, length, map, take, drop}
+use Rattle.tnc_encode.proofs.Common.{get_or, Option, Some, append_assoc, sym, ap, ◌∙◌, arith, map-append, take_more}
+use Rattle.tnc_encode.proofs.Common.{take-append-drop, WrotePart, EncodeWords, Transmission, signal_by, sent_at_once}
+use Rattle.tnc_encode.proofs.Common.{joined, samples_at_once, signal_of, pcm}
 use Rattle.tnc_forms.proofs.PcmLemmas.{pcm-append}
-use Rattle.tnc_words.specs.declared.command.EncodeWords.{EncodeWords}
-use Rattle.afsk_modulator.specs.Signal.{Transmission}
-use Rattle.tnc_encode.specs.Sending.{signal_by}
 use Rattle.tnc_encode.proofs.ModemLemmas.{signal_by-none, signal_by-one, signal_by-append}
-use Rattle.tnc_encode.specs.Encoded.{sent_at_once, joined, samples_at_once, signal_of}
-use Rattle.tnc_forms.specs.Pcm.{pcm}
 
 module _ (words : EncodeWords) where
   -- the octets of transmissions

@@ -1,8 +1,7 @@
 -- What is promised of a text that is written.
-use Rattle.std.proofs.Common.{◌≡◌, ℕ, List, ◌++◌, Option, Some, Result, append_assoc, subst, ap, ◌∙◌}
-use Rattle.tnc_forms.specs.declared.fault.Fault.{Fault}
-use Rattle.tnc_forms.proofs.Ends.{map_ok, map_err}
-use Rattle.tnc_forms.proofs.WrittenParts.{wrote_behind}
+use Rattle.tnc_encode.proofs.Common.{◌≡◌, ℕ, List, ◌++◌, Option, Some, Result, append_assoc, subst, ap, ◌∙◌, Fault}
+use Rattle.tnc_encode.proofs.Common.{map_ok, wrote_behind}
+use Rattle.tnc_forms.proofs.Ends.{map_err}
 use Rattle.tnc_encode.specs.Writing.{Writes}
 
 -- the same text in other words

@@ -1,16 +1,15 @@
 -- The lines of octets that go on.
-use Rattle.std.proofs.Common.{◌≡◌, ℕ, ◌+◌, ◌-◌, ◌<◌, ◌≤◌, ◌==◌, Bool, true, false, List, [], ◌∷◌, ◌++◌, length}
-use Rattle.std.proofs.Common.{length-append, take, drop, get_or, append_assoc, Some, refl, sym, subst, ap, ◌∙◌, arith}
-use Rattle.std.proofs.Common.{lt-ltb}
-use Rattle.std.specs.Prelude.{if◌then◌else◌, slice_index}
-use Rattle.std.specs.List.{All, position}
-use Rattle.std.specs.Str.Lines.{strip_carriage_return}
-use Rattle.std.proofs.lemmas.List.{append-nil, drop_more, get_or-take, length-take-le, take-append-drop}
-use Rattle.std.proofs.lemmas.List.Elements.{All-append, All-cons, All-nil}
+use Rattle.tnc_forms.proofs.Common.{◌≡◌, ℕ, ◌+◌, ◌-◌, ◌<◌, ◌≤◌, ◌==◌, Bool, true, false, List, [], ◌∷◌, ◌++◌, length}
+use Rattle.tnc_forms.proofs.Common.{length-append, take, drop, get_or, append_assoc, Some, refl, sym, subst, ap, ◌∙◌}
+use Rattle.tnc_forms.proofs.Common.{arith, lt-ltb, if◌then◌else◌, All, position, strip_carriage_return, append-nil}
+use Rattle.tnc_forms.proofs.Common.{length-take-le, take-append-drop, All-cons, All-nil, slice_split_none}
+use Rattle.tnc_forms.proofs.Common.{length-slice_split, Line, ended_of, is_line_feed, lines_from, lines_of, parts_of}
+use Rattle.tnc_forms.proofs.Common.{known_of}
+use Rattle.std.specs.Prelude.{slice_index}
+use Rattle.std.proofs.lemmas.List.{drop_more, get_or-take}
+use Rattle.std.proofs.lemmas.List.Elements.{All-append}
 use Rattle.std.proofs.lemmas.List.Quantifiers.{position-Some}
-use Rattle.std.proofs.lemmas.List.Splits.{slice_split_at, slice_split_none, length-slice_split}
-use Rattle.tnc_forms.specs.HexLines.{Line, ended_of, is_line_feed, lines_from, lines_of, parts_of}
-use Rattle.tnc_forms.specs.LinesSoFar.{known_of}
+use Rattle.std.proofs.lemmas.List.Splits.{slice_split_at}
 use Rattle.tnc_forms.proofs.LineLemmas.{lines_from-cons}
 
 -- octets of one line

@@ -1,6 +1,6 @@
 -- What follows of a call's answer.
-use Rattle.std.proofs.Common.{◌≡◌, Result, Ok, Err, true≢false, sym, subst}
-use Rattle.std.specs.Prelude.{OnOk, OnErr, IfOk, IfErr, IsErrAnd, IsOk}
+use Rattle.tnc_forms.proofs.Common.{◌≡◌, Result, Ok, Err, true≢false, sym, subst, OnOk, IfOk}
+use Rattle.std.specs.Prelude.{OnErr, IfErr, IsErrAnd, IsOk}
 
 module _ {T E : Type 0} where
   pub at_ok : (r : Result T E) {P : Type 0} → OnOk r P → IsOk r → P

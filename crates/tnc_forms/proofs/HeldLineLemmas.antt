@@ -1,18 +1,11 @@
 -- A reader of lines takes more octets.
-use Rattle.std.proofs.Common.{◌≡◌, ℕ, ◌+◌, ◌<◌, ◌≤◌, true, List, [], ◌∷◌, ◌++◌, length, length-append, append_assoc}
-use Rattle.std.proofs.Common.{Some, None, sym, ap, ◌∙◌, arith, lt-ltb, le-ltb}
-use Rattle.std.specs.Prelude.{if◌then◌else◌}
-use Rattle.std.specs.Option.{option_to_list}
-use Rattle.std.specs.Str.Lines.{strip_carriage_return}
-use Rattle.std.proofs.lemmas.List.{append-nil}
-use Rattle.tnc_forms.specs.declared.fault.InputFault.{InputFault}
+use Rattle.tnc_forms.proofs.Common.{◌≡◌, ℕ, ◌+◌, ◌<◌, ◌≤◌, true, List, [], ◌∷◌, ◌++◌, length, length-append}
+use Rattle.tnc_forms.proofs.Common.{append_assoc, Some, None, sym, ap, ◌∙◌, arith, lt-ltb, le-ltb, if◌then◌else◌}
+use Rattle.tnc_forms.proofs.Common.{option_to_list, strip_carriage_return, append-nil, InputFault, LongLine}
+use Rattle.tnc_forms.proofs.Common.{fault_in_line, hex_fault, HeldLine, StandsFor, fault_of, fault_of_lines, frame_of}
+use Rattle.tnc_forms.proofs.Common.{frames_in_lines, frames_of_lines, line_fault, Line, ended_of, is_line_feed}
+use Rattle.tnc_forms.proofs.Common.{lines_from, lines_of, parts_of, fault_so_far, frames_so_far, known_of}
 use Rattle.tnc_forms.specs.declared.fault.InputFault.TheVariants.{Line as BadLine}
-use Rattle.tnc_forms.specs.declared.line_fault.LineFlaw.TheVariants.{LongLine}
-use Rattle.tnc_forms.specs.Faults.{fault_in_line, hex_fault}
-use Rattle.tnc_forms.specs.HeldLine.{HeldLine, StandsFor}
-use Rattle.tnc_forms.specs.HexFrames.{fault_of, fault_of_lines, frame_of, frames_in_lines, frames_of_lines, line_fault}
-use Rattle.tnc_forms.specs.HexLines.{Line, ended_of, is_line_feed, lines_from, lines_of, parts_of}
-use Rattle.tnc_forms.specs.LinesSoFar.{fault_so_far, frames_so_far, known_of}
 use Rattle.tnc_forms.proofs.CutLemmas.{IsInside, ended_now, ended_of_more, first_line, inside_more, inside_none}
 use Rattle.tnc_forms.proofs.CutLemmas.{known_now, known_of_more, lines_ended, lines_now, strip_size}
 use Rattle.tnc_forms.proofs.SoFarLemmas.{fault_join, fault_some, frames_join, line_fault_at, long_fault, one_bad}

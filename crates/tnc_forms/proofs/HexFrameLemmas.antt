@@ -1,17 +1,14 @@
 -- The frames of lines, one line more at a time.
-use Rattle.std.proofs.Common.{◌≡◌, ℕ, ◌+◌, ◌<◌, ◌≤◌, cond, Bool, true, false, not, List, [], ◌∷◌, ◌++◌, length}
-use Rattle.std.proofs.Common.{append_assoc, All, IfSome, Option, Some, None, refl, sym, ap, subst, ◌∙◌, arith}
-use Rattle.std.specs.Prelude.{find, is_some, option_and_then, suc, take, take_while}
+use Rattle.tnc_forms.proofs.Common.{◌≡◌, ℕ, ◌+◌, ◌<◌, ◌≤◌, cond, Bool, true, false, List, [], ◌∷◌, ◌++◌, length}
+use Rattle.tnc_forms.proofs.Common.{append_assoc, Option, Some, None, refl, sym, ap, subst, ◌∙◌, arith, is_some}
+use Rattle.tnc_forms.proofs.Common.{append-nil, All-cons, All-nil, IsBytes, LineFlaw, LineText, Nothing, Frame, Refused}
+use Rattle.tnc_forms.proofs.Common.{Line, lines_at, lines_of, HasGoodLength, text_of, fault_in, fault_of, frame_in}
+use Rattle.tnc_forms.proofs.Common.{frame_of, frames_in_lines, frames_of_lines, line_fault, fault_of_lines}
+use Rattle.std.proofs.Common.{not, All, IfSome}
+use Rattle.std.specs.Prelude.{find, option_and_then, suc, take, take_while}
 use Rattle.std.specs.List.{cons_option, filter_map, prefix_len}
-use Rattle.std.proofs.lemmas.List.{append-nil}
-use Rattle.std.proofs.lemmas.List.Elements.{All-cons, All-nil}
-use Rattle.hex.specs.Hex.{IsBytes}
-use Rattle.tnc_forms.specs.declared.line_fault.LineFlaw.{LineFlaw}
-use Rattle.tnc_forms.specs.declared.hex_line.LineText.{LineText}
-use Rattle.tnc_forms.specs.declared.hex_line.LineText.TheVariants.{Nothing, Frame, Refused}
-use Rattle.tnc_forms.specs.HexLines.{Line, lines_at, lines_behind, lines_of}
-use Rattle.tnc_forms.specs.HexFrames.{HasGoodLength, text_of, fault_in, fault_of, frame_in, frame_of, frames_in_lines}
-use Rattle.tnc_forms.specs.HexFrames.{frames_of_lines, line_fault, fault_of_lines, is_bad}
+use Rattle.tnc_forms.specs.HexLines.{lines_behind}
+use Rattle.tnc_forms.specs.HexFrames.{is_bad}
 use Rattle.tnc_forms.proofs.LineTextLemmas.{IsWithin, text_of-within}
 
 module _ {X : Type 0} (p : X → Bool) (x : X) (xs : List X) where

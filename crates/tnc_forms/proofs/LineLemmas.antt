@@ -1,14 +1,12 @@
 -- Lines, one more at a time.
-use Rattle.std.proofs.Common.{◌≡◌, ℕ, ◌+◌, ◌<◌, Bool, cond, false, true≢false, List, [], ◌∷◌, length, take, drop, Some}
-use Rattle.std.proofs.Common.{None, inl, inr, refl, sym, ap, ◌∙◌, arith, lt-ltb, le-ltb}
-use Rattle.std.specs.Prelude.{is_some}
-use Rattle.std.proofs.lemmas.Bool.{cases_lt}
-use Rattle.std.proofs.lemmas.List.{drop-drop, length-take-le}
+use Rattle.tnc_forms.proofs.Common.{◌≡◌, ℕ, ◌+◌, ◌<◌, Bool, cond, false, true≢false, List, [], ◌∷◌, length, take, drop}
+use Rattle.tnc_forms.proofs.Common.{Some, None, inl, inr, refl, sym, ap, ◌∙◌, arith, lt-ltb, le-ltb, is_some, cases_lt}
+use Rattle.tnc_forms.proofs.Common.{length-take-le, position, All, strip_carriage_return, slice_split_none}
+use Rattle.tnc_forms.proofs.Common.{length-slice_split, lines_from, is_line_feed, parts_of, lines_at}
+use Rattle.std.proofs.lemmas.List.{drop-drop}
 use Rattle.std.proofs.lemmas.List.Sums.{fails_before_first}
-use Rattle.std.specs.List.{position, position_or_len, All}
-use Rattle.std.specs.Str.Lines.{strip_carriage_return}
-use Rattle.std.proofs.lemmas.List.Splits.{slice_split_first, slice_split_none, length-slice_split}
-use Rattle.tnc_forms.specs.HexLines.{lines_from, is_line_feed, parts_of, lines_at}
+use Rattle.std.specs.List.{position_or_len}
+use Rattle.std.proofs.lemmas.List.Splits.{slice_split_first}
 
 some_is_not_none : (n : ℕ) → Some n ≡ None → ⊥
 some_is_not_none n e = true≢false (ap is_some e)

@@ -1,17 +1,16 @@
 -- How large that is which a line holds.
-use Rattle.std.proofs.Common.{◌≡◌, ℕ, ◌+◌, ◌*◌, ◌≤◌, ◌==◌, nat_lt, Bool, true, false, List, length, Result, Ok, Err}
-use Rattle.std.proofs.Common.{inl, inr, refl, sym, subst, arith, lt-ltb, le-ltb}
-use Rattle.std.specs.Prelude.{⊤, if◌then◌else◌}
-use Rattle.std.proofs.lemmas.Bool.{cases_lt, ltb-false}
-use Rattle.hex.specs.Hex.{IsBytes, decode_of}
+use Rattle.tnc_forms.proofs.Common.{◌≡◌, ℕ, ◌+◌, ◌≤◌, ◌==◌, nat_lt, Bool, true, false, List, length, Result, Ok, Err}
+use Rattle.tnc_forms.proofs.Common.{inl, inr, refl, sym, subst, arith, lt-ltb, le-ltb, if◌then◌else◌, cases_lt, IsBytes}
+use Rattle.tnc_forms.proofs.Common.{decode_of, LongLine, LineText, Nothing, Frame, Refused, HasGoodLength, text_of}
+use Rattle.tnc_forms.proofs.Common.{text_of_digits}
+use Rattle.std.proofs.Common.{◌*◌}
+use Rattle.std.specs.Prelude.{⊤}
+use Rattle.std.proofs.lemmas.Bool.{ltb-false}
 use Rattle.hex.specs.declared.error.FromHexError.{FromHexError}
 use Rattle.hex.specs.declared.error.FromHexError.TheVariants.{InvalidHexCharacter, OddLength, InvalidStringLength}
 use Rattle.hex.specs.declared.error.FromHexError.TheVariants.{OutOfMemory}
 use Rattle.hex.proofs.HexLemmas.{decode_of-ok, decode_of-err}
-use Rattle.tnc_forms.specs.declared.line_fault.LineFlaw.TheVariants.{LongLine, ShortLine}
-use Rattle.tnc_forms.specs.declared.hex_line.LineText.{LineText}
-use Rattle.tnc_forms.specs.declared.hex_line.LineText.TheVariants.{Nothing, Frame, Refused}
-use Rattle.tnc_forms.specs.HexFrames.{HasGoodLength, text_of, text_of_digits}
+use Rattle.tnc_forms.specs.declared.line_fault.LineFlaw.TheVariants.{ShortLine}
 
 -- a frame has a good length, and what is refused shows within the line
 abbrev pub IsWithin : ℕ → List ℕ → LineText → Type 0

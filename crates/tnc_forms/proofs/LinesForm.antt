@@ -1,11 +1,8 @@
 -- What is known of lines stays so.
-use Rattle.std.proofs.Common.{◌≡◌, ℕ, List, Option, Some, ap, ◌∙◌}
-use Rattle.tnc_forms.specs.declared.fault.InputFault.{InputFault}
-use Rattle.tnc_forms.specs.declared.fault.InputFault.TheVariants.{Line, TooLong}
-use Rattle.tnc_forms.specs.declared.line_fault.LineFault.{LineFault}
-use Rattle.tnc_forms.specs.Faults.{fault_in_line}
-use Rattle.tnc_forms.specs.HexFrames.{fault_of_lines, line_fault}
-use Rattle.tnc_forms.specs.LinesSoFar.{fault_so_far, known_lines}
+use Rattle.tnc_forms.proofs.Common.{◌≡◌, ℕ, List, Option, Some, ap, ◌∙◌, InputFault, TooLong, LineFault, fault_in_line}
+use Rattle.tnc_forms.proofs.Common.{fault_of_lines, line_fault, fault_so_far}
+use Rattle.tnc_forms.specs.declared.fault.InputFault.TheVariants.{Line}
+use Rattle.tnc_forms.specs.LinesSoFar.{known_lines}
 use Rattle.tnc_forms.specs.Streaming.{lines_form}
 use Rattle.tnc_forms.proofs.SoFarLemmas.{fault_none_yet, fault_some, frames_more, frames_none, frames_whole, stays}
 use Rattle.tnc_forms.proofs.StreamingLemmas.{IsForm}

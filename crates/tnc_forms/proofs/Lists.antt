@@ -1,5 +1,5 @@
 -- Lists in parts.
-use Rattle.std.proofs.Common.{◌≡◌, ℕ, List, ◌++◌, length, drop, sym, ap, ◌∙◌}
+use Rattle.tnc_forms.proofs.Common.{◌≡◌, ℕ, List, ◌++◌, length, drop, sym, ap, ◌∙◌}
 use Rattle.std.proofs.Math.Seq.{drop-append_seam}
 
 -- what is left after the first part

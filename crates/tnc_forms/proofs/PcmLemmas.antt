@@ -1,12 +1,11 @@
 -- Raw PCM, one piece after another.
-use Rattle.std.proofs.Common.{◌≡◌, ℕ, ◌+◌, ◌<◌, ℤ, pos, List, [], ◌∷◌, ◌++◌, length, take, get_or, to_z, of_z, sym, ap}
-use Rattle.std.proofs.Common.{◌∙◌}
+use Rattle.tnc_forms.proofs.Common.{◌≡◌, ℕ, ◌+◌, ◌<◌, pos, List, [], ◌∷◌, ◌++◌, length, take, get_or, sym, ap, ◌∙◌}
+use Rattle.tnc_forms.proofs.Common.{append-nil, take_more, w16, pcm}
+use Rattle.std.proofs.Common.{ℤ, to_z, of_z}
 use Rattle.std.proofs.lemmas.Int.{to_z-of_z}
 use Rattle.std.proofs.lemmas.Grind.{flat_map-append}
-use Rattle.std.proofs.lemmas.List.{append-nil, take_more}
-use mir.Syntax.{w16}
 use mir.Val.{SFits}
-use Rattle.tnc_forms.specs.Pcm.{pcm, sample_octets}
+use Rattle.tnc_forms.specs.Pcm.{sample_octets}
 
 -- one sample more
 pub pcm_more : (samples : List ℤ) (index : ℕ) (now pair next : List ℕ) → index < length samples

@@ -1,7 +1,7 @@
 -- An input that is read in pieces.
-use Rattle.std.proofs.Common.{◌≡◌, ℕ, Some, ◌≤◌, List, ◌++◌, length, take, drop, sym, ap, ◌∙◌, append_assoc}
+use Rattle.tnc_forms.proofs.Common.{◌≡◌, ℕ, Some, ◌≤◌, List, ◌++◌, length, take, drop, sym, ap, ◌∙◌, append_assoc}
+use Rattle.tnc_forms.proofs.Common.{take-append-drop, take-append-le}
 use Rattle.std.specs.declared.option.Option.{Option}
-use Rattle.std.proofs.lemmas.List.{take-append-drop, take-append-le}
 use Rattle.tnc_base.specs.Streams.{Gives}
 
 -- of the whole input these octets were read, and the source has the rest

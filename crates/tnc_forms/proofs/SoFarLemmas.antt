@@ -1,24 +1,15 @@
 -- What is known of lines stays so, whatever follows.
-use Rattle.std.proofs.Common.{◌≡◌, ℕ, ◌+◌, ◌<◌, ◌==◌, nat_lt, Bool, true, false, List, [], ◌∷◌, ◌++◌, length, Option}
-use Rattle.std.proofs.Common.{Some, None, refl, sym, ap, ◌∙◌, arith, lt-ltb, ne_eqb, true≢false}
-use Rattle.std.specs.Prelude.{if◌then◌else◌}
-use Rattle.std.specs.Option.{option_to_list}
-use Rattle.std.specs.Str.Lines.{strip_carriage_return}
+use Rattle.tnc_forms.proofs.Common.{◌≡◌, ℕ, ◌+◌, ◌<◌, ◌==◌, nat_lt, Bool, true, false, List, [], ◌∷◌, ◌++◌, length}
+use Rattle.tnc_forms.proofs.Common.{Option, Some, None, refl, sym, ap, ◌∙◌, arith, lt-ltb, true≢false, if◌then◌else◌}
+use Rattle.tnc_forms.proofs.Common.{option_to_list, strip_carriage_return, append-nil, decode_of, InputFault, LineText}
+use Rattle.tnc_forms.proofs.Common.{Nothing, Frame, Refused, LineFault, LineFlaw, LongLine, fault_in_line, hex_fault}
+use Rattle.tnc_forms.proofs.Common.{fault_in, fault_of, fault_of_lines, frame_in, frame_of, frames_in_lines}
+use Rattle.tnc_forms.proofs.Common.{frames_of_lines, line_fault, text_of, text_of_digits, Line, ended_of, lines_from}
+use Rattle.tnc_forms.proofs.Common.{lines_of, parts_of, fault_so_far, frames_so_far, known_of}
+use Rattle.std.proofs.Common.{ne_eqb}
 use Rattle.std.proofs.lemmas.Bool.{ltb-true}
-use Rattle.std.proofs.lemmas.List.{append-nil}
-use Rattle.hex.specs.Hex.{decode_of}
-use Rattle.tnc_forms.specs.declared.fault.InputFault.{InputFault}
 use Rattle.tnc_forms.specs.declared.fault.InputFault.TheVariants.{Line as BadLine}
-use Rattle.tnc_forms.specs.declared.hex_line.LineText.{LineText}
-use Rattle.tnc_forms.specs.declared.hex_line.LineText.TheVariants.{Nothing, Frame, Refused}
-use Rattle.tnc_forms.specs.declared.line_fault.LineFault.{LineFault}
-use Rattle.tnc_forms.specs.declared.line_fault.LineFlaw.{LineFlaw}
-use Rattle.tnc_forms.specs.declared.line_fault.LineFlaw.TheVariants.{LongLine}
-use Rattle.tnc_forms.specs.Faults.{fault_in_line, hex_fault}
-use Rattle.tnc_forms.specs.HexFrames.{fault_in, fault_of, fault_of_lines, frame_in, frame_of, frames_in_lines}
-use Rattle.tnc_forms.specs.HexFrames.{frames_of_lines, line_fault, text_of, text_of_digits}
-use Rattle.tnc_forms.specs.HexLines.{Line, ended_of, lines_from, lines_of, parts_of}
-use Rattle.tnc_forms.specs.LinesSoFar.{fault_so_far, frames_so_far, is_over, known_of}
+use Rattle.tnc_forms.specs.LinesSoFar.{is_over}
 use Rattle.tnc_forms.proofs.CutLemmas.{CutFrom, cut_from, ended_now, ended_of_more, first_line, inside_none, known_now}
 use Rattle.tnc_forms.proofs.CutLemmas.{known_of_more, strip_size}
 use Rattle.tnc_forms.proofs.HexFrameLemmas.{fault-bad, fault-frame, fault-nothing, frames-bad, frames-frame}

@@ -1,17 +1,13 @@
 -- A command that reads its input piece by piece: how far it is, and what stands written where it stops.
-use Rattle.std.proofs.Common.{◌≡◌, ℕ, ◌+◌, ◌-◌, ◌<◌, ◌≤◌, List, [], ◌++◌, length, length-append, take, drop}
-use Rattle.std.proofs.Common.{append_assoc, Option, Some, None, Result, Ok, Err, inl, inr, refl, sym, subst, ap, ◌∙◌}
-use Rattle.std.proofs.Common.{arith, lt-ltb, le-ltb}
-use Rattle.std.specs.Prelude.{if◌then◌else◌}
+use Rattle.tnc_forms.proofs.Common.{◌≡◌, ℕ, ◌+◌, ◌-◌, ◌<◌, ◌≤◌, List, [], ◌++◌, length, length-append, take, drop}
+use Rattle.tnc_forms.proofs.Common.{append_assoc, Option, Some, None, Result, Ok, Err, inl, inr, refl, sym, subst, ap}
+use Rattle.tnc_forms.proofs.Common.{◌∙◌, arith, lt-ltb, le-ltb, if◌then◌else◌, cases_lt, append-nil, Input, InputFault}
+use Rattle.tnc_forms.proofs.Common.{TooLong, input_limit}
 use Rattle.std.specs.Option.{option_or}
 use Rattle.std.proofs.Math.Seq.{drop-append-add, take-append-add}
-use Rattle.std.proofs.lemmas.Bool.{cases_lt}
-use Rattle.std.proofs.lemmas.List.{append-nil}
 use Rattle.tnc_forms.specs.declared.fault.Fault.{Fault}
-use Rattle.tnc_forms.specs.declared.fault.Fault.TheVariants.{Input, Memory, Read, Write}
-use Rattle.tnc_forms.specs.declared.fault.InputFault.{InputFault}
-use Rattle.tnc_forms.specs.declared.fault.InputFault.TheVariants.{TooLong}
-use Rattle.tnc_forms.specs.Reading.{input_limit, piece_limit}
+use Rattle.tnc_forms.specs.declared.fault.Fault.TheVariants.{Memory, Read, Write}
+use Rattle.tnc_forms.specs.Reading.{piece_limit}
 use Rattle.tnc_forms.specs.Streaming.{EndedAtMemory, Form, IsEnded, IsFinished, IsTaken, WroteFrames, WroteFront}
 use Rattle.tnc_forms.specs.Streaming.{WroteMore, fault_in}
 use Rattle.tnc_forms.specs.Taken.{WereRead}

@@ -1,6 +1,5 @@
 -- First parts of a text that were written.
-use Rattle.std.proofs.Common.{◌≡◌, ℕ, List, [], ◌++◌, Option, Some, append_assoc, refl, sym, ap, ◌∙◌}
-use Rattle.std.proofs.lemmas.List.{append-nil}
+use Rattle.tnc_forms.proofs.Common.{◌≡◌, ℕ, List, [], ◌++◌, Option, Some, append_assoc, refl, sym, ap, ◌∙◌, append-nil}
 use Rattle.tnc_base.specs.Streams.{WrotePart}
 
 -- nothing is a first part of any text

@@ -1,21 +1,14 @@
 -- Octets and transmissions, one draw after another.
-use Rattle.std.proofs.Common.{◌≡◌, Bool, true, false, ℕ, zero, suc, ◌+◌, ◌-◌, ◌%◌, ◌<◌, ◌≤◌, List, [], ◌∷◌, ◌++◌}
-use Rattle.std.proofs.Common.{length, map, refl, ap, sym, ◌∙◌, arith, append_assoc, append-nil, length-append}
-use Rattle.rand_pcg.specs.Lcg.{Lcg}
-use Rattle.rand_pcg.specs.Pcg.{pcg32}
-use Rattle.std.proofs.Math.Nat.{mod-lt}
-use Rattle.std.specs.List.{All}
+use Rattle.tnc_loop.proofs.Common.{◌≡◌, Bool, true, false, ℕ, zero, suc, ◌+◌, ◌-◌, ◌%◌, ◌<◌, ◌≤◌, List, [], ◌∷◌, ◌++◌}
+use Rattle.tnc_loop.proofs.Common.{length, map, refl, ap, sym, ◌∙◌, arith, append_assoc, append-nil, length-append, Lcg}
+use Rattle.tnc_loop.proofs.Common.{pcg32, mod-lt, All, Transmission, LoopWords, loop_generator, behind, word_at, words}
+use Rattle.tnc_loop.proofs.Common.{length_drawn, octets_drawn, transmission_drawn, behind_transmission, heard_of}
+use Rattle.tnc_loop.proofs.Common.{behind_heard, all_heard, heard_drawn, received_drawn, drawn}
 use Rattle.std.proofs.lemmas.List.Elements.{recursion_from_All}
 use Rattle.hdlc_framer.specs.Frames.{IsFrame}
-use Rattle.afsk_modulator.specs.Signal.{Transmission}
 use Rattle.clean_signal.specs.GoodTransmission.{IsTransmission}
 use Rattle.clean_signal.specs.NearSignal.{IsReceived}
 use Rattle.clean_signal.proofs.Law.{all_transmissions}
-use Rattle.tnc_words.specs.declared.command.LoopWords.{LoopWords}
-use Rattle.tnc_loop.specs.Words.{loop_generator, behind, word_at}
-use Rattle.channel_access.specs.Words.{words}
-use Rattle.tnc_loop.specs.Drawn.{length_drawn, octets_drawn, transmission_drawn, behind_transmission, heard_of}
-use Rattle.tnc_loop.specs.Drawn.{behind_heard, all_heard, heard_drawn, received_drawn, drawn}
 
 abbrev pub octet_of : ℕ → ℕ
 octet_of word = word % 256

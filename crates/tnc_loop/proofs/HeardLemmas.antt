@@ -1,31 +1,24 @@
 -- What is heard of the transmissions that are drawn: as much as of clean ones, and near it.
-use Rattle.std.proofs.Common.{◌≡◌, ℕ, zero, suc, ℤ, pos, Bool, true, false, List, ◌++◌, length, map, replicate, refl}
-use Rattle.std.proofs.Common.{ap, sym, ◌∙◌, arith, append_assoc, length-append}
-use Rattle.std.specs.List.{flat_map}
+use Rattle.tnc_loop.proofs.Common.{◌≡◌, ℕ, zero, suc, ℤ, pos, Bool, true, false, List, ◌++◌, length, map, refl, ap, sym}
+use Rattle.tnc_loop.proofs.Common.{◌∙◌, arith, append_assoc, length-append, flat_map, flat_map-cons, Lcg, IsNear}
+use Rattle.tnc_loop.proofs.Common.{transmission_at, Transmission, samples_of, sample_count, frames_of, Received}
+use Rattle.tnc_loop.proofs.Common.{NoStray, LoopWords, loop_generator, behind, words, level_drawn, noise_of}
+use Rattle.tnc_loop.proofs.Common.{rough_samples, rough_received, exact_samples, with_errors, behind_rough, Heard}
+use Rattle.tnc_loop.proofs.Common.{heard_of, behind_heard, all_heard, transmission_drawn, behind_transmission}
+use Rattle.tnc_loop.proofs.Common.{heard_drawn, received_drawn, drawn, samples_drawn}
+use Rattle.std.proofs.Common.{replicate}
 use Rattle.std.proofs.lemmas.List.{length-map, length-replicate}
-use Rattle.std.proofs.lemmas.List.Concat.{flat_map-cons}
-use Rattle.rand_pcg.specs.Lcg.{Lcg}
 use Rattle.tone_table.specs.declared.tone.Tone.TheVariants.{Mark}
 use Rattle.tone_table.specs.Wave.{wave_from}
 use Rattle.nrzi_bits.specs.Line.{line}
-use Rattle.offset_slicers.specs.Near.{IsNear}
-use Rattle.afsk_modulator.specs.Transmission.{transmission, transmission_at}
-use Rattle.afsk_modulator.specs.Signal.{Transmission, samples_of}
-use Rattle.clean_signal.specs.GoodTransmission.{body_of, sample_count, frames_of}
+use Rattle.afsk_modulator.specs.Transmission.{transmission}
+use Rattle.clean_signal.specs.GoodTransmission.{body_of}
 use Rattle.clean_signal.specs.MergedFrames.{MergesTo}
-use Rattle.clean_signal.specs.NearSignal.{Received, IsNearAll}
-use Rattle.clean_signal.specs.Stray.{NoStray}
+use Rattle.clean_signal.specs.NearSignal.{IsNearAll}
 use Rattle.clean_signal.proofs.Law.{near_law}
 use Rattle.clean_signal.proofs.NearLemmas.{clean-near}
 use Rattle.clean_signal.proofs.WaveLemmas.{length-wave_from}
 use Rattle.nrzi_bits.proofs.LineLemmas.{length-line_from}
-use Rattle.tnc_words.specs.declared.command.LoopWords.{LoopWords}
-use Rattle.tnc_loop.specs.Words.{loop_generator, behind}
-use Rattle.channel_access.specs.Words.{words}
-use Rattle.tnc_loop.specs.Rough.{level_drawn, noise_of, rough_samples, rough_received, exact_samples, with_errors}
-use Rattle.tnc_loop.specs.Rough.{behind_rough}
-use Rattle.tnc_loop.specs.Drawn.{Heard, heard_of, behind_heard, all_heard, transmission_drawn, behind_transmission}
-use Rattle.tnc_loop.specs.Drawn.{heard_drawn, received_drawn, drawn, samples_drawn}
 use Rattle.tnc_loop.proofs.DrawingLemmas.{length-words, received_good}
 use Rattle.tnc_loop.proofs.RoughLemmas.{with_errors-near}
 

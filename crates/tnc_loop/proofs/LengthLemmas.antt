@@ -1,9 +1,9 @@
 -- How long a signal that is drawn can be.
-use Rattle.std.proofs.Common.{◌≡◌, ℕ, zero, suc, ◌+◌, ◌*◌, ◌%◌, ◌^◌, ◌<◌, ◌≤◌, Bool, true, false, List, [], ◌∷◌, ◌++◌}
-use Rattle.std.proofs.Common.{length, ap, ◌∙◌, arith, length-append}
-use Rattle.std.proofs.Math.Nat.{mod-lt}
-use Rattle.std.proofs.lemmas.List.Concat.{flat_map-cons}
-use Rattle.rand_pcg.specs.Lcg.{Lcg}
+use Rattle.tnc_loop.proofs.Common.{◌≡◌, ℕ, zero, suc, ◌+◌, ◌*◌, ◌%◌, ◌^◌, ◌<◌, ◌≤◌, Bool, true, false, List, [], ◌∷◌}
+use Rattle.tnc_loop.proofs.Common.{◌++◌, length, ap, ◌∙◌, arith, length-append, mod-lt, flat_map-cons, Lcg}
+use Rattle.tnc_loop.proofs.Common.{Transmission, samples_of, signal, sample_count, length-samples_of, LoopWords}
+use Rattle.tnc_loop.proofs.Common.{loop_generator, word_at, length_drawn, octets_drawn, transmission_drawn}
+use Rattle.tnc_loop.proofs.Common.{behind_transmission, heard_of, behind_heard, all_heard, heard_drawn, sent_of}
 use Rattle.hdlc_framer.specs.BitOrder.{sent_bits}
 use Rattle.hdlc_framer.specs.Body.{flags, body}
 use Rattle.hdlc_framer.specs.Counted.{stuffed_from}
@@ -12,15 +12,7 @@ use Rattle.hdlc_framer.specs.Stuffing.{stuffed}
 use Rattle.hdlc_framer.proofs.BitLemmas.{length-sent_bits}
 use Rattle.hdlc_framer.proofs.FrameEnds.{length-with_fcs}
 use Rattle.hdlc_framer.proofs.StuffingLemmas.{stuffed_is}
-use Rattle.afsk_modulator.specs.Signal.{Transmission, samples_of, signal}
-use Rattle.clean_signal.specs.GoodTransmission.{sample_count}
 use Rattle.clean_signal.proofs.FrameBits.{length-flags}
-use Rattle.clean_signal.proofs.WaveLemmas.{length-samples_of}
-use Rattle.tnc_words.specs.declared.command.LoopWords.{LoopWords}
-use Rattle.tnc_loop.specs.Words.{loop_generator, word_at}
-use Rattle.tnc_loop.specs.Drawn.{length_drawn, octets_drawn, transmission_drawn, behind_transmission, heard_of}
-use Rattle.tnc_loop.specs.Drawn.{behind_heard, all_heard, heard_drawn}
-use Rattle.tnc_loop.specs.Held.{sent_of}
 use Rattle.tnc_loop.proofs.HeardLemmas.{transmission-heard}
 use Rattle.tnc_loop.proofs.DrawingLemmas.{length-octets_drawn, length_drawn-most}
 

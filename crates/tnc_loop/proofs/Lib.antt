@@ -1,3 +1,4 @@
+pub mod Common
 pub mod DrawingLemmas
 pub mod RoughLemmas
 pub mod HeardLemmas

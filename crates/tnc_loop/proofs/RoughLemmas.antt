@@ -1,22 +1,17 @@
 -- Rough samples: an error more at a time, how many, and how near they are.
-use Rattle.std.proofs.Common.{◌≡◌, ℕ, zero, suc, ◌+◌, ◌-◌, ◌*◌, ◌%◌, ◌<◌, ◌≤◌, ℤ, pos, ◌+ℤ◌, List, [], ◌∷◌, ◌++◌}
-use Rattle.std.proofs.Common.{length, map, get_or, drop, unsigned_abs, refl, ap, sym, ◌∙◌, arith, append_assoc}
-use Rattle.std.proofs.Common.{append-nil}
-use Rattle.std.proofs.Math.Nat.{mod-lt}
-use Rattle.std.proofs.lemmas.Int.{ints, unsigned_abs-mul}
-use Rattle.std.proofs.lemmas.List.{drop_more, drop_all}
-use Rattle.rand_pcg.specs.Lcg.{Lcg}
-use Rattle.offset_slicers.specs.Near.{distance, IsNear}
+use Rattle.tnc_loop.proofs.Common.{◌≡◌, ℕ, zero, suc, ◌+◌, ◌-◌, ◌*◌, ◌%◌, ◌<◌, ◌≤◌, ℤ, pos, List, [], ◌∷◌, ◌++◌, length}
+use Rattle.tnc_loop.proofs.Common.{map, get_or, drop, unsigned_abs, refl, ap, sym, ◌∙◌, arith, append_assoc, append-nil}
+use Rattle.tnc_loop.proofs.Common.{mod-lt, ints, drop_more, drop_all, Lcg, IsNear, transmission_at, Transmission}
+use Rattle.tnc_loop.proofs.Common.{behind, word_at, words, level_drawn, noise_of, with_errors, rough_received}
+use Rattle.tnc_loop.proofs.Common.{exact_samples, rough_samples, behind_rough}
+use Rattle.std.proofs.Common.{◌+ℤ◌}
+use Rattle.std.proofs.lemmas.Int.{unsigned_abs-mul}
+use Rattle.offset_slicers.specs.Near.{distance}
 use Rattle.offset_slicers.proofs.IntegerLemmas.{mul-add_right}
 use Rattle.afsk_modulator.specs.Level.{sample_at, at_level}
-use Rattle.afsk_modulator.specs.Transmission.{transmission_at}
-use Rattle.afsk_modulator.specs.Signal.{Transmission}
 use Rattle.afsk_modulator.proofs.LevelLemmas.{sample_at-close}
 use Rattle.clean_signal.proofs.NearLemmas.{length-at_level}
-use Rattle.tnc_loop.specs.Words.{behind, word_at}
-use Rattle.channel_access.specs.Words.{words}
-use Rattle.tnc_loop.specs.Rough.{phase_drawn, level_drawn, noise_of, most_error, error_of, with_errors, rough_received}
-use Rattle.tnc_loop.specs.Rough.{exact_samples, rough_samples, behind_rough}
+use Rattle.tnc_loop.specs.Rough.{phase_drawn, most_error, error_of}
 
 -- ---- one error more
 

@@ -1,24 +1,18 @@
 -- Transmissions that are sent, one more at a time.
-use Rattle.std.proofs.Common.{◌≡◌, ℕ, ℤ, suc, ◌+◌, ◌-◌, ◌*◌, ◌<◌, ◌≤◌, ◌^◌, List, [], ◌∷◌, ◌++◌, length, inl, inr, zero}
-use Rattle.std.proofs.Common.{refl, ap, sym, subst, ◌∙◌, arith, append_assoc, append-nil, length-append}
-use Rattle.std.specs.List.{flat_map}
+use Rattle.tnc_loop.proofs.Common.{◌≡◌, ℕ, ℤ, suc, ◌+◌, ◌-◌, ◌*◌, ◌<◌, ◌≤◌, ◌^◌, List, [], ◌∷◌, ◌++◌, length, zero}
+use Rattle.tnc_loop.proofs.Common.{refl, ap, sym, subst, ◌∙◌, arith, append_assoc, append-nil, length-append, flat_map}
+use Rattle.tnc_loop.proofs.Common.{Lcg, Transmission, samples_of, signal, TrueEnd, sample_count, Received, true_ends}
+use Rattle.tnc_loop.proofs.Common.{length-samples_of, LoopWords, Sent, loop_generator, Heard, transmission_drawn}
+use Rattle.tnc_loop.proofs.Common.{behind_transmission, heard_of, behind_heard, all_heard, heard_drawn, drawn_as}
+use Rattle.tnc_loop.proofs.Common.{sent_of, HasSent}
+use Rattle.std.proofs.Common.{inl, inr}
 use Rattle.std.proofs.lemmas.List.Concat.{flat_map-append}
-use Rattle.rand_pcg.specs.Lcg.{Lcg}
-use Rattle.afsk_modulator.specs.Signal.{Transmission, samples_of, signal}
 use Rattle.afsk_modulator.specs.Transmission.{IsFirstBadLength}
-use Rattle.clean_signal.specs.declared.true_end.TrueEnd.{TrueEnd}
-use Rattle.clean_signal.specs.GoodTransmission.{sample_count}
-use Rattle.clean_signal.specs.NearSignal.{Received}
-use Rattle.clean_signal.specs.TrueEnds.{end_of, ends_of, true_ends}
+use Rattle.clean_signal.specs.TrueEnds.{end_of, ends_of}
 use Rattle.clean_signal.proofs.EndLemmas.{true_ends-push, single_end}
-use Rattle.clean_signal.proofs.WaveLemmas.{length-samples_of, signal-push}
-use Rattle.tnc_words.specs.declared.command.LoopWords.{LoopWords}
+use Rattle.clean_signal.proofs.WaveLemmas.{signal-push}
 use Rattle.tnc_loop.specs.declared.drawing.Drawn.{Drawn}
-use Rattle.tnc_loop.specs.declared.sending.Sent.{Sent}
-use Rattle.tnc_loop.specs.Words.{loop_generator}
-use Rattle.tnc_loop.specs.Drawn.{Heard, transmission_drawn, behind_transmission, heard_of, behind_heard, all_heard}
-use Rattle.tnc_loop.specs.Drawn.{heard_drawn}
-use Rattle.tnc_loop.specs.Held.{drawn_as, sent_of, HasSent, IsGood}
+use Rattle.tnc_loop.specs.Held.{IsGood}
 use Rattle.tnc_loop.proofs.HeardLemmas.{transmission-heard}
 use Rattle.tnc_loop.proofs.LengthLemmas.{signal_fits}
 

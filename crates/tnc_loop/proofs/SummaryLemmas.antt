@@ -1,23 +1,14 @@
 -- The octets of what was heard, one frame more at a time, and the one summary of words.
-use Rattle.std.proofs.Common.{◌≡◌, ℕ, ◌+◌, ◌<◌, ◌≤◌, true, cond, refl, List, [], ◌∷◌, ◌++◌, length, get_or, drop}
-use Rattle.std.proofs.Common.{Option, Some, append-nil, sym, ◌∙◌, ap}
-use Rattle.std.specs.List.{All, concat}
-use Rattle.tnc_base.specs.Streams.{WrotePart}
-use Rattle.std.specs.Prelude.{not}
-use Rattle.std.proofs.lemmas.List.{drop_more, drop_all}
+use Rattle.tnc_loop.proofs.Common.{◌≡◌, ℕ, ◌+◌, ◌<◌, ◌≤◌, true, cond, refl, List, [], ◌∷◌, ◌++◌, length, get_or, drop}
+use Rattle.tnc_loop.proofs.Common.{Some, append-nil, sym, ◌∙◌, ap, All, concat, WrotePart, not, drop_more, drop_all}
+use Rattle.tnc_loop.proofs.Common.{Candidate, merged, TrueEnd, frames_of, is_sent, NoStray, true_ends, LoopWords, drawn}
+use Rattle.tnc_loop.proofs.Common.{samples_drawn, strays, first_stray, summary, IsSummary}
+use Rattle.std.proofs.Common.{Option}
 use Rattle.std.proofs.lemmas.List.Elements.{All-head, All-tail}
-use Rattle.frame_merge.specs.declared.candidate.Candidate.{Candidate}
-use Rattle.frame_merge.specs.Merged.{candidate_frames as frames_heard, merged}
+use Rattle.frame_merge.specs.Merged.{candidate_frames as frames_heard}
 use Rattle.slicer_bank.proofs.OneList.{one_list}
-use Rattle.clean_signal.specs.declared.true_end.TrueEnd.{TrueEnd}
-use Rattle.clean_signal.specs.GoodTransmission.{frames_of}
-use Rattle.clean_signal.specs.Stray.{is_sent, NoStray}
-use Rattle.clean_signal.specs.TrueEnds.{true_ends}
 use Rattle.tnc_loop.proofs.HeardLemmas.{drawn_law}
-use Rattle.tnc_words.specs.declared.command.LoopWords.{LoopWords}
-use Rattle.tnc_loop.specs.Drawn.{drawn, samples_drawn}
-use Rattle.tnc_loop.specs.Strays.{strays, first_stray}
-use Rattle.tnc_loop.specs.Summary.{summary, clean_summary, IsSummary, IsFirstStray}
+use Rattle.tnc_loop.specs.Summary.{clean_summary, IsFirstStray}
 
 -- past the last item no octet is left
 pub octets_end : (items : List Candidate) (i : ℕ) → length items ≤ i → concat (frames_heard (drop i items)) ≡ []

@@ -1,21 +1,13 @@
 -- What is found among the candidates of the signal that is drawn.
-use Rattle.std.proofs.Common.{◌≡◌, ℕ, zero, suc, ℤ, Bool, true, false, true≢false, List, [], ◌∷◌, length, refl, ap, sym}
-use Rattle.std.proofs.Common.{subst, ◌∙◌, arith, cond}
-use Rattle.std.specs.Prelude.{Option, Some, None, is_some, option_map, find, not}
-use Rattle.std.specs.List.{All}
-use Rattle.frame_merge.specs.declared.candidate.Candidate.{Candidate}
-use Rattle.frame_merge.specs.Merged.{candidate_frames as frames_heard, merged}
-use Rattle.slicer_bank.specs.Candidates.{AreCandidates}
-use Rattle.clean_signal.specs.declared.true_end.TrueEnd.{TrueEnd}
-use Rattle.clean_signal.specs.TrueEnds.{true_ends}
-use Rattle.clean_signal.specs.Stray.{is_sent}
+use Rattle.tnc_loop.proofs.Common.{◌≡◌, ℕ, zero, suc, ℤ, Bool, true, false, List, [], ◌∷◌, length, refl, ap, sym, subst}
+use Rattle.tnc_loop.proofs.Common.{◌∙◌, arith, cond, not, All, Candidate, merged, AreCandidates, TrueEnd, true_ends}
+use Rattle.tnc_loop.proofs.Common.{is_sent, LoopWords, Sent, heard_drawn, drawn, samples_drawn, HasSent, HasFound}
+use Rattle.tnc_loop.proofs.Common.{strays, first_stray, summary, IsSummary}
+use Rattle.std.proofs.Common.{true≢false}
+use Rattle.std.specs.Prelude.{Option, Some, None, is_some, option_map, find}
+use Rattle.frame_merge.specs.Merged.{candidate_frames as frames_heard}
 use Rattle.clean_signal.proofs.Law.{no_stray_of}
-use Rattle.tnc_words.specs.declared.command.LoopWords.{LoopWords}
-use Rattle.tnc_loop.specs.declared.sending.Sent.{Sent}
-use Rattle.tnc_loop.specs.Drawn.{heard_drawn, drawn, samples_drawn}
-use Rattle.tnc_loop.specs.Held.{HasSent, HasFound}
-use Rattle.tnc_loop.specs.Strays.{is_stray, strays, first_stray}
-use Rattle.tnc_loop.specs.Summary.{summary, IsSummary}
+use Rattle.tnc_loop.specs.Strays.{is_stray}
 
 -- the candidates of what was sent are those of the signal
 pub are_of : (words : LoopWords) (sent : Sent) (x : List ℤ) (items : List Candidate) → HasSent sent (heard_drawn words)

@@ -1,20 +1,16 @@
 -- What the exit status of a call says of its end and of the report.
-use Rattle.std.proofs.Common.{◌≡◌, ◌≢◌, ℕ, ◌≤◌, List, Option, Some, None, inl, inr, refl, sym, subst, ap, ◌∙◌, arith}
-use Rattle.std.specs.Prelude.{◌⊎◌}
-use Rattle.tnc_base.specs.Faults.{HasRisen}
-use Rattle.tnc_ports.specs.SampledWrites.{Stream}
+use Rattle.tnc_main.proofs.Common.{◌≡◌, ◌≢◌, ℕ, ◌≤◌, List, Option, Some, None, inl, inr, refl, sym, subst, ap, ◌∙◌}
+use Rattle.tnc_main.proofs.Common.{arith, ◌⊎◌, HasRisen, Stream, CallWords, Status, BadWords, NoPort, code_of}
+use Rattle.tnc_main.proofs.Common.{IsLiveCode}
 use Rattle.tnc_call.specs.declared.call_end.CallEnd.{CallEnd}
 use Rattle.tnc_call.specs.declared.call_end.CallEnd.TheVariants.{Done, TooLong, Memory, ReadFault, WriteFault, NoHost}
 use Rattle.tnc_call.specs.declared.call_end.CallEnd.TheVariants.{Refused, HostLost, Broken, GaveUp}
-use Rattle.tnc_call.specs.declared.call_words.CallWords.{CallWords}
 use Rattle.tnc_call.specs.CallTrace.{CallPorts}
-use Rattle.tnc_main.specs.declared.status.Status.{Status}
-use Rattle.tnc_main.specs.declared.status.Status.TheVariants.{Done as WellDone, BadWords, Memory as NoMemory}
+use Rattle.tnc_main.specs.declared.status.Status.TheVariants.{Done as WellDone, Memory as NoMemory}
 use Rattle.tnc_main.specs.declared.status.Status.TheVariants.{ReadFault as InputFailed, WriteFault as OutputFailed}
-use Rattle.tnc_main.specs.declared.status.Status.TheVariants.{NoPort, NoHost as FoundNoHost}
+use Rattle.tnc_main.specs.declared.status.Status.TheVariants.{NoHost as FoundNoHost}
 use Rattle.tnc_main.specs.Calling.{Calls, line_of_end, status_of_end}
 use Rattle.tnc_main.specs.EndTold.{IsEndToldOrWanted}
-use Rattle.tnc_main.specs.Status.{code_of, IsLiveCode}
 use Rattle.tnc_main.proofs.EndLemmas.{ended_well, own_code, settled, stopped}
 
 -- ---- the codes

@@ -1,12 +1,6 @@
 -- What is said of a command can be said of an equal one.
-use Rattle.std.proofs.Common.{◌≡◌, ℕ, List, Option, None, Result, sym, subst, ap}
-use Rattle.std.specs.Prelude.{OnOk}
-use Rattle.tnc_forms.specs.declared.fault.Fault.{Fault}
-use Rattle.tnc_words.specs.declared.command.Command.{Command}
-use Rattle.tnc_main.specs.declared.stop.Stop.{Stop}
-use Rattle.tnc_main.specs.Commands.{Reads, fault_of}
-use Rattle.tnc_main.specs.Parts.{WritesAtEnd}
-use Rattle.tnc_main.specs.Stops.{end_of, status_of}
+use Rattle.tnc_main.proofs.Common.{◌≡◌, ℕ, List, Option, None, Result, sym, subst, ap, OnOk, Fault, Command, Stop}
+use Rattle.tnc_main.proofs.Common.{Reads, fault_of, WritesAtEnd, end_of, status_of}
 use Rattle.tnc_main.proofs.Ends.{if_ok}
 use Rattle.tnc_main.proofs.Writing.{Written}
 

@@ -1,24 +1,15 @@
 -- What decode writes, by how it ends.
-use Rattle.std.proofs.Common.{◌≡◌, ℕ, ◌<◌, List, [], ◌++◌, length, Option, Some, inl, inr, refl, sym, ap, ◌∙◌, arith}
-use Rattle.std.proofs.lemmas.List.{append_cancel_left}
-use Rattle.tnc_base.specs.Streams.{WrotePart}
-use Rattle.tnc_words.specs.declared.command.Command.{Command}
-use Rattle.tnc_words.specs.declared.command.Command.TheVariants.{Decode, Encode, Show, Loop, Bench, Serve, Help}
-use Rattle.tnc_words.specs.declared.command.Command.TheVariants.{Record, Call, Version}
-use Rattle.tnc_words.specs.declared.command.DecodeWords.{DecodeWords}
-use Rattle.tnc_forms.specs.declared.fault.InputFault.{InputFault}
-use Rattle.tnc_forms.specs.declared.fault.InputFault.TheVariants.{TooLong, Line, Wav, LongWav}
-use Rattle.tnc_forms.specs.Reading.{input_limit}
-use Rattle.tnc_decode.specs.Audio.{audio_fault}
-use Rattle.tnc_decode.specs.Decoded.{IsDecoded}
+use Rattle.tnc_main.proofs.Common.{◌≡◌, ℕ, ◌<◌, List, [], ◌++◌, length, Option, Some, inl, inr, refl, sym, ap, ◌∙◌}
+use Rattle.tnc_main.proofs.Common.{arith, append_cancel_left, WrotePart, Command, Decode, Encode, Show, Loop, Bench}
+use Rattle.tnc_main.proofs.Common.{Serve, Help, Record, Call, Version, DecodeWords, InputFault, TooLong, LongWav}
+use Rattle.tnc_main.proofs.Common.{input_limit, audio_fault, IsDecoded, WereRead, BadInput, ReadFault, WriteFault}
+use Rattle.tnc_main.proofs.Common.{Reads, HasAtMemory, MakesPart}
+use Rattle.tnc_forms.specs.declared.fault.InputFault.TheVariants.{Line, Wav}
 use Rattle.tnc_decode.specs.Settled.{IsSettled}
-use Rattle.tnc_forms.specs.Taken.{WereRead}
 use Rattle.tnc_decode.specs.Written.{WroteMost}
-use Rattle.tnc_main.specs.declared.status.Status.TheVariants.{BadInput, Memory as NoMemory, ReadFault, WriteFault}
+use Rattle.tnc_main.specs.declared.status.Status.TheVariants.{Memory as NoMemory}
 use Rattle.tnc_decode.proofs.DecodedLemmas.{some_text}
 use Rattle.tnc_decode.proofs.SettledLemmas.{settled_none}
-use Rattle.tnc_main.specs.Commands.{Reads}
-use Rattle.tnc_main.specs.Parts.{HasAtMemory, MakesPart}
 use Rattle.tnc_main.proofs.LinesWriting.{encode_unread, show_unread}
 use Rattle.tnc_main.proofs.Writing.{Written}
 

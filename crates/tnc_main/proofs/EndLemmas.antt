@@ -1,12 +1,7 @@
 -- How an end was told, and the codes of live commands.
-use Rattle.std.proofs.Common.{◌≡◌, ℕ, ◌≤◌, List, Option, Some, None, inl, inr, ap, arith}
-use Rattle.std.specs.Prelude.{◌⊎◌}
-use Rattle.tnc_base.specs.Faults.{HasRisen}
-use Rattle.tnc_ports.specs.SampledWrites.{Stream}
-use Rattle.tnc_main.specs.declared.status.Status.{Status}
+use Rattle.tnc_main.proofs.Common.{◌≡◌, ℕ, ◌≤◌, List, Option, Some, None, inl, inr, ap, arith, ◌⊎◌, HasRisen, Stream}
+use Rattle.tnc_main.proofs.Common.{Status, IsEndTold, IsLiveCode}
 use Rattle.tnc_main.specs.declared.status.Status.TheVariants.{WriteFault as OutputFailed}
-use Rattle.tnc_main.specs.EndTold.{IsEndTold}
-use Rattle.tnc_main.specs.Status.{IsLiveCode}
 
 -- the status is the end's own, and the report did not fail; or it failed
 abbrev pub Settled : Status → Status → Stream → Stream → Type 0

@@ -1,28 +1,19 @@
 -- What the ends of commands say of the program's.
-use Rattle.std.proofs.Common.{◌≡◌, Result, Ok, Err, IfErr, inl, inr, refl, sym, subst, ◌∙◌}
-use Rattle.std.specs.Prelude.{◌⊎◌, OnOk, OnErr, List, ℕ}
-use Rattle.tnc_forms.specs.declared.fault.Fault.{Fault}
+use Rattle.tnc_main.proofs.Common.{◌≡◌, Result, Ok, Err, IfErr, inl, inr, refl, sym, subst, ◌∙◌, ◌⊎◌, OnOk, OnErr}
+use Rattle.tnc_main.proofs.Common.{Fault, InputFault, LoopFault, BenchFault, CommandFault, Command, Loop, Bench}
+use Rattle.tnc_main.proofs.Common.{BenchOptions, LoopWords, Stop, Input, Read, Write, IsStopOfRun, end_of, end_of_bench}
+use Rattle.tnc_main.proofs.Common.{end_of_loop}
+use Rattle.std.specs.Prelude.{List, ℕ}
 use Rattle.tnc_forms.specs.declared.fault.Fault.TheVariants.{Input as OfInput, Memory as OfMemory, Read as OfRead}
 use Rattle.tnc_forms.specs.declared.fault.Fault.TheVariants.{Write as OfWrite}
-use Rattle.tnc_forms.specs.declared.fault.InputFault.{InputFault}
-use Rattle.tnc_loop.specs.declared.fault.LoopFault.{LoopFault}
 use Rattle.tnc_loop.specs.declared.fault.LoopFault.TheVariants.{Stray as LoopStray, Memory as LoopMemory}
 use Rattle.tnc_loop.specs.declared.fault.LoopFault.TheVariants.{Write as LoopWrite}
 use Rattle.tnc_loop.specs.Summary.{IsFirstStray}
-use Rattle.channel_bench.specs.declared.report.BenchFault.{BenchFault}
 use Rattle.channel_bench.specs.declared.report.BenchFault.TheVariants.{Stray as BenchStray, NotQuiet as BenchNotQuiet}
 use Rattle.channel_bench.specs.declared.report.BenchFault.TheVariants.{Spent as BenchSpent, Memory as BenchMemory}
 use Rattle.channel_bench.specs.BenchRun.{IsFaultOf}
-use Rattle.tnc_bench.specs.declared.fault.CommandFault.{CommandFault}
 use Rattle.tnc_bench.specs.declared.fault.CommandFault.TheVariants.{Run as OfRun, Write as OfBenchWrite}
 use Rattle.tnc_bench.specs.Reported.{words_of}
-use Rattle.tnc_words.specs.declared.command.Command.{Command}
-use Rattle.tnc_words.specs.declared.command.Command.TheVariants.{Loop, Bench}
-use Rattle.tnc_words.specs.declared.command.BenchOptions.{BenchOptions}
-use Rattle.tnc_words.specs.declared.command.LoopWords.{LoopWords}
-use Rattle.tnc_main.specs.declared.stop.Stop.{Stop}
-use Rattle.tnc_main.specs.declared.stop.Stop.TheVariants.{Input, Read, Write}
-use Rattle.tnc_main.specs.Stops.{IsStopOfRun, end_of, end_of_bench, end_of_loop}
 
 module _ (r : Result (Unit {0}) Stop) (end : Result (Unit {0}) Fault) (is : r ≡ end_of end) where
   pub if_ok : {P Q : Type 0} → (P → Q) → OnOk end P → OnOk r Q

@@ -1,12 +1,6 @@
 -- The words of a job ask for one command, and its code is that of one status.
-use Rattle.std.proofs.Common.{◌≡◌, ℕ, List, Option, sym, subst, ◌∙◌}
-use Rattle.tnc_words.specs.declared.command.Command.{Command}
-use Rattle.tnc_words.specs.Commands.{Asks}
-use Rattle.tnc_words.proofs.OneCommand.{one_command}
-use Rattle.tnc_main.specs.declared.status.Status.{Status}
-use Rattle.tnc_main.specs.Commands.{Reads}
-use Rattle.tnc_main.specs.Runs.{Job}
-use Rattle.tnc_main.specs.Status.{code_of}
+use Rattle.tnc_main.proofs.Common.{◌≡◌, ℕ, List, Option, sym, subst, ◌∙◌, Command, Asks, one_command, Status, Reads}
+use Rattle.tnc_main.proofs.Common.{Job, code_of}
 use Rattle.tnc_main.proofs.Statuses.{one_status}
 
 module _ (words : List (List ℕ)) (left : Option (List ℕ)) (code : ℕ) (command : Command) (status : Status)

@@ -1,20 +1,16 @@
 -- What show, and encode that keeps no frames, write, by how they end.
-use Rattle.std.proofs.Common.{◌≡◌, ℕ, ◌<◌, ◌≤◌, Bool, true, false, List, [], ◌++◌, length, take, Option, Some, None}
-use Rattle.std.proofs.Common.{inl, inr, refl, sym, ap, ◌∙◌, arith}
-use Rattle.std.proofs.lemmas.List.{append_cancel_left}
-use Rattle.tnc_base.specs.Streams.{WrotePart}
-use Rattle.tnc_words.specs.declared.command.Command.TheVariants.{Encode, Show}
-use Rattle.tnc_words.specs.declared.command.EncodeWords.{EncodeWords}
+use Rattle.tnc_main.proofs.Common.{◌≡◌, ℕ, ◌<◌, ◌≤◌, Bool, true, false, List, [], ◌++◌, length, take, Option, Some}
+use Rattle.tnc_main.proofs.Common.{None, inl, inr, refl, sym, ap, ◌∙◌, arith, append_cancel_left, WrotePart, Encode}
+use Rattle.tnc_main.proofs.Common.{Show, EncodeWords, input_limit, WereRead, encoded, keeps_frames, BadInput, ReadFault}
+use Rattle.tnc_main.proofs.Common.{WriteFault, HasAtMemory, MakesPart}
 use Rattle.tnc_words.specs.declared.command.ShowWords.{ShowWords}
-use Rattle.tnc_forms.specs.Reading.{input_limit, piece_limit}
-use Rattle.tnc_forms.specs.Taken.{WereRead}
-use Rattle.tnc_encode.specs.Encoded.{encoded, encoded_so_far, keeps_frames}
+use Rattle.tnc_forms.specs.Reading.{piece_limit}
+use Rattle.tnc_encode.specs.Encoded.{encoded_so_far}
 use Rattle.tnc_encode.specs.Frames.{form_fault_so_far}
 use Rattle.tnc_encode.proofs.EndedLemmas.{encoded_none}
 use Rattle.tnc_show.specs.Shown.{IsShownOfMany, IsShownPart, IsShownSoFar}
 use Rattle.tnc_show.proofs.EndedLemmas.{shown_none}
-use Rattle.tnc_main.specs.declared.status.Status.TheVariants.{BadInput, Memory as NoMemory, ReadFault, WriteFault}
-use Rattle.tnc_main.specs.Parts.{HasAtMemory, MakesPart}
+use Rattle.tnc_main.specs.declared.status.Status.TheVariants.{Memory as NoMemory}
 use Rattle.tnc_main.proofs.Writing.{Written, part_made}
 
 -- ---- show

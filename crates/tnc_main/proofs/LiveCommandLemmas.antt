@@ -1,22 +1,15 @@
 -- Words that ask for a live command ask for one, for no job and within its ranges.
-use Rattle.std.proofs.Common.{◌≡◌, ℕ, ◌≤◌, List, Option, Some, None, refl, subst, sym, ap, ◌∙◌, arith}
+use Rattle.tnc_main.proofs.Common.{◌≡◌, ℕ, ◌≤◌, List, Option, Some, None, refl, subst, sym, ap, ◌∙◌, arith}
+use Rattle.tnc_main.proofs.Common.{BenchOptions, Command, Bench, Loop, Serve, Record, Call, LoopWords, RecordOptions}
+use Rattle.tnc_main.proofs.Common.{Asks, one_command, Reads, ReadsNothing, CanRunLive, command_of, WritesAtEnd, Job}
+use Rattle.tnc_main.proofs.Common.{CanRun}
 use Rattle.link_world.proofs.WindowLemmas.{none_refused}
-use Rattle.tnc_words.specs.declared.command.BenchOptions.{BenchOptions}
-use Rattle.tnc_words.specs.declared.command.Command.{Command}
-use Rattle.tnc_words.specs.declared.command.Command.TheVariants.{Bench, Loop, Serve, Record, Call}
-use Rattle.tnc_words.specs.declared.command.LoopWords.{LoopWords}
-use Rattle.tnc_words.specs.declared.command.RecordOptions.{RecordOptions}
-use Rattle.tnc_words.specs.Commands.{Asks, IsBench, IsLoop}
+use Rattle.tnc_words.specs.Commands.{IsBench, IsLoop}
 use Rattle.tnc_words.specs.Numbers.{HasNumber}
-use Rattle.tnc_words.proofs.OneCommand.{one_command}
 use Rattle.tnc_main.specs.declared.live_command.LiveCommand.{LiveCommand}
 use Rattle.tnc_main.specs.declared.live_command.LiveCommand.TheVariants.{Serve as LiveServe, Record as LiveRecord}
 use Rattle.tnc_main.specs.declared.live_command.LiveCommand.TheVariants.{Call as LiveCall}
-use Rattle.tnc_main.specs.Commands.{Reads, ReadsNothing}
-use Rattle.tnc_main.specs.LiveCommands.{AskNoPorts, CanRunLive, command_of}
-use Rattle.tnc_main.specs.Parts.{WritesAtEnd}
-use Rattle.tnc_main.specs.Runs.{Job}
-use Rattle.tnc_main.specs.Stops.{CanRun}
+use Rattle.tnc_main.specs.LiveCommands.{AskNoPorts}
 
 -- a live command is known by the command that it is
 one_of_command : (live other : LiveCommand) → command_of live ≡ command_of other → live ≡ other

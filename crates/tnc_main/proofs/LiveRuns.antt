@@ -1,17 +1,9 @@
 -- What the exit status of a live station says.
-use Rattle.std.proofs.Common.{◌≡◌, ℕ, ◌≤◌, List, length, Option, Some, inl, inr, sym, subst, ap, ◌∙◌, arith}
-use Rattle.std.specs.Prelude.{◌⊎◌}
-use Rattle.tnc_base.specs.Faults.{HasRisen}
-use Rattle.tnc_words.specs.declared.command.ServeOptions.{ServeOptions}
-use Rattle.tnc_forms.specs.Reading.{input_limit}
-use Rattle.tnc_ports.specs.declared.serve_words.ServeWords.{ServeWords}
-use Rattle.tnc_ports.specs.SampledRun.{Outside}
-use Rattle.tnc_ports.specs.ServeRun.{InputSide}
-use Rattle.tnc_main.specs.declared.status.Status.{Status}
-use Rattle.tnc_main.specs.declared.status.Status.TheVariants.{Done, BadWords, ReadFault, WriteFault, Stray, NotQuiet}
-use Rattle.tnc_main.specs.declared.status.Status.TheVariants.{Spent, NoPort}
-use Rattle.tnc_main.specs.Serving.{RunsLive, Serves, words_of}
-use Rattle.tnc_main.specs.Status.{code_of, IsLiveCode}
+use Rattle.tnc_main.proofs.Common.{◌≡◌, ℕ, ◌≤◌, List, length, Option, Some, inl, inr, sym, subst, ap, ◌∙◌, arith, ◌⊎◌}
+use Rattle.tnc_main.proofs.Common.{HasRisen, ServeOptions, input_limit, ServeWords, Outside, InputSide, Status, Done}
+use Rattle.tnc_main.proofs.Common.{BadWords, ReadFault, WriteFault, NoPort, RunsLive, Serves, words_of, code_of}
+use Rattle.tnc_main.proofs.Common.{IsLiveCode}
+use Rattle.tnc_main.specs.declared.status.Status.TheVariants.{Stray, NotQuiet, Spent}
 use Rattle.tnc_main.proofs.ServingLemmas.{Ends, WritesFailed, at_done, at_no_port, at_read_fault, at_write_fault}
 use Rattle.tnc_main.proofs.ServingLemmas.{ends_well, nothing_spent, nothing_strays, nothing_unquiet, own_status}
 use Rattle.tnc_main.proofs.ServingLemmas.{up_to_ten, words_are_good}

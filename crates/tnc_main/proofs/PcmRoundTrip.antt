@@ -1,13 +1,14 @@
 -- What is written of the samples of a signal is read as these samples, as raw PCM and as a WAV file.
-use Rattle.std.proofs.Common.{◌≡◌, ℕ, ◌+◌, ◌*◌, ◌≤◌, ℤ, pos, List, [], ◌∷◌, ◌++◌, length, get_or, length-append}
-use Rattle.std.proofs.Common.{replicate, All, Ok, Some, refl, ap, ◌∙◌, arith, of_z}
+use Rattle.tnc_main.proofs.Common.{◌≡◌, ℕ, ◌+◌, ◌≤◌, ℤ, List, [], ◌∷◌, ◌++◌, length, get_or, length-append, All, Ok}
+use Rattle.tnc_main.proofs.Common.{Some, refl, ap, ◌∙◌, arith, flat_map-cons, All-append, All-map, All-nil, All-same}
+use Rattle.tnc_main.proofs.Common.{Transmission, Rates}
+use Rattle.std.proofs.Common.{◌*◌, pos, replicate, of_z}
 use Rattle.std.specs.Prelude.{unsigned_abs}
 use Rattle.std.specs.Int.{cast_signed, from_le_bytes, to_le_bytes}
 use Rattle.std.specs.List.{AllByRecursion, range_with_len}
 use Rattle.std.proofs.Math.Facts.{Fits-of_z}
 use Rattle.std.proofs.lemmas.Int.{fits_signed_from_abs, to_z-of_z}
-use Rattle.std.proofs.lemmas.List.Concat.{flat_map-cons}
-use Rattle.std.proofs.lemmas.List.Elements.{All-append, All-map, All-nil, All-replicate, All-same, recursion_from_All}
+use Rattle.std.proofs.lemmas.List.Elements.{All-replicate, recursion_from_All}
 use Rattle.std.proofs.lemmas.Nat.{from_le_bytes-to_le_bytes_2}
 use mir.Syntax.{w16}
 use mir.Val.{SFits}
@@ -22,9 +23,8 @@ use Rattle.afsk_modulator.specs.Transmission.{transmission}
 use Rattle.afsk_modulator.specs.Level.{at_level, sample_at}
 use Rattle.hf_modem.specs.Signal.{hf_signal}
 use Rattle.hf_modem.proofs.LoudnessLemmas.{within-hf_signal}
-use Rattle.afsk_modulator.specs.Signal.{Transmission, samples_of as samples_at, signal, signal_at}
+use Rattle.afsk_modulator.specs.Signal.{samples_of as samples_at, signal, signal_at}
 use Rattle.afsk_modulator.proofs.LevelLemmas.{unsigned_abs-sample_at}
-use Rattle.wav_file.specs.declared.rates.Rates.{Rates}
 use Rattle.wav_file.specs.Head.{head_of}
 use Rattle.wav_file.specs.Reading.{Reading, rate_in, samples_in, verdict_of}
 use Rattle.wav_file.specs.Samples.{sample_of, samples}

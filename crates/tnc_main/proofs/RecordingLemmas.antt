@@ -1,18 +1,11 @@
 -- What the exit status of a recording says of the counts of faults, and that only few statuses are its own.
-use Rattle.std.proofs.Common.{◌≡◌, ℕ, ◌≤◌, List, length, length-append, Some, inl, inr, refl, sym, subst, ap, ◌∙◌, arith}
-use Rattle.std.specs.Prelude.{◌⊎◌}
-use Rattle.tnc_base.specs.Faults.{HasRisen}
-use Rattle.tnc_words.specs.declared.command.RecordOptions.{RecordOptions}
-use Rattle.tnc_forms.specs.Reading.{input_limit}
-use Rattle.tnc_ports.specs.declared.looping.LoopEnd.{LoopEnd}
+use Rattle.tnc_main.proofs.Common.{◌≡◌, ℕ, ◌≤◌, List, length, length-append, Some, inl, inr, refl, sym, subst, ap, ◌∙◌}
+use Rattle.tnc_main.proofs.Common.{arith, ◌⊎◌, HasRisen, RecordOptions, input_limit, LoopEnd, PumpEnd, InputEnd}
+use Rattle.tnc_main.proofs.Common.{IsPumped, Stream, Status, BadInput, IsEndTold, code_of, IsLiveCode}
 use Rattle.tnc_ports.specs.declared.looping.LoopEnd.TheVariants.{Done as LoopDone, Memory as LoopMemory}
 use Rattle.tnc_ports.specs.declared.looping.LoopEnd.TheVariants.{WriteFault as LoopFault}
-use Rattle.tnc_ports.specs.declared.pumping.PumpEnd.{PumpEnd}
-use Rattle.tnc_ports.specs.declared.pumping.PumpEnd.TheVariants.{InputEnd, ReadFault as PumpFailed}
-use Rattle.tnc_ports.specs.declared.pumping.PumpEnd.TheVariants.{TooLong as InputTooLong}
-use Rattle.tnc_ports.specs.Pumped.{IsPumped}
+use Rattle.tnc_ports.specs.declared.pumping.PumpEnd.TheVariants.{ReadFault as PumpFailed, TooLong as InputTooLong}
 use Rattle.tnc_ports.specs.PumpRun.{InputSide, ReadFaults}
-use Rattle.tnc_ports.specs.SampledWrites.{Stream}
 use Rattle.tnc_record.specs.declared.recording.RecordEnd.{RecordEnd}
 use Rattle.tnc_record.specs.declared.recording.RecordEnd.TheVariants.{Done, TooLong, Memory, NoThread, ReadFault}
 use Rattle.tnc_record.specs.declared.recording.RecordEnd.TheVariants.{WriteFault}
@@ -20,12 +13,9 @@ use Rattle.tnc_record.specs.declared.recording.RecordWords.{RecordWords}
 use Rattle.tnc_record.specs.RecordLoop.{IsLooped}
 use Rattle.tnc_record.specs.RecordRun.{HasRecorded, IsRecorded, end_of}
 use Rattle.tnc_record.specs.RecordTurns.{Recording}
-use Rattle.tnc_main.specs.declared.status.Status.{Status}
-use Rattle.tnc_main.specs.declared.status.Status.TheVariants.{Done as WellDone, BadInput, Memory as NoMemory}
+use Rattle.tnc_main.specs.declared.status.Status.TheVariants.{Done as WellDone, Memory as NoMemory}
 use Rattle.tnc_main.specs.declared.status.Status.TheVariants.{ReadFault as InputFailed, WriteFault as OutputFailed}
-use Rattle.tnc_main.specs.EndTold.{IsEndTold}
 use Rattle.tnc_main.specs.RecordRuns.{Records, RunsRecord, last_line, status_of_end, words_of}
-use Rattle.tnc_main.specs.Status.{code_of, IsLiveCode}
 use Rattle.tnc_main.proofs.EndLemmas.{ended_well, settled, stopped}
 use Rattle.tnc_main.proofs.Statuses.{one_status}
 

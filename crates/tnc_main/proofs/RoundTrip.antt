@@ -1,39 +1,28 @@
 -- What encode writes is heard by decode.
-use Rattle.std.proofs.Common.{◌≡◌, ℕ, ◌+◌, ◌≤◌, Bool, true, false, true≢false, ℤ, List, All, length, map, take, nat_lt}
-use Rattle.std.proofs.Common.{Option, Some, None, refl, sym, subst, ap, ◌∙◌, le-ltb}
-use Rattle.std.specs.Prelude.{is_some, if◌then◌else◌}
+use Rattle.tnc_main.proofs.Common.{◌≡◌, ℕ, ◌+◌, ◌≤◌, Bool, true, false, true≢false, ℤ, List, All, length, map, take}
+use Rattle.tnc_main.proofs.Common.{nat_lt, Option, Some, None, refl, sym, subst, ap, ◌∙◌, is_some, if◌then◌else◌}
+use Rattle.tnc_main.proofs.Common.{Transmission, IsTransmission, Candidate, merged, DecodeWords, EncodeWords, Rates}
+use Rattle.tnc_main.proofs.Common.{InputFault, LongWav, TooLong, input_limit, audio_fault, samples_read, Modem, Plain}
+use Rattle.tnc_main.proofs.Common.{modem_of, AreHeard, IsDecoded, print, frames_of_input, encoded, fault_of_whole}
+use Rattle.tnc_main.proofs.Common.{first_of, keeps_frames, length_fault, samples_sent, transmissions, fault_kept}
+use Rattle.std.proofs.Common.{le-ltb}
 use Rattle.std.specs.Option.{option_or}
 use Rattle.std.proofs.lemmas.Bool.{ltb-false}
 use Rattle.afsk_modulator.specs.Modulation.{IsLevel}
-use Rattle.afsk_modulator.specs.Signal.{Transmission}
-use Rattle.clean_signal.specs.GoodTransmission.{IsTransmission, frames_of as all_frames}
+use Rattle.clean_signal.specs.GoodTransmission.{frames_of as all_frames}
 use Rattle.clean_signal.proofs.Law.{level_law}
-use Rattle.frame_merge.specs.declared.candidate.Candidate.{Candidate}
-use Rattle.frame_merge.specs.Merged.{merged}
 use Rattle.hf_signal.proofs.Law.{level_law as hf_level_law}
 use Rattle.tnc_words.specs.declared.command.AudioForm.{AudioForm}
 use Rattle.tnc_words.specs.declared.command.AudioForm.TheVariants.{Raw, Wav}
-use Rattle.tnc_words.specs.declared.command.DecodeWords.{DecodeWords}
-use Rattle.tnc_words.specs.declared.command.EncodeWords.{EncodeWords}
 use Rattle.tnc_words.specs.declared.command.Modem.{Modem as Sending}
 use Rattle.tnc_words.specs.declared.command.Modem.TheVariants.{Bell202, ShortWave}
-use Rattle.wav_file.specs.declared.rates.Rates.{Rates}
 use Rattle.wav_file.specs.declared.rates.Rates.TheVariants.{NarrowOrWide}
-use Rattle.tnc_forms.specs.declared.fault.InputFault.{InputFault}
-use Rattle.tnc_forms.specs.declared.fault.InputFault.TheVariants.{LongWav, TooLong}
-use Rattle.tnc_forms.specs.Reading.{input_limit}
-use Rattle.tnc_decode.specs.Audio.{audio_fault, fault_in_verdict, form_fault, form_fault_at, rates_of, samples_at}
-use Rattle.tnc_decode.specs.Audio.{samples_read, stopping_fault}
-use Rattle.tnc_decode.specs.declared.modem.Modem.{Modem}
-use Rattle.tnc_decode.specs.declared.modem.Modem.TheVariants.{Plain, ShortWave as HearsShortWave}
-use Rattle.tnc_decode.specs.Modem.{modem_of, modem_for, modem_of_file, AreHeard}
-use Rattle.tnc_decode.specs.Decoded.{IsDecoded}
-use Rattle.tnc_decode.specs.Printing.{print}
-use Rattle.tnc_encode.specs.Frames.{form_fault as frames_fault, frames_of_input}
-use Rattle.tnc_encode.specs.Encoded.{encode_fault, encoded, fault_of_whole, first_of, keeps_frames, length_fault}
-use Rattle.tnc_encode.specs.Encoded.{most_samples, samples_sent, signal_of, transmissions, written_as}
+use Rattle.tnc_decode.specs.Audio.{fault_in_verdict, form_fault, form_fault_at, rates_of, samples_at, stopping_fault}
+use Rattle.tnc_decode.specs.declared.modem.Modem.TheVariants.{ShortWave as HearsShortWave}
+use Rattle.tnc_decode.specs.Modem.{modem_for, modem_of_file}
+use Rattle.tnc_encode.specs.Frames.{form_fault as frames_fault}
+use Rattle.tnc_encode.specs.Encoded.{encode_fault, most_samples, signal_of, written_as}
 use Rattle.tnc_encode.specs.Sending.{signal_by}
-use Rattle.tnc_encode.proofs.EndedLemmas.{fault_kept}
 use Rattle.tnc_main.specs.RoundTrip.{receiving_of, IsWithoutStray}
 use Rattle.tnc_main.proofs.PcmRoundTrip.{IsSample, rate-wav, samples-pcm, samples-wav, signal_fits, hf_signal_fits}
 use Rattle.tnc_main.proofs.PcmRoundTrip.{wav_whole}

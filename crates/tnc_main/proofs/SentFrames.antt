@@ -1,27 +1,27 @@
 -- The frames of an input are frames as they are sent, and encode's transmissions have exactly these, in order.
-use Rattle.std.proofs.Common.{◌≡◌, ℕ, ◌/◌, ◌%◌, ◌<◌, ◌≤◌, ◌==◌, nat_le, nat_lt, ◌&&◌, Bool, true, false, List, [], ◌∷◌}
-use Rattle.std.proofs.Common.{◌++◌, length, map, All, IfSome, Option, Some, None, get_or, refl, subst, ap, ◌∙◌, arith}
-use Rattle.std.specs.Prelude.{⊤, if◌then◌else◌}
+use Rattle.tnc_main.proofs.Common.{◌≡◌, ℕ, ◌<◌, ◌≤◌, nat_lt, Bool, true, false, List, [], ◌∷◌, ◌++◌, length, map, All}
+use Rattle.tnc_main.proofs.Common.{Option, Some, None, get_or, refl, subst, ap, ◌∙◌, arith, if◌then◌else◌}
+use Rattle.tnc_main.proofs.Common.{flat_map-cons, All-append, All-map, All-nil, All-same, Transmission, IsTransmission}
+use Rattle.tnc_main.proofs.Common.{EncodeWords, frames_of_input, transmissions}
+use Rattle.std.proofs.Common.{◌/◌, ◌%◌, ◌==◌, nat_le, ◌&&◌, IfSome}
+use Rattle.std.specs.Prelude.{⊤}
 use Rattle.std.specs.Option.{option_to_list}
 use Rattle.std.specs.List.{cons_option, filter_map, flat_map}
 use Rattle.std.proofs.lemmas.Bool.{and_parts, leb-true}
 use Rattle.std.proofs.lemmas.List.{append-nil, get_or_default}
-use Rattle.std.proofs.lemmas.List.Concat.{flat_map-cons}
-use Rattle.std.proofs.lemmas.List.Elements.{All-append, All-cons, All-head, All-map, All-nil, All-same, All-tail}
+use Rattle.std.proofs.lemmas.List.Elements.{All-cons, All-head, All-tail}
 use Rattle.hdlc_framer.specs.Frames.{IsFrame}
 use Rattle.kiss_port.specs.declared.item.KissItem.{KissItem}
 use Rattle.kiss_port.specs.declared.item.KissItem.TheVariants.{Frame, Set, Hardware, Return, TooLong, Other}
 use Rattle.kiss_port.specs.Escapes.{fend, fesc, tfend, tfesc, meant, unescaped}
 use Rattle.kiss_port.specs.Pieces.{onto_first, pieces}
 use Rattle.kiss_port.specs.Items.{by_command, item_by_type, item_of, items_in, setting}
-use Rattle.afsk_modulator.specs.Signal.{Transmission}
-use Rattle.clean_signal.specs.GoodTransmission.{IsTransmission, frames_of as all_frames}
+use Rattle.clean_signal.specs.GoodTransmission.{frames_of as all_frames}
 use Rattle.tnc_forms.proofs.HexFrameLemmas.{frames_in_lines-good}
 use Rattle.tnc_words.specs.declared.command.FrameForm.{FrameForm}
 use Rattle.tnc_words.specs.declared.command.FrameForm.TheVariants.{Hex, Kiss}
-use Rattle.tnc_words.specs.declared.command.EncodeWords.{EncodeWords}
-use Rattle.tnc_encode.specs.Frames.{frame_of, frames_of_input, kiss_frames}
-use Rattle.tnc_encode.specs.Encoded.{joined, sent_at_once, transmissions}
+use Rattle.tnc_encode.specs.Frames.{frame_of, kiss_frames}
+use Rattle.tnc_encode.specs.Encoded.{joined, sent_at_once}
 
 abbrev pub AreOctets : List ℕ → Type 0
 AreOctets octets = All (λ octet. octet < 256) octets

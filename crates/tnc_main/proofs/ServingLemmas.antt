@@ -1,31 +1,22 @@
 -- What the status of a live station says of the counts of faults, and that only few statuses are its own.
-use Rattle.std.proofs.Common.{◌≡◌, ℕ, ◌≤◌, List, length, length-append, Some, inl, inr, refl, sym}
-use Rattle.std.proofs.Common.{subst, ap, ◌∙◌, arith}
-use Rattle.std.specs.Prelude.{◌⊎◌}
+use Rattle.tnc_main.proofs.Common.{◌≡◌, ℕ, ◌≤◌, List, length, length-append, Some, inl, inr, refl, sym, subst, ap, ◌∙◌}
+use Rattle.tnc_main.proofs.Common.{arith, ◌⊎◌, HasRisen, ServeOptions, input_limit, LoopEnd, PumpEnd, InputEnd}
+use Rattle.tnc_main.proofs.Common.{ServeWords, IsPumped, Outside, InputSide, Status, BadWords, BadInput, RunsLive}
+use Rattle.tnc_main.proofs.Common.{words_of, code_of}
 use Rattle.sample_ring.specs.declared.got.Got.{Got}
-use Rattle.tnc_base.specs.Faults.{HasRisen}
-use Rattle.tnc_words.specs.declared.command.ServeOptions.{ServeOptions}
-use Rattle.tnc_forms.specs.Reading.{input_limit}
-use Rattle.tnc_ports.specs.declared.looping.LoopEnd.{LoopEnd}
 use Rattle.tnc_ports.specs.declared.looping.LoopEnd.TheVariants.{Done as LoopDone, Memory as LoopMemory}
 use Rattle.tnc_ports.specs.declared.looping.LoopEnd.TheVariants.{WriteFault as LoopFault}
-use Rattle.tnc_ports.specs.declared.pumping.PumpEnd.{PumpEnd}
-use Rattle.tnc_ports.specs.declared.pumping.PumpEnd.TheVariants.{InputEnd, ReadFault as PumpFailed}
-use Rattle.tnc_ports.specs.declared.pumping.PumpEnd.TheVariants.{TooLong as InputTooLong}
-use Rattle.tnc_ports.specs.declared.serve_words.ServeWords.{ServeWords}
+use Rattle.tnc_ports.specs.declared.pumping.PumpEnd.TheVariants.{ReadFault as PumpFailed, TooLong as InputTooLong}
 use Rattle.tnc_ports.specs.declared.serving.ServeEnd.{ServeEnd}
 use Rattle.tnc_ports.specs.declared.serving.ServeEnd.TheVariants.{Done, TooLong, Memory, ReadFault, WriteFault, NoPort}
 use Rattle.tnc_ports.specs.declared.serving.ServeEnd.TheVariants.{NoThread}
-use Rattle.tnc_ports.specs.Pumped.{IsPumped}
-use Rattle.tnc_ports.specs.SampledRun.{IsLooped, Outside}
-use Rattle.tnc_ports.specs.ServeRun.{HasServed, InputSide, IsServed, OnlyListens, ReadFaults, end_of}
-use Rattle.tnc_main.specs.declared.status.Status.{Status}
-use Rattle.tnc_main.specs.declared.status.Status.TheVariants.{Done as WellDone, BadWords, BadInput, Memory as NoMemory}
+use Rattle.tnc_ports.specs.SampledRun.{IsLooped}
+use Rattle.tnc_ports.specs.ServeRun.{HasServed, IsServed, OnlyListens, ReadFaults, end_of}
+use Rattle.tnc_main.specs.declared.status.Status.TheVariants.{Done as WellDone, Memory as NoMemory}
 use Rattle.tnc_main.specs.declared.status.Status.TheVariants.{ReadFault as InputFailed, WriteFault as OutputFailed}
 use Rattle.tnc_main.specs.declared.status.Status.TheVariants.{Stray as HeardStray, NotQuiet as FoundNoQuiet}
 use Rattle.tnc_main.specs.declared.status.Status.TheVariants.{Spent as WasSpent, NoPort as PortsFailed}
-use Rattle.tnc_main.specs.Serving.{IsInWant, IsToldAs, LacksLine, RunsLive, last_line, status_of_end, words_of}
-use Rattle.tnc_main.specs.Status.{code_of}
+use Rattle.tnc_main.specs.Serving.{IsInWant, IsToldAs, LacksLine, last_line, status_of_end}
 
 -- ---- when serving has ended
 

@@ -1,17 +1,12 @@
 -- Statuses and their codes, and what a status says of a command's end.
-use Rattle.std.proofs.Common.{◌≡◌, ◌≢◌, ◌≤◌, ℕ, List, [], ◌∷◌, get_or, Result, Ok, Err, inl, inr, refl, sym, ap, ◌∙◌}
-use Rattle.std.proofs.Common.{arith, subst, true≢false}
+use Rattle.tnc_main.proofs.Common.{◌≡◌, ◌≢◌, ◌≤◌, ℕ, List, [], ◌∷◌, get_or, Result, Ok, Err, inl, inr, refl, sym, ap}
+use Rattle.tnc_main.proofs.Common.{◌∙◌, arith, subst, true≢false, InputFault, Status, Done, BadWords, BadInput}
+use Rattle.tnc_main.proofs.Common.{ReadFault, WriteFault, NoPort, Stop, Input, Stray, NotQuiet, Spent, Memory, Read}
+use Rattle.tnc_main.proofs.Common.{Write, code_of, EndsAs, status_of}
 use Rattle.std.specs.Prelude.{IsOk}
-use Rattle.tnc_forms.specs.declared.fault.InputFault.{InputFault}
-use Rattle.tnc_main.specs.declared.status.Status.{Status}
-use Rattle.tnc_main.specs.declared.status.Status.TheVariants.{Done, BadWords, BadInput, Memory as NoMemory, ReadFault}
-use Rattle.tnc_main.specs.declared.status.Status.TheVariants.{WriteFault, Stray as HeardStray, NotQuiet as FoundNoQuiet}
-use Rattle.tnc_main.specs.declared.status.Status.TheVariants.{Spent as WasSpent, NoPort, NoHost, Refused}
-use Rattle.tnc_main.specs.declared.status.Status.TheVariants.{HostLost, HostBroke, GaveUp}
-use Rattle.tnc_main.specs.declared.stop.Stop.{Stop}
-use Rattle.tnc_main.specs.declared.stop.Stop.TheVariants.{Input, Stray, NotQuiet, Spent, Memory, Read, Write}
-use Rattle.tnc_main.specs.Status.{code_of}
-use Rattle.tnc_main.specs.Stops.{EndsAs, status_of}
+use Rattle.tnc_main.specs.declared.status.Status.TheVariants.{Memory as NoMemory, Stray as HeardStray}
+use Rattle.tnc_main.specs.declared.status.Status.TheVariants.{NotQuiet as FoundNoQuiet, Spent as WasSpent, NoHost}
+use Rattle.tnc_main.specs.declared.status.Status.TheVariants.{Refused, HostLost, HostBroke, GaveUp}
 
 -- the statuses by their codes; no status has the code 9
 statuses : List Status

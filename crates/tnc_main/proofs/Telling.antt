@@ -1,23 +1,13 @@
 -- What a run leaves, why it ends, and what it tells, by how its command ends.
-use Rattle.std.proofs.Common.{◌≡◌, ℕ, ◌+◌, List, [], ◌++◌, drop, Option, Some, None, Result, Ok, Err, IfErr, inl, inr}
-use Rattle.std.proofs.Common.{append-nil, refl, sym, subst, ap, ◌∙◌}
-use Rattle.std.specs.Prelude.{OnOk, ◌⊎◌}
-use Rattle.tnc_base.specs.Streams.{WrotePart}
-use Rattle.tnc_words.specs.declared.command.Command.{Command}
-use Rattle.tnc_forms.specs.declared.fault.InputFault.{InputFault}
-use Rattle.tnc_forms.specs.declared.fault.InputFault.TheVariants.{TooLong}
-use Rattle.tnc_forms.specs.Reading.{input_limit}
-use Rattle.tnc_main.specs.declared.status.Status.{Status}
-use Rattle.tnc_main.specs.declared.status.Status.TheVariants.{Done, BadInput, Memory as NoMemory, ReadFault, WriteFault}
-use Rattle.tnc_main.specs.declared.status.Status.TheVariants.{Stray as HeardStray, NotQuiet as FoundNoQuiet}
-use Rattle.tnc_main.specs.declared.status.Status.TheVariants.{Spent as WasSpent}
-use Rattle.tnc_main.specs.declared.stop.Stop.{Stop}
-use Rattle.tnc_main.specs.declared.stop.Stop.TheVariants.{Input, Stray, NotQuiet, Spent, Memory, Read, Write}
-use Rattle.tnc_main.specs.Commands.{IsFaultless, Reads, fault_of}
-use Rattle.tnc_main.specs.Report.{input_line, line_of, not_quiet_line, spent_line, stray_line}
-use Rattle.tnc_main.specs.Runs.{IsCaused, Leaves, Tells}
-use Rattle.tnc_main.specs.Status.{code_of}
-use Rattle.tnc_main.specs.Stops.{EndsAs, IsStopOfRun, status_of}
+use Rattle.tnc_main.proofs.Common.{◌≡◌, ℕ, ◌+◌, List, [], ◌++◌, Option, Some, None, Result, Ok, Err, IfErr, inl, inr}
+use Rattle.tnc_main.proofs.Common.{append-nil, refl, sym, subst, ap, ◌∙◌, OnOk, ◌⊎◌, WrotePart, Command, InputFault}
+use Rattle.tnc_main.proofs.Common.{TooLong, input_limit, Status, Done, BadInput, ReadFault, WriteFault, Stop, Input}
+use Rattle.tnc_main.proofs.Common.{Stray, NotQuiet, Spent, Memory, Read, Write, IsFaultless, Reads, fault_of, line_of}
+use Rattle.tnc_main.proofs.Common.{stray_line, IsCaused, Leaves, Tells, code_of, EndsAs, IsStopOfRun, status_of}
+use Rattle.std.proofs.Common.{drop}
+use Rattle.tnc_main.specs.declared.status.Status.TheVariants.{Memory as NoMemory, Stray as HeardStray}
+use Rattle.tnc_main.specs.declared.status.Status.TheVariants.{NotQuiet as FoundNoQuiet, Spent as WasSpent}
+use Rattle.tnc_main.specs.Report.{input_line, not_quiet_line, spent_line}
 
 module _ (command : Command) (octets : List ℕ) (left : Option (List ℕ)) where
   leaves_own : (end : Result (Unit {0}) Stop) → OnOk end (Reads command left [])

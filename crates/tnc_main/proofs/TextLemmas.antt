@@ -1,31 +1,18 @@
 -- Why an input that is too long is refused, and the text of samples near a signal.
-use Rattle.std.proofs.Common.{◌≡◌, ℕ, ◌<◌, ℤ, List, length, map, Option, Some, ap, ◌∙◌, arith, lt-ltb}
-use Rattle.std.specs.Prelude.{if◌then◌else◌}
+use Rattle.tnc_main.proofs.Common.{◌≡◌, ℕ, ◌<◌, ℤ, List, length, map, Option, Some, ap, ◌∙◌, arith, if◌then◌else◌}
+use Rattle.tnc_main.proofs.Common.{Candidate, merged, Command, Decode, Encode, Show, Loop, Bench, Serve, Help, Record}
+use Rattle.tnc_main.proofs.Common.{Call, Version, DecodeWords, TooLong, input_limit, samples_read, Modem, Plain}
+use Rattle.tnc_main.proofs.Common.{modem_of, AreHeard, IsDecoded, print, fault_of_whole, first_of, length_fault}
+use Rattle.tnc_main.proofs.Common.{samples_sent, fault_kept, Reads, fault_of, WritesAtEnd}
+use Rattle.std.proofs.Common.{lt-ltb}
 use Rattle.clean_signal.specs.GoodTransmission.{frames_of}
-use Rattle.frame_merge.specs.declared.candidate.Candidate.{Candidate}
-use Rattle.frame_merge.specs.Merged.{merged}
 use Rattle.clean_signal.specs.NearSignal.{Received, transmissions_of}
 use Rattle.clean_signal.proofs.Law.{near_law}
 use Rattle.wide_input.proofs.WideLaw.{near_stream_law}
-use Rattle.tnc_words.specs.declared.command.Command.{Command}
-use Rattle.tnc_words.specs.declared.command.Command.TheVariants.{Decode, Encode, Show, Loop, Bench, Serve, Help}
-use Rattle.tnc_words.specs.declared.command.Command.TheVariants.{Record, Call, Version}
-use Rattle.tnc_words.specs.declared.command.DecodeWords.{DecodeWords}
-use Rattle.tnc_forms.specs.declared.fault.InputFault.TheVariants.{TooLong}
-use Rattle.tnc_forms.specs.Reading.{input_limit}
-use Rattle.tnc_decode.specs.Audio.{samples_read}
 use Rattle.hf_signal.proofs.Law.{near_law as hf_near_law}
-use Rattle.tnc_decode.specs.declared.modem.Modem.{Modem}
-use Rattle.tnc_decode.specs.declared.modem.Modem.TheVariants.{Plain, Wide, Sensitive, ShortWave}
-use Rattle.tnc_decode.specs.Modem.{modem_of, AreHeard}
-use Rattle.tnc_decode.specs.Decoded.{IsDecoded}
-use Rattle.tnc_decode.specs.Printing.{print}
-use Rattle.tnc_encode.specs.Encoded.{fault_of_whole, first_of, length_fault, samples_sent}
+use Rattle.tnc_decode.specs.declared.modem.Modem.TheVariants.{Wide, Sensitive, ShortWave}
 use Rattle.tnc_encode.specs.Frames.{form_fault as frames_fault}
-use Rattle.tnc_encode.proofs.EndedLemmas.{fault_kept}
 use Rattle.tnc_main.specs.Clean.{IsNearlyClean}
-use Rattle.tnc_main.specs.Commands.{Reads, fault_of}
-use Rattle.tnc_main.specs.Parts.{WritesAtEnd}
 use Rattle.sensitive_receiver.proofs.SignalLaw.{near_law as all_lanes_law}
 
 -- an input with too many octets is refused for that by a command that reads all of it first

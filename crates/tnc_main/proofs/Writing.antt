@@ -1,46 +1,30 @@
 -- What commands write, by how they end.
-use Rattle.std.proofs.Common.{◌≡◌, ℕ, ◌<◌, ◌≤◌, List, [], ◌++◌, length, Option, Some, Result, Ok, Err, IfErr, inl, inr}
-use Rattle.std.proofs.Common.{append-nil, refl, sym, subst, ap, ◌∙◌, arith}
-use Rattle.std.specs.Prelude.{◌⊎◌, OnOk, OnErr}
+use Rattle.tnc_main.proofs.Common.{◌≡◌, ℕ, ◌<◌, ◌≤◌, List, [], ◌++◌, length, Option, Some, Result, Ok, Err, IfErr, inl}
+use Rattle.tnc_main.proofs.Common.{inr, append-nil, refl, sym, subst, ap, ◌∙◌, arith, ◌⊎◌, OnOk, OnErr}
+use Rattle.tnc_main.proofs.Common.{append_cancel_left, WrotePart, Command, Decode, Encode, Show, Loop, Bench, Serve}
+use Rattle.tnc_main.proofs.Common.{Help, Record, Call, Version, LoopWords, BenchOptions, Fault, InputFault, input_limit}
+use Rattle.tnc_main.proofs.Common.{encoded, encoded_before, LoopFault, BenchFault, CommandFault, IsReportOf, Status}
+use Rattle.tnc_main.proofs.Common.{BadInput, ReadFault, WriteFault, Stop, Input, Stray, NotQuiet, Spent, Memory, Read}
+use Rattle.tnc_main.proofs.Common.{Write, Makes, fault_of, HasAtMemory, MakesPart, WritesAtEnd, Writes, EndsAs}
+use Rattle.tnc_main.proofs.Common.{IsStopOfRun, end_of, end_of_bench, end_of_loop, status_of}
 use Rattle.std.proofs.lemmas.Bool.{cases_lt}
-use Rattle.std.proofs.lemmas.List.{append_cancel_left}
-use Rattle.tnc_base.specs.Streams.{WrotePart}
 use Rattle.slicer_bank.proofs.SomeList.{some_list}
 use Rattle.clean_signal.specs.TrueEnds.{true_ends}
-use Rattle.tnc_words.specs.declared.command.Command.{Command}
-use Rattle.tnc_words.specs.declared.command.Command.TheVariants.{Decode, Encode, Show, Loop, Bench, Serve, Help}
-use Rattle.tnc_words.specs.declared.command.Command.TheVariants.{Record, Call, Version}
-use Rattle.tnc_words.specs.declared.command.LoopWords.{LoopWords}
-use Rattle.tnc_words.specs.declared.command.BenchOptions.{BenchOptions}
-use Rattle.tnc_forms.specs.declared.fault.Fault.{Fault}
 use Rattle.tnc_forms.specs.declared.fault.Fault.TheVariants.{Input as OfInput, Memory as OfMemory, Read as OfRead}
 use Rattle.tnc_forms.specs.declared.fault.Fault.TheVariants.{Write as OfWrite}
-use Rattle.tnc_forms.specs.declared.fault.InputFault.{InputFault}
 use Rattle.tnc_forms.specs.HexFrames.{frames_in_lines}
-use Rattle.tnc_forms.specs.Reading.{input_limit}
 use Rattle.tnc_forms.proofs.WrittenParts.{wrote_all}
-use Rattle.tnc_encode.specs.Encoded.{encoded, encoded_before}
 use Rattle.tnc_encode.proofs.EncodedLemmas.{part_before}
-use Rattle.tnc_loop.specs.declared.fault.LoopFault.{LoopFault}
 use Rattle.tnc_loop.specs.declared.fault.LoopFault.TheVariants.{Stray as LoopStray, Memory as LoopMemory}
 use Rattle.tnc_loop.specs.declared.fault.LoopFault.TheVariants.{Write as LoopWrite}
 use Rattle.tnc_loop.specs.Drawn.{drawn, samples_drawn}
 use Rattle.tnc_loop.specs.Summary.{IsSummary, summary_of}
-use Rattle.channel_bench.specs.declared.report.BenchFault.{BenchFault}
 use Rattle.channel_bench.specs.declared.report.BenchFault.TheVariants.{Stray as BenchStray, NotQuiet as BenchNotQuiet}
 use Rattle.channel_bench.specs.declared.report.BenchFault.TheVariants.{Spent as BenchSpent, Memory as BenchMemory}
-use Rattle.tnc_bench.specs.declared.fault.CommandFault.{CommandFault}
 use Rattle.tnc_bench.specs.declared.fault.CommandFault.TheVariants.{Run as OfRun, Write as OfBenchWrite}
-use Rattle.tnc_bench.specs.Reported.{IsReportOf}
-use Rattle.tnc_main.specs.declared.status.Status.{Status}
-use Rattle.tnc_main.specs.declared.status.Status.TheVariants.{BadInput, Memory as NoMemory, ReadFault, WriteFault}
-use Rattle.tnc_main.specs.declared.stop.Stop.{Stop}
-use Rattle.tnc_main.specs.declared.stop.Stop.TheVariants.{Input, Stray, NotQuiet, Spent, Memory, Read, Write}
-use Rattle.tnc_main.specs.Commands.{FindsNoQuiet, IsSpent, Makes, MakesUpToFault, Strays, fault_of}
-use Rattle.tnc_main.specs.Parts.{Begins, HasAtMemory, HasAtWriteFault, IsRefused, MakesAtReadFault, MakesAtStray}
-use Rattle.tnc_main.specs.Parts.{MakesFirst, MakesPart, WritesAtEnd}
-use Rattle.tnc_main.specs.Runs.{Writes}
-use Rattle.tnc_main.specs.Stops.{EndsAs, IsStopOfRun, end_of, end_of_bench, end_of_loop, status_of}
+use Rattle.tnc_main.specs.declared.status.Status.TheVariants.{Memory as NoMemory}
+use Rattle.tnc_main.specs.Commands.{FindsNoQuiet, IsSpent, MakesUpToFault, Strays}
+use Rattle.tnc_main.specs.Parts.{Begins, HasAtWriteFault, IsRefused, MakesAtReadFault, MakesAtStray, MakesFirst}
 
 -- all words of loop have a summary
 pub some_summary : (words : LoopWords) → (text : List ℕ) × IsSummary words text

@@ -1,15 +1,10 @@
 -- What sockets tell of a turn, call by call.
-use Rattle.std.specs.Prelude.{◌≡◌, ◌≢◌, ℕ, ◌≤◌, ◌==◌, Bool, true, false, if◌then◌else◌, List, [], ◌∷◌, ◌++◌, All}
-use Rattle.std.specs.Prelude.{length, map, take, Some, refl}
-use Rattle.std.proofs.Common.{sym, ◌∙◌, ap, subst, arith, inl, inr, append_assoc}
-use Rattle.std.proofs.lemmas.Bool.{eqb-true, eq-eqb, cases_Bool, true≢false}
-use Rattle.std.proofs.lemmas.Grind.{flat_map-append}
-use Rattle.std.proofs.lemmas.List.{append-nil, length-append}
-use Rattle.tnc_base.specs.Faults.{HasRisen}
-use Rattle.station.specs.declared.host_event.HostEvent.{HostEvent}
-use Rattle.tnc_ports.specs.AskedPorts.{Told, AreUnasked, IsAsked, AreOffered, AreShut, send_of, taken_of, poll_wait}
-use Rattle.tnc_ports.specs.HostTurns.{Offer}
-use Rattle.tnc_ports.specs.Sockets.{Poll, Send, MayCome}
+use Rattle.tnc_ports.proofs.Common.{◌≢◌, ◌==◌, Bool, true, false, if◌then◌else◌, List, ◌∷◌, All, Some, sym, ◌∙◌, ap}
+use Rattle.tnc_ports.proofs.Common.{subst, arith, inl, inr, append_assoc, eqb-true, eq-eqb, cases_Bool, true≢false}
+use Rattle.tnc_ports.proofs.Common.{flat_map-append, append-nil, length-append, HasRisen, HostEvent, Told, AreUnasked}
+use Rattle.tnc_ports.proofs.Common.{IsAsked, AreOffered, AreShut, send_of, taken_of, Offer, Poll, Send, MayCome}
+use Rattle.std.specs.Prelude.{◌≡◌, ℕ, ◌≤◌, [], ◌++◌, length, map, take, refl}
+use Rattle.tnc_ports.specs.AskedPorts.{poll_wait}
 
 pub risen_later : (a b c d : ℕ) → a ≤ b → HasRisen b c → c ≤ d → HasRisen a d
 risen_later a b c d before rises after = grind (arith)

@@ -1,23 +1,14 @@
 -- What a step says, piece by piece.
-use Rattle.std.specs.Prelude.{◌≡◌, ℕ, ◌+◌, ◌<◌, ◌≤◌, ◌==◌, ◌||◌, Bool, true, false, List, [], ◌∷◌, ◌++◌, length, take}
-use Rattle.std.specs.Prelude.{All, Some, refl}
-use Rattle.std.specs.List.{list_any}
+use Rattle.tnc_ports.proofs.Common.{◌==◌, ◌||◌, Bool, true, false, List, ◌∷◌, All, Some, list_any, sym, ◌∙◌, ap, subst}
+use Rattle.tnc_ports.proofs.Common.{arith, inl, inr, get_or, set, eqb-true, cond-true, cond-false, or_cases, true≢false}
+use Rattle.tnc_ports.proofs.Common.{false_from_ne_true, le-leb, take_more, list_any-append, Piece, HostParts, Line}
+use Rattle.tnc_ports.proofs.Common.{ReportLine, AreParts, Moves, Narrows, is_named, Hosts, cutting, appending}
+use Rattle.tnc_ports.proofs.Common.{appending_one, appending_to, closing_all, closing_one, waiting_too, with_waiting}
+use Rattle.tnc_ports.proofs.Common.{fits, line_of, is_line_of, is_among, is_within, most_octets, octets_of, with_piece}
+use Rattle.std.specs.Prelude.{◌≡◌, ℕ, ◌+◌, ◌<◌, ◌≤◌, [], ◌++◌, length, take, refl}
 use Rattle.std.specs.Vec.{with_item}
-use Rattle.std.proofs.Common.{sym, ◌∙◌, ap, subst, arith, inl, inr, get_or, set}
-use Rattle.std.proofs.lemmas.Bool.{eqb-true, cond-true, cond-false, or_cases, true≢false, false_from_ne_true, le-leb}
 use Rattle.std.proofs.lemmas.Bool.{lt-leb}
-use Rattle.std.proofs.lemmas.List.{take_more}
-use Rattle.std.proofs.lemmas.List.Folds.{list_any-append}
-use Rattle.station.specs.declared.host_out.Piece.{Piece}
 use Rattle.station.specs.StandsFor.{StandsFor as StandsForStation}
-use Rattle.tnc_ports.specs.declared.host_parts.HostParts.{HostParts}
-use Rattle.tnc_ports.specs.declared.line.Line.{Line}
-use Rattle.tnc_ports.specs.declared.report_line.ReportLine.{ReportLine}
-use Rattle.tnc_ports.specs.HeldHosts.{AreParts, Moves, Narrows, is_named}
-use Rattle.tnc_ports.specs.Hosts.{Hosts, cutting, appending, appending_one, appending_to, closing_all}
-use Rattle.tnc_ports.specs.Hosts.{closing_one, waiting_too, with_waiting, fits, line_of, is_line_of, is_among}
-use Rattle.tnc_ports.specs.IdRanges.{is_within}
-use Rattle.tnc_ports.specs.Waiting.{most_octets, octets_of, with_piece}
 use Rattle.tnc_ports.proofs.LineLemmas.{waiting_names, waiting_length, waiting_same}
 use Rattle.tnc_ports.proofs.MoveLemmas.{moves_then, moves_as}
 

@@ -1,17 +1,10 @@
 -- What connections are sent is what they take of their offers: no other step sends anything.
-use Rattle.std.specs.Prelude.{◌≡◌, ℕ, ◌==◌, if◌then◌else◌, List, [], ◌∷◌, ◌++◌, take, Option, Some, None, refl}
-use Rattle.std.proofs.Common.{sym, ◌∙◌, ap, subst, inl, inr, append_assoc}
-use Rattle.std.proofs.lemmas.Grind.{flat_map-append}
-use Rattle.std.proofs.lemmas.List.{append-nil}
-use Rattle.station.specs.declared.host_event.HostEvent.{HostEvent}
-use Rattle.station.specs.declared.host_out.Piece.{Piece}
-use Rattle.tnc_ports.specs.declared.line.Line.{Line}
-use Rattle.tnc_ports.specs.AskedPorts.{taken_of}
-use Rattle.tnc_ports.specs.Hosts.{Hosts, cutting, line_of, AllHaveLeft}
-use Rattle.tnc_ports.specs.HostTurns.{Asked, Offer, Offering, InOrder, AreTried, IsTaken, IsOffered, IsOfferedTo, Takes}
-use Rattle.tnc_ports.specs.HostTurns.{IsHostPart, ids_of_lines}
-use Rattle.tnc_ports.specs.SentSoFar.{octets_for}
-use Rattle.tnc_ports.specs.Waiting.{front_of}
+use Rattle.tnc_ports.proofs.Common.{◌==◌, if◌then◌else◌, List, ◌∷◌, Option, Some, None, sym, ◌∙◌, ap, subst, inl, inr}
+use Rattle.tnc_ports.proofs.Common.{append_assoc, flat_map-append, append-nil, HostEvent, Piece, Line, taken_of, Hosts}
+use Rattle.tnc_ports.proofs.Common.{cutting, line_of, AllHaveLeft, Asked, Offer, Offering, InOrder, AreTried, IsTaken}
+use Rattle.tnc_ports.proofs.Common.{IsOffered, IsOfferedTo, IsHostPart, ids_of_lines, octets_for, front_of}
+use Rattle.std.specs.Prelude.{◌≡◌, ℕ, [], ◌++◌, take, refl}
+use Rattle.tnc_ports.specs.HostTurns.{Takes}
 use Rattle.tnc_ports.proofs.KeptLemmas.{IsKeptByStep, IsKeptByTaking, kept_left, kept_tried, kept_takes}
 
 sent_by_step : (sent : List Piece) → IsKeptByStep (λ hosts. hosts.sent ≡ sent)

@@ -1,22 +1,13 @@
 -- What each change of hosts keeps, each step keeps, and so does each part of a turn.
-use Rattle.std.specs.Prelude.{◌≡◌, ℕ, zero, suc, true, false, List, [], ◌∷◌, ◌++◌, take, Option, Some, None, refl}
-use Rattle.std.specs.List.{list_any}
-use Rattle.std.proofs.Common.{sym, ◌∙◌, ap, subst, inl, inr}
-use Rattle.std.proofs.lemmas.Bool.{cases_Bool, cond-true, cond-false, or_left, or_right}
-use Rattle.station.specs.State.{StationState}
-use Rattle.station.specs.declared.host_event.HostEvent.{HostEvent}
-use Rattle.station.specs.declared.host_event.HostEvent.TheVariants.{Joined, Bytes, Left}
-use Rattle.station.specs.declared.host_out.Piece.{Piece}
-use Rattle.station.specs.Turn.{Turn}
-use Rattle.tnc_ports.specs.declared.line.Line.{Line}
-use Rattle.tnc_ports.specs.declared.untaken.Untaken.{Untaken}
-use Rattle.tnc_ports.specs.Hosts.{Hosts, without, closing, cutting, waiting_too, with_waiting, fits, appending}
-use Rattle.tnc_ports.specs.Hosts.{appending_one, appending_to, closing_one, closing_all, line_of, is_among, is_there}
-use Rattle.tnc_ports.specs.Hosts.{was_there, IsDelivered, HaveLeft, AllHaveLeft, IsStep}
-use Rattle.tnc_ports.specs.HostTurns.{Asked, Offering, InOrder, IsTried, AreTried, AreTaken, IsTaken, IsOffered}
-use Rattle.tnc_ports.specs.HostTurns.{IsOfferedTo, IsHostPart, joining, ids_of_lines}
-use Rattle.tnc_ports.specs.Sockets.{is_joining_of}
-use Rattle.tnc_ports.specs.Waiting.{after_sending, front_of}
+use Rattle.tnc_ports.proofs.Common.{zero, suc, true, false, List, ◌∷◌, Option, Some, None, list_any, sym, ◌∙◌, ap}
+use Rattle.tnc_ports.proofs.Common.{subst, inl, inr, cases_Bool, cond-true, cond-false, or_left, or_right, StationState}
+use Rattle.tnc_ports.proofs.Common.{HostEvent, Joined, Bytes, Left, Piece, Turn, Line, Untaken, Hosts, without, closing}
+use Rattle.tnc_ports.proofs.Common.{cutting, waiting_too, with_waiting, fits, appending, appending_one, appending_to}
+use Rattle.tnc_ports.proofs.Common.{closing_one, closing_all, line_of, is_among, is_there, was_there, IsDelivered}
+use Rattle.tnc_ports.proofs.Common.{HaveLeft, AllHaveLeft, IsStep, Asked, Offering, InOrder, IsTried, AreTried}
+use Rattle.tnc_ports.proofs.Common.{AreTaken, IsTaken, IsOffered, IsOfferedTo, IsHostPart, joining, ids_of_lines}
+use Rattle.tnc_ports.proofs.Common.{is_joining_of, after_sending, front_of}
+use Rattle.std.specs.Prelude.{◌≡◌, ℕ, [], ◌++◌, take, refl}
 use Rattle.tnc_ports.proofs.LineLemmas.{there_line, found_id}
 use Rattle.tnc_ports.proofs.NamedLemmas.{itself}
 

@@ -1,14 +1,8 @@
 -- The station is told of the connections that were shut, one after another.
-use Rattle.std.specs.Prelude.{◌≡◌, ℕ, suc, ◌==◌, true, List, [], ◌∷◌, drop, Some}
-use Rattle.std.specs.List.{list_any, slice_get}
-use Rattle.std.proofs.Common.{◌∙◌, ap}
-use Rattle.std.proofs.lemmas.Bool.{or_left, or_right}
-use Rattle.station.specs.declared.host_event.HostEvent.TheVariants.{Left}
-use Rattle.station.specs.Host.{IsHostTurn}
-use Rattle.tnc_ports.specs.declared.host_parts.HostParts.{HostParts}
-use Rattle.tnc_ports.specs.declared.report_line.ReportLine.{ReportLine}
-use Rattle.tnc_ports.specs.HeldHosts.{AreParts, Moves, MovesBy, IsKnown, is_known}
-use Rattle.tnc_ports.specs.Hosts.{Hosts, without, is_line_of, is_among, IsDelivered, HaveLeft}
+use Rattle.tnc_ports.proofs.Common.{suc, ◌==◌, true, List, ◌∷◌, Some, list_any, slice_get, ◌∙◌, ap, or_left, or_right}
+use Rattle.tnc_ports.proofs.Common.{Left, IsHostTurn, HostParts, ReportLine, AreParts, Moves, MovesBy, IsKnown}
+use Rattle.tnc_ports.proofs.Common.{is_known, Hosts, without, is_line_of, is_among, IsDelivered, HaveLeft}
+use Rattle.std.specs.Prelude.{◌≡◌, ℕ, [], drop}
 use Rattle.tnc_ports.proofs.NamedLemmas.{itself}
 
 -- whatever hosts the first parts stand for, the station was told of some that left

@@ -1,3 +1,4 @@
+pub mod Common
 pub mod PairLemmas
 pub mod RealLemmas
 pub mod PumpLemmas

@@ -1,11 +1,9 @@
 -- The place of a connection.
-use Rattle.std.specs.Prelude.{◌≡◌, ℕ, zero, suc, ◌<◌, ◌≤◌, ◌==◌, ◌||◌, Bool, true, false, List, [], ◌∷◌, length, take}
-use Rattle.std.specs.Prelude.{cond, Option, Some, None, refl}
-use Rattle.std.specs.List.{list_any}
-use Rattle.std.proofs.Common.{◌≢◌, sym, ◌∙◌, ap, arith, get_or, set, subst}
-use Rattle.std.proofs.lemmas.Bool.{cond-true, cond-false, eqb-true, eq-eqb, ne_eqb, true≢false}
-use Rattle.tnc_ports.specs.declared.line.Line.{Line}
-use Rattle.tnc_ports.specs.Hosts.{is_line_of, line_of, with_waiting}
+use Rattle.tnc_ports.proofs.Common.{zero, suc, ◌==◌, ◌||◌, Bool, true, false, List, ◌∷◌, cond, Option, Some, None}
+use Rattle.tnc_ports.proofs.Common.{list_any, sym, ◌∙◌, ap, arith, get_or, set, subst, cond-true, cond-false, eqb-true}
+use Rattle.tnc_ports.proofs.Common.{eq-eqb, ne_eqb, true≢false, Line, is_line_of, line_of, with_waiting}
+use Rattle.std.specs.Prelude.{◌≡◌, ℕ, ◌<◌, ◌≤◌, [], length, take, refl}
+use Rattle.std.proofs.Common.{◌≢◌}
 
 pub line_at : (id : ℕ) (lines : List Line) (k : ℕ) (d : Line) → k < length lines
     → ((j : ℕ) (e : Line) → j < k → (get_or lines j e).id ≡ id → ⊥) → (get_or lines k d).id ≡ id

@@ -1,26 +1,15 @@
 -- What turns did for the hosts, one after another and all together.
-use Rattle.std.specs.Prelude.{◌≡◌, ◌⊎◌, ℕ, zero, suc, ◌==◌, ◌||◌, Bool, true, false, List, [], ◌∷◌, ◌++◌, All, map}
-use Rattle.std.specs.Prelude.{Option, Some, None, refl}
-use Rattle.std.specs.List.{list_any}
-use Rattle.std.proofs.Common.{sym, ◌∙◌, ap, subst, arith, inl, inr, append_assoc}
-use Rattle.std.proofs.lemmas.Bool.{cases_Bool, or_parts, or_cases, or_left, or_right, false≢true, true≢false, eqb-true}
-use Rattle.std.proofs.lemmas.Bool.{ne_eqb, eq-eqb}
-use Rattle.std.proofs.lemmas.Grind.{flat_map-append}
-use Rattle.std.proofs.lemmas.List.{append-nil, map-append}
-use Rattle.std.proofs.lemmas.List.Elements.{All-append}
-use Rattle.std.proofs.lemmas.List.Folds.{list_any-append}
-use Rattle.tnc_ports.specs.declared.line.Line.{Line}
-use Rattle.tnc_ports.specs.declared.report_line.ReportLine.{ReportLine}
-use Rattle.tnc_ports.specs.declared.report_line.ReportLine.TheVariants.{ReceivedLine, SentLine}
-use Rattle.tnc_ports.specs.AskedPorts.{poll_of, taken_of}
-use Rattle.tnc_ports.specs.CutPart.{IsCutPart, IsCutInTaking, IsCutInSending}
-use Rattle.tnc_ports.specs.Hosts.{Hosts, line_of, is_among, was_there}
-use Rattle.tnc_ports.specs.HostTurns.{Asked, Offer, Offering, InOrder, AreTried, IsTaken, IsOffered, IsOfferedTo}
-use Rattle.tnc_ports.specs.HostTurns.{IsHostPart, ids_of_lines}
-use Rattle.tnc_ports.specs.SentSoFar.{octets_for, IsOrderly}
-use Rattle.tnc_ports.specs.ServedHosts.{NoneTwice, octets_to, ids_sent_to, ids_shut, ids_closed, closed_by}
-use Rattle.tnc_ports.specs.ServedHosts.{IsShutHavingCome, AreSentInTurns, AreShutInTurns}
-use Rattle.tnc_ports.specs.Sockets.{Poll, has_come, is_joining_of}
+use Rattle.tnc_ports.proofs.Common.{◌⊎◌, zero, suc, ◌==◌, ◌||◌, Bool, true, false, List, ◌∷◌, All, Option, Some, None}
+use Rattle.tnc_ports.proofs.Common.{list_any, sym, ◌∙◌, ap, subst, arith, inl, inr, append_assoc, cases_Bool, or_parts}
+use Rattle.tnc_ports.proofs.Common.{or_cases, or_left, or_right, false≢true, true≢false, eqb-true, ne_eqb, eq-eqb}
+use Rattle.tnc_ports.proofs.Common.{flat_map-append, append-nil, map-append, All-append, list_any-append, Line}
+use Rattle.tnc_ports.proofs.Common.{ReportLine, ReceivedLine, SentLine, poll_of, taken_of, IsCutInSending, Hosts}
+use Rattle.tnc_ports.proofs.Common.{line_of, is_among, was_there, Asked, Offer, Offering, InOrder, AreTried, IsTaken}
+use Rattle.tnc_ports.proofs.Common.{IsOffered, IsOfferedTo, IsHostPart, ids_of_lines, octets_for, IsOrderly, NoneTwice}
+use Rattle.tnc_ports.proofs.Common.{octets_to, ids_closed, closed_by, IsShutHavingCome, Poll, has_come, is_joining_of}
+use Rattle.std.specs.Prelude.{◌≡◌, ℕ, [], ◌++◌, map, refl}
+use Rattle.tnc_ports.specs.CutPart.{IsCutPart, IsCutInTaking}
+use Rattle.tnc_ports.specs.ServedHosts.{ids_sent_to, ids_shut, AreSentInTurns, AreShutInTurns}
 use Rattle.tnc_ports.proofs.GivenLemmas.{offers_given}
 use Rattle.tnc_ports.proofs.KeptLemmas.{IsKeptByStep, IsKeptByPart, kept_tried, kept_takes, kept_offers}
 use Rattle.tnc_ports.proofs.LineLemmas.{found_id}

@@ -1,23 +1,12 @@
 -- The gap lines of the report are the gaps that the readers were told of.
-use Rattle.std.specs.Prelude.{◌≡◌, ℕ, zero, suc, ◌+◌, ◌<◌, ◌==◌, Bool, false, List, [], ◌∷◌, ◌++◌, length, map, refl}
-use Rattle.std.proofs.Common.{sym, ◌∙◌, ap, subst, arith, get_or}
-use Rattle.std.proofs.lemmas.Bool.{cond-true, cond-false, eq-eqb, ne_eqb}
-use Rattle.std.proofs.lemmas.Grind.{flat_map-append}
-use Rattle.std.proofs.lemmas.List.{append-nil, map-append}
-use Rattle.sample_ring.specs.declared.got.Got.{Got}
-use Rattle.sample_ring.specs.declared.got.Got.TheVariants.{Item, Gap, Empty, End}
-use Rattle.slicer_bank.specs.declared.advance.LaneGap.{LaneGap}
-use Rattle.slicer_bank.specs.HeardOnRing.{lane_of}
-use Rattle.slicer_bank.specs.RingTurns.{gaps_of, gaps_from}
-use Rattle.ring_receiver.specs.Readers.{readers_wanted}
-use Rattle.station.specs.declared.host_event.HostEvent.{HostEvent}
-use Rattle.tnc_ports.specs.declared.report_line.ReportLine.{ReportLine}
-use Rattle.tnc_ports.specs.declared.serve_words.ServeWords.{ServeWords}
-use Rattle.tnc_ports.specs.declared.report_line.ReportLine.TheVariants.{ClosedLine, ReceivedLine, SentLine}
-use Rattle.tnc_ports.specs.Hosts.{Hosts}
-use Rattle.tnc_ports.specs.ReportedGaps.{gap_by, gaps_in, AreAllGaps, AreFirstGaps}
-use Rattle.tnc_ports.specs.Sampled.{Live, LanesReadOn, gap_line}
-use Rattle.tnc_ports.specs.ServedHosts.{ids_closed, closed_by}
+use Rattle.tnc_ports.proofs.Common.{zero, suc, ◌==◌, Bool, false, List, ◌∷◌, sym, ◌∙◌, ap, subst, arith, get_or}
+use Rattle.tnc_ports.proofs.Common.{cond-true, cond-false, eq-eqb, ne_eqb, flat_map-append, append-nil, map-append, Got}
+use Rattle.tnc_ports.proofs.Common.{Item, Gap, Empty, End, LaneGap, lane_of, gaps_of, readers_wanted, HostEvent}
+use Rattle.tnc_ports.proofs.Common.{ReportLine, ServeWords, ClosedLine, ReceivedLine, SentLine, Hosts, gaps_in}
+use Rattle.tnc_ports.proofs.Common.{AreAllGaps, AreFirstGaps, Live, LanesReadOn, gap_line, ids_closed, closed_by}
+use Rattle.std.specs.Prelude.{◌≡◌, ℕ, ◌+◌, ◌<◌, [], ◌++◌, length, map, refl}
+use Rattle.slicer_bank.specs.RingTurns.{gaps_from}
+use Rattle.tnc_ports.specs.ReportedGaps.{gap_by}
 use Rattle.tnc_ports.proofs.KeptLemmas.{IsKeptByStep, IsKeptByPart}
 use Rattle.tnc_ports.proofs.LiveKept.{IsKeptByFrames}
 

@@ -1,16 +1,9 @@
 -- What each step of hosts keeps, and the lines of a monitor too, each frame and each tick keeps.
-use Rattle.std.specs.Prelude.{◌≡◌, ◌⊎◌, ℕ, zero, suc, Bool, true, false, List, [], ◌∷◌, ◌++◌, Option, Some, None}
-use Rattle.std.proofs.Common.{sym, ◌∙◌, ap, subst, inl, inr}
-use Rattle.std.proofs.lemmas.List.{append-nil}
-use Rattle.channel_access.specs.declared.air_tick.AirTick.{AirTick}
-use Rattle.channel_access.specs.declared.air_tick.Sent.{Sent}
-use Rattle.frame_merge.specs.declared.candidate.Candidate.{Candidate}
-use Rattle.station.specs.Links.{Links}
-use Rattle.tnc_ports.specs.declared.report_line.ReportLine.{ReportLine}
-use Rattle.tnc_ports.specs.declared.report_line.ReportLine.TheVariants.{ReceivedLine, SentLine}
-use Rattle.tnc_ports.specs.Hosts.{Hosts}
-use Rattle.tnc_ports.specs.Sampled.{Live, AreHeard, AreTicked}
-use Rattle.tnc_ports.specs.SampledFrames.{AreReceivedLines, AreSentLines, IsFrameHeard, IsTickMade, with_lines}
+use Rattle.tnc_ports.proofs.Common.{◌⊎◌, zero, suc, Bool, true, false, List, ◌∷◌, Option, Some, None, sym, ◌∙◌, ap}
+use Rattle.tnc_ports.proofs.Common.{subst, inl, inr, append-nil, AirTick, Sent, Candidate, Links, ReportLine}
+use Rattle.tnc_ports.proofs.Common.{ReceivedLine, SentLine, Hosts, Live, AreHeard, AreTicked, AreReceivedLines}
+use Rattle.tnc_ports.proofs.Common.{AreSentLines, IsFrameHeard, IsTickMade, with_lines}
+use Rattle.std.specs.Prelude.{◌≡◌, ℕ, [], ◌++◌}
 use Rattle.tnc_ports.proofs.KeptLemmas.{IsKeptByStep, kept_step}
 
 pub record IsKeptByFrames (P : Hosts → Type 0) : Type 0 where

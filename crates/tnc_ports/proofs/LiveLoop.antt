@@ -1,18 +1,13 @@
 -- All turns of a live station, from the first to the last.
-use Rattle.std.specs.Prelude.{Bool, true, false, Some}
-use Rattle.std.proofs.Common.{◌≡◌, ℕ, suc, ◌≤◌, ◌⊎◌, [], ◌∷◌, ◌++◌, refl, sym, ap, subst, inl, inr, ◌∙◌, arith}
-use Rattle.ring_receiver.specs.HeldReceiver.{HeldReceiver, answers_in}
-use Rattle.tnc_base.specs.Streams.{WrotePart}
-use Rattle.tnc_ports.specs.declared.looping.LoopEnd.TheVariants.{Done, Memory, WriteFault}
-use Rattle.tnc_ports.specs.declared.serve_words.ServeWords.{ServeWords}
-use Rattle.tnc_ports.specs.declared.turning.Turning.{Turning}
-use Rattle.tnc_ports.specs.AskedPorts.{Told}
-use Rattle.tnc_ports.specs.ReportText.{output_octets, report_text}
-use Rattle.tnc_ports.specs.Sampled.{Live, new_live, IsTurn}
-use Rattle.tnc_ports.specs.SampledHeld.{StandsForLive, Turns, IsCutOff, Runs, output_of, report_of, told_in}
-use Rattle.tnc_ports.specs.SampledRun.{Outside, IsRun, IsCutRun, IsCutTurn, IsCutInServing, PortsTell, PortsStay}
-use Rattle.tnc_ports.specs.SampledRun.{AllIsWritten, PartIsWritten, IsWhole, IsLooped}
-use Rattle.tnc_ports.specs.SampledWrites.{Stream, WritesMore}
+use Rattle.tnc_ports.proofs.Common.{Bool, true, false, Some, ◌≡◌, ℕ, ◌≤◌, [], ◌++◌, refl, sym, ap, subst, inl, inr, ◌∙◌}
+use Rattle.tnc_ports.proofs.Common.{arith, HeldReceiver, answers_in, WrotePart, Memory, ServeWords, Turning, Told}
+use Rattle.tnc_ports.proofs.Common.{output_octets, report_text, Live, new_live, IsTurn, StandsForLive, Turns, IsCutOff}
+use Rattle.tnc_ports.proofs.Common.{Runs, told_in, Outside, IsRun, IsCutRun, IsCutTurn, IsCutInServing, PortsTell}
+use Rattle.tnc_ports.proofs.Common.{AllIsWritten, IsLooped, Stream, WritesMore}
+use Rattle.std.proofs.Common.{suc, ◌⊎◌, ◌∷◌}
+use Rattle.tnc_ports.specs.declared.looping.LoopEnd.TheVariants.{Done, WriteFault}
+use Rattle.tnc_ports.specs.SampledHeld.{output_of, report_of}
+use Rattle.tnc_ports.specs.SampledRun.{PortsStay, PartIsWritten, IsWhole}
 use Rattle.tnc_ports.proofs.LiveSteps.{turns_more}
 use Rattle.tnc_ports.proofs.LiveAccounts.{are_sent, are_shut, accounted_cut}
 use Rattle.tnc_ports.proofs.LiveServed.{served_run, served_cut, all_told}

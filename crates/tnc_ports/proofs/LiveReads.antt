@@ -1,33 +1,15 @@
 -- What readers read, and what is due of it.
-use Rattle.std.specs.Prelude.{Bool, true, false, All}
-use Rattle.std.proofs.Common.{◌≡◌, ℕ, ◌<◌, ◌≤◌, List, [], ◌∷◌, ◌++◌, map, get_or, refl, sym, ap, subst, ◌∙◌}
-use Rattle.std.proofs.lemmas.List.{get_or_default, map-append}
+use Rattle.tnc_ports.proofs.Common.{Bool, true, false, All, ◌≡◌, ℕ, ◌<◌, ◌≤◌, [], ◌++◌, map, get_or, refl, sym, ap}
+use Rattle.tnc_ports.proofs.Common.{subst, ◌∙◌, map-append, get_or-map, Candidate, Got, End, Reader, Track, record_of}
+use Rattle.tnc_ports.proofs.Common.{answer, LaneGap, lane_of, least_position, answers_of, MeetsEnd, AreDueBy}
+use Rattle.tnc_ports.proofs.Common.{HeldReceiver, readers_in, answers_in, Hears, EightListen, readers_wanted, Turning}
+use Rattle.tnc_ports.proofs.Common.{ServeWords, StandsFor, report_text, Live, HaveEnded, gap_line, with_lines}
+use Rattle.tnc_ports.proofs.Common.{StandsForLive, Reads, IsCutInReading, Stream, Puts}
+use Rattle.std.proofs.Common.{List, ◌∷◌}
+use Rattle.std.proofs.lemmas.List.{get_or_default}
 use Rattle.std.proofs.lemmas.List.Elements.{Contains-append_right}
-use Rattle.std.proofs.Math.ListN.{get_or-map}
-use Rattle.frame_merge.specs.declared.candidate.Candidate.{Candidate}
-use Rattle.sample_ring.specs.declared.got.Got.{Got}
-use Rattle.sample_ring.specs.declared.got.Got.TheVariants.{End}
-use Rattle.sample_ring.specs.declared.reader.Reader.{Reader}
-use Rattle.sample_ring.specs.declared.view.Track.{Track}
-use Rattle.sample_ring.specs.Ends.{record_of}
-use Rattle.sample_ring.specs.Record.{answer}
-use Rattle.slicer_bank.specs.declared.advance.LaneGap.{LaneGap}
-use Rattle.slicer_bank.specs.HeardOnRing.{lane_of, least_position}
-use Rattle.slicer_bank.specs.RingLanes.{answers_of}
-use Rattle.slicer_bank.specs.RingTurns.{MeetsEnd}
-use Rattle.ring_receiver.specs.HeardByAll.{AreDueBy}
-use Rattle.ring_receiver.specs.HeldReceiver.{HeldReceiver, readers_in, records_in, answers_in, Hears, EightListen}
-use Rattle.ring_receiver.specs.Readers.{readers_wanted}
+use Rattle.ring_receiver.specs.HeldReceiver.{records_in}
 use Rattle.ring_receiver.specs.Turns.{IsTurnOf, AreAnsweredMore, AreGrownBy}
-use Rattle.tnc_ports.specs.declared.turning.Turning.{Turning}
-use Rattle.tnc_ports.specs.declared.serve_words.ServeWords.{ServeWords}
-use Rattle.tnc_ports.specs.HeldHosts.{StandsFor}
-use Rattle.tnc_ports.specs.ReportText.{report_text}
-use Rattle.tnc_ports.specs.Sampled.{Live, HaveEnded, gap_line}
-use Rattle.tnc_ports.specs.SampledFrames.{with_lines}
-use Rattle.tnc_ports.specs.SampledHeld.{StandsForLive, Reads}
-use Rattle.tnc_ports.specs.SampledRun.{IsCutInReading}
-use Rattle.tnc_ports.specs.SampledWrites.{Stream, Puts}
 use Rattle.tnc_ports.proofs.LiveSteps.{relined}
 
 -- ---- the end

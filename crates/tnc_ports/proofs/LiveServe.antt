@@ -1,42 +1,27 @@
 -- Facts on serving as a whole.
-use Rattle.std.specs.Prelude.{Bool, true, false, Contains, ℤ, Some, None, ◌==◌, nat_lt, if◌then◌else◌, zero, suc}
-use Rattle.std.specs.Prelude.{Result, Ok, Err, is_err, OnOk, All, replicate}
-use Rattle.std.proofs.Common.{◌≡◌, ◌≢◌, ℕ, ◌+◌, ◌-◌, ◌<◌, ⊎_elim, List, [], ◌∷◌, ◌++◌, get_or, length, map, refl, sym}
-use Rattle.std.proofs.Common.{ap, subst, inl, inr, ◌∙◌, arith}
-use Rattle.std.proofs.lemmas.List.{append-nil, length-map}
+use Rattle.tnc_ports.proofs.Common.{Bool, true, false, Contains, ℤ, Some, None, ◌==◌, if◌then◌else◌, zero, suc, Result}
+use Rattle.tnc_ports.proofs.Common.{Ok, Err, is_err, OnOk, All, replicate, ◌≡◌, ℕ, ◌+◌, ◌-◌, ◌<◌, [], ◌++◌, get_or}
+use Rattle.tnc_ports.proofs.Common.{length, map, refl, sym, ap, subst, inl, inr, ◌∙◌, arith, append-nil, length-map}
+use Rattle.tnc_ports.proofs.Common.{get_or-map, Got, Item, Gap, Empty, End, Reader, Track, record_of, answer, StandsIn}
+use Rattle.tnc_ports.proofs.Common.{lane_of, answers_of, MeetsEnd, HeldReceiver, answers_in, Hears, readers_wanted}
+use Rattle.tnc_ports.proofs.Common.{Memory, false≢true, InputEnd, ReadFault, TooLong, ServeWords, new_live, HaveEnded}
+use Rattle.tnc_ports.proofs.Common.{Turning, StandsFor, new_hosts, StandsForLive, Outside, IsCutInReading, IsCutRun}
+use Rattle.tnc_ports.proofs.Common.{IsLooped, AllIsWritten}
+use Rattle.std.specs.Prelude.{nat_lt}
+use Rattle.std.proofs.Common.{◌≢◌, ⊎_elim, List, ◌∷◌}
 use Rattle.std.proofs.lemmas.List.Elements.{All-head, All-tail, Contains-append_cases}
 use Rattle.std.proofs.lemmas.Option.{slice_get_past}
-use Rattle.std.proofs.Math.ListN.{get_or-map}
-use Rattle.sample_ring.specs.declared.got.Got.{Got}
-use Rattle.sample_ring.specs.declared.got.Got.TheVariants.{Item, Gap, Empty, End}
-use Rattle.sample_ring.specs.declared.reader.Reader.{Reader}
 use Rattle.sample_ring.specs.declared.view.Entry.{Entry}
-use Rattle.sample_ring.specs.declared.view.Track.{Track}
 use Rattle.sample_ring.specs.Cells.{lap_of, sample_of}
-use Rattle.sample_ring.specs.Ends.{record_of}
-use Rattle.sample_ring.specs.Record.{answer, next, Stands, StandsAs, StandsIn, Tiles}
-use Rattle.slicer_bank.specs.HeardOnRing.{lane_of}
-use Rattle.slicer_bank.specs.RingLanes.{answers_of}
-use Rattle.slicer_bank.specs.RingTurns.{MeetsEnd}
-use Rattle.ring_receiver.specs.HeldReceiver.{HeldReceiver, answers_in, Hears}
-use Rattle.ring_receiver.specs.Readers.{readers_wanted}
+use Rattle.sample_ring.specs.Record.{next, Stands, StandsAs, Tiles}
 use Rattle.tnc_ports.specs.declared.looping.LoopEnd.{LoopEnd}
-use Rattle.tnc_ports.specs.declared.looping.LoopEnd.TheVariants.{Done as LoopDone, Memory, WriteFault as LoopFault}
-use Rattle.std.proofs.lemmas.Bool.{false≢true}
+use Rattle.tnc_ports.specs.declared.looping.LoopEnd.TheVariants.{Done as LoopDone, WriteFault as LoopFault}
 use Rattle.tnc_ports.specs.declared.records.Listen.{Listen}
 use Rattle.tnc_ports.specs.declared.serving.ServeEnd.{ServeEnd}
 use Rattle.tnc_ports.specs.declared.serving.ServeEnd.TheVariants.{Memory as NoMemory, NoThread}
 use Rattle.tnc_ports.specs.declared.pumping.PumpEnd.{PumpEnd}
-use Rattle.tnc_ports.specs.declared.pumping.PumpEnd.TheVariants.{InputEnd, ReadFault, TooLong}
-use Rattle.tnc_ports.specs.declared.serve_words.ServeWords.{ServeWords}
-use Rattle.tnc_ports.specs.Sampled.{new_live, HaveEnded}
-use Rattle.tnc_ports.specs.declared.turning.Turning.{Turning}
-use Rattle.tnc_ports.specs.HeldHosts.{StandsFor}
-use Rattle.tnc_ports.specs.Hosts.{new_hosts}
-use Rattle.tnc_ports.specs.SampledHeld.{StandsForLive}
-use Rattle.tnc_ports.specs.SampledRun.{Outside, IsCutInReading, IsCutRun, IsLooped, AllIsWritten}
-use Rattle.tnc_ports.specs.ServeRun.{InputSide, ring_cells, answers_of_record, LanesStandIn, end_of}
-use Rattle.tnc_ports.specs.ServeRun.{OnlyListens, HasOpened, HasServed, IsServed}
+use Rattle.tnc_ports.specs.ServeRun.{InputSide, ring_cells, answers_of_record, LanesStandIn, end_of, OnlyListens}
+use Rattle.tnc_ports.specs.ServeRun.{HasOpened, HasServed, IsServed}
 use Rattle.tnc_ports.specs.SampledPump.{IsClosed, IsLoopedIf}
 use Rattle.tnc_ports.proofs.LiveAccounts.{are_sent, are_shut}
 use Rattle.tnc_ports.proofs.LiveServed.{served_cut}

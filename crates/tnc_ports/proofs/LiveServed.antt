@@ -1,18 +1,12 @@
 -- What a run did for the hosts: the account of its turns.
-use Rattle.std.specs.Prelude.{◌≡◌, ℕ, zero, suc, ◌*◌, Bool, true, false, List, [], ◌∷◌, ◌++◌, length, map, replicate}
-use Rattle.std.specs.Prelude.{refl}
-use Rattle.std.proofs.Common.{sym, ◌∙◌, ap, subst, arith, inl, inr, length-append}
-use Rattle.frame_merge.specs.declared.candidate.Candidate.{Candidate}
-use Rattle.slicer_bank.specs.HeardOnRing.{lane_of}
-use Rattle.slicer_bank.specs.RingTurns.{gaps_of}
-use Rattle.ring_receiver.specs.Readers.{readers_wanted}
-use Rattle.tnc_ports.specs.declared.serve_words.ServeWords.{ServeWords}
-use Rattle.tnc_ports.specs.Hosts.{Hosts, new_hosts}
-use Rattle.tnc_ports.specs.HostTurns.{Asked, IsHostPart}
-use Rattle.tnc_ports.specs.ReportedGaps.{gaps_in, AreAllGaps, AreFirstGaps}
-use Rattle.tnc_ports.specs.Sampled.{Live, new_live, with_hosts, gap_line, LanesReadOn, AreHeard, HearsAll, AreTicked}
-use Rattle.tnc_ports.specs.Sampled.{MakesAll, ServesHosts, IsTurn}
-use Rattle.tnc_ports.specs.SampledRun.{AreTurns, IsRun, IsCutTurn, IsCutRun}
+use Rattle.tnc_ports.proofs.Common.{zero, suc, Bool, true, false, List, ◌∷◌, replicate, sym, ◌∙◌, ap, subst, arith, inl}
+use Rattle.tnc_ports.proofs.Common.{inr, Candidate, lane_of, gaps_of, readers_wanted, ServeWords, Hosts, new_hosts}
+use Rattle.tnc_ports.proofs.Common.{Asked, IsHostPart, gaps_in, AreAllGaps, AreFirstGaps, Live, new_live, with_hosts}
+use Rattle.tnc_ports.proofs.Common.{gap_line, LanesReadOn, AreHeard, HearsAll, AreTicked, MakesAll, IsTurn, AreTurns}
+use Rattle.tnc_ports.proofs.Common.{IsRun, IsCutTurn, IsCutRun}
+use Rattle.std.specs.Prelude.{◌≡◌, ℕ, ◌*◌, [], ◌++◌, length, map, refl}
+use Rattle.std.proofs.Common.{length-append}
+use Rattle.tnc_ports.specs.Sampled.{ServesHosts}
 use Rattle.tnc_ports.proofs.KeptLemmas.{kept_part}
 use Rattle.tnc_ports.proofs.LiveAccounts.{IsAccounted, accounted_new, accounted_relined, accounted_by_frames}
 use Rattle.tnc_ports.proofs.LiveAccounts.{accounted_part}

@@ -1,32 +1,23 @@
 -- Each step of a live station, of what the code keeps and what it writes.
-use Rattle.std.specs.Prelude.{Bool, true, false, Option, Some, Result, Ok, Err, OnErr}
-use Rattle.std.proofs.Common.{◌≡◌, ℕ, zero, suc, ◌+◌, ◌-◌, ◌<◌, ◌≤◌, List, [], ◌∷◌, ◌++◌, length, take, drop, get_or}
-use Rattle.std.proofs.Common.{refl, sym, ap, subst, ◌∙◌, arith, append_assoc}
-use Rattle.std.proofs.lemmas.List.{append-nil, append_cancel_left, take_more, take-append-drop, take_all}
+use Rattle.tnc_ports.proofs.Common.{Bool, true, false, Option, Some, Result, Ok, Err, OnErr, ◌≡◌, ℕ, ◌+◌, ◌-◌, ◌<◌, ◌≤◌}
+use Rattle.tnc_ports.proofs.Common.{[], ◌++◌, length, take, drop, get_or, refl, sym, ap, subst, ◌∙◌, arith}
+use Rattle.tnc_ports.proofs.Common.{append_assoc, append-nil, take_more, take-append-drop, Sent, Links, AirTick}
+use Rattle.tnc_ports.proofs.Common.{Candidate, ReportLine, Turning, Told, IsAsked, taken_of, octets_for, StandsFor}
+use Rattle.tnc_ports.proofs.Common.{Hosts, Asked, IsHostPart, report_text, output_octets, Live, AreHeard, AreTicked}
+use Rattle.tnc_ports.proofs.Common.{IsTurn, ReceivedLine, SentLine, with_lines, AreReceivedLines, AreSentLines}
+use Rattle.tnc_ports.proofs.Common.{IsFrameHeard, IsTickMade, Keeps, HearsFrames, HearsSome, Ticks, TicksAll, ServesAll}
+use Rattle.tnc_ports.proofs.Common.{AreTurns, Stream, Puts, ReportsMore, WritesMore, ServeWords}
+use Rattle.std.proofs.Common.{zero, suc, List, ◌∷◌}
+use Rattle.std.proofs.lemmas.List.{append_cancel_left, take_all}
 use Rattle.ax25_address.specs.declared.path.Path.{Path}
 use Rattle.ax25_frames.specs.declared.frame.Modulus.{Modulus}
-use Rattle.channel_access.specs.declared.air_tick.Sent.{Sent}
 use Rattle.station.specs.Heard.{IsPathOf}
-use Rattle.station.specs.Links.{Links}
-use Rattle.channel_access.specs.declared.air_tick.AirTick.{AirTick}
-use Rattle.frame_merge.specs.declared.candidate.Candidate.{Candidate}
 use Rattle.station.specs.Monitored.{heard_modulus, sent_modulus}
-use Rattle.tnc_ports.specs.declared.report_line.ReportLine.{ReportLine}
-use Rattle.tnc_ports.specs.declared.turning.Turning.{Turning}
-use Rattle.tnc_ports.specs.AskedPorts.{Told, IsAsked, taken_of}
-use Rattle.tnc_ports.specs.SentSoFar.{octets_for}
-use Rattle.tnc_ports.specs.HeldHosts.{HeldHosts, StandsFor}
-use Rattle.tnc_ports.specs.Hosts.{Hosts, IsHeardStep, IsTickStep}
-use Rattle.tnc_ports.specs.HostTurns.{Asked, IsHostPart}
-use Rattle.tnc_ports.specs.ReportText.{report_text, output_octets}
-use Rattle.tnc_ports.specs.Sampled.{Live, AreHeard, IsTicked, AreTicked, IsTurn}
-use Rattle.tnc_ports.specs.declared.report_line.ReportLine.TheVariants.{ReceivedLine, SentLine}
-use Rattle.tnc_ports.specs.SampledFrames.{with_lines, AreReceivedLines, AreSentLines, IsFrameHeard, IsTickMade}
+use Rattle.tnc_ports.specs.HeldHosts.{HeldHosts}
+use Rattle.tnc_ports.specs.Hosts.{IsHeardStep, IsTickStep}
+use Rattle.tnc_ports.specs.Sampled.{IsTicked}
 use Rattle.tnc_ports.specs.SampledFrames.{IsFrameText}
-use Rattle.tnc_ports.specs.SampledHeld.{Keeps, HearsFrame, HearsFrames, HearsSome, Ticks, TicksAll, ServesAll}
-use Rattle.tnc_ports.specs.SampledRun.{AreTurns}
-use Rattle.tnc_ports.specs.SampledWrites.{Stream, Puts, ReportsMore, WritesMore}
-use Rattle.tnc_ports.specs.declared.serve_words.ServeWords.{ServeWords}
+use Rattle.tnc_ports.specs.SampledHeld.{HearsFrame}
 use Rattle.tnc_ports.proofs.LiveWrites.{both_puts, reports_more, writes_more, no_report, no_write}
 
 -- ---- lines

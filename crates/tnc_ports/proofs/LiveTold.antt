@@ -1,19 +1,11 @@
 -- What the ports tell turn by turn, they tell of all turns.
-use Rattle.std.specs.Prelude.{Bool, true, false, Some, ◌||◌, ◌≢◌, All}
-use Rattle.std.proofs.Common.{◌≡◌, ◌⊎◌, inl, inr, ℕ, zero, suc, ◌+◌, ◌≤◌, rules, List, [], ◌∷◌, ◌++◌, length, map, refl}
-use Rattle.std.proofs.Common.{sym, ap, subst, ◌∙◌, arith, append_assoc, length-append}
-use Rattle.std.specs.List.{list_any, flat_map}
-use Rattle.std.proofs.lemmas.List.{append-nil, map-append}
-use Rattle.std.proofs.lemmas.Bool.{false≢true}
-use Rattle.std.proofs.lemmas.List.Elements.{All-append}
-use Rattle.std.proofs.lemmas.Grind.{flat_map-append}
-use Rattle.tnc_ports.specs.AskedPorts.{poll_of, send_of, taken_of, AreUnasked, IsAsked}
-use Rattle.tnc_ports.specs.Hosts.{is_among}
-use Rattle.tnc_ports.specs.HostTurns.{Asked}
-use Rattle.tnc_ports.specs.SampledHeld.{told_in}
-use Rattle.tnc_ports.specs.SampledRun.{Outside, sends_from, PortsTell}
-use Rattle.tnc_ports.specs.ServedHosts.{octets_to, IsShutHavingCome}
-use Rattle.tnc_ports.specs.Sockets.{Poll, MayCome, has_come, is_joining_of}
+use Rattle.tnc_ports.proofs.Common.{Bool, true, false, Some, ◌||◌, ◌≢◌, All, ◌≡◌, inl, inr, ℕ, ◌+◌, ◌≤◌, rules, []}
+use Rattle.tnc_ports.proofs.Common.{◌++◌, length, map, refl, sym, ap, subst, ◌∙◌, arith, append_assoc, list_any}
+use Rattle.tnc_ports.proofs.Common.{flat_map, append-nil, map-append, false≢true, All-append, flat_map-append, poll_of}
+use Rattle.tnc_ports.proofs.Common.{send_of, taken_of, AreUnasked, IsAsked, is_among, Asked, told_in, Outside}
+use Rattle.tnc_ports.proofs.Common.{PortsTell, octets_to, IsShutHavingCome, Poll, MayCome, has_come, is_joining_of}
+use Rattle.std.proofs.Common.{◌⊎◌, zero, suc, List, ◌∷◌, length-append}
+use Rattle.tnc_ports.specs.SampledRun.{sends_from}
 use Rattle.tnc_ports.proofs.AskedLemmas.{risen_later}
 
 sends-more : (n : ℕ) (turns : List Asked) (asked : Asked) → sends_from n (turns ++ asked ∷ [])

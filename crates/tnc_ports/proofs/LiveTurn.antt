@@ -1,22 +1,16 @@
 -- The parts of a turn make a turn, and those that came to pass one that is cut short.
-use Rattle.std.specs.Prelude.{Bool, IsTrue, ◌↔◌}
-use Rattle.std.proofs.Common.{◌≡◌, ℕ, ◌+◌, ◌-◌, ◌*◌, ◌/◌, ◌<◌, ◌≤◌, ◌⊎◌, List, [], ◌∷◌, ◌++◌, refl, sym, ap, subst, inl}
-use Rattle.std.proofs.Common.{inr, ◌∙◌, arith}
-use Rattle.frame_merge.specs.declared.candidate.Candidate.{Candidate}
-use Rattle.slicer_bank.specs.HeardOnRing.{IsBusyOnRing, least_position}
-use Rattle.ring_receiver.specs.HeardByAll.{AreDueBy}
-use Rattle.ring_receiver.specs.HeldReceiver.{HeldReceiver, answers_in, EightListen}
-use Rattle.tnc_ports.specs.declared.turning.Turning.{Turning}
-use Rattle.tnc_ports.specs.declared.serve_words.ServeWords.{ServeWords}
-use Rattle.tnc_ports.specs.AskedPorts.{Told, AreUnasked, IsAsked}
+use Rattle.tnc_ports.proofs.Common.{Bool, IsTrue, ◌↔◌, ◌≡◌, ℕ, ◌+◌, ◌-◌, ◌*◌, ◌/◌, ◌<◌, ◌≤◌, [], ◌++◌, refl, sym, ap}
+use Rattle.tnc_ports.proofs.Common.{subst, inl, inr, ◌∙◌, arith, Candidate, least_position, AreDueBy, HeldReceiver}
+use Rattle.tnc_ports.proofs.Common.{answers_in, EightListen, Turning, ServeWords, Told, AreUnasked, IsAsked, Hosts}
+use Rattle.tnc_ports.proofs.Common.{Asked, Live, HaveEnded, with_hosts, AreHeard, AreTicked, HearsAll, MakesAll, Keeps}
+use Rattle.tnc_ports.proofs.Common.{StandsForLive, HearsFrames, HearsSome, Ticks, TicksAll, ServesAll, Reads, Turns}
+use Rattle.tnc_ports.proofs.Common.{IsCutOff, IsCutInReading, IsCutInServing, Stream, WritesMore}
+use Rattle.std.proofs.Common.{◌⊎◌, List, ◌∷◌}
+use Rattle.slicer_bank.specs.HeardOnRing.{IsBusyOnRing}
 use Rattle.tnc_ports.specs.CutPart.{HasCutPart}
-use Rattle.tnc_ports.specs.Hosts.{Hosts}
-use Rattle.tnc_ports.specs.HostTurns.{Asked}
-use Rattle.tnc_ports.specs.Sampled.{Live, HaveEnded, with_hosts, AreHeard, AreTicked, HearsAll, MakesTicks, MakesAll}
-use Rattle.tnc_ports.specs.SampledHeld.{Keeps, StandsForLive, HearsFrames, HearsSome, Ticks, TicksAll, ServesAll, Reads}
-use Rattle.tnc_ports.specs.SampledHeld.{Makes, Turns, IsCutOff}
-use Rattle.tnc_ports.specs.SampledRun.{IsCutInReading, IsCutInHearing, IsCutInTicking, IsCutInServing}
-use Rattle.tnc_ports.specs.SampledWrites.{Stream, WritesMore}
+use Rattle.tnc_ports.specs.Sampled.{MakesTicks}
+use Rattle.tnc_ports.specs.SampledHeld.{Makes}
+use Rattle.tnc_ports.specs.SampledRun.{IsCutInHearing, IsCutInTicking}
 use Rattle.tnc_ports.proofs.AskedLemmas.{unasked}
 use Rattle.tnc_ports.proofs.LiveSteps.{ticked_to}
 use Rattle.tnc_ports.proofs.LiveWrites.{writes_more, writes_report, no_write}

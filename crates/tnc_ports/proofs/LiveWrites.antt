@@ -1,16 +1,11 @@
 -- What is written step by step is written in one.
-use Rattle.std.specs.Prelude.{Bool, true, false, Some, Result, Ok, Err, is_err, OnOk, OnErr}
-use Rattle.std.proofs.Common.{◌≡◌, ℕ, List, [], ◌++◌, refl, sym, ap, subst, inl, inr, ◌∙◌, append_assoc}
-use Rattle.std.proofs.lemmas.List.{append-nil}
-use Rattle.std.proofs.lemmas.Bool.{false≢true}
-use Rattle.std.proofs.lemmas.Grind.{flat_map-append}
-use Rattle.tnc_base.specs.Faults.{HasRisen}
-use Rattle.tnc_base.specs.Streams.{WrotePart}
-use Rattle.tnc_ports.specs.declared.report_line.ReportLine.{ReportLine}
-use Rattle.tnc_ports.specs.Hosts.{Hosts}
-use Rattle.tnc_ports.specs.ReportText.{report_text, output_octets, ended_line, sample_octets}
-use Rattle.tnc_ports.specs.Sampled.{Live}
-use Rattle.tnc_ports.specs.SampledWrites.{Stream, PutsAll, PutsPart, Puts, PutsBoth, ReportsMore, WritesMore}
+use Rattle.tnc_ports.proofs.Common.{Bool, true, false, Some, Result, Ok, Err, is_err, OnOk, OnErr, ◌≡◌, ℕ, [], ◌++◌}
+use Rattle.tnc_ports.proofs.Common.{refl, sym, ap, subst, inl, inr, ◌∙◌, append_assoc, append-nil, false≢true}
+use Rattle.tnc_ports.proofs.Common.{flat_map-append, HasRisen, WrotePart, ReportLine, Hosts, report_text, output_octets}
+use Rattle.tnc_ports.proofs.Common.{Live, Stream, Puts, ReportsMore, WritesMore}
+use Rattle.std.proofs.Common.{List}
+use Rattle.tnc_ports.specs.ReportText.{ended_line, sample_octets}
+use Rattle.tnc_ports.specs.SampledWrites.{PutsAll, PutsPart, PutsBoth}
 
 -- ---- one stream
 

@@ -1,21 +1,15 @@
 -- What the parts stand for, step by step.
-use Rattle.std.specs.Prelude.{◌≡◌, ℕ, ◌≤◌, ◌==◌, ◌&&◌, ◌||◌, Bool, true, false, not, List, length, filter, All}
-use Rattle.std.specs.Prelude.{refl}
-use Rattle.std.specs.List.{list_any}
-use Rattle.std.proofs.Common.{sym, ◌∙◌, ap, subst, arith, inl, inr}
-use Rattle.std.proofs.lemmas.Bool.{or_cases, or_left, or_right, cases_Bool, true≢false}
-use Rattle.station.specs.declared.host_event.HostEvent.{HostEvent}
-use Rattle.station.specs.Held.{Held, ids_of, ids_behind}
-use Rattle.station.specs.State.{StationState}
+use Rattle.tnc_ports.proofs.Common.{◌==◌, ◌&&◌, ◌||◌, Bool, true, false, not, List, filter, All, list_any, sym, ◌∙◌, ap}
+use Rattle.tnc_ports.proofs.Common.{subst, arith, inl, inr, or_cases, or_left, or_right, cases_Bool, true≢false}
+use Rattle.tnc_ports.proofs.Common.{HostEvent, ids_of, ids_behind, StationState, Out, Turn, HostParts, ReportLine}
+use Rattle.tnc_ports.proofs.Common.{AreParts, Moves, MovesBy, Narrows, IsKnown, IsAtRest, is_named, joins, leaves}
+use Rattle.tnc_ports.proofs.Common.{Hosts, delivering, is_line_of, is_among, IsDelivered, IsStep, AllHaveLeft}
+use Rattle.tnc_ports.proofs.Common.{is_within}
+use Rattle.std.specs.Prelude.{◌≡◌, ℕ, ◌≤◌, length, refl}
+use Rattle.station.specs.Held.{Held}
 use Rattle.station.specs.StandsFor.{StandsFor as StandsForStation}
-use Rattle.station.specs.Turn.{Out, Turn, begin}
-use Rattle.tnc_ports.specs.declared.host_parts.HostParts.{HostParts}
-use Rattle.tnc_ports.specs.declared.report_line.ReportLine.{ReportLine}
-use Rattle.tnc_ports.specs.HeldHosts.{AreParts, Moves, MovesBy, Narrows, IsKnown, IsKnownBefore, IsAtRest, is_named}
-use Rattle.tnc_ports.specs.HeldHosts.{joins, leaves}
-use Rattle.tnc_ports.specs.Hosts.{Hosts, delivering, is_line_of, is_among, IsDelivered, IsStep}
-use Rattle.tnc_ports.specs.Hosts.{AllHaveLeft}
-use Rattle.tnc_ports.specs.IdRanges.{is_within}
+use Rattle.station.specs.Turn.{begin}
+use Rattle.tnc_ports.specs.HeldHosts.{IsKnownBefore}
 use Rattle.tnc_ports.proofs.NamedLemmas.{lines_without, ids_without, still_known, was_known}
 
 -- ---- one after another

@@ -1,18 +1,13 @@
 -- Which connections are named, and which the station knows.
-use Rattle.std.specs.Prelude.{◌≡◌, ◌≢◌, ℕ, zero, suc, ◌+◌, ◌≤◌, ◌==◌, ◌&&◌, ◌||◌, Bool, true, false, not, List, [], ◌∷◌}
-use Rattle.std.specs.Prelude.{◌++◌, length, filter, All, Any, cond, refl}
-use Rattle.std.specs.List.{list_any}
-use Rattle.std.proofs.Common.{sym, ◌∙◌, ap, arith, inl, inr}
-use Rattle.std.proofs.lemmas.Bool.{eqb-true, eq-eqb, ne_eqb, and_parts, and_from, or_parts, not_from_false, cases_Bool}
-use Rattle.std.proofs.lemmas.Bool.{false≢true, true≢false}
-use Rattle.std.proofs.lemmas.List.Folds.{Any-from_list_any, list_any-append}
+use Rattle.tnc_ports.proofs.Common.{◌≢◌, zero, suc, ◌==◌, ◌&&◌, ◌||◌, Bool, true, false, not, List, ◌∷◌, filter, All}
+use Rattle.tnc_ports.proofs.Common.{cond, list_any, sym, ◌∙◌, ap, arith, inl, inr, eqb-true, eq-eqb, ne_eqb, and_parts}
+use Rattle.tnc_ports.proofs.Common.{or_parts, cases_Bool, false≢true, true≢false, list_any-append, HostEvent, Joined}
+use Rattle.tnc_ports.proofs.Common.{Bytes, Left, ids_behind, Line, joins, leaves, is_line_of, is_among}
+use Rattle.std.specs.Prelude.{◌≡◌, ℕ, ◌+◌, ◌≤◌, [], ◌++◌, length, Any, refl}
+use Rattle.std.proofs.lemmas.Bool.{and_from, not_from_false}
+use Rattle.std.proofs.lemmas.List.Folds.{Any-from_list_any}
 use Rattle.std.proofs.lemmas.Map.Views.{any-filter_same}
-use Rattle.station.specs.declared.host_event.HostEvent.{HostEvent}
-use Rattle.station.specs.declared.host_event.HostEvent.TheVariants.{Joined, Bytes, Left}
-use Rattle.station.specs.Held.{without_ids, ids_behind}
-use Rattle.tnc_ports.specs.declared.line.Line.{Line}
-use Rattle.tnc_ports.specs.HeldHosts.{joins, leaves}
-use Rattle.tnc_ports.specs.Hosts.{is_line_of, is_among}
+use Rattle.station.specs.Held.{without_ids}
 
 -- ---- one connection is left out
 

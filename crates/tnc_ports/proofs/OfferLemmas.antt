@@ -1,21 +1,11 @@
 -- What connections are offered, one after another.
-use Rattle.std.specs.Prelude.{◌≡◌, ◌≢◌, ℕ, ◌+◌, ◌<◌, ◌≤◌, ◌==◌, ◌||◌, Bool, true, false, List, [], ◌∷◌, ◌++◌, length}
-use Rattle.std.specs.Prelude.{take, Option, Some, refl}
-use Rattle.std.proofs.Common.{sym, ◌∙◌, ap, subst, arith, inl, inr, get_or}
-use Rattle.std.proofs.lemmas.Bool.{eqb-true, eq-eqb, cases_Bool, false≢true, true≢false}
-use Rattle.std.proofs.lemmas.List.{take_more}
-use Rattle.std.proofs.lemmas.List.Folds.{list_any-append}
-use Rattle.tnc_base.specs.Faults.{HasRisen}
-use Rattle.station.specs.declared.host_out.Piece.{Piece}
-use Rattle.tnc_ports.specs.declared.host_parts.HostParts.{HostParts}
-use Rattle.tnc_ports.specs.declared.line.Line.{Line}
-use Rattle.tnc_ports.specs.declared.report_line.ReportLine.{ReportLine}
-use Rattle.tnc_ports.specs.AskedPorts.{Told, AreOffered, AreShut}
-use Rattle.tnc_ports.specs.HeldHosts.{AreParts, MovesBy}
-use Rattle.tnc_ports.specs.Hosts.{Hosts, cutting, with_waiting, line_of, is_among, AllHaveLeft}
-use Rattle.tnc_ports.specs.HostTurns.{Offer, Offering, IsOffered, IsOfferedTo, InOrder}
-use Rattle.tnc_ports.specs.Sockets.{Poll, Send, has_come}
-use Rattle.tnc_ports.specs.Waiting.{front_of, after_sending}
+use Rattle.tnc_ports.proofs.Common.{◌≢◌, ◌==◌, ◌||◌, Bool, true, false, List, ◌∷◌, Option, Some, sym, ◌∙◌, ap, subst}
+use Rattle.tnc_ports.proofs.Common.{arith, inl, inr, get_or, eqb-true, eq-eqb, cases_Bool, false≢true, true≢false}
+use Rattle.tnc_ports.proofs.Common.{take_more, list_any-append, HasRisen, Piece, HostParts, Line, ReportLine, Told}
+use Rattle.tnc_ports.proofs.Common.{AreOffered, AreShut, AreParts, MovesBy, Hosts, cutting, with_waiting, line_of}
+use Rattle.tnc_ports.proofs.Common.{is_among, AllHaveLeft, Offer, Offering, IsOffered, IsOfferedTo, InOrder, Poll, Send}
+use Rattle.tnc_ports.proofs.Common.{has_come, front_of, after_sending}
+use Rattle.std.specs.Prelude.{◌≡◌, ℕ, ◌+◌, ◌<◌, ◌≤◌, [], ◌++◌, length, take, refl}
 use Rattle.tnc_ports.proofs.AskedLemmas.{offered_more, offered_in_vain}
 use Rattle.tnc_ports.proofs.DeliverLemmas.{Waits, waits_stands}
 use Rattle.tnc_ports.proofs.TakeLemmas.{in_order-snoc}

@@ -1,11 +1,11 @@
 -- Octets in a ring, cut into pieces.
-use Rattle.std.proofs.Common.{◌≡◌, refl, ℕ, ◌+◌, ◌-◌, ◌<◌, ◌≤◌, List, [], ◌∷◌, ◌++◌, length, take, drop, set, sum, All}
-use Rattle.std.proofs.Common.{suc, sym, ap, ◌∙◌, arith, subst}
-use Rattle.std.proofs.lemmas.List.{take-append-drop, take-append-le, drop-append-le, drop-take, drop-drop, length-drop}
-use Rattle.std.proofs.lemmas.List.{length-take-le}
+use Rattle.tnc_ports.proofs.Common.{◌≡◌, refl, ℕ, ◌+◌, ◌-◌, ◌<◌, ◌≤◌, [], ◌++◌, length, take, drop, set, sum, sym, ap}
+use Rattle.tnc_ports.proofs.Common.{◌∙◌, arith, subst, take-append-drop, take-append-le, length-drop, length-take-le}
+use Rattle.tnc_ports.proofs.Common.{take-length, cut, octets_of, with_piece, front_of, after_sending, behind}
+use Rattle.std.proofs.Common.{List, ◌∷◌, All, suc}
+use Rattle.std.proofs.lemmas.List.{drop-append-le, drop-take, drop-drop}
 use Rattle.std.proofs.lemmas.List.Sums.{sum_by-cons}
-use Rattle.std.proofs.Math.Seq.{take-length, drop-length, take-append-add}
-use Rattle.tnc_ports.specs.Waiting.{cut, octets_of, with_piece, front_of, after_sending, behind}
+use Rattle.std.proofs.Math.Seq.{drop-length, take-append-add}
 
 pub empty_of_no_length : (octets : List ℕ) → 0 ≡ length octets → octets ≡ []
 empty_of_no_length [] none = refl

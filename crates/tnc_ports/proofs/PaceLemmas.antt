@@ -1,14 +1,10 @@
 -- A pump that publishes the samples of each read before the next one.
-use Rattle.std.specs.Prelude.{◌≡◌, ℕ, ℤ, ◌⊎◌, List, [], ◌∷◌, ◌++◌, Option, Some, None, map, refl}
-use Rattle.std.specs.List.{flat_map}
-use Rattle.std.proofs.Common.{sym, ap, ◌∙◌, subst, append_assoc, inl, inr}
-use Rattle.std.proofs.lemmas.Grind.{flat_map-append}
-use Rattle.std.proofs.lemmas.List.{append-nil}
-use Rattle.wav_file.specs.Samples.{samples}
-use Rattle.tnc_ports.specs.Inlet.{Step, octets_of_step, samples_of_step, octets_read, samples_published}
-use Rattle.tnc_ports.specs.Inlet.{AreAllPublished, KeepsPace}
-use Rattle.tnc_ports.specs.Inlet.Step.{Reads, Publishes}
-use Rattle.tnc_ports.specs.OddOctet.{odd_octet}
+use Rattle.tnc_ports.proofs.Common.{ℤ, ◌⊎◌, List, ◌∷◌, Option, Some, None, flat_map, sym, ap, ◌∙◌, subst, append_assoc}
+use Rattle.tnc_ports.proofs.Common.{inl, inr, flat_map-append, append-nil, samples, Step, Publishes, odd_octet}
+use Rattle.std.specs.Prelude.{◌≡◌, ℕ, [], ◌++◌, map, refl}
+use Rattle.tnc_ports.specs.Inlet.{octets_of_step, samples_of_step, octets_read, samples_published, AreAllPublished}
+use Rattle.tnc_ports.specs.Inlet.{KeepsPace}
+use Rattle.tnc_ports.specs.Inlet.Step.{Reads}
 
 -- ---- where a read stands
 

@@ -1,7 +1,6 @@
 -- Octets taken in pairs: one more octet ends a sample if one was left over, and is left over itself if none was.
-use Rattle.std.proofs.Common.{◌≡◌, refl, ℕ, List, [], ◌∷◌, ◌++◌, ap}
-use Rattle.wav_file.specs.Samples.{samples, sample_of}
-use Rattle.tnc_ports.specs.OddOctet.{odd_octet, odd_after, ended}
+use Rattle.tnc_ports.proofs.Common.{◌≡◌, refl, ℕ, [], ◌++◌, ap, samples, sample_of, odd_octet, odd_after, ended}
+use Rattle.std.proofs.Common.{List, ◌∷◌}
 
 pub samples-snoc : (read : List ℕ) (octet : ℕ) → samples (read ++ octet ∷ [])
     ≡ samples read ++ ended (odd_octet read) octet

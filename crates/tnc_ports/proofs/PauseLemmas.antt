@@ -1,21 +1,17 @@
 -- The connections that a poll pauses.
-use Rattle.std.specs.Prelude.{◌≡◌, ℕ, ◌+◌, ◌<◌, ◌==◌, ◌||◌, ◌↔◌, Bool, true, false, List, [], ◌∷◌, ◌++◌, length, take}
-use Rattle.std.specs.Prelude.{Contains, IsPermutation, IsTrue, refl}
+use Rattle.tnc_ports.proofs.Common.{◌==◌, ◌||◌, ◌↔◌, Bool, true, false, List, ◌∷◌, Contains, IsTrue, list_any, sym, ◌∙◌}
+use Rattle.tnc_ports.proofs.Common.{ap, subst, inl, inr, get_or, eqb-true, eq-eqb, ne_eqb, cases_Bool, or_cases}
+use Rattle.tnc_ports.proofs.Common.{or_left, or_right, true≢false, take_more, list_any-append, Line, Hosts, is_line_of}
+use Rattle.tnc_ports.proofs.Common.{ArePaused, HasToWait}
+use Rattle.std.specs.Prelude.{◌≡◌, ℕ, ◌+◌, ◌<◌, [], ◌++◌, length, take, IsPermutation, refl}
 use Rattle.std.specs.Cmp.{IsEquivalence}
-use Rattle.std.specs.List.{list_any, dedup}
+use Rattle.std.specs.List.{dedup}
 use Rattle.std.specs.List.Sorted.{IsStrictlyIncreasing}
-use Rattle.std.proofs.Common.{sym, ◌∙◌, ap, subst, inl, inr, get_or}
-use Rattle.std.proofs.lemmas.Bool.{eqb-true, eq-eqb, ne_eqb, cases_Bool, or_cases, or_left, or_right, true≢false}
-use Rattle.std.proofs.lemmas.List.{take_more}
 use Rattle.std.proofs.lemmas.List.Elements.{Contains-push, Contains-push_cases, Contains-append_left}
-use Rattle.std.proofs.lemmas.List.Folds.{list_any-append}
 use Rattle.std.proofs.lemmas.List.Kept.{Contains-dedup_nat, Contains-from_dedup}
 use Rattle.std.proofs.lemmas.List.Sorted.{list_any-IsPermutation}
 use Rattle.std.proofs.lemmas.Map.Views.{list_any-from_Contains, Contains-from_any}
-use Rattle.tnc_ports.specs.declared.line.Line.{Line}
 use Rattle.tnc_ports.specs.HeldHosts.{AreWaiting}
-use Rattle.tnc_ports.specs.Hosts.{Hosts, is_line_of}
-use Rattle.tnc_ports.specs.HostTurns.{ArePaused, HasToWait}
 
 eqb_turned : (a b : ℕ) → (a == b) ≡ (b == a)
 eqb_turned a b = elim (cases_Bool (a == b)) [

@@ -1,13 +1,9 @@
 -- An input that is pumped read by read.
-use Rattle.std.specs.Prelude.{◌≡◌, ℕ, ℤ, Some, ◌≤◌, ◌<◌, ◌+◌, ◌*◌, List, [], ◌∷◌, ◌++◌, length, take, drop, Option}
-use Rattle.std.specs.Prelude.{None}
-use Rattle.std.proofs.Common.{sym, ap, ◌∙◌, append_assoc, arith, get_or, subst}
-use Rattle.std.proofs.lemmas.List.{take-append-drop, take_more, append-nil, length-append, length-take-le}
-use Rattle.tnc_base.specs.Streams.{Gives}
-use Rattle.wav_file.specs.Samples.{samples, sample_of}
-use Rattle.tnc_ports.specs.declared.pumping.PumpEnd.TheVariants.{InputEnd, ReadFault, TooLong}
-use Rattle.tnc_ports.specs.OddOctet.{odd_octet, odd_after, count_of, ended}
-use Rattle.tnc_ports.specs.Pumped.{IsPumped, most_input}
+use Rattle.tnc_ports.proofs.Common.{ℤ, Some, List, ◌∷◌, Option, None, sym, ap, ◌∙◌, append_assoc, arith, get_or, subst}
+use Rattle.tnc_ports.proofs.Common.{take-append-drop, take_more, append-nil, length-append, length-take-le, Gives}
+use Rattle.tnc_ports.proofs.Common.{samples, sample_of, InputEnd, ReadFault, TooLong, odd_octet, odd_after, count_of}
+use Rattle.tnc_ports.proofs.Common.{ended, IsPumped, most_input}
+use Rattle.std.specs.Prelude.{◌≡◌, ℕ, ◌≤◌, ◌<◌, ◌+◌, ◌*◌, [], ◌++◌, length, take, drop}
 use Rattle.tnc_ports.proofs.PairLemmas.{samples-snoc, odd-snoc}
 
 -- of the whole input so many octets were read, the source has the rest, and the samples of what was read are published

@@ -1,10 +1,9 @@
 -- The last range grows by one id.
-use Rattle.std.specs.Prelude.{◌≡◌, ℕ, zero, suc, ◌+◌, ◌-◌, ◌<◌, ◌≤◌, ◌==◌, ◌&&◌, ◌||◌, nat_le, Bool, true, false, List}
-use Rattle.std.specs.Prelude.{[], ◌∷◌, length, refl}
-use Rattle.std.proofs.Common.{◌∙◌, ap, arith, get_or, set}
-use Rattle.std.proofs.lemmas.Bool.Decides.{nat_tests}
+use Rattle.tnc_ports.proofs.Common.{zero, suc, ◌==◌, ◌&&◌, ◌||◌, Bool, true, false, List, ◌∷◌, ◌∙◌, ap, arith, get_or}
+use Rattle.tnc_ports.proofs.Common.{set, nat_tests, is_within}
+use Rattle.std.specs.Prelude.{◌≡◌, ℕ, ◌+◌, ◌-◌, ◌<◌, ◌≤◌, nat_le, [], length, refl}
 use Rattle.tnc_ports.specs.declared.id_range.IdRange.{IdRange}
-use Rattle.tnc_ports.specs.IdRanges.{is_in_range, is_within}
+use Rattle.tnc_ports.specs.IdRanges.{is_in_range}
 
 in_longer : (first last id other : ℕ) → first ≤ last → last + 1 ≡ id
     → (nat_le first other && nat_le other id) ≡ ((nat_le first other && nat_le other last) || (id == other))

@@ -1,21 +1,13 @@
 -- The ids of the connections of the system's sockets.
-use Rattle.std.specs.Prelude.{◌≡◌, ◌≢◌, ◌⊎◌, ℕ, zero, suc, ◌+◌, ◌<◌, ◌≤◌, ◌==◌, ◌||◌, Bool, true, false, List, [], ◌∷◌}
-use Rattle.std.specs.Prelude.{◌++◌}
-use Rattle.std.specs.Prelude.{All, filter, if◌then◌else◌, length, map, refl}
-use Rattle.std.specs.List.{flat_map, range_with_len}
-use Rattle.std.proofs.Common.{sym, ap, subst, ◌∙◌, append_assoc, arith, cond, get_or, set}
-use Rattle.std.proofs.lemmas.Bool.{eq-eqb, ne_eqb, or_left, or_right, false≢true}
-use Rattle.std.proofs.lemmas.Grind.{flat_map-append}
-use Rattle.std.proofs.lemmas.List.{append-nil, length-map}
-use Rattle.std.proofs.lemmas.List.Elements.{All-append}
-use Rattle.station.specs.declared.host_event.HostEvent.{HostEvent}
-use Rattle.station.specs.declared.host_event.HostEvent.TheVariants.{Joined}
-use Rattle.station.specs.declared.host_event.PortKind.{PortKind}
-use Rattle.station.specs.declared.host_event.PortKind.TheVariants.{Kiss, Agw}
-use Rattle.tnc_ports.specs.declared.socket.Socket.{Socket}
-use Rattle.tnc_ports.specs.Hosts.{is_among}
-use Rattle.tnc_ports.specs.RealSockets.{ids_of_sockets, Rise, joined_id, joined_ids, joining_as, Admits, JoinNext}
-use Rattle.tnc_ports.specs.Sockets.{MayCome, is_octets_of}
+use Rattle.tnc_ports.proofs.Common.{◌≢◌, ◌⊎◌, zero, suc, ◌==◌, ◌||◌, Bool, true, false, List, ◌∷◌, All, filter}
+use Rattle.tnc_ports.proofs.Common.{if◌then◌else◌, flat_map, sym, ap, subst, ◌∙◌, append_assoc, arith, get_or, set}
+use Rattle.tnc_ports.proofs.Common.{eq-eqb, ne_eqb, or_left, or_right, false≢true, flat_map-append, append-nil}
+use Rattle.tnc_ports.proofs.Common.{length-map, All-append, HostEvent, Joined, PortKind, Kiss, Agw, Socket, is_among}
+use Rattle.tnc_ports.proofs.Common.{ids_of_sockets, Rise, joined_ids, Admits, MayCome, is_octets_of}
+use Rattle.std.specs.Prelude.{◌≡◌, ℕ, ◌+◌, ◌<◌, ◌≤◌, [], ◌++◌, length, map, refl}
+use Rattle.std.specs.List.{range_with_len}
+use Rattle.std.proofs.Common.{cond}
+use Rattle.tnc_ports.specs.RealSockets.{joined_id, joining_as, JoinNext}
 
 -- ---- ids that rise
 
@@ -38,18 +30,6 @@ next_is_new least (id ∷ ids) next rise =
 lower : (least less : ℕ) (ids : List ℕ) (next : ℕ) → less ≤ least → Rise least ids next → Rise less ids next
 lower least less [] next under rise = omega arith
 lower least less (id ∷ ids) next under rise = let first = rise.0 in (omega arith, rise.1)
-
-pub rise_filtered : (p : ℕ → Bool) (least : ℕ) (ids : List ℕ) (next : ℕ) → Rise least ids next
-    → Rise least (filter p ids) next
-rise_filtered p least [] next rise = rise
-rise_filtered p least (id ∷ ids) next rise =
-    let rest = rise_filtered p (id + 1) ids next rise.1 in
-    either (p id) (rise.0, rest) (lower (id + 1) least (filter p ids) next (let first = rise.0 in omega arith) rest)
-  where
-    either : (b : Bool) → Rise least (id ∷ filter p ids) next → Rise least (filter p ids) next
-        → Rise least (cond b (id ∷ filter p ids) (filter p ids)) next
-    either true kept gone = kept
-    either false kept gone = gone
 
 -- ---- ids that stay
 
@@ -124,10 +104,6 @@ range_on a (suc n) m =
 pub admits_none : (kind : PortKind) (events : List HostEvent) (next : ℕ) → Admits kind events events next next
 admits_none kind events next = record { count = 0; more = sym (append-nil events); counted = omega arith }
 
-pub admits_one : (kind : PortKind) (events : List HostEvent) (next : ℕ)
-    → Admits kind events (events ++ Joined next kind ∷ []) next (next + 1)
-admits_one kind events next = record { count = 1; more = refl; counted = refl }
-
 map_append : {A B : Type 0} (f : A → B) (xs ys : List A) → map f (xs ++ ys) ≡ map f xs ++ map f ys
 map_append f [] ys = refl
 map_append f (x ∷ xs) ys = ap (λ l. f x ∷ l) (map_append f xs ys)
@@ -174,9 +150,6 @@ join_both first between last a b c h i =
           one.counted ∙ range_on a one.count two.count);
       counted = let d = one.counted in let e = two.counted in omega arith;
     }
-
-pub join_none : (events : List HostEvent) (next : ℕ) → JoinNext events events next next
-join_none events next = record { count = 0; ids = sym (append-nil (joined_ids events)); counted = omega arith }
 
 -- who joins may come
 joins_may_come : (kind : PortKind) (paused ids : List ℕ) → All (MayCome paused) (map (joining_as kind) ids)

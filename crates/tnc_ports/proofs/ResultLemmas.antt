@@ -1,7 +1,6 @@
 -- Answers that can't be the same.
-use Rattle.std.specs.Prelude.{◌≡◌, Bool, true, false, is_ok, Result, Ok, Err, OnOk}
-use Rattle.std.proofs.Common.{sym, ◌∙◌, ap}
-use Rattle.std.proofs.lemmas.Bool.{true≢false, false≢true}
+use Rattle.tnc_ports.proofs.Common.{Bool, true, false, Result, Ok, Err, OnOk, sym, ◌∙◌, ap, true≢false, false≢true}
+use Rattle.std.specs.Prelude.{◌≡◌, is_ok}
 use Rattle.tnc_ports.specs.declared.outgoing.AppendFault.{AppendFault}
 use Rattle.tnc_ports.specs.declared.outgoing.AppendFault.TheVariants.{Full, Memory}
 

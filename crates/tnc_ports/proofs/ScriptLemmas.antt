@@ -1,22 +1,20 @@
 -- Events of a script, one more at a time.
-use Rattle.std.specs.Prelude.{◌≡◌, ◌≢◌, ℕ, zero, suc, ◌+◌, ◌<◌, ◌==◌, ◌||◌, Bool, true, false, List, [], ◌∷◌, ◌++◌}
-use Rattle.std.specs.Prelude.{length, take, drop, All, if◌then◌else◌, refl}
-use Rattle.std.specs.List.{list_any}
-use Rattle.std.proofs.Common.{sym, ◌∙◌, ap, subst, arith, inl, inr, get_or, set, append_assoc, add-one}
-use Rattle.std.proofs.lemmas.Bool.{eqb-true, eq-eqb, ne_eqb, or_left, or_right, cases_Bool, cond-true, cond-false}
-use Rattle.std.proofs.lemmas.Bool.{false≢true, true≢false}
-use Rattle.std.proofs.lemmas.List.{take_more, append-nil, map-append, length-map, length-take-le}
+use Rattle.tnc_ports.proofs.Common.{◌≢◌, zero, suc, ◌==◌, ◌||◌, Bool, true, false, List, ◌∷◌, All, if◌then◌else◌}
+use Rattle.tnc_ports.proofs.Common.{list_any, sym, ◌∙◌, ap, subst, arith, inl, inr, get_or, set, append_assoc, eqb-true}
+use Rattle.tnc_ports.proofs.Common.{eq-eqb, ne_eqb, or_left, or_right, cases_Bool, cond-true, cond-false, false≢true}
+use Rattle.tnc_ports.proofs.Common.{true≢false, take_more, append-nil, map-append, length-map, length-take-le}
+use Rattle.tnc_ports.proofs.Common.{All-append, list_any-append, HostEvent, Joined, Bytes, Left, Poll, is_octets_of}
+use Rattle.tnc_ports.proofs.Common.{is_joining_of, MayCome, IsWholePiece, has_come, has_dialed, scripted_for}
+use Rattle.tnc_ports.proofs.Common.{has_to_wait, waiting_of, given_of, joined_in, joined_of, due_of, was_shut, shut_one}
+use Rattle.tnc_ports.proofs.Common.{with_shut}
+use Rattle.std.specs.Prelude.{◌≡◌, ℕ, ◌+◌, ◌<◌, [], ◌++◌, length, take, drop, refl}
+use Rattle.std.proofs.Common.{add-one}
 use Rattle.std.proofs.Math.Seq.{drop-cons, set-append_seam, get_or-append_seam}
-use Rattle.std.proofs.lemmas.List.Elements.{All-append}
-use Rattle.std.proofs.lemmas.List.Folds.{list_any-append, list_any_at}
-use Rattle.station.specs.declared.host_event.HostEvent.{HostEvent}
-use Rattle.station.specs.declared.host_event.HostEvent.TheVariants.{Joined, Bytes, Left}
+use Rattle.std.proofs.lemmas.List.Folds.{list_any_at}
 use Rattle.tnc_ports.specs.declared.records.Came.{Came}
 use Rattle.tnc_ports.specs.declared.records.Dial.{Dial}
-use Rattle.tnc_ports.specs.Sockets.{Poll, id_of, is_octets_of, is_joining_of, MayCome, IsWholePiece, has_come}
-use Rattle.tnc_ports.specs.Sockets.{has_dialed}
-use Rattle.tnc_ports.specs.Scripts.{scripted_for, is_paused, has_to_wait, waiting_of, given_of, joined_in, joined_of}
-use Rattle.tnc_ports.specs.Scripts.{due_of, was_shut, shut_one, with_shut}
+use Rattle.tnc_ports.specs.Sockets.{id_of}
+use Rattle.tnc_ports.specs.Scripts.{is_paused}
 
 -- ---- lists that are gone through once
 

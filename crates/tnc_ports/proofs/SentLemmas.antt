@@ -1,20 +1,13 @@
 -- Each connection is sent a first part of what is appended for it: every step of hosts keeps that.
-use Rattle.std.specs.Prelude.{◌≡◌, ℕ, zero, suc, ◌==◌, ◌||◌, false, not, if◌then◌else◌, List, [], ◌∷◌, ◌++◌, take, drop}
-use Rattle.std.specs.Prelude.{filter, Option, Some, None, cond, refl}
-use Rattle.std.proofs.Common.{sym, ◌∙◌, ap, subst, inl, inr, append_assoc}
-use Rattle.std.proofs.lemmas.Bool.{eqb-true, eq-eqb, ne_eqb, cases_Bool, cases_eq, cond-true, cond-false, or_parts}
-use Rattle.std.proofs.lemmas.Grind.{flat_map-append}
-use Rattle.std.proofs.lemmas.List.{append-nil, take-append-drop}
-use Rattle.std.proofs.lemmas.List.Folds.{list_any-append}
-use Rattle.station.specs.declared.config.Config.{Config}
-use Rattle.station.specs.declared.host_event.HostEvent.{HostEvent}
-use Rattle.station.specs.declared.host_out.Piece.{Piece}
-use Rattle.station.specs.Turn.{Turn}
-use Rattle.tnc_ports.specs.declared.line.Line.{Line}
-use Rattle.tnc_ports.specs.Hosts.{Hosts, new_hosts, waiting_too, with_waiting, line_of, is_among, was_there, IsStep}
-use Rattle.tnc_ports.specs.HostTurns.{Asked, IsHostPart, joining}
-use Rattle.tnc_ports.specs.SentSoFar.{octets_for, IsLeft, IsSentOf, AreSentInOrder, IsOrderly}
-use Rattle.tnc_ports.specs.Waiting.{octets_of, with_piece, front_of, after_sending, behind}
+use Rattle.tnc_ports.proofs.Common.{zero, suc, ◌==◌, ◌||◌, false, not, if◌then◌else◌, List, ◌∷◌, filter, Option, Some}
+use Rattle.tnc_ports.proofs.Common.{None, cond, sym, ◌∙◌, ap, subst, inl, inr, append_assoc, eqb-true, eq-eqb, ne_eqb}
+use Rattle.tnc_ports.proofs.Common.{cases_Bool, cases_eq, cond-true, cond-false, or_parts, flat_map-append, append-nil}
+use Rattle.tnc_ports.proofs.Common.{take-append-drop, list_any-append, Config, HostEvent, Piece, Turn, Line, Hosts}
+use Rattle.tnc_ports.proofs.Common.{new_hosts, waiting_too, with_waiting, line_of, is_among, was_there, IsStep, Asked}
+use Rattle.tnc_ports.proofs.Common.{IsHostPart, joining, octets_for, IsOrderly, octets_of, with_piece, front_of}
+use Rattle.tnc_ports.proofs.Common.{after_sending, behind}
+use Rattle.std.specs.Prelude.{◌≡◌, ℕ, [], ◌++◌, take, drop, refl}
+use Rattle.tnc_ports.specs.SentSoFar.{IsLeft, IsSentOf, AreSentInOrder}
 use Rattle.tnc_ports.proofs.KeptLemmas.{IsKeptByStep, IsKeptByPart, sending, kept_step, kept_part}
 use Rattle.tnc_ports.proofs.LineLemmas.{found_id}
 

@@ -1,22 +1,12 @@
 -- Which connections are shut: every change of hosts keeps the report's account of it.
-use Rattle.std.specs.Prelude.{◌≡◌, ℕ, ◌==◌, ◌||◌, Bool, true, false, not, cond, List, [], ◌∷◌, ◌++◌, filter, refl}
-use Rattle.std.specs.List.{list_any}
-use Rattle.std.proofs.Common.{sym, ◌∙◌, ap, subst, inl, inr, append_assoc}
-use Rattle.std.proofs.lemmas.Bool.{eqb-true, eq-eqb, ne_eqb, cases_Bool, or_parts, or_left, or_right, false≢true}
-use Rattle.std.proofs.lemmas.Bool.{true≢false, false_from_ne_true}
-use Rattle.std.proofs.lemmas.Grind.{flat_map-append}
-use Rattle.std.proofs.lemmas.List.{append-nil}
-use Rattle.station.specs.declared.config.Config.{Config}
-use Rattle.station.specs.declared.host_event.HostEvent.{HostEvent}
-use Rattle.station.specs.declared.host_out.Piece.{Piece}
-use Rattle.tnc_ports.specs.declared.line.Line.{Line}
-use Rattle.tnc_ports.specs.declared.report_line.ReportLine.{ReportLine}
-use Rattle.tnc_ports.specs.declared.report_line.ReportLine.TheVariants.{ClosedLine}
-use Rattle.tnc_ports.specs.Hosts.{Hosts, new_hosts, without, closing, with_waiting, is_line_of, is_among, is_there}
-use Rattle.tnc_ports.specs.Hosts.{was_there}
-use Rattle.tnc_ports.specs.HostTurns.{joining, ids_of_lines}
-use Rattle.tnc_ports.specs.ServedHosts.{NoneTwice, ids_closed, closed_by}
-use Rattle.tnc_ports.specs.Waiting.{with_piece, after_sending}
+use Rattle.tnc_ports.proofs.Common.{◌==◌, ◌||◌, Bool, true, false, not, cond, List, ◌∷◌, filter, list_any, sym, ◌∙◌, ap}
+use Rattle.tnc_ports.proofs.Common.{subst, inl, inr, append_assoc, eqb-true, eq-eqb, ne_eqb, cases_Bool, or_parts}
+use Rattle.tnc_ports.proofs.Common.{or_left, or_right, false≢true, true≢false, false_from_ne_true, flat_map-append}
+use Rattle.tnc_ports.proofs.Common.{append-nil, Config, HostEvent, Piece, Line, ReportLine, ClosedLine, Hosts}
+use Rattle.tnc_ports.proofs.Common.{new_hosts, without, closing, with_waiting, is_line_of, is_among, is_there}
+use Rattle.tnc_ports.proofs.Common.{was_there, joining, ids_of_lines, NoneTwice, ids_closed, closed_by, with_piece}
+use Rattle.tnc_ports.proofs.Common.{after_sending}
+use Rattle.std.specs.Prelude.{◌≡◌, ℕ, [], ◌++◌, refl}
 use Rattle.tnc_ports.proofs.KeptLemmas.{IsKeptByStep, IsKeptByPart, sending}
 use Rattle.tnc_ports.proofs.LineLemmas.{waiting_names}
 

@@ -1,17 +1,9 @@
 -- Connections that go.
-use Rattle.std.specs.Prelude.{◌≡◌, ℕ, ◌+◌, ◌≤◌, ◌==◌, true, false, not, [], ◌∷◌, ◌++◌, length, filter}
-use Rattle.std.specs.Prelude.{All}
-use Rattle.std.specs.List.{list_any}
-use Rattle.std.proofs.Common.{sym, ◌∙◌, ap, subst, arith}
-use Rattle.std.proofs.lemmas.Bool.{eqb-true, and_parts}
-use Rattle.std.proofs.lemmas.List.{length-append}
+use Rattle.tnc_ports.proofs.Common.{◌==◌, true, false, not, ◌∷◌, filter, All, list_any, sym, ◌∙◌, ap, subst, arith}
+use Rattle.tnc_ports.proofs.Common.{eqb-true, and_parts, length-append, list_any-append, HostParts, ClosedLine, Untaken}
+use Rattle.tnc_ports.proofs.Common.{Narrows, is_named, weight, is_line_of, is_among}
+use Rattle.std.specs.Prelude.{◌≡◌, ℕ, ◌+◌, ◌≤◌, [], ◌++◌, length}
 use Rattle.std.proofs.lemmas.List.Elements.{All-filter}
-use Rattle.std.proofs.lemmas.List.Folds.{list_any-append}
-use Rattle.tnc_ports.specs.declared.host_parts.HostParts.{HostParts}
-use Rattle.tnc_ports.specs.declared.report_line.ReportLine.TheVariants.{ClosedLine}
-use Rattle.tnc_ports.specs.declared.untaken.Untaken.{Untaken}
-use Rattle.tnc_ports.specs.HeldHosts.{Narrows, is_named, weight}
-use Rattle.tnc_ports.specs.Hosts.{is_line_of, is_among}
 use Rattle.tnc_ports.proofs.NamedLemmas.{not_itself, fewer_lines, fewer_ids, length_without_lines, length_without_ids}
 use Rattle.tnc_ports.proofs.MoveLemmas.{named_without}
 

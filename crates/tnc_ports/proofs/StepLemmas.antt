@@ -1,22 +1,16 @@
 -- What a step says to one connection.
-use Rattle.std.specs.Prelude.{◌≡◌, ◌⊎◌, ℕ, ◌+◌, ◌<◌, ◌≤◌, ◌==◌, ◌||◌, Bool, true, false, not, cond, filter}
-use Rattle.std.specs.Prelude.{if◌then◌else◌, List, [], ◌∷◌, ◌++◌, length, take, Option, Some, None, refl}
-use Rattle.std.specs.List.{list_any}
-use Rattle.std.proofs.Common.{sym, ◌∙◌, ap, subst, arith, inl, inr, append_assoc, length-append}
-use Rattle.std.proofs.lemmas.Bool.{cases_Bool, cond-true, cond-false, le-leb, leb-true, eqb-true, eq-eqb, or_parts}
-use Rattle.std.proofs.lemmas.Bool.{cases_eq, true≢false, false≢true}
+use Rattle.tnc_ports.proofs.Common.{◌⊎◌, ◌==◌, ◌||◌, Bool, true, false, not, cond, filter, if◌then◌else◌, List, ◌∷◌}
+use Rattle.tnc_ports.proofs.Common.{Option, Some, None, list_any, sym, ◌∙◌, ap, subst, arith, inl, inr, append_assoc}
+use Rattle.tnc_ports.proofs.Common.{cases_Bool, cond-true, cond-false, le-leb, eqb-true, eq-eqb, or_parts, cases_eq}
+use Rattle.tnc_ports.proofs.Common.{true≢false, false≢true, append-nil, HostEvent, Piece, Out, Line, Hosts, without}
+use Rattle.tnc_ports.proofs.Common.{closing, cutting, waiting_too, with_waiting, fits, appending, appending_one}
+use Rattle.tnc_ports.proofs.Common.{appending_to, closing_one, closing_all, delivering, line_of, is_line_of, is_among}
+use Rattle.tnc_ports.proofs.Common.{is_there, octets_for, most_octets, octets_of, with_piece, front_of, after_sending}
+use Rattle.std.specs.Prelude.{◌≡◌, ℕ, ◌+◌, ◌<◌, ◌≤◌, [], ◌++◌, length, take, refl}
+use Rattle.std.proofs.Common.{length-append}
+use Rattle.std.proofs.lemmas.Bool.{leb-true}
 use Rattle.std.proofs.lemmas.Bool.Decides.{leb_tells}
-use Rattle.std.proofs.lemmas.List.{append-nil}
-use Rattle.station.specs.declared.host_event.HostEvent.{HostEvent}
-use Rattle.station.specs.declared.host_out.Piece.{Piece}
-use Rattle.station.specs.Turn.{Out}
-use Rattle.tnc_ports.specs.declared.line.Line.{Line}
-use Rattle.tnc_ports.specs.Hosts.{Hosts, without, closing, cutting, waiting_too, with_waiting, fits, appending}
-use Rattle.tnc_ports.specs.Hosts.{appending_one, appending_to, closing_one, closing_all, delivering, line_of}
-use Rattle.tnc_ports.specs.Hosts.{is_line_of, is_among, is_there}
-use Rattle.tnc_ports.specs.SentSoFar.{octets_for}
 use Rattle.tnc_ports.specs.StepShuts.{octets_waiting, octets_waiting_for, HearsStep}
-use Rattle.tnc_ports.specs.Waiting.{most_octets, octets_of, with_piece, front_of, after_sending}
 use Rattle.tnc_ports.proofs.KeptLemmas.{IsKeptByStep, IsKeptByPart}
 use Rattle.tnc_ports.proofs.LineLemmas.{found_id, there_line}
 use Rattle.tnc_ports.proofs.SentLemmas.{no_line_without, other_line_without, waiting_line, other_waiting_line}

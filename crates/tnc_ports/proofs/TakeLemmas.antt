@@ -1,22 +1,12 @@
 -- What comes from connections, one after another.
-use Rattle.std.specs.Prelude.{◌≡◌, ℕ, ◌==◌, ◌||◌, Bool, true, false, List, [], ◌∷◌, ◌++◌, length}
-use Rattle.std.specs.Prelude.{refl}
-use Rattle.std.specs.List.{list_any}
-use Rattle.std.proofs.Common.{sym, ◌∙◌, ap, subst, arith, inl, inr}
-use Rattle.std.proofs.lemmas.Bool.{eqb-true, or_left, false≢true, true≢false}
-use Rattle.std.proofs.lemmas.List.{append-nil}
-use Rattle.std.proofs.lemmas.List.Elements.{All-append}
-use Rattle.std.proofs.lemmas.List.Folds.{list_any-append}
-use Rattle.station.specs.declared.host_event.HostEvent.TheVariants.{Joined, Bytes, Left}
-use Rattle.station.specs.declared.host_event.PortKind.{PortKind}
+use Rattle.tnc_ports.proofs.Common.{◌==◌, ◌||◌, Bool, true, false, List, ◌∷◌, list_any, sym, ◌∙◌, ap, subst, arith, inl}
+use Rattle.tnc_ports.proofs.Common.{inr, eqb-true, or_left, false≢true, true≢false, append-nil, All-append}
+use Rattle.tnc_ports.proofs.Common.{list_any-append, Joined, Bytes, Left, PortKind, IsHostTurn, HostParts, ReportLine}
+use Rattle.tnc_ports.proofs.Common.{AreParts, Moves, MovesBy, IsKnown, is_known, Hosts, without, was_there, is_line_of}
+use Rattle.tnc_ports.proofs.Common.{is_among, IsStep, InOrder, HasToWait, AreTaken, joining, is_within}
+use Rattle.std.specs.Prelude.{◌≡◌, ℕ, [], ◌++◌, length, refl}
 use Rattle.station.specs.StandsFor.{StandsFor as StandsForStation}
-use Rattle.station.specs.Host.{IsHostTurn}
-use Rattle.tnc_ports.specs.declared.host_parts.HostParts.{HostParts}
-use Rattle.tnc_ports.specs.declared.report_line.ReportLine.{ReportLine}
-use Rattle.tnc_ports.specs.HeldHosts.{AreParts, Moves, MovesBy, IsKnown, is_known}
-use Rattle.tnc_ports.specs.Hosts.{Hosts, without, was_there, is_line_of, is_among, IsStep}
-use Rattle.tnc_ports.specs.HostTurns.{InOrder, HasToWait, AreTaken, HasJoined, HasLeft, holding, joining}
-use Rattle.tnc_ports.specs.IdRanges.{is_within}
+use Rattle.tnc_ports.specs.HostTurns.{HasJoined, HasLeft, holding}
 
 pub in_order-snoc : {A S : Type 0} (step : A → S → S → Type 0) (xs : List A) (x : A) (a b c : S) → InOrder step xs a b
     → step x b c → InOrder step (xs ++ x ∷ []) a c

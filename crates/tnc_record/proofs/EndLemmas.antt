@@ -1,34 +1,27 @@
 -- The ring once the pump and the turns have ended, and the recording as a whole.
-use Rattle.std.specs.Prelude.{ℤ, Bool, true, All, Result, Ok, Err, IsOk, is_ok, if◌then◌else◌}
-use Rattle.std.proofs.Common.{◌≡◌, ℕ, List, [], ◌∷◌, ◌++◌, length, map, take, refl, sym, ap, subst, ◌∙◌, inr, arith}
-use Rattle.std.proofs.lemmas.Bool.{false≢true}
-use Rattle.std.proofs.lemmas.List.{map-append, take-map}
-use Rattle.std.proofs.lemmas.List.Elements.{All-nil, All-cons, All-head, All-tail, All-push, All-take}
-use Rattle.sample_ring.specs.declared.reader.Reader.{Reader}
+use Rattle.tnc_record.proofs.Common.{ℤ, Bool, true, All, Result, Ok, Err, ◌≡◌, ℕ, List, [], ◌∷◌, ◌++◌, length, map}
+use Rattle.tnc_record.proofs.Common.{take, refl, sym, ap, subst, ◌∙◌, inr, arith, false≢true, map-append, All-nil}
+use Rattle.tnc_record.proofs.Common.{All-cons, All-head, All-tail, Reader, record_of, reads_of, StandsIn, answers_of}
+use Rattle.tnc_record.proofs.Common.{items, losses, has_ended, Tile, LoopEnd, Stream, ring_cells, Listening}
+use Rattle.tnc_record.proofs.Common.{RecordWords, IsAnswered, ReadsRing, Recording}
+use Rattle.std.specs.Prelude.{IsOk, is_ok, if◌then◌else◌}
+use Rattle.std.proofs.lemmas.List.{take-map}
+use Rattle.std.proofs.lemmas.List.Elements.{All-push, All-take}
 use Rattle.sample_ring.specs.declared.view.Track.{Track}
 use Rattle.sample_ring.specs.declared.ring.Ring.{Ring}
-use Rattle.sample_ring.specs.Ends.{ring_id, reader_ring, record_of, reads_of}
-use Rattle.sample_ring.specs.Record.{StandsIn}
+use Rattle.sample_ring.specs.Ends.{ring_id, reader_ring}
 use Rattle.slicer_bank.specs.RingLanes.{answers_of as answers_of_lane}
 use Rattle.ring_receiver.specs.HeldReceiver.{readers_in}
-use Rattle.ring_recorder.specs.Recording.{answers_of, items, losses, has_ended}
-use Rattle.ring_recorder.specs.Tiling.{Tile}
-use Rattle.tnc_ports.specs.declared.looping.LoopEnd.{LoopEnd}
 use Rattle.tnc_ports.specs.declared.looping.LoopEnd.TheVariants.{Done as LoopDone, Memory as LoopMemory}
 use Rattle.tnc_ports.specs.declared.looping.LoopEnd.TheVariants.{WriteFault as LoopFault}
 use Rattle.tnc_ports.specs.declared.pumping.PumpEnd.{PumpEnd}
 use Rattle.tnc_ports.specs.declared.pumping.PumpEnd.TheVariants.{InputEnd, ReadFault, TooLong}
 use Rattle.tnc_ports.specs.PumpRun.{InputSide}
-use Rattle.tnc_ports.specs.SampledWrites.{Stream}
-use Rattle.tnc_ports.specs.ServeRun.{LanesStandIn, ring_cells}
+use Rattle.tnc_ports.specs.ServeRun.{LanesStandIn}
 use Rattle.tnc_ports.proofs.LiveServe.{lanes_stand}
-use Rattle.tnc_record.specs.declared.listening.Listening.{Listening}
 use Rattle.tnc_record.specs.declared.recording.RecordEnd.{RecordEnd}
-use Rattle.tnc_record.specs.declared.recording.RecordWords.{RecordWords}
-use Rattle.tnc_record.specs.HeldListening.{IsAnswered, ReadsRing}
 use Rattle.tnc_record.specs.HeldRecord.{LoopsIf, IsClosed}
 use Rattle.tnc_record.specs.RecordRun.{IsRecordedFrom, HasRecorded, IsRecorded, end_of}
-use Rattle.tnc_record.specs.RecordTurns.{Recording}
 use Rattle.tnc_record.proofs.RecordedLemmas.{samples_stand, past_end, tiles_all}
 
 -- ---- the records

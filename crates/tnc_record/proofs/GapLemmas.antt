@@ -1,21 +1,14 @@
 -- The gap lines of the report are the gaps that the receiver's readers were told of.
-use Rattle.std.specs.Prelude.{◌≡◌, ℕ, zero, suc, ◌<◌, ◌⊎◌, Bool, true, false, List, [], ◌∷◌, ◌++◌}
-use Rattle.std.specs.Prelude.{map, refl}
-use Rattle.std.proofs.Common.{sym, ◌∙◌, ap, subst, inl, inr}
-use Rattle.std.proofs.lemmas.Grind.{flat_map-append}
-use Rattle.std.proofs.lemmas.List.{append-nil, get_or-replicate}
-use Rattle.frame_merge.specs.declared.candidate.Candidate.{Candidate}
-use Rattle.sample_ring.specs.declared.got.Got.{Got}
-use Rattle.slicer_bank.specs.declared.advance.LaneGap.{LaneGap}
-use Rattle.slicer_bank.specs.HeardOnRing.{lane_of}
+use Rattle.tnc_record.proofs.Common.{Bool, true, false, sym, ◌∙◌, ap, subst, inl, inr, flat_map-append, append-nil}
+use Rattle.tnc_record.proofs.Common.{Candidate, Got, LaneGap, lane_of, readers_wanted, GapLine, FrameLine, turn_lines}
+use Rattle.tnc_record.proofs.Common.{Recording, new_recording, HearsUnlessOver, AreTurns, IsRun}
+use Rattle.std.specs.Prelude.{◌≡◌, ℕ, zero, suc, ◌<◌, ◌⊎◌, List, [], ◌∷◌, ◌++◌, map, refl}
+use Rattle.std.proofs.lemmas.List.{get_or-replicate}
 use Rattle.slicer_bank.specs.RingTurns.{gaps_of}
-use Rattle.ring_receiver.specs.Readers.{readers_wanted}
 use Rattle.tnc_ports.specs.ReportedGaps.{gaps_in as gaps_in_report}
 use Rattle.tnc_ports.specs.Sampled.{gap_line}
 use Rattle.tnc_ports.proofs.LiveGaps.{gaps_of-append, lane_gaps_first}
-use Rattle.tnc_record.specs.RecordText.{GapLine, FrameLine, turn_lines}
-use Rattle.tnc_record.specs.RecordTurns.{Recording, new_recording, Hears, HearsUnlessOver, AreTurns}
-use Rattle.tnc_record.specs.RecordTurns.{IsRun, IsCutRun, IsCutInHearing, IsCutInRecording}
+use Rattle.tnc_record.specs.RecordTurns.{Hears, IsCutRun, IsCutInHearing, IsCutInRecording}
 use Rattle.tnc_record.specs.ToldGaps.{gap_by, gaps_in, AreAllGaps, AreFirstGaps}
 
 -- ---- a turn

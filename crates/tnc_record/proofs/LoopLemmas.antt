@@ -1,22 +1,16 @@
 -- The end of the loop: what is written past the last turn, or where memory was wanted.
-use Rattle.std.specs.Prelude.{Bool, true, false, Some}
-use Rattle.std.proofs.Common.{◌≡◌, ℕ, suc, List, [], ◌++◌, refl, sym, ap, subst, inl, inr, ◌∙◌}
-use Rattle.std.proofs.lemmas.List.{append-nil}
+use Rattle.tnc_record.proofs.Common.{Bool, true, false, Some, ◌≡◌, ℕ, suc, List, [], ◌++◌, refl, sym, ap, subst, inl}
+use Rattle.tnc_record.proofs.Common.{inr, ◌∙◌, append-nil, HeldRecorder, StandsFor, answers_of, losses, Stream, Puts}
+use Rattle.tnc_record.proofs.Common.{puts_puts, LoopEnd, Listening, RecordWords, IsAnswered, Turns, IsCutOff, Runs}
+use Rattle.tnc_record.proofs.Common.{report_text, text_of_losses, Recording, new_recording, IsRun}
 use Rattle.tnc_base.specs.Faults.{HasRisen}
 use Rattle.tnc_base.specs.Streams.{WrotePart}
-use Rattle.ring_recorder.specs.Held.{HeldRecorder, StandsFor}
-use Rattle.ring_recorder.specs.Recording.{answers_of, losses, sound}
+use Rattle.ring_recorder.specs.Recording.{sound}
 use Rattle.ring_recorder.specs.Wave.{wave_of}
-use Rattle.tnc_ports.specs.SampledWrites.{Stream, Puts, PutsAll, PutsPart}
-use Rattle.tnc_ports.proofs.LiveWrites.{puts_puts}
-use Rattle.tnc_ports.specs.declared.looping.LoopEnd.{LoopEnd}
+use Rattle.tnc_ports.specs.SampledWrites.{PutsAll, PutsPart}
 use Rattle.tnc_ports.specs.declared.looping.LoopEnd.TheVariants.{Memory}
-use Rattle.tnc_record.specs.declared.listening.Listening.{Listening}
-use Rattle.tnc_record.specs.declared.recording.RecordWords.{RecordWords}
-use Rattle.tnc_record.specs.HeldListening.{IsAnswered, Turns, IsCutOff, Runs}
 use Rattle.tnc_record.specs.RecordLoop.{AllIsWritten, PartIsWritten, TurnsAreWritten, IsLooped}
-use Rattle.tnc_record.specs.RecordText.{report_text, text_of_losses}
-use Rattle.tnc_record.specs.RecordTurns.{Recording, new_recording, lines_of, IsRun}
+use Rattle.tnc_record.specs.RecordTurns.{lines_of}
 use Rattle.tnc_record.proofs.TextLemmas.{report_append, losses_text}
 use Rattle.tnc_record.proofs.TurnLemmas.{turns_more, reported_more}
 
@@ -85,11 +79,6 @@ turns_written : (recording : Recording) (failed : Bool) (o o' r r' : Stream) →
     → Puts false failed (report_text recording.lines) r r' → TurnsAreWritten recording o o' r r'
 turns_written recording true o o' r r' same puts = record { no_wave = same; lines = inr puts }
 turns_written recording false o o' r r' same puts = record { no_wave = same; lines = inl puts }
-
-pub no_memory : (words : RecordWords) (recording : Recording) (failed : Bool) (o r r' : Stream)
-    → IsRun words.sensitive recording → Puts false failed (report_text recording.lines) r r'
-    → IsLooped words Memory recording o o r r'
-no_memory words recording failed o r r' run puts = (inl run, turns_written recording failed o o r r' refl puts)
 
 -- a turn was cut short
 pub loop_cut : (words : RecordWords) (before after : Listening) (len : ℕ) (o o' start s s' : Stream) → o' ≡ o

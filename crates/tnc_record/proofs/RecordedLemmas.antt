@@ -1,17 +1,13 @@
 -- The record of the recorder's reader stands in the published list.
-use Rattle.std.specs.Prelude.{ℤ, true, Some, slice_get}
-use Rattle.std.proofs.Common.{◌≡◌, ℕ, ◌<◌, ◌≤◌, List, [], ◌∷◌, length, map, sym, subst, ◌∙◌, arith}
+use Rattle.tnc_record.proofs.Common.{ℤ, true, Some, ◌≡◌, ℕ, ◌<◌, ◌≤◌, List, [], ◌∷◌, length, map, sym, subst, ◌∙◌}
+use Rattle.tnc_record.proofs.Common.{arith, false≢true, All-nil, All-cons, All-head, All-tail, Got, Entry, record_of}
+use Rattle.tnc_record.proofs.Common.{answer, HeldRecorder, StandsFor, answers_of, items, losses, has_ended, Tile}
+use Rattle.std.specs.Prelude.{slice_get}
 use Rattle.std.specs.List.{All}
-use Rattle.std.proofs.lemmas.Bool.{false≢true}
-use Rattle.std.proofs.lemmas.List.Elements.{All-nil, All-cons, All-head, All-tail}
-use Rattle.sample_ring.specs.declared.got.Got.{Got}
 use Rattle.sample_ring.specs.declared.got.Got.TheVariants.{Item, Gap, Empty, End}
-use Rattle.sample_ring.specs.declared.view.Entry.{Entry}
-use Rattle.sample_ring.specs.Ends.{record_of, GoesForward}
-use Rattle.sample_ring.specs.Record.{answer, next, StandsAs, Stands, Tiles}
-use Rattle.ring_recorder.specs.Held.{HeldRecorder, StandsFor}
-use Rattle.ring_recorder.specs.Recording.{Placed, answers_of, items, losses, has_ended}
-use Rattle.ring_recorder.specs.Tiling.{Tile}
+use Rattle.sample_ring.specs.Ends.{GoesForward}
+use Rattle.sample_ring.specs.Record.{next, StandsAs, Stands, Tiles}
+use Rattle.ring_recorder.specs.Recording.{Placed}
 
 -- ---- samples
 

@@ -1,12 +1,9 @@
 -- The text of lines is that of their parts.
-use Rattle.std.proofs.Common.{◌≡◌, List, ◌++◌, map, sym, ap, ◌∙◌}
-use Rattle.std.proofs.lemmas.Grind.{flat_map-append}
+use Rattle.tnc_record.proofs.Common.{◌≡◌, List, ◌++◌, map, sym, ap, ◌∙◌, flat_map-append, Candidate, LaneGap, GapLine}
+use Rattle.tnc_record.proofs.Common.{FrameLine, report_text, turn_lines, text_of_gaps, text_of_frames, text_of_losses}
 use Rattle.std.proofs.lemmas.List.Folds.{flat_map-map}
-use Rattle.frame_merge.specs.declared.candidate.Candidate.{Candidate}
 use Rattle.ring_recorder.specs.declared.loss.Loss.{Loss}
-use Rattle.slicer_bank.specs.declared.advance.LaneGap.{LaneGap}
-use Rattle.tnc_record.specs.RecordText.{Line, GapLine, FrameLine, LostLine, ended_line, report_text, turn_lines}
-use Rattle.tnc_record.specs.RecordText.{text_of_gaps, text_of_frames, text_of_losses}
+use Rattle.tnc_record.specs.RecordText.{Line, LostLine, ended_line}
 
 pub report_append : (xs ys : List Line) → report_text (xs ++ ys) ≡ report_text xs ++ report_text ys
 report_append xs ys = flat_map-append ended_line xs ys

@@ -1,32 +1,20 @@
 -- One turn of a recording, and all turns so far.
-use Rattle.std.specs.Prelude.{Bool, true, false, Result, Ok, Err, OnErr, ◌&&◌}
-use Rattle.std.proofs.Common.{◌≡◌, ℕ, zero, suc, ◌<◌, ◌≤◌, List, [], ◌++◌, map, get_or, take, length, refl}
-use Rattle.std.proofs.Common.{inl, inr, ◌∙◌, Some, sym, ap, subst, arith}
-use Rattle.std.proofs.lemmas.Bool.{false≢true}
-use Rattle.std.proofs.lemmas.List.{append-nil, map-append, take_all, get_or-take}
-use Rattle.frame_merge.specs.declared.candidate.Candidate.{Candidate}
-use Rattle.sample_ring.specs.declared.got.Got.{Got}
-use Rattle.sample_ring.specs.declared.view.Entry.{Entry}
-use Rattle.sample_ring.specs.Ends.{reads_of}
-use Rattle.sample_ring.specs.Record.{answer}
-use Rattle.slicer_bank.specs.declared.advance.LaneGap.{LaneGap}
-use Rattle.slicer_bank.specs.HeardOnRing.{lane_of}
+use Rattle.tnc_record.proofs.Common.{Bool, true, false, Result, Ok, Err, ◌&&◌, ◌≡◌, ℕ, suc, ◌<◌, ◌≤◌, List, [], ◌++◌}
+use Rattle.tnc_record.proofs.Common.{map, take, length, refl, inl, inr, ◌∙◌, sym, ap, subst, arith, false≢true}
+use Rattle.tnc_record.proofs.Common.{append-nil, map-append, Candidate, Got, Entry, reads_of, answer, LaneGap, lane_of}
+use Rattle.tnc_record.proofs.Common.{readers_wanted, HeldRecorder, StandsFor, answers_of, has_ended, Stream, Puts}
+use Rattle.tnc_record.proofs.Common.{puts_puts, Listening, RecordWords, IsAnswered, Turns, IsCutOff, Runs, report_text}
+use Rattle.tnc_record.proofs.Common.{turn_lines, Recording, new_recording, HearsUnlessOver, AreTurns}
+use Rattle.std.specs.Prelude.{OnErr}
+use Rattle.std.proofs.Common.{zero, get_or, Some}
+use Rattle.std.proofs.lemmas.List.{take_all, get_or-take}
 use Rattle.ring_receiver.specs.HeardByAll.{AreDueBy}
 use Rattle.ring_receiver.specs.HeldReceiver.{records_in, answers_in, Hears as HearsSoFar}
-use Rattle.ring_receiver.specs.Readers.{readers_wanted}
 use Rattle.ring_receiver.specs.Turns.{IsTurnOf, AreGrownBy}
-use Rattle.ring_recorder.specs.Held.{HeldRecorder, StandsFor}
-use Rattle.ring_recorder.specs.Recording.{answers_of, has_ended}
 use Rattle.ring_recorder.specs.Turns.{IsTurn as IsRecorderTurn}
-use Rattle.tnc_ports.specs.SampledWrites.{Stream, Puts}
 use Rattle.tnc_ports.proofs.LiveReads.{lane_answers, nothing_read}
-use Rattle.tnc_ports.proofs.LiveWrites.{puts_puts}
-use Rattle.tnc_record.specs.declared.listening.Listening.{Listening}
-use Rattle.tnc_record.specs.declared.recording.RecordWords.{RecordWords}
-use Rattle.tnc_record.specs.HeldListening.{IsAnswered, StandsForRecording, ReportsMore, HearsMore, StopsHearing, Turns}
-use Rattle.tnc_record.specs.HeldListening.{IsCutOff, Runs}
-use Rattle.tnc_record.specs.RecordText.{report_text, turn_lines}
-use Rattle.tnc_record.specs.RecordTurns.{Recording, new_recording, HasEnded, HearsUnlessOver, IsTurn, AreTurns}
+use Rattle.tnc_record.specs.HeldListening.{StandsForRecording, ReportsMore, HearsMore, StopsHearing}
+use Rattle.tnc_record.specs.RecordTurns.{HasEnded, IsTurn}
 use Rattle.tnc_record.proofs.TextLemmas.{report_append}
 
 pub on_err : {T E P : Type 0} (r : Result T E) → P → OnErr r P
@@ -48,16 +36,6 @@ no_report failed recording after s same = record {
 }
 
 -- ---- the receiver
-
-pub hears_over : (words : RecordWords) (before : Listening) (len : ℕ) (recording : Recording) (s : Stream)
-    → StandsForRecording words len before recording → before.over ≡ true
-    → HearsMore words before before len recording s s
-hears_over words before len recording s stands over = record {
-  next = recording;
-  hears = subst (λ o. HearsUnlessOver o words.sensitive recording recording) (sym (sym stands.over ∙ over)) refl;
-  stands = stands;
-  writes = no_report before.failed recording recording s refl;
-}
 
 -- so many readers are nine at most
 nine : (sensitive : Bool) → readers_wanted sensitive ≤ 9
@@ -272,18 +250,6 @@ turns_more sensitive zero first last next same on turn =
     (next, subst (λ r. ¬ HasEnded r) same on, subst (λ r. IsTurn sensitive r next) same turn, refl)
 turns_more sensitive (suc count) first last next turns on turn =
     (turns.0, turns.1, turns.2, turns_more sensitive count turns.0 last next turns.3 on turn)
-
-pub runs_first : (words : RecordWords) (listening : Listening) (len : ℕ) (s : Stream)
-    → StandsForRecording words len listening (new_recording words.sensitive) → listening.failed ≡ false
-    → Runs words listening len s s
-runs_first words listening len s stands unfailed = record {
-  count = 0;
-  recording = new_recording words.sensitive;
-  turns = refl;
-  goes_on = λ all. false≢true all.0;
-  stands = stands;
-  writes = subst (λ f. Puts false f [] s s) (sym unfailed) (puts_none false s);
-}
 
 -- all that was reported, and what a turn reports
 pub reported_more : (failed failed' : Bool) (before after : Recording) (start s s' : Stream)

@@ -1,21 +1,17 @@
 -- Words that ask for help or for the version ask for no other command, and for one text.
-use Rattle.std.proofs.Common.{◌≡◌, ◌∷◌, [], ◌&&◌, ◌||◌, Bool, true, false, if◌then◌else◌, Option, Some, None, List}
-use Rattle.std.proofs.Common.{codes, slice_get, refl, sym, ap, ◌∙◌, inl, inr}
+use Rattle.tnc_words.proofs.Common.{◌≡◌, ◌∷◌, [], ◌&&◌, Bool, true, false, Option, Some, None, List, codes, refl, sym}
+use Rattle.tnc_words.proofs.Common.{ap, ◌∙◌, inl, inr, bytes_eq, Text, Command, Help, Version, Topic, Asks, first_word}
+use Rattle.tnc_words.proofs.Common.{IsHelp, IsVersion, decode_faults, encode_faults, show_faults, loop_faults}
+use Rattle.tnc_words.proofs.Common.{bench_faults, serve_faults, record_faults, call_faults}
+use Rattle.std.proofs.Common.{◌||◌, if◌then◌else◌, slice_get}
 use Rattle.std.proofs.lemmas.Slice.Eq.{bytes_eq-Decides}
-use Rattle.std.specs.Str.{bytes_eq}
 use Rattle.clap.specs.Faults.{walk_fault}
-use Rattle.clap.specs.Words.{Kinds, Text}
-use Rattle.tnc_words.specs.declared.command.Command.{Command}
+use Rattle.clap.specs.Words.{Kinds}
 use Rattle.tnc_words.specs.declared.command.Command.TheVariants.{Decode as ToDecode, Encode as ToEncode, Show as ToShow}
 use Rattle.tnc_words.specs.declared.command.Command.TheVariants.{Loop as ToLoop, Bench as ToBench, Serve as ToServe}
-use Rattle.tnc_words.specs.declared.command.Command.TheVariants.{Record as ToRecord, Call as ToCall, Help, Version}
-use Rattle.tnc_words.specs.declared.topic.Topic.{Topic}
+use Rattle.tnc_words.specs.declared.command.Command.TheVariants.{Record as ToRecord, Call as ToCall}
 use Rattle.tnc_words.specs.declared.topic.Topic.TheVariants.{Program, Decode, Encode, Show, Loop, Bench, Serve, Record}
 use Rattle.tnc_words.specs.declared.topic.Topic.TheVariants.{Call}
-use Rattle.tnc_words.specs.Commands.{Asks, first_word}
-use Rattle.tnc_words.specs.Help.{IsHelp, IsVersion}
-use Rattle.tnc_words.specs.Options.{decode_faults, encode_faults, show_faults, loop_faults, bench_faults, serve_faults}
-use Rattle.tnc_words.specs.Options.{record_faults, call_faults}
 
 -- ---- what the words ask for, as a number
 

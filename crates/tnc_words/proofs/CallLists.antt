@@ -1,19 +1,16 @@
 -- Lists of calls: their length, one more call, a text that is no call, and that a text spells one list. Then how the
 -- calls of a text are read one after another.
+use Rattle.tnc_words.proofs.Common.{◌≡◌, ◌+◌, ◌<◌, List, [], ◌∷◌, ◌++◌, length, Option, Some, None, refl, sym, subst}
+use Rattle.tnc_words.proofs.Common.{ap, ◌∙◌, arith, false, eqb, Text, Callsign, IsCallText, IsCallList}
 use denote.Ref.{Bor}
-use Rattle.std.proofs.Common.{◌≡◌, suc, ◌+◌, ◌<◌, ◌≤◌, List, [], ◌∷◌, ◌++◌, length, length-append, Option, Some, None}
-use Rattle.std.proofs.Common.{append_assoc, refl, sym, subst, ap, ◌∙◌, arith, lit<, false}
+use Rattle.std.proofs.Common.{suc, ◌≤◌, length-append, append_assoc, lit<}
 use Rattle.std.specs.Prelude.{MatchOption}
 use Rattle.std.specs.List.{after_first}
-use Rattle.std.proofs.Math.Dec.{eqb}
 use Rattle.std.proofs.lemmas.List.Elements.{All-from_get_or}
 use Rattle.std.proofs.lemmas.List.Splits.{length-slice_split, slice_split_first, slice_split_none}
 use Rattle.std.proofs.lemmas.List.Sums.{fails_before_first}
 use Rattle.std.proofs.lemmas.Str.Pattern.{IsSplitOnceResult, split_once_first}
-use Rattle.clap.specs.Words.{Text}
-use Rattle.ax25_address.specs.Callsign.{Callsign}
-use Rattle.ax25_address.specs.CallText.{IsCallText}
-use Rattle.tnc_words.specs.Stations.{GivesCall, HasRepeaters, IsCallList, SpellCalls, parts_at_commas}
+use Rattle.tnc_words.specs.Stations.{GivesCall, HasRepeaters, SpellCalls, parts_at_commas}
 use Rattle.tnc_words.proofs.OneLink.{one_spelled}
 
 -- as many texts as calls
@@ -71,9 +68,6 @@ pub record SpelledSoFar (text rest : Text) (calls : List Callsign) : Type 0 wher
   pub cut : parts_at_commas text ≡ parts ++ parts_at_commas rest
   pub spelled : SpellCalls parts calls
   pub few : length calls ≤ 8
-
-pub none_so_far : (text : Text) → SpelledSoFar text text []
-none_so_far text = record { parts = []; cut = refl; spelled = tt; few = omega arith }
 
 -- where the first comma of a text stands, or that it has none
 pub first_part : (text : Text) (r : Option (Bor Text × Bor Text)) → IsSplitOnceResult 44 text r

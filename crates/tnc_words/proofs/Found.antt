@@ -1,13 +1,12 @@
 -- What clap found for an option.
-use Rattle.std.proofs.Common.{◌≡◌, Bool, true, false, true≢false, ◌&&◌, Option, Some, None, find, refl, ap, ◌∙◌, sym}
-use Rattle.std.proofs.Common.{subst}
-use Rattle.std.specs.Prelude.{option_map, option_and_then, Result, IfOk, IfSome, IsNone, IsErrAnd, IsErrOf}
-use Rattle.std.specs.Prelude.{is_ok, ok_or}
-use Rattle.std.specs.Str.{bytes_eq}
+use Rattle.tnc_words.proofs.Common.{◌≡◌, Bool, true, false, ◌&&◌, Option, Some, None, refl, ap, ◌∙◌, sym, subst, IfOk}
+use Rattle.tnc_words.proofs.Common.{bytes_eq, App, Row, Text, is_simple_and_free, rows_of}
+use Rattle.std.proofs.Common.{true≢false, find}
+use Rattle.std.specs.Prelude.{option_map, option_and_then, Result, IfSome, IsNone, IsErrAnd, IsErrOf, is_ok, ok_or}
 use Rattle.clap.specs.Matches.{matched_of}
 use Rattle.clap.specs.Walk.{row_of}
 use Rattle.clap.specs.Facts.{Entry}
-use Rattle.clap.specs.Words.{App, Row, Text, is_simple, is_simple_and_free, rows_of}
+use Rattle.clap.specs.Words.{is_simple}
 use Rattle.clap.specs.declared.parser.matches.Found.{Found}
 use Rattle.clap.specs.declared.parser.matches.MatchedArg.{MatchedArg}
 use Rattle.clap.proofs.WalkLemmas.{find_row}

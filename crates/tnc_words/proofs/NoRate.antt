@@ -1,11 +1,7 @@
 -- Words that name no rate ask for no way of hearing.
-use Rattle.std.proofs.Common.{List}
-use Rattle.clap.specs.Words.{Row}
-use Rattle.tnc_words.specs.declared.command.Receiving.{Receiving}
-use Rattle.tnc_words.specs.declared.command.Receiving.TheVariants.{Standard, Sensitive, ShortWave}
-use Rattle.tnc_words.specs.declared.command.SampleRate.{SampleRate}
-use Rattle.tnc_words.specs.declared.command.SampleRate.TheVariants.{Narrow}
-use Rattle.tnc_words.specs.Rates.{HasRate, HasReceiving}
+use Rattle.tnc_words.proofs.Common.{List, Row, Receiving, Standard, Sensitive, ShortWave, SampleRate, Narrow}
+use Rattle.tnc_words.proofs.Common.{HasReceiving}
+use Rattle.tnc_words.specs.Rates.{HasRate}
 
 pub no_rate : (found : List Row) → ((rate : SampleRate) → HasRate found rate → ⊥) → (receiving : Receiving)
     → HasReceiving found receiving → ⊥

@@ -1,19 +1,18 @@
 -- Words ask for one command.
-use Rattle.std.proofs.Common.{◌≡◌, ℕ, ◌+◌, ◌*◌, false, Option, Some, List, ◌∷◌, codes, refl, sym, ap, ◌∙◌, arith}
-use Rattle.std.proofs.lemmas.Bool.{eqb-false, true≢false}
-use Rattle.std.proofs.Math.Dec.{eqb}
-use Rattle.clap.specs.Words.{Row, Text}
+use Rattle.tnc_words.proofs.Common.{◌≡◌, ℕ, ◌+◌, false, Option, Some, List, ◌∷◌, codes, refl, sym, ap, ◌∙◌, arith}
+use Rattle.tnc_words.proofs.Common.{eqb-false, eqb, Row, Text, Command, Help, Version, Receiving, Standard, Sensitive}
+use Rattle.tnc_words.proofs.Common.{ShortWave, SampleRate, Narrow, Topic, Asks, IsDecode, IsEncode, IsShow, IsLoop}
+use Rattle.tnc_words.proofs.Common.{IsBench, first_word, HasDecodeOptions, HasEncodeOptions, HasShowOptions}
+use Rattle.tnc_words.proofs.Common.{HasLoopOptions, HasBenchOptions, HasServeOptions, HasRecordOptions, HasCallOptions}
+use Rattle.tnc_words.proofs.Common.{IsRecord, IsHelp, IsVersion, HasReceiving, samples_a_second}
+use Rattle.std.proofs.Common.{◌*◌}
+use Rattle.std.proofs.lemmas.Bool.{true≢false}
 use Rattle.ax25_frames.specs.ControlField.{numbers}
 use Rattle.ax25_frames.specs.declared.frame.Modulus.{Modulus}
 use Rattle.ax25_frames.specs.declared.frame.Modulus.TheVariants.{Eight, OneTwentyEight}
-use Rattle.tnc_words.specs.declared.command.Command.{Command}
-use Rattle.tnc_words.specs.declared.command.Command.TheVariants.{Decode, Encode, Show, Loop, Bench, Serve, Help}
-use Rattle.tnc_words.specs.declared.command.Command.TheVariants.{Record, Call, Version}
+use Rattle.tnc_words.specs.declared.command.Command.TheVariants.{Decode, Encode, Show, Loop, Bench, Serve, Record, Call}
 use Rattle.tnc_words.specs.declared.command.DecodeWords.{DecodeWords}
-use Rattle.tnc_words.specs.declared.command.Receiving.{Receiving}
-use Rattle.tnc_words.specs.declared.command.Receiving.TheVariants.{Standard, Sensitive, ShortWave}
-use Rattle.tnc_words.specs.declared.command.SampleRate.{SampleRate}
-use Rattle.tnc_words.specs.declared.command.SampleRate.TheVariants.{Narrow, Wide}
+use Rattle.tnc_words.specs.declared.command.SampleRate.TheVariants.{Wide}
 use Rattle.tnc_words.specs.declared.command.EncodeWords.{EncodeWords}
 use Rattle.tnc_words.specs.declared.command.ShowWords.{ShowWords}
 use Rattle.tnc_words.specs.declared.command.LoopWords.{LoopWords}
@@ -21,13 +20,7 @@ use Rattle.tnc_words.specs.declared.command.BenchOptions.{BenchOptions}
 use Rattle.tnc_words.specs.declared.command.ServeOptions.{ServeOptions}
 use Rattle.tnc_words.specs.declared.command.RecordOptions.{RecordOptions}
 use Rattle.tnc_words.specs.declared.command.CallOptions.{CallOptions}
-use Rattle.tnc_words.specs.declared.topic.Topic.{Topic}
-use Rattle.tnc_words.specs.Commands.{Asks, IsDecode, IsEncode, IsShow, IsLoop, IsBench, IsServe, first_word}
-use Rattle.tnc_words.specs.Commands.{HasDecodeOptions, HasEncodeOptions, HasShowOptions, HasLoopOptions}
-use Rattle.tnc_words.specs.Commands.{HasBenchOptions, HasServeOptions, HasRecordOptions, HasCallOptions, IsRecord}
-use Rattle.tnc_words.specs.Commands.{IsCall}
-use Rattle.tnc_words.specs.Help.{IsHelp, IsVersion}
-use Rattle.tnc_words.specs.Rates.{HasReceiving, samples_a_second}
+use Rattle.tnc_words.specs.Commands.{IsServe, IsCall}
 use Rattle.tnc_words.proofs.AskedHelp.{help_alone, help_is_no_version, one_topic, version_alone}
 use Rattle.tnc_words.proofs.CallLists.{one_given_call, one_repeaters}
 use Rattle.tnc_words.proofs.OneLink.{one_call as one_digi, one_params}

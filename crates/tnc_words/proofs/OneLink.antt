@@ -1,12 +1,9 @@
 -- Options name one mode, say one set of parameters and spell one call.
-use Rattle.std.proofs.Common.{◌≡◌, ℕ, ◌<◌, Option, Some, None, List, [], ◌∷◌, length, codes, refl, sym, ap, ◌∙◌, inl}
-use Rattle.std.proofs.Common.{inr, arith}
+use Rattle.tnc_words.proofs.Common.{◌≡◌, ℕ, ◌<◌, Option, Some, None, List, [], ◌∷◌, length, codes, refl, sym, ap, ◌∙◌}
+use Rattle.tnc_words.proofs.Common.{inl, inr, arith, eqb-false, Row, Text, Callsign, IsCallText}
 use Rattle.std.specs.Fmt.{decimal}
-use Rattle.std.proofs.lemmas.Bool.{eqb-false}
 use Rattle.std.proofs.lemmas.Fmt.{decimal_injective}
-use Rattle.clap.specs.Words.{Row, Text}
-use Rattle.ax25_address.specs.Callsign.{Callsign}
-use Rattle.ax25_address.specs.CallText.{IsCallText, TellsSsid}
+use Rattle.ax25_address.specs.CallText.{TellsSsid}
 use Rattle.selective_reject.specs.declared.window.Mode.{Mode}
 use Rattle.selective_reject.specs.declared.window.Mode.TheVariants.{Rej, Srej}
 use Rattle.link_machine.specs.declared.params.Params.{Params}

@@ -1,7 +1,6 @@
 -- An option has one number.
-use Rattle.std.proofs.Common.{◌≡◌, ℕ, Option, Some, None, sym, ◌∙◌}
-use Rattle.clap.specs.Words.{Text}
-use Rattle.tnc_words.specs.Numbers.{GivesNumber, HasNumber}
+use Rattle.tnc_words.proofs.Common.{◌≡◌, ℕ, Option, Some, None, sym, ◌∙◌, Text, HasNumber}
+use Rattle.tnc_words.specs.Numbers.{GivesNumber}
 
 -- an option that was given has one number
 pub given_number : (text : Option Text) (least greatest number other : ℕ) → GivesNumber text least greatest number

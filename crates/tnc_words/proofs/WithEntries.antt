@@ -1,8 +1,10 @@
 -- A command with the options of a table, one after another.
-use Rattle.std.proofs.Common.{◌≡◌, ℕ, ◌+◌, ◌<◌, List, [], ◌∷◌, ◌++◌, length, take, get_or, refl, sym, ap, ◌∙◌}
+use Rattle.tnc_words.proofs.Common.{◌≡◌, ℕ, ◌+◌, ◌<◌, List, [], ◌∷◌, ◌++◌, length, take, refl, sym, ap, ◌∙◌, App}
+use Rattle.tnc_words.proofs.Common.{with_entries}
+use Rattle.std.proofs.Common.{get_or}
 use Rattle.std.proofs.lemmas.List.{take_more}
-use Rattle.clap.specs.Words.{App, Rule, with_rule}
-use Rattle.tnc_words.specs.Entries.{rule_of_entry, with_entries}
+use Rattle.clap.specs.Words.{Rule, with_rule}
+use Rattle.tnc_words.specs.Entries.{rule_of_entry}
 use Rattle.tnc_words.specs.declared.options.Entry.{Entry}
 
 with_last : (app : App) (entries : List Entry) (entry : Entry)

@@ -1,9 +1,8 @@
 -- A clock one place on.
-use Rattle.std.proofs.Common.{◌≡◌, ℕ, ◌+◌, ℤ, true, false, ap, sym, ◌∙◌, add-one}
-use Rattle.std.specs.Prelude.{if◌then◌else◌}
-use Rattle.tone_table.specs.declared.tone.Tone.{Tone}
-use Rattle.tone_tracking.specs.declared.bit_clock.Pull.{Pull}
-use Rattle.tone_tracking.specs.Clock.{Clock, changes, phase_next, phase_pulled, rate_pulled, next_clock, clock_after}
+use Rattle.tone_tracking.proofs.Common.{◌≡◌, ℕ, ◌+◌, ℤ, ap, sym, ◌∙◌, if◌then◌else◌, Tone, Pull, Clock, next_clock}
+use Rattle.tone_tracking.proofs.Common.{clock_after}
+use Rattle.std.proofs.Common.{true, false, add-one}
+use Rattle.tone_tracking.specs.Clock.{changes, phase_next, phase_pulled, rate_pulled}
 
 abbrev clock_of : ℤ → ℤ → Tone → Clock
 clock_of phase rate before = record { phase = phase; rate = rate; before = before }

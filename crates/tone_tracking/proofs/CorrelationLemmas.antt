@@ -1,13 +1,11 @@
 -- Correlations by the samples of their windows.
-use Rattle.std.proofs.Common.{◌≡◌, ℕ, ◌+◌, ◌*◌, ◌<◌, ℤ, pos, ◌*ℤ◌, neg_ℤ, List, map, get_or, ap, ◌∙◌, arith}
+use Rattle.tone_tracking.proofs.Common.{◌≡◌, ℕ, ◌+◌, ◌*◌, ◌<◌, ℤ, pos, ◌*ℤ◌, neg_ℤ, List, map, get_or, ap, ◌∙◌, arith}
+use Rattle.tone_tracking.proofs.Common.{Tone, Mark, Space, sum_below, product_of, weight, correlation, correlations}
 use Rattle.std.proofs.lemmas.List.FromFn.{get_or-map-range_with_len}
 use Rattle.std.specs.List.{range_with_len}
-use Rattle.tone_table.specs.declared.tone.Tone.{Tone}
-use Rattle.tone_table.specs.declared.tone.Tone.TheVariants.{Mark, Space}
 use Rattle.tone_table.specs.Tones.{phase_step}
-use Rattle.offset_slicers.specs.Decision.{sum_below, product_of}
 use Rattle.offset_slicers.proofs.DecisionLemmas.{sum_below-agree}
-use Rattle.tone_tracking.specs.Correlation.{weight, product_at, correlation, correlations}
+use Rattle.tone_tracking.specs.Correlation.{product_at}
 
 -- a table that holds a tone's weights, some steps on
 pub sum-product_at : (tone : Tone) (shift : ℕ) (window weights : List ℤ)

@@ -1,14 +1,8 @@
 -- The decision of a window by how loud it is as each tone.
-use Rattle.std.proofs.Common.{◌≡◌, ℤ, pos, List, [], ◌∷◌, ap, sym, ◌∙◌, ◌≤ℤ◌, arith}
-use Rattle.std.specs.Prelude.{int_le, if◌then◌else◌}
-use Rattle.std.specs.Int.{int_max}
-use Rattle.std.proofs.lemmas.Int.{ints, clamps}
-use Rattle.tone_table.specs.declared.tone.Tone.{Tone}
-use Rattle.tone_table.specs.declared.tone.Tone.TheVariants.{Mark, Space}
-use Rattle.tone_tracking.specs.declared.phasor.Phasor.{Phasor}
-use Rattle.tone_tracking.specs.declared.correlation.Correlations.{Correlations}
-use Rattle.tone_tracking.specs.Phasors.{none, plus, turn, turn_back, size}
-use Rattle.tone_tracking.specs.Heard.{ahead, largest, decided}
+use Rattle.tone_tracking.proofs.Common.{◌≡◌, ℤ, pos, List, [], ◌∷◌, ap, sym, ◌∙◌, ◌≤ℤ◌, arith, int_le, if◌then◌else◌}
+use Rattle.tone_tracking.proofs.Common.{int_max, ints, Tone, Mark, Space, Phasor, Correlations, none, plus, turn}
+use Rattle.tone_tracking.proofs.Common.{turn_back, size, ahead, largest, decided}
+use Rattle.std.proofs.lemmas.Int.{clamps}
 use Rattle.tone_tracking.proofs.PhasorLemmas.{plus-none, plus-assoc, size-turn, size_least}
 
 -- the louder tone of two is the one that is decided

@@ -1,10 +1,7 @@
 -- Vectors of a known length as their lanes, and sums and products in a lane.
-use Rattle.std.proofs.Common.{◌≡◌, ◌≤◌, ◌<◌, ◌+ℤ◌, ◌*ℤ◌, ℕ, ℤ, pos, List, [], ◌∷◌, length, map, get_or, refl, arith}
-use Rattle.std.proofs.Common.{w32, to_z, of_z, FitsSigned, unsigned_abs, zero, suc}
-use Rattle.std.specs.List.{All}
-use Rattle.tone_tracking.specs.PairSums.{AreSmall, in_pairs}
-use Rattle.offset_slicers.proofs.DecisionLemmas.{unsigned_abs-product}
-use Rattle.std.proofs.lemmas.Int.{ints, to_z-of_z}
+use Rattle.tone_tracking.proofs.Common.{◌≡◌, ◌≤◌, ◌<◌, ◌+ℤ◌, ◌*ℤ◌, ℕ, ℤ, pos, List, [], ◌∷◌, length, map, get_or, refl}
+use Rattle.tone_tracking.proofs.Common.{arith, w32, to_z, of_z, FitsSigned, unsigned_abs, zero, suc, All, AreSmall}
+use Rattle.tone_tracking.proofs.Common.{in_pairs, unsigned_abs-product, ints, to_z-of_z}
 
 pub four_items : (xs : List ℤ) → length xs ≡ 4
     → xs ≡ get_or xs 0 (pos 0) ∷ get_or xs 1 (pos 0) ∷ get_or xs 2 (pos 0) ∷ get_or xs 3 (pos 0) ∷ []

@@ -1,3 +1,4 @@
+pub mod Common
 pub mod PhasorLemmas
 pub mod ClockLemmas
 pub mod CorrelationLemmas

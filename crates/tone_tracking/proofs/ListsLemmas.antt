@@ -1,15 +1,12 @@
 -- What the lists keep, with one sample more.
-use Rattle.std.proofs.Common.{◌≡◌, ◌≢◌, ℕ, ◌+◌, ◌-◌, ◌%◌, ◌<◌, ◌≤◌, ℤ, pos, List, length, get_or, set, replicate, sym}
-use Rattle.std.proofs.Common.{ap, subst, ◌∙◌, arith, inl, inr, get_or-set_same, get_or-set_other}
-use Rattle.std.specs.List.{All}
-use Rattle.std.proofs.lemmas.Bool.{cases_eq, cases_lt}
-use Rattle.std.proofs.lemmas.List.{length-set, get_or-replicate}
-use Rattle.tone_tracking.specs.declared.correlation.Correlations.{Correlations}
-use Rattle.tone_tracking.specs.Correlation.{AreWithin, correlations}
-use Rattle.tone_tracking.specs.Phasors.{none}
-use Rattle.tone_tracking.specs.Heard.{places_in}
-use Rattle.tone_tracking.specs.HeldTracker.{HeldTracker, StandsFor as TrackerStandsFor}
-use Rattle.tone_tracking.specs.HeldLists.{HeldLists, HasDecided, HasSamples, HasTaken}
+use Rattle.tone_tracking.proofs.Common.{◌≡◌, ◌≢◌, ℕ, ◌+◌, ◌-◌, ◌%◌, ◌<◌, ◌≤◌, ℤ, pos, List, length, get_or, set}
+use Rattle.tone_tracking.proofs.Common.{replicate, sym, ap, subst, ◌∙◌, arith, inl, inr, get_or-set_same}
+use Rattle.tone_tracking.proofs.Common.{get_or-set_other, All, cases_eq, cases_lt, length-set, get_or-replicate}
+use Rattle.tone_tracking.proofs.Common.{Correlations, correlations, none, places_in, HeldTracker, HeldLists, HasSamples}
+use Rattle.tone_tracking.proofs.Common.{HasTaken}
+use Rattle.tone_tracking.specs.Correlation.{AreWithin}
+use Rattle.tone_tracking.specs.HeldTracker.{StandsFor as TrackerStandsFor}
+use Rattle.tone_tracking.specs.HeldLists.{HasDecided}
 use Rattle.tone_tracking.proofs.CorrelationLemmas.{correlations-agree}
 use Rattle.tone_tracking.proofs.PhasorLemmas.{within_none as phasor_within_none}
 

@@ -1,14 +1,11 @@
 -- Phasors by their parts, and how large they are.
-use Rattle.std.proofs.Common.{◌≡◌, ℕ, ◌+◌, ◌*◌, ◌≤◌, ℤ, pos, negsuc, ◌+ℤ◌, ◌-ℤ◌, ◌*ℤ◌, ◌≤ℤ◌, unsigned_abs, subst, sym}
-use Rattle.std.proofs.Common.{neg_ℤ, ap, ◌∙◌, arith}
-use Rattle.std.proofs.lemmas.Int.{ints, unsigned_abs-mul}
+use Rattle.tone_tracking.proofs.Common.{◌≡◌, ℕ, ◌+◌, ◌*◌, ◌≤◌, ℤ, pos, negsuc, ◌+ℤ◌, ◌-ℤ◌, ◌*ℤ◌, ◌≤ℤ◌, unsigned_abs}
+use Rattle.tone_tracking.proofs.Common.{subst, sym, neg_ℤ, ap, ◌∙◌, arith, ints, Tone, Mark, Space, Phasor, IsWithin}
+use Rattle.tone_tracking.proofs.Common.{none, plus, turn, turn_back, size}
+use Rattle.std.proofs.lemmas.Int.{unsigned_abs-mul}
 use Rattle.std.proofs.Math.Nat.{mul-le-mul_right, mul-le-mul_left}
 use Rattle.std.proofs.Math.IntN.{*ℤ_comm, +ℤ_invr, zero-*ℤ, pos-*ℤ-pos, negsuc-*ℤ-negsuc}
 use Rattle.offset_slicers.proofs.IntegerLemmas.{mul-add_left, mul-add_right}
-use Rattle.tone_table.specs.declared.tone.Tone.{Tone}
-use Rattle.tone_table.specs.declared.tone.Tone.TheVariants.{Mark, Space}
-use Rattle.tone_tracking.specs.declared.phasor.Phasor.{Phasor}
-use Rattle.tone_tracking.specs.Phasors.{IsWithin, none, plus, turn, turn_back, size}
 
 -- phasors with the same parts are the same
 pub phasor_is : (p q : Phasor) → p.a ≡ q.a → p.b ≡ q.b → p ≡ q

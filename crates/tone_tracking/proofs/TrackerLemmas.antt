@@ -1,17 +1,12 @@
 -- The past and the tones of a tracker, one place on.
-use Rattle.std.proofs.Common.{◌≡◌, ◌≢◌, ℕ, zero, suc, ◌+◌, ◌-◌, ◌*◌, ◌/◌, ◌%◌, ◌<◌, ◌≤◌, List, length, get_or, set}
-use Rattle.std.proofs.Common.{replicate, sym, ap, ◌∙◌, arith, inl, inr, get_or-set_same, get_or-set_other}
-use Rattle.std.specs.Prelude.{if◌then◌else◌}
-use Rattle.std.proofs.lemmas.Bool.{cases_eq, cases_lt, lt-ltb, le-ltb}
-use Rattle.std.proofs.lemmas.List.{get_or-replicate}
-use Rattle.tone_table.specs.declared.tone.Tone.{Tone}
-use Rattle.tone_table.specs.declared.tone.Tone.TheVariants.{Mark}
-use Rattle.tone_tracking.specs.declared.phasor.Phasor.{Phasor}
-use Rattle.tone_tracking.specs.declared.correlation.Correlations.{Correlations}
+use Rattle.tone_tracking.proofs.Common.{◌≡◌, ◌≢◌, ℕ, zero, suc, ◌+◌, ◌-◌, ◌*◌, ◌/◌, ◌%◌, ◌<◌, ◌≤◌, List, length, get_or}
+use Rattle.tone_tracking.proofs.Common.{set, replicate, sym, ap, ◌∙◌, arith, inl, inr, get_or-set_same}
+use Rattle.tone_tracking.proofs.Common.{get_or-set_other, if◌then◌else◌, cases_eq, cases_lt, get_or-replicate, Tone}
+use Rattle.tone_tracking.proofs.Common.{Mark, Phasor, Correlations, none, decided, open_of, passed, past_at, tone_at}
+use Rattle.tone_tracking.proofs.Common.{HeldTracker, StandsFor, tone_before}
+use Rattle.std.proofs.lemmas.Bool.{lt-ltb, le-ltb}
 use Rattle.tone_tracking.specs.declared.reach.Reach.{Reach}
-use Rattle.tone_tracking.specs.Phasors.{none}
-use Rattle.tone_tracking.specs.Heard.{decided, open_of, passed, tone_after, past_of, past_at, tone_at}
-use Rattle.tone_tracking.specs.HeldTracker.{HeldTracker, StandsFor, tone_before}
+use Rattle.tone_tracking.specs.Heard.{tone_after, past_of}
 
 -- the past one window on
 pub past_at-next : (reach : Reach) (windows : ℕ → Correlations) (place : ℕ)

@@ -1,3 +1,4 @@
+pub mod Common
 pub mod StreamLemmas
 pub mod WideLemmas
 pub mod Visits

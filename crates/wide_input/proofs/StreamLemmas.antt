@@ -1,16 +1,14 @@
 -- The streams of samples that come in pieces, and how many samples they have.
-use Rattle.std.proofs.Common.{◌≡◌, ℕ, zero, suc, ◌+◌, ◌-◌, ◌*◌, ◌/◌, ◌<◌, ◌≤◌, ℤ, List, [], ◌∷◌, ◌++◌, length, get_or}
-use Rattle.std.proofs.Common.{◌^◌, take, append-nil, pos, Option, Some, None, Result, Ok, Err, refl, ap, sym, subst, ◌∙◌, arith}
-use Rattle.std.specs.Prelude.{OnOk, OnErr, IfOk, option_map}
+use Rattle.wide_input.proofs.Common.{◌≡◌, ℕ, zero, suc, ◌+◌, ◌-◌, ◌*◌, ◌/◌, ◌<◌, ◌≤◌, ℤ, List, [], ◌∷◌, ◌++◌, length}
+use Rattle.wide_input.proofs.Common.{get_or, ◌^◌, take, append-nil, pos, Some, refl, ap, sym, subst, ◌∙◌, arith, OnOk}
+use Rattle.wide_input.proofs.Common.{IfOk, option_map, take_more, Candidate, AreCandidatesBehind, HeldBank, stream}
+use Rattle.wide_input.proofs.Common.{least_count, AllPast, HeldStream, StreamStandsFor, HasFound, IsAbreast, TakesPart}
+use Rattle.wide_input.proofs.Common.{AreAlike, next_skipped}
+use Rattle.std.proofs.Common.{Option, None, Result, Ok, Err}
+use Rattle.std.specs.Prelude.{OnErr}
 use Rattle.std.specs.Result.{result_ok}
 use Rattle.std.proofs.lemmas.Option.{none-some, same_Some}
-use Rattle.std.proofs.lemmas.List.{take_more}
-use Rattle.frame_merge.specs.declared.candidate.Candidate.{Candidate}
-use Rattle.slicer_bank.specs.Candidates.{AreCandidatesBehind}
-use Rattle.slicer_bank.specs.Held.{HeldBank, StandsFor as BankStandsFor}
-use Rattle.wide_input.specs.Streams.{stream, least_count}
-use Rattle.slicer_bank.specs.Merging.{AllPast}
-use Rattle.wide_input.specs.Held.{HeldStream, StreamStandsFor, HasFound, IsAbreast, TakesPart, AreAlike, next_skipped}
+use Rattle.slicer_bank.specs.Held.{StandsFor as BankStandsFor}
 
 -- the stream of samples and more
 pub stream-append : (skipped : ℕ) (x y : List ℤ) → stream skipped (x ++ y)

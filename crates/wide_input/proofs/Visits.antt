@@ -1,16 +1,15 @@
 -- Streams that are visited one after another.
-use Rattle.std.proofs.Common.{◌≡◌, ℕ, ◌+◌, ◌/◌, ◌<◌, ◌≤◌, ℤ, List, [], ◌∷◌, ◌++◌, Some, map, take, drop, replicate}
-use Rattle.std.proofs.Common.{append-nil, length, get_or, set, ap, sym, ◌∙◌, arith, subst, inl, inr}
-use Rattle.std.proofs.Common.{get_or-set_same, get_or-set_other}
-use Rattle.std.specs.List.{All}
-use Rattle.std.proofs.lemmas.Bool.{cases_eq, cases_lt}
-use Rattle.std.proofs.lemmas.List.{get_or_default, length-set, get_or_append_left, map-append, length-map, take_more}
-use Rattle.std.proofs.lemmas.List.{length-take-le, get_or-replicate, length-replicate}
+use Rattle.wide_input.proofs.Common.{◌≡◌, ℕ, ◌+◌, ◌/◌, ◌<◌, ◌≤◌, ℤ, List, [], ◌∷◌, ◌++◌, Some, map, take, drop}
+use Rattle.wide_input.proofs.Common.{replicate, append-nil, length, get_or, ap, sym, ◌∙◌, arith, subst, inl, inr, All}
+use Rattle.wide_input.proofs.Common.{cases_lt, map-append, length-map, take_more, Candidate, in_stream, HeldStream}
+use Rattle.wide_input.proofs.Common.{HearsBlock, AreAlike, HasFound, items_of, found_by, brought, IsAbreast, TakesPart}
+use Rattle.wide_input.proofs.Common.{KeepsInTime}
+use Rattle.std.proofs.Common.{set, get_or-set_same, get_or-set_other}
+use Rattle.std.proofs.lemmas.Bool.{cases_eq}
+use Rattle.std.proofs.lemmas.List.{get_or_default, length-set, get_or_append_left, length-take-le, get_or-replicate}
+use Rattle.std.proofs.lemmas.List.{length-replicate}
 use Rattle.std.proofs.Math.Seq.{get_or-append_seam, take-append_seam}
-use Rattle.frame_merge.specs.declared.candidate.Candidate.{Candidate}
-use Rattle.wide_input.specs.Candidates.{in_stream}
-use Rattle.wide_input.specs.Held.{HeldStream, HearsBlock, KeepsFit, AreAlike, HasFound, items_of, found_by, brought}
-use Rattle.wide_input.specs.Held.{IsAbreast, TakesPart, KeepsInTime}
+use Rattle.wide_input.specs.Held.{KeepsFit}
 use Rattle.wide_input.proofs.WideLemmas.{brought-append}
 
 -- what a stream does in its job

@@ -1,13 +1,13 @@
 -- The law of a signal near in one stream: each candidate of the forty lanes lies near the end of a frame that was sent.
-use Rattle.std.proofs.Common.{◌≡◌, ℕ, ◌+◌, ◌*◌, ◌/◌, ◌<◌, ℤ, true, List, [], ◌∷◌, get_or, map, refl, ◌∙◌, arith}
-use Rattle.std.proofs.Common.{inl, inr}
-use Rattle.std.specs.Prelude.{nat_lt, ◌&&◌}
-use Rattle.std.specs.List.{All, AllByRecursion}
+use Rattle.wide_input.proofs.Common.{◌≡◌, ℕ, ◌+◌, ◌*◌, ◌/◌, ◌<◌, ℤ, List, [], ◌∷◌, get_or, map, refl, ◌∙◌, arith, inl}
+use Rattle.wide_input.proofs.Common.{inr, nat_lt, All, ltb-true, Candidate, stream, in_stream, AreWideCandidates}
+use Rattle.std.proofs.Common.{true}
+use Rattle.std.specs.Prelude.{◌&&◌}
+use Rattle.std.specs.List.{AllByRecursion}
 use Rattle.std.specs.Str.{bytes_eq}
-use Rattle.std.proofs.lemmas.Bool.{or_cases, and_parts, ltb-true}
+use Rattle.std.proofs.lemmas.Bool.{or_cases, and_parts}
 use Rattle.std.proofs.lemmas.List.Elements.{recursion_from_All}
 use Rattle.std.proofs.lemmas.Slice.Eq.{bytes_eq-Decides}
-use Rattle.frame_merge.specs.declared.candidate.Candidate.{Candidate}
 use Rattle.slicer_bank.specs.Heard.{candidate_at}
 use Rattle.afsk_modulator.specs.Signal.{Transmission}
 use Rattle.clean_signal.specs.declared.true_end.TrueEnd.{TrueEnd}
@@ -20,8 +20,6 @@ use Rattle.clean_signal.proofs.CarriedFrames.{IsFound, all_found}
 use Rattle.clean_signal.proofs.EndLemmas.{spaced, octets-true_ends_from}
 use Rattle.clean_signal.proofs.NearLemmas.{near_carries}
 use Rattle.clean_signal.proofs.Law.{cluster_of, apart, all_known, has_one, rising, octets-clusters, all_transmissions}
-use Rattle.wide_input.specs.Streams.{stream}
-use Rattle.wide_input.specs.Candidates.{in_stream, AreWideCandidates}
 use Rattle.wide_input.specs.Stray.{wide_place, wide_end, is_of_wide, is_sent_wide, NoWideStray, WideMergesTo}
 use Rattle.wide_input.proofs.WideLemmas.{lane_small}
 

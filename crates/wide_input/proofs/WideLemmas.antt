@@ -1,21 +1,16 @@
 -- The candidates of forty lanes: those of samples, and those that more samples bring.
-use Rattle.std.proofs.Common.{◌≡◌, ◌≢◌, ℕ, suc, ◌+◌, ◌*◌, ◌<◌, ◌≤◌, ℤ, List, [], ◌∷◌, ◌++◌, length, get_or}
-use Rattle.std.proofs.Common.{map, append_assoc, refl, ap, sym, subst, ◌∙◌, arith, inl, inr}
-use Rattle.std.specs.Prelude.{fold}
-use Rattle.std.specs.List.{All, AllPairs, Contains}
-use Rattle.std.proofs.lemmas.Bool.{cases_lt}
-use Rattle.std.proofs.lemmas.List.{get_or-map, length-map}
-use Rattle.std.proofs.lemmas.List.Elements.{All-nil, All-append, Contains-append_left, Contains-append_right}
-use Rattle.frame_merge.specs.declared.candidate.Candidate.{Candidate}
-use Rattle.frame_merge.specs.Order.{standing, place, IsInOrder}
-use Rattle.frame_merge.specs.Merged.{merged, below}
-use Rattle.slicer_bank.specs.Candidates.{IsCandidate, AreCandidatesBehind}
-use Rattle.slicer_bank.proofs.CandidateLemmas.{end_within, candidate_more, candidate_less, AllPairs-append}
+use Rattle.wide_input.proofs.Common.{◌≡◌, ℕ, suc, ◌+◌, ◌*◌, ◌<◌, ◌≤◌, ℤ, List, [], ◌∷◌, ◌++◌, length, get_or, map}
+use Rattle.wide_input.proofs.Common.{append_assoc, refl, ap, sym, subst, ◌∙◌, arith, inl, inr, fold, All, cases_lt}
+use Rattle.wide_input.proofs.Common.{get_or-map, length-map, All-nil, All-append, Candidate, standing, place, merged}
+use Rattle.wide_input.proofs.Common.{below, IsCandidate, AreCandidatesBehind, end_within, below_more, stream}
+use Rattle.wide_input.proofs.Common.{least_count, in_stream, IsWideCandidate, AreWideCandidates, brought, next_skipped}
+use Rattle.std.proofs.Common.{◌≢◌}
+use Rattle.std.specs.List.{AllPairs, Contains}
+use Rattle.std.proofs.lemmas.List.Elements.{Contains-append_left, Contains-append_right}
+use Rattle.frame_merge.specs.Order.{IsInOrder}
+use Rattle.slicer_bank.proofs.CandidateLemmas.{candidate_more, candidate_less, AllPairs-append}
 use Rattle.slicer_bank.proofs.MergingLemmas.{rising_strictly}
-use Rattle.slicer_bank.proofs.OrderingLemmas.{strictly_more, contains_more, all_more, below_more}
-use Rattle.wide_input.specs.Streams.{stream, least_count}
-use Rattle.wide_input.specs.Candidates.{in_stream, IsWideCandidate, AreWideCandidates}
-use Rattle.wide_input.specs.Held.{brought, next_skipped}
+use Rattle.slicer_bank.proofs.OrderingLemmas.{strictly_more, contains_more, all_more}
 use Rattle.wide_input.proofs.StreamLemmas.{stream-append, stream-least}
 
 -- ---- one candidate

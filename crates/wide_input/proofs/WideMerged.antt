@@ -1,22 +1,15 @@
 -- The merged candidates of forty lanes, and of these with more samples.
-use Rattle.std.proofs.Common.{◌≡◌, ℕ, zero, suc, ◌<◌, ◌≤◌, ℤ, List, [], ◌∷◌, ◌++◌, length, get_or, refl, ap}
-use Rattle.std.proofs.Common.{◌∙◌, arith}
-use Rattle.std.specs.Prelude.{nat_lt}
+use Rattle.wide_input.proofs.Common.{◌≡◌, ℕ, zero, suc, ◌<◌, ◌≤◌, ℤ, List, [], ◌∷◌, ◌++◌, length, get_or, refl, ap, ◌∙◌}
+use Rattle.wide_input.proofs.Common.{arith, nat_lt, ltb-true, Candidate, standing, merged, below, IsCandidate}
+use Rattle.wide_input.proofs.Common.{AreCandidatesBehind, below_more, stream, least_count, AreWideCandidates, brought}
 use Rattle.std.specs.List.{filter}
-use Rattle.std.proofs.lemmas.Bool.{ltb-true, lt-ltb}
+use Rattle.std.proofs.lemmas.Bool.{lt-ltb}
 use Rattle.std.proofs.lemmas.List.Elements.{All-filter, filter_passes}
 use Rattle.std.proofs.lemmas.List.Kept.{AllPairs-filter}
-use Rattle.frame_merge.specs.declared.candidate.Candidate.{Candidate}
-use Rattle.frame_merge.specs.Order.{standing}
-use Rattle.frame_merge.specs.Merged.{merged, below}
-use Rattle.slicer_bank.specs.Candidates.{IsCandidate, AreCandidates, AreCandidatesBehind}
+use Rattle.slicer_bank.specs.Candidates.{AreCandidates}
 use Rattle.slicer_bank.proofs.MergedLemmas.{contains_passing}
 use Rattle.slicer_bank.proofs.OneList.{same_list}
-use Rattle.slicer_bank.proofs.OrderingLemmas.{below_more}
 use Rattle.slicer_bank.proofs.SomeList.{some_list}
-use Rattle.wide_input.specs.Streams.{stream, least_count}
-use Rattle.wide_input.specs.Candidates.{AreWideCandidates}
-use Rattle.wide_input.specs.Held.{brought}
 use Rattle.wide_input.proofs.WideLemmas.{AreBrought, HaveFound, all_brought, placed, candidates_with, lane_small}
 use Rattle.wide_input.proofs.WideLemmas.{brought_late, wide_in_order}
 use Rattle.wide_input.proofs.WideSteps.{no_wide}

@@ -1,30 +1,24 @@
 -- A wide bank with a block more, and at its end.
-use Rattle.std.proofs.Common.{◌≡◌, ℕ, ◌+◌, ◌/◌, ◌^◌, ◌<◌, ◌≤◌, ℤ, List, [], ◌++◌, length}
-use Rattle.std.proofs.Common.{get_or, map, replicate, refl, ap, sym, subst, ◌∙◌, arith, zero-add, length-append}
-use Rattle.std.specs.Prelude.{fold}
-use Rattle.std.specs.List.{All}
+use Rattle.wide_input.proofs.Common.{◌≡◌, ℕ, ◌+◌, ◌/◌, ◌^◌, ◌<◌, ◌≤◌, ℤ, List, [], ◌++◌, length, get_or, map, replicate}
+use Rattle.wide_input.proofs.Common.{refl, ap, sym, subst, ◌∙◌, arith, length-append, fold, All, get_or-map, length-map}
+use Rattle.wide_input.proofs.Common.{All-nil, Candidate, in_order, place, merged, below, AreCandidatesBehind, HeldBank}
+use Rattle.wide_input.proofs.Common.{end_within, stream, least_count, IsWideCandidate, AreWideCandidates}
+use Rattle.wide_input.proofs.Common.{AreWideMergedBetween, AreWideRest, HeldStream, StreamStandsFor, HearsBlock}
+use Rattle.wide_input.proofs.Common.{HasFound, AreAlike, HaveTaken, items_of, found_by, brought}
+use Rattle.std.proofs.Common.{zero-add}
 use Rattle.std.specs.List.Sorted.{IsNonDecreasingBy}
-use Rattle.std.proofs.lemmas.List.{get_or-map, length-map, append_cancel_left}
-use Rattle.std.proofs.lemmas.List.Elements.{All-nil}
+use Rattle.std.proofs.lemmas.List.{append_cancel_left}
 use Rattle.std.proofs.lemmas.List.Sums.{fold-append}
-use Rattle.frame_merge.specs.declared.candidate.Candidate.{Candidate}
 use Rattle.frame_merge.specs.Held.{Held as HeldMerger, StandsFor as MergerStandsFor, least}
-use Rattle.frame_merge.specs.Order.{in_order, place}
-use Rattle.frame_merge.specs.Merged.{merged, below, not_below}
+use Rattle.frame_merge.specs.Merged.{not_below}
 use Rattle.frame_merge.proofs.Ordering.{rising_ends}
 use Rattle.frame_merge.proofs.Merging.{merged-rising}
 use Rattle.frame_merge.proofs.Forgetting.{below_then_rest}
 use Rattle.frame_merge.proofs.Taking.{least-one}
-use Rattle.slicer_bank.specs.Candidates.{AreCandidatesBehind}
-use Rattle.slicer_bank.specs.Held.{HeldBank, StandsFor as BankStandsFor}
-use Rattle.slicer_bank.proofs.CandidateLemmas.{end_within}
+use Rattle.slicer_bank.specs.Held.{StandsFor as BankStandsFor}
 use Rattle.slicer_bank.proofs.GatheringLemmas.{some_of}
 use Rattle.slicer_bank.proofs.MergedLemmas.{next_is}
-use Rattle.wide_input.specs.Streams.{stream, least_count}
-use Rattle.wide_input.specs.Candidates.{IsWideCandidate, AreWideCandidates}
-use Rattle.wide_input.specs.MergedItems.{AreWideMergedBetween, AreWideRest}
-use Rattle.wide_input.specs.Held.{HeldStream, StreamStandsFor, StreamsStandFor, HearsBlock, HasFound, AreAlike}
-use Rattle.wide_input.specs.Held.{HaveTaken, items_of, found_by, brought}
+use Rattle.wide_input.specs.Held.{StreamsStandFor}
 use Rattle.wide_input.proofs.StreamLemmas.{least_count-is}
 use Rattle.wide_input.proofs.WideLemmas.{AreBrought, HaveFound, all_brought, placed, candidates_with, below_stays}
 use Rattle.wide_input.proofs.WideLemmas.{wide_in_order}

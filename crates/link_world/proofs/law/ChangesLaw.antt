@@ -1,22 +1,14 @@
 -- Links that are made anew while they are idle, and frames that are lost as they are sent, keep what holds of a world.
-use Rattle.std.proofs.Common.{◌≡◌, ℕ, Bool, true, false, List, [], ◌∷◌, ◌++◌, inl, refl, sym, ◌∙◌, subst}
-use Rattle.std.specs.Prelude.{IsTrue, map, ◌↔◌}
-use Rattle.std.proofs.lemmas.Bool.{and_parts}
-use Rattle.std.proofs.lemmas.List.{append_assoc, map-append}
-use Rattle.ax25_address.specs.declared.path.Path.{Path}
-use Rattle.link_machine.specs.declared.params.Params.{Params}
-use Rattle.link_machine.specs.declared.state.LinkState.{LinkState}
+use Rattle.link_world.proofs.Common.{◌≡◌, ℕ, Bool, true, false, List, [], ◌∷◌, ◌++◌, inl, refl, sym, ◌∙◌, subst, IsTrue}
+use Rattle.link_world.proofs.Common.{◌↔◌, and_parts, map-append, Path, Params, LinkState, Machine, A, B, Event, Tagged}
+use Rattle.link_world.proofs.Common.{RecordedEnd, sends_alone, called_alone, IsQuietRun, WindowsFit, Side, World}
+use Rattle.link_world.proofs.Common.{seen_from, end_of, new_world, near_step, near_turn, staying, run}
+use Rattle.std.specs.Prelude.{map}
+use Rattle.std.proofs.lemmas.List.{append_assoc}
 use Rattle.link_machine.specs.declared.state.LinkState.TheVariants.{Idle as IdleState, Calling as CallingState}
 use Rattle.link_machine.specs.declared.state.LinkState.TheVariants.{Up as UpState, Releasing as ReleasingState}
-use Rattle.link_machine.specs.Machine.{Machine, new_machine}
+use Rattle.link_machine.specs.Machine.{new_machine}
 use Rattle.link_world.specs.declared.end.End.{End as Name}
-use Rattle.link_world.specs.declared.end.End.TheVariants.{A, B}
-use Rattle.link_world.specs.declared.event.Event.{Event}
-use Rattle.link_world.specs.Flight.{Tagged}
-use Rattle.link_world.specs.Recorded.{RecordedEnd}
-use Rattle.link_world.specs.Quiet.{sends_alone, called_alone, IsQuietRun}
-use Rattle.link_world.specs.Windows.{WindowsFit}
-use Rattle.link_world.specs.World.{Side, World, seen_from, end_of, new_world, near_step, near_turn, staying, run}
 use Rattle.link_world.specs.Changes.{Change, kept, made_in, near_made, near_kept, changed, run_changes, is_quiet_change}
 use Rattle.link_world.specs.Changes.{AreQuiet, hears_valid_in, ChangesAreValid, ChangesLaw}
 use Rattle.link_world.specs.Changes.Change.{Makes, Happens, Keeps}

@@ -1,5 +1,5 @@
 -- What holds of each element of a list, when the list changes.
-use Rattle.std.proofs.Common.{List, [], ◌∷◌, ◌++◌}
+use Rattle.link_world.proofs.Common.{List, [], ◌∷◌, ◌++◌}
 use Rattle.std.specs.List.{AllByRecursion as Each}
 
 -- a weaker fact holds of each

@@ -1,8 +1,7 @@
-use Rattle.std.proofs.Common.{◌≡◌, ℕ, ◌-◌, ◌*◌, List, length, take, drop, min, subst, arith}
+use Rattle.agwpe_client.proofs.Common.{◌≡◌, ℕ, ◌-◌, ◌*◌, List, length, take, drop, min, subst, arith, call_field}
+use Rattle.agwpe_client.proofs.Common.{spelling, data_kind}
 use Rattle.std.specs.Result.{IfOk}
-use Rattle.agwpe_port.specs.CallField.{call_field}
-use Rattle.agwpe_port.specs.Messages.{spelling}
-use Rattle.agwpe_client.specs.CallMessages.{to_host, data_kind, no_layer_3}
+use Rattle.agwpe_client.specs.CallMessages.{to_host, no_layer_3}
 use Rattle.agwpe_client.proofs.ListLemmas.{first_of_rest}
 use Rattle.agwpe_client.proofs.messages.data_message.Goals as goal
 

@@ -1,7 +1,5 @@
-use Rattle.std.proofs.Common.{ℕ, List, ◌++◌, ap, ◌∙◌, sym}
-use Rattle.std.specs.List.{flat_map, range_with_len}
-use Rattle.agwpe_port.specs.Messages.{spelling}
-use Rattle.agwpe_client.specs.CallMessages.{data_message, piece_at}
+use Rattle.agwpe_client.proofs.Common.{ℕ, List, ◌++◌, ap, ◌∙◌, sym, flat_map, range_with_len, spelling, data_message}
+use Rattle.agwpe_client.proofs.Common.{piece_at}
 use Rattle.agwpe_client.proofs.ListLemmas.{flat_map_range_more}
 use Rattle.agwpe_client.proofs.messages.text_octets.Goals as goal
 

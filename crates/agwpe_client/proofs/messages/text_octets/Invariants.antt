@@ -1,7 +1,4 @@
-use Rattle.std.proofs.Common.{◌≡◌}
-use Rattle.std.specs.List.{flat_map, range_with_len}
-use Rattle.agwpe_port.specs.Messages.{spelling}
-use Rattle.agwpe_client.specs.CallMessages.{data_message, piece_at}
+use Rattle.agwpe_client.proofs.Common.{◌≡◌, flat_map, range_with_len, spelling, data_message, piece_at}
 use Rattle.agwpe_client.proofs.messages.text_octets.Given as goal
 
 -- the messages of the pieces so far

@@ -1,6 +1,5 @@
-use Rattle.std.proofs.Common.{◌∷◌, ◌++◌, length, take, ap, ◌∙◌, sym, arith, length-append}
-use Rattle.std.specs.List.{flat_map}
-use Rattle.agwpe_port.specs.CallField.{call_field}
+use Rattle.agwpe_client.proofs.Common.{◌∷◌, ◌++◌, length, take, ap, ◌∙◌, sym, arith, length-append, flat_map}
+use Rattle.agwpe_client.proofs.Common.{call_field}
 use Rattle.agwpe_client.proofs.ListLemmas.{flat_map_more}
 use Rattle.agwpe_client.proofs.messages.via_body.Goals as goal
 

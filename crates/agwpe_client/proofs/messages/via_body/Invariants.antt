@@ -1,6 +1,4 @@
-use Rattle.std.proofs.Common.{◌≡◌, ◌+◌, ◌*◌, ◌∷◌, length, take}
-use Rattle.std.specs.List.{flat_map}
-use Rattle.agwpe_port.specs.CallField.{call_field}
+use Rattle.agwpe_client.proofs.Common.{◌≡◌, ◌+◌, ◌*◌, ◌∷◌, length, take, flat_map, call_field}
 use Rattle.agwpe_client.proofs.messages.via_body.Given as goal
 
 -- the count, and the fields of the repeaters so far

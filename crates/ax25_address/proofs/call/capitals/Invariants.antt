@@ -1,5 +1,4 @@
-use Rattle.std.proofs.Common.{◌≡◌, map, take}
-use Rattle.std.specs.Char.{to_ascii_uppercase}
+use Rattle.ax25_address.proofs.Common.{◌≡◌, map, take, to_ascii_uppercase}
 use Rattle.ax25_address.proofs.call.capitals.Given as goal
 
 abbrev pub invariant-loop-letter : goal.invariant-loop-letter

@@ -1,6 +1,4 @@
-use Rattle.std.proofs.Common.{sym, arith, eqb, length}
-use Rattle.std.proofs.lemmas.List.Sums.{position_or_len_is}
-use Rattle.std.proofs.lemmas.Bool.Decides.{nat_tests}
+use Rattle.ax25_address.proofs.Common.{sym, arith, eqb, length, position_or_len_is, nat_tests}
 use Rattle.ax25_address.proofs.call.first_dash.Goals as goal
 
 pub returns-then-characters-place-eq45-clause-place : goal.returns-then-characters-place-eq45-clause-place

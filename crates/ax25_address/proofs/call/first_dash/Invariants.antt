@@ -1,4 +1,5 @@
-use Rattle.std.proofs.Common.{ℕ, ◌<◌, ◌≢◌, get_or}
+use Rattle.ax25_address.proofs.Common.{ℕ, ◌<◌, get_or}
+use Rattle.std.proofs.Common.{◌≢◌}
 use Rattle.ax25_address.proofs.call.first_dash.Given as goal
 
 abbrev pub invariant-loop-place : goal.invariant-loop-place

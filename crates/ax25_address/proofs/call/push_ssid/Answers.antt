@@ -1,7 +1,5 @@
-use Rattle.std.proofs.Common.{arith}
-use Rattle.std.proofs.lemmas.Grind.{common_steps}
+use Rattle.ax25_address.proofs.Common.{arith, common_steps, decimal_digit}
 use Rattle.ax25_address.proofs.SsidLemmas.{decimal_two_digits}
-use Rattle.std.proofs.lemmas.Fmt.{decimal_digit}
 use Rattle.ax25_address.proofs.call.push_ssid.Goals as goal
 
 pub returns-then-ssid-lt10 : goal.returns-then-ssid-lt10

@@ -1,12 +1,12 @@
-use Rattle.std.proofs.Common.{◌≡◌, ◌-◌, ◌+◌, get_or, Some, ap, arith, inl, inr}
+use Rattle.ax25_address.proofs.Common.{◌≡◌, ◌-◌, ◌+◌, get_or, Some, ap, arith, inl, inr}
 use Rattle.ax25_address.proofs.SsidLemmas.{octets_from_tells, tells_one_digit, tells_two_digits}
-use Rattle.ax25_address.proofs.call.ssid_of.Goals as goal
 use Rattle.ax25_address.proofs.call.ssid_of.Goals.{else-tail-eq2-via-then-tail-eq2+else-is_ascii_digit}
 use Rattle.ax25_address.proofs.call.ssid_of.Goals.{else-tail-eq2-via-else-tail-eq2}
 use Rattle.ax25_address.proofs.call.ssid_of.Goals.{else-tail-eq3-via-then-tail-eq3+then-tail-eq49+then-tail-ge48+else-tail-le53}
 use Rattle.ax25_address.proofs.call.ssid_of.Goals.{else-tail-eq3-via-then-tail-eq3+then-tail-eq49+else-tail-ge48}
 use Rattle.ax25_address.proofs.call.ssid_of.Goals.{else-tail-eq3-via-then-tail-eq3+else-tail-eq49}
 use Rattle.ax25_address.proofs.call.ssid_of.Goals.{else-tail-eq3-via-else-tail-eq3}
+use Rattle.ax25_address.proofs.call.ssid_of.Goals as goal
 
 pub returns-then-is_ascii_digit-clause-ssid : goal.returns-then-is_ascii_digit-clause-ssid
 returns-then-is_ascii_digit-clause-ssid c =

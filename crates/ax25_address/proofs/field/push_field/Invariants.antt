@@ -1,4 +1,4 @@
-use Rattle.std.proofs.Common.{◌≡◌, ◌*◌, ◌++◌, map, take}
+use Rattle.ax25_address.proofs.Common.{◌≡◌, ◌*◌, ◌++◌, map, take}
 use Rattle.ax25_address.proofs.field.push_field.Given as goal
 
 abbrev pub invariant-loop-character : goal.invariant-loop-character

@@ -1,7 +1,5 @@
-use Rattle.std.proofs.Common.{◌*◌, ◌+◌, ◌%◌, ℕ, arith, sym, subst, get_or, leb, eqb}
-use Rattle.ax25_address.specs.Callsign.{Callsign}
-use Rattle.ax25_address.specs.AddressField.{IsField}
-use Rattle.ax25_address.specs.FramePath.{field_at}
+use Rattle.ax25_address.proofs.Common.{◌*◌, ◌+◌, ◌%◌, ℕ, arith, sym, subst, get_or, leb, eqb, Callsign, IsField}
+use Rattle.ax25_address.proofs.Common.{field_at}
 use Rattle.ax25_address.proofs.FieldLemmas.{IsField-read, HasNameUpTo-name}
 use Rattle.ax25_address.proofs.field.read_field.Goals as goal
 

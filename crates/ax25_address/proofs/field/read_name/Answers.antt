@@ -1,5 +1,4 @@
-use Rattle.std.proofs.Common.{◌*◌, ap, arith, ◌∙◌, map, sym, inl, inr}
-use Rattle.ax25_address.specs.Callsign.{padded}
+use Rattle.ax25_address.proofs.Common.{◌*◌, ap, arith, ◌∙◌, map, sym, inl, inr, padded}
 use Rattle.ax25_address.proofs.FieldLemmas.{HasNameUpTo-so_far, bad_place, IsHeld-so_far, so_far-octets}
 use Rattle.ax25_address.proofs.field.read_name.Goals as goal
 

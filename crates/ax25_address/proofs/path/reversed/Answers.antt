@@ -1,6 +1,5 @@
-use Rattle.std.proofs.Common.{reverse, arith}
+use Rattle.ax25_address.proofs.Common.{reverse, arith, undone}
 use Rattle.std.proofs.lemmas.List.{map_more, get_or-reverse, length-reverse}
-use Rattle.ax25_address.specs.FramePath.{undone}
 use Rattle.ax25_address.proofs.path.reversed.Goals as goal
 
 pub loop-k-preserved : goal.loop-k-preserved

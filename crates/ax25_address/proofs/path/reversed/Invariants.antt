@@ -1,5 +1,4 @@
-use Rattle.std.proofs.Common.{◌≡◌, map, take, reverse}
-use Rattle.ax25_address.specs.FramePath.{undone}
+use Rattle.ax25_address.proofs.Common.{◌≡◌, map, take, reverse, undone}
 use Rattle.ax25_address.proofs.path.reversed.Given as goal
 
 abbrev pub invariant-loop-k : goal.invariant-loop-k

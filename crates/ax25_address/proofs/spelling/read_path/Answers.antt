@@ -1,15 +1,10 @@
-use Rattle.std.proofs.Common.{◌≡◌, ◌*◌, ◌<◌, ℕ, Bool, false, List, ap, arith, ◌∙◌, subst, eqb, length}
-use Rattle.std.proofs.lemmas.Result.{err_from_is_err_and}
-use Rattle.std.proofs.lemmas.Bool.Decides.{nat_tests}
-use Rattle.ax25_address.specs.AddressField.{IsField, bit}
-use Rattle.ax25_address.specs.FramePath.{field_at, repeater_count}
-use Rattle.ax25_address.specs.declared.path.Path.{Path}
-use Rattle.ax25_address.specs.PathFault.{GoesOnFor}
+use Rattle.ax25_address.proofs.Common.{◌≡◌, ◌*◌, ◌<◌, ℕ, Bool, false, List, ap, arith, ◌∙◌, subst, eqb, length}
+use Rattle.ax25_address.proofs.Common.{err_from_is_err_and, nat_tests, IsField, bit, field_at, repeater_count, Path}
+use Rattle.ax25_address.proofs.Common.{GoesOnFor, OneAddress}
 use Rattle.ax25_address.proofs.FieldLemmas.{ShowsFault-field, GoesOnFor-field, GoesOnFor-name, HasNameUpTo-field}
 use Rattle.ax25_address.proofs.FieldLemmas.{field_end}
 use Rattle.ax25_address.proofs.PathLemmas.{BeginsWithPath-fields}
 use Rattle.ax25_address.proofs.OneReading.{IsOneReading, IsOneReading-path, IsOneReading-fault}
-use Rattle.ax25_address.specs.declared.fault.AddrFault.TheVariants.{OneAddress}
 use Rattle.ax25_address.proofs.spelling.read_path.Goals as goal
 
 none_yet : (octets : List ℕ) → GoesOnFor octets (7 * 0)

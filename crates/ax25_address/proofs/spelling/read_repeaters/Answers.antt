@@ -1,7 +1,4 @@
-use Rattle.std.proofs.Common.{Bool, arith, subst}
-use Rattle.std.proofs.lemmas.Result.{err_from_is_err_and}
-use Rattle.ax25_address.specs.AddressField.{IsField}
-use Rattle.ax25_address.specs.FramePath.{field_at}
+use Rattle.ax25_address.proofs.Common.{Bool, arith, subst, err_from_is_err_and, IsField, field_at}
 use Rattle.ax25_address.proofs.FieldLemmas.{ShowsFault-field}
 use Rattle.ax25_address.proofs.PathLemmas.{AreRepeaters-push, AreOpenRepeaters-push}
 use Rattle.ax25_address.proofs.spelling.read_repeaters.Goals as goal

@@ -1,8 +1,6 @@
-use Rattle.std.proofs.Common.{◌≡◌, ◌+◌, ◌++◌, List, length, ap, arith, ◌∙◌, sym, eqb, get_or}
+use Rattle.ax25_address.proofs.Common.{◌≡◌, ◌+◌, ◌++◌, List, length, ap, arith, ◌∙◌, sym, eqb, get_or, field_octets}
+use Rattle.ax25_address.proofs.Common.{repeater_count, Hop}
 use Rattle.std.proofs.lemmas.List.{get_or_read}
-use Rattle.ax25_address.specs.AddressField.{field_octets}
-use Rattle.ax25_address.specs.FramePath.{repeater_count}
-use Rattle.ax25_address.specs.declared.path.Hop.{Hop}
 use Rattle.ax25_address.proofs.Written.{AreWrittenSoFar-two, AreWrittenSoFar-push, IsWrittenPath-so_far}
 use Rattle.ax25_address.proofs.Written.{BeginsWithPath-written}
 use Rattle.ax25_address.proofs.spelling.write_path.Goals as goal

@@ -1,6 +1,5 @@
-use Rattle.std.proofs.Common.{sym, ap, ◌∙◌, eqb, bit_and, ◌/◌, ◌%◌, ◌^◌}
+use Rattle.channel_access.proofs.Common.{sym, ap, ◌∙◌, eqb, bit_and, ◌/◌, ◌%◌, ◌^◌, checked}
 use Rattle.std.specs.List.{slice_index}
-use Rattle.channel_access.specs.Held.{checked}
 use Rattle.channel_access.proofs.FrameLemmas.{bits_in-at}
 use Rattle.channel_access.proofs.frame_bits.bit_at.Goals as goal
 

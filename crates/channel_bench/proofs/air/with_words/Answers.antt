@@ -1,5 +1,5 @@
-use Rattle.std.proofs.Common.{◌<◌, ◌≤◌, ◌++◌, ◌∷◌, [], ℤ, pos, length, get_or, unsigned_abs, refl, ap, ◌∙◌, rules}
-use Rattle.std.proofs.Common.{arith}
+use Rattle.channel_bench.proofs.Common.{◌<◌, ◌≤◌, ◌++◌, ◌∷◌, [], ℤ, pos, length, get_or, unsigned_abs, refl, ap, ◌∙◌}
+use Rattle.channel_bench.proofs.Common.{rules, arith}
 use Rattle.std.proofs.lemmas.Int.{ints}
 use Rattle.channel_bench.proofs.WordLemmas.{length-with_words, noise_none, noise_more, noise_all}
 use Rattle.channel_bench.proofs.air.with_words.Goals as goal

@@ -1,5 +1,5 @@
 -- A tick more, unless it ends the run or memory is wanted.
-use Rattle.std.proofs.Common.{◌≡◌, Some, None, sym, ◌∙◌, arith}
+use Rattle.channel_bench.proofs.Common.{◌≡◌, Some, None, sym, ◌∙◌, arith}
 use Rattle.channel_bench.proofs.CountLemmas.{run_counted}
 use Rattle.channel_bench.proofs.BenchLemmas.{ended_by, made_more}
 use Rattle.channel_bench.proofs.benching.advance.Goals as goal

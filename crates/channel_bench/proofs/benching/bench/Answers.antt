@@ -1,11 +1,8 @@
 -- A new run is under way, and what a whole one tells keeps the order.
-use Rattle.std.proofs.Common.{Result, Ok, Err, IfOk, refl, arith}
-use Rattle.channel_bench.specs.declared.words.BenchWords.{BenchWords}
+use Rattle.channel_bench.proofs.Common.{refl, arith, BenchWords, IsOver, new_bench, KeepsOrder}
+use Rattle.std.proofs.Common.{Result, Ok, Err, IfOk}
 use Rattle.channel_bench.specs.declared.report.BenchReport.{BenchReport}
 use Rattle.channel_bench.specs.declared.report.BenchFault.{BenchFault}
-use Rattle.channel_bench.specs.BenchRun.{IsOver}
-use Rattle.channel_bench.specs.BenchState.{new_bench}
-use Rattle.channel_bench.specs.KeepsOrder.{KeepsOrder}
 use Rattle.channel_bench.proofs.OrderLaws.{bench_law_holds}
 use Rattle.channel_bench.proofs.benching.bench.Goals as goal
 

@@ -1,6 +1,5 @@
 -- The fault tells of the same end of the run.
-use Rattle.std.proofs.Common.{subst}
-use Rattle.channel_bench.specs.BenchRun.{IsEndedBy}
+use Rattle.channel_bench.proofs.Common.{subst, IsEndedBy}
 use Rattle.channel_bench.proofs.benching.fault_of.Goals as goal
 
 pub returns-in-Stray : goal.returns-in-Stray

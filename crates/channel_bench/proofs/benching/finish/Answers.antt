@@ -1,8 +1,6 @@
 -- The run goes on until it is over, or something ends it, or it has taken too long.
-use Rattle.std.proofs.Common.{◌≡◌, ◌+◌, ◌<◌, ◌^◌, refl, sym, ◌∙◌, subst, arith}
+use Rattle.channel_bench.proofs.Common.{◌≡◌, ◌+◌, ◌<◌, ◌^◌, refl, sym, ◌∙◌, subst, arith, AreTicks, HasMade}
 use Rattle.std.proofs.lemmas.Result.{err_from_is_err_and}
-use Rattle.channel_bench.specs.BenchRun.{AreTicks}
-use Rattle.channel_bench.specs.HeldBench.{HasMade}
 use Rattle.channel_bench.proofs.benching.finish.Goals as goal
 
 pub loop-init : goal.loop-init

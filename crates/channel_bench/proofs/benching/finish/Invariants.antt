@@ -1,5 +1,5 @@
 -- The run is under way.
-use Rattle.channel_bench.specs.HeldBench.{IsGoing}
+use Rattle.channel_bench.proofs.Common.{IsGoing}
 use Rattle.channel_bench.proofs.benching.finish.Given as goal
 
 abbrev pub invariant-loop : goal.invariant-loop

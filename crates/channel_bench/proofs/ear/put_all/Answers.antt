@@ -1,4 +1,4 @@
-use Rattle.std.proofs.Common.{subst, ◌++◌}
+use Rattle.channel_bench.proofs.Common.{subst, ◌++◌}
 use Rattle.frame_merge.specs.Held.{StandsFor}
 use Rattle.slicer_bank.proofs.MergingLemmas.{has_put_more, has_put_all}
 use Rattle.station.proofs.MemoryLemmas.{on_took}

@@ -1,4 +1,4 @@
-use Rattle.std.proofs.Common.{◌≡◌, length}
+use Rattle.channel_bench.proofs.Common.{◌≡◌, length}
 use Rattle.station_laws.specs.InFlight.{control_octet}
 use Rattle.channel_bench.proofs.flight.control_octet.Given as goal
 

@@ -1,7 +1,8 @@
 -- What is left is short, and all of it is taken.
-use Rattle.std.proofs.Common.{◌≡◌, ◌≤◌, ◌-◌, Some, None, length, take, drop, sym, ap, ◌∙◌, arith, length-drop}
+use Rattle.channel_bench.proofs.Common.{◌≡◌, ◌≤◌, ◌-◌, Some, None, length, take, drop, sym, ap, ◌∙◌, arith, take_all}
+use Rattle.channel_bench.proofs.Common.{take_rest}
+use Rattle.std.proofs.Common.{length-drop}
 use Rattle.std.proofs.lemmas.Bool.{cond_below}
-use Rattle.std.proofs.lemmas.List.{take_all, take_rest}
 use Rattle.channel_bench.proofs.program.piece_after.Goals as goal
 
 pub returns-else-text-given-gt-MOST_OCTETS-clause-piece : goal.returns-else-text-given-gt-MOST_OCTETS-clause-piece

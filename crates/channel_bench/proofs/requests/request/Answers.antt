@@ -1,6 +1,5 @@
 -- A message is short.
-use Rattle.std.proofs.Common.{◌≡◌, length, ap, arith, rules}
-use Rattle.agwpe_port.specs.declared.message.AgwMessage.{AgwMessage}
+use Rattle.channel_bench.proofs.Common.{◌≡◌, length, ap, arith, rules, AgwMessage}
 use Rattle.channel_bench.proofs.MessageLengths.{length-spelling}
 use Rattle.channel_bench.proofs.requests.request.Goals as goal
 

@@ -1,5 +1,5 @@
 -- What is kept of both stations decides whether the samples of the one reach the other.
-use Rattle.std.proofs.Common.{true, false, refl, sym, ◌∙◌}
+use Rattle.channel_bench.proofs.Common.{true, false, refl, sym, ◌∙◌}
 use Rattle.channel_bench.proofs.SoundLemmas.{reaching_is}
 use Rattle.channel_bench.proofs.run.reaching.Goals as goal
 

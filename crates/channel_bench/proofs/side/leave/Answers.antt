@@ -1,5 +1,5 @@
 -- What is kept is not of the id.
-use Rattle.std.proofs.Common.{rules}
+use Rattle.channel_bench.proofs.Common.{rules}
 use Rattle.std.proofs.lemmas.Fn.{filter_same}
 use Rattle.channel_bench.proofs.side.leave.Goals as goal
 

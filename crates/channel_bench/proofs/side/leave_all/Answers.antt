@@ -1,7 +1,5 @@
 -- One connection after another.
-use Rattle.std.proofs.Common.{◌+◌, drop, sym, ap, ◌∙◌}
-use Rattle.std.proofs.lemmas.List.{drop_more}
-use Rattle.station.specs.Held.{without_ids}
+use Rattle.channel_bench.proofs.Common.{◌+◌, drop, sym, ap, ◌∙◌, drop_more, without_ids}
 use Rattle.channel_bench.proofs.side.leave_all.Goals as goal
 
 pub loop-id-preserved : goal.loop-id-preserved

@@ -1,5 +1,4 @@
-use Rattle.std.proofs.Common.{◌≡◌, drop}
-use Rattle.station.specs.Held.{without_ids}
+use Rattle.channel_bench.proofs.Common.{◌≡◌, drop, without_ids}
 use Rattle.channel_bench.proofs.side.leave_all.Given as goal
 
 -- those so far have left

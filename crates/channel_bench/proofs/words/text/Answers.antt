@@ -1,7 +1,5 @@
-use Rattle.std.proofs.Common.{rules, map, ap, ◌∙◌}
+use Rattle.channel_bench.proofs.Common.{rules, map, ap, ◌∙◌, text_of, words}
 use Rattle.channel_bench.proofs.WordLemmas.{octet_of, has_drawn_none, has_drawn_more, has_drawn_all}
-use Rattle.channel_bench.specs.Words.{text_of}
-use Rattle.channel_access.specs.Words.{words}
 use Rattle.channel_bench.proofs.words.text.Goals as goal
 
 pub loop-init : goal.loop-init

@@ -1,6 +1,4 @@
-use Rattle.tone_table.specs.Wave.{wave_from}
-use Rattle.nrzi_bits.specs.Line.{line}
-use Rattle.hdlc_framer.specs.Body.{body}
+use Rattle.clean_signal.proofs.Common.{wave_from, line, body}
 use Rattle.afsk_modulator.specs.Transmission.{transmission_at}
 use Rattle.clean_signal.proofs.NearLemmas.{at_level-near, signal_at-near}
 use Rattle.clean_signal.proofs.laws.sent_is_near.Goals as goal

@@ -1,5 +1,4 @@
-use Rattle.std.proofs.Common.{rules}
-use Rattle.std.specs.Prelude.{nat_le}
+use Rattle.frame_merge.proofs.Common.{rules, nat_le}
 use Rattle.std.proofs.lemmas.Fn.{filter_same}
 use Rattle.frame_merge.proofs.keeping.forget_below.Goals as goal
 

@@ -1,4 +1,4 @@
-use Rattle.std.proofs.Common.{sym, arith, ◌∙◌}
+use Rattle.frame_merge.proofs.Common.{sym, arith, ◌∙◌}
 use Rattle.frame_merge.proofs.Searching.{too_early, search_on}
 use Rattle.frame_merge.proofs.ready.is_repeated.Goals as goal
 

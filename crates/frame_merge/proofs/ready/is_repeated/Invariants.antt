@@ -1,6 +1,6 @@
-use Rattle.std.proofs.Common.{length}
-use Rattle.frame_merge.proofs.ready.is_repeated.Given as goal
+use Rattle.frame_merge.proofs.Common.{length}
 use Rattle.frame_merge.proofs.Searching.{Searched}
+use Rattle.frame_merge.proofs.ready.is_repeated.Given as goal
 
 abbrev pub invariant-loop-last : goal.invariant-loop-last
 invariant-loop-last l = Searched l.item l.earlier l.rest

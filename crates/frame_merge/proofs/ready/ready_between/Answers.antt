@@ -1,7 +1,7 @@
-use Rattle.std.proofs.Common.{[], ◌∷◌, ◌++◌, ap, sym, ◌∙◌}
+use Rattle.frame_merge.proofs.Common.{[], ◌∷◌, ◌++◌, ap, sym, ◌∙◌}
 use Rattle.frame_merge.proofs.Taking.{ready_more, ready_same}
-use Rattle.frame_merge.proofs.ready.ready_between.Goals as goal
 use Rattle.frame_merge.proofs.ready.ready_between.Goals.{then-is_ready+in_ok-copy+in_ok-push, else-is_ready}
+use Rattle.frame_merge.proofs.ready.ready_between.Goals as goal
 
 pub loop-index-preserved : goal.loop-index-preserved
 loop-index-preserved c =

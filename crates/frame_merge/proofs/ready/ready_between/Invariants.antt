@@ -1,5 +1,4 @@
-use Rattle.std.proofs.Common.{◌≡◌, take}
-use Rattle.frame_merge.specs.Merged.{merged, between}
+use Rattle.frame_merge.proofs.Common.{◌≡◌, take, merged, between}
 use Rattle.frame_merge.proofs.ready.ready_between.Given as goal
 
 abbrev pub invariant-loop-index : goal.invariant-loop-index

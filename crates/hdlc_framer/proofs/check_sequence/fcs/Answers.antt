@@ -1,6 +1,5 @@
-use Rattle.std.proofs.Common.{◌-◌, sym, ap, ◌∙◌, arith, take_all}
-use Rattle.std.specs.List.{fold}
-use Rattle.hdlc_framer.specs.Register.{after_octet}
+use Rattle.hdlc_framer.proofs.Common.{◌-◌, sym, ap, ◌∙◌, arith, fold, after_octet}
+use Rattle.std.proofs.Common.{take_all}
 use Rattle.hdlc_framer.proofs.CheckSequenceLemmas.{fcs_of-register}
 use Rattle.hdlc_framer.proofs.check_sequence.fcs.Goals as goal
 

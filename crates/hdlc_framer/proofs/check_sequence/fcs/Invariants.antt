@@ -1,7 +1,5 @@
 -- The register has taken the octets so far.
-use Rattle.std.proofs.Common.{◌≡◌, take}
-use Rattle.std.specs.List.{fold}
-use Rattle.hdlc_framer.specs.Register.{after_octet}
+use Rattle.hdlc_framer.proofs.Common.{◌≡◌, take, fold, after_octet}
 use Rattle.hdlc_framer.proofs.check_sequence.fcs.Given as goal
 
 abbrev pub invariant-loop-octet : goal.invariant-loop-octet

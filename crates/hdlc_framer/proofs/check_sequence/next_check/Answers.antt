@@ -1,6 +1,4 @@
-use Rattle.std.proofs.Common.{sym, ap, ◌∙◌, bit_xor, ◌/◌, arith}
-use Rattle.std.proofs.lemmas.Nat.{and_mask}
-use Rattle.hdlc_framer.specs.Register.{step_of}
+use Rattle.hdlc_framer.proofs.Common.{sym, ap, ◌∙◌, bit_xor, ◌/◌, arith, and_mask, step_of}
 use Rattle.hdlc_framer.proofs.CheckSequenceLemmas.{after_octet-is}
 use Rattle.hdlc_framer.proofs.check_sequence.next_check.Goals as goal
 

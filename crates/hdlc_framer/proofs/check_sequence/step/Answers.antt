@@ -1,7 +1,6 @@
 -- The table is that of the eight steps.
-use Rattle.std.proofs.Common.{arith}
+use Rattle.hdlc_framer.proofs.Common.{arith, shifted, step_of}
 use Rattle.std.proofs.lemmas.List.FromFn.{get_or-map-range_with_len}
-use Rattle.hdlc_framer.specs.Register.{shifted, step_of}
 use Rattle.hdlc_framer.proofs.check_sequence.step.Goals as goal
 
 pub returns : goal.returns

@@ -1,6 +1,4 @@
-use Rattle.std.proofs.Common.{◌<◌, length, ap, sym, ◌∙◌, arith}
-use Rattle.std.specs.List.{All}
-use Rattle.std.proofs.lemmas.Bool.{eq-eqb, eqb-true, false≢true}
+use Rattle.hdlc_framer.proofs.Common.{◌<◌, length, ap, sym, ◌∙◌, arith, All, eq-eqb, eqb-true, false≢true}
 use Rattle.std.proofs.lemmas.List.Elements.{All-from_get_or}
 use Rattle.hdlc_framer.proofs.FrameEnds.{length-with_fcs}
 use Rattle.hdlc_framer.proofs.PackedLemmas.{fcs_ends, ends_fcs}

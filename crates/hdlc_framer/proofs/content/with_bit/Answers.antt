@@ -1,5 +1,4 @@
-use Rattle.std.proofs.Common.{◌∙◌, ap, sym, ◌++◌, ◌∷◌, []}
-use Rattle.hdlc_framer.specs.BitOrder.{low_bits}
+use Rattle.hdlc_framer.proofs.Common.{◌∙◌, ap, sym, ◌++◌, ◌∷◌, [], low_bits}
 use Rattle.hdlc_framer.proofs.BitLemmas.{low_bits-with_zero, low_bits-with_one, with_one-lt}
 use Rattle.hdlc_framer.proofs.content.with_bit.Goals as goal
 

@@ -1,6 +1,4 @@
-use Rattle.std.proofs.Common.{◌++◌, ap, sym, ◌∙◌, append_assoc}
-use Rattle.hdlc_framer.specs.Body.{flags}
-use Rattle.hdlc_framer.specs.Stuffing.{flag}
+use Rattle.hdlc_framer.proofs.Common.{◌++◌, ap, sym, ◌∙◌, append_assoc, flags, flag}
 use Rattle.hdlc_framer.proofs.StuffLemmas.{flags-more}
 use Rattle.hdlc_framer.proofs.stuffing.push_flags.Goals as goal
 

@@ -1,5 +1,4 @@
-use Rattle.std.proofs.Common.{◌≡◌, ◌++◌}
-use Rattle.hdlc_framer.specs.Body.{flags}
+use Rattle.hdlc_framer.proofs.Common.{◌≡◌, ◌++◌, flags}
 use Rattle.hdlc_framer.proofs.stuffing.push_flags.Given as goal
 
 abbrev pub invariant-loop : goal.invariant-loop

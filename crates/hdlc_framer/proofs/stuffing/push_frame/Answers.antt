@@ -1,5 +1,4 @@
-use Rattle.std.proofs.Common.{◌≡◌, ◌/◌, ◌%◌, ◌∷◌, [], ap, ◌∙◌, arith}
-use Rattle.hdlc_framer.specs.BitOrder.{sent_bits}
+use Rattle.hdlc_framer.proofs.Common.{◌≡◌, ◌/◌, ◌%◌, ◌∷◌, [], ap, ◌∙◌, arith, sent_bits}
 use Rattle.hdlc_framer.proofs.StuffingLemmas.{left_after-le}
 use Rattle.hdlc_framer.proofs.StuffLemmas.{frame_sent}
 use Rattle.hdlc_framer.proofs.stuffing.push_frame.Goals as goal

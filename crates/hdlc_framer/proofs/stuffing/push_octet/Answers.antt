@@ -1,6 +1,5 @@
-use Rattle.std.proofs.Common.{◌≡◌, ◌++◌, ◌∷◌, [], ◌/◌, ◌^◌, eqb, bit_and, ap, sym, ◌∙◌, arith}
-use Rattle.hdlc_framer.specs.BitOrder.{low_bits, octet_bits}
-use Rattle.hdlc_framer.specs.Counted.{stuffed_from, left_after}
+use Rattle.hdlc_framer.proofs.Common.{◌≡◌, ◌++◌, ◌∷◌, [], ◌/◌, ◌^◌, eqb, bit_and, ap, sym, ◌∙◌, arith, low_bits}
+use Rattle.hdlc_framer.proofs.Common.{octet_bits, stuffed_from, left_after}
 use Rattle.hdlc_framer.proofs.BitLemmas.{low_bits-more}
 use Rattle.hdlc_framer.proofs.StuffingLemmas.{left_after-le}
 use Rattle.hdlc_framer.proofs.StuffLemmas.{sent_more, left_more}

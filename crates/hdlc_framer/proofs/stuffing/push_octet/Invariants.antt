@@ -1,7 +1,5 @@
 -- The lowest bits of the octet have been sent.
-use Rattle.std.proofs.Common.{◌≡◌, ◌++◌, ◌≤◌}
-use Rattle.hdlc_framer.specs.BitOrder.{low_bits}
-use Rattle.hdlc_framer.specs.Counted.{stuffed_from, left_after}
+use Rattle.hdlc_framer.proofs.Common.{◌≡◌, ◌++◌, ◌≤◌, low_bits, stuffed_from, left_after}
 use Rattle.hdlc_framer.proofs.stuffing.push_octet.Given as goal
 
 abbrev pub invariant-loop-place : goal.invariant-loop-place

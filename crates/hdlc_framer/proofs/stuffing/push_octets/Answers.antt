@@ -1,7 +1,5 @@
-use Rattle.std.proofs.Common.{◌++◌, get_or, take, ap, sym, ◌∙◌, arith}
-use Rattle.std.proofs.lemmas.List.{take_more}
-use Rattle.hdlc_framer.specs.BitOrder.{octet_bits, sent_bits}
-use Rattle.hdlc_framer.specs.Counted.{stuffed_from, left_after}
+use Rattle.hdlc_framer.proofs.Common.{◌++◌, get_or, take, ap, sym, ◌∙◌, arith, take_more, octet_bits, sent_bits}
+use Rattle.hdlc_framer.proofs.Common.{stuffed_from, left_after}
 use Rattle.hdlc_framer.proofs.BitLemmas.{sent_bits-push}
 use Rattle.hdlc_framer.proofs.StuffingLemmas.{left_after-le}
 use Rattle.hdlc_framer.proofs.StuffLemmas.{sent_more, left_more}

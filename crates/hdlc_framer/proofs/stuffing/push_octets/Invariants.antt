@@ -1,7 +1,5 @@
 -- The octets so far have been sent.
-use Rattle.std.proofs.Common.{◌≡◌, ◌++◌, ◌≤◌, take}
-use Rattle.hdlc_framer.specs.BitOrder.{sent_bits}
-use Rattle.hdlc_framer.specs.Counted.{stuffed_from, left_after}
+use Rattle.hdlc_framer.proofs.Common.{◌≡◌, ◌++◌, ◌≤◌, take, sent_bits, stuffed_from, left_after}
 use Rattle.hdlc_framer.proofs.stuffing.push_octets.Given as goal
 
 abbrev pub invariant-loop-octet : goal.invariant-loop-octet

@@ -1,5 +1,4 @@
-use Rattle.std.proofs.Common.{arith}
-use Rattle.hdlc_framer.specs.Body.{flags}
+use Rattle.hdlc_framer.proofs.Common.{arith, flags}
 use Rattle.hdlc_framer.proofs.StuffLemmas.{joined_more, body_sent}
 use Rattle.hdlc_framer.proofs.stuffing.stuff.Goals as goal
 

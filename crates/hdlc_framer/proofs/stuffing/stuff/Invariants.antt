@@ -1,6 +1,5 @@
 -- The frames so far have been sent.
-use Rattle.std.proofs.Common.{◌≡◌, ◌++◌, take}
-use Rattle.hdlc_framer.specs.Body.{flags, joined}
+use Rattle.hdlc_framer.proofs.Common.{◌≡◌, ◌++◌, take, flags, joined}
 use Rattle.hdlc_framer.proofs.stuffing.stuff.Given as goal
 
 abbrev pub invariant-loop-place : goal.invariant-loop-place

@@ -1,5 +1,4 @@
-use Rattle.std.proofs.Common.{◌∙◌, sym}
-use Rattle.std.proofs.lemmas.Bool.{true≢false}
+use Rattle.hf_modem.proofs.Common.{◌∙◌, sym, true≢false}
 use Rattle.hf_modem.proofs.bank.hear.Goals as goal
 
 pub returns-then-not-push-clause-heard : goal.returns-then-not-push-clause-heard

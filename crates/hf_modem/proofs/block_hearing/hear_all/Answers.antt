@@ -1,12 +1,6 @@
-use Rattle.std.proofs.Common.{◌+◌, ℤ, pos, List, [], ◌∷◌, ◌++◌, FitsSigned, get_or, length, take, ◌∙◌, arith, subst}
-use Rattle.std.proofs.Common.{refl, rules}
-use Rattle.std.specs.Option.{option_to_list}
-use Rattle.std.proofs.lemmas.Int.{to_z-of_z}
-use Rattle.std.proofs.lemmas.List.{take_more, take_all}
-use mir.Syntax.{w16}
-use Rattle.hf_modem.specs.Candidates.{AreCandidatesAfter}
-use Rattle.hf_modem.specs.Held.{BankStandsFor}
-use Rattle.hf_modem.specs.Heard.{HasHeard}
+use Rattle.hf_modem.proofs.Common.{◌+◌, ℤ, pos, List, [], ◌∷◌, ◌++◌, FitsSigned, get_or, length, take, ◌∙◌, arith}
+use Rattle.hf_modem.proofs.Common.{subst, refl, rules, option_to_list, to_z-of_z, take_more, take_all, w16}
+use Rattle.hf_modem.proofs.Common.{AreCandidatesAfter, BankStandsFor, HasHeard}
 use Rattle.hf_modem.proofs.HearingLemmas.{heard_none, heard_more, in_time_of}
 use Rattle.hf_modem.proofs.block_hearing.hear_all.Goals as goal
 

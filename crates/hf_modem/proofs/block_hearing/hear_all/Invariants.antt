@@ -1,8 +1,5 @@
-use Rattle.std.proofs.Common.{◌≡◌, ◌+◌, ℤ, List, take}
-use Rattle.frame_merge.specs.declared.candidate.Candidate.{Candidate}
+use Rattle.hf_modem.proofs.Common.{◌≡◌, ◌+◌, ℤ, List, take, Candidate, BankStandsFor, HasHeard}
 use Rattle.frame_merge.specs.Held.{StandsFor as MergerStandsFor}
-use Rattle.hf_modem.specs.Held.{BankStandsFor}
-use Rattle.hf_modem.specs.Heard.{HasHeard}
 use Rattle.hf_modem.proofs.block_hearing.hear_all.Given as goal
 
 abbrev pub invariant-loop-sample : goal.invariant-loop-sample

@@ -1,4 +1,4 @@
-use Rattle.std.proofs.Common.{◌≡◌, ◌+◌, ◌/◌, ◌<◌, ◌^◌, ◌++◌, ◌∙◌, ap, sym, length, length-append, replicate, arith}
+use Rattle.hf_modem.proofs.Common.{◌≡◌, ◌+◌, ◌/◌, ◌<◌, ◌^◌, ◌++◌, ◌∙◌, ap, sym, length, length-append, replicate, arith}
 use Rattle.hf_modem.proofs.HearingLemmas.{marks_rise, taken_more}
 use Rattle.hf_modem.proofs.block_hearing.hear_block.Goals as goal
 

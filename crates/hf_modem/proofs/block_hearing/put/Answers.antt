@@ -1,5 +1,4 @@
-use Rattle.std.proofs.Common.{◌++◌, sym, subst}
-use Rattle.std.specs.Option.{option_to_list}
+use Rattle.hf_modem.proofs.Common.{◌++◌, sym, subst, option_to_list}
 use Rattle.frame_merge.specs.Held.{StandsFor as MergerStandsFor}
 use Rattle.hf_modem.proofs.block_hearing.put.Goals as goal
 

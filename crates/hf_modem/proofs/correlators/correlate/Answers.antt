@@ -1,8 +1,7 @@
-use Rattle.std.proofs.Common.{rules, FitsSigned, w64, refl, ◌∙◌}
-use Rattle.std.proofs.lemmas.Int.{to_z-of_z}
-use Rattle.tone_table.specs.declared.tone.Tone.TheVariants.{Mark, Space}
-use Rattle.tone_table.specs.Sine.{quarter, half_wave, cycle_sample, wave_sample}
-use Rattle.hf_modem.specs.Tones.{phase_step}
+use Rattle.hf_modem.proofs.Common.{rules, FitsSigned, w64, refl, ◌∙◌, to_z-of_z, Mark, cycle_sample, wave_sample}
+use Rattle.hf_modem.proofs.Common.{phase_step}
+use Rattle.tone_table.specs.declared.tone.Tone.TheVariants.{Space}
+use Rattle.tone_table.specs.Sine.{quarter, half_wave}
 use Rattle.hf_modem.specs.Decision.{sine_sum, cosine_sum}
 use Rattle.offset_slicers.proofs.DecisionLemmas.{sum_below-wave}
 use Rattle.hf_modem.proofs.correlators.correlate.Goals as goal

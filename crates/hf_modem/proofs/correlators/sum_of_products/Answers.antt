@@ -1,10 +1,9 @@
-use Rattle.std.proofs.Common.{rules, ◌≡◌, ◌<◌, ℤ, pos, ◌+ℤ◌, ◌*ℤ◌, unsigned_abs, get_or, length, FitsSigned}
-use Rattle.std.proofs.Common.{w32, w64, to_z, of_z, refl, sym, ap, ◌∙◌, arith}
-use Rattle.std.proofs.lemmas.Int.{ints, to_z-of_z, fits_signed_mul}
+use Rattle.hf_modem.proofs.Common.{rules, ◌≡◌, ◌<◌, ℤ, pos, ◌*ℤ◌, unsigned_abs, get_or, length, FitsSigned, w64, to_z}
+use Rattle.hf_modem.proofs.Common.{of_z, refl, sym, ap, ◌∙◌, arith, ints, to_z-of_z, fits_signed_mul, sum_below}
+use Rattle.hf_modem.proofs.Common.{product_of, w16}
+use Rattle.std.proofs.Common.{◌+ℤ◌, w32}
 use Rattle.std.proofs.lemmas.List.Sums.{sum_by_more, sum_by_more_le}
-use Rattle.offset_slicers.specs.Decision.{sum_below, product_of}
 use Rattle.offset_slicers.proofs.DecisionLemmas.{sum_below-more, product_is, product_bound, sum_is}
-use mir.Syntax.{w16}
 use Rattle.hf_modem.proofs.correlators.sum_of_products.Goals as goal
 
 pub loop-i-init : goal.loop-i-init

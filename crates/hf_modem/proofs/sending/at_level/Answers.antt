@@ -1,10 +1,9 @@
-use Rattle.std.proofs.Common.{◌≡◌, ℕ, ◌≤◌, ℤ, pos, ◌*ℤ◌, unsigned_abs, FitsSigned, to_z, of_z, refl, ap, ◌∙◌, sym}
-use Rattle.std.proofs.Common.{subst, arith}
+use Rattle.hf_modem.proofs.Common.{◌≡◌, ℕ, ◌≤◌, ℤ, pos, ◌*ℤ◌, unsigned_abs, FitsSigned, to_z, of_z, refl, ap, ◌∙◌, sym}
+use Rattle.hf_modem.proofs.Common.{subst, arith, ints, to_z-of_z, fits_signed_mul, w16, sample_at}
+use Rattle.hf_modem.proofs.Common.{unsigned_abs-sample_at}
 use Rattle.std.specs.Prelude.{int_div}
-use Rattle.std.proofs.lemmas.Int.{ints, to_z-of_z, quot_is, fits_signed_mul}
-use mir.Syntax.{w16, w32}
-use Rattle.afsk_modulator.specs.Level.{sample_at}
-use Rattle.afsk_modulator.proofs.LevelLemmas.{unsigned_abs-sample_at}
+use Rattle.std.proofs.lemmas.Int.{quot_is}
+use mir.Syntax.{w32}
 use Rattle.hf_modem.proofs.sending.at_level.Goals as goal
 
 -- the quotient as the code computes it

@@ -1,9 +1,5 @@
-use Rattle.std.proofs.Common.{◌≡◌, ◌+◌, ◌*◌, ◌%◌, ◌++◌, [], ◌∷◌, List, false, take, ap, sym, ◌∙◌, rules, arith}
-use Rattle.std.proofs.lemmas.List.{take_more}
-use Rattle.tone_table.specs.declared.tone.Tone.{Tone}
-use Rattle.nrzi_bits.specs.Line.{line, last_tone}
-use Rattle.afsk_modulator.specs.Level.{at_level}
-use Rattle.hf_modem.specs.Wave.{wave, phase_from}
+use Rattle.hf_modem.proofs.Common.{◌≡◌, ◌+◌, ◌*◌, ◌%◌, ◌++◌, [], ◌∷◌, List, false, take, ap, sym, ◌∙◌, rules, arith}
+use Rattle.hf_modem.proofs.Common.{take_more, Tone, line, last_tone, at_level, wave, phase_from}
 use Rattle.hf_modem.proofs.WaveLemmas.{wave-push, phase_from-append}
 use Rattle.hf_modem.proofs.sending.modulated.Goals as goal
 

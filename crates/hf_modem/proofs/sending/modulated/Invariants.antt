@@ -1,7 +1,4 @@
-use Rattle.std.proofs.Common.{◌≡◌, ◌<◌, take}
-use Rattle.nrzi_bits.specs.Line.{line, last_tone}
-use Rattle.afsk_modulator.specs.Level.{at_level}
-use Rattle.hf_modem.specs.Wave.{wave, phase_from}
+use Rattle.hf_modem.proofs.Common.{◌≡◌, ◌<◌, take, line, last_tone, at_level, wave, phase_from}
 use Rattle.hf_modem.proofs.sending.modulated.Given as goal
 
 abbrev pub invariant-loop-bit : goal.invariant-loop-bit

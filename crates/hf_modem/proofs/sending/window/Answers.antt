@@ -1,4 +1,4 @@
-use Rattle.std.proofs.Common.{◌+◌, ◌*◌, ◌%◌, arith, refl, rules}
+use Rattle.hf_modem.proofs.Common.{◌+◌, ◌*◌, ◌%◌, arith, refl, rules}
 use Rattle.hf_modem.proofs.WaveLemmas.{samples_more, samples_all}
 use Rattle.hf_modem.proofs.sending.window.Goals as goal
 

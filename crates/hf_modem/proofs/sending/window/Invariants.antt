@@ -1,5 +1,5 @@
 -- The samples so far.
-use Rattle.std.proofs.Common.{◌≡◌, length, take}
+use Rattle.hf_modem.proofs.Common.{◌≡◌, length, take}
 use Rattle.hf_modem.proofs.WaveLemmas.{samples_below}
 use Rattle.hf_modem.proofs.sending.window.Given as goal
 

@@ -1,4 +1,4 @@
-use Rattle.std.proofs.Common.{◌≡◌, ℕ, ◌+◌, ◌*◌, ◌%◌, ◌↔◌, nat_eq, true, sym, subst}
+use Rattle.hf_modem.proofs.Common.{◌≡◌, ℕ, ◌+◌, ◌*◌, ◌%◌, ◌↔◌, nat_eq, true, sym, subst}
 use Rattle.hf_modem.proofs.LastWindow.{ends_by_rest}
 use Rattle.hf_modem.proofs.window.ends_window.Goals as goal
 

@@ -1,4 +1,5 @@
-use Rattle.std.proofs.Common.{◌≡◌, true, min, take}
+use Rattle.keying.proofs.Common.{◌≡◌, true, take}
+use Rattle.std.proofs.Common.{min}
 use Rattle.std.specs.Char.{is_ascii_digit}
 use Rattle.std.specs.List.{list_all}
 use Rattle.keying.specs.Answers.{number_of}

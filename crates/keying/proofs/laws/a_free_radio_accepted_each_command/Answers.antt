@@ -1,4 +1,4 @@
-use Rattle.keying.specs.Calls.{history}
+use Rattle.keying.proofs.Common.{history}
 use Rattle.keying.proofs.RulesAreSound.{sound_history}
 use Rattle.keying.proofs.Tails.{free_accepted}
 use Rattle.keying.proofs.laws.a_free_radio_accepted_each_command.Goals as goal

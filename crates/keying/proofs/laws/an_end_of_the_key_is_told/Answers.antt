@@ -1,4 +1,4 @@
-use Rattle.keying.specs.Calls.{history}
+use Rattle.keying.proofs.Common.{history}
 use Rattle.keying.proofs.RulesAreSound.{sound_history}
 use Rattle.keying.proofs.KeyLasts.{call_tells}
 use Rattle.keying.proofs.laws.an_end_of_the_key_is_told.Goals as goal

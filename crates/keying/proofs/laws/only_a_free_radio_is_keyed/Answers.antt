@@ -1,4 +1,4 @@
-use Rattle.keying.specs.Calls.{history}
+use Rattle.keying.proofs.Common.{history}
 use Rattle.keying.proofs.Tails.{keys_free}
 use Rattle.keying.proofs.laws.only_a_free_radio_is_keyed.Goals as goal
 

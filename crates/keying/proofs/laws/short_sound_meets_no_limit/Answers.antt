@@ -1,4 +1,4 @@
-use Rattle.keying.specs.Calls.{history}
+use Rattle.keying.proofs.Common.{history}
 use Rattle.keying.proofs.Tails.{no_limit, lingers_history}
 use Rattle.keying.proofs.laws.short_sound_meets_no_limit.Goals as goal
 

@@ -1,4 +1,4 @@
-use Rattle.keying.specs.Calls.{history}
+use Rattle.keying.proofs.Common.{history}
 use Rattle.keying.proofs.RulesAreSound.{sound_history}
 use Rattle.keying.proofs.ToldEnds.{over_done}
 use Rattle.keying.proofs.laws.the_end_owes_nothing.Goals as goal

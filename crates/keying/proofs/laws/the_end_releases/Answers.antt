@@ -1,4 +1,4 @@
-use Rattle.keying.specs.Calls.{history}
+use Rattle.keying.proofs.Common.{history}
 use Rattle.keying.proofs.RulesAreSound.{sound_history}
 use Rattle.keying.proofs.ToldEnds.{closed_off}
 use Rattle.keying.proofs.laws.the_end_releases.Goals as goal

@@ -1,4 +1,4 @@
-use Rattle.keying.specs.Calls.{history}
+use Rattle.keying.proofs.Common.{history}
 use Rattle.keying.proofs.Tails.{short_sound, lingers_history}
 use Rattle.keying.proofs.laws.the_key_follows_the_sound.Goals as goal
 

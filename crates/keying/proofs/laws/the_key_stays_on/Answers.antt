@@ -1,4 +1,4 @@
-use Rattle.keying.specs.Calls.{history}
+use Rattle.keying.proofs.Common.{history}
 use Rattle.keying.proofs.Tails.{stays_on}
 use Rattle.keying.proofs.laws.the_key_stays_on.Goals as goal
 

@@ -1,4 +1,4 @@
-use Rattle.keying.specs.Calls.{history}
+use Rattle.keying.proofs.Common.{history}
 use Rattle.keying.proofs.Tails.{exact_tail, lingers_history}
 use Rattle.keying.proofs.laws.the_tail_is_exact.Goals as goal
 

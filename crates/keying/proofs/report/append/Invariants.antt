@@ -1,4 +1,4 @@
-use Rattle.std.proofs.Common.{◌≡◌, ◌++◌, take}
+use Rattle.keying.proofs.Common.{◌≡◌, ◌++◌, take}
 use Rattle.keying.proofs.report.append.Given as goal
 
 abbrev pub invariant-loop-octet : goal.invariant-loop-octet

@@ -1,10 +1,6 @@
-use Rattle.std.proofs.Common.{◌≡◌, ◌+◌, ◌≤◌, length, true, [], ◌∷◌, ◌++◌, drop, map, refl, sym, ◌∙◌, ap, arith, Some}
-use Rattle.link_machine.specs.declared.acts.Told.TheVariants.{Given}
-use Rattle.link_machine.specs.Acts.{run}
-use Rattle.std.proofs.Common.{append_assoc}
-use Rattle.selective_reject.specs.Places.{packet_at, is_full, empty_place}
+use Rattle.link_machine.proofs.Common.{◌≡◌, ◌+◌, ◌≤◌, length, true, [], ◌∷◌, ◌++◌, drop, map, refl, sym, ◌∙◌, ap, arith}
+use Rattle.link_machine.proofs.Common.{Some, Given, run, append_assoc, packet_at, is_full, empty_place, is_some}
 use Rattle.link_machine.proofs.RunLemmas.{places_taken, moved_none, moved_one_more, run-push, length-run, run_of_full}
-use Rattle.std.specs.Prelude.{is_some}
 use Rattle.link_machine.proofs.receiving.give_run.Goals as goal
 
 pub loop-packet-init : goal.loop-packet-init

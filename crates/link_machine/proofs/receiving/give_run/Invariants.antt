@@ -1,8 +1,5 @@
-use Rattle.std.proofs.Common.{◌≡◌, ◌+◌, ◌≤◌, ◌++◌, length, map}
-use Rattle.selective_reject.specs.Incoming.{Incoming, IsIncoming, StandsForIncoming}
-use Rattle.link_machine.specs.declared.acts.Told.TheVariants.{Given}
-use Rattle.link_machine.specs.Acts.{run}
-use Rattle.link_machine.specs.Room.{frames_left, told_left}
+use Rattle.link_machine.proofs.Common.{◌≡◌, ◌+◌, ◌≤◌, ◌++◌, length, map, Incoming, IsIncoming, StandsForIncoming, Given}
+use Rattle.link_machine.proofs.Common.{run, frames_left, told_left}
 use Rattle.link_machine.proofs.RunLemmas.{MovedSome}
 use Rattle.link_machine.proofs.receiving.give_run.Given as goal
 

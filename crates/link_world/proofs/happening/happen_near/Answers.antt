@@ -1,5 +1,4 @@
-use Rattle.std.proofs.Common.{sym, ap, ◌∙◌}
-use Rattle.link_world.specs.Faults.{refused_by}
+use Rattle.link_world.proofs.Common.{sym, ap, ◌∙◌, refused_by}
 use Rattle.link_world.proofs.happening.happen_near.Goals as goal
 
 pub returns-in-Connect-clause-link_refuses : goal.returns-in-Connect-clause-link_refuses

@@ -1,17 +1,9 @@
-use Rattle.std.proofs.Common.{◌≡◌, Bool, List, drop, sym, subst, ap, ◌∙◌, inl, inr, refl, Some, None}
-use Rattle.std.specs.Prelude.{All}
-use Rattle.std.proofs.lemmas.List.Elements.{All-drop}
-use Rattle.ax25_frames.specs.declared.frame.Modulus.{Modulus}
-use Rattle.link_machine.specs.declared.acts.Told.{Told}
-use Rattle.std.specs.Prelude.{IfErr}
-use Rattle.std.proofs.lemmas.Result.{err_from_is_err_and}
+use Rattle.link_world.proofs.Common.{◌≡◌, Bool, List, drop, sym, subst, ap, ◌∙◌, inl, inr, refl, Some, None, All}
+use Rattle.link_world.proofs.Common.{All-drop, Modulus, Told, IfErr, err_from_is_err_and, Hear, InFlight, frame_read}
+use Rattle.link_world.proofs.Common.{CanFly, IsRefusal, Flew, MadeStep}
 use Rattle.link_machine.specs.declared.machine.Machine.{Machine as HeldLink}
 use Rattle.link_machine.specs.Event.Event.{Hear as LinkHear}
-use Rattle.link_world.specs.declared.event.Event.TheVariants.{Hear}
-use Rattle.link_world.specs.declared.flight.InFlight.{InFlight}
 use Rattle.link_world.specs.declared.side.Side.{Side as HeldSide}
-use Rattle.link_world.specs.Reading.{frame_read}
-use Rattle.link_world.specs.Held.{CanFly, IsRefusal, Flew, MadeStep}
 use Rattle.link_world.proofs.Counting.{Steps, near_formed, far_formed}
 use Rattle.link_world.proofs.Sides.{ReadsFront, heard_made, heard_noisy, passed_made}
 use Rattle.link_world.proofs.happening.hear.Goals as goal

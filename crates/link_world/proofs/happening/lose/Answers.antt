@@ -1,10 +1,7 @@
-use Rattle.std.proofs.Common.{◌≡◌, ◌<◌, List, length, refl, sym, subst, arith, true, None, Some}
-use Rattle.std.proofs.lemmas.Bool.{false≢true}
-use Rattle.std.specs.Prelude.{is_some, remove, OnSome, Option}
-use Rattle.link_machine.specs.declared.acts.Told.{Told}
-use Rattle.link_world.specs.declared.event.Event.TheVariants.{Lose}
+use Rattle.link_world.proofs.Common.{◌≡◌, ◌<◌, List, length, refl, sym, subst, arith, true, None, Some, false≢true}
+use Rattle.link_world.proofs.Common.{remove, Told, Lose, MadeStep}
+use Rattle.std.specs.Prelude.{is_some, OnSome, Option}
 use Rattle.link_world.specs.declared.side.Side.{Side as HeldSide}
-use Rattle.link_world.specs.Held.{MadeStep}
 use Rattle.link_world.proofs.Sides.{lost_made}
 use Rattle.link_world.proofs.happening.lose.Goals as goal
 

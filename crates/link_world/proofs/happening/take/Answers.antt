@@ -1,11 +1,8 @@
-use Rattle.std.proofs.Common.{◌≡◌, false, sym, subst, inl, inr, refl, rules, tests}
-use Rattle.std.specs.Prelude.{IfErr}
-use Rattle.std.proofs.lemmas.Result.{err_from_is_err_and}
+use Rattle.link_world.proofs.Common.{◌≡◌, false, sym, subst, inl, inr, refl, rules, tests, IfErr, err_from_is_err_and}
+use Rattle.link_world.proofs.Common.{refusal_of, event_of, seen_of, IsRefusal}
 use Rattle.link_machine.specs.declared.machine.Machine.{Machine as HeldLink}
 use Rattle.link_machine.specs.StandsFor.{StandsFor as LinkStandsFor}
-use Rattle.link_machine.specs.Step.{refusal_of}
 use Rattle.link_world.specs.declared.side.Side.{Side as HeldSide}
-use Rattle.link_world.specs.Held.{event_of, seen_of, IsRefusal}
 use Rattle.link_world.proofs.Counting.{Steps, near_formed, far_formed}
 use Rattle.link_world.proofs.Sides.{asked_made, asked_noisy, not_refused}
 use Rattle.link_world.proofs.happening.take.Goals as goal

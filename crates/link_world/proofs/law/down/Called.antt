@@ -1,30 +1,18 @@
 -- An end opens a set-up: it hears a SABM, or the UA to its own.
-use Rattle.std.proofs.Common.{◌≡◌, ℕ, zero, suc, ◌-◌, min, Bool, true, false, ◌==◌, if◌then◌else◌, List, [], ◌∷◌, ◌++◌}
-use Rattle.std.proofs.Common.{length, take, map, replicate, refl, sym, ap, ◌∙◌, subst}
-use Rattle.std.specs.List.{fold}
+use Rattle.link_world.proofs.Common.{◌≡◌, ℕ, zero, suc, ◌-◌, min, Bool, true, false, ◌==◌, if◌then◌else◌, List, [], ◌∷◌}
+use Rattle.link_world.proofs.Common.{◌++◌, length, take, map, replicate, refl, sym, ap, ◌∙◌, subst, fold, Packet, Told}
+use Rattle.link_world.proofs.Common.{Opened, Ended, Reset, Machine, SentIn, sent_in, SetupSent, Turn, begin, close}
+use Rattle.link_world.proofs.Common.{in_window, send_packets, window_in, open_called, settled, SetUp, RecordedEnd}
+use Rattle.link_world.proofs.Common.{Happening, told_of, opening, mate_of, noting, hears_ask, tagged, Tagged, Hears}
 use Rattle.std.proofs.lemmas.List.Sums.{fold-append}
 use Rattle.ax25_frames.specs.declared.frame.U.TheVariants.{Ua as UaFrame}
-use Rattle.selective_reject.specs.declared.packet.Packet.{Packet}
-use Rattle.link_machine.specs.declared.acts.Told.{Told}
-use Rattle.link_machine.specs.declared.acts.Told.TheVariants.{Opened, Ended}
-use Rattle.link_machine.specs.declared.acts.Why.TheVariants.{Reset}
-use Rattle.link_machine.specs.Machine.{Machine}
-use Rattle.link_machine.specs.Sent.{SentIn, sent_in}
-use Rattle.link_machine.specs.Sent.Sent.{SetupSent}
-use Rattle.link_machine.specs.Turn.{Turn, begin}
-use Rattle.link_machine.specs.Acts.{close, in_window, send_packets}
-use Rattle.link_machine.specs.Params.{window_in}
-use Rattle.link_machine.specs.Frames.{open_called, open_again}
-use Rattle.link_machine.specs.Step.{settled}
+use Rattle.link_machine.specs.Frames.{open_again}
 use Rattle.link_world.proofs.law.reduced.Core.{End, SetUp as CoreSetUp, Tagged as CoreTagged, between}
 use Rattle.link_world.proofs.law.reduced.Core.Kind.{Sabm, Ua}
 use Rattle.link_world.proofs.law.reduced.Core.Standing.{Up}
 use Rattle.link_world.proofs.law.reduced.CoreMoves.{now, opened, called, in_modulus, of_end, setup_to}
 use Rattle.link_world.proofs.law.reduced.CoreOf.{stored_from, end_behind, up_end}
-use Rattle.link_world.specs.SetUps.{SetUp, opened as opened_set_up}
-use Rattle.link_world.specs.Recorded.{RecordedEnd, Happening, told_of, opening, mate_of, noting, hears_ask, tagged}
-use Rattle.link_world.specs.Flight.{Tagged}
-use Rattle.link_world.specs.Recorded.Happening.{Hears}
+use Rattle.link_world.specs.SetUps.{opened as opened_set_up}
 use Rattle.link_world.proofs.law.showing.PlacesFit.{IsSound, IsModulus, sound_new}
 use Rattle.link_world.proofs.law.showing.PlacesStored.{stored_empty}
 use Rattle.link_world.proofs.law.moves.Opening.{open_called_keeps, no_call_of_up}

@@ -1,37 +1,26 @@
 -- Events of an end that is calling.
-use Rattle.std.proofs.Common.{◌≡◌, ℕ, Bool, true, false, ◌==◌, if◌then◌else◌, List, [], ◌∷◌, ◌++◌, is_some, refl, sym}
-use Rattle.std.proofs.Common.{ap, ◌∙◌, subst, append-nil, ◌&&◌}
-use Rattle.std.specs.List.{fold}
-use Rattle.std.proofs.lemmas.Bool.{cond-false, false≢true}
+use Rattle.link_world.proofs.Common.{◌≡◌, ℕ, Bool, true, false, ◌==◌, if◌then◌else◌, List, [], ◌∷◌, ◌++◌, is_some, refl}
+use Rattle.link_world.proofs.Common.{sym, ap, ◌∙◌, subst, append-nil, ◌&&◌, fold, cond-false, false≢true, Info, Super}
+use Rattle.link_world.proofs.Common.{Setup, Ui, Other, U, Packet, Control, Opened, Failed, Refused, Sent, InfoSent}
+use Rattle.link_world.proofs.Common.{SuperSent, SetupSent, begin, changing, setting, joined, quitting, tick, tick_in}
+use Rattle.link_world.proofs.Common.{is_spent, retried, end_call, settled, settle_in, refusal_of, SetUp, Tagged}
+use Rattle.link_world.proofs.Common.{is_numbered, RecordedEnd, noting, taking, hears_ask, told_of, Sends, Disconnects}
+use Rattle.link_world.proofs.Common.{Ticks, Hears}
 use Rattle.ax25_frames.specs.declared.frame.Kind.{Kind as FrameKind}
-use Rattle.ax25_frames.specs.declared.frame.Kind.TheVariants.{Info, Super, Setup, Ui, Other}
-use Rattle.ax25_frames.specs.declared.frame.U.{U}
 use Rattle.ax25_frames.specs.declared.frame.U.TheVariants.{Sabm as SabmFrame, Sabme as SabmeFrame, Disc as DiscFrame}
 use Rattle.ax25_frames.specs.declared.frame.U.TheVariants.{Dm as DmFrame, Ua as UaFrame}
-use Rattle.selective_reject.specs.declared.packet.Packet.{Packet}
-use Rattle.link_machine.specs.declared.control.Control.{Control}
 use Rattle.link_machine.specs.declared.state.LinkState.TheVariants.{Calling as CallingState}
-use Rattle.link_machine.specs.declared.acts.Told.TheVariants.{Opened}
-use Rattle.link_machine.specs.declared.acts.Why.TheVariants.{Failed, Refused}
-use Rattle.link_machine.specs.Sent.{Sent}
-use Rattle.link_machine.specs.Sent.Sent.{InfoSent, SuperSent, SetupSent}
-use Rattle.link_machine.specs.Turn.{begin, changing, setting}
 use Rattle.link_machine.specs.Event.Event.{Send}
-use Rattle.link_machine.specs.Requests.{joined, quitting}
-use Rattle.link_machine.specs.Ticks.{tick, tick_in, call_again, is_spent, retried}
-use Rattle.link_machine.specs.Frames.{hear_calling, hear_calling_in, answer_ua, end_call, open_answered}
-use Rattle.link_machine.specs.Step.{settled, settle_in, refusal_of}
+use Rattle.link_machine.specs.Ticks.{call_again}
+use Rattle.link_machine.specs.Frames.{hear_calling, hear_calling_in, answer_ua, open_answered}
 use Rattle.link_world.proofs.law.reduced.Core.{End, Tagged as CoreTagged, between}
 use Rattle.link_world.proofs.law.reduced.Core.Kind.{Sabm, Ua}
 use Rattle.link_world.proofs.law.reduced.Core.Standing.{Calling, Up}
 use Rattle.link_world.proofs.law.reduced.CoreMoves.{now, setup_to, opened}
 use Rattle.link_world.proofs.law.reduced.CoreOf.{end_behind}
-use Rattle.link_world.specs.SetUps.{SetUp, opened as opened_set_up}
-use Rattle.link_world.specs.Flight.{Tagged, is_numbered}
+use Rattle.link_world.specs.SetUps.{opened as opened_set_up}
 use Rattle.link_world.proofs.law.down.Calls.{call_in, call_alone, wide_is, narrow_is, call_sent}
 use Rattle.link_world.proofs.law.showing.Readings.{IsReadAs}
-use Rattle.link_world.specs.Recorded.{RecordedEnd, noting, taking, hears_ask, told_of}
-use Rattle.link_world.specs.Recorded.Happening.{Sends, Disconnects, Ticks, Hears}
 use Rattle.link_world.proofs.law.showing.PlacesFit.{sound_anew}
 use Rattle.link_world.proofs.law.showing.PlacesStored.{stored_empty}
 use Rattle.link_world.proofs.law.moves.Losing.{lose_keeps}

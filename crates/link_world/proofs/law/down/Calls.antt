@@ -1,10 +1,7 @@
 -- A call in a modulus: SABM in 8, SABME in 128.
-use Rattle.std.proofs.Common.{◌≡◌, ℕ, ◌+◌, Bool, true, false, ◌==◌, if◌then◌else◌, List, [], ◌∷◌, inl, inr, refl, sym}
-use Rattle.std.proofs.Common.{ap, subst, arith, ◌∙◌, length}
-use Rattle.link_machine.specs.declared.params.Params.{Params}
-use Rattle.link_machine.specs.Params.{called_modulus}
-use Rattle.link_machine.specs.Sent.{SentIn, sent_in}
-use Rattle.link_machine.specs.Sent.Sent.{SetupSent}
+use Rattle.link_world.proofs.Common.{◌≡◌, ℕ, ◌+◌, Bool, true, false, ◌==◌, if◌then◌else◌, List, [], ◌∷◌, inl, inr, refl}
+use Rattle.link_world.proofs.Common.{sym, ap, subst, arith, ◌∙◌, length, Params, called_modulus, SentIn, sent_in}
+use Rattle.link_world.proofs.Common.{SetupSent, RecordedEnd}
 use Rattle.link_machine.specs.Acts.{calling_frame}
 use Rattle.link_world.proofs.law.reduced.Core.{Tagged as CoreTagged}
 use Rattle.link_world.proofs.law.reduced.Core.Kind.{Sabm}
@@ -12,7 +9,6 @@ use Rattle.link_world.proofs.law.reduced.CoreMoves.{asks, answers, ask_of}
 use Rattle.link_world.proofs.law.reduced.CoreOf.{setup_of}
 use Rattle.link_world.proofs.law.showing.PlacesFit.{IsModulus}
 use Rattle.link_world.proofs.law.showing.Shown.{AnswersAsSent, core_set_ups}
-use Rattle.link_world.specs.Recorded.{RecordedEnd}
 use Rattle.link_world.proofs.law.showing.Outcome.{IsAlone, IsSentAs}
 use Rattle.link_world.proofs.law.down.Ends.{IsDown, setup_sent}
 

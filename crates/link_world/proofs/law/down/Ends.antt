@@ -1,26 +1,14 @@
 -- An end that is not up: it is idle, calls, or releases the link. What is common to the events of the three.
-use Rattle.std.proofs.Common.{◌≡◌, ℕ, Bool, true, false, ◌&&◌, List, [], ◌∷◌, ◌++◌, length, inl, refl, sym, ap, ◌∙◌}
-use Rattle.std.proofs.Common.{subst, append-nil}
-use Rattle.std.specs.List.{fold}
-use Rattle.std.specs.Bool.{⊤}
-use Rattle.ax25_frames.specs.declared.frame.U.{U}
+use Rattle.link_world.proofs.Common.{◌≡◌, ℕ, Bool, true, false, ◌&&◌, List, [], ◌∷◌, ◌++◌, length, inl, refl, sym, ap}
+use Rattle.link_world.proofs.Common.{◌∙◌, subst, append-nil, fold, ⊤, U, Packet, Control, LinkState, Machine, SentIn}
+use Rattle.link_world.proofs.Common.{sent_in, sent_kind, SetupSent, Turn, begin, answer_dm, end_call, settled}
+use Rattle.link_world.proofs.Common.{settle_in, SetUp, Tagged, is_answer, RecordedEnd, Happening, waiting_in, told_of}
+use Rattle.link_world.proofs.Common.{opening, noting, hearing, hears_ask, Hears}
 use Rattle.ax25_frames.specs.declared.frame.U.TheVariants.{Dm as DmFrame}
-use Rattle.selective_reject.specs.declared.packet.Packet.{Packet}
-use Rattle.link_machine.specs.declared.control.Control.{Control}
-use Rattle.link_machine.specs.declared.state.LinkState.{LinkState}
 use Rattle.link_machine.specs.declared.state.LinkState.TheVariants.{Idle as IdleState, Calling as CallingState}
 use Rattle.link_machine.specs.declared.state.LinkState.TheVariants.{Up as UpState, Releasing as ReleasingState}
 use Rattle.link_machine.specs.declared.acts.Why.{Why}
-use Rattle.link_machine.specs.Machine.{Machine}
-use Rattle.link_machine.specs.Sent.{SentIn, sent_in, sent_kind}
-use Rattle.link_machine.specs.Sent.Sent.{SetupSent}
-use Rattle.link_machine.specs.Turn.{Turn, begin}
-use Rattle.link_machine.specs.Frames.{answer_dm, end_call}
-use Rattle.link_machine.specs.Step.{settled, settle_in}
-use Rattle.link_world.specs.SetUps.{SetUp}
-use Rattle.link_world.specs.Flight.{Tagged, is_answer, set_up_now}
-use Rattle.link_world.specs.Recorded.{RecordedEnd, Happening, waiting_in, told_of, opening, noting, hearing, hears_ask}
-use Rattle.link_world.specs.Recorded.Happening.{Hears}
+use Rattle.link_world.specs.Flight.{set_up_now}
 use Rattle.link_world.proofs.law.reduced.Core.{End, SetUp as CoreSetUp, Standing, Tagged as CoreTagged, Kind, between}
 use Rattle.link_world.proofs.law.reduced.Core.{with_running}
 use Rattle.link_world.proofs.law.reduced.Core.Kind.{Dm}

@@ -1,29 +1,20 @@
 -- Events of an end that is idle.
-use Rattle.std.proofs.Common.{◌≡◌, ℕ, ◌+◌, Bool, true, false, List, [], ◌∷◌, inl, inr, refl, sym, ap, ◌∙◌, subst, arith}
-use Rattle.std.proofs.lemmas.Bool.{false≢true}
+use Rattle.link_world.proofs.Common.{◌≡◌, ℕ, ◌+◌, Bool, true, false, List, [], ◌∷◌, inl, inr, refl, sym, ap, ◌∙◌, subst}
+use Rattle.link_world.proofs.Common.{arith, false≢true, Info, Super, Setup, Ui, Other, U, called_modulus, Sent}
+use Rattle.link_world.proofs.Common.{InfoSent, SuperSent, SetupSent, begin, connect, open_called, settled, Tagged}
+use Rattle.link_world.proofs.Common.{is_numbered, is_sabm_frame, RecordedEnd, hears_ask, Connects, Hears}
 use Rattle.ax25_frames.specs.declared.frame.Kind.{Kind as FrameKind}
-use Rattle.ax25_frames.specs.declared.frame.Kind.TheVariants.{Info, Super, Setup, Ui, Other}
-use Rattle.ax25_frames.specs.declared.frame.U.{U}
 use Rattle.ax25_frames.specs.declared.frame.U.TheVariants.{Sabm as SabmFrame, Sabme as SabmeFrame, Disc as DiscFrame}
 use Rattle.ax25_frames.specs.declared.frame.U.TheVariants.{Dm as DmFrame, Ua as UaFrame}
 use Rattle.link_machine.specs.declared.state.LinkState.TheVariants.{Idle as IdleState, Calling as CallingState}
-use Rattle.link_machine.specs.Params.{called_modulus}
-use Rattle.link_machine.specs.Sent.{Sent}
-use Rattle.link_machine.specs.Sent.Sent.{InfoSent, SuperSent, SetupSent}
-use Rattle.link_machine.specs.Turn.{begin}
-use Rattle.link_machine.specs.Requests.{connect}
-use Rattle.link_machine.specs.Frames.{hear_idle, open_called}
-use Rattle.link_machine.specs.Step.{settled}
+use Rattle.link_machine.specs.Frames.{hear_idle}
 use Rattle.link_world.proofs.law.reduced.Core.{End, Tagged as CoreTagged}
 use Rattle.link_world.proofs.law.reduced.Core.Kind.{Sabm}
 use Rattle.link_world.proofs.law.reduced.CoreMoves.{setup_to, in_modulus, of_end, asks, answers, sabms}
 use Rattle.link_world.proofs.law.reduced.CoreOf.{end_behind}
-use Rattle.link_world.specs.Flight.{Tagged, asks as asks_kind, is_numbered}
-use Rattle.link_world.specs.Quiet.{is_sabm_frame}
+use Rattle.link_world.specs.Flight.{asks as asks_kind}
 use Rattle.link_world.proofs.law.down.Calls.{call_sent, call_alone, own_modulus_is}
 use Rattle.link_world.proofs.law.showing.Readings.{IsReadAs}
-use Rattle.link_world.specs.Recorded.{RecordedEnd, hears_ask}
-use Rattle.link_world.specs.Recorded.Happening.{Connects, Hears}
 use Rattle.link_world.proofs.law.showing.PlacesFit.{IsModulus, sound_new}
 use Rattle.link_world.proofs.law.moves.Standings.{begin_keeps}
 use Rattle.link_world.proofs.law.moves.Kept.{call_keeps}

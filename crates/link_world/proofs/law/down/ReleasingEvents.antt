@@ -1,28 +1,22 @@
 -- Events of an end that releases the link.
-use Rattle.std.proofs.Common.{◌≡◌, ◌+◌, Bool, true, false, ◌&&◌, if◌then◌else◌, List, [], ◌∷◌, inl, inr, refl, sym, ap}
-use Rattle.std.proofs.Common.{subst, arith}
-use Rattle.std.proofs.lemmas.Bool.{false≢true}
+use Rattle.link_world.proofs.Common.{◌≡◌, ◌+◌, Bool, true, false, ◌&&◌, if◌then◌else◌, List, [], ◌∷◌, inl, inr, refl}
+use Rattle.link_world.proofs.Common.{sym, ap, subst, arith, false≢true, Info, Super, Setup, Ui, Other, U, Control}
+use Rattle.link_world.proofs.Common.{Failed, Sent, InfoSent, SuperSent, SetupSent, begin, tick, tick_in, is_spent}
+use Rattle.link_world.proofs.Common.{retried, end_call, answer_dm, settled, Tagged, is_numbered, RecordedEnd, hears_ask}
+use Rattle.link_world.proofs.Common.{Ticks, Hears}
 use Rattle.ax25_frames.specs.declared.frame.Kind.{Kind as FrameKind}
-use Rattle.ax25_frames.specs.declared.frame.Kind.TheVariants.{Info, Super, Setup, Ui, Other}
-use Rattle.ax25_frames.specs.declared.frame.U.{U}
 use Rattle.ax25_frames.specs.declared.frame.U.TheVariants.{Sabm as SabmFrame, Sabme as SabmeFrame, Disc as DiscFrame}
 use Rattle.ax25_frames.specs.declared.frame.U.TheVariants.{Dm as DmFrame, Ua as UaFrame}
-use Rattle.link_machine.specs.declared.control.Control.{Control}
 use Rattle.link_machine.specs.declared.state.LinkState.TheVariants.{Releasing as ReleasingState}
-use Rattle.link_machine.specs.declared.acts.Why.TheVariants.{Failed, Asked}
-use Rattle.link_machine.specs.Sent.{Sent}
-use Rattle.link_machine.specs.Sent.Sent.{InfoSent, SuperSent, SetupSent}
-use Rattle.link_machine.specs.Turn.{begin, nothing}
-use Rattle.link_machine.specs.Ticks.{tick, tick_in, release_again, is_spent, retried}
-use Rattle.link_machine.specs.Frames.{hear_releasing, end_call, answer_dm}
-use Rattle.link_machine.specs.Step.{settled}
+use Rattle.link_machine.specs.declared.acts.Why.TheVariants.{Asked}
+use Rattle.link_machine.specs.Turn.{nothing}
+use Rattle.link_machine.specs.Ticks.{release_again}
+use Rattle.link_machine.specs.Frames.{hear_releasing}
 use Rattle.link_world.proofs.law.reduced.Core.{End, Tagged as CoreTagged}
 use Rattle.link_world.proofs.law.reduced.CoreMoves.{asks, answers}
 use Rattle.link_world.proofs.law.reduced.CoreOf.{end_behind}
-use Rattle.link_world.specs.Flight.{Tagged, asks as asks_kind, is_numbered}
+use Rattle.link_world.specs.Flight.{asks as asks_kind}
 use Rattle.link_world.proofs.law.showing.Readings.{IsReadAs}
-use Rattle.link_world.specs.Recorded.{RecordedEnd, hears_ask}
-use Rattle.link_world.specs.Recorded.Happening.{Ticks, Hears}
 use Rattle.link_world.proofs.law.moves.Losing.{lose_keeps}
 use Rattle.link_world.proofs.law.moves.Kept.{release_keeps}
 use Rattle.link_world.proofs.law.moves.Declining.{decline_releasing_keeps}

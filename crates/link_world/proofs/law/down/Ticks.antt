@@ -1,14 +1,11 @@
 -- A tick of an end that is calling or releasing changes its timers, and perhaps sends its SABM or DISC once more.
-use Rattle.std.proofs.Common.{◌≡◌, ℕ, Bool, true, false, if◌then◌else◌, Option, Some, None, refl, sym, subst, List, []}
-use Rattle.link_machine.specs.declared.control.Control.{Control}
-use Rattle.link_machine.specs.declared.state.LinkState.{LinkState}
+use Rattle.link_world.proofs.Common.{◌≡◌, ℕ, Bool, true, false, if◌then◌else◌, Option, Some, None, refl, sym, subst}
+use Rattle.link_world.proofs.Common.{List, [], Control, LinkState, Machine, Turn, begin, runs_out, lowered, with_t1}
+use Rattle.link_world.proofs.Common.{with_t2, with_t3, t1_out, t2_out, t3_out, tick_t2, tick_t1_of, tick_t2_of}
+use Rattle.link_world.proofs.Common.{tick_t3_of, Packet}
 use Rattle.link_machine.specs.declared.state.LinkState.TheVariants.{Idle as IdleState, Calling as CallingState}
 use Rattle.link_machine.specs.declared.state.LinkState.TheVariants.{Up as UpState, Releasing as ReleasingState}
-use Rattle.link_machine.specs.Machine.{Machine}
-use Rattle.link_machine.specs.Turn.{Turn, begin}
-use Rattle.link_machine.specs.Ticks.{runs_out, lowered, with_t1, with_t2, with_t3, t1_out, t2_out, t3_out, tick_t1}
-use Rattle.link_machine.specs.Ticks.{tick_t2, tick_t1_of, tick_t2_of, tick_t3_of}
-use Rattle.selective_reject.specs.declared.packet.Packet.{Packet}
+use Rattle.link_machine.specs.Ticks.{tick_t1}
 use Rattle.link_world.proofs.law.down.Ends.{IsDown, goes_on}
 
 t2_quiet : (state : LinkState) (packets : List Packet) (turn : Turn) → IsDown state packets → t2_out state turn ≡ turn

@@ -1,5 +1,5 @@
 -- Numbers that go along a list of frames: each frame is held to a number, and says the number that the next is held to.
-use Rattle.std.proofs.Common.{ℕ, ◌≤◌, List, [], ◌∷◌, ◌++◌}
+use Rattle.link_world.proofs.Common.{ℕ, ◌≤◌, List, [], ◌∷◌, ◌++◌}
 use Rattle.std.specs.List.{AllByRecursion as Each}
 use Rattle.link_world.proofs.law.reduced.Core.{Tagged}
 

@@ -1,6 +1,6 @@
 -- Asks, answers and the UA among what is under way, when a frame goes or comes.
-use Rattle.std.proofs.Common.{◌≡◌, ℕ, ◌+◌, ◌≤◌, List, [], ◌∷◌, ◌++◌, Option, Some, None, ◌⊎◌, inl, inr, refl, ap, ◌∙◌}
-use Rattle.std.proofs.Common.{sym, arith, subst}
+use Rattle.link_world.proofs.Common.{◌≡◌, ℕ, ◌+◌, ◌≤◌, List, [], ◌∷◌, ◌++◌, Option, Some, None, ◌⊎◌, inl, inr, refl, ap}
+use Rattle.link_world.proofs.Common.{◌∙◌, sym, arith, subst}
 use Rattle.link_world.proofs.law.reduced.Core.{Standing, Tagged, Kind}
 use Rattle.link_world.proofs.law.reduced.Core.Kind.{Sabm, Disc, Ua, Dm, IsNumbered}
 use Rattle.link_world.proofs.law.reduced.Core.Standing.{Idle, Calling, Up, Releasing}

@@ -1,10 +1,8 @@
 -- What an end knows of its partner's set-ups stays, when more is given there or another one opens.
-use Rattle.std.proofs.Common.{◌≡◌, ℕ, ◌<◌, ◌≤◌, List, [], ◌∷◌, ◌++◌, Option, Some, None, IfSome, length, slice_get}
-use Rattle.std.proofs.Common.{arith, ap, sym, ◌∙◌, subst, le_trans, inl, inr}
+use Rattle.link_world.proofs.Common.{◌≡◌, ℕ, ◌<◌, ◌≤◌, List, [], ◌∷◌, ◌++◌, Option, Some, None, IfSome, length}
+use Rattle.link_world.proofs.Common.{slice_get, arith, ap, sym, ◌∙◌, subst, le_trans, inl, inr, cases_lt, none-some}
+use Rattle.link_world.proofs.Common.{Packet}
 use Rattle.std.specs.List.{AllByRecursion as Each}
-use Rattle.std.proofs.lemmas.Bool.{cases_lt}
-use Rattle.std.proofs.lemmas.Option.{none-some}
-use Rattle.selective_reject.specs.declared.packet.Packet.{Packet}
 use Rattle.link_world.proofs.law.reduced.Core.{End, Running, SetUp, Tagged, Kind, IsPrefixOf, set_ups, era, given_in}
 use Rattle.link_world.proofs.law.reduced.Core.{got_in}
 use Rattle.link_world.proofs.law.reduced.Core.Numbered.{Info, Super, Srej}

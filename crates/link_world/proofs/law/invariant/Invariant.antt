@@ -1,7 +1,6 @@
 -- What holds of two links and the frames between them, for x hearing y: set-ups, numbers and packets. It is meant for
 -- both ends.
-use Rattle.std.proofs.Common.{◌≡◌, ℕ, ◌+◌, ◌<◌, ◌≤◌, List, length, drop, slice_get, Option, Some, IfSome}
-use Rattle.std.specs.Bool.{⊤}
+use Rattle.link_world.proofs.Common.{◌≡◌, ℕ, ◌+◌, ◌<◌, ◌≤◌, List, length, drop, slice_get, Option, Some, IfSome, ⊤}
 use Rattle.std.specs.List.{AllByRecursion as Each}
 use Rattle.link_world.proofs.law.reduced.Core.{End, Core, Running, Standing, Stored, SetUp, Tagged, Kind, set_ups, era}
 use Rattle.link_world.proofs.law.reduced.Core.{count, set_up_at, given_in, got_in, modulus_in}

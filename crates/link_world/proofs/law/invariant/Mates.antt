@@ -1,6 +1,8 @@
 -- The I and S frames of one set-up among what is under way.
-use Rattle.std.proofs.Common.{◌≡◌, ℕ, Bool, true, false, if◌then◌else◌, nat_eq, Option, Some, None, refl}
-use Rattle.std.proofs.lemmas.Bool.{cond-true, cond-false, eq-eqb, ne_eqb}
+use Rattle.link_world.proofs.Common.{◌≡◌, ℕ, Bool, true, false, if◌then◌else◌, Option, Some, None, refl, cond-true}
+use Rattle.link_world.proofs.Common.{cond-false, ne_eqb}
+use Rattle.std.proofs.Common.{nat_eq}
+use Rattle.std.proofs.lemmas.Bool.{eq-eqb}
 use Rattle.link_world.proofs.law.reduced.Core.{Tagged, Kind, Numbered}
 use Rattle.link_world.proofs.law.reduced.Core.Kind.{Sabm, Disc, Ua, Dm, IsNumbered}
 

@@ -1,5 +1,6 @@
 -- The moduli of what is under way and of set-ups, when one thing changes.
-use Rattle.std.proofs.Common.{◌≡◌, ℕ, ◌<◌, List, [], ◌∷◌, ◌++◌, Option, Some, None, length, arith, sym, ap, ◌∙◌, subst}
+use Rattle.link_world.proofs.Common.{◌≡◌, ℕ, ◌<◌, List, [], ◌∷◌, ◌++◌, Option, Some, None, length, arith, sym, ap, ◌∙◌}
+use Rattle.link_world.proofs.Common.{subst}
 use Rattle.std.specs.List.{AllByRecursion as Each}
 use Rattle.link_world.proofs.law.reduced.Core.{End, Running, SetUp, Standing, Tagged, Kind, set_ups, count, modulus_in}
 use Rattle.link_world.proofs.law.reduced.Core.Kind.{Sabm, Disc, Ua, Dm, IsNumbered}

@@ -1,5 +1,5 @@
 -- What holds of the value that there may be.
-use Rattle.std.proofs.Common.{Option, Some, None, IfSome}
+use Rattle.link_world.proofs.Common.{Option, Some, None, IfSome}
 
 pub if_weaker : {A : Type 0} (o : Option A) (P Q : A → Type 0) → ((a : A) → P a → Q a) → IfSome o P → IfSome o Q
 if_weaker None P Q f h = tt

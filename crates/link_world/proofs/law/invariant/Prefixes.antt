@@ -1,8 +1,7 @@
 -- A list that begins with another.
-use Rattle.std.proofs.Common.{◌≡◌, ℕ, zero, suc, List, [], ◌∷◌, ◌++◌, length, slice_get, Some, refl, sym, ap, ◌∙◌}
-use Rattle.std.proofs.Common.{append_assoc, append-nil}
-use Rattle.std.proofs.lemmas.Option.{none-some, same_Some}
-use Rattle.selective_reject.specs.declared.packet.Packet.{Packet}
+use Rattle.link_world.proofs.Common.{◌≡◌, ℕ, zero, suc, List, [], ◌∷◌, ◌++◌, length, slice_get, Some, refl, sym, ap}
+use Rattle.link_world.proofs.Common.{◌∙◌, append_assoc, append-nil, none-some, Packet}
+use Rattle.std.proofs.lemmas.Option.{same_Some}
 use Rattle.link_world.proofs.law.reduced.Core.{IsPrefixOf}
 
 pub prefix_same : {xs : List Packet} → IsPrefixOf xs xs

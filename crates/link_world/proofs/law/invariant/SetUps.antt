@@ -1,5 +1,6 @@
 -- The set-ups of an end by their numbers, when the last one changes or another is opened.
-use Rattle.std.proofs.Common.{◌≡◌, ℕ, zero, suc, ◌+◌, ◌<◌, ◌≤◌, List, [], ◌∷◌, ◌++◌, length, refl, arith, length-append}
+use Rattle.link_world.proofs.Common.{◌≡◌, ℕ, zero, suc, ◌+◌, ◌<◌, ◌≤◌, List, [], ◌∷◌, ◌++◌, length, refl, arith}
+use Rattle.link_world.proofs.Common.{length-append}
 use Rattle.link_world.proofs.law.reduced.Core.{SetUp, IsPrefixOf, set_up_at, given_in, got_in, modulus_in, unopened}
 use Rattle.link_world.proofs.law.invariant.Prefixes.{prefix_same, prefix_none}
 

@@ -1,5 +1,5 @@
 -- Tags rise along what is under way.
-use Rattle.std.proofs.Common.{◌≡◌, ℕ, ◌≤◌, List, [], ◌∷◌, ◌++◌, arith, le_refl, le_trans}
+use Rattle.link_world.proofs.Common.{◌≡◌, ℕ, ◌≤◌, List, [], ◌∷◌, ◌++◌, arith, le_refl, le_trans}
 use Rattle.std.specs.List.{AllByRecursion as Each}
 use Rattle.link_world.proofs.law.reduced.Core.{Tagged}
 use Rattle.link_world.proofs.law.invariant.Chains.{Rule, Chain, IsRising, chain_from, chain_wider, chain_pushed}

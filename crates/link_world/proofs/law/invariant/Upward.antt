@@ -1,9 +1,7 @@
 -- x is up, and its own numbers change: V(A), V(S), one past the highest number sent, and the packets it
 -- keeps.
-use Rattle.std.proofs.Common.{◌≡◌, ℕ, ◌+◌, ◌-◌, ◌<◌, ◌≤◌, max, List, ◌∷◌, Option, Some, length, drop, arith, ap, refl}
-use Rattle.std.proofs.Common.{◌∙◌, subst, le_trans, le_refl}
-use Rattle.std.proofs.lemmas.List.{drop-drop}
-use Rattle.selective_reject.specs.declared.packet.Packet.{Packet}
+use Rattle.link_world.proofs.Common.{◌≡◌, ℕ, ◌+◌, ◌-◌, ◌<◌, ◌≤◌, max, List, ◌∷◌, Option, Some, length, drop, arith, ap}
+use Rattle.link_world.proofs.Common.{refl, ◌∙◌, subst, le_trans, le_refl, drop-drop, Packet}
 use Rattle.link_world.proofs.law.reduced.Core.{between, End, Running, Tagged, Numbered, set_ups, count, got_in}
 use Rattle.link_world.proofs.law.reduced.Core.{modulus_in}
 use Rattle.link_world.proofs.law.reduced.Core.Numbered.{Info, Super, Srej}

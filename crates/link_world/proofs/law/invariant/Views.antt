@@ -1,6 +1,6 @@
 -- What an end that is up sees of its partner, and what one that is calling will see once it has heard the UA under way
 -- to it.
-use Rattle.std.proofs.Common.{ℕ, List, [], ◌∷◌, Option, Some, None}
+use Rattle.link_world.proofs.Common.{ℕ, List, [], ◌∷◌, Option, Some, None}
 use Rattle.link_world.proofs.law.reduced.Core.{End, Running, Standing, Stored, Tagged, Kind}
 use Rattle.link_world.proofs.law.reduced.Core.Kind.{Sabm, Disc, Ua, Dm, IsNumbered}
 use Rattle.link_world.proofs.law.reduced.Core.Standing.{Idle, Calling, Up, Releasing}

@@ -1,8 +1,7 @@
 -- x sends a UA: if y is calling, it sees x from then on.
-use Rattle.std.proofs.Common.{◌≡◌, ℕ, ◌<◌, List, [], ◌∷◌, ◌++◌, Option, Some, IfSome, length, arith, ap, refl, sym}
-use Rattle.std.proofs.Common.{subst, le_refl}
+use Rattle.link_world.proofs.Common.{◌≡◌, ℕ, ◌<◌, List, [], ◌∷◌, ◌++◌, Option, Some, IfSome, length, arith, ap, refl}
+use Rattle.link_world.proofs.Common.{sym, subst, le_refl, Packet}
 use Rattle.std.specs.List.{AllByRecursion as Each}
-use Rattle.selective_reject.specs.declared.packet.Packet.{Packet}
 use Rattle.link_world.proofs.law.reduced.Core.{between, End, Standing, SetUp, Tagged, set_ups, era, count, got_in}
 use Rattle.link_world.proofs.law.reduced.Core.{modulus_in}
 use Rattle.link_world.proofs.law.reduced.Core.Kind.{Ua}

@@ -1,6 +1,6 @@
 -- x declines a SABM or DISC, or answers a DISC.
-use Rattle.std.proofs.Common.{◌≡◌, ℕ, ◌≤◌, true, List, [], ◌∷◌, ◌++◌, Option, None, IfSome, length, arith, ap, refl}
-use Rattle.std.proofs.Common.{sym, subst}
+use Rattle.link_world.proofs.Common.{◌≡◌, ℕ, ◌≤◌, true, List, [], ◌∷◌, ◌++◌, Option, None, IfSome, length, arith, ap}
+use Rattle.link_world.proofs.Common.{refl, sym, subst}
 use Rattle.std.specs.List.{AllByRecursion as Each}
 use Rattle.link_world.proofs.law.reduced.Core.{between, End, Standing, SetUp, Tagged, Kind, set_ups, era, count}
 use Rattle.link_world.proofs.law.reduced.Core.Kind.{Disc, Ua, Dm}

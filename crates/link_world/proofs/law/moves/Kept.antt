@@ -1,6 +1,5 @@
 -- Each move keeps what holds, and so does each run of moves.
-use Rattle.std.proofs.Common.{◌≡◌, ℕ, ◌+◌, false, List, [], ◌∷◌, ◌++◌, None, refl, arith}
-use Rattle.selective_reject.specs.declared.packet.Packet.{Packet}
+use Rattle.link_world.proofs.Common.{◌≡◌, ℕ, ◌+◌, false, List, [], ◌∷◌, ◌++◌, None, refl, arith, Packet}
 use Rattle.link_world.proofs.law.reduced.Core.{End, Tagged, between}
 use Rattle.link_world.proofs.law.reduced.Core.Kind.{Sabm, Disc, Dm}
 use Rattle.link_world.proofs.law.reduced.Core.Standing.{Calling}

@@ -1,5 +1,5 @@
 -- A frame under way to x is lost.
-use Rattle.std.proofs.Common.{ℕ, List, ◌∷◌, ◌++◌, Option, length, arith}
+use Rattle.link_world.proofs.Common.{ℕ, List, ◌∷◌, ◌++◌, Option, length, arith}
 use Rattle.link_world.proofs.law.reduced.Core.{between, End, SetUp, Tagged, got_in}
 use Rattle.link_world.proofs.law.Each.{each_removed}
 use Rattle.link_world.proofs.law.invariant.Chains.{chain_removed}

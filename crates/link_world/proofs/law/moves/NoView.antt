@@ -1,5 +1,5 @@
 -- An end that sees nothing of its partner: there is nothing to show of what it sees.
-use Rattle.std.proofs.Common.{ℕ, List, Option, None}
+use Rattle.link_world.proofs.Common.{ℕ, List, Option, None}
 use Rattle.link_world.proofs.law.reduced.Core.{End, SetUp, Tagged}
 use Rattle.link_world.proofs.law.invariant.Views.{View}
 use Rattle.link_world.proofs.law.invariant.Options.{if_all}

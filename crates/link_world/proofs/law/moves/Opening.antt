@@ -1,8 +1,7 @@
 -- x hears a SABM, a DISC or a UA.
-use Rattle.std.proofs.Common.{◌≡◌, ℕ, ◌+◌, ◌≤◌, List, [], ◌∷◌, ◌++◌, Option, Some, None, IfSome, length, arith, ap}
-use Rattle.std.proofs.Common.{refl, sym, ◌∙◌, subst, le_refl}
+use Rattle.link_world.proofs.Common.{◌≡◌, ℕ, ◌+◌, ◌≤◌, List, [], ◌∷◌, ◌++◌, Option, Some, None, IfSome, length, arith}
+use Rattle.link_world.proofs.Common.{ap, refl, sym, ◌∙◌, subst, le_refl, Packet}
 use Rattle.std.specs.List.{AllByRecursion as Each}
-use Rattle.selective_reject.specs.declared.packet.Packet.{Packet}
 use Rattle.link_world.proofs.law.reduced.Core.{between, End, Running, SetUp, Tagged, set_ups, era, count, got_in}
 use Rattle.link_world.proofs.law.reduced.Core.{modulus_in}
 use Rattle.link_world.proofs.law.reduced.Core.Kind.{Sabm, Ua}

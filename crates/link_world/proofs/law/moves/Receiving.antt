@@ -1,10 +1,9 @@
 -- x is up and takes packets: the next in sequence, one that came before its turn, or one that it stores.
-use Rattle.std.proofs.Common.{◌≡◌, ℕ, ◌+◌, ◌<◌, ◌≤◌, max, List, [], ◌∷◌, ◌++◌, Option, Some, None, IfSome, IsSome}
-use Rattle.std.proofs.Common.{length, slice_get, arith, ap, refl, sym, ◌∙◌, subst, le_trans, le_refl}
+use Rattle.link_world.proofs.Common.{◌≡◌, ℕ, ◌+◌, ◌<◌, ◌≤◌, max, List, [], ◌∷◌, ◌++◌, Option, Some, None, IfSome}
+use Rattle.link_world.proofs.Common.{IsSome, length, slice_get, arith, ap, refl, sym, ◌∙◌, subst, le_trans, le_refl}
+use Rattle.link_world.proofs.Common.{false≢true, Packet}
 use Rattle.std.specs.List.{AllByRecursion as Each}
 use Rattle.std.proofs.lemmas.List.{length_push}
-use Rattle.std.proofs.lemmas.Bool.{false≢true}
-use Rattle.selective_reject.specs.declared.packet.Packet.{Packet}
 use Rattle.link_world.proofs.law.reduced.Core.{End, Running, SetUp, Stored, Tagged, Numbered, IsPrefixOf, set_ups, era}
 use Rattle.link_world.proofs.law.reduced.Core.{count, given_in, got_in, modulus_in}
 use Rattle.link_world.proofs.law.reduced.Core.Numbered.{Info}

@@ -1,6 +1,6 @@
 -- x sends a frame.
-use Rattle.std.proofs.Common.{◌≡◌, ℕ, ◌+◌, ◌≤◌, List, [], ◌∷◌, ◌++◌, Option, None, IfSome, length, arith, ap, refl}
-use Rattle.std.proofs.Common.{le_refl}
+use Rattle.link_world.proofs.Common.{◌≡◌, ℕ, ◌+◌, ◌≤◌, List, [], ◌∷◌, ◌++◌, Option, None, IfSome, length, arith, ap}
+use Rattle.link_world.proofs.Common.{refl, le_refl}
 use Rattle.link_world.proofs.law.reduced.Core.{between, End, SetUp, Tagged, Kind, Numbered, set_ups, era, count, got_in}
 use Rattle.link_world.proofs.law.reduced.CoreMoves.{asks, answers, ask_of, answer_of, of_end}
 use Rattle.link_world.proofs.law.invariant.Mates.{of_mate, numbered, of_mate_none}

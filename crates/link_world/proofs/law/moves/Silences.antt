@@ -1,8 +1,7 @@
 -- What is under way says nothing yet of a set-up that was not opened.
-use Rattle.std.proofs.Common.{◌≡◌, ℕ, ◌+◌, ◌<◌, ◌≤◌, List, [], ◌∷◌, Option, Some, None, IfSome, length, arith, refl, ap}
-use Rattle.std.proofs.Common.{le_trans}
+use Rattle.link_world.proofs.Common.{◌≡◌, ℕ, ◌+◌, ◌<◌, ◌≤◌, List, [], ◌∷◌, Option, Some, None, IfSome, length, arith}
+use Rattle.link_world.proofs.Common.{refl, ap, le_trans, Packet}
 use Rattle.std.specs.List.{AllByRecursion as Each}
-use Rattle.selective_reject.specs.declared.packet.Packet.{Packet}
 use Rattle.link_world.proofs.law.reduced.Core.{End, Standing, SetUp, Tagged, Kind, with_running, set_ups, era, count}
 use Rattle.link_world.proofs.law.reduced.Core.Kind.{Sabm, Disc, Ua, Dm, IsNumbered}
 use Rattle.link_world.proofs.law.reduced.Core.Standing.{Idle, Calling, Up, Releasing}

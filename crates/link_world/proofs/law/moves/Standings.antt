@@ -1,9 +1,8 @@
 -- x is no longer up, or begins to call; and more is given to it.
-use Rattle.std.proofs.Common.{◌≡◌, ℕ, ◌+◌, ◌≤◌, List, [], ◌∷◌, ◌++◌, Option, Some, None, IfSome, length, arith, ap}
-use Rattle.std.proofs.Common.{refl, sym, ◌∙◌, subst, le_refl, length-append}
+use Rattle.link_world.proofs.Common.{◌≡◌, ℕ, ◌+◌, ◌≤◌, List, [], ◌∷◌, ◌++◌, Option, Some, None, IfSome, length, arith}
+use Rattle.link_world.proofs.Common.{ap, refl, sym, ◌∙◌, subst, le_refl, length-append, Packet}
 use Rattle.std.specs.List.{AllByRecursion as Each}
 use Rattle.std.proofs.lemmas.List.{drop-append-le}
-use Rattle.selective_reject.specs.declared.packet.Packet.{Packet}
 use Rattle.link_world.proofs.law.reduced.Core.{between, End, Running, Standing, SetUp, Tagged, with_running, set_ups}
 use Rattle.link_world.proofs.law.reduced.Core.{era}
 use Rattle.link_world.proofs.law.reduced.Core.Standing.{Idle, Calling, Up, Releasing}

@@ -1,9 +1,9 @@
 -- x is up and sends an I or S frame.
-use Rattle.std.proofs.Common.{◌≡◌, ℕ, zero, suc, ◌+◌, ◌-◌, ◌<◌, ◌≤◌, max, List, [], ◌∷◌, ◌++◌, Option, Some, IfSome}
-use Rattle.std.proofs.Common.{length, drop, slice_get, arith, ap, refl, sym, ◌∙◌, subst, le_trans, le_refl}
+use Rattle.link_world.proofs.Common.{◌≡◌, ℕ, zero, suc, ◌+◌, ◌-◌, ◌<◌, ◌≤◌, max, List, [], ◌∷◌, ◌++◌, Option, Some}
+use Rattle.link_world.proofs.Common.{IfSome, length, drop, slice_get, arith, ap, refl, sym, ◌∙◌, subst, le_trans}
+use Rattle.link_world.proofs.Common.{le_refl, Packet}
 use Rattle.std.specs.List.{AllByRecursion as Each}
 use Rattle.std.proofs.lemmas.Option.{slice_get_within}
-use Rattle.selective_reject.specs.declared.packet.Packet.{Packet}
 use Rattle.link_world.proofs.law.reduced.Core.{between, End, Running, SetUp, Stored, Tagged, Numbered, set_ups, era}
 use Rattle.link_world.proofs.law.reduced.Core.{count, got_in, given_in}
 use Rattle.link_world.proofs.law.reduced.Core.Numbered.{Info, Super, Srej}

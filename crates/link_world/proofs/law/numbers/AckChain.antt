@@ -1,7 +1,7 @@
 -- Acknowledgement numbers rise along what is under way, from V(A) up to what the mate of the hearer's set-up has got.
 -- An SREJ asks for a number and acknowledges none.
-use Rattle.std.proofs.Common.{◌≡◌, ℕ, ◌<◌, ◌≤◌, List, [], ◌∷◌, ◌++◌, Option, Some, None, arith, le_refl, le_trans}
-use Rattle.std.specs.Bool.{⊤}
+use Rattle.link_world.proofs.Common.{◌≡◌, ℕ, ◌<◌, ◌≤◌, List, [], ◌∷◌, ◌++◌, Option, Some, None, arith, le_refl}
+use Rattle.link_world.proofs.Common.{le_trans, ⊤}
 use Rattle.std.specs.List.{AllByRecursion as Each}
 use Rattle.link_world.proofs.law.reduced.Core.{Tagged, Numbered}
 use Rattle.link_world.proofs.law.reduced.Core.Numbered.{Info, Super, Srej}

@@ -1,10 +1,8 @@
 -- Numbers on the air are modulo the modulus. Of a front frame that an end hears while it is up they name the true ones.
-use Rattle.std.proofs.Common.{◌≡◌, ℕ, ◌+◌, ◌-◌, ◌%◌, ◌<◌, ◌≤◌, List, [], ◌∷◌, Option, Some, length, arith, le_trans}
-use Rattle.std.proofs.Common.{◌↔◌, subst, inl, inr}
-use Rattle.std.proofs.lemmas.Bool.{cases_lt}
-use Rattle.selective_reject.specs.Numbers.{ahead}
+use Rattle.link_world.proofs.Common.{◌≡◌, ℕ, ◌+◌, ◌-◌, ◌%◌, ◌<◌, ◌≤◌, List, [], ◌∷◌, Option, Some, length, arith}
+use Rattle.link_world.proofs.Common.{le_trans, subst, inl, inr, cases_lt, ahead, Packet}
+use Rattle.std.proofs.Common.{◌↔◌}
 use Rattle.selective_reject.proofs.Distances.{ahead-at_or_ahead, ahead-behind}
-use Rattle.selective_reject.specs.declared.packet.Packet.{Packet}
 use Rattle.link_world.proofs.law.reduced.Core.{End, Running, Stored, Tagged, Numbered, set_ups, got_in}
 use Rattle.link_world.proofs.law.reduced.Core.Numbered.{Info, Super, Srej}
 use Rattle.link_world.proofs.law.reduced.CoreMoves.{numbered_to}

@@ -1,8 +1,7 @@
 -- The numbers of I frames along what is under way: each is less than a window above V(R), and at most a window below
 -- all that is stored or comes before it. The window is the sender's.
-use Rattle.std.proofs.Common.{◌≡◌, ℕ, ◌+◌, ◌<◌, ◌≤◌, max, List, [], ◌∷◌, ◌++◌, Option, Some, None, arith, le_refl}
-use Rattle.std.proofs.Common.{le_trans}
-use Rattle.std.specs.Bool.{⊤}
+use Rattle.link_world.proofs.Common.{◌≡◌, ℕ, ◌+◌, ◌<◌, ◌≤◌, max, List, [], ◌∷◌, ◌++◌, Option, Some, None, arith}
+use Rattle.link_world.proofs.Common.{le_refl, le_trans, ⊤}
 use Rattle.std.specs.List.{AllByRecursion as Each}
 use Rattle.link_world.proofs.law.reduced.Core.{Tagged, Numbered, Stored}
 use Rattle.link_world.proofs.law.reduced.Core.Numbered.{Info, Super, Srej}

@@ -1,8 +1,8 @@
 -- Two links and the frames between them, without timers and conditions (AX.25 2.2 sections 4.2 and 6): what decides
 -- which packets an end gets. Numbers are true ones, counted from 0 in each set-up. Set-ups are numbered from 0 at each
 -- end.
-use Rattle.std.specs.Prelude.{◌≡◌, ℕ, Bool, List, [], ◌∷◌, ◌++◌, length, slice_index_or, Option, None}
-use Rattle.selective_reject.specs.declared.packet.Packet.{Packet}
+use Rattle.link_world.proofs.Common.{slice_index_or, Packet}
+use Rattle.std.specs.Prelude.{◌≡◌, ℕ, Bool, List, [], ◌∷◌, ◌++◌, length, Option, None}
 
 -- I and S frames, with their numbers. An SREJ has F = 0 here and acknowledges nothing; what an SREJ with F = 1 says is
 -- said by RR.

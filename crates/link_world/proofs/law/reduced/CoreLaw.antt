@@ -1,9 +1,8 @@
 -- The law of two links over a channel that loses frames: what a set-up got is a prefix of what was given in one set-up
 -- of the other end, its origin, which has the same modulus, and origins rise strictly.
+use Rattle.link_world.proofs.Common.{⊤, Packet}
 use Rattle.std.specs.Prelude.{◌≡◌, ℕ, ◌<◌, List, [], ◌∷◌, length, Option, Some, None, IfSome}
-use Rattle.std.specs.Bool.{⊤}
 use Rattle.std.specs.List.{AllByRecursion as Each}
-use Rattle.selective_reject.specs.declared.packet.Packet.{Packet}
 use Rattle.link_world.proofs.law.reduced.Core.{SetUp, Core, IsPrefixOf, set_ups, given_in, modulus_in}
 
 -- what a set-up got, by its origin: a prefix of what was given there, and else nothing

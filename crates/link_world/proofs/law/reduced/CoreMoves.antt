@@ -1,8 +1,8 @@
 -- The moves of which the events of a link consist, as they change two ends and the frames between them (AX.25 2.2
 -- section 6). Each is a move of x; those of y are the same in the mirror.
+use Rattle.link_world.proofs.Common.{Packet}
 use Rattle.std.specs.Prelude.{◌≡◌, ℕ, ◌+◌, ◌-◌, ◌<◌, ◌≤◌, max, true, false, List, [], ◌∷◌, ◌++◌, drop, slice_get}
 use Rattle.std.specs.Prelude.{Option, Some, None, IsSome}
-use Rattle.selective_reject.specs.declared.packet.Packet.{Packet}
 use Rattle.link_world.proofs.law.reduced.Core.{Tagged, Kind, Numbered, Stored, Running, Standing, End, Core, between}
 use Rattle.link_world.proofs.law.reduced.Core.{mirror, set_ups, era}
 use Rattle.link_world.proofs.law.reduced.Core.Numbered.{Info, Super, Srej}

@@ -1,16 +1,10 @@
 -- A link, and what it sends, as the law of two links reads them.
+use Rattle.link_world.proofs.Common.{S, Rr, Rnr, U, Packet, Place, Machine, window_in, Sent, SentIn, InfoSent}
+use Rattle.link_world.proofs.Common.{SuperSent, SetupSent}
 use Rattle.std.specs.Prelude.{ℕ, ◌+◌, Bool, true, false, List, [], ◌∷◌, map, Option, Some, None}
-use Rattle.ax25_frames.specs.declared.frame.S.{S}
-use Rattle.ax25_frames.specs.declared.frame.S.TheVariants.{Rr, Rnr, Rej, Srej as SrejFrame}
-use Rattle.ax25_frames.specs.declared.frame.U.{U}
+use Rattle.ax25_frames.specs.declared.frame.S.TheVariants.{Rej, Srej as SrejFrame}
 use Rattle.ax25_frames.specs.declared.frame.U.TheVariants.{Sabm as SabmFrame, Sabme as SabmeFrame, Disc as DiscFrame}
 use Rattle.ax25_frames.specs.declared.frame.U.TheVariants.{Dm as DmFrame, Ua as UaFrame}
-use Rattle.selective_reject.specs.declared.packet.Packet.{Packet}
-use Rattle.selective_reject.specs.declared.place.Place.{Place}
-use Rattle.link_machine.specs.Machine.{Machine}
-use Rattle.link_machine.specs.Params.{window_in}
-use Rattle.link_machine.specs.Sent.{Sent, SentIn}
-use Rattle.link_machine.specs.Sent.Sent.{InfoSent, SuperSent, SetupSent}
 use Rattle.link_world.proofs.law.reduced.Core.{Tagged, Kind, Numbered, SetUp, Stored, Running, End}
 use Rattle.link_world.proofs.law.reduced.Core.Numbered.{Info, Super, Srej}
 use Rattle.link_world.proofs.law.reduced.Core.Kind.{Sabm, Disc, Ua, Dm, IsNumbered}

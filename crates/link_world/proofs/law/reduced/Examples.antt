@@ -1,7 +1,6 @@
 -- A worked run of moves: x calls y and gives two packets. The I frame with the first is lost, y stores the second and
 -- asks for the first by SREJ, and gets both in order.
-use Rattle.std.proofs.Common.{◌≡◌, [], ◌∷◌, Some, refl, arith}
-use Rattle.selective_reject.specs.declared.packet.Packet.{Packet}
+use Rattle.link_world.proofs.Common.{◌≡◌, [], ◌∷◌, Some, refl, arith, Packet}
 use Rattle.link_world.proofs.law.reduced.Core.{Core, End, Running, Stored, Tagged, set_ups, set_up_at, mirror, between}
 use Rattle.link_world.proofs.law.reduced.Core.Numbered.{Info, Srej}
 use Rattle.link_world.proofs.law.reduced.Core.Standing.{Calling, Up}

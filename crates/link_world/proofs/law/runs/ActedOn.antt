@@ -1,34 +1,23 @@
 -- All I and S frames that a set-up acted on are of its mate.
-use Rattle.std.proofs.Common.{◌≡◌, ℕ, Bool, true, false, if◌then◌else◌, List, [], ◌∷◌, ◌++◌, All, Some, is_some, refl}
-use Rattle.std.proofs.Common.{sym, ap, ◌∙◌, subst}
-use Rattle.std.specs.List.{AllByRecursion as Each, fold}
-use Rattle.std.proofs.lemmas.List.Elements.{All-from_recursion}
-use Rattle.ax25_frames.specs.declared.frame.Frame.{Frame}
-use Rattle.selective_reject.specs.declared.packet.Packet.{Packet}
-use Rattle.link_machine.specs.declared.state.LinkState.{LinkState}
+use Rattle.link_world.proofs.Common.{◌≡◌, ℕ, Bool, true, false, if◌then◌else◌, List, [], ◌∷◌, ◌++◌, Some, is_some, refl}
+use Rattle.link_world.proofs.Common.{sym, ap, ◌∙◌, subst, fold, All-from_recursion, Frame, Packet, LinkState, Told}
+use Rattle.link_world.proofs.Common.{Opened, Given, Ended, Sent, sent_kind, InfoSent, SuperSent, SetupSent, refusal_of}
+use Rattle.link_world.proofs.Common.{Turn, SetUp, change_last, last_changed, giving, getting, acting, Tagged}
+use Rattle.link_world.proofs.Common.{is_numbered, RecordedEnd, Happening, told_of, opening, taking, hearing, noting}
+use Rattle.link_world.proofs.Common.{accepts, behind, Sends, Hears, read_in}
+use Rattle.std.proofs.Common.{All}
+use Rattle.std.specs.List.{AllByRecursion as Each}
 use Rattle.link_machine.specs.declared.state.LinkState.TheVariants.{Idle as IdleState, Calling as CallingState}
 use Rattle.link_machine.specs.declared.state.LinkState.TheVariants.{Up as UpState, Releasing as ReleasingState}
-use Rattle.link_machine.specs.declared.acts.Told.{Told}
-use Rattle.link_machine.specs.declared.acts.Told.TheVariants.{Opened, Given, Ended}
 use Rattle.link_machine.specs.Event.Event.{Send}
-use Rattle.link_machine.specs.Sent.{Sent, sent_kind}
-use Rattle.link_machine.specs.Sent.Sent.{InfoSent, SuperSent, SetupSent}
-use Rattle.link_machine.specs.Step.{refusal_of}
-use Rattle.link_machine.specs.Turn.{Turn}
 use Rattle.link_world.proofs.law.reduced.Core.{End, Tagged as CoreTagged, between}
 use Rattle.link_world.proofs.law.reduced.CoreOf.{end_behind, up_end}
-use Rattle.link_world.specs.SetUps.{SetUp, change_last, last_changed, giving, getting, acting}
-use Rattle.link_world.specs.Flight.{Tagged, is_numbered}
 use Rattle.link_world.specs.Origin.{ActedOnOne}
-use Rattle.link_world.specs.Recorded.{RecordedEnd, Happening, told_of, opening, taking, hearing, noting, accepts}
-use Rattle.link_world.specs.Recorded.{behind}
-use Rattle.link_world.specs.Recorded.Happening.{Sends, Hears}
 use Rattle.link_world.proofs.law.Each.{each_weaker, each_pushed, each_before, each_last}
 use Rattle.link_world.proofs.law.invariant.Upward.{front_of_mate}
 use Rattle.link_world.proofs.law.invariant.Invariant.{Invariant}
 use Rattle.link_world.proofs.law.showing.Shown.{core_set_up, core_set_ups, core_tagged, change_last-push, Shown}
 use Rattle.link_world.proofs.law.showing.Shown.{IsWritten}
-use Rattle.link_world.specs.World.{read_in}
 use Rattle.link_world.proofs.law.showing.Heard.{arrival_of}
 use Rattle.link_world.proofs.law.runs.EndSteps.{kind_of_up, read_frame_as, read_frame_same}
 use Rattle.link_world.proofs.law.showing.Shown.Shown.{ShownIdle, ShownCalling, ShownUp, ShownReleasing}

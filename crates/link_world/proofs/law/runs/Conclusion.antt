@@ -1,19 +1,14 @@
 -- What holds of a world, in its own words: what a set-up got is a prefix of what was given in its origin, and origins
 -- rise.
-use Rattle.std.proofs.Common.{◌≡◌, ◌≢◌, ℕ, zero, suc, ◌<◌, List, [], ◌∷◌, length, get_or, All, Option, Some, None}
-use Rattle.std.proofs.Common.{IfSome, refl, sym, ap, ◌∙◌, subst, arith}
-use Rattle.std.specs.Bool.{⊤}
+use Rattle.link_world.proofs.Common.{◌≡◌, ℕ, zero, suc, ◌<◌, List, [], ◌∷◌, length, Option, Some, None, IfSome, refl}
+use Rattle.link_world.proofs.Common.{sym, ap, ◌∙◌, subst, arith, ⊤, All-from_recursion, Packet, SetUp, RecordedEnd}
+use Rattle.link_world.proofs.Common.{World, Params}
+use Rattle.std.proofs.Common.{◌≢◌, get_or, All}
 use Rattle.std.specs.List.{AllByRecursion as Each, cons_option}
-use Rattle.std.proofs.lemmas.List.Elements.{All-from_recursion}
 use Rattle.std.proofs.lemmas.Option.{slice_get-get_or}
-use Rattle.selective_reject.specs.declared.packet.Packet.{Packet}
 use Rattle.link_world.proofs.law.reduced.Core.{End, SetUp as CoreSetUp, given_in, modulus_in, set_ups}
 use Rattle.link_world.proofs.law.reduced.CoreLaw.{GotBy, GotOf, OriginBelow, OriginsRise, OriginAlike}
-use Rattle.link_world.specs.SetUps.{SetUp}
 use Rattle.link_world.specs.Origin.{origin_of, origin, origins, GotPrefix, GotNothingElse, RiseStrictly}
-use Rattle.link_world.specs.Recorded.{RecordedEnd}
-use Rattle.link_world.specs.World.{World}
-use Rattle.link_machine.specs.declared.params.Params.{Params}
 use Rattle.link_world.proofs.law.Each.{each_weaker, each_both}
 use Rattle.link_world.proofs.law.showing.Shown.{core_set_up, core_set_ups, length_core, Shown}
 use Rattle.link_world.proofs.law.showing.Shown.Shown.{ShownIdle, ShownCalling, ShownUp, ShownReleasing}

@@ -1,41 +1,27 @@
 -- Whatever happens to an end, what holds still holds.
-use Rattle.std.proofs.Common.{◌≡◌, ℕ, Bool, true, false, ◌||◌, if◌then◌else◌, nat_le, nat_lt, List, [], ◌∷◌, length}
-use Rattle.std.proofs.Common.{Option, Some, None, is_some, IfSome, inl, inr, refl, sym, ap, ◌∙◌, subst}
-use Rattle.std.specs.Bool.{⊤}
-use Rattle.std.proofs.lemmas.Bool.{cond-true, false≢true}
-use Rattle.ax25_frames.specs.declared.frame.Frame.{Frame}
-use Rattle.ax25_frames.specs.declared.frame.Kind.{Kind}
-use Rattle.ax25_frames.specs.declared.frame.U.{U}
+use Rattle.link_world.proofs.Common.{◌≡◌, ℕ, Bool, true, false, ◌||◌, if◌then◌else◌, nat_lt, List, [], ◌∷◌, length}
+use Rattle.link_world.proofs.Common.{Option, Some, None, is_some, IfSome, inl, inr, refl, sym, ap, ◌∙◌, subst, ⊤}
+use Rattle.link_world.proofs.Common.{cond-true, false≢true, Frame, Kind, U, is_command_of, Packet, LinkState, LinkFault}
+use Rattle.link_world.proofs.Common.{Machine, modulus_named, Sent, sent_kind, InfoSent, SuperSent, SetupSent, begin}
+use Rattle.link_world.proofs.Common.{changing, setting, connect, joined, quitting, tick, tick_in, hear_up, step}
+use Rattle.link_world.proofs.Common.{settled, refusal_of, frame_read, read_in, is_sabm_frame, SetUp, Tagged}
+use Rattle.link_world.proofs.Common.{RecordedEnd, Happening, noting, seen, hears_ask, Connects, Sends, Disconnects}
+use Rattle.link_world.proofs.Common.{Ticks, Hears}
+use Rattle.std.proofs.Common.{nat_le}
 use Rattle.ax25_frames.specs.declared.frame.U.TheVariants.{Sabm as SabmFrame, Sabme as SabmeFrame, Disc as DiscFrame}
 use Rattle.ax25_frames.specs.declared.frame.U.TheVariants.{Dm as DmFrame, Ua as UaFrame}
-use Rattle.ax25_frames.specs.FrameText.{is_command_of}
-use Rattle.selective_reject.specs.declared.packet.Packet.{Packet}
-use Rattle.link_machine.specs.declared.state.LinkState.{LinkState}
 use Rattle.link_machine.specs.declared.state.LinkState.TheVariants.{Idle as IdleState, Calling as CallingState}
 use Rattle.link_machine.specs.declared.state.LinkState.TheVariants.{Releasing as ReleasingState}
-use Rattle.link_machine.specs.declared.fault.LinkFault.{LinkFault}
 use Rattle.link_machine.specs.declared.fault.LinkFault.TheVariants.{WrongState, Full, TooLong}
-use Rattle.link_machine.specs.Machine.{Machine, modulus_named, most_packets, most_octets}
-use Rattle.link_machine.specs.Sent.{Sent, sent_kind}
-use Rattle.link_machine.specs.Sent.Sent.{InfoSent, SuperSent, SetupSent}
-use Rattle.link_machine.specs.Turn.{begin, changing, setting}
+use Rattle.link_machine.specs.Machine.{most_packets, most_octets}
 use Rattle.link_machine.specs.Event.Event.{Connect, Send, Disconnect, Hear}
-use Rattle.link_machine.specs.Requests.{connect, joined, quitting, has_link, takes_none}
-use Rattle.link_machine.specs.Ticks.{tick, tick_in}
-use Rattle.link_machine.specs.Frames.{hear, hear_in, hear_up}
-use Rattle.link_machine.specs.Step.{step, settled, refusal_of}
+use Rattle.link_machine.specs.Requests.{has_link, takes_none}
+use Rattle.link_machine.specs.Frames.{hear, hear_in}
 use Rattle.link_world.proofs.law.reduced.Core.{End, Tagged as CoreTagged, between}
 use Rattle.link_world.proofs.law.reduced.CoreMoves.{sabms}
 use Rattle.link_world.proofs.law.reduced.CoreOf.{end_behind, up_end}
 use Rattle.link_world.proofs.law.invariant.Upward.{front_modulus}
-use Rattle.link_world.specs.Reading.{frame_read}
-use Rattle.link_world.specs.World.{read_in}
-use Rattle.link_world.specs.Quiet.{is_sabm_frame}
 use Rattle.link_world.proofs.law.showing.Readings.{IsReadAs, kind_same, read_as}
-use Rattle.link_world.specs.SetUps.{SetUp}
-use Rattle.link_world.specs.Flight.{Tagged}
-use Rattle.link_world.specs.Recorded.{RecordedEnd, Happening, noting, seen, hears_ask}
-use Rattle.link_world.specs.Recorded.Happening.{Connects, Sends, Disconnects, Ticks, Hears}
 use Rattle.link_world.proofs.law.showing.PlacesFit.{IsSound}
 use Rattle.link_world.proofs.law.invariant.Invariant.{Invariant}
 use Rattle.link_world.proofs.law.up.Info.{WindowsOf}

@@ -1,27 +1,17 @@
 -- A quiet run keeps what holds, from a new world on.
-use Rattle.std.proofs.Common.{◌≡◌, ℕ, ◌+◌, Option, Some, None, Bool, true, ◌&&◌, ◌||◌, not, ◌==◌, List, [], ◌∷◌, ◌++◌}
-use Rattle.std.proofs.Common.{◌⊎◌, inl, inr, refl, sym, ap, ◌∙◌}
-use Rattle.std.specs.Prelude.{IsTrue}
-use Rattle.std.proofs.lemmas.Bool.{and_parts, eqb-true}
-use Rattle.ax25_address.specs.declared.path.Path.{Path}
+use Rattle.link_world.proofs.Common.{◌≡◌, ℕ, ◌+◌, Option, Some, None, Bool, true, ◌&&◌, ◌||◌, not, ◌==◌, List, [], ◌∷◌}
+use Rattle.link_world.proofs.Common.{◌++◌, ◌⊎◌, inl, inr, refl, sym, ap, ◌∙◌, IsTrue, and_parts, eqb-true, Path, Frame}
+use Rattle.link_world.proofs.Common.{Params, window_in, HasWindows, LinkState, Tagged, asks_in, answers_in, RecordedEnd}
+use Rattle.link_world.proofs.Common.{Connects, Sends, Disconnects, Ticks, Side, World, read_in, hearing_as, turn_of}
+use Rattle.link_world.proofs.Common.{near_step, seen_from, end_of, run, new_world, is_alone, sends_alone, called_alone}
+use Rattle.link_world.proofs.Common.{is_quiet, IsQuietRun, WindowsFit, HasHalfWindows, A, B, Event, Connect, Send}
+use Rattle.link_world.proofs.Common.{Disconnect, Tick, Hear, Lose}
 use Rattle.selective_reject.specs.declared.window.Mode.TheVariants.{Srej as SrejMode}
-use Rattle.ax25_frames.specs.declared.frame.Frame.{Frame}
-use Rattle.link_machine.specs.declared.params.Params.{Params}
-use Rattle.link_machine.specs.Params.{window_in, HasWindows}
-use Rattle.link_machine.specs.declared.state.LinkState.{LinkState}
 use Rattle.link_machine.specs.declared.state.LinkState.TheVariants.{Idle as IdleState}
 use Rattle.link_world.proofs.law.reduced.CoreMoves.{new_end}
-use Rattle.link_world.specs.Flight.{Tagged, asks_in, answers_in}
-use Rattle.link_world.specs.Recorded.{RecordedEnd}
-use Rattle.link_world.specs.Recorded.Happening.{Connects, Sends, Disconnects, Ticks}
-use Rattle.link_world.specs.World.{Side, World, read_in, hearing_as, turn_of, near_step, seen_from, end_of, step, run}
-use Rattle.link_world.specs.World.{new_world}
-use Rattle.link_world.specs.Quiet.{is_alone, sends_alone, called_alone, is_quiet, IsQuietRun, is_idle}
-use Rattle.link_world.specs.Windows.{WindowsFit, HasHalfWindows}
+use Rattle.link_world.specs.World.{step}
+use Rattle.link_world.specs.Quiet.{is_idle}
 use Rattle.link_world.specs.declared.end.End.{End as Name}
-use Rattle.link_world.specs.declared.end.End.TheVariants.{A, B}
-use Rattle.link_world.specs.declared.event.Event.{Event}
-use Rattle.link_world.specs.declared.event.Event.TheVariants.{Connect, Send, Disconnect, Tick, Hear, Lose}
 use Rattle.link_world.proofs.law.showing.PlacesFit.{HasRoom, sound_new}
 use Rattle.link_world.proofs.law.moves.Kept.{new_holds}
 use Rattle.link_world.proofs.law.showing.Shown.Shown.{ShownIdle}

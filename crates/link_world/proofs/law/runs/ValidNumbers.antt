@@ -1,23 +1,13 @@
 -- No N(R) that an end reads is invalid, so no link is reset by a number.
-use Rattle.std.proofs.Common.{◌≡◌, ℕ, ◌%◌, ◌<◌, true, List, [], ◌∷◌, Option, Some, None, refl, ap, sym, ◌∙◌, subst}
-use Rattle.std.proofs.lemmas.Bool.{le-leb}
+use Rattle.link_world.proofs.Common.{◌≡◌, ℕ, ◌%◌, ◌<◌, true, List, [], ◌∷◌, Option, Some, None, refl, ap, sym, ◌∙◌}
+use Rattle.link_world.proofs.Common.{subst, le-leb, Frame, Params, Machine, is_valid, Sent, sent_kind, InfoSent}
+use Rattle.link_world.proofs.Common.{SuperSent, SetupSent, SetUp, Tagged, RecordedEnd, Side, World, read_in}
+use Rattle.link_world.proofs.Common.{hears_valid, WindowsFit, Event, Connect, Send, Disconnect, Tick, Hear, Lose}
 use Rattle.std.specs.List.{AllByRecursion as Each}
-use Rattle.ax25_frames.specs.declared.frame.Frame.{Frame}
-use Rattle.link_machine.specs.declared.params.Params.{Params}
-use Rattle.link_machine.specs.Machine.{Machine, is_valid}
-use Rattle.link_machine.specs.Sent.{Sent, sent_kind}
-use Rattle.link_machine.specs.Sent.Sent.{InfoSent, SuperSent, SetupSent}
 use Rattle.link_world.proofs.law.reduced.Core.{End, Tagged as CoreTagged, Numbered, between}
 use Rattle.link_world.proofs.law.reduced.CoreMoves.{numbered_to}
 use Rattle.link_world.proofs.law.reduced.CoreOf.{end_behind, up_end}
-use Rattle.link_world.specs.SetUps.{SetUp}
-use Rattle.link_world.specs.Flight.{Tagged}
-use Rattle.link_world.specs.Recorded.{RecordedEnd}
-use Rattle.link_world.specs.World.{Side, World, read_in}
-use Rattle.link_world.specs.Law.{names_valid, read_names_valid, reads_valid, hears_valid}
-use Rattle.link_world.specs.Windows.{WindowsFit}
-use Rattle.link_world.specs.declared.event.Event.{Event}
-use Rattle.link_world.specs.declared.event.Event.TheVariants.{Connect, Send, Disconnect, Tick, Hear, Lose}
+use Rattle.link_world.specs.Law.{names_valid, read_names_valid, reads_valid}
 use Rattle.link_world.proofs.law.numbers.Deciding.{nr_of, nr_is_named}
 use Rattle.link_world.proofs.law.invariant.Upward.{front_modulus}
 use Rattle.link_world.proofs.law.showing.Heard.{arrival_of}

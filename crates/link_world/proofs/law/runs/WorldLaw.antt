@@ -1,25 +1,17 @@
 -- The law of two links: in every quiet run from a new world whose windows fit, what each set-up got is a prefix of
 -- what the other end was given in its origin, which has the same modulus, origins rise strictly, all that a set-up
 -- acted on is of one set-up of the other end, and no number is invalid.
-use Rattle.std.proofs.Common.{◌≡◌, true, List, [], ◌∷◌, Option, Some, None, refl}
-use Rattle.std.specs.Prelude.{IsTrue}
+use Rattle.link_world.proofs.Common.{◌≡◌, true, List, [], ◌∷◌, Option, Some, None, refl, IsTrue, Frame, Params}
+use Rattle.link_world.proofs.Common.{RecordedEnd, seen, Connects, Sends, Disconnects, Ticks, Hears, Tagged, Side, World}
+use Rattle.link_world.proofs.Common.{read_in, hearing_as, turn_of, near_step, seen_from, end_of, run, new_world}
+use Rattle.link_world.proofs.Common.{IsQuietRun, WindowsFit, hears_valid, A, B, Event, Connect, Send, Disconnect, Tick}
+use Rattle.link_world.proofs.Common.{Hear, Lose}
 use Rattle.std.specs.List.{AllByRecursion as Each}
-use Rattle.ax25_frames.specs.declared.frame.Frame.{Frame}
-use Rattle.link_machine.specs.declared.params.Params.{Params}
 use Rattle.link_machine.specs.Step.{step as link_step}
-use Rattle.link_world.specs.Recorded.{RecordedEnd, seen}
-use Rattle.link_world.specs.Recorded.Happening.{Connects, Sends, Disconnects, Ticks, Hears}
-use Rattle.link_world.specs.Flight.{Tagged}
-use Rattle.link_world.specs.World.{Side, World, read_in, hearing_as, turn_of, near_step, seen_from, end_of, step, run}
-use Rattle.link_world.specs.World.{new_world}
-use Rattle.link_world.specs.Quiet.{IsQuietRun}
-use Rattle.link_world.specs.Windows.{WindowsFit}
+use Rattle.link_world.specs.World.{step}
 use Rattle.link_world.specs.Origin.{GotInOrder}
-use Rattle.link_world.specs.Law.{hears_valid, NumbersAreValid, PrefixLaw}
+use Rattle.link_world.specs.Law.{NumbersAreValid, PrefixLaw}
 use Rattle.link_world.specs.declared.end.End.{End as Name}
-use Rattle.link_world.specs.declared.end.End.TheVariants.{A, B}
-use Rattle.link_world.specs.declared.event.Event.{Event}
-use Rattle.link_world.specs.declared.event.Event.TheVariants.{Connect, Send, Disconnect, Tick, Hear, Lose}
 use Rattle.link_world.proofs.law.runs.WorldSteps.{ShowsWorld, shows_mirror}
 use Rattle.link_world.proofs.law.runs.Runs.{run_shows, new_shows, step_shows, fit_mirror}
 use Rattle.link_world.proofs.law.runs.ActedOn.{ActedOnMate, acted_behind, acted_sends, acted_hears, one_source_holds}

@@ -1,32 +1,24 @@
 -- Each event of a quiet run keeps what holds of a world.
-use Rattle.std.proofs.Common.{◌≡◌, ℕ, zero, suc, ◌+◌, ◌<◌, ◌≤◌, Some, Bool, true, false, ◌==◌, cond, List, [], ◌∷◌}
-use Rattle.std.proofs.Common.{◌++◌, map, ◌⊎◌, inl, inr, refl, sym, ap, ◌∙◌, subst, arith, append-nil}
+use Rattle.link_world.proofs.Common.{◌≡◌, ℕ, zero, suc, ◌+◌, ◌<◌, ◌≤◌, Some, Bool, true, false, ◌==◌, List, [], ◌∷◌}
+use Rattle.link_world.proofs.Common.{◌++◌, map, ◌⊎◌, inl, inr, refl, sym, ap, ◌∙◌, subst, arith, append-nil, eqb-true}
+use Rattle.link_world.proofs.Common.{map-append, Frame, Mode, IsWindow, Params, window_in, HasWindows, Sent, SentIn}
+use Rattle.link_world.proofs.Common.{sent_kind, InfoSent, SuperSent, SetupSent, Tagged, asks, asks_in, answers_in}
+use Rattle.link_world.proofs.Common.{RecordedEnd, Happening, seen, hears_ask, behind, tagged, Hears, World, read_in}
+use Rattle.link_world.proofs.Common.{is_alone, WindowsFit, HasHalfWindows}
+use Rattle.std.proofs.Common.{cond}
 use Rattle.std.specs.List.{AllByRecursion as Each, remove}
-use Rattle.std.proofs.lemmas.Bool.{eqb-true, or_cases}
-use Rattle.std.proofs.lemmas.List.{map-append}
+use Rattle.std.proofs.lemmas.Bool.{or_cases}
 use Rattle.std.proofs.lemmas.List.Sums.{sum_by-cons}
-use Rattle.ax25_frames.specs.declared.frame.Frame.{Frame}
 use Rattle.ax25_frames.specs.declared.frame.U.TheVariants.{Sabm as SabmFrame, Sabme as SabmeFrame, Disc as DiscFrame}
 use Rattle.ax25_frames.specs.declared.frame.U.TheVariants.{Dm as DmFrame, Ua as UaFrame}
-use Rattle.selective_reject.specs.declared.window.Mode.{Mode}
 use Rattle.selective_reject.specs.declared.window.Mode.TheVariants.{Rej as RejMode, Srej as SrejMode}
-use Rattle.selective_reject.specs.Window.{IsWindow}
-use Rattle.link_machine.specs.declared.params.Params.{Params}
 use Rattle.link_machine.specs.declared.state.LinkState.TheVariants.{Idle as IdleState}
-use Rattle.link_machine.specs.Params.{window_in, HasWindows}
-use Rattle.link_machine.specs.Sent.{Sent, SentIn, sent_kind}
-use Rattle.link_machine.specs.Sent.Sent.{InfoSent, SuperSent, SetupSent}
 use Rattle.link_machine.specs.Step.{step as link_step}
 use Rattle.link_world.proofs.law.reduced.Core.{End, between}
 use Rattle.link_world.proofs.law.reduced.CoreMoves.{asks as core_asks, answers as core_answers, sabms, ask_of}
 use Rattle.link_world.proofs.law.reduced.CoreMoves.{answer_of}
 use Rattle.link_world.proofs.law.reduced.CoreOf.{cores_sent, kind_of}
-use Rattle.link_world.specs.Flight.{Tagged, asks, asks_in, answers_in}
-use Rattle.link_world.specs.Recorded.{RecordedEnd, Happening, seen, hears_ask, behind, tagged}
-use Rattle.link_world.specs.Recorded.Happening.{Hears}
-use Rattle.link_world.specs.World.{World, read_in}
-use Rattle.link_world.specs.Quiet.{is_alone, is_sabm}
-use Rattle.link_world.specs.Windows.{WindowsFit, HasHalfWindows}
+use Rattle.link_world.specs.Quiet.{is_sabm}
 use Rattle.link_world.proofs.law.Each.{each_append, each_removed}
 use Rattle.link_world.proofs.law.invariant.Exchanges.{sabms_are_asks}
 use Rattle.link_world.proofs.law.showing.PlacesFit.{IsSound, IsModulus}

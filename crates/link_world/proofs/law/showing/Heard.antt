@@ -1,10 +1,6 @@
 -- A frame as an end hears it.
+use Rattle.link_world.proofs.Common.{Path, Kind, Frame, Sent, sent_kind, Tagged}
 use Rattle.std.specs.Prelude.{ℕ, Bool}
-use Rattle.ax25_address.specs.declared.path.Path.{Path}
-use Rattle.ax25_frames.specs.declared.frame.Kind.{Kind}
-use Rattle.ax25_frames.specs.declared.frame.Frame.{Frame}
-use Rattle.link_machine.specs.Sent.{Sent, sent_kind}
-use Rattle.link_world.specs.Flight.{Tagged}
 
 -- what comes with a frame: its path, its modulus, its sender's set-up, and whether it answers a SABM, SABME or DISC
 pub record Arrival : Type 0 where

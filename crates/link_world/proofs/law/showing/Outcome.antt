@@ -1,16 +1,9 @@
 -- What an event leaves after.
-use Rattle.std.proofs.Common.{refl, [], ◌≡◌, ◌+◌, Bool, false, List, ◌++◌, map, ◌⊎◌, ap, ◌∙◌, sym, subst}
-use Rattle.std.proofs.lemmas.List.{map-append}
+use Rattle.link_world.proofs.Common.{refl, [], ◌≡◌, ◌+◌, Bool, false, List, ◌++◌, map, ◌⊎◌, ap, ◌∙◌, sym, subst}
+use Rattle.link_world.proofs.Common.{map-append, fold, Packet, Params, Machine, SentIn, Turn, SetUp, RecordedEnd}
+use Rattle.link_world.proofs.Common.{Happening, tagged, waiting_in, told_of, opening, noting, behind, hears_ask}
 use Rattle.link_world.proofs.law.Each.{each_append}
-use Rattle.std.specs.List.{AllByRecursion as Each, fold}
-use Rattle.selective_reject.specs.declared.packet.Packet.{Packet}
-use Rattle.link_machine.specs.declared.params.Params.{Params}
-use Rattle.link_machine.specs.Machine.{Machine}
-use Rattle.link_machine.specs.Sent.{SentIn}
-use Rattle.link_machine.specs.Turn.{Turn}
-use Rattle.link_world.specs.SetUps.{SetUp}
-use Rattle.link_world.specs.Recorded.{RecordedEnd, Happening, tagged, waiting_in, told_of, opening, noting, behind}
-use Rattle.link_world.specs.Recorded.{hears_ask}
+use Rattle.std.specs.List.{AllByRecursion as Each}
 use Rattle.link_world.proofs.law.reduced.Core.{End, Tagged as CoreTagged, between}
 use Rattle.link_world.proofs.law.reduced.CoreMoves.{asks, answers}
 use Rattle.link_world.proofs.law.reduced.CoreOf.{cores_sent}

@@ -1,17 +1,14 @@
 -- The places of a link between two events: as many as the window, and nothing in the first; by REJ nothing in any.
-use Rattle.std.proofs.Common.{◌≡◌, ℕ, zero, suc, ◌+◌, ◌-◌, ◌≤◌, Bool, true, false, ◌==◌, if◌then◌else◌, ◌⊎◌, subst}
-use Rattle.std.proofs.Common.{List, [], ◌∷◌, ◌++◌, length, drop, replicate, Option, Some, None, refl, sym, ap, ◌∙◌}
-use Rattle.std.proofs.Common.{arith, length-append, length-drop, length-set}
+use Rattle.link_world.proofs.Common.{◌≡◌, ℕ, zero, suc, ◌+◌, ◌-◌, ◌≤◌, Bool, true, false, ◌==◌, if◌then◌else◌, ◌⊎◌}
+use Rattle.link_world.proofs.Common.{subst, List, [], ◌∷◌, ◌++◌, length, drop, replicate, Option, Some, None, refl, sym}
+use Rattle.link_world.proofs.Common.{ap, ◌∙◌, arith, length-append, Packet, Place, Mode, Incoming, empty_incoming}
+use Rattle.link_world.proofs.Common.{empty_place, packet_at, with_packet, asked, Params, window_in, before_gap}
+use Rattle.link_world.proofs.Common.{moved_on}
+use Rattle.std.proofs.Common.{length-drop, length-set}
 use Rattle.std.proofs.lemmas.List.{length-replicate, drop-replicate, replicate-append-replicate, get_or-set_other}
-use Rattle.selective_reject.specs.declared.packet.Packet.{Packet}
-use Rattle.selective_reject.specs.declared.place.Place.{Place}
-use Rattle.selective_reject.specs.declared.window.Mode.{Mode}
 use Rattle.selective_reject.specs.declared.window.Mode.TheVariants.{Rej as RejMode, Srej as SrejMode}
-use Rattle.selective_reject.specs.Incoming.{Incoming, empty_incoming}
-use Rattle.selective_reject.specs.Places.{empty_place, packet_at, with_packet, filled_place, place_at, asked}
-use Rattle.link_machine.specs.declared.params.Params.{Params}
-use Rattle.link_machine.specs.Params.{window_in}
-use Rattle.link_machine.specs.Acts.{run, before_gap, moved_on}
+use Rattle.selective_reject.specs.Places.{filled_place, place_at}
+use Rattle.link_machine.specs.Acts.{run}
 
 pub record IsFit (i : Incoming) : Type 0 where
   pub places : length i.places ≡ i.window

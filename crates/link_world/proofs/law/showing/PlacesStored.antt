@@ -1,11 +1,11 @@
 -- The packets in places, by their numbers, when a place is filled, asked for or left behind.
-use Rattle.std.proofs.Common.{◌≡◌, ℕ, zero, suc, ◌+◌, ◌<◌, ◌≤◌, Bool, true, false, List, [], ◌∷◌, ◌++◌, length, drop}
-use Rattle.std.proofs.Common.{filter, replicate, Option, Some, None, is_some, if◌then◌else◌, refl, sym, ap, ◌∙◌, arith}
+use Rattle.link_world.proofs.Common.{◌≡◌, ℕ, zero, suc, ◌+◌, ◌<◌, ◌≤◌, Bool, true, false, List, [], ◌∷◌, ◌++◌, length}
+use Rattle.link_world.proofs.Common.{drop, replicate, Option, Some, None, is_some, if◌then◌else◌, refl, sym, ap, ◌∙◌}
+use Rattle.link_world.proofs.Common.{arith, false≢true, Packet, Place, empty_place, packet_at, is_full, with_packet}
+use Rattle.link_world.proofs.Common.{asked, missing}
+use Rattle.std.proofs.Common.{filter}
 use Rattle.std.specs.List.{AllByRecursion as Each, range_with_len}
-use Rattle.std.proofs.lemmas.Bool.{false≢true}
-use Rattle.selective_reject.specs.declared.packet.Packet.{Packet}
-use Rattle.selective_reject.specs.declared.place.Place.{Place}
-use Rattle.selective_reject.specs.Places.{empty_place, packet_at, is_full, with_packet, asked, missing, is_missing}
+use Rattle.selective_reject.specs.Places.{is_missing}
 use Rattle.link_world.proofs.law.reduced.Core.{Stored}
 use Rattle.link_world.proofs.law.reduced.CoreOf.{stored_before, stored_from}
 

@@ -1,16 +1,10 @@
 -- What a frame is read as, if it was written in another modulus: an I or S frame as one of them, or as none, and
 -- another as it is.
-use Rattle.std.proofs.Common.{◌≡◌, ℕ, ◌%◌, Bool, true, false, if◌then◌else◌, nat_lt, List, [], ◌∷◌, length, Option}
-use Rattle.std.proofs.Common.{Some, None, IfSome, refl, subst}
-use Rattle.ax25_frames.specs.declared.frame.Kind.{Kind}
-use Rattle.ax25_frames.specs.declared.frame.Kind.TheVariants.{Info, Setup}
-use Rattle.ax25_frames.specs.declared.frame.Frame.{Frame}
-use Rattle.ax25_frames.specs.declared.frame.Modulus.{Modulus}
-use Rattle.ax25_frames.specs.declared.frame.Modulus.TheVariants.{Eight, OneTwentyEight}
-use Rattle.link_machine.specs.Sent.{Sent, sent_kind}
-use Rattle.link_machine.specs.Sent.Sent.{InfoSent, SuperSent, SetupSent}
-use Rattle.link_world.specs.Flight.{is_numbered}
-use Rattle.link_world.specs.Reading.{kind_read, frame_read, read_wide, read_narrow, with_kind}
+use Rattle.link_world.proofs.Common.{◌≡◌, ℕ, ◌%◌, Bool, true, false, if◌then◌else◌, nat_lt, List, [], ◌∷◌, length}
+use Rattle.link_world.proofs.Common.{Option, Some, None, IfSome, refl, subst, Kind, Info, Setup, Frame, Modulus, Eight}
+use Rattle.link_world.proofs.Common.{OneTwentyEight, Sent, sent_kind, InfoSent, SuperSent, SetupSent, is_numbered}
+use Rattle.link_world.proofs.Common.{kind_read, frame_read, read_narrow, with_kind}
+use Rattle.link_world.specs.Reading.{read_wide}
 
 abbrev pub IsReadAs : Sent → Kind → Type 0
 IsReadAs (InfoSent number nr packet) kind = is_numbered kind ≡ true

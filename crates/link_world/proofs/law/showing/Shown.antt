@@ -1,24 +1,17 @@
 -- How an end of the world, with its record, shows an end as the law of two links reads it.
-use Rattle.std.proofs.Common.{◌≡◌, ℕ, suc, ◌+◌, Bool, true, false, ◌&&◌, List, [], ◌∷◌, ◌++◌, length, map, refl, sym}
-use Rattle.std.proofs.Common.{ap, ◌∙◌, arith}
-use Rattle.std.specs.List.{fold}
-use Rattle.std.specs.Bool.{⊤}
+use Rattle.link_world.proofs.Common.{◌≡◌, ℕ, suc, ◌+◌, Bool, true, false, ◌&&◌, List, [], ◌∷◌, ◌++◌, length, map, refl}
+use Rattle.link_world.proofs.Common.{sym, ap, ◌∙◌, arith, fold, ⊤, Packet, Given, Sent, SentIn, sent_in, sent_kind}
+use Rattle.link_world.proofs.Common.{InfoSent, SuperSent, SetupSent, SetUp, change_last, last_changed, getting, Tagged}
+use Rattle.link_world.proofs.Common.{is_answer, set_up_of, RecordedEnd, told_of, tagged}
 use Rattle.std.proofs.lemmas.List.{append-nil, append_assoc}
 use Rattle.ax25_frames.specs.declared.frame.U.TheVariants.{Sabm as SabmFrame, Sabme as SabmeFrame, Disc as DiscFrame}
 use Rattle.ax25_frames.specs.declared.frame.U.TheVariants.{Dm as DmFrame, Ua as UaFrame}
-use Rattle.selective_reject.specs.declared.packet.Packet.{Packet}
 use Rattle.link_machine.specs.declared.state.LinkState.TheVariants.{Idle as IdleState, Calling as CallingState}
 use Rattle.link_machine.specs.declared.state.LinkState.TheVariants.{Up as UpState, Releasing as ReleasingState}
-use Rattle.link_machine.specs.declared.acts.Told.TheVariants.{Given}
-use Rattle.link_machine.specs.Sent.{Sent, SentIn, sent_in, sent_kind}
-use Rattle.link_machine.specs.Sent.Sent.{InfoSent, SuperSent, SetupSent}
 use Rattle.link_world.proofs.law.reduced.Core.{End, SetUp as CoreSetUp, Tagged as CoreTagged}
 use Rattle.link_world.proofs.law.reduced.Core.Standing.{Idle, Calling, Releasing}
 use Rattle.link_world.proofs.law.reduced.CoreMoves.{now}
 use Rattle.link_world.proofs.law.reduced.CoreOf.{core_sent, cores_sent, kind_of, end_behind, up_end}
-use Rattle.link_world.specs.SetUps.{SetUp, change_last, last_changed, getting}
-use Rattle.link_world.specs.Flight.{Tagged, is_answer, set_up_of}
-use Rattle.link_world.specs.Recorded.{RecordedEnd, told_of, tagged}
 
 abbrev pub core_set_up : SetUp → CoreSetUp
 core_set_up q = record { given = q.given; got = q.got; modulus = q.modulus; mate = q.mate; origin = q.accepted }

@@ -1,18 +1,12 @@
 -- A link that is up takes, stores or passes over the packet of an I frame.
-use Rattle.std.proofs.Common.{◌≡◌, ℕ, ◌+◌, ◌<◌, ◌≤◌, Bool, true, false, if◌then◌else◌, List, [], ◌∷◌, ◌++◌, length, map}
-use Rattle.std.proofs.Common.{refl, sym, ap, ◌∙◌, subst, arith, append-nil, append_assoc}
+use Rattle.link_world.proofs.Common.{◌≡◌, ℕ, ◌+◌, ◌<◌, ◌≤◌, Bool, true, false, if◌then◌else◌, List, [], ◌∷◌, ◌++◌}
+use Rattle.link_world.proofs.Common.{length, map, refl, sym, ap, ◌∙◌, subst, arith, append-nil, append_assoc, Packet}
+use Rattle.link_world.proofs.Common.{is_full, with_packet, missing, asked, Incoming, Given, Machine, SentIn}
+use Rattle.link_world.proofs.Common.{all_sent_in, SuperSent, Turn, changing, run_with, moved_on, give, stored, ask}
 use Rattle.std.specs.List.{AllByRecursion as Each}
 use Rattle.ax25_frames.specs.declared.frame.S.TheVariants.{Srej as SrejFrame}
-use Rattle.selective_reject.specs.declared.packet.Packet.{Packet}
 use Rattle.selective_reject.specs.declared.window.Mode.TheVariants.{Rej as RejMode, Srej as SrejMode}
-use Rattle.selective_reject.specs.Places.{is_full, with_packet, missing, asked}
-use Rattle.selective_reject.specs.Incoming.{Incoming}
-use Rattle.link_machine.specs.declared.acts.Told.TheVariants.{Given}
-use Rattle.link_machine.specs.Machine.{Machine}
-use Rattle.link_machine.specs.Sent.{SentIn, all_sent_in}
-use Rattle.link_machine.specs.Sent.Sent.{SuperSent}
-use Rattle.link_machine.specs.Turn.{Turn, changing}
-use Rattle.link_machine.specs.Acts.{run_with, moved_on, give, stored, ask, srej_for}
+use Rattle.link_machine.specs.Acts.{srej_for}
 use Rattle.link_world.proofs.law.reduced.Core.{End, Running, SetUp, Stored, Tagged, between}
 use Rattle.link_world.proofs.law.reduced.Core.Numbered.{Info, Srej}
 use Rattle.link_world.proofs.law.reduced.Core.Kind.{IsNumbered}

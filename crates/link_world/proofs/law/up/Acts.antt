@@ -1,16 +1,13 @@
 -- A link that is up, act by act.
-use Rattle.std.proofs.Common.{◌≡◌, ℕ, le_refl, nat_lt, Bool, true, false, ◌&&◌, not, if◌then◌else◌, ◌==◌, List, [], ◌∷◌}
-use Rattle.std.proofs.Common.{◌++◌, length, Some, None, refl, sym, ◌∙◌, subst}
+use Rattle.link_world.proofs.Common.{◌≡◌, ℕ, le_refl, nat_lt, Bool, true, false, ◌&&◌, not, if◌then◌else◌, ◌==◌, List}
+use Rattle.link_world.proofs.Common.{[], ◌∷◌, ◌++◌, length, Some, None, refl, sym, ◌∙◌, subst, S, Rr, Control, t1_ticks}
+use Rattle.link_world.proofs.Common.{SentIn, sent_in, SuperSent, Turn, changing, setting, nothing_due, answer_poll}
+use Rattle.link_world.proofs.Common.{poll, reject, with_rej, gone_back, recover, acknowledged}
 use Rattle.link_world.proofs.law.Each.{each_pushed}
-use Rattle.ax25_frames.specs.declared.frame.S.{S}
-use Rattle.ax25_frames.specs.declared.frame.S.TheVariants.{Rr, Rej as RejFrame}
-use Rattle.link_machine.specs.declared.control.Control.{Control}
-use Rattle.link_machine.specs.Machine.{t1_ticks, t3_ticks}
-use Rattle.link_machine.specs.Sent.{SentIn, sent_in}
-use Rattle.link_machine.specs.Sent.Sent.{SuperSent}
-use Rattle.link_machine.specs.Turn.{Turn, changing, setting, sending}
-use Rattle.link_machine.specs.Acts.{nothing_due, report, respond_ready, answer_poll, poll, polling, reject, with_rej}
-use Rattle.link_machine.specs.Acts.{gone_back, behind_poll, recover, acknowledged, timed_anew, timed_by}
+use Rattle.ax25_frames.specs.declared.frame.S.TheVariants.{Rej as RejFrame}
+use Rattle.link_machine.specs.Machine.{t3_ticks}
+use Rattle.link_machine.specs.Turn.{sending}
+use Rattle.link_machine.specs.Acts.{report, respond_ready, polling, behind_poll, timed_anew, timed_by}
 use Rattle.link_world.proofs.law.reduced.Core.{Tagged, Numbered}
 use Rattle.link_world.proofs.law.reduced.Core.Numbered.{Super}
 use Rattle.link_world.proofs.law.reduced.Core.Kind.{IsNumbered}

@@ -1,22 +1,16 @@
 -- An end that is up hears a frame without numbers.
-use Rattle.std.proofs.Common.{◌≡◌, Bool, true, List, [], ◌∷◌, inl, refl, sym, ap, ◌∙◌, subst, append-nil}
-use Rattle.ax25_frames.specs.FrameText.{is_command_of}
-use Rattle.ax25_frames.specs.declared.frame.U.{U}
+use Rattle.link_world.proofs.Common.{◌≡◌, Bool, true, List, [], ◌∷◌, inl, refl, sym, ap, ◌∙◌, subst, append-nil}
+use Rattle.link_world.proofs.Common.{is_command_of, U, SetupSent, begin, hear_up, settled, SetUp, RecordedEnd, noting}
+use Rattle.link_world.proofs.Common.{hearing, Hears}
 use Rattle.ax25_frames.specs.declared.frame.U.TheVariants.{Disc as DiscFrame, Dm as DmFrame, Ua as UaFrame}
 use Rattle.link_machine.specs.declared.state.LinkState.TheVariants.{Idle as IdleState}
 use Rattle.link_machine.specs.Machine.{narrowed}
-use Rattle.link_machine.specs.Sent.Sent.{SetupSent}
-use Rattle.link_machine.specs.Turn.{begin}
-use Rattle.link_machine.specs.Frames.{hear_up, end_by_disc, end_by_dm}
-use Rattle.link_machine.specs.Step.{settled}
+use Rattle.link_machine.specs.Frames.{end_by_disc, end_by_dm}
 use Rattle.link_world.proofs.law.reduced.Core.{End, Tagged as CoreTagged, between}
 use Rattle.link_world.proofs.law.reduced.Core.Kind.{Ua}
 use Rattle.link_world.proofs.law.reduced.Core.Standing.{Idle}
 use Rattle.link_world.proofs.law.reduced.CoreMoves.{now, of_end}
 use Rattle.link_world.proofs.law.reduced.CoreOf.{end_behind, up_end}
-use Rattle.link_world.specs.SetUps.{SetUp}
-use Rattle.link_world.specs.Recorded.{RecordedEnd, noting, hearing}
-use Rattle.link_world.specs.Recorded.Happening.{Hears}
 use Rattle.link_world.proofs.law.showing.PlacesFit.{sound_new}
 use Rattle.link_world.proofs.law.moves.Losing.{lose_keeps}
 use Rattle.link_world.proofs.law.moves.Standings.{leave_to_idle_keeps}

@@ -1,27 +1,17 @@
 -- Events of an end that is up: what the layer above asks for, and I and S frames.
-use Rattle.std.proofs.Common.{◌≡◌, ℕ, ◌%◌, ◌<◌, Bool, true, false, ◌&&◌, if◌then◌else◌, List, [], ◌∷◌, ◌++◌, map}
-use Rattle.std.proofs.Common.{Option, Some, None, is_some, refl, sym, ap, ◌∙◌, subst, append-nil}
-use Rattle.std.specs.List.{fold}
-use Rattle.std.proofs.lemmas.Bool.{cond-false}
-use Rattle.ax25_frames.specs.FrameText.{is_command_of}
+use Rattle.link_world.proofs.Common.{◌≡◌, ℕ, ◌%◌, ◌<◌, Bool, true, false, ◌&&◌, if◌then◌else◌, List, [], ◌∷◌, ◌++◌, map}
+use Rattle.link_world.proofs.Common.{Option, Some, None, is_some, refl, sym, ap, ◌∙◌, subst, append-nil, fold}
+use Rattle.link_world.proofs.Common.{cond-false, is_command_of, Given, S, Packet, keeps, took, InfoSent, SuperSent}
+use Rattle.link_world.proofs.Common.{Turn, begin, changing, setting, joined, quitting, hear_up, settled, refusal_of}
+use Rattle.link_world.proofs.Common.{SetUp, opened, change_last, giving, acting, RecordedEnd, Happening, accepts}
+use Rattle.link_world.proofs.Common.{told_of, noting, hearing, hears_ask, Sends, Disconnects, Hears}
 use Rattle.ax25_frames.specs.declared.frame.Kind.TheVariants.{Info as InfoKind, Super as SuperKind}
-use Rattle.link_machine.specs.declared.acts.Told.TheVariants.{Given}
-use Rattle.ax25_frames.specs.declared.frame.S.{S}
-use Rattle.selective_reject.specs.declared.packet.Packet.{Packet}
-use Rattle.selective_reject.specs.Incoming.{keeps, took}
 use Rattle.link_machine.specs.declared.state.LinkState.TheVariants.{Up as UpState}
-use Rattle.link_machine.specs.Sent.Sent.{InfoSent, SuperSent}
-use Rattle.link_machine.specs.Turn.{Turn, begin, changing, setting}
 use Rattle.link_machine.specs.Event.Event.{Send}
-use Rattle.link_machine.specs.Requests.{joined, quitting}
-use Rattle.link_machine.specs.Frames.{hear_up}
-use Rattle.link_machine.specs.Step.{settled, refusal_of}
 use Rattle.link_world.proofs.law.reduced.Core.{End, Tagged as CoreTagged, between}
 use Rattle.link_world.proofs.law.reduced.CoreMoves.{first_origin}
 use Rattle.link_world.proofs.law.reduced.CoreOf.{end_behind, up_end}
-use Rattle.link_world.specs.SetUps.{SetUp, opened, change_last, giving, acting, first_of}
-use Rattle.link_world.specs.Recorded.{RecordedEnd, Happening, accepts, told_of, noting, hearing, hears_ask}
-use Rattle.link_world.specs.Recorded.Happening.{Sends, Disconnects, Hears}
+use Rattle.link_world.specs.SetUps.{first_of}
 use Rattle.link_world.proofs.law.showing.PlacesFit.{IsSound, sound_same}
 use Rattle.link_world.proofs.law.moves.Standings.{give_up_keeps}
 use Rattle.link_world.proofs.law.up.Acts.{setting_keeps}

@@ -1,17 +1,12 @@
 -- The packets that may go out go out.
-use Rattle.std.proofs.Common.{◌≡◌, ℕ, suc, ◌+◌, ◌-◌, ◌<◌, ◌≤◌, min, max, Bool, true, false, ◌||◌, if◌then◌else◌, ◌==◌}
-use Rattle.std.proofs.Common.{is_none, List, [], ◌∷◌, ◌++◌, length, drop, slice_get, Some, None, refl, sym, ap, ◌∙◌}
-use Rattle.std.proofs.Common.{subst, arith, append_assoc, length-take, take-append-drop, drop-drop}
+use Rattle.link_world.proofs.Common.{◌≡◌, ℕ, suc, ◌+◌, ◌-◌, ◌<◌, ◌≤◌, min, max, Bool, true, false, ◌||◌, if◌then◌else◌}
+use Rattle.link_world.proofs.Common.{◌==◌, List, [], ◌∷◌, ◌++◌, length, drop, slice_get, Some, None, refl, sym, ap, ◌∙◌}
+use Rattle.link_world.proofs.Common.{subst, arith, append_assoc, cond-false, ne_eqb, Packet, Control, t1_ticks, sent_in}
+use Rattle.link_world.proofs.Common.{all_sent_in, infos_from, InfoSent, Turn, in_window, send_packets, nothing_due}
+use Rattle.std.proofs.Common.{is_none, length-take, take-append-drop, drop-drop}
 use Rattle.std.specs.List.{AllByRecursion as Each}
 use Rattle.link_world.proofs.law.Each.{each_append}
-use Rattle.std.proofs.lemmas.Bool.{cond-false, ne_eqb}
-use Rattle.selective_reject.specs.declared.packet.Packet.{Packet}
-use Rattle.link_machine.specs.declared.control.Control.{Control}
-use Rattle.link_machine.specs.Machine.{t1_ticks}
-use Rattle.link_machine.specs.Sent.{sent_in, all_sent_in, infos_from}
-use Rattle.link_machine.specs.Sent.Sent.{InfoSent}
-use Rattle.link_machine.specs.Turn.{Turn}
-use Rattle.link_machine.specs.Acts.{to_send, in_window, flush, send_packets, awaiting, nothing_due}
+use Rattle.link_machine.specs.Acts.{to_send, flush, awaiting}
 use Rattle.link_world.proofs.law.reduced.Core.{End, Running, Tagged, era}
 use Rattle.link_world.proofs.law.reduced.Core.Numbered.{Info}
 use Rattle.link_world.proofs.law.reduced.Core.Kind.{IsNumbered}

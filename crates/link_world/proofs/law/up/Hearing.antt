@@ -1,19 +1,15 @@
 -- A link that is up hears an S frame.
-use Rattle.std.proofs.Common.{◌≡◌, ℕ, ◌+◌, ◌-◌, ◌%◌, ◌<◌, ◌≤◌, le_refl, max, Bool, true, false, ◌&&◌, not, nat_lt}
-use Rattle.std.proofs.Common.{if◌then◌else◌, List, [], ◌∷◌, ◌++◌, length, slice_get, option_to_list, Option, Some, None}
-use Rattle.std.proofs.Common.{refl, sym, subst, arith, append-nil}
-use Rattle.std.proofs.lemmas.Bool.{cond-true, le-leb, ltb-true}
-use Rattle.ax25_frames.specs.declared.frame.S.{S}
-use Rattle.ax25_frames.specs.declared.frame.S.TheVariants.{Rr, Rnr, Rej as RejFrame, Srej as SrejFrame}
+use Rattle.link_world.proofs.Common.{◌≡◌, ℕ, ◌+◌, ◌-◌, ◌%◌, ◌<◌, ◌≤◌, le_refl, max, Bool, true, false, ◌&&◌, not}
+use Rattle.link_world.proofs.Common.{nat_lt, if◌then◌else◌, List, [], ◌∷◌, ◌++◌, length, slice_get, Option, Some, None}
+use Rattle.link_world.proofs.Common.{refl, sym, subst, arith, append-nil, cond-true, le-leb, ltb-true, S, Rr, Rnr}
+use Rattle.link_world.proofs.Common.{Packet, ahead, Machine, is_valid, named, sent_in, all_sent_in, infos_from}
+use Rattle.link_world.proofs.Common.{InfoSent, Turn, changing, setting, acknowledged, answer_poll, recover, gone_back}
+use Rattle.link_world.proofs.Common.{nothing_due, hear_up}
+use Rattle.std.proofs.Common.{option_to_list}
+use Rattle.ax25_frames.specs.declared.frame.S.TheVariants.{Rej as RejFrame, Srej as SrejFrame}
 use Rattle.ax25_frames.specs.declared.frame.Kind.TheVariants.{Super as SuperKind}
-use Rattle.selective_reject.specs.declared.packet.Packet.{Packet}
-use Rattle.selective_reject.specs.Numbers.{ahead}
-use Rattle.link_machine.specs.Machine.{Machine, is_valid, named}
-use Rattle.link_machine.specs.Sent.{sent_in, all_sent_in, infos_from}
-use Rattle.link_machine.specs.Sent.Sent.{InfoSent}
-use Rattle.link_machine.specs.Turn.{Turn, changing, setting}
-use Rattle.link_machine.specs.Acts.{acknowledged, answer_poll, recover, gone_back, send_again, watching, nothing_due}
-use Rattle.link_machine.specs.Frames.{hear_up, hear_supervisory, with_busy, acknowledged_by_srej}
+use Rattle.link_machine.specs.Acts.{send_again, watching}
+use Rattle.link_machine.specs.Frames.{hear_supervisory, with_busy, acknowledged_by_srej}
 use Rattle.link_world.proofs.law.reduced.Core.{Tagged, Numbered}
 use Rattle.link_world.proofs.law.reduced.Core.Numbered.{Info, Super}
 use Rattle.link_world.proofs.law.reduced.Core.Kind.{IsNumbered}

@@ -1,18 +1,16 @@
 -- A link that is up hears an I frame.
-use Rattle.std.proofs.Common.{◌≡◌, ℕ, ◌+◌, ◌-◌, ◌%◌, ◌<◌, ◌≤◌, Bool, true, false, ◌&&◌, ◌||◌, not, nat_lt, ◌==◌}
-use Rattle.std.proofs.Common.{if◌then◌else◌, List, [], ◌∷◌, refl, sym, subst, arith, inl, inr}
-use Rattle.std.proofs.lemmas.Bool.{cond-true, eqb-true, eqb-false, ltb-true, and_parts, not-true, cases_lt}
+use Rattle.link_world.proofs.Common.{◌≡◌, ℕ, ◌+◌, ◌-◌, ◌%◌, ◌<◌, ◌≤◌, Bool, true, false, ◌&&◌, ◌||◌, not, nat_lt, ◌==◌}
+use Rattle.link_world.proofs.Common.{if◌then◌else◌, List, [], ◌∷◌, refl, sym, subst, arith, inl, inr, cond-true}
+use Rattle.link_world.proofs.Common.{eqb-true, eqb-false, ltb-true, and_parts, cases_lt, Packet, Mode, is_full}
+use Rattle.link_world.proofs.Common.{Incoming, keeps, taking_by, took, named, Turn, changing, setting, answer_poll}
+use Rattle.link_world.proofs.Common.{reject, with_rej, run_with, give, stored, ask, hear_up}
+use Rattle.std.proofs.lemmas.Bool.{not-true}
 use Rattle.ax25_frames.specs.declared.frame.Kind.TheVariants.{Info as InfoKind}
-use Rattle.selective_reject.specs.declared.packet.Packet.{Packet}
-use Rattle.selective_reject.specs.declared.window.Mode.{Mode}
 use Rattle.selective_reject.specs.declared.window.Mode.TheVariants.{Rej as RejMode, Srej as SrejMode}
-use Rattle.selective_reject.specs.Places.{is_full}
-use Rattle.selective_reject.specs.Incoming.{Incoming, keeps, taking_by, took}
-use Rattle.link_machine.specs.Machine.{named, ahead_of_vr}
-use Rattle.link_machine.specs.Turn.{Turn, changing, setting}
-use Rattle.link_machine.specs.Acts.{answer_poll, reject, owing, with_rej, run_with, give, stored, ask}
-use Rattle.link_machine.specs.Frames.{hear_up, hear_info, hear_info_by, hear_info_by_rej, hear_info_by_srej}
-use Rattle.link_machine.specs.Frames.{take_in_sequence, refuse_out_of_sequence}
+use Rattle.link_machine.specs.Machine.{ahead_of_vr}
+use Rattle.link_machine.specs.Acts.{owing}
+use Rattle.link_machine.specs.Frames.{hear_info, hear_info_by, hear_info_by_rej, hear_info_by_srej, take_in_sequence}
+use Rattle.link_machine.specs.Frames.{refuse_out_of_sequence}
 use Rattle.link_world.proofs.law.reduced.Core.{End, Tagged}
 use Rattle.link_world.proofs.law.reduced.Core.Numbered.{Info}
 use Rattle.link_world.proofs.law.reduced.CoreMoves.{numbered_to}

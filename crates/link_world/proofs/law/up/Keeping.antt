@@ -1,11 +1,8 @@
 -- Which packets a receiver keeps between two events, when its first place is empty.
-use Rattle.std.proofs.Common.{◌≡◌, ℕ, Bool, true, false, ◌&&◌, ◌||◌, not, nat_lt, ◌==◌, if◌then◌else◌, is_some, refl}
-use Rattle.std.proofs.Common.{ap, ◌∙◌, arith}
-use Rattle.std.proofs.lemmas.Bool.{eqb-true, lt-ltb}
+use Rattle.link_world.proofs.Common.{◌≡◌, ℕ, Bool, true, false, ◌&&◌, ◌||◌, not, nat_lt, ◌==◌, if◌then◌else◌, is_some}
+use Rattle.link_world.proofs.Common.{refl, ap, ◌∙◌, arith, eqb-true, lt-ltb, is_full, Incoming, keeps, taking_by}
 use Rattle.selective_reject.specs.declared.window.Mode.TheVariants.{Rej as RejMode, Srej as SrejMode}
 use Rattle.selective_reject.specs.declared.incoming.Took.TheVariants.{Next, NotNext, Stored, Again, Outside}
-use Rattle.selective_reject.specs.Places.{is_full}
-use Rattle.selective_reject.specs.Incoming.{Incoming, keeps, taking_by}
 use Rattle.link_world.proofs.law.showing.PlacesFit.{IsFit}
 
 -- the place of the next packet is empty

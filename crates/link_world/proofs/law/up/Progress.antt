@@ -1,15 +1,9 @@
 -- A link that is up, in the middle of an event.
-use Rattle.std.proofs.Common.{◌≡◌, ℕ, Bool, List, [], ◌∷◌, ◌++◌, length, sym, ap, ◌∙◌, append_assoc}
-use Rattle.std.specs.Bool.{⊤}
+use Rattle.link_world.proofs.Common.{◌≡◌, ℕ, Bool, List, [], ◌∷◌, ◌++◌, length, sym, ap, ◌∙◌, append_assoc, ⊤}
+use Rattle.link_world.proofs.Common.{map-append, Told, Incoming, Params, Sent, SentIn, InfoSent, SuperSent, SetupSent}
+use Rattle.link_world.proofs.Common.{Turn}
 use Rattle.std.specs.List.{AllByRecursion as Each}
-use Rattle.std.proofs.lemmas.List.{map-append}
 use Rattle.link_machine.specs.declared.state.LinkState.TheVariants.{Up as UpState}
-use Rattle.link_machine.specs.declared.acts.Told.{Told}
-use Rattle.selective_reject.specs.Incoming.{Incoming}
-use Rattle.link_machine.specs.declared.params.Params.{Params}
-use Rattle.link_machine.specs.Sent.{Sent, SentIn}
-use Rattle.link_machine.specs.Sent.Sent.{InfoSent, SuperSent, SetupSent}
-use Rattle.link_machine.specs.Turn.{Turn}
 use Rattle.link_world.proofs.law.reduced.Core.{End, SetUp, Tagged, between}
 use Rattle.link_world.proofs.law.reduced.CoreOf.{core_sent, cores_sent, up_end}
 use Rattle.link_world.proofs.law.invariant.Invariant.{Invariant}

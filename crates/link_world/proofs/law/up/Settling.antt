@@ -1,27 +1,21 @@
 -- What an event of a link that is up ends with: what may go out goes out, and then, if it is time, the link is
 -- released.
-use Rattle.std.proofs.Common.{◌≡◌, ℕ, ◌+◌, Bool, true, false, ◌&&◌, ◌==◌, if◌then◌else◌, List, [], ◌∷◌, ◌++◌, length}
-use Rattle.std.proofs.Common.{map, inl, inr, refl, sym, ap, ◌∙◌, subst, arith, append_assoc}
-use Rattle.std.specs.List.{AllByRecursion as Each, fold}
-use Rattle.std.proofs.lemmas.Bool.{and_parts, and_right, eqb-true}
-use Rattle.std.proofs.lemmas.List.{map-append, nil_from_length}
+use Rattle.link_world.proofs.Common.{◌≡◌, ℕ, ◌+◌, Bool, true, false, ◌&&◌, ◌==◌, if◌then◌else◌, List, [], ◌∷◌, ◌++◌}
+use Rattle.link_world.proofs.Common.{length, map, inl, inr, refl, sym, ap, ◌∙◌, subst, arith, append_assoc, fold}
+use Rattle.link_world.proofs.Common.{and_parts, eqb-true, map-append, Incoming, LinkState, Machine, Sent, SentIn}
+use Rattle.link_world.proofs.Common.{sent_in, sent_kind, InfoSent, SuperSent, SetupSent, Turn, close, SetUp, opened}
+use Rattle.link_world.proofs.Common.{is_answer, set_up_of, RecordedEnd, tagged, waiting_in, Happening, told_of, mate_of}
+use Rattle.link_world.proofs.Common.{opening, noting, hears_ask, Told, settled, settle_in}
+use Rattle.std.specs.List.{AllByRecursion as Each}
+use Rattle.std.proofs.lemmas.Bool.{and_right}
+use Rattle.std.proofs.lemmas.List.{nil_from_length}
 use Rattle.ax25_frames.specs.declared.frame.U.TheVariants.{Disc as DiscFrame}
-use Rattle.selective_reject.specs.Incoming.{Incoming}
-use Rattle.link_machine.specs.declared.state.LinkState.{LinkState}
-use Rattle.link_machine.specs.Machine.{Machine}
-use Rattle.link_machine.specs.Sent.{Sent, SentIn, sent_in, sent_kind}
-use Rattle.link_machine.specs.Sent.Sent.{InfoSent, SuperSent, SetupSent}
-use Rattle.link_machine.specs.Turn.{Turn}
-use Rattle.link_machine.specs.Acts.{close, release}
+use Rattle.link_machine.specs.Acts.{release}
 use Rattle.link_world.proofs.law.reduced.Core.{End, Tagged as CoreTagged, between}
 use Rattle.link_world.proofs.law.reduced.Core.Kind.{Disc}
 use Rattle.link_world.proofs.law.reduced.Core.Standing.{Releasing}
 use Rattle.link_world.proofs.law.reduced.CoreMoves.{now, of_end, asks, answers, ask_of}
 use Rattle.link_world.proofs.law.reduced.CoreOf.{core_sent, cores_sent, kind_of, end_behind, up_end}
-use Rattle.link_world.specs.SetUps.{SetUp, opened}
-use Rattle.link_world.specs.Flight.{is_answer, set_up_of}
-use Rattle.link_world.specs.Recorded.{RecordedEnd, tagged, waiting_in, Happening, told_of, mate_of, opening, noting}
-use Rattle.link_world.specs.Recorded.{hears_ask}
 use Rattle.link_world.proofs.law.invariant.Exchanges.{asks_append}
 use Rattle.link_world.proofs.law.moves.Standings.{leave_to_releasing_keeps}
 use Rattle.link_world.proofs.law.moves.Kept.{release_keeps}
@@ -32,9 +26,7 @@ use Rattle.link_world.proofs.law.up.Progress.{IsUp, Progress, IsNumberedSent, Se
 use Rattle.link_world.proofs.law.showing.Shown.{core_set_up, core_set_ups, core_flight, IsWritten, AnswersAsSent}
 use Rattle.link_world.proofs.law.showing.Shown.{kind_by}
 use Rattle.link_world.proofs.law.showing.Shown.Shown.{ShownUp}
-use Rattle.link_machine.specs.declared.acts.Told.{Told}
 use Rattle.link_machine.specs.declared.state.LinkState.TheVariants.{Releasing as ReleasingState}
-use Rattle.link_machine.specs.Step.{settled, settle_in}
 use Rattle.link_world.proofs.law.showing.Outcome.{Outcome, IsAlone, Keeps, IsSentAs, end_with, outcome_behind}
 use Rattle.link_world.proofs.law.showing.Outcome.{sent_after}
 use Rattle.link_world.proofs.law.down.Ends.{EndsDown, down_end, down_keeps, setup_sent}

@@ -1,12 +1,8 @@
 -- A link that is up takes the packet of an I frame, by REJ or by SREJ.
-use Rattle.std.proofs.Common.{◌≡◌, ℕ, ◌+◌, List, [], ◌∷◌, ◌++◌, length, drop, Option, Some, None, IsSome, refl, sym, ap}
-use Rattle.std.proofs.Common.{◌∙◌, subst, arith, append_assoc, append-nil}
-use Rattle.std.proofs.lemmas.List.{drop-drop}
-use Rattle.selective_reject.specs.declared.packet.Packet.{Packet}
-use Rattle.selective_reject.specs.declared.place.Place.{Place}
-use Rattle.selective_reject.specs.Places.{packet_at}
-use Rattle.link_machine.specs.Machine.{Machine}
-use Rattle.link_machine.specs.Acts.{run, before_gap, run_with, moved_on}
+use Rattle.link_world.proofs.Common.{◌≡◌, ℕ, ◌+◌, List, [], ◌∷◌, ◌++◌, length, drop, Option, Some, None, IsSome, refl}
+use Rattle.link_world.proofs.Common.{sym, ap, ◌∙◌, subst, arith, append_assoc, append-nil, drop-drop, Packet, Place}
+use Rattle.link_world.proofs.Common.{packet_at, Machine, before_gap, run_with, moved_on}
+use Rattle.link_machine.specs.Acts.{run}
 use Rattle.link_world.proofs.law.reduced.Core.{End, Running, SetUp, Stored, Tagged, between}
 use Rattle.link_world.proofs.law.reduced.Core.Numbered.{Info}
 use Rattle.link_world.proofs.law.reduced.CoreMoves.{numbered_to, first_origin}

@@ -1,30 +1,18 @@
 -- A tick of an end that is up.
-use Rattle.std.proofs.Common.{◌≡◌, ℕ, Bool, true, false, if◌then◌else◌, List, [], ◌∷◌, ◌++◌, length, Option, Some, None}
-use Rattle.std.proofs.Common.{inl, refl, sym, ap, ◌∙◌, subst, append_assoc}
-use Rattle.std.specs.List.{fold}
-use Rattle.std.proofs.lemmas.Bool.{cond-false}
+use Rattle.link_world.proofs.Common.{◌≡◌, ℕ, Bool, true, false, if◌then◌else◌, List, [], ◌∷◌, ◌++◌, length, Option}
+use Rattle.link_world.proofs.Common.{Some, None, inl, refl, sym, ap, ◌∙◌, subst, append_assoc, fold, cond-false}
+use Rattle.link_world.proofs.Common.{LinkState, Ended, window_in, empty_incoming, sent_in, SetupSent, Turn, begin}
+use Rattle.link_world.proofs.Common.{setting, poll, runs_out, lowered, with_t1, with_t2, with_t3, t1_out, t2_out}
+use Rattle.link_world.proofs.Common.{t3_out, tick_t2, tick_t1_of, tick_t2_of, tick_t3_of, tick, tick_in, is_spent}
+use Rattle.link_world.proofs.Common.{retried, settled, SetUp, opened, RecordedEnd, told_of, Ticks}
 use Rattle.ax25_frames.specs.declared.frame.U.TheVariants.{Dm as DmFrame}
-use Rattle.link_machine.specs.declared.state.LinkState.{LinkState}
 use Rattle.link_machine.specs.declared.state.LinkState.TheVariants.{Idle as IdleState, Up as UpState}
-use Rattle.link_machine.specs.declared.acts.Told.TheVariants.{Ended}
-use Rattle.link_machine.specs.Params.{window_in}
-use Rattle.selective_reject.specs.Incoming.{empty_incoming}
-use Rattle.link_machine.specs.Sent.{sent_in}
-use Rattle.link_machine.specs.Sent.Sent.{SetupSent}
-use Rattle.link_machine.specs.Turn.{Turn, begin, setting}
-use Rattle.link_machine.specs.Acts.{poll}
-use Rattle.link_machine.specs.Ticks.{runs_out, lowered, with_t1, with_t2, with_t3, t1_out, t2_out, t3_out, tick_t2}
-use Rattle.link_machine.specs.Ticks.{tick_t1_of, tick_t2_of, tick_t3_of, tick, tick_in, is_spent, poll_again, retried}
-use Rattle.link_machine.specs.Ticks.{unretried}
-use Rattle.link_machine.specs.Step.{settled}
+use Rattle.link_machine.specs.Ticks.{poll_again, unretried}
 use Rattle.link_world.proofs.law.reduced.Core.{End, Tagged as CoreTagged, between}
 use Rattle.link_world.proofs.law.reduced.Core.Kind.{Dm}
 use Rattle.link_world.proofs.law.reduced.Core.Standing.{Idle}
 use Rattle.link_world.proofs.law.reduced.CoreMoves.{now, of_end}
 use Rattle.link_world.proofs.law.reduced.CoreOf.{cores_sent, end_behind}
-use Rattle.link_world.specs.SetUps.{SetUp, opened}
-use Rattle.link_world.specs.Recorded.{RecordedEnd, told_of}
-use Rattle.link_world.specs.Recorded.Happening.{Ticks}
 use Rattle.link_world.proofs.law.showing.PlacesFit.{IsSound, sound_new}
 use Rattle.link_world.proofs.law.moves.Standings.{leave_to_idle_keeps}
 use Rattle.link_world.proofs.law.moves.Kept.{send_dm_keeps}

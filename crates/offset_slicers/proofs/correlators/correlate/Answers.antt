@@ -1,9 +1,6 @@
-use Rattle.std.proofs.Common.{rules, FitsSigned, w64, refl, ◌∙◌}
-use Rattle.std.proofs.lemmas.Int.{to_z-of_z}
-use Rattle.tone_table.specs.declared.tone.Tone.TheVariants.{Mark, Space}
-use Rattle.tone_table.specs.Sine.{quarter, half_wave, cycle_sample, wave_sample}
-use Rattle.tone_table.specs.Tones.{phase_step}
-use Rattle.offset_slicers.specs.Decision.{sine_sum, cosine_sum}
+use Rattle.offset_slicers.proofs.Common.{rules, FitsSigned, refl, ◌∙◌, to_z-of_z, Mark, Space, quarter, half_wave}
+use Rattle.offset_slicers.proofs.Common.{cycle_sample, wave_sample, phase_step, sine_sum, cosine_sum}
+use Rattle.std.proofs.Common.{w64}
 use Rattle.offset_slicers.proofs.DecisionLemmas.{sum_below-wave}
 use Rattle.offset_slicers.proofs.correlators.correlate.Goals as goal
 

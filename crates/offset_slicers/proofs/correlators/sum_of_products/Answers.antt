@@ -1,10 +1,8 @@
-use Rattle.std.proofs.Common.{rules, ◌≡◌, ◌<◌, pos, ◌+ℤ◌, ◌*ℤ◌, unsigned_abs, get_or, length, FitsSigned}
-use Rattle.std.proofs.Common.{w32, to_z, refl, sym, ap, ◌∙◌, arith}
-use Rattle.std.proofs.lemmas.Int.{ints}
+use Rattle.offset_slicers.proofs.Common.{rules, ◌≡◌, ◌<◌, pos, ◌+ℤ◌, ◌*ℤ◌, unsigned_abs, get_or, length, FitsSigned}
+use Rattle.offset_slicers.proofs.Common.{to_z, refl, sym, ap, ◌∙◌, arith, ints, sum_below, product_of, w16}
+use Rattle.std.proofs.Common.{w32}
 use Rattle.std.proofs.lemmas.List.Sums.{sum_by_more, sum_by_more_le}
-use Rattle.offset_slicers.specs.Decision.{sum_below, product_of}
 use Rattle.offset_slicers.proofs.DecisionLemmas.{sum_below-more, product_is, product_bound, sum_is}
-use mir.Syntax.{w16}
 use Rattle.offset_slicers.proofs.correlators.sum_of_products.Goals as goal
 
 pub loop-i-init : goal.loop-i-init

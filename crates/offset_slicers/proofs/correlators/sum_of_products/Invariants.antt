@@ -1,6 +1,5 @@
-use Rattle.std.proofs.Common.{◌≡◌, ◌≤◌, ◌*◌, unsigned_abs, take}
+use Rattle.offset_slicers.proofs.Common.{◌≡◌, ◌≤◌, ◌*◌, unsigned_abs, take, sum_below, product_of}
 use Rattle.std.specs.List.{sum_by}
-use Rattle.offset_slicers.specs.Decision.{sum_below, product_of}
 use Rattle.offset_slicers.proofs.correlators.sum_of_products.Given as goal
 
 abbrev pub invariant-loop-i : goal.invariant-loop-i

@@ -1,7 +1,6 @@
-use Rattle.std.proofs.Common.{◌≡◌, length, get_or, map, bit_xor, ap, sym, ◌∙◌, arith}
-use Rattle.std.proofs.lemmas.List.{ext_get_or, get_or-map, length-map}
-use Rattle.reed_solomon.specs.Product.{product}
-use Rattle.reed_solomon.specs.Register.{added}
+use Rattle.reed_solomon.proofs.Common.{◌≡◌, length, get_or, map, bit_xor, ap, sym, ◌∙◌, arith, ext_get_or, length-map}
+use Rattle.reed_solomon.proofs.Common.{product, added}
+use Rattle.std.proofs.lemmas.List.{get_or-map}
 use Rattle.reed_solomon.proofs.ValueLemmas.{length-added, get_or-added}
 use Rattle.reed_solomon.proofs.add_multiple.add_multiple.Goals as goal
 

@@ -1,6 +1,5 @@
 -- The octets before i have taken their multiples, the others are as they were.
-use Rattle.std.proofs.Common.{◌≡◌, ℕ, ◌<◌, ◌≤◌, get_or, bit_xor}
-use Rattle.reed_solomon.specs.Product.{product}
+use Rattle.reed_solomon.proofs.Common.{◌≡◌, ℕ, ◌<◌, ◌≤◌, get_or, bit_xor, product}
 use Rattle.reed_solomon.proofs.add_multiple.add_multiple.Given as goal
 
 abbrev pub invariant-loop-i : goal.invariant-loop-i

@@ -1,5 +1,4 @@
-use Rattle.std.proofs.Common.{◌≡◌, ℕ, ◌%◌, ◌<◌, List, All, length, ap, subst, sym, ◌∙◌, arith}
-use Rattle.reed_solomon.specs.Kernel.{values_down}
+use Rattle.reed_solomon.proofs.Common.{◌≡◌, ℕ, ◌%◌, ◌<◌, List, All, length, ap, subst, sym, ◌∙◌, arith, values_down}
 use Rattle.reed_solomon.proofs.ErrorLemmas.{length-values_down}
 use Rattle.reed_solomon.proofs.RegisterLemmas.{refill_all}
 use Rattle.reed_solomon.proofs.WordLemmas.{long, length-long, repaired_is, same_wrong}

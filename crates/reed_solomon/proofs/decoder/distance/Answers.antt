@@ -1,10 +1,8 @@
-use Rattle.std.proofs.Common.{◌≡◌, ℕ, ◌+◌, ◌++◌, [], ◌∷◌, cond, eqb, get_or, take, ap, ◌∙◌, refl, arith}
-use Rattle.std.proofs.lemmas.Bool.{eq-eqb, ne_eqb}
-use Rattle.std.proofs.lemmas.List.{take_more, length-take}
-use Rattle.reed_solomon.specs.Distance.{distance}
+use Rattle.reed_solomon.proofs.Common.{◌≡◌, ℕ, ◌+◌, ◌++◌, [], ◌∷◌, cond, eqb, get_or, take, ap, ◌∙◌, refl, arith}
+use Rattle.reed_solomon.proofs.Common.{eq-eqb, ne_eqb, take_more, length-take, distance}
 use Rattle.reed_solomon.proofs.DistanceLemmas.{distance-push}
-use Rattle.reed_solomon.proofs.decoder.distance.Goals as goal
 use Rattle.reed_solomon.proofs.decoder.distance.Goals.{then-word-i, else-word-i}
+use Rattle.reed_solomon.proofs.decoder.distance.Goals as goal
 
 abbrev unit : ℕ
 unit = 1

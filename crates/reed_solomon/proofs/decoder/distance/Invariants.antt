@@ -1,5 +1,4 @@
-use Rattle.std.proofs.Common.{◌≡◌, ◌≤◌, take}
-use Rattle.reed_solomon.specs.Distance.{distance}
+use Rattle.reed_solomon.proofs.Common.{◌≡◌, ◌≤◌, take, distance}
 use Rattle.reed_solomon.proofs.decoder.distance.Given as goal
 
 abbrev pub invariant-loop-i : goal.invariant-loop-i

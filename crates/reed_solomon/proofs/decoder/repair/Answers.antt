@@ -1,8 +1,5 @@
 -- If a codeword is within reach, the word that is taken is that one.
-use Rattle.std.proofs.Common.{◌≡◌, ℕ, List, ap, subst, sym, ◌∙◌, refl, arith}
-use Rattle.std.proofs.lemmas.Bool.{false≢true}
-use Rattle.reed_solomon.specs.Codeword.{IsCodeword}
-use Rattle.reed_solomon.specs.Distance.{distance}
+use Rattle.reed_solomon.proofs.Common.{◌≡◌, ℕ, List, ap, subst, sym, ◌∙◌, refl, arith, false≢true, IsCodeword, distance}
 use Rattle.reed_solomon.proofs.DistanceLemmas.{distance-refl, one_within_reach}
 use Rattle.reed_solomon.proofs.WordLemmas.{within_own_reach}
 use Rattle.reed_solomon.proofs.decoder.repair.Goals as goal

@@ -1,5 +1,4 @@
-use Rattle.std.proofs.Common.{◌≡◌, ℕ, ◌+◌, ◌<◌, ◌≤◌}
-use Rattle.reed_solomon.specs.Values.{value_at}
+use Rattle.reed_solomon.proofs.Common.{◌≡◌, ℕ, ◌+◌, ◌<◌, ◌≤◌, value_at}
 use Rattle.reed_solomon.proofs.decoder.vanishes.Given as goal
 
 abbrev pub invariant-loop-k : goal.invariant-loop-k

@@ -1,11 +1,8 @@
-use Rattle.std.proofs.Common.{◌≡◌, ℕ, ◌+◌, ◌-◌, List, ◌++◌, [], ◌∷◌, length, get_or, replicate, ap, sym, ◌∙◌}
-use Rattle.std.proofs.Common.{subst, arith}
-use Rattle.std.specs.List.{fold}
-use Rattle.std.proofs.lemmas.List.{append_assoc, length-replicate, replicate_more}
+use Rattle.reed_solomon.proofs.Common.{◌≡◌, ℕ, ◌+◌, ◌-◌, List, ◌++◌, [], ◌∷◌, length, get_or, replicate, ap, sym, ◌∙◌}
+use Rattle.reed_solomon.proofs.Common.{subst, arith, fold, append_assoc, length-replicate, whole_of, ChecksOf}
+use Rattle.reed_solomon.proofs.Common.{generator_of, taken, zeros_after, value_at}
+use Rattle.std.proofs.lemmas.List.{replicate_more}
 use Rattle.std.proofs.lemmas.List.Sums.{fold_more, fold_push}
-use Rattle.reed_solomon.specs.Codeword.{whole_of}
-use Rattle.reed_solomon.specs.Register.{ChecksOf, generator_of, taken, zeros_after}
-use Rattle.reed_solomon.specs.Values.{value_at}
 use Rattle.reed_solomon.proofs.DistanceLemmas.{codeword_parts, octets_of_all, one_check}
 use Rattle.reed_solomon.proofs.GeneratorLemmas.{length-generator_of, Octets-generator_of, generator_vanishes}
 use Rattle.reed_solomon.proofs.RegisterLemmas.{length-taken, Octets-register, register_checks, value_at-with_zeros}

@@ -1,7 +1,5 @@
 -- The register has taken the octets so far, and then the zeros so far.
-use Rattle.std.proofs.Common.{◌≡◌, ◌++◌, replicate, length, take}
-use Rattle.std.specs.List.{fold}
-use Rattle.reed_solomon.specs.Register.{taken}
+use Rattle.reed_solomon.proofs.Common.{◌≡◌, ◌++◌, replicate, length, take, fold, taken}
 use Rattle.reed_solomon.proofs.encoder.check_octets.Given as goal
 
 abbrev pub invariant-loop-octet : goal.invariant-loop-octet

@@ -1,7 +1,6 @@
-use Rattle.std.proofs.Common.{◌≡◌, [], ◌∷◌, ◌++◌, length, get_or, drop, map, bit_xor, ap, ◌∙◌}
+use Rattle.reed_solomon.proofs.Common.{◌≡◌, [], ◌∷◌, ◌++◌, length, get_or, drop, map, bit_xor, ap, ◌∙◌, product, added}
+use Rattle.reed_solomon.proofs.Common.{taken}
 use Rattle.std.proofs.lemmas.List.{get_or_read}
-use Rattle.reed_solomon.specs.Product.{product}
-use Rattle.reed_solomon.specs.Register.{added, taken}
 use Rattle.reed_solomon.proofs.RegisterLemmas.{refill_all}
 use Rattle.reed_solomon.proofs.encoder.take.Goals as goal
 

@@ -1,6 +1,4 @@
-use Rattle.std.proofs.Common.{◌-◌, ap, sym, ◌∙◌, arith}
-use Rattle.reed_solomon.specs.Product.{logarithm, product}
-use Rattle.reed_solomon.specs.Field.{power, times_power}
+use Rattle.reed_solomon.proofs.Common.{◌-◌, ap, sym, ◌∙◌, arith, logarithm, product, power, times_power}
 use Rattle.reed_solomon.proofs.FieldLemmas.{power-product, product_comm, product-one, quotient-product}
 use Rattle.reed_solomon.proofs.field.inverse.Goals as goal
 

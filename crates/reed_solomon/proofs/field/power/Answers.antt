@@ -1,5 +1,5 @@
 -- The table is that of the powers.
-use Rattle.reed_solomon.specs.Field.{double}
+use Rattle.reed_solomon.proofs.Common.{double}
 use Rattle.reed_solomon.proofs.FieldLemmas.{get_or-doubles}
 use Rattle.reed_solomon.proofs.field.power.Goals as goal
 

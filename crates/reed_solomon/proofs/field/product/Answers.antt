@@ -1,9 +1,7 @@
-use Rattle.std.proofs.Common.{◌+◌, ap, sym, ◌∙◌, arith}
-use Rattle.reed_solomon.specs.Field.{power}
-use Rattle.reed_solomon.specs.Product.{logarithm, product}
+use Rattle.reed_solomon.proofs.Common.{◌+◌, ap, sym, ◌∙◌, arith, power, logarithm, product}
 use Rattle.reed_solomon.proofs.FieldLemmas.{zero-product, product-zero, logarithm-lt, product_by_logarithms}
-use Rattle.reed_solomon.proofs.field.product.Goals as goal
 use Rattle.reed_solomon.proofs.field.product.Goals.{then-a-eq0-via-then-a-eq0, then-a-eq0-via-else-a-eq0+then-b-eq0}
+use Rattle.reed_solomon.proofs.field.product.Goals as goal
 
 pub returns-then-a-eq0 : goal.returns-then-a-eq0
 returns-then-a-eq0 c = elim c.then-a-eq0.branch [

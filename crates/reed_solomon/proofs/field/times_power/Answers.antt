@@ -1,5 +1,4 @@
-use Rattle.std.proofs.Common.{◌+◌, ◌%◌, ap, sym, ◌∙◌, arith}
-use Rattle.reed_solomon.specs.Field.{power, times_power}
+use Rattle.reed_solomon.proofs.Common.{◌+◌, ◌%◌, ap, sym, ◌∙◌, arith, power, times_power}
 use Rattle.reed_solomon.proofs.FieldLemmas.{times_power-zero, times_power-mod, logarithm-lt, times_by_logarithm}
 use Rattle.reed_solomon.proofs.field.times_power.Goals as goal
 

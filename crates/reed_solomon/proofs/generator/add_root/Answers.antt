@@ -1,6 +1,4 @@
-use Rattle.std.proofs.Common.{◌≡◌, [], ◌∷◌, ◌++◌, length, map, ap, ◌∙◌}
-use Rattle.reed_solomon.specs.Product.{product}
-use Rattle.reed_solomon.specs.Register.{added, with_root}
+use Rattle.reed_solomon.proofs.Common.{◌≡◌, [], ◌∷◌, ◌++◌, length, map, ap, ◌∙◌, product, added, with_root}
 use Rattle.reed_solomon.proofs.RegisterLemmas.{refill_all}
 use Rattle.reed_solomon.proofs.generator.add_root.Goals as goal
 

@@ -1,6 +1,4 @@
-use Rattle.std.proofs.Common.{◌≡◌, ◌+◌, suc, length, ap, ◌∙◌, arith}
-use Rattle.reed_solomon.specs.Field.{power}
-use Rattle.reed_solomon.specs.Register.{generator_of, with_root}
+use Rattle.reed_solomon.proofs.Common.{◌≡◌, ◌+◌, suc, length, ap, ◌∙◌, arith, power, generator_of, with_root}
 use Rattle.reed_solomon.proofs.generator.generator.Goals as goal
 
 pub loop-k-init : goal.loop-k-init

@@ -1,5 +1,4 @@
-use Rattle.std.proofs.Common.{◌≡◌, length}
-use Rattle.reed_solomon.specs.Register.{generator_of}
+use Rattle.reed_solomon.proofs.Common.{◌≡◌, length, generator_of}
 use Rattle.reed_solomon.proofs.generator.generator.Given as goal
 
 abbrev pub invariant-loop-k : goal.invariant-loop-k

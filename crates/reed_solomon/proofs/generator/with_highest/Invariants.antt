@@ -1,4 +1,4 @@
-use Rattle.std.proofs.Common.{◌≡◌, ◌+◌, ◌∷◌, take, length}
+use Rattle.reed_solomon.proofs.Common.{◌≡◌, ◌+◌, ◌∷◌, take, length}
 use Rattle.reed_solomon.proofs.generator.with_highest.Given as goal
 
 abbrev pub invariant-loop-coefficient : goal.invariant-loop-coefficient

@@ -1,7 +1,4 @@
-use Rattle.std.proofs.Common.{ℕ, List, map, ap, subst, sym, ◌∙◌}
-use Rattle.reed_solomon.specs.Product.{product}
-use Rattle.reed_solomon.specs.Kernel.{dot, AddsMultiple}
-use Rattle.reed_solomon.specs.Register.{added}
+use Rattle.reed_solomon.proofs.Common.{ℕ, List, map, ap, subst, sym, ◌∙◌, product, dot, AddsMultiple, added}
 use Rattle.reed_solomon.proofs.KernelLemmas.{adds_multiple, meets_by_multiple}
 use Rattle.reed_solomon.proofs.ValueLemmas.{octets_from}
 use Rattle.reed_solomon.proofs.kernel.cleared.Goals as goal

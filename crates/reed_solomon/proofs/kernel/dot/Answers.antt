@@ -1,7 +1,5 @@
-use Rattle.std.proofs.Common.{◌+◌, ◌++◌, [], ◌∷◌, get_or, take, take_all, bit_xor, ap, sym, ◌∙◌, refl, arith}
-use Rattle.std.proofs.lemmas.List.{take_more, length-take}
-use Rattle.reed_solomon.specs.Product.{product}
-use Rattle.reed_solomon.specs.Kernel.{dot}
+use Rattle.reed_solomon.proofs.Common.{◌+◌, ◌++◌, [], ◌∷◌, get_or, take, take_all, bit_xor, ap, sym, ◌∙◌, refl, arith}
+use Rattle.reed_solomon.proofs.Common.{take_more, length-take, product, dot}
 use Rattle.reed_solomon.proofs.KernelLemmas.{dot-push, dot-take}
 use Rattle.reed_solomon.proofs.kernel.dot.Goals as goal
 

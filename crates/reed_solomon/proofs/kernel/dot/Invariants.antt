@@ -1,5 +1,4 @@
-use Rattle.std.proofs.Common.{◌≡◌, take}
-use Rattle.reed_solomon.specs.Kernel.{dot}
+use Rattle.reed_solomon.proofs.Common.{◌≡◌, take, dot}
 use Rattle.reed_solomon.proofs.kernel.dot.Given as goal
 
 abbrev pub invariant-loop-i : goal.invariant-loop-i

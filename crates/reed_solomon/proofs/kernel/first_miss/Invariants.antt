@@ -1,4 +1,4 @@
-use Rattle.reed_solomon.specs.Kernel.{Meet}
+use Rattle.reed_solomon.proofs.Common.{Meet}
 use Rattle.reed_solomon.proofs.kernel.first_miss.Given as goal
 
 abbrev pub invariant-loop-k : goal.invariant-loop-k

@@ -1,9 +1,7 @@
-use Rattle.std.proofs.Common.{◌≡◌, ℕ, ◌+◌, ◌-◌, ◌/◌, ◌≢◌, [], length, set, get_or, take, drop, ap, subst, sym}
-use Rattle.std.proofs.Common.{◌∙◌, inl, inr, arith}
-use Rattle.std.proofs.lemmas.Bool.{cases_eq}
-use Rattle.std.proofs.lemmas.List.{get_or-set_same, get_or-set_other, length-take, length-set}
-use Rattle.std.proofs.lemmas.List.{length-drop}
-use Rattle.reed_solomon.specs.Kernel.{IsBasis, Meet, row}
+use Rattle.reed_solomon.proofs.Common.{◌≡◌, ℕ, ◌+◌, ◌-◌, ◌/◌, ◌≢◌, [], length, set, get_or, take, drop, ap, subst, sym}
+use Rattle.reed_solomon.proofs.Common.{◌∙◌, inl, inr, arith, cases_eq, get_or-set_same, get_or-set_other, length-take}
+use Rattle.reed_solomon.proofs.Common.{length-drop, IsBasis, Meet, row}
+use Rattle.std.proofs.lemmas.List.{length-set}
 use Rattle.reed_solomon.proofs.DistanceLemmas.{Octets-take, Octets-drop, all_of_octets}
 use Rattle.reed_solomon.proofs.ValueLemmas.{octets_from}
 use Rattle.reed_solomon.proofs.kernel.kernel.Goals as goal

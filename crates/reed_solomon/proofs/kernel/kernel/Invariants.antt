@@ -1,6 +1,5 @@
 -- The first rows are unit lists; the rows that are left meet the equations so far.
-use Rattle.std.proofs.Common.{◌≡◌, ℕ, ◌+◌, ◌<◌, ◌≤◌, ◌≢◌, get_or, take, drop, length}
-use Rattle.reed_solomon.specs.Kernel.{IsBasis, Meet, row}
+use Rattle.reed_solomon.proofs.Common.{◌≡◌, ℕ, ◌+◌, ◌<◌, ◌≤◌, ◌≢◌, get_or, take, drop, length, IsBasis, Meet, row}
 use Rattle.reed_solomon.proofs.kernel.kernel.Given as goal
 
 abbrev pub invariant-loop-k : goal.invariant-loop-k

@@ -1,5 +1,4 @@
-use Rattle.std.proofs.Common.{◌≡◌, ℕ, ◌-◌, suc, List, length, subst, sym, arith}
-use Rattle.reed_solomon.specs.Kernel.{AddsMultiple, IsBasis, row}
+use Rattle.reed_solomon.proofs.Common.{◌≡◌, ℕ, ◌-◌, suc, List, length, subst, sym, arith, AddsMultiple, IsBasis, row}
 use Rattle.reed_solomon.proofs.KernelLemmas.{Cleared, cleared-basis, row-set}
 use Rattle.reed_solomon.proofs.kernel.meet.Goals as goal
 

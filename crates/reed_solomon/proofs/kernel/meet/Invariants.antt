@@ -1,6 +1,5 @@
 -- The rows before m are cleared, the others are as they were.
-use Rattle.std.proofs.Common.{◌≡◌, ℕ, ◌<◌, ◌≤◌}
-use Rattle.reed_solomon.specs.Kernel.{AddsMultiple, dot, row}
+use Rattle.reed_solomon.proofs.Common.{◌≡◌, ℕ, ◌<◌, ◌≤◌, AddsMultiple, dot, row}
 use Rattle.reed_solomon.proofs.kernel.meet.Given as goal
 
 abbrev pub invariant-loop-m : goal.invariant-loop-m

@@ -1,8 +1,5 @@
-use Rattle.std.proofs.Common.{◌≡◌, ℕ, List, length, map, replicate, ap, subst, sym, ◌∙◌}
-use Rattle.std.proofs.lemmas.List.{length-map}
-use Rattle.reed_solomon.specs.Product.{product}
-use Rattle.reed_solomon.specs.Kernel.{dot, IsMultiple}
-use Rattle.reed_solomon.specs.Register.{added}
+use Rattle.reed_solomon.proofs.Common.{◌≡◌, ℕ, List, length, map, replicate, ap, subst, sym, ◌∙◌, length-map, product}
+use Rattle.reed_solomon.proofs.Common.{dot, IsMultiple, added}
 use Rattle.reed_solomon.proofs.KernelLemmas.{dot-product, added-zeros, is_multiple}
 use Rattle.reed_solomon.proofs.ValueLemmas.{octets_from}
 use Rattle.reed_solomon.proofs.kernel.normal.Goals as goal

@@ -1,6 +1,6 @@
-use Rattle.std.proofs.Common.{◌≡◌, ℕ, get_or, replicate, ◌∙◌, arith, inl, inr}
-use Rattle.std.proofs.lemmas.Bool.{cases_lt}
-use Rattle.std.proofs.lemmas.List.{get_or-set_other, get_or-replicate, get_or_past, length-replicate}
+use Rattle.reed_solomon.proofs.Common.{◌≡◌, ℕ, get_or, replicate, ◌∙◌, arith, inl, inr, cases_lt, get_or-set_other}
+use Rattle.reed_solomon.proofs.Common.{length-replicate}
+use Rattle.std.proofs.lemmas.List.{get_or-replicate, get_or_past}
 use Rattle.reed_solomon.proofs.kernel.unit.Goals as goal
 
 zeros-at : (n u : ℕ) → get_or {A = ℕ} (replicate n 0) u 0 ≡ 0

@@ -1,7 +1,5 @@
-use Rattle.std.proofs.Common.{◌≡◌, ℕ, suc, ◌+◌, ◌-◌, List, ◌++◌, [], ◌∷◌, ap, sym, ◌∙◌, refl, arith}
-use Rattle.std.proofs.lemmas.List.{append_assoc, append-nil}
-use Rattle.reed_solomon.specs.Kernel.{values_down}
-use Rattle.reed_solomon.specs.Values.{value_at}
+use Rattle.reed_solomon.proofs.Common.{◌≡◌, ℕ, suc, ◌+◌, ◌-◌, List, ◌++◌, [], ◌∷◌, ap, sym, ◌∙◌, refl, arith}
+use Rattle.reed_solomon.proofs.Common.{append_assoc, append-nil, values_down, value_at}
 use Rattle.reed_solomon.proofs.values.syndromes.Goals as goal
 
 values_down-suc : (w : List ℕ) (first n : ℕ) → values_down w first (suc n) ≡ value_at

@@ -1,6 +1,5 @@
 -- The values of the last k roots, and then those of the others.
-use Rattle.std.proofs.Common.{◌≡◌, ◌-◌, ◌++◌, length}
-use Rattle.reed_solomon.specs.Kernel.{values_down}
+use Rattle.reed_solomon.proofs.Common.{◌≡◌, ◌-◌, ◌++◌, length, values_down}
 use Rattle.reed_solomon.proofs.values.syndromes.Given as goal
 
 abbrev pub invariant-loop-k : goal.invariant-loop-k

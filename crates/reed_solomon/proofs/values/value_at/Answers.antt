@@ -1,7 +1,5 @@
-use Rattle.std.proofs.Common.{get_or, take, bit_xor, ap, sym, ◌∙◌, refl, arith}
-use Rattle.std.proofs.lemmas.List.{take_more}
-use Rattle.reed_solomon.specs.Field.{times_power}
-use Rattle.reed_solomon.specs.Values.{value_at}
+use Rattle.reed_solomon.proofs.Common.{get_or, take, bit_xor, ap, sym, ◌∙◌, refl, arith, take_more, times_power}
+use Rattle.reed_solomon.proofs.Common.{value_at}
 use Rattle.reed_solomon.proofs.DistanceLemmas.{Octets-take}
 use Rattle.reed_solomon.proofs.GeneratorLemmas.{value_at-push}
 use Rattle.reed_solomon.proofs.ValueLemmas.{octets_from}

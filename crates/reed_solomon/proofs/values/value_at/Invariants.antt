@@ -1,5 +1,4 @@
-use Rattle.std.proofs.Common.{◌≡◌, take}
-use Rattle.reed_solomon.specs.Values.{value_at}
+use Rattle.reed_solomon.proofs.Common.{◌≡◌, take, value_at}
 use Rattle.reed_solomon.proofs.values.value_at.Given as goal
 
 abbrev pub invariant-loop-octet : goal.invariant-loop-octet

@@ -1,4 +1,4 @@
-use Rattle.std.proofs.Common.{◌≡◌, ◌+◌, ◌++◌, take, length}
+use Rattle.reed_solomon.proofs.Common.{◌≡◌, ◌+◌, ◌++◌, take, length}
 use Rattle.reed_solomon.proofs.words.push_all.Given as goal
 
 abbrev pub invariant-loop-octet : goal.invariant-loop-octet

@@ -1,4 +1,4 @@
-use Rattle.std.proofs.Common.{◌≡◌, ◌+◌, ◌++◌, replicate, length}
+use Rattle.reed_solomon.proofs.Common.{◌≡◌, ◌+◌, ◌++◌, replicate, length}
 use Rattle.reed_solomon.proofs.words.push_zeros.Given as goal
 
 abbrev pub invariant-loop : goal.invariant-loop

@@ -1,7 +1,5 @@
-use Rattle.std.proofs.Common.{◌≡◌, ◌+◌, ◌-◌, ◌++◌, length, take, drop, ap, sym, ◌∙◌, arith}
-use Rattle.std.proofs.lemmas.List.{take_rest}
-use Rattle.reed_solomon.specs.Codeword.{whole_of}
-use Rattle.reed_solomon.specs.Register.{zeros_before}
+use Rattle.reed_solomon.proofs.Common.{◌≡◌, ◌+◌, ◌-◌, ◌++◌, length, take, drop, ap, sym, ◌∙◌, arith, take_rest}
+use Rattle.reed_solomon.proofs.Common.{whole_of, zeros_before}
 use Rattle.reed_solomon.proofs.WordLemmas.{sent_octets, sent_check}
 use Rattle.reed_solomon.proofs.words.sent_word.Goals as goal
 

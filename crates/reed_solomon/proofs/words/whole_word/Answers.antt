@@ -1,6 +1,5 @@
-use Rattle.std.proofs.Common.{◌≡◌, ℕ, ◌-◌, List, ◌++◌, length, take, drop, All, ◌<◌, ap, subst, sym, ◌∙◌, arith}
-use Rattle.std.proofs.lemmas.List.{length-take}
-use Rattle.reed_solomon.specs.Codeword.{whole_of, with_zeros}
+use Rattle.reed_solomon.proofs.Common.{◌≡◌, ℕ, ◌-◌, List, ◌++◌, length, take, drop, All, ◌<◌, ap, subst, sym, ◌∙◌}
+use Rattle.reed_solomon.proofs.Common.{arith, length-take, whole_of, with_zeros}
 use Rattle.reed_solomon.proofs.DistanceLemmas.{all_of_octets}
 use Rattle.reed_solomon.proofs.ValueLemmas.{octets_from}
 use Rattle.reed_solomon.proofs.WordLemmas.{long, Octets-long}

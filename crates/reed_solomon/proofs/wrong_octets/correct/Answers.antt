@@ -1,16 +1,13 @@
-use Rattle.std.proofs.Common.{◌≡◌, ◌≢◌, ℕ, ◌+◌, ◌-◌, ◌/◌, ◌<◌, true, false, List, length, get_or, take}
-use Rattle.std.proofs.Common.{bit_xor, ap, sym, ◌∙◌, inl, inr, arith}
-use Rattle.std.proofs.lemmas.Bool.{cases_eq, false≢true}
-use Rattle.std.proofs.lemmas.List.{get_or-set_same, get_or-set_other, ext_get_or}
-use Rattle.reed_solomon.specs.Kernel.{IsWrong, octet_before}
-use Rattle.reed_solomon.specs.Register.{added}
+use Rattle.reed_solomon.proofs.Common.{◌≡◌, ◌≢◌, ℕ, ◌+◌, ◌-◌, ◌/◌, ◌<◌, true, false, List, length, get_or, take}
+use Rattle.reed_solomon.proofs.Common.{bit_xor, ap, sym, ◌∙◌, inl, inr, arith, cases_eq, false≢true, get_or-set_same}
+use Rattle.reed_solomon.proofs.Common.{get_or-set_other, ext_get_or, IsWrong, octet_before, added}
 use Rattle.reed_solomon.proofs.DistanceLemmas.{octets_of_all, all_of_octets}
 use Rattle.reed_solomon.proofs.ErrorLemmas.{errors_at_roots, errors_values, error_is}
 use Rattle.reed_solomon.proofs.FieldLemmas.{same_from_xor, xor_twice}
 use Rattle.reed_solomon.proofs.RootLemmas.{few_kernel_roots}
 use Rattle.reed_solomon.proofs.ValueLemmas.{Octets-added, length-added}
-use Rattle.reed_solomon.proofs.wrong_octets.correct.Goals as goal
 use Rattle.reed_solomon.proofs.wrong_octets.correct.Goals.{then-roots-p, else-roots-p}
+use Rattle.reed_solomon.proofs.wrong_octets.correct.Goals as goal
 
 pub error_at-requires-clause-few : goal.error_at-requires-clause-few
 error_at-requires-clause-few c =

@@ -1,6 +1,5 @@
 -- The octets that fewer than p others follow are right, the others are as they were.
-use Rattle.std.proofs.Common.{◌≡◌, ℕ, ◌+◌, ◌<◌, ◌≤◌, List, get_or, length}
-use Rattle.reed_solomon.specs.Kernel.{IsWrong}
+use Rattle.reed_solomon.proofs.Common.{◌≡◌, ℕ, ◌+◌, ◌<◌, ◌≤◌, List, get_or, length, IsWrong}
 use Rattle.reed_solomon.proofs.wrong_octets.correct.Given as goal
 
 abbrev pub invariant-loop-p : goal.invariant-loop-p

@@ -1,9 +1,5 @@
-use Rattle.std.proofs.Common.{◌≡◌, ◌-◌, ◌*◌, ◌∷◌, length, drop, ap, sym, ◌∙◌, arith}
-use Rattle.std.proofs.lemmas.List.{take_rest}
-use Rattle.reed_solomon.specs.Field.{times_power}
-use Rattle.reed_solomon.specs.Kernel.{dot, values_down}
-use Rattle.reed_solomon.specs.Product.{product}
-use Rattle.reed_solomon.specs.Values.{value_at}
+use Rattle.reed_solomon.proofs.Common.{◌≡◌, ◌-◌, ◌*◌, ◌∷◌, length, drop, ap, sym, ◌∙◌, arith, take_rest, times_power}
+use Rattle.reed_solomon.proofs.Common.{dot, values_down, product, value_at}
 use Rattle.reed_solomon.proofs.DistanceLemmas.{octets_of_all}
 use Rattle.reed_solomon.proofs.ErrorLemmas.{error_value}
 use Rattle.reed_solomon.proofs.ValueLemmas.{Octets}

@@ -1,19 +1,16 @@
-use Rattle.std.proofs.Common.{◌≡◌, ◌≢◌, ℕ, ◌+◌, ◌<◌, Bool, true, false, ◌⊎◌, List, [], ◌∷◌, length, get_or, ap, subst}
-use Rattle.std.proofs.Common.{sym, ◌∙◌}
-use Rattle.std.proofs.Common.{inl, inr, arith}
-use Rattle.std.proofs.lemmas.Bool.{cases_eq, false≢true}
-use Rattle.reed_solomon.specs.Field.{power}
-use Rattle.reed_solomon.specs.Register.{with_root}
-use Rattle.reed_solomon.specs.Values.{value_at}
+use Rattle.reed_solomon.proofs.Common.{◌≡◌, ◌≢◌, ℕ, ◌+◌, ◌<◌, Bool, true, false, List, [], ◌∷◌, length, get_or, ap}
+use Rattle.reed_solomon.proofs.Common.{subst, sym, ◌∙◌, inl, inr, arith, cases_eq, false≢true, power, with_root}
+use Rattle.reed_solomon.proofs.Common.{value_at}
+use Rattle.std.proofs.Common.{◌⊎◌}
 use Rattle.reed_solomon.proofs.DistanceLemmas.{all_of_octets}
 use Rattle.reed_solomon.proofs.GeneratorLemmas.{Octets-with_root, length-with_root}
 use Rattle.reed_solomon.proofs.RootLemmas.{root_here, root_stays, root_apart, value_at_one, count_true-take}
 use Rattle.reed_solomon.proofs.RootLemmas.{count_true_root, count_true_step}
 use Rattle.reed_solomon.proofs.ValueLemmas.{Octets}
-use Rattle.reed_solomon.proofs.wrong_octets.other_roots.Goals as goal
 use Rattle.reed_solomon.proofs.wrong_octets.other_roots.Goals.{then-roots-q+then-q-p, else-roots-q}
 use Rattle.reed_solomon.proofs.wrong_octets.other_roots.Goals.{else-roots-q-via-then-roots-q+else-q-p}
 use Rattle.reed_solomon.proofs.wrong_octets.other_roots.Goals.{else-roots-q-via-else-roots-q}
+use Rattle.reed_solomon.proofs.wrong_octets.other_roots.Goals as goal
 
 pub loop-q-init : goal.loop-q-init
 loop-q-init c =

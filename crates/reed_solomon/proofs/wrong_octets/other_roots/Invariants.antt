@@ -1,7 +1,6 @@
 -- The polynomial has the roots before q, but for p.
-use Rattle.std.proofs.Common.{◌≡◌, ◌≢◌, ℕ, ◌+◌, ◌<◌, ◌≤◌, true, false, get_or, take, length, ◌∷◌}
-use Rattle.reed_solomon.specs.Kernel.{count_true}
-use Rattle.reed_solomon.specs.Values.{value_at}
+use Rattle.reed_solomon.proofs.Common.{◌≡◌, ◌≢◌, ℕ, ◌+◌, ◌<◌, ◌≤◌, true, false, get_or, take, length, ◌∷◌, count_true}
+use Rattle.reed_solomon.proofs.Common.{value_at}
 use Rattle.reed_solomon.proofs.ValueLemmas.{Octets}
 use Rattle.reed_solomon.proofs.wrong_octets.other_roots.Given as goal
 

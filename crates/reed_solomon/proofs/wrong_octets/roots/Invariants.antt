@@ -1,5 +1,4 @@
-use Rattle.std.proofs.Common.{◌≡◌, ℕ, ◌<◌, false, eqb, get_or, length}
-use Rattle.reed_solomon.specs.Values.{value_at}
+use Rattle.reed_solomon.proofs.Common.{◌≡◌, ℕ, ◌<◌, false, eqb, get_or, length, value_at}
 use Rattle.reed_solomon.proofs.wrong_octets.roots.Given as goal
 
 abbrev pub invariant-loop-p : goal.invariant-loop-p

@@ -1,6 +1,5 @@
-use Rattle.std.proofs.Common.{◌≡◌, ℕ, ◌+◌, ◌-◌, ◌<◌, ◌≤◌, List, ◌++◌, length, get_or, replicate, ap, sym, ◌∙◌, arith}
-use Rattle.std.proofs.Common.{length-append, get_or-append-add}
-use Rattle.std.proofs.lemmas.List.{get_or_append_left, get_or-replicate}
+use Rattle.ring_receiver.proofs.Common.{◌≡◌, ℕ, ◌+◌, ◌-◌, ◌<◌, ◌≤◌, List, ◌++◌, length, get_or, replicate, ap, sym, ◌∙◌}
+use Rattle.ring_receiver.proofs.Common.{arith, length-append, get_or-append-add, get_or_append_left, get_or-replicate}
 use Rattle.slicer_bank.proofs.MarkLemmas.{has_marked_more, all_marked}
 use Rattle.ring_receiver.proofs.merging.mark_each.Goals as goal
 

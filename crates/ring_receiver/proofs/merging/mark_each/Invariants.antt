@@ -1,4 +1,4 @@
-use Rattle.std.proofs.Common.{◌++◌, replicate}
+use Rattle.ring_receiver.proofs.Common.{◌++◌, replicate}
 use Rattle.slicer_bank.proofs.MarkLemmas.{HasMarked}
 use Rattle.ring_receiver.proofs.merging.mark_each.Given as goal
 

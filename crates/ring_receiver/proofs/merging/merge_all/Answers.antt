@@ -1,4 +1,4 @@
-use Rattle.std.proofs.Common.{ℕ, ◌++◌, ap, ◌∙◌, replicate}
+use Rattle.ring_receiver.proofs.Common.{ℕ, ◌++◌, ap, ◌∙◌, replicate}
 use Rattle.ring_receiver.proofs.MergeLemmas.{merges_all, merges_all_rest}
 use Rattle.ring_receiver.proofs.merging.merge_all.Goals as goal
 

@@ -1,4 +1,4 @@
-use Rattle.std.proofs.Common.{arith}
+use Rattle.ring_receiver.proofs.Common.{arith}
 use Rattle.ring_receiver.proofs.MovedLemmas.{moved_more, moved_all, moved_bounds, next_has_room}
 use Rattle.ring_receiver.proofs.moving.add_moved.Goals as goal
 

@@ -1,7 +1,5 @@
-use Rattle.std.proofs.Common.{◌≡◌, ◌≤◌, ℕ, List, Bool, ◌&&◌, [], sym, ap, subst, ◌∙◌}
-use Rattle.std.specs.Prelude.{min}
-use Rattle.std.proofs.lemmas.List.{append-nil}
-use Rattle.sample_ring.specs.Ends.{ring_id, ring_len, position_of, reads_of}
+use Rattle.ring_receiver.proofs.Common.{◌≡◌, ◌≤◌, ℕ, List, Bool, ◌&&◌, [], sym, ap, subst, ◌∙◌, min, append-nil}
+use Rattle.ring_receiver.proofs.Common.{ring_id, ring_len, position_of, reads_of}
 use Rattle.slicer_bank.specs.RingLanes.{positions_in as positions_of_bank}
 use Rattle.slicer_bank.specs.RingTurns.{AreForward}
 use Rattle.ring_receiver.proofs.ReceiverLemmas.{all_stay, all_turn, goes_forward, marks_added, marks_many, marks_eight}

@@ -1,4 +1,4 @@
-use Rattle.sample_ring.specs.Ends.{ring_id, ring_len}
+use Rattle.ring_receiver.proofs.Common.{ring_id, ring_len}
 use Rattle.ring_receiver.proofs.ReceiverLemmas.{eight_in_time, eight_stay, eight_turn, none_made}
 use Rattle.ring_receiver.proofs.turn.hear_eight.Goals as goal
 

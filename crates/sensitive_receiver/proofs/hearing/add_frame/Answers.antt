@@ -1,6 +1,4 @@
-use Rattle.std.proofs.Common.{◌+◌, ◌-◌, sym, ap, ◌∙◌, subst, arith}
-use Rattle.std.proofs.lemmas.Bool.{true≢false}
-use Rattle.sensitive_receiver.specs.AddedCandidates.{HasPath}
+use Rattle.sensitive_receiver.proofs.Common.{◌+◌, ◌-◌, sym, ap, ◌∙◌, subst, arith, true≢false, HasPath}
 use Rattle.sensitive_receiver.proofs.HearLemmas.{not_in_time, no_path, one_frame}
 use Rattle.sensitive_receiver.proofs.FoundLemmas.{bounds_more}
 use Rattle.sensitive_receiver.proofs.hearing.add_frame.Goals as goal

@@ -1,7 +1,4 @@
-use Rattle.std.proofs.Common.{◌≡◌, ◌∙◌, sym, true, false}
-use Rattle.std.specs.Prelude.{not, ◌&&◌}
-use Rattle.tone_tracking.specs.Clock.{changes}
-use Rattle.tone_tracking.specs.Heard.{places_in}
+use Rattle.sensitive_receiver.proofs.Common.{◌≡◌, ◌∙◌, sym, true, false, not, ◌&&◌, changes, places_in}
 use Rattle.sensitive_receiver.proofs.LaneLemmas.{in_time_told}
 use Rattle.sensitive_receiver.proofs.hearing.ends_in_time.Goals as goal
 

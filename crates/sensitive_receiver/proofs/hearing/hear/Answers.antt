@@ -1,7 +1,4 @@
-use Rattle.std.proofs.Common.{sym, ◌∙◌}
-use Rattle.std.proofs.lemmas.Bool.{true≢false}
-use Rattle.std.proofs.lemmas.Result.{on_ok_weaker}
-use Rattle.sensitive_receiver.specs.Lanes.{lane_tones}
+use Rattle.sensitive_receiver.proofs.Common.{sym, ◌∙◌, true≢false, on_ok_weaker, lane_tones}
 use Rattle.sensitive_receiver.proofs.HearLemmas.{reads_tone, no_frame, some_frame}
 use Rattle.sensitive_receiver.proofs.hearing.hear.Goals as goal
 

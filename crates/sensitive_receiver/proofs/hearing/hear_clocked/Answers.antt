@@ -1,9 +1,6 @@
-use Rattle.std.proofs.Common.{◌≡◌, ◌∙◌, ℕ, ℤ, ◌+◌, ◌<◌, ◌≤◌, List, get_or, set, false, sym, subst, arith}
-use Rattle.frame_merge.specs.declared.candidate.Candidate.{Candidate}
-use Rattle.sensitive_receiver.specs.Found.{AddsAt}
-use Rattle.sensitive_receiver.specs.HeldLanes.{HeldLane, IsLastPlace, LaneStandsFor}
-use Rattle.sensitive_receiver.specs.Hearing.{LanesHear}
-use Rattle.sensitive_receiver.specs.Lanes.{is_read_by, lane_tones}
+use Rattle.sensitive_receiver.proofs.Common.{◌≡◌, ◌∙◌, ℕ, ℤ, ◌+◌, ◌<◌, ◌≤◌, List, get_or, set, false, sym, subst, arith}
+use Rattle.sensitive_receiver.proofs.Common.{Candidate, AddsAt, HeldLane, IsLastPlace, LaneStandsFor, LanesHear}
+use Rattle.sensitive_receiver.proofs.Common.{is_read_by, lane_tones}
 use Rattle.sensitive_receiver.proofs.PlaceLanes.{adds_silent, lanes_silent}
 use Rattle.sensitive_receiver.proofs.VisitedLanes.{Visited, visited_none, visited_more}
 use Rattle.sensitive_receiver.proofs.hearing.hear_clocked.Goals as goal

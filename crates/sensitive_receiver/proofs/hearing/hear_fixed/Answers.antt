@@ -1,7 +1,5 @@
-use Rattle.std.proofs.Common.{◌+◌, ◌%◌, ℤ, List, get_or, set, refl, sym, subst, arith}
-use Rattle.std.proofs.lemmas.Result.{on_ok_weaker}
-use Rattle.sensitive_receiver.specs.HeldLanes.{HeldLane, IsLastPlace, LaneStandsFor, LanesAreAt}
-use Rattle.sensitive_receiver.specs.Lanes.{lane_tones}
+use Rattle.sensitive_receiver.proofs.Common.{◌+◌, ◌%◌, ℤ, List, get_or, set, refl, sym, subst, arith, on_ok_weaker}
+use Rattle.sensitive_receiver.proofs.Common.{HeldLane, IsLastPlace, LaneStandsFor, LanesAreAt, lane_tones}
 use Rattle.sensitive_receiver.proofs.PlaceLanes.{adds_fixed, before_lanes, lanes_fixed}
 use Rattle.sensitive_receiver.proofs.hearing.hear_fixed.Goals as goal
 

@@ -1,5 +1,4 @@
-use Rattle.std.proofs.Common.{arith}
-use Rattle.std.proofs.lemmas.Result.{on_ok_weaker}
+use Rattle.sensitive_receiver.proofs.Common.{arith, on_ok_weaker}
 use Rattle.sensitive_receiver.proofs.PlaceLanes.{adds_all, adds_join_among, lanes_after, lanes_before}
 use Rattle.sensitive_receiver.proofs.hearing.hear_place.Goals as goal
 

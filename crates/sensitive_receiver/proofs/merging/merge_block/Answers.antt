@@ -1,8 +1,6 @@
-use Rattle.std.proofs.Common.{◌≡◌, ℕ, ◌+◌, ◌<◌, ◌^◌, List, ◌++◌, ◌∙◌, ap, sym, length, length-append, replicate, arith}
-use Rattle.std.proofs.Common.{get_or}
+use Rattle.sensitive_receiver.proofs.Common.{◌≡◌, ℕ, ◌+◌, ◌<◌, ◌^◌, List, ◌++◌, ◌∙◌, ap, sym, length, length-append}
+use Rattle.sensitive_receiver.proofs.Common.{replicate, arith, get_or, Candidate, settled}
 use Rattle.std.proofs.lemmas.List.{get_or-replicate}
-use Rattle.frame_merge.specs.declared.candidate.Candidate.{Candidate}
-use Rattle.sensitive_receiver.specs.MergedItems.{settled}
 use Rattle.sensitive_receiver.proofs.DecoderLemmas.{block_gives}
 use Rattle.sensitive_receiver.proofs.merging.merge_block.Goals as goal
 

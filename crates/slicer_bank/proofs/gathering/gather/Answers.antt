@@ -1,8 +1,5 @@
-use Rattle.std.proofs.Common.{◌++◌, ap, sym, ◌∙◌, subst, rules, arith}
-use Rattle.std.specs.List.{flat_map}
-use Rattle.std.specs.List.Sorted.{IsPermutation, IsNonDecreasingBy}
-use Rattle.std.proofs.lemmas.List.Sorted.{IsNonDecreasingBy-from_sort_by_key}
-use Rattle.frame_merge.specs.declared.candidate.Candidate.{Candidate}
+use Rattle.slicer_bank.proofs.Common.{◌++◌, ap, sym, ◌∙◌, subst, rules, arith, flat_map, IsPermutation}
+use Rattle.slicer_bank.proofs.Common.{IsNonDecreasingBy, IsNonDecreasingBy-from_sort_by_key, Candidate}
 use Rattle.slicer_bank.proofs.GatheringLemmas.{visited_none, visited_more, found_more, all_visited}
 use Rattle.slicer_bank.proofs.BankGatheringLemmas.{items_of, heard_by, GaveHeard, fit_there, lanes_in_order}
 use Rattle.slicer_bank.proofs.gathering.gather.Goals as goal

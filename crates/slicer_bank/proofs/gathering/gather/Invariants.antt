@@ -1,5 +1,4 @@
-use Rattle.std.proofs.Common.{◌≡◌, take}
-use Rattle.std.specs.List.{flat_map}
+use Rattle.slicer_bank.proofs.Common.{◌≡◌, take, flat_map}
 use Rattle.slicer_bank.proofs.GatheringLemmas.{Visited}
 use Rattle.slicer_bank.proofs.BankGatheringLemmas.{GaveHeard, heard_by}
 use Rattle.slicer_bank.proofs.gathering.gather.Given as goal

@@ -1,8 +1,4 @@
-use Rattle.std.proofs.Common.{ℕ}
-use Rattle.std.specs.List.{All}
-use Rattle.std.proofs.lemmas.Result.{IfOk-weaker}
-use Rattle.slicer_bank.specs.Heard.{LanesKeepFit}
-use Rattle.slicer_bank.specs.Merging.{CanBePutPast}
+use Rattle.slicer_bank.proofs.Common.{ℕ, All, IfOk-weaker, LanesKeepFit, CanBePutPast}
 use Rattle.slicer_bank.proofs.FeedLemmas.{gathered}
 use Rattle.slicer_bank.proofs.gathering.hear_block.Goals as goal
 

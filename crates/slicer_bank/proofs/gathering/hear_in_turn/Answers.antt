@@ -1,5 +1,4 @@
-use Rattle.std.proofs.Common.{ℕ, ◌+◌, List, get_or, set, sym, subst, arith}
-use Rattle.slicer_bank.specs.Held.{HeldLane}
+use Rattle.slicer_bank.proofs.Common.{ℕ, ◌+◌, List, get_or, set, sym, subst, arith, HeldLane}
 use Rattle.slicer_bank.proofs.FeedLemmas.{DidJob}
 use Rattle.slicer_bank.proofs.GatheringLemmas.{Visited, visited_none, visited_more}
 use Rattle.slicer_bank.proofs.gathering.hear_in_turn.Goals as goal

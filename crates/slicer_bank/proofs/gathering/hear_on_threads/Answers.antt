@@ -1,6 +1,5 @@
-use Rattle.std.proofs.Common.{◌<◌, length, slice_index_or, arith, subst}
-use Rattle.slicer_bank.specs.Held.{HeldLane}
-use Rattle.slicer_bank.specs.Heard.{HearsAlone}
+use Rattle.slicer_bank.proofs.Common.{◌<◌, length, arith, subst, HeldLane, HearsAlone}
+use Rattle.std.proofs.Common.{slice_index_or}
 use Rattle.slicer_bank.proofs.gathering.hear_on_threads.Goals as goal
 
 pub returns-clause-heard : goal.returns-clause-heard

@@ -1,10 +1,5 @@
-use Rattle.std.proofs.Common.{◌≡◌, take, arith, subst, sym, ◌∙◌, ap}
-use Rattle.std.specs.List.{All}
-use Rattle.std.proofs.lemmas.List.Elements.{All-nil}
-use Rattle.std.proofs.lemmas.List.{take_all}
-use Rattle.frame_merge.specs.declared.candidate.Candidate.{Candidate}
-use Rattle.slicer_bank.specs.Heard.{LaneHears}
-use Rattle.slicer_bank.specs.Merging.{CanBePutPast}
+use Rattle.slicer_bank.proofs.Common.{◌≡◌, take, arith, subst, sym, ◌∙◌, ap, All, All-nil, take_all, Candidate}
+use Rattle.slicer_bank.proofs.Common.{LaneHears, CanBePutPast}
 use Rattle.slicer_bank.proofs.OwnLemmas.{own_first, own_block, own_found}
 use Rattle.slicer_bank.proofs.job.hear_lane.Goals as goal
 

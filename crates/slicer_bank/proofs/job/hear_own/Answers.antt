@@ -1,5 +1,4 @@
-use Rattle.std.proofs.Common.{◌+◌, ◌*◌, ◌-◌, ◌/◌, refl, length, drop, arith, ◌∙◌, length-drop}
-use Rattle.std.proofs.lemmas.List.{take_all}
+use Rattle.slicer_bank.proofs.Common.{◌+◌, ◌*◌, ◌-◌, ◌/◌, refl, length, drop, arith, ◌∙◌, length-drop, take_all}
 use Rattle.slicer_bank.proofs.OwnLemmas.{own_none, own_more, own_all, drop_most}
 use Rattle.slicer_bank.proofs.job.hear_own.Goals as goal
 

@@ -1,4 +1,4 @@
-use Rattle.std.proofs.Common.{length}
+use Rattle.slicer_bank.proofs.Common.{length}
 use Rattle.slicer_bank.proofs.OwnLemmas.{OwnHeard}
 use Rattle.slicer_bank.proofs.job.hear_own.Given as goal
 

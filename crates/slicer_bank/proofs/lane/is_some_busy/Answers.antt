@@ -1,4 +1,4 @@
-use Rattle.std.proofs.Common.{arith, refl}
+use Rattle.slicer_bank.proofs.Common.{arith, refl}
 use Rattle.slicer_bank.proofs.BusyLemmas.{busy_there, none_more, none_busy}
 use Rattle.slicer_bank.proofs.lane.is_some_busy.Goals as goal
 

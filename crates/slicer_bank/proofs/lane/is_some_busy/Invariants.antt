@@ -1,8 +1,4 @@
-use Rattle.std.proofs.Common.{ℕ, ℤ, ◌<◌, List}
-use Rattle.std.specs.List.{All}
-use Rattle.offset_slicers.specs.Windows.{bits}
-use Rattle.hdlc_framer.specs.Carrier.{HoldsCarrier}
-use Rattle.slicer_bank.specs.Held.{AsksFor, LanesStandFor}
+use Rattle.slicer_bank.proofs.Common.{ℕ, ℤ, ◌<◌, List, All, bits, HoldsCarrier, AsksFor, LanesStandFor}
 use Rattle.slicer_bank.proofs.lane.is_some_busy.Given as goal
 
 abbrev pub invariant-loop-lane : goal.invariant-loop-lane

@@ -1,4 +1,4 @@
-use Rattle.std.proofs.Common.{◌+◌, arith, sym, subst}
+use Rattle.slicer_bank.proofs.Common.{◌+◌, arith, sym, subst}
 use Rattle.slicer_bank.proofs.FreshLanes.{AreFresh, fresh_more, stand_fresh}
 use Rattle.slicer_bank.proofs.lane.new_lanes.Goals as goal
 

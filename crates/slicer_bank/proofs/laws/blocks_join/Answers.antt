@@ -1,4 +1,4 @@
-use Rattle.std.proofs.Common.{arith}
+use Rattle.slicer_bank.proofs.Common.{arith}
 use Rattle.slicer_bank.proofs.CandidateLemmas.{candidates_join}
 use Rattle.slicer_bank.proofs.laws.blocks_join.Goals as goal
 

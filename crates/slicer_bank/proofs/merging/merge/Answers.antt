@@ -1,9 +1,6 @@
-use Rattle.std.proofs.Common.{◌≡◌, ◌-◌, ◌^◌, List, [], ◌++◌, ap, ◌∙◌}
-use Rattle.std.proofs.lemmas.Result.{IfOk-weaker}
-use Rattle.frame_merge.specs.Order.{in_order}
-use Rattle.frame_merge.specs.declared.candidate.Candidate.{Candidate}
-use Rattle.frame_merge.specs.Held.{StandsFor, least}
-use Rattle.frame_merge.specs.Merged.{merged}
+use Rattle.slicer_bank.proofs.Common.{◌≡◌, ◌-◌, ◌^◌, List, [], ◌++◌, ap, ◌∙◌, IfOk-weaker, in_order, Candidate, least}
+use Rattle.slicer_bank.proofs.Common.{merged}
+use Rattle.frame_merge.specs.Held.{StandsFor}
 use Rattle.slicer_bank.proofs.MergingLemmas.{in_order-strictly}
 use Rattle.slicer_bank.proofs.merging.merge.Goals as goal
 

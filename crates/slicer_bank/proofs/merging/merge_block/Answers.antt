@@ -1,4 +1,4 @@
-use Rattle.std.proofs.Common.{◌≡◌, ◌+◌, ◌<◌, ◌^◌, ◌++◌, ◌∙◌, ap, sym, length, length-append, replicate, arith}
+use Rattle.slicer_bank.proofs.Common.{◌≡◌, ◌+◌, ◌<◌, ◌^◌, ◌++◌, ◌∙◌, ap, sym, length, length-append, replicate, arith}
 use Rattle.slicer_bank.proofs.DecoderLemmas.{taken_more}
 use Rattle.slicer_bank.proofs.merging.merge_block.Goals as goal
 

@@ -1,8 +1,5 @@
-use Rattle.std.proofs.Common.{◌≡◌, ◌+◌, List, Bool, ◌&&◌, ap, sym, ◌∙◌, rules, arith, set, subst}
-use Rattle.std.specs.List.Sorted.{IsNonDecreasingBy}
-use Rattle.std.proofs.lemmas.List.Sorted.{IsNonDecreasingBy-from_sort_by_key}
-use Rattle.frame_merge.specs.declared.candidate.Candidate.{Candidate}
-use Rattle.slicer_bank.specs.declared.ring_lane.RingLane.{RingLane}
+use Rattle.slicer_bank.proofs.Common.{◌≡◌, ◌+◌, List, Bool, ◌&&◌, ap, sym, ◌∙◌, rules, arith, set, subst}
+use Rattle.slicer_bank.proofs.Common.{IsNonDecreasingBy, IsNonDecreasingBy-from_sort_by_key, Candidate, RingLane}
 use Rattle.slicer_bank.proofs.RingGatheringLemmas.{HaveGiven, given_more, turn_gathered}
 use Rattle.slicer_bank.proofs.ring_lanes.gather.Goals.{then-ended, else-ended}
 use Rattle.slicer_bank.proofs.ring_lanes.gather.Goals as goal

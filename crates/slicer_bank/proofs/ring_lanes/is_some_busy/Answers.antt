@@ -1,5 +1,4 @@
-use Rattle.std.proofs.Common.{◌≡◌, subst, refl, arith, length}
-use Rattle.std.proofs.lemmas.Bool.{false≢true}
+use Rattle.slicer_bank.proofs.Common.{◌≡◌, subst, refl, arith, length, false≢true}
 use Rattle.slicer_bank.proofs.RingBusyLemmas.{NoneBusy, Holds, none_busy, some_busy}
 use Rattle.slicer_bank.proofs.ring_lanes.is_some_busy.Goals as goal
 

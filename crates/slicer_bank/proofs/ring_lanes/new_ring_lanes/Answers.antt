@@ -1,6 +1,5 @@
-use Rattle.std.proofs.Common.{◌<◌, List, ◌∙◌, refl, sym, subst, arith, length}
-use Rattle.std.proofs.lemmas.List.{take_all, drop_all}
-use Rattle.slicer_bank.specs.declared.ring_lane.RingLane.{RingLane}
+use Rattle.slicer_bank.proofs.Common.{◌<◌, List, ◌∙◌, refl, sym, subst, arith, length, take_all, RingLane}
+use Rattle.std.proofs.lemmas.List.{drop_all}
 use Rattle.slicer_bank.proofs.ReaderLemmas.{HaveLanes, have_none, have_more}
 use Rattle.slicer_bank.proofs.ring_lanes.new_ring_lanes.Goals as goal
 

@@ -1,5 +1,4 @@
-use Rattle.std.proofs.Common.{◌≡◌}
-use Rattle.std.specs.Prelude.{vec_capacity}
+use Rattle.slicer_bank.proofs.Common.{◌≡◌, vec_capacity}
 use Rattle.slicer_bank.proofs.ReaderLemmas.{HaveLanes}
 use Rattle.slicer_bank.proofs.ring_lanes.new_ring_lanes.Given as goal
 

@@ -1,4 +1,4 @@
-use Rattle.std.proofs.Common.{ℕ, ap, get_or}
+use Rattle.slicer_bank.proofs.Common.{ℕ, ap, get_or}
 use Rattle.slicer_bank.proofs.MarkLemmas.{has_marked_more, all_marked}
 use Rattle.slicer_bank.proofs.ring_merging.mark_each.Goals as goal
 

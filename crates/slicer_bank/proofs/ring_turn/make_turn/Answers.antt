@@ -1,10 +1,5 @@
-use Rattle.std.proofs.Common.{◌<◌, get_or, map}
-use Rattle.std.specs.List.{flat_map}
-use Rattle.std.proofs.lemmas.List.Sorted.{All-permutation}
-use Rattle.sample_ring.specs.Ends.{ring_id, ring_len, position_of}
-use Rattle.frame_merge.specs.declared.candidate.Candidate.{Candidate}
-use Rattle.slicer_bank.specs.Merging.{CanBePut}
-use Rattle.slicer_bank.specs.RingLanes.{readers_of}
+use Rattle.slicer_bank.proofs.Common.{◌<◌, get_or, map, flat_map, All-permutation, ring_id, ring_len, position_of}
+use Rattle.slicer_bank.proofs.Common.{Candidate, CanBePut, readers_of}
 use Rattle.slicer_bank.proofs.RingGatheringLemmas.{found_by}
 use Rattle.slicer_bank.proofs.TurnLemmas.{are_grown, is_turn, lanes_listen, brings, stand_there, are_forward}
 use Rattle.slicer_bank.proofs.TurnLemmas.{can_be_put, are_past}

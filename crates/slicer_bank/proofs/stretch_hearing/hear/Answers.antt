@@ -1,14 +1,8 @@
-use Rattle.std.proofs.Common.{◌≡◌, FitsSigned, ℕ, ℤ, List, [], ◌∷◌, ◌++◌, ◌∙◌, sym, subst, ap, arith, true, to_z, of_z}
-use Rattle.std.proofs.lemmas.Bool.{true≢false}
-use Rattle.std.proofs.lemmas.Int.{to_z-of_z}
-use Rattle.std.proofs.lemmas.List.{append-nil}
-use Rattle.std.proofs.lemmas.List.Elements.{All-nil, All-cons}
-use mir.Syntax.{w16}
-use Rattle.hdlc_framer.specs.Held.{HoldsFrame}
+use Rattle.slicer_bank.proofs.Common.{◌≡◌, ℕ, ℤ, List, [], ◌∷◌, ◌++◌, ◌∙◌, sym, subst, ap, arith, true, to_z, of_z}
+use Rattle.slicer_bank.proofs.Common.{true≢false, to_z-of_z, append-nil, All-nil, All-cons, w16, HoldsFrame}
+use Rattle.slicer_bank.proofs.Common.{candidate_at, Stretch, with_sample, StretchStandsFor, EndsLast}
+use Rattle.std.proofs.Common.{FitsSigned}
 use Rattle.slicer_bank.specs.declared.stretch_lane.StretchLane.{StretchLane}
-use Rattle.slicer_bank.specs.Heard.{candidate_at}
-use Rattle.slicer_bank.specs.Stretches.{Stretch, with_sample}
-use Rattle.slicer_bank.specs.StretchLanes.{StretchStandsFor, EndsLast}
 use Rattle.slicer_bank.proofs.stretch_hearing.hear.Goals as goal
 
 -- the lane has heard the sample as it was passed

@@ -1,8 +1,5 @@
-use Rattle.std.proofs.Common.{[], ◌+◌, List, length, ap, sym, subst, ◌∙◌}
-use Rattle.std.specs.List.{All}
-use Rattle.std.proofs.lemmas.List.{length_push}
-use Rattle.std.proofs.lemmas.List.Elements.{All-push}
-use Rattle.slicer_bank.specs.ToneLanes.{HeldToneLane, ToneLaneStandsFor}
+use Rattle.slicer_bank.proofs.Common.{[], ◌+◌, List, length, ap, sym, subst, ◌∙◌, All, length_push, All-push}
+use Rattle.slicer_bank.proofs.Common.{HeldToneLane, ToneLaneStandsFor}
 use Rattle.slicer_bank.proofs.tone_lane.new_tone_lanes.Goals as goal
 
 pub loop-preserved : goal.loop-preserved

@@ -1,6 +1,5 @@
+use Rattle.slicer_bank.proofs.Common.{All, ToneLaneStandsFor}
 use Rattle.std.specs.Prelude.{◌≡◌, [], length}
-use Rattle.std.specs.List.{All}
-use Rattle.slicer_bank.specs.ToneLanes.{ToneLaneStandsFor}
 use Rattle.slicer_bank.proofs.tone_lane.new_tone_lanes.Given as goal
 
 -- so many lanes were made

@@ -1,8 +1,5 @@
-use Rattle.std.proofs.Common.{◌≡◌, ℕ, List, Bool, [], ◌∷◌, ◌++◌, ◌∙◌, sym, subst}
-use Rattle.std.proofs.lemmas.Bool.{true≢false}
-use Rattle.nrzi_bits.specs.Line.{bits_of}
-use Rattle.offset_slicers.specs.Decision.{tone_of}
-use Rattle.hdlc_framer.specs.Frames.{EndsFrame}
+use Rattle.slicer_bank.proofs.Common.{◌≡◌, ℕ, List, Bool, [], ◌∷◌, ◌++◌, ◌∙◌, sym, subst, true≢false, bits_of, tone_of}
+use Rattle.slicer_bank.proofs.Common.{EndsFrame}
 use Rattle.slicer_bank.proofs.HeardLemmas.{adds_nothing, adds_one}
 use Rattle.slicer_bank.proofs.window_hearing.hear.Goals as goal
 

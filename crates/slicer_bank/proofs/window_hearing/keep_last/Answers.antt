@@ -1,6 +1,5 @@
-use Rattle.std.proofs.Common.{◌∙◌}
+use Rattle.slicer_bank.proofs.Common.{◌∙◌, ap, ◌++◌}
 use Rattle.slicer_bank.proofs.SevenLemmas.{seven_behind_short, seven_behind_long}
-use Rattle.std.proofs.Common.{ap, ◌++◌}
 use Rattle.slicer_bank.proofs.window_hearing.keep_last.Goals as goal
 
 pub returns-then-block-lt7 : goal.returns-then-block-lt7

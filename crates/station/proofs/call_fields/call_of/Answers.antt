@@ -1,6 +1,4 @@
-use Rattle.std.specs.Prelude.{ℕ, List}
-use Rattle.std.proofs.Common.{sym, subst}
-use Rattle.ax25_address.specs.CallText.{IsCallText}
+use Rattle.station.proofs.Common.{ℕ, List, sym, subst, IsCallText}
 use Rattle.station.proofs.CallLemmas.{call_of_text-is, call_of_text-none, call_of_text-octets}
 use Rattle.station.proofs.call_fields.call_of.Goals as goal
 

@@ -1,6 +1,5 @@
-use Rattle.std.proofs.Common.{sym, arith, eqb, length}
-use Rattle.std.proofs.lemmas.List.Sums.{position_or_len_is}
-use Rattle.std.proofs.lemmas.Bool.Decides.{nat_tests}
+use Rattle.station.proofs.Common.{sym, arith, eqb, position_or_len_is, nat_tests}
+use Rattle.std.proofs.Common.{length}
 use Rattle.station.proofs.call_fields.first_nul.Goals as goal
 
 pub returns-then-field-place-eq0-clause-place : goal.returns-then-field-place-eq0-clause-place

@@ -1,4 +1,5 @@
-use Rattle.std.proofs.Common.{ℕ, ◌<◌, ◌≢◌, get_or}
+use Rattle.station.proofs.Common.{get_or}
+use Rattle.std.proofs.Common.{ℕ, ◌<◌, ◌≢◌}
 use Rattle.station.proofs.call_fields.first_nul.Given as goal
 
 -- no octet so far is NUL

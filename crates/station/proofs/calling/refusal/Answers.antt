@@ -1,8 +1,5 @@
-use Rattle.std.specs.Prelude.{◌≡◌, ℕ, List, IfOk}
-use Rattle.std.proofs.Common.{◌∙◌, ap, subst}
-use Rattle.agwpe_port.specs.Messages.{spelling}
+use Rattle.station.proofs.Common.{◌≡◌, ℕ, List, IfOk, ◌∙◌, ap, subst, spelling, refused_reply}
 use Rattle.station.specs.AgwKinds.{disconnect_kind}
-use Rattle.station.specs.AgwRequests.{refused_reply}
 use Rattle.station.specs.CallFields.{field_text, sent_back}
 use Rattle.station.specs.HostMessages.{to_host, disconnected_text}
 use Rattle.station.proofs.calling.refusal.Goals as goal

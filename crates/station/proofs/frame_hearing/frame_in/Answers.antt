@@ -1,4 +1,4 @@
-use Rattle.station.specs.Heard.{IsReadAs}
+use Rattle.station.proofs.Common.{IsReadAs}
 use Rattle.station.proofs.MemoryLemmas.{took_if}
 use Rattle.station.proofs.ReadLemmas.{unread_none}
 use Rattle.station.proofs.frame_hearing.frame_in.Goals as goal

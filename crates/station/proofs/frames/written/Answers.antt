@@ -1,9 +1,5 @@
-use Rattle.std.specs.Prelude.{◌≡◌, ℕ, List, Result, Ok, Err, IfOk}
-use Rattle.tnc_base.specs.declared.fault.OutOfMemory.{OutOfMemory}
-use Rattle.ax25_frames.specs.declared.frame.Frame.{Frame}
-use Rattle.ax25_frames.specs.declared.frame.Modulus.{Modulus}
-use Rattle.ax25_frames.specs.FrameOctets.{IsWrittenFrame}
-use Rattle.station.specs.FrameSpelling.{frame_octets}
+use Rattle.station.proofs.Common.{◌≡◌, ℕ, List, Result, Ok, Err, IfOk, OutOfMemory, Frame, Modulus, IsWrittenFrame}
+use Rattle.station.proofs.Common.{frame_octets}
 use Rattle.station.proofs.FrameLemmas.{frame_spelled}
 use Rattle.station.proofs.MemoryLemmas.{took_if}
 use Rattle.station.proofs.frames.written.Goals as goal

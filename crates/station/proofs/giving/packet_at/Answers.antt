@@ -1,7 +1,7 @@
-use Rattle.std.specs.Prelude.{◌≡◌, ℕ, ◌*◌, ◌-◌, List, length, take, drop, min}
-use Rattle.std.proofs.Common.{◌∙◌, ap, arith}
-use Rattle.std.proofs.lemmas.List.{length-drop, take_all, take_min}
-use Rattle.selective_reject.specs.declared.packet.Packet.{Packet}
+use Rattle.station.proofs.Common.{◌≡◌, ℕ, ◌*◌, ◌-◌, List, length, take, drop, ◌∙◌, ap, arith, length-drop, take_all}
+use Rattle.station.proofs.Common.{Packet}
+use Rattle.std.specs.Prelude.{min}
+use Rattle.std.proofs.lemmas.List.{take_min}
 use Rattle.station.proofs.giving.packet_at.Goals as goal
 
 -- the first 256 octets of the rest

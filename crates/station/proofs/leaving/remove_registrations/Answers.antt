@@ -1,5 +1,4 @@
-use Rattle.std.proofs.Common.{rules}
-use Rattle.std.proofs.lemmas.Fn.{filter_same}
+use Rattle.station.proofs.Common.{rules, filter_same}
 use Rattle.station.proofs.leaving.remove_registrations.Goals as goal
 
 pub returns : goal.returns

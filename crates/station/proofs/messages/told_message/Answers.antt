@@ -1,7 +1,4 @@
-use Rattle.std.specs.Prelude.{◌≡◌, IfOk}
-use Rattle.std.proofs.Common.{sym, subst}
-use Rattle.agwpe_port.specs.Messages.{spelling}
-use Rattle.link_machine.specs.declared.acts.Told.{Told}
+use Rattle.station.proofs.Common.{◌≡◌, IfOk, sym, subst, spelling, Told}
 use Rattle.station.specs.HostMessages.{message_of_told}
 use Rattle.station.proofs.messages.told_message.Goals as goal
 

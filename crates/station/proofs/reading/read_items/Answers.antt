@@ -1,9 +1,7 @@
-use Rattle.std.specs.Prelude.{◌≡◌, ◌++◌, ℕ, List, [], ◌∷◌, take, Option}
+use Rattle.station.proofs.Common.{◌≡◌, ◌++◌, ℕ, List, [], ◌∷◌, take, Option, sym, ◌∙◌, ap, subst, append_assoc}
+use Rattle.station.proofs.Common.{KissItem, items_in}
 use Rattle.std.specs.Option.{option_to_list}
-use Rattle.std.proofs.Common.{sym, ◌∙◌, ap, subst, append_assoc}
 use Rattle.kiss_port.specs.Held.{StandsFor}
-use Rattle.kiss_port.specs.declared.item.KissItem.{KissItem}
-use Rattle.kiss_port.specs.Items.{items_in}
 use Rattle.agwpe_port.proofs.StreamLemmas.{one_more}
 use Rattle.station.proofs.MemoryLemmas.{if_took, on_took}
 use Rattle.station.proofs.reading.read_items.Goals as goal

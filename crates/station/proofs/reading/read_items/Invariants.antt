@@ -1,6 +1,5 @@
-use Rattle.std.specs.Prelude.{◌≡◌, ◌++◌, ℕ, List, take}
+use Rattle.station.proofs.Common.{◌≡◌, ◌++◌, ℕ, List, take, items_in}
 use Rattle.kiss_port.specs.Held.{StandsFor}
-use Rattle.kiss_port.specs.Items.{items_in}
 use Rattle.station.proofs.reading.read_items.Given as goal
 
 -- the octets so far are read, and gave these items

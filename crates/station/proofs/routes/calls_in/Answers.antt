@@ -1,7 +1,4 @@
-use Rattle.std.specs.Prelude.{◌≡◌, ◌+◌, ◌-◌, ◌*◌, List, take, drop}
-use Rattle.std.proofs.Common.{sym, ◌∙◌, ap, arith}
-use Rattle.ax25_address.specs.Callsign.{Callsign}
-use Rattle.station.specs.Routes.{calls_in}
+use Rattle.station.proofs.Common.{◌≡◌, ◌+◌, ◌-◌, ◌*◌, List, take, drop, sym, ◌∙◌, ap, arith, Callsign, calls_in}
 use Rattle.station.proofs.RouteLemmas.{before_rest, calls_more}
 use Rattle.station.proofs.routes.calls_in.Goals as goal
 

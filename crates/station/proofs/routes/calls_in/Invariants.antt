@@ -1,5 +1,4 @@
-use Rattle.std.specs.Prelude.{◌≡◌, ◌*◌, ◌-◌, length, drop}
-use Rattle.station.specs.Routes.{calls_in}
+use Rattle.station.proofs.Common.{◌≡◌, ◌*◌, ◌-◌, length, drop, calls_in}
 use Rattle.station.proofs.RouteLemmas.{before_rest}
 use Rattle.station.proofs.routes.calls_in.Given as goal
 

@@ -1,4 +1,4 @@
-use Rattle.link_world.proofs.law.ChangesLaw.{changes_law_holds}
+use Rattle.station_laws.proofs.Common.{changes_law_holds}
 use Rattle.station_laws.proofs.MatchedLaws.{matched_law_holds}
 use Rattle.station_laws.proofs.laws.matched_law.Goals as goal
 

@@ -1,4 +1,4 @@
-use Rattle.link_world.proofs.law.ChangesLaw.{changes_law_holds}
+use Rattle.station_laws.proofs.Common.{changes_law_holds}
 use Rattle.station_laws.proofs.JointLaw.{stations_law_holds}
 use Rattle.station_laws.proofs.laws.stations_law.Goals as goal
 

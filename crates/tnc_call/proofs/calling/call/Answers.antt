@@ -1,4 +1,4 @@
-use Rattle.tnc_call.specs.CallTrace.{ports_by}
+use Rattle.tnc_call.proofs.Common.{ports_by}
 use Rattle.tnc_call.proofs.WholeLemmas.{whole_call}
 use Rattle.tnc_call.proofs.calling.call.Goals as goal
 

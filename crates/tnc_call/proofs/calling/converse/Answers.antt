@@ -1,6 +1,4 @@
-use Rattle.std.proofs.Common.{◌+◌, ◌∙◌, length, refl, ap, None, arith}
-use Rattle.tnc_call.specs.declared.call_end.CallEnd.TheVariants.{WriteFault}
-use Rattle.tnc_call.specs.CallTrace.{no_trace, ports_by}
+use Rattle.tnc_call.proofs.Common.{◌+◌, ◌∙◌, length, refl, ap, None, arith, WriteFault, no_trace, ports_by}
 use Rattle.tnc_call.proofs.HeardLemmas.{none_is_no_end}
 use Rattle.tnc_call.proofs.TurnLemmas.{running_begins, talked, gave_up}
 use Rattle.tnc_call.proofs.calling.converse.Goals as goal

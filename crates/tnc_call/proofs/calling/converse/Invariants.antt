@@ -1,7 +1,4 @@
-use Rattle.std.proofs.Common.{◌≡◌, ◌≤◌, List, ℕ, Some, length}
-use Rattle.agwpe_client.specs.CallRun.{CallPlan}
-use Rattle.tnc_call.specs.CallTrace.{CallTrace, ports_by}
-use Rattle.tnc_call.specs.HeldTalk.{HasBegun, IsRunning}
+use Rattle.tnc_call.proofs.Common.{◌≡◌, ◌≤◌, List, ℕ, Some, length, CallPlan, CallTrace, ports_by, HasBegun, IsRunning}
 use Rattle.tnc_call.proofs.calling.converse.Given as goal
 
 -- so many turns were made

@@ -1,4 +1,4 @@
-use Rattle.std.proofs.Common.{◌∙◌, arith}
+use Rattle.tnc_call.proofs.Common.{◌∙◌, arith}
 use Rattle.std.proofs.lemmas.Grind.{common_steps}
 use Rattle.tnc_forms.proofs.ReadingLemmas.{read_on}
 use Rattle.tnc_call.proofs.reading.read_text.Goals as goal

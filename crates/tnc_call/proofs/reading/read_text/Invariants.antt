@@ -1,6 +1,6 @@
-use Rattle.std.proofs.Common.{◌≡◌, ◌≤◌, ◌+◌, ◌-◌, List, ℕ, Some, vec_len}
+use Rattle.tnc_call.proofs.Common.{◌≡◌, ◌≤◌, ◌+◌, ◌-◌, List, ℕ, Some, text_limit}
+use Rattle.std.proofs.Common.{vec_len}
 use Rattle.tnc_forms.proofs.ReadingLemmas.{HasRead}
-use Rattle.tnc_call.specs.CallInput.{text_limit}
 use Rattle.tnc_call.proofs.reading.read_text.Given as goal
 
 -- the octets so far are the first of the input

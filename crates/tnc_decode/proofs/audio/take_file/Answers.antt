@@ -1,6 +1,4 @@
-use Rattle.std.proofs.Common.{Err, ap, sym, ◌∙◌}
-use Rattle.std.proofs.lemmas.Result.{err_from_is_err_and}
-use Rattle.tnc_decode.specs.declared.audio.Audio.TheVariants.{File}
+use Rattle.tnc_decode.proofs.Common.{Err, ap, sym, ◌∙◌, err_from_is_err_and, File}
 use Rattle.tnc_decode.proofs.AudioLemmas.{takes_none, takes_more, stops_within}
 use Rattle.tnc_decode.proofs.audio.take_file.Goals as goal
 

@@ -1,5 +1,5 @@
 -- The octets so far.
-use Rattle.tnc_decode.specs.declared.audio.Audio.TheVariants.{File}
+use Rattle.tnc_decode.proofs.Common.{File}
 use Rattle.tnc_decode.proofs.AudioLemmas.{TakesOn}
 use Rattle.tnc_decode.proofs.audio.take_file.Given as goal
 

@@ -1,5 +1,5 @@
 -- The octets so far.
-use Rattle.std.proofs.Common.{length}
+use Rattle.tnc_decode.proofs.Common.{length}
 use Rattle.tnc_decode.proofs.AudioLemmas.{PairsOn}
 use Rattle.tnc_decode.proofs.audio.take_pairs.Given as goal
 

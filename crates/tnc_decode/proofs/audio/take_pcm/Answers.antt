@@ -1,7 +1,6 @@
-use Rattle.std.proofs.Common.{◌≡◌, ℕ, ◌-◌, ◌≤◌, List, [], ◌∷◌, ◌++◌, length, take, drop, get_or, arith, length-drop}
-use Rattle.std.proofs.lemmas.Grind.{common_steps}
+use Rattle.tnc_decode.proofs.Common.{◌≡◌, ℕ, ◌-◌, ◌≤◌, List, [], ◌∷◌, ◌++◌, length, take, drop, get_or, arith}
+use Rattle.tnc_decode.proofs.Common.{length-drop, common_steps, sample_of}
 use Rattle.std.proofs.lemmas.List.{take_all}
-use Rattle.wav_file.specs.Samples.{sample_of}
 use Rattle.tnc_decode.proofs.AudioLemmas.{even_given, odd_given}
 use Rattle.tnc_decode.proofs.audio.take_pcm.Goals as goal
 

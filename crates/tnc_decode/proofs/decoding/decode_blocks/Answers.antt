@@ -1,8 +1,5 @@
-use Rattle.std.proofs.Common.{◌+◌, ◌<◌, ◌≤◌, true, Err, ap, sym, subst, refl, inl, ◌∙◌, arith, length}
-use Rattle.std.proofs.lemmas.Result.{err_from_is_err_and}
-use Rattle.std.proofs.lemmas.Grind.{common_steps}
-use Rattle.tnc_forms.specs.Reading.{input_limit}
-use Rattle.tnc_decode.specs.Ended.{IsEnded}
+use Rattle.tnc_decode.proofs.Common.{◌+◌, ◌<◌, ◌≤◌, true, Err, ap, sym, subst, refl, inl, ◌∙◌, arith, length}
+use Rattle.tnc_decode.proofs.Common.{err_from_is_err_and, common_steps, input_limit, IsEnded}
 use Rattle.tnc_decode.proofs.EndedLemmas.{ended_first, ended_read, ended_long, ended_piece, ended_ok, ended_end}
 use Rattle.tnc_decode.proofs.DecodingLemmas.{progress_none, progress_more, nothing_left}
 use Rattle.tnc_decode.proofs.decoding.decode_blocks.Goals as goal

@@ -1,7 +1,7 @@
 -- The octets read so far.
-use Rattle.std.proofs.Common.{◌≡◌, ◌≤◌, ◌+◌, ◌-◌, List, ℕ, Some, false}
-use Rattle.tnc_forms.specs.Reading.{input_limit}
-use Rattle.tnc_decode.specs.Held.{position_of, finished_of}
+use Rattle.tnc_decode.proofs.Common.{◌≡◌, ◌≤◌, ◌+◌, ◌-◌, List, ℕ, false, input_limit, position_of}
+use Rattle.std.proofs.Common.{Some}
+use Rattle.tnc_decode.specs.Held.{finished_of}
 use Rattle.tnc_decode.proofs.DecodingLemmas.{Progress}
 use Rattle.tnc_decode.proofs.decoding.decode_blocks.Given as goal
 

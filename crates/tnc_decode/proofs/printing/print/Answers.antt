@@ -1,5 +1,4 @@
-use Rattle.std.proofs.Common.{arith}
-use Rattle.std.proofs.lemmas.Grind.{common_steps}
+use Rattle.tnc_decode.proofs.Common.{arith, common_steps}
 use Rattle.tnc_decode.proofs.PrintingLemmas.{print_next, print_end}
 use Rattle.tnc_decode.proofs.printing.print.Goals as goal
 

@@ -1,7 +1,5 @@
 -- The frames so far.
-use Rattle.std.proofs.Common.{◌≡◌, ◌++◌, drop}
-use Rattle.frame_merge.specs.Merged.{candidate_frames}
-use Rattle.tnc_decode.specs.Printing.{print}
+use Rattle.tnc_decode.proofs.Common.{◌≡◌, ◌++◌, drop, candidate_frames, print}
 use Rattle.tnc_decode.proofs.printing.print.Given as goal
 
 abbrev pub invariant-loop-item : goal.invariant-loop-item

@@ -1,5 +1,4 @@
-use Rattle.std.proofs.Common.{length, sym, ap, ◌∙◌}
-use borrow.Author.Tests.{eqb-true}
+use Rattle.tnc_encode.proofs.Common.{length, sym, ap, ◌∙◌, eqb-true}
 use Rattle.tnc_encode.proofs.CountingLemmas.{joined_samples, none_joined_samples, some_of}
 use Rattle.tnc_encode.proofs.counting.count_joined.Goals as goal
 

@@ -1,6 +1,4 @@
-use Rattle.std.proofs.Common.{◌≡◌, ◌<◌, ◌^◌, [], ◌∷◌, length, sym, ap, ◌∙◌, arith}
-use Rattle.tnc_encode.specs.Encoded.{samples_at_once}
-use Rattle.std.proofs.lemmas.List.{take_all}
+use Rattle.tnc_encode.proofs.Common.{◌≡◌, ◌<◌, ◌^◌, [], ◌∷◌, length, sym, ap, ◌∙◌, arith, samples_at_once, take_all}
 use Rattle.tnc_encode.proofs.CountingLemmas.{own_samples, own_samples-none, own_samples-more, own_samples-all}
 use Rattle.tnc_encode.proofs.counting.count_samples.Goals as goal
 

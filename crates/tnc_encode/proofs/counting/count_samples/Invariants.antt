@@ -1,5 +1,6 @@
 -- The frames so far.
-use Rattle.std.proofs.Common.{◌≡◌, ◌≤◌, ◌*◌, ◌^◌, length, take}
+use Rattle.tnc_encode.proofs.Common.{◌≡◌, ◌≤◌, ◌^◌, length, take}
+use Rattle.std.proofs.Common.{◌*◌}
 use Rattle.tnc_encode.proofs.CountingLemmas.{own_samples}
 use Rattle.tnc_encode.proofs.counting.count_samples.Given as goal
 

@@ -1,10 +1,7 @@
-use Rattle.std.proofs.Common.{◌≡◌, ◌++◌, take, Err, Some, inl, append-nil, sym, ap, ◌∙◌}
-use Rattle.tnc_forms.specs.declared.fault.Fault.TheVariants.{Input}
-use Rattle.tnc_forms.specs.declared.fault.InputFault.TheVariants.{TooLong}
-use Rattle.tnc_forms.specs.Reading.{input_limit}
+use Rattle.tnc_encode.proofs.Common.{◌≡◌, ◌++◌, take, Err, Some, inl, sym, ap, ◌∙◌, Input, TooLong, input_limit}
+use Rattle.std.proofs.Common.{append-nil}
 use Rattle.tnc_encode.proofs.EndedLemmas.{fault_kept, so_far_kept, to_before, to_cut, to_encoded, to_many, to_most}
-use Rattle.tnc_encode.proofs.EndedLemmas.{to_part}
-use Rattle.tnc_encode.proofs.EndedLemmas.{to_so_far, whole_too_long}
+use Rattle.tnc_encode.proofs.EndedLemmas.{to_part, to_so_far, whole_too_long}
 use Rattle.tnc_encode.proofs.encoding.encode.Goals as goal
 
 -- ---- an input that is read to its end first

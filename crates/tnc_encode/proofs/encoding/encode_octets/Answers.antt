@@ -1,8 +1,7 @@
-use Rattle.std.proofs.Common.{◌≡◌, ◌++◌, Some, length, append-nil, sym, ap, ◌∙◌, rules}
-use Rattle.tnc_forms.proofs.Ends.{map_ok, on_err}
+use Rattle.tnc_encode.proofs.Common.{◌≡◌, ◌++◌, Some, length, sym, ap, ◌∙◌, rules, map_ok, on_err, encoded_before}
+use Rattle.tnc_encode.proofs.Common.{length_fault, samples_sent, signal_of, written_as, written_before, form_fault}
+use Rattle.std.proofs.Common.{append-nil}
 use Rattle.tnc_forms.proofs.WrittenParts.{wrote_all}
-use Rattle.tnc_encode.specs.Encoded.{encoded_before, length_fault, samples_sent, signal_of, written_as, written_before}
-use Rattle.tnc_encode.specs.Frames.{form_fault}
 use Rattle.tnc_encode.proofs.EncodedLemmas.{form_not_long, fault_of_length, fault_of_form, encoded_is}
 use Rattle.tnc_encode.proofs.EncodedLemmas.{encoded_before_is, no_file_before, part_before}
 use Rattle.tnc_encode.proofs.WritingLemmas.{writes_same}

@@ -1,6 +1,4 @@
-use Rattle.std.proofs.Common.{Err, sym, subst, ap, ◌∙◌}
-use Rattle.std.proofs.lemmas.Result.{err_from_is_err_and}
-use Rattle.tnc_encode.specs.Writing.{EncodesWhole}
+use Rattle.tnc_encode.proofs.Common.{Err, sym, subst, ap, ◌∙◌, err_from_is_err_and, EncodesWhole}
 use Rattle.tnc_encode.proofs.EndedLemmas.{whole_unread}
 use Rattle.tnc_encode.proofs.encoding.encode_whole.Goals as goal
 

@@ -1,11 +1,6 @@
-use Rattle.std.proofs.Common.{◌++◌, ◌∷◌, [], ℕ, List, Option, Some, length, take, refl, sym, subst, ap, ◌∙◌}
-use Rattle.std.proofs.Common.{append_assoc, arith, rules}
-use borrow.Author.Tests.{eqb-true}
-use Rattle.std.proofs.lemmas.List.{append-nil, take_all}
-use Rattle.tnc_base.specs.Streams.{WrotePart}
-use Rattle.tnc_encode.specs.Encoded.{samples_at_once}
-use Rattle.tnc_forms.specs.Pcm.{pcm}
-use Rattle.tnc_forms.proofs.Ends.{on_err}
+use Rattle.tnc_encode.proofs.Common.{◌++◌, ◌∷◌, [], ℕ, List, Option, Some, length, take, refl, sym, subst, ap, ◌∙◌}
+use Rattle.tnc_encode.proofs.Common.{append_assoc, arith, rules, eqb-true, append-nil, take_all, WrotePart}
+use Rattle.tnc_encode.proofs.Common.{samples_at_once, pcm, on_err}
 use Rattle.tnc_encode.proofs.SendingLemmas.{none_joined, joined_sent, own_octets, own_octets-none, own_octets-more}
 use Rattle.tnc_encode.proofs.SendingLemmas.{own_octets-all, cut_within}
 use Rattle.tnc_encode.proofs.CountingLemmas.{some_of}

@@ -1,5 +1,5 @@
 -- The frames so far have been sent, each on its own.
-use Rattle.std.proofs.Common.{◌≡◌, ◌++◌, ℕ, List, Some, take}
+use Rattle.tnc_encode.proofs.Common.{◌≡◌, ◌++◌, ℕ, List, Some, take}
 use Rattle.tnc_encode.proofs.SendingLemmas.{own_octets}
 use Rattle.tnc_encode.proofs.encoding.send_all.Given as goal
 

@@ -1,5 +1,4 @@
-use Rattle.std.proofs.Common.{sym, ap}
-use Rattle.tnc_encode.specs.Encoded.{signal_of, written_as}
+use Rattle.tnc_encode.proofs.Common.{sym, ap, signal_of, written_as}
 use Rattle.tnc_encode.proofs.WritingLemmas.{writes_same}
 use Rattle.tnc_encode.proofs.encoding.send_as_told.Goals as goal
 

@@ -1,9 +1,6 @@
-use Rattle.std.proofs.Common.{◌≡◌, ◌++◌, List, ℕ, Some, length, ap, subst, ◌∙◌, rules}
-use Rattle.tnc_base.specs.Streams.{WrotePart}
+use Rattle.tnc_encode.proofs.Common.{◌≡◌, ◌++◌, List, ℕ, Some, length, ap, subst, ◌∙◌, rules, WrotePart, pcm}
+use Rattle.tnc_encode.proofs.Common.{wrote_front, signal_of}
 use Rattle.wav_file.specs.Head.{head_of}
-use Rattle.tnc_forms.specs.Pcm.{pcm}
-use Rattle.tnc_forms.proofs.WrittenParts.{wrote_front}
-use Rattle.tnc_encode.specs.Encoded.{signal_of}
 use Rattle.tnc_encode.proofs.WritingLemmas.{writes_behind}
 use Rattle.tnc_encode.proofs.encoding.send_wav.Goals as goal
 

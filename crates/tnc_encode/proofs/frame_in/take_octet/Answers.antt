@@ -1,7 +1,5 @@
-use Rattle.std.proofs.Common.{◌<◌, ◌++◌, length, sym, ap, ◌∙◌, arith, get_or}
-use Rattle.std.specs.Option.{option_to_list}
-use Rattle.std.proofs.lemmas.List.{take_more}
-use Rattle.tnc_encode.specs.Frames.{kiss_frames}
+use Rattle.tnc_encode.proofs.Common.{◌<◌, ◌++◌, length, sym, ap, ◌∙◌, arith, get_or, option_to_list, take_more}
+use Rattle.tnc_encode.proofs.Common.{kiss_frames}
 use Rattle.tnc_encode.proofs.FrameLemmas.{kiss_frames-push}
 use Rattle.tnc_encode.proofs.frame_in.take_octet.Goals as goal
 

@@ -1,7 +1,4 @@
-use Rattle.std.proofs.Common.{IfSome, sym, subst, ap, ◌∙◌}
-use Rattle.std.specs.List.{filter_map}
-use Rattle.std.specs.Option.{option_to_list}
-use Rattle.tnc_encode.specs.Frames.{frame_of}
+use Rattle.tnc_encode.proofs.Common.{IfSome, sym, subst, ap, ◌∙◌, filter_map, option_to_list, frame_of}
 use Rattle.tnc_encode.proofs.FrameLemmas.{IsSendable, frame_of_one, item_sendable}
 use Rattle.tnc_encode.proofs.frames.frame_of_item.Goals as goal
 

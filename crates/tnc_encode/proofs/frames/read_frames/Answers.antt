@@ -1,5 +1,4 @@
-use Rattle.std.proofs.Common.{All, sym, subst}
-use Rattle.tnc_words.specs.declared.command.FrameForm.TheVariants.{Hex, Kiss}
+use Rattle.tnc_encode.proofs.Common.{All, sym, subst, Hex, Kiss}
 use Rattle.tnc_encode.proofs.FrameLemmas.{IsSendable, frames_of_input-sendable}
 use Rattle.tnc_encode.proofs.frames.read_frames.Goals as goal
 

@@ -1,7 +1,4 @@
-use Rattle.std.proofs.Common.{take, sym, subst, ◌∙◌}
-use Rattle.std.specs.Option.{option_to_list}
-use Rattle.std.proofs.lemmas.List.{take_more}
-use Rattle.kiss_port.specs.Held.{StandsFor}
+use Rattle.tnc_encode.proofs.Common.{take, sym, subst, ◌∙◌, option_to_list, take_more, StandsFor}
 use Rattle.tnc_encode.proofs.FrameLemmas.{kiss_frames-none, kiss_frames-more}
 use Rattle.tnc_encode.proofs.frames.read_kiss_frames.Goals as goal
 

@@ -1,7 +1,5 @@
 -- The octets so far.
-use Rattle.std.proofs.Common.{◌≡◌, take}
-use Rattle.kiss_port.specs.Held.{StandsFor}
-use Rattle.tnc_encode.specs.Frames.{kiss_frames}
+use Rattle.tnc_encode.proofs.Common.{◌≡◌, take, StandsFor, kiss_frames}
 use Rattle.tnc_encode.proofs.frames.read_kiss_frames.Given as goal
 
 abbrev pub invariant-loop-octet : goal.invariant-loop-octet

@@ -1,9 +1,7 @@
-use Rattle.std.proofs.Common.{◌≡◌, ◌+◌, ◌++◌, length, take, Err, length-take-le, refl, sym, subst, ap, ◌∙◌, arith}
-use Rattle.std.proofs.lemmas.Result.{err_from_is_err_and}
-use Rattle.tnc_forms.specs.Streaming.{IsEnded}
-use Rattle.tnc_forms.proofs.StreamingLemmas.{Progress, ended_finish, ended_piece, ended_reading, progress_more}
-use Rattle.tnc_forms.proofs.StreamingLemmas.{progress_none}
-use Rattle.tnc_encode.specs.HeldFrames.{HasTaken, IsSignal, form_of}
+use Rattle.tnc_encode.proofs.Common.{◌≡◌, ◌+◌, ◌++◌, length, take, Err, refl, sym, subst, ap, ◌∙◌, arith}
+use Rattle.tnc_encode.proofs.Common.{err_from_is_err_and, IsEnded, Progress, HasTaken, IsSignal, form_of}
+use Rattle.std.proofs.Common.{length-take-le}
+use Rattle.tnc_forms.proofs.StreamingLemmas.{ended_finish, ended_piece, ended_reading, progress_more, progress_none}
 use Rattle.tnc_encode.proofs.FormLemmas.{forms_stay, signals_join}
 use Rattle.tnc_encode.proofs.PieceLemmas.{taken_good}
 use Rattle.tnc_encode.proofs.pieces.encode_pieces.Goals as goal

@@ -1,8 +1,6 @@
 -- The octets read so far.
-use Rattle.std.proofs.Common.{◌≡◌, ◌≤◌, ◌-◌, List, ℕ, Some}
-use Rattle.tnc_forms.specs.Reading.{input_limit}
-use Rattle.tnc_forms.proofs.StreamingLemmas.{Progress}
-use Rattle.tnc_encode.specs.HeldFrames.{HasTaken, IsReader, IsSignal, form_of, position}
+use Rattle.tnc_encode.proofs.Common.{◌≡◌, ◌≤◌, ◌-◌, List, ℕ, Some, input_limit, Progress, HasTaken, IsReader, IsSignal}
+use Rattle.tnc_encode.proofs.Common.{form_of, position}
 use Rattle.tnc_encode.proofs.pieces.encode_pieces.Given as goal
 
 abbrev pub invariant-reading : goal.invariant-reading

@@ -1,9 +1,6 @@
-use Rattle.std.proofs.Common.{◌≡◌, ◌≤◌, ◌+◌, ◌-◌, List, ℕ, length, drop, length-drop, Err, sym, subst, ap, ◌∙◌, arith}
-use Rattle.std.proofs.Common.{refl}
-use Rattle.std.proofs.lemmas.List.{take_all}
-use Rattle.std.proofs.lemmas.Result.{err_from_is_err_and}
-use Rattle.tnc_forms.specs.Streaming.{IsTaken}
-use Rattle.tnc_encode.specs.HeldFrames.{IsSignal, SentFront, form_of, position}
+use Rattle.tnc_encode.proofs.Common.{◌≡◌, ◌≤◌, ◌+◌, ◌-◌, List, ℕ, length, drop, Err, sym, subst, ap, ◌∙◌, arith, refl}
+use Rattle.tnc_encode.proofs.Common.{take_all, err_from_is_err_and, IsTaken, IsSignal, SentFront, form_of, position}
+use Rattle.std.proofs.Common.{length-drop}
 use Rattle.tnc_encode.proofs.PieceLemmas.{sent_more, sent_none, stopped, unsent}
 use Rattle.tnc_encode.proofs.pieces.send_piece.Goals as goal
 

@@ -1,6 +1,5 @@
 -- The octets of the piece so far.
-use Rattle.std.proofs.Common.{◌≡◌, ◌≤◌, ◌+◌, length}
-use Rattle.tnc_encode.specs.HeldFrames.{IsReader, SentFront, position}
+use Rattle.tnc_encode.proofs.Common.{◌≡◌, ◌≤◌, ◌+◌, length, IsReader, SentFront, position}
 use Rattle.tnc_encode.proofs.pieces.send_piece.Given as goal
 
 abbrev pub invariant-sending : goal.invariant-sending

@@ -1,6 +1,5 @@
-use Rattle.std.proofs.Common.{◌≡◌, ◌++◌, pos, replicate, Err, [], sym, ap, ◌∙◌, rules}
-use Rattle.tnc_encode.specs.Encoded.{sent_at_once}
-use Rattle.tnc_encode.specs.Sending.{transmission_by}
+use Rattle.tnc_encode.proofs.Common.{◌≡◌, ◌++◌, pos, replicate, Err, [], sym, ap, ◌∙◌, rules, sent_at_once}
+use Rattle.tnc_encode.proofs.Common.{transmission_by}
 use Rattle.tnc_encode.proofs.ModemLemmas.{samples_by-is}
 use Rattle.tnc_encode.proofs.sending.samples_at_once.Goals as goal
 

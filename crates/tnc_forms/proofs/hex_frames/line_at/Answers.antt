@@ -1,8 +1,6 @@
-use Rattle.std.proofs.Common.{◌≡◌, ◌+◌, ◌-◌, ◌∷◌, [], length, take, drop, sym, ap, ◌∙◌, arith, length-drop}
-use Rattle.std.specs.List.{position}
-use Rattle.std.specs.Str.Lines.{strip_carriage_return}
-use Rattle.std.proofs.lemmas.List.{take_all}
-use Rattle.tnc_forms.specs.HexLines.{is_line_feed, lines_at}
+use Rattle.tnc_forms.proofs.Common.{◌≡◌, ◌+◌, ◌-◌, ◌∷◌, [], length, take, drop, sym, ap, ◌∙◌, arith, position}
+use Rattle.tnc_forms.proofs.Common.{strip_carriage_return, take_all, is_line_feed, lines_at}
+use Rattle.std.proofs.Common.{length-drop}
 use Rattle.tnc_forms.proofs.LineLemmas.{line_before, line_at_end}
 use Rattle.tnc_forms.proofs.hex_frames.line_at.Goals as goal
 

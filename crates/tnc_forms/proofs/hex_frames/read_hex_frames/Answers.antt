@@ -1,4 +1,4 @@
-use Rattle.std.proofs.Common.{sym, subst, ◌∙◌, arith}
+use Rattle.tnc_forms.proofs.Common.{sym, subst, ◌∙◌, arith}
 use Rattle.tnc_forms.proofs.HexFrameLemmas.{HasReadLines, has_read_none, read_nothing, read_frame, read_bad}
 use Rattle.tnc_forms.proofs.hex_frames.read_hex_frames.Goals as goal
 

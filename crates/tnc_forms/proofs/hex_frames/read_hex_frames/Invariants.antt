@@ -1,5 +1,5 @@
 -- The lines so far.
-use Rattle.std.proofs.Common.{◌+◌, ◌-◌, length}
+use Rattle.tnc_forms.proofs.Common.{◌+◌, ◌-◌, length}
 use Rattle.std.specs.Option.{option_map_or}
 use Rattle.tnc_forms.proofs.HexFrameLemmas.{HasReadLines}
 use Rattle.tnc_forms.proofs.hex_frames.read_hex_frames.Given as goal

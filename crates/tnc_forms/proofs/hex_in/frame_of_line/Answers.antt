@@ -1,6 +1,4 @@
-use Rattle.std.proofs.Common.{◌≡◌, ◌≤◌, length, sym, subst, ◌∙◌, arith}
-use Rattle.tnc_forms.specs.declared.hex_line.LineText.TheVariants.{Frame, Refused}
-use Rattle.tnc_forms.specs.HexFrames.{text_of}
+use Rattle.tnc_forms.proofs.Common.{◌≡◌, ◌≤◌, length, sym, subst, ◌∙◌, arith, Frame, Refused, text_of}
 use Rattle.tnc_forms.proofs.LineTextLemmas.{IsWithin, text_of-within}
 use Rattle.tnc_forms.proofs.hex_in.frame_of_line.Goals as goal
 

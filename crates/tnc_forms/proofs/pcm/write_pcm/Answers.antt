@@ -1,6 +1,5 @@
-use Rattle.std.proofs.Common.{pos, get_or, SFits, rules}
-use mir.Syntax.{w16}
-use Rattle.tnc_forms.specs.Pcm.{pcm}
+use Rattle.tnc_forms.proofs.Common.{pos, get_or, w16, pcm}
+use Rattle.std.proofs.Common.{SFits, rules}
 use Rattle.tnc_forms.proofs.PcmLemmas.{pcm_more}
 use Rattle.tnc_forms.proofs.pcm.write_pcm.Goals as goal
 

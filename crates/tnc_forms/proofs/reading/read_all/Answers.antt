@@ -1,5 +1,5 @@
-use Rattle.std.proofs.Common.{◌≡◌, ◌<◌, Some, drop, length, ◌∙◌, ap, sym, arith, ◌+◌, ◌^◌}
-use Rattle.std.proofs.lemmas.Grind.{common_steps}
+use Rattle.tnc_forms.proofs.Common.{◌≡◌, ◌<◌, Some, drop, length, ◌∙◌, ap, sym, arith, ◌+◌, common_steps}
+use Rattle.std.proofs.Common.{◌^◌}
 use Rattle.tnc_forms.proofs.Lists.{drop-parts}
 use Rattle.tnc_forms.proofs.ReadingLemmas.{read_on}
 use Rattle.tnc_forms.proofs.reading.read_all.Goals as goal

@@ -1,5 +1,5 @@
-use Rattle.std.proofs.Common.{◌≡◌, ◌≤◌, ◌+◌, ◌-◌, List, ℕ, Some, vec_len}
-use Rattle.tnc_forms.specs.Reading.{input_limit}
+use Rattle.tnc_forms.proofs.Common.{◌≡◌, ◌≤◌, ◌+◌, ◌-◌, List, ℕ, Some, input_limit}
+use Rattle.std.proofs.Common.{vec_len}
 use Rattle.tnc_forms.proofs.ReadingLemmas.{HasRead}
 use Rattle.tnc_forms.proofs.reading.read_all.Given as goal
 

@@ -1,6 +1,5 @@
-use Rattle.std.proofs.Common.{◌≡◌, ◌<◌, ◌++◌, Some, drop, length, sym, ap, ◌∙◌, arith}
-use Rattle.std.proofs.lemmas.List.{take-append-drop, take-append-le}
-use Rattle.std.proofs.lemmas.Grind.{common_steps}
+use Rattle.tnc_forms.proofs.Common.{◌≡◌, ◌<◌, ◌++◌, Some, drop, length, sym, ap, ◌∙◌, arith, take-append-drop}
+use Rattle.tnc_forms.proofs.Common.{take-append-le, common_steps}
 use Rattle.tnc_forms.proofs.reading.read_piece.Goals as goal
 
 pub returns-in-Ok-clause-too_long : goal.returns-in-Ok-clause-too_long

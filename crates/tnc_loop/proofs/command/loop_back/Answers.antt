@@ -1,9 +1,6 @@
-use Rattle.std.proofs.Common.{◌≡◌, ◌++◌, List, ℕ, Some, string_bytes, subst, ap, ◌∙◌}
-use Rattle.tnc_base.specs.Streams.{WrotePart}
-use Rattle.clean_signal.specs.Stray.{NoStray}
+use Rattle.tnc_loop.proofs.Common.{◌≡◌, ◌++◌, List, ℕ, Some, string_bytes, subst, ap, ◌∙◌, WrotePart, NoStray, drawn}
+use Rattle.tnc_loop.proofs.Common.{samples_drawn, HasFound}
 use Rattle.tnc_loop.proofs.HeardLemmas.{drawn_law}
-use Rattle.tnc_loop.specs.Drawn.{drawn, samples_drawn}
-use Rattle.tnc_loop.specs.Held.{HasFound}
 use Rattle.tnc_loop.proofs.SummaryLemmas.{one_summary, clean_text, wrote_all}
 use Rattle.tnc_loop.proofs.command.loop_back.Goals as goal
 

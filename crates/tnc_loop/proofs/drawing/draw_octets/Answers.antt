@@ -1,4 +1,4 @@
-use Rattle.std.proofs.Common.{rules, length, ap, ◌∙◌}
+use Rattle.tnc_loop.proofs.Common.{rules, length, ap, ◌∙◌}
 use Rattle.tnc_loop.proofs.DrawingLemmas.{octet_of, has_drawn_none, has_drawn_more, has_drawn_all}
 use Rattle.tnc_loop.proofs.drawing.draw_octets.Goals as goal
 

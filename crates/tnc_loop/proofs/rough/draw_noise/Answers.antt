@@ -1,9 +1,7 @@
-use Rattle.std.proofs.Common.{FitsSigned, ap, ◌++◌, ◌∷◌, [], ◌∙◌, rules}
+use Rattle.tnc_loop.proofs.Common.{ap, ◌++◌, ◌∷◌, [], ◌∙◌, rules, pcg32, word_at, noise_of}
+use Rattle.std.proofs.Common.{FitsSigned}
 use Rattle.std.proofs.lemmas.Int.{to_z-of_z}
 use mir.Syntax.{w16}
-use Rattle.rand_pcg.specs.Pcg.{pcg32}
-use Rattle.tnc_loop.specs.Words.{word_at}
-use Rattle.tnc_loop.specs.Rough.{noise_of}
 use Rattle.tnc_loop.proofs.DrawingLemmas.{has_drawn_more}
 use Rattle.tnc_loop.proofs.rough.draw_noise.Goals as goal
 

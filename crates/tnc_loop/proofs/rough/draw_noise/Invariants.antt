@@ -1,4 +1,4 @@
-use Rattle.tnc_loop.specs.Rough.{noise_of}
+use Rattle.tnc_loop.proofs.Common.{noise_of}
 use Rattle.tnc_loop.proofs.DrawingLemmas.{HasDrawn}
 use Rattle.tnc_loop.proofs.rough.draw_noise.Given as goal
 

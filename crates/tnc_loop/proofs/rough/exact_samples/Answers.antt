@@ -1,4 +1,5 @@
-use Rattle.std.proofs.Common.{◌≤◌, ℤ, List, All, Err, unsigned_abs, ap, sym, subst, ◌∙◌}
+use Rattle.tnc_loop.proofs.Common.{◌≤◌, ℤ, List, Err, unsigned_abs, ap, sym, subst, ◌∙◌}
+use Rattle.std.proofs.Common.{All}
 use Rattle.afsk_modulator.proofs.LoudnessLemmas.{within-transmission_at}
 use Rattle.tnc_loop.proofs.SendingLemmas.{no_bad_length}
 use Rattle.tnc_loop.proofs.rough.exact_samples.Goals as goal

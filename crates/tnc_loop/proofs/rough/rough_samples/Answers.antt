@@ -1,5 +1,4 @@
-use Rattle.std.proofs.Common.{◌++◌, ap, ◌∙◌}
-use Rattle.tnc_loop.specs.Held.{drawn_as}
+use Rattle.tnc_loop.proofs.Common.{◌++◌, ap, ◌∙◌, drawn_as}
 use Rattle.tnc_loop.proofs.RoughLemmas.{rough_is, behind_rough_is}
 use Rattle.tnc_loop.proofs.rough.rough_samples.Goals as goal
 

@@ -1,6 +1,5 @@
-use Rattle.std.proofs.Common.{◌<◌, ◌≤◌, ◌++◌, ◌∷◌, [], ℤ, pos, length, get_or, unsigned_abs, refl, ap, ◌∙◌, rules}
-use Rattle.std.proofs.Common.{arith}
-use Rattle.std.proofs.lemmas.Int.{ints}
+use Rattle.tnc_loop.proofs.Common.{◌<◌, ◌≤◌, ◌++◌, ◌∷◌, [], ℤ, pos, length, get_or, unsigned_abs, refl, ap, ◌∙◌, rules}
+use Rattle.tnc_loop.proofs.Common.{arith, ints}
 use Rattle.tnc_loop.proofs.RoughLemmas.{errors_none, errors_more, errors_all}
 use Rattle.tnc_loop.proofs.rough.with_errors.Goals as goal
 

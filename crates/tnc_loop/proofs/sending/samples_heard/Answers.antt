@@ -1,6 +1,5 @@
-use Rattle.std.proofs.Common.{◌≡◌, List, ℤ, IfOk, OnOk, subst, rules}
-use Rattle.rand_pcg.specs.Lcg.{Lcg}
-use Rattle.tnc_loop.specs.Held.{drawn_as}
+use Rattle.tnc_loop.proofs.Common.{◌≡◌, List, ℤ, subst, rules, Lcg, drawn_as}
+use Rattle.std.proofs.Common.{IfOk, OnOk}
 use Rattle.tnc_loop.proofs.HeardLemmas.{samples-rough, samples-clean, behind-rough, behind-clean}
 use Rattle.tnc_loop.proofs.sending.samples_heard.Goals as goal
 

@@ -1,4 +1,4 @@
-use Rattle.std.proofs.Common.{Err, ap, ◌∙◌}
+use Rattle.tnc_loop.proofs.Common.{Err, ap, ◌∙◌}
 use Rattle.tnc_loop.proofs.SendingLemmas.{no_bad_length}
 use Rattle.tnc_loop.proofs.sending.samples_of.Goals as goal
 

@@ -1,4 +1,4 @@
-use Rattle.std.proofs.Common.{rules, ◌≡◌, length, arith}
+use Rattle.tnc_loop.proofs.Common.{rules, ◌≡◌, length, arith}
 use Rattle.tnc_loop.proofs.SendingLemmas.{flags_fit, sent_more}
 use Rattle.tnc_loop.proofs.sending.send.Goals as goal
 

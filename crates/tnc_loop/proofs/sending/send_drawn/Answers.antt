@@ -1,7 +1,5 @@
-use Rattle.std.proofs.Common.{◌≡◌, length, ap, ◌∙◌, rules}
+use Rattle.tnc_loop.proofs.Common.{◌≡◌, length, ap, ◌∙◌, rules, heard_of, drawn_as}
 use Rattle.tnc_loop.proofs.HeardLemmas.{length-heard}
-use Rattle.tnc_loop.specs.Drawn.{heard_of}
-use Rattle.tnc_loop.specs.Held.{drawn_as}
 use Rattle.tnc_loop.proofs.SendingLemmas.{sent_none, sent_next, sent_all, sent_fits}
 use Rattle.tnc_loop.proofs.sending.send_drawn.Goals as goal
 

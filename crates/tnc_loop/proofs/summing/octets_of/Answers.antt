@@ -1,4 +1,4 @@
-use Rattle.std.proofs.Common.{arith}
+use Rattle.tnc_loop.proofs.Common.{arith}
 use Rattle.std.proofs.lemmas.Grind.{common_steps}
 use Rattle.tnc_loop.proofs.SummaryLemmas.{octets_next, octets_end}
 use Rattle.tnc_loop.proofs.summing.octets_of.Goals as goal

@@ -1,6 +1,5 @@
 -- The octets so far.
-use Rattle.std.proofs.Common.{◌≡◌, ◌++◌, drop}
-use Rattle.std.specs.List.{concat}
+use Rattle.tnc_loop.proofs.Common.{◌≡◌, ◌++◌, drop, concat}
 use Rattle.frame_merge.specs.Merged.{candidate_frames}
 use Rattle.tnc_loop.proofs.summing.octets_of.Given as goal
 

@@ -1,7 +1,5 @@
-use Rattle.std.proofs.Common.{length, ap, ◌∙◌, string_bytes}
-use Rattle.slicer_bank.specs.Candidates.{AreCandidates}
-use Rattle.tnc_loop.specs.Drawn.{drawn, received_drawn, samples_drawn}
-use Rattle.tnc_loop.specs.Strays.{strays, first_stray}
+use Rattle.tnc_loop.proofs.Common.{length, ap, ◌∙◌, string_bytes, AreCandidates, drawn, received_drawn, samples_drawn}
+use Rattle.tnc_loop.proofs.Common.{strays, first_stray}
 use Rattle.tnc_loop.proofs.ToldLemmas.{are_of, has_found, is_summary}
 use Rattle.tnc_loop.proofs.telling.tell_drawn.Goals as goal
 

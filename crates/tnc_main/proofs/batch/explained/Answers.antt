@@ -1,9 +1,8 @@
-use Rattle.std.proofs.Common.{◌≡◌, ◌++◌, Some, IfErr, inl, inr, sym, subst, ap, ◌∙◌}
+use Rattle.tnc_main.proofs.Common.{◌≡◌, ◌++◌, Some, IfErr, inl, inr, sym, subst, ap, ◌∙◌, Stop, line_of, stray_line}
+use Rattle.tnc_main.proofs.Common.{BadInput, WriteFault}
 use Rattle.std.specs.Prelude.{Result}
-use Rattle.tnc_main.specs.declared.stop.Stop.{Stop}
-use Rattle.tnc_main.specs.Report.{line_of, stray_line}
-use Rattle.tnc_main.specs.declared.status.Status.TheVariants.{BadInput, WriteFault, Stray as HeardStray}
-use Rattle.tnc_main.specs.declared.status.Status.TheVariants.{NotQuiet as FoundNoQuiet, Spent as WasSpent}
+use Rattle.tnc_main.specs.declared.status.Status.TheVariants.{Stray as HeardStray, NotQuiet as FoundNoQuiet}
+use Rattle.tnc_main.specs.declared.status.Status.TheVariants.{Spent as WasSpent}
 use Rattle.tnc_main.proofs.batch.explained.Goals as goal
 
 pub returns-in-Ok-of_stray-clause-told : goal.returns-in-Ok-of_stray-clause-told

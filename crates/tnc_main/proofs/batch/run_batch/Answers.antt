@@ -1,20 +1,11 @@
-use Rattle.std.proofs.Common.{rules, ◌≡◌, ◌≤◌, [], ◌++◌, Some, None, Err, IfErr, map, string_bytes, append-nil, inl, inr}
-use Rattle.std.proofs.Common.{refl, sym, subst, ap, ◌∙◌, arith, true≢false}
-use Rattle.std.specs.Prelude.{is_some}
-use Rattle.tnc_words.specs.declared.command.Command.TheVariants.{Bench, Decode, Loop}
-use Rattle.tnc_words.specs.Commands.{Asks}
-use Rattle.tnc_words.proofs.OneCommand.{one_command}
-use Rattle.tnc_forms.specs.declared.fault.InputFault.TheVariants.{TooLong}
+use Rattle.tnc_main.proofs.Common.{◌≡◌, ◌≤◌, [], ◌++◌, Some, None, Err, IfErr, map, string_bytes, append-nil, inl, inr}
+use Rattle.tnc_main.proofs.Common.{refl, sym, subst, ap, ◌∙◌, arith, true≢false, is_some, Bench, Decode, Loop, Asks}
+use Rattle.tnc_main.proofs.Common.{one_command, TooLong, IsReportOf, Done, WriteFault, Input, IsFaultless, Makes, Reads}
+use Rattle.tnc_main.proofs.Common.{ReadsNothing, fault_of, command_of, WritesAtEnd, IsCaused, Leaves, Tells, Writes}
+use Rattle.tnc_main.proofs.Common.{code_of, CanRun, IsStopOfRun, status_of}
+use Rattle.std.proofs.Common.{rules}
 use Rattle.tnc_forms.proofs.Ends.{at_ok}
-use Rattle.tnc_bench.specs.Reported.{IsReportOf}
-use Rattle.tnc_main.specs.declared.status.Status.TheVariants.{Done, Memory as NoMemory, WriteFault}
-use Rattle.tnc_main.specs.declared.stop.Stop.TheVariants.{Input}
-use Rattle.tnc_main.specs.Commands.{IsFaultless, Makes, Reads, ReadsNothing, fault_of}
-use Rattle.tnc_main.specs.LiveCommands.{command_of}
-use Rattle.tnc_main.specs.Parts.{WritesAtEnd}
-use Rattle.tnc_main.specs.Runs.{IsCaused, Leaves, Tells, Writes}
-use Rattle.tnc_main.specs.Status.{code_of}
-use Rattle.tnc_main.specs.Stops.{CanRun, IsStopOfRun, status_of}
+use Rattle.tnc_main.specs.declared.status.Status.TheVariants.{Memory as NoMemory}
 use Rattle.tnc_main.proofs.Statuses.{at_bad_input, at_done, at_not_quiet, at_read_fault, at_spent, at_stray, one_status}
 use Rattle.tnc_main.proofs.Statuses.{status_done, up_to_eight}
 use Rattle.tnc_main.proofs.CommandLemmas.{last as last_of}

@@ -1,4 +1,4 @@
-use Rattle.std.proofs.Common.{◌≡◌, inl, inr}
+use Rattle.tnc_main.proofs.Common.{◌≡◌, inl, inr}
 use Rattle.tnc_main.proofs.CallingLemmas as told
 use Rattle.tnc_main.proofs.calling.call.Goals as goal
 

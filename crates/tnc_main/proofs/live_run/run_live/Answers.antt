@@ -1,15 +1,10 @@
-use Rattle.std.proofs.Common.{◌≡◌, ℕ, sym, subst, ap, ◌∙◌}
+use Rattle.tnc_main.proofs.Common.{◌≡◌, ℕ, sym, subst, ap, ◌∙◌, ServeWords, CanRunLive, words_of, CallWords}
 use Rattle.link_machine.specs.Params.{IsRefusedWindow}
-use Rattle.tnc_ports.specs.declared.serve_words.ServeWords.{ServeWords}
-use Rattle.tnc_main.specs.declared.live_command.LiveCommand.TheVariants.{Serve as LiveServe}
-use Rattle.tnc_main.specs.LiveCommands.{CanRunLive}
-use Rattle.tnc_main.specs.Serving.{words_of}
+use Rattle.tnc_main.specs.declared.live_command.LiveCommand.TheVariants.{Serve as LiveServe, Call as LiveCall}
+use Rattle.tnc_main.specs.declared.live_command.LiveCommand.TheVariants.{Record as LiveRecord}
 use Rattle.tnc_main.proofs.LiveRuns.{served_as}
-use Rattle.tnc_call.specs.declared.call_words.CallWords.{CallWords}
-use Rattle.tnc_main.specs.declared.live_command.LiveCommand.TheVariants.{Call as LiveCall}
 use Rattle.tnc_main.specs.Calling.{words_of as call_words_of}
 use Rattle.tnc_main.proofs.CallingLemmas.{called_as}
-use Rattle.tnc_main.specs.declared.live_command.LiveCommand.TheVariants.{Record as LiveRecord}
 use Rattle.tnc_main.specs.RecordRuns.{words_of as record_words_of}
 use Rattle.tnc_main.proofs.RecordingLemmas.{recorded_as}
 use Rattle.tnc_main.proofs.live_run.run_live.Goals as goal

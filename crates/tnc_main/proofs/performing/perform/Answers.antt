@@ -1,14 +1,11 @@
-use Rattle.std.proofs.Common.{◌≡◌, ◌++◌, ℕ, List, [], Some, Err, inl, inr, refl, sym, subst, ap, ◌∙◌}
-use Rattle.std.specs.Prelude.{OnOk, OnErr}
-use Rattle.tnc_base.specs.Streams.{WrotePart}
-use Rattle.tnc_words.specs.declared.command.Command.TheVariants.{Decode, Encode, Show, Loop, Bench, Help, Version}
+use Rattle.tnc_main.proofs.Common.{◌≡◌, ◌++◌, ℕ, List, [], Some, Err, inl, inr, refl, sym, subst, ap, ◌∙◌, OnOk, OnErr}
+use Rattle.tnc_main.proofs.Common.{WrotePart, Decode, Encode, Show, Loop, Bench, Help, Version, TooLong, encoded}
+use Rattle.tnc_main.proofs.Common.{encoded_before, ReadFault, WriteFault, ReadsNothing, end_of, end_of_bench}
+use Rattle.tnc_main.proofs.Common.{end_of_loop}
 use Rattle.tnc_words.specs.Help.{text_about, version_text}
 use Rattle.tnc_forms.specs.declared.fault.Fault.TheVariants.{Input as OfInput}
-use Rattle.tnc_forms.specs.declared.fault.InputFault.TheVariants.{TooLong}
-use Rattle.tnc_encode.specs.Encoded.{encoded, encoded_before}
-use Rattle.tnc_main.specs.declared.status.Status.TheVariants.{Memory as NoMemory, ReadFault, WriteFault}
-use Rattle.tnc_main.specs.Commands.{HeardAsMade, ReadsNothing}
-use Rattle.tnc_main.specs.Stops.{end_of, end_of_bench, end_of_loop}
+use Rattle.tnc_main.specs.declared.status.Status.TheVariants.{Memory as NoMemory}
+use Rattle.tnc_main.specs.Commands.{HeardAsMade}
 use Rattle.tnc_main.proofs.Ends.{if_ok, if_input, if_read, reader_sent, loop_ok, loop_no_input, loop_sent}
 use Rattle.tnc_main.proofs.Ends.{bench_no_input, bench_no_read, bench_ok, bench_sent, bench_write, on_ok, both_ok}
 use Rattle.tnc_main.proofs.Ends.{on_fault, text_no_input, text_no_read, text_sent}

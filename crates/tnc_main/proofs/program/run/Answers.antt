@@ -1,15 +1,10 @@
-use Rattle.std.proofs.Common.{◌≡◌, inl, inr, refl, sym, subst, ap, ◌∙◌, map, string_bytes, arith}
-use Rattle.tnc_words.specs.Commands.{Asks}
-use Rattle.tnc_main.specs.LiveCommands.{command_of}
-use Rattle.tnc_base.specs.Faults.{HasRisen}
-use Rattle.tnc_ports.specs.SampledRun.{outside_by}
-use Rattle.tnc_ports.specs.ServeRun.{input_by}
+use Rattle.tnc_main.proofs.Common.{◌≡◌, inl, inr, refl, sym, subst, ap, ◌∙◌, map, string_bytes, arith, Asks, command_of}
+use Rattle.tnc_main.proofs.Common.{HasRisen, outside_by, input_by, stream_of}
 use Rattle.tnc_main.specs.declared.live_command.LiveCommand.TheVariants.{Serve as LiveServe, Record as LiveRecord}
 use Rattle.tnc_main.specs.declared.live_command.LiveCommand.TheVariants.{Call as LiveCall}
 use Rattle.tnc_main.specs.declared.status.Status.TheVariants.{Memory as NoMemory}
 use Rattle.tnc_main.proofs.LiveCommandLemmas.{can_run_live, no_bench, no_job, no_loop, not_at_end, not_unread, one_live}
 use Rattle.tnc_main.proofs.LiveCommandLemmas.{only_record}
-use Rattle.tnc_ports.specs.SampledWrites.{stream_of}
 use Rattle.tnc_main.specs.Calling.{words_of}
 use Rattle.tnc_main.proofs.CallingLemmas.{called_from}
 use Rattle.tnc_main.proofs.LiveRuns.{rebased}

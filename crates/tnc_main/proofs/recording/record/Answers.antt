@@ -1,5 +1,4 @@
-use Rattle.std.proofs.Common.{◌≡◌}
-use Rattle.tnc_ports.specs.SampledWrites.{stream_of}
+use Rattle.tnc_main.proofs.Common.{◌≡◌, stream_of}
 use Rattle.tnc_main.proofs.RecordingLemmas as run
 use Rattle.tnc_main.proofs.recording.record.Goals as goal
 

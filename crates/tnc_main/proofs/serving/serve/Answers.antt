@@ -1,9 +1,4 @@
-use Rattle.std.proofs.Common.{◌≡◌, refl}
-use Rattle.tnc_ports.specs.SampledRun.{outside_by}
-use Rattle.tnc_ports.specs.ServeRun.{input_by}
-use Rattle.tnc_main.specs.declared.status.Status.{Status}
-use Rattle.tnc_main.specs.Serving.{Serves}
-use Rattle.tnc_main.specs.Status.{code_of}
+use Rattle.tnc_main.proofs.Common.{◌≡◌, refl, outside_by, input_by, Status, Serves, code_of}
 use Rattle.tnc_main.proofs.LiveRuns as run
 use Rattle.tnc_main.proofs.serving.serve.Goals as goal
 

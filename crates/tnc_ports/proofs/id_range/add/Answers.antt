@@ -1,4 +1,4 @@
-use Rattle.std.proofs.Common.{◌-◌, ap}
+use Rattle.tnc_ports.proofs.Common.{◌-◌, ap}
 use Rattle.tnc_ports.proofs.RangeLemmas.{range_longer}
 use Rattle.tnc_ports.proofs.id_range.add.Goals as goal
 

@@ -1,6 +1,6 @@
 -- None so far.
-use Rattle.std.proofs.Common.{◌≡◌, false, take}
-use Rattle.tnc_ports.specs.IdRanges.{is_within}
+use Rattle.tnc_ports.proofs.Common.{◌≡◌, take, is_within}
+use Rattle.std.proofs.Common.{false}
 use Rattle.tnc_ports.proofs.id_range.is_within.Given as goal
 
 abbrev pub invariant-loop-range : goal.invariant-loop-range

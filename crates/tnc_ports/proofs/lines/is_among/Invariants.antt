@@ -1,6 +1,6 @@
 -- None so far.
-use Rattle.std.proofs.Common.{◌≡◌, false, take}
-use Rattle.tnc_ports.specs.Hosts.{is_among}
+use Rattle.tnc_ports.proofs.Common.{◌≡◌, take, is_among}
+use Rattle.std.proofs.Common.{false}
 use Rattle.tnc_ports.proofs.lines.is_among.Given as goal
 
 abbrev pub invariant-loop-other : goal.invariant-loop-other

@@ -1,4 +1,4 @@
-use Rattle.std.proofs.Common.{◌≡◌, get_or, arith}
+use Rattle.tnc_ports.proofs.Common.{◌≡◌, get_or, arith}
 use Rattle.std.proofs.lemmas.Grind.{common_steps}
 use Rattle.tnc_ports.proofs.LineLemmas.{line_at, no_line, waiting_at}
 use Rattle.tnc_ports.proofs.lines.place_of.Goals as goal

@@ -1,6 +1,5 @@
 -- None so far.
-use Rattle.std.proofs.Common.{◌≡◌, ℕ, ◌<◌, get_or}
-use Rattle.tnc_ports.specs.declared.line.Line.{Line}
+use Rattle.tnc_ports.proofs.Common.{◌≡◌, ℕ, ◌<◌, get_or, Line}
 use Rattle.tnc_ports.proofs.lines.place_of.Given as goal
 
 abbrev pub invariant-loop-at : goal.invariant-loop-at

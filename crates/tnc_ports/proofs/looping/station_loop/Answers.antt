@@ -1,5 +1,4 @@
-use Rattle.std.proofs.Common.{refl, ◌∙◌}
-use Rattle.sample_ring.specs.Ends.{ring_len}
+use Rattle.tnc_ports.proofs.Common.{refl, ◌∙◌, ring_len}
 use Rattle.tnc_ports.proofs.LiveLoop.{runs_first, runs_more, loop_done, loop_fault, loop_memory, turned_over, turned_on}
 use Rattle.tnc_ports.proofs.LiveServe.{first_stands, nothing_looped}
 use Rattle.tnc_ports.proofs.looping.station_loop.Goals as goal

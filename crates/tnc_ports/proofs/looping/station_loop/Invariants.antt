@@ -1,9 +1,5 @@
 -- The turns so far.
-use Rattle.std.specs.Prelude.{All}
-use Rattle.std.proofs.Common.{◌≡◌}
-use Rattle.sample_ring.specs.Ends.{ring_id, ring_len, reader_ring}
-use Rattle.ring_receiver.specs.HeldReceiver.{readers_in}
-use Rattle.tnc_ports.specs.SampledHeld.{Runs}
+use Rattle.tnc_ports.proofs.Common.{All, ◌≡◌, ring_id, ring_len, reader_ring, readers_in, Runs}
 use Rattle.tnc_ports.specs.SampledRun.{outside_by}
 use Rattle.tnc_ports.proofs.looping.station_loop.Given as goal
 

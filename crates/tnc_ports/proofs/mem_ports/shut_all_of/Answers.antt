@@ -1,5 +1,4 @@
-use Rattle.std.proofs.Common.{◌<◌, length, set, ap, subst, ◌∙◌}
-use Rattle.tnc_ports.specs.Scripts.{shut_one}
+use Rattle.tnc_ports.proofs.Common.{◌<◌, length, set, ap, subst, ◌∙◌, shut_one}
 use Rattle.tnc_ports.proofs.ScriptLemmas.{shut_more}
 use Rattle.tnc_ports.proofs.mem_ports.shut_all_of.Goals as goal
 

@@ -1,6 +1,5 @@
 -- Those so far are shut.
-use Rattle.std.proofs.Common.{◌≡◌, ◌++◌, take, drop}
-use Rattle.tnc_ports.specs.Scripts.{with_shut}
+use Rattle.tnc_ports.proofs.Common.{◌≡◌, ◌++◌, take, drop, with_shut}
 use Rattle.tnc_ports.proofs.mem_ports.shut_all_of.Given as goal
 
 abbrev pub invariant-loop-at : goal.invariant-loop-at

@@ -1,4 +1,4 @@
-use Rattle.std.proofs.Common.{◌∙◌}
+use Rattle.tnc_ports.proofs.Common.{◌∙◌}
 use Rattle.tnc_ports.proofs.OfferLemmas.{shut_more}
 use Rattle.tnc_ports.proofs.offering.tell_shut.Goals as goal
 

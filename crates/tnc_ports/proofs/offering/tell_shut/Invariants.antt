@@ -1,6 +1,5 @@
 -- The sockets are told of those so far.
-use Rattle.std.proofs.Common.{◌≡◌, take}
-use Rattle.tnc_ports.specs.AskedPorts.{AreShut, told_by}
+use Rattle.tnc_ports.proofs.Common.{◌≡◌, take, AreShut, told_by}
 use Rattle.tnc_ports.proofs.offering.tell_shut.Given as goal
 
 abbrev pub invariant-loop-id : goal.invariant-loop-id

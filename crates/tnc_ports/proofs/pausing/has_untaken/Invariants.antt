@@ -1,7 +1,6 @@
 -- None so far.
-use Rattle.std.proofs.Common.{◌≡◌, false, take}
-use Rattle.std.specs.List.{list_any}
-use Rattle.tnc_ports.specs.HostTurns.{is_from}
+use Rattle.tnc_ports.proofs.Common.{◌≡◌, take, list_any, is_from}
+use Rattle.std.proofs.Common.{false}
 use Rattle.tnc_ports.proofs.pausing.has_untaken.Given as goal
 
 abbrev pub invariant-loop-one : goal.invariant-loop-one

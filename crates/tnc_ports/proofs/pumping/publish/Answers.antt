@@ -1,8 +1,6 @@
-use Rattle.std.proofs.Common.{◌∙◌, ◌++◌, [], refl, ap, sym, arith, Some, map, append_assoc, get_or}
-use Rattle.std.proofs.lemmas.List.{append-nil, map-append}
-use Rattle.tnc_ports.specs.Inlet.Step.{Publishes}
-use Rattle.wav_file.specs.Samples.{samples}
-use Rattle.tnc_ports.specs.OddOctet.{odd_octet, ended}
+use Rattle.tnc_ports.proofs.Common.{◌∙◌, ◌++◌, [], refl, ap, sym, arith, map, append_assoc, get_or, append-nil}
+use Rattle.tnc_ports.proofs.Common.{map-append, Publishes, samples, odd_octet, ended}
+use Rattle.std.proofs.Common.{Some}
 use Rattle.tnc_ports.proofs.PumpLemmas.{octet_more, octet_counted}
 use Rattle.tnc_ports.proofs.pumping.publish.Goals as goal
 

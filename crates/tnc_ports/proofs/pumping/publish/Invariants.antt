@@ -1,8 +1,6 @@
-use Rattle.std.proofs.Common.{◌≡◌, ◌+◌, ◌*◌, ◌++◌, List, ℕ, ℤ, Some, length, take, map}
-use Rattle.wav_file.specs.Samples.{samples}
-use Rattle.tnc_ports.specs.Inlet.{Step}
-use Rattle.tnc_ports.specs.Inlet.Step.{Publishes}
-use Rattle.tnc_ports.specs.OddOctet.{odd_octet, count_of}
+use Rattle.tnc_ports.proofs.Common.{◌≡◌, ◌+◌, ◌*◌, ◌++◌, ℕ, length, take, map, samples, Step, Publishes, odd_octet}
+use Rattle.tnc_ports.proofs.Common.{count_of}
+use Rattle.std.proofs.Common.{List, ℤ, Some}
 use Rattle.tnc_ports.proofs.pumping.publish.Given as goal
 
 abbrev pub invariant-loop-octet : goal.invariant-loop-octet

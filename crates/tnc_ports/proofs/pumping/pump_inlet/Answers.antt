@@ -1,11 +1,8 @@
-use Rattle.std.proofs.Common.{◌≡◌, ◌<◌, ◌+◌, ◌*◌, ℕ, List, [], ◌++◌, length, take, drop, refl, sym, ap, subst, ◌∙◌}
-use Rattle.std.proofs.Common.{arith}
-use Rattle.std.proofs.lemmas.List.{length-take, length-take-le, take-append-le}
-use Rattle.tnc_base.specs.Streams.{Gives}
-use Rattle.wav_file.specs.Samples.{samples}
-use Rattle.tnc_ports.specs.declared.pumping.PumpEnd.TheVariants.{InputEnd, ReadFault}
-use Rattle.tnc_ports.specs.OddOctet.{odd_octet}
-use Rattle.tnc_ports.specs.Pumped.{IsPumped}
+use Rattle.tnc_ports.proofs.Common.{◌≡◌, ◌<◌, ◌+◌, ◌*◌, ℕ, [], ◌++◌, length, take, drop, refl, sym, ap, subst, ◌∙◌}
+use Rattle.tnc_ports.proofs.Common.{arith, length-take-le, take-append-le, Gives, samples, InputEnd, ReadFault}
+use Rattle.tnc_ports.proofs.Common.{odd_octet, IsPumped}
+use Rattle.std.proofs.Common.{List}
+use Rattle.std.proofs.lemmas.List.{length-take}
 use Rattle.tnc_ports.proofs.PaceLemmas.{paces_first, paces_more, paces_on_nothing}
 use Rattle.tnc_ports.proofs.PumpLemmas.{pumped_more, pumped_all, pumped_part, pumped_too_much}
 use Rattle.tnc_ports.proofs.pumping.pump_inlet.Goals as goal

@@ -1,7 +1,5 @@
-use Rattle.std.proofs.Common.{◌≡◌, ◌≤◌, ◌+◌, ◌-◌, ◌*◌, List, ℕ, Some, length}
-use Rattle.tnc_ports.specs.Inlet.{Step}
-use Rattle.tnc_ports.specs.OddOctet.{count_of}
-use Rattle.tnc_ports.specs.Pumped.{most_input}
+use Rattle.tnc_ports.proofs.Common.{◌≡◌, ◌≤◌, ◌+◌, ◌-◌, ◌*◌, ℕ, length, Step, count_of, most_input}
+use Rattle.std.proofs.Common.{List, Some}
 use Rattle.tnc_ports.proofs.PaceLemmas.{PacesOn}
 use Rattle.tnc_ports.proofs.PumpLemmas.{HasPumped}
 use Rattle.tnc_ports.proofs.pumping.pump_inlet.Given as goal

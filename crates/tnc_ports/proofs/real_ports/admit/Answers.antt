@@ -1,4 +1,4 @@
-use Rattle.station.specs.declared.host_event.PortKind.TheVariants.{Kiss, Agw}
+use Rattle.tnc_ports.proofs.Common.{Kiss, Agw}
 use Rattle.tnc_ports.proofs.RealLemmas.{admitted_may_come, join_both}
 use Rattle.tnc_ports.proofs.real_ports.admit.Goals as goal
 

@@ -1,5 +1,5 @@
 -- No id changes.
-use Rattle.std.proofs.Common.{◌≡◌}
+use Rattle.tnc_ports.proofs.Common.{◌≡◌}
 use Rattle.tnc_ports.proofs.real_ports.note_ready.Given as goal
 
 abbrev pub invariant-loop-event : goal.invariant-loop-event

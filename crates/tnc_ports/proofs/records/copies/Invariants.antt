@@ -1,5 +1,5 @@
 -- Copies of the events so far.
-use Rattle.std.proofs.Common.{◌≡◌, take}
+use Rattle.tnc_ports.proofs.Common.{◌≡◌, take}
 use Rattle.tnc_ports.proofs.records.copies.Given as goal
 
 abbrev pub invariant-loop-event : goal.invariant-loop-event

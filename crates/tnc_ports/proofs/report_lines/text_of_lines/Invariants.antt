@@ -1,5 +1,4 @@
-use Rattle.std.proofs.Common.{◌≡◌, take}
-use Rattle.tnc_ports.specs.ReportText.{report_text}
+use Rattle.tnc_ports.proofs.Common.{◌≡◌, take, report_text}
 use Rattle.tnc_ports.proofs.report_lines.text_of_lines.Given as goal
 
 abbrev pub invariant-loop-line : goal.invariant-loop-line

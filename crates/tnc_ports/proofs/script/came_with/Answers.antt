@@ -1,5 +1,4 @@
-use Rattle.std.proofs.Common.{sym, ap, ◌∙◌, ◌++◌, append_assoc, take}
-use Rattle.tnc_ports.specs.Scripts.{joined_in, joined_of}
+use Rattle.tnc_ports.proofs.Common.{sym, ap, ◌∙◌, ◌++◌, append_assoc, take, joined_in, joined_of}
 use Rattle.tnc_ports.proofs.ScriptLemmas.{joined_in_more}
 use Rattle.tnc_ports.proofs.script.came_with.Goals as goal
 

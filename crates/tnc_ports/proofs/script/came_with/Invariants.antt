@@ -1,6 +1,5 @@
 -- Those that joined so far.
-use Rattle.std.proofs.Common.{◌≡◌, ◌++◌, take}
-use Rattle.tnc_ports.specs.Scripts.{joined_in}
+use Rattle.tnc_ports.proofs.Common.{◌≡◌, ◌++◌, take, joined_in}
 use Rattle.tnc_ports.proofs.script.came_with.Given as goal
 
 abbrev pub invariant-loop-event : goal.invariant-loop-event

@@ -1,5 +1,4 @@
-use Rattle.std.proofs.Common.{sym, ap, ◌∙◌, ◌++◌, append_assoc, take}
-use Rattle.tnc_ports.specs.Scripts.{scripted_for, due_of}
+use Rattle.tnc_ports.proofs.Common.{sym, ap, ◌∙◌, ◌++◌, append_assoc, take, scripted_for, due_of}
 use Rattle.tnc_ports.proofs.ScriptLemmas.{scripted_for_more}
 use Rattle.tnc_ports.proofs.script.due.Goals as goal
 

@@ -1,6 +1,5 @@
 -- What the script so far has for the poll.
-use Rattle.std.proofs.Common.{◌≡◌, ◌++◌, take}
-use Rattle.tnc_ports.specs.Scripts.{scripted_for}
+use Rattle.tnc_ports.proofs.Common.{◌≡◌, ◌++◌, take, scripted_for}
 use Rattle.tnc_ports.proofs.script.due.Given as goal
 
 abbrev pub invariant-loop-entry : goal.invariant-loop-entry

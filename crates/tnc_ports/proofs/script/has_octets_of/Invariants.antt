@@ -1,7 +1,6 @@
 -- None so far.
-use Rattle.std.proofs.Common.{◌≡◌, false, take}
-use Rattle.std.specs.List.{list_any}
-use Rattle.tnc_ports.specs.Sockets.{is_octets_of}
+use Rattle.tnc_ports.proofs.Common.{◌≡◌, take, list_any, is_octets_of}
+use Rattle.std.proofs.Common.{false}
 use Rattle.tnc_ports.proofs.script.has_octets_of.Given as goal
 
 abbrev pub invariant-loop-event : goal.invariant-loop-event

@@ -1,7 +1,6 @@
-use Rattle.std.proofs.Common.{◌≡◌, Bool, sym, ap, ◌∙◌, ◌++◌, ◌+◌, [], ◌∷◌, take, get_or}
-use Rattle.std.specs.Prelude.{if◌then◌else◌}
-use Rattle.station.specs.declared.host_event.HostEvent.{HostEvent}
-use Rattle.tnc_ports.specs.Scripts.{given_of, waiting_of, has_to_wait}
+use Rattle.tnc_ports.proofs.Common.{◌≡◌, sym, ap, ◌∙◌, ◌++◌, ◌+◌, [], take, get_or, if◌then◌else◌, HostEvent, given_of}
+use Rattle.tnc_ports.proofs.Common.{waiting_of, has_to_wait}
+use Rattle.std.proofs.Common.{Bool, ◌∷◌}
 use Rattle.tnc_ports.proofs.ScriptLemmas.{given_more, waiting_more}
 use Rattle.tnc_ports.proofs.script.part.Goals as goal
 

@@ -1,6 +1,5 @@
 -- The events so far are parted.
-use Rattle.std.proofs.Common.{◌≡◌, [], take}
-use Rattle.tnc_ports.specs.Scripts.{waiting_of, given_of}
+use Rattle.tnc_ports.proofs.Common.{◌≡◌, [], take, waiting_of, given_of}
 use Rattle.tnc_ports.proofs.script.part.Given as goal
 
 abbrev pub invariant-loop-at : goal.invariant-loop-at

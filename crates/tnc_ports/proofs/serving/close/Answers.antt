@@ -1,8 +1,6 @@
-use Rattle.std.specs.Prelude.{true, All, ℤ}
-use Rattle.std.proofs.Common.{ap, map, subst, ◌∙◌, List, ℕ}
-use Rattle.sample_ring.specs.Ends.{record_of, records_of, all_published}
-use Rattle.sample_ring.specs.Record.{StandsIn}
-use Rattle.ring_receiver.specs.HeldReceiver.{readers_in}
+use Rattle.tnc_ports.proofs.Common.{true, All, ℤ, ap, map, subst, ◌∙◌, ℕ, record_of, StandsIn, readers_in}
+use Rattle.std.proofs.Common.{List}
+use Rattle.sample_ring.specs.Ends.{records_of, all_published}
 use Rattle.tnc_ports.proofs.LiveServe.{lanes_stand}
 use Rattle.tnc_ports.proofs.serving.close.Goals as goal
 

@@ -1,8 +1,6 @@
-use Rattle.std.specs.Prelude.{false}
-use Rattle.std.proofs.Common.{◌≡◌, refl}
+use Rattle.tnc_ports.proofs.Common.{false, ◌≡◌, refl, ring_id, ring_len, reader_ring, readers_in, answers_in}
 use Rattle.std.proofs.lemmas.List.Elements.{All-same, All-weaker}
-use Rattle.sample_ring.specs.Ends.{IsNew, ring_id, ring_len, reader_ring}
-use Rattle.ring_receiver.specs.HeldReceiver.{readers_in, answers_in}
+use Rattle.sample_ring.specs.Ends.{IsNew}
 use Rattle.tnc_ports.proofs.LiveServe.{has_opened, no_ring, no_thread, all_served}
 use Rattle.tnc_ports.proofs.serving.serve.Goals as goal
 

@@ -1,5 +1,4 @@
-use Rattle.std.proofs.Common.{rules}
-use Rattle.std.proofs.lemmas.Fn.{filter_same}
+use Rattle.tnc_ports.proofs.Common.{rules, filter_same}
 use Rattle.tnc_ports.proofs.shutting.remove_untaken.Goals as goal
 
 pub returns : goal.returns

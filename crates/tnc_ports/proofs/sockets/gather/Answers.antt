@@ -1,5 +1,4 @@
-use Rattle.std.proofs.Common.{◌≡◌, ◌<◌, length, set, ap, subst, ◌∙◌}
-use Rattle.tnc_ports.specs.RealSockets.{ids_of_sockets}
+use Rattle.tnc_ports.proofs.Common.{◌≡◌, ◌<◌, length, set, ap, subst, ◌∙◌, ids_of_sockets}
 use Rattle.tnc_ports.proofs.RealLemmas.{ids_kept}
 use Rattle.tnc_ports.proofs.sockets.gather.Goals as goal
 

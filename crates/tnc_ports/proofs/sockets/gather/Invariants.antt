@@ -1,7 +1,6 @@
 -- What came so far may come, nobody joins, and no id changes.
-use Rattle.std.proofs.Common.{◌≡◌, All}
-use Rattle.tnc_ports.specs.RealSockets.{ids_of_sockets, joined_ids}
-use Rattle.tnc_ports.specs.Sockets.{MayCome}
+use Rattle.tnc_ports.proofs.Common.{◌≡◌, ids_of_sockets, joined_ids, MayCome}
+use Rattle.std.proofs.Common.{All}
 use Rattle.tnc_ports.proofs.sockets.gather.Given as goal
 
 abbrev pub invariant-loop-at : goal.invariant-loop-at

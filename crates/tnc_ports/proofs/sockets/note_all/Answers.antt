@@ -1,4 +1,4 @@
-use Rattle.std.proofs.Common.{◌<◌, length, ap, subst, ◌∙◌}
+use Rattle.tnc_ports.proofs.Common.{◌<◌, length, ap, subst, ◌∙◌}
 use Rattle.tnc_ports.proofs.RealLemmas.{ids_kept}
 use Rattle.tnc_ports.proofs.sockets.note_all.Goals as goal
 

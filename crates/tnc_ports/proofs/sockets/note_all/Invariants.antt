@@ -1,6 +1,5 @@
 -- No id changes.
-use Rattle.std.proofs.Common.{◌≡◌}
-use Rattle.tnc_ports.specs.RealSockets.{ids_of_sockets}
+use Rattle.tnc_ports.proofs.Common.{◌≡◌, ids_of_sockets}
 use Rattle.tnc_ports.proofs.sockets.note_all.Given as goal
 
 abbrev pub invariant-loop-at : goal.invariant-loop-at

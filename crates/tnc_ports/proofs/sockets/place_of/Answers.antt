@@ -1,5 +1,4 @@
-use Rattle.std.proofs.Common.{sym, ◌∙◌}
-use Rattle.std.proofs.lemmas.Bool.{true≢false}
+use Rattle.tnc_ports.proofs.Common.{sym, ◌∙◌, true≢false}
 use Rattle.tnc_ports.proofs.RealLemmas.{is_open}
 use Rattle.tnc_ports.proofs.sockets.place_of.Goals as goal
 

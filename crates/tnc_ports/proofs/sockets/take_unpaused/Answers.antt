@@ -1,4 +1,4 @@
-use Rattle.std.proofs.Common.{sym, ◌∙◌}
+use Rattle.tnc_ports.proofs.Common.{sym, ◌∙◌}
 use Rattle.tnc_ports.proofs.NamedLemmas.{not_among}
 use Rattle.tnc_ports.proofs.sockets.take_unpaused.Goals as goal
 

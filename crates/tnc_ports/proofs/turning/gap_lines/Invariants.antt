@@ -1,5 +1,4 @@
-use Rattle.std.proofs.Common.{◌≡◌, map, take}
-use Rattle.tnc_ports.specs.Sampled.{gap_line}
+use Rattle.tnc_ports.proofs.Common.{◌≡◌, map, take, gap_line}
 use Rattle.tnc_ports.proofs.turning.gap_lines.Given as goal
 
 abbrev pub invariant-loop-gap : goal.invariant-loop-gap

@@ -1,5 +1,4 @@
-use Rattle.std.proofs.Common.{◌≡◌, ◌++◌, take}
-use Rattle.tnc_record.specs.RecordText.{text_of_gaps}
+use Rattle.tnc_record.proofs.Common.{◌≡◌, ◌++◌, take, text_of_gaps}
 use Rattle.tnc_record.proofs.lines.add_gaps.Given as goal
 
 abbrev pub invariant-loop-gap : goal.invariant-loop-gap

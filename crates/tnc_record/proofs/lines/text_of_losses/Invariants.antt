@@ -1,5 +1,4 @@
-use Rattle.std.proofs.Common.{◌≡◌, take}
-use Rattle.tnc_record.specs.RecordText.{text_of_losses}
+use Rattle.tnc_record.proofs.Common.{◌≡◌, take, text_of_losses}
 use Rattle.tnc_record.proofs.lines.text_of_losses.Given as goal
 
 abbrev pub invariant-loop-loss : goal.invariant-loop-loss

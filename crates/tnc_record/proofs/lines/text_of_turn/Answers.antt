@@ -1,5 +1,4 @@
-use Rattle.std.proofs.Common.{◌≡◌, ◌++◌, ap, ◌∙◌}
-use Rattle.tnc_record.specs.RecordText.{text_of_gaps, text_of_frames}
+use Rattle.tnc_record.proofs.Common.{◌≡◌, ◌++◌, ap, ◌∙◌, text_of_gaps, text_of_frames}
 use Rattle.tnc_record.proofs.TextLemmas.{turn_text}
 use Rattle.tnc_record.proofs.lines.text_of_turn.Goals as goal
 

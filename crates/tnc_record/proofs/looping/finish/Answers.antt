@@ -1,5 +1,4 @@
-use Rattle.std.proofs.Common.{ap, ◌∙◌}
-use Rattle.tnc_record.specs.RecordText.{text_of_losses}
+use Rattle.tnc_record.proofs.Common.{ap, ◌∙◌, text_of_losses}
 use Rattle.tnc_record.proofs.LoopLemmas.{all_reported, same_wave, report_failed, all_written, output_failed}
 use Rattle.tnc_record.proofs.looping.finish.Goals as goal
 

@@ -1,6 +1,4 @@
-use Rattle.std.proofs.Common.{ap}
-use Rattle.sample_ring.specs.Ends.{ring_len}
-use Rattle.tnc_ports.specs.SampledWrites.{stream_of}
+use Rattle.tnc_record.proofs.Common.{ap, ring_len, stream_of}
 use Rattle.tnc_record.proofs.LoopLemmas.{loop_cut, ran_over, from_output}
 use Rattle.tnc_record.proofs.TurnLemmas.{runs_more}
 use Rattle.tnc_record.proofs.looping.record_loop.Goals as goal

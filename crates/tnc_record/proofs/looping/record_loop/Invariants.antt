@@ -1,8 +1,5 @@
 -- The turns so far.
-use Rattle.std.proofs.Common.{◌≡◌}
-use Rattle.sample_ring.specs.Ends.{ring_len}
-use Rattle.tnc_record.specs.HeldListening.{ReadsRing, Runs}
-use Rattle.tnc_ports.specs.SampledWrites.{stream_of}
+use Rattle.tnc_record.proofs.Common.{◌≡◌, ring_len, ReadsRing, Runs, stream_of}
 use Rattle.tnc_record.proofs.looping.record_loop.Given as goal
 
 abbrev pub invariant-turns : goal.invariant-turns

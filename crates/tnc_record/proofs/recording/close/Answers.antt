@@ -1,9 +1,7 @@
-use Rattle.std.specs.Prelude.{true, All, ℤ}
-use Rattle.std.proofs.Common.{◌≡◌, ◌≤◌, ◌+◌, ◌-◌, ap, subst, ◌∙◌, List, ℕ, [], length, arith}
-use Rattle.sample_ring.specs.declared.reader.Reader.{Reader}
+use Rattle.tnc_record.proofs.Common.{true, All, ℤ, ◌≡◌, ◌≤◌, ap, subst, ◌∙◌, List, ℕ, [], length, arith, Reader}
+use Rattle.tnc_record.proofs.Common.{StandsIn, ring_cells}
+use Rattle.std.proofs.Common.{◌+◌, ◌-◌}
 use Rattle.sample_ring.specs.Ends.{records_of, all_published}
-use Rattle.sample_ring.specs.Record.{StandsIn}
-use Rattle.tnc_ports.specs.ServeRun.{ring_cells}
 use Rattle.tnc_record.proofs.EndLemmas.{all_records, all_are, records_are, rings_are, lanes_closed, recorder_closed}
 use Rattle.tnc_record.proofs.recording.close.Goals as goal
 

@@ -1,6 +1,5 @@
-use Rattle.std.proofs.Common.{ap}
+use Rattle.tnc_record.proofs.Common.{ap, ring_len}
 use Rattle.std.specs.Prelude.{is_some}
-use Rattle.sample_ring.specs.Ends.{ring_len}
 use Rattle.tnc_record.proofs.EndLemmas.{all_recorded}
 use Rattle.tnc_record.proofs.recording.record.Goals as goal
 

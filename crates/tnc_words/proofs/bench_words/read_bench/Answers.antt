@@ -1,7 +1,6 @@
-use Rattle.std.proofs.Common.{◌≡◌, Err, List, map, string_bytes, subst, ap, sym}
-use Rattle.clap.specs.Words.{Row, rows_of, found_of}
-use Rattle.tnc_words.specs.Commands.{HasBenchOptions, IsBench}
-use Rattle.tnc_words.specs.Options.{bench_faults, bench_rows}
+use Rattle.tnc_words.proofs.Common.{◌≡◌, Err, List, map, string_bytes, subst, ap, sym, Row, rows_of, found_of}
+use Rattle.tnc_words.proofs.Common.{HasBenchOptions, IsBench, bench_faults}
+use Rattle.tnc_words.specs.Options.{bench_rows}
 use Rattle.tnc_words.proofs.Found.{passed_on, chosen, not_chosen}
 use Rattle.tnc_words.proofs.bench_words.read_bench.Goals as goal
 

@@ -1,7 +1,6 @@
-use Rattle.std.proofs.Common.{◌≡◌, Err, List, map, string_bytes, subst, ap, sym}
-use Rattle.clap.specs.Words.{Row, rows_of, found_of}
-use Rattle.tnc_words.specs.Commands.{HasCallOptions}
-use Rattle.tnc_words.specs.Options.{call_faults, call_rows}
+use Rattle.tnc_words.proofs.Common.{◌≡◌, Err, List, map, string_bytes, subst, ap, sym, Row, rows_of, found_of}
+use Rattle.tnc_words.proofs.Common.{HasCallOptions, call_faults}
+use Rattle.tnc_words.specs.Options.{call_rows}
 use Rattle.tnc_words.proofs.Found.{passed_on, is_none}
 use Rattle.tnc_words.proofs.call_words.read_call.Goals as goal
 

@@ -1,7 +1,4 @@
-use Rattle.std.proofs.Common.{Option, refl, sym, subst}
-use Rattle.clap.specs.Words.{Text, found_of, rows_of}
-use Rattle.tnc_words.specs.Numbers.{HasNumber}
-use Rattle.tnc_words.specs.Rates.{samples_a_second}
+use Rattle.tnc_words.proofs.Common.{Option, refl, sym, subst, Text, found_of, rows_of, HasNumber, samples_a_second}
 use Rattle.tnc_words.proofs.NoRate.{no_rate}
 use Rattle.tnc_words.proofs.decode_words.receiving.Goals as goal
 

@@ -1,7 +1,6 @@
-use Rattle.std.proofs.Common.{◌≡◌, Err, List, map, string_bytes, subst, ap, sym}
-use Rattle.clap.specs.Words.{Row, rows_of, found_of}
-use Rattle.tnc_words.specs.Commands.{HasEncodeOptions, IsEncode}
-use Rattle.tnc_words.specs.Options.{encode_faults, encode_rows}
+use Rattle.tnc_words.proofs.Common.{◌≡◌, Err, List, map, string_bytes, subst, ap, sym, Row, rows_of, found_of}
+use Rattle.tnc_words.proofs.Common.{HasEncodeOptions, IsEncode, encode_faults}
+use Rattle.tnc_words.specs.Options.{encode_rows}
 use Rattle.tnc_words.proofs.Found.{passed_on, chosen, not_chosen}
 use Rattle.tnc_words.proofs.encode_words.read_encode.Goals as goal
 

@@ -1,7 +1,5 @@
-use Rattle.std.proofs.Common.{ap, ◌∙◌}
+use Rattle.tnc_words.proofs.Common.{ap, ◌∙◌, new_app, with_entries}
 use Rattle.std.proofs.lemmas.List.{take_all}
-use Rattle.clap.specs.Words.{new_app}
-use Rattle.tnc_words.specs.Entries.{with_entries}
 use Rattle.tnc_words.proofs.WithEntries.{one_more}
 use Rattle.tnc_words.proofs.options.command_of.Goals as goal
 

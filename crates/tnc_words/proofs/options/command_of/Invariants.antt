@@ -1,7 +1,5 @@
 -- The options so far are the command's.
-use Rattle.std.proofs.Common.{◌≡◌, take}
-use Rattle.clap.specs.Words.{app_of, new_app}
-use Rattle.tnc_words.specs.Entries.{with_entries}
+use Rattle.tnc_words.proofs.Common.{◌≡◌, take, app_of, new_app, with_entries}
 use Rattle.tnc_words.proofs.options.command_of.Given as goal
 
 abbrev pub invariant-loop-entry : goal.invariant-loop-entry

@@ -1,4 +1,4 @@
-use Rattle.clap.specs.Words.{app_of}
+use Rattle.tnc_words.proofs.Common.{app_of}
 use Rattle.tnc_words.proofs.Found.{is_simple-free}
 use Rattle.tnc_words.proofs.parsing.found_by.Goals as goal
 

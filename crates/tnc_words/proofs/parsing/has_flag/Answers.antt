@@ -1,5 +1,4 @@
-use Rattle.std.proofs.Common.{Some, sym, ap, ◌∙◌}
-use Rattle.clap.specs.Words.{found_of}
+use Rattle.tnc_words.proofs.Common.{Some, sym, ap, ◌∙◌, found_of}
 use Rattle.tnc_words.specs.Options.{is_from_words}
 use Rattle.tnc_words.proofs.Found.{source-rows}
 use Rattle.tnc_words.proofs.parsing.has_flag.Goals as goal

@@ -1,6 +1,7 @@
-use Rattle.std.proofs.Common.{◌≡◌, [], map, string_bytes, ap, ◌∙◌, subst}
-use Rattle.std.specs.Prelude.{IfOk, OnOk}
-use Rattle.clap.specs.Words.{App, fault_of, found_of, is_simple_and_free, matches_of, rows_of}
+use Rattle.tnc_words.proofs.Common.{◌≡◌, [], map, string_bytes, ap, ◌∙◌, subst, IfOk, App, found_of, is_simple_and_free}
+use Rattle.tnc_words.proofs.Common.{rows_of}
+use Rattle.std.specs.Prelude.{OnOk}
+use Rattle.clap.specs.Words.{fault_of, matches_of}
 use Rattle.tnc_words.proofs.parsing.parsed.Goals as goal
 
 pub found_by-requires : goal.found_by-requires

@@ -1,5 +1,4 @@
-use Rattle.std.proofs.Common.{◌∙◌}
-use Rattle.clap.specs.Words.{found_of}
+use Rattle.tnc_words.proofs.Common.{◌∙◌, found_of}
 use Rattle.clap.proofs.WalkLemmas.{first_value-rows}
 use Rattle.tnc_words.proofs.parsing.text_of.Goals as goal
 

@@ -1,7 +1,6 @@
-use Rattle.std.proofs.Common.{◌≡◌, ◌∙◌, Some, Err, map, string_bytes, codes, refl, ap, sym}
+use Rattle.tnc_words.proofs.Common.{◌≡◌, ◌∙◌, Some, Err, map, string_bytes, codes, refl, ap, sym, first_word}
 use Rattle.std.specs.Option.{option_copied, option_map}
 use Rattle.std.proofs.lemmas.Option.{slice_get-map}
-use Rattle.tnc_words.specs.Commands.{first_word}
 use Rattle.tnc_words.proofs.Found.{passed_on}
 use Rattle.tnc_words.proofs.OneCommand.{no_decode}
 use Rattle.tnc_words.proofs.reading.read_words.Goals as goal

@@ -1,7 +1,6 @@
-use Rattle.std.proofs.Common.{◌≡◌, Err, List, map, string_bytes, subst, ap, sym}
-use Rattle.clap.specs.Words.{Row, rows_of, found_of}
-use Rattle.tnc_words.specs.Commands.{HasRecordOptions, IsRecord}
-use Rattle.tnc_words.specs.Options.{record_faults, record_rows}
+use Rattle.tnc_words.proofs.Common.{◌≡◌, Err, List, map, string_bytes, subst, ap, sym, Row, rows_of, found_of}
+use Rattle.tnc_words.proofs.Common.{HasRecordOptions, IsRecord, record_faults}
+use Rattle.tnc_words.specs.Options.{record_rows}
 use Rattle.tnc_words.proofs.Found.{passed_on, chosen, not_chosen}
 use Rattle.tnc_words.proofs.record_words.read_record.Goals as goal
 

@@ -1,7 +1,6 @@
-use Rattle.std.proofs.Common.{◌≡◌, Err, List, map, string_bytes, subst, ap, sym}
-use Rattle.clap.specs.Words.{Row, rows_of, found_of}
-use Rattle.tnc_words.specs.Commands.{HasServeOptions}
-use Rattle.tnc_words.specs.Options.{serve_faults, serve_rows}
+use Rattle.tnc_words.proofs.Common.{◌≡◌, Err, List, map, string_bytes, subst, ap, sym, Row, rows_of, found_of}
+use Rattle.tnc_words.proofs.Common.{HasServeOptions, serve_faults}
+use Rattle.tnc_words.specs.Options.{serve_rows}
 use Rattle.tnc_words.proofs.Found.{passed_on, is_none}
 use Rattle.tnc_words.proofs.serve_words.read_serve.Goals as goal
 

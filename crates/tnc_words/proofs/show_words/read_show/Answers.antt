@@ -1,7 +1,6 @@
-use Rattle.std.proofs.Common.{◌≡◌, Err, List, map, string_bytes, subst, ap, sym}
-use Rattle.clap.specs.Words.{Row, rows_of, found_of}
-use Rattle.tnc_words.specs.Commands.{HasShowOptions, IsShow}
-use Rattle.tnc_words.specs.Options.{show_faults, show_rows}
+use Rattle.tnc_words.proofs.Common.{◌≡◌, Err, List, map, string_bytes, subst, ap, sym, Row, rows_of, found_of}
+use Rattle.tnc_words.proofs.Common.{HasShowOptions, IsShow, show_faults}
+use Rattle.tnc_words.specs.Options.{show_rows}
 use Rattle.tnc_words.proofs.Found.{passed_on, chosen, not_chosen}
 use Rattle.tnc_words.proofs.show_words.read_show.Goals as goal
 

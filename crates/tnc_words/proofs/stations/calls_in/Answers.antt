@@ -1,5 +1,5 @@
-use Rattle.std.proofs.Common.{rules, ◌<◌, Some, None, length, refl, sym, subst}
-use Rattle.tnc_words.specs.Stations.{IsCallList}
+use Rattle.tnc_words.proofs.Common.{◌<◌, Some, None, length, refl, sym, subst, IsCallList}
+use Rattle.std.proofs.Common.{rules}
 use Rattle.tnc_words.proofs.CallLists.{SpelledSoFar, bad_part, first_part, last_one, one_more, too_many}
 use Rattle.tnc_words.proofs.stations.calls_in.Goals as goal
 

@@ -1,5 +1,6 @@
 -- The calls so far are those of the parts in front of the rest.
-use Rattle.std.proofs.Common.{◌-◌, length}
+use Rattle.tnc_words.proofs.Common.{length}
+use Rattle.std.proofs.Common.{◌-◌}
 use denote.Text.{Utf8}
 use denote.Shadow.{shadow}
 use Rattle.tnc_words.proofs.CallLists.{SpelledSoFar}

@@ -1,7 +1,6 @@
-use Rattle.std.proofs.Common.{◌-ℤ◌, FitsSigned, w32, ◌∙◌, ap, arith, rules}
+use Rattle.tone_tracking.proofs.Common.{◌-ℤ◌, FitsSigned, w32, ◌∙◌, ap, arith, rules, int_max, ints, to_z-of_z}
 use Rattle.std.specs.Prelude.{pos}
-use Rattle.std.specs.Int.{int_max, int_min}
-use Rattle.std.proofs.lemmas.Int.{ints, to_z-of_z}
+use Rattle.std.specs.Int.{int_min}
 use Rattle.tone_tracking.proofs.bit_clock.rate_pulled.Goals as goal
 
 pub returns-clause-rate : goal.returns-clause-rate

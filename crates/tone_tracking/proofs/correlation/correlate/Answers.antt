@@ -1,15 +1,9 @@
-use Rattle.std.proofs.Common.{◌≡◌, ℕ, ◌+◌, ◌*◌, ◌<◌, ◌≤◌, ℤ, pos, negsuc, ◌+ℤ◌, ◌-ℤ◌, neg_ℤ, List, [], ◌∷◌, length}
-use Rattle.std.proofs.Common.{map, get_or, unsigned_abs, to_z, of_z, w32, w64, FitsSigned, refl, sym, subst, ap, ◌∙◌}
-use Rattle.std.proofs.Common.{arith}
-use Rattle.std.proofs.lemmas.Int.{ints}
-use Rattle.std.specs.List.{All}
-use Rattle.tone_table.specs.declared.tone.Tone.TheVariants.{Mark, Space}
+use Rattle.tone_tracking.proofs.Common.{◌≡◌, ℕ, ◌+◌, ◌*◌, ◌<◌, ◌≤◌, ℤ, pos, negsuc, ◌+ℤ◌, ◌-ℤ◌, neg_ℤ, List, [], ◌∷◌}
+use Rattle.tone_tracking.proofs.Common.{length, map, get_or, unsigned_abs, to_z, of_z, w32, w64, FitsSigned, refl, sym}
+use Rattle.tone_tracking.proofs.Common.{subst, ap, ◌∙◌, arith, ints, All, Mark, Space, sum_below, product_of}
+use Rattle.tone_tracking.proofs.Common.{unsigned_abs-product, weight, correlation, AreSmall, in_pairs}
+use Rattle.tone_tracking.proofs.Common.{pairs_of_products, IsWithin}
 use Rattle.tone_table.specs.Sine.{quarter, half_wave, cycle_sample, wave_sample}
-use Rattle.offset_slicers.specs.Decision.{sum_below, product_of}
-use Rattle.offset_slicers.proofs.DecisionLemmas.{unsigned_abs-product}
-use Rattle.tone_tracking.specs.Correlation.{weight, correlation}
-use Rattle.tone_tracking.specs.PairSums.{AreSmall, in_pairs, pairs_of_products}
-use Rattle.tone_tracking.specs.Phasors.{IsWithin}
 use Rattle.tone_tracking.proofs.CorrelationLemmas.{sum-product_at}
 use Rattle.tone_tracking.proofs.LaneLemmas.{lane, lane_is, passed_below, four_small}
 use Rattle.tone_tracking.proofs.correlation.correlate.Goals as goal

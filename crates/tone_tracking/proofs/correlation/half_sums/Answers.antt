@@ -1,6 +1,5 @@
-use Rattle.std.proofs.Common.{◌≡◌, ◌≤◌, ◌∙◌, List, ℤ, map, to_z, of_z, w32, sym, subst, ap, arith, unsigned_abs}
-use Rattle.std.specs.List.{All}
-use Rattle.tone_tracking.specs.PairSums.{AreSmall, in_pairs, pairs_of_products}
+use Rattle.tone_tracking.proofs.Common.{◌≡◌, ◌≤◌, ◌∙◌, List, ℤ, map, to_z, of_z, w32, sym, subst, ap, arith}
+use Rattle.tone_tracking.proofs.Common.{unsigned_abs, All, AreSmall, in_pairs, pairs_of_products}
 use Rattle.tone_tracking.proofs.LaneLemmas.{passed_below, smaller, in_pairs-small}
 use Rattle.tone_tracking.proofs.correlation.half_sums.Goals as goal
 

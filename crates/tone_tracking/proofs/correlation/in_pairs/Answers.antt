@@ -1,4 +1,4 @@
-use Rattle.std.proofs.Common.{◌≡◌, ℕ, ℤ, ◌+ℤ◌, List, ◌∷◌, [], pos, get_or, arith}
+use Rattle.tone_tracking.proofs.Common.{◌≡◌, ℕ, ℤ, ◌+ℤ◌, List, ◌∷◌, [], pos, get_or, arith}
 use Rattle.tone_tracking.proofs.LaneLemmas.{four_items, lane, lane_small, sum_fits, sum_is}
 use Rattle.tone_tracking.proofs.correlation.in_pairs.Goals as goal
 

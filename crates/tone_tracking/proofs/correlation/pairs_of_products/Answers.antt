@@ -1,9 +1,9 @@
-use Rattle.std.proofs.Common.{◌≡◌, ℕ, ℤ, List, ◌+◌, ◌+ℤ◌, ◌∷◌, [], ◌<◌, ◌≤◌, pos, get_or, unsigned_abs}
-use Rattle.std.proofs.Common.{FitsSigned, arith, sym, subst, w32}
+use Rattle.tone_tracking.proofs.Common.{◌≡◌, ℕ, ℤ, List, ◌+◌, ◌+ℤ◌, ◌∷◌, [], ◌<◌, ◌≤◌, pos, get_or, unsigned_abs}
+use Rattle.tone_tracking.proofs.Common.{FitsSigned, arith, sym, subst, w32, AreSmall, pairs_of_products}
 use Rattle.std.proofs.lemmas.List.Sums.{get_or-le-sum_by}
-use Rattle.tone_tracking.specs.PairSums.{AreSmall, product_pair, pairs_of_products}
-use Rattle.tone_tracking.proofs.LaneLemmas.{eight_items, lane, product, product_fits, pair_fits, pair_is}
-use Rattle.tone_tracking.proofs.LaneLemmas.{pair_small, four_small}
+use Rattle.tone_tracking.specs.PairSums.{product_pair}
+use Rattle.tone_tracking.proofs.LaneLemmas.{eight_items, lane, product, product_fits, pair_fits, pair_is, pair_small}
+use Rattle.tone_tracking.proofs.LaneLemmas.{four_small}
 use Rattle.tone_tracking.proofs.correlation.pairs_of_products.Goals as goal
 
 -- eight samples and their weights

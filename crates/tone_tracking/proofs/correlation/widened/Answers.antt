@@ -1,13 +1,9 @@
-use Rattle.std.proofs.Common.{rules, ◌≡◌, ℕ, ◌+◌, ◌<◌, ◌≤◌, ℤ, pos, List, [], ◌∷◌, length, map, get_or, slice_set}
-use Rattle.std.proofs.Common.{unsigned_abs}
-use Rattle.std.proofs.Common.{w32, to_z, of_z, FitsSigned, arith, sym, subst, ap, ◌∙◌, inl, inr, get_or-set_same}
-use Rattle.std.proofs.Common.{get_or-set_other}
-use Rattle.std.proofs.lemmas.List.{length-set}
-use Rattle.std.proofs.lemmas.Bool.{cases_eq}
-use Rattle.std.proofs.lemmas.Int.{ints, to_z-of_z}
+use Rattle.tone_tracking.proofs.Common.{rules, ◌≡◌, ℕ, ◌+◌, ◌<◌, ◌≤◌, ℤ, pos, List, [], ◌∷◌, length, map, get_or}
+use Rattle.tone_tracking.proofs.Common.{unsigned_abs, w32, to_z, of_z, FitsSigned, arith, sym, subst, ap, ◌∙◌, inl, inr}
+use Rattle.tone_tracking.proofs.Common.{get_or-set_same, get_or-set_other, length-set, cases_eq, ints, to_z-of_z, All}
+use Rattle.tone_tracking.proofs.Common.{w16}
+use Rattle.std.proofs.Common.{slice_set}
 use Rattle.std.proofs.lemmas.List.Elements.{All-from_get_or}
-use Rattle.std.specs.List.{All}
-use mir.Syntax.{w16}
 use Rattle.tone_tracking.proofs.LaneLemmas.{eight_items, lane, lane_is}
 use Rattle.tone_tracking.proofs.correlation.widened.Goals as goal
 

@@ -1,4 +1,4 @@
-use Rattle.std.proofs.Common.{◌≡◌, ◌<◌, ◌≤◌, ℕ, pos, get_or, length, unsigned_abs}
+use Rattle.tone_tracking.proofs.Common.{◌≡◌, ◌<◌, ◌≤◌, ℕ, pos, get_or, length, unsigned_abs}
 use Rattle.tone_tracking.proofs.correlation.widened.Given as goal
 
 abbrev pub invariant-loop-i : goal.invariant-loop-i

@@ -1,8 +1,5 @@
-use Rattle.std.proofs.Common.{[], ◌∷◌, FitsSigned, w64, ap, ◌∙◌, sym, arith, rules}
-use Rattle.std.proofs.lemmas.Int.{to_z-of_z}
-use Rattle.tone_table.specs.declared.tone.Tone.TheVariants.{Mark, Space}
-use Rattle.tone_tracking.specs.Heard.{ahead, largest}
-use Rattle.tone_tracking.specs.Phasors.{plus, turn_back}
+use Rattle.tone_tracking.proofs.Common.{[], ◌∷◌, FitsSigned, w64, ap, ◌∙◌, sym, arith, rules, to_z-of_z, Mark, Space}
+use Rattle.tone_tracking.proofs.Common.{ahead, largest, plus, turn_back}
 use Rattle.tone_tracking.proofs.PhasorLemmas.{sum_within, turned_back_within, within_more}
 use Rattle.tone_tracking.proofs.DecisionLemmas.{decided_by, turned-two}
 use Rattle.tone_tracking.proofs.decision.decide_far.Goals as goal

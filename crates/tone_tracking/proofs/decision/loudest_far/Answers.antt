@@ -1,9 +1,5 @@
-use Rattle.std.proofs.Common.{[], ◌∷◌, FitsSigned, w64, ap, ◌∙◌, sym, arith, rules}
-use Rattle.std.specs.Int.{int_max}
-use Rattle.std.proofs.lemmas.Int.{to_z-of_z}
-use Rattle.tone_table.specs.declared.tone.Tone.TheVariants.{Mark, Space}
-use Rattle.tone_tracking.specs.Heard.{ahead, largest}
-use Rattle.tone_tracking.specs.Phasors.{turn_back}
+use Rattle.tone_tracking.proofs.Common.{[], ◌∷◌, FitsSigned, w64, ap, ◌∙◌, sym, arith, rules, int_max, to_z-of_z, Mark}
+use Rattle.tone_tracking.proofs.Common.{Space, ahead, largest, turn_back}
 use Rattle.tone_tracking.proofs.PhasorLemmas.{sum_within, turned_back_within, within_more}
 use Rattle.tone_tracking.proofs.DecisionLemmas.{largest-two}
 use Rattle.tone_tracking.proofs.decision.loudest_far.Goals as goal

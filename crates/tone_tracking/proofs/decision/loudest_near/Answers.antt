@@ -1,7 +1,4 @@
-use Rattle.std.proofs.Common.{FitsSigned, w64, ap, ◌∙◌, sym, rules}
-use Rattle.std.specs.Int.{int_max}
-use Rattle.std.proofs.lemmas.Int.{to_z-of_z}
-use Rattle.tone_tracking.specs.Phasors.{size}
+use Rattle.tone_tracking.proofs.Common.{FitsSigned, w64, ap, ◌∙◌, sym, rules, int_max, to_z-of_z, size}
 use Rattle.tone_tracking.proofs.DecisionLemmas.{largest-one}
 use Rattle.tone_tracking.proofs.decision.loudest_near.Goals as goal
 

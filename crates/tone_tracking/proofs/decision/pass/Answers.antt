@@ -1,5 +1,4 @@
-use Rattle.std.proofs.Common.{arith}
-use Rattle.tone_table.specs.declared.tone.Tone.TheVariants.{Space}
+use Rattle.tone_tracking.proofs.Common.{arith, Space}
 use Rattle.tone_tracking.proofs.PhasorLemmas.{sum_within, turned_back_within, within_more}
 use Rattle.tone_tracking.proofs.decision.pass.Goals as goal
 

@@ -1,5 +1,5 @@
-use Rattle.std.proofs.Common.{◌≡◌, ◌≤◌, ◌*ℤ◌, ℤ, unsigned_abs, FitsSigned, to_z, of_z, w64, subst, sym, arith}
-use Rattle.std.proofs.lemmas.Int.{ints, to_z-of_z}
+use Rattle.tone_tracking.proofs.Common.{◌≡◌, ◌≤◌, ◌*ℤ◌, ℤ, unsigned_abs, FitsSigned, to_z, of_z, w64, subst, sym, arith}
+use Rattle.tone_tracking.proofs.Common.{ints, to_z-of_z}
 use Rattle.tone_tracking.proofs.PhasorLemmas.{product_bound}
 use Rattle.tone_tracking.proofs.phasor.product.Goals as goal
 

@@ -1,5 +1,5 @@
-use Rattle.std.proofs.Common.{◌≡◌, ℕ, ◌+◌, ◌-◌, ◌<◌, ◌≤◌, ℤ, pos, List, length, get_or, take, drop, subst, ap}
-use Rattle.std.proofs.Common.{◌∙◌, arith}
+use Rattle.tone_tracking.proofs.Common.{◌≡◌, ℕ, ◌+◌, ◌-◌, ◌<◌, ◌≤◌, ℤ, pos, List, length, get_or, subst, ap, ◌∙◌, arith}
+use Rattle.std.proofs.Common.{take, drop}
 use Rattle.std.specs.Option.{MatchOption}
 use Rattle.std.specs.Array.{IsFirstChunk}
 use Rattle.std.proofs.lemmas.List.{get_or-take, get_or-drop}

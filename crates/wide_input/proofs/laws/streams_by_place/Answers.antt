@@ -1,4 +1,4 @@
-use Rattle.std.proofs.Common.{pos, arith}
+use Rattle.wide_input.proofs.Common.{pos, arith}
 use Rattle.wide_input.proofs.StreamLemmas.{stream-place, length-stream, least_count-is}
 use Rattle.wide_input.proofs.laws.streams_by_place.Goals as goal
 

@@ -1,10 +1,9 @@
-use Rattle.std.proofs.Common.{◌≡◌, ◌-◌, ◌++◌, ◌∷◌, [], ℕ, ℤ, List, suc, take, get_or, pos, ap, sym, ◌∙◌}
-use Rattle.std.proofs.Common.{append_assoc, arith}
+use Rattle.wide_input.proofs.Common.{◌≡◌, ◌-◌, ◌++◌, ◌∷◌, [], ℕ, ℤ, List, suc, take, get_or, pos, ap, sym, ◌∙◌}
+use Rattle.wide_input.proofs.Common.{append_assoc, arith, stream}
 use Rattle.std.proofs.lemmas.Grind.{common_steps}
-use Rattle.wide_input.specs.Streams.{stream}
 use Rattle.wide_input.proofs.StreamLemmas.{step_taken, step_skipped}
-use Rattle.wide_input.proofs.stream.take_part.Goals as goal
 use Rattle.wide_input.proofs.stream.take_part.Goals.{then-left-gt0, else-left-gt0+in_ok-append}
+use Rattle.wide_input.proofs.stream.take_part.Goals as goal
 
 pub loop-sample-preserved : goal.loop-sample-preserved
 loop-sample-preserved c =

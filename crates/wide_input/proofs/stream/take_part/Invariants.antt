@@ -1,6 +1,4 @@
-use Rattle.std.proofs.Common.{◌≡◌, ◌++◌, take}
-use Rattle.wide_input.specs.Streams.{stream}
-use Rattle.wide_input.specs.Held.{next_skipped}
+use Rattle.wide_input.proofs.Common.{◌≡◌, ◌++◌, take, stream, next_skipped}
 use Rattle.wide_input.proofs.stream.take_part.Given as goal
 
 abbrev pub invariant-loop-sample : goal.invariant-loop-sample

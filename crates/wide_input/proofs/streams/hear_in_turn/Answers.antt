@@ -1,5 +1,4 @@
-use Rattle.std.proofs.Common.{arith, get_or}
-use Rattle.wide_input.specs.Held.{HeldStream}
+use Rattle.wide_input.proofs.Common.{arith, get_or, HeldStream}
 use Rattle.wide_input.proofs.Visits.{DidHear, visited_more}
 use Rattle.wide_input.proofs.streams.hear_in_turn.Goals as goal
 

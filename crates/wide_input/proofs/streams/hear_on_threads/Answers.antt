@@ -1,5 +1,5 @@
-use Rattle.std.proofs.Common.{◌<◌, length, slice_index_or, arith, subst}
-use Rattle.wide_input.specs.Held.{HeldStream, HearsBlock}
+use Rattle.wide_input.proofs.Common.{◌<◌, length, arith, subst, HeldStream, HearsBlock}
+use Rattle.std.proofs.Common.{slice_index_or}
 use Rattle.wide_input.proofs.streams.hear_on_threads.Goals as goal
 
 pub returns-clause-heard : goal.returns-clause-heard

@@ -1,7 +1,5 @@
-use Rattle.std.proofs.Common.{◌≡◌, ◌+◌, ◌/◌, ◌^◌, ◌<◌, ◌≤◌, ◌++◌, ◌∙◌, ap, sym, subst, length, map, replicate}
-use Rattle.std.proofs.Common.{arith, get_or}
-use Rattle.slicer_bank.specs.Held.{HeldBank}
-use Rattle.wide_input.specs.Held.{brought, found_by}
+use Rattle.wide_input.proofs.Common.{◌≡◌, ◌+◌, ◌/◌, ◌^◌, ◌<◌, ◌≤◌, ◌++◌, ◌∙◌, ap, sym, subst, length, map, replicate}
+use Rattle.wide_input.proofs.Common.{arith, get_or, HeldBank, brought, found_by}
 use Rattle.wide_input.proofs.StreamLemmas.{abreast_alike}
 use Rattle.wide_input.proofs.WideSteps.{taken_more}
 use Rattle.wide_input.proofs.streams.merge_found.Goals as goal

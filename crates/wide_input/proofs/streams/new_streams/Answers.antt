@@ -1,8 +1,7 @@
-use Rattle.std.proofs.Common.{◌≤◌, ◌+◌, ◌∷◌, [], ℕ, ap, sym, subst, ◌∙◌, arith, length, get_or}
-use Rattle.std.specs.List.{All}
+use Rattle.wide_input.proofs.Common.{◌≤◌, ◌+◌, ◌∷◌, [], ℕ, ap, sym, subst, ◌∙◌, arith, length, get_or, All, All-append}
+use Rattle.wide_input.proofs.Common.{All-nil, HeldStream, StreamStandsFor, IsAbreast}
 use Rattle.std.proofs.lemmas.List.{length_push}
-use Rattle.std.proofs.lemmas.List.Elements.{All-append, All-cons, All-nil}
-use Rattle.wide_input.specs.Held.{HeldStream, StreamStandsFor, IsAbreast}
+use Rattle.std.proofs.lemmas.List.Elements.{All-cons}
 use Rattle.wide_input.proofs.Visits.{each_push}
 use Rattle.wide_input.proofs.streams.new_streams.Goals as goal
 

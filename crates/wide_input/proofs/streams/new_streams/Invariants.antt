@@ -1,6 +1,4 @@
-use Rattle.std.proofs.Common.{◌≡◌, ◌≤◌, ◌<◌, ℕ, [], length, get_or}
-use Rattle.std.specs.List.{All}
-use Rattle.wide_input.specs.Held.{HeldStream, StreamStandsFor, IsAbreast}
+use Rattle.wide_input.proofs.Common.{◌≡◌, ◌≤◌, ◌<◌, ℕ, [], length, get_or, All, HeldStream, StreamStandsFor, IsAbreast}
 use Rattle.wide_input.proofs.streams.new_streams.Given as goal
 
 abbrev pub invariant-loop-number : goal.invariant-loop-number

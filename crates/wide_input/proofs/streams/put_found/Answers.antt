@@ -1,10 +1,7 @@
-use Rattle.std.proofs.Common.{◌≡◌, ◌<◌, ◌+◌, ◌∙◌, ◌++◌, ℕ, List, map, take, ap, sym, subst, length, get_or}
-use Rattle.std.proofs.Common.{append_assoc, arith}
+use Rattle.wide_input.proofs.Common.{◌≡◌, ◌<◌, ◌+◌, ◌∙◌, ◌++◌, ℕ, List, map, take, ap, sym, subst, length, get_or}
+use Rattle.wide_input.proofs.Common.{append_assoc, arith, Candidate, in_stream, HeldStream, brought, found_by}
 use Rattle.std.proofs.lemmas.List.{take_all}
-use Rattle.frame_merge.specs.declared.candidate.Candidate.{Candidate}
 use Rattle.frame_merge.specs.Held.{StandsFor}
-use Rattle.wide_input.specs.Candidates.{in_stream}
-use Rattle.wide_input.specs.Held.{HeldStream, brought, found_by}
 use Rattle.wide_input.proofs.Visits.{GaveFound, visited_here, visited_more, brought-more}
 use Rattle.wide_input.proofs.streams.put_found.Goals as goal
 

@@ -1,7 +1,5 @@
-use Rattle.std.proofs.Common.{◌≡◌, ◌++◌, List, map, take}
-use Rattle.frame_merge.specs.declared.candidate.Candidate.{Candidate}
+use Rattle.wide_input.proofs.Common.{◌≡◌, ◌++◌, List, map, take, Candidate, brought, found_by}
 use Rattle.frame_merge.specs.Held.{StandsFor}
-use Rattle.wide_input.specs.Held.{brought, found_by}
 use Rattle.wide_input.proofs.Visits.{Visited, GaveFound}
 use Rattle.wide_input.proofs.streams.put_found.Given as goal
 

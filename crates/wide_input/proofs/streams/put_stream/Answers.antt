@@ -1,9 +1,6 @@
-use Rattle.std.proofs.Common.{◌++◌, ◌∷◌, [], List, map, ap, sym, subst}
-use Rattle.std.proofs.lemmas.List.{map-append}
-use Rattle.frame_merge.specs.declared.candidate.Candidate.{Candidate}
+use Rattle.wide_input.proofs.Common.{◌++◌, ◌∷◌, [], List, map, ap, sym, subst, map-append, Candidate, HasPut, in_stream}
 use Rattle.frame_merge.specs.Held.{StandsFor}
-use Rattle.slicer_bank.proofs.MergingLemmas.{HasPut, has_put_more, has_put_all}
-use Rattle.wide_input.specs.Candidates.{in_stream}
+use Rattle.slicer_bank.proofs.MergingLemmas.{has_put_more, has_put_all}
 use Rattle.wide_input.proofs.streams.put_stream.Goals as goal
 
 pub loop-heard-preserved : goal.loop-heard-preserved

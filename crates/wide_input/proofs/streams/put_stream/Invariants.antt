@@ -1,6 +1,4 @@
-use Rattle.std.proofs.Common.{map}
-use Rattle.slicer_bank.proofs.MergingLemmas.{HasPut}
-use Rattle.wide_input.specs.Candidates.{in_stream}
+use Rattle.wide_input.proofs.Common.{map, HasPut, in_stream}
 use Rattle.wide_input.proofs.streams.put_stream.Given as goal
 
 abbrev pub invariant-loop-heard : goal.invariant-loop-heard

@@ -1,8 +1,5 @@
-use Rattle.std.proofs.Common.{ap, ◌∙◌, sym, Some}
-use Rattle.agwpe_port.specs.Messages.{spelling}
-use Rattle.agwpe_client.specs.CallMessages.{connect_message}
-use Rattle.agwpe_client.specs.CallRun.{CallRun, CallPlan, call_plan}
-use Rattle.agwpe_client.specs.HeldCall.{opening_octets}
+use Rattle.agwpe_client.proofs.Common.{ap, ◌∙◌, sym, Some, spelling, connect_message, CallRun, CallPlan, opening_octets}
+use Rattle.agwpe_client.specs.CallRun.{call_plan}
 use Rattle.agwpe_client.proofs.BeginLemmas.{run_begins, stands_begun}
 use Rattle.agwpe_client.proofs.client.Client.new.Goals as goal
 

@@ -1,18 +1,13 @@
-use Rattle.std.proofs.Common.{◌≡◌, ◌≢◌, ℕ, false, List, ◌++◌, subst, sym, ap, ◌∙◌, Ok, Err, Option, Result}
+use Rattle.agwpe_client.proofs.Common.{◌≡◌, ◌≢◌, ℕ, false, List, ◌++◌, subst, sym, ap, ◌∙◌, Ok, Err, Option, Result}
+use Rattle.agwpe_client.proofs.Common.{AgwMessage, messages_in, ClientOut, ClientFault, Over, CallPlan, is_over}
+use Rattle.agwpe_client.proofs.Common.{state_after, step_of, HeldCall, StandsFor, kept_after}
 use Rattle.std.specs.Option.{option_to_list}
-use Rattle.agwpe_port.specs.declared.message.AgwMessage.{AgwMessage}
 use Rattle.agwpe_port.specs.Held.{StandsFor as StandsForOctets}
-use Rattle.agwpe_port.specs.Messages.{messages_in, IsFault as IsOctetsFault}
+use Rattle.agwpe_port.specs.Messages.{IsFault as IsOctetsFault}
 use Rattle.agwpe_port.specs.declared.fault.AgwFault.{AgwFault}
 use Rattle.agwpe_port.specs.declared.fault.AgwFault.TheVariants.{BadLength, Memory as Wanted}
-use Rattle.agwpe_client.specs.declared.client_out.ClientOut.{ClientOut}
-use Rattle.agwpe_client.specs.declared.fault.ClientFault.{ClientFault}
-use Rattle.agwpe_client.specs.declared.fault.ClientFault.TheVariants.{Over}
 use Rattle.agwpe_client.specs.contracts.client.Client.{the_view}
-use Rattle.agwpe_client.specs.CallRun.{CallPlan, is_over, state_after}
 use Rattle.agwpe_client.specs.declared.call_state.CallState.TheVariants.{Broken as StateBroken}
-use Rattle.agwpe_client.specs.CallSteps.{step_of}
-use Rattle.agwpe_client.specs.HeldCall.{HeldCall, StandsFor, kept_after}
 use Rattle.agwpe_client.proofs.StreamLemmas.{good_so_far}
 use Rattle.agwpe_client.proofs.NextLemmas.{Next, with_reader, next_over, next_none, next_message, next_bad}
 use Rattle.agwpe_client.proofs.client.Client.push.Goals as goal

@@ -1,5 +1,4 @@
-use Rattle.std.proofs.Common.{◌<◌, length, arith}
-use Rattle.std.proofs.lemmas.Bool.Decides.{nat_tests}
+use Rattle.ax25_address.proofs.Common.{◌<◌, length, arith, nat_tests}
 use Rattle.ax25_address.proofs.CallLemmas.{IsFilling-more, IsHeld-filling}
 use Rattle.ax25_address.proofs.call.Call.named.Goals as goal
 

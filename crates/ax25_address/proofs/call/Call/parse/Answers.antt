@@ -1,12 +1,8 @@
-use Rattle.std.proofs.Common.{◌≡◌, ◌<◌, ℕ, List, Result, Err, ap, ◌∙◌, subst, arith, length}
-use Rattle.std.proofs.lemmas.Result.{err_from_is_err_and}
-use Rattle.ax25_address.specs.Callsign.{IsName}
-use Rattle.ax25_address.specs.CallText.{name_part, ssid_part, IsFaultOf, TellsSsid}
+use Rattle.ax25_address.proofs.Common.{◌≡◌, ◌<◌, ℕ, List, Result, Err, ap, ◌∙◌, subst, arith, length}
+use Rattle.ax25_address.proofs.Common.{err_from_is_err_and, IsName, IsFaultOf, TellsSsid, common_steps, Callsign}
+use Rattle.ax25_address.proofs.Common.{CallFault, TooLong, BadSsid}
+use Rattle.ax25_address.specs.CallText.{name_part, ssid_part}
 use Rattle.ax25_address.proofs.CallLemmas.{fault_of_name, none_is_not_some, IsFaultOf-same, name_has_no_fault}
-use Rattle.std.proofs.lemmas.Grind.{common_steps}
-use Rattle.ax25_address.specs.Callsign.{Callsign}
-use Rattle.ax25_address.specs.declared.call.CallFault.{CallFault}
-use Rattle.ax25_address.specs.declared.call.CallFault.TheVariants.{TooLong, BadSsid}
 use Rattle.ax25_address.proofs.call.Call.parse.Goals as goal
 
 -- what `parse` answers

@@ -1,7 +1,5 @@
-use Rattle.std.proofs.Common.{◌≡◌, List, ℕ, subst, sym, arith}
-use Rattle.std.proofs.lemmas.Grind.{common_steps}
-use Rattle.ax25_address.specs.Callsign.{Callsign, IsCall}
-use Rattle.ax25_address.specs.CallText.{text_of_call, IsCallText}
+use Rattle.ax25_address.proofs.Common.{◌≡◌, List, ℕ, subst, sym, arith, common_steps, Callsign, IsCall, text_of_call}
+use Rattle.ax25_address.proofs.Common.{IsCallText}
 use Rattle.ax25_address.proofs.TextLemmas.{IsCallText-text}
 use Rattle.ax25_address.proofs.call.Call.text.Goals as goal
 

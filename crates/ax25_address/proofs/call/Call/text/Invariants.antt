@@ -1,4 +1,4 @@
-use Rattle.std.proofs.Common.{◌≡◌, take}
+use Rattle.ax25_address.proofs.Common.{◌≡◌, take}
 use Rattle.ax25_address.proofs.call.Call.text.Given as goal
 
 abbrev pub invariant-loop-index : goal.invariant-loop-index

@@ -1,6 +1,4 @@
-use Rattle.std.proofs.Common.{subst, sym}
-use Rattle.channel_access.specs.Channel.{new_channel}
-use Rattle.channel_access.specs.StandsFor.{StandsForSome}
+use Rattle.channel_access.proofs.Common.{subst, sym, new_channel, StandsForSome}
 use Rattle.channel_access.proofs.QueueLemmas.{stands_new}
 use Rattle.channel_access.proofs.access.Access.new.Goals as goal
 

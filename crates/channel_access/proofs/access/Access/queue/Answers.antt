@@ -1,9 +1,7 @@
-use Rattle.std.proofs.Common.{◌≡◌, subst, sym, Result, Ok, Err}
+use Rattle.channel_access.proofs.Common.{◌≡◌, subst, sym, with_frame, Held, held_with_frame, StandsFor, StandsForSome}
+use Rattle.std.proofs.Common.{Result, Ok, Err}
 use Rattle.std.specs.Result.{OnOk, IfErr}
 use Rattle.std.proofs.lemmas.Result.{on_ok_weaker}
-use Rattle.channel_access.specs.Channel.{with_frame}
-use Rattle.channel_access.specs.Held.{Held, held_with_frame}
-use Rattle.channel_access.specs.StandsFor.{StandsFor, StandsForSome}
 use Rattle.channel_access.proofs.QueueLemmas.{stands_queued}
 use Rattle.channel_access.proofs.access.Access.queue.Goals as goal
 

@@ -1,6 +1,4 @@
-use Rattle.std.proofs.Common.{subst, sym}
-use Rattle.channel_access.specs.Channel.{with_setting}
-use Rattle.channel_access.specs.StandsFor.{StandsForSome}
+use Rattle.channel_access.proofs.Common.{subst, sym, with_setting, StandsForSome}
 use Rattle.channel_access.proofs.QueueLemmas.{stands_set}
 use Rattle.channel_access.proofs.access.Access.set.Goals as goal
 

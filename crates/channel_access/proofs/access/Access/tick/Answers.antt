@@ -1,9 +1,5 @@
-use Rattle.std.proofs.Common.{◌∙◌, ap, sym, subst}
-use Rattle.channel_access.specs.declared.air_tick.AirTick.{AirTick}
-use Rattle.channel_access.specs.Channel.{Takes, after_tick}
-use Rattle.channel_access.specs.Held.{Held}
-use Rattle.channel_access.specs.HeldTick.{held_tick}
-use Rattle.channel_access.specs.StandsFor.{StandsFor, StandsForSome}
+use Rattle.channel_access.proofs.Common.{◌∙◌, ap, sym, subst, AirTick, Takes, after_tick, Held, held_tick, StandsFor}
+use Rattle.channel_access.proofs.Common.{StandsForSome}
 use Rattle.channel_access.proofs.AccessLemmas.{tick_of}
 use Rattle.channel_access.proofs.access.Access.tick.Goals as goal
 

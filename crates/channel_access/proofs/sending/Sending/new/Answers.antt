@@ -1,5 +1,4 @@
-use Rattle.std.proofs.Common.{rules}
-use Rattle.channel_access.specs.Held.{new_sending}
+use Rattle.channel_access.proofs.Common.{rules, new_sending}
 use Rattle.channel_access.proofs.sending.Sending.new.Goals as goal
 
 pub returns : goal.returns

@@ -1,6 +1,4 @@
-use Rattle.std.proofs.Common.{◌≡◌, ◌*◌, take, refl, sym, ap, ◌∙◌, arith}
-use Rattle.std.proofs.lemmas.List.{take_all}
-use Rattle.channel_access.specs.Held.{tick_start, with_bits}
+use Rattle.channel_access.proofs.Common.{◌≡◌, ◌*◌, take, refl, sym, ap, ◌∙◌, arith, take_all, tick_start, with_bits}
 use Rattle.channel_access.proofs.RunLemmas.{sending_more, waiting_more, samples_more, sent_more}
 use Rattle.channel_access.proofs.sending.Sending.tick.Goals as goal
 

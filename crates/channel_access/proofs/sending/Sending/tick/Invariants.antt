@@ -1,6 +1,5 @@
 -- The bits so far have been sent.
-use Rattle.std.proofs.Common.{◌≡◌, ◌*◌, length, take}
-use Rattle.channel_access.specs.Held.{with_bits, tick_start}
+use Rattle.channel_access.proofs.Common.{◌≡◌, ◌*◌, length, take, with_bits, tick_start}
 use Rattle.channel_access.proofs.sending.Sending.tick.Given as goal
 
 abbrev pub invariant-loop-count : goal.invariant-loop-count

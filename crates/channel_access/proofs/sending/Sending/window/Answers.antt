@@ -1,5 +1,4 @@
-use Rattle.std.proofs.Common.{rules}
-use Rattle.channel_access.specs.Held.{window_of}
+use Rattle.channel_access.proofs.Common.{rules, window_of}
 use Rattle.channel_access.proofs.sending.Sending.window.Goals as goal
 
 pub returns-in-Some-clause-samples : goal.returns-in-Some-clause-samples

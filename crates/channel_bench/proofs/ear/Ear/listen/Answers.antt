@@ -1,13 +1,8 @@
 -- The samples are heard, and the marks move on.
-use Rattle.std.proofs.Common.{◌≡◌, ◌^◌, ◌<◌, ◌≤◌, ◌++◌, length, replicate, refl, sym, ap, ◌∙◌, subst, arith}
-use Rattle.std.proofs.Common.{length-append, ℕ, List, get_or}
+use Rattle.channel_bench.proofs.Common.{◌≡◌, ◌^◌, ◌<◌, ◌≤◌, ◌++◌, length, replicate, refl, sym, ap, ◌∙◌, subst, arith}
+use Rattle.channel_bench.proofs.Common.{length-append, ℕ, List, get_or, Candidate, All, All-replicate, mark_of, if_took}
 use Rattle.std.proofs.lemmas.List.{get_or-replicate}
-use Rattle.frame_merge.specs.declared.candidate.Candidate.{Candidate}
-use Rattle.std.specs.Prelude.{All}
-use Rattle.std.proofs.lemmas.List.Elements.{All-replicate}
 use Rattle.slicer_bank.specs.Merging.{CanBePut}
-use Rattle.channel_bench.specs.Sounding.{mark_of}
-use Rattle.station.proofs.MemoryLemmas.{if_took}
 use Rattle.channel_bench.proofs.EarLemmas.{ear_more, ready_lengths}
 use Rattle.channel_bench.proofs.ear.Ear.listen.Goals as goal
 

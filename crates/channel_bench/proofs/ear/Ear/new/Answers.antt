@@ -1,5 +1,5 @@
 -- Nothing is heard.
-use Rattle.std.proofs.Common.{refl}
+use Rattle.channel_bench.proofs.Common.{refl}
 use Rattle.channel_bench.proofs.EarLemmas.{ear_none}
 use Rattle.channel_bench.proofs.ear.Ear.new.Goals as goal
 

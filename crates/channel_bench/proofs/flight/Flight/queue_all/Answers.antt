@@ -1,9 +1,6 @@
 -- One frame after another.
-use Rattle.std.proofs.Common.{◌≡◌, ◌+◌, ◌∙◌, ◌++◌, ◌∷◌, [], sym, ap, subst, take, get_or}
-use Rattle.std.proofs.lemmas.List.{take_all, take_more}
-use Rattle.channel_bench.specs.BenchSteps.{first_unquiet}
-use Rattle.channel_bench.specs.HeldBench.{StandsForWays}
-use Rattle.station_laws.specs.InFlight.{queueing_all}
+use Rattle.channel_bench.proofs.Common.{◌≡◌, ◌+◌, ◌∙◌, ◌++◌, ◌∷◌, [], sym, ap, subst, take, get_or, take_all, take_more}
+use Rattle.channel_bench.proofs.Common.{first_unquiet, StandsForWays, queueing_all}
 use Rattle.channel_bench.proofs.FlightLemmas.{first_more, queueing_more}
 use Rattle.channel_bench.proofs.flight.Flight.queue_all.Goals as goal
 

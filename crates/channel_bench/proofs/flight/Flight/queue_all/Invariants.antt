@@ -1,8 +1,5 @@
 -- The frames so far have joined.
-use Rattle.std.proofs.Common.{◌≡◌, take}
-use Rattle.channel_bench.specs.BenchSteps.{first_unquiet}
-use Rattle.channel_bench.specs.HeldBench.{StandsForWays}
-use Rattle.station_laws.specs.InFlight.{BothWays, queueing_all}
+use Rattle.channel_bench.proofs.Common.{◌≡◌, take, first_unquiet, StandsForWays, BothWays, queueing_all}
 use Rattle.channel_bench.proofs.flight.Flight.queue_all.Given as goal
 
 abbrev pub invariant-loop-frame : goal.invariant-loop-frame

@@ -1,7 +1,5 @@
 -- The flags that are kept of the frames in flight answer for the frames.
-use Rattle.std.proofs.Common.{List, ◌∙◌, ap, drop}
-use Rattle.std.specs.List.{list_any}
-use Rattle.channel_bench.specs.declared.flight.Flags.{Flags}
+use Rattle.channel_bench.proofs.Common.{List, ◌∙◌, ap, drop, list_any, Flags}
 use Rattle.channel_bench.proofs.FlightLemmas.{in_flight_any}
 use Rattle.channel_bench.proofs.flight.OneWay.answers.Goals as goal
 

@@ -1,7 +1,5 @@
 -- One message after another.
-use Rattle.std.proofs.Common.{sym, ◌∙◌, ap}
-use Rattle.std.proofs.lemmas.List.{take_all}
-use Rattle.channel_bench.specs.HostProgram.{told, told_all}
+use Rattle.channel_bench.proofs.Common.{sym, ◌∙◌, ap, take_all, told, told_all}
 use Rattle.channel_bench.proofs.HearLemmas.{told_all_more}
 use Rattle.channel_bench.proofs.program.Program.hear_all.Goals as goal
 

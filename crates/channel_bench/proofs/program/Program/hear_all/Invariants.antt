@@ -1,6 +1,5 @@
 -- The messages so far are heeded.
-use Rattle.std.proofs.Common.{◌≡◌, take}
-use Rattle.channel_bench.specs.HostProgram.{told_all}
+use Rattle.channel_bench.proofs.Common.{◌≡◌, take, told_all}
 use Rattle.channel_bench.proofs.program.Program.hear_all.Given as goal
 
 abbrev pub invariant-loop-message : goal.invariant-loop-message

@@ -1,7 +1,5 @@
 -- The hosts come before the stations, and A before B.
-use Rattle.link_world.specs.declared.end.End.TheVariants.{A, B}
-use Rattle.std.proofs.Common.{[], ◌∷◌}
-use Rattle.channel_bench.specs.BenchTick.Part.{AsksOrCalls, Gives, Ticks}
+use Rattle.channel_bench.proofs.Common.{A, B, [], ◌∷◌, AsksOrCalls, Gives, Ticks}
 use Rattle.channel_bench.proofs.PartLemmas.{parts_cons, parts_one}
 use Rattle.channel_bench.proofs.run.Run.act.Goals as goal
 

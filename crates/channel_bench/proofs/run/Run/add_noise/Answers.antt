@@ -1,7 +1,5 @@
 -- The noise of the samples towards B is drawn before that of those towards A.
-use Rattle.std.proofs.Common.{◌≤◌, refl, sym, subst}
-use Rattle.std.specs.Prelude.{All}
-use Rattle.link_world.specs.declared.end.End.TheVariants.{A, B}
+use Rattle.channel_bench.proofs.Common.{◌≤◌, refl, sym, subst, All, A, B}
 use Rattle.channel_bench.proofs.Loudness.{IsLoudAtMost}
 use Rattle.channel_bench.proofs.SoundLemmas.{reaching_within}
 use Rattle.channel_bench.proofs.TakeLemmas.{noise_drawn, noisy_a, noisy_b}

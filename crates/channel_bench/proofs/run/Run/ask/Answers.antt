@@ -1,12 +1,7 @@
 -- Both host programs know that A asks, and its station hears of it.
-use Rattle.std.proofs.Common.{refl, ap, ◌∙◌, subst, None}
-use Rattle.link_world.specs.declared.end.End.TheVariants.{A, B}
-use Rattle.station.specs.declared.host_event.HostEvent.TheVariants.{Bytes}
-use Rattle.channel_bench.specs.BenchState.{near}
-use Rattle.channel_bench.specs.BenchSteps.{IsStep}
-use Rattle.channel_bench.specs.BenchTick.{Says, with_asking}
-use Rattle.channel_bench.specs.HostProgram.{asking, disconnect_octets, waiting}
-use Rattle.station_laws.specs.JointRun.Input.{FromHost}
+use Rattle.channel_bench.proofs.Common.{refl, ap, ◌∙◌, subst, None, A, B, Bytes, near, IsStep, Says, with_asking}
+use Rattle.channel_bench.proofs.Common.{disconnect_octets, FromHost}
+use Rattle.channel_bench.specs.HostProgram.{asking, waiting}
 use Rattle.channel_bench.proofs.RunLemmas.{with_a}
 use Rattle.channel_bench.proofs.SideLemmas.{stands_program}
 use Rattle.channel_bench.proofs.run.Run.ask.Goals as goal

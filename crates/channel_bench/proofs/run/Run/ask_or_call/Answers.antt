@@ -1,7 +1,5 @@
 -- Each way in which A sends something, or nothing.
-use Rattle.std.proofs.Common.{refl, sym, ap, ◌∙◌, []}
-use Rattle.link_world.specs.declared.end.End.TheVariants.{A}
-use Rattle.channel_bench.specs.BenchTick.{IsAskedOrCalled}
+use Rattle.channel_bench.proofs.Common.{refl, sym, ap, ◌∙◌, [], A, IsAskedOrCalled}
 use Rattle.channel_bench.proofs.AskLemmas.{asked, called, neither, not_taken}
 use Rattle.channel_bench.proofs.RunLemmas.{goes_on, has_ended, unless_ended, unless_made}
 use Rattle.channel_bench.proofs.run.Run.ask_or_call.Goals as goal

@@ -1,12 +1,5 @@
-use Rattle.std.proofs.Common.{◌∷◌, [], ◌++◌, subst}
-use Rattle.link_world.specs.declared.end.End.TheVariants.{A, B}
-use Rattle.station.specs.declared.host_event.HostEvent.TheVariants.{Bytes}
-use Rattle.channel_bench.specs.BenchState.{AtEnd}
-use Rattle.channel_bench.specs.BenchSteps.{IsTold}
-use Rattle.channel_bench.specs.BenchTick.{beginning, joins, sets_duplex}
-use Rattle.channel_bench.specs.BenchTick.Part.{Tells}
-use Rattle.channel_bench.specs.HeldBench.{Unless}
-use Rattle.channel_bench.specs.HostProgram.{connect_octets}
+use Rattle.channel_bench.proofs.Common.{◌∷◌, [], ◌++◌, subst, A, B, Bytes, AtEnd, IsTold, beginning, joins, sets_duplex}
+use Rattle.channel_bench.proofs.Common.{Tells, Unless, connect_octets}
 use Rattle.channel_bench.proofs.PartLemmas.{parts_append, parts_one}
 use Rattle.channel_bench.proofs.run.Run.begin.Goals as goal
 

@@ -1,12 +1,7 @@
 -- A's host program knows that it calls, and its station hears of it.
-use Rattle.std.proofs.Common.{refl, ap, ◌∙◌, subst, None}
-use Rattle.link_world.specs.declared.end.End.TheVariants.{A}
-use Rattle.station.specs.declared.host_event.HostEvent.TheVariants.{Bytes}
-use Rattle.channel_bench.specs.BenchState.{near}
-use Rattle.channel_bench.specs.BenchSteps.{IsStep}
-use Rattle.channel_bench.specs.BenchTick.{Says, with_calling}
-use Rattle.channel_bench.specs.HostProgram.{calling, connect_octets}
-use Rattle.station_laws.specs.JointRun.Input.{FromHost}
+use Rattle.channel_bench.proofs.Common.{refl, ap, ◌∙◌, subst, None, A, Bytes, near, IsStep, Says, with_calling}
+use Rattle.channel_bench.proofs.Common.{connect_octets, FromHost}
+use Rattle.channel_bench.specs.HostProgram.{calling}
 use Rattle.channel_bench.proofs.RunLemmas.{with_a}
 use Rattle.channel_bench.proofs.SideLemmas.{stands_program}
 use Rattle.channel_bench.proofs.run.Run.call.Goals as goal

@@ -1,10 +1,6 @@
 -- The losses, the noise and the samples, one after another.
-use Rattle.std.proofs.Common.{subst, ap, ◌∙◌, arith}
-use Rattle.channel_bench.specs.declared.ear.Ear.{Ear}
-use Rattle.channel_bench.specs.BenchState.{BenchState}
-use Rattle.channel_bench.specs.BenchTick.{AreReady}
-use Rattle.channel_bench.specs.HeldBench.{StandsForRun, with_noise_drawn}
-use Rattle.channel_bench.specs.Sounding.{with_losses}
+use Rattle.channel_bench.proofs.Common.{subst, ap, ◌∙◌, arith, Ear, BenchState, AreReady, StandsForRun}
+use Rattle.channel_bench.proofs.Common.{with_noise_drawn, with_losses}
 use Rattle.channel_bench.proofs.TakeLemmas.{sounded_is}
 use Rattle.channel_bench.proofs.run.Run.carry.Goals as goal
 

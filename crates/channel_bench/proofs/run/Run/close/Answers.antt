@@ -1,6 +1,5 @@
 -- What has passed is in flight no longer, and the tick ends.
-use Rattle.std.proofs.Common.{◌≡◌, refl}
-use Rattle.channel_bench.specs.Sounding.{ticked}
+use Rattle.channel_bench.proofs.Common.{◌≡◌, refl, ticked}
 use Rattle.channel_bench.proofs.PassLemmas.{closed}
 use Rattle.channel_bench.proofs.RunLemmas.{goes_on, has_ended, unless_ended, unless_made}
 use Rattle.channel_bench.proofs.run.Run.close.Goals as goal

@@ -1,8 +1,5 @@
 -- A's transmission draws before B's.
-use Rattle.std.proofs.Common.{refl}
-use Rattle.link_world.specs.declared.end.End.TheVariants.{A, B}
-use Rattle.channel_bench.specs.BenchState.{near, with_near}
-use Rattle.channel_bench.specs.Sounding.{with_loss}
+use Rattle.channel_bench.proofs.Common.{refl, A, B, near, with_near, with_loss}
 use Rattle.channel_bench.proofs.LossLemmas.{both_lost}
 use Rattle.channel_bench.proofs.RunLemmas.{near_a}
 use Rattle.channel_bench.proofs.run.Run.draw_losses.Goals as goal

@@ -1,8 +1,5 @@
 -- The host program at the end gives the next piece.
-use Rattle.std.proofs.Common.{refl, ◌∙◌}
-use Rattle.link_world.specs.declared.end.End.TheVariants.{A, B}
-use Rattle.channel_bench.specs.BenchTick.{IsGiven}
-use Rattle.channel_bench.specs.BenchState.{AtEnd, near}
+use Rattle.channel_bench.proofs.Common.{refl, ◌∙◌, A, B, IsGiven, AtEnd, near}
 use Rattle.channel_bench.proofs.RunLemmas.{goes_on, has_ended, made_at_a, made_at_b, near_a, near_b, unless_ended}
 use Rattle.channel_bench.proofs.run.Run.give.Goals as goal
 

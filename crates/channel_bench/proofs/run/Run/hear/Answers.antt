@@ -1,8 +1,5 @@
 -- The station of the end hears the frames.
-use Rattle.std.proofs.Common.{refl}
-use Rattle.link_world.specs.declared.end.End.TheVariants.{A, B}
-use Rattle.channel_bench.specs.BenchState.{near}
-use Rattle.channel_bench.specs.BenchSteps.{AreHeardAt}
+use Rattle.channel_bench.proofs.Common.{refl, A, B, near, AreHeardAt}
 use Rattle.channel_bench.proofs.RunLemmas.{moves_at_a, moves_at_b, near_a, near_b}
 use Rattle.channel_bench.proofs.run.Run.hear.Goals as goal
 

@@ -1,9 +1,5 @@
 -- A hears before B.
-use Rattle.std.proofs.Common.{List, subst}
-use Rattle.frame_merge.specs.declared.candidate.Candidate.{Candidate}
-use Rattle.link_world.specs.declared.end.End.TheVariants.{A, B}
-use Rattle.channel_bench.specs.BenchState.{AtEnd}
-use Rattle.channel_bench.specs.BenchSteps.{AreHeardAt}
+use Rattle.channel_bench.proofs.Common.{List, subst, Candidate, A, B, AtEnd, AreHeardAt}
 use Rattle.channel_bench.proofs.TickLemmas.{hears_made}
 use Rattle.channel_bench.proofs.run.Run.hear_both.Goals as goal
 

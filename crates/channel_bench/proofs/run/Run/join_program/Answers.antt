@@ -1,12 +1,5 @@
-use Rattle.std.proofs.Common.{◌∷◌, [], subst}
-use Rattle.station.specs.declared.host_event.HostEvent.TheVariants.{Joined, Bytes}
-use Rattle.station.specs.declared.host_event.PortKind.TheVariants.{Agw}
-use Rattle.channel_bench.specs.BenchState.{AtEnd}
-use Rattle.channel_bench.specs.BenchSteps.{IsTold}
-use Rattle.channel_bench.specs.BenchTick.{joins}
-use Rattle.channel_bench.specs.BenchTick.Part.{Tells}
-use Rattle.channel_bench.specs.HeldBench.{Unless}
-use Rattle.channel_bench.specs.HostProgram.{register_octets}
+use Rattle.channel_bench.proofs.Common.{◌∷◌, [], subst, Joined, Bytes, Agw, AtEnd, IsTold, joins, Tells, Unless}
+use Rattle.channel_bench.proofs.Common.{register_octets}
 use Rattle.channel_bench.proofs.PartLemmas.{parts_cons, parts_one}
 use Rattle.channel_bench.proofs.run.Run.join_program.Goals as goal
 

@@ -1,6 +1,5 @@
 -- What hosts and stations do, and then what comes of it.
-use Rattle.channel_bench.specs.BenchTick.{each_tick}
-use Rattle.channel_bench.specs.HeldBench.{acts, sounds}
+use Rattle.channel_bench.proofs.Common.{each_tick, acts, sounds}
 use Rattle.channel_bench.proofs.CountLemmas.{acts_counted}
 use Rattle.channel_bench.proofs.PartLemmas.{parts_append}
 use Rattle.channel_bench.proofs.run.Run.make_parts.Goals as goal

@@ -1,5 +1,5 @@
 -- Nothing came to pass yet.
-use Rattle.std.proofs.Common.{refl}
+use Rattle.channel_bench.proofs.Common.{refl}
 use Rattle.channel_bench.proofs.run.Run.new.Goals as goal
 
 pub returns-clause-stands_for : goal.returns-clause-stands_for

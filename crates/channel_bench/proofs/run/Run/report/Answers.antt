@@ -1,6 +1,5 @@
 -- What the run stands for is told.
-use Rattle.std.proofs.Common.{◌∙◌, ap}
-use Rattle.channel_bench.specs.HostProgram.{set_ups_of}
+use Rattle.channel_bench.proofs.Common.{◌∙◌, ap, set_ups_of}
 use Rattle.channel_bench.proofs.run.Run.report.Goals as goal
 
 pub returns : goal.returns

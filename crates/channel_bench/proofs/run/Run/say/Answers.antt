@@ -1,9 +1,5 @@
 -- The connection speaks to the station of the end.
-use Rattle.std.proofs.Common.{refl}
-use Rattle.link_world.specs.declared.end.End.TheVariants.{A, B}
-use Rattle.station.specs.declared.host_event.HostEvent.TheVariants.{Bytes}
-use Rattle.channel_bench.specs.BenchSteps.{IsTold}
-use Rattle.channel_bench.specs.BenchState.{AtEnd, near}
+use Rattle.channel_bench.proofs.Common.{refl, A, B, Bytes, IsTold, AtEnd, near}
 use Rattle.channel_bench.proofs.RunLemmas.{goes_on, has_ended, made_at_a, made_at_b, near_a, near_b, unless_ended}
 use Rattle.channel_bench.proofs.run.Run.say.Goals as goal
 

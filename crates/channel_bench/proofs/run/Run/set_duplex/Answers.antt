@@ -1,7 +1,6 @@
 -- Both stations, or none.
-use Rattle.std.proofs.Common.{refl, sym, ap, ◌∙◌, subst, cond, [], ◌++◌}
-use Rattle.link_world.specs.declared.end.End.TheVariants.{A, B}
-use Rattle.channel_bench.specs.BenchTick.{ArePartsMade, sets_duplex, sets_full_duplex}
+use Rattle.channel_bench.proofs.Common.{refl, sym, ap, ◌∙◌, subst, cond, [], ◌++◌, A, B, ArePartsMade, sets_duplex}
+use Rattle.channel_bench.proofs.Common.{sets_full_duplex}
 use Rattle.channel_bench.proofs.PartLemmas.{parts_append}
 use Rattle.channel_bench.proofs.run.Run.set_duplex.Goals as goal
 

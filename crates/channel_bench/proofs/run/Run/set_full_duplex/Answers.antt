@@ -1,12 +1,5 @@
-use Rattle.std.proofs.Common.{◌∷◌, [], subst}
-use Rattle.station.specs.declared.host_event.HostEvent.TheVariants.{Joined, Bytes}
-use Rattle.station.specs.declared.host_event.PortKind.TheVariants.{Kiss}
-use Rattle.channel_bench.specs.BenchState.{AtEnd}
-use Rattle.channel_bench.specs.BenchSteps.{IsTold}
-use Rattle.channel_bench.specs.BenchTick.{sets_full_duplex}
-use Rattle.channel_bench.specs.BenchTick.Part.{Tells}
-use Rattle.channel_bench.specs.HeldBench.{Unless}
-use Rattle.channel_bench.specs.HostProgram.{full_duplex_octets}
+use Rattle.channel_bench.proofs.Common.{◌∷◌, [], subst, Joined, Bytes, Kiss, AtEnd, IsTold, sets_full_duplex, Tells}
+use Rattle.channel_bench.proofs.Common.{Unless, full_duplex_octets}
 use Rattle.channel_bench.proofs.PartLemmas.{parts_cons, parts_one}
 use Rattle.channel_bench.proofs.run.Run.set_full_duplex.Goals as goal
 

@@ -1,9 +1,5 @@
 -- The samples, the frames that are ready with them, and the end of the tick.
-use Rattle.std.proofs.Common.{refl}
-use Rattle.channel_bench.specs.BenchTick.{IsPart}
-use Rattle.channel_bench.specs.BenchTick.Part.{Sounds}
-use Rattle.channel_bench.specs.HeldBench.{hears, sounds}
-use Rattle.channel_bench.specs.Sounding.{sounding}
+use Rattle.channel_bench.proofs.Common.{refl, IsPart, Sounds, hears, sounds, sounding}
 use Rattle.channel_bench.proofs.PartLemmas.{parts_cons}
 use Rattle.channel_bench.proofs.RunLemmas.{goes_on, has_ended, unless_made}
 use Rattle.channel_bench.proofs.TickLemmas.{parts_ended}

@@ -1,9 +1,5 @@
 -- A's samples are heard before B's, with what the other one sends.
-use Rattle.std.proofs.Common.{◌++◌, refl, subst}
-use Rattle.link_world.specs.declared.end.End.TheVariants.{A, B}
-use Rattle.channel_bench.specs.BenchTick.{AreReady}
-use Rattle.channel_bench.specs.HeldBench.{StandsForSide}
-use Rattle.channel_bench.specs.Sounding.{sent_in, with_samples}
+use Rattle.channel_bench.proofs.Common.{◌++◌, refl, subst, A, B, AreReady, StandsForSide, sent_in, with_samples}
 use Rattle.channel_bench.proofs.TakeLemmas.{both_taken}
 use Rattle.channel_bench.proofs.run.Run.take_in.Goals as goal
 

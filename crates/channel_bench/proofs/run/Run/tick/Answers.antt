@@ -1,5 +1,5 @@
 -- In the first tick the run begins.
-use Rattle.std.proofs.Common.{◌≡◌, ◌<◌, subst, arith}
+use Rattle.channel_bench.proofs.Common.{◌≡◌, ◌<◌, subst, arith}
 use Rattle.channel_bench.proofs.CountLemmas.{beginning_counted}
 use Rattle.channel_bench.proofs.TickLemmas.{tick_first, tick_later}
 use Rattle.channel_bench.proofs.run.Run.tick.Goals as goal

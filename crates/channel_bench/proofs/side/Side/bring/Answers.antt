@@ -1,9 +1,5 @@
 -- The station makes the step of the octets, and the host program is told what comes of it.
-use Rattle.std.proofs.Common.{refl, ap, ◌∙◌}
-use Rattle.station.specs.declared.host_event.HostEvent.{HostEvent}
-use Rattle.station.specs.declared.host_event.HostEvent.TheVariants.{Bytes}
-use Rattle.station.specs.Turn.{Out}
-use Rattle.station.specs.Held.{without_ids}
+use Rattle.channel_bench.proofs.Common.{refl, ap, ◌∙◌, HostEvent, Bytes, Out, without_ids}
 use Rattle.channel_bench.proofs.HostSteps.{host_step}
 use Rattle.channel_bench.proofs.side.Side.bring.Goals as goal
 

@@ -1,6 +1,5 @@
 -- A transmission that begins is lost, or not, and counted.
-use Rattle.std.proofs.Common.{refl, sym, ap, ◌∙◌, subst}
-use Rattle.channel_bench.specs.HeldBench.{StandsForNear}
+use Rattle.channel_bench.proofs.Common.{refl, sym, ap, ◌∙◌, subst, StandsForNear}
 use Rattle.channel_bench.proofs.LossLemmas.{loss_none, loss_drawn}
 use Rattle.channel_bench.proofs.side.Side.draw_loss.Goals as goal
 

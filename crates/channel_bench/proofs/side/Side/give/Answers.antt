@@ -1,10 +1,6 @@
 -- The next piece is given if the station takes it, and there is one.
-use Rattle.std.proofs.Common.{◌≡◌, List, [], ℕ, Some, None, refl, ap, ◌∙◌, subst}
-use Rattle.station.specs.declared.host_event.HostEvent.TheVariants.{Bytes}
-use Rattle.channel_bench.specs.BenchSteps.{IsStep}
-use Rattle.channel_bench.specs.BenchTick.{with_giving}
-use Rattle.channel_bench.specs.HostProgram.{data_octets}
-use Rattle.station_laws.specs.JointRun.Input.{FromHost}
+use Rattle.channel_bench.proofs.Common.{◌≡◌, List, [], ℕ, Some, None, refl, ap, ◌∙◌, subst, Bytes, IsStep, with_giving}
+use Rattle.channel_bench.proofs.Common.{data_octets, FromHost}
 use Rattle.channel_bench.proofs.GiveLemmas.{given_no, given_none, given_yes, piece_is, stands_giving}
 use Rattle.channel_bench.proofs.side.Side.give.Goals as goal
 

@@ -1,10 +1,7 @@
 -- Nothing comes to pass if the run has ended; a frame without a match ends it; one with a match is heard.
-use Rattle.std.proofs.Common.{◌≡◌, ◌+◌, Some, None, sym, ap, ◌∙◌, subst, drop}
-use Rattle.std.specs.Prelude.{is_some, position}
-use Rattle.std.proofs.lemmas.List.{take_rest}
-use Rattle.channel_bench.specs.declared.trouble.Trouble.TheVariants.{Stray}
-use Rattle.channel_bench.specs.BenchSteps.{IsStep, is_match, match_of, with_matched, with_stray}
-use Rattle.station_laws.specs.JointRun.Input.{OffAir}
+use Rattle.channel_bench.proofs.Common.{◌≡◌, ◌+◌, Some, None, sym, ap, ◌∙◌, subst, drop, position, take_rest, Stray}
+use Rattle.channel_bench.proofs.Common.{IsStep, is_match, match_of, with_matched, with_stray, OffAir}
+use Rattle.std.specs.Prelude.{is_some}
 use Rattle.channel_bench.proofs.HearLemmas.{heard_ended, heard_goes_on, match_at, match_made, stray_made, stray_stands}
 use Rattle.channel_bench.proofs.RunLemmas.{none_from}
 use Rattle.channel_bench.proofs.side.Side.hear.Goals as goal

@@ -1,9 +1,5 @@
 -- One frame after another.
-use Rattle.std.proofs.Common.{sym, subst}
-use Rattle.std.proofs.lemmas.List.{take_all}
-use Rattle.hdlc_framer.specs.FrameLength.{HasFrameLength}
-use Rattle.frame_merge.specs.declared.candidate.Candidate.{Candidate}
-use Rattle.channel_bench.specs.BenchSteps.{AreHeardAt}
+use Rattle.channel_bench.proofs.Common.{sym, subst, take_all, HasFrameLength, Candidate, AreHeardAt}
 use Rattle.channel_bench.proofs.HearLemmas.{heard_more}
 use Rattle.channel_bench.proofs.side.Side.hear_all.Goals as goal
 

@@ -1,7 +1,6 @@
 -- The station makes the step of the frame, and what was in flight before it is in flight no longer.
-use Rattle.std.proofs.Common.{◌<◌, refl}
+use Rattle.channel_bench.proofs.Common.{◌<◌, refl, All}
 use Rattle.std.proofs.lemmas.List.Elements.{All-from_get_or}
-use Rattle.std.specs.Prelude.{All}
 use Rattle.channel_bench.proofs.HeardSteps.{heard_step}
 use Rattle.channel_bench.proofs.side.Side.hear_sent.Goals as goal
 

@@ -1,5 +1,5 @@
 -- The connection joins if none of its id is there.
-use Rattle.station.specs.declared.host_event.HostEvent.TheVariants.{Joined}
+use Rattle.channel_bench.proofs.Common.{Joined}
 use Rattle.channel_bench.proofs.SideLemmas.{told_no, told_yes}
 use Rattle.channel_bench.proofs.side.Side.join.Goals as goal
 

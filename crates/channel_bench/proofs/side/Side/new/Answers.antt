@@ -1,10 +1,8 @@
 -- Nothing came yet.
-use Rattle.std.proofs.Common.{◌≡◌, [], refl, subst}
-use Rattle.station.specs.Held.{Held, ids_of}
+use Rattle.channel_bench.proofs.Common.{◌≡◌, [], refl, subst, ids_of, config_of, if_took}
+use Rattle.station.specs.Held.{Held}
 use Rattle.station.specs.State.{new_station}
 use Rattle.station.specs.StandsFor.{StandsFor}
-use Rattle.channel_bench.specs.BenchState.{config_of}
-use Rattle.station.proofs.MemoryLemmas.{if_took}
 use Rattle.station.proofs.WindowLemmas.{none_refused}
 use Rattle.channel_bench.proofs.Loudness.{silence_within}
 use Rattle.channel_bench.proofs.side.Side.new.Goals as goal

@@ -1,4 +1,4 @@
-use Rattle.station.specs.declared.host_event.HostEvent.TheVariants.{Bytes}
+use Rattle.channel_bench.proofs.Common.{Bytes}
 use Rattle.channel_bench.proofs.SideLemmas.{told_no, told_yes}
 use Rattle.channel_bench.proofs.side.Side.say.Goals as goal
 

@@ -1,9 +1,6 @@
 -- The pieces are told first, and the station keeps its end.
-use Rattle.std.proofs.Common.{◌∙◌, ap, subst}
-use Rattle.station.specs.Turn.{Out}
-use Rattle.channel_bench.specs.BenchSteps.{first_unquiet, told_pieces, trouble_of}
-use Rattle.channel_bench.specs.HeldBench.{StandsForSide, StandsForWays}
-use Rattle.station_laws.specs.InFlight.{queueing_all}
+use Rattle.channel_bench.proofs.Common.{◌∙◌, ap, subst, Out, first_unquiet, told_pieces, trouble_of, StandsForSide}
+use Rattle.channel_bench.proofs.Common.{StandsForWays, queueing_all}
 use Rattle.channel_bench.proofs.side.Side.settle.Goals as goal
 
 pub returns-clause-side : goal.returns-clause-side

@@ -1,9 +1,6 @@
 -- A piece of another connection is dropped, and the host program reads its own.
-use Rattle.std.proofs.Common.{◌≡◌, ◌++◌, refl, sym, subst, ap, ◌∙◌}
+use Rattle.channel_bench.proofs.Common.{◌≡◌, ◌++◌, refl, sym, subst, ap, ◌∙◌, messages_in, StandsForSide, told_all}
 use Rattle.agwpe_port.specs.Held.{StandsFor}
-use Rattle.agwpe_port.specs.Messages.{messages_in}
-use Rattle.channel_bench.specs.HeldBench.{StandsForSide}
-use Rattle.channel_bench.specs.HostProgram.{told_all}
 use Rattle.channel_bench.proofs.PieceLemmas.{told_messages, told_other}
 use Rattle.channel_bench.proofs.side.Side.take.Goals as goal
 

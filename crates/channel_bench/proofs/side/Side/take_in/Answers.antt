@@ -1,6 +1,5 @@
 -- The samples are heard, and the frame is noted.
-use Rattle.std.proofs.Common.{◌++◌, refl, ap, ◌∙◌}
-use Rattle.channel_bench.specs.Sounding.{sent_in}
+use Rattle.channel_bench.proofs.Common.{◌++◌, refl, ap, ◌∙◌, sent_in}
 use Rattle.channel_bench.proofs.SideLemmas.{stands_kept}
 use Rattle.channel_bench.proofs.SoundLemmas.{ready_with}
 use Rattle.channel_bench.proofs.side.Side.take_in.Goals as goal

@@ -1,8 +1,5 @@
 -- One piece after another.
-use Rattle.std.proofs.Common.{sym, ◌∙◌, subst, take}
-use Rattle.std.proofs.lemmas.List.{take_all}
-use Rattle.channel_bench.specs.BenchSteps.{told_pieces}
-use Rattle.channel_bench.specs.HeldBench.{StandsForSide}
+use Rattle.channel_bench.proofs.Common.{sym, ◌∙◌, subst, take, take_all, told_pieces, StandsForSide}
 use Rattle.channel_bench.proofs.HearLemmas.{told_pieces_more}
 use Rattle.channel_bench.proofs.side.Side.tell.Goals as goal
 

@@ -1,5 +1,5 @@
 -- The station ticks, and the host program is told what comes of it.
-use Rattle.std.proofs.Common.{refl}
+use Rattle.channel_bench.proofs.Common.{refl}
 use Rattle.channel_bench.proofs.HostSteps.{tick_step}
 use Rattle.channel_bench.proofs.SideLemmas.{ticks}
 use Rattle.channel_bench.proofs.side.Side.tick.Goals as goal

@@ -1,4 +1,4 @@
-use Rattle.std.proofs.Common.{◌-◌, length, take, ap, ◌∙◌, arith}
+use Rattle.hdlc_framer.proofs.Common.{◌-◌, length, take, ap, ◌∙◌, arith}
 use Rattle.hdlc_framer.proofs.PackedLemmas.{frame_length, frame_octets}
 use Rattle.hdlc_framer.proofs.content.Content.frame.Goals as goal
 

@@ -1,4 +1,4 @@
-use Rattle.std.proofs.Common.{length, ap, sym, ◌∙◌, arith}
+use Rattle.hdlc_framer.proofs.Common.{length, ap, sym, ◌∙◌, arith}
 use Rattle.hdlc_framer.proofs.BitLemmas.{length-packed}
 use Rattle.hdlc_framer.proofs.PackedLemmas.{room_in_part, room_in_octets}
 use Rattle.hdlc_framer.proofs.content.Content.has_room.Goals as goal

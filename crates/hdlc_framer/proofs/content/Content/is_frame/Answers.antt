@@ -1,9 +1,8 @@
-use Rattle.std.proofs.Common.{sym, ◌∙◌}
-use Rattle.std.proofs.lemmas.Bool.{false≢true}
+use Rattle.hdlc_framer.proofs.Common.{sym, ◌∙◌, false≢true}
 use Rattle.hdlc_framer.proofs.PackedLemmas.{frame_items, frame_part, frame_bits_from}
-use Rattle.hdlc_framer.proofs.content.Content.is_frame.Goals as goal
 use Rattle.hdlc_framer.proofs.content.Content.is_frame.Goals.{then-self-ne-FLAG_START_BITS-via-then-self-ne-FLAG_START_BITS}
 use Rattle.hdlc_framer.proofs.content.Content.is_frame.Goals.{then-self-ne-FLAG_START_BITS-via-else-self-ne-FLAG_START_BITS+then-self-ne-FLAG_START}
+use Rattle.hdlc_framer.proofs.content.Content.is_frame.Goals as goal
 
 pub returns-then-self-ne-FLAG_START_BITS : goal.returns-then-self-ne-FLAG_START_BITS
 returns-then-self-ne-FLAG_START_BITS c =

@@ -1,8 +1,6 @@
-use Rattle.std.proofs.Common.{◌≡◌, ◌+◌, ◌*◌, ◌<◌, [], ◌++◌, length, ap, subst, sym, ◌∙◌, arith}
-use Rattle.std.specs.List.{All}
-use Rattle.std.proofs.lemmas.List.{length_push}
+use Rattle.hdlc_framer.proofs.Common.{◌≡◌, ◌+◌, ◌*◌, ◌<◌, [], ◌++◌, length, ap, subst, sym, ◌∙◌, arith, All}
+use Rattle.hdlc_framer.proofs.Common.{length_push, sent_bits}
 use Rattle.std.proofs.lemmas.List.Elements.{All-push}
-use Rattle.hdlc_framer.specs.BitOrder.{sent_bits}
 use Rattle.hdlc_framer.proofs.BitLemmas.{length-packed}
 use Rattle.hdlc_framer.proofs.PackedLemmas.{packed_push}
 use Rattle.hdlc_framer.proofs.content.Content.push.Goals as goal

@@ -1,6 +1,4 @@
-use Rattle.std.proofs.Common.{[], sym, subst}
-use Rattle.hdlc_framer.specs.Held.{line_after}
-use Rattle.hdlc_framer.specs.HeldCarrier.{CarrierStandsFor}
+use Rattle.hdlc_framer.proofs.Common.{[], sym, subst, line_after, CarrierStandsFor}
 use Rattle.hdlc_framer.proofs.CarrierLemmas.{carrier_new}
 use Rattle.hdlc_framer.proofs.deframer.Deframer.listening.Goals as goal
 

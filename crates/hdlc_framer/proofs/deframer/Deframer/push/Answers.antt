@@ -1,8 +1,6 @@
-use Rattle.std.proofs.Common.{◌≡◌, Bool, true, false, ◌++◌, ◌∷◌, [], ap, subst, sym, ◌∙◌}
+use Rattle.hdlc_framer.proofs.Common.{◌≡◌, Bool, true, false, ◌++◌, ◌∷◌, [], ap, subst, sym, ◌∙◌, StandsFor, HoldsFrame}
+use Rattle.hdlc_framer.proofs.Common.{Held, Line, line_of, next_line, HeldCarrier, next_carrier, LineEvent}
 use Rattle.std.proofs.lemmas.Bool.{both_ways}
-use Rattle.hdlc_framer.specs.Held.{StandsFor, HoldsFrame, Held, Line, line_of, next_line}
-use Rattle.hdlc_framer.specs.HeldCarrier.{HeldCarrier, next_carrier}
-use Rattle.hdlc_framer.specs.LineEvents.{LineEvent}
 use Rattle.hdlc_framer.proofs.DeframerLemmas.{stands_next, stands_framed, event_is, frame_held, frame_comes}
 use Rattle.hdlc_framer.proofs.DeframerLemmas.{frame_by_test, test_by_frame}
 use Rattle.hdlc_framer.proofs.deframer.Deframer.push.Goals as goal

@@ -1,4 +1,4 @@
-use Rattle.std.proofs.Common.{refl}
+use Rattle.hf_modem.proofs.Common.{refl}
 use Rattle.hf_modem.proofs.LaneLemmas.{stand_fresh}
 use Rattle.hf_modem.proofs.bank.Bank.new.Goals as goal
 

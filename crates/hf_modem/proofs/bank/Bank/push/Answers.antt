@@ -1,15 +1,8 @@
-use Rattle.std.proofs.Common.{◌≡◌, ◌∙◌, ℕ, ◌+◌, ℤ, get_or, List, [], ◌∷◌, ◌++◌, FitsSigned, to_z, of_z, sym, ap, subst}
-use Rattle.std.proofs.Common.{◌%◌, ◌<◌, arith}
-use Rattle.std.specs.Prelude.{Result, Ok, Err, IfOk}
+use Rattle.hf_modem.proofs.Common.{◌≡◌, ◌∙◌, ℕ, ◌+◌, ℤ, get_or, List, [], ◌∷◌, ◌++◌, FitsSigned, to_z, of_z, sym, ap}
+use Rattle.hf_modem.proofs.Common.{subst, ◌%◌, ◌<◌, arith, IfOk, to_z-of_z, length-set, w16, tone_of, HeldToneLane}
+use Rattle.hf_modem.proofs.Common.{ToneLaneStandsFor, HeldBank, BankStandsFor, last_window, IsHeard, bits_of}
+use Rattle.std.specs.Prelude.{Result, Ok, Err}
 use Rattle.std.specs.Result.{IsErrAnd}
-use Rattle.std.proofs.lemmas.Int.{to_z-of_z}
-use Rattle.std.proofs.lemmas.List.{length-set}
-use mir.Syntax.{w16}
-use Rattle.hf_modem.specs.Decision.{tone_of}
-use Rattle.slicer_bank.specs.ToneLanes.{HeldToneLane, ToneLaneStandsFor}
-use Rattle.hf_modem.specs.Held.{HeldBank, BankStandsFor, last_window}
-use Rattle.hf_modem.specs.Heard.{IsHeard}
-use Rattle.nrzi_bits.specs.Line.{bits_of}
 use Rattle.hf_modem.proofs.BankLemmas.{bank_early, bank_more}
 use Rattle.hf_modem.proofs.bank.Bank.push.Goals as goal
 

@@ -1,6 +1,5 @@
-use Rattle.std.proofs.Common.{◌+◌, ◌/◌, ◌++◌, ◌∙◌, ℤ, List, ap, sym, subst, length, length-append}
-use Rattle.hf_modem.specs.HeldDecoder.{HeldDecoder, StandsFor}
-use Rattle.hf_modem.specs.MergedItems.{AreMergedBetween}
+use Rattle.hf_modem.proofs.Common.{◌+◌, ◌/◌, ◌++◌, ◌∙◌, ℤ, List, ap, sym, subst, length, length-append, HeldDecoder}
+use Rattle.hf_modem.proofs.Common.{StandsFor, AreMergedBetween}
 use Rattle.hf_modem.proofs.decoder.HfDecoder.block.Goals as goal
 
 pub returns-clause-given : goal.returns-clause-given

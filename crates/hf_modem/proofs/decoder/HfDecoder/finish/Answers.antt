@@ -1,12 +1,7 @@
-use Rattle.std.proofs.Common.{◌≡◌, ◌+◌, ◌/◌, ◌<◌, ◌^◌, ◌++◌, ℤ, List, length, subst, false}
-use Rattle.std.specs.Prelude.{IfOk}
+use Rattle.hf_modem.proofs.Common.{◌≡◌, ◌+◌, ◌/◌, ◌<◌, ◌^◌, ◌++◌, ℤ, List, length, subst, false, IfOk, Candidate}
+use Rattle.hf_modem.proofs.Common.{merged, in_order, HeldDecoder, StandsFor, AreMergedBetween}
 use Rattle.std.proofs.lemmas.Result.{IfOk-weaker}
-use Rattle.frame_merge.specs.declared.candidate.Candidate.{Candidate}
 use Rattle.frame_merge.specs.Held.{StandsFor as MergerStandsFor}
-use Rattle.frame_merge.specs.Merged.{merged}
-use Rattle.frame_merge.specs.Order.{in_order}
-use Rattle.hf_modem.specs.HeldDecoder.{HeldDecoder, StandsFor}
-use Rattle.hf_modem.specs.MergedItems.{AreMergedBetween}
 use Rattle.hf_modem.proofs.HearingLemmas.{gives_rest}
 use Rattle.hf_modem.proofs.decoder.HfDecoder.finish.Goals as goal
 

@@ -1,4 +1,4 @@
-use Rattle.std.proofs.Common.{ap}
+use Rattle.hf_modem.proofs.Common.{ap}
 use Rattle.slicer_bank.specs.declared.progress.Progress.{Progress}
 use Rattle.hf_modem.proofs.HearingLemmas.{taken_none}
 use Rattle.hf_modem.proofs.decoder.HfDecoder.new.Goals as goal

@@ -1,6 +1,4 @@
-use Rattle.std.proofs.Common.{◌∙◌, ◌∷◌, [], ◌++◌, length, set, drop, ap, sym}
-use Rattle.std.proofs.lemmas.Int.{to_z-of_z}
-use mir.Syntax.{w16}
+use Rattle.hf_modem.proofs.Common.{◌∙◌, ◌∷◌, [], ◌++◌, length, set, drop, ap, sym, to_z-of_z, w16}
 use Rattle.hf_modem.proofs.LastWindow.{shifted, length-last_window, last_window-push}
 use Rattle.hf_modem.proofs.recent.Recent.push.Goals as goal
 

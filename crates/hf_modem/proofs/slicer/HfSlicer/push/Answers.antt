@@ -1,10 +1,6 @@
-use Rattle.std.proofs.Common.{◌≡◌, ◌∙◌, List, ℤ, [], ◌∷◌, ◌++◌, FitsSigned, to_z, of_z, ap, sym, subst}
-use Rattle.std.proofs.lemmas.Bool.{true≢false}
-use Rattle.std.proofs.lemmas.Int.{to_z-of_z}
-use mir.Syntax.{w16}
-use Rattle.hf_modem.specs.Windows.{bits}
-use Rattle.hf_modem.specs.Held.{HeldSlicer, SlicerStandsFor, last_window}
-use Rattle.hf_modem.specs.Decision.{tone_of}
+use Rattle.hf_modem.proofs.Common.{◌≡◌, ◌∙◌, List, ℤ, [], ◌∷◌, ◌++◌, FitsSigned, to_z, of_z, ap, sym, subst, true≢false}
+use Rattle.hf_modem.proofs.Common.{to_z-of_z, w16, bits, SlicerStandsFor, last_window, tone_of}
+use Rattle.hf_modem.specs.Held.{HeldSlicer}
 use Rattle.hf_modem.proofs.SlicerLemmas.{stands_within, no_bit, stands_last, one_bit}
 use Rattle.hf_modem.proofs.slicer.HfSlicer.push.Goals as goal
 

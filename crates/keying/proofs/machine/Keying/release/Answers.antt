@@ -1,6 +1,4 @@
-use Rattle.std.proofs.Common.{ap, sym, ◌∙◌}
-use Rattle.keying.specs.Kept.{after_reading}
-use Rattle.keying.specs.Told.{ending_in}
+use Rattle.keying.proofs.Common.{ap, sym, ◌∙◌, after_reading, ending_in}
 use Rattle.keying.proofs.History.{kept_read, stands_ended}
 use Rattle.keying.proofs.machine.Keying.release.Goals as goal
 

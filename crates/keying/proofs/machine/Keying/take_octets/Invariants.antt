@@ -1,5 +1,4 @@
-use Rattle.std.proofs.Common.{◌≡◌, drop}
-use Rattle.keying.specs.Kept.{after_octets}
+use Rattle.keying.proofs.Common.{◌≡◌, drop, after_octets}
 use Rattle.keying.proofs.machine.Keying.take_octets.Given as goal
 
 abbrev pub invariant-loop-octet : goal.invariant-loop-octet

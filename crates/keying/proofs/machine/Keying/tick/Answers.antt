@@ -1,6 +1,4 @@
-use Rattle.std.proofs.Common.{ap, ◌∙◌}
-use Rattle.keying.specs.Key.{key_of}
-use Rattle.keying.specs.Kept.{is_wanted}
+use Rattle.keying.proofs.Common.{ap, ◌∙◌, key_of, is_wanted}
 use Rattle.keying.specs.Told.{act_told}
 use Rattle.keying.proofs.History.{kept_wanted, stands_ticked}
 use Rattle.keying.proofs.machine.Keying.tick.Goals as goal

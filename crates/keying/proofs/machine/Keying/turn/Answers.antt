@@ -1,7 +1,4 @@
-use Rattle.std.proofs.Common.{ap, sym, ◌∙◌}
-use Rattle.keying.specs.Kept.{after_reading, after_rule}
-use Rattle.keying.specs.Key.{key_of}
-use Rattle.keying.specs.Rules.{silence_marks}
+use Rattle.keying.proofs.Common.{ap, sym, ◌∙◌, after_reading, after_rule, key_of, silence_marks}
 use Rattle.keying.specs.Told.{turn_since}
 use Rattle.keying.proofs.History.{kept_listened, stands_turned}
 use Rattle.keying.proofs.machine.Keying.turn.Goals as goal

@@ -1,9 +1,7 @@
-use Rattle.std.proofs.Common.{◌≡◌, length, false, is_some, sym, ◌∙◌, ap, subst}
+use Rattle.link_machine.proofs.Common.{◌≡◌, length, false, sym, ◌∙◌, ap, subst, refusal, Disconnect, StandsFor}
+use Rattle.link_machine.proofs.Common.{refusal_of}
+use Rattle.std.proofs.Common.{is_some}
 use Rattle.link_machine.specs.declared.machine.Machine.{Machine as Held}
-use Rattle.link_machine.specs.Requests.{refusal}
-use Rattle.link_machine.specs.Event.Event.{Disconnect}
-use Rattle.link_machine.specs.StandsFor.{StandsFor}
-use Rattle.link_machine.specs.Step.{refusal_of}
 use Rattle.link_machine.proofs.Events.{itself, holds_itself}
 use Rattle.link_machine.proofs.Answered.{answers_right, free_of, holds_of}
 use Rattle.link_machine.proofs.Writable.{kept_behind, kept_by}

@@ -1,7 +1,5 @@
-use Rattle.std.proofs.Common.{refl, sym, subst}
+use Rattle.link_machine.proofs.Common.{refl, sym, subst, Tick, StandsFor}
 use Rattle.link_machine.specs.declared.machine.Machine.{Machine as Held}
-use Rattle.link_machine.specs.Event.Event.{Tick}
-use Rattle.link_machine.specs.StandsFor.{StandsFor}
 use Rattle.link_machine.proofs.Answered.{answers_all}
 use Rattle.link_machine.proofs.Writable.{kept_by}
 use Rattle.link_machine.proofs.link.Link.tick.Goals as goal

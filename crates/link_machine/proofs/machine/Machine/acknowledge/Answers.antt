@@ -1,9 +1,6 @@
-use Rattle.std.proofs.Common.{◌≡◌, ◌+◌, ◌==◌, nat_lt, sym, ◌∙◌, ap, subst, Ok}
-use Rattle.std.specs.Prelude.{not}
-use Rattle.std.proofs.lemmas.Bool.{cond-true}
-use Rattle.selective_reject.specs.Outgoing.{Outgoing, StandsForOutgoing, acknowledgement, after_acknowledge}
-use Rattle.selective_reject.specs.Outgoing.{acknowledged as without_acknowledged}
-use Rattle.link_machine.specs.Machine.{named}
+use Rattle.link_machine.proofs.Common.{◌≡◌, ◌+◌, ◌==◌, nat_lt, sym, ◌∙◌, ap, subst, Ok, not, cond-true, Outgoing}
+use Rattle.link_machine.proofs.Common.{StandsForOutgoing, acknowledgement, named}
+use Rattle.selective_reject.specs.Outgoing.{after_acknowledge, acknowledged as without_acknowledged}
 use Rattle.link_machine.specs.Acts.{timed_by}
 use Rattle.link_machine.proofs.Showing.{holds_outgoing, holds_control}
 use Rattle.link_machine.proofs.Events.{valid_number, below_top, some_acknowledged, all_acknowledged}

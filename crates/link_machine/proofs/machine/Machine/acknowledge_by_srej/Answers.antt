@@ -1,7 +1,4 @@
-use Rattle.std.proofs.Common.{Bool, sym, subst}
-use Rattle.link_machine.specs.Machine.{named}
-use Rattle.link_machine.specs.Frames.{acknowledged_by_srej}
-use Rattle.link_machine.specs.Held.{Holds}
+use Rattle.link_machine.proofs.Common.{Bool, sym, subst, named, acknowledged_by_srej, Holds}
 use Rattle.link_machine.proofs.machine.Machine.acknowledge_by_srej.Goals as goal
 
 pub returns-then-flag : goal.returns-then-flag

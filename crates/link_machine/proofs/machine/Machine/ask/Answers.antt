@@ -1,13 +1,9 @@
-use Rattle.std.proofs.Common.{◌≡◌, ℕ, ◌+◌, ◌%◌, ◌≤◌, length, ◌++◌, map, sym, ◌∙◌, ap, subst, arith}
-use Rattle.selective_reject.specs.Incoming.{StandsForIncoming, numbers_to_ask, before_number}
+use Rattle.link_machine.proofs.Common.{◌≡◌, ℕ, ◌+◌, ◌%◌, ◌≤◌, length, ◌++◌, map, sym, ◌∙◌, ap, subst, arith}
+use Rattle.link_machine.proofs.Common.{StandsForIncoming, numbers_to_ask, before_number, ahead_of_vr, sent_frame}
+use Rattle.link_machine.proofs.Common.{sent_frames, all_sent_in, srej_for, map-append, is_full, missing, asked, IsReady}
+use Rattle.link_machine.proofs.Common.{srej_frame}
 use Rattle.link_machine.specs.declared.machine.Machine.{Machine as Held}
-use Rattle.link_machine.specs.Machine.{ahead_of_vr}
-use Rattle.link_machine.specs.Sent.{sent_frame, sent_frames, all_sent_in}
-use Rattle.link_machine.specs.Acts.{srej_for}
 use Rattle.selective_reject.specs.declared.window.Mode.TheVariants.{Srej as SrejMode}
-use Rattle.std.proofs.lemmas.List.{map-append}
-use Rattle.selective_reject.specs.Places.{is_full, missing, asked}
-use Rattle.link_machine.specs.Held.{IsReady, srej_frame}
 use Rattle.link_machine.proofs.ReceiveLemmas.{first_asked, srejs_as_written, asks_at_most, before_in_window}
 use Rattle.link_machine.proofs.ReceiveLemmas.{rej_is_not_srej}
 use Rattle.link_machine.proofs.Showing.{holds_incoming}

@@ -1,5 +1,4 @@
-use Rattle.link_machine.specs.Turn.{setting}
-use Rattle.link_machine.specs.Acts.{calling}
+use Rattle.link_machine.proofs.Common.{setting, calling}
 use Rattle.link_machine.proofs.Showing.{shows_control}
 use Rattle.link_machine.proofs.machine.Machine.call.Goals as goal
 

@@ -1,11 +1,6 @@
-use Rattle.std.proofs.Common.{◌≡◌, false, sym, ◌∙◌, ap, subst}
-use Rattle.link_machine.specs.declared.acts.Why.TheVariants.{Failed}
-use Rattle.link_machine.specs.Turn.{Turn, setting}
-use Rattle.link_machine.specs.Frames.{end_call}
-use Rattle.link_machine.specs.Ticks.{retried, is_spent}
-use Rattle.link_machine.specs.Held.{Shows}
+use Rattle.link_machine.proofs.Common.{◌≡◌, false, sym, ◌∙◌, ap, subst, Failed, Turn, setting, end_call, retried}
+use Rattle.link_machine.proofs.Common.{is_spent, Shows, cond-false}
 use Rattle.link_machine.proofs.Showing.{shows_control}
-use Rattle.std.proofs.lemmas.Bool.{cond-false}
 use Rattle.link_machine.proofs.machine.Machine.call_again.Goals as goal
 
 pub returns-else-is_spent-clause-shows : goal.returns-else-is_spent-clause-shows

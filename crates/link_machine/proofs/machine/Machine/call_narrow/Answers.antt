@@ -1,6 +1,4 @@
-use Rattle.link_machine.specs.Machine.{narrowed}
-use Rattle.link_machine.specs.Turn.{changing, setting}
-use Rattle.link_machine.specs.Frames.{unretried_call}
+use Rattle.link_machine.proofs.Common.{narrowed, changing, setting, unretried_call}
 use Rattle.link_machine.proofs.Showing.{shows_control, shows_in_modulus}
 use Rattle.link_machine.proofs.machine.Machine.call_narrow.Goals as goal
 

@@ -1,10 +1,5 @@
-use Rattle.std.proofs.Common.{ℕ, ◌∙◌, ap, subst}
-use Rattle.ax25_frames.specs.ControlField.{numbers}
-use Rattle.link_machine.specs.declared.params.Params.{Params}
+use Rattle.link_machine.proofs.Common.{ℕ, ◌∙◌, ap, subst, numbers, Params, fresh, in_modulus, changing, Shows}
 use Rattle.link_machine.specs.Params.{called_modulus}
-use Rattle.link_machine.specs.Machine.{fresh, in_modulus}
-use Rattle.link_machine.specs.Turn.{changing}
-use Rattle.link_machine.specs.Held.{Shows}
 use Rattle.link_machine.proofs.Showing.{shows_fresh, shows_in_modulus}
 use Rattle.link_machine.proofs.machine.Machine.connect.Goals as goal
 

@@ -1,8 +1,7 @@
-use Rattle.std.proofs.Common.{rules, ◌≡◌, ◌+◌, ◌≤◌, ◌-◌, ◌<◌, length, ◌++◌, take, drop, sym, ◌∙◌, ap, arith, min}
+use Rattle.link_machine.proofs.Common.{◌≡◌, ◌+◌, ◌≤◌, ◌-◌, ◌<◌, length, ◌++◌, take, drop, sym, ◌∙◌, ap, arith, min}
+use Rattle.link_machine.proofs.Common.{option_to_list, slice_get, outgoing_behind}
+use Rattle.std.proofs.Common.{rules}
 use Rattle.link_machine.proofs.PacketLemmas.{copied_more, in_window_behind}
-use Rattle.std.specs.Option.{option_to_list}
-use Rattle.std.specs.List.{slice_get}
-use Rattle.link_machine.specs.Held.{outgoing_behind}
 use Rattle.link_machine.proofs.machine.Machine.copies_to_send.Goals as goal
 
 pub loop-place-preserved : goal.loop-place-preserved

@@ -1,4 +1,4 @@
-use Rattle.std.proofs.Common.{◌≡◌, ◌+◌, ◌-◌, ◌≤◌, take, drop, max}
+use Rattle.link_machine.proofs.Common.{◌≡◌, ◌+◌, ◌-◌, ◌≤◌, take, drop, max}
 use Rattle.link_machine.proofs.machine.Machine.copies_to_send.Given as goal
 
 abbrev pub invariant-loop-place : goal.invariant-loop-place

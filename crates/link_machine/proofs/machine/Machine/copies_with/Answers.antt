@@ -1,8 +1,8 @@
-use Rattle.std.proofs.Common.{◌≡◌, ◌+◌, ◌<◌, ◌≤◌, ◌++◌, [], ◌∷◌, length, sym, ◌∙◌, ap, arith}
+use Rattle.link_machine.proofs.Common.{◌≡◌, ◌+◌, ◌<◌, ◌≤◌, ◌++◌, [], ◌∷◌, length, sym, ◌∙◌, ap, arith}
 use Rattle.link_machine.proofs.KeptByActs.{in_window_push, in_window_full}
-use Rattle.link_machine.proofs.machine.Machine.copies_with.Goals as goal
 use Rattle.link_machine.proofs.machine.Machine.copies_with.Goals.{then-len-from+in_ok-copy_of+in_ok-push_back}
 use Rattle.link_machine.proofs.machine.Machine.copies_with.Goals.{else-len-from}
+use Rattle.link_machine.proofs.machine.Machine.copies_with.Goals as goal
 
 pub returns : goal.returns
 returns c =

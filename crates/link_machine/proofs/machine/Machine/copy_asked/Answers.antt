@@ -1,4 +1,4 @@
-use Rattle.std.proofs.Common.{sym, ap, ◌∙◌}
+use Rattle.link_machine.proofs.Common.{sym, ap, ◌∙◌}
 use Rattle.std.specs.Option.{option_copied}
 use Rattle.selective_reject.specs.Outgoing.{sent_packet}
 use Rattle.link_machine.proofs.machine.Machine.copy_asked.Goals as goal

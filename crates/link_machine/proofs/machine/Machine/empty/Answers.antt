@@ -1,7 +1,6 @@
-use Rattle.std.proofs.Common.{refl, sym, subst, arith}
-use Rattle.selective_reject.specs.Outgoing.{Outgoing, IsOutgoing, StandsForOutgoing, empty_outgoing}
-use Rattle.link_machine.specs.Machine.{unquit, emptied}
-use Rattle.link_machine.specs.Held.{Holds}
+use Rattle.link_machine.proofs.Common.{refl, sym, subst, arith, Outgoing, IsOutgoing, StandsForOutgoing, emptied, Holds}
+use Rattle.selective_reject.specs.Outgoing.{empty_outgoing}
+use Rattle.link_machine.specs.Machine.{unquit}
 use Rattle.link_machine.proofs.Showing.{holds_setting, holds_outgoing}
 use Rattle.link_machine.proofs.machine.Machine.empty.Goals as goal
 

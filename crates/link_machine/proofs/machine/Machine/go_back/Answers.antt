@@ -1,4 +1,4 @@
-use Rattle.selective_reject.specs.Outgoing.{back}
+use Rattle.link_machine.proofs.Common.{back}
 use Rattle.link_machine.proofs.Showing.{holds_outgoing}
 use Rattle.link_machine.proofs.machine.Machine.go_back.Goals as goal
 

@@ -1,8 +1,5 @@
-use Rattle.std.proofs.Common.{Bool, subst}
-use Rattle.link_machine.specs.declared.state.LinkState.TheVariants.{Idle, Calling, Up, Releasing}
-use Rattle.link_machine.specs.Frames.{hear}
+use Rattle.link_machine.proofs.Common.{Bool, subst, Idle, Calling, Up, Releasing, hear, Makes}
 use Rattle.link_machine.proofs.Events.{makes_hear}
-use Rattle.link_machine.specs.Held.{Makes}
 use Rattle.link_machine.proofs.machine.Machine.hear.Goals as goal
 
 pub returns-in-Idle : goal.returns-in-Idle

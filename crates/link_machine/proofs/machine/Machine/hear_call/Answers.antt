@@ -1,11 +1,5 @@
-use Rattle.std.proofs.Common.{sym, subst}
-use Rattle.ax25_frames.specs.ControlField.{numbers}
-use Rattle.link_machine.specs.declared.acts.Told.TheVariants.{Ended}
-use Rattle.link_machine.specs.declared.acts.Why.TheVariants.{Reset}
-use Rattle.link_machine.specs.Turn.{Turn, begin, telling}
-use Rattle.link_machine.specs.Frames.{open_again}
+use Rattle.link_machine.proofs.Common.{sym, subst, numbers, Ended, Reset, Turn, begin, telling, open_again, Made}
 use Rattle.link_machine.proofs.Events.{shows_begin, made, settled_open}
-use Rattle.link_machine.specs.Held.{Made}
 use Rattle.link_machine.proofs.machine.Machine.hear_call.Goals as goal
 
 pub returns : goal.returns

@@ -1,11 +1,5 @@
-use Rattle.std.proofs.Common.{◌≡◌, true, sym, ◌∙◌, ap}
-use Rattle.selective_reject.specs.Outgoing.{restarted}
-use Rattle.link_machine.specs.declared.control.Control.{Control}
-use Rattle.link_machine.specs.declared.state.LinkState.TheVariants.{Up}
-use Rattle.link_machine.specs.Turn.{Turn, begin}
-use Rattle.link_machine.specs.Acts.{in_window}
-use Rattle.link_machine.specs.Frames.{hear_calling}
-use Rattle.link_machine.specs.Step.{settled}
+use Rattle.link_machine.proofs.Common.{◌≡◌, true, sym, ◌∙◌, ap, restarted, Control, Up, Turn, begin, in_window}
+use Rattle.link_machine.proofs.Common.{hear_calling, settled}
 use Rattle.link_machine.proofs.Events.{itself, holds_itself, shows_begin, made, copies_right, opened_calling}
 use Rattle.link_machine.proofs.Events.{in_window_restarted}
 use Rattle.link_machine.proofs.machine.Machine.hear_calling.Goals as goal

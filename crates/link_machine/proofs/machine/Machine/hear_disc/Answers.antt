@@ -1,6 +1,4 @@
-use Rattle.std.proofs.Common.{refl}
-use Rattle.link_machine.specs.Turn.{begin}
-use Rattle.link_machine.specs.Frames.{end_by_disc}
+use Rattle.link_machine.proofs.Common.{refl, begin, end_by_disc}
 use Rattle.link_machine.proofs.Events.{shows_begin, made_unsettled}
 use Rattle.link_machine.proofs.machine.Machine.hear_disc.Goals as goal
 

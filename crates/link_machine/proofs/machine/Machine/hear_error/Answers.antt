@@ -1,6 +1,4 @@
-use Rattle.std.proofs.Common.{refl}
-use Rattle.link_machine.specs.Turn.{begin}
-use Rattle.link_machine.specs.Acts.{reset}
+use Rattle.link_machine.proofs.Common.{refl, begin, reset}
 use Rattle.link_machine.proofs.Events.{shows_begin, made_unsettled}
 use Rattle.link_machine.proofs.machine.Machine.hear_error.Goals as goal
 

@@ -1,19 +1,10 @@
-use Rattle.std.proofs.Common.{◌≡◌, ℕ, false, List, sym, ◌∙◌, ap, subst, Ok, Err}
-use Rattle.selective_reject.specs.declared.packet.Packet.{Packet}
-use Rattle.link_machine.specs.declared.state.LinkState.TheVariants.{Up}
-use Rattle.link_machine.specs.Machine.{named}
-use Rattle.link_machine.specs.Turn.{Turn, begin, changing}
-use Rattle.link_machine.specs.Acts.{acknowledged, in_window}
-use Rattle.link_machine.specs.Frames.{hear_info}
-use Rattle.link_machine.specs.Step.{settled}
+use Rattle.link_machine.proofs.Common.{◌≡◌, ℕ, false, List, sym, ◌∙◌, ap, subst, Ok, Err, Packet, Up, named, Turn}
+use Rattle.link_machine.proofs.Common.{begin, changing, acknowledged, in_window, hear_info, settled, Makes}
+use Rattle.link_machine.proofs.Common.{hear_numbered, acknowledgement, Done, OutOfMemory, Result}
 use Rattle.link_machine.proofs.Events.{itself, holds_itself, shows_begin, made, valid_number, copies_right}
 use Rattle.link_machine.proofs.Events.{makes_numbered, makes_reset}
-use Rattle.link_machine.specs.Held.{Makes, hear_numbered}
 use Rattle.link_machine.proofs.KeptByActs.{info_keeps}
-use Rattle.selective_reject.specs.Outgoing.{acknowledgement, acknowledged as without_acked}
-use Rattle.link_machine.specs.Done.{Done}
-use Rattle.tnc_base.specs.declared.fault.OutOfMemory.{OutOfMemory}
-use Rattle.std.specs.Prelude.{Result}
+use Rattle.selective_reject.specs.Outgoing.{acknowledged as without_acked}
 use Rattle.link_machine.proofs.machine.Machine.hear_info.Goals as goal
 
 pub returns-in_default : goal.returns-in_default

@@ -1,8 +1,4 @@
-use Rattle.std.proofs.Common.{◌≡◌}
-use Rattle.link_machine.specs.declared.state.LinkState.TheVariants.{Up}
-use Rattle.link_machine.specs.Turn.{Turn, begin}
-use Rattle.link_machine.specs.Acts.{in_window}
-use Rattle.link_machine.specs.Step.{settled}
+use Rattle.link_machine.proofs.Common.{◌≡◌, Up, Turn, begin, in_window, settled}
 use Rattle.link_machine.proofs.Events.{shows_begin, made, copies_right_now}
 use Rattle.link_machine.proofs.machine.Machine.hear_nothing.Goals as goal
 

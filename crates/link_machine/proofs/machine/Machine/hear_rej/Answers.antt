@@ -1,10 +1,5 @@
-use Rattle.std.proofs.Common.{◌≡◌, true, false, refl, ◌∙◌}
-use Rattle.link_machine.specs.declared.state.LinkState.TheVariants.{Up}
-use Rattle.link_machine.specs.Machine.{named}
-use Rattle.link_machine.specs.Turn.{Turn, begin, changing, setting}
-use Rattle.link_machine.specs.Acts.{acknowledged, gone_back, in_window}
-use Rattle.link_machine.specs.Frames.{with_busy, hear_rej}
-use Rattle.link_machine.specs.Step.{settled}
+use Rattle.link_machine.proofs.Common.{◌≡◌, true, false, refl, ◌∙◌, Up, named, Turn, begin, changing, setting}
+use Rattle.link_machine.proofs.Common.{acknowledged, gone_back, in_window, with_busy, hear_rej, settled}
 use Rattle.link_machine.proofs.Events.{itself, holds_itself, shows_begin, made, valid_number, copies_right}
 use Rattle.link_machine.proofs.Events.{supervised_back}
 use Rattle.link_machine.proofs.machine.Machine.hear_rej.Goals as goal

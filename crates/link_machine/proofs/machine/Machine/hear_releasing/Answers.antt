@@ -1,9 +1,5 @@
-use Rattle.std.proofs.Common.{sym, ◌∙◌, ap, subst}
-use Rattle.link_machine.specs.declared.control.Control.{Control}
-use Rattle.link_machine.specs.Turn.{Turn, begin}
-use Rattle.link_machine.specs.Frames.{hear_releasing}
+use Rattle.link_machine.proofs.Common.{sym, ◌∙◌, ap, subst, Control, Turn, begin, hear_releasing, Made}
 use Rattle.link_machine.proofs.Events.{shows_begin, made, settled_releasing}
-use Rattle.link_machine.specs.Held.{Made}
 use Rattle.link_machine.proofs.machine.Machine.hear_releasing.Goals as goal
 
 pub returns : goal.returns

@@ -1,14 +1,7 @@
-use Rattle.std.proofs.Common.{◌≡◌, false, refl, sym, ◌∙◌, ap}
-use Rattle.link_machine.specs.declared.control.Control.{Control}
-use Rattle.link_machine.specs.declared.state.LinkState.TheVariants.{Up}
-use Rattle.link_machine.specs.Machine.{named}
-use Rattle.link_machine.specs.Turn.{Turn, begin, changing, setting}
-use Rattle.link_machine.specs.Acts.{acknowledged, in_window}
-use Rattle.link_machine.specs.Frames.{with_busy, hear_rr}
-use Rattle.link_machine.specs.Step.{settled}
+use Rattle.link_machine.proofs.Common.{◌≡◌, false, refl, sym, ◌∙◌, ap, Control, Up, named, Turn, begin, changing}
+use Rattle.link_machine.proofs.Common.{setting, acknowledged, in_window, with_busy, hear_rr, settled, ◌&&◌}
 use Rattle.link_machine.proofs.Events.{itself, holds_itself, shows_begin, made, valid_number, copies_right, supervised}
 use Rattle.link_machine.proofs.Events.{acknowledged_poll}
-use Rattle.std.specs.Prelude.{◌&&◌}
 use Rattle.link_machine.proofs.machine.Machine.hear_rr.Goals as goal
 
 pub settle-requires-clause-formed : goal.settle-requires-clause-formed

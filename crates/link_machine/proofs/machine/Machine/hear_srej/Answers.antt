@@ -1,14 +1,7 @@
-use Rattle.std.proofs.Common.{◌≡◌, false, sym, ◌∙◌, ap}
-use Rattle.link_machine.specs.declared.control.Control.{Control}
-use Rattle.link_machine.specs.declared.state.LinkState.TheVariants.{Up}
-use Rattle.link_machine.specs.Machine.{named}
-use Rattle.link_machine.specs.Turn.{Turn, begin, changing, setting}
-use Rattle.link_machine.specs.Acts.{in_window, send_again}
-use Rattle.link_machine.specs.Frames.{with_busy, acknowledged_by_srej, hear_srej}
-use Rattle.link_machine.specs.Step.{settled}
+use Rattle.link_machine.proofs.Common.{◌≡◌, false, sym, ◌∙◌, ap, Control, Up, named, Turn, begin, changing, setting}
+use Rattle.link_machine.proofs.Common.{in_window, send_again, with_busy, acknowledged_by_srej, hear_srej, settled}
+use Rattle.link_machine.proofs.Common.{outgoing_behind, ◌&&◌}
 use Rattle.link_machine.proofs.Events.{itself, holds_itself, shows_begin, made, valid_number, copies_right}
-use Rattle.link_machine.specs.Held.{outgoing_behind}
-use Rattle.std.specs.Prelude.{◌&&◌}
 use Rattle.link_machine.proofs.Events.{supervised_srej}
 use Rattle.link_machine.proofs.KeptByActs.{send_again_keeps, srej_poll, srej_incoming}
 use Rattle.link_machine.proofs.machine.Machine.hear_srej.Goals as goal

@@ -1,12 +1,7 @@
-use Rattle.std.proofs.Common.{◌≡◌, Bool, sym, ◌∙◌, ap, subst, Ok, Err}
-use Rattle.selective_reject.specs.Outgoing.{acknowledgement}
-use Rattle.ax25_frames.specs.declared.frame.S.TheVariants.{Rr, Rnr, Rej, Srej}
-use Rattle.link_machine.specs.Machine.{named}
-use Rattle.link_machine.specs.Frames.{hear_rr, hear_rnr, hear_rej, hear_srej}
+use Rattle.link_machine.proofs.Common.{◌≡◌, Bool, sym, ◌∙◌, ap, subst, Ok, Err, acknowledgement, Rr, Rnr, Rej, Srej}
+use Rattle.link_machine.proofs.Common.{named, hear_rr, hear_rnr, hear_rej, hear_srej, Makes, hear_numbered, S, ◌&&◌}
 use Rattle.link_machine.proofs.Events.{makes_numbered, makes_reset}
-use Rattle.link_machine.specs.Held.{Makes, hear_numbered, hear_supervisory_of}
-use Rattle.ax25_frames.specs.declared.frame.S.{S}
-use Rattle.std.specs.Prelude.{◌&&◌}
+use Rattle.link_machine.specs.Held.{hear_supervisory_of}
 use Rattle.link_machine.proofs.machine.Machine.hear_super.Goals as goal
 
 pub returns-in-Rr : goal.returns-in-Rr

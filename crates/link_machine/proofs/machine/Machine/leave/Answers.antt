@@ -1,6 +1,4 @@
-use Rattle.link_machine.specs.Machine.{emptied, narrowed}
-use Rattle.link_machine.specs.Turn.{changing}
-use Rattle.link_machine.specs.Frames.{stopped}
+use Rattle.link_machine.proofs.Common.{emptied, narrowed, changing, stopped}
 use Rattle.link_machine.proofs.Showing.{shows_control, shows_emptied, shows_in_modulus}
 use Rattle.link_machine.proofs.machine.Machine.leave.Goals as goal
 

@@ -1,5 +1,4 @@
-use Rattle.std.proofs.Common.{ℕ, ap, Ok, Err}
-use Rattle.std.specs.Prelude.{Result}
+use Rattle.link_machine.proofs.Common.{ℕ, ap, Ok, Err, Result}
 use Rattle.selective_reject.specs.declared.window.BadWindow.{BadWindow as Refused}
 use Rattle.link_machine.specs.declared.fault.NewFault.{NewFault}
 use Rattle.link_machine.specs.declared.fault.NewFault.TheVariants.{BadWindow, Memory}

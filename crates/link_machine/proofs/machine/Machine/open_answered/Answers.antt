@@ -1,7 +1,4 @@
-use Rattle.std.proofs.Common.{refl}
-use Rattle.link_machine.specs.declared.state.LinkState.TheVariants.{Up}
-use Rattle.link_machine.specs.Machine.{fresh, in_state}
-use Rattle.link_machine.specs.Turn.{changing}
+use Rattle.link_machine.proofs.Common.{refl, Up, fresh, in_state, changing}
 use Rattle.link_machine.proofs.Showing.{shows_control, shows_fresh}
 use Rattle.link_machine.proofs.machine.Machine.open_answered.Goals as goal
 

@@ -1,8 +1,4 @@
-use Rattle.std.proofs.Common.{refl}
-use Rattle.ax25_frames.specs.ControlField.{numbers}
-use Rattle.link_machine.specs.declared.state.LinkState.TheVariants.{Up}
-use Rattle.link_machine.specs.Machine.{fresh, emptied, in_modulus, in_state}
-use Rattle.link_machine.specs.Turn.{changing}
+use Rattle.link_machine.proofs.Common.{refl, numbers, Up, fresh, emptied, in_modulus, in_state, changing}
 use Rattle.link_machine.proofs.Showing.{shows_control, shows_fresh, shows_emptied, shows_in_modulus}
 use Rattle.link_machine.proofs.machine.Machine.open_called.Goals as goal
 

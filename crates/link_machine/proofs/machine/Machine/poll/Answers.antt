@@ -1,9 +1,4 @@
-use Rattle.std.proofs.Common.{◌≡◌, ◌%◌, true}
-use Rattle.ax25_frames.specs.declared.frame.S.TheVariants.{Rr}
-use Rattle.link_machine.specs.Sent.Sent.{SuperSent}
-use Rattle.link_machine.specs.Turn.{setting}
-use Rattle.link_machine.specs.Acts.{nothing_due, report, polling}
-use Rattle.link_machine.specs.Held.{Shows}
+use Rattle.link_machine.proofs.Common.{◌≡◌, ◌%◌, true, Rr, SuperSent, setting, nothing_due, report, polling, Shows}
 use Rattle.link_machine.proofs.Showing.{shows_control, vr_as_sent}
 use Rattle.link_machine.proofs.machine.Machine.poll.Goals as goal
 

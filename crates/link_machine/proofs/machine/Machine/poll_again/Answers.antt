@@ -1,13 +1,7 @@
-use Rattle.std.proofs.Common.{◌≡◌, true, false, [], ◌∷◌, sym, ◌∙◌, ap, subst}
-use Rattle.link_machine.specs.declared.acts.Told.TheVariants.{Ended}
-use Rattle.link_machine.specs.declared.acts.Why.TheVariants.{Failed}
-use Rattle.link_machine.specs.Turn.{Turn, setting, telling, in_order}
-use Rattle.link_machine.specs.Acts.{poll}
-use Rattle.link_machine.specs.Frames.{answer_dm, leave}
-use Rattle.link_machine.specs.Ticks.{retried, is_spent}
-use Rattle.link_machine.specs.Held.{Shows}
+use Rattle.link_machine.proofs.Common.{◌≡◌, true, false, [], ◌∷◌, sym, ◌∙◌, ap, subst, Ended, Failed, Turn, setting}
+use Rattle.link_machine.proofs.Common.{telling, in_order, poll, answer_dm, leave, retried, is_spent, Shows, cond-true}
+use Rattle.link_machine.proofs.Common.{cond-false}
 use Rattle.link_machine.proofs.Showing.{shows_control}
-use Rattle.std.proofs.lemmas.Bool.{cond-true, cond-false}
 use Rattle.link_machine.proofs.machine.Machine.poll_again.Goals as goal
 
 pub returns-then-is_spent-clause-shows : goal.returns-then-is_spent-clause-shows

@@ -1,22 +1,12 @@
-use Rattle.std.proofs.Common.{◌≡◌, ◌+◌, ◌≤◌, length, true, false, [], ◌∷◌, ◌++◌, drop, map, sym, ◌∙◌, ap, subst, arith}
-use Rattle.std.proofs.Common.{replicate, Some}
-use Rattle.selective_reject.specs.Numbers.{ahead}
-use Rattle.selective_reject.specs.Incoming.{Incoming, StandsForIncoming, after_accept, took, taken}
-use Rattle.link_machine.specs.declared.acts.Told.TheVariants.{Given}
-use Rattle.link_machine.specs.Acts.{moved_on}
-use Rattle.std.specs.Option.{option_to_list}
+use Rattle.link_machine.proofs.Common.{◌≡◌, ◌+◌, ◌≤◌, length, true, false, [], ◌∷◌, ◌++◌, drop, map, sym, ◌∙◌, ap}
+use Rattle.link_machine.proofs.Common.{subst, arith, replicate, Some, ahead, Incoming, StandsForIncoming, after_accept}
+use Rattle.link_machine.proofs.Common.{took, Given, moved_on, option_to_list, cond-true, option_to_list, is_some, Next}
+use Rattle.link_machine.proofs.Common.{keeps, packet_at, is_full, empty_place, with_packet, IsReady, eqb-true}
+use Rattle.selective_reject.specs.Incoming.{taken}
 use Rattle.selective_reject.specs.declared.window.Mode.TheVariants.{Rej as RejMode}
-use Rattle.std.proofs.lemmas.Bool.{cond-true}
-use Rattle.std.specs.Option.{option_to_list}
-use Rattle.std.specs.Prelude.{is_some}
-use Rattle.selective_reject.specs.declared.incoming.Took.TheVariants.{Next}
-use Rattle.selective_reject.specs.Incoming.{keeps}
-use Rattle.selective_reject.specs.Places.{packet_at, is_full, empty_place, with_packet}
-use Rattle.link_machine.specs.Held.{IsReady}
 use Rattle.link_machine.proofs.ReceiveLemmas.{is_next, not_next, keeps_none, took_by_rej, accepted, not_accepted}
 use Rattle.link_machine.proofs.ReceiveLemmas.{ready_cleared, drop_one, places_in_sequence, there_with, moved_with}
 use Rattle.link_machine.proofs.Showing.{shows_incoming, same_incoming}
-use Rattle.std.proofs.Common.{eqb-true}
 use Rattle.link_machine.proofs.machine.Machine.receive_in_sequence.Goals as goal
 
 pub returns-in-Next-clause-next : goal.returns-in-Next-clause-next

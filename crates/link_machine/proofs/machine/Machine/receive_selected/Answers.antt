@@ -1,27 +1,14 @@
-use Rattle.std.proofs.Common.{◌≡◌, ◌≤◌, ◌<◌, length, true, false, nat_lt, [], ◌∷◌, ◌++◌, drop, map, refl, sym, ◌∙◌, ap}
-use Rattle.std.proofs.Common.{subst, arith}
-use Rattle.selective_reject.specs.Numbers.{ahead}
-use Rattle.selective_reject.specs.Incoming.{Incoming, StandsForIncoming, after_accept, took}
-use Rattle.link_machine.specs.declared.acts.Told.TheVariants.{Given}
-use Rattle.link_machine.specs.Machine.{ahead_of_vr}
-use Rattle.link_machine.specs.Turn.{Turn, changing, in_order}
-use Rattle.link_machine.specs.Acts.{run, moved_on, run_with, give, stored, ask}
-use Rattle.link_machine.specs.Held.{Shows}
-use Rattle.link_machine.proofs.Showing.{shows_changing}
-use Rattle.std.specs.Prelude.{◌&&◌, not}
+use Rattle.link_machine.proofs.Common.{◌≡◌, ◌≤◌, ◌<◌, length, true, false, nat_lt, [], ◌∷◌, ◌++◌, drop, map, refl, sym}
+use Rattle.link_machine.proofs.Common.{◌∙◌, ap, subst, arith, ahead, Incoming, StandsForIncoming, after_accept, took}
+use Rattle.link_machine.proofs.Common.{Given, ahead_of_vr, Turn, changing, in_order, run, moved_on, run_with, give}
+use Rattle.link_machine.proofs.Common.{stored, ask, Shows, ◌&&◌, not, cond-true, cond-false, Next, Stored, keeps}
+use Rattle.link_machine.proofs.Common.{is_full, with_packet, IsReady, ◌==◌, eqb-true, ltb-true}
+use Rattle.link_machine.proofs.Showing.{shows_changing, shows_incoming, holds_incoming, same_incoming, shows_as}
 use Rattle.selective_reject.specs.declared.window.Mode.TheVariants.{Srej as SrejMode}
-use Rattle.std.proofs.lemmas.Bool.{cond-true, cond-false}
-use Rattle.selective_reject.specs.declared.incoming.Took.TheVariants.{Next, Stored}
-use Rattle.selective_reject.specs.Incoming.{keeps}
-use Rattle.selective_reject.specs.Places.{is_full, with_packet}
-use Rattle.link_machine.specs.Held.{IsReady}
 use Rattle.link_machine.proofs.RunLemmas.{run_with_next}
 use Rattle.link_machine.proofs.ReceiveLemmas.{is_next, is_stored, not_next, not_stored, keeps_none, took_by_srej}
 use Rattle.link_machine.proofs.ReceiveLemmas.{accepted, not_accepted, moved_with, first_kept, rej_is_not_srej}
 use Rattle.link_machine.proofs.ReceiveLemmas.{both_first}
-use Rattle.link_machine.proofs.Showing.{shows_incoming, holds_incoming, same_incoming, shows_as}
-use Rattle.std.proofs.Common.{◌==◌, eqb-true}
-use Rattle.std.proofs.lemmas.Bool.{ltb-true}
 use Rattle.link_machine.proofs.machine.Machine.receive_selected.Goals as goal
 
 pub returns-in-Next-clause-shows : goal.returns-in-Next-clause-shows

@@ -1,9 +1,5 @@
-use Rattle.std.proofs.Common.{◌≡◌, true, false, sym, ◌∙◌, ap, subst}
-use Rattle.link_machine.specs.declared.control.Control.{Control}
-use Rattle.link_machine.specs.Turn.{Turn}
-use Rattle.link_machine.specs.Acts.{answer_poll, reject}
-use Rattle.link_machine.specs.Held.{Shows}
-use Rattle.std.proofs.lemmas.Bool.{cond-true, cond-false}
+use Rattle.link_machine.proofs.Common.{◌≡◌, true, false, sym, ◌∙◌, ap, subst, Control, Turn, answer_poll, reject, Shows}
+use Rattle.link_machine.proofs.Common.{cond-true, cond-false}
 use Rattle.link_machine.proofs.machine.Machine.refuse_out_of_sequence.Goals as goal
 
 pub returns-then-asked-clause-shows : goal.returns-then-asked-clause-shows

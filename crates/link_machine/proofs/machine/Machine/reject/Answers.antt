@@ -1,9 +1,5 @@
-use Rattle.std.proofs.Common.{◌≡◌, ◌%◌, true, false, refl}
-use Rattle.ax25_frames.specs.declared.frame.S.TheVariants.{Rej}
-use Rattle.link_machine.specs.Sent.Sent.{SuperSent}
-use Rattle.link_machine.specs.Turn.{setting}
-use Rattle.link_machine.specs.Acts.{nothing_due, report, with_rej}
-use Rattle.link_machine.specs.Held.{Shows}
+use Rattle.link_machine.proofs.Common.{◌≡◌, ◌%◌, true, false, refl, Rej, SuperSent, setting, nothing_due, report}
+use Rattle.link_machine.proofs.Common.{with_rej, Shows}
 use Rattle.link_machine.proofs.Showing.{shows_control, vr_as_sent}
 use Rattle.link_machine.proofs.machine.Machine.reject.Goals as goal
 

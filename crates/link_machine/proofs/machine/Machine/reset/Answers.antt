@@ -1,6 +1,4 @@
-use Rattle.link_machine.specs.declared.acts.Told.TheVariants.{Ended}
-use Rattle.link_machine.specs.declared.acts.Why.TheVariants.{Reset}
-use Rattle.link_machine.specs.Turn.{telling}
+use Rattle.link_machine.proofs.Common.{Ended, Reset, telling}
 use Rattle.link_machine.proofs.Showing.{shows_fresh, shows_emptied}
 use Rattle.link_machine.proofs.machine.Machine.reset.Goals as goal
 

@@ -1,7 +1,4 @@
-use Rattle.std.proofs.Common.{◌≡◌, ◌%◌}
-use Rattle.link_machine.specs.Turn.{setting}
-use Rattle.link_machine.specs.Acts.{nothing_due}
-use Rattle.link_machine.specs.Held.{Shows}
+use Rattle.link_machine.proofs.Common.{◌≡◌, ◌%◌, setting, nothing_due, Shows}
 use Rattle.link_machine.proofs.Showing.{shows_control, vr_as_sent}
 use Rattle.link_machine.proofs.machine.Machine.respond_ready.Goals as goal
 

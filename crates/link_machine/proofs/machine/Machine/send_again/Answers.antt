@@ -1,11 +1,7 @@
-use Rattle.std.proofs.Common.{◌≡◌, nat_lt, [], ◌∷◌, sym, ◌∙◌, ap, subst}
+use Rattle.link_machine.proofs.Common.{◌≡◌, nat_lt, [], ◌∷◌, sym, ◌∙◌, ap, subst, Turn, setting, nothing_due, watching}
+use Rattle.link_machine.proofs.Common.{sent_packet, Shows, option_to_list, cond-false}
 use Rattle.link_machine.specs.declared.machine.Machine.{Machine as Held}
-use Rattle.link_machine.specs.Turn.{Turn, setting}
-use Rattle.link_machine.specs.Acts.{nothing_due, watching, sent_packet}
-use Rattle.link_machine.specs.Held.{Shows}
 use Rattle.link_machine.proofs.Showing.{shows_control}
-use Rattle.std.specs.Option.{option_to_list}
-use Rattle.std.proofs.lemmas.Bool.{cond-false}
 use Rattle.link_machine.proofs.KeptByActs.{sent_one, not_sent}
 use Rattle.link_machine.proofs.machine.Machine.send_again.Goals as goal
 

@@ -1,9 +1,5 @@
-use Rattle.std.proofs.Common.{◌≡◌, ℕ, ◌%◌, ◌++◌, [], ◌∷◌, false, ap, ◌∙◌}
-use Rattle.ax25_address.specs.declared.path.Role.TheVariants.{Command}
-use Rattle.ax25_frames.specs.declared.frame.Kind.TheVariants.{Info}
-use Rattle.link_machine.specs.Sent.Sent.{InfoSent}
+use Rattle.link_machine.proofs.Common.{◌≡◌, ℕ, ◌%◌, ◌++◌, [], ◌∷◌, false, ap, ◌∙◌, Command, Info, InfoSent, SentFrame}
 use Rattle.link_machine.specs.Held.{frame_from}
-use Rattle.link_machine.specs.declared.acts.SentFrame.{SentFrame}
 use Rattle.link_machine.proofs.Showing.{shows_sending, vr_as_sent}
 use Rattle.link_machine.proofs.machine.Machine.send_info.Goals as goal
 

@@ -1,5 +1,4 @@
-use Rattle.std.proofs.Common.{◌≡◌, ℕ, ◌∙◌, ap, subst}
-use Rattle.selective_reject.specs.Outgoing.{Outgoing, StandsForOutgoing, number_to_send, after_next}
+use Rattle.link_machine.proofs.Common.{◌≡◌, ℕ, ◌∙◌, ap, subst, Outgoing, StandsForOutgoing, number_to_send, after_next}
 use Rattle.link_machine.proofs.PacketLemmas.{shows_next, number_of_next}
 use Rattle.link_machine.proofs.machine.Machine.send_next.Goals as goal
 

@@ -1,9 +1,6 @@
-use Rattle.std.proofs.Common.{◌≡◌, ◌+◌, length, [], ◌∷◌, ◌++◌, refl, sym, ◌∙◌, ap, subst, arith}
-use Rattle.link_machine.specs.Turn.{Turn}
-use Rattle.link_machine.specs.Held.{Shows}
+use Rattle.link_machine.proofs.Common.{◌≡◌, ◌+◌, length, [], ◌∷◌, ◌++◌, refl, sym, ◌∙◌, ap, subst, arith, Turn, Shows}
+use Rattle.link_machine.proofs.Common.{append_assoc, sending_packets}
 use Rattle.link_machine.proofs.PacketLemmas.{in_order as in_number_order, may_send_more, sending_one_more, sending_none}
-use Rattle.std.proofs.Common.{append_assoc}
-use Rattle.link_machine.specs.Held.{sending_packets}
 use Rattle.link_machine.proofs.machine.Machine.send_packets.Goals as goal
 
 pub loop-packet-init : goal.loop-packet-init

@@ -1,8 +1,6 @@
-use Rattle.std.proofs.Common.{◌≡◌, ◌+◌, ◌≤◌, length}
-use Rattle.link_machine.specs.Turn.{Turn}
-use Rattle.link_machine.specs.Acts.{in_window}
-use Rattle.link_machine.specs.Room.{frames_left, Uses}
-use Rattle.link_machine.specs.Held.{IsLink, Shows, SentSome}
+use Rattle.link_machine.proofs.Common.{◌≡◌, ◌+◌, ◌≤◌, length, Turn, in_window, frames_left, Shows}
+use Rattle.link_machine.specs.Room.{Uses}
+use Rattle.link_machine.specs.Held.{IsLink, SentSome}
 use Rattle.link_machine.proofs.machine.Machine.send_packets.Given as goal
 
 abbrev pub invariant-loop-packet : goal.invariant-loop-packet

@@ -1,6 +1,4 @@
-use Rattle.std.proofs.Common.{◌≡◌, ◌+◌, ◌≤◌, ◌++◌, map, take}
-use Rattle.link_machine.specs.Room.{frames_left, told_left}
-use Rattle.link_machine.specs.Held.{srej_frame}
+use Rattle.link_machine.proofs.Common.{◌≡◌, ◌+◌, ◌≤◌, ◌++◌, map, take, frames_left, told_left, srej_frame}
 use Rattle.link_machine.proofs.machine.Machine.send_srejs.Given as goal
 
 abbrev pub invariant-loop-nr : goal.invariant-loop-nr

@@ -1,7 +1,5 @@
-use Rattle.std.proofs.Common.{◌≡◌, ℕ, ◌+◌, ◌-◌, true, false, Bool, sym, ◌∙◌, arith}
-use Rattle.std.proofs.lemmas.Bool.{false≢true}
-use Rattle.selective_reject.specs.Outgoing.{Outgoing}
-use Rattle.link_machine.specs.Held.{outgoing_behind}
+use Rattle.link_machine.proofs.Common.{◌≡◌, ℕ, ◌+◌, ◌-◌, true, false, Bool, sym, ◌∙◌, arith, false≢true, Outgoing}
+use Rattle.link_machine.proofs.Common.{outgoing_behind}
 use Rattle.link_machine.proofs.machine.Machine.sent_behind.Goals as goal
 
 -- how many packets were sent, once some more are acknowledged

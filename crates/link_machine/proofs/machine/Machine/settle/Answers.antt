@@ -1,9 +1,4 @@
-use Rattle.std.proofs.Common.{◌≡◌, sym, ◌∙◌, ap, subst}
-use Rattle.link_machine.specs.declared.control.Control.{Control}
-use Rattle.link_machine.specs.declared.state.LinkState.TheVariants.{Up}
-use Rattle.link_machine.specs.Turn.{Turn}
-use Rattle.link_machine.specs.Acts.{flush}
-use Rattle.link_machine.specs.Held.{Shows}
+use Rattle.link_machine.proofs.Common.{◌≡◌, sym, ◌∙◌, ap, subst, Control, Up, Turn, flush, Shows}
 use Rattle.link_machine.proofs.Events.{settled_up, unsettled, not_up}
 use Rattle.link_machine.proofs.machine.Machine.settle.Goals as goal
 

@@ -1,11 +1,6 @@
-use Rattle.std.proofs.Common.{◌≡◌, sym, ◌∙◌, ap, subst}
-use Rattle.link_machine.specs.declared.control.Control.{Control}
-use Rattle.link_machine.specs.declared.state.LinkState.TheVariants.{Up}
-use Rattle.link_machine.specs.Turn.{setting}
-use Rattle.link_machine.specs.Ticks.{unretried, t3_out}
-use Rattle.link_machine.specs.Held.{Shows}
+use Rattle.link_machine.proofs.Common.{◌≡◌, sym, ◌∙◌, ap, subst, Control, Up, setting, unretried, t3_out, Shows}
+use Rattle.link_machine.proofs.Common.{LinkState}
 use Rattle.link_machine.proofs.Showing.{shows_control}
-use Rattle.link_machine.specs.declared.state.LinkState.{LinkState}
 use Rattle.link_machine.proofs.machine.Machine.t3_out.Goals as goal
 
 pub returns-in-Up-clause-shows : goal.returns-in-Up-clause-shows

@@ -1,13 +1,9 @@
-use Rattle.std.proofs.Common.{◌≡◌, Bool, true, false, [], ◌∷◌, refl, sym, ◌∙◌, subst}
-use Rattle.link_machine.specs.Machine.{ahead_of_vr}
-use Rattle.link_machine.specs.Turn.{Turn, setting}
-use Rattle.link_machine.specs.Acts.{owing, with_rej, give}
-use Rattle.link_machine.specs.Frames.{take_in_sequence, refuse_out_of_sequence}
-use Rattle.link_machine.specs.Held.{Shows}
+use Rattle.link_machine.proofs.Common.{◌≡◌, Bool, true, false, [], ◌∷◌, refl, sym, ◌∙◌, subst, ahead_of_vr, Turn}
+use Rattle.link_machine.proofs.Common.{setting, owing, with_rej, give, take_in_sequence, Shows, cond-true, cond-false}
+use Rattle.link_machine.proofs.Common.{◌==◌}
+use Rattle.link_machine.specs.Frames.{refuse_out_of_sequence}
 use Rattle.link_machine.proofs.Showing.{shows_control}
 use Rattle.std.specs.Prelude.{if◌then◌else◌}
-use Rattle.std.proofs.lemmas.Bool.{cond-true, cond-false}
-use Rattle.std.proofs.Common.{◌==◌}
 use Rattle.link_machine.proofs.machine.Machine.take_by_rej.Goals as goal
 
 pub returns-then-next-clause-shows : goal.returns-then-next-clause-shows

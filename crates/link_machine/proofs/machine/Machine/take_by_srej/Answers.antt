@@ -1,6 +1,4 @@
-use Rattle.link_machine.specs.Machine.{ahead_of_vr}
-use Rattle.link_machine.specs.Acts.{owing}
-use Rattle.link_machine.specs.Frames.{take_selected}
+use Rattle.link_machine.proofs.Common.{ahead_of_vr, owing, take_selected}
 use Rattle.link_machine.proofs.Showing.{shows_control}
 use Rattle.link_machine.proofs.machine.Machine.take_by_srej.Goals as goal
 

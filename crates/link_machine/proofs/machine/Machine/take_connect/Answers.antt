@@ -1,5 +1,4 @@
-use Rattle.std.proofs.Common.{refl}
-use Rattle.link_machine.specs.Turn.{begin}
+use Rattle.link_machine.proofs.Common.{refl, begin}
 use Rattle.link_machine.specs.Requests.{connect}
 use Rattle.link_machine.proofs.Events.{shows_begin, made_unsettled}
 use Rattle.link_machine.proofs.machine.Machine.take_connect.Goals as goal

@@ -1,9 +1,4 @@
-use Rattle.std.proofs.Common.{◌≡◌, refl}
-use Rattle.link_machine.specs.declared.state.LinkState.TheVariants.{Up}
-use Rattle.link_machine.specs.Turn.{Turn, begin, setting}
-use Rattle.link_machine.specs.Acts.{in_window}
-use Rattle.link_machine.specs.Requests.{quitting}
-use Rattle.link_machine.specs.Step.{settled}
+use Rattle.link_machine.proofs.Common.{◌≡◌, refl, Up, Turn, begin, setting, in_window, quitting, settled}
 use Rattle.link_machine.proofs.Showing.{shows_control}
 use Rattle.link_machine.proofs.Events.{shows_begin, made, copies_right_now}
 use Rattle.link_machine.proofs.machine.Machine.take_disconnect.Goals as goal

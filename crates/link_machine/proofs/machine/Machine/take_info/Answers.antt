@@ -1,12 +1,6 @@
-use Rattle.std.proofs.Common.{◌≡◌, refl, sym, ◌∙◌, ap, subst}
-use Rattle.selective_reject.specs.Incoming.{Incoming}
-use Rattle.link_machine.specs.Machine.{named}
-use Rattle.link_machine.specs.Turn.{changing}
-use Rattle.link_machine.specs.Acts.{acknowledged}
-use Rattle.link_machine.specs.Frames.{hear_info_by}
-use Rattle.link_machine.specs.Held.{Shows}
+use Rattle.link_machine.proofs.Common.{◌≡◌, refl, sym, ◌∙◌, ap, subst, Incoming, named, changing, acknowledged}
+use Rattle.link_machine.proofs.Common.{hear_info_by, Shows, Mode}
 use Rattle.link_machine.proofs.Showing.{shows_changing}
-use Rattle.selective_reject.specs.declared.window.Mode.{Mode}
 use Rattle.selective_reject.specs.declared.window.Mode.TheVariants.{Rej as RejMode, Srej as SrejMode}
 use Rattle.link_machine.proofs.machine.Machine.take_info.Goals as goal
 

@@ -1,15 +1,10 @@
-use Rattle.std.proofs.Common.{◌≡◌, length, refl, ◌∙◌, ap, arith}
-use Rattle.selective_reject.specs.Outgoing.{after_push}
-use Rattle.link_machine.specs.declared.state.LinkState.TheVariants.{Up}
-use Rattle.link_machine.specs.Turn.{Turn, begin, changing}
-use Rattle.link_machine.specs.Acts.{in_window}
+use Rattle.link_machine.proofs.Common.{◌≡◌, length, refl, ◌∙◌, ap, arith, after_push, Up, Turn, begin, changing}
+use Rattle.link_machine.proofs.Common.{in_window, settled, IsErr}
 use Rattle.link_machine.specs.Requests.{joined}
-use Rattle.link_machine.specs.Step.{settled}
 use Rattle.link_machine.proofs.Showing.{shows_changing, holds_outgoing}
 use Rattle.link_machine.proofs.Events.{shows_begin, made}
 use Rattle.link_machine.proofs.KeptByActs.{same_pushed}
 use Rattle.link_machine.proofs.Answered.{on_ok}
-use Rattle.std.specs.Prelude.{IsErr}
 use Rattle.link_machine.proofs.machine.Machine.take_packet.Goals as goal
 
 pub returns : goal.returns

@@ -1,8 +1,4 @@
-use Rattle.std.proofs.Common.{false, refl}
-use Rattle.link_machine.specs.Machine.{named}
-use Rattle.link_machine.specs.Turn.{setting}
-use Rattle.link_machine.specs.Acts.{acknowledged, gone_back}
-use Rattle.link_machine.specs.Frames.{with_busy}
+use Rattle.link_machine.proofs.Common.{false, refl, named, setting, acknowledged, gone_back, with_busy}
 use Rattle.link_machine.proofs.Showing.{shows_control, shows_changing}
 use Rattle.link_machine.proofs.machine.Machine.take_rej.Goals as goal
 

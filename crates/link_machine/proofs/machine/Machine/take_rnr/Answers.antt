@@ -1,8 +1,4 @@
-use Rattle.std.proofs.Common.{true, refl}
-use Rattle.link_machine.specs.Machine.{named}
-use Rattle.link_machine.specs.Turn.{setting}
-use Rattle.link_machine.specs.Acts.{acknowledged, watching}
-use Rattle.link_machine.specs.Frames.{with_busy}
+use Rattle.link_machine.proofs.Common.{true, refl, named, setting, acknowledged, watching, with_busy}
 use Rattle.link_machine.proofs.Showing.{shows_control, shows_changing}
 use Rattle.link_machine.proofs.machine.Machine.take_rnr.Goals as goal
 

@@ -1,8 +1,4 @@
-use Rattle.std.proofs.Common.{false, refl}
-use Rattle.link_machine.specs.Machine.{named}
-use Rattle.link_machine.specs.Turn.{setting}
-use Rattle.link_machine.specs.Acts.{acknowledged}
-use Rattle.link_machine.specs.Frames.{with_busy}
+use Rattle.link_machine.proofs.Common.{false, refl, named, setting, acknowledged, with_busy}
 use Rattle.link_machine.proofs.Showing.{shows_control, shows_changing}
 use Rattle.link_machine.proofs.machine.Machine.take_rr.Goals as goal
 

@@ -1,15 +1,9 @@
-use Rattle.std.proofs.Common.{◌≡◌, ◌+◌, ◌%◌, ◌≤◌, false, refl, sym, ◌∙◌, ap, arith}
-use Rattle.selective_reject.specs.Numbers.{ahead}
-use Rattle.selective_reject.specs.Incoming.{Incoming}
-use Rattle.link_machine.specs.Machine.{named}
-use Rattle.link_machine.specs.Turn.{changing, setting}
-use Rattle.link_machine.specs.Acts.{sent_packet}
-use Rattle.link_machine.specs.Frames.{with_busy, acknowledged_by_srej}
-use Rattle.link_machine.specs.Held.{Shows}
+use Rattle.link_machine.proofs.Common.{◌≡◌, ◌+◌, ◌%◌, ◌≤◌, false, refl, sym, ◌∙◌, ap, arith, ahead, Incoming, named}
+use Rattle.link_machine.proofs.Common.{changing, setting, sent_packet, with_busy, acknowledged_by_srej, Shows}
+use Rattle.link_machine.proofs.Common.{option_to_list}
 use Rattle.link_machine.proofs.Showing.{shows_control, shows_changing}
 use Rattle.link_machine.proofs.KeptByActs.{srej_path, srej_incoming, srej_va, named_as_sent, asked_right}
 use Rattle.selective_reject.proofs.OutgoingRounds.{same_sent_packet}
-use Rattle.std.specs.Option.{option_to_list}
 use Rattle.link_machine.proofs.machine.Machine.take_srej.Goals as goal
 
 pub returns-clause-shows : goal.returns-clause-shows

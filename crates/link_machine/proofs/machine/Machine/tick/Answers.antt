@@ -1,9 +1,5 @@
-use Rattle.std.proofs.Common.{◌≡◌, sym, ◌∙◌, ap}
-use Rattle.link_machine.specs.declared.state.LinkState.TheVariants.{Up}
-use Rattle.link_machine.specs.Turn.{Turn, begin}
-use Rattle.link_machine.specs.Acts.{in_window}
+use Rattle.link_machine.proofs.Common.{◌≡◌, sym, ◌∙◌, ap, Up, Turn, begin, in_window, settled}
 use Rattle.link_machine.specs.Ticks.{tick}
-use Rattle.link_machine.specs.Step.{settled}
 use Rattle.link_machine.proofs.Events.{itself, holds_itself, shows_begin, made, is_up, copies_right_now}
 use Rattle.link_machine.proofs.KeptByActs.{tick_keeps}
 use Rattle.link_machine.proofs.machine.Machine.tick.Goals as goal

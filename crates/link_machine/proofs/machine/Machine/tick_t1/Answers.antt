@@ -1,12 +1,7 @@
-use Rattle.std.proofs.Common.{◌≡◌, ℕ, Bool, true, refl, sym, ◌∙◌, ap, subst, arith, Some, None}
-use Rattle.link_machine.specs.declared.control.Control.{Control}
-use Rattle.link_machine.specs.Turn.{Turn, setting}
-use Rattle.link_machine.specs.Ticks.{runs_out, lowered, with_t1, tick_t1_of}
-use Rattle.link_machine.specs.Held.{Shows}
+use Rattle.link_machine.proofs.Common.{◌≡◌, ℕ, Bool, true, refl, sym, ◌∙◌, ap, subst, arith, Some, None, Control, Turn}
+use Rattle.link_machine.proofs.Common.{setting, runs_out, lowered, with_t1, tick_t1_of, Shows, cond-true, le-leb}
+use Rattle.link_machine.proofs.Common.{Option}
 use Rattle.link_machine.proofs.Showing.{shows_control}
-use Rattle.std.proofs.lemmas.Bool.{cond-true}
-use Rattle.std.proofs.lemmas.Bool.{le-leb}
-use Rattle.std.specs.Prelude.{Option}
 use Rattle.link_machine.proofs.machine.Machine.tick_t1.Goals as goal
 
 pub returns-clause-shows : goal.returns-clause-shows

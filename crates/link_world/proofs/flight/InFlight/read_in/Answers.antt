@@ -1,7 +1,4 @@
-use Rattle.std.proofs.Common.{ℕ, ◌<◌, List, ap, sym, ◌∙◌, subst}
-use Rattle.std.proofs.lemmas.Bool.{false≢true}
-use Rattle.std.specs.Prelude.{All}
-use Rattle.ax25_frames.specs.FrameOctets.{IsFrame}
+use Rattle.link_world.proofs.Common.{ℕ, ◌<◌, List, ap, sym, ◌∙◌, subst, false≢true, All, IsFrame}
 use Rattle.link_world.specs.Held.{is_memory}
 use Rattle.link_world.proofs.Rereading.{reads_frame, reads_none}
 use Rattle.link_world.proofs.flight.InFlight.read_in.Goals as goal

@@ -1,9 +1,8 @@
-use Rattle.std.proofs.Common.{◌∙◌, drop, rules, tests}
+use Rattle.link_world.proofs.Common.{◌∙◌, drop, rules, tests, InFlight}
 use Rattle.std.proofs.lemmas.List.Sums.{length-filter}
 use Rattle.std.proofs.lemmas.Iterator.Adapters.{YieldsList-from_skip}
 use Rattle.std.proofs.lemmas.Iterator.Consumers.{YieldsList-at, YieldsList-from_deque, YieldsList-from_filter}
 use Rattle.std.proofs.lemmas.Iterator.Consumers.{count_from_yields_List}
-use Rattle.link_world.specs.declared.flight.InFlight.{InFlight}
 use Rattle.link_world.proofs.side.Side.answering.Goals as goal
 
 pub returns : goal.returns

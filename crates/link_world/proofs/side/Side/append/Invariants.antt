@@ -1,7 +1,6 @@
-use Rattle.std.proofs.Common.{◌≡◌, ◌+◌, ◌≤◌, ◌++◌, map, length}
+use Rattle.link_world.proofs.Common.{◌≡◌, ◌+◌, ◌≤◌, ◌++◌, map, length, flying}
 use Rattle.std.specs.VecDeque.{deque_len, deque_capacity}
 use Rattle.std.specs.Vec.Iter.{into_iter_items}
-use Rattle.link_world.specs.Held.{flying}
 use Rattle.link_world.proofs.side.Side.append.Given as goal
 
 abbrev pub invariant-loop-sent : goal.invariant-loop-sent

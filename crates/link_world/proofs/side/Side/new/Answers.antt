@@ -1,6 +1,4 @@
-use Rattle.std.proofs.Common.{refl, Result, Err}
-use Rattle.link_machine.specs.declared.fault.NewFault.{NewFault}
-use Rattle.link_machine.specs.declared.fault.NewFault.TheVariants.{BadWindow}
+use Rattle.link_world.proofs.Common.{refl, Result, Err, NewFault, BadWindow}
 use Rattle.link_world.specs.declared.side.Side.{Side}
 use Rattle.link_world.proofs.ErrorLemmas.{same_error}
 use Rattle.link_world.proofs.side.Side.new.Goals as goal

@@ -1,18 +1,13 @@
-use Rattle.std.proofs.Common.{◌≡◌, ℕ, ◌+◌, ◌⊎◌, length, sym, ◌∙◌, ap, subst, inl, inr, Some, None}
-use Rattle.std.proofs.Common.{Result, Ok, Err}
-use Rattle.std.specs.Prelude.{IfOk, IfErr, OnOk, OnErr, min}
-use Rattle.std.proofs.lemmas.List.{length-map}
+use Rattle.link_world.proofs.Common.{◌≡◌, ℕ, ◌+◌, ◌⊎◌, length, sym, ◌∙◌, ap, subst, inl, inr, Some, None, Result, Ok}
+use Rattle.link_world.proofs.Common.{Err, IfOk, IfErr, length-map, End, A, B, Event, WorldFault, NothingThere, is_there}
+use Rattle.link_world.proofs.Common.{StandForBoth, in_flight, World, towards, end_of}
+use Rattle.std.specs.Prelude.{OnOk, OnErr, min}
 use Rattle.link_machine.specs.declared.machine.Machine.{Machine as HeldLink}
 use Rattle.link_machine.specs.StandsFor.{StandsFor as LinkStandsFor}
-use Rattle.link_world.specs.declared.end.End.{End}
-use Rattle.link_world.specs.declared.end.End.TheVariants.{A, B}
-use Rattle.link_world.specs.declared.event.Event.{Event}
-use Rattle.link_world.specs.declared.fault.WorldFault.{WorldFault}
-use Rattle.link_world.specs.declared.fault.WorldFault.TheVariants.{NothingThere, Link, NotQuiet, Memory}
-use Rattle.link_world.specs.Faults.{cause, cause_in, is_there}
-use Rattle.link_world.specs.Held.{StandForBoth, IsKept, IsRefusalOf, side_at, stop_of}
-use Rattle.link_world.specs.StandsFor.{HeldWorld, StandsFor, IsAlike, in_flight}
-use Rattle.link_world.specs.World.{World, towards, end_of}
+use Rattle.link_world.specs.declared.fault.WorldFault.TheVariants.{Link, NotQuiet, Memory}
+use Rattle.link_world.specs.Faults.{cause, cause_in}
+use Rattle.link_world.specs.Held.{IsKept, IsRefusalOf, side_at, stop_of}
+use Rattle.link_world.specs.StandsFor.{HeldWorld, StandsFor, IsAlike}
 use Rattle.link_world.proofs.world.World.apply.Goals as goal
 
 -- what holds of one outcome of a call gives what else holds of it

@@ -1,6 +1,4 @@
-use Rattle.std.proofs.Common.{inl, inr, refl, Result, Err}
-use Rattle.link_machine.specs.declared.fault.NewFault.{NewFault}
-use Rattle.link_machine.specs.declared.fault.NewFault.TheVariants.{BadWindow}
+use Rattle.link_world.proofs.Common.{inl, inr, refl, Result, Err, NewFault, BadWindow}
 use Rattle.link_world.specs.declared.world.World.{World}
 use Rattle.link_world.proofs.WindowLemmas.{none_refused, refused_is}
 use Rattle.link_world.proofs.world.World.new.Goals as goal

@@ -1,4 +1,4 @@
-use Rattle.std.proofs.Common.{arith}
+use Rattle.offset_slicers.proofs.Common.{arith}
 use Rattle.offset_slicers.proofs.SlicerLemmas.{stands_empty}
 use Rattle.offset_slicers.proofs.slicer.Slicer.new.Goals as goal
 

@@ -1,10 +1,9 @@
-use Rattle.std.proofs.Common.{◌≡◌, ℕ, ◌+◌, ◌%◌, ◌-◌, ◌↔◌, List, ℤ, [], ◌∷◌, ◌++◌, IsSome, to_z, of_z, set, Bool, refl}
-use Rattle.std.proofs.Common.{subst, sym, ◌∙◌, Option, Some, None}
-use Rattle.std.proofs.lemmas.Int.{to_z-of_z}
+use Rattle.offset_slicers.proofs.Common.{◌≡◌, ℕ, ◌+◌, ◌%◌, ◌-◌, List, ℤ, [], ◌∷◌, ◌++◌, to_z, of_z, set, Bool, refl}
+use Rattle.offset_slicers.proofs.Common.{subst, sym, ◌∙◌, to_z-of_z, w16, EndsWindow, bits, held_of, offset_from}
+use Rattle.offset_slicers.proofs.Common.{StandsFor}
+use Rattle.std.proofs.Common.{◌↔◌, IsSome, Option, Some, None}
 use Rattle.std.proofs.lemmas.Bool.{false≢true}
-use mir.Syntax.{w16}
-use Rattle.offset_slicers.specs.Windows.{EndsWindow, bits}
-use Rattle.offset_slicers.specs.Held.{Held, held_of, offset_from, StandsFor}
+use Rattle.offset_slicers.specs.Held.{Held}
 use Rattle.offset_slicers.proofs.SlicerLemmas.{bits-push_none, bits-push_one, stands_before, stands_within, stands_last}
 use Rattle.offset_slicers.proofs.SlicerLemmas.{tones_last, early_windows, same_windows, no_window, window_ends}
 use Rattle.offset_slicers.proofs.slicer.Slicer.push.Goals as goal

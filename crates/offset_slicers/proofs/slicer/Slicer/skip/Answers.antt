@@ -1,4 +1,4 @@
-use Rattle.std.proofs.Common.{refl}
+use Rattle.offset_slicers.proofs.Common.{refl}
 use Rattle.offset_slicers.proofs.SlicerLemmas.{stands_empty}
 use Rattle.offset_slicers.proofs.slicer.Slicer.skip.Goals as goal
 

@@ -1,9 +1,6 @@
-use Rattle.std.proofs.Common.{refl, sym, ap, ◌∙◌, inl, inr, arith}
-use Rattle.sample_ring.specs.Ends.{ring_len}
-use Rattle.slicer_bank.specs.RingJobs.{is_end}
-use Rattle.slicer_bank.specs.RingTurns.{reads_on}
-use Rattle.ring_receiver.proofs.AddedTurnLemmas.{reads_none, reads_more, turn_over, turn_full, grown_more}
-use Rattle.ring_receiver.proofs.AddedTurnLemmas.{bounds_more, can_of, added_from}
+use Rattle.ring_receiver.proofs.Common.{refl, sym, ap, ◌∙◌, inl, inr, arith, ring_len, is_end, reads_on}
+use Rattle.ring_receiver.proofs.AddedTurnLemmas.{reads_none, reads_more, turn_over, turn_full, grown_more, bounds_more}
+use Rattle.ring_receiver.proofs.AddedTurnLemmas.{can_of, added_from}
 use Rattle.ring_receiver.proofs.added_ring.AddedRing.advance.Goals as goal
 
 pub loop-init : goal.loop-init

@@ -1,4 +1,4 @@
-use Rattle.sample_ring.specs.Ends.{ring_len}
+use Rattle.ring_receiver.proofs.Common.{ring_len}
 use Rattle.ring_receiver.proofs.AddedTurnLemmas.{ReadsOnAdded}
 use Rattle.ring_receiver.proofs.added_ring.AddedRing.advance.Given as goal
 

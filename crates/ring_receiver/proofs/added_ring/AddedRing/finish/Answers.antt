@@ -1,5 +1,4 @@
-use Rattle.std.proofs.Common.{◌≡◌, ap, ◌∙◌, arith, length, ◌++◌, ◌∷◌, []}
-use Rattle.std.specs.Prelude.{vec_capacity, vec_len}
+use Rattle.ring_receiver.proofs.Common.{◌≡◌, ap, ◌∙◌, arith, length, ◌++◌, ◌∷◌, [], vec_capacity, vec_len}
 use Rattle.ring_receiver.proofs.ReaderLemmas.{gone_back_more, all_gone_back}
 use Rattle.ring_receiver.proofs.added_ring.AddedRing.finish.Goals as goal
 

@@ -1,4 +1,4 @@
-use Rattle.std.specs.Prelude.{vec_capacity, vec_len}
+use Rattle.ring_receiver.proofs.Common.{vec_capacity, vec_len}
 use Rattle.ring_receiver.proofs.ReaderLemmas.{HaveGoneBack}
 use Rattle.ring_receiver.proofs.added_ring.AddedRing.finish.Given as goal
 

@@ -1,4 +1,4 @@
-use Rattle.std.proofs.Common.{◌-◌, arith}
+use Rattle.ring_receiver.proofs.Common.{◌-◌, arith}
 use Rattle.ring_receiver.proofs.added_ring.AddedRing.hear.Goals as goal
 
 pub returns-clause-bounds : goal.returns-clause-bounds

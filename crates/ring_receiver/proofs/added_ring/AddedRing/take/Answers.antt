@@ -1,4 +1,4 @@
-use Rattle.std.proofs.Common.{arith}
+use Rattle.ring_receiver.proofs.Common.{arith}
 use Rattle.ring_receiver.proofs.added_ring.AddedRing.take.Goals as goal
 
 pub returns-in_ok-hear-in-Item-clause-bounds : goal.returns-in_ok-hear-in-Item-clause-bounds

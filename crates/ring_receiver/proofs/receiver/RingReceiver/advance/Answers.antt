@@ -1,8 +1,6 @@
-use Rattle.std.proofs.Common.{true, subst}
-use Rattle.ring_receiver.specs.HeldReceiver.{HeldReceiver, records_in}
+use Rattle.ring_receiver.proofs.Common.{true, subst, HeldReceiver, held_of, AreGrownBy}
+use Rattle.ring_receiver.specs.HeldReceiver.{records_in}
 use Rattle.ring_receiver.specs.Readers.{readers_wanted}
-use Rattle.ring_receiver.specs.ReceiverTurns.{held_of}
-use Rattle.ring_receiver.specs.Turns.{AreGrownBy}
 use Rattle.ring_receiver.proofs.receiver.RingReceiver.advance.Goals as goal
 
 pub returns-in_err-heard-clause-grown : goal.returns-in_err-heard-clause-grown

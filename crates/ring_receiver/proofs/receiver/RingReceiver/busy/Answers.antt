@@ -1,7 +1,7 @@
-use Rattle.std.proofs.Common.{◌↔◌, subst, IsTrue}
-use Rattle.slicer_bank.specs.HeardOnRing.{IsBusyOnRing}
-use Rattle.slicer_bank.specs.RingLanes.{Listens, readers_in as readers_of_bank}
-use Rattle.ring_receiver.specs.HeldReceiver.{HeldReceiver, answers_in}
+use Rattle.ring_receiver.proofs.Common.{◌↔◌, subst, IsBusyOnRing, Listens, HeldReceiver}
+use Rattle.std.proofs.Common.{IsTrue}
+use Rattle.slicer_bank.specs.RingLanes.{readers_in as readers_of_bank}
+use Rattle.ring_receiver.specs.HeldReceiver.{answers_in}
 use Rattle.ring_receiver.proofs.AnswerLemmas.{busy_of}
 use Rattle.ring_receiver.proofs.receiver.RingReceiver.busy.Goals as goal
 

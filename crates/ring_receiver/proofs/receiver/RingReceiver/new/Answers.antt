@@ -1,5 +1,4 @@
-use Rattle.std.proofs.Common.{refl, sym, subst}
-use Rattle.slicer_bank.specs.RingMerging.{HasMerged}
+use Rattle.ring_receiver.proofs.Common.{refl, sym, subst, HasMerged}
 use Rattle.slicer_bank.proofs.RingMergingLemmas.{nothing_merged}
 use Rattle.ring_receiver.proofs.receiver.RingReceiver.new.Goals as goal
 

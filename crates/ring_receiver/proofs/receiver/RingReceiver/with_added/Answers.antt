@@ -1,6 +1,5 @@
-use Rattle.std.proofs.Common.{refl, sym, subst}
+use Rattle.ring_receiver.proofs.Common.{refl, sym, subst, HasMergedAll}
 use Rattle.slicer_bank.specs.RingLanes.{readers_in as readers_of_bank}
-use Rattle.ring_receiver.specs.HeldReceiver.{HasMergedAll}
 use Rattle.ring_receiver.proofs.MergeLemmas.{nothing_merged_all, nothing_nine}
 use Rattle.ring_receiver.proofs.receiver.RingReceiver.with_added.Goals as goal
 

@@ -1,4 +1,4 @@
-use Rattle.std.proofs.Common.{◌≡◌, true, ap, ◌∙◌, arith}
+use Rattle.sample_ring.proofs.Common.{◌≡◌, true, ap, ◌∙◌, arith}
 use Rattle.sample_ring.proofs.Stepping.{join_reader, settle}
 use Rattle.sample_ring.proofs.history.History.keep.Goals as goal
 

@@ -1,4 +1,4 @@
-use Rattle.std.proofs.Common.{◌≡◌, true, ap, ◌∙◌, arith}
+use Rattle.sample_ring.proofs.Common.{◌≡◌, true, ap, ◌∙◌, arith}
 use Rattle.sample_ring.proofs.Stepping.{join_note, settle}
 use Rattle.sample_ring.proofs.reader.Reader.learn.Goals as goal
 

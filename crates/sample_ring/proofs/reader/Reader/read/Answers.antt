@@ -1,5 +1,4 @@
-use Rattle.std.proofs.Common.{◌≡◌, ◌%◌, ◌<◌, sym, ap, ◌∙◌, arith}
-use Rattle.std.proofs.Math.Nat.{mod-lt}
+use Rattle.sample_ring.proofs.Common.{◌≡◌, ◌%◌, ◌<◌, sym, ap, ◌∙◌, arith, mod-lt}
 use Rattle.sample_ring.proofs.Stepping.{look, look_last, looked_waits}
 use Rattle.sample_ring.proofs.reader.Reader.read.Goals as goal
 

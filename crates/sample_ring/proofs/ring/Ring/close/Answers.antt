@@ -1,4 +1,5 @@
-use Rattle.sample_ring.specs.Ends.{ring_id, ring_len, all_published}
+use Rattle.sample_ring.proofs.Common.{ring_id, ring_len}
+use Rattle.sample_ring.specs.Ends.{all_published}
 use Rattle.sample_ring.proofs.Closing.{has_kept_more}
 use Rattle.sample_ring.proofs.ring.Ring.close.Goals as goal
 

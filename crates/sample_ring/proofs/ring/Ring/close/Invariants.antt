@@ -1,4 +1,4 @@
-use Rattle.sample_ring.specs.Ends.{ring_id, ring_len, listed}
+use Rattle.sample_ring.proofs.Common.{ring_id, ring_len, listed}
 use Rattle.sample_ring.proofs.Closing.{HasKept}
 use Rattle.sample_ring.proofs.ring.Ring.close.Given as goal
 

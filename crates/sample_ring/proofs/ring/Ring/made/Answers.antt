@@ -1,7 +1,5 @@
-use Rattle.std.proofs.Common.{◌≡◌, sym, ◌∙◌, subst, [], replicate, ◌+◌, rules}
-use Rattle.atomic_table.specs.Table.{opening}
-use Rattle.sample_ring.specs.Rule.{Holds}
-use Rattle.sample_ring.specs.Views.{first_view}
+use Rattle.sample_ring.proofs.Common.{◌≡◌, sym, ◌∙◌, subst, [], replicate, ◌+◌, opening, Holds, first_view}
+use Rattle.std.proofs.Common.{rules}
 use Rattle.sample_ring.proofs.Stepping.{opens}
 use Rattle.sample_ring.proofs.ring.Ring.made.Goals as goal
 

@@ -1,4 +1,4 @@
-use Rattle.std.proofs.Common.{◌≡◌, ◌+◌, sym, ap, length, arith}
+use Rattle.sample_ring.proofs.Common.{◌≡◌, ◌+◌, sym, ap, length, arith}
 use Rattle.sample_ring.proofs.Stepping.{finish}
 use Rattle.sample_ring.proofs.writer.Writer.end.Goals as goal
 

@@ -1,4 +1,4 @@
-use Rattle.sample_ring.specs.Ends.{writer_ring}
+use Rattle.sample_ring.proofs.Common.{writer_ring}
 use Rattle.sample_ring.proofs.Making.{HasMade}
 use Rattle.sample_ring.proofs.writer.Writer.first_readers.Given as goal
 

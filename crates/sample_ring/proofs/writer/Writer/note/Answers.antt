@@ -1,4 +1,4 @@
-use Rattle.std.proofs.Common.{arith}
+use Rattle.sample_ring.proofs.Common.{arith}
 use Rattle.sample_ring.proofs.Stepping.{cut}
 use Rattle.sample_ring.proofs.writer.Writer.note.Goals as goal
 

@@ -1,6 +1,4 @@
-use Rattle.std.proofs.Common.{◌≡◌, ◌+◌, ◌-◌, ◌^◌, ◌%◌, ◌<◌, sym, ap, ◌∙◌, length, arith}
-use Rattle.std.proofs.Math.Nat.{mod-lt}
-use Rattle.sample_ring.specs.Cells.{lap_of}
+use Rattle.sample_ring.proofs.Common.{◌≡◌, ◌+◌, ◌-◌, ◌^◌, ◌%◌, ◌<◌, sym, ap, ◌∙◌, length, arith, mod-lt, lap_of}
 use Rattle.sample_ring.proofs.Stepping.{publish}
 use Rattle.sample_ring.proofs.writer.Writer.publish.Goals as goal
 

@@ -1,10 +1,7 @@
-use Rattle.std.proofs.Common.{◌-◌, ◌∙◌, ℤ, pos, List, FitsSigned, get_or, refl, sym, subst, arith, rules}
-use Rattle.std.specs.List.{All}
-use Rattle.std.proofs.lemmas.Int.{to_z-of_z}
-use Rattle.std.proofs.lemmas.List.Elements.{All-nil, All-weaker}
-use Rattle.frame_merge.specs.declared.candidate.Candidate.{Candidate}
-use mir.Syntax.{w16}
-use Rattle.sensitive_receiver.specs.Found.{HasRoom, HasRoomFrom, IsAddedFrom}
+use Rattle.sensitive_receiver.proofs.Common.{◌-◌, ◌∙◌, ℤ, pos, List, get_or, refl, sym, subst, arith, All, to_z-of_z}
+use Rattle.sensitive_receiver.proofs.Common.{All-nil, All-weaker, Candidate, w16, HasRoomFrom}
+use Rattle.std.proofs.Common.{FitsSigned, rules}
+use Rattle.sensitive_receiver.specs.Found.{HasRoom, IsAddedFrom}
 use Rattle.sensitive_receiver.proofs.BankLemmas.{HasFed, fed_none, fed_more, fed_all}
 use Rattle.sensitive_receiver.proofs.added_bank.AddedBank.feed.Goals as goal
 

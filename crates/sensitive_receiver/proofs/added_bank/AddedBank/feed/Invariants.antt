@@ -1,6 +1,5 @@
+use Rattle.sensitive_receiver.proofs.Common.{All, HasRoomFrom}
 use Rattle.std.specs.Prelude.{◌-◌}
-use Rattle.std.specs.List.{All}
-use Rattle.sensitive_receiver.specs.Found.{HasRoomFrom}
 use Rattle.sensitive_receiver.proofs.BankLemmas.{HasFed}
 use Rattle.sensitive_receiver.proofs.added_bank.AddedBank.feed.Given as goal
 

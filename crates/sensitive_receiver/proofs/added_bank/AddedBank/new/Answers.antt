@@ -1,6 +1,4 @@
-use Rattle.std.proofs.Common.{[], refl, ◌∙◌, arith}
-use Rattle.tone_tracking.specs.declared.reach.Reach.TheVariants.{Near, Far}
-use Rattle.tone_tracking.specs.Heard.{heard}
+use Rattle.sensitive_receiver.proofs.Common.{[], refl, ◌∙◌, arith, Near, Far, heard}
 use Rattle.sensitive_receiver.proofs.VisitedLanes.{read_none}
 use Rattle.sensitive_receiver.proofs.added_bank.AddedBank.new.Goals as goal
 

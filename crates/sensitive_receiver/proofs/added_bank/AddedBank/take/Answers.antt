@@ -1,12 +1,7 @@
-use Rattle.std.proofs.Common.{◌≡◌, ◌+◌, ◌-◌, ◌<◌, ◌≤◌, ◌++◌, ◌∙◌, ℕ, ℤ, pos, List, get_or, length, take, drop, ap}
-use Rattle.std.proofs.Common.{sym, subst, arith}
-use Rattle.std.proofs.lemmas.Result.{on_ok_weaker}
-use Rattle.std.proofs.lemmas.Int.{to_z-of_z}
-use mir.Syntax.{w16}
-use Rattle.tone_tracking.specs.Heard.{places_in}
-use Rattle.sensitive_receiver.specs.HeldLanes.{HeldBank, HeldLane, HasTaken, LanesHaveRead}
-use Rattle.sensitive_receiver.specs.Found.{AddsBetween, HasRoomFrom}
-use Rattle.std.specs.List.{All}
+use Rattle.sensitive_receiver.proofs.Common.{◌≡◌, ◌+◌, ◌-◌, ◌<◌, ◌≤◌, ◌++◌, ◌∙◌, ℕ, ℤ, pos, List, get_or, length, take}
+use Rattle.sensitive_receiver.proofs.Common.{drop, ap, sym, subst, arith, on_ok_weaker, to_z-of_z, w16, places_in}
+use Rattle.sensitive_receiver.proofs.Common.{HeldLane, HasTaken, LanesHaveRead, AddsBetween, HasRoomFrom, All}
+use Rattle.sensitive_receiver.specs.HeldLanes.{HeldBank}
 use Rattle.std.specs.Result.{OnOk}
 use Rattle.sensitive_receiver.proofs.BankLemmas.{bank_of, given_back, taken_few, adds_few, not_yet, already}
 use Rattle.sensitive_receiver.proofs.BankLemmas.{taken_place, found_place}

@@ -1,10 +1,7 @@
-use Rattle.std.proofs.Common.{◌≡◌, ◌∙◌, ℤ, List, ◌++◌, sym, subst, length, false}
-use Rattle.std.specs.Prelude.{IfOk}
-use Rattle.std.proofs.lemmas.Result.{IfOk-weaker}
-use Rattle.slicer_bank.specs.Candidates.{AreCandidatesBehind}
-use Rattle.slicer_bank.specs.Held.{HeldBank, StandsFor as BankStandsFor}
-use Rattle.sensitive_receiver.specs.HeldDecoder.{HeldDecoder, HaveTaken, StandsFor}
-use Rattle.sensitive_receiver.specs.MergedItems.{AreMergedBetween, settled}
+use Rattle.sensitive_receiver.proofs.Common.{◌≡◌, ◌∙◌, ℤ, List, ◌++◌, sym, subst, length, false, IfOk, IfOk-weaker}
+use Rattle.sensitive_receiver.proofs.Common.{AreCandidatesBehind, HeldBank, HeldDecoder, HaveTaken, StandsFor}
+use Rattle.sensitive_receiver.proofs.Common.{AreMergedBetween, settled}
+use Rattle.slicer_bank.specs.Held.{StandsFor as BankStandsFor}
 use Rattle.sensitive_receiver.proofs.decoder.SensitiveDecoder.block.Goals as goal
 
 pub returns-clause-given : goal.returns-clause-given

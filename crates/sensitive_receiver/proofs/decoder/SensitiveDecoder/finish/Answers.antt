@@ -1,12 +1,8 @@
-use Rattle.std.proofs.Common.{◌≡◌, ◌+◌, ◌<◌, ◌^◌, ◌++◌, ℤ, List, ap, length, subst, false}
-use Rattle.std.specs.Prelude.{IfOk, OnOk}
-use Rattle.std.proofs.lemmas.Result.{IfOk-weaker, on_ok_weaker}
-use Rattle.frame_merge.specs.declared.candidate.Candidate.{Candidate}
+use Rattle.sensitive_receiver.proofs.Common.{◌≡◌, ◌+◌, ◌<◌, ◌^◌, ◌++◌, ℤ, List, ap, length, subst, false, IfOk}
+use Rattle.sensitive_receiver.proofs.Common.{IfOk-weaker, on_ok_weaker, Candidate, merged, in_order, HeldDecoder}
+use Rattle.sensitive_receiver.proofs.Common.{StandsFor, AreMergedBetween, settled}
+use Rattle.std.specs.Prelude.{OnOk}
 use Rattle.frame_merge.specs.Held.{StandsFor as MergerStandsFor}
-use Rattle.frame_merge.specs.Merged.{merged}
-use Rattle.frame_merge.specs.Order.{in_order}
-use Rattle.sensitive_receiver.specs.HeldDecoder.{HeldDecoder, StandsFor}
-use Rattle.sensitive_receiver.specs.MergedItems.{AreMergedBetween, settled}
 use Rattle.sensitive_receiver.proofs.DecoderLemmas.{gives_rest, keeps_nothing}
 use Rattle.sensitive_receiver.proofs.decoder.SensitiveDecoder.finish.Goals as goal
 

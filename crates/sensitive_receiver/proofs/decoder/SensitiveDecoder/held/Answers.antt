@@ -1,5 +1,4 @@
-use Rattle.std.proofs.Common.{◌≤◌, ◌∙◌, ℤ, List, ap, length, subst, arith}
-use Rattle.sensitive_receiver.specs.HeldDecoder.{HeldDecoder, StandsFor}
+use Rattle.sensitive_receiver.proofs.Common.{◌≤◌, ◌∙◌, ℤ, List, ap, length, subst, arith, HeldDecoder, StandsFor}
 use Rattle.sensitive_receiver.proofs.FewKept.{few_kept}
 use Rattle.sensitive_receiver.proofs.decoder.SensitiveDecoder.held.Goals as goal
 

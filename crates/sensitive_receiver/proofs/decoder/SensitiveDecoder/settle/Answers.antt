@@ -1,8 +1,7 @@
-use Rattle.std.proofs.Common.{◌≡◌, ◌+◌, ◌∙◌, ap, sym, subst, refl, length, length-append, ◌++◌, ℤ, List, false}
-use Rattle.slicer_bank.specs.Candidates.{AreCandidatesBehind}
-use Rattle.slicer_bank.specs.Held.{HeldBank, StandsFor as BankStandsFor}
-use Rattle.sensitive_receiver.specs.HeldDecoder.{HeldDecoder, HaveTaken, StandsFor}
-use Rattle.sensitive_receiver.specs.MergedItems.{AreMergedBetween, settled}
+use Rattle.sensitive_receiver.proofs.Common.{◌≡◌, ◌+◌, ◌∙◌, ap, sym, subst, refl, length, length-append, ◌++◌, ℤ, List}
+use Rattle.sensitive_receiver.proofs.Common.{false, AreCandidatesBehind, HeldBank, HeldDecoder, HaveTaken, StandsFor}
+use Rattle.sensitive_receiver.proofs.Common.{AreMergedBetween, settled}
+use Rattle.slicer_bank.specs.Held.{StandsFor as BankStandsFor}
 use Rattle.sensitive_receiver.proofs.decoder.SensitiveDecoder.settle.Goals as goal
 
 pub returns-clause-given : goal.returns-clause-given

@@ -1,8 +1,6 @@
-use Rattle.std.proofs.Common.{ℤ, List, sym, subst}
-use Rattle.std.specs.Prelude.{◌↔◌, IsTrue}
-use Rattle.std.specs.List.{All}
-use Rattle.slicer_bank.specs.Busy.{HearsCarrier}
-use Rattle.slicer_bank.specs.Held.{HeldBank, AsksFor, LanesStandFor, StandsFor}
+use Rattle.slicer_bank.proofs.Common.{ℤ, List, sym, subst, ◌↔◌, IsTrue, All, HearsCarrier, HeldBank, AsksFor}
+use Rattle.slicer_bank.proofs.Common.{LanesStandFor}
+use Rattle.slicer_bank.specs.Held.{StandsFor}
 use Rattle.slicer_bank.proofs.bank.Bank.busy.Goals as goal
 
 pub returns : goal.returns

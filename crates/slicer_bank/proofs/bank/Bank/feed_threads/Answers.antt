@@ -1,8 +1,6 @@
-use Rattle.std.proofs.Common.{◌≡◌, ℤ, List, ◌++◌, sym, ◌∙◌, subst, length}
-use Rattle.std.specs.Prelude.{IfOk}
-use Rattle.slicer_bank.specs.Candidates.{AreCandidatesBehind}
-use Rattle.slicer_bank.specs.Held.{HeldBank, StandsFor}
-use Rattle.slicer_bank.specs.Merging.{AllPast}
+use Rattle.slicer_bank.proofs.Common.{◌≡◌, ℤ, List, ◌++◌, sym, ◌∙◌, subst, length, IfOk, AreCandidatesBehind, HeldBank}
+use Rattle.slicer_bank.proofs.Common.{AllPast}
+use Rattle.slicer_bank.specs.Held.{StandsFor}
 use Rattle.slicer_bank.proofs.FeedLemmas.{given_back, fed, bounds_of, past_of}
 use Rattle.slicer_bank.proofs.bank.Bank.feed_threads.Goals as goal
 

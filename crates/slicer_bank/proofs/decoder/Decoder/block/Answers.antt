@@ -1,10 +1,7 @@
-use Rattle.std.proofs.Common.{◌≡◌, ◌∙◌, ℤ, List, ◌++◌, sym, subst, refl, length, false}
-use Rattle.std.specs.Prelude.{IfOk}
-use Rattle.std.proofs.lemmas.Result.{IfOk-weaker}
-use Rattle.slicer_bank.specs.Candidates.{AreCandidatesBehind}
-use Rattle.slicer_bank.specs.Held.{HeldBank, StandsFor as BankStandsFor}
-use Rattle.slicer_bank.specs.HeldDecoder.{HeldDecoder, HaveTaken, StandsFor}
-use Rattle.slicer_bank.specs.MergedItems.{AreMergedBetween}
+use Rattle.slicer_bank.proofs.Common.{◌≡◌, ◌∙◌, ℤ, List, ◌++◌, sym, subst, refl, length, false, IfOk, IfOk-weaker}
+use Rattle.slicer_bank.proofs.Common.{AreCandidatesBehind, HeldBank, HeldDecoder, HaveTaken, StandsFor}
+use Rattle.slicer_bank.proofs.Common.{AreMergedBetween}
+use Rattle.slicer_bank.specs.Held.{StandsFor as BankStandsFor}
 use Rattle.slicer_bank.proofs.decoder.Decoder.block.Goals as goal
 
 pub returns-clause-given : goal.returns-clause-given

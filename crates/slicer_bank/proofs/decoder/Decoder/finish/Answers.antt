@@ -1,12 +1,8 @@
-use Rattle.std.proofs.Common.{◌≡◌, ◌+◌, ◌<◌, ◌^◌, ◌++◌, ℤ, List, ap, length, subst, false}
-use Rattle.std.specs.Prelude.{IfOk, OnOk}
-use Rattle.std.proofs.lemmas.Result.{IfOk-weaker, on_ok_weaker}
-use Rattle.frame_merge.specs.declared.candidate.Candidate.{Candidate}
+use Rattle.slicer_bank.proofs.Common.{◌≡◌, ◌+◌, ◌<◌, ◌^◌, ◌++◌, ℤ, List, ap, length, subst, false, IfOk, OnOk}
+use Rattle.slicer_bank.proofs.Common.{IfOk-weaker, Candidate, merged, in_order, HeldDecoder, StandsFor}
+use Rattle.slicer_bank.proofs.Common.{AreMergedBetween}
+use Rattle.std.proofs.lemmas.Result.{on_ok_weaker}
 use Rattle.frame_merge.specs.Held.{StandsFor as MergerStandsFor}
-use Rattle.frame_merge.specs.Merged.{merged}
-use Rattle.frame_merge.specs.Order.{in_order}
-use Rattle.slicer_bank.specs.HeldDecoder.{HeldDecoder, StandsFor}
-use Rattle.slicer_bank.specs.MergedItems.{AreMergedBetween}
 use Rattle.slicer_bank.proofs.DecoderLemmas.{gives_rest, keeps_nothing}
 use Rattle.slicer_bank.proofs.decoder.Decoder.finish.Goals as goal
 

@@ -1,5 +1,4 @@
-use Rattle.std.proofs.Common.{◌≤◌, ◌∙◌, ℤ, List, ap, length, subst, arith}
-use Rattle.slicer_bank.specs.HeldDecoder.{HeldDecoder, StandsFor}
+use Rattle.slicer_bank.proofs.Common.{◌≤◌, ◌∙◌, ℤ, List, ap, length, subst, arith, HeldDecoder, StandsFor}
 use Rattle.slicer_bank.proofs.FewKept.{few_kept}
 use Rattle.slicer_bank.proofs.decoder.Decoder.held.Goals as goal
 

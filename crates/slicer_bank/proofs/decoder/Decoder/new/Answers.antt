@@ -1,4 +1,4 @@
-use Rattle.std.proofs.Common.{ap}
+use Rattle.slicer_bank.proofs.Common.{ap}
 use Rattle.slicer_bank.specs.declared.progress.Progress.{Progress}
 use Rattle.slicer_bank.proofs.DecoderLemmas.{taken_none}
 use Rattle.slicer_bank.proofs.decoder.Decoder.new.Goals as goal

@@ -1,8 +1,7 @@
-use Rattle.std.proofs.Common.{◌≡◌, ◌+◌, ◌∙◌, ap, sym, subst, length, length-append, ◌++◌, ℤ, List, false}
-use Rattle.slicer_bank.specs.Candidates.{AreCandidatesBehind}
-use Rattle.slicer_bank.specs.Held.{HeldBank, StandsFor as BankStandsFor}
-use Rattle.slicer_bank.specs.HeldDecoder.{HeldDecoder, HaveTaken, StandsFor}
-use Rattle.slicer_bank.specs.MergedItems.{AreMergedBetween}
+use Rattle.slicer_bank.proofs.Common.{◌≡◌, ◌+◌, ◌∙◌, ap, sym, subst, length, length-append, ◌++◌, ℤ, List, false}
+use Rattle.slicer_bank.proofs.Common.{AreCandidatesBehind, HeldBank, HeldDecoder, HaveTaken, StandsFor}
+use Rattle.slicer_bank.proofs.Common.{AreMergedBetween}
+use Rattle.slicer_bank.specs.Held.{StandsFor as BankStandsFor}
 use Rattle.slicer_bank.proofs.decoder.Decoder.settle.Goals as goal
 
 pub returns-clause-given : goal.returns-clause-given

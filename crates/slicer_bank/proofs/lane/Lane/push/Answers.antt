@@ -1,10 +1,5 @@
-use Rattle.std.proofs.Common.{◌≡◌, ℕ, List, [], ◌∷◌, ◌++◌, true, sym, subst}
-use Rattle.tone_table.specs.declared.tone.Tone.{Tone}
-use Rattle.nrzi_bits.specs.Line.{bits_of}
-use Rattle.offset_slicers.specs.Decision.{tone_of}
-use Rattle.hdlc_framer.specs.Frames.{EndsFrame}
-use Rattle.hdlc_framer.specs.Held.{HoldsFrame}
-use Rattle.slicer_bank.specs.Held.{HeldLane, LaneStandsFor}
+use Rattle.slicer_bank.proofs.Common.{◌≡◌, ℕ, List, [], ◌∷◌, ◌++◌, true, sym, subst, Tone, bits_of, tone_of, EndsFrame}
+use Rattle.slicer_bank.proofs.Common.{HoldsFrame, HeldLane, LaneStandsFor}
 use Rattle.slicer_bank.proofs.lane.Lane.push.Goals as goal
 
 pub returns-clause-frame : goal.returns-clause-frame

@@ -1,6 +1,4 @@
-use Rattle.std.proofs.Common.{◌∙◌, ◌-◌, ap}
-use Rattle.frame_merge.specs.Merged.{not_below}
-use Rattle.frame_merge.specs.Order.{in_order}
+use Rattle.slicer_bank.proofs.Common.{◌∙◌, ◌-◌, ap, not_below, in_order}
 use Rattle.slicer_bank.proofs.progress.Progress.finish.Goals as goal
 
 pub returns-clause-rest : goal.returns-clause-rest

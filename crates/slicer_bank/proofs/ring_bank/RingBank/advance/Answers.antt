@@ -1,13 +1,10 @@
-use Rattle.std.proofs.Common.{◌≡◌, true, List, [], ◌++◌, refl, ap, sym, ◌∙◌, subst, length, take, drop, map, arith}
-use Rattle.std.specs.List.{All}
-use Rattle.std.proofs.lemmas.Bool.{true≢false}
-use Rattle.std.proofs.lemmas.List.{length-map, append-nil}
-use Rattle.sample_ring.specs.Ends.{ring_id, ring_len, reader_ring, record_of, position_of}
-use Rattle.slicer_bank.specs.declared.advance.LaneGap.{LaneGap}
-use Rattle.slicer_bank.specs.declared.ring_lane.RingLane.{RingLane}
-use Rattle.slicer_bank.specs.RingJobs.{AreInPlace, IsTaken, LanesAreReady}
-use Rattle.slicer_bank.specs.RingLanes.{HeldRingBank, readers_of, answers_by, Listens, LanesListen}
-use Rattle.slicer_bank.specs.RingTurns.{AreGrown, IsTurn, BringsOnRing, AreForward, ArePast}
+use Rattle.slicer_bank.proofs.Common.{◌≡◌, true, List, [], ◌++◌, refl, ap, sym, ◌∙◌, subst, length, take, drop, map}
+use Rattle.slicer_bank.proofs.Common.{arith, All, true≢false, length-map, append-nil, ring_id, ring_len, reader_ring}
+use Rattle.slicer_bank.proofs.Common.{record_of, position_of, LaneGap, RingLane, AreInPlace, IsTaken, LanesAreReady}
+use Rattle.slicer_bank.proofs.Common.{HeldRingBank, readers_of, answers_by, LanesListen, AreGrown, IsTurn, BringsOnRing}
+use Rattle.slicer_bank.proofs.Common.{AreForward}
+use Rattle.slicer_bank.specs.RingLanes.{Listens}
+use Rattle.slicer_bank.specs.RingTurns.{ArePast}
 use Rattle.slicer_bank.proofs.TurnLemmas.{are_ready, rings_stay, lent_back}
 use Rattle.slicer_bank.proofs.ring_bank.RingBank.advance.Goals as goal
 

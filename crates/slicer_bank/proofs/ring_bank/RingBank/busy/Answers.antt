@@ -1,7 +1,6 @@
-use Rattle.std.proofs.Common.{◌≡◌, ◌↔◌, List, subst, ap, ◌∙◌, IsTrue}
-use Rattle.slicer_bank.specs.declared.ring_lane.RingLane.{RingLane}
-use Rattle.slicer_bank.specs.HeardOnRing.{IsBusyOnRing}
-use Rattle.slicer_bank.specs.RingLanes.{HeldRingBank, LanesListen, answers_by}
+use Rattle.slicer_bank.proofs.Common.{◌≡◌, List, subst, ap, ◌∙◌, RingLane, IsBusyOnRing, HeldRingBank, LanesListen}
+use Rattle.slicer_bank.proofs.Common.{answers_by}
+use Rattle.std.proofs.Common.{◌↔◌, IsTrue}
 use Rattle.slicer_bank.proofs.ring_bank.RingBank.busy.Goals as goal
 
 pub returns : goal.returns

@@ -1,6 +1,4 @@
-use Rattle.std.proofs.Common.{◌≡◌, ap, ◌∙◌, arith, length, ◌++◌}
-use Rattle.std.specs.Prelude.{vec_capacity, vec_len}
-use Rattle.slicer_bank.specs.RingLanes.{readers_of}
+use Rattle.slicer_bank.proofs.Common.{◌≡◌, ap, ◌∙◌, arith, length, ◌++◌, vec_capacity, vec_len, readers_of}
 use Rattle.slicer_bank.proofs.RingBankLemmas.{given_back_more, all_given_back}
 use Rattle.slicer_bank.proofs.ring_bank.RingBank.finish.Goals as goal
 

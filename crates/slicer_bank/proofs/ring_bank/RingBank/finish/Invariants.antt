@@ -1,4 +1,4 @@
-use Rattle.std.specs.Prelude.{vec_capacity, vec_len}
+use Rattle.slicer_bank.proofs.Common.{vec_capacity, vec_len}
 use Rattle.slicer_bank.proofs.RingBankLemmas.{HasGivenBack}
 use Rattle.slicer_bank.proofs.ring_bank.RingBank.finish.Given as goal
 

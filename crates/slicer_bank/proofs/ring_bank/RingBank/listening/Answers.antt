@@ -1,7 +1,4 @@
-use Rattle.std.proofs.Common.{List, [], ap, ◌∙◌, arith, refl, map, replicate}
-use Rattle.sample_ring.specs.declared.reader.Reader.{Reader}
-use Rattle.sample_ring.specs.Ends.{position_of}
-use Rattle.slicer_bank.specs.RingLanes.{answers_of}
+use Rattle.slicer_bank.proofs.Common.{List, [], ap, ◌∙◌, arith, refl, map, replicate, Reader, position_of, answers_of}
 use Rattle.slicer_bank.proofs.ReaderLemmas.{nothing_answered, at_the_start}
 use Rattle.slicer_bank.proofs.ring_bank.RingBank.listening.Goals as goal
 

@@ -1,4 +1,4 @@
-use Rattle.std.proofs.Common.{refl}
+use Rattle.slicer_bank.proofs.Common.{refl}
 use Rattle.slicer_bank.proofs.ring_lane.RingLane.hand_over.Goals as goal
 
 pub returns-then-self-clause-alike : goal.returns-then-self-clause-alike

@@ -1,5 +1,4 @@
-use Rattle.std.proofs.Common.{sym, ◌∙◌, arith}
-use Rattle.sample_ring.specs.Ends.{ring_len}
+use Rattle.slicer_bank.proofs.Common.{sym, ◌∙◌, arith, ring_len}
 use Rattle.slicer_bank.proofs.RingJobLemmas.{stays_more, reads_none, reads_more, reads_grown, turn_over, turn_full}
 use Rattle.slicer_bank.proofs.ring_lane.RingLane.read_on.Goals as goal
 

@@ -1,4 +1,4 @@
-use Rattle.sample_ring.specs.Ends.{ring_len}
+use Rattle.slicer_bank.proofs.Common.{ring_len}
 use Rattle.slicer_bank.proofs.RingJobLemmas.{ReadsOn}
 use Rattle.slicer_bank.proofs.ring_lane.RingLane.read_on.Given as goal
 

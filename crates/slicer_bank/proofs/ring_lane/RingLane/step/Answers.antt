@@ -1,12 +1,6 @@
-use Rattle.std.proofs.Common.{◌≡◌, ◌+◌, ℤ, rules, refl, sym, subst, to_z, of_z}
-use Rattle.std.proofs.lemmas.Bool.{true≢false}
-use Rattle.std.proofs.lemmas.Int.{to_z-of_z}
-use Rattle.std.proofs.lemmas.List.{append-nil}
-use mir.Syntax.{w16}
-use Rattle.sample_ring.specs.declared.got.Got.{Got}
-use Rattle.sample_ring.specs.declared.got.Got.TheVariants.{Item}
-use Rattle.slicer_bank.specs.Stretches.{Stretch, with_sample}
-use Rattle.slicer_bank.specs.StretchLanes.{StretchStandsFor, HearsSample}
+use Rattle.slicer_bank.proofs.Common.{◌≡◌, ◌+◌, ℤ, rules, refl, sym, subst, to_z, of_z, true≢false, to_z-of_z}
+use Rattle.slicer_bank.proofs.Common.{append-nil, w16, Got, Item, Stretch, with_sample, StretchStandsFor}
+use Rattle.slicer_bank.specs.StretchLanes.{HearsSample}
 use Rattle.slicer_bank.proofs.ring_lane.RingLane.step.Goals as goal
 
 pub returns-in_ok-hear-in-Item-clause-took : goal.returns-in_ok-hear-in-Item-clause-took

@@ -1,4 +1,4 @@
-use Rattle.std.proofs.Common.{sym, subst}
+use Rattle.slicer_bank.proofs.Common.{sym, subst}
 use Rattle.hdlc_framer.specs.Held.{StandsFor}
 use Rattle.slicer_bank.proofs.StretchLemmas.{no_bits}
 use Rattle.slicer_bank.proofs.stretch_lane.StretchLane.new.Goals as goal

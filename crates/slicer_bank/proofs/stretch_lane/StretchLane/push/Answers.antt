@@ -1,12 +1,7 @@
-use Rattle.std.proofs.Common.{◌≡◌, ℤ, Bool, None, Some, List, [], ◌∷◌, ◌++◌, ◌∙◌, refl, subst, sym, to_z, of_z}
-use Rattle.std.proofs.lemmas.Bool.{false≢true}
-use Rattle.std.proofs.lemmas.Int.{to_z-of_z}
-use mir.Syntax.{w16}
-use Rattle.hdlc_framer.specs.Frames.{EndsFrame}
+use Rattle.slicer_bank.proofs.Common.{◌≡◌, ℤ, Bool, None, Some, List, [], ◌∷◌, ◌++◌, ◌∙◌, refl, subst, sym, to_z, of_z}
+use Rattle.slicer_bank.proofs.Common.{false≢true, to_z-of_z, w16, EndsFrame, frame_by_test, stretch_bits}
 use Rattle.hdlc_framer.specs.Held.{StandsFor as DeframerStandsFor}
-use Rattle.hdlc_framer.proofs.DeframerLemmas.{frame_by_test}
 use Rattle.offset_slicers.specs.Held.{StandsFor as SlicerStandsFor}
-use Rattle.slicer_bank.specs.Stretches.{stretch_bits}
 use Rattle.slicer_bank.proofs.LaneLemmas.{test_of_frame}
 use Rattle.slicer_bank.proofs.SampleLemmas.{bits_more, bits_stay, window_more, ends_last}
 use Rattle.slicer_bank.proofs.stretch_lane.StretchLane.push.Goals as goal

@@ -1,10 +1,6 @@
-use Rattle.std.proofs.Common.{◌≡◌, ℕ, List, Bool, [], ◌∷◌, ◌++◌, true, ◌∙◌, subst}
-use Rattle.tone_table.specs.declared.tone.Tone.{Tone}
-use Rattle.nrzi_bits.specs.Line.{bits_of}
-use Rattle.hdlc_framer.specs.Frames.{EndsFrame}
-use Rattle.hdlc_framer.specs.Held.{HoldsFrame}
+use Rattle.slicer_bank.proofs.Common.{◌≡◌, ℕ, List, Bool, [], ◌∷◌, ◌++◌, true, ◌∙◌, subst, Tone, bits_of, EndsFrame}
+use Rattle.slicer_bank.proofs.Common.{HoldsFrame, HeldToneLane, ToneLaneStandsFor}
 use Rattle.slicer_bank.proofs.LaneLemmas.{test_of_frame}
-use Rattle.slicer_bank.specs.ToneLanes.{HeldToneLane, ToneLaneStandsFor}
 use Rattle.slicer_bank.proofs.tone_lane.ToneLane.push.Goals as goal
 
 pub returns-clause-frame : goal.returns-clause-frame

@@ -1,8 +1,4 @@
-use Rattle.std.specs.Prelude.{Some, None, Ok, refl}
-use Rattle.std.proofs.Common.{sym, subst}
-use Rattle.station.specs.declared.owned_link.OwnedLink.{OwnedLink}
-use Rattle.station.specs.Leaving.{without_owner}
-use Rattle.station.specs.StandsFor.{StandsForLink}
+use Rattle.station.proofs.Common.{Some, None, Ok, refl, sym, subst, OwnedLink, without_owner, StandsForLink}
 use Rattle.station.proofs.TableLemmas.{at_slab, IsTable-with_value, IsSetAt-with_value}
 use Rattle.station.proofs.link_table.LinkTable.disown.Goals as goal
 

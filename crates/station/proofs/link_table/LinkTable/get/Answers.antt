@@ -1,5 +1,4 @@
-use Rattle.std.proofs.Common.{sym, ◌∙◌, ap}
-use Rattle.station.specs.TableSteps.{place_at}
+use Rattle.station.proofs.Common.{sym, ◌∙◌, ap, place_at}
 use Rattle.station.proofs.TableLemmas.{place-table_of}
 use Rattle.station.proofs.link_table.LinkTable.get.Goals as goal
 

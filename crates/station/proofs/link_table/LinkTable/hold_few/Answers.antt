@@ -1,9 +1,4 @@
-use Rattle.std.specs.Prelude.{All, IfSome, refl}
-use Rattle.std.proofs.Common.{sym, ◌∙◌, subst, arith}
-use Rattle.std.proofs.lemmas.Bool.{false≢true}
-use Rattle.slab.specs.Slab.{get}
-use Rattle.station.specs.HasFew.{HasFew}
-use Rattle.station.specs.HeldLinks.{places_of}
+use Rattle.station.proofs.Common.{All, IfSome, refl, sym, ◌∙◌, subst, arith, false≢true, get, HasFew, places_of}
 use Rattle.station.proofs.Places.{All-places_of, places_of-All}
 use Rattle.station.proofs.link_table.LinkTable.hold_few.Goals as goal
 

@@ -1,6 +1,4 @@
-use Rattle.std.specs.Prelude.{ℕ, ◌<◌, IfSome}
-use Rattle.slab.specs.Slab.{get}
-use Rattle.station.specs.HasFew.{HasFew}
+use Rattle.station.proofs.Common.{ℕ, ◌<◌, IfSome, get, HasFew}
 use Rattle.station.proofs.link_table.LinkTable.hold_few.Given as goal
 
 -- the links so far hold few packets

@@ -1,7 +1,4 @@
-use Rattle.std.specs.Prelude.{◌<◌, Some, None}
-use Rattle.std.proofs.Common.{sym, ◌∙◌, ap, arith, set}
-use Rattle.station.specs.HeldLinks.{HeldLinks}
-use Rattle.station.specs.TableSteps.{place_at}
+use Rattle.station.proofs.Common.{◌<◌, Some, None, sym, ◌∙◌, ap, arith, set, HeldLinks, place_at}
 use Rattle.station.proofs.InsertLemmas.{places-inserted, IsTable-inserted}
 use Rattle.station.proofs.Places.{place-places_of}
 use Rattle.station.proofs.TableLemmas.{place-table_of}

@@ -1,6 +1,4 @@
-use Rattle.std.specs.Prelude.{Some, None}
-use Rattle.std.proofs.Common.{◌∙◌}
-use Rattle.station.specs.Links.{link_at}
+use Rattle.station.proofs.Common.{Some, None, ◌∙◌, link_at}
 use Rattle.station.proofs.OwnLemmas.{stands_at, owner_held, no_owner}
 use Rattle.station.proofs.link_table.LinkTable.is_of.Goals as goal
 

@@ -1,8 +1,5 @@
-use Rattle.std.specs.Prelude.{◌≡◌, ◌<◌, Bool, true, position, Option, None}
-use Rattle.slab.specs.Slab.{get}
-use Rattle.std.proofs.Common.{sym, ◌∙◌, ap, arith}
-use Rattle.station.specs.declared.owned_link.OwnedLink.{OwnedLink}
-use Rattle.station.specs.HeldLinks.{HeldLinks, places_of, is_held_between}
+use Rattle.station.proofs.Common.{◌≡◌, ◌<◌, Bool, true, position, Option, None, get, sym, ◌∙◌, ap, arith, OwnedLink}
+use Rattle.station.proofs.Common.{HeldLinks, places_of, is_held_between}
 use Rattle.station.proofs.Places.{length-places_of, place-places_of}
 use Rattle.station.proofs.Searches.{position_is, position_none}
 use Rattle.station.proofs.link_table.LinkTable.key_between.Goals as goal

@@ -1,6 +1,4 @@
-use Rattle.std.specs.Prelude.{◌≡◌, ℕ, ◌<◌, false}
-use Rattle.slab.specs.Slab.{get}
-use Rattle.station.specs.HeldLinks.{is_held_between}
+use Rattle.station.proofs.Common.{◌≡◌, ℕ, ◌<◌, false, get, is_held_between}
 use Rattle.station.proofs.link_table.LinkTable.key_between.Given as goal
 
 -- no link so far is between the calls

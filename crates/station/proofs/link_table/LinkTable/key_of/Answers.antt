@@ -1,8 +1,5 @@
-use Rattle.std.specs.Prelude.{[], Some, Option}
-use Rattle.std.proofs.Common.{◌∙◌, ap}
-use Rattle.ax25_address.specs.Callsign.{Callsign}
+use Rattle.station.proofs.Common.{[], Some, Option, ◌∙◌, ap, Callsign, call_in}
 use Rattle.station.specs.AgwRequests.{key_of_route}
-use Rattle.station.specs.CallFields.{call_in}
 use Rattle.station.specs.Routes.{route_of}
 use Rattle.station.proofs.HearLemmas.{key_found}
 use Rattle.station.proofs.link_table.LinkTable.key_of.Goals as goal

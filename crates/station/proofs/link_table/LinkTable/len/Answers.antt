@@ -1,7 +1,5 @@
-use Rattle.std.specs.Prelude.{is_some}
-use Rattle.std.proofs.Common.{arith}
+use Rattle.station.proofs.Common.{is_some, arith, places_of}
 use Rattle.std.proofs.lemmas.List.Sums.{count_by-le-length}
-use Rattle.station.specs.HeldLinks.{places_of}
 use Rattle.station.proofs.Places.{length-places_of}
 use Rattle.station.proofs.link_table.LinkTable.len.Goals as goal
 

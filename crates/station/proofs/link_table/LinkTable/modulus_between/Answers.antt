@@ -1,12 +1,7 @@
-use Rattle.std.specs.Prelude.{◌≡◌, ℕ, Option, position}
+use Rattle.station.proofs.Common.{◌≡◌, ℕ, Option, position, ◌∙◌, ap, Callsign, HeldLinks, is_held_between, Links}
+use Rattle.station.proofs.Common.{link_at, key_between, StandsForLinks, place_at}
 use Rattle.std.specs.Option.{option_or}
-use Rattle.std.proofs.Common.{◌∙◌, ap}
-use Rattle.ax25_address.specs.Callsign.{Callsign}
-use Rattle.station.specs.HeldLinks.{HeldLinks, is_held_between}
-use Rattle.station.specs.Links.{Links, link_at, key_between}
 use Rattle.station.specs.Monitored.{key_of_both, modulus_at}
-use Rattle.station.specs.StandsFor.{StandsForLinks}
-use Rattle.station.specs.TableSteps.{place_at}
 use Rattle.station.proofs.EventLemmas.{places-at}
 use Rattle.station.proofs.HearLemmas.{key_found, same_modulus}
 use Rattle.station.proofs.link_table.LinkTable.modulus_between.Goals as goal

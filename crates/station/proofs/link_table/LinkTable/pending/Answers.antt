@@ -1,9 +1,5 @@
-use Rattle.std.specs.Prelude.{ℕ, Option}
-use Rattle.std.proofs.Common.{sym, ◌∙◌, ap, subst}
-use Rattle.station.specs.declared.owned_link.OwnedLink.{OwnedLink}
+use Rattle.station.proofs.Common.{ℕ, Option, sym, ◌∙◌, ap, subst, OwnedLink, link_at, StandsForPlace}
 use Rattle.station.specs.AgwRequests.{pending_at}
-use Rattle.station.specs.Links.{link_at}
-use Rattle.station.specs.StandsFor.{StandsForPlace}
 use Rattle.station.proofs.EventLemmas.{places-at}
 use Rattle.station.proofs.PendingLemmas.{held_some, held_none}
 use Rattle.station.proofs.link_table.LinkTable.pending.Goals as goal

@@ -1,5 +1,4 @@
-use Rattle.std.specs.Prelude.{Some, None}
-use Rattle.std.proofs.Common.{sym, ◌∙◌}
+use Rattle.station.proofs.Common.{Some, None, sym, ◌∙◌}
 use Rattle.station.proofs.TableLemmas.{at_slab, IsTable-removed, settled-removed, settled-kept}
 use Rattle.station.proofs.link_table.LinkTable.settle.Goals as goal
 

@@ -1,8 +1,5 @@
-use Rattle.std.specs.Prelude.{Some, None}
-use Rattle.std.proofs.Common.{sym, ◌∙◌, ap, subst}
-use Rattle.link_machine.specs.Done.{Done}
-use Rattle.station.specs.LinkRequests.{event_of, HasNumbers, stepped_link}
-use Rattle.station.specs.TableSteps.{place_at}
+use Rattle.station.proofs.Common.{Some, None, sym, ◌∙◌, ap, subst, Done, event_of, stepped_link, place_at}
+use Rattle.station.specs.LinkRequests.{HasNumbers}
 use Rattle.station.proofs.TableLemmas.{place-table_of, at_slab, IsTable-with_value, IsSetAt-with_value}
 use Rattle.station.proofs.link_table.LinkTable.take.Goals as goal
 

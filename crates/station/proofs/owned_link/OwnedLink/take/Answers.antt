@@ -1,12 +1,7 @@
-use Rattle.std.specs.Prelude.{◌≡◌, IfOk, OnOk}
-use Rattle.std.proofs.Common.{sym, subst}
-use Rattle.link_machine.specs.Done.{Done}
-use Rattle.link_machine.specs.Event.Event.{Connect, Send, Disconnect}
-use Rattle.link_machine.specs.Step.{step, done_of}
+use Rattle.station.proofs.Common.{◌≡◌, IfOk, OnOk, sym, subst, Done, Connect, Disconnect, step, done_of, OwnedLink}
+use Rattle.station.proofs.Common.{event_of, stepped_link, StandsForLink}
+use Rattle.link_machine.specs.Event.Event.{Send}
 use Rattle.station.specs.declared.link_event.LinkEvent.{LinkEvent}
-use Rattle.station.specs.declared.owned_link.OwnedLink.{OwnedLink}
-use Rattle.station.specs.LinkRequests.{event_of, stepped_link}
-use Rattle.station.specs.StandsFor.{StandsForLink}
 use Rattle.station.proofs.LinkLemmas.{passes_acts, passes_stands, link_stands}
 use Rattle.station.proofs.MemoryLemmas.{took_if, took_on}
 use Rattle.station.proofs.owned_link.OwnedLink.take.Goals as goal

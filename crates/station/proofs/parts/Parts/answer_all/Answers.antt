@@ -1,8 +1,5 @@
-use Rattle.std.specs.Prelude.{◌≡◌, ◌+◌, ◌∷◌, ◌++◌, [], List, take}
-use Rattle.std.proofs.Common.{sym, ◌∙◌, ap, subst}
-use Rattle.std.proofs.lemmas.List.{take_more}
-use Rattle.agwpe_port.specs.declared.message.AgwMessage.{AgwMessage}
-use Rattle.station.specs.AgwRequests.{AreAnswered}
+use Rattle.station.proofs.Common.{◌≡◌, ◌+◌, ◌∷◌, ◌++◌, [], List, take, sym, ◌∙◌, ap, subst, take_more, AgwMessage}
+use Rattle.station.proofs.Common.{AreAnswered}
 use Rattle.station.proofs.AnswerLemmas.{answered-more}
 use Rattle.station.proofs.parts.Parts.answer_all.Goals as goal
 

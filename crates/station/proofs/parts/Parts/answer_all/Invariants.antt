@@ -1,8 +1,4 @@
-use Rattle.std.specs.Prelude.{◌≡◌, take}
-use Rattle.station.specs.AgwRequests.{AreAnswered}
-use Rattle.station.specs.Held.{ids_in}
-use Rattle.station.specs.StandsFor.{Shows}
-use Rattle.station.specs.Turn.{Turn}
+use Rattle.station.proofs.Common.{◌≡◌, take, AreAnswered, ids_in, Shows, Turn}
 use Rattle.station.proofs.parts.Parts.answer_all.Given as goal
 
 -- the messages so far are answered

@@ -1,6 +1,4 @@
-use Rattle.std.proofs.Common.{sym, subst}
-use Rattle.station.specs.StandsFor.{Shows}
-use Rattle.station.specs.Turn.{Turn}
+use Rattle.station.proofs.Common.{sym, subst, Shows, Turn}
 use Rattle.station.proofs.AnswerLemmas.{else_unregister, else_toggle, else_monitor}
 use Rattle.station.proofs.parts.Parts.answer_else.Goals as goal
 

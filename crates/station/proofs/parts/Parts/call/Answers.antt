@@ -1,9 +1,6 @@
-use Rattle.std.specs.Prelude.{◌≡◌, true, false, Some}
-use Rattle.std.proofs.Common.{sym, ◌∙◌, subst}
-use Rattle.std.proofs.lemmas.Result.{on_ok_weaker}
-use Rattle.station.specs.AgwRequests.{IsCallMade, called_route, may_call, refused_reply, replying}
-use Rattle.station.specs.HeldRoutes.{as_route}
-use Rattle.station.specs.Routes.{Route}
+use Rattle.station.proofs.Common.{◌≡◌, true, false, Some, sym, ◌∙◌, subst, on_ok_weaker, IsCallMade, may_call}
+use Rattle.station.proofs.Common.{refused_reply, replying, as_route, Route}
+use Rattle.station.specs.AgwRequests.{called_route}
 use Rattle.station.proofs.CallingLemmas.{call-astray, call-refused, call-made, shows-refused}
 use Rattle.station.proofs.parts.Parts.call.Goals as goal
 

@@ -1,7 +1,5 @@
-use Rattle.std.specs.Prelude.{ℕ, List, [], ◌∷◌}
-use Rattle.std.proofs.Common.{◌∙◌, ap}
+use Rattle.station.proofs.Common.{ℕ, List, [], ◌∷◌, ◌∙◌, ap, Params}
 use Rattle.channel_access.specs.declared.parameters.Parameters.{Parameters}
-use Rattle.link_machine.specs.declared.params.Params.{Params}
 use Rattle.station.proofs.HearLemmas.{links_counted}
 use Rattle.station.proofs.parts.Parts.capabilities.Goals as goal
 

@@ -1,13 +1,5 @@
-use Rattle.std.specs.Prelude.{◌≡◌}
-use Rattle.std.proofs.Common.{ap}
-use Rattle.std.proofs.lemmas.Result.{on_ok_weaker}
-use Rattle.ax25_address.specs.declared.path.Path.{Path}
-use Rattle.link_machine.specs.Event.Event.{Connect}
-use Rattle.station.specs.HeldRoutes.{as_route}
-use Rattle.station.specs.LinkEvents.{event_at}
-use Rattle.station.specs.NewLinks.{making}
-use Rattle.station.specs.Routes.{Route, path_along}
-use Rattle.station.specs.Turn.{Turn}
+use Rattle.station.proofs.Common.{◌≡◌, ap, on_ok_weaker, Path, Connect, as_route, event_at, making, Route, Turn}
+use Rattle.station.specs.Routes.{path_along}
 use Rattle.station.proofs.parts.Parts.connect.Goals as goal
 
 pub returns-clause-made : goal.returns-clause-made

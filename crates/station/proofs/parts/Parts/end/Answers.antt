@@ -1,7 +1,4 @@
-use Rattle.std.specs.Prelude.{◌++◌, ◌∷◌, [], OnOk}
-use Rattle.std.proofs.Common.{sym, ◌∙◌, ap, subst}
-use Rattle.station.specs.StandsFor.{Shows}
-use Rattle.station.specs.Turn.{Out, Turn, closing}
+use Rattle.station.proofs.Common.{◌++◌, ◌∷◌, [], OnOk, sym, ◌∙◌, ap, subst, Shows, Out, Turn, closing}
 use Rattle.station.proofs.TakenLemmas.{ending_some}
 use Rattle.station.proofs.parts.Parts.end.Goals as goal
 

@@ -1,5 +1,4 @@
-use Rattle.std.specs.Prelude.{List, map, refl}
-use Rattle.std.proofs.Common.{◌∙◌, ap}
+use Rattle.station.proofs.Common.{List, map, refl, ◌∙◌, ap}
 use Rattle.station.specs.declared.connection.Connection.{Connection as HeldConnection}
 use Rattle.station.proofs.LeaveLemmas.{ids_filtered, shows_forgotten}
 use Rattle.station.proofs.parts.Parts.forget.Goals as goal

@@ -1,9 +1,6 @@
-use Rattle.std.specs.Prelude.{◌≡◌, ◌+◌, ◌/◌, length}
-use Rattle.std.proofs.Common.{sym, ◌∙◌, ap, arith, subst}
-use Rattle.selective_reject.specs.declared.packet.Packet.{Packet}
-use Rattle.station.specs.AgwRequests.{giving_packet, giving_packets}
-use Rattle.station.specs.StandsFor.{Shows}
-use Rattle.station.specs.Turn.{Turn}
+use Rattle.station.proofs.Common.{◌≡◌, ◌+◌, length, sym, ◌∙◌, ap, arith, subst, Packet, giving_packet, giving_packets}
+use Rattle.station.proofs.Common.{Shows, Turn}
+use Rattle.std.specs.Prelude.{◌/◌}
 use Rattle.station.proofs.GiveLemmas.{first_packets, packets-more}
 use Rattle.station.proofs.parts.Parts.give_packets.Goals as goal
 

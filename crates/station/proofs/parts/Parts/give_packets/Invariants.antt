@@ -1,8 +1,4 @@
-use Rattle.std.specs.Prelude.{◌≡◌}
-use Rattle.station.specs.AgwRequests.{giving_packets}
-use Rattle.station.specs.Held.{ids_in}
-use Rattle.station.specs.StandsFor.{Shows}
-use Rattle.station.specs.Turn.{Turn}
+use Rattle.station.proofs.Common.{◌≡◌, giving_packets, ids_in, Shows, Turn}
 use Rattle.station.proofs.GiveLemmas.{first_packets}
 use Rattle.station.proofs.parts.Parts.give_packets.Given as goal
 

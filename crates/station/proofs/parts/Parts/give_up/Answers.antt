@@ -1,11 +1,5 @@
-use Rattle.std.specs.Prelude.{Option, Some, OnOk}
-use Rattle.std.proofs.Common.{sym, ◌∙◌, subst}
-use Rattle.station.specs.declared.owned_link.OwnedLink.{OwnedLink}
-use Rattle.station.specs.Leaving.{without_owner}
-use Rattle.station.specs.LinkEvents.{with_links}
-use Rattle.station.specs.Links.{link_at, with_link}
-use Rattle.station.specs.StandsFor.{StandsForPlace, Shows}
-use Rattle.station.specs.Turn.{Turn, changing}
+use Rattle.station.proofs.Common.{Option, Some, OnOk, sym, ◌∙◌, subst, OwnedLink, without_owner, with_links, link_at}
+use Rattle.station.proofs.Common.{with_link, StandsForPlace, Shows, Turn, changing}
 use Rattle.station.proofs.EventLemmas.{places-at}
 use Rattle.station.proofs.LeaveLemmas.{shows_set, none_given_up, other_kept, own_given_up}
 use Rattle.station.proofs.parts.Parts.give_up.Goals as goal

@@ -1,9 +1,4 @@
-use Rattle.std.specs.Prelude.{map}
-use Rattle.std.specs.List.{range_with_len}
-use Rattle.std.proofs.Common.{sym, ◌∙◌, arith, subst}
-use Rattle.station.specs.Leaving.{giving_up}
-use Rattle.station.specs.StandsFor.{Shows}
-use Rattle.station.specs.Turn.{Turn, in_order}
+use Rattle.station.proofs.Common.{map, range_with_len, sym, ◌∙◌, arith, subst, giving_up, Shows, Turn, in_order}
 use Rattle.station.proofs.LeaveLemmas.{all_given_up}
 use Rattle.station.proofs.TurnLemmas.{in_order-next}
 use Rattle.station.proofs.parts.Parts.give_up_all.Goals as goal

@@ -1,6 +1,5 @@
-use Rattle.std.specs.Prelude.{◌≡◌, None, refl}
-use Rattle.std.proofs.lemmas.Result.{on_ok_weaker}
-use Rattle.station.specs.Heard.{IsPathOf, showing, shown_to_hosts}
+use Rattle.station.proofs.Common.{◌≡◌, None, refl, on_ok_weaker, showing, shown_to_hosts}
+use Rattle.station.specs.Heard.{IsPathOf}
 use Rattle.station.specs.HostMessages.{no_call}
 use Rattle.station.proofs.MonitorLemmas.{shows_nothing}
 use Rattle.station.proofs.parts.Parts.hear.Goals as goal

@@ -1,8 +1,5 @@
-use Rattle.std.specs.Prelude.{Some, MatchBool}
-use Rattle.std.proofs.Common.{sym, ◌∙◌, subst}
-use Rattle.std.proofs.lemmas.Result.{on_ok_weaker}
-use Rattle.station.specs.Heard.{IsRepeatedFor, AreOctetsHeard, shown_to_hosts}
-use Rattle.station.specs.Turn.{Turn}
+use Rattle.station.proofs.Common.{Some, MatchBool, sym, ◌∙◌, subst, on_ok_weaker, IsRepeatedFor, shown_to_hosts, Turn}
+use Rattle.station.specs.Heard.{AreOctetsHeard}
 use Rattle.station.proofs.ShowLemmas.{shown_along}
 use Rattle.station.proofs.parts.Parts.hear_along.Goals as goal
 

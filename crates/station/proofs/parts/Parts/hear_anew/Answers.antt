@@ -1,19 +1,7 @@
-use Rattle.std.specs.Prelude.{◌≡◌, ◌&&◌, nat_lt, Some}
-use Rattle.std.proofs.Common.{sym, ◌∙◌, ap, subst}
-use Rattle.std.proofs.lemmas.Result.{on_ok_weaker}
-use Rattle.ax25_address.specs.Callsign.{Callsign}
-use Rattle.ax25_address.specs.FramePath.{way_back}
-use Rattle.ax25_address.specs.declared.path.Path.{Path}
-use Rattle.ax25_address.specs.declared.path.Role.TheVariants.{Command}
-use Rattle.ax25_frames.specs.ControlField.{IsNumbered}
-use Rattle.ax25_frames.specs.FrameOctets.{control_of}
-use Rattle.ax25_frames.specs.declared.frame.Modulus.{Modulus}
-use Rattle.link_machine.specs.Event.Event.{Hear}
-use Rattle.station.specs.Heard.{makes_link, may_make}
-use Rattle.station.specs.LinkEvents.{event_at}
-use Rattle.station.specs.NewLinks.{making, no_layer_3}
-use Rattle.station.specs.Registrations.{registrar}
-use Rattle.station.specs.Turn.{Turn}
+use Rattle.station.proofs.Common.{◌≡◌, ◌&&◌, nat_lt, Some, sym, ◌∙◌, ap, subst, on_ok_weaker, Callsign, way_back, Path}
+use Rattle.station.proofs.Common.{Command, IsNumbered, control_of, Modulus, Hear, may_make, event_at, making}
+use Rattle.station.proofs.Common.{no_layer_3, registrar, Turn}
+use Rattle.station.specs.Heard.{makes_link}
 use Rattle.station.proofs.HearLemmas.{links_counted, heard_passed, heard_made}
 use Rattle.station.proofs.parts.Parts.hear_anew.Goals as goal
 

@@ -1,15 +1,5 @@
-use Rattle.std.specs.Prelude.{◌≡◌, Option, Some, None, refl}
-use Rattle.std.proofs.Common.{◌∙◌, subst}
-use Rattle.std.proofs.lemmas.Result.{on_ok_weaker}
-use Rattle.ax25_frames.specs.ControlField.{IsNumbered}
-use Rattle.ax25_frames.specs.FrameOctets.{control_of}
-use Rattle.ax25_frames.specs.declared.frame.Frame.{Frame}
-use Rattle.ax25_frames.specs.declared.frame.Modulus.{Modulus}
-use Rattle.link_machine.specs.Event.Event.{Hear}
-use Rattle.station.specs.Heard.{IsReadAs}
-use Rattle.station.specs.LinkEvents.{event_at}
-use Rattle.station.specs.Links.{link_at, link_modulus}
-use Rattle.station.specs.TableSteps.{place_at}
+use Rattle.station.proofs.Common.{◌≡◌, Option, Some, None, refl, ◌∙◌, subst, on_ok_weaker, IsNumbered, control_of}
+use Rattle.station.proofs.Common.{Frame, Modulus, Hear, IsReadAs, event_at, link_at, link_modulus, place_at}
 use Rattle.station.proofs.EventLemmas.{places-at}
 use Rattle.station.proofs.HearLemmas.{same_modulus}
 use Rattle.station.proofs.parts.Parts.hear_at.Goals as goal

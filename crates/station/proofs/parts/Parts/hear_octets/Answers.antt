@@ -1,8 +1,5 @@
-use Rattle.std.specs.Prelude.{◌≡◌, ℕ, Option, Some, None}
-use Rattle.std.proofs.Common.{◌∙◌, subst}
-use Rattle.std.proofs.lemmas.Result.{on_ok_weaker}
+use Rattle.station.proofs.Common.{◌≡◌, ℕ, Option, Some, None, ◌∙◌, subst, on_ok_weaker, key_between}
 use Rattle.station.specs.Heard.{AreHeardAt}
-use Rattle.station.specs.Links.{key_between}
 use Rattle.station.proofs.HearLemmas.{key_found}
 use Rattle.station.proofs.parts.Parts.hear_octets.Goals as goal
 

@@ -1,9 +1,5 @@
-use Rattle.std.specs.Prelude.{Option, Some, None, refl}
-use Rattle.std.proofs.Common.{subst}
-use Rattle.std.proofs.lemmas.Result.{on_ok_weaker}
-use Rattle.ax25_frames.specs.declared.frame.Frame.{Frame}
+use Rattle.station.proofs.Common.{Option, Some, None, refl, subst, on_ok_weaker, Frame, IsReadAs}
 use Rattle.ax25_frames.specs.declared.frame.Modulus.TheVariants.{Eight}
-use Rattle.station.specs.Heard.{IsReadAs}
 use Rattle.station.proofs.parts.Parts.hear_unlinked.Goals as goal
 
 pub hear_anew-requires : goal.hear_anew-requires

@@ -1,11 +1,6 @@
-use Rattle.std.specs.Prelude.{◌==◌}
-use Rattle.std.proofs.Common.{sym, subst}
-use Rattle.std.proofs.lemmas.Bool.{cond-true, eq-eqb}
+use Rattle.station.proofs.Common.{◌==◌, sym, subst, cond-true, eq-eqb, KissItem, heeding, Shows, Turn, changing}
 use Rattle.channel_access.specs.declared.parameters.Param.{Param}
-use Rattle.kiss_port.specs.declared.item.KissItem.{KissItem}
-use Rattle.station.specs.Kiss.{heeding, param_of, with_param}
-use Rattle.station.specs.StandsFor.{Shows}
-use Rattle.station.specs.Turn.{Turn, changing}
+use Rattle.station.specs.Kiss.{param_of, with_param}
 use Rattle.station.proofs.parts.Parts.heed.Goals as goal
 
 pub returns-then-port-eq0-clause-shows : goal.returns-then-port-eq0-clause-shows

@@ -1,9 +1,4 @@
-use Rattle.std.specs.Prelude.{◌≡◌, ◌+◌, take}
-use Rattle.std.proofs.Common.{sym, ◌∙◌, ap, subst}
-use Rattle.kiss_port.specs.declared.item.KissItem.{KissItem}
-use Rattle.station.specs.Kiss.{heeding, heeding_all}
-use Rattle.station.specs.StandsFor.{Shows}
-use Rattle.station.specs.Turn.{Turn}
+use Rattle.station.proofs.Common.{◌≡◌, ◌+◌, take, sym, ◌∙◌, ap, subst, KissItem, heeding, heeding_all, Shows, Turn}
 use Rattle.station.proofs.TurnLemmas.{in_order-more}
 use Rattle.station.proofs.parts.Parts.heed_all.Goals as goal
 

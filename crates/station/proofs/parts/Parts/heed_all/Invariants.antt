@@ -1,8 +1,4 @@
-use Rattle.std.specs.Prelude.{◌≡◌, take}
-use Rattle.station.specs.Held.{ids_in}
-use Rattle.station.specs.Kiss.{heeding_all}
-use Rattle.station.specs.StandsFor.{Shows}
-use Rattle.station.specs.Turn.{Turn}
+use Rattle.station.proofs.Common.{◌≡◌, take, ids_in, heeding_all, Shows, Turn}
 use Rattle.station.proofs.parts.Parts.heed_all.Given as goal
 
 -- the items so far are heeded

@@ -1,6 +1,4 @@
-use Rattle.std.proofs.Common.{subst}
-use Rattle.station.specs.declared.host_event.HostEvent.{HostEvent}
-use Rattle.station.specs.Held.{JoinsAnew}
+use Rattle.station.proofs.Common.{subst, HostEvent, JoinsAnew}
 use Rattle.station.proofs.parts.Parts.host.Goals as goal
 
 pub join-requires : goal.join-requires

@@ -1,14 +1,7 @@
-use Rattle.std.specs.Prelude.{◌≡◌, ℕ, nat_lt, length, List, [], ◌∷◌, ◌++◌, true, false, map, refl}
-use Rattle.std.proofs.Common.{sym, ◌∙◌, ap, subst, arith}
-use Rattle.std.proofs.lemmas.Bool.{cond-true, cond-false}
-use Rattle.std.proofs.lemmas.Bool.Decides.{nat_tests}
-use Rattle.std.proofs.lemmas.List.{map-append}
-use Rattle.std.proofs.lemmas.Result.{on_ok_weaker}
+use Rattle.station.proofs.Common.{◌≡◌, ℕ, nat_lt, length, List, [], ◌∷◌, ◌++◌, true, false, map, refl, sym, ◌∙◌, ap}
+use Rattle.station.proofs.Common.{subst, arith, cond-true, cond-false, nat_tests, map-append, on_ok_weaker, ids_in}
+use Rattle.station.proofs.Common.{without_ids, with_host, StandsForConnection, Shows, Out, Turn, changing, closing}
 use Rattle.station.specs.declared.connection.Connection.{Connection as HeldConnection}
-use Rattle.station.specs.Held.{ids_in, without_ids}
-use Rattle.station.specs.Host.{with_host}
-use Rattle.station.specs.StandsFor.{StandsForConnection, Shows}
-use Rattle.station.specs.Turn.{Out, Turn, changing, closing}
 use Rattle.station.proofs.JoinLemmas.{shows_joined, ids_closed}
 use Rattle.station.proofs.Standing.{AllZip-length}
 use Rattle.station.proofs.parts.Parts.join.Goals as goal

@@ -1,18 +1,8 @@
-use Rattle.std.specs.Prelude.{◌≡◌, ℕ, Option, Some, None, refl}
-use Rattle.std.proofs.Common.{sym, ◌∙◌, ap, subst}
-use Rattle.ax25_address.specs.Callsign.{Callsign}
-use Rattle.link_machine.specs.Done.{Done}
-use Rattle.link_machine.specs.Event.{Event}
-use Rattle.link_machine.specs.Step.{step, done_of}
-use Rattle.station.specs.declared.owned_link.OwnedLink.{OwnedLink}
-use Rattle.station.specs.declared.parts.Parts.{Parts}
-use Rattle.station.specs.LinkEvents.{event_of as event_of_place, link_event, settled_link, with_links, queueing_frames}
-use Rattle.station.specs.LinkEvents.{telling_to}
-use Rattle.station.specs.LinkRequests.{event_of, stepped_link}
-use Rattle.station.specs.Links.{Link, link_at}
-use Rattle.station.specs.StandsFor.{StandsForPlace, StandsForLink, Shows}
-use Rattle.station.specs.TableSteps.{HasAt}
-use Rattle.station.specs.Turn.{Out, Turn, changing}
+use Rattle.station.proofs.Common.{◌≡◌, ℕ, Option, Some, None, refl, sym, ◌∙◌, ap, subst, Callsign, Done, Event, step}
+use Rattle.station.proofs.Common.{done_of, OwnedLink, Parts, settled_link, with_links, queueing_frames, telling_to}
+use Rattle.station.proofs.Common.{event_of, stepped_link, Link, link_at, StandsForPlace, StandsForLink, Shows, HasAt}
+use Rattle.station.proofs.Common.{Out, Turn, changing}
+use Rattle.station.specs.LinkEvents.{event_of as event_of_place, link_event}
 use Rattle.station.proofs.EventLemmas.{places-at, HasAt-set, shows-settled}
 use Rattle.station.proofs.parts.Parts.link_event.Goals as goal
 

@@ -1,11 +1,7 @@
-use Rattle.std.specs.Prelude.{◌≡◌, Some, Ok}
-use Rattle.std.proofs.Common.{◌∙◌, ap, subst}
+use Rattle.station.proofs.Common.{◌≡◌, Some, Ok, ◌∙◌, ap, subst, Params, modulus_named, OwnedLink, held_modulus}
 use Rattle.link_machine.specs.declared.machine.Machine.{Machine as Held}
-use Rattle.link_machine.specs.declared.params.Params.{Params}
-use Rattle.link_machine.specs.Machine.{new_machine, modulus_named}
+use Rattle.link_machine.specs.Machine.{new_machine}
 use Rattle.link_machine.specs.StandsFor.{StandsFor}
-use Rattle.station.specs.declared.owned_link.OwnedLink.{OwnedLink}
-use Rattle.station.specs.LinkRequests.{held_modulus}
 use Rattle.station.proofs.InsertLemmas.{shows_made}
 use Rattle.station.proofs.MemoryLemmas.{if_took}
 use Rattle.station.proofs.WindowLemmas.{none_refused}

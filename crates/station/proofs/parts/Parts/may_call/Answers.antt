@@ -1,9 +1,5 @@
-use Rattle.std.specs.Prelude.{◌≡◌, ℕ, true, false, nat_lt, is_some, Option}
-use Rattle.std.proofs.Common.{sym, ◌∙◌, ap}
-use Rattle.station.specs.HeldRoutes.{as_route}
-use Rattle.station.specs.Links.{key_between}
-use Rattle.station.specs.Registrations.{is_number, registrar}
-use Rattle.station.specs.Routes.{Route}
+use Rattle.station.proofs.Common.{◌≡◌, ℕ, true, false, nat_lt, is_some, Option, sym, ◌∙◌, ap, as_route, key_between}
+use Rattle.station.proofs.Common.{is_number, registrar, Route}
 use Rattle.station.proofs.CallingLemmas.{call-unregistered, call-linked, call-free}
 use Rattle.station.proofs.HearLemmas.{key_found, links_counted}
 use Rattle.station.proofs.parts.Parts.may_call.Goals as goal

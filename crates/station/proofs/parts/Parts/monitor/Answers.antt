@@ -1,8 +1,4 @@
-use Rattle.std.specs.Prelude.{Option, Some, None}
-use Rattle.std.proofs.Common.{subst}
-use Rattle.std.proofs.lemmas.Result.{on_ok_weaker}
-use Rattle.ax25_frames.specs.declared.frame.Frame.{Frame}
-use Rattle.station.specs.Heard.{IsReadAs}
+use Rattle.station.proofs.Common.{Option, Some, None, subst, on_ok_weaker, Frame, IsReadAs}
 use Rattle.station.proofs.MonitorLemmas.{shows_nothing}
 use Rattle.station.proofs.parts.Parts.monitor.Goals as goal
 

@@ -1,9 +1,4 @@
-use Rattle.std.specs.Prelude.{◌≡◌}
-use Rattle.std.proofs.Common.{subst}
-use Rattle.std.proofs.lemmas.Result.{on_ok_weaker}
-use Rattle.ax25_frames.specs.declared.frame.Modulus.{Modulus}
-use Rattle.station.specs.Heard.{IsReadAs}
-use Rattle.station.specs.Monitored.{modulus_between}
+use Rattle.station.proofs.Common.{◌≡◌, subst, on_ok_weaker, Modulus, IsReadAs, modulus_between}
 use Rattle.station.proofs.parts.Parts.monitor_heard.Goals as goal
 
 pub returns-clause-shows : goal.returns-clause-shows

@@ -1,12 +1,6 @@
-use Rattle.std.specs.Prelude.{◌≡◌, ℕ, List, Option, Some}
-use Rattle.std.proofs.Common.{sym, subst}
-use Rattle.std.proofs.lemmas.Result.{on_ok_weaker}
+use Rattle.station.proofs.Common.{◌≡◌, ℕ, List, Option, Some, sym, subst, on_ok_weaker, Modulus, Sent, IsReadAs}
+use Rattle.station.proofs.Common.{modulus_between, IsSentFrame}
 use Rattle.ax25_address.specs.FramePath.{BeginsWithPath}
-use Rattle.ax25_frames.specs.declared.frame.Modulus.{Modulus}
-use Rattle.channel_access.specs.declared.air_tick.Sent.{Sent}
-use Rattle.station.specs.Heard.{IsReadAs}
-use Rattle.station.specs.Monitored.{modulus_between}
-use Rattle.station.specs.Ticks.{IsSentFrame}
 use Rattle.station.proofs.parts.Parts.monitor_sent.Goals as goal
 
 pub returns-clause-shows : goal.returns-clause-shows

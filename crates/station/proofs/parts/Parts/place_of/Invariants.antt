@@ -1,5 +1,4 @@
-use Rattle.std.specs.Prelude.{◌≢◌, ℕ, ◌<◌}
-use Rattle.std.proofs.Common.{get_or}
+use Rattle.station.proofs.Common.{◌≢◌, ℕ, ◌<◌, get_or}
 use Rattle.station.specs.declared.connection.Connection.{Connection}
 use Rattle.station.proofs.parts.Parts.place_of.Given as goal
 

@@ -1,10 +1,7 @@
-use Rattle.std.specs.Prelude.{◌≡◌, ◌+◌, ℕ, List, take, Some}
-use Rattle.std.proofs.Common.{sym, ◌∙◌, ap, subst}
+use Rattle.station.proofs.Common.{◌≡◌, ◌+◌, ℕ, List, take, Some, sym, ◌∙◌, ap, subst, frame_octets, queueing_frames}
+use Rattle.station.proofs.Common.{Shows, Turn, queueing}
 use Rattle.link_machine.specs.declared.acts.SentFrame.{SentFrame}
-use Rattle.station.specs.FrameSpelling.{frame_octets}
-use Rattle.station.specs.LinkEvents.{queueing_frame, queueing_frames}
-use Rattle.station.specs.StandsFor.{Shows}
-use Rattle.station.specs.Turn.{Turn, queueing}
+use Rattle.station.specs.LinkEvents.{queueing_frame}
 use Rattle.station.proofs.TurnLemmas.{in_order-more}
 use Rattle.station.proofs.parts.Parts.queue_frames.Goals as goal
 

@@ -1,8 +1,4 @@
-use Rattle.std.specs.Prelude.{◌≡◌, take}
-use Rattle.station.specs.Held.{ids_in}
-use Rattle.station.specs.LinkEvents.{queueing_frames}
-use Rattle.station.specs.StandsFor.{Shows}
-use Rattle.station.specs.Turn.{Turn}
+use Rattle.station.proofs.Common.{◌≡◌, take, ids_in, queueing_frames, Shows, Turn}
 use Rattle.station.proofs.parts.Parts.queue_frames.Given as goal
 
 -- the frames so far are queued

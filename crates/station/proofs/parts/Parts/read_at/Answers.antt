@@ -1,13 +1,7 @@
-use Rattle.std.specs.Prelude.{◌≡◌, Some, refl}
-use Rattle.std.specs.Vec.{with_item}
-use Rattle.std.proofs.lemmas.Result.{on_ok_weaker, IfOk-weaker}
-use Rattle.std.proofs.Common.{get_or}
+use Rattle.station.proofs.Common.{◌≡◌, Some, refl, with_item, on_ok_weaker, get_or, Kiss, Parts, Said, Connection}
+use Rattle.station.proofs.Common.{connection_of, new_connection, IsSaid, Says}
+use Rattle.std.proofs.lemmas.Result.{IfOk-weaker}
 use Rattle.station.specs.declared.connection.Connection.{Connection as HeldConnection}
-use Rattle.station.specs.declared.host_event.PortKind.TheVariants.{Kiss}
-use Rattle.station.specs.declared.parts.Parts.{Parts}
-use Rattle.station.specs.declared.reading.Said.{Said}
-use Rattle.station.specs.Connections.{Connection, connection_of, new_connection}
-use Rattle.station.specs.HeldReading.{IsSaid, Says}
 use Rattle.station.specs.Host.{with_octets}
 use Rattle.station.proofs.TakeLemmas.{connection_at, place_is, shows_connections, stands_here, zip_changed, ids_set}
 use Rattle.station.proofs.TakeLemmas.{on_any}

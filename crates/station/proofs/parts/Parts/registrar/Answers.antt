@@ -1,7 +1,5 @@
-use Rattle.std.specs.Prelude.{◌≡◌, ◌<◌, ℕ, length, Bool, true, option_map, Option, Some}
-use Rattle.std.proofs.Common.{sym, ◌∙◌, ap, arith, get_or}
-use Rattle.ax25_address.specs.SameCall.{is_same_call}
-use Rattle.station.specs.declared.registration.Registration.{Registration}
+use Rattle.station.proofs.Common.{◌≡◌, ◌<◌, ℕ, length, Bool, true, option_map, Option, Some, sym, ◌∙◌, ap, arith}
+use Rattle.station.proofs.Common.{get_or, is_same_call, Registration}
 use Rattle.station.proofs.Searches.{find_at, find_none}
 use Rattle.station.proofs.parts.Parts.registrar.Goals as goal
 

@@ -1,7 +1,4 @@
-use Rattle.std.specs.Prelude.{◌≡◌, ℕ, ◌<◌, false}
-use Rattle.std.proofs.Common.{get_or}
-use Rattle.ax25_address.specs.SameCall.{is_same_call}
-use Rattle.station.specs.declared.registration.Registration.{Registration}
+use Rattle.station.proofs.Common.{◌≡◌, ℕ, ◌<◌, false, get_or, is_same_call, Registration}
 use Rattle.station.proofs.parts.Parts.registrar.Given as goal
 
 -- no registration so far is of the call

@@ -1,11 +1,8 @@
-use Rattle.std.specs.Prelude.{◌≡◌, ◌++◌, ℕ, List, length, take, drop, slice_index, bit_or, Option, Some, None, refl}
-use Rattle.std.proofs.Common.{sym, ◌∙◌, ap, subst, arith, inl}
-use Rattle.std.proofs.lemmas.List.{take_at, length-set}
-use Rattle.std.proofs.lemmas.Result.{on_ok_weaker}
-use Rattle.ax25_address.specs.Callsign.{Callsign}
+use Rattle.station.proofs.Common.{◌≡◌, ◌++◌, ℕ, List, length, take, drop, Option, Some, None, refl, sym, ◌∙◌, ap, subst}
+use Rattle.station.proofs.Common.{arith, inl, length-set, on_ok_weaker, Callsign, IsRepeatedFor, queueing}
+use Rattle.std.specs.Prelude.{slice_index, bit_or}
+use Rattle.std.proofs.lemmas.List.{take_at}
 use Rattle.digipeater.specs.Repeated.{IsTurnOf, repeated, ssid_place}
-use Rattle.station.specs.Heard.{IsRepeatedFor}
-use Rattle.station.specs.Turn.{queueing}
 use Rattle.station.proofs.parts.Parts.repeat.Goals as goal
 
 length-repeated : (octets : List ℕ) (k : ℕ) → length (repeated octets k) ≡ length octets

@@ -1,13 +1,6 @@
-use Rattle.std.specs.Prelude.{◌≡◌, ◌<◌, length, map, take}
-use Rattle.std.specs.List.{AllZip}
-use Rattle.std.proofs.Common.{sym, subst, arith, get_or}
-use Rattle.std.proofs.lemmas.List.{take_all}
+use Rattle.station.proofs.Common.{◌≡◌, ◌<◌, length, map, take, AllZip, sym, subst, arith, get_or, take_all, Kiss}
+use Rattle.station.proofs.Common.{Connection, new_connection, showing_to, Shows, StandsForConnection, Turn, in_order}
 use Rattle.station.specs.declared.connection.Connection.{Connection as HeldConnection}
-use Rattle.station.specs.declared.host_event.PortKind.TheVariants.{Kiss}
-use Rattle.station.specs.Connections.{Connection, new_connection}
-use Rattle.station.specs.Heard.{showing_to}
-use Rattle.station.specs.StandsFor.{Shows, StandsForConnection}
-use Rattle.station.specs.Turn.{Turn, in_order}
 use Rattle.station.proofs.ShowLemmas.{shows_shown}
 use Rattle.station.proofs.Standing.{AllZip-at, AllZip-length}
 use Rattle.station.proofs.TurnLemmas.{in_order-more}

@@ -1,7 +1,4 @@
-use Rattle.std.specs.Prelude.{map, take}
-use Rattle.station.specs.Heard.{showing_to}
-use Rattle.station.specs.StandsFor.{Shows}
-use Rattle.station.specs.Turn.{Turn, in_order}
+use Rattle.station.proofs.Common.{map, take, showing_to, Shows, Turn, in_order}
 use Rattle.station.proofs.parts.Parts.show.Given as goal
 
 -- the connections so far are shown the frame

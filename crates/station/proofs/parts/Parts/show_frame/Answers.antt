@@ -1,14 +1,7 @@
-use Rattle.std.specs.Prelude.{◌≡◌, ◌+◌, ◌<◌, ℕ, List, length, take, Some}
-use Rattle.std.specs.List.{AllZip}
-use Rattle.std.proofs.Common.{sym, subst, arith, get_or}
-use Rattle.std.proofs.lemmas.List.{take_all}
-use Rattle.agwpe_port.specs.Messages.{spelling}
+use Rattle.station.proofs.Common.{◌≡◌, ◌+◌, ◌<◌, ℕ, List, length, take, Some, AllZip, sym, subst, arith, get_or}
+use Rattle.station.proofs.Common.{take_all, spelling, Kiss, Connection, new_connection, monitor_message, monitoring}
+use Rattle.station.proofs.Common.{to_monitors, Shows, StandsForConnection, Out, Turn}
 use Rattle.station.specs.declared.connection.Connection.{Connection as HeldConnection}
-use Rattle.station.specs.declared.host_event.PortKind.TheVariants.{Kiss}
-use Rattle.station.specs.Connections.{Connection, new_connection}
-use Rattle.station.specs.Monitoring.{monitor_message, monitoring, to_monitors}
-use Rattle.station.specs.StandsFor.{Shows, StandsForConnection}
-use Rattle.station.specs.Turn.{Out, Turn}
 use Rattle.station.proofs.MonitorLemmas.{with_pieces, shown_more, passed_more}
 use Rattle.station.proofs.Standing.{AllZip-at, AllZip-length}
 use Rattle.station.proofs.parts.Parts.show_frame.Goals.{then-connection+in_ok-shown+in_ok-send, else-connection}

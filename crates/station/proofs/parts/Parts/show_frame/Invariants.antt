@@ -1,8 +1,4 @@
-use Rattle.std.specs.Prelude.{take}
-use Rattle.agwpe_port.specs.Messages.{spelling}
-use Rattle.station.specs.Monitoring.{monitor_message, to_monitors}
-use Rattle.station.specs.StandsFor.{Shows}
-use Rattle.station.specs.Turn.{Turn}
+use Rattle.station.proofs.Common.{take, spelling, monitor_message, to_monitors, Shows, Turn}
 use Rattle.station.proofs.MonitorLemmas.{with_pieces}
 use Rattle.station.proofs.parts.Parts.show_frame.Given as goal
 

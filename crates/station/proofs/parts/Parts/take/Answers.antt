@@ -1,15 +1,6 @@
-use Rattle.std.specs.Prelude.{List, refl}
-use Rattle.std.proofs.Common.{sym, subst}
-use Rattle.std.proofs.lemmas.Result.{on_ok_weaker}
-use Rattle.agwpe_port.specs.declared.message.AgwMessage.{AgwMessage}
-use Rattle.kiss_port.specs.declared.item.KissItem.{KissItem}
-use Rattle.station.specs.declared.reading.Said.{Said}
-use Rattle.station.specs.declared.reading.Said.TheVariants.{Items, Messages}
-use Rattle.station.specs.HeldReading.{IsSaid, AreSaidItems, AreSaidMessages}
-use Rattle.station.specs.Connections.{connection_of, new_connection}
-use Rattle.station.specs.declared.host_event.PortKind.TheVariants.{Kiss}
-use Rattle.station.specs.Host.{taking, ending}
-use Rattle.station.specs.Kiss.{heeding_all}
+use Rattle.station.proofs.Common.{List, refl, sym, subst, on_ok_weaker, AgwMessage, KissItem, Said, Items, Messages}
+use Rattle.station.proofs.Common.{IsSaid, AreSaidItems, AreSaidMessages, connection_of, new_connection, Kiss, taking}
+use Rattle.station.proofs.Common.{ending, heeding_all}
 use Rattle.station.proofs.TakeLemmas.{connection_none}
 use Rattle.station.proofs.TakenLemmas.{found_id, taken_none, taken_items, taken_messages}
 use Rattle.station.proofs.parts.Parts.take.Goals as goal

@@ -1,9 +1,5 @@
-use Rattle.std.specs.Prelude.{◌≡◌, ◌+◌, take}
-use Rattle.std.proofs.Common.{sym, ◌∙◌, ap, subst}
-use Rattle.link_machine.specs.declared.acts.Told.{Told}
-use Rattle.station.specs.LinkEvents.{telling_one, telling_to}
-use Rattle.station.specs.StandsFor.{Shows}
-use Rattle.station.specs.Turn.{Turn}
+use Rattle.station.proofs.Common.{◌≡◌, ◌+◌, take, sym, ◌∙◌, ap, subst, Told, telling_to, Shows, Turn}
+use Rattle.station.specs.LinkEvents.{telling_one}
 use Rattle.station.proofs.TurnLemmas.{in_order-more}
 use Rattle.station.proofs.parts.Parts.tell.Goals as goal
 

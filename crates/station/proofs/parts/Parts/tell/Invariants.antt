@@ -1,7 +1,4 @@
-use Rattle.std.specs.Prelude.{◌≡◌, take}
-use Rattle.station.specs.LinkEvents.{telling_to}
-use Rattle.station.specs.StandsFor.{Shows}
-use Rattle.station.specs.Turn.{Turn}
+use Rattle.station.proofs.Common.{◌≡◌, take, telling_to, Shows, Turn}
 use Rattle.station.proofs.parts.Parts.tell.Given as goal
 
 -- the items so far are told

@@ -1,13 +1,10 @@
-use Rattle.std.specs.Prelude.{◌≡◌, Option}
-use Rattle.std.proofs.Common.{◌∙◌, ap, subst, refl}
+use Rattle.station.proofs.Common.{◌≡◌, Option, ◌∙◌, ap, subst, Sent, Parts, StationState, Shows, IsSentFrame}
+use Rattle.station.proofs.Common.{ticking_links, Turn, changing}
+use Rattle.std.proofs.Common.{refl}
 use Rattle.channel_access.specs.Channel.{after_tick}
 use Rattle.channel_access.specs.declared.air_tick.AirTick.{AirTick}
-use Rattle.channel_access.specs.declared.air_tick.Sent.{Sent}
-use Rattle.station.specs.declared.parts.Parts.{Parts}
-use Rattle.station.specs.State.{StationState, one_more}
-use Rattle.station.specs.StandsFor.{Shows}
-use Rattle.station.specs.Ticks.{IsSentFrame, air_in, ticking, ticking_links}
-use Rattle.station.specs.Turn.{Turn, changing}
+use Rattle.station.specs.State.{one_more}
+use Rattle.station.specs.Ticks.{air_in, ticking}
 use Rattle.station.proofs.parts.Parts.tick.Goals as goal
 
 pub returns-clause-step : goal.returns-clause-step

@@ -1,9 +1,5 @@
-use Rattle.std.specs.Prelude.{◌≡◌, Bool, OnOk}
-use Rattle.std.proofs.Common.{◌∙◌, ap, subst}
+use Rattle.station.proofs.Common.{◌≡◌, Bool, OnOk, ◌∙◌, ap, subst, event_at, Shows, waits}
 use Rattle.link_machine.specs.Event.Event.{Tick}
-use Rattle.station.specs.LinkEvents.{event_at}
-use Rattle.station.specs.StandsFor.{Shows}
-use Rattle.station.specs.Ticks.{waits}
 use Rattle.station.proofs.TickLemmas.{waits_told}
 use Rattle.station.proofs.parts.Parts.tick_link.Goals as goal
 

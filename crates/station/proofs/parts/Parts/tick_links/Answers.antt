@@ -1,9 +1,4 @@
-use Rattle.std.specs.Prelude.{map}
-use Rattle.std.specs.List.{range_with_len}
-use Rattle.std.proofs.Common.{sym, ◌∙◌, arith, subst}
-use Rattle.station.specs.StandsFor.{Shows}
-use Rattle.station.specs.Ticks.{ticking_at}
-use Rattle.station.specs.Turn.{Turn, in_order}
+use Rattle.station.proofs.Common.{map, range_with_len, sym, ◌∙◌, arith, subst, Shows, ticking_at, Turn, in_order}
 use Rattle.station.proofs.TickLemmas.{all_ticked}
 use Rattle.station.proofs.TurnLemmas.{in_order-next}
 use Rattle.station.proofs.parts.Parts.tick_links.Goals as goal

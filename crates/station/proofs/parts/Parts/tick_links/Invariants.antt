@@ -1,9 +1,4 @@
-use Rattle.std.specs.Prelude.{◌≡◌, map}
-use Rattle.std.specs.List.{range_with_len}
-use Rattle.station.specs.Held.{ids_in}
-use Rattle.station.specs.StandsFor.{Shows}
-use Rattle.station.specs.Ticks.{ticking_at}
-use Rattle.station.specs.Turn.{Turn, in_order}
+use Rattle.station.proofs.Common.{◌≡◌, map, range_with_len, ids_in, Shows, ticking_at, Turn, in_order}
 use Rattle.station.proofs.parts.Parts.tick_links.Given as goal
 
 -- the links below the key have ticked

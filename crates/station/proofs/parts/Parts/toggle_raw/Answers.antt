@@ -1,10 +1,5 @@
-use Rattle.std.specs.Prelude.{refl}
-use Rattle.std.specs.Vec.{with_item}
-use Rattle.std.proofs.Common.{ap}
+use Rattle.station.proofs.Common.{refl, with_item, ap, Kiss, Parts, Connection, new_connection, turned_raw}
 use Rattle.station.specs.declared.connection.Connection.{Connection as HeldConnection}
-use Rattle.station.specs.declared.host_event.PortKind.TheVariants.{Kiss}
-use Rattle.station.specs.declared.parts.Parts.{Parts}
-use Rattle.station.specs.Connections.{Connection, new_connection, turned_raw}
 use Rattle.station.proofs.TakeLemmas.{none_changed, place_is, shows_connections, stands_here, stands_turned}
 use Rattle.station.proofs.TakeLemmas.{zip_changed, ids_set}
 use Rattle.station.proofs.parts.Parts.toggle_raw.Goals as goal

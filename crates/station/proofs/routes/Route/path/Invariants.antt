@@ -1,4 +1,4 @@
-use Rattle.std.specs.Prelude.{◌≡◌, map, take}
+use Rattle.station.proofs.Common.{◌≡◌, map, take}
 use Rattle.station.specs.Routes.{waiting_hop}
 use Rattle.station.proofs.routes.Route.path.Given as goal
 

@@ -1,8 +1,5 @@
-use Rattle.std.specs.Prelude.{length, IsTrue}
-use Rattle.std.proofs.Common.{ap, subst, arith}
-use Rattle.station.specs.State.{StationState, Accepts}
-use Rattle.station.specs.StandsFor.{StandsFor}
-use Rattle.station.specs.Held.{Held}
+use Rattle.station.proofs.Common.{length, IsTrue, ap, subst, arith, StationState, StandsFor, Held}
+use Rattle.station.specs.State.{Accepts}
 use Rattle.station.proofs.Standing.{few_places, places_few}
 use Rattle.station.proofs.station.Station.accepts.Goals as goal
 

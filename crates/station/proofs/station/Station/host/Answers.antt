@@ -1,9 +1,6 @@
-use Rattle.std.specs.Prelude.{refl}
-use Rattle.std.proofs.Common.{sym, ◌∙◌, ap, subst}
-use Rattle.station.specs.Held.{Held, JoinsAnew, ids_behind, ids_of}
+use Rattle.station.proofs.Common.{refl, sym, ◌∙◌, ap, subst, Held, JoinsAnew, AreParts, StandsFor, Out, begin}
+use Rattle.station.specs.Held.{ids_behind, ids_of}
 use Rattle.station.specs.Host.{IsHostTurn}
-use Rattle.station.specs.StandsFor.{AreParts, StandsFor}
-use Rattle.station.specs.Turn.{Out, begin}
 use Rattle.station.proofs.HostLemmas.{admitted_anew}
 use Rattle.station.proofs.station.Station.host.Goals as goal
 

@@ -1,6 +1,4 @@
-use Rattle.std.proofs.Common.{sym, subst}
-use Rattle.station.specs.Held.{Held}
-use Rattle.station.specs.StandsFor.{StandsFor}
+use Rattle.station.proofs.Common.{sym, subst, Held, StandsFor}
 use Rattle.station.proofs.station.Station.modulus.Goals as goal
 
 pub returns : goal.returns

@@ -1,5 +1,5 @@
-use Rattle.std.proofs.Common.{ℕ, ap, Ok, Err}
-use Rattle.std.specs.Prelude.{Result}
+use Rattle.station.proofs.Common.{ap, Result}
+use Rattle.std.proofs.Common.{ℕ, Ok, Err}
 use Rattle.selective_reject.specs.declared.window.BadWindow.{BadWindow as Refused}
 use Rattle.link_machine.specs.declared.fault.NewFault.{NewFault}
 use Rattle.link_machine.specs.declared.fault.NewFault.TheVariants.{BadWindow, Memory}

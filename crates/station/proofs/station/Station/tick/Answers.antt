@@ -1,9 +1,5 @@
-use Rattle.std.specs.Prelude.{refl}
-use Rattle.std.proofs.Common.{sym, subst}
-use Rattle.station.specs.Held.{Held}
-use Rattle.station.specs.StandsFor.{AreParts, StandsFor}
+use Rattle.station.proofs.Common.{refl, sym, subst, Held, AreParts, StandsFor, Out, begin}
 use Rattle.station.specs.Ticks.{IsTick}
-use Rattle.station.specs.Turn.{Out, begin}
 use Rattle.station.proofs.station.Station.tick.Goals as goal
 
 pub returns-clause-air : goal.returns-clause-air

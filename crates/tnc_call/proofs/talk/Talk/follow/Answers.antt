@@ -1,5 +1,5 @@
-use Rattle.std.proofs.Common.{◌≡◌, ◌++◌, ◌+◌, ◌-◌, ◌^◌, List, ℕ, min, length, ap, ◌∙◌, Some, arith, refl, subst}
-use Rattle.tnc_base.specs.Streams.{WrotePart}
+use Rattle.tnc_call.proofs.Common.{◌≡◌, ◌++◌, ◌+◌, ◌-◌, ◌^◌, List, ℕ, min, length, ap, ◌∙◌, Some, arith, refl, subst}
+use Rattle.tnc_call.proofs.Common.{WrotePart}
 use Rattle.tnc_call.proofs.HeardLemmas.{followed, part_of_last}
 use Rattle.tnc_call.proofs.talk.Talk.follow.Goals as goal
 

@@ -1,8 +1,5 @@
-use Rattle.std.proofs.Common.{◌++◌, ℕ, List, [], Err, refl, ap, subst, sym, append-nil, MatchOption}
-use Rattle.station.specs.declared.host_event.HostEvent.{HostEvent}
-use Rattle.tnc_ports.specs.Sockets.{Poll}
-use Rattle.tnc_call.specs.CallTrace.{ports_by, octets_in, octets_of}
-use Rattle.tnc_call.specs.HeldTalk.{GoesOn, StopsBy}
+use Rattle.tnc_call.proofs.Common.{◌++◌, ℕ, List, [], Err, refl, ap, subst, sym, append-nil, MatchOption, HostEvent}
+use Rattle.tnc_call.proofs.Common.{Poll, ports_by, octets_in, octets_of, GoesOn, StopsBy}
 use Rattle.tnc_call.proofs.TurnLemmas.{turn_goes, turns_on, no_memory}
 use Rattle.tnc_call.proofs.talk.Talk.hear.Goals as goal
 

@@ -1,8 +1,5 @@
-use Rattle.std.proofs.Common.{◌+◌, ◌++◌, ◌∷◌, [], ℕ, List, take, drop, subst, sym, ◌∙◌, MatchOption}
-use Rattle.station.specs.declared.host_event.HostEvent.{HostEvent}
-use Rattle.tnc_call.specs.declared.call_end.CallEnd.TheVariants.{WriteFault}
-use Rattle.tnc_call.specs.CallTrace.{octets_of, event_octets}
-use Rattle.tnc_call.specs.HeldTalk.{GoesOn, StopsBy}
+use Rattle.tnc_call.proofs.Common.{◌+◌, ◌++◌, ◌∷◌, [], ℕ, List, take, drop, subst, sym, ◌∙◌, MatchOption, HostEvent}
+use Rattle.tnc_call.proofs.Common.{WriteFault, octets_of, event_octets, GoesOn, StopsBy}
 use Rattle.tnc_call.proofs.HeardLemmas.{goes_if_none, none_is_no_end, events_stop, octets_with, split_at}
 use Rattle.tnc_call.proofs.talk.Talk.take_all.Goals as goal
 

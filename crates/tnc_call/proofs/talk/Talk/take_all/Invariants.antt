@@ -1,7 +1,4 @@
-use Rattle.std.proofs.Common.{◌≡◌, ◌≤◌, ◌++◌, ℕ, List, length, take}
-use Rattle.agwpe_client.specs.CallRun.{CallPlan}
-use Rattle.tnc_call.specs.CallTrace.{octets_of}
-use Rattle.tnc_call.specs.HeldTalk.{GoesOn}
+use Rattle.tnc_call.proofs.Common.{◌≡◌, ◌≤◌, ◌++◌, ℕ, List, length, take, CallPlan, octets_of, GoesOn}
 use Rattle.tnc_call.proofs.talk.Talk.take_all.Given as goal
 
 -- the call goes on with the events so far

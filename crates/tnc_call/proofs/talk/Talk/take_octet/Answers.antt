@@ -1,5 +1,5 @@
-use Rattle.std.proofs.Common.{◌≡◌, ◌≢◌, ◌∷◌, [], ℕ, subst, Result, Err}
-use Rattle.agwpe_client.specs.declared.client_out.ClientOut.{ClientOut}
+use Rattle.tnc_call.proofs.Common.{◌≡◌, ◌≢◌, ◌∷◌, [], ℕ, subst, Err, ClientOut}
+use Rattle.std.proofs.Common.{Result}
 use Rattle.agwpe_client.specs.declared.fault.ClientFault.{ClientFault}
 use Rattle.agwpe_client.specs.declared.fault.ClientFault.TheVariants.{Refused, Broken, Memory}
 use Rattle.agwpe_client.specs.CallRun.{IsFault}

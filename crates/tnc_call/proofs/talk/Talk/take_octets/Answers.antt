@@ -1,8 +1,6 @@
-use Rattle.std.proofs.Common.{◌+◌, ◌++◌, ◌∷◌, [], ℕ, List, take, drop, get_or, subst, sym, ◌∙◌, MatchOption}
-use Rattle.tnc_call.specs.declared.call_end.CallEnd.TheVariants.{WriteFault}
-use Rattle.std.proofs.lemmas.List.{take-append-drop}
+use Rattle.tnc_call.proofs.Common.{◌+◌, ◌++◌, ◌∷◌, [], ℕ, List, take, drop, get_or, subst, sym, ◌∙◌, MatchOption}
+use Rattle.tnc_call.proofs.Common.{WriteFault, take-append-drop, GoesOn, Stops}
 use Rattle.agwpe_port.proofs.StreamLemmas.{one_more}
-use Rattle.tnc_call.specs.HeldTalk.{GoesOn, Stops}
 use Rattle.tnc_call.proofs.HeardLemmas.{goes_if_none, none_is_no_end, octets_stop}
 use Rattle.tnc_call.proofs.talk.Talk.take_octets.Goals as goal
 

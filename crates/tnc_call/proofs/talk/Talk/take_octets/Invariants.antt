@@ -1,6 +1,4 @@
-use Rattle.std.proofs.Common.{◌≡◌, ◌≤◌, ◌++◌, ℕ, List, length, take}
-use Rattle.agwpe_client.specs.CallRun.{CallPlan}
-use Rattle.tnc_call.specs.HeldTalk.{GoesOn}
+use Rattle.tnc_call.proofs.Common.{◌≡◌, ◌≤◌, ◌++◌, ℕ, List, length, take, CallPlan, GoesOn}
 use Rattle.tnc_call.proofs.talk.Talk.take_octets.Given as goal
 
 -- the call goes on with the octets so far

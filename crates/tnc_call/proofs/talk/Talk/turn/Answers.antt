@@ -1,7 +1,4 @@
-use Rattle.std.proofs.Common.{◌-◌, ℕ, length, subst, sym}
-use Rattle.tnc_call.specs.declared.talk.Talk.{Talk}
-use Rattle.tnc_call.specs.CallTrace.{CallTrace, ports_by}
-use Rattle.tnc_call.specs.HeldTalk.{HasOffered}
+use Rattle.tnc_call.proofs.Common.{◌-◌, ℕ, length, subst, sym, Talk, CallTrace, ports_by, HasOffered}
 use Rattle.tnc_call.proofs.TraceLemmas.{with_offer}
 use Rattle.tnc_call.proofs.TurnLemmas.{has_offered, send_failed}
 use Rattle.tnc_call.proofs.talk.Talk.turn.Goals as goal

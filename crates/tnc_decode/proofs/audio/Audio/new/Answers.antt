@@ -1,9 +1,4 @@
-use Rattle.std.proofs.Common.{[], sym, subst}
-use Rattle.wav_file.specs.declared.rates.Rates.{Rates}
-use Rattle.tnc_words.specs.declared.command.AudioForm.{AudioForm}
-use Rattle.tnc_decode.specs.declared.audio.Audio.TheVariants.{File}
-use Rattle.tnc_decode.specs.Audio.{rates_of}
-use Rattle.tnc_decode.specs.Held.{HasTakenAt}
+use Rattle.tnc_decode.proofs.Common.{[], sym, subst, Rates, AudioForm, File, rates_of, HasTakenAt}
 use Rattle.tnc_decode.proofs.AudioLemmas.{new_file}
 use Rattle.tnc_decode.proofs.audio.Audio.new.Goals as goal
 

@@ -1,20 +1,12 @@
-use Rattle.std.proofs.Common.{◌/◌, ◌++◌, ℤ, List, length, sym, subst}
-use Rattle.std.specs.Prelude.{IfOk}
-use Rattle.std.proofs.lemmas.Result.{IfOk-weaker}
-use Rattle.slicer_bank.specs.HeldDecoder.{StandsFor}
-use Rattle.slicer_bank.specs.MergedItems.{AreMergedBetween}
+use Rattle.tnc_decode.proofs.Common.{◌/◌, ◌++◌, ℤ, List, length, sym, subst, IfOk, IfOk-weaker, StandsFor}
+use Rattle.tnc_decode.proofs.Common.{AreMergedBetween, settled, least_count, AreWideMergedBetween, Decoders, Modem}
+use Rattle.tnc_decode.proofs.Common.{HasDecoded, settled_count, AreGivenBetween}
 use Rattle.hf_modem.specs.HeldDecoder.{StandsFor as HfStandsFor}
 use Rattle.hf_modem.specs.MergedItems.{AreMergedBetween as AreHfMergedBetween}
 use Rattle.sensitive_receiver.specs.HeldDecoder.{StandsFor as SensitiveStandsFor}
-use Rattle.sensitive_receiver.specs.MergedItems.{AreMergedBetween as AreSensitiveMergedBetween, settled}
-use Rattle.wide_input.specs.Streams.{least_count}
+use Rattle.sensitive_receiver.specs.MergedItems.{AreMergedBetween as AreSensitiveMergedBetween}
 use Rattle.wide_input.specs.Held.{StandsFor as BankStandsFor}
-use Rattle.wide_input.specs.MergedItems.{AreWideMergedBetween}
-use Rattle.tnc_decode.specs.declared.decoders.Decoders.{Decoders}
 use Rattle.tnc_decode.specs.declared.decoders.Decoders.TheVariants.{Plain, Wide, Sensitive, ShortWave}
-use Rattle.tnc_decode.specs.declared.modem.Modem.{Modem}
-use Rattle.tnc_decode.specs.Held.{HasDecoded}
-use Rattle.tnc_decode.specs.Modem.{settled_count, AreGivenBetween}
 use Rattle.tnc_decode.proofs.ModemLemmas.{plain_block, wide_block, short_wave_block}
 use Rattle.tnc_decode.proofs.SensitiveLemmas.{sensitive_block}
 use Rattle.tnc_decode.proofs.decoders.Decoders.block.Goals as goal

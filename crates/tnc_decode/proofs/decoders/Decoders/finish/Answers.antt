@@ -1,17 +1,11 @@
-use Rattle.std.proofs.Common.{◌<◌, ◌+◌, ◌/◌, ◌^◌, ℤ, List, length, sym, subst}
-use Rattle.std.specs.Prelude.{IfOk}
-use Rattle.std.proofs.lemmas.Result.{IfOk-weaker}
-use Rattle.slicer_bank.specs.HeldDecoder.{StandsFor}
-use Rattle.slicer_bank.specs.MergedItems.{AreMergedBetween}
+use Rattle.tnc_decode.proofs.Common.{◌<◌, ◌+◌, ◌/◌, ◌^◌, ℤ, List, length, sym, subst, IfOk, IfOk-weaker, StandsFor}
+use Rattle.tnc_decode.proofs.Common.{AreMergedBetween, settled, Decoders, Modem, HasDecoded, position_of, settled_count}
+use Rattle.tnc_decode.proofs.Common.{AreGivenRest}
 use Rattle.hf_modem.specs.HeldDecoder.{StandsFor as HfStandsFor}
 use Rattle.hf_modem.specs.MergedItems.{AreMergedBetween as AreHfMergedBetween}
 use Rattle.sensitive_receiver.specs.HeldDecoder.{StandsFor as SensitiveStandsFor}
-use Rattle.sensitive_receiver.specs.MergedItems.{AreMergedBetween as AreSensitiveMergedBetween, settled}
-use Rattle.tnc_decode.specs.declared.decoders.Decoders.{Decoders}
+use Rattle.sensitive_receiver.specs.MergedItems.{AreMergedBetween as AreSensitiveMergedBetween}
 use Rattle.tnc_decode.specs.declared.decoders.Decoders.TheVariants.{Plain, Sensitive, ShortWave}
-use Rattle.tnc_decode.specs.declared.modem.Modem.{Modem}
-use Rattle.tnc_decode.specs.Held.{HasDecoded, position_of}
-use Rattle.tnc_decode.specs.Modem.{settled_count, AreGivenRest}
 use Rattle.tnc_decode.proofs.ModemLemmas.{plain_finish, short_wave_finish}
 use Rattle.tnc_decode.proofs.SensitiveLemmas.{sensitive_finish}
 use Rattle.tnc_decode.proofs.decoders.Decoders.finish.Goals as goal

@@ -1,9 +1,5 @@
-use Rattle.std.proofs.Common.{Err, ap, sym, ◌∙◌}
-use Rattle.std.proofs.lemmas.Result.{err_from_is_err_and}
-use Rattle.frame_merge.specs.Merged.{candidate_frames}
-use Rattle.tnc_decode.specs.Audio.{samples_read}
-use Rattle.tnc_decode.specs.Modem.{modem_of}
-use Rattle.tnc_decode.specs.Printing.{print}
+use Rattle.tnc_decode.proofs.Common.{Err, ap, sym, ◌∙◌, err_from_is_err_and, candidate_frames, samples_read, modem_of}
+use Rattle.tnc_decode.proofs.Common.{print}
 use Rattle.tnc_decode.proofs.ReceiverLemmas.{heard_all}
 use Rattle.tnc_decode.proofs.receiver.Receiver.end.Goals as goal
 

@@ -1,12 +1,7 @@
-use Rattle.std.proofs.Common.{◌≡◌, ◌++◌, ℕ, List, Some, Err, ap, sym, subst, refl, ◌∙◌, arith}
-use Rattle.std.proofs.lemmas.Result.{err_from_is_err_and}
-use Rattle.tnc_base.specs.Streams.{WrotePart}
-use Rattle.frame_merge.specs.Merged.{candidate_frames}
-use Rattle.frame_merge.specs.declared.candidate.Candidate.{Candidate}
-use Rattle.tnc_decode.specs.declared.receiver.Receiver.{Receiver}
-use Rattle.tnc_decode.specs.Audio.{rates_of, samples_read}
-use Rattle.tnc_decode.specs.Modem.{modem_of}
-use Rattle.tnc_decode.specs.Printing.{print}
+use Rattle.tnc_decode.proofs.Common.{◌≡◌, ◌++◌, ℕ, List, Err, ap, sym, subst, refl, ◌∙◌, arith, err_from_is_err_and}
+use Rattle.tnc_decode.proofs.Common.{WrotePart, candidate_frames, Candidate, Receiver, rates_of, samples_read, modem_of}
+use Rattle.tnc_decode.proofs.Common.{print}
+use Rattle.std.proofs.Common.{Some}
 use Rattle.tnc_decode.proofs.ReceiverLemmas.{tuned, heard_more, settles, few_more}
 use Rattle.tnc_decode.proofs.receiver.Receiver.hear.Goals as goal
 

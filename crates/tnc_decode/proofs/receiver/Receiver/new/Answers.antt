@@ -1,6 +1,4 @@
-use Rattle.std.proofs.Common.{[], refl, subst}
-use Rattle.tnc_decode.specs.declared.modem.Modem.{Modem}
-use Rattle.tnc_decode.specs.Held.{HasDecoded}
+use Rattle.tnc_decode.proofs.Common.{[], refl, subst, Modem, HasDecoded}
 use Rattle.tnc_decode.proofs.ReceiverLemmas.{heard_none}
 use Rattle.tnc_decode.proofs.receiver.Receiver.new.Goals as goal
 

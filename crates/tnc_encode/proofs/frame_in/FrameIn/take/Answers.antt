@@ -1,5 +1,4 @@
-use Rattle.std.proofs.Common.{subst}
-use Rattle.tnc_encode.specs.HeldFrames.{HasTaken, IsReader}
+use Rattle.tnc_encode.proofs.Common.{subst, HasTaken, IsReader}
 use Rattle.tnc_encode.proofs.PieceLemmas.{bad_lines}
 use Rattle.tnc_encode.proofs.frame_in.FrameIn.take.Goals as goal
 

@@ -1,8 +1,5 @@
-use Rattle.std.proofs.Common.{◌≡◌, ◌++◌, Err, Some, ap, sym, ◌∙◌}
-use Rattle.std.proofs.lemmas.Result.{err_from_is_err_and}
-use Rattle.std.specs.Str.Lines.{strip_carriage_return}
-use Rattle.tnc_forms.specs.declared.fault.Fault.TheVariants.{Input}
-use Rattle.tnc_forms.specs.Faults.{fault_in_line}
+use Rattle.tnc_forms.proofs.Common.{◌≡◌, ◌++◌, Err, Some, ap, sym, ◌∙◌, err_from_is_err_and, strip_carriage_return}
+use Rattle.tnc_forms.proofs.Common.{Input, fault_in_line}
 use Rattle.tnc_forms.proofs.Ends.{same_fault}
 use Rattle.tnc_forms.proofs.SoFarLemmas.{long_fault}
 use Rattle.tnc_forms.proofs.hex_in.HexIn.end_line.Goals as goal

@@ -1,13 +1,7 @@
-use Rattle.std.proofs.Common.{◌≡◌, ◌++◌, List, ℕ, Some, None, sym, subst, ap, ◌∙◌}
-use Rattle.std.specs.Option.{option_to_list}
-use Rattle.std.specs.Prelude.{IfOk, OnOk, IsErrOf}
-use Rattle.tnc_forms.specs.declared.fault.Fault.TheVariants.{Input}
-use Rattle.tnc_forms.specs.declared.fault.InputFault.{InputFault}
-use Rattle.tnc_forms.specs.Faults.{fault_in_line, hex_fault}
-use Rattle.tnc_forms.specs.HeldLine.{HeldLine, StandsFor}
-use Rattle.tnc_forms.specs.HexFrames.{fault_of, frame_of, frames_in_lines}
-use Rattle.tnc_forms.specs.HexLines.{Line}
-use Rattle.tnc_forms.specs.LinesSoFar.{frames_so_far}
+use Rattle.tnc_forms.proofs.Common.{◌≡◌, ◌++◌, List, ℕ, Some, None, sym, subst, ap, ◌∙◌, option_to_list, IfOk, OnOk}
+use Rattle.tnc_forms.proofs.Common.{Input, InputFault, fault_in_line, hex_fault, HeldLine, StandsFor, fault_of}
+use Rattle.tnc_forms.proofs.Common.{frame_of, frames_in_lines, Line, frames_so_far}
+use Rattle.std.specs.Prelude.{IsErrOf}
 use Rattle.tnc_forms.proofs.Ends.{if_ok, map_ok}
 use Rattle.tnc_forms.proofs.HeldLineLemmas.{bad_last, frames_last, good_last}
 use Rattle.tnc_forms.proofs.hex_in.HexIn.finish.Goals as goal

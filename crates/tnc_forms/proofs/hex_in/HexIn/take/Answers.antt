@@ -1,13 +1,8 @@
-use Rattle.std.proofs.Common.{◌≡◌, ◌≤◌, ◌+◌, ◌∷◌, [], ◌++◌, length, take, drop, get_or, Err, Some, append-nil, sym}
-use Rattle.std.proofs.Common.{subst, ap, ◌∙◌, arith}
-use Rattle.std.proofs.lemmas.List.{take_all, take_more}
-use Rattle.std.proofs.lemmas.Result.{err_from_is_err_and}
-use Rattle.std.specs.Option.{option_to_list}
-use Rattle.std.specs.Str.Lines.{strip_carriage_return}
-use Rattle.tnc_forms.specs.declared.fault.Fault.TheVariants.{Input}
-use Rattle.tnc_forms.specs.HeldLine.{HeldLine, StandsFor}
-use Rattle.tnc_forms.specs.HexLines.{is_line_feed}
-use Rattle.tnc_forms.specs.LinesSoFar.{fault_so_far, frames_so_far}
+use Rattle.tnc_forms.proofs.Common.{◌≡◌, ◌≤◌, ◌+◌, ◌∷◌, [], ◌++◌, length, take, drop, get_or, Err, Some, sym, subst, ap}
+use Rattle.tnc_forms.proofs.Common.{◌∙◌, arith, take_all, take_more, err_from_is_err_and, option_to_list}
+use Rattle.tnc_forms.proofs.Common.{strip_carriage_return, Input, HeldLine, StandsFor, is_line_feed, fault_so_far}
+use Rattle.tnc_forms.proofs.Common.{frames_so_far}
+use Rattle.std.proofs.Common.{append-nil}
 use Rattle.tnc_forms.proofs.CutLemmas.{first_inside}
 use Rattle.tnc_forms.proofs.Ends.{same_fault}
 use Rattle.tnc_forms.proofs.HeldLineLemmas.{bad_end, frames_end, frames_kept, long_more, stands_end, stands_more}

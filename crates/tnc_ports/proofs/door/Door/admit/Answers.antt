@@ -1,5 +1,4 @@
-use Rattle.std.proofs.Common.{refl, subst}
-use Rattle.tnc_ports.specs.RealSockets.{Admits}
+use Rattle.tnc_ports.proofs.Common.{refl, subst, Admits}
 use Rattle.tnc_ports.proofs.RealLemmas.{admits_none, admits_more}
 use Rattle.tnc_ports.proofs.door.Door.admit.Goals as goal
 

@@ -1,6 +1,5 @@
 -- Those that came so far have joined.
-use Rattle.std.proofs.Common.{◌≡◌}
-use Rattle.tnc_ports.specs.RealSockets.{Admits}
+use Rattle.tnc_ports.proofs.Common.{◌≡◌, Admits}
 use Rattle.tnc_ports.proofs.door.Door.admit.Given as goal
 
 abbrev pub invariant-loop : goal.invariant-loop

@@ -1,9 +1,7 @@
-use Rattle.std.proofs.Common.{◌≡◌, ◌<◌, ◌≤◌, ◌+◌, length, Err, refl, sym, ap, subst, ◌∙◌, inl, inr}
+use Rattle.tnc_ports.proofs.Common.{◌≡◌, ◌<◌, ◌≤◌, ◌+◌, length, refl, sym, ap, subst, ◌∙◌, inl, inr, on_ok_weaker}
+use Rattle.tnc_ports.proofs.Common.{HostParts, Line, with_piece, octets_of, most_octets}
+use Rattle.std.proofs.Common.{Err}
 use Rattle.std.proofs.lemmas.Bool.{cases_lt}
-use Rattle.std.proofs.lemmas.Result.{on_ok_weaker}
-use Rattle.tnc_ports.specs.declared.host_parts.HostParts.{HostParts}
-use Rattle.tnc_ports.specs.declared.line.Line.{Line}
-use Rattle.tnc_ports.specs.Waiting.{with_piece, octets_of, most_octets}
 use Rattle.tnc_ports.proofs.DeliverLemmas.{stands_at, waits_at, waits_narrows, append_fits, append_cuts}
 use Rattle.tnc_ports.proofs.MoveLemmas.{narrows_then}
 use Rattle.tnc_ports.proofs.ResultLemmas.{ok_or_err}

@@ -1,6 +1,4 @@
-use Rattle.std.proofs.Common.{subst, arith}
-use Rattle.tnc_ports.specs.HeldHosts.{Moves}
-use Rattle.tnc_ports.specs.Hosts.{appending, appending_one}
+use Rattle.tnc_ports.proofs.Common.{subst, arith, Moves, appending, appending_one}
 use Rattle.tnc_ports.proofs.DeliverLemmas.{append_more}
 use Rattle.tnc_ports.proofs.LineLemmas.{take_end}
 use Rattle.tnc_ports.proofs.MoveLemmas.{narrows_then}

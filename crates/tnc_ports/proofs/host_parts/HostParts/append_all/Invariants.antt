@@ -1,7 +1,5 @@
 -- The pieces so far are appended.
-use Rattle.std.proofs.Common.{take}
-use Rattle.tnc_ports.specs.HeldHosts.{Moves, Narrows}
-use Rattle.tnc_ports.specs.Hosts.{appending}
+use Rattle.tnc_ports.proofs.Common.{take, Moves, Narrows, appending}
 use Rattle.tnc_ports.proofs.host_parts.HostParts.append_all.Given as goal
 
 abbrev pub invariant-loop-piece : goal.invariant-loop-piece

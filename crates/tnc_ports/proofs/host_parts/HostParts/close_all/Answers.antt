@@ -1,6 +1,4 @@
-use Rattle.std.proofs.Common.{subst, arith}
-use Rattle.tnc_ports.specs.HeldHosts.{Moves}
-use Rattle.tnc_ports.specs.Hosts.{closing_all}
+use Rattle.tnc_ports.proofs.Common.{subst, arith, Moves, closing_all}
 use Rattle.tnc_ports.proofs.DeliverLemmas.{close_more, gone_more}
 use Rattle.tnc_ports.proofs.LineLemmas.{take_end}
 use Rattle.tnc_ports.proofs.MoveLemmas.{narrows_then}

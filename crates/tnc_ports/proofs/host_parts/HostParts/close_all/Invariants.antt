@@ -1,7 +1,6 @@
 -- Those so far are shut.
-use Rattle.std.proofs.Common.{◌≡◌, ℕ, true, false, take}
-use Rattle.tnc_ports.specs.HeldHosts.{Moves, Narrows, is_named}
-use Rattle.tnc_ports.specs.Hosts.{closing_all, is_among}
+use Rattle.tnc_ports.proofs.Common.{◌≡◌, ℕ, take, Moves, Narrows, is_named, closing_all, is_among}
+use Rattle.std.proofs.Common.{true, false}
 use Rattle.tnc_ports.proofs.host_parts.HostParts.close_all.Given as goal
 
 abbrev pub invariant-loop-id : goal.invariant-loop-id

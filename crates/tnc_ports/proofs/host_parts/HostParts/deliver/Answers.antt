@@ -1,4 +1,4 @@
-use Rattle.std.proofs.lemmas.Result.{on_ok_weaker}
+use Rattle.tnc_ports.proofs.Common.{on_ok_weaker}
 use Rattle.tnc_ports.proofs.MoveLemmas.{narrows_then}
 use Rattle.tnc_ports.proofs.host_parts.HostParts.deliver.Goals as goal
 

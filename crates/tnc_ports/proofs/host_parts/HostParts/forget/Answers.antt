@@ -1,6 +1,5 @@
-use Rattle.std.proofs.Common.{refl}
+use Rattle.tnc_ports.proofs.Common.{refl, HostParts}
 use Rattle.tnc_ports.proofs.ShutLemmas.{Forgets, forget_narrows, forget_gone, forget_one_less, forget_two_less}
-use Rattle.tnc_ports.specs.declared.host_parts.HostParts.{HostParts}
 use Rattle.tnc_ports.proofs.host_parts.HostParts.forget.Goals as goal
 
 -- the parts without the connection

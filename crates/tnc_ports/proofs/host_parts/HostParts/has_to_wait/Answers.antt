@@ -1,6 +1,5 @@
-use Rattle.std.proofs.Common.{◌≡◌, true, sym, ap, subst, ◌∙◌, inl}
-use Rattle.std.specs.List.{list_any}
-use Rattle.tnc_ports.specs.HostTurns.{is_from}
+use Rattle.tnc_ports.proofs.Common.{◌≡◌, sym, ap, subst, ◌∙◌, inl, list_any, is_from}
+use Rattle.std.proofs.Common.{true}
 use Rattle.tnc_ports.proofs.host_parts.HostParts.has_to_wait.Goals as goal
 
 pub returns-then-has_untaken-clause-waits : goal.returns-then-has_untaken-clause-waits

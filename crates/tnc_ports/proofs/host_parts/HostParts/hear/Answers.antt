@@ -1,6 +1,5 @@
-use Rattle.std.proofs.lemmas.Result.{on_ok_weaker}
+use Rattle.tnc_ports.proofs.Common.{on_ok_weaker, HostParts}
 use Rattle.station.specs.Heard.{IsHeard}
-use Rattle.tnc_ports.specs.declared.host_parts.HostParts.{HostParts}
 use Rattle.tnc_ports.proofs.MoveLemmas.{delivered, with_station, stepped}
 use Rattle.tnc_ports.proofs.host_parts.HostParts.hear.Goals as goal
 

@@ -1,6 +1,5 @@
 -- The ids so far.
-use Rattle.std.proofs.Common.{◌≡◌, take}
-use Rattle.tnc_ports.specs.HostTurns.{ids_of_lines}
+use Rattle.tnc_ports.proofs.Common.{◌≡◌, take, ids_of_lines}
 use Rattle.tnc_ports.proofs.host_parts.HostParts.ids.Given as goal
 
 abbrev pub invariant-loop-line : goal.invariant-loop-line

@@ -1,8 +1,5 @@
-use Rattle.std.proofs.Common.{◌≡◌, false, [], ◌∷◌, ◌++◌, refl, sym, ap, ◌∙◌}
-use Rattle.std.proofs.lemmas.Result.{on_ok_weaker}
-use Rattle.tnc_ports.specs.declared.host_parts.HostParts.{HostParts}
-use Rattle.tnc_ports.specs.declared.line.Line.{Line}
-use Rattle.tnc_ports.specs.IdRanges.{is_within}
+use Rattle.tnc_ports.proofs.Common.{◌≡◌, [], ◌++◌, refl, sym, ap, ◌∙◌, on_ok_weaker, HostParts, Line, is_within}
+use Rattle.std.proofs.Common.{false, ◌∷◌}
 use Rattle.tnc_ports.proofs.TakeLemmas.{JoinsParts, joined_anew}
 use Rattle.tnc_ports.proofs.host_parts.HostParts.join.Goals as goal
 

@@ -1,8 +1,5 @@
-use Rattle.std.proofs.Common.{◌≡◌, true, sym, ap, ◌∙◌}
-use Rattle.std.specs.List.{list_any}
-use Rattle.std.proofs.lemmas.Result.{on_ok_weaker}
-use Rattle.station.specs.Held.{ids_of}
-use Rattle.tnc_ports.specs.Hosts.{is_line_of, is_among}
+use Rattle.tnc_ports.proofs.Common.{◌≡◌, sym, ap, ◌∙◌, list_any, on_ok_weaker, ids_of, is_line_of, is_among}
+use Rattle.std.proofs.Common.{true}
 use Rattle.tnc_ports.proofs.NamedLemmas.{among_there}
 use Rattle.tnc_ports.proofs.TakeLemmas.{there_known, left_there}
 use Rattle.tnc_ports.proofs.host_parts.HostParts.leave.Goals as goal

@@ -1,6 +1,6 @@
-use Rattle.std.proofs.Common.{◌≡◌, List, ℕ, ◌++◌, take, drop, [], sym, ap, subst, ◌∙◌, arith}
-use Rattle.std.proofs.lemmas.List.{take-append-drop}
-use Rattle.tnc_ports.specs.HostTurns.{Offering, InOrder, IsOffered, ids_of_lines}
+use Rattle.tnc_ports.proofs.Common.{◌≡◌, ℕ, ◌++◌, take, drop, [], sym, ap, subst, ◌∙◌, arith, take-append-drop}
+use Rattle.tnc_ports.proofs.Common.{Offering, InOrder, IsOffered, ids_of_lines}
+use Rattle.std.proofs.Common.{List}
 use Rattle.tnc_ports.proofs.AskedLemmas.{offered_nothing}
 use Rattle.tnc_ports.proofs.LineLemmas.{take_end}
 use Rattle.tnc_ports.proofs.LiveSteps.{on_err}

@@ -1,7 +1,5 @@
 -- Those so far were offered what they should be.
-use Rattle.std.proofs.Common.{◌≡◌, ◌≤◌, take}
-use Rattle.tnc_ports.specs.AskedPorts.{told_by}
-use Rattle.tnc_ports.specs.HeldHosts.{IsAtRest}
+use Rattle.tnc_ports.proofs.Common.{◌≡◌, ◌≤◌, take, told_by, IsAtRest}
 use Rattle.tnc_ports.proofs.OfferLemmas.{OffersAll}
 use Rattle.tnc_ports.proofs.host_parts.HostParts.offer_all.Given as goal
 

@@ -1,9 +1,6 @@
-use Rattle.std.proofs.Common.{◌≡◌, Err, refl, sym, ap, subst, ◌∙◌, inl, inr}
-use Rattle.std.proofs.lemmas.Bool.{cases_eq}
-use Rattle.std.proofs.lemmas.Result.{on_ok_weaker}
-use Rattle.tnc_ports.specs.declared.host_parts.HostParts.{HostParts}
-use Rattle.tnc_ports.specs.declared.line.Line.{Line}
-use Rattle.tnc_ports.specs.Waiting.{after_sending}
+use Rattle.tnc_ports.proofs.Common.{◌≡◌, refl, sym, ap, subst, ◌∙◌, inl, inr, cases_eq, on_ok_weaker, HostParts, Line}
+use Rattle.tnc_ports.proofs.Common.{after_sending}
+use Rattle.std.proofs.Common.{Err}
 use Rattle.tnc_ports.proofs.DeliverLemmas.{stands_at, waits_at, waits_narrows, stands_still}
 use Rattle.tnc_ports.proofs.LineLemmas.{some_wait}
 use Rattle.tnc_ports.proofs.MoveLemmas.{rest_narrowed}

@@ -1,6 +1,5 @@
-use Rattle.std.proofs.Common.{◌++◌, ◌∷◌, [], All, suc, sym, ap, subst, ◌∙◌, append_assoc, arith}
-use Rattle.tnc_ports.specs.HostTurns.{IsTaken}
-use Rattle.tnc_ports.specs.Sockets.{IsWholePiece}
+use Rattle.tnc_ports.proofs.Common.{◌++◌, [], sym, ap, subst, ◌∙◌, append_assoc, arith, IsTaken, IsWholePiece}
+use Rattle.std.proofs.Common.{◌∷◌, All, suc}
 use Rattle.tnc_ports.proofs.TakeLemmas.{runs_more}
 use Rattle.tnc_ports.proofs.host_parts.HostParts.take_all.Goals as goal
 

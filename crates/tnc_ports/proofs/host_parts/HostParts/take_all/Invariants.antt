@@ -1,8 +1,6 @@
 -- Those so far were taken.
-use Rattle.std.proofs.Common.{◌≡◌, ◌++◌, All}
-use Rattle.tnc_ports.specs.HeldHosts.{MovesBy, IsAtRest}
-use Rattle.tnc_ports.specs.HostTurns.{InOrder, IsTaken}
-use Rattle.tnc_ports.specs.Sockets.{IsWholePiece}
+use Rattle.tnc_ports.proofs.Common.{◌≡◌, ◌++◌, MovesBy, IsAtRest, InOrder, IsTaken, IsWholePiece}
+use Rattle.std.proofs.Common.{All}
 use Rattle.tnc_ports.proofs.host_parts.HostParts.take_all.Given as goal
 
 abbrev pub invariant-loop-event : goal.invariant-loop-event

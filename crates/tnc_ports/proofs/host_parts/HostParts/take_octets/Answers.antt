@@ -1,10 +1,6 @@
-use Rattle.std.proofs.Common.{◌≡◌, true, refl, sym, ap, ◌∙◌}
-use Rattle.std.specs.List.{list_any}
-use Rattle.std.proofs.lemmas.Bool.{true≢false}
-use Rattle.std.proofs.lemmas.Result.{on_ok_weaker}
-use Rattle.station.specs.Held.{ids_of}
-use Rattle.tnc_ports.specs.declared.host_parts.HostParts.{HostParts}
-use Rattle.tnc_ports.specs.Hosts.{is_line_of}
+use Rattle.tnc_ports.proofs.Common.{◌≡◌, refl, sym, ap, ◌∙◌, list_any, true≢false, on_ok_weaker, ids_of, HostParts}
+use Rattle.tnc_ports.proofs.Common.{is_line_of}
+use Rattle.std.proofs.Common.{true}
 use Rattle.tnc_ports.proofs.NamedLemmas.{among_there}
 use Rattle.tnc_ports.proofs.TakeLemmas.{Holds, holds_on, takes_now, there_known}
 use Rattle.tnc_ports.proofs.host_parts.HostParts.take_octets.Goals as goal

@@ -1,7 +1,4 @@
-use Rattle.std.proofs.Common.{refl}
-use Rattle.std.proofs.lemmas.Result.{on_ok_weaker}
-use Rattle.station.specs.Host.{IsHostTurn}
-use Rattle.tnc_ports.specs.declared.host_parts.HostParts.{HostParts}
+use Rattle.tnc_ports.proofs.Common.{refl, on_ok_weaker, IsHostTurn, HostParts}
 use Rattle.tnc_ports.proofs.MoveLemmas.{delivered, with_station, known_after}
 use Rattle.tnc_ports.proofs.ResultLemmas.{on_ok_two}
 use Rattle.tnc_ports.proofs.host_parts.HostParts.tell.Goals as goal

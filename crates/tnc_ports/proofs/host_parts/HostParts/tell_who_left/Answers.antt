@@ -1,7 +1,5 @@
-use Rattle.std.proofs.Common.{◌≡◌, ℕ, List, ◌∷◌, drop, Some, sym, ap, ◌∙◌}
-use Rattle.std.specs.List.{slice_get}
-use Rattle.station.specs.Held.{ids_of}
-use Rattle.tnc_ports.specs.Hosts.{is_among}
+use Rattle.tnc_ports.proofs.Common.{◌≡◌, ℕ, drop, sym, ap, ◌∙◌, slice_get, ids_of, is_among}
+use Rattle.std.proofs.Common.{List, ◌∷◌, Some}
 use Rattle.tnc_ports.proofs.LeftLemmas.{one_left, first_of, first_among, leaving_known}
 use Rattle.tnc_ports.proofs.NamedLemmas.{among_there}
 use Rattle.tnc_ports.proofs.host_parts.HostParts.tell_who_left.Goals as goal

@@ -1,5 +1,5 @@
 -- Some were told of. Each step leaves less to tell.
-use Rattle.tnc_ports.specs.HeldHosts.{IsKnown, weight}
+use Rattle.tnc_ports.proofs.Common.{IsKnown, weight}
 use Rattle.tnc_ports.proofs.LeftLemmas.{SomeLeft}
 use Rattle.tnc_ports.proofs.host_parts.HostParts.tell_who_left.Given as goal
 

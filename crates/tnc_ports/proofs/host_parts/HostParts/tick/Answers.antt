@@ -1,7 +1,5 @@
+use Rattle.tnc_ports.proofs.Common.{HostParts, MovesBy, IsStep}
 use Rattle.station.specs.Ticks.{IsTick}
-use Rattle.tnc_ports.specs.declared.host_parts.HostParts.{HostParts}
-use Rattle.tnc_ports.specs.HeldHosts.{MovesBy}
-use Rattle.tnc_ports.specs.Hosts.{IsStep}
 use Rattle.tnc_ports.proofs.MoveLemmas.{delivered, with_station, stepped}
 use Rattle.tnc_ports.proofs.host_parts.HostParts.tick.Goals as goal
 

@@ -1,8 +1,6 @@
-use Rattle.std.proofs.Common.{◌≡◌, ◌≤◌, ◌++◌, ◌∷◌, [], All, suc, length, refl, sym, ap, subst, ◌∙◌, append_assoc, arith}
-use Rattle.tnc_ports.specs.declared.host_parts.HostParts.{HostParts}
-use Rattle.tnc_ports.specs.declared.untaken.Untaken.{Untaken}
-use Rattle.tnc_ports.specs.Hosts.{Hosts}
-use Rattle.tnc_ports.specs.HostTurns.{InOrder, IsTried}
+use Rattle.tnc_ports.proofs.Common.{◌≡◌, ◌≤◌, ◌++◌, [], length, refl, sym, ap, subst, ◌∙◌, append_assoc, arith}
+use Rattle.tnc_ports.proofs.Common.{HostParts, Untaken, Hosts, InOrder, IsTried}
+use Rattle.std.proofs.Common.{◌∷◌, All, suc}
 use Rattle.tnc_ports.proofs.TakeLemmas.{runs_more, put_aside, whole_list}
 use Rattle.tnc_ports.proofs.host_parts.HostParts.try_untaken.Goals as goal
 

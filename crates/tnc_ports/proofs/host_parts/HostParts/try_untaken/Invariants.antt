@@ -1,7 +1,6 @@
 -- Those so far were tried.
-use Rattle.std.proofs.Common.{◌≡◌, ◌≤◌, ◌++◌, length, All}
-use Rattle.tnc_ports.specs.HeldHosts.{MovesBy, IsAtRest}
-use Rattle.tnc_ports.specs.HostTurns.{InOrder, IsTried}
+use Rattle.tnc_ports.proofs.Common.{◌≡◌, ◌≤◌, ◌++◌, length, MovesBy, IsAtRest, InOrder, IsTried}
+use Rattle.std.proofs.Common.{All}
 use Rattle.tnc_ports.proofs.host_parts.HostParts.try_untaken.Given as goal
 
 abbrev pub invariant-loop-one : goal.invariant-loop-one

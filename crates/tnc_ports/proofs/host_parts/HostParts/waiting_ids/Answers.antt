@@ -1,11 +1,10 @@
-use Rattle.std.proofs.Common.{◌≡◌, ◌<◌, ◌≤◌, ◌++◌, ◌∷◌, [], List, ℕ, length, take, ◌+◌, get_or, sym, ap, subst, ◌∙◌}
-use Rattle.std.proofs.lemmas.Bool.{true≢false}
-use Rattle.tnc_ports.specs.declared.line.Line.{Line}
-use Rattle.tnc_ports.specs.HostTurns.{HasToWait}
+use Rattle.tnc_ports.proofs.Common.{◌≡◌, ◌<◌, ◌≤◌, ◌++◌, [], ℕ, length, take, ◌+◌, get_or, sym, ap, subst, ◌∙◌}
+use Rattle.tnc_ports.proofs.Common.{true≢false, Line, HasToWait}
+use Rattle.std.proofs.Common.{◌∷◌, List}
 use Rattle.tnc_ports.proofs.LineLemmas.{take_end}
 use Rattle.tnc_ports.proofs.PauseLemmas.{AreWaitingOf, one_waits, one_goes}
-use Rattle.tnc_ports.proofs.host_parts.HostParts.waiting_ids.Goals as goal
 use Rattle.tnc_ports.proofs.host_parts.HostParts.waiting_ids.Goals.{then-has_to_wait+in_ok-push, else-has_to_wait}
+use Rattle.tnc_ports.proofs.host_parts.HostParts.waiting_ids.Goals as goal
 
 pub loop-line-preserved : goal.loop-line-preserved
 loop-line-preserved c =

@@ -1,8 +1,6 @@
 -- Those so far.
-use Rattle.std.proofs.Common.{List, take}
-use Rattle.tnc_ports.specs.declared.report_line.ReportLine.{ReportLine}
-use Rattle.tnc_ports.specs.HeldHosts.{AreParts}
-use Rattle.tnc_ports.specs.Hosts.{Hosts}
+use Rattle.tnc_ports.proofs.Common.{take, ReportLine, AreParts, Hosts}
+use Rattle.std.proofs.Common.{List}
 use Rattle.tnc_ports.proofs.PauseLemmas.{AreWaitingOf}
 use Rattle.tnc_ports.proofs.host_parts.HostParts.waiting_ids.Given as goal
 

@@ -1,4 +1,4 @@
-use Rattle.std.proofs.Common.{refl}
+use Rattle.tnc_ports.proofs.Common.{refl}
 use Rattle.tnc_ports.proofs.ResultLemmas.{ok_or_err, err_again, err_there}
 use Rattle.tnc_ports.proofs.host_side.HostSide.new.Goals as goal
 

@@ -1,10 +1,6 @@
-use Rattle.std.proofs.Common.{List, ℕ, [], refl, sym, subst, inl, inr}
-use Rattle.station.specs.declared.host_event.HostEvent.{HostEvent}
-use Rattle.tnc_ports.specs.AskedPorts.{AreShut, told_by}
-use Rattle.tnc_ports.specs.HeldHosts.{StandsFor, AreParts}
-use Rattle.tnc_ports.specs.Hosts.{Hosts}
-use Rattle.tnc_ports.specs.CutPart.{IsCutInSending}
-use Rattle.tnc_ports.specs.HostTurns.{Asked, Offering, ArePaused, IsHostPart}
+use Rattle.tnc_ports.proofs.Common.{ℕ, [], refl, sym, subst, inl, inr, HostEvent, AreShut, told_by, StandsFor, AreParts}
+use Rattle.tnc_ports.proofs.Common.{Hosts, IsCutInSending, Asked, Offering, ArePaused, IsHostPart}
+use Rattle.std.proofs.Common.{List}
 use Rattle.tnc_ports.proofs.AskedLemmas.{asked_all, offered_nothing}
 use Rattle.tnc_ports.proofs.GivenLemmas.{part_given}
 use Rattle.tnc_ports.proofs.LiveSteps.{on_err}

@@ -1,5 +1,4 @@
-use Rattle.std.proofs.Common.{refl, sym, subst}
-use Rattle.tnc_ports.specs.HeldHosts.{StandsFor, AreParts}
+use Rattle.tnc_ports.proofs.Common.{refl, sym, subst, StandsFor, AreParts}
 use Rattle.tnc_ports.proofs.SentLemmas.{orderly_step}
 use Rattle.tnc_ports.proofs.host_side.HostSide.tick.Goals as goal
 

@@ -1,7 +1,5 @@
-use Rattle.std.specs.Prelude.{false}
-use Rattle.std.proofs.Common.{◌≡◌, ap, sym, ◌∙◌, ◌++◌, ◌∷◌, [], rules}
-use Rattle.tnc_ports.specs.Scripts.{PortsView, was_shut}
-use Rattle.tnc_ports.specs.Sockets.{has_dialed}
+use Rattle.tnc_ports.proofs.Common.{false, ◌≡◌, ap, sym, ◌∙◌, ◌++◌, [], rules, PortsView, was_shut, has_dialed}
+use Rattle.std.proofs.Common.{◌∷◌}
 use Rattle.tnc_ports.proofs.ScriptLemmas.{still_one_of, dialed_more, was_shut-dialed, is_one_of}
 use Rattle.tnc_ports.proofs.mem_ports.MemPorts.add_dial.Goals as goal
 

@@ -1,7 +1,6 @@
-use Rattle.std.proofs.Common.{◌≡◌, All, [], sym, ap, subst, ◌∙◌, ◌++◌}
-use Rattle.std.proofs.lemmas.List.Elements.{All-append}
-use Rattle.tnc_ports.specs.Scripts.{PortsView, scripted_for, waiting_of, given_of, joined_in, was_shut}
-use Rattle.tnc_ports.specs.Sockets.{Poll, MayCome, IsWholePiece, has_come}
+use Rattle.tnc_ports.proofs.Common.{◌≡◌, [], sym, ap, subst, ◌∙◌, ◌++◌, All-append, PortsView, scripted_for, waiting_of}
+use Rattle.tnc_ports.proofs.Common.{given_of, joined_in, was_shut, Poll, MayCome, IsWholePiece, has_come}
+use Rattle.std.proofs.Common.{All}
 use Rattle.tnc_ports.proofs.ScriptLemmas.{whole_scripted, whole_waiting, given_may_come, come_more, was_shut-joined}
 use Rattle.tnc_ports.proofs.ScriptLemmas.{is_one_of, still_one_of}
 use Rattle.tnc_ports.proofs.mem_ports.MemPorts.give.Goals as goal

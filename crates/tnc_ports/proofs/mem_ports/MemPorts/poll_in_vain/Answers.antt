@@ -1,7 +1,6 @@
-use Rattle.std.proofs.Common.{◌≡◌, All, sym, ap, subst, ◌∙◌, ◌++◌}
-use Rattle.std.proofs.lemmas.List.Elements.{All-append}
-use Rattle.tnc_ports.specs.Scripts.{scripted_for}
-use Rattle.tnc_ports.specs.Sockets.{Poll, IsWholePiece, has_come}
+use Rattle.tnc_ports.proofs.Common.{◌≡◌, sym, ap, subst, ◌∙◌, ◌++◌, All-append, scripted_for, Poll, IsWholePiece}
+use Rattle.tnc_ports.proofs.Common.{has_come}
+use Rattle.std.proofs.Common.{All}
 use Rattle.tnc_ports.proofs.ScriptLemmas.{whole_scripted, come_in_vain}
 use Rattle.tnc_ports.proofs.mem_ports.MemPorts.poll_in_vain.Goals as goal
 

@@ -1,8 +1,8 @@
-use Rattle.std.proofs.Common.{◌≡◌, ◌<◌, ◌≤◌, ◌-◌, ℕ, List, length, drop, set, sum, sym, ap, subst, ◌∙◌, arith, All}
-use Rattle.std.proofs.lemmas.List.{length-drop}
-use Rattle.tnc_ports.specs.Waiting.{octets_of, cut, most_octets}
-use Rattle.tnc_ports.proofs.OutgoingLemmas.{front_len, drops, all_sent_sum, part_sent, part_sent_sum}
-use Rattle.tnc_ports.proofs.OutgoingLemmas.{positive_rest, octets_split, octets_of-cut, whole_of}
+use Rattle.tnc_ports.proofs.Common.{◌≡◌, ◌<◌, ◌≤◌, ◌-◌, ℕ, length, drop, set, sum, sym, ap, subst, ◌∙◌, arith}
+use Rattle.tnc_ports.proofs.Common.{length-drop, octets_of, cut, most_octets}
+use Rattle.std.proofs.Common.{List, All}
+use Rattle.tnc_ports.proofs.OutgoingLemmas.{front_len, drops, all_sent_sum, part_sent, part_sent_sum, positive_rest}
+use Rattle.tnc_ports.proofs.OutgoingLemmas.{octets_split, octets_of-cut, whole_of}
 use Rattle.tnc_ports.proofs.outgoing.Outgoing.advance.Goals as goal
 
 pub invariant_of-self : goal.invariant_of-self

@@ -1,9 +1,7 @@
-use Rattle.std.proofs.Common.{◌≡◌, ℕ, ◌<◌, ◌≤◌, ◌-◌, List, [], ◌∷◌, ◌++◌, length, take, sym, ap, ◌∙◌, arith, refl}
-use Rattle.std.proofs.lemmas.Bool.{eqb-true}
-use Rattle.std.proofs.lemmas.Bool.Decides.{nat_tests}
+use Rattle.tnc_ports.proofs.Common.{◌≡◌, ℕ, ◌<◌, ◌≤◌, ◌-◌, [], ◌++◌, length, take, sym, ap, ◌∙◌, arith, refl, eqb-true}
+use Rattle.tnc_ports.proofs.Common.{nat_tests, take-length, most_octets, octets_of, cut}
+use Rattle.std.proofs.Common.{List, ◌∷◌}
 use Rattle.std.proofs.lemmas.Result.{err_from_is_err_and}
-use Rattle.std.proofs.Math.Seq.{take-length}
-use Rattle.tnc_ports.specs.Waiting.{most_octets, octets_of, cut}
 use Rattle.tnc_ports.proofs.OutgoingLemmas.{whole_of, cut-append, some_piece}
 use Rattle.tnc_ports.proofs.ResultLemmas.{ok_or_err, memory_or_full}
 use Rattle.tnc_ports.proofs.outgoing.Outgoing.append.Goals as goal

@@ -1,5 +1,5 @@
-use Rattle.std.proofs.Common.{◌≡◌, ◌≤◌, ℕ, List, length, take, sum, sym, ap, ◌∙◌, arith}
-use Rattle.tnc_ports.specs.Waiting.{front_of}
+use Rattle.tnc_ports.proofs.Common.{◌≡◌, ◌≤◌, ℕ, length, take, sum, sym, ap, ◌∙◌, arith, front_of}
+use Rattle.std.proofs.Common.{List}
 use Rattle.tnc_ports.proofs.OutgoingLemmas.{front_is, front_len, front_long, parts_cut}
 use Rattle.tnc_ports.proofs.outgoing.Outgoing.front.Goals as goal
 

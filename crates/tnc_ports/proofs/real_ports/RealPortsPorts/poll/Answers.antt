@@ -1,5 +1,5 @@
-use Rattle.std.proofs.Common.{All, subst, sym, arith}
-use Rattle.tnc_ports.specs.Sockets.{MayCome}
+use Rattle.tnc_ports.proofs.Common.{subst, sym, arith, MayCome}
+use Rattle.std.proofs.Common.{All}
 use Rattle.tnc_ports.proofs.real_ports.RealPortsPorts.poll.Goals as goal
 
 pub returns-clause-events : goal.returns-clause-events

@@ -1,6 +1,4 @@
-use Rattle.std.proofs.Common.{ap, sym, subst, ◌∙◌, ◌+◌}
-use Rattle.tnc_ports.specs.Hosts.{is_among}
-use Rattle.tnc_ports.specs.RealSockets.{OpenIds, ids_of_sockets, Rise}
+use Rattle.tnc_ports.proofs.Common.{ap, sym, subst, ◌∙◌, ◌+◌, is_among, OpenIds, ids_of_sockets, Rise}
 use Rattle.tnc_ports.proofs.RealLemmas.{rise_on, next_is_new, ids_append}
 use Rattle.tnc_ports.proofs.sockets.Sockets.add.Goals as goal
 

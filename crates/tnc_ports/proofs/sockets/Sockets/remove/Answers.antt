@@ -1,5 +1,5 @@
-use Rattle.std.proofs.Common.{ap, sym, subst, ◌∙◌, not, ◌==◌, ℕ, List, filter}
-use Rattle.tnc_ports.specs.RealSockets.{OpenIds, ids_of_sockets, Rise}
+use Rattle.tnc_ports.proofs.Common.{ap, sym, subst, ◌∙◌, ℕ, OpenIds, ids_of_sockets, Rise}
+use Rattle.std.proofs.Common.{not, ◌==◌, List, filter}
 use Rattle.tnc_ports.proofs.RealLemmas.{ids_filtered, rise_without}
 use Rattle.tnc_ports.proofs.sockets.Sockets.remove.Goals as goal
 

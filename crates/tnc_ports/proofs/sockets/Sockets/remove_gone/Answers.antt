@@ -1,6 +1,5 @@
-use Rattle.std.proofs.Common.{ap, sym, subst, ◌∙◌, not, rules}
-use Rattle.std.proofs.lemmas.Fn.{filter_same}
-use Rattle.tnc_ports.specs.RealSockets.{ids_of_sockets, Rise}
+use Rattle.tnc_ports.proofs.Common.{ap, sym, subst, ◌∙◌, rules, filter_same, ids_of_sockets, Rise}
+use Rattle.std.proofs.Common.{not}
 use Rattle.tnc_ports.proofs.RealLemmas.{rise_without}
 use Rattle.tnc_ports.proofs.sockets.Sockets.remove_gone.Goals as goal
 

@@ -1,6 +1,6 @@
-use Rattle.std.proofs.Common.{◌≡◌, ◌<◌, ℕ, List, length, get_or, set, ap, sym, subst, ◌∙◌}
-use Rattle.tnc_ports.specs.declared.socket.Socket.{Socket}
-use Rattle.tnc_ports.specs.RealSockets.{OpenIds, ids_of_sockets, Rise}
+use Rattle.tnc_ports.proofs.Common.{◌≡◌, ◌<◌, ℕ, length, get_or, set, ap, sym, subst, ◌∙◌, Socket, OpenIds}
+use Rattle.tnc_ports.proofs.Common.{ids_of_sockets, Rise}
+use Rattle.std.proofs.Common.{List}
 use Rattle.tnc_ports.proofs.RealLemmas.{ids_set}
 use Rattle.tnc_ports.proofs.sockets.Sockets.write.Goals as goal
 

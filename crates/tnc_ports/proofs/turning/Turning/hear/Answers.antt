@@ -1,5 +1,4 @@
-use Rattle.std.proofs.Common.{◌++◌, ap, ◌∙◌}
-use Rattle.tnc_ports.specs.ReportText.{report_text}
+use Rattle.tnc_ports.proofs.Common.{◌++◌, ap, ◌∙◌, report_text}
 use Rattle.tnc_ports.proofs.LiveSteps.{hears_frame}
 use Rattle.tnc_ports.proofs.turning.Turning.hear.Goals as goal
 

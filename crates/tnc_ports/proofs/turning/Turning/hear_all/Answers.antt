@@ -1,5 +1,4 @@
-use Rattle.std.proofs.Common.{refl, ap, ◌∙◌}
-use Rattle.tnc_ports.specs.SampledWrites.{stream_of}
+use Rattle.tnc_ports.proofs.Common.{refl, ap, ◌∙◌, stream_of}
 use Rattle.tnc_ports.proofs.LiveSteps.{hears_none, hears_next, hears_done, hears_some, on_err}
 use Rattle.tnc_ports.proofs.turning.Turning.hear_all.Goals as goal
 

@@ -1,8 +1,5 @@
 -- The frames so far.
-use Rattle.std.proofs.Common.{◌≡◌, take}
-use Rattle.tnc_ports.specs.Hosts.{Hosts}
-use Rattle.tnc_ports.specs.SampledHeld.{Keeps, HearsFrames}
-use Rattle.tnc_ports.specs.SampledWrites.{stream_of}
+use Rattle.tnc_ports.proofs.Common.{◌≡◌, take, Hosts, Keeps, HearsFrames, stream_of}
 use Rattle.tnc_ports.proofs.turning.Turning.hear_all.Given as goal
 
 abbrev pub invariant-loop-item : goal.invariant-loop-item

@@ -1,5 +1,4 @@
-use Rattle.std.specs.Prelude.{Some, None}
-use Rattle.std.proofs.Common.{refl}
+use Rattle.tnc_ports.proofs.Common.{Some, None, refl}
 use Rattle.tnc_ports.proofs.turning.Turning.heard_modulus.Goals as goal
 
 pub returns-in-Ok : goal.returns-in-Ok

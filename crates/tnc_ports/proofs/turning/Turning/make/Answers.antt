@@ -1,6 +1,4 @@
-use Rattle.std.proofs.Common.{ap, ◌∙◌}
-use Rattle.sample_ring.specs.Ends.{ring_len}
-use Rattle.tnc_ports.specs.SampledWrites.{stream_of}
+use Rattle.tnc_ports.proofs.Common.{ap, ◌∙◌, ring_len, stream_of}
 use Rattle.tnc_ports.proofs.LiveSteps.{hears_same, hears_some_same, on_err}
 use Rattle.tnc_ports.proofs.LiveTurn.{all_made, cut_reading, cut_hearing, cut_ticking}
 use Rattle.tnc_ports.proofs.turning.Turning.make.Goals as goal

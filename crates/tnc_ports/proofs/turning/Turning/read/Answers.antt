@@ -1,7 +1,4 @@
-use Rattle.std.proofs.Common.{ap, map, ◌∙◌, refl}
-use Rattle.sample_ring.specs.Ends.{ring_len}
-use Rattle.tnc_ports.specs.ReportText.{report_text}
-use Rattle.tnc_ports.specs.Sampled.{gap_line}
+use Rattle.tnc_ports.proofs.Common.{ap, map, ◌∙◌, refl, ring_len, report_text, gap_line}
 use Rattle.tnc_ports.proofs.LiveReads.{cut_in_reading, reads_all}
 use Rattle.tnc_ports.proofs.LiveSteps.{on_err}
 use Rattle.tnc_ports.proofs.turning.Turning.read.Goals as goal

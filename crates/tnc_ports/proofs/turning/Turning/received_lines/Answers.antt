@@ -1,6 +1,5 @@
-use Rattle.std.specs.Prelude.{true}
-use Rattle.std.proofs.Common.{◌≡◌, ◌++◌, [], ◌∷◌, ap, ◌∙◌, rules}
-use Rattle.tnc_ports.specs.declared.report_line.ReportLine.TheVariants.{ReceivedLine}
+use Rattle.tnc_ports.proofs.Common.{true, ◌≡◌, ◌++◌, [], ap, ◌∙◌, rules, ReceivedLine}
+use Rattle.std.proofs.Common.{◌∷◌}
 use Rattle.tnc_ports.proofs.LiveSteps.{received_line}
 use Rattle.tnc_ports.proofs.turning.Turning.received_lines.Goals as goal
 

@@ -1,6 +1,5 @@
-use Rattle.std.specs.Prelude.{true}
-use Rattle.std.proofs.Common.{◌≡◌, ◌++◌, [], ◌∷◌, ap, ◌∙◌, rules}
-use Rattle.tnc_ports.specs.declared.report_line.ReportLine.TheVariants.{SentLine}
+use Rattle.tnc_ports.proofs.Common.{true, ◌≡◌, ◌++◌, [], ap, ◌∙◌, rules, SentLine}
+use Rattle.std.proofs.Common.{◌∷◌}
 use Rattle.tnc_ports.proofs.LiveSteps.{sent_line}
 use Rattle.tnc_ports.proofs.turning.Turning.sent_lines.Goals as goal
 

@@ -1,5 +1,4 @@
-use Rattle.std.proofs.Common.{ap, inr, ◌∙◌}
-use Rattle.tnc_ports.specs.ReportText.{report_text}
+use Rattle.tnc_ports.proofs.Common.{ap, inr, ◌∙◌, report_text}
 use Rattle.tnc_ports.proofs.LiveSteps.{serves_all, on_err}
 use Rattle.tnc_ports.proofs.turning.Turning.serve_hosts.Goals as goal
 

@@ -1,5 +1,5 @@
-use Rattle.std.proofs.Common.{suc, ◌-◌, ◌/◌, refl, ap, ◌∙◌, arith}
-use Rattle.tnc_ports.specs.SampledWrites.{stream_of}
+use Rattle.tnc_ports.proofs.Common.{◌-◌, ◌/◌, refl, ap, ◌∙◌, arith, stream_of}
+use Rattle.std.proofs.Common.{suc}
 use Rattle.tnc_ports.proofs.LiveSteps.{ticks_none, ticks_more, ticks_done, ticks_some, count_due, on_err}
 use Rattle.tnc_ports.proofs.turning.Turning.tick_up_to.Goals as goal
 

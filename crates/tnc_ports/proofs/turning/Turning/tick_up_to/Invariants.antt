@@ -1,8 +1,5 @@
 -- The ticks so far.
-use Rattle.std.proofs.Common.{◌≡◌, ℕ, ◌+◌, ◌<◌, ◌≤◌}
-use Rattle.tnc_ports.specs.Sampled.{Live}
-use Rattle.tnc_ports.specs.SampledHeld.{Keeps, TicksAll}
-use Rattle.tnc_ports.specs.SampledWrites.{stream_of}
+use Rattle.tnc_ports.proofs.Common.{◌≡◌, ℕ, ◌+◌, ◌<◌, ◌≤◌, Live, Keeps, TicksAll, stream_of}
 use Rattle.tnc_ports.proofs.turning.Turning.tick_up_to.Given as goal
 
 abbrev pub invariant-loop-tick : goal.invariant-loop-tick

@@ -1,6 +1,4 @@
-use Rattle.std.proofs.Common.{ap}
-use Rattle.sample_ring.specs.Ends.{ring_len}
-use Rattle.tnc_ports.specs.SampledWrites.{stream_of}
+use Rattle.tnc_ports.proofs.Common.{ap, ring_len, stream_of}
 use Rattle.tnc_ports.proofs.LiveSteps.{on_err}
 use Rattle.tnc_ports.proofs.LiveTurn.{whole_turn, cut_serving}
 use Rattle.tnc_ports.proofs.turning.Turning.turn.Goals as goal

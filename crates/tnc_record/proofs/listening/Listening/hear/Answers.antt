@@ -1,5 +1,4 @@
-use Rattle.std.proofs.Common.{refl, ◌∙◌}
-use Rattle.sample_ring.specs.Ends.{ring_len}
+use Rattle.tnc_record.proofs.Common.{refl, ◌∙◌, ring_len}
 use Rattle.tnc_record.proofs.TurnLemmas.{on_err, hears_on, stops_hearing}
 use Rattle.tnc_record.proofs.listening.Listening.hear.Goals as goal
 

@@ -1,6 +1,6 @@
-use Rattle.std.proofs.Common.{refl, ap, ◌∙◌, take, replicate, []}
+use Rattle.tnc_record.proofs.Common.{refl, ap, ◌∙◌, take, [], readers_wanted}
+use Rattle.std.proofs.Common.{replicate}
 use Rattle.std.proofs.lemmas.List.{length-replicate}
-use Rattle.ring_receiver.specs.Readers.{readers_wanted}
 use Rattle.tnc_record.proofs.TurnLemmas.{at_most_nine}
 use Rattle.tnc_record.proofs.listening.Listening.new.Goals as goal
 

@@ -1,6 +1,4 @@
-use Rattle.std.proofs.Common.{refl, ap, sym, ◌∙◌}
-use Rattle.std.specs.Prelude.{◌&&◌}
-use Rattle.sample_ring.specs.Ends.{ring_len}
+use Rattle.tnc_record.proofs.Common.{refl, ap, sym, ◌∙◌, ◌&&◌, ring_len}
 use Rattle.tnc_record.proofs.TurnLemmas.{on_err, turned, cut_in_recording, cut_in_hearing}
 use Rattle.tnc_record.proofs.listening.Listening.turn.Goals as goal
 

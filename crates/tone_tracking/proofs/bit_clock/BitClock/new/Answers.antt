@@ -1,5 +1,4 @@
-use Rattle.std.proofs.Common.{refl}
-use Rattle.tone_tracking.specs.Clock.{clock_after}
+use Rattle.tone_tracking.proofs.Common.{refl, clock_after}
 use Rattle.tone_tracking.proofs.bit_clock.BitClock.new.Goals as goal
 
 pub returns-clause-stands_for : goal.returns-clause-stands_for

@@ -1,8 +1,6 @@
-use Rattle.std.proofs.Common.{◌≡◌, pos, ◌+ℤ◌, FitsSigned, to_z, of_z, w32, sym, subst, ◌∙◌, arith, rules}
-use Rattle.std.proofs.lemmas.Int.{ints, to_z-of_z}
-use Rattle.std.specs.Prelude.{int_le}
-use Rattle.tone_tracking.specs.declared.bit_clock.Pull.{Pull}
-use Rattle.tone_tracking.specs.Clock.{Clock, next_clock, reads}
+use Rattle.tone_tracking.proofs.Common.{◌≡◌, pos, ◌+ℤ◌, FitsSigned, to_z, of_z, w32, sym, subst, ◌∙◌, arith, rules}
+use Rattle.tone_tracking.proofs.Common.{ints, to_z-of_z, int_le, Pull, Clock, next_clock}
+use Rattle.tone_tracking.specs.Clock.{reads}
 use Rattle.tone_tracking.proofs.ClockLemmas.{next_pulled, next_same, goes_on}
 use Rattle.tone_tracking.proofs.bit_clock.BitClock.step.Goals as goal
 

@@ -1,5 +1,4 @@
-use Rattle.std.proofs.Common.{arith}
-use Rattle.std.proofs.lemmas.Int.{ints}
+use Rattle.tone_tracking.proofs.Common.{arith, ints}
 use Rattle.tone_tracking.proofs.PhasorLemmas.{phasor_is}
 use Rattle.tone_tracking.proofs.phasor.Phasor.plus.Goals as goal
 

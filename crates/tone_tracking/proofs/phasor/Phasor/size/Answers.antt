@@ -1,8 +1,5 @@
-use Rattle.std.proofs.Common.{◌≡◌, ◌≤◌, ℤ, ◌*ℤ◌, ◌+ℤ◌, ◌-ℤ◌, FitsSigned, to_z, of_z, w64, unsigned_abs, ap, sym, subst}
-use Rattle.std.proofs.Common.{◌∙◌, arith}
-use Rattle.std.proofs.lemmas.Int.{ints, to_z-of_z}
-use Rattle.tone_tracking.specs.declared.phasor.Phasor.{Phasor}
-use Rattle.tone_tracking.specs.Phasors.{IsWithin, size}
+use Rattle.tone_tracking.proofs.Common.{◌≡◌, ◌≤◌, ℤ, ◌*ℤ◌, ◌+ℤ◌, ◌-ℤ◌, FitsSigned, to_z, of_z, w64, unsigned_abs, ap}
+use Rattle.tone_tracking.proofs.Common.{sym, subst, ◌∙◌, arith, ints, to_z-of_z, Phasor, IsWithin, size}
 use Rattle.tone_tracking.proofs.PhasorLemmas.{size-sum}
 use Rattle.tone_tracking.proofs.phasor.Phasor.size.Goals as goal
 

@@ -1,6 +1,5 @@
-use Rattle.std.proofs.Common.{◌≡◌, ◌≤◌, ◌/◌, ℤ, pos, negsuc, ◌*ℤ◌, FitsSigned, to_z, of_z, w64, unsigned_abs, ap, ◌∙◌}
-use Rattle.std.proofs.Common.{arith}
-use Rattle.std.proofs.lemmas.Int.{ints, to_z-of_z}
+use Rattle.tone_tracking.proofs.Common.{◌≡◌, ◌≤◌, ◌/◌, ℤ, pos, negsuc, ◌*ℤ◌, FitsSigned, to_z, of_z, w64, unsigned_abs}
+use Rattle.tone_tracking.proofs.Common.{ap, ◌∙◌, arith, ints, to_z-of_z}
 use Rattle.std.specs.Int.{int_div_euclid}
 use Rattle.std.specs.Int.Signed.{shr_z}
 use Rattle.tone_tracking.proofs.PhasorLemmas.{phasor_is}

@@ -1,4 +1,4 @@
-use Rattle.tone_tracking.specs.Correlation.{correlations}
+use Rattle.tone_tracking.proofs.Common.{correlations}
 use Rattle.tone_tracking.proofs.ListsLemmas.{taken_none, all_within-none}
 use Rattle.tone_tracking.proofs.tone_lists.ToneLists.new.Goals as goal
 

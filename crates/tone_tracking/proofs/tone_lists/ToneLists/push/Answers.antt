@@ -1,11 +1,6 @@
-use Rattle.std.proofs.Common.{◌≡◌, ◌+◌, ◌-◌, ◌%◌, ◌<◌, ◌≤◌, ℤ, pos, List, length, get_or, set, refl, sym, subst, ◌∙◌}
-use Rattle.std.proofs.Common.{get_or-set_same, to_z, of_z, arith, rules}
-use Rattle.std.proofs.lemmas.List.{length-set}
-use Rattle.std.proofs.lemmas.Int.{to_z-of_z}
-use mir.Syntax.{w16}
-use Rattle.tone_tracking.specs.declared.correlation.Correlations.{Correlations}
-use Rattle.tone_tracking.specs.Phasors.{none}
-use Rattle.tone_tracking.specs.HeldLists.{HeldLists, HasSamples, HasTaken}
+use Rattle.tone_tracking.proofs.Common.{◌≡◌, ◌+◌, ◌-◌, ◌%◌, ◌<◌, ◌≤◌, ℤ, pos, List, length, get_or, set, refl, sym}
+use Rattle.tone_tracking.proofs.Common.{subst, ◌∙◌, get_or-set_same, to_z, of_z, arith, rules, length-set, to_z-of_z}
+use Rattle.tone_tracking.proofs.Common.{w16, Correlations, none, HeldLists, HasSamples, HasTaken}
 use Rattle.tone_tracking.proofs.ListsLemmas.{held, with_next, still_decided, samples_few, samples_more, kept_at}
 use Rattle.tone_tracking.proofs.ListsLemmas.{decided_more, all_within-set}
 use Rattle.tone_tracking.proofs.tone_lists.ToneLists.push.Goals as goal

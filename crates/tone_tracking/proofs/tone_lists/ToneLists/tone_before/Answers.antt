@@ -1,8 +1,6 @@
-use Rattle.std.proofs.Common.{◌≡◌, ℤ, List, sym, subst, ◌∙◌}
-use Rattle.tone_tracking.specs.Correlation.{correlations}
-use Rattle.tone_tracking.specs.Heard.{heard, places_in, tone_at}
-use Rattle.tone_tracking.specs.HeldTracker.{tone_before}
-use Rattle.tone_tracking.specs.HeldLists.{HeldLists, HasTaken}
+use Rattle.tone_tracking.proofs.Common.{◌≡◌, ℤ, List, sym, subst, ◌∙◌, correlations, places_in, tone_at, tone_before}
+use Rattle.tone_tracking.proofs.Common.{HeldLists, HasTaken}
+use Rattle.tone_tracking.specs.Heard.{heard}
 use Rattle.tone_tracking.proofs.tone_lists.ToneLists.tone_before.Goals as goal
 
 pub returns-in-Near : goal.returns-in-Near

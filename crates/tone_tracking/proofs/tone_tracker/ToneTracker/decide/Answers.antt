@@ -1,8 +1,6 @@
-use Rattle.std.proofs.Common.{◌≡◌, ℕ, ◌+◌, ◌%◌, length, get_or, set, ap, sym, subst, ◌∙◌, arith, rules}
-use Rattle.tone_tracking.specs.declared.correlation.Correlations.{Correlations}
-use Rattle.tone_tracking.specs.Phasors.{none}
-use Rattle.tone_tracking.specs.Heard.{decided, open_of, passed, past_at, tone_at}
-use Rattle.tone_tracking.specs.HeldTracker.{HeldTracker, StandsFor}
+use Rattle.tone_tracking.proofs.Common.{◌≡◌, ℕ, ◌+◌, ◌%◌, length, get_or, set, ap, sym, subst, ◌∙◌, arith, rules}
+use Rattle.tone_tracking.proofs.Common.{Correlations, none, decided, open_of, passed, past_at, tone_at, HeldTracker}
+use Rattle.tone_tracking.proofs.Common.{StandsFor}
 use Rattle.tone_tracking.proofs.TrackerLemmas.{held, past_at-next, stands_next, tone_is_decided, past_here}
 use Rattle.tone_tracking.proofs.tone_tracker.ToneTracker.decide.Goals as goal
 

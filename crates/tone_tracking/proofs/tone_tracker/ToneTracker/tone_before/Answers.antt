@@ -1,9 +1,6 @@
-use Rattle.std.proofs.Common.{◌≡◌, ℕ, ◌+◌, ◌-◌, ◌%◌, subst, ap, ◌∙◌}
+use Rattle.tone_tracking.proofs.Common.{◌≡◌, ℕ, ◌+◌, ◌-◌, ◌%◌, subst, ap, ◌∙◌, Mark, Correlations, tone_at, HeldTracker}
+use Rattle.tone_tracking.proofs.Common.{StandsFor, tone_before}
 use Rattle.std.specs.Prelude.{slice_index_or}
-use Rattle.tone_table.specs.declared.tone.Tone.TheVariants.{Mark}
-use Rattle.tone_tracking.specs.declared.correlation.Correlations.{Correlations}
-use Rattle.tone_tracking.specs.Heard.{tone_at}
-use Rattle.tone_tracking.specs.HeldTracker.{HeldTracker, StandsFor, tone_before}
 use Rattle.tone_tracking.proofs.tone_tracker.ToneTracker.tone_before.Goals as goal
 
 pub returns : goal.returns

@@ -1,6 +1,4 @@
-use Rattle.std.proofs.Common.{ap, refl, length}
-use Rattle.std.specs.Prelude.{option_map}
-use Rattle.wide_input.specs.Held.{HeldStream}
+use Rattle.wide_input.proofs.Common.{ap, refl, length, option_map, HeldStream}
 use Rattle.wide_input.proofs.StreamLemmas.{kept_part}
 use Rattle.wide_input.proofs.stream.Stream.hear.Goals as goal
 

@@ -1,13 +1,8 @@
-use Rattle.std.proofs.Common.{◌≡◌, ◌+◌, ◌≤◌, ◌++◌, ◌∙◌, ℕ, ℤ, List, ap, sym, subst, length}
-use Rattle.std.specs.Prelude.{IfOk, OnOk, option_map}
-use Rattle.std.proofs.lemmas.Result.{IfOk-weaker}
-use Rattle.slicer_bank.specs.Candidates.{AreCandidatesBehind}
+use Rattle.wide_input.proofs.Common.{◌≡◌, ◌+◌, ◌≤◌, ◌++◌, ◌∙◌, ℕ, ℤ, List, ap, sym, subst, length, IfOk, OnOk}
+use Rattle.wide_input.proofs.Common.{option_map, IfOk-weaker, AreCandidatesBehind, AllPast, stream, HeldStream}
+use Rattle.wide_input.proofs.Common.{StreamStandsFor, IsAbreast}
 use Rattle.slicer_bank.specs.Held.{StandsFor as BankStandsFor}
-use Rattle.slicer_bank.specs.Merging.{AllPast}
-use Rattle.wide_input.specs.Streams.{stream}
-use Rattle.wide_input.specs.Held.{HeldStream, StreamStandsFor, IsAbreast}
-use Rattle.wide_input.proofs.StreamLemmas.{heard_part, position_past, stays_abreast, stream-few, part_fits}
-use Rattle.wide_input.proofs.StreamLemmas.{part_ends}
+use Rattle.wide_input.proofs.StreamLemmas.{heard_part, position_past, stays_abreast, stream-few, part_fits, part_ends}
 use Rattle.wide_input.proofs.stream.Stream.hear_part.Goals as goal
 
 pub feed-requires : goal.feed-requires

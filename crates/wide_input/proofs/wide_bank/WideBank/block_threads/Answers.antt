@@ -1,9 +1,6 @@
-use Rattle.std.proofs.Common.{◌≡◌, ◌<◌, ◌++◌, ◌∙◌, ℕ, ℤ, List, sym, subst, refl, length, get_or, take, drop, false}
-use Rattle.std.specs.Prelude.{IfOk}
-use Rattle.std.proofs.lemmas.Result.{IfOk-weaker}
-use Rattle.wide_input.specs.Streams.{least_count}
-use Rattle.wide_input.specs.MergedItems.{AreWideMergedBetween}
-use Rattle.wide_input.specs.Held.{HeldStream, HeldWide, HearsBlock, HaveTaken, StandsFor}
+use Rattle.wide_input.proofs.Common.{◌≡◌, ◌<◌, ◌++◌, ◌∙◌, ℕ, ℤ, List, sym, subst, refl, length, get_or, take, drop}
+use Rattle.wide_input.proofs.Common.{false, IfOk, IfOk-weaker, least_count, AreWideMergedBetween, HeldStream, HeldWide}
+use Rattle.wide_input.proofs.Common.{HearsBlock, HaveTaken, StandsFor}
 use Rattle.wide_input.proofs.Visits.{given_back}
 use Rattle.wide_input.proofs.wide_bank.WideBank.block_threads.Goals as goal
 

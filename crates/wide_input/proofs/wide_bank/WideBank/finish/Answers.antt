@@ -1,13 +1,6 @@
-use Rattle.std.proofs.Common.{◌≡◌, ◌++◌, ℤ, List, subst, false}
-use Rattle.std.specs.Prelude.{IfOk}
-use Rattle.std.proofs.lemmas.Result.{IfOk-weaker}
-use Rattle.frame_merge.specs.declared.candidate.Candidate.{Candidate}
+use Rattle.wide_input.proofs.Common.{◌≡◌, ◌++◌, ℤ, List, subst, false, IfOk, IfOk-weaker, Candidate, merged, in_order}
+use Rattle.wide_input.proofs.Common.{least_count, AreWideRest, HeldWide, StandsFor}
 use Rattle.frame_merge.specs.Held.{StandsFor as MergerStandsFor}
-use Rattle.frame_merge.specs.Merged.{merged}
-use Rattle.frame_merge.specs.Order.{in_order}
-use Rattle.wide_input.specs.Streams.{least_count}
-use Rattle.wide_input.specs.MergedItems.{AreWideRest}
-use Rattle.wide_input.specs.Held.{HeldWide, StandsFor}
 use Rattle.wide_input.proofs.WideSteps.{gives_rest}
 use Rattle.wide_input.proofs.wide_bank.WideBank.finish.Goals as goal
 

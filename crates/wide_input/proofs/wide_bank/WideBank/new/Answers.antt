@@ -1,4 +1,4 @@
-use Rattle.std.proofs.Common.{ap}
+use Rattle.wide_input.proofs.Common.{ap}
 use Rattle.slicer_bank.specs.declared.progress.Progress.{Progress}
 use Rattle.wide_input.proofs.WideSteps.{taken_none}
 use Rattle.wide_input.proofs.wide_bank.WideBank.new.Goals as goal

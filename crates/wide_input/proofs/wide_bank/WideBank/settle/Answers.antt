@@ -1,10 +1,7 @@
-use Rattle.std.proofs.Common.{◌≡◌, ◌+◌, ◌/◌, ◌≤◌, ◌<◌, ◌++◌, ◌∙◌, ℕ, ℤ, List, ap, sym, subst, length}
-use Rattle.std.proofs.Common.{length-append, get_or, take, drop, replicate, false, arith}
-use Rattle.std.specs.List.{All}
-use Rattle.wide_input.specs.Streams.{least_count}
-use Rattle.wide_input.specs.MergedItems.{AreWideMergedBetween}
-use Rattle.wide_input.specs.Held.{HeldStream, HeldWide, HearsBlock, IsAbreast, TakesPart, KeepsInTime, HaveTaken}
-use Rattle.wide_input.specs.Held.{StandsFor}
+use Rattle.wide_input.proofs.Common.{◌≡◌, ◌+◌, ◌/◌, ◌≤◌, ◌<◌, ◌++◌, ◌∙◌, ℕ, ℤ, List, ap, sym, subst, length}
+use Rattle.wide_input.proofs.Common.{length-append, get_or, take, drop, replicate, false, arith, All, least_count}
+use Rattle.wide_input.proofs.Common.{AreWideMergedBetween, HeldStream, HeldWide, HearsBlock, IsAbreast, TakesPart}
+use Rattle.wide_input.proofs.Common.{KeepsInTime, HaveTaken, StandsFor}
 use Rattle.wide_input.proofs.Visits.{given_back, all_marks, all_in_time}
 use Rattle.wide_input.proofs.wide_bank.WideBank.settle.Goals as goal
 

@@ -1,0 +1,51 @@
+-- The names that most proofs of this crate cite, passed on from one place.
+pub use Rattle.afsk_modulator.specs.Transmission.{transmission}
+pub use Rattle.channel_access.specs.Channel.{Channel, Takes, after_tick, air_after, air_samples, air_sent, air_tick}
+pub use Rattle.channel_access.specs.Channel.{air_waiting, begun, decision, new_channel, with_frame, with_setting}
+pub use Rattle.channel_access.specs.Held.{Held, Run, Step, behind_bit, checked, flag_bit, frame_over, frame_start}
+pub use Rattle.channel_access.specs.Held.{held_with_frame, new_sending, sent_with, stage_over, step_of, tick_start}
+pub use Rattle.channel_access.specs.Held.{window_of, with_bit, with_bits, with_step}
+pub use Rattle.channel_access.specs.HeldTick.{going_on, held_tick, run_of}
+pub use Rattle.channel_access.specs.OnAir.{OnAir, bits_of, bits_then, decided, flag_end, followed_by, frame_named}
+pub use Rattle.channel_access.specs.OnAir.{frames_end, has_sent_frames, most_frames, names_next, samples_on_air}
+pub use Rattle.channel_access.specs.OnAir.{tick_samples, waiting_with_named, with_named, with_tick}
+pub use Rattle.channel_access.specs.Parameters.{closing_flags, opening_flags}
+pub use Rattle.channel_access.specs.StandsFor.{Counts, Goes, InFrame, IsSent, Sends, Stands, StandsFor, StandsForAir}
+pub use Rattle.channel_access.specs.StandsFor.{StandsForSome, flag_rest, frame_rest}
+pub use Rattle.channel_access.specs.Waiting.{WaitingFrame}
+pub use Rattle.channel_access.specs.WholeTransmission.{GoesToItsEnd, octets_of}
+pub use Rattle.channel_access.specs.WholeTransmission.Call.{Ticks}
+pub use Rattle.channel_access.specs.declared.air_tick.AirTick.{AirTick}
+pub use Rattle.channel_access.specs.declared.air_tick.Sent.{Sent}
+pub use Rattle.channel_access.specs.declared.frame_bits.FrameBits.{FrameBits}
+pub use Rattle.channel_access.specs.declared.parameters.Parameters.{Parameters}
+pub use Rattle.channel_access.specs.declared.sending.Sending.{Sending}
+pub use Rattle.channel_access.specs.declared.stage.Stage.{Stage}
+pub use Rattle.channel_access.specs.declared.stage.Stage.TheVariants.{Closing, Following, Frame, Opening, Over}
+pub use Rattle.hdlc_framer.proofs.BitLemmas.{length-sent_bits}
+pub use Rattle.hdlc_framer.proofs.StuffLemmas.{joined-push}
+pub use Rattle.hdlc_framer.proofs.StuffingLemmas.{stuffed_is}
+pub use Rattle.hdlc_framer.specs.BitOrder.{octet_bits, sent_bits}
+pub use Rattle.hdlc_framer.specs.Body.{body, flags}
+pub use Rattle.hdlc_framer.specs.CheckSequence.{fcs_of}
+pub use Rattle.hdlc_framer.specs.FrameLength.{HasFrameLength}
+pub use Rattle.hdlc_framer.specs.Frames.{frame_bits, with_fcs}
+pub use Rattle.hdlc_framer.specs.Stuffing.{flag}
+pub use Rattle.nrzi_bits.proofs.LineLemmas.{length-line_from}
+pub use Rattle.nrzi_bits.specs.Line.{line}
+pub use Rattle.rand_pcg.specs.Lcg.{Lcg}
+pub use Rattle.std.proofs.Common.{Bool, List, None, Option, Some, [], add-one, ap, append-nil, append_assoc, arith}
+pub use Rattle.std.proofs.Common.{bit_and, cond, drop, eqb, false, get_or, inl, inr, is_some, leb, length}
+pub use Rattle.std.proofs.Common.{length-append, ltb, not, pos, refl, replicate, rules, subst, suc, sym, take, true}
+pub use Rattle.std.proofs.Common.{zero, ℕ, ℤ, ◌%◌, ◌&&◌, ◌*◌, ◌++◌, ◌+◌, ◌-◌, ◌/◌, ◌<◌, ◌^◌, ◌∙◌, ◌∷◌, ◌≡◌, ◌≤◌, ◌⊎◌}
+pub use Rattle.std.proofs.Math.Nat.{le-max_left}
+pub use Rattle.std.proofs.Math.Seq.{get_or-append_seam}
+pub use Rattle.std.proofs.lemmas.Bool.{cases_Bool, cond-false, cond-true, le-leb, leb-false, leb-true, lt-leb, lt-ltb}
+pub use Rattle.std.proofs.lemmas.Bool.{ltb-true}
+pub use Rattle.std.proofs.lemmas.Bool.Decides.{nat_tests}
+pub use Rattle.std.proofs.lemmas.List.{replicate-append-replicate, take-append-le, take_all}
+pub use Rattle.std.proofs.lemmas.List.Concat.{flat_map-append}
+pub use Rattle.std.proofs.lemmas.List.Elements.{All-head, All-nil, All-push, All-tail}
+pub use Rattle.std.specs.List.{All}
+pub use Rattle.tone_table.specs.Wave.{wave, wave_from}
+pub use Rattle.tone_table.specs.declared.tone.Tone.TheVariants.{Mark}

@@ -1,0 +1,23 @@
+-- The names that most proofs of this crate cite, passed on from one place.
+pub use Rattle.reed_solomon.specs.Codeword.{IsCodeword, IsWithinReach, whole_of, with_zeros}
+pub use Rattle.reed_solomon.specs.Distance.{distance}
+pub use Rattle.reed_solomon.specs.Field.{double, power, times_power}
+pub use Rattle.reed_solomon.specs.Kernel.{AddsMultiple, IsBasis, IsMultiple, IsWrong, Meet, count_true, dot}
+pub use Rattle.reed_solomon.specs.Kernel.{octet_before, row, values_down}
+pub use Rattle.reed_solomon.specs.Product.{logarithm, product}
+pub use Rattle.reed_solomon.specs.Register.{ChecksOf, added, generator_of, taken, whole, with_root, zeros_after}
+pub use Rattle.reed_solomon.specs.Register.{zeros_before}
+pub use Rattle.reed_solomon.specs.Values.{Vanishes, value_at}
+pub use Rattle.reed_solomon.specs.declared.code.Code.{Code}
+pub use Rattle.reed_solomon.specs.declared.code.Zeros.{Zeros}
+pub use Rattle.reed_solomon.specs.declared.code.Zeros.TheVariants.{Between, Leading}
+pub use Rattle.std.proofs.Common.{All, Bool, List, [], ap, arith, bit_xor, cond, drop, eqb, false, get_or, inl, inr}
+pub use Rattle.std.proofs.Common.{length, length-append, map, refl, replicate, set, subst, suc, sym, take, take_all}
+pub use Rattle.std.proofs.Common.{true, zero, ℕ, ◌%◌, ◌*◌, ◌++◌, ◌+◌, ◌-◌, ◌/◌, ◌<◌, ◌∙◌, ◌∷◌, ◌≡◌, ◌≢◌, ◌≤◌}
+pub use Rattle.std.proofs.lemmas.Bool.{cases_eq, cases_lt, eq-eqb, false≢true, ne_eqb}
+pub use Rattle.std.proofs.lemmas.List.{append-nil, append_assoc, drop_at, ext_get_or, get_or-set_other, get_or-set_same}
+pub use Rattle.std.proofs.lemmas.List.{length-drop, length-map, length-replicate, length-take, take-append-drop}
+pub use Rattle.std.proofs.lemmas.List.{take_at, take_more, take_rest}
+pub use Rattle.std.proofs.lemmas.Nat.{xor_comm, xor_of_8}
+pub use Rattle.std.specs.Int.Bits.{xor_assoc, xor_self, xor_zero_l, xor_zero_r}
+pub use Rattle.std.specs.List.{fold}
