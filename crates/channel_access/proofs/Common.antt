@@ -1,17 +1,18 @@
 -- The names that most proofs of this crate cite, passed on from one place.
-pub use Rattle.afsk_modulator.specs.Transmission.{transmission}
+unfoldable pub use Rattle.afsk_modulator.specs.Transmission.{transmission}
 pub use Rattle.channel_access.specs.Channel.{Channel, Takes, after_tick, air_after, air_samples, air_sent, air_tick}
 pub use Rattle.channel_access.specs.Channel.{air_waiting, begun, decision, new_channel, with_frame, with_setting}
+unfoldable pub use Rattle.channel_access.specs.Held.{new_sending, step_of, window_of, with_bit, with_bits}
 pub use Rattle.channel_access.specs.Held.{Held, Run, Step, behind_bit, checked, flag_bit, frame_over, frame_start}
-pub use Rattle.channel_access.specs.Held.{held_with_frame, new_sending, sent_with, stage_over, step_of, tick_start}
-pub use Rattle.channel_access.specs.Held.{window_of, with_bit, with_bits, with_step}
+pub use Rattle.channel_access.specs.Held.{held_with_frame, sent_with, stage_over, tick_start, with_step}
 pub use Rattle.channel_access.specs.HeldTick.{going_on, held_tick, run_of}
-pub use Rattle.channel_access.specs.OnAir.{OnAir, bits_of, bits_then, decided, flag_end, followed_by, frame_named}
-pub use Rattle.channel_access.specs.OnAir.{frames_end, has_sent_frames, most_frames, names_next, samples_on_air}
-pub use Rattle.channel_access.specs.OnAir.{tick_samples, waiting_with_named, with_named, with_tick}
+unfoldable pub use Rattle.channel_access.specs.OnAir.{bits_of, flag_end, frames_end, samples_on_air, tick_samples}
+pub use Rattle.channel_access.specs.OnAir.{OnAir, bits_then, decided, followed_by, frame_named, has_sent_frames}
+pub use Rattle.channel_access.specs.OnAir.{most_frames, names_next, waiting_with_named, with_named, with_tick}
 pub use Rattle.channel_access.specs.Parameters.{closing_flags, opening_flags}
+unfoldable pub use Rattle.channel_access.specs.StandsFor.{frame_rest}
 pub use Rattle.channel_access.specs.StandsFor.{Counts, Goes, InFrame, IsSent, Sends, Stands, StandsFor, StandsForAir}
-pub use Rattle.channel_access.specs.StandsFor.{StandsForSome, flag_rest, frame_rest}
+pub use Rattle.channel_access.specs.StandsFor.{StandsForSome, flag_rest}
 pub use Rattle.channel_access.specs.Waiting.{WaitingFrame}
 pub use Rattle.channel_access.specs.WholeTransmission.{GoesToItsEnd, octets_of}
 pub use Rattle.channel_access.specs.WholeTransmission.Call.{Ticks}
@@ -25,11 +26,13 @@ pub use Rattle.channel_access.specs.declared.stage.Stage.TheVariants.{Closing, F
 pub use Rattle.hdlc_framer.proofs.BitLemmas.{length-sent_bits}
 pub use Rattle.hdlc_framer.proofs.StuffLemmas.{joined-push}
 pub use Rattle.hdlc_framer.proofs.StuffingLemmas.{stuffed_is}
-pub use Rattle.hdlc_framer.specs.BitOrder.{octet_bits, sent_bits}
-pub use Rattle.hdlc_framer.specs.Body.{body, flags}
-pub use Rattle.hdlc_framer.specs.CheckSequence.{fcs_of}
+unfoldable pub use Rattle.hdlc_framer.specs.BitOrder.{octet_bits}
+pub use Rattle.hdlc_framer.specs.BitOrder.{sent_bits}
+unfoldable pub use Rattle.hdlc_framer.specs.Body.{body}
+pub use Rattle.hdlc_framer.specs.Body.{flags}
+unfoldable pub use Rattle.hdlc_framer.specs.CheckSequence.{fcs_of}
 pub use Rattle.hdlc_framer.specs.FrameLength.{HasFrameLength}
-pub use Rattle.hdlc_framer.specs.Frames.{frame_bits, with_fcs}
+unfoldable pub use Rattle.hdlc_framer.specs.Frames.{frame_bits, with_fcs}
 pub use Rattle.hdlc_framer.specs.Stuffing.{flag}
 pub use Rattle.nrzi_bits.proofs.LineLemmas.{length-line_from}
 pub use Rattle.nrzi_bits.specs.Line.{line}

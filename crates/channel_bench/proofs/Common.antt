@@ -1,7 +1,8 @@
 -- The names that most proofs of this crate cite, passed on from one place.
 pub use Rattle.agwpe_port.proofs.WrittenLemmas.{IsWritten}
 pub use Rattle.agwpe_port.specs.CallField.{call_field}
-pub use Rattle.agwpe_port.specs.Messages.{bad_length_in, messages_in, spelling}
+unfoldable pub use Rattle.agwpe_port.specs.Messages.{spelling}
+pub use Rattle.agwpe_port.specs.Messages.{bad_length_in, messages_in}
 pub use Rattle.agwpe_port.specs.declared.message.AgwMessage.{AgwMessage}
 pub use Rattle.ax25_address.specs.Callsign.{Callsign}
 pub use Rattle.ax25_address.specs.FramePath.{way_back}
@@ -10,7 +11,8 @@ pub use Rattle.ax25_address.specs.declared.path.Role.TheVariants.{Command}
 pub use Rattle.ax25_frames.specs.declared.frame.Frame.{Frame}
 pub use Rattle.ax25_frames.specs.declared.frame.Kind.{Kind}
 pub use Rattle.channel_access.specs.Channel.{Channel, after_rules, air_samples, air_waiting, decision, with_decision}
-pub use Rattle.channel_access.specs.OnAir.{OnAir, bits_then, decided, names_next, samples_on_air, tick_samples}
+unfoldable pub use Rattle.channel_access.specs.OnAir.{samples_on_air, tick_samples}
+pub use Rattle.channel_access.specs.OnAir.{OnAir, bits_then, decided, names_next}
 pub use Rattle.channel_access.specs.Waiting.{WaitingFrame}
 pub use Rattle.channel_access.specs.Words.{after_word, words}
 pub use Rattle.channel_access.specs.declared.air_tick.Sent.{Sent}
@@ -23,10 +25,11 @@ pub use Rattle.channel_bench.specs.BenchSteps.{AreHeardAt, GoesOn, IsHeardAs, Is
 pub use Rattle.channel_bench.specs.BenchSteps.{MayCome, count_of, distance, first_unquiet, is_match, match_of}
 pub use Rattle.channel_bench.specs.BenchSteps.{program_id, there_after, told_octets, told_piece, told_pieces}
 pub use Rattle.channel_bench.specs.BenchSteps.{trouble_of, with_matched, with_stray}
+unfoldable pub use Rattle.channel_bench.specs.BenchTick.{IsTick, beginning, each_tick, joins, sets_duplex}
+unfoldable pub use Rattle.channel_bench.specs.BenchTick.{sets_full_duplex}
 pub use Rattle.channel_bench.specs.BenchTick.{AcceptsProgram, ArePartsMade, AreReady, IsAsked, IsAskedOrCalled}
-pub use Rattle.channel_bench.specs.BenchTick.{IsCalled, IsGiven, IsGivenPiece, IsListening, IsPart, IsTick, Part, Says}
-pub use Rattle.channel_bench.specs.BenchTick.{beginning, each_tick, is_complete, joins, kiss_id, parts_of, sets_duplex}
-pub use Rattle.channel_bench.specs.BenchTick.{sets_full_duplex, with_asking, with_calling, with_giving}
+pub use Rattle.channel_bench.specs.BenchTick.{IsCalled, IsGiven, IsGivenPiece, IsListening, IsPart, Part, Says}
+pub use Rattle.channel_bench.specs.BenchTick.{is_complete, kiss_id, parts_of, with_asking, with_calling, with_giving}
 pub use Rattle.channel_bench.specs.BenchTick.Part.{AsksOrCalls, Closes, Gives, Listens, Sounds, Tells, Ticks}
 pub use Rattle.channel_bench.specs.HeldBench.{EarStandsFor, HasMade, IsGoing, StandsForCommon, StandsForNear}
 pub use Rattle.channel_bench.specs.HeldBench.{StandsForRun, StandsForSide, StandsForWays, Unless, acts, hears, sounds}
@@ -35,10 +38,11 @@ pub use Rattle.channel_bench.specs.HostProgram.{ProgramState, call_at, connect_o
 pub use Rattle.channel_bench.specs.HostProgram.{full_duplex_octets, getting, most_octets, next_piece, opening}
 pub use Rattle.channel_bench.specs.HostProgram.{register_octets, request, request_between, set_ups_of, told, told_all}
 pub use Rattle.channel_bench.specs.KeepsOrder.{AreGotFrom, GotInOrder, KeepsOrder}
-pub use Rattle.channel_bench.specs.Sounding.{after_noise, carried, is_lost, mark_of, passed_below, reaching, sends}
-pub use Rattle.channel_bench.specs.Sounding.{sent_in, sounding, ticked, with_loss, with_losses, with_noise}
+unfoldable pub use Rattle.channel_bench.specs.Sounding.{carried, reaching, sounding, ticked, with_loss, with_losses}
+pub use Rattle.channel_bench.specs.Sounding.{after_noise, is_lost, mark_of, passed_below, sends, sent_in, with_noise}
 pub use Rattle.channel_bench.specs.Sounding.{with_samples, with_transmission, with_words}
-pub use Rattle.channel_bench.specs.Words.{seed_at, text_at, text_of}
+unfoldable pub use Rattle.channel_bench.specs.Words.{text_of}
+pub use Rattle.channel_bench.specs.Words.{seed_at, text_at}
 pub use Rattle.channel_bench.specs.declared.ear.Ear.{Ear}
 pub use Rattle.channel_bench.specs.declared.flight.Flags.{Flags}
 pub use Rattle.channel_bench.specs.declared.matching.SentAt.{SentAt}
@@ -55,7 +59,8 @@ pub use Rattle.hdlc_framer.specs.FrameLength.{HasFrameLength}
 pub use Rattle.link_machine.specs.Event.Event.{Hear}
 pub use Rattle.link_machine.specs.Machine.{Machine}
 pub use Rattle.link_machine.specs.Sent.{SentIn, sent_frame}
-pub use Rattle.link_machine.specs.Step.{done_of, refusal_of, step}
+unfoldable pub use Rattle.link_machine.specs.Step.{step}
+pub use Rattle.link_machine.specs.Step.{done_of, refusal_of}
 pub use Rattle.link_machine.specs.declared.acts.SentFrame.{SentFrame}
 pub use Rattle.link_machine.specs.declared.acts.Told.{Told}
 pub use Rattle.link_machine.specs.declared.acts.Told.TheVariants.{Ended, Given, Opened}
@@ -101,7 +106,8 @@ pub use Rattle.station.specs.NewLinks.{idle_link, making, no_layer_3}
 pub use Rattle.station.specs.Registrations.{is_number, may_register, registrar}
 pub use Rattle.station.specs.Routes.{Route, path_along}
 pub use Rattle.station.specs.State.{StationState, most_held, most_waiting}
-pub use Rattle.station.specs.Ticks.{air_of, ticking_at, ticking_links, waits}
+unfoldable pub use Rattle.station.specs.Ticks.{ticking_links}
+pub use Rattle.station.specs.Ticks.{air_of, ticking_at, waits}
 pub use Rattle.station.specs.Turn.{Act, Out, Turn, begin, capacity, changing, closing, dropping, entering, in_order}
 pub use Rattle.station.specs.Turn.{queueing}
 pub use Rattle.station.specs.declared.host_event.HostEvent.{HostEvent}

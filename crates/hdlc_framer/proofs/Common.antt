@@ -1,16 +1,20 @@
 -- The names that most proofs of this crate cite, passed on from one place.
-pub use Rattle.hdlc_framer.specs.BitOrder.{low_bits, number_of, octet_bits, sent_bits}
-pub use Rattle.hdlc_framer.specs.Body.{body, flags, joined}
+unfoldable pub use Rattle.hdlc_framer.specs.BitOrder.{octet_bits}
+pub use Rattle.hdlc_framer.specs.BitOrder.{low_bits, number_of, sent_bits}
+unfoldable pub use Rattle.hdlc_framer.specs.Body.{body}
+pub use Rattle.hdlc_framer.specs.Body.{flags, joined}
 pub use Rattle.hdlc_framer.specs.Carrier.{HoldsCarrier, IsLost, IsQuiet}
-pub use Rattle.hdlc_framer.specs.CheckSequence.{fcs_of}
+unfoldable pub use Rattle.hdlc_framer.specs.CheckSequence.{fcs_of}
 pub use Rattle.hdlc_framer.specs.Counted.{left_after, stuffed_from}
 pub use Rattle.hdlc_framer.specs.Events.{EventAt}
-pub use Rattle.hdlc_framer.specs.Frames.{EndsAbort, EndsFlag, EndsFrame, IsFrame, frame_bits, run_of_ones, with_fcs}
-pub use Rattle.hdlc_framer.specs.Held.{Held, HoldsFrame, Line, StandsFor, content_after_zero, flag_start, line_after}
-pub use Rattle.hdlc_framer.specs.Held.{line_of, new_line, next_line, open_line}
+unfoldable pub use Rattle.hdlc_framer.specs.Frames.{frame_bits, with_fcs}
+pub use Rattle.hdlc_framer.specs.Frames.{EndsAbort, EndsFlag, EndsFrame, IsFrame, run_of_ones}
+unfoldable pub use Rattle.hdlc_framer.specs.Held.{line_after}
+pub use Rattle.hdlc_framer.specs.Held.{Held, HoldsFrame, Line, StandsFor, content_after_zero, flag_start, line_of}
+pub use Rattle.hdlc_framer.specs.Held.{new_line, next_line, open_line}
 pub use Rattle.hdlc_framer.specs.HeldCarrier.{CarrierStandsFor, HeldCarrier, next_carrier}
 pub use Rattle.hdlc_framer.specs.LineEvents.{ClosesFrame, EndsOnZero, LineEvent}
-pub use Rattle.hdlc_framer.specs.Register.{after_octet, shifted, step_of}
+unfoldable pub use Rattle.hdlc_framer.specs.Register.{after_octet, shifted, step_of}
 pub use Rattle.hdlc_framer.specs.Stuffing.{flag, stuffed}
 pub use Rattle.hdlc_framer.specs.declared.event.Event.{Event}
 pub use Rattle.hdlc_framer.specs.declared.event.Event.TheVariants.{Abort, Flag, Frame}

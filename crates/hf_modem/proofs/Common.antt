@@ -1,24 +1,28 @@
 -- The names that most proofs of this crate cite, passed on from one place.
 pub use Rattle.afsk_modulator.proofs.LevelLemmas.{unsigned_abs-sample_at}
-pub use Rattle.afsk_modulator.specs.Level.{at_level, sample_at}
+unfoldable pub use Rattle.afsk_modulator.specs.Level.{at_level, sample_at}
 pub use Rattle.afsk_modulator.specs.Signal.{Transmission}
 pub use Rattle.frame_merge.specs.Merged.{below, merged}
 pub use Rattle.frame_merge.specs.Order.{in_order, standing}
 pub use Rattle.frame_merge.specs.declared.candidate.Candidate.{Candidate}
 pub use Rattle.hdlc_framer.specs.Frames.{EndsFrame}
 pub use Rattle.hf_modem.specs.Candidates.{AreCandidates, AreCandidatesAfter, IsCandidate, candidate_at, end_sample}
-pub use Rattle.hf_modem.specs.Decision.{tone_of}
+unfoldable pub use Rattle.hf_modem.specs.Decision.{tone_of}
 pub use Rattle.hf_modem.specs.Heard.{HasHeard, IsHeard}
 pub use Rattle.hf_modem.specs.Held.{BankStandsFor, HeldBank, SlicerStandsFor, last_window}
 pub use Rattle.hf_modem.specs.HeldDecoder.{HeldDecoder, StandsFor}
 pub use Rattle.hf_modem.specs.MergedItems.{AreMergedBetween}
-pub use Rattle.hf_modem.specs.Signal.{hf_samples_of, hf_signal}
+unfoldable pub use Rattle.hf_modem.specs.Signal.{hf_signal}
+pub use Rattle.hf_modem.specs.Signal.{hf_samples_of}
 pub use Rattle.hf_modem.specs.Tones.{next_phase, phase_step}
-pub use Rattle.hf_modem.specs.Transmission.{hf_transmission}
-pub use Rattle.hf_modem.specs.Wave.{phase_from, pure_window, wave, wave_from}
-pub use Rattle.hf_modem.specs.Windows.{EndsWindow, bits, tones_at, window_at, windows_in}
+unfoldable pub use Rattle.hf_modem.specs.Transmission.{hf_transmission}
+unfoldable pub use Rattle.hf_modem.specs.Wave.{pure_window}
+pub use Rattle.hf_modem.specs.Wave.{phase_from, wave, wave_from}
+unfoldable pub use Rattle.hf_modem.specs.Windows.{bits, tones_at, window_at}
+pub use Rattle.hf_modem.specs.Windows.{EndsWindow, windows_in}
 pub use Rattle.nrzi_bits.specs.Line.{bits_of, last_tone, line}
-pub use Rattle.offset_slicers.specs.Decision.{product_of, sum_below}
+unfoldable pub use Rattle.offset_slicers.specs.Decision.{sum_below}
+pub use Rattle.offset_slicers.specs.Decision.{product_of}
 pub use Rattle.slicer_bank.specs.ToneLanes.{HeldToneLane, ToneLaneStandsFor}
 pub use Rattle.std.proofs.Common.{Bool, FitsSigned, List, None, Option, Some, [], ap, append_assoc, arith, drop, false}
 pub use Rattle.std.proofs.Common.{get_or, inl, inr, length, length-append, nat_eq, of_z, pos, refl, replicate, rules}
@@ -32,7 +36,7 @@ pub use Rattle.std.proofs.lemmas.List.Elements.{All-append, All-nil}
 pub use Rattle.std.specs.List.{All, range_with_len}
 pub use Rattle.std.specs.Option.{option_to_list}
 pub use Rattle.std.specs.Prelude.{IfOk}
-pub use Rattle.tone_table.specs.Sine.{cycle_sample, wave_sample}
+unfoldable pub use Rattle.tone_table.specs.Sine.{cycle_sample, wave_sample}
 pub use Rattle.tone_table.specs.declared.tone.Tone.{Tone}
 pub use Rattle.tone_table.specs.declared.tone.Tone.TheVariants.{Mark}
 pub use mir.Syntax.{w16}

@@ -1,5 +1,5 @@
 -- The names that most proofs of this crate cite, passed on from one place.
-pub use Rattle.keying.specs.Answers.{answer_of}
+unfoldable pub use Rattle.keying.specs.Answers.{answer_of}
 pub use Rattle.keying.specs.Calls.{Call, by_rule, called, ended, heard, history, listened, read, ticked, tried, turned}
 pub use Rattle.keying.specs.Calls.{written}
 pub use Rattle.keying.specs.Calls.Call.{AfterTry, AfterWrite, CommandFailed, Tick, Turn}

@@ -29,7 +29,8 @@ pub use Rattle.link_machine.specs.Room.{frames_left, told_left}
 pub use Rattle.link_machine.specs.Sent.{Sent, SentIn, all_sent_in, infos_from, sent_frame, sent_frames, sent_in}
 pub use Rattle.link_machine.specs.Sent.Sent.{InfoSent, SetupSent, SuperSent}
 pub use Rattle.link_machine.specs.StandsFor.{StandsFor}
-pub use Rattle.link_machine.specs.Step.{done_of, refusal_of, row, settle_in, settled, step}
+unfoldable pub use Rattle.link_machine.specs.Step.{step}
+pub use Rattle.link_machine.specs.Step.{done_of, refusal_of, row, settle_in, settled}
 pub use Rattle.link_machine.specs.Ticks.{is_spent, lowered, retried, runs_out, t1_out, t2_out, t3_out, tick_in, tick_t1}
 pub use Rattle.link_machine.specs.Ticks.{tick_t1_of, tick_t2, tick_t2_of, tick_t3_of, unretried, with_t1, with_t2}
 pub use Rattle.link_machine.specs.Ticks.{with_t3}
@@ -46,10 +47,12 @@ pub use Rattle.link_machine.specs.declared.state.LinkState.{LinkState}
 pub use Rattle.link_machine.specs.declared.state.LinkState.TheVariants.{Calling, Idle, Releasing, Up}
 pub use Rattle.selective_reject.specs.Incoming.{Incoming, IsIncoming, StandsForIncoming, after_accept, before_number}
 pub use Rattle.selective_reject.specs.Incoming.{keeps, numbers_to_ask, took}
-pub use Rattle.selective_reject.specs.Numbers.{IsModulus, ahead}
+unfoldable pub use Rattle.selective_reject.specs.Numbers.{ahead}
+pub use Rattle.selective_reject.specs.Numbers.{IsModulus}
 pub use Rattle.selective_reject.specs.Outgoing.{IsOutgoing, Outgoing, StandsForOutgoing, acknowledgement, after_next}
 pub use Rattle.selective_reject.specs.Outgoing.{after_push, back, number_to_send, restarted}
-pub use Rattle.selective_reject.specs.Places.{asked, empty_place, is_full, missing, packet_at, with_packet}
+unfoldable pub use Rattle.selective_reject.specs.Places.{asked, missing}
+pub use Rattle.selective_reject.specs.Places.{empty_place, is_full, packet_at, with_packet}
 pub use Rattle.selective_reject.specs.declared.incoming.Took.TheVariants.{Next, Stored}
 pub use Rattle.selective_reject.specs.declared.packet.Packet.{Packet}
 pub use Rattle.selective_reject.specs.declared.place.Place.{Place}

@@ -21,7 +21,8 @@ pub use Rattle.link_machine.specs.Params.{HasWindows, called_modulus, window_in}
 pub use Rattle.link_machine.specs.Requests.{connect, joined, quitting}
 pub use Rattle.link_machine.specs.Sent.{Sent, SentIn, all_sent_in, infos_from, sent_frames, sent_in, sent_kind}
 pub use Rattle.link_machine.specs.Sent.Sent.{InfoSent, SetupSent, SuperSent}
-pub use Rattle.link_machine.specs.Step.{done_of, refusal_of, settle_in, settled, step}
+unfoldable pub use Rattle.link_machine.specs.Step.{step}
+pub use Rattle.link_machine.specs.Step.{done_of, refusal_of, settle_in, settled}
 pub use Rattle.link_machine.specs.Ticks.{is_spent, lowered, retried, runs_out, t1_out, t2_out, t3_out, tick, tick_in}
 pub use Rattle.link_machine.specs.Ticks.{tick_t1_of, tick_t2, tick_t2_of, tick_t3_of, with_t1, with_t2, with_t3}
 pub use Rattle.link_machine.specs.Turn.{Turn, begin, changing, setting}
@@ -60,8 +61,9 @@ pub use Rattle.link_world.specs.declared.fault.WorldFault.{WorldFault}
 pub use Rattle.link_world.specs.declared.fault.WorldFault.TheVariants.{NothingThere}
 pub use Rattle.link_world.specs.declared.flight.InFlight.{InFlight}
 pub use Rattle.selective_reject.specs.Incoming.{Incoming, empty_incoming, keeps, taking_by, took}
-pub use Rattle.selective_reject.specs.Numbers.{ahead}
-pub use Rattle.selective_reject.specs.Places.{asked, empty_place, is_full, missing, packet_at, with_packet}
+unfoldable pub use Rattle.selective_reject.specs.Numbers.{ahead}
+unfoldable pub use Rattle.selective_reject.specs.Places.{asked, missing}
+pub use Rattle.selective_reject.specs.Places.{empty_place, is_full, packet_at, with_packet}
 pub use Rattle.selective_reject.specs.Window.{IsWindow}
 pub use Rattle.selective_reject.specs.declared.packet.Packet.{Packet}
 pub use Rattle.selective_reject.specs.declared.place.Place.{Place}

@@ -1,13 +1,16 @@
 -- The names that most proofs of this crate cite, passed on from one place.
-pub use Rattle.reed_solomon.specs.Codeword.{IsCodeword, IsWithinReach, whole_of, with_zeros}
-pub use Rattle.reed_solomon.specs.Distance.{distance}
-pub use Rattle.reed_solomon.specs.Field.{double, power, times_power}
-pub use Rattle.reed_solomon.specs.Kernel.{AddsMultiple, IsBasis, IsMultiple, IsWrong, Meet, count_true, dot}
-pub use Rattle.reed_solomon.specs.Kernel.{octet_before, row, values_down}
-pub use Rattle.reed_solomon.specs.Product.{logarithm, product}
-pub use Rattle.reed_solomon.specs.Register.{ChecksOf, added, generator_of, taken, whole, with_root, zeros_after}
-pub use Rattle.reed_solomon.specs.Register.{zeros_before}
-pub use Rattle.reed_solomon.specs.Values.{Vanishes, value_at}
+unfoldable pub use Rattle.reed_solomon.specs.Codeword.{whole_of}
+pub use Rattle.reed_solomon.specs.Codeword.{IsCodeword, IsWithinReach, with_zeros}
+unfoldable pub use Rattle.reed_solomon.specs.Distance.{distance}
+unfoldable pub use Rattle.reed_solomon.specs.Field.{double, times_power}
+pub use Rattle.reed_solomon.specs.Field.{power}
+unfoldable pub use Rattle.reed_solomon.specs.Kernel.{count_true, dot, octet_before, values_down}
+pub use Rattle.reed_solomon.specs.Kernel.{AddsMultiple, IsBasis, IsMultiple, IsWrong, Meet, row}
+unfoldable pub use Rattle.reed_solomon.specs.Product.{logarithm, product}
+unfoldable pub use Rattle.reed_solomon.specs.Register.{generator_of, taken, with_root}
+pub use Rattle.reed_solomon.specs.Register.{ChecksOf, added, whole, zeros_after, zeros_before}
+unfoldable pub use Rattle.reed_solomon.specs.Values.{value_at}
+pub use Rattle.reed_solomon.specs.Values.{Vanishes}
 pub use Rattle.reed_solomon.specs.declared.code.Code.{Code}
 pub use Rattle.reed_solomon.specs.declared.code.Zeros.{Zeros}
 pub use Rattle.reed_solomon.specs.declared.code.Zeros.TheVariants.{Between, Leading}

@@ -15,8 +15,9 @@ pub use Rattle.sensitive_receiver.specs.Hearing.{LanesHear}
 pub use Rattle.sensitive_receiver.specs.HeldDecoder.{HaveTaken, HeldDecoder, StandsFor}
 pub use Rattle.sensitive_receiver.specs.HeldLanes.{HasTaken, HeldLane, IsLastPlace, LaneStandsFor, LanesAreAt}
 pub use Rattle.sensitive_receiver.specs.HeldLanes.{LanesHaveRead}
-pub use Rattle.sensitive_receiver.specs.Lanes.{delay_of, is_read_at, is_read_by, lane_bits, lane_tones, list_of}
-pub use Rattle.sensitive_receiver.specs.Lanes.{readings_at, tone_back, tone_read}
+unfoldable pub use Rattle.sensitive_receiver.specs.Lanes.{lane_tones, readings_at}
+pub use Rattle.sensitive_receiver.specs.Lanes.{delay_of, is_read_at, is_read_by, lane_bits, list_of, tone_back}
+pub use Rattle.sensitive_receiver.specs.Lanes.{tone_read}
 pub use Rattle.sensitive_receiver.specs.MergedItems.{AreMergedBetween, settled}
 pub use Rattle.sensitive_receiver.specs.declared.readings.Readings.{Readings}
 pub use Rattle.slicer_bank.proofs.CandidateLemmas.{AllPairs-append, end_within}
@@ -38,7 +39,8 @@ pub use Rattle.std.proofs.lemmas.Result.{IfOk-weaker, on_ok_weaker}
 pub use Rattle.std.specs.List.{All, AllPairs}
 pub use Rattle.std.specs.Prelude.{IfOk, fold, if◌then◌else◌, nat_le, nat_lt, not, ◌&&◌, ◌==◌}
 pub use Rattle.tone_table.specs.declared.tone.Tone.{Tone}
-pub use Rattle.tone_tracking.specs.Clock.{changes, clock_after, reads}
+unfoldable pub use Rattle.tone_tracking.specs.Clock.{clock_after}
+pub use Rattle.tone_tracking.specs.Clock.{changes, reads}
 pub use Rattle.tone_tracking.specs.Heard.{heard, places_in}
 pub use Rattle.tone_tracking.specs.HeldLists.{HeldLists}
 pub use Rattle.tone_tracking.specs.HeldTracker.{tone_before}

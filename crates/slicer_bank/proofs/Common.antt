@@ -10,7 +10,8 @@ pub use Rattle.hdlc_framer.proofs.DeframerLemmas.{frame_by_test}
 pub use Rattle.hdlc_framer.proofs.FrameEnds.{frame_told}
 pub use Rattle.hdlc_framer.specs.Carrier.{HoldsCarrier}
 pub use Rattle.hdlc_framer.specs.Events.{EventAt}
-pub use Rattle.hdlc_framer.specs.Frames.{EndsFrame, frame_bits}
+unfoldable pub use Rattle.hdlc_framer.specs.Frames.{frame_bits}
+pub use Rattle.hdlc_framer.specs.Frames.{EndsFrame}
 pub use Rattle.hdlc_framer.specs.Held.{HoldsFrame, flags_asked}
 pub use Rattle.hdlc_framer.specs.Stuffing.{flag}
 pub use Rattle.hdlc_framer.specs.contracts.event.Event.{the_type}
@@ -18,9 +19,10 @@ pub use Rattle.hdlc_framer.specs.declared.event.Event.{Event}
 pub use Rattle.hdlc_framer.specs.declared.event.Event.TheVariants.{Frame}
 pub use Rattle.nrzi_bits.specs.Line.{bits_of}
 pub use Rattle.offset_slicers.proofs.WindowLemmas.{length-bits, length-tones_at}
-pub use Rattle.offset_slicers.specs.Decision.{tone_of}
+unfoldable pub use Rattle.offset_slicers.specs.Decision.{tone_of}
 pub use Rattle.offset_slicers.specs.Held.{offset_from}
-pub use Rattle.offset_slicers.specs.Windows.{EndsWindow, bits, tones_at, window_at, windows_in}
+unfoldable pub use Rattle.offset_slicers.specs.Windows.{bits, tones_at, window_at}
+pub use Rattle.offset_slicers.specs.Windows.{EndsWindow, windows_in}
 pub use Rattle.sample_ring.specs.Ends.{GoesForward, position_of, reader_ring, reads_of, record_of, ring_id, ring_len}
 pub use Rattle.sample_ring.specs.Record.{answer, next}
 pub use Rattle.sample_ring.specs.declared.got.Got.{Got}

@@ -1,5 +1,5 @@
 -- The names that most proofs of this crate cite, passed on from one place.
-pub use Rattle.agwpe_port.specs.Messages.{spelling}
+unfoldable pub use Rattle.agwpe_port.specs.Messages.{spelling}
 pub use Rattle.agwpe_port.specs.declared.message.AgwMessage.{AgwMessage}
 pub use Rattle.ax25_address.specs.CallText.{IsCallText}
 pub use Rattle.ax25_address.specs.Callsign.{Callsign}
@@ -12,13 +12,14 @@ pub use Rattle.ax25_frames.specs.FrameOctets.{IsWrittenFrame, control_of}
 pub use Rattle.ax25_frames.specs.declared.frame.Frame.{Frame}
 pub use Rattle.ax25_frames.specs.declared.frame.Modulus.{Modulus}
 pub use Rattle.channel_access.specs.declared.air_tick.Sent.{Sent}
-pub use Rattle.kiss_port.specs.Items.{items_in}
+unfoldable pub use Rattle.kiss_port.specs.Items.{items_in}
 pub use Rattle.kiss_port.specs.declared.item.KissItem.{KissItem}
 pub use Rattle.link_machine.specs.Done.{Done}
 pub use Rattle.link_machine.specs.Event.{Event}
 pub use Rattle.link_machine.specs.Event.Event.{Connect, Disconnect, Hear}
 pub use Rattle.link_machine.specs.Machine.{Machine, modulus_named}
-pub use Rattle.link_machine.specs.Step.{done_of, step}
+unfoldable pub use Rattle.link_machine.specs.Step.{step}
+pub use Rattle.link_machine.specs.Step.{done_of}
 pub use Rattle.link_machine.specs.declared.acts.Told.{Told}
 pub use Rattle.link_machine.specs.declared.params.Params.{Params}
 pub use Rattle.selective_reject.specs.declared.packet.Packet.{Packet}
@@ -27,7 +28,7 @@ pub use Rattle.station.specs.AgwRequests.{AreAnswered, IsCallMade, giving_packet
 pub use Rattle.station.specs.AgwRequests.{refused_reply, replying}
 pub use Rattle.station.specs.CallFields.{call_in}
 pub use Rattle.station.specs.Connections.{Connection, connection_of, new_connection, turned_monitor, turned_raw}
-pub use Rattle.station.specs.FrameSpelling.{frame_octets}
+unfoldable pub use Rattle.station.specs.FrameSpelling.{frame_octets}
 pub use Rattle.station.specs.HasFew.{HasFew}
 pub use Rattle.station.specs.Heard.{IsReadAs, IsRepeatedFor, may_make, showing, showing_to, shown_to_hosts}
 pub use Rattle.station.specs.Held.{Held, JoinsAnew, ids_in, without_ids}
@@ -50,7 +51,8 @@ pub use Rattle.station.specs.StandsFor.{AreParts, HasOtherId, IsFreed, Reads, Sh
 pub use Rattle.station.specs.StandsFor.{StandsForLink, StandsForLinks, StandsForPlace}
 pub use Rattle.station.specs.State.{StationState}
 pub use Rattle.station.specs.TableSteps.{HasAt, IsSetAt, place_at, settled_at}
-pub use Rattle.station.specs.Ticks.{IsSentFrame, ticking_at, ticking_links, waits}
+unfoldable pub use Rattle.station.specs.Ticks.{ticking_links}
+pub use Rattle.station.specs.Ticks.{IsSentFrame, ticking_at, waits}
 pub use Rattle.station.specs.Turn.{Out, Turn, begin, changing, closing, in_order, queueing}
 pub use Rattle.station.specs.declared.host_event.HostEvent.{HostEvent}
 pub use Rattle.station.specs.declared.host_event.PortKind.{PortKind}

@@ -1,5 +1,6 @@
 -- The names that most proofs of this crate cite, passed on from one place.
-pub use Rattle.agwpe_port.specs.Messages.{bad_length_in, reading}
+unfoldable pub use Rattle.agwpe_port.specs.Messages.{reading}
+pub use Rattle.agwpe_port.specs.Messages.{bad_length_in}
 pub use Rattle.agwpe_port.specs.declared.message.AgwMessage.{AgwMessage}
 pub use Rattle.ax25_address.proofs.OneReading.{BeginsWithPath-same}
 pub use Rattle.ax25_address.specs.AddressField.{bit}
@@ -28,7 +29,8 @@ pub use Rattle.link_machine.specs.Machine.{Machine, modulus_named, new_machine}
 pub use Rattle.link_machine.specs.Params.{default_params}
 pub use Rattle.link_machine.specs.Sent.{Sent, SentIn, sent_frame, sent_in, sent_kind}
 pub use Rattle.link_machine.specs.Sent.Sent.{InfoSent, SetupSent, SuperSent}
-pub use Rattle.link_machine.specs.Step.{done_of, step}
+unfoldable pub use Rattle.link_machine.specs.Step.{step}
+pub use Rattle.link_machine.specs.Step.{done_of}
 pub use Rattle.link_machine.specs.Turn.{begin}
 pub use Rattle.link_machine.specs.declared.acts.SentFrame.{SentFrame}
 pub use Rattle.link_machine.specs.declared.acts.Told.{Told}
@@ -77,16 +79,19 @@ pub use Rattle.station.specs.AgwRequests.{may_call, monitor_toggled, most_inform
 pub use Rattle.station.specs.AgwRequests.{pending_reply, ports_reply, queueing_raw, refused_reply, register_reply}
 pub use Rattle.station.specs.AgwRequests.{registering, replying, sending_unnumbered, toggled, unnumbered_frame}
 pub use Rattle.station.specs.AgwRequests.{unregistering, version_reply, waiting_reply, with_registration}
-pub use Rattle.station.specs.CallFields.{call_in, call_of_text}
+unfoldable pub use Rattle.station.specs.CallFields.{call_of_text}
+pub use Rattle.station.specs.CallFields.{call_in}
 pub use Rattle.station.specs.Connections.{Connection, connection_of, most_connections}
-pub use Rattle.station.specs.FrameSpelling.{frame_octets, path_octets}
+unfoldable pub use Rattle.station.specs.FrameSpelling.{frame_octets}
+pub use Rattle.station.specs.FrameSpelling.{path_octets}
 pub use Rattle.station.specs.Heard.{AreHeardAt, AreOctetsHeard, IsHeard, IsHeardAnew, IsHeardBy, IsHeardMaking}
 pub use Rattle.station.specs.Heard.{IsPathOf, IsReadingHeardAnew, IsRepeatedFor, destination_field, may_make}
 pub use Rattle.station.specs.Heard.{showing_to, shown_to_hosts, source_field, waits_for_repeater, with_shown}
 pub use Rattle.station.specs.Host.{AreTaken, AreTakenBy, IsHostTurn, ending, joining, new_items, new_messages, taking}
 pub use Rattle.station.specs.Host.{with_host}
 pub use Rattle.station.specs.Kiss.{heeding, heeding_all, param_of, with_param}
-pub use Rattle.station.specs.Leaving.{giving_up, giving_up_all, giving_up_link, leaving, without_host, without_owner}
+unfoldable pub use Rattle.station.specs.Leaving.{giving_up_all}
+pub use Rattle.station.specs.Leaving.{giving_up, giving_up_link, leaving, without_host, without_owner}
 pub use Rattle.station.specs.LinkEvents.{event_at, event_of, link_event, queueing_frame, queueing_frames, settled_link}
 pub use Rattle.station.specs.LinkEvents.{telling_one, telling_to, with_links}
 pub use Rattle.station.specs.Links.{IsNewKey, Link, Links, is_between, key_between, link_at, most_links, with_link}
@@ -95,7 +100,8 @@ pub use Rattle.station.specs.NewLinks.{idle_link, making, no_layer_3}
 pub use Rattle.station.specs.Registrations.{is_number, may_register, registrar}
 pub use Rattle.station.specs.Routes.{Route, behind_repeaters, path_along, repeaters_in, route_in}
 pub use Rattle.station.specs.State.{StationState, new_station}
-pub use Rattle.station.specs.Ticks.{ticking, ticking_at, ticking_links, waits}
+unfoldable pub use Rattle.station.specs.Ticks.{ticking_links}
+pub use Rattle.station.specs.Ticks.{ticking, ticking_at, waits}
 pub use Rattle.station.specs.Turn.{Act, Out, Turn, capacity, changing, closing, dropping, entering, in_order, queueing}
 pub use Rattle.station.specs.declared.config.Config.{Config}
 pub use Rattle.station.specs.declared.host_event.HostEvent.{HostEvent}

@@ -1,6 +1,7 @@
 -- The names that most proofs of this crate cite, passed on from one place.
 pub use Rattle.agwpe_client.proofs.GrowLemmas.{Grows, run_grows}
-pub use Rattle.agwpe_client.specs.CallRun.{CallPlan, CallRun, call_run, is_over, printed_after, sent_after, state_after}
+unfoldable pub use Rattle.agwpe_client.specs.CallRun.{call_run}
+pub use Rattle.agwpe_client.specs.CallRun.{CallPlan, CallRun, is_over, printed_after, sent_after, state_after}
 pub use Rattle.agwpe_client.specs.declared.call_state.CallState.{CallState}
 pub use Rattle.agwpe_client.specs.declared.call_state.CallState.TheVariants.{Asking, Calling, Up}
 pub use Rattle.agwpe_client.specs.declared.client_out.ClientOut.{ClientOut}

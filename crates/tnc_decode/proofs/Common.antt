@@ -22,7 +22,8 @@ pub use Rattle.tnc_decode.specs.Decoded.{IsDecoded}
 pub use Rattle.tnc_decode.specs.Ended.{IsEnded}
 pub use Rattle.tnc_decode.specs.Held.{CutShort, HasDecoded, HasHeard, HasTaken, HasTakenAt, position_of}
 pub use Rattle.tnc_decode.specs.Modem.{AreGivenBelow, AreGivenBetween, AreGivenRest, AreHeard, modem_of, settled_count}
-pub use Rattle.tnc_decode.specs.Printing.{print, printed}
+unfoldable pub use Rattle.tnc_decode.specs.Printing.{print}
+pub use Rattle.tnc_decode.specs.Printing.{printed}
 pub use Rattle.tnc_decode.specs.Settled.{IsSettled, sample_count}
 pub use Rattle.tnc_decode.specs.Written.{WroteMost}
 pub use Rattle.tnc_decode.specs.declared.audio.Audio.TheVariants.{File}
@@ -38,9 +39,10 @@ pub use Rattle.tnc_words.specs.declared.command.AudioForm.{AudioForm}
 pub use Rattle.tnc_words.specs.declared.command.AudioForm.TheVariants.{Raw, Wav}
 pub use Rattle.tnc_words.specs.declared.command.DecodeWords.{DecodeWords}
 pub use Rattle.tnc_words.specs.declared.command.FrameForm.{FrameForm}
-pub use Rattle.wav_file.specs.Chunks.{chunks}
-pub use Rattle.wav_file.specs.Reading.{Reading, fault_in, rate_in, reading, samples_in}
-pub use Rattle.wav_file.specs.Samples.{sample_of}
+unfoldable pub use Rattle.wav_file.specs.Chunks.{chunks}
+unfoldable pub use Rattle.wav_file.specs.Reading.{reading}
+pub use Rattle.wav_file.specs.Reading.{Reading, fault_in, rate_in, samples_in}
+unfoldable pub use Rattle.wav_file.specs.Samples.{sample_of}
 pub use Rattle.wav_file.specs.declared.fault.WavFault.{WavFault}
 pub use Rattle.wav_file.specs.declared.rates.Rates.{Rates}
 pub use Rattle.wide_input.specs.MergedItems.{AreWideMergedBetween}

@@ -17,11 +17,13 @@ pub use Rattle.std.specs.Prelude.{IfOk, OnOk, if◌then◌else◌, is_some}
 pub use Rattle.std.specs.Str.Lines.{strip_carriage_return}
 pub use Rattle.tnc_forms.specs.Faults.{fault_in_line, hex_fault}
 pub use Rattle.tnc_forms.specs.HeldLine.{HeldLine, StandsFor}
+unfoldable pub use Rattle.tnc_forms.specs.HexFrames.{frames_in_lines, line_fault, text_of}
 pub use Rattle.tnc_forms.specs.HexFrames.{HasGoodLength, fault_in, fault_of, fault_of_lines, frame_in, frame_of}
-pub use Rattle.tnc_forms.specs.HexFrames.{frames_in_lines, frames_of_lines, line_fault, text_of, text_of_digits}
+pub use Rattle.tnc_forms.specs.HexFrames.{frames_of_lines, text_of_digits}
 pub use Rattle.tnc_forms.specs.HexLines.{Line, ended_of, is_line_feed, lines_at, lines_from, lines_of, parts_of}
-pub use Rattle.tnc_forms.specs.LinesSoFar.{fault_so_far, frames_so_far, known_of}
-pub use Rattle.tnc_forms.specs.Pcm.{pcm}
+unfoldable pub use Rattle.tnc_forms.specs.LinesSoFar.{fault_so_far, frames_so_far}
+pub use Rattle.tnc_forms.specs.LinesSoFar.{known_of}
+unfoldable pub use Rattle.tnc_forms.specs.Pcm.{pcm}
 pub use Rattle.tnc_forms.specs.Reading.{input_limit}
 pub use Rattle.tnc_forms.specs.declared.fault.Fault.TheVariants.{Input}
 pub use Rattle.tnc_forms.specs.declared.fault.InputFault.{InputFault}

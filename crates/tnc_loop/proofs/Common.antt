@@ -1,6 +1,7 @@
 -- The names that most proofs of this crate cite, passed on from one place.
-pub use Rattle.afsk_modulator.specs.Signal.{Transmission, samples_of, signal}
-pub use Rattle.afsk_modulator.specs.Transmission.{transmission_at}
+unfoldable pub use Rattle.afsk_modulator.specs.Signal.{signal}
+pub use Rattle.afsk_modulator.specs.Signal.{Transmission, samples_of}
+unfoldable pub use Rattle.afsk_modulator.specs.Transmission.{transmission_at}
 pub use Rattle.channel_access.specs.Words.{words}
 pub use Rattle.clean_signal.proofs.WaveLemmas.{length-samples_of}
 pub use Rattle.clean_signal.specs.GoodTransmission.{frames_of, sample_count}
@@ -25,13 +26,15 @@ pub use Rattle.std.proofs.lemmas.List.Concat.{flat_map-cons}
 pub use Rattle.std.specs.List.{All, concat, flat_map}
 pub use Rattle.std.specs.Prelude.{not}
 pub use Rattle.tnc_base.specs.Streams.{WrotePart}
-pub use Rattle.tnc_loop.specs.Drawn.{Heard, all_heard, behind_heard, behind_transmission, drawn, heard_drawn, heard_of}
-pub use Rattle.tnc_loop.specs.Drawn.{length_drawn, octets_drawn, received_drawn, samples_drawn, transmission_drawn}
+unfoldable pub use Rattle.tnc_loop.specs.Drawn.{behind_heard, behind_transmission, drawn, heard_drawn, heard_of}
+unfoldable pub use Rattle.tnc_loop.specs.Drawn.{received_drawn, samples_drawn, transmission_drawn}
+pub use Rattle.tnc_loop.specs.Drawn.{Heard, all_heard, length_drawn, octets_drawn}
 pub use Rattle.tnc_loop.specs.Held.{HasFound, HasSent, drawn_as, sent_of}
-pub use Rattle.tnc_loop.specs.Rough.{behind_rough, exact_samples, level_drawn, noise_of, rough_received, rough_samples}
-pub use Rattle.tnc_loop.specs.Rough.{with_errors}
+unfoldable pub use Rattle.tnc_loop.specs.Rough.{behind_rough, rough_samples}
+pub use Rattle.tnc_loop.specs.Rough.{exact_samples, level_drawn, noise_of, rough_received, with_errors}
 pub use Rattle.tnc_loop.specs.Strays.{first_stray, strays}
-pub use Rattle.tnc_loop.specs.Summary.{IsSummary, summary}
+unfoldable pub use Rattle.tnc_loop.specs.Summary.{summary}
+pub use Rattle.tnc_loop.specs.Summary.{IsSummary}
 pub use Rattle.tnc_loop.specs.Words.{behind, loop_generator, word_at}
 pub use Rattle.tnc_loop.specs.declared.sending.Sent.{Sent}
 pub use Rattle.tnc_words.specs.declared.command.LoopWords.{LoopWords}

@@ -20,12 +20,12 @@ pub use Rattle.tnc_call.specs.declared.call_words.CallWords.{CallWords}
 pub use Rattle.tnc_decode.specs.Audio.{audio_fault, samples_read}
 pub use Rattle.tnc_decode.specs.Decoded.{IsDecoded}
 pub use Rattle.tnc_decode.specs.Modem.{AreHeard, modem_of}
-pub use Rattle.tnc_decode.specs.Printing.{print}
+unfoldable pub use Rattle.tnc_decode.specs.Printing.{print}
 pub use Rattle.tnc_decode.specs.declared.modem.Modem.{Modem}
 pub use Rattle.tnc_decode.specs.declared.modem.Modem.TheVariants.{Plain}
 pub use Rattle.tnc_encode.proofs.EndedLemmas.{fault_kept}
-pub use Rattle.tnc_encode.specs.Encoded.{encoded, encoded_before, fault_of_whole, first_of, keeps_frames, length_fault}
-pub use Rattle.tnc_encode.specs.Encoded.{samples_sent, transmissions}
+unfoldable pub use Rattle.tnc_encode.specs.Encoded.{encoded, encoded_before, fault_of_whole}
+pub use Rattle.tnc_encode.specs.Encoded.{first_of, keeps_frames, length_fault, samples_sent, transmissions}
 pub use Rattle.tnc_encode.specs.Frames.{frames_of_input}
 pub use Rattle.tnc_forms.specs.Reading.{input_limit}
 pub use Rattle.tnc_forms.specs.Taken.{WereRead}

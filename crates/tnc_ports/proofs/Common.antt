@@ -92,4 +92,5 @@ pub use Rattle.tnc_ports.specs.declared.serve_words.ServeWords.{ServeWords}
 pub use Rattle.tnc_ports.specs.declared.socket.Socket.{Socket}
 pub use Rattle.tnc_ports.specs.declared.turning.Turning.{Turning}
 pub use Rattle.tnc_ports.specs.declared.untaken.Untaken.{Untaken}
-pub use Rattle.wav_file.specs.Samples.{sample_of, samples}
+unfoldable pub use Rattle.wav_file.specs.Samples.{sample_of}
+pub use Rattle.wav_file.specs.Samples.{samples}

@@ -15,8 +15,8 @@ pub use Rattle.tnc_words.specs.Commands.{IsDecode, IsEncode, IsLoop, IsRecord, I
 pub use Rattle.tnc_words.specs.Entries.{with_entries}
 pub use Rattle.tnc_words.specs.Help.{IsHelp, IsVersion}
 pub use Rattle.tnc_words.specs.Numbers.{HasNumber}
-pub use Rattle.tnc_words.specs.Options.{bench_faults, call_faults, decode_faults, encode_faults, loop_faults}
-pub use Rattle.tnc_words.specs.Options.{record_faults, serve_faults, show_faults}
+unfoldable pub use Rattle.tnc_words.specs.Options.{bench_faults, call_faults, decode_faults, encode_faults, loop_faults}
+unfoldable pub use Rattle.tnc_words.specs.Options.{record_faults, serve_faults, show_faults}
 pub use Rattle.tnc_words.specs.Rates.{HasReceiving, samples_a_second}
 pub use Rattle.tnc_words.specs.Stations.{IsCallList}
 pub use Rattle.tnc_words.specs.declared.command.Command.{Command}

@@ -1,6 +1,7 @@
 -- The names that most proofs of this crate cite, passed on from one place.
 pub use Rattle.offset_slicers.proofs.DecisionLemmas.{unsigned_abs-product}
-pub use Rattle.offset_slicers.specs.Decision.{product_of, sum_below}
+unfoldable pub use Rattle.offset_slicers.specs.Decision.{sum_below}
+pub use Rattle.offset_slicers.specs.Decision.{product_of}
 pub use Rattle.std.proofs.Common.{FitsSigned, List, [], ap, arith, get_or, get_or-set_other, get_or-set_same, inl, inr}
 pub use Rattle.std.proofs.Common.{length, map, neg_ℤ, negsuc, of_z, pos, refl, replicate, rules, set, subst, suc, sym}
 pub use Rattle.std.proofs.Common.{to_z, unsigned_abs, w32, w64, zero, ℕ, ℤ, ◌%◌, ◌*ℤ◌, ◌*◌, ◌+ℤ◌, ◌+◌, ◌-ℤ◌, ◌-◌, ◌/◌}
@@ -13,9 +14,12 @@ pub use Rattle.std.specs.List.{All}
 pub use Rattle.std.specs.Prelude.{if◌then◌else◌, int_le}
 pub use Rattle.tone_table.specs.declared.tone.Tone.{Tone}
 pub use Rattle.tone_table.specs.declared.tone.Tone.TheVariants.{Mark, Space}
-pub use Rattle.tone_tracking.specs.Clock.{Clock, clock_after, next_clock}
-pub use Rattle.tone_tracking.specs.Correlation.{correlation, correlations, weight}
-pub use Rattle.tone_tracking.specs.Heard.{ahead, decided, largest, open_of, passed, past_at, places_in, tone_at}
+unfoldable pub use Rattle.tone_tracking.specs.Clock.{clock_after}
+pub use Rattle.tone_tracking.specs.Clock.{Clock, next_clock}
+unfoldable pub use Rattle.tone_tracking.specs.Correlation.{correlation, weight}
+pub use Rattle.tone_tracking.specs.Correlation.{correlations}
+unfoldable pub use Rattle.tone_tracking.specs.Heard.{decided, past_at, tone_at}
+pub use Rattle.tone_tracking.specs.Heard.{ahead, largest, open_of, passed, places_in}
 pub use Rattle.tone_tracking.specs.HeldLists.{HasSamples, HasTaken, HeldLists}
 pub use Rattle.tone_tracking.specs.HeldTracker.{HeldTracker, StandsFor, tone_before}
 pub use Rattle.tone_tracking.specs.PairSums.{AreSmall, in_pairs, pairs_of_products}
