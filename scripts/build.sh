@@ -1,7 +1,7 @@
 #!/usr/bin/env bash
-# Proves and builds the program, and puts it at bin/tnc. Where a folder is named, it is installed there as tnc; where a
-# prefix is named, at DIR/bin/tnc, with the manual page at DIR/share/man/man1/tnc.1 and the service of systemd at
-# DIR/lib/systemd/system/tnc.service.
+# Proves and builds the program, tells how far that is, and puts the program at bin/tnc. Where a folder is named, it is
+# installed there as tnc; where a prefix is named, at DIR/bin/tnc, with the manual page at DIR/share/man/man1/tnc.1 and the
+# service of systemd at DIR/lib/systemd/system/tnc.service.
 #   scripts/build.sh [FOLDER]
 #   scripts/build.sh --prefix DIR
 set -euo pipefail
@@ -21,7 +21,7 @@ case "${1:-}" in
         ;;
 esac
 command -v rt >/dev/null || { echo "build.sh: there is no rt: Rattle's kit is wanted" >&2; exit 1; }
-(cd crates/tnc_main && rt run -- decode </dev/null >&2)
+scripts/prove_program.py
 install -D -m 755 crates/tnc_main/out/tnc_main "$target/tnc"
 if [ -n "$prefix" ]; then
     install -D -m 644 man/tnc.1 "$prefix/share/man/man1/tnc.1"
