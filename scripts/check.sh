@@ -491,6 +491,7 @@ check "the manual page and the program agree" scripts/check_manual.sh "$tnc"
 if has python3; then
     check "the documents show what the program prints" scripts/check_readme.py "$tnc"
     check "the files to believe are those that the contracts name" scripts/trust_table.py --check
+    check "what the documents name is there" scripts/check_docs.py "$tnc"
     check "scores within their bounds" scripts/scores.py --check --tnc "$tnc"
 else
     skip "the documents show what the program prints" python3
