@@ -60,9 +60,11 @@ Asks turn steps after = AllOfNone steps
 asks_kept : (chosen : Choice) → KeptByAll chosen OfNone Asks
 asks_kept chosen = record {
   kept = record {
-    same = λ t. tt;
-    on = λ t u v. each_append OfNoHost;
-    events = λ key event t none. event_asks chosen None key event t (of_none event none);
+    by_events = record {
+      same = λ t. tt;
+      on = λ t u v. each_append OfNoHost;
+      events = λ key event t none. event_asks chosen None key event t (of_none event none);
+    };
     called = λ id key message route t none. absurd none;
     replies = λ id message t other. tt;
     registers = λ call id t. tt;
@@ -125,7 +127,7 @@ turn_asks chosen (OffAir octets) before after turn none =
     heard_asks chosen octets (shown_to_hosts turn.path octets turn.monitored before)
     (λ any. heard_steps any octets before after turn) after (heard_as octets before after turn)
 turn_asks chosen (OfClock busy) before after turn none =
-    ticks_kept chosen OfNone Asks (asks_kept chosen).kept tt before
+    ticks_kept chosen OfNone Asks (asks_kept chosen).kept.by_events tt before
 
 pub hosts_ask_nothing_holds : HostsAskNothing
 hosts_ask_nothing_holds chosen step none =

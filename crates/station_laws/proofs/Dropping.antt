@@ -156,9 +156,11 @@ queueing_joins link octets turn = go (nat_lt (length turn.now.channel.waiting) c
 joins_kept : (chosen : Choice) → KeptByAll chosen NotHeard Joins
 joins_kept chosen = record {
   kept = record {
-    same = λ turn. same_joins turn turn refl;
-    on = joins_on;
-    events = λ key event turn may. event_joins chosen None key event turn;
+    by_events = record {
+      same = λ turn. same_joins turn turn refl;
+      on = joins_on;
+      events = λ key event turn may. event_joins chosen None key event turn;
+    };
     called = λ host key message route turn may is room new.
         made_joins chosen (path_along route) key host (called_pid message) route.local route.remote LinkConnect turn;
     replies = λ host message turn other. same_joins turn (replying host message turn) refl;
@@ -203,7 +205,7 @@ turn_joins chosen (OffAir octets) before after turn = λ nothing_lost.
 turn_joins chosen (OfClock busy) before after turn = λ nothing_lost.
     let ticked : (ticking busy turn.monitored before).now.dropped ≡ 0 =
     ap (λ (t : Turn). t.now.dropped) (sym turn.effect) ∙ nothing_lost in
-    ticks_kept chosen NotHeard Joins (joins_kept chosen).kept tt before ticked
+    ticks_kept chosen NotHeard Joins (joins_kept chosen).kept.by_events tt before ticked
 
 pub record DropsNothing (chosen : Choice) (step : Step) : Type 0 where
   pub before : step.before.dropped ≡ 0

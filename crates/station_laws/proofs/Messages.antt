@@ -97,9 +97,11 @@ called_goes s e back id key message route turn is may new w H =
 goes_kept : (s : Setting) (e : End) (back : List Tagged) → KeptByAll (meant s) NotHeard (Goes s e back)
 goes_kept s e back = record {
   kept = record {
-    same = λ t w H. (H, tt);
-    on = goes_on s e back;
-    events = λ key event t asked. act_goes s e back key event t asked;
+    by_events = record {
+      same = λ t w H. (H, tt);
+      on = goes_on s e back;
+      events = λ key event t asked. act_goes s e back key event t asked;
+    };
     called = λ id key message route t may. called_goes s e back id key message route t;
     replies = λ id message t other. still_goes s e back t (replying id message t)
         (record { links = refl; parameters = refl; queued = refl });
@@ -123,4 +125,4 @@ host_goes s e back event before after h =
 
 pub ticks_go : (s : Setting) (e : End) (back : List Tagged) (turn : Turn)
     → Goes s e back turn (tick_steps (meant s) turn) (ticking_links turn)
-ticks_go s e back turn = ticks_kept (meant s) NotHeard (Goes s e back) (goes_kept s e back).kept tt turn
+ticks_go s e back turn = ticks_kept (meant s) NotHeard (Goes s e back) (goes_kept s e back).kept.by_events tt turn

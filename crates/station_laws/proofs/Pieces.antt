@@ -126,9 +126,11 @@ queueing_tells id link octets turn =
 tells_kept : (id : ℕ) → KeptByAll is_some NotHeard (Tells id)
 tells_kept id = record {
   kept = record {
-    same = same_told id;
-    on = tells_on id;
-    events = λ key event t may. event_tells id None key event t;
+    by_events = record {
+      same = same_told id;
+      on = tells_on id;
+      events = λ key event t may. event_tells id None key event t;
+    };
     called = λ host key message route t may is room new.
         made_tells id (path_along route) key host (called_pid message) route.local route.remote LinkConnect t;
     replies = reply_told id;
@@ -246,7 +248,7 @@ turn_tells id (OffAir octets) before after turn agw =
 turn_tells id (OfClock busy) before after turn agw =
     subst (Tells id before (tick_steps is_some before)) (sym turn.effect)
     (monitors_told id true (ticking_links before).now.ticks turn.monitored (ticking_links before)
-    ∙ ticks_kept is_some NotHeard (Tells id) (tells_kept id).kept tt before)
+    ∙ ticks_kept is_some NotHeard (Tells id) (tells_kept id).kept.by_events tt before)
 
 pub programs_are_told_holds : ProgramsAreTold
 programs_are_told_holds step id agw =

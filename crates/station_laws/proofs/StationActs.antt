@@ -81,12 +81,16 @@ any_may_come (Left id) s = tt
 abbrev pub IsNoLinks : AgwMessage → Type 0
 IsNoLinks message = ((message.kind == connect_kind) || (message.kind == data_kind)) ≡ false
 
--- what is kept by the events of links that have one of these causes, by replies, and by registrations
-pub record Kept (chosen : Choice) (P : Cause → Type 0) (R : Turn → List LinkStep → Turn → Type 0) : Type 0 where
+-- what is kept by the events of links that have one of these causes
+pub record KeptByEvents (chosen : Choice) (P : Cause → Type 0) (R : Turn → List LinkStep → Turn → Type 0) : Type 0 where
   pub same : (t : Turn) → R t [] t
   pub on : (t u v : Turn) (first second : List LinkStep) → R t first u → R u second v → R t (first ++ second) v
   pub events : (key : ℕ) (event : Event) (t : Turn) → P (cause_of event)
       → R t (steps_at chosen None key event t) (event_at key event t)
+
+-- what is also kept by calls, replies and registrations
+pub record Kept (chosen : Choice) (P : Cause → Type 0) (R : Turn → List LinkStep → Turn → Type 0) : Type 0 where
+  pub by_events : KeptByEvents chosen P R
   -- a link is made and called
   pub called : (id key : ℕ) (message : AgwMessage) (route : Route) (t : Turn) → P connecting
       → called_route message ≡ Some route → may_call id route t.now ≡ true → IsNewKey key t.now.links
@@ -126,24 +130,36 @@ by_kind Q k c x y same other = go (k == c) refl
 abbrev choice : ℕ → (data_list end_list : List LinkStep) → List LinkStep
 choice k data_list end_list = cond (k == data_kind) data_list (cond (k == disconnect_kind) end_list [])
 
+module _ (chosen : Choice) (P : Cause → Type 0) (R : Turn → List LinkStep → Turn → Type 0) (k : KeptByEvents chosen P R)
+  where
+    pub along :
+        {A : Type 0} (act : A → Act) (found : A → Turn → List LinkStep)
+        → ((item : A) (t : Turn) → R t (found item t) (act item t)) → (items : List A) (t : Turn)
+        → R t (steps_along act found items t) (in_order (map act items) t)
+    along act found each [] t = k.same t
+    along act found each (item ∷ items) t =
+        k.on t (act item t) (in_order (map act items) (act item t)) (found item t)
+        (steps_along act found items (act item t)) (each item t) (along act found each items (act item t))
+
+    pub ticks_kept : P ticking → (t : Turn) → R t (tick_steps chosen t) (ticking_links t)
+    unfolding ticking_links
+    ticks_kept may t =
+        along ticking_at (ticks_at chosen) (λ key u. k.events key (Tick (waits key u.now.channel.waiting)) u may)
+        (range_with_len 0 most_links) t
+
+    pub data_kept : P sending → (message : AgwMessage) (key : Option ℕ) (t : Turn)
+        → R t (data_steps chosen message key t) (giving message key t)
+    data_kept may message None t = k.same t
+    data_kept may message (Some key) t =
+        along (giving_packet key) (sends_at chosen key) (λ packet u. k.events key (Send packet) u may)
+        (packets_of (data_pid message.pid (link_at key t.now.links)) message.body) t
+
+    pub disconnect_kept : P disconnecting → (key : Option ℕ) (t : Turn)
+        → R t (disconnect_steps chosen key t) (disconnecting_act key t)
+    disconnect_kept may None t = k.same t
+    disconnect_kept may (Some key) t = k.events key Disconnect t may
+
 module _ (chosen : Choice) (P : Cause → Type 0) (R : Turn → List LinkStep → Turn → Type 0) (k : Kept chosen P R) where
-  pub along :
-      {A : Type 0} (act : A → Act) (found : A → Turn → List LinkStep)
-      → ((item : A) (t : Turn) → R t (found item t) (act item t)) → (items : List A) (t : Turn)
-      → R t (steps_along act found items t) (in_order (map act items) t)
-  along act found each [] t = k.same t
-  along act found each (item ∷ items) t =
-      k.on t (act item t) (in_order (map act items) (act item t)) (found item t)
-      (steps_along act found items (act item t)) (each item t) (along act found each items (act item t))
-
-  pub ticks_kept : P ticking → (t : Turn) → R t (tick_steps chosen t) (ticking_links t)
-  unfolding ticking_links
-  ticks_kept may t =
-      along ticking_at (ticks_at chosen) (λ key u. k.events key (Tick (waits key u.now.channel.waiting)) u may)
-      (range_with_len 0 most_links) t
-
-  -- ---- X, C, v, c, D and d
-
   pub registering_kept : (id : ℕ) (from : List ℕ) (call : Option Callsign) (t : Turn)
       → R t [] (registering id from call t)
   registering_kept id from None t = k.replies id (register_reply from false) t refl
@@ -154,7 +170,7 @@ module _ (chosen : Choice) (P : Cause → Type 0) (R : Turn → List LinkStep �
 
       go : (b : Bool) → R t [] (cond b (replying id (register_reply from true) with_call)
           (replying id (register_reply from false) t))
-      go true = k.on t with_call (replying id (register_reply from true) with_call) [] [] (k.registers call id t)
+      go true = k.by_events.on t with_call (replying id (register_reply from true) with_call) [] [] (k.registers call id t)
           (k.replies id (register_reply from true) with_call refl)
       go false = k.replies id (register_reply from false) t refl
 
@@ -177,23 +193,11 @@ module _ (chosen : Choice) (P : Cause → Type 0) (R : Turn → List LinkStep �
   call_kept id message (Some route) t u by is h =
       made_kept id message route (may_call id route t.now) t u by is refl h
 
-  pub data_kept : P sending → (message : AgwMessage) (key : Option ℕ) (t : Turn)
-      → R t (data_steps chosen message key t) (giving message key t)
-  data_kept may message None t = k.same t
-  data_kept may message (Some key) t =
-      along (giving_packet key) (sends_at chosen key) (λ packet u. k.events key (Send packet) u may)
-      (packets_of (data_pid message.pid (link_at key t.now.links)) message.body) t
-
-  pub disconnect_kept : P disconnecting → (key : Option ℕ) (t : Turn)
-      → R t (disconnect_steps chosen key t) (disconnecting_act key t)
-  disconnect_kept may None t = k.same t
-  disconnect_kept may (Some key) t = k.events key Disconnect t may
-
 module _ (chosen : Choice) (P : Cause → Type 0) (R : Turn → List LinkStep → Turn → Type 0) (a : KeptByAll chosen P R)
   where
     -- what follows an act that is no event
     after_act : (t u v : Turn) (steps : List LinkStep) → R t [] u → R u steps v → R t steps v
-    after_act t u v steps one two = a.kept.on t u v [] steps one two
+    after_act t u v steps one two = a.kept.by_events.on t u v [] steps one two
 
     -- ---- a host program leaves
 
@@ -207,12 +211,12 @@ module _ (chosen : Choice) (P : Cause → Type 0) (R : Turn → List LinkStep �
         by_owner link at true =
             let given = changing (with_links (with_link key (without_owner link))) t in
             after_act t given (event_at key Disconnect given) (steps_at chosen None key Disconnect given)
-            (a.disowns key link t at) (a.kept.events key Disconnect given by)
-        by_owner link at false = a.kept.same t
+            (a.disowns key link t at) (a.kept.by_events.events key Disconnect given by)
+        by_owner link at false = a.kept.by_events.same t
 
         by_place : (place : Option Link) → link_at key t.now.links ≡ place
             → R t (given_up chosen id key place t) (giving_up_link id key place t)
-        by_place None at = a.kept.same t
+        by_place None at = a.kept.by_events.same t
         by_place (Some link) at = by_owner link at (is_number id link.owner)
 
     leaving_kept : P disconnecting → (id : ℕ) (t : Turn) → R t (leaving_steps chosen id t) (leaving id t)
@@ -221,7 +225,7 @@ module _ (chosen : Choice) (P : Cause → Type 0) (R : Turn → List LinkStep �
         let left = changing (without_host id) t in
         after_act t left (leaving id t) (leaving_steps chosen id t)
         (a.changes (without_host id t.now) t (record { links = refl; parameters = refl; dropped = refl }))
-        (along chosen P R a.kept (giving_up id) (gives_up_at chosen id) (gives_up_kept by id)
+        (along chosen P R a.kept.by_events (giving_up id) (gives_up_at chosen id) (gives_up_kept by id)
         (range_with_len 0 most_links) left)
 
     -- ---- other messages
@@ -231,11 +235,11 @@ module _ (chosen : Choice) (P : Cause → Type 0) (R : Turn → List LinkStep �
       where
         go : (b : Bool) → R t [] ((if b then queueing None octets else (λ u. u)) t)
         go true = a.queues octets t
-        go false = a.kept.same t
+        go false = a.kept.by_events.same t
 
     unnumbered_kept : (pid : ℕ) (information : List ℕ) (route : Option Route) (t : Turn)
         → R t [] (sending_unnumbered pid information route t)
-    unnumbered_kept pid information None t = a.kept.same t
+    unnumbered_kept pid information None t = a.kept.by_events.same t
     unnumbered_kept pid information (Some route) t = go (nat_le (length information) most_information)
       where
         frame : List ℕ
@@ -243,10 +247,10 @@ module _ (chosen : Choice) (P : Cause → Type 0) (R : Turn → List LinkStep �
 
         go : (b : Bool) → R t [] ((if b then queueing None frame else (λ u. u)) t)
         go true = a.queues frame t
-        go false = a.kept.same t
+        go false = a.kept.by_events.same t
 
     unregistering_kept : (id : ℕ) (call : Option Callsign) (t : Turn) → R t [] (unregistering id call t)
-    unregistering_kept id None t = a.kept.same t
+    unregistering_kept id None t = a.kept.by_events.same t
     unregistering_kept id (Some call) t =
         a.changes (unregistering id (Some call) t).now t (record { links = refl; parameters = refl; dropped = refl })
 
@@ -280,17 +284,17 @@ module _ (chosen : Choice) (P : Cause → Type 0) (R : Turn → List LinkStep �
         by_kind Q n unproto_via_kind _ _ (chosen_as unproto_via_kind _
         (unnumbered_kept message.pid (behind_repeaters message.body)
         (route_in message.from message.to (repeaters_in message.body)) t)) (λ n9.
-        by_kind Q n data_kind _ _ (chosen_as data_kind _ (data_kept chosen P R a.kept may.give message key t))
+        by_kind Q n data_kind _ _ (chosen_as data_kind _ (data_kept chosen P R a.kept.by_events may.give message key t))
         (λ no_data.
         by_kind Q n disconnect_kind _ _ (λ is. chosen_as disconnect_kind _
-        (disconnect_kept chosen P R a.kept (may.end (ap (λ m. m == disconnect_kind) is)) key t) is) (λ no_end.
+        (disconnect_kept chosen P R a.kept.by_events (may.end (ap (λ m. m == disconnect_kind) is)) key t) is) (λ no_end.
         by_kind Q n pending_kind _ _
         (reply pending_kind (pending_reply message (pending_in message t.now.links)) refl refl) (λ n10.
         by_kind Q n waiting_kind _ _
         (reply waiting_kind (waiting_reply (length t.now.channel.waiting)) refl refl) (λ n11.
         subst (λ steps. R t steps t)
         (sym (cond-false (n == data_kind) xs (cond (n == disconnect_kind) ys []) no_data
-        ∙ cond-false (n == disconnect_kind) ys [] no_end)) (a.kept.same t)))))))))))))))
+        ∙ cond-false (n == disconnect_kind) ys [] no_end)) (a.kept.by_events.same t)))))))))))))))
 
     answer_kept :
         (id : ℕ) (message : AgwMessage) (calling : Bool) (t u : Turn) → calls message ≡ calling → MayAsk P message
@@ -304,15 +308,15 @@ module _ (chosen : Choice) (P : Cause → Type 0) (R : Turn → List LinkStep �
     messages_kept :
         (id : ℕ) (messages : List AgwMessage) (t u : Turn) → Each (MayAsk P) messages → (h : AreAnswered id messages t u)
         → R t (message_steps chosen id messages t u h) u
-    messages_kept id [] t u may h = subst (R t []) (sym h) (a.kept.same t)
+    messages_kept id [] t u may h = subst (R t []) (sym h) (a.kept.by_events.same t)
     messages_kept id (message ∷ messages) t u may h =
-        a.kept.on t h.0 u (answer_steps chosen id message (calls message) t h.0 h.1)
+        a.kept.by_events.on t h.0 u (answer_steps chosen id message (calls message) t h.0 h.1)
         (message_steps chosen id messages h.0 u h.2) (answer_kept id message (calls message) t h.0 refl may.0 h.1)
         (messages_kept id messages h.0 u may.1 h.2)
 
     ending_kept : (id : ℕ) (len : Option ℕ) (t : Turn) → (is_some len ≡ true → P disconnecting)
         → R t (ending_steps chosen id len t) (ending id len t)
-    ending_kept id None t may = a.kept.same t
+    ending_kept id None t may = a.kept.by_events.same t
     ending_kept id (Some len) t may =
         after_act t (closing id t) (ending id (Some len) t) (ending_steps chosen id (Some len) t) (a.closes id t)
         (leaving_kept (may refl) id (closing id t))
@@ -324,7 +328,7 @@ module _ (chosen : Choice) (P : Cause → Type 0) (R : Turn → List LinkStep �
       where
         go : (b : Bool) → R t [] (cond b (act t) t)
         go true = h
-        go false = a.kept.same t
+        go false = a.kept.by_events.same t
 
     heeding_kept : (item : KissItem) (t : Turn) → R t [] (heeding item t)
     heeding_kept (KissFrame port octets) t = on_port_kept port (queueing_raw octets) t (raw_kept octets t)
@@ -332,13 +336,13 @@ module _ (chosen : Choice) (P : Cause → Type 0) (R : Turn → List LinkStep �
         on_port_kept port (changing (with_param (param_of command value))) t
         (a.changes (with_param (param_of command value) t.now) t
         (record { links = refl; parameters = refl; dropped = refl }))
-    heeding_kept (Hardware port octets) t = a.kept.same t
-    heeding_kept Return t = a.kept.same t
-    heeding_kept (TooLong port) t = a.kept.same t
-    heeding_kept (Other port command) t = a.kept.same t
+    heeding_kept (Hardware port octets) t = a.kept.by_events.same t
+    heeding_kept Return t = a.kept.by_events.same t
+    heeding_kept (TooLong port) t = a.kept.by_events.same t
+    heeding_kept (Other port command) t = a.kept.by_events.same t
 
     heeding_all_kept : (items : List KissItem) (t : Turn) → R t [] (heeding_all items t)
-    heeding_all_kept [] t = a.kept.same t
+    heeding_all_kept [] t = a.kept.by_events.same t
     heeding_all_kept (item ∷ items) t =
         after_act t (heeding item t) (heeding_all items (heeding item t)) [] (heeding_kept item t)
         (heeding_all_kept items (heeding item t))
@@ -365,14 +369,14 @@ module _ (chosen : Choice) (P : Cause → Type 0) (R : Turn → List LinkStep �
         let left = ending_steps chosen connection.id len h.0 in
         subst (R t (said ++ left)) (sym h.2) (after_act t took (ending connection.id len h.0) (said ++ left)
         (taking_kept connection.id octets t)
-        (a.kept.on took h.0 (ending connection.id len h.0) said left
+        (a.kept.by_events.on took h.0 (ending connection.id len h.0) said left
         (messages_kept connection.id messages took h.0 may.0 h.1)
         (ending_kept connection.id len h.0 may.1)))
 
     octets_kept :
         (connection : Option Connection) (octets : List ℕ) (t u : Turn) → MayTake P connection octets
         → (h : AreTaken connection octets t u) → R t (octet_steps chosen connection octets t u h) u
-    octets_kept None octets t u may h = subst (R t []) (sym h) (a.kept.same t)
+    octets_kept None octets t u may h = subst (R t []) (sym h) (a.kept.by_events.same t)
     octets_kept (Some connection) octets t u may h = octets_kept_by connection.kind connection octets t u may h
 
     joining_kept : (id : ℕ) (kind : PortKind) (t : Turn) → R t [] (joining id kind t)
