@@ -28,11 +28,12 @@ use Rattle.channel_bench.proofs.KeyedSteps.{Finds, call_finds, data_keyed, disco
 use Rattle.channel_bench.proofs.KeyedSteps.{ticks_find}
 use Rattle.station_laws.proofs.LinkDid.{IsOfLink}
 use Rattle.channel_bench.proofs.OneKey.{HasKey, IsKeyed, Keyed}
-use Rattle.channel_bench.proofs.OwnLinks.{Cause, IsBy, IsUnshown, OwnsAll, cause_of, chosen}
-use Rattle.channel_bench.proofs.OwnLinks.Cause.{disconnecting, nothing, sending}
+use Rattle.channel_bench.proofs.OwnLinks.{IsBy, IsUnshown, OwnsAll, chosen}
 use Rattle.channel_bench.proofs.OwnMessages.{Comes, IsHeardFrom, IsRefusable, called, cause_in, said_go, usual_comes}
 use Rattle.channel_bench.proofs.OwnMessages.Comes.{by_link, joined, refused, replied}
 use Rattle.channel_bench.proofs.ProgramsAsk.{between_written, registers_written}
+use Rattle.station_laws.proofs.Causes.{Cause, cause_of}
+use Rattle.station_laws.proofs.Causes.Cause.{nothing, sending, disconnecting}
 
 -- ---- a tick of the channel
 

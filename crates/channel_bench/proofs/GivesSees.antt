@@ -23,7 +23,6 @@ use Rattle.channel_bench.proofs.HostsStay.{HasHosts}
 use Rattle.channel_bench.proofs.LinkNow.{GivenUp, Known, LinkNow, first_machine, link_chain, link_now, links_of}
 use Rattle.channel_bench.proofs.NextSees.{BothSee, noted_step, own_events, own_queue}
 use Rattle.channel_bench.proofs.OwnLinks.{chosen, messages_of}
-use Rattle.channel_bench.proofs.OwnLinks.Cause.{sending}
 use Rattle.channel_bench.proofs.OwnMessages.{Comes, usual_comes}
 use Rattle.channel_bench.proofs.OwnMessages.Comes.{by_link, joined, refused, replied}
 use Rattle.channel_bench.proofs.ProgramSees.{GaveAllIn, Sees, send_sees}
@@ -33,6 +32,7 @@ use Rattle.channel_bench.proofs.SideSees.{SideSees, asked_kept, called_kept, lin
 use Rattle.channel_bench.proofs.SideSees.{side_after}
 use Rattle.channel_bench.proofs.StepSees.{SeesAt, far_sees, queue_of, step_laws, unshown_of}
 use Rattle.channel_bench.proofs.ThereStays.{HasProgram, is_there, there_grows}
+use Rattle.station_laws.proofs.Causes.Cause.{sending}
 
 -- ---- the piece
 

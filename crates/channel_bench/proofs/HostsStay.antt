@@ -11,7 +11,7 @@ use Rattle.std.specs.List.{AllByRecursion as Each}
 use Rattle.station.specs.Kiss.{heeding_all, param_of, with_param}
 use Rattle.channel_bench.proofs.HostStreams.{IsSetting, IsWhole, none_bad, one_new, one_setting, setting_more}
 use Rattle.channel_bench.proofs.HostStreams.{whole_more}
-use Rattle.channel_bench.proofs.TurnWalks.{Kept, kept_by_acts}
+use Rattle.channel_bench.proofs.TurnWalks.{KeptByTurns}
 
 -- ---- the connections
 
@@ -36,16 +36,18 @@ pub record SameHosts (before after : Turn) : Type 0 where
   pub connections : after.now.connections ≡ before.now.connections
   pub digi : after.now.digi ≡ before.now.digi
 
-pub same_hosts : Kept SameHosts
-same_hosts = kept_by_acts SameHosts (record {
-  same = λ t. record { connections = refl; digi = refl };
-  on = λ t u v h k. record { connections = k.connections ∙ h.connections; digi = k.digi ∙ h.digi };
-  tells = λ t pieces. record { connections = refl; digi = refl };
-  links = λ change t. record { connections = refl; digi = refl };
-  enters = λ key octets t. record { connections = refl; digi = refl };
-  drops = λ t. record { connections = refl; digi = refl };
+pub same_hosts : KeptByTurns SameHosts
+same_hosts = record {
+  acts = record {
+    same = λ t. record { connections = refl; digi = refl };
+    on = λ t u v h k. record { connections = k.connections ∙ h.connections; digi = k.digi ∙ h.digi };
+    tells = λ t pieces. record { connections = refl; digi = refl };
+    links = λ change t. record { connections = refl; digi = refl };
+    enters = λ key octets t. record { connections = refl; digi = refl };
+    drops = λ t. record { connections = refl; digi = refl };
+  };
   registers = λ call id t. record { connections = refl; digi = refl };
-})
+}
 
 pub still_has : (before after : Turn) → SameHosts before after → HasHosts before.now → HasHosts after.now
 still_has before after same h =

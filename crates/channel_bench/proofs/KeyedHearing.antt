@@ -1,20 +1,17 @@
 -- When A's station in a bench hears a frame, all frames that wait there keep one key, and its link has no other event.
-use Rattle.channel_bench.proofs.Common.{◌≡◌, ℕ, Bool, true, false, List, [], ◌∷◌, map, cond, Option, Some, None}
-use Rattle.channel_bench.proofs.Common.{is_none, refl, sym, ap, ◌∙◌, subst, ⊤, MatchBool, Callsign, way_back, Path}
-use Rattle.channel_bench.proofs.Common.{Command, Frame, A, B, Connection, AreOctetsHeard, IsHeard, IsHeardAnew}
-use Rattle.channel_bench.proofs.Common.{IsHeardBy, IsHeardMaking, IsReadingHeardAnew, IsRepeatedFor, destination_field}
-use Rattle.channel_bench.proofs.Common.{may_make, showing_to, shown_to_hosts, source_field, waits_for_repeater, Link}
-use Rattle.channel_bench.proofs.Common.{key_between, link_at, making, no_layer_3, registrar, StationState, Turn}
-use Rattle.channel_bench.proofs.Common.{in_order, call_at, LinkStep, anew_steps, by_path_steps, heard_steps, hears_at}
-use Rattle.channel_bench.proofs.Common.{key_steps, link_step, new_steps, path_steps, reading_steps, steps_at, steps_for}
+use Rattle.channel_bench.proofs.Common.{◌≡◌, ℕ, Bool, true, false, List, [], ◌∷◌, cond, Option, Some, None, is_none}
+use Rattle.channel_bench.proofs.Common.{sym, ap, ◌∙◌, subst, ⊤, Callsign, way_back, Path, Command, Frame, A, B, IsHeard}
+use Rattle.channel_bench.proofs.Common.{shown_to_hosts, Link, key_between, link_at, no_layer_3, StationState, Turn}
+use Rattle.channel_bench.proofs.Common.{call_at, LinkStep, heard_steps, link_step, steps_at, steps_for, Choice}
 use Rattle.std.specs.List.{AllByRecursion as Each}
 use Rattle.link_machine.specs.Event.{Event as LinkEvent}
 use Rattle.link_machine.specs.Event.Event.{Connect as LinkConnect, Send as LinkSend, Disconnect as LinkDisconnect}
 use Rattle.link_machine.specs.Event.Event.{Hear as LinkHear, Tick as LinkTick}
-use Rattle.station.specs.Heard.{AreHeardAt, IsPathOf, hearing_at}
 use Rattle.channel_bench.proofs.KeyedSteps.{none_there}
 use Rattle.channel_bench.proofs.OneKey.{HasNoLinks, Keyed, event_keyed, made_keyed}
 use Rattle.channel_bench.proofs.OwnLinks.{IsFromPartner, OwnsAll, chosen}
+use Rattle.station_laws.proofs.HeardAs.{Heard, heard_as, only_shows, made_for}
+use Rattle.station_laws.proofs.HeardAs.Heard.{passes, repeats, hears, hears_new}
 
 -- an event by which a link hears a frame
 abbrev pub IsHearing : LinkEvent → Type 0
@@ -43,92 +40,38 @@ event_hears anew key frame t = by_place (link_at key t.now.links)
     by_place None = tt
     by_place (Some link) = by_choice link (chosen A (Some link))
 
-same_hears : (t u : Turn) → u ≡ t → Keyed t.now → HearsOnly u []
-same_hears t u is keyed = (subst (λ (v : Turn). Keyed v.now) (sym is) keyed, tt)
-
--- ---- a link that is made for it
-
-new_hears :
-    (id : ℕ) (frame : Frame) (may : Bool) (t u : Turn) → HasNoLinks t.now.links → Keyed t.now
-    → (h : MatchBool may (IsHeardMaking id frame t u) (u ≡ t)) → HearsOnly u (new_steps (chosen A) id frame may t u h)
-new_hears id frame true t u none keyed h =
-    let path = way_back frame.path Command in
-    let made = making h.0 id no_layer_3 frame.path.dest frame.path.source path t in (
-      subst (λ (v : Turn). Keyed v.now) (sym h.2) (event_keyed h.0 (LinkHear frame) made
-          (made_keyed h.0 id no_layer_3 frame.path.dest frame.path.source path t h.1 none keyed)),
-      event_hears (Some path) h.0 frame made,
-    )
-new_hears id frame false t u none keyed h = same_hears t u h keyed
-
-anew_hears :
-    (registered : Option ℕ) (frame : Frame) (t u : Turn) → HasNoLinks t.now.links → Keyed t.now
-    → (h : IsHeardAnew registered frame t u) → HearsOnly u (anew_steps (chosen A) registered frame t u h)
-anew_hears None frame t u none keyed h = same_hears t u h keyed
-anew_hears (Some id) frame t u none keyed h = new_hears id frame (may_make frame.kind t.now.links) t u none keyed h
-
-reading_hears :
-    (reading : Option Frame) (t u : Turn) → HasNoLinks t.now.links → Keyed t.now → (h : IsReadingHeardAnew reading t u)
-    → HearsOnly u (reading_steps (chosen A) reading t u h)
-reading_hears None t u none keyed h = same_hears t u h keyed
-reading_hears (Some frame) t u none keyed h =
-    anew_hears (registrar frame.path.dest t.now.registrations) frame t u none keyed h
-
--- ---- the link that is there
-
-at_key_hears : (key : ℕ) (reading : Option Frame) (t : Turn) → Keyed t.now
-    → HearsOnly (hearing_at key reading t) (hears_at (chosen A) key reading t)
-at_key_hears key None t keyed = (keyed, tt)
-at_key_hears key (Some frame) t keyed =
-    (event_keyed key (LinkHear frame) t keyed, event_hears None key frame t)
-
-key_hears :
-    (key : Option ℕ) (octets : List ℕ) (t u : Turn) → (key ≡ None → HasNoLinks t.now.links) → Keyed t.now
-    → (h : AreHeardAt key octets t u) → HearsOnly u (key_steps (chosen A) key octets t u h)
-key_hears (Some key) octets t u none keyed h =
-    let made = at_key_hears key h.0 t keyed in
-    (subst (λ (v : Turn). Keyed v.now) (sym h.2) made.0, made.1)
-key_hears None octets t u none keyed h = reading_hears h.0 t u (none refl) keyed h.2
-
 -- ---- the frame
 
-repeated_hears : (digi : Option Callsign) (octets : List ℕ) (t u : Turn) → digi ≡ None → Keyed t.now
-    → IsRepeatedFor digi octets t u → HearsOnly u []
-repeated_hears None octets t u none keyed h = same_hears t u h keyed
-repeated_hears (Some call) octets t u none keyed h = absurd (cc)
+-- there is no link, if there is none between the calls of a frame
+none_between :
+    (path : Path) (s : StationState) → path.dest ≡ call_at A → path.source ≡ call_at B → OwnsAll A s
+    → key_between path.dest path.source s.links ≡ None → HasNoLinks s.links
+none_between path s dest source owns vacant =
+    none_there s owns
+    (subst (λ (r : Callsign). is_none (key_between (call_at A) r s.links) ≡ true) source
+    (subst (λ (l : Callsign). is_none (key_between l path.source s.links) ≡ true) dest (ap is_none vacant)))
 
-path_hears :
-    (path : Path) (waiting : Bool) (octets : List ℕ) (t u : Turn) → path.dest ≡ call_at A → path.source ≡ call_at B
-    → t.now.digi ≡ None → OwnsAll A t.now → Keyed t.now
-    → (h : MatchBool waiting (IsRepeatedFor t.now.digi octets t u) (AreOctetsHeard path octets t u))
-    → HearsOnly u (path_steps (chosen A) path waiting octets t u h)
-path_hears path true octets t u dest source digi owns keyed h = repeated_hears t.now.digi octets t u digi keyed h
-path_hears path false octets t u dest source digi owns keyed h =
-    key_hears (key_between path.dest path.source t.now.links) octets t u (λ vacant. none_there t.now owns
-    (subst (λ (r : Callsign). is_none (key_between (call_at A) r t.now.links) ≡ true) source
-    (subst (λ (l : Callsign). is_none (key_between l path.source t.now.links) ≡ true) dest (ap is_none vacant)))) keyed
-    h
-
-by_path_hears :
-    (path : Option Path) (octets : List ℕ) (t u : Turn) → IsPathOf octets path → t.now.digi ≡ None → OwnsAll A t.now
-    → IsFromPartner A octets → Keyed t.now → (h : IsHeardBy path octets t u)
-    → HearsOnly u (by_path_steps (chosen A) path octets t u h)
-by_path_hears None octets t u reading digi owns from keyed h = same_hears t u h keyed
-by_path_hears (Some path) octets t u reading digi owns from keyed h =
-    let calls = from path reading.0 reading.1 in
-    path_hears path (waits_for_repeater path) octets t u calls.0 calls.1 digi owns keyed h
-
--- what is shown to hosts changes no station
-shown_now : (from to octets : List ℕ) (connections : List Connection) (t : Turn)
-    → (in_order (map (showing_to from to octets) connections) t).now ≡ t.now
-shown_now from to octets [] t = refl
-shown_now from to octets (c ∷ connections) t = shown_now from to octets connections (showing_to from to octets c t)
+by_heard :
+    (octets : List ℕ) (t : Turn) (steps : Choice → List LinkStep) (u : Turn) → t.now.digi ≡ None → OwnsAll A t.now
+    → IsFromPartner A octets → Keyed t.now → Heard octets t steps u → HearsOnly u (steps (chosen A))
+by_heard octets t steps u digi owns from keyed passes = (keyed, tt)
+by_heard octets t steps u digi owns from keyed (repeats call k is) = absurd (cc)
+by_heard octets t steps u digi owns from keyed (hears key len path frame begins found is) =
+    (event_keyed key (LinkHear frame) t keyed, event_hears None key frame t)
+by_heard octets t steps u digi owns from keyed (hears_new key id frame is vacant known new) =
+    let way = way_back frame.path Command in
+    let calls = from frame.path is.len is.path in (
+      event_keyed key (LinkHear frame) (made_for key id frame t)
+          (made_keyed key id no_layer_3 frame.path.dest frame.path.source way t new
+          (none_between frame.path t.now calls.0 calls.1 owns vacant) keyed),
+      event_hears (Some way) key frame (made_for key id frame t),
+    )
 
 pub heard_hears :
     (octets : List ℕ) (t u : Turn) → t.now.digi ≡ None → OwnsAll A t.now → IsFromPartner A octets → Keyed t.now
     → (h : IsHeard octets t u) → HearsOnly u (heard_steps (chosen A) octets t u h)
 heard_hears octets t u digi owns from keyed h =
-    let shown = shown_to_hosts h.path octets h.monitored t in
-    let same : shown.now ≡ t.now =
-    shown_now (source_field h.path) (destination_field h.path) octets t.now.connections t in
-    by_path_hears h.path octets shown u h.reading (ap (λ (s : StationState). s.digi) same ∙ digi)
-    (subst (OwnsAll A) (sym same) owns) from (subst Keyed (sym same) keyed) h.effect
+    let same = (only_shows h.path octets h.monitored t).now in
+    by_heard octets (shown_to_hosts h.path octets h.monitored t) (λ any. heard_steps any octets t u h) u
+    (ap (λ (s : StationState). s.digi) same ∙ digi) (subst (OwnsAll A) (sym same) owns) from
+    (subst Keyed (sym same) keyed) (heard_as octets t u h)

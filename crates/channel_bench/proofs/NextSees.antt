@@ -12,8 +12,7 @@ use Rattle.channel_bench.proofs.CoreRun.Usual.{connects, disconnects, gives, hea
 use Rattle.channel_bench.proofs.CoreRun.Usual.{registers, sets_full, ticks}
 use Rattle.channel_bench.proofs.HostsStay.{HasHosts}
 use Rattle.channel_bench.proofs.LinkNow.{GivenUp, Known, LinkNow, first_machine, link_chain, link_now, links_of}
-use Rattle.channel_bench.proofs.OwnLinks.{Cause, IsBy, chosen, messages_of}
-use Rattle.channel_bench.proofs.OwnLinks.Cause.{connecting, disconnecting, nothing, others, sending}
+use Rattle.channel_bench.proofs.OwnLinks.{IsBy, chosen, messages_of}
 use Rattle.channel_bench.proofs.OwnMessages.{Comes, IsRefusable, cause_in, usual_comes}
 use Rattle.channel_bench.proofs.OwnMessages.Comes.{by_link, joined, refused, replied}
 use Rattle.channel_bench.proofs.ProgramSees.{GaveAll, GivesNothing, Sees, steps_see}
@@ -27,6 +26,8 @@ use Rattle.channel_bench.proofs.StepSees.{disconnects_one, far_sees, heard_from,
 use Rattle.channel_bench.proofs.StepSees.{plain_wishes, queue_more, queue_of, runs_set_up, step_laws, uncalled_rests}
 use Rattle.channel_bench.proofs.StepSees.{unshown_of}
 use Rattle.channel_bench.proofs.ThereStays.{HasProgram, is_there, there_grows}
+use Rattle.station_laws.proofs.Causes.{Cause}
+use Rattle.station_laws.proofs.Causes.Cause.{nothing, connecting, sending, disconnecting, hearing, ticking}
 
 -- the step as it is noted
 abbrev pub noted_step : (e : End) (usual : Usual) (matched : Option ℕ) (before after : Near)
@@ -119,11 +120,11 @@ wishes_of w e disconnects s after p events last hosts turn ready by asked calls 
     (runs_set_up (runs_behind false events) last.control.state runs (sym is ∙ ready.1)) chain
 wishes_of w e (hears octets) s after p events last hosts turn ready by asked calls runs is chain =
     let made = turn_steps (chosen e) (input_of e (hears octets)) (begin s) after turn in
-    plain_wishes w e p events made (no_disconnects others (λ x. cc) made by) (no_connects others (λ x. cc) made by)
+    plain_wishes w e p events made (no_disconnects hearing (λ x. cc) made by) (no_connects hearing (λ x. cc) made by)
     asked calls
 wishes_of w e (ticks busy) s after p events last hosts turn ready by asked calls runs is chain =
     let made = turn_steps (chosen e) (input_of e (ticks busy)) (begin s) after turn in
-    plain_wishes w e p events made (no_disconnects others (λ x. cc) made by) (no_connects others (λ x. cc) made by)
+    plain_wishes w e p events made (no_disconnects ticking (λ x. cc) made by) (no_connects ticking (λ x. cc) made by)
     asked calls
 
 -- C is refused while no set-up runs, and the link was not called

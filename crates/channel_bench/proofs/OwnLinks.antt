@@ -1,40 +1,31 @@
 -- At a station of a bench each link is between the two calls, and the host program owns it: what the acts of a step
 -- make of that, what the program is sent, and which frames join the queue.
-use Rattle.channel_bench.proofs.Common.{◌≡◌, ℕ, ◌==◌, nat_lt, Bool, true, false, List, [], ◌∷◌, ◌++◌, length, map, cond}
-use Rattle.channel_bench.proofs.Common.{Option, Some, None, refl, sym, ap, ◌∙◌, subst, ⊤, MatchBool, filter, option_map}
-use Rattle.channel_bench.proofs.Common.{range_with_len, eqb-true, flat_map-append, append-nil, append_assoc, map-append}
-use Rattle.channel_bench.proofs.Common.{filter-append, Callsign, way_back, Path, Command, Frame, spelling, AgwMessage}
-use Rattle.channel_bench.proofs.Common.{SentFrame, Told, Machine, SentIn, sent_frame, done_of, End, A, B, other}
-use Rattle.channel_bench.proofs.Common.{PortKind, Kiss, Agw, Piece, Connection, AreOctetsHeard, IsHeard, IsHeardAnew}
-use Rattle.channel_bench.proofs.Common.{IsHeardBy, IsHeardMaking, IsReadingHeardAnew, IsRepeatedFor, destination_field}
-use Rattle.channel_bench.proofs.Common.{kiss_data, may_make, showing, showing_to, shown_to_hosts, source_field}
-use Rattle.channel_bench.proofs.Common.{waits_for_repeater, with_shown, message_of_told, event_at, event_of, is_idle}
-use Rattle.channel_bench.proofs.Common.{link_event, queueing_frame, queueing_frames, settled_link, telling_one}
-use Rattle.channel_bench.proofs.Common.{telling_to, with_links, Link, Links, key_between, link_at, most_links}
-use Rattle.channel_bench.proofs.Common.{with_link, without_link, monitor_pieces, idle_link, making, no_layer_3}
-use Rattle.channel_bench.proofs.Common.{registrar, StationState, ticking_at, ticking_links, waits, Act, Turn, capacity}
-use Rattle.channel_bench.proofs.Common.{changing, dropping, entering, in_order, queueing, the_calls, program_id}
-use Rattle.channel_bench.proofs.Common.{call_at, link_at_end, Choice, LinkStep, anew_steps, by_path_steps, heard_steps}
-use Rattle.channel_bench.proofs.Common.{hears_at, key_steps, link_step, new_steps, path_steps, reading_steps}
-use Rattle.channel_bench.proofs.Common.{steps_along, steps_at, steps_for, tick_steps, ticks_at, told_in, link_stepped}
-use Rattle.channel_bench.proofs.Common.{octets_of, calls_chosen, each_get}
+use Rattle.channel_bench.proofs.Common.{◌≡◌, ℕ, ◌==◌, Bool, true, false, List, [], ◌∷◌, ◌++◌, length, map, cond, Option}
+use Rattle.channel_bench.proofs.Common.{Some, None, refl, sym, ap, ◌∙◌, subst, ⊤, filter, option_map, eqb-true}
+use Rattle.channel_bench.proofs.Common.{flat_map-append, append-nil, append_assoc, map-append, filter-append, Callsign}
+use Rattle.channel_bench.proofs.Common.{way_back, Path, Command, Frame, spelling, AgwMessage, SentFrame, Told, Machine}
+use Rattle.channel_bench.proofs.Common.{SentIn, sent_frame, End, A, B, other, PortKind, Kiss, Agw, Piece, Connection}
+use Rattle.channel_bench.proofs.Common.{IsHeard, destination_field, kiss_data, showing, showing_to, shown_to_hosts}
+use Rattle.channel_bench.proofs.Common.{source_field, with_shown, message_of_told, event_at, event_of, is_idle}
+use Rattle.channel_bench.proofs.Common.{link_event, settled_link, Link, Links, link_at, with_link, without_link}
+use Rattle.channel_bench.proofs.Common.{monitor_pieces, idle_link, making, no_layer_3, registrar, StationState}
+use Rattle.channel_bench.proofs.Common.{ticking_links, Turn, in_order, the_calls, program_id, call_at, link_at_end}
+use Rattle.channel_bench.proofs.Common.{Choice, LinkStep, heard_steps, link_step, steps_at, steps_for, tick_steps}
+use Rattle.channel_bench.proofs.Common.{told_in, link_stepped, octets_of, calls_chosen, each_get, each_append, giving}
+use Rattle.channel_bench.proofs.Common.{data_steps, disconnect_steps}
 use Rattle.std.specs.Prelude.{find, flat_map}
 use Rattle.std.specs.List.{AllByRecursion as Each}
 use Rattle.std.proofs.lemmas.Bool.{false_from_ne_true}
 use Rattle.ax25_address.specs.FramePath.{BeginsWithPath}
 use Rattle.ax25_address.specs.SameCall.{is_same_call}
-use Rattle.ax25_frames.specs.FrameOctets.{IsFrame}
 use Rattle.ax25_frames.specs.declared.frame.Modulus.{Modulus}
-use Rattle.ax25_frames.specs.declared.frame.Modulus.TheVariants.{Eight}
 use Rattle.link_machine.specs.Event.{Event as LinkEvent}
-use Rattle.link_machine.specs.Event.Event.{Connect as LinkConnect, Send as LinkSend, Disconnect as LinkDisconnect}
-use Rattle.link_machine.specs.Event.Event.{Hear as LinkHear, Tick as LinkTick}
+use Rattle.link_machine.specs.Event.Event.{Hear as LinkHear}
 use Rattle.link_machine.specs.Machine.{modulus_named}
 use Rattle.link_machine.specs.Sent.{frame_of}
 use Rattle.link_machine.specs.Step.{step as link_turn}
 use Rattle.station.specs.declared.registration.Registration.{Registration}
 use Rattle.station.specs.FrameSpelling.{path_octets}
-use Rattle.station.specs.Heard.{AreHeardAt, IsReadAs, hearing_at}
 use Rattle.station.specs.Monitoring.{piece_for, to_monitors}
 use Rattle.station_laws.specs.Owners.{pieces_to}
 use Rattle.station_laws.proofs.Addresses.{IsGoodPath, frame_spelled}
@@ -42,6 +33,13 @@ use Rattle.station_laws.proofs.OwnerLemmas.{owners_are_told}
 use Rattle.station_laws.proofs.PathStays.{step_stays}
 use Rattle.station_laws.proofs.Tables.{each_set}
 use Rattle.station_laws.proofs.ValidCalls.{heard_good}
+use Rattle.station.specs.AgwRequests.{disconnecting as disconnecting_act}
+use Rattle.station_laws.proofs.Causes.{Cause, cause_of}
+use Rattle.station_laws.proofs.Causes.Cause.{sending, disconnecting, hearing, ticking}
+use Rattle.station_laws.proofs.HeardAs.{Heard, heard_as, only_shows}
+use Rattle.station_laws.proofs.HeardAs.Heard.{passes, repeats, hears, hears_new}
+use Rattle.station_laws.proofs.StationActs.{KeptByEvents, ticks_kept, data_kept, disconnect_kept}
+use Rattle.channel_bench.proofs.TurnWalks.{KeptByActs, link_kept}
 
 -- ---- what a station has
 
@@ -114,21 +112,6 @@ told_pieces e (item ∷ told) = ap (λ ps. piece_to (message_at e item) ∷ ps) 
 
 -- ---- what an event comes from
 
-pub data Cause : Type 0 where
-  -- nothing that is an event of a link
-  nothing : Cause
-  connecting : Cause
-  sending : Cause
-  disconnecting : Cause
-  others : Cause
-
-abbrev pub cause_of : LinkEvent → Cause
-cause_of LinkConnect = connecting
-cause_of (LinkSend packet) = sending
-cause_of LinkDisconnect = disconnecting
-cause_of (LinkHear frame) = others
-cause_of (LinkTick waiting) = others
-
 abbrev pub IsBy : Cause → LinkStep → Type 0
 IsBy c step = cause_of step.event ≡ c
 
@@ -158,6 +141,25 @@ abbrev pub IsFromPartner : End → List ℕ → Type 0
 IsFromPartner e octets =
     (found : Path) (len : ℕ) → BeginsWithPath octets found len
     → (found.dest ≡ call_at e) × (found.source ≡ call_at (other e))
+
+-- ---- what an event leaves alone
+
+record Rest (t u : Turn) : Type 0 where
+  registrations : u.now.registrations ≡ t.now.registrations
+  closed : u.out.closed ≡ t.out.closed
+
+rest_kept : KeptByActs Rest
+rest_kept = record {
+  same = λ t. record { registrations = refl; closed = refl };
+  on = λ t u v h k. record {
+    registrations = k.registrations ∙ h.registrations;
+    closed = k.closed ∙ h.closed;
+  };
+  tells = λ t pieces. record { registrations = refl; closed = refl };
+  links = λ change t. record { registrations = refl; closed = refl };
+  enters = λ key octets t. record { registrations = refl; closed = refl };
+  drops = λ t. record { registrations = refl; closed = refl };
+}
 
 module _ (c : Cause) where
   -- ---- acts one after another
@@ -189,10 +191,6 @@ module _ (c : Cause) where
   pub same_says : (e : End) (t : Turn) → OwnsAll e t.now → Says e t [] t
   same_says e t owns = calm_says e t t owns refl refl refl
 
-  each_both : {T : Type 0} (P : T → Type 0) (xs ys : List T) → Each P xs → Each P ys → Each P (xs ++ ys)
-  each_both P [] ys h k = k
-  each_both P (x ∷ xs) ys h k = (h.0, each_both P xs ys h.1 k)
-
   pub says_on :
       (e : End) (t u v : Turn) (first second : List LinkStep) → Says e t first u → Says e u second v
       → Says e t (first ++ second) v
@@ -210,57 +208,11 @@ module _ (c : Cause) where
             ∙ ap (λ ps. own_pieces t.out.pieces ++ ps) (sym both);
         more = h.more ++ k.more;
         queued = k.queued ∙ ap (λ xs. xs ++ k.more) h.queued ∙ append_assoc t.out.queued h.more k.more;
-        own = each_both (IsOwnFrame e) h.more k.more h.own k.own;
-        causes = each_both (IsBy c) first second h.causes k.causes;
+        own = each_append (IsOwnFrame e) h.more k.more h.own k.own;
+        causes = each_append (IsBy c) first second h.causes k.causes;
       }
 
-  pub says_along :
-      {T : Type 0} (e : End) (act : T → Act) (found : T → Turn → List LinkStep)
-      → ((item : T) (t : Turn) → OwnsAll e t.now → Says e t (found item t) (act item t)) → (items : List T) (t : Turn)
-      → OwnsAll e t.now → Says e t (steps_along act found items t) (in_order (map act items) t)
-  says_along e act found each [] t owns = same_says e t owns
-  says_along e act found each (item ∷ items) t owns =
-      let one = each item t owns in
-      says_on e t (act item t) (in_order (map act items) (act item t)) (found item t)
-      (steps_along act found items (act item t)) one (says_along e act found each items (act item t) one.owns)
-
   -- ---- an event of a link
-
-  -- what an event leaves alone
-  record Rest (t u : Turn) : Type 0 where
-    registrations : u.now.registrations ≡ t.now.registrations
-    closed : u.out.closed ≡ t.out.closed
-
-  queued_rest : (key : ℕ) (octets : List ℕ) (t : Turn) → Rest t (queueing (Some key) octets t)
-  queued_rest key octets t = go (nat_lt (length t.now.channel.waiting) capacity)
-    where
-      go : (b : Bool) → Rest t (cond b (entering (Some key) octets t) (dropping t))
-      go true = record { registrations = refl; closed = refl }
-      go false = record { registrations = refl; closed = refl }
-
-  frames_rest : (key : ℕ) (frames : List SentFrame) (t : Turn) → Rest t (queueing_frames key frames t)
-  frames_rest key [] t = record { registrations = refl; closed = refl }
-  frames_rest key (f ∷ frames) t =
-      let one = queued_rest key (octets_of f) t in
-      let rest = frames_rest key frames (queueing_frame key f t) in
-      record { registrations = rest.registrations ∙ one.registrations; closed = rest.closed ∙ one.closed }
-
-  told_rest : (owner : Option ℕ) (local remote : Callsign) (told : List Told) (t : Turn)
-      → Rest t (telling_to owner local remote told t)
-  told_rest owner local remote [] t = record { registrations = refl; closed = refl }
-  told_rest None local remote (item ∷ told) t = told_rest None local remote told t
-  told_rest (Some id) local remote (item ∷ told) t =
-      let rest = told_rest (Some id) local remote told (telling_one (Some id) local remote item t) in
-      record { registrations = rest.registrations; closed = rest.closed }
-
-  link_rest : (key : ℕ) (event : LinkEvent) (link : Link) (t : Turn) → Rest t (link_event key event link t)
-  link_rest key event link t =
-      let stepped = link_turn link.machine event in
-      let done = done_of stepped in
-      let placed = changing (with_links (settled_link key link stepped.now)) t in
-      let frames = frames_rest key done.frames placed in
-      let told = told_rest link.owner link.local link.remote done.told (queueing_frames key done.frames placed) in
-      record { registrations = told.registrations ∙ frames.registrations; closed = told.closed ∙ frames.closed }
 
   -- the frames that it sends
   own_frame :
@@ -332,7 +284,7 @@ module _ (c : Cause) where
           let stepped = link_turn link.machine event in
           let stays = step_stays link.machine event in
           let made = link_stepped key event link t in
-          let rest = link_rest key event link t in
+          let rest = link_kept Rest rest_kept key event link t in
           let sent : (event_of key event (Some link) t).out.pieces
           ≡ t.out.pieces ++ pieces_to link.owner link.local link.remote stepped.told =
           sym (ap (λ place. (event_of key event place t).out.pieces) at) ∙ owners_are_told key event link t at in
@@ -363,15 +315,32 @@ module _ (c : Cause) where
             causes = (by, tt);
           })
 
-  -- ---- ticks
+  -- ---- ticks, data and disconnects
 
-  pub ticks_say : (e : End) (t : Turn) → others ≡ c → OwnsAll e t.now
+  says_kept : (e : End) → KeptByEvents (chosen e) (λ x. x ≡ c) (λ t steps u. OwnsAll e t.now → Says e t steps u)
+  says_kept e = record {
+    same = same_says e;
+    on = λ t u v first second one two owns.
+        let h = one owns in
+        says_on e t u v first second h (two h.owns);
+    events = λ key event t by owns. event_says e None key event t by owns;
+  }
+
+  pub ticks_say : (e : End) (t : Turn) → ticking ≡ c → OwnsAll e t.now
       → Says e t (tick_steps (chosen e) t) (ticking_links t)
-  unfolding ticking_links
   ticks_say e t by owns =
-      says_along e ticking_at (ticks_at (chosen e))
-      (λ key u h. event_says e None key (LinkTick (waits key u.now.channel.waiting)) u by h)
-      (range_with_len 0 most_links) t owns
+      ticks_kept (chosen e) (λ x. x ≡ c) (λ u steps v. OwnsAll e u.now → Says e u steps v) (says_kept e) by t owns
+
+  pub data_says : (e : End) (m : AgwMessage) (key : Option ℕ) (t : Turn) → sending ≡ c → OwnsAll e t.now
+      → Says e t (data_steps (chosen e) m key t) (giving m key t)
+  data_says e m key t by owns =
+      data_kept (chosen e) (λ x. x ≡ c) (λ u steps v. OwnsAll e u.now → Says e u steps v) (says_kept e) by m key t owns
+
+  pub disconnect_says : (e : End) (key : Option ℕ) (t : Turn) → disconnecting ≡ c → OwnsAll e t.now
+      → Says e t (disconnect_steps (chosen e) key t) (disconnecting_act key t)
+  disconnect_says e key t by owns =
+      disconnect_kept (chosen e) (λ x. x ≡ c) (λ u steps v. OwnsAll e u.now → Says e u steps v) (says_kept e) by key t
+      owns
 
   -- ---- a link that is made
 
@@ -426,28 +395,6 @@ module _ (c : Cause) where
       shown_to from to octets connections (showing_to from to octets c t) unshown.1
       ∙ shown_by c.kind c.id c.raw from to octets t unshown.0.kiss unshown.0.raw
 
-  -- what showing leaves alone
-  record Calm (t u : Turn) : Type 0 where
-    now : u.now ≡ t.now
-    closed : u.out.closed ≡ t.out.closed
-    queued : u.out.queued ≡ t.out.queued
-
-  shown_calm_by :
-      (kind : PortKind) (id : ℕ) (raw : Bool) (from to octets : List ℕ) (t : Turn)
-      → Calm t (record t { out = with_shown kind id raw from to octets t.out })
-  shown_calm_by Kiss id raw from to octets t = record { now = refl; closed = refl; queued = refl }
-  shown_calm_by Agw id true from to octets t = record { now = refl; closed = refl; queued = refl }
-  shown_calm_by Agw id false from to octets t = record { now = refl; closed = refl; queued = refl }
-
-  shown_calm :
-      (from to octets : List ℕ) (connections : List Connection) (t : Turn)
-      → Calm t (in_order (map (showing_to from to octets) connections) t)
-  shown_calm from to octets [] t = record { now = refl; closed = refl; queued = refl }
-  shown_calm from to octets (c ∷ connections) t =
-      let one = shown_calm_by c.kind c.id c.raw from to octets t in
-      let rest = shown_calm from to octets connections (showing_to from to octets c t) in
-      record { now = rest.now ∙ one.now; closed = rest.closed ∙ one.closed; queued = rest.queued ∙ one.queued }
-
   pub shown_says :
       (e : End) (path : Option Path) (octets : List ℕ) (frame : Option Frame) (t : Turn) → OwnsAll e t.now
       → Each IsUnshown t.now.connections → Says e t [] (shown_to_hosts path octets frame t)
@@ -455,7 +402,7 @@ module _ (c : Cause) where
       let from = source_field path in
       let to = destination_field path in
       let shown = showing from to octets t in
-      let calm = shown_calm from to octets t.now.connections t in
+      let calm = only_shows path octets frame t in
       let pieces = monitor_pieces false t.now.ticks frame shown.now.connections in
       let none : pieces ≡ [] =
       none_monitored false t.now.ticks frame shown.now.connections
@@ -478,85 +425,35 @@ module _ (c : Cause) where
       go true same rest = let here : r.id ≡ id = cc in sym here ∙ own.0.id
       go false same rest = rest same
 
-  repeated_says :
-      (e : End) (digi : Option Callsign) (octets : List ℕ) (t u : Turn) → digi ≡ None → OwnsAll e t.now
-      → IsRepeatedFor digi octets t u → Says e t [] u
-  repeated_says e None octets t u none owns h = subst (Says e t []) (sym h) (same_says e t owns)
-  repeated_says e (Some call) octets t u none owns h = absurd (cc)
-
-  at_key_says :
-      (e : End) (key : ℕ) (reading : Option Frame) (t : Turn) → others ≡ c → OwnsAll e t.now
-      → Says e t (hears_at (chosen e) key reading t) (hearing_at key reading t)
-  at_key_says e key None t by owns = same_says e t owns
-  at_key_says e key (Some frame) t by owns = event_says e None key (LinkHear frame) t by owns
-
-  new_says :
-      (e : End) (id : ℕ) (frame : Frame) (may : Bool) (octets : List ℕ) (t u : Turn) → others ≡ c → OwnsAll e t.now
-      → id ≡ program_id → IsFrame frame Eight octets → IsFromPartner e octets
-      → (h : MatchBool may (IsHeardMaking id frame t u) (u ≡ t)) → Says e t (new_steps (chosen e) id frame may t u h) u
-  new_says e id frame true octets t u by owns is_program is from h =
-      let path = way_back frame.path Command in
+  by_heard :
+      (e : End) (octets : List ℕ) (t : Turn) (steps : Choice → List LinkStep) (u : Turn) → hearing ≡ c
+      → t.now.digi ≡ None → OwnsAll e t.now → IsFromPartner e octets → Heard octets t steps u
+      → Says e t (steps (chosen e)) u
+  by_heard e octets t steps u by none owns from passes = same_says e t owns
+  by_heard e octets t steps u by none owns from (repeats call k is) = absurd (cc)
+  by_heard e octets t steps u by none owns from (hears key len path frame begins found is) =
+      event_says e None key (LinkHear frame) t by owns
+  by_heard e octets t steps u by none owns from (hears_new key id frame is vacant known new) =
       let calls = from frame.path is.len is.path in
-      subst (Says e t (new_steps (chosen e) id frame true t u h)) (sym h.2)
-      (made_says e h.0 id no_layer_3 frame.path.dest frame.path.source path (LinkHear frame) t by owns (record {
+      made_says e key id no_layer_3 frame.path.dest frame.path.source (way_back frame.path Command) (LinkHear frame) t
+      by owns (record {
         local = calls.0;
         remote = calls.1;
-        owner = ap (λ n. Some n) is_program;
+        owner = ap (λ n. Some n)
+            (own_registrar e frame.path.dest t.now.registrations id owns.registered known);
         path = heard_good octets frame.path is.len Command is.path;
         source = calls.0;
         dest = calls.1;
-      }))
-  new_says e id frame false octets t u by owns is_program is from h = subst (Says e t []) (sym h) (same_says e t owns)
-
-  anew_says :
-      (e : End) (registered : Option ℕ) (frame : Frame) (octets : List ℕ) (t u : Turn) → others ≡ c → OwnsAll e t.now
-      → ((id : ℕ) → registered ≡ Some id → id ≡ program_id) → IsFrame frame Eight octets → IsFromPartner e octets
-      → (h : IsHeardAnew registered frame t u) → Says e t (anew_steps (chosen e) registered frame t u h) u
-  anew_says e None frame octets t u by owns known is from h = subst (Says e t []) (sym h) (same_says e t owns)
-  anew_says e (Some id) frame octets t u by owns known is from h =
-      new_says e id frame (may_make frame.kind t.now.links) octets t u by owns (known id refl) is from h
-
-  reading_says :
-      (e : End) (reading : Option Frame) (octets : List ℕ) (t u : Turn) → others ≡ c → OwnsAll e t.now
-      → IsReadAs Eight octets reading → IsFromPartner e octets → (h : IsReadingHeardAnew reading t u)
-      → Says e t (reading_steps (chosen e) reading t u h) u
-  reading_says e None octets t u by owns is from h = subst (Says e t []) (sym h) (same_says e t owns)
-  reading_says e (Some frame) octets t u by owns is from h =
-      anew_says e (registrar frame.path.dest t.now.registrations) frame octets t u by owns
-      (λ id found. own_registrar e frame.path.dest t.now.registrations id owns.registered found) is from h
-
-  key_says :
-      (e : End) (key : Option ℕ) (octets : List ℕ) (t u : Turn) → others ≡ c → OwnsAll e t.now → IsFromPartner e octets
-      → (h : AreHeardAt key octets t u) → Says e t (key_steps (chosen e) key octets t u h) u
-  key_says e (Some key) octets t u by owns from h =
-      subst (Says e t (key_steps (chosen e) (Some key) octets t u h)) (sym h.2) (at_key_says e key h.0 t by owns)
-  key_says e None octets t u by owns from h = reading_says e h.0 octets t u by owns h.1 from h.2
-
-  path_says :
-      (e : End) (path : Path) (waiting : Bool) (octets : List ℕ) (t u : Turn) → others ≡ c → t.now.digi ≡ None
-      → OwnsAll e t.now → IsFromPartner e octets
-      → (h : MatchBool waiting (IsRepeatedFor t.now.digi octets t u) (AreOctetsHeard path octets t u))
-      → Says e t (path_steps (chosen e) path waiting octets t u h) u
-  path_says e path true octets t u by none owns from h = repeated_says e t.now.digi octets t u none owns h
-  path_says e path false octets t u by none owns from h =
-      key_says e (key_between path.dest path.source t.now.links) octets t u by owns from h
-
-  by_path_says :
-      (e : End) (path : Option Path) (octets : List ℕ) (t u : Turn) → others ≡ c → t.now.digi ≡ None → OwnsAll e t.now
-      → IsFromPartner e octets → (h : IsHeardBy path octets t u)
-      → Says e t (by_path_steps (chosen e) path octets t u h) u
-  by_path_says e None octets t u by none owns from h = subst (Says e t []) (sym h) (same_says e t owns)
-  by_path_says e (Some path) octets t u by none owns from h =
-      path_says e path (waits_for_repeater path) octets t u by none owns from h
+      })
 
   pub heard_says :
-      (e : End) (octets : List ℕ) (t u : Turn) → others ≡ c → t.now.digi ≡ None → OwnsAll e t.now
+      (e : End) (octets : List ℕ) (t u : Turn) → hearing ≡ c → t.now.digi ≡ None → OwnsAll e t.now
       → Each IsUnshown t.now.connections
       → IsFromPartner e octets → (h : IsHeard octets t u) → Says e t (heard_steps (chosen e) octets t u h) u
   heard_says e octets t u by none owns unshown from h =
       let shown = shown_to_hosts h.path octets h.monitored t in
-      let calm = shown_calm (source_field h.path) (destination_field h.path) octets t.now.connections t in
       let first = shown_says e h.path octets h.monitored t owns unshown in
-      says_on e t shown u [] (by_path_steps (chosen e) h.path octets shown u h.effect) first
-      (by_path_says e h.path octets shown u by (ap (λ (s : StationState). s.digi) calm.now ∙ none)
-      first.owns from h.effect)
+      says_on e t shown u [] (heard_steps (chosen e) octets t u h) first
+      (by_heard e octets shown (λ any. heard_steps any octets t u h) u by
+      (ap (λ (s : StationState). s.digi) (only_shows h.path octets h.monitored t).now ∙ none) first.owns from
+      (heard_as octets t u h))

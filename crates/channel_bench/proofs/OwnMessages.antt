@@ -4,18 +4,17 @@ use Rattle.channel_bench.proofs.Common.{Option, Some, None, refl, sym, ap, ◌�
 use Rattle.channel_bench.proofs.Common.{filter-append, each_append, Callsign, call_field, bad_length_in, spelling}
 use Rattle.channel_bench.proofs.Common.{AgwMessage, IsWritten, End, A, B, other, PortKind, Kiss, Agw, Piece}
 use Rattle.channel_bench.proofs.Common.{connect_kind, data_kind, disconnect_kind, register_kind, AreAnswered}
-use Rattle.channel_bench.proofs.Common.{IsAnswered, IsCall, IsCallMade, called_pid, called_route, data_pid, giving}
-use Rattle.channel_bench.proofs.Common.{giving_packet, may_call, own_key, packets_of, refused_reply, register_reply}
-use Rattle.channel_bench.proofs.Common.{registering, replying, with_registration, call_in, Connection, connection_of}
-use Rattle.channel_bench.proofs.Common.{most_connections, AreTaken, AreTakenBy, ending, joining, new_messages, taking}
-use Rattle.channel_bench.proofs.Common.{with_host, no_call, link_at, monitor_pieces, may_register, registrar, Route}
-use Rattle.channel_bench.proofs.Common.{path_along, StationState, ticking_links, Out, Turn, begin, changing, closing}
-use Rattle.channel_bench.proofs.Common.{program_id, kiss_id, call_at, full_duplex_octets, request, request_between}
-use Rattle.channel_bench.proofs.Common.{IsTurn, LinkStep, call_steps, data_steps, disconnect_steps, made_steps}
-use Rattle.channel_bench.proofs.Common.{sends_at, turn_steps}
+use Rattle.channel_bench.proofs.Common.{IsAnswered, IsCall, IsCallMade, called_pid, called_route, giving, may_call}
+use Rattle.channel_bench.proofs.Common.{own_key, refused_reply, register_reply, registering, replying}
+use Rattle.channel_bench.proofs.Common.{with_registration, call_in, Connection, connection_of, most_connections}
+use Rattle.channel_bench.proofs.Common.{AreTaken, AreTakenBy, ending, joining, new_messages, taking, with_host, no_call}
+use Rattle.channel_bench.proofs.Common.{monitor_pieces, may_register, registrar, Route, path_along, StationState}
+use Rattle.channel_bench.proofs.Common.{ticking_links, Out, Turn, begin, changing, closing, program_id, kiss_id}
+use Rattle.channel_bench.proofs.Common.{call_at, full_duplex_octets, request, request_between, IsTurn, LinkStep}
+use Rattle.channel_bench.proofs.Common.{call_steps, data_steps, disconnect_steps, made_steps, turn_steps}
 use Rattle.std.proofs.Common.{if◌then◌else◌}
 use Rattle.std.specs.List.{AllByRecursion as Each}
-use Rattle.link_machine.specs.Event.Event.{Connect as LinkConnect, Send as LinkSend, Disconnect as LinkDisconnect}
+use Rattle.link_machine.specs.Event.Event.{Connect as LinkConnect}
 use Rattle.station.specs.AgwKinds.{connect_via_kind}
 use Rattle.station.specs.AgwRequests.{calls, disconnecting as disconnecting_act}
 use Rattle.station.specs.CallFields.{call_of_text}
@@ -28,13 +27,14 @@ use Rattle.channel_bench.proofs.CoreRun.Usual.{registers, sets_full, ticks}
 use Rattle.channel_bench.proofs.HostStreams.{none_bad, one_new}
 use Rattle.channel_bench.proofs.HostsStay.{HasHosts, IsHosts, IsSet, SameHosts, found, same_hosts, set_by}
 use Rattle.channel_bench.proofs.HostsStay.IsSet.{full, unheard}
-use Rattle.channel_bench.proofs.OwnLinks.{Cause, IsFromPartner, IsOwnRegistration, IsUnshown, OwnsAll, Says, calm_says}
-use Rattle.channel_bench.proofs.OwnLinks.{chosen, event_says, heard_says, made_says, messages_of, none_monitored}
-use Rattle.channel_bench.proofs.OwnLinks.{own_pieces, piece_to, same_says, says_along, ticks_say}
-use Rattle.channel_bench.proofs.OwnLinks.Cause.{connecting, disconnecting, nothing, others, sending}
+use Rattle.channel_bench.proofs.OwnLinks.{IsFromPartner, IsOwnRegistration, IsUnshown, OwnsAll, Says, calm_says, chosen}
+use Rattle.channel_bench.proofs.OwnLinks.{heard_says, made_says, messages_of, none_monitored, own_pieces, piece_to}
+use Rattle.channel_bench.proofs.OwnLinks.{same_says, ticks_say, data_says, disconnect_says}
 use Rattle.channel_bench.proofs.ProgramsAsk.{between_written, registers_written}
 use Rattle.channel_bench.proofs.TurnWalks.{ticks_kept}
 use Rattle.station_laws.proofs.ValidCalls.{along_good, no_or_few, route_valid}
+use Rattle.station_laws.proofs.Causes.{Cause}
+use Rattle.station_laws.proofs.Causes.Cause.{nothing, connecting, sending, disconnecting, hearing, ticking}
 
 -- ---- what a step is to the host program
 
@@ -241,23 +241,6 @@ call_comes e m (Some route) t took u is known owns same written h =
     made_comes e (called_pid m) m route (may_call program_id route took.now) t took u is
     (ap (λ (r : Route). r.local) here) (ap (λ (r : Route). r.remote) here) owns same written h
 
--- ---- D and d
-
-data_says :
-    (e : End) (m : AgwMessage) (key : Option ℕ) (t : Turn) → OwnsAll e t.now
-    → Says sending e t (data_steps (chosen e) m key t) (giving m key t)
-data_says e m None t owns = same_says sending e t owns
-data_says e m (Some key) t owns =
-    says_along sending e (giving_packet key) (sends_at (chosen e) key)
-    (λ packet u h. event_says sending e None key (LinkSend packet) u refl h)
-    (packets_of (data_pid m.pid (link_at key t.now.links)) m.body) t owns
-
-disconnect_says :
-    (e : End) (key : Option ℕ) (t : Turn) → OwnsAll e t.now
-    → Says disconnecting e t (disconnect_steps (chosen e) key t) (disconnecting_act key t)
-disconnect_says e None t owns = same_says disconnecting e t owns
-disconnect_says e (Some key) t owns = event_says disconnecting e None key LinkDisconnect t refl owns
-
 -- ---- each step that occurs
 
 abbrev pub cause_in : Usual → Cause
@@ -268,8 +251,8 @@ cause_in registers = nothing
 cause_in connects = connecting
 cause_in (gives piece) = sending
 cause_in disconnects = disconnecting
-cause_in (hears octets) = others
-cause_in (ticks busy) = others
+cause_in (hears octets) = hearing
+cause_in (ticks busy) = ticking
 
 -- C alone may be refused
 abbrev pub IsRefusable : Usual → Type 0
@@ -368,7 +351,7 @@ usual_comes e (gives piece) s after occurs hosts owns unshown from turn =
     took))
     (sym h) (took_says sending e m (begin s) (data_steps (chosen e) m (own_key program_id m took.now.links) took)
     (giving m (own_key program_id m took.now.links) took)
-    (data_says e m (own_key program_id m took.now.links) took (took_owns e m (begin s) owns))))) after turn
+    (data_says sending e m (own_key program_id m took.now.links) took refl (took_owns e m (begin s) owns))))) after turn
 usual_comes e disconnects s after occurs hosts owns unshown from turn =
     let m = request_between disconnect_kind e [] in
     let took = taking program_id (spelling m) (begin s) in
@@ -378,18 +361,18 @@ usual_comes e disconnects s after occurs hosts owns unshown from turn =
     (λ missing. by_link (same_says disconnecting e (begin s) owns))
     (λ u h. by_link (subst (Says disconnecting e (begin s) (disconnect_steps (chosen e) key took)) (sym h)
     (took_says disconnecting e m (begin s) (disconnect_steps (chosen e) key took) (disconnecting_act key took)
-    (disconnect_says e key took (took_owns e m (begin s) owns))))) after turn
+    (disconnect_says disconnecting e key took refl (took_owns e m (begin s) owns))))) after turn
 usual_comes e (hears octets) s after occurs hosts owns unshown from turn =
-    by_link (heard_says others e octets (begin s) after refl hosts.digi owns unshown from turn)
+    by_link (heard_says hearing e octets (begin s) after refl hosts.digi owns unshown from turn)
 usual_comes e (ticks busy) s after occurs hosts owns unshown from turn =
     let ticked = ticking_links (begin s) in
-    let h = ticks_say others e (begin s) refl owns in
+    let h = ticks_say ticking e (begin s) refl owns in
     let same = ticks_kept SameHosts same_hosts (begin s) in
     let pieces = monitor_pieces true ticked.now.ticks turn.monitored ticked.now.connections in
     let none : pieces ≡ [] =
     none_monitored true ticked.now.ticks turn.monitored ticked.now.connections
     (subst (Each IsUnshown) (sym same.connections) unshown) in
-    by_link (subst (Says others e (begin s) (turn_steps (chosen e) (input_of e (ticks busy)) (begin s) after turn))
+    by_link (subst (Says ticking e (begin s) (turn_steps (chosen e) (input_of e (ticks busy)) (begin s) after turn))
     (sym turn.effect) (record {
       owns = record { links = h.owns.links; registered = h.owns.registered };
       closed = h.closed;

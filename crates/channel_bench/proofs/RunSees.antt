@@ -20,14 +20,15 @@ use Rattle.channel_bench.proofs.HostStreams.{IsWhole}
 use Rattle.channel_bench.proofs.HostsStay.{HasHosts}
 use Rattle.channel_bench.proofs.LinkNow.{links_of}
 use Rattle.channel_bench.proofs.NextSees.{noted_step, own_events}
-use Rattle.channel_bench.proofs.OwnLinks.{IsBy, OwnsAll, cause_of, chosen, messages_of, piece_to}
-use Rattle.channel_bench.proofs.OwnLinks.Cause.{nothing}
+use Rattle.channel_bench.proofs.OwnLinks.{IsBy, OwnsAll, chosen, messages_of, piece_to}
 use Rattle.channel_bench.proofs.OwnMessages.{Comes, usual_comes}
 use Rattle.channel_bench.proofs.OwnMessages.Comes.{by_link, joined, refused, replied}
 use Rattle.channel_bench.proofs.ProgramSees.{pieces_told}
 use Rattle.channel_bench.proofs.RunOfParts.{IsCalm, parted}
 use Rattle.channel_bench.proofs.SideSees.{side_after, told_other}
 use Rattle.channel_bench.proofs.StepSees.{IsReady, links_more, unshown_of}
+use Rattle.station_laws.proofs.Causes.{cause_of}
+use Rattle.station_laws.proofs.Causes.Cause.{nothing}
 
 -- ---- before the first call
 

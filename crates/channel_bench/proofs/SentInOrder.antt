@@ -18,7 +18,7 @@ use Rattle.channel_bench.proofs.HostsStay.IsSaid.{unheard, said}
 use Rattle.channel_bench.proofs.HostsStay.IsSet.{unheard as alone, full}
 use Rattle.channel_bench.proofs.NotedRun.{steps_more, steps_passed}
 use Rattle.channel_bench.proofs.ProgramsAsk.{AskLittle, asks_kept, between_written, hosts_at, registers_written}
-use Rattle.channel_bench.proofs.TurnWalks.{Kept, connect_kept, data_kept, disconnect_kept, heard_kept, kept_by_acts}
+use Rattle.channel_bench.proofs.TurnWalks.{KeptByTurns, connect_kept, data_kept, disconnect_kept, heard_kept}
 use Rattle.channel_bench.proofs.TurnWalks.{register_kept, ticks_kept}
 
 -- ---- what joins the queue
@@ -49,21 +49,23 @@ fed_on t u v h k = record {
   air = k.air ∙ h.air;
 }
 
-fed : Kept Fed
-fed = kept_by_acts Fed (record {
-  same = λ t. fed_none t t refl refl refl;
-  on = fed_on;
-  tells = λ t pieces. fed_none t _ refl refl refl;
-  links = λ change t. fed_none t _ refl refl refl;
-  enters = λ key octets t. record {
-    more = octets ∷ [];
-    queued = refl;
-    waits = map-append octets_of t.now.channel.waiting _;
-    air = refl;
+fed : KeptByTurns Fed
+fed = record {
+  acts = record {
+    same = λ t. fed_none t t refl refl refl;
+    on = fed_on;
+    tells = λ t pieces. fed_none t _ refl refl refl;
+    links = λ change t. fed_none t _ refl refl refl;
+    enters = λ key octets t. record {
+      more = octets ∷ [];
+      queued = refl;
+      waits = map-append octets_of t.now.channel.waiting _;
+      air = refl;
+    };
+    drops = λ t. fed_none t _ refl refl refl;
   };
-  drops = λ t. fed_none t _ refl refl refl;
   registers = λ call id t. fed_none t _ refl refl refl;
-})
+}
 
 -- ---- a step
 

@@ -15,13 +15,14 @@ use Rattle.link_machine.specs.Event.Event.{Hear as LinkHear, Tick as LinkTick}
 use Rattle.channel_bench.specs.HostProgram.{closing, told as told_message}
 use Rattle.channel_bench.proofs.HostStreams.{IsWhole}
 use Rattle.channel_bench.proofs.LinkNow.{GivenUp}
-use Rattle.channel_bench.proofs.OwnLinks.{Cause, IsOwnFrame, OwnsAll, Says, cause_of, messages_of, own_pieces}
-use Rattle.channel_bench.proofs.OwnLinks.Cause.{connecting, disconnecting, sending}
+use Rattle.channel_bench.proofs.OwnLinks.{IsOwnFrame, OwnsAll, Says, messages_of, own_pieces}
 use Rattle.channel_bench.proofs.OwnMessages.{Replied}
 use Rattle.channel_bench.proofs.ProgramSees.{GaveAll, GivesNothing, Sees, items_asked, items_called, items_of}
 use Rattle.channel_bench.proofs.ProgramSees.{pieces_told, told_items}
 use Rattle.channel_bench.proofs.Shorts.{GivesShort, IsSome, ShortStep}
 use Rattle.channel_bench.proofs.ThereStays.{HasProgram, is_there}
+use Rattle.station_laws.proofs.Causes.{Cause, cause_of}
+use Rattle.station_laws.proofs.Causes.Cause.{connecting, sending, disconnecting}
 
 -- What holds of a side after these events of its link, of which these frames were queued.
 pub record SideSees (w : BenchWords) (e : End) (side : SideState) (events : List LinkStep) (queue : List LinkFrame)

@@ -26,13 +26,13 @@ use Rattle.channel_bench.proofs.HostsStay.{HasHosts, IsHosts}
 use Rattle.channel_bench.proofs.LinkNow.{GivenUp, Known, law_short, link_told, links_of}
 use Rattle.channel_bench.proofs.NotedRun.{moments_more, steps_more}
 use Rattle.channel_bench.proofs.OwnLinks.{IsFromPartner, IsOwnFrame, IsUnshown, chosen, messages_of}
-use Rattle.channel_bench.proofs.OwnLinks.Cause.{sending}
 use Rattle.channel_bench.proofs.OwnMessages.{IsHeardFrom, cause_in, said_go}
 use Rattle.channel_bench.proofs.ProgramSees.{GaveAll, Sees}
 use Rattle.channel_bench.proofs.ProgramsAsk.{between_written}
 use Rattle.channel_bench.proofs.Shorts.{GotShort, ShortStep, TellsShort, each_slice, steps_short}
 use Rattle.channel_bench.proofs.SideSees.{SideSees, asked_kept, asked_one, called_kept, called_one, each_map}
 use Rattle.channel_bench.proofs.SideSees.{never_asks, seen_append, some_seen}
+use Rattle.station_laws.proofs.Causes.Cause.{sending}
 
 -- ---- a run with a step more
 

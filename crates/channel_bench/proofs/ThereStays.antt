@@ -16,7 +16,7 @@ use Rattle.channel_bench.proofs.HostsStay.{HasHosts, IsSaid, IsSet, said_by, set
 use Rattle.channel_bench.proofs.HostsStay.IsSaid.{said, unheard}
 use Rattle.channel_bench.proofs.HostsStay.IsSet.{full, unheard as alone}
 use Rattle.channel_bench.proofs.ProgramsAsk.{between_written, registers_written}
-use Rattle.channel_bench.proofs.TurnWalks.{Kept, connect_kept, data_kept, disconnect_kept, heard_kept, kept_by_acts}
+use Rattle.channel_bench.proofs.TurnWalks.{KeptByTurns, connect_kept, data_kept, disconnect_kept, heard_kept}
 use Rattle.channel_bench.proofs.TurnWalks.{register_kept, ticks_kept}
 
 -- the station has the connection
@@ -33,16 +33,18 @@ record SameConnections (t u : Turn) : Type 0 where
   connections : u.now.connections ≡ t.now.connections
   closed : u.out.closed ≡ t.out.closed
 
-same_connections : Kept SameConnections
-same_connections = kept_by_acts SameConnections (record {
-  same = λ t. record { connections = refl; closed = refl };
-  on = λ t u v h k. record { connections = k.connections ∙ h.connections; closed = k.closed ∙ h.closed };
-  tells = λ t pieces. record { connections = refl; closed = refl };
-  links = λ change t. record { connections = refl; closed = refl };
-  enters = λ key octets t. record { connections = refl; closed = refl };
-  drops = λ t. record { connections = refl; closed = refl };
+same_connections : KeptByTurns SameConnections
+same_connections = record {
+  acts = record {
+    same = λ t. record { connections = refl; closed = refl };
+    on = λ t u v h k. record { connections = k.connections ∙ h.connections; closed = k.closed ∙ h.closed };
+    tells = λ t pieces. record { connections = refl; closed = refl };
+    links = λ change t. record { connections = refl; closed = refl };
+    enters = λ key octets t. record { connections = refl; closed = refl };
+    drops = λ t. record { connections = refl; closed = refl };
+  };
   registers = λ call id t. record { connections = refl; closed = refl };
-})
+}
 
 -- what a step leaves of the connection of the program
 record Stays (s : StationState) (after : Turn) : Type 0 where

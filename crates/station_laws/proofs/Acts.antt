@@ -14,6 +14,7 @@ use Rattle.link_machine.specs.Event.Event.{Connect as LinkConnect, Send as LinkS
 use Rattle.link_machine.specs.Event.Event.{Hear as LinkHear, Tick as LinkTick}
 use Rattle.link_machine.specs.Turn.{Turn as LinkTurn}
 use Rattle.link_world.specs.Recorded.{end_turn_of, hears_ask}
+use Rattle.station_laws.proofs.Causes.{cause_of, NotHeard}
 use Rattle.station_laws.proofs.Framed.{framed, framed-append, length-framed}
 use Rattle.station_laws.proofs.Flights.{RiseFrom, flight, flight_own, flight_others, kept_first, marks, marks_from_rest}
 use Rattle.station_laws.proofs.LinkKinds.{IsLinkKind}
@@ -173,11 +174,7 @@ own_turned s back stays turn w key link event h caused H at is same =
 
 -- what is not heard
 abbrev pub IsAsked : LinkEvent → Type 0
-IsAsked LinkConnect = ⊤
-IsAsked (LinkSend packet) = ⊤
-IsAsked LinkDisconnect = ⊤
-IsAsked (LinkHear frame) = ⊥
-IsAsked (LinkTick waiting) = ⊤
+IsAsked event = NotHeard (cause_of event)
 
 with_back : (s : Setting) (back towards : List Tagged) (turn : Turn) (w : World) → towards ≡ back
     → Holds s towards turn w → Holds s back turn w

@@ -1,19 +1,13 @@
 -- Each act of a station keeps what holds of its link between two calls.
 use Rattle.station_laws.proofs.Common.{◌≡◌, ℕ, Bool, true, false, List, [], ◌∷◌, cond, Option, Some, None, refl, sym}
-use Rattle.station_laws.proofs.Common.{ap, ◌∙◌, subst, range_with_len, Path, AgwMessage, Machine, new_machine}
-use Rattle.station_laws.proofs.Common.{LinkState, Idle, End, near_made, made_in, Tagged, RecordedEnd, World}
-use Rattle.station_laws.proofs.Common.{giving_packet, packets_of, data_pid, giving, disconnecting, giving_up}
-use Rattle.station_laws.proofs.Common.{giving_up_all, giving_up_link, leaving, without_host, without_owner, event_of}
-use Rattle.station_laws.proofs.Common.{event_at, with_links, Link, IsNewKey, is_between, link_at, most_links, with_link}
-use Rattle.station_laws.proofs.Common.{with_new_link, is_number, ticking_at, ticking_links, waits, Turn, changing}
-use Rattle.station_laws.proofs.Common.{LinkStep, link_step, steps_for, steps_at, ticks_at, tick_steps, given_up}
-use Rattle.station_laws.proofs.Common.{gives_up_at, leaving_steps, sends_at, data_steps, disconnect_steps, first_chosen}
-use Rattle.station_laws.proofs.Common.{IsMachineOf}
+use Rattle.station_laws.proofs.Common.{ap, ◌∙◌, subst, Path, Machine, new_machine, LinkState, Idle, End, near_made}
+use Rattle.station_laws.proofs.Common.{made_in, Tagged, RecordedEnd, World, without_owner, event_of, event_at}
+use Rattle.station_laws.proofs.Common.{with_links, Link, IsNewKey, is_between, link_at, with_link, with_new_link, Turn}
+use Rattle.station_laws.proofs.Common.{changing, LinkStep, link_step, steps_for, steps_at, first_chosen, IsMachineOf}
 use Rattle.link_machine.specs.Event.{Event as LinkEvent}
-use Rattle.link_machine.specs.Event.Event.{Send as LinkSend, Disconnect as LinkDisconnect, Tick as LinkTick}
 use Rattle.station_laws.proofs.Acts.{Setting, Holds, IsAsked, own_asked, own_machine, asked_told, asked_stays}
-use Rattle.station_laws.proofs.Acts.{asked_asking, asked_next, asked_reads, other_event, still_holds}
-use Rattle.station_laws.proofs.Along.{FollowsNear, Kept, Goes, goes_along}
+use Rattle.station_laws.proofs.Acts.{asked_asking, asked_next, asked_reads, other_event}
+use Rattle.station_laws.proofs.Along.{FollowsNear, Kept, Goes}
 use Rattle.station_laws.proofs.Standing.{IsGoodLink, IsTable, between_calls, owner_table, made_table, made_other}
 use Rattle.station_laws.proofs.Standing.{made_at}
 
@@ -58,74 +52,26 @@ act_goes s e back key event turn asked w H = by_place (link_at key turn.now.link
         subst (λ after. Kept s e back after (steps_for (meant s) None key event turn (Some link)) w)
         (ap (λ place. event_of key event place turn) at) (by_choice link at (meant s (Some link)) refl)
 
--- ---- a tick
+-- ---- a link whose connection has left
 
-pub ticks_go :
-    (s : Setting) (e : End) (back : List Tagged) (turn : Turn)
-    → Goes s e back turn (tick_steps (meant s) turn) (ticking_links turn)
-unfolding ticking_links
-ticks_go s e back turn =
-    goes_along s e back ticking_at (ticks_at (meant s))
-    (λ key t. act_goes s e back key (LinkTick (waits key t.now.channel.waiting)) t tt) (range_with_len 0 most_links)
-    turn
-
--- ---- a host program leaves
-
-pub gives_up_goes :
-    (s : Setting) (e : End) (back : List Tagged) (id key : ℕ) (turn : Turn)
-    → Goes s e back turn (gives_up_at (meant s) id key turn) (giving_up id key turn)
-gives_up_goes s e back id key turn w H = by_place (link_at key turn.now.links) refl
-  where
-    by_owner : (link : Link) → link_at key turn.now.links ≡ Some link → (b : Bool)
-        → let given = changing (with_links (with_link key (without_owner link))) turn in
-        Kept s e back (cond b (event_at key LinkDisconnect given) turn)
-        (cond b (steps_at (meant s) None key LinkDisconnect given) []) w
-    by_owner link at true =
-        let given = changing (with_links (with_link key (without_owner link))) turn in
-        act_goes s e back key LinkDisconnect given tt w (record {
-          parameters = H.parameters;
-          table = owner_table s.params (meant s) turn.now.links w.a.end.machine key link
-              (between_calls s.local s.remote)
-              H.table at;
-          end_params = H.end_params;
-          tags = H.tags;
-          tagged_as = H.tagged_as;
-          ahead = H.ahead;
-          far_is = H.far_is;
-          back_is = H.back_is;
-        })
-    by_owner link at false = (H, tt)
-
-    by_place : (place : Option Link) → link_at key turn.now.links ≡ place
-        → Kept s e back (giving_up_link id key place turn) (given_up (meant s) id key place turn) w
-    by_place None at = (H, tt)
-    by_place (Some link) at = by_owner link at (is_number id link.owner)
-
-pub leaving_goes :
-    (s : Setting) (e : End) (back : List Tagged) (id : ℕ) (turn : Turn)
-    → Goes s e back turn (leaving_steps (meant s) id turn) (leaving id turn)
-unfolding giving_up_all
-leaving_goes s e back id turn w H =
-    goes_along s e back (giving_up id) (gives_up_at (meant s) id) (gives_up_goes s e back id)
-    (range_with_len 0 most_links)
-    (changing (without_host id) turn) w (still_holds s back turn (changing (without_host id) turn) w H refl refl refl)
-
--- ---- data and disconnects
-
-pub data_goes :
-    (s : Setting) (e : End) (back : List Tagged) (message : AgwMessage) (key : Option ℕ) (turn : Turn)
-    → Goes s e back turn (data_steps (meant s) message key turn) (giving message key turn)
-data_goes s e back message None turn w H = (H, tt)
-data_goes s e back message (Some key) turn w H =
-    goes_along s e back (giving_packet key) (sends_at (meant s) key)
-    (λ packet t. act_goes s e back key (LinkSend packet) t tt)
-    (packets_of (data_pid message.pid (link_at key turn.now.links)) message.body) turn w H
-
-pub disconnect_goes :
-    (s : Setting) (e : End) (back : List Tagged) (key : Option ℕ) (turn : Turn)
-    → Goes s e back turn (disconnect_steps (meant s) key turn) (disconnecting key turn)
-disconnect_goes s e back None turn w H = (H, tt)
-disconnect_goes s e back (Some key) turn w H = act_goes s e back key LinkDisconnect turn tt w H
+pub disowned_goes :
+    (s : Setting) (e : End) (back : List Tagged) (key : ℕ) (link : Link) (turn : Turn)
+    → link_at key turn.now.links ≡ Some link
+    → Goes s e back turn [] (changing (with_links (with_link key (without_owner link))) turn)
+disowned_goes s e back key link turn at w H = (
+  record {
+    parameters = H.parameters;
+    table = owner_table s.params (meant s) turn.now.links w.a.end.machine key link (between_calls s.local s.remote)
+        H.table at;
+    end_params = H.end_params;
+    tags = H.tags;
+    tagged_as = H.tagged_as;
+    ahead = H.ahead;
+    far_is = H.far_is;
+    back_is = H.back_is;
+  },
+  tt,
+)
 
 -- ---- a link that is made
 

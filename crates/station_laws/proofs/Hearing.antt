@@ -1,23 +1,18 @@
 -- A frame that is heard keeps what holds of a link between two calls: as an event of that link it is the frame in front
 -- of those in flight, and as an event of another it is not among them.
 use Rattle.station_laws.proofs.Common.{◌≡◌, ℕ, ◌<◌, Bool, true, false, List, [], ◌∷◌, length, drop, arith, cond, Option}
-use Rattle.station_laws.proofs.Common.{Some, None, is_some, refl, sym, ap, ◌∙◌, subst, inl, inr, All, MatchBool}
-use Rattle.station_laws.proofs.Common.{is_none, get_or-set_same, Callsign, BeginsWithPath, way_back, Path, Command}
+use Rattle.station_laws.proofs.Common.{Some, None, is_some, refl, sym, ap, ◌∙◌, subst, inl, All, is_none}
+use Rattle.station_laws.proofs.Common.{get_or-set_same, Callsign, BeginsWithPath, way_back, Path, Command}
 use Rattle.station_laws.proofs.Common.{BeginsWithPath-same, Frame, Eight, IsFrame, Machine, new_machine, modulus_named}
 use Rattle.station_laws.proofs.Common.{step, End, near_made, near_kept, Tagged, asks, World, near_turn, read_in}
-use Rattle.station_laws.proofs.Common.{repeated, PortKind, Kiss, Agw, Connection, IsPathOf, with_shown, IsHeard}
-use Rattle.station_laws.proofs.Common.{IsHeardBy, IsHeardAnew, IsHeardMaking, IsReadingHeardAnew, IsRepeatedFor}
-use Rattle.station_laws.proofs.Common.{AreHeardAt, AreOctetsHeard, may_make, showing_to, shown_to_hosts, source_field}
-use Rattle.station_laws.proofs.Common.{destination_field, waits_for_repeater, event_at, with_links, Link, Links}
-use Rattle.station_laws.proofs.Common.{most_links, is_between, key_between, link_at, with_new_link, making, idle_link}
-use Rattle.station_laws.proofs.Common.{no_layer_3, registrar, Out, Turn, in_order, changing, AreAlikeButForH}
-use Rattle.station_laws.proofs.Common.{with_none_done, LinkFrame, is_ask, event_at_end, LinkStep, link_step, steps_for}
-use Rattle.station_laws.proofs.Common.{steps_at, hears_at, new_steps, anew_steps, reading_steps, key_steps, path_steps}
-use Rattle.station_laws.proofs.Common.{by_path_steps, heard_steps, first_chosen}
+use Rattle.station_laws.proofs.Common.{repeated, IsHeard, shown_to_hosts, event_at, with_links, Link, Links, most_links}
+use Rattle.station_laws.proofs.Common.{is_between, key_between, link_at, with_new_link, making, idle_link, no_layer_3}
+use Rattle.station_laws.proofs.Common.{Turn, changing, AreAlikeButForH, with_none_done, LinkFrame, is_ask, event_at_end}
+use Rattle.station_laws.proofs.Common.{LinkStep, link_step, steps_for, steps_at, heard_steps, first_chosen}
+use Rattle.station_laws.proofs.Common.{StationState, Choice, IsNewKey}
 use Rattle.std.specs.Prelude.{map}
 use Rattle.link_machine.specs.Event.{Event as LinkEvent}
 use Rattle.link_machine.specs.Event.Event.{Hear as LinkHear}
-use Rattle.station.specs.Heard.{hearing_at, IsReadAs}
 use Rattle.station.specs.Links.{link_modulus}
 use Rattle.station_laws.proofs.Acts.{Setting, Holds, marks_of, still_holds, own_machine, own_heard, heard_told}
 use Rattle.station_laws.proofs.Acts.{heard_asking, heard_next, FrontRead, is_asking, asks_when_sent, other_event}
@@ -31,6 +26,8 @@ use Rattle.station_laws.proofs.Standing.{chosen_calls, calls_chosen, made_at}
 use Rattle.station_laws.proofs.Tables.{none_chosen, not_both}
 use Rattle.station_laws.proofs.Tags.{IsTagged, IsOther}
 use Rattle.station_laws.proofs.ValidCalls.{heard_good, none_by_position, at_position}
+use Rattle.station_laws.proofs.HeardAs.{Heard, heard_as, only_shows}
+use Rattle.station_laws.proofs.HeardAs.Heard.{passes, repeats, hears, hears_new}
 
 -- what is heard leaves the frames in flight: it is the front one, or one of another link
 pub data Pop (s : Setting) (octets : List ℕ) : List Tagged → List Tagged → Type 0 where
@@ -171,36 +168,6 @@ new_goes s e octets back stays before turn key link way path len frame w low pop
     is at (λ chosen. made_own s back before w key link way turn H may chosen new turn_is)
     (λ chosen. made_another s back before w key link turn H may chosen turn_is) (meant s (Some link)) refl))
 
--- ---- what is shown and repeated
-
-shown_still_to : (from to octets : List ℕ) (connections : List Connection) (turn : Turn)
-    → IsStill turn (in_order (map (showing_to from to octets) connections) turn)
-shown_still_to from to octets [] turn = still turn
-shown_still_to from to octets (connection ∷ connections) turn =
-    let rest = shown_still_to from to octets connections (showing_to from to octets connection turn) in
-    let first : (showing_to from to octets connection turn).out.queued ≡ turn.out.queued =
-    shown_queued from to octets connection.kind connection.id connection.raw turn.out in
-    record { links = rest.links; parameters = rest.parameters; queued = rest.queued ∙ first }
-  where
-    shown_queued : (f t o : List ℕ) (kind : PortKind) (id : ℕ) (raw : Bool) (out : Out)
-        → (with_shown kind id raw f t o out).queued ≡ out.queued
-    shown_queued f t o Kiss id raw out = refl
-    shown_queued f t o Agw id true out = refl
-    shown_queued f t o Agw id false out = refl
-
-pub shown_still : (path : Option Path) (octets : List ℕ) (frame : Option Frame) (turn : Turn)
-    → IsStill turn (shown_to_hosts path octets frame turn)
-shown_still path octets frame turn =
-    let calm = shown_still_to (source_field path) (destination_field path) octets turn.now.connections turn in
-    record { links = calm.links; parameters = calm.parameters; queued = calm.queued }
-
-repeated_still : (digi : Option Callsign) (octets : List ℕ) (before after : Turn)
-    → IsRepeatedFor digi octets before after → IsStill before after
-repeated_still None octets before after h = subst (IsStill before) (sym h) (still before)
-repeated_still (Some call) octets before after (inl is) =
-    subst (IsStill before) (sym is.2) (raw_still (repeated octets is.0) before)
-repeated_still (Some call) octets before after (inr is) = subst (IsStill before) (sym is.1) (still before)
-
 -- ---- what a heard frame comes to
 
 -- nothing, or an event of a link, perhaps of one that is made for it
@@ -218,138 +185,77 @@ not_empty :
 not_empty anew key event turn link None is empty = cc
 not_empty anew key event turn link (Some other) is empty = cc
 
-anew_outcome :
-    (s : Setting) (e : End) (octets : List ℕ) (path : Path) (len : ℕ) (registered : Option ℕ) (frame : Frame)
-    (before after : Turn) → All (λ octet. octet < 256) octets → BeginsWithPath octets path len
-    → IsFrame frame Eight octets → key_between path.dest path.source before.now.links ≡ None
-    → before.now.parameters ≡ s.params → length before.now.links.places ≡ most_links
-    → (h : IsHeardAnew registered frame before after)
-    → Outcome s e octets before after (anew_steps (meant s) registered frame before after h)
-    (anew_steps is_some registered frame before after h)
-anew_outcome s e octets path len None frame before after low begins is vacant params size h =
-    Passed (subst (IsStill before) (sym h) (still before)) refl refl
-anew_outcome s e octets path len (Some id) frame before after low begins is vacant params size h =
-    go (may_make frame.kind before.now.links) h
-  where
-    same : frame.path ≡ path
-    same = (BeginsWithPath-same octets frame.path path is.len len is.path begins).0
+-- of a link that is made
+new_outcome :
+    (s : Setting) (e : End) (octets : List ℕ) (key id : ℕ) (frame : Frame) (turn : Turn)
+    → All (λ octet. octet < 256) octets → IsFrame frame Eight octets
+    → key_between frame.path.dest frame.path.source turn.now.links ≡ None → turn.now.parameters ≡ s.params
+    → length turn.now.links.places ≡ most_links → IsNewKey key turn.now.links
+    → let way = way_back frame.path Command in
+    let made = making key id no_layer_3 frame.path.dest frame.path.source way turn in
+    Outcome s e octets turn (event_at key (LinkHear frame) made)
+    (steps_at (meant s) (Some way) key (LinkHear frame) made) (steps_at is_some (Some way) key (LinkHear frame) made)
+new_outcome s e octets key id frame turn low is vacant params size new =
+    let path = frame.path in
+    let way = way_back path Command in
+    let link = idle_link id no_layer_3 path.dest path.source way turn.now.parameters in
+    let made = making key id no_layer_3 path.dest path.source way turn in
+    Event (λ w back stays pop H.
+    new_goes s e octets back stays turn made key link way path is.len frame w low pop is.path refl refl is
+    (record {
+      new = new;
+      good = record {
+        path = heard_good octets path is.len Command is.path;
+        source = refl;
+        dest = refl;
+        params_are = params;
+        counts = record { modulus_is = inl refl; short = tt };
+      };
+      none = λ chosen. let calls = chosen_calls s.local s.remote link chosen in
+          subst (λ (l : Callsign). first_chosen (is_between l s.remote) turn.now.links.places ≡ None) calls.local_is
+          (subst (λ (r : Callsign). first_chosen (is_between path.dest r) turn.now.links.places ≡ None) calls.remote_is
+          (none_chosen (is_between path.dest path.source) turn.now.links.places
+          (none_by_position (is_between path.dest path.source) turn.now.links.places (ap is_none vacant))));
+    }) (ap (new_machine way) params) refl H)
+    (not_empty (Some way) key (LinkHear frame) made link (link_at key made.now.links)
+    (let within : key < length turn.now.links.places = let low_key = new.within in omega arith in
+    get_or-set_same turn.now.links.places key (Some link) None within))
 
-    way : Path
-    way = way_back frame.path Command
-
-    link : Link
-    link = idle_link id no_layer_3 frame.path.dest frame.path.source way before.now.parameters
-
-    go : (may : Bool) → (k : MatchBool may (IsHeardMaking id frame before after) (after ≡ before))
-        → Outcome s e octets before after (new_steps (meant s) id frame may before after k)
-        (new_steps is_some id frame may before after k)
-    go false k = Passed (subst (IsStill before) (sym k) (still before)) refl refl
-    go true k =
-        let made = making k.0 id no_layer_3 frame.path.dest frame.path.source way before in
-        Event (λ w back stays pop H.
-        subst (λ t. Kept s e stays t (steps_at (meant s) (Some way) k.0 (LinkHear frame) made) w)
-        (sym k.2)
-        (new_goes s e octets back stays before made k.0 link way path len frame w low pop begins
-        (ap (λ (p : Path). p.dest) same) (ap (λ (p : Path). p.source) same) is
-        (record {
-          new = k.1;
-          good = record {
-            path = heard_good octets frame.path is.len Command is.path;
-            source = refl;
-            dest = refl;
-            params_are = params;
-            counts = record { modulus_is = inl refl; short = tt };
-          };
-          none = λ chosen. let calls = chosen_calls s.local s.remote link chosen in
-              subst (λ (l : Callsign). first_chosen (is_between l s.remote) before.now.links.places ≡ None)
-              (sym (ap (λ (p : Path). p.dest) same) ∙ calls.local_is)
-              (subst (λ (r : Callsign). first_chosen (is_between path.dest r) before.now.links.places ≡ None)
-              (sym (ap (λ (p : Path). p.source) same) ∙ calls.remote_is)
-              (none_chosen (is_between path.dest path.source) before.now.links.places
-              (none_by_position (is_between path.dest path.source) before.now.links.places (ap is_none vacant))));
-        }) (ap (new_machine way) params) refl H))
-        (not_empty (Some way) k.0 (LinkHear frame) made link (link_at k.0 made.now.links)
-        (let within : k.0 < length before.now.links.places = let low_key = k.1.within in omega arith in
-        get_or-set_same before.now.links.places k.0 (Some link) None within))
-
-reading_outcome :
-    (s : Setting) (e : End) (octets : List ℕ) (path : Path) (len : ℕ) (reading : Option Frame)
-    (before after : Turn) → All (λ octet. octet < 256) octets → BeginsWithPath octets path len
-    → IsReadAs Eight octets reading → key_between path.dest path.source before.now.links ≡ None
-    → before.now.parameters ≡ s.params → length before.now.links.places ≡ most_links
-    → (h : IsReadingHeardAnew reading before after)
-    → Outcome s e octets before after (reading_steps (meant s) reading before after h)
-    (reading_steps is_some reading before after h)
-reading_outcome s e octets path len None before after low begins is vacant params size h =
-    Passed (subst (IsStill before) (sym h) (still before)) refl refl
-reading_outcome s e octets path len (Some frame) before after low begins is vacant params size h =
-    anew_outcome s e octets path len (registrar frame.path.dest before.now.registrations)
-    frame before after low begins is vacant
-    params size h
-
--- for the link of a key
+-- of the link of the two calls
 there_outcome :
-    (s : Setting) (e : End) (octets : List ℕ) (path : Path) (len key : ℕ) (reading : Option Frame) (before after : Turn)
+    (s : Setting) (e : End) (octets : List ℕ) (path : Path) (len key : ℕ) (frame : Frame) (turn : Turn)
     → All (λ octet. octet < 256) octets → BeginsWithPath octets path len
-    → key_between path.dest path.source before.now.links ≡ Some key
-    → IsReadAs (link_modulus (link_at key before.now.links)) octets reading → after ≡ hearing_at key reading before
-    → Outcome s e octets before after (hears_at (meant s) key reading before) (hears_at is_some key reading before)
-there_outcome s e octets path len key None before after low begins found is h =
-    Passed (subst (IsStill before) (sym h) (still before)) refl refl
-there_outcome s e octets path len key (Some frame) before after low begins found is h =
-    by_place (link_at key before.now.links) refl
+    → key_between path.dest path.source turn.now.links ≡ Some key
+    → IsFrame frame (link_modulus (link_at key turn.now.links)) octets
+    → Outcome s e octets turn (event_at key (LinkHear frame) turn)
+    (steps_at (meant s) None key (LinkHear frame) turn) (steps_at is_some None key (LinkHear frame) turn)
+there_outcome s e octets path len key frame turn low begins found is = by_place (link_at key turn.now.links) refl
   where
-    chosen : is_between path.dest path.source (link_at key before.now.links) ≡ true
-    chosen = at_position (is_between path.dest path.source) before.now.links.places key found
+    chosen : is_between path.dest path.source (link_at key turn.now.links) ≡ true
+    chosen = at_position (is_between path.dest path.source) turn.now.links.places key found
 
-    by_place : (place : Option Link) → link_at key before.now.links ≡ place
-        → Outcome s e octets before after (hears_at (meant s) key (Some frame) before)
-        (hears_at is_some key (Some frame) before)
+    by_place : (place : Option Link) → link_at key turn.now.links ≡ place
+        → Outcome s e octets turn (event_at key (LinkHear frame) turn)
+        (steps_at (meant s) None key (LinkHear frame) turn) (steps_at is_some None key (LinkHear frame) turn)
     by_place None at = absurd (not_both false (sym (ap (is_between path.dest path.source) at) ∙ chosen) refl)
     by_place (Some link) at =
         let calls = chosen_calls path.dest path.source link (sym (ap (is_between path.dest path.source) at) ∙ chosen) in
         Event (λ w back stays pop H.
-        subst (λ t. Kept s e stays t (hears_at (meant s) key (Some frame) before) w) (sym h)
-        (there_goes s e octets back stays before key link path len frame w low pop begins calls.local_is calls.remote_is
-        (subst (λ place. IsFrame frame (link_modulus place) octets) at is) at H))
-        (not_empty None key (LinkHear frame) before link (link_at key before.now.links) at)
+        there_goes s e octets back stays turn key link path len frame w low pop begins calls.local_is calls.remote_is
+        (subst (λ place. IsFrame frame (link_modulus place) octets) at is) at H)
+        (not_empty None key (LinkHear frame) turn link (link_at key turn.now.links) at)
 
-key_outcome :
-    (s : Setting) (e : End) (octets : List ℕ) (path : Path) (len : ℕ) (key : Option ℕ) (before after : Turn)
-    → All (λ octet. octet < 256) octets → BeginsWithPath octets path len
-    → key_between path.dest path.source before.now.links ≡ key → before.now.parameters ≡ s.params
-    → length before.now.links.places ≡ most_links → (h : AreHeardAt key octets before after)
-    → Outcome s e octets before after (key_steps (meant s) key octets before after h)
-    (key_steps is_some key octets before after h)
-key_outcome s e octets path len (Some key) before after low begins found params size h =
-    there_outcome s e octets path len key h.0 before after low begins found h.1 h.2
-key_outcome s e octets path len None before after low begins found params size h =
-    reading_outcome s e octets path len h.0 before after low begins h.1 found params size h.2
-
-path_outcome :
-    (s : Setting) (e : End) (octets : List ℕ) (path : Path) (len : ℕ) (waits : Bool) (before after : Turn)
-    → All (λ octet. octet < 256) octets → BeginsWithPath octets path len → before.now.parameters ≡ s.params
-    → length before.now.links.places ≡ most_links
-    → (h : MatchBool waits (IsRepeatedFor before.now.digi octets before after)
-    (AreOctetsHeard path octets before after))
-    → Outcome s e octets before after (path_steps (meant s) path waits octets before after h)
-    (path_steps is_some path waits octets before after h)
-path_outcome s e octets path len true before after low begins params size h =
-    Passed (repeated_still before.now.digi octets before after h) refl refl
-path_outcome s e octets path len false before after low begins params size h =
-    key_outcome s e octets path len (key_between path.dest path.source before.now.links)
-    before after low begins refl params size h
-
-by_path_outcome :
-    (s : Setting) (e : End) (octets : List ℕ) (path : Option Path) (before after : Turn)
-    → All (λ octet. octet < 256) octets → IsPathOf octets path → before.now.parameters ≡ s.params
-    → length before.now.links.places ≡ most_links → (h : IsHeardBy path octets before after)
-    → Outcome s e octets before after (by_path_steps (meant s) path octets before after h)
-    (by_path_steps is_some path octets before after h)
-by_path_outcome s e octets None before after low is params size h =
-    Passed (subst (IsStill before) (sym h) (still before)) refl refl
-by_path_outcome s e octets (Some path) before after low is params size h =
-    path_outcome s e octets path is.0 (waits_for_repeater path) before after low is.1 params size h
+outcome_of :
+    (s : Setting) (e : End) (octets : List ℕ) (turn : Turn) (steps : Choice → List LinkStep) (after : Turn)
+    → All (λ octet. octet < 256) octets → turn.now.parameters ≡ s.params → length turn.now.links.places ≡ most_links
+    → Heard octets turn steps after → Outcome s e octets turn after (steps (meant s)) (steps is_some)
+outcome_of s e octets turn steps after low params size passes = Passed (still turn) refl refl
+outcome_of s e octets turn steps after low params size (repeats call k is) =
+    Passed (raw_still (repeated octets k) turn) refl refl
+outcome_of s e octets turn steps after low params size (hears key len path frame begins found is) =
+    there_outcome s e octets path len key frame turn low begins found is
+outcome_of s e octets turn steps after low params size (hears_new key id frame is vacant known new) =
+    new_outcome s e octets key id frame turn low is vacant params size new
 
 -- what is shown before is nothing to a link
 after_showing :
@@ -369,8 +275,13 @@ pub heard_outcome :
     (heard_steps is_some octets before after h)
 heard_outcome s e octets before after low params size h =
     let shown = shown_to_hosts h.path octets h.monitored before in
-    let calm : IsStill before shown = shown_still h.path octets h.monitored before in
-    after_showing s e octets before shown after (by_path_steps (meant s) h.path octets shown after h.effect)
-    (by_path_steps is_some h.path octets shown after h.effect) calm
-    (by_path_outcome s e octets h.path shown after low h.reading (calm.parameters ∙ params)
-    (ap (λ (l : Links). length l.places) calm.links ∙ size) h.effect)
+    let shows = only_shows h.path octets h.monitored before in
+    let calm : IsStill before shown = record {
+      links = ap (λ (state : StationState). state.links) shows.now;
+      parameters = ap (λ (state : StationState). state.parameters) shows.now;
+      queued = shows.queued;
+    } in
+    after_showing s e octets before shown after (heard_steps (meant s) octets before after h)
+    (heard_steps is_some octets before after h) calm
+    (outcome_of s e octets shown (λ chosen. heard_steps chosen octets before after h) after low
+    (calm.parameters ∙ params) (ap (λ (l : Links). length l.places) calm.links ∙ size) (heard_as octets before after h))

@@ -1,4 +1,7 @@
 pub mod Common
+pub mod Causes
+pub mod HeardAs
+pub mod StationActs
 pub mod PathStays
 mod Flights
 pub mod Addresses

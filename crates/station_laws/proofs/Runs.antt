@@ -17,13 +17,12 @@ use Rattle.station.specs.Turn.{begin}
 use Rattle.station_laws.specs.JointRun.{HasOctets}
 use Rattle.station_laws.proofs.Acts.{Setting, Holds, still_holds}
 use Rattle.station_laws.proofs.Along.{near_all, AllFollowNear, Kept}
-use Rattle.station_laws.proofs.Events.{ticks_go}
 use Rattle.station_laws.proofs.Flights.{RiseFrom, before_flight, tag_at, flight, rise_lower}
 use Rattle.station_laws.proofs.Framed.{one_framed, framed, octets_in, octets_at, frames_at}
 use Rattle.station_laws.proofs.Hearing.{Pop, heard_outcome}
 use Rattle.station_laws.proofs.Hearing.Pop.{Own, Another}
 use Rattle.station_laws.proofs.Hearing.Outcome.{Passed, Event}
-use Rattle.station_laws.proofs.Messages.{host_goes, still_goes}
+use Rattle.station_laws.proofs.Messages.{host_goes, still_goes, ticks_go}
 use Rattle.station_laws.proofs.Standing.{IsTable}
 use Rattle.station_laws.proofs.Tags.{IsTag, AreTags}
 
