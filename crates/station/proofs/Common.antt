@@ -46,7 +46,7 @@ pub use Rattle.station.specs.Monitoring.{monitor_message, monitoring, to_monitor
 pub use Rattle.station.specs.NewLinks.{making, no_layer_3}
 pub use Rattle.station.specs.Registrations.{is_number, registrar}
 pub use Rattle.station.specs.Routes.{Route, calls_in}
-pub use Rattle.station.specs.StandsFor.{AreParts, HasOtherId, IsFreed, Reads, Shows, StandsFor}
+pub use Rattle.station.specs.StandsFor.{AreParts, HasOtherId, IsFreed, IsLive, Reads, Shows, StandsFor}
 pub use Rattle.station.specs.StandsFor.{StandsForConnection, StandsForLink, StandsForLinks, StandsForPlace}
 pub use Rattle.station.specs.State.{StationState}
 pub use Rattle.station.specs.TableSteps.{HasAt, IsSetAt, place_at, settled_at}
