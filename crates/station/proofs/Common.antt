@@ -23,7 +23,6 @@ pub use Rattle.link_machine.specs.Step.{done_of}
 pub use Rattle.link_machine.specs.declared.acts.Told.{Told}
 pub use Rattle.link_machine.specs.declared.params.Params.{Params}
 pub use Rattle.selective_reject.specs.declared.packet.Packet.{Packet}
-pub use Rattle.slab.specs.Slab.{Slab, Updates, get, slab_len}
 pub use Rattle.station.specs.AgwRequests.{AreAnswered, IsCallMade, giving_packet, giving_packets, may_call}
 pub use Rattle.station.specs.AgwRequests.{refused_reply, replying}
 pub use Rattle.station.specs.CallFields.{call_in}
@@ -32,7 +31,7 @@ unfoldable pub use Rattle.station.specs.FrameSpelling.{frame_octets}
 pub use Rattle.station.specs.HasFew.{HasFew}
 pub use Rattle.station.specs.Heard.{IsReadAs, IsRepeatedFor, may_make, showing, showing_to, shown_to_hosts}
 pub use Rattle.station.specs.Held.{Held, JoinsAnew, ids_in, without_ids}
-pub use Rattle.station.specs.HeldLinks.{HeldLinks, IsTable, is_held_between, places_of}
+pub use Rattle.station.specs.HeldLinks.{HeldLinks, IsTable, IsVacant, is_held_between}
 pub use Rattle.station.specs.HeldReading.{AreSaidItems, AreSaidMessages, IsSaid, Says}
 pub use Rattle.station.specs.HeldRoutes.{as_route}
 pub use Rattle.station.specs.Host.{ending, taking, with_host}
@@ -47,8 +46,8 @@ pub use Rattle.station.specs.Monitoring.{monitor_message, monitoring, to_monitor
 pub use Rattle.station.specs.NewLinks.{making, no_layer_3}
 pub use Rattle.station.specs.Registrations.{is_number, registrar}
 pub use Rattle.station.specs.Routes.{Route, calls_in}
-pub use Rattle.station.specs.StandsFor.{AreParts, HasOtherId, IsFreed, Reads, Shows, StandsFor, StandsForConnection}
-pub use Rattle.station.specs.StandsFor.{StandsForLink, StandsForLinks, StandsForPlace}
+pub use Rattle.station.specs.StandsFor.{AreParts, HasOtherId, IsFreed, IsLive, Reads, Shows, StandsFor}
+pub use Rattle.station.specs.StandsFor.{StandsForConnection, StandsForLink, StandsForLinks, StandsForPlace}
 pub use Rattle.station.specs.State.{StationState}
 pub use Rattle.station.specs.TableSteps.{HasAt, IsSetAt, place_at, settled_at}
 unfoldable pub use Rattle.station.specs.Ticks.{ticking_links}

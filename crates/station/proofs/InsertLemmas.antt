@@ -1,35 +1,9 @@
 -- A table of links in which one is put into a vacant place.
-use Rattle.station.proofs.Common.{◌≡◌, ◌≢◌, ℕ, ◌+◌, ◌<◌, count_by, is_some, Option, Some, None, IfSome, AllZip, sym}
-use Rattle.station.proofs.Common.{◌∙◌, ap, subst, arith, set, Slab, get, slab_len, Updates, Callsign, Path, OwnedLink}
-use Rattle.station.proofs.Common.{Parts, HeldLinks, places_of, IsTable, Link, Links, IsNewKey, link_at, making}
+use Rattle.station.proofs.Common.{◌≡◌, ℕ, ◌<◌, Option, Some, None, IfSome, AllZip, sym, ◌∙◌, subst, set, Callsign, Path}
+use Rattle.station.proofs.Common.{OwnedLink, Parts, HeldLinks, Link, Links, IsNewKey, link_at, making}
 use Rattle.station.proofs.Common.{StandsForLink, StandsForPlace, IsFreed, Shows, place_at, Out, Turn, length-set}
 use Rattle.station.specs.NewLinks.{idle_link}
 use Rattle.station.proofs.EventLemmas.{places-at, AllZip-set}
-use Rattle.station.proofs.Places.{length-places_of, place-places_of, places_of-set}
-use Rattle.station.proofs.TableLemmas.{count_set}
-
--- the places then
-pub places-inserted : (old new : Slab OwnedLink) (key : ℕ) (value : OwnedLink) → IsTable old → key < new.capacity
-    → new.capacity ≡ old.capacity → Updates old new key (Some value)
-    → places_of new ≡ set (places_of old) key (Some value)
-places-inserted old new key value h within capacity updates =
-    let below : key < 64 = omega (arith, within, capacity, h.capacity) in
-    places_of-set old new key (Some value) below updates.changed updates.others
-
-pub IsTable-inserted : (old new : Slab OwnedLink) (key : ℕ) (value : OwnedLink) → IsTable old → get old key ≡ None
-    → key < new.capacity → new.capacity ≡ old.capacity → Updates old new key (Some value)
-    → slab_len new ≡ slab_len old + 1 → IsTable new
-IsTable-inserted old new key value h vacant within capacity updates len =
-    let below : key < 64 = omega (arith, within, capacity, h.capacity) in
-    let of_places = count_set (places_of old) key (Some value) None (omega (arith, length-places_of old, below))
-    (place-places_of old key None below ∙ vacant) in
-    let of_new = ap (λ xs. count_by is_some xs) (places-inserted old new key value h within capacity updates) in
-    record {
-      capacity = capacity ∙ h.capacity;
-      beyond = λ other far. let ne : other ≢ key = λ same. omega (arith, below, far, same) in updates.others other ne
-          ∙ h.beyond other far;
-      count = omega (arith, of_places, of_new, h.count, len);
-    }
 
 none_place : (place : Option Link) → StandsForPlace None place → place ≡ None
 none_place None h = λ i. None

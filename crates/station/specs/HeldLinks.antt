@@ -1,9 +1,8 @@
--- What the code keeps of the links: a slab of 64 places. No public clause cites it.
-use Rattle.std.specs.Prelude.{◌≡◌, ℕ, ◌≤◌, ◌&&◌, Bool, false, List, map, count_by, is_some, Option, Some, None}
-use Rattle.std.specs.List.{range_with_len}
+-- What the code keeps of the links: 64 places. No public clause cites it.
+use Rattle.std.specs.Prelude.{◌≡◌, ℕ, ◌<◌, ◌&&◌, Bool, false, List, length, count_by, is_some, slice_index_or, Option}
+use Rattle.std.specs.Prelude.{Some, None}
 use Rattle.ax25_address.specs.Callsign.{Callsign}
 use Rattle.ax25_address.specs.SameCall.{is_same_call}
-use Rattle.slab.specs.Slab.{Slab, get, slab_len}
 use Rattle.station.specs.declared.owned_link.OwnedLink.{OwnedLink}
 use Rattle.station.specs.Links.{most_links}
 
@@ -17,12 +16,12 @@ abbrev pub is_held_between : Callsign → Callsign → Option OwnedLink → Bool
 is_held_between local remote None = false
 is_held_between local remote (Some link) = is_same_call link.local local && is_same_call link.remote remote
 
--- the first 64 places of a slab
-abbrev pub places_of : Slab OwnedLink → List (Option OwnedLink)
-places_of slab = map (get slab) (range_with_len 0 most_links)
+-- no link has the key
+pub record IsVacant (key : ℕ) (places : List (Option OwnedLink)) : Type 0 where
+  pub within : key < most_links
+  pub none : slice_index_or places key None ≡ None
 
--- a slab with exactly these places
-pub record IsTable (slab : Slab OwnedLink) : Type 0 where
-  pub capacity : slab.capacity ≡ most_links
-  pub beyond : (key : ℕ) → most_links ≤ key → get slab key ≡ None
-  pub count : slab_len slab ≡ count_by is_some (places_of slab)
+-- 64 places, and while there is room for a link, its key is vacant
+pub record IsTable (held : HeldLinks) : Type 0 where
+  pub size : length held.places ≡ most_links
+  pub room : count_by is_some held.places < most_links → IsVacant held.next held.places

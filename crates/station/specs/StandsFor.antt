@@ -76,6 +76,13 @@ pub record StandsFor (held : Held) (s : StationState) : Type 0 where
   pub live : held.spent ≡ false
   pub parts : AreParts held.parts s
 
+-- Every station that met no want of memory stands for one of the definitions.
+abbrev pub StandsForSome : Held → Type 0
+StandsForSome held = (s : StationState) × StandsFor held s
+
+abbrev pub IsLive : Held → Type 0
+IsLive held = held.spent ≡ false → StandsForSome held
+
 -- the parts and what they gave so far stand for the turn
 pub record Shows (parts : Parts) (out : Out) (turn : Turn) : Type 0 where
   pub holds : AreParts parts turn.now

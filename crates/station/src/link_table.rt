@@ -1,11 +1,11 @@
 //! The links by their keys.
-ghost use Rattle.std.specs.Prelude.{◌≡◌, ℕ, ◌<◌, ◌≤◌, ◌↔◌, List, [], All, IfOk, OnOk, OnErr, IfSome, IsTrue};
+ghost use Rattle.std.specs.Prelude.{◌≡◌, ℕ, ◌<◌, ◌≤◌, ◌↔◌, List, [], All, IfOk, OnOk, OnErr, IfSome, IsTrue, length};
 ghost use Rattle.std.specs.Prelude.{replicate, true, position, count_by, is_some, nat_lt, slice_set, Some, None};
 ghost use Rattle.std.specs.Option.{option_copied, option_or};
 ghost use Rattle.link_machine.specs.Sent.{IsWritable};
 ghost use Rattle.link_machine.specs.Step.{step, done_of};
 ghost use Rattle.station.specs.HasFew.{HasFew};
-ghost use Rattle.station.specs.HeldLinks.{is_held_between};
+ghost use Rattle.station.specs.HeldLinks.{is_held_between, IsVacant};
 ghost use Rattle.station.specs.LinkRequests.{event_of, held_modulus, HasNumbers, stepped_link};
 ghost use Rattle.station.specs.Leaving.{without_owner};
 ghost use Rattle.station.specs.Links.{Link, Links};
@@ -19,7 +19,6 @@ use crate::owned_link::OwnedLink;
 use ax25_address::Call;
 use ax25_frames::Modulus;
 use link_machine::Acts;
-use slab::Slab;
 use std::alloc::Global;
 use std::marker::Model;
 use tnc_base::OutOfMemory;
@@ -30,38 +29,40 @@ pub(crate) const MOST_LINKS: u32 = 64;
 /// The links of a station. A key is the number of a place.
 #[derive(Drop)]
 pub struct LinkTable {
-    slab: Slab<OwnedLink>,
+    // The link or nothing at each key.
+    places: Vec<Option<OwnedLink>>,
+    // The key of the next link, if there is room for one.
+    next: u32,
 }
 
 impl Model for LinkTable {
-    ghost use Rattle.station.specs.HeldLinks.{HeldLinks, places_of, IsTable};
+    ghost use Rattle.station.specs.HeldLinks.{HeldLinks, IsTable};
 
     ghost Value = { HeldLinks };
 
-    ghost view = { λ table. record { places = places_of table.slab; next = table.slab.vacant_key } };
+    ghost view = { λ table. record { places = table.places.items; next = table.next } };
 
-    ghost invariant = { λ table. IsTable table.slab };
+    ghost invariant = { λ table. IsTable (record { places = table.places.items; next = table.next }) };
 }
 
 impl LinkTable {
-    /// No link. All memory is taken here. A slab that has more places than were asked for would give other keys, and is
-    /// refused as memory that was not given.
+    /// No link. All memory is taken here.
     pub(crate) fn new(alloc: Global) -> Result<LinkTable, OutOfMemory>
         ensures { IfOk result (λ table. table ≡ record { places = replicate MOST_LINKS None; next = 0 }) }
     {
-        let slab = Slab::with_capacity(alloc, MOST_LINKS as usize)?;
-        if slab.capacity() != MOST_LINKS as usize {
-            return Err(OutOfMemory);
+        let mut places = Vec::with_capacity(alloc, MOST_LINKS as usize)?;
+        for _ in 0..MOST_LINKS {
+            places.push_reserved(None);
         }
-        Ok(LinkTable { slab })
+        Ok(LinkTable { places, next: 0 })
     }
 
     /// Whether each link of the connection holds at most 512 packets.
     pub(crate) fn hold_few(&self, id: u32) -> bool
         ensures { IsTrue result ↔ All (λ place. IfSome place (HasFew id)) self.now.places }
     {
-        for key in 0..MOST_LINKS {
-            if let Some(link) = self.slab.get(key as usize)
+        for place in &self.places {
+            if let Some(link) = place
                 && !link.has_few(id)
             {
                 return false;
@@ -75,9 +76,7 @@ impl LinkTable {
         ensures { result ≡ position (is_held_between local.now remote.now) self.now.places }
     {
         for key in 0..MOST_LINKS {
-            if let Some(link) = self.slab.get(key as usize)
-                && link.is_between(local, remote)
-            {
+            if is_between(&self.places[key as usize], local, remote) {
                 return Some(key);
             }
         }
@@ -89,7 +88,7 @@ impl LinkTable {
         ensures count { result ≡ count_by is_some self.now.places }
         ensures most { result ≤ 64 }
     {
-        self.slab.len() as u32
+        count(&self.places) as u32
     }
 
     /// Whether there is room for one more.
@@ -108,14 +107,20 @@ impl LinkTable {
         ensures places { self.new.places ≡ slice_set self.old.places result (Some link) }
         ensures there { place_at result self.new ≡ Some link }
     {
-        self.slab.insert_reserved(link) as u32
+        let key = self.next;
+        self.places[key as usize] = Some(link);
+        self.next = first_vacant(&self.places);
+        key
     }
 
     /// The link of a key.
     pub(crate) fn get(&self, key: u32) -> Option<&OwnedLink>
         ensures { option_copied result ≡ place_at key self.now }
     {
-        self.slab.get(key as usize)
+        match self.places.get(key as usize) {
+            Some(Some(link)) => Some(link),
+            _ => None,
+        }
     }
 
     /// The modulus of the link that a key has; 8 if it has none.
@@ -165,7 +170,10 @@ impl LinkTable {
         ensures writable { IfOk result (λ acts. All IsWritable acts.frames) }
         ensures wanted { OnErr result (memory.new.refused ≡ true) }
     {
-        let Some(link) = self.slab.get_mut(key as usize) else {
+        let Some(place) = self.places.get_mut(key as usize) else {
+            return Ok(no_acts(memory.alloc()));
+        };
+        let Some(link) = place else {
             return Ok(no_acts(memory.alloc()));
         };
         link.take(memory, event)
@@ -175,7 +183,10 @@ impl LinkTable {
     pub(crate) fn disown(&mut self, key: u32)
         ensures { (link : Link) → HasAt key self.old link → IsSetAt key self.old self.new (without_owner link) }
     {
-        let Some(link) = self.slab.get_mut(key as usize) else {
+        let Some(place) = self.places.get_mut(key as usize) else {
+            return;
+        };
+        let Some(link) = place else {
             return;
         };
         link.disown();
@@ -186,12 +197,43 @@ impl LinkTable {
         ensures { (link : Link) → HasAt key self.old link
             → self.new ≡ settled_at key self.old link.machine.control.state }
     {
-        let Some(link) = self.slab.get(key as usize) else {
+        let Some(link) = self.get(key) else {
             return;
         };
         if !link.is_idle() {
             return;
         }
-        self.slab.remove(key as usize);
+        self.places[key as usize] = None;
+        self.next = key;
     }
+}
+
+/// Whether there is a link between two calls in a place.
+fn is_between(place: &Option<OwnedLink>, local: &Call, remote: &Call) -> bool
+    ensures { result ≡ is_held_between local.now remote.now place.now }
+{
+    match place {
+        Some(link) => link.is_between(local, remote),
+        None => false,
+    }
+}
+
+/// How many places have a value.
+fn count<T>(places: &[Option<T>]) -> usize
+    ensures { result ≡ count_by is_some places.now }
+{
+    places.iter().filter(|place| place.is_some()).count()
+}
+
+/// The first place without a link; 64 if each has one.
+fn first_vacant(places: &[Option<OwnedLink>]) -> u32
+    requires { length places.now ≡ MOST_LINKS }
+    ensures { count_by is_some places.now < MOST_LINKS → IsVacant result places.now }
+{
+    for key in 0..MOST_LINKS {
+        if places[key as usize].is_none() {
+            return key;
+        }
+    }
+    MOST_LINKS
 }

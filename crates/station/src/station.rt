@@ -21,8 +21,8 @@ use tnc_base::OutOfMemory;
 /// A connection gives octets only while fewer frames than this wait to be sent.
 const MOST_WAITING: usize = 100;
 
-/// The links, hosts and channel of one station. It stands for the state that the calls so far have made, until one of
-/// them answers want of memory: from then on it is spent, and each call that may answer that does.
+/// The links, hosts and channel of one station. It always stands for the state that the calls so far have made, until
+/// one of them answers want of memory: from then on it is spent, and each call that may answer that does.
 #[derive(Drop)]
 pub struct Station {
     memory: Memory,
@@ -31,10 +31,13 @@ pub struct Station {
 
 impl Model for Station {
     ghost use Rattle.station.specs.Held.{Held};
+    ghost use Rattle.station.specs.StandsFor.{IsLive};
 
     ghost Value = { Held };
 
     ghost view = { λ s. record { parts = s.parts; spent = s.memory.refused } };
+
+    ghost invariant = { λ s. IsLive (record { parts = s.parts; spent = s.memory.refused }) };
 }
 
 impl Station {
@@ -46,7 +49,7 @@ impl Station {
     ghost use Rattle.station.specs.Ticks.{IsTick, air_of};
     ghost use Rattle.station.specs.Monitored.{modulus_between};
     ghost use Rattle.station.specs.Held.{IsAdmitted, Takes, ids_of, ids_behind};
-    ghost use Rattle.station.specs.StandsFor.{StandsFor};
+    ghost use Rattle.station.specs.StandsFor.{StandsFor, StandsForSome};
 
     /// A station without connections and links, whose channel draws from a seed. Refused if the window does not fit
     /// the mode (0, over 7 with REJ, over 4 with SREJ), and else if the wide window does not (0, over 127, over 64).
@@ -83,6 +86,7 @@ impl Station {
     /// an AGWPE body over 4096 octets is closed and has left. Fails only for want of memory, and is then spent.
     pub fn host(&mut self, event: HostEvent) -> Result<HostOut, OutOfMemory>
         requires { IsAdmitted event self.old }
+        ensures stood { self.old.spent ≡ false → StandsForSome self.old }
         ensures step { (s : StationState) → StandsFor self.old s → IfOk result (λ out. (next : StationState)
             × IsHostTurn event (begin s) (record { now = next; out = out }) × StandsFor self.new next) }
         ensures ids { IfOk result (λ out. ids_of self.new ≡ ids_behind event out.closed (ids_of self.old)) }
@@ -102,6 +106,7 @@ impl Station {
     /// then spent.
     pub fn heard(&mut self, octets: &[u8]) -> Result<HostOut, OutOfMemory>
         requires { HasFrameLength octets.now }
+        ensures stood { self.old.spent ≡ false → StandsForSome self.old }
         ensures step { (s : StationState) → StandsFor self.old s → IfOk result (λ out. (next : StationState)
             × IsHeard octets.now (begin s) (record { now = next; out = out }) × StandsFor self.new next) }
         ensures ids { OnOk result (ids_of self.new ≡ ids_of self.old) }
@@ -120,6 +125,7 @@ impl Station {
     /// A tick of 10 ms of each link, in the order of their keys, and then of the channel; `busy` says whether
     /// another station is heard. Fails only for want of memory, and is then spent.
     pub fn tick(&mut self, busy: bool) -> Result<TickOut, OutOfMemory>
+        ensures stood { self.old.spent ≡ false → StandsForSome self.old }
         ensures air { (s : StationState) → StandsFor self.old s → IfOk result (λ tick. tick.air ≡ air_of busy s) }
         ensures step { (s : StationState) → StandsFor self.old s → IfOk result (λ tick. (next : StationState)
             × IsTick busy (begin s) (record { now = next; out = tick.out }) × StandsFor self.new next) }

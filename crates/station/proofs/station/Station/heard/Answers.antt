@@ -1,4 +1,4 @@
-use Rattle.station.proofs.Common.{refl, sym, subst, Held, AreParts, StandsFor, Out, begin}
+use Rattle.station.proofs.Common.{◌≡◌, true, false, refl, sym, ◌∙◌, subst, Held, AreParts, StandsFor, IsLive, Out, begin}
 use Rattle.station.specs.Heard.{IsHeard}
 use Rattle.station.proofs.station.Station.heard.Goals as goal
 
@@ -12,3 +12,16 @@ returns-clause-step c = λ s h.
           (sym p.2.gave) p.1,
       record { live = c.settle.ensures; parts = p.2.holds },
     )
+
+pub invariant_of-self : goal.invariant_of-self
+invariant_of-self c = λ live.
+    let clash : true ≡ false = sym c.in_err-hear.ensures.wanted ∙ live in absurd (cc)
+
+pub invariant_of-self-2 : goal.invariant_of-self-2
+invariant_of-self-2 c = λ live.
+    let old = c.self.invariant (sym c.has_refused.ensures ∙ c.if-has_refused.false) in
+    let p = c.in_ok-hear.ensures.heard (begin old.0) (record { holds = old.1.parts; gave = c.new-out.ensures }) in
+    (p.0.now, record { live = c.settle.ensures; parts = p.2.holds })
+
+pub returns-clause-stood : goal.returns-clause-stood
+returns-clause-stood c = subst IsLive c.self.view_is c.self.invariant

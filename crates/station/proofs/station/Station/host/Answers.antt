@@ -1,4 +1,4 @@
-use Rattle.station.proofs.Common.{refl, sym, ◌∙◌, ap, subst, Held, JoinsAnew, AreParts, StandsFor, Out, begin}
+use Rattle.station.proofs.Common.{◌≡◌, true, false, refl, sym, ◌∙◌, ap, subst, Held, JoinsAnew, AreParts, StandsFor, IsLive, Out, begin}
 use Rattle.station.specs.Held.{ids_behind, ids_of}
 use Rattle.station.specs.Host.{IsHostTurn}
 use Rattle.station.proofs.HostLemmas.{admitted_anew}
@@ -23,3 +23,16 @@ pub returns-clause-ids : goal.returns-clause-ids
 returns-clause-ids c =
     c.in_ok-host.ensures.ids (ap (λ (out : Out). out.closed) c.new-out.ensures)
     ∙ ap (λ (held : Held). ids_behind c.args.event c.host.new.out.closed (ids_of held)) c.self.view_is
+
+pub invariant_of-self : goal.invariant_of-self
+invariant_of-self c = λ live.
+    let clash : true ≡ false = sym c.in_err-host.ensures.wanted ∙ live in absurd (cc)
+
+pub invariant_of-self-2 : goal.invariant_of-self-2
+invariant_of-self-2 c = λ live.
+    let old = c.self.invariant (sym c.has_refused.ensures ∙ c.if-has_refused.false) in
+    let p = c.in_ok-host.ensures.step (begin old.0) (record { holds = old.1.parts; gave = c.new-out.ensures }) in
+    (p.0.now, record { live = c.settle.ensures; parts = p.2.holds })
+
+pub returns-clause-stood : goal.returns-clause-stood
+returns-clause-stood c = subst IsLive c.self.view_is c.self.invariant
