@@ -10,17 +10,17 @@ use Rattle.channel_bench.proofs.Common.{match_of, with_matched, with_stray, Acce
 use Rattle.channel_bench.proofs.Common.{IsCalled, IsGiven, IsGivenPiece, IsListening, is_complete, with_asking}
 use Rattle.channel_bench.proofs.Common.{with_calling, with_giving, ProgramState, next_piece, AreMatched, BothWays}
 use Rattle.channel_bench.proofs.Common.{LinkFrame, Moment, after_moment, after_moments, nothing_sent, sent_by, steps_in}
-use Rattle.channel_bench.proofs.Common.{Passes, Steps, Step, Stations, state_of, with_state, LinkStep, link_steps_at}
+use Rattle.channel_bench.proofs.Common.{Passes, Steps, Step, Stations, with_state, LinkStep, link_steps_at}
 use Rattle.channel_bench.proofs.Common.{passed_below, sounding, ticked, text_at, AsksFindRoom, queued_passed}
 use Rattle.std.specs.List.{AllByRecursion as Each}
 use Rattle.channel_bench.specs.BenchState.{new_side}
 use Rattle.channel_bench.specs.HostProgram.{has_all, has_all_in}
-use Rattle.channel_bench.proofs.CoreRun.{Occurs, Usual, heard_calm, input_of, piece_short}
+use Rattle.channel_bench.proofs.CoreRun.{Occurs, Usual, heard_calm, input_of, piece_short, state_twice, state_there}
 use Rattle.channel_bench.proofs.CoreRun.Usual.{connects, disconnects, gives, hears, ticks}
 use Rattle.channel_bench.proofs.GivesSees.{gives_sees}
 use Rattle.channel_bench.proofs.LinkNow.{Known, links_of}
 use Rattle.channel_bench.proofs.NextSees.{BothSee, noted_step, step_sees}
-use Rattle.channel_bench.proofs.NotedRun.{moments_more, noted_kept, steps_more, steps_passed}
+use Rattle.channel_bench.proofs.NotedRun.{noted_kept, steps_more, steps_passed}
 use Rattle.channel_bench.proofs.HostStreams.{IsWhole, new_stream}
 use Rattle.channel_bench.proofs.OwnLinks.{IsOwnPlace, OwnsAll}
 use Rattle.channel_bench.proofs.ProgramSees.{GaveAll, GaveAllIn}
@@ -30,6 +30,7 @@ use Rattle.channel_bench.proofs.SideSees.{SideSees}
 use Rattle.channel_bench.proofs.Sounded.{heard_as, sounded}
 use Rattle.channel_bench.proofs.StepSees.{IsReady, SeesAt, queue_of}
 use Rattle.channel_bench.proofs.ThereStays.{HasProgram, is_there}
+use Rattle.channel_bench.proofs.FlightLemmas.{moments_more}
 
 -- ---- what holds of a bench
 
@@ -119,15 +120,6 @@ pub little_of : (w : BenchWords) (bench : BenchState) (e : End) (n : Near) → H
 little_of w bench A n h = h.little
 little_of w bench B n h = h.little
 
-state_now : (e : End) (state : StationState) (s : Stations) → state ≡ state_of e (with_state e state s)
-state_now A state s = refl
-state_now B state s = refl
-
-state_again : (e : End) (one two : StationState) (s : Stations)
-    → with_state e two (with_state e one s) ≡ with_state e two s
-state_again A one two s = refl
-state_again B one two s = refl
-
 holds_of :
     (w : BenchWords) (bench : BenchState) (e : End) (n : Near)
     → IsNoted w n.common.moments (with_state e n.side.station (stations_of bench))
@@ -166,12 +158,12 @@ stepped_holds w bench e usual matched before after occurs h calm holds keeps =
     let step = noted_step e usual matched before after h in
     let next = moments ++ Steps step matched ∷ [] in
     let is : after.common.moments ≡ next = ap (λ (n : Near). n.common.moments) h.is in
-    let at = state_now e before.side.station (stations_of bench) in
+    let at = state_there e before.side.station (stations_of bench) in
     let noted = noted_of w bench e before holds in
     let little = little_of w bench e before holds in
     let noted_next = (noted_kept w).steps e usual matched before after s occurs h calm at noted in
     let little_next = (asks_kept w).steps e usual matched before after s occurs h calm at little in
-    let same = state_again e before.side.station after.side.station (stations_of bench) in
+    let same = state_twice e before.side.station after.side.station (stations_of bench) in
     holds_of w bench e after (subst (IsNoted w after.common.moments) same noted_next)
     (subst (AskLittle after.common.moments) same little_next)
     (λ p.
@@ -197,7 +189,7 @@ near_holds w bench e usual matched before after occurs h calm holds ready =
     (λ known later old.
     step_sees w e usual matched before after (side_at (other e) bench)
     (with_state e before.side.station (stations_of bench))
-    occurs h (state_now e before.side.station (stations_of bench)) known later (both_of w bench e before holds old)
+    occurs h (state_there e before.side.station (stations_of bench)) known later (both_of w bench e before holds old)
     (ready old))
 
 -- the next piece is given
@@ -213,13 +205,13 @@ given_holds w bench e piece n next is accepts h calm holds =
     let step = noted_step e (gives piece) None (with_giving piece n) next h in
     let more = moments ++ Steps step None ∷ [] in
     let moments_are : next.common.moments ≡ more = ap (λ (x : Near). x.common.moments) h.is in
-    let at = state_now e n.side.station (stations_of bench) in
+    let at = state_there e n.side.station (stations_of bench) in
     let short = piece_short (text_at w e) n.side.program.running piece is in
     let noted = noted_of w bench e n holds in
     let little = little_of w bench e n holds in
     let noted_next = (noted_kept w).steps e (gives piece) None (with_giving piece n) next s short h calm at noted in
     let little_next = (asks_kept w).steps e (gives piece) None (with_giving piece n) next s short h calm at little in
-    let same = state_again e n.side.station next.side.station (stations_of bench) in
+    let same = state_twice e n.side.station next.side.station (stations_of bench) in
     holds_of w bench e next (subst (IsNoted w next.common.moments) same noted_next)
     (subst (AskLittle next.common.moments) same little_next)
     (λ p.

@@ -413,7 +413,7 @@ rules_fit busy channel h = go (is_none channel.air)
     go true = begun_fits busy channel
     go false = h
 
-rules_wait : (busy : Bool) (channel : Channel) → (after_rules busy channel).waiting ≡ channel.waiting
+pub rules_wait : (busy : Bool) (channel : Channel) → (after_rules busy channel).waiting ≡ channel.waiting
 rules_wait busy channel = go (is_none channel.air)
   where
     go : (b : Bool) → (cond b (with_decision (decision busy channel) channel) channel).waiting ≡ channel.waiting

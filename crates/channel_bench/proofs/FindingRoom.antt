@@ -1,15 +1,15 @@
 -- Each step of A's station in a bench keeps one key for all frames that wait there. Each SABM, SABME and DISC of its
 -- link that is not up finds room, if the link does not wish to disconnect while it is idle or calls.
 use Rattle.channel_bench.proofs.Common.{◌≡◌, ℕ, ◌<◌, Bool, true, false, nat_lt, List, [], ◌∷◌, length, drop, cond}
-use Rattle.channel_bench.proofs.Common.{Option, Some, None, is_none, refl, sym, ap, ◌∙◌, subst, arith, inl, inr, ⊤}
-use Rattle.channel_bench.proofs.Common.{range_with_len, list_any, call_field, spelling, AgwMessage, Channel}
-use Rattle.channel_bench.proofs.Common.{after_rules, air_waiting, decision, with_decision, OnAir, bits_then, decided}
-use Rattle.channel_bench.proofs.Common.{names_next, WaitingFrame, A, each_weaker, PortKind, Kiss, Agw, connect_kind}
-use Rattle.channel_bench.proofs.Common.{data_kind, disconnect_kind, register_kind, IsAnswered, called_route, own_key}
-use Rattle.channel_bench.proofs.Common.{call_in, most_connections, joining, taking, with_host, no_call, Links}
-use Rattle.channel_bench.proofs.Common.{most_links, StationState, most_waiting, ticking_links, Turn, begin, changing}
-use Rattle.channel_bench.proofs.Common.{closing, program_id, kiss_id, call_at, request, request_between, IsTurn}
-use Rattle.channel_bench.proofs.Common.{LinkStep, tick_steps, turn_steps, AsksInRoom, asks_when_sent}
+use Rattle.channel_bench.proofs.Common.{Option, Some, None, refl, sym, ap, ◌∙◌, subst, arith, inl, inr, ⊤}
+use Rattle.channel_bench.proofs.Common.{range_with_len, list_any, call_field, spelling, AgwMessage, after_rules}
+use Rattle.channel_bench.proofs.Common.{air_waiting, OnAir, bits_then, decided, names_next, WaitingFrame, A}
+use Rattle.channel_bench.proofs.Common.{each_weaker, PortKind, Kiss, Agw, connect_kind, data_kind, disconnect_kind}
+use Rattle.channel_bench.proofs.Common.{register_kind, IsAnswered, called_route, own_key, call_in, most_connections}
+use Rattle.channel_bench.proofs.Common.{joining, taking, with_host, no_call, Links, most_links, StationState}
+use Rattle.channel_bench.proofs.Common.{most_waiting, ticking_links, Turn, begin, changing, closing, program_id}
+use Rattle.channel_bench.proofs.Common.{kiss_id, call_at, request, request_between, IsTurn, LinkStep, tick_steps}
+use Rattle.channel_bench.proofs.Common.{turn_steps, AsksInRoom, asks_when_sent}
 use Rattle.std.specs.List.{AllByRecursion as Each}
 use Rattle.link_machine.specs.Event.{Event as LinkEvent}
 use Rattle.link_machine.specs.Event.Event.{Connect as LinkConnect, Send as LinkSend, Disconnect as LinkDisconnect}
@@ -23,17 +23,18 @@ use Rattle.channel_bench.proofs.HearsLittle.{WishesNothing, hear_asks}
 use Rattle.channel_bench.proofs.HostsStay.{HasHosts, IsSaid, IsSet, said_by, set_by}
 use Rattle.channel_bench.proofs.HostsStay.IsSaid.{said, unheard}
 use Rattle.channel_bench.proofs.HostsStay.IsSet.{full, unheard as alone}
-use Rattle.channel_bench.proofs.KeyedHearing.{Hearing, IsHearing, heard_hears}
 use Rattle.channel_bench.proofs.KeyedSteps.{Finds, call_finds, data_keyed, disconnect_keyed, registering_keyed}
 use Rattle.channel_bench.proofs.KeyedSteps.{ticks_find}
 use Rattle.station_laws.proofs.LinkDid.{IsOfLink}
 use Rattle.channel_bench.proofs.OneKey.{HasKey, IsKeyed, Keyed}
-use Rattle.channel_bench.proofs.OwnLinks.{IsBy, IsUnshown, OwnsAll, chosen}
+use Rattle.channel_bench.proofs.OwnLinks.{IsBy, IsUnshown, OwnsAll, chosen, heard_says}
 use Rattle.channel_bench.proofs.OwnMessages.{Comes, IsHeardFrom, IsRefusable, called, cause_in, said_go, usual_comes}
 use Rattle.channel_bench.proofs.OwnMessages.Comes.{by_link, joined, refused, replied}
 use Rattle.channel_bench.proofs.ProgramsAsk.{between_written, registers_written}
 use Rattle.station_laws.proofs.Causes.{Cause, cause_of}
-use Rattle.station_laws.proofs.Causes.Cause.{nothing, sending, disconnecting}
+use Rattle.station_laws.proofs.Causes.Cause.{nothing, sending, disconnecting, hearing}
+use Rattle.channel_bench.proofs.KeyedHearing.{heard_keyed}
+use Rattle.channel_bench.proofs.ChannelOrder.{rules_wait}
 
 -- ---- a tick of the channel
 
@@ -58,13 +59,6 @@ air_empty waiting (Some t) is = go (names_next (bits_then t) (decided (bits_then
     go : (b : Bool) → cond b (drop 1 waiting) waiting ≡ []
     go true = ap (drop 1) is
     go false = is
-
-rules_keep : (busy : Bool) (c : Channel) → (after_rules busy c).waiting ≡ c.waiting
-rules_keep busy c = go (is_none c.air)
-  where
-    go : (b : Bool) → (cond b (with_decision (decision busy c) c) c).waiting ≡ c.waiting
-    go true = refl
-    go false = refl
 
 air_keyed :
     (key : ℕ) (waiting : List WaitingFrame) (links : Links) (air : Option OnAir) → IsKeyed key waiting links
@@ -143,19 +137,19 @@ pub record HearsCalm (s : LinkStep) : Type 0 where
   pub of_link : IsOfLink s.event
   pub wishes : WishesNothing s.link.machine.control.state s.link.machine.control.quit
 
-hears_room : (s : LinkStep) → Hearing s → HearsCalm s → AsksInRoom s
-hears_room s hearing calm = go s.event refl hearing calm.of_link
+hears_room : (s : LinkStep) → IsBy hearing s → HearsCalm s → AsksInRoom s
+hears_room s by calm = go s.event refl by calm.of_link
   where
-    go : (event : LinkEvent) → s.event ≡ event → IsHearing event → IsOfLink event → AsksInRoom s
-    go LinkConnect is h link = absurd h
-    go (LinkSend packet) is h link = absurd h
-    go LinkDisconnect is h link = absurd h
-    go (LinkHear frame) is h link = if_down s (λ down. drops_none s
+    go : (event : LinkEvent) → s.event ≡ event → cause_of event ≡ hearing → IsOfLink event → AsksInRoom s
+    go LinkConnect is c link = absurd (cc)
+    go (LinkSend packet) is c link = absurd (cc)
+    go LinkDisconnect is c link = absurd (cc)
+    go (LinkHear frame) is c link = if_down s (λ down. drops_none s
         (ap (λ event. list_any asks_when_sent (link_turn s.link.machine event).sent) is
         ∙ hear_asks s.link.machine frame link down calm.wishes))
-    go (LinkTick waiting) is h link = absurd h
+    go (LinkTick waiting) is c link = absurd (cc)
 
-all_hear_room : (steps : List LinkStep) → Each Hearing steps → Each HearsCalm steps → Each AsksInRoom steps
+all_hear_room : (steps : List LinkStep) → Each (IsBy hearing) steps → Each HearsCalm steps → Each AsksInRoom steps
 all_hear_room [] h k = tt
 all_hear_room (s ∷ steps) h k = (hears_room s h.0 k.0, all_hear_room steps h.1 k.1)
 
@@ -253,15 +247,18 @@ usual_finds disconnects s u before turn calm =
     (disconnect_keyed (own_key program_id m v.now.links) v k))
     (said_by m (begin s) u (between_written disconnect_kind A [] (omega arith)) before.hosts turn)) turn
 usual_finds (hears octets) s u before turn calm =
-    let made = heard_hears octets (begin s) u before.hosts.digi before.owns before.from before.keyed turn in
-    (made.0, all_hear_room (turn_steps (chosen A) (input_of A (hears octets)) (begin s) u turn) made.1 calm)
+    let says = heard_says hearing A octets (begin s) u refl before.hosts.digi before.owns before.unshown before.from
+    turn in (
+      heard_keyed octets (begin s) u before.hosts.digi before.owns before.from before.keyed turn,
+      all_hear_room (turn_steps (chosen A) (input_of A (hears octets)) (begin s) u turn) says.causes calm,
+    )
 usual_finds (ticks busy) s u before turn calm =
     let found = ticks_find_all s before.keyed in
     let key = found.0.0 in
     let now = (ticking_links (begin s)).now in
     let rules = after_rules busy now.channel in
     let keyed : IsKeyed key rules.waiting now.links =
-    subst (λ xs. IsKeyed key xs now.links) (sym (rules_keep busy now.channel)) found.0.1 in (
+    subst (λ xs. IsKeyed key xs now.links) (sym (rules_wait busy now.channel)) found.0.1 in (
       subst (λ (v : Turn). Keyed v.now) (sym turn.effect) (key, air_keyed key rules.waiting now.links rules.air keyed),
       found.1,
     )

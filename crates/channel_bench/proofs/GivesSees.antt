@@ -28,11 +28,11 @@ use Rattle.channel_bench.proofs.OwnMessages.Comes.{by_link, joined, refused, rep
 use Rattle.channel_bench.proofs.ProgramSees.{GaveAllIn, Sees, send_sees}
 use Rattle.channel_bench.proofs.ProgramsAsk.{hosts_at}
 use Rattle.channel_bench.proofs.Shorts.{GivesShort, ShortStep, steps_written}
-use Rattle.channel_bench.proofs.SideSees.{SideSees, asked_kept, called_kept, linked, never_asks, seen_append}
-use Rattle.channel_bench.proofs.SideSees.{side_after}
+use Rattle.channel_bench.proofs.SideSees.{SideSees, asked_kept, called_kept, linked, never_asks, side_after}
 use Rattle.channel_bench.proofs.StepSees.{SeesAt, far_sees, queue_of, step_laws, unshown_of}
 use Rattle.channel_bench.proofs.ThereStays.{HasProgram, is_there, there_grows}
 use Rattle.station_laws.proofs.Causes.Cause.{sending}
+use Rattle.station_laws.proofs.SeenLemmas.{seen_append}
 
 -- ---- the piece
 

@@ -14,21 +14,15 @@ use Rattle.std.proofs.Math.Nat.{max-le}
 use Rattle.std.proofs.lemmas.Option.{slice_get_within}
 use Rattle.station_laws.specs.InFlight.{IsInFlight}
 use Rattle.channel_bench.proofs.ChannelOrder.{octets_of, sent_octets}
-use Rattle.station_laws.proofs.Framed.{octets_framed, octets_in}
-use Rattle.channel_bench.proofs.NotedRun.{moments_more, steps_more}
+use Rattle.station_laws.proofs.Framed.{octets_in, at_end_octets}
+use Rattle.channel_bench.proofs.NotedRun.{steps_more}
 use Rattle.channel_bench.proofs.SentInOrder.{InOrder, sent_at, sent_in_step, sent_more}
 use Rattle.channel_bench.proofs.TowardsLemmas.{IsMatchAt, Rising, counted_within, has_passed, octets_at, passed_counted}
 use Rattle.channel_bench.proofs.TowardsLemmas.{rising_later, rising_more, still_there}
 use Rattle.station_laws.proofs.Ways.{hearing_one, hearing_none, stepped_other, stepped_own}
+use Rattle.channel_bench.proofs.FlightLemmas.{moments_more}
 
 -- ---- the frames that links have queued, in a run with its matches
-
-at_end_framed : (x e : End) (on : Bool) (queue : List (List ℕ))
-    → octets_in (at_end x e (framed on queue)) ≡ at_end x e queue
-at_end_framed A A on queue = octets_framed on queue
-at_end_framed A B on queue = refl
-at_end_framed B A on queue = refl
-at_end_framed B B on queue = octets_framed on queue
 
 queued_in :
     (e : End) (moments : List Moment) (ways : BothWays)
@@ -44,7 +38,7 @@ queued_in e (Steps step m ∷ moments) ways =
     ∙ ap (λ xs. xs ++ queued_at e (steps_in moments))
     (map-append (λ (f : LinkFrame). f.octets) (sent_by e ways).queued
     (at_end e step.station (framed (hears_ask step.input) step.after.out.queued))
-    ∙ ap (λ xs. before ++ xs) (at_end_framed e step.station (hears_ask step.input) step.after.out.queued))
+    ∙ ap (λ xs. before ++ xs) (at_end_octets e step.station (hears_ask step.input) step.after.out.queued))
     ∙ append_assoc before joins (queued_at e (steps_in moments))
 queued_in e (Passes sender below ∷ moments) ways =
     queued_in e moments (after_moment (Passes sender below) ways)

@@ -18,9 +18,8 @@ use Rattle.channel_bench.proofs.OwnMessages.Comes.{by_link, joined, refused, rep
 use Rattle.channel_bench.proofs.ProgramSees.{GaveAll, GivesNothing, Sees, steps_see}
 use Rattle.channel_bench.proofs.ProgramsAsk.{hosts_at}
 use Rattle.channel_bench.proofs.Shorts.{ShortStep, steps_written}
-use Rattle.channel_bench.proofs.SideSees.{SideSees, by_connect, by_disconnect, by_gives, each_map, joined_sees, linked}
-use Rattle.channel_bench.proofs.SideSees.{none_given_up, none_short, refused_sees, replied_sees, seen_append}
-use Rattle.channel_bench.proofs.SideSees.{side_after}
+use Rattle.channel_bench.proofs.SideSees.{SideSees, by_connect, by_disconnect, by_gives, joined_sees, linked}
+use Rattle.channel_bench.proofs.SideSees.{none_given_up, none_short, refused_sees, replied_sees, side_after}
 use Rattle.channel_bench.proofs.StepSees.{IsReady, SeesAt, Wishes, connect_wishes, connects_one, disconnect_wishes}
 use Rattle.channel_bench.proofs.StepSees.{disconnects_one, far_sees, heard_from, links_more, matched_last, not_sending}
 use Rattle.channel_bench.proofs.StepSees.{plain_wishes, queue_more, queue_of, runs_set_up, step_laws, uncalled_rests}
@@ -28,6 +27,8 @@ use Rattle.channel_bench.proofs.StepSees.{unshown_of}
 use Rattle.channel_bench.proofs.ThereStays.{HasProgram, is_there, there_grows}
 use Rattle.station_laws.proofs.Causes.{Cause}
 use Rattle.station_laws.proofs.Causes.Cause.{nothing, connecting, sending, disconnecting, hearing, ticking}
+use Rattle.link_world.proofs.law.Each.{each_weaker}
+use Rattle.station_laws.proofs.SeenLemmas.{seen_append}
 
 -- the step as it is noted
 abbrev pub noted_step : (e : End) (usual : Usual) (matched : Option ℕ) (before after : Near)
@@ -74,13 +75,13 @@ own_queue e moments step found is =
 no_disconnects : (c : Cause) → (c ≡ disconnecting → ⊥) → (made : List LinkStep) → Each (IsBy c) made
     → Each (λ (x : LinkStep). is_disconnect x.event ≡ false) made
 no_disconnects c other made by =
-    each_map (IsBy c) (λ (x : LinkStep). is_disconnect x.event ≡ false) (λ x is. by_disconnect c other x.event is)
+    each_weaker (IsBy c) (λ (x : LinkStep). is_disconnect x.event ≡ false) (λ x is. by_disconnect c other x.event is)
     made by
 
 no_connects : (c : Cause) → (c ≡ connecting → ⊥) → (made : List LinkStep) → Each (IsBy c) made
     → Each (λ (x : LinkStep). is_connect x.event ≡ false) made
 no_connects c other made by =
-    each_map (IsBy c) (λ (x : LinkStep). is_connect x.event ≡ false) (λ x is. by_connect c other x.event is) made by
+    each_weaker (IsBy c) (λ (x : LinkStep). is_connect x.event ≡ false) (λ x is. by_connect c other x.event is) made by
 
 -- what is asked for and called in it
 wishes_of :
@@ -173,10 +174,10 @@ came w e usual moments next s t side far there turn on made own later links far_
     let events = links_of e moments in
     let c = cause_in usual in
     let none : Each (λ (x : LinkStep). GivesNothing x.event) made =
-    each_map (IsBy c) (λ (x : LinkStep). GivesNothing x.event) (λ x is. by_gives c not_gives x.event is)
+    each_weaker (IsBy c) (λ (x : LinkStep). GivesNothing x.event) (λ x is. by_gives c not_gives x.event is)
     made says.causes in
-    let given = each_map (λ (x : LinkStep). GivesNothing x.event) GivenUp none_given_up made none in
-    let short = each_map (λ (x : LinkStep). GivesNothing x.event) ShortStep none_short made none in
+    let given = each_weaker (λ (x : LinkStep). GivesNothing x.event) GivenUp none_given_up made none in
+    let short = each_weaker (λ (x : LinkStep). GivesNothing x.event) ShortStep none_short made none in
     let laws = step_laws w e moments next t side far p made later links far_next
     (each_append GivenUp events made own.given given) (each_append ShortStep events made own.short short) own.sees in
     let chain = (chain_parts (first_machine w e) events made

@@ -27,12 +27,6 @@ steps_passed [] sender below = refl
 steps_passed (Steps first m ∷ moments) sender below = ap (λ steps. first ∷ steps) (steps_passed moments sender below)
 steps_passed (Passes s b ∷ moments) sender below = steps_passed moments sender below
 
-pub moments_more :
-    (moments : List Moment) (moment : Moment) (ways : BothWays)
-    → after_moments (moments ++ moment ∷ []) ways ≡ after_moment moment (after_moments moments ways)
-moments_more [] moment ways = refl
-moments_more (first ∷ moments) moment ways = moments_more moments moment (after_moment first ways)
-
 quiet_more :
     (moments : List Moment) (moment : Moment) (ways : BothWays) → AreQuietThrough moments ways
     → IsQuietIn moment (after_moments moments ways) → AreQuietThrough (moments ++ moment ∷ []) ways

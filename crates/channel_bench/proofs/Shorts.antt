@@ -14,6 +14,7 @@ use Rattle.link_world.specs.Origin.{GotInOrder as PacketsInOrder}
 use Rattle.link_world.specs.SetUps.{SetUp as LinkSetUp}
 use Rattle.station_laws.specs.SetUpsSeen.{last_seen_changed}
 use Rattle.channel_bench.proofs.OwnLinks.{message_at, messages_by, messages_of}
+use Rattle.link_world.proofs.law.Each.{each_last}
 
 abbrev pub IsShort : Packet → Type 0
 IsShort packet = length packet.octets ≤ most_octets
@@ -34,10 +35,6 @@ GotShort q = Each IsShort q.got
 each_left : {T : Type 0} (P : T → Type 0) (xs ys : List T) → Each P (xs ++ ys) → Each P xs
 each_left P [] ys h = tt
 each_left P (x ∷ xs) ys h = (h.0, each_left P xs ys h.1)
-
-each_last : {T : Type 0} (P : T → Type 0) (xs : List T) (x : T) → Each P (xs ++ x ∷ []) → P x
-each_last P [] x h = h.0
-each_last P (y ∷ xs) x h = each_last P xs x h.1
 
 -- ---- what is given
 

@@ -6,7 +6,7 @@ use Rattle.channel_bench.proofs.Common.{or_cases, append-nil, AgwMessage, IsWrit
 use Rattle.channel_bench.proofs.Common.{data_kind, disconnect_kind, register_kind, Turn, begin, SetUp, BenchWords}
 use Rattle.channel_bench.proofs.Common.{set_up_of, SideState, told_pieces, ProgramState, getting, opening, set_ups_of}
 use Rattle.channel_bench.proofs.Common.{told_all, LinkFrame, LinkStep, runs_behind, told_in, IsGivenWhileUp, Seen}
-use Rattle.channel_bench.proofs.Common.{seen_by, seen_by_all, AsksInSetUp, asked_after, asked_behind, called_after}
+use Rattle.channel_bench.proofs.Common.{seen_by_all, AsksInSetUp, asked_after, asked_behind, called_after}
 use Rattle.channel_bench.proofs.Common.{called_behind, framed, is_connect, is_disconnect, not_both}
 use Rattle.std.specs.List.{AllByRecursion as Each}
 use Rattle.link_machine.specs.Event.{Event as LinkEvent}
@@ -41,15 +41,6 @@ pub record SideSees (w : BenchWords) (e : End) (side : SideState) (events : List
   pub queued : Each (λ (f : LinkFrame). IsOwnFrame e f.octets) queue
 
 -- ---- lists
-
-pub seen_append : (first second : List LinkStep) (seen : List Seen)
-    → seen_by_all (first ++ second) seen ≡ seen_by_all second (seen_by_all first seen)
-seen_append [] second seen = refl
-seen_append (step ∷ first) second seen = seen_append first second (seen_by step seen)
-
-pub each_map : {T : Type 0} (P Q : T → Type 0) → ((x : T) → P x → Q x) → (xs : List T) → Each P xs → Each Q xs
-each_map P Q f [] h = tt
-each_map P Q f (x ∷ xs) h = (f x h.0, each_map P Q f xs h.1)
 
 own_framed : (e : End) (on : Bool) (queued : List (List ℕ)) → Each (IsOwnFrame e) queued
     → Each (λ (f : LinkFrame). IsOwnFrame e f.octets) (framed on queued)

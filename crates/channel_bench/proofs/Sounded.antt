@@ -1,9 +1,10 @@
 -- What both stations send reaches them: what that changes of the bench, and what it leaves.
-use Rattle.channel_bench.proofs.Common.{◌≡◌, ℕ, suc, ◌==◌, ◌||◌, ◌&&◌, not, Bool, true, false, ℤ, pos, List, [], ◌∷◌}
-use Rattle.channel_bench.proofs.Common.{length, replicate, cond, refl, ap, ◌∙◌, length-replicate, Lcg, A, B, BenchWords}
+use Rattle.channel_bench.proofs.Common.{◌≡◌, ℕ, ◌==◌, ◌||◌, ◌&&◌, not, Bool, true, false, ℤ, pos, List, length}
+use Rattle.channel_bench.proofs.Common.{replicate, cond, refl, ap, ◌∙◌, length-replicate, Lcg, A, B, BenchWords}
 use Rattle.channel_bench.proofs.Common.{BenchState, Near, SideState, near, with_near, after_noise, carried, is_lost}
 use Rattle.channel_bench.proofs.Common.{reaching, sends, sent_in, sounding, with_loss, with_losses, with_noise}
-use Rattle.channel_bench.proofs.Common.{with_samples, with_transmission, with_words, after_word}
+use Rattle.channel_bench.proofs.Common.{with_samples, with_transmission, with_words}
+use Rattle.channel_bench.proofs.WordLemmas.{length-with_words}
 
 -- a transmission that begins is lost or not
 abbrev lost_as : Bool → Lcg → ℕ → ℕ → Near → Near
@@ -43,16 +44,12 @@ loss_of loss n = go n.side.air.began
 
 -- ---- as many samples as the tick has
 
-words_long : (noise : ℕ) (samples : List ℤ) (draws : Lcg) → length (with_words noise samples draws) ≡ length samples
-words_long noise [] draws = refl
-words_long noise (sample ∷ samples) draws = ap suc (words_long noise samples (after_word draws))
-
 noise_long : (noise : ℕ) (samples : List ℤ) (draws : Lcg) → length (with_noise noise samples draws) ≡ length samples
 noise_long noise samples draws = go (noise == 0)
   where
     go : (b : Bool) → length (cond b samples (with_words noise samples draws)) ≡ length samples
     go true = refl
-    go false = words_long noise samples draws
+    go false = length-with_words noise samples draws
 
 reaching_long : (full : Bool) (sender hearer : SideState) → length sender.air.samples ≡ 96
     → length (reaching full sender hearer) ≡ 96

@@ -22,15 +22,16 @@ use Rattle.channel_bench.proofs.CoreRun.Usual.{registers, sets_full, ticks}
 use Rattle.channel_bench.proofs.FindingRoom.{CalmIn, HearsCalm, TakesCall, usual_finds}
 use Rattle.channel_bench.proofs.HearsLittle.{asked_wishes}
 use Rattle.channel_bench.proofs.HostsStay.{HasHosts}
-use Rattle.channel_bench.proofs.KeyedHearing.{Hearing, IsHearing, heard_hears}
 use Rattle.channel_bench.proofs.KeyedSteps.{Finds}
 use Rattle.channel_bench.proofs.LinkNow.{first_machine, links_of}
 use Rattle.channel_bench.proofs.NextSees.{noted_step, own_events}
 use Rattle.channel_bench.proofs.NotedRun.{noted_kept, steps_more}
 use Rattle.channel_bench.proofs.OneKey.{Keyed}
-use Rattle.channel_bench.proofs.OwnLinks.{IsOwnFrame, OwnsAll, chosen}
+use Rattle.channel_bench.proofs.OwnLinks.{IsOwnFrame, OwnsAll, chosen, heard_says, IsBy}
 use Rattle.channel_bench.proofs.OwnMessages.{IsHeardFrom}
 use Rattle.channel_bench.proofs.StepSees.{heard_from, matched_last, queue_of, unshown_of}
+use Rattle.station_laws.proofs.Causes.{cause_of}
+use Rattle.station_laws.proofs.Causes.Cause.{hearing}
 
 -- ---- what is known
 
@@ -64,30 +65,30 @@ run_chain_of w moments s noted matched =
     run_chained config config (seed_at w A) (seed_at w B) (steps_in moments) (pairs_in moments) the_calls noted.run
     order.0 order.1
 
-hears_asks : (event : LinkEvent) → IsHearing event → is_disconnect event ≡ false
+hears_asks : (event : LinkEvent) → cause_of event ≡ hearing → is_disconnect event ≡ false
 hears_asks LinkConnect h = refl
 hears_asks (LinkSend packet) h = refl
-hears_asks LinkDisconnect h = absurd h
+hears_asks LinkDisconnect h = absurd (cc)
 hears_asks (LinkHear frame) h = refl
 hears_asks (LinkTick waiting) h = refl
 
 -- Events by which frames are heard find no wish to disconnect while the link is idle or calls.
 calm_events :
-    (asked : Bool) (m : Machine) (steps : List LinkStep) → IsChain m steps → Each OfLink steps → Each Hearing steps
+    (asked : Bool) (m : Machine) (steps : List LinkStep) → IsChain m steps → Each OfLink steps → Each (IsBy hearing) steps
     → StandsAsked asked m.control.state m.control.quit → Each HearsCalm steps
-calm_events asked m [] chain link hearing stands = tt
-calm_events asked m (step ∷ steps) chain link hearing stands =
+calm_events asked m [] chain link by stands = tt
+calm_events asked m (step ∷ steps) chain link by stands =
     let there : StandsAsked asked step.link.machine.control.state step.link.machine.control.quit =
     subst (λ (x : Machine). StandsAsked asked x.control.state x.control.quit) chain.0
     (made_like (StandsAsked asked) refl step.anew m stands) in
     let turn = link_turn step.link.machine step.event in
     let next = asked_step step.link.machine step.event asked
-    (λ is. absurd (not_both (is_disconnect step.event) is (hears_asks step.event hearing.0))) there in (
+    (λ is. absurd (not_both (is_disconnect step.event) is (hears_asks step.event by.0))) there in (
       record {
         of_link = link.0;
         wishes = asked_wishes asked step.link.machine.control.state step.link.machine.control.quit there;
       },
-      calm_events (asked_after asked (is_disconnect step.event) turn.told) turn.now steps chain.1 link.1 hearing.1 next,
+      calm_events (asked_after asked (is_disconnect step.event) turn.told) turn.now steps chain.1 link.1 by.1 next,
     )
 
 parts_link : (first second : List LinkStep) → Each OfLink (first ++ second) → Each OfLink second
@@ -98,14 +99,14 @@ parts_link (x ∷ first) second h = parts_link first second h.1
 heard_calm :
     (w : BenchWords) (moments later : List Moment) (t : Stations) (made : List LinkStep) → IsNoted w later t
     → AreMatched later nothing_sent → links_of A later ≡ links_of A moments ++ made
-    → Each AsksInSetUp (links_of A moments) → Each Hearing made → Each HearsCalm made
-heard_calm w moments later t made noted matched links asks hearing =
+    → Each AsksInSetUp (links_of A moments) → Each (IsBy hearing) made → Each HearsCalm made
+heard_calm w moments later t made noted matched links asks by =
     let events = links_of A moments in
     let run = run_chain_of w later t noted matched in
     let chain = chain_parts (first_machine w A) events made (subst (IsChain (first_machine w A)) links run.chain_a) in
     let stands = chain_asked false (first_machine w A) events chain.0 asks refl in
     calm_events (asked_behind false events) (last_machine (first_machine w A) events) made chain.1
-    (parts_link events made (subst (Each OfLink) links run.of_link)) hearing stands
+    (parts_link events made (subst (Each OfLink) links run.of_link)) by stands
 
 -- ---- a step of A's station
 
@@ -138,14 +139,14 @@ finds_at_a w usual matched before after s occurs takes h calm at known keyed all
       from = from;
       takes = takes;
       keyed = keyed;
-    }) h.makes (calm_in usual h.makes hosts owns from (λ hearing.
+    }) h.makes (calm_in usual h.makes hosts owns from (λ by.
     heard_calm w moments next later (steps_of (chosen A) step) noted all_matched
-    (own_events A moments step matched refl) known.asks hearing))
+    (own_events A moments step matched refl) known.asks by))
   where
     calm_in :
         (u : Usual) (turn : IsTurn (input_of A u) (begin before.side.station) h.turn) → HasHosts before.side.station
         → OwnsAll A before.side.station → IsHeardFrom A u
-        → (Each Hearing (turn_steps (chosen A) (input_of A u) (begin before.side.station) h.turn turn)
+        → (Each (IsBy hearing) (turn_steps (chosen A) (input_of A u) (begin before.side.station) h.turn turn)
         → Each HearsCalm (turn_steps (chosen A) (input_of A u) (begin before.side.station) h.turn turn))
         → CalmIn u (turn_steps (chosen A) (input_of A u) (begin before.side.station) h.turn turn)
     calm_in joins_kiss turn hosts owns from calms = tt
@@ -156,7 +157,8 @@ finds_at_a w usual matched before after s occurs takes h calm at known keyed all
     calm_in (gives piece) turn hosts owns from calms = tt
     calm_in disconnects turn hosts owns from calms = tt
     calm_in (hears octets) turn hosts owns from calms =
-        calms (heard_hears octets (begin before.side.station) h.turn hosts.digi owns from keyed turn).1
+        calms (heard_says hearing A octets (begin before.side.station) h.turn refl hosts.digi owns
+        (unshown_of before.side.station.connections hosts.connections) from turn).causes
     calm_in (ticks busy) turn hosts owns from calms = tt
 
 -- ---- a step of either

@@ -24,15 +24,18 @@ use Rattle.channel_bench.proofs.CoreRun.Usual.{connects, disconnects, gives, hea
 use Rattle.channel_bench.proofs.CoreRun.Usual.{registers, sets_full, ticks}
 use Rattle.channel_bench.proofs.HostsStay.{HasHosts, IsHosts}
 use Rattle.channel_bench.proofs.LinkNow.{GivenUp, Known, law_short, link_told, links_of}
-use Rattle.channel_bench.proofs.NotedRun.{moments_more, steps_more}
+use Rattle.channel_bench.proofs.NotedRun.{steps_more}
 use Rattle.channel_bench.proofs.OwnLinks.{IsFromPartner, IsOwnFrame, IsUnshown, chosen, messages_of}
 use Rattle.channel_bench.proofs.OwnMessages.{IsHeardFrom, cause_in, said_go}
 use Rattle.channel_bench.proofs.ProgramSees.{GaveAll, Sees}
 use Rattle.channel_bench.proofs.ProgramsAsk.{between_written}
 use Rattle.channel_bench.proofs.Shorts.{GotShort, ShortStep, TellsShort, each_slice, steps_short}
-use Rattle.channel_bench.proofs.SideSees.{SideSees, asked_kept, asked_one, called_kept, called_one, each_map}
-use Rattle.channel_bench.proofs.SideSees.{never_asks, seen_append, some_seen}
+use Rattle.channel_bench.proofs.SideSees.{SideSees, asked_kept, asked_one, called_kept, called_one, never_asks}
+use Rattle.channel_bench.proofs.SideSees.{some_seen}
 use Rattle.station_laws.proofs.Causes.Cause.{sending}
+use Rattle.link_world.proofs.law.Each.{each_weaker}
+use Rattle.station_laws.proofs.SeenLemmas.{seen_append}
+use Rattle.channel_bench.proofs.FlightLemmas.{moments_more}
 
 -- ---- a run with a step more
 
@@ -209,7 +212,7 @@ plain_wishes w e p events made no_disconnect no_connect asked calls = record {
       (sym (asked_append false events made) ∙ is);
   calls = λ is.
       called_append false events made ∙ called_kept e made (called_behind false events) p no_connect calls is;
-  asks = each_map NoDisconnect AsksInSetUp never_asks made no_disconnect;
+  asks = each_weaker NoDisconnect AsksInSetUp never_asks made no_disconnect;
 }
 
 pub connect_wishes :
@@ -221,7 +224,7 @@ connect_wishes w e p events made no_disconnect one asked none = record {
       asked_kept w.octets e made (asked_behind false events) p no_disconnect asked
       (sym (asked_append false events made) ∙ is);
   calls = λ is. called_append false events made ∙ go made one is;
-  asks = each_map NoDisconnect AsksInSetUp never_asks made no_disconnect;
+  asks = each_weaker NoDisconnect AsksInSetUp never_asks made no_disconnect;
 }
   where
     go : (xs : List LinkStep) → AtMostOne xs → (told_all (messages_of e xs) p).calls ≡ true

@@ -17,13 +17,14 @@ use Rattle.channel_bench.proofs.CoreRun.{IsToldUsual, piece_short, told_as}
 use Rattle.channel_bench.proofs.CoreRun.Usual.{joins_kiss, sets_full, joins_program, registers, connects, disconnects}
 use Rattle.channel_bench.proofs.InTime.{WayHolds, matched_more, queued_is, way_closed, way_same, way_sounded}
 use Rattle.channel_bench.proofs.InTime.{ways_after}
-use Rattle.channel_bench.proofs.NotedRun.{moments_more, steps_passed}
+use Rattle.channel_bench.proofs.NotedRun.{steps_passed}
 use Rattle.channel_bench.proofs.RunOfParts.{IsCalm, parted}
 use Rattle.channel_bench.proofs.SentInOrder.{InOrder, SentInTurn, order_kept, sent_at}
 use Rattle.channel_bench.proofs.Sounded.{sounded}
 use Rattle.channel_bench.proofs.TimedSteps.{AtBench, from_a, from_b, near_a, near_b, near_clock, near_given, near_heard}
 use Rattle.channel_bench.proofs.TimedSteps.{near_host, near_told, part_at, HoldsThen}
 use Rattle.channel_bench.proofs.TowardsLemmas.{counted_within, each_passes, octets_at}
+use Rattle.channel_bench.proofs.FlightLemmas.{moments_more}
 
 -- nothing is pending, and the samples of this tick are not there yet
 abbrev pub AtRest : BenchState → Type 0

@@ -1,70 +1,19 @@
 -- A step of the station whose hosts never connect nor disconnect: its end stays idle or up, and sends nothing that
 -- asks. None of its own asks is in flight and no answer to one, so each event finds a quiet channel, and by the law no
 -- N(R) is invalid, for which it would call.
-use Rattle.station_laws.proofs.Common.{◌≡◌, ℕ, ◌+◌, Bool, true, List, [], ◌∷◌, ◌++◌, Option, Some, None, refl, sym, ap}
-use Rattle.station_laws.proofs.Common.{◌∙◌, subst, append_assoc, Path, LinkState, Idle, Calling, Up, Releasing, Machine}
-use Rattle.station_laws.proofs.Common.{B, Change, changed, run_changes, made_in, AreQuiet, hears_valid_in}
-use Rattle.station_laws.proofs.Common.{ChangesAreValid, Keeps, Tagged, names_valid, read_names_valid, first_names_valid}
-use Rattle.station_laws.proofs.Common.{reads_valid, hears_valid, RecordedEnd, World, seen_from, Pairs, makes}
-use Rattle.station_laws.proofs.Common.{marks_from, event_at_end, changes_by, all_changes_by, LinkStep, IsOfNoHost}
+use Rattle.station_laws.proofs.Common.{◌≡◌, ℕ, ◌+◌, true, List, [], ◌∷◌, ◌++◌, sym, ap, ◌∙◌, subst, append_assoc}
+use Rattle.station_laws.proofs.Common.{Machine, B, Change, run_changes, AreQuiet, ChangesAreValid, Keeps, Tagged}
+use Rattle.station_laws.proofs.Common.{hears_valid, World, seen_from, Pairs, makes, marks_from, event_at_end}
+use Rattle.station_laws.proofs.Common.{changes_by, all_changes_by, LinkStep, IsOfNoHost}
 use Rattle.std.specs.List.{AllByRecursion as Each}
-use Rattle.link_machine.specs.Event.{Event as LinkEvent}
-use Rattle.link_machine.specs.Event.Event.{Connect as LinkConnect, Send as LinkSend, Disconnect as LinkDisconnect}
-use Rattle.link_machine.specs.Event.Event.{Hear as LinkHear, Tick as LinkTick}
-use Rattle.station_laws.proofs.Acts.{ReadsFront}
 use Rattle.station_laws.proofs.Along.{makes_near, near_by, AllFollowNear, FollowsNear, by_seen, makes_seen}
 use Rattle.station_laws.proofs.Along.{run_changes-append}
-use Rattle.station_laws.proofs.Calm.{IsCalmState, IsCalm, HearsValid, StaysCalm, calm_step}
+use Rattle.station_laws.proofs.Calm.{IsCalm, HearsValid, StaysCalm, calm_step}
 use Rattle.station_laws.proofs.CallerQuiet.{quiet_in}
 use Rattle.station_laws.proofs.Exchanges.{AsksIn, AsksOut, in_made, in_moves}
 use Rattle.station_laws.proofs.NearQuiet.{sends_none}
 use Rattle.station_laws.proofs.QuietRuns.{quiet-append, quiet_by}
-
--- ---- what is valid
-
--- the last of a list of changes
-valid_last :
-    (w : World) (first : List Change) (change : Change) → ChangesAreValid w (first ++ change ∷ [])
-    → hears_valid_in change (run_changes w first) ≡ true
-valid_last w [] change valid = valid.0
-valid_last w (next ∷ first) change valid = valid_last (changed w next) first change valid.1
-
-valid_seen :
-    (event : LinkEvent) (ms : List Bool) (w : World) → hears_valid_in (Keeps (event_at_end B event) ms) w ≡ true
-    → hears_valid (event_at_end B event) (seen_from B w) ≡ true
-valid_seen LinkConnect ms w valid = valid
-valid_seen (LinkSend packet) ms w valid = valid
-valid_seen LinkDisconnect ms w valid = valid
-valid_seen (LinkHear frame) ms w valid = valid
-valid_seen (LinkTick waiting) ms w valid = valid
-
-heard_valid :
-    (event : LinkEvent) (x : World) → ReadsFront event x → hears_valid (event_at_end B event) x ≡ true
-    → HearsValid event x.a.end.machine
-heard_valid LinkConnect x reads valid = tt
-heard_valid (LinkSend packet) x reads valid = tt
-heard_valid LinkDisconnect x reads valid = tt
-heard_valid (LinkHear frame) x reads valid =
-    let m = x.a.end.machine in (
-      reads.of_link,
-      λ up. ap (names_valid m) (sym reads.kind) ∙ ap (read_names_valid m) (sym reads.reading)
-          ∙ ap (first_names_valid m) (sym reads.towards) ∙ ap (λ s. reads_valid s m x.a.towards) (sym up) ∙ valid,
-    )
-heard_valid (LinkTick waiting) x reads valid = tt
-
--- a link that is made is idle
-made_in_calm :
-    (state : LinkState) (path : Path) (r : RecordedEnd) → IsCalmState state → IsCalm r.machine.control
-    → IsCalm (made_in state path r).machine.control
-made_in_calm Idle path r ok calm = record { state = tt; quit = refl }
-made_in_calm Calling path r ok calm = calm
-made_in_calm Up path r ok calm = calm
-made_in_calm Releasing path r ok calm = calm
-
-made_calm :
-    (anew : Option Path) (w : World) → IsCalm w.a.end.machine.control → IsCalm (makes_near anew w).a.end.machine.control
-made_calm None w calm = calm
-made_calm (Some path) w calm = made_in_calm w.a.end.machine.control.state path w.a.end calm.state calm
+use Rattle.station_laws.proofs.ValidHearing.{valid_last, valid_seen, heard_valid, made_calm}
 
 -- ---- its events
 
@@ -102,14 +51,14 @@ calm_quiet start law back pairs n (step ∷ steps) so_far w is quiet calm asks f
     run_changes-append so_far (makes B step.anew) start ∙ ap (λ z. run_changes z (makes B step.anew)) (sym is) in
     let valid : hears_valid event x ≡ true =
     subst (λ z. hears_valid event z ≡ true) (ap (seen_from B) made ∙ makes_seen B step.anew w)
-    (valid_seen step.event ms (run_changes start (so_far ++ makes B step.anew))
+    (valid_seen B step.event ms (run_changes start (so_far ++ makes B step.anew))
     (valid_last start (so_far ++ makes B step.anew) (Keeps event ms)
     (subst (ChangesAreValid start) (sym (append_assoc so_far (makes B step.anew) (Keeps event ms ∷ [])))
     (law (so_far ++ changes) quiet_now)))) in
     let f : FollowsNear B back step x = follows.0 in
     let stays : StaysCalm step.link.machine step.event =
     calm_step step.link.machine step.event holds.0
-    (subst (HearsValid step.event) f.machine (heard_valid step.event x f.reads valid))
+    (subst (HearsValid step.event) f.machine (heard_valid B step.event x f.reads valid))
     (subst (λ (m : Machine). IsCalm m.control) f.machine (made_calm step.anew v calm)) in
     let seen : seen_from B next ≡ y = by_seen B pairs n step step.anew w in
     let asks_next : AsksOut next =

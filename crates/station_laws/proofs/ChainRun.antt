@@ -1,17 +1,15 @@
 -- In a joint run that is heard in order the events of a link at a station are a chain: each finds the machine that the
 -- one before it left. If only A calls and no N(R) is invalid, A hears no SABM, SABME or DISC, and no frame that resets
 -- its link.
-use Rattle.station_laws.proofs.Common.{◌≡◌, ℕ, ◌+◌, Bool, true, false, List, [], ◌∷◌, ◌++◌, length, take, Option, Some}
-use Rattle.station_laws.proofs.Common.{None, refl, sym, ap, ◌∙◌, subst, arith, ⊤, slice_get, take-append_seam}
-use Rattle.station_laws.proofs.Common.{append_assoc, length-append, Path, Params, LinkState, Idle, Calling, Up}
+use Rattle.station_laws.proofs.Common.{◌≡◌, ℕ, ◌+◌, Bool, true, false, List, [], ◌∷◌, ◌++◌, length, Option, Some, None}
+use Rattle.station_laws.proofs.Common.{refl, sym, ap, ◌∙◌, subst, arith, ⊤, Path, Params, LinkState, Idle, Calling, Up}
 use Rattle.station_laws.proofs.Common.{Releasing, Machine, modulus_named, End, A, B, Change, ChangesAreValid, changed}
-use Rattle.station_laws.proofs.Common.{hears_valid_in, made_in, run_changes, Keeps, Tagged, asks, asks_in}
-use Rattle.station_laws.proofs.Common.{first_names_valid, hears_valid, names_valid, read_names_valid, reads_valid}
-use Rattle.station_laws.proofs.Common.{RecordedEnd, Side, World, other, seen_from, each_append, Config, AreHeardInOrder}
-use Rattle.station_laws.proofs.Common.{Pair, hears_ask, Step, Stations, IsJointRun, at_end, new_stations, stepped}
-use Rattle.station_laws.proofs.Common.{Calls, Counts, Pairs, all_changes_by, changes_by, changes_from, count_at}
-use Rattle.station_laws.proofs.Common.{event_at_end, first_world, heard_at, link_at_end, makes, marks_from, with_more}
-use Rattle.station_laws.proofs.Common.{LinkStep, steps_of, IsOfNoHost, link_steps_at}
+use Rattle.station_laws.proofs.Common.{made_in, run_changes, Keeps, Tagged, asks, asks_in, hears_valid, RecordedEnd}
+use Rattle.station_laws.proofs.Common.{World, other, seen_from, each_append, Config, AreHeardInOrder, Pair, Step}
+use Rattle.station_laws.proofs.Common.{Stations, IsJointRun, at_end, new_stations, stepped, Calls, Counts, Pairs}
+use Rattle.station_laws.proofs.Common.{all_changes_by, changes_by, changes_from, count_at, event_at_end, first_world}
+use Rattle.station_laws.proofs.Common.{heard_at, link_at_end, makes, marks_from, with_more, LinkStep, steps_of}
+use Rattle.station_laws.proofs.Common.{IsOfNoHost, link_steps_at}
 use Rattle.std.specs.List.{AllByRecursion as Each}
 use Rattle.link_machine.specs.Event.{Event as LinkEvent}
 use Rattle.link_machine.specs.Event.Event.{Connect as LinkConnect, Send as LinkSend, Disconnect as LinkDisconnect}
@@ -24,13 +22,12 @@ use Rattle.station_laws.proofs.Calm.{HearsValid, IsCalm, StaysCalm, calm_step}
 use Rattle.station_laws.proofs.Chains.{HearsWell, IsChain, OfLink, chain_append, last_append, last_machine, made_by}
 use Rattle.station_laws.proofs.Chains.{made_of}
 use Rattle.station_laws.proofs.Counts.{count_cons, count_take, one}
-use Rattle.station_laws.proofs.Framed.{framed, frames_at, frames_more}
-use Rattle.station_laws.proofs.JointLaw.{StepDone, count_a, count_b, get_seam, new_sent, new_side, step_done}
 use Rattle.station_laws.proofs.LinkDid.{HearsAsk, HearsWrong, IsOfLink}
-use Rattle.station_laws.proofs.NearQuiet.{back_all, back_by, made_far, made_towards, sends_none, sent_near, towards_by}
+use Rattle.station_laws.proofs.NearQuiet.{back_all, back_by, made_towards, sends_none, sent_near, towards_by, far_end}
 use Rattle.station_laws.proofs.ReadKinds.{frame_test}
-use Rattle.station_laws.proofs.Runs.{Between}
 use Rattle.station_laws.proofs.Tables.{not_both}
+use Rattle.station_laws.proofs.ValidHearing.{valid_last, valid_seen, heard_valid, made_calm}
+use Rattle.station_laws.proofs.JointLaw.{RunHolds, new_run_holds}
 
 -- ---- the events of a step, as their end sees them
 
@@ -63,13 +60,6 @@ near_chain e back pairs n (step ∷ steps) w follows =
       );
       last = ap (λ m. last_machine m steps) (sym same) ∙ rest.last;
     }
-
--- the other end stays
-far_end : (e : End) (pairs : List Pair) (n : ℕ) (steps : List LinkStep) (w : World)
-    → (near_all e pairs n steps w).b.end ≡ w.b.end
-far_end e pairs n [] w = refl
-far_end e pairs n (step ∷ steps) w =
-    far_end e pairs n steps (near_by e pairs n step w) ∙ ap (λ (x : Side). x.end) (made_far step.anew w)
 
 -- ---- what is heard is a frame of a link
 
@@ -149,22 +139,6 @@ valid_parts w [] second h = (tt, h)
 valid_parts w (change ∷ first) second h =
     let rest = valid_parts (changed w change) first second h.1 in ((h.0, rest.0), rest.1)
 
-valid_last :
-    (w : World) (first : List Change) (change : Change) → ChangesAreValid w (first ++ change ∷ [])
-    → hears_valid_in change (run_changes w first) ≡ true
-valid_last w [] change valid = valid.0
-valid_last w (next ∷ first) change valid = valid_last (changed w next) first change valid.1
-
-valid_seen :
-    (e : End) (event : LinkEvent) (ms : List Bool) (w : World)
-    → hears_valid_in (Keeps (event_at_end e event) ms) w ≡ true
-    → hears_valid (event_at_end e event) (seen_from e w) ≡ true
-valid_seen e LinkConnect ms w valid = valid
-valid_seen e (LinkSend packet) ms w valid = valid
-valid_seen e LinkDisconnect ms w valid = valid
-valid_seen e (LinkHear frame) ms w valid = valid
-valid_seen e (LinkTick waiting) ms w valid = valid
-
 valid_near :
     (e : End) (pairs : Pairs) (n : ℕ) (steps : List LinkStep) (w : World)
     → ChangesAreValid w (all_changes_by e pairs n steps)
@@ -180,20 +154,6 @@ valid_near e pairs n (step ∷ steps) w h =
       subst (AllValidNear e (heard_at (other e) pairs) n steps) (by_seen e pairs n step step.anew w)
           (valid_near e pairs n steps (run_changes w (changes_by e pairs n step)) parts.1),
     )
-
-heard_valid :
-    (e : End) (event : LinkEvent) (x : World) → ReadsFront event x → hears_valid (event_at_end e event) x ≡ true
-    → HearsValid event x.a.end.machine
-heard_valid e LinkConnect x reads valid = tt
-heard_valid e (LinkSend packet) x reads valid = tt
-heard_valid e LinkDisconnect x reads valid = tt
-heard_valid e (LinkHear frame) x reads valid =
-    let m = x.a.end.machine in (
-      reads.of_link,
-      λ up. ap (names_valid m) (sym reads.kind) ∙ ap (read_names_valid m) (sym reads.reading)
-          ∙ ap (first_names_valid m) (sym reads.towards) ∙ ap (λ s. reads_valid s m x.a.towards) (sym up) ∙ valid,
-    )
-heard_valid e (LinkTick waiting) x reads valid = tt
 
 first_asks : (f : Tagged) (rest : List Tagged) → asks_in (f ∷ rest) ≡ 0 → asks f.frame.kind ≡ false
 first_asks f rest none =
@@ -245,17 +205,6 @@ well_near e back pairs n (step ∷ steps) v follows valid none =
     )
 
 -- ---- an end that never asks stays calm
-
-made_calm :
-    (anew : Option Path) (v : World) → IsCalm v.a.end.machine.control → IsCalm (makes_near anew v).a.end.machine.control
-made_calm None v calm = calm
-made_calm (Some path) v calm = go v.a.end.machine.control.state
-  where
-    go : (state : LinkState) → IsCalm (made_in state path v.a.end).machine.control
-    go Idle = record { state = tt; quit = refl }
-    go Calling = calm
-    go Up = calm
-    go Releasing = calm
 
 record CalmNear (v : World) : Type 0 where
   calm : IsCalm v.a.end.machine.control
@@ -363,13 +312,8 @@ pub record RunChain (calls : Calls) (pairs : Pairs) (counts : Counts) (w : World
 
 run_chain :
     (calls : Calls) (pairs : Pairs) (a b : Params) (full past rest : List Step) (st : Stations) (counts : Counts)
-    (w : World)
-    → full ≡ past ++ rest → IsJointRun st rest
-    → counts.a ≡ length (frames_at A past) → counts.b ≡ length (frames_at B past)
-    → AreHeardInOrder A full pairs.at_a → AreHeardInOrder B full pairs.at_b
-    → Between calls.a calls.b a b (length past) st.a st.b (frames_at A past) (frames_at B past) pairs.at_b pairs.at_a w
-    → RunChain calls pairs counts w rest
-run_chain calls pairs a b full past [] st counts w is run ca cb heard_a heard_b h =
+    (w : World) → RunHolds calls pairs a b full past st counts w rest → RunChain calls pairs counts w rest
+run_chain calls pairs a b full past [] st counts w h =
     record {
       chain_a = tt;
       chain_b = tt;
@@ -378,41 +322,20 @@ run_chain calls pairs a b full past [] st counts w is run ca cb heard_a heard_b 
       of_link = tt;
       well = λ valid holds calm none. tt;
     }
-run_chain calls pairs a b full past (step ∷ rest) st counts w is run ca cb heard_a heard_b h =
+run_chain calls pairs a b full past (step ∷ rest) st counts w h =
     let e = step.station in
-    let on = hears_ask step.input in
-    let queued = step.after.out.queued in
     let made = steps_of (link_at_end calls e) step in
     let changes = all_changes_by e pairs (count_at e counts) made in
     let next = run_changes w changes in
-    let more = with_more e (length queued) counts in
-    let longer = past ++ step ∷ [] in
+    let more = with_more e (length step.after.out.queued) counts in
     let later = changes_from calls pairs more rest in
     let own_a = at_end A e made in
     let own_b = at_end B e made in
     let others_a = link_steps_at calls A rest in
     let others_b = link_steps_at calls B rest in
-    let at : slice_get full (length past) ≡ Some step = ap (λ xs. slice_get xs (length past)) is
-    ∙ get_seam past step rest in
-    let taken : take (length past) full ≡ past = ap (take (length past)) is ∙ take-append_seam past (step ∷ rest) in
-    let one : StepDone calls pairs a b (length past) st past counts w step e =
-    step_done calls pairs a b (length past) st past full counts w step e h refl run.0 at taken ca cb heard_a heard_b in
-    let between : Between calls.a calls.b a b (length longer) (stepped step st).a (stepped step st).b
-    (frames_at A longer)
-    (frames_at B longer) pairs.at_b pairs.at_a next =
-    subst (λ n. Between calls.a calls.b a b n (stepped step st).a (stepped step st).b (frames_at A longer)
-    (frames_at B longer) pairs.at_b pairs.at_a next) (sym (length-append past (step ∷ [])))
-    (subst (λ q. Between calls.a calls.b a b (length past + 1) (stepped step st).a (stepped step st).b q
-    (frames_at B longer) pairs.at_b pairs.at_a next) (sym (frames_more A past step))
-    (subst (λ q. Between calls.a calls.b a b (length past + 1) (stepped step st).a (stepped step st).b
-    (frames_at A past ++ at_end A e (framed on queued)) q pairs.at_b pairs.at_a next) (sym (frames_more B past step))
-    one.between)) in
+    let one = h.0.done in
     let others : RunChain calls pairs more next rest =
-    run_chain calls pairs a b full longer rest (stepped step st) more next
-    (is ∙ sym (append_assoc past (step ∷ []) rest)) run.1
-    (count_a e on queued (frames_at A past) counts ca ∙ sym (ap length (frames_more A past step)))
-    (count_b e on queued (frames_at B past) counts cb ∙ sym (ap length (frames_more B past step)))
-    heard_a heard_b between in
+    run_chain calls pairs a b full (past ++ step ∷ []) rest (stepped step st) more next h.1 in
     let here : StepChain calls pairs counts w step e = step_chain calls pairs counts w step e one.stays one.near in
     let after : run_changes w (changes ++ later) ≡ run_changes next later = run_changes-append changes later w in
     record {
@@ -442,11 +365,6 @@ pub run_chained :
     IsJointRun start steps → AreHeardInOrder A steps pairs.at_a → AreHeardInOrder B steps pairs.at_b
     → RunChain calls pairs (record { a = 0; b = 0 }) (first_world calls a.params b.params) steps
 run_chained a b seed_a seed_b steps pairs calls run heard_a heard_b =
-    let start = new_stations a seed_a b seed_b in
-    run_chain calls pairs a.params b.params steps [] steps start (record { a = 0; b = 0 })
-    (first_world calls a.params b.params) refl run refl refl heard_a heard_b (record {
-      near = new_side calls.a calls.b a seed_a calls.a calls.b;
-      far = new_side calls.b calls.a b seed_b calls.b calls.a;
-      out = new_sent calls.a calls.b pairs.at_b heard_b.rise;
-      back = new_sent calls.b calls.a pairs.at_a heard_a.rise;
-    })
+    run_chain calls pairs a.params b.params steps [] steps (new_stations a seed_a b seed_b) (record { a = 0; b = 0 })
+    (first_world calls a.params b.params)
+    (new_run_holds a b seed_a seed_b steps pairs calls run heard_a heard_b)

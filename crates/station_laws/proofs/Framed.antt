@@ -30,7 +30,7 @@ pub octets_framed : (on_ask : Bool) (queue : List (List ℕ)) → octets_in (fra
 octets_framed on_ask [] = refl
 octets_framed on_ask (octets ∷ queue) = ap (λ q. octets ∷ q) (octets_framed on_ask queue)
 
-at_end_octets :
+pub at_end_octets :
     (end station : End) (on_ask : Bool) (queue : List (List ℕ))
     → octets_in (at_end end station (framed on_ask queue)) ≡ at_end end station queue
 at_end_octets A A on_ask queue = octets_framed on_ask queue

@@ -93,7 +93,7 @@ pub record StepDone (calls : Calls) (pairs : Pairs) (a b : Params) (n : ℕ) (st
       AllFollowNear e stays (heard_at (other e) pairs) (count_at e counts) (steps_of (link_at_end calls e) step)
       (seen_from e w)
 
-pub step_done :
+step_done :
     (calls : Calls) (pairs : Pairs) (a b : Params) (n : ℕ) (st : Stations) (past full : List Step) (counts : Counts)
     (w : World) (step : Step) (e : End)
     → Between calls.a calls.b a b n st.a st.b (frames_at A past) (frames_at B past) pairs.at_b pairs.at_a w
@@ -167,7 +167,7 @@ step_done calls pairs a b n st past full counts w step B h station before is tak
 
 -- ---- all steps
 
-pub count_a :
+count_a :
     (e : End) (on : Bool) (queued : List (List ℕ)) (before : List LinkFrame) (counts : Counts)
     → counts.a ≡ length before
     → (with_more e (length queued) counts).a ≡ length (before ++ at_end A e (framed on queued))
@@ -177,7 +177,7 @@ count_a A on queued before counts is =
     omega arith
 count_a B on queued before counts is = is ∙ sym (ap length (append-nil before))
 
-pub count_b :
+count_b :
     (e : End) (on : Bool) (queued : List (List ℕ)) (before : List LinkFrame) (counts : Counts)
     → counts.b ≡ length before
     → (with_more e (length queued) counts).b ≡ length (before ++ at_end B e (framed on queued))
@@ -187,7 +187,7 @@ count_b B on queued before counts is =
     let same = length-framed on queued in
     omega arith
 
-pub get_seam : (past : List Step) (step : Step) (rest : List Step)
+get_seam : (past : List Step) (step : Step) (rest : List Step)
     → slice_get (past ++ step ∷ rest) (length past) ≡ Some step
 get_seam past step rest =
     let more : length (step ∷ rest) ≡ suc (length rest) = refl in
@@ -195,25 +195,39 @@ get_seam past step rest =
     let within : length past < length (past ++ step ∷ rest) = omega arith in
     slice_get-get_or (past ++ step ∷ rest) (length past) step within ∙ ap Some (get_or-append_seam past step rest step)
 
-record RunDone (calls : Calls) (pairs : Pairs) (st : Stations) (counts : Counts) (w : World) (rest : List Step)
-    : Type 0 where
-  ends : let now = run_changes w (changes_from calls pairs counts rest) in
-      AreEndsOf calls now.a.end.machine now.b.end.machine (all_stepped rest st)
-  follows : FollowsThrough calls pairs counts rest w
+-- what holds at a step of a run
+pub record StepHolds (calls : Calls) (pairs : Pairs) (a b : Params) (full past : List Step) (st : Stations)
+    (counts : Counts) (w : World) (step : Step) : Type 0 where
+  pub before : step.before ≡ state_of step.station st
+  pub there : slice_get full (length past) ≡ Some step
+  pub taken : take (length past) full ≡ past
+  pub count_at_a : counts.a ≡ length (frames_at A past)
+  pub count_at_b : counts.b ≡ length (frames_at B past)
+  pub between : Between calls.a calls.b a b (length past) st.a st.b (frames_at A past) (frames_at B past)
+      pairs.at_b pairs.at_a w
+  pub done : StepDone calls pairs a b (length past) st past counts w step step.station
 
-run_done :
+-- what holds at each step of the rest of a run, and at its end
+abbrev pub RunHolds :
+    Calls → Pairs → Params → Params → List Step → List Step → Stations → Counts → World → List Step → Type 0
+RunHolds calls pairs a b full past st counts w [] =
+    Between calls.a calls.b a b (length past) st.a st.b (frames_at A past) (frames_at B past) pairs.at_b pairs.at_a w
+RunHolds calls pairs a b full past st counts w (step ∷ rest) =
+    StepHolds calls pairs a b full past st counts w step
+    × RunHolds calls pairs a b full (past ++ step ∷ []) (stepped step st)
+    (with_more step.station (length step.after.out.queued) counts)
+    (run_changes w (all_changes_by step.station pairs (count_at step.station counts)
+    (steps_of (link_at_end calls step.station) step))) rest
+
+run_holds :
     (calls : Calls) (pairs : Pairs) (a b : Params) (full past rest : List Step) (st : Stations) (counts : Counts)
-    (w : World)
-    → full ≡ past ++ rest → IsJointRun st rest
+    (w : World) → full ≡ past ++ rest → IsJointRun st rest
     → counts.a ≡ length (frames_at A past) → counts.b ≡ length (frames_at B past)
     → AreHeardInOrder A full pairs.at_a → AreHeardInOrder B full pairs.at_b
     → Between calls.a calls.b a b (length past) st.a st.b (frames_at A past) (frames_at B past) pairs.at_b pairs.at_a w
-    → RunDone calls pairs st counts w rest
-run_done calls pairs a b full past [] st counts w is run ca cb heard_a heard_b h = record {
-  ends = record { at_a = h.near.table.machine_is; at_b = h.far.table.machine_is };
-  follows = tt;
-}
-run_done calls pairs a b full past (step ∷ rest) st counts w is run ca cb heard_a heard_b h =
+    → RunHolds calls pairs a b full past st counts w rest
+run_holds calls pairs a b full past [] st counts w is run ca cb heard_a heard_b h = h
+run_holds calls pairs a b full past (step ∷ rest) st counts w is run ca cb heard_a heard_b h =
     let e = step.station in
     let on = hears_ask step.input in
     let queued = step.after.out.queued in
@@ -236,19 +250,22 @@ run_done calls pairs a b full past (step ∷ rest) st counts w is run ca cb hear
     (frames_at B longer) pairs.at_b pairs.at_a next) (sym (frames_more A past step))
     (subst (λ q. Between calls.a calls.b a b (length past + 1) (stepped step st).a (stepped step st).b
     (frames_at A past ++ at_end A e (framed on queued)) q pairs.at_b pairs.at_a next) (sym (frames_more B past step))
-    one.between)) in
-    let others : RunDone calls pairs (stepped step st) more next rest =
-    run_done calls pairs a b full longer rest (stepped step st) more next
-    (is ∙ sym (append_assoc past (step ∷ []) rest)) run.1
-    (count_a e on queued (frames_at A past) counts ca ∙ sym (ap length (frames_more A past step)))
-    (count_b e on queued (frames_at B past) counts cb ∙ sym (ap length (frames_more B past step)))
-    heard_a heard_b between in
-    record {
-      ends = subst (λ (now : World). AreEndsOf calls now.a.end.machine now.b.end.machine
-          (all_stepped rest (stepped step st)))
-          (sym (run_changes-append changes (changes_from calls pairs more rest) w)) others.ends;
-      follows = (one.follows, others.follows);
-    }
+    one.between)) in (
+      record {
+        before = run.0;
+        there = at;
+        taken = taken;
+        count_at_a = ca;
+        count_at_b = cb;
+        between = h;
+        done = one;
+      },
+      run_holds calls pairs a b full longer rest (stepped step st) more next
+          (is ∙ sym (append_assoc past (step ∷ []) rest)) run.1
+          (count_a e on queued (frames_at A past) counts ca ∙ sym (ap length (frames_more A past step)))
+          (count_b e on queued (frames_at B past) counts cb ∙ sym (ap length (frames_more B past step)))
+          heard_a heard_b between,
+    )
 
 -- ---- from two new stations
 
@@ -260,7 +277,7 @@ length_replicate : (n : ℕ) → length (replicate n (let none : Option Link = N
 length_replicate zero = refl
 length_replicate (suc n) = ap suc (length_replicate n)
 
-pub new_side :
+new_side :
     (l r : Callsign) (config : Config) (seed : ℕ) (local remote : Callsign)
     → SideHolds l r config.params (new_station config seed) (new_machine (path_between local remote) config.params)
 new_side l r config seed local remote =
@@ -301,7 +318,7 @@ from_zero : (ps : List Pair) → HeadFrom 0 0 ps
 from_zero [] = tt
 from_zero (p ∷ ps) = (omega arith, omega arith)
 
-pub new_sent : (l r : Callsign) (pairs : List Pair) → AllPairs RiseBoth pairs → Sent l r [] pairs 0 []
+new_sent : (l r : Callsign) (pairs : List Pair) → AllPairs RiseBoth pairs → Sent l r [] pairs 0 []
 new_sent l r pairs rise =
     let rises = rises_of 0 0 pairs rise (from_zero pairs) in
     record {
@@ -316,19 +333,55 @@ new_sent l r pairs rise =
       ahead = sym (flight_past [] 0 0 pairs (omega arith) rises);
     }
 
--- the ends follow
-pub following_law_holds : FollowingLaw
-following_law_holds a b seed_a seed_b steps pairs run heard_a heard_b calls =
-    let start = new_stations a seed_a b seed_b in
-    let w = first_world calls a.params b.params in
-    let counts : Counts = record { a = 0; b = 0 } in
-    let done : RunDone calls pairs start counts w steps =
-    run_done calls pairs a.params b.params steps [] steps start counts w refl run refl refl heard_a heard_b (record {
+pub new_run_holds :
+    (a b : Config) (seed_a seed_b : ℕ) (steps : List Step) (pairs : Pairs) (calls : Calls)
+    → let start = new_stations a seed_a b seed_b in
+    IsJointRun start steps → AreHeardInOrder A steps pairs.at_a → AreHeardInOrder B steps pairs.at_b
+    → RunHolds calls pairs a.params b.params steps [] start (record { a = 0; b = 0 })
+    (first_world calls a.params b.params) steps
+new_run_holds a b seed_a seed_b steps pairs calls run heard_a heard_b =
+    run_holds calls pairs a.params b.params steps [] steps (new_stations a seed_a b seed_b) (record { a = 0; b = 0 })
+    (first_world calls a.params b.params) refl run refl refl heard_a heard_b (record {
       near = new_side calls.a calls.b a seed_a calls.a calls.b;
       far = new_side calls.b calls.a b seed_b calls.b calls.a;
       out = new_sent calls.a calls.b pairs.at_b heard_b.rise;
       back = new_sent calls.b calls.a pairs.at_a heard_a.rise;
-    }) in
+    })
+
+-- ---- the ends follow
+
+record RunDone (calls : Calls) (pairs : Pairs) (st : Stations) (counts : Counts) (w : World) (rest : List Step)
+    : Type 0 where
+  ends : let now = run_changes w (changes_from calls pairs counts rest) in
+      AreEndsOf calls now.a.end.machine now.b.end.machine (all_stepped rest st)
+  follows : FollowsThrough calls pairs counts rest w
+
+run_done :
+    (calls : Calls) (pairs : Pairs) (a b : Params) (full past rest : List Step) (st : Stations) (counts : Counts)
+    (w : World) → RunHolds calls pairs a b full past st counts w rest → RunDone calls pairs st counts w rest
+run_done calls pairs a b full past [] st counts w h = record {
+  ends = record { at_a = h.near.table.machine_is; at_b = h.far.table.machine_is };
+  follows = tt;
+}
+run_done calls pairs a b full past (step ∷ rest) st counts w h =
+    let e = step.station in
+    let changes = all_changes_by e pairs (count_at e counts) (steps_of (link_at_end calls e) step) in
+    let more = with_more e (length step.after.out.queued) counts in
+    let others : RunDone calls pairs (stepped step st) more (run_changes w changes) rest =
+    run_done calls pairs a b full (past ++ step ∷ []) rest (stepped step st) more (run_changes w changes) h.1 in
+    record {
+      ends = subst (λ (now : World). AreEndsOf calls now.a.end.machine now.b.end.machine
+          (all_stepped rest (stepped step st)))
+          (sym (run_changes-append changes (changes_from calls pairs more rest) w)) others.ends;
+      follows = (h.0.done.follows, others.follows);
+    }
+
+pub following_law_holds : FollowingLaw
+following_law_holds a b seed_a seed_b steps pairs run heard_a heard_b calls =
+    let start = new_stations a seed_a b seed_b in
+    let done = run_done calls pairs a.params b.params steps [] steps start (record { a = 0; b = 0 })
+    (first_world calls a.params b.params)
+    (new_run_holds a b seed_a seed_b steps pairs calls run heard_a heard_b) in
     record { through = done.follows; after = done.ends }
 
 -- the law, from the law of two links

@@ -47,6 +47,7 @@ mod EndSends
 mod Exchanges
 mod CallerQuiet
 mod QuietRuns
+mod ValidHearing
 mod CalmRuns
 mod QuietJoint
 pub mod MatchedLaws

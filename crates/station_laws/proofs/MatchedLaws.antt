@@ -4,7 +4,7 @@ use Rattle.station_laws.proofs.Common.{Config, Moment, AreMatched, AreQuietThrou
 use Rattle.station_laws.proofs.Common.{new_stations, IsJointRun, Calls, IsQuietLink, link_at_end, path_between}
 use Rattle.station_laws.proofs.Common.{first_world, steps_of, IsEventOfCaller, OnlyACalls, pairs_in}
 use Rattle.station_laws.specs.MatchedLaw.{MatchedLaw}
-use Rattle.station_laws.proofs.JointLaw.{new_side, new_sent, stations_law_holds}
+use Rattle.station_laws.proofs.JointLaw.{stations_law_holds, new_run_holds}
 use Rattle.station_laws.proofs.MatchedOrder.{matched_in_order_holds}
 use Rattle.station_laws.proofs.QuietJoint.{EventsHold, quiet_run}
 
@@ -27,16 +27,7 @@ quiet_link a b seed_a seed_b moments calls law fit run matched quiet holds =
     let start = first_world calls a.params b.params in
     quiet_run calls (pairs_in moments) a.params b.params (new_stations a seed_a b seed_b) [] (steps_in moments)
     (record { a = 0; b = 0 }) start nothing_sent moments order.0 order.1 (record {
-      full_is = refl;
-      run = run;
-      count_at_a = refl;
-      count_at_b = refl;
-      between = record {
-        near = new_side calls.a calls.b a seed_a calls.a calls.b;
-        far = new_side calls.b calls.a b seed_b calls.b calls.a;
-        out = new_sent calls.a calls.b (pairs_in moments).at_b order.1.rise;
-        back = new_sent calls.b calls.a (pairs_in moments).at_a order.0.rise;
-      };
+      run = new_run_holds a b seed_a seed_b (steps_in moments) (pairs_in moments) calls run order.0 order.1;
       queued_a = refl;
       queued_b = refl;
       fits = record { of_a = omega arith; of_b = omega arith };

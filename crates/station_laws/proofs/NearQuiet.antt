@@ -49,6 +49,13 @@ pub made_far : (anew : Option Path) (w : World) → (makes_near anew w).b ≡ w.
 made_far None w = refl
 made_far (Some path) w = refl
 
+-- the other end stays
+pub far_end : (e : End) (pairs : List Pair) (n : ℕ) (steps : List LinkStep) (w : World)
+    → (near_all e pairs n steps w).b.end ≡ w.b.end
+far_end e pairs n [] w = refl
+far_end e pairs n (step ∷ steps) w =
+    far_end e pairs n steps (near_by e pairs n step w) ∙ ap (λ (x : Side). x.end) (made_far step.anew w)
+
 pub alone : (sent ahead : ℕ) → (sent ≡ 0) ⊎ (sent + ahead ≤ 1) → is_alone sent ahead ≡ true
 alone sent ahead (inl none) = or_left (sent == 0) (sent + ahead == 1) (eq-eqb sent 0 none)
 alone sent ahead (inr few) = elim (cases_eq sent 0) [

@@ -244,7 +244,7 @@ steps_seen e pairs n (step ∷ steps) w own far follows given s =
 
 -- ---- all steps
 
-seen_append : (first second : List LinkStep) (seen : List Seen)
+pub seen_append : (first second : List LinkStep) (seen : List Seen)
     → seen_by_all (first ++ second) seen ≡ seen_by_all second (seen_by_all first seen)
 seen_append [] second seen = refl
 seen_append (step ∷ first) second seen = seen_append first second (seen_by step seen)
