@@ -1,0 +1,5 @@
+mod Reading
+mod Gots
+mod Apart
+mod Items
+mod Collect

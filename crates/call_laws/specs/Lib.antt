@@ -1,0 +1,4 @@
+pub mod FirstPart
+pub mod SetUpsTold
+pub mod Client
+pub mod PrintsGiven

@@ -1,0 +1,10 @@
+//! The law of a call whose host is a live station (AX.25 2.2, AGWPE TCP/IP socket interface). A law is the contract of
+//! a function that does nothing.
+//!
+//! A client of a station of a joint run calls the other station. What it prints is, octet for octet, a first part of
+//! what the other station's host gave in one set-up of the link.
+#![tactic(auto)]
+
+mod laws;
+
+pub use laws::{first_part_is_read, set_ups_are_told};
