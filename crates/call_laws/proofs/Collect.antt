@@ -132,11 +132,11 @@ module _ (plan : CallPlan) where
   NoEnd message = is_of disconnect_kind plan message ≡ false
 
   -- a set-up whose packets begin with this data
-  record HasData (gots : List (List Packet)) (printed : List ℕ) : Type 0 where
-    number : ℕ
-    got : List Packet
-    is_there : slice_get gots number ≡ Some got
-    part : IsFirstPart printed (octets_of got)
+  pub record HasData (gots : List (List Packet)) (printed : List ℕ) : Type 0 where
+    pub number : ℕ
+    pub got : List Packet
+    pub is_there : slice_get gots number ≡ Some got
+    pub part : IsFirstPart printed (octets_of got)
 
   octets_grow : (first got : List Packet) → IsFirstPart first got → IsFirstPart (octets_of first) (octets_of got)
   octets_grow first got part =

@@ -78,9 +78,6 @@ hearing_gots Calling f r = refl
 hearing_gots Releasing f r = refl
 hearing_gots Up f r = go (is_numbered f.frame.kind)
   where
-    change : SetUp → SetUp
-    change = acting f.set_up (accepts r.machine f.frame.kind)
-
     go : (b : Bool) → gots (cond b (record r {
       set_ups = change_last (acting f.set_up (accepts r.machine f.frame.kind)) r.set_ups;
     }) r).set_ups ≡ gots r.set_ups

@@ -3,3 +3,10 @@ mod Gots
 mod Apart
 mod Items
 mod Collect
+mod CallFields
+mod OwnTables
+mod Sayings
+mod LinkActs
+mod Walk
+mod CallLaw
+mod CallExample

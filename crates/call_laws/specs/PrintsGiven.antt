@@ -1,6 +1,6 @@
 -- The law of a call whose host is a station of a joint run: what it prints was given by the partner's host in one
 -- set-up of the link.
-use Rattle.std.specs.Prelude.{◌≡◌, ◌≢◌, ℕ, Contains, List, [], slice_get, Some}
+use Rattle.std.specs.Prelude.{◌≡◌, ◌≢◌, ℕ, List, [], slice_get, Some}
 use Rattle.std.specs.List.{flat_map}
 use Rattle.selective_reject.specs.declared.packet.Packet.{Packet}
 use Rattle.agwpe_client.specs.CallRun.{CallPlan, printed_after}
@@ -24,8 +24,9 @@ octets_of packets = flat_map (λ (packet : Packet). packet.octets) packets
 -- Of the link as the client's end sees it: a set-up of its own, and the set-up of the partner's end that is its origin.
 -- What was printed is a first part of the octets that the partner's host gave in that one.
 pub record PrintsGiven (w : World) (printed : List ℕ) : Type 0 where
+  pub place : ℕ
   pub own : SetUp
-  pub is_own : Contains w.a.end.set_ups own
+  pub is_own : slice_get w.a.end.set_ups place ≡ Some own
   pub number : ℕ
   pub is_origin : origin own ≡ Some number
   pub giver : SetUp

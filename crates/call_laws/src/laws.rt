@@ -1,8 +1,9 @@
-//! The laws. Each is the contract of a function that does nothing.
+//! The laws. Each is the contract of a function whose body only calls on the laws that it rests on.
 ghost use Rattle.call_laws.specs.FirstPart.{FirstPartIsRead};
+ghost use Rattle.call_laws.specs.PrintsGiven.{CallLaw};
 ghost use Rattle.call_laws.specs.SetUpsTold.{SetUpsAreTold};
 
-use station_laws::ends_follow;
+use station_laws::{ends_follow, stations_law};
 
 /// The messages that are read of a first part of written messages are a first part of these.
 pub fn first_part_is_read()
@@ -16,4 +17,18 @@ pub fn set_ups_are_told()
     ensures { SetUpsAreTold }
 {
     ends_follow();
+}
+
+/// The law of a call whose host is a live station. Of any joint run of two stations for which [`stations_law`] holds of
+/// the link of two calls: a client of one of them has taken a first part of the octets that its station has for it, and
+/// calls the other station by these calls, as `agwpe_client` defines a call. Then what it prints, whether the call is
+/// done, goes on or was broken off, is nothing, or a first part of the octets that the partner's host gave in one
+/// set-up of the link, in order and nothing left out: the origin of the set-up in which the client got them.
+///
+/// Its connection speaks AGWPE and does not leave in that run, and no piece for it has 2^32 octets.
+pub fn a_call_prints_what_was_given()
+    ensures { CallLaw }
+{
+    set_ups_are_told();
+    stations_law();
 }

@@ -2,9 +2,9 @@
 //! a function that does nothing.
 //!
 //! A client of a station of a joint run calls the other station. What it prints is, octet for octet, a first part of
-//! what the other station's host gave in one set-up of the link.
+//! what the other station's host gave in one set-up of the link ([`a_call_prints_what_was_given`]).
 #![tactic(auto)]
 
 mod laws;
 
-pub use laws::{first_part_is_read, set_ups_are_told};
+pub use laws::{a_call_prints_what_was_given, first_part_is_read, set_ups_are_told};

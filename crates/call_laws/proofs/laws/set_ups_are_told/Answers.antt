@@ -1,5 +1,3 @@
-use Rattle.call_laws.proofs.Collect.{finds}
-use Rattle.call_laws.proofs.Items.{chain_tale}
 use Rattle.call_laws.proofs.Gots.{set_ups_are_told_by}
 use Rattle.call_laws.proofs.laws.set_ups_are_told.Goals as goal
 
