@@ -1,6 +1,6 @@
 -- A link is told to be open only while no set-up of it runs.
 use Rattle.station_laws.proofs.Common.{◌≡◌, Bool, true, false, List, [], ◌∷◌, ◌++◌, map, refl, sym, ap, ◌∙◌, subst, ⊤}
-use Rattle.station_laws.proofs.Common.{inl, inr, Packet, Told, Opened, Given, Ended, LinkState, Idle, Calling, Up}
+use Rattle.station_laws.proofs.Common.{Failed, inl, inr, Packet, Told, Opened, Given, Ended, LinkState, Idle, Calling, Up}
 use Rattle.station_laws.proofs.Common.{Releasing, Event, Machine, step, begin, RunsIn, Row, Settles, Stepped, step_is}
 use Rattle.station_laws.proofs.Common.{is_refused, as_timed, agrees, calls_again, connects, declines, ends_by_disc}
 use Rattle.station_laws.proofs.Common.{ends_by_dm, ends_call, gives_up, is_answered, is_called, is_called_again, narrows}
@@ -52,7 +52,7 @@ row_apart m event t runs h (ends_call why (as_timed c mode) down) = tt
 row_apart m event t runs h (ends_by_dm up) = tt
 row_apart m event t runs h (ends_by_disc flag up heard) = tt
 row_apart m event t runs h (gives_up {t = u} up run told tick) =
-    subst (λ told. OpensApart runs (told ++ Ended _ ∷ [])) (sym told) tt
+    subst (λ told. OpensApart runs (told ++ Ended Failed ∷ [])) (sym told) tt
 row_apart m event t runs h (is_called modulus flag idle known heard) =
     (idle_runs_not runs m.control.state h idle, tt)
 row_apart m event t runs h (is_called_again modulus flag up known heard) = (refl, tt)

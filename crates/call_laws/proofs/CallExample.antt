@@ -105,7 +105,7 @@ ua_frame = record { path = response_path; kind = Setup Ua true }
 abbrev pub info_frame : Frame
 info_frame = record { path = back_path; kind = Info 0 0 false 240 (104 ∷ []) }
 
-command_begins : (control : ℕ) → BeginsWithPath (from_a (control ∷ [])) command_path 14
+pub command_begins : (control : ℕ) → BeginsWithPath (from_a (control ∷ [])) command_path 14
 command_begins control = (
   omega arith,
   record {
@@ -117,7 +117,7 @@ command_begins control = (
   },
 )
 
-response_begins : (control : ℕ) → BeginsWithPath (from_b (control ∷ [])) response_path 14
+pub response_begins : (control : ℕ) → BeginsWithPath (from_b (control ∷ [])) response_path 14
 response_begins control = (
   omega arith,
   record {
@@ -129,7 +129,7 @@ response_begins control = (
   },
 )
 
-info_begins : BeginsWithPath info back_path 14
+pub info_begins : BeginsWithPath info back_path 14
 info_begins = (
   omega arith,
   record {
@@ -141,13 +141,13 @@ info_begins = (
   },
 )
 
-sabm_is : IsFrame sabm_frame Eight sabm
+pub sabm_is : IsFrame sabm_frame Eight sabm
 sabm_is = record { len = 14; path = command_begins 63; kind = record { numbered = tt; fits = tt }; body = refl }
 
-ua_is : IsFrame ua_frame Eight ua
+pub ua_is : IsFrame ua_frame Eight ua
 ua_is = record { len = 14; path = response_begins 115; kind = record { numbered = tt; fits = tt }; body = refl }
 
-info_is : IsFrame info_frame Eight info
+pub info_is : IsFrame info_frame Eight info
 info_is = record {
   len = 14;
   path = info_begins;
@@ -161,7 +161,7 @@ each_low (o ∷ octets) h =
     let both = and_parts (nat_lt o 256) (list_all (λ octet. nat_lt octet 256) octets) h in
     (ltb-true o 256 both.0, each_low octets both.1)
 
-low : (octets : List ℕ) → list_all (λ octet. nat_lt octet 256) octets ≡ true → All (λ octet. octet < 256) octets
+pub low : (octets : List ℕ) → list_all (λ octet. nat_lt octet 256) octets ≡ true → All (λ octet. octet < 256) octets
 low octets h = All-from_recursion (λ octet. octet < 256) octets (each_low octets h)
 
 -- ---- messages of a host

@@ -78,7 +78,7 @@ pub field_ten : (call : Callsign) → IsCall call → length (call_field call) �
 field_ten call valid =
     let text = text_of_call call in
     omega (arith, (text_short call valid).short, length-append text (replicate (10 - length text) 0),
-    length-replicate (10 - length text) 0)
+    length-replicate {A = ℕ} (10 - length text) 0)
 
 -- ---- a field tells its call
 

@@ -158,7 +158,7 @@ new_table id plan c seed =
     let places : List (Option Link) = replicate most_links None in
     let none = none_meant (meant plan) most_links refl in
     record {
-      size = length-replicate most_links None;
+      size = length-replicate {A = Option Link} most_links None;
       valid = none_valid most_links;
       one = one_of_none (meant plan) places none;
       place = subst (IsOwnPlace id false (new_machine (path_between plan.own plan.remote) c.params))

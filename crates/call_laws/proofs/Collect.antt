@@ -1,7 +1,7 @@
 -- The data of a call that follow a C with no d between are of one set-up of the link.
 use Rattle.station_laws.proofs.Common.{◌≡◌, ℕ, zero, suc, Bool, true, false, ◌==◌, ◌&&◌, List, [], ◌∷◌, ◌++◌, length, cond}
 use Rattle.station_laws.proofs.Common.{Some, refl, sym, ap, ◌∙◌, subst, slice_get, ⊤, append-nil, append_assoc}
-use Rattle.station_laws.proofs.Common.{Callsign, AgwMessage, Packet, Told, Opened, Given, Ended}
+use Rattle.station_laws.proofs.Common.{Callsign, AgwMessage, Packet, Told, Opened, Given, Ended, Why}
 use Rattle.std.specs.Prelude.{fold}
 use Rattle.std.specs.List.{flat_map, AllByRecursion as Each}
 use Rattle.std.specs.Str.{bytes_eq}
@@ -43,46 +43,33 @@ at_seam : (others : List (List Packet)) (got : List Packet) (more : List (List P
 at_seam [] got more = refl
 at_seam (first ∷ others) got more = at_seam others got more
 
+-- a packet for the last of several
+last_in : (packet : Packet) (got next : List Packet) (more xs : List (List Packet))
+    → given_last packet (xs ++ got ∷ next ∷ more) ≡ xs ++ got ∷ last_given packet next more
+last_in packet got next more [] = refl
+last_in packet got next more (x ∷ []) = refl
+last_in packet got next more (x ∷ y ∷ xs) = ap (λ gs. x ∷ gs) (last_in packet got next more (y ∷ xs))
+
 -- what was got stays, and more may come
 grows :
     (told : List Told) (others : List (List Packet)) (got : List Packet) (more : List (List Packet))
     → HasGot (fold got_told (others ++ got ∷ more) told) (length others) got
-grows told others got [] = by_told told
-  where
-    by_told : (ts : List Told) → HasGot (fold got_told (others ++ got ∷ []) ts) (length others) got
-    by_told [] = record { got = got; is_there = at_seam others got []; part = ([], sym (append-nil got)) }
-    by_told (Opened ours ∷ ts) =
-        subst (λ gs. HasGot (fold got_told gs ts) (length others) got) (sym (append_assoc others (got ∷ []) ([] ∷ [])))
-        (grows ts others got ([] ∷ []))
-    by_told (Given packet ∷ ts) =
-        let later = grows ts others (got ++ packet ∷ []) [] in
-        subst (λ gs. HasGot (fold got_told gs ts) (length others) got) (sym (given_at packet others got)) (record {
-          got = later.got;
-          is_there = later.is_there;
-          part = (
-            packet ∷ later.part.0,
-            later.part.1 ∙ append_assoc got (packet ∷ []) later.part.0,
-          );
-        })
-    by_told (Ended why ∷ ts) = grows ts others got []
-grows told others got (next ∷ more) = by_told told
-  where
-    by_told : (ts : List Told) → HasGot (fold got_told (others ++ got ∷ next ∷ more) ts) (length others) got
-    by_told [] = record { got = got; is_there = at_seam others got (next ∷ more); part = ([], sym (append-nil got)) }
-    by_told (Opened ours ∷ ts) =
-        subst (λ gs. HasGot (fold got_told gs ts) (length others) got)
-        (sym (append_assoc others (got ∷ next ∷ more) ([] ∷ [])))
-        (grows ts others got (next ∷ (more ++ [] ∷ [])))
-    by_told (Given packet ∷ ts) =
-        subst (λ gs. HasGot (fold got_told gs ts) (length others) got) (sym (last_in others))
-        (grows ts others got (last_given packet next more))
-      where
-        last_in : (xs : List (List Packet))
-            → given_last packet (xs ++ got ∷ next ∷ more) ≡ xs ++ got ∷ last_given packet next more
-        last_in [] = refl
-        last_in (x ∷ []) = refl
-        last_in (x ∷ y ∷ xs) = ap (λ gs. x ∷ gs) (last_in (y ∷ xs))
-    by_told (Ended why ∷ ts) = grows ts others got (next ∷ more)
+grows [] others got more =
+    record { got = got; is_there = at_seam others got more; part = ([], sym (append-nil got)) }
+grows (Opened ours ∷ told) others got more =
+    subst (λ gs. HasGot (fold got_told gs told) (length others) got)
+    (sym (append_assoc others (got ∷ more) ([] ∷ []))) (grows told others got (more ++ [] ∷ []))
+grows (Given packet ∷ told) others got [] =
+    let later = grows told others (got ++ packet ∷ []) [] in
+    subst (λ gs. HasGot (fold got_told gs told) (length others) got) (sym (given_at packet others got)) (record {
+      got = later.got;
+      is_there = later.is_there;
+      part = (packet ∷ later.part.0, later.part.1 ∙ append_assoc got (packet ∷ []) later.part.0);
+    })
+grows (Given packet ∷ told) others got (next ∷ more) =
+    subst (λ gs. HasGot (fold got_told gs told) (length others) got) (sym (last_in packet got next more others))
+    (grows told others got (last_given packet next more))
+grows (Ended why ∷ told) others got more = grows told others got more
 
 -- ---- the messages of the link
 
@@ -112,7 +99,7 @@ module _ (plan : CallPlan) where
       ∙ ap (λ xs. bytes_eq xs (call_field plan.own) && (m.kind == kind)) to
       ∙ ap (λ b. b && (m.kind == kind)) (same_field (call_field plan.own))
 
-  ended_ends : (why : _) → is_of disconnect_kind plan (message_of_told plan.own plan.remote (Ended why)) ≡ true
+  ended_ends : (why : Why) → is_of disconnect_kind plan (message_of_told plan.own plan.remote (Ended why)) ≡ true
   ended_ends why = of_call disconnect_kind (Ended why) _ refl refl refl
 
   given_data : (packet : Packet) → data_of plan (message_of_told plan.own plan.remote (Given packet)) ≡ packet.octets
@@ -122,7 +109,7 @@ module _ (plan : CallPlan) where
       → is_of connect_kind plan (message_of_told plan.own plan.remote (Given packet)) ≡ false
   given_connects packet = of_call connect_kind (Given packet) _ refl refl refl
 
-  ended_connects : (why : _) → is_of connect_kind plan (message_of_told plan.own plan.remote (Ended why)) ≡ false
+  ended_connects : (why : Why) → is_of connect_kind plan (message_of_told plan.own plan.remote (Ended why)) ≡ false
   ended_connects why = of_call connect_kind (Ended why) _ refl refl refl
 
   no_data : (message : AgwMessage) → IsNoneOf plan message → data_of plan message ≡ []
@@ -143,7 +130,7 @@ module _ (plan : CallPlan) where
       (octets_of part.0, ap octets_of part.1 ∙ flat_map-append (λ (p : Packet). p.octets) first part.0)
 
   cons_head : (x y : AgwMessage) (xs ys : List AgwMessage) → x ∷ xs ≡ y ∷ ys → (x ≡ y) × (xs ≡ ys)
-  cons_head x y xs ys same = let e : x ∷ xs ≡ y ∷ ys = same in (cc, cc)
+  cons_head x y xs ys same = (cc, cc)
 
   -- in the set-up that runs
   collects :
@@ -170,12 +157,12 @@ module _ (plan : CallPlan) where
   collects (Tells owned (Opened ours) ∷ items) others got (message ∷ middle) rest fits tale is none =
       absurd (let e : true ≡ false = tale.0 in cc)
   collects (Tells false (Given packet) ∷ items) others got (message ∷ middle) rest fits tale is none =
-      absurd (let e : false ≡ true = tale.1.0 in cc)
+      absurd (let e : false ≡ true = tale.1 in cc)
   collects (Tells true (Given packet) ∷ items) others got (message ∷ middle) rest fits tale is none =
       let same = cons_head (message_of_told plan.own plan.remote (Given packet)) message (said items) (middle ++ rest)
       is in
       let data_is : data_of plan message ≡ packet.octets = ap (data_of plan) (sym same.0) ∙ given_data packet in
-      let more = collects items others (got ++ packet ∷ []) middle rest fits.1 tale.1.1 same.1 none.1 in
+      let more = collects items others (got ++ packet ∷ []) middle rest fits.1 tale.2 same.1 none.1 in
       let before : octets_of (got ++ packet ∷ []) ≡ octets_of got ++ packet.octets =
       flat_map-append (λ (p : Packet). p.octets) got (packet ∷ [])
       ∙ ap (λ xs. octets_of got ++ xs) (append-nil packet.octets) in
@@ -212,7 +199,7 @@ module _ (plan : CallPlan) where
   finds (Tells false (Opened ours) ∷ items) runs own gots front connected middle rest fits tale is c none =
       finds items true false (gots ++ [] ∷ []) front connected middle rest fits.1 tale.1 is c none
   finds (Tells false (Given packet) ∷ items) runs own gots front connected middle rest fits tale is c none =
-      finds items runs own (given_last packet gots) front connected middle rest fits.1 tale.1.1 is c none
+      finds items runs own (given_last packet gots) front connected middle rest fits.1 tale.2 is c none
   finds (Tells false (Ended why) ∷ items) runs own gots front connected middle rest fits tale is c none =
       finds items false own gots front connected middle rest fits.1 tale.1 is c none
   finds (Tells true (Opened ours) ∷ items) runs own gots [] connected middle rest fits tale is c none =
@@ -234,7 +221,7 @@ module _ (plan : CallPlan) where
   finds (Tells true (Given packet) ∷ items) runs own gots (first ∷ front) connected middle rest fits tale is c none =
       let same = cons_head (message_of_told plan.own plan.remote (Given packet)) first (said items)
       (front ++ connected ∷ (middle ++ rest)) is in
-      finds items runs own (given_last packet gots) front connected middle rest fits.1 tale.1.1 same.1 c none
+      finds items runs own (given_last packet gots) front connected middle rest fits.1 tale.2 same.1 c none
   finds (Tells true (Ended why) ∷ items) runs own gots (first ∷ front) connected middle rest fits tale is c none =
       let same = cons_head (message_of_told plan.own plan.remote (Ended why)) first (said items)
       (front ++ connected ∷ (middle ++ rest)) is in

@@ -138,33 +138,39 @@ told_tale runs own owned (Ended why ∷ told) items same apart one rest =
 runs_from : (runs : Bool) (state : LinkState) → runs ≡ false → state ≡ Idle → RunsIn runs state
 runs_from runs state none idle = subst (λ b. RunsIn b state) (sym none) (subst (RunsIn false) (sym idle) none_idle)
 
+step_tale :
+    (id : ℕ) (runs mine own : Bool) (m : Machine) (step : LinkStep) (items : List Item) → RunsIn runs m.control.state
+    → (runs ≡ true → mine ≡ own) → (anew : Option Path) → Continues anew id own m step
+    → ((r later : Bool) → RunsIn r (link_turn step.link.machine step.event).now.control.state
+    → (r ≡ true → later ≡ owned_by id step) → IsTale r later items)
+    → IsTale runs mine (items_in id step ++ items)
+step_tale id runs mine own m step items h same anew continues rest = go anew continues
+  where
+    tale : RunsIn runs step.link.machine.control.state → (runs ≡ true → owned_by id step ≡ mine)
+        → IsTale runs mine (items_in id step ++ items)
+    tale there owner =
+        let one = links_tell_holds step.link.machine step.event runs there in
+        told_tale runs mine (owned_by id step) (told_in step) items owner
+        (opens_apart step.link.machine step.event runs there) one.told
+        (λ later is. rest (runs_after runs (told_in step)) later one.now is)
+
+    go : (anew : Option Path) → Continues anew id own m step → IsTale runs mine (items_in id step ++ items)
+    go None kept =
+        tale (subst (λ (x : Machine). RunsIn runs x.control.state) (sym kept.0) h)
+        (λ is. kept.1 ∙ sym (same is))
+    go (Some path) made =
+        let none = idle_runs_not runs m.control.state h made.0 in
+        tale (runs_from runs step.link.machine.control.state none made.1)
+        (λ is. absurd (let e : false ≡ true = sym none ∙ is in cc))
+
 pub chain_tale :
     (id : ℕ) (runs mine own : Bool) (m : Machine) (steps : List LinkStep) → RunsIn runs m.control.state
     → (runs ≡ true → mine ≡ own) → IsOwnedChain id own m steps → IsTale runs mine (all_items id steps)
 chain_tale id runs mine own m [] h same chain = tt
-chain_tale id runs mine own m (step ∷ steps) h same chain = go step.anew chain.0
-  where
-    next : Machine
-    next = (link_turn step.link.machine step.event).now
-
-    tale : RunsIn runs step.link.machine.control.state → (runs ≡ true → owned_by id step ≡ mine)
-        → IsTale runs mine (items_in id step ++ all_items id steps)
-    tale there owner =
-        let one = links_tell_holds step.link.machine step.event runs there in
-        told_tale runs mine (owned_by id step) (told_in step) (all_items id steps) owner
-        (opens_apart step.link.machine step.event runs there) one.told
-        (λ later is. chain_tale id (runs_after runs (told_in step)) later (owned_by id step) next steps one.now is
-        chain.1)
-
-    go : (anew : Option Path) → Continues anew id own m step
-        → IsTale runs mine (items_in id step ++ all_items id steps)
-    go None continues =
-        tale (subst (λ (x : Machine). RunsIn runs x.control.state) (sym continues.0) h)
-        (λ is. continues.1 ∙ sym (same is))
-    go (Some path) continues =
-        let none = idle_runs_not runs m.control.state h continues.0 in
-        tale (runs_from runs step.link.machine.control.state none continues.1)
-        (λ is. absurd (let e : false ≡ true = sym none ∙ is in cc))
+chain_tale id runs mine own m (step ∷ steps) h same chain =
+    step_tale id runs mine own m step (all_items id steps) h same step.anew chain.0
+    (λ r later there is. chain_tale id r later (owned_by id step) (link_turn step.link.machine step.event).now steps
+    there is chain.1)
 
 -- ---- chains one after another
 

@@ -7,8 +7,8 @@ use Rattle.station_laws.proofs.Common.{Given, Ended, Link, is_between, is_number
 use Rattle.std.specs.Prelude.{filter}
 use Rattle.std.specs.List.{AllByRecursion as Each}
 use Rattle.std.specs.Str.{bytes_eq}
-use Rattle.std.proofs.lemmas.Bool.{false_from_ne_true}
-use Rattle.std.proofs.lemmas.List.{length-take, length-drop}
+use Rattle.std.proofs.lemmas.Bool.{false_from_ne_true, eq-eqb}
+use Rattle.std.proofs.lemmas.List.{length-take-le, length-drop}
 use Rattle.std.proofs.lemmas.List.Elements.{filter-append}
 use Rattle.std.proofs.lemmas.Slice.Eq.{bytes_eq-Decides}
 use Rattle.ax25_address.specs.Callsign.{IsCall}
@@ -48,45 +48,45 @@ pieces_both id first second = filter-append (λ (p : Piece). p.id == id) first s
 
 -- ---- messages that are read
 
-abbrev RestTen : (List ℕ → Reading) → Type 0
-RestTen next = (xs : List ℕ) → Each HasTen (next xs).messages
-
 header_ten : (stream body : List ℕ) → 36 ≤ length stream → HasTen (message_of (take 36 stream) body)
-header_ten stream body whole = record {
-  from = omega (arith, length-take 10 (drop 8 (take 36 stream)), length-drop 8 (take 36 stream),
-      length-take 36 stream);
-  to = omega (arith, length-take 10 (drop 18 (take 36 stream)), length-drop 18 (take 36 stream),
-      length-take 36 stream);
-}
+header_ten stream body whole =
+    let header = take 36 stream in
+    let all : length header ≡ 36 = length-take-le 36 stream whole in
+    record {
+      from = length-take-le 10 (drop 8 header) (omega (arith, all, length-drop 8 header));
+      to = length-take-le 10 (drop 18 header) (omega (arith, all, length-drop 18 header));
+    }
+
+-- one message more, if the next ones are read so
+more_ten : (stream : List ℕ) (next : Reading) → Each HasTen next.messages
+    → let header = take 36 stream in
+    Each HasTen (cond (nat_lt (length stream) header_size) (let r : Reading = record { messages = []; bad = None } in r)
+    (cond (nat_lt most_body (told_length header)) (record { messages = []; bad = Some (told_length header) })
+    (cond (nat_lt (length (drop 36 stream)) (told_length header)) (record { messages = []; bad = None })
+    (and_then (message_of header (take (told_length header) (drop 36 stream))) next)))).messages
+more_ten stream next h =
+    go (nat_lt (length stream) header_size) refl (nat_lt most_body (told_length (take 36 stream)))
+    (nat_lt (length (drop 36 stream)) (told_length (take 36 stream)))
+  where
+    go : (b : Bool) → nat_lt (length stream) header_size ≡ b → (d e : Bool)
+        → Each HasTen (cond b (let r : Reading = record { messages = []; bad = None } in r)
+        (cond d (record { messages = []; bad = Some (told_length (take 36 stream)) })
+        (cond e (record { messages = []; bad = None })
+        (and_then (message_of (take 36 stream) (take (told_length (take 36 stream)) (drop 36 stream))) next)))).messages
+    go true is d e = tt
+    go false is true e = tt
+    go false is false true = tt
+    go false is false false = (
+      header_ten stream (take (told_length (take 36 stream)) (drop 36 stream))
+          (ltb-false (length stream) header_size is),
+      h,
+    )
 
 upto_ten : (most : ℕ) (stream : List ℕ) → Each HasTen (reading_upto most stream).messages
 upto_ten zero stream = tt
-upto_ten (suc most) stream = go (nat_lt (length stream) header_size) refl
-  where
-    go : (b : Bool) → nat_lt (length stream) header_size ≡ b
-        → Each HasTen (cond b (record { messages = []; bad = None })
-        (cond (nat_lt most_body (told_length (take 36 stream)))
-        (record { messages = []; bad = Some (told_length (take 36 stream)) })
-        (cond (nat_lt (length (drop 36 stream)) (told_length (take 36 stream))) (record { messages = []; bad = None })
-        (and_then (message_of (take 36 stream) (take (told_length (take 36 stream)) (drop 36 stream)))
-        (reading_upto most (drop (told_length (take 36 stream)) (drop 36 stream))))))).messages
-    go true is = tt
-    go false is =
-        by_tests (nat_lt most_body (told_length (take 36 stream)))
-        (nat_lt (length (drop 36 stream)) (told_length (take 36 stream)))
-      where
-        by_tests : (b d : Bool)
-            → Each HasTen (cond b (record { messages = []; bad = Some (told_length (take 36 stream)) })
-            (cond d (record { messages = []; bad = None })
-            (and_then (message_of (take 36 stream) (take (told_length (take 36 stream)) (drop 36 stream)))
-            (reading_upto most (drop (told_length (take 36 stream)) (drop 36 stream)))))).messages
-        by_tests true d = tt
-        by_tests false true = tt
-        by_tests false false = (
-          header_ten stream (take (told_length (take 36 stream)) (drop 36 stream))
-              (ltb-false (length stream) header_size is),
-          upto_ten most (drop (told_length (take 36 stream)) (drop 36 stream)),
-        )
+upto_ten (suc most) stream =
+    let rest = drop (told_length (take 36 stream)) (drop 36 stream) in
+    more_ten stream (reading_upto most rest) (upto_ten most rest)
 
 read_ten : (stream : List ℕ) → Each HasTen (messages_in stream)
 unfolding reading
@@ -172,19 +172,9 @@ tell_own : (id : ℕ) (local remote : Callsign) (told : List Told) (n : ℕ) →
 tell_own id local remote [] n is = refl
 tell_own id local remote (t ∷ told) n is =
     ap (λ b. cond b (piece_of n local remote t ∷ pieces_for id (map (piece_of n local remote) told))
-    (pieces_for id (map (piece_of n local remote) told))) (same n is)
+    (pieces_for id (map (piece_of n local remote) told))) (eq-eqb n id is)
     ∙ ap (λ k. piece_of k local remote t ∷ pieces_for id (map (piece_of n local remote) told)) is
     ∙ ap (λ ps. piece_of id local remote t ∷ ps) (tell_own id local remote told n is)
-  where
-    same : (k : ℕ) → k ≡ id → (k == id) ≡ true
-    same k e = ap (λ x. x == id) e ∙ itself id
-      where
-        itself : (x : ℕ) → (x == x) ≡ true
-        itself x = go (x == x) refl
-          where
-            go : (b : Bool) → (x == x) ≡ b → (x == x) ≡ true
-            go true h = h
-            go false h = absurd (omega arith)
 
 tell_none : (id : ℕ) (local remote : Callsign) (told : List Told) (n : ℕ) → (n == id) ≡ false
     → pieces_for id (map (piece_of n local remote) told) ≡ []

@@ -65,6 +65,18 @@ use Rattle.call_laws.proofs.LinkActs.{made_does, meant, same_does, says_does, si
 use Rattle.call_laws.proofs.Sayings.{HasTen, SaysOnly, new_ten, none_by_kind, piece_with, says_both, says_nothing}
 use Rattle.call_laws.proofs.Sayings.{says_one, says_other}
 
+-- the connection that is found has the id
+found_id : (host : ℕ) (connection : Connection) (cs : List Connection) → connection_of host cs ≡ Some connection
+    → connection.id ≡ host
+found_id host connection [] e = absurd (cc)
+found_id host connection (c ∷ cs) e = go (c.id == host) refl e (found_id host connection cs)
+  where
+    go : (b : Bool) → (c.id == host) ≡ b → cond b (Some c) (connection_of host cs) ≡ Some connection
+        → (connection_of host cs ≡ Some connection → connection.id ≡ host) → connection.id ≡ host
+    go true here is rest =
+        let same : c ≡ connection = cc in ap (λ (x : Connection). x.id) (sym same) ∙ eqb-true c.id host here
+    go false here is rest = rest is
+
 module _ (id : ℕ) (plan : CallPlan) (called : CallsCalls plan) where
   -- ---- replies
 
@@ -378,19 +390,8 @@ module _ (id : ℕ) (plan : CallPlan) (called : CallsCalls plan) where
   octets_do host None octets before after is stays h =
       subst (Does id plan before []) (sym h) (same_does id plan before)
   octets_do host (Some connection) octets before after is stays h =
-      let named : connection.id ≡ host = found_id before.now.connections is in
+      let named : connection.id ≡ host = found_id host connection before.now.connections is in
       octets_do_by connection.kind connection octets before after (λ e. stays (sym named ∙ e)) h
-    where
-      found_id : (cs : List Connection) → connection_of host cs ≡ Some connection → connection.id ≡ host
-      found_id [] e = absurd (cc)
-      found_id (c ∷ cs) e = go (c.id == host) refl e
-        where
-          go : (b : Bool) → (c.id == host) ≡ b
-              → cond b (Some c) (connection_of host cs) ≡ Some connection → connection.id ≡ host
-          go true here e =
-              let same : c ≡ connection = cc in
-              ap (λ (x : Connection). x.id) (sym same) ∙ eqb-true c.id host here
-          go false here e = found_id cs e
 
   joining_does : (host : ℕ) (kind : PortKind) (turn : Turn) → Does id plan turn [] (joining host kind turn)
   joining_does host kind turn = go (nat_lt (length turn.now.connections) most_connections)
