@@ -557,9 +557,6 @@ prints_some none = let e : 104 ∷ [] ≡ [] = sym prints ∙ none in cc
 abbrev IsOfA : Step → Type 0
 IsOfA step = step.station ≡ A → IsClientStep 1 step
 
-none_speaks : (P : Connection → Type 0) → All P []
-none_speaks P = All-from_recursion P [] tt
-
 client_steps : Each IsOfA steps
 unfolding reading call_of_text link_turn
 client_steps = (
@@ -603,9 +600,17 @@ client_steps = (
 abbrev IsShort : Piece → Type 0
 IsShort piece = length piece.octets < 0x100000000
 
+each_short : (pieces : List Piece)
+    → list_all (λ (piece : Piece). nat_lt (length piece.octets) 0x100000000) pieces ≡ true → Each IsShort pieces
+each_short [] h = tt
+each_short (piece ∷ pieces) h =
+    let both = and_parts (nat_lt (length piece.octets) 0x100000000)
+    (list_all (λ (p : Piece). nat_lt (length p.octets) 0x100000000) pieces) h in
+    (ltb-true (length piece.octets) 0x100000000 both.0, each_short pieces both.1)
+
 short_pieces : Each IsShort (pieces_for 1 (pieces_at A steps))
 unfolding reading call_of_text link_turn spelling
-short_pieces = (omega arith, (omega arith, (omega arith, tt)))
+short_pieces = each_short (pieces_for 1 (pieces_at A steps)) refl
 
 client : IsClientOf 1 A steps
 client = record {

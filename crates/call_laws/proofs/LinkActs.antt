@@ -258,16 +258,10 @@ made_does id plan calls before key link path made event may made_is own m table 
         subst (OwnTable id (meant plan) (is_number id link.owner) link.machine) (sym links)
         (made_own id (meant plan) own m before.now.links key link (between_calls plan.own plan.remote) table may.new
         (may.none is) is may.valid) in
-        let was_idle : m.control.state ≡ Idle = idle_before (first_chosen (meant plan) before.now.links.places)
-        (may.none is) table.place in
+        let was_idle : m.control.state ≡ Idle = subst (IsOwnPlace id own m) (may.none is) table.place in
         from_made (link_step (Some path) key event made link ∷ [])
         (own_goes id plan (Some path) key event made link own (is_number id link.owner) m link.machine there at is
         (was_idle, may.idle))
-      where
-        idle_before : (place : Option Link) → place ≡ None
-            → IsOwnPlace id own m place → m.control.state ≡ Idle
-        idle_before None none h = h
-        idle_before (Some l) none h = absurd (cc)
     go false is =
         from_made []
         (other_goes id plan key event made link calls own m
