@@ -22,10 +22,13 @@ use Rattle.agwpe_client.specs.CallRun.{CallPlan, call_run, printed_after}
 use Rattle.link_machine.specs.Event.Event.{Connect as LinkConnect, Hear as LinkHear}
 use Rattle.link_machine.specs.Params.{HasWindows}
 use Rattle.link_machine.specs.Step.{step as link_turn}
+use Rattle.selective_reject.specs.Numbers.{ahead}
 use Rattle.station.specs.Turn.{begin}
 use Rattle.station.specs.declared.host_out.Piece.{Piece}
-use Rattle.call_laws.specs.Client.{CallsCalls, IsClientOf, IsClientStep, octets_had, pieces_at, pieces_for}
+use Rattle.call_laws.specs.Client.{IsBetweenCalls, IsClientOf, IsClientStep, octets_had, pieces_at, pieces_for}
 use Rattle.call_laws.specs.FirstPart.{IsFirstPart}
+use Rattle.call_laws.specs.PrintsGiven.{CallLaw, PrintsGiven}
+use Rattle.station_laws.specs.LinkOfCalls.{world_of}
 
 abbrev pub aaaa : Callsign
 aaaa = record { name = 65 ∷ 65 ∷ 65 ∷ 65 ∷ []; ssid = 0 }
@@ -303,7 +306,7 @@ b_gives =
     }
 
 abbrev pub a_hears_info : Step
-unfolding reading call_of_text link_turn
+unfolding reading call_of_text link_turn ahead
 a_hears_info =
     let before = a_hears_ua.after.now in
     let after = event_at 0 (LinkHear info_frame) (shown back_path info info_frame before) in record {
@@ -343,7 +346,7 @@ pairs = record {
 
 -- the SABM entered a quiet channel
 is_quiet_run : IsQuietLink calls pairs default_params default_params steps
-unfolding reading call_of_text link_turn
+unfolding reading call_of_text link_turn ahead
 is_quiet_run = (refl, (refl, (refl, (refl, (refl, (refl, (refl, tt)))))))
 
 -- ---- what is heard
@@ -412,7 +415,7 @@ unfolding reading call_of_text link_turn
 b_hears_first = record { station = refl; input = refl; event = λ e. cc }
 
 first_pair : IsHeardPair B steps (record { heard = 5; sent = 0 })
-unfolding reading call_of_text link_turn frame_octets
+unfolding reading call_of_text link_turn frame_octets ahead
 first_pair = record {
   step = b_hears_sabm;
   octets = sabm;
@@ -433,7 +436,7 @@ has_itself ps k p d all within is = record {
 
 all_b : (number : ℕ) (step : Step) (octets : List ℕ) → slice_get steps number ≡ Some step → HearsLinkFrame B step octets
     → HasPair pairs.at_b number
-unfolding reading call_of_text link_turn
+unfolding reading call_of_text link_turn ahead
 all_b zero step octets is hears = absurd (of_other B a_joins step octets a_is_not_b is hears)
 all_b (suc zero) step octets is hears =
     absurd (subst (λ (s : Step). HearsLinkFrame B s octets) (sym (same_some b_joins step is)) hears).input
@@ -464,11 +467,11 @@ unfolding reading call_of_text link_turn
 a_hears_first = record { station = refl; input = refl; event = λ e. cc }
 
 a_hears_second : HearsLinkFrame A a_hears_info info
-unfolding reading call_of_text link_turn
+unfolding reading call_of_text link_turn ahead
 a_hears_second = record { station = refl; input = refl; event = λ e. cc }
 
 first_answer : IsHeardPair A steps (record { heard = 6; sent = 0 })
-unfolding reading call_of_text link_turn frame_octets
+unfolding reading call_of_text link_turn frame_octets ahead
 first_answer = record {
   step = a_hears_ua;
   octets = ua;
@@ -480,7 +483,7 @@ first_answer = record {
 }
 
 data_pair : IsHeardPair A steps (record { heard = 8; sent = 1 })
-unfolding reading call_of_text link_turn frame_octets
+unfolding reading call_of_text link_turn frame_octets ahead
 data_pair = record {
   step = a_hears_info;
   octets = info;
@@ -493,7 +496,7 @@ data_pair = record {
 
 all_a : (number : ℕ) (step : Step) (octets : List ℕ) → slice_get steps number ≡ Some step → HearsLinkFrame A step octets
     → HasPair pairs.at_a number
-unfolding reading call_of_text link_turn
+unfolding reading call_of_text link_turn ahead
 all_a zero step octets is hears =
     absurd (subst (λ (s : Step). HearsLinkFrame A s octets) (sym (same_some a_joins step is)) hears).input
 all_a (suc zero) step octets is hears = absurd (of_other A b_joins step octets b_is_not_a is hears)
@@ -537,7 +540,7 @@ fits = record {
 abbrev pub plan : CallPlan
 plan = record { own = aaaa; remote = bbbb; via = []; text = []; expect = 10 }
 
-calls_valid : CallsCalls plan
+calls_valid : IsBetweenCalls plan
 calls_valid = record { own = aaaa_valid; remote = bbbb_valid }
 
 -- all that A has for it
@@ -548,42 +551,48 @@ whole : IsFirstPart stream (octets_had 1 A steps)
 whole = ([], sym (append-nil stream))
 
 prints : printed_after plan stream ≡ 104 ∷ []
-unfolding reading call_of_text link_turn spelling call_run
+unfolding reading call_of_text link_turn spelling call_run ahead
 prints = refl
 
+one_is_some : (xs : List ℕ) (octet : ℕ) → xs ≡ octet ∷ [] → xs ≢ []
+one_is_some xs octet is none = let e : octet ∷ [] ≡ [] = sym is ∙ none in cc
+
 prints_some : printed_after plan stream ≢ []
-prints_some none = let e : 104 ∷ [] ≡ [] = sym prints ∙ none in cc
+prints_some = one_is_some (printed_after plan stream) 104 prints
+
+abbrev SpeaksHere : Connection → Type 0
+SpeaksHere c = c.id ≡ 1 → c.kind ≡ Agw
 
 abbrev IsOfA : Step → Type 0
 IsOfA step = step.station ≡ A → IsClientStep 1 step
 
 client_steps : Each IsOfA steps
-unfolding reading call_of_text link_turn
+unfolding reading call_of_text link_turn ahead
 client_steps = (
-  λ same. record { speaks = All-from_recursion _ [] tt; stays = tt },
+  λ same. record { speaks = All-from_recursion SpeaksHere [] tt; stays = tt },
   (
     λ same. absurd (b_is_not_a same),
     (
-      λ same. record { speaks = All-from_recursion _ a_joins.after.now.connections (λ e. refl, tt); stays = λ e. refl },
+      λ same. record { speaks = All-from_recursion SpeaksHere a_joins.after.now.connections (λ e. refl, tt); stays = λ e. refl },
       (
         λ same. absurd (b_is_not_a same),
         (
           λ same. record {
-            speaks = All-from_recursion _ a_registers.after.now.connections (λ e. refl, tt);
+            speaks = All-from_recursion SpeaksHere a_registers.after.now.connections (λ e. refl, tt);
             stays = λ e. refl;
           },
           (
             λ same. absurd (b_is_not_a same),
             (
               λ same. record {
-                speaks = All-from_recursion _ a_calls.after.now.connections (λ e. refl, tt);
+                speaks = All-from_recursion SpeaksHere a_calls.after.now.connections (λ e. refl, tt);
                 stays = tt;
               },
               (
                 λ same. absurd (b_is_not_a same),
                 (
                   λ same. record {
-                    speaks = All-from_recursion _ a_hears_ua.after.now.connections (λ e. refl, tt);
+                    speaks = All-from_recursion SpeaksHere a_hears_ua.after.now.connections (λ e. refl, tt);
                     stays = tt;
                   },
                   tt,
@@ -609,7 +618,7 @@ each_short (piece ∷ pieces) h =
     (ltb-true (length piece.octets) 0x100000000 both.0, each_short pieces both.1)
 
 short_pieces : Each IsShort (pieces_for 1 (pieces_at A steps))
-unfolding reading call_of_text link_turn spelling
+unfolding reading call_of_text link_turn spelling ahead
 short_pieces = each_short (pieces_for 1 (pieces_at A steps)) refl
 
 client : IsClientOf 1 A steps
@@ -617,3 +626,10 @@ client = record {
   each = All-from_recursion IsOfA steps client_steps;
   short = All-from_recursion IsShort (pieces_for 1 (pieces_at A steps)) short_pieces;
 }
+
+-- ---- so the law speaks of this call
+
+speaks : CallLaw → PrintsGiven (world_of calls pairs default_params default_params steps) (printed_after plan stream)
+speaks law =
+    law config config 1 2 steps pairs is_run heard_at_a heard_at_b fits A plan calls_valid is_quiet_run 1 client stream
+    whole prints_some

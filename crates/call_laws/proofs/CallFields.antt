@@ -77,8 +77,12 @@ text_short call valid = go (call.ssid == 0)
 pub field_ten : (call : Callsign) → IsCall call → length (call_field call) ≡ 10
 field_ten call valid =
     let text = text_of_call call in
-    omega (arith, (text_short call valid).short, length-append text (replicate (10 - length text) 0),
-    length-replicate {A = ℕ} (10 - length text) 0)
+    omega (
+      arith,
+      (text_short call valid).short,
+      length-append text (replicate (10 - length text) 0),
+      length-replicate {A = ℕ} (10 - length text) 0,
+    )
 
 -- ---- a field tells its call
 

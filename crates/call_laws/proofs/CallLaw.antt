@@ -28,11 +28,12 @@ use Rattle.station_laws.specs.RunsTell.{told_in}
 use Rattle.station_laws.proofs.Chains.{last_machine, last_append}
 use Rattle.station_laws.proofs.LinkTells.{none_idle}
 use Rattle.station_laws.proofs.Tables.{NotChosen, none_chosen, one_of_none}
-use Rattle.call_laws.specs.Client.{CallsCalls, IsClientOf, IsClientStep, calls_of, octets_had, pieces_at, pieces_for}
+use Rattle.call_laws.specs.Client.{IsBetweenCalls, IsClientOf, IsClientStep, calls_of, octets_had, pieces_at, pieces_for}
 use Rattle.call_laws.specs.FirstPart.{IsFirstPart, HasHeader}
-use Rattle.call_laws.specs.PrintsGiven.{octets_of, PrintsGiven, CallLaw}
+use Rattle.call_laws.specs.PrintsGiven.{PrintsGiven, CallLaw}
+use Rattle.call_laws.specs.PrintsTold.{octets_of, PrintsTold, CallToldLaw}
 use Rattle.call_laws.specs.SetUpsTold.{got_told, told_at, SetUpsAreTold}
-use Rattle.call_laws.proofs.Collect.{FitsItem, HasData, finds}
+use Rattle.call_laws.proofs.Collect.{FitsItem, finds}
 use Rattle.call_laws.proofs.Gots.{gots}
 use Rattle.call_laws.proofs.Items.{Item, messages_of, tells_of, messages_append, tells_append, all_items, items_append}
 use Rattle.call_laws.proofs.Items.{told_of_items, told_all, told_tells, IsTale, IsOwnedChain, chain_tale, last_owned}
@@ -122,7 +123,7 @@ one_sends id plan own m B A s after steps does table =
     record { sends = sends_nothing id plan own m; table = table }
 
 run_sends :
-    (id : ℕ) (plan : CallPlan) → CallsCalls plan → (x : End) (steps : List Step) (s : Stations) (own : Bool)
+    (id : ℕ) (plan : CallPlan) → IsBetweenCalls plan → (x : End) (steps : List Step) (s : Stations) (own : Bool)
     (m : Machine) → IsJointRun s steps → Each (λ (step : Step). step.station ≡ x → IsClientStep id step) steps
     → OwnTable id (meant plan) own m (state_of x s).links
     → Sends id plan own m (pieces_at x steps) (link_steps_at (calls_of x plan) x steps)
@@ -267,7 +268,7 @@ told_in_one :
     → Each (λ (piece : Piece). length piece.octets < 0x100000000) (pieces_for id pieces)
     → IsFirstPart stream (flat_map (λ (piece : Piece). piece.octets) (pieces_for id pieces))
     → printed_after plan stream ≢ []
-    → HasData plan (fold got_told [] (flat_map told_in steps)) (printed_after plan stream)
+    → PrintsTold (fold got_told [] (flat_map told_in steps)) (printed_after plan stream)
 told_in_one id plan m pieces steps stream idle sends short part some =
     let messages = messages_of plan.own plan.remote sends.items in
     let headers : Each HasHeader messages =
@@ -291,31 +292,35 @@ told_in_one id plan m pieces steps stream idle sends short part some =
     none_idle) (λ is. refl) sends.chain)) in
     let told : told_of_items sends.items ≡ flat_map told_in steps =
     sym (told_tells sends.items) ∙ ap told_of_items sends.tells ∙ told_all id steps in
-    subst (λ ts. HasData plan (fold got_told [] ts) (printed_after plan stream)) told
-    (subst (HasData plan (fold got_told [] (told_of_items sends.items))) (sym call.data_between)
+    subst (λ ts. PrintsTold (fold got_told [] ts) (printed_after plan stream)) told
+    (subst (PrintsTold (fold got_told [] (told_of_items sends.items))) (sym call.data_between)
     (finds plan sends.items false false [] call.front call.connected call.middle (call.rest ++ read.0) sends.fits tale
     order call.connects
     (recursion_from_All (λ message. is_of disconnect_kind plan message ≡ false)
     call.middle call.stays)))
 
+pub call_told_holds : CallToldLaw
+call_told_holds a b seed_a seed_b steps run x plan called id client stream part some =
+    let calls = calls_of x plan in
+    let m = new_machine (path_between plan.own plan.remote) (config_at x a b).params in
+    let sends : Sends id plan false m (pieces_at x steps) (link_steps_at calls x steps) =
+    run_sends id plan called x steps (new_stations a seed_a b seed_b) false m run
+    (recursion_from_All (λ (step : Step). step.station ≡ x → IsClientStep id step) steps client.each)
+    (start_table id plan a b seed_a seed_b x) in
+    told_in_one id plan m (pieces_at x steps) (link_steps_at calls x steps) stream refl sends
+    (recursion_from_All (λ (piece : Piece). length piece.octets < 0x100000000) (pieces_for id (pieces_at x steps))
+    client.short) part some
+
 pub call_law_by : StationsLaw → SetUpsAreTold → CallLaw
 call_law_by law told a b seed_a seed_b steps pairs run heard_a heard_b fits x plan called quiet id client stream part
     some =
     let calls = calls_of x plan in
-    let start = new_stations a seed_a b seed_b in
     let keeps = law a b seed_a seed_b steps pairs run heard_a heard_b fits calls quiet in
-    let m = new_machine (path_between plan.own plan.remote) (config_at x a b).params in
-    let sends : Sends id plan false m (pieces_at x steps) (link_steps_at calls x steps) =
-    run_sends id plan called x steps start false m run
-    (recursion_from_All (λ (step : Step). step.station ≡ x → IsClientStep id step) steps client.each)
-    (start_table id plan a b seed_a seed_b x) in
-    let has : HasData plan (fold got_told [] (told_at calls x steps)) (printed_after plan stream) =
-    told_in_one id plan m (pieces_at x steps) (link_steps_at calls x steps) stream refl sends
-    (recursion_from_All (λ (piece : Piece). length piece.octets < 0x100000000) (pieces_for id (pieces_at x steps))
-    client.short) part some in
+    let has : PrintsTold (fold got_told [] (told_at calls x steps)) (printed_after plan stream) =
+    call_told_holds a b seed_a seed_b steps run x plan called id client stream part some in
     let world = seen_from x (world_of calls pairs a.params b.params steps) in
     let there : slice_get (gots world.a.end.set_ups) has.number ≡ Some has.got =
     ap (λ gs. slice_get gs has.number) (told a b seed_a seed_b steps pairs run heard_a heard_b calls x)
     ∙ has.is_there in
     given_in world has.number has.got (printed_after plan stream)
-    (order_at x calls pairs a b steps (all_stepped steps start) keeps) there has.part some
+    (order_at x calls pairs a b steps (all_stepped steps (new_stations a seed_a b seed_b)) keeps) there has.part some

@@ -13,7 +13,7 @@ use Rattle.agwpe_client.specs.CallRun.{CallPlan}
 use Rattle.agwpe_client.specs.DoneCall.{is_of, data_of}
 use Rattle.station.specs.HostMessages.{message_of_told}
 use Rattle.call_laws.specs.FirstPart.{IsFirstPart}
-use Rattle.call_laws.specs.PrintsGiven.{octets_of}
+use Rattle.call_laws.specs.PrintsTold.{octets_of, PrintsTold}
 use Rattle.call_laws.specs.SetUpsTold.{last_given, given_last, got_told}
 use Rattle.call_laws.proofs.Items.{Item, messages_of, told_of_items, IsTale}
 use Rattle.call_laws.proofs.Items.Item.{Tells, Says}
@@ -118,13 +118,6 @@ module _ (plan : CallPlan) where
   abbrev NoEnd : AgwMessage → Type 0
   NoEnd message = is_of disconnect_kind plan message ≡ false
 
-  -- a set-up whose packets begin with this data
-  pub record HasData (gots : List (List Packet)) (printed : List ℕ) : Type 0 where
-    pub number : ℕ
-    pub got : List Packet
-    pub is_there : slice_get gots number ≡ Some got
-    pub part : IsFirstPart printed (octets_of got)
-
   octets_grow : (first got : List Packet) → IsFirstPart first got → IsFirstPart (octets_of first) (octets_of got)
   octets_grow first got part =
       (octets_of part.0, ap octets_of part.1 ∙ flat_map-append (λ (p : Packet). p.octets) first part.0)
@@ -136,7 +129,7 @@ module _ (plan : CallPlan) where
   collects :
       (items : List Item) (others : List (List Packet)) (got : List Packet) (middle rest : List AgwMessage)
       → Each (FitsItem plan) items → IsTale true true items → said items ≡ middle ++ rest → Each NoEnd middle
-      → HasData (fold got_told (others ++ got ∷ []) (told_of_items items))
+      → PrintsTold (fold got_told (others ++ got ∷ []) (told_of_items items))
       (octets_of got ++ flat_map (data_of plan) middle)
   collects items others got [] rest fits tale is none =
       let later = grows (told_of_items items) others got [] in
@@ -151,7 +144,7 @@ module _ (plan : CallPlan) where
   collects (Says m ∷ items) others got (message ∷ middle) rest fits tale is none =
       let same = cons_head m message (said items) (middle ++ rest) is in
       let data_none : data_of plan message ≡ [] = ap (data_of plan) (sym same.0) ∙ no_data m fits.0 in
-      subst (λ xs. HasData (fold got_told (others ++ got ∷ []) (told_of_items items)) (octets_of got ++ xs))
+      subst (λ xs. PrintsTold (fold got_told (others ++ got ∷ []) (told_of_items items)) (octets_of got ++ xs))
       (ap (λ xs. xs ++ flat_map (data_of plan) middle) (sym data_none))
       (collects items others got middle rest fits.1 tale same.1 none.1)
   collects (Tells owned (Opened ours) ∷ items) others got (message ∷ middle) rest fits tale is none =
@@ -171,9 +164,9 @@ module _ (plan : CallPlan) where
       ap (λ xs. xs ++ flat_map (data_of plan) middle) before
       ∙ append_assoc (octets_of got) packet.octets (flat_map (data_of plan) middle)
       ∙ ap (λ xs. octets_of got ++ (xs ++ flat_map (data_of plan) middle)) (sym data_is) in
-      subst (λ gs. HasData (fold got_told gs (told_of_items items))
+      subst (λ gs. PrintsTold (fold got_told gs (told_of_items items))
       (octets_of got ++ (data_of plan message ++ flat_map (data_of plan) middle))) (sym (given_at packet others got))
-      (subst (HasData (fold got_told (others ++ (got ++ packet ∷ []) ∷ []) (told_of_items items))) all more)
+      (subst (PrintsTold (fold got_told (others ++ (got ++ packet ∷ []) ∷ []) (told_of_items items))) all more)
   collects (Tells false (Ended why) ∷ items) others got (message ∷ middle) rest fits tale is none =
       absurd (let e : false ≡ true = tale.0 refl in cc)
   collects (Tells true (Ended why) ∷ items) others got (message ∷ middle) rest fits tale is none =
@@ -187,7 +180,7 @@ module _ (plan : CallPlan) where
       (connected : AgwMessage) (middle rest : List AgwMessage)
       → Each (FitsItem plan) items → IsTale runs own items → said items ≡ front ++ connected ∷ (middle ++ rest)
       → is_of connect_kind plan connected ≡ true → Each NoEnd middle
-      → HasData (fold got_told gots (told_of_items items)) (flat_map (data_of plan) middle)
+      → PrintsTold (fold got_told gots (told_of_items items)) (flat_map (data_of plan) middle)
   finds [] runs own gots [] connected middle rest fits tale is c none = absurd (cc)
   finds [] runs own gots (first ∷ front) connected middle rest fits tale is c none = absurd (cc)
   finds (Says m ∷ items) runs own gots [] connected middle rest fits tale is c none =

@@ -20,7 +20,7 @@ use Rattle.station_laws.proofs.Chains.{last_machine, last_append}
 use Rattle.station_laws.proofs.OwnerLemmas.{owners_are_told}
 use Rattle.station_laws.proofs.Queues.{link_stepped}
 use Rattle.station_laws.proofs.Standing.{between_calls, chosen_calls}
-use Rattle.call_laws.specs.Client.{pieces_for, CallsCalls}
+use Rattle.call_laws.specs.Client.{pieces_for, IsBetweenCalls}
 use Rattle.call_laws.proofs.Collect.{FitsItem}
 use Rattle.call_laws.proofs.Items.{Item, messages_of, tells_of, messages_append, tells_append, items_in, all_items}
 use Rattle.call_laws.proofs.Items.{items_append, owned_by, Continues, IsOwnedChain, last_owned, owned_append}
@@ -173,7 +173,7 @@ own_goes id plan anew key event turn link own mine m now table at is continues =
 
 -- of another link
 other_goes :
-    (id : ℕ) (plan : CallPlan) (key : ℕ) (event : LinkEvent) (turn : Turn) (link : Link) → CallsCalls plan
+    (id : ℕ) (plan : CallPlan) (key : ℕ) (event : LinkEvent) (turn : Turn) (link : Link) → IsBetweenCalls plan
     → (own : Bool) (m : Machine) → OwnTable id (meant plan) own m turn.now.links
     → link_at key turn.now.links ≡ Some link → meant plan (Some link) ≡ false
     → Goes id plan own m turn [] (event_at key event turn)
@@ -195,7 +195,7 @@ other_goes id plan key event turn link calls own m table at is =
     }
 
 pub event_does :
-    (id : ℕ) (plan : CallPlan) → CallsCalls plan → (key : ℕ) (event : LinkEvent) (turn : Turn)
+    (id : ℕ) (plan : CallPlan) → IsBetweenCalls plan → (key : ℕ) (event : LinkEvent) (turn : Turn)
     → Does id plan turn (steps_at (meant plan) None key event turn) (event_at key event turn)
 event_does id plan calls key event turn own m table = by_place (link_at key turn.now.links) refl
   where
@@ -221,7 +221,7 @@ pub record MayMake (plan : CallPlan) (turn : Turn) (key : ℕ) (link : Link) : T
   pub none : meant plan (Some link) ≡ true → first_chosen (meant plan) turn.now.links.places ≡ None
 
 pub made_does :
-    (id : ℕ) (plan : CallPlan) → CallsCalls plan → (before : Turn) (key : ℕ) (link : Link) (path : Path) (made : Turn)
+    (id : ℕ) (plan : CallPlan) → IsBetweenCalls plan → (before : Turn) (key : ℕ) (link : Link) (path : Path) (made : Turn)
     (event : LinkEvent) → MayMake plan before key link → made ≡ changing (with_links (with_new_link key link)) before
     → Does id plan before (steps_at (meant plan) (Some path) key event made) (event_at key event made)
 made_does id plan calls before key link path made event may made_is own m table =
@@ -271,7 +271,7 @@ made_does id plan calls before key link path made event may made_is own m table 
 
 -- ---- a tick
 
-pub ticks_do : (id : ℕ) (plan : CallPlan) → CallsCalls plan → (turn : Turn)
+pub ticks_do : (id : ℕ) (plan : CallPlan) → IsBetweenCalls plan → (turn : Turn)
     → Does id plan turn (tick_steps (meant plan) turn) (ticking_links turn)
 unfolding ticking_links
 ticks_do id plan calls turn =
@@ -281,7 +281,7 @@ ticks_do id plan calls turn =
 
 -- ---- another host program leaves
 
-gives_up_does : (id : ℕ) (plan : CallPlan) → CallsCalls plan → (host : ℕ) → host ≢ id → (key : ℕ) (turn : Turn)
+gives_up_does : (id : ℕ) (plan : CallPlan) → IsBetweenCalls plan → (host : ℕ) → host ≢ id → (key : ℕ) (turn : Turn)
     → Does id plan turn (gives_up_at (meant plan) host key turn) (giving_up host key turn)
 gives_up_does id plan calls host other key turn own m table = by_place (link_at key turn.now.links) refl
   where
@@ -310,7 +310,7 @@ gives_up_does id plan calls host other key turn own m table = by_place (link_at 
     by_place None at = same_does id plan turn own m table
     by_place (Some link) at = by_owner link at (is_number host link.owner) refl
 
-pub leaving_does : (id : ℕ) (plan : CallPlan) → CallsCalls plan → (host : ℕ) → host ≢ id → (turn : Turn)
+pub leaving_does : (id : ℕ) (plan : CallPlan) → IsBetweenCalls plan → (host : ℕ) → host ≢ id → (turn : Turn)
     → Does id plan turn (leaving_steps (meant plan) host turn) (leaving host turn)
 unfolding giving_up_all
 leaving_does id plan calls host other turn =
@@ -322,7 +322,7 @@ leaving_does id plan calls host other turn =
 
 -- ---- data and disconnects
 
-pub data_does : (id : ℕ) (plan : CallPlan) → CallsCalls plan → (message : AgwMessage) (key : Option ℕ) (turn : Turn)
+pub data_does : (id : ℕ) (plan : CallPlan) → IsBetweenCalls plan → (message : AgwMessage) (key : Option ℕ) (turn : Turn)
     → Does id plan turn (data_steps (meant plan) message key turn) (giving message key turn)
 data_does id plan calls message None turn = same_does id plan turn
 data_does id plan calls message (Some key) turn =
@@ -330,7 +330,7 @@ data_does id plan calls message (Some key) turn =
     (λ packet t. event_does id plan calls key (LinkSend packet) t)
     (packets_of (data_pid message.pid (link_at key turn.now.links)) message.body) turn
 
-pub disconnect_does : (id : ℕ) (plan : CallPlan) → CallsCalls plan → (key : Option ℕ) (turn : Turn)
+pub disconnect_does : (id : ℕ) (plan : CallPlan) → IsBetweenCalls plan → (key : Option ℕ) (turn : Turn)
     → Does id plan turn (disconnect_steps (meant plan) key turn) (disconnecting key turn)
 disconnect_does id plan calls None turn = same_does id plan turn
 disconnect_does id plan calls (Some key) turn = event_does id plan calls key LinkDisconnect turn

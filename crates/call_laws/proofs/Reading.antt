@@ -64,9 +64,11 @@ whole_read (message ∷ messages) h = go (cases_lt 4096 (length message.body)) (
 
     go : (4096 < length message.body ⊎ length message.body ≤ 4096) → IsFirstPart (messages_in more) messages
         → IsFirstPart (messages_in (spelling message ++ more)) (message ∷ messages)
-    go (inl long) rest =
-        (message ∷ messages, sym (ap (λ (r : Reading). r.messages ++ message ∷ messages)
-        (long_reads message h.0 more long)))
+    go (inl long) rest = (
+      message ∷ messages,
+      sym (ap (λ (r : Reading). r.messages ++ message ∷ messages)
+          (long_reads message h.0 more long)),
+    )
     go (inr fits) rest =
         let is = written_reads message (record { from = h.0.from; to = h.0.to; body = fits }) more in
         (rest.0, ap (λ ms. message ∷ ms) rest.1 ∙ sym (ap (λ (r : Reading). r.messages ++ rest.0) is))

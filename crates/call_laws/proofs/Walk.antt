@@ -57,7 +57,7 @@ use Rattle.station_laws.proofs.OwnerLemmas.{queued_pieces}
 use Rattle.station_laws.proofs.Standing.{chosen_calls}
 use Rattle.station_laws.proofs.Tables.{none_chosen}
 use Rattle.station_laws.proofs.ValidCalls.{none_by_position, no_or_few, route_valid}
-use Rattle.call_laws.specs.Client.{CallsCalls, IsClientStep, Stays, TellsNoBadLength}
+use Rattle.call_laws.specs.Client.{IsBetweenCalls, IsClientStep, Stays, TellsNoBadLength}
 use Rattle.call_laws.proofs.CallFields.{field_ten, sent_back_ten}
 use Rattle.call_laws.proofs.Collect.{IsNoneOf}
 use Rattle.call_laws.proofs.LinkActs.{Does, MayMake, data_does, disconnect_does, does_on, event_does, leaving_does}
@@ -77,7 +77,7 @@ found_id host connection (c ∷ cs) e = go (c.id == host) refl e (found_id host 
         let same : c ≡ connection = cc in ap (λ (x : Connection). x.id) (sym same) ∙ eqb-true c.id host here
     go false here is rest = rest is
 
-module _ (id : ℕ) (plan : CallPlan) (called : CallsCalls plan) where
+module _ (id : ℕ) (plan : CallPlan) (called : IsBetweenCalls plan) where
   -- ---- replies
 
   reply_does :
@@ -421,8 +421,7 @@ module _ (id : ℕ) (plan : CallPlan) (called : CallsCalls plan) where
       → (more : List Piece) × ((with_shown kind host raw from to octets out).pieces ≡ out.pieces ++ more)
       × SaysOnly id plan more
   shown_says Kiss host raw from to octets out agw from_ten to_ten =
-      let p : Piece = record { id = host; octets = kiss_data octets } in
-      (
+      let p : Piece = record { id = host; octets = kiss_data octets } in (
         p ∷ [],
         refl,
         says_other id plan p
@@ -431,8 +430,7 @@ module _ (id : ℕ) (plan : CallPlan) (called : CallsCalls plan) where
   shown_says Agw host false from to octets out agw from_ten to_ten =
       ([], sym (append-nil out.pieces), says_nothing id plan)
   shown_says Agw host true from to octets out agw from_ten to_ten =
-      let message = raw_message from to octets in
-      (
+      let message = raw_message from to octets in (
         piece_with host message ∷ [],
         refl,
         says_one id host plan message (record { from = from_ten; to = to_ten }) (none_by_kind plan message refl refl),

@@ -58,7 +58,8 @@ pub record IsClientOf (id : ℕ) (end : End) (steps : List Step) : Type 0 where
 
 -- ---- its call
 
-pub record CallsCalls (plan : CallPlan) : Type 0 where
+-- a plan of a call from one call to another
+pub record IsBetweenCalls (plan : CallPlan) : Type 0 where
   pub own : IsCall plan.own
   pub remote : IsCall plan.remote
 

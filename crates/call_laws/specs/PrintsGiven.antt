@@ -1,8 +1,6 @@
 -- The law of a call whose host is a station of a joint run: what it prints was given by the partner's host in one
 -- set-up of the link.
 use Rattle.std.specs.Prelude.{◌≡◌, ◌≢◌, ℕ, List, [], slice_get, Some}
-use Rattle.std.specs.List.{flat_map}
-use Rattle.selective_reject.specs.declared.packet.Packet.{Packet}
 use Rattle.agwpe_client.specs.CallRun.{CallPlan, printed_after}
 use Rattle.link_world.specs.declared.end.End.{End}
 use Rattle.link_world.specs.declared.end.End.TheVariants.{A, B}
@@ -14,12 +12,9 @@ use Rattle.station.specs.declared.config.Config.{Config}
 use Rattle.station_laws.specs.HeardInOrder.{AreHeardInOrder}
 use Rattle.station_laws.specs.JointRun.{Step, new_stations, IsJointRun}
 use Rattle.station_laws.specs.LinkOfCalls.{Pairs, IsQuietLink, world_of}
-use Rattle.call_laws.specs.Client.{IsClientOf, CallsCalls, calls_of, octets_had}
+use Rattle.call_laws.specs.Client.{IsClientOf, IsBetweenCalls, calls_of, octets_had}
 use Rattle.call_laws.specs.FirstPart.{IsFirstPart}
-
--- the octets of packets, one after another
-abbrev pub octets_of : List Packet → List ℕ
-octets_of packets = flat_map (λ (packet : Packet). packet.octets) packets
+use Rattle.call_laws.specs.PrintsTold.{octets_of}
 
 -- Of the link as the client's end sees it: a set-up of its own, and the set-up of the partner's end that is its origin.
 -- What was printed is a first part of the octets that the partner's host gave in that one.
@@ -41,7 +36,7 @@ CallLaw =
     (a b : Config) (seed_a seed_b : ℕ) (steps : List Step) (pairs : Pairs)
     → let start = new_stations a seed_a b seed_b in
     IsJointRun start steps → AreHeardInOrder A steps pairs.at_a → AreHeardInOrder B steps pairs.at_b
-    → WindowsFit a.params b.params → (end : End) (plan : CallPlan) → CallsCalls plan
+    → WindowsFit a.params b.params → (end : End) (plan : CallPlan) → IsBetweenCalls plan
     → let calls = calls_of end plan in
     IsQuietLink calls pairs a.params b.params steps → (id : ℕ) → IsClientOf id end steps
     → (stream : List ℕ) → IsFirstPart stream (octets_had id end steps) → printed_after plan stream ≢ []
