@@ -30,6 +30,7 @@ PROMISES = [
     ("called", "tnc_main/src/program.rt", "clause", "called"),
     ("two links", "link_world/src/laws.rt", "function", "prefix_law"),
     ("two stations", "station_laws/src/laws.rt", "function", "stations_law"),
+    ("a call", "call_laws/src/laws.rt", "function", "a_call_prints_what_was_given"),
 ]
 
 WORD = re.compile(r"[^\W\d]\w*")

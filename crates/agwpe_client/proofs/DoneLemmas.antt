@@ -14,7 +14,7 @@ use Rattle.agwpe_client.specs.DoneCall.{is_of, data_of, IsDoneCall, DonePrintsIt
 
 -- ---- the tests of a message, by the step that they make
 
-talk_means : (ours connected ended : Bool) → cond ours (cond connected Talk (cond ended Refuse Ignore)) Ignore ≡ Talk
+pub talk_means : (ours connected ended : Bool) → cond ours (cond connected Talk (cond ended Refuse Ignore)) Ignore ≡ Talk
     → (ours && connected) ≡ true
 talk_means true true ended e = refl
 talk_means true false true e = absurd cc
@@ -60,22 +60,22 @@ pub record EndsUp (plan : CallPlan) (run : CallRun) (message : AgwMessage) : Typ
   pub printed : (with_message plan run message).printed ≡ run.printed
 
 module _ (plan : CallPlan) (run : CallRun) (message : AgwMessage) where
-  abbrev step_now : CallState → Step
+  abbrev pub step_now : CallState → Step
   step_now state = step_of (call_field plan.own) (call_field plan.remote) state message
 
-  abbrev ours : Bool
+  abbrev pub ours : Bool
   ours = is_of_call (call_field plan.own) (call_field plan.remote) message
 
-  fits_at : (state : CallState) (step : Step) → step_now state ≡ step → FitsState step state
+  pub fits_at : (state : CallState) (step : Step) → step_now state ≡ step → FitsState step state
   fits_at state step is = subst (λ s. FitsState s state) is
       (step_fits (call_field plan.own) (call_field plan.remote) state message)
 
-  by_step : (state : CallState) (step : Step) → run.state ≡ state → step_now state ≡ step
+  pub by_step : (state : CallState) (step : Step) → run.state ≡ state → step_now state ≡ step
       → with_message plan run message ≡ stepped plan message.body step run
   by_step state step at is = ap (λ s. stepped plan message.body (step_now s) run) at
       ∙ ap (λ s. stepped plan message.body s run) is
 
-  up_message : run.state ≡ Up → SaysUp plan run message ⊎ EndsUp plan run message
+  pub up_message : run.state ≡ Up → SaysUp plan run message ⊎ EndsUp plan run message
   up_message up = go (step_now Up) refl
     where
       go : (step : Step) → step_now Up ≡ step → SaysUp plan run message ⊎ EndsUp plan run message

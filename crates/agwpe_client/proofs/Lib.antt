@@ -4,5 +4,6 @@ pub mod DoneLemmas
 pub mod GrowLemmas
 pub mod ListLemmas
 pub mod NextLemmas
+pub mod PrintLemmas
 pub mod StepLemmas
 pub mod StreamLemmas

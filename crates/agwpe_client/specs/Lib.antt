@@ -3,3 +3,4 @@ pub mod CallSteps
 pub mod CallRun
 pub mod HeldCall
 pub mod DoneCall
+pub mod CallPrints

@@ -26,4 +26,4 @@ pub use call_state::CallState;
 pub use client::Client;
 pub use client_out::ClientOut;
 pub use fault::ClientFault;
-pub use laws::done_prints_its_data;
+pub use laws::{done_prints_its_data, prints_its_data};

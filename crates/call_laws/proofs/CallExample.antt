@@ -1,0 +1,635 @@
+-- A worked joint run with data: a host at AAAA calls BBBB (SABM, UA), whose host gives one octet (an I frame). The
+-- client has taken all that its station has for it, and prints that octet while the call goes on.
+use Rattle.station_laws.proofs.Common.{All, inl, inr, arith, list_all, and_parts, ltb-true, All-from_recursion, Callsign}
+use Rattle.station_laws.proofs.Common.{IsCallCharacter, BeginsWithPath, way_back, Path, Role, Command, Frame, Setup, Info}
+use Rattle.station_laws.proofs.Common.{Eight, Sabm, Ua, IsFrame, reading, default_params, End, A, B, World, Config}
+use Rattle.station_laws.proofs.Common.{Joined, Bytes, Agw, answering_else, call_of_text, shown_to_hosts, joining, taking}
+use Rattle.station_laws.proofs.Common.{event_at, making, no_layer_3, Route, path_along, StationState, new_station, Turn}
+use Rattle.station_laws.proofs.Common.{Step, new_stations, IsJointRun, FromHost, OffAir, Calls, Pairs, IsQuietLink}
+use Rattle.station_laws.proofs.Common.{frame_octets, WindowsFit, Pair, RiseBoth, AreAlikeButForH, HearsLinkFrame}
+use Rattle.station_laws.proofs.Common.{IsHeardPair, HasPair, AreHeardInOrder, All-contains_itself, AllPairs, slice_get}
+use Rattle.station_laws.proofs.Common.{get_or, sym, ◌∙◌, subst, Connection}
+use Rattle.std.specs.Prelude.{◌≡◌, ◌≢◌, ℕ, zero, suc, ◌<◌, true, false, nat_lt, Contains, List, [], ◌∷◌, ◌++◌, length}
+use Rattle.std.specs.Prelude.{Some, None, refl}
+use Rattle.std.specs.List.{AllByRecursion as Each}
+use Rattle.std.proofs.lemmas.List.{append-nil}
+use Rattle.std.proofs.lemmas.List.Kept.{AllPairs-cons}
+use Rattle.std.proofs.lemmas.Option.{slice_get_past}
+use Rattle.ax25_address.specs.Callsign.{IsCall}
+use Rattle.ax25_address.specs.declared.path.Role.TheVariants.{Response}
+use Rattle.agwpe_port.specs.Messages.{message_of, spelling}
+use Rattle.agwpe_client.specs.CallRun.{CallPlan, call_run, printed_after}
+use Rattle.link_machine.specs.Event.Event.{Connect as LinkConnect, Hear as LinkHear}
+use Rattle.link_machine.specs.Params.{HasWindows}
+use Rattle.link_machine.specs.Step.{step as link_turn}
+use Rattle.selective_reject.specs.Numbers.{ahead}
+use Rattle.station.specs.Turn.{begin}
+use Rattle.station.specs.declared.host_out.Piece.{Piece}
+use Rattle.call_laws.specs.Client.{IsBetweenCalls, IsClientOf, IsClientStep, octets_had, pieces_at, pieces_for}
+use Rattle.call_laws.specs.FirstPart.{IsFirstPart}
+use Rattle.call_laws.specs.PrintsGiven.{CallLaw, PrintsGiven}
+use Rattle.station_laws.specs.LinkOfCalls.{world_of}
+
+abbrev pub aaaa : Callsign
+aaaa = record { name = 65 ∷ 65 ∷ 65 ∷ 65 ∷ []; ssid = 0 }
+
+abbrev pub bbbb : Callsign
+bbbb = record { name = 66 ∷ 66 ∷ 66 ∷ 66 ∷ []; ssid = 0 }
+
+pub aaaa_valid : IsCall aaaa
+aaaa_valid = record {
+  name = record {
+    shortest = omega arith;
+    longest = omega arith;
+    characters = All-from_recursion IsCallCharacter (65 ∷ 65 ∷ 65 ∷ 65 ∷ []) (
+      inl (omega arith, omega arith),
+      (
+        inl (omega arith, omega arith),
+        (inl (omega arith, omega arith), (inl (omega arith, omega arith), tt)),
+      ),
+    );
+  };
+  ssid = omega arith;
+}
+
+pub bbbb_valid : IsCall bbbb
+bbbb_valid = record {
+  name = record {
+    shortest = omega arith;
+    longest = omega arith;
+    characters = All-from_recursion IsCallCharacter (66 ∷ 66 ∷ 66 ∷ 66 ∷ []) (
+      inl (omega arith, omega arith),
+      (
+        inl (omega arith, omega arith),
+        (inl (omega arith, omega arith), (inl (omega arith, omega arith), tt)),
+      ),
+    );
+  };
+  ssid = omega arith;
+}
+
+-- ---- frames
+
+abbrev pub path_in : Callsign → Callsign → Role → Path
+path_in source dest role = record { dest = dest; source = source; repeaters = record { items = [] }; role = role }
+
+abbrev pub from_a : List ℕ → List ℕ
+from_a rest = 132 ∷ 132 ∷ 132 ∷ 132 ∷ 64 ∷ 64 ∷ 224 ∷ 130 ∷ 130 ∷ 130 ∷ 130 ∷ 64 ∷ 64 ∷ 97 ∷ rest
+
+abbrev pub from_b : List ℕ → List ℕ
+from_b rest = 130 ∷ 130 ∷ 130 ∷ 130 ∷ 64 ∷ 64 ∷ 96 ∷ 132 ∷ 132 ∷ 132 ∷ 132 ∷ 64 ∷ 64 ∷ 225 ∷ rest
+
+abbrev pub sabm : List ℕ
+sabm = from_a (63 ∷ [])
+
+abbrev pub ua : List ℕ
+ua = from_b (115 ∷ [])
+
+-- an I frame from B, as a command: N(S) and N(R) 0, no layer 3, and one octet
+abbrev pub info : List ℕ
+info =
+    130 ∷ 130 ∷ 130 ∷ 130 ∷ 64 ∷ 64 ∷ 224 ∷ 132 ∷ 132 ∷ 132 ∷ 132 ∷ 64 ∷ 64 ∷ 97 ∷ 0 ∷ 240 ∷ 104 ∷ []
+
+abbrev pub command_path : Path
+command_path = path_in aaaa bbbb Command
+
+abbrev pub response_path : Path
+response_path = path_in bbbb aaaa Response
+
+abbrev pub back_path : Path
+back_path = path_in bbbb aaaa Command
+
+abbrev pub sabm_frame : Frame
+sabm_frame = record { path = command_path; kind = Setup Sabm true }
+
+abbrev pub ua_frame : Frame
+ua_frame = record { path = response_path; kind = Setup Ua true }
+
+abbrev pub info_frame : Frame
+info_frame = record { path = back_path; kind = Info 0 0 false 240 (104 ∷ []) }
+
+pub command_begins : (control : ℕ) → BeginsWithPath (from_a (control ∷ [])) command_path 14
+command_begins control = (
+  omega arith,
+  record {
+    count = omega arith;
+    size = refl;
+    destination = record { valid = bbbb_valid; reserved = 3; two_bits = omega arith; spelling = refl };
+    source = record { valid = aaaa_valid; reserved = 3; two_bits = omega arith; spelling = refl };
+    repeaters = λ k d below. absurd (omega arith);
+  },
+)
+
+pub response_begins : (control : ℕ) → BeginsWithPath (from_b (control ∷ [])) response_path 14
+response_begins control = (
+  omega arith,
+  record {
+    count = omega arith;
+    size = refl;
+    destination = record { valid = aaaa_valid; reserved = 3; two_bits = omega arith; spelling = refl };
+    source = record { valid = bbbb_valid; reserved = 3; two_bits = omega arith; spelling = refl };
+    repeaters = λ k d below. absurd (omega arith);
+  },
+)
+
+pub info_begins : BeginsWithPath info back_path 14
+info_begins = (
+  omega arith,
+  record {
+    count = omega arith;
+    size = refl;
+    destination = record { valid = aaaa_valid; reserved = 3; two_bits = omega arith; spelling = refl };
+    source = record { valid = bbbb_valid; reserved = 3; two_bits = omega arith; spelling = refl };
+    repeaters = λ k d below. absurd (omega arith);
+  },
+)
+
+pub sabm_is : IsFrame sabm_frame Eight sabm
+sabm_is = record { len = 14; path = command_begins 63; kind = record { numbered = tt; fits = tt }; body = refl }
+
+pub ua_is : IsFrame ua_frame Eight ua
+ua_is = record { len = 14; path = response_begins 115; kind = record { numbered = tt; fits = tt }; body = refl }
+
+pub info_is : IsFrame info_frame Eight info
+info_is = record {
+  len = 14;
+  path = info_begins;
+  kind = record { numbered = (omega arith, omega arith); fits = omega arith };
+  body = refl;
+}
+
+each_low : (octets : List ℕ) → list_all (λ octet. nat_lt octet 256) octets ≡ true → Each (λ octet. octet < 256) octets
+each_low [] h = tt
+each_low (o ∷ octets) h =
+    let both = and_parts (nat_lt o 256) (list_all (λ octet. nat_lt octet 256) octets) h in
+    (ltb-true o 256 both.0, each_low octets both.1)
+
+pub low : (octets : List ℕ) → list_all (λ octet. nat_lt octet 256) octets ≡ true → All (λ octet. octet < 256) octets
+low octets h = All-from_recursion (λ octet. octet < 256) octets (each_low octets h)
+
+-- ---- messages of a host
+
+abbrev pub field : ℕ → List ℕ
+field c = c ∷ c ∷ c ∷ c ∷ 0 ∷ 0 ∷ 0 ∷ 0 ∷ 0 ∷ 0 ∷ []
+
+-- a header alone: its kind, CallFrom and CallTo
+abbrev pub header : ℕ → List ℕ → List ℕ → List ℕ
+header kind from to = 0 ∷ 0 ∷ 0 ∷ 0 ∷ kind ∷ 0 ∷ 0 ∷ 0 ∷ (from ++ (to ++ 0 ∷ 0 ∷ 0 ∷ 0 ∷ 0 ∷ 0 ∷ 0 ∷ 0 ∷ []))
+
+-- ---- the steps
+
+abbrev pub config : Config
+config = record { params = default_params; digi = None }
+
+abbrev pub joins : End → StationState → Step
+joins end s = record {
+  station = end;
+  input = FromHost (Joined 1 Agw);
+  before = s;
+  after = joining 1 Agw (begin s);
+  turn = refl;
+  octets = tt;
+}
+
+abbrev pub takes : StationState → List ℕ → Turn
+takes s octets = taking 1 octets (begin s)
+
+abbrev pub answers : StationState → List ℕ → Turn
+answers s octets = answering_else 1 (message_of octets []) (takes s octets)
+
+abbrev pub a_joins : Step
+a_joins = joins A (new_station config 1)
+
+abbrev pub b_joins : Step
+b_joins = joins B (new_station config 2)
+
+abbrev pub a_registers : Step
+unfolding reading
+a_registers =
+    let octets = header 88 (field 65) (field 0) in
+    let after = answers a_joins.after.now octets in record {
+      station = A;
+      input = FromHost (Bytes 1 octets);
+      before = a_joins.after.now;
+      after = after;
+      turn = (after, (after, refl, refl), refl);
+      octets = tt;
+    }
+
+abbrev pub b_registers : Step
+unfolding reading
+b_registers =
+    let octets = header 88 (field 66) (field 0) in
+    let after = answers b_joins.after.now octets in record {
+      station = B;
+      input = FromHost (Bytes 1 octets);
+      before = b_joins.after.now;
+      after = after;
+      turn = (after, (after, refl, refl), refl);
+      octets = tt;
+    }
+
+abbrev pub route : Route
+route = record { local = aaaa; remote = bbbb; repeaters = [] }
+
+abbrev pub a_calls : Step
+unfolding reading call_of_text
+a_calls =
+    let octets = header 67 (field 65) (field 66) in
+    let before = a_registers.after.now in
+    let after = event_at 0 LinkConnect (making 0 1 no_layer_3 aaaa bbbb (path_along route) (takes before octets)) in
+    record {
+      station = A;
+      input = FromHost (Bytes 1 octets);
+      before = before;
+      after = after;
+      turn = (after, (after, (0, record { within = omega arith; vacant = refl; freed = tt }, refl), refl), refl);
+      octets = tt;
+    }
+
+abbrev pub shown : Path → List ℕ → Frame → StationState → Turn
+shown path octets frame s = shown_to_hosts (Some path) octets (Some frame) (begin s)
+
+abbrev pub b_hears_sabm : Step
+unfolding reading call_of_text
+b_hears_sabm =
+    let before = b_registers.after.now in
+    let made = making 0 1 no_layer_3 bbbb aaaa (way_back command_path Command)
+    (shown command_path sabm sabm_frame before) in
+    let after = event_at 0 (LinkHear sabm_frame) made in record {
+      station = B;
+      input = OffAir sabm;
+      before = before;
+      after = after;
+      turn = record {
+        path = Some command_path;
+        reading = (14, command_begins 63);
+        monitored = Some sabm_frame;
+        read_as = sabm_is;
+        effect = (Some sabm_frame, sabm_is, (0, record { within = omega arith; vacant = refl; freed = tt }, refl));
+      };
+      octets = low sabm refl;
+    }
+
+abbrev pub a_hears_ua : Step
+unfolding reading call_of_text link_turn
+a_hears_ua =
+    let before = a_calls.after.now in
+    let after = event_at 0 (LinkHear ua_frame) (shown response_path ua ua_frame before) in record {
+      station = A;
+      input = OffAir ua;
+      before = before;
+      after = after;
+      turn = record {
+        path = Some response_path;
+        reading = (14, response_begins 115);
+        monitored = Some ua_frame;
+        read_as = ua_is;
+        effect = (Some ua_frame, ua_is, refl);
+      };
+      octets = low ua refl;
+    }
+
+-- B's host gives one octet
+abbrev pub b_gives : Step
+unfolding reading call_of_text link_turn
+b_gives =
+    let octets = 0 ∷ 0 ∷ 0 ∷ 0 ∷ 68 ∷ 0 ∷ 240 ∷ 0 ∷ (field 66 ++ (field 65 ++ 1 ∷ 0 ∷ 0 ∷ 0 ∷ 0 ∷ 0 ∷ 0 ∷ 0 ∷ 104 ∷ [])) in
+    let before = b_hears_sabm.after.now in
+    let after = answering_else 1 (message_of octets (104 ∷ [])) (takes before octets) in record {
+      station = B;
+      input = FromHost (Bytes 1 octets);
+      before = before;
+      after = after;
+      turn = (after, (after, refl, refl), refl);
+      octets = tt;
+    }
+
+abbrev pub a_hears_info : Step
+unfolding reading call_of_text link_turn ahead
+a_hears_info =
+    let before = a_hears_ua.after.now in
+    let after = event_at 0 (LinkHear info_frame) (shown back_path info info_frame before) in record {
+      station = A;
+      input = OffAir info;
+      before = before;
+      after = after;
+      turn = record {
+        path = Some back_path;
+        reading = (14, info_begins);
+        monitored = Some info_frame;
+        read_as = info_is;
+        effect = (Some info_frame, info_is, refl);
+      };
+      octets = low info refl;
+    }
+
+-- ---- the run
+
+abbrev pub steps : List Step
+steps =
+    a_joins ∷ b_joins ∷ a_registers ∷ b_registers ∷ a_calls ∷ b_hears_sabm ∷ a_hears_ua ∷ b_gives ∷ a_hears_info ∷ []
+
+is_run : IsJointRun (new_stations config 1 config 2) steps
+unfolding a_registers b_registers a_calls b_hears_sabm a_hears_ua b_gives a_hears_info
+is_run = (refl, (refl, (refl, (refl, (refl, (refl, (refl, (refl, (refl, tt)))))))))
+
+abbrev pub calls : Calls
+calls = record { a = aaaa; b = bbbb }
+
+-- B hears SABM, and A hears UA and the I frame
+abbrev pub pairs : Pairs
+pairs = record {
+  at_a = record { heard = 6; sent = 0 } ∷ record { heard = 8; sent = 1 } ∷ [];
+  at_b = record { heard = 5; sent = 0 } ∷ [];
+}
+
+-- the SABM entered a quiet channel
+is_quiet_run : IsQuietLink calls pairs default_params default_params steps
+unfolding reading call_of_text link_turn ahead
+is_quiet_run = (refl, (refl, (refl, (refl, (refl, (refl, (refl, tt)))))))
+
+-- ---- what is heard
+
+no_pairs_rise : AllPairs RiseBoth []
+no_pairs_rise = λ i j d less within. absurd (omega (arith, less, within))
+
+one_rise : (p : Pair) → AllPairs RiseBoth (p ∷ [])
+one_rise p = AllPairs-cons RiseBoth p [] (All-from_recursion (RiseBoth p) [] tt) no_pairs_rise
+
+two_rise : (p q : Pair) → RiseBoth p q → AllPairs RiseBoth (p ∷ q ∷ [])
+two_rise p q h =
+    AllPairs-cons RiseBoth p (q ∷ []) (All-from_recursion (RiseBoth p) (q ∷ []) (h, tt))
+    (AllPairs-cons RiseBoth q [] (All-from_recursion (RiseBoth q) [] tt) no_pairs_rise)
+
+same_some : (x y : Step) → Some x ≡ Some y → x ≡ y
+same_some x y e = cc
+
+-- a step of the other station, or one that hears nothing
+of_other : (hearer : End) (found step : Step) (octets : List ℕ) → found.station ≢ hearer → Some found ≡ Some step
+    → HearsLinkFrame hearer step octets → ⊥
+of_other hearer found step octets other is hears =
+    other (subst (λ (s : Step). HearsLinkFrame hearer s octets) (sym (same_some found step is)) hears).station
+
+a_is_not_b : A ≢ B
+a_is_not_b e = cc
+
+b_is_not_a : B ≢ A
+b_is_not_a e = cc
+
+same_sabm : AreAlikeButForH sabm sabm
+same_sabm = record {
+  len = 14;
+  path_heard = command_path;
+  path_sent = command_path;
+  heard_begins = command_begins 63;
+  sent_begins = command_begins 63;
+  paths = refl;
+  rest = refl;
+}
+
+same_ua : AreAlikeButForH ua ua
+same_ua = record {
+  len = 14;
+  path_heard = response_path;
+  path_sent = response_path;
+  heard_begins = response_begins 115;
+  sent_begins = response_begins 115;
+  paths = refl;
+  rest = refl;
+}
+
+same_info : AreAlikeButForH info info
+same_info = record {
+  len = 14;
+  path_heard = back_path;
+  path_sent = back_path;
+  heard_begins = info_begins;
+  sent_begins = info_begins;
+  paths = refl;
+  rest = refl;
+}
+
+b_hears_first : HearsLinkFrame B b_hears_sabm sabm
+unfolding reading call_of_text link_turn
+b_hears_first = record { station = refl; input = refl; event = λ e. cc }
+
+first_pair : IsHeardPair B steps (record { heard = 5; sent = 0 })
+unfolding reading call_of_text link_turn frame_octets ahead
+first_pair = record {
+  step = b_hears_sabm;
+  octets = sabm;
+  queued = sabm;
+  there = refl;
+  hears = b_hears_first;
+  before = refl;
+  alike = same_sabm;
+}
+
+has_itself : (ps : List Pair) (k : ℕ) (p d : Pair) → All (Contains ps) ps → k < length ps → p ≡ get_or ps k d
+    → HasPair ps p.heard
+has_itself ps k p d all within is = record {
+  pair = p;
+  contains = subst (Contains ps) (sym is) (all k d within);
+  is = refl;
+}
+
+all_b : (number : ℕ) (step : Step) (octets : List ℕ) → slice_get steps number ≡ Some step → HearsLinkFrame B step octets
+    → HasPair pairs.at_b number
+unfolding reading call_of_text link_turn ahead
+all_b zero step octets is hears = absurd (of_other B a_joins step octets a_is_not_b is hears)
+all_b (suc zero) step octets is hears =
+    absurd (subst (λ (s : Step). HearsLinkFrame B s octets) (sym (same_some b_joins step is)) hears).input
+all_b (suc (suc zero)) step octets is hears = absurd (of_other B a_registers step octets a_is_not_b is hears)
+all_b (suc (suc (suc zero))) step octets is hears =
+    absurd (subst (λ (s : Step). HearsLinkFrame B s octets) (sym (same_some b_registers step is)) hears).input
+all_b (suc (suc (suc (suc zero)))) step octets is hears = absurd (of_other B a_calls step octets a_is_not_b is hears)
+all_b (suc (suc (suc (suc (suc zero))))) step octets is hears =
+    has_itself pairs.at_b 0 (record { heard = 5; sent = 0 }) (record { heard = 0; sent = 0 })
+    (All-contains_itself pairs.at_b) (omega arith) refl
+all_b (suc (suc (suc (suc (suc (suc zero)))))) step octets is hears = absurd (of_other B a_hears_ua step octets a_is_not_b is hears)
+all_b (suc (suc (suc (suc (suc (suc (suc zero))))))) step octets is hears =
+    absurd (subst (λ (s : Step). HearsLinkFrame B s octets) (sym (same_some b_gives step is)) hears).input
+all_b (suc (suc (suc (suc (suc (suc (suc (suc zero)))))))) step octets is hears = absurd (of_other B a_hears_info step octets a_is_not_b is hears)
+all_b (suc (suc (suc (suc (suc (suc (suc (suc (suc n))))))))) step octets is hears =
+    absurd (let none : slice_get steps (suc (suc (suc (suc (suc (suc (suc (suc (suc n))))))))) ≡ None = slice_get_past steps (suc (suc (suc (suc (suc (suc (suc (suc (suc n))))))))) (omega arith) in
+    let clash : None ≡ Some step = sym none ∙ is in cc)
+
+heard_at_b : AreHeardInOrder B steps pairs.at_b
+heard_at_b = record {
+  rise = one_rise (record { heard = 5; sent = 0 });
+  each = All-from_recursion (IsHeardPair B steps) pairs.at_b (first_pair, tt);
+  all = all_b;
+}
+
+a_hears_first : HearsLinkFrame A a_hears_ua ua
+unfolding reading call_of_text link_turn
+a_hears_first = record { station = refl; input = refl; event = λ e. cc }
+
+a_hears_second : HearsLinkFrame A a_hears_info info
+unfolding reading call_of_text link_turn ahead
+a_hears_second = record { station = refl; input = refl; event = λ e. cc }
+
+first_answer : IsHeardPair A steps (record { heard = 6; sent = 0 })
+unfolding reading call_of_text link_turn frame_octets ahead
+first_answer = record {
+  step = a_hears_ua;
+  octets = ua;
+  queued = ua;
+  there = refl;
+  hears = a_hears_first;
+  before = refl;
+  alike = same_ua;
+}
+
+data_pair : IsHeardPair A steps (record { heard = 8; sent = 1 })
+unfolding reading call_of_text link_turn frame_octets ahead
+data_pair = record {
+  step = a_hears_info;
+  octets = info;
+  queued = info;
+  there = refl;
+  hears = a_hears_second;
+  before = refl;
+  alike = same_info;
+}
+
+all_a : (number : ℕ) (step : Step) (octets : List ℕ) → slice_get steps number ≡ Some step → HearsLinkFrame A step octets
+    → HasPair pairs.at_a number
+unfolding reading call_of_text link_turn ahead
+all_a zero step octets is hears =
+    absurd (subst (λ (s : Step). HearsLinkFrame A s octets) (sym (same_some a_joins step is)) hears).input
+all_a (suc zero) step octets is hears = absurd (of_other A b_joins step octets b_is_not_a is hears)
+all_a (suc (suc zero)) step octets is hears =
+    absurd (subst (λ (s : Step). HearsLinkFrame A s octets) (sym (same_some a_registers step is)) hears).input
+all_a (suc (suc (suc zero))) step octets is hears = absurd (of_other A b_registers step octets b_is_not_a is hears)
+all_a (suc (suc (suc (suc zero)))) step octets is hears =
+    absurd (subst (λ (s : Step). HearsLinkFrame A s octets) (sym (same_some a_calls step is)) hears).input
+all_a (suc (suc (suc (suc (suc zero))))) step octets is hears = absurd (of_other A b_hears_sabm step octets b_is_not_a is hears)
+all_a (suc (suc (suc (suc (suc (suc zero)))))) step octets is hears =
+    has_itself pairs.at_a 0 (record { heard = 6; sent = 0 }) (record { heard = 0; sent = 0 })
+    (All-contains_itself pairs.at_a) (omega arith) refl
+all_a (suc (suc (suc (suc (suc (suc (suc zero))))))) step octets is hears = absurd (of_other A b_gives step octets b_is_not_a is hears)
+all_a (suc (suc (suc (suc (suc (suc (suc (suc zero)))))))) step octets is hears =
+    has_itself pairs.at_a 1 (record { heard = 8; sent = 1 }) (record { heard = 0; sent = 0 })
+    (All-contains_itself pairs.at_a) (omega arith) refl
+all_a (suc (suc (suc (suc (suc (suc (suc (suc (suc n))))))))) step octets is hears =
+    absurd (let none : slice_get steps (suc (suc (suc (suc (suc (suc (suc (suc (suc n))))))))) ≡ None = slice_get_past steps (suc (suc (suc (suc (suc (suc (suc (suc (suc n))))))))) (omega arith) in
+    let clash : None ≡ Some step = sym none ∙ is in cc)
+
+heard_at_a : AreHeardInOrder A steps pairs.at_a
+heard_at_a = record {
+  rise = two_rise (record { heard = 6; sent = 0 }) (record { heard = 8; sent = 1 }) (omega arith, omega arith);
+  each = All-from_recursion (IsHeardPair A steps) pairs.at_a (first_answer, (data_pair, tt));
+  all = all_a;
+}
+
+default_windows : HasWindows default_params
+default_windows = ((omega arith, omega arith), (omega arith, omega arith))
+
+fits : WindowsFit default_params default_params
+fits = record {
+  of_a = default_windows;
+  of_b = default_windows;
+  halves = λ modes. elim modes [ inl e ↦ absurd (cc) | inr e ↦ absurd (cc) ];
+}
+
+-- ---- the client
+
+-- it sends nothing, and waits for more than it gets
+abbrev pub plan : CallPlan
+plan = record { own = aaaa; remote = bbbb; via = []; text = []; expect = 10 }
+
+calls_valid : IsBetweenCalls plan
+calls_valid = record { own = aaaa_valid; remote = bbbb_valid }
+
+-- all that A has for it
+abbrev pub stream : List ℕ
+stream = octets_had 1 A steps
+
+whole : IsFirstPart stream (octets_had 1 A steps)
+whole = ([], sym (append-nil stream))
+
+prints : printed_after plan stream ≡ 104 ∷ []
+unfolding reading call_of_text link_turn spelling call_run ahead
+prints = refl
+
+one_is_some : (xs : List ℕ) (octet : ℕ) → xs ≡ octet ∷ [] → xs ≢ []
+one_is_some xs octet is none = let e : octet ∷ [] ≡ [] = sym is ∙ none in cc
+
+prints_some : printed_after plan stream ≢ []
+prints_some = one_is_some (printed_after plan stream) 104 prints
+
+abbrev SpeaksHere : Connection → Type 0
+SpeaksHere c = c.id ≡ 1 → c.kind ≡ Agw
+
+abbrev IsOfA : Step → Type 0
+IsOfA step = step.station ≡ A → IsClientStep 1 step
+
+client_steps : Each IsOfA steps
+unfolding reading call_of_text link_turn ahead
+client_steps = (
+  λ same. record { speaks = All-from_recursion SpeaksHere [] tt; stays = tt },
+  (
+    λ same. absurd (b_is_not_a same),
+    (
+      λ same. record { speaks = All-from_recursion SpeaksHere a_joins.after.now.connections (λ e. refl, tt); stays = λ e. refl },
+      (
+        λ same. absurd (b_is_not_a same),
+        (
+          λ same. record {
+            speaks = All-from_recursion SpeaksHere a_registers.after.now.connections (λ e. refl, tt);
+            stays = λ e. refl;
+          },
+          (
+            λ same. absurd (b_is_not_a same),
+            (
+              λ same. record {
+                speaks = All-from_recursion SpeaksHere a_calls.after.now.connections (λ e. refl, tt);
+                stays = tt;
+              },
+              (
+                λ same. absurd (b_is_not_a same),
+                (
+                  λ same. record {
+                    speaks = All-from_recursion SpeaksHere a_hears_ua.after.now.connections (λ e. refl, tt);
+                    stays = tt;
+                  },
+                  tt,
+                ),
+              ),
+            ),
+          ),
+        ),
+      ),
+    ),
+  ),
+)
+
+abbrev IsShort : Piece → Type 0
+IsShort piece = length piece.octets < 0x100000000
+
+each_short : (pieces : List Piece)
+    → list_all (λ (piece : Piece). nat_lt (length piece.octets) 0x100000000) pieces ≡ true → Each IsShort pieces
+each_short [] h = tt
+each_short (piece ∷ pieces) h =
+    let both = and_parts (nat_lt (length piece.octets) 0x100000000)
+    (list_all (λ (p : Piece). nat_lt (length p.octets) 0x100000000) pieces) h in
+    (ltb-true (length piece.octets) 0x100000000 both.0, each_short pieces both.1)
+
+short_pieces : Each IsShort (pieces_for 1 (pieces_at A steps))
+unfolding reading call_of_text link_turn spelling ahead
+short_pieces = each_short (pieces_for 1 (pieces_at A steps)) refl
+
+client : IsClientOf 1 A steps
+client = record {
+  each = All-from_recursion IsOfA steps client_steps;
+  short = All-from_recursion IsShort (pieces_for 1 (pieces_at A steps)) short_pieces;
+}
+
+-- ---- so the law speaks of this call
+
+speaks : CallLaw → PrintsGiven (world_of calls pairs default_params default_params steps) (printed_after plan stream)
+speaks law =
+    law config config 1 2 steps pairs is_run heard_at_a heard_at_b fits A plan calls_valid is_quiet_run 1 client stream
+    whole prints_some

@@ -1,0 +1,12 @@
+mod Reading
+mod Gots
+mod Apart
+mod Items
+mod Collect
+mod CallFields
+mod OwnTables
+mod Sayings
+mod LinkActs
+mod Walk
+mod CallLaw
+mod CallExample

@@ -1,0 +1,5 @@
+pub mod FirstPart
+pub mod SetUpsTold
+pub mod Client
+pub mod PrintsTold
+pub mod PrintsGiven
