@@ -1,8 +1,10 @@
 //! Four lanes that take samples one by one.
 
 ghost use Rattle.std.specs.Prelude.{◌≡◌, ℕ, ◌+◌, ◌<◌, ◌≤◌, ◌^◌, ◌↔◌, ℤ, List, [], ◌∷◌, ◌++◌, drop, IsTrue};
-ghost use Rattle.tone_carrier.specs.Tones.{HasTones};
-ghost use Rattle.tone_carrier.specs.Held.{StandsFor};
+ghost use Rattle.std.specs.Prelude.{slice_index_or};
+ghost use Rattle.tone_carrier.specs.declared.heard_window.HeardWindow.{HeardWindow};
+ghost use Rattle.tone_carrier.specs.Tones.{HasTones, ShowsCarrier};
+ghost use Rattle.tone_carrier.specs.Held.{HeldLane, LaneStandsFor, StandsFor};
 
 use crate::carrier_lane::CarrierLane;
 use crate::heard_window::HeardWindow;
@@ -36,12 +38,7 @@ impl Carrier {
         ensures position { result.position ≡ 0 }
     {
         Carrier {
-            lanes: [
-                CarrierLane::new(),
-                CarrierLane::new(),
-                CarrierLane::new(),
-                CarrierLane::new(),
-            ],
+            lanes: new_lanes(),
             begin: 0,
             position: 0,
             recent: [0; 8],
@@ -75,25 +72,51 @@ impl Carrier {
         ensures stands_for { StandsFor self.new to [] }
         ensures position { self.new.position ≡ to }
     {
-        for lane in &mut self.lanes {
-            lane.restart();
-        }
+        self.lanes = new_lanes();
         self.begin = to;
         self.position = to;
         self.recent = [0; 8];
+    }
+
+    /// How many samples were pushed or skipped.
+    pub fn position(&self) -> u64
+        ensures { result ≡ self.now.position }
+    {
+        self.position
     }
 
     /// Whether the samples of the stretch have tones.
     pub fn is_busy(&self) -> bool
         ensures { (begin : ℕ) (x : List ℤ) → StandsFor self.now begin x → (IsTrue result ↔ HasTones begin x) }
     {
-        for lane in &self.lanes {
-            if lane.is_busy() {
-                return true;
-            }
-        }
-        false
+        is_some_busy(&self.lanes)
     }
+}
+
+/// Four lanes that have taken no window.
+fn new_lanes() -> [CarrierLane; 4]
+    ensures { (half : ℕ) (d : HeldLane) → half < 4 → LaneStandsFor (slice_index_or result half d) [] }
+{
+    [
+        CarrierLane::new(),
+        CarrierLane::new(),
+        CarrierLane::new(),
+        CarrierLane::new(),
+    ]
+}
+
+/// Whether the windows of some lane show a carrier.
+fn is_some_busy(lanes: &[CarrierLane; 4]) -> bool
+    ensures { (windows : ℕ → List HeardWindow)
+        → ((k : ℕ) (d : HeldLane) → k < 4 → LaneStandsFor (slice_index_or lanes.now k d) (windows k))
+        → (IsTrue result ↔ ((k : ℕ) × (k < 4) × ShowsCarrier (windows k))) }
+{
+    for lane in lanes {
+        if lane.is_busy() {
+            return true;
+        }
+    }
+    false
 }
 
 /// The last seven of eight samples, and one more.

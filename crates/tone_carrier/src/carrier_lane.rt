@@ -64,13 +64,16 @@ impl CarrierLane {
         ensures { (windows : List HeardWindow) → LaneStandsFor self.old windows
             → LaneStandsFor self.new (windows ++ window.now ∷ []) }
     {
-        let Some(before) = self.last else {
-            self.last = Some(*window);
-            return;
-        };
-        self.last = Some(*window);
-        self.evidence = evidence_with(self.evidence, &before, window);
-        self.hold = hold_with(self.hold, self.evidence);
+        match self.last {
+            None => {
+                self.last = Some(*window);
+            }
+            Some(before) => {
+                self.last = Some(*window);
+                self.evidence = evidence_with(self.evidence, &before, window);
+                self.hold = hold_with(self.hold, self.evidence);
+            }
+        }
     }
 
     /// Begins anew at a gap, as if no window had come before.

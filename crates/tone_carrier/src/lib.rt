@@ -11,9 +11,11 @@ mod carrier;
 mod carrier_lane;
 mod comparison;
 mod heard_window;
+mod laws;
 mod window_power;
 
 pub use carrier::Carrier;
 pub use carrier_lane::CarrierLane;
 pub use heard_window::HeardWindow;
+pub use laws::{constants_have_no_tones, hold_shows_carrier};
 pub use window_power::power;

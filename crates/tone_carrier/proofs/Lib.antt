@@ -1,0 +1,8 @@
+pub mod NumberLemmas
+pub mod PowerLemmas
+pub mod LaneLemmas
+pub mod HoldLemmas
+pub mod WindowLemmas
+pub mod CarrierLemmas
+pub mod ConstantLemmas
+mod Examples
