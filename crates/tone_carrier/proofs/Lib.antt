@@ -5,4 +5,7 @@ pub mod HoldLemmas
 pub mod WindowLemmas
 pub mod CarrierLemmas
 pub mod ConstantLemmas
+pub mod BilinearLemmas
+pub mod NearSums
+pub mod NearLemmas
 mod Examples

@@ -2,7 +2,10 @@
 use Rattle.std.proofs.Common.{◌≡◌, ℕ, ◌+◌, ◌-◌, ◌*◌, ◌<◌, ◌≤◌, ℤ, List, [], ◌∷◌, ◌++◌, length, map, take, drop, ap, sym, ◌∙◌}
 use Rattle.std.proofs.Common.{arith, length-drop}
 use Rattle.std.specs.List.{range_with_len}
-use Rattle.std.proofs.lemmas.List.{drop-append-le, take-append-le, length_push}
+use Rattle.std.proofs.Common.{inl, inr, length-append}
+use Rattle.std.proofs.Math.Seq.{drop-append-add}
+use Rattle.std.proofs.lemmas.Bool.{cases_lt}
+use Rattle.std.proofs.lemmas.List.{drop-append-le, take-append-le, length_push, get_or_append_left, get_or-append_right}
 use Rattle.std.proofs.lemmas.List.FromFn.{fill_by_all, get_or-map-range_with_len, length-map-range_with_len}
 use Rattle.std.proofs.lemmas.List.FromFn.{map-range_with_len_more}
 use Rattle.offset_slicers.specs.Windows.{windows_in, window_at}
@@ -27,7 +30,7 @@ window_at-append offset x y k inside =
     ap (take 8) (drop-append-le at x y (omega arith))
     ∙ take-append-le 8 (drop at x) y (omega (arith, length-drop at x))
 
-abbrev heard : ℕ → List ℤ → ℕ → HeardWindow
+abbrev pub heard : ℕ → List ℤ → ℕ → HeardWindow
 heard offset x k = heard_window (window_at offset x k)
 
 same_windows : (offset : ℕ) (x : List ℤ) (sample : ℤ) (k : ℕ) → k < windows_in offset (length x)
@@ -67,3 +70,37 @@ unfolding heard_windows
 heard_windows-none offset =
     let none : windows_in offset 0 ≡ 0 = omega arith in
     ap (λ n. map (heard offset []) (range_with_len 0 n)) none
+
+-- after whole windows, the windows of an offset are those of what follows
+window_at-aligned : (offset q : ℕ) (x y : List ℤ) (k : ℕ) → length x ≡ offset + 8 * q → q ≤ k
+    → window_at offset (x ++ y) k ≡ window_at 0 y (k - q)
+unfolding window_at
+window_at-aligned offset q x y k whole past =
+    let at : offset + 8 * k ≡ length x + (0 + 8 * (k - q)) = omega arith in
+    ap (λ n. take 8 (drop n (x ++ y))) at ∙ ap (take 8) (drop-append-add x y (0 + 8 * (k - q)))
+
+-- what is heard after whole windows is what is heard in what follows
+pub heard_windows-aligned : (offset q : ℕ) (x y : List ℤ) → length x ≡ offset + 8 * q
+    → heard_windows offset (x ++ y) ≡ heard_windows offset x ++ heard_windows 0 y
+unfolding heard_windows
+heard_windows-aligned offset q x y whole =
+    let n : ℕ = windows_in 0 (length y) in
+    let all : ℕ = windows_in offset (length (x ++ y)) in
+    let here : windows_in offset (length x) ≡ q = omega arith in
+    let count : all ≡ q + n = omega (arith, length-append x y) in
+    let front : List HeardWindow = map (heard offset x) (range_with_len 0 (windows_in offset (length x))) in
+    let back : List HeardWindow = map (heard 0 y) (range_with_len 0 n) in
+    let size_front : length front ≡ q
+    = length-map-range_with_len (heard offset x) 0 (windows_in offset (length x)) ∙ here in
+    let size_back = length-map-range_with_len (heard 0 y) 0 n in
+    sym (fill_by_all (heard offset (x ++ y)) (front ++ back) all silent
+    (omega (arith, length-append front back, size_front, size_back, count))
+    (λ k below. elim (cases_lt k q) [
+      | inl lt ↦ get_or_append_left front back silent k (omega arith)
+          ∙ get_or-map-range_with_len (heard offset x) 0 (windows_in offset (length x)) k k silent (omega arith)
+          (omega arith)
+          ∙ ap heard_window (sym (window_at-append offset x y k (omega arith)))
+      | inr ge ↦ get_or-append_right front back q k silent size_front ge
+          ∙ get_or-map-range_with_len (heard 0 y) 0 n (k - q) (k - q) silent (omega arith) (omega arith)
+          ∙ ap heard_window (sym (window_at-aligned offset q x y k whole ge))
+    ]))

@@ -12,10 +12,12 @@ mod carrier_lane;
 mod comparison;
 mod heard_window;
 mod laws;
+#[cfg(test)]
+mod tests;
 mod window_power;
 
 pub use carrier::Carrier;
 pub use carrier_lane::CarrierLane;
 pub use heard_window::HeardWindow;
-pub use laws::{constants_have_no_tones, hold_shows_carrier};
+pub use laws::{constants_have_no_tones, hold_shows_carrier, near_waves_have_tones};
 pub use window_power::power;
