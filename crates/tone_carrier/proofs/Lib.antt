@@ -1,0 +1,11 @@
+pub mod NumberLemmas
+pub mod PowerLemmas
+pub mod LaneLemmas
+pub mod HoldLemmas
+pub mod WindowLemmas
+pub mod CarrierLemmas
+pub mod ConstantLemmas
+pub mod BilinearLemmas
+pub mod NearSums
+pub mod NearLemmas
+mod Examples
