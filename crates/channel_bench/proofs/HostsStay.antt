@@ -45,6 +45,7 @@ same_hosts = kept_by_acts SameHosts (record {
   enters = λ key octets t. record { connections = refl; digi = refl };
   drops = λ t. record { connections = refl; digi = refl };
   registers = λ call id t. record { connections = refl; digi = refl };
+  told = λ ours t. record { connections = refl; digi = refl };
 })
 
 pub still_has : (before after : Turn) → SameHosts before after → HasHosts before.now → HasHosts after.now

@@ -130,5 +130,6 @@ heard_hears octets t u digi owns from keyed h =
     let shown = shown_to_hosts h.path octets h.monitored t in
     let same : shown.now ≡ t.now =
     shown_now (source_field h.path) (destination_field h.path) octets t.now.connections t in
-    by_path_hears h.path octets shown u h.reading (ap (λ (s : StationState). s.digi) same ∙ digi)
-    (subst (OwnsAll A) (sym same) owns) from (subst Keyed (sym same) keyed) h.effect
+    let made = by_path_hears h.path octets shown h.between h.reading (ap (λ (s : StationState). s.digi) same ∙ digi)
+    (subst (OwnsAll A) (sym same) owns) from (subst Keyed (sym same) keyed) h.effect in
+    (subst (λ (v : Turn). Keyed v.now) (sym h.told) made.0, made.1)

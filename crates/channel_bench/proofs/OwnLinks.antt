@@ -34,7 +34,7 @@ use Rattle.link_machine.specs.Sent.{frame_of}
 use Rattle.link_machine.specs.Step.{step as link_turn}
 use Rattle.station.specs.declared.registration.Registration.{Registration}
 use Rattle.station.specs.FrameSpelling.{path_octets}
-use Rattle.station.specs.Heard.{AreHeardAt, IsReadAs, hearing_at}
+use Rattle.station.specs.Heard.{AreHeardAt, IsReadAs, hearing_at, telling_channel}
 use Rattle.station.specs.Monitoring.{piece_for, to_monitors}
 use Rattle.station_laws.specs.Owners.{pieces_to}
 use Rattle.station_laws.proofs.Addresses.{IsGoodPath, frame_spelled}
@@ -549,6 +549,19 @@ module _ (c : Cause) where
   by_path_says e (Some path) octets t u by none owns from h =
       path_says e path (waits_for_repeater path) octets t u by none owns from h
 
+  told_says :
+      (e : End) (t u : Turn) (steps : List LinkStep) (ours : Bool) → Says e t steps u
+      → Says e t steps (telling_channel ours u)
+  told_says e t u steps ours h = record {
+    owns = record { links = h.owns.links; registered = h.owns.registered };
+    closed = h.closed;
+    pieces = h.pieces;
+    more = h.more;
+    queued = h.queued;
+    own = h.own;
+    causes = h.causes;
+  }
+
   pub heard_says :
       (e : End) (octets : List ℕ) (t u : Turn) → others ≡ c → t.now.digi ≡ None → OwnsAll e t.now
       → Each IsUnshown t.now.connections
@@ -557,6 +570,8 @@ module _ (c : Cause) where
       let shown = shown_to_hosts h.path octets h.monitored t in
       let calm = shown_calm (source_field h.path) (destination_field h.path) octets t.now.connections t in
       let first = shown_says e h.path octets h.monitored t owns unshown in
-      says_on e t shown u [] (by_path_steps (chosen e) h.path octets shown u h.effect) first
-      (by_path_says e h.path octets shown u by (ap (λ (s : StationState). s.digi) calm.now ∙ none)
-      first.owns from h.effect)
+      subst (Says e t (heard_steps (chosen e) octets t u h)) (sym h.told)
+      (told_says e t h.between (heard_steps (chosen e) octets t u h) h.ours
+      (says_on e t shown h.between [] (by_path_steps (chosen e) h.path octets shown h.between h.effect) first
+      (by_path_says e h.path octets shown h.between by (ap (λ (s : StationState). s.digi) calm.now ∙ none)
+      first.owns from h.effect)))

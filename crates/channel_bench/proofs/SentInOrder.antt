@@ -63,6 +63,7 @@ fed = kept_by_acts Fed (record {
   };
   drops = λ t. fed_none t _ refl refl refl;
   registers = λ call id t. fed_none t _ refl refl refl;
+  told = λ ours t. fed_none t _ refl refl refl;
 })
 
 -- ---- a step

@@ -42,6 +42,7 @@ same_connections = kept_by_acts SameConnections (record {
   enters = λ key octets t. record { connections = refl; closed = refl };
   drops = λ t. record { connections = refl; closed = refl };
   registers = λ call id t. record { connections = refl; closed = refl };
+  told = λ ours t. record { connections = refl; closed = refl };
 })
 
 -- what a step leaves of the connection of the program

@@ -19,7 +19,7 @@ use Rattle.link_machine.specs.Event.{Event as LinkEvent}
 use Rattle.link_machine.specs.Event.Event.{Connect as LinkConnect, Send as LinkSend, Disconnect as LinkDisconnect}
 use Rattle.link_machine.specs.Event.Event.{Hear as LinkHear, Tick as LinkTick}
 use Rattle.link_machine.specs.Step.{step as link_turn}
-use Rattle.station.specs.Heard.{AreHeardAt, hearing_at}
+use Rattle.station.specs.Heard.{AreHeardAt, hearing_at, telling_channel}
 use Rattle.station.specs.FrameSpelling.{frame_octets}
 use Rattle.station.specs.HostMessages.{raw_message}
 use Rattle.station.specs.Links.{with_new_link}
@@ -34,6 +34,7 @@ pub record Kept (R : Turn → Turn → Type 0) : Type 0 where
   pub makes : (key id pid : ℕ) (local remote : Callsign) (path : Path) (t : Turn)
       → R t (making key id pid local remote path t)
   pub registers : (call : Callsign) (id : ℕ) (t : Turn) → R t (changing (with_registration call id) t)
+  pub told : (ours : Bool) (t : Turn) → R t (telling_channel ours t)
 
 -- ---- the parts of an event of a link
 
@@ -46,6 +47,7 @@ pub record KeptByActs (R : Turn → Turn → Type 0) : Type 0 where
   pub enters : (key : ℕ) (octets : List ℕ) (t : Turn) → R t (entering (Some key) octets t)
   pub drops : (t : Turn) → R t (dropping t)
   pub registers : (call : Callsign) (id : ℕ) (t : Turn) → R t (changing (with_registration call id) t)
+  pub told : (ours : Bool) (t : Turn) → R t (telling_channel ours t)
 
 module _ (R : Turn → Turn → Type 0) (k : KeptByActs R) where
   acts_kept : {A : Type 0} (act : A → Act) → ((item : A) (t : Turn) → R t (act item t)) → (items : List A) (t : Turn)
@@ -93,6 +95,7 @@ module _ (R : Turn → Turn → Type 0) (k : KeptByActs R) where
     makes = λ key id pid local remote path t. k.links
         (with_new_link key (idle_link id pid local remote path t.now.parameters)) t;
     registers = k.registers;
+    told = k.told;
   }
 
 -- ---- a whole step
@@ -271,9 +274,13 @@ module _ (R : Turn → Turn → Type 0) (k : Kept R) where
       let to = destination_field h.path in
       let raw = showing from to octets before in
       let shown = shown_to_hosts h.path octets h.monitored before in
-      k.on before shown after
+      subst (R before) (sym h.told)
+      (k.on before h.between (telling_channel h.ours h.between)
+      (k.on before shown h.between
       (k.on before raw shown (shown_kept from to octets before) (k.tells raw shown.out.pieces))
-      (by_path_kept h.path octets shown after (shown_digi from to octets before.now.connections before ∙ none) h.effect)
+      (by_path_kept h.path octets shown h.between
+      (shown_digi from to octets before.now.connections before ∙ none) h.effect))
+      (k.told h.ours h.between))
     where
       shown_digi : (from to octets : List ℕ) (connections : List Connection) (t : Turn)
           → (in_order (map (showing_to from to octets) connections) t).now.digi ≡ t.now.digi

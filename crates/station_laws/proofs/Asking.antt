@@ -178,7 +178,7 @@ turn_asks :
     → AllOfNone (turn_steps chosen input before after turn)
 turn_asks chosen (FromHost event) before after turn none = host_asks chosen event before after none turn
 turn_asks chosen (OffAir octets) before after turn none =
-    by_path_asks chosen turn.path octets (shown_to_hosts turn.path octets turn.monitored before) after turn.effect
+    by_path_asks chosen turn.path octets (shown_to_hosts turn.path octets turn.monitored before) turn.between turn.effect
 turn_asks chosen (OfClock busy) before after turn none =
     along_asks ticking_at (ticks_at chosen)
     (λ key t. event_asks chosen None key (LinkTick (waits key t.now.channel.waiting)) t tt)

@@ -555,7 +555,7 @@ turn_joins chosen (OffAir octets) before after turn = λ nothing_lost.
     let from = source_field turn.path in
     let to = destination_field turn.path in
     let done = by_path_joins chosen turn.path octets (shown_to_hosts turn.path octets turn.monitored before)
-    after turn.effect nothing_lost in
+    turn.between turn.effect (ap (λ (t : Turn). t.now.dropped) (sym turn.told) ∙ nothing_lost) in
     record {
       before = sym (shown_same from to octets before.now.connections before) ∙ done.before;
       joined = done.joined;

@@ -17,12 +17,12 @@ use Rattle.station_laws.proofs.Common.{by_path_steps, heard_steps, first_chosen}
 use Rattle.std.specs.Prelude.{map}
 use Rattle.link_machine.specs.Event.{Event as LinkEvent}
 use Rattle.link_machine.specs.Event.Event.{Hear as LinkHear}
-use Rattle.station.specs.Heard.{hearing_at, IsReadAs}
+use Rattle.station.specs.Heard.{hearing_at, IsReadAs, telling_channel}
 use Rattle.station.specs.Links.{link_modulus}
 use Rattle.station_laws.proofs.Acts.{Setting, Holds, marks_of, still_holds, own_machine, own_heard, heard_told}
 use Rattle.station_laws.proofs.Acts.{heard_asking, heard_next, FrontRead, is_asking, asks_when_sent, other_event}
 use Rattle.station_laws.proofs.Addresses.{heard_again}
-use Rattle.station_laws.proofs.Along.{Kept, makes_near}
+use Rattle.station_laws.proofs.Along.{Kept, makes_near, near_all}
 use Rattle.station_laws.proofs.Events.{meant, MayMake, made_own, made_another}
 use Rattle.station_laws.proofs.Controls.{ask_heard}
 use Rattle.station_laws.proofs.Messages.{IsStill, still, still_both, raw_still}
@@ -362,6 +362,18 @@ after_showing s e octets before shown after own any h (Event goes some) =
     Event (λ w back stays pop H. goes w back stays pop
     (still_holds s back before shown w H h.links h.parameters h.queued)) some
 
+-- nor is what the channel is told
+after_telling :
+    (s : Setting) (e : End) (octets : List ℕ) (before between : Turn) (own any : List LinkStep) (ours : Bool)
+    → Outcome s e octets before between own any → Outcome s e octets before (telling_channel ours between) own any
+after_telling s e octets before between own any ours (Passed calm none none_any) =
+    Passed (record { links = calm.links; parameters = calm.parameters; queued = calm.queued }) none none_any
+after_telling s e octets before between own any ours (Event goes some) =
+    Event (λ w back stays pop H.
+    let kept = goes w back stays pop H in
+    let then = near_all e (s.done ++ s.rest) (length s.earlier) own w in
+    (still_holds s stays between (telling_channel ours between) then kept.0 refl refl refl, kept.1)) some
+
 pub heard_outcome :
     (s : Setting) (e : End) (octets : List ℕ) (before after : Turn) → All (λ octet. octet < 256) octets
     → before.now.parameters ≡ s.params → length before.now.links.places ≡ most_links → (h : IsHeard octets before after)
@@ -370,7 +382,10 @@ pub heard_outcome :
 heard_outcome s e octets before after low params size h =
     let shown = shown_to_hosts h.path octets h.monitored before in
     let calm : IsStill before shown = shown_still h.path octets h.monitored before in
-    after_showing s e octets before shown after (by_path_steps (meant s) h.path octets shown after h.effect)
-    (by_path_steps is_some h.path octets shown after h.effect) calm
-    (by_path_outcome s e octets h.path shown after low h.reading (calm.parameters ∙ params)
-    (ap (λ (l : Links). length l.places) calm.links ∙ size) h.effect)
+    let own = by_path_steps (meant s) h.path octets shown h.between h.effect in
+    let any = by_path_steps is_some h.path octets shown h.between h.effect in
+    subst (λ (t : Turn). Outcome s e octets before t own any) (sym h.told)
+    (after_telling s e octets before h.between own any h.ours
+    (after_showing s e octets before shown h.between own any calm
+    (by_path_outcome s e octets h.path shown h.between low h.reading (calm.parameters ∙ params)
+    (ap (λ (l : Links). length l.places) calm.links ∙ size) h.effect)))

@@ -578,10 +578,11 @@ heard_tells id octets before after agw h =
     let from = source_field h.path in
     let to = destination_field h.path in
     let shown = shown_to_hosts h.path octets h.monitored before in
-    by_path_tells id h.path octets shown after h.effect
-    ∙ ap (λ ps. ps ++ flat_map (told_by id) (by_path_steps is_some h.path octets shown after h.effect))
+    subst (Tells id before (heard_steps is_some octets before after h)) (sym h.told)
+    (by_path_tells id h.path octets shown h.between h.effect
+    ∙ ap (λ ps. ps ++ flat_map (told_by id) (by_path_steps is_some h.path octets shown h.between h.effect))
     (monitors_told id false before.now.ticks h.monitored (showing from to octets before)
-    ∙ shown_to id from to octets before.now.connections before agw)
+    ∙ shown_to id from to octets before.now.connections before agw))
 
 -- ---- each step
 

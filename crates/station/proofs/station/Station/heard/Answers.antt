@@ -1,4 +1,4 @@
-use Rattle.station.proofs.Common.{refl, sym, subst, Held, AreParts, StandsFor, Out, begin}
+use Rattle.station.proofs.Common.{sym, subst, Held, AreParts, StandsFor, Out, begin}
 use Rattle.station.specs.Heard.{IsHeard}
 use Rattle.station.proofs.station.Station.heard.Goals as goal
 
