@@ -44,7 +44,7 @@ use Rattle.kiss_port.specs.declared.item.KissItem.TheVariants.{Frame as KissFram
 use Rattle.link_machine.specs.Event.Event.{Connect as LinkConnect, Hear as LinkHear}
 use Rattle.station.specs.AgwKinds.{connect_via_kind}
 use Rattle.station.specs.CallFields.{sent_back}
-use Rattle.station.specs.Heard.{IsReadAs, hearing_at, kiss_data, showing}
+use Rattle.station.specs.Heard.{IsReadAs, hearing_at, kiss_data, showing, telling_channel}
 use Rattle.station.specs.HostMessages.{raw_message, no_call}
 use Rattle.station.specs.Links.{IsNewKey, Links, count_of_links}
 use Rattle.station.specs.Monitoring.{monitor_message, monitor_pieces, monitoring, piece_for, to_monitors}
@@ -622,6 +622,11 @@ module _ (id : ℕ) (plan : CallPlan) (called : IsBetweenCalls plan) where
   by_path_does octets (Some path) before after is h =
       path_does octets path is.0 (waits_for_repeater path) before after is.1 h
 
+  does_on_last : (x y z : Turn) (steps : List LinkStep) → Does id plan x steps y → Does id plan y [] z
+      → Does id plan x steps z
+  does_on_last x y z steps one two =
+      subst (λ s. Does id plan x s z) (append-nil steps) (does_on id plan x y z steps [] one two)
+
   heard_does :
       (octets : List ℕ) (before after : Turn)
       → Each (λ (c : Connection). c.id ≡ id → c.kind ≡ Agw) before.now.connections → (h : IsHeard octets before after)
@@ -631,12 +636,16 @@ module _ (id : ℕ) (plan : CallPlan) (called : IsBetweenCalls plan) where
       let to = destination_field h.path in
       let first = showing from to octets before in
       let shown = shown_to_hosts h.path octets h.monitored before in
-      does_on id plan before shown after [] (heard_steps (meant plan) octets before after h)
+      let steps = heard_steps (meant plan) octets before after h in
+      subst (Does id plan before steps) (sym h.told)
+      (does_on_last before h.between (telling_channel h.ours h.between) steps
+      (does_on id plan before shown h.between [] steps
       (does_on id plan before first shown [] []
       (showing_does from to octets before.now.connections before agw (source_ten octets h.path h.reading)
       (destination_ten octets h.path h.reading))
       (monitors_does false before.now.ticks h.monitored first (read_calls _ octets h.monitored h.read_as)))
-      (by_path_does octets h.path shown after h.reading h.effect)
+      (by_path_does octets h.path shown h.between h.reading h.effect))
+      (silent_does id plan h.between (telling_channel h.ours h.between) refl refl))
 
   -- ---- each step
 
@@ -657,11 +666,6 @@ module _ (id : ℕ) (plan : CallPlan) (called : IsBetweenCalls plan) where
       (sent_calls (air_in busy before).sent ticked.now.links turn.monitored turn.read_as))
       (silent_does id plan (monitoring true ticked.now.ticks turn.monitored ticked)
       (ticking busy turn.monitored before) refl refl)))
-    where
-      does_on_last : (x y z : Turn) (steps : List LinkStep) → Does id plan x steps y → Does id plan y [] z
-          → Does id plan x steps z
-      does_on_last x y z steps one two =
-          subst (λ s. Does id plan x s z) (append-nil steps) (does_on id plan x y z steps [] one two)
 
   pub step_does : (step : Step) → IsClientStep id step
       → Does id plan (begin step.before) (steps_of (meant plan) step) step.after

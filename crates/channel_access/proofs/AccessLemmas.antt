@@ -5,6 +5,11 @@ use Rattle.channel_access.proofs.Common.{cases_Bool, cond-true, Lcg, Parameters,
 use Rattle.channel_access.proofs.Common.{HasFrameLength, OnAir, bits_then, decided, with_tick, Channel, decision, begun}
 use Rattle.channel_access.proofs.Common.{air_samples, air_sent, air_waiting, air_after, air_tick, after_tick, Takes}
 use Rattle.channel_access.proofs.Common.{Held, new_sending, run_of, going_on, held_tick, StandsFor, StandsForAir, Goes}
+use Rattle.channel_access.specs.Channel.{with_heard}
+use Rattle.channel_access.specs.Held.{held_after}
+use Rattle.channel_access.specs.HeldTurns.{listening_of}
+use Rattle.channel_access.specs.Happenings.{Happening}
+use Rattle.channel_access.specs.Happenings.Happening.{Heard, Ticked}
 use Rattle.std.proofs.lemmas.Bool.{eqb-false}
 use Rattle.channel_access.specs.Channel.{Decision}
 use Rattle.channel_access.specs.HeldTick.{held_samples, held_sent, after_held_send, after_held_tick}
@@ -16,17 +21,18 @@ use Rattle.channel_access.proofs.AirLemmas.{at_end, run_samples, run_sent, run_a
 
 -- a new transmission, if a frame waits
 unfoldable pub begins : (parameters : Parameters) (waiting : List WaitingFrame) (generator : Lcg) (slot : ℕ)
-    → 1 ≤ length waiting
+    (past : List Happening) → 1 ≤ length waiting
     → Goes (new_sending parameters) waiting (begun (record {
       waiting = waiting;
       parameters = parameters;
       generator = generator;
       slot = slot;
       air = None;
+      past = past;
     }))
 unfolding new_sending
-begins parameters [] generator slot some = absurd (omega arith)
-begins parameters (front ∷ others) generator slot some =
+begins parameters [] generator slot past some = absurd (omega arith)
+begins parameters (front ∷ others) generator slot past some =
     let opening : ℕ = opening_flags parameters.tx_delay in
     let two : 2 ≤ opening = le-max_left 2 _ in
     record {
@@ -66,11 +72,20 @@ pub sends_tick : (s : Option Sending) (air : Option OnAir) (channel : Channel)
       generator = channel.generator;
       slot = channel.slot;
       sending = s;
+      listening = listening_of channel.past;
     }) channel
 sends_tick None None channel fit h = record {
   samples = refl;
   sent = refl;
-  after = record { waiting = refl; parameters = refl; generator = refl; slot = refl; lengths = fit; air = tt };
+  after = record {
+    waiting = refl;
+    parameters = refl;
+    generator = refl;
+    slot = refl;
+    listening = refl;
+    lengths = fit;
+    air = tt;
+  };
 }
 sends_tick None (Some t) channel fit h = absurd h
 sends_tick (Some s) None channel fit h = absurd h
@@ -86,6 +101,7 @@ sends_tick (Some s) (Some t) channel fit h =
         parameters = refl;
         generator = refl;
         slot = refl;
+        listening = refl;
         lengths = all_waiting (bits_then t) (decided (bits_then t) channel.waiting t) channel.waiting fit;
         air = subst P end.is_waiting (run_air s channel.waiting t h fit);
       };
@@ -101,6 +117,7 @@ held_of channel s = record {
   generator = channel.generator;
   slot = channel.slot;
   sending = s;
+  listening = listening_of channel.past;
 }
 
 pub held-is : (held : Held) (channel : Channel) → StandsFor held channel → held ≡ held_of channel held.sending
@@ -108,13 +125,31 @@ held-is held channel h =
     ap (λ w. record held { waiting = w }) h.waiting
     ∙ ap (λ p. record held { waiting = channel.waiting; parameters = p }) h.parameters
     ∙ ap (λ g. record held { waiting = channel.waiting; parameters = channel.parameters; generator = g }) h.generator
-    ∙ ap (λ n. record (held_of channel held.sending) { slot = n }) h.slot
+    ∙ ap (λ n. record (held_of channel held.sending) { slot = n; listening = held.listening }) h.slot
+    ∙ ap (λ l. record (held_of channel held.sending) { listening = l }) h.listening
+
+-- after one thing more has happened
+stands_after : (here : Happening) (past : List Happening) (held : Held) (channel : Channel) → StandsFor held channel
+    → StandsFor (held_after here past held) (record channel { past = here ∷ past })
+stands_after here past held channel h = record {
+  waiting = h.waiting;
+  parameters = h.parameters;
+  generator = h.generator;
+  slot = h.slot;
+  listening = refl;
+  lengths = h.lengths;
+  air = h.air;
+}
+
+pub stands_heard : (ours : Bool) (held : Held) (channel : Channel) → StandsFor held channel
+    → StandsFor (held_after (Heard ours) channel.past held) (with_heard ours channel)
+stands_heard ours held channel h = stands_after (Heard ours) channel.past held channel h
 
 -- a tick of what is kept is the tick of the channel
 pub record IsTick (busy : Bool) (held : Held) (channel : Channel) : Type 0 where
   pub order : Takes (air_tick busy channel).sent channel.waiting (after_tick busy channel).waiting
-  pub tick : held_tick busy held ≡ air_tick busy channel
-  pub after : StandsFor (after_held_tick busy held) (after_tick busy channel)
+  pub tick : held_tick busy channel.past held ≡ air_tick busy channel
+  pub after : StandsFor (after_held_tick busy channel.past held) (after_tick busy channel)
 
 -- a transmission begins only when a frame waits
 pub some_wait : (busy : Bool) (channel : Channel) → (decision busy channel).begins ≡ true → 1 ≤ length channel.waiting
@@ -141,7 +176,7 @@ rest_tick : (busy : Bool) (channel : Channel) (d : Decision) (b : Bool) → (b �
 rest_tick busy channel d true some fit =
     sends_tick (Some (new_sending channel.parameters)) (Some (begun channel))
     (record channel { slot = d.slot; generator = d.generator; air = Some (begun channel) }) fit
-    (begins channel.parameters channel.waiting channel.generator channel.slot (some refl))
+    (begins channel.parameters channel.waiting channel.generator channel.slot channel.past (some refl))
 rest_tick busy channel d false some fit =
     sends_tick None None (record channel { slot = d.slot; generator = d.generator; air = None }) fit tt
 
@@ -154,6 +189,12 @@ is_tick busy channel None None fit h =
     let air : Option OnAir = cond d.begins (Some (begun channel)) None in
     let r = rest_tick busy channel d d.begins (some_wait busy channel) fit in
     let same : is_some now ≡ is_some air = both_some d.begins in
+    let then : Channel = record channel {
+      slot = d.slot;
+      generator = d.generator;
+      waiting = air_waiting channel.waiting air;
+      air = air_after channel.waiting air;
+    } in
     record {
       order = rest_takes d.begins (some_wait busy channel);
       tick =
@@ -164,7 +205,10 @@ is_tick busy channel None None fit h =
             sent = held_sent now channel.waiting;
           }) same
           ∙ ap (λ x. record { samples = air_samples channel.waiting air; began = is_some air; sent = x }) r.sent;
-      after = r.after;
+      after = subst (λ own. StandsFor (after_held_tick busy channel.past (held_of channel None))
+          (record then { past = Ticked busy own own ∷ channel.past })) same
+          (stands_after (Ticked busy (is_some now) (is_some now)) channel.past (after_held_send now (record (held_of channel now)
+          { slot = d.slot; generator = d.generator })) then r.after);
     }
   where
     rest_takes : (b : Bool) → (b ≡ true → 1 ≤ length channel.waiting)
@@ -172,7 +216,7 @@ is_tick busy channel None None fit h =
         (air_waiting channel.waiting (cond b (Some (begun channel)) None))
     rest_takes true some =
         air_takes (Some (new_sending channel.parameters)) channel.waiting (Some (begun channel))
-        (begins channel.parameters channel.waiting channel.generator channel.slot (some refl))
+        (begins channel.parameters channel.waiting channel.generator channel.slot channel.past (some refl))
     rest_takes false some = refl
 
     both_some : (b : Bool) → is_some (cond b (Some (new_sending channel.parameters)) None)
@@ -188,7 +232,11 @@ is_tick busy channel (Some s) (Some t) fit h =
       tick =
           ap (λ x. record { samples = x; began = false; sent = held_sent (Some s) channel.waiting }) r.samples
           ∙ ap (λ x. record { samples = air_samples channel.waiting (Some t); began = false; sent = x }) r.sent;
-      after = r.after;
+      after = stands_after (Ticked busy false true) channel.past (after_held_send (Some s) (held_of channel (Some s)))
+          (record channel {
+            waiting = air_waiting channel.waiting (Some t);
+            air = air_after channel.waiting (Some t);
+          }) r.after;
     }
 
 pub tick_of : (busy : Bool) (held : Held) (channel : Channel) → StandsFor held channel → IsTick busy held channel

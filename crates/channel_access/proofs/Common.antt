@@ -41,6 +41,7 @@ pub use Rattle.std.proofs.Common.{Bool, List, None, Option, Some, [], add-one, a
 pub use Rattle.std.proofs.Common.{bit_and, cond, drop, eqb, false, get_or, inl, inr, is_some, leb, length}
 pub use Rattle.std.proofs.Common.{length-append, ltb, not, pos, refl, replicate, rules, subst, suc, sym, take, true}
 pub use Rattle.std.proofs.Common.{zero, ℕ, ℤ, ◌%◌, ◌&&◌, ◌*◌, ◌++◌, ◌+◌, ◌-◌, ◌/◌, ◌<◌, ◌^◌, ◌∙◌, ◌∷◌, ◌≡◌, ◌≤◌, ◌⊎◌}
+pub use Rattle.std.proofs.Common.{◌||◌}
 pub use Rattle.std.proofs.Math.Nat.{le-max_left}
 pub use Rattle.std.proofs.Math.Seq.{get_or-append_seam}
 pub use Rattle.std.proofs.lemmas.Bool.{cases_Bool, cond-false, cond-true, le-leb, leb-false, leb-true, lt-leb, lt-ltb}

@@ -1,10 +1,14 @@
 -- Worked examples, computed on the definitions.
-use Rattle.channel_access.proofs.Common.{◌≡◌, ℕ, true, false, Some, None, List, [], ◌∷◌, ◌+◌, length, replicate, refl}
+use Rattle.channel_access.proofs.Common.{◌≡◌, ℕ, true, false, Some, None, List, [], ◌∷◌, ◌++◌, ◌+◌, length, replicate, refl}
 use Rattle.channel_access.proofs.Common.{octet_bits, body, fcs_of, with_fcs, frame_bits, OnAir, bits_of, flag_end}
 use Rattle.channel_access.proofs.Common.{followed_by, frame_named, frames_end, GoesToItsEnd, Ticks, Channel}
 use Rattle.channel_access.proofs.Common.{new_channel, with_frame, with_setting, decision, begun, air_tick, after_tick}
 use Rattle.channel_access.specs.declared.parameters.Param.TheVariants.{FullDuplex, Persist, TxDelay, TxTail}
 use Rattle.channel_access.specs.Words.{generator_of, draw_stream, draw, after_word}
+use Rattle.channel_access.specs.Channel.{Decision}
+use Rattle.channel_access.specs.Happenings.{Happening}
+use Rattle.channel_access.specs.Happenings.Happening.{Heard, Ticked}
+use Rattle.channel_access.specs.Turns.{is_spoken_to, is_its_turn}
 
 -- SABM with P from N7LEM to NJ7P
 abbrev shortest : List ℕ
@@ -70,3 +74,64 @@ short_begins = refl
 short_ends : GoesToItsEnd (replicate 13 (Ticks true)) (after_tick true short_one)
 unfolding short_one fcs_of octet_bits with_fcs frame_bits body bits_of frames_end flag_end
 short_ends = (refl, (refl, (refl, (refl, (refl, (refl, (refl, (refl, (refl, (refl, (refl, (refl, (refl, refl)))))))))))))
+
+-- ---- whose turn it is
+
+abbrev quiet : ℕ → List Happening
+quiet count = replicate count (Ticked false false false)
+
+abbrev busy : ℕ → List Happening
+busy count = replicate count (Ticked true false false)
+
+-- quiet ticks, so many of them, and a transmission, whose frame is heard while the channel is still busy
+abbrev asked : ℕ → List Happening
+asked count = Heard true ∷ (busy 60 ++ quiet count)
+
+after_a_slot : is_its_turn 10 (asked 10) ≡ true
+after_a_slot = refl
+
+after_less : is_its_turn 10 (asked 9) ≡ false
+after_less = refl
+
+spoken_to_all_the_same : is_spoken_to (asked 9) ≡ true
+spoken_to_all_the_same = refl
+
+-- the end of the carrier, and then a host that takes its time
+no_haste : is_its_turn 10 (quiet 40 ++ (busy 2 ++ asked 10)) ≡ true
+no_haste = refl
+
+busy_anew : is_spoken_to (busy 1 ++ (quiet 1 ++ (busy 2 ++ asked 10))) ≡ false
+busy_anew = refl
+
+for_another : is_spoken_to (Heard false ∷ asked 10) ≡ false
+for_another = refl
+
+taken_once : is_spoken_to (Ticked false true true ∷ (busy 2 ++ asked 10)) ≡ false
+taken_once = refl
+
+-- the ticks after its own transmission are too few for a turn, if the other station answers soon
+turns_alternate : is_its_turn 10 (Heard true ∷ (busy 60 ++ (quiet 3 ++ (Ticked false false true ∷ quiet 20)))) ≡ false
+turns_alternate = refl
+
+-- With these behind it a channel in which one frame waits decides so. The draw of seed 2 is 102, and P is 63.
+abbrev decides : List Happening → Decision
+decides past = decision false (record one_waits { past = past })
+
+a_turn_has_no_draw : decides (busy 1 ++ asked 10)
+    ≡ record { begins = true; slot = 0; generator = one_waits.generator }
+a_turn_has_no_draw = refl
+
+spoken_to_has_no_slot : decides (busy 1 ++ asked 9)
+    ≡ record { begins = false; slot = 10; generator = after_word one_waits.generator }
+spoken_to_has_no_slot = refl
+
+others_have_a_slot : decides (busy 1 ++ (Heard false ∷ asked 10))
+    ≡ record { begins = false; slot = 9; generator = one_waits.generator }
+others_have_a_slot = refl
+
+a_slot_after_its_own : (decides (Ticked false false true ∷ [])).slot ≡ 9
+a_slot_after_its_own = refl
+
+-- without a frame the slot runs too
+a_slot_runs : (decision false (record (new_channel 2) { slot = 3; past = quiet 1 })).slot ≡ 2
+a_slot_runs = refl

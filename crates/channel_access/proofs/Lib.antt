@@ -8,6 +8,7 @@ pub mod JoinLemmas
 pub mod TickLemmas
 pub mod AirLemmas
 pub mod OrderLemmas
+pub mod TurnLemmas
 pub mod AccessLemmas
 pub mod QueueLemmas
 mod Examples

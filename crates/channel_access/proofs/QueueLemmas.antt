@@ -61,6 +61,7 @@ stands_queued link octets held channel fits h =
       parameters = h.parameters;
       generator = h.generator;
       slot = h.slot;
+      listening = h.listening;
       lengths = All-push (λ (f : WaitingFrame). HasFrameLength f.octets) channel.waiting frame h.lengths fits;
       air = air_joined held.sending channel.waiting (frame ∷ []) channel.air h.air;
     }
@@ -72,6 +73,7 @@ stands_new seed = record {
   parameters = refl;
   generator = refl;
   slot = refl;
+  listening = refl;
   lengths = All-nil (λ (f : WaitingFrame). HasFrameLength f.octets);
   air = tt;
 }
@@ -83,6 +85,7 @@ stands_set param held channel h = record {
   parameters = ap (with_param param) h.parameters;
   generator = h.generator;
   slot = h.slot;
+  listening = h.listening;
   lengths = h.lengths;
   air = h.air;
 }

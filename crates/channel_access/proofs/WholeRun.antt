@@ -15,7 +15,9 @@ use Rattle.std.proofs.lemmas.List.Elements.{All-cons}
 use Rattle.channel_access.specs.WholeTransmission.{Call, after_call, after_calls, tick_of_call, ticks_of, joins_in}
 use Rattle.channel_access.specs.WholeTransmission.{joining, AreFrames, samples_in, AreOneTransmission}
 use Rattle.channel_access.specs.WholeTransmission.{SendOneTransmission}
-use Rattle.channel_access.specs.WholeTransmission.Call.{Queues, Sets}
+use Rattle.channel_access.specs.WholeTransmission.Call.{Queues, Sets, Hears}
+use Rattle.channel_access.specs.Happenings.{Happening}
+use Rattle.channel_access.specs.Happenings.Happening.{Ticked}
 use Rattle.channel_access.proofs.OrderLemmas.{decided_frames, air_takes}
 use Rattle.channel_access.proofs.StageLemmas.{now_at, waiting_at}
 use Rattle.channel_access.proofs.SendingLemmas.{padded}
@@ -58,10 +60,11 @@ sends waiting t began =
     record { samples = tick_samples then; began = began; sent = frame_named (bits_then t) then }
 
 -- the channel after it
-abbrev behind : Channel → OnAir → Channel
-behind channel t = record channel {
+abbrev behind : Bool → Bool → Channel → OnAir → Channel
+behind busy began channel t = record channel {
   waiting = waiting_at (bits_then t) channel.waiting t;
   air = with_tick (now_at (bits_then t) channel.waiting t);
+  past = Ticked busy began true ∷ channel.past;
 }
 
 -- ---- what the end of a sender says
@@ -193,9 +196,10 @@ module _ (s : Sending) (waiting : List WaitingFrame) (t : OnAir) (g : Goes s wai
 
 -- a tick of a transmission under way
 under_way_more : (opening closing : ℕ) (first joined : List WaitingFrame) (ticks : List AirTick) (channel : Channel)
-    (h : UnderWay opening closing first joined ticks channel) (began : Bool)
-    → After opening closing first joined (ticks ++ sends channel.waiting h.t began ∷ []) (behind channel h.t)
-under_way_more opening closing first joined ticks channel h began =
+    (h : UnderWay opening closing first joined ticks channel) (busy began : Bool)
+    → After opening closing first joined (ticks ++ sends channel.waiting h.t began ∷ [])
+    (behind busy began channel h.t)
+under_way_more opening closing first joined ticks channel h busy began =
     let s : Sending = h.sending in
     let waiting : List WaitingFrame = channel.waiting in
     let so = so_far_then s waiting h.t h.goes h.fit opening closing first joined ticks h.so_far h.samples began in
@@ -249,9 +253,10 @@ tick_is busy channel t is =
     (sym is) refl
 
 after_is : (busy : Bool) (channel : Channel) (t : OnAir) → channel.air ≡ Some t
-    → after_tick busy channel ≡ behind channel t
+    → after_tick busy channel ≡ behind busy false channel t
 after_is busy channel t is =
-    subst (λ (a : Option OnAir). after_tick busy (record channel { air = a }) ≡ behind channel t) (sym is) refl
+    subst (λ (a : Option OnAir). after_tick busy (record channel { air = a }) ≡ behind busy false channel t) (sym is)
+    refl
 
 call_more : (opening closing : ℕ) (first joined : List WaitingFrame) (ticks : List AirTick) (channel : Channel)
     (call : Call) → AreFrames (joins_in call) → UnderWay opening closing first joined ticks channel
@@ -276,6 +281,19 @@ call_more opening closing first joined ticks channel (Sets param) fit h =
       so_far = h.so_far;
       samples = h.samples;
     })))
+call_more opening closing first joined ticks channel (Hears ours) fit h =
+    subst (λ ts. After opening closing first (joined ++ []) ts (after_call (Hears ours) channel))
+    (sym (append-nil ticks))
+    (subst (λ js. After opening closing first js ticks (after_call (Hears ours) channel)) (sym (append-nil joined))
+    (inl (record {
+      t = h.t;
+      air = h.air;
+      sending = h.sending;
+      goes = h.goes;
+      fit = h.fit;
+      so_far = h.so_far;
+      samples = h.samples;
+    })))
 call_more opening closing first joined ticks channel (Ticks busy) fit h =
     subst (λ js. After opening closing first js (ticks ++ air_tick busy channel ∷ []) (after_tick busy channel))
     (sym (append-nil joined))
@@ -283,7 +301,7 @@ call_more opening closing first joined ticks channel (Ticks busy) fit h =
     (sym (tick_is busy channel h.t h.air))
     (subst (λ next. After opening closing first joined (ticks ++ sends channel.waiting h.t false ∷ []) next)
     (sym (after_is busy channel h.t h.air))
-    (under_way_more opening closing first joined ticks channel h false)))
+    (under_way_more opening closing first joined ticks channel h busy false)))
 
 both_fit : (xs ys : List WaitingFrame) → AreFrames (xs ++ ys) → AreFrames xs × AreFrames ys
 both_fit [] ys fit = (All-nil (λ (f : WaitingFrame). HasFrameLength f.octets), fit)
@@ -320,18 +338,20 @@ run opening closing first joined ticks (call ∷ calls) channel fit (inl h) end 
 
 -- ---- the first tick
 
-begins_with : (parameters : Parameters) (waiting : List WaitingFrame) (generator : Lcg) (slot : ℕ) → 1 ≤ length waiting
+begins_with : (parameters : Parameters) (waiting : List WaitingFrame) (generator : Lcg) (slot : ℕ)
+    (past : List Happening) → 1 ≤ length waiting
     → GoesWith (new_sending parameters) waiting (begun (record {
       waiting = waiting;
       parameters = parameters;
       generator = generator;
       slot = slot;
       air = None;
+      past = past;
     })) []
 unfolding begins
-begins_with parameters [] generator slot some = absurd (omega arith)
-begins_with parameters (front ∷ others) generator slot some =
-    record { goes = begins parameters (front ∷ others) generator slot some; is = refl }
+begins_with parameters [] generator slot past some = absurd (omega arith)
+begins_with parameters (front ∷ others) generator slot past some =
+    record { goes = begins parameters (front ∷ others) generator slot past some; is = refl }
 
 one_frame : (waiting : List WaitingFrame) → 1 ≤ length waiting → length (octets_of (take 1 waiting)) ≡ 1
 one_frame [] some = absurd (omega arith)
@@ -374,13 +394,14 @@ module _ (busy : Bool) (channel : Channel) (fit : AreFrames channel.waiting) (re
         } in
         subst P (sym rest) (ap (λ b. tick (cond b (Some (begun channel)) None)) begins)
 
-    after_first : after_tick busy channel ≡ behind then (begun channel)
+    after_first : after_tick busy channel ≡ behind busy true then (begun channel)
     after_first =
         let P : Option OnAir → Type 0 =
-        λ a. after_tick busy (record channel { air = a }) ≡ behind then (begun channel) in
+        λ a. after_tick busy (record channel { air = a }) ≡ behind busy true then (begun channel) in
         let next : Option OnAir → Channel = λ air. record then {
           waiting = air_waiting channel.waiting air;
           air = air_after channel.waiting air;
+          past = Ticked busy (is_some air) (is_some air) ∷ channel.past;
         } in
         subst P (sym rest) (ap (λ b. next (cond b (Some (begun channel)) None)) begins)
 
@@ -389,7 +410,7 @@ module _ (busy : Bool) (channel : Channel) (fit : AreFrames channel.waiting) (re
     starts =
         let some : 1 ≤ length channel.waiting = some_wait busy channel begins in
         let one = one_frame channel.waiting some in
-        let new = begins_with channel.parameters channel.waiting channel.generator channel.slot some in
+        let new = begins_with channel.parameters channel.waiting channel.generator channel.slot channel.past some in
         record {
           t = begun channel;
           air = refl;
@@ -420,7 +441,7 @@ whole_transmission channel busy calls fit joins rest began end =
     let closing : ℕ = closing_flags channel.parameters.tx_tail in
     let begins = begins_now busy channel fit rest began in
     let first = under_way_more opening closing channel.waiting [] [] (then busy channel fit rest)
-    (starts busy channel fit rest begins) true in
+    (starts busy channel fit rest begins) busy true in
     let after : After opening closing channel.waiting [] (air_tick busy channel ∷ []) (after_tick busy channel) =
     subst (λ tick. After opening closing channel.waiting [] (tick ∷ []) (after_tick busy channel))
     (sym (first_tick busy channel fit rest begins))

@@ -1,6 +1,6 @@
 -- The access to the channel, tick by tick: p-persistence in half duplex, and at once in full duplex (the KISS TNC
 -- protocol, Chepponis and Karn).
-use Rattle.std.specs.Prelude.{◌≡◌, ℕ, ◌-◌, ◌==◌, nat_lt, nat_le, Bool, true, false, ◌&&◌, if◌then◌else◌, ℤ, pos, List}
+use Rattle.std.specs.Prelude.{◌≡◌, ℕ, ◌-◌, ◌==◌, nat_lt, nat_le, Bool, true, false, ◌&&◌, ◌||◌, if◌then◌else◌, ℤ, pos, List}
 use Rattle.std.specs.Prelude.{[], ◌∷◌, ◌++◌, length, take, map, replicate, Option, Some, None, is_some, is_none}
 use Rattle.rand_pcg.specs.Lcg.{Lcg}
 use Rattle.channel_access.specs.declared.air_tick.AirTick.{AirTick}
@@ -8,6 +8,9 @@ use Rattle.channel_access.specs.declared.air_tick.Sent.{Sent}
 use Rattle.channel_access.specs.declared.parameters.Param.{Param}
 use Rattle.channel_access.specs.declared.parameters.Parameters.{Parameters}
 use Rattle.channel_access.specs.Parameters.{default_parameters, with_param, opening_flags, closing_flags}
+use Rattle.channel_access.specs.Happenings.{Happening}
+use Rattle.channel_access.specs.Happenings.Happening.{Heard, Ticked}
+use Rattle.channel_access.specs.Turns.{was_quiet, is_spoken_to, is_its_turn}
 use Rattle.channel_access.specs.Waiting.{WaitingFrame}
 use Rattle.channel_access.specs.Words.{generator_of, draw_stream, draw, after_word}
 use Rattle.channel_access.specs.OnAir.{OnAir, bits_then, decided, with_named, waiting_with_named, frame_named}
@@ -21,6 +24,7 @@ pub record Channel : Type 0 where
   pub generator : Lcg
   pub slot : ℕ
   pub air : Option OnAir
+  pub past : List Happening
 
 abbrev pub new_channel : ℕ → Channel
 new_channel seed =
@@ -30,6 +34,7 @@ new_channel seed =
       generator = generator_of seed draw_stream;
       slot = 0;
       air = None;
+      past = [];
     }
 
 -- with one frame more
@@ -40,6 +45,10 @@ with_frame link octets channel =
 abbrev pub with_setting : Param → Channel → Channel
 with_setting param channel = record channel { parameters = with_param param channel.parameters }
 
+-- a frame was heard, which was an event of a link or not
+abbrev pub with_heard : Bool → Channel → Channel
+with_heard ours channel = record channel { past = Heard ours ∷ channel.past }
+
 -- ---- a tick at rest
 
 -- what it decides, and how it leaves the slot and the generator
@@ -48,17 +57,30 @@ pub record Decision : Type 0 where
   pub slot : ℕ
   pub generator : Lcg
 
--- The first rule that fits decides: no frame waits; full duplex; the channel is busy; the slot runs; a draw.
+-- The slot is set in the first tick that is not busy after one that was not quiet: none for a station that is spoken
+-- to, and else the slot time.
+abbrev pub slot_in : Bool → Channel → ℕ
+slot_in busy channel =
+    if busy || was_quiet channel.past then channel.slot
+    else if is_spoken_to channel.past then 0
+    else channel.parameters.slot_time
+
+-- The first rule that fits decides: no frame waits; full duplex; the channel is busy; it is the station's turn; the slot
+-- runs; a draw.
 abbrev pub decision : Bool → Channel → Decision
 decision busy channel =
-    if length channel.waiting == 0 then record { begins = false; slot = 0; generator = channel.generator }
+    let slot = slot_in busy channel in
+    if length channel.waiting == 0
+    then record { begins = false; slot = slot - 1; generator = channel.generator }
     else if channel.parameters.full_duplex
-    then record { begins = true; slot = channel.slot; generator = channel.generator }
-    else if busy then record { begins = false; slot = 0; generator = channel.generator }
-    else if nat_lt 0 channel.slot
-    then record { begins = false; slot = channel.slot - 1; generator = channel.generator }
+    then record { begins = true; slot = slot; generator = channel.generator }
+    else if busy then record { begins = false; slot = slot; generator = channel.generator }
+    else if is_its_turn channel.parameters.slot_time channel.past
+    then record { begins = true; slot = slot; generator = channel.generator }
+    else if nat_lt 0 slot
+    then record { begins = false; slot = slot - 1; generator = channel.generator }
     else if nat_le (draw channel.generator) channel.parameters.persist
-    then record { begins = true; slot = channel.slot; generator = after_word channel.generator }
+    then record { begins = true; slot = slot; generator = after_word channel.generator }
     else record { begins = false; slot = channel.parameters.slot_time; generator = after_word channel.generator }
 
 -- a transmission that begins now, with the front one of the frames that wait
@@ -99,13 +121,17 @@ abbrev pub air_after : List WaitingFrame → Option OnAir → Option OnAir
 air_after waiting None = None
 air_after waiting (Some t) = with_tick (with_named (bits_then t) (decided (bits_then t) waiting t))
 
+-- a transmission began with a tick, in which this is on the air
+abbrev pub began_in : Channel → Option OnAir → Bool
+began_in channel now = is_none channel.air && is_some now
+
 -- a tick of the channel
 abbrev pub air_tick : Bool → Channel → AirTick
 air_tick busy channel =
     let now = after_rules busy channel in
     record {
       samples = air_samples now.waiting now.air;
-      began = is_none channel.air && is_some now.air;
+      began = began_in channel now.air;
       sent = air_sent now.waiting now.air;
     }
 
@@ -113,7 +139,11 @@ air_tick busy channel =
 abbrev pub after_tick : Bool → Channel → Channel
 after_tick busy channel =
     let now = after_rules busy channel in
-    record now { waiting = air_waiting now.waiting now.air; air = air_after now.waiting now.air }
+    record now {
+      waiting = air_waiting now.waiting now.air;
+      air = air_after now.waiting now.air;
+      past = Ticked busy (began_in channel now.air) (is_some now.air) ∷ now.past;
+    }
 
 -- What a tick takes out of the frames that wait: the frame that it names, which is the front one, or none.
 abbrev pub Takes : Option Sent → List WaitingFrame → List WaitingFrame → Type 0

@@ -10,6 +10,7 @@ use Rattle.hdlc_framer.specs.CheckSequence.{fcs_of}
 use Rattle.afsk_modulator.specs.Modulation.{full, tone_window, behind}
 use Rattle.channel_access.specs.declared.air_tick.Sent.{Sent}
 use Rattle.channel_access.specs.declared.frame_bits.FrameBits.{FrameBits}
+use Rattle.channel_access.specs.declared.listening.Listening.{Listening}
 use Rattle.channel_access.specs.declared.stage.Stage.{Stage}
 use Rattle.channel_access.specs.declared.stage.Stage.TheVariants.{Opening, Frame, Following, Closing, Over}
 use Rattle.channel_access.specs.declared.sending.Sending.{Sending}
@@ -17,6 +18,8 @@ use Rattle.channel_access.specs.declared.parameters.Parameters.{Parameters}
 use Rattle.channel_access.specs.declared.parameters.Param.{Param}
 use Rattle.channel_access.specs.Parameters.{default_parameters, with_param, opening_flags, closing_flags}
 use Rattle.channel_access.specs.Words.{generator_of, draw_stream}
+use Rattle.channel_access.specs.HeldTurns.{listening_of}
+use Rattle.channel_access.specs.Happenings.{Happening}
 use Rattle.channel_access.specs.Waiting.{WaitingFrame}
 use Rattle.channel_access.specs.OnAir.{most_frames}
 
@@ -234,6 +237,7 @@ pub record Held : Type 0 where
   pub generator : Lcg
   pub slot : ℕ
   pub sending : Option Sending
+  pub listening : Listening
 
 -- before any call
 abbrev pub new_held : ℕ → Held
@@ -243,6 +247,7 @@ new_held seed = record {
   generator = generator_of seed draw_stream;
   slot = 0;
   sending = None;
+  listening = listening_of [];
 }
 
 -- with one frame more, or with a parameter set
@@ -252,3 +257,7 @@ held_with_frame link octets held =
 
 abbrev pub held_with_setting : Param → Held → Held
 held_with_setting param held = record held { parameters = with_param param held.parameters }
+
+-- after one thing more has happened
+abbrev pub held_after : Happening → List Happening → Held → Held
+held_after here past held = record held { listening = listening_of (here ∷ past) }

@@ -5,16 +5,19 @@ use Rattle.channel_access.specs.declared.air_tick.Sent.{Sent}
 use Rattle.channel_access.specs.declared.sending.Sending.{Sending}
 use Rattle.channel_access.specs.Waiting.{WaitingFrame}
 use Rattle.channel_access.specs.Channel.{Channel, Decision, decision}
-use Rattle.channel_access.specs.Held.{Held, Run, tick_start, with_bits, stage_over, new_sending}
+use Rattle.channel_access.specs.Held.{Held, Run, tick_start, with_bits, stage_over, new_sending, held_after}
+use Rattle.channel_access.specs.Happenings.{Happening}
+use Rattle.channel_access.specs.Happenings.Happening.{Ticked}
 
--- the channel at rest
-abbrev pub channel_of : Held → Channel
-channel_of held = record {
+-- the channel at rest, with what has come to pass
+abbrev pub channel_of : List Happening → Held → Channel
+channel_of past held = record {
   waiting = held.waiting;
   parameters = held.parameters;
   generator = held.generator;
   slot = held.slot;
   air = None;
+  past = past;
 }
 
 abbrev pub with_held_decision : Decision → Held → Held
@@ -44,22 +47,28 @@ after_held_send (Some s) held = record held {
 }
 
 -- what is kept with the decision of a tick, if it is at rest
-abbrev pub held_begun : Bool → Held → Option Sending → Held
-held_begun busy held (Some s) = held
-held_begun busy held None =
-    let d = decision busy (channel_of held) in
+abbrev pub held_begun : Bool → List Happening → Held → Option Sending → Held
+held_begun busy past held (Some s) = held
+held_begun busy past held None =
+    let d = decision busy (channel_of past held) in
     record (with_held_decision d held) { sending = if d.begins then Some (new_sending held.parameters) else None }
 
-abbrev pub held_tick : Bool → Held → AirTick
-held_tick busy held =
-    let now = held_begun busy held held.sending in
+abbrev pub held_tick : Bool → List Happening → Held → AirTick
+held_tick busy past held =
+    let now = held_begun busy past held held.sending in
     record {
       samples = held_samples now.sending now.waiting;
       began = is_none held.sending && is_some now.sending;
       sent = held_sent now.sending now.waiting;
     }
 
-abbrev pub after_held_tick : Bool → Held → Held
-after_held_tick busy held =
-    let now = held_begun busy held held.sending in
-    after_held_send now.sending now
+-- what happened in a tick
+abbrev pub held_happening : Bool → List Happening → Held → Happening
+held_happening busy past held =
+    let now = held_begun busy past held held.sending in
+    Ticked busy (is_none held.sending && is_some now.sending) (is_some now.sending)
+
+abbrev pub after_held_tick : Bool → List Happening → Held → Held
+after_held_tick busy past held =
+    let now = held_begun busy past held held.sending in
+    held_after (held_happening busy past held) past (after_held_send now.sending now)

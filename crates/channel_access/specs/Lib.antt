@@ -2,7 +2,10 @@ pub mod Parameters
 pub mod Waiting
 pub mod Words
 pub mod OnAir
+pub mod Happenings
+pub mod Turns
 pub mod Channel
+pub mod HeldTurns
 pub mod Held
 pub mod HeldTick
 pub mod StandsFor

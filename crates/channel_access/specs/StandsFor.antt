@@ -16,6 +16,7 @@ use Rattle.channel_access.specs.Waiting.{WaitingFrame}
 use Rattle.hdlc_framer.specs.FrameLength.{HasFrameLength}
 use Rattle.channel_access.specs.OnAir.{OnAir}
 use Rattle.channel_access.specs.Channel.{Channel}
+use Rattle.channel_access.specs.HeldTurns.{listening_of}
 use Rattle.channel_access.specs.Held.{Held, bits_in, frame_over, flag_bit, stage_over}
 
 -- bits with inserted zeros, after so many 1s
@@ -112,6 +113,7 @@ pub record StandsFor (held : Held) (channel : Channel) : Type 0 where
   pub parameters : held.parameters ≡ channel.parameters
   pub generator : held.generator ≡ channel.generator
   pub slot : held.slot ≡ channel.slot
+  pub listening : held.listening ≡ listening_of channel.past
   pub lengths : All (λ frame. HasFrameLength frame.octets) channel.waiting
   pub air : StandsForAir held.sending channel.waiting channel.air
 

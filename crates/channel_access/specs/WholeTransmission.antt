@@ -11,19 +11,23 @@ use Rattle.channel_access.specs.declared.parameters.Param.{Param}
 use Rattle.channel_access.specs.Parameters.{opening_flags, closing_flags}
 use Rattle.channel_access.specs.Waiting.{WaitingFrame}
 use Rattle.channel_access.specs.OnAir.{most_frames}
-use Rattle.channel_access.specs.Channel.{Channel, with_frame, with_setting, air_tick, after_tick}
+use Rattle.channel_access.specs.Channel.{Channel, with_frame, with_setting, with_heard, air_tick}
+use Rattle.channel_access.specs.Channel.{after_tick}
 
 -- ---- a run of calls
 
--- A frame joins the queue, a parameter is set, or a tick passes in which another station is heard or not.
+-- A frame joins the queue, a parameter is set, a frame was heard, which was an event of a link or not, or a tick passes
+-- in which another station is heard or not.
 pub data Call : Type 0 where
   Queues : Option ℕ → List ℕ → Call
   Sets : Param → Call
+  Hears : Bool → Call
   Ticks : Bool → Call
 
 abbrev pub after_call : Call → Channel → Channel
 after_call (Queues link octets) channel = with_frame link octets channel
 after_call (Sets param) channel = with_setting param channel
+after_call (Hears ours) channel = with_heard ours channel
 after_call (Ticks busy) channel = after_tick busy channel
 
 -- the channel after all of them
@@ -35,6 +39,7 @@ after_calls (call ∷ calls) channel = after_calls calls (after_call call channe
 abbrev pub tick_of_call : Call → Channel → List AirTick
 tick_of_call (Queues link octets) channel = []
 tick_of_call (Sets param) channel = []
+tick_of_call (Hears ours) channel = []
 tick_of_call (Ticks busy) channel = air_tick busy channel ∷ []
 
 -- the ticks of some calls, in order
@@ -46,6 +51,7 @@ ticks_of (call ∷ calls) channel = tick_of_call call channel ++ ticks_of calls 
 abbrev pub joins_in : Call → List WaitingFrame
 joins_in (Queues link octets) = (record { link = link; octets = octets }) ∷ []
 joins_in (Sets param) = []
+joins_in (Hears ours) = []
 joins_in (Ticks busy) = []
 
 abbrev pub joining : List Call → List WaitingFrame

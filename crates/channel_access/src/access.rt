@@ -29,8 +29,8 @@ impl Model for Access {
 }
 
 impl Access {
-    ghost use Rattle.channel_access.specs.Channel.{Channel, new_channel, with_frame, with_setting, air_tick};
-    ghost use Rattle.channel_access.specs.Channel.{after_tick, Takes};
+    ghost use Rattle.channel_access.specs.Channel.{Channel, new_channel, with_frame, with_setting, with_heard};
+    ghost use Rattle.channel_access.specs.Channel.{air_tick, after_tick, Takes};
     ghost use Rattle.channel_access.specs.StandsFor.{StandsFor, StandsForSome};
 
     /// No frame waits, and the parameters are the defaults: TXDELAY 50, P 63, slot time 10, TXtail 2, half duplex. The
@@ -68,6 +68,14 @@ impl Access {
         ensures { (channel : Channel) → StandsFor self.now channel → result ≡ channel.parameters }
     {
         self.transmitter.parameters()
+    }
+
+    /// A frame was heard; `ours` says whether it was an event of one of the station's links. Whoever was spoken to
+    /// answers without a slot, and without a draw if the channel had been quiet for a slot before.
+    pub fn heard(&mut self, ours: bool)
+        ensures { (channel : Channel) → StandsFor self.old channel → StandsFor self.new (with_heard ours channel) }
+    {
+        self.transmitter.hear(ours);
     }
 
     /// A tick of 10 ms; `busy` says whether another station is heard. At rest it decides whether a transmission

@@ -1,10 +1,14 @@
 //! What an access keeps: the queue, the rules by which a transmission begins, and the one under way.
-ghost use Rattle.std.specs.Prelude.{◌≡◌, ◌≤◌, ◌<◌, ◌↔◌, length, IfOk, IfErr, OnOk, IsErr, IsTrue};
+ghost use Rattle.std.specs.Prelude.{◌≡◌, ◌≤◌, ◌<◌, ◌↔◌, List, length, IfOk, IfErr, OnOk, IsErr, IsTrue};
+ghost use Rattle.channel_access.specs.HeldTurns.{listening_of};
+ghost use Rattle.channel_access.specs.Happenings.{Happening};
+ghost use Rattle.channel_access.specs.Happenings.Happening.{Heard};
 ghost use Rattle.channel_access.specs.Waiting.{IsWaiting};
 ghost use Rattle.channel_access.specs.Words.{draw, after_word};
 ghost use Rattle.hdlc_framer.specs.FrameLength.{HasFrameLength};
 
 use crate::air_tick::{AirTick, SAMPLES, Sent};
+use crate::listening::Listening;
 use crate::parameters::{Param, Parameters};
 use crate::queue::Queue;
 use crate::sending::Sending;
@@ -25,6 +29,7 @@ pub(crate) struct Transmitter {
     /// The ticks that are left of a slot.
     slot: u8,
     sending: Option<Sending>,
+    listening: Listening,
 }
 
 impl Model for Transmitter {
@@ -38,12 +43,13 @@ impl Model for Transmitter {
       generator = a.generator;
       slot = a.slot;
       sending = a.sending;
+      listening = a.listening;
     } };
 }
 
 impl Transmitter {
-    ghost use Rattle.channel_access.specs.Channel.{decision};
-    ghost use Rattle.channel_access.specs.Held.{new_held, held_with_frame, held_with_setting};
+    ghost use Rattle.channel_access.specs.Channel.{decision, slot_in};
+    ghost use Rattle.channel_access.specs.Held.{new_held, held_with_frame, held_with_setting, held_after};
     ghost use Rattle.channel_access.specs.HeldTick.{channel_of, with_held_decision, held_samples, held_sent};
     ghost use Rattle.channel_access.specs.HeldTick.{after_held_send, held_tick, after_held_tick};
 
@@ -57,6 +63,7 @@ impl Transmitter {
             generator: Lcg64Xsh32::new(seed, STREAM),
             slot: 0,
             sending: None,
+            listening: Listening::new(),
         })
     }
 
@@ -96,16 +103,28 @@ impl Transmitter {
         self.queue.len()
     }
 
+    /// A frame was heard, which was an event of a link or not.
+    pub(crate) fn hear(&mut self, ours: bool)
+        ensures { (past : List Happening) → self.old.listening ≡ listening_of past
+            → self.new ≡ held_after (Heard ours) past self.old }
+    {
+        self.listening.hear(ours);
+    }
+
     /// A tick, in which another station is heard or not.
     pub(crate) fn tick(&mut self, busy: bool) -> AirTick
-        ensures tick { result ≡ held_tick busy self.old }
-        ensures held { self.new ≡ after_held_tick busy self.old }
+        ensures tick { (past : List Happening) → self.old.listening ≡ listening_of past
+            → result ≡ held_tick busy past self.old }
+        ensures held { (past : List Happening) → self.old.listening ≡ listening_of past
+            → self.new ≡ after_held_tick busy past self.old }
     {
         let began = self.sending.is_none() && self.begins(busy);
         if began {
             self.sending = Some(Sending::new(&self.parameters));
         }
+        let own = self.sending.is_some();
         let (samples, sent) = self.send();
+        self.listening.tick(busy, began, own);
         AirTick {
             samples,
             began,
@@ -115,19 +134,24 @@ impl Transmitter {
 
     /// Whether a transmission begins with this tick, at rest.
     fn begins(&mut self, busy: bool) -> bool
-        ensures begins { result ≡ (decision busy (channel_of self.old)).begins }
-        ensures held { self.new ≡ with_held_decision (decision busy (channel_of self.old)) self.old }
+        ensures begins { (past : List Happening) → self.old.listening ≡ listening_of past
+            → result ≡ (decision busy (channel_of past self.old)).begins }
+        ensures held { (past : List Happening) → self.old.listening ≡ listening_of past
+            → self.new ≡ with_held_decision (decision busy (channel_of past self.old)) self.old }
     {
+        self.slot = self.slot_in(busy);
         if self.queue.len() == 0 {
-            self.slot = 0;
+            self.slot = self.slot.saturating_sub(1);
             return false;
         }
         if self.parameters.full_duplex {
             return true;
         }
         if busy {
-            self.slot = 0;
             return false;
+        }
+        if self.listening.is_its_turn(self.parameters.slot_time) {
+            return true;
         }
         if self.slot > 0 {
             self.slot -= 1;
@@ -138,6 +162,20 @@ impl Transmitter {
         }
         self.slot = self.parameters.slot_time;
         false
+    }
+
+    /// The slot that this tick begins with.
+    fn slot_in(&self, busy: bool) -> u8
+        ensures { (past : List Happening) → self.now.listening ≡ listening_of past
+            → result ≡ slot_in busy (channel_of past self.now) }
+    {
+        if busy || self.listening.was_quiet() {
+            return self.slot;
+        }
+        if self.listening.is_spoken_to() {
+            return 0;
+        }
+        self.parameters.slot_time
     }
 
     /// The low eight bits of the next word.

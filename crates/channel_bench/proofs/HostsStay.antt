@@ -47,6 +47,7 @@ same_hosts = record {
     drops = λ t. record { connections = refl; digi = refl };
   };
   registers = λ call id t. record { connections = refl; digi = refl };
+  told = λ ours t. record { connections = refl; digi = refl };
 }
 
 pub still_has : (before after : Turn) → SameHosts before after → HasHosts before.now → HasHosts after.now

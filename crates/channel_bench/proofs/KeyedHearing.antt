@@ -36,6 +36,7 @@ pub heard_keyed :
     → IsHeard octets t u → Keyed u.now
 heard_keyed octets t u digi owns from keyed h =
     let same = (only_shows h.path octets h.monitored t).now in
-    by_heard octets (shown_to_hosts h.path octets h.monitored t) (λ any. heard_steps any octets t u h) u
+    subst (λ (v : Turn). Keyed v.now) (sym h.told)
+    (by_heard octets (shown_to_hosts h.path octets h.monitored t) (λ any. heard_steps any octets t u h) h.between
     (ap (λ (s : StationState). s.digi) same ∙ digi) (subst (OwnsAll A) (sym same) owns) from
-    (subst Keyed (sym same) keyed) (heard_as octets t u h)
+    (subst Keyed (sym same) keyed) (heard_as octets t u h))

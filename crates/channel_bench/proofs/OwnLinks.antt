@@ -24,6 +24,7 @@ use Rattle.link_machine.specs.Event.Event.{Hear as LinkHear}
 use Rattle.link_machine.specs.Machine.{modulus_named}
 use Rattle.link_machine.specs.Sent.{frame_of}
 use Rattle.link_machine.specs.Step.{step as link_turn}
+use Rattle.station.specs.Heard.{telling_channel}
 use Rattle.station.specs.declared.registration.Registration.{Registration}
 use Rattle.station.specs.FrameSpelling.{path_octets}
 use Rattle.station.specs.Monitoring.{piece_for, to_monitors}
@@ -446,6 +447,19 @@ module _ (c : Cause) where
         dest = calls.1;
       })
 
+  told_says :
+      (e : End) (t u : Turn) (steps : List LinkStep) (ours : Bool) → Says e t steps u
+      → Says e t steps (telling_channel ours u)
+  told_says e t u steps ours h = record {
+    owns = record { links = h.owns.links; registered = h.owns.registered };
+    closed = h.closed;
+    pieces = h.pieces;
+    more = h.more;
+    queued = h.queued;
+    own = h.own;
+    causes = h.causes;
+  }
+
   pub heard_says :
       (e : End) (octets : List ℕ) (t u : Turn) → hearing ≡ c → t.now.digi ≡ None → OwnsAll e t.now
       → Each IsUnshown t.now.connections
@@ -453,7 +467,10 @@ module _ (c : Cause) where
   heard_says e octets t u by none owns unshown from h =
       let shown = shown_to_hosts h.path octets h.monitored t in
       let first = shown_says e h.path octets h.monitored t owns unshown in
-      says_on e t shown u [] (heard_steps (chosen e) octets t u h) first
-      (by_heard e octets shown (λ any. heard_steps any octets t u h) u by
+      let steps = heard_steps (chosen e) octets t u h in
+      subst (Says e t steps) (sym h.told)
+      (told_says e t h.between steps h.ours
+      (says_on e t shown h.between [] steps first
+      (by_heard e octets shown (λ any. heard_steps any octets t u h) h.between by
       (ap (λ (s : StationState). s.digi) (only_shows h.path octets h.monitored t).now ∙ none) first.owns from
-      (heard_as octets t u h))
+      (heard_as octets t u h))))

@@ -65,6 +65,7 @@ fed = record {
     drops = λ t. fed_none t _ refl refl refl;
   };
   registers = λ call id t. fed_none t _ refl refl refl;
+  told = λ ours t. fed_none t _ refl refl refl;
 }
 
 -- ---- a step

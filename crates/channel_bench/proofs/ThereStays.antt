@@ -44,6 +44,7 @@ same_connections = record {
     drops = λ t. record { connections = refl; closed = refl };
   };
   registers = λ call id t. record { connections = refl; closed = refl };
+  told = λ ours t. record { connections = refl; closed = refl };
 }
 
 -- what a step leaves of the connection of the program

@@ -15,6 +15,7 @@ use Rattle.link_machine.specs.Event.{Event as LinkEvent}
 use Rattle.link_machine.specs.Event.Event.{Connect as LinkConnect, Hear as LinkHear}
 use Rattle.link_machine.specs.Step.{step as link_turn}
 use Rattle.station.specs.FrameSpelling.{frame_octets}
+use Rattle.station.specs.Heard.{telling_channel}
 use Rattle.station.specs.HostMessages.{raw_message}
 use Rattle.station.specs.Links.{with_new_link}
 use Rattle.station.specs.Turn.{with_piece}
@@ -73,10 +74,11 @@ module _ (R : Turn → Turn → Type 0) (k : KeptByActs R) where
       go None = k.same t
       go (Some link) = link_kept key event link t
 
--- what is also kept by a registration
+-- what is also kept by a registration, and by what the channel is told of a heard frame
 pub record KeptByTurns (R : Turn → Turn → Type 0) : Type 0 where
   pub acts : KeptByActs R
   pub registers : (call : Callsign) (id : ℕ) (t : Turn) → R t (changing (with_registration call id) t)
+  pub told : (ours : Bool) (t : Turn) → R t (telling_channel ours t)
 
 module _ (R : Turn → Turn → Type 0) (k : KeptByTurns R) where
   -- a link that is made, and its first event
@@ -174,8 +176,11 @@ module _ (R : Turn → Turn → Type 0) (k : KeptByTurns R) where
       let raw = showing (source_field h.path) (destination_field h.path) octets before in
       let shown = shown_to_hosts h.path octets h.monitored before in
       let shows = only_shows h.path octets h.monitored before in
-      k.acts.on before shown after
+      subst (R before) (sym h.told)
+      (k.acts.on before h.between (telling_channel h.ours h.between)
+      (k.acts.on before shown h.between
       (k.acts.on before raw shown (shown_kept (source_field h.path) (destination_field h.path) octets before)
       (k.acts.tells raw shown.out.pieces))
-      (heard_by octets shown (λ chosen. heard_steps chosen octets before after h) after
-      (ap (λ (s : StationState). s.digi) shows.now ∙ none) (heard_as octets before after h))
+      (heard_by octets shown (λ chosen. heard_steps chosen octets before after h) h.between
+      (ap (λ (s : StationState). s.digi) shows.now ∙ none) (heard_as octets before after h)))
+      (k.told h.ours h.between))

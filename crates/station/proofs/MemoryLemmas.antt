@@ -19,3 +19,8 @@ pub took_on : {A E : Type 0} (P : Type 0) (answer : Result A E) (result : Result
     → IfOk result (λ value. answer ≡ Ok value) → OnOk answer P → OnOk result P
 took_on P answer (Ok value) is h = on_took P answer value is h
 took_on P answer (Err fault) is h = tt
+
+pub if_ok_weaker : {A E : Type 0} (P Q : A → Type 0) (answer : Result A E) → ((x : A) → P x → Q x) → IfOk answer P
+    → IfOk answer Q
+if_ok_weaker P Q (Ok x) weaker h = weaker x h
+if_ok_weaker P Q (Err e) weaker h = h

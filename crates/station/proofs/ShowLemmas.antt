@@ -6,7 +6,7 @@ use Rattle.agwpe_port.specs.CallField.{call_field}
 use Rattle.station.specs.declared.connection.Connection.{Connection as HeldConnection}
 use Rattle.station.specs.declared.connection.Reader.{Reader}
 use Rattle.station.specs.declared.connection.Reader.TheVariants.{KissReader, AgwReader}
-use Rattle.station.specs.Heard.{with_shown}
+use Rattle.station.specs.Heard.{with_shown, source_field, destination_field}
 use Rattle.station.specs.HeldConnections.{kind_of}
 use Rattle.station.specs.Monitored.{heard_modulus}
 
@@ -40,6 +40,10 @@ shown_to_each from to octets (connection ∷ connections) turn =
 -- what is shown changes no station
 pub same_station : (from to octets : List ℕ) (turn : Turn) → (showing from to octets turn).now ≡ turn.now
 same_station from to octets turn = shown_to_each from to octets turn.now.connections turn
+
+pub hosts_shown : (path : Option Path) (octets : List ℕ) (frame : Option Frame) (turn : Turn)
+    → (shown_to_hosts path octets frame turn).now ≡ turn.now
+hosts_shown path octets frame turn = same_station (source_field path) (destination_field path) octets turn
 
 -- a frame of a path that is shown raw, and then to those that monitor, is shown to hosts
 pub shown_along : (parts : Parts) (raw all : Out) (path : Path) (from to octets : List ℕ) (turn : Turn)

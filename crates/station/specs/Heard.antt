@@ -1,7 +1,7 @@
 -- What a station does with a frame that it hears (AX.25 2.2 sections 3.12 and 6.3): hosts are shown it, it is repeated
--- if it waits for a repeater, and else it is an event of the link of its two calls.
+-- if it waits for a repeater, and else it is an event of the link of its two calls. The channel is told whether it is one.
 use Rattle.std.specs.Prelude.{◌≡◌, ℕ, nat_lt, Bool, true, false, not, ◌&&◌, ◌⊎◌, if◌then◌else◌, List, [], ◌∷◌, ◌++◌}
-use Rattle.std.specs.Prelude.{map, Option, Some, None, MatchBool}
+use Rattle.std.specs.Prelude.{map, is_some, Option, Some, None, MatchBool}
 use Rattle.std.specs.List.{list_any}
 use Rattle.ax25_address.specs.Callsign.{Callsign}
 use Rattle.ax25_address.specs.FramePath.{BeginsWithPath, way_back}
@@ -15,6 +15,7 @@ use Rattle.ax25_frames.specs.declared.frame.U.TheVariants.{Sabm, Sabme, Disc, Dm
 use Rattle.ax25_frames.specs.declared.frame.Modulus.{Modulus}
 use Rattle.ax25_frames.specs.declared.frame.Modulus.TheVariants.{Eight}
 use Rattle.ax25_frames.specs.FrameOctets.{IsFrame}
+use Rattle.channel_access.specs.Channel.{with_heard}
 use Rattle.digipeater.specs.Repeated.{IsTurnOf, repeated}
 use Rattle.kiss_port.specs.Escapes.{fend, spelled}
 use Rattle.agwpe_port.specs.CallField.{call_field}
@@ -25,12 +26,13 @@ use Rattle.station.specs.declared.host_event.PortKind.TheVariants.{Kiss, Agw}
 use Rattle.station.specs.Connections.{Connection}
 use Rattle.station.specs.HostMessages.{raw_message, no_call}
 use Rattle.station.specs.LinkEvents.{event_at}
-use Rattle.station.specs.Links.{Link, Links, IsNewKey, most_links, link_at, link_modulus, key_between, count_of_links}
-use Rattle.station.specs.Monitored.{heard_modulus}
+use Rattle.station.specs.Links.{Links, IsNewKey, most_links, link_at, link_modulus, key_between, count_of_links}
+use Rattle.station.specs.Monitored.{heard_modulus, modulus_at}
 use Rattle.station.specs.Monitoring.{monitoring}
 use Rattle.station.specs.NewLinks.{making, no_layer_3}
 use Rattle.station.specs.Registrations.{registrar}
-use Rattle.station.specs.Turn.{Out, Turn, Act, nothing, in_order, with_piece, queueing}
+use Rattle.station.specs.State.{StationState}
+use Rattle.station.specs.Turn.{Out, Turn, Act, nothing, in_order, changing, with_piece, queueing}
 
 -- ---- shown to hosts
 
@@ -135,6 +137,33 @@ abbrev pub AreOctetsHeard : Path → List ℕ → Turn → Turn → Type 0
 AreOctetsHeard path octets before after =
     AreHeardAt (key_between path.dest path.source before.now.links) octets before after
 
+-- ---- told to the channel
+
+-- a frame is an event of the link of a key, or of the one that is made for it
+abbrev pub finds_link : Option ℕ → Frame → StationState → Bool
+finds_link (Some key) frame s = true
+finds_link None frame s = is_some (registrar frame.path.dest s.registrations) && may_make frame.kind s.links
+
+-- what cannot be read is none
+abbrev pub is_link_event : Option ℕ → Option Frame → StationState → Bool
+is_link_event key None s = false
+is_link_event key (Some frame) s = finds_link key frame s
+
+-- whether octets that wait for no repeater are an event of a link
+abbrev pub IsForLink : Option ℕ → List ℕ → StationState → Bool → Type 0
+IsForLink key octets s ours =
+    (reading : Option Frame) × IsReadAs (modulus_at key s.links) octets reading × (ours ≡ is_link_event key reading s)
+
+-- whether a heard frame is an event of a link
+abbrev pub IsOurs : Option Path → List ℕ → StationState → Bool → Type 0
+IsOurs None octets s ours = ours ≡ false
+IsOurs (Some path) octets s ours =
+    MatchBool (waits_for_repeater path) (ours ≡ false)
+    (IsForLink (key_between path.dest path.source s.links) octets s ours)
+
+abbrev pub telling_channel : Bool → Act
+telling_channel ours = changing (λ s. record s { channel = with_heard ours s.channel })
+
 -- ---- each frame
 
 -- the path that the octets begin with, or none
@@ -160,4 +189,9 @@ pub record IsHeard (octets : List ℕ) (before after : Turn) : Type 0 where
   -- the frame that hosts which monitor are shown
   pub monitored : Option Frame
   pub read_as : IsReadAs (heard_modulus path before.now.links) octets monitored
-  pub effect : IsHeardBy path octets (shown_to_hosts path octets monitored before) after
+  pub between : Turn
+  pub effect : IsHeardBy path octets (shown_to_hosts path octets monitored before) between
+  -- whether it is an event of a link, which the channel is told last
+  pub ours : Bool
+  pub is_ours : IsOurs path octets before.now ours
+  pub told : after ≡ telling_channel ours between

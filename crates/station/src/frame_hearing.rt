@@ -8,12 +8,14 @@ ghost use Rattle.ax25_frames.specs.FrameOctets.{control_of};
 ghost use Rattle.ax25_frames.specs.declared.frame.Modulus.TheVariants.{Eight};
 ghost use Rattle.hdlc_framer.specs.FrameLength.{HasFrameLength};
 ghost use Rattle.station.specs.Heard.{IsReadAs, IsHeard, IsRepeatedFor, AreOctetsHeard, AreHeardAt, IsHeardAnew};
+ghost use Rattle.station.specs.Heard.{IsForLink, finds_link, telling_channel};
 ghost use Rattle.station.specs.Heard.{waits_for_repeater, makes_link, is_command_to_set_up};
+ghost use Rattle.station.specs.Links.{key_between};
 ghost use Rattle.station.specs.Held.{ids_in};
 ghost use Rattle.station.specs.Registrations.{registrar};
 ghost use Rattle.station.specs.HeldFrames.{IsUnread};
 ghost use Rattle.station.specs.StandsFor.{Shows};
-ghost use Rattle.station.specs.Turn.{Turn};
+ghost use Rattle.station.specs.Turn.{Out, Turn};
 
 use crate::host_out::HostOut;
 use crate::link_event::LinkEvent;
@@ -42,7 +44,11 @@ impl Parts {
     {
         match read_path(octets) {
             Ok((path, _)) => self.hear_along(memory, out, &path, octets),
-            Err(_) => self.show(memory, out, [0; 10], [0; 10], octets),
+            Err(_) => {
+                self.show(memory, out, [0; 10], [0; 10], octets)?;
+                self.tell_channel(false);
+                Ok(())
+            }
         }
     }
 
@@ -69,10 +75,22 @@ impl Parts {
         )?;
         self.monitor_heard(memory, out, path, octets)?;
         if waits_for_repeater(path) {
-            self.repeat(memory, out, octets)
-        } else {
-            self.hear_octets(memory, out, path, octets)
+            self.repeat(memory, out, octets)?;
+            self.tell_channel(false);
+            return Ok(());
         }
+        let ours = self.hear_octets(memory, out, path, octets)?;
+        self.tell_channel(ours);
+        Ok(())
+    }
+
+    /// Tells the channel that a frame was heard, and whether it was an event of a link.
+    fn tell_channel(&mut self, ours: bool)
+        ensures shows { (out : Out) (turn : Turn) → Shows self.old out turn
+            → Shows self.new out (telling_channel ours turn) }
+        ensures ids { ids_in self.new ≡ ids_in self.old }
+    {
+        self.channel.heard(ours);
     }
 
     /// Queues a frame as the station repeats it, if it is the station's turn.
@@ -99,16 +117,19 @@ impl Parts {
         self.queue(memory, out, None, repeated)
     }
 
-    /// Hands a frame on this path, which waits for no repeater, to the link of its calls.
+    /// Hands a frame on this path, which waits for no repeater, to the link of its calls. Tells whether it was an event
+    /// of one.
     fn hear_octets(
         &mut self,
         memory: &mut Memory,
         out: &mut HostOut,
         path: &Path,
         octets: &[u8],
-    ) -> Result<(), OutOfMemory>
+    ) -> Result<bool, OutOfMemory>
         ensures heard { (turn : Turn) → Shows self.old out.old turn → OnOk result ((behind : Turn)
             × AreOctetsHeard path.now octets.now turn behind × Shows self.new out.new behind) }
+        ensures ours { (turn : Turn) → Shows self.old out.old turn → IfOk result
+            (IsForLink (key_between path.now.dest path.now.source turn.now.links) octets.now turn.now) }
         ensures ids { OnOk result (ids_in self.new ≡ ids_in self.old) }
         ensures wanted { OnErr result (memory.new.refused ≡ true) }
     {
@@ -118,68 +139,78 @@ impl Parts {
         }
     }
 
-    /// Hands a frame to the link of a key, which tells the modulus.
+    /// Hands a frame to the link of a key, which tells the modulus. Tells whether the frame can be read.
     fn hear_at(
         &mut self,
         memory: &mut Memory,
         out: &mut HostOut,
         key: u32,
         octets: &[u8],
-    ) -> Result<(), OutOfMemory>
+    ) -> Result<bool, OutOfMemory>
         ensures heard { (turn : Turn) → Shows self.old out.old turn → OnOk result ((behind : Turn)
             × AreHeardAt (Some key) octets.now turn behind × Shows self.new out.new behind) }
+        ensures ours { (turn : Turn) → Shows self.old out.old turn
+            → IfOk result (IsForLink (Some key) octets.now turn.now) }
         ensures ids { OnOk result (ids_in self.new ≡ ids_in self.old) }
         ensures wanted { OnErr result (memory.new.refused ≡ true) }
     {
         let modulus = self.links.modulus(key);
         match frame_in(memory, octets, modulus)? {
-            Some(frame) => self.link_event(memory, out, key, LinkEvent::Hear(frame)),
-            None => Ok(()),
+            Some(frame) => {
+                self.link_event(memory, out, key, LinkEvent::Hear(frame))?;
+                Ok(true)
+            }
+            None => Ok(false),
         }
     }
 
-    /// Hands a frame whose calls have no link to one that is made for it.
+    /// Hands a frame whose calls have no link to one that is made for it. Tells whether one is.
     fn hear_unlinked(
         &mut self,
         memory: &mut Memory,
         out: &mut HostOut,
         octets: &[u8],
-    ) -> Result<(), OutOfMemory>
+    ) -> Result<bool, OutOfMemory>
         ensures heard { (turn : Turn) → Shows self.old out.old turn → OnOk result ((behind : Turn)
             × AreHeardAt None octets.now turn behind × Shows self.new out.new behind) }
+        ensures ours { (turn : Turn) → Shows self.old out.old turn
+            → IfOk result (IsForLink None octets.now turn.now) }
         ensures ids { OnOk result (ids_in self.new ≡ ids_in self.old) }
         ensures wanted { OnErr result (memory.new.refused ≡ true) }
     {
         match frame_in(memory, octets, Modulus::Eight)? {
             Some(frame) => self.hear_anew(memory, out, frame),
-            None => Ok(()),
+            None => Ok(false),
         }
     }
 
-    /// Hands a frame to a link that is made for it, if its destination is registered.
+    /// Hands a frame to a link that is made for it, if its destination is registered. Tells whether one is.
     fn hear_anew(
         &mut self,
         memory: &mut Memory,
         out: &mut HostOut,
         frame: Frame,
-    ) -> Result<(), OutOfMemory>
+    ) -> Result<bool, OutOfMemory>
         requires { IsNumbered Eight (control_of frame.kind) }
         ensures heard { (turn : Turn) → Shows self.old out.old turn → OnOk result ((behind : Turn)
             × IsHeardAnew (registrar frame.path.dest turn.now.registrations) frame turn behind
             × Shows self.new out.new behind) }
+        ensures ours { (turn : Turn) → Shows self.old out.old turn
+            → IfOk result (λ ours. ours ≡ finds_link None frame turn.now) }
         ensures ids { OnOk result (ids_in self.new ≡ ids_in self.old) }
         ensures wanted { OnErr result (memory.new.refused ≡ true) }
     {
         let (dest, source) = ends_of(&frame);
         let Some(id) = self.registrar(&dest) else {
-            return Ok(());
+            return Ok(false);
         };
         if !self.may_make(&frame) {
-            return Ok(());
+            return Ok(false);
         }
         let back = back_from(&frame);
         let key = self.make_link(memory, id, NO_LAYER_3, dest, source, back)?;
-        self.link_event(memory, out, key, LinkEvent::Hear(frame))
+        self.link_event(memory, out, key, LinkEvent::Hear(frame))?;
+        Ok(true)
     }
 
     /// Whether a link is made for a frame.

@@ -125,7 +125,7 @@ turn_asks chosen (FromHost event) before after turn none =
     host_kept chosen OfNone Asks (asks_kept chosen) event before after (host_asks event before.now none) turn
 turn_asks chosen (OffAir octets) before after turn none =
     heard_asks chosen octets (shown_to_hosts turn.path octets turn.monitored before)
-    (λ any. heard_steps any octets before after turn) after (heard_as octets before after turn)
+    (λ any. heard_steps any octets before after turn) turn.between (heard_as octets before after turn)
 turn_asks chosen (OfClock busy) before after turn none =
     ticks_kept chosen OfNone Asks (asks_kept chosen).kept.by_events tt before
 

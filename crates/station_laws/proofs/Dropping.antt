@@ -195,8 +195,8 @@ turn_joins chosen (FromHost event) before after turn =
     host_kept chosen NotHeard Joins (joins_kept chosen) event before after (any_may_come event before.now) turn
 turn_joins chosen (OffAir octets) before after turn = λ nothing_lost.
     let shown = shown_to_hosts turn.path octets turn.monitored before in
-    let done = heard_joins chosen octets shown (λ any. heard_steps any octets before after turn) after
-    (heard_as octets before after turn) nothing_lost in
+    let done = heard_joins chosen octets shown (λ any. heard_steps any octets before after turn) turn.between
+    (heard_as octets before after turn) (ap (λ (t : Turn). t.now.dropped) (sym turn.told) ∙ nothing_lost) in
     record {
       before = sym (ap (λ (s : StationState). s.dropped) (only_shows turn.path octets turn.monitored before).now)
           ∙ done.before;

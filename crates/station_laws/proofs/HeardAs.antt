@@ -136,5 +136,6 @@ by_path_heard octets (Some path) t u is h = path_heard octets path is.0 (waits_f
 
 pub heard_as :
     (octets : List ℕ) (t u : Turn) (h : IsHeard octets t u)
-    → Heard octets (shown_to_hosts h.path octets h.monitored t) (λ chosen. heard_steps chosen octets t u h) u
-heard_as octets t u h = by_path_heard octets h.path (shown_to_hosts h.path octets h.monitored t) u h.reading h.effect
+    → Heard octets (shown_to_hosts h.path octets h.monitored t) (λ chosen. heard_steps chosen octets t u h) h.between
+heard_as octets t u h =
+    by_path_heard octets h.path (shown_to_hosts h.path octets h.monitored t) h.between h.reading h.effect

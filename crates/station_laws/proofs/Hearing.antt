@@ -1,7 +1,7 @@
 -- A frame that is heard keeps what holds of a link between two calls: as an event of that link it is the frame in front
 -- of those in flight, and as an event of another it is not among them.
-use Rattle.station_laws.proofs.Common.{◌≡◌, ℕ, ◌<◌, Bool, true, false, List, [], ◌∷◌, length, drop, arith, cond, Option}
-use Rattle.station_laws.proofs.Common.{Some, None, is_some, refl, sym, ap, ◌∙◌, subst, inl, All, is_none}
+use Rattle.station_laws.proofs.Common.{◌≡◌, ℕ, ◌<◌, Bool, true, false, List, [], ◌∷◌, ◌++◌, length, drop, arith, cond}
+use Rattle.station_laws.proofs.Common.{Option, Some, None, is_some, refl, sym, ap, ◌∙◌, subst, inl, All, is_none}
 use Rattle.station_laws.proofs.Common.{get_or-set_same, Callsign, BeginsWithPath, way_back, Path, Command}
 use Rattle.station_laws.proofs.Common.{BeginsWithPath-same, Frame, Eight, IsFrame, Machine, new_machine, modulus_named}
 use Rattle.station_laws.proofs.Common.{step, End, near_made, near_kept, Tagged, asks, World, near_turn, read_in}
@@ -13,11 +13,12 @@ use Rattle.station_laws.proofs.Common.{StationState, Choice, IsNewKey}
 use Rattle.std.specs.Prelude.{map}
 use Rattle.link_machine.specs.Event.{Event as LinkEvent}
 use Rattle.link_machine.specs.Event.Event.{Hear as LinkHear}
+use Rattle.station.specs.Heard.{telling_channel}
 use Rattle.station.specs.Links.{link_modulus}
 use Rattle.station_laws.proofs.Acts.{Setting, Holds, marks_of, still_holds, own_machine, own_heard, heard_told}
 use Rattle.station_laws.proofs.Acts.{heard_asking, heard_next, FrontRead, is_asking, asks_when_sent, other_event}
 use Rattle.station_laws.proofs.Addresses.{heard_again}
-use Rattle.station_laws.proofs.Along.{Kept, makes_near}
+use Rattle.station_laws.proofs.Along.{Kept, makes_near, near_all}
 use Rattle.station_laws.proofs.Events.{meant, MayMake, made_own, made_another}
 use Rattle.station_laws.proofs.Controls.{ask_heard}
 use Rattle.station_laws.proofs.Messages.{IsStill, still, still_both, raw_still}
@@ -268,6 +269,18 @@ after_showing s e octets before shown after own any h (Event goes some) =
     Event (λ w back stays pop H. goes w back stays pop
     (still_holds s back before shown w H h.links h.parameters h.queued)) some
 
+-- nor is what the channel is told
+after_telling :
+    (s : Setting) (e : End) (octets : List ℕ) (before between : Turn) (own any : List LinkStep) (ours : Bool)
+    → Outcome s e octets before between own any → Outcome s e octets before (telling_channel ours between) own any
+after_telling s e octets before between own any ours (Passed calm none none_any) =
+    Passed (record { links = calm.links; parameters = calm.parameters; queued = calm.queued }) none none_any
+after_telling s e octets before between own any ours (Event goes some) =
+    Event (λ w back stays pop H.
+    let kept = goes w back stays pop H in
+    let then = near_all e (s.done ++ s.rest) (length s.earlier) own w in
+    (still_holds s stays between (telling_channel ours between) then kept.0 refl refl refl, kept.1)) some
+
 pub heard_outcome :
     (s : Setting) (e : End) (octets : List ℕ) (before after : Turn) → All (λ octet. octet < 256) octets
     → before.now.parameters ≡ s.params → length before.now.links.places ≡ most_links → (h : IsHeard octets before after)
@@ -281,7 +294,11 @@ heard_outcome s e octets before after low params size h =
       parameters = ap (λ (state : StationState). state.parameters) shows.now;
       queued = shows.queued;
     } in
-    after_showing s e octets before shown after (heard_steps (meant s) octets before after h)
-    (heard_steps is_some octets before after h) calm
-    (outcome_of s e octets shown (λ chosen. heard_steps chosen octets before after h) after low
-    (calm.parameters ∙ params) (ap (λ (l : Links). length l.places) calm.links ∙ size) (heard_as octets before after h))
+    let own = heard_steps (meant s) octets before after h in
+    let any = heard_steps is_some octets before after h in
+    subst (λ (t : Turn). Outcome s e octets before t own any) (sym h.told)
+    (after_telling s e octets before h.between own any h.ours
+    (after_showing s e octets before shown h.between own any calm
+    (outcome_of s e octets shown (λ chosen. heard_steps chosen octets before after h) h.between low
+    (calm.parameters ∙ params) (ap (λ (l : Links). length l.places) calm.links ∙ size)
+    (heard_as octets before after h))))

@@ -44,7 +44,7 @@ alike_turn :
 alike_turn (FromHost event) before after turn octets off some = absurd off
 alike_turn (OffAir heard) before after turn octets off some =
     subst (λ o. AreAlikeButForH o o) off
-    (alike_by turn.path heard (shown_to_hosts turn.path heard turn.monitored before) after turn.reading
+    (alike_by turn.path heard (shown_to_hosts turn.path heard turn.monitored before) turn.between turn.reading
     turn.effect some)
 alike_turn (OfClock busy) before after turn octets off some = absurd off
 

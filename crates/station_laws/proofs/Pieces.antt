@@ -240,11 +240,12 @@ turn_tells id (OffAir octets) before after turn agw =
     let from = source_field turn.path in
     let to = destination_field turn.path in
     let shown = shown_to_hosts turn.path octets turn.monitored before in
-    heard_tells id octets shown (λ chosen. heard_steps chosen octets before after turn) after
+    subst (Tells id before (heard_steps is_some octets before after turn)) (sym turn.told)
+    (heard_tells id octets shown (λ chosen. heard_steps chosen octets before after turn) turn.between
     (heard_as octets before after turn)
     ∙ ap (λ ps. ps ++ flat_map (told_by id) (heard_steps is_some octets before after turn))
     (monitors_told id false before.now.ticks turn.monitored (showing from to octets before)
-    ∙ shown_to id from to octets before.now.connections before agw)
+    ∙ shown_to id from to octets before.now.connections before agw))
 turn_tells id (OfClock busy) before after turn agw =
     subst (Tells id before (tick_steps is_some before)) (sym turn.effect)
     (monitors_told id true (ticking_links before).now.ticks turn.monitored (ticking_links before)

@@ -238,7 +238,7 @@ by_path_steps chosen (Some path) octets before after h =
 abbrev pub heard_steps :
     Choice → (octets : List ℕ) → (before after : Turn) → IsHeard octets before after → List LinkStep
 heard_steps chosen octets before after h =
-    by_path_steps chosen h.path octets (shown_to_hosts h.path octets h.monitored before) after h.effect
+    by_path_steps chosen h.path octets (shown_to_hosts h.path octets h.monitored before) h.between h.effect
 
 -- ---- each step
 

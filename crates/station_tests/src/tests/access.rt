@@ -87,7 +87,7 @@ fn the_257th_frame_is_handed_back(rt: HostRuntime) -> Result<(), Fail> {
 }
 
 /// Each row: the seed, the persistence, the slot time, the busy tick, and the tick that begins. The draws of seed 1 are
-/// 145, 116, 87, 211, 86, 121 and 38, of seed 2 102 and 40, of seed 8 56.
+/// 145, 116, 87, 211, 86, 121 and 38, of seed 2 102 and 40, of seed 8 56. After the busy tick a slot passes first.
 const DRAWS: &[(u64, u8, u8, u32, u32)] = &[
     (8, 63, 2, 0, 1),
     (8, 56, 2, 0, 1),
@@ -95,8 +95,8 @@ const DRAWS: &[(u64, u8, u8, u32, u32)] = &[
     (2, 102, 2, 0, 1),
     (2, 101, 2, 0, 4),
     (2, 63, 0, 0, 2),
-    (2, 63, 2, 2, 3),
-    (8, 63, 2, 1, 2),
+    (2, 63, 2, 2, 5),
+    (8, 63, 2, 1, 4),
     (1, 63, 1, 0, 13),
 ];
 
@@ -110,6 +110,54 @@ fn a_draw_begins_in_a_free_slot(rt: HostRuntime) -> Result<(), Fail> {
             let began = access.tick(tick == *busy).began;
             assert_equal(&rt, &(*seed, tick, began), &(*seed, tick, tick == *begins));
         }
+    }
+    Ok(())
+}
+
+/// Each row: what comes to pass, and the tick that begins the last transmission. `.` is a free tick, `b` a busy one, `o`
+/// a frame for a link of the station that is heard, `x` one for somebody else, and `q` a frame that joins the queue.
+/// The slot time is 2, and of the draws of seed 2 the first, 102, is above P and the second, 40, is not.
+const TURNS: &[(&str, u32)] = &[
+    ("..bbobbq.", 7),
+    ("..bbobb....q.", 11),
+    (".bbobbq....", 9),
+    ("..bbxbbq......", 12),
+    ("..bboxbbq......", 12),
+    ("..bbobb.b...q....", 15),
+    ("..bbobbq..............q......", 26),
+];
+
+/// The last tick in which a transmission begins.
+fn last_begin(alloc: Global, access: &mut Access, script: &str) -> Result<u32, Fail> {
+    let mut tick = 0_u32;
+    let mut last = 0_u32;
+    for step in script.as_bytes() {
+        match *step {
+            b'q' => {
+                let _ = access.queue(None, shortest(alloc)?);
+            }
+            b'o' => access.heard(true),
+            b'x' => access.heard(false),
+            free_or_busy => {
+                tick = tick.saturating_add(1);
+                if access.tick(free_or_busy == b'b').began {
+                    last = tick;
+                }
+            }
+        }
+    }
+    Ok(last)
+}
+
+#[test]
+fn who_was_spoken_to_has_the_turn(rt: HostRuntime) -> Result<(), Fail> {
+    for (script, begins) in TURNS {
+        let mut access = access(rt.alloc(), 2, 0)?;
+        for param in [Param::TxDelay(0), Param::TxTail(0), Param::SlotTime(2)] {
+            access.set(param);
+        }
+        let last = last_begin(rt.alloc(), &mut access, script)?;
+        assert_equal(&rt, &(*script, last), &(*script, *begins));
     }
     Ok(())
 }

@@ -1,23 +1,28 @@
-use Rattle.station.proofs.Common.{◌≡◌, None, refl, on_ok_weaker, showing, shown_to_hosts}
-use Rattle.station.specs.Heard.{IsPathOf}
+use Rattle.station.proofs.Common.{false, None, refl, showing, shown_to_hosts}
+use Rattle.station.specs.Heard.{IsPathOf, telling_channel}
 use Rattle.station.specs.HostMessages.{no_call}
 use Rattle.station.proofs.MonitorLemmas.{shows_nothing}
 use Rattle.station.proofs.parts.Parts.hear.Goals as goal
 
 -- what has no path is shown, and is no frame
-pub returns-in-Err-clause-heard : goal.returns-in-Err-clause-heard
-returns-in-Err-clause-heard c = λ turn shows.
+pub returns-in_ok-show-in-Err-clause-heard : goal.returns-in_ok-show-in-Err-clause-heard
+returns-in_ok-show-in-Err-clause-heard c = λ turn shows.
     let octets = c.args.octets.now in
     let none : IsPathOf octets None = λ path len begins.
     absurd (let read = c.in-Err.ensures.each_path path len begins in cc) in
-    on_ok_weaker c.show.result (λ shown. (
-      shown_to_hosts None octets None turn,
+    let shown = shows_nothing c.args.self.now c.show.new.out (showing no_call no_call octets turn)
+    (c.in_ok-show-in-Err.ensures.shows turn shows) in (
+      telling_channel false (shown_to_hosts None octets None turn),
       record {
         path = None;
         reading = none;
         monitored = None;
         read_as = λ frame is. none frame.path is.len is.path;
+        between = shown_to_hosts None octets None turn;
         effect = refl;
+        ours = false;
+        is_ours = refl;
+        told = refl;
       },
-      shows_nothing c.args.self.now c.show.new.out (showing no_call no_call octets turn) shown,
-    )) (c.show.ensures.shows turn shows)
+      c.tell_channel.ensures.shows c.show.new.out (shown_to_hosts None octets None turn) shown,
+    )

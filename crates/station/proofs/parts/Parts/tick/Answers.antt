@@ -1,4 +1,4 @@
-use Rattle.station.proofs.Common.{◌≡◌, Option, ◌∙◌, ap, subst, Sent, Parts, StationState, Shows, IsSentFrame}
+use Rattle.station.proofs.Common.{◌≡◌, Option, ◌∙◌, ap, subst, Sent, Parts, Shows, IsSentFrame}
 use Rattle.station.proofs.Common.{ticking_links, Turn, changing}
 use Rattle.std.proofs.Common.{refl}
 use Rattle.channel_access.specs.Channel.{after_tick}
@@ -52,3 +52,8 @@ returns-clause-step c = λ turn shows.
         gave = p.2.gave;
       },
     )
+
+pub returns-clause-air : goal.returns-clause-air
+returns-clause-air c = λ turn shows.
+    c.tick-air.ensures.tick (ticking_links turn).now.channel
+    (c.in_ok-tick_links.ensures.shows turn shows).holds.channel
