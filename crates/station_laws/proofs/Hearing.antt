@@ -1,6 +1,6 @@
 -- A frame that is heard keeps what holds of a link between two calls: as an event of that link it is the frame in front
 -- of those in flight, and as an event of another it is not among them.
-use Rattle.station_laws.proofs.Common.{◌≡◌, ℕ, ◌<◌, Bool, true, false, List, [], ◌∷◌, length, drop, arith, cond, Option}
+use Rattle.station_laws.proofs.Common.{◌≡◌, ℕ, ◌<◌, Bool, true, false, List, [], ◌∷◌, ◌++◌, length, drop, arith, cond, Option}
 use Rattle.station_laws.proofs.Common.{Some, None, is_some, refl, sym, ap, ◌∙◌, subst, inl, inr, All, MatchBool}
 use Rattle.station_laws.proofs.Common.{is_none, get_or-set_same, Callsign, BeginsWithPath, way_back, Path, Command}
 use Rattle.station_laws.proofs.Common.{BeginsWithPath-same, Frame, Eight, IsFrame, Machine, new_machine, modulus_named}
