@@ -16,6 +16,7 @@ use Rattle.link_machine.specs.Event.Event.{Connect as LinkConnect, Hear as LinkH
 use Rattle.link_machine.specs.Step.{step as link_turn}
 use Rattle.link_world.specs.declared.event.Event.TheVariants.{Connect, Disconnect, Hear}
 use Rattle.link_world.specs.SetUps.{opened}
+use Rattle.station.specs.Heard.{telling_channel}
 use Rattle.station.specs.Turn.{begin}
 use Rattle.station_laws.specs.LinkOfCalls.{world_of}
 
@@ -223,7 +224,8 @@ b_hears_sabm =
     let before = b_registers.after.now in
     let made = making 0 1 no_layer_3 bbbb aaaa (way_back command_path Command)
     (shown command_path sabm sabm_frame before) in
-    let after = event_at 0 (LinkHear sabm_frame) made in record {
+    let between = event_at 0 (LinkHear sabm_frame) made in
+    let after = telling_channel true between in record {
       station = B;
       input = OffAir sabm;
       before = before;
@@ -234,6 +236,10 @@ b_hears_sabm =
         monitored = Some sabm_frame;
         read_as = sabm_is;
         effect = (Some sabm_frame, sabm_is, (0, record { within = omega arith; vacant = refl; freed = tt }, refl));
+        between = between;
+        ours = true;
+        is_ours = (Some sabm_frame, sabm_is, refl);
+        told = refl;
       };
       octets = low sabm refl;
     }
@@ -242,7 +248,8 @@ abbrev pub a_hears_ua : Step
 unfolding reading call_of_text link_turn
 a_hears_ua =
     let before = a_calls.after.now in
-    let after = event_at 0 (LinkHear ua_frame) (shown response_path ua ua_frame before) in record {
+    let between = event_at 0 (LinkHear ua_frame) (shown response_path ua ua_frame before) in
+    let after = telling_channel true between in record {
       station = A;
       input = OffAir ua;
       before = before;
@@ -253,6 +260,10 @@ a_hears_ua =
         monitored = Some ua_frame;
         read_as = ua_is;
         effect = (Some ua_frame, ua_is, refl);
+        between = between;
+        ours = true;
+        is_ours = (Some ua_frame, ua_is, refl);
+        told = refl;
       };
       octets = low ua refl;
     }
@@ -275,7 +286,8 @@ abbrev pub b_hears_disc : Step
 unfolding reading call_of_text link_turn
 b_hears_disc =
     let before = b_hears_sabm.after.now in
-    let after = event_at 0 (LinkHear disc_frame) (shown command_path disc disc_frame before) in record {
+    let between = event_at 0 (LinkHear disc_frame) (shown command_path disc disc_frame before) in
+    let after = telling_channel true between in record {
       station = B;
       input = OffAir disc;
       before = before;
@@ -286,6 +298,10 @@ b_hears_disc =
         monitored = Some disc_frame;
         read_as = disc_is;
         effect = (Some disc_frame, disc_is, refl);
+        between = between;
+        ours = true;
+        is_ours = (Some disc_frame, disc_is, refl);
+        told = refl;
       };
       octets = low disc refl;
     }
@@ -294,7 +310,8 @@ abbrev pub a_hears_ua_again : Step
 unfolding reading call_of_text link_turn
 a_hears_ua_again =
     let before = a_disconnects.after.now in
-    let after = event_at 0 (LinkHear ua_frame) (shown response_path ua ua_frame before) in record {
+    let between = event_at 0 (LinkHear ua_frame) (shown response_path ua ua_frame before) in
+    let after = telling_channel true between in record {
       station = A;
       input = OffAir ua;
       before = before;
@@ -305,6 +322,10 @@ a_hears_ua_again =
         monitored = Some ua_frame;
         read_as = ua_is;
         effect = (Some ua_frame, ua_is, refl);
+        between = between;
+        ours = true;
+        is_ours = (Some ua_frame, ua_is, refl);
+        told = refl;
       };
       octets = low ua refl;
     }
