@@ -1,5 +1,6 @@
--- In a run of the bench each host program sees the set-ups of its link, and gives only while the link is up: part by
--- part.
+-- In a run of the bench each host program sees the set-ups of its link, and gives only while the link is up, and all
+-- frames that wait at A keep one key, so that each SABM, SABME and DISC of A's link finds room that the laws ask for:
+-- part by part.
 use Rattle.channel_bench.proofs.Common.{◌≡◌, ℕ, zero, suc, ◌==◌, ◌&&◌, not, Bool, true, false, List, [], ◌∷◌, ◌++◌}
 use Rattle.channel_bench.proofs.Common.{length, replicate, Option, Some, None, is_some, refl, sym, ap, ◌∙◌, subst}
 use Rattle.channel_bench.proofs.Common.{MatchBool, option_to_list, and_parts, eqb-true, append_assoc, Candidate, End, A}
@@ -9,9 +10,9 @@ use Rattle.channel_bench.proofs.Common.{with_near, AreHeardAt, GoesOn, IsHeardAs
 use Rattle.channel_bench.proofs.Common.{match_of, with_matched, with_stray, AcceptsProgram, IsAsked, IsAskedOrCalled}
 use Rattle.channel_bench.proofs.Common.{IsCalled, IsGiven, IsGivenPiece, IsListening, is_complete, with_asking}
 use Rattle.channel_bench.proofs.Common.{with_calling, with_giving, ProgramState, next_piece, AreMatched, BothWays}
-use Rattle.channel_bench.proofs.Common.{LinkFrame, Moment, after_moment, after_moments, nothing_sent, sent_by, steps_in}
-use Rattle.channel_bench.proofs.Common.{Passes, Steps, Step, Stations, with_state, LinkStep, link_steps_at}
-use Rattle.channel_bench.proofs.Common.{passed_below, sounding, ticked, text_at, AsksFindRoom, queued_passed}
+use Rattle.channel_bench.proofs.Common.{LinkFrame, Moment, after_moments, nothing_sent, sent_by, steps_in, Passes}
+use Rattle.channel_bench.proofs.Common.{Steps, Step, Stations, with_state, LinkStep, link_steps_at, passed_below}
+use Rattle.channel_bench.proofs.Common.{sounding, ticked, text_at, AsksFindRoom, queued_passed}
 use Rattle.std.specs.List.{AllByRecursion as Each}
 use Rattle.channel_bench.specs.BenchState.{new_side}
 use Rattle.channel_bench.specs.HostProgram.{has_all, has_all_in}
@@ -31,6 +32,9 @@ use Rattle.channel_bench.proofs.Sounded.{heard_as, sounded}
 use Rattle.channel_bench.proofs.StepSees.{IsReady, SeesAt, queue_of}
 use Rattle.channel_bench.proofs.ThereStays.{HasProgram, is_there}
 use Rattle.channel_bench.proofs.FlightLemmas.{moments_more}
+use Rattle.channel_bench.proofs.StepFinds.{Finding, Knows, finding_step, matched_front}
+use Rattle.channel_bench.proofs.FindsNear.{new_finds, passed}
+use Rattle.channel_bench.proofs.FindingRoom.{TakesCall}
 
 -- ---- what holds of a bench
 
@@ -44,14 +48,9 @@ pub record Holds (w : BenchWords) (bench : BenchState) : Type 0 where
   pub little : AskLittle bench.common.moments (stations_of bench)
   pub sees_a : Premises bench.common.moments → SeesAt w A bench.a bench.common.moments
   pub sees_b : Premises bench.common.moments → SeesAt w B bench.b bench.common.moments
+  pub finds : Finding bench.common.moments (stations_of bench)
 
 -- ---- fewer moments
-
-pub matched_front : (moments : List Moment) (moment : Moment) (ways : BothWays)
-    → AreMatched (moments ++ moment ∷ []) ways
-    → AreMatched moments ways
-matched_front [] moment ways h = tt
-matched_front (first ∷ moments) moment ways h = (h.0, matched_front moments moment (after_moment first ways) h.1)
 
 room_before : (steps : List Step) (step : Step) → AsksFindRoom the_calls (steps ++ step ∷ [])
     → AsksFindRoom the_calls steps
@@ -120,21 +119,41 @@ pub little_of : (w : BenchWords) (bench : BenchState) (e : End) (n : Near) → H
 little_of w bench A n h = h.little
 little_of w bench B n h = h.little
 
+finds_of : (w : BenchWords) (bench : BenchState) (e : End) (n : Near) → HoldsNear w bench e n
+    → Finding n.common.moments (with_state e n.side.station (stations_of bench))
+finds_of w bench A n h = h.finds
+finds_of w bench B n h = h.finds
+
+-- what is known of A's link by what the host programs have seen
+knows_of : (w : BenchWords) (bench : BenchState) (e : End) (n : Near) → HoldsNear w bench e n
+    → Knows w n.common.moments (with_state e n.side.station (stations_of bench))
+knows_of w bench A n h matched room =
+    let p : Premises n.common.moments = record { matched = matched; room = room } in
+    let a = h.sees_a p in
+    record { noted = h.noted; hosts = h.little.a; owns = a.owns; asks = a.asks; queued = (h.sees_b p).queued }
+knows_of w bench B n h matched room =
+    let p : Premises n.common.moments = record { matched = matched; room = room } in
+    let a = h.sees_a p in
+    record { noted = h.noted; hosts = h.little.a; owns = a.owns; asks = a.asks; queued = (h.sees_b p).queued }
+
 holds_of :
     (w : BenchWords) (bench : BenchState) (e : End) (n : Near)
     → IsNoted w n.common.moments (with_state e n.side.station (stations_of bench))
     → AskLittle n.common.moments (with_state e n.side.station (stations_of bench))
+    → Finding n.common.moments (with_state e n.side.station (stations_of bench))
     → (Premises n.common.moments → BothSee w e n.side (side_at (other e) bench) n.common.moments)
     → HoldsNear w bench e n
-holds_of w bench A n noted little both = record {
+holds_of w bench A n noted little finds both = record {
   noted = noted;
   little = little;
+  finds = finds;
   sees_a = λ p. (both p).own;
   sees_b = λ p. (both p).far_sees;
 }
-holds_of w bench B n noted little both = record {
+holds_of w bench B n noted little finds both = record {
   noted = noted;
   little = little;
+  finds = finds;
   sees_a = λ p. (both p).far_sees;
   sees_b = λ p. (both p).own;
 }
@@ -142,7 +161,7 @@ holds_of w bench B n noted little both = record {
 -- a step, from what it keeps
 stepped_holds :
     (w : BenchWords) (bench : BenchState) (e : End) (usual : Usual) (matched : Option ℕ) (before after : Near)
-    → Occurs e usual → (h : IsStep e (input_of e usual) matched before after) → after.common.trouble ≡ None
+    → Occurs e usual → TakesCall usual before.side.station → (h : IsStep e (input_of e usual) matched before after) → after.common.trouble ≡ None
     → HoldsNear w bench e before
     → (Known w before.common.moments (with_state e before.side.station (stations_of bench))
     → Known w (before.common.moments ++ Steps (noted_step e usual matched before after h) matched ∷ [])
@@ -151,7 +170,7 @@ stepped_holds :
     → BothSee w e after.side (side_at (other e) bench)
     (before.common.moments ++ Steps (noted_step e usual matched before after h) matched ∷ []))
     → HoldsNear w bench e after
-stepped_holds w bench e usual matched before after occurs h calm holds keeps =
+stepped_holds w bench e usual matched before after occurs takes h calm holds keeps =
     let s = with_state e before.side.station (stations_of bench) in
     let later = with_state e after.side.station s in
     let moments = before.common.moments in
@@ -163,9 +182,11 @@ stepped_holds w bench e usual matched before after occurs h calm holds keeps =
     let little = little_of w bench e before holds in
     let noted_next = (noted_kept w).steps e usual matched before after s occurs h calm at noted in
     let little_next = (asks_kept w).steps e usual matched before after s occurs h calm at little in
+    let finds_next = finding_step w e usual matched before after s occurs takes h calm at
+    (knows_of w bench e before holds) (finds_of w bench e before holds) in
     let same = state_twice e before.side.station after.side.station (stations_of bench) in
     holds_of w bench e after (subst (IsNoted w after.common.moments) same noted_next)
-    (subst (AskLittle after.common.moments) same little_next)
+    (subst (AskLittle after.common.moments) same little_next) (subst (Finding after.common.moments) same finds_next)
     (λ p.
     let q : Premises next = subst Premises is p in
     let old = front moments step matched q in
@@ -180,12 +201,12 @@ stepped_holds w bench e usual matched before after occurs h calm holds keeps =
 -- a step that gives nothing
 pub near_holds :
     (w : BenchWords) (bench : BenchState) (e : End) (usual : Usual) (matched : Option ℕ) (before after : Near)
-    → Occurs e usual → IsStep e (input_of e usual) matched before after → after.common.trouble ≡ None
+    → Occurs e usual → TakesCall usual before.side.station → IsStep e (input_of e usual) matched before after → after.common.trouble ≡ None
     → HoldsNear w bench e before
     → (Premises before.common.moments → IsReady w usual before.side.program (links_of e before.common.moments))
     → HoldsNear w bench e after
-near_holds w bench e usual matched before after occurs h calm holds ready =
-    stepped_holds w bench e usual matched before after occurs h calm holds
+near_holds w bench e usual matched before after occurs takes h calm holds ready =
+    stepped_holds w bench e usual matched before after occurs takes h calm holds
     (λ known later old.
     step_sees w e usual matched before after (side_at (other e) bench)
     (with_state e before.side.station (stations_of bench))
@@ -211,9 +232,11 @@ given_holds w bench e piece n next is accepts h calm holds =
     let little = little_of w bench e n holds in
     let noted_next = (noted_kept w).steps e (gives piece) None (with_giving piece n) next s short h calm at noted in
     let little_next = (asks_kept w).steps e (gives piece) None (with_giving piece n) next s short h calm at little in
+    let finds_next = finding_step w e (gives piece) None (with_giving piece n) next s short tt h calm at
+    (knows_of w bench e n holds) (finds_of w bench e n holds) in
     let same = state_twice e n.side.station next.side.station (stations_of bench) in
     holds_of w bench e next (subst (IsNoted w next.common.moments) same noted_next)
-    (subst (AskLittle next.common.moments) same little_next)
+    (subst (AskLittle next.common.moments) same little_next) (subst (Finding next.common.moments) same finds_next)
     (λ p.
     let q : Premises more = subst Premises moments_are p in
     let old = front moments step None q in
@@ -240,6 +263,8 @@ resided w bench e n next moments station there stream program holds =
     (subst (λ x. IsNoted w n.common.moments (s x)) (sym station) (noted_of w bench e n holds)))
     (subst (λ ms. AskLittle ms (s next.side.station)) (sym moments)
     (subst (λ x. AskLittle n.common.moments (s x)) (sym station) (little_of w bench e n holds)))
+    (subst (λ ms. Finding ms (s next.side.station)) (sym moments)
+    (subst (λ x. Finding n.common.moments (s x)) (sym station) (finds_of w bench e n holds)))
     (λ p.
     let old = both_of w bench e n holds (subst Premises moments p) in
     let far = side_at (other e) bench in
@@ -252,8 +277,20 @@ resided w bench e n next moments station there stream program holds =
 
 -- near what is there already
 pub near_there : (w : BenchWords) (e : End) (bench : BenchState) → Holds w bench → HoldsNear w bench e (near e bench)
-near_there w A bench h = record { noted = h.noted; little = h.little; sees_a = h.sees_a; sees_b = h.sees_b }
-near_there w B bench h = record { noted = h.noted; little = h.little; sees_a = h.sees_a; sees_b = h.sees_b }
+near_there w A bench h = record {
+  noted = h.noted;
+  little = h.little;
+  sees_a = h.sees_a;
+  sees_b = h.sees_b;
+  finds = h.finds;
+}
+near_there w B bench h = record {
+  noted = h.noted;
+  little = h.little;
+  sees_a = h.sees_a;
+  sees_b = h.sees_b;
+  finds = h.finds;
+}
 
 -- something comes to pass at one of the stations
 pub at_end_holds :
@@ -277,7 +314,7 @@ item_holds w bench e None octets n next h calm holds =
     let stray : next.common.trouble ≡ (with_stray octets n).common.trouble = ap (λ (x : Near). x.common.trouble) h in
     absurd (cc)
 item_holds w bench e (Some number) octets n next h calm holds =
-    near_holds w bench e (hears octets) (Some number) (with_matched number n) next tt h calm
+    near_holds w bench e (hears octets) (Some number) (with_matched number n) next tt tt h calm
     (resided w bench e n (with_matched number n) refl refl refl refl refl holds) (λ p. tt)
 
 heard_holds :
@@ -298,7 +335,7 @@ ticking_holds :
     → HoldsNear w bench e n → HoldsNear w bench e next
 ticking_holds w bench e n next part calm holds =
     let c : part.next.common.trouble ≡ None = sym (ap (λ (x : Near). x.common.trouble) part.is) ∙ calm in
-    let made = near_holds w bench e (ticks part.busy) None n part.next tt part.step c holds (λ p. tt) in
+    let made = near_holds w bench e (ticks part.busy) None n part.next tt tt part.step c holds (λ p. tt) in
     resided w bench e part.next next (ap (λ (x : Near). x.common.moments) part.is)
     (ap (λ (x : Near). x.side.station) part.is) (ap (λ (x : Near). x.side.there) part.is)
     (ap (λ (x : Near). x.side.stream) part.is) (ap (λ (x : Near). x.side.program) part.is) made
@@ -339,6 +376,8 @@ reprogrammed w bench next moments a b there_a there_b stream_a stream_b ended_a 
           (subst (IsNoted w bench.common.moments) (sym stations) h.noted);
       little = subst (λ ms. AskLittle ms (stations_of next)) (sym moments)
           (subst (AskLittle bench.common.moments) (sym stations) h.little);
+      finds = subst (λ ms. Finding ms (stations_of next)) (sym moments)
+          (subst (Finding bench.common.moments) (sym stations) h.finds);
       sees_a = λ p. subst (SeesAt w A next.a) (sym moments)
           (resees w A bench.a next.a (links_of A bench.common.moments) (queue_of A bench.common.moments)
           a there_a stream_a
@@ -367,33 +406,34 @@ complete_ready w bench is =
 
 asked_holds :
     (w : BenchWords) (complete calls : Bool) (before after : BenchState) → is_complete w before ≡ complete
-    → before.a.program.calls ≡ calls
+    → before.a.program.calls ≡ calls → TakesCall connects before.a.station
     → MatchBool complete (IsAsked before after) (MatchBool calls (IsCalled before after) (after ≡ before))
     → IsCalm after
     → Holds w before → Holds w after
-asked_holds w true calls before after is calls_is h calm holds =
+asked_holds w true calls before after is calls_is takes h calm holds =
     let bench = with_asking before in
     let ready = complete_ready w before is in
     at_end_holds w A (IsStep A (input_of A disconnects) None) bench after
-    (λ next step c kept. near_holds w bench A disconnects None (near A bench) next tt step c kept (λ p. ready)) h calm
+    (λ next step c kept. near_holds w bench A disconnects None (near A bench) next tt tt step c kept (λ p. ready)) h calm
     (reprogrammed w before bench refl refl refl refl refl refl refl refl refl (λ x. x) refl refl (λ x. x) holds)
-asked_holds w false true before after is calls_is h calm holds =
+asked_holds w false true before after is calls_is takes h calm holds =
     let bench = with_calling before in
     at_end_holds w A (IsStep A (input_of A connects) None) bench after
-    (λ next step c kept. near_holds w bench A connects None (near A bench) next tt step c kept
+    (λ next step c kept. near_holds w bench A connects None (near A bench) next tt takes step c kept
     (λ p. (refl, (holds.sees_a p).calls calls_is))) h calm
     (reprogrammed w before bench refl refl refl refl refl refl refl refl refl (λ x. absurd (cc)) refl refl (λ x. x)
     holds)
-asked_holds w false false before after is calls_is h calm holds = subst (Holds w) (sym h) holds
+asked_holds w false false before after is calls_is takes h calm holds = subst (Holds w) (sym h) holds
 
 pub asks_or_calls_holds : (w : BenchWords) (before after : BenchState) → IsAskedOrCalled w before after → IsCalm after
     → Holds w before → Holds w after
-asks_or_calls_holds w before after part calm holds = go part.accepts part.sent
+asks_or_calls_holds w before after part calm holds = go part.accepts refl part.sent
   where
-    go : (b : Bool) → MatchBool b (MatchBool (is_complete w before) (IsAsked before after)
+    go : (b : Bool) → part.accepts ≡ b → MatchBool b (MatchBool (is_complete w before) (IsAsked before after)
         (MatchBool before.a.program.calls (IsCalled before after) (after ≡ before))) (after ≡ before) → Holds w after
-    go true h = asked_holds w (is_complete w before) before.a.program.calls before after refl refl h calm holds
-    go false h = subst (Holds w) (sym h) holds
+    go true is h = asked_holds w (is_complete w before) before.a.program.calls before after refl refl
+        (part.exactly.0 is).1.queue h calm holds
+    go false is h = subst (Holds w) (sym h) holds
 
 -- what both send reaches them
 pub sounds_hold : (w : BenchWords) (before : BenchState) → Holds w before → Holds w (sounding w before)
@@ -427,6 +467,7 @@ passed_holds w bench sender below h =
     record {
       noted = (noted_kept w).passes sender below moments (stations_of bench) h.noted;
       little = (asks_kept w).passes sender below moments (stations_of bench) h.little;
+      finds = passed sender below moments (stations_of bench) h.finds;
       sees_a = λ p. passed_sees w A bench.a moments sender below (h.sees_a (front_passed moments sender below p));
       sees_b = λ p. passed_sees w B bench.b moments sender below (h.sees_b (front_passed moments sender below p));
     }
@@ -499,6 +540,7 @@ pub new_holds : (w : BenchWords) → Holds w (new_bench w)
 new_holds w = record {
   noted = (noted_kept w).new;
   little = (asks_kept w).new;
+  finds = new_finds w;
   sees_a = λ p. new_sees w A;
   sees_b = λ p. new_sees w B;
 }

@@ -59,4 +59,3 @@ mod KeyedHearing
 mod FindingRoom
 mod StepFinds
 mod FindsNear
-mod AsksInRoom

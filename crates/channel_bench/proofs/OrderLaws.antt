@@ -1,22 +1,17 @@
 -- The law on a bench, from the law on two stations of which one alone calls: what the ends of the link got in order,
 -- the host programs got in order.
 use Rattle.channel_bench.proofs.Common.{◌≡◌, List, [], ◌∷◌, map, refl, sym, ap, ◌∙◌, subst, All-from_recursion, A, B}
-use Rattle.channel_bench.proofs.Common.{RecordedEnd, changes_law_holds, SetUp, BenchWords, IsNoted, set_up_of}
-use Rattle.channel_bench.proofs.Common.{stations_of, steps_of_run, the_calls, BenchState, config_of, ProgramState}
-use Rattle.channel_bench.proofs.Common.{set_ups_of, GotInOrder, KeepsOrder, AreMatched, nothing_sent, IsOver, world_of}
-use Rattle.channel_bench.proofs.Common.{pairs_in, Seen, as_seen, set_ups_seen, seed_at, matched_law_holds}
-use Rattle.channel_bench.proofs.Common.{matched_in_order_holds, AsksFindRoom, set_ups_law_holds}
+use Rattle.channel_bench.proofs.Common.{RecordedEnd, changes_law_holds, SetUp, BenchWords, set_up_of, steps_of_run}
+use Rattle.channel_bench.proofs.Common.{the_calls, config_of, ProgramState, set_ups_of, GotInOrder, KeepsOrder}
+use Rattle.channel_bench.proofs.Common.{AreMatched, nothing_sent, IsOver, world_of, pairs_in, Seen, as_seen}
+use Rattle.channel_bench.proofs.Common.{set_ups_seen, seed_at, matched_law_holds, matched_in_order_holds, AsksFindRoom}
+use Rattle.channel_bench.proofs.Common.{set_ups_law_holds}
 use Rattle.link_world.specs.Origin.{GotInOrder as PacketsInOrder}
 use Rattle.link_world.specs.SetUps.{SetUp as LinkSetUp}
 use Rattle.channel_bench.specs.BenchLaw.{BenchLaw, IsFollowed, ProgramsFollow}
 use Rattle.channel_bench.specs.Report.{Report}
-use Rattle.channel_bench.proofs.AsksInRoom.{asks_find_room}
-use Rattle.channel_bench.proofs.CoreRun.{core_kept}
 use Rattle.channel_bench.proofs.LinkNow.{GivenUp, links_of, only_a_calls, windows}
 use Rattle.channel_bench.proofs.GotOctets.{octets_in_order, seen_as}
-use Rattle.channel_bench.proofs.NotedRun.{noted_kept}
-use Rattle.channel_bench.proofs.ProgramsAsk.{AskLittle, asks_kept}
-use Rattle.channel_bench.proofs.RunOfParts.{ticks_keep}
 use Rattle.channel_bench.proofs.RunSees.{run_sees}
 use Rattle.channel_bench.proofs.StepSees.{both_ends}
 use Rattle.channel_bench.proofs.TimedRun.{run_in_time}
@@ -54,10 +49,15 @@ followed w report over matched room =
       seen_b = b.sees.set_ups;
     }
 
+-- each SABM, SABME and DISC of A's link that is not up finds room
+asks_find_room : (w : BenchWords) (report : Report) (over : IsOver w report)
+    → AreMatched over.bench.common.moments nothing_sent → AsksFindRoom the_calls (steps_of_run over.bench)
+asks_find_room w report over matched = ((run_sees w over.count over.bench over.ticks over.no_trouble).finds matched).1
+
 pub programs_follow_holds : ProgramsFollow
 programs_follow_holds w report over =
-    followed w report over (run_in_time w over.count over.bench over.ticks over.no_trouble).both.matched
-    (asks_find_room w over.count over.bench over.ticks over.no_trouble)
+    let matched = (run_in_time w over.count over.bench over.ticks over.no_trouble).both.matched in
+    followed w report over matched (asks_find_room w report over matched)
 
 pub bench_law_holds : BenchLaw
 bench_law_holds w report over =
@@ -66,21 +66,17 @@ bench_law_holds w report over =
     let steps = steps_of_run bench in
     let config = config_of w in
     let pairs = pairs_in moments in
-    let noted = ticks_keep w (λ (b : BenchState). IsNoted w b.common.moments (stations_of b))
-    (core_kept w (IsNoted w) (noted_kept w)) over.count bench over.ticks over.no_trouble in
-    let little = ticks_keep w (λ (b : BenchState). AskLittle b.common.moments (stations_of b))
-    (core_kept w AskLittle (asks_kept w)) over.count bench
-    over.ticks over.no_trouble in
+    let holds = run_sees w over.count bench over.ticks over.no_trouble in
     let matched = (run_in_time w over.count bench over.ticks over.no_trouble).both.matched in
-    let room = asks_find_room w over.count bench over.ticks over.no_trouble in
+    let room = asks_find_room w report over matched in
     let order = matched_in_order_holds moments matched in
     let h = followed w report over matched room in
     let kept =
     matched_law_holds changes_law_holds config config (seed_at w A)
-    (seed_at w B) moments noted.run matched noted.quiet (windows w)
-    the_calls (only_a_calls steps little.asks room) in
+    (seed_at w B) moments holds.noted.run matched holds.noted.quiet (windows w)
+    the_calls (only_a_calls steps holds.little.asks room) in
     let seen = set_ups_law_holds config config (seed_at w A)
-    (seed_at w B) steps pairs noted.run order.0 order.1 the_calls h.given in
+    (seed_at w B) steps pairs holds.noted.run order.0 order.1 the_calls h.given in
     let world = world_of the_calls pairs config.params config.params steps in
     let at_a = saw bench.a.program world.a.end.set_ups (set_ups_seen the_calls A steps) h.seen_a seen.at_a in
     let at_b = saw bench.b.program world.b.end.set_ups (set_ups_seen the_calls B steps) h.seen_b seen.at_b in

@@ -29,6 +29,7 @@ use Rattle.channel_bench.proofs.SideSees.{side_after, told_other}
 use Rattle.channel_bench.proofs.StepSees.{IsReady, links_more, unshown_of}
 use Rattle.station_laws.proofs.Causes.{cause_of}
 use Rattle.station_laws.proofs.Causes.Cause.{nothing}
+use Rattle.channel_bench.proofs.FindsNear.{takes_told}
 
 -- ---- before the first call
 
@@ -224,7 +225,7 @@ tells_lead w e usual event is f occurs before after part calm stands =
     let next = part.next in
     let c : next.common.trouble ≡ None =
     calm_near e before next ∙ sym (ap (λ (b : BenchState). b.common.trouble) part.is) ∙ calm in
-    go part.step.may part.step.told c
+    go part.step.may refl part.step.told c
   where
     n : Near
     n = near e before
@@ -239,15 +240,16 @@ tells_lead w e usual event is f occurs before after part calm stands =
     calm_near A b k = refl
     calm_near B b k = refl
 
-    go : (b : Bool) → MatchBool b (IsStep e (FromHost event) None n part.next) (part.next ≡ n)
+    go : (b : Bool) → part.step.may ≡ b → MatchBool b (IsStep e (FromHost event) None n part.next) (part.next ≡ n)
         → part.next.common.trouble ≡ None → Stands w begins after
-    go true h c =
+    go true may h c =
         let k = subst (λ input. IsStep e input None n part.next) is h in
         near_again w e part.next before after part.is
-        (near_holds w before e usual None n part.next occurs k c holds
+        (near_holds w before e usual None n part.next occurs
+        (takes_told usual e event n.side is (part.step.exactly.0 may)) k c holds
         (λ p. front_ready w usual n.side.program (links_of e n.common.moments) f))
         (early_step w before e usual n part.next f occurs k holds early)
-    go false h c =
+    go false may h c =
         near_again w e part.next before after part.is (subst (HoldsNear w before e) (sym h) holds)
         (subst (EarlyNear w before e) (sym h) early)
 
@@ -255,13 +257,18 @@ tells_lead w e usual event is f occurs before after part calm stands =
 call_leads : (w : BenchWords) → Leads w begins (Tells A (Bytes program_id (connect_octets A))) goes
 call_leads w before after part calm stands =
     at_end_holds w A (IsTold A (Bytes program_id (connect_octets A))) before after
-    (λ next told c kept. go next told.may told.told c kept) part calm stands.0
+    (λ next told c kept. go next told told.may refl told.told c kept) part calm stands.0
   where
-    go : (next : Near) (b : Bool)
+    event : HostEvent
+    event = Bytes program_id (connect_octets A)
+
+    go : (next : Near) (told : IsTold A event (near A before) next) (b : Bool) → told.may ≡ b
         → MatchBool b (IsStep A (input_of A connects) None (near A before) next) (next ≡ near A before)
         → next.common.trouble ≡ None → HoldsNear w before A (near A before) → HoldsNear w before A next
-    go next true h c kept = near_holds w before A connects None (near A before) next tt h c kept (λ p. stands.1 p)
-    go next false h c kept = subst (HoldsNear w before A) (sym h) kept
+    go next told true may h c kept =
+        near_holds w before A connects None (near A before) next tt
+        (takes_told connects A event (near A before).side refl (told.exactly.0 may)) h c kept (λ p. stands.1 p)
+    go next told false may h c kept = subst (HoldsNear w before A) (sym h) kept
 
 duplex_leads : (w : BenchWords) (e : End) → AllLead w begins (sets_full_duplex e) begins
 unfolding sets_full_duplex

@@ -8,13 +8,13 @@ use Rattle.channel_bench.proofs.Common.{state_of, with_state, Calls, first_world
 use Rattle.channel_bench.proofs.Common.{turn_steps, pairs_in, seed_at, RunChain, run_chained, AsksInSetUp, IsChain}
 use Rattle.channel_bench.proofs.Common.{StandsAsked, asked_after, asked_behind, chain_asked, chain_parts, last_machine}
 use Rattle.channel_bench.proofs.Common.{is_disconnect, matched_in_order_holds, AsksFindRoom, AsksFindRoomAt, not_both}
+use Rattle.channel_bench.proofs.Common.{after_moment, BothWays}
 use Rattle.std.specs.List.{AllByRecursion as Each}
 use Rattle.link_machine.specs.Event.{Event as LinkEvent}
 use Rattle.link_machine.specs.Event.Event.{Connect as LinkConnect, Send as LinkSend, Disconnect as LinkDisconnect}
 use Rattle.link_machine.specs.Event.Event.{Hear as LinkHear, Tick as LinkTick}
 use Rattle.link_machine.specs.Step.{step as link_turn}
 use Rattle.link_world.proofs.law.Each.{each_of_all}
-use Rattle.channel_bench.proofs.BenchSees.{matched_front}
 use Rattle.station_laws.proofs.Chains.{OfLink, asked_step, made_like}
 use Rattle.channel_bench.proofs.CoreRun.{Occurs, Usual, input_of, told_station}
 use Rattle.channel_bench.proofs.CoreRun.Usual.{connects, disconnects, gives, hears, joins_kiss, joins_program}
@@ -32,6 +32,14 @@ use Rattle.channel_bench.proofs.OwnMessages.{IsHeardFrom}
 use Rattle.channel_bench.proofs.StepSees.{heard_from, matched_last, queue_of, unshown_of}
 use Rattle.station_laws.proofs.Causes.{cause_of}
 use Rattle.station_laws.proofs.Causes.Cause.{hearing}
+
+-- ---- fewer moments
+
+pub matched_front : (moments : List Moment) (moment : Moment) (ways : BothWays)
+    → AreMatched (moments ++ moment ∷ []) ways
+    → AreMatched moments ways
+matched_front [] moment ways h = tt
+matched_front (first ∷ moments) moment ways h = (h.0, matched_front moments moment (after_moment first ways) h.1)
 
 -- ---- what is known
 
