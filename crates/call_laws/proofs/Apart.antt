@@ -1,5 +1,5 @@
 -- A link is told to be open only while no set-up of it runs.
-use Rattle.station_laws.proofs.Common.{◌≡◌, Bool, true, false, List, [], ◌∷◌, ◌++◌, map, refl, sym, ap, ◌∙◌, subst, ⊤}
+use Rattle.station_laws.proofs.Common.{◌≡◌, Bool, true, false, List, [], ◌∷◌, ◌++◌, map, refl, sym, ◌∙◌, subst, ⊤}
 use Rattle.station_laws.proofs.Common.{Failed, inl, inr, Packet, Told, Opened, Given, Ended, LinkState, Idle, Calling, Up}
 use Rattle.station_laws.proofs.Common.{Releasing, Event, Machine, step, begin, RunsIn, Row, Settles, Stepped, step_is}
 use Rattle.station_laws.proofs.Common.{is_refused, as_timed, agrees, calls_again, connects, declines, ends_by_disc}

@@ -2,7 +2,7 @@
 -- client has taken all that its station has for it, and prints that octet while the call goes on.
 use Rattle.station_laws.proofs.Common.{All, inl, inr, arith, list_all, and_parts, ltb-true, All-from_recursion, Callsign}
 use Rattle.station_laws.proofs.Common.{IsCallCharacter, BeginsWithPath, way_back, Path, Role, Command, Frame, Setup, Info}
-use Rattle.station_laws.proofs.Common.{Eight, Sabm, Ua, IsFrame, reading, default_params, End, A, B, World, Config}
+use Rattle.station_laws.proofs.Common.{Eight, Sabm, Ua, IsFrame, reading, default_params, End, A, B, Config}
 use Rattle.station_laws.proofs.Common.{Joined, Bytes, Agw, answering_else, call_of_text, shown_to_hosts, joining, taking}
 use Rattle.station_laws.proofs.Common.{event_at, making, no_layer_3, Route, path_along, StationState, new_station, Turn}
 use Rattle.station_laws.proofs.Common.{Step, new_stations, IsJointRun, FromHost, OffAir, Calls, Pairs, IsQuietLink}

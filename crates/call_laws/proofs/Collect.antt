@@ -1,7 +1,7 @@
 -- The data of a call that follow a C with no d between are of one set-up of the link.
-use Rattle.station_laws.proofs.Common.{◌≡◌, ℕ, zero, suc, Bool, true, false, ◌==◌, ◌&&◌, List, [], ◌∷◌, ◌++◌, length, cond}
+use Rattle.station_laws.proofs.Common.{◌≡◌, ℕ, Bool, true, false, ◌==◌, ◌&&◌, List, [], ◌∷◌, ◌++◌, length, cond}
 use Rattle.station_laws.proofs.Common.{Some, refl, sym, ap, ◌∙◌, subst, slice_get, ⊤, append-nil, append_assoc}
-use Rattle.station_laws.proofs.Common.{Callsign, AgwMessage, Packet, Told, Opened, Given, Ended, Why}
+use Rattle.station_laws.proofs.Common.{AgwMessage, Packet, Told, Opened, Given, Ended, Why}
 use Rattle.std.specs.Prelude.{fold}
 use Rattle.std.specs.List.{flat_map, AllByRecursion as Each}
 use Rattle.std.specs.Str.{bytes_eq}

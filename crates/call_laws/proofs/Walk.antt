@@ -1,8 +1,8 @@
 -- What each step of a station sends to a connection, act by act.
-use Rattle.station_laws.proofs.Common.{◌≡◌, ◌≢◌, ℕ, ◌==◌, ◌&&◌, nat_lt, nat_le, Bool, true, false, List, [], ◌∷◌, ◌++◌}
+use Rattle.station_laws.proofs.Common.{◌≡◌, ℕ, ◌==◌, ◌&&◌, nat_lt, nat_le, Bool, true, false, List, [], ◌∷◌, ◌++◌}
 use Rattle.station_laws.proofs.Common.{length, map, drop, cond, if◌then◌else◌, Option, Some, None, is_none, refl, sym}
-use Rattle.station_laws.proofs.Common.{ap, ◌∙◌, subst, inl, inr, ⊤, MatchBool, eqb-true, cond-true, cond-false}
-use Rattle.station_laws.proofs.Common.{append-nil, append_assoc, and_parts, recursion_from_All, BeginsWithPath-same}
+use Rattle.station_laws.proofs.Common.{ap, ◌∙◌, subst, inl, inr, ⊤, MatchBool, eqb-true}
+use Rattle.station_laws.proofs.Common.{append-nil, and_parts, recursion_from_All, BeginsWithPath-same}
 use Rattle.station_laws.proofs.Common.{BeginsWithPath, Callsign, way_back, Path, Command, Frame, Kind, Info, Super}
 use Rattle.station_laws.proofs.Common.{Setup, Ui, Eight, IsFrame, bad_length_in, AgwMessage, repeated, KissItem, Set}
 use Rattle.station_laws.proofs.Common.{Hardware, Return, TooLong, HostEvent, Joined, Bytes, Left, PortKind, Kiss, Agw}
@@ -20,35 +20,32 @@ use Rattle.station_laws.proofs.Common.{IsReadingHeardAnew, IsRepeatedFor, AreHea
 use Rattle.station_laws.proofs.Common.{with_shown, shown_to_hosts, showing_to, source_field, destination_field}
 use Rattle.station_laws.proofs.Common.{waits_for_repeater, joining, with_host, new_messages, new_items, taking, ending}
 use Rattle.station_laws.proofs.Common.{AreTaken, AreTakenBy, IsHostTurn, IsPathOf, param_of, with_param, heeding}
-use Rattle.station_laws.proofs.Common.{heeding_all, leaving, event_at, Link, is_between, key_between, link_at, making}
+use Rattle.station_laws.proofs.Common.{heeding_all, leaving, is_between, key_between, making}
 use Rattle.station_laws.proofs.Common.{idle_link, no_layer_3, registrar, may_register, is_number, Route, route_in}
-use Rattle.station_laws.proofs.Common.{repeaters_in, behind_repeaters, path_along, ticking_links, waits, Out, Turn, Act}
+use Rattle.station_laws.proofs.Common.{repeaters_in, behind_repeaters, path_along, ticking_links, Out, Turn, Act}
 use Rattle.station_laws.proofs.Common.{in_order, changing, closing, queueing, capacity, entering, dropping, Input, IsTurn}
-use Rattle.station_laws.proofs.Common.{FromHost, OffAir, OfClock, LinkStep, steps_at, tick_steps, leaving_steps}
+use Rattle.station_laws.proofs.Common.{FromHost, OffAir, OfClock, LinkStep, tick_steps, leaving_steps}
 use Rattle.station_laws.proofs.Common.{made_steps, call_steps, data_steps, disconnect_steps, else_steps, answer_steps}
 use Rattle.station_laws.proofs.Common.{message_steps, ending_steps, octet_steps_by, octet_steps, host_steps, hears_at}
 use Rattle.station_laws.proofs.Common.{new_steps, anew_steps, reading_steps, key_steps, path_steps, by_path_steps}
 use Rattle.station_laws.proofs.Common.{heard_steps, turn_steps, first_chosen, most_links, Step, steps_of}
-use Rattle.std.specs.Prelude.{filter, find}
+use Rattle.std.specs.Prelude.{filter}
 use Rattle.std.specs.List.{AllByRecursion as Each}
 use Rattle.std.proofs.lemmas.Bool.{false_from_ne_true}
 use Rattle.ax25_address.specs.Callsign.{IsCall as IsValidCall}
 use Rattle.ax25_frames.specs.declared.frame.Kind.TheVariants.{Other as OtherKind}
 use Rattle.ax25_frames.specs.declared.frame.Modulus.{Modulus}
 use Rattle.frame_monitor.specs.MonitorText.{monitor_letter}
-use Rattle.agwpe_port.specs.CallField.{call_field}
 use Rattle.agwpe_port.specs.Messages.{spelling, messages_in}
 use Rattle.agwpe_client.specs.CallMessages.{connect_kind}
 use Rattle.agwpe_client.specs.CallRun.{CallPlan}
 use Rattle.kiss_port.specs.declared.item.KissItem.TheVariants.{Frame as KissFrame, Other}
 use Rattle.link_machine.specs.Event.Event.{Connect as LinkConnect, Hear as LinkHear}
 use Rattle.station.specs.AgwKinds.{connect_via_kind}
-use Rattle.station.specs.CallFields.{sent_back}
 use Rattle.station.specs.Heard.{IsReadAs, hearing_at, kiss_data, showing}
-use Rattle.station.specs.HostMessages.{raw_message, no_call}
+use Rattle.station.specs.HostMessages.{raw_message}
 use Rattle.station.specs.Links.{IsNewKey, Links, count_of_links}
 use Rattle.station.specs.Monitoring.{monitor_message, monitor_pieces, monitoring, piece_for, to_monitors}
-use Rattle.station.specs.State.{StationState}
 use Rattle.station.specs.Ticks.{IsSentFrame, air_in, ticking}
 use Rattle.station.specs.Turn.{begin}
 use Rattle.station.specs.declared.host_out.Piece.{Piece}
