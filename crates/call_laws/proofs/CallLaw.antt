@@ -226,7 +226,7 @@ given_in w number got printed order is part some =
     no_more in
     let given : octets_of origin.giver.given ≡ octets_of got ++ octets_of origin.prefix.0 =
     ap octets_of (origin.prefix.1 ∙ ap (λ g. g ++ origin.prefix.0) here.got_is)
-    ∙ flat_map-append (λ (p : Packet). p.octets) got origin.prefix.0 in
+    ∙ flat_map-append _ got origin.prefix.0 in
     record {
       place = number;
       own = here.own;

@@ -1,10 +1,11 @@
 //! The laws. Each is the contract of a function whose body only calls on the laws that it rests on.
 ghost use Rattle.call_laws.specs.FirstPart.{FirstPartIsRead};
 ghost use Rattle.call_laws.specs.PrintsGiven.{CallLaw};
+ghost use Rattle.call_laws.specs.PrintsSeen.{CallSeenLaw};
 ghost use Rattle.call_laws.specs.PrintsTold.{CallToldLaw};
 ghost use Rattle.call_laws.specs.SetUpsTold.{SetUpsAreTold};
 
-use station_laws::{ends_follow, stations_law};
+use station_laws::{ends_follow, set_ups_law, stations_law};
 
 /// The messages that are read of a first part of written messages are a first part of these.
 pub fn first_part_is_read()
@@ -38,4 +39,14 @@ pub fn a_call_prints_what_was_given()
 {
     set_ups_are_told();
     stations_law();
+}
+
+/// [`a_call_prints_what_was_given`] in what is seen at the other station, if hosts give packets only while the link is
+/// up and takes them: that set-up is one of those that are seen there, and the packets given in it are those that the
+/// events of the link there brought while it ran.
+pub fn a_call_prints_what_was_seen_given()
+    ensures { CallSeenLaw }
+{
+    a_call_prints_what_was_given();
+    set_ups_law();
 }
