@@ -231,6 +231,7 @@ given_in w number got printed order is part some =
       place = number;
       own = here.own;
       is_own = here.is_own;
+      got = subst (λ g. IsFirstPart printed (octets_of g)) (sym here.got_is) part;
       number = origin.number;
       is_origin = origin.is_origin;
       giver = origin.giver;
