@@ -1,11 +1,11 @@
 -- What a call prints, message by message.
-use Rattle.agwpe_client.proofs.Common.{◌≡◌, ◌≢◌, ℕ, eqb, cond, Bool, true, false, List, [], ◌∷◌, ◌++◌, refl, ap, subst}
+use Rattle.agwpe_client.proofs.Common.{◌≡◌, ℕ, eqb, cond, Bool, true, false, List, [], ◌∷◌, ◌++◌, refl, ap, subst}
 use Rattle.agwpe_client.proofs.Common.{◌∙◌, sym, append_assoc, append-nil, arith, Option, Some, None, flat_map}
-use Rattle.agwpe_client.proofs.Common.{call_field, messages_in, bad_length_in, AgwMessage, CallState, Calling, Up}
+use Rattle.agwpe_client.proofs.Common.{messages_in, bad_length_in, AgwMessage, Calling, Up}
 use Rattle.agwpe_client.proofs.Common.{Broken, Step, Ignore, Connect, Talk, Print, End, Refuse, connect_kind}
 use Rattle.agwpe_client.proofs.Common.{disconnect_kind, text_octets, CallPlan, CallRun, begin, moving, sending, stepped}
 use Rattle.agwpe_client.proofs.Common.{with_message, is_over, with_bad_length, call_run, is_before_up}
-use Rattle.std.proofs.Common.{◌&&◌, All, inl, inr, ◌⊎◌}
+use Rattle.std.proofs.Common.{All, inl, inr, ◌⊎◌}
 use Rattle.std.proofs.lemmas.List.Elements.{All-cons}
 use Rattle.agwpe_client.proofs.DoneLemmas.{SaysUp, EndsUp, talk_means, step_now, ours, fits_at, by_step, up_message}
 use Rattle.agwpe_client.proofs.StepLemmas.{left, FitsState}

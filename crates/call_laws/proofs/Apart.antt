@@ -1,10 +1,11 @@
 -- A link is told to be open only while no set-up of it runs.
-use Rattle.station_laws.proofs.Common.{◌≡◌, Bool, true, false, List, [], ◌∷◌, ◌++◌, map, refl, sym, ap, ◌∙◌, subst, ⊤}
-use Rattle.station_laws.proofs.Common.{Failed, inl, inr, Packet, Told, Opened, Given, Ended, LinkState, Idle, Calling, Up}
-use Rattle.station_laws.proofs.Common.{Releasing, Event, Machine, step, begin, RunsIn, Row, Settles, Stepped, step_is}
-use Rattle.station_laws.proofs.Common.{is_refused, as_timed, agrees, calls_again, connects, declines, ends_by_disc}
-use Rattle.station_laws.proofs.Common.{ends_by_dm, ends_call, gives_up, is_answered, is_called, is_called_again, narrows}
-use Rattle.station_laws.proofs.Common.{releases_again, resets, rests, takes, wishes, works, goes_on, is_down, releases}
+use Rattle.station_laws.proofs.Common.{◌≡◌, Bool, true, false, List, [], ◌∷◌, ◌++◌, map, refl, sym, ◌∙◌, subst, ⊤}
+use Rattle.station_laws.proofs.Common.{Failed, inl, inr, Packet, Told, Opened, Given, Ended, LinkState, Idle, Calling}
+use Rattle.station_laws.proofs.Common.{Up, Releasing, Event, Machine, step, begin, RunsIn, Row, Settles, Stepped}
+use Rattle.station_laws.proofs.Common.{step_is, is_refused, as_timed, agrees, calls_again, connects, declines}
+use Rattle.station_laws.proofs.Common.{ends_by_disc, ends_by_dm, ends_call, gives_up, is_answered, is_called}
+use Rattle.station_laws.proofs.Common.{is_called_again, narrows, releases_again, resets, rests, takes, wishes, works}
+use Rattle.station_laws.proofs.Common.{goes_on, is_down, releases}
 use Rattle.link_machine.specs.Turn.{Turn}
 use Rattle.link_steps.proofs.Rows.{Flushes}
 use Rattle.link_steps.proofs.Rows.Flushes.{sends_all, sends_none}

@@ -1,14 +1,14 @@
 -- A worked joint run with data: a host at AAAA calls BBBB (SABM, UA), whose host gives one octet (an I frame). The
 -- client has taken all that its station has for it, and prints that octet while the call goes on.
-use Rattle.station_laws.proofs.Common.{All, inl, inr, arith, list_all, and_parts, ltb-true, All-from_recursion, Callsign}
-use Rattle.station_laws.proofs.Common.{IsCallCharacter, BeginsWithPath, way_back, Path, Role, Command, Frame, Setup, Info}
-use Rattle.station_laws.proofs.Common.{Eight, Sabm, Ua, IsFrame, reading, default_params, End, A, B, World, Config}
-use Rattle.station_laws.proofs.Common.{Joined, Bytes, Agw, answering_else, call_of_text, shown_to_hosts, joining, taking}
-use Rattle.station_laws.proofs.Common.{event_at, making, no_layer_3, Route, path_along, StationState, new_station, Turn}
-use Rattle.station_laws.proofs.Common.{Step, new_stations, IsJointRun, FromHost, OffAir, Calls, Pairs, IsQuietLink}
-use Rattle.station_laws.proofs.Common.{frame_octets, WindowsFit, Pair, RiseBoth, AreAlikeButForH, HearsLinkFrame}
-use Rattle.station_laws.proofs.Common.{IsHeardPair, HasPair, AreHeardInOrder, All-contains_itself, AllPairs, slice_get}
-use Rattle.station_laws.proofs.Common.{get_or, sym, ◌∙◌, subst, Connection}
+use Rattle.station_laws.proofs.Common.{All, inl, inr, arith, list_all, and_parts, ltb-true, All-from_recursion}
+use Rattle.station_laws.proofs.Common.{Callsign, IsCallCharacter, BeginsWithPath, way_back, Path, Role, Command, Frame}
+use Rattle.station_laws.proofs.Common.{Setup, Info, Eight, Sabm, Ua, IsFrame, reading, default_params, End, A, B}
+use Rattle.station_laws.proofs.Common.{Config, Joined, Bytes, Agw, answering_else, call_of_text, shown_to_hosts}
+use Rattle.station_laws.proofs.Common.{joining, taking, event_at, making, no_layer_3, Route, path_along, StationState}
+use Rattle.station_laws.proofs.Common.{new_station, Turn, Step, new_stations, IsJointRun, FromHost, OffAir, Calls}
+use Rattle.station_laws.proofs.Common.{Pairs, IsQuietLink, frame_octets, WindowsFit, Pair, RiseBoth, AreAlikeButForH}
+use Rattle.station_laws.proofs.Common.{HearsLinkFrame, IsHeardPair, HasPair, AreHeardInOrder, All-contains_itself}
+use Rattle.station_laws.proofs.Common.{AllPairs, slice_get, get_or, sym, ◌∙◌, subst, Connection}
 use Rattle.std.specs.Prelude.{◌≡◌, ◌≢◌, ℕ, zero, suc, ◌<◌, true, false, nat_lt, Contains, List, [], ◌∷◌, ◌++◌, length}
 use Rattle.std.specs.Prelude.{Some, None, refl}
 use Rattle.std.specs.List.{AllByRecursion as Each}
@@ -294,7 +294,8 @@ a_hears_ua =
 abbrev pub b_gives : Step
 unfolding reading call_of_text link_turn
 b_gives =
-    let octets = 0 ∷ 0 ∷ 0 ∷ 0 ∷ 68 ∷ 0 ∷ 240 ∷ 0 ∷ (field 66 ++ (field 65 ++ 1 ∷ 0 ∷ 0 ∷ 0 ∷ 0 ∷ 0 ∷ 0 ∷ 0 ∷ 104 ∷ [])) in
+    let octets = 0 ∷ 0 ∷ 0 ∷ 0 ∷ 68 ∷ 0 ∷ 240 ∷ 0
+    ∷ (field 66 ++ (field 65 ++ 1 ∷ 0 ∷ 0 ∷ 0 ∷ 0 ∷ 0 ∷ 0 ∷ 0 ∷ 104 ∷ [])) in
     let before = b_hears_sabm.after.now in
     let after = answering_else 1 (message_of octets (104 ∷ [])) (takes before octets) in record {
       station = B;
@@ -447,12 +448,15 @@ all_b (suc (suc (suc (suc zero)))) step octets is hears = absurd (of_other B a_c
 all_b (suc (suc (suc (suc (suc zero))))) step octets is hears =
     has_itself pairs.at_b 0 (record { heard = 5; sent = 0 }) (record { heard = 0; sent = 0 })
     (All-contains_itself pairs.at_b) (omega arith) refl
-all_b (suc (suc (suc (suc (suc (suc zero)))))) step octets is hears = absurd (of_other B a_hears_ua step octets a_is_not_b is hears)
+all_b (suc (suc (suc (suc (suc (suc zero)))))) step octets is hears =
+    absurd (of_other B a_hears_ua step octets a_is_not_b is hears)
 all_b (suc (suc (suc (suc (suc (suc (suc zero))))))) step octets is hears =
     absurd (subst (λ (s : Step). HearsLinkFrame B s octets) (sym (same_some b_gives step is)) hears).input
-all_b (suc (suc (suc (suc (suc (suc (suc (suc zero)))))))) step octets is hears = absurd (of_other B a_hears_info step octets a_is_not_b is hears)
+all_b (suc (suc (suc (suc (suc (suc (suc (suc zero)))))))) step octets is hears =
+    absurd (of_other B a_hears_info step octets a_is_not_b is hears)
 all_b (suc (suc (suc (suc (suc (suc (suc (suc (suc n))))))))) step octets is hears =
-    absurd (let none : slice_get steps (suc (suc (suc (suc (suc (suc (suc (suc (suc n))))))))) ≡ None = slice_get_past steps (suc (suc (suc (suc (suc (suc (suc (suc (suc n))))))))) (omega arith) in
+    absurd (let none : slice_get steps (suc (suc (suc (suc (suc (suc (suc (suc (suc n))))))))) ≡ None =
+    slice_get_past steps (suc (suc (suc (suc (suc (suc (suc (suc (suc n))))))))) (omega arith) in
     let clash : None ≡ Some step = sym none ∙ is in cc)
 
 heard_at_b : AreHeardInOrder B steps pairs.at_b
@@ -505,16 +509,19 @@ all_a (suc (suc zero)) step octets is hears =
 all_a (suc (suc (suc zero))) step octets is hears = absurd (of_other A b_registers step octets b_is_not_a is hears)
 all_a (suc (suc (suc (suc zero)))) step octets is hears =
     absurd (subst (λ (s : Step). HearsLinkFrame A s octets) (sym (same_some a_calls step is)) hears).input
-all_a (suc (suc (suc (suc (suc zero))))) step octets is hears = absurd (of_other A b_hears_sabm step octets b_is_not_a is hears)
+all_a (suc (suc (suc (suc (suc zero))))) step octets is hears =
+    absurd (of_other A b_hears_sabm step octets b_is_not_a is hears)
 all_a (suc (suc (suc (suc (suc (suc zero)))))) step octets is hears =
     has_itself pairs.at_a 0 (record { heard = 6; sent = 0 }) (record { heard = 0; sent = 0 })
     (All-contains_itself pairs.at_a) (omega arith) refl
-all_a (suc (suc (suc (suc (suc (suc (suc zero))))))) step octets is hears = absurd (of_other A b_gives step octets b_is_not_a is hears)
+all_a (suc (suc (suc (suc (suc (suc (suc zero))))))) step octets is hears =
+    absurd (of_other A b_gives step octets b_is_not_a is hears)
 all_a (suc (suc (suc (suc (suc (suc (suc (suc zero)))))))) step octets is hears =
     has_itself pairs.at_a 1 (record { heard = 8; sent = 1 }) (record { heard = 0; sent = 0 })
     (All-contains_itself pairs.at_a) (omega arith) refl
 all_a (suc (suc (suc (suc (suc (suc (suc (suc (suc n))))))))) step octets is hears =
-    absurd (let none : slice_get steps (suc (suc (suc (suc (suc (suc (suc (suc (suc n))))))))) ≡ None = slice_get_past steps (suc (suc (suc (suc (suc (suc (suc (suc (suc n))))))))) (omega arith) in
+    absurd (let none : slice_get steps (suc (suc (suc (suc (suc (suc (suc (suc (suc n))))))))) ≡ None =
+    slice_get_past steps (suc (suc (suc (suc (suc (suc (suc (suc (suc n))))))))) (omega arith) in
     let clash : None ≡ Some step = sym none ∙ is in cc)
 
 heard_at_a : AreHeardInOrder A steps pairs.at_a
@@ -573,7 +580,10 @@ client_steps = (
   (
     λ same. absurd (b_is_not_a same),
     (
-      λ same. record { speaks = All-from_recursion SpeaksHere a_joins.after.now.connections (λ e. refl, tt); stays = λ e. refl },
+      λ same. record {
+        speaks = All-from_recursion SpeaksHere a_joins.after.now.connections (λ e. refl, tt);
+        stays = λ e. refl;
+      },
       (
         λ same. absurd (b_is_not_a same),
         (

@@ -1,8 +1,8 @@
 -- The field of a call has ten octets and tells the call.
-use Rattle.station_laws.proofs.Common.{◌≡◌, ◌≢◌, ℕ, zero, suc, ◌+◌, ◌-◌, ◌<◌, ◌≤◌, ◌⊎◌, ◌==◌, Bool, true, false, List}
-use Rattle.station_laws.proofs.Common.{[], ◌∷◌, ◌++◌, length, cond, Option, Some, None, refl, sym, ap, ◌∙◌, subst, arith}
-use Rattle.station_laws.proofs.Common.{inl, inr, ⊤, length-append, append-nil, get_or, Callsign, IsCallCharacter}
-use Rattle.station_laws.proofs.Common.{call_of_text, call_in, each_append, All-from_recursion, recursion_from_All}
+use Rattle.station_laws.proofs.Common.{◌≡◌, ℕ, zero, suc, ◌+◌, ◌-◌, ◌<◌, ◌≤◌, ◌==◌, Bool, true, false, List}
+use Rattle.station_laws.proofs.Common.{[], ◌∷◌, ◌++◌, length, cond, Option, Some, None, refl, sym, ap, ◌∙◌, arith}
+use Rattle.station_laws.proofs.Common.{inl, inr, length-append, Callsign, IsCallCharacter}
+use Rattle.station_laws.proofs.Common.{call_of_text, call_in, each_append, recursion_from_All}
 use Rattle.std.specs.Prelude.{replicate}
 use Rattle.std.specs.List.{AllByRecursion as Each}
 use Rattle.std.proofs.lemmas.List.{length-replicate}

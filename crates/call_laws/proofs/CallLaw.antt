@@ -1,12 +1,12 @@
 -- A call whose host is a station of a joint run prints what the partner's host gave in one set-up.
-use Rattle.station_laws.proofs.Common.{◌≡◌, ◌≢◌, ℕ, zero, suc, ◌+◌, ◌<◌, ◌≤◌, Bool, true, false, List, [], ◌∷◌, ◌++◌}
-use Rattle.station_laws.proofs.Common.{length, map, All, Option, Some, None, refl, sym, ap, ◌∙◌, subst, arith, ⊤}
-use Rattle.station_laws.proofs.Common.{slice_get, append-nil, append_assoc, length-append, map-append, each_append}
-use Rattle.station_laws.proofs.Common.{recursion_from_All, All-from_recursion, AgwMessage, Packet, Told, Machine}
+use Rattle.station_laws.proofs.Common.{◌≡◌, ◌≢◌, ℕ, zero, suc, ◌<◌, Bool, false, List, [], ◌∷◌, ◌++◌}
+use Rattle.station_laws.proofs.Common.{length, Option, Some, None, refl, sym, ap, ◌∙◌, subst, arith}
+use Rattle.station_laws.proofs.Common.{slice_get, append_assoc, length-append, map-append, each_append}
+use Rattle.station_laws.proofs.Common.{recursion_from_All, All-from_recursion, AgwMessage, Packet, Machine}
 use Rattle.station_laws.proofs.Common.{new_machine, End, A, B, World, seen_from, Config, Link, Links, most_links}
 use Rattle.station_laws.proofs.Common.{StationState, new_station, Turn, Step, Stations, IsJointRun, new_stations}
 use Rattle.station_laws.proofs.Common.{state_of, with_state, stepped, all_stepped, at_end, Calls, Pairs, link_at_end}
-use Rattle.station_laws.proofs.Common.{path_between, LinkStep, steps_of, link_steps_at, LinkKeepsOrder, first_chosen}
+use Rattle.station_laws.proofs.Common.{path_between, LinkStep, steps_of, link_steps_at, LinkKeepsOrder}
 use Rattle.station_laws.proofs.Common.{Choice, Idle, RunsIn}
 use Rattle.std.specs.Prelude.{fold, replicate}
 use Rattle.std.specs.List.{flat_map, AllByRecursion as Each}
@@ -16,19 +16,19 @@ use Rattle.agwpe_port.specs.Messages.{spelling, header_of, messages_in}
 use Rattle.agwpe_client.specs.CallMessages.{disconnect_kind}
 use Rattle.agwpe_client.specs.CallRun.{CallPlan, printed_after}
 use Rattle.agwpe_client.specs.CallPrints.{PrintsBetween}
-use Rattle.agwpe_client.specs.DoneCall.{is_of, data_of}
+use Rattle.agwpe_client.specs.DoneCall.{is_of}
 use Rattle.agwpe_client.proofs.PrintLemmas.{prints_its_data_holds}
-use Rattle.link_world.specs.Origin.{GotInOrder, GotNothingElse, GotPrefix}
+use Rattle.link_world.specs.Origin.{GotInOrder, GotNothingElse}
 use Rattle.link_world.specs.SetUps.{SetUp}
 use Rattle.station.specs.Turn.{begin}
 use Rattle.station.specs.declared.host_out.Piece.{Piece}
 use Rattle.station_laws.specs.StationsLaw.{StationsLaw}
 use Rattle.station_laws.specs.LinkOfCalls.{world_of}
 use Rattle.station_laws.specs.RunsTell.{told_in}
-use Rattle.station_laws.proofs.Chains.{last_machine, last_append}
+use Rattle.station_laws.proofs.Chains.{last_machine}
 use Rattle.station_laws.proofs.LinkTells.{none_idle}
 use Rattle.station_laws.proofs.Tables.{NotChosen, none_chosen, one_of_none}
-use Rattle.call_laws.specs.Client.{IsBetweenCalls, IsClientOf, IsClientStep, calls_of, octets_had, pieces_at, pieces_for}
+use Rattle.call_laws.specs.Client.{IsBetweenCalls, IsClientStep, calls_of, pieces_at, pieces_for}
 use Rattle.call_laws.specs.FirstPart.{IsFirstPart, HasHeader}
 use Rattle.call_laws.specs.PrintsGiven.{PrintsGiven, CallLaw}
 use Rattle.call_laws.specs.PrintsTold.{octets_of, PrintsTold, CallToldLaw}
@@ -37,8 +37,8 @@ use Rattle.call_laws.proofs.Collect.{FitsItem, finds}
 use Rattle.call_laws.proofs.Gots.{gots}
 use Rattle.call_laws.proofs.Items.{Item, messages_of, tells_of, messages_append, tells_append, all_items, items_append}
 use Rattle.call_laws.proofs.Items.{told_of_items, told_all, told_tells, IsTale, IsOwnedChain, chain_tale, last_owned}
-use Rattle.call_laws.proofs.Items.{owned_append, tale_of_tells}
-use Rattle.call_laws.proofs.LinkActs.{Does, Goes, chain_append, meant}
+use Rattle.call_laws.proofs.Items.{tale_of_tells}
+use Rattle.call_laws.proofs.LinkActs.{Does, chain_append, meant}
 use Rattle.call_laws.proofs.OwnTables.{OwnTable, IsOwnPlace, IsValidPlace}
 use Rattle.call_laws.proofs.Reading.{first_part_is_read_holds, part_of_part}
 use Rattle.call_laws.proofs.Sayings.{HasTen, pieces_both, pieces_with}
@@ -226,11 +226,12 @@ given_in w number got printed order is part some =
     no_more in
     let given : octets_of origin.giver.given ≡ octets_of got ++ octets_of origin.prefix.0 =
     ap octets_of (origin.prefix.1 ∙ ap (λ g. g ++ origin.prefix.0) here.got_is)
-    ∙ flat_map-append (λ (p : Packet). p.octets) got origin.prefix.0 in
+    ∙ flat_map-append _ got origin.prefix.0 in
     record {
       place = number;
       own = here.own;
       is_own = here.is_own;
+      got = subst (λ g. IsFirstPart printed (octets_of g)) (sym here.got_is) part;
       number = origin.number;
       is_origin = origin.is_origin;
       giver = origin.giver;

@@ -1,7 +1,7 @@
 -- The data of a call that follow a C with no d between are of one set-up of the link.
-use Rattle.station_laws.proofs.Common.{◌≡◌, ℕ, zero, suc, Bool, true, false, ◌==◌, ◌&&◌, List, [], ◌∷◌, ◌++◌, length, cond}
+use Rattle.station_laws.proofs.Common.{◌≡◌, ℕ, Bool, true, false, ◌==◌, ◌&&◌, List, [], ◌∷◌, ◌++◌, length, cond}
 use Rattle.station_laws.proofs.Common.{Some, refl, sym, ap, ◌∙◌, subst, slice_get, ⊤, append-nil, append_assoc}
-use Rattle.station_laws.proofs.Common.{Callsign, AgwMessage, Packet, Told, Opened, Given, Ended, Why}
+use Rattle.station_laws.proofs.Common.{AgwMessage, Packet, Told, Opened, Given, Ended, Why}
 use Rattle.std.specs.Prelude.{fold}
 use Rattle.std.specs.List.{flat_map, AllByRecursion as Each}
 use Rattle.std.specs.Str.{bytes_eq}
@@ -120,7 +120,7 @@ module _ (plan : CallPlan) where
 
   octets_grow : (first got : List Packet) → IsFirstPart first got → IsFirstPart (octets_of first) (octets_of got)
   octets_grow first got part =
-      (octets_of part.0, ap octets_of part.1 ∙ flat_map-append (λ (p : Packet). p.octets) first part.0)
+      (octets_of part.0, ap octets_of part.1 ∙ flat_map-append _ first part.0)
 
   cons_head : (x y : AgwMessage) (xs ys : List AgwMessage) → x ∷ xs ≡ y ∷ ys → (x ≡ y) × (xs ≡ ys)
   cons_head x y xs ys same = (cc, cc)
@@ -157,7 +157,7 @@ module _ (plan : CallPlan) where
       let data_is : data_of plan message ≡ packet.octets = ap (data_of plan) (sym same.0) ∙ given_data packet in
       let more = collects items others (got ++ packet ∷ []) middle rest fits.1 tale.2 same.1 none.1 in
       let before : octets_of (got ++ packet ∷ []) ≡ octets_of got ++ packet.octets =
-      flat_map-append (λ (p : Packet). p.octets) got (packet ∷ [])
+      flat_map-append _ got (packet ∷ [])
       ∙ ap (λ xs. octets_of got ++ xs) (append-nil packet.octets) in
       let all : octets_of (got ++ packet ∷ []) ++ flat_map (data_of plan) middle
       ≡ octets_of got ++ (data_of plan message ++ flat_map (data_of plan) middle) =

@@ -1,12 +1,13 @@
 -- What the set-ups of a link's ends got is what the link told at its stations.
 use Rattle.station_laws.proofs.Common.{◌≡◌, ℕ, Bool, true, false, List, [], ◌∷◌, ◌++◌, length, map, cond, Option, Some}
-use Rattle.station_laws.proofs.Common.{None, is_some, refl, sym, ap, ◌∙◌, subst, map-append, Path, Packet, Told, Opened}
-use Rattle.station_laws.proofs.Common.{Given, Ended, LinkState, Idle, Calling, Up, Releasing, End, A, B, Change, changed}
-use Rattle.station_laws.proofs.Common.{made_in, run_changes, Keeps, Makes, Tagged, RecordedEnd, Happening, Connects, Sends}
-use Rattle.station_laws.proofs.Common.{Disconnects, Ticks, Hears, World, seen_from, other, near_turn, turn_of, happening}
-use Rattle.station_laws.proofs.Common.{Step, at_end, Calls, Pairs, Counts, link_at_end, count_at, with_more, event_at_end}
-use Rattle.station_laws.proofs.Common.{makes, heard_at, changes_by, all_changes_by, changes_from, marks_from, FollowsAll}
-use Rattle.station_laws.proofs.Common.{FollowsThrough, first_world, LinkStep, steps_of, link_steps_at, ◌+◌}
+use Rattle.station_laws.proofs.Common.{None, is_some, refl, sym, ap, ◌∙◌, map-append, Path, Packet, Told, Opened, Given}
+use Rattle.station_laws.proofs.Common.{Ended, LinkState, Idle, Calling, Up, Releasing, End, A, B, Change, changed}
+use Rattle.station_laws.proofs.Common.{made_in, run_changes, Keeps, Tagged, RecordedEnd, Happening, Connects, Sends}
+use Rattle.station_laws.proofs.Common.{Disconnects, Ticks, Hears, World, seen_from, other, near_turn, turn_of}
+use Rattle.station_laws.proofs.Common.{happening, Step, at_end, Calls, Pairs, Counts, link_at_end, count_at, with_more}
+use Rattle.station_laws.proofs.Common.{event_at_end, makes, heard_at, changes_by, all_changes_by, changes_from}
+use Rattle.station_laws.proofs.Common.{marks_from, FollowsAll, FollowsThrough, first_world, LinkStep, steps_of}
+use Rattle.station_laws.proofs.Common.{link_steps_at, ◌+◌}
 use Rattle.std.specs.Prelude.{fold}
 use Rattle.std.specs.List.{flat_map}
 use Rattle.std.proofs.lemmas.List.Concat.{flat_map-append}
@@ -17,7 +18,7 @@ use Rattle.link_machine.specs.Event.Event.{Hear as LinkHear, Tick as LinkTick}
 use Rattle.link_machine.specs.Step.{refusal_of}
 use Rattle.link_world.specs.declared.event.Event.{Event}
 use Rattle.link_world.specs.Flight.{is_numbered}
-use Rattle.link_world.specs.Recorded.{accepts, taking, hearing, noting, opening, told_of, end_turn}
+use Rattle.link_world.specs.Recorded.{accepts, taking, hearing, noting, told_of, end_turn}
 use Rattle.link_world.specs.SetUps.{SetUp, giving, getting, acting, change_last, last_changed}
 use Rattle.station_laws.specs.RunsTell.{told_in}
 use Rattle.station_laws.specs.StationsLaw.{FollowingLaw}

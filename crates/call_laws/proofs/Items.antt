@@ -1,10 +1,8 @@
 -- What a connection is sent, one message after another, each told by the link of a call or not.
-use Rattle.station_laws.proofs.Common.{◌≡◌, ℕ, Bool, true, false, List, [], ◌∷◌, ◌++◌, map, Option, Some, None, refl, sym}
-use Rattle.station_laws.proofs.Common.{ap, ◌∙◌, subst, ⊤, append_assoc, Callsign, AgwMessage, Packet, Told, Opened}
-use Rattle.station_laws.proofs.Common.{Given, Ended, LinkState, Idle, Calling, Up, Releasing, Machine, LinkStep, RunsIn}
-use Rattle.station_laws.proofs.Common.{runs_after, is_number, Path}
+use Rattle.station_laws.proofs.Common.{◌≡◌, ℕ, Bool, true, false, List, [], ◌∷◌, ◌++◌, map, Option, Some, None, refl}
+use Rattle.station_laws.proofs.Common.{sym, ap, ◌∙◌, subst, ⊤, append_assoc, Callsign, AgwMessage, Told, Opened, Given}
+use Rattle.station_laws.proofs.Common.{Ended, LinkState, Idle, Machine, LinkStep, RunsIn, runs_after, is_number, Path}
 use Rattle.std.specs.List.{flat_map}
-use Rattle.std.specs.List.{AllByRecursion as Each}
 use Rattle.link_machine.specs.Step.{step as link_turn}
 use Rattle.station.specs.HostMessages.{message_of_told}
 use Rattle.station_laws.specs.LinksTell.{AreToldInOne}

@@ -10,3 +10,4 @@ mod LinkActs
 mod Walk
 mod CallLaw
 mod CallExample
+mod CallSeen

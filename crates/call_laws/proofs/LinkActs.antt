@@ -1,16 +1,15 @@
 -- What an act of a station sends to a connection, and whose the link of a call is then.
-use Rattle.station_laws.proofs.Common.{◌≡◌, ◌≢◌, ℕ, Bool, true, false, List, [], ◌∷◌, ◌++◌, map, cond, Option, Some, None}
-use Rattle.station_laws.proofs.Common.{refl, sym, ap, ◌∙◌, subst, ⊤, append-nil, append_assoc, map-append, each_append}
-use Rattle.station_laws.proofs.Common.{range_with_len, Path, AgwMessage, Machine, LinkState, Idle, Callsign}
-use Rattle.station_laws.proofs.Common.{giving_packet, packets_of, data_pid, giving, disconnecting, giving_up}
-use Rattle.station_laws.proofs.Common.{giving_up_all, giving_up_link, leaving, without_host, without_owner, event_of}
-use Rattle.station_laws.proofs.Common.{event_at, with_links, Link, Links, IsNewKey, is_between, link_at, most_links}
-use Rattle.station_laws.proofs.Common.{with_link, with_new_link, is_number, ticking_at, ticking_links, waits, Turn, Act}
-use Rattle.station_laws.proofs.Common.{in_order, changing, step, new_machine, settled_link, Choice, first_chosen}
-use Rattle.station_laws.proofs.Common.{LinkStep, link_step, steps_for, steps_at, steps_along, ticks_at, tick_steps}
-use Rattle.station_laws.proofs.Common.{given_up, gives_up_at, leaving_steps, sends_at, data_steps, disconnect_steps}
+use Rattle.station_laws.proofs.Common.{◌≡◌, ◌≢◌, ℕ, Bool, true, false, List, [], ◌∷◌, ◌++◌, map, cond, Option, Some}
+use Rattle.station_laws.proofs.Common.{None, refl, sym, ap, ◌∙◌, subst, append-nil, append_assoc, map-append}
+use Rattle.station_laws.proofs.Common.{each_append, range_with_len, Path, AgwMessage, Machine, Idle, giving_packet}
+use Rattle.station_laws.proofs.Common.{packets_of, data_pid, giving, disconnecting, giving_up, giving_up_all}
+use Rattle.station_laws.proofs.Common.{giving_up_link, leaving, without_host, without_owner, event_of, event_at}
+use Rattle.station_laws.proofs.Common.{with_links, Link, IsNewKey, is_between, link_at, most_links, with_link}
+use Rattle.station_laws.proofs.Common.{with_new_link, is_number, ticking_at, ticking_links, waits, Turn, Act, in_order}
+use Rattle.station_laws.proofs.Common.{changing, step, settled_link, Choice, first_chosen, LinkStep, link_step}
+use Rattle.station_laws.proofs.Common.{steps_for, steps_at, steps_along, ticks_at, tick_steps, given_up, gives_up_at}
+use Rattle.station_laws.proofs.Common.{leaving_steps, sends_at, data_steps, disconnect_steps}
 use Rattle.std.specs.List.{AllByRecursion as Each}
-use Rattle.ax25_address.specs.Callsign.{IsCall}
 use Rattle.agwpe_client.specs.CallRun.{CallPlan}
 use Rattle.link_machine.specs.Event.{Event as LinkEvent}
 use Rattle.link_machine.specs.Event.Event.{Send as LinkSend, Disconnect as LinkDisconnect, Tick as LinkTick}
@@ -24,7 +23,7 @@ use Rattle.call_laws.specs.Client.{pieces_for, IsBetweenCalls}
 use Rattle.call_laws.proofs.Collect.{FitsItem}
 use Rattle.call_laws.proofs.Items.{Item, messages_of, tells_of, messages_append, tells_append, items_in, all_items}
 use Rattle.call_laws.proofs.Items.{items_append, owned_by, Continues, IsOwnedChain, last_owned, owned_append}
-use Rattle.call_laws.proofs.Items.Item.{Tells, Says}
+use Rattle.call_laws.proofs.Items.Item.{Tells}
 use Rattle.call_laws.proofs.OwnTables.{HasValidCalls, OwnTable, valid_at, own_at, own_event, other_event, owner_gone}
 use Rattle.call_laws.proofs.OwnTables.{IsOwnPlace, made_own, made_other, made_at}
 use Rattle.call_laws.proofs.Sayings.{HasTen, SaysOnly, pieces_with, pieces_both, says_nothing, link_pieces, link_says}
@@ -221,8 +220,9 @@ pub record MayMake (plan : CallPlan) (turn : Turn) (key : ℕ) (link : Link) : T
   pub none : meant plan (Some link) ≡ true → first_chosen (meant plan) turn.now.links.places ≡ None
 
 pub made_does :
-    (id : ℕ) (plan : CallPlan) → IsBetweenCalls plan → (before : Turn) (key : ℕ) (link : Link) (path : Path) (made : Turn)
-    (event : LinkEvent) → MayMake plan before key link → made ≡ changing (with_links (with_new_link key link)) before
+    (id : ℕ) (plan : CallPlan) → IsBetweenCalls plan → (before : Turn) (key : ℕ) (link : Link) (path : Path)
+    (made : Turn) (event : LinkEvent) → MayMake plan before key link
+    → made ≡ changing (with_links (with_new_link key link)) before
     → Does id plan before (steps_at (meant plan) (Some path) key event made) (event_at key event made)
 made_does id plan calls before key link path made event may made_is own m table =
     subst (λ place. Goes id plan own m before (steps_for (meant plan) (Some path) key event made place)

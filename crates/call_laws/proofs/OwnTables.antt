@@ -1,9 +1,9 @@
 -- The table of links of a station, and the owner of its link between two calls.
-use Rattle.station_laws.proofs.Common.{◌≡◌, ◌≢◌, ℕ, ◌<◌, ◌==◌, Bool, true, false, length, cond, Option, Some, None, get_or}
-use Rattle.station_laws.proofs.Common.{set, refl, sym, ap, ◌∙◌, subst, arith, ⊤, get_or-set_same, Callsign, Machine}
-use Rattle.station_laws.proofs.Common.{LinkState, Idle, Calling, Up, Releasing, settled_link, without_owner, Link, Links}
-use Rattle.station_laws.proofs.Common.{IsNewKey, link_at, most_links, with_link, with_new_link, is_number, Choice}
-use Rattle.station_laws.proofs.Common.{first_chosen, eqb-true, List}
+use Rattle.station_laws.proofs.Common.{◌≡◌, ◌≢◌, ℕ, ◌<◌, ◌==◌, Bool, true, false, length, cond, Option, Some, None}
+use Rattle.station_laws.proofs.Common.{get_or, set, refl, sym, ap, ◌∙◌, subst, arith, ⊤, get_or-set_same, Machine}
+use Rattle.station_laws.proofs.Common.{LinkState, Idle, Calling, Up, Releasing, settled_link, without_owner, Link}
+use Rattle.station_laws.proofs.Common.{Links, IsNewKey, link_at, most_links, with_link, with_new_link, is_number}
+use Rattle.station_laws.proofs.Common.{Choice, first_chosen, eqb-true}
 use Rattle.std.specs.List.{AllByRecursion as Each}
 use Rattle.std.proofs.lemmas.Bool.{false_from_ne_true}
 use Rattle.std.proofs.lemmas.List.{length-set}

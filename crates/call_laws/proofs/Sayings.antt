@@ -1,10 +1,9 @@
 -- What a connection is sent that no link of the call tells.
-use Rattle.station_laws.proofs.Common.{◌≡◌, ◌≢◌, ℕ, zero, suc, ◌+◌, ◌<◌, ◌≤◌, ◌==◌, ◌&&◌, nat_lt, Bool, true, false, List}
+use Rattle.station_laws.proofs.Common.{◌≡◌, ℕ, zero, suc, ◌≤◌, ◌==◌, ◌&&◌, nat_lt, Bool, true, false, List}
 use Rattle.station_laws.proofs.Common.{[], ◌∷◌, ◌++◌, length, map, take, drop, cond, Option, Some, None, refl, sym, ap}
-use Rattle.station_laws.proofs.Common.{◌∙◌, subst, arith, ⊤, and_parts, and_right, eqb-true, append-nil, append_assoc}
-use Rattle.station_laws.proofs.Common.{map-append, each_append, ltb-false, not, Callsign, AgwMessage, Told, Opened}
+use Rattle.station_laws.proofs.Common.{◌∙◌, subst, arith, and_parts, and_right, eqb-true}
+use Rattle.station_laws.proofs.Common.{map-append, each_append, ltb-false, Callsign, AgwMessage, Told, Opened}
 use Rattle.station_laws.proofs.Common.{Given, Ended, Link, is_between, is_number}
-use Rattle.std.specs.Prelude.{filter}
 use Rattle.std.specs.List.{AllByRecursion as Each}
 use Rattle.std.specs.Str.{bytes_eq}
 use Rattle.std.proofs.lemmas.Bool.{false_from_ne_true, eq-eqb}
@@ -18,7 +17,6 @@ use Rattle.agwpe_port.specs.Messages.{Reading, and_then, most_body, header_size}
 use Rattle.agwpe_client.specs.CallMessages.{connect_kind, data_kind}
 use Rattle.agwpe_client.specs.CallRun.{CallPlan}
 use Rattle.agwpe_client.specs.CallSteps.{is_of_call}
-use Rattle.agwpe_client.specs.DoneCall.{is_of}
 use Rattle.station.specs.HostMessages.{message_of_told}
 use Rattle.station.specs.declared.host_out.Piece.{Piece}
 use Rattle.station_laws.proofs.Standing.{calls_chosen}

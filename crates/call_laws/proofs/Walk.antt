@@ -1,54 +1,50 @@
 -- What each step of a station sends to a connection, act by act.
-use Rattle.station_laws.proofs.Common.{◌≡◌, ◌≢◌, ℕ, ◌==◌, ◌&&◌, nat_lt, nat_le, Bool, true, false, List, [], ◌∷◌, ◌++◌}
+use Rattle.station_laws.proofs.Common.{◌≡◌, ℕ, ◌==◌, ◌&&◌, nat_lt, nat_le, Bool, true, false, List, [], ◌∷◌, ◌++◌}
 use Rattle.station_laws.proofs.Common.{length, map, drop, cond, if◌then◌else◌, Option, Some, None, is_none, refl, sym}
-use Rattle.station_laws.proofs.Common.{ap, ◌∙◌, subst, inl, inr, ⊤, MatchBool, eqb-true, cond-true, cond-false}
-use Rattle.station_laws.proofs.Common.{append-nil, append_assoc, and_parts, recursion_from_All, BeginsWithPath-same}
-use Rattle.station_laws.proofs.Common.{BeginsWithPath, Callsign, way_back, Path, Command, Frame, Kind, Info, Super}
-use Rattle.station_laws.proofs.Common.{Setup, Ui, Eight, IsFrame, bad_length_in, AgwMessage, repeated, KissItem, Set}
-use Rattle.station_laws.proofs.Common.{Hardware, Return, TooLong, HostEvent, Joined, Bytes, Left, PortKind, Kiss, Agw}
-use Rattle.station_laws.proofs.Common.{version_kind, ports_kind, capabilities_kind, register_kind, unregister_kind}
-use Rattle.station_laws.proofs.Common.{toggle_kind, monitor_kind, raw_kind, unproto_kind, unproto_via_kind, data_kind}
-use Rattle.station_laws.proofs.Common.{disconnect_kind, pending_kind, waiting_kind, replying, version_reply}
-use Rattle.station_laws.proofs.Common.{ports_reply, capabilities_reply, toggled, monitor_toggled, register_reply}
-use Rattle.station_laws.proofs.Common.{with_registration, registering, unregistering, queueing_raw, most_information}
-use Rattle.station_laws.proofs.Common.{unnumbered_frame, sending_unnumbered, refused_reply, may_call, calls}
-use Rattle.station_laws.proofs.Common.{called_route, called_pid, IsCall, IsCallMade, own_key, giving, disconnecting}
-use Rattle.station_laws.proofs.Common.{pending_in, pending_reply, waiting_reply, answering_else, AreAnswered}
-use Rattle.station_laws.proofs.Common.{has_frame_length, call_in, Connection, connection_of, most_connections}
-use Rattle.station_laws.proofs.Common.{frame_octets, IsHeard, IsHeardBy, IsHeardAnew, IsHeardMaking}
-use Rattle.station_laws.proofs.Common.{IsReadingHeardAnew, IsRepeatedFor, AreHeardAt, AreOctetsHeard, may_make}
-use Rattle.station_laws.proofs.Common.{with_shown, shown_to_hosts, showing_to, source_field, destination_field}
-use Rattle.station_laws.proofs.Common.{waits_for_repeater, joining, with_host, new_messages, new_items, taking, ending}
-use Rattle.station_laws.proofs.Common.{AreTaken, AreTakenBy, IsHostTurn, IsPathOf, param_of, with_param, heeding}
-use Rattle.station_laws.proofs.Common.{heeding_all, leaving, event_at, Link, is_between, key_between, link_at, making}
+use Rattle.station_laws.proofs.Common.{ap, ◌∙◌, subst, inl, inr, ⊤, MatchBool, eqb-true, append-nil, and_parts}
+use Rattle.station_laws.proofs.Common.{recursion_from_All, BeginsWithPath-same, BeginsWithPath, Callsign, way_back}
+use Rattle.station_laws.proofs.Common.{Path, Command, Frame, Kind, Info, Super, Setup, Ui, Eight, IsFrame}
+use Rattle.station_laws.proofs.Common.{bad_length_in, AgwMessage, repeated, KissItem, Set, Hardware, Return, TooLong}
+use Rattle.station_laws.proofs.Common.{HostEvent, Joined, Bytes, Left, PortKind, Kiss, Agw, version_kind, ports_kind}
+use Rattle.station_laws.proofs.Common.{capabilities_kind, register_kind, unregister_kind, toggle_kind, monitor_kind}
+use Rattle.station_laws.proofs.Common.{raw_kind, unproto_kind, unproto_via_kind, data_kind, disconnect_kind}
+use Rattle.station_laws.proofs.Common.{pending_kind, waiting_kind, replying, version_reply, ports_reply}
+use Rattle.station_laws.proofs.Common.{capabilities_reply, toggled, monitor_toggled, register_reply, with_registration}
+use Rattle.station_laws.proofs.Common.{registering, unregistering, queueing_raw, most_information, unnumbered_frame}
+use Rattle.station_laws.proofs.Common.{sending_unnumbered, refused_reply, may_call, calls, called_route, called_pid}
+use Rattle.station_laws.proofs.Common.{IsCall, IsCallMade, own_key, giving, disconnecting, pending_in, pending_reply}
+use Rattle.station_laws.proofs.Common.{waiting_reply, answering_else, AreAnswered, has_frame_length, call_in}
+use Rattle.station_laws.proofs.Common.{Connection, connection_of, most_connections, frame_octets, IsHeard, IsHeardBy}
+use Rattle.station_laws.proofs.Common.{IsHeardAnew, IsHeardMaking, IsReadingHeardAnew, IsRepeatedFor, AreHeardAt}
+use Rattle.station_laws.proofs.Common.{AreOctetsHeard, may_make, with_shown, shown_to_hosts, showing_to, source_field}
+use Rattle.station_laws.proofs.Common.{destination_field, waits_for_repeater, joining, with_host, new_messages}
+use Rattle.station_laws.proofs.Common.{new_items, taking, ending, AreTaken, AreTakenBy, IsHostTurn, IsPathOf, param_of}
+use Rattle.station_laws.proofs.Common.{with_param, heeding, heeding_all, leaving, is_between, key_between, making}
 use Rattle.station_laws.proofs.Common.{idle_link, no_layer_3, registrar, may_register, is_number, Route, route_in}
-use Rattle.station_laws.proofs.Common.{repeaters_in, behind_repeaters, path_along, ticking_links, waits, Out, Turn, Act}
-use Rattle.station_laws.proofs.Common.{in_order, changing, closing, queueing, capacity, entering, dropping, Input, IsTurn}
-use Rattle.station_laws.proofs.Common.{FromHost, OffAir, OfClock, LinkStep, steps_at, tick_steps, leaving_steps}
+use Rattle.station_laws.proofs.Common.{repeaters_in, behind_repeaters, path_along, ticking_links, Out, Turn, Act}
+use Rattle.station_laws.proofs.Common.{in_order, changing, closing, queueing, capacity, entering, dropping, Input}
+use Rattle.station_laws.proofs.Common.{IsTurn, FromHost, OffAir, OfClock, LinkStep, tick_steps, leaving_steps}
 use Rattle.station_laws.proofs.Common.{made_steps, call_steps, data_steps, disconnect_steps, else_steps, answer_steps}
 use Rattle.station_laws.proofs.Common.{message_steps, ending_steps, octet_steps_by, octet_steps, host_steps, hears_at}
 use Rattle.station_laws.proofs.Common.{new_steps, anew_steps, reading_steps, key_steps, path_steps, by_path_steps}
 use Rattle.station_laws.proofs.Common.{heard_steps, turn_steps, first_chosen, most_links, Step, steps_of}
-use Rattle.std.specs.Prelude.{filter, find}
+use Rattle.std.specs.Prelude.{filter}
 use Rattle.std.specs.List.{AllByRecursion as Each}
 use Rattle.std.proofs.lemmas.Bool.{false_from_ne_true}
 use Rattle.ax25_address.specs.Callsign.{IsCall as IsValidCall}
 use Rattle.ax25_frames.specs.declared.frame.Kind.TheVariants.{Other as OtherKind}
 use Rattle.ax25_frames.specs.declared.frame.Modulus.{Modulus}
 use Rattle.frame_monitor.specs.MonitorText.{monitor_letter}
-use Rattle.agwpe_port.specs.CallField.{call_field}
 use Rattle.agwpe_port.specs.Messages.{spelling, messages_in}
 use Rattle.agwpe_client.specs.CallMessages.{connect_kind}
 use Rattle.agwpe_client.specs.CallRun.{CallPlan}
 use Rattle.kiss_port.specs.declared.item.KissItem.TheVariants.{Frame as KissFrame, Other}
 use Rattle.link_machine.specs.Event.Event.{Connect as LinkConnect, Hear as LinkHear}
 use Rattle.station.specs.AgwKinds.{connect_via_kind}
-use Rattle.station.specs.CallFields.{sent_back}
 use Rattle.station.specs.Heard.{IsReadAs, hearing_at, kiss_data, showing, telling_channel}
-use Rattle.station.specs.HostMessages.{raw_message, no_call}
+use Rattle.station.specs.HostMessages.{raw_message}
 use Rattle.station.specs.Links.{IsNewKey, Links, count_of_links}
 use Rattle.station.specs.Monitoring.{monitor_message, monitor_pieces, monitoring, piece_for, to_monitors}
-use Rattle.station.specs.State.{StationState}
 use Rattle.station.specs.Ticks.{IsSentFrame, air_in, ticking}
 use Rattle.station.specs.Turn.{begin}
 use Rattle.station.specs.declared.host_out.Piece.{Piece}
@@ -172,7 +168,8 @@ module _ (id : ℕ) (plan : CallPlan) (called : IsBetweenCalls plan) where
       let P : Turn → List LinkStep → Type 0 = λ after steps. Does id plan turn steps after in
       let calm : (c : ℕ) (after : Turn) → choice c xs ys ≡ [] → Does id plan turn [] after → k ≡ c
       → P after (choice k xs ys) =
-      λ c after none h is. subst (λ steps. Does id plan turn steps after) (sym (ap (λ n. choice n xs ys) is ∙ none)) h in
+      λ c after none h is.
+      subst (λ steps. Does id plan turn steps after) (sym (ap (λ n. choice n xs ys) is ∙ none)) h in
       by_kind P k version_kind (replying host version_reply turn) _ all
       (calm version_kind (replying host version_reply turn) refl
       (reply_does host version_reply turn (record { from = refl; to = refl }) refl refl))

@@ -3,3 +3,4 @@ pub mod SetUpsTold
 pub mod Client
 pub mod PrintsTold
 pub mod PrintsGiven
+pub mod PrintsSeen

@@ -16,12 +16,13 @@ use Rattle.call_laws.specs.Client.{IsClientOf, IsBetweenCalls, calls_of, octets_
 use Rattle.call_laws.specs.FirstPart.{IsFirstPart}
 use Rattle.call_laws.specs.PrintsTold.{octets_of}
 
--- Of the link as the client's end sees it: a set-up of its own, and the set-up of the partner's end that is its origin.
--- What was printed is a first part of the octets that the partner's host gave in that one.
+-- Of the link as the client's end sees it: a set-up of its own, in which it got what was printed, and the set-up of the
+-- partner's end that is its origin. What was printed is a first part of the octets that the partner's host gave in that.
 pub record PrintsGiven (w : World) (printed : List ℕ) : Type 0 where
   pub place : ℕ
   pub own : SetUp
   pub is_own : slice_get w.a.end.set_ups place ≡ Some own
+  pub got : IsFirstPart printed (octets_of own.got)
   pub number : ℕ
   pub is_origin : origin own ≡ Some number
   pub giver : SetUp

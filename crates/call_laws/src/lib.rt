@@ -8,5 +8,6 @@
 mod laws;
 
 pub use laws::{
-    a_call_prints_what_was_given, a_call_prints_what_was_told, first_part_is_read, set_ups_are_told,
+    a_call_prints_what_was_given, a_call_prints_what_was_seen_given, a_call_prints_what_was_told,
+    first_part_is_read, set_ups_are_told,
 };
