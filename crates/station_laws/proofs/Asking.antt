@@ -1,6 +1,6 @@
 -- The events of a step in which no host program connects or disconnects.
 use Rattle.station_laws.proofs.Common.{◌≡◌, ℕ, Bool, true, false, ◌==◌, List, [], ◌∷◌, ◌++◌, cond, Option, Some, None}
-use Rattle.station_laws.proofs.Common.{sym, subst, MatchBool, range_with_len, recursion_from_All, All-from_recursion}
+use Rattle.station_laws.proofs.Common.{is_some, sym, subst, MatchBool, range_with_len, recursion_from_All, All-from_recursion}
 use Rattle.station_laws.proofs.Common.{way_back, Path, Command, Frame, bad_length_in, AgwMessage, each_append}
 use Rattle.station_laws.proofs.Common.{HostEvent, Joined, Bytes, Left, PortKind, Kiss, Agw, data_kind, disconnect_kind}
 use Rattle.station_laws.proofs.Common.{IsCall, calls, called_route, own_key, giving_packet, packets_of, data_pid}
@@ -15,8 +15,11 @@ use Rattle.station_laws.proofs.Common.{else_steps, answer_steps, message_steps, 
 use Rattle.station_laws.proofs.Common.{octet_steps, host_steps, hears_at, new_steps, anew_steps, reading_steps}
 use Rattle.station_laws.proofs.Common.{key_steps, path_steps, by_path_steps, turn_steps, steps_of, IsOfNoHost}
 use Rattle.std.specs.List.{AllByRecursion as Each}
+use Rattle.kiss_port.specs.WebRequests.{is_web_request}
 use Rattle.link_machine.specs.Event.{Event as LinkEvent}
 use Rattle.link_machine.specs.Event.Event.{Send as LinkSend, Hear as LinkHear, Tick as LinkTick}
+use Rattle.station.specs.Host.{new_items}
+use Rattle.station.specs.Kiss.{heeding_all}
 use Rattle.station.specs.Turn.{begin}
 use Rattle.station_laws.specs.HostsAsk.{AsksNothing, OctetsAskBy, OctetsAskNothing, HostsAskNothing}
 
@@ -90,14 +93,16 @@ octets_ask_by :
     (chosen : Choice) (kind : PortKind) (connection : Connection) (octets : List ℕ) (before after : Turn)
     → OctetsAskBy kind connection octets → (h : AreTakenBy kind connection octets before after)
     → AllOfNone (octet_steps_by chosen kind connection octets before after h)
-octets_ask_by chosen Kiss connection octets before after none h = tt
+octets_ask_by chosen Kiss connection octets before after kiss h =
+    let heeded = heeding_all (new_items connection.stream octets) (taking connection.id octets before) in
+    subst (λ ends. AllOfNone (ending_steps chosen connection.id ends heeded)) (sym kiss) tt
 octets_ask_by chosen Agw connection octets before after none h =
     let messages = new_messages connection.stream octets in
     each_append OfNoHost (message_steps chosen connection.id messages (taking connection.id octets before) h.0 h.1)
-    (ending_steps chosen connection.id (bad_length_in (connection.stream ++ octets)) h.0)
+    (ending_steps chosen connection.id (is_some (bad_length_in (connection.stream ++ octets))) h.0)
     (messages_ask chosen connection.id messages (taking connection.id octets before) h.0
     (recursion_from_All AsksNothing messages none.0) h.1)
-    (subst (λ len. AllOfNone (ending_steps chosen connection.id len h.0)) (sym none.1) tt)
+    (subst (λ len. AllOfNone (ending_steps chosen connection.id (is_some len) h.0)) (sym none.1) tt)
 
 octets_ask :
     (chosen : Choice) (connection : Option Connection) (octets : List ℕ) (before after : Turn)

@@ -1,7 +1,8 @@
 -- A step after which a station has dropped no frame: each frame that its links sent joined the queue.
 use Rattle.station_laws.proofs.Common.{◌≡◌, ℕ, ◌+◌, ◌-◌, Bool, true, false, ◌==◌, nat_lt, nat_le, List, [], ◌∷◌, ◌++◌}
 use Rattle.station_laws.proofs.Common.{length, map, drop, cond, if◌then◌else◌, Option, Some, None, refl, sym, ap, ◌∙◌}
-use Rattle.station_laws.proofs.Common.{subst, arith, inl, inr, MatchBool, range_with_len, list_any, ltb-false, eqb-true}
+use Rattle.station_laws.proofs.Common.{is_some, subst, arith, inl, inr, MatchBool, range_with_len, list_any, ltb-false}
+use Rattle.station_laws.proofs.Common.{eqb-true}
 use Rattle.station_laws.proofs.Common.{length-append, length-map, Callsign, way_back, Path, Command, Frame, Eight}
 use Rattle.station_laws.proofs.Common.{bad_length_in, AgwMessage, repeated, KissItem, Set, Hardware, Return, TooLong}
 use Rattle.station_laws.proofs.Common.{SentFrame, Told, sent_frame, done_of, each_append, HostEvent, Joined, Bytes}
@@ -34,6 +35,7 @@ use Rattle.station_laws.proofs.Common.{host_steps, hears_at, new_steps, anew_ste
 use Rattle.station_laws.proofs.Common.{path_steps, by_path_steps, turn_steps, steps_of, DropsNoAsk}
 use Rattle.std.specs.List.{AllByRecursion as Each}
 use Rattle.std.proofs.lemmas.List.{drop_all}
+use Rattle.kiss_port.specs.WebRequests.{is_web_request}
 use Rattle.kiss_port.specs.declared.item.KissItem.TheVariants.{Frame as KissFrame, Other}
 use Rattle.link_machine.specs.Event.{Event as LinkEvent}
 use Rattle.link_machine.specs.Event.Event.{Connect as LinkConnect, Send as LinkSend, Disconnect as LinkDisconnect}
@@ -389,10 +391,10 @@ messages_join chosen host (message ∷ messages) before after h =
     (message_steps chosen host messages h.0 after h.2) (answer_joins chosen host message (calls message) before h.0 h.1)
     (messages_join chosen host messages h.0 after h.2)
 
-ending_joins : (chosen : Choice) (host : ℕ) (len : Option ℕ) (turn : Turn)
-    → Joins turn (ending_steps chosen host len turn) (ending host len turn)
-ending_joins chosen host None turn = same_joins turn turn refl
-ending_joins chosen host (Some len) turn = λ nothing_lost.
+ending_joins : (chosen : Choice) (host : ℕ) (ends : Bool) (turn : Turn)
+    → Joins turn (ending_steps chosen host ends turn) (ending host ends turn)
+ending_joins chosen host false turn = same_joins turn turn refl
+ending_joins chosen host true turn = λ nothing_lost.
     let done = leaving_joins chosen host (closing host turn) nothing_lost in
     record { before = done.before; joined = done.joined }
 
@@ -429,19 +431,24 @@ octets_join_by :
     → (h : AreTakenBy kind connection octets before after)
     → Joins before (octet_steps_by chosen kind connection octets before after h) after
 octets_join_by chosen Kiss connection octets before after h =
-    subst (Joins before []) (sym h)
-    (λ nothing_lost. let done = heeding_all_joins (new_items connection.stream octets)
-    (taking connection.id octets before) nothing_lost in
-    record { before = done.before; joined = tt })
+    let taken = taking connection.id octets before in
+    let items = new_items connection.stream octets in
+    let heeded = heeding_all items taken in
+    let web = is_web_request (connection.stream ++ octets) in
+    subst (Joins before (octet_steps_by chosen Kiss connection octets before after h)) (sym h)
+    (λ nothing_lost. let done = joins_on taken heeded (ending connection.id web heeded) []
+    (ending_steps chosen connection.id web heeded) (heeding_all_joins items taken)
+    (ending_joins chosen connection.id web heeded) nothing_lost in
+    record { before = done.before; joined = done.joined })
 octets_join_by chosen Agw connection octets before after h =
     let taken = taking connection.id octets before in
-    let len = bad_length_in (connection.stream ++ octets) in
+    let bad = is_some (bad_length_in (connection.stream ++ octets)) in
     let messages = new_messages connection.stream octets in
     subst (Joins before (octet_steps_by chosen Agw connection octets before after h)) (sym h.2)
-    (λ nothing_lost. let done = joins_on taken h.0 (ending connection.id len h.0)
+    (λ nothing_lost. let done = joins_on taken h.0 (ending connection.id bad h.0)
     (message_steps chosen connection.id messages taken h.0 h.1)
-    (ending_steps chosen connection.id len h.0) (messages_join chosen connection.id messages taken h.0 h.1)
-    (ending_joins chosen connection.id len h.0) nothing_lost in
+    (ending_steps chosen connection.id bad h.0) (messages_join chosen connection.id messages taken h.0 h.1)
+    (ending_joins chosen connection.id bad h.0) nothing_lost in
     record { before = done.before; joined = done.joined })
 
 octets_join :

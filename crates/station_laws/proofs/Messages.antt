@@ -1,7 +1,7 @@
 -- What comes from a host program keeps what holds of a link between two calls.
 use Rattle.station_laws.proofs.Common.{◌≡◌, ℕ, Bool, true, false, ◌==◌, ◌&&◌, nat_lt, nat_le, List, [], ◌∷◌, ◌++◌}
-use Rattle.station_laws.proofs.Common.{length, drop, cond, if◌then◌else◌, Option, Some, None, refl, sym, ap, ◌∙◌, subst}
-use Rattle.station_laws.proofs.Common.{inl, MatchBool, is_none, and_parts, cond-true, cond-false, eqb-true, append-nil}
+use Rattle.station_laws.proofs.Common.{length, drop, cond, if◌then◌else◌, Option, Some, None, is_some, refl, sym, ap, ◌∙◌}
+use Rattle.station_laws.proofs.Common.{subst, inl, MatchBool, is_none, and_parts, cond-true, cond-false, eqb-true, append-nil}
 use Rattle.station_laws.proofs.Common.{Callsign, Eight, bad_length_in, AgwMessage, KissItem, Set, Hardware, Return}
 use Rattle.station_laws.proofs.Common.{TooLong, new_machine, End, Tagged, HostEvent, Joined, Bytes, Left, PortKind}
 use Rattle.station_laws.proofs.Common.{Kiss, Agw, version_kind, ports_kind, capabilities_kind, register_kind}
@@ -20,6 +20,7 @@ use Rattle.station_laws.proofs.Common.{repeaters_in, behind_repeaters, path_alon
 use Rattle.station_laws.proofs.Common.{queueing, entering, dropping, capacity, LinkStep, data_steps, disconnect_steps}
 use Rattle.station_laws.proofs.Common.{else_steps, made_steps, call_steps, answer_steps, message_steps, ending_steps}
 use Rattle.station_laws.proofs.Common.{octet_steps_by, octet_steps, host_steps, first_chosen}
+use Rattle.kiss_port.specs.WebRequests.{is_web_request}
 use Rattle.kiss_port.specs.declared.item.KissItem.TheVariants.{Frame as KissFrame, Other}
 use Rattle.link_machine.specs.Event.Event.{Connect as LinkConnect}
 use Rattle.station.specs.AgwKinds.{connect_via_kind}
@@ -278,10 +279,10 @@ messages_go s e back id (message ∷ messages) before after h w H =
     w H
 
 ending_goes :
-    (s : Setting) (e : End) (back : List Tagged) (id : ℕ) (len : Option ℕ) (turn : Turn)
-    → Goes s e back turn (ending_steps (meant s) id len turn) (ending id len turn)
-ending_goes s e back id None turn w H = (H, tt)
-ending_goes s e back id (Some len) turn w H =
+    (s : Setting) (e : End) (back : List Tagged) (id : ℕ) (ends : Bool) (turn : Turn)
+    → Goes s e back turn (ending_steps (meant s) id ends turn) (ending id ends turn)
+ending_goes s e back id false turn w H = (H, tt)
+ending_goes s e back id true turn w H =
     leaving_goes s e back id (closing id turn) w
     (still_holds s back turn (closing id turn) w H refl refl refl)
 
@@ -322,19 +323,24 @@ octets_go_by :
     → Goes s e back before (octet_steps_by (meant s) kind connection octets before after h) after
 octets_go_by s e back Kiss connection octets before after h w H =
     let taken = taking connection.id octets before in
-    subst (λ t. Kept s e back t [] w) (sym h)
-    (still_goes s e back before (heeding_all (new_items connection.stream octets) taken)
-    (still_both before taken _ (record { links = refl; parameters = refl; queued = refl })
-    (heeding_all_still (new_items connection.stream octets) taken)) w H)
+    let heeded = heeding_all (new_items connection.stream octets) taken in
+    let web = is_web_request (connection.stream ++ octets) in
+    subst (λ t. Kept s e back t (octet_steps_by (meant s) Kiss connection octets before after h) w) (sym h)
+    (goes_on s e back before heeded (ending connection.id web heeded) []
+    (ending_steps (meant s) connection.id web heeded)
+    (still_goes s e back before heeded (still_both before taken heeded
+    (record { links = refl; parameters = refl; queued = refl })
+    (heeding_all_still (new_items connection.stream octets) taken)))
+    (ending_goes s e back connection.id web heeded) w H)
 octets_go_by s e back Agw connection octets before after h w H =
     let taken = taking connection.id octets before in
-    let len = bad_length_in (connection.stream ++ octets) in
+    let bad = is_some (bad_length_in (connection.stream ++ octets)) in
     let messages = new_messages connection.stream octets in
     subst (λ t. Kept s e back t (octet_steps_by (meant s) Agw connection octets before after h) w) (sym h.2)
-    (goes_on s e back taken h.0 (ending connection.id len h.0)
+    (goes_on s e back taken h.0 (ending connection.id bad h.0)
     (message_steps (meant s) connection.id messages taken h.0 h.1)
-    (ending_steps (meant s) connection.id len h.0) (messages_go s e back connection.id messages taken h.0 h.1)
-    (ending_goes s e back connection.id len h.0) w (still_holds s back before taken w H refl refl refl))
+    (ending_steps (meant s) connection.id bad h.0) (messages_go s e back connection.id messages taken h.0 h.1)
+    (ending_goes s e back connection.id bad h.0) w (still_holds s back before taken w H refl refl refl))
 
 octets_go :
     (s : Setting) (e : End) (back : List Tagged) (connection : Option Connection) (octets : List ℕ)

@@ -37,6 +37,7 @@ use Rattle.std.proofs.lemmas.Bool.{and_left, false_from_ne_true}
 use Rattle.ax25_frames.specs.declared.frame.Kind.TheVariants.{Other as OtherKind}
 use Rattle.frame_monitor.specs.MonitorText.{monitor_letter}
 use Rattle.agwpe_port.specs.Messages.{spelling}
+use Rattle.kiss_port.specs.WebRequests.{is_web_request}
 use Rattle.kiss_port.specs.declared.item.KissItem.TheVariants.{Frame as KissFrame, Other}
 use Rattle.link_machine.specs.Event.{Event as LinkEvent}
 use Rattle.link_machine.specs.Event.Event.{Connect as LinkConnect, Send as LinkSend, Disconnect as LinkDisconnect}
@@ -350,10 +351,10 @@ messages_tell id host (message ∷ messages) before after h =
     (message_steps is_some host messages h.0 after h.2) (answer_tells id host message (calls message) before h.0 h.1)
     (messages_tell id host messages h.0 after h.2)
 
-ending_tells : (id host : ℕ) (len : Option ℕ) (turn : Turn)
-    → Tells id turn (ending_steps is_some host len turn) (ending host len turn)
-ending_tells id host None turn = same_told id turn
-ending_tells id host (Some len) turn = leaving_tells id host (closing host turn)
+ending_tells : (id host : ℕ) (ends : Bool) (turn : Turn)
+    → Tells id turn (ending_steps is_some host ends turn) (ending host ends turn)
+ending_tells id host false turn = same_told id turn
+ending_tells id host true turn = leaving_tells id host (closing host turn)
 
 -- ---- KISS
 
@@ -388,16 +389,21 @@ octets_tell_by :
     → (h : AreTakenBy kind connection octets before after)
     → Tells id before (octet_steps_by is_some kind connection octets before after h) after
 octets_tell_by id Kiss connection octets before after h =
-    subst (Tells id before []) (sym h)
-    (heeding_all_tells id (new_items connection.stream octets) (taking connection.id octets before))
+    let taken = taking connection.id octets before in
+    let items = new_items connection.stream octets in
+    let heeded = heeding_all items taken in
+    let web = is_web_request (connection.stream ++ octets) in
+    subst (Tells id before (octet_steps_by is_some Kiss connection octets before after h)) (sym h)
+    (tells_on id taken heeded (ending connection.id web heeded) [] (ending_steps is_some connection.id web heeded)
+    (heeding_all_tells id items taken) (ending_tells id connection.id web heeded))
 octets_tell_by id Agw connection octets before after h =
     let taken = taking connection.id octets before in
-    let len = bad_length_in (connection.stream ++ octets) in
+    let bad = is_some (bad_length_in (connection.stream ++ octets)) in
     let messages = new_messages connection.stream octets in
     subst (Tells id before (octet_steps_by is_some Agw connection octets before after h)) (sym h.2)
-    (tells_on id taken h.0 (ending connection.id len h.0) (message_steps is_some connection.id messages taken h.0 h.1)
-    (ending_steps is_some connection.id len h.0) (messages_tell id connection.id messages taken h.0 h.1)
-    (ending_tells id connection.id len h.0))
+    (tells_on id taken h.0 (ending connection.id bad h.0) (message_steps is_some connection.id messages taken h.0 h.1)
+    (ending_steps is_some connection.id bad h.0) (messages_tell id connection.id messages taken h.0 h.1)
+    (ending_tells id connection.id bad h.0))
 
 octets_tell :
     (id : ℕ) (connection : Option Connection) (octets : List ℕ) (before after : Turn)
