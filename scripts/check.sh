@@ -458,12 +458,14 @@ if has python3; then
     check "two stations by SREJ, a fifth of the transmissions lost" stations_agree --mode srej --loss 20
     check "two stations modulo 128, half duplex, some lost" stations_agree --wide --half --loss 10
     check "hosts that send each message" scripts/check_hosts.py --tnc "$tnc"
+    check "programs of the web at the ports" scripts/check_web.py --tnc "$tnc"
     check "the ports are those of 127.0.0.1 alone" scripts/check_sockets.py --tnc "$tnc"
     check "a recording at twenty times the pace of sound" quietly scripts/check_record.py --tnc "$tnc"
     check "calls over two stations" quietly scripts/check_call.py --tnc "$tnc"
 else
     skip "two stations" python3
     skip "hosts that send each message" python3
+    skip "programs of the web at the ports" python3
     skip "the ports are those of 127.0.0.1 alone" python3
     skip "a recording at twenty times the pace of sound" python3
     skip "calls over two stations" python3

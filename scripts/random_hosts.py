@@ -7,8 +7,8 @@ Two stations are joined by an air of pipes. Again and again there is a storm: ra
 pieces, come from many hosts to both ports of the first station, some of which leave in the middle of a message, and
 random and mutated frames come from the second station. Then there is a calm, in which hosts that speak as they are to
 must be served: each question is answered, a frame that is heard is shown, and a whole connected session carries its
-octets both ways. At the end both stations must end with status 0, and must have reported nothing but connections that
-they closed. It prints one line and ends with status 0 if all is well. The seed tells what is said; how fast the
+octets both ways. One random host in ten begins as a program of the web does: it must be closed, and no frame that it sends may
+be heard. At the end both stations must end with status 0, and must have reported nothing but connections that they closed. It prints one line and ends with status 0 if all is well. The seed tells what is said; how fast the
 sockets are tells in which tick.
 
 A KISS host sets the channel for all: with a persistence near 0 the station hardly ever sends, and while a hundred frames wait it
@@ -29,6 +29,9 @@ FEW = 5  # transmissions in a wait that is given up, if the channel is stilled
 MOST = 4000  # octets of a host in a storm: what a host sends while the station takes nothing waits in its socket
 CALLS = ["AAAA", "BBBB", "CCCC-7", "RAND", "RAND-15", "NOCALL-16", "a b", "", "ABCDEFGHIJ"]
 KINDS = b"RGgXxkKMVCvcDdYyPmHz\x00\xff"
+WEB = [f"{it} / HTTP/1.1\r\nHost: 127.0.0.1\r\n\r\n".encode() for it in ("GET", "POST", "PUT", "OPTIONS", "DELETE")]
+HANDSHAKE = b"\x16\x03\x01"
+FROM_WEB = bytes(ord(it) << 1 for it in "WEBWEB")  # a source that no other host names
 CONTROLS = bytes.fromhex("3f7f7363531f0f870313afe3001001110509 0d")
 
 
@@ -108,6 +111,14 @@ class Words:
         return self.spoiled(head + body[:4096])
 
 
+    def web(self, is_kiss):
+        """What a program of the web says: to the KISS port with frames behind it."""
+        if not is_kiss:
+            return self.draws.choice(WEB)
+        frame = self.address(0)[:6] + b"\x60" + FROM_WEB + b"\x61\x03\xf0web"
+        return self.draws.choice([*WEB, HANDSHAKE]) + (b"\xc0\0" + frame + b"\xc0") * 3
+
+
 class Stilled(Exception):
     """A host has stilled the channel."""
 
@@ -130,6 +141,10 @@ class RandomHost:
         self.words, self.draws = (words.kiss if is_kiss else words.agw), draws
         self.reads = draws.randrange(4) > 0
         self.waiting, self.sent, self.most = b"", 0, MOST
+        self.is_web = draws.randrange(10) == 0
+        if self.is_web:
+            # it stays until it is closed, and nothing that it says counts
+            self.waiting, self.reads, self.is_kiss = words.web(is_kiss), True, False
 
     def turn(self):
         """Says something and reads something. Tells whether the connection is still there."""
@@ -153,7 +168,7 @@ class RandomHost:
             pass
         except OSError:
             return False
-        return self.draws.randrange(200) > 0
+        return self.is_web or self.draws.randrange(200) > 0
 
 
 class Storms:
@@ -162,7 +177,7 @@ class Storms:
     def __init__(self, given):
         self.given, self.draws = given, random.Random(given.seed)
         self.words = Words(self.draws)
-        self.joined = self.said = self.calms = self.stilled = self.closed = self.ticks = 0
+        self.joined = self.said = self.calms = self.stilled = self.closed = self.ticks = self.shut = 0
         self.begin()
 
     def begin(self):
@@ -212,14 +227,16 @@ class Storms:
                 else:
                     self.note(host)
                     host.socket.close()
+                    self.shut += host.is_web
                 self.said += host.sent - before
             self.random_hosts = still
             if self.draws.randrange(20) == 0:
                 self.kiss_b.send(self.words.frame())
             self.step()
-        # what the hosts of the sane side were shown is of no interest
+        # of what the hosts of the sane side were shown only this is of interest
         self.kiss_a.frames()
-        self.kiss_b.frames()
+        if any(it[7:13] == FROM_WEB for it in self.kiss_b.frames()):
+            raise RuntimeError("a frame of a program of the web was sent")
         self.kiss_a.input = self.kiss_b.input = b""
 
     def note(self, host):
@@ -276,10 +293,21 @@ class Storms:
         for _ in range(20):
             self.step()
         self.session()
+        self.until("each program of the web is closed", self.has_shut_the_web)
         self.calms += 1
         self.least = 255
         for host in self.random_hosts:
             host.said = b""
+
+    def has_shut_the_web(self):
+        """Whether no program of the web is left; each is asked for its turn, in which it says no more than it has begun."""
+        for host in [it for it in self.random_hosts if it.is_web]:
+            host.most = MOST
+            if not host.turn():
+                host.socket.close()
+                self.random_hosts.remove(host)
+                self.shut += 1
+        return not any(it.is_web for it in self.random_hosts)
 
     def session(self):
         """A calls B, each gives the other some octets, and A ends it once both have all."""
@@ -335,7 +363,8 @@ def main(words):
     fault = fault or storms.end()
     took = time.monotonic() - began
     print(
-        f"{storms.said} octets of {storms.joined} random hosts, {storms.closed} of them closed by the station,"
+        f"{storms.said} octets of {storms.joined} random hosts, {storms.closed} of them closed by the station"
+        f" ({storms.shut} programs of the web),"
         f" in {took:.0f} s here and {storms.ticks / 100:.0f} s on the air; {storms.calms} calms,"
         f" {storms.stilled} stilled channels; {fault or 'well'}"
     )

@@ -1,4 +1,5 @@
 pub mod StreamLemmas
 pub mod ReadingLemmas
+mod TextLemmas
 pub mod HeldLemmas
 pub mod WrittenLemmas

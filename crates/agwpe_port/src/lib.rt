@@ -6,6 +6,7 @@
 
 mod call_field;
 mod fault;
+mod laws;
 mod message;
 mod messages;
 mod reader;
@@ -14,6 +15,7 @@ mod writer;
 
 pub use call_field::call_text;
 pub use fault::AgwFault;
+pub use laws::a_text_is_no_message;
 pub use message::AgwMessage;
 pub use messages::read_messages;
 pub use reader::AgwIn;

@@ -1,7 +1,7 @@
 -- What each step of a station sends to a connection, act by act.
 use Rattle.station_laws.proofs.Common.{◌≡◌, ℕ, ◌==◌, ◌&&◌, nat_lt, nat_le, Bool, true, false, List, [], ◌∷◌, ◌++◌}
 use Rattle.station_laws.proofs.Common.{length, map, drop, cond, if◌then◌else◌, Option, Some, None, is_none, refl, sym}
-use Rattle.station_laws.proofs.Common.{ap, ◌∙◌, subst, inl, inr, ⊤, MatchBool, eqb-true, append-nil, and_parts}
+use Rattle.station_laws.proofs.Common.{is_some, ap, ◌∙◌, subst, inl, inr, ⊤, MatchBool, eqb-true, append-nil, and_parts}
 use Rattle.station_laws.proofs.Common.{recursion_from_All, BeginsWithPath-same, BeginsWithPath, Callsign, way_back}
 use Rattle.station_laws.proofs.Common.{Path, Command, Frame, Kind, Info, Super, Setup, Ui, Eight, IsFrame}
 use Rattle.station_laws.proofs.Common.{bad_length_in, AgwMessage, repeated, KissItem, Set, Hardware, Return, TooLong}
@@ -38,6 +38,7 @@ use Rattle.frame_monitor.specs.MonitorText.{monitor_letter}
 use Rattle.agwpe_port.specs.Messages.{spelling, messages_in}
 use Rattle.agwpe_client.specs.CallMessages.{connect_kind}
 use Rattle.agwpe_client.specs.CallRun.{CallPlan}
+use Rattle.kiss_port.specs.WebRequests.{is_web_request}
 use Rattle.kiss_port.specs.declared.item.KissItem.TheVariants.{Frame as KissFrame, Other}
 use Rattle.link_machine.specs.Event.Event.{Connect as LinkConnect, Hear as LinkHear}
 use Rattle.station.specs.AgwKinds.{connect_via_kind}
@@ -49,6 +50,7 @@ use Rattle.station.specs.Ticks.{IsSentFrame, air_in, ticking}
 use Rattle.station.specs.Turn.{begin}
 use Rattle.station.specs.declared.host_out.Piece.{Piece}
 use Rattle.channel_access.specs.declared.air_tick.Sent.{Sent}
+use Rattle.station_laws.proofs.Connected.{found}
 use Rattle.station_laws.proofs.OwnerLemmas.{queued_pieces}
 use Rattle.station_laws.proofs.Standing.{chosen_calls}
 use Rattle.station_laws.proofs.Tables.{none_chosen}
@@ -60,18 +62,6 @@ use Rattle.call_laws.proofs.LinkActs.{Does, MayMake, data_does, disconnect_does,
 use Rattle.call_laws.proofs.LinkActs.{made_does, meant, same_does, says_does, silent_does, ticks_do}
 use Rattle.call_laws.proofs.Sayings.{HasTen, SaysOnly, new_ten, none_by_kind, piece_with, says_both, says_nothing}
 use Rattle.call_laws.proofs.Sayings.{says_one, says_other}
-
--- the connection that is found has the id
-found_id : (host : ℕ) (connection : Connection) (cs : List Connection) → connection_of host cs ≡ Some connection
-    → connection.id ≡ host
-found_id host connection [] e = absurd (cc)
-found_id host connection (c ∷ cs) e = go (c.id == host) refl e (found_id host connection cs)
-  where
-    go : (b : Bool) → (c.id == host) ≡ b → cond b (Some c) (connection_of host cs) ≡ Some connection
-        → (connection_of host cs ≡ Some connection → connection.id ≡ host) → connection.id ≡ host
-    go true here is rest =
-        let same : c ≡ connection = cc in ap (λ (x : Connection). x.id) (sym same) ∙ eqb-true c.id host here
-    go false here is rest = rest is
 
 module _ (id : ℕ) (plan : CallPlan) (called : IsBetweenCalls plan) where
   -- ---- replies
@@ -317,15 +307,15 @@ module _ (id : ℕ) (plan : CallPlan) (called : IsBetweenCalls plan) where
       (message_steps (meant plan) host messages h.0 after h.2)
       (answer_does host message (calls message) before h.0 ten.0 h.1) (messages_do host messages h.0 after ten.1 h.2)
 
-  -- a connection is closed for too long a body, which is another one
-  ending_does : (host : ℕ) (len : Option ℕ) (turn : Turn) → (host ≡ id → len ≡ None)
-      → Does id plan turn (ending_steps (meant plan) host len turn) (ending host len turn)
-  ending_does host None turn stays = same_does id plan turn
-  ending_does host (Some len) turn stays =
+  -- a connection that is read no further is closed, which is another one
+  ending_does : (host : ℕ) (ends : Bool) (turn : Turn) → (host ≡ id → ends ≡ false)
+      → Does id plan turn (ending_steps (meant plan) host ends turn) (ending host ends turn)
+  ending_does host false turn stays = same_does id plan turn
+  ending_does host true turn stays =
       does_on id plan turn (closing host turn) (leaving host (closing host turn)) []
       (leaving_steps (meant plan) host (closing host turn))
       (silent_does id plan turn (closing host turn) refl refl)
-      (leaving_does id plan called host (λ is. let e : Some len ≡ None = stays is in cc) (closing host turn))
+      (leaving_does id plan called host (λ is. let e : true ≡ false = stays is in cc) (closing host turn))
 
   -- ---- KISS
 
@@ -357,38 +347,46 @@ module _ (id : ℕ) (plan : CallPlan) (called : IsBetweenCalls plan) where
 
   octets_do_by :
       (kind : PortKind) (connection : Connection) (octets : List ℕ) (before after : Turn)
+      → (connection.id ≡ id → kind ≡ Agw)
       → (connection.id ≡ id → bad_length_in (connection.stream ++ octets) ≡ None)
       → (h : AreTakenBy kind connection octets before after)
       → Does id plan before (octet_steps_by (meant plan) kind connection octets before after h) after
-  octets_do_by Kiss connection octets before after stays h =
+  octets_do_by Kiss connection octets before after agw stays h =
       let taken = taking connection.id octets before in
-      subst (Does id plan before []) (sym h)
-      (does_on id plan before taken (heeding_all (new_items connection.stream octets) taken) [] []
-      (silent_does id plan before taken refl refl) (heeding_all_does (new_items connection.stream octets) taken))
-  octets_do_by Agw connection octets before after stays h =
+      let heeded = heeding_all (new_items connection.stream octets) taken in
+      let web = is_web_request (connection.stream ++ octets) in
+      let left = ending_steps (meant plan) connection.id web heeded in
+      subst (Does id plan before left) (sym h)
+      (does_on id plan before taken (ending connection.id web heeded) [] left
+      (silent_does id plan before taken refl refl)
+      (does_on id plan taken heeded (ending connection.id web heeded) [] left
+      (heeding_all_does (new_items connection.stream octets) taken)
+      (ending_does connection.id web heeded (λ is. let clash : Kiss ≡ Agw = agw is in absurd (cc)))))
+  octets_do_by Agw connection octets before after agw stays h =
       let taken = taking connection.id octets before in
-      let len = bad_length_in (connection.stream ++ octets) in
+      let bad = is_some (bad_length_in (connection.stream ++ octets)) in
       let messages = new_messages connection.stream octets in
       let first = message_steps (meant plan) connection.id messages taken h.0 h.1 in
-      let second = ending_steps (meant plan) connection.id len h.0 in
+      let second = ending_steps (meant plan) connection.id bad h.0 in
       subst (Does id plan before (octet_steps_by (meant plan) Agw connection octets before after h)) (sym h.2)
-      (does_on id plan before taken (ending connection.id len h.0) [] (first ++ second)
+      (does_on id plan before taken (ending connection.id bad h.0) [] (first ++ second)
       (silent_does id plan before taken refl refl)
-      (does_on id plan taken h.0 (ending connection.id len h.0) first second
+      (does_on id plan taken h.0 (ending connection.id bad h.0) first second
       (messages_do connection.id messages taken h.0
       (new_ten (length (messages_in connection.stream)) (connection.stream ++ octets)) h.1)
-      (ending_does connection.id len h.0 stays)))
+      (ending_does connection.id bad h.0 (λ is. ap is_some (stays is)))))
 
   octets_do :
       (host : ℕ) (connection : Option Connection) (octets : List ℕ) (before after : Turn)
+      → Each (λ (c : Connection). c.id ≡ id → c.kind ≡ Agw) before.now.connections
       → connection_of host before.now.connections ≡ connection → (host ≡ id → TellsNoBadLength connection octets)
       → (h : AreTaken connection octets before after)
       → Does id plan before (octet_steps (meant plan) connection octets before after h) after
-  octets_do host None octets before after is stays h =
+  octets_do host None octets before after agw is stays h =
       subst (Does id plan before []) (sym h) (same_does id plan before)
-  octets_do host (Some connection) octets before after is stays h =
-      let named : connection.id ≡ host = found_id host connection before.now.connections is in
-      octets_do_by connection.kind connection octets before after (λ e. stays (sym named ∙ e)) h
+  octets_do host (Some connection) octets before after agw is stays h =
+      let at = found (λ (c : Connection). c.id ≡ id → c.kind ≡ Agw) host before.now.connections connection agw is in
+      octets_do_by connection.kind connection octets before after at.0 (λ e. stays (sym at.1 ∙ e)) h
 
   joining_does : (host : ℕ) (kind : PortKind) (turn : Turn) → Does id plan turn [] (joining host kind turn)
   joining_does host kind turn = go (nat_lt (length turn.now.connections) most_connections)
@@ -399,13 +397,14 @@ module _ (id : ℕ) (plan : CallPlan) (called : IsBetweenCalls plan) where
 
   host_does :
       (event : HostEvent) (before after : Turn) → Stays id (FromHost event) before.now
+      → Each (λ (c : Connection). c.id ≡ id → c.kind ≡ Agw) before.now.connections
       → (h : IsHostTurn event before after)
       → Does id plan before (host_steps (meant plan) event before after h) after
-  host_does (Joined host kind) before after stays h =
+  host_does (Joined host kind) before after stays agw h =
       subst (Does id plan before []) (sym h) (joining_does host kind before)
-  host_does (Bytes host octets) before after stays h =
-      octets_do host (connection_of host before.now.connections) octets before after refl stays h
-  host_does (Left host) before after stays h =
+  host_does (Bytes host octets) before after stays agw h =
+      octets_do host (connection_of host before.now.connections) octets before after agw refl stays h
+  host_does (Left host) before after stays agw h =
       subst (Does id plan before (host_steps (meant plan) (Left host) before after h)) (sym h)
       (leaving_does id plan called host stays before)
 
@@ -650,7 +649,7 @@ module _ (id : ℕ) (plan : CallPlan) (called : IsBetweenCalls plan) where
       (input : Input) (before after : Turn) (turn : IsTurn input before after) → Stays id input before.now
       → Each (λ (c : Connection). c.id ≡ id → c.kind ≡ Agw) before.now.connections
       → Does id plan before (turn_steps (meant plan) input before after turn) after
-  turn_does (FromHost event) before after turn stays agw = host_does event before after stays turn
+  turn_does (FromHost event) before after turn stays agw = host_does event before after stays agw turn
   turn_does (OffAir octets) before after turn stays agw = heard_does octets before after agw turn
   turn_does (OfClock busy) before after turn stays agw =
       let ticked = ticking_links before in

@@ -1,13 +1,15 @@
 -- The stream of a host program whose messages are whole: with one message more, that message alone is new.
-use Rattle.channel_bench.proofs.Common.{◌≡◌, ℕ, List, [], ◌∷◌, ◌++◌, length, drop, None, refl, sym, ap, ◌∙◌, append-nil}
+use Rattle.channel_bench.proofs.Common.{◌≡◌, ℕ, false, List, [], ◌∷◌, ◌++◌, length, drop, None, refl, sym, ap, ◌∙◌, append-nil}
 use Rattle.channel_bench.proofs.Common.{append_assoc, bad_length_in, messages_in, spelling, AgwMessage, IsWritten}
 use Rattle.channel_bench.proofs.Common.{new_messages, full_duplex_octets}
 use Rattle.std.proofs.lemmas.List.{drop_at}
 use Rattle.agwpe_port.specs.Messages.{Reading, reading}
 use Rattle.agwpe_port.proofs.WrittenLemmas.{written_reads}
 use Rattle.kiss_port.specs.Items.{items_in}
+use Rattle.kiss_port.specs.WebRequests.{is_web_request, host_items}
 use Rattle.kiss_port.specs.declared.item.KissItem.{KissItem}
 use Rattle.kiss_port.specs.declared.item.KissItem.TheVariants.{Set}
+use Rattle.kiss_port.proofs.WebLemmas.{kiss_items, no_web_before}
 use Rattle.station.specs.Host.{new_items}
 
 -- messages, and what is read after them
@@ -59,13 +61,19 @@ none_bad stream message written h =
 
 -- ---- KISS
 
--- full duplex is set, any number of times
+-- full duplex is set, any number of times, and once more by a program that is none of the web
 pub record IsSetting (stream : List ℕ) : Type 0 where
   pub items : List KissItem
   pub read : (more : List ℕ) → items_in (stream ++ more) ≡ items ++ items_in more
+  pub kiss : (more : List ℕ) → is_web_request (stream ++ (full_duplex_octets ++ more)) ≡ false
+
+-- a FEND begins no request of the web
+sets_by_kiss : (more : List ℕ) → is_web_request (full_duplex_octets ++ more) ≡ false
+unfolding is_web_request
+sets_by_kiss more = refl
 
 pub new_setting : IsSetting []
-new_setting = record { items = []; read = λ more. refl }
+new_setting = record { items = []; read = λ more. refl; kiss = λ more. sets_by_kiss more }
 
 -- the item that sets it
 abbrev pub full_item : KissItem
@@ -85,15 +93,24 @@ setting_more stream h = record {
   read = λ more.
       ap items_in (append_assoc stream full_duplex_octets more) ∙ h.read (full_duplex_octets ++ more)
       ∙ ap (λ xs. h.items ++ xs) (one_set more) ∙ sym (append_assoc h.items (full_item ∷ []) (items_in more));
+  kiss = λ more.
+      ap is_web_request (append_assoc stream full_duplex_octets (full_duplex_octets ++ more))
+      ∙ h.kiss (full_duplex_octets ++ more);
 }
 
 set_alone : (stream : List ℕ) → (h : IsSetting stream) → items_in stream ≡ h.items
 set_alone stream h =
     ap items_in (sym (append-nil stream)) ∙ h.read [] ∙ ap (λ xs. h.items ++ xs) none_in ∙ append-nil h.items
 
+pub no_web : (stream : List ℕ) → IsSetting stream → is_web_request (stream ++ full_duplex_octets) ≡ false
+no_web stream h = h.kiss []
+
 pub one_setting : (stream : List ℕ) → IsSetting stream → new_items stream full_duplex_octets ≡ full_item ∷ []
 unfolding setting_more
 one_setting stream h =
-    ap (λ n. drop n (items_in (stream ++ full_duplex_octets))) (ap length (set_alone stream h))
+    let no_web_yet = no_web_before stream full_duplex_octets (no_web stream h) in
+    ap (λ xs. drop (length xs) (host_items (stream ++ full_duplex_octets))) (kiss_items stream no_web_yet)
+    ∙ ap (drop (length (items_in stream))) (kiss_items (stream ++ full_duplex_octets) (no_web stream h))
+    ∙ ap (λ n. drop n (items_in (stream ++ full_duplex_octets))) (ap length (set_alone stream h))
     ∙ ap (drop (length h.items)) (set_alone (stream ++ full_duplex_octets) (setting_more stream h))
     ∙ drop_at h.items (full_item ∷ []) (length h.items) refl

@@ -1,16 +1,18 @@
 -- The host programs of a bench: which connections they have, what has come from each, and that a step of a station
 -- changes no more of that than what comes in it.
 use Rattle.channel_bench.proofs.Common.{◌≡◌, ℕ, ◌==◌, Bool, true, false, List, [], ◌∷◌, length, cond, nat_lt, Option}
-use Rattle.channel_bench.proofs.Common.{Some, None, refl, sym, ap, ◌∙◌, subst, eqb-true, spelling, AgwMessage}
+use Rattle.channel_bench.proofs.Common.{is_some, Some, None, refl, sym, ap, ◌∙◌, subst, eqb-true, spelling, AgwMessage}
 use Rattle.channel_bench.proofs.Common.{IsWritten, each_append, PortKind, Kiss, Agw, AreAnswered, IsAnswered}
 use Rattle.channel_bench.proofs.Common.{Connection, connection_of, most_connections, new_connection, with_connection}
 use Rattle.channel_bench.proofs.Common.{AreTaken, AreTakenBy, ending, joining, taking, with_host, with_octets}
 use Rattle.channel_bench.proofs.Common.{StationState, Turn, begin, changing, closing, program_id, kiss_id}
 use Rattle.channel_bench.proofs.Common.{full_duplex_octets}
 use Rattle.std.specs.List.{AllByRecursion as Each}
+use Rattle.station.specs.Host.{new_items}
 use Rattle.station.specs.Kiss.{heeding_all, param_of, with_param}
+pub use Rattle.station_laws.proofs.Connected.{found}
 use Rattle.channel_bench.proofs.HostStreams.{IsSetting, IsWhole, none_bad, one_new, one_setting, setting_more}
-use Rattle.channel_bench.proofs.HostStreams.{whole_more}
+use Rattle.channel_bench.proofs.HostStreams.{no_web, whole_more}
 use Rattle.channel_bench.proofs.TurnWalks.{KeptByTurns}
 
 -- ---- the connections
@@ -69,20 +71,6 @@ joins_hosts id kind s new h = go (nat_lt (length s.connections) most_connections
 
 -- ---- octets that come
 
--- the connection that a look-up finds
-pub found :
-    (P : Connection → Type 0) (id : ℕ) (connections : List Connection) (c : Connection) → Each P connections
-    → connection_of id connections ≡ Some c → P c × (c.id ≡ id)
-found P id [] c h is = absurd (cc)
-found P id (first ∷ connections) c h is = go (first.id == id) refl is (λ later. found P id connections c h.1 later)
-  where
-    go : (b : Bool) → (first.id == id) ≡ b → cond b (Some first) (connection_of id connections) ≡ Some c
-        → (connection_of id connections ≡ Some c → P c × (c.id ≡ id)) → P c × (c.id ≡ id)
-    go true same one rest =
-        let e : first ≡ c = cc in
-        subst (λ (x : Connection). P x × (x.id ≡ id)) e (h.0, eqb-true first.id id same)
-    go false same one rest = rest one
-
 -- the connection of an id, with octets more
 with_more :
     (id : ℕ) (octets : List ℕ) (connections : List Connection)
@@ -139,7 +127,8 @@ said_by message before after written h taken = go (connection_of program_id befo
         let taken_turn = taking c.id (spelling message) before in
         let answered : AreAnswered c.id (message ∷ []) taken_turn t.0 =
         subst (λ ms. AreAnswered c.id ms taken_turn t.0) (one_new c.stream message written whole) t.1 in
-        let ends : after ≡ t.0 = t.2 ∙ ap (λ len. ending c.id len t.0) (none_bad c.stream message written whole) in
+        let ends : after ≡ t.0 = t.2
+        ∙ ap (λ len. ending c.id (is_some len) t.0) (none_bad c.stream message written whole) in
         let last : after ≡ answered.0 = ends ∙ answered.2 in
         said (subst (λ n. IsAnswered n message (taking n (spelling message) before) after) id
         (subst (IsAnswered c.id message taken_turn) (sym last) answered.1))
@@ -181,7 +170,10 @@ set_by before after h taken = go (connection_of kiss_id before.now.connections) 
         → AreTakenBy kind c full_duplex_octets before after → IsSet before after
     by_kind c Agw hosts id is t = let clash : Kiss ≡ Agw = sym (hosts.kiss id) ∙ is in absurd (cc)
     by_kind c Kiss hosts id is t =
-        full (t ∙ ap (λ items. heeding_all items (taking c.id full_duplex_octets before))
+        full (t
+        ∙ ap (λ web. ending c.id web (heeding_all (new_items c.stream full_duplex_octets)
+        (taking c.id full_duplex_octets before))) (no_web c.stream (hosts.setting is))
+        ∙ ap (λ items. heeding_all items (taking c.id full_duplex_octets before))
         (one_setting c.stream (hosts.setting is))
         ∙ ap (λ n. changing full_set (taking n full_duplex_octets before)) id)
 

@@ -1,6 +1,6 @@
 -- The messages of a host program of the bench, each as what it makes of its station and of what the program is sent.
 use Rattle.channel_bench.proofs.Common.{◌≡◌, ℕ, ◌==◌, nat_lt, Bool, true, false, List, [], ◌∷◌, ◌++◌, length, map, cond}
-use Rattle.channel_bench.proofs.Common.{Option, Some, None, refl, sym, ap, ◌∙◌, subst, arith, ⊤, MatchBool, append-nil}
+use Rattle.channel_bench.proofs.Common.{Option, Some, None, is_some, refl, sym, ap, ◌∙◌, subst, arith, ⊤, MatchBool, append-nil}
 use Rattle.channel_bench.proofs.Common.{filter-append, each_append, Callsign, call_field, bad_length_in, spelling}
 use Rattle.channel_bench.proofs.Common.{AgwMessage, IsWritten, End, A, B, other, PortKind, Kiss, Agw, Piece}
 use Rattle.channel_bench.proofs.Common.{connect_kind, data_kind, disconnect_kind, register_kind, AreAnswered}
@@ -18,13 +18,15 @@ use Rattle.link_machine.specs.Event.Event.{Connect as LinkConnect}
 use Rattle.station.specs.AgwKinds.{connect_via_kind}
 use Rattle.station.specs.AgwRequests.{calls, disconnecting as disconnecting_act}
 use Rattle.station.specs.CallFields.{call_of_text}
+use Rattle.station.specs.Host.{new_items}
+use Rattle.station.specs.Kiss.{heeding_all}
 use Rattle.station.specs.Registrations.{registered}
 use Rattle.station.specs.Routes.{repeaters_in}
 use Rattle.station_laws.specs.LinkSteps.{answer_steps, ending_steps, message_steps, octet_steps, octet_steps_by}
 use Rattle.channel_bench.proofs.CoreRun.{Occurs, Usual, input_of}
 use Rattle.channel_bench.proofs.CoreRun.Usual.{connects, disconnects, gives, hears, joins_kiss, joins_program}
 use Rattle.channel_bench.proofs.CoreRun.Usual.{registers, sets_full, ticks}
-use Rattle.channel_bench.proofs.HostStreams.{none_bad, one_new}
+use Rattle.channel_bench.proofs.HostStreams.{no_web, none_bad, one_new}
 use Rattle.channel_bench.proofs.HostsStay.{HasHosts, IsHosts, IsSet, SameHosts, found, same_hosts, set_by}
 use Rattle.channel_bench.proofs.HostsStay.IsSet.{full, unheard}
 use Rattle.channel_bench.proofs.OwnLinks.{IsFromPartner, IsOwnRegistration, IsUnshown, OwnsAll, Says, calm_says, chosen}
@@ -91,9 +93,10 @@ said_go e m t R written hosts none answered u h = go (connection_of program_id t
         let same : len ≡ None = none_bad c.stream m written whole in
         let steps = message_steps (chosen e) c.id (new_messages c.stream (spelling m)) (taking c.id (spelling m) t)
         k.0 k.1 in
-        let ends : u ≡ k.0 = k.2 ∙ ap (λ o. ending c.id o k.0) same in
-        let none_more : ending_steps (chosen e) c.id len k.0 ≡ [] = ap (λ o. ending_steps (chosen e) c.id o k.0) same in
-        subst (R (steps ++ ending_steps (chosen e) c.id len k.0)) (sym ends)
+        let ends : u ≡ k.0 = k.2 ∙ ap (λ o. ending c.id (is_some o) k.0) same in
+        let none_more : ending_steps (chosen e) c.id (is_some len) k.0 ≡ [] =
+        ap (λ o. ending_steps (chosen e) c.id (is_some o) k.0) same in
+        subst (R (steps ++ ending_steps (chosen e) c.id (is_some len) k.0)) (sym ends)
         (subst (λ xs. R xs k.0) (sym (ap (λ xs. steps ++ xs) none_more ∙ append-nil steps)) (all k.0 k.1))
 
     go : (place : Option Connection) → connection_of program_id t.now.connections ≡ place
@@ -299,7 +302,9 @@ kiss_steps e s after hosts h = go (connection_of kiss_id s.connections) refl h
     by_kind : (c : Connection) (kind : PortKind) → IsHosts c → c.id ≡ kiss_id → c.kind ≡ kind
         → (k : AreTakenBy kind c full_duplex_octets (begin s) after)
         → octet_steps_by (chosen e) kind c full_duplex_octets (begin s) after k ≡ []
-    by_kind c Kiss own id is k = refl
+    by_kind c Kiss own id is k =
+        ap (λ web. ending_steps (chosen e) c.id web (heeding_all (new_items c.stream full_duplex_octets)
+        (taking c.id full_duplex_octets (begin s)))) (no_web c.stream (own.setting is))
     by_kind c Agw own id is k = let clash : Kiss ≡ Agw = sym (own.kiss id) ∙ is in absurd (cc)
 
     go : (place : Option Connection) → connection_of kiss_id s.connections ≡ place

@@ -12,7 +12,7 @@ use Rattle.station_laws.specs.HostsAsk.{AsksNothing, InputAsksNothing, OctetsAsk
 use Rattle.channel_bench.proofs.CoreRun.{KeptByCore, Occurs, Usual, input_of, told_station}
 use Rattle.channel_bench.proofs.CoreRun.Usual.{joins_kiss, sets_full, joins_program, registers, connects, gives}
 use Rattle.channel_bench.proofs.CoreRun.Usual.{disconnects, hears, ticks}
-use Rattle.channel_bench.proofs.HostStreams.{IsWhole, new_setting, new_stream, none_bad, one_new}
+use Rattle.channel_bench.proofs.HostStreams.{IsWhole, new_setting, new_stream, no_web, none_bad, one_new}
 use Rattle.channel_bench.proofs.HostsStay.{HasHosts, IsHosts, IsSaid, IsSet, SameHosts, found, joins_hosts, kiss_taken}
 use Rattle.channel_bench.proofs.HostsStay.{said_by, set_by, same_hosts, still_has, taken_hosts}
 use Rattle.channel_bench.proofs.HostsStay.IsSaid.{unheard, said}
@@ -114,16 +114,13 @@ hosts_after end (ticks busy) s after occurs turn h =
 -- ---- the host program of B asks nothing
 
 message_asks :
-    (message : AgwMessage) (c : Connection) (kind : PortKind) → IsWritten message → AsksNothing message
-    → (kind ≡ Agw → IsWhole c.stream)
-    → OctetsAskBy kind c (spelling message)
-message_asks message c Kiss written asks whole = tt
-message_asks message c Agw written asks whole =
-    let h = whole refl in (
-      subst (All AsksNothing) (sym (one_new c.stream message written h))
-          (All-from_recursion AsksNothing (message ∷ []) (asks, tt)),
-      none_bad c.stream message written h,
-    )
+    (message : AgwMessage) (c : Connection) → IsWritten message → AsksNothing message → IsWhole c.stream
+    → OctetsAskBy Agw c (spelling message)
+message_asks message c written asks whole = (
+  subst (All AsksNothing) (sym (one_new c.stream message written whole))
+      (All-from_recursion AsksNothing (message ∷ []) (asks, tt)),
+  none_bad c.stream message written whole,
+)
 
 said_asks :
     (message : AgwMessage) (s : StationState) → IsWritten message → AsksNothing message → HasHosts s
@@ -134,7 +131,10 @@ said_asks message s written asks h = go (connection_of program_id s.connections)
         → OctetsAskNothing place (spelling message)
     go None is = tt
     go (Some c) is =
-        message_asks message c c.kind written asks (found IsHosts program_id s.connections c h.connections is).0.whole
+        let at = found IsHosts program_id s.connections c h.connections is in
+        let by_agwpe = at.0.program at.1 in
+        subst (λ kind. OctetsAskBy kind c (spelling message)) (sym by_agwpe)
+        (message_asks message c written asks (at.0.whole by_agwpe))
 
 duplex_asks : (s : StationState) → HasHosts s
     → OctetsAskNothing (connection_of kiss_id s.connections) full_duplex_octets
@@ -145,7 +145,8 @@ duplex_asks s h = go (connection_of kiss_id s.connections) refl
     go None is = tt
     go (Some c) is =
         let at = found IsHosts kiss_id s.connections c h.connections is in
-        subst (λ kind. OctetsAskBy kind c full_duplex_octets) (sym (at.0.kiss at.1)) tt
+        let by_kiss = at.0.kiss at.1 in
+        subst (λ kind. OctetsAskBy kind c full_duplex_octets) (sym by_kiss) (no_web c.stream (at.0.setting by_kiss))
 
 b_asks : (usual : Usual) (s : StationState) → Occurs B usual → HasHosts s → InputAsksNothing (input_of B usual) s
 b_asks joins_kiss s occurs h = tt

@@ -1,3 +1,4 @@
 pub mod PieceLemmas
 pub mod EscapeLemmas
 pub mod HeldLemmas
+pub mod WebLemmas

@@ -4,12 +4,17 @@
 //! read as the octets handed in.
 #![tactic(auto)]
 
+mod beginning;
+mod fault;
+mod host_reader;
 mod item;
 mod octet;
 mod open_piece;
 mod reader;
 mod writer;
 
+pub use fault::KissFault;
+pub use host_reader::KissHostIn;
 pub use item::KissItem;
 pub use reader::KissIn;
 pub use writer::write_kiss;

@@ -12,7 +12,7 @@ pub use Rattle.ax25_frames.specs.FrameOctets.{IsWrittenFrame, control_of}
 pub use Rattle.ax25_frames.specs.declared.frame.Frame.{Frame}
 pub use Rattle.ax25_frames.specs.declared.frame.Modulus.{Modulus}
 pub use Rattle.channel_access.specs.declared.air_tick.Sent.{Sent}
-unfoldable pub use Rattle.kiss_port.specs.Items.{items_in}
+pub use Rattle.kiss_port.specs.WebRequests.{host_items}
 pub use Rattle.kiss_port.specs.declared.item.KissItem.{KissItem}
 pub use Rattle.link_machine.specs.Done.{Done}
 pub use Rattle.link_machine.specs.Event.{Event}

@@ -1,10 +1,15 @@
 -- What the octets of a connection do, by what they say.
 use Rattle.station.proofs.Common.{◌≡◌, ℕ, ◌==◌, Bool, true, false, List, [], ◌∷◌, ◌++◌, cond, is_some, Option, Some}
-use Rattle.station.proofs.Common.{None, IfSome, refl, sym, ◌∙◌, ap, subst, eqb-true, false≢true, AgwMessage, KissItem}
+use Rattle.station.proofs.Common.{None, IfSome, refl, sym, ◌∙◌, ap, subst, eqb-true, AgwMessage, KissItem}
 use Rattle.station.proofs.Common.{PortKind, Kiss, Agw, Said, Items, Messages, AreAnswered, Connection, connection_of}
 use Rattle.station.proofs.Common.{AreSaidItems, AreSaidMessages, IsSaid, Says, taking, ending, heeding_all, Turn}
-use Rattle.station.proofs.Common.{closing}
+use Rattle.station.proofs.Common.{closing, host_items, Reads}
 use Rattle.agwpe_port.specs.Messages.{bad_length_in}
+use Rattle.agwpe_port.proofs.StreamLemmas.{behind}
+use Rattle.kiss_port.specs.HeldHost.{HeldHost, HostStandsFor}
+use Rattle.kiss_port.specs.WebRequests.{is_web_request}
+use Rattle.station.specs.declared.connection.Reader.{Reader}
+use Rattle.station.specs.declared.connection.Reader.TheVariants.{KissReader}
 use Rattle.station.specs.HeldReading.{SaysItems, SaysMessages}
 use Rattle.station.specs.Host.{AreTaken, AreTakenBy, new_items}
 use Rattle.station.specs.Leaving.{leaving}
@@ -23,63 +28,69 @@ found_id id (x ∷ xs) = by_test (x.id == id) refl (found_id id xs)
 -- what the reader of a connection says, its octets say
 pub said_by : (octets : List ℕ) (said : Said) (connection : Connection) (own : Option Connection)
     → own ≡ Some connection → Says connection.kind connection.stream octets said → IsSaid own octets said
-said_by octets (Items items) connection own is h = subst (λ (o : Option Connection). AreSaidItems o octets items.items)
-    (sym is) h
+said_by octets (Items items web) connection own is h =
+    subst (λ (o : Option Connection). AreSaidItems o octets items.items web) (sym is) h
 said_by octets (Messages messages failed) connection own is h =
     subst (λ (o : Option Connection). AreSaidMessages o octets messages.items failed) (sym is) h
+
+-- what the octets after those of a KISS connection say
+pub kiss_says :
+    (before : Reader) (reader after : HeldHost) (kind : PortKind) (stream octets : List ℕ) (items : List KissItem)
+    (web : Bool) → before ≡ KissReader reader → Reads before kind stream
+    → ((read : List ℕ) → HostStandsFor reader read → HostStandsFor after (read ++ octets))
+    → ((read : List ℕ) → HostStandsFor reader read → host_items (read ++ octets) ≡ host_items read ++ items)
+    → ((read : List ℕ) → HostStandsFor after read → web ≡ is_web_request read)
+    → SaysItems kind stream octets items web
+kiss_says before reader after kind stream octets items web is reads stands new told =
+    by_kind kind (subst (λ (r : Reader). Reads r kind stream) is reads)
+  where
+    by_kind : (kind : PortKind) → Reads (KissReader reader) kind stream → SaysItems kind stream octets items web
+    by_kind Kiss h = (
+      behind (host_items (stream ++ octets)) (host_items stream) items (new stream h),
+      told (stream ++ octets) (stands stream h),
+    )
+    by_kind Agw h = absurd h
 
 -- no connection takes none
 pub taken_none : (octets : List ℕ) (turn : Turn) (own : Option Connection) → own ≡ None → AreTaken own octets turn turn
 taken_none octets turn own is = subst (λ (o : Option Connection). AreTaken o octets turn turn) (sym is) refl
 
--- items are heeded
-pub taken_items : (id : ℕ) (octets : List ℕ) (turn : Turn) (items : List KissItem) (own : Option Connection)
-    → IfSome own (λ connection. connection.id ≡ id) → AreSaidItems own octets items
-    → AreTaken own octets turn (heeding_all items (taking id octets turn))
-taken_items id octets turn items None same h = absurd h
-taken_items id octets turn items (Some connection) same h = by_kind connection.kind h
+-- items are heeded, and a request of the web ends
+pub taken_items : (id : ℕ) (octets : List ℕ) (turn : Turn) (items : List KissItem) (web : Bool)
+    (own : Option Connection) → IfSome own (λ connection. connection.id ≡ id) → AreSaidItems own octets items web
+    → AreTaken own octets turn (ending id web (heeding_all items (taking id octets turn)))
+taken_items id octets turn items web None same h = absurd h
+taken_items id octets turn items web (Some connection) same h = by_kind connection.kind h
   where
-    by_kind : (kind : PortKind) → SaysItems kind connection.stream octets items
-        → AreTakenBy kind connection octets turn (heeding_all items (taking id octets turn))
-    by_kind Kiss is = ap (λ (all : List KissItem). heeding_all all (taking id octets turn)) is
-        ∙ ap (λ (n : ℕ). heeding_all (new_items connection.stream octets) (taking n octets turn)) (sym same)
+    by_kind : (kind : PortKind) → SaysItems kind connection.stream octets items web
+        → AreTakenBy kind connection octets turn (ending id web (heeding_all items (taking id octets turn)))
+    by_kind Kiss is =
+        ap (λ (ends : Bool). ending id ends (heeding_all items (taking id octets turn))) is.1
+        ∙ ap (λ (all : List KissItem). ending id (is_web_request (connection.stream ++ octets))
+        (heeding_all all (taking id octets turn))) is.0
+        ∙ ap (λ (n : ℕ). ending n (is_web_request (connection.stream ++ octets))
+        (heeding_all (new_items connection.stream octets) (taking n octets turn))) (sym same)
     by_kind Agw is = absurd is
 
 -- messages are answered, and past too long a body the connection ends
-pub record AreTakenMessages (id : ℕ) (octets : List ℕ) (turn answered : Turn) (failed : Bool) (own : Option Connection)
-    : Type 0 where
-  pub bad : Option ℕ
-  pub told : failed ≡ is_some bad
-  pub taken : AreTaken own octets turn (ending id bad answered)
-
 pub taken_messages : (id : ℕ) (octets : List ℕ) (turn answered : Turn) (messages : List AgwMessage) (failed : Bool)
     (own : Option Connection) → IfSome own (λ connection. connection.id ≡ id)
     → AreSaidMessages own octets messages failed → AreAnswered id messages (taking id octets turn) answered
-    → AreTakenMessages id octets turn answered failed own
+    → AreTaken own octets turn (ending id failed answered)
 taken_messages id octets turn answered messages failed None same h g = absurd h
-taken_messages id octets turn answered messages failed (Some connection) same h g = record {
-  bad = bad_length_in (connection.stream ++ octets);
-  told = told connection.kind h;
-  taken = taken connection.kind h;
-}
+taken_messages id octets turn answered messages failed (Some connection) same h g = by_kind connection.kind h
   where
-    told : (kind : PortKind) → SaysMessages kind connection.stream octets messages failed
-        → failed ≡ is_some (bad_length_in (connection.stream ++ octets))
-    told Kiss is = absurd is
-    told Agw is = is.1
-
-    taken : (kind : PortKind) → SaysMessages kind connection.stream octets messages failed
-        → AreTakenBy kind connection octets turn (ending id (bad_length_in (connection.stream ++ octets)) answered)
-    taken Kiss is = absurd is
-    taken Agw is = (
+    by_kind : (kind : PortKind) → SaysMessages kind connection.stream octets messages failed
+        → AreTakenBy kind connection octets turn (ending id failed answered)
+    by_kind Kiss is = absurd is
+    by_kind Agw is = (
       answered,
       subst (λ (all : List AgwMessage). AreAnswered connection.id all (taking connection.id octets turn) answered) is.0
           (subst (λ (n : ℕ). AreAnswered n messages (taking n octets turn) answered) (sym same) g),
-      ap (λ (n : ℕ). ending n (bad_length_in (connection.stream ++ octets)) answered) (sym same),
+      ap (λ (ends : Bool). ending id ends answered) is.1
+          ∙ ap (λ (n : ℕ). ending n (is_some (bad_length_in (connection.stream ++ octets))) answered) (sym same),
     )
 
--- past too long a body
-pub ending_some : (id : ℕ) (bad : Option ℕ) (turn : Turn) → is_some bad ≡ true
-    → ending id bad turn ≡ leaving id (closing id turn)
-ending_some id None turn is = absurd (false≢true is)
-ending_some id (Some len) turn is = refl
+-- a connection that ends
+pub ending_left : (id : ℕ) (ends : Bool) (turn : Turn) → ends ≡ true → ending id ends turn ≡ leaving id (closing id turn)
+ending_left id ends turn is = ap (λ (e : Bool). ending id e turn) is

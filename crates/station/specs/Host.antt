@@ -1,9 +1,10 @@
 -- What comes from a host program: it joins, its octets come, and it leaves.
-use Rattle.std.specs.Prelude.{◌≡◌, ℕ, nat_lt, if◌then◌else◌, List, [], ◌∷◌, ◌++◌, length, drop, Option, Some, None}
+use Rattle.std.specs.Prelude.{◌≡◌, ℕ, nat_lt, if◌then◌else◌, Bool, true, false, List, [], ◌∷◌, ◌++◌, length, drop}
+use Rattle.std.specs.Prelude.{is_some, Option, Some, None}
 use Rattle.agwpe_port.specs.declared.message.AgwMessage.{AgwMessage}
 use Rattle.agwpe_port.specs.Messages.{messages_in, bad_length_in}
 use Rattle.kiss_port.specs.declared.item.KissItem.{KissItem}
-use Rattle.kiss_port.specs.Items.{items_in}
+use Rattle.kiss_port.specs.WebRequests.{is_web_request, host_items}
 use Rattle.station.specs.declared.host_event.HostEvent.{HostEvent}
 use Rattle.station.specs.declared.host_event.HostEvent.TheVariants.{Joined, Bytes, Left}
 use Rattle.station.specs.declared.host_event.PortKind.{PortKind}
@@ -35,23 +36,25 @@ taking id octets = changing (λ s. record s { connections = with_connection id (
 
 -- the items that end in the octets after a stream
 abbrev pub new_items : List ℕ → List ℕ → List KissItem
-new_items stream octets = drop (length (items_in stream)) (items_in (stream ++ octets))
+new_items stream octets = drop (length (host_items stream)) (host_items (stream ++ octets))
 
 abbrev pub new_messages : List ℕ → List ℕ → List AgwMessage
 new_messages stream octets = drop (length (messages_in stream)) (messages_in (stream ++ octets))
 
--- after a header that tells too long a body, the connection is closed and has left
-abbrev pub ending : ℕ → Option ℕ → Act
-ending id None turn = turn
-ending id (Some len) turn = leaving id (closing id turn)
+-- a connection that is to be read no further is closed and has left
+abbrev pub ending : ℕ → Bool → Act
+ending id false turn = turn
+ending id true turn = leaving id (closing id turn)
 
+-- by KISS that is a request of the web, and by AGWPE one in which a header tells too long a body
 abbrev pub AreTakenBy : PortKind → Connection → List ℕ → Turn → Turn → Type 0
 AreTakenBy Kiss connection octets before after =
-    after ≡ heeding_all (new_items connection.stream octets) (taking connection.id octets before)
+    after ≡ ending connection.id (is_web_request (connection.stream ++ octets))
+    (heeding_all (new_items connection.stream octets) (taking connection.id octets before))
 AreTakenBy Agw connection octets before after =
     (answered : Turn)
     × AreAnswered connection.id (new_messages connection.stream octets) (taking connection.id octets before) answered
-    × (after ≡ ending connection.id (bad_length_in (connection.stream ++ octets)) answered)
+    × (after ≡ ending connection.id (is_some (bad_length_in (connection.stream ++ octets))) answered)
 
 -- the octets of a connection that is there
 abbrev pub AreTaken : Option Connection → List ℕ → Turn → Turn → Type 0

@@ -4,7 +4,7 @@ use Rattle.std.specs.Prelude.{◌≡◌, ◌≢◌, ℕ, ◌<◌, false, List, l
 use Rattle.std.specs.List.{AllZip}
 use Rattle.agwpe_port.specs.Held.{StandsFor as AgwStandsFor}
 use Rattle.channel_access.specs.StandsFor.{StandsFor as StandsForChannel}
-use Rattle.kiss_port.specs.Held.{StandsFor as KissStandsFor}
+use Rattle.kiss_port.specs.HeldHost.{HostStandsFor}
 use Rattle.link_machine.specs.StandsFor.{StandsFor as StandsForMachine}
 use Rattle.station.specs.declared.connection.Connection.{Connection as HeldConnection}
 use Rattle.station.specs.declared.connection.Reader.{Reader}
@@ -22,7 +22,7 @@ use Rattle.station.specs.State.{StationState}
 
 -- a reader, and all octets that came to it
 abbrev pub Reads : Reader → PortKind → List ℕ → Type 0
-Reads (KissReader reader) Kiss stream = KissStandsFor reader stream
+Reads (KissReader reader) Kiss stream = HostStandsFor reader stream
 Reads (KissReader reader) Agw stream = ⊥
 Reads (AgwReader reader) Kiss stream = ⊥
 Reads (AgwReader reader) Agw stream = AgwStandsFor reader stream

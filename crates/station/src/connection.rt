@@ -1,13 +1,13 @@
 //! The connections of host programs.
 
 use agwpe_port::AgwIn;
-use kiss_port::KissIn;
+use kiss_port::KissHostIn;
 
 /// What reads the octets of a connection.
 #[derive(Drop)]
 pub enum Reader {
     /// Of KISS.
-    KissReader(KissIn),
+    KissReader(KissHostIn),
     /// Of AGWPE.
     AgwReader(AgwIn),
 }

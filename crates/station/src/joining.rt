@@ -12,7 +12,7 @@ use crate::host_out::HostOut;
 use crate::memory::Memory;
 use crate::parts::Parts;
 use agwpe_port::AgwIn;
-use kiss_port::KissIn;
+use kiss_port::KissHostIn;
 use std::alloc::Global;
 use tnc_base::OutOfMemory;
 
@@ -53,7 +53,7 @@ fn new_reader(alloc: Global, kind: PortKind) -> Reader
     ensures { Reads result kind [] }
 {
     match kind {
-        PortKind::Kiss => Reader::KissReader(KissIn::new(alloc)),
+        PortKind::Kiss => Reader::KissReader(KissHostIn::new(alloc)),
         PortKind::Agw => Reader::AgwReader(AgwIn::new(alloc)),
     }
 }

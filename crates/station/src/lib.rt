@@ -23,6 +23,7 @@
 //!   C, v, c                    a link is made and calls, or d is answered
 //!   D, d                       for the connection's own link between the two calls
 //!   a body over 4096 octets    closed, and has left
+//!   KISS as HTTP or TLS begin  closed, and has left
 //! A frame that is heard
 //!   shown to hosts             always
 //!   no path                    nothing more

@@ -82,8 +82,9 @@ impl Station {
     }
 
     /// What comes from a host: it joins under a new id, or one that is there gives octets, at most 4096 and only if
-    /// [`accepts`](Station::accepts) holds, or leaves. A 65th connection is closed at once, and one whose octets tell
-    /// an AGWPE body over 4096 octets is closed and has left. Fails only for want of memory, and is then spent.
+    /// [`accepts`](Station::accepts) holds, or leaves. A 65th connection is closed at once. One whose octets tell an
+    /// AGWPE body over 4096 octets, or begin by KISS as those of a program of the web, is closed and has left. Fails
+    /// only for want of memory, and is then spent.
     pub fn host(&mut self, event: HostEvent) -> Result<HostOut, OutOfMemory>
         requires { IsAdmitted event self.old }
         ensures stood { self.old.spent ≡ false → StandsForSome self.old }

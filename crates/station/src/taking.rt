@@ -1,5 +1,5 @@
 //! Octets of a connection.
-ghost use Rattle.std.specs.Prelude.{◌≡◌, ◌≢◌, ℕ, [], All, is_some, Option, None, OnOk, IfOk, IfSome, true, OnErr};
+ghost use Rattle.std.specs.Prelude.{◌≡◌, ◌≢◌, ℕ, [], All, None, OnOk, IfOk, IfSome, true, OnErr};
 ghost use Rattle.station.specs.Connections.{connection_of};
 ghost use Rattle.station.specs.Held.{ids_in, without_ids};
 ghost use Rattle.station.specs.HeldConnections.{HasIdAt};
@@ -15,7 +15,8 @@ use crate::reading::Said;
 use tnc_base::OutOfMemory;
 
 impl Parts {
-    /// What the octets of a connection ask. Past a header that tells too long a body it is closed and has left.
+    /// What the octets of a connection ask. Past a header that tells too long a body, and if its first octets are those
+    /// of a program of the web, it is closed and has left.
     pub(crate) fn take(
         &mut self,
         memory: &mut Memory,
@@ -33,7 +34,10 @@ impl Parts {
             return Ok(());
         };
         match self.read_at(memory, id, place, octets)? {
-            Said::Items(items) => self.heed_all(memory, out, &items),
+            Said::Items(items, web) => {
+                self.heed_all(memory, out, &items)?;
+                self.end(memory, out, id, web)
+            }
             Said::Messages(messages, failed) => {
                 self.answer_all(memory, out, id, &messages)?;
                 self.end(memory, out, id, failed)
@@ -73,21 +77,21 @@ impl Parts {
         self.connections[place].reader.read(memory, octets)
     }
 
-    /// Closes a connection whose octets told too long a body, and it has left.
+    /// Closes a connection that is to be read no further, and it has left.
     fn end(
         &mut self,
         memory: &mut Memory,
         out: &mut HostOut,
         id: u32,
-        failed: bool,
+        ends: bool,
     ) -> Result<(), OutOfMemory>
-        ensures shows { (bad : Option ℕ) (turn : Turn) → failed ≡ is_some bad → Shows self.old out.old turn
-            → OnOk result (Shows self.new out.new (ending id bad turn)) }
+        ensures shows { (turn : Turn) → Shows self.old out.old turn
+            → OnOk result (Shows self.new out.new (ending id ends turn)) }
         ensures ids { OnOk result (out.old.closed ≡ []
             → ids_in self.new ≡ without_ids out.new.closed (ids_in self.old)) }
         ensures wanted { OnErr result (memory.new.refused ≡ true) }
     {
-        if !failed {
+        if !ends {
             return Ok(());
         }
         out.close(memory, id)?;

@@ -84,7 +84,7 @@ message_asks message none = record {
 
 octets_ask : (kind : PortKind) (connection : Connection) (octets : List ℕ) → OctetsAskBy kind connection octets
     → MayBring OfNone kind connection octets
-octets_ask Kiss connection octets none = tt
+octets_ask Kiss connection octets none = λ e. let clash : true ≡ false = sym e ∙ none in absurd (cc)
 octets_ask Agw connection octets none =
     let messages = new_messages connection.stream octets in (
       each_weaker AsksNothing (MayAsk OfNone) message_asks messages (recursion_from_All AsksNothing messages none.0),

@@ -1,4 +1,5 @@
 pub mod Common
+pub mod Connected
 pub mod Causes
 pub mod HeardAs
 pub mod StationActs

@@ -26,6 +26,7 @@ use Rattle.station_laws.proofs.Common.{tick_steps, given_up, gives_up_at, leavin
 use Rattle.station_laws.proofs.Common.{sends_at, data_steps, disconnect_steps, else_steps, answer_steps, message_steps}
 use Rattle.station_laws.proofs.Common.{ending_steps, octet_steps_by, octet_steps, host_steps}
 use Rattle.std.specs.List.{AllByRecursion as Each}
+use Rattle.kiss_port.specs.WebRequests.{is_web_request}
 use Rattle.kiss_port.specs.declared.item.KissItem.TheVariants.{Frame as KissFrame, Other}
 use Rattle.link_world.proofs.law.Each.{each_of_all}
 use Rattle.station.specs.AgwKinds.{connect_kind}
@@ -43,7 +44,7 @@ pub record MayAsk (P : Cause → Type 0) (message : AgwMessage) : Type 0 where
 
 -- so do octets of a connection
 abbrev pub MayBring : (Cause → Type 0) → PortKind → Connection → List ℕ → Type 0
-MayBring P Kiss connection octets = ⊤
+MayBring P Kiss connection octets = is_web_request (connection.stream ++ octets) ≡ true → P disconnecting
 MayBring P Agw connection octets =
     Each (MayAsk P) (new_messages connection.stream octets)
     × (is_some (bad_length_in (connection.stream ++ octets)) ≡ true → P disconnecting)
@@ -63,7 +64,7 @@ any_may_come (Joined id kind) s = tt
 any_may_come (Bytes id octets) s = by_place (connection_of id s.connections)
   where
     by_port : (kind : PortKind) (connection : Connection) → MayBring NotHeard kind connection octets
-    by_port Kiss connection = tt
+    by_port Kiss connection = λ e. tt
     by_port Agw connection = (
       each_of_all (MayAsk NotHeard) (λ message. record { call = λ e. tt; give = tt; end = λ e. tt })
           (new_messages connection.stream octets),
@@ -314,11 +315,11 @@ module _ (chosen : Choice) (P : Cause → Type 0) (R : Turn → List LinkStep �
         (message_steps chosen id messages h.0 u h.2) (answer_kept id message (calls message) t h.0 refl may.0 h.1)
         (messages_kept id messages h.0 u may.1 h.2)
 
-    ending_kept : (id : ℕ) (len : Option ℕ) (t : Turn) → (is_some len ≡ true → P disconnecting)
-        → R t (ending_steps chosen id len t) (ending id len t)
-    ending_kept id None t may = a.kept.by_events.same t
-    ending_kept id (Some len) t may =
-        after_act t (closing id t) (ending id (Some len) t) (ending_steps chosen id (Some len) t) (a.closes id t)
+    ending_kept : (id : ℕ) (ends : Bool) (t : Turn) → (ends ≡ true → P disconnecting)
+        → R t (ending_steps chosen id ends t) (ending id ends t)
+    ending_kept id false t may = a.kept.by_events.same t
+    ending_kept id true t may =
+        after_act t (closing id t) (ending id true t) (ending_steps chosen id true t) (a.closes id t)
         (leaving_kept (may refl) id (closing id t))
 
     -- ---- KISS
@@ -359,19 +360,24 @@ module _ (chosen : Choice) (P : Cause → Type 0) (R : Turn → List LinkStep �
     octets_kept_by Kiss connection octets t u may h =
         let took = taking connection.id octets t in
         let items = new_items connection.stream octets in
-        subst (R t []) (sym h) (after_act t took (heeding_all items took) [] (taking_kept connection.id octets t)
-        (heeding_all_kept items took))
+        let heeded = heeding_all items took in
+        let web = is_web_request (connection.stream ++ octets) in
+        let left = ending_steps chosen connection.id web heeded in
+        subst (R t left) (sym h) (after_act t took (ending connection.id web heeded) left
+        (taking_kept connection.id octets t)
+        (after_act took heeded (ending connection.id web heeded) left (heeding_all_kept items took)
+        (ending_kept connection.id web heeded may)))
     octets_kept_by Agw connection octets t u may h =
         let took = taking connection.id octets t in
-        let len = bad_length_in (connection.stream ++ octets) in
+        let bad = is_some (bad_length_in (connection.stream ++ octets)) in
         let messages = new_messages connection.stream octets in
         let said = message_steps chosen connection.id messages took h.0 h.1 in
-        let left = ending_steps chosen connection.id len h.0 in
-        subst (R t (said ++ left)) (sym h.2) (after_act t took (ending connection.id len h.0) (said ++ left)
+        let left = ending_steps chosen connection.id bad h.0 in
+        subst (R t (said ++ left)) (sym h.2) (after_act t took (ending connection.id bad h.0) (said ++ left)
         (taking_kept connection.id octets t)
-        (a.kept.by_events.on took h.0 (ending connection.id len h.0) said left
+        (a.kept.by_events.on took h.0 (ending connection.id bad h.0) said left
         (messages_kept connection.id messages took h.0 may.0 h.1)
-        (ending_kept connection.id len h.0 may.1)))
+        (ending_kept connection.id bad h.0 may.1)))
 
     octets_kept :
         (connection : Option Connection) (octets : List ℕ) (t u : Turn) → MayTake P connection octets

@@ -2,6 +2,7 @@
 use Rattle.std.specs.Prelude.{◌≡◌, ℕ, ◌==◌, false, All, List, ◌++◌, Option, Some, None}
 use Rattle.agwpe_port.specs.Messages.{bad_length_in}
 use Rattle.agwpe_port.specs.declared.message.AgwMessage.{AgwMessage}
+use Rattle.kiss_port.specs.WebRequests.{is_web_request}
 use Rattle.station.specs.declared.host_event.HostEvent.TheVariants.{Joined, Bytes, Left}
 use Rattle.station.specs.declared.host_event.PortKind.{PortKind}
 use Rattle.station.specs.declared.host_event.PortKind.TheVariants.{Kiss, Agw}
@@ -20,9 +21,10 @@ pub record AsksNothing (message : AgwMessage) : Type 0 where
   pub no_call : calls message ≡ false
   pub no_end : (message.kind == disconnect_kind) ≡ false
 
--- octets of a connection: their messages ask nothing, and no header tells too long a body
+-- octets of a connection that is read further: by KISS it is no request of the web, and by AGWPE their messages ask
+-- nothing, and no header tells too long a body
 abbrev pub OctetsAskBy : PortKind → Connection → List ℕ → Type 0
-OctetsAskBy Kiss connection octets = Unit {0}
+OctetsAskBy Kiss connection octets = is_web_request (connection.stream ++ octets) ≡ false
 OctetsAskBy Agw connection octets =
     All AsksNothing (new_messages connection.stream octets) × (bad_length_in (connection.stream ++ octets) ≡ None)
 

@@ -2,7 +2,7 @@
 -- program connects (AGWPE, C, v and c), sends (each packet of D), and disconnects (d, and when it leaves). A frame that
 -- is heard, and that passes every test on the way to a link, is an event of that link. A tick is one of each link.
 use Rattle.std.specs.Prelude.{◌≡◌, ℕ, ◌-◌, ◌==◌, Bool, true, false, if◌then◌else◌, List, [], ◌∷◌, ◌++◌, length, Option}
-use Rattle.std.specs.Prelude.{Some, None, MatchBool}
+use Rattle.std.specs.Prelude.{Some, None, is_some, MatchBool}
 use Rattle.std.specs.List.{range_with_len}
 use Rattle.ax25_address.specs.FramePath.{way_back}
 use Rattle.ax25_address.specs.declared.path.Path.{Path}
@@ -10,6 +10,7 @@ use Rattle.ax25_address.specs.declared.path.Role.TheVariants.{Command}
 use Rattle.ax25_frames.specs.declared.frame.Frame.{Frame}
 use Rattle.agwpe_port.specs.Messages.{bad_length_in}
 use Rattle.agwpe_port.specs.declared.message.AgwMessage.{AgwMessage}
+use Rattle.kiss_port.specs.WebRequests.{is_web_request}
 use Rattle.selective_reject.specs.declared.packet.Packet.{Packet}
 use Rattle.link_machine.specs.Event.{Event}
 use Rattle.link_machine.specs.Event.Event.{Connect, Send, Disconnect, Hear, Tick}
@@ -23,7 +24,8 @@ use Rattle.station.specs.AgwRequests.{called_route, called_pid, may_call, own_ke
 use Rattle.station.specs.Connections.{Connection, connection_of}
 use Rattle.station.specs.Heard.{IsHeard, IsHeardBy, IsHeardAnew, IsHeardMaking, IsReadingHeardAnew, IsRepeatedFor}
 use Rattle.station.specs.Heard.{AreHeardAt, AreOctetsHeard, may_make, shown_to_hosts, waits_for_repeater}
-use Rattle.station.specs.Host.{AreTaken, AreTakenBy, IsHostTurn, new_messages, taking}
+use Rattle.station.specs.Host.{AreTaken, AreTakenBy, IsHostTurn, new_items, new_messages, taking}
+use Rattle.station.specs.Kiss.{heeding_all}
 use Rattle.station.specs.Leaving.{giving_up, without_host, without_owner}
 use Rattle.station.specs.LinkEvents.{event_at, with_links}
 use Rattle.station.specs.Links.{Link, link_at, key_between, with_link, most_links}
@@ -153,22 +155,24 @@ message_steps chosen id [] before after h = []
 message_steps chosen id (message ∷ messages) before after h =
     answer_steps chosen id message (calls message) before h.0 h.1 ++ message_steps chosen id messages h.0 after h.2
 
--- past a header that tells too long a body the connection has left
-abbrev pub ending_steps : Choice → ℕ → Option ℕ → Turn → List LinkStep
-ending_steps chosen id None turn = []
-ending_steps chosen id (Some len) turn = leaving_steps chosen id (closing id turn)
+-- a connection that is to be read no further has left
+abbrev pub ending_steps : Choice → ℕ → Bool → Turn → List LinkStep
+ending_steps chosen id false turn = []
+ending_steps chosen id true turn = leaving_steps chosen id (closing id turn)
 
 -- ---- octets of a host program
 
--- KISS asks nothing of links
+-- what comes by KISS asks nothing of links, but that of a request of the web, which then has left
 abbrev pub octet_steps_by :
     Choice → (kind : PortKind) → (connection : Connection) → (octets : List ℕ) → (before after : Turn)
     → AreTakenBy kind connection octets before after → List LinkStep
-octet_steps_by chosen Kiss connection octets before after h = []
+octet_steps_by chosen Kiss connection octets before after h =
+    ending_steps chosen connection.id (is_web_request (connection.stream ++ octets))
+    (heeding_all (new_items connection.stream octets) (taking connection.id octets before))
 octet_steps_by chosen Agw connection octets before after h =
     message_steps chosen connection.id (new_messages connection.stream octets) (taking connection.id octets before)
     h.0 h.1
-    ++ ending_steps chosen connection.id (bad_length_in (connection.stream ++ octets)) h.0
+    ++ ending_steps chosen connection.id (is_some (bad_length_in (connection.stream ++ octets))) h.0
 
 abbrev pub octet_steps :
     Choice → (connection : Option Connection) → (octets : List ℕ) → (before after : Turn)

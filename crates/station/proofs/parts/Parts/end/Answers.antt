@@ -1,12 +1,12 @@
 use Rattle.station.proofs.Common.{◌++◌, ◌∷◌, [], OnOk, sym, ◌∙◌, ap, subst, Shows, Out, Turn, closing}
-use Rattle.station.proofs.TakenLemmas.{ending_some}
+use Rattle.station.proofs.TakenLemmas.{ending_left}
 use Rattle.station.proofs.parts.Parts.end.Goals as goal
 
 pub returns-clause-shows : goal.returns-clause-shows
-returns-clause-shows c = λ bad turn told shows.
+returns-clause-shows c = λ turn shows.
     let id = c.args.id in
     subst (λ (behind : Turn). OnOk c.leave.result (Shows c.leave.new.self c.leave.new.out behind))
-    (sym (ending_some id bad turn (sym told ∙ c.if-not-failed.false)))
+    (sym (ending_left id c.args.ends turn c.if-not-ends.false))
     (c.leave.ensures.shows (closing id turn)
     (record {
       holds = shows.holds;

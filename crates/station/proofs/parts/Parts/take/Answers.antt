@@ -14,23 +14,26 @@ returns-in_default-clause-step c = λ turn shows. (
   shows,
 )
 
-pub returns-in-Items-clause-step : goal.returns-in-Items-clause-step
-returns-in-Items-clause-step c = λ turn shows.
+pub returns-in_ok-heed_all-in-Items-clause-step : goal.returns-in_ok-heed_all-in-Items-clause-step
+returns-in_ok-heed_all-in-Items-clause-step c = λ turn shows.
     let id = c.args.id in
     let octets = c.args.octets.now in
     let own = connection_of id turn.now.connections in
     let items = c.deref.result.now in
-    let told : IsSaid own octets (Items c.in-Items.items) =
+    let web = c.in-Items.web in
+    let told : IsSaid own octets (Items c.in-Items.items web) =
     subst (λ (said : Said). IsSaid own octets said) c.in-Items.is
     (c.in_ok-items.ensures.said c.args.out.now turn shows) in
-    let said : AreSaidItems own octets items = subst (λ (all : List KissItem). AreSaidItems own octets all)
+    let said : AreSaidItems own octets items web = subst (λ (all : List KissItem). AreSaidItems own octets all web)
     (sym c.deref.ensures.value) told in
-    on_ok_weaker c.heed_all.result (λ done. (
-      heeding_all items (taking id octets turn),
-      taken_items id octets turn items own (found_id id turn.now.connections) said,
+    let heeded = heeding_all items (taking id octets turn) in
+    on_ok_weaker c.end.result (λ done. (
+      ending id web heeded,
+      taken_items id octets turn items web own (found_id id turn.now.connections) said,
       done,
     ))
-    (c.heed_all.ensures.shows (taking id octets turn) (c.in_ok-items.ensures.shows c.args.out.now turn shows))
+    (c.end.ensures.shows heeded (c.in_ok-heed_all-in-Items.ensures.shows (taking id octets turn)
+    (c.in_ok-items.ensures.shows c.args.out.now turn shows)))
 
 pub returns-in_ok-answer_all-in-Messages-clause-step : goal.returns-in_ok-answer_all-in-Messages-clause-step
 returns-in_ok-answer_all-in-Messages-clause-step c = λ turn shows.
@@ -47,7 +50,9 @@ returns-in_ok-answer_all-in-Messages-clause-step c = λ turn shows.
     told in
     let answered = c.in_ok-answer_all-in-Messages.ensures.step (taking id octets turn)
     (c.in_ok-items.ensures.shows c.args.out.now turn shows) in
-    let taken = taken_messages id octets turn answered.0 messages failed own (found_id id turn.now.connections)
-    said answered.1 in
-    on_ok_weaker c.end.result (λ done. (ending id taken.bad answered.0, taken.taken, done))
-    (c.end.ensures.shows taken.bad answered.0 taken.told answered.2)
+    on_ok_weaker c.end-in-Messages.result (λ done. (
+      ending id failed answered.0,
+      taken_messages id octets turn answered.0 messages failed own (found_id id turn.now.connections) said answered.1,
+      done,
+    ))
+    (c.end-in-Messages.ensures.shows answered.0 answered.2)

@@ -1,0 +1,241 @@
+-- The beginnings of programs of the web: they show within eight octets, they stay, and no piece ends in them.
+use Rattle.std.proofs.Common.{◌≡◌, ℕ, zero, suc, Bool, true, false, List, [], ◌∷◌, ◌++◌, length, take, drop, refl, ap, subst}
+use Rattle.std.proofs.Common.{◌∙◌, sym, inl, inr, arith, append_assoc, append-nil, Option, Result, Ok, Err}
+use Rattle.std.specs.Prelude.{◌==◌, ◌||◌, not, nat_le, IsErrAnd}
+use Rattle.std.specs.Option.{option_to_list}
+use Rattle.std.specs.Cmp.Lexicographic.{pointwise}
+use Rattle.std.specs.List.{list_any, list_all, flat_map, starts_with}
+use Rattle.std.proofs.Math.Bool.{or-true}
+use Rattle.std.proofs.Math.Seq.{take-append_seam}
+use Rattle.std.proofs.lemmas.Bool.{cond-true, cond-false, cases_lt, false≢true, leb-true, not-true, eqb-false, or_parts}
+use Rattle.std.proofs.lemmas.Bool.{and_parts}
+use Rattle.std.proofs.lemmas.Bool.Decides.{Decides-eqb}
+use Rattle.std.proofs.lemmas.List.{take_all, take-take, take-append-le, take-append-drop, length-take-le}
+use Rattle.std.proofs.lemmas.Slice.Eq.{starts_is}
+use Rattle.kiss_port.specs.Escapes.{fend, unescaped}
+use Rattle.kiss_port.specs.Items.{item_of, items_in}
+use Rattle.kiss_port.specs.declared.fault.KissFault.{KissFault}
+use Rattle.kiss_port.specs.declared.fault.KissFault.TheVariants.{Memory, WebRequest}
+use Rattle.kiss_port.specs.declared.item.KissItem.{KissItem}
+use Rattle.kiss_port.specs.Held.{Held, StandsFor}
+use Rattle.kiss_port.specs.HeldHost.{HeldHost, HostStandsFor}
+use Rattle.kiss_port.specs.WebRequests.{web_beginnings, is_web_request, host_items}
+use Rattle.kiss_port.proofs.PieceLemmas.{IsInside, pieces_inside}
+
+-- ---- one beginning
+
+abbrev starts : List ℕ → List ℕ → Bool
+starts octets beginning = starts_with (λ a b. a == b) octets beginning
+
+-- what begins so is the beginning and more
+starts_then : (octets beginning : List ℕ) → starts octets beginning ≡ true
+    → octets ≡ beginning ++ drop (length beginning) octets
+starts_then octets beginning is = (starts_is Decides-eqb octets beginning (starts octets beginning) refl).0 is
+
+then_starts : (octets beginning rest : List ℕ) → octets ≡ beginning ++ rest → starts octets beginning ≡ true
+then_starts octets beginning rest is = (starts_is Decides-eqb octets beginning (starts octets beginning) refl).1 rest is
+
+-- it shows within eight octets, if it is no longer
+starts_in_8 : (octets beginning : List ℕ) → nat_le (length beginning) 8 ≡ true
+    → starts (take 8 octets) beginning ≡ starts octets beginning
+starts_in_8 octets beginning short = ap (pointwise (λ a b. a == b) beginning)
+    (take-take (length beginning) 8 octets (leb-true (length beginning) 8 short))
+
+starts_stays : (octets more beginning : List ℕ) → starts octets beginning ≡ true
+    → starts (octets ++ more) beginning ≡ true
+starts_stays octets more beginning is =
+    then_starts (octets ++ more) beginning (drop (length beginning) octets ++ more)
+    (ap (λ xs. xs ++ more) (starts_then octets beginning is)
+    ∙ append_assoc beginning (drop (length beginning) octets) more)
+
+inside_take : (count : ℕ) (octets : List ℕ) → IsInside octets → IsInside (take count octets)
+inside_take zero octets inside = tt
+inside_take (suc count) [] inside = tt
+inside_take (suc count) (octet ∷ octets) inside = (inside.0, inside_take count octets inside.1)
+
+-- what an octet makes a beginning without a FEND has no FEND
+starts_late : (octets beginning : List ℕ) (octet : ℕ) → IsInside beginning → starts octets beginning ≡ false
+    → starts (octets ++ octet ∷ []) beginning ≡ true
+    → IsInside octets
+starts_late octets beginning octet inside early late =
+    let rest : List ℕ = drop (length beginning) (octets ++ octet ∷ []) in
+    let all : octets ++ octet ∷ [] ≡ beginning ++ rest = starts_then (octets ++ octet ∷ []) beginning late in
+    elim (cases_lt (length octets) (length beginning)) [
+      | inl short ↦
+          let is : octets ≡ take (length octets) beginning =
+          sym (take-append_seam octets (octet ∷ [])) ∙ ap (take (length octets)) all
+          ∙ take-append-le (length octets) beginning rest (omega (arith, short)) in
+          subst IsInside (sym is) (inside_take (length octets) beginning inside)
+      | inr long ↦
+          let front : take (length beginning) octets ≡ beginning =
+          sym (take-append-le (length beginning) octets (octet ∷ []) long) ∙ ap (take (length beginning)) all
+          ∙ take-append_seam beginning rest in
+          let is : octets ≡ beginning ++ drop (length beginning) octets =
+          sym (take-append-drop (length beginning) octets)
+          ∙ ap (λ xs. xs ++ drop (length beginning) octets) front in
+          absurd (false≢true (sym early ∙ then_starts octets beginning (drop (length beginning) octets) is))
+    ]
+
+-- ---- a list of beginnings
+
+abbrev starts_any : List (List ℕ) → List ℕ → Bool
+starts_any beginnings octets = list_any (starts_with (λ a b. a == b) octets) beginnings
+
+any_in_8 : (beginnings : List (List ℕ)) (octets : List ℕ)
+    → list_all (λ beginning. nat_le (length beginning) 8) beginnings ≡ true
+    → starts_any beginnings (take 8 octets) ≡ starts_any beginnings octets
+any_in_8 [] octets short = refl
+any_in_8 (beginning ∷ beginnings) octets short =
+    let parts = and_parts (nat_le (length beginning) 8)
+    (list_all (λ beginning. nat_le (length beginning) 8) beginnings) short in
+    ap (λ b. b || starts_any beginnings (take 8 octets)) (starts_in_8 octets beginning parts.0)
+    ∙ ap (λ b. starts octets beginning || b) (any_in_8 beginnings octets parts.1)
+
+any_stays : (beginnings : List (List ℕ)) (octets more : List ℕ) → starts_any beginnings octets ≡ true
+    → starts_any beginnings (octets ++ more) ≡ true
+any_stays [] octets more is = absurd (false≢true is)
+any_stays (beginning ∷ beginnings) octets more is =
+    go (starts octets beginning) refl (any_stays beginnings octets more) is
+  where
+    go : (b : Bool) → starts octets beginning ≡ b
+        → (starts_any beginnings octets ≡ true → starts_any beginnings (octets ++ more) ≡ true)
+        → (b || starts_any beginnings octets) ≡ true
+        → (starts (octets ++ more) beginning || starts_any beginnings (octets ++ more)) ≡ true
+    go true here others h =
+        ap (λ b. b || starts_any beginnings (octets ++ more)) (starts_stays octets more beginning here)
+    go false here others h = ap (λ b. starts (octets ++ more) beginning || b) (others h)
+        ∙ or-true (starts (octets ++ more) beginning)
+
+-- no FEND among these octets
+has_no_fend : List ℕ → Bool
+has_no_fend octets = list_all (λ octet. not (octet == fend)) octets
+
+inside_from : (octets : List ℕ) → has_no_fend octets ≡ true → IsInside octets
+unfolding has_no_fend
+inside_from [] none = tt
+inside_from (octet ∷ octets) none =
+    let parts = and_parts (not (octet == fend)) (has_no_fend octets) none in
+    (eqb-false octet fend (not-true (octet == fend) parts.0), inside_from octets parts.1)
+
+any_late : (beginnings : List (List ℕ)) (octets : List ℕ) (octet : ℕ) → list_all has_no_fend beginnings ≡ true
+    → starts_any beginnings octets ≡ false
+    → starts_any beginnings (octets ++ octet ∷ []) ≡ true
+    → IsInside octets
+any_late [] octets octet none early late = absurd (false≢true late)
+any_late (beginning ∷ beginnings) octets octet none early late =
+    go (starts (octets ++ octet ∷ []) beginning) refl (any_late beginnings octets octet fends.1 before.1) late
+  where
+    fends : (has_no_fend beginning ≡ true) × (list_all has_no_fend beginnings ≡ true)
+    fends = and_parts (has_no_fend beginning) (list_all has_no_fend beginnings) none
+
+    before : (starts octets beginning ≡ false) × (starts_any beginnings octets ≡ false)
+    before = or_parts (starts octets beginning) (starts_any beginnings octets) early
+
+    go : (b : Bool) → starts (octets ++ octet ∷ []) beginning ≡ b
+        → (starts_any beginnings (octets ++ octet ∷ []) ≡ true → IsInside octets)
+        → (b || starts_any beginnings (octets ++ octet ∷ [])) ≡ true → IsInside octets
+    go true here others h = starts_late octets beginning octet (inside_from beginning fends.0) before.0 here
+    go false here others h = others h
+
+-- ---- the beginnings of programs of the web
+
+web_in_8 : (octets : List ℕ) → is_web_request (take 8 octets) ≡ is_web_request octets
+unfolding is_web_request
+web_in_8 octets = any_in_8 web_beginnings octets refl
+
+-- a connection that is known as a program's of the web stays so
+pub web_stays : (octets more : List ℕ) → is_web_request octets ≡ true → is_web_request (octets ++ more) ≡ true
+unfolding is_web_request
+web_stays octets more is = any_stays web_beginnings octets more is
+
+pub no_web_before : (octets more : List ℕ) → is_web_request (octets ++ more) ≡ false → is_web_request octets ≡ false
+no_web_before octets more isnt = go (is_web_request octets) refl
+  where
+    go : (b : Bool) → is_web_request octets ≡ b → is_web_request octets ≡ false
+    go true is = absurd (false≢true (sym isnt ∙ web_stays octets more is))
+    go false is = is
+
+-- before the octet by which it is known no item has ended
+none_before : (octets : List ℕ) (octet : ℕ) → is_web_request octets ≡ false
+    → is_web_request (octets ++ octet ∷ []) ≡ true
+    → items_in octets ≡ []
+unfolding is_web_request items_in has_no_fend
+none_before octets octet early late = ap (flat_map (λ piece. option_to_list (item_of (unescaped piece))))
+    (pieces_inside octets (any_late web_beginnings octets octet refl early late))
+
+pub web_items : (octets : List ℕ) → is_web_request octets ≡ true → host_items octets ≡ []
+web_items octets is = cond-true (is_web_request octets) [] (items_in octets) is
+
+pub kiss_items : (octets : List ℕ) → is_web_request octets ≡ false → host_items octets ≡ items_in octets
+kiss_items octets is = cond-false (is_web_request octets) [] (items_in octets) is
+
+-- ---- what is kept
+
+-- of the first eight octets and one more, the first eight
+beginning_more : (octets : List ℕ) (octet : ℕ) → take 8 (take 8 octets ++ octet ∷ []) ≡ take 8 (octets ++ octet ∷ [])
+beginning_more octets octet =
+    elim (cases_lt (length octets) 8) [
+      | inl short ↦ ap (λ xs. take 8 (xs ++ octet ∷ [])) (take_all 8 octets (omega (arith, short)))
+      | inr long ↦
+          take-append-le 8 (take 8 octets) (octet ∷ []) (omega (arith, length-take-le 8 octets long))
+          ∙ take-take 8 8 octets (omega arith) ∙ sym (take-append-le 8 octets (octet ∷ []) long)
+    ]
+
+-- what is kept tells a program of the web
+pub kept_tells : (held : HeldHost) (octets : List ℕ) → HostStandsFor held octets
+    → is_web_request held.beginning ≡ is_web_request octets
+kept_tells held octets stands = ap is_web_request stands.beginning ∙ web_in_8 octets
+
+-- one octet more, after which this is kept of the beginning
+module _ (held : HeldHost) (octets : List ℕ) (stands : HostStandsFor held octets) (octet : ℕ) (next : List ℕ)
+    (made : next ≡ take 8 (held.beginning ++ octet ∷ [])) where
+  next_is : next ≡ take 8 (octets ++ octet ∷ [])
+  next_is = made ∙ ap (λ xs. take 8 (xs ++ octet ∷ [])) stands.beginning ∙ beginning_more octets octet
+
+  next_tells : is_web_request next ≡ is_web_request (octets ++ octet ∷ [])
+  next_tells = ap is_web_request next_is ∙ web_in_8 (octets ++ octet ∷ [])
+
+  module _ (web : is_web_request next ≡ true) where
+    pub is_web : is_web_request (octets ++ octet ∷ []) ≡ true
+    is_web = sym next_tells ∙ web
+
+    pub stands_web : (piece : Held)
+        → HostStandsFor (record { beginning = next; piece = piece }) (octets ++ octet ∷ [])
+    stands_web piece = record {
+      beginning = next_is;
+      piece = λ isnt. absurd (false≢true (sym isnt ∙ is_web));
+    }
+
+    pub items_web : host_items (octets ++ octet ∷ []) ≡ host_items octets ++ []
+    items_web =
+        web_items (octets ++ octet ∷ []) is_web
+        ∙ sym (append-nil (host_items octets) ∙ none (is_web_request octets) refl)
+      where
+        none : (b : Bool) → is_web_request octets ≡ b → host_items octets ≡ []
+        none true is = web_items octets is
+        none false is = kiss_items octets is ∙ none_before octets octet is is_web
+
+  module _ (kiss : is_web_request next ≡ false) where
+    pub is_kiss : is_web_request (octets ++ octet ∷ []) ≡ false
+    is_kiss = sym next_tells ∙ kiss
+
+    was_kiss : is_web_request octets ≡ false
+    was_kiss = no_web_before octets (octet ∷ []) is_kiss
+
+    pub piece_there : StandsFor held.piece octets
+    piece_there = stands.piece was_kiss
+
+    pub stands_kiss : (piece : Held) → StandsFor piece (octets ++ octet ∷ [])
+        → HostStandsFor (record { beginning = next; piece = piece }) (octets ++ octet ∷ [])
+    stands_kiss piece there = record { beginning = next_is; piece = λ isnt. there }
+
+    pub items_kiss : (more : List KissItem) → items_in (octets ++ octet ∷ []) ≡ items_in octets ++ more
+        → host_items (octets ++ octet ∷ []) ≡ host_items octets ++ more
+    items_kiss more is = kiss_items (octets ++ octet ∷ []) is_kiss ∙ is
+        ∙ ap (λ xs. xs ++ more) (sym (kiss_items octets was_kiss))
+
+-- want of memory is no request of the web
+pub never_web : (result : Result (Option KissItem) KissFault) → IsErrAnd result (λ fault. fault ≡ Memory)
+    → result ≡ Err WebRequest → ⊥
+never_web (Ok item) memory is = absurd memory
+never_web (Err fault) memory is = absurd (cc (memory, is))

@@ -1,0 +1,9 @@
+use Rattle.station.proofs.TakenLemmas.{kiss_says}
+use Rattle.station.proofs.connection.Reader.read.Goals as goal
+
+pub returns-in_ok-items-in-KissReader-clause-says : goal.returns-in_ok-items-in-KissReader-clause-says
+returns-in_ok-items-in-KissReader-clause-says c = λ kind stream reads.
+    kiss_says c.args.self.now c.in-KissReader.reader c.read_items.new.reader kind stream c.args.octets.now
+    c.in_ok-items-in-KissReader.items.items c.is_web_request-web.result c.in-KissReader.is reads
+    c.in_ok-items-in-KissReader.ensures.stands_for c.in_ok-items-in-KissReader.ensures.items
+    c.is_web_request-web.ensures.web
