@@ -1,12 +1,12 @@
 -- The law of a call in what is seen at the partner's station.
-use Rattle.station_laws.proofs.Common.{◌≡◌, ℕ, zero, suc, List, [], ◌∷◌, map, Some, refl, sym, ap, ◌∙◌, subst, slice_get}
+use Rattle.station_laws.proofs.Common.{◌≡◌, ℕ, zero, suc, List, [], ◌∷◌, map, Some, sym, ap, ◌∙◌, slice_get}
 use Rattle.station_laws.proofs.Common.{End, A, B, seen_from, other, Config, Calls, Pairs, Step}
 use Rattle.link_world.specs.SetUps.{SetUp}
 use Rattle.station_laws.specs.LinkOfCalls.{world_of}
-use Rattle.station_laws.specs.SetUpsSeen.{Seen, AreSetUpsSeen, SetUpsLaw, as_seen, set_ups_seen}
+use Rattle.station_laws.specs.SetUpsSeen.{AreSetUpsSeen, SetUpsLaw, as_seen, set_ups_seen}
 use Rattle.call_laws.specs.Client.{calls_of}
 use Rattle.call_laws.specs.PrintsGiven.{CallLaw}
-use Rattle.call_laws.specs.PrintsSeen.{PrintsSeen, CallSeenLaw}
+use Rattle.call_laws.specs.PrintsSeen.{CallSeenLaw}
 
 -- a set-up as it is seen
 get_seen : (set_ups : List SetUp) (number : ℕ) (q : SetUp) → slice_get set_ups number ≡ Some q
