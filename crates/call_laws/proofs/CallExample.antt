@@ -9,6 +9,7 @@ use Rattle.station_laws.proofs.Common.{new_station, Turn, Step, new_stations, Is
 use Rattle.station_laws.proofs.Common.{Pairs, IsQuietLink, frame_octets, WindowsFit, Pair, RiseBoth, AreAlikeButForH}
 use Rattle.station_laws.proofs.Common.{HearsLinkFrame, IsHeardPair, HasPair, AreHeardInOrder, All-contains_itself}
 use Rattle.station_laws.proofs.Common.{AllPairs, slice_get, get_or, sym, ◌∙◌, subst, Connection}
+use Rattle.station_laws.proofs.Examples.{hearing, shown}
 use Rattle.std.specs.Prelude.{◌≡◌, ◌≢◌, ℕ, zero, suc, ◌<◌, true, false, nat_lt, Contains, List, [], ◌∷◌, ◌++◌, length}
 use Rattle.std.specs.Prelude.{Some, None, refl}
 use Rattle.std.specs.List.{AllByRecursion as Each}
@@ -247,48 +248,22 @@ a_calls =
       octets = tt;
     }
 
-abbrev pub shown : Path → List ℕ → Frame → StationState → Turn
-shown path octets frame s = shown_to_hosts (Some path) octets (Some frame) (begin s)
-
 abbrev pub b_hears_sabm : Step
 unfolding reading call_of_text
 b_hears_sabm =
     let before = b_registers.after.now in
     let made = making 0 1 no_layer_3 bbbb aaaa (way_back command_path Command)
     (shown command_path sabm sabm_frame before) in
-    let after = event_at 0 (LinkHear sabm_frame) made in record {
-      station = B;
-      input = OffAir sabm;
-      before = before;
-      after = after;
-      turn = record {
-        path = Some command_path;
-        reading = (14, command_begins 63);
-        monitored = Some sabm_frame;
-        read_as = sabm_is;
-        effect = (Some sabm_frame, sabm_is, (0, record { within = omega arith; vacant = refl; freed = tt }, refl));
-      };
-      octets = low sabm refl;
-    }
+    hearing B before command_path sabm sabm_frame (event_at 0 (LinkHear sabm_frame) made) (command_begins 63) sabm_is
+    (Some sabm_frame, sabm_is, (0, record { within = omega arith; vacant = refl; freed = tt }, refl))
+    (Some sabm_frame, sabm_is, refl) (low sabm refl)
 
 abbrev pub a_hears_ua : Step
 unfolding reading call_of_text link_turn
 a_hears_ua =
     let before = a_calls.after.now in
-    let after = event_at 0 (LinkHear ua_frame) (shown response_path ua ua_frame before) in record {
-      station = A;
-      input = OffAir ua;
-      before = before;
-      after = after;
-      turn = record {
-        path = Some response_path;
-        reading = (14, response_begins 115);
-        monitored = Some ua_frame;
-        read_as = ua_is;
-        effect = (Some ua_frame, ua_is, refl);
-      };
-      octets = low ua refl;
-    }
+    hearing A before response_path ua ua_frame (event_at 0 (LinkHear ua_frame) (shown response_path ua ua_frame before))
+    (response_begins 115) ua_is (Some ua_frame, ua_is, refl) (Some ua_frame, ua_is, refl) (low ua refl)
 
 -- B's host gives one octet
 abbrev pub b_gives : Step
@@ -310,20 +285,8 @@ abbrev pub a_hears_info : Step
 unfolding reading call_of_text link_turn ahead
 a_hears_info =
     let before = a_hears_ua.after.now in
-    let after = event_at 0 (LinkHear info_frame) (shown back_path info info_frame before) in record {
-      station = A;
-      input = OffAir info;
-      before = before;
-      after = after;
-      turn = record {
-        path = Some back_path;
-        reading = (14, info_begins);
-        monitored = Some info_frame;
-        read_as = info_is;
-        effect = (Some info_frame, info_is, refl);
-      };
-      octets = low info refl;
-    }
+    hearing A before back_path info info_frame (event_at 0 (LinkHear info_frame) (shown back_path info info_frame before))
+    info_begins info_is (Some info_frame, info_is, refl) (Some info_frame, info_is, refl) (low info refl)
 
 -- ---- the run
 

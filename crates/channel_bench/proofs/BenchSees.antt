@@ -158,11 +158,27 @@ holds_of w bench B n noted little finds both = record {
   sees_b = λ p. (both p).own;
 }
 
+-- what a step needs of the bench before it
+record KnownNear (w : BenchWords) (bench : BenchState) (e : End) (n : Near) : Type 0 where
+  noted : IsNoted w n.common.moments (with_state e n.side.station (stations_of bench))
+  little : AskLittle n.common.moments (with_state e n.side.station (stations_of bench))
+  finds : Finding n.common.moments (with_state e n.side.station (stations_of bench))
+  knows : Knows w n.common.moments (with_state e n.side.station (stations_of bench))
+
+known_of : (w : BenchWords) (bench : BenchState) (e : End) (n : Near) → HoldsNear w bench e n → KnownNear w bench e n
+known_of w bench e n h = record {
+  noted = noted_of w bench e n h;
+  little = little_of w bench e n h;
+  finds = finds_of w bench e n h;
+  knows = knows_of w bench e n h;
+}
+
 -- a step, from what it keeps
 stepped_holds :
     (w : BenchWords) (bench : BenchState) (e : End) (usual : Usual) (matched : Option ℕ) (before after : Near)
-    → Occurs e usual → TakesCall usual before.side.station → (h : IsStep e (input_of e usual) matched before after) → after.common.trouble ≡ None
-    → HoldsNear w bench e before
+    → Occurs e usual → TakesCall usual before.side.station → (h : IsStep e (input_of e usual) matched before after)
+    → after.common.trouble ≡ None
+    → KnownNear w bench e before
     → (Known w before.common.moments (with_state e before.side.station (stations_of bench))
     → Known w (before.common.moments ++ Steps (noted_step e usual matched before after h) matched ∷ [])
     (with_state e after.side.station (with_state e before.side.station (stations_of bench)))
@@ -170,7 +186,7 @@ stepped_holds :
     → BothSee w e after.side (side_at (other e) bench)
     (before.common.moments ++ Steps (noted_step e usual matched before after h) matched ∷ []))
     → HoldsNear w bench e after
-stepped_holds w bench e usual matched before after occurs takes h calm holds keeps =
+stepped_holds w bench e usual matched before after occurs takes h calm known keeps =
     let s = with_state e before.side.station (stations_of bench) in
     let later = with_state e after.side.station s in
     let moments = before.common.moments in
@@ -178,12 +194,9 @@ stepped_holds w bench e usual matched before after occurs takes h calm holds kee
     let next = moments ++ Steps step matched ∷ [] in
     let is : after.common.moments ≡ next = ap (λ (n : Near). n.common.moments) h.is in
     let at = state_there e before.side.station (stations_of bench) in
-    let noted = noted_of w bench e before holds in
-    let little = little_of w bench e before holds in
-    let noted_next = (noted_kept w).steps e usual matched before after s occurs h calm at noted in
-    let little_next = (asks_kept w).steps e usual matched before after s occurs h calm at little in
-    let finds_next = finding_step w e usual matched before after s occurs takes h calm at
-    (knows_of w bench e before holds) (finds_of w bench e before holds) in
+    let noted_next = (noted_kept w).steps e usual matched before after s occurs h calm at known.noted in
+    let little_next = (asks_kept w).steps e usual matched before after s occurs h calm at known.little in
+    let finds_next = finding_step w e usual matched before after s occurs takes h calm at known.knows known.finds in
     let same = state_twice e before.side.station after.side.station (stations_of bench) in
     holds_of w bench e after (subst (IsNoted w after.common.moments) same noted_next)
     (subst (AskLittle after.common.moments) same little_next) (subst (Finding after.common.moments) same finds_next)
@@ -191,7 +204,7 @@ stepped_holds w bench e usual matched before after occurs takes h calm holds kee
     let q : Premises next = subst Premises is p in
     let old = front moments step matched q in
     subst (BothSee w e after.side (side_at (other e) bench)) (sym is)
-    (keeps (record { noted = noted; little = little; matched = old.matched; room = old.room }) (record {
+    (keeps (record { noted = known.noted; little = known.little; matched = old.matched; room = old.room }) (record {
       noted = subst (λ ms. IsNoted w ms later) is noted_next;
       little = subst (λ ms. AskLittle ms later) is little_next;
       matched = q.matched;
@@ -201,12 +214,12 @@ stepped_holds w bench e usual matched before after occurs takes h calm holds kee
 -- a step that gives nothing
 pub near_holds :
     (w : BenchWords) (bench : BenchState) (e : End) (usual : Usual) (matched : Option ℕ) (before after : Near)
-    → Occurs e usual → TakesCall usual before.side.station → IsStep e (input_of e usual) matched before after → after.common.trouble ≡ None
-    → HoldsNear w bench e before
+    → Occurs e usual → TakesCall usual before.side.station → IsStep e (input_of e usual) matched before after
+    → after.common.trouble ≡ None → HoldsNear w bench e before
     → (Premises before.common.moments → IsReady w usual before.side.program (links_of e before.common.moments))
     → HoldsNear w bench e after
 near_holds w bench e usual matched before after occurs takes h calm holds ready =
-    stepped_holds w bench e usual matched before after occurs takes h calm holds
+    stepped_holds w bench e usual matched before after occurs takes h calm (known_of w bench e before holds)
     (λ known later old.
     step_sees w e usual matched before after (side_at (other e) bench)
     (with_state e before.side.station (stations_of bench))
@@ -221,33 +234,12 @@ given_holds :
     → HoldsNear w bench e n → HoldsNear w bench e next
 given_holds w bench e piece n next is accepts h calm holds =
     let s = with_state e n.side.station (stations_of bench) in
-    let later = with_state e next.side.station s in
-    let moments = n.common.moments in
-    let step = noted_step e (gives piece) None (with_giving piece n) next h in
-    let more = moments ++ Steps step None ∷ [] in
-    let moments_are : next.common.moments ≡ more = ap (λ (x : Near). x.common.moments) h.is in
-    let at = state_there e n.side.station (stations_of bench) in
-    let short = piece_short (text_at w e) n.side.program.running piece is in
-    let noted = noted_of w bench e n holds in
-    let little = little_of w bench e n holds in
-    let noted_next = (noted_kept w).steps e (gives piece) None (with_giving piece n) next s short h calm at noted in
-    let little_next = (asks_kept w).steps e (gives piece) None (with_giving piece n) next s short h calm at little in
-    let finds_next = finding_step w e (gives piece) None (with_giving piece n) next s short tt h calm at
-    (knows_of w bench e n holds) (finds_of w bench e n holds) in
-    let same = state_twice e n.side.station next.side.station (stations_of bench) in
-    holds_of w bench e next (subst (IsNoted w next.common.moments) same noted_next)
-    (subst (AskLittle next.common.moments) same little_next) (subst (Finding next.common.moments) same finds_next)
-    (λ p.
-    let q : Premises more = subst Premises moments_are p in
-    let old = front moments step None q in
-    subst (BothSee w e next.side (side_at (other e) bench)) (sym moments_are)
-    (gives_sees w e piece n next (side_at (other e) bench) s is accepts h at
-    (record { noted = noted; little = little; matched = old.matched; room = old.room }) (record {
-      noted = subst (λ ms. IsNoted w ms later) moments_are noted_next;
-      little = subst (λ ms. AskLittle ms later) moments_are little_next;
-      matched = q.matched;
-      room = q.room;
-    }) (both_of w bench e n holds old)))
+    let k = known_of w bench e n holds in
+    stepped_holds w bench e (gives piece) None (with_giving piece n) next
+    (piece_short (text_at w e) n.side.program.running piece is) tt h calm
+    (record { noted = k.noted; little = k.little; finds = k.finds; knows = k.knows })
+    (λ known later old. gives_sees w e piece n next (side_at (other e) bench) s is accepts h
+    (state_there e n.side.station (stations_of bench)) known later (both_of w bench e n holds old))
 
 -- ---- what changes no more than a side
 
@@ -414,8 +406,8 @@ asked_holds w true calls before after is calls_is takes h calm holds =
     let bench = with_asking before in
     let ready = complete_ready w before is in
     at_end_holds w A (IsStep A (input_of A disconnects) None) bench after
-    (λ next step c kept. near_holds w bench A disconnects None (near A bench) next tt tt step c kept (λ p. ready)) h calm
-    (reprogrammed w before bench refl refl refl refl refl refl refl refl refl (λ x. x) refl refl (λ x. x) holds)
+    (λ next step c kept. near_holds w bench A disconnects None (near A bench) next tt tt step c kept (λ p. ready)) h
+    calm (reprogrammed w before bench refl refl refl refl refl refl refl refl refl (λ x. x) refl refl (λ x. x) holds)
 asked_holds w false true before after is calls_is takes h calm holds =
     let bench = with_calling before in
     at_end_holds w A (IsStep A (input_of A connects) None) bench after

@@ -238,49 +238,22 @@ pub record SentInTurn (moments : List Moment) (s : Stations) : Type 0 where
   pub b : InOrder B (steps_in moments) s.b
 
 in_order_with :
-    (end : End) (steps : List Step) (input : Input) (before : StationState) (after : Turn)
-    (turn : IsTurn input (begin before) after) (octets : _) (s : Stations)
-    → before ≡ state_of end s → InOrder A steps s.a → InOrder B steps s.b
-    → StepOrder before (sent_in_step input before) after
-    → let step : Step = record {
-      station = end;
-      input = input;
-      before = before;
-      after = after;
-      turn = turn;
-      octets =
-          octets;
-    } in
-    InOrder A (steps ++ step ∷ []) (with_state end after.now s).a
-    × InOrder B (steps ++ step ∷ []) (with_state end after.now s).b
-in_order_with A steps input before after turn octets s at a b one =
-    let step : Step = record {
-      station = A;
-      input = input;
-      before = before;
-      after = after;
-      turn = turn;
-      octets =
-          octets;
-    } in (
-      own_order A steps step refl refl (subst (InOrder A steps)
-          (sym at) a) one,
-      other_order B steps step s.b refl refl b,
-    )
-in_order_with B steps input before after turn octets s at a b one =
-    let step : Step = record {
-      station = B;
-      input = input;
-      before = before;
-      after = after;
-      turn = turn;
-      octets =
-          octets;
-    } in (
-      other_order A steps step s.a refl refl a,
-      own_order B steps step refl refl
-          (subst (InOrder B steps) (sym at) b) one,
-    )
+    (steps : List Step) (step : Step) (end : End) (s : Stations) → step.station ≡ end → step.before ≡ state_of end s
+    → InOrder A steps s.a → InOrder B steps s.b → StepOrder step.before (sent_in_step step.input step.before) step.after
+    → InOrder A (steps ++ step ∷ []) (with_state end step.after.now s).a
+    × InOrder B (steps ++ step ∷ []) (with_state end step.after.now s).b
+in_order_with steps step A s is at a b one = (
+  own_order A steps step (ap (λ x. at_end A x step.after.out.queued) is)
+      (ap (λ x. at_end A x (sent_in_step step.input step.before)) is) (subst (InOrder A steps) (sym at) a) one,
+  other_order B steps step s.b (ap (λ x. at_end B x step.after.out.queued) is)
+      (ap (λ x. at_end B x (sent_in_step step.input step.before)) is) b,
+)
+in_order_with steps step B s is at a b one = (
+  other_order A steps step s.a (ap (λ x. at_end A x step.after.out.queued) is)
+      (ap (λ x. at_end A x (sent_in_step step.input step.before)) is) a,
+  own_order B steps step (ap (λ x. at_end B x step.after.out.queued) is)
+      (ap (λ x. at_end B x (sent_in_step step.input step.before)) is) (subst (InOrder B steps) (sym at) b) one,
+)
 
 pub fits_at : (end : End) (steps : List Step) (s : Stations) → InOrder A steps s.a → InOrder B steps s.b
     → Fits (state_of end s).channel.air (state_of end s).channel.waiting
@@ -311,8 +284,7 @@ step_order w end usual matched before after s occurs h calm at sent =
     let fits = subst (λ (x : StationState). Fits x.channel.air x.channel.waiting) (sym at)
     (fits_at end steps s sent.a sent.b) in
     let one = order_after end usual before.side.station h.turn occurs h.makes has fits in
-    let both = in_order_with end steps
-    (input_of end usual) before.side.station h.turn h.makes h.octets s at sent.a sent.b one in
+    let both = in_order_with steps step end s refl at sent.a sent.b one in
     record {
       little = (asks_kept w).steps end usual matched before after s occurs h calm at sent.little;
       a = subst (λ state. InOrder A (steps_in after.common.moments) (with_state end state s).a) (sym station_is)

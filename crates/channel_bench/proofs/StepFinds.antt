@@ -82,8 +82,8 @@ hears_asks (LinkTick waiting) h = refl
 
 -- Events by which frames are heard find no wish to disconnect while the link is idle or calls.
 calm_events :
-    (asked : Bool) (m : Machine) (steps : List LinkStep) → IsChain m steps → Each OfLink steps → Each (IsBy hearing) steps
-    → StandsAsked asked m.control.state m.control.quit → Each HearsCalm steps
+    (asked : Bool) (m : Machine) (steps : List LinkStep) → IsChain m steps → Each OfLink steps
+    → Each (IsBy hearing) steps → StandsAsked asked m.control.state m.control.quit → Each HearsCalm steps
 calm_events asked m [] chain link by stands = tt
 calm_events asked m (step ∷ steps) chain link by stands =
     let there : StandsAsked asked step.link.machine.control.state step.link.machine.control.quit =

@@ -88,7 +88,8 @@ module _ (R : Turn → Turn → Type 0) (k : KeptByTurns R) where
   made_kept key id pid local remote path event t =
       let made = making key id pid local remote path t in
       k.acts.on t made (event_at key event made)
-      (k.acts.links (with_new_link key (idle_link id pid local remote path t.now.parameters)) t) (event_kept R k.acts key event made)
+      (k.acts.links (with_new_link key (idle_link id pid local remote path t.now.parameters)) t)
+      (event_kept R k.acts key event made)
 
   by_events : KeptByEvents is_some NotHeard (λ t steps u. R t u)
   by_events = record {
@@ -159,7 +160,8 @@ module _ (R : Turn → Turn → Type 0) (k : KeptByTurns R) where
 
   shown_kept : (from to octets : List ℕ) (t : Turn) → R t (showing from to octets t)
   shown_kept from to octets t =
-      acts_kept R k.acts (showing_to from to octets) (λ c u. shown_kept_by c.kind c.id c.raw from to octets u) t.now.connections t
+      acts_kept R k.acts (showing_to from to octets) (λ c u. shown_kept_by c.kind c.id c.raw from to octets u)
+      t.now.connections t
 
   -- a station that repeats for nobody
   heard_by : (octets : List ℕ) (t : Turn) (steps : Choice → List LinkStep) (u : Turn) → t.now.digi ≡ None

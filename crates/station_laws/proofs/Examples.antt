@@ -6,7 +6,7 @@ use Rattle.station_laws.proofs.Common.{Eight, Sabm, Disc, Ua, IsFrame, reading, 
 use Rattle.station_laws.proofs.Common.{B, Makes, Keeps, World, Config, Joined, Bytes, Agw, answering_else, call_of_text}
 use Rattle.station_laws.proofs.Common.{shown_to_hosts, joining, taking, event_at, making, no_layer_3, Route, path_along}
 use Rattle.station_laws.proofs.Common.{StationState, new_station, Turn, Step, new_stations, IsJointRun, FromHost}
-use Rattle.station_laws.proofs.Common.{OffAir, Calls, Pairs, changes_of, IsQuietLink}
+use Rattle.station_laws.proofs.Common.{OffAir, Calls, Pairs, changes_of, IsQuietLink, IsHeardBy}
 use Rattle.std.specs.Prelude.{◌≡◌, ℕ, ◌<◌, true, false, nat_lt, List, [], ◌∷◌, ◌++◌, Some, None, refl}
 use Rattle.std.specs.List.{AllByRecursion as Each}
 use Rattle.ax25_address.specs.Callsign.{IsCall}
@@ -16,9 +16,10 @@ use Rattle.link_machine.specs.Event.Event.{Connect as LinkConnect, Hear as LinkH
 use Rattle.link_machine.specs.Step.{step as link_turn}
 use Rattle.link_world.specs.declared.event.Event.TheVariants.{Connect, Disconnect, Hear}
 use Rattle.link_world.specs.SetUps.{opened}
-use Rattle.station.specs.Heard.{telling_channel}
 use Rattle.station.specs.Turn.{begin}
 use Rattle.station_laws.specs.LinkOfCalls.{world_of}
+use Rattle.station.specs.Heard.{IsOurs, IsReadAs, telling_channel}
+use Rattle.station.specs.Monitored.{heard_modulus}
 
 abbrev pub aaaa : Callsign
 aaaa = record { name = 65 ∷ 65 ∷ 65 ∷ 65 ∷ []; ssid = 0 }
@@ -218,55 +219,46 @@ a_calls =
 abbrev pub shown : Path → List ℕ → Frame → StationState → Turn
 shown path octets frame s = shown_to_hosts (Some path) octets (Some frame) (begin s)
 
+abbrev pub hearing :
+    (end : End) (s : StationState) (path : Path) (octets : List ℕ) (frame : Frame) (between : Turn)
+    → BeginsWithPath octets path 14 → IsReadAs (heard_modulus (Some path) s.links) octets (Some frame)
+    → IsHeardBy (Some path) octets (shown path octets frame s) between → IsOurs (Some path) octets s true
+    → All (λ octet. octet < 256) octets → Step
+hearing end s path octets frame between begins read effect ours few = record {
+  station = end;
+  input = OffAir octets;
+  before = s;
+  after = telling_channel true between;
+  turn = record {
+    path = Some path;
+    reading = (14, begins);
+    monitored = Some frame;
+    read_as = read;
+    between = between;
+    effect = effect;
+    ours = true;
+    is_ours = ours;
+    told = refl;
+  };
+  octets = few;
+}
+
 abbrev pub b_hears_sabm : Step
 unfolding reading call_of_text
 b_hears_sabm =
     let before = b_registers.after.now in
     let made = making 0 1 no_layer_3 bbbb aaaa (way_back command_path Command)
     (shown command_path sabm sabm_frame before) in
-    let between = event_at 0 (LinkHear sabm_frame) made in
-    let after = telling_channel true between in record {
-      station = B;
-      input = OffAir sabm;
-      before = before;
-      after = after;
-      turn = record {
-        path = Some command_path;
-        reading = (14, command_begins 63);
-        monitored = Some sabm_frame;
-        read_as = sabm_is;
-        effect = (Some sabm_frame, sabm_is, (0, record { within = omega arith; vacant = refl; freed = tt }, refl));
-        between = between;
-        ours = true;
-        is_ours = (Some sabm_frame, sabm_is, refl);
-        told = refl;
-      };
-      octets = low sabm refl;
-    }
+    hearing B before command_path sabm sabm_frame (event_at 0 (LinkHear sabm_frame) made) (command_begins 63) sabm_is
+    (Some sabm_frame, sabm_is, (0, record { within = omega arith; vacant = refl; freed = tt }, refl))
+    (Some sabm_frame, sabm_is, refl) (low sabm refl)
 
 abbrev pub a_hears_ua : Step
 unfolding reading call_of_text link_turn
 a_hears_ua =
     let before = a_calls.after.now in
-    let between = event_at 0 (LinkHear ua_frame) (shown response_path ua ua_frame before) in
-    let after = telling_channel true between in record {
-      station = A;
-      input = OffAir ua;
-      before = before;
-      after = after;
-      turn = record {
-        path = Some response_path;
-        reading = (14, response_begins 115);
-        monitored = Some ua_frame;
-        read_as = ua_is;
-        effect = (Some ua_frame, ua_is, refl);
-        between = between;
-        ours = true;
-        is_ours = (Some ua_frame, ua_is, refl);
-        told = refl;
-      };
-      octets = low ua refl;
-    }
+    hearing A before response_path ua ua_frame (event_at 0 (LinkHear ua_frame) (shown response_path ua ua_frame before))
+    (response_begins 115) ua_is (Some ua_frame, ua_is, refl) (Some ua_frame, ua_is, refl) (low ua refl)
 
 abbrev pub a_disconnects : Step
 unfolding reading call_of_text link_turn
@@ -286,49 +278,16 @@ abbrev pub b_hears_disc : Step
 unfolding reading call_of_text link_turn
 b_hears_disc =
     let before = b_hears_sabm.after.now in
-    let between = event_at 0 (LinkHear disc_frame) (shown command_path disc disc_frame before) in
-    let after = telling_channel true between in record {
-      station = B;
-      input = OffAir disc;
-      before = before;
-      after = after;
-      turn = record {
-        path = Some command_path;
-        reading = (14, command_begins 83);
-        monitored = Some disc_frame;
-        read_as = disc_is;
-        effect = (Some disc_frame, disc_is, refl);
-        between = between;
-        ours = true;
-        is_ours = (Some disc_frame, disc_is, refl);
-        told = refl;
-      };
-      octets = low disc refl;
-    }
+    hearing B before command_path disc disc_frame
+    (event_at 0 (LinkHear disc_frame) (shown command_path disc disc_frame before)) (command_begins 83) disc_is
+    (Some disc_frame, disc_is, refl) (Some disc_frame, disc_is, refl) (low disc refl)
 
 abbrev pub a_hears_ua_again : Step
 unfolding reading call_of_text link_turn
 a_hears_ua_again =
     let before = a_disconnects.after.now in
-    let between = event_at 0 (LinkHear ua_frame) (shown response_path ua ua_frame before) in
-    let after = telling_channel true between in record {
-      station = A;
-      input = OffAir ua;
-      before = before;
-      after = after;
-      turn = record {
-        path = Some response_path;
-        reading = (14, response_begins 115);
-        monitored = Some ua_frame;
-        read_as = ua_is;
-        effect = (Some ua_frame, ua_is, refl);
-        between = between;
-        ours = true;
-        is_ours = (Some ua_frame, ua_is, refl);
-        told = refl;
-      };
-      octets = low ua refl;
-    }
+    hearing A before response_path ua ua_frame (event_at 0 (LinkHear ua_frame) (shown response_path ua ua_frame before))
+    (response_begins 115) ua_is (Some ua_frame, ua_is, refl) (Some ua_frame, ua_is, refl) (low ua refl)
 
 -- ---- the run
 

@@ -162,8 +162,8 @@ step_quiet calls pairs a b st past full counts w ways step found moments A heard
     n back.front found moments r.split_a r.past_a
     (subst (λ (way : OneWay). Each (λ (p : Pair). way.front ≤ p.sent) (pairs_from A (n + 1) moments)) front later) in
     let q : SendStep A pairs.at_b (length qa) steps w =
-    send_step A calls.a calls.b a b n st.b qa qb pairs.at_b pairs.at_a w full step ways.from_a back now station here.there
-    (ap (frames_at B) here.taken) heard_b heard_a r.queued_a (past_queued found ways.from_b ∙ r.queued_b)
+    send_step A calls.a calls.b a b n st.b qa qb pairs.at_b pairs.at_a w full step ways.from_a back now station
+    here.there (ap (frames_at B) here.taken) heard_b heard_a r.queued_a (past_queued found ways.from_b ∙ r.queued_b)
     r.fits.of_a out_ahead back_ahead
     (quiet_one A on step.after.out.queued (hearing_at A found ways) quiet) in
     let near : CallerQuiet A pairs.at_b (length qa) steps w =

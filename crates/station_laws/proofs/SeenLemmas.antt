@@ -206,10 +206,6 @@ record SeenBoth (w : World) (a b : List Seen) : Type 0 where
   at_a : SeenEnd w.a.end a
   at_b : SeenEnd w.b.end b
 
-abbrev seen_at : End → List Seen → List Seen → List Seen
-seen_at A a b = a
-seen_at B a b = b
-
 -- seen from the end that makes the step
 record SeenNear (v : World) (own far : List Seen) : Type 0 where
   at_own : SeenEnd v.a.end own

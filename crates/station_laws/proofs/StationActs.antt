@@ -171,8 +171,8 @@ module _ (chosen : Choice) (P : Cause → Type 0) (R : Turn → List LinkStep �
 
       go : (b : Bool) → R t [] (cond b (replying id (register_reply from true) with_call)
           (replying id (register_reply from false) t))
-      go true = k.by_events.on t with_call (replying id (register_reply from true) with_call) [] [] (k.registers call id t)
-          (k.replies id (register_reply from true) with_call refl)
+      go true = k.by_events.on t with_call (replying id (register_reply from true) with_call) [] []
+          (k.registers call id t) (k.replies id (register_reply from true) with_call refl)
       go false = k.replies id (register_reply from false) t refl
 
   made_kept :
@@ -307,8 +307,8 @@ module _ (chosen : Choice) (P : Cause → Type 0) (R : Turn → List LinkStep �
         subst (R t (else_steps chosen id message t)) (sym h) (else_kept id message t may)
 
     messages_kept :
-        (id : ℕ) (messages : List AgwMessage) (t u : Turn) → Each (MayAsk P) messages → (h : AreAnswered id messages t u)
-        → R t (message_steps chosen id messages t u h) u
+        (id : ℕ) (messages : List AgwMessage) (t u : Turn) → Each (MayAsk P) messages
+        → (h : AreAnswered id messages t u) → R t (message_steps chosen id messages t u h) u
     messages_kept id [] t u may h = subst (R t []) (sym h) (a.kept.by_events.same t)
     messages_kept id (message ∷ messages) t u may h =
         a.kept.by_events.on t h.0 u (answer_steps chosen id message (calls message) t h.0 h.1)
