@@ -1,6 +1,6 @@
 -- The sums and the power of a window near a pure one. An error of a tenth of the level changes a correlation by at most
 -- a tenth of what the sizes of its weights add up to.
-use Rattle.std.proofs.Common.{◌≡◌, ℕ, zero, suc, ◌+◌, ◌-◌, ◌*◌, ◌/◌, ◌<◌, ◌≤◌, ℤ, pos, negsuc, ◌+ℤ◌, ◌-ℤ◌, ◌*ℤ◌, ◌≤ℤ◌}
+use Rattle.std.proofs.Common.{◌≡◌, ℕ, zero, suc, ◌+◌, ◌*◌, ◌<◌, ◌≤◌, ℤ, pos, negsuc, ◌+ℤ◌, ◌-ℤ◌, ◌*ℤ◌, ◌≤ℤ◌}
 use Rattle.std.proofs.Common.{unsigned_abs, List, length, get_or, true, refl, ap, sym, ◌∙◌, arith, nat_le}
 use Rattle.std.proofs.lemmas.Bool.{leb-true}
 use Rattle.std.proofs.lemmas.Int.{ints, unsigned_abs-mul}
@@ -14,7 +14,7 @@ use Rattle.tone_table.specs.Tones.{phase_step}
 use Rattle.offset_slicers.specs.Decision.{sum_below, sine_sum, cosine_sum}
 use Rattle.offset_slicers.specs.Near.{IsNear, distance}
 use Rattle.offset_slicers.proofs.IntegerLemmas.{mul-add_right, mul-sub_left, mul-assoc}
-use Rattle.tone_carrier.specs.HeardWindows.{part_of, sample_at, square_at, power, sum_of, square_sum_of}
+use Rattle.tone_carrier.specs.HeardWindows.{part_of, square_at, power, sum_of, square_sum_of}
 use Rattle.tone_carrier.proofs.NumberLemmas.{square_least}
 use Rattle.tone_carrier.proofs.BilinearLemmas.{IsBetween}
 
