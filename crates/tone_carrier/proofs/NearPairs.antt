@@ -1,8 +1,7 @@
 -- Two windows of samples near a wave, one after the other: the second runs on from the first. What an error of a tenth
 -- of the level can do is computed for each pair of tones and each phase at which a bit can begin.
-use Rattle.std.proofs.Common.{◌≡◌, ℕ, ◌+◌, ◌*◌, ◌<◌, ◌≤◌, ℤ, pos, ◌+ℤ◌, ◌-ℤ◌, ◌*ℤ◌, ◌≤ℤ◌, ◌<ℤ◌}
-use Rattle.std.proofs.Common.{List, Bool, true, refl, ap, sym, subst}
-use Rattle.std.proofs.Common.{◌∙◌, arith}
+use Rattle.std.proofs.Common.{◌≡◌, ℕ, ◌+◌, ◌*◌, ◌<◌, ◌≤◌, ℤ, pos, ◌+ℤ◌, ◌-ℤ◌, ◌*ℤ◌, ◌≤ℤ◌, ◌<ℤ◌, List, Bool, true, refl}
+use Rattle.std.proofs.Common.{ap, sym, subst, ◌∙◌, arith}
 use Rattle.std.specs.Prelude.{int_lt}
 use Rattle.std.proofs.lemmas.Bool.{agree_below, agree_below_at}
 use Rattle.std.proofs.lemmas.Int.{ints}
@@ -70,7 +69,7 @@ turned_is Mark v w = omega (arith, ints, zero-*ℤ (v.cosine *ℤ w.sine -ℤ v.
 turned_is Space v w = refl
 
 -- a product that is larger than the power of both, each being told in larger units
-larger : (level most : ℕ) (p q product scaled_product : ℤ) (first second : ℕ) → 10 ≤ level
+larger : (level most : ℕ) (p q product scaled_product : ℤ) (first second : ℕ) → 1 ≤ level
     → (pos 100000000 *ℤ p) ≤ℤ pos (64 * ((level * level) * first))
     → (pos 100000000 *ℤ q) ≤ℤ pos (64 * ((level * level) * second))
     → most ≡ 713031680 * (first + second)
@@ -79,7 +78,7 @@ larger : (level most : ℕ) (p q product scaled_product : ℤ) (first second : �
     → (pos 170 *ℤ (p +ℤ q)) <ℤ product
 larger level most p q product scaled_product first second some loud louder is least scale =
     let squares : ℕ = level * level in
-    let positive : 10 * 10 ≤ level * level = mul-le-mul some some in
+    let positive : 1 * 1 ≤ level * level = mul-le-mul some some in
     let inner : pos level *ℤ (pos level *ℤ pos (most + 1)) ≡ pos (level * (level * (most + 1)))
     = ap (λ z. pos level *ℤ z) (pos-*ℤ-pos level (most + 1)) ∙ pos-*ℤ-pos level (level * (most + 1)) in
     let spread : level * (level * (713031680 * (first + second) + 1))
@@ -88,7 +87,7 @@ larger level most p q product scaled_product first second some loud louder is le
     = ap (λ m. level * (level * (m + 1))) is in
     omega (arith, ints, loud, louder, least, scale, inner, spread, there, positive)
 
-module _ (level k : ℕ) (t u : Tone) (x y : List ℤ) (some : 10 ≤ level) (below : k < 6)
+module _ (level k : ℕ) (t u : Tone) (x y : List ℤ) (some : 1 ≤ level) (below : k < 6)
     (first : IsNear level (pure_window (8 * k) t) x) (second : IsNear level (pure_window (next_phase (8 * k) t) u) y)
   where
     tone_x : tone_of x ≡ t

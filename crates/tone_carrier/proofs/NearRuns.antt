@@ -1,10 +1,8 @@
 -- All windows of samples near a wave: each runs on from the one before.
-use Rattle.std.proofs.Common.{◌≡◌, ℕ, zero, suc, ◌*◌, ◌<◌, ◌≤◌, ℤ}
-use Rattle.std.proofs.Common.{List, [], ◌∷◌, ◌++◌, length, map, take, drop, true, ap, sym, subst}
-use Rattle.std.proofs.Common.{◌∙◌, arith}
+use Rattle.std.proofs.Common.{◌≡◌, ℕ, zero, suc, ◌*◌, ◌<◌, ◌≤◌, ℤ, List, [], ◌∷◌, ◌++◌, length, map, take, drop, true}
+use Rattle.std.proofs.Common.{ap, sym, subst, ◌∙◌, arith}
 use Rattle.std.specs.List.{range_with_len}
-use Rattle.std.proofs.lemmas.List.{take-append-drop}
-use Rattle.std.proofs.lemmas.List.{take_all}
+use Rattle.std.proofs.lemmas.List.{take-append-drop, take_all}
 use Rattle.std.proofs.lemmas.List.FromFn.{length-map-range_with_len}
 use Rattle.tone_table.specs.declared.tone.Tone.{Tone}
 use Rattle.tone_table.specs.Tones.{next_phase}
@@ -53,7 +51,7 @@ none_to_run : (windows : List HeardWindow) → length windows ≤ 1 → AllRunOn
 none_to_run windows few k below = absurd (omega arith)
 
 -- as many windows as tones, each running on from the one before
-pub near_run_on : (level : ℕ) (tones : List Tone) (k : ℕ) (x : List ℤ) → 10 ≤ level → k < 6
+pub near_run_on : (level : ℕ) (tones : List Tone) (k : ℕ) (x : List ℤ) → 1 ≤ level → k < 6
     → IsNear level (wave_from (8 * k) tones) x
     → (length (heard_windows 0 x) ≡ length tones) × AllRunOn (heard_windows 0 x)
 near_run_on level [] k x some below near =

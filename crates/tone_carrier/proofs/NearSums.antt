@@ -102,29 +102,29 @@ cosine_near level tone ws xs whole near =
     (sums_near level ws xs (weight_of tone 12) 8 (λ i below. near.close i (omega arith)))
     (leb-true _ _ (cosine_weights tone))
 
--- ---- a 256th of a sum, rounded down, from level 10 on
+-- ---- a 256th of a sum, rounded down
 
 part_floor : (z : ℤ) → ((pos 256 *ℤ part_of z) ≤ℤ z) × (z ≤ℤ (pos 256 *ℤ part_of z +ℤ pos 255))
 part_floor (pos n) = (omega (arith, ints), omega (arith, ints))
 part_floor (negsuc n) = (omega (arith, ints), omega (arith, ints))
 
 abbrev pub low_of : ℤ → ℤ
-low_of sum = sum -ℤ pos 54856000
+low_of sum = sum -ℤ pos 57160000
 
 abbrev pub high_of : ℤ → ℤ
 high_of sum = sum +ℤ pos 54600000
 
-pub part_near : (level : ℕ) (w x : ℤ) → 10 ≤ level → distance level w x ≤ level * 54600000
+pub part_near : (level : ℕ) (w x : ℤ) → 1 ≤ level → distance level w x ≤ level * 54600000
     → IsBetween level (low_of w) (high_of w) (pos 2560000 *ℤ part_of x)
 part_near level w x some near =
     let floor = part_floor x in
     let below = floor.0 in
     let above = floor.1 in
-    let low = mul-sub_left w (pos 54856000) (pos level) in
+    let low = mul-sub_left w (pos 57160000) (pos level) in
     let low_swapped = *ℤ_comm (pos level) (low_of w) in
     let high = mul-add_right (pos level) w (pos 54600000) in
     let first = pos-*ℤ-pos level 54600000 in
-    let second = pos-*ℤ-pos 54856000 level in
+    let second = pos-*ℤ-pos 57160000 level in
     let third = *ℤ_comm w (pos level) in
     record {
       least = omega (arith, ints, below, above, low, low_swapped, second, third, near);

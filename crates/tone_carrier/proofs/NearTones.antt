@@ -1,7 +1,6 @@
 -- Samples near a wave have tones: the evidence rises with each window that runs on.
-use Rattle.std.proofs.Common.{◌≡◌, ℕ, zero, suc, ◌+◌, ◌-◌, ◌*◌, ◌/◌, ◌%◌, ◌<◌, ◌≤◌, ℤ}
-use Rattle.std.proofs.Common.{List, ◌++◌, length, min, true, ap, sym, subst}
-use Rattle.std.proofs.Common.{◌∙◌, arith, length-append}
+use Rattle.std.proofs.Common.{◌≡◌, ℕ, zero, suc, ◌+◌, ◌-◌, ◌*◌, ◌/◌, ◌%◌, ◌<◌, ◌≤◌, ℤ, List, ◌++◌, length, min, true}
+use Rattle.std.proofs.Common.{ap, sym, subst, ◌∙◌, arith, length-append}
 use Rattle.std.proofs.lemmas.Bool.{cond-true, cond_both}
 use Rattle.std.proofs.lemmas.List.{get_or-append-add}
 use Rattle.tone_table.specs.declared.tone.Tone.{Tone}
@@ -77,7 +76,7 @@ place_of : (begin n : ℕ) → (begin + n) % 2 ≡ 0
     → ((begin + n) % 8 / 2 < 4) × (n ≡ offset_from (2 * ((begin + n) % 8 / 2)) begin + 8 * (n / 8))
 place_of begin n even = (omega arith, omega arith)
 
-pub near_wave_has_tones : (level k begin : ℕ) (tones : List Tone) (before x : List ℤ) → 10 ≤ level → k < 6
+pub near_wave_has_tones : (level k begin : ℕ) (tones : List Tone) (before x : List ℤ) → 1 ≤ level → k < 6
     → 25 ≤ length tones → (begin + length before) % 2 ≡ 0 → IsNear level (wave_from (8 * k) tones) x
     → HasTones begin (before ++ x)
 near_wave_has_tones level k begin tones before x some below enough even near =
