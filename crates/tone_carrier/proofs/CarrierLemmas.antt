@@ -1,10 +1,10 @@
 -- What a carrier keeps of samples that one sample more follows.
-use Rattle.std.proofs.Common.{◌≡◌, ℕ, zero, suc, ◌+◌, ◌-◌, ◌*◌, ◌/◌, ◌%◌, ◌<◌, ◌≤◌, ◌⊎◌, inl, inr, ℤ, pos, List, [], ◌∷◌}
-use Rattle.std.proofs.Common.{◌++◌, length, take, drop, set, get_or, get_or-set_same, get_or-set_other, refl, ap, sym}
-use Rattle.std.proofs.Common.{subst, ◌∙◌, arith, length-append, length-drop, append_assoc}
+use Rattle.std.proofs.Common.{◌≡◌, ℕ, zero, suc, ◌+◌, ◌-◌, ◌*◌, ◌/◌, ◌%◌, ◌<◌, ◌≤◌, inl, inr, ℤ, pos, List, [], ◌∷◌}
+use Rattle.std.proofs.Common.{◌++◌, length, drop, set, get_or, get_or-set_same, get_or-set_other, refl, ap, sym, subst}
+use Rattle.std.proofs.Common.{◌∙◌, arith, length-append, length-drop, append_assoc}
 use Rattle.std.specs.Prelude.{◌↔◌, IsTrue, Bool, true, false}
 use Rattle.std.proofs.lemmas.Bool.{cases_eq, cases_lt, true≢false}
-use Rattle.std.proofs.lemmas.List.{drop-append-le, drop-drop, take_all, length_push, length-replicate, length-set}
+use Rattle.std.proofs.lemmas.List.{drop-append-le, drop-drop, take_all, length_push, length-replicate}
 use Rattle.std.proofs.Math.Seq.{drop-append-add}
 use Rattle.offset_slicers.specs.Windows.{windows_in, window_at}
 use Rattle.offset_slicers.specs.Held.{offset_from}

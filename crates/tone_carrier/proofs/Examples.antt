@@ -1,5 +1,5 @@
 -- Worked examples, computed on the definitions.
-use Rattle.std.proofs.Common.{◌≡◌, ℕ, ℤ, pos, negsuc, List, [], ◌∷◌, map, replicate, true, false, refl}
+use Rattle.std.proofs.Common.{◌≡◌, ℕ, ℤ, pos, negsuc, ◌+ℤ◌, ◌*ℤ◌, List, [], ◌∷◌, map, replicate, false, refl}
 use Rattle.std.specs.List.{range_with_len}
 use Rattle.tone_table.specs.declared.tone.Tone.{Tone}
 use Rattle.tone_table.specs.declared.tone.Tone.TheVariants.{Mark, Space}
@@ -48,6 +48,14 @@ aheads : ahead first second ∷ ahead second third ∷ ahead third fourth ∷ ah
     ≡ pos 17839441239720 ∷ pos 17594204206217 ∷ pos 19391903296400 ∷ pos 19530064976360 ∷ []
 aheads = refl
 
+-- and 170 times the power of both windows, which each is above
+powers : (pos 170 *ℤ (first.power +ℤ second.power)) ∷ (pos 170 *ℤ (second.power +ℤ third.power))
+    ∷ (pos 170 *ℤ (third.power +ℤ fourth.power))
+    ∷ (pos 170 *ℤ (fourth.power +ℤ fourth.power))
+    ∷ []
+    ≡ pos 8265677682080 ∷ pos 8164861622600 ∷ pos 8602916444840 ∷ pos 8703548480000 ∷ []
+powers = refl
+
 evidence_in_step : map (evidence in_step) (range_with_len 0 8) ≡ 0 ∷ 2 ∷ 3 ∷ 5 ∷ 6 ∷ 8 ∷ 10 ∷ 12 ∷ []
 unfolding evidence
 evidence_in_step = refl
@@ -75,6 +83,21 @@ quiet_runs_on : ahead (heard_window quiet_first) (heard_window quiet_second) ≡
 unfolding wave_sample cycle_sample half_wave quarter sum_below sine_sum cosine_sum energy tone_of
     sum_of square_sum_of power heard_window
 quiet_runs_on = refl
+
+abbrev quiet : List HeardWindow
+quiet =
+    heard Mark (pos 1554) (pos 0) 25344 ∷ heard Space (pos 1344) (pos 94) 20625
+    ∷ heard Space (pos 584) (negsuc 1325) 22032
+    ∷ heard Mark (negsuc 777) (negsuc 1232) 22272
+    ∷ heard Mark (negsuc 777) (negsuc 1232) 22272
+    ∷ heard Space (negsuc 754) (negsuc 1429) 24833
+    ∷ heard Mark (negsuc 1554) (pos 0) 25344
+    ∷ heard Space (negsuc 1344) (negsuc 94) 20625
+    ∷ []
+
+quiet_evidence : map (evidence quiet) (range_with_len 0 8) ≡ 0 ∷ 2 ∷ 3 ∷ 5 ∷ 6 ∷ 8 ∷ 10 ∷ 12 ∷ []
+unfolding evidence
+quiet_evidence = refl
 
 -- a constant does not run on, and neither does silence
 constant_is_heard : heard_window (replicate 8 (pos 100)) ≡ heard Space (pos 2804) (negsuc 952) 640000

@@ -1,10 +1,8 @@
 -- The hold counts right: it is above 0 exactly if the windows show a carrier.
-use Rattle.std.proofs.Common.{◌≡◌, ℕ, zero, suc, ◌+◌, ◌-◌, ◌<◌, ◌≤◌, ◌⊎◌, inl, inr, List, length, refl, ap, sym, subst}
-use Rattle.std.proofs.Common.{◌∙◌, arith, true, false, Bool}
+use Rattle.std.proofs.Common.{◌≡◌, ℕ, zero, suc, ◌+◌, ◌-◌, ◌<◌, ◌≤◌, ◌⊎◌, inl, inr, List, length, refl, ap, arith, Bool}
 use Rattle.std.specs.Prelude.{◌↔◌, ◌&&◌, ◌||◌, ◌==◌, IsTrue, nat_lt, nat_le}
-use Rattle.std.proofs.lemmas.Bool.{cases_Bool, cases_lt, cases_eq, or_cases, or_parts, and_parts, and_cases}
-use Rattle.std.proofs.lemmas.Bool.{cond-true, cond-false, ltb-true, ltb-false, leb-true, leb-false, eqb-true, eqb-false}
-use Rattle.std.proofs.lemmas.Bool.{lt-ltb}
+use Rattle.std.proofs.lemmas.Bool.{cases_Bool, cases_lt, or_cases, or_parts, and_parts, and_cases, cond-true}
+use Rattle.std.proofs.lemmas.Bool.{cond-false, ltb-true, ltb-false, leb-true, leb-false, eqb-true, eqb-false, lt-ltb}
 use Rattle.tone_carrier.specs.declared.heard_window.HeardWindow.{HeardWindow}
 use Rattle.tone_carrier.specs.Evidence.{evidence}
 use Rattle.tone_carrier.specs.Tones.{ShowsCarrier}

@@ -1,6 +1,6 @@
 -- Evidence and hold of windows that more windows follow, and what a lane keeps of them.
-use Rattle.std.proofs.Common.{◌≡◌, ℕ, zero, suc, ◌+◌, ◌-◌, ◌<◌, List, [], ◌∷◌, ◌++◌, length, get_or, Option, Some, None}
-use Rattle.std.proofs.Common.{refl, ap, sym, ◌∙◌, arith}
+use Rattle.std.proofs.Common.{◌≡◌, ℕ, zero, suc, ◌-◌, ◌<◌, List, [], ◌∷◌, ◌++◌, length, Some, None, refl, ap, sym, ◌∙◌}
+use Rattle.std.proofs.Common.{arith}
 use Rattle.std.specs.Prelude.{slice_get}
 use Rattle.std.proofs.lemmas.List.{get_or_append_left, length_push}
 use Rattle.std.proofs.lemmas.Option.{slice_get-get_or, get_or_from_slice_get}
@@ -80,7 +80,8 @@ next_window windows before window e h k size last is_evidence is_hold =
     let hold_there : hold all (suc k) ≡ h
     = (λ i. hold_with (hold-append windows (window ∷ []) k (omega arith) i) (evidence_there i)) ∙ sym is_hold in
     record {
-      last = ap Some (sym second) ∙ sym (slice_get-get_or all (suc k) silent (omega (arith, length_push windows window)))
+      last = ap Some (sym second)
+          ∙ sym (slice_get-get_or all (suc k) silent (omega (arith, length_push windows window)))
           ∙ ap (slice_get all) (sym at);
       evidence = sym evidence_there ∙ ap (evidence all) (sym at);
       hold = sym hold_there ∙ ap (hold all) (sym at);

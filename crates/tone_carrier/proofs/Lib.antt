@@ -7,5 +7,7 @@ pub mod CarrierLemmas
 pub mod ConstantLemmas
 pub mod BilinearLemmas
 pub mod NearSums
-pub mod NearLemmas
+pub mod NearPairs
+pub mod NearRuns
+pub mod NearTones
 mod Examples

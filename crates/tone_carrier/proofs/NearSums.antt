@@ -1,6 +1,6 @@
 -- The sums and the power of a window near a pure one. An error of a tenth of the level changes a correlation by at most
 -- a tenth of what the sizes of its weights add up to.
-use Rattle.std.proofs.Common.{◌≡◌, ℕ, zero, suc, ◌+◌, ◌-◌, ◌*◌, ◌/◌, ◌<◌, ◌≤◌, ℤ, pos, negsuc, ◌+ℤ◌, ◌-ℤ◌, ◌*ℤ◌, ◌≤ℤ◌}
+use Rattle.std.proofs.Common.{◌≡◌, ℕ, zero, suc, ◌+◌, ◌*◌, ◌<◌, ◌≤◌, ℤ, pos, negsuc, ◌+ℤ◌, ◌-ℤ◌, ◌*ℤ◌, ◌≤ℤ◌}
 use Rattle.std.proofs.Common.{unsigned_abs, List, length, get_or, true, refl, ap, sym, ◌∙◌, arith, nat_le}
 use Rattle.std.proofs.lemmas.Bool.{leb-true}
 use Rattle.std.proofs.lemmas.Int.{ints, unsigned_abs-mul}
@@ -14,7 +14,7 @@ use Rattle.tone_table.specs.Tones.{phase_step}
 use Rattle.offset_slicers.specs.Decision.{sum_below, sine_sum, cosine_sum}
 use Rattle.offset_slicers.specs.Near.{IsNear, distance}
 use Rattle.offset_slicers.proofs.IntegerLemmas.{mul-add_right, mul-sub_left, mul-assoc}
-use Rattle.tone_carrier.specs.HeardWindows.{part_of, sample_at, square_at, power, sum_of, square_sum_of}
+use Rattle.tone_carrier.specs.HeardWindows.{part_of, square_at, power, sum_of, square_sum_of}
 use Rattle.tone_carrier.proofs.NumberLemmas.{square_least}
 use Rattle.tone_carrier.proofs.BilinearLemmas.{IsBetween}
 
@@ -102,29 +102,29 @@ cosine_near level tone ws xs whole near =
     (sums_near level ws xs (weight_of tone 12) 8 (λ i below. near.close i (omega arith)))
     (leb-true _ _ (cosine_weights tone))
 
--- ---- a 256th of a sum, rounded down, from level 10 on
+-- ---- a 256th of a sum, rounded down
 
 part_floor : (z : ℤ) → ((pos 256 *ℤ part_of z) ≤ℤ z) × (z ≤ℤ (pos 256 *ℤ part_of z +ℤ pos 255))
 part_floor (pos n) = (omega (arith, ints), omega (arith, ints))
 part_floor (negsuc n) = (omega (arith, ints), omega (arith, ints))
 
 abbrev pub low_of : ℤ → ℤ
-low_of sum = sum -ℤ pos 54856000
+low_of sum = sum -ℤ pos 57160000
 
 abbrev pub high_of : ℤ → ℤ
 high_of sum = sum +ℤ pos 54600000
 
-pub part_near : (level : ℕ) (w x : ℤ) → 10 ≤ level → distance level w x ≤ level * 54600000
+pub part_near : (level : ℕ) (w x : ℤ) → 1 ≤ level → distance level w x ≤ level * 54600000
     → IsBetween level (low_of w) (high_of w) (pos 2560000 *ℤ part_of x)
 part_near level w x some near =
     let floor = part_floor x in
     let below = floor.0 in
     let above = floor.1 in
-    let low = mul-sub_left w (pos 54856000) (pos level) in
+    let low = mul-sub_left w (pos 57160000) (pos level) in
     let low_swapped = *ℤ_comm (pos level) (low_of w) in
     let high = mul-add_right (pos level) w (pos 54600000) in
     let first = pos-*ℤ-pos level 54600000 in
-    let second = pos-*ℤ-pos 54856000 level in
+    let second = pos-*ℤ-pos 57160000 level in
     let third = *ℤ_comm w (pos level) in
     record {
       least = omega (arith, ints, below, above, low, low_swapped, second, third, near);

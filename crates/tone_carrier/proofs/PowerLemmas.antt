@@ -1,8 +1,8 @@
 -- The power of eight samples is not negative: the square of their sum is at most eight times the sum of their squares.
-use Rattle.std.proofs.Common.{◌≡◌, ℕ, ◌≤◌, ◌^◌, ℤ, pos, ◌+ℤ◌, ◌-ℤ◌, ◌*ℤ◌, ◌≤ℤ◌, List, subst, ap, arith, refl}
+use Rattle.std.proofs.Common.{◌≡◌, ℕ, ◌^◌, ℤ, pos, ◌+ℤ◌, ◌-ℤ◌, ◌*ℤ◌, ◌≤ℤ◌, List, subst, arith}
 use Rattle.std.proofs.lemmas.Int.{ints}
 use Rattle.offset_slicers.specs.Decision.{sum_below}
-use Rattle.tone_carrier.specs.HeardWindows.{sample_at, square_at, sum_of, square_sum_of, power}
+use Rattle.tone_carrier.specs.HeardWindows.{sample_at, sum_of, square_sum_of, power}
 use Rattle.tone_carrier.proofs.NumberLemmas.{square_least, square_of_sum}
 
 -- eight numbers, added in pairs

@@ -35,8 +35,8 @@ impl HeardWindow {
         }
     }
 
-    /// The same of a window that was decided as a tone, by its sums with that tone's sine and cosine, which the decision
-    /// made.
+    /// The same of a window that was decided as a tone, by its sums with that tone's sine and cosine, which the
+    /// decision made.
     pub fn decided(window: &[i16; 8], tone: Tone, sine: i64, cosine: i64) -> HeardWindow
         requires tone { tone ≡ tone_of window.now }
         requires sine { sine ≡ sine_sum tone window.now }

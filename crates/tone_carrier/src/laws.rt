@@ -19,11 +19,11 @@ pub fn constants_have_no_tones()
     ensures { (begin count : ℕ) (level : ℤ) → HasTones begin (replicate count level) → ⊥ }
 {}
 
-/// Samples near a wave have tones from its 25th bit on, if it begins at an even place: from level 10 on, whatever the
+/// Samples near a wave have tones from its 25th bit on, if it begins at an even place: at every level, whatever the
 /// tones, from any phase at which a bit can begin, each sample off by at most a tenth of the level, and whatever was
 /// heard before.
 pub fn near_waves_have_tones()
-    ensures { (level k begin : ℕ) (tones : List Tone) (before x : List ℤ) → 10 ≤ level → k < 6 → 25 ≤ length tones
+    ensures { (level k begin : ℕ) (tones : List Tone) (before x : List ℤ) → 1 ≤ level → k < 6 → 25 ≤ length tones
         → (begin + length before) % 2 ≡ 0
         → IsNear level (wave_from (8 * k) tones) x → HasTones begin (before ++ x) }
 {}

@@ -1,4 +1,4 @@
-use Rattle.tone_carrier.proofs.NearLemmas.{near_wave_has_tones}
+use Rattle.tone_carrier.proofs.NearTones.{near_wave_has_tones}
 use Rattle.tone_carrier.proofs.laws.near_waves_have_tones.Goals as goal
 
 pub returns : goal.returns

@@ -1,6 +1,6 @@
 use Rattle.std.proofs.Common.{◌≡◌, ◌≤ℤ◌, ◌^◌, pos, ℤ, ◌-ℤ◌, ◌*ℤ◌, to_z, of_z, w64, sym, subst, ◌∙◌, arith}
 use Rattle.std.proofs.lemmas.Int.{ints}
-use Rattle.tone_carrier.specs.HeardWindows.{power, sum_of, square_sum_of}
+use Rattle.tone_carrier.specs.HeardWindows.{power, sum_of}
 use Rattle.tone_carrier.proofs.NumberLemmas.{passed}
 use Rattle.tone_carrier.proofs.PowerLemmas.{power_least, power_most}
 use Rattle.tone_carrier.proofs.window_power.power.Goals as goal

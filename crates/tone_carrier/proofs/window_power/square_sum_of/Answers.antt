@@ -1,5 +1,5 @@
-use Rattle.std.proofs.Common.{◌≡◌, ◌<◌, ◌≤ℤ◌, ◌^◌, pos, ℤ, ◌+ℤ◌, ◌*ℤ◌, unsigned_abs, ◌≤◌, get_or, FitsSigned, to_z, of_z}
-use Rattle.std.proofs.Common.{w16, w64, refl, sym, ap, ◌∙◌, arith, rules}
+use Rattle.std.proofs.Common.{◌≡◌, pos, ℤ, ◌+ℤ◌, ◌*ℤ◌, unsigned_abs, ◌≤◌, get_or, FitsSigned, to_z, of_z, w16, w64}
+use Rattle.std.proofs.Common.{refl, sym, ap, ◌∙◌, arith, rules}
 use Rattle.std.proofs.lemmas.Int.{ints}
 use Rattle.offset_slicers.specs.Decision.{sum_below}
 use Rattle.offset_slicers.proofs.DecisionLemmas.{sum_below-more, sum_is}

@@ -1,5 +1,4 @@
-use Rattle.std.proofs.Common.{◌≡◌, ◌<◌, pos, ◌+ℤ◌, unsigned_abs, get_or, FitsSigned, to_z, w16, w64, refl, sym, ap}
-use Rattle.std.proofs.Common.{◌∙◌, arith, rules}
+use Rattle.std.proofs.Common.{◌≡◌, pos, ◌+ℤ◌, get_or, FitsSigned, to_z, w16, w64, refl, sym, ap, ◌∙◌, arith, rules}
 use Rattle.std.proofs.lemmas.Int.{ints}
 use Rattle.offset_slicers.specs.Decision.{sum_below}
 use Rattle.offset_slicers.proofs.DecisionLemmas.{sum_below-more, sum_is}

@@ -1,5 +1,5 @@
-use Rattle.std.proofs.Common.{◌≡◌, ℕ, ◌+◌, ◌%◌, ◌/◌, ℤ, List, [], ◌∷◌, ◌++◌, length, drop, to_z, of_z, w16, refl, ap, sym, subst}
-use Rattle.std.proofs.Common.{◌∙◌, arith, rules, set}
+use Rattle.std.proofs.Common.{◌≡◌, ℕ, ◌+◌, ◌%◌, ◌/◌, ℤ, List, [], ◌∷◌, ◌++◌, length, drop, w16, refl, ap, subst, ◌∙◌}
+use Rattle.std.proofs.Common.{arith, rules, set}
 use Rattle.std.proofs.lemmas.Int.{to_z-of_z}
 use Rattle.tone_carrier.specs.Held.{HeldCarrier, StandsFor}
 use Rattle.tone_carrier.proofs.CarrierLemmas.{held_of, stands_early, stands_odd, stands_more}
