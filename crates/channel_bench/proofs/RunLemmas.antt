@@ -3,6 +3,7 @@ use Rattle.channel_bench.proofs.Common.{◌≡◌, Bool, true, false, Option, So
 use Rattle.channel_bench.proofs.Common.{false≢true, End, A, B, Trouble, Run, BenchWords, BenchState, Near, AtEnd, near}
 use Rattle.channel_bench.proofs.Common.{with_near, GoesOn, StandsForSide, StandsForNear, StandsForRun, Unless, text_at}
 use Rattle.std.specs.Prelude.{is_some}
+use Rattle.station.specs.declared.memory.Memory.{Memory}
 
 -- all but a station and what both share is as it was
 pub record IsSameBesidesA (before after : Run) : Type 0 where
@@ -157,3 +158,17 @@ pub made_at_b : (part : End → Near → Near → Type 0) (end : End) (before af
 made_at_b part end before after w bench is h same none made =
     let all = moves_at_b part end before after w bench is h same made in
     (all.0, unless_made (AtEnd end (part end)) bench all.0 none all.1, all.2)
+
+-- a run stands for the same whether memory was refused or not
+pub run_remembers : (before : Run) (memory : Memory) (w : BenchWords) (bench : BenchState) → StandsForRun before w bench
+    → StandsForRun (record before { memory = memory }) w bench
+run_remembers before memory w bench h = record {
+  words = h.words;
+  a = h.a;
+  b = h.b;
+  shared = h.shared;
+  text_of_a = h.text_of_a;
+  text_of_b = h.text_of_b;
+  ticks = h.ticks;
+  closing = h.closing;
+}

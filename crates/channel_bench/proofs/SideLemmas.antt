@@ -43,6 +43,42 @@ stands_with end before after side next there h same station ids is = record {
   silenced = same.silenced ∙ h.silenced;
 }
 
+-- all but whether memory was refused is as it was
+pub record SameButMemory (before after : Side) : Type 0 where
+  pub end : after.end ≡ before.end
+  pub station : after.station ≡ before.station
+  pub there : after.there ≡ before.there
+  pub reader : after.reader ≡ before.reader
+  pub program : after.program ≡ before.program
+  pub ear : after.ear ≡ before.ear
+  pub towards : after.towards ≡ before.towards
+  pub matched : after.matched ≡ before.matched
+  pub air : after.air ≡ before.air
+  pub silenced : after.silenced ≡ before.silenced
+
+-- so the side stands for what it stood for
+pub remembers : (end : End) (before after : Side) (side : SideState) → StandsForSide end before side
+    → SameButMemory before after → StandsForSide end after side
+remembers end before after side h same = record {
+  end_is = same.end ∙ h.end_is;
+  station = subst (λ s. StationStandsFor s side.station) (sym same.station) h.station;
+  ids = ap ids_of same.station ∙ h.ids;
+  there = ap (λ t. t.items) same.there ∙ h.there;
+  reader = subst (λ r. AgwStandsFor r side.stream) (sym same.reader) h.reader;
+  program = same.program ∙ h.program;
+  ear = subst (λ e. EarStandsFor e side.samples) (sym same.ear) h.ear;
+  towards = ap (λ t. t.items) same.towards ∙ h.towards;
+  matched = same.matched ∙ h.matched;
+  air = same.air ∙ h.air;
+  loud = h.loud;
+  silenced = same.silenced ∙ h.silenced;
+}
+
+pub near_remembers : (end : End) (before after : Side) (shared : Shared) (n : Near)
+    → StandsForNear end before shared n → SameButMemory before after → StandsForNear end after shared n
+near_remembers end before after shared n h same =
+    record { side_is = remembers end before after n.side h.side_is same; shared_is = h.shared_is }
+
 -- all but what it hears, and whether its transmission is lost, is as it was
 pub record KeepsStation (before after : Side) : Type 0 where
   pub end : after.end ≡ before.end

@@ -1,6 +1,6 @@
 -- What the code keeps of the bench, and what that stands for. Public clauses cite none of this.
 use Rattle.std.specs.Prelude.{◌≡◌, ℕ, ◌*◌, ◌≤◌, ℤ, List, [], ◌∷◌, length, map, replicate, unsigned_abs, All, false}
-use Rattle.std.specs.Prelude.{None}
+use Rattle.std.specs.Prelude.{◌⊎◌, true, None}
 use Rattle.agwpe_port.specs.Held.{StandsFor as AgwStandsFor}
 use Rattle.frame_merge.specs.declared.candidate.Candidate.{Candidate}
 use Rattle.frame_merge.specs.Held.{StandsFor as MergerStandsFor}
@@ -72,6 +72,10 @@ pub record StandsForSide (end : End) (held : Side) (side : SideState) : Type 0 w
   pub loud : All (λ sample. unsigned_abs sample ≤ 10000) side.air.samples
   pub silenced : held.silenced ≡ side.silenced
 
+-- memory was refused, to the station or beside it
+abbrev pub WantsMemory : Side → Type 0
+WantsMemory side = (side.station.spent ≡ true) ⊎ (side.memory.refused ≡ true)
+
 pub record StandsForNear (end : End) (side : Side) (shared : Shared) (n : Near) : Type 0 where
   pub side_is : StandsForSide end side n.side
   pub shared_is : StandsForCommon shared n.common
@@ -91,6 +95,10 @@ pub record StandsForRun (held : Run) (w : BenchWords) (bench : BenchState) : Typ
   pub text_of_b : held.text_of_b ≡ text_at w B
   pub ticks : held.ticks ≡ bench.ticks
   pub closing : held.closing ≡ bench.closing
+
+-- memory was refused, to one of the sides or beside both
+abbrev pub RunWants : Run → Type 0
+RunWants run = (WantsMemory run.a ⊎ WantsMemory run.b) ⊎ (run.memory.refused ≡ true)
 
 -- one thing came to pass in the run
 abbrev pub MovesRun : BenchWords → (BenchState → BenchState → Type 0) → Run → Run → Type 0

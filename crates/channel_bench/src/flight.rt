@@ -1,5 +1,6 @@
 //! What is in flight between the two stations, as far as one can see who does not know what will be heard.
-ghost use Rattle.std.specs.Prelude.{◌≡◌, ◌+◌, ◌-◌, ◌<◌, ◌^◌, ◌||◌, if◌then◌else◌, drop, IfOk, OnOk, Some, is_some};
+ghost use Rattle.std.specs.Prelude.{◌≡◌, ◌+◌, ◌-◌, ◌<◌, ◌^◌, ◌||◌, if◌then◌else◌, drop, IfOk, OnOk, OnErr, Some, is_some};
+ghost use Rattle.std.specs.Prelude.{true};
 ghost use Rattle.std.specs.List.{list_any};
 ghost use Rattle.station_laws.specs.InFlight.{OneWay as WayState, BothWays, asks, answers, control_octet, hearing_at};
 ghost use Rattle.station_laws.specs.InFlight.{in_flight, is_ask, is_control_of, is_quiet_at, is_quiet_for, is_ua_or_dm};
@@ -8,6 +9,7 @@ ghost use Rattle.station_laws.specs.InFlight.{with_queued, with_sent_by};
 ghost use Rattle.channel_bench.specs.BenchSteps.{first_unquiet, count_of};
 
 use link_world::End;
+use station::Memory;
 use std::alloc::Global;
 use tnc_base::{Octets, OutOfMemory};
 
@@ -55,14 +57,16 @@ impl OneWay {
     }
 
     /// A frame joins the transmit queue.
-    fn queue(&mut self, on_ask: bool, octets: &[u8]) -> Result<(), OutOfMemory>
-        ensures { (way : WayState) → StandsForWay self.old way → OnOk result
+    fn queue(&mut self, memory: &mut Memory, on_ask: bool, octets: &[u8]) -> Result<(), OutOfMemory>
+        ensures queued { (way : WayState) → StandsForWay self.old way → OnOk result
             (StandsForWay self.new (with_queued (record { octets = octets.now; on_ask = on_ask }) way)) }
+        ensures wanted { OnErr result (memory.new.refused ≡ true) }
     {
-        self.queued.push(Flags {
+        let flags = Flags {
             asks: is_ask(octets),
             answers: on_ask && is_ua_or_dm(octets),
-        })?;
+        };
+        memory.push(&mut self.queued, flags)?;
         Ok(())
     }
 
@@ -134,19 +138,27 @@ impl Flight {
     }
 
     /// A frame joins the transmit queue of a station.
-    fn queue(&mut self, sender: End, on_ask: bool, octets: &[u8]) -> Result<(), OutOfMemory>
-        ensures { (ways : BothWays) → StandsForWays self.old ways
+    fn queue(
+        &mut self,
+        memory: &mut Memory,
+        sender: End,
+        on_ask: bool,
+        octets: &[u8],
+    ) -> Result<(), OutOfMemory>
+        ensures queued { (ways : BothWays) → StandsForWays self.old ways
             → OnOk result (StandsForWays self.new (queueing_at sender on_ask octets.now ways)) }
+        ensures wanted { OnErr result (memory.new.refused ≡ true) }
     {
         match sender {
-            End::A => self.from_a.queue(on_ask, octets),
-            End::B => self.from_b.queue(on_ask, octets),
+            End::A => self.from_a.queue(memory, on_ask, octets),
+            End::B => self.from_b.queue(memory, on_ask, octets),
         }
     }
 
     /// Frames of a step join it, one after another. Answers the number of the first that finds no quiet channel.
     pub(crate) fn queue_all(
         &mut self,
+        memory: &mut Memory,
         sender: End,
         on_ask: bool,
         frames: &[Octets],
@@ -155,12 +167,13 @@ impl Flight {
             → OnOk result (StandsForWays self.new (queueing_all sender on_ask frames.now ways)) }
         ensures first { (ways : BothWays) → StandsForWays self.old ways
             → IfOk result (λ first. first ≡ first_unquiet sender on_ask frames.now ways) }
+        ensures wanted { OnErr result (memory.new.refused ≡ true) }
     {
         let mut first = None;
         for frame in frames {
             let octets = frame.as_slice();
             first = self.first_with(first, sender, octets);
-            self.queue(sender, on_ask, octets)?;
+            self.queue(memory, sender, on_ask, octets)?;
         }
         Ok(first)
     }

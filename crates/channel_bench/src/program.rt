@@ -1,13 +1,14 @@
 //! A host program of the bench: what it knows, by what it did and was told.
 ghost use Rattle.std.specs.Prelude.{◌≡◌, ◌≤◌, nat_lt, if◌then◌else◌, length, take, drop, option_map, IfOk, IfSome};
-ghost use Rattle.std.specs.Prelude.{OnOk};
+ghost use Rattle.std.specs.Prelude.{◌++◌, OnOk, OnErr, true};
 
 use crate::report::SetUp;
 use agwpe_port::AgwMessage;
+use station::Memory;
 use std::alloc::Global;
 use std::marker::Model;
 use std::mem;
-use tnc_base::{Octets, OutOfMemory};
+use tnc_base::OutOfMemory;
 
 /// The most octets of a message of data.
 const MOST_OCTETS: usize = 256;
@@ -72,32 +73,39 @@ impl Program {
     }
 
     /// It is told a message.
-    fn hear(&mut self, message: &AgwMessage) -> Result<(), OutOfMemory>
-        ensures { OnOk result (self.new ≡ told message.now self.old) }
+    fn hear(&mut self, memory: &mut Memory, message: &AgwMessage) -> Result<(), OutOfMemory>
+        ensures heard { OnOk result (self.new ≡ told message.now self.old) }
+        ensures wanted { OnErr result (memory.new.refused ≡ true) }
     {
         match message.kind {
-            b'C' => self.open(),
-            b'D' => self.get(message.body.as_slice()),
-            b'd' => self.close(),
+            b'C' => self.open(memory),
+            b'D' => self.get(memory, message.body.as_slice()),
+            b'd' => self.close(memory),
             _ => Ok(()),
         }
     }
 
     /// It is told messages, one after another.
-    pub(crate) fn hear_all(&mut self, messages: &[AgwMessage]) -> Result<(), OutOfMemory>
-        ensures { OnOk result (self.new ≡ told_all messages.now self.old) }
+    pub(crate) fn hear_all(
+        &mut self,
+        memory: &mut Memory,
+        messages: &[AgwMessage],
+    ) -> Result<(), OutOfMemory>
+        ensures heard { OnOk result (self.new ≡ told_all messages.now self.old) }
+        ensures wanted { OnErr result (memory.new.refused ≡ true) }
     {
         for message in messages {
-            self.hear(message)?;
+            self.hear(memory, message)?;
         }
         Ok(())
     }
 
     /// A set-up begins.
-    fn open(&mut self) -> Result<(), OutOfMemory>
-        ensures { OnOk result (self.new ≡ opening self.old) }
+    fn open(&mut self, memory: &mut Memory) -> Result<(), OutOfMemory>
+        ensures opens { OnOk result (self.new ≡ opening self.old) }
+        ensures wanted { OnErr result (memory.new.refused ≡ true) }
     {
-        self.end()?;
+        self.end(memory)?;
         self.running = Some(Running {
             given: Vec::new(self.alloc),
             got: Vec::new(self.alloc),
@@ -107,12 +115,13 @@ impl Program {
     }
 
     /// Data comes.
-    fn get(&mut self, octets: &[u8]) -> Result<(), OutOfMemory>
-        ensures { OnOk result (self.new ≡ getting octets.now self.old) }
+    fn get(&mut self, memory: &mut Memory, octets: &[u8]) -> Result<(), OutOfMemory>
+        ensures gets { OnOk result (self.new ≡ getting octets.now self.old) }
+        ensures wanted { OnErr result (memory.new.refused ≡ true) }
     {
         match &mut self.running {
             Some(running) => {
-                running.got.extend_from_slice(octets)?;
+                extend(memory, &mut running.got, octets)?;
                 Ok(())
             }
             None => Ok(()),
@@ -120,10 +129,11 @@ impl Program {
     }
 
     /// The set-up ends.
-    fn close(&mut self) -> Result<(), OutOfMemory>
-        ensures { OnOk result (self.new ≡ closing self.old) }
+    fn close(&mut self, memory: &mut Memory) -> Result<(), OutOfMemory>
+        ensures closes { OnOk result (self.new ≡ closing self.old) }
+        ensures wanted { OnErr result (memory.new.refused ≡ true) }
     {
-        self.end()?;
+        self.end(memory)?;
         if !self.asked {
             self.calls = true;
         }
@@ -132,13 +142,14 @@ impl Program {
     }
 
     /// Whatever runs has ended.
-    fn end(&mut self) -> Result<(), OutOfMemory>
-        ensures { OnOk result (self.new ≡ record self.old { ended = set_ups_of self.old; running = None }) }
+    fn end(&mut self, memory: &mut Memory) -> Result<(), OutOfMemory>
+        ensures ends { OnOk result (self.new ≡ record self.old { ended = set_ups_of self.old; running = None }) }
+        ensures wanted { OnErr result (memory.new.refused ≡ true) }
     {
         match self.running.take() {
             Some(running) => {
-                let set_up = set_up_of(self.alloc, &running)?;
-                self.ended.push(set_up)?;
+                let set_up = set_up_of(memory, &running)?;
+                memory.push(&mut self.ended, set_up)?;
                 Ok(())
             }
             None => Ok(()),
@@ -157,12 +168,13 @@ impl Program {
     }
 
     /// A piece is given.
-    pub(crate) fn give(&mut self, piece: &[u8]) -> Result<(), OutOfMemory>
-        ensures { OnOk result (self.new ≡ giving piece.now self.old) }
+    pub(crate) fn give(&mut self, memory: &mut Memory, piece: &[u8]) -> Result<(), OutOfMemory>
+        ensures gives { OnOk result (self.new ≡ giving piece.now self.old) }
+        ensures wanted { OnErr result (memory.new.refused ≡ true) }
     {
         match &mut self.running {
             Some(running) => {
-                running.given.extend_from_slice(piece)?;
+                extend(memory, &mut running.given, piece)?;
                 Ok(())
             }
             None => Ok(()),
@@ -223,10 +235,11 @@ impl Program {
     }
 
     /// All set-ups, in order. It then knows of none.
-    pub(crate) fn take_set_ups(&mut self) -> Result<Vec<SetUp>, OutOfMemory>
-        ensures { IfOk result (λ set_ups. set_ups.items ≡ set_ups_of self.old) }
+    pub(crate) fn take_set_ups(&mut self, memory: &mut Memory) -> Result<Vec<SetUp>, OutOfMemory>
+        ensures set_ups { IfOk result (λ set_ups. set_ups.items ≡ set_ups_of self.old) }
+        ensures wanted { OnErr result (memory.new.refused ≡ true) }
     {
-        self.end()?;
+        self.end(memory)?;
         let empty = Vec::new(self.alloc);
         Ok(mem::replace(&mut self.ended, empty))
     }
@@ -249,11 +262,20 @@ fn piece_after(given: usize, text: &[u8]) -> Option<&[u8]>
 }
 
 /// The set-up, ended.
-fn set_up_of(alloc: Global, running: &Running) -> Result<SetUp, OutOfMemory>
-    ensures { IfOk result (λ set_up. set_up ≡ running.now) }
+fn set_up_of(memory: &mut Memory, running: &Running) -> Result<SetUp, OutOfMemory>
+    ensures set_up { IfOk result (λ set_up. set_up ≡ running.now) }
+    ensures wanted { OnErr result (memory.new.refused ≡ true) }
 {
-    Ok(SetUp {
-        given: Octets::from_slice(alloc, &running.given)?,
-        got: Octets::from_slice(alloc, &running.got)?,
-    })
+    let given = memory.copy(&running.given)?;
+    let got = memory.copy(&running.got)?;
+    Ok(SetUp { given, got })
+}
+
+/// Puts octets after the others.
+fn extend(memory: &mut Memory, items: &mut Vec<u8>, octets: &[u8]) -> Result<(), OutOfMemory>
+    ensures items { OnOk result (items.new.items ≡ items.old.items ++ octets.now) }
+    ensures wanted { OnErr result (memory.new.refused ≡ true) }
+{
+    memory.took(items.extend_from_slice(octets))?;
+    Ok(())
 }

@@ -1,5 +1,5 @@
 //! Two stations joined by audio, tick by tick.
-ghost use Rattle.std.specs.Prelude.{◌≡◌, ◌+◌, ◌++◌, ◌<◌, ◌≤◌, ◌^◌, ℕ, All, List, None, length, IfOk, OnOk};
+ghost use Rattle.std.specs.Prelude.{◌≡◌, ◌+◌, ◌++◌, ◌<◌, ◌≤◌, ◌^◌, ℕ, All, List, None, length, IfOk, OnOk, OnErr};
 ghost use Rattle.channel_bench.specs.declared.words.BenchWords.{BenchWords};
 ghost use Rattle.channel_bench.specs.BenchRun.{is_over, report_of};
 ghost use Rattle.hdlc_framer.specs.FrameLength.{HasFrameLength};
@@ -24,7 +24,7 @@ use frame_merge::Candidate;
 use link_machine::Params;
 use link_world::End;
 use selective_reject::Mode;
-use station::{Config, PortKind};
+use station::{Config, Memory, PortKind};
 use std::alloc::Global;
 use tnc_base::{Octets, OutOfMemory};
 
@@ -48,6 +48,8 @@ pub struct Run {
     text_of_b: Octets,
     pub(crate) ticks: u64,
     closing: bool,
+    /// Whether memory was refused beside the stations.
+    memory: Memory,
 }
 
 /// The samples that reach both stations in a tick.
@@ -66,7 +68,7 @@ struct Ready {
 
 impl Run {
     ghost use Rattle.channel_bench.specs.HeldBench.{StandsForRun, MovesRun, Unless, acts, hears, sounds, reaching_a};
-    ghost use Rattle.channel_bench.specs.HeldBench.{IsCounted};
+    ghost use Rattle.channel_bench.specs.HeldBench.{IsCounted, RunWants};
     ghost use Rattle.channel_bench.specs.HeldBench.{reaching_b, with_both, with_noise_drawn};
 
     /// Before the first tick.
@@ -89,6 +91,7 @@ impl Run {
             text_of_b,
             ticks: 0,
             closing: false,
+            memory: Memory::new(alloc),
         })
     }
 
@@ -101,15 +104,16 @@ impl Run {
 
     /// What came to pass.
     pub(crate) fn report(&mut self) -> Result<BenchReport, OutOfMemory>
-        ensures { (w : BenchWords) (bench : BenchState) → StandsForRun self.old w bench
+        ensures told { (w : BenchWords) (bench : BenchState) → StandsForRun self.old w bench
             → IfOk result (λ report. report ≡ report_of bench) }
+        ensures wanted { OnErr result (RunWants self.new) }
     {
         Ok(BenchReport {
             ticks: self.ticks,
             transmissions: self.shared.transmissions,
             lost: self.shared.lost,
-            a: self.a.program.take_set_ups()?,
-            b: self.b.program.take_set_ups()?,
+            a: self.a.program.take_set_ups(&mut self.a.memory)?,
+            b: self.b.program.take_set_ups(&mut self.b.memory)?,
         })
     }
 
@@ -120,6 +124,7 @@ impl Run {
         requires few { self.old.ticks < 2 ^ 32 }
         ensures tick { (w : BenchWords) → OnOk result (MovesRun w (IsTick w) self.old self.new) }
         ensures count { OnOk result (self.new.ticks ≤ self.old.ticks + 1) }
+        ensures wanted { OnErr result (RunWants self.new) }
     {
         if self.ticks > 0 {
             self.make_parts()?;
@@ -135,11 +140,12 @@ impl Run {
         requires { (w : BenchWords) × (bench : BenchState) × StandsForRun self.old w bench }
         ensures begun { (w : BenchWords) → OnOk result (MovesRun w (ArePartsMade w (beginning w)) self.old self.new) }
         ensures ticks { self.new.ticks ≡ self.old.ticks }
+        ensures wanted { OnErr result (RunWants self.new) }
     {
         self.set_duplex()?;
         self.join_program(End::A)?;
         self.join_program(End::B)?;
-        let call = connect(self.alloc, End::A)?;
+        let call = self.memory.took(connect(self.alloc, End::A))?;
         self.say(End::A, PROGRAM, call)?;
         Ok(())
     }
@@ -149,6 +155,7 @@ impl Run {
         requires { (w : BenchWords) × (bench : BenchState) × StandsForRun self.old w bench }
         ensures set { (w : BenchWords) → OnOk result (MovesRun w (ArePartsMade w (sets_duplex w)) self.old self.new) }
         ensures ticks { self.new.ticks ≡ self.old.ticks }
+        ensures wanted { OnErr result (RunWants self.new) }
     {
         if !self.words.full {
             return Ok(());
@@ -164,9 +171,10 @@ impl Run {
         ensures set { (w : BenchWords) → OnOk result
             (MovesRun w (ArePartsMade w (sets_full_duplex end)) self.old self.new) }
         ensures ticks { self.new.ticks ≡ self.old.ticks }
+        ensures wanted { OnErr result (RunWants self.new) }
     {
         self.join(end, KISS, PortKind::Kiss)?;
-        let octets = full_duplex(self.alloc)?;
+        let octets = self.memory.took(full_duplex(self.alloc))?;
         self.say(end, KISS, octets)?;
         Ok(())
     }
@@ -176,9 +184,10 @@ impl Run {
         requires { (w : BenchWords) × (bench : BenchState) × StandsForRun self.old w bench }
         ensures joined { (w : BenchWords) → OnOk result (MovesRun w (ArePartsMade w (joins end)) self.old self.new) }
         ensures ticks { self.new.ticks ≡ self.old.ticks }
+        ensures wanted { OnErr result (RunWants self.new) }
     {
         self.join(end, PROGRAM, PortKind::Agw)?;
-        let octets = register(self.alloc, end)?;
+        let octets = self.memory.took(register(self.alloc, end))?;
         self.say(end, PROGRAM, octets)?;
         Ok(())
     }
@@ -189,6 +198,7 @@ impl Run {
         ensures joined { (w : BenchWords) → OnOk result
             (MovesRun w (Unless (AtEnd end (IsTold end (HostEvent.Joined id kind)))) self.old self.new) }
         ensures ticks { self.new.ticks ≡ self.old.ticks }
+        ensures wanted { OnErr result (RunWants self.new) }
     {
         if self.shared.has_ended() {
             return Ok(());
@@ -207,6 +217,7 @@ impl Run {
         ensures said { (w : BenchWords) → OnOk result
             (MovesRun w (Unless (AtEnd end (IsTold end (HostEvent.Bytes id octets)))) self.old self.new) }
         ensures ticks { self.new.ticks ≡ self.old.ticks }
+        ensures wanted { OnErr result (RunWants self.new) }
     {
         if self.shared.has_ended() {
             return Ok(());
@@ -225,6 +236,7 @@ impl Run {
         requires few { self.old.ticks < 2 ^ 32 }
         ensures made { (w : BenchWords) → OnOk result (MovesRun w (ArePartsMade w each_tick) self.old self.new) }
         ensures count { OnOk result (self.new.ticks ≤ self.old.ticks + 1) }
+        ensures wanted { OnErr result (RunWants self.new) }
     {
         self.act()?;
         self.sound()?;
@@ -236,6 +248,7 @@ impl Run {
         requires { (w : BenchWords) × (bench : BenchState) × StandsForRun self.old w bench }
         ensures made { (w : BenchWords) → OnOk result (MovesRun w (ArePartsMade w acts) self.old self.new) }
         ensures ticks { self.new.ticks ≡ self.old.ticks }
+        ensures wanted { OnErr result (RunWants self.new) }
     {
         self.give(End::A)?;
         self.ask_or_call()?;
@@ -252,6 +265,7 @@ impl Run {
         requires few { self.old.ticks < 2 ^ 32 }
         ensures made { (w : BenchWords) → OnOk result (MovesRun w (ArePartsMade w sounds) self.old self.new) }
         ensures count { OnOk result (self.new.ticks ≤ self.old.ticks + 1) }
+        ensures wanted { OnErr result (RunWants self.new) }
     {
         if self.shared.has_ended() {
             return Ok(());
@@ -274,6 +288,7 @@ impl Run {
         ensures lengths { IfOk result (λ ready. All (λ item. HasFrameLength item.octets) ready.at_a.items
             × All (λ item. HasFrameLength item.octets) ready.at_b.items) }
         ensures ticks { self.new.ticks ≡ self.old.ticks }
+        ensures wanted { OnErr result (RunWants self.new) }
     {
         self.draw_losses();
         let both = self.add_noise()?;
@@ -290,6 +305,7 @@ impl Run {
             → AreReady bench.a.samples ready.now.at_a.items → AreReady bench.b.samples ready.now.at_b.items
             → OnOk result ((next : BenchState) × ArePartsMade w hears bench next × StandsForRun self.new w next) }
         ensures count { OnOk result (self.new.ticks ≤ self.old.ticks + 1) }
+        ensures wanted { OnErr result (RunWants self.new) }
     {
         self.hear(End::A, &ready.at_a)?;
         self.hear(End::B, &ready.at_b)?;
@@ -303,6 +319,7 @@ impl Run {
         ensures given { (w : BenchWords) → OnOk result
             (MovesRun w (Unless (AtEnd end (IsGiven w end))) self.old self.new) }
         ensures ticks { self.new.ticks ≡ self.old.ticks }
+        ensures wanted { OnErr result (RunWants self.new) }
     {
         if self.shared.has_ended() {
             return Ok(());
@@ -319,6 +336,7 @@ impl Run {
         requires { (w : BenchWords) × (bench : BenchState) × StandsForRun self.old w bench }
         ensures asked { (w : BenchWords) → OnOk result (MovesRun w (Unless (IsAskedOrCalled w)) self.old self.new) }
         ensures ticks { self.new.ticks ≡ self.old.ticks }
+        ensures wanted { OnErr result (RunWants self.new) }
     {
         if self.shared.has_ended() {
             return Ok(());
@@ -344,8 +362,9 @@ impl Run {
             → bench.common.trouble ≡ None → OnOk result ((next : BenchState) × IsAsked bench next
             × StandsForRun self.new w next) }
         ensures ticks { self.new.ticks ≡ self.old.ticks }
+        ensures wanted { OnErr result (RunWants self.new) }
     {
-        let octets = disconnect(self.alloc, End::A)?;
+        let octets = self.memory.took(disconnect(self.alloc, End::A))?;
         self.a.program.ask();
         self.b.program.wait();
         self.closing = true;
@@ -360,8 +379,9 @@ impl Run {
             → bench.common.trouble ≡ None → OnOk result ((next : BenchState) × IsCalled bench next
             × StandsForRun self.new w next) }
         ensures ticks { self.new.ticks ≡ self.old.ticks }
+        ensures wanted { OnErr result (RunWants self.new) }
     {
-        let octets = connect(self.alloc, End::A)?;
+        let octets = self.memory.took(connect(self.alloc, End::A))?;
         self.a.program.call();
         self.a.bring(&mut self.shared, PROGRAM, octets)?;
         Ok(())
@@ -380,6 +400,7 @@ impl Run {
         ensures ticked { (w : BenchWords) → OnOk result
             (MovesRun w (Unless (AtEnd end (IsTicking end))) self.old self.new) }
         ensures ticks { self.new.ticks ≡ self.old.ticks }
+        ensures wanted { OnErr result (RunWants self.new) }
     {
         if self.shared.has_ended() {
             return Ok(());
@@ -413,11 +434,22 @@ impl Run {
             (both.to_a.items ≡ reaching_a w bench) × (both.to_b.items ≡ reaching_b w bench)) }
         ensures lengths { IfOk result (λ both. (length both.to_a.items ≡ 96) × (length both.to_b.items ≡ 96)) }
         ensures ticks { self.new.ticks ≡ self.old.ticks }
+        ensures wanted { OnErr result (RunWants self.new) }
     {
         let to_b = reaching(self.words.full, &self.a, &self.b);
         let to_a = reaching(self.words.full, &self.b, &self.a);
-        let noisy_b = with_noise(self.alloc, &mut self.shared.draws, self.words.noise, &to_b)?;
-        let noisy_a = with_noise(self.alloc, &mut self.shared.draws, self.words.noise, &to_a)?;
+        let noisy_b = self.memory.took(with_noise(
+            self.alloc,
+            &mut self.shared.draws,
+            self.words.noise,
+            &to_b,
+        ))?;
+        let noisy_a = self.memory.took(with_noise(
+            self.alloc,
+            &mut self.shared.draws,
+            self.words.noise,
+            &to_a,
+        ))?;
         Ok(Both {
             to_a: noisy_a,
             to_b: noisy_b,
@@ -438,6 +470,7 @@ impl Run {
         ensures lengths { IfOk result (λ ready. All (λ item. HasFrameLength item.octets) ready.at_a.items
             × All (λ item. HasFrameLength item.octets) ready.at_b.items) }
         ensures ticks { self.new.ticks ≡ self.old.ticks }
+        ensures wanted { OnErr result (RunWants self.new) }
     {
         let at_a = self.a.take_in(self.ticks, &self.b, &both.to_a)?;
         let at_b = self.b.take_in(self.ticks, &self.a, &both.to_b)?;
@@ -450,6 +483,7 @@ impl Run {
         ensures heard { (w : BenchWords) → OnOk result
             (MovesRun w (AtEnd end (AreHeardAt end items.now)) self.old self.new) }
         ensures ticks { self.new.ticks ≡ self.old.ticks }
+        ensures wanted { OnErr result (RunWants self.new) }
     {
         match end {
             End::A => self.a.hear_all(&mut self.shared, items)?,

@@ -1,5 +1,5 @@
 //! What the two stations of the bench share: the channel between them.
-ghost use Rattle.std.specs.Prelude.{◌≡◌, ◌+◌, ◌<◌, ◌^◌, if◌then◌else◌, Some, None, IfOk, OnOk, is_some};
+ghost use Rattle.std.specs.Prelude.{◌≡◌, ◌+◌, ◌<◌, ◌^◌, if◌then◌else◌, Some, None, IfOk, OnOk, OnErr, is_some, true};
 ghost use Rattle.channel_bench.specs.declared.trouble.Trouble.TheVariants.{Stray};
 ghost use Rattle.channel_bench.specs.declared.words.BenchWords.{BenchWords};
 
@@ -8,6 +8,7 @@ use crate::trouble::Trouble;
 use link_world::End;
 use rand_core::utils::NextWord;
 use rand_pcg::Lcg64Xsh32;
+use station::Memory;
 use std::alloc::Global;
 use tnc_base::{Octets, OutOfMemory};
 
@@ -58,6 +59,7 @@ impl Shared {
     /// Frames of a step join the transmit queue of a station.
     pub(crate) fn queue_all(
         &mut self,
+        memory: &mut Memory,
         sender: End,
         on_ask: bool,
         frames: &[Octets],
@@ -68,18 +70,24 @@ impl Shared {
             → OnOk result (self.new.trouble ≡ trouble_of (first_unquiet sender on_ask frames.now ways)) }
         ensures rest { (self.new.draws ≡ self.old.draws) × (self.new.transmissions ≡ self.old.transmissions)
             × (self.new.lost ≡ self.old.lost) }
+        ensures wanted { OnErr result (memory.new.refused ≡ true) }
     {
-        if let Some(index) = self.flight.queue_all(sender, on_ask, frames)? {
+        if let Some(index) = self.flight.queue_all(memory, sender, on_ask, frames)? {
             self.trouble = Some(Trouble::Unquiet { index });
         }
         Ok(())
     }
 
     /// A frame of these octets was heard that matches none that was sent.
-    pub(crate) fn end_by_stray(&mut self, alloc: Global, octets: &[u8]) -> Result<(), OutOfMemory>
-        ensures { OnOk result (self.new ≡ record self.old { trouble = Some (Stray octets.now) }) }
+    pub(crate) fn end_by_stray(
+        &mut self,
+        memory: &mut Memory,
+        octets: &[u8],
+    ) -> Result<(), OutOfMemory>
+        ensures ended { OnOk result (self.new ≡ record self.old { trouble = Some (Stray octets.now) }) }
+        ensures wanted { OnErr result (memory.new.refused ≡ true) }
     {
-        let octets = Octets::from_slice(alloc, octets)?;
+        let octets = memory.copy(octets)?;
         self.trouble = Some(Trouble::Stray { octets });
         Ok(())
     }

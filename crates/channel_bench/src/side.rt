@@ -58,14 +58,15 @@ pub struct Side {
     pub(crate) air: AirTick,
     /// The transmission that it sends is lost.
     pub(crate) silenced: bool,
-    /// What it hears with.
-    memory: Memory,
+    /// Whether memory was refused, but to the station.
+    pub(crate) memory: Memory,
     ghost within: { matched ≤ length towards.items },
 }
 
 impl Side {
     ghost use Rattle.station.specs.Held.{IsAdmitted};
     ghost use Rattle.channel_bench.specs.HeldBench.{StandsForSide, StandsForWays, StandsForNear, MovesNear};
+    ghost use Rattle.channel_bench.specs.HeldBench.{WantsMemory};
     ghost use Rattle.station_laws.specs.InFlight.{BothWays, queueing_all};
 
     /// A station to which nothing came yet.
@@ -130,8 +131,9 @@ impl Side {
         kind: PortKind,
     ) -> Result<(), OutOfMemory>
         requires { (end : End) × (n : Near) × StandsForNear end self.old shared.old n }
-        ensures { (end : End) → OnOk result
+        ensures told { (end : End) → OnOk result
             (MovesNear end (IsTold end (HostEvent.Joined id kind)) self.old self.new shared.old shared.new) }
+        ensures wanted { OnErr result (WantsMemory self.new) }
     {
         if !self.is_new(id) {
             return Ok(());
@@ -143,11 +145,12 @@ impl Side {
     /// A connection joins under a new id.
     fn enter(&mut self, shared: &mut Shared, id: u32, kind: PortKind) -> Result<(), OutOfMemory>
         requires { IsAdmitted (HostEvent.Joined id kind) self.old.station }
-        ensures { (end : End) (n : Near) → StandsForNear end self.old shared.old n → n.common.trouble ≡ None
+        ensures step { (end : End) (n : Near) → StandsForNear end self.old shared.old n → n.common.trouble ≡ None
             → OnOk result ((next : Near) × IsStep end (FromHost (HostEvent.Joined id kind)) None n next
             × StandsForNear end self.new shared.new next) }
+        ensures wanted { OnErr result (WantsMemory self.new) }
     {
-        self.there.push(id)?;
+        self.memory.push(&mut self.there, id)?;
         let out = self.station.host(HostEvent::Joined { id, kind })?;
         leave_all(&mut self.there, &out.closed);
         self.settle(shared, false, &out)?;
@@ -163,8 +166,9 @@ impl Side {
     ) -> Result<(), OutOfMemory>
         requires stands { (end : End) × (n : Near) × StandsForNear end self.old shared.old n }
         requires most { length octets ≤ 4096 }
-        ensures { (end : End) → OnOk result
+        ensures told { (end : End) → OnOk result
             (MovesNear end (IsTold end (HostEvent.Bytes id octets)) self.old self.new shared.old shared.new) }
+        ensures wanted { OnErr result (WantsMemory self.new) }
     {
         if !self.accepts(id) {
             return Ok(());
@@ -176,8 +180,9 @@ impl Side {
     /// The host program gives the next piece of a text, if the station takes it.
     pub(crate) fn give(&mut self, shared: &mut Shared, text: &[u8]) -> Result<(), OutOfMemory>
         requires { (end : End) × (n : Near) × StandsForNear end self.old shared.old n }
-        ensures { (end : End) (w : BenchWords) → text.now ≡ text_at w end
+        ensures given { (end : End) (w : BenchWords) → text.now ≡ text_at w end
             → OnOk result (MovesNear end (IsGiven w end) self.old self.new shared.old shared.new) }
+        ensures wanted { OnErr result (WantsMemory self.new) }
     {
         if !self.accepts(PROGRAM) {
             return Ok(());
@@ -185,8 +190,8 @@ impl Side {
         let Some(piece) = self.program.next_piece(text) else {
             return Ok(());
         };
-        let octets = data(self.alloc, self.end, piece)?;
-        self.program.give(piece)?;
+        let octets = self.memory.took(data(self.alloc, self.end, piece))?;
+        self.program.give(&mut self.memory, piece)?;
         self.bring(shared, PROGRAM, octets)?;
         Ok(())
     }
@@ -199,9 +204,10 @@ impl Side {
         octets: Octets,
     ) -> Result<(), OutOfMemory>
         requires { IsAdmitted (HostEvent.Bytes id octets) self.old.station }
-        ensures { (end : End) (n : Near) → StandsForNear end self.old shared.old n → n.common.trouble ≡ None
+        ensures step { (end : End) (n : Near) → StandsForNear end self.old shared.old n → n.common.trouble ≡ None
             → OnOk result ((next : Near) × IsStep end (FromHost (HostEvent.Bytes id octets)) None n next
             × StandsForNear end self.new shared.new next) }
+        ensures wanted { OnErr result (WantsMemory self.new) }
     {
         let out = self.station.host(HostEvent::Bytes { id, octets })?;
         leave_all(&mut self.there, &out.closed);
@@ -211,8 +217,9 @@ impl Side {
 
     /// The station ticks.
     pub(crate) fn tick(&mut self, shared: &mut Shared) -> Result<(), OutOfMemory>
-        ensures { (end : End) (n : Near) → StandsForNear end self.old shared.old n → n.common.trouble ≡ None
+        ensures ticked { (end : End) (n : Near) → StandsForNear end self.old shared.old n → n.common.trouble ≡ None
             → OnOk result ((next : Near) × IsTicking end n next × StandsForNear end self.new shared.new next) }
+        ensures wanted { OnErr result (WantsMemory self.new) }
     {
         let busy = self.ear.busy();
         let TickOut { air, out } = self.station.tick(busy)?;
@@ -266,9 +273,10 @@ impl Side {
         items: &[Candidate],
     ) -> Result<(), OutOfMemory>
         requires { All (λ item. HasFrameLength item.octets) items.now }
-        ensures { (end : End) (n : Near) → StandsForNear end self.old shared.old n
+        ensures heard { (end : End) (n : Near) → StandsForNear end self.old shared.old n
             → OnOk result ((next : Near) × AreHeardAt end items.now n next
             × StandsForNear end self.new shared.new next) }
+        ensures wanted { OnErr result (WantsMemory self.new) }
     {
         for item in items {
             self.hear(shared, item)?;
@@ -279,15 +287,16 @@ impl Side {
     /// The station hears a frame that matches one that was sent, unless something has ended the run.
     fn hear(&mut self, shared: &mut Shared, item: &Candidate) -> Result<(), OutOfMemory>
         requires { HasFrameLength item.now.octets }
-        ensures { (end : End) (n : Near) → StandsForNear end self.old shared.old n
+        ensures heard { (end : End) (n : Near) → StandsForNear end self.old shared.old n
             → OnOk result ((next : Near) × GoesOn n.common.trouble (IsHeardAt end item.now n next) (next ≡ n)
             × StandsForNear end self.new shared.new next) }
+        ensures wanted { OnErr result (WantsMemory self.new) }
     {
         if shared.has_ended() {
             return Ok(());
         }
         let Some(place) = SentAt::first_match(&self.towards[self.matched..], item) else {
-            shared.end_by_stray(self.alloc, item.octets.as_slice())?;
+            shared.end_by_stray(&mut self.memory, item.octets.as_slice())?;
             return Ok(());
         };
         let number = self.matched + place;
@@ -304,9 +313,10 @@ impl Side {
     ) -> Result<(), OutOfMemory>
         requires length { HasFrameLength octets.now }
         requires number { number < length self.old.towards.items }
-        ensures { (end : End) (n : Near) → StandsForNear end self.old shared.old n → n.common.trouble ≡ None
+        ensures step { (end : End) (n : Near) → StandsForNear end self.old shared.old n → n.common.trouble ≡ None
             → OnOk result ((next : Near) × IsStep end (OffAir octets.now) (Some number) (with_matched number n) next
             × StandsForNear end self.new shared.new next) }
+        ensures wanted { OnErr result (WantsMemory self.new) }
     {
         self.matched = number + 1;
         shared.flight.hear(self.end, number);
@@ -337,9 +347,10 @@ impl Side {
             → OnOk result (shared.new.trouble ≡ trouble_of (first_unquiet self.old.end on_ask out.now.queued ways)) }
         ensures rest { (shared.new.draws ≡ shared.old.draws) × (shared.new.transmissions ≡ shared.old.transmissions)
             × (shared.new.lost ≡ shared.old.lost) }
+        ensures wanted { OnErr result (WantsMemory self.new) }
     {
         self.tell(&out.pieces)?;
-        shared.queue_all(self.end, on_ask, &out.queued)?;
+        shared.queue_all(&mut self.memory, self.end, on_ask, &out.queued)?;
         Ok(())
     }
 
@@ -348,6 +359,7 @@ impl Side {
         ensures told { (end : End) (side : SideState) → StandsForSide end self.old side
             → OnOk result (StandsForSide end self.new (told_pieces pieces.now side)) }
         ensures end { self.new.end ≡ self.old.end }
+        ensures wanted { OnErr result (WantsMemory self.new) }
     {
         for piece in pieces {
             self.take(piece)?;
@@ -360,12 +372,17 @@ impl Side {
         ensures told { (end : End) (side : SideState) → StandsForSide end self.old side
             → OnOk result (StandsForSide end self.new (told_piece piece.now side)) }
         ensures end { self.new.end ≡ self.old.end }
+        ensures wanted { OnErr result (WantsMemory self.new) }
     {
         if piece.id != PROGRAM {
             return Ok(());
         }
-        let messages = read_messages(self.alloc, &mut self.reader, piece.octets.as_slice())?;
-        self.program.hear_all(&messages)?;
+        let messages = self.memory.took(read_messages(
+            self.alloc,
+            &mut self.reader,
+            piece.octets.as_slice(),
+        ))?;
+        self.program.hear_all(&mut self.memory, &messages)?;
         Ok(())
     }
 }

@@ -28,7 +28,7 @@ returns-then-is_over-clause-over c =
       ticks = made.ticks;
       no_trouble = made.no_trouble;
       over = sym (c.is_over.ensures c.args.words made.bench made.stands) ∙ c.if-is_over.true;
-      told = c.in_ok-report.ensures c.args.words made.bench made.stands;
+      told = c.in_ok-report.ensures.told c.args.words made.bench made.stands;
     }
 
 pub returns-clause-fault : goal.returns-clause-fault

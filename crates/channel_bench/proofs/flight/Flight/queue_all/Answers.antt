@@ -17,7 +17,7 @@ loop-frame-preserved c =
           subst (λ xs. StandsForWays c.queue.new.self (queueing_all c.args.sender c.args.on_ask xs ways)) (sym more)
           (subst (StandsForWays c.queue.new.self)
           (sym (queueing_more c.args.sender c.args.on_ask (take i frames) octets ways))
-          (c.in_ok-queue.ensures (queueing_all c.args.sender c.args.on_ask (take i frames) ways)
+          (c.in_ok-queue.ensures.queued (queueing_all c.args.sender c.args.on_ask (take i frames) ways)
           (c.loop-frame.invariant.queued ways h)));
       first = λ ways h.
           first_more c.args.sender c.args.on_ask

@@ -1,8 +1,9 @@
 -- The noise of the samples towards B is drawn before that of those towards A.
-use Rattle.channel_bench.proofs.Common.{◌≤◌, refl, sym, subst, All, A, B}
+use Rattle.channel_bench.proofs.Common.{◌≡◌, ◌≤◌, ◌∙◌, refl, sym, subst, rules, length, All, A, B}
 use Rattle.channel_bench.proofs.Loudness.{IsLoudAtMost}
 use Rattle.channel_bench.proofs.SoundLemmas.{reaching_within}
 use Rattle.channel_bench.proofs.TakeLemmas.{noise_drawn, noisy_a, noisy_b}
+use Rattle.station.proofs.MemoryLemmas.{if_took, on_took}
 use Rattle.channel_bench.proofs.run.Run.add_noise.Goals as goal
 
 pub with_noise-requires-clause-noise : goal.with_noise-requires-clause-noise
@@ -29,7 +30,7 @@ pub returns-clause-drawn : goal.returns-clause-drawn
 returns-clause-drawn c = λ w bench h.
     noise_drawn c.args.self.now w bench c.reaching-to_a.result c.reaching-to_b.result c.with_noise.new.draws h
     (c.reaching-to_b.ensures A B bench.a bench.b h.a h.b) (c.reaching-to_a.ensures B A bench.b bench.a h.b h.a)
-    c.in_ok-noisy_b.ensures.draws _
+    (on_took _ c.with_noise.result c.in_ok-noisy_b.noisy_b c.in_ok-noisy_b.ensures.value c.with_noise.ensures.draws) _
     (record {
       words = refl;
       a = refl;
@@ -40,16 +41,24 @@ returns-clause-drawn c = λ w bench h.
       ticks = refl;
       closing = refl;
     })
-    c.in_ok-noisy_a.ensures.draws
+    (on_took _ c.with_noise-2.result c.in_ok-noisy_a.noisy_a c.in_ok-noisy_a.ensures.value c.with_noise-2.ensures.draws)
 
 pub returns-clause-samples : goal.returns-clause-samples
 returns-clause-samples c = λ w bench h.
     let is_b = c.reaching-to_b.ensures A B bench.a bench.b h.a h.b in
     let is_a = c.reaching-to_a.ensures B A bench.b bench.a h.b h.a in (
       noisy_a c.args.self.now w bench c.reaching-to_a.result c.reaching-to_b.result c.with_noise.new.draws h is_b is_a
-          c.in_ok-noisy_b.ensures.draws
-          c.in_ok-noisy_a.noisy_a.items c.in_ok-noisy_a.ensures.samples,
+          (on_took _ c.with_noise.result c.in_ok-noisy_b.noisy_b c.in_ok-noisy_b.ensures.value c.with_noise.ensures.draws)
+          c.in_ok-noisy_a.noisy_a.items (if_took _ c.with_noise-2.result c.in_ok-noisy_a.noisy_a c.in_ok-noisy_a.ensures.value c.with_noise-2.ensures.samples),
       noisy_b c.args.self.now w bench c.reaching-to_a.result c.reaching-to_b.result c.with_noise.new.draws h is_b is_a
-          c.in_ok-noisy_b.ensures.draws
-          c.in_ok-noisy_b.noisy_b.items c.in_ok-noisy_b.ensures.samples,
+          (on_took _ c.with_noise.result c.in_ok-noisy_b.noisy_b c.in_ok-noisy_b.ensures.value c.with_noise.ensures.draws)
+          c.in_ok-noisy_b.noisy_b.items (if_took _ c.with_noise.result c.in_ok-noisy_b.noisy_b c.in_ok-noisy_b.ensures.value c.with_noise.ensures.samples),
+    )
+
+pub returns-clause-lengths : goal.returns-clause-lengths
+returns-clause-lengths c =
+    let to_a : length c.reaching-to_a.result ≡ 96 = search rules in
+    let to_b : length c.reaching-to_b.result ≡ 96 = search rules in (
+      if_took _ c.with_noise-2.result c.in_ok-noisy_a.noisy_a c.in_ok-noisy_a.ensures.value c.with_noise-2.ensures.length ∙ to_a,
+      if_took _ c.with_noise.result c.in_ok-noisy_b.noisy_b c.in_ok-noisy_b.ensures.value c.with_noise.ensures.length ∙ to_b,
     )

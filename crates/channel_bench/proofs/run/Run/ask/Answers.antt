@@ -4,10 +4,12 @@ use Rattle.channel_bench.proofs.Common.{disconnect_octets, FromHost}
 use Rattle.channel_bench.specs.HostProgram.{asking, waiting}
 use Rattle.channel_bench.proofs.RunLemmas.{with_a}
 use Rattle.channel_bench.proofs.SideLemmas.{stands_program}
+use Rattle.station.proofs.MemoryLemmas.{if_took}
 use Rattle.channel_bench.proofs.run.Run.ask.Goals as goal
 
 pub bring-requires : goal.bring-requires
-bring-requires c = c.requires c.in_ok-octets.octets c.in_ok-octets.ensures.most
+bring-requires c = c.requires c.in_ok-octets.octets
+    (if_took _ c.disconnect.result c.in_ok-octets.octets c.in_ok-octets.ensures.value c.disconnect.ensures.most)
 
 pub returns-clause-asked : goal.returns-clause-asked
 returns-clause-asked c = λ w bench h none.
@@ -38,11 +40,11 @@ returns-clause-asked c = λ w bench h none.
       silenced = refl;
     })
     (c.wait.ensures ∙ ap waiting h.b.program) in
-    let made = c.in_ok-bring.ensures A (near A (with_asking bench))
+    let made = c.in_ok-bring.ensures.step A (near A (with_asking bench))
     (record { side_is = a; shared_is = h.shared }) none in
     with_a (Says A (disconnect_octets A)) _ w (with_asking bench) h.words b h.text_of_a h.text_of_b h.ticks refl (
       made.0,
       subst (λ o. IsStep A (FromHost (Bytes 1 o)) None (near A (with_asking bench)) made.0)
-          c.in_ok-octets.ensures.spelled made.1,
+          (if_took _ c.disconnect.result c.in_ok-octets.octets c.in_ok-octets.ensures.value c.disconnect.ensures.spelled) made.1,
       made.2,
     )

@@ -23,7 +23,7 @@ returns-in_ok-join-in-A-clause-joined c = λ w bench h.
     let none = goes_on run w bench c.has_ended.result h c.has_ended.ensures c.if-has_ended.false in
     made_at_a (λ e. IsTold e (Joined c.args.id c.args.kind)) c.args.end run _ w bench c.in-A.is h
     (record { words = refl; b = refl; text_of_a = refl; text_of_b = refl; ticks = refl; closing = refl }) none
-    (c.in_ok-join-in-A.ensures A (near A bench) (near_a run w bench h) none)
+    (c.in_ok-join-in-A.ensures.told A (near A bench) (near_a run w bench h) none)
 
 pub returns-in_ok-join-in-B-clause-joined : goal.returns-in_ok-join-in-B-clause-joined
 returns-in_ok-join-in-B-clause-joined c = λ w bench h.
@@ -31,4 +31,4 @@ returns-in_ok-join-in-B-clause-joined c = λ w bench h.
     let none = goes_on run w bench c.has_ended.result h c.has_ended.ensures c.if-has_ended.false in
     made_at_b (λ e. IsTold e (Joined c.args.id c.args.kind)) c.args.end run _ w bench c.in-B.is h
     (record { words = refl; a = refl; text_of_a = refl; text_of_b = refl; ticks = refl; closing = refl }) none
-    (c.in_ok-join-in-B.ensures B (near B bench) (near_b run w bench h) none)
+    (c.in_ok-join-in-B.ensures.told B (near B bench) (near_b run w bench h) none)

@@ -2,10 +2,10 @@
 use Rattle.channel_bench.proofs.Common.{◌∙◌, ap, set_ups_of}
 use Rattle.channel_bench.proofs.run.Run.report.Goals as goal
 
-pub returns : goal.returns
-returns c = λ w bench h.
-    let a = c.in_ok-take_set_ups.ensures ∙ ap set_ups_of h.a.program in
-    let b = c.in_ok-take_set_ups-2.ensures ∙ ap set_ups_of h.b.program in
+pub returns-clause-told : goal.returns-clause-told
+returns-clause-told c = λ w bench h.
+    let a = c.in_ok-take_set_ups.ensures.set_ups ∙ ap set_ups_of h.a.program in
+    let b = c.in_ok-take_set_ups-2.ensures.set_ups ∙ ap set_ups_of h.b.program in
     λ i. record {
       ticks = h.ticks i;
       transmissions = h.shared.transmissions i;

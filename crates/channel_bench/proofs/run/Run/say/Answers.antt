@@ -33,7 +33,7 @@ returns-in_ok-say-in-A-clause-said c = λ w bench h.
     let none = goes_on run w bench c.has_ended.result h c.has_ended.ensures c.if-has_ended.false in
     made_at_a (λ e. IsTold e (Bytes c.args.id c.args.octets)) c.args.end run _ w bench c.in-A.is h
     (record { words = refl; b = refl; text_of_a = refl; text_of_b = refl; ticks = refl; closing = refl }) none
-    (c.in_ok-say-in-A.ensures A (near A bench) (near_a run w bench h) none)
+    (c.in_ok-say-in-A.ensures.told A (near A bench) (near_a run w bench h) none)
 
 pub returns-in_ok-say-in-B-clause-said : goal.returns-in_ok-say-in-B-clause-said
 returns-in_ok-say-in-B-clause-said c = λ w bench h.
@@ -41,4 +41,4 @@ returns-in_ok-say-in-B-clause-said c = λ w bench h.
     let none = goes_on run w bench c.has_ended.result h c.has_ended.ensures c.if-has_ended.false in
     made_at_b (λ e. IsTold e (Bytes c.args.id c.args.octets)) c.args.end run _ w bench c.in-B.is h
     (record { words = refl; a = refl; text_of_a = refl; text_of_b = refl; ticks = refl; closing = refl }) none
-    (c.in_ok-say-in-B.ensures B (near B bench) (near_b run w bench h) none)
+    (c.in_ok-say-in-B.ensures.told B (near B bench) (near_b run w bench h) none)

@@ -17,7 +17,7 @@ returns-in_ok-tick-in-A-clause-ticked c = λ w bench h.
     let none = goes_on run w bench c.has_ended.result h c.has_ended.ensures c.if-has_ended.false in
     made_at_a (λ e. IsTicking e) c.args.end run _ w bench c.in-A.is h
     (record { words = refl; b = refl; text_of_a = refl; text_of_b = refl; ticks = refl; closing = refl }) none
-    (c.in_ok-tick-in-A.ensures A (near A bench) (near_a run w bench h) none)
+    (c.in_ok-tick-in-A.ensures.ticked A (near A bench) (near_a run w bench h) none)
 
 pub returns-in_ok-tick-in-B-clause-ticked : goal.returns-in_ok-tick-in-B-clause-ticked
 returns-in_ok-tick-in-B-clause-ticked c = λ w bench h.
@@ -25,4 +25,4 @@ returns-in_ok-tick-in-B-clause-ticked c = λ w bench h.
     let none = goes_on run w bench c.has_ended.result h c.has_ended.ensures c.if-has_ended.false in
     made_at_b (λ e. IsTicking e) c.args.end run _ w bench c.in-B.is h
     (record { words = refl; a = refl; text_of_a = refl; text_of_b = refl; ticks = refl; closing = refl }) none
-    (c.in_ok-tick-in-B.ensures B (near B bench) (near_b run w bench h) none)
+    (c.in_ok-tick-in-B.ensures.ticked B (near B bench) (near_b run w bench h) none)

@@ -3,8 +3,8 @@ use Rattle.channel_bench.proofs.Common.{refl, ap, ◌∙◌, HostEvent, Bytes, O
 use Rattle.channel_bench.proofs.HostSteps.{host_step}
 use Rattle.channel_bench.proofs.side.Side.bring.Goals as goal
 
-pub returns : goal.returns
-returns c = λ end n h none.
+pub returns-clause-step : goal.returns-clause-step
+returns-clause-step c = λ end n h none.
     let event : HostEvent = Bytes c.args.id c.args.octets in
     let before = c.args.self.now in
     let out = c.in_ok-out.out in

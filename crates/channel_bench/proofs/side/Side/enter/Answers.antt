@@ -3,8 +3,8 @@ use Rattle.channel_bench.proofs.Common.{◌++◌, ◌∷◌, [], refl, ap, ◌�
 use Rattle.channel_bench.proofs.HostSteps.{host_step}
 use Rattle.channel_bench.proofs.side.Side.enter.Goals as goal
 
-pub returns : goal.returns
-returns c = λ end n h none.
+pub returns-clause-step : goal.returns-clause-step
+returns-clause-step c = λ end n h none.
     let event : HostEvent = Joined c.args.id c.args.kind in
     let before = c.args.self.now in
     let out = c.in_ok-out.out in
@@ -20,7 +20,7 @@ returns c = λ end n h none.
       silenced = refl;
     })
     (c.in_ok-out.ensures.step n.side.station h.side_is.station) c.in_ok-out.ensures.ids
-    (c.leave_all.ensures ∙ ap (λ closed. without_ids closed c.push.new.self.items)
+    (c.leave_all.ensures ∙ ap (λ closed. without_ids closed c.push.new.items.items)
     (c.deref.ensures.value ∙ ap (λ (o : Out). o.closed) c.out.view_is)
     ∙ ap (without_ids out.closed) (c.in_ok-push.ensures.items
     ∙ ap (λ ids. ids ++ c.args.id ∷ []) h.side_is.there))

@@ -1,21 +1,22 @@
 -- Nothing comes to pass if the run has ended; a frame without a match ends it; one with a match is heard.
-use Rattle.channel_bench.proofs.Common.{◌≡◌, ◌+◌, Some, None, sym, ap, ◌∙◌, subst, drop, position, take_rest, Stray}
+use Rattle.channel_bench.proofs.Common.{◌≡◌, ◌+◌, Some, None, refl, sym, ap, ◌∙◌, subst, drop, position, take_rest, Stray}
 use Rattle.channel_bench.proofs.Common.{IsStep, is_match, match_of, with_matched, with_stray, OffAir}
 use Rattle.std.specs.Prelude.{is_some}
 use Rattle.channel_bench.proofs.HearLemmas.{heard_ended, heard_goes_on, match_at, match_made, stray_made, stray_stands}
 use Rattle.channel_bench.proofs.RunLemmas.{none_from}
+use Rattle.channel_bench.proofs.SideLemmas.{near_remembers}
 use Rattle.channel_bench.proofs.side.Side.hear.Goals as goal
 
-pub returns-then-has_ended : goal.returns-then-has_ended
-returns-then-has_ended c = λ end n h. (
+pub returns-then-has_ended-clause-heard : goal.returns-then-has_ended-clause-heard
+returns-then-has_ended-clause-heard c = λ end n h. (
   n,
   heard_ended end c.args.item.now n
       (ap is_some (sym h.shared_is.trouble) ∙ sym c.has_ended.ensures ∙ c.if-has_ended.true),
   h,
 )
 
-pub returns-in_default : goal.returns-in_default
-returns-in_default c = λ end n h.
+pub returns-in_default-clause-heard : goal.returns-in_default-clause-heard
+returns-in_default-clause-heard c = λ end n h.
     let item = c.args.item.now in
     let none = none_from n.common.trouble
     (ap is_some (sym h.shared_is.trouble) ∙ sym c.has_ended.ensures ∙ c.if-has_ended.false) in
@@ -26,13 +27,25 @@ returns-in_default c = λ end n h.
     c.args.self.now.towards.items h.side_is.matched h.side_is.towards (c.in_default.ensures.place ∙ rest) in (
       with_stray item.octets n,
       heard_goes_on end item n (with_stray item.octets n) none (stray_made end item n missed),
-      stray_stands end c.args.self.now c.args.shared.now c.end_by_stray.new.self n item.octets h
-          (c.in_ok-end_by_stray.ensures ∙ ap
+      stray_stands end _ c.args.shared.now c.end_by_stray.new.self n item.octets
+          (near_remembers end c.args.self.now _ c.args.shared.now n h (record {
+            end = refl;
+            station = refl;
+            there = refl;
+            reader = refl;
+            program = refl;
+            ear = refl;
+            towards = refl;
+            matched = refl;
+            air = refl;
+            silenced = refl;
+          }))
+          (c.in_ok-end_by_stray.ensures.ended ∙ ap
           (λ o. record c.args.shared.now { trouble = Some (Stray o) }) c.as_slice.ensures.list),
     )
 
-pub returns : goal.returns
-returns c = λ end n h.
+pub returns-clause-heard : goal.returns-clause-heard
+returns-clause-heard c = λ end n h.
     let item = c.args.item.now in
     let matched = c.args.self.now.matched in
     let none = none_from n.common.trouble
@@ -43,7 +56,7 @@ returns c = λ end n h.
     match_at item n.side (Some c.in-Some.place) matched
     c.args.self.now.towards.items h.side_is.matched h.side_is.towards (c.in-Some.ensures.place ∙ rest) in
     let number = matched + c.in-Some.place in
-    let made = c.in_ok-hear_sent.ensures end n h none in
+    let made = c.in_ok-hear_sent.ensures.step end n h none in
     let step = subst (λ o. IsStep end (OffAir o) (Some number) (with_matched number n) made.0)
     c.as_slice-2.ensures.list made.1 in (
       made.0,

@@ -11,7 +11,7 @@ hear-requires c =
 pub loop-item-preserved : goal.loop-item-preserved
 loop-item-preserved c = λ end n h.
     let was = c.loop-item.invariant end n h in
-    let made = c.in_ok-hear.ensures end was.0 was.2 in (
+    let made = c.in_ok-hear.ensures.heard end was.0 was.2 in (
       made.0,
       heard_more end c.args.items.now c.loop-item.item-index c.item-item.result c.item-item.result n was.0 made.0
           c.loop-item-test.true c.item-item.is
@@ -19,8 +19,8 @@ loop-item-preserved c = λ end n h.
       made.2,
     )
 
-pub returns : goal.returns
-returns c = λ end n h.
+pub returns-clause-heard : goal.returns-clause-heard
+returns-clause-heard c = λ end n h.
     let was = c.loop-item.invariant end n h in (
       was.0,
       subst (λ xs. AreHeardAt end xs n was.0)

@@ -4,8 +4,8 @@ use Rattle.std.proofs.lemmas.List.Elements.{All-from_get_or}
 use Rattle.channel_bench.proofs.HeardSteps.{heard_step}
 use Rattle.channel_bench.proofs.side.Side.hear_sent.Goals as goal
 
-pub returns : goal.returns
-returns c = λ end n h none.
+pub returns-clause-step : goal.returns-clause-step
+returns-clause-step c = λ end n h none.
     let small : All (λ octet. octet < 256) c.args.octets.now =
     All-from_get_or (λ octet. octet < 256) c.args.octets.now 0 (λ i h. (c.type_inv.octets i).fits) in
     heard_step end c.args.octets.now c.args.number n c.in_ok-out.out c.args.self.now _ c.settle.new.self

@@ -8,17 +8,17 @@ enter-requires c =
     let h = c.requires in
     c.is_new.ensures.admitted c.if-not-is_new.false h.0 h.1.side c.args.kind h.2.side_is
 
-pub returns-then-not-is_new : goal.returns-then-not-is_new
-returns-then-not-is_new c = λ end n h none. (
+pub returns-then-not-is_new-clause-told : goal.returns-then-not-is_new-clause-told
+returns-then-not-is_new-clause-told c = λ end n h none. (
   n,
   told_no end (Joined c.args.id c.args.kind) n c.is_new.result
       (c.is_new.ensures.may end n.side c.args.kind h.side_is) c.if-not-is_new.true,
   h,
 )
 
-pub returns : goal.returns
-returns c = λ end n h none.
-    let made = c.in_ok-enter.ensures end n h none in (
+pub returns-clause-told : goal.returns-clause-told
+returns-clause-told c = λ end n h none.
+    let made = c.in_ok-enter.ensures.step end n h none in (
       made.0,
       told_yes end (Joined c.args.id c.args.kind) n made.0 c.is_new.result
           (c.is_new.ensures.may end n.side c.args.kind h.side_is) c.if-not-is_new.false made.1,

@@ -1,12 +1,26 @@
 -- The pieces are told first, and the station keeps its end.
-use Rattle.channel_bench.proofs.Common.{◌∙◌, ap, subst, Out, first_unquiet, told_pieces, trouble_of, StandsForSide}
+use Rattle.channel_bench.proofs.Common.{refl, ◌∙◌, ap, subst, Out, first_unquiet, told_pieces, trouble_of, StandsForSide}
 use Rattle.channel_bench.proofs.Common.{StandsForWays, queueing_all}
+use Rattle.channel_bench.proofs.SideLemmas.{remembers}
 use Rattle.channel_bench.proofs.side.Side.settle.Goals as goal
 
 pub returns-clause-side : goal.returns-clause-side
 returns-clause-side c = λ end side h.
     let pieces = c.deref.ensures.value ∙ ap (λ (o : Out). o.pieces) c.out.view_is in
-    subst (λ ps. StandsForSide end c.tell.new.self (told_pieces ps side)) pieces (c.in_ok-tell.ensures.told end side h)
+    remembers end c.tell.new.self _ (told_pieces c.args.out.now.pieces side)
+    (subst (λ ps. StandsForSide end c.tell.new.self (told_pieces ps side)) pieces (c.in_ok-tell.ensures.told end side h))
+    (record {
+      end = refl;
+      station = refl;
+      there = refl;
+      reader = refl;
+      program = refl;
+      ear = refl;
+      towards = refl;
+      matched = refl;
+      air = refl;
+      silenced = refl;
+    })
 
 pub returns-clause-flight : goal.returns-clause-flight
 returns-clause-flight c = λ ways h.

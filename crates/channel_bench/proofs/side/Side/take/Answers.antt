@@ -2,6 +2,7 @@
 use Rattle.channel_bench.proofs.Common.{◌≡◌, ◌++◌, refl, sym, subst, ap, ◌∙◌, messages_in, StandsForSide, told_all}
 use Rattle.agwpe_port.specs.Held.{StandsFor}
 use Rattle.channel_bench.proofs.PieceLemmas.{told_messages, told_other}
+use Rattle.station.proofs.MemoryLemmas.{if_took, on_took}
 use Rattle.channel_bench.proofs.side.Side.take.Goals as goal
 
 pub returns-then-piece-ne-PROGRAM-clause-told : goal.returns-then-piece-ne-PROGRAM-clause-told
@@ -23,7 +24,9 @@ returns-clause-told c = λ end side h.
       silenced = refl;
     })
     c.if-piece-ne-PROGRAM.false (subst (λ o. StandsFor c.read_messages.new.reader (side.stream ++ o))
-    c.as_slice.ensures.list (c.in_ok-messages.ensures.stands_for side.stream h.reader))
+    c.as_slice.ensures.list (on_took _ c.read_messages.result c.in_ok-messages.messages c.in_ok-messages.ensures.value
+    (c.read_messages.ensures.stands_for side.stream h.reader)))
     (subst (λ o. messages_in (side.stream ++ o) ≡ messages_in side.stream ++ read) c.as_slice.ensures.list
-    (c.in_ok-messages.ensures.messages side.stream h.reader))
-    (c.in_ok-hear_all.ensures ∙ ap (λ ms. told_all ms c.args.self.now.program) c.deref.ensures.value)
+    (if_took _ c.read_messages.result c.in_ok-messages.messages c.in_ok-messages.ensures.value
+    (c.read_messages.ensures.messages side.stream h.reader)))
+    (c.in_ok-hear_all.ensures.heard ∙ ap (λ ms. told_all ms c.args.self.now.program) c.deref.ensures.value)

@@ -4,8 +4,8 @@ use Rattle.channel_bench.proofs.HostSteps.{tick_step}
 use Rattle.channel_bench.proofs.SideLemmas.{ticks}
 use Rattle.channel_bench.proofs.side.Side.tick.Goals as goal
 
-pub returns : goal.returns
-returns c = λ end n h none.
+pub returns-clause-ticked : goal.returns-clause-ticked
+returns-clause-ticked c = λ end n h none.
     let s = n.side.station in
     let busy = c.busy-busy.result in
     let made = tick_step end busy n c.in_ok-air.field-0.out c.args.self.now _ c.settle.new.self c.args.shared.now
