@@ -1,0 +1,5 @@
+pub mod Tags
+pub mod NearTag
+pub mod Blocks
+pub mod Units
+pub mod BlockEnds
