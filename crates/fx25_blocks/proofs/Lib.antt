@@ -1,3 +1,4 @@
 pub mod Common
 pub mod TagFacts
 pub mod InsideFrames
+pub mod OpenLemmas
