@@ -3,7 +3,7 @@ use Rattle.fx25_blocks.proofs.Common.{◌≡◌, ℕ, zero, suc, ◌+◌, ◌-�
 use Rattle.fx25_blocks.proofs.Common.{◌++◌, length, take, refl, ap, subst, ◌∙◌, sym, inl, inr, arith, append_assoc}
 use Rattle.fx25_blocks.proofs.Common.{append_cancel_left, length-append, take-append-le, take_all, cases_lt, take_at}
 use Rattle.fx25_blocks.proofs.Common.{stuffed_from, stuffed, flag, flags, frame_bits, sent_bits, with_fcs, IsFrame}
-use Rattle.fx25_blocks.proofs.Common.{EndsFrame, OpensWithFrame, Fits, data_bits, data_count}
+use Rattle.fx25_blocks.proofs.Common.{EndsFrame, OpensWithFrame, Fits, bits_needed, data_bits, data_count, padded}
 use Rattle.std.proofs.Math.Seq.{take-append-add}
 use Rattle.hdlc_framer.proofs.BitLemmas.{length-sent_bits}
 use Rattle.hdlc_framer.proofs.FrameEnds.{length-with_fcs, one_frame}
@@ -71,7 +71,7 @@ same_opening frame other rest more is_frame is_other e =
     ]
 
 -- flags and a flag begin with a flag
-first_flag : (count : ℕ) (rest : List Bool) → (more : List Bool) × (flags count ++ (flag ++ rest) ≡ flag ++ more)
+pub first_flag : (count : ℕ) (rest : List Bool) → (more : List Bool) × (flags count ++ (flag ++ rest) ≡ flag ++ more)
 first_flag zero rest = (rest, refl)
 first_flag (suc count) rest = (flags count ++ (flag ++ rest), append_assoc flag (flags count) (flag ++ rest))
 
@@ -111,9 +111,9 @@ flags_some zero some = absurd (omega arith)
 flags_some (suc count) some = (count, refl)
 
 -- the data of a frame's block open with the frame, after one flag
-pub data_opens : (tag : ℕ) (frame : List ℕ) → IsFrame frame → Fits tag frame
+pub data_opens : (tag : ℕ) (frame : List ℕ) → IsFrame frame → Fits tag (bits_needed frame)
     → OpensWithFrame (data_bits tag frame) frame (length (frame_bits frame) + 16)
-unfolding data_bits
+unfolding data_bits padded
 data_opens tag frame is_frame fits =
     let d = data_count tag in
     let xs = frame_bits frame in

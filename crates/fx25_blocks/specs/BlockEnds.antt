@@ -24,17 +24,23 @@ pub record IsRepairOf (tag : ℕ) (word codeword : List ℕ) : Type 0 where
   pub is_codeword : IsBlockCodeword tag codeword
   pub near : 2 * distance word codeword ≤ check_count tag
 
--- The last bits are a tag, near enough, and a block, near enough to a codeword whose data octets open with a frame. The
--- flag behind the frame is over after so many bits of the block.
-pub record EndsBlock (bits : List Bool) (tag : ℕ) (frame : List ℕ) (over : ℕ) : Type 0 where
-  pub before : List Bool
-  pub heard : List Bool
+-- Bits are those of a word near enough to a codeword whose data octets open with a frame. The flag behind the frame is
+-- over after so many bits.
+pub record CarriesFrame (tag : ℕ) (bits : List Bool) (frame : List ℕ) (over : ℕ) : Type 0 where
   pub word : List ℕ
   pub codeword : List ℕ
-  pub is_tag : IsTag tag
-  pub bits_are : bits ≡ before ++ (heard ++ sent_bits word)
-  pub near_tag : IsNearTag tag heard
+  pub bits_are : bits ≡ sent_bits word
   pub octets : All (λ octet. octet < 256) word
   pub size : length word ≡ block_length tag
   pub repair : IsRepairOf tag word codeword
   pub opens : OpensWithFrame (sent_bits (take (data_count tag) codeword)) frame over
+
+-- the last bits are a tag, near enough, and a block that carries a frame
+pub record EndsBlock (bits : List Bool) (tag : ℕ) (frame : List ℕ) (over : ℕ) : Type 0 where
+  pub before : List Bool
+  pub heard : List Bool
+  pub block : List Bool
+  pub is_tag : IsTag tag
+  pub bits_are : bits ≡ before ++ (heard ++ block)
+  pub near_tag : IsNearTag tag heard
+  pub carries : CarriesFrame tag block frame over
