@@ -10,3 +10,4 @@ pub mod RegisterLemmas
 pub mod OptionLemmas
 pub mod ReaderLemmas
 pub mod BlockLaws
+pub mod DamageLemmas

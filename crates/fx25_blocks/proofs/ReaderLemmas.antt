@@ -178,7 +178,6 @@ module _ (ring : List Bool) (tags : List ℕ) (register next taken : ℕ) (b : L
       ∙ sym (get_or-drop (length b - count) b i false))
 
   module _ (tag : ℕ) (is_tag : IsTag tag) where
-
     tag_place : 8 * block_length tag ≤ length b
         → (next + 2048 - 8 * block_length tag) % 2048 ≡ (length b - 8 * block_length tag) % 2048
     tag_place within =

@@ -6,3 +6,4 @@ pub mod BlockEnds
 pub mod Written
 pub mod Opening
 pub mod Held
+pub mod Damage

@@ -28,7 +28,11 @@ const MORE_FLAG_BITS: usize = 1904;
 /// The tag and the block of a frame, bit by bit, with so many check octets: 16, 32 or 64, and the fewest data octets
 /// into which the frame fits. `None` if no tag has as many check octets, or if the frame fits into the data octets of
 /// none of them.
-pub fn write_block(alloc: Global, checks: usize, frame: &Octets) -> Result<Option<Vec<bool>>, OutOfMemory>
+pub fn write_block(
+    alloc: Global,
+    checks: usize,
+    frame: &Octets,
+) -> Result<Option<Vec<bool>>, OutOfMemory>
     ensures block { IfOk result (λ block. IfSome block (λ bits. IsBlockUnit checks frame.now bits.items)) }
     ensures none { IfOk result (λ block. IfNone block (FitsNoTag checks (bits_needed frame.now))) }
 {

@@ -1,11 +1,12 @@
 // Laws on the definitions. A law is the contract of a function that does nothing.
 
-ghost use Rattle.std.specs.Prelude.{◌≡◌, ◌≢◌, ◌*◌, ◌<◌, ◌≤◌, ◌++◌, ℕ, Bool, List, All, length};
+ghost use Rattle.std.specs.Prelude.{◌≡◌, ◌≢◌, ◌+◌, ◌*◌, ◌<◌, ◌≤◌, ◌++◌, ℕ, Bool, List, All, length};
 ghost use Rattle.hdlc_framer.specs.BitOrder.{sent_bits};
 ghost use Rattle.hdlc_framer.specs.Frames.{IsFrame};
 ghost use Rattle.reed_solomon.specs.Distance.{distance};
 ghost use Rattle.fx25_blocks.specs.BlockEnds.{EndsBlock};
 ghost use Rattle.fx25_blocks.specs.Blocks.{IsBlockOf, bits_needed};
+ghost use Rattle.fx25_blocks.specs.Damage.{DifferWithin};
 ghost use Rattle.fx25_blocks.specs.NearTag.{IsNearTag};
 ghost use Rattle.fx25_blocks.specs.Tags.{IsTag, check_count, differing, tag_bits};
 
@@ -32,4 +33,13 @@ pub fn block_is_heard()
         → EndsBlock (before ++ (heard ++ sent_bits word)) tag frame (bits_needed frame)
         × ((other : List ℕ) → (over : ℕ) → EndsBlock (before ++ (heard ++ sent_bits word)) tag other over
         → (other ≡ frame) × (over ≡ bits_needed frame)) }
+{}
+
+/// If the bits of a block came right but for one stretch of at most 4c - 7 bits, c being the number of its check octets,
+/// at most half as many octets are wrong as it has check octets.
+pub fn one_stretch_is_repaired()
+    ensures { (word : List ℕ) → (block : List ℕ) → (tag : ℕ) → (start : ℕ) → (count : ℕ) → IsTag tag
+        → All (λ octet. octet < 256) word → All (λ octet. octet < 256) block → length word ≡ length block
+        → DifferWithin start count (sent_bits word) (sent_bits block) → count + 7 ≤ 4 * check_count tag
+        → 2 * distance word block ≤ check_count tag }
 {}

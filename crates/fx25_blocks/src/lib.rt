@@ -16,10 +16,12 @@ mod recent;
 mod tag_choice;
 mod tag_search;
 mod tags;
+#[cfg(test)]
+mod tests;
 
 pub use block::{write_block, write_unit};
 pub use block_reader::BlockReader;
-pub use laws::{block_is_heard, one_block_ends, tags_are_apart};
+pub use laws::{block_is_heard, one_block_ends, one_stretch_is_repaired, tags_are_apart};
 pub use opening::BlockFrame;
 pub use tag_choice::tag_for;
 pub use tags::{TAGS, block_length, check_count, data_count, tag_value};

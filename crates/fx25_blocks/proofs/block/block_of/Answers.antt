@@ -1,5 +1,5 @@
-use Rattle.fx25_blocks.proofs.Common.{◌≡◌, ℕ, ◌+◌, ◌++◌, ◌<◌, List, length, take, All, ap, subst, sym, ◌∙◌, arith}
-use Rattle.fx25_blocks.proofs.Common.{length-append, take_at, sent_bits, check_count, data_count, block_length}
+use Rattle.fx25_blocks.proofs.Common.{◌≡◌, ℕ, ◌++◌, ◌<◌, List, length, take, All, ap, subst, sym, ◌∙◌, arith}
+use Rattle.fx25_blocks.proofs.Common.{length-append, take_at, sent_bits, check_count, data_count}
 use Rattle.reed_solomon.specs.Codeword.{IsCodewordOf}
 use Rattle.reed_solomon.specs.declared.code.Zeros.{Zeros}
 use Rattle.reed_solomon.specs.declared.code.Zeros.TheVariants.{Between}

@@ -1,4 +1,4 @@
-use Rattle.fx25_blocks.proofs.Common.{◌≡◌, ap, ◌∙◌, body, padded}
+use Rattle.fx25_blocks.proofs.Common.{ap, ◌∙◌, body, padded}
 use Rattle.fx25_blocks.proofs.block.data_line.Goals as goal
 
 pub returns : goal.returns

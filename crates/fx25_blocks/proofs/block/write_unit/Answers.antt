@@ -1,4 +1,4 @@
-use Rattle.fx25_blocks.proofs.Common.{◌≡◌, Bool, List, subst, FitsNoTag, bits_needed, padded}
+use Rattle.fx25_blocks.proofs.Common.{subst, FitsNoTag, bits_needed, padded}
 use Rattle.std.specs.Option.{IfNone}
 use Rattle.fx25_blocks.specs.Units.IsUnit.{plain}
 use Rattle.fx25_blocks.proofs.block.write_unit.Goals as goal

@@ -1,5 +1,4 @@
-use Rattle.fx25_blocks.proofs.Common.{◌≡◌, ◌%◌, ◌≤◌, ap, subst, ◌∙◌, arith, check_count}
-use Rattle.std.specs.Prelude.{IfSome}
+use Rattle.fx25_blocks.proofs.Common.{◌≡◌, ◌%◌, ◌≤◌, ap, ◌∙◌, arith}
 use Rattle.fx25_blocks.proofs.TagFacts.{even_checks, least_checks, most_checks}
 use Rattle.fx25_blocks.proofs.block_code.block_code.Goals as goal
 

@@ -1,4 +1,4 @@
-use Rattle.fx25_blocks.proofs.Common.{◌≡◌, ℕ, ◌<◌, List, length, take, All, ap, subst, sym, ◌∙◌, arith, sent_bits, data_count}
+use Rattle.fx25_blocks.proofs.Common.{◌≡◌, ℕ, ◌<◌, List, take, All, ap, subst, sym, ◌∙◌, sent_bits, data_count}
 use Rattle.fx25_blocks.proofs.Common.{CarriesFrame, IsRepairOf, OpensWithFrame}
 use Rattle.fx25_blocks.proofs.OptionLemmas.{none_from}
 use Rattle.fx25_blocks.proofs.ReaderLemmas.{same_octet_list}

@@ -1,4 +1,4 @@
-use Rattle.fx25_blocks.proofs.Common.{◌+◌, false, take, subst, sym, arith, flag, take_more}
+use Rattle.fx25_blocks.proofs.Common.{false, take, subst, sym, arith, flag, take_more}
 use Rattle.hdlc_framer.specs.Held.{StandsFor}
 use Rattle.fx25_blocks.proofs.opening.after_flag.Goals as goal
 

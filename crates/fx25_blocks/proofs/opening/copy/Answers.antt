@@ -1,4 +1,4 @@
-use Rattle.fx25_blocks.proofs.Common.{◌<◌, length, take, ap, arith, length-take}
+use Rattle.fx25_blocks.proofs.Common.{◌<◌, length, ap, arith, length-take}
 use Rattle.fx25_blocks.proofs.opening.copy.Goals as goal
 
 pub push-requires : goal.push-requires

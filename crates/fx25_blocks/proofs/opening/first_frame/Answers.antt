@@ -1,4 +1,4 @@
-use Rattle.fx25_blocks.proofs.Common.{◌≡◌, ℕ, ◌+◌, ◌<◌, ◌≤◌, Bool, List, false, [], ◌∷◌, ◌++◌, length, take, get_or, subst, sym}
+use Rattle.fx25_blocks.proofs.Common.{◌≡◌, ◌+◌, ◌<◌, false, [], ◌∷◌, ◌++◌, length, take, get_or, subst, sym}
 use Rattle.fx25_blocks.proofs.Common.{◌∙◌, arith, flag, EndsFlag, EndsFrame, BeginsWithFrame}
 use Rattle.hdlc_framer.specs.Events.{EventAt}
 use Rattle.hdlc_framer.specs.Held.{StandsFor}

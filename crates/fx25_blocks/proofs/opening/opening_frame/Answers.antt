@@ -1,4 +1,4 @@
-use Rattle.fx25_blocks.proofs.Common.{◌≡◌, ◌-◌, ◌*◌, ◌<◌, Bool, List, length, take, drop, ap, subst, sym, ◌∙◌, arith, sent_bits}
+use Rattle.fx25_blocks.proofs.Common.{◌≡◌, ◌-◌, ◌*◌, drop, ap, subst, sym, ◌∙◌, arith, sent_bits}
 use Rattle.fx25_blocks.proofs.Common.{BeginsWithFrame}
 use Rattle.std.proofs.lemmas.List.{take_rest}
 use Rattle.fx25_blocks.proofs.LeadingFlags.{begins_behind, opens_before}

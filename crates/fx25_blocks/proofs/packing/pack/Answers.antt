@@ -1,4 +1,4 @@
-use Rattle.fx25_blocks.proofs.Common.{◌≡◌, ◌+◌, ◌*◌, ◌++◌, take, drop, length, ap, sym, ◌∙◌, arith, octet_bits, sent_bits}
+use Rattle.fx25_blocks.proofs.Common.{◌≡◌, ◌+◌, ◌*◌, ◌++◌, take, length, ap, sym, ◌∙◌, arith, octet_bits, sent_bits}
 use Rattle.fx25_blocks.proofs.Common.{length_push}
 use Rattle.std.proofs.Math.Seq.{take-add}
 use Rattle.hdlc_framer.proofs.BitLemmas.{sent_bits-push}

@@ -1,4 +1,4 @@
-use Rattle.fx25_blocks.proofs.Common.{◌≡◌, ℕ, ◌+◌, ◌<◌, ◌≤◌, ap, subst, sym, ◌∙◌, inl, inr, arith, cases_eq, IsTag}
+use Rattle.fx25_blocks.proofs.Common.{◌≡◌, ℕ, ◌+◌, ◌≤◌, ap, subst, sym, ◌∙◌, inl, inr, arith, cases_eq}
 use Rattle.fx25_blocks.proofs.Common.{bits_of_64, differing, tag_bits}
 use Rattle.fx25_blocks.proofs.TagDistance.{length-bits_of_64, one_tag}
 use Rattle.fx25_blocks.proofs.tag_search.near_tag.Goals as goal

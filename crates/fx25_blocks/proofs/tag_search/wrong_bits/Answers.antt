@@ -1,4 +1,4 @@
-use Rattle.fx25_blocks.proofs.Common.{◌∙◌, arith}
+use Rattle.fx25_blocks.proofs.Common.{arith}
 use Rattle.fx25_blocks.proofs.RegisterLemmas.{wrong_bits_are}
 use Rattle.fx25_blocks.proofs.tag_search.wrong_bits.Goals as goal
 
