@@ -1,0 +1,13 @@
+pub mod Common
+pub mod TagFacts
+pub mod InsideFrames
+pub mod OpenLemmas
+pub mod WriteLemmas
+pub mod FirstFrames
+pub mod LeadingFlags
+pub mod TagDistance
+pub mod RegisterLemmas
+pub mod OptionLemmas
+pub mod ReaderLemmas
+pub mod BlockLaws
+pub mod DamageLemmas

@@ -1,0 +1,237 @@
+-- What a reader keeps after one bit more, and what that tells of blocks.
+use Rattle.fx25_blocks.proofs.Common.{◌≡◌, ℕ, ◌+◌, ◌-◌, ◌*◌, ◌%◌, ◌<◌, ◌≤◌, ◌↔◌, min, Bool, false, List, [], ◌∷◌, ◌++◌}
+use Rattle.fx25_blocks.proofs.Common.{length, take, drop, get_or, refl, ap, subst, ◌∙◌, sym, inl, inr, arith, append_assoc}
+use Rattle.fx25_blocks.proofs.Common.{append-nil, length-append, length-drop, length_push, take_all, take_at, take-append-le}
+use Rattle.fx25_blocks.proofs.Common.{drop_at, cases_eq, All, sent_bits, IsTag, IsNearTag, EndsTag, differing, tag_bits}
+use Rattle.fx25_blocks.proofs.Common.{bits_of_64, block_length, EndsBlock, CarriesFrame}
+use Rattle.std.proofs.Common.{replicate, set, length-set}
+use Rattle.std.proofs.Math.Seq.{drop-append-add}
+use Rattle.std.proofs.lemmas.List.{take-append-drop, drop-drop, drop-append-le, ext_get_or, get_or-drop, get_or-set_other}
+use Rattle.std.proofs.lemmas.List.{get_or-set_same, get_or_append_left, get_or_push}
+use Rattle.hdlc_framer.proofs.BitLemmas.{length-sent_bits, same_octets}
+use Rattle.fx25_blocks.specs.Held.{IsTagAt, Kept, after_zeros}
+use Rattle.fx25_blocks.proofs.TagFacts.{most_octets}
+
+pub same_octet_list : (xs ys : List ℕ) → All (λ octet. octet < 256) xs → All (λ octet. octet < 256) ys
+    → sent_bits xs ≡ sent_bits ys → xs ≡ ys
+same_octet_list xs ys fit also e =
+    same_octets xs ys [] [] fit also (omega arith) (omega arith)
+    (append-nil (sent_bits xs) ∙ e ∙ sym (append-nil (sent_bits ys)))
+
+-- ---- tags that end with a bit
+
+-- the last 64 bits
+last_64 : (bits : List Bool) → 64 ≤ length bits → drop (length bits) (after_zeros bits) ≡ drop (length bits - 64) bits
+unfolding after_zeros
+last_64 bits least =
+    let n : ℕ = length bits - 64 in
+    let is : length bits ≡ 64 + n = omega arith in
+    ap (λ k. drop k (after_zeros bits)) is ∙ drop-append-add (replicate 64 false) bits n
+
+tag_told : (bits : List Bool) (tag : ℕ) → EndsTag bits tag
+    → (64 ≤ length bits) × (differing (drop (length bits - 64) bits) (tag_bits tag) ≤ 12)
+tag_told bits tag ends =
+    let size : length bits ≡ length ends.0 + 64 = ap length ends.2 ∙ length-append ends.0 ends.1
+    ∙ ap (λ n. length ends.0 + n) ends.3.size in
+    let heard : drop (length bits - 64) bits ≡ ends.1 = ap (drop (length bits - 64)) ends.2
+    ∙ drop_at ends.0 ends.1 (length bits - 64) (omega arith) in
+    (omega arith, subst (λ xs. differing xs (tag_bits tag) ≤ 12) (sym heard) ends.3.near)
+
+tag_from : (bits : List Bool) (tag : ℕ) → 64 ≤ length bits
+    → differing (drop (length bits - 64) bits) (tag_bits tag) ≤ 12 → EndsTag bits tag
+tag_from bits tag least near =
+    let n : ℕ = length bits - 64 in (
+      take n bits,
+      drop n bits,
+      sym (take-append-drop n bits),
+      record { size = omega (arith, length-drop n bits); near = near },
+    )
+
+-- ---- one bit more
+
+length-after_zeros : (bits : List Bool) → length (after_zeros bits) ≡ 64 + length bits
+unfolding after_zeros
+length-after_zeros bits = length-append (replicate 64 false) bits
+
+after_zeros-push : (bits : List Bool) (bit : Bool) → after_zeros (bits ++ bit ∷ []) ≡ after_zeros bits ++ bit ∷ []
+unfolding after_zeros
+after_zeros-push bits bit = sym (append_assoc (replicate 64 false) bits (bit ∷ []))
+
+-- the last 64 bits after one more
+register_push : (bits : List Bool) (bit : Bool)
+    → drop (length bits + 1) (after_zeros (bits ++ bit ∷ [])) ≡ drop 1 (drop (length bits) (after_zeros bits)) ++ bit ∷ []
+register_push bits bit =
+    let n = length bits in
+    let zeros = after_zeros bits in
+    let size = length-after_zeros bits in
+    let some : 1 ≤ length (drop n zeros) = omega (arith, length-drop n zeros) in
+    ap (drop (n + 1)) (after_zeros-push bits bit) ∙ sym (drop-drop 1 n (zeros ++ bit ∷ []))
+    ∙ ap (drop 1) (drop-append-le n zeros (bit ∷ []) (omega arith))
+    ∙ drop-append-le 1 (drop n zeros) (bit ∷ []) some
+
+pub kept_none : (ring : List Bool) (tags : List ℕ) → length ring ≡ 2048 → length tags ≡ 2048 → Kept ring tags 0 0 0 []
+unfolding after_zeros bits_of_64
+kept_none ring tags ring_size tags_size = record {
+  ring_size = ring_size;
+  tags_size = tags_size;
+  next_is = refl;
+  taken_is = refl;
+  register_is = refl;
+  bits_kept = λ i below near. absurd (omega arith);
+  tags_kept = λ i least most near. absurd (omega arith);
+}
+
+other_place : (i n : ℕ) → i < n → n < i + 2048 → i % 2048 ≡ n % 2048 → ⊥
+other_place i n below near same = omega arith
+
+module _ (ring : List Bool) (tags : List ℕ) (register next taken : ℕ) (b : List Bool)
+    (kept : Kept ring tags register next taken b) where
+  pub kept_push : (bit : Bool) (after tag more : ℕ) → bits_of_64 after ≡ drop 1 (bits_of_64 register) ++ bit ∷ []
+      → ((n : ℕ) → IsTag n → ((tag ≡ n) ↔ (differing (bits_of_64 after) (tag_bits n) ≤ 12)))
+      → more ≡ min 2104 (taken + 1)
+      → Kept (set ring next bit) (set tags ((next + 1) % 2048) tag) after ((next + 1) % 2048) more (b ++ bit ∷ [])
+  kept_push bit after tag more after_is tag_is more_is =
+      let size : length (b ++ bit ∷ []) ≡ length b + 1 = length_push b bit in
+      let next_is = kept.next_is in
+      let taken_is = kept.taken_is in
+      let here : (next + 1) % 2048 ≡ (length b + 1) % 2048 = omega arith in
+      let register_is : bits_of_64 after ≡ drop (length (b ++ bit ∷ [])) (after_zeros (b ++ bit ∷ [])) =
+      after_is ∙ ap (λ xs. drop 1 xs ++ bit ∷ []) kept.register_is ∙ sym (register_push b bit)
+      ∙ ap (λ n. drop n (after_zeros (b ++ bit ∷ []))) (sym size) in
+      record {
+        ring_size = length-set ring next bit ∙ kept.ring_size;
+        tags_size = length-set tags ((next + 1) % 2048) tag ∙ kept.tags_size;
+        next_is = here ∙ ap (λ n. n % 2048) (sym size);
+        taken_is = omega arith;
+        register_is = register_is;
+        bits_kept = λ i below near. bit_at i (omega arith) (omega arith);
+        tags_kept = λ i least most near. tag_at register_is i least (omega arith) (omega arith);
+      }
+    where
+      next_place : (n next : ℕ) → next ≡ n % 2048 → (next + 1) % 2048 ≡ (n + 1) % 2048
+      next_place n next is = omega arith
+
+      bit_at : (i : ℕ) → i < length b + 1 → length b + 1 ≤ i + 2048
+          → get_or (set ring next bit) (i % 2048) false ≡ get_or (b ++ bit ∷ []) i false
+      bit_at i below near =
+          elim (cases_eq i (length b)) [
+            | inl last ↦
+                let place : i % 2048 ≡ next = ap (λ n. n % 2048) last ∙ sym kept.next_is in
+                ap (λ n. get_or (set ring next bit) n false) place
+                ∙ get_or-set_same ring next bit false (omega (arith, kept.next_is, kept.ring_size))
+                ∙ sym (get_or_push b bit false i (sym last))
+            | inr other ↦
+                let apart : i % 2048 ≡ next → ⊥ = λ same. other_place i (length b) (omega arith) (omega arith)
+                (same ∙ kept.next_is) in
+                get_or-set_other ring next (i % 2048) bit false apart
+                ∙ kept.bits_kept i (omega arith) (omega arith)
+                ∙ sym (get_or_append_left b (bit ∷ []) false i (omega arith))
+          ]
+
+      tag_at : bits_of_64 after ≡ drop (length (b ++ bit ∷ [])) (after_zeros (b ++ bit ∷ []))
+          → (i : ℕ) → 64 ≤ i → i ≤ length b + 1 → length b + 1 < i + 2048
+          → IsTagAt (get_or (set tags ((next + 1) % 2048) tag) (i % 2048) 0) (take i (b ++ bit ∷ []))
+      tag_at register_is i least most near =
+          elim (cases_eq i (length b + 1)) [
+            | inl last ↦
+                let size : length (b ++ bit ∷ []) ≡ length b + 1 = length_push b bit in
+                let place : i % 2048 ≡ (next + 1) % 2048 = omega (arith, kept.next_is) in
+                let value : get_or (set tags ((next + 1) % 2048) tag) (i % 2048) 0 ≡ tag =
+                ap (λ n. get_or (set tags ((next + 1) % 2048) tag) n 0) place
+                ∙ get_or-set_same tags ((next + 1) % 2048) tag 0 (omega (arith, kept.tags_size)) in
+                let all : take i (b ++ bit ∷ []) ≡ b ++ bit ∷ [] = take_all i (b ++ bit ∷ []) (omega arith) in
+                let heard : bits_of_64 after ≡ drop (length (b ++ bit ∷ []) - 64) (b ++ bit ∷ []) = register_is
+                ∙ last_64 (b ++ bit ∷ []) (omega arith) in
+                λ n is_tag. (
+                  λ same. subst (λ xs. EndsTag xs n) (sym all) (tag_from (b ++ bit ∷ []) n (omega arith)
+                      (subst (λ xs. differing xs (tag_bits n) ≤ 12) heard ((tag_is n is_tag).0 (sym value ∙ same)))),
+                  λ ends. value ∙ (tag_is n is_tag).1 (subst (λ xs. differing xs (tag_bits n) ≤ 12) (sym heard)
+                      (tag_told (b ++ bit ∷ []) n (subst (λ xs. EndsTag xs n) all ends)).1),
+                )
+            | inr other ↦
+                let apart : i % 2048 ≡ (next + 1) % 2048 → ⊥ = λ same. other_place i (length b + 1) (omega arith)
+                (omega arith) (same ∙ next_place (length b) next kept.next_is) in
+                let value = get_or-set_other tags ((next + 1) % 2048) (i % 2048) tag 0 apart in
+                let front : take i (b ++ bit ∷ []) ≡ take i b = take-append-le i b (bit ∷ []) (omega arith) in
+                let was = kept.tags_kept i least (omega arith) (omega arith) in
+                λ n is_tag. (
+                  λ same. subst (λ xs. EndsTag xs n) (sym front) ((was n is_tag).0 (sym value ∙ same)),
+                  λ ends. value ∙ (was n is_tag).1 (subst (λ xs. EndsTag xs n) front ends),
+                )
+          ]
+
+  -- ---- blocks
+
+  ring_place : (n m i : ℕ) → m ≤ 2040 → m ≤ n → i ≤ m → (n % 2048 + 2048 - m + i) % 2048 ≡ (n - m + i) % 2048
+  ring_place n m i most within below = omega arith
+
+  pub recent_are : (bits : List Bool) (count : ℕ) → count ≤ 2040 → count ≤ length b → length bits ≡ count
+      → ((i : ℕ) → i < count → get_or bits i false ≡ get_or ring ((next + 2048 - count + i) % 2048) false)
+      → bits ≡ drop (length b - count) b
+  recent_are bits count most within size each =
+      ext_get_or false bits (drop (length b - count) b) (omega (arith, length-drop (length b - count) b))
+      (λ i below. let inside : i < count = omega arith in
+      each i inside
+      ∙ ap (λ n. get_or ring ((n + 2048 - count + i) % 2048) false) kept.next_is
+      ∙ ap (λ n. get_or ring n false) (ring_place (length b) count i most within (omega arith))
+      ∙ kept.bits_kept (length b - count + i) (omega arith) (omega arith)
+      ∙ sym (get_or-drop (length b - count) b i false))
+
+  module _ (tag : ℕ) (is_tag : IsTag tag) where
+    tag_place : 8 * block_length tag ≤ length b
+        → (next + 2048 - 8 * block_length tag) % 2048 ≡ (length b - 8 * block_length tag) % 2048
+    tag_place within =
+        let count : ℕ = 8 * block_length tag in
+        let most : count ≤ 2040 = omega (arith, most_octets tag is_tag) in
+        ap (λ n. (n + 2048 - count) % 2048) kept.next_is ∙ place_at (length b) count most within
+      where
+        place_at : (n m : ℕ) → m ≤ 2040 → m ≤ n → (n % 2048 + 2048 - m) % 2048 ≡ (n - m) % 2048
+        place_at n m most within = omega arith
+
+    pub block_from : (frame : List ℕ) (over : ℕ) → 64 + 8 * block_length tag ≤ length b
+        → get_or tags ((next + 2048 - 8 * block_length tag) % 2048) 0 ≡ tag
+        → CarriesFrame tag (drop (length b - 8 * block_length tag) b) frame over → EndsBlock b tag frame over
+    block_from frame over least same carries =
+        let i : ℕ = length b - 8 * block_length tag in
+        let most = most_octets tag is_tag in
+        let here : get_or tags (i % 2048) 0 ≡ tag = ap (λ n. get_or tags n 0) (sym (tag_place (omega arith))) ∙ same in
+        let ends = (kept.tags_kept i (omega arith) (omega arith) (omega arith) tag is_tag).0 here in
+        record {
+          before = ends.0;
+          heard = ends.1;
+          block = drop i b;
+          is_tag = is_tag;
+          bits_are = sym (take-append-drop i b) ∙ ap (λ xs. xs ++ drop i b) ends.2
+              ∙ append_assoc ends.0 ends.1 (drop i b);
+          near_tag = ends.3;
+          carries = carries;
+        }
+
+    pub block_told : (frame : List ℕ) (over : ℕ) → EndsBlock b tag frame over
+        → (64 + 8 * block_length tag ≤ length b)
+        × (get_or tags ((next + 2048 - 8 * block_length tag) % 2048) 0 ≡ tag)
+        × CarriesFrame tag (drop (length b - 8 * block_length tag) b) frame over
+    block_told frame over ends =
+        let i : ℕ = length b - 8 * block_length tag in
+        let most = most_octets tag is_tag in
+        let block_size : length ends.block ≡ 8 * block_length tag = ap length ends.carries.bits_are
+        ∙ length-sent_bits ends.carries.word ∙ ap (λ n. 8 * n) ends.carries.size in
+        let whole : b ≡ (ends.before ++ ends.heard) ++ ends.block = ends.bits_are
+        ∙ sym (append_assoc ends.before ends.heard ends.block) in
+        let front_size : length (ends.before ++ ends.heard) ≡ length ends.before + 64 =
+        length-append ends.before ends.heard ∙ ap (λ n. length ends.before + n) ends.near_tag.size in
+        let size : length b ≡ length ends.before + 64 + 8 * block_length tag = omega (
+          arith,
+          ap length whole,
+          length-append (ends.before ++ ends.heard) ends.block,
+        ) in
+        let front : take i b ≡ ends.before ++ ends.heard = ap (take i) whole
+        ∙ take_at (ends.before ++ ends.heard) ends.block i (omega arith) in
+        let back : drop i b ≡ ends.block = ap (drop i) whole
+        ∙ drop_at (ends.before ++ ends.heard) ends.block i (omega arith) in
+        let tag_ends : EndsTag (take i b) tag = (ends.before, ends.heard, front, ends.near_tag) in
+        let here = (kept.tags_kept i (omega arith) (omega arith) (omega arith) tag is_tag).1 tag_ends in (
+          omega arith,
+          ap (λ n. get_or tags n 0) (tag_place (omega arith)) ∙ here,
+          subst (λ xs. CarriesFrame tag xs frame over) (sym back) ends.carries,
+        )

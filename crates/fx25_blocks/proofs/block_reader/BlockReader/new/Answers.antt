@@ -1,0 +1,7 @@
+use Rattle.fx25_blocks.proofs.Common.{ℕ, Bool, false}
+use Rattle.std.proofs.lemmas.List.{length-replicate}
+use Rattle.fx25_blocks.proofs.ReaderLemmas.{kept_none}
+use Rattle.fx25_blocks.proofs.block_reader.BlockReader.new.Goals as goal
+
+pub returns : goal.returns
+returns c = kept_none _ _ (length-replicate {A = Bool} 2048 false) (length-replicate {A = ℕ} 2048 0)

@@ -1,0 +1,5 @@
+use Rattle.fx25_blocks.proofs.Common.{◌≡◌, ◌++◌, low_bits}
+use Rattle.fx25_blocks.proofs.packing.push_octet.Given as goal
+
+abbrev pub invariant-loop-place : goal.invariant-loop-place
+invariant-loop-place l = l.bits.items ≡ l.initial.bits.items ++ low_bits l.place l.octet

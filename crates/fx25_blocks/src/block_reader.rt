@@ -1,0 +1,87 @@
+// Blocks in a line of bits.
+
+ghost use Rattle.std.specs.Prelude.{◌≡◌, ℕ, ◌+◌, ◌<◌, ◌≤◌, min, Bool, List, [], ◌∷◌, ◌++◌, IfSome};
+ghost use Rattle.std.specs.Option.{IfNone};
+ghost use Rattle.fx25_blocks.specs.BlockEnds.{EndsBlock};
+ghost use Rattle.fx25_blocks.specs.Tags.{IsTag};
+
+use crate::block_reading::read_block;
+use crate::opening::BlockFrame;
+use crate::recent::{RING, recent};
+use crate::tag_search::{near_tag, shifted};
+use crate::tags::block_length;
+
+// A block of 255 octets and its tag are so many bits.
+const MOST_TAKEN: usize = 2104;
+
+/// Finds the blocks in a line of bits. Every tag is followed, also one that comes while a block comes in: the reader keeps
+/// the last bits, and which tag ended with each.
+#[derive(Drop)]
+pub struct BlockReader {
+    bits: [bool; 2048],
+    tags: [u8; 2048],
+    register: u64,
+    next: usize,
+    taken: usize,
+    ghost place: { next < 2048 },
+    ghost most: { taken ≤ 2104 },
+}
+
+impl BlockReader {
+    ghost use Rattle.fx25_blocks.specs.Held.{StandsFor};
+
+    /// A reader that has taken no bit.
+    pub fn new() -> BlockReader
+        ensures { StandsFor result [] }
+    {
+        BlockReader {
+            bits: [false; RING],
+            tags: [0; RING],
+            register: 0,
+            next: 0,
+            taken: 0,
+        }
+    }
+
+    /// Takes the next bit, `true` for a 1.
+    pub fn push(&mut self, bit: bool)
+        ensures { (b : List Bool) → StandsFor self.old b → StandsFor self.new (b ++ bit ∷ []) }
+    {
+        self.register = shifted(self.register, bit);
+        self.bits[self.next] = bit;
+        self.next = (self.next + 1) % RING;
+        self.tags[self.next] = near_tag(self.register);
+        self.taken = one_more(self.taken);
+    }
+
+    /// The frame of the block that the last bit ends, if it is a block of this tag, which has a number from 1 to 11.
+    pub fn frame(&self, tag: u8) -> Option<BlockFrame>
+        requires { IsTag tag }
+        ensures frame { (b : List Bool) → StandsFor self.now b
+            → IfSome result (λ found. EndsBlock b tag found.octets.items found.over) }
+        ensures none { (b : List Bool) → StandsFor self.now b
+            → IfNone result ((frame : List ℕ) → (over : ℕ) → ¬ EndsBlock b tag frame over) }
+    {
+        let count = 8 * block_length(tag);
+        let needed = 64 + count;
+        let taken = self.taken;
+        if taken < needed {
+            return None;
+        }
+        let kept = self.tags[(self.next + RING - count) % RING];
+        if kept != tag {
+            return None;
+        }
+        let bits = recent(&self.bits, self.next, count);
+        read_block(tag, bits.as_slice())
+    }
+}
+
+// One bit more, up to as many as a reader looks back.
+fn one_more(taken: usize) -> usize
+    requires { taken ≤ 2104 }
+    ensures value { result ≡ min 2104 (taken + 1) }
+    ensures most { result ≤ 2104 }
+{
+    if taken < MOST_TAKEN { taken + 1 } else { taken }
+}
