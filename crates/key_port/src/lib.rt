@@ -1,0 +1,20 @@
+//! The line to `rigctld`, the daemon of hamlib that turns a transmitter on and off: one over the sockets and the clock of
+//! the system, and one in memory that goes as a script says.
+//!
+//! The calls are made in this order: `connect`, and then in each turn `now`, `read` and the `write`s, until `hang_up`.
+//! What is promised: a line in memory tells each connection with the commands that were written on it and the octets
+//! that came, in order, and with each command how much sound the output had by then, so that commands and sound stand
+//! in one order that no caller can turn.
+#![tactic(auto)]
+
+mod key_port;
+mod key_records;
+mod mem_key;
+mod real_key;
+#[cfg(test)]
+mod tests;
+
+pub use key_port::KeyPort;
+pub use key_records::{KeyCame, KeyStep, KeyWrite};
+pub use mem_key::{KeyOutcome, LineRecord, MemKeyPort};
+pub use real_key::RealKeyPort;

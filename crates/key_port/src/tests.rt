@@ -1,0 +1,197 @@
+//! A line over a script, and one on loopback.
+
+use crate::{KeyCame, KeyOutcome, KeyPort, KeyStep, KeyWrite, MemKeyPort, RealKeyPort};
+use keying::{Command, End};
+use std::alloc::{AllocError, Global};
+use std::fmt::Debug;
+use std::io::{Read, Write};
+use std::net::{Ipv4Addr, Net, SocketAddr, TcpListener};
+use std::process::Abort;
+use std::test::Fail;
+use tnc_base::{Failed, MemSink, Octets, OutOfMemory, Sink};
+
+/// Ends the test, with both values, unless they are equal.
+fn assert_equal<R: Abort, T: PartialEq + Debug>(rt: &R, got: &T, wanted: &T) {
+    assert_eq!(*rt; *got, *wanted);
+}
+
+/// The commands and the octets of all connections, in order.
+fn told(alloc: Global, key: &MemKeyPort) -> Result<Vec<u8>, AllocError> {
+    let mut text = Vec::new(alloc);
+    for line in key.lines() {
+        for step in &line.steps {
+            match step {
+                KeyStep::Wrote { command, .. } => text.extend_from_slice(command.text())?,
+                KeyStep::Read { octets, .. } => text.extend_from_slice(octets.as_slice())?,
+            }
+        }
+    }
+    Ok(text)
+}
+
+/// How many octets the output had at each command.
+fn had_at_commands(alloc: Global, key: &MemKeyPort) -> Result<Vec<usize>, AllocError> {
+    let mut all = Vec::new(alloc);
+    for line in key.lines() {
+        for step in &line.steps {
+            if let KeyStep::Wrote { had, .. } = step {
+                all.push(*had)?;
+            }
+        }
+    }
+    Ok(all)
+}
+
+/// The first connection fails and the first write is early; the fifth call brings an answer, and the last one the end.
+fn script(alloc: Global) -> Result<Vec<(u64, KeyOutcome)>, OutOfMemory> {
+    let octets = Octets::from_slice(alloc, b"RPRT 0\n")?;
+    let mut script = Vec::new(alloc);
+    script.push((0, KeyOutcome::Fails))?;
+    script.push((2, KeyOutcome::IsEarly))?;
+    script.push((4, KeyOutcome::Brings { octets }))?;
+    script.push((6, KeyOutcome::Ends))?;
+    Ok(script)
+}
+
+/// A read that brings so many octets, or ends so.
+fn came(count: usize, end: Option<End>) -> KeyCame {
+    KeyCame { count, end }
+}
+
+#[test]
+fn a_script_says_how_each_call_goes(rt: HostRuntime) -> Result<(), Fail> {
+    let alloc = rt.alloc();
+    let mut output = MemSink::new(alloc, 192, Vec::new(alloc))?;
+    let mut key = MemKeyPort::new(alloc, script(alloc)?, 10);
+    let mut buffer = [0; 64];
+    assert_equal(&rt, &key.connect(&rt, 4532), &Err(Failed));
+    assert_equal(&rt, &key.connect(&rt, 4532), &Ok(()));
+    assert_equal(
+        &rt,
+        &key.write(Command::Release, &output),
+        &KeyWrite::NotYet,
+    );
+    assert_equal(&rt, &key.write(Command::Release, &output), &KeyWrite::Whole);
+    assert_equal(&rt, &key.now(), &10);
+    assert_equal(&rt, &key.read(&mut buffer), &came(7, None));
+    output.write(&[1; 192])?;
+    assert_equal(&rt, &key.write(Command::Key, &output), &KeyWrite::Whole);
+    assert_equal(&rt, &key.read(&mut buffer), &came(0, Some(End::Closed)));
+    key.hang_up();
+    assert_equal(&rt, &key.read(&mut buffer), &came(0, None));
+    assert_equal(
+        &rt,
+        &key.write(Command::Release, &output),
+        &KeyWrite::Failed,
+    );
+    assert_equal(
+        &rt,
+        &told(alloc, &key)?.as_slice(),
+        &b"T 0\nRPRT 0\nT 1\n".as_slice(),
+    );
+    assert_equal(
+        &rt,
+        &had_at_commands(alloc, &key)?.as_slice(),
+        &[0, 192].as_slice(),
+    );
+    Ok(())
+}
+
+/// How often a test looks whether something has come to pass.
+const LOOKS: u32 = 200;
+
+/// What a write comes to once the connection stands or has failed.
+fn written<K: KeyPort<MemSink>>(key: &mut K, command: Command, output: &MemSink) -> KeyWrite {
+    for _ in 0..LOOKS {
+        let how = key.write(command, output);
+        if how != KeyWrite::NotYet {
+            return how;
+        }
+        key.rest();
+    }
+    KeyWrite::NotYet
+}
+
+/// The first read that brings octets or an end.
+fn read<K: KeyPort<MemSink>>(key: &mut K, buffer: &mut [u8; 64]) -> KeyCame {
+    for _ in 0..LOOKS {
+        let came = key.read(buffer);
+        if came.count > 0 || came.end.is_some() {
+            return came;
+        }
+        key.rest();
+    }
+    came(0, None)
+}
+
+fn connects<R: Net, K: KeyPort<MemSink>>(rt: &R, key: &mut K, port: u16) -> Result<(), Failed> {
+    key.connect(rt, port)
+}
+
+fn hangs_up<K: KeyPort<MemSink>>(key: &mut K) {
+    key.hang_up();
+}
+
+/// For how many ms a rest lasts, by the clock of the line.
+fn rested<K: KeyPort<MemSink>>(key: &mut K) -> u64 {
+    let before = key.now();
+    key.rest();
+    key.now().saturating_sub(before)
+}
+
+fn at(port: u16) -> SocketAddr {
+    SocketAddr::from((Ipv4Addr::LOCALHOST, port))
+}
+
+#[test]
+fn a_daemon_answers_on_loopback(rt: HostRuntime) -> Result<(), Fail> {
+    let alloc = rt.alloc();
+    let listener = TcpListener::bind(&rt, at(0))?;
+    let output = MemSink::new(alloc, 0, Vec::new(alloc))?;
+    let mut key = RealKeyPort::new(&rt);
+    connects(&rt, &mut key, listener.local_addr()?.port())?;
+    let (mut daemon, _) = listener.accept()?;
+    let mut command = [0; 4];
+    assert_equal(
+        &rt,
+        &written(&mut key, Command::Release, &output),
+        &KeyWrite::Whole,
+    );
+    daemon.read_exact(&mut command)?;
+    assert_equal(&rt, &command, b"T 0\n");
+    daemon.write_all(b"RPRT 0\n")?;
+    let mut buffer = [0; 64];
+    assert_equal(&rt, &read(&mut key, &mut buffer), &came(7, None));
+    assert_equal(&rt, &buffer.starts_with(b"RPRT 0\n"), &true);
+    drop(daemon);
+    assert_equal(
+        &rt,
+        &read(&mut key, &mut buffer),
+        &came(0, Some(End::Closed)),
+    );
+    hangs_up(&mut key);
+    assert_equal(
+        &rt,
+        &written(&mut key, Command::Release, &output),
+        &KeyWrite::Failed,
+    );
+    Ok(())
+}
+
+#[test]
+fn a_daemon_that_is_not_there_refuses(rt: HostRuntime) -> Result<(), Fail> {
+    let alloc = rt.alloc();
+    let port = TcpListener::bind(&rt, at(0))?.local_addr()?.port();
+    let output = MemSink::new(alloc, 0, Vec::new(alloc))?;
+    let mut key = RealKeyPort::new(&rt);
+    let begun = connects(&rt, &mut key, port);
+    let how = written(&mut key, Command::Release, &output);
+    assert_equal(&rt, &(begun.is_err() || how == KeyWrite::Failed), &true);
+    Ok(())
+}
+
+#[test]
+fn a_rest_takes_ten_milliseconds(rt: HostRuntime) {
+    let mut key = RealKeyPort::new(&rt);
+    assert!(rt; rested(&mut key) >= 9);
+}
