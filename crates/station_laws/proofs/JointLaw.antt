@@ -43,7 +43,7 @@ pub step_rising :
     → Stepped e (hears_ask step.input) l r pa pb n sb qa qb out_pairs back_pairs w step.after
     (steps_of (is_between l r) step)
 step_rising e l r pa pb n sb qa qb out_pairs back_pairs w full step h rises station is queue back_order =
-    takes e (hears_ask step.input) l r pa pb n step.before sb qa qb out_pairs back_pairs w h rises
+    takes (hears_ask step.input) l r pa pb n step.before sb qa qb out_pairs back_pairs w h e rises
     step.input step.after step.turn step.octets
     (λ never. none_heard e full back_pairs r l qb n w.a.towards step back_order is
     (λ octets hears. never octets hears.input hears.event) h.back)

@@ -250,69 +250,6 @@ popped_by s hearer full pairs queue n towards step octets done (p ∷ ps)
 
 -- ---- a step of one station, as its end sees it
 
-abbrev pub setting_of :
-    (on : Bool) (l r : Callsign) (pa pb : Params) (n : ℕ) (sa sb : StationState) (qa qb : List LinkFrame)
-    (out_pairs back_pairs : List Pair) (w : World) → Between l r pa pb n sa sb qa qb out_pairs back_pairs w → Setting
-setting_of on l r pa pb n sa sb qa qb out_pairs back_pairs w h = record {
-  local = l;
-  remote = r;
-  params = pa;
-  earlier = qa;
-  on_ask = on;
-  done = h.out.done;
-  rest = h.out.rest;
-  heard = n;
-  rises = h.out.rises;
-  below = h.out.below;
-  far = w.b.end;
-}
-
-begins :
-    (on : Bool) (l r : Callsign) (pa pb : Params) (n : ℕ) (sa sb : StationState) (qa qb : List LinkFrame)
-    (out_pairs back_pairs : List Pair) (w : World) (h : Between l r pa pb n sa sb qa qb out_pairs back_pairs w)
-    → Holds (setting_of on l r pa pb n sa sb qa qb out_pairs back_pairs w h) w.a.towards (begin sa) w
-begins on l r pa pb n sa sb qa qb out_pairs back_pairs w h = record {
-  parameters = h.near.parameters;
-  table = h.near.table;
-  end_params = h.near.end_params;
-  tags = h.out.tags;
-  tagged_as = subst (AreTags l r h.out.tags) (sym (append-nil qa)) h.out.tagged;
-  ahead = h.out.ahead;
-  far_is = refl;
-  back_is = refl;
-}
-
-ends :
-    (on : Bool) (l r : Callsign) (pa pb : Params) (n : ℕ) (sa sb : StationState) (qa qb : List LinkFrame)
-    (out_pairs back_pairs : List Pair) (w : World) (h : Between l r pa pb n sa sb qa qb out_pairs back_pairs w)
-    → RiseFrom (n + 1) 0 h.out.rest → (stays : List Tagged) → Sent r l qb back_pairs (n + 1) stays → (after : Turn)
-    → (next : World) → Holds (setting_of on l r pa pb n sa sb qa qb out_pairs back_pairs w h) stays after next
-    → Between l r pa pb (n + 1) after.now sb (qa ++ framed on after.out.queued) qb out_pairs back_pairs next
-ends on l r pa pb n sa sb qa qb out_pairs back_pairs w h rises stays back after next H = record {
-  near = record { parameters = H.parameters; table = H.table; end_params = H.end_params };
-  far = record {
-    parameters = h.far.parameters;
-    table = subst (λ (m : Machine). IsTable pb (is_between r l) sb.links m)
-        (sym (ap (λ (x : RecordedEnd). x.machine) H.far_is)) h.far.table;
-    end_params = ap (λ (x : RecordedEnd). x.machine.params) H.far_is ∙ h.far.end_params;
-  };
-  out = record {
-    done = h.out.done;
-    rest = h.out.rest;
-    split = h.out.split;
-    rises = rises;
-    below = each_weaker (λ (p : Pair). p.sent < length qa) (λ (p : Pair). p.sent
-        < length (qa ++ framed on after.out.queued))
-        (λ p less. let size = length-append qa (framed on after.out.queued) in omega arith) h.out.done h.out.below;
-    before = each_weaker (λ (p : Pair). p.heard < n) (λ (p : Pair). p.heard < n + 1) (λ p less. omega arith)
-        h.out.done h.out.before;
-    tags = H.tags;
-    tagged = H.tagged_as;
-    ahead = H.ahead;
-  };
-  back = subst (Sent r l qb back_pairs (n + 1)) (sym H.back_is) back;
-}
-
 -- what a step comes to
 pub record Stepped (e : End) (on : Bool) (l r : Callsign) (pa pb : Params) (n : ℕ) (sb : StationState)
     (qa qb : List LinkFrame)
@@ -324,67 +261,113 @@ pub record Stepped (e : End) (on : Bool) (l r : Callsign) (pa pb : Params) (n : 
   pub left : (near_all e out_pairs (length qa) steps w).a.towards ≡ stays
   pub follows : AllFollowNear e stays out_pairs (length qa) steps w
 
-finishes :
-    (e : End) (on : Bool) (l r : Callsign) (pa pb : Params) (n : ℕ) (sa sb : StationState) (qa qb : List LinkFrame)
-    (out_pairs back_pairs : List Pair) (w : World) (h : Between l r pa pb n sa sb qa qb out_pairs back_pairs w)
-    → RiseFrom (n + 1) 0 h.out.rest → (stays : List Tagged) → Sent r l qb back_pairs (n + 1) stays → (after : Turn)
-    → (steps : List LinkStep)
-    → Kept (setting_of on l r pa pb n sa sb qa qb out_pairs back_pairs w h) e stays after steps w
-    → Stepped e on l r pa pb n sb qa qb out_pairs back_pairs w after steps
-finishes e on l r pa pb n sa sb qa qb out_pairs back_pairs w h rises stays back after steps k = record {
-  between = subst (λ ps. Between l r pa pb (n + 1) after.now sb (qa ++ framed on after.out.queued)
-      qb out_pairs back_pairs
-      (near_all e ps (length qa) steps w)) (sym h.out.split)
-      (ends on l r pa pb n sa sb qa qb out_pairs back_pairs w h rises stays back after
-      (near_all e (h.out.done ++ h.out.rest) (length qa) steps w) k.0);
-  stays = stays;
-  left = subst (λ ps. (near_all e ps (length qa) steps w).a.towards ≡ stays) (sym h.out.split) k.0.back_is;
-  follows = subst (λ ps. AllFollowNear e stays ps (length qa) steps w) (sym h.out.split) k.1;
-}
+module _ (on : Bool) (l r : Callsign) (pa pb : Params) (n : ℕ) (sa sb : StationState) (qa qb : List LinkFrame)
+    (out_pairs back_pairs : List Pair) (w : World) (h : Between l r pa pb n sa sb qa qb out_pairs back_pairs w) where
+  abbrev pub setting_of : Setting
+  setting_of = record {
+    local = l;
+    remote = r;
+    params = pa;
+    earlier = qa;
+    on_ask = on;
+    done = h.out.done;
+    rest = h.out.rest;
+    heard = n;
+    rises = h.out.rises;
+    below = h.out.below;
+    far = w.b.end;
+  }
 
--- whatever the step takes
-pub takes :
-    (e : End) (on : Bool) (l r : Callsign) (pa pb : Params) (n : ℕ) (sa sb : StationState) (qa qb : List LinkFrame)
-    (out_pairs back_pairs : List Pair) (w : World) (h : Between l r pa pb n sa sb qa qb out_pairs back_pairs w)
-    → RiseFrom (n + 1) 0 h.out.rest → (input : Input) → (after : Turn) → (turn : IsTurn input (begin sa) after)
-    → HasOctets input
-    → (((octets : List ℕ) → IsOffAir input octets → turn_steps is_some input (begin sa) after turn ≢ [] → ⊥)
-    → Sent r l qb back_pairs (n + 1) w.a.towards)
-    → ((octets : List ℕ) → IsOffAir input octets → turn_steps is_some input (begin sa) after turn ≢ []
-    → Popped (setting_of on l r pa pb n sa sb qa qb out_pairs back_pairs w h) octets qb back_pairs n w.a.towards)
-    → Stepped e on l r pa pb n sb qa qb out_pairs back_pairs w after
-    (turn_steps (is_between l r) input (begin sa) after turn)
-takes e on l r pa pb n sa sb qa qb out_pairs back_pairs w h rises (FromHost event) after turn octets calm popped =
-    finishes e on l r pa pb n sa sb qa qb out_pairs back_pairs w h rises w.a.towards (calm (λ o off some. off)) after
-    (turn_steps (is_between l r) (FromHost event) (begin sa) after turn)
-    (host_goes (setting_of on l r pa pb n sa sb qa qb out_pairs back_pairs w h) e w.a.towards event (begin sa)
-    after turn w
-    (begins on l r pa pb n sa sb qa qb out_pairs back_pairs w h))
-takes e on l r pa pb n sa sb qa qb out_pairs back_pairs w h rises (OfClock busy) after turn octets calm popped =
-    let s = setting_of on l r pa pb n sa sb qa qb out_pairs back_pairs w h in
-    let ticked = ticks_go s e w.a.towards (begin sa) w (begins on l r pa pb n sa sb qa qb out_pairs back_pairs w h) in
-    let steps = turn_steps (is_between l r) (OfClock busy) (begin sa) after turn in
-    finishes e on l r pa pb n sa sb qa qb out_pairs back_pairs w h rises w.a.towards (calm (λ o off some. off))
-    after steps
-    (subst (λ t. Kept s e w.a.towards t steps w) (sym turn.effect) (
-      still_holds s w.a.towards (ticking_links (begin sa)) (ticking busy turn.monitored (begin sa))
-          (near_all e (s.done ++ s.rest) (length s.earlier) steps w)
-          ticked.0 refl refl refl,
-      ticked.1,
-    ))
-takes e on l r pa pb n sa sb qa qb out_pairs back_pairs w h rises (OffAir octets) after turn low calm popped =
-    let s = setting_of on l r pa pb n sa sb qa qb out_pairs back_pairs w h in
-    let H : Holds s w.a.towards (begin sa) w = begins on l r pa pb n sa sb qa qb out_pairs back_pairs w h in
-    let own = turn_steps (is_between l r) (OffAir octets) (begin sa) after turn in
-    let any = turn_steps is_some (OffAir octets) (begin sa) after turn in
-    elim (heard_outcome s e octets (begin sa) after low H.parameters H.table.size turn) [
-      | Passed calmly none none_any ↦
-          finishes e on l r pa pb n sa sb qa qb out_pairs back_pairs w h rises w.a.towards
-          (calm (λ o off some. some none_any)) after own
-          (subst (λ steps. Kept s e w.a.towards after steps w) (sym none)
-          (still_goes s e w.a.towards (begin sa) after calmly w H))
-      | Event goes some ↦
-          let p = popped octets refl some in
-          finishes e on l r pa pb n sa sb qa qb out_pairs back_pairs w h rises p.stays p.sent after own
-          (goes w w.a.towards p.stays p.pop H)
-    ]
+  begins : Holds setting_of w.a.towards (begin sa) w
+  begins = record {
+    parameters = h.near.parameters;
+    table = h.near.table;
+    end_params = h.near.end_params;
+    tags = h.out.tags;
+    tagged_as = subst (AreTags l r h.out.tags) (sym (append-nil qa)) h.out.tagged;
+    ahead = h.out.ahead;
+    far_is = refl;
+    back_is = refl;
+  }
+
+  ends :
+      RiseFrom (n + 1) 0 h.out.rest → (stays : List Tagged) → Sent r l qb back_pairs (n + 1) stays → (after : Turn)
+      → (next : World) → Holds setting_of stays after next
+      → Between l r pa pb (n + 1) after.now sb (qa ++ framed on after.out.queued) qb out_pairs back_pairs next
+  ends rises stays back after next H = record {
+    near = record { parameters = H.parameters; table = H.table; end_params = H.end_params };
+    far = record {
+      parameters = h.far.parameters;
+      table = subst (λ (m : Machine). IsTable pb (is_between r l) sb.links m)
+          (sym (ap (λ (x : RecordedEnd). x.machine) H.far_is)) h.far.table;
+      end_params = ap (λ (x : RecordedEnd). x.machine.params) H.far_is ∙ h.far.end_params;
+    };
+    out = record {
+      done = h.out.done;
+      rest = h.out.rest;
+      split = h.out.split;
+      rises = rises;
+      below = each_weaker (λ (p : Pair). p.sent < length qa) (λ (p : Pair). p.sent
+          < length (qa ++ framed on after.out.queued))
+          (λ p less. let size = length-append qa (framed on after.out.queued) in omega arith) h.out.done h.out.below;
+      before = each_weaker (λ (p : Pair). p.heard < n) (λ (p : Pair). p.heard < n + 1) (λ p less. omega arith)
+          h.out.done h.out.before;
+      tags = H.tags;
+      tagged = H.tagged_as;
+      ahead = H.ahead;
+    };
+    back = subst (Sent r l qb back_pairs (n + 1)) (sym H.back_is) back;
+  }
+
+  finishes :
+      (e : End) → RiseFrom (n + 1) 0 h.out.rest → (stays : List Tagged) → Sent r l qb back_pairs (n + 1) stays
+      → (after : Turn) → (steps : List LinkStep) → Kept setting_of e stays after steps w
+      → Stepped e on l r pa pb n sb qa qb out_pairs back_pairs w after steps
+  finishes e rises stays back after steps k = record {
+    between = subst (λ ps. Between l r pa pb (n + 1) after.now sb (qa ++ framed on after.out.queued)
+        qb out_pairs back_pairs
+        (near_all e ps (length qa) steps w)) (sym h.out.split)
+        (ends rises stays back after (near_all e (h.out.done ++ h.out.rest) (length qa) steps w) k.0);
+    stays = stays;
+    left = subst (λ ps. (near_all e ps (length qa) steps w).a.towards ≡ stays) (sym h.out.split) k.0.back_is;
+    follows = subst (λ ps. AllFollowNear e stays ps (length qa) steps w) (sym h.out.split) k.1;
+  }
+
+  -- whatever the step takes
+  pub takes :
+      (e : End) → RiseFrom (n + 1) 0 h.out.rest → (input : Input) → (after : Turn)
+      → (turn : IsTurn input (begin sa) after) → HasOctets input
+      → (((octets : List ℕ) → IsOffAir input octets → turn_steps is_some input (begin sa) after turn ≢ [] → ⊥)
+      → Sent r l qb back_pairs (n + 1) w.a.towards)
+      → ((octets : List ℕ) → IsOffAir input octets → turn_steps is_some input (begin sa) after turn ≢ []
+      → Popped setting_of octets qb back_pairs n w.a.towards)
+      → Stepped e on l r pa pb n sb qa qb out_pairs back_pairs w after
+      (turn_steps (is_between l r) input (begin sa) after turn)
+  takes e rises (FromHost event) after turn octets calm popped =
+      finishes e rises w.a.towards (calm (λ o off some. off)) after
+      (turn_steps (is_between l r) (FromHost event) (begin sa) after turn)
+      (host_goes setting_of e w.a.towards event (begin sa) after turn w begins)
+  takes e rises (OfClock busy) after turn octets calm popped =
+      let s = setting_of in
+      let ticked = ticks_go s e w.a.towards (begin sa) w begins in
+      let steps = turn_steps (is_between l r) (OfClock busy) (begin sa) after turn in
+      finishes e rises w.a.towards (calm (λ o off some. off)) after steps
+      (subst (λ t. Kept s e w.a.towards t steps w) (sym turn.effect) (
+        still_holds s w.a.towards (ticking_links (begin sa)) (ticking busy turn.monitored (begin sa))
+            (near_all e (s.done ++ s.rest) (length s.earlier) steps w)
+            ticked.0 refl refl refl,
+        ticked.1,
+      ))
+  takes e rises (OffAir octets) after turn low calm popped =
+      let s = setting_of in
+      let H : Holds s w.a.towards (begin sa) w = begins in
+      let own = turn_steps (is_between l r) (OffAir octets) (begin sa) after turn in
+      elim (heard_outcome s e octets (begin sa) after low H.parameters H.table.size turn) [
+        | Passed calmly none none_any ↦
+            finishes e rises w.a.towards (calm (λ o off some. some none_any)) after own
+            (subst (λ steps. Kept s e w.a.towards after steps w) (sym none)
+            (still_goes s e w.a.towards (begin sa) after calmly w H))
+        | Event goes some ↦
+            let p = popped octets refl some in
+            finishes e rises p.stays p.sent after own (goes w w.a.towards p.stays p.pop H)
+      ]
