@@ -1,7 +1,7 @@
 //! KISS: streams and items from outside.
 
 use crate::assert_equal;
-use kiss_port::{KissIn, KissItem, write_kiss};
+use kiss_port::{KissFault, KissHostIn, KissIn, KissItem, write_kiss};
 use std::alloc::Global;
 use std::slice;
 use std::test::Fail;
@@ -173,6 +173,68 @@ fn what_is_written_has_its_escapes(rt: HostRuntime) -> Result<(), Fail> {
         assert!(rt; *port < 16 && *command < 16);
         let stream = write_kiss(rt.alloc(), *port, *command, octets)?;
         assert_equal(&rt, &(*port, stream.as_slice()), &(*port, *want));
+    }
+    Ok(())
+}
+
+/// Each row: the octets of a host's connection, and the place of the octet at which it is refused, if it is.
+const CONNECTIONS: &[(&[u8], Option<usize>)] = &[
+    (b"GET / HTTP/1.1\r\n", Some(3)),
+    (b"HEAD / HTTP/1.1\r\n", Some(4)),
+    (b"POST / HTTP/1.1\r\n\r\n\xc0\x00\x05\xc0", Some(4)),
+    (b"PUT / HTTP/1.1\r\n", Some(3)),
+    (b"DELETE / HTTP/1.1\r\n", Some(6)),
+    (b"CONNECT a:1 HTTP/1.1\r\n", Some(7)),
+    (b"OPTIONS * HTTP/1.1\r\n", Some(7)),
+    (b"TRACE / HTTP/1.1\r\n", Some(5)),
+    (b"PATCH / HTTP/1.1\r\n", Some(5)),
+    (b"PRI * HTTP/2.0\r\n\r\nSM\r\n\r\n", Some(3)),
+    (b"\x16\x03\x01\x00\xf8\x01", Some(1)),
+    (b"\x16\x03\x03\x00\xf8\x01", Some(1)),
+    (b"", None),
+    (b"PO", None),
+    (b"POST", None),
+    (b"GETTY 38400\r", None),
+    (b"get / HTTP/1.1\r\n", None),
+    (b"Post / HTTP/1.1\r\n", None),
+    (b"GET\t/ HTTP/1.1\r\n", None),
+    (b" GET / HTTP/1.1\r\n", None),
+    (b"PRIMUS ", None),
+    (b"\x16\x04\x01", None),
+    (b"\x17\x03\x03", None),
+    (b"\xc0GET / HTTP/1.1\r\n", None),
+    (b"\xc0\x16\x03\x01", None),
+    (b"\xc0\x00\x05\xc0POST / HTTP/1.1\r\n", None),
+    (b"kiss on\r\xc0\x00\x05\xc0", None),
+];
+
+/// The place of the first octet that is refused as a program's of the web. Every later one is, and none is for another
+/// cause.
+fn refused_at(alloc: Global, octets: &[u8]) -> Result<Option<usize>, Fail> {
+    let mut reader = KissHostIn::new(alloc);
+    let mut refused = None;
+    for (place, octet) in octets.iter().enumerate() {
+        match reader.push(*octet) {
+            Ok(_) => {
+                if refused.is_some() {
+                    return Err(Fail::new("taken after a refusal"));
+                }
+            }
+            Err(KissFault::WebRequest) => refused = refused.or(Some(place)),
+            Err(KissFault::Memory) => return Err(Fail::new("no memory")),
+        }
+    }
+    if reader.is_web_request() != refused.is_some() {
+        return Err(Fail::new("refused, and not told so"));
+    }
+    Ok(refused)
+}
+
+#[test]
+fn a_program_of_the_web_is_refused_at_its_beginning(rt: HostRuntime) -> Result<(), Fail> {
+    for (octets, want) in CONNECTIONS {
+        let refused = refused_at(rt.alloc(), octets)?;
+        assert_equal(&rt, &(*octets, refused), &(*octets, *want));
     }
     Ok(())
 }

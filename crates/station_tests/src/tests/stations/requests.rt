@@ -266,6 +266,51 @@ fn too_long_a_body_closes(rt: HostRuntime) -> Result<(), Fail> {
     Ok(())
 }
 
+/// Each row: the octets of a KISS connection in two pieces, how many octets are sent for them, whether it is closed.
+const BY_KISS: &[(&[u8], &[u8], usize, bool)] = &[
+    (b"kiss on\r", b"\xc0\0ABCDEFGHIJKLMNO\xc0", 15, false),
+    (
+        b"POST / HTTP/1.1\r\n\r\n\xc0\0ABCDEFGHIJKLMNO\xc0",
+        b"",
+        0,
+        true,
+    ),
+    (
+        b"POST",
+        b" / HTTP/1.1\r\n\r\n\xc0\0ABCDEFGHIJKLMNO\xc0",
+        0,
+        true,
+    ),
+    (b"PRI ", b"\xc0\0ABCDEFGHIJKLMNO\xc0", 0, true),
+    (b"\x16", b"\x03\x01\xc0\0ABCDEFGHIJKLMNO\xc0", 0, true),
+    (
+        b"\xc0\0ABCDEFGHIJKLMNO\xc0",
+        b"GET / HTTP/1.1\r\n",
+        15,
+        false,
+    ),
+];
+
+/// How many octets are sent for those of a KISS connection, and whether it is closed.
+fn sent_by_kiss(alloc: Global, front: &[u8], rest: &[u8]) -> Result<(usize, bool), Fail> {
+    let mut desk = Desk::new(alloc, Params::default())?;
+    desk.send_at_once()?;
+    desk.join(4, PortKind::Kiss)?;
+    desk.take(4, front)?;
+    desk.take(4, rest)?;
+    let sent = desk.tick(40)?.len();
+    Ok((sent, desk.out().closed.as_slice() == [4].as_slice()))
+}
+
+#[test]
+fn a_program_of_the_web_sends_nothing(rt: HostRuntime) -> Result<(), Fail> {
+    for (front, rest, sent, closed) in BY_KISS {
+        let got = sent_by_kiss(rt.alloc(), front, rest)?;
+        assert_equal(&rt, &(*front, got), &(*front, (*sent, *closed)));
+    }
+    Ok(())
+}
+
 /// Connection 1 registers AAAA, and leaves in the middle of a message.
 fn come_and_go(desk: &mut Desk) -> Result<(), Fail> {
     desk.register(1, "AAAA")?;
