@@ -1,6 +1,8 @@
 -- One block ends with a bit, and the block of a frame is heard.
-use Rattle.fx25_blocks.proofs.Common.{◌≡◌, ℕ, ◌+◌, ◌-◌, ◌*◌, ◌<◌, ◌≤◌, Bool, List, ◌++◌, length, take, drop, refl, ap, subst}
-use Rattle.fx25_blocks.proofs.Common.{◌∙◌, sym, arith, append_assoc, length-append, drop_at, All, sent_bits, distance, IsFrame}
+use Rattle.fx25_blocks.proofs.Common.{◌≡◌, ℕ, ◌+◌, ◌-◌, ◌*◌, ◌<◌, ◌≤◌, Bool, List, ◌++◌, length, take, drop, refl, ap}
+use Rattle.fx25_blocks.proofs.Common.{subst}
+use Rattle.fx25_blocks.proofs.Common.{◌∙◌, sym, arith, append_assoc, length-append, drop_at, All, sent_bits, distance}
+use Rattle.fx25_blocks.proofs.Common.{IsFrame}
 use Rattle.fx25_blocks.proofs.Common.{IsTag, IsNearTag, IsBlockOf, IsRepairOf, EndsBlock, CarriesFrame, OpensWithFrame}
 use Rattle.fx25_blocks.proofs.Common.{bits_needed, block_length, check_count, data_count}
 use Rattle.hdlc_framer.proofs.BitLemmas.{length-sent_bits}
@@ -71,7 +73,8 @@ one_block bits tag frame other over other_over first second =
     one_frame_carried tag second.block frame other over other_over first.is_tag
     (subst (λ xs. CarriesFrame tag xs frame over) blocks first.carries) second.carries
 
-pub heard_block : (before heard : List Bool) (word : List ℕ) (tag : ℕ) (frame block : List ℕ) → IsTag tag → IsFrame frame
+pub heard_block : (before heard : List Bool) (word : List ℕ) (tag : ℕ) (frame block : List ℕ) → IsTag tag
+    → IsFrame frame
     → IsBlockOf tag frame block → IsNearTag tag heard → All (λ octet. octet < 256) word → length word ≡ length block
     → 2 * distance word block ≤ check_count tag
     → EndsBlock (before ++ (heard ++ sent_bits word)) tag frame (bits_needed frame)

@@ -12,13 +12,15 @@ pub use Rattle.hdlc_framer.specs.BitOrder.{low_bits, number_of, sent_bits}
 unfoldable pub use Rattle.hdlc_framer.specs.BitOrder.{octet_bits}
 pub use Rattle.hdlc_framer.specs.Body.{flags}
 unfoldable pub use Rattle.hdlc_framer.specs.Body.{body}
+unfoldable pub use Rattle.hdlc_framer.specs.CheckSequence.{fcs_of}
 pub use Rattle.hdlc_framer.specs.Counted.{left_after, stuffed_from}
 pub use Rattle.hdlc_framer.specs.Frames.{EndsAbort, EndsFlag, EndsFrame, IsFrame, run_of_ones}
 unfoldable pub use Rattle.hdlc_framer.specs.Frames.{frame_bits, with_fcs}
 pub use Rattle.hdlc_framer.specs.Stuffing.{flag, stuffed}
 unfoldable pub use Rattle.reed_solomon.specs.Distance.{distance}
 pub use Rattle.std.proofs.Common.{Bool, List, [], add-one, ap, append-nil, append_assoc, arith, bit_and, bit_xor, cond}
-pub use Rattle.std.proofs.Common.{drop, eqb, false, get_or, inl, inr, leb, length, length-append, min, refl, subst, suc, sym}
+pub use Rattle.std.proofs.Common.{drop, replicate, eqb, false, get_or, inl, inr, leb, length, length-append, min, refl, subst, suc}
+pub use Rattle.std.proofs.Common.{sym}
 pub use Rattle.std.proofs.Common.{take, true, zero, ℕ, ◌%◌, ◌*◌, ◌++◌, ◌+◌, ◌-◌, ◌/◌, ◌<◌, ◌^◌, ◌↔◌, ◌∙◌, ◌∷◌, ◌≡◌, ◌≤◌}
 pub use Rattle.std.proofs.lemmas.Bool.{agree_below_at, cases_eq, cases_lt, eqb-true, false≢true, leb-true, true≢false}
 pub use Rattle.std.proofs.lemmas.List.{append_cancel_left, drop_at, length-drop, length-take, length-take-le, take_all}

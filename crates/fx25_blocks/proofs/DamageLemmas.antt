@@ -1,6 +1,8 @@
 -- Bits that differ in one stretch are those of octets that differ in few.
-use Rattle.fx25_blocks.proofs.Common.{◌≡◌, ℕ, zero, suc, ◌+◌, ◌-◌, ◌*◌, ◌/◌, ◌%◌, ◌<◌, ◌≤◌, Bool, true, false, cond, eqb, List, []}
-use Rattle.fx25_blocks.proofs.Common.{◌∷◌, ◌++◌, length, get_or, refl, ap, ◌∙◌, sym, inl, inr, arith, cases_lt, All, distance}
+use Rattle.fx25_blocks.proofs.Common.{◌≡◌, ℕ, zero, suc, ◌+◌, ◌-◌, ◌*◌, ◌/◌, ◌%◌, ◌<◌, ◌≤◌, Bool, true, false, cond}
+use Rattle.fx25_blocks.proofs.Common.{eqb, List, []}
+use Rattle.fx25_blocks.proofs.Common.{◌∷◌, ◌++◌, length, get_or, refl, ap, ◌∙◌, sym, inl, inr, arith, cases_lt, All}
+use Rattle.fx25_blocks.proofs.Common.{distance}
 use Rattle.fx25_blocks.proofs.Common.{sent_bits, octet_bits, number_of}
 use Rattle.std.proofs.Common.{◌⊎◌}
 use Rattle.std.proofs.lemmas.Bool.{eq-eqb}
@@ -39,7 +41,8 @@ distance_between (x ∷ xs) (y ∷ ys) (suc low) high size same =
 distance_between (x ∷ xs) (y ∷ ys) zero high size same =
     elim (cases_lt 0 high) [
       | inl some ↦
-          let rest = distance_between xs ys 0 (high - 1) (omega arith) (λ j outside. same (suc j) (shifted j outside)) in
+          let rest = distance_between xs ys 0 (high - 1) (omega arith)
+          (λ j outside. same (suc j) (shifted j outside)) in
           omega (arith, rest, at_most_one x y (distance xs ys))
       | inr none ↦
           let first : x ≡ y = same 0 (inr none) in

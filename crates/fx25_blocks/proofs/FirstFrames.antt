@@ -1,8 +1,11 @@
 -- The first event after a flag tells whether bits begin with a frame.
 use Rattle.fx25_blocks.proofs.Common.{◌≡◌, ℕ, zero, suc, ◌+◌, ◌-◌, ◌<◌, ◌≤◌, Bool, true, false, List, [], ◌∷◌, ◌++◌}
-use Rattle.fx25_blocks.proofs.Common.{length, take, drop, get_or, refl, ap, subst, ◌∙◌, sym, inl, inr, arith, append_assoc}
-use Rattle.fx25_blocks.proofs.Common.{append_cancel_left, length-append, length-take, length_push, take-append-le, take_all}
-use Rattle.fx25_blocks.proofs.Common.{take_at, take_more, take-take, cases_lt, cases_eq, flag, frame_bits, sent_bits, with_fcs, IsFrame}
+use Rattle.fx25_blocks.proofs.Common.{length, take, drop, get_or, refl, ap, subst, ◌∙◌, sym, inl, inr, arith}
+use Rattle.fx25_blocks.proofs.Common.{append_assoc}
+use Rattle.fx25_blocks.proofs.Common.{append_cancel_left, length-append, length-take, length_push, take-append-le}
+use Rattle.fx25_blocks.proofs.Common.{take_all}
+use Rattle.fx25_blocks.proofs.Common.{take_at, take_more, take-take, cases_lt, cases_eq, flag, frame_bits, sent_bits}
+use Rattle.fx25_blocks.proofs.Common.{with_fcs, IsFrame}
 use Rattle.fx25_blocks.proofs.Common.{EndsFlag, EndsAbort, EndsFrame, BeginsWithFrame, NoFlagWithin}
 use Rattle.std.proofs.Math.Seq.{take-append-add}
 use Rattle.std.proofs.lemmas.List.{take-append-drop}

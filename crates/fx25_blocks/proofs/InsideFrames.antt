@@ -1,6 +1,7 @@
 -- Between the first flag of a frame and the end of its last one, no flag and no abort ends.
 use Rattle.fx25_blocks.proofs.Common.{◌≡◌, ℕ, zero, suc, ◌+◌, ◌-◌, ◌<◌, ◌≤◌, Bool, true, false, List, [], ◌∷◌, ◌++◌}
-use Rattle.fx25_blocks.proofs.Common.{length, take, refl, ap, subst, ◌∙◌, sym, inl, inr, arith, append_assoc, append-nil}
+use Rattle.fx25_blocks.proofs.Common.{length, take, refl, ap, subst, ◌∙◌, sym, inl, inr, arith, append_assoc}
+use Rattle.fx25_blocks.proofs.Common.{append-nil}
 use Rattle.fx25_blocks.proofs.Common.{length-append, take_all, take-append-le, cases_lt, same_from_push, left_after}
 use Rattle.fx25_blocks.proofs.Common.{stuffed_from, stuffed, flag, frame_bits, sent_bits, with_fcs, run_of_ones}
 use Rattle.fx25_blocks.proofs.Common.{EndsFlag, EndsAbort, get_or, take_more}
@@ -86,7 +87,8 @@ module _ (bits : List Bool) where
   no_abort_inside k below abort =
       omega (arith, (run_before k below).0, run_of_ones-append (take k (stuffed bits ++ flag)) flag, abort)
 
-  pub no_flag_inside : (k : ℕ) → 0 < k → k < length (stuffed bits) + 8 → ¬ EndsFlag (flag ++ take k (stuffed bits ++ flag))
+  pub no_flag_inside : (k : ℕ) → 0 < k → k < length (stuffed bits) + 8
+      → ¬ EndsFlag (flag ++ take k (stuffed bits ++ flag))
   no_flag_inside k some below ends =
       let line = stuffed bits ++ flag in
       let size : length line ≡ length (stuffed bits) + 8 = length-append (stuffed bits) flag in

@@ -1,7 +1,9 @@
 -- The flags that octets begin with, and their bits.
-use Rattle.fx25_blocks.proofs.Common.{◌≡◌, ℕ, zero, suc, ◌+◌, ◌-◌, ◌*◌, ◌<◌, ◌≤◌, Bool, List, [], ◌∷◌, ◌++◌, length, take}
+use Rattle.fx25_blocks.proofs.Common.{◌≡◌, ℕ, zero, suc, ◌+◌, ◌-◌, ◌*◌, ◌<◌, ◌≤◌, Bool, List, [], ◌∷◌, ◌++◌, length}
+use Rattle.fx25_blocks.proofs.Common.{take}
 use Rattle.fx25_blocks.proofs.Common.{drop, get_or, refl, ap, subst, ◌∙◌, sym, arith, add-one, append_assoc, All}
-use Rattle.fx25_blocks.proofs.Common.{append_cancel_left, take_at, flag, flags, frame_bits, sent_bits, octet_bits, number_of}
+use Rattle.fx25_blocks.proofs.Common.{append_cancel_left, take_at, flag, flags, frame_bits, sent_bits, octet_bits}
+use Rattle.fx25_blocks.proofs.Common.{number_of}
 use Rattle.fx25_blocks.proofs.Common.{IsFrame, OpensWithFrame, BeginsWithFrame, Leading}
 use Rattle.std.proofs.lemmas.List.Elements.{All-head, All-tail}
 use Rattle.hdlc_framer.proofs.BitLemmas.{length-octet_bits, number_of-octet_bits}
@@ -50,7 +52,8 @@ module _ (frame : List ℕ) (rest : List Bool) (is_frame : IsFrame frame) where
       none_first xs e = cc
   same_flags (x ∷ xs) zero more fit leading e =
       let first = first_flag more (frame_bits frame ++ (flag ++ rest)) in
-      absurd (leading.next (omega arith) (is_flag x (sent_bits xs) first.0 (All-head (λ y. y < 256) x xs fit) (e ∙ first.1)))
+      absurd (leading.next (omega arith)
+      (is_flag x (sent_bits xs) first.0 (All-head (λ y. y < 256) x xs fit) (e ∙ first.1)))
   same_flags (x ∷ xs) (suc count) zero fit leading e =
       let first : x ≡ 126 = leading.are_flags 0 (omega arith) in
       let here : octet_bits x ≡ flag = ap octet_bits first ∙ flag_octet in
@@ -77,7 +80,8 @@ pub begins_behind : (octets : List ℕ) (count : ℕ) (frame : List ℕ) (over :
     → Leading count octets → OpensWithFrame (sent_bits octets) frame over
     → (0 < count) × BeginsWithFrame (sent_bits (drop count octets)) frame (over - 8 * count)
 begins_behind octets count frame over fit leading opens =
-    let same = same_flags frame opens.rest opens.is_frame octets count opens.flags_before fit leading opens.bits_are in (
+    let same = same_flags frame opens.rest opens.is_frame octets count opens.flags_before fit leading
+    opens.bits_are in (
       omega (arith, same.0),
       record {
         rest = opens.rest;

@@ -11,3 +11,4 @@ pub mod OptionLemmas
 pub mod ReaderLemmas
 pub mod BlockLaws
 pub mod DamageLemmas
+mod Examples

@@ -26,7 +26,8 @@ no_flag_first (false ∷ true ∷ true ∷ true ∷ true ∷ []) rest more long 
 no_flag_first (false ∷ true ∷ true ∷ true ∷ true ∷ false ∷ bits) rest more long e = cc
 no_flag_first (false ∷ true ∷ true ∷ true ∷ true ∷ true ∷ bits) rest more long e = cc
 
-pub frame_no_flag : (frame : List ℕ) (rest more : List Bool) → IsFrame frame → frame_bits frame ++ rest ≡ flag ++ more → ⊥
+pub frame_no_flag : (frame : List ℕ) (rest more : List Bool) → IsFrame frame
+    → frame_bits frame ++ rest ≡ flag ++ more → ⊥
 unfolding frame_bits
 frame_no_flag frame rest more is_frame e =
     no_flag_first (sent_bits (with_fcs frame)) rest more
@@ -82,17 +83,20 @@ module _ (frame other : List ℕ) (rest more : List Bool) (is_frame : IsFrame fr
   same_after zero zero e =
       (refl, same_opening frame other rest more is_frame is_other (append_cancel_left flag _ _ e))
   same_after zero (suc n) e =
-      let cut = append_cancel_left flag _ _ (e ∙ append_assoc flag (flags n) (flag ++ (frame_bits other ++ (flag ++ more))))
+      let cut = append_cancel_left flag _ _ (e
+      ∙ append_assoc flag (flags n) (flag ++ (frame_bits other ++ (flag ++ more))))
       in
       let first = first_flag n (frame_bits other ++ (flag ++ more)) in
       absurd (frame_no_flag frame (flag ++ rest) first.0 is_frame (cut ∙ first.1))
   same_after (suc m) zero e =
-      let cut = append_cancel_left flag _ _ (sym e ∙ append_assoc flag (flags m) (flag ++ (frame_bits frame ++ (flag ++ rest))))
+      let cut = append_cancel_left flag _ _ (sym e
+      ∙ append_assoc flag (flags m) (flag ++ (frame_bits frame ++ (flag ++ rest))))
       in
       let first = first_flag m (frame_bits frame ++ (flag ++ rest)) in
       absurd (frame_no_flag other (flag ++ more) first.0 is_other (cut ∙ first.1))
   same_after (suc m) (suc n) e =
-      let cut = append_cancel_left flag _ _ (sym (append_assoc flag (flags m) (flag ++ (frame_bits frame ++ (flag ++ rest))))
+      let cut = append_cancel_left flag _ _
+      (sym (append_assoc flag (flags m) (flag ++ (frame_bits frame ++ (flag ++ rest))))
       ∙ e ∙ append_assoc flag (flags n) (flag ++ (frame_bits other ++ (flag ++ more)))) in
       let same = same_after m n cut in
       (ap suc same.0, same.1)

@@ -1,12 +1,15 @@
 -- What a reader keeps after one bit more, and what that tells of blocks.
 use Rattle.fx25_blocks.proofs.Common.{◌≡◌, ℕ, ◌+◌, ◌-◌, ◌*◌, ◌%◌, ◌<◌, ◌≤◌, ◌↔◌, min, Bool, false, List, [], ◌∷◌, ◌++◌}
-use Rattle.fx25_blocks.proofs.Common.{length, take, drop, get_or, refl, ap, subst, ◌∙◌, sym, inl, inr, arith, append_assoc}
-use Rattle.fx25_blocks.proofs.Common.{append-nil, length-append, length-drop, length_push, take_all, take_at, take-append-le}
+use Rattle.fx25_blocks.proofs.Common.{length, take, drop, get_or, refl, ap, subst, ◌∙◌, sym, inl, inr, arith}
+use Rattle.fx25_blocks.proofs.Common.{append_assoc}
+use Rattle.fx25_blocks.proofs.Common.{append-nil, length-append, length-drop, length_push, take_all, take_at}
+use Rattle.fx25_blocks.proofs.Common.{take-append-le}
 use Rattle.fx25_blocks.proofs.Common.{drop_at, cases_eq, All, sent_bits, IsTag, IsNearTag, EndsTag, differing, tag_bits}
 use Rattle.fx25_blocks.proofs.Common.{bits_of_64, block_length, EndsBlock, CarriesFrame}
 use Rattle.std.proofs.Common.{replicate, set, length-set}
 use Rattle.std.proofs.Math.Seq.{drop-append-add}
-use Rattle.std.proofs.lemmas.List.{take-append-drop, drop-drop, drop-append-le, ext_get_or, get_or-drop, get_or-set_other}
+use Rattle.std.proofs.lemmas.List.{take-append-drop, drop-drop, drop-append-le, ext_get_or, get_or-drop}
+use Rattle.std.proofs.lemmas.List.{get_or-set_other}
 use Rattle.std.proofs.lemmas.List.{get_or-set_same, get_or_append_left, get_or_push}
 use Rattle.hdlc_framer.proofs.BitLemmas.{length-sent_bits, same_octets}
 use Rattle.fx25_blocks.specs.Held.{IsTagAt, Kept, after_zeros}
@@ -59,7 +62,8 @@ after_zeros-push bits bit = sym (append_assoc (replicate 64 false) bits (bit ∷
 
 -- the last 64 bits after one more
 register_push : (bits : List Bool) (bit : Bool)
-    → drop (length bits + 1) (after_zeros (bits ++ bit ∷ [])) ≡ drop 1 (drop (length bits) (after_zeros bits)) ++ bit ∷ []
+    → drop (length bits + 1) (after_zeros (bits ++ bit ∷ []))
+    ≡ drop 1 (drop (length bits) (after_zeros bits)) ++ bit ∷ []
 register_push bits bit =
     let n = length bits in
     let zeros = after_zeros bits in

@@ -1,6 +1,8 @@
 -- A register of bits: how it differs from another, and one bit more.
-use Rattle.fx25_blocks.proofs.Common.{◌≡◌, ℕ, zero, suc, ◌+◌, ◌-◌, ◌*◌, ◌/◌, ◌%◌, ◌^◌, ◌<◌, Bool, true, false, eqb, bit_xor}
-use Rattle.fx25_blocks.proofs.Common.{List, [], ◌∷◌, ◌++◌, drop, refl, ap, subst, ◌∙◌, sym, inl, inr, arith, add-one, cases_eq}
+use Rattle.fx25_blocks.proofs.Common.{◌≡◌, ℕ, zero, suc, ◌+◌, ◌-◌, ◌*◌, ◌/◌, ◌%◌, ◌^◌, ◌<◌, Bool, true, false, eqb}
+use Rattle.fx25_blocks.proofs.Common.{bit_xor}
+use Rattle.fx25_blocks.proofs.Common.{List, [], ◌∷◌, ◌++◌, drop, refl, ap, subst, ◌∙◌, sym, inl, inr, arith, add-one}
+use Rattle.fx25_blocks.proofs.Common.{cases_eq}
 use Rattle.fx25_blocks.proofs.Common.{low_bits, bits_of_64, differing}
 use Rattle.std.proofs.Math.Nat.{pow-suc}
 use Rattle.std.proofs.lemmas.Bool.{eq-eqb, ne_eqb}

@@ -1,6 +1,8 @@
 -- Any two tags differ in 32 bits, so bits are near one tag at most.
-use Rattle.fx25_blocks.proofs.Common.{◌≡◌, ℕ, zero, suc, ◌+◌, ◌-◌, ◌*◌, ◌/◌, ◌%◌, ◌<◌, ◌≤◌, Bool, true, false, cond, eqb}
-use Rattle.fx25_blocks.proofs.Common.{leb, List, [], ◌∷◌, length, refl, ap, subst, ◌∙◌, sym, inl, inr, arith, agree_below_at}
+use Rattle.fx25_blocks.proofs.Common.{◌≡◌, ℕ, zero, suc, ◌+◌, ◌-◌, ◌*◌, ◌/◌, ◌%◌, ◌<◌, ◌≤◌, Bool, true, false, cond}
+use Rattle.fx25_blocks.proofs.Common.{eqb}
+use Rattle.fx25_blocks.proofs.Common.{leb, List, [], ◌∷◌, length, refl, ap, subst, ◌∙◌, sym, inl, inr, arith}
+use Rattle.fx25_blocks.proofs.Common.{agree_below_at}
 use Rattle.fx25_blocks.proofs.Common.{cases_eq, leb-true, IsTag, IsNearTag, differing, tag_bits, bits_of_64, tag_value}
 use Rattle.std.proofs.lemmas.Bool.{cond-false, ne_eqb}
 use Rattle.hdlc_framer.proofs.BitLemmas.{length-low_bits}

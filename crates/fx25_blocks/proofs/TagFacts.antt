@@ -1,6 +1,7 @@
 -- What all tags have in common, by computation.
 use Rattle.fx25_blocks.proofs.Common.{◌≡◌, ℕ, ◌+◌, ◌%◌, ◌<◌, ◌≤◌, true, leb, eqb, refl, arith, agree_below_at, leb-true}
-use Rattle.fx25_blocks.proofs.Common.{eqb-true, IsTag, block_length, check_count, data_count, cond, ◌/◌, ◌*◌, subst, sym, ◌∙◌}
+use Rattle.fx25_blocks.proofs.Common.{eqb-true, IsTag, block_length, check_count, data_count, cond, ◌/◌, ◌*◌, subst}
+use Rattle.fx25_blocks.proofs.Common.{sym, ◌∙◌}
 use Rattle.std.proofs.lemmas.Bool.{cond-true, eq-eqb, le-leb}
 
 pub most_data : (tag : ℕ) → IsTag tag → data_count tag ≤ 239
@@ -33,7 +34,8 @@ fewer_at : (k : ℕ) → k < 144
     (leb (data_count (k % 12)) (data_count (k / 12))) true) true ≡ true
 unfolding check_count data_count
 fewer_at k below = agree_below_at (λ j. cond (eqb (check_count (j / 12)) (check_count (j % 12)))
-    (cond (leb (j / 12) (j % 12)) (leb (data_count (j % 12)) (data_count (j / 12))) true) true) (λ _. true) 144 k refl below
+    (cond (leb (j / 12) (j % 12)) (leb (data_count (j % 12)) (data_count (j / 12))) true) true)
+    (λ _. true) 144 k refl below
 
 pub fewer_data : (m n : ℕ) → IsTag m → IsTag n → m ≤ n → check_count m ≡ check_count n → data_count n ≤ data_count m
 fewer_data m n is_m is_n before same =

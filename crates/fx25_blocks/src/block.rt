@@ -47,8 +47,8 @@ pub fn write_block(
     }
 }
 
-/// A frame as it stands between the flags of a transmission: the tag and its block, or if it fits into none, a flag, the
-/// frame and a flag.
+/// A frame as it stands between the flags of a transmission: the tag and its block, or if it fits into none, a flag,
+/// the frame and a flag.
 pub fn write_unit(alloc: Global, checks: usize, frame: &Octets) -> Result<Vec<bool>, OutOfMemory>
     ensures { IfOk result (λ bits. IsUnit checks frame.now bits.items) }
 {

@@ -14,8 +14,8 @@ use crate::tags::block_length;
 // A block of 255 octets and its tag are so many bits.
 const MOST_TAKEN: usize = 2104;
 
-/// Finds the blocks in a line of bits. Every tag is followed, also one that comes while a block comes in: the reader keeps
-/// the last bits, and which tag ended with each.
+/// Finds the blocks in a line of bits. Every tag is followed, also one that comes while a block comes in: the reader
+/// keeps the last bits, and which tag ended with each. It takes no memory beyond its own size.
 #[derive(Drop)]
 pub struct BlockReader {
     bits: [bool; 2048],

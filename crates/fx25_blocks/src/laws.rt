@@ -35,8 +35,8 @@ pub fn block_is_heard()
         → (other ≡ frame) × (over ≡ bits_needed frame)) }
 {}
 
-/// If the bits of a block came right but for one stretch of at most 4c - 7 bits, c being the number of its check octets,
-/// at most half as many octets are wrong as it has check octets.
+/// If the bits of a block came right but for one stretch of at most 4c - 7 bits, c being the number of its check
+/// octets, at most half as many octets are wrong as it has check octets.
 pub fn one_stretch_is_repaired()
     ensures { (word : List ℕ) → (block : List ℕ) → (tag : ℕ) → (start : ℕ) → (count : ℕ) → IsTag tag
         → All (λ octet. octet < 256) word → All (λ octet. octet < 256) block → length word ≡ length block

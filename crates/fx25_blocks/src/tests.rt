@@ -78,8 +78,8 @@ fn no_tag_has_other_counts(rt: HostRuntime) {
     assert!(rt; block.is_none());
 }
 
-// After how many bits of its block the frame is over that a reader hears, or 0 if it hears none. Each third octet of the
-// block is sent wrong, so many in all, and so many bits of the tag are.
+// After how many bits of its block the frame is over that a reader hears, or 0 if it hears none. Each third octet of
+// the block is sent wrong, so many in all, and so many bits of the tag are.
 fn heard(rt: &impl Abort, wrong: usize, wrong_tag_bits: usize) -> usize {
     let mut reader = BlockReader::new();
     for (place, octet) in UNIT_16.iter().enumerate() {

@@ -50,8 +50,10 @@ returns c =
       octets = subst P c.as_slice-3.ensures.value c.are_octets.ensures;
       carried = ap (λ xs. sent_bits (take (data_count tag) xs)) whole
           ∙ ap sent_bits (take_at front checks (data_count tag) count) ∙ c.pack-block.ensures.bits;
-      codeword = subst (λ root. Q root (check_count tag) Between c.push_all.new.word.items) c.block_code.ensures.first_root
+      codeword = subst (λ root. Q root (check_count tag) Between c.push_all.new.word.items)
+          c.block_code.ensures.first_root
           (subst (λ n. Q code.first_root n Between c.push_all.new.word.items) c.block_code.ensures.check_count
-          (subst (λ zeros. Q code.first_root code.check_count zeros c.push_all.new.word.items) c.block_code.ensures.zeros
+          (subst (λ zeros. Q code.first_root code.check_count zeros c.push_all.new.word.items)
+          c.block_code.ensures.zeros
           (subst (Q code.first_root code.check_count code.zeros) word c.check_octets-checks.ensures.codeword)));
     }

@@ -1,4 +1,5 @@
-use Rattle.fx25_blocks.proofs.Common.{◌≡◌, ◌-◌, ◌*◌, Bool, List, length, take, ap, subst, ◌∙◌, arith, FitsNoTag, IsTagFor}
+use Rattle.fx25_blocks.proofs.Common.{◌≡◌, ◌-◌, ◌*◌, Bool, List, length, take, ap, subst, ◌∙◌, arith, FitsNoTag}
+use Rattle.fx25_blocks.proofs.Common.{IsTagFor}
 use Rattle.fx25_blocks.proofs.Common.{IsWritten, bits_needed, padded, data_count, length-take}
 use Rattle.fx25_blocks.proofs.TagFacts.{most_data}
 use Rattle.fx25_blocks.proofs.WriteLemmas.{length-padded, unit_written}

@@ -1,4 +1,5 @@
-use Rattle.fx25_blocks.proofs.Common.{◌≡◌, ℕ, ◌+◌, ◌-◌, take, drop, ap, sym, ◌∙◌, arith, low_bits, octet_bits, take-take}
+use Rattle.fx25_blocks.proofs.Common.{◌≡◌, ℕ, ◌+◌, ◌-◌, take, drop, ap, sym, ◌∙◌, arith, low_bits, octet_bits}
+use Rattle.fx25_blocks.proofs.Common.{take-take}
 use Rattle.fx25_blocks.proofs.packing.octet_at.Goals as goal
 
 pub returns : goal.returns

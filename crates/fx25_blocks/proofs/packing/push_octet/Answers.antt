@@ -1,4 +1,5 @@
-use Rattle.fx25_blocks.proofs.Common.{◌≡◌, ◌<◌, ◌/◌, ◌^◌, ◌∷◌, [], ◌++◌, length, eqb, ap, sym, ◌∙◌, arith, bit_and, low_bits}
+use Rattle.fx25_blocks.proofs.Common.{◌≡◌, ◌<◌, ◌/◌, ◌^◌, ◌∷◌, [], ◌++◌, length, eqb, ap, sym, ◌∙◌, arith, bit_and}
+use Rattle.fx25_blocks.proofs.Common.{low_bits}
 use Rattle.fx25_blocks.proofs.Common.{octet_bits, append_assoc, length-append}
 use Rattle.hdlc_framer.proofs.BitLemmas.{length-low_bits, low_bits-more}
 use Rattle.fx25_blocks.proofs.packing.push_octet.Goals as goal

@@ -1,4 +1,5 @@
-use Rattle.fx25_blocks.proofs.Common.{◌≡◌, ℕ, ◌+◌, ◌-◌, ◌*◌, ◌%◌, ◌≤◌, Bool, List, length, drop, get_or, ap, subst, sym, ◌∙◌}
+use Rattle.fx25_blocks.proofs.Common.{◌≡◌, ℕ, ◌+◌, ◌-◌, ◌*◌, ◌%◌, ◌≤◌, Bool, List, length, drop, get_or, ap, subst, sym}
+use Rattle.fx25_blocks.proofs.Common.{◌∙◌}
 use Rattle.fx25_blocks.proofs.Common.{arith, block_length, EndsBlock, CarriesFrame}
 use Rattle.fx25_blocks.specs.Held.{StandsFor}
 use Rattle.fx25_blocks.proofs.OptionLemmas.{none_from, some_from}
@@ -23,7 +24,8 @@ pub returns-then-kept-tag-clause-none : goal.returns-then-kept-tag-clause-none
 returns-then-kept-tag-clause-none c = λ b kept frame over ends.
     let r = c.args.self.now in
     let told = block_told r.bits r.tags r.register r.next r.taken b kept c.args.tag c.requires frame over ends in
-    c.if-kept-tag.true (ap (λ n. get_or r.tags ((r.next + 2048 - 8 * n) % 2048) 0) c.block_length-count.ensures.value ∙ told.1)
+    c.if-kept-tag.true
+    (ap (λ n. get_or r.tags ((r.next + 2048 - 8 * n) % 2048) 0) c.block_length-count.ensures.value ∙ told.1)
 
 -- the bits that were read are the last ones
 bits_are : (c : goal.After-read_block) (b : List Bool) → StandsFor c.args.self.now b
@@ -52,7 +54,8 @@ returns-clause-frame c = λ b kept.
     ap (λ n. get_or r.tags ((r.next + 2048 - 8 * n) % 2048) 0) (sym is) ∙ c.if-kept-tag.false in
     some_from c.read_block.result (λ found. CarriesFrame tag line found.octets.items found.over)
     (λ found. EndsBlock b tag found.octets.items found.over)
-    (λ found carries. block_from r.bits r.tags r.register r.next r.taken b kept tag c.requires found.octets.items found.over
+    (λ found carries. block_from r.bits r.tags r.register r.next r.taken b kept tag c.requires
+    found.octets.items found.over
     least same (subst (λ xs. CarriesFrame tag xs found.octets.items found.over) (bits_are c b kept) carries))
     c.read_block.ensures.frame
 
