@@ -14,7 +14,8 @@ use Rattle.agwpe_client.specs.DoneCall.{is_of, data_of, IsDoneCall, DonePrintsIt
 
 -- ---- the tests of a message, by the step that they make
 
-pub talk_means : (ours connected ended : Bool) → cond ours (cond connected Talk (cond ended Refuse Ignore)) Ignore ≡ Talk
+pub talk_means : (ours connected ended : Bool) → cond ours (cond connected Talk (cond ended Refuse Ignore)) Ignore
+    ≡ Talk
     → (ours && connected) ≡ true
 talk_means true true ended e = refl
 talk_means true false true e = absurd cc

@@ -1,5 +1,6 @@
 //! A law on streams of messages. A law is the contract of a function that does nothing.
-ghost use Rattle.std.specs.Prelude.{◌≡◌, ◌≢◌, ℕ, nat_lt, if◌then◌else◌, List, [], length, take, slice_index, None, Some};
+ghost use Rattle.std.specs.Prelude.{◌≡◌, ◌≢◌, ℕ, nat_lt, if◌then◌else◌, List, [], length, take, slice_index, None};
+ghost use Rattle.std.specs.Prelude.{Some};
 ghost use Rattle.agwpe_port.specs.Messages.{messages_in, bad_length_in, header_size, told_length};
 
 /// A stream whose octet 31 is not 0 has no message: its first header tells too long a body, and its 36th octet is

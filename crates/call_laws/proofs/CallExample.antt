@@ -285,7 +285,8 @@ abbrev pub a_hears_info : Step
 unfolding reading call_of_text link_turn ahead
 a_hears_info =
     let before = a_hears_ua.after.now in
-    hearing A before back_path info info_frame (event_at 0 (LinkHear info_frame) (shown back_path info info_frame before))
+    hearing A before back_path info info_frame (event_at 0 (LinkHear info_frame)
+    (shown back_path info info_frame before))
     info_begins info_is (Some info_frame, info_is, refl) (Some info_frame, info_is, refl) (low info refl)
 
 -- ---- the run

@@ -17,7 +17,8 @@ use Rattle.call_laws.specs.FirstPart.{IsFirstPart}
 use Rattle.call_laws.specs.PrintsTold.{octets_of}
 
 -- Of the link as the client's end sees it: a set-up of its own, in which it got what was printed, and the set-up of the
--- partner's end that is its origin. What was printed is a first part of the octets that the partner's host gave in that.
+-- partner's end that is its origin. What was printed is a first part of the octets that the partner's host gave in
+-- that.
 pub record PrintsGiven (w : World) (printed : List ℕ) : Type 0 where
   pub place : ℕ
   pub own : SetUp

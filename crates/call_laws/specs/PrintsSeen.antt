@@ -1,4 +1,5 @@
--- The law of a call in what is seen at the partner's station: the packets that its host gave the link, set-up by set-up.
+-- The law of a call in what is seen at the partner's station: the packets that its host gave the link, set-up by
+-- set-up.
 use Rattle.std.specs.Prelude.{◌≡◌, ◌≢◌, ℕ, List, [], slice_get, Some}
 use Rattle.agwpe_client.specs.CallRun.{CallPlan, printed_after}
 use Rattle.link_world.specs.declared.end.End.{End}

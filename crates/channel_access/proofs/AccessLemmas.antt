@@ -207,7 +207,8 @@ is_tick busy channel None None fit h =
           ∙ ap (λ x. record { samples = air_samples channel.waiting air; began = is_some air; sent = x }) r.sent;
       after = subst (λ own. StandsFor (after_held_tick busy channel.past (held_of channel None))
           (record then { past = Ticked busy own own ∷ channel.past })) same
-          (stands_after (Ticked busy (is_some now) (is_some now)) channel.past (after_held_send now (record (held_of channel now)
+          (stands_after (Ticked busy (is_some now) (is_some now)) channel.past
+          (after_held_send now (record (held_of channel now)
           { slot = d.slot; generator = d.generator })) then r.after);
     }
   where

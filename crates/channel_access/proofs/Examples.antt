@@ -1,5 +1,6 @@
 -- Worked examples, computed on the definitions.
-use Rattle.channel_access.proofs.Common.{◌≡◌, ℕ, true, false, Some, None, List, [], ◌∷◌, ◌++◌, ◌+◌, length, replicate, refl}
+use Rattle.channel_access.proofs.Common.{◌≡◌, ℕ, true, false, Some, None, List, [], ◌∷◌, ◌++◌, ◌+◌, length, replicate}
+use Rattle.channel_access.proofs.Common.{refl}
 use Rattle.channel_access.proofs.Common.{octet_bits, body, fcs_of, with_fcs, frame_bits, OnAir, bits_of, flag_end}
 use Rattle.channel_access.proofs.Common.{followed_by, frame_named, frames_end, GoesToItsEnd, Ticks, Channel}
 use Rattle.channel_access.proofs.Common.{new_channel, with_frame, with_setting, decision, begun, air_tick, after_tick}
@@ -73,7 +74,19 @@ short_begins = refl
 
 short_ends : GoesToItsEnd (replicate 13 (Ticks true)) (after_tick true short_one)
 unfolding short_one fcs_of octet_bits with_fcs frame_bits body bits_of frames_end flag_end
-short_ends = (refl, (refl, (refl, (refl, (refl, (refl, (refl, (refl, (refl, (refl, (refl, (refl, (refl, refl)))))))))))))
+short_ends = (
+  refl,
+  (
+    refl,
+    (
+      refl,
+      (
+        refl,
+        (refl, (refl, (refl, (refl, (refl, (refl, (refl, (refl, (refl, refl))))))))),
+      ),
+    ),
+  ),
+)
 
 -- ---- whose turn it is
 

@@ -1,5 +1,6 @@
 -- What is kept of what has happened so far.
-use Rattle.channel_access.proofs.Common.{◌≡◌, ℕ, ◌+◌, ◌≤◌, ◌<◌, Bool, true, false, not, ◌&&◌, cond, leb, List, ◌∷◌, refl, ap}
+use Rattle.channel_access.proofs.Common.{◌≡◌, ℕ, ◌+◌, ◌≤◌, ◌<◌, Bool, true, false, not, ◌&&◌, cond, leb, List, ◌∷◌}
+use Rattle.channel_access.proofs.Common.{refl, ap}
 use Rattle.channel_access.proofs.Common.{◌∙◌, ◌||◌, sym, arith, inl, inr, cond-true, cond-false, lt-ltb, ltb}
 use Rattle.channel_access.proofs.Common.{le-leb}
 use Rattle.std.proofs.lemmas.Bool.{le-ltb, cases_lt}

@@ -1,6 +1,7 @@
 -- The access to the channel, tick by tick: p-persistence in half duplex, and at once in full duplex (the KISS TNC
 -- protocol, Chepponis and Karn).
-use Rattle.std.specs.Prelude.{◌≡◌, ℕ, ◌-◌, ◌==◌, nat_lt, nat_le, Bool, true, false, ◌&&◌, ◌||◌, if◌then◌else◌, ℤ, pos, List}
+use Rattle.std.specs.Prelude.{◌≡◌, ℕ, ◌-◌, ◌==◌, nat_lt, nat_le, Bool, true, false, ◌&&◌, ◌||◌, if◌then◌else◌, ℤ, pos}
+use Rattle.std.specs.Prelude.{List}
 use Rattle.std.specs.Prelude.{[], ◌∷◌, ◌++◌, length, take, map, replicate, Option, Some, None, is_some, is_none}
 use Rattle.rand_pcg.specs.Lcg.{Lcg}
 use Rattle.channel_access.specs.declared.air_tick.AirTick.{AirTick}
@@ -65,8 +66,8 @@ slot_in busy channel =
     else if is_spoken_to channel.past then 0
     else channel.parameters.slot_time
 
--- The first rule that fits decides: no frame waits; full duplex; the channel is busy; it is the station's turn; the slot
--- runs; a draw.
+-- The first rule that fits decides: no frame waits; full duplex; the channel is busy; it is the station's turn; the
+-- slot runs; a draw.
 abbrev pub decision : Bool → Channel → Decision
 decision busy channel =
     let slot = slot_in busy channel in

@@ -1,5 +1,6 @@
 -- The stream of a host program whose messages are whole: with one message more, that message alone is new.
-use Rattle.channel_bench.proofs.Common.{◌≡◌, ℕ, false, List, [], ◌∷◌, ◌++◌, length, drop, None, refl, sym, ap, ◌∙◌, append-nil}
+use Rattle.channel_bench.proofs.Common.{◌≡◌, ℕ, false, List, [], ◌∷◌, ◌++◌, length, drop, None, refl, sym, ap, ◌∙◌}
+use Rattle.channel_bench.proofs.Common.{append-nil}
 use Rattle.channel_bench.proofs.Common.{append_assoc, bad_length_in, messages_in, spelling, AgwMessage, IsWritten}
 use Rattle.channel_bench.proofs.Common.{new_messages, full_duplex_octets}
 use Rattle.std.proofs.lemmas.List.{drop_at}

@@ -1,5 +1,6 @@
 //! What is in flight between the two stations, as far as one can see who does not know what will be heard.
-ghost use Rattle.std.specs.Prelude.{◌≡◌, ◌+◌, ◌-◌, ◌<◌, ◌^◌, ◌||◌, if◌then◌else◌, drop, IfOk, OnOk, OnErr, Some, is_some};
+ghost use Rattle.std.specs.Prelude.{◌≡◌, ◌+◌, ◌-◌, ◌<◌, ◌^◌, ◌||◌, if◌then◌else◌, drop, IfOk, OnOk, OnErr, Some};
+ghost use Rattle.std.specs.Prelude.{is_some};
 ghost use Rattle.std.specs.Prelude.{true};
 ghost use Rattle.std.specs.List.{list_any};
 ghost use Rattle.station_laws.specs.InFlight.{OneWay as WayState, BothWays, asks, answers, control_octet, hearing_at};

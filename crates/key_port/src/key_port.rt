@@ -4,12 +4,14 @@
 //! No call waits but `rest`. Like a stream, the line counts its faults, so that nobody can blame it for a failure of
 //! its own, and it tells what was done with it if it knows it. A command is written while the output is lent. So what
 //! is told has commands and samples in one order, which no caller can turn.
-ghost use Rattle.std.specs.Prelude.{◌≡◌, ◌≢◌, ℕ, ◌≤◌, ◌<◌, ◌++◌, true, false, List, [], ◌∷◌, Option, Some, None, length};
+ghost use Rattle.std.specs.Prelude.{◌≡◌, ◌≢◌, ℕ, ◌≤◌, ◌<◌, ◌++◌, true, false, List, [], ◌∷◌, Option, Some, None};
+ghost use Rattle.std.specs.Prelude.{length};
 ghost use Rattle.std.specs.Prelude.{take, option_map, OnOk, OnErr};
 ghost use Rattle.tnc_base.specs.Faults.{HasRisen};
 ghost use Rattle.keying.specs.declared.line.End.TheVariants.{Fault};
 ghost use Rattle.key_port.specs.declared.key_records.KeyWrite.TheVariants.{Whole, NotYet, Failed as NotWritten};
-ghost use Rattle.key_port.specs.KeyLines.{KeyLine, with_last, is_open, after_write, after_read, after_drop, after_connect};
+ghost use Rattle.key_port.specs.KeyLines.{KeyLine, with_last, is_open, after_write, after_read, after_drop};
+ghost use Rattle.key_port.specs.KeyLines.{after_connect};
 
 use crate::key_records::{KeyCame, KeyWrite};
 use keying::Command;

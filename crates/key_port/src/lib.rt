@@ -1,5 +1,5 @@
-//! The line to `rigctld`, the daemon of hamlib that turns a transmitter on and off: one over the sockets and the clock of
-//! the system, and one in memory that goes as a script says.
+//! The line to `rigctld`, the daemon of hamlib that turns a transmitter on and off: one over the sockets and the clock
+//! of the system, and one in memory that goes as a script says.
 //!
 //! The calls are made in this order: `connect`, and then in each turn `now`, `read` and the `write`s, until `hang_up`.
 //! What is promised: a line in memory tells each connection with the commands that were written on it and the octets

@@ -1,5 +1,6 @@
 //! A line in memory: its calls go as a script says, and it tells all that was done with it.
-ghost use Rattle.std.specs.Prelude.{◌≡◌, ◌≢◌, ◌≤◌, ◌<◌, ◌++◌, ℕ, ◌⊎◌, true, false, List, [], ◌∷◌, Option, Some, None, length, take, min, not};
+ghost use Rattle.std.specs.Prelude.{◌≡◌, ◌≢◌, ◌≤◌, ◌<◌, ◌++◌, ℕ, ◌⊎◌, true, false, List, [], ◌∷◌, Option, Some, None};
+ghost use Rattle.std.specs.Prelude.{length, take, min, not};
 ghost use Rattle.std.specs.Prelude.{option_map, IsErr, OnOk, OnErr};
 ghost use Rattle.tnc_base.specs.Faults.{HasRisen, next_count};
 ghost use Rattle.keying.specs.declared.line.End.TheVariants.{Closed, Fault};
@@ -399,7 +400,8 @@ fn note_came(
     requires bound { came.count ≤ length buffer.now }
     requires alone { (came.count ≡ 0) ⊎ (came.end ≡ None) }
     ensures bound { result.count ≤ length buffer.now }
-    ensures told { lines.new.items ≡ with_last (after_read now (take result.count buffer.now) result.end) lines.old.items }
+    ensures told { lines.new.items
+        ≡ with_last (after_read now (take result.count buffer.now) result.end) lines.old.items }
 {
     match came.end {
         Some(End::Closed) => {
@@ -421,7 +423,8 @@ fn note_octets(
 ) -> KeyCame
     requires { count ≤ length buffer.now }
     ensures bound { result.count ≤ count }
-    ensures told { lines.new.items ≡ with_last (after_read now (take result.count buffer.now) result.end) lines.old.items }
+    ensures told { lines.new.items
+        ≡ with_last (after_read now (take result.count buffer.now) result.end) lines.old.items }
 {
     if count == 0 {
         return NOTHING;

@@ -11,7 +11,8 @@ use Rattle.station.proofs.Places.{within_slots}
 -- what is at a key stands for the link there
 pub at_place : (held : HeldLinks) (key : ℕ) (link : Link) (slot : Option OwnedLink) → slot ≡ place_at key held
     → HasAt key held link → StandsForPlace slot (Some link)
-at_place held key link slot is here = subst (λ (place : Option OwnedLink). StandsForPlace place (Some link)) (sym is) here
+at_place held key link slot is here = subst (λ (place : Option OwnedLink). StandsForPlace place (Some link))
+    (sym is) here
 
 abbrev pub one_if : Option OwnedLink → ℕ
 one_if slot = cond (is_some slot) 1 0
@@ -26,7 +27,8 @@ count_set slots key slot had within e =
     omega (arith, changed, was)
 
 -- every place has a link
-pub all_counted : (slots : List (Option OwnedLink)) → ((k : ℕ) → k < length slots → is_some (get_or slots k None) ≡ true)
+pub all_counted : (slots : List (Option OwnedLink)) → ((k : ℕ) → k < length slots → is_some (get_or slots k None)
+    ≡ true)
     → count_by is_some slots ≡ length slots
 all_counted [] each = refl
 all_counted (slot ∷ slots) each =

@@ -92,5 +92,6 @@ taken_messages id octets turn answered messages failed (Some connection) same h 
     )
 
 -- a connection that ends
-pub ending_left : (id : ℕ) (ends : Bool) (turn : Turn) → ends ≡ true → ending id ends turn ≡ leaving id (closing id turn)
+pub ending_left : (id : ℕ) (ends : Bool) (turn : Turn) → ends ≡ true → ending id ends turn ≡ leaving id
+    (closing id turn)
 ending_left id ends turn is = ap (λ (e : Bool). ending id e turn) is

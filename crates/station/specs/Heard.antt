@@ -1,5 +1,6 @@
 -- What a station does with a frame that it hears (AX.25 2.2 sections 3.12 and 6.3): hosts are shown it, it is repeated
--- if it waits for a repeater, and else it is an event of the link of its two calls. The channel is told whether it is one.
+-- if it waits for a repeater, and else it is an event of the link of its two calls. The channel is told whether it is
+-- one.
 use Rattle.std.specs.Prelude.{◌≡◌, ℕ, nat_lt, Bool, true, false, not, ◌&&◌, ◌⊎◌, if◌then◌else◌, List, [], ◌∷◌, ◌++◌}
 use Rattle.std.specs.Prelude.{map, is_some, Option, Some, None, MatchBool}
 use Rattle.std.specs.List.{list_any}

@@ -149,14 +149,3 @@ goes_on s e back turn between after first second one two w h =
       subst (Holds s back after) (sym (near_all-append e pairs n first second w)) then.0,
       follow-append e back pairs n first second w before.1 then.1,
     )
-
-pub goes_along :
-    {A : Type 0} (s : Setting) (e : End) (back : List Tagged) (act : A → Act) (found : A → Turn → List LinkStep)
-    → ((item : A) (turn : Turn) → Goes s e back turn (found item turn) (act item turn))
-    → (items : List A) (turn : Turn) → Goes s e back turn (steps_along act found items turn)
-    (in_order (map act items) turn)
-goes_along s e back act found each [] turn w h = (h, tt)
-goes_along s e back act found each (item ∷ items) turn w h =
-    goes_on s e back turn (act item turn) (in_order (map act items) (act item turn)) (found item turn)
-    (steps_along act found items (act item turn)) (each item turn)
-    (goes_along s e back act found each items (act item turn)) w h

@@ -57,7 +57,8 @@ module _ (words : CallWords) (text before : List ℕ) (written : Option (List �
         (some_same now.polls _ _ (called.traced.polls faultless.polled faultless.had_polled) faultless.has_polled)
 
     -- the end, for the polls that are told
-    ended : IsEnded plan words.polls id (record called.trace { polls = polls }) before written start.faults now.faults end
+    ended : IsEnded plan words.polls id
+        (record called.trace { polls = polls }) before written start.faults now.faults end
     ended =
         let trace : List Poll → CallTrace = λ ps. record called.trace { polls = ps } in
         subst (λ ps. IsEnded plan words.polls id (trace ps) before written start.faults now.faults end) same_polls

@@ -127,7 +127,8 @@ pub traced_poll : (id : ℕ) (octets : List ℕ) (trace : CallTrace) (poll : Pol
     → after.sends ≡ before.sends → ((other : ℕ) → after.sent other ≡ before.sent other)
     → IsTraced id octets (with_poll poll trace) start after
 traced_poll id octets trace poll start before after traced polls sends sent = record {
-  polls = λ was at. polls (was ++ trace.polls) (traced.polls was at) ∙ ap Some (append_assoc was trace.polls (poll ∷ []));
+  polls = λ was at. polls (was ++ trace.polls) (traced.polls was at) ∙ ap Some
+      (append_assoc was trace.polls (poll ∷ []));
   sends = λ was at other is. sends ∙ traced.sends was at other is;
   within = traced.within;
   sent = λ was at. sent id ∙ traced.sent was at;

@@ -109,8 +109,10 @@ module _ (talk : Talk) (plan : CallPlan) (id : ℕ) (before : List ℕ) (start o
       whole : octets_in id (with_poll poll trace).polls ≡ host ++ octets_of id poll.events
       whole = octets_with_poll id trace.polls poll
 
-      traced_next : IsTraced id (sent_after plan (octets_in id (with_poll poll trace).polls)) (with_poll poll trace) start now
-      traced_next = traced_poll id (sent_after plan (octets_in id (with_poll poll trace).polls)) trace poll start old now
+      traced_next : IsTraced id (sent_after plan (octets_in id (with_poll poll trace).polls))
+          (with_poll poll trace) start now
+      traced_next = traced_poll id (sent_after plan (octets_in id
+          (with_poll poll trace).polls)) trace poll start old now
           (more_to_send poll.events poll refl offered.traced) polls sends sent
 
       pub turns_on : (heard : Talk) (output : Option (List ℕ)) → heard.taken ≡ talk.taken

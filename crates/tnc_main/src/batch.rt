@@ -39,8 +39,8 @@ use std::thread::Threads;
 use tnc_base::{OutOfMemory, Sink, Source};
 use tnc_words::{Command, WordsFault, read_words};
 
-/// Does what `words` ask for, unless that is a live command, and answers the exit status. A live command is handed back,
-/// and then nothing was done but to read the words.
+/// Does what `words` ask for, unless that is a live command, and answers the exit status. A live command is handed
+/// back, and then nothing was done but to read the words.
 ///
 /// It may start threads but has no leave to wait, so it comes to an end: this is proved for each of its loops and for
 /// what its threads do.

@@ -117,8 +117,8 @@ pub fn run<
         (ports_by N.listens N.dials N.polls N.sends N.sent N.is_shut N.faults live.new.ports) status
         (stream_of E.written E.faults report.old) (stream_of E.written E.faults report.new) }
 
-    // what the words may be: if they ask for nothing, nothing is touched but the report, and no command but a live one has
-    // to do with ports or threads that may wait
+    // what the words may be: if they ask for nothing, nothing is touched but the report, and no command but a live one
+    // has to do with ports or threads that may wait
     ensures bad_words { result ≡ 1 → AskNothing (map string_bytes words.now) }
     ensures refused { AskNothing (map string_bytes words.now) → (input.new ≡ input.old) × (output.new ≡ output.old)
         × ((result ≡ 1) ⊎ ((result ≡ 3) ⊎ (result ≡ 5))) }

@@ -19,7 +19,8 @@ use tnc_ports::Spawner;
 use tnc_record::{RecordEnd, RecordWords};
 use tnc_words::RecordOptions;
 
-/// Records the sound until the input ends, tells how that ended, and answers the exit status. It may wait for the input.
+/// Records the sound until the input ends, tells how that ended, and answers the exit status. It may wait for the
+/// input.
 pub(crate) fn record<Rt: Threads + Wait + Sync, I: Source + Send, O: Sink, E: Sink, W: Spawner>(
     rt: &Rt,
     alloc: Global,

@@ -178,15 +178,6 @@ stands_empty lanes begin recent quiet empty = record {
       (empty half d small);
 }
 
--- what holds of four lanes holds of each
-pub of_four : (a b c e : HeldLane) → LaneStandsFor a [] → LaneStandsFor b [] → LaneStandsFor c [] → LaneStandsFor e []
-    → (half : ℕ) (d : HeldLane) → half < 4 → LaneStandsFor (get_or (a ∷ b ∷ c ∷ e ∷ []) half d) []
-of_four a b c e p q r s zero d small = p
-of_four a b c e p q r s (suc zero) d small = q
-of_four a b c e p q r s (suc (suc zero)) d small = r
-of_four a b c e p q r s (suc (suc (suc zero))) d small = s
-of_four a b c e p q r s (suc (suc (suc (suc n)))) d small = absurd (omega arith)
-
 abbrev pub StandFor : List HeldLane → (ℕ → List HeardWindow) → Type 0
 StandFor lanes windows = (k : ℕ) (d : HeldLane) → k < 4 → LaneStandsFor (get_or lanes k d) (windows k)
 

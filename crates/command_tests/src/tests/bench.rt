@@ -45,3 +45,35 @@ fn a_run_with_losses_is_told(rt: HostRuntime) -> Result<(), Fail> {
     assert_equal(&rt, &output.written(), &want.as_slice());
     Ok(())
 }
+
+/// The ticks in the first line of a report.
+fn ticks_of(report: &[u8]) -> u64 {
+    let mut ticks = 0_u64;
+    for octet in report.iter().skip(6) {
+        if !octet.is_ascii_digit() {
+            break;
+        }
+        ticks = ticks
+            .saturating_mul(10)
+            .saturating_add(u64::from(octet.saturating_sub(b'0')));
+    }
+    ticks
+}
+
+// 20,000 octets take over 133 seconds at 1200 bits a second, and go in 79 packets each way.
+#[test]
+fn a_long_run_is_told(rt: HostRuntime) -> Result<(), Fail> {
+    let options = BenchOptions {
+        octets: 20_000,
+        ..OPTIONS
+    };
+    let mut output = MemSink::new(rt.alloc(), 1000, Vec::new(rt.alloc()))?;
+    assert!(rt; bench(rt.alloc(), options, &mut output).is_ok());
+    let want = b" lost 0\n\
+        A 1 given 20000 84f51cfb8f56aa80 got 20000 72e68f561754f47e\n\
+        B 1 given 20000 72e68f561754f47e got 20000 84f51cfb8f56aa80\n";
+    let written = output.written();
+    let told = (ticks_of(&written) > 13_333, written.ends_with(want));
+    assert_equal(&rt, &told, &(true, true));
+    Ok(())
+}

@@ -114,9 +114,9 @@ fn a_draw_begins_in_a_free_slot(rt: HostRuntime) -> Result<(), Fail> {
     Ok(())
 }
 
-/// Each row: what comes to pass, and the tick that begins the last transmission. `.` is a free tick, `b` a busy one, `o`
-/// a frame for a link of the station that is heard, `x` one for somebody else, and `q` a frame that joins the queue.
-/// The slot time is 2, and of the draws of seed 2 the first, 102, is above P and the second, 40, is not.
+/// Each row: what comes to pass, and the tick that begins the last transmission. `.` is a free tick, `b` a busy one,
+/// `o` a frame for a link of the station that is heard, `x` one for somebody else, and `q` a frame that joins the
+/// queue. The slot time is 2, and of the draws of seed 2 the first, 102, is above P and the second, 40, is not.
 const TURNS: &[(&str, u32)] = &[
     ("..bbobbq.", 7),
     ("..bbobb....q.", 11),

@@ -38,9 +38,9 @@ fn run_record<R: Threads + Wait + Net + Sync>(
     )
 }
 
-// The cells of the ring hold 65,536 samples, and in memory the whole input is published before one of them is read. Each
-// row: the words, what fails, the status, how many octets are written, and how the report ends. The head of a WAV file
-// has 44.
+// The cells of the ring hold 65,536 samples, and in memory the whole input is published before one of them is read.
+// Each row: the words, what fails, the status, how many octets are written, and how the report ends. The head of a WAV
+// file has 44.
 #[test]
 fn record_keeps_the_last_samples(rt: HostRuntime) -> Result<(), Fail> {
     let input = silence(rt.alloc(), 70_000)?;

@@ -7,7 +7,8 @@ pub loop-call-preserved : goal.loop-call-preserved
 loop-call-preserved c = record {
   body = c.in_ok-extend_from_slice.ensures.items
       ∙ ap (λ xs. xs ++ c.call_text.result) c.loop-call.invariant.body
-      ∙ ap (λ field. length c.args.via.now ∷ (flat_map call_field (take c.loop-call.call-index c.args.via.now) ++ field))
+      ∙ ap (λ field. length c.args.via.now ∷ (flat_map call_field (take c.loop-call.call-index c.args.via.now)
+      ++ field))
       c.call_text.ensures
       ∙ ap (λ xs. length c.args.via.now ∷ xs)
       (sym (flat_map_more call_field c.args.via.now c.loop-call.call-index c.call-item.result c.loop-call-test.true

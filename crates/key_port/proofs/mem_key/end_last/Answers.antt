@@ -11,8 +11,10 @@ returns-then-count-gt0 c =
     let long : c.len-count.result ≡ length now = c.len-count.ensures ∙ c.args.lines.now.ok.0 in
     let some = c.if-count-gt0.true in
     let at : (c.len-count.result - 1) + 1 ≡ length now = omega (arith, long, some) in
-    ap (set now (c.len-count.result - 1)) (c.note_end.ensures c.args._now ∙ ap (after_read c.args._now [] (Some Closed)) c.index_mut.ensures.value)
-    ∙ sym (with_last-at (after_read c.args._now [] (Some Closed)) now (c.len-count.result - 1) c.index_mut.result.now at)
+    ap (set now (c.len-count.result - 1)) (c.note_end.ensures c.args._now ∙ ap (after_read c.args._now []
+    (Some Closed)) c.index_mut.ensures.value)
+    ∙ sym (with_last-at (after_read c.args._now [] (Some Closed)) now
+    (c.len-count.result - 1) c.index_mut.result.now at)
 
 pub returns-else-count-gt0 : goal.returns-else-count-gt0
 returns-else-count-gt0 c =

@@ -12,6 +12,8 @@ returns-clause-read c =
     let at : (c.len-count.result - 1) + 1 ≡ length now = omega (arith, long, some) in
     on_ok c.note_read.result
     (λ (h : c.note_read.new.self ≡ after_read c.args.now c.args.octets.now None c.index_mut.result.now).
-    ap (set now (c.len-count.result - 1)) (h ∙ ap (after_read c.args.now c.args.octets.now None) c.index_mut.ensures.value)
-    ∙ sym (with_last-at (after_read c.args.now c.args.octets.now None) now (c.len-count.result - 1) c.index_mut.result.now at))
+    ap (set now (c.len-count.result - 1)) (h ∙ ap
+    (after_read c.args.now c.args.octets.now None) c.index_mut.ensures.value)
+    ∙ sym (with_last-at (after_read c.args.now c.args.octets.now None) now
+    (c.len-count.result - 1) c.index_mut.result.now at))
     c.note_read.ensures.read

@@ -237,6 +237,34 @@ fn data_goes_in_packets_of_256_octets(rt: HostRuntime) -> Result<(), Fail> {
     Ok(())
 }
 
+/// RR with F = 0 from NJ7P to N7LEM, which acknowledges the frames below a number.
+fn receive_ready(number: u8) -> [u8; 15] {
+    let mut frame = *b"\x9c\x6e\x98\x8a\x9a\x40\x60\x9c\x94\x6e\xa0\x40\x40\xe1\x01";
+    frame[14] = 32 * (number % 8) + 1;
+    frame
+}
+
+// 40 packets go out by windows of four, each once the four before it are acknowledged.
+#[test]
+fn a_link_carries_many_packets(rt: HostRuntime) -> Result<(), Fail> {
+    let octets = filled(rt.alloc(), 65, 2560)?;
+    let mut desk = connected(rt.alloc(), CALL)?;
+    for _ in 0..4 {
+        desk.ask_with_pid(1, DATA, ENDS, &octets)?;
+    }
+    for number in [4, 8, 12, 16, 20, 24, 28, 32, 36, 40_u8] {
+        let lens = desk.lens()?;
+        assert_equal(
+            &rt,
+            &(number, lens.as_slice()),
+            &(number, [272; 4].as_slice()),
+        );
+        desk.hear(&receive_ready(number))?;
+    }
+    assert_equal(&rt, &desk.frames(), &0);
+    Ok(())
+}
+
 /// Each row: the kind and the PID of the call, the PID of the data, and that of the frame.
 const PIDS: &[((u8, u8), u8, u8)] = &[
     (CALL, 0, 0xf0),

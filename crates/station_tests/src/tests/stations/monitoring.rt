@@ -1,8 +1,9 @@
 //! What hosts that monitor the channel are shown.
 
-use super::desk::{Desk, assert_told};
+use super::desk::{Desk, assert_told, filled};
 use crate::assert_equal;
 use link_machine::Params;
+use std::alloc::Global;
 use std::test::Fail;
 
 /// UI from BBBB to AAAA.
@@ -31,6 +32,38 @@ fn shows_what_is_heard_until_asked_again(rt: HostRuntime) -> Result<(), Fail> {
     desk.tick(100)?;
     for shown in [false, true, false] {
         assert_equal(&rt, &is_shown_before(&mut desk)?, &shown);
+    }
+    Ok(())
+}
+
+/// UI from BBBB to AAAA with so many octets.
+fn long_ui(alloc: Global, len: usize) -> Result<Vec<u8>, Fail> {
+    let mut octets = Vec::new(alloc);
+    octets.extend_from_slice(b"\x82\x82\x82\x82\x40\x40\xe0\x84\x84\x84\x84\x40\x40\x61\x03\xf0")?;
+    octets.extend_from_slice(&filled(alloc, 65, len)?)?;
+    Ok(octets)
+}
+
+/// What is told of it.
+fn long_text(alloc: Global, len: usize) -> Result<Vec<u8>, Fail> {
+    let line = format!(in alloc; " 1:Fm BBBB To AAAA <UI pid=F0 Len={len} P=0 >[00:00:00]\r")?;
+    let mut octets = Vec::new(alloc);
+    octets.extend_from_slice(line.as_bytes())?;
+    octets.extend_from_slice(&filled(alloc, 65, len)?)?;
+    octets.extend_from_slice(b"\r\0")?;
+    Ok(octets)
+}
+
+// A link's frames have at most 256 octets; others may have up to 937.
+#[test]
+fn shows_a_long_frame_whole(rt: HostRuntime) -> Result<(), Fail> {
+    let mut desk = Desk::new(rt.alloc(), Params::default())?;
+    toggle(&mut desk)?;
+    for len in [256, 257, 300, 937] {
+        desk.hear(&long_ui(rt.alloc(), len)?)?;
+        let want = long_text(rt.alloc(), len)?;
+        let shown = desk.tells(b'U', ["BBBB", "AAAA"], &want)?;
+        assert_equal(&rt, &(len, shown), &(len, true));
     }
     Ok(())
 }

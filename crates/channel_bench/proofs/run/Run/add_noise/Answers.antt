@@ -49,10 +49,12 @@ returns-clause-samples c = λ w bench h.
     let is_a = c.reaching-to_a.ensures B A bench.b bench.a h.b h.a in (
       noisy_a c.args.self.now w bench c.reaching-to_a.result c.reaching-to_b.result c.with_noise.new.draws h is_b is_a
           (on_took _ c.with_noise.result c.in_ok-noisy_b.noisy_b c.in_ok-noisy_b.ensures.value c.with_noise.ensures.draws)
-          c.in_ok-noisy_a.noisy_a.items (if_took _ c.with_noise-2.result c.in_ok-noisy_a.noisy_a c.in_ok-noisy_a.ensures.value c.with_noise-2.ensures.samples),
+          c.in_ok-noisy_a.noisy_a.items
+          (if_took _ c.with_noise-2.result c.in_ok-noisy_a.noisy_a c.in_ok-noisy_a.ensures.value c.with_noise-2.ensures.samples),
       noisy_b c.args.self.now w bench c.reaching-to_a.result c.reaching-to_b.result c.with_noise.new.draws h is_b is_a
           (on_took _ c.with_noise.result c.in_ok-noisy_b.noisy_b c.in_ok-noisy_b.ensures.value c.with_noise.ensures.draws)
-          c.in_ok-noisy_b.noisy_b.items (if_took _ c.with_noise.result c.in_ok-noisy_b.noisy_b c.in_ok-noisy_b.ensures.value c.with_noise.ensures.samples),
+          c.in_ok-noisy_b.noisy_b.items
+          (if_took _ c.with_noise.result c.in_ok-noisy_b.noisy_b c.in_ok-noisy_b.ensures.value c.with_noise.ensures.samples),
     )
 
 pub returns-clause-lengths : goal.returns-clause-lengths
@@ -60,5 +62,6 @@ returns-clause-lengths c =
     let to_a : length c.reaching-to_a.result ≡ 96 = search rules in
     let to_b : length c.reaching-to_b.result ≡ 96 = search rules in (
       if_took _ c.with_noise-2.result c.in_ok-noisy_a.noisy_a c.in_ok-noisy_a.ensures.value c.with_noise-2.ensures.length ∙ to_a,
-      if_took _ c.with_noise.result c.in_ok-noisy_b.noisy_b c.in_ok-noisy_b.ensures.value c.with_noise.ensures.length ∙ to_b,
+      if_took _ c.with_noise.result c.in_ok-noisy_b.noisy_b c.in_ok-noisy_b.ensures.value c.with_noise.ensures.length
+          ∙ to_b,
     )

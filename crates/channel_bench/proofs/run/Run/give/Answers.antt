@@ -23,7 +23,8 @@ returns-in_ok-give-in-A-clause-given c = λ w bench h.
     let none = goes_on run w bench c.has_ended.result h c.has_ended.ensures c.if-has_ended.false in
     made_at_a (λ e. IsGiven w e) c.args.end run _ w bench c.in-A.is h
     (record { words = refl; b = refl; text_of_a = refl; text_of_b = refl; ticks = refl; closing = refl }) none
-    (c.in_ok-give-in-A.ensures.given A w (c.as_slice.ensures.list ∙ h.text_of_a) (near A bench) (near_a run w bench h) none)
+    (c.in_ok-give-in-A.ensures.given A w (c.as_slice.ensures.list ∙ h.text_of_a) (near A bench)
+    (near_a run w bench h) none)
 
 pub returns-in_ok-give-in-B-clause-given : goal.returns-in_ok-give-in-B-clause-given
 returns-in_ok-give-in-B-clause-given c = λ w bench h.

@@ -1,5 +1,6 @@
 -- Nothing comes to pass if the run has ended; a frame without a match ends it; one with a match is heard.
-use Rattle.channel_bench.proofs.Common.{◌≡◌, ◌+◌, Some, None, refl, sym, ap, ◌∙◌, subst, drop, position, take_rest, Stray}
+use Rattle.channel_bench.proofs.Common.{◌≡◌, ◌+◌, Some, None, refl, sym, ap, ◌∙◌, subst, drop, position, take_rest}
+use Rattle.channel_bench.proofs.Common.{Stray}
 use Rattle.channel_bench.proofs.Common.{IsStep, is_match, match_of, with_matched, with_stray, OffAir}
 use Rattle.std.specs.Prelude.{is_some}
 use Rattle.channel_bench.proofs.HearLemmas.{heard_ended, heard_goes_on, match_at, match_made, stray_made, stray_stands}

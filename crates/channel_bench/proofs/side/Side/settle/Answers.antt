@@ -1,5 +1,6 @@
 -- The pieces are told first, and the station keeps its end.
-use Rattle.channel_bench.proofs.Common.{refl, ◌∙◌, ap, subst, Out, first_unquiet, told_pieces, trouble_of, StandsForSide}
+use Rattle.channel_bench.proofs.Common.{refl, ◌∙◌, ap, subst, Out, first_unquiet, told_pieces, trouble_of}
+use Rattle.channel_bench.proofs.Common.{StandsForSide}
 use Rattle.channel_bench.proofs.Common.{StandsForWays, queueing_all}
 use Rattle.channel_bench.proofs.SideLemmas.{remembers}
 use Rattle.channel_bench.proofs.side.Side.settle.Goals as goal
@@ -8,7 +9,8 @@ pub returns-clause-side : goal.returns-clause-side
 returns-clause-side c = λ end side h.
     let pieces = c.deref.ensures.value ∙ ap (λ (o : Out). o.pieces) c.out.view_is in
     remembers end c.tell.new.self _ (told_pieces c.args.out.now.pieces side)
-    (subst (λ ps. StandsForSide end c.tell.new.self (told_pieces ps side)) pieces (c.in_ok-tell.ensures.told end side h))
+    (subst (λ ps. StandsForSide end c.tell.new.self (told_pieces ps side)) pieces
+    (c.in_ok-tell.ensures.told end side h))
     (record {
       end = refl;
       station = refl;

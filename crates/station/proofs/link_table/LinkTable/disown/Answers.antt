@@ -15,7 +15,11 @@ returns c = λ link here.
     let items = c.self.inside.places.items in
     let shown : c.in-Some.place.now ≡ get_or items c.args.key None = c.in-Some.ensures.item.4 (omega arith) None in
     let held : HeldLinks = record { places = items; next = c.self.inside.next } in
-    let new : HeldLinks = record { places = set items c.args.key (Some c.disown.new.self); next = c.self.inside.next } in
+    let new : HeldLinks = record {
+      places = set items c.args.key
+          (Some c.disown.new.self);
+      next = c.self.inside.next;
+    } in
     let stands : StandsForLink c.in-Some-place.link link = at_place c.args.self.now c.args.key link
     (Some c.in-Some-place.link) (sym c.in-Some-place.is ∙ shown ∙ ap (place_at c.args.key) c.self.view_is) here in
     subst (λ (old : HeldLinks). IsSetAt c.args.key old new (without_owner link)) c.self.view_is

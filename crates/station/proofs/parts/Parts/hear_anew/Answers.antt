@@ -1,4 +1,5 @@
-use Rattle.station.proofs.Common.{◌≡◌, ◌&&◌, nat_lt, ℕ, Option, Some, is_some, sym, ◌∙◌, ap, subst, Callsign, way_back, Path}
+use Rattle.station.proofs.Common.{◌≡◌, ◌&&◌, nat_lt, ℕ, Option, Some, is_some, sym, ◌∙◌, ap, subst, Callsign, way_back}
+use Rattle.station.proofs.Common.{Path}
 use Rattle.station.proofs.Common.{Command, IsNumbered, control_of, Modulus, Hear, may_make, event_at, making}
 use Rattle.station.proofs.Common.{no_layer_3, registrar, Turn}
 use Rattle.station.specs.Heard.{makes_link}

@@ -17,7 +17,8 @@ broken fault len is = λ e. cc
 pub returns-in-Err-Refused-clause-taken : goal.returns-in-Err-Refused-clause-taken
 returns-in-Err-Refused-clause-taken g c = λ plan host before goes.
     let arm = c.in-Err-Refused in
-    let fault = subst (λ f. IsFault plan host c.args.octet f) arm.field-0-is (arm.ensures.fault plan host goes.client) in (
+    let fault = subst (λ f. IsFault plan host c.args.octet f) arm.field-0-is
+    (arm.ensures.fault plan host goes.client) in (
       fault.1,
       nothing_printed plan host c.args.octet before (g.O.Sink.written c.args.output.now)
           (arm.ensures.printed plan host goes.client (refused arm.field-0 arm.field-0-is)) goes.is_printed,
@@ -26,7 +27,8 @@ returns-in-Err-Refused-clause-taken g c = λ plan host before goes.
 pub returns-in-Err-Broken-clause-taken : goal.returns-in-Err-Broken-clause-taken
 returns-in-Err-Broken-clause-taken g c = λ plan host before goes.
     let arm = c.in-Err-Broken in
-    let fault = subst (λ f. IsFault plan host c.args.octet f) arm.field-0-is (arm.ensures.fault plan host goes.client) in (
+    let fault = subst (λ f. IsFault plan host c.args.octet f) arm.field-0-is
+    (arm.ensures.fault plan host goes.client) in (
       fault.1,
       nothing_printed plan host c.args.octet before (g.O.Sink.written c.args.output.now)
           (arm.ensures.printed plan host goes.client (broken arm.field-0 arm.len arm.field-0-is)) goes.is_printed,

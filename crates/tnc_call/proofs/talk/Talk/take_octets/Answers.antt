@@ -16,7 +16,8 @@ loop-octet-preserved g c = record {
       (Stops plan ((host ++ take i octets) ++ get_or octets i 0 ∷ []) before
       (g.O.Sink.written c.take_octet-end.new.output))
       (sym c.is_some.ensures ∙ c.if-is_some.false)
-      (c.take_octet-end.ensures.taken plan (host ++ take i octets) before (c.loop-octet.invariant.goes_on plan host before
+      (c.take_octet-end.ensures.taken plan (host ++ take i octets) before
+      (c.loop-octet.invariant.goes_on plan host before
       goes)));
   kept = c.take_octet-end.ensures.kept ∙ c.loop-octet.invariant.kept;
   within = c.take_octet-end.ensures.within;

@@ -15,7 +15,8 @@ returns-in-Ok-clause-turned g c = λ plan before start trace running.
     (told c.offer.new.ports) next in
     c.hear.ensures.heard plan before start next
     (subst P (sym arm.kept)
-    (has_offered talk plan c.args.id before (g.O.Sink.written c.args.output.now) start (told c.args.ports.now) trace running
+    (has_offered talk plan c.args.id before (g.O.Sink.written c.args.output.now) start
+    (told c.args.ports.now) trace running
     taken (told c.offer.new.ports) arm.taken arm.within c.requires.within
     (record {
       same = arm.polls;
