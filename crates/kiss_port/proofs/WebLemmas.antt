@@ -1,6 +1,6 @@
 -- The beginnings of programs of the web: they show within eight octets, they stay, and no piece ends in them.
-use Rattle.std.proofs.Common.{◌≡◌, ℕ, zero, suc, Bool, true, false, List, [], ◌∷◌, ◌++◌, length, take, drop, refl, ap, subst}
-use Rattle.std.proofs.Common.{◌∙◌, sym, inl, inr, arith, append_assoc, append-nil, Option, Result, Ok, Err}
+use Rattle.std.proofs.Common.{◌≡◌, ℕ, zero, suc, Bool, true, false, List, [], ◌∷◌, ◌++◌, length, take, drop, refl, ap}
+use Rattle.std.proofs.Common.{subst, ◌∙◌, sym, inl, inr, arith, append_assoc, append-nil, Option, Result, Ok, Err}
 use Rattle.std.specs.Prelude.{◌==◌, ◌||◌, not, nat_le, IsErrAnd}
 use Rattle.std.specs.Option.{option_to_list}
 use Rattle.std.specs.Cmp.Lexicographic.{pointwise}

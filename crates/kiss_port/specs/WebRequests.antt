@@ -1,5 +1,5 @@
--- How a program of the web begins a connection. An HTTP request begins with its method and a blank (RFC 9110, section 9;
--- PATCH: RFC 5789), HTTP/2 without one with PRI and a blank (RFC 9113, section 3.4), and TLS with a handshake record,
+-- How a program of the web begins a connection. An HTTP request begins with its method and a blank (RFC 9110, section
+-- 9; PATCH: RFC 5789), HTTP/2 without TLS with PRI and a blank (RFC 9113, section 3.4), and TLS with a handshake record,
 -- whose first two octets are 16 and 03 (RFC 8446, section 5.1).
 use Rattle.std.specs.Prelude.{ℕ, ◌==◌, if◌then◌else◌, Bool, List, [], ◌∷◌, Option, Result, Ok, Err, codes}
 use Rattle.std.specs.List.{list_any, starts_with}
