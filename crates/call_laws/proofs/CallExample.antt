@@ -8,8 +8,7 @@ use Rattle.station_laws.proofs.Common.{joining, taking, event_at, making, no_lay
 use Rattle.station_laws.proofs.Common.{new_station, Turn, Step, new_stations, IsJointRun, FromHost, OffAir, Calls}
 use Rattle.station_laws.proofs.Common.{Pairs, IsQuietLink, frame_octets, WindowsFit, Pair, RiseBoth, AreAlikeButForH}
 use Rattle.station_laws.proofs.Common.{HearsLinkFrame, IsHeardPair, HasPair, AreHeardInOrder, All-contains_itself}
-use Rattle.station_laws.proofs.Common.{AllPairs, slice_get, get_or, sym, ◌∙◌, subst, Connection}
-use Rattle.station_laws.proofs.Examples.{hearing, shown}
+use Rattle.station_laws.proofs.Common.{AllPairs, slice_get, get_or, sym, ◌∙◌, subst, Connection, IsHeardBy}
 use Rattle.std.specs.Prelude.{◌≡◌, ◌≢◌, ℕ, zero, suc, ◌<◌, true, false, nat_lt, Contains, List, [], ◌∷◌, ◌++◌, length}
 use Rattle.std.specs.Prelude.{Some, None, refl}
 use Rattle.std.specs.List.{AllByRecursion as Each}
@@ -24,6 +23,8 @@ use Rattle.link_machine.specs.Event.Event.{Connect as LinkConnect, Hear as LinkH
 use Rattle.link_machine.specs.Params.{HasWindows}
 use Rattle.link_machine.specs.Step.{step as link_turn}
 use Rattle.selective_reject.specs.Numbers.{ahead}
+use Rattle.station.specs.Heard.{IsOurs, IsReadAs, telling_channel}
+use Rattle.station.specs.Monitored.{heard_modulus}
 use Rattle.station.specs.Turn.{begin}
 use Rattle.station.specs.declared.host_out.Piece.{Piece}
 use Rattle.call_laws.specs.Client.{IsBetweenCalls, IsClientOf, IsClientStep, octets_had, pieces_at, pieces_for}
@@ -247,6 +248,33 @@ a_calls =
       turn = (after, (after, (0, record { within = omega arith; vacant = refl; freed = tt }, refl), refl), refl);
       octets = tt;
     }
+
+abbrev pub shown : Path → List ℕ → Frame → StationState → Turn
+shown path octets frame s = shown_to_hosts (Some path) octets (Some frame) (begin s)
+
+abbrev pub hearing :
+    (end : End) (s : StationState) (path : Path) (octets : List ℕ) (frame : Frame) (between : Turn)
+    → BeginsWithPath octets path 14 → IsReadAs (heard_modulus (Some path) s.links) octets (Some frame)
+    → IsHeardBy (Some path) octets (shown path octets frame s) between → IsOurs (Some path) octets s true
+    → All (λ octet. octet < 256) octets → Step
+hearing end s path octets frame between begins read effect ours few = record {
+  station = end;
+  input = OffAir octets;
+  before = s;
+  after = telling_channel true between;
+  turn = record {
+    path = Some path;
+    reading = (14, begins);
+    monitored = Some frame;
+    read_as = read;
+    between = between;
+    effect = effect;
+    ours = true;
+    is_ours = ours;
+    told = refl;
+  };
+  octets = few;
+}
 
 abbrev pub b_hears_sabm : Step
 unfolding reading call_of_text
