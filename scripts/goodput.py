@@ -6,9 +6,8 @@
 
 `one`: A gives B so many octets; `both`: each gives the other so many; `ask`: ten questions of 40 octets, each answered by
 so many. A transmission is lost whole, in so many of a hundred. `--third`: another station sends UI frames besides, for
-three tenths of the time if it is let. Each station hears the sum of the others, and none while it sends. Two stations of
-this program go in step and as fast as they go; with a Dire Wolf the air keeps the pace of sound, and runs go beside each
-other.
+three tenths of the time if it is let. Each station hears the sum of the others, and none while it sends. The air goes
+tick by tick, at about the pace of sound; with a Dire Wolf it keeps that pace, and runs go beside each other.
 
 A line tells, as means of the runs: octets a second from the call to the last octet, seconds, transmissions, and in how many
 runs the link was lost. `--table` prints the lines of all kinds, modes and losses for the ends that are named."""

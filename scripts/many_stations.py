@@ -1,12 +1,13 @@
 #!/usr/bin/env python3
-"""Many running stations on one channel, in step and as fast as they go: what a crowd of links carries. By hand.
+"""Many running stations on one channel, in step: what a crowd of links carries. By hand.
 
   scripts/many_stations.py [--tnc PROGRAM] [--pairs N] [--kind one|ask] [--seconds N] [--runs N] [--persist N]
                            [--late N] [--table]
 
 Each pair of stations has a link of its own, and all stations hear the sum of all others, but none while it sends. `one`: a
 host gives its link packets of 256 octets without end. `ask`: a host asks 40 octets, the other answers 200, again and again.
-A link that ends is called again. A station hears what was sent so many ticks ago (`--late`), as a carrier is noticed late.
+A link that ends is called again. A station hears what was sent so many ticks ago (`--late`), as a carrier is noticed late,
+and that many go at a time; with 3 a run goes some three times as fast as the air.
 
 A line tells, as means of the runs: octets that arrived, a second; transmissions, and how many of a hundred met another one;
 links lost; and what the least pair got, as a share of the mean pair. `--table` prints the lines of two, four and eight
@@ -79,16 +80,21 @@ class Channel:
     """The sound of all stations. Each hears the others, clipped as a card does, and nothing while it sends."""
 
     def __init__(self, stations, late):
-        self.stations = stations
-        self.heard = [[bytes(TICK)] * late for _ in stations]
+        self.stations, self.late = stations, late
+        self.heard = [bytes(TICK * late) for _ in stations]
         self.sending = [None] * len(stations)
         self.count = self.hit = 0
 
     def step(self):
-        """A tick of all stations."""
+        """So many ticks of all stations as a sound is late: a station takes 10 ms for each piece that it is given."""
         for station, heard in zip(self.stations, self.heard):
-            station.program.stdin.write(heard.pop(0))
-        sent = [read_all(it.program.stdout, TICK) for it in self.stations]
+            station.program.stdin.write(heard)
+        sent = [read_all(it.program.stdout, TICK * self.late) for it in self.stations]
+        heard = [self.tick([it[at : at + TICK] for it in sent]) for at in range(0, TICK * self.late, TICK)]
+        self.heard = [b"".join(ticks) for ticks in zip(*heard)]
+
+    def tick(self, sent):
+        """What each station hears of a tick."""
         on = [at for at, tick in enumerate(sent) if any(tick)]
         for at in range(len(sent)):
             if at not in on:
@@ -104,8 +110,7 @@ class Channel:
         for at in on[1:]:
             whole = array.array("i", map(operator.add, samples(whole), samples(sent[at])))
         mixed = clipped(whole)
-        for at, heard in enumerate(self.heard):
-            heard.append(bytes(TICK) if at in on else mixed)
+        return [bytes(TICK) if at in on else mixed for at in range(len(sent))]
 
 
 def samples(tick):
@@ -125,11 +130,10 @@ def run(given, pairs_count, kind, number):
     pairs = [Pair(given.tnc, 100 * number + it, given.persist) for it in range(pairs_count)]
     stations = [it for pair in pairs for it in pair.stations]
     channel = Channel(stations, given.late)
-    for tick in range(given.seconds * 100):
+    for _ in range(0, given.seconds * 100, given.late):
         channel.step()
-        if tick % 5 == 0:
-            for pair in pairs:
-                pair.go_on(kind)
+        for pair in pairs:
+            pair.go_on(kind)
     for it in stations:
         it.end()
     arrived = [pair.arrived for pair in pairs]
