@@ -61,8 +61,8 @@ pub fn set_ups_law()
     ensures { SetUpsLaw }
 {}
 
-/// In a step in which no host program sends C, v, c or d, and none leaves, no event of a link is a connect or a
-/// disconnect.
+/// In a step in which no host program sends C, v, c or d, and none leaves or is shut for what it sends (a bad length, a
+/// request of the web), no event of a link is a connect or a disconnect.
 pub fn hosts_ask_nothing()
     ensures { HostsAskNothing }
 {}
