@@ -1,0 +1,4 @@
+pub mod ToldMore
+pub mod Spelling
+pub mod WrittenRead
+pub mod Alike

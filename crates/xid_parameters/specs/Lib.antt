@@ -1,0 +1,5 @@
+pub mod XidField
+pub mod Values
+pub mod Told
+pub mod Agreement
+pub mod Written
