@@ -18,7 +18,9 @@ from air import free_port
 
 TOP = os.path.dirname(os.path.dirname(os.path.abspath(__file__)))
 PAGES = ("docs/OPERATING.md", "docs/HOSTS.md")
-OTHERS = ("sox", "arecord", "aplay", "nc", "kissutil", "aclients", "appserver", "aprx", "pat-winlink", "systemd-analyze")
+OTHERS = (
+    "sox", "arecord", "aplay", "nc", "socat", "kissutil", "aclients", "appserver", "aprx", "pat-winlink", "systemd-analyze",
+)
 PORTS = ("8000", "8001", "8002", "8010", "8011", "8080")
 CARD = """pcm.!default {{
   type asym
