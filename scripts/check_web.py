@@ -21,7 +21,7 @@ FRAME = ui_frame("N0CALL", "APRS", b"from a web page")
 LAST = ui_frame("N0CALL", "APRS", b"from a host")
 KISS = b"\xc0\0" + FRAME + b"\xc0"
 AGWPE = written(Message("K", body=b"\0" + FRAME))
-METHODS = "GET HEAD POST PUT DELETE CONNECT OPTIONS TRACE PATCH PRI".split()
+METHODS = "GET HEAD POST PUT DELETE CONNECT OPTIONS TRACE PATCH PRI DANCE get kiss".split()
 
 
 class Guest:
@@ -61,7 +61,7 @@ def begun(tnc):
 
 
 def shuts_the_web(tnc):
-    """Each HTTP method and a TLS handshake, whole and octet by octet, with a frame behind it."""
+    """Each HTTP method, methods of other names and a TLS handshake, whole and octet by octet, with a frame behind it."""
     world, guests = begun(tnc), []
     for beginning in [*(f"{it} / HTTP/1.1\r\n\r\n".encode() for it in METHODS), b"\x16\x03\x01\0\xf8\x01"]:
         whole, cut = Guest(world), Guest(world)
@@ -78,7 +78,7 @@ def shuts_the_web(tnc):
 def takes_texts(tnc):
     """What only looks like a method is passed over, and the frames behind it are sent."""
     world, far = begun(tnc), 0
-    for beginning in [b"kiss on\r", b"GETTY\r", b"PO", b"get / HTTP/1.1\r\n", b"\xc0POST / HTTP/1.1\r\n", b"\x16\x04"]:
+    for beginning in [b"kiss on\r", b"KISS ON\r", b"INT KISS\r", b"GETTY\r", b"PO", b"\xc0POST / HTTP/1.1\r\n", b"\x16\x04"]:
         guest = Guest(world)
         guest.say(beginning)
         world.go(2)
@@ -93,7 +93,7 @@ def with_curl(tnc):
     """curl posts a KISS frame to the KISS port, by HTTP/1 and by HTTP/2, and a message of AGWPE to the AGWPE port."""
     world = begun(tnc)
     port, agw = world.stations[0].kiss, world.stations[0].agw
-    asked = [(port, KISS, []), (port, KISS, ["--http2-prior-knowledge"]), (port, KISS, ["-X", "PUT"]), (agw, AGWPE, [])]
+    asked = [(port, KISS, []), (port, KISS, ["--http2-prior-knowledge"]), (port, KISS, ["-X", "PUT"]), (port, KISS, ["-X", "DANCE"]), (agw, AGWPE, [])]
     told = subprocess.run(["curl", "--version"], capture_output=True, text=True).stdout
     if "HTTP2" not in told:
         print("skipped: curl by HTTP/2 (this curl has none)")
