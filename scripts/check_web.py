@@ -122,28 +122,45 @@ Promise.all(posts).then(() => form.submit());
 """
 
 
-def with_chromium(tnc):
-    """A page in chromium posts a KISS frame and a message of AGWPE by `fetch`, and then a form."""
-    world = begun(tnc)
-    port, agw = world.stations[0].kiss, world.stations[0].agw
+OWN_PAGE = """<!doctype html>
+<script>
+fetch("http://127.0.0.1:%d/", { method: "DANCE", body: new Uint8Array(%s) }).catch(() => 0);
+</script>
+"""
+
+
+def browse(world, page, closed, *words):
+    """Lets chromium load a page until so many connections are closed. It may ask again after a connection that closed."""
     with tempfile.TemporaryDirectory() as home:
-        page = os.path.join(home, "page.html")
-        with open(page, "w") as file:
-            file.write(PAGE % (port, list(KISS), list(AGWPE), port, agw))
-        words = ["chromium", "--headless", "--no-sandbox", "--disable-gpu", f"--user-data-dir={home}/data"]
+        with open(os.path.join(home, "page.html"), "w") as file:
+            file.write(page)
+        words = ["chromium", "--headless", "--no-sandbox", "--disable-gpu", f"--user-data-dir={home}/data", *words]
         program = subprocess.Popen(
-            [*words, "--virtual-time-budget=5000", "--dump-dom", f"file://{page}"],
+            [*words, "--virtual-time-budget=5000", "--dump-dom", f"file://{home}/page.html"],
             stdout=subprocess.DEVNULL, stderr=subprocess.DEVNULL, start_new_session=True,
         )
         try:
-            # a browser may ask again after a connection that closed, so each is closed once at least
             world.pause = 0.005
-            world.until("three are closed", lambda: world.stations[0].report().count("closed ") >= 3)
+            world.until(f"{closed} are closed", lambda: world.stations[0].report().count("closed ") >= closed)
         finally:
             program.kill()
             program.wait()
     sends_last(world)
     world.end(closed=world.stations[0].report().count("closed "))
+
+
+def with_chromium(tnc):
+    """A page in chromium posts a KISS frame and a message of AGWPE by `fetch`, and then a form."""
+    world = begun(tnc)
+    port, agw = world.stations[0].kiss, world.stations[0].agw
+    browse(world, PAGE % (port, list(KISS), list(AGWPE), port, agw), 3)
+
+
+def with_own_page_in_chromium(tnc):
+    """A page that may ask as one of the port's own origin does, as after its name was made to mean 127.0.0.1, asks by a
+    method of its own. (Chromium is told to hold every page for such a one.)"""
+    world = begun(tnc)
+    browse(world, OWN_PAGE % (world.stations[0].kiss, list(KISS)), 1, "--disable-web-security")
 
 
 def main():
@@ -152,7 +169,9 @@ def main():
     reader.add_argument("--only", default="")
     given = reader.parse_args()
     checks = [shuts_the_web, takes_texts]
-    for program, check in (("curl", with_curl), ("chromium", with_chromium)):
+    for program, check in (
+        ("curl", with_curl), ("chromium", with_chromium), ("chromium", with_own_page_in_chromium),
+    ):
         if shutil.which(program):
             checks.append(check)
         else:
