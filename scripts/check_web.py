@@ -61,7 +61,7 @@ def begun(tnc):
 
 
 def shuts_the_web(tnc):
-    """Each HTTP method, methods of other names and a TLS handshake, whole and octet by octet, with a frame behind it."""
+    """HTTP methods, those of other names too, and a TLS handshake, whole and octet by octet, with a frame after each."""
     world, guests = begun(tnc), []
     for beginning in [*(f"{it} / HTTP/1.1\r\n\r\n".encode() for it in METHODS), b"\x16\x03\x01\0\xf8\x01"]:
         whole, cut = Guest(world), Guest(world)
@@ -78,7 +78,8 @@ def shuts_the_web(tnc):
 def takes_texts(tnc):
     """What only looks like a method is passed over, and the frames behind it are sent."""
     world, far = begun(tnc), 0
-    for beginning in [b"kiss on\r", b"KISS ON\r", b"INT KISS\r", b"GETTY\r", b"PO", b"\xc0POST / HTTP/1.1\r\n", b"\x16\x04"]:
+    texts = [b"kiss on\r", b"KISS ON\r", b"INT KISS\r", b"GETTY\r", b"PO", b"\xc0POST / HTTP/1.1\r\n", b"\x16\x04"]
+    for beginning in texts:
         guest = Guest(world)
         guest.say(beginning)
         world.go(2)
@@ -93,7 +94,8 @@ def with_curl(tnc):
     """curl posts a KISS frame to the KISS port, by HTTP/1 and by HTTP/2, and a message of AGWPE to the AGWPE port."""
     world = begun(tnc)
     port, agw = world.stations[0].kiss, world.stations[0].agw
-    asked = [(port, KISS, []), (port, KISS, ["--http2-prior-knowledge"]), (port, KISS, ["-X", "PUT"]), (port, KISS, ["-X", "DANCE"]), (agw, AGWPE, [])]
+    asked = [(port, KISS, words) for words in ([], ["--http2-prior-knowledge"], ["-X", "PUT"], ["-X", "DANCE"])]
+    asked.append((agw, AGWPE, []))
     told = subprocess.run(["curl", "--version"], capture_output=True, text=True).stdout
     if "HTTP2" not in told:
         print("skipped: curl by HTTP/2 (this curl has none)")
@@ -130,7 +132,7 @@ fetch("http://127.0.0.1:%d/", { method: "DANCE", body: new Uint8Array(%s) }).cat
 
 
 def browse(world, page, closed, *words):
-    """Lets chromium load a page until so many connections are closed. It may ask again after a connection that closed."""
+    """Lets chromium load a page until so many connections are closed. It may ask again after one that closed."""
     with tempfile.TemporaryDirectory() as home:
         with open(os.path.join(home, "page.html"), "w") as file:
             file.write(page)
