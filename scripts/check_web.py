@@ -21,7 +21,7 @@ FRAME = ui_frame("N0CALL", "APRS", b"from a web page")
 LAST = ui_frame("N0CALL", "APRS", b"from a host")
 KISS = b"\xc0\0" + FRAME + b"\xc0"
 AGWPE = written(Message("K", body=b"\0" + FRAME))
-METHODS = "GET HEAD POST PUT DELETE CONNECT OPTIONS TRACE PATCH PRI".split()
+METHODS = "GET HEAD POST PUT DELETE CONNECT OPTIONS TRACE PATCH PRI DANCE get kiss".split()
 
 
 class Guest:
@@ -61,7 +61,7 @@ def begun(tnc):
 
 
 def shuts_the_web(tnc):
-    """Each HTTP method and a TLS handshake, whole and octet by octet, with a frame behind it."""
+    """HTTP methods, those of other names too, and a TLS handshake, whole and octet by octet, with a frame after each."""
     world, guests = begun(tnc), []
     for beginning in [*(f"{it} / HTTP/1.1\r\n\r\n".encode() for it in METHODS), b"\x16\x03\x01\0\xf8\x01"]:
         whole, cut = Guest(world), Guest(world)
@@ -78,7 +78,8 @@ def shuts_the_web(tnc):
 def takes_texts(tnc):
     """What only looks like a method is passed over, and the frames behind it are sent."""
     world, far = begun(tnc), 0
-    for beginning in [b"kiss on\r", b"GETTY\r", b"PO", b"get / HTTP/1.1\r\n", b"\xc0POST / HTTP/1.1\r\n", b"\x16\x04"]:
+    texts = [b"kiss on\r", b"KISS ON\r", b"INT KISS\r", b"GETTY\r", b"PO", b"\xc0POST / HTTP/1.1\r\n", b"\x16\x04"]
+    for beginning in texts:
         guest = Guest(world)
         guest.say(beginning)
         world.go(2)
@@ -93,7 +94,8 @@ def with_curl(tnc):
     """curl posts a KISS frame to the KISS port, by HTTP/1 and by HTTP/2, and a message of AGWPE to the AGWPE port."""
     world = begun(tnc)
     port, agw = world.stations[0].kiss, world.stations[0].agw
-    asked = [(port, KISS, []), (port, KISS, ["--http2-prior-knowledge"]), (port, KISS, ["-X", "PUT"]), (agw, AGWPE, [])]
+    asked = [(port, KISS, words) for words in ([], ["--http2-prior-knowledge"], ["-X", "PUT"], ["-X", "DANCE"])]
+    asked.append((agw, AGWPE, []))
     told = subprocess.run(["curl", "--version"], capture_output=True, text=True).stdout
     if "HTTP2" not in told:
         print("skipped: curl by HTTP/2 (this curl has none)")
@@ -122,28 +124,45 @@ Promise.all(posts).then(() => form.submit());
 """
 
 
-def with_chromium(tnc):
-    """A page in chromium posts a KISS frame and a message of AGWPE by `fetch`, and then a form."""
-    world = begun(tnc)
-    port, agw = world.stations[0].kiss, world.stations[0].agw
+OWN_PAGE = """<!doctype html>
+<script>
+fetch("http://127.0.0.1:%d/", { method: "DANCE", body: new Uint8Array(%s) }).catch(() => 0);
+</script>
+"""
+
+
+def browse(world, page, closed, *words):
+    """Lets chromium load a page until so many connections are closed. It may ask again after one that closed."""
     with tempfile.TemporaryDirectory() as home:
-        page = os.path.join(home, "page.html")
-        with open(page, "w") as file:
-            file.write(PAGE % (port, list(KISS), list(AGWPE), port, agw))
-        words = ["chromium", "--headless", "--no-sandbox", "--disable-gpu", f"--user-data-dir={home}/data"]
+        with open(os.path.join(home, "page.html"), "w") as file:
+            file.write(page)
+        words = ["chromium", "--headless", "--no-sandbox", "--disable-gpu", f"--user-data-dir={home}/data", *words]
         program = subprocess.Popen(
-            [*words, "--virtual-time-budget=5000", "--dump-dom", f"file://{page}"],
+            [*words, "--virtual-time-budget=5000", "--dump-dom", f"file://{home}/page.html"],
             stdout=subprocess.DEVNULL, stderr=subprocess.DEVNULL, start_new_session=True,
         )
         try:
-            # a browser may ask again after a connection that closed, so each is closed once at least
             world.pause = 0.005
-            world.until("three are closed", lambda: world.stations[0].report().count("closed ") >= 3)
+            world.until(f"{closed} are closed", lambda: world.stations[0].report().count("closed ") >= closed)
         finally:
             program.kill()
             program.wait()
     sends_last(world)
     world.end(closed=world.stations[0].report().count("closed "))
+
+
+def with_chromium(tnc):
+    """A page in chromium posts a KISS frame and a message of AGWPE by `fetch`, and then a form."""
+    world = begun(tnc)
+    port, agw = world.stations[0].kiss, world.stations[0].agw
+    browse(world, PAGE % (port, list(KISS), list(AGWPE), port, agw), 3)
+
+
+def with_own_page_in_chromium(tnc):
+    """A page that may ask as one of the port's own origin does, as after its name was made to mean 127.0.0.1, asks by a
+    method of its own. (Chromium is told to hold every page for such a one.)"""
+    world = begun(tnc)
+    browse(world, OWN_PAGE % (world.stations[0].kiss, list(KISS)), 1, "--disable-web-security")
 
 
 def main():
@@ -152,7 +171,9 @@ def main():
     reader.add_argument("--only", default="")
     given = reader.parse_args()
     checks = [shuts_the_web, takes_texts]
-    for program, check in (("curl", with_curl), ("chromium", with_chromium)):
+    for program, check in (
+        ("curl", with_curl), ("chromium", with_chromium), ("chromium", with_own_page_in_chromium),
+    ):
         if shutil.which(program):
             checks.append(check)
         else:

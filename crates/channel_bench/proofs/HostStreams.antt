@@ -7,7 +7,7 @@ use Rattle.std.proofs.lemmas.List.{drop_at}
 use Rattle.agwpe_port.specs.Messages.{Reading, reading}
 use Rattle.agwpe_port.proofs.WrittenLemmas.{written_reads}
 use Rattle.kiss_port.specs.Items.{items_in}
-use Rattle.kiss_port.specs.WebRequests.{is_web_request, host_items}
+use Rattle.kiss_port.specs.WebRequests.{has_web_beginning, is_web_request, host_items}
 use Rattle.kiss_port.specs.declared.item.KissItem.{KissItem}
 use Rattle.kiss_port.specs.declared.item.KissItem.TheVariants.{Set}
 use Rattle.kiss_port.proofs.WebLemmas.{kiss_items, no_web_before}
@@ -70,7 +70,7 @@ pub record IsSetting (stream : List ℕ) : Type 0 where
 
 -- a FEND begins no request of the web
 sets_by_kiss : (more : List ℕ) → is_web_request (full_duplex_octets ++ more) ≡ false
-unfolding is_web_request
+unfolding is_web_request has_web_beginning
 sets_by_kiss more = refl
 
 pub new_setting : IsSetting []

@@ -1,8 +1,10 @@
 // The first octets of a host's connection.
 
-ghost use Rattle.std.specs.Prelude.{◌≡◌, [], ◌∷◌, ◌++◌, take};
-ghost use Rattle.kiss_port.specs.WebRequests.{is_web_request};
+ghost use Rattle.std.specs.Prelude.{◌≡◌, []};
+ghost use Rattle.kiss_port.specs.HeldHost.{beginning_of, beginning_with, tells_web};
+ghost use Rattle.kiss_port.specs.WebRequests.{has_web_beginning};
 
+use crate::request_line::RequestLine;
 use std::marker::Model;
 
 // The most octets that are kept: CONNECT and OPTIONS have seven letters, and a blank stands after them.
@@ -12,14 +14,16 @@ const MOST_KEPT: usize = 8;
 pub(crate) struct Beginning {
     octets: [u8; MOST_KEPT],
     count: usize,
+    line: RequestLine,
 }
 
 impl Model for Beginning {
-    ghost use Rattle.std.specs.Prelude.{ℕ, List, take, ◌≤◌};
+    ghost use Rattle.std.specs.Prelude.{take, ◌≤◌};
+    ghost use Rattle.kiss_port.specs.HeldHost.{HeldBeginning};
 
-    ghost Value = { List ℕ };
+    ghost Value = { HeldBeginning };
 
-    ghost view = { λ b. take b.count b.octets };
+    ghost view = { λ b. record { first = take b.count b.octets; line = b.line } };
 
     ghost invariant = { λ b. b.count ≤ 8 };
 }
@@ -27,45 +31,49 @@ impl Model for Beginning {
 impl Beginning {
     // Nothing has come.
     pub(crate) fn new() -> Self
-        ensures { result ≡ [] }
+        ensures { result ≡ beginning_of [] }
     {
         Beginning {
             octets: [0; MOST_KEPT],
             count: 0,
+            line: RequestLine::Empty,
         }
     }
 
-    // The beginning with the next octet, if there is room.
+    // The beginning with the next octet, which is kept if there is room.
     pub(crate) fn with(&self, octet: u8) -> Self
-        ensures { result ≡ take 8 (self.now ++ octet ∷ []) }
+        ensures { result ≡ beginning_with self.now octet }
     {
+        let line = self.line.with(octet);
         let mut octets = self.octets;
         if self.count == MOST_KEPT {
             return Beginning {
                 octets,
                 count: MOST_KEPT,
+                line,
             };
         }
         octets[self.count] = octet;
         Beginning {
             octets,
             count: self.count + 1,
+            line,
         }
     }
 
     // Whether a program of the web begins so.
     pub(crate) fn is_web_request(&self) -> bool
-        ensures { result ≡ is_web_request self.now }
+        ensures { result ≡ tells_web self.now }
     {
         let first = &self.octets[..self.count];
-        begins_as_web_request(first)
+        has_web_beginning(first) || self.line.is_request()
     }
 }
 
 // Whether octets begin with one of the methods of HTTP and a blank, or with a TLS handshake.
-#[tactic(auto, unfolding(crate::specs::WebRequests::is_web_request))]
-fn begins_as_web_request(octets: &[u8]) -> bool
-    ensures { result ≡ is_web_request octets.now }
+#[tactic(auto, unfolding(crate::specs::WebRequests::has_web_beginning))]
+fn has_web_beginning(octets: &[u8]) -> bool
+    ensures { result ≡ has_web_beginning octets.now }
 {
     octets.starts_with(b"GET ")
         || octets.starts_with(b"HEAD ")

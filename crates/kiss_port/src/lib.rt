@@ -11,6 +11,7 @@ mod item;
 mod octet;
 mod open_piece;
 mod reader;
+mod request_line;
 mod writer;
 
 pub use fault::KissFault;

@@ -1,24 +1,33 @@
-use Rattle.std.proofs.Common.{◌≡◌, ℕ, List, [], ◌∷◌, ◌++◌, take, Bool, true, false, refl, subst, sym, ap, ◌∙◌}
+use Rattle.std.proofs.Common.{◌≡◌, ℕ, List, [], ◌∷◌, ◌++◌, Bool, true, false, refl, subst, sym, ap, ◌∙◌}
 use Rattle.std.specs.Option.{option_to_list}
 use Rattle.std.proofs.lemmas.Bool.{false≢true}
 use Rattle.kiss_port.specs.Held.{StandsFor}
-use Rattle.kiss_port.specs.HeldHost.{HeldHost, HostStandsForSome}
-use Rattle.kiss_port.specs.WebRequests.{is_web_request}
+use Rattle.kiss_port.specs.HeldHost.{HeldBeginning, HeldHost, HostStandsForSome, beginning_with, tells_web}
 use Rattle.kiss_port.proofs.WebLemmas.{is_web, stands_web, items_web, is_kiss, piece_there, stands_kiss, items_kiss}
 use Rattle.kiss_port.proofs.WebLemmas.{never_web}
 use Rattle.kiss_port.proofs.host_reader.KissHostIn.push.Goals as goal
 
 -- what is kept of the beginning, of the reader as it was
-of_now : (inside now : HeldHost) (octet : ℕ) (next : List ℕ) → inside ≡ now
-    → next ≡ take 8 (inside.beginning ++ octet ∷ []) → next ≡ take 8 (now.beginning ++ octet ∷ [])
-of_now inside now octet next same is = is ∙ ap (λ (held : HeldHost). take 8 (held.beginning ++ octet ∷ [])) same
+of_now : (inside now : HeldHost) (octet : ℕ) (next : HeldBeginning) → inside ≡ now
+    → next ≡ beginning_with inside.beginning octet → next ≡ beginning_with now.beginning octet
+of_now inside now octet next same is = is ∙ ap (λ (held : HeldHost). beginning_with held.beginning octet) same
 
 -- what is told of it
-of_next : (told answer : Bool) (next : List ℕ) → told ≡ is_web_request next → told ≡ answer
-    → is_web_request next ≡ answer
+of_next : (told answer : Bool) (next : HeldBeginning) → told ≡ tells_web next → told ≡ answer
+    → tells_web next ≡ answer
 of_next told answer next is now = sym is ∙ now
 
 -- ---- a request of the web
+
+pub invariant_of-self : goal.invariant_of-self
+invariant_of-self c =
+    let some = subst HostStandsForSome c.self.view_is c.self.invariant in
+    let next = c.with-beginning.result in
+    let made = of_now _ c.args.self.now c.args.octet next c.self.view_is c.with-beginning.ensures in
+    let web = of_next _ true next c.is_web_request.ensures c.if-is_web_request.true in (
+      some.0 ++ c.args.octet ∷ [],
+      stands_web c.args.self.now some.0 some.1 c.args.octet next made web c.self.inside.items,
+    )
 
 pub returns-then-is_web_request-clause-stands_for : goal.returns-then-is_web_request-clause-stands_for
 returns-then-is_web_request-clause-stands_for c = λ stream stands other.
