@@ -471,6 +471,13 @@ else
     skip "calls over two stations" python3
 fi
 
+# The page to look at. It needs aiohttp, which Debian has for its own Python.
+if /usr/bin/python3 -c 'import aiohttp' 2>/dev/null; then
+    check "the console" quietly scripts/check_console.py --tnc "$tnc"
+else
+    skip "the console" aiohttp
+fi
+
 # Words that are refused, and streams that fail.
 check "a word that is no command" is_refused decod
 check "no word" is_refused
