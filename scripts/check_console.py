@@ -113,9 +113,10 @@ class Console:
         """Waits for an event, passes over others, and returns what it tells."""
         async def wait():
             async for message in self.socket:
-                for name, value in json.loads(message.data).items():
-                    if name == what and holds(value):
-                        return value
+                event = json.loads(message.data)
+                event = event.get("everything", event)  # what a page is told first
+                if what in event and holds(event[what]):
+                    return event[what]
             raise AssertionError("the console has closed the page")
         try:
             return await asyncio.wait_for(wait(), WAIT)
