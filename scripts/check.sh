@@ -478,6 +478,13 @@ else
     skip "the console" aiohttp
 fi
 
+# What the build tells of itself.
+if has python3; then
+    check "what scripts/build.sh tells" scripts/check_build.py
+else
+    skip "what scripts/build.sh tells" python3
+fi
+
 # Words that are refused, and streams that fail.
 check "a word that is no command" is_refused decod
 check "no word" is_refused
