@@ -2,8 +2,9 @@
 import asyncio
 import os
 import re
-import stat
 import sys
+import threading
+from pathlib import Path
 
 NAMES = ("peak", "clipped", "busy", "heard", "sent", "dropped", "hosts", "links")
 STATS = re.compile(r"stats (?P<ticks>\d+)" + "".join(rf" {it} (?P<{it}>\d+)" for it in NAMES))
@@ -31,15 +32,17 @@ class Measured:
 
 
 async def follow(name, take):
-    """Hands each line to `take`, as long as there may be more."""
-    if name == "-" or stat.S_ISFIFO(os.stat(name).st_mode):
-        await asyncio.get_running_loop().run_in_executor(None, read_pipe, name, take, asyncio.get_running_loop())
+    """Hands each line to `take`: of a file as long as this goes on, of a pipe on a thread of its own."""
+    if name == "-" or Path(name).is_fifo():
+        # a daemon, since it may wait for the pipe when the program is to end
+        words = (name, take, asyncio.get_running_loop())
+        threading.Thread(target=read_pipe, args=words, daemon=True).start()
     else:
         await read_file(name, take)
 
 
 def read_pipe(name, take, loop):
-    """Reads to the end, on a thread of its own."""
+    """Reads to the end."""
     with sys.stdin if name == "-" else open(name, errors="replace") as pipe:
         for line in pipe:
             loop.call_soon_threadsafe(take, line.rstrip("\n"))
