@@ -471,6 +471,20 @@ else
     skip "calls over two stations" python3
 fi
 
+# The page to look at. It needs aiohttp, which Debian has for its own Python.
+if /usr/bin/python3 -c 'import aiohttp' 2>/dev/null; then
+    check "the console" quietly scripts/check_console.py --tnc "$tnc"
+else
+    skip "the console" aiohttp
+fi
+
+# What the build tells of itself.
+if has python3; then
+    check "what scripts/build.sh tells" scripts/check_build.py
+else
+    skip "what scripts/build.sh tells" python3
+fi
+
 # Words that are refused, and streams that fail.
 check "a word that is no command" is_refused decod
 check "no word" is_refused

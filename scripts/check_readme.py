@@ -14,7 +14,7 @@ import sys
 import tempfile
 
 TOP = os.path.dirname(os.path.dirname(os.path.abspath(__file__)))
-PAGES = ("README.md", "docs/RECEIVING.md", "docs/BENCH.md")
+PAGES = ("README.md", "docs/COMMANDS.md", "docs/RECEIVING.md", "docs/BENCH.md")
 OTHERS = ("sox", "atest", "multimon-ng", "arecord", "aplay")
 CARD = """pcm.!default {{
   type asym

@@ -1,16 +1,19 @@
 #!/usr/bin/env python3
-"""Proves the program's crates and builds it, and tells how far that is: on a terminal in one line that is written anew,
-else in a line a crate. If the files are those of the last build, it says so and does nothing.
+"""Proves the program's crates and builds it, and tells how far that is: on a terminal in one line that is written anew
+each second, else in a line a crate. If the files are those of the last build, it says so and does nothing.
+
   scripts/prove_program.py         (scripts/build.sh calls it)"""
 import hashlib
 import os
 import subprocess
 import sys
+import threading
 import time
 from pathlib import Path
 
 PROGRAM = "tnc_main"
 PARTS = ("src", "specs", "proofs")
+MEMORY = 3 << 30  # octets that a proof may take
 
 
 def crates_of(program):
@@ -43,34 +46,64 @@ def sum_of(crates):
     return total.hexdigest()
 
 
+def processors():
+    """Returns how many crates are proved beside each other: one for each processor, if there is memory for so many."""
+    memory = os.sysconf("SC_PAGE_SIZE") * os.sysconf("SC_PHYS_PAGES")
+    return max(1, min(len(os.sched_getaffinity(0)), memory // MEMORY))
+
+
 class Progress:
     """What is told while crates are proved. A crate counts as much as its lines: they tell best how long it takes."""
 
-    def __init__(self, crates):
-        self.lines = {it: sum(file.read_bytes().count(b"\n") for file in files_of(it)) for it in crates}
-        self.start, self.done, self.shown = time.monotonic(), set(), 0
+    def __init__(self, lines, out=sys.stderr, clock=time.monotonic):
+        self.lines, self.out, self.clock = lines, out, clock
+        self.start, self.done, self.shown, self.last = clock(), set(), 0, ""
+        self.lock, self.is_over = threading.Lock(), threading.Event()
+        if out.isatty():
+            threading.Thread(target=self.tick, daemon=True).start()
+
+    def tick(self):
+        """Writes the line anew each second."""
+        while not self.is_over.wait(1):
+            with self.lock:
+                if not self.is_over.is_set():
+                    self.tell(self.line())
+
+    def line(self):
+        """How far it is: crates done of all, minutes so far, and about how many are left."""
+        part = sum(self.lines[it] for it in self.done) / sum(self.lines.values())
+        minutes = (self.clock() - self.start) / 60
+        is_known = minutes > 1 and 0.02 < part < 1
+        left = f", about {max(1, round(minutes * (1 - part) / part))} min left" if is_known else ""
+        last = f" ({self.last})" if self.last else ""
+        return f"{len(self.done)} of {len(self.lines)} crates proved, {minutes:.0f} min so far{left}{last}"
 
     def tell(self, text, stays=False):
         """Writes a line, on a terminal over the one before it."""
-        if not sys.stderr.isatty():
-            print(text, file=sys.stderr, flush=True)
+        if not self.out.isatty():
+            print(text, file=self.out, flush=True)
             return
-        print("\r" + text.ljust(self.shown), end="\n" if stays else "", file=sys.stderr, flush=True)
+        print("\r" + text.ljust(self.shown), end="\n" if stays else "", file=self.out, flush=True)
         self.shown = 0 if stays else len(text)
 
     def proved(self, crate):
         """Tells that a crate is proved."""
-        self.done.add(crate)
-        part = sum(self.lines[it] for it in self.done) / sum(self.lines.values())
-        minutes = (time.monotonic() - self.start) / 60
-        left = f", about {minutes * (1 - part) / part:.0f} min left" if minutes > 1 else ""
-        self.tell(f"{len(self.done)} of {len(self.lines)} crates proved, {minutes:.0f} min so far{left} ({crate})")
+        with self.lock:
+            self.done.add(crate)
+            self.last = crate
+            self.tell(self.line())
+
+    def end(self, text):
+        """Tells how it ended."""
+        with self.lock:
+            self.is_over.set()
+            self.tell(text, stays=True)
 
 
 def prove(crates):
     """Proves the crates, those that do not need each other beside each other, and returns whether all are."""
-    progress = Progress(crates)
-    command = ["rt", "all", "check", "--jobs", str(os.cpu_count() or 1)]
+    progress = Progress({it: sum(file.read_bytes().count(b"\n") for file in files_of(it)) for it in crates})
+    command = ["rt", "all", "check", "--jobs", str(processors())]
     said, is_summary = [], False
     with subprocess.Popen(command, cwd=f"crates/{PROGRAM}", stdout=subprocess.PIPE, stderr=subprocess.STDOUT,
                           text=True, errors="replace") as run:
@@ -81,10 +114,10 @@ def prove(crates):
             if name in crates and not is_summary:
                 progress.proved(name)
     if run.returncode:
-        progress.tell("not proved: what the prover said last follows", stays=True)
+        progress.end("not proved: what the prover said last follows")
         sys.stderr.writelines(said[-60:])
         return False
-    progress.tell(f"all {len(crates)} crates proved; building the program", stays=True)
+    progress.end(f"all {len(crates)} crates proved; building the program")
     return True
 
 
@@ -96,9 +129,10 @@ def main():
     if (out / PROGRAM).exists() and stamp.exists() and stamp.read_text() == now:
         print("nothing to do: the program is built from these files", file=sys.stderr)
         return 0
-    print(f"{len(crates)} crates are proved before the program is built: each function is checked against what its source\n"
-          "promises, which takes longer than compiling. If nothing is proved yet, that is about half an hour on four\n"
-          "processors; a later run proves what changed.", file=sys.stderr)
+    print(f"{len(crates)} crates are proved before the program is built, {processors()} at a time: each function is\n"
+          "checked against what its source promises, which takes longer than compiling. If nothing is proved yet, it takes\n"
+          "about half an hour on four processors with nothing else to do; a later run proves what changed.",
+          file=sys.stderr)
     if not prove(crates):
         return 1
     built = subprocess.run(["rt", "run", "--", "decode"], cwd=f"crates/{PROGRAM}", stdin=subprocess.DEVNULL,
