@@ -22,7 +22,7 @@ import sys
 WORKED = [
     ("--seed 7 --octets 0 --full", 0, "ticks 252", "sent 4 lost 0"),
     ("--seed 7 --octets 0 --full --wide", 0, "ticks 252", "sent 4 lost 0"),
-    ("--seed 7 --octets 2000 --loss 20", 0, "ticks 8692", "sent 27 lost 9"),
+    ("--seed 7 --octets 2000 --loss 20", 0, "ticks 8222", "sent 31 lost 10"),
     ("--seed 85 --octets 5000 --full", 0, "ticks 4278", None),
 ]
 REPORTS = {0: r"", 6: r"tnc: stray [0-9a-f]+\n", 7: r"tnc: not quiet at [0-9]+\n", 8: r"tnc: spent after [0-9]+ ticks\n"}

@@ -4,7 +4,8 @@ use Rattle.station_laws.proofs.Common.{Failed, inl, inr, Packet, Told, Opened, G
 use Rattle.station_laws.proofs.Common.{Up, Releasing, Event, Machine, step, begin, RunsIn, Row, Settles, Stepped}
 use Rattle.station_laws.proofs.Common.{step_is, is_refused, as_timed, agrees, calls_again, connects, declines}
 use Rattle.station_laws.proofs.Common.{ends_by_disc, ends_by_dm, ends_call, gives_up, is_answered, is_called}
-use Rattle.station_laws.proofs.Common.{is_called_again, narrows, releases_again, resets, rests, takes, wishes, works}
+use Rattle.station_laws.proofs.Common.{is_called_again, narrows, falls_narrow, releases_again, resets, rests, takes}
+use Rattle.station_laws.proofs.Common.{wishes, works}
 use Rattle.station_laws.proofs.Common.{goes_on, is_down, releases}
 use Rattle.link_machine.specs.Turn.{Turn}
 use Rattle.link_steps.proofs.Rows.{Flushes}
@@ -58,7 +59,8 @@ row_apart m event t runs h (is_called modulus flag idle known heard) =
     (idle_runs_not runs m.control.state h idle, tt)
 row_apart m event t runs h (is_called_again modulus flag up known heard) = (refl, tt)
 row_apart m event t runs h (is_answered calling heard) = (calling_runs_not runs m.control.state h calling, tt)
-row_apart m event t runs h (narrows calling heard) = tt
+row_apart m event t runs h (falls_narrow (as_timed c mode) calling wide tick) = tt
+row_apart m event t runs h (narrows calling wide heard) = tt
 row_apart m event t runs h (resets up wrong) = tt
 row_apart m event t runs h (connects idle connecting) = tt
 row_apart m event t runs h (takes packet sending short) = tt

@@ -5,7 +5,8 @@ use Rattle.station_laws.proofs.Common.{each_append, range_with_len, Path, AgwMes
 use Rattle.station_laws.proofs.Common.{packets_of, data_pid, giving, disconnecting, giving_up, giving_up_all}
 use Rattle.station_laws.proofs.Common.{giving_up_link, leaving, without_host, without_owner, event_of, event_at}
 use Rattle.station_laws.proofs.Common.{with_links, Link, IsNewKey, is_between, link_at, most_links, with_link}
-use Rattle.station_laws.proofs.Common.{with_new_link, is_number, ticking_at, ticking_links, waits, Turn, Act, in_order}
+use Rattle.station_laws.proofs.Common.{with_new_link, is_number, ticking_at, ticking_links, t1_stands, Turn, Act}
+use Rattle.station_laws.proofs.Common.{in_order}
 use Rattle.station_laws.proofs.Common.{changing, step, settled_link, Choice, first_chosen, LinkStep, link_step}
 use Rattle.station_laws.proofs.Common.{steps_for, steps_at, steps_along, ticks_at, tick_steps, given_up, gives_up_at}
 use Rattle.station_laws.proofs.Common.{leaving_steps, sends_at, data_steps, disconnect_steps}
@@ -271,12 +272,12 @@ made_does id plan calls before key link path made event may made_is own m table 
 
 -- ---- a tick
 
-pub ticks_do : (id : ℕ) (plan : CallPlan) → IsBetweenCalls plan → (turn : Turn)
-    → Does id plan turn (tick_steps (meant plan) turn) (ticking_links turn)
+pub ticks_do : (id : ℕ) (plan : CallPlan) → IsBetweenCalls plan → (busy : Bool) (turn : Turn)
+    → Does id plan turn (tick_steps (meant plan) busy turn) (ticking_links busy turn)
 unfolding ticking_links
-ticks_do id plan calls turn =
-    does_along id plan ticking_at (ticks_at (meant plan))
-    (λ key t. event_does id plan calls key (LinkTick (waits key t.now.channel.waiting)) t)
+ticks_do id plan calls busy turn =
+    does_along id plan (ticking_at busy) (ticks_at (meant plan) busy)
+    (λ key t. event_does id plan calls key (LinkTick (t1_stands busy key t.now.channel)) t)
     (range_with_len 0 most_links) turn
 
 -- ---- another host program leaves

@@ -652,10 +652,10 @@ module _ (id : ℕ) (plan : CallPlan) (called : IsBetweenCalls plan) where
   turn_does (FromHost event) before after turn stays agw = host_does event before after stays agw turn
   turn_does (OffAir octets) before after turn stays agw = heard_does octets before after agw turn
   turn_does (OfClock busy) before after turn stays agw =
-      let ticked = ticking_links before in
-      subst (Does id plan before (tick_steps (meant plan) before)) (sym turn.effect)
+      let ticked = ticking_links busy before in
+      subst (Does id plan before (tick_steps (meant plan) busy before)) (sym turn.effect)
       (does_on_last before ticked (ticking busy turn.monitored before)
-      (tick_steps (meant plan) before) (ticks_do id plan called before)
+      (tick_steps (meant plan) busy before) (ticks_do id plan called busy before)
       (does_on id plan ticked (monitoring true ticked.now.ticks turn.monitored ticked)
       (ticking busy turn.monitored before) [] []
       (monitors_does true ticked.now.ticks turn.monitored ticked

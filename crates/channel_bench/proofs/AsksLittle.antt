@@ -2,16 +2,17 @@
 use Rattle.channel_bench.proofs.Common.{◌≡◌, ℕ, zero, suc, ◌≤◌, Bool, true, false, List, [], ◌∷◌, length, drop, cond}
 use Rattle.channel_bench.proofs.Common.{is_some, refl, sym, ap, ◌∙◌, subst, arith, list_any, or_parts, false≢true, ⊤}
 use Rattle.channel_bench.proofs.Common.{Kind, Packet, LinkState, Idle, Calling, Up, Releasing, Hear, Machine, SentIn}
-use Rattle.channel_bench.proofs.Common.{refusal_of, step, IsDown, IsFrmr, Row, Settles, Stepped, step_is, as_timed}
+use Rattle.channel_bench.proofs.Common.{refusal_of, step, IsDown, RefusesWide, Row, Settles, Stepped, step_is, as_timed}
 use Rattle.channel_bench.proofs.Common.{agrees, calls_again, connects, declines, ends_by_disc, ends_by_dm, ends_call}
-use Rattle.channel_bench.proofs.Common.{gives_up, is_answered, is_called, is_called_again, narrows, releases_again}
+use Rattle.channel_bench.proofs.Common.{gives_up, is_answered, is_called, is_called_again, narrows, falls_narrow}
+use Rattle.channel_bench.proofs.Common.{releases_again}
 use Rattle.channel_bench.proofs.Common.{resets, rests, takes, wishes, works, goes_on, is_down, releases, is_refused}
 use Rattle.channel_bench.proofs.Common.{makes, LinkStep, AsksInRoom, DropsNoAsk, asks_when_sent}
 use Rattle.link_machine.specs.Event.{Event}
 use Rattle.link_machine.specs.Event.Event.{Connect, Send, Disconnect, Tick}
 use Rattle.link_machine.specs.Step.{row, settled}
 use Rattle.link_machine.specs.Turn.{Turn, begin}
-use Rattle.link_steps.proofs.Rows.{Hears, IsAny, IsAsking, IsConnect, IsT1Tick, IsUa}
+use Rattle.link_steps.proofs.Rows.{Hears, IsAsking, IsDeclined, IsConnect, IsT1Tick, IsUa}
 use Rattle.station_laws.specs.MatchedLaw.{FindsRoom}
 
 -- an event in which a frame may be sent: a connect, or a tick if no frame of the link waits
@@ -59,7 +60,7 @@ row_few :
     (m : Machine) (event : Event) (t : Turn) → IsUnheard event → IsDown m.control.state → Row m event t → Few event t
 row_few m event t asked down (rests (as_timed c mode)) = sends_not refl (subst IsDown (sym mode.0) down)
 row_few m event t asked down (works up run) = absurd (subst IsDown up down)
-row_few m event t asked down (declines flag is heard) = absurd (nothing_heard IsAny event asked heard)
+row_few m event t asked down (declines flag is heard) = absurd (nothing_heard (IsDeclined m) event asked heard)
 row_few m event t asked down (agrees flag is heard) = absurd (nothing_heard IsAsking event asked heard)
 row_few m event t asked down (calls_again (as_timed c mode) calling tick) =
     sends_once _ refl (subst IsDown (sym mode.0) down) (timer_may event tick)
@@ -73,7 +74,9 @@ row_few m event t asked down (is_called modulus flag idle known heard) =
     absurd (nothing_heard IsAsking event asked heard)
 row_few m event t asked down (is_called_again modulus flag up known heard) = absurd (subst IsDown up down)
 row_few m event t asked down (is_answered calling heard) = absurd (nothing_heard IsUa event asked heard)
-row_few m event t asked down (narrows calling heard) = absurd (nothing_heard IsFrmr event asked heard)
+row_few m event t asked down (falls_narrow (as_timed c mode) calling wide tick) =
+    sends_once _ refl (subst IsDown (sym mode.0) down) (timer_may event tick)
+row_few m event t asked down (narrows calling wide heard) = absurd (nothing_heard RefusesWide event asked heard)
 row_few m event t asked down (resets up wrong) = absurd (subst IsDown up down)
 row_few m event t asked down (connects idle connecting) = sends_once _ refl tt (connect_may event connecting)
 row_few m event t asked down (takes packet sending short) = sends_not refl down

@@ -130,11 +130,11 @@ knows_of : (w : BenchWords) (bench : BenchState) (e : End) (n : Near) → HoldsN
 knows_of w bench A n h matched room =
     let p : Premises n.common.moments = record { matched = matched; room = room } in
     let a = h.sees_a p in
-    record { noted = h.noted; hosts = h.little.a; owns = a.owns; asks = a.asks; queued = (h.sees_b p).queued }
+    record { noted = h.noted; little = h.little; owns = a.owns; asks = a.asks; queued = (h.sees_b p).queued }
 knows_of w bench B n h matched room =
     let p : Premises n.common.moments = record { matched = matched; room = room } in
     let a = h.sees_a p in
-    record { noted = h.noted; hosts = h.little.a; owns = a.owns; asks = a.asks; queued = (h.sees_b p).queued }
+    record { noted = h.noted; little = h.little; owns = a.owns; asks = a.asks; queued = (h.sees_b p).queued }
 
 holds_of :
     (w : BenchWords) (bench : BenchState) (e : End) (n : Near)

@@ -66,10 +66,11 @@ pub use Rattle.link_machine.specs.declared.acts.Told.{Told}
 pub use Rattle.link_machine.specs.declared.acts.Told.TheVariants.{Ended, Given, Opened}
 pub use Rattle.link_machine.specs.declared.state.LinkState.{LinkState}
 pub use Rattle.link_machine.specs.declared.state.LinkState.TheVariants.{Calling, Idle, Releasing, Up}
-pub use Rattle.link_steps.proofs.Rows.{IsDown, IsFrmr, Row, Settles, Stepped, step_is}
+pub use Rattle.link_steps.proofs.Rows.{IsDown, RefusesWide, Row, Settles, Stepped, step_is}
 pub use Rattle.link_steps.proofs.Rows.Rests.{as_timed}
 pub use Rattle.link_steps.proofs.Rows.Row.{agrees, calls_again, connects, declines, ends_by_disc, ends_by_dm, ends_call}
-pub use Rattle.link_steps.proofs.Rows.Row.{gives_up, is_answered, is_called, is_called_again, narrows, releases_again}
+pub use Rattle.link_steps.proofs.Rows.Row.{gives_up, is_answered, is_called, is_called_again, narrows, falls_narrow}
+pub use Rattle.link_steps.proofs.Rows.Row.{releases_again}
 pub use Rattle.link_steps.proofs.Rows.Row.{resets, rests, takes, wishes, works}
 pub use Rattle.link_steps.proofs.Rows.Settles.{goes_on, is_down, releases}
 pub use Rattle.link_steps.proofs.Rows.Stepped.{is_refused, makes}
@@ -107,7 +108,7 @@ pub use Rattle.station.specs.Registrations.{is_number, may_register, registrar}
 pub use Rattle.station.specs.Routes.{Route, path_along}
 pub use Rattle.station.specs.State.{StationState, most_held, most_waiting}
 unfoldable pub use Rattle.station.specs.Ticks.{ticking_links}
-pub use Rattle.station.specs.Ticks.{air_of, ticking_at, waits}
+pub use Rattle.station.specs.Ticks.{air_of, t1_stands, ticking_at, waits}
 pub use Rattle.station.specs.Turn.{Act, Out, Turn, begin, capacity, changing, closing, dropping, entering, in_order}
 pub use Rattle.station.specs.Turn.{queueing}
 pub use Rattle.station.specs.declared.host_event.HostEvent.{HostEvent}

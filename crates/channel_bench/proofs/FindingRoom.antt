@@ -1,5 +1,6 @@
--- Each step of A's station in a bench keeps one key for all frames that wait there. Each SABM, SABME and DISC of its
--- link that is not up finds room, if the link does not wish to disconnect while it is idle or calls.
+-- Each step of A's station in a bench keeps one key for all frames that wait there, and few wait while its link calls
+-- modulo 128. Each SABM, SABME and DISC of the link that is not up finds room, if it does not wish to disconnect while
+-- it is idle or calls.
 use Rattle.channel_bench.proofs.Common.{◌≡◌, ℕ, ◌<◌, Bool, true, false, nat_lt, List, [], ◌∷◌, length, drop, cond}
 use Rattle.channel_bench.proofs.Common.{Option, Some, None, refl, sym, ap, ◌∙◌, subst, arith, inl, inr, ⊤}
 use Rattle.channel_bench.proofs.Common.{range_with_len, list_any, call_field, spelling, AgwMessage, after_rules}
@@ -9,7 +10,8 @@ use Rattle.channel_bench.proofs.Common.{register_kind, IsAnswered, called_route,
 use Rattle.channel_bench.proofs.Common.{joining, taking, with_host, no_call, Links, most_links, StationState}
 use Rattle.channel_bench.proofs.Common.{most_waiting, ticking_links, Turn, begin, changing, closing, program_id}
 use Rattle.channel_bench.proofs.Common.{kiss_id, call_at, request, request_between, IsTurn, LinkStep, tick_steps}
-use Rattle.channel_bench.proofs.Common.{turn_steps, AsksInRoom, asks_when_sent}
+use Rattle.channel_bench.proofs.Common.{turn_steps, AsksInRoom, DropsNoAsk, asks_when_sent, ◌≤◌}
+use Rattle.link_machine.specs.Turn.{Turn as LinkTurn}
 use Rattle.std.specs.List.{AllByRecursion as Each}
 use Rattle.link_machine.specs.Event.{Event as LinkEvent}
 use Rattle.link_machine.specs.Event.Event.{Connect as LinkConnect, Send as LinkSend, Disconnect as LinkDisconnect}
@@ -19,13 +21,15 @@ use Rattle.channel_bench.proofs.AsksLittle.{disconnect_silent, drops_none, if_do
 use Rattle.channel_bench.proofs.CoreRun.{Occurs, Usual, input_of}
 use Rattle.channel_bench.proofs.CoreRun.Usual.{connects, disconnects, gives, hears, joins_kiss, joins_program}
 use Rattle.channel_bench.proofs.CoreRun.Usual.{registers, sets_full, ticks}
-use Rattle.channel_bench.proofs.HearsLittle.{WishesNothing, hear_asks}
+use Rattle.channel_bench.proofs.HearsLittle.{Asks, WishesNothing, hear_asks}
+use Rattle.channel_bench.proofs.HearsLittle.Asks.{asks_nothing, sends_one}
 use Rattle.channel_bench.proofs.HostsStay.{HasHosts, IsSaid, IsSet, said_by, set_by}
 use Rattle.channel_bench.proofs.HostsStay.IsSaid.{said, unheard}
 use Rattle.channel_bench.proofs.HostsStay.IsSet.{full, unheard as alone}
-use Rattle.channel_bench.proofs.KeyedSteps.{Finds, call_finds, data_keyed, disconnect_keyed, registering_keyed}
+use Rattle.channel_bench.proofs.KeyedSteps.{Finds, JoinsWide, call_finds, data_keyed, disconnect_keyed}
+use Rattle.channel_bench.proofs.KeyedSteps.{registering_keyed}
 use Rattle.channel_bench.proofs.KeyedSteps.{ticks_find}
-use Rattle.station_laws.proofs.LinkDid.{IsOfLink}
+use Rattle.station_laws.proofs.Chains.{HearsWell}
 use Rattle.channel_bench.proofs.OneKey.{HasKey, IsKeyed, Keyed}
 use Rattle.channel_bench.proofs.OwnLinks.{IsBy, IsUnshown, OwnsAll, chosen, heard_says}
 use Rattle.channel_bench.proofs.OwnMessages.{Comes, IsHeardFrom, IsRefusable, called, cause_in, said_go, usual_comes}
@@ -33,7 +37,7 @@ use Rattle.channel_bench.proofs.OwnMessages.Comes.{by_link, joined, refused, rep
 use Rattle.channel_bench.proofs.ProgramsAsk.{between_written, registers_written}
 use Rattle.station_laws.proofs.Causes.{Cause, cause_of}
 use Rattle.station_laws.proofs.Causes.Cause.{nothing, sending, disconnecting, hearing}
-use Rattle.channel_bench.proofs.KeyedHearing.{heard_keyed}
+use Rattle.channel_bench.proofs.KeyedHearing.{heard_joins, heard_keyed}
 use Rattle.channel_bench.proofs.ChannelOrder.{rules_wait}
 
 -- ---- a tick of the channel
@@ -51,6 +55,19 @@ air_keeps P waiting (Some t) h = go (names_next (bits_then t) (decided (bits_the
     go : (b : Bool) → Each P (cond b (drop 1 waiting) waiting)
     go true = fewer waiting h
     go false = h
+
+-- no more wait than before
+air_fewer : (waiting : List WaitingFrame) (air : Option OnAir) → length (air_waiting waiting air) ≤ length waiting
+air_fewer waiting None = omega arith
+air_fewer waiting (Some t) = go (names_next (bits_then t) (decided (bits_then t) waiting t))
+  where
+    fewer : (xs : List WaitingFrame) → length (drop 1 xs) ≤ length xs
+    fewer [] = omega arith
+    fewer (x ∷ xs) = omega arith
+
+    go : (b : Bool) → length (cond b (drop 1 waiting) waiting) ≤ length waiting
+    go true = fewer waiting
+    go false = omega arith
 
 air_empty : (waiting : List WaitingFrame) (air : Option OnAir) → waiting ≡ [] → air_waiting waiting air ≡ []
 air_empty waiting None is = is
@@ -71,6 +88,7 @@ air_keyed key waiting links air h = record {
     | inr empty ↦ inr (air_empty waiting air empty)
   ];
   size = h.size;
+  few = λ k link at wide. let less = air_fewer waiting air in let low = h.few k link at wide in omega arith;
 }
 
 -- ---- the key
@@ -132,26 +150,32 @@ none_room s by = go s.event by
     go (LinkHear frame) c = absurd (cc)
     go (LinkTick waiting) c = absurd (cc)
 
--- what is heard is a frame of a link, and the link does not wish to disconnect while it is idle or calls
+-- the link does not wish to disconnect while it is idle or calls
 pub record HearsCalm (s : LinkStep) : Type 0 where
-  pub of_link : IsOfLink s.event
   pub wishes : WishesNothing s.link.machine.control.state s.link.machine.control.quit
 
-hears_room : (s : LinkStep) → IsBy hearing s → HearsCalm s → AsksInRoom s
-hears_room s by calm = go s.event refl by calm.of_link
+-- what it sends finds room: nothing that asks, or one frame, by a call modulo 128
+hears_room : (s : LinkStep) → IsBy hearing s → HearsCalm s → JoinsWide s → AsksInRoom s
+hears_room s by calm joins = go s.event refl by
   where
-    go : (event : LinkEvent) → s.event ≡ event → cause_of event ≡ hearing → IsOfLink event → AsksInRoom s
-    go LinkConnect is c link = absurd (cc)
-    go (LinkSend packet) is c link = absurd (cc)
-    go LinkDisconnect is c link = absurd (cc)
-    go (LinkHear frame) is c link = if_down s (λ down. drops_none s
-        (ap (λ event. list_any asks_when_sent (link_turn s.link.machine event).sent) is
-        ∙ hear_asks s.link.machine frame link down calm.wishes))
-    go (LinkTick waiting) is c link = absurd (cc)
+    asked : (u : LinkTurn) → link_turn s.link.machine s.event ≡ u → Asks s.link.machine u → DropsNoAsk s
+    asked u is (asks_nothing asks) = drops_none s (ap (λ (t : LinkTurn). list_any asks_when_sent t.sent) is ∙ asks)
+    asked u is (sends_one wide sent) = joins wide (ap (λ (t : LinkTurn). length t.sent) is ∙ sent)
 
-all_hear_room : (steps : List LinkStep) → Each (IsBy hearing) steps → Each HearsCalm steps → Each AsksInRoom steps
-all_hear_room [] h k = tt
-all_hear_room (s ∷ steps) h k = (hears_room s h.0 k.0, all_hear_room steps h.1 k.1)
+    go : (event : LinkEvent) → s.event ≡ event → cause_of event ≡ hearing → AsksInRoom s
+    go LinkConnect is c = absurd (cc)
+    go (LinkSend packet) is c = absurd (cc)
+    go LinkDisconnect is c = absurd (cc)
+    go (LinkHear frame) is c = if_down s (λ down.
+        asked (link_turn s.link.machine (LinkHear frame)) (ap (link_turn s.link.machine) is)
+        (hear_asks s.link.machine frame down calm.wishes))
+    go (LinkTick waiting) is c = absurd (cc)
+
+all_hear_room : (steps : List LinkStep) → Each (IsBy hearing) steps → Each HearsCalm steps → Each JoinsWide steps
+    → Each AsksInRoom steps
+all_hear_room [] h k joins = tt
+all_hear_room (s ∷ steps) h k joins =
+    (hears_room s h.0 k.0 joins.0, all_hear_room steps h.1 k.1 joins.1)
 
 comes_room :
     (c : Cause) (may : Type 0) (t u : Turn) (steps : List LinkStep) → ((s : LinkStep) → IsBy c s → AsksInRoom s)
@@ -163,7 +187,7 @@ comes_room c may t u steps each (joined owns pieces queued none) = subst (Each A
 
 -- ---- each step that occurs
 
--- what is asked of the events in it
+-- what is asked of the events in it; that they find room may be used for what is asked of those that hear
 abbrev pub CalmIn : Usual → List LinkStep → Type 0
 CalmIn joins_kiss steps = ⊤
 CalmIn sets_full steps = ⊤
@@ -172,7 +196,7 @@ CalmIn registers steps = ⊤
 CalmIn connects steps = ⊤
 CalmIn (gives piece) steps = ⊤
 CalmIn disconnects steps = ⊤
-CalmIn (hears octets) steps = Each HearsCalm steps
+CalmIn (hears octets) steps = Each HearsCalm steps × (Each AsksInRoom steps → Each HearsWell steps)
 CalmIn (ticks busy) steps = ⊤
 
 -- what is known of A's station before it
@@ -203,9 +227,10 @@ said_keyed :
 said_keyed m t u h keeps (unheard same) = subst (λ (v : Turn). Keyed v.now) (sym same) h
 said_keyed m t u h keeps (said answered) = keeps (taking program_id (spelling m) t) h answered
 
-ticks_find_all : (s : StationState) → Keyed s → Finds (ticking_links (begin s)) (tick_steps (chosen A) (begin s))
+ticks_find_all : (busy : Bool) (s : StationState) → Keyed s
+    → Finds (ticking_links busy (begin s)) (tick_steps (chosen A) busy (begin s))
 unfolding ticking_links
-ticks_find_all s keyed = ticks_find (range_with_len 0 most_links) (begin s) keyed
+ticks_find_all busy s keyed = ticks_find busy (range_with_len 0 most_links) (begin s) keyed
 
 pub usual_finds :
     (usual : Usual) (s : StationState) (u : Turn) → IsBefore usual s
@@ -248,14 +273,15 @@ usual_finds disconnects s u before turn calm =
     (said_by m (begin s) u (between_written disconnect_kind A [] (omega arith)) before.hosts turn)) turn
 usual_finds (hears octets) s u before turn calm =
     let says = heard_says hearing A octets (begin s) u refl before.hosts.digi before.owns before.unshown before.from
-    turn in (
-      heard_keyed octets (begin s) u before.hosts.digi before.owns before.from before.keyed turn,
-      all_hear_room (turn_steps (chosen A) (input_of A (hears octets)) (begin s) u turn) says.causes calm,
-    )
+    turn in
+    let room : Each AsksInRoom (turn_steps (chosen A) (input_of A (hears octets)) (begin s) u turn) =
+    all_hear_room (turn_steps (chosen A) (input_of A (hears octets)) (begin s) u turn) says.causes calm.0
+    (heard_joins octets (begin s) u before.owns before.from before.keyed turn) in
+    (heard_keyed octets (begin s) u before.hosts.digi before.owns before.from before.keyed turn (calm.1 room), room)
 usual_finds (ticks busy) s u before turn calm =
-    let found = ticks_find_all s before.keyed in
+    let found = ticks_find_all busy s before.keyed in
     let key = found.0.0 in
-    let now = (ticking_links (begin s)).now in
+    let now = (ticking_links busy (begin s)).now in
     let rules = after_rules busy now.channel in
     let keyed : IsKeyed key rules.waiting now.links =
     subst (λ xs. IsKeyed key xs now.links) (sym (rules_wait busy now.channel)) found.0.1 in (

@@ -1,7 +1,8 @@
 -- At first no frame waits at A, so all that wait there keep one key; what a connection tells and frames that pass keep
 -- that.
 use Rattle.channel_bench.proofs.Common.{◌≡◌, ℕ, zero, suc, List, [], ◌∷◌, ◌++◌, replicate, Option, Some, None, get_or}
-use Rattle.channel_bench.proofs.Common.{refl, sym, ◌∙◌, subst, inr, length-replicate, End, HostEvent, Bytes, Link}
+use Rattle.channel_bench.proofs.Common.{refl, sym, ◌∙◌, subst, arith, inr, length-replicate, End, HostEvent, Bytes}
+use Rattle.channel_bench.proofs.Common.{Link}
 use Rattle.channel_bench.proofs.Common.{most_links, BenchWords, the_calls, SideState, MayCome, program_id}
 use Rattle.channel_bench.proofs.Common.{connect_octets, Moment, nothing_sent, Passes, Stations, FromHost, AsksFindRoom}
 use Rattle.channel_bench.proofs.Common.{first_stations}
@@ -27,6 +28,7 @@ new_keyed = record {
   links_are = λ k link is. let clash : None ≡ Some link = sym (all_same None most_links k) ∙ is in absurd (cc);
   next = λ k new none. inr refl;
   size = let none : Option Link = None in length-replicate most_links none;
+  few = λ k link is wide. omega arith;
 }
 
 pub new_finds : (w : BenchWords) → Finding [] (first_stations w)

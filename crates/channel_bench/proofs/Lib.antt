@@ -52,6 +52,7 @@ mod BenchSees
 mod RunSees
 mod OrderLaws
 mod AsksLittle
+mod WideCalls
 mod HearsLittle
 mod OneKey
 mod KeyedSteps

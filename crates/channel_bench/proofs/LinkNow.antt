@@ -143,7 +143,8 @@ machine_at w moments s known B =
     (subst (IsMachineOf (first_chosen (chosen B) (all_stepped (steps_in moments) (first_stations w)).b.links.places))
     (sym chain.last_b) after)
 
-well : (w : BenchWords) (moments : List Moment) (s : Stations) → Known w moments s → Each HearsWell (links_of A moments)
+pub well : (w : BenchWords) (moments : List Moment) (s : Stations) → Known w moments s → Each HearsWell
+    (links_of A moments)
 well w moments s known =
     (chained w moments s known).well (law_kept w moments s known).numbers
     (passive (steps_in moments) (only_a_calls (steps_in moments) known.little.asks known.room))

@@ -55,5 +55,5 @@ within-air waiting (Some t) = within-tick (decided (bits_then t) waiting t)
 
 pub air_within : (busy : Bool) (s : StationState) → All IsLoudAtMost (air_of busy s).samples
 air_within busy s =
-    let now : Channel = after_rules busy (ticking_links (begin s)).now.channel in
+    let now : Channel = after_rules busy (ticking_links busy (begin s)).now.channel in
     within-air now.waiting now.air

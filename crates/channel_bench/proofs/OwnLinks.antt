@@ -77,7 +77,7 @@ pub record IsOwnFrame (e : End) (octets : List ℕ) : Type 0 where
 abbrev pub chosen : End → Choice
 chosen e = link_at_end the_calls e
 
-own_chosen : (e : End) (link : Link) → IsOwn e link → chosen e (Some link) ≡ true
+pub own_chosen : (e : End) (link : Link) → IsOwn e link → chosen e (Some link) ≡ true
 own_chosen A link own = calls_chosen (call_at A) (call_at B) link own.local own.remote
 own_chosen B link own = calls_chosen (call_at B) (call_at A) link own.local own.remote
 
@@ -327,10 +327,10 @@ module _ (c : Cause) where
     events = λ key event t by owns. event_says e None key event t by owns;
   }
 
-  pub ticks_say : (e : End) (t : Turn) → ticking ≡ c → OwnsAll e t.now
-      → Says e t (tick_steps (chosen e) t) (ticking_links t)
-  ticks_say e t by owns =
-      ticks_kept (chosen e) (λ x. x ≡ c) (λ u steps v. OwnsAll e u.now → Says e u steps v) (says_kept e) by t owns
+  pub ticks_say : (e : End) (busy : Bool) (t : Turn) → ticking ≡ c → OwnsAll e t.now
+      → Says e t (tick_steps (chosen e) busy t) (ticking_links busy t)
+  ticks_say e busy t by owns =
+      ticks_kept (chosen e) (λ x. x ≡ c) (λ u steps v. OwnsAll e u.now → Says e u steps v) (says_kept e) by busy t owns
 
   pub data_says : (e : End) (m : AgwMessage) (key : Option ℕ) (t : Turn) → sending ≡ c → OwnsAll e t.now
       → Says e t (data_steps (chosen e) m key t) (giving m key t)

@@ -371,9 +371,9 @@ usual_comes e disconnects s after occurs hosts owns unshown from turn =
 usual_comes e (hears octets) s after occurs hosts owns unshown from turn =
     by_link (heard_says hearing e octets (begin s) after refl hosts.digi owns unshown from turn)
 usual_comes e (ticks busy) s after occurs hosts owns unshown from turn =
-    let ticked = ticking_links (begin s) in
-    let h = ticks_say ticking e (begin s) refl owns in
-    let same = ticks_kept SameHosts same_hosts (begin s) in
+    let ticked = ticking_links busy (begin s) in
+    let h = ticks_say ticking e busy (begin s) refl owns in
+    let same = ticks_kept SameHosts same_hosts busy (begin s) in
     let pieces = monitor_pieces true ticked.now.ticks turn.monitored ticked.now.connections in
     let none : pieces ≡ [] =
     none_monitored true ticked.now.ticks turn.monitored ticked.now.connections

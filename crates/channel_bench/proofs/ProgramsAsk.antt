@@ -107,7 +107,7 @@ hosts_after end disconnects s after occurs turn h =
 hosts_after end (hears octets) s after occurs turn h =
     still_has (begin s) after (heard_kept SameHosts same_hosts octets (begin s) after h.digi turn) h
 hosts_after end (ticks busy) s after occurs turn h =
-    let made = still_has (begin s) (ticking_links (begin s)) (ticks_kept SameHosts same_hosts (begin s)) h in
+    let made = still_has (begin s) (ticking_links busy (begin s)) (ticks_kept SameHosts same_hosts busy (begin s)) h in
     subst (λ (t : Turn). HasHosts t.now) (sym turn.effect)
     (record { connections = made.connections; digi = made.digi })
 

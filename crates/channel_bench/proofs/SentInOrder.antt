@@ -87,8 +87,8 @@ clock_order : (busy : Bool) (s : StationState) (after : Turn) → IsTurn (OfCloc
     → Fits s.channel.air s.channel.waiting
     → StepOrder s (sent_octets (air_of busy s).sent) after
 clock_order busy s after turn fits =
-    let ticked = ticking_links (begin s) in
-    let links = fed_order s ticked (ticks_kept Fed fed (begin s)) fits in
+    let ticked = ticking_links busy (begin s) in
+    let links = fed_order s ticked (ticks_kept Fed fed busy (begin s)) fits in
     let sends = tick_sends busy ticked.now.channel links.fits in
     subst (StepOrder s (sent_octets (air_of busy s).sent)) (sym turn.effect)
     (record { order = links.order ∙ sends.order; fits = sends.fits })
@@ -100,8 +100,8 @@ pub record ClockSends (busy : Bool) (s : StationState) : Type 0 where
 
 pub clock_sends : (busy : Bool) (s : StationState) → Fits s.channel.air s.channel.waiting → ClockSends busy s
 clock_sends busy s fits =
-    let ticked = ticking_links (begin s) in
-    let links = fed_order s ticked (ticks_kept Fed fed (begin s)) fits in
+    let ticked = ticking_links busy (begin s) in
+    let links = fed_order s ticked (ticks_kept Fed fed busy (begin s)) fits in
     record {
       soon = (tick_sends busy ticked.now.channel links.fits).soon;
       long = tick_long busy ticked.now.channel links.fits;

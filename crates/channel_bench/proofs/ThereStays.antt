@@ -259,7 +259,7 @@ there_grows e (hears octets) s after there occurs h turn =
     stays_there s after there _
     (stays_same s after (heard_kept SameConnections same_connections octets (begin s) after h.digi turn)) (λ none. refl)
 there_grows e (ticks busy) s after there occurs h turn =
-    let same = ticks_kept SameConnections same_connections (begin s) in
+    let same = ticks_kept SameConnections same_connections busy (begin s) in
     stays_there s after there _
     (stays_same s after (subst (SameConnections (begin s)) (sym turn.effect)
     (record { connections = same.connections; closed = same.closed }))) (λ none. refl)

@@ -109,8 +109,8 @@ module _ (R : Turn → Turn → Type 0) (k : KeptByTurns R) where
 
   -- ---- a tick
 
-  pub ticks_kept : (t : Turn) → R t (ticking_links t)
-  ticks_kept t = ticks_all is_some NotHeard (λ u steps v. R u v) by_events tt t
+  pub ticks_kept : (busy : Bool) (t : Turn) → R t (ticking_links busy t)
+  ticks_kept busy t = ticks_all is_some NotHeard (λ u steps v. R u v) by_events tt busy t
 
   -- ---- a message
 

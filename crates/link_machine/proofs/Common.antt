@@ -17,13 +17,14 @@ pub use Rattle.link_machine.specs.Event.{Event}
 pub use Rattle.link_machine.specs.Event.Event.{Connect, Disconnect, Hear, Send, Tick}
 pub use Rattle.link_machine.specs.Frames.{acknowledged_by_srej, answer_dm, end_by_disc, end_by_dm, end_call, hear}
 pub use Rattle.link_machine.specs.Frames.{hear_calling, hear_calling_in, hear_idle, hear_in, hear_info, hear_info_by}
-pub use Rattle.link_machine.specs.Frames.{hear_info_by_rej, hear_rej, hear_releasing, hear_rnr, hear_rr, hear_srej}
+pub use Rattle.link_machine.specs.Frames.{heard, hear_info_by_rej, hear_rej, hear_releasing, hear_rnr, hear_rr}
+pub use Rattle.link_machine.specs.Frames.{hear_srej}
 pub use Rattle.link_machine.specs.Frames.{leave, open_again, open_called, stopped, stopped_t1, take_in_sequence}
 pub use Rattle.link_machine.specs.Frames.{take_selected, unretried_call, with_busy}
 pub use Rattle.link_machine.specs.Held.{Holds, IsReady, IsWhole, Made, Makes, Shows, hear_numbered, outgoing_behind}
 pub use Rattle.link_machine.specs.Held.{sending_packets, srej_frame}
 pub use Rattle.link_machine.specs.Machine.{Machine, ahead_of_vr, emptied, fresh, in_modulus, in_state, is_valid}
-pub use Rattle.link_machine.specs.Machine.{is_wide, named, narrowed}
+pub use Rattle.link_machine.specs.Machine.{falls_back, is_wide, named, narrowed, t1_ticks}
 pub use Rattle.link_machine.specs.Requests.{quitting, refusal}
 pub use Rattle.link_machine.specs.Room.{frames_left, told_left}
 pub use Rattle.link_machine.specs.Sent.{Sent, SentIn, all_sent_in, infos_from, sent_frame, sent_frames, sent_in}
@@ -31,7 +32,8 @@ pub use Rattle.link_machine.specs.Sent.Sent.{InfoSent, SetupSent, SuperSent}
 pub use Rattle.link_machine.specs.StandsFor.{StandsFor}
 unfoldable pub use Rattle.link_machine.specs.Step.{step}
 pub use Rattle.link_machine.specs.Step.{done_of, refusal_of, row, settle_in, settled}
-pub use Rattle.link_machine.specs.Ticks.{is_spent, lowered, retried, runs_out, t1_out, t2_out, t3_out, tick_in, tick_t1}
+pub use Rattle.link_machine.specs.Ticks.{fall_back, is_spent, lowered, retried, runs_out, t1_out, t2_out, t3_out}
+pub use Rattle.link_machine.specs.Ticks.{tick_in, tick_t1}
 pub use Rattle.link_machine.specs.Ticks.{tick_t1_of, tick_t2, tick_t2_of, tick_t3_of, unretried, with_t1, with_t2}
 pub use Rattle.link_machine.specs.Ticks.{with_t3}
 pub use Rattle.link_machine.specs.Turn.{Act, Turn, begin, changing, in_order, sending, setting, telling}

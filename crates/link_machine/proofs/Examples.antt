@@ -3,11 +3,12 @@ use Rattle.link_machine.proofs.Common.{Path, Command, Kind, Info, Super, Setup, 
 use Rattle.link_machine.proofs.Common.{Dm, Disc, Frmr, Packet, Mode, ahead, missing, asked, Opened, Given, Ended, Asked}
 use Rattle.link_machine.proofs.Common.{Failed, Params, Sent, SentIn, all_sent_in, InfoSent, SuperSent, SetupSent, Turn}
 use Rattle.link_machine.proofs.Common.{begin, Event, step, Connect, Send, Disconnect, Hear, Tick}
-use Rattle.std.specs.Prelude.{◌≡◌, ℕ, Bool, true, false, List, [], ◌∷◌, ◌++◌, map, fold, replicate, refl}
+use Rattle.std.specs.Prelude.{◌≡◌, ℕ, Bool, true, false, List, [], ◌∷◌, ◌++◌, map, fold, replicate, Some, None, refl}
 use Rattle.ax25_address.specs.declared.path.Role.{Role}
 use Rattle.ax25_address.specs.declared.path.Role.TheVariants.{Response}
 use Rattle.selective_reject.specs.declared.window.Mode.TheVariants.{Rej as RejMode, Srej as SrejMode}
-use Rattle.link_machine.specs.Machine.{new_machine}
+use Rattle.link_machine.specs.Machine.{new_machine, t1_ticks}
+use Rattle.link_machine.specs.declared.acts.Why.TheVariants.{Refused}
 
 -- the last of several events
 abbrev run_on : List Event → Turn → Turn
@@ -16,12 +17,16 @@ run_on events turn = fold (λ t event. step t.now event) turn events
 abbrev params_of : Mode → Bool → Params
 params_of mode wide = record { mode = mode; window = 4; wide = wide; wide_window = 32 }
 
+-- the same path without repeaters
+abbrev direct : Path → Path
+direct path = record path { repeaters = record { items = [] } }
+
 abbrev from_new : Path → Mode → List Event → Turn
-from_new path mode events = run_on events (begin (new_machine path (params_of mode false)))
+from_new path mode events = run_on events (begin (new_machine (direct path) (params_of mode false)))
 
 -- the same, of a link that calls modulo 128
 abbrev from_wide : Path → Mode → List Event → Turn
-from_wide path mode events = run_on events (begin (new_machine path (params_of mode true)))
+from_wide path mode events = run_on events (begin (new_machine (direct path) (params_of mode true)))
 
 abbrev eight : List Sent → List SentIn
 eight = all_sent_in 8
@@ -141,10 +146,51 @@ pub is_released :
 unfolding step
 is_released p = refl
 
--- a call without an answer is repeated ten times, every three seconds
-pub gives_up : (p : Path) → (from_new p RejMode (Connect ∷ replicate 3300 (Tick false))).told ≡ Ended Failed ∷ []
+-- a call without an answer is repeated ten times in 54 seconds: four times every two, then every four, four, six, six,
+-- eight and eight, and ten seconds after the last it has failed
+pub gives_up : (p : Path) → (from_new p RejMode (Connect ∷ replicate 5400 (Tick false))).told ≡ Ended Failed ∷ []
 unfolding step
 gives_up p = refl
+
+pub calls_late : (p : Path) → (from_new p RejMode (Connect ∷ replicate 4400 (Tick false))).sent
+    ≡ eight (SetupSent Sabm true ∷ [])
+unfolding step
+calls_late p = refl
+
+-- T1 by the repeaters of the path and the retries
+pub t1_grows :
+    map (t1_ticks 0) (0 ∷ 1 ∷ 2 ∷ 3 ∷ 4 ∷ 5 ∷ 6 ∷ 7 ∷ 8 ∷ 9 ∷ 10 ∷ [])
+    ≡ 200 ∷ 200 ∷ 200 ∷ 200 ∷ 400 ∷ 400 ∷ 600 ∷ 600 ∷ 800 ∷ 800 ∷ 1000 ∷ []
+t1_grows = refl
+
+pub t1_is_longer_by_repeaters : map (λ hops. t1_ticks hops 0) (0 ∷ 1 ∷ 2 ∷ 8 ∷ []) ≡ 200 ∷ 600 ∷ 1000 ∷ 3400 ∷ []
+t1_is_longer_by_repeaters = refl
+
+-- it counts silence alone
+pub stands_still :
+    (p : Path) →
+    (from_new p RejMode (Connect ∷ replicate 199 (Tick false) ++ replicate 500 (Tick true))).now.control.t1 ≡ Some 1
+unfolding step
+stands_still p = refl
+
+-- T3 begins anew with what is heard, if it runs
+pub t3_begins_anew :
+    (p : Path) → let events = opened p ++ replicate 100 (Tick false) ++ hears p Response (Super Rr 0 false) ∷ [] in
+    (from_new p RejMode events).now.control.t3 ≡ Some 30000
+unfolding step ahead
+t3_begins_anew p = refl
+
+pub t3_begins_anew_by_info :
+    (p : Path) →
+    (from_new p RejMode (opened p ++ replicate 20 (Tick false) ++ info p 0 0 ∷ [])).now.control.t3 ≡ Some 30000
+unfolding step ahead
+t3_begins_anew_by_info p = refl
+
+pub t3_stays_off :
+    (p : Path) →
+    (from_new p RejMode (four_sent p ++ hears p Response (Super Rr 0 false) ∷ [])).now.control.t3 ≡ None
+unfolding step ahead
+t3_stays_off p = refl
 
 -- a wide call, in modulus 128
 pub calls_wide : (p : Path) → (from_wide p RejMode (Connect ∷ [])).sent ≡ wide (SetupSent Sabme true ∷ [])
@@ -169,6 +215,36 @@ pub counts_narrow :
     ≡ 8
 unfolding step
 counts_narrow p = refl
+
+-- and so does DM with F = 1; with F = 0 it says nothing
+pub calls_narrow_after_dm :
+    (p : Path) → (from_wide p RejMode (Connect ∷ hears p Response (Setup Dm true) ∷ [])).sent
+    ≡ eight (SetupSent Sabm true ∷ [])
+unfolding step
+calls_narrow_after_dm p = refl
+
+pub tells_nothing_after_dm :
+    (p : Path) → (from_wide p RejMode (Connect ∷ hears p Response (Setup Dm true) ∷ [])).told ≡ []
+unfolding step
+tells_nothing_after_dm p = refl
+
+pub is_refused_narrow :
+    (p : Path) →
+    (from_wide p RejMode (Connect ∷ hears p Response (Setup Dm true) ∷ hears p Response (Setup Dm true) ∷ [])).told
+    ≡ Ended Refused ∷ []
+unfolding step
+is_refused_narrow p = refl
+
+-- silence: SABME goes out four times, and then SABM
+pub calls_wide_four_times :
+    (p : Path) → (from_wide p RejMode (Connect ∷ replicate 600 (Tick false))).sent ≡ wide (SetupSent Sabme true ∷ [])
+unfolding step
+calls_wide_four_times p = refl
+
+pub falls_back_after_silence :
+    (p : Path) → (from_wide p RejMode (Connect ∷ replicate 800 (Tick false))).sent ≡ eight (SetupSent Sabm true ∷ [])
+unfolding step
+falls_back_after_silence p = refl
 
 -- a wide link that calls passes over SABM and answers SABME
 pub passes_over_sabm :
@@ -213,7 +289,7 @@ idles_narrow p = refl
 pub last_tick_wide :
     (p : Path) →
     (from_new p RejMode (
-    called_wide p ++ Send (packet 0) ∷ [] ++ replicate 3270 (Tick false) ++ info p 0 0 ∷ [] ++ replicate 30 (Tick false)
+    called_wide p ++ Send (packet 0) ∷ [] ++ replicate 5370 (Tick false) ++ info p 0 0 ∷ [] ++ replicate 30 (Tick false)
     )).sent
     ≡ wide (SuperSent Rr false 1 false ∷ SetupSent Dm false ∷ [])
 unfolding step ahead

@@ -10,7 +10,7 @@ use Rattle.link_machine.proofs.Common.{nat_lt, inr, None, ltb-true, slice_get_ca
 use Rattle.link_machine.proofs.Common.{option_to_list, Option, Mode, runs_out, with_t1, with_t2, with_t3, is_spent}
 use Rattle.link_machine.proofs.Common.{t2_out, t3_out, t1_out, tick_t2_of, tick_t2, tick_t3_of, tick_t1_of, tick_t1}
 use Rattle.link_machine.proofs.Common.{tick_in, Some, length-append, length-drop, drop-append-le, after_push}
-use Rattle.link_machine.proofs.Common.{outgoing_behind}
+use Rattle.link_machine.proofs.Common.{outgoing_behind, falls_back}
 use Rattle.selective_reject.specs.Outgoing.{acknowledged as without_acknowledged}
 use Rattle.link_machine.specs.Frames.{hear_info_by_srej}
 use Rattle.selective_reject.specs.declared.window.Mode.TheVariants.{Rej as RejMode, Srej as SrejMode}
@@ -135,29 +135,32 @@ tick_t3_keeps None t = (refl, refl)
 tick_t3_keeps (Some left) t = keeps_window_if (runs_out left) _ _ t
     (t3_keeps t.now.control.state (setting (with_t3 None) t)) (refl, refl)
 
-t1_keeps : (s : LinkState) (t : Turn) → KeepsUp t (t1_out s t)
-t1_keeps Idle t = λ _. (refl, refl)
-t1_keeps Calling t = keeps_up_if (is_spent t.now.control) _ _ t (λ up. absurd (false≢true up)) (λ _. (refl, refl))
-t1_keeps Up t = keeps_up_if (is_spent t.now.control) _ _ t (λ up. absurd (false≢true up)) (λ _. (refl, refl))
-t1_keeps Releasing t = keeps_up_if (is_spent t.now.control) _ _ t (λ up. absurd (false≢true up)) (λ _. (refl, refl))
+t1_keeps : (s : LinkState) (t : Turn) → t.now.control.state ≡ s → KeepsUp t (t1_out s t)
+t1_keeps Idle t is = λ _. (refl, refl)
+t1_keeps Calling t is =
+    keeps_up_if (is_spent t.now.control) _ _ t (λ up. absurd (false≢true up))
+    (keeps_up_if (falls_back t.now) _ _ t (λ up. absurd (false≢true (sym (ap is_up is) ∙ up))) (λ _. (refl, refl)))
+t1_keeps Up t is = keeps_up_if (is_spent t.now.control) _ _ t (λ up. absurd (false≢true up)) (λ _. (refl, refl))
+t1_keeps Releasing t is = keeps_up_if (is_spent t.now.control) _ _ t (λ up. absurd (false≢true up)) (λ _. (refl, refl))
 
-tick_t1_keeps : (timer : Option ℕ) (waiting : Bool) (t : Turn) → KeepsUp t (tick_t1_of timer waiting t)
-tick_t1_keeps None waiting t = λ _. tick_t3_keeps t.now.control.t3 t
+tick_t1_keeps : (timer : Option ℕ) (still : Bool) (t : Turn) → KeepsUp t (tick_t1_of timer still t)
+tick_t1_keeps None still t = λ _. tick_t3_keeps t.now.control.t3 t
 tick_t1_keeps (Some left) true t = λ _. (refl, refl)
 tick_t1_keeps (Some left) false t =
-    keeps_up_if (runs_out left) _ _ t (t1_keeps t.now.control.state (setting (with_t1 None) t)) (λ _. (refl, refl))
+    keeps_up_if (runs_out left) _ _ t (t1_keeps t.now.control.state (setting (with_t1 None) t) refl)
+    (λ _. (refl, refl))
 
-timers_keep : (waiting : Bool) (t : Turn) → KeepsUp t (tick_t1 waiting (tick_t2 t))
-timers_keep waiting t = λ up.
+timers_keep : (still : Bool) (t : Turn) → KeepsUp t (tick_t1 still (tick_t2 t))
+timers_keep still t = λ up.
     let first = tick_t2_keeps t.now.control.t2 t in
-    let second = tick_t1_keeps (tick_t2 t).now.control.t1 waiting (tick_t2 t) up in
+    let second = tick_t1_keeps (tick_t2 t).now.control.t1 still (tick_t2 t) up in
     (second.0 ∙ first.0, second.1 ∙ first.1)
 
-pub tick_keeps : (s : LinkState) (waiting : Bool) (t : Turn) → KeepsUp t (tick_in s waiting t)
-tick_keeps Idle waiting t = λ _. (refl, refl)
-tick_keeps Calling waiting t = timers_keep waiting t
-tick_keeps Up waiting t = timers_keep waiting t
-tick_keeps Releasing waiting t = timers_keep waiting t
+pub tick_keeps : (s : LinkState) (still : Bool) (t : Turn) → KeepsUp t (tick_in s still t)
+tick_keeps Idle still t = λ _. (refl, refl)
+tick_keeps Calling still t = timers_keep still t
+tick_keeps Up still t = timers_keep still t
+tick_keeps Releasing still t = timers_keep still t
 
 -- one packet more in the window
 pub in_window_push :

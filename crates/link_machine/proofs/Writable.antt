@@ -12,6 +12,7 @@ use Rattle.link_machine.proofs.Common.{SetupSent, Turn, Act, begin, changing, se
 use Rattle.link_machine.proofs.Common.{nothing_due, report, answer_poll, gone_back, recover, polling, poll, in_window}
 use Rattle.link_machine.proofs.Common.{send_packets, flush, releasing, close, settle, calling, reset, owing, with_rej}
 use Rattle.link_machine.proofs.Common.{reject, run_with, give, stored, srej_for, ask, watching, sent_packet, send_again}
+use Rattle.link_machine.proofs.Common.{falls_back, heard}
 use Rattle.link_machine.proofs.Common.{quitting, answer_dm, stopped_t1, end_call, stopped, leave, open_called}
 use Rattle.link_machine.proofs.Common.{unretried_call, hear_idle, hear_calling_in, hear_releasing, with_busy, hear_rr}
 use Rattle.link_machine.proofs.Common.{hear_rnr, hear_rej, acknowledged_by_srej, hear_srej, take_in_sequence}
@@ -304,7 +305,8 @@ keeps_calling false (Setup Sabm flag) t h = keeps_ua flag t h
 keeps_calling true (Setup Sabme flag) t h = keeps_ua flag t h
 keeps_calling false (Setup Sabme flag) t h = keeps_dm flag t h
 keeps_calling wide (Setup Disc flag) t h = keeps_dm flag t h
-keeps_calling wide (Setup Dm true) t h = keeps_end_call _ t h
+keeps_calling true (Setup Dm true) t h = keeps_call_narrow t h
+keeps_calling false (Setup Dm true) t h = keeps_end_call _ t h
 keeps_calling wide (Setup Dm false) t h = h
 keeps_calling wide (Setup Ua true) t h = keeps_open_answered t h
 keeps_calling wide (Setup Ua false) t h = h
@@ -385,7 +387,8 @@ keeps_info_by SrejMode ns flag packet t h =
 
 keeps_info : (n ns : ℕ) (flag : Bool) (packet : Packet) → Keeps (hear_info n ns flag packet)
 keeps_info n ns flag packet t h =
-    keeps_info_by t.now.incoming.mode ns flag packet _ (keeps_changing (acknowledged n) (sound_acknowledged n) t h)
+    keeps_info_by t.now.incoming.mode ns flag packet _
+    (keeps_changing (acknowledged n) (sound_acknowledged n) _ (keeps_setting heard t h))
 
 keeps_up : (command : Bool) (kind : Kind) → Keeps (hear_up command kind)
 keeps_up command (Setup Sabm flag) t h = keeps_open_again 8 (inl refl) flag t h
@@ -419,7 +422,11 @@ keeps_t2_out Releasing t h = h
 keeps_t1_out : (s : LinkState) → Keeps (t1_out s)
 keeps_t1_out Idle t h = h
 keeps_t1_out Calling t h =
-    sound_if (is_spent t.now.control) _ _ (keeps_end_call Failed t h) (keeps_send_call _ (keeps_setting retried t h))
+    sound_if (is_spent t.now.control) _ _ (keeps_end_call Failed t h) (
+    sound_if (falls_back t.now) _ _
+    (keeps_send_call _ (keeps_changing narrowed sound_narrowed _ (keeps_setting retried t h)))
+    (keeps_send_call _ (keeps_setting retried t h))
+    )
 keeps_t1_out Up t h =
     sound_if (is_spent t.now.control) _ _ (keeps_telling (Ended Failed) _ (keeps_leave _ (keeps_dm false t h))) (
     keeps_poll _ (keeps_setting retried t h)
@@ -449,22 +456,22 @@ keeps_t3 (Some left) t h =
     keeps_setting (with_t3 (lowered left)) t h
     )
 
-keeps_t1 : (timer : Option ℕ) (waiting : Bool) → Keeps (tick_t1_of timer waiting)
-keeps_t1 None waiting t h = keeps_t3 t.now.control.t3 t h
+keeps_t1 : (timer : Option ℕ) (still : Bool) → Keeps (tick_t1_of timer still)
+keeps_t1 None still t h = keeps_t3 t.now.control.t3 t h
 keeps_t1 (Some left) true t h = h
 keeps_t1 (Some left) false t h =
     sound_if (runs_out left) _ _ (keeps_t1_out t.now.control.state _ (keeps_setting (with_t1 None) t h)) (
     keeps_setting (with_t1 (lowered left)) t h
     )
 
-keeps_timers : (waiting : Bool) (t : Turn) → Sound t → Sound (tick_t1 waiting (tick_t2 t))
-keeps_timers waiting t h = keeps_t1 (tick_t2 t).now.control.t1 waiting _ (keeps_t2 t.now.control.t2 t h)
+keeps_timers : (still : Bool) (t : Turn) → Sound t → Sound (tick_t1 still (tick_t2 t))
+keeps_timers still t h = keeps_t1 (tick_t2 t).now.control.t1 still _ (keeps_t2 t.now.control.t2 t h)
 
-keeps_tick_in : (s : LinkState) (waiting : Bool) → Keeps (tick_in s waiting)
-keeps_tick_in Idle waiting t h = h
-keeps_tick_in Calling waiting t h = keeps_timers waiting t h
-keeps_tick_in Up waiting t h = keeps_timers waiting t h
-keeps_tick_in Releasing waiting t h = keeps_timers waiting t h
+keeps_tick_in : (s : LinkState) (still : Bool) → Keeps (tick_in s still)
+keeps_tick_in Idle still t h = h
+keeps_tick_in Calling still t h = keeps_timers still t h
+keeps_tick_in Up still t h = keeps_timers still t h
+keeps_tick_in Releasing still t h = keeps_timers still t h
 
 -- the step
 keeps_settle_in : (s : LinkState) → Keeps (settle_in s)
@@ -504,7 +511,7 @@ keeps_row (Send packet) m free h =
     }
 keeps_row Disconnect m free h = keeps_setting quitting (begin m) (sound_begin m h)
 keeps_row (Hear frame) m free h = keeps_hear_in m.control.state _ frame.kind (begin m) (sound_begin m h)
-keeps_row (Tick waiting) m free h = keeps_tick_in m.control.state waiting (begin m) (sound_begin m h)
+keeps_row (Tick still) m free h = keeps_tick_in m.control.state still (begin m) (sound_begin m h)
 
 keeps_free : (b : Bool) (event : Event) (m : Machine) → is_some (refusal_of m event) ≡ b → IsSound m
     → Sound (if b then begin m else settled (row event (begin m)))

@@ -25,11 +25,20 @@ abbrev pub running : ℕ → Option ℕ → Option ℕ
 running ticks None = Some ticks
 running ticks (Some left) = Some left
 
+-- one that runs begins anew
+abbrev pub anew : ℕ → Option ℕ → Option ℕ
+anew ticks None = None
+anew ticks (Some left) = Some ticks
+
+-- T1 after as many retries as there were
+abbrev pub t1_of : Control → ℕ
+t1_of c = t1_ticks c.hops c.rc
+
 -- The packets below a number are acknowledged. If at least one is and no poll awaits its answer, the retries
 -- begin anew, and T1 runs exactly if something that was sent is still not acknowledged.
 abbrev pub timed_anew : Bool → Control → Control
 timed_anew all c = if all then record c { rc = 0; t1 = None; t3 = Some t3_ticks }
-    else record c { rc = 0; t1 = Some t1_ticks }
+    else record c { rc = 0; t1 = Some (t1_ticks c.hops 0) }
 
 abbrev pub timed_by : Bool → Bool → Control → Control
 timed_by some all c = if some && not c.poll then timed_anew all c else c
@@ -62,7 +71,7 @@ gone_back m = record m { outgoing = back m.outgoing }
 -- the answer to a poll has come, and what is not acknowledged is sent again
 abbrev pub behind_poll : Control → Control
 behind_poll c =
-    if c.busy then record c { poll = false; rc = 0; t1 = Some t1_ticks; t3 = None }
+    if c.busy then record c { poll = false; rc = 0; t1 = Some (t1_ticks c.hops 0); t3 = None }
     else record c { poll = false; rc = 0; t1 = None; t3 = Some t3_ticks }
 
 abbrev pub recover : Bool → Act
@@ -71,7 +80,7 @@ recover answers turn = if turn.now.control.poll && answers
 
 -- an RR command with P = 1, whose answer is awaited
 abbrev pub polling : Control → Control
-polling c = record c { poll = true; t1 = Some t1_ticks }
+polling c = record c { poll = true; t1 = Some (t1_of c) }
 
 abbrev pub poll : Act
 poll turn = in_order (report (SuperSent Rr true turn.now.incoming.vr true) ∷ setting polling ∷ []) turn
@@ -85,7 +94,7 @@ to_send m = if m.control.busy || m.control.poll then [] else in_window m.incomin
 
 -- the answer to what was sent is awaited: if T1 is off it runs, and T3 is off
 abbrev pub awaiting : Control → Control
-awaiting c = if is_none c.t1 then record c { t1 = Some t1_ticks; t3 = None } else c
+awaiting c = if is_none c.t1 then record c { t1 = Some (t1_of c); t3 = None } else c
 
 abbrev pub sent_to : ℕ → Outgoing → Outgoing
 sent_to end o = record o { vs = end; top = max o.top end }
@@ -111,7 +120,7 @@ releasing c = record c {
   poll = false;
   due = false;
   rc = 0;
-  t1 = Some t1_ticks;
+  t1 = Some (t1_ticks c.hops 0);
   t2 = None;
   t3 = None;
 }
@@ -135,7 +144,7 @@ send_call turn = sending (SetupSent (calling_frame (is_wide turn.now)) true) tur
 
 -- the answer to a call is awaited
 abbrev pub calling : Control → Control
-calling c = record c { state = Calling; t1 = Some t1_ticks; t3 = None }
+calling c = record c { state = Calling; t1 = Some (t1_of c); t3 = None }
 
 abbrev pub call : Act
 call = in_order (setting calling ∷ send_call ∷ [])
@@ -201,7 +210,7 @@ ask ahead turn = record turn {
 
 -- T1 runs, and T3 is off
 abbrev pub watching : Control → Control
-watching c = record c { t1 = running t1_ticks c.t1; t3 = None }
+watching c = record c { t1 = running (t1_of c) c.t1; t3 = None }
 
 -- the I frame that an SREJ asks for goes out again, if it was sent
 abbrev pub sent_packet : ℕ → Outgoing → List Packet

@@ -8,5 +8,6 @@ pub data Event : Type 0 where
   Send : (packet : Packet) → Event
   Disconnect : Event
   Hear : (frame : Frame) → Event
-  -- a tick, and whether a frame of the link waits to be sent
-  Tick : (waiting : Bool) → Event
+  -- a tick, and whether T1 stands still in it: a frame of the link waits or is on the air, or the channel is busy in
+  -- half duplex, so that the other side cannot answer yet
+  Tick : (still : Bool) → Event

@@ -16,11 +16,12 @@ use Rattle.link_machine.specs.declared.acts.Told.TheVariants.{Opened, Ended}
 use Rattle.link_machine.specs.declared.acts.Why.{Why}
 use Rattle.link_machine.specs.declared.acts.Why.TheVariants.{Asked, Peer, Reset, Refused}
 use Rattle.link_machine.specs.declared.control.Control.{Control}
-use Rattle.link_machine.specs.Machine.{Machine, fresh, emptied, in_modulus, narrowed, is_wide, t1_ticks, in_state}
+use Rattle.link_machine.specs.Machine.{Machine, fresh, emptied, in_modulus, narrowed, is_wide, t1_ticks, t3_ticks}
+use Rattle.link_machine.specs.Machine.{in_state}
 use Rattle.link_machine.specs.Machine.{is_valid, named, ahead_of_vr}
 use Rattle.link_machine.specs.Sent.Sent.{SetupSent}
 use Rattle.link_machine.specs.Turn.{Act, changing, setting, sending, telling, nothing, in_order}
-use Rattle.link_machine.specs.Acts.{acknowledged, answer_poll, recover, gone_back, reset, owing, with_rej, reject}
+use Rattle.link_machine.specs.Acts.{anew, acknowledged, answer_poll, recover, gone_back, reset, owing, with_rej, reject}
 use Rattle.link_machine.specs.Acts.{run_with, give, stored, ask, send_again, watching}
 
 abbrev pub answer_ua : Bool → Act
@@ -65,20 +66,20 @@ hear_idle command (Super which nr flag) = if command then answer_dm flag else no
 hear_idle command (Ui flag pid octets) = nothing
 hear_idle command (Other which flag octets) = nothing
 
--- FRMR answers a SABME that the other side does not know: the call goes on in modulus 8, with all its retries
+-- FRMR or DM answers a SABME that the other side does not know: the call goes on in modulus 8, with all its retries
 abbrev pub unretried_call : Control → Control
-unretried_call c = record c { rc = 0; t1 = Some t1_ticks }
+unretried_call c = record c { rc = 0; t1 = Some (t1_ticks c.hops 0) }
 
 abbrev pub call_narrow : Act
 call_narrow = in_order (changing narrowed ∷ setting unretried_call ∷ sending (SetupSent Sabm true) ∷ [])
 
 -- Calling: a call of the same kind is agreed to. SABM says nothing to a wide call, since the other side will hear the
--- SABME. UA and DM count with F = 1 alone.
+-- SABME. UA and DM count with F = 1 alone; DM refuses a call in modulus 8, and one in 128 goes on in 8.
 abbrev pub hear_calling_in : Bool → Kind → Act
 hear_calling_in wide (Setup Sabm flag) = if wide then nothing else answer_ua flag
 hear_calling_in wide (Setup Sabme flag) = if wide then answer_ua flag else answer_dm flag
 hear_calling_in wide (Setup Disc flag) = answer_dm flag
-hear_calling_in wide (Setup Dm flag) = if flag then end_call Refused else nothing
+hear_calling_in wide (Setup Dm flag) = if flag then (if wide then call_narrow else end_call Refused) else nothing
 hear_calling_in wide (Setup Ua flag) = if flag then open_answered else nothing
 hear_calling_in wide (Info ns nr flag pid octets) = nothing
 hear_calling_in wide (Super which nr flag) = nothing
@@ -102,9 +103,13 @@ hear_releasing command (Super which nr flag) = if command && flag then answer_dm
 hear_releasing command (Ui flag pid octets) = nothing
 hear_releasing command (Other which flag octets) = nothing
 
--- the other side is busy, or no longer
+-- Up: the other side was heard, by an I or S frame, so T3 begins anew if it runs
+abbrev pub heard : Control → Control
+heard c = record c { t3 = anew t3_ticks c.t3 }
+
+-- the same, by an S frame, which tells that the other side is busy, or no longer
 abbrev pub with_busy : Bool → Control → Control
-with_busy busy c = record c { busy = busy }
+with_busy busy c = record (heard c) { busy = busy }
 
 -- Up: an S frame that names number n; `asks` says that it is a command with P = 1, `answers` a response with F = 1
 abbrev pub hear_rr : ℕ → Bool → Bool → Act
@@ -166,7 +171,7 @@ hear_info_by SrejMode = hear_info_by_srej
 
 abbrev pub hear_info : ℕ → ℕ → Bool → Packet → Act
 hear_info n ns flag packet turn =
-    in_order (changing (acknowledged n) ∷ hear_info_by turn.now.incoming.mode ns flag packet ∷ []) turn
+    in_order (setting heard ∷ changing (acknowledged n) ∷ hear_info_by turn.now.incoming.mode ns flag packet ∷ []) turn
 
 -- Up: a SABM or SABME ends the set-up and opens another
 abbrev pub open_again : ℕ → Bool → Act

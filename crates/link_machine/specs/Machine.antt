@@ -1,6 +1,7 @@
 -- A link as a machine (AX.25 2.2 sections 6.3 and 6.7.1): its state and its variables. Sequence numbers count from 0 in
 -- each set-up; only frames carry them modulo the link's modulus.
-use Rattle.std.specs.Prelude.{ℕ, ◌+◌, ◌==◌, Bool, false, Some, None, if◌then◌else◌}
+use Rattle.std.specs.Prelude.{ℕ, ◌+◌, ◌*◌, ◌/◌, ◌==◌, max, Bool, false, ◌&&◌, Some, None, if◌then◌else◌}
+use Rattle.ax25_address.specs.FramePath.{repeater_count}
 use Rattle.ax25_address.specs.declared.path.Path.{Path}
 use Rattle.ax25_frames.specs.declared.frame.Modulus.{Modulus}
 use Rattle.ax25_frames.specs.declared.frame.Modulus.TheVariants.{Eight, OneTwentyEight}
@@ -26,19 +27,27 @@ pub record Machine : Type 0 where
   -- link's modulus, 8 or 128, whether REJ or SREJ asks for what is lost, and k
   pub incoming : Incoming
 
--- T1, T2 and T3, in ticks of 10 ms
-abbrev pub t1_ticks : ℕ
-t1_ticks = 300
+-- T1, in ticks of 10 ms, on a path of so many repeaters and after so many retries: two seconds, and four more for each
+-- repeater, since a frame and its answer each pass it. From the fourth retry on it is as many times that as half the
+-- retries.
+abbrev pub t1_ticks : ℕ → ℕ → ℕ
+t1_ticks hops retries = 200 * (2 * hops + 1) * max 1 (retries / 2)
+
+-- T2 and T3
 
 abbrev pub t2_ticks : ℕ
 t2_ticks = 30
 
 abbrev pub t3_ticks : ℕ
-t3_ticks = 3000
+t3_ticks = 30000
 
 -- the most retries, N2
 abbrev pub most_retries : ℕ
 most_retries = 10
+
+-- how many retries a call in modulus 128 has
+abbrev pub wide_retries : ℕ
+wide_retries = 3
 
 -- the most octets of a packet, N1
 abbrev pub most_octets : ℕ
@@ -93,6 +102,11 @@ in_own_modulus m = in_modulus (called_modulus m.params) m
 abbrev pub is_wide : Machine → Bool
 is_wide m = m.incoming.modulus == 128
 
+-- a call in modulus 128 that was retried in vain goes on in modulus 8, since a side that does not know SABME may be
+-- silent
+abbrev pub falls_back : Machine → Bool
+falls_back m = is_wide m && m.control.rc == wide_retries
+
 -- a modulus by its name: 8 or 128
 abbrev pub modulus_named : ℕ → Modulus
 modulus_named modulus = if modulus == 128 then OneTwentyEight else Eight
@@ -119,9 +133,10 @@ named nr m = m.outgoing.va + ahead m.incoming.modulus m.outgoing.va nr
 abbrev pub ahead_of_vr : ℕ → Machine → ℕ
 ahead_of_vr ns m = ahead m.incoming.modulus m.incoming.vr ns
 
--- a link that is new: modulus 8, no numbers, no packets, no timers
-abbrev pub idle_control : Control
-idle_control = record {
+-- a link that is new, on a path of so many repeaters: modulus 8, no numbers, no packets, no timers
+abbrev pub idle_control : ℕ → Control
+idle_control hops = record {
+  hops = hops;
   state = Idle;
   rej = false;
   poll = false;
@@ -138,7 +153,7 @@ abbrev pub new_machine : Path → Params → Machine
 new_machine path params = record {
   path = path;
   params = params;
-  control = idle_control;
+  control = idle_control (repeater_count path);
   outgoing = empty_outgoing;
   incoming = empty_incoming 8 params.window params.mode;
 }

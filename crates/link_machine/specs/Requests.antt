@@ -40,7 +40,7 @@ refusal c count (Send packet) =
     if nat_lt most_octets (length packet.octets) then Some (TooLong (length packet.octets)) else None
 refusal c count Disconnect = if is_closed c then Some (WrongState c.state c.quit) else None
 refusal c count (Hear frame) = None
-refusal c count (Tick waiting) = None
+refusal c count (Tick still) = None
 
 -- a call in the link's own modulus
 abbrev pub connect : Act

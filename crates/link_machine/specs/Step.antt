@@ -26,7 +26,7 @@ row Connect = connect
 row (Send packet) = changing (joined packet)
 row Disconnect = setting quitting
 row (Hear frame) = hear (is_command_of frame.path.role frame.kind) frame.kind
-row (Tick waiting) = tick waiting
+row (Tick still) = tick still
 
 -- an event that leaves the link up ends with what can be sent, and then, if it is time, with the release
 abbrev pub settle_in : LinkState → Act

@@ -6,9 +6,9 @@ use Rattle.link_machine.specs.declared.state.LinkState.TheVariants.{Idle, Callin
 use Rattle.link_machine.specs.declared.acts.Told.TheVariants.{Ended}
 use Rattle.link_machine.specs.declared.acts.Why.TheVariants.{Failed}
 use Rattle.link_machine.specs.declared.control.Control.{Control}
-use Rattle.link_machine.specs.Machine.{t1_ticks, most_retries}
+use Rattle.link_machine.specs.Machine.{t1_ticks, most_retries, narrowed, falls_back}
 use Rattle.link_machine.specs.Sent.Sent.{SetupSent}
-use Rattle.link_machine.specs.Turn.{Act, setting, sending, telling, nothing, in_order}
+use Rattle.link_machine.specs.Turn.{Act, changing, setting, sending, telling, nothing, in_order}
 use Rattle.link_machine.specs.Acts.{respond_ready, send_call, poll}
 use Rattle.link_machine.specs.Frames.{answer_dm, leave, end_call}
 
@@ -37,15 +37,21 @@ t2_out Releasing = nothing
 
 -- one retry more
 abbrev pub retried : Control → Control
-retried c = record c { rc = c.rc + 1; t1 = Some t1_ticks }
+retried c = record c { rc = c.rc + 1; t1 = Some (t1_ticks c.hops (c.rc + 1)) }
 
 -- the retries are spent if there were 10; there are never more
 abbrev pub is_spent : Control → Bool
 is_spent c = nat_le most_retries c.rc
 
+-- a call without an answer goes out once more, if it falls back in modulus 8
+abbrev pub fall_back : Act
+fall_back = in_order (setting retried ∷ changing narrowed ∷ send_call ∷ [])
+
 abbrev pub call_again : Act
 call_again turn =
-    if is_spent turn.now.control then end_call Failed turn else in_order (setting retried ∷ send_call ∷ []) turn
+    if is_spent turn.now.control then end_call Failed turn
+    else if falls_back turn.now then fall_back turn
+    else in_order (setting retried ∷ send_call ∷ []) turn
 
 -- the DM that ends a set-up still goes out in its modulus
 abbrev pub poll_again : Act
@@ -95,23 +101,23 @@ tick_t3_of (Some left) turn =
 abbrev pub tick_t3 : Act
 tick_t3 turn = tick_t3_of turn.now.control.t3 turn
 
--- a tick of T1, which stands still while a frame of the link waits to be sent; if it is off, one of T3
+-- a tick of T1, unless it stands still; if it is off, one of T3
 abbrev pub tick_t1_of : Option ℕ → Bool → Act
-tick_t1_of None waiting turn = tick_t3 turn
+tick_t1_of None still turn = tick_t3 turn
 tick_t1_of (Some left) true turn = turn
 tick_t1_of (Some left) false turn =
     if runs_out left then in_order (setting (with_t1 None) ∷ t1_out turn.now.control.state ∷ []) turn
     else setting (with_t1 (lowered left)) turn
 
 abbrev pub tick_t1 : Bool → Act
-tick_t1 waiting turn = tick_t1_of turn.now.control.t1 waiting turn
+tick_t1 still turn = tick_t1_of turn.now.control.t1 still turn
 
 -- an idle link has no timers
 abbrev pub tick_in : LinkState → Bool → Act
-tick_in Idle waiting = nothing
-tick_in Calling waiting = in_order (tick_t2 ∷ tick_t1 waiting ∷ [])
-tick_in Up waiting = in_order (tick_t2 ∷ tick_t1 waiting ∷ [])
-tick_in Releasing waiting = in_order (tick_t2 ∷ tick_t1 waiting ∷ [])
+tick_in Idle still = nothing
+tick_in Calling still = in_order (tick_t2 ∷ tick_t1 still ∷ [])
+tick_in Up still = in_order (tick_t2 ∷ tick_t1 still ∷ [])
+tick_in Releasing still = in_order (tick_t2 ∷ tick_t1 still ∷ [])
 
 abbrev pub tick : Bool → Act
-tick waiting turn = tick_in turn.now.control.state waiting turn
+tick still turn = tick_in turn.now.control.state still turn

@@ -1,30 +1,38 @@
 //! The variables of a link apart from its numbers and packets.
 ghost use Rattle.std.specs.Prelude.{◌≡◌, ◌<◌, ◌&&◌, Bool};
-ghost use Rattle.link_machine.specs.Machine.{fresh_control, in_state, idle_control};
+ghost use Rattle.link_machine.specs.Machine.{fresh_control, in_state, idle_control, t1_ticks};
 ghost use Rattle.link_machine.specs.Acts.{timed_by, nothing_due, behind_poll, polling, awaiting, releasing, calling};
 ghost use Rattle.link_machine.specs.Acts.{owing, watching};
-ghost use Rattle.link_machine.specs.Frames.{stopped_t1, stopped, unretried_call};
+ghost use Rattle.link_machine.specs.Frames.{stopped_t1, stopped, unretried_call, heard, with_busy};
 ghost use Rattle.link_machine.specs.Requests.{has_link, is_closed};
 ghost use Rattle.link_machine.specs.Ticks.{retried, is_spent, unretried};
 
 use crate::state::LinkState;
 
-/// The acknowledgement timer T1: three seconds, in ticks of 10 ms.
-const T1: u16 = 300;
+/// The response delay timer T2, in ticks of 10 ms.
+const T2: u32 = 30;
 
-/// The response delay timer T2.
-const T2: u16 = 30;
-
-/// The inactive link timer T3.
-const T3: u16 = 3000;
+/// The inactive link timer T3: five minutes.
+const T3: u32 = 30_000;
 
 /// The most retries, N2.
 const MOST_RETRIES: u8 = 10;
+
+/// The acknowledgement timer T1 on a path of so many repeaters, after so many retries.
+fn t1_ticks(hops: u8, retries: u8) -> u32
+    ensures { result ≡ t1_ticks hops retries }
+{
+    let way = 2 * u32::from(hops) + 1;
+    let patience = u32::from(retries / 2).max(1);
+    200 * way * patience
+}
 
 /// The state of a link, its conditions, its retry count and its timers (AX.25 2.2 section 6.7.1). A timer is off, or
 /// has so many ticks left.
 #[derive(Clone, Copy, Debug, PartialEq, Eq)]
 pub struct Control {
+    /// How many repeaters its path has, on which T1 depends.
+    pub hops: u8,
     /// The state.
     pub state: LinkState,
     /// REJ was sent, and the frame that it asks for has not come.
@@ -40,19 +48,20 @@ pub struct Control {
     /// The retries so far.
     pub rc: u8,
     /// The acknowledgement timer.
-    pub t1: Option<u16>,
+    pub t1: Option<u32>,
     /// The response delay timer.
-    pub t2: Option<u16>,
+    pub t2: Option<u32>,
     /// The inactive link timer.
-    pub t3: Option<u16>,
+    pub t3: Option<u32>,
 }
 
 impl Control {
-    /// A link that is not there.
-    pub(crate) fn idle() -> Control
-        ensures { result ≡ idle_control }
+    /// A link that is not there, on a path of so many repeaters.
+    pub(crate) fn idle(hops: u8) -> Control
+        ensures { result ≡ idle_control hops }
     {
         Control {
+            hops,
             state: LinkState::Idle,
             rej: false,
             poll: false,
@@ -99,7 +108,7 @@ impl Control {
         ensures { self.new ≡ calling self.old }
     {
         self.state = LinkState::Calling;
-        self.t1 = Some(T1);
+        self.t1 = Some(t1_ticks(self.hops, self.rc));
         self.t3 = None;
     }
 
@@ -108,7 +117,7 @@ impl Control {
         ensures { self.new ≡ unretried_call self.old }
     {
         self.rc = 0;
-        self.t1 = Some(T1);
+        self.t1 = Some(t1_ticks(self.hops, 0));
     }
 
     /// DISC was sent.
@@ -119,7 +128,7 @@ impl Control {
         self.poll = false;
         self.due = false;
         self.rc = 0;
-        self.t1 = Some(T1);
+        self.t1 = Some(t1_ticks(self.hops, 0));
         self.t2 = None;
         self.t3 = None;
     }
@@ -154,8 +163,25 @@ impl Control {
             self.t1 = None;
             self.t3 = Some(T3);
         } else {
-            self.t1 = Some(T1);
+            self.t1 = Some(t1_ticks(self.hops, 0));
         }
+    }
+
+    /// The other side was heard, by an I or S frame.
+    pub(crate) fn hear(&mut self)
+        ensures { self.new ≡ heard self.old }
+    {
+        if self.t3.is_some() {
+            self.t3 = Some(T3);
+        }
+    }
+
+    /// The other side tells whether it is busy.
+    pub(crate) fn hear_busy(&mut self, busy: bool)
+        ensures { self.new ≡ with_busy busy self.old }
+    {
+        self.hear();
+        self.busy = busy;
     }
 
     /// V(R) was told.
@@ -179,7 +205,7 @@ impl Control {
         ensures { self.new ≡ polling self.old }
     {
         self.poll = true;
-        self.t1 = Some(T1);
+        self.t1 = Some(t1_ticks(self.hops, self.rc));
     }
 
     /// The answer to a poll has come.
@@ -189,7 +215,7 @@ impl Control {
         self.poll = false;
         self.rc = 0;
         if self.busy {
-            self.t1 = Some(T1);
+            self.t1 = Some(t1_ticks(self.hops, 0));
             self.t3 = None;
         } else {
             self.t1 = None;
@@ -209,7 +235,7 @@ impl Control {
         ensures { self.new ≡ awaiting self.old }
     {
         if self.t1.is_none() {
-            self.t1 = Some(T1);
+            self.t1 = Some(t1_ticks(self.hops, self.rc));
             self.t3 = None;
         }
     }
@@ -218,7 +244,7 @@ impl Control {
     pub(crate) fn watch(&mut self)
         ensures { self.new ≡ watching self.old }
     {
-        self.t1 = self.t1.or(Some(T1));
+        self.t1 = self.t1.or(Some(t1_ticks(self.hops, self.rc)));
         self.t3 = None;
     }
 
@@ -235,7 +261,7 @@ impl Control {
         ensures { self.new ≡ retried self.old }
     {
         self.rc += 1;
-        self.t1 = Some(T1);
+        self.t1 = Some(t1_ticks(self.hops, self.rc));
     }
 
     /// A side that was silent is polled.

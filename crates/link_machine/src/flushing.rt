@@ -5,7 +5,7 @@ ghost use Rattle.selective_reject.specs.Outgoing.{may_send};
 ghost use Rattle.link_machine.specs.Sent.Sent.{InfoSent};
 ghost use Rattle.link_machine.specs.declared.state.LinkState.TheVariants.{Up};
 ghost use Rattle.link_machine.specs.Turn.{Turn, sending};
-ghost use Rattle.link_machine.specs.Acts.{in_window, flush, close};
+ghost use Rattle.link_machine.specs.Acts.{in_window, send_packets, flush, close};
 ghost use Rattle.link_machine.specs.Step.{settled};
 ghost use Rattle.link_machine.specs.Room.{frames_left, told_left, Uses};
 ghost use Rattle.link_machine.specs.Held.{IsLink, Shows, outgoing_behind, frames_to_close, sending_packets, send_next};
@@ -130,6 +130,21 @@ impl Machine {
         }
     }
 
+    /// Sends packets, and awaits that they are acknowledged.
+    fn send_and_await(&mut self, room: &mut Room, packets: VecDeque<Packet>)
+        requires formed { IsLink self.old }
+        requires room { length packets.items ≤ frames_left room.old }
+        ensures shows { (t : Turn) → Shows self.old room.old t
+            → packets.items ≡ in_window t.now.incoming.window t.now.outgoing
+            → Shows self.new room.new (send_packets packets.items t) }
+        ensures uses { Uses room.old room.new (length packets.items) 0 }
+        ensures quit { self.new.control.quit ≡ self.old.control.quit }
+    {
+        self.send_packets(room, packets);
+        self.control.settle_due();
+        self.control.await_answer();
+    }
+
     /// Sends the packets that may go out, which are these.
     pub(crate) fn flush(&mut self, room: &mut Room, packets: VecDeque<Packet>)
         requires formed { IsLink self.old }
@@ -142,9 +157,7 @@ impl Machine {
         if packets.is_empty() || self.control.busy || self.control.poll {
             return;
         }
-        self.send_packets(room, packets);
-        self.control.settle_due();
-        self.control.await_answer();
+        self.send_and_await(room, packets);
     }
 
     /// Releases the link if a disconnect was asked for and no packet waits.

@@ -91,6 +91,7 @@ impl Machine {
                 U::Sabme if wide => self.send_setup(room, U::Ua, *flag),
                 U::Sabm => self.send_setup(room, U::Ua, *flag),
                 U::Sabme | U::Disc => self.send_setup(room, U::Dm, *flag),
+                U::Dm if *flag && wide => self.call_narrow(room),
                 U::Dm if *flag => self.end_call(room, Why::Refused),
                 U::Ua if *flag => self.open_answered(room),
                 U::Dm | U::Ua => {}

@@ -191,7 +191,7 @@ impl Machine {
             → Shows self.new room.new (hear_rr (named nr t.now) asks answers t) }
         ensures uses { Uses room.old room.new 1 0 }
     {
-        self.control.busy = false;
+        self.control.hear_busy(false);
         self.acknowledge(nr);
         self.answer_poll(room, asks);
         self.recover(answers);
@@ -225,7 +225,7 @@ impl Machine {
             → Shows self.new room.new (hear_rnr (named nr t.now) asks answers t) }
         ensures uses { Uses room.old room.new 1 0 }
     {
-        self.control.busy = true;
+        self.control.hear_busy(true);
         self.acknowledge(nr);
         self.answer_poll(room, asks);
         self.recover(answers);
@@ -259,7 +259,7 @@ impl Machine {
             → Shows self.new room.new (hear_rej (named nr t.now) asks answers t) }
         ensures uses { Uses room.old room.new 1 0 }
     {
-        self.control.busy = false;
+        self.control.hear_busy(false);
         self.acknowledge(nr);
         self.go_back();
         self.answer_poll(room, asks);
@@ -317,7 +317,7 @@ impl Machine {
             → Shows self.new room.new (hear_srej (named nr t.now) flag asks answers t) }
         ensures uses { Uses room.old room.new 2 0 }
     {
-        self.control.busy = false;
+        self.control.hear_busy(false);
         self.acknowledge_by_srej(nr, flag);
         self.send_again(room, nr, again);
         self.answer_poll(room, asks);
@@ -394,6 +394,7 @@ impl Machine {
             → Shows self.new room.new (hear_info (named nr t.now) ns flag packet t) }
         ensures uses { Uses room.old room.new (self.old.incoming.window + 1) self.old.incoming.window }
     {
+        self.control.hear();
         self.acknowledge(nr);
         match self.incoming.mode() {
             Mode::Rej => self.take_by_rej(room, ns, flag, packet),

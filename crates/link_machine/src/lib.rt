@@ -45,13 +45,17 @@
 //!   (section 6.5).
 //! - RNR is never sent.
 //! - Every link answers SABM and SABME, and takes the modulus of the one that it hears; `wide` says how it calls
-//!   itself. FRMR in reply to SABME brings SABM, with all retries anew (section 6.3.1).
+//!   itself. FRMR or DM in reply to SABME brings SABM, with all retries anew (section 6.3.1). After three retries
+//!   without an answer the call goes on with SABM too, since a side that does not know SABME may be silent.
 //! - While a wide call is under way SABM is passed over: the other side hears the SABME, and answers it by DM or FRMR.
 //!   SABME is answered by DM while a call modulo 8 is under way.
 //! - A link that is not there counts modulo 8. The frame that ends a set-up is written in the modulus of that set-up.
 //! - A packet that is given while the call is under way belongs to the set-up that follows.
-//! - T1 stands still while a frame of the link waits in the transmit queue, since no answer can be expected (section
-//!   6.7.1).
+//! - T1 counts silence alone: it stands still while a frame of the link waits or is on the air, and while the channel
+//!   is busy in half duplex, since no answer can be expected then. So it needs no measured round trip (section
+//!   6.7.1.1): it is two seconds and four more for each repeater, and from the fourth retry on a multiple of that.
+//! - T3 begins anew with every I and S frame that is heard, so that a link on which something comes is not polled
+//!   (section 6.7.1.3).
 #![tactic(auto)]
 
 mod acts;

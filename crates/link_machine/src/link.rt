@@ -154,16 +154,17 @@ impl Link {
         self.machine.hear(self.alloc, frame)
     }
 
-    /// A tick of 10 ms. `waiting` says that a frame of this link waits in the transmit queue.
-    pub fn tick(&mut self, waiting: bool) -> Result<Acts, OutOfMemory>
+    /// A tick of 10 ms. `still` says that T1 stands still in it: a frame of this link waits or is on the air, or the
+    /// channel is busy in half duplex.
+    pub fn tick(&mut self, still: bool) -> Result<Acts, OutOfMemory>
         ensures step { (m : State) → StandsFor self.old m → IfOk result (λ acts. acts
-            ≡ done_of (step m (Tick waiting))) }
+            ≡ done_of (step m (Tick still))) }
         ensures stands_for { (m : State) → StandsFor self.old m
-            → OnOk result (StandsFor self.new (step m (Tick waiting)).now) }
+            → OnOk result (StandsFor self.new (step m (Tick still)).now) }
         ensures writable { IfOk result (λ acts. All IsWritable acts.frames) }
         ensures unchanged { OnErr result (self.new ≡ self.old) }
     {
-        self.machine.tick(self.alloc, waiting)
+        self.machine.tick(self.alloc, still)
     }
 
     /// Why [`Link::connect`] would refuse, memory apart. It takes none.

@@ -66,10 +66,11 @@ impl Machine {
         let Ok(outgoing) = OutStore::new(alloc) else {
             return Err(NewFault::Memory);
         };
+        let hops = path.repeaters.len() as u8;
         Ok(Machine {
             path,
             params: fitting,
-            control: Control::idle(),
+            control: Control::idle(hops),
             outgoing,
             incoming,
         })

@@ -1,11 +1,13 @@
 //! A tick of 10 ms, and the timers that run out with it.
 ghost use Rattle.std.specs.Prelude.{◌≡◌, ℕ, ◌+◌, ◌≤◌, ◌<◌, Bool, IsTrue};
 ghost use Rattle.link_machine.specs.declared.state.LinkState.TheVariants.{Idle};
+ghost use Rattle.link_machine.specs.Machine.{Machine as State, falls_back};
 ghost use Rattle.link_machine.specs.Turn.{Turn};
-ghost use Rattle.link_machine.specs.Ticks.{t2_out, call_again, poll_again, release_again, t1_out, t3_out, tick_t2};
+ghost use Rattle.link_machine.specs.Ticks.{t2_out, fall_back, call_again, poll_again, release_again, t1_out, t3_out};
+ghost use Rattle.link_machine.specs.Ticks.{tick_t2};
 ghost use Rattle.link_machine.specs.Ticks.{tick_t3, tick_t1, tick};
 ghost use Rattle.link_machine.specs.Room.{frames_left, told_left, Uses};
-ghost use Rattle.link_machine.specs.Held.{IsLink, IsWhole, Shows, Makes};
+ghost use Rattle.link_machine.specs.Held.{IsLink, IsWhole, Holds, Shows, Makes};
 ghost use Rattle.link_machine.specs.Timers.{outs, out_of, quits};
 
 use crate::acts::{Acts, Told, Why};
@@ -16,8 +18,11 @@ use ax25_frames::U;
 use std::alloc::Global;
 use tnc_base::OutOfMemory;
 
+/// How many retries a call modulo 128 has.
+const WIDE_RETRIES: u8 = 3;
+
 /// Whether a timer runs out with the next tick, as a count of what may be sent for it.
-fn out_of(timer: Option<u16>) -> usize
+fn out_of(timer: Option<u32>) -> usize
     ensures count { result ≡ out_of timer }
     ensures small { result ≤ 1 }
 {
@@ -28,24 +33,24 @@ fn out_of(timer: Option<u16>) -> usize
 }
 
 impl Machine {
-    /// A tick; `waiting` says whether a frame of the link waits to be sent.
-    pub(crate) fn tick(&mut self, alloc: Global, waiting: bool) -> Result<Acts, OutOfMemory>
+    /// A tick; `still` says whether T1 stands still in it.
+    pub(crate) fn tick(&mut self, alloc: Global, still: bool) -> Result<Acts, OutOfMemory>
         requires { IsWhole self.old }
-        ensures { Makes (tick waiting) self.old self.new result }
+        ensures { Makes (tick still) self.old self.new result }
     {
         let packets = self.copies_to_send(alloc, 0, false)?;
         let outs = out_of(self.control.t1) + out_of(self.control.t2) + out_of(self.control.t3);
         let frames = packets.len() + outs + usize::from(self.control.quit);
         let mut room = Room::new(alloc, frames, outs)?;
-        self.tick_timers(&mut room, waiting);
+        self.tick_timers(&mut room, still);
         self.settle(&mut room, packets);
         Ok(room.finish())
     }
 
-    fn tick_timers(&mut self, room: &mut Room, waiting: bool)
+    fn tick_timers(&mut self, room: &mut Room, still: bool)
         requires frames { outs self.old.control ≤ frames_left room.old }
         requires told { outs self.old.control ≤ told_left room.old }
-        ensures shows { (t : Turn) → Shows self.old room.old t → Shows self.new room.new (tick waiting t) }
+        ensures shows { (t : Turn) → Shows self.old room.old t → Shows self.new room.new (tick still t) }
         ensures uses { Uses room.old room.new (outs self.old.control) (outs self.old.control) }
         ensures quit { quits self.new.control ≤ quits self.old.control }
     {
@@ -53,7 +58,7 @@ impl Machine {
             LinkState::Idle => {}
             _ => {
                 self.tick_t2(room);
-                self.tick_t1(room, waiting);
+                self.tick_t1(room, still);
             }
         }
     }
@@ -91,10 +96,10 @@ impl Machine {
         }
     }
 
-    fn tick_t1(&mut self, room: &mut Room, waiting: bool)
+    fn tick_t1(&mut self, room: &mut Room, still: bool)
         requires frames { out_of self.old.control.t1 + out_of self.old.control.t3 ≤ frames_left room.old }
         requires told { out_of self.old.control.t1 + out_of self.old.control.t3 ≤ told_left room.old }
-        ensures shows { (t : Turn) → Shows self.old room.old t → Shows self.new room.new (tick_t1 waiting t) }
+        ensures shows { (t : Turn) → Shows self.old room.old t → Shows self.new room.new (tick_t1 still t) }
         ensures uses { let most = out_of self.old.control.t1 + out_of self.old.control.t3
             in Uses room.old room.new most most }
         ensures quit { quits self.new.control ≤ quits self.old.control }
@@ -102,7 +107,7 @@ impl Machine {
         let Some(left) = self.control.t1 else {
             return self.tick_t3(room);
         };
-        if waiting {
+        if still {
             return;
         }
         if left > 1 {
@@ -139,10 +144,32 @@ impl Machine {
     {
         if self.control.is_spent() {
             self.end_call(room, Why::Failed);
+        } else if self.falls_back() {
+            self.fall_back(room);
         } else {
             self.control.retry();
             self.send_call(room);
         }
+    }
+
+    /// Whether a call modulo 128 was retried in vain, and goes on modulo 8.
+    fn falls_back(&self) -> bool
+        ensures { (m : State) → Holds self.now m → result ≡ falls_back m }
+    {
+        self.is_wide() && self.control.rc == WIDE_RETRIES
+    }
+
+    /// Goes on calling modulo 8, since the other side may not know SABME.
+    fn fall_back(&mut self, room: &mut Room)
+        requires retries { self.old.control.rc < 255 }
+        requires frames { 1 ≤ frames_left room.old }
+        ensures shows { (t : Turn) → Shows self.old room.old t → Shows self.new room.new (fall_back t) }
+        ensures uses { Uses room.old room.new 1 0 }
+        ensures quit { quits self.new.control ≤ quits self.old.control }
+    {
+        self.control.retry();
+        self.narrow();
+        self.send_call(room);
     }
 
     fn poll_again(&mut self, room: &mut Room)

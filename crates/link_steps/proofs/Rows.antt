@@ -1,6 +1,6 @@
 -- What a row of a link's table does: each row is one of a few kinds, and so is the end of an event.
 use Rattle.std.proofs.Common.{◌≡◌, ℕ, ◌≤◌, ◌==◌, ◌&&◌, Bool, true, false, [], ◌∷◌, length, cond, Option, Some, None}
-use Rattle.std.proofs.Common.{is_some, refl, sym, ◌∙◌, subst, inl, inr}
+use Rattle.std.proofs.Common.{is_some, refl, sym, ap, ◌∙◌, subst, inl, inr}
 use Rattle.std.specs.Bool.{⊤}
 use Rattle.std.proofs.lemmas.Bool.{and_parts, false≢true, ltb-false}
 use Rattle.std.specs.Prelude.{nat_le, nat_lt}
@@ -11,6 +11,7 @@ use Rattle.ax25_frames.specs.declared.frame.U.{U}
 use Rattle.ax25_frames.specs.declared.frame.U.TheVariants.{Sabm, Sabme, Disc, Dm, Ua}
 use Rattle.ax25_frames.specs.declared.frame.W.{W}
 use Rattle.ax25_frames.specs.declared.frame.W.TheVariants.{Frmr, Xid, Test}
+use Rattle.selective_reject.specs.Incoming.{Incoming}
 use Rattle.selective_reject.specs.Numbers.{IsModulus}
 use Rattle.selective_reject.specs.declared.packet.Packet.{Packet}
 use Rattle.link_machine.specs.declared.acts.Told.TheVariants.{Ended}
@@ -29,11 +30,11 @@ use Rattle.link_machine.specs.Frames.{hear_calling_in}
 use Rattle.link_machine.specs.Frames.{hear_idle, hear_in, hear_releasing, hear_up, leave}
 use Rattle.link_machine.specs.Frames.{open_again, open_answered, open_called}
 use Rattle.link_machine.specs.Held.{IsShort, sending_packets}
-use Rattle.link_machine.specs.Machine.{Machine, is_valid, is_wide, most_packets, named}
+use Rattle.link_machine.specs.Machine.{Machine, falls_back, is_valid, is_wide, most_packets, named, wide_retries}
 use Rattle.link_machine.specs.Requests.{connect, has_link, is_closed, joined, quitting}
 use Rattle.link_machine.specs.Sent.Sent.{SetupSent}
 use Rattle.link_machine.specs.Step.{refusal_of, row, settle_in, settled, step}
-use Rattle.link_machine.specs.Ticks.{is_spent, lowered, retried, runs_out, t1_out}
+use Rattle.link_machine.specs.Ticks.{fall_back, is_spent, lowered, retried, runs_out, t1_out}
 use Rattle.link_machine.specs.Ticks.{t2_out, t3_out, tick_in, tick_t1, tick_t1_of, tick_t2, tick_t2_of, tick_t3_of}
 use Rattle.link_machine.specs.Ticks.{with_t1, with_t2, with_t3}
 use Rattle.link_machine.specs.Turn.{Turn, begin, changing, in_order, sending, setting, telling}
@@ -53,7 +54,7 @@ Hears P Connect = ⊥
 Hears P (Send packet) = ⊥
 Hears P Disconnect = ⊥
 Hears P (Hear frame) = P frame.kind
-Hears P (Tick waiting) = ⊥
+Hears P (Tick still) = ⊥
 
 -- SABM, SABME or DISC
 abbrev pub IsAsking : Kind → Type 0
@@ -82,12 +83,20 @@ IsFrmrOther Frmr = ⊤
 IsFrmrOther Xid = ⊥
 IsFrmrOther Test = ⊥
 
-abbrev pub IsFrmr : Kind → Type 0
-IsFrmr (Info ns nr flag pid octets) = ⊥
-IsFrmr (Super which nr flag) = ⊥
-IsFrmr (Setup which flag) = ⊥
-IsFrmr (Ui flag pid octets) = ⊥
-IsFrmr (Other which flag octets) = IsFrmrOther which
+abbrev pub IsDmSetup : U → Type 0
+IsDmSetup Sabm = ⊥
+IsDmSetup Sabme = ⊥
+IsDmSetup Disc = ⊥
+IsDmSetup Dm = ⊤
+IsDmSetup Ua = ⊥
+
+-- DM with F = 1, or FRMR, by which a side refuses SABME
+abbrev pub RefusesWide : Kind → Type 0
+RefusesWide (Info ns nr flag pid octets) = ⊥
+RefusesWide (Super which nr flag) = ⊥
+RefusesWide (Setup which flag) = IsDmSetup which × (flag ≡ true)
+RefusesWide (Ui flag pid octets) = ⊥
+RefusesWide (Other which flag octets) = IsFrmrOther which
 
 -- it makes a link that is up call anew: its N(R) is not valid, or it is FRMR
 abbrev pub IsWrong : Machine → Kind → Type 0
@@ -97,37 +106,38 @@ IsWrong m (Setup which flag) = ⊥
 IsWrong m (Ui flag pid octets) = ⊥
 IsWrong m (Other which flag octets) = IsFrmrOther which
 
-abbrev pub IsAny : Kind → Type 0
-IsAny kind = ⊤
+-- a link that calls declines only what asks
+abbrev pub IsDeclined : Machine → Kind → Type 0
+IsDeclined m kind = m.control.state ≡ Calling → IsAsking kind
 
--- a tick that T1 counts: no frame of the link waits to be sent
+-- a tick that T1 counts: it does not stand still
 abbrev pub IsT1Tick : Event → Type 0
 IsT1Tick Connect = ⊥
 IsT1Tick (Send packet) = ⊥
 IsT1Tick Disconnect = ⊥
 IsT1Tick (Hear frame) = ⊥
-IsT1Tick (Tick waiting) = waiting ≡ false
+IsT1Tick (Tick still) = still ≡ false
 
 abbrev pub IsConnect : Event → Type 0
 IsConnect Connect = ⊤
 IsConnect (Send packet) = ⊥
 IsConnect Disconnect = ⊥
 IsConnect (Hear frame) = ⊥
-IsConnect (Tick waiting) = ⊥
+IsConnect (Tick still) = ⊥
 
 abbrev pub IsDisconnect : Event → Type 0
 IsDisconnect Connect = ⊥
 IsDisconnect (Send packet) = ⊥
 IsDisconnect Disconnect = ⊤
 IsDisconnect (Hear frame) = ⊥
-IsDisconnect (Tick waiting) = ⊥
+IsDisconnect (Tick still) = ⊥
 
 abbrev pub IsSending : Packet → Event → Type 0
 IsSending packet Connect = ⊥
 IsSending packet (Send given) = packet ≡ given
 IsSending packet Disconnect = ⊥
 IsSending packet (Hear frame) = ⊥
-IsSending packet (Tick waiting) = ⊥
+IsSending packet (Tick still) = ⊥
 
 abbrev pub IsDown : LinkState → Type 0
 IsDown Idle = ⊤
@@ -149,7 +159,8 @@ pub data Row (m : Machine) (event : Event) : Turn → Type 0 where
   -- the link is up, and goes on
   works : {t : Turn} → m.control.state ≡ Up → Traffic (begin m) t → Row m event t
   -- it is not, and answers by DM or by UA
-  declines : (flag : Bool) → IsDown m.control.state → Hears IsAny event → Row m event (answer_dm flag (begin m))
+  declines : (flag : Bool) → IsDown m.control.state → Hears (IsDeclined m) event
+      → Row m event (answer_dm flag (begin m))
   agrees : (flag : Bool) → IsDown m.control.state → Hears IsAsking event → Row m event (answer_ua flag (begin m))
   -- SABM, SABME or DISC goes out again
   calls_again : {t : Turn} → Rests (begin m) t → m.control.state ≡ Calling → IsT1Tick event
@@ -169,8 +180,10 @@ pub data Row (m : Machine) (event : Event) : Turn → Type 0 where
   is_called_again : (modulus : ℕ) (flag : Bool) → m.control.state ≡ Up → IsModulus modulus → Hears IsAsking event
       → Row m event (open_again modulus flag (begin m))
   is_answered : m.control.state ≡ Calling → Hears IsUa event → Row m event (open_answered (begin m))
-  -- the call goes on in modulus 8
-  narrows : m.control.state ≡ Calling → Hears IsFrmr event → Row m event (call_narrow (begin m))
+  -- the call goes on in modulus 8: SABME was refused, or was retried in vain
+  narrows : m.control.state ≡ Calling → is_wide m ≡ true → Hears RefusesWide event → Row m event (call_narrow (begin m))
+  falls_narrow : {t : Turn} → Rests (begin m) t → m.control.state ≡ Calling → is_wide m ≡ true → IsT1Tick event
+      → Row m event (fall_back t)
   -- the link calls anew, or calls
   resets : m.control.state ≡ Up → Hears (IsWrong m) event → Row m event (reset (begin m))
   connects : m.control.state ≡ Idle → IsConnect event → Row m event (connect (begin m))
@@ -206,6 +219,9 @@ rests_on (as_timed c h) (as_timed d k) = as_timed d (k.0 ∙ h.0, k.1 ∙ h.1)
 pub rests_mode : {t u : Turn} → Rests t u → KeepsMode t.now.control u.now.control
 rests_mode (as_timed c h) = h
 
+rests_incoming : {t u : Turn} → Rests t u → u.now.incoming ≡ t.now.incoming
+rests_incoming (as_timed c h) = refl
+
 pub rests_traffic : {t u : Turn} → Rests t u → Traffic t u
 rests_traffic (as_timed c h) = more none (times c h)
 
@@ -218,45 +234,60 @@ stays {m = m} = rests (rests_same (begin m))
 abbrev Hearing : Kind → Event → Type 1
 Hearing kind event = (P : Kind → Type 0) → P kind → Hears P event
 
+idle_declines : (flag : Bool) (kind : Kind) (m : Machine) (event : Event) → m.control.state ≡ Idle
+    → Hearing kind event → Row m event (answer_dm flag (begin m))
+idle_declines flag kind m event is at =
+    declines flag (subst IsDown (sym is) tt) (at (IsDeclined m) (λ calling. absurd (cc)))
+
+releasing_declines : (flag : Bool) (kind : Kind) (m : Machine) (event : Event) → m.control.state ≡ Releasing
+    → Hearing kind event → Row m event (answer_dm flag (begin m))
+releasing_declines flag kind m event is at =
+    declines flag (subst IsDown (sym is) tt) (at (IsDeclined m) (λ calling. absurd (cc)))
+
 idle_row :
     (command : Bool) (kind : Kind) (m : Machine) (event : Event) → m.control.state ≡ Idle → Hearing kind event
     → Row m event (hear_idle command kind (begin m))
 idle_row command (Setup Sabm flag) m event is at = is_called 8 flag is (inl refl) (at IsAsking refl)
 idle_row command (Setup Sabme flag) m event is at = is_called 128 flag is (inr refl) (at IsAsking refl)
-idle_row command (Setup Disc flag) m event is at = declines flag (subst IsDown (sym is) tt) (at IsAny tt)
+idle_row command (Setup Disc flag) m event is at = idle_declines flag (Setup Disc flag) m event is at
 idle_row command (Setup Dm flag) m event is at = stays
 idle_row command (Setup Ua flag) m event is at = stays
-idle_row command (Info ns nr flag pid octets) m event is at = declines flag (subst IsDown (sym is) tt) (at IsAny tt)
-idle_row true (Super which nr flag) m event is at = declines flag (subst IsDown (sym is) tt) (at IsAny tt)
+idle_row command (Info ns nr flag pid octets) m event is at = idle_declines flag
+    (Info ns nr flag pid octets) m event is at
+idle_row true (Super which nr flag) m event is at = idle_declines flag (Super which nr flag) m event is at
 idle_row false (Super which nr flag) m event is at = stays
 idle_row command (Ui flag pid octets) m event is at = stays
 idle_row command (Other which flag octets) m event is at = stays
 
 calling_row :
-    (wide : Bool) (kind : Kind) (m : Machine) (event : Event) → m.control.state ≡ Calling → Hearing kind event
-    → Row m event (hear_calling_in wide kind (begin m))
-calling_row true (Setup Sabm flag) m event is at = stays
-calling_row false (Setup Sabm flag) m event is at = agrees flag (subst IsDown (sym is) tt) (at IsAsking refl)
-calling_row true (Setup Sabme flag) m event is at = agrees flag (subst IsDown (sym is) tt) (at IsAsking refl)
-calling_row false (Setup Sabme flag) m event is at = declines flag (subst IsDown (sym is) tt) (at IsAny tt)
-calling_row wide (Setup Disc flag) m event is at = declines flag (subst IsDown (sym is) tt) (at IsAny tt)
-calling_row wide (Setup Dm true) m event is at = ends_call Refused (rests_same (begin m)) (subst IsDown (sym is) tt)
-calling_row wide (Setup Dm false) m event is at = stays
-calling_row wide (Setup Ua true) m event is at = is_answered is (at IsUa tt)
-calling_row wide (Setup Ua false) m event is at = stays
-calling_row wide (Info ns nr flag pid octets) m event is at = stays
-calling_row wide (Super which nr flag) m event is at = stays
-calling_row wide (Ui flag pid octets) m event is at = stays
-calling_row true (Other Frmr flag octets) m event is at = narrows is (at IsFrmr tt)
-calling_row false (Other Frmr flag octets) m event is at = stays
-calling_row wide (Other Xid flag octets) m event is at = stays
-calling_row wide (Other Test flag octets) m event is at = stays
+    (wide : Bool) (kind : Kind) (m : Machine) (event : Event) → m.control.state ≡ Calling → is_wide m ≡ wide
+    → Hearing kind event → Row m event (hear_calling_in wide kind (begin m))
+calling_row true (Setup Sabm flag) m event is wide_is at = stays
+calling_row false (Setup Sabm flag) m event is wide_is at = agrees flag (subst IsDown (sym is) tt) (at IsAsking refl)
+calling_row true (Setup Sabme flag) m event is wide_is at = agrees flag (subst IsDown (sym is) tt) (at IsAsking refl)
+calling_row false (Setup Sabme flag) m event is wide_is at =
+    declines flag (subst IsDown (sym is) tt) (at (IsDeclined m) (λ calling. refl))
+calling_row wide (Setup Disc flag) m event is wide_is at =
+    declines flag (subst IsDown (sym is) tt) (at (IsDeclined m) (λ calling. refl))
+calling_row true (Setup Dm true) m event is wide at = narrows is wide (at RefusesWide (tt, refl))
+calling_row false (Setup Dm true) m event is wide_is at =
+    ends_call Refused (rests_same (begin m)) (subst IsDown (sym is) tt)
+calling_row wide (Setup Dm false) m event is wide_is at = stays
+calling_row wide (Setup Ua true) m event is wide_is at = is_answered is (at IsUa tt)
+calling_row wide (Setup Ua false) m event is wide_is at = stays
+calling_row wide (Info ns nr flag pid octets) m event is wide_is at = stays
+calling_row wide (Super which nr flag) m event is wide_is at = stays
+calling_row wide (Ui flag pid octets) m event is wide_is at = stays
+calling_row true (Other Frmr flag octets) m event is wide at = narrows is wide (at RefusesWide tt)
+calling_row false (Other Frmr flag octets) m event is wide_is at = stays
+calling_row wide (Other Xid flag octets) m event is wide_is at = stays
+calling_row wide (Other Test flag octets) m event is wide_is at = stays
 
 releasing_row :
     (command : Bool) (kind : Kind) (m : Machine) (event : Event) → m.control.state ≡ Releasing → Hearing kind event
     → Row m event (hear_releasing command kind (begin m))
-releasing_row command (Setup Sabm flag) m event is at = declines flag (subst IsDown (sym is) tt) (at IsAny tt)
-releasing_row command (Setup Sabme flag) m event is at = declines flag (subst IsDown (sym is) tt) (at IsAny tt)
+releasing_row command (Setup Sabm flag) m event is at = releasing_declines flag (Setup Sabm flag) m event is at
+releasing_row command (Setup Sabme flag) m event is at = releasing_declines flag (Setup Sabme flag) m event is at
 releasing_row command (Setup Disc flag) m event is at = agrees flag (subst IsDown (sym is) tt) (at IsAsking refl)
 releasing_row command (Setup Dm true) m event is at =
     ends_call Asked (rests_same (begin m)) (subst IsDown (sym is) tt)
@@ -264,10 +295,10 @@ releasing_row command (Setup Dm false) m event is at = stays
 releasing_row command (Setup Ua true) m event is at =
     ends_call Asked (rests_same (begin m)) (subst IsDown (sym is) tt)
 releasing_row command (Setup Ua false) m event is at = stays
-releasing_row command (Info ns nr true pid octets) m event is at =
-    declines true (subst IsDown (sym is) tt) (at IsAny tt)
+releasing_row command (Info ns nr true pid octets) m event is at = releasing_declines true
+    (Info ns nr true pid octets) m event is at
 releasing_row command (Info ns nr false pid octets) m event is at = stays
-releasing_row true (Super which nr true) m event is at = declines true (subst IsDown (sym is) tt) (at IsAny tt)
+releasing_row true (Super which nr true) m event is at = releasing_declines true (Super which nr true) m event is at
 releasing_row true (Super which nr false) m event is at = stays
 releasing_row false (Super which nr flag) m event is at = stays
 releasing_row command (Ui flag pid octets) m event is at = stays
@@ -305,7 +336,7 @@ heard_row :
     (state : LinkState) (command : Bool) (kind : Kind) (m : Machine) (event : Event) → m.control.state ≡ state
     → Hearing kind event → Row m event (hear_in state command kind (begin m))
 heard_row Idle command kind m event is at = idle_row command kind m event is at
-heard_row Calling command kind m event is at = calling_row (is_wide m) kind m event is at
+heard_row Calling command kind m event is at = calling_row (is_wide m) kind m event is refl at
 heard_row Up command kind m event is at = up_row command kind m event is at
 heard_row Releasing command kind m event is at = releasing_row command kind m event is at
 
@@ -387,10 +418,22 @@ t1_row :
     → Row m (Tick false) (t1_out state t)
 t1_row Idle m t is h = begun_row h
 t1_row Calling m t is h =
-    let down : IsDown m.control.state = subst IsDown (sym is) tt in
-    either (Row m (Tick false)) (is_spent t.now.control) (end_call Failed t) (send_call (setting retried t))
-    (ends_call Failed (h.only down) down)
-    (calls_again (rests_on (h.only down) (sets_timer (retried t.now.control) t (refl, refl))) is refl)
+    either (Row m (Tick false)) (is_spent t.now.control) (end_call Failed t)
+    (cond (falls_back t.now) (fall_back t) (send_call (setting retried t)))
+    (ends_call Failed (h.only down) down) (by_modulus (falls_back t.now) refl)
+  where
+    down : IsDown m.control.state
+    down = subst IsDown (sym is) tt
+
+    wide_is : falls_back t.now ≡ true → is_wide m ≡ true
+    wide_is falls = ap (λ (i : Incoming). i.modulus == 128) (sym (rests_incoming (h.only down)))
+        ∙ (and_parts (is_wide t.now) (t.now.control.rc == wide_retries) falls).0
+
+    by_modulus : (b : Bool) → falls_back t.now ≡ b
+        → Row m (Tick false) (cond b (fall_back t) (send_call (setting retried t)))
+    by_modulus true falls = falls_narrow (h.only down) is (wide_is falls) refl
+    by_modulus false on =
+        calls_again (rests_on (h.only down) (sets_timer (retried t.now.control) t (refl, refl))) is refl
 t1_row Up m t is h =
     either (Row m (Tick false)) (is_spent t.now.control) (giving_up t) (poll (setting retried t))
     (gives_up is h.run h.told refl) (works is (run_on h.run (poll_more t)))
@@ -401,9 +444,9 @@ t1_row Releasing m t is h =
     (releases_again (rests_on (h.only down) (sets_timer (retried t.now.control) t (refl, refl))) is refl)
 
 tick_t1_row :
-    (timer : Option ℕ) (waiting : Bool) (m : Machine) (t : Turn) → Begun m t
-    → Row m (Tick waiting) (tick_t1_of timer waiting t)
-tick_t1_row None waiting m t h =
+    (timer : Option ℕ) (still : Bool) (m : Machine) (t : Turn) → Begun m t
+    → Row m (Tick still) (tick_t1_of timer still t)
+tick_t1_row None still m t h =
     only_row (λ down. rests_on (h.only down)
     (tick_t3_rests t.now.control.t3 t (subst IsDown (sym (traffic_mode h.run).0) down)))
     (run_on h.run (ticks_t3 t.now.control.t3 t))
@@ -415,20 +458,20 @@ tick_t1_row (Some left) false m t h =
     (begun_timed (with_t1 None t.now.control) h (refl, refl)))
     (begun_row (begun_timed (with_t1 (lowered left) t.now.control) h (refl, refl)))
 
-timers_row : (waiting : Bool) (m : Machine) → Row m (Tick waiting) (tick_t1 waiting (tick_t2 (begin m)))
-timers_row waiting m =
+timers_row : (still : Bool) (m : Machine) → Row m (Tick still) (tick_t1 still (tick_t2 (begin m)))
+timers_row still m =
     let t = tick_t2 (begin m) in
-    tick_t1_row t.now.control.t1 waiting m t (record {
+    tick_t1_row t.now.control.t1 still m t (record {
       only = λ down. tick_t2_rests m.control.t2 (begin m) down;
       run = ticks_t2 m.control.t2 (begin m);
       told = tick_t2_tells_none m.control.t2 (begin m);
     })
 
-tick_row : (state : LinkState) (waiting : Bool) (m : Machine) → Row m (Tick waiting) (tick_in state waiting (begin m))
-tick_row Idle waiting m = stays
-tick_row Calling waiting m = timers_row waiting m
-tick_row Up waiting m = timers_row waiting m
-tick_row Releasing waiting m = timers_row waiting m
+tick_row : (state : LinkState) (still : Bool) (m : Machine) → Row m (Tick still) (tick_in state still (begin m))
+tick_row Idle still m = stays
+tick_row Calling still m = timers_row still m
+tick_row Up still m = timers_row still m
+tick_row Releasing still m = timers_row still m
 
 -- ---- each event
 
@@ -461,7 +504,7 @@ row_is m (Send packet) free =
 row_is m Disconnect free = wishes tt
 row_is m (Hear frame) free =
     heard_row m.control.state (is_command_of frame.path.role frame.kind) frame.kind m (Hear frame) refl (λ P p. p)
-row_is m (Tick waiting) free = tick_row m.control.state waiting m
+row_is m (Tick still) free = tick_row m.control.state still m
 
 pub flush_traffic : {t u : Turn} → Flushes t u → Traffic t u
 flush_traffic sends_none = none

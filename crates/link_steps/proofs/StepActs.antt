@@ -20,13 +20,16 @@ use Rattle.link_machine.specs.Params.{called_modulus}
 use Rattle.link_machine.specs.Requests.{joined, quitting}
 use Rattle.link_machine.specs.Sent.Sent.{SetupSent}
 use Rattle.link_machine.specs.Step.{step}
+use Rattle.link_machine.specs.Ticks.{retried}
 use Rattle.link_machine.specs.Turn.{Turn, begin, changing, sending, telling}
 use Rattle.step_laws.proofs.Runs.{GoesOn, Run, along_run, run_each, run_on, run_one}
 use Rattle.step_laws.proofs.Runs.Run.{none, more}
 use Rattle.link_steps.proofs.Rows.{Row, Settles, Stepped, flush_traffic, rests_traffic, step_is}
 use Rattle.link_steps.proofs.Rows.Row.{rests, works, declines, agrees, calls_again, releases_again, ends_call}
 use Rattle.link_steps.proofs.Rows.Row.{ends_by_dm}
-use Rattle.link_steps.proofs.Rows.Row.{ends_by_disc, gives_up, is_called, is_called_again, is_answered, narrows, resets}
+use Rattle.link_steps.proofs.Rows.Row.{ends_by_disc, gives_up, is_called, is_called_again, is_answered, narrows}
+use Rattle.link_steps.proofs.Rows.Row.{falls_narrow}
+use Rattle.link_steps.proofs.Rows.Row.{resets}
 use Rattle.link_steps.proofs.Rows.Row.{connects, takes, wishes}
 use Rattle.link_steps.proofs.Rows.Settles.{is_down, goes_on, releases}
 use Rattle.link_steps.proofs.Rows.Stepped.{is_refused, makes}
@@ -92,8 +95,11 @@ row_acts m event t (is_called_again modulus flag up known heard) =
     opened modulus flag known (run_one (tells (Ended Reset)))
 row_acts m event t (is_answered calling heard) =
     more (more (run_one begins) (controls (in_state Up (fresh m).control))) (tells (Opened true))
-row_acts m event t (narrows calling heard) =
+row_acts m event t (narrows calling wide heard) =
     more (more (run_one (counts 8 (inl refl))) (controls (unretried_call m.control))) (sets_up Sabm true)
+row_acts m event t (falls_narrow {t = u} run calling wide tick) =
+    more (more (more (going (rests_traffic run)) (controls (retried u.now.control))) (counts 8 (inl refl)))
+    (sets_up Sabm true)
 row_acts m event t (resets up wrong) = called (more (more (run_one (tells (Ended Reset))) begins) empties)
 row_acts m event t (connects idle connecting) =
     called (more (run_one begins) (counts (called_modulus m.params) (own_known m.params.wide)))

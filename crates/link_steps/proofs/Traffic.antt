@@ -14,8 +14,9 @@ use Rattle.link_machine.specs.declared.state.LinkState.{LinkState}
 use Rattle.link_machine.specs.declared.state.LinkState.TheVariants.{Idle, Calling, Up, Releasing}
 use Rattle.link_machine.specs.Acts.{acknowledged, answer_poll, ask, awaiting, behind_poll, give, gone_back}
 use Rattle.link_machine.specs.Acts.{nothing_due, owing, poll, polling, recover, reject, respond_ready, run_with}
-use Rattle.link_machine.specs.Acts.{send_again, sent_packet, stored, timed_anew, timed_by, to_send, watching, with_rej}
-use Rattle.link_machine.specs.Frames.{acknowledged_by_srej, hear_info, hear_info_by}
+use Rattle.link_machine.specs.Acts.{send_again, sent_packet, stored, t1_of, timed_anew, timed_by, to_send, watching}
+use Rattle.link_machine.specs.Acts.{with_rej}
+use Rattle.link_machine.specs.Frames.{acknowledged_by_srej, heard, hear_info, hear_info_by}
 use Rattle.link_machine.specs.Frames.{hear_rej, hear_rnr, hear_rr, hear_srej, hear_supervisory}
 use Rattle.link_machine.specs.Frames.{refuse_out_of_sequence, take_in_sequence, take_selected, with_busy}
 use Rattle.link_machine.specs.Held.{sending_packets}
@@ -72,7 +73,7 @@ Traffic = Run Single
 
 pub poll_mode : (c : Control) → KeepsMode c (behind_poll c)
 poll_mode c =
-    either (KeepsMode c) c.busy (record c { poll = false; rc = 0; t1 = Some t1_ticks; t3 = None })
+    either (KeepsMode c) c.busy (record c { poll = false; rc = 0; t1 = Some (t1_ticks c.hops 0); t3 = None })
     (record c { poll = false; rc = 0; t1 = None; t3 = Some t3_ticks }) (refl, refl) (refl, refl)
 
 pub timed_mode : (some all : Bool) (c : Control) → KeepsMode c (timed_by some all c)
@@ -83,7 +84,7 @@ timed_mode some all c = either (KeepsMode c) (some && not c.poll) (timed_anew al
     anew false = (refl, refl)
 
 pub awaiting_mode : (c : Control) → KeepsMode c (awaiting c)
-awaiting_mode c = either (KeepsMode c) (is_none c.t1) (record c { t1 = Some t1_ticks; t3 = None }) c (refl, refl)
+awaiting_mode c = either (KeepsMode c) (is_none c.t1) (record c { t1 = Some (t1_of c); t3 = None }) c (refl, refl)
     (refl, refl)
 
 single_mode : (t u : Turn) → Single t u → KeepsMode t.now.control u.now.control
@@ -208,7 +209,10 @@ info_by SrejMode ns flag packet t =
     run_on (sets (owing u.now.control) (selected (ahead_of_vr ns t.now) packet t) (refl, refl)) (answers flag _)
 
 pub info : (n ns : ℕ) (flag : Bool) (packet : Packet) (t : Turn) → Traffic t (hear_info n ns flag packet t)
-info n ns flag packet t = run_on (with_acknowledged n t) (info_by t.now.incoming.mode ns flag packet _)
+info n ns flag packet t =
+    let u = setting heard t in
+    run_on (run_on (sets (heard t.now.control) none (refl, refl)) (with_acknowledged n u))
+    (info_by t.now.incoming.mode ns flag packet _)
 
 -- ---- ticks
 

@@ -1,5 +1,5 @@
 -- Worked examples of two links, by computation.
-use Rattle.link_world.proofs.Common.{Packet, Mode, ahead, missing, asked, Opened, Ended, Reset, Refused, Params, Sent}
+use Rattle.link_world.proofs.Common.{Packet, Mode, ahead, missing, asked, Opened, Ended, Reset, Params, Sent}
 use Rattle.link_world.proofs.Common.{InfoSent, SuperSent, SetupSent, Sabm, Dm, Info, Super, Eight, OneTwentyEight, End}
 use Rattle.link_world.proofs.Common.{A, B, Event, Connect, Send, Tick, Hear, Lose, kind_read, Tagged, World, run}
 use Rattle.link_world.proofs.Common.{towards, is_quiet}
@@ -85,7 +85,7 @@ acknowledges_by_srej = refl
 
 -- Both call, and the UA to A is lost: A calls again, and B begins anew.
 abbrev answer_lost : List Event
-answer_lost = Connect A ∷ Connect B ∷ Hear B ∷ Hear A ∷ Hear B ∷ Lose A 0 ∷ replicate 300 (Tick A false)
+answer_lost = Connect A ∷ Connect B ∷ Hear B ∷ Hear A ∷ Hear B ∷ Lose A 0 ∷ replicate 200 (Tick A false)
 
 -- A calls again
 pub calls_again : sent_to B (from_first Rej 4 answer_lost) ≡ SetupSent Sabm true ∷ []
@@ -108,16 +108,16 @@ unfolding link_step
 set_ups_of_b = refl
 
 -- A call whose SABM is still in flight is not repeated into a quiet channel.
-pub is_not_quiet : is_quiet_to_send (from_first Rej 4 (Connect A ∷ replicate 299 (Tick A false))) (Tick A false) ≡ false
+pub is_not_quiet : is_quiet_to_send (from_first Rej 4 (Connect A ∷ replicate 199 (Tick A false))) (Tick A false) ≡ false
 unfolding link_step
 is_not_quiet = refl
 
 -- a tick earlier none was sent
-pub is_still_quiet : is_quiet (from_first Rej 4 (Connect A ∷ replicate 298 (Tick A false))) (Tick A false) ≡ true
+pub is_still_quiet : is_quiet (from_first Rej 4 (Connect A ∷ replicate 198 (Tick A false))) (Tick A false) ≡ true
 unfolding link_step
 is_still_quiet = refl
 
--- A calls modulo 128 and B modulo 8, at once: B declines SABME, A passes over SABM, and its call is refused.
+-- A calls modulo 128 and B modulo 8, at once: B declines SABME, A passes over SABM, and goes on in 8.
 abbrev crossing : List Event
 crossing = Connect A ∷ Connect B ∷ Hear B ∷ Hear A ∷ []
 
@@ -129,29 +129,45 @@ pub declines_wide : sent_to A (crossed crossing) ≡ SetupSent Dm true ∷ []
 unfolding link_step
 declines_wide = refl
 
--- A is told that its call is refused
-pub refused_wide : told_by (crossed crossing) (Hear A) ≡ Ended Refused ∷ []
-unfolding link_step
-refused_wide = refl
-
--- B calls again, and A is up
+-- A is told nothing, and calls modulo 8
 abbrev called_again : List Event
-called_again = crossing ++ Hear A ∷ replicate 300 (Tick B false)
+called_again = crossing ++ Hear A ∷ []
 
-pub opens_narrow : told_by (crossed called_again) (Hear A) ≡ Opened false ∷ []
+pub tells_nothing : told_by (crossed crossing) (Hear A) ≡ []
+unfolding link_step
+tells_nothing = refl
+
+pub calls_narrow : sent_to B (crossed called_again) ≡ SetupSent Sabm true ∷ []
+unfolding link_step
+calls_narrow = refl
+
+-- into a quiet channel: the DM that declined is heard, and no longer under way
+pub is_quiet_to_call : is_quiet (crossed crossing) (Hear A) ≡ true
+unfolding link_step
+is_quiet_to_call = refl
+
+-- B, which calls too, agrees, and A is up
+pub opens_narrow : told_by (crossed (called_again ++ Hear B ∷ [])) (Hear A) ≡ Opened true ∷ []
 unfolding link_step
 opens_narrow = refl
 
--- and so is B, both modulo 8
-pub opens_own : told_by (crossed (called_again ++ Hear A ∷ [])) (Hear B) ≡ Opened true ∷ []
+-- B calls again, and both are up modulo 8
+abbrev both_opened : List Event
+both_opened = called_again ++ Hear B ∷ Hear A ∷ replicate 200 (Tick B false)
+
+pub opens_anew : told_by (crossed both_opened) (Hear A) ≡ Ended Reset ∷ Opened false ∷ []
+unfolding link_step
+opens_anew = refl
+
+pub opens_own : told_by (crossed (both_opened ++ Hear A ∷ [])) (Hear B) ≡ Opened true ∷ []
 unfolding link_step
 opens_own = refl
 
-pub modulus_of_a : (crossed (called_again ++ Hear A ∷ Hear B ∷ [])).a.end.machine.incoming.modulus ≡ 8
+pub modulus_of_a : (crossed (both_opened ++ Hear A ∷ Hear B ∷ [])).a.end.machine.incoming.modulus ≡ 8
 unfolding link_step
 modulus_of_a = refl
 
-pub modulus_of_b : (crossed (called_again ++ Hear A ∷ Hear B ∷ [])).b.end.machine.incoming.modulus ≡ 8
+pub modulus_of_b : (crossed (both_opened ++ Hear A ∷ Hear B ∷ [])).b.end.machine.incoming.modulus ≡ 8
 unfolding link_step
 modulus_of_b = refl
 

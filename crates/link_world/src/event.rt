@@ -13,7 +13,7 @@ pub enum Event {
     Send(End, Packet),
     /// It is asked to release the link.
     Disconnect(End),
-    /// A tick of 10 ms passes for it; the flag says that a frame of its link waits to be sent.
+    /// A tick of 10 ms passes for it; the flag says that T1 stands still in it.
     Tick(End, bool),
     /// It hears the frame at the front of those in flight towards it.
     Hear(End),

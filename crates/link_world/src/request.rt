@@ -15,7 +15,7 @@ pub(crate) enum Request {
     Connect,
     Send(Packet),
     Disconnect,
-    /// The flag says that a frame of the link waits to be sent.
+    /// The flag says that T1 stands still.
     Tick(bool),
 }
 

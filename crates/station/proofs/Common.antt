@@ -51,7 +51,7 @@ pub use Rattle.station.specs.StandsFor.{StandsForConnection, StandsForLink, Stan
 pub use Rattle.station.specs.State.{StationState}
 pub use Rattle.station.specs.TableSteps.{HasAt, IsSetAt, place_at, settled_at}
 unfoldable pub use Rattle.station.specs.Ticks.{ticking_links}
-pub use Rattle.station.specs.Ticks.{IsSentFrame, ticking_at, waits}
+pub use Rattle.station.specs.Ticks.{IsSentFrame, t1_stands, ticking_at, waits}
 pub use Rattle.station.specs.Turn.{Out, Turn, begin, changing, closing, in_order, queueing}
 pub use Rattle.station.specs.declared.host_event.HostEvent.{HostEvent}
 pub use Rattle.station.specs.declared.host_event.PortKind.{PortKind}

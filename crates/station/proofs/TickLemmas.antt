@@ -27,7 +27,7 @@ waits_told told key waiting h =
     )
 
 -- the ticks of all links, up to the number of them
-pub all_ticked : (n : ℕ) (turn : Turn) → n ≡ most_links → in_order (map ticking_at (range_with_len 0 n)) turn
-    ≡ ticking_links turn
+pub all_ticked : (busy : Bool) (n : ℕ) (turn : Turn) → n ≡ most_links
+    → in_order (map (ticking_at busy) (range_with_len 0 n)) turn ≡ ticking_links busy turn
 unfolding ticking_links
-all_ticked n turn all = ap (λ k. in_order (map ticking_at (range_with_len 0 k)) turn) all
+all_ticked busy n turn all = ap (λ k. in_order (map (ticking_at busy) (range_with_len 0 k)) turn) all

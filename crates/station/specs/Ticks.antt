@@ -1,10 +1,10 @@
 -- A tick of 10 ms: of each link in the order of their keys, and then of the channel. A frame whose sending ends in it
 -- is shown to hosts that monitor the channel.
-use Rattle.std.specs.Prelude.{◌≡◌, ℕ, Bool, true, List, map, Option, Some, None}
+use Rattle.std.specs.Prelude.{◌≡◌, ℕ, Bool, true, not, ◌&&◌, ◌||◌, List, map, Option, Some, None}
 use Rattle.std.specs.List.{range_with_len, list_any}
 use Rattle.ax25_address.specs.declared.path.Path.{Path}
 use Rattle.ax25_frames.specs.declared.frame.Frame.{Frame}
-use Rattle.channel_access.specs.Channel.{air_tick, after_tick}
+use Rattle.channel_access.specs.Channel.{Channel, air_tick, after_tick}
 use Rattle.channel_access.specs.Waiting.{WaitingFrame}
 use Rattle.channel_access.specs.declared.air_tick.AirTick.{AirTick}
 use Rattle.channel_access.specs.declared.air_tick.Sent.{Sent}
@@ -18,23 +18,28 @@ use Rattle.station.specs.Registrations.{is_number}
 use Rattle.station.specs.State.{StationState, one_more}
 use Rattle.station.specs.Turn.{Turn, Act, begin, in_order, changing}
 
--- a frame of the link of a key waits to be sent
+-- a frame of the link of a key waits to be sent, or is on the air
 abbrev pub waits : ℕ → List WaitingFrame → Bool
 waits key waiting = list_any (λ frame. is_number key frame.link) waiting
 
--- the tick of the link that a key has
-abbrev pub ticking_at : ℕ → Act
-ticking_at key turn = event_at key (Tick (waits key turn.now.channel.waiting)) turn
+-- T1 of the link of a key stands still while nobody can answer it yet: a frame of it waits or is on the air, or the
+-- channel is busy in half duplex
+abbrev pub t1_stands : Bool → ℕ → Channel → Bool
+t1_stands busy key channel = waits key channel.waiting || (busy && not channel.parameters.full_duplex)
 
-unfoldable pub ticking_links : Act
-ticking_links = in_order (map ticking_at (range_with_len 0 most_links))
+-- the tick of the link that a key has, on a channel that is busy or not
+abbrev pub ticking_at : Bool → ℕ → Act
+ticking_at busy key turn = event_at key (Tick (t1_stands busy key turn.now.channel)) turn
+
+unfoldable pub ticking_links : Bool → Act
+ticking_links busy = in_order (map (ticking_at busy) (range_with_len 0 most_links))
 
 abbrev pub with_air_tick : Bool → StationState → StationState
 with_air_tick busy s = record s { channel = after_tick busy s.channel; ticks = one_more s.ticks }
 
 -- what the channel sends
 abbrev pub air_in : Bool → Turn → AirTick
-air_in busy turn = air_tick busy (ticking_links turn).now.channel
+air_in busy turn = air_tick busy (ticking_links busy turn).now.channel
 
 abbrev pub air_of : Bool → StationState → AirTick
 air_of busy s = air_in busy (begin s)
@@ -45,7 +50,7 @@ shown_sent frame turn = monitoring true turn.now.ticks frame turn
 
 -- the links tick, the frame is shown, and the channel ticks
 abbrev pub ticking : Bool → Option Frame → Act
-ticking busy frame turn = changing (with_air_tick busy) (shown_sent frame (ticking_links turn))
+ticking busy frame turn = changing (with_air_tick busy) (shown_sent frame (ticking_links busy turn))
 
 -- the frame whose sending ends, as it is read when the links stand so
 abbrev pub IsSentFrame : Option Sent → Links → Option Frame → Type 0
@@ -57,5 +62,5 @@ IsSentFrame (Some sent) links frame =
 pub record IsTick (busy : Bool) (before after : Turn) : Type 0 where
   -- the frame that hosts which monitor are shown
   pub monitored : Option Frame
-  pub read_as : IsSentFrame (air_in busy before).sent (ticking_links before).now.links monitored
+  pub read_as : IsSentFrame (air_in busy before).sent (ticking_links busy before).now.links monitored
   pub effect : after ≡ ticking busy monitored before

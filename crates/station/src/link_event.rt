@@ -25,7 +25,7 @@ pub enum LinkEvent {
     Disconnect,
     /// A frame of the other station is heard.
     Hear(Frame),
-    /// A tick passes, and whether a frame of the link waits.
+    /// A tick passes, and whether T1 stands still in it.
     Tick(bool),
 }
 
@@ -52,7 +52,7 @@ impl OwnedLink {
             }
             LinkEvent::Disconnect => memory.took(unless_refused(alloc, self.machine.disconnect())),
             LinkEvent::Hear(frame) => memory.took(self.machine.frame(&frame)),
-            LinkEvent::Tick(waiting) => memory.took(self.machine.tick(waiting)),
+            LinkEvent::Tick(still) => memory.took(self.machine.tick(still)),
         }
     }
 }

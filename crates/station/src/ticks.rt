@@ -1,5 +1,5 @@
 //! A tick of the links and of the channel.
-ghost use Rattle.std.specs.Prelude.{◌≡◌, IfOk, OnOk, true, OnErr};
+ghost use Rattle.std.specs.Prelude.{◌≡◌, ◌||◌, ◌&&◌, not, IfOk, OnOk, true, OnErr};
 ghost use Rattle.station.specs.Held.{ids_in};
 ghost use Rattle.station.specs.StandsFor.{Shows};
 ghost use Rattle.station.specs.State.{one_more};
@@ -28,7 +28,7 @@ impl Parts {
         ensures ids { OnOk result (ids_in self.new ≡ ids_in self.old) }
         ensures wanted { OnErr result (memory.new.refused ≡ true) }
     {
-        self.tick_links(memory, out)?;
+        self.tick_links(memory, out, busy)?;
         let air = self.channel.tick(busy);
         self.monitor_sent(memory, out, &air.sent)?;
         self.ticks = one_more(self.ticks);
@@ -36,33 +36,48 @@ impl Parts {
     }
 
     /// A tick of each link, in the order of their keys.
-    fn tick_links(&mut self, memory: &mut Memory, out: &mut HostOut) -> Result<(), OutOfMemory>
+    fn tick_links(
+        &mut self,
+        memory: &mut Memory,
+        out: &mut HostOut,
+        busy: bool,
+    ) -> Result<(), OutOfMemory>
         ensures shows { (turn : Turn) → Shows self.old out.old turn
-            → OnOk result (Shows self.new out.new (ticking_links turn)) }
+            → OnOk result (Shows self.new out.new (ticking_links busy turn)) }
         ensures ids { OnOk result (ids_in self.new ≡ ids_in self.old) }
         ensures wanted { OnErr result (memory.new.refused ≡ true) }
     {
         for key in 0..MOST_LINKS {
-            self.tick_link(memory, out, key)?;
+            self.tick_link(memory, out, key, busy)?;
         }
         Ok(())
     }
 
-    /// A tick of the link that a key has, which hears whether a frame of it waits to be sent.
+    /// A tick of the link that a key has, which is told whether T1 stands still.
     fn tick_link(
         &mut self,
         memory: &mut Memory,
         out: &mut HostOut,
         key: u32,
+        busy: bool,
     ) -> Result<(), OutOfMemory>
         ensures shows { (turn : Turn) → Shows self.old out.old turn
-            → OnOk result (Shows self.new out.new (ticking_at key turn)) }
+            → OnOk result (Shows self.new out.new (ticking_at busy key turn)) }
         ensures ids { OnOk result (ids_in self.new ≡ ids_in self.old) }
         ensures wanted { OnErr result (memory.new.refused ≡ true) }
     {
-        let waiting = self.channel.waiting(key);
-        self.link_event(memory, out, key, LinkEvent::Tick(waiting))
+        let waits = self.channel.waiting(key);
+        let full_duplex = self.channel.parameters().full_duplex;
+        let still = stands_still(waits, busy, full_duplex);
+        self.link_event(memory, out, key, LinkEvent::Tick(still))
     }
+}
+
+/// Whether T1 of a link stands still: a frame of it waits or is on the air, or the channel is busy in half duplex.
+fn stands_still(waits: bool, busy: bool, full_duplex: bool) -> bool
+    ensures { result ≡ (waits || (busy && not full_duplex)) }
+{
+    waits || (busy && !full_duplex)
 }
 
 /// One more. The count stays at the greatest number of 64 bits.

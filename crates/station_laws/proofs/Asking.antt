@@ -127,7 +127,7 @@ turn_asks chosen (OffAir octets) before after turn none =
     heard_asks chosen octets (shown_to_hosts turn.path octets turn.monitored before)
     (λ any. heard_steps any octets before after turn) turn.between (heard_as octets before after turn)
 turn_asks chosen (OfClock busy) before after turn none =
-    ticks_kept chosen OfNone Asks (asks_kept chosen).kept.by_events tt before
+    ticks_kept chosen OfNone Asks (asks_kept chosen).kept.by_events tt busy before
 
 pub hosts_ask_nothing_holds : HostsAskNothing
 hosts_ask_nothing_holds chosen step none =

@@ -5,7 +5,8 @@ use Rattle.station_laws.proofs.Common.{Dm, Control, LinkState, Idle, Calling, Up
 use Rattle.station_laws.proofs.Common.{SetupSent, step, begin, names_valid, IsConnect, IsDisconnect, Row, Settles}
 use Rattle.station_laws.proofs.Common.{Stepped, flush_traffic, rests_traffic, step_is, agrees, calls_again, connects}
 use Rattle.station_laws.proofs.Common.{declines, ends_by_disc, ends_by_dm, ends_call, gives_up, is_answered, is_called}
-use Rattle.station_laws.proofs.Common.{is_called_again, narrows, releases_again, resets, rests, takes, wishes, works}
+use Rattle.station_laws.proofs.Common.{is_called_again, narrows, falls_narrow, releases_again, resets, rests, takes}
+use Rattle.station_laws.proofs.Common.{wishes, works}
 use Rattle.station_laws.proofs.Common.{goes_on, is_down, releases, is_refused, Traffic, IsOfNoHost}
 use Rattle.link_machine.specs.Event.{Event as LinkEvent}
 use Rattle.link_machine.specs.Event.Event.{Connect as LinkConnect, Send as LinkSend, Disconnect as LinkDisconnect}
@@ -111,7 +112,9 @@ row_calm m event t host valid calm (is_called modulus flag idle known heard) =
 row_calm m event t host valid calm (is_called_again modulus flag up known heard) =
     record { control = record { state = tt; quit = refl }; asked = refl }
 row_calm m event t host valid calm (is_answered calling heard) = absurd (subst IsCalmState calling calm.state)
-row_calm m event t host valid calm (narrows calling heard) = absurd (subst IsCalmState calling calm.state)
+row_calm m event t host valid calm (falls_narrow run calling wide tick) =
+    absurd (subst IsCalmState calling calm.state)
+row_calm m event t host valid calm (narrows calling wide heard) = absurd (subst IsCalmState calling calm.state)
 row_calm m event t host valid calm (resets up wrong) = absurd (no_wrong m event valid up wrong)
 row_calm m event t host valid calm (connects idle connecting) = absurd (no_connect event host connecting)
 row_calm m event t host valid calm (takes packet sending short) = record { control = calm; asked = refl }

@@ -45,7 +45,8 @@ pub use Rattle.link_steps.proofs.Rows.{IsAsking, IsConnect, IsDisconnect, Row, S
 pub use Rattle.link_steps.proofs.Rows.{rests_traffic, step_is}
 pub use Rattle.link_steps.proofs.Rows.Rests.{as_timed}
 pub use Rattle.link_steps.proofs.Rows.Row.{agrees, calls_again, connects, declines, ends_by_disc, ends_by_dm, ends_call}
-pub use Rattle.link_steps.proofs.Rows.Row.{gives_up, is_answered, is_called, is_called_again, narrows, releases_again}
+pub use Rattle.link_steps.proofs.Rows.Row.{gives_up, is_answered, is_called, is_called_again, narrows, falls_narrow}
+pub use Rattle.link_steps.proofs.Rows.Row.{releases_again}
 pub use Rattle.link_steps.proofs.Rows.Row.{resets, rests, takes, wishes, works}
 pub use Rattle.link_steps.proofs.Rows.Settles.{goes_on, is_down, releases}
 pub use Rattle.link_steps.proofs.Rows.Stepped.{is_refused}
@@ -101,7 +102,7 @@ pub use Rattle.station.specs.Registrations.{is_number, may_register, registrar}
 pub use Rattle.station.specs.Routes.{Route, behind_repeaters, path_along, repeaters_in, route_in}
 pub use Rattle.station.specs.State.{StationState, new_station}
 unfoldable pub use Rattle.station.specs.Ticks.{ticking_links}
-pub use Rattle.station.specs.Ticks.{ticking, ticking_at, waits}
+pub use Rattle.station.specs.Ticks.{t1_stands, ticking, ticking_at, waits}
 pub use Rattle.station.specs.Turn.{Act, Out, Turn, capacity, changing, closing, dropping, entering, in_order, queueing}
 pub use Rattle.station.specs.declared.config.Config.{Config}
 pub use Rattle.station.specs.declared.host_event.HostEvent.{HostEvent}

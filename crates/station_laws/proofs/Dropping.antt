@@ -205,7 +205,7 @@ turn_joins chosen (OffAir octets) before after turn = λ nothing_lost.
 turn_joins chosen (OfClock busy) before after turn = λ nothing_lost.
     let ticked : (ticking busy turn.monitored before).now.dropped ≡ 0 =
     ap (λ (t : Turn). t.now.dropped) (sym turn.effect) ∙ nothing_lost in
-    ticks_kept chosen NotHeard Joins (joins_kept chosen).kept.by_events tt before ticked
+    ticks_kept chosen NotHeard Joins (joins_kept chosen).kept.by_events tt busy before ticked
 
 pub record DropsNothing (chosen : Choice) (step : Step) : Type 0 where
   pub before : step.before.dropped ≡ 0

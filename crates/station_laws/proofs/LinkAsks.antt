@@ -4,7 +4,8 @@ use Rattle.station_laws.proofs.Common.{Ui, Other, U, Sabm, Sabme, Disc, Dm, Ua, 
 use Rattle.station_laws.proofs.Common.{Tick, Machine, sent_in, SetupSent, step, begin, LinkState, Up, IsAsking, Row}
 use Rattle.station_laws.proofs.Common.{Settles, Stepped, flush_traffic, rests_traffic, step_is, agrees, calls_again}
 use Rattle.station_laws.proofs.Common.{connects, declines, ends_by_disc, ends_by_dm, ends_call, gives_up, is_answered}
-use Rattle.station_laws.proofs.Common.{is_called, is_called_again, narrows, releases_again, resets, rests, takes}
+use Rattle.station_laws.proofs.Common.{is_called, is_called_again, narrows, falls_narrow, releases_again, resets, rests}
+use Rattle.station_laws.proofs.Common.{takes}
 use Rattle.station_laws.proofs.Common.{wishes, works, goes_on, is_down, releases, is_refused, traffic_mode}
 use Rattle.link_machine.specs.Acts.{calling_frame}
 use Rattle.link_machine.specs.Frames.{open_answered}
@@ -105,7 +106,11 @@ row_sends m event u (is_answered calling heard) =
     let opened_turn = open_answered (begin m) in
     subst (λ a. Sends m (hears_asking event) a opened_turn) (sym (ua_is event heard))
     (numbers m (hears_asking event) true (begin m) opened_turn (still_same (begin m)) refl (λ a never. absurd (cc)))
-row_sends m event u (narrows calling heard) =
+row_sends m event u (falls_narrow {t = t} run calling wide tick) =
+    sends_one m (hears_asking event) (hears_ua event) t _ (sent_in 8 (SetupSent Sabm true))
+    (traffic_still (rests_traffic run)) refl
+    (not_up_if t.now.control.state _ tt ((rests_mode run).0 ∙ calling)) (λ is. refl)
+row_sends m event u (narrows calling wide heard) =
     sends_one m (hears_asking event) (hears_ua event) (begin m) _ (sent_in 8 (SetupSent Sabm true))
     (still_same (begin m)) refl (not_up_if m.control.state _ tt calling) (λ is. refl)
 row_sends m event u (resets up wrong) =

@@ -5,7 +5,8 @@ use Rattle.station_laws.proofs.Common.{Reset, Idle, Calling, Up, Releasing, Even
 use Rattle.station_laws.proofs.Common.{Tick, Machine, step, begin, asks, names_valid, IsAsking, IsConnect, IsDisconnect}
 use Rattle.station_laws.proofs.Common.{Row, Settles, Stepped, flush_traffic, step_is, as_timed, agrees, calls_again}
 use Rattle.station_laws.proofs.Common.{connects, declines, ends_by_disc, ends_by_dm, ends_call, gives_up, is_answered}
-use Rattle.station_laws.proofs.Common.{is_called_again, narrows, releases_again, rests, takes, works, goes_on, is_down}
+use Rattle.station_laws.proofs.Common.{is_called_again, narrows, falls_narrow, releases_again, rests, takes, works}
+use Rattle.station_laws.proofs.Common.{goes_on, is_down}
 use Rattle.station_laws.proofs.Common.{is_refused, traffic_mode}
 use Rattle.link_machine.specs.Machine.{is_valid}
 use Rattle.link_machine.specs.Turn.{Turn}
@@ -114,7 +115,7 @@ asks_is (Setup which flag) h = h
 asks_is (Ui flag pid octets) h = absurd h
 asks_is (Other which flag octets) h = absurd h
 
-ask_is : (event : Event) → Hears IsAsking event → HearsAsk event
+pub ask_is : (event : Event) → Hears IsAsking event → HearsAsk event
 ask_is Connect h = absurd h
 ask_is (Send packet) h = absurd h
 ask_is Disconnect h = absurd h
@@ -128,7 +129,7 @@ wrong_kind m (Setup which flag) up bad = absurd bad
 wrong_kind m (Ui flag pid octets) up bad = absurd bad
 wrong_kind m (Other which flag octets) up bad = λ right. right.0
 
-wrong_is : (m : Machine) (event : Event) → m.control.state ≡ Up → Hears (IsWrongKind m) event → HearsWrong m event
+pub wrong_is : (m : Machine) (event : Event) → m.control.state ≡ Up → Hears (IsWrongKind m) event → HearsWrong m event
 wrong_is m Connect up h = absurd h
 wrong_is m (Send packet) up h = absurd h
 wrong_is m Disconnect up h = absurd h
@@ -155,7 +156,8 @@ row_did m event t (is_called_again modulus flag up known heard) =
     is_called (ask_is event heard) (Ended Reset ∷ Opened false ∷ [])
     (append_assoc [] (Ended Reset ∷ []) (Opened false ∷ [])) refl refl
 row_did m event t (is_answered calling heard) = opens calling refl refl refl
-row_did m event t (narrows calling heard) = gives (gives_none (begin m) _ refl refl refl)
+row_did m event t (falls_narrow (as_timed c mode) calling wide tick) = gives (gives_none (begin m) _ refl mode.0 mode.1)
+row_did m event t (narrows calling wide heard) = gives (gives_none (begin m) _ refl refl refl)
 row_did m event t (calls_anew up wrong) = resets (wrong_is m event up wrong) (Ended Reset ∷ []) refl refl refl
 row_did m event t (connects idle connecting) = calls (connect_is event connecting) refl idle refl refl
 row_did m event t (takes packet sending short) = gives (gives_none (begin m) _ refl refl refl)

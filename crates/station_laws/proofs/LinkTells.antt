@@ -4,7 +4,8 @@ use Rattle.station_laws.proofs.Common.{inl, inr, append-nil, append_assoc, map-a
 use Rattle.station_laws.proofs.Common.{Ended, Why, Failed, Peer, Reset, Idle, Calling, Up, release, Event, Machine}
 use Rattle.station_laws.proofs.Common.{step, begin, along_run, Row, Settles, Stepped, flush_traffic, step_is, as_timed}
 use Rattle.station_laws.proofs.Common.{agrees, calls_again, connects, declines, ends_by_disc, ends_by_dm, ends_call}
-use Rattle.station_laws.proofs.Common.{gives_up, is_answered, is_called, is_called_again, narrows, releases_again}
+use Rattle.station_laws.proofs.Common.{gives_up, is_answered, is_called, is_called_again, narrows, falls_narrow}
+use Rattle.station_laws.proofs.Common.{releases_again}
 use Rattle.station_laws.proofs.Common.{resets, rests, takes, wishes, works, goes_on, is_down, releases, is_refused}
 use Rattle.station_laws.proofs.Common.{Single, Traffic, acknowledges, flushes, goes_back, repeats, reports, stores}
 use Rattle.station_laws.proofs.Common.{times, RunsIn, runs_after}
@@ -208,7 +209,8 @@ row_tells m event t (gives_up {t = u} up run told tick) =
 row_tells m event t (is_called modulus flag idle known heard) = tells_open (begin m) _ false refl refl
 row_tells m event t (is_called_again modulus flag up known heard) = again_tells modulus flag (begin m)
 row_tells m event t (is_answered calling heard) = tells_open (begin m) _ true refl refl
-row_tells m event t (narrows calling heard) = tells_none (begin m) _ refl refl
+row_tells m event t (falls_narrow (as_timed c mode) calling wide tick) = tells_none (begin m) _ refl mode.0
+row_tells m event t (narrows calling wide heard) = tells_none (begin m) _ refl refl
 row_tells m event t (resets up wrong) = reset_tells (begin m)
 row_tells m event t (connects idle connecting) = connect_tells (begin m) idle
 row_tells m event t (takes packet sending short) = tells_none (begin m) _ refl refl

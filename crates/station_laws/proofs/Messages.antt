@@ -123,6 +123,7 @@ host_goes s e back event before after h =
     host_kept (meant s) NotHeard (Goes s e back) (goes_kept s e back) event before after
     (any_may_come event before.now) h
 
-pub ticks_go : (s : Setting) (e : End) (back : List Tagged) (turn : Turn)
-    → Goes s e back turn (tick_steps (meant s) turn) (ticking_links turn)
-ticks_go s e back turn = ticks_kept (meant s) NotHeard (Goes s e back) (goes_kept s e back).kept.by_events tt turn
+pub ticks_go : (s : Setting) (e : End) (back : List Tagged) (busy : Bool) (turn : Turn)
+    → Goes s e back turn (tick_steps (meant s) busy turn) (ticking_links busy turn)
+ticks_go s e back busy turn =
+    ticks_kept (meant s) NotHeard (Goes s e back) (goes_kept s e back).kept.by_events tt busy turn

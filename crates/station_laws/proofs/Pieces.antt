@@ -247,9 +247,9 @@ turn_tells id (OffAir octets) before after turn agw =
     (monitors_told id false before.now.ticks turn.monitored (showing from to octets before)
     ∙ shown_to id from to octets before.now.connections before agw))
 turn_tells id (OfClock busy) before after turn agw =
-    subst (Tells id before (tick_steps is_some before)) (sym turn.effect)
-    (monitors_told id true (ticking_links before).now.ticks turn.monitored (ticking_links before)
-    ∙ ticks_kept is_some NotHeard (Tells id) (tells_kept id).kept.by_events tt before)
+    subst (Tells id before (tick_steps is_some busy before)) (sym turn.effect)
+    (monitors_told id true (ticking_links busy before).now.ticks turn.monitored (ticking_links busy before)
+    ∙ ticks_kept is_some NotHeard (Tells id) (tells_kept id).kept.by_events tt busy before)
 
 pub programs_are_told_holds : ProgramsAreTold
 programs_are_told_holds step id agw =

@@ -349,11 +349,11 @@ module _ (on : Bool) (l r : Callsign) (pa pb : Params) (n : ℕ) (sa sb : Statio
       (host_goes setting_of e w.a.towards event (begin sa) after turn w begins)
   takes e rises (OfClock busy) after turn octets calm popped =
       let s = setting_of in
-      let ticked = ticks_go s e w.a.towards (begin sa) w begins in
+      let ticked = ticks_go s e w.a.towards busy (begin sa) w begins in
       let steps = turn_steps (is_between l r) (OfClock busy) (begin sa) after turn in
       finishes e rises w.a.towards (calm (λ o off some. off)) after steps
       (subst (λ t. Kept s e w.a.towards t steps w) (sym turn.effect) (
-        still_holds s w.a.towards (ticking_links (begin sa)) (ticking busy turn.monitored (begin sa))
+        still_holds s w.a.towards (ticking_links busy (begin sa)) (ticking busy turn.monitored (begin sa))
             (near_all e (s.done ++ s.rest) (length s.earlier) steps w)
             ticked.0 refl refl refl,
         ticked.1,

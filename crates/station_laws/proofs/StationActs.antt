@@ -20,7 +20,8 @@ use Rattle.station_laws.proofs.Common.{IsHostTurn, param_of, with_param, heeding
 use Rattle.station_laws.proofs.Common.{giving_up_all, giving_up_link, leaving, without_host, without_owner, event_at}
 use Rattle.station_laws.proofs.Common.{with_links, Link, IsNewKey, link_at, most_links, with_link, making, is_number}
 use Rattle.station_laws.proofs.Common.{registrar, may_register, Route, route_in, repeaters_in, behind_repeaters}
-use Rattle.station_laws.proofs.Common.{path_along, StationState, ticking_at, ticking_links, waits, Turn, Act, in_order}
+use Rattle.station_laws.proofs.Common.{path_along, StationState, ticking_at, ticking_links, t1_stands, Turn, Act}
+use Rattle.station_laws.proofs.Common.{in_order}
 use Rattle.station_laws.proofs.Common.{changing, closing, queueing, LinkStep, Choice, steps_at, steps_along, ticks_at}
 use Rattle.station_laws.proofs.Common.{tick_steps, given_up, gives_up_at, leaving_steps, made_steps, call_steps}
 use Rattle.station_laws.proofs.Common.{sends_at, data_steps, disconnect_steps, else_steps, answer_steps, message_steps}
@@ -142,10 +143,11 @@ module _ (chosen : Choice) (P : Cause → Type 0) (R : Turn → List LinkStep �
         k.on t (act item t) (in_order (map act items) (act item t)) (found item t)
         (steps_along act found items (act item t)) (each item t) (along act found each items (act item t))
 
-    pub ticks_kept : P ticking → (t : Turn) → R t (tick_steps chosen t) (ticking_links t)
+    pub ticks_kept : P ticking → (busy : Bool) (t : Turn) → R t (tick_steps chosen busy t) (ticking_links busy t)
     unfolding ticking_links
-    ticks_kept may t =
-        along ticking_at (ticks_at chosen) (λ key u. k.events key (Tick (waits key u.now.channel.waiting)) u may)
+    ticks_kept may busy t =
+        along (ticking_at busy) (ticks_at chosen busy)
+        (λ key u. k.events key (Tick (t1_stands busy key u.now.channel)) u may)
         (range_with_len 0 most_links) t
 
     pub data_kept : P sending → (message : AgwMessage) (key : Option ℕ) (t : Turn)

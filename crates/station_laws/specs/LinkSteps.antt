@@ -32,7 +32,7 @@ use Rattle.station.specs.Links.{Link, link_at, key_between, with_link, most_link
 use Rattle.station.specs.NewLinks.{making, no_layer_3}
 use Rattle.station.specs.Registrations.{registrar, is_number}
 use Rattle.station.specs.Routes.{Route, path_along}
-use Rattle.station.specs.Ticks.{ticking_at, waits}
+use Rattle.station.specs.Ticks.{ticking_at, t1_stands}
 use Rattle.station.specs.Turn.{Turn, Act, begin, closing, changing}
 use Rattle.station_laws.specs.JointRun.{Input, IsTurn, Step}
 use Rattle.station_laws.specs.JointRun.Input.{FromHost, OffAir, OfClock}
@@ -79,11 +79,11 @@ steps_along act found (item ∷ items) turn = found item turn ++ steps_along act
 
 -- ---- a tick
 
-abbrev pub ticks_at : Choice → ℕ → Turn → List LinkStep
-ticks_at chosen key turn = steps_at chosen None key (Tick (waits key turn.now.channel.waiting)) turn
+abbrev pub ticks_at : Choice → Bool → ℕ → Turn → List LinkStep
+ticks_at chosen busy key turn = steps_at chosen None key (Tick (t1_stands busy key turn.now.channel)) turn
 
-abbrev pub tick_steps : Choice → Turn → List LinkStep
-tick_steps chosen = steps_along ticking_at (ticks_at chosen) (range_with_len 0 most_links)
+abbrev pub tick_steps : Choice → Bool → Turn → List LinkStep
+tick_steps chosen busy = steps_along (ticking_at busy) (ticks_at chosen busy) (range_with_len 0 most_links)
 
 -- ---- a host program leaves
 
@@ -250,7 +250,7 @@ abbrev pub turn_steps :
     Choice → (input : Input) → (before after : Turn) → IsTurn input before after → List LinkStep
 turn_steps chosen (FromHost event) before after h = host_steps chosen event before after h
 turn_steps chosen (OffAir octets) before after h = heard_steps chosen octets before after h
-turn_steps chosen (OfClock busy) before after h = tick_steps chosen before
+turn_steps chosen (OfClock busy) before after h = tick_steps chosen busy before
 
 -- what a step does to the links that are meant
 abbrev pub steps_of : Choice → Step → List LinkStep

@@ -38,7 +38,7 @@ fn a_run_with_losses_is_told(rt: HostRuntime) -> Result<(), Fail> {
     };
     let mut output = MemSink::new(rt.alloc(), 1000, Vec::new(rt.alloc()))?;
     assert!(rt; bench(rt.alloc(), options, &mut output).is_ok());
-    let want = b"ticks 2424\n\
+    let want = b"ticks 1910\n\
         sent 16 lost 6\n\
         A 1 given 6 5fa5b78966bba91a got 6 ce0f0eec67d63017\n\
         B 1 given 6 ce0f0eec67d63017 got 6 5fa5b78966bba91a\n";

@@ -4,7 +4,7 @@
 //! What happens is a list of words with numbers:
 //!
 //! - `connect`, `send/7` (a packet of the octet 7), `sends/3` (packets of the octets 0, 1 and 2), `disconnect`.
-//! - `ticks/300`, with no frame of the link in the queue, and `waits/300`, with one.
+//! - `ticks/200`, and `waits/200`, in which T1 stands still.
 //! - `SABM/1`, and so SABME, DISC, DM, UA: P or F.
 //! - `RR/0/1` is a response with N(R) 0 and F = 1, `RRc/0/1` the command, and so RNR, REJ, SREJ.
 //! - `I/2/0/1` is an I frame of the octet 2 with N(S) 2, N(R) 0 and P = 1, and `hears/3` is I/0/0/0, I/1/0/0 and

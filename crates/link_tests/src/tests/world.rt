@@ -2,7 +2,7 @@
 //! the last of that, and how many frames are then in flight to A and to B. The rows of `machine` have those frames.
 //!
 //! What happens is a list of words: the end, and after a colon `connect`, `send/7` (a packet of the octet 7), `sends/3`
-//! (packets of the octets 0, 1 and 2), `disconnect`, `ticks/300`, `hears/2` (the next two frames), and `loses/0`, the
+//! (packets of the octets 0, 1 and 2), `disconnect`, `ticks/200`, `hears/2` (the next two frames), and `loses/0`, the
 //! frame at that place of those towards the end.
 use crate::tests::assertions::assert_equal;
 use crate::tests::packets::packet;
@@ -114,7 +114,7 @@ fn srej_sends_the_lost_frame_again(rt: HostRuntime) -> Result<(), Fail> {
 const BOTH_CALL: &str = "A:connect B:connect B:hears/1 A:hears/1 | 1 1
 B:hears/1 | opened by us, 1 0
 A:loses/0 | 0 0
-A:ticks/300 | 0 1
+A:ticks/200 | 0 1
 B:hears/1 | ended Reset,opened, 1 0
 A:hears/1 | opened by us, 0 0";
 
@@ -131,34 +131,36 @@ A:connect | 0 1
 B:loses/1 | NothingThere, 0 1
 A:disconnect | 0 1
 A:disconnect | Link(WrongState { state: Calling, quit: true }), 0 1
-A:ticks/299 | 0 1
-A:ticks/1 | NotQuiet { index: 306 }, 0 1
-B:hears/1 | NotQuiet { index: 306 }, 0 1
-A:hears/1 | NotQuiet { index: 306 }, 0 1";
+A:ticks/199 | 0 1
+A:ticks/1 | NotQuiet { index: 206 }, 0 1
+B:hears/1 | NotQuiet { index: 206 }, 0 1
+A:hears/1 | NotQuiet { index: 206 }, 0 1";
 
 #[test]
 fn events_are_refused(rt: HostRuntime) -> Result<(), Fail> {
     assert_world(&rt, rt.alloc(), by_rej(4), by_rej(4), REFUSED)
 }
 
-/// The repeat comes with the 301st call. From there on the laws say nothing.
+/// The repeat comes with the 201st call. From there on the laws say nothing.
 #[test]
 fn a_repeat_is_not_quiet(rt: HostRuntime) -> Result<(), Fail> {
     prefix_law();
     tags_do_not_matter();
-    let repeat = "A:connect A:ticks/300 | NotQuiet { index: 301 }, 0 1";
+    let repeat = "A:connect A:ticks/200 | NotQuiet { index: 201 }, 0 1";
     assert_world(&rt, rt.alloc(), by_rej(4), by_rej(4), repeat)
 }
 
-/// A calls modulo 128 and B modulo 8, at once. B declines SABME, A passes over SABM, and is refused. B calls again, and
-/// both are up modulo 8: their windows are those of 4 and not those of 32.
+/// A calls modulo 128 and B modulo 8, at once. B declines SABME, A passes over SABM and goes on modulo 8, and B agrees.
+/// B calls again, and both are up modulo 8: their windows are those of 4 and not those of 32.
 const CROSSING: &str = "A:connect | 0 1
 B:connect | 1 1
 B:hears/1 | 2 0
 A:hears/1 | 1 0
-A:hears/1 | ended Refused, 0 0
-B:ticks/300 | 1 0
-A:hears/1 | opened, 0 1
+A:hears/1 | 0 1
+B:hears/1 | 1 0
+A:hears/1 | opened by us, 0 0
+B:ticks/200 | 1 0
+A:hears/1 | ended Reset,opened, 0 1
 B:hears/1 | opened by us, 0 0
 A:sends/5 | 0 4
 B:sends/5 | 4 4";

@@ -98,11 +98,11 @@ fn tick(
     alloc: Global,
     link: &mut Link,
     count: u16,
-    waiting: bool,
+    still: bool,
     text: &mut String,
 ) -> Result<(), Fail> {
     for _ in 0..count {
-        note(alloc, link.tick(waiting)?, text)?;
+        note(alloc, link.tick(still)?, text)?;
     }
     Ok(())
 }

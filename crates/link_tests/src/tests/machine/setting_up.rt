@@ -38,9 +38,13 @@ SABME/1 | A>B DM rsp f=1,
 DISC/0 | A>B DM rsp f=0,
 FRMR |
 I/0/0/1 |
-ticks/300 | A>B SABM cmd f=1,
-waits/400 |
-ticks/3000 ticks/300 | ended Failed,";
+ticks/199 |
+ticks/200 | A>B SABM cmd f=1,
+ticks/199 waits/400 |
+ticks/199 waits/400 ticks/1 | A>B SABM cmd f=1,
+ticks/3600 ticks/800 | A>B SABM cmd f=1,
+ticks/4400 ticks/999 |
+ticks/4400 ticks/1000 | ended Failed,";
 
 #[test]
 fn rows_of_a_call(rt: HostRuntime) -> Result<(), Fail> {
@@ -50,8 +54,12 @@ fn rows_of_a_call(rt: HostRuntime) -> Result<(), Fail> {
 const CALLING_WIDE: &str = "look | Calling OneTwentyEight
 UA/1 look | Up OneTwentyEight
 send/7 UA/1 | A>B I cmd ns=0 nr=0 p=0 pid=f0 len=1 07/128,opened by us,
-DM/1 | ended Refused,
-DM/1 look | Idle Eight
+DM/0 look | Calling OneTwentyEight
+DM/1 | A>B SABM cmd f=1,
+DM/1 look | Calling Eight
+DM/1 UA/1 look | Up Eight
+DM/1 DM/1 | ended Refused,
+DM/1 DM/1 look | Idle Eight
 SABM/1 |
 SABME/1 | A>B UA rsp f=1/128,
 SABME/1 look | Calling OneTwentyEight
@@ -63,10 +71,17 @@ FRMR UA/1 look | Up Eight
 send/7 FRMR UA/1 | A>B I cmd ns=0 nr=0 p=0 pid=f0 len=1 07,opened by us,
 XID |
 I/0/0/1 |
-ticks/300 | A>B SABME cmd f=1/128,
-ticks/3000 ticks/300 | ended Failed,
-ticks/3000 FRMR ticks/299 |
-ticks/3000 FRMR ticks/3000 ticks/300 | ended Failed,";
+ticks/200 | A>B SABME cmd f=1/128,
+ticks/400 ticks/200 | A>B SABME cmd f=1/128,
+ticks/600 ticks/200 | A>B SABM cmd f=1,
+ticks/800 look | Calling Eight
+ticks/800 ticks/399 |
+ticks/800 UA/1 look | Up Eight
+ticks/4400 ticks/1000 | ended Failed,
+ticks/600 FRMR ticks/199 |
+ticks/600 FRMR ticks/4400 ticks/1000 | ended Failed,
+ticks/600 DM/1 ticks/4400 ticks/999 |
+ticks/600 DM/1 ticks/4400 ticks/1000 | ended Failed,";
 
 #[test]
 fn rows_of_a_wide_call(rt: HostRuntime) -> Result<(), Fail> {
@@ -91,8 +106,8 @@ I/0/0/1 | A>B DM rsp f=1,
 I/0/0/0 |
 RRc/0/1 | A>B DM rsp f=1,
 RR/0/1 |
-ticks/300 | A>B DISC cmd f=1,
-ticks/3000 ticks/300 | ended Failed,";
+ticks/200 | A>B DISC cmd f=1,
+ticks/4400 ticks/1000 | ended Failed,";
 
 #[test]
 fn rows_of_a_release(rt: HostRuntime) -> Result<(), Fail> {

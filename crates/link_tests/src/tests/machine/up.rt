@@ -21,7 +21,7 @@ RRc/0/1 | A>B RR rsp nr=0 f=1,
 send/1 RR/2/0 | A>B SABM cmd f=1,ended Reset,
 RNR/0/0 send/1 |
 RNR/0/0 send/1 RR/0/0 | A>B I cmd ns=0 nr=0 p=0 pid=f0 len=1 01,
-RNR/0/0 ticks/300 | A>B RR cmd nr=0 f=1,
+RNR/0/0 ticks/200 | A>B RR cmd nr=0 f=1,
 send/1 send/2 REJ/1/0 | A>B I cmd ns=1 nr=0 p=0 pid=f0 len=1 02,
 send/1 send/2 SREJ/0/0 | A>B I cmd ns=0 nr=0 p=0 pid=f0 len=1 01,
 send/1 SREJ/1/0 |
@@ -32,10 +32,16 @@ I/1/0/0 I/2/0/0 |
 I/1/0/0 I/2/0/1 | A>B RR rsp nr=0 f=1,
 I/0/0/0 ticks/29 |
 I/0/0/0 ticks/30 | A>B RR rsp nr=1 f=0,
-send/1 ticks/300 | A>B RR cmd nr=0 f=1,
-send/1 ticks/300 RR/0/1 | A>B I cmd ns=0 nr=0 p=0 pid=f0 len=1 01,
-ticks/3000 | A>B RR cmd nr=0 f=1,
-send/1 ticks/3000 ticks/300 | A>B DM rsp f=0,ended Failed,";
+send/1 ticks/200 | A>B RR cmd nr=0 f=1,
+send/1 ticks/200 RR/0/1 | A>B I cmd ns=0 nr=0 p=0 pid=f0 len=1 01,
+ticks/29999 |
+ticks/30000 | A>B RR cmd nr=0 f=1,
+ticks/29000 UI ticks/1000 | A>B RR cmd nr=0 f=1,
+ticks/29000 RR/0/0 ticks/29999 |
+ticks/29000 RR/0/0 ticks/30000 | A>B RR cmd nr=0 f=1,
+ticks/29000 I/0/0/0 ticks/30 ticks/29969 |
+ticks/29000 I/0/0/0 ticks/30 ticks/29970 | A>B RR cmd nr=1 f=1,
+send/1 ticks/4400 ticks/1000 | A>B DM rsp f=0,ended Failed,";
 
 #[test]
 fn rows_of_a_link_that_is_up(rt: HostRuntime) -> Result<(), Fail> {
@@ -55,8 +61,8 @@ send/1 RR/2/0 | A>B SABME cmd f=1/128,ended Reset,
 I/0/0/1 | A>B RR rsp nr=1 f=1/128,given 0,
 I/127/0/0 | A>B REJ rsp nr=0 f=0/128,
 send/1 send/2 send/3 send/4 send/5 | A>B I cmd ns=4 nr=0 p=0 pid=f0 len=1 05/128,
-send/1 ticks/3000 ticks/300 look | Idle Eight
-send/1 ticks/3270 I/0/0/0 ticks/30 | A>B RR rsp nr=1 f=0/128,A>B DM rsp f=0/128,ended Failed,";
+send/1 ticks/4400 ticks/1000 look | Idle Eight
+send/1 ticks/5370 I/0/0/0 ticks/30 | A>B RR rsp nr=1 f=0/128,A>B DM rsp f=0/128,ended Failed,";
 
 #[test]
 fn rows_of_a_wide_link_that_is_up(rt: HostRuntime) -> Result<(), Fail> {

@@ -5,14 +5,16 @@ use Rattle.link_world.proofs.Common.{Setup, Ui, Other, U, Packet, Control, Opene
 use Rattle.link_world.proofs.Common.{SuperSent, SetupSent, begin, changing, setting, joined, quitting, tick, tick_in}
 use Rattle.link_world.proofs.Common.{is_spent, retried, end_call, settled, settle_in, refusal_of, SetUp, Tagged}
 use Rattle.link_world.proofs.Common.{is_numbered, RecordedEnd, noting, taking, hears_ask, told_of, Sends, Disconnects}
-use Rattle.link_world.proofs.Common.{Ticks, Hears}
+use Rattle.link_world.proofs.Common.{Ticks, Hears, Happening, inl, length, arith}
 use Rattle.ax25_frames.specs.declared.frame.Kind.{Kind as FrameKind}
 use Rattle.ax25_frames.specs.declared.frame.U.TheVariants.{Sabm as SabmFrame, Sabme as SabmeFrame, Disc as DiscFrame}
 use Rattle.ax25_frames.specs.declared.frame.U.TheVariants.{Dm as DmFrame, Ua as UaFrame}
 use Rattle.link_machine.specs.declared.state.LinkState.TheVariants.{Calling as CallingState}
 use Rattle.link_machine.specs.Event.Event.{Send}
-use Rattle.link_machine.specs.Ticks.{call_again}
-use Rattle.link_machine.specs.Frames.{hear_calling, hear_calling_in, answer_ua, open_answered}
+use Rattle.link_machine.specs.Machine.{falls_back, narrowed}
+use Rattle.link_machine.specs.Ticks.{call_again, fall_back}
+use Rattle.link_machine.specs.Turn.{sending}
+use Rattle.link_machine.specs.Frames.{hear_calling, hear_calling_in, answer_ua, open_answered, unretried_call}
 use Rattle.link_world.proofs.law.reduced.Core.{End, Tagged as CoreTagged, between}
 use Rattle.link_world.proofs.law.reduced.Core.Kind.{Sabm, Ua}
 use Rattle.link_world.proofs.law.reduced.Core.Standing.{Calling, Up}
@@ -21,16 +23,16 @@ use Rattle.link_world.proofs.law.reduced.CoreOf.{end_behind}
 use Rattle.link_world.specs.SetUps.{opened as opened_set_up}
 use Rattle.link_world.proofs.law.down.Calls.{call_in, call_alone, wide_is, narrow_is, call_sent}
 use Rattle.link_world.proofs.law.showing.Readings.{IsReadAs}
-use Rattle.link_world.proofs.law.showing.PlacesFit.{sound_anew}
+use Rattle.link_world.proofs.law.showing.PlacesFit.{sound_anew, sound_new}
 use Rattle.link_world.proofs.law.showing.PlacesStored.{stored_empty}
 use Rattle.link_world.proofs.law.moves.Losing.{lose_keeps}
-use Rattle.link_world.proofs.law.moves.Standings.{give_calling_keeps}
+use Rattle.link_world.proofs.law.moves.Standings.{begin_keeps, give_calling_keeps}
 use Rattle.link_world.proofs.law.moves.Kept.{call_keeps}
 use Rattle.link_world.proofs.law.moves.Opening.{agree_keeps, open_answered_keeps}
 use Rattle.link_world.proofs.law.invariant.Invariant.{Invariant}
 use Rattle.link_world.proofs.law.showing.Shown.{core_set_ups, core_tagged}
 use Rattle.link_world.proofs.law.down.Ticks.{ticks_down}
-use Rattle.link_world.proofs.law.showing.Outcome.{Keeps, end_with, none_sent}
+use Rattle.link_world.proofs.law.showing.Outcome.{IsSentAs, Keeps, end_with, none_sent}
 use Rattle.link_world.proofs.law.showing.Heard.{Arrival, heard_as, heard_frame}
 use Rattle.link_world.proofs.law.up.Progress.{IsUp}
 use Rattle.link_world.proofs.law.up.Settling.{EndsUp, progress_in, up_ends}
@@ -68,6 +70,34 @@ pub calling_quits :
     → Keeps Disconnects r y to_x to_y (settled (setting quitting (begin r.machine)))
 calling_quits {r} d = down_silent (quitting r.machine.control) d d.state_is refl d.holds
 
+-- The call goes on in modulus 8: SABM goes out. The channel is quiet then, so no SABME of the end is under way, and no
+-- UA to it.
+goes_on_narrow :
+    {h : Happening} {r : RecordedEnd} {y : End} {was to_x to_y : List CoreTagged} (c : Control)
+    → DownEnd CallingState r y was to_y → c.state ≡ CallingState → noting h r ≡ r → hears_ask h ≡ false
+    → Invariant (between (down_end CallingState r.machine r.set_ups) y to_x to_y)
+    → Keeps h r y to_x to_y
+    (settled (sending (SetupSent SabmFrame true) (changing narrowed (goes_on r.machine c []))))
+goes_on_narrow {h} {r} {y} {to_x} {to_y} c d state noted no_ask holds =
+    let turn = sending (SetupSent SabmFrame true) (changing narrowed (goes_on r.machine c [])) in
+    let packets = r.machine.outgoing.packets in
+    let x = end_behind turn.now (core_set_ups r.set_ups) in
+    let frames : List CoreTagged = record { tag = length (core_set_ups r.set_ups); kind = Sabm 8 } ∷ [] in
+    let down : IsDown turn.now.control.state packets = subst (λ s. IsDown s packets) (sym state) tt in
+    let ends : EndsDown h r turn CallingState r.set_ups frames = record {
+      state_is = state;
+      down = tt;
+      params = refl;
+      sound = sound_new 8 (inl refl) d.sound.room;
+      set_ups = ap (λ (n : RecordedEnd). n.set_ups) noted;
+      waiting = ap (λ (n : RecordedEnd). n.waiting) noted ∙ d.waiting;
+      sent = subst (λ b. IsSentAs b (end_with turn.now r.set_ups packets) turn.sent frames) (sym no_ask)
+          (call_sent (end_with turn.now r.set_ups packets) 8 (inl refl) down);
+    } in
+    subst (λ s. Keeps h r y to_x to_y (settle_in s turn)) (sym state) (down_keeps ends
+    (λ alone. let quiet = call_alone to_x to_y 8 alone in
+    call_keeps x quiet (begin_keeps 8 packets (omega arith) (omega arith) holds)))
+
 -- SABM or SABME goes out once more, or the call has failed
 calls_again :
     {r : RecordedEnd} (c : Control) (waiting : Bool) {y : End} {to_x to_y : List CoreTagged}
@@ -81,13 +111,19 @@ calls_again {r} c waiting {y} {to_x} {to_y} d state = go (is_spent c)
     e : RecordedEnd
     e = end_with (record r.machine { control = retried c }) r.set_ups r.machine.outgoing.packets
 
-    go : (b : Bool) → Keeps (Ticks waiting) r y to_x to_y
-        (settled (if b then end_call Failed (goes_on r.machine c []) else goes_on r.machine (retried c)
-        (call_in own ∷ [])))
-    go true = down_ends c Failed d refl d.holds
-    go false = down_stays (retried c) (call_in own ∷ []) d state refl
+    narrow_or_not : (b : Bool) → Keeps (Ticks waiting) r y to_x to_y
+        (settled (if b then fall_back (goes_on r.machine c []) else goes_on r.machine (retried c) (call_in own ∷ [])))
+    narrow_or_not true = goes_on_narrow (retried c) d state refl refl d.holds
+    narrow_or_not false = down_stays (retried c) (call_in own ∷ []) d state refl
         (call_sent e own d.sound.modulus (subst (λ s. IsDown s r.machine.outgoing.packets) (sym state) tt))
         (λ alone. call_keeps (end_behind r.machine (core_set_ups r.set_ups)) (call_alone to_x to_y own alone) d.holds)
+
+    go : (b : Bool) → Keeps (Ticks waiting) r y to_x to_y
+        (settled (if b then end_call Failed (goes_on r.machine c [])
+        else if falls_back (record r.machine { control = c }) then fall_back (goes_on r.machine c [])
+        else goes_on r.machine (retried c) (call_in own ∷ [])))
+    go true = down_ends c Failed d refl d.holds
+    go false = narrow_or_not (falls_back (record r.machine { control = c }))
 
 pub calling_ticks :
     {r : RecordedEnd} (waiting : Bool) {y : End} {to_x to_y : List CoreTagged} → DownEnd CallingState r y to_x to_y
@@ -162,7 +198,11 @@ calling_hears_setup {r} a SabmeFrame flag true d is =
     calling_agrees flag d refl (wide_is r.machine.incoming.modulus d.sound.modulus is)
 calling_hears_setup a SabmeFrame flag false d is = down_declines flag d refl refl
 calling_hears_setup a DiscFrame flag wide d is = down_declines flag d refl refl
-calling_hears_setup {r} a DmFrame true wide {rest} d is =
+calling_hears_setup {r} a DmFrame true true {rest} d is =
+    let f = heard_frame a (SetupSent DmFrame true) in
+    goes_on_narrow (unretried_call r.machine.control) d d.state_is (down_noted f d) refl
+    (lose_keeps [] (core_tagged f) rest d.holds)
+calling_hears_setup {r} a DmFrame true false {rest} d is =
     let f = heard_frame a (SetupSent DmFrame true) in
     down_ends r.machine.control Refused d (down_noted f d) (lose_keeps [] (core_tagged f) rest d.holds)
 calling_hears_setup a DmFrame false wide d is = down_passes d

@@ -179,6 +179,10 @@ pub data Move : Core → Core → Type 0 where
   -- x begins to call, in a modulus
   Begin : (x y : End) (modulus : ℕ) (to_x to_y : List Tagged) → asks to_y + answers to_x ≡ 0
       → Move (between x y to_x to_y) (between (in_modulus modulus (after_all (Calling []) x)) y to_x to_y)
+  -- a call goes on in another modulus: what was given stays
+  Recount : (x y : End) (waiting : List Packet) (modulus : ℕ) (to_x to_y : List Tagged) → asks to_y + answers to_x ≡ 0
+      → Move (between (now (Calling waiting) x) y to_x to_y)
+      (between (in_modulus modulus (now (Calling waiting) x)) y to_x to_y)
   -- SABM or SABME, DISC, and a DM that answers none of them
   Call : (x y : End) (waiting : List Packet) (to_x to_y : List Tagged) → asks to_y + answers to_x ≡ 0
       → Move (between (now (Calling waiting) x) y to_x to_y)

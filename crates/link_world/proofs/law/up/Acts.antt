@@ -96,7 +96,8 @@ behind_poll_by true c d e one other = one
 behind_poll_by false c d e one other = other
 
 behind_poll_state : (c : Control) → (behind_poll c).state ≡ c.state
-behind_poll_state c = behind_poll_by c.busy c (record c { poll = false; rc = 0; t1 = Some t1_ticks; t3 = None })
+behind_poll_state c =
+    behind_poll_by c.busy c (record c { poll = false; rc = 0; t1 = Some (t1_ticks c.hops 0); t3 = None })
     (record c { poll = false; rc = 0; t1 = None; t3 = Some t3_ticks }) refl refl
 
 -- a choice between two acts

@@ -1,12 +1,12 @@
 -- The packets that may go out go out.
 use Rattle.link_world.proofs.Common.{◌≡◌, ℕ, suc, ◌+◌, ◌-◌, ◌<◌, ◌≤◌, min, max, Bool, true, false, ◌||◌, if◌then◌else◌}
 use Rattle.link_world.proofs.Common.{◌==◌, List, [], ◌∷◌, ◌++◌, length, drop, slice_get, Some, None, refl, sym, ap, ◌∙◌}
-use Rattle.link_world.proofs.Common.{subst, arith, append_assoc, cond-false, ne_eqb, Packet, Control, t1_ticks, sent_in}
+use Rattle.link_world.proofs.Common.{subst, arith, append_assoc, cond-false, ne_eqb, Packet, Control, sent_in}
 use Rattle.link_world.proofs.Common.{all_sent_in, infos_from, InfoSent, Turn, in_window, send_packets, nothing_due}
 use Rattle.std.proofs.Common.{is_none, length-take, take-append-drop, drop-drop}
 use Rattle.std.specs.List.{AllByRecursion as Each}
 use Rattle.link_world.proofs.law.Each.{each_append}
-use Rattle.link_machine.specs.Acts.{to_send, flush, awaiting}
+use Rattle.link_machine.specs.Acts.{to_send, flush, awaiting, t1_of}
 use Rattle.link_world.proofs.law.reduced.Core.{End, Running, Tagged, era}
 use Rattle.link_world.proofs.law.reduced.Core.Numbered.{Info}
 use Rattle.link_world.proofs.law.reduced.Core.Kind.{IsNumbered}
@@ -88,7 +88,7 @@ awaiting_by true c d is = is
 awaiting_by false c d is = refl
 
 awaiting_state : (c : Control) → (awaiting c).state ≡ c.state
-awaiting_state c = awaiting_by (is_none c.t1) c (record c { t1 = Some t1_ticks; t3 = None }) refl
+awaiting_state c = awaiting_by (is_none c.t1) c (record c { t1 = Some (t1_of c); t3 = None }) refl
 
 nil-cons : {p : Packet} {ps : List Packet} → [] ≡ p ∷ ps → ⊥
 nil-cons e = cc

@@ -9,7 +9,8 @@ use Rattle.ax25_frames.specs.declared.frame.Kind.TheVariants.{Info as InfoKind}
 use Rattle.selective_reject.specs.declared.window.Mode.TheVariants.{Rej as RejMode, Srej as SrejMode}
 use Rattle.link_machine.specs.Machine.{ahead_of_vr}
 use Rattle.link_machine.specs.Acts.{owing}
-use Rattle.link_machine.specs.Frames.{hear_info, hear_info_by, hear_info_by_rej, hear_info_by_srej, take_in_sequence}
+use Rattle.link_machine.specs.Frames.{heard, hear_info, hear_info_by, hear_info_by_rej, hear_info_by_srej}
+use Rattle.link_machine.specs.Frames.{take_in_sequence}
 use Rattle.link_machine.specs.Frames.{refuse_out_of_sequence}
 use Rattle.link_world.proofs.law.reduced.Core.{End, Tagged}
 use Rattle.link_world.proofs.law.reduced.Core.Numbered.{Info}
@@ -152,7 +153,7 @@ hear_info_heard {tag} {ns} {nr} {packet} {rest} {g} {turn} command flag windows 
     let i = m.incoming in
     let accepts = keeps (took i (ns % i.modulus)) in
     let read : IsRead m nr = nr_is_read refl windows.own h in
-    let acked = acknowledged_keeps nr refl h in
+    let acked = acknowledged_keeps nr refl (setting_keeps heard (λ c. refl) h) in
     subst (λ t. HasHeard rest tag accepts g t)
     (sym (cond-true _ (hear_info (named (nr % i.modulus) m) (ns % i.modulus) flag packet turn) _ read.valid))
     (rw read.named_is (by_mode_heard flag i.mode windows refl fit acked))

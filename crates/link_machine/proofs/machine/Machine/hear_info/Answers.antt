@@ -1,5 +1,6 @@
 use Rattle.link_machine.proofs.Common.{◌≡◌, ℕ, false, List, sym, ◌∙◌, ap, subst, Ok, Err, Packet, Up, named, Turn}
-use Rattle.link_machine.proofs.Common.{begin, changing, acknowledged, in_window, hear_info, settled, Makes}
+use Rattle.link_machine.proofs.Common.{begin, changing, setting, heard, acknowledged, in_window, hear_info, settled}
+use Rattle.link_machine.proofs.Common.{Makes}
 use Rattle.link_machine.proofs.Common.{hear_numbered, acknowledgement, Done, OutOfMemory, Result}
 use Rattle.link_machine.proofs.Events.{itself, holds_itself, shows_begin, made, valid_number, copies_right}
 use Rattle.link_machine.proofs.Events.{makes_numbered, makes_reset}
@@ -40,7 +41,7 @@ returns c =
     let begun = shows_begin c.args.self.now m c.in_ok-room.room _ _ c.in_ok-room.ensures h in
     let valid = valid_number c.args.self.now m c.args.nr c.in-Ok.count h counted in
     let n = named c.args.nr m in
-    let acked : Turn = changing (acknowledged n) (begin m) in
+    let acked : Turn = changing (acknowledged n) (setting heard (begin m)) in
     let t : Turn = hear_info n c.args.ns c.args.flag packet (begin m) in
     let shown = c.take_info.ensures.shows (begin m) begun valid.0 in
     let kept = info_keeps m.incoming.mode c.args.ns c.args.flag packet acked in

@@ -5,7 +5,7 @@ use Rattle.link_machine.proofs.machine.Machine.take_rej.Goals as goal
 pub returns-clause-shows : goal.returns-clause-shows
 returns-clause-shows c = λ t h valid.
     let t1 = setting (with_busy false) t in
-    let busy = shows_control (with_busy false) c.args.self.now _ c.args.room.now t refl h in
+    let busy = shows_control (with_busy false) c.args.self.now _ c.args.room.now t c.hear_busy.ensures h in
     let n = named c.args.nr t.now in
     let acked = shows_changing (acknowledged n) _ c.acknowledge.new.self c.args.room.now t1 refl busy
     (c.acknowledge.ensures.holds t1.now busy.holds valid) in

@@ -10,7 +10,7 @@ pub returns-clause-shows : goal.returns-clause-shows
 returns-clause-shows c = λ t h valid asked.
     let n = named c.args.nr t.now in
     let t1 = setting (with_busy false) t in
-    let busy = shows_control (with_busy false) c.args.self.now _ c.args.room.now t refl h in
+    let busy = shows_control (with_busy false) c.args.self.now _ c.args.room.now t c.hear_busy.ensures h in
     let t2 = changing (acknowledged_by_srej n c.args.flag) t1 in
     let acked : Shows c.acknowledge_by_srej.new.self c.args.room.now t2 =
     shows_changing (acknowledged_by_srej n c.args.flag) _ c.acknowledge_by_srej.new.self c.args.room.now t1

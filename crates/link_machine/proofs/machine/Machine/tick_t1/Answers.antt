@@ -12,8 +12,8 @@ returns-clause-shows c = λ t h.
     let off = shows_control (with_t1 None) c.args.self.now _ c.args.room.now t refl h in
     let shown = c.t1_out.ensures.shows (setting (with_t1 None) t) off in
     let P : Turn → Type 0 = λ x. Shows c.t1_out.new.self c.t1_out.new.room x in
-    let Q : Option ℕ → Type 0 = λ o. P (tick_t1_of o c.args.waiting t) in
+    let Q : Option ℕ → Type 0 = λ o. P (tick_t1_of o c.args.still t) in
     let W : Bool → Type 0 = λ w. P (tick_t1_of (Some c.in-Some.left) w t) in
-    subst Q timer (subst W (sym c.if-waiting.false)
+    subst Q timer (subst W (sym c.if-still.false)
     (subst P (sym (cond-true (runs_out c.in-Some.left) _ (setting (with_t1 (lowered c.in-Some.left)) t) out))
     shown))

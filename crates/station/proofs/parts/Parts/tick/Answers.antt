@@ -10,7 +10,7 @@ use Rattle.station.proofs.parts.Parts.tick.Goals as goal
 pub returns-clause-step : goal.returns-clause-step
 returns-clause-step c = λ turn shows.
     let busy = c.args.busy in
-    let linked : Turn = ticking_links turn in
+    let linked : Turn = ticking_links busy turn in
     let first = c.in_ok-tick_links.ensures.shows turn shows in
     let sent : c.tick-air.result.sent ≡ (air_in busy turn).sent =
     ap (λ (air : AirTick). air.sent) (c.tick-air.ensures.tick linked.now.channel first.holds.channel) in
@@ -55,5 +55,5 @@ returns-clause-step c = λ turn shows.
 
 pub returns-clause-air : goal.returns-clause-air
 returns-clause-air c = λ turn shows.
-    c.tick-air.ensures.tick (ticking_links turn).now.channel
+    c.tick-air.ensures.tick (ticking_links c.args.busy turn).now.channel
     (c.in_ok-tick_links.ensures.shows turn shows).holds.channel
