@@ -42,7 +42,8 @@ pub kiss_reads :
 kiss_reads before reader after kind stream octets is reads stands =
     by_kind kind (subst (λ (r : Reader). Reads r kind stream) is reads)
   where
-    by_kind : (kind : PortKind) → Reads (KissReader reader) kind stream → Reads (KissReader after) kind (stream ++ octets)
+    by_kind : (kind : PortKind) → Reads (KissReader reader) kind stream
+        → Reads (KissReader after) kind (stream ++ octets)
     by_kind Kiss h = stands stream h
     by_kind Agw h = absurd h
 
