@@ -61,7 +61,7 @@ def begun(tnc):
 
 
 def shuts_the_web(tnc):
-    """HTTP methods, those of other names too, and a TLS handshake, whole and octet by octet, with a frame after each."""
+    """HTTP methods, those of other names too, and a TLS handshake, whole and octet by octet, with a frame."""
     world, guests = begun(tnc), []
     for beginning in [*(f"{it} / HTTP/1.1\r\n\r\n".encode() for it in METHODS), b"\x16\x03\x01\0\xf8\x01"]:
         whole, cut = Guest(world), Guest(world)

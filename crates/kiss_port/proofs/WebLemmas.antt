@@ -1,6 +1,6 @@
 -- The beginnings of programs of the web: they show in what is kept, they stay, and no piece ends in them.
-use Rattle.std.proofs.Common.{◌≡◌, ◌≢◌, ℕ, zero, suc, Bool, true, false, List, [], ◌∷◌, ◌++◌, length, take, drop, refl, ap}
-use Rattle.std.proofs.Common.{subst}
+use Rattle.std.proofs.Common.{◌≡◌, ◌≢◌, ℕ, zero, suc, Bool, true, false, List, [], ◌∷◌, ◌++◌, length, take, drop}
+use Rattle.std.proofs.Common.{refl, ap, subst}
 use Rattle.std.proofs.Common.{◌∙◌, sym, inl, inr, arith, append_assoc, append-nil, Option, Result, Ok, Err}
 use Rattle.std.specs.Prelude.{◌==◌, ◌||◌, ◌&&◌, cond, not, nat_le, codes, IsErrAnd}
 use Rattle.std.specs.Option.{option_to_list}
@@ -8,8 +8,8 @@ use Rattle.std.specs.Cmp.Lexicographic.{pointwise}
 use Rattle.std.specs.List.{list_any, list_all, flat_map, fold, starts_with}
 use Rattle.std.proofs.Math.Bool.{or-true, or-false}
 use Rattle.std.proofs.Math.Seq.{take-append_seam}
-use Rattle.std.proofs.lemmas.Bool.{cond-true, cond-false, cases_lt, false≢true, leb-true, not-true, eqb-false, eqb-true, or_parts}
-use Rattle.std.proofs.lemmas.Bool.{and_parts}
+use Rattle.std.proofs.lemmas.Bool.{cond-true, cond-false, cases_lt, false≢true, leb-true, not-true, eqb-false}
+use Rattle.std.proofs.lemmas.Bool.{eqb-true, and_parts, or_parts}
 use Rattle.std.proofs.lemmas.Bool.Decides.{Decides-eqb}
 use Rattle.std.proofs.lemmas.List.{take_all, take-take, take-append-le, take-append-drop, length-take-le}
 use Rattle.std.proofs.lemmas.List.Sums.{fold-append}
@@ -174,7 +174,8 @@ line_late : (octets : List ℕ) (octet : ℕ) → is_request_line octets ≡ fal
     → IsInside octets
 unfolding has_no_fend
 line_late [] octet early late = tt
-line_late (first ∷ octets) octet early late = go (starts (octets ++ octet ∷ []) target) refl (line_late octets octet before.1) parts.1
+line_late (first ∷ octets) octet early late =
+    go (starts (octets ++ octet ∷ []) target) refl (line_late octets octet before.1) parts.1
   where
     parts : (is_token_character first ≡ true)
         × ((starts (octets ++ octet ∷ []) target || is_request_line (octets ++ octet ∷ [])) ≡ true)
@@ -188,7 +189,10 @@ line_late (first ∷ octets) octet early late = go (starts (octets ++ octet ∷ 
     go : (b : Bool) → starts (octets ++ octet ∷ []) target ≡ b
         → (is_request_line (octets ++ octet ∷ []) ≡ true → IsInside octets)
         → (b || is_request_line (octets ++ octet ∷ [])) ≡ true → IsInside (first ∷ octets)
-    go true here others h = (token_inside first parts.0, starts_late octets target octet (inside_from target refl) before.0 here)
+    go true here others h = (
+      token_inside first parts.0,
+      starts_late octets target octet (inside_from target refl) before.0 here,
+    )
     go false here others h = (token_inside first parts.0, others h)
 
 -- how far they are a line tells what is still to come of it

@@ -33,6 +33,20 @@ said_by octets (Items items web) connection own is h =
 said_by octets (Messages messages failed) connection own is h =
     subst (λ (o : Option Connection). AreSaidMessages o octets messages.items failed) (sym is) h
 
+-- a KISS connection, with the octets that came
+pub kiss_reads :
+    (before : Reader) (reader after : HeldHost) (kind : PortKind) (stream octets : List ℕ) → before ≡ KissReader reader
+    → Reads before kind stream
+    → ((read : List ℕ) → HostStandsFor reader read → HostStandsFor after (read ++ octets))
+    → Reads (KissReader after) kind (stream ++ octets)
+kiss_reads before reader after kind stream octets is reads stands =
+    by_kind kind (subst (λ (r : Reader). Reads r kind stream) is reads)
+  where
+    by_kind : (kind : PortKind) → Reads (KissReader reader) kind stream
+        → Reads (KissReader after) kind (stream ++ octets)
+    by_kind Kiss h = stands stream h
+    by_kind Agw h = absurd h
+
 -- what the octets after those of a KISS connection say
 pub kiss_says :
     (before : Reader) (reader after : HeldHost) (kind : PortKind) (stream octets : List ℕ) (items : List KissItem)
