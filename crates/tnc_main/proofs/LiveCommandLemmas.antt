@@ -5,7 +5,6 @@ use Rattle.tnc_main.proofs.Common.{Asks, one_command, Reads, ReadsNothing, CanRu
 use Rattle.tnc_main.proofs.Common.{CanRun}
 use Rattle.link_world.proofs.WindowLemmas.{none_refused}
 use Rattle.tnc_words.specs.Commands.{IsBench, IsLoop}
-use Rattle.clap.specs.Words.{Text}
 use Rattle.slicer_bank.specs.Detection.{CanBeAsked}
 use Rattle.tnc_words.specs.Carriers.{HasDcd}
 use Rattle.tnc_words.specs.Numbers.{HasNumber}
@@ -107,7 +106,7 @@ flags_are_no_tones : (count : ℕ) → ByFlags count ≡ ByTones → ⊥
 flags_are_no_tones count is = cc is
 
 -- what the words say of the channel can be asked for
-can_be_asked : (text : Option Text) (dcd : Dcd) → HasDcd text dcd → CanBeAsked (detection_of dcd)
+can_be_asked : (text : Option (List ℕ)) (dcd : Dcd) → HasDcd text dcd → CanBeAsked (detection_of dcd)
 can_be_asked text ByTones h = tt
 can_be_asked None (ByFlags count) h = absurd (flags_are_no_tones count h)
 can_be_asked (Some text) (ByFlags count) h = (h.1, h.2)
