@@ -1,7 +1,7 @@
 #!/usr/bin/env python3
 """How long a half-duplex station waits to send where its receiver gives it noise, for each `--dcd`.
 
-  scripts/open_squelch.py [--tnc PROGRAM] [--minutes N] [--dcd N ..] [--level N] [--seed N]
+  scripts/open_squelch.py [--tnc PROGRAM] [--minutes N] [--dcd HOW ..] [--level N] [--seed N]
 
 The station hears white noise for so many minutes of sound, and always has frames to send; its persistence is 255 and its
 TXDELAY 0, so that nothing but a busy channel holds it back. It sends eight frames in a transmission, and the next one follows
@@ -57,7 +57,7 @@ def main():
     reader = argparse.ArgumentParser()
     reader.add_argument("--tnc", default="bin/tnc")
     reader.add_argument("--minutes", type=int, default=10)
-    reader.add_argument("--dcd", type=int, nargs="+", default=[1, 2, 3, 4])
+    reader.add_argument("--dcd", nargs="+", default=["tones", "1", "2", "3"])
     reader.add_argument("--level", type=int, default=3000)
     reader.add_argument("--seed", type=int, default=1)
     given = reader.parse_args()

@@ -7,6 +7,7 @@ use Rattle.offset_slicers.proofs.Common.{held_of, offset_from, StandsFor}
 use Rattle.std.proofs.lemmas.List.{drop_all, take_more_set, length-set}
 use Rattle.nrzi_bits.proofs.LineLemmas.{last_tone-push}
 use Rattle.offset_slicers.specs.Held.{part_behind}
+use Rattle.offset_slicers.specs.Windows.{next_window}
 use Rattle.offset_slicers.proofs.TonesOfWindows.{tones_of-push_none, tones_of-push_one}
 
 -- a sample that ends no window adds no tone
@@ -220,6 +221,14 @@ module _ (offset first position begin : ℕ) (window : List ℤ) (before : Tone)
         let first_at = begins in
         tones_at-last r (length x) window before x sample keeps (omega arith) place_last whole
         ∙ ap (λ t. tones_at r x ++ t ∷ []) tone_last
+
+    -- and its samples
+    pub window_next : set window ((position - first) % 8) stored ≡ next_window r x (x ++ sample ∷ [])
+    window_next =
+        let count = h.count in
+        let first_at = begins in
+        let part : take 7 window ≡ part_behind r x = ap (λ n. take n window) (sym place_last) ∙ keeps.part in
+        sym (window_at-push r x sample window (omega arith) place_last whole part ∙ window_last)
 
   -- no window ends before the first one begins, and none within a window
   pub early_windows : position < first → windows_in r (length x + 1) ≡ windows_in r (length x)

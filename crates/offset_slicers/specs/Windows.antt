@@ -14,6 +14,10 @@ windows_in offset count = (count - offset) / 8
 unfoldable pub window_at : ℕ → List ℤ → ℕ → List ℤ
 window_at offset x k = take 8 (drop (offset + 8 * k) x)
 
+-- the window that follows all those of some samples, in more of them
+abbrev pub next_window : ℕ → List ℤ → List ℤ → List ℤ
+next_window offset x more = window_at offset more (windows_in offset (length x))
+
 -- the tones of the windows of an offset that lie in the samples
 unfoldable pub tones_at : ℕ → List ℤ → List Tone
 tones_at offset x = map (λ k. tone_of (window_at offset x k)) (range_with_len 0 (windows_in offset (length x)))

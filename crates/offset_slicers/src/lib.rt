@@ -11,6 +11,6 @@ mod laws;
 mod slicer;
 
 pub use correlators::correlate;
-pub use decision::{decide, energies};
+pub use decision::{Decision, decide, energies};
 pub use laws::{near_windows, pure_windows};
-pub use slicer::Slicer;
+pub use slicer::{SlicedBit, Slicer};

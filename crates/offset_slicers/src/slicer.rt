@@ -1,11 +1,21 @@
 ghost use Rattle.std.specs.Prelude.{◌≡◌, ℕ, ◌+◌, ◌%◌, ◌<◌, ◌≤◌, ◌^◌, ◌↔◌, List, ℤ, [], ◌∷◌, ◌++◌, length, IsSome};
+ghost use Rattle.std.specs.Prelude.{IfSome, option_map};
 ghost use Rattle.std.specs.Option.{option_to_list};
-ghost use Rattle.offset_slicers.specs.Windows.{EndsWindow, bits};
+ghost use Rattle.offset_slicers.specs.Decided.{IsDecidedAs};
+ghost use Rattle.offset_slicers.specs.Windows.{EndsWindow, bits, next_window};
 ghost use Rattle.offset_slicers.specs.Held.{StandsFor, offset_from};
 
-use crate::decision::decide;
+use crate::decision::Decision;
 use nrzi_bits::NrziIn;
 use std::marker::Model;
+
+/// A bit, its window, and the decision on that.
+#[derive(Clone, Copy, PartialEq, Eq, Debug)]
+pub struct SlicedBit {
+    pub bit: bool,
+    pub window: [i16; 8],
+    pub decision: Decision,
+}
 
 /// The bits of one offset in a stretch of samples, the first of which begins at position 0. It stands for all samples
 /// of the stretch so far, keeps those of the window under way alone, and gives one bit for each whole window.
@@ -60,6 +70,29 @@ impl Slicer {
         ensures offset { self.new.offset ≡ self.old.offset }
         ensures position { self.new.position ≡ self.old.position + 1 }
     {
+        match self.slice(sample) {
+            None => None,
+            Some(sliced) => Some(sliced.bit),
+        }
+    }
+
+    /// The same, with the window and the decision on it beside the bit.
+    pub fn slice(&mut self, sample: i16) -> Option<SlicedBit>
+        requires { self.old.position < 2 ^ 48 }
+        ensures stands_for { (begin : ℕ) (x : List ℤ) → StandsFor self.old begin x
+            → StandsFor self.new begin (x ++ sample ∷ []) }
+        ensures bits { (begin : ℕ) (x : List ℤ) → StandsFor self.old begin x
+            → bits (offset_from self.old.offset begin) (x ++ sample ∷ [])
+            ≡ bits (offset_from self.old.offset begin) x ++ option_to_list (option_map (λ sliced. sliced.bit) result) }
+        ensures ends { (begin : ℕ) (x : List ℤ) → StandsFor self.old begin x
+            → (IsSome result ↔ EndsWindow (offset_from self.old.offset begin) (x ++ sample ∷ [])) }
+        ensures window { (begin : ℕ) (x : List ℤ) → StandsFor self.old begin x
+            → IfSome result (λ sliced. sliced.window
+            ≡ next_window (offset_from self.old.offset begin) x (x ++ sample ∷ [])) }
+        ensures decided { IfSome result (λ sliced. IsDecidedAs sliced.window sliced.decision) }
+        ensures offset { self.new.offset ≡ self.old.offset }
+        ensures position { self.new.position ≡ self.old.position + 1 }
+    {
         let at = self.position;
         self.position = at + 1;
         if at < self.first {
@@ -70,7 +103,12 @@ impl Slicer {
         if place < 7 {
             return None;
         }
-        Some(self.line.step(decide(&self.window)))
+        let decision = Decision::of(&self.window);
+        Some(SlicedBit {
+            bit: self.line.step(decision.tone),
+            window: self.window,
+            decision,
+        })
     }
 
     /// Begins a new stretch at `to`, as if no sample had come before: the line stands at mark, and the next window is

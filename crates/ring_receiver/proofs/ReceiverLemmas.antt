@@ -92,10 +92,10 @@ module _ (len : ℕ) (old new : HeldRingBank) (was now : HeldMerger) (heard : He
 
 pub eight_stay : (ring : TableId) (old new : HeldRingBank) (was now : HeldMerger)
     → length (readers_of_bank new) ≡ 8 → All (λ reader. reader_ring reader ≡ ring) (readers_of_bank new)
-    → AreGrown (records_of_bank old) (records_of_bank new) → new.flags ≡ old.flags
+    → AreGrown (records_of_bank old) (records_of_bank new) → new.detection ≡ old.detection
     → ReadersStay ring (held_of old None was false) (held_of new None now false)
-eight_stay ring old new was now eight rings grown flags =
-    record { eight = eight; rings = rings; grown = grown; flags = flags; sensitive = refl }
+eight_stay ring old new was now eight rings grown detection =
+    record { eight = eight; rings = rings; grown = grown; detection = detection; sensitive = refl }
 
 -- ---- the eight lanes and the added ones
 
@@ -103,9 +103,9 @@ pub all_stay : (ring : TableId) (old new : HeldRingBank) (added added' : AddedRi
     (entries : List Entry) → length (readers_of_bank old) ≡ 8 → length (readers_of_bank new) ≡ 8
     → All (λ reader. reader_ring reader ≡ ring) (readers_of_bank new) → reader_ring added'.reader ≡ ring
     → AreGrown (records_of_bank old) (records_of_bank new)
-    → reads_of added'.reader ≡ reads_of added.reader ++ entries → new.flags ≡ old.flags
+    → reads_of added'.reader ≡ reads_of added.reader ++ entries → new.detection ≡ old.detection
     → ReadersStay ring (held_of old (Some added) was false) (held_of new (Some added') now false)
-all_stay ring old new added added' was now entries many_old many rings own grown more flags =
+all_stay ring old new added added' was now entries many_old many rings own grown more detection =
     let R : List Reader → List Track = map record_of in
     record {
       eight = many;
@@ -117,7 +117,7 @@ all_stay ring old new added added' was now entries many_old many rings own grown
           (grown_nine (records_of_bank old) (records_of_bank new) (record_of added.reader) (record_of added'.reader)
           entries (length-map (readers_of_bank old) record_of ∙ many_old)
           (length-map (readers_of_bank new) record_of ∙ many) grown more));
-      flags = flags;
+      detection = detection;
       sensitive = refl;
     }
 

@@ -9,6 +9,7 @@ use Rattle.frame_merge.specs.declared.candidate.Candidate.{Candidate}
 use Rattle.frame_merge.specs.Held.{Held as HeldMerger, StandsFor as MergerStandsFor}
 use Rattle.frame_merge.specs.Merged.{merged, below}
 use Rattle.frame_merge.specs.Order.{in_order}
+use Rattle.slicer_bank.specs.declared.detection.Detection.{Detection}
 use Rattle.slicer_bank.specs.RingLanes.{HeldRingBank, answers_of, Listens, readers_in as readers_of_bank}
 use Rattle.slicer_bank.specs.RingLanes.{positions_in as positions_of_bank}
 use Rattle.slicer_bank.specs.HeardOnRing.{lane_of, lane_positions}
@@ -23,7 +24,7 @@ use Rattle.ring_receiver.specs.HeardByAll.{AreHeardBy, settled_position}
 -- wanted or the ring has ended
 pub record HeldReceiver : Type 0 where
   pub sensitive : Bool
-  pub flags : ℕ
+  pub detection : Detection
   pub bank : HeldRingBank
   pub added : Option AddedRing
   pub merger : HeldMerger

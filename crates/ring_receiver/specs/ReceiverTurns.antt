@@ -19,7 +19,7 @@ use Rattle.ring_receiver.specs.Turns.{AreGrownBy, IsTurnOf}
 abbrev pub held_of : HeldRingBank → Option AddedRing → HeldMerger → Bool → HeldReceiver
 held_of bank added merger spent = record {
   sensitive = is_some added;
-  flags = bank.flags;
+  detection = bank.detection;
   bank = bank;
   added = added;
   merger = merger;
@@ -37,7 +37,7 @@ pub record ReadersStay (ring : TableId) (before after : HeldReceiver) : Type 0 w
   pub eight : length (readers_of_bank after.bank) ≡ 8
   pub rings : All (λ reader. reader_ring reader ≡ ring) (readers_in after)
   pub grown : AreGrownBy (readers_wanted before.sensitive) (records_in before) (records_in after)
-  pub flags : after.flags ≡ before.flags
+  pub detection : after.detection ≡ before.detection
   pub sensitive : after.sensitive ≡ before.sensitive
 
 -- a receiver has made a turn, which brought this

@@ -9,7 +9,7 @@ use crate::turn::hear;
 use frame_merge::Merger;
 use sample_ring::{Reader, Ring};
 use sensitive_receiver::LANES;
-use slicer_bank::{Gate, RingBank};
+use slicer_bank::{Detection, Gate, RingBank};
 use std::alloc::Global;
 use std::marker::Model;
 use std::thread::Threads;
@@ -56,34 +56,35 @@ impl RingReceiver {
     ghost use Rattle.std.specs.List.{All};
     ghost use Rattle.hdlc_framer.specs.FrameLength.{HasFrameLength};
     ghost use Rattle.sample_ring.specs.Ends.{ring_id, ring_len, reader_ring, IsNew};
+    ghost use Rattle.slicer_bank.specs.Detection.{CanBeAsked};
     ghost use Rattle.slicer_bank.specs.HeardOnRing.{IsBusyOnRing, least_position};
     ghost use Rattle.ring_receiver.specs.HeardByAll.{AreDueBy};
     ghost use Rattle.ring_receiver.specs.HeldReceiver.{readers_in, records_in, answers_in, EightListen, Hears};
     ghost use Rattle.ring_receiver.specs.Turns.{AreGrownBy, IsTurnOf};
 
     /// A receiver that has read nothing. Lane i has reader i and offset i, and the added lanes have the last reader. It
-    /// is busy only from so many flags in a row on, 1 to 8.
+    /// hears other stations as it is asked to: from so many flags in a row on, 1 to 8, or by their tones.
     pub fn new(
         alloc: Global,
         readers: Vec<Reader>,
-        flags: u8,
+        detection: Detection,
         sensitive: bool,
     ) -> Result<RingReceiver, OutOfMemory>
         requires count { length readers.items ≡ readers_wanted sensitive }
         requires fresh { All IsNew readers.items }
-        requires flags { (1 ≤ flags) × (flags ≤ 8) }
+        requires detection { CanBeAsked detection }
         ensures readers { IfOk result (λ receiver. readers_in receiver ≡ readers.items) }
         ensures hears { IfOk result (λ receiver. (len : ℕ) → Hears len receiver) }
         ensures nothing { IfOk result (λ receiver. (len : ℕ)
             → answers_in len receiver ≡ replicate (readers_wanted sensitive) []) }
-        ensures flags { IfOk result (λ receiver. receiver.flags ≡ flags) }
+        ensures detection { IfOk result (λ receiver. receiver.detection ≡ detection) }
         ensures sensitive { IfOk result (λ receiver. receiver.sensitive ≡ sensitive) }
     {
         if sensitive {
-            return RingReceiver::with_added(alloc, readers, flags);
+            return RingReceiver::with_added(alloc, readers, detection);
         }
         Ok(RingReceiver {
-            bank: RingBank::listening(alloc, readers, flags)?,
+            bank: RingBank::listening(alloc, readers, detection)?,
             added: None,
             merger: Merger::new(alloc, EIGHT)?,
             spent: false,
@@ -94,15 +95,15 @@ impl RingReceiver {
     fn with_added(
         alloc: Global,
         mut readers: Vec<Reader>,
-        flags: u8,
+        detection: Detection,
     ) -> Result<RingReceiver, OutOfMemory>
         requires nine { length readers.items ≡ 9 }
         requires fresh { All IsNew readers.items }
-        requires flags { (1 ≤ flags) × (flags ≤ 8) }
+        requires detection { CanBeAsked detection }
         ensures readers { IfOk result (λ receiver. readers_in receiver ≡ readers.items) }
         ensures hears { IfOk result (λ receiver. (len : ℕ) → Hears len receiver) }
         ensures nothing { IfOk result (λ receiver. (len : ℕ) → answers_in len receiver ≡ replicate 9 []) }
-        ensures flags { IfOk result (λ receiver. receiver.flags ≡ flags) }
+        ensures detection { IfOk result (λ receiver. receiver.detection ≡ detection) }
         ensures sensitive { IfOk result (λ receiver. receiver.sensitive ≡ true) }
     {
         let Some(last) = readers.pop() else {
@@ -111,7 +112,7 @@ impl RingReceiver {
         let mut eight = Vec::new(alloc);
         eight.append(&mut readers)?;
         Ok(RingReceiver {
-            bank: RingBank::listening(alloc, eight, flags)?,
+            bank: RingBank::listening(alloc, eight, detection)?,
             added: Some(AddedRing::new(alloc, last, readers)?),
             merger: Merger::new(alloc, LANES)?,
             spent: false,
@@ -145,7 +146,7 @@ impl RingReceiver {
             → heard.least ≡ least_position (answers_in (ring_len ring.now) self.new)) }
         ensures forward { IfOk result (λ heard. Hears (ring_len ring.now) self.old
             → least_position (answers_in (ring_len ring.now) self.old) ≤ heard.least) }
-        ensures flags { self.new.flags ≡ self.old.flags }
+        ensures detection { self.new.detection ≡ self.old.detection }
         ensures sensitive { self.new.sensitive ≡ self.old.sensitive }
         ensures fails { self.old.spent ≡ true → IsErr result }
         ensures spent { OnErr result (self.new.spent ≡ true) }
@@ -166,10 +167,10 @@ impl RingReceiver {
         Ok(heard)
     }
 
-    /// Whether another station is heard: one of the eight lanes holds a carrier.
+    /// Whether another station is heard: one of the eight lanes hears it since its last gap.
     pub fn busy(&self) -> bool
         ensures { (len : ℕ) → EightListen len self.now
-            → IsTrue result ↔ IsBusyOnRing self.now.flags (answers_in len self.now) }
+            → IsTrue result ↔ IsBusyOnRing self.now.detection (answers_in len self.now) }
     {
         self.bank.busy()
     }

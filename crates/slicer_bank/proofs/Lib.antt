@@ -17,6 +17,7 @@ pub mod BankGatheringLemmas
 pub mod BusyLemmas
 pub mod FeedLemmas
 pub mod StretchLemmas
+pub mod ToneLemmas
 pub mod SampleLemmas
 pub mod RingJobLemmas
 pub mod RingBusyLemmas

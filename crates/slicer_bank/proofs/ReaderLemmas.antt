@@ -6,17 +6,19 @@ use Rattle.slicer_bank.proofs.Common.{All-tail, get_or-append_seam, Reader, posi
 use Rattle.slicer_bank.proofs.Common.{LaneListens, readers_of, answers_of}
 use Rattle.std.proofs.lemmas.List.{get_or-drop}
 use Rattle.sample_ring.specs.Ends.{IsNew}
+use Rattle.slicer_bank.specs.declared.detection.Detection.{Detection}
 
 -- so many readers have a lane, and the others are left
-pub record HaveLanes (all left : List Reader) (lanes : List RingLane) (flags n : ℕ) : Type 0 where
+pub record HaveLanes (all left : List Reader) (lanes : List RingLane) (detection : Detection) (n : ℕ)
+    : Type 0 where
   pub rest : left ≡ drop n all
   pub readers : readers_of lanes ≡ take n all
   pub count : length lanes ≡ n
-  pub listen : (k : ℕ) (d : RingLane) → k < n → (len : ℕ) → LaneListens len flags k (get_or lanes k d)
+  pub listen : (k : ℕ) (d : RingLane) → k < n → (len : ℕ) → LaneListens len detection k (get_or lanes k d)
   pub taken : All IsTaken lanes
 
-pub have_none : (all : List Reader) (flags : ℕ) → HaveLanes all all [] flags 0
-have_none all flags = record {
+pub have_none : (all : List Reader) (detection : Detection) → HaveLanes all all [] detection 0
+have_none all detection = record {
   rest = refl;
   readers = refl;
   count = refl;
@@ -24,12 +26,12 @@ have_none all flags = record {
   taken = All-nil IsTaken;
 }
 
-pub have_more : (all left left' : List Reader) (lanes lanes' : List RingLane) (flags n : ℕ) (reader : Reader)
-    (lane : RingLane) → HaveLanes all left lanes flags n → n < length all
+pub have_more : (all left left' : List Reader) (lanes lanes' : List RingLane) (detection : Detection) (n : ℕ)
+    (reader : Reader) (lane : RingLane) → HaveLanes all left lanes detection n → n < length all
     → reader ≡ get_or left 0 reader → left' ≡ drop 1 left → lane.reader ≡ reader
-    → ((len : ℕ) → LaneListens len flags n lane) → IsTaken lane → lanes' ≡ lanes ++ lane ∷ []
-    → HaveLanes all left' lanes' flags (n + 1)
-have_more all left left' lanes lanes' flags n reader lane h l is rest same listens taken pushed =
+    → ((len : ℕ) → LaneListens len detection n lane) → IsTaken lane → lanes' ≡ lanes ++ lane ∷ []
+    → HaveLanes all left' lanes' detection (n + 1)
+have_more all left left' lanes lanes' detection n reader lane h l is rest same listens taken pushed =
     let count = h.count in
     let first : reader ≡ get_or all n reader = is ∙ ap (λ r. get_or r 0 reader) h.rest ∙ get_or-drop n all 0 reader
     ∙ ap (λ i. get_or all i reader) (let e : n + 0 ≡ n = omega arith in e) in
@@ -39,14 +41,14 @@ have_more all left left' lanes lanes' flags n reader lane h l is rest same liste
           ∙ ap (λ r. r ++ lane.reader ∷ []) h.readers ∙ ap (λ r. take n all ++ r ∷ []) (same ∙ first)
           ∙ sym (take_more all n reader l);
       count = ap length pushed ∙ length_push lanes lane ∙ ap (λ c. c + 1) count;
-      listen = λ k d m len. subst (λ xs. LaneListens len flags k (get_or xs k d)) (sym pushed) (elim (cases_lt k n) [
-        | inl lt ↦ subst (LaneListens len flags k) (sym (get_or_append_left lanes (lane ∷ []) d k (omega arith)))
+      listen = λ k d m len. subst (λ xs. LaneListens len detection k (get_or xs k d)) (sym pushed) (elim (cases_lt k n) [
+        | inl lt ↦ subst (LaneListens len detection k) (sym (get_or_append_left lanes (lane ∷ []) d k (omega arith)))
             (h.listen k d lt len)
         | inr ge ↦
             let e : k ≡ n = omega arith in
             let at : get_or (lanes ++ lane ∷ []) k d ≡ lane = ap (λ i. get_or (lanes ++ lane ∷ []) i d) (e ∙ sym count)
             ∙ get_or-append_seam lanes lane [] d in
-            subst (LaneListens len flags k) (sym at) (subst (λ i. LaneListens len flags i lane) (sym e) (listens len))
+            subst (LaneListens len detection k) (sym at) (subst (λ i. LaneListens len detection i lane) (sym e) (listens len))
       ]);
       taken = subst (All IsTaken) (sym pushed) (All-push IsTaken lanes lane h.taken taken);
     }

@@ -8,6 +8,9 @@ use Rattle.slicer_bank.proofs.Common.{reads_of, answer, next, Candidate, RingLan
 use Rattle.slicer_bank.proofs.Common.{AreHeardPast, MadeTurn, answers_of, LaneListens, MeetsEnd, gaps_of, Leads}
 use Rattle.slicer_bank.proofs.Common.{stretch_after, last_stretch, end_of, position_after, StretchStandsFor}
 use Rattle.sample_ring.specs.declared.view.Entry.{Entry}
+use Rattle.slicer_bank.specs.declared.detection.Detection.{Detection}
+use Rattle.slicer_bank.specs.Detection.{listens_for_tones}
+use Rattle.slicer_bank.specs.StretchLanes.{ListensAs}
 use Rattle.slicer_bank.specs.RingJobs.{is_end, is_sample, StaysLane, TookAnswer, ArePlaced, WentOn}
 use Rattle.slicer_bank.specs.RingTurns.{reads_on, most_reads}
 use Rattle.slicer_bank.proofs.CandidateLemmas.{AllPairs-append}
@@ -15,7 +18,20 @@ use Rattle.slicer_bank.proofs.StretchLemmas.{last-more, EndsNow, heard_more, hea
 use Rattle.slicer_bank.proofs.StretchLemmas.{leads_up, leads_more, leads_position, next_is}
 
 pub stays_more : (a b c : RingLane) → StaysLane a b → StaysLane b c → StaysLane a c
-stays_more a b c h k = record { ring = k.ring ∙ h.ring; offset = k.offset ∙ h.offset; flags = k.flags ∙ h.flags }
+stays_more a b c h k = record {
+  ring = k.ring ∙ h.ring;
+  offset = k.offset ∙ h.offset;
+  flags = k.flags ∙ h.flags;
+  tones = k.tones ∙ h.tones;
+}
+
+-- a lane goes on to listen as it is asked to
+listens_on : (detection : Detection) (a b : RingLane) → StaysLane a b → ListensAs detection a.lane
+    → ListensAs detection b.lane
+listens_on detection a b h asked = record {
+  flags = h.flags ∙ asked.flags;
+  tones = h.tones ∙ asked.tones ∙ ap (listens_for_tones detection) (sym h.offset);
+}
 
 pub gaps_of-append : (lane : ℕ) (a b : List Got) → gaps_of lane (a ++ b) ≡ gaps_of lane a ++ gaps_of lane b
 gaps_of-append lane [] b = refl
@@ -40,7 +56,7 @@ went_on_none len lane none no_gaps =
         each = All-nil P;
         rising = λ i j d ij jl. absurd (omega arith);
       };
-      heard = λ flags h. (
+      heard = λ detection h. (
         h,
         subst (AreHeardPast lane.lane.offset from (answers_of len lane.reader)) (sym none)
             record {
@@ -109,9 +125,9 @@ module _ (len : ℕ) (before now after : RingLane) (answers : List Got) (got : G
       }
 
   -- what the lane stands for, and what it heard
-  module _ (flags : ℕ) (h : LaneListens len flags before.lane.offset before) where
-    was : LaneListens len flags before.lane.offset now
-    was = (on.heard flags h).0
+  module _ (detection : Detection) (h : LaneListens len detection before.lane.offset before) where
+    was : LaneListens len detection before.lane.offset now
+    was = (on.heard detection h).0
 
     at : position_after a ≡ position_of now.reader
     unfolding a
@@ -120,11 +136,11 @@ module _ (len : ℕ) (before now after : RingLane) (answers : List Got) (got : G
     ends : next got ≡ end_of (stretch_after (last_stretch a) got)
     ends = next_is (last_stretch a) got (subst (λ p. GoesForward p got) (sym at) t.forward)
 
-    listens : LaneListens len flags before.lane.offset after
+    listens : LaneListens len detection before.lane.offset after
     unfolding a
     listens = record {
       place = stays.offset ∙ was.place;
-      asked = stays.flags ∙ was.asked;
+      asked = listens_on detection now after stays was.asked;
       lead = subst (λ l. Leads 0 l (position_of after.reader)) (sym longer)
           (subst (Leads 0 (a ++ got ∷ [])) (sym t.position)
           (leads_more 0 a (position_of now.reader) got was.lead t.forward));
@@ -135,7 +151,7 @@ module _ (len : ℕ) (before now after : RingLane) (answers : List Got) (got : G
     heard : AreHeardPast before.lane.offset (position_of before.reader) (answers_of len after.reader) after.found.items
     unfolding a new
     heard =
-        let old = (on.heard flags h).1 in
+        let old = (on.heard detection h).1 in
         let all : List Got = a ++ got ∷ [] in
         subst (λ l. AreHeardPast before.lane.offset (position_of before.reader) l after.found.items) (sym longer)
         (subst (AreHeardPast before.lane.offset (position_of before.reader) all) (sym t.found)
@@ -172,7 +188,7 @@ module _ (len : ℕ) (before now after : RingLane) (answers : List Got) (got : G
         ∙ ap (λ o. gaps_of before.lane.offset answers ++ gaps_of o (got ∷ [])) so.offset
         ∙ sym (gaps_of-append before.lane.offset answers (got ∷ []));
     places = placed;
-    heard = λ flags h. (listens flags h, heard flags h);
+    heard = λ detection h. (listens detection h, heard detection h);
   }
 
 -- ---- a turn
@@ -189,7 +205,7 @@ pub record ReadsOn (len : ℕ) (before now : RingLane) (count : ℕ) : Type 0 wh
 
 pub reads_none : (len : ℕ) (lane : RingLane) → lane.found.items ≡ [] → lane.gaps.items ≡ [] → ReadsOn len lane lane 0
 reads_none len lane none no_gaps = record {
-  stays = record { ring = refl; offset = refl; flags = refl };
+  stays = record { ring = refl; offset = refl; flags = refl; tones = refl };
   spent = refl;
   answers = [];
   on = went_on_none len lane none no_gaps;

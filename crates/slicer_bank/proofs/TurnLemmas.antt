@@ -5,7 +5,7 @@ use Rattle.slicer_bank.proofs.Common.{length, get_or, map, take, drop, All, flat
 use Rattle.slicer_bank.proofs.Common.{IsNonDecreasingBy, cases_lt, false≢true, length-map, get_or-map, get_or_default}
 use Rattle.slicer_bank.proofs.Common.{map-append, get_or_append_left, length_push, All-nil, All-head, All-tail}
 use Rattle.slicer_bank.proofs.Common.{Contains-permutation, All-permutation, get_or-append_seam, take-append_seam}
-use Rattle.slicer_bank.proofs.Common.{flags_asked, Got, Reader, position_of, reads_of, reader_ring, record_of, answer}
+use Rattle.slicer_bank.proofs.Common.{Got, Reader, position_of, reads_of, reader_ring, record_of, answer}
 use Rattle.slicer_bank.proofs.Common.{Candidate, LaneGap, RingLane, IsHeardIn, IsHeardOnRing, lane_of, lane_positions}
 use Rattle.slicer_bank.proofs.Common.{CanBePut, MadeTurn, IsAlike, AreHeardPast, IsTaken, AreInPlace, LanesAreReady}
 use Rattle.slicer_bank.proofs.Common.{answers_of, answers_by, readers_of, LaneListens, LanesListen, MeetsEnd, gaps_of}
@@ -20,6 +20,8 @@ use Rattle.slicer_bank.specs.RingTurns.{IsReading, gaps_from, AreLonger}
 use Rattle.slicer_bank.proofs.GatheringLemmas.{IsOfLane, flat_all, flat_contains, same_list, some_of, stands_in_order}
 use Rattle.slicer_bank.proofs.RingGatheringLemmas.{found_by, gaps_by, ended_by}
 use Rattle.slicer_bank.proofs.StretchLemmas.{heard_within, heard_shorter, leads_up, leads_below, leads_position}
+use Rattle.slicer_bank.specs.declared.detection.Detection.{Detection}
+use Rattle.slicer_bank.specs.StretchLanes.{ListensAs}
 
 -- ---- lists
 
@@ -257,21 +259,21 @@ module _ (ring : TableId) (len : ℕ) (old mid new : List RingLane) (eight_old :
         at_lists (x ∷ xs) zero d l = refl
         at_lists (x ∷ xs) (suc k) d l = at_lists xs k d (omega arith)
 
-    pub lanes_listen : (flags : ℕ) → LanesListen len flags old → LanesListen len flags new
-    lanes_listen flags h k d l =
+    pub lanes_listen : (detection : Detection) → LanesListen len detection old → LanesListen len detection new
+    lanes_listen detection h k d l =
         let before = h k d l in
         let m = made k d l in
-        let now = (m.on.heard flags (subst (λ o. LaneListens len flags o (get_or old k d)) (sym before.place) before)).0
-        in
+        let now = (m.on.heard detection
+        (subst (λ o. LaneListens len detection o (get_or old k d)) (sym before.place) before)).0 in
         let b = alike k d l in
-        listens_alike flags k (get_or mid k d) (get_or new k d) b
-        (subst (λ o. LaneListens len flags o (get_or mid k d)) before.place now)
+        listens_alike k (get_or mid k d) (get_or new k d) b
+        (subst (λ o. LaneListens len detection o (get_or mid k d)) before.place now)
       where
-        listens_alike : (flags k : ℕ) (x y : RingLane) → IsAlike x y → LaneListens len flags k x
-            → LaneListens len flags k y
-        listens_alike flags k x y b h = record {
+        listens_alike : (k : ℕ) (x y : RingLane) → IsAlike x y → LaneListens len detection k x
+            → LaneListens len detection k y
+        listens_alike k x y b h = record {
           place = ap (λ z. z.offset) b.lane ∙ h.place;
-          asked = ap (λ z. flags_asked z.deframer) b.lane ∙ h.asked;
+          asked = subst (ListensAs detection) (sym b.lane) h.asked;
           lead = subst (λ (r : Reader). Leads 0 (answers_of len r) (position_of r)) (sym b.reader) h.lead;
           stands = subst (λ z. StretchStandsFor z (last_stretch (answers_of len y.reader))) (sym b.lane)
               (subst (λ (r : Reader). StretchStandsFor x.lane (last_stretch (answers_of len r))) (sym b.reader)
@@ -340,8 +342,8 @@ module _ (ring : TableId) (len : ℕ) (old mid new : List RingLane) (eight_old :
               m.on.forward);
         })
 
-    module _ (flags : ℕ) (h : LanesListen len flags old) where
-      before : (k : ℕ) (l : k < 8) → LaneListens len flags k (get_or old k d0)
+    module _ (detection : Detection) (h : LanesListen len detection old) where
+      before : (k : ℕ) (l : k < 8) → LaneListens len detection k (get_or old k d0)
       before k l = h k d0 l
 
       heard_at : (k : ℕ) (l : k < 8) → AreHeardPast k (position_of (get_or old k d0).reader)
@@ -349,7 +351,8 @@ module _ (ring : TableId) (len : ℕ) (old mid new : List RingLane) (eight_old :
       heard_at k l =
           let m = made k d0 l in
           let b = before k l in
-          let now = (m.on.heard flags (subst (λ o. LaneListens len flags o (get_or old k d0)) (sym b.place) b)).1 in
+          let now = (m.on.heard detection
+          (subst (λ o. LaneListens len detection o (get_or old k d0)) (sym b.place) b)).1 in
           let at : answers_of len (get_or mid k d0).reader ≡ lane_of (answers_by len new) k =
           ap (answers_of len) (sym (alike k d0 l).reader) ∙ sym (answers_at len new k d0 (omega arith)) in
           subst (λ a. AreHeardPast k (position_of (get_or old k d0).reader) a (found_by (get_or mid k d0))) at
@@ -362,7 +365,7 @@ module _ (ring : TableId) (len : ℕ) (old mid new : List RingLane) (eight_old :
 
       new_lead : (k : ℕ) (l : k < 8) → Leads 0 (lane_of (answers_by len new) k) (position_of (get_or new k d0).reader)
       new_lead k l = subst (λ a. Leads 0 a (position_of (get_or new k d0).reader))
-          (sym (answers_at len new k d0 (omega arith))) (lanes_listen flags h k d0 l).lead
+          (sym (answers_at len new k d0 (omega arith))) (lanes_listen detection h k d0 l).lead
 
       -- an item that ends past the old position of its lane was not heard before
       not_before : (item : Candidate) (k : ℕ) (l : k < 8) → item.offset ≡ k

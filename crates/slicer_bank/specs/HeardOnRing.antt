@@ -2,7 +2,6 @@
 -- the list of the answers of each; places are those of the whole input.
 use Rattle.std.specs.Prelude.{◌≡◌, ℕ, ◌+◌, ◌*◌, ◌<◌, List, [], length, map, take, slice_index_or}
 use Rattle.std.specs.List.{All, AllPairs, Contains}
-use Rattle.hdlc_framer.specs.Carrier.{HoldsCarrier}
 use Rattle.hdlc_framer.specs.Frames.{EndsFrame}
 use Rattle.offset_slicers.specs.Held.{offset_from}
 use Rattle.sample_ring.specs.declared.got.Got.{Got}
@@ -10,6 +9,8 @@ use Rattle.frame_merge.specs.declared.candidate.Candidate.{Candidate}
 use Rattle.frame_merge.specs.Held.{least}
 use Rattle.frame_merge.specs.Merged.{merged, between, not_below}
 use Rattle.frame_merge.specs.Order.{standing}
+use Rattle.slicer_bank.specs.declared.detection.Detection.{Detection}
+use Rattle.slicer_bank.specs.Detection.{HearsStation}
 use Rattle.slicer_bank.specs.Stretches.{Stretch, stretches, last_stretch, stretch_bits, position_after}
 
 -- the answers of one of the lanes
@@ -66,8 +67,8 @@ pub record AreRestOnRing (from : ℕ) (lanes : List (List Got)) (items : List Ca
   pub are : AreHeardOnRing lanes candidates
   pub is : items ≡ not_below from (merged candidates)
 
--- some lane holds a carrier in its last stretch, by so many flags in a row
-pub record IsBusyOnRing (flags : ℕ) (lanes : List (List Got)) : Type 0 where
+-- some lane hears a station in its last stretch, by so many flags in a row or by tones
+pub record IsBusyOnRing (detection : Detection) (lanes : List (List Got)) : Type 0 where
   pub lane : ℕ
   pub within : lane < 8
-  pub holds : HoldsCarrier flags (stretch_bits lane (last_stretch (lane_of lanes lane)))
+  pub hears : HearsStation detection lane (last_stretch (lane_of lanes lane))

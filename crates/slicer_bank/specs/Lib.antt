@@ -8,6 +8,7 @@ pub mod MergedItems
 pub mod Progress
 pub mod HeldDecoder
 pub mod Stretches
+pub mod Detection
 pub mod HeardOnRing
 pub mod RingTurns
 pub mod RingLanes

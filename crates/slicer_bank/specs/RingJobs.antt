@@ -1,6 +1,6 @@
 -- What one read, and one turn of reads, make of a lane.
 use Rattle.std.specs.Prelude.{◌≡◌, ℕ, ◌<◌, ◌≤◌, ◌↔◌, Bool, true, false, List, [], ◌∷◌, ◌++◌, length, map}
-use Rattle.std.specs.Prelude.{slice_index_or}
+use Rattle.std.specs.Prelude.{slice_index_or, is_some}
 use Rattle.std.specs.List.{All, AllPairs, Contains, flat_map, list_all}
 use Rattle.std.specs.List.Sorted.{IsPermutation, IsNonDecreasingBy}
 use Rattle.atomic_table.specs.Seated.{TableId}
@@ -12,6 +12,7 @@ use Rattle.sample_ring.specs.Ends.{GoesForward, position_of, reads_of, reader_ri
 use Rattle.sample_ring.specs.Record.{answer, next}
 use Rattle.frame_merge.specs.declared.candidate.Candidate.{Candidate}
 use Rattle.slicer_bank.specs.declared.advance.LaneGap.{LaneGap}
+use Rattle.slicer_bank.specs.declared.detection.Detection.{Detection}
 use Rattle.slicer_bank.specs.declared.ring_lane.RingLane.{RingLane}
 use Rattle.slicer_bank.specs.Heard.{candidate_at}
 use Rattle.slicer_bank.specs.HeardOnRing.{IsHeardIn}
@@ -39,11 +40,12 @@ is_end (Gap from to) = false
 is_end (Empty at) = false
 is_end (End total) = true
 
--- what stays of a lane: its ring, its offset and the flags that it listens for
+-- what stays of a lane: its ring, its offset, the flags that it listens for, and whether it listens for tones
 pub record StaysLane (before after : RingLane) : Type 0 where
   pub ring : reader_ring after.reader ≡ reader_ring before.reader
   pub offset : after.lane.offset ≡ before.lane.offset
   pub flags : flags_asked after.lane.deframer ≡ flags_asked before.lane.deframer
+  pub tones : is_some after.lane.tones ≡ is_some before.lane.tones
 
 -- a lane has read once, with this answer
 pub record TookAnswer (len : ℕ) (before after : RingLane) (got : Got) : Type 0 where
@@ -81,8 +83,8 @@ pub record WentOn (len : ℕ) (before after : RingLane) (answers : List Got) : T
   pub forward : Leads (position_of before.reader) answers (position_of after.reader)
   pub gaps : after.gaps.items ≡ gaps_of before.lane.offset answers
   pub places : ArePlaced before.lane.offset (position_of before.reader) (position_of after.reader) after.found.items
-  pub heard : (flags : ℕ) → LaneListens len flags before.lane.offset before
-      → LaneListens len flags before.lane.offset after
+  pub heard : (detection : Detection) → LaneListens len detection before.lane.offset before
+      → LaneListens len detection before.lane.offset after
       × AreHeardPast before.lane.offset (position_of before.reader) (answers_of len after.reader) after.found.items
 
 -- a lane has made its turn of reading

@@ -1,8 +1,13 @@
 //! Laws on the candidates of samples. A law is the contract of a function that does nothing.
 
-ghost use Rattle.std.specs.Prelude.{◌≡◌, ◌+◌, ◌≤◌, ℕ, ℤ, List, ◌++◌, length};
+ghost use Rattle.std.specs.Prelude.{◌≡◌, ◌↔◌, ◌+◌, ◌<◌, ◌≤◌, ℕ, ℤ, List, ◌++◌, length};
+ghost use Rattle.sample_ring.specs.declared.got.Got.{Got};
+ghost use Rattle.tone_carrier.specs.Tones.{HasTones};
 ghost use Rattle.frame_merge.specs.declared.candidate.Candidate.{Candidate};
 ghost use Rattle.slicer_bank.specs.Candidates.{AreCandidates, AreCandidatesBehind};
+ghost use Rattle.slicer_bank.specs.declared.detection.Detection.TheVariants.{Tones};
+ghost use Rattle.slicer_bank.specs.HeardOnRing.{IsBusyOnRing, lane_of};
+ghost use Rattle.slicer_bank.specs.Stretches.{Stretch, last_stretch};
 ghost use Rattle.slicer_bank.specs.MergedItems.{AreMerged, AreMergedBetween};
 
 /// Samples have one list of candidates.
@@ -29,4 +34,11 @@ pub fn items_join()
 /// The items that end up to the number of samples are all.
 pub fn items_are_all()
     ensures { (x : List ℤ) (items : List Candidate) → AreMergedBetween 0 (length x + 1) x items → AreMerged x items }
+{}
+
+/// Lanes that have all heard one stretch are busy by tones exactly if the samples of that stretch have tones.
+pub fn one_stretch_has_tones()
+    ensures { (lanes : List (List Got)) (s : Stretch)
+        → ((lane : ℕ) → lane < 8 → last_stretch (lane_of lanes lane) ≡ s)
+        → IsBusyOnRing Tones lanes ↔ HasTones s.begin s.samples }
 {}

@@ -9,6 +9,7 @@
 mod advance;
 mod bank;
 mod decoder;
+mod detection;
 mod existence;
 mod gate;
 mod gathering;
@@ -25,14 +26,18 @@ mod ring_turn;
 mod stretch_hearing;
 mod stretch_lane;
 mod tone_lane;
+mod tone_listening;
 mod window_hearing;
 
 pub use advance::{Advance, LaneGap};
 pub use bank::Bank;
 pub use decoder::Decoder;
+pub use detection::Detection;
 pub use existence::some_list_of_candidates;
 pub use gate::{Gate, OpenGate};
-pub use laws::{blocks_join, items_are_all, items_join, one_list_of_candidates};
+pub use laws::{
+    blocks_join, items_are_all, items_join, one_list_of_candidates, one_stretch_has_tones,
+};
 pub use merging::merge;
 pub use progress::Progress;
 pub use ring_bank::RingBank;

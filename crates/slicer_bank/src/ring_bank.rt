@@ -1,6 +1,7 @@
 //! The bank of eight lanes that read a ring.
 
 use crate::advance::Advance;
+use crate::detection::Detection;
 use crate::gate::Gate;
 use crate::ring_lane::RingLane;
 use crate::ring_lanes::{is_some_busy, new_ring_lanes};
@@ -19,7 +20,7 @@ pub struct RingBank {
     lanes: Vec<RingLane>,
     // The Vec of the readers, which has room for them and is empty until they go back to it.
     room: Vec<Reader>,
-    flags: u8,
+    detection: Detection,
     spent: bool,
 }
 
@@ -31,7 +32,7 @@ impl Model for RingBank {
 
     ghost Value = { HeldRingBank };
 
-    ghost view = { λ s. record { lanes = s.lanes.items; flags = s.flags; spent = s.spent } };
+    ghost view = { λ s. record { lanes = s.lanes.items; detection = s.detection; spent = s.spent } };
 
     ghost invariant = { λ s. (length s.lanes.items ≡ 8) × (s.room.items ≡ []) × (8 ≤ vec_capacity s.room)
         × AreInPlace s.lanes.items × (s.spent ≡ false → All IsTaken s.lanes.items) };
@@ -42,6 +43,8 @@ impl RingBank {
     ghost use Rattle.std.specs.Prelude.{true, IfOk, OnOk, OnErr, IsErr, IsTrue};
     ghost use Rattle.std.specs.List.{All};
     ghost use Rattle.sample_ring.specs.Ends.{ring_id, ring_len, reader_ring, IsNew};
+    ghost use Rattle.slicer_bank.specs.declared.detection.Detection.TheVariants.{Flags};
+    ghost use Rattle.slicer_bank.specs.Detection.{CanBeAsked};
     ghost use Rattle.slicer_bank.specs.Merging.{CanBePut};
     ghost use Rattle.slicer_bank.specs.HeardOnRing.{IsBusyOnRing};
     ghost use Rattle.slicer_bank.specs.RingLanes.{readers_in, records_in, positions_in, answers_in, Listens};
@@ -55,31 +58,32 @@ impl RingBank {
         ensures listens { IfOk result (λ bank. (len : ℕ) → Listens len bank) }
         ensures nothing { IfOk result (λ bank. (len : ℕ) → answers_in len bank ≡ replicate 8 []) }
         ensures start { IfOk result (λ bank. positions_in bank ≡ replicate 8 0) }
-        ensures flags { IfOk result (λ bank. bank.flags ≡ 1) }
+        ensures detection { IfOk result (λ bank. bank.detection ≡ Flags 1) }
     {
-        RingBank::listening(alloc, readers, 1)
+        RingBank::listening(alloc, readers, Detection::Flags(1))
     }
 
-    /// The same, but it is busy only from so many flags in a row on, 1 to 8.
+    /// The same, but it hears other stations as it is asked to: from so many flags in a row on, 1 to 8, or by their
+    /// tones. Only lanes that are asked for tones weigh any.
     pub fn listening(
         alloc: Global,
         mut readers: Vec<Reader>,
-        flags: u8,
+        detection: Detection,
     ) -> Result<RingBank, OutOfMemory>
         requires eight { length readers.items ≡ 8 }
         requires fresh { All IsNew readers.items }
-        requires flags { (1 ≤ flags) × (flags ≤ 8) }
+        requires detection { CanBeAsked detection }
         ensures readers { IfOk result (λ bank. readers_in bank ≡ readers.items) }
         ensures listens { IfOk result (λ bank. (len : ℕ) → Listens len bank) }
         ensures nothing { IfOk result (λ bank. (len : ℕ) → answers_in len bank ≡ replicate 8 []) }
         ensures start { IfOk result (λ bank. positions_in bank ≡ replicate 8 0) }
-        ensures flags { IfOk result (λ bank. bank.flags ≡ flags) }
+        ensures detection { IfOk result (λ bank. bank.detection ≡ detection) }
     {
         Ok(RingBank {
             alloc,
-            lanes: new_ring_lanes(alloc, &mut readers, flags)?,
+            lanes: new_ring_lanes(alloc, &mut readers, detection)?,
             room: readers,
-            flags,
+            detection,
             spent: false,
         })
     }
@@ -106,7 +110,7 @@ impl RingBank {
         ensures forward { OnOk result (AreForward (positions_in self.old) (positions_in self.new)) }
         ensures bounds { IfOk result (λ advance. All CanBePut advance.candidates.items) }
         ensures past { IfOk result (λ advance. ArePast (positions_in self.old) advance.candidates.items) }
-        ensures flags { self.new.flags ≡ self.old.flags }
+        ensures detection { self.new.detection ≡ self.old.detection }
         ensures fails { self.old.spent ≡ true → IsErr result }
         ensures spent { OnErr result (self.new.spent ≡ true) }
     {
@@ -122,12 +126,12 @@ impl RingBank {
         }
     }
 
-    /// Whether another station is heard: some lane holds a carrier.
+    /// Whether another station is heard: some lane hears it since its last gap.
     pub fn busy(&self) -> bool
         ensures { (len : ℕ) → Listens len self.now → IsTrue result
-            ↔ IsBusyOnRing self.now.flags (answers_in len self.now) }
+            ↔ IsBusyOnRing self.now.detection (answers_in len self.now) }
     {
-        is_some_busy(&self.lanes)
+        is_some_busy(&self.lanes, self.detection)
     }
 
     /// Its readers, in the order of the lanes, in the Vec that it was made of. It takes no memory.

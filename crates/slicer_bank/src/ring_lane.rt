@@ -2,6 +2,7 @@
 ghost use Rattle.std.specs.Prelude.{◌≡◌};
 
 use crate::advance::LaneGap;
+use crate::detection::Detection;
 use crate::stretch_hearing::hear;
 use crate::stretch_lane::StretchLane;
 use frame_merge::Candidate;
@@ -29,26 +30,26 @@ pub struct RingLane {
 
 impl RingLane {
     ghost use Rattle.std.specs.Prelude.{ℕ, ◌+◌, ◌^◌, ◌<◌, ◌≤◌, List, [], ◌∷◌, ◌++◌, true, false, IfOk, OnErr, OnOk};
-    ghost use Rattle.hdlc_framer.specs.Held.{flags_asked};
     ghost use Rattle.sample_ring.specs.declared.got.Got.{Got};
     ghost use Rattle.sample_ring.specs.declared.view.Entry.{Entry};
     ghost use Rattle.sample_ring.specs.Ends.{IsNew, ring_id, ring_len, reader_ring, reads_of};
+    ghost use Rattle.slicer_bank.specs.Detection.{CanBeAsked};
     ghost use Rattle.slicer_bank.specs.RingJobs.{StaysLane, TookAnswer, MadeTurn, IsAlike, IsTaken};
     ghost use Rattle.slicer_bank.specs.RingLanes.{LaneListens};
     ghost use Rattle.slicer_bank.specs.RingTurns.{reads_on};
 
     /// A lane that has read nothing.
-    pub(crate) fn new(alloc: Global, reader: Reader, offset: u8, flags: u8) -> RingLane
+    pub(crate) fn new(alloc: Global, reader: Reader, offset: u8, detection: Detection) -> RingLane
         requires lane { offset < 8 }
         requires fresh { IsNew reader }
-        requires flags { (1 ≤ flags) × (flags ≤ 8) }
+        requires detection { CanBeAsked detection }
         ensures reader { result.reader ≡ reader }
-        ensures listens { (len : ℕ) → LaneListens len flags offset result }
+        ensures listens { (len : ℕ) → LaneListens len detection offset result }
         ensures taken { IsTaken result }
     {
         RingLane {
             reader,
-            lane: StretchLane::new(offset, flags),
+            lane: StretchLane::new(offset, detection),
             found: Vec::new(alloc),
             gaps: Vec::new(alloc),
             ended: false,

@@ -5,11 +5,13 @@ ghost use Rattle.std.specs.Prelude.{slice_index_or, vec_capacity};
 ghost use Rattle.std.specs.List.{All};
 ghost use Rattle.sample_ring.specs.Ends.{IsNew, ring_id, ring_len};
 ghost use Rattle.slicer_bank.specs.declared.ring_lane.RingLane.{RingLane};
+ghost use Rattle.slicer_bank.specs.Detection.{CanBeAsked};
 ghost use Rattle.slicer_bank.specs.HeardOnRing.{IsBusyOnRing};
 ghost use Rattle.slicer_bank.specs.RingJobs.{IsReady, IsTaken, Advanced, IsAlike, IsGathered};
 ghost use Rattle.slicer_bank.specs.RingLanes.{answers_by, readers_of, LanesListen};
 
 use crate::advance::Advance;
+use crate::detection::Detection;
 use crate::gate::Gate;
 use crate::ring_lane::RingLane;
 use sample_ring::{Reader, Ring};
@@ -25,21 +27,21 @@ const JOBS: usize = 2;
 pub(crate) fn new_ring_lanes(
     alloc: Global,
     readers: &mut Vec<Reader>,
-    flags: u8,
+    detection: Detection,
 ) -> Result<Vec<RingLane>, OutOfMemory>
     requires eight { length readers.old.items ≡ 8 }
     requires fresh { All IsNew readers.old.items }
-    requires flags { (1 ≤ flags) × (flags ≤ 8) }
+    requires detection { CanBeAsked detection }
     ensures empty { OnOk result (readers.new.items ≡ []) }
     ensures room { vec_capacity readers.new ≡ vec_capacity readers.old }
     ensures count { IfOk result (λ lanes. length lanes.items ≡ 8) }
     ensures readers { IfOk result (λ lanes. readers_of lanes.items ≡ readers.old.items) }
-    ensures listen { IfOk result (λ lanes. (len : ℕ) → LanesListen len flags lanes.items) }
+    ensures listen { IfOk result (λ lanes. (len : ℕ) → LanesListen len detection lanes.items) }
     ensures taken { IfOk result (λ lanes. All IsTaken lanes.items) }
 {
     let mut lanes = Vec::with_capacity(alloc, 8)?;
     for offset in 0..8u8 {
-        lanes.push(RingLane::new(alloc, readers.remove(0), offset, flags))?;
+        lanes.push(RingLane::new(alloc, readers.remove(0), offset, detection))?;
     }
     Ok(lanes)
 }
@@ -102,14 +104,14 @@ pub(crate) fn gather(alloc: Global, lanes: &mut [RingLane]) -> Result<Advance, O
     })
 }
 
-/// Whether some lane holds a carrier.
-pub(crate) fn is_some_busy(lanes: &[RingLane]) -> bool
+/// Whether some lane hears a station, by what they were asked to listen for.
+pub(crate) fn is_some_busy(lanes: &[RingLane], detection: Detection) -> bool
     requires { length lanes.now ≡ 8 }
-    ensures { (len flags : ℕ) → LanesListen len flags lanes.now
-        → (IsTrue result ↔ IsBusyOnRing flags (answers_by len lanes.now)) }
+    ensures { (len : ℕ) → LanesListen len detection lanes.now
+        → (IsTrue result ↔ IsBusyOnRing detection (answers_by len lanes.now)) }
 {
     for lane in lanes {
-        if lane.lane.busy() {
+        if lane.lane.hears(detection) {
             return true;
         }
     }

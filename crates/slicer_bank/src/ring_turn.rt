@@ -3,6 +3,7 @@
 ghost use Rattle.std.specs.Prelude.{◌≡◌, ℕ, ◌≤◌, ◌<◌, length, map, IfOk, OnOk, slice_index_or};
 ghost use Rattle.std.specs.List.{All};
 ghost use Rattle.sample_ring.specs.Ends.{ring_id, ring_len, reader_ring, record_of, position_of};
+ghost use Rattle.slicer_bank.specs.declared.detection.Detection.{Detection};
 ghost use Rattle.slicer_bank.specs.declared.ring_lane.RingLane.{RingLane};
 ghost use Rattle.slicer_bank.specs.Merging.{CanBePut};
 ghost use Rattle.slicer_bank.specs.RingJobs.{LanesAreReady, LanesStay};
@@ -34,9 +35,9 @@ pub(crate) fn make_turn<R: Threads + Sync, G: Gate>(
     ensures ready { OnOk result (LanesAreReady (ring_id ring.now) lanes.new) }
     ensures turn { IfOk result (λ advance. IsTurn (answers_by (ring_len ring.now) lanes.old) (answers_by
         (ring_len ring.now) lanes.new) advance.gaps.items advance.ended) }
-    ensures listen { OnOk result ((flags : ℕ) → LanesListen (ring_len ring.now) flags lanes.old
-        → LanesListen (ring_len ring.now) flags lanes.new) }
-    ensures heard { IfOk result (λ advance. (flags : ℕ) → LanesListen (ring_len ring.now) flags lanes.old
+    ensures listen { OnOk result ((detection : Detection) → LanesListen (ring_len ring.now) detection lanes.old
+        → LanesListen (ring_len ring.now) detection lanes.new) }
+    ensures heard { IfOk result (λ advance. (detection : Detection) → LanesListen (ring_len ring.now) detection lanes.old
         → BringsOnRing (answers_by (ring_len ring.now) lanes.old)
         (answers_by (ring_len ring.now) lanes.new) advance.positions advance.candidates.items) }
     ensures positions { IfOk result (λ advance. advance.positions ≡ map position_of (readers_of lanes.new)) }

@@ -1,6 +1,6 @@
 //! What a lane hears with one sample of a stretch.
 
-ghost use Rattle.std.specs.Prelude.{◌≡◌, ◌+◌, ◌-◌, ◌<◌, ◌^◌, OnOk};
+ghost use Rattle.std.specs.Prelude.{◌≡◌, ◌+◌, ◌-◌, ◌<◌, ◌^◌, is_some, OnOk};
 ghost use Rattle.hdlc_framer.specs.Held.{flags_asked};
 ghost use Rattle.slicer_bank.specs.Stretches.{Stretch, with_sample};
 ghost use Rattle.slicer_bank.specs.StretchLanes.{StretchStandsFor, HearsSample};
@@ -24,6 +24,7 @@ pub(crate) fn hear(
     ensures found { OnOk result (HearsSample lane.old sample end found.old.items found.new.items) }
     ensures offset { lane.new.offset ≡ lane.old.offset }
     ensures flags { flags_asked lane.new.deframer ≡ flags_asked lane.old.deframer }
+    ensures tones { is_some lane.new.tones ≡ is_some lane.old.tones }
     ensures position { lane.new.slicer.position ≡ lane.old.slicer.position + 1 }
 {
     if !lane.push(sample) {

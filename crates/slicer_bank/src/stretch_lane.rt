@@ -1,40 +1,45 @@
 //! One lane that hears stretches of samples: those between two gaps.
 ghost use Rattle.std.specs.Prelude.{◌≡◌, ◌<◌};
 
+use crate::detection::Detection;
+use crate::tone_listening::{is_busy, restart, tones_if, weigh};
 use hdlc_framer::{Deframer, Event};
 use offset_slicers::Slicer;
+use tone_carrier::CarrierLane;
 
-/// The slicer of one offset of a bit, and the deframer of its bits.
+/// The slicer of one offset of a bit, the deframer of its bits, and what weighs its windows if it listens for tones.
 #[derive(Drop)]
 pub struct StretchLane {
     pub(crate) offset: u8,
     pub(crate) slicer: Slicer,
     pub(crate) deframer: Deframer,
+    pub(crate) tones: Option<CarrierLane>,
     ghost lane: { offset < 8 },
     ghost slices: { slicer.offset ≡ offset },
 }
 
 impl StretchLane {
-    ghost use Rattle.std.specs.Prelude.{ℕ, ◌+◌, ◌^◌, ◌≤◌, ◌↔◌, List, true, IsTrue};
-    ghost use Rattle.hdlc_framer.specs.Carrier.{HoldsCarrier};
+    ghost use Rattle.std.specs.Prelude.{ℕ, ◌+◌, ◌^◌, ◌≤◌, ◌↔◌, List, true, is_some, IsTrue};
     ghost use Rattle.hdlc_framer.specs.Frames.{IsFrame};
     ghost use Rattle.hdlc_framer.specs.Held.{HoldsFrame, flags_asked};
-    ghost use Rattle.slicer_bank.specs.Stretches.{Stretch, stretch_at, with_sample, stretch_bits};
-    ghost use Rattle.slicer_bank.specs.StretchLanes.{StretchStandsFor, EndsLast};
+    ghost use Rattle.slicer_bank.specs.Detection.{CanBeAsked, HearsStation};
+    ghost use Rattle.slicer_bank.specs.Stretches.{Stretch, stretch_at, with_sample};
+    ghost use Rattle.slicer_bank.specs.StretchLanes.{StretchStandsFor, ListensAs, EndsLast};
 
-    /// A lane at position 0 that has heard nothing. Its deframer listens for so many flags in a row.
-    pub(crate) fn new(offset: u8, flags: u8) -> StretchLane
+    /// A lane at position 0 that has heard nothing, and listens as it is asked to.
+    pub(crate) fn new(offset: u8, detection: Detection) -> StretchLane
         requires lane { offset < 8 }
-        requires flags { (1 ≤ flags) × (flags ≤ 8) }
+        requires detection { CanBeAsked detection }
         ensures stands_for { StretchStandsFor result (stretch_at 0) }
         ensures offset { result.offset ≡ offset }
-        ensures flags { flags_asked result.deframer ≡ flags }
+        ensures listens { ListensAs detection result }
         ensures position { result.slicer.position ≡ 0 }
     {
         StretchLane {
             offset,
             slicer: Slicer::new(offset),
-            deframer: Deframer::listening(flags),
+            deframer: Deframer::listening(detection.flags()),
+            tones: tones_if(detection.listens_for_tones(offset)),
         }
     }
 
@@ -51,12 +56,14 @@ impl StretchLane {
             → (result ≡ true) × HoldsFrame self.new.deframer octets }
         ensures offset { self.new.offset ≡ self.old.offset }
         ensures flags { flags_asked self.new.deframer ≡ flags_asked self.old.deframer }
+        ensures tones { is_some self.new.tones ≡ is_some self.old.tones }
         ensures position { self.new.slicer.position ≡ self.old.slicer.position + 1 }
     {
-        let Some(bit) = self.slicer.push(sample) else {
+        let Some(sliced) = self.slicer.slice(sample) else {
             return false;
         };
-        self.deframer.push(bit) == Event::Frame
+        weigh(&mut self.tones, &sliced.window, &sliced.decision);
+        self.deframer.push(sliced.bit) == Event::Frame
     }
 
     /// Begins a new stretch at `to`.
@@ -65,10 +72,12 @@ impl StretchLane {
         ensures stands_for { StretchStandsFor self.new (stretch_at to) }
         ensures offset { self.new.offset ≡ self.old.offset }
         ensures flags { flags_asked self.new.deframer ≡ flags_asked self.old.deframer }
+        ensures tones { is_some self.new.tones ≡ is_some self.old.tones }
         ensures position { self.new.slicer.position ≡ to }
     {
         self.slicer.skip(to);
         self.deframer.reset();
+        restart(&mut self.tones);
     }
 
     /// The octets of the frame that the last sample ended, without its check sequence.
@@ -79,11 +88,14 @@ impl StretchLane {
         self.deframer.octets()
     }
 
-    /// Whether the bits of the stretch hold a carrier.
-    pub(crate) fn busy(&self) -> bool
-        ensures { (s : Stretch) → StretchStandsFor self.now s
-            → (IsTrue result ↔ HoldsCarrier (flags_asked self.now.deframer) (stretch_bits self.now.offset s)) }
+    /// Whether a station is heard in the stretch, by what the lane was asked to listen for.
+    pub(crate) fn hears(&self, detection: Detection) -> bool
+        ensures { (s : Stretch) → StretchStandsFor self.now s → ListensAs detection self.now
+            → (IsTrue result ↔ HearsStation detection self.now.offset s) }
     {
-        self.deframer.busy()
+        match detection {
+            Detection::Flags(_) => self.deframer.busy(),
+            Detection::Tones => is_busy(&self.tones),
+        }
     }
 }

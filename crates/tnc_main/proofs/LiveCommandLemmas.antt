@@ -5,7 +5,12 @@ use Rattle.tnc_main.proofs.Common.{Asks, one_command, Reads, ReadsNothing, CanRu
 use Rattle.tnc_main.proofs.Common.{CanRun}
 use Rattle.link_world.proofs.WindowLemmas.{none_refused}
 use Rattle.tnc_words.specs.Commands.{IsBench, IsLoop}
+use Rattle.slicer_bank.specs.Detection.{CanBeAsked}
+use Rattle.tnc_words.specs.Carriers.{HasDcd}
 use Rattle.tnc_words.specs.Numbers.{HasNumber}
+use Rattle.tnc_words.specs.declared.command.Dcd.{Dcd}
+use Rattle.tnc_words.specs.declared.command.Dcd.TheVariants.{Tones as ByTones, Flags as ByFlags}
+use Rattle.tnc_main.specs.Serving.{detection_of}
 use Rattle.tnc_main.specs.declared.live_command.LiveCommand.{LiveCommand}
 use Rattle.tnc_main.specs.declared.live_command.LiveCommand.TheVariants.{Serve as LiveServe, Record as LiveRecord}
 use Rattle.tnc_main.specs.declared.live_command.LiveCommand.TheVariants.{Call as LiveCall}
@@ -97,11 +102,19 @@ only_record words (LiveServe options) alone asks = absurd (alone.serve options a
 only_record words (LiveRecord options) alone asks = (options, refl)
 only_record words (LiveCall options) alone asks = absurd (alone.call options asks)
 
+flags_are_no_tones : (count : ℕ) → ByFlags count ≡ ByTones → ⊥
+flags_are_no_tones count is = cc is
+
+-- what the words say of the channel can be asked for
+can_be_asked : (text : Option (List ℕ)) (dcd : Dcd) → HasDcd text dcd → CanBeAsked (detection_of dcd)
+can_be_asked text ByTones h = tt
+can_be_asked None (ByFlags count) h = absurd (flags_are_no_tones count h)
+can_be_asked (Some text) (ByFlags count) h = (h.1, h.2)
+
 -- the options of a live command that words ask for are within their ranges
 pub can_run_live : (words : List (List ℕ)) (live : LiveCommand) → Asks words (command_of live) → CanRunLive live
 can_run_live words (LiveServe options) h =
-    let flags = within _ 3 1 8 options.dcd (omega arith) (omega arith) h.options.dcd in
-    (λ window. none_refused options.params window h.options.params.fit, flags.0, flags.1)
+    (λ window. none_refused options.params window h.options.params.fit, can_be_asked _ options.dcd h.options.dcd)
 can_run_live words (LiveRecord options) h =
     within _ 576000 1 17280000 options.keep (omega arith) (omega arith) h.options.keep
 can_run_live words (LiveCall options) h =

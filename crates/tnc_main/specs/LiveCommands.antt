@@ -6,6 +6,8 @@ use Rattle.tnc_words.specs.declared.command.Command.TheVariants.{Serve, Record, 
 use Rattle.tnc_words.specs.declared.command.CallOptions.{CallOptions}
 use Rattle.tnc_words.specs.declared.command.ServeOptions.{ServeOptions}
 use Rattle.tnc_words.specs.Commands.{Asks, IsCall, IsServe}
+use Rattle.slicer_bank.specs.Detection.{CanBeAsked}
+use Rattle.tnc_main.specs.Serving.{detection_of}
 use Rattle.tnc_main.specs.declared.live_command.LiveCommand.{LiveCommand}
 use Rattle.tnc_main.specs.declared.live_command.LiveCommand.TheVariants.{Serve as LiveServe, Record as LiveRecord}
 use Rattle.tnc_main.specs.declared.live_command.LiveCommand.TheVariants.{Call as LiveCall}
@@ -19,7 +21,7 @@ command_of (LiveCall options) = Call options
 -- the options are within their ranges
 abbrev pub CanRunLive : LiveCommand → Type 0
 CanRunLive (LiveServe options) =
-    ((window : ℕ) → ¬ IsRefusedWindow options.params window) × (1 ≤ options.dcd) × (options.dcd ≤ 8)
+    ((window : ℕ) → ¬ IsRefusedWindow options.params window) × CanBeAsked (detection_of options.dcd)
 CanRunLive (LiveRecord options) = (1 ≤ options.keep) × (options.keep ≤ 17280000)
 CanRunLive (LiveCall options) = (options.expect ≤ 1000000) × (1 ≤ options.polls) × (options.polls ≤ 1000000)
 

@@ -2,6 +2,10 @@
 use Rattle.std.specs.Prelude.{◌≡◌, ◌⊎◌, ℕ, List, Option, Some, None}
 use Rattle.tnc_base.specs.Faults.{HasRisen}
 use Rattle.tnc_base.specs.Streams.{WrotePart}
+use Rattle.slicer_bank.specs.declared.detection.Detection.{Detection}
+use Rattle.slicer_bank.specs.declared.detection.Detection.TheVariants.{Tones, Flags}
+use Rattle.tnc_words.specs.declared.command.Dcd.{Dcd}
+use Rattle.tnc_words.specs.declared.command.Dcd.TheVariants.{Tones as ByTones, Flags as ByFlags}
 use Rattle.tnc_words.specs.declared.command.ServeOptions.{ServeOptions}
 use Rattle.tnc_forms.specs.declared.fault.InputFault.TheVariants.{TooLong as InputTooLong}
 use Rattle.tnc_ports.specs.declared.serve_words.ServeWords.{ServeWords}
@@ -16,6 +20,11 @@ use Rattle.tnc_main.specs.declared.status.Status.TheVariants.{ReadFault as Input
 use Rattle.tnc_main.specs.declared.status.Status.TheVariants.{NoPort as PortsFailed}
 use Rattle.tnc_main.specs.Report.{input_line, no_port_line}
 
+-- by what the lanes hear another station
+abbrev pub detection_of : Dcd → Detection
+detection_of ByTones = Tones
+detection_of (ByFlags count) = Flags count
+
 -- the ports, the station, the lanes and the report that the options ask for
 abbrev pub words_of : ServeOptions → ServeWords
 words_of options = record {
@@ -23,7 +32,7 @@ words_of options = record {
   agw = options.agw;
   seed = options.seed;
   config = record { params = options.params; digi = options.digi };
-  dcd = options.dcd;
+  dcd = detection_of options.dcd;
   monitor = options.monitor;
   sensitive = options.sensitive;
 }

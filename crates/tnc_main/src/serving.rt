@@ -6,11 +6,13 @@ ghost use Rattle.tnc_forms.specs.Reading.{input_limit};
 ghost use Rattle.tnc_ports.specs.SampledRun.{Outside, outside_by};
 ghost use Rattle.tnc_ports.specs.ServeRun.{input_by};
 ghost use Rattle.tnc_main.specs.declared.status.Status.{Status};
-ghost use Rattle.tnc_main.specs.Serving.{IsToldAs, Serves, last_line, status_of_end, words_of};
+ghost use Rattle.slicer_bank.specs.Detection.{CanBeAsked};
+ghost use Rattle.tnc_main.specs.Serving.{IsToldAs, Serves, detection_of, last_line, status_of_end, words_of};
 ghost use Rattle.tnc_main.specs.Status.{code_of, IsLiveCode};
 
 use crate::report::{NO_PORT, TOO_LONG, told};
 use crate::status::Status;
+use slicer_bank::Detection;
 use station::Config;
 use std::alloc::Global;
 use std::net::Net;
@@ -18,7 +20,7 @@ use std::sync::Wait;
 use std::thread::Threads;
 use tnc_base::{Sink, Source};
 use tnc_ports::{Live, Ports, ServeEnd, ServeWords, Spawner};
-use tnc_words::ServeOptions;
+use tnc_words::{Dcd, ServeOptions};
 
 /// Serves hosts until the input ends, tells how that ended, and answers the exit status. It may wait for the input.
 pub(crate) fn serve<
@@ -38,7 +40,7 @@ pub(crate) fn serve<
     live: &mut Live<N, W>,
 ) -> u8
     requires window { (window : ℕ) → ¬ IsRefusedWindow words.config.params window }
-    requires dcd { (1 ≤ words.dcd) × (words.dcd ≤ 8) }
+    requires dcd { CanBeAsked words.dcd }
     ensures served { (status : Status) × (result ≡ code_of status)
         × Serves words status (input_by I.left I.faults input.old) (input_by I.left I.faults input.new)
         (outside_by N.listens N.polls N.sends N.sent N.is_shut N.faults O.written O.faults E.written E.faults
@@ -93,8 +95,18 @@ pub(crate) fn serve_words(options: ServeOptions) -> ServeWords
             params: options.params,
             digi: options.digi,
         },
-        dcd: options.dcd,
+        dcd: detection(options.dcd),
         monitor: options.monitor,
         sensitive: options.sensitive,
+    }
+}
+
+/// By what the lanes hear another station, as the options say it.
+fn detection(dcd: Dcd) -> Detection
+    ensures { result ≡ detection_of dcd }
+{
+    match dcd {
+        Dcd::Tones => Detection::Tones,
+        Dcd::Flags(count) => Detection::Flags(count),
     }
 }

@@ -60,17 +60,17 @@ heard_writes ended least items before a b len receiver live o r0 r1 r2 h g =
 
 ticks_behind : (busy : Bool) (count least : ℕ) (before b : Turning) (len : ℕ) (receiver : HeldReceiver)
     (heard next : Live)
-    → (answers_in len receiver ≡ heard.lanes) → (IsTrue busy ↔ IsBusyOnRing receiver.flags (answers_in len receiver))
-    → receiver.flags ≡ before.words.dcd
+    → (answers_in len receiver ≡ heard.lanes) → (IsTrue busy ↔ IsBusyOnRing receiver.detection (answers_in len receiver))
+    → receiver.detection ≡ before.words.dcd
     → b.words ≡ before.words → AreTicked b.words.monitor busy count heard next → least ≡ least_position heard.lanes
     → heard.ticks + count ≤ least / 96 → MakesTicks before.words count heard next
-ticks_behind busy count least before b len receiver heard next lanes carrier flags words ticked is few =
+ticks_behind busy count least before b len receiver heard next lanes carrier detection words ticked is few =
     let to = ticked_to b.words.monitor busy count heard next ticked in
     let same : least ≡ least_position next.lanes = is ∙ ap least_position (sym to.lanes) in
     record {
       busy = busy;
       carrier = subst (λ l. IsTrue busy ↔ IsBusyOnRing before.words.dcd l) lanes
-          (subst (λ n. IsTrue busy ↔ IsBusyOnRing n (answers_in len receiver)) flags carrier);
+          (subst (λ n. IsTrue busy ↔ IsBusyOnRing n (answers_in len receiver)) detection carrier);
       made = subst (λ w. AreTicked w.monitor busy count heard next) words ticked;
       passed = subst (λ n. 96 * next.ticks ≤ n) same (let t = to.ticks in omega (arith, t, few));
     }
@@ -78,12 +78,12 @@ ticks_behind busy count least before b len receiver heard next lanes carrier fla
 makes_all : (ended busy : Bool) (least : ℕ) (before b : Turning) (len : ℕ) (receiver : HeldReceiver)
     (live heard next : Live)
     → HearsAll before.words ended live heard
-    → (answers_in len receiver ≡ heard.lanes) → (IsTrue busy ↔ IsBusyOnRing receiver.flags (answers_in len receiver))
-    → receiver.flags ≡ before.words.dcd
+    → (answers_in len receiver ≡ heard.lanes) → (IsTrue busy ↔ IsBusyOnRing receiver.detection (answers_in len receiver))
+    → receiver.detection ≡ before.words.dcd
     → b.words ≡ before.words → AreTicked b.words.monitor busy (least / 96 - heard.ticks) heard next
     → least ≡ least_position heard.lanes
     → 96 * heard.ticks ≤ least → MakesAll before.words ended live next
-makes_all ended busy least before b len receiver live heard next hears lanes carrier flags words ticked is passed =
+makes_all ended busy least before b len receiver live heard next hears lanes carrier detection words ticked is passed =
     let to = ticked_to b.words.monitor busy (least / 96 - heard.ticks) heard next ticked in
     let same : least ≡ least_position next.lanes = is ∙ ap least_position (sym to.lanes) in
     record {
@@ -91,7 +91,7 @@ makes_all ended busy least before b len receiver live heard next hears lanes car
       hears = hears;
       count = least / 96 - heard.ticks;
       makes = ticks_behind busy (least / 96 - heard.ticks)
-          least before b len receiver heard next lanes carrier flags words ticked is (omega (arith, passed));
+          least before b len receiver heard next lanes carrier detection words ticked is (omega (arith, passed));
       next = subst (λ n. n < 96 * (next.ticks + 1)) same (let t = to.ticks in omega (arith, t, passed));
     }
 
@@ -109,12 +109,12 @@ pub all_made : (ended busy : Bool) (least : ℕ) (items : List Candidate) (befor
     → ((hosts : Hosts) → Keeps a.hosts hosts → HearsFrames items a b hosts r1 r2)
     → ((live : Live) → Keeps b.hosts live.hosts → b.ticks ≡ live.ticks
     → TicksAll busy (least / 96 - live.ticks) b c live o o' r2 r3)
-    → ((n : ℕ) → EightListen n receiver → IsTrue busy ↔ IsBusyOnRing receiver.flags (answers_in n receiver))
-    → receiver.flags ≡ before.words.dcd
+    → ((n : ℕ) → EightListen n receiver → IsTrue busy ↔ IsBusyOnRing receiver.detection (answers_in n receiver))
+    → receiver.detection ≡ before.words.dcd
     → a.words ≡ before.words → b.words ≡ a.words → a.ticks ≡ before.ticks → b.ticks ≡ a.ticks
     → Makes ended before c len receiver live o o' r0 r3
 all_made ended busy least items before a b c len old receiver live o o' r0 r1 r2 r3 stands reads hear
-    tick carrier flags wa wb ta tb =
+    tick carrier detection wa wb ta tb =
     let h = hear reads.read.hosts reads.keeps in
     let heard : Live = with_hosts h.next reads.read in
     let at : reads.read.ticks ≡ live.ticks = read_ticks ended least items before a len receiver live r0 r1 reads in
@@ -126,7 +126,7 @@ all_made ended busy least items before a b c len old receiver live o o' r0 r1 r2
       made = t.next;
       makes = makes_all ended busy least before b len receiver live heard t.next
           (hears_all ended least items before a b len receiver live r0 r1 r2 reads h wa)
-          reads.lanes (carrier len reads.listens) flags (wb ∙ wa) t.ticked reads.is_least passed;
+          reads.lanes (carrier len reads.listens) detection (wb ∙ wa) t.ticked reads.is_least passed;
       lanes = reads.lanes ∙ sym to.lanes;
       sensitive = reads.sensitive;
       hears = reads.hears;
@@ -230,12 +230,12 @@ pub cut_ticking : (ended busy : Bool) (least : ℕ) (items : List Candidate) (be
     → ((hosts : Hosts) → Keeps a.hosts hosts → HearsFrames items a b hosts r1 r2)
     → ((live : Live) → Keeps b.hosts live.hosts → b.ticks ≡ live.ticks
     → (count : ℕ) × (live.ticks + count ≤ least / 96) × Ticks busy count b c live o o' r2 r3)
-    → ((n : ℕ) → EightListen n receiver → IsTrue busy ↔ IsBusyOnRing receiver.flags (answers_in n receiver))
-    → receiver.flags ≡ before.words.dcd
+    → ((n : ℕ) → EightListen n receiver → IsTrue busy ↔ IsBusyOnRing receiver.detection (answers_in n receiver))
+    → receiver.detection ≡ before.words.dcd
     → a.words ≡ before.words → b.words ≡ a.words → a.ticks ≡ before.ticks → b.ticks ≡ a.ticks
     → IsCutOff before c len receiver live o o' r0 r3 told told
 cut_ticking ended busy least items before a b c len old receiver live o o' r0 r1 r2 r3 told stands reads hear tick
-    carrier flags wa wb ta tb =
+    carrier detection wa wb ta tb =
     let h = hear reads.read.hosts reads.keeps in
     let heard : Live = with_hosts h.next reads.read in
     let at : reads.read.ticks ≡ live.ticks = read_ticks ended least items before a len receiver live r0 r1 reads in
@@ -248,7 +248,7 @@ cut_ticking ended busy least items before a b c len old receiver live o o' r0 r1
       hears = hears_all ended least items before a b len receiver live r0 r1 r2 reads h wa;
       count = t.0;
       makes = ticks_behind busy t.0 least before b len receiver heard t.2.next reads.lanes (carrier len reads.listens)
-          flags (wb ∙ wa) t.2.ticked reads.is_least t.1;
+          detection (wb ∙ wa) t.2.ticked reads.is_least t.1;
     } in
     record {
       next = t.2.next;

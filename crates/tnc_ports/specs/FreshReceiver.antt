@@ -11,5 +11,5 @@ pub record IsFresh (words : ServeWords) (ring : Ring) (receiver : HeldReceiver) 
   pub readers : All (λ reader. reader_ring reader ≡ ring_id ring) (readers_in receiver)
   pub new : answers_in (ring_len ring) receiver ≡ replicate (readers_wanted words.sensitive) []
   pub hears : Hears (ring_len ring) receiver
-  pub flags : receiver.flags ≡ words.dcd
+  pub detection : receiver.detection ≡ words.dcd
   pub sensitive : receiver.sensitive ≡ words.sensitive

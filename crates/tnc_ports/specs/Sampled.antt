@@ -101,7 +101,7 @@ AreTicked monitor busy (suc count) before after =
     (between : Live) × IsTicked monitor busy before between × AreTicked monitor busy count between after
 
 -- So many ticks are made, each passed by every reader. The channel is busy in them exactly if one of the eight lanes
--- holds a carrier; the added lanes do not count.
+-- hears a station, by what the words ask for; the added lanes do not count.
 pub record MakesTicks (words : ServeWords) (count : ℕ) (before after : Live) : Type 0 where
   pub busy : Bool
   pub carrier : IsTrue busy ↔ IsBusyOnRing words.dcd before.lanes

@@ -1,5 +1,6 @@
 //! What a live station is asked for.
 
+use slicer_bank::Detection;
 use station::Config;
 
 /// The ports, the station and the report of a live station.
@@ -13,8 +14,8 @@ pub struct ServeWords {
     pub seed: u64,
     /// How the station's links work, and for which call it repeats.
     pub config: Config,
-    /// From how many flags in a row on a lane finds the channel busy, 1 to 8.
-    pub dcd: u8,
+    /// By what a lane finds the channel busy.
+    pub dcd: Detection,
     /// Whether each frame that is heard or sent has a line in the report.
     pub monitor: bool,
     /// Whether all 23 lanes listen, and not only eight.

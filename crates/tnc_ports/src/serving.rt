@@ -1,8 +1,9 @@
 //! A live station from its first poll to the end of its input.
-ghost use Rattle.std.specs.Prelude.{◌≡◌, ℕ, List, [], ◌≤◌, Some, All, IfSome, IsNone, is_some};
+ghost use Rattle.std.specs.Prelude.{◌≡◌, ℕ, List, [], Some, All, IfSome, IsNone, is_some};
 ghost use Rattle.std.specs.Thread.{IsSync};
 ghost use Rattle.link_machine.specs.Params.{IsRefusedWindow};
 ghost use Rattle.sample_ring.specs.Ends.{ring_id, ring_len, reader_ring, writer_ring, published_by};
+ghost use Rattle.slicer_bank.specs.Detection.{CanBeAsked};
 ghost use Rattle.ring_receiver.specs.HeldReceiver.{readers_in, answers_in};
 ghost use Rattle.tnc_ports.specs.FreshReceiver.{IsFresh};
 ghost use Rattle.tnc_ports.specs.PumpRun.{InputSide, Pumps, input_by};
@@ -68,7 +69,7 @@ pub fn serve<
     live: &mut Live<N, W>,
 ) -> ServeEnd
     requires window { (window : ℕ) → ¬ IsRefusedWindow words.config.params window }
-    requires dcd { (1 ≤ words.dcd) × (words.dcd ≤ 8) }
+    requires dcd { CanBeAsked words.dcd }
     ensures { IsServed words result (input_by I.left I.faults input.old) (input_by I.left I.faults input.new)
         (outside_by N.listens N.polls N.sends N.sent N.is_shut N.faults O.written O.faults E.written E.faults
         live.old.ports output.old report.old)

@@ -71,7 +71,7 @@ impl Turning {
     ) -> Result<bool, OutOfMemory>
         requires stands { (live : Live) × StandsForLive self.old (ring_len ring.now) receiver.old live }
         requires readers { All (λ reader. reader_ring reader ≡ ring_id ring.now) (readers_in receiver.old) }
-        requires flags { receiver.old.flags ≡ self.old.words.dcd }
+        requires detection { receiver.old.detection ≡ self.old.words.dcd }
         ensures turned { (live : Live) → StandsForLive self.old (ring_len ring.now) receiver.old live
             → IfOk result (λ ended. Turns ended self.old self.new (ring_len ring.now) receiver.new live
             (stream_of O.written O.faults output.old) (stream_of O.written O.faults output.new)
@@ -86,7 +86,7 @@ impl Turning {
             (told_by N.polls N.sends N.sent N.is_shut N.faults ports.new)) }
         ensures words { self.new.words ≡ self.old.words }
         ensures readers { All (λ reader. reader_ring reader ≡ ring_id ring.now) (readers_in receiver.new) }
-        ensures flags { receiver.new.flags ≡ receiver.old.flags }
+        ensures detection { receiver.new.detection ≡ receiver.old.detection }
         ensures listens { N.listens ports.new ≡ N.listens ports.old }
         ensures later { N.faults ports.old ≤ N.faults ports.new }
     {
@@ -107,7 +107,7 @@ impl Turning {
     ) -> Result<bool, OutOfMemory>
         requires stands { (live : Live) × StandsForLive self.old (ring_len ring.now) receiver.old live }
         requires readers { All (λ reader. reader_ring reader ≡ ring_id ring.now) (readers_in receiver.old) }
-        requires flags { receiver.old.flags ≡ self.old.words.dcd }
+        requires detection { receiver.old.detection ≡ self.old.words.dcd }
         ensures made { (live : Live) → StandsForLive self.old (ring_len ring.now) receiver.old live
             → IfOk result (λ ended. Makes ended self.old self.new (ring_len ring.now) receiver.new live
             (stream_of O.written O.faults output.old) (stream_of O.written O.faults output.new)
@@ -118,7 +118,7 @@ impl Turning {
             (stream_of E.written E.faults report.old) (stream_of E.written E.faults report.new) told told) }
         ensures words { self.new.words ≡ self.old.words }
         ensures readers { All (λ reader. reader_ring reader ≡ ring_id ring.now) (readers_in receiver.new) }
-        ensures flags { receiver.new.flags ≡ receiver.old.flags }
+        ensures detection { receiver.new.detection ≡ receiver.old.detection }
     {
         let heard = self.read(rt, ring, receiver, report)?;
         self.hear_all(report, &heard.items)?;
@@ -148,7 +148,7 @@ impl Turning {
             × (self.new.ticks ≡ self.old.ticks) }
         ensures lengths { IfOk result (λ heard. All (λ item. HasFrameLength item.octets) heard.items.items) }
         ensures readers { All (λ reader. reader_ring reader ≡ ring_id ring.now) (readers_in receiver.new) }
-        ensures flags { receiver.new.flags ≡ receiver.old.flags }
+        ensures detection { receiver.new.detection ≡ receiver.old.detection }
     {
         let heard = receiver.advance(rt, ring, &OpenGate)?;
         let lines = gap_lines(self.alloc, &heard.gaps)?;

@@ -18,14 +18,14 @@ use crate::recording::RecordWords;
 use ring_receiver::RingReceiver;
 use ring_recorder::Recorder;
 use sample_ring::{Reader, Ring};
-use slicer_bank::OpenGate;
+use slicer_bank::{Detection, OpenGate};
 use std::alloc::Global;
 use std::thread::Threads;
 use tnc_base::{OutOfMemory, Sink};
 use tnc_ports::put;
 
-/// The flags in a row that make the channel busy. Nothing asks whether it is.
-const FLAGS: u8 = 1;
+/// By what the channel is busy. Nothing asks whether it is, so no tones are weighed.
+const DETECTION: Detection = Detection::Flags(1);
 
 /// What reads the ring, between two turns.
 #[derive(Drop)]
@@ -58,7 +58,7 @@ impl Listening {
             unreachable!()
         };
         Ok(Listening {
-            receiver: RingReceiver::new(alloc, readers, FLAGS, words.sensitive)?,
+            receiver: RingReceiver::new(alloc, readers, DETECTION, words.sensitive)?,
             recorder: Recorder::new(alloc, last, words.keep)?,
             over: false,
             failed: false,

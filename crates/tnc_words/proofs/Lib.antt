@@ -2,6 +2,7 @@ pub mod Common
 pub mod Found
 pub mod OneNumber
 pub mod OneLink
+pub mod OneCarrier
 pub mod CallLists
 pub mod AskedHelp
 pub mod OneCommand

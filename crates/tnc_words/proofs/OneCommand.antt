@@ -23,6 +23,7 @@ use Rattle.tnc_words.specs.declared.command.CallOptions.{CallOptions}
 use Rattle.tnc_words.specs.Commands.{IsServe, IsCall}
 use Rattle.tnc_words.proofs.AskedHelp.{help_alone, help_is_no_version, one_topic, version_alone}
 use Rattle.tnc_words.proofs.CallLists.{one_given_call, one_repeaters}
+use Rattle.tnc_words.proofs.OneCarrier.{one_dcd}
 use Rattle.tnc_words.proofs.OneLink.{one_call as one_digi, one_params}
 use Rattle.tnc_words.proofs.OneNumber.{given_number, one_number}
 
@@ -145,7 +146,7 @@ one_serve_options found serve other h k =
     ∙ ap (λ v. record serve { kiss = kiss; agw = agw; seed = seed; params = params; digi = v })
     (one_digi _ serve.digi other.digi h.digi k.digi)
     ∙ ap (λ v. record serve { kiss = kiss; agw = agw; seed = seed; params = params; digi = digi; dcd = v })
-    (one_number _ _ _ _ _ _ h.dcd k.dcd)
+    (one_dcd _ serve.dcd other.dcd h.dcd k.dcd)
     ∙ ap (λ v. record serve {
       kiss = kiss;
       agw = agw;

@@ -20,6 +20,7 @@ use Rattle.tnc_words.specs.Help.{IsHelp, IsVersion}
 use Rattle.tnc_words.specs.Forms.{audio_form, frame_form, modem}
 use Rattle.tnc_words.specs.Rates.{HasReceiving}
 use Rattle.tnc_words.specs.Links.{HasCall, HasParams}
+use Rattle.tnc_words.specs.Carriers.{HasDcd}
 use Rattle.tnc_words.specs.Numbers.{GivesNumber, HasNumber}
 use Rattle.tnc_words.specs.Stations.{GivesCall, HasRepeaters}
 
@@ -96,15 +97,15 @@ pub record IsBench (words : List Text) (bench : BenchOptions) : Type 0 where
   pub taken : bench_faults words ≡ []
   pub options : HasBenchOptions (bench_rows words) bench
 
--- The options of serve. Its ports have no default. If no other number was given, the seed is 1, and a channel is busy
--- from the third flag in a row on.
+-- The options of serve. Its ports have no default. If no other was given, the seed is 1, and a channel is busy by the
+-- tones of another station.
 pub record HasServeOptions (found : List Row) (serve : ServeOptions) : Type 0 where
   pub kiss : GivesNumber (first_of (codes "kiss") found) 1 65535 serve.kiss
   pub agw : GivesNumber (first_of (codes "agw") found) 1 65535 serve.agw
   pub seed : HasNumber (first_of (codes "seed") found) 1 0 (2 ^ 64 - 1) serve.seed
   pub params : HasParams found serve.params
   pub digi : HasCall (first_of (codes "digi") found) serve.digi
-  pub dcd : HasNumber (first_of (codes "dcd") found) 3 1 8 serve.dcd
+  pub dcd : HasDcd (first_of (codes "dcd") found) serve.dcd
   pub sensitive : serve.sensitive ≡ is_used (codes "sensitive") found
   pub monitor : serve.monitor ≡ is_used (codes "monitor") found
 

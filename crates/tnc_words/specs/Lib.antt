@@ -4,6 +4,7 @@ pub mod Numbers
 pub mod Forms
 pub mod Help
 pub mod Links
+pub mod Carriers
 pub mod Rates
 pub mod Stations
 pub mod Commands

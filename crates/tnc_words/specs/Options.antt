@@ -71,14 +71,14 @@ with_window app = with_rule (with_rule app (option_rule (codes "mode"))) (option
 abbrev pub with_wide_window : App → App
 with_wide_window app = with_rule (with_rule app (flag_rule (codes "wide"))) (option_rule (codes "wide-window"))
 
--- [--digi call] [--dcd n] [--sensitive] [--monitor]
+-- [--digi call] [--dcd how] [--sensitive] [--monitor]
 abbrev pub with_station : App → App
 with_station app = with_rule (with_rule (with_rule (with_rule app
     (option_rule (codes "digi"))) (option_rule (codes "dcd"))) (flag_rule (codes "sensitive")))
     (flag_rule (codes "monitor"))
 
 -- serve --kiss n --agw n [--seed n] [--mode rej or srej] [--window n] [--wide] [--wide-window n] [--digi call]
--- [--dcd n] [--sensitive] [--monitor]
+-- [--dcd how] [--sensitive] [--monitor]
 abbrev pub serve_app : App
 serve_app = with_station (with_wide_window
     (with_window (with_rule (with_ports (new_app (codes "serve"))) (option_rule (codes "seed")))))

@@ -148,6 +148,15 @@ pub struct BenchOptions {
     pub wide: bool,
 }
 
+/// By what `serve` takes the channel as busy.
+#[derive(Clone, Copy, Debug, PartialEq, Eq)]
+pub enum Dcd {
+    /// The tones of another station.
+    Tones,
+    /// So many flags in a row, 1 to 8.
+    Flags(u8),
+}
+
 /// The options of `serve`.
 #[derive(Clone, Copy, Debug, PartialEq, Eq)]
 pub struct ServeOptions {
@@ -161,8 +170,8 @@ pub struct ServeOptions {
     pub params: Params,
     /// The call for which frames are repeated, if any are.
     pub digi: Option<Call>,
-    /// From how many flags in a row on the channel is busy, 1 to 8.
-    pub dcd: u8,
+    /// By what the channel is busy.
+    pub dcd: Dcd,
     /// More lanes hear, which take weaker and less exact signals.
     pub sensitive: bool,
     /// Each frame that is heard or sent is reported in a line.

@@ -28,8 +28,8 @@ mod texts;
 mod topic;
 
 pub use command::{
-    AudioForm, BenchOptions, CallOptions, Command, DecodeWords, EncodeWords, FrameForm, LoopWords,
-    Modem, Receiving, RecordOptions, SampleRate, ServeOptions, ShowWords,
+    AudioForm, BenchOptions, CallOptions, Command, Dcd, DecodeWords, EncodeWords, FrameForm,
+    LoopWords, Modem, Receiving, RecordOptions, SampleRate, ServeOptions, ShowWords,
 };
 pub use fault::WordsFault;
 pub use laws::one_command;

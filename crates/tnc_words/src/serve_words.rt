@@ -1,13 +1,15 @@
 //! `serve` and its options.
-ghost use Rattle.std.specs.Prelude.{◌≡◌, Some, IfOk, IfSome, IsErrOf, IsNone, codes, map, string_bytes};
+ghost use Rattle.std.specs.Prelude.{◌≡◌, Some, IfOk, IfSome, IsErrOf, IsNone, codes, map, option_map, string_bytes};
 ghost use Rattle.clap.specs.Words.{found_of, rows_of};
+ghost use Rattle.tnc_words.specs.declared.command.Dcd.{Dcd};
 ghost use Rattle.tnc_words.specs.declared.command.ServeOptions.{ServeOptions};
+ghost use Rattle.tnc_words.specs.Carriers.{HasDcd};
 ghost use Rattle.tnc_words.specs.Commands.{HasServeOptions, IsServe, first_word};
 
-use crate::command::ServeOptions;
+use crate::command::{Dcd, ServeOptions};
 use crate::fault::WordsFault;
 use crate::link_words::{call_said, link_params};
-use crate::number::{Bounds, number_found, number_given};
+use crate::number::{Bounds, number_found, number_given, number_within};
 use crate::options::SERVE;
 use crate::parsing::{has_flag, parsed, text_of};
 use clap::ArgMatches;
@@ -56,8 +58,22 @@ fn serve_options(found: &ArgMatches) -> Option<ServeOptions>
         seed: number_found(found, "seed", 1, SEED)?,
         params: link_params(found)?,
         digi: call_said(text_of(found, "digi"))?,
-        dcd: number_found(found, "dcd", 3, FLAGS)? as u8,
+        dcd: dcd(text_of(found, "dcd"))?,
         sensitive: has_flag(found, "sensitive"),
         monitor: has_flag(found, "monitor"),
     })
+}
+
+/// By what the channel is busy, as a text says, or by tones if there is no text.
+fn dcd(text: Option<&str>) -> Option<Dcd>
+    ensures dcd { IfSome result (HasDcd (option_map (λ t. t.now) text.entry)) }
+    ensures none { IsNone result → (dcd : Dcd) → ¬ HasDcd (option_map (λ t. t.now) text.entry) dcd }
+{
+    let Some(text) = text else {
+        return Some(Dcd::Tones);
+    };
+    if text == "tones" {
+        return Some(Dcd::Tones);
+    }
+    Some(Dcd::Flags(number_within(text, FLAGS)? as u8))
 }

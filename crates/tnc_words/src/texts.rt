@@ -19,7 +19,7 @@ A software terminal node controller for packet radio: AX.25 over the tones of Be
   tnc loop --seed n --frames n [--rough] [--threads]
   tnc bench --seed n [--octets n] [--loss n] [--noise n] [--full] [--wide]
   tnc serve --kiss n --agw n [--seed n] [--mode name] [--window n] [--wide]
-            [--wide-window n] [--digi call] [--dcd n] [--sensitive] [--monitor]
+            [--wide-window n] [--digi call] [--dcd how] [--sensitive] [--monitor]
   tnc record [--keep n] [--sensitive]
   tnc call --agw n --from call --to call [--via calls] [--expect n] [--polls n]
   tnc help [COMMAND]
@@ -100,7 +100,7 @@ Runs two stations that are joined by sound, whose hosts give each other a text, 
 
 const SERVE: &str = "\
 Usage: tnc serve --kiss n --agw n [--seed n] [--mode name] [--window n] [--wide]
-                 [--wide-window n] [--digi call] [--dcd n] [--sensitive] [--monitor]
+                 [--wide-window n] [--digi call] [--dcd how] [--sensitive] [--monitor]
 
 Runs a station until its sound ends: it hears standard input, sends standard output, and serves host programs
 on 127.0.0.1.
@@ -113,7 +113,7 @@ on 127.0.0.1.
   --wide           links are called modulo 128
   --wide-window n  frames that a link sends ahead, modulo 128, 1 to 127 (32)
   --digi call      repeats frames for this call
-  --dcd n          flags in a row from which on the channel is busy, 1 to 8 (3)
+  --dcd how        by what the channel is busy: tones, or so many flags in a row, 1 to 8 (tones)
   --sensitive      hears in more noise and where the sender's clock is off, and takes longer
   --monitor        tells each frame that is heard or sent on standard error
 ";

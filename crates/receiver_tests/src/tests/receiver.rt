@@ -9,7 +9,7 @@ use crate::tests::publishing::publish;
 use crate::tests::worked_signal::transmission;
 use ring_receiver::{Heard, RingReceiver, readers_wanted};
 use sample_ring::{Ring, RingFault, Writer};
-use slicer_bank::OpenGate;
+use slicer_bank::{Detection, OpenGate};
 use std::alloc::Global;
 use std::marker::Model;
 use std::process::Abort;
@@ -44,7 +44,7 @@ impl ReceiverOnRing {
     /// A ring of so many cells.
     fn new(alloc: Global, len: u32, sensitive: bool) -> Result<ReceiverOnRing, RingFault> {
         let (ring, writer, readers) = Ring::new(alloc, len, readers_wanted(sensitive))?;
-        let Ok(receiver) = RingReceiver::new(alloc, readers, 1, sensitive) else {
+        let Ok(receiver) = RingReceiver::new(alloc, readers, Detection::Flags(1), sensitive) else {
             return Err(RingFault::Memory);
         };
         Ok(ReceiverOnRing {

@@ -3,6 +3,7 @@
 
 ghost use Rattle.std.specs.Prelude.{◌<◌, ◌≤◌, IfOk};
 ghost use Rattle.std.specs.List.{All};
+ghost use Rattle.slicer_bank.specs.Detection.{CanBeAsked};
 ghost use Rattle.slicer_bank.specs.Merging.{CanBePut};
 
 use crate::tests::assertions::assert_equal;
@@ -11,14 +12,16 @@ use crate::tests::places::note;
 use crate::tests::publishing::{publish, publish_silence};
 use crate::tests::worked_signal::transmission;
 use frame_merge::{Candidate, Merger};
+use nrzi_bits::NrziOut;
 use sample_ring::{Ring, RingFault, Writer};
-use slicer_bank::{Advance, Gate, LaneGap, OpenGate, RingBank, merge_advance};
+use slicer_bank::{Advance, Detection, Gate, LaneGap, OpenGate, RingBank, merge_advance};
 use std::alloc::Global;
 use std::marker::Model;
 use std::process::Abort;
 use std::test::Fail;
 use std::thread::Threads;
 use tnc_base::OutOfMemory;
+use tone_table::{sine, step};
 
 /// The offsets of a bit, each with a lane of its own.
 const OFFSETS: u8 = 8;
@@ -54,6 +57,28 @@ impl BankOnRing {
             return Err(RingFault::Memory);
         };
         Ok(BankOnRing { ring, writer, bank })
+    }
+
+    /// The same, with a bank that hears other stations as it is asked to.
+    fn listening(alloc: Global, len: u32, detection: Detection) -> Result<BankOnRing, RingFault>
+        requires { CanBeAsked detection }
+    {
+        let (ring, writer, readers) = Ring::new(alloc, len, OFFSETS)?;
+        let Ok(bank) = RingBank::listening(alloc, readers, detection) else {
+            return Err(RingFault::Memory);
+        };
+        Ok(BankOnRing { ring, writer, bank })
+    }
+
+    /// Whether the bank is busy after samples.
+    fn busy_after<R: Abort + Threads + Sync>(
+        &mut self,
+        rt: &R,
+        samples: &[i16],
+    ) -> Result<bool, OutOfMemory> {
+        self.publish(rt, samples);
+        self.turn(rt, &OpenGate)?;
+        Ok(self.busy())
     }
 
     fn publish<R: Abort>(&mut self, rt: &R, samples: &[i16]) {
@@ -272,5 +297,60 @@ fn a_frame_with_a_gap_in_it_is_not_heard(rt: HostRuntime) -> Result<(), Fail> {
     bank.publish(&rt, &samples);
     let advance = bank.turn(&rt, &OpenGate)?;
     assert_hears_nothing(&rt, advance, 1296, 8 * 16, false);
+    Ok(())
+}
+
+/// The samples of 60 bits 0, and then silence.
+fn zeros_and_silence() -> [i16; 840] {
+    let mut samples = [0; 840];
+    let mut line = NrziOut::new();
+    let mut phase = 0;
+    for bit in 0..60usize {
+        let tone = line.step(false);
+        for at in 0..8usize {
+            phase %= 48;
+            samples[8 * bit + at] = sine(phase);
+            phase += step(tone) % 48;
+        }
+    }
+    samples
+}
+
+/// A bank that listens for tones is busy with the 104th sample of them, and free 360 samples after the last. One that
+/// listens for flags is never busy, since there is none.
+#[test]
+fn a_bank_is_busy_by_tones(rt: HostRuntime) -> Result<(), Fail> {
+    let sent = zeros_and_silence();
+    let pieces: [(&[i16], bool); 4] = [
+        (&sent[..103], false),
+        (&sent[103..104], true),
+        (&sent[104..839], true),
+        (&sent[839..], false),
+    ];
+    for (detection, listens) in [(Detection::Tones, true), (Detection::Flags(1), false)] {
+        let mut bank = BankOnRing::listening(rt.alloc(), 1024, detection)?;
+        for (piece, busy) in pieces {
+            let got = bank.busy_after(&rt, piece)?;
+            assert_equal(&rt, &(piece.len(), got), &(piece.len(), busy && listens));
+        }
+    }
+    Ok(())
+}
+
+/// A gap ends it, also where tones go on, and they are found anew after it.
+#[test]
+fn a_gap_ends_tones(rt: HostRuntime) -> Result<(), Fail> {
+    let sent = zeros_and_silence();
+    let pieces: [(&[i16], bool); 4] = [
+        (&sent[..64], false),
+        (&sent[64..128], true),
+        (&sent[128..320], false),
+        (&sent[320..384], true),
+    ];
+    let mut bank = BankOnRing::listening(rt.alloc(), 64, Detection::Tones)?;
+    for (piece, busy) in pieces {
+        let got = bank.busy_after(&rt, piece)?;
+        assert_equal(&rt, &(piece.len(), got), &(piece.len(), busy));
+    }
     Ok(())
 }

@@ -1,6 +1,8 @@
 //! Windows whose correlations, energies and tones a second program computed, and where slicers end windows.
 use crate::tests::assertions::assert_equal;
-use offset_slicers::{Slicer, correlate, decide, energies, near_windows, pure_windows};
+use offset_slicers::{
+    Decision, SlicedBit, Slicer, correlate, decide, energies, near_windows, pure_windows,
+};
 use std::process::Abort;
 use tone_table::Tone;
 
@@ -112,4 +114,31 @@ fn after_a_skip_the_first_window_of_the_offset_is_heard_from_mark(rt: HostRuntim
     skip(&rt, 3, 20, 27, 0);
     skip(&rt, 7, 25, 40, 7);
     skip(&rt, 5, 8, 98, 3);
+}
+
+/// The sums of the tone that each of three windows in a row is decided as, and their bits.
+#[test]
+fn a_bit_comes_with_its_window_and_the_sums_of_its_tone(rt: HostRuntime) {
+    let mut slicer = Slicer::new(0);
+    let windows = [
+        (SPACE, false, Tone::Space, 365355402, 26603274),
+        (QUIET_SPACE, true, Tone::Space, 344116, 24293),
+        (MARK_ON, false, Tone::Mark, -199998082, -346397074),
+    ];
+    for (window, bit, tone, sine, cosine) in windows {
+        let decision = Decision { tone, sine, cosine };
+        assert_equal(&rt, &Decision::of(&window), &decision);
+        let mut last = None;
+        for sample in window {
+            assert!(rt; slicer.position() < 1000);
+            assert_equal(&rt, &last, &None);
+            last = slicer.slice(sample);
+        }
+        let sliced = SlicedBit {
+            bit,
+            window,
+            decision,
+        };
+        assert_equal(&rt, &last, &Some(sliced));
+    }
 }

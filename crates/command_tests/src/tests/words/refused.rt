@@ -142,6 +142,8 @@ x
 --dcd 0
 --dcd 9
 --dcd x
+--dcd Tones
+--dcd tone
 --monitor=1
 --threads
 --sensitive=true

@@ -4,7 +4,7 @@ use ax25_address::Call;
 use link_machine::Params;
 use selective_reject::Mode;
 use std::test::Fail;
-use tnc_words::{Command, ServeOptions};
+use tnc_words::{Command, Dcd, ServeOptions};
 
 /// The words that `serve` needs.
 const LEAST: &str = "serve --kiss 8001 --agw=8000";
@@ -23,7 +23,7 @@ const SERVE: ServeOptions = ServeOptions {
     seed: 1,
     params: PARAMS,
     digi: None,
-    dcd: 3,
+    dcd: Dcd::Tones,
     sensitive: false,
     monitor: false,
 };
@@ -108,16 +108,36 @@ fn serve_takes_what_its_station_does(rt: HostRuntime) -> Result<(), Fail> {
         ),
         ("--digi N7LEM-1", digi),
         ("--digi=n7lem-1", digi),
-        ("--dcd 1", ServeOptions { dcd: 1, ..SERVE }),
-        ("--dcd=8", ServeOptions { dcd: 8, ..SERVE }),
-        ("--dcd 003", SERVE),
+        (
+            "--dcd 1",
+            ServeOptions {
+                dcd: Dcd::Flags(1),
+                ..SERVE
+            },
+        ),
+        (
+            "--dcd=8",
+            ServeOptions {
+                dcd: Dcd::Flags(8),
+                ..SERVE
+            },
+        ),
+        (
+            "--dcd 003",
+            ServeOptions {
+                dcd: Dcd::Flags(3),
+                ..SERVE
+            },
+        ),
+        ("--dcd tones", SERVE),
+        ("--dcd=tones", SERVE),
         ("--sensitive", sensitive),
         ("--monitor", monitor),
         (
             "--monitor --seed 7 --sensitive --dcd 2",
             ServeOptions {
                 seed: 7,
-                dcd: 2,
+                dcd: Dcd::Flags(2),
                 monitor: true,
                 ..sensitive
             },

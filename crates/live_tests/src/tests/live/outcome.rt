@@ -1,8 +1,10 @@
 //! What a live station over streams in memory writes of an input.
 ghost use Rattle.std.specs.Prelude.{◌≤◌, ℕ};
 ghost use Rattle.link_machine.specs.Params.{IsRefusedWindow};
+ghost use Rattle.slicer_bank.specs.Detection.{CanBeAsked};
 
 use link_machine::Params;
+use slicer_bank::Detection;
 use station::Config;
 use std::alloc::Global;
 use std::marker::Model;
@@ -14,7 +16,7 @@ use tnc_ports::{Live, MemPorts, ServeEnd, ServeWords, Spawner, serve};
 
 pub(super) fn words(monitor: bool, sensitive: bool) -> ServeWords
     ensures window { (window : ℕ) → ¬ IsRefusedWindow result.config.params window }
-    ensures dcd { (1 ≤ result.dcd) × (result.dcd ≤ 8) }
+    ensures dcd { CanBeAsked result.dcd }
 {
     ServeWords {
         kiss: 8001,
@@ -24,7 +26,7 @@ pub(super) fn words(monitor: bool, sensitive: bool) -> ServeWords
             params: Params::default(),
             digi: None,
         },
-        dcd: 1,
+        dcd: Detection::Tones,
         monitor,
         sensitive,
     }

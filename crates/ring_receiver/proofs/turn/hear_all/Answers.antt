@@ -12,21 +12,21 @@ returns-in_err-advance-clause-stay g c =
     all_stay (ring_id c.args.ring.now) c.args.bank.now c.advance.new.self c.args.added.now c.args.added.now
     c.args.merger.now c.args.merger.now [] c.requires.eight c.advance.ensures.eight c.advance.ensures.ring
     c.requires.ring c.advance.ensures.grown (sym (append-nil (reads_of c.args.added.now.reader)))
-    c.advance.ensures.flags
+    c.advance.ensures.detection
 
 pub returns-in_err-turn-clause-stay : goal.returns-in_err-turn-clause-stay
 returns-in_err-turn-clause-stay g c =
     all_stay (ring_id c.args.ring.now) c.args.bank.now c.advance.new.self c.args.added.now c.advance-2.new.self
     c.args.merger.now c.args.merger.now c.advance-2.ensures.grown.0 c.requires.eight c.advance.ensures.eight
     c.advance.ensures.ring (c.advance-2.ensures.ring ∙ c.requires.ring) c.advance.ensures.grown
-    c.advance-2.ensures.grown.1 c.advance.ensures.flags
+    c.advance-2.ensures.grown.1 c.advance.ensures.detection
 
 pub returns-in_err-append-clause-stay : goal.returns-in_err-append-clause-stay
 returns-in_err-append-clause-stay g c =
     all_stay (ring_id c.args.ring.now) c.args.bank.now c.advance.new.self c.args.added.now c.advance-2.new.self
     c.args.merger.now c.args.merger.now c.advance-2.ensures.grown.0 c.requires.eight c.advance.ensures.eight
     c.advance.ensures.ring (c.advance-2.ensures.ring ∙ c.requires.ring) c.advance.ensures.grown
-    c.advance-2.ensures.grown.1 c.advance.ensures.flags
+    c.advance-2.ensures.grown.1 c.advance.ensures.detection
 
 pub merge_all-requires-clause-position : goal.merge_all-requires-clause-position
 merge_all-requires-clause-position g c = λ lane low most.
@@ -41,14 +41,14 @@ returns-in_err-items-clause-stay g c =
     all_stay (ring_id c.args.ring.now) c.args.bank.now c.advance.new.self c.args.added.now c.advance-2.new.self
     c.args.merger.now c.merge_all.new.merger c.advance-2.ensures.grown.0 c.requires.eight c.advance.ensures.eight
     c.advance.ensures.ring (c.advance-2.ensures.ring ∙ c.requires.ring) c.advance.ensures.grown
-    c.advance-2.ensures.grown.1 c.advance.ensures.flags
+    c.advance-2.ensures.grown.1 c.advance.ensures.detection
 
 pub returns-clause-stay : goal.returns-clause-stay
 returns-clause-stay g c =
     all_stay (ring_id c.args.ring.now) c.args.bank.now c.advance.new.self c.args.added.now c.advance-2.new.self
     c.args.merger.now c.merge_all.new.merger c.advance-2.ensures.grown.0 c.requires.eight c.advance.ensures.eight
     c.advance.ensures.ring (c.advance-2.ensures.ring ∙ c.requires.ring) c.advance.ensures.grown
-    c.advance-2.ensures.grown.1 c.advance.ensures.flags
+    c.advance-2.ensures.grown.1 c.advance.ensures.detection
 
 pub returns-clause-made : goal.returns-clause-made
 returns-clause-made g c =

@@ -13,17 +13,17 @@ returns-clause-made g c =
 pub returns-in_err-advance-clause-stay : goal.returns-in_err-advance-clause-stay
 returns-in_err-advance-clause-stay g c =
     eight_stay (ring_id c.args.ring.now) c.args.bank.now c.advance.new.self c.args.merger.now c.args.merger.now
-    c.advance.ensures.eight c.advance.ensures.ring c.advance.ensures.grown c.advance.ensures.flags
+    c.advance.ensures.eight c.advance.ensures.ring c.advance.ensures.grown c.advance.ensures.detection
 
 pub returns-in_err-items-clause-stay : goal.returns-in_err-items-clause-stay
 returns-in_err-items-clause-stay g c =
     eight_stay (ring_id c.args.ring.now) c.args.bank.now c.advance.new.self c.args.merger.now c.merge_advance.new.merger
-    c.advance.ensures.eight c.advance.ensures.ring c.advance.ensures.grown c.advance.ensures.flags
+    c.advance.ensures.eight c.advance.ensures.ring c.advance.ensures.grown c.advance.ensures.detection
 
 pub returns-clause-stay : goal.returns-clause-stay
 returns-clause-stay g c =
     eight_stay (ring_id c.args.ring.now) c.args.bank.now c.advance.new.self c.args.merger.now c.merge_advance.new.merger
-    c.advance.ensures.eight c.advance.ensures.ring c.advance.ensures.grown c.advance.ensures.flags
+    c.advance.ensures.eight c.advance.ensures.ring c.advance.ensures.grown c.advance.ensures.detection
 
 pub returns-in_err-advance-clause-made : goal.returns-in_err-advance-clause-made
 returns-in_err-advance-clause-made g c = none_made _ c.from_residual.result _ c.from_residual.ensures.1

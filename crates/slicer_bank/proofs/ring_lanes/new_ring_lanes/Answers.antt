@@ -9,7 +9,7 @@ loop-offset-preserved c =
     let within : c.loop-offset.offset < length c.args.readers.now.items = let l = c.loop-offset-test.true in
     omega arith in (
       have_more c.args.readers.now.items c.loop-offset.readers.items c.remove.new.self.items c.loop-offset.lanes.items
-          c.push.new.self.items c.args.flags c.loop-offset.offset c.remove.result c.new.result
+          c.push.new.self.items c.args.detection c.loop-offset.offset c.remove.result c.new.result
           c.loop-offset.invariant.0 within c.remove.ensures.value c.remove.ensures.by_index.2 c.new.ensures.reader
           c.new.ensures.listens c.new.ensures.taken c.in_ok-push.ensures.items,
       c.remove.ensures.capacity ∙ c.loop-offset.invariant.1,
@@ -21,8 +21,8 @@ returns-clause-listen c = λ len lane d l. c.loop-offset.invariant.0.listen lane
 
 pub loop-offset-init : goal.loop-offset-init
 loop-offset-init c = (
-  subst (λ (ls : List RingLane). HaveLanes c.args.readers.now.items c.args.readers.now.items ls c.args.flags 0)
-      (sym c.in_ok-lanes.ensures.items) (have_none c.args.readers.now.items c.args.flags),
+  subst (λ (ls : List RingLane). HaveLanes c.args.readers.now.items c.args.readers.now.items ls c.args.detection 0)
+      (sym c.in_ok-lanes.ensures.items) (have_none c.args.readers.now.items c.args.detection),
   refl,
 )
 

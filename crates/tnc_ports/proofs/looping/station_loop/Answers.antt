@@ -13,7 +13,7 @@ turns-init g c = (
       refl refl c.requires.fresh.sensitive c.requires.fresh.new c.requires.fresh.hears)
       refl refl,
   c.requires.fresh.readers,
-  c.requires.fresh.flags,
+  c.requires.fresh.detection,
 )
 
 pub turns-preserved : goal.turns-preserved
@@ -25,7 +25,7 @@ turns-preserved g c = (
       c.in-Ok-false.field-0-test (c.in-Ok-false.ensures.turned c.turns.invariant.0.live c.turns.invariant.0.stands))
       c.in-Ok-false.ensures.words c.in-Ok-false.ensures.listens c.in-Ok-false.ensures.later,
   c.in-Ok-false.ensures.readers,
-  c.in-Ok-false.ensures.flags ∙ c.turns.invariant.2,
+  c.in-Ok-false.ensures.detection ∙ c.turns.invariant.2,
 )
 
 pub returns-in-Ok-true-clause-looped : goal.returns-in-Ok-true-clause-looped

@@ -11,4 +11,4 @@ invariant-turns g l =
     (outside_by g.N.Ports.listens g.N.Ports.polls g.N.Ports.sends g.N.Ports.sent g.N.Ports.is_shut g.N.Ports.faults
     g.O.Sink.written g.O.Sink.faults g.E.Sink.written g.E.Sink.faults l.ports l.output l.report)
     × All (λ reader. reader_ring reader ≡ ring_id l.ring) (readers_in l.receiver)
-    × (l.receiver.flags ≡ l.words.dcd)
+    × (l.receiver.detection ≡ l.words.dcd)

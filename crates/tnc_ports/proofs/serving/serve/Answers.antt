@@ -45,7 +45,7 @@ run_beside-requires-clause-fresh g c = λ κs within. record {
       c.in-Ok.ensures.readers.1);
   new = c.in-Ok-new.ensures.nothing (ring_len c.in-Ok.ring);
   hears = c.in-Ok-new.ensures.hears (ring_len c.in-Ok.ring);
-  flags = c.in-Ok-new.ensures.flags;
+  detection = c.in-Ok-new.ensures.detection;
   sensitive = c.in-Ok-new.ensures.sensitive;
 }
 

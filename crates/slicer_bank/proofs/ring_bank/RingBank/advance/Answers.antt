@@ -83,11 +83,11 @@ returns-in-Ok-clause-listens g c =
     lent_back c.self.inside.lanes.len new c.self.inside.lanes.items
     (sym (c.make_turn.auto.lanes ∙ c.deref_mut.ensures.len)) in
     let P : HeldRingBank → List RingLane → Type 0 = λ old lanes. Listens len old
-    → Listens len record { lanes = lanes; flags = c.self.inside.flags; spent = c.self.inside.spent } in
+    → Listens len record { lanes = lanes; detection = c.self.inside.detection; spent = c.self.inside.spent } in
     subst (P c.args.self.now) (sym back) (subst (λ (old : HeldRingBank). P old new) c.self.view_is (λ h. record {
       spent = h.spent;
-      lanes = c.in-Ok.ensures.listen c.self.inside.flags
-          (subst (LanesListen len c.self.inside.flags) (sym c.deref_mut.ensures.value) h.lanes);
+      lanes = c.in-Ok.ensures.listen c.self.inside.detection
+          (subst (LanesListen len c.self.inside.detection) (sym c.deref_mut.ensures.value) h.lanes);
     }))
 
 pub returns-in-Ok-clause-heard : goal.returns-in-Ok-clause-heard
@@ -101,10 +101,10 @@ returns-in-Ok-clause-heard g c =
     = λ old lanes. Listens len old → BringsOnRing (answers_by len old.lanes) (answers_by len lanes)
     c.in-Ok.advance.positions c.in-Ok.advance.candidates.items in
     subst (P c.args.self.now) (sym back) (subst (λ (old : HeldRingBank). P old new) c.self.view_is (λ h.
-    let Q : List RingLane → Type 0 = λ old. LanesListen len c.self.inside.flags old
+    let Q : List RingLane → Type 0 = λ old. LanesListen len c.self.inside.detection old
     → BringsOnRing (answers_by len old) (answers_by len new)
     c.in-Ok.advance.positions c.in-Ok.advance.candidates.items in
-    subst Q c.deref_mut.ensures.value (c.in-Ok.ensures.heard c.self.inside.flags) h.lanes))
+    subst Q c.deref_mut.ensures.value (c.in-Ok.ensures.heard c.self.inside.detection) h.lanes))
 
 pub returns-in-Ok-clause-forward : goal.returns-in-Ok-clause-forward
 returns-in-Ok-clause-forward g c =
@@ -148,8 +148,8 @@ returns-then-self-clause-ring g c = c.requires
 pub returns-then-self-clause-grown : goal.returns-then-self-clause-grown
 returns-then-self-clause-grown g c = λ lane d l. ([], sym (append-nil _))
 
-pub returns-then-self-clause-flags : goal.returns-then-self-clause-flags
-returns-then-self-clause-flags g c = refl
+pub returns-then-self-clause-detection : goal.returns-then-self-clause-detection
+returns-then-self-clause-detection g c = refl
 
 pub returns-then-self-clause-fails : goal.returns-then-self-clause-fails
 returns-then-self-clause-fails g c = λ e. refl
@@ -205,14 +205,14 @@ returns-in-Ok-clause-past g c =
     subst (λ (ls : List RingLane). ArePast (map position_of (readers_of ls)) c.in-Ok.advance.candidates.items) same
     c.in-Ok.ensures.past
 
-pub returns-in-Ok-clause-flags : goal.returns-in-Ok-clause-flags
-returns-in-Ok-clause-flags g c = ap (λ (v : HeldRingBank). v.flags) c.self.view_is
+pub returns-in-Ok-clause-detection : goal.returns-in-Ok-clause-detection
+returns-in-Ok-clause-detection g c = ap (λ (v : HeldRingBank). v.detection) c.self.view_is
 
 pub returns-in-Ok-clause-fails : goal.returns-in-Ok-clause-fails
 returns-in-Ok-clause-fails g c = λ e. sym c.if-self.false ∙ ap (λ (v : HeldRingBank). v.spent) c.self.view_is ∙ e
 
-pub returns-in-Err-clause-flags : goal.returns-in-Err-clause-flags
-returns-in-Err-clause-flags g c = ap (λ (v : HeldRingBank). v.flags) c.self.view_is
+pub returns-in-Err-clause-detection : goal.returns-in-Err-clause-detection
+returns-in-Err-clause-detection g c = ap (λ (v : HeldRingBank). v.detection) c.self.view_is
 
 pub returns-in-Err-clause-fails : goal.returns-in-Err-clause-fails
 returns-in-Err-clause-fails g c = λ e. refl

@@ -32,7 +32,7 @@ returns-in_err-tick_up_to-clause-cut g c = λ live stands.
     stands (c.in_ok-heard.ensures.reads live stands)
     (λ hosts keeps. hears_same c.deref.result.now c.in_ok-heard.heard.items.items c.read.new.self c.hear_all.new.self
     hosts _ _ c.deref.ensures.value (c.in_ok-hear_all.ensures.heard hosts keeps))
-    c.in_err-tick_up_to.ensures.cut c.busy.ensures (c.in_ok-heard.ensures.flags ∙ c.requires.flags)
+    c.in_err-tick_up_to.ensures.cut c.busy.ensures (c.in_ok-heard.ensures.detection ∙ c.requires.detection)
     c.in_ok-heard.ensures.rest.0 c.in_ok-hear_all.ensures.rest.0 c.in_ok-heard.ensures.rest.2
     c.in_ok-hear_all.ensures.rest.1)
 
@@ -46,6 +46,6 @@ returns-clause-made g c = λ live stands.
     stands (c.in_ok-heard.ensures.reads live stands)
     (λ hosts keeps. hears_same c.deref.result.now c.in_ok-heard.heard.items.items c.read.new.self c.hear_all.new.self
     hosts _ _ c.deref.ensures.value (c.in_ok-hear_all.ensures.heard hosts keeps))
-    c.in_ok-tick_up_to.ensures.ticked c.busy.ensures (c.in_ok-heard.ensures.flags ∙ c.requires.flags)
+    c.in_ok-tick_up_to.ensures.ticked c.busy.ensures (c.in_ok-heard.ensures.detection ∙ c.requires.detection)
     c.in_ok-heard.ensures.rest.0 c.in_ok-hear_all.ensures.rest.0 c.in_ok-heard.ensures.rest.2
     c.in_ok-hear_all.ensures.rest.1

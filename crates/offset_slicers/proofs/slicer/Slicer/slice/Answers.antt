@@ -5,8 +5,10 @@ use Rattle.std.proofs.Common.{◌↔◌, IsSome, Option, Some, None}
 use Rattle.std.proofs.lemmas.Bool.{false≢true}
 use Rattle.offset_slicers.specs.Held.{Held}
 use Rattle.offset_slicers.proofs.SlicerLemmas.{bits-push_none, bits-push_one, stands_before, stands_within, stands_last}
+use Rattle.offset_slicers.specs.Windows.{next_window}
 use Rattle.offset_slicers.proofs.SlicerLemmas.{tones_last, early_windows, same_windows, no_window, window_ends}
-use Rattle.offset_slicers.proofs.slicer.Slicer.push.Goals as goal
+use Rattle.offset_slicers.proofs.SlicerLemmas.{window_next}
+use Rattle.offset_slicers.proofs.slicer.Slicer.slice.Goals as goal
 
 pub returns-then-at-self-clause-stands_for : goal.returns-then-at-self-clause-stands_for
 returns-then-at-self-clause-stands_for c = λ begin x h.
@@ -34,7 +36,7 @@ returns-clause-stands_for c = λ begin x h.
     let stood = subst P (sym c.self.view_is) h in
     stands_last s.offset s.first s.position begin s.window s.line x c.args.sample _ refl stood c.if-at-self.false
     c.if-place-lt7.false c.self.told _ c.step.new.self (to_z-of_z w16 c.args.sample c.ranges.sample)
-    (c.step.ensures.tone ∙ c.decide.ensures)
+    (c.step.ensures.tone ∙ c.of-decision.ensures.tone)
 
 pub returns-then-at-self-clause-bits : goal.returns-then-at-self-clause-bits
 returns-then-at-self-clause-bits c =
@@ -62,9 +64,9 @@ returns-clause-bits c =
     → bits (offset_from held.offset begin) (x ++ c.args.sample ∷ [])
     ≡ bits (offset_from held.offset begin) x ++ c.step.result ∷ [] in
     subst P c.self.view_is (λ begin x h.
-    bits-push_one (offset_from s.offset begin) x c.args.sample c.decide.result c.step.result
+    bits-push_one (offset_from s.offset begin) x c.args.sample c.of-decision.result.tone c.step.result
     (tones_last s.offset s.first s.position begin s.window s.line x c.args.sample _ refl h c.if-at-self.false
-    c.if-place-lt7.false c.self.told _ c.decide.result (to_z-of_z w16 c.args.sample c.ranges.sample) c.decide.ensures)
+    c.if-place-lt7.false c.self.told _ c.of-decision.result.tone (to_z-of_z w16 c.args.sample c.ranges.sample) c.of-decision.ensures.tone)
     (c.step.ensures.bits _ h.before))
 
 pub returns-then-at-self-clause-ends : goal.returns-then-at-self-clause-ends
@@ -103,3 +105,14 @@ returns-clause-ends c =
           c.if-place-lt7.false,
       λ _. refl,
     ))
+
+pub returns-clause-window : goal.returns-clause-window
+returns-clause-window c =
+    let s = c.self.inside in
+    let P : Held → Type 0 = λ held. (begin : ℕ) (x : List ℤ) → StandsFor held begin x
+    → set s.window ((s.position - s.first) % 8) (to_z w16 (of_z w16 c.args.sample))
+    ≡ next_window (offset_from held.offset begin) x (x ++ c.args.sample ∷ []) in
+    subst P c.self.view_is (λ begin x h.
+    window_next s.offset s.first s.position begin s.window s.line x c.args.sample _ refl h c.if-at-self.false
+    c.if-place-lt7.false c.self.told _ c.of-decision.result.tone (to_z-of_z w16 c.args.sample c.ranges.sample)
+    c.of-decision.ensures.tone)
