@@ -5,6 +5,8 @@
   scripts/scores.py --frames 20     with another number
   scripts/scores.py --sensitive     and what `tnc decode --sensitive` hears
   scripts/scores.py --more          rows of its own: noise by half decibels, clocks that are far off, an FM receiver's sound
+  scripts/scores.py --wide          sound at 48,000 samples a second, with noise up to 24,000 Hz: what `decode --rate 48000` hears, and
+                                    `decode` of what sox brings to 9600
   scripts/scores.py --beside        and what atest (as it is, and as `atest -P E+ -F 1`), soundmodem and multimon-ng hear of
                                     the same sound, if they are installed
   scripts/scores.py --check         12 frames a row, each count held against its bounds; status 1 outside
@@ -257,6 +259,16 @@ SENSITIVE = {
 SECOND_AT_ONCE = [(20, 12, 12), (10, 11, 12), (6, 10, 12), (3, 8, 12)]
 
 
+def wide_rows(count):
+    """Sound at 48,000 samples a second. The ratio is that to the noise below 4800 Hz, of which there is as much in each of
+    the four bands above."""
+    mixed = frames(count, 1, None)
+    clean = sound(mixed, 11, gap=2000)
+    yield "clean", count, count, mixed, clean, []
+    for ratio in (14, 10, 8, 6, 5, 4, 3, 2):
+        yield f"noise up to 24,000 Hz, {ratio} dB", 0, count, mixed, noisy(clean, ratio - 10 * math.log10(5)), []
+
+
 def heard_by_tnc(tnc, samples, _, *options):
     run = subprocess.run([tnc, "decode", *options], input=octets_of(samples), capture_output=True)
     if run.returncode:
@@ -272,6 +284,16 @@ def resampled(samples, rate, kind, to):
     words = ["sox", "-q", "-V0", "-t", "raw", "-r", str(RATE), "-e", "signed", "-b", "16", "-c", "1", "-"]
     words += ["-t", kind, "-r", str(rate), "-e", "signed", "-b", "16", to]
     subprocess.run(words, input=octets_of(samples), stderr=subprocess.DEVNULL, check=True)
+
+
+def heard_at_48000(tnc, samples, room):
+    return heard_by_tnc(tnc, samples, room, "--rate", "48000")
+
+
+def heard_through_sox(tnc, samples, room):
+    resampled(samples, 9600, "raw", f"{room}/9600.raw")
+    with open(f"{room}/9600.raw", "rb") as given:
+        return subprocess.run([tnc, "decode"], stdin=given, capture_output=True, check=True).stdout.decode().split()
 
 
 def heard_by_atest(_, samples, room, *options):
@@ -373,6 +395,7 @@ def main():
     words.add_argument("--check", action="store_true")
     words.add_argument("--sensitive", action="store_true")
     words.add_argument("--more", action="store_true")
+    words.add_argument("--wide", action="store_true")
     words.add_argument("--beside", action="store_true")
     words.add_argument("--tnc", default=f"{TOP}/bin/tnc")
     words.add_argument("--noise", type=int, metavar="HOURS")
@@ -384,7 +407,14 @@ def main():
     columns = [("tnc", heard_by_tnc, bytes.hex)]
     if given.sensitive or given.check:
         columns.append(("--sensitive", heard_by_sensitive, bytes.hex))
-    if given.beside:
+    made_by = more_rows if given.more else rows
+    if given.wide:
+        global RATE
+        RATE, made_by = 48000, wide_rows
+        columns = [("--rate 48000", heard_at_48000, bytes.hex), ("through sox", heard_through_sox, bytes.hex)]
+        if given.beside:
+            columns += [("atest", heard_by_atest, bytes.hex), ("atest -P E+ -F 1", heard_by_atest_repairing, bytes.hex)]
+    elif given.beside:
         text_of = lambda frame: frame[16:].decode()
         peers = [("atest", heard_by_atest, bytes.hex), ("atest -P E+ -F 1", heard_by_atest_repairing, bytes.hex)]
         peers += [("soundmodem", heard_by_soundmodem, bytes.hex), ("multimon-ng", heard_by_multimon, text_of)]
@@ -398,7 +428,7 @@ def main():
         print(f"| {'Of ' + str(count) + ' frames':40} | " + " | ".join(f"{name:>11}" for name, _, _ in columns) + " |")
         print(f"|{'-' * 42}|" + "|".join("-" * 12 + ":" for _ in columns) + "|")
     with tempfile.TemporaryDirectory() as room:
-        for name, least, most, sent, samples, others in (more_rows if given.more else rows)(count):
+        for name, least, most, sent, samples, others in made_by(count):
             cells = []
             for column, hears, spelled in columns:
                 heard, strays = count_of(map(spelled, sent), map(spelled, others), hears(given.tnc, samples, room))

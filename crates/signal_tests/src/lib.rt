@@ -6,7 +6,7 @@
 //! the definitions on whole lists of bits. Cases of the merger and of the ring are worked by hand.
 //!
 //! `tones` tests `tone_table`, `bits` `nrzi_bits`, `framer` `hdlc_framer`, `modulator` `afsk_modulator`, `slicers`
-//! `offset_slicers`, `tracking` `tone_tracking`, `merger` `frame_merge` and `ring` `sample_ring`.
+//! `offset_slicers`, `tracking` `tone_tracking`, `resampling` `resampler`, `merger` `frame_merge` and `ring` `sample_ring`.
 #![tactic(auto)]
 
 #[cfg(test)]

@@ -4,6 +4,7 @@ mod framer;
 mod letters;
 mod merger;
 mod modulator;
+mod resampling;
 mod ring;
 mod shortest_frame;
 mod slicers;

@@ -45,5 +45,5 @@ pub use Rattle.wav_file.specs.Reading.{Reading, fault_in, rate_in, samples_in}
 unfoldable pub use Rattle.wav_file.specs.Samples.{sample_of}
 pub use Rattle.wav_file.specs.declared.fault.WavFault.{WavFault}
 pub use Rattle.wav_file.specs.declared.rates.Rates.{Rates}
-pub use Rattle.wide_input.specs.MergedItems.{AreWideMergedBetween}
-pub use Rattle.wide_input.specs.Streams.{least_count}
+pub use Rattle.wide_input.specs.MergedItems.{AreWideMergedBetween, settled_ends}
+pub use Rattle.resampler.specs.Filtered.{filtered}

@@ -2,7 +2,7 @@
 use Rattle.tnc_decode.proofs.Common.{◌≡◌, ℕ, ◌+◌, ◌/◌, ◌^◌, ◌<◌, ◌≤◌, ℤ, List, [], ◌++◌, length, refl, ap, sym, ◌∙◌}
 use Rattle.tnc_decode.proofs.Common.{arith, length-append, IsNonDecreasingBy, append_cancel_left, Candidate, merged}
 use Rattle.tnc_decode.proofs.Common.{below, between, not_below, below_between, below_then_rest, AreMergedBetween}
-use Rattle.tnc_decode.proofs.Common.{least_count, AreWideMergedBetween, Modem, Plain, Wide, Sensitive, ShortWave}
+use Rattle.tnc_decode.proofs.Common.{filtered, settled_ends, AreWideMergedBetween, Modem, Plain, Wide, Sensitive, ShortWave}
 use Rattle.tnc_decode.proofs.Common.{HasDecoded, AreHeard, settled_count, AreGivenBetween, AreGivenBelow, AreGivenRest}
 use Rattle.frame_merge.proofs.Ordering.{rising_ends}
 use Rattle.frame_merge.proofs.Merging.{merged-rising, between_all}
@@ -21,12 +21,13 @@ use Rattle.sensitive_receiver.proofs.HeardLemmas.{none_heard as no_sensitive}
 use Rattle.sensitive_receiver.proofs.MergedLemmas.{one_list as one_sensitive, rising_heard as rising_sensitive}
 use Rattle.sensitive_receiver.proofs.MergedLemmas.{below_still as sensitive_still}
 use Rattle.sensitive_receiver.proofs.SomeList.{some_list as some_sensitive}
-use Rattle.wide_input.proofs.StreamLemmas.{least_count-is}
 use Rattle.wide_input.proofs.WideSteps.{no_wide, rising_wide}
-use Rattle.wide_input.proofs.WideMerged.{one_wide, some_wide, below_still}
+use Rattle.wide_input.proofs.WideMerged.{one_wide, some_wide}
+use Rattle.wide_input.proofs.FilteredLemmas.{filtered_still}
+use Rattle.wide_input.specs.MergedItems.{AreWideRest}
 use Rattle.slicer_bank.specs.HeldDecoder.{HeldDecoder, StandsFor as DecoderStandsFor}
 use Rattle.hf_modem.specs.HeldDecoder.{HeldDecoder as HeldHf, StandsFor as HfStandsFor}
-use Rattle.wide_input.specs.Held.{HeldWide, StandsFor as BankStandsFor}
+use Rattle.wide_input.specs.HeldDecoder.{HeldDecoder as HeldWide, StandsFor as WideStandsFor}
 use Rattle.tnc_decode.specs.declared.decoders.Decoders.TheVariants.{Plain as PlainDecoder, Wide as WideDecoder}
 use Rattle.tnc_decode.specs.declared.decoders.Decoders.TheVariants.{ShortWave as ShortWaveDecoder}
 
@@ -42,13 +43,13 @@ none_heard ShortWave = no_hf []
 pub one_heard : (modem : Modem) (x : List ℤ) (items others : List Candidate) → AreHeard modem x items
     → AreHeard modem x others → items ≡ others
 one_heard Plain x items others a b = one_list x items others a b
-one_heard Wide x items others a b = one_wide x items others a b
+one_heard Wide x items others a b = one_wide (filtered x) items others a b
 one_heard Sensitive x items others a b = one_sensitive x items others a b
 one_heard ShortWave x items others a b = one_hf x items others a b
 
 pub some_heard : (modem : Modem) (x : List ℤ) → (items : List Candidate) × AreHeard modem x items
 some_heard Plain x = some_list x
-some_heard Wide x = some_wide x
+some_heard Wide x = some_wide (filtered x)
 some_heard Sensitive x = some_sensitive x
 some_heard ShortWave x = some_hf x
 
@@ -56,7 +57,7 @@ some_heard ShortWave x = some_hf x
 pub rising_heard : (modem : Modem) (x : List ℤ) (items : List Candidate) → AreHeard modem x items
     → IsNonDecreasingBy (λ y. y.end) (merged items)
 rising_heard Plain x items are = merged-rising (λ y. y.end) [] items (rising_ends items (is_in_order x items are))
-rising_heard Wide x items are = rising_wide x items are
+rising_heard Wide x items are = rising_wide (filtered x) items are
 rising_heard Sensitive x items are = rising_sensitive x items are
 rising_heard ShortWave x items are = merged-rising (λ y. y.end) [] items (rising_ends items (hf_in_order x items are))
 
@@ -64,11 +65,7 @@ rising_heard ShortWave x items are = merged-rising (λ y. y.end) [] items (risin
 pub settled_rises : (modem : Modem) (x y : List ℤ) → (settled_count modem x ≤ settled_count modem (x ++ y))
     × (settled_count modem (x ++ y) ≤ settled_count modem x + length y)
 settled_rises Plain x y = (omega (arith, length-append x y), omega (arith, length-append x y))
-settled_rises Wide x y =
-    let few = least_count-is x in
-    let more = least_count-is (x ++ y) in
-    let size = length-append x y in
-    (omega arith, omega arith)
+settled_rises Wide x y = let size = length-append x y in (omega arith, omega arith)
 settled_rises Sensitive x y = let size = length-append x y in (omega arith, omega arith)
 settled_rises ShortWave x y = let size = length-append x y in (omega arith, omega arith)
 
@@ -84,7 +81,7 @@ still_heard Plain to x y items whole within are all_are =
     ∙ given_still 0 to x y (between 0 to (merged items)) whole within
     (record { candidates = items; are = are; is = refl }) all_are
     ∙ from_zero to (merged whole)
-still_heard Wide to x y items whole within are all_are = sym (below_still to x y items whole within are all_are)
+still_heard Wide to x y items whole within are all_are = sym (filtered_still to x y items whole within are all_are)
 still_heard Sensitive to x y items whole within are all_are = sensitive_still x y items whole are all_are to within
 still_heard ShortWave to x y items whole within are all_are =
     sym (from_zero to (merged items))
@@ -97,7 +94,7 @@ pub given_plain : (from to : ℕ) (x : List ℤ) (items : List Candidate) → Ar
     → AreGivenBetween Plain from to x items
 given_plain from to x items h = record { candidates = h.candidates; are = h.are; is = h.is }
 
-pub given_wide : (from to : ℕ) (x : List ℤ) (items : List Candidate) → AreWideMergedBetween from to x items
+pub given_wide : (from to : ℕ) (x : List ℤ) (items : List Candidate) → AreWideMergedBetween from to (filtered x) items
     → AreGivenBetween Wide from to x items
 given_wide from to x items h = record { candidates = h.candidates; are = h.are; is = h.is }
 
@@ -132,8 +129,8 @@ plain_block old new block items given Sensitive x h = absurd h
 plain_block old new block items given ShortWave x h = absurd h
 
 pub wide_block : (old new : HeldWide) (block : List ℤ) (items : List Candidate)
-    → ((x : List ℤ) → BankStandsFor old x → BankStandsFor new (x ++ block)
-    × AreWideMergedBetween (least_count x) (least_count (x ++ block)) (x ++ block) items)
+    → ((x : List ℤ) → WideStandsFor old x → WideStandsFor new (x ++ block)
+    × AreWideMergedBetween (settled_ends (length x)) (settled_ends (length (x ++ block))) (filtered (x ++ block)) items)
     → (modem : Modem) (x : List ℤ) → HasDecoded modem (WideDecoder old) x
     → HasDecoded modem (WideDecoder new) (x ++ block)
     × AreGivenBetween modem (settled_count modem x) (settled_count modem (x ++ block)) (x ++ block) items
@@ -141,7 +138,17 @@ wide_block old new block items given Plain x h = absurd h
 wide_block old new block items given Sensitive x h = absurd h
 wide_block old new block items given ShortWave x h = absurd h
 wide_block old new block items given Wide x h = let g = given x h in
-    (g.0, given_wide (least_count x) (least_count (x ++ block)) (x ++ block) items g.1)
+    (g.0, given_wide (settled_ends (length x)) (settled_ends (length (x ++ block))) (x ++ block) items g.1)
+
+pub wide_finish : (old : HeldWide) (items : List Candidate)
+    → ((x : List ℤ) → WideStandsFor old x → AreWideRest (settled_ends (length x)) (filtered x) items)
+    → (modem : Modem) (x : List ℤ) → HasDecoded modem (WideDecoder old) x
+    → AreGivenRest modem (settled_count modem x) x items
+wide_finish old items rest Plain x h = absurd h
+wide_finish old items rest Sensitive x h = absurd h
+wide_finish old items rest ShortWave x h = absurd h
+wide_finish old items rest Wide x h =
+    let r = rest x h in record { candidates = r.candidates; are = r.are; is = r.is }
 
 pub plain_finish : (old : HeldDecoder) (items : List Candidate) → old.position < 2 ^ 48
     → ((x : List ℤ) → length x < 2 ^ 48 → DecoderStandsFor old x → AreMergedBetween (length x) (length x + 1) x items)

@@ -2,7 +2,7 @@
 use Rattle.std.specs.Prelude.{◌≡◌, ℕ, ◌+◌, ◌≤◌, List, [], ◌∷◌, ◌++◌, length, ℤ, Bool, Option, Some, None}
 use Rattle.tnc_base.specs.Streams.{WrotePart}
 use Rattle.slicer_bank.specs.HeldDecoder.{StandsFor as DecoderStandsFor}
-use Rattle.wide_input.specs.Held.{StandsFor as BankStandsFor}
+use Rattle.wide_input.specs.HeldDecoder.{StandsFor as WideStandsFor}
 use Rattle.hf_modem.specs.HeldDecoder.{StandsFor as HfStandsFor}
 use Rattle.sensitive_receiver.specs.HeldDecoder.{StandsFor as SensitiveStandsFor}
 use Rattle.wav_file.specs.declared.rates.Rates.{Rates}
@@ -42,21 +42,21 @@ HasTaken words audio octets = HasTakenAt (rates_of words.receiving) words.audio 
 -- the decoder is that of a modem, and has taken these samples
 abbrev pub HasDecoded : Modem → Decoders → List ℤ → Type 0
 HasDecoded PlainModem (Plain decoder) x = DecoderStandsFor decoder x
-HasDecoded WideModem (Wide bank) x = BankStandsFor bank x
+HasDecoded WideModem (Wide decoder) x = WideStandsFor decoder x
 HasDecoded SensitiveModem (Sensitive decoder) x = SensitiveStandsFor decoder x
 HasDecoded ShortWaveModem (ShortWave decoder) x = HfStandsFor decoder x
 HasDecoded modem decoder x = ⊥
 
--- how many samples a decoder has taken, and whether it is finished
+-- how many samples a decoder has taken, past the filter if it has one, and whether it is finished
 abbrev pub position_of : Decoders → ℕ
 position_of (Plain decoder) = decoder.position
-position_of (Wide bank) = bank.position
+position_of (Wide decoder) = decoder.bank.position
 position_of (Sensitive decoder) = decoder.position
 position_of (ShortWave decoder) = decoder.position
 
 abbrev pub finished_of : Decoders → Bool
 finished_of (Plain decoder) = decoder.finished
-finished_of (Wide bank) = bank.finished
+finished_of (Wide decoder) = decoder.bank.finished
 finished_of (Sensitive decoder) = decoder.finished
 finished_of (ShortWave decoder) = decoder.finished
 

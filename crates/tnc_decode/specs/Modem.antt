@@ -7,7 +7,8 @@ use Rattle.slicer_bank.specs.Candidates.{AreCandidates}
 use Rattle.hf_modem.specs.Candidates.{AreCandidates as AreHfCandidates}
 use Rattle.sensitive_receiver.specs.Candidates.{AreHeard as AreSensitiveCandidates}
 use Rattle.sensitive_receiver.specs.MergedItems.{settled}
-use Rattle.wide_input.specs.Streams.{least_count}
+use Rattle.resampler.specs.Filtered.{filtered}
+use Rattle.wide_input.specs.MergedItems.{settled_ends}
 use Rattle.wide_input.specs.Candidates.{AreWideCandidates}
 use Rattle.wav_file.specs.declared.rates.Rates.TheVariants.{NarrowOrWide}
 use Rattle.wav_file.specs.Reading.{rate_in}
@@ -46,17 +47,17 @@ modem_of words octets = modem_for words.receiving words.audio octets
 
 -- ---- what it hears
 
--- the items are all candidates of the samples
+-- the items are all candidates of the samples, those at 48,000 a second filtered
 abbrev pub AreHeard : Modem → List ℤ → List Candidate → Type 0
 AreHeard Plain x items = AreCandidates x items
-AreHeard Wide x items = AreWideCandidates x items
+AreHeard Wide x items = AreWideCandidates (filtered x) items
 AreHeard Sensitive x items = AreSensitiveCandidates x items
 AreHeard ShortWave x items = AreHfCandidates x items
 
 -- what ends below this position is settled by the samples, whatever follows
 abbrev pub settled_count : Modem → List ℤ → ℕ
 settled_count Plain x = length x
-settled_count Wide x = least_count x
+settled_count Wide x = settled_ends (length x)
 settled_count Sensitive x = settled (length x)
 settled_count ShortWave x = length x / 4
 

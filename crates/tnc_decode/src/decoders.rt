@@ -12,13 +12,13 @@ use slicer_bank::{Decoder, OpenGate};
 use std::alloc::Global;
 use std::thread::Threads;
 use tnc_base::OutOfMemory;
-use wide_input::WideBank;
+use wide_input::WideDecoder;
 
 /// Samples in, frames out: a decoder for each modem.
 #[derive(Drop)]
 pub(crate) enum Decoders {
     Plain(Decoder),
-    Wide(WideBank),
+    Wide(WideDecoder),
     Sensitive(SensitiveDecoder),
     ShortWave(HfDecoder),
 }
@@ -32,7 +32,7 @@ impl Decoders {
     {
         match modem {
             Modem::Plain => Ok(Decoders::Plain(Decoder::new(alloc)?)),
-            Modem::Wide => Ok(Decoders::Wide(WideBank::new(alloc)?)),
+            Modem::Wide => Ok(Decoders::Wide(WideDecoder::new(alloc)?)),
             Modem::Sensitive => Ok(Decoders::Sensitive(SensitiveDecoder::new(alloc)?)),
             Modem::ShortWave => Ok(Decoders::ShortWave(HfDecoder::new(alloc)?)),
         }
@@ -64,14 +64,14 @@ impl Decoders {
             → HasDecoded modem self.new (x ++ block.now)
             × AreGivenBetween modem (settled_count modem x) (settled_count modem (x ++ block.now)) (x
             ++ block.now) items.items) }
-        ensures position { IfOk result (λ items. position_of self.new ≡ position_of self.old + length block.now) }
+        ensures position { IfOk result (λ items. position_of self.new ≤ position_of self.old + length block.now) }
         ensures unfinished { finished_of self.new ≡ false }
     {
         match self {
             Decoders::Plain(decoder) if threads => decoder.block_threads(rt, block, &OpenGate),
             Decoders::Plain(decoder) => decoder.block(block),
-            Decoders::Wide(bank) if threads => bank.block_threads(rt, block, &OpenGate),
-            Decoders::Wide(bank) => bank.block(block),
+            Decoders::Wide(decoder) if threads => decoder.block_threads(rt, block, &OpenGate),
+            Decoders::Wide(decoder) => decoder.block(block),
             Decoders::Sensitive(decoder) if threads => decoder.block_threads(rt, block, &OpenGate),
             Decoders::Sensitive(decoder) => decoder.block(block),
             Decoders::ShortWave(decoder) => decoder.block(block),
@@ -80,13 +80,13 @@ impl Decoders {
 
     /// The rest of the items: the samples have ended.
     pub(crate) fn finish(&mut self) -> Result<Vec<Candidate>, OutOfMemory>
-        requires room { position_of self.old < 2 ^ 48 }
+        requires room { position_of self.old + 15 < 2 ^ 48 }
         ensures rest { IfOk result (λ items. (modem : Modem) (x : List ℤ) → HasDecoded modem self.old x
             → AreGivenRest modem (settled_count modem x) x items.items) }
     {
         match self {
             Decoders::Plain(decoder) => decoder.finish(),
-            Decoders::Wide(bank) => bank.finish(),
+            Decoders::Wide(decoder) => decoder.finish(),
             Decoders::Sensitive(decoder) => decoder.finish(),
             Decoders::ShortWave(decoder) => decoder.finish(),
         }

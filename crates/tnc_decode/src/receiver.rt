@@ -98,7 +98,7 @@ impl Receiver {
 
     /// Writes the rest of the frames: the input has ended. Then tells what is wrong with it.
     pub(crate) fn end<O: Sink>(&mut self, output: &mut O) -> Result<(), Fault>
-        requires room { position_of self.old.decoder < 2 ^ 48 }
+        requires room { position_of self.old.decoder + 15 < 2 ^ 48 }
         ensures heard { (words : DecodeWords) (octets text : List ℕ) → HasHeard self.old words octets text
             → OnOk result (form_fault words octets ≡ None) }
         ensures wrote { (words : DecodeWords) (octets text : List ℕ) → HasHeard self.old words octets text

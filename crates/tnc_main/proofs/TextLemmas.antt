@@ -8,6 +8,7 @@ use Rattle.std.proofs.Common.{lt-ltb}
 use Rattle.clean_signal.specs.GoodTransmission.{frames_of}
 use Rattle.clean_signal.specs.NearSignal.{Received, transmissions_of}
 use Rattle.clean_signal.proofs.Law.{near_law}
+use Rattle.resampler.specs.Filtered.{filtered}
 use Rattle.wide_input.proofs.WideLaw.{near_stream_law}
 use Rattle.hf_signal.proofs.Law.{near_law as hf_near_law}
 use Rattle.tnc_decode.specs.declared.modem.Modem.TheVariants.{Wide, Sensitive, ShortWave}
@@ -50,8 +51,8 @@ near_merges : (modem : Modem) (x : List ℤ) (received : List Received) → IsNe
     → (items : List Candidate) → AreHeard modem x items
     → map (λ item. item.octets) (merged items) ≡ frames_of (transmissions_of received)
 near_merges Plain x received clean = near_law received x clean.each clean.near clean.no_stray
-near_merges Wide x received clean = near_stream_law clean.number received x clean.within clean.each clean.near
-    clean.no_stray
+near_merges Wide x received clean = near_stream_law clean.number received (filtered x) clean.within clean.each
+    clean.near clean.no_stray
 near_merges Sensitive x received clean = all_lanes_law received x clean.each clean.near clean.none_stray
 near_merges ShortWave x received clean = hf_near_law received x clean.each clean.near clean.no_stray
 

@@ -6,6 +6,7 @@ use Rattle.clean_signal.specs.Stray.{NoStray}
 use Rattle.hf_signal.specs.NearSignal.{IsReceived as IsHfReceived, IsNearAll as IsHfNearAll}
 use Rattle.hf_signal.specs.Stray.{NoStray as NoHfStray}
 use Rattle.sensitive_receiver.specs.Stray.{NoneStray}
+use Rattle.resampler.specs.Filtered.{filtered}
 use Rattle.wide_input.specs.Streams.{stream}
 use Rattle.wide_input.specs.Stray.{NoWideStray}
 use Rattle.tnc_decode.specs.declared.modem.Modem.{Modem}
@@ -38,9 +39,9 @@ pub record IsCleanOnShortWave (x : List ℤ) (received : List Received) : Type 0
   pub near : IsHfNearAll received x
   pub no_stray : NoHfStray (transmissions_of received) x
 
--- as the modem hears them
+-- as the modem hears them: samples at 48,000 a second filtered
 abbrev pub IsNearlyClean : Modem → List ℤ → List Received → Type 0
 IsNearlyClean Plain x received = IsClean x received
-IsNearlyClean Wide x received = IsCleanInStream x received
+IsNearlyClean Wide x received = IsCleanInStream (filtered x) received
 IsNearlyClean Sensitive x received = IsCleanOnAllLanes x received
 IsNearlyClean ShortWave x received = IsCleanOnShortWave x received

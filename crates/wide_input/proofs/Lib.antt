@@ -5,3 +5,5 @@ pub mod Visits
 pub mod WideSteps
 pub mod WideMerged
 pub mod WideLaw
+pub mod FilteredLemmas
+pub mod DecoderLemmas

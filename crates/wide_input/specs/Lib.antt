@@ -3,3 +3,4 @@ pub mod Candidates
 pub mod MergedItems
 pub mod Stray
 pub mod Held
+pub mod HeldDecoder

@@ -1,5 +1,5 @@
 -- What is given of samples at 48,000 a second: the candidates of all streams, merged, at once or piece by piece.
-use Rattle.std.specs.Prelude.{◌≡◌, ℕ, ℤ, List}
+use Rattle.std.specs.Prelude.{◌≡◌, ℕ, ◌-◌, ◌/◌, ℤ, List}
 use Rattle.frame_merge.specs.declared.candidate.Candidate.{Candidate}
 use Rattle.frame_merge.specs.Merged.{merged, between, not_below}
 use Rattle.wide_input.specs.Candidates.{AreWideCandidates}
@@ -21,3 +21,7 @@ pub record AreWideRest (from : ℕ) (x : List ℤ) (items : List Candidate) : Ty
   pub candidates : List Candidate
   pub are : AreWideCandidates x candidates
   pub is : items ≡ not_below from (merged candidates)
+
+-- so many samples settle, with the filter before the streams, what ends below this position of the least stream
+abbrev pub settled_ends : ℕ → ℕ
+settled_ends count = (count - 15) / 5

@@ -136,4 +136,11 @@ impl WideBank {
     {
         self.progress.finish(self.alloc, &mut self.merger)
     }
+
+    /// Whether the samples have ended.
+    pub(crate) fn is_finished(&self) -> bool
+        ensures { result ≡ self.now.finished }
+    {
+        self.progress.finished
+    }
 }

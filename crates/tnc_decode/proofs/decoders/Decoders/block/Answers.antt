@@ -1,11 +1,11 @@
 use Rattle.tnc_decode.proofs.Common.{◌/◌, ◌++◌, ℤ, List, length, sym, subst, IfOk, IfOk-weaker, StandsFor}
-use Rattle.tnc_decode.proofs.Common.{AreMergedBetween, settled, least_count, AreWideMergedBetween, Decoders, Modem}
+use Rattle.tnc_decode.proofs.Common.{AreMergedBetween, settled, filtered, settled_ends, AreWideMergedBetween, Decoders, Modem}
 use Rattle.tnc_decode.proofs.Common.{HasDecoded, settled_count, AreGivenBetween}
 use Rattle.hf_modem.specs.HeldDecoder.{StandsFor as HfStandsFor}
 use Rattle.hf_modem.specs.MergedItems.{AreMergedBetween as AreHfMergedBetween}
 use Rattle.sensitive_receiver.specs.HeldDecoder.{StandsFor as SensitiveStandsFor}
 use Rattle.sensitive_receiver.specs.MergedItems.{AreMergedBetween as AreSensitiveMergedBetween}
-use Rattle.wide_input.specs.Held.{StandsFor as BankStandsFor}
+use Rattle.wide_input.specs.HeldDecoder.{StandsFor as WideStandsFor}
 use Rattle.tnc_decode.specs.declared.decoders.Decoders.TheVariants.{Plain, Wide, Sensitive, ShortWave}
 use Rattle.tnc_decode.proofs.ModemLemmas.{plain_block, wide_block, short_wave_block}
 use Rattle.tnc_decode.proofs.SensitiveLemmas.{sensitive_block}
@@ -50,15 +50,16 @@ returns-in-Plain-2-clause-given g c =
 pub returns-in-Wide-clause-given : goal.returns-in-Wide-clause-given
 returns-in-Wide-clause-given g c =
     let block : List ℤ = c.args.block.now in
-    let old = c.in-Wide.bank in
+    let old = c.in-Wide.decoder in
     let new = c.block_threads-in-Wide.new.self in
     let P : Decoders → Type 0 = λ self. IfOk c.block_threads-in-Wide.result (λ items. (modem : Modem) (x : List ℤ)
     → HasDecoded modem self x
     → HasDecoded modem (Wide new) (x ++ block) × AreGivenBetween modem (settled_count modem x)
     (settled_count modem (x ++ block)) (x ++ block) items.items) in
     subst P (sym c.in-Wide.is) (IfOk-weaker c.block_threads-in-Wide.result
-    (λ items. (x : List ℤ) → BankStandsFor old x → BankStandsFor new (x ++ block)
-    × AreWideMergedBetween (least_count x) (least_count (x ++ block)) (x ++ block) items.items)
+    (λ items. (x : List ℤ) → WideStandsFor old x → WideStandsFor new (x ++ block)
+    × AreWideMergedBetween (settled_ends (length x)) (settled_ends (length (x ++ block))) (filtered (x ++ block))
+    items.items)
     (λ items. (modem : Modem) (x : List ℤ) → HasDecoded modem (Wide old) x
     → HasDecoded modem (Wide new) (x ++ block) × AreGivenBetween modem (settled_count modem x)
     (settled_count modem (x ++ block)) (x ++ block) items.items)
@@ -68,15 +69,16 @@ returns-in-Wide-clause-given g c =
 pub returns-in-Wide-2-clause-given : goal.returns-in-Wide-2-clause-given
 returns-in-Wide-2-clause-given g c =
     let block : List ℤ = c.args.block.now in
-    let old = c.in-Wide.bank in
+    let old = c.in-Wide.decoder in
     let new = c.block-in-Wide-2.new.self in
     let P : Decoders → Type 0 = λ self. IfOk c.block-in-Wide-2.result (λ items. (modem : Modem) (x : List ℤ)
     → HasDecoded modem self x
     → HasDecoded modem (Wide new) (x ++ block) × AreGivenBetween modem (settled_count modem x)
     (settled_count modem (x ++ block)) (x ++ block) items.items) in
     subst P (sym c.in-Wide.is) (IfOk-weaker c.block-in-Wide-2.result
-    (λ items. (x : List ℤ) → BankStandsFor old x → BankStandsFor new (x ++ block)
-    × AreWideMergedBetween (least_count x) (least_count (x ++ block)) (x ++ block) items.items)
+    (λ items. (x : List ℤ) → WideStandsFor old x → WideStandsFor new (x ++ block)
+    × AreWideMergedBetween (settled_ends (length x)) (settled_ends (length (x ++ block))) (filtered (x ++ block))
+    items.items)
     (λ items. (modem : Modem) (x : List ℤ) → HasDecoded modem (Wide old) x
     → HasDecoded modem (Wide new) (x ++ block) × AreGivenBetween modem (settled_count modem x)
     (settled_count modem (x ++ block)) (x ++ block) items.items)

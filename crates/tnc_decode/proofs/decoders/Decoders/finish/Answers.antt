@@ -1,19 +1,22 @@
-use Rattle.tnc_decode.proofs.Common.{◌<◌, ◌+◌, ◌/◌, ◌^◌, ℤ, List, length, sym, subst, IfOk, IfOk-weaker, StandsFor}
+use Rattle.tnc_decode.proofs.Common.{arith, ◌<◌, ◌+◌, ◌/◌, ◌^◌, ℤ, List, length, sym, subst, IfOk, IfOk-weaker, StandsFor}
 use Rattle.tnc_decode.proofs.Common.{AreMergedBetween, settled, Decoders, Modem, HasDecoded, position_of, settled_count}
 use Rattle.tnc_decode.proofs.Common.{AreGivenRest}
 use Rattle.hf_modem.specs.HeldDecoder.{StandsFor as HfStandsFor}
 use Rattle.hf_modem.specs.MergedItems.{AreMergedBetween as AreHfMergedBetween}
 use Rattle.sensitive_receiver.specs.HeldDecoder.{StandsFor as SensitiveStandsFor}
 use Rattle.sensitive_receiver.specs.MergedItems.{AreMergedBetween as AreSensitiveMergedBetween}
-use Rattle.tnc_decode.specs.declared.decoders.Decoders.TheVariants.{Plain, Sensitive, ShortWave}
-use Rattle.tnc_decode.proofs.ModemLemmas.{plain_finish, short_wave_finish}
+use Rattle.tnc_decode.specs.declared.decoders.Decoders.TheVariants.{Plain, Wide, Sensitive, ShortWave}
+use Rattle.wide_input.specs.HeldDecoder.{StandsFor as WideStandsFor}
+use Rattle.wide_input.specs.MergedItems.{AreWideRest, settled_ends}
+use Rattle.resampler.specs.Filtered.{filtered}
+use Rattle.tnc_decode.proofs.ModemLemmas.{plain_finish, short_wave_finish, wide_finish}
 use Rattle.tnc_decode.proofs.SensitiveLemmas.{sensitive_finish}
 use Rattle.tnc_decode.proofs.decoders.Decoders.finish.Goals as goal
 
 pub returns-in-Plain : goal.returns-in-Plain
 returns-in-Plain c =
     let decoder = c.in-Plain.decoder in
-    let P : Decoders → Type 0 = λ self. position_of self < 2 ^ 48
+    let P : Decoders → Type 0 = λ self. position_of self + 15 < 2 ^ 48
     → IfOk c.finish.result (λ items. (modem : Modem) (x : List ℤ) → HasDecoded modem self x
     → AreGivenRest modem (settled_count modem x) x items.items) in
     record {
@@ -22,7 +25,7 @@ returns-in-Plain c =
           → AreMergedBetween (length x) (length x + 1) x items.items)
           (λ items. (modem : Modem) (x : List ℤ) → HasDecoded modem (Plain decoder) x
           → AreGivenRest modem (settled_count modem x) x items.items)
-          (λ items rest. plain_finish decoder items.items room rest)
+          (λ items rest. plain_finish decoder items.items (omega arith) rest)
           c.finish.ensures.rest) c.requires.room;
     }
 
@@ -30,7 +33,7 @@ pub returns-in-ShortWave : goal.returns-in-ShortWave
 returns-in-ShortWave c =
     let decoder = c.in-ShortWave.decoder in
     let result = c.finish-in-ShortWave.result in
-    let P : Decoders → Type 0 = λ self. position_of self < 2 ^ 48
+    let P : Decoders → Type 0 = λ self. position_of self + 15 < 2 ^ 48
     → IfOk result (λ items. (modem : Modem) (x : List ℤ) → HasDecoded modem self x
     → AreGivenRest modem (settled_count modem x) x items.items) in
     record {
@@ -39,7 +42,7 @@ returns-in-ShortWave c =
           → AreHfMergedBetween (length x / 4) (length x / 4 + 1) x items.items)
           (λ items. (modem : Modem) (x : List ℤ) → HasDecoded modem (ShortWave decoder) x
           → AreGivenRest modem (settled_count modem x) x items.items)
-          (λ items rest. short_wave_finish decoder items.items room rest)
+          (λ items rest. short_wave_finish decoder items.items (omega arith) rest)
           c.finish-in-ShortWave.ensures.rest) c.requires.room;
     }
 
@@ -47,7 +50,7 @@ pub returns-in-Sensitive : goal.returns-in-Sensitive
 returns-in-Sensitive c =
     let decoder = c.in-Sensitive.decoder in
     let result = c.finish-in-Sensitive.result in
-    let P : Decoders → Type 0 = λ self. position_of self < 2 ^ 48 → IfOk result
+    let P : Decoders → Type 0 = λ self. position_of self + 15 < 2 ^ 48 → IfOk result
     (λ items. (modem : Modem) (x : List ℤ) → HasDecoded modem self x
     → AreGivenRest modem (settled_count modem x) x items.items) in
     record {
@@ -56,6 +59,22 @@ returns-in-Sensitive c =
           → AreSensitiveMergedBetween (settled (length x)) (length x + 1) x items.items)
           (λ items. (modem : Modem) (x : List ℤ) → HasDecoded modem (Sensitive decoder) x
           → AreGivenRest modem (settled_count modem x) x items.items)
-          (λ items rest. sensitive_finish decoder items.items room rest)
+          (λ items rest. sensitive_finish decoder items.items (omega arith) rest)
           c.finish-in-Sensitive.ensures.rest) c.requires.room;
+    }
+
+pub returns-in-Wide : goal.returns-in-Wide
+returns-in-Wide c =
+    let decoder = c.in-Wide.decoder in
+    let result = c.finish-in-Wide.result in
+    let P : Decoders → Type 0 = λ self. IfOk result (λ items. (modem : Modem) (x : List ℤ) → HasDecoded modem self x
+    → AreGivenRest modem (settled_count modem x) x items.items) in
+    record {
+      rest = subst P (sym c.in-Wide.is) (IfOk-weaker result
+          (λ items. (x : List ℤ) → WideStandsFor decoder x
+          → AreWideRest (settled_ends (length x)) (filtered x) items.items)
+          (λ items. (modem : Modem) (x : List ℤ) → HasDecoded modem (Wide decoder) x
+          → AreGivenRest modem (settled_count modem x) x items.items)
+          (λ items rest. wide_finish decoder items.items rest)
+          c.finish-in-Wide.ensures.rest);
     }

@@ -1,0 +1,7 @@
+pub mod Common
+pub mod WindowLemmas
+pub mod SumLemmas
+pub mod FilterLemmas
+pub mod StuffedLemmas
+pub mod FeedLemmas
+pub mod ConstantLemmas

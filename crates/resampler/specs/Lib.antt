@@ -1,0 +1,3 @@
+pub mod Taps
+pub mod Filtered
+pub mod Held
