@@ -6,4 +6,5 @@ pub mod CallLists
 pub mod AskedHelp
 pub mod OneCommand
 pub mod NoRate
+pub mod OneModem
 pub mod WithEntries
