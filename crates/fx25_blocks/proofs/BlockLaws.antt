@@ -14,7 +14,8 @@ use Rattle.fx25_blocks.proofs.OpenLemmas.{data_opens, one_opening}
 use Rattle.fx25_blocks.proofs.ReaderLemmas.{same_octet_list}
 use Rattle.fx25_blocks.proofs.TagFacts.{even_checks, least_checks, most_checks, most_octets}
 
-code_of : (tag : ℕ) → IsTag tag → Code
+-- the code of a tag
+unfoldable pub code_of : (tag : ℕ) → IsTag tag → Code
 code_of tag is_tag = record {
   first_root = 1;
   check_count = check_count tag;

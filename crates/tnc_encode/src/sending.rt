@@ -7,6 +7,7 @@ ghost use Rattle.tnc_encode.specs.Sending.{transmission_by};
 ghost use Rattle.tnc_encode.specs.Writing.{CanBeSent, CanSend};
 
 use afsk_modulator::{ModFault, transmission_at};
+use fx25_sender::fx25_transmission;
 use hf_modem::hf_transmission;
 use std::alloc::Global;
 use tnc_base::{Octets, OutOfMemory};
@@ -51,5 +52,13 @@ fn transmission(alloc: Global, words: EncodeWords, frames: &[Octets]) -> Result<
         Modem::ShortWave => {
             hf_transmission(alloc, words.level, frames, words.opening, words.closing)
         }
+        Modem::Fx25(checks) => fx25_transmission(
+            alloc,
+            checks.count(),
+            words.level,
+            frames,
+            words.opening,
+            words.closing,
+        ),
     }
 }

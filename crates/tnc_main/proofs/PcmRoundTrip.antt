@@ -21,6 +21,8 @@ use Rattle.nrzi_bits.specs.Line.{line}
 use Rattle.hdlc_framer.specs.Body.{body}
 use Rattle.afsk_modulator.specs.Transmission.{transmission}
 use Rattle.afsk_modulator.specs.Level.{at_level, sample_at}
+use Rattle.fx25_sender.specs.Signal.{fx25_signal}
+use Rattle.fx25_sender.proofs.LoudnessLemmas.{within-fx25_signal}
 use Rattle.hf_modem.specs.Signal.{hf_signal}
 use Rattle.hf_modem.proofs.LoudnessLemmas.{within-hf_signal}
 use Rattle.afsk_modulator.specs.Signal.{samples_of as samples_at, signal, signal_at}
@@ -126,6 +128,12 @@ unfolding signal_at at_level
 signal_fits level sent most = All-map IsSample (sample_at level) (signal sent) (λ k d below.
     let quiet = unsigned_abs-sample_at level (get_or (signal sent) k d) (signal_quiet sent k d below) in
     fits_signed_from_abs w16 (sample_at level (get_or (signal sent) k d)) (omega arith))
+
+pub fx25_signal_fits : (checks level : ℕ) (sent : List Transmission) → level ≤ 32767
+    → All IsSample (fx25_signal checks level sent)
+fx25_signal_fits checks level sent most k d below =
+    let quiet = within-fx25_signal checks level sent k d below in
+    fits_signed_from_abs w16 (get_or (fx25_signal checks level sent) k d) (omega arith)
 
 pub hf_signal_fits : (level : ℕ) (sent : List Transmission) → level ≤ 32767 → All IsSample (hf_signal level sent)
 hf_signal_fits level sent most k d below =

@@ -12,10 +12,11 @@ use Rattle.afsk_modulator.specs.Modulation.{IsLevel}
 use Rattle.clean_signal.specs.GoodTransmission.{frames_of as all_frames}
 use Rattle.clean_signal.proofs.Law.{level_law}
 use Rattle.hf_signal.proofs.Law.{level_law as hf_level_law}
+use Rattle.tnc_words.specs.Sending.{count_of}
 use Rattle.tnc_words.specs.declared.command.AudioForm.{AudioForm}
 use Rattle.tnc_words.specs.declared.command.AudioForm.TheVariants.{Raw, Wav}
 use Rattle.tnc_words.specs.declared.command.Modem.{Modem as Sending}
-use Rattle.tnc_words.specs.declared.command.Modem.TheVariants.{Bell202, ShortWave}
+use Rattle.tnc_words.specs.declared.command.Modem.TheVariants.{Bell202, ShortWave, Fx25}
 use Rattle.wav_file.specs.declared.rates.Rates.TheVariants.{NarrowOrWide}
 use Rattle.tnc_decode.specs.Audio.{fault_in_verdict, form_fault, form_fault_at, rates_of, samples_at, stopping_fault}
 use Rattle.tnc_decode.specs.declared.modem.Modem.TheVariants.{ShortWave as HearsShortWave}
@@ -24,7 +25,8 @@ use Rattle.tnc_encode.specs.Frames.{form_fault as frames_fault}
 use Rattle.tnc_encode.specs.Encoded.{encode_fault, most_samples, signal_of, written_as}
 use Rattle.tnc_encode.specs.Sending.{signal_by}
 use Rattle.tnc_main.specs.RoundTrip.{receiving_of, IsWithoutStray}
-use Rattle.tnc_main.proofs.PcmRoundTrip.{IsSample, rate-wav, samples-pcm, samples-wav, signal_fits, hf_signal_fits}
+use Rattle.tnc_main.proofs.PcmRoundTrip.{IsSample, rate-wav, samples-pcm, samples-wav, signal_fits, fx25_signal_fits}
+use Rattle.tnc_main.proofs.PcmRoundTrip.{hf_signal_fits}
 use Rattle.tnc_main.proofs.PcmRoundTrip.{wav_whole}
 use Rattle.tnc_main.proofs.SentFrames.{AreOctets, frames_of_input-fit, frames_sent, transmissions_good}
 use Rattle.tnc_main.proofs.TextLemmas.{merged_text}
@@ -69,12 +71,15 @@ written_read rates Wav x fit few = samples-wav x (few refl) rates fit
 abbrev hearing : Sending → Modem
 hearing Bell202 = Plain
 hearing ShortWave = HearsShortWave
+hearing (Fx25 checks) = Plain
 
 written_heard : (modem : Sending) (form : AudioForm) (x : List ℤ) → (form ≡ Wav → length x ≤ most_samples)
     → modem_for (receiving_of modem) form (written_as form x) ≡ hearing modem
 written_heard Bell202 Raw x few = refl
 written_heard Bell202 Wav x few = ap modem_of_file (rate-wav x (few refl) NarrowOrWide)
 written_heard ShortWave form x few = refl
+written_heard (Fx25 checks) Raw x few = refl
+written_heard (Fx25 checks) Wav x few = ap modem_of_file (rate-wav x (few refl) NarrowOrWide)
 
 -- every sample that is sent fits
 sent_fits : (modem : Sending) (level : ℕ) (sent : List Transmission) → level ≤ 32767
@@ -82,6 +87,7 @@ sent_fits : (modem : Sending) (level : ℕ) (sent : List Transmission) → level
 unfolding signal_by
 sent_fits Bell202 level sent most = signal_fits level sent most
 sent_fits ShortWave level sent most = hf_signal_fits level sent most
+sent_fits (Fx25 checks) level sent most = fx25_signal_fits (count_of checks) level sent most
 
 -- what is sent without a stray gives its frames
 sent_merges : (modem : Sending) (level : ℕ) (sent : List Transmission) (items : List Candidate) → IsLevel level
@@ -92,6 +98,7 @@ sent_merges : (modem : Sending) (level : ℕ) (sent : List Transmission) (items 
 unfolding signal_by
 sent_merges Bell202 level sent items fits good no_stray are = level_law level sent fits good no_stray items are
 sent_merges ShortWave level sent items fits good no_stray are = hf_level_law level sent fits good no_stray items are
+sent_merges (Fx25 checks) level sent items fits good no_stray are = absurd no_stray
 
 written_good : (rates : Rates) (form : AudioForm) (x : List ℤ) → (form ≡ Wav → length x ≤ most_samples)
     → form_fault_at rates form (written_as form x) ≡ None

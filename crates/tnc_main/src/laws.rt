@@ -16,7 +16,7 @@ ghost use Rattle.tnc_main.specs.RoundTrip.{receiving_of, IsWithoutStray};
 /// What `encode` writes is heard by `decode`. Of an input without a fault, `decode` in the same form of audio takes
 /// what was written, and if it hears what the modem sends and no candidate of the signal is stray it prints exactly the
 /// frames of the input, in order: by Bell 202 or on short wave, as raw PCM or a WAV file, of lines or KISS, in one
-/// transmission or in one for each frame.
+/// transmission or in one for each frame. Of frames with check octets `heard` says nothing.
 pub fn decode_of_encode()
     ensures heard { (encode : EncodeWords) → (decode : DecodeWords) → (octets text : List ℕ)
         → All (λ octet. octet < 256) octets → 2 ≤ encode.opening → 1 ≤ encode.closing → IsLevel encode.level

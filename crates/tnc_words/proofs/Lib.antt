@@ -7,4 +7,5 @@ pub mod CallLists
 pub mod AskedHelp
 pub mod OneCommand
 pub mod NoRate
+pub mod OneModem
 pub mod WithEntries

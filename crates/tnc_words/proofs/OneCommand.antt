@@ -25,6 +25,7 @@ use Rattle.tnc_words.proofs.AskedHelp.{help_alone, help_is_no_version, one_topic
 use Rattle.tnc_words.proofs.CallLists.{one_given_call, one_repeaters}
 use Rattle.tnc_words.proofs.OneCarrier.{one_dcd}
 use Rattle.tnc_words.proofs.OneLink.{one_call as one_digi, one_params}
+use Rattle.tnc_words.proofs.OneModem.{one_modem}
 use Rattle.tnc_words.proofs.OneNumber.{given_number, one_number}
 
 eight_is_not : (n : ℕ) → n ≡ 128 → 8 ≡ n → ⊥
@@ -97,7 +98,7 @@ one_encode_options found encode other h k =
     })
     (one_number _ _ _ _ _ _ h.silence k.silence)
     ∙ ap (λ v. record other { level = v; modem = encode.modem }) (one_number _ _ _ _ _ _ h.level k.level)
-    ∙ ap (λ v. record other { modem = v }) (h.modem ∙ sym k.modem)
+    ∙ ap (λ v. record other { modem = v }) (one_modem found encode.modem other.modem h.modem k.modem)
 
 one_show_options : (found : List Row) (show other : ShowWords) → HasShowOptions found show
     → HasShowOptions found other → show ≡ other

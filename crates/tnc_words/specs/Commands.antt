@@ -17,12 +17,13 @@ use Rattle.tnc_words.specs.Options.{decode_faults, encode_faults, show_faults, l
 use Rattle.tnc_words.specs.Options.{record_faults, record_rows, call_faults, call_rows}
 use Rattle.tnc_words.specs.Options.{decode_rows, encode_rows, show_rows, loop_rows, bench_rows, serve_rows, is_used}
 use Rattle.tnc_words.specs.Help.{IsHelp, IsVersion}
-use Rattle.tnc_words.specs.Forms.{audio_form, frame_form, modem}
+use Rattle.tnc_words.specs.Forms.{audio_form, frame_form}
 use Rattle.tnc_words.specs.Rates.{HasReceiving}
 use Rattle.tnc_words.specs.Links.{HasCall, HasParams}
 use Rattle.tnc_words.specs.Carriers.{HasDcd}
 use Rattle.tnc_words.specs.Numbers.{GivesNumber, HasNumber}
 use Rattle.tnc_words.specs.Stations.{GivesCall, HasRepeaters}
+use Rattle.tnc_words.specs.Sending.{HasModem}
 
 abbrev pub first_word : List Text → Option Text
 first_word words = slice_get words 0
@@ -50,7 +51,7 @@ pub record HasEncodeOptions (found : List Row) (encode : EncodeWords) : Type 0 w
   pub closing : HasNumber (first_of (codes "closing") found) 2 1 10000 encode.closing
   pub silence : HasNumber (first_of (codes "silence") found) 0 0 1000000 encode.silence
   pub level : HasNumber (first_of (codes "level") found) 10000 10 32767 encode.level
-  pub modem : encode.modem ≡ modem found
+  pub modem : HasModem found encode.modem
 
 -- encode with these options
 pub record IsEncode (words : List Text) (encode : EncodeWords) : Type 0 where

@@ -5,8 +5,6 @@ use Rattle.tnc_words.specs.declared.command.AudioForm.{AudioForm}
 use Rattle.tnc_words.specs.declared.command.AudioForm.TheVariants.{Raw, Wav}
 use Rattle.tnc_words.specs.declared.command.FrameForm.{FrameForm}
 use Rattle.tnc_words.specs.declared.command.FrameForm.TheVariants.{Hex, Kiss}
-use Rattle.tnc_words.specs.declared.command.Modem.{Modem}
-use Rattle.tnc_words.specs.declared.command.Modem.TheVariants.{Bell202, ShortWave}
 use Rattle.tnc_words.specs.Options.{is_used}
 
 -- --wav
@@ -16,7 +14,3 @@ audio_form found = if is_used (codes "wav") found then Wav else Raw
 -- --kiss
 abbrev pub frame_form : List Row → FrameForm
 frame_form found = if is_used (codes "kiss") found then Kiss else Hex
-
--- --hf
-abbrev pub modem : List Row → Modem
-modem found = if is_used (codes "hf") found then ShortWave else Bell202

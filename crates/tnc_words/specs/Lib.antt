@@ -2,6 +2,7 @@ pub mod Options
 pub mod Entries
 pub mod Numbers
 pub mod Forms
+pub mod Sending
 pub mod Help
 pub mod Links
 pub mod Carriers

@@ -34,10 +34,10 @@ with_numbers app = with_rule (with_rule (with_rule (with_rule app
     (option_rule (codes "opening"))) (option_rule (codes "closing")))
     (option_rule (codes "silence"))) (option_rule (codes "level"))
 
--- encode [--wav] [--kiss] [--join] [--hf] [--opening n] [--closing n] [--silence n] [--level n]
+-- encode [--wav] [--kiss] [--join] [--hf] [--fx25 n] [--opening n] [--closing n] [--silence n] [--level n]
 abbrev pub encode_app : App
-encode_app = with_numbers (with_rule (with_rule (with_forms (new_app (codes "encode"))) (flag_rule (codes "join")))
-    (flag_rule (codes "hf")))
+encode_app = with_numbers (with_rule (with_rule (with_rule (with_forms (new_app (codes "encode")))
+    (flag_rule (codes "join"))) (flag_rule (codes "hf"))) (option_rule (codes "fx25")))
 
 -- show [--modulo n]
 abbrev pub show_app : App

@@ -109,6 +109,19 @@ pub enum Modem {
     Bell202,
     /// 300 bits a second and a shift of 200 Hz, on short wave.
     ShortWave,
+    /// Bell 202, each frame with so many check octets around it (FX.25).
+    Fx25(CheckOctets),
+}
+
+/// How many check octets follow the data of a block of FX.25.
+#[derive(Clone, Copy, Debug, PartialEq, Eq)]
+pub enum CheckOctets {
+    /// 16.
+    Sixteen,
+    /// 32.
+    ThirtyTwo,
+    /// 64.
+    SixtyFour,
 }
 
 /// The option of `show`.

@@ -6,7 +6,8 @@ ghost use Rattle.tnc_words.specs.Commands.{HasEncodeOptions, IsEncode, first_wor
 
 use crate::command::EncodeWords;
 use crate::fault::WordsFault;
-use crate::forms::{audio_form, frame_form, modem};
+use crate::forms::{audio_form, frame_form};
+use crate::modem_words::modem;
 use crate::number::{Bounds, number_found};
 use crate::options::ENCODE;
 use crate::parsing::{has_flag, parsed};
@@ -61,6 +62,6 @@ fn encode_options(found: &ArgMatches) -> Option<EncodeWords>
         closing: number_found(found, "closing", 2, CLOSING)? as u16,
         silence: number_found(found, "silence", 0, SILENCE)? as u32,
         level: number_found(found, "level", 10_000, LEVEL)? as u16,
-        modem: modem(found),
+        modem: modem(found)?,
     })
 }

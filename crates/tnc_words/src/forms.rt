@@ -1,9 +1,9 @@
 //! The forms of samples and frames among what was found.
 ghost use Rattle.std.specs.Prelude.{◌≡◌};
 ghost use Rattle.clap.specs.Words.{found_of, rows_of};
-ghost use Rattle.tnc_words.specs.Forms.{audio_form as form_of_audio, frame_form as form_of_frames, modem as modem_of};
+ghost use Rattle.tnc_words.specs.Forms.{audio_form as form_of_audio, frame_form as form_of_frames};
 
-use crate::command::{AudioForm, FrameForm, Modem};
+use crate::command::{AudioForm, FrameForm};
 use crate::parsing::has_flag;
 use clap::ArgMatches;
 
@@ -25,14 +25,4 @@ pub(crate) fn frame_form(found: &ArgMatches) -> FrameForm
         return FrameForm::Kiss;
     }
     FrameForm::Hex
-}
-
-/// The modem that sends: that of short wave if `--hf` was given.
-pub(crate) fn modem(found: &ArgMatches) -> Modem
-    ensures { result ≡ modem_of (rows_of (found_of found.now)) }
-{
-    if has_flag(found, "hf") {
-        return Modem::ShortWave;
-    }
-    Modem::Bell202
 }

@@ -16,6 +16,7 @@ mod help_words;
 mod laws;
 mod link_words;
 mod loop_words;
+mod modem_words;
 mod number;
 mod options;
 mod parsing;
@@ -28,8 +29,8 @@ mod texts;
 mod topic;
 
 pub use command::{
-    AudioForm, BenchOptions, CallOptions, Command, Dcd, DecodeWords, EncodeWords, FrameForm,
-    LoopWords, Modem, Receiving, RecordOptions, SampleRate, ServeOptions, ShowWords,
+    AudioForm, BenchOptions, CallOptions, CheckOctets, Command, Dcd, DecodeWords, EncodeWords,
+    FrameForm, LoopWords, Modem, Receiving, RecordOptions, SampleRate, ServeOptions, ShowWords,
 };
 pub use fault::WordsFault;
 pub use laws::one_command;

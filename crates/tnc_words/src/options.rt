@@ -28,11 +28,12 @@ pub(crate) const DECODE: [Entry; 6] = [
 ];
 
 /// The options of `encode`.
-pub(crate) const ENCODE: [Entry; 8] = [
+pub(crate) const ENCODE: [Entry; 9] = [
     Entry::Flag("wav"),
     Entry::Flag("kiss"),
     Entry::Flag("join"),
     Entry::Flag("hf"),
+    Entry::Value("fx25"),
     Entry::Value("opening"),
     Entry::Value("closing"),
     Entry::Value("silence"),

@@ -52,7 +52,7 @@ Prints the frames that are heard in sound, a line of hexadecimal digits each, as
 ";
 
 const ENCODE: &str = "\
-Usage: tnc encode [--kiss] [--wav] [--join] [--hf] [--opening n] [--closing n] [--silence n] [--level n]
+Usage: tnc encode [--kiss] [--wav] [--join] [--hf] [--fx25 n] [--opening n] [--closing n] [--silence n] [--level n]
 
 Makes the sound of frames, which come as lines of hexadecimal digits.
 
@@ -60,6 +60,7 @@ Makes the sound of frames, which come as lines of hexadecimal digits.
   --wav        the output is a WAV file, and not raw PCM
   --join       all frames are one transmission
   --hf         300 bits a second, for short wave, and not Bell 202
+  --fx25 n     each frame with 16, 32 or 64 check octets around it (FX.25), and not plainly
   --opening n  flags before the first frame, 2 to 10000 (75)
   --closing n  flags after the last frame, 1 to 10000 (2)
   --silence n  samples of silence before a transmission, 0 to 1000000 (0)

@@ -8,7 +8,7 @@ use std::test::Fail;
 use tnc_base::{MemSink, MemSource, fnv};
 use tnc_encode::encode;
 use tnc_forms::{Fault, InputFault, LineFault, LineFlaw};
-use tnc_words::{AudioForm, EncodeWords, FrameForm, Modem};
+use tnc_words::{AudioForm, CheckOctets, EncodeWords, FrameForm, Modem};
 
 /// A SABM from N7LEM to NJ7P.
 const LINE: &[u8] = b"9c946ea04040e09c6e988a9a40613f\n";
@@ -18,6 +18,13 @@ const KISS: &[u8] = b"\xc0\x00\x9c\x94\x6e\xa0\x40\x40\xe0\x9c\x6e\x98\x8a\x9a\x
 
 /// The SABM, an empty line, and a UA between the same stations.
 const TWO: &[u8] = b"9c946ea04040e09c6e988a9a40613f\n\n9c946ea04040e09c6e988a9a406163\n";
+
+/// `hello` from N7LEM to APRS.
+const HELLO: &[u8] = b"82a0a4a64040e09c6e988a9a40e103f068656c6c6f\n";
+
+/// The same twice.
+const HELLO_TWICE: &[u8] =
+    b"82a0a4a64040e09c6e988a9a40e103f068656c6c6f\n82a0a4a64040e09c6e988a9a40e103f068656c6c6f\n";
 
 const WORDS: EncodeWords = EncodeWords {
     frames: FrameForm::Hex,
@@ -84,6 +91,54 @@ fn frames_and_their_samples(rt: HostRuntime) -> Result<(), Fail> {
             &rt,
             &(words, written.len(), fnv(&written), end),
             &(words, count, hash, Ok(())),
+        );
+    }
+    Ok(())
+}
+
+/// The tag and the block of `hello` as Dire Wolf's gen_packets makes them, between flags on one line.
+#[test]
+fn frames_with_check_octets(rt: HostRuntime) -> Result<(), Fail> {
+    // the check octets, and how many octets come and their hash: of one frame, and of two in one transmission
+    for (checks, count, hash, joined_count, joined_hash) in [
+        (
+            CheckOctets::Sixteen,
+            7552,
+            0xd616_ba2a_b954_1d6d,
+            14720,
+            0x0106_9044_9ecc_14e5,
+        ),
+        (
+            CheckOctets::ThirtyTwo,
+            9600,
+            0xfcb4_cb09_dbef_39e3,
+            18816,
+            0xf023_4b62_7567_e7cc,
+        ),
+        (
+            CheckOctets::SixtyFour,
+            17792,
+            0x0560_b9ff_af07_03b8,
+            35200,
+            0xefe0_29a2_a805_3353,
+        ),
+    ] {
+        let one = EncodeWords {
+            modem: Modem::Fx25(checks),
+            ..WORDS
+        };
+        let (written, end) = encoded(&rt, rt.alloc(), one, HELLO, &[], &[])?;
+        assert_equal(
+            &rt,
+            &(one, written.len(), fnv(&written), end),
+            &(one, count, hash, Ok(())),
+        );
+        let two = EncodeWords { join: true, ..one };
+        let (written, end) = encoded(&rt, rt.alloc(), two, HELLO_TWICE, &[], &[])?;
+        assert_equal(
+            &rt,
+            &(two, written.len(), fnv(&written), end),
+            &(two, joined_count, joined_hash, Ok(())),
         );
     }
     Ok(())

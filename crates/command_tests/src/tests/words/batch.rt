@@ -3,7 +3,8 @@ use super::assert_asked;
 use ax25_frames::Modulus;
 use std::test::Fail;
 use tnc_words::{
-    AudioForm, Command, EncodeWords, FrameForm, LoopWords, Modem, ShowWords, one_command,
+    AudioForm, CheckOctets, Command, EncodeWords, FrameForm, LoopWords, Modem, ShowWords,
+    one_command,
 };
 
 /// What `encode` asks for alone.
@@ -53,11 +54,22 @@ fn encode_takes_its_forms_and_flags(rt: HostRuntime) -> Result<(), Fail> {
                 ..ENCODE
             },
         ),
+        ("--fx25 16", with_checks(CheckOctets::Sixteen)),
+        ("--fx25=032", with_checks(CheckOctets::ThirtyTwo)),
+        ("--fx25 64", with_checks(CheckOctets::SixtyFour)),
     ];
     for &(line, want) in &table {
         assert_asked(&rt, rt.alloc(), "encode", line, Command::Encode(want))?;
     }
     Ok(())
+}
+
+/// `ENCODE` with check octets around each frame.
+fn with_checks(checks: CheckOctets) -> EncodeWords {
+    EncodeWords {
+        modem: Modem::Fx25(checks),
+        ..ENCODE
+    }
 }
 
 /// `ENCODE` with other numbers.

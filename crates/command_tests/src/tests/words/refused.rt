@@ -65,6 +65,16 @@ x
 --rough
 --threads
 --sensitive
+--fx25
+--fx25=
+--fx25 0
+--fx25 15
+--fx25 17
+--fx25 48
+--fx25 65
+--fx25 16x
+--fx25 16 --fx25 16
+--fx25 16 --hf
 ";
 
 /// What stands after `show`.

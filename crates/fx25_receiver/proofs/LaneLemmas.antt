@@ -1,0 +1,97 @@
+-- The lanes after one sample more.
+use Rattle.fx25_receiver.proofs.Common.{◌≡◌, ℕ, ◌+◌, ◌*◌, ◌/◌, ◌%◌, ◌<◌, ◌≤◌, ℤ, List, [], ◌∷◌, ◌++◌, length, get_or}
+use Rattle.fx25_receiver.proofs.Common.{ap}
+use Rattle.fx25_receiver.proofs.Common.{sym, ◌∙◌, subst, arith, inl, inr, cases_lt, All, bits, bits_of, tones_at}
+use Rattle.fx25_receiver.proofs.Common.{windows_in, last_seven}
+use Rattle.offset_slicers.proofs.WindowLemmas.{length-tones_at}
+use Rattle.fx25_receiver.proofs.Common.{All-append, All-cons, All-nil, refl, EndsWindow, HeldLane, LaneStandsFor}
+use Rattle.fx25_receiver.proofs.Common.{LanesStandFor, length_push, Tone}
+use Rattle.std.proofs.Common.{set, get_or-set_other, get_or-set_same, ◌-◌}
+use Rattle.offset_slicers.specs.Decision.{tone_of}
+use Rattle.offset_slicers.proofs.SlicerLemmas.{tones_at-push_none}
+use Rattle.slicer_bank.proofs.SevenLemmas.{tones_at-seven}
+
+-- a lane that no window of the sample belongs to
+same_tones : (offset : ℕ) (x : List ℤ) (sample : ℤ) (lane : HeldLane)
+    → windows_in offset (length x + 1) ≡ windows_in offset (length x) → LaneStandsFor lane (tones_at offset x)
+    → LaneStandsFor lane (tones_at offset (x ++ sample ∷ []))
+same_tones offset x sample lane same stands =
+    subst (λ tones. LaneStandsFor lane tones) (sym (tones_at-push_none offset x sample same)) stands
+
+-- before the eighth sample no window ends
+pub lanes_early : (lanes : List HeldLane) (x : List ℤ) (sample : ℤ) → length x + 1 < 8 → LanesStandFor lanes x
+    → LanesStandFor lanes (x ++ sample ∷ [])
+lanes_early lanes x sample few stand offset d small =
+    same_tones offset x sample (get_or lanes offset d) (omega arith) (stand offset d small)
+
+-- the lane whose window the sample ends takes its tone
+pub tones_on : (x : List ℤ) (sample : ℤ) (place : ℕ) (tone : Tone) → place ≡ (length x + 1) % 8 → 8 ≤ length x + 1
+    → tone ≡ tone_of (last_seven x ++ sample ∷ [])
+    → tones_at place x ++ tone ∷ [] ≡ tones_at place (x ++ sample ∷ [])
+tones_on x sample place tone is enough decided =
+    let k : ℕ = (length x + 1) / 8 in
+    let window : length x + 1 ≡ place + 8 * ((k - 1) + 1) = omega arith in
+    ap (λ t. tones_at place x ++ t ∷ []) decided ∙ sym (tones_at-seven place (k - 1) x sample window (omega arith))
+
+pub bits_on : (x : List ℤ) (sample : ℤ) (place : ℕ) (tone : Tone)
+    → tones_at place x ++ tone ∷ [] ≡ tones_at place (x ++ sample ∷ [])
+    → bits_of (tones_at place x ++ tone ∷ []) ≡ bits place (x ++ sample ∷ [])
+unfolding bits
+bits_on x sample place tone is = ap bits_of is
+
+pub lanes_on : (lanes : List HeldLane) (x : List ℤ) (sample : ℤ) (place : ℕ) (now : HeldLane)
+    → place ≡ (length x + 1) % 8 → 8 ≤ length x + 1 → length lanes ≡ 8 → LanesStandFor lanes x
+    → LaneStandsFor now (tones_at place (x ++ sample ∷ []))
+    → LanesStandFor (set lanes place now) (x ++ sample ∷ [])
+lanes_on lanes x sample place now is enough size stand stands offset d small =
+    elim (cases_lt offset place) [
+      | inl before ↦ other (omega arith)
+      | inr not_before ↦ elim (cases_lt place offset) [
+        | inl after ↦ other (omega arith)
+        | inr not_after ↦
+            let same : place ≡ offset = omega arith in
+            subst (λ o. LaneStandsFor (get_or (set lanes place now) o d) (tones_at o (x ++ sample ∷ []))) same
+            (subst (λ l. LaneStandsFor l (tones_at place (x ++ sample ∷ [])))
+            (sym (get_or-set_same lanes place now d (omega arith))) stands)
+      ]
+    ]
+  where
+    other : (offset ≡ place → ⊥) → LaneStandsFor (get_or (set lanes place now) offset d)
+        (tones_at offset (x ++ sample ∷ []))
+    other apart =
+        subst (λ l. LaneStandsFor l (tones_at offset (x ++ sample ∷ [])))
+        (sym (get_or-set_other lanes place offset now d apart))
+        (same_tones offset x sample (get_or lanes offset d) (omega arith) (stand offset d small))
+
+-- a sample that ends a window of a place
+pub window_there : (x : List ℤ) (sample : ℤ) (place : ℕ) → place ≡ (length x + 1) % 8 → 8 ≤ length x + 1
+    → EndsWindow place (x ++ sample ∷ [])
+window_there x sample place is enough =
+    let size = length_push x sample in
+    ((length x + 1) / 8 - 1, omega arith)
+
+-- so many lanes that have taken nothing
+pub record AreFresh (n : ℕ) (lanes : List HeldLane) : Type 0 where
+  pub count : length lanes ≡ n
+  pub each : All (λ lane. LaneStandsFor lane []) lanes
+
+pub fresh_more : (n : ℕ) (lanes : List HeldLane) (lane : HeldLane) → AreFresh n lanes → LaneStandsFor lane []
+    → AreFresh (n + 1) (lanes ++ lane ∷ [])
+fresh_more n lanes lane h stands = record {
+  count = length_push lanes lane ∙ ap (λ t. t + 1) h.count;
+  each = All-append (λ l. LaneStandsFor l []) lanes (lane ∷ []) h.each
+      (All-cons (λ l. LaneStandsFor l []) lane [] stands (All-nil (λ l. LaneStandsFor l [])));
+}
+
+-- no samples give no tones
+tones_of_none : (offset : ℕ) → tones_at offset [] ≡ []
+tones_of_none offset = empty (tones_at offset []) (length-tones_at offset [] ∙ omega arith)
+  where
+    empty : (tones : List Tone) → length tones ≡ 0 → tones ≡ []
+    empty [] h = refl
+    empty (t ∷ tones) h = absurd (omega arith)
+
+pub fresh_stand : (lanes : List HeldLane) → length lanes ≡ 8 → All (λ lane. LaneStandsFor lane []) lanes
+    → LanesStandFor lanes []
+fresh_stand lanes all each k d below =
+    subst (LaneStandsFor (get_or lanes k d)) (sym (tones_of_none k)) (each k d (omega arith))

@@ -1,0 +1,9 @@
+pub mod Common
+pub mod MergingLemmas
+pub mod HeardLemmas
+pub mod LaneLemmas
+pub mod TakenLemmas
+pub mod OneItem
+pub mod HearingLemmas
+pub mod BlockLemmas
+pub mod StepLemmas

@@ -1,0 +1,146 @@
+-- What has been taken of what ends with a bit, with one item more.
+use Rattle.fx25_receiver.proofs.Common.{◌≡◌, ℕ, zero, suc, ◌+◌, ◌*◌, ◌<◌, ◌≤◌, ℤ, Bool, List, [], ◌∷◌, ◌++◌, length}
+use Rattle.fx25_receiver.proofs.Common.{take}
+use Rattle.fx25_receiver.proofs.Common.{ap, sym, ◌∙◌, subst, refl, arith, inl, inr, length-append, length_push, bits}
+use Rattle.fx25_receiver.proofs.Common.{length-bits, sent_bits, EndsBlock, EndsFrame, EndsWithBits, HasHeard}
+use Rattle.fx25_receiver.proofs.Common.{HasTakenBelow, Heard, IsAt, IsTag, Keeps, Place, block_length, data_count}
+use Rattle.fx25_receiver.proofs.Common.{merged}
+use Rattle.fx25_receiver.proofs.HeardLemmas.{heard_early, heard_finish, heard_start, none_there, one_there}
+use Rattle.fx25_receiver.proofs.MergingLemmas.{keeps_on}
+use Rattle.hdlc_framer.proofs.BitLemmas.{length-sent_bits}
+use Rattle.hdlc_framer.proofs.FrameEnds.{one_frame}
+use Rattle.hdlc_framer.specs.Body.{flags}
+use Rattle.hdlc_framer.specs.Frames.{frame_bits}
+use Rattle.hdlc_framer.specs.Stuffing.{flag}
+use Rattle.fx25_blocks.proofs.BlockLaws.{one_block}
+use Rattle.std.proofs.lemmas.List.{length-take}
+
+length-flags : (count : ℕ) → length (flags count) ≡ 8 * count
+length-flags zero = refl
+length-flags (suc count) = omega (arith, length-append flag (flags count), length-flags count)
+
+-- a tag and its block are as many bits as they are, and the frame is over within the data
+pub block_bounds : (bits : List Bool) (tag : ℕ) (frame : List ℕ) (over : ℕ) → EndsBlock bits tag frame over
+    → (64 + 8 * block_length tag ≤ length bits) × (over ≤ 8 * block_length tag)
+block_bounds bits tag frame over ends =
+    let c = ends.carries in
+    let o = c.opens in
+    let octets = take (data_count tag) c.codeword in
+    let size : length ends.block ≡ 8 * block_length tag =
+    ap length c.bits_are ∙ length-sent_bits c.word ∙ ap (λ n. 8 * n) c.size in
+    let all : length bits ≡ length ends.before + (64 + 8 * block_length tag) = omega (
+      arith,
+      ap length ends.bits_are,
+      length-append ends.before (ends.heard ++ ends.block),
+      length-append ends.heard ends.block,
+      ends.near_tag.size,
+      size,
+    ) in
+    let within : over ≤ length (sent_bits octets) = omega (
+      arith,
+      o.over_is,
+      ap length o.bits_are,
+      length-append (flags o.flags_before) (flag ++ (frame_bits frame ++ (flag ++ o.rest))),
+      length-append flag (frame_bits frame ++ (flag ++ o.rest)),
+      length-append (frame_bits frame) (flag ++ o.rest),
+      length-append flag o.rest,
+      length-flags o.flags_before,
+    ) in (
+      omega arith,
+      omega (
+        arith,
+        length-sent_bits octets,
+        length-take (data_count tag) c.codeword,
+      ),
+    )
+
+pub same_item : (item other : Heard) → item.end ≡ other.end → item.lane ≡ other.lane → item.tag ≡ other.tag
+    → item.octets ≡ other.octets → item.at ≡ other.at → item ≡ other
+same_item item other end lane tag octets at =
+    ap (λ v. record item { end = v }) end
+    ∙ ap (λ v. record item { end = other.end; lane = v }) lane
+    ∙ ap (λ v. record item { end = other.end; lane = other.lane; tag = v }) tag
+    ∙ ap (λ v. record other { octets = v; at = item.at }) octets
+    ∙ ap (λ v. record other { at = v }) at
+
+module _ (place : Place) (x : List ℤ) (at : IsAt place x) where
+  -- one item more was taken
+  pub taken_one : (item : Heard) (kept now : List Heard) (given more : List Heard)
+      → (taken : HasTakenBelow item.tag kept x given) → item.lane ≡ place.offset → item.end ≡ place.end
+      → EndsWithBits (bits place.offset x) item
+      → ((other : Heard) → other.lane ≡ item.lane → other.end ≡ item.end → other.tag ≡ item.tag
+      → EndsWithBits (bits place.offset x) other → item ≡ other)
+      → Keeps now (length x) (taken.heard ++ item ∷ []) → more ≡ merged (taken.heard ++ item ∷ [])
+      → HasTakenBelow (item.tag + 1) now x more
+  taken_one item kept now given more taken lane end ends only keeps is = record {
+    heard = taken.heard ++ item ∷ [];
+    are = one_there place x at taken.heard item taken.are lane end ends only;
+    keeps = keeps;
+    given_is = is;
+  }
+
+  pub taken_none : (tag : ℕ) (kept given : List Heard) → HasTakenBelow tag kept x given
+      → ((item : Heard) → EndsWithBits (bits place.offset x) item → item.tag ≡ tag → ⊥)
+      → HasTakenBelow (tag + 1) kept x given
+  taken_none tag kept given taken none = record {
+    heard = taken.heard;
+    are = none_there place x at tag taken.heard taken.are none;
+    keeps = taken.keeps;
+    given_is = taken.given_is;
+  }
+
+  -- no other frame came plainly
+  pub only_plain : (item : Heard) → item.tag ≡ 0 → item.at ≡ item.end → EndsFrame (bits place.offset x) item.octets
+      → (other : Heard) → other.lane ≡ item.lane → other.end ≡ item.end → other.tag ≡ item.tag
+      → EndsWithBits (bits place.offset x) other → item ≡ other
+  only_plain item tag at_end ends other lane end same (inl plain) =
+      same_item item other (sym end) (sym lane) (sym same)
+      (one_frame (bits place.offset x) item.octets other.octets ends plain.2).0
+      (at_end ∙ sym end ∙ sym plain.1)
+  only_plain item tag at_end ends other lane end same (inr block) =
+      let is_tag = block.1.is_tag.0 in absurd (omega arith)
+
+  -- no other frame came in a block of a tag
+  pub only_in_block : (item : Heard) (over : ℕ) → EndsBlock (bits place.offset x) item.tag item.octets over
+      → item.at + 8 * (8 * block_length item.tag) ≡ item.end + 8 * over
+      → (other : Heard) → other.lane ≡ item.lane → other.end ≡ item.end → other.tag ≡ item.tag
+      → EndsWithBits (bits place.offset x) other → item ≡ other
+  only_in_block item over ends at_end other lane end same (inl plain) =
+      let is_tag = ends.is_tag.0 in let none = plain.0 in absurd (omega arith)
+  only_in_block item over ends at_end other lane end same (inr block) =
+      let there : EndsBlock (bits place.offset x) item.tag other.octets block.0 =
+      subst (λ tag. EndsBlock (bits place.offset x) tag other.octets block.0) same block.1 in
+      let one = one_block (bits place.offset x) item.tag item.octets other.octets over block.0 ends there in
+      let lengths : block_length other.tag ≡ block_length item.tag = ap block_length same in
+      let over_same = one.1 in
+      let at_other = block.2 in
+      same_item item other (sym end) (sym lane) (sym same) one.0 (omega arith)
+
+-- a bit at which nothing can end, and one at which all that could was taken
+pub taken_start : (kept given : List Heard) (x : List ℤ) (sample : ℤ) → HasHeard kept x given
+    → HasTakenBelow 0 kept (x ++ sample ∷ []) given
+taken_start kept given x sample h = record {
+  heard = h.heard;
+  are = heard_start x sample h.heard h.are;
+  keeps = keeps_on kept (length x) (length (x ++ sample ∷ [])) h.heard (omega (arith, length_push x sample)) h.keeps;
+  given_is = h.given_is;
+}
+
+pub taken_all : (kept given : List Heard) (x : List ℤ) → HasTakenBelow 12 kept x given → HasHeard kept x given
+taken_all kept given x taken = record {
+  heard = taken.heard;
+  are = heard_finish x taken.heard taken.are;
+  keeps = taken.keeps;
+  given_is = taken.given_is;
+}
+
+pub taken_early : (kept given : List Heard) (x : List ℤ) (sample : ℤ) → length x + 1 < 8 → HasHeard kept x given
+    → HasHeard kept (x ++ sample ∷ []) given
+taken_early kept given x sample few h =
+    let start = taken_start kept given x sample h in
+    record {
+      heard = start.heard;
+      are = heard_early (x ++ sample ∷ []) 0 start.heard (omega (arith, length_push x sample)) start.are;
+      keeps = start.keeps;
+      given_is = start.given_is;
+    }

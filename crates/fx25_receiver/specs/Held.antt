@@ -1,0 +1,71 @@
+-- What a receiver keeps, and what that stands for. Public clauses cite `StandsFor` alone.
+use Rattle.std.specs.Prelude.{◌≡◌, ℕ, ◌+◌, ◌<◌, ◌≤◌, ℤ, List, Bool, false, filter, length, nat_le, slice_index_or}
+use Rattle.tone_table.specs.declared.tone.Tone.{Tone}
+use Rattle.nrzi_bits.specs.Line.{bits_of, last_tone}
+use Rattle.offset_slicers.specs.Windows.{tones_at}
+use Rattle.slicer_bank.specs.Held.{last_seven}
+use Rattle.slicer_bank.specs.ToneLanes.{HeldToneLane, ToneLaneStandsFor}
+use Rattle.fx25_blocks.specs.Held.{StandsFor as ReaderStandsFor}
+use Rattle.fx25_blocks.specs.declared.block_reader.BlockReader.{BlockReader}
+use Rattle.fx25_receiver.specs.declared.heard.Heard.{Heard}
+use Rattle.fx25_receiver.specs.Heard.{AreHeard}
+use Rattle.fx25_receiver.specs.Merged.{merged, reach}
+
+-- the lane of plain frames, the tone of the last window, and the reader of blocks
+pub record HeldLane : Type 0 where
+  pub plain : HeldToneLane
+  pub line : Tone
+  pub reader : BlockReader
+
+-- the lane has taken windows of these tones
+pub record LaneStandsFor (held : HeldLane) (tones : List Tone) : Type 0 where
+  pub plain : ToneLaneStandsFor held.plain tones
+  pub line : held.line ≡ last_tone tones
+  pub reader : ReaderStandsFor held.reader (bits_of tones)
+
+-- each lane has taken the windows at its offset that lie in these samples
+abbrev pub LanesStandFor : List HeldLane → List ℤ → Type 0
+LanesStandFor lanes x =
+    (offset : ℕ) (d : HeldLane) → offset < 8 → LaneStandsFor (slice_index_or lanes offset d) (tones_at offset x)
+
+-- what ends less than a reach before a number of samples, or after it
+abbrev pub not_past : ℕ → List Heard → List Heard
+not_past count items = filter (λ item. nat_le count (item.end + reach)) items
+
+-- What is kept of what was heard of so many samples: all that an item to come can repeat.
+pub record Keeps (kept : List Heard) (count : ℕ) (heard : List Heard) : Type 0 where
+  pub least : ℕ
+  pub below : least ≤ count
+  pub kept_is : kept ≡ not_past least heard
+
+-- the lanes, the last seven samples, how many samples were taken, what can still be repeated, and whether want of
+-- memory spent the receiver
+pub record Held : Type 0 where
+  pub lanes : List HeldLane
+  pub recent : List ℤ
+  pub position : ℕ
+  pub kept : List Heard
+  pub spent : Bool
+
+-- what a receiver heard of these samples and gave
+pub record HasHeard (kept : List Heard) (x : List ℤ) (given : List Heard) : Type 0 where
+  pub heard : List Heard
+  pub are : AreHeard x heard
+  pub keeps : Keeps kept (length x) heard
+  pub given_is : given ≡ merged heard
+
+-- lanes, last samples, a count and what is kept, after these samples were taken and these items given
+pub record AreAfter (lanes : List HeldLane) (recent : List ℤ) (position : ℕ) (kept : List Heard) (x : List ℤ)
+    (given : List Heard) : Type 0 where
+  pub count : position ≡ length x
+  pub recent_is : recent ≡ last_seven x
+  pub lanes_stand : LanesStandFor lanes x
+  pub has_heard : HasHeard kept x given
+
+-- it has taken these samples and given these items
+abbrev pub HasTaken : Held → List ℤ → List Heard → Type 0
+HasTaken held x given = AreAfter held.lanes held.recent held.position held.kept x given
+
+-- and every growth that it wanted was given
+abbrev pub StandsFor : Held → List ℤ → List Heard → Type 0
+StandsFor held x given = (held.spent ≡ false) × HasTaken held x given

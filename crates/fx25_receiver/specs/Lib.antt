@@ -1,0 +1,4 @@
+pub mod Heard
+pub mod Merged
+pub mod Held
+pub mod Hearing

@@ -1,0 +1,100 @@
+//! One lane: its plain frames, and its blocks.
+ghost use Rattle.std.specs.Prelude.{◌≡◌, ℕ, List, [], ◌∷◌, ◌++◌, length, true, IfOk, IfSome};
+ghost use Rattle.std.specs.List.{All};
+ghost use Rattle.std.specs.Option.{IfNone};
+ghost use Rattle.tone_table.specs.declared.tone.Tone.{Tone};
+ghost use Rattle.nrzi_bits.specs.Line.{bits_of};
+ghost use Rattle.hdlc_framer.specs.Frames.{IsFrame, EndsFrame};
+ghost use Rattle.hdlc_framer.specs.Held.{HoldsFrame};
+ghost use Rattle.fx25_blocks.specs.BlockEnds.{EndsBlock};
+ghost use Rattle.fx25_blocks.specs.Tags.{IsTag};
+ghost use Rattle.fx25_receiver.specs.Held.{LaneStandsFor};
+
+use fx25_blocks::{BlockFrame, BlockReader};
+use nrzi_bits::NrziIn;
+use slicer_bank::ToneLane;
+use std::alloc::Global;
+use std::marker::Model;
+use tnc_base::OutOfMemory;
+use tone_table::Tone;
+
+/// How many lanes there are: one for each offset of a bit.
+const LANES: u64 = 8;
+
+/// The tones of one lane, as plain bits and as blocks.
+#[derive(Drop)]
+pub(crate) struct Lane {
+    plain: ToneLane,
+    line: NrziIn,
+    reader: BlockReader,
+}
+
+impl Model for Lane {
+    ghost use Rattle.fx25_receiver.specs.Held.{HeldLane};
+
+    ghost Value = { HeldLane };
+
+    ghost view = { λ s. record { plain = s.plain; line = s.line; reader = s.reader } };
+}
+
+impl Lane {
+    /// A lane that has taken nothing.
+    pub(crate) fn new() -> Lane
+        ensures { LaneStandsFor result [] }
+    {
+        Lane {
+            plain: ToneLane::new(),
+            line: NrziIn::new(),
+            reader: BlockReader::new(),
+        }
+    }
+
+    /// Takes the next tone, and says whether a frame ends plainly with it.
+    pub(crate) fn push(&mut self, tone: Tone) -> bool
+        ensures stands_for { (tones : List Tone) → LaneStandsFor self.old tones
+            → LaneStandsFor self.new (tones ++ tone ∷ []) }
+        ensures holds { result ≡ true
+            → (octets : List ℕ) × IsFrame octets × HoldsFrame self.new.plain.deframer octets }
+        ensures heard { (tones : List Tone) → LaneStandsFor self.old tones → result ≡ true
+            → (octets : List ℕ) × EndsFrame (bits_of (tones ++ tone ∷ [])) octets }
+        ensures frame { (tones : List Tone) (octets : List ℕ) → LaneStandsFor self.old tones
+            → EndsFrame (bits_of (tones ++ tone ∷ [])) octets
+            → (result ≡ true) × HoldsFrame self.new.plain.deframer octets }
+    {
+        let bit = self.line.step(tone);
+        self.reader.push(bit);
+        self.plain.push(tone)
+    }
+
+    /// The octets of the plain frame that the last tone ended.
+    pub(crate) fn octets(&self) -> &[u8]
+        requires { (octets : List ℕ) × IsFrame octets × HoldsFrame self.now.plain.deframer octets }
+        ensures { (octets : List ℕ) → IsFrame octets → HoldsFrame self.now.plain.deframer octets
+            → result.now ≡ octets }
+    {
+        self.plain.octets()
+    }
+
+    /// The frame of the block of a tag that the last tone ended.
+    pub(crate) fn block(&self, tag: u8) -> Option<BlockFrame>
+        requires { IsTag tag }
+        ensures frame { (tones : List Tone) → LaneStandsFor self.now tones
+            → IfSome result (λ found. EndsBlock (bits_of tones) tag found.octets.items found.over) }
+        ensures none { (tones : List Tone) → LaneStandsFor self.now tones
+            → IfNone result ((frame : List ℕ) → (over : ℕ) → ¬ EndsBlock (bits_of tones) tag frame over) }
+    {
+        self.reader.frame(tag)
+    }
+}
+
+/// The eight lanes, which have taken nothing.
+pub(crate) fn new_lanes(alloc: Global) -> Result<Vec<Lane>, OutOfMemory>
+    ensures count { IfOk result (λ lanes. length lanes.items ≡ 8) }
+    ensures fresh { IfOk result (λ lanes. All (λ lane. LaneStandsFor lane []) lanes.items) }
+{
+    let mut lanes = Vec::new(alloc);
+    for _ in 0..LANES {
+        lanes.push(Lane::new())?;
+    }
+    Ok(lanes)
+}

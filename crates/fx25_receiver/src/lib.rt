@@ -1,0 +1,20 @@
+//! Eight lanes at 9600 samples a second that hear frames of AX.25 also in blocks of FX.25.
+//!
+//! Each lane takes the windows of one offset of a bit, as `slicer_bank` has them, and gives the bits to a deframer and
+//! to a reader of blocks. What comes plainly and what comes out of blocks is merged: each frame is given once, in the
+//! order of the ends. What is promised: what was given of samples, in whatever blocks they came, is exactly what the
+//! definitions of heard and merged items say of their whole list.
+#![tactic(auto)]
+
+mod heard;
+mod hearing;
+mod lane;
+mod laws;
+mod merging;
+mod receiver;
+#[cfg(test)]
+mod tests;
+
+pub use heard::Heard;
+pub use laws::{given_items_are_merged, near_blocks_are_heard};
+pub use receiver::Fx25Receiver;

@@ -1,0 +1,41 @@
+-- Words name one modem at most.
+use Rattle.tnc_words.proofs.Common.{◌≡◌, Bool, List, Option, Some, None, ap, refl, sym, ◌∙◌, arith, codes, Row, Text}
+use Rattle.std.proofs.lemmas.Bool.{true≢false}
+use Rattle.clap.specs.Words.{first_of}
+use Rattle.tnc_words.specs.declared.command.CheckOctets.{CheckOctets}
+use Rattle.tnc_words.specs.declared.command.CheckOctets.TheVariants.{Sixteen, ThirtyTwo, SixtyFour}
+use Rattle.tnc_words.specs.declared.command.Modem.{Modem}
+use Rattle.tnc_words.specs.declared.command.Modem.TheVariants.{Bell202, ShortWave as OnShortWave, Fx25}
+use Rattle.tnc_words.specs.Options.{is_used}
+use Rattle.tnc_words.specs.Sending.{HasModem, IsModem, count_of}
+use Rattle.tnc_words.proofs.OneNumber.{given_number}
+
+pub one_count : (checks other : CheckOctets) → count_of checks ≡ count_of other → checks ≡ other
+one_count Sixteen Sixteen e = refl
+one_count Sixteen ThirtyTwo e = absurd (omega arith)
+one_count Sixteen SixtyFour e = absurd (omega arith)
+one_count ThirtyTwo Sixteen e = absurd (omega arith)
+one_count ThirtyTwo ThirtyTwo e = refl
+one_count ThirtyTwo SixtyFour e = absurd (omega arith)
+one_count SixtyFour Sixteen e = absurd (omega arith)
+one_count SixtyFour ThirtyTwo e = absurd (omega arith)
+one_count SixtyFour SixtyFour e = refl
+
+one_modem_by : (hf : Bool) (text : Option Text) (modem other : Modem) → IsModem hf text modem → IsModem hf text other
+    → modem ≡ other
+one_modem_by hf None Bell202 Bell202 h k = refl
+one_modem_by hf None Bell202 OnShortWave h k = absurd (true≢false (sym k ∙ h))
+one_modem_by hf None Bell202 (Fx25 other) h k = absurd k
+one_modem_by hf None OnShortWave Bell202 h k = absurd (true≢false (sym h ∙ k))
+one_modem_by hf None OnShortWave OnShortWave h k = refl
+one_modem_by hf None OnShortWave (Fx25 other) h k = absurd k
+one_modem_by hf None (Fx25 checks) other h k = absurd h
+one_modem_by hf (Some text) Bell202 other h k = absurd h
+one_modem_by hf (Some text) OnShortWave other h k = absurd h
+one_modem_by hf (Some text) (Fx25 checks) Bell202 h k = absurd k
+one_modem_by hf (Some text) (Fx25 checks) OnShortWave h k = absurd k
+one_modem_by hf (Some text) (Fx25 checks) (Fx25 other) h k =
+    ap Fx25 (one_count checks other (given_number (Some text) 16 64 (count_of checks) (count_of other) h.1 k.1))
+
+pub one_modem : (found : List Row) (modem other : Modem) → HasModem found modem → HasModem found other → modem ≡ other
+one_modem found modem other = one_modem_by (is_used (codes "hf") found) (first_of (codes "fx25") found) modem other
