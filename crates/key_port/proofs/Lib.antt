@@ -1,1 +1,5 @@
 pub mod LineLemmas
+pub mod OpenLines
+pub mod Bridge
+pub mod EndOfRun
+mod Examples

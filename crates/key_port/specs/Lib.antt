@@ -1,2 +1,5 @@
 pub mod KeyLines
 pub mod KeyScripts
+pub mod KeyEvents
+pub mod KeyFaults
+pub mod KeyCalls

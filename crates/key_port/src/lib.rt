@@ -9,6 +9,7 @@
 
 mod key_port;
 mod key_records;
+mod laws;
 mod mem_key;
 mod real_key;
 #[cfg(test)]
@@ -16,5 +17,6 @@ mod tests;
 
 pub use key_port::KeyPort;
 pub use key_records::{KeyCame, KeyStep, KeyWrite};
+pub use laws::{the_line_has_the_commands, the_line_is_released_at_the_end};
 pub use mem_key::{KeyOutcome, LineRecord, MemKeyPort};
 pub use real_key::RealKeyPort;

@@ -35,7 +35,7 @@ pub use laws::{
     short_sound_meets_no_limit, the_end_owes_nothing, the_end_releases, the_key_follows_the_sound,
     the_key_has_a_limit, the_key_stays_on, the_tail_is_exact,
 };
-pub use line::{End, Try};
+pub use line::{End, Phase, Try};
 pub use machine::{Keying, Words};
 pub use report::{OffWhy, Report, Why};
 pub use ticking::Act;
