@@ -1,44 +1,41 @@
 -- What the machine takes to be the commands of the connection stands on the line, whenever nothing is to be done.
-use Rattle.std.proofs.Common.{◌≡◌, ℕ, ◌+◌, List, [], ◌∷◌, ◌++◌, length, refl, ap, sym, subst, ◌∙◌, inl, inr, ◌⊎◌}
+use Rattle.std.proofs.Common.{◌≡◌, ℕ, ◌+◌, List, [], ◌∷◌, ◌++◌, length, refl, ap, sym, subst, ◌∙◌, inl, inr}
 use Rattle.std.proofs.lemmas.Bool.{cond_both, and_parts}
 use Rattle.std.specs.Prelude.{not, ◌==◌, ◌&&◌, nat_le, if◌then◌else◌, Bool, true, false, Option, Some, None, ◌-◌, drop}
 use Rattle.keying.specs.declared.command.Command.{Command}
 use Rattle.keying.specs.declared.command.Command.TheVariants.{Release as Unkey, Key as KeyOn, KeyData}
-use Rattle.keying.specs.declared.ending.Ending.{Ending}
 use Rattle.keying.specs.declared.ending.Ending.TheVariants.{ConnectNow, OpenNow, ReleaseNow, Wait, Over}
 use Rattle.keying.specs.declared.line.End.{End}
 use Rattle.keying.specs.declared.line.End.TheVariants.{Fault}
 use Rattle.keying.specs.declared.line.Phase.{Phase}
 use Rattle.keying.specs.declared.line.Phase.TheVariants.{Down, Opening, Up}
-use Rattle.keying.specs.declared.line.Try.{Try}
 use Rattle.keying.specs.declared.line.Try.TheVariants.{Refused, NotYet, Written}
 use Rattle.keying.specs.declared.machine.Words.{Words}
 use Rattle.keying.specs.declared.report.OffWhy.TheVariants.{Limit, Sound}
 use Rattle.keying.specs.declared.report.Report.TheVariants.{Off}
 use Rattle.keying.specs.declared.ticking.Act.{Act}
-use Rattle.keying.specs.declared.turning.Next.{Next}
-use Rattle.keying.specs.declared.turning.Next.TheVariants.{Rest, ToConnect, ToOpen, ToRelease}
-use Rattle.keying.specs.Calls.{Call, called, tried, ticked, written, turned, ended, read, listened, command_failed}
+use Rattle.keying.specs.declared.turning.Next.TheVariants.{Rest, ToConnect, ToRelease}
+use Rattle.keying.specs.Calls.{Call, called, ticked, written, turned, ended, read, listened}
 use Rattle.keying.specs.Calls.Call.{Turn, AfterTry, Tick, AfterWrite, CommandFailed, Release}
-use Rattle.keying.specs.Key.{Key, key_of, is_up, is_down, free}
+use Rattle.keying.specs.Key.{key_of, is_up, is_down, free}
 use Rattle.keying.specs.Keyed.{on, ticks, wanted, ticked as last_tick, owed, retried, ending}
 use Rattle.keying.specs.Laws.{commands, newest_keys}
 use Rattle.keying.specs.Line.{phase, time, waiting}
 use Rattle.keying.specs.Marks.{Mark}
-use Rattle.keying.specs.Marks.Mark.{Keyed, Released, Ticked, Cut, WriteFault, Ends}
-use Rattle.keying.specs.Rules.{try_marks_in, is_try_due, is_stalled, stall_marks, is_at_limit, written_marks}
+use Rattle.keying.specs.Marks.Mark.{Keyed, Released, Cut, WriteFault, Ends}
+use Rattle.keying.specs.Rules.{try_marks_in, is_try_due, is_stalled, stall_marks, is_at_limit}
 use Rattle.keying.specs.Rules.{closing_marks, end_marks_in}
-use Rattle.keying.specs.Told.{next_in, ending_in, keying_command, is_in_time, written_told}
+use Rattle.keying.specs.Told.{next_in, ending_in, keying_command, is_in_time}
 use Rattle.key_port.specs.KeyLines.{KeyLine, with_last, after_write, after_drop, after_connect, is_open}
 use Rattle.key_port.specs.KeyLines.{open_commands, keys}
 use Rattle.key_port.specs.KeyEvents.{KeyEvent, Task, marks_of, lines_of, lines_read, give_up_if, tasks_of_next}
-use Rattle.key_port.specs.KeyEvents.{tasks_of_ending, tasks_of_try, tasks_of_command, asks, to_do, Does, Obeys}
+use Rattle.key_port.specs.KeyEvents.{tasks_of_ending, tasks_of_command, asks, to_do, Does, Obeys}
 use Rattle.key_port.specs.KeyEvents.{after_written, after_unwritten}
 use Rattle.key_port.specs.KeyEvents.KeyEvent.{Called, Began, NotBegun, Wrote, NotWritten, HungUp}
 use Rattle.key_port.specs.KeyEvents.Task.{Connect, Open, Write, Tell, GiveUp}
 use Rattle.key_port.proofs.OpenLines.{open_read, commands_read, open_drop, closed_commands, open_connect}
 use Rattle.key_port.proofs.OpenLines.{commands_connect, open_write, commands_write}
-use Rattle.keying.proofs.Quiet.{Level, level_read, level_listened, newest_on}
+use Rattle.keying.proofs.Quiet.{level_read, level_listened, newest_on}
 
 -- how the machine's connection, its commands, the connection on the line and the commands there stand to one another
 -- when nothing is to be done

@@ -30,7 +30,7 @@ keyed = Wrote KeyData 0 ∷ Called (Tick true) ∷ Called (Turn 50 (codes "RPRT 
 
 obeyed : Obeys short_tail keyed
 unfolding answer_of
-obeyed = (refl, tt, tt, refl, refl, tt, tt, tt)
+obeyed = (refl, (tt, (tt, (refl, (refl, (tt, (tt, tt)))))))
 
 one_connection : lines_of 4532 1000 [] keyed ≡ record {
       port = 4532;

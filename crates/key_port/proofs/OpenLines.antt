@@ -1,5 +1,5 @@
 -- Whether there is a connection, and the commands on it, after each change.
-use Rattle.std.proofs.Common.{◌≡◌, ℕ, List, [], ◌∷◌, ◌++◌, refl, ap, sym, ◌∙◌}
+use Rattle.std.proofs.Common.{◌≡◌, ℕ, List, [], ◌∷◌, ◌++◌, refl, ap, ◌∙◌}
 use Rattle.std.proofs.lemmas.List.{reverse-append}
 use Rattle.std.specs.Prelude.{not, Bool, true, false, if◌then◌else◌, reverse, Option}
 use Rattle.keying.specs.declared.command.Command.{Command}

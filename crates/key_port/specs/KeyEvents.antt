@@ -5,7 +5,6 @@ use Rattle.keying.specs.declared.command.Command.{Command}
 use Rattle.keying.specs.declared.command.Command.TheVariants.{Release as Unkey}
 use Rattle.keying.specs.declared.ending.Ending.{Ending}
 use Rattle.keying.specs.declared.ending.Ending.TheVariants.{ConnectNow, OpenNow, ReleaseNow, Wait, Over}
-use Rattle.keying.specs.declared.line.End.{End}
 use Rattle.keying.specs.declared.line.Try.{Try}
 use Rattle.keying.specs.declared.line.Try.TheVariants.{Refused, NotYet, Written}
 use Rattle.keying.specs.declared.machine.Words.{Words}

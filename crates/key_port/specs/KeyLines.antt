@@ -1,6 +1,6 @@
 -- What contracts see of the line to rigctld: each connection, with what was written on it and what came, in order. With
 -- each command stands how many octets the output had by then, so commands and samples are in one order.
-use Rattle.std.specs.Prelude.{ℕ, ◌==◌, ◌||◌, not, Bool, true, false, if◌then◌else◌, List, [], ◌∷◌, ◌++◌, length, take}
+use Rattle.std.specs.Prelude.{ℕ, ◌||◌, not, Bool, true, false, if◌then◌else◌, List, [], ◌∷◌, ◌++◌}
 use Rattle.std.specs.Prelude.{reverse}
 use Rattle.std.specs.Prelude.{Option, Some, None}
 use Rattle.keying.specs.declared.command.Command.{Command}
