@@ -185,7 +185,7 @@ turn_at words now octets end past lines m =
 
 -- ---- the end of the run
 
-closing_phase : (b : Bool) (past : List Mark)
+pub closing_phase : (b : Bool) (past : List Mark)
     → phase ((if b then Ends ∷ Released ∷ [] else Ends ∷ []) ++ past) ≡ phase past
 closing_phase true past = refl
 closing_phase false past = refl
@@ -280,9 +280,12 @@ acts_meet : (begins limit over : Bool) (words : Words) (p : Phase) (past : List 
     → Meets (tasks_of_command (acts begins limit over words).command) p (commands (acted begins limit over ++ past))
     there stood
 acts_meet true limit over words p past there stood m a b c =
-    let up = up_parts p (commands past) there stood (a refl) m in
-    (a refl, up.0, ap (λ k. k ∷ commands past) (sym (keys_keying words))
-    ∙ ap (λ cs. keys (keying_command words) ∷ cs) up.1)
+    let up = up_parts p (commands past) there stood (a refl) m in (
+      a refl,
+      up.0,
+      ap (λ k. k ∷ commands past) (sym (keys_keying words))
+          ∙ ap (λ cs. keys (keying_command words) ∷ cs) up.1,
+    )
 acts_meet false true over words p past there stood m a b c =
     let up = up_parts p (commands past) there stood (b refl) m in (b refl, up.0, ap (λ cs. false ∷ cs) up.1)
 acts_meet false false true words p past there stood m a b c =
@@ -432,14 +435,17 @@ wrote_at : (command : Command) (had place : ℕ) (tasks : List Task) (past : Lis
     → At (after_written tasks) past (with_last (after_write command place) lines)
 wrote_at command had place [] past lines does m = absurd does
 wrote_at command had place (Connect ∷ tasks) past lines does m = absurd does
-wrote_at command had place (Open ∷ tasks) past lines does m =
-    (m.0, open_write command place lines ∙ m.2,
-    commands_write command place lines m.2 ∙ ap (λ c. keys c ∷ open_commands lines) does ∙ ap (λ cs. false ∷ cs) m.3)
+wrote_at command had place (Open ∷ tasks) past lines does m = (
+  m.0,
+  open_write command place lines ∙ m.2,
+  commands_write command place lines m.2 ∙ ap (λ c. keys c ∷ open_commands lines) does ∙ ap (λ cs. false ∷ cs) m.3,
+)
 wrote_at command had place (Write asked ∷ tasks) past lines does m =
     let new = with_last (after_write command place) lines in
-    at_phase [] Up (phase past) (commands past) (is_open new) (open_commands new) (sym m.0)
-    (open_write command place lines ∙ m.1,
-    m.2 ∙ ap (λ c. keys c ∷ open_commands lines) (sym does) ∙ sym (commands_write command place lines m.1))
+    at_phase [] Up (phase past) (commands past) (is_open new) (open_commands new) (sym m.0) (
+      open_write command place lines ∙ m.1,
+      m.2 ∙ ap (λ c. keys c ∷ open_commands lines) (sym does) ∙ sym (commands_write command place lines m.1),
+    )
 wrote_at command had place (Tell told ∷ tasks) past lines does m = absurd does
 wrote_at command had place (GiveUp ∷ tasks) past lines does m = absurd does
 

@@ -33,11 +33,11 @@ unfolding answer_of
 obeyed = (refl, (tt, (tt, (refl, (refl, (tt, (tt, tt)))))))
 
 one_connection : lines_of 4532 1000 [] keyed ≡ record {
-      port = 4532;
-      steps = Command Unkey 1000 ∷ Read 50 (codes "RPRT 0\n") ∷ Command KeyData 1000 ∷ [];
-      ended = false;
-      dropped = false;
-    } ∷ []
+  port = 4532;
+  steps = Command Unkey 1000 ∷ Read 50 (codes "RPRT 0\n") ∷ Command KeyData 1000 ∷ [];
+  ended = false;
+  dropped = false;
+} ∷ []
 one_connection = refl
 
 two_commands : open_commands (lines_of 4532 1000 [] keyed) ≡ true ∷ false ∷ []

@@ -3,3 +3,5 @@ pub mod KeyScripts
 pub mod KeyEvents
 pub mod KeyFaults
 pub mod KeyCalls
+pub mod KeyTasks
+pub mod KeySides

@@ -9,7 +9,8 @@
 //! [`is_free`](Keying::is_free), by which the samples are made -> [`tick`](Keying::tick) -> writes the command,
 //! reports -> writes the samples -> [`written`](Keying::written) -> writes the command. A command that is not written
 //! whole by one write goes to [`command_failed`](Keying::command_failed) at once. At the end of the run the caller
-//! reads the line -> [`release`](Keying::release) -> does what it asks for, again and again until it answers `Over`.
+//! reads the line -> [`release`](Keying::release) -> drops the connection unless [`has_line`](Keying::has_line) -> does
+//! what `release` asks for, again and again until it answers `Over`.
 #![tactic(auto)]
 
 mod answer;
