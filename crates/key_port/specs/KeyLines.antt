@@ -1,8 +1,10 @@
 -- What contracts see of the line to rigctld: each connection, with what was written on it and what came, in order. With
 -- each command stands how many octets the output had by then, so commands and samples are in one order.
-use Rattle.std.specs.Prelude.{ℕ, ◌==◌, ◌||◌, not, Bool, true, false, if◌then◌else◌, List, [], ◌∷◌, ◌++◌, length, take}
+use Rattle.std.specs.Prelude.{ℕ, ◌||◌, not, Bool, true, false, if◌then◌else◌, List, [], ◌∷◌, ◌++◌}
+use Rattle.std.specs.Prelude.{reverse}
 use Rattle.std.specs.Prelude.{Option, Some, None}
 use Rattle.keying.specs.declared.command.Command.{Command}
+use Rattle.keying.specs.declared.command.Command.TheVariants.{Release, Key, KeyData}
 use Rattle.keying.specs.declared.line.End.{End}
 use Rattle.keying.specs.declared.line.End.TheVariants.{Closed, Fault}
 use Rattle.key_port.specs.declared.key_records.KeyStep.{KeyStep}
@@ -32,6 +34,26 @@ abbrev pub is_open : List KeyLine → Bool
 is_open [] = false
 is_open (line ∷ []) = not line.dropped
 is_open (line ∷ next ∷ lines) = is_open (next ∷ lines)
+
+-- ---- the commands on a connection
+
+-- whether a command keys
+abbrev pub keys : Command → Bool
+keys Release = false
+keys Key = true
+keys KeyData = true
+
+-- the commands among these steps, in order: whether each one keys
+abbrev pub commands_in : List KeyStep → List Bool
+commands_in [] = []
+commands_in (Wrote command had ∷ steps) = keys command ∷ commands_in steps
+commands_in (Read now octets ∷ steps) = commands_in steps
+
+-- the commands on the connection that is there now, the newest first; none if the last one was given up
+abbrev pub open_commands : List KeyLine → List Bool
+open_commands [] = []
+open_commands (line ∷ []) = if line.dropped then [] else reverse (commands_in line.steps)
+open_commands (line ∷ next ∷ lines) = open_commands (next ∷ lines)
 
 -- ---- how each call changes the line
 

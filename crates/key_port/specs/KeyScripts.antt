@@ -5,7 +5,7 @@ use Rattle.key_port.specs.declared.mem_key.KeyOutcome.{KeyOutcome}
 use Rattle.key_port.specs.KeyLines.{KeyLine}
 
 pub record KeyPortView : Type 0 where
-  -- how the calls of connect, read and write of these numbers go, counted together from 0; any other goes well, and
+  -- how the calls of connect, read, open and write of these numbers go, counted together from 0; any other goes well, and
   -- brings nothing
   pub script : List (ℕ × KeyOutcome)
   -- by how many ms each look at the clock finds it later

@@ -1,6 +1,7 @@
 //! The line to rigctld, the daemon of hamlib that turns a transmitter on and off.
 //!
-//! The calls are made in this order: `connect`, and then in each turn `now`, `read` and the `write`s, until `hang_up`.
+//! The calls are made in this order: `connect`, `open` again and again until it is not early, and then in each turn
+//! `now`, `read` and the `write`s, until `hang_up`.
 //! No call waits but `rest`. Like a stream, the line counts its faults, so that nobody can blame it for a failure of
 //! its own, and it tells what was done with it if it knows it. A command is written while the output is lent. So what
 //! is told has commands and samples in one order, which no caller can turn.
@@ -8,6 +9,7 @@ ghost use Rattle.std.specs.Prelude.{◌≡◌, ◌≢◌, ℕ, ◌≤◌, ◌<�
 ghost use Rattle.std.specs.Prelude.{length};
 ghost use Rattle.std.specs.Prelude.{take, option_map, OnOk, OnErr};
 ghost use Rattle.tnc_base.specs.Faults.{HasRisen};
+ghost use Rattle.keying.specs.declared.command.Command.TheVariants.{Release};
 ghost use Rattle.keying.specs.declared.line.End.TheVariants.{Fault};
 ghost use Rattle.key_port.specs.declared.key_records.KeyWrite.TheVariants.{Whole, NotYet, Failed as NotWritten};
 ghost use Rattle.key_port.specs.KeyLines.{KeyLine, with_last, is_open, after_write, after_read, after_drop};
@@ -56,15 +58,26 @@ pub trait KeyPort<O: Sink> {
         ensures faultless { result.end ≢ Some Fault → faults self.new ≡ faults self.old }
         ensures failed { result.end ≡ Some Fault → HasRisen (faults self.old) (faults self.new) };
 
-    /// Writes a command, while it is lent the output.
-    fn write(&mut self, command: Command, output: &O) -> KeyWrite
+    /// Writes the first command of a connection, a release, while it is lent the output. The connection need not stand
+    /// yet, and then the command is early.
+    fn open(&mut self, output: &O) -> KeyWrite
         ensures told { (had : List ℕ) → O.written output.now ≡ Some had → result ≡ Whole
-            → lines self.new ≡ option_map (with_last (after_write command (length had))) (lines self.old) }
+            → lines self.new ≡ option_map (with_last (after_write Release (length had))) (lines self.old) }
         ensures only { (told : List KeyLine) → lines self.old ≡ Some told → result ≡ Whole → is_open told ≡ true }
         ensures unwritten { result ≢ Whole → lines self.new ≡ lines self.old }
         ensures time { time self.new ≡ time self.old }
         ensures faultless { result ≢ NotWritten → faults self.new ≡ faults self.old }
         ensures failed { result ≡ NotWritten → HasRisen (faults self.old) (faults self.new) };
+
+    /// Writes a later command, while it is lent the output.
+    fn write(&mut self, command: Command, output: &O) -> Result<(), Failed>
+        ensures told { (had : List ℕ) → O.written output.now ≡ Some had → OnOk result
+            (lines self.new ≡ option_map (with_last (after_write command (length had))) (lines self.old)) }
+        ensures only { (told : List KeyLine) → lines self.old ≡ Some told → OnOk result (is_open told ≡ true) }
+        ensures unwritten { OnErr result (lines self.new ≡ lines self.old) }
+        ensures time { time self.new ≡ time self.old }
+        ensures faultless { OnOk result (faults self.new ≡ faults self.old) }
+        ensures failed { OnErr result (HasRisen (faults self.old) (faults self.new)) };
 
     /// Gives up the connection, if there is one.
     fn hang_up(&mut self)

@@ -31,7 +31,7 @@ pub struct KeyCame {
     pub end: Option<End>,
 }
 
-/// What a write of a command came to.
+/// What writing the first command of a connection came to.
 #[derive(Clone, Copy, Debug, PartialEq, Eq)]
 pub enum KeyWrite {
     /// The command is written whole.

@@ -17,12 +17,12 @@ use std::marker::Model;
 use std::net::Net;
 use tnc_base::{Failed, MemSink, Octets, OutOfMemory};
 
-/// How a call of `connect`, `read` or `write` goes.
+/// How a call of `connect`, `read`, `open` or `write` goes.
 #[derive(Debug, Drop)]
 pub enum KeyOutcome {
     /// It fails.
     Fails,
-    /// A write comes before the connection stands.
+    /// The first command comes before the connection stands; a later one fails.
     IsEarly,
     /// A read finds that the daemon has closed the connection.
     Ends,
@@ -134,7 +134,7 @@ impl Model for MemKeyPort {
 }
 
 impl MemKeyPort {
-    /// A line whose calls of `connect`, `read` and `write` go as the script says, by their numbers, counted together
+    /// A line whose calls of `connect`, `read`, `open` and `write` go as the script says, by their numbers, counted together
     /// from 0. A call whose number is not there goes well, and a read then brings nothing. Each look at the clock finds
     /// it `pace` ms later.
     pub fn new(alloc: Global, script: Vec<(u64, KeyOutcome)>, pace: u64) -> MemKeyPort
@@ -170,6 +170,19 @@ impl MemKeyPort {
         ensures { self.new ≡ record self.old { faults = next_count self.old.faults } }
     {
         self.faults = self.faults.saturating_add(1);
+    }
+
+    /// Counts a call that writes, and answers what it comes to.
+    fn begin_write(&mut self) -> KeyWrite
+        ensures open { result ≡ Whole → is_open self.old.lines ≡ true }
+        ensures kept { self.new ≡ record self.old { calls = next_count self.old.calls } }
+    {
+        let how = written_as(
+            scripted(&self.script, self.calls),
+            is_last_open(&self.lines),
+        );
+        self.begin();
+        how
     }
 
     /// Reads as the script says, if there is a connection. Without memory to tell of it, the read fails.
@@ -236,14 +249,10 @@ impl KeyPort<MemSink> for MemKeyPort {
         came
     }
 
-    fn write(&mut self, command: Command, output: &MemSink) -> KeyWrite {
-        let how = written_as(
-            scripted(&self.script, self.calls),
-            is_last_open(&self.lines),
-        );
-        self.begin();
+    fn open(&mut self, output: &MemSink) -> KeyWrite {
+        let how = self.begin_write();
         if how == KeyWrite::Whole
-            && write_last(&mut self.lines, command, output.written().len()).is_err()
+            && write_last(&mut self.lines, Command::Release, output.written().len()).is_err()
         {
             self.fail();
             return KeyWrite::Failed;
@@ -252,6 +261,16 @@ impl KeyPort<MemSink> for MemKeyPort {
             self.fail();
         }
         how
+    }
+
+    fn write(&mut self, command: Command, output: &MemSink) -> Result<(), Failed> {
+        let how = self.begin_write();
+        let had = output.written().len();
+        if how != KeyWrite::Whole || write_last(&mut self.lines, command, had).is_err() {
+            self.fail();
+            return Err(Failed);
+        }
+        Ok(())
     }
 
     fn hang_up(&mut self)

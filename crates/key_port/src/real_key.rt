@@ -34,6 +34,16 @@ impl<C: Clock> RealKeyPort<C> {
         }
     }
 
+    /// Writes a command by one call, if there is a connection.
+    fn put(&mut self, command: Command) -> KeyWrite
+        ensures { (self.new.time ≡ self.old.time) × (self.new.faults ≡ self.old.faults) }
+    {
+        match &mut self.stream {
+            Some(stream) => written(stream, command.text()),
+            None => KeyWrite::Failed,
+        }
+    }
+
     /// Counts a fault.
     fn fail(&mut self)
         ensures { self.new ≡ record self.old { faults = next_count self.old.faults } }
@@ -86,15 +96,20 @@ impl<C: Clock + Drop, O: Sink> KeyPort<O> for RealKeyPort<C> {
         came
     }
 
-    fn write(&mut self, command: Command, _output: &O) -> KeyWrite {
-        let written = match &mut self.stream {
-            Some(stream) => written(stream, command.text()),
-            None => KeyWrite::Failed,
-        };
-        if written == KeyWrite::Failed {
+    fn open(&mut self, _output: &O) -> KeyWrite {
+        let how = self.put(Command::Release);
+        if how == KeyWrite::Failed {
             self.fail();
         }
-        written
+        how
+    }
+
+    fn write(&mut self, command: Command, _output: &O) -> Result<(), Failed> {
+        if self.put(command) == KeyWrite::Whole {
+            return Ok(());
+        }
+        self.fail();
+        Err(Failed)
     }
 
     fn hang_up(&mut self) {

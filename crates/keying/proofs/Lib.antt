@@ -6,4 +6,5 @@ pub mod RulesAreSound
 pub mod Tails
 pub mod ToldEnds
 pub mod KeyLasts
+pub mod Quiet
 mod Examples

@@ -9,7 +9,8 @@
 //! [`is_free`](Keying::is_free), by which the samples are made -> [`tick`](Keying::tick) -> writes the command,
 //! reports -> writes the samples -> [`written`](Keying::written) -> writes the command. A command that is not written
 //! whole by one write goes to [`command_failed`](Keying::command_failed) at once. At the end of the run the caller
-//! reads the line -> [`release`](Keying::release) -> does what it asks for, again and again until it answers `Over`.
+//! reads the line -> [`release`](Keying::release) -> drops the connection unless [`has_line`](Keying::has_line) -> does
+//! what `release` asks for, again and again until it answers `Over`.
 #![tactic(auto)]
 
 mod answer;
@@ -35,7 +36,7 @@ pub use laws::{
     short_sound_meets_no_limit, the_end_owes_nothing, the_end_releases, the_key_follows_the_sound,
     the_key_has_a_limit, the_key_stays_on, the_tail_is_exact,
 };
-pub use line::{End, Try};
+pub use line::{End, Phase, Try};
 pub use machine::{Keying, Words};
 pub use report::{OffWhy, Report, Why};
 pub use ticking::Act;

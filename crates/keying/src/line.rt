@@ -24,7 +24,7 @@ pub enum Try {
 
 /// Where a connection stands.
 #[derive(Clone, Copy, Debug, PartialEq, Eq)]
-pub(crate) enum Phase {
+pub enum Phase {
     /// There is none.
     Down,
     /// It is being made: its first release is not written yet.

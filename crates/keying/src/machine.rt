@@ -1,10 +1,11 @@
 //! What is kept of a line and of its key, and how each thing that happens changes it.
-ghost use Rattle.std.specs.Prelude.{◌≡◌, ◌≢◌, ◌≤◌, ◌<◌, ℕ, false, true, List, [], ◌∷◌, length};
+ghost use Rattle.std.specs.Prelude.{◌≡◌, ◌≢◌, ◌≤◌, ◌<◌, ℕ, false, true, not, List, [], ◌∷◌, length};
 ghost use Rattle.keying.specs.declared.line.Phase.TheVariants.{Down, Opening, Up};
 ghost use Rattle.keying.specs.Marks.{Mark};
 ghost use Rattle.keying.specs.Marks.Mark.{Turned, Tried, Opened, Keyed, Released, Heard, Accepted, Readied, Lost};
 ghost use Rattle.keying.specs.Marks.Mark.{Ticked, Cut, WriteFault, Ends};
-ghost use Rattle.keying.specs.Key.{free, is_free};
+ghost use Rattle.keying.specs.Key.{free, is_free, is_down};
+ghost use Rattle.keying.specs.Line.{phase};
 ghost use Rattle.keying.specs.Kept.{after, StandsFor};
 
 use crate::line::Phase;
@@ -116,6 +117,14 @@ impl Keying {
         ensures { (words : Words) (past : List Mark) → StandsFor words past self.now → result ≡ is_free words past }
     {
         self.can_be_keyed()
+    }
+
+    /// Whether there is a connection, which may still be in the making.
+    pub fn has_line(&self) -> bool
+        ensures { (words : Words) (past : List Mark) → StandsFor words past self.now
+            → result ≡ not (is_down (phase past)) }
+    {
+        !self.phase.is_down()
     }
 
     pub(crate) fn can_be_keyed(&self) -> bool

@@ -45,7 +45,7 @@ fn main(rt: HostRuntime) -> ExitCode {
     let mut report = RealSink::new(rt.stderr());
     let mut live = Live {
         ports: RealPorts::new(rt.alloc()),
-        spawner: RealSpawner,
+        spawner: RealSpawner::new(),
     };
     ExitCode::from(run(
         &rt,

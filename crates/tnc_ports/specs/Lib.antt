@@ -6,6 +6,7 @@ pub mod OddOctet
 pub mod Inlet
 pub mod Pumped
 pub mod PumpRun
+pub mod Starts
 pub mod IdRanges
 pub mod Hosts
 pub mod HostTurns

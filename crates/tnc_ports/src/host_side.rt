@@ -131,6 +131,7 @@ impl HostSide {
             (told_by N.polls N.sends N.sent N.is_shut N.faults ports.old)
             (told_by N.polls N.sends N.sent N.is_shut N.faults ports.new)) }
         ensures listens { N.listens ports.new ≡ N.listens ports.old }
+        ensures dials { N.dials ports.new ≡ N.dials ports.old }
         ensures later { N.faults ports.old ≤ N.faults ports.new }
         ensures spent { OnErr result (self.new.spent ≡ true) }
         ensures stays_spent { self.old.spent ≡ true → IsErr result }
@@ -199,6 +200,7 @@ fn polled<R: Net, N: Ports>(
         ≡ Some (before ++ (record { wait = 10; paused = paused.now; events = events.items }) ∷ [])) }
     ensures unpolled { OnErr result (N.polls ports.new ≡ N.polls ports.old) }
     ensures listens { N.listens ports.new ≡ N.listens ports.old }
+    ensures dials { N.dials ports.new ≡ N.dials ports.old }
     ensures shut { (id : ℕ) → N.is_shut ports.new id ≡ N.is_shut ports.old id }
     ensures sent { (id : ℕ) → N.sent ports.new id ≡ N.sent ports.old id }
     ensures sends { N.sends ports.new ≡ N.sends ports.old }

@@ -69,6 +69,7 @@ pub use report_lines::text_of_lines;
 pub use sending::{OfferFault, offer};
 pub use serve_words::ServeWords;
 pub use serving::{ServeEnd, serve};
-pub use spawner::{Order, Spawner};
+pub use spawner::{Order, Spawner, beside};
+pub use starting::Start;
 pub use untaken::Untaken;
 pub use writing::put;

@@ -44,6 +44,7 @@ pub fn station_loop<R: Threads + Wait + Net + Sync, O: Sink, E: Sink, N: Ports>(
     requires window { (window : ℕ) → ¬ IsRefusedWindow words.now.config.params window }
     requires fresh { IsFresh words.now ring.now receiver.old }
     ensures readers { All (λ reader. reader_ring reader ≡ ring_id ring.now) (readers_in receiver.new) }
+    ensures dials { N.dials ports.new ≡ N.dials ports.old }
     ensures looped { IsLooped words.now result (answers_in (ring_len ring.now) receiver.new)
         (outside_by N.listens N.polls N.sends N.sent N.is_shut N.faults O.written O.faults E.written E.faults
         ports.old output.old report.old)

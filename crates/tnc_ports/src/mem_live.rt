@@ -7,18 +7,35 @@ ghost use Rattle.tnc_ports.specs.Scripts.{new_ports};
 use crate::live::Live;
 use crate::mem_ports::MemPorts;
 use crate::spawner::{Order, Spawner};
+use crate::starting::Start;
 use station::HostEvent;
 use std::alloc::Global;
+use std::sync::{OnceToken, Wait};
 
 /// Runs the pump to its end before the other job, in one thread.
-#[derive(Clone, Copy, Debug, Drop)]
-pub struct MemSpawner;
+#[derive(Debug, Drop)]
+pub struct MemSpawner {
+    faults: u64,
+}
+
+impl MemSpawner {
+    /// Has counted no fault.
+    pub fn new() -> MemSpawner {
+        MemSpawner { faults: 0 }
+    }
+}
 
 impl Spawner for MemSpawner {
+    ghost faults = { λ s. s.faults };
+
     fn order(&self) -> Order
         ensures { result ≡ PumpFirst }
     {
         Order::PumpFirst
+    }
+
+    fn await_pump<'a, R: Wait>(&mut self, rt: &R, start: &'a Start) -> OnceToken<'a, bool> {
+        start.wait(rt, &mut self.faults)
     }
 }
 
@@ -34,7 +51,7 @@ impl Live<MemPorts, MemSpawner> {
     {
         Live {
             ports: MemPorts::new(alloc, script, failing, usize::MAX),
-            spawner: MemSpawner,
+            spawner: MemSpawner::new(),
         }
     }
 
@@ -50,7 +67,7 @@ impl Live<MemPorts, MemSpawner> {
     {
         Live {
             ports: MemPorts::new(alloc, script, failing, takes as usize),
-            spawner: MemSpawner,
+            spawner: MemSpawner::new(),
         }
     }
 }

@@ -36,6 +36,7 @@ impl HostParts {
             (told_by N.polls N.sends N.sent N.is_shut N.faults ports.new)) }
         ensures rest { OnOk result (IsAtRest self.new) }
         ensures listens { N.listens ports.new ≡ N.listens ports.old }
+        ensures dials { N.dials ports.new ≡ N.dials ports.old }
         ensures later { N.faults ports.old ≤ N.faults ports.new }
     {
         let ids = self.ids(alloc)?;
@@ -76,6 +77,7 @@ impl HostParts {
             (told_by N.polls N.sends N.sent N.is_shut N.faults ports.new)) }
         ensures rest { OnOk result (IsAtRest self.new) }
         ensures listens { N.listens ports.new ≡ N.listens ports.old }
+        ensures dials { N.dials ports.new ≡ N.dials ports.old }
         ensures later { N.faults ports.old ≤ N.faults ports.new }
     {
         let Some(at) = place_of(id, &self.lines) else {
@@ -99,6 +101,7 @@ impl HostParts {
             (told_by N.polls N.sends N.sent N.is_shut N.faults ports.new) }
         ensures rest { IsAtRest self.old → IsAtRest self.new }
         ensures listens { N.listens ports.new ≡ N.listens ports.old }
+        ensures dials { N.dials ports.new ≡ N.dials ports.old }
     {
         tell_shut(&self.to_shut, ports);
         self.to_shut.clear();
@@ -109,6 +112,7 @@ fn tell_shut<N: Ports>(ids: &[u32], ports: &mut N)
     ensures shut { AreShut ids.now (told_by N.polls N.sends N.sent N.is_shut N.faults ports.old)
         (told_by N.polls N.sends N.sent N.is_shut N.faults ports.new) }
     ensures listens { N.listens ports.new ≡ N.listens ports.old }
+    ensures dials { N.dials ports.new ≡ N.dials ports.old }
 {
     for id in ids {
         ports.shut(*id);

@@ -5,9 +5,10 @@ ghost use Rattle.sample_ring.specs.Ends.{ring_id, writer_ring, published_by};
 ghost use Rattle.sample_ring.specs.declared.ring.Ring.{Ring};
 ghost use Rattle.tnc_ports.specs.PumpRun.{InputSide, input_by, Pumps};
 ghost use Rattle.tnc_ports.specs.SampledPump.{IsWriting, IsPumpedIf, HasRun};
+ghost use Rattle.tnc_ports.specs.Starts.{CountsUnless, lock_of};
 
 use crate::pumping::{Pumped, pump};
-use crate::spawner::Spawner;
+use crate::spawner::{Spawner, beside};
 use crate::starting::Start;
 use sample_ring::{Ring, Writer};
 use std::mem;
@@ -24,7 +25,7 @@ enum Pumping<'a> {
 }
 
 /// Runs the pump beside a job, which is told whether the pump begins. If no thread can be started, it does not: then
-/// nothing is read, and there is no answer.
+/// nothing is read, the spawner has counted a fault, and there is no answer.
 pub fn pump_beside<R: Threads + Wait + Sync, I: Source + Send, W: Spawner, J: FnMut(bool)>(
     rt: &R,
     ring: &Ring,
@@ -40,6 +41,7 @@ pub fn pump_beside<R: Threads + Wait + Sync, I: Source + Send, W: Spawner, J: Fn
         (input_by I.left I.faults input.new)) }
     ensures unread { IsNone result → input_by I.left I.faults input.new ≡ input_by I.left I.faults input.old }
     ensures told { J.step job.old (is_some result) tt job.new }
+    ensures counted { CountsUnless (is_some result) (W.faults spawner.old) (W.faults spawner.new) }
 {
     let start = Start::new();
     let mut pumping = Pumping::Before(writer);
@@ -70,33 +72,43 @@ fn run<'a, R: Threads + Wait + Sync, I: Source + Send, W: Spawner, J: FnMut(bool
 )
     requires writing { IsWriting ring.now pumping.old }
     requires job { (begins : Bool) → J.pre job.old begins }
-    ensures pumped { HasRun start.now.begins.id ring.now pumping.new (input_by I.left I.faults input.old)
+    ensures pumped { HasRun (lock_of start.now) ring.now pumping.new (input_by I.left I.faults input.old)
         (input_by I.left I.faults input.new) }
-    ensures told { IfSome told.new (λ token. (token.of ≡ start.now.begins.id)
-        × J.step job.old token.value tt job.new) }
+    ensures told { IfSome told.new (λ token. (token.of ≡ lock_of start.now)
+        × J.step job.old token.value tt job.new
+        × CountsUnless token.value (W.faults spawner.old) (W.faults spawner.new)) }
     ensures some { IsSome told.new }
 {
-    spawner.beside(
+    let order = spawner.order();
+    beside(
         rt,
+        order,
         &mut ||
             requires { IsSync R.row × IsWriting ring.now pumping.now }
-            ensures { HasRun start.entry.now.begins.id ring.entry.now pumping.exit.now
+            ensures { HasRun (lock_of start.entry.now) ring.entry.now pumping.exit.now
                 (input_by I.left I.faults input.entry.now) (input_by I.left I.faults input.exit.now) }
         { pump_once(rt, ring, start, pumping, input) },
         &mut ||
             requires { IsSync R.row × ((begins : Bool) → J.pre job.now begins) }
-            ensures { IsSome told.exit.now × IfSome told.exit.now (λ token. (token.of ≡ start.entry.now.begins.id)
-                × J.step job.entry.now token.value tt job.exit.now) }
-        { *told = Some(tell(rt, start, job)) },
+            ensures { IsSome told.exit.now × IfSome told.exit.now (λ token. (token.of ≡ lock_of start.entry.now)
+                × J.step job.entry.now token.value tt job.exit.now
+                × CountsUnless token.value (W.faults spawner.entry.now) (W.faults spawner.exit.now)) }
+        { *told = Some(tell(rt, start, spawner, job)) },
     );
 }
 
 /// Calls the job once the pump has begun or is given up.
-fn tell<'a, R: Wait, J: FnMut(bool)>(rt: &R, start: &'a Start, job: &mut J) -> OnceToken<'a, bool>
+fn tell<'a, R: Wait, W: Spawner, J: FnMut(bool)>(
+    rt: &R,
+    start: &'a Start,
+    spawner: &mut W,
+    job: &mut J,
+) -> OnceToken<'a, bool>
     requires { (begins : Bool) → J.pre job.old begins }
-    ensures { (result.of ≡ start.now.begins.id) × J.step job.old result.value tt job.new }
+    ensures { (result.of ≡ lock_of start.now) × J.step job.old result.value tt job.new
+        × CountsUnless result.value (W.faults spawner.old) (W.faults spawner.new) }
 {
-    let token = start.wait(rt);
+    let token = spawner.await_pump(rt, start);
     job(start.begins(&token));
     token
 }
@@ -110,7 +122,7 @@ fn pump_once<'a, R: Wait, I: Source>(
     input: &mut I,
 )
     requires { IsWriting ring.now pumping.old }
-    ensures { HasRun start.now.begins.id ring.now pumping.new (input_by I.left I.faults input.old)
+    ensures { HasRun (lock_of start.now) ring.now pumping.new (input_by I.left I.faults input.old)
         (input_by I.left I.faults input.new) }
 {
     match mem::replace(pumping, Pumping::Nothing) {
@@ -145,9 +157,9 @@ fn settle<'a>(
     told: Option<OnceToken<'a, bool>>,
 ) -> Option<Pumped>
     requires ran { (ring : Ring) × (input : InputSide) × (left : InputSide)
-        × HasRun start.now.begins.id ring pumping input left }
-    requires told { IsSome told × IfSome told (λ token. token.of ≡ start.now.begins.id) }
-    ensures pumped { (ring : Ring) (input left : InputSide) → HasRun start.now.begins.id ring pumping.entry input left
+        × HasRun (lock_of start.now) ring pumping input left }
+    requires told { IsSome told × IfSome told (λ token. token.of ≡ lock_of start.now) }
+    ensures pumped { (ring : Ring) (input left : InputSide) → HasRun (lock_of start.now) ring pumping.entry input left
         → IsPumpedIf (is_some result) ring result input left }
     ensures told { IfSome told.entry (λ token. token.value ≡ is_some result) }
 {

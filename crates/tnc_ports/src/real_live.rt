@@ -5,16 +5,33 @@ ghost use Rattle.tnc_ports.specs.declared.spawner.Order.TheVariants.{AtOnce};
 use crate::live::Live;
 use crate::real_ports::RealPorts;
 use crate::spawner::{Order, Spawner};
+use crate::starting::Start;
+use std::sync::{OnceToken, Wait};
 
 /// Runs two jobs at once, one of them in a thread of its own.
-#[derive(Clone, Copy, Debug, Drop)]
-pub struct RealSpawner;
+#[derive(Debug, Drop)]
+pub struct RealSpawner {
+    faults: u64,
+}
+
+impl RealSpawner {
+    /// Has counted no fault.
+    pub fn new() -> RealSpawner {
+        RealSpawner { faults: 0 }
+    }
+}
 
 impl Spawner for RealSpawner {
+    ghost faults = { λ s. s.faults };
+
     fn order(&self) -> Order
         ensures { result ≡ AtOnce }
     {
         Order::AtOnce
+    }
+
+    fn await_pump<'a, R: Wait>(&mut self, rt: &R, start: &'a Start) -> OnceToken<'a, bool> {
+        start.wait(rt, &mut self.faults)
     }
 }
 

@@ -66,6 +66,7 @@ pub fn offer<R: Net, N: Ports>(
     ensures refused { OnErr result ((N.sent ports.new id ≡ N.sent ports.old id)
         × (N.sends ports.new ≡ N.sends ports.old)) }
     ensures listens { N.listens ports.new ≡ N.listens ports.old }
+    ensures dials { N.dials ports.new ≡ N.dials ports.old }
     ensures polls { N.polls ports.new ≡ N.polls ports.old }
     ensures shut { (other : ℕ) → N.is_shut ports.new other ≡ N.is_shut ports.old other }
     ensures later { N.faults ports.old ≤ N.faults ports.new }
@@ -98,6 +99,7 @@ fn send_front<R: Net, N: Ports>(
     ensures refused { OnErr result ((N.sent ports.new id ≡ N.sent ports.old id)
         × (N.sends ports.new ≡ N.sends ports.old)) }
     ensures listens { N.listens ports.new ≡ N.listens ports.old }
+    ensures dials { N.dials ports.new ≡ N.dials ports.old }
     ensures polls { N.polls ports.new ≡ N.polls ports.old }
     ensures shut { (other : ℕ) → N.is_shut ports.new other ≡ N.is_shut ports.old other }
     ensures later { N.faults ports.old ≤ N.faults ports.new }

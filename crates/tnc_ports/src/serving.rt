@@ -1,15 +1,17 @@
 //! A live station from its first poll to the end of its input.
-ghost use Rattle.std.specs.Prelude.{◌≡◌, ℕ, List, [], Some, All, IfSome, IsNone, is_some};
+ghost use Rattle.std.specs.Prelude.{◌≡◌, ◌≢◌, ℕ, List, [], Some, All, IfSome, IsNone, is_some};
 ghost use Rattle.std.specs.Thread.{IsSync};
 ghost use Rattle.link_machine.specs.Params.{IsRefusedWindow};
 ghost use Rattle.sample_ring.specs.Ends.{ring_id, ring_len, reader_ring, writer_ring, published_by};
 ghost use Rattle.slicer_bank.specs.Detection.{CanBeAsked};
+ghost use Rattle.tnc_base.specs.Faults.{HasRisen};
 ghost use Rattle.ring_receiver.specs.HeldReceiver.{readers_in, answers_in};
 ghost use Rattle.tnc_ports.specs.FreshReceiver.{IsFresh};
 ghost use Rattle.tnc_ports.specs.PumpRun.{InputSide, Pumps, input_by};
 ghost use Rattle.tnc_ports.specs.SampledPump.{IsClosed, IsLoopedIf};
 ghost use Rattle.tnc_ports.specs.SampledRun.{outside_by};
 ghost use Rattle.tnc_ports.specs.ServeRun.{IsServed, end_of};
+ghost use Rattle.tnc_ports.specs.Starts.{CountsUnless};
 
 use crate::live::Live;
 use crate::looping::{LoopEnd, station_loop};
@@ -38,7 +40,7 @@ pub enum ServeEnd {
     TooLong,
     /// Memory was wanted and not given.
     Memory,
-    /// No thread could be started for the pump. Nothing was read, and no turn was made.
+    /// No thread could be started for the pump, as the spawner has counted. Nothing was read, and no turn was made.
     NoThread,
     /// The input failed. All is written of what was read.
     ReadFault,
@@ -51,7 +53,7 @@ pub enum ServeEnd {
 /// Opens the ports, reads the input to its end or until it fails, and serves hosts meanwhile: a pump publishes the
 /// samples of the input in a ring, and beside it the turns of the station read them there. It may wait for the input.
 /// What the turns met counts before what the pump met. If no thread can be started for the pump it ends, without a
-/// turn.
+/// turn. It dials nobody.
 pub fn serve<
     R: Threads + Wait + Net + Sync,
     I: Source + Send,
@@ -70,11 +72,14 @@ pub fn serve<
 ) -> ServeEnd
     requires window { (window : ℕ) → ¬ IsRefusedWindow words.config.params window }
     requires dcd { CanBeAsked words.dcd }
-    ensures { IsServed words result (input_by I.left I.faults input.old) (input_by I.left I.faults input.new)
+    ensures served { IsServed words result (input_by I.left I.faults input.old) (input_by I.left I.faults input.new)
         (outside_by N.listens N.polls N.sends N.sent N.is_shut N.faults O.written O.faults E.written E.faults
         live.old.ports output.old report.old)
         (outside_by N.listens N.polls N.sends N.sent N.is_shut N.faults O.written O.faults E.written E.faults
         live.new.ports output.new report.new) }
+    ensures no_thread { result ≡ ServeEnd.NoThread → HasRisen (W.faults live.old.spawner) (W.faults live.new.spawner) }
+    ensures thread { result ≢ ServeEnd.NoThread → W.faults live.new.spawner ≡ W.faults live.old.spawner }
+    ensures dials { N.dials live.new.ports ≡ N.dials live.old.ports }
 {
     let Live { ports, spawner } = live;
     if ports.listen(rt, words.kiss, words.agw).is_err() {
@@ -142,6 +147,8 @@ fn run_beside<
         ports.old output.old report.old)
         (outside_by N.listens N.polls N.sends N.sent N.is_shut N.faults O.written O.faults E.written E.faults
         ports.new output.new report.new) }
+    ensures counted { CountsUnless (is_some result) (W.faults spawner.old) (W.faults spawner.new) }
+    ensures dials { N.dials ports.new ≡ N.dials ports.old }
 {
     pump_beside(
         rt,
@@ -159,7 +166,8 @@ fn run_beside<
                 (outside_by N.listens N.polls N.sends N.sent N.is_shut N.faults O.written O.faults E.written E.faults
                 ports.entry.now output.entry.now report.entry.now)
                 (outside_by N.listens N.polls N.sends N.sent N.is_shut N.faults O.written O.faults E.written E.faults
-                ports.exit.now output.exit.now report.exit.now) }
+                ports.exit.now output.exit.now report.exit.now)
+                × (N.dials ports.exit.now ≡ N.dials ports.entry.now) }
         {
             loop_if(
                 begins, rt, alloc, words, ring, receiver, end, output, report, ports,
@@ -189,6 +197,7 @@ fn loop_if<R: Threads + Wait + Net + Sync, O: Sink, E: Sink, N: Ports>(
         ports.old output.old report.old)
         (outside_by N.listens N.polls N.sends N.sent N.is_shut N.faults O.written O.faults E.written E.faults
         ports.new output.new report.new) }
+    ensures dials { N.dials ports.new ≡ N.dials ports.old }
 {
     if begins {
         *end = station_loop(rt, alloc, words, ring, receiver, output, report, ports);
@@ -200,8 +209,9 @@ fn close(ring: Ring, pumped: Pumped, receiver: RingReceiver, end: LoopEnd) -> Se
     requires cells { ring_len ring ≡ CELLS }
     requires readers { All (λ reader. reader_ring reader ≡ ring_id ring) (readers_in receiver) }
     requires pumped { (input : InputSide) × (left : InputSide) × Pumps ring pumped input left }
-    ensures { (input left : InputSide) → Pumps ring pumped input left
+    ensures closed { (input left : InputSide) → Pumps ring pumped input left
         → IsClosed end result (answers_in CELLS receiver) input left }
+    ensures thread { result ≢ ServeEnd.NoThread }
 {
     let readers = receiver.finish();
     let _history = ring.close(pumped.done, readers);
@@ -210,7 +220,8 @@ fn close(ring: Ring, pumped: Pumped, receiver: RingReceiver, end: LoopEnd) -> Se
 
 /// How serving ends by the ends of the turns and of the pump, of which that of the turns counts first.
 fn end_of(end: LoopEnd, pump: PumpEnd) -> ServeEnd
-    ensures { result ≡ end_of end pump }
+    ensures end { result ≡ end_of end pump }
+    ensures thread { result ≢ ServeEnd.NoThread }
 {
     match (end, pump) {
         (LoopEnd::Memory, _) => ServeEnd::Memory,

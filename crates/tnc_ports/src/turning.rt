@@ -88,6 +88,7 @@ impl Turning {
         ensures readers { All (λ reader. reader_ring reader ≡ ring_id ring.now) (readers_in receiver.new) }
         ensures detection { receiver.new.detection ≡ receiver.old.detection }
         ensures listens { N.listens ports.new ≡ N.listens ports.old }
+        ensures dials { N.dials ports.new ≡ N.dials ports.old }
         ensures later { N.faults ports.old ≤ N.faults ports.new }
     {
         let ended = self.make(rt, ring, receiver, output, report)?;
@@ -261,6 +262,7 @@ impl Turning {
         ensures unwritten { OnErr result ((report.new ≡ report.old) × (self.new.failed ≡ self.old.failed)) }
         ensures rest { (self.new.words ≡ self.old.words) × (self.new.ticks ≡ self.old.ticks) }
         ensures listens { N.listens ports.new ≡ N.listens ports.old }
+        ensures dials { N.dials ports.new ≡ N.dials ports.old }
         ensures later { N.faults ports.old ≤ N.faults ports.new }
     {
         self.hosts.part(rt, ports)?;

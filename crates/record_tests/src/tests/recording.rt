@@ -7,11 +7,11 @@ use afsk_modulator::transmission;
 use std::alloc::Global;
 use std::marker::Model;
 use std::process::Abort;
-use std::sync::Wait;
+use std::sync::{OnceToken, Wait};
 use std::test::Fail;
 use std::thread::Threads;
 use tnc_base::{MemSink, MemSource, Octets, OutOfMemory};
-use tnc_ports::{MemSpawner, Order, Spawner};
+use tnc_ports::{MemSpawner, Order, Spawner, Start};
 use tnc_record::{RecordEnd, RecordWords, record};
 
 /// What a recording wrote of an input.
@@ -149,7 +149,7 @@ fn a_frame_is_reported_beside_its_sound(rt: HostRuntime) -> Result<(), Fail> {
     let samples = signal(alloc)?;
     for sensitive in [false, true] {
         let words = RecordWords { sensitive, ..WORDS };
-        let got = recorded(&rt, alloc, words, &samples, NONE, &mut MemSpawner)?;
+        let got = recorded(&rt, alloc, words, &samples, NONE, &mut MemSpawner::new())?;
         assert_frame(&rt, alloc, &got, &samples)?;
     }
     Ok(())
@@ -186,7 +186,7 @@ fn what_the_ring_has_overwritten_is_lost(rt: HostRuntime) -> Result<(), Fail> {
             keep,
             sensitive: false,
         };
-        let got = recorded(&rt, alloc, words, &samples, NONE, &mut MemSpawner)?;
+        let got = recorded(&rt, alloc, words, &samples, NONE, &mut MemSpawner::new())?;
         assert_lost(&rt, alloc, &got, kept)?;
     }
     Ok(())
@@ -207,7 +207,14 @@ fn a_fault_leaves_what_was_written(rt: HostRuntime) -> Result<(), Fail> {
     let alloc = rt.alloc();
     let samples = vec![in alloc; 0; 5000]?;
     for (failing, end, size) in FAULTS {
-        let got = recorded(&rt, alloc, WORDS, &samples, *failing, &mut MemSpawner)?;
+        let got = recorded(
+            &rt,
+            alloc,
+            WORDS,
+            &samples,
+            *failing,
+            &mut MemSpawner::new(),
+        )?;
         let got = (got.end, got.output.len(), got.report.len());
         assert_equal(&rt, &got, &(*end, *size, 0));
     }
@@ -220,19 +227,27 @@ fn a_report_that_fails_ends_the_writing(rt: HostRuntime) -> Result<(), Fail> {
     let alloc = rt.alloc();
     let samples = signal(alloc)?;
     let failing: Failing = [&[], &[], &[0]];
-    let got = recorded(&rt, alloc, WORDS, &samples, failing, &mut MemSpawner)?;
+    let got = recorded(&rt, alloc, WORDS, &samples, failing, &mut MemSpawner::new())?;
     let got = (got.end, got.output.len(), got.report.len());
     assert_equal(&rt, &got, &(RecordEnd::WriteFault, 0, 0));
     Ok(())
 }
 
 /// No thread can be started, so the pump runs last.
-#[derive(Clone, Copy, Debug, Drop)]
-struct NoThread;
+#[derive(Debug, Drop)]
+struct NoThread {
+    faults: u64,
+}
 
 impl Spawner for NoThread {
+    ghost faults = { λ s. s.faults };
+
     fn order(&self) -> Order {
         Order::PumpLast
+    }
+
+    fn await_pump<'a, R: Wait>(&mut self, rt: &R, start: &'a Start) -> OnceToken<'a, bool> {
+        start.wait(rt, &mut self.faults)
     }
 }
 
@@ -241,7 +256,14 @@ impl Spawner for NoThread {
 fn without_a_thread_nothing_is_done(rt: HostRuntime) -> Result<(), Fail> {
     let alloc = rt.alloc();
     let samples = signal(alloc)?;
-    let got = recorded(&rt, alloc, WORDS, &samples, NONE, &mut NoThread)?;
+    let got = recorded(
+        &rt,
+        alloc,
+        WORDS,
+        &samples,
+        NONE,
+        &mut NoThread { faults: 0 },
+    )?;
     let got = (got.end, got.output.len(), got.report.len());
     assert_equal(&rt, &got, &(RecordEnd::NoThread, 0, 0));
     Ok(())

@@ -133,7 +133,7 @@ fn written<R: Threads + Wait + Net + Sync>(
         polls: &polls,
         most: u64::MAX,
     };
-    let spawner = RealSpawner;
+    let spawner = RealSpawner::new();
     let mut live = Live { ports, spawner };
     let mut output = CountingSink { writes: &writes };
     let mut report = MemSink::new(alloc, 1000, Vec::new(alloc))?;
@@ -169,7 +169,7 @@ fn held<R: Threads + Wait + Net + Sync>(
         polls: &polls,
         most,
     };
-    let spawner = RealSpawner;
+    let spawner = RealSpawner::new();
     let mut live = Live { ports, spawner };
     let mut output = MemSink::new(alloc, 1000, Vec::new(alloc))?;
     let mut report = MemSink::new(alloc, 1000, Vec::new(alloc))?;

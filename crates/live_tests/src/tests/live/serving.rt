@@ -9,19 +9,27 @@ use station_tests::message;
 use std::alloc::Global;
 use std::net::Net;
 use std::process::Abort;
-use std::sync::Wait;
+use std::sync::{OnceToken, Wait};
 use std::test::Fail;
 use std::thread::Threads;
 use tnc_base::{Octets, OutOfMemory};
-use tnc_ports::{Live, MemLive, MemPorts, Order, ServeEnd, Spawner};
+use tnc_ports::{Live, MemLive, MemPorts, Order, ServeEnd, Spawner, Start};
 
 /// No thread can be started, so the pump runs last.
-#[derive(Clone, Copy, Debug, Drop)]
-struct NoThread;
+#[derive(Debug, Drop)]
+struct NoThread {
+    faults: u64,
+}
 
 impl Spawner for NoThread {
+    ghost faults = { λ s. s.faults };
+
     fn order(&self) -> Order {
         Order::PumpLast
+    }
+
+    fn await_pump<'a, R: Wait>(&mut self, rt: &R, start: &'a Start) -> OnceToken<'a, bool> {
+        start.wait(rt, &mut self.faults)
     }
 }
 
@@ -51,18 +59,19 @@ fn silence_gives_silence(rt: HostRuntime) -> Result<(), Fail> {
     Ok(())
 }
 
-// The turns give the pump up after ten seconds: nothing is polled, and nothing goes out.
+// The turns give the pump up after ten seconds: nothing is polled, and nothing goes out. The spawner counts it.
 #[test]
 fn without_a_thread_it_ends(rt: HostRuntime) -> Result<(), Fail> {
     let alloc = rt.alloc();
     let Live { ports, spawner: _ } = Box::into_inner(no_hosts(alloc)?);
-    let spawner = NoThread;
+    let spawner = NoThread { faults: 0 };
     let mut live = Box::new(alloc, Live { ports, spawner })?;
     let served = served_silence(&rt, alloc, &mut live)?;
     let got = (served.end, served.output.len(), served.report.len());
     assert_equal(&rt, &got, &(ServeEnd::NoThread, 0, 0));
     let calls = (live.ports.listens().len(), live.ports.polls().len());
     assert_equal(&rt, &calls, &(1, 0));
+    assert_equal(&rt, &live.spawner.faults, &1);
     Ok(())
 }
 

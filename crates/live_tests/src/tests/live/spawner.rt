@@ -5,25 +5,26 @@ use std::sync::Wait;
 use std::sync::atomic::{AtomicU64, Ordering};
 use std::thread;
 use std::thread::Threads;
-use tnc_ports::{MemSpawner, Order, RealSpawner, Spawner};
+use tnc_ports::{MemSpawner, Order, RealSpawner, Spawner, beside};
 
-fn both_run<R: Threads + Wait + Sync, W: Spawner>(rt: &R, spawner: &mut W) -> (u32, u32) {
+fn both_run<R: Threads + Wait + Sync>(rt: &R, order: Order) -> (u32, u32) {
     let mut first = 0;
     let mut second = 0;
-    spawner.beside(rt, &mut || first = 1, &mut || second = 2);
+    beside(rt, order, &mut || first = 1, &mut || second = 2);
     (first, second)
 }
 
 #[test]
 fn both_jobs_run(rt: HostRuntime) {
-    assert_equal(&rt, &both_run(&rt, &mut MemSpawner), &(1, 2));
-    assert_equal(&rt, &both_run(&rt, &mut RealSpawner), &(1, 2));
+    for order in [Order::AtOnce, Order::PumpFirst, Order::PumpLast] {
+        assert_equal(&rt, &both_run(&rt, order), &(1, 2));
+    }
 }
 
 #[test]
 fn each_has_its_order(rt: HostRuntime) {
-    assert_equal(&rt, &MemSpawner.order(), &Order::PumpFirst);
-    assert_equal(&rt, &RealSpawner.order(), &Order::AtOnce);
+    assert_equal(&rt, &MemSpawner::new().order(), &Order::PumpFirst);
+    assert_equal(&rt, &RealSpawner::new().order(), &Order::AtOnce);
 }
 
 /// How often a job looks whether the other has begun.
@@ -46,8 +47,9 @@ fn both_meet<R: Threads + Wait + Sync>(rt: &R) -> (bool, bool) {
     let (one, two) = (AtomicU64::new(0), AtomicU64::new(0));
     let mut first = false;
     let mut second = false;
-    RealSpawner.beside(
+    beside(
         rt,
+        Order::AtOnce,
         &mut || first = meets(&one, &two),
         &mut || second = meets(&two, &one),
     );

@@ -11,7 +11,7 @@ returns-clause-served g c = (
     between = outside_by g.N.Ports.listens g.N.Ports.polls g.N.Ports.sends g.N.Ports.sent g.N.Ports.is_shut
         g.N.Ports.faults g.O.Sink.written g.O.Sink.faults g.E.Sink.written g.E.Sink.faults
         c.serve-end.new.live.ports c.serve-end.new.output c.serve-end.new.report;
-    served = c.serve-end.ensures;
+    served = c.serve-end.ensures.served;
     told = c.tell_end.ensures _ refl refl;
   },
 )

@@ -14,6 +14,7 @@ turns-init g c = (
       refl refl,
   c.requires.fresh.readers,
   c.requires.fresh.detection,
+  refl,
 )
 
 pub turns-preserved : goal.turns-preserved
@@ -26,6 +27,7 @@ turns-preserved g c = (
       c.in-Ok-false.ensures.words c.in-Ok-false.ensures.listens c.in-Ok-false.ensures.later,
   c.in-Ok-false.ensures.readers,
   c.in-Ok-false.ensures.detection ∙ c.turns.invariant.2,
+  c.in-Ok-false.ensures.dials ∙ c.turns.invariant.3,
 )
 
 pub returns-in-Ok-true-clause-looped : goal.returns-in-Ok-true-clause-looped

@@ -12,3 +12,4 @@ invariant-turns g l =
     g.O.Sink.written g.O.Sink.faults g.E.Sink.written g.E.Sink.faults l.ports l.output l.report)
     × All (λ reader. reader_ring reader ≡ ring_id l.ring) (readers_in l.receiver)
     × (l.receiver.detection ≡ l.words.dcd)
+    × (g.N.Ports.dials l.ports ≡ g.N.Ports.dials l.initial.ports)

@@ -8,4 +8,5 @@ loop-id-preserved g c = record {
       c.shut.ensures.shut c.shut.ensures.others c.shut.ensures.polls c.shut.ensures.sends c.shut.ensures.sent
       c.shut.ensures.later;
   listens = c.shut.ensures.listens ∙ c.loop-id.invariant.listens;
+  dials = c.shut.ensures.dials ∙ c.loop-id.invariant.dials;
 }

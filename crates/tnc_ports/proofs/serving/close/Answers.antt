@@ -4,8 +4,8 @@ use Rattle.sample_ring.specs.Ends.{records_of, all_published}
 use Rattle.tnc_ports.proofs.LiveServe.{lanes_stand}
 use Rattle.tnc_ports.proofs.serving.close.Goals as goal
 
-pub returns : goal.returns
-returns c = λ input left pumps. record {
+pub returns-clause-closed : goal.returns-clause-closed
+returns-clause-closed c = λ input left pumps. record {
   pump = c.args.pumped.end;
   published = all_published c.args.pumped.done;
   pumped = pumps.samples;
@@ -17,5 +17,5 @@ returns c = λ input left pumps. record {
       c.requires.cells
       (subst (λ (xs : List ℤ). All (StandsIn c.args.ring.len xs true) (records_of c.close-history.result))
       c.close-history.ensures.list c.close-history.ensures.stand));
-  ends = c.end_of.ensures;
+  ends = c.end_of.ensures.end;
 }

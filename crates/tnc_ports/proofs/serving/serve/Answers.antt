@@ -4,8 +4,8 @@ use Rattle.sample_ring.specs.Ends.{IsNew}
 use Rattle.tnc_ports.proofs.LiveServe.{has_opened, no_ring, no_thread, all_served}
 use Rattle.tnc_ports.proofs.serving.serve.Goals as goal
 
-pub returns-in_default : goal.returns-in_default
-returns-in_default g c =
+pub returns-in_default-clause-served : goal.returns-in_default-clause-served
+returns-in_default-clause-served g c =
     no_ring c.args.words _ _ _
     (has_opened c.args.words _ _ c.listen.result c.is_err.result c.is_err.ensures.value c.if-is_err.false
     c.listen.ensures.opened (record {
@@ -20,8 +20,8 @@ returns-in_default g c =
       report_faults = refl;
     }))
 
-pub returns-in_default-new : goal.returns-in_default-new
-returns-in_default-new g c =
+pub returns-in_default-new-clause-served : goal.returns-in_default-new-clause-served
+returns-in_default-new-clause-served g c =
     no_ring c.args.words _ _ _
     (has_opened c.args.words _ _ c.listen.result c.is_err.result c.is_err.ensures.value c.if-is_err.false
     c.listen.ensures.opened (record {
@@ -49,8 +49,8 @@ run_beside-requires-clause-fresh g c = λ κs within. record {
   sensitive = c.in-Ok-new.ensures.sensitive;
 }
 
-pub returns-in_default-run_beside : goal.returns-in_default-run_beside
-returns-in_default-run_beside g c =
+pub returns-in_default-run_beside-clause-served : goal.returns-in_default-run_beside-clause-served
+returns-in_default-run_beside-clause-served g c =
     no_thread c.args.words c.run_beside.new.end (answers_in (ring_len c.in-Ok.ring) c.run_beside.new.receiver) false
     _ _ _ _ _
     (has_opened c.args.words _ _ c.listen.result c.is_err.result c.is_err.ensures.value c.if-is_err.false
@@ -67,8 +67,8 @@ returns-in_default-run_beside g c =
     }))
     refl (c.in_default-run_beside.ensures.unread refl) c.in_default-run_beside.ensures.looped
 
-pub returns : goal.returns
-returns g c =
+pub returns-clause-served : goal.returns-clause-served
+returns-clause-served g c =
     all_served c.args.words c.run_beside.new.end c.close.result (ring_len c.in-Ok.ring)
     c.run_beside.new.receiver _ _ _ _ _
     (has_opened c.args.words _ _ c.listen.result c.is_err.result c.is_err.ensures.value c.if-is_err.false
@@ -83,4 +83,4 @@ returns g c =
       report = refl;
       report_faults = refl;
     }))
-    c.in-Some.ensures.looped (c.close.ensures _ _ c.in-Some.ensures.pumped) c.in-Ok.ensures.len
+    c.in-Some.ensures.looped (c.close.ensures.closed _ _ c.in-Some.ensures.pumped) c.in-Ok.ensures.len

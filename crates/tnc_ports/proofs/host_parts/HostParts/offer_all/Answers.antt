@@ -13,6 +13,7 @@ loop-id-preserved g c = record {
       _ _ _ c.loop-id-test.true c.loop-id.invariant.offers c.in_ok-offer_to.ensures.offers;
   rest = c.in_ok-offer_to.ensures.rest;
   listens = c.in_ok-offer_to.ensures.listens ∙ c.loop-id.invariant.listens;
+  dials = c.in_ok-offer_to.ensures.dials ∙ c.loop-id.invariant.dials;
   later = let before = c.loop-id.invariant.later in let now = c.in_ok-offer_to.ensures.later in
       omega (arith, before, now);
 }

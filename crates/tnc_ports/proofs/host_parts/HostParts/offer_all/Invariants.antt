@@ -10,5 +10,6 @@ invariant-loop-id g l = record {
       (told_by g.N.Ports.polls g.N.Ports.sends g.N.Ports.sent g.N.Ports.is_shut g.N.Ports.faults l.ports);
   rest : IsAtRest l.self;
   listens : g.N.Ports.listens l.ports ≡ g.N.Ports.listens l.initial.ports;
+  dials : g.N.Ports.dials l.ports ≡ g.N.Ports.dials l.initial.ports;
   later : g.N.Ports.faults l.initial.ports ≤ g.N.Ports.faults l.ports;
 }
