@@ -16,7 +16,7 @@ use Rattle.tnc_main.specs.declared.status.Status.TheVariants.{Done as WellDone, 
 use Rattle.tnc_main.specs.declared.status.Status.TheVariants.{ReadFault as InputFailed, WriteFault as OutputFailed}
 use Rattle.tnc_main.specs.declared.status.Status.TheVariants.{Stray as HeardStray, NotQuiet as FoundNoQuiet}
 use Rattle.tnc_main.specs.declared.status.Status.TheVariants.{Spent as WasSpent, NoPort as PortsFailed}
-use Rattle.tnc_main.specs.Serving.{IsInWant, IsToldAs, LacksLine, last_line, status_of_end}
+use Rattle.tnc_main.specs.Serving.{IsInWant, IsServedInWant, IsToldAs, LacksLine, last_line, status_of_end}
 
 -- ---- when serving has ended
 
@@ -271,24 +271,35 @@ module _ (end : ServeEnd) (status : Status) (between after : Outside)
   ]
 
 -- what status 3 stands for
-module _ (options : ServeOptions) (input left : InputSide) (before between after : Outside) (status : Status) where
-  in_want : (end : ServeEnd) → Ends (words_of options) input left before between after status end → status ≡ NoMemory
-      → IsInWant options input left before after
-  in_want Done (served, (is, same)) e = let both : NoMemory ≡ WellDone = sym e ∙ is in cc both
-  in_want TooLong (served, inl (is, more)) e = let both : NoMemory ≡ BadInput = sym e ∙ is in cc both
-  in_want TooLong (served, inr (is, less)) e = let both : NoMemory ≡ OutputFailed = sym e ∙ is in cc both
-  in_want Memory (served, (is, same)) e =
-      inr (inl (subst (IsServed (words_of options) Memory input left before) (sym same) served))
-  in_want NoThread (served, (is, same)) e =
-      inr (inr (subst (IsServed (words_of options) NoThread input left before) (sym same) served))
-  in_want ReadFault (served, (is, same)) e = let both : NoMemory ≡ InputFailed = sym e ∙ is in cc both
-  in_want WriteFault (served, (is, same)) e = let both : NoMemory ≡ OutputFailed = sym e ∙ is in cc both
-  in_want NoPort (served, inl (is, more)) e = let both : NoMemory ≡ PortsFailed = sym e ∙ is in cc both
-  in_want NoPort (served, inr (is, less)) e = let both : NoMemory ≡ OutputFailed = sym e ∙ is in cc both
+module _ (words : ServeWords) (input left : InputSide) (before between after : Outside) (status : Status)
+    (threads threads_after : ℕ) where
+  pub in_want : (end : ServeEnd) → Ends words input left before between after status end
+      → (end ≡ NoThread → HasRisen threads threads_after) → ((end ≡ NoThread → ⊥) → threads_after ≡ threads)
+      → status ≡ NoMemory → IsServedInWant words threads threads_after input left before after
+  in_want Done (served, (is, same)) risen kept e = let both : NoMemory ≡ WellDone = sym e ∙ is in cc both
+  in_want TooLong (served, inl (is, more)) risen kept e = let both : NoMemory ≡ BadInput = sym e ∙ is in cc both
+  in_want TooLong (served, inr (is, less)) risen kept e = let both : NoMemory ≡ OutputFailed = sym e ∙ is in cc both
+  in_want Memory (served, (is, same)) risen kept e =
+      inl (kept (λ other. absurd (cc other)), subst (IsServed words Memory input left before) (sym same) served)
+  in_want NoThread (served, (is, same)) risen kept e =
+      inr (risen refl, subst (IsServed words NoThread input left before) (sym same) served)
+  in_want ReadFault (served, (is, same)) risen kept e = let both : NoMemory ≡ InputFailed = sym e ∙ is in cc both
+  in_want WriteFault (served, (is, same)) risen kept e = let both : NoMemory ≡ OutputFailed = sym e ∙ is in cc both
+  in_want NoPort (served, inl (is, more)) risen kept e = let both : NoMemory ≡ PortsFailed = sym e ∙ is in cc both
+  in_want NoPort (served, inr (is, less)) risen kept e = let both : NoMemory ≡ OutputFailed = sym e ∙ is in cc both
 
-pub want : (options : ServeOptions) (input left : InputSide) (before after : Outside) (status : Status)
-    → RunsLive options status input left before after → status ≡ NoMemory → IsInWant options input left before after
-want options input left before after status (inl h) is =
-    inl (record { memory = refl; unread = h.unread; untouched = h.untouched })
-want options input left before after status (inr h) is =
-    in_want options input left before h.between after status h.end (h.served, h.told) is
+-- words that are equal
+pub want_as : (words other : ServeWords) (threads threads_after : ℕ) (input left : InputSide) (before after : Outside)
+    → words ≡ other → IsServedInWant words threads threads_after input left before after
+    → IsServedInWant other threads threads_after input left before after
+want_as words other threads threads_after input left before after same h =
+    subst (λ w. IsServedInWant w threads threads_after input left before after) same h
+
+-- from an input and an outside on that are equal to these
+pub want_from : (options : ServeOptions) (threads threads_after : ℕ) (was input left : InputSide)
+    (stood before after : Outside) → was ≡ input → stood ≡ before
+    → IsServedInWant (words_of options) threads threads_after was left stood after
+    → IsInWant options threads threads_after input left before after
+want_from options threads threads_after was input left stood before after unread untouched h =
+    inr (subst (λ i. IsServedInWant (words_of options) threads threads_after i left before after) unread
+    (subst (λ o. IsServedInWant (words_of options) threads threads_after was left o after) untouched h))

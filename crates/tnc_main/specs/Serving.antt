@@ -104,10 +104,16 @@ abbrev pub RunsLive : ServeOptions → Status → InputSide → InputSide → Ou
 RunsLive options status input left before after =
     HasNotBegun status input left before after ⊎ Serves (words_of options) status input left before after
 
--- What status 3 stands for. Memory was wanted and not given, before serving began or while a station was served; or no
--- thread could be started, and then the ports were opened, nothing was read and no turn was made.
-abbrev pub IsInWant : ServeOptions → InputSide → InputSide → Outside → Outside → Type 0
-IsInWant options input left before after =
-    HasNotBegun NoMemory input left before after
-    ⊎ (IsServed (words_of options) Memory input left before after
-    ⊎ IsServed (words_of options) NoThread input left before after)
+-- What status 3 of a served station stands for: memory was wanted and not given; or no thread could be started, which the
+-- spawner has counted, and then the ports were opened, nothing was read and no turn was made.
+abbrev pub IsServedInWant : ServeWords → ℕ → ℕ → InputSide → InputSide → Outside → Outside → Type 0
+IsServedInWant words threads threads_after input left before after =
+    ((threads_after ≡ threads) × IsServed words Memory input left before after)
+    ⊎ (HasRisen threads threads_after × IsServed words NoThread input left before after)
+
+-- And of a run: the same, or memory was wanted before serving began. The numbers are how often no thread could be
+-- started, before the run and after it.
+abbrev pub IsInWant : ServeOptions → ℕ → ℕ → InputSide → InputSide → Outside → Outside → Type 0
+IsInWant options threads threads_after input left before after =
+    ((threads_after ≡ threads) × HasNotBegun NoMemory input left before after)
+    ⊎ IsServedInWant (words_of options) threads threads_after input left before after

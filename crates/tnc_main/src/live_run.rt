@@ -13,7 +13,7 @@ ghost use Rattle.tnc_main.specs.declared.status.Status.{Status};
 ghost use Rattle.tnc_main.specs.Calling.{Calls, words_of as call_words_of};
 ghost use Rattle.tnc_main.specs.RecordRuns.{Records, words_of as record_words_of};
 ghost use Rattle.tnc_main.specs.LiveCommands.{CanRunLive};
-ghost use Rattle.tnc_main.specs.Serving.{Serves, words_of};
+ghost use Rattle.tnc_main.specs.Serving.{IsServedInWant, Serves, words_of};
 ghost use Rattle.tnc_main.specs.Status.{code_of, IsLiveCode};
 
 use crate::calling::{call, call_words};
@@ -77,6 +77,13 @@ pub(crate) fn run_live<
     ensures read_fault { result ≡ 4 → HasRisen (I.faults input.old) (I.faults input.new) }
     ensures write_fault { result ≡ 5
         → HasRisen (O.faults output.old) (O.faults output.new) ⊎ HasRisen (E.faults report.old) (E.faults report.new) }
+    ensures want { (options : ServeOptions) → command ≡ LiveCommand.Serve options → result ≡ 3
+        → IsServedInWant (words_of options) (W.faults live.old.spawner) (W.faults live.new.spawner)
+        (input_by I.left I.faults input.old) (input_by I.left I.faults input.new)
+        (outside_by N.listens N.polls N.sends N.sent N.is_shut N.faults O.written O.faults E.written E.faults
+        live.old.ports output.old report.old)
+        (outside_by N.listens N.polls N.sends N.sent N.is_shut N.faults O.written O.faults E.written E.faults
+        live.new.ports output.new report.new) }
     ensures no_port { result ≡ 10 → (options : ServeOptions) × (command ≡ LiveCommand.Serve options)
         × HasRisen (N.faults live.old.ports) (N.faults live.new.ports) }
     ensures of_call { 11 ≤ result → (options : CallOptions) × (command ≡ LiveCommand.Call options) }

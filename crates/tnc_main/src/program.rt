@@ -156,7 +156,8 @@ pub fn run<
     ensures spent { result ≡ 8 → (command : Command) × Asks (map string_bytes words.now) command
         × ((ticks : ℕ) × IsSpent command ticks) }
     ensures no_thread { (options : ServeOptions) → IsServe (map string_bytes words.now) options → result ≡ 3
-        → IsInWant options (input_by I.left I.faults input.old) (input_by I.left I.faults input.new)
+        → IsInWant options (W.faults live.old.spawner) (W.faults live.new.spawner)
+        (input_by I.left I.faults input.old) (input_by I.left I.faults input.new)
         (outside_by N.listens N.polls N.sends N.sent N.is_shut N.faults O.written O.faults E.written E.faults
         live.old.ports output.old report.old)
         (outside_by N.listens N.polls N.sends N.sent N.is_shut N.faults O.written O.faults E.written E.faults

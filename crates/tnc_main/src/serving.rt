@@ -7,7 +7,8 @@ ghost use Rattle.tnc_ports.specs.SampledRun.{Outside, outside_by};
 ghost use Rattle.tnc_ports.specs.ServeRun.{input_by};
 ghost use Rattle.tnc_main.specs.declared.status.Status.{Status};
 ghost use Rattle.slicer_bank.specs.Detection.{CanBeAsked};
-ghost use Rattle.tnc_main.specs.Serving.{IsToldAs, Serves, detection_of, last_line, status_of_end, words_of};
+ghost use Rattle.tnc_main.specs.Serving.{IsServedInWant, IsToldAs, Serves, detection_of, last_line, status_of_end};
+ghost use Rattle.tnc_main.specs.Serving.{words_of};
 ghost use Rattle.tnc_main.specs.Status.{code_of, IsLiveCode};
 
 use crate::report::{NO_PORT, TOO_LONG, told};
@@ -55,6 +56,12 @@ pub(crate) fn serve<
     ensures read_fault { result ≡ 4 → HasRisen (I.faults input.old) (I.faults input.new) }
     ensures write_fault { result ≡ 5
         → HasRisen (O.faults output.old) (O.faults output.new) ⊎ HasRisen (E.faults report.old) (E.faults report.new) }
+    ensures want { result ≡ 3 → IsServedInWant words (W.faults live.old.spawner) (W.faults live.new.spawner)
+        (input_by I.left I.faults input.old) (input_by I.left I.faults input.new)
+        (outside_by N.listens N.polls N.sends N.sent N.is_shut N.faults O.written O.faults E.written E.faults
+        live.old.ports output.old report.old)
+        (outside_by N.listens N.polls N.sends N.sent N.is_shut N.faults O.written O.faults E.written E.faults
+        live.new.ports output.new report.new) }
     ensures no_port { result ≡ 10 → HasRisen (N.faults live.old.ports) (N.faults live.new.ports) }
     ensures not_called { result ≤ 10 }
     ensures complete { (octets : List ℕ) → I.left input.old ≡ Some octets → length octets ≤ input_limit

@@ -3,6 +3,7 @@ use Rattle.link_machine.specs.Params.{IsRefusedWindow}
 use Rattle.tnc_main.specs.declared.live_command.LiveCommand.TheVariants.{Serve as LiveServe, Call as LiveCall}
 use Rattle.tnc_main.specs.declared.live_command.LiveCommand.TheVariants.{Record as LiveRecord}
 use Rattle.tnc_main.proofs.LiveRuns.{served_as}
+use Rattle.tnc_main.proofs.ServingLemmas.{want_as}
 use Rattle.tnc_main.specs.Calling.{words_of as call_words_of}
 use Rattle.tnc_main.proofs.CallingLemmas.{called_as}
 use Rattle.tnc_main.specs.RecordRuns.{words_of as record_words_of}
@@ -20,6 +21,13 @@ returns-in-Serve-clause-served g c = λ options is.
     let same : c.in-Serve.options ≡ options = cc both in
     served_as c.serve_words.result options c.serve.result _ _ _ _ (c.serve_words.ensures ∙ ap words_of same)
     c.serve.ensures.served
+
+pub returns-in-Serve-clause-want : goal.returns-in-Serve-clause-want
+returns-in-Serve-clause-want g c = λ options is three.
+    let both : LiveServe c.in-Serve.options ≡ LiveServe options = sym c.in-Serve.is ∙ is in
+    let same : c.in-Serve.options ≡ options = cc both in
+    want_as c.serve_words.result (words_of options) _ _ _ _ _ _ (c.serve_words.ensures ∙ ap words_of same)
+    (c.serve.ensures.want three)
 
 pub returns-in-Call-clause-called : goal.returns-in-Call-clause-called
 returns-in-Call-clause-called g c = λ options text before is reads was.

@@ -9,8 +9,7 @@ use Rattle.tnc_main.specs.Calling.{words_of}
 use Rattle.tnc_main.proofs.CallingLemmas.{called_from}
 use Rattle.tnc_main.proofs.LiveRuns.{rebased}
 use Rattle.tnc_main.proofs.RecordingLemmas.{recorded_from}
-use Rattle.tnc_main.proofs.ServingLemmas.{want}
-use Rattle.tnc_main.proofs.Statuses.{one_status}
+use Rattle.tnc_main.proofs.ServingLemmas.{want_from}
 use Rattle.tnc_main.proofs.program.run.Goals as goal
 
 -- ---- a command that is not live, or no memory for the words of one that is
@@ -105,13 +104,35 @@ returns-in-Err-clause-served g c = λ options asked.
 
 pub returns-in-Ok-clause-no_thread : goal.returns-in-Ok-clause-no_thread
 returns-in-Ok-clause-no_thread g c = λ options asked three.
-    let served = returns-in-Ok-clause-served g c options asked in
-    want options _ _ _ _ served.0 served.2 (one_status served.0 NoMemory (sym served.1 ∙ three))
+    let kept = c.in-Ok.ensures.not_begun (LiveServe options) asked in
+    inl (
+      refl,
+      record {
+        memory = refl;
+        unread = ap (input_by g.I.Source.left g.I.Source.faults) kept.1;
+        untouched =
+            ap (λ output. outside_by g.N.Ports.listens g.N.Ports.polls g.N.Ports.sends g.N.Ports.sent g.N.Ports.is_shut
+            g.N.Ports.faults g.O.Sink.written g.O.Sink.faults g.E.Sink.written g.E.Sink.faults
+            c.args.live.now.ports output c.run_batch.new.report) kept.2
+            ∙ ap (outside_by g.N.Ports.listens g.N.Ports.polls g.N.Ports.sends g.N.Ports.sent g.N.Ports.is_shut
+            g.N.Ports.faults g.O.Sink.written g.O.Sink.faults g.E.Sink.written g.E.Sink.faults
+            c.args.live.now.ports c.args.output.now) kept.3;
+      },
+    )
 
 pub returns-in-Err-clause-no_thread : goal.returns-in-Err-clause-no_thread
 returns-in-Err-clause-no_thread g c = λ options asked three.
-    let served = returns-in-Err-clause-served g c options asked in
-    want options _ _ _ _ served.0 served.2 (one_status served.0 NoMemory (sym served.1 ∙ three))
+    let same = one_live (map string_bytes c.args.words.now) c.in-Err.command c.in-Err.ensures.live
+    (LiveServe options) asked in
+    let kept = c.in-Err.ensures.untouched in
+    want_from options _ _ _ _ _ _ _ _ (ap (input_by g.I.Source.left g.I.Source.faults) kept.0)
+    (ap (λ output. outside_by g.N.Ports.listens g.N.Ports.polls g.N.Ports.sends g.N.Ports.sent g.N.Ports.is_shut
+    g.N.Ports.faults g.O.Sink.written g.O.Sink.faults g.E.Sink.written g.E.Sink.faults
+    c.args.live.now.ports output c.run_batch.new.report) kept.1
+    ∙ ap (outside_by g.N.Ports.listens g.N.Ports.polls g.N.Ports.sends g.N.Ports.sent g.N.Ports.is_shut
+    g.N.Ports.faults g.O.Sink.written g.O.Sink.faults g.E.Sink.written g.E.Sink.faults
+    c.args.live.now.ports c.args.output.now) kept.2)
+    (c.run_live.ensures.want options same three)
 
 pub returns-in-Ok-clause-called : goal.returns-in-Ok-clause-called
 returns-in-Ok-clause-called g c = λ options text before asked reads was.

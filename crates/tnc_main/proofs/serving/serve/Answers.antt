@@ -1,5 +1,8 @@
-use Rattle.tnc_main.proofs.Common.{◌≡◌, refl, outside_by, input_by, Status, Serves, code_of}
+use Rattle.tnc_main.proofs.Common.{◌≡◌, refl, sym, ◌∙◌, outside_by, input_by, Status, Serves, code_of}
+use Rattle.tnc_main.specs.declared.status.Status.TheVariants.{Memory as NoMemory}
 use Rattle.tnc_main.proofs.LiveRuns as run
+use Rattle.tnc_main.proofs.ServingLemmas.{in_want}
+use Rattle.tnc_main.proofs.Statuses.{one_status}
 use Rattle.tnc_main.proofs.serving.serve.Goals as goal
 
 pub returns-clause-served : goal.returns-clause-served
@@ -27,6 +30,15 @@ returns-clause-read_fault g c = run.read_fault c.args.words c.code.result _ _ _ 
 
 pub returns-clause-write_fault : goal.returns-clause-write_fault
 returns-clause-write_fault g c = run.write_fault c.args.words c.code.result _ _ _ _ (returns-clause-served g c)
+
+pub returns-clause-want : goal.returns-clause-want
+returns-clause-want g c = λ three.
+    let between = outside_by g.N.Ports.listens g.N.Ports.polls g.N.Ports.sends g.N.Ports.sent g.N.Ports.is_shut
+    g.N.Ports.faults g.O.Sink.written g.O.Sink.faults g.E.Sink.written g.E.Sink.faults
+    c.serve-end.new.live.ports c.serve-end.new.output c.serve-end.new.report in
+    in_want c.args.words _ _ _ between _ c.tell_end.result _ _ c.serve-end.result
+    (c.serve-end.ensures.served, c.tell_end.ensures between refl refl) c.serve-end.ensures.no_thread
+    c.serve-end.ensures.thread (one_status c.tell_end.result NoMemory (sym c.code.ensures ∙ three))
 
 pub returns-clause-no_port : goal.returns-clause-no_port
 returns-clause-no_port g c = run.no_port c.args.words c.code.result _ _ _ _ (returns-clause-served g c)
