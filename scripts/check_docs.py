@@ -41,7 +41,7 @@ def gathered(tnc):
     return Facts(
         {str(it.relative_to(ROOT)): it.read_text() for it in names},
         (ROOT / MANUAL).read_text(),
-        {it: set(re.findall(r"--[a-z][a-z-]*", told)) for it, told in helps.items()},
+        {it: set(re.findall(r"--[a-z][a-z0-9-]*", told)) for it, told in helps.items()},
         {it: report_lines(it) for it in REPORTING},
         {int(it) for it in re.findall(r"^code_of \w+ = (\d+)$", status, re.M)},
         {str(it.relative_to(ROOT)): script_text(it) for it in [*ROOT.glob("scripts/*"), *ROOT.glob("bench/*")]},
@@ -127,14 +127,14 @@ def unknown_options(facts, _, text):
     scripts = "".join(facts.scripts.values())
     for number, span in spans(text):
         for command, rest in re.findall(rf"\btnc ({'|'.join(COMMANDS)})\b([^|>&;)]*)", span):
-            for option in re.findall(r"(?<!\S)\[?(--[a-z][a-z-]*)", rest):
+            for option in re.findall(r"(?<!\S)\[?(--[a-z][a-z0-9-]*)", rest):
                 if option not in facts.options[command] | {"--help"}:
                     yield number, f"gives {command} the option {option}, which it does not have"
         for script, rest in re.findall(r"\b((?:scripts|bench)/[\w.]+)([^|>&;)]*)", span):
-            for option in re.findall(r"(?<!\S)\[?(--[a-z][a-z-]*)", rest.partition(" -- ")[0]):
+            for option in re.findall(r"(?<!\S)\[?(--[a-z][a-z0-9-]*)", rest.partition(" -- ")[0]):
                 if option not in facts.scripts.get(script, option):
                     yield number, f"gives {script} the option {option}, which it does not have"
-        for option in re.findall(r"^(--[a-z][a-z-]*)", span):
+        for option in re.findall(r"^(--[a-z][a-z0-9-]*)", span):
             if option not in every | {"--help", "--version"} and option not in scripts:
                 yield number, f"speaks of {option}, which neither the program nor a script has"
 

@@ -117,7 +117,7 @@ known=$(sed -n 's/.*parsed(alloc, "\([a-z]*\)".*/\1/p' crates/tnc_words/src/*_wo
 [ "$(sort <<<"$commands")" = "$(sort <<<"$known")" ] || fault "its commands are" $commands "and the program's" $known
 
 # Each option of the program is on the page.
-options=$(grep -o 'Entry::[A-Z][a-z]*("[a-z-]*")' crates/tnc_words/src/options.rt | sed 's/.*"\(.*\)".*/--\1/' | sort -u)
+options=$(grep -o 'Entry::[A-Z][a-z]*("[a-z0-9-]*")' crates/tnc_words/src/options.rt | sed 's/.*"\(.*\)".*/--\1/' | sort -u)
 on_page=$(cut -d '|' -f 2 <<<"$entries" | cut -d ' ' -f 1 | sort -u)
 [ "$options" = "$on_page" ] || fault "its options are" $on_page "and the program's" $options
 
@@ -144,6 +144,18 @@ for command in $commands; do
         elif [[ $entry == *"|$option calls|"* ]]; then
             takes_words "$command" "$option" N7LEM N7LEM-15,W1AW
             does_not_take "$command" "$option" N7LEM, ,N7LEM N7LEM,,W1AW A,B,C,D,E,F,G,H,I ""
+            continue
+        elif [[ $entry == *"|$option how|"* && $text =~ The\ word\ ([a-z]+),\ or\ a\ number\ from\ ([0-9]+)\ to\ ([0-9]+)\; ]]; then
+            takes_words "$command" "$option" "${BASH_REMATCH[1]}"
+            takes "$command" "$option" "${BASH_REMATCH[2]}" "${BASH_REMATCH[3]}"
+            does_not_take "$command" "$option" "$(one_less "${BASH_REMATCH[2]}")" "$(one_more "${BASH_REMATCH[3]}")" ""
+            continue
+        elif [[ $entry == *"|$option n|"* && $text =~ ([0-9]+),\ ([0-9]+)\ or\ ([0-9]+)\ check\ octets ]]; then
+            takes "$command" "$option" "${BASH_REMATCH[@]:1}"
+            for number in "${BASH_REMATCH[@]:1}"; do
+                does_not_take "$command" "$option" "$(one_less "$number")" "$(one_more "$number")"
+            done
+            is_refused "$command" $beside "$option" || fault "$command $option is taken without its number"
             continue
         elif [[ $entry != *"|$option n|"* ]]; then
             is_taken "$command" $beside "$option" || fault "$command $option is refused"
@@ -205,7 +217,7 @@ for command in $commands; do
     [ "$("$tnc" "$command" --help)" = "$help" ] || fault "$command --help is not help $command"
     [ "$(joined <<<"$help" | sed -n '1s/^Usage: //p')" = "$(grep "^tnc $command\( \|$\)" <<<"$synopsis")" ] \
         || fault "help $command has another synopsis"
-    told=$(sed -n 's/^  \(--[a-z-]*\)\( n\| name\| calls\| call\|\) .*/\1\2/p' <<<"$help" | sort)
+    told=$(sed -n 's/^  \(--[a-z0-9-]*\)\( n\| name\| how\| calls\| call\|\) .*/\1\2/p' <<<"$help" | sort)
     [ "$told" = "$(sed -n "s/^$command|\([^|]*\)|.*/\1/p" <<<"$entries" | sort)" ] || fault "help $command has the options" $told
     while IFS='|' read -r _ option text; do
         line=$(grep -- "^  $option  *" <<<"$help" || true)

@@ -14,7 +14,8 @@ Usage: tnc COMMAND [OPTION]...
 A software terminal node controller for packet radio: AX.25 over the tones of Bell 202.
 
   tnc decode [--wav] [--kiss] [--threads] [--hf] [--sensitive] [--rate n]
-  tnc encode [--kiss] [--wav] [--join] [--hf] [--opening n] [--closing n] [--silence n] [--level n]
+  tnc encode [--kiss] [--wav] [--join] [--hf] [--fx25 n] [--opening n] [--closing n] [--silence n]
+             [--level n]
   tnc show [--modulo n]
   tnc loop --seed n --frames n [--rough] [--threads]
   tnc bench --seed n [--octets n] [--loss n] [--noise n] [--full] [--wide]
