@@ -50,7 +50,7 @@ fn encoded(
     assert!(rt; words.opening >= 2 && words.closing >= 1);
     assert!(rt; words.level >= 10 && words.level <= 32767);
     let mut source = MemSource::new(input.to_vec(alloc)?, 31, reads.to_vec(alloc)?);
-    let mut sink = MemSink::new(alloc, 8192, writes.to_vec(alloc)?)?;
+    let mut sink = MemSink::new(alloc, 40_000, writes.to_vec(alloc)?)?;
     let end = encode(alloc, words, &mut source, &mut sink);
     Ok((sink.written().to_vec(alloc)?, end))
 }
