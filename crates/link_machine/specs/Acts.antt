@@ -1,23 +1,20 @@
 -- The acts of a link that is up (AX.25 2.2 section 6.4), each by itself.
-use Rattle.std.specs.Prelude.{ℕ, ◌+◌, ◌-◌, Bool, true, false, nat_lt, ◌==◌, not, ◌&&◌, ◌||◌, if◌then◌else◌, List, []}
-use Rattle.std.specs.Prelude.{◌∷◌, ◌++◌, length, take, drop, map, min, max, replicate, slice_get, Option, Some, None}
-use Rattle.std.specs.Prelude.{is_none}
-use Rattle.std.specs.Option.{option_to_list}
-use Rattle.ax25_frames.specs.declared.frame.S.TheVariants.{Rr, Rej, Srej}
+use Rattle.std.specs.Prelude.{ℕ, ◌+◌, ◌-◌, Bool, true, false, nat_lt, ◌==◌, ◌&&◌, if◌then◌else◌, List, [], ◌∷◌, ◌++◌}
+use Rattle.std.specs.Prelude.{length, drop, map, replicate, Option, Some, None, is_some}
 use Rattle.ax25_frames.specs.declared.frame.U.{U}
 use Rattle.ax25_frames.specs.declared.frame.U.TheVariants.{Sabm, Sabme, Disc}
 use Rattle.selective_reject.specs.declared.packet.Packet.{Packet}
 use Rattle.selective_reject.specs.declared.place.Place.{Place}
-use Rattle.selective_reject.specs.Outgoing.{Outgoing, acknowledged as without_acknowledged, back}
-use Rattle.selective_reject.specs.Incoming.{Incoming}
-use Rattle.selective_reject.specs.Places.{empty_place, with_packet, missing, asked}
+use Rattle.selective_reject.specs.Outgoing.{acknowledged as without_acknowledged, back, asked_again, first_again}
+use Rattle.selective_reject.specs.Outgoing.{unasked_again}
+use Rattle.selective_reject.specs.Incoming.{Incoming, unasked_store}
+use Rattle.selective_reject.specs.Places.{empty_place, with_packet}
 use Rattle.link_machine.specs.declared.state.LinkState.TheVariants.{Calling, Releasing}
 use Rattle.link_machine.specs.declared.acts.Told.TheVariants.{Given, Ended}
 use Rattle.link_machine.specs.declared.acts.Why.TheVariants.{Reset}
 use Rattle.link_machine.specs.declared.control.Control.{Control}
-use Rattle.link_machine.specs.Machine.{Machine, fresh, emptied, is_wide, t1_ticks, t2_ticks, t3_ticks}
-use Rattle.link_machine.specs.Sent.{Sent, all_sent_in, infos_from}
-use Rattle.link_machine.specs.Sent.Sent.{SuperSent, SetupSent}
+use Rattle.link_machine.specs.Machine.{Machine, fresh, emptied, is_wide, nothing_owed, t1_ticks, t3_ticks}
+use Rattle.link_machine.specs.Sent.Sent.{SetupSent}
 use Rattle.link_machine.specs.Turn.{Act, changing, setting, sending, telling, in_order}
 
 -- a timer that runs goes on; one that is off is set
@@ -34,14 +31,17 @@ anew ticks (Some left) = Some ticks
 abbrev pub t1_of : Control → ℕ
 t1_of c = t1_ticks c.hops c.rc
 
--- The packets below a number are acknowledged. If at least one is and no poll awaits its answer, the retries
--- begin anew, and T1 runs exactly if something that was sent is still not acknowledged.
+-- The packets below a number are acknowledged. If at least one is, the retries begin anew; and if no poll awaits its
+-- answer none is to be sent, and T1 runs exactly if something that was sent is still not acknowledged.
+abbrev pub unretried : Control → Control
+unretried c = record c { rc = 0 }
+
 abbrev pub timed_anew : Bool → Control → Control
-timed_anew all c = if all then record c { rc = 0; t1 = None; t3 = Some t3_ticks }
-    else record c { rc = 0; t1 = Some (t1_ticks c.hops 0) }
+timed_anew all c = if all then record c { ask = false; rc = 0; t1 = None; t3 = Some t3_ticks }
+    else record c { ask = false; rc = 0; t1 = Some (t1_ticks c.hops 0) }
 
 abbrev pub timed_by : Bool → Bool → Control → Control
-timed_by some all c = if some && not c.poll then timed_anew all c else c
+timed_by some all c = if some then (if c.poll then unretried c else timed_anew all c) else c
 
 abbrev pub acknowledged : ℕ → Machine → Machine
 acknowledged n m = record m {
@@ -49,91 +49,60 @@ acknowledged n m = record m {
   outgoing = without_acknowledged n m.outgoing;
 }
 
--- nothing is due, and T2 is off
+-- an acknowledgement is due, or no longer
+abbrev pub owing : Control → Control
+owing c = record c { due = true }
+
 abbrev pub nothing_due : Control → Control
-nothing_due c = record c { due = false; t2 = None }
+nothing_due c = record c { due = false }
 
--- an S frame that tells V(R); nothing is then due
-abbrev pub report : Sent → Act
-report frame = in_order (setting nothing_due ∷ sending frame ∷ [])
+-- A command with P = 1 is to be answered. Then nothing is asked for any more, so that what is missing is asked for anew:
+-- the other side polls, so it has not what was asked for before.
+abbrev pub answering : Control → Control
+answering c = record c { answer = true }
 
-abbrev pub respond_ready : Bool → Act
-respond_ready flag turn = report (SuperSent Rr false turn.now.incoming.vr flag) turn
+abbrev pub nothing_asked : Machine → Machine
+nothing_asked m = record m { incoming = unasked_store m.incoming }
 
--- a command with P = 1 is answered
-abbrev pub answer_poll : Bool → Act
-answer_poll asks turn = if asks then respond_ready true turn else turn
+abbrev pub polled : Bool → Act
+polled asks turn = if asks then in_order (setting answering ∷ changing nothing_asked ∷ []) turn else turn
 
--- V(S) goes back to V(A)
+-- V(S) goes back to V(A), unless numbers that SREJ asked for since the poll are still to be sent
+abbrev pub unpicked : Control → Control
+unpicked c = record c { picked = false }
+
 abbrev pub gone_back : Machine → Machine
-gone_back m = record m { outgoing = back m.outgoing }
-
--- the answer to a poll has come, and what is not acknowledged is sent again
-abbrev pub behind_poll : Control → Control
-behind_poll c =
-    if c.busy then record c { poll = false; rc = 0; t1 = Some (t1_ticks c.hops 0); t3 = None }
-    else record c { poll = false; rc = 0; t1 = None; t3 = Some t3_ticks }
-
-abbrev pub recover : Bool → Act
-recover answers turn = if turn.now.control.poll && answers
-    then in_order (setting behind_poll ∷ changing gone_back ∷ []) turn else turn
-
--- an RR command with P = 1, whose answer is awaited
-abbrev pub polling : Control → Control
-polling c = record c { poll = true; t1 = Some (t1_of c) }
-
-abbrev pub poll : Act
-poll turn = in_order (report (SuperSent Rr true turn.now.incoming.vr true) ∷ setting polling ∷ []) turn
-
--- While the other side is not busy and no poll awaits its answer, packets go out up to the window
-abbrev pub in_window : ℕ → Outgoing → List Packet
-in_window window o = let ahead = o.vs - o.va in take (min window (length o.packets) - ahead) (drop ahead o.packets)
-
-abbrev pub to_send : Machine → List Packet
-to_send m = if m.control.busy || m.control.poll then [] else in_window m.incoming.window m.outgoing
-
--- the answer to what was sent is awaited: if T1 is off it runs, and T3 is off
-abbrev pub awaiting : Control → Control
-awaiting c = if is_none c.t1 then record c { t1 = Some (t1_of c); t3 = None } else c
-
-abbrev pub sent_to : ℕ → Outgoing → Outgoing
-sent_to end o = record o { vs = end; top = max o.top end }
-
-abbrev pub send_packets : List Packet → Act
-send_packets packets turn = record turn {
-  now = record turn.now {
-    control = awaiting (nothing_due turn.now.control);
-    outgoing = sent_to (turn.now.outgoing.vs + length packets) turn.now.outgoing;
-  };
-  sent = turn.sent ++ all_sent_in turn.now.incoming.modulus (
-      infos_from turn.now.outgoing.vs turn.now.incoming.vr packets
-      );
+gone_back m = record m {
+  control = unpicked m.control;
+  outgoing = if m.control.picked && is_some (first_again m.outgoing) then m.outgoing else back m.outgoing;
 }
 
-abbrev pub flush : Act
-flush turn = if length (to_send turn.now) == 0 then turn else send_packets (to_send turn.now) turn
+-- The answer to a poll has come, and what is not acknowledged is sent again. The retries then are so many.
+abbrev pub behind_poll : ℕ → Control → Control
+behind_poll retries c = if c.busy then record c {
+  poll = false;
+  open = false;
+  passed = false;
+  rc = retries;
+  t1 = Some (t1_ticks c.hops retries);
+  t3 = None;
+} else record c { poll = false; open = false; passed = false; rc = retries; t1 = None; t3 = Some t3_ticks }
+
+abbrev pub recover_with : ℕ → Act
+recover_with retries = in_order (setting (behind_poll retries) ∷ changing gone_back ∷ [])
+
+abbrev pub recover : Bool → Act
+recover answers turn = if turn.now.control.poll && answers then recover_with 0 turn else turn
 
 -- if a disconnect was asked for and no packet waits, the link is released
 abbrev pub releasing : Control → Control
-releasing c = record c {
-  state = Releasing;
-  poll = false;
-  due = false;
-  rc = 0;
-  t1 = Some (t1_ticks c.hops 0);
-  t2 = None;
-  t3 = None;
-}
+releasing c = record (nothing_owed c) { state = Releasing; rc = 0; t1 = Some (t1_ticks c.hops 0); t3 = None }
 
 abbrev pub release : Act
 release = in_order (setting releasing ∷ sending (SetupSent Disc true) ∷ [])
 
 abbrev pub close : Act
 close turn = if turn.now.control.quit && length turn.now.outgoing.packets == 0 then release turn else turn
-
--- what an event that leaves the link up ends with
-abbrev pub settle : Act
-settle = in_order (flush ∷ close ∷ [])
 
 -- SABM, or SABME in modulus 128, with P = 1
 abbrev pub calling_frame : Bool → U
@@ -153,16 +122,9 @@ call = in_order (setting calling ∷ send_call ∷ [])
 abbrev pub reset : Act
 reset = in_order (telling (Ended Reset) ∷ changing fresh ∷ changing emptied ∷ call ∷ [])
 
--- an acknowledgement is due, and T2 runs
-abbrev pub owing : Control → Control
-owing c = record c { due = true; t2 = running t2_ticks c.t2 }
-
--- a frame that REJ asks for is awaited, or no longer
+-- REJ is to be sent, for V(R) and all after it, or no longer
 abbrev pub with_rej : Bool → Control → Control
 with_rej rej c = record c { rej = rej }
-
-abbrev pub reject : Bool → Act
-reject flag turn = in_order (report (SuperSent Rej false turn.now.incoming.vr flag) ∷ setting (with_rej true) ∷ []) turn
 
 -- the packets at the front of the places, up to the first that is not there
 abbrev pub before_gap : Option Packet → List Packet → List Packet
@@ -196,31 +158,18 @@ stored ahead packet m = record m {
   };
 }
 
--- SREJ for each number that is neither stored nor asked for, from V(R) up to one ahead of it; they are then asked for
-abbrev pub srej_for : Machine → ℕ → Sent
-srej_for m ahead = SuperSent Srej false (m.incoming.vr + ahead) false
-
-abbrev pub ask : ℕ → Act
-ask ahead turn = record turn {
-  now = record turn.now { incoming = record turn.now.incoming { places = asked turn.now.incoming.places ahead } };
-  sent = turn.sent ++ all_sent_in turn.now.incoming.modulus (
-      map (srej_for turn.now) (missing turn.now.incoming.places ahead)
-      );
-}
-
 -- T1 runs, and T3 is off
 abbrev pub watching : Control → Control
 watching c = record c { t1 = running (t1_of c) c.t1; t3 = None }
 
--- the I frame that an SREJ asks for goes out again, if it was sent
-abbrev pub sent_packet : ℕ → Outgoing → List Packet
-sent_packet n o = if nat_lt n o.top then option_to_list (slice_get o.packets (n - o.va)) else []
+-- the number that an SREJ asks for is to be sent again, if it was sent
+abbrev pub picking : Control → Control
+picking c = record c { picked = true }
 
-abbrev pub send_again : ℕ → Act
-send_again n turn =
-    if nat_lt n turn.now.outgoing.top then record turn {
-      now = record turn.now { control = watching (nothing_due turn.now.control) };
-      sent = turn.sent ++ all_sent_in turn.now.incoming.modulus (
-          infos_from n turn.now.incoming.vr (sent_packet n turn.now.outgoing)
-          );
-    } else turn
+abbrev pub picked_out : ℕ → Machine → Machine
+picked_out n m = if nat_lt n m.outgoing.top
+    then record m { control = picking m.control; outgoing = asked_again n m.outgoing } else m
+
+-- all is to be sent again, and no number by itself
+abbrev pub none_again : Machine → Machine
+none_again m = record m { outgoing = unasked_again m.outgoing }

@@ -1,5 +1,5 @@
 -- The frames that a link hears, by state (AX.25 2.2 sections 6.3 to 6.5).
-use Rattle.std.specs.Prelude.{ℕ, Bool, true, false, nat_lt, ◌==◌, not, ◌&&◌, if◌then◌else◌, [], ◌∷◌, None, Some}
+use Rattle.std.specs.Prelude.{ℕ, ◌/◌, Bool, true, false, nat_lt, ◌==◌, not, ◌&&◌, ◌||◌, if◌then◌else◌, [], ◌∷◌, None}
 use Rattle.ax25_frames.specs.declared.frame.Kind.{Kind}
 use Rattle.ax25_frames.specs.declared.frame.Kind.TheVariants.{Info, Super, Setup, Ui, Other}
 use Rattle.ax25_frames.specs.declared.frame.S.{S}
@@ -16,13 +16,13 @@ use Rattle.link_machine.specs.declared.acts.Told.TheVariants.{Opened, Ended}
 use Rattle.link_machine.specs.declared.acts.Why.{Why}
 use Rattle.link_machine.specs.declared.acts.Why.TheVariants.{Asked, Peer, Reset, Refused}
 use Rattle.link_machine.specs.declared.control.Control.{Control}
-use Rattle.link_machine.specs.Machine.{Machine, fresh, emptied, in_modulus, narrowed, is_wide, t1_ticks, t3_ticks}
-use Rattle.link_machine.specs.Machine.{in_state}
+use Rattle.link_machine.specs.Machine.{Machine, fresh, emptied, in_modulus, narrowed, is_wide, nothing_owed, t1_ticks}
+use Rattle.link_machine.specs.Machine.{t3_ticks, in_state}
 use Rattle.link_machine.specs.Machine.{is_valid, named, ahead_of_vr}
 use Rattle.link_machine.specs.Sent.Sent.{SetupSent}
 use Rattle.link_machine.specs.Turn.{Act, changing, setting, sending, telling, nothing, in_order}
-use Rattle.link_machine.specs.Acts.{anew, acknowledged, answer_poll, recover, gone_back, reset, owing, with_rej, reject}
-use Rattle.link_machine.specs.Acts.{run_with, give, stored, ask, send_again, watching}
+use Rattle.link_machine.specs.Acts.{anew, acknowledged, polled, recover, gone_back, reset, owing, with_rej, run_with, give}
+use Rattle.link_machine.specs.Acts.{stored, watching, picked_out, none_again}
 
 abbrev pub answer_ua : Bool → Act
 answer_ua flag = sending (SetupSent Ua flag)
@@ -37,9 +37,9 @@ stopped_t1 c = record c { state = Idle; t1 = None }
 abbrev pub end_call : Why → Act
 end_call why = in_order (changing emptied ∷ changing narrowed ∷ setting stopped_t1 ∷ telling (Ended why) ∷ [])
 
--- a set-up ends: no packet stays, the modulus is 8, and all timers are off
+-- a set-up ends: no packet stays, nothing is owed, the modulus is 8, and all timers are off
 abbrev pub stopped : Control → Control
-stopped c = record c { state = Idle; t1 = None; t2 = None; t3 = None }
+stopped c = record (nothing_owed c) { state = Idle; t1 = None; t3 = None }
 
 abbrev pub leave : Act
 leave = in_order (changing emptied ∷ changing narrowed ∷ setting stopped ∷ [])
@@ -103,27 +103,29 @@ hear_releasing command (Super which nr flag) = if command && flag then answer_dm
 hear_releasing command (Ui flag pid octets) = nothing
 hear_releasing command (Other which flag octets) = nothing
 
--- Up: the other side was heard, by an I or S frame, so T3 begins anew if it runs
-abbrev pub heard : Control → Control
-heard c = record c { t3 = anew t3_ticks c.t3 }
+-- Up: the other side was heard, by an I or S frame, so T3 begins anew if it runs. A frame that does not answer the poll
+-- that is out shows that the other side had its turn since; `answers` says that it is a response with F = 1.
+abbrev pub heard : Bool → Control → Control
+heard answers c = record c { passed = c.passed || (c.poll && not answers); t3 = anew t3_ticks c.t3 }
 
 -- the same, by an S frame, which tells that the other side is busy, or no longer
-abbrev pub with_busy : Bool → Control → Control
-with_busy busy c = record (heard c) { busy = busy }
+abbrev pub heard_busy : Bool → Bool → Control → Control
+heard_busy busy answers c = record (heard answers c) { busy = busy }
 
 -- Up: an S frame that names number n; `asks` says that it is a command with P = 1, `answers` a response with F = 1
 abbrev pub hear_rr : ℕ → Bool → Bool → Act
 hear_rr n asks answers = in_order (
-    setting (with_busy false) ∷ changing (acknowledged n) ∷ answer_poll asks ∷ recover answers ∷ [])
+    setting (heard_busy false answers) ∷ changing (acknowledged n) ∷ polled asks ∷ recover answers ∷ [])
 
 abbrev pub hear_rnr : ℕ → Bool → Bool → Act
 hear_rnr n asks answers = in_order (
-    setting (with_busy true) ∷ changing (acknowledged n) ∷ answer_poll asks ∷ recover answers ∷ setting watching ∷ [])
+    setting (heard_busy true answers) ∷ changing (acknowledged n) ∷ polled asks ∷ recover answers ∷ setting watching
+    ∷ [])
 
 abbrev pub hear_rej : ℕ → Bool → Bool → Act
 hear_rej n asks answers = in_order (
-    setting (with_busy false) ∷ changing (acknowledged n) ∷ changing gone_back ∷ answer_poll asks ∷ recover answers
-    ∷ [])
+    setting (heard_busy false answers) ∷ changing (acknowledged n) ∷ changing none_again ∷ changing gone_back
+    ∷ polled asks ∷ recover answers ∷ [])
 
 -- SREJ acknowledges with P/F = 1 alone
 abbrev pub acknowledged_by_srej : ℕ → Bool → Machine → Machine
@@ -131,8 +133,8 @@ acknowledged_by_srej n flag m = if flag then acknowledged n m else m
 
 abbrev pub hear_srej : ℕ → Bool → Bool → Bool → Act
 hear_srej n flag asks answers = in_order (
-    setting (with_busy false) ∷ changing (acknowledged_by_srej n flag) ∷ send_again n ∷ answer_poll asks
-    ∷ recover answers ∷ [])
+    setting (heard_busy false answers) ∷ changing (acknowledged_by_srej n flag) ∷ changing (picked_out n)
+    ∷ polled asks ∷ recover answers ∷ [])
 
 abbrev pub hear_supervisory : S → ℕ → Bool → Bool → Act
 hear_supervisory Rr n command flag = hear_rr n (command && flag) (not command && flag)
@@ -140,38 +142,43 @@ hear_supervisory Rnr n command flag = hear_rnr n (command && flag) (not command 
 hear_supervisory Rej n command flag = hear_rej n (command && flag) (not command && flag)
 hear_supervisory Srej n command flag = hear_srej n flag (command && flag) (not command && flag)
 
--- Up, by REJ: the packet with number V(R) is given, and no other. Another one is answered by one REJ, until the one
--- that it asks for comes.
-abbrev pub take_in_sequence : Bool → Packet → Act
-take_in_sequence flag packet =
-    in_order (give (packet ∷ []) ∷ setting (with_rej false) ∷ setting owing ∷ answer_poll flag ∷ [])
+-- Up, by REJ: the packet with number V(R) is given, and no other. Another one is asked for by REJ if it lies ahead, less
+-- than half the modulus; else it is a repeat, and V(R) is told.
+abbrev pub take_in_sequence : Packet → Act
+take_in_sequence packet = in_order (give (packet ∷ []) ∷ setting (with_rej false) ∷ setting owing ∷ [])
 
-abbrev pub refuse_out_of_sequence : Bool → Act
-refuse_out_of_sequence flag turn = if turn.now.control.rej then answer_poll flag turn else reject flag turn
+abbrev pub out_of_sequence : Bool → Control → Control
+out_of_sequence lies_ahead c = if lies_ahead then with_rej true c else owing c
 
-abbrev pub hear_info_by_rej : ℕ → Bool → Packet → Act
-hear_info_by_rej ns flag packet turn =
-    if ahead_of_vr ns turn.now == 0 then take_in_sequence flag packet turn else refuse_out_of_sequence flag turn
+abbrev pub lies_ahead : ℕ → Machine → Bool
+lies_ahead ns m = nat_lt (ahead_of_vr ns m) (m.incoming.modulus / 2)
 
--- Up, by SREJ: the packet with number V(R) is given with those stored that follow it. One in the window is stored, and
--- what is missing before it is asked for. Another is dropped.
+abbrev pub hear_info_by_rej : ℕ → Packet → Act
+hear_info_by_rej ns packet turn =
+    if ahead_of_vr ns turn.now == 0 then take_in_sequence packet turn
+    else setting (out_of_sequence (lies_ahead ns turn.now)) turn
+
+-- Up, by SREJ: the packet with number V(R) is given with those stored that follow it. One in the window is stored.
+-- Another is dropped.
 abbrev pub take_selected : ℕ → Packet → Act
 take_selected ahead packet turn =
     if ahead == 0 then give (run_with packet turn.now) turn else
     if nat_lt ahead turn.now.incoming.window && not (is_full turn.now.incoming.places ahead)
-    then in_order (changing (stored ahead packet) ∷ ask ahead ∷ []) turn else turn
+    then changing (stored ahead packet) turn else turn
 
-abbrev pub hear_info_by_srej : ℕ → Bool → Packet → Act
-hear_info_by_srej ns flag packet turn =
-    in_order (take_selected (ahead_of_vr ns turn.now) packet ∷ setting owing ∷ answer_poll flag ∷ []) turn
+abbrev pub hear_info_by_srej : ℕ → Packet → Act
+hear_info_by_srej ns packet turn =
+    in_order (take_selected (ahead_of_vr ns turn.now) packet ∷ setting owing ∷ []) turn
 
-abbrev pub hear_info_by : Mode → ℕ → Bool → Packet → Act
+abbrev pub hear_info_by : Mode → ℕ → Packet → Act
 hear_info_by RejMode = hear_info_by_rej
 hear_info_by SrejMode = hear_info_by_srej
 
+-- an I frame is always a command, so it answers no poll
 abbrev pub hear_info : ℕ → ℕ → Bool → Packet → Act
-hear_info n ns flag packet turn =
-    in_order (setting heard ∷ changing (acknowledged n) ∷ hear_info_by turn.now.incoming.mode ns flag packet ∷ []) turn
+hear_info n ns flag packet turn = in_order (
+    setting (heard false) ∷ changing (acknowledged n) ∷ hear_info_by turn.now.incoming.mode ns packet ∷ polled flag
+    ∷ []) turn
 
 -- Up: a SABM or SABME ends the set-up and opens another
 abbrev pub open_again : ℕ → Bool → Act

@@ -1,16 +1,16 @@
--- What a link keeps in one event, act by act. No public clause speaks of this.
-use Rattle.std.specs.Prelude.{All, ◌≤◌, replicate, Result, Ok, Err, ◌≡◌, ℕ, ◌+◌, Bool, false, ◌++◌, ◌∷◌, []}
-use Rattle.std.specs.Prelude.{length, if◌then◌else◌, List}
-use Rattle.link_machine.specs.Sent.Sent.{InfoSent}
-use Rattle.selective_reject.specs.Outgoing.{Outgoing, IsOutgoing, after_next, acknowledged, back}
+-- What a link keeps in one event, act by act. No public clause Rattle.std.specs.Prelude.{All, ◌≤◌, ◌-◌, replicate, Result, Ok, Err, ◌≡◌, ℕ, Bool, false, ◌||◌, length, if◌then◌else◌}
+use Rattle.std.specs.Prelude.{slice_get, Option, Some, None}
+use Rattle.selective_reject.specs.Outgoing.{IsOutgoing, first_again}
 use Rattle.selective_reject.specs.Incoming.{Incoming, IsIncoming}
 use Rattle.selective_reject.specs.declared.window.Mode.TheVariants.{Rej}
 use Rattle.selective_reject.specs.Places.{empty_place, is_full}
 use Rattle.link_machine.specs.declared.machine.Machine.{Machine as Held}
 use Rattle.link_machine.specs.declared.room.Room.{Room}
 use Rattle.link_machine.specs.Machine.{Machine, most_octets, is_valid, named, modulus_named}
-use Rattle.link_machine.specs.Sent.{sent_in, all_sent_in, sent_frames, infos_from}
-use Rattle.link_machine.specs.Acts.{sent_to, reset}
+use Rattle.link_machine.specs.Sent.{sent_frames}
+use Rattle.link_machine.specs.Acts.{reset}
+use Rattle.link_machine.specs.Wants.{is_missing_some, is_asked_again, may_send_info}
+use Rattle.link_machine.specs.Seizing.{polled_packet}
 use Rattle.link_machine.specs.Frames.{hear_supervisory}
 use Rattle.link_machine.specs.Step.{settled}
 use Rattle.link_machine.specs.Done.{Done}
@@ -20,11 +20,8 @@ use Rattle.selective_reject.specs.declared.packet.Packet.{Packet}
 use Rattle.link_machine.specs.StandsFor.{StandsFor}
 use Rattle.link_machine.specs.declared.acts.SentFrame.{SentFrame}
 use Rattle.ax25_address.specs.declared.path.Role.{Role}
-use Rattle.ax25_address.specs.declared.path.Role.TheVariants.{Response}
 use Rattle.ax25_frames.specs.declared.frame.Kind.{Kind}
-use Rattle.ax25_frames.specs.declared.frame.Kind.TheVariants.{Super}
 use Rattle.ax25_frames.specs.declared.frame.S.{S}
-use Rattle.ax25_frames.specs.declared.frame.S.TheVariants.{Srej}
 
 -- what holds of each link between two events, and between two acts
 pub record IsLink (held : Held) : Type 0 where
@@ -49,44 +46,27 @@ frame_from held role kind = record {
   modulus = modulus_named held.incoming.modulus;
 }
 
--- the SREJ for a number
-abbrev pub srej_frame : Held → ℕ → SentFrame
-srej_frame held nr = frame_from held Response (Super Srej nr false)
-
 -- the link and what it has done so far stand for the turn
 pub record Shows (held : Held) (room : Room) (turn : Turn) : Type 0 where
   pub holds : Holds held turn.now
   pub frames : room.frames.items ≡ sent_frames turn.now.path turn.sent
   pub told : room.told.items ≡ turn.told
 
--- what waits to be acknowledged, once so many more are and V(S) has perhaps gone back
-abbrev pub outgoing_behind : ℕ → Bool → Outgoing → Outgoing
-outgoing_behind count goes_back o = if goes_back then back (acknowledged (o.va + count) o)
-    else acknowledged (o.va + count) o
+abbrev pub packet_ahead : Option ℕ → Machine → Option Packet
+packet_ahead None m = None
+packet_ahead (Some ahead) m = slice_get m.outgoing.packets ahead
+
+-- the packet of the I frame that goes out, if one does
+abbrev pub carried : Machine → Option Packet
+carried m =
+    if m.control.rej || is_missing_some m || m.control.answer then None else
+    if m.control.ask then polled_packet m else
+    if is_asked_again m then packet_ahead (first_again m.outgoing) m else
+    if may_send_info m then slice_get m.outgoing.packets (m.outgoing.vs - m.outgoing.va) else None
 
 -- the room that closing may need
 abbrev pub frames_to_close : Held → ℕ
 frames_to_close held = if held.control.quit then 1 else 0
-
--- the next packet goes out, and nothing else changes yet
-abbrev pub send_next : Packet → Turn → Turn
-send_next packet t = record t {
-  now = record t.now { outgoing = after_next t.now.incoming.window t.now.outgoing };
-  sent = t.sent ++ sent_in t.now.incoming.modulus (InfoSent t.now.outgoing.vs t.now.incoming.vr packet) ∷ [];
-}
-
--- packets go out, and nothing else changes yet
-abbrev pub sending_packets : List Packet → Turn → Turn
-sending_packets packets t = record t {
-  now = record t.now { outgoing = sent_to (t.now.outgoing.vs + length packets) t.now.outgoing };
-  sent = t.sent ++ all_sent_in t.now.incoming.modulus (infos_from t.now.outgoing.vs t.now.incoming.vr packets);
-}
-
--- of the packets that go out, some have gone, and the others are left
-pub record SentSome (packets left : List Packet) (held : Held) (room : Room) (t : Turn) : Type 0 where
-  pub gone : List Packet
-  pub all : packets ≡ gone ++ left
-  pub shows : Shows held room (sending_packets gone t)
 
 -- what holds of each link between two events
 pub record IsWhole (held : Held) : Type 0 where

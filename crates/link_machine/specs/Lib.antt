@@ -4,9 +4,11 @@ pub mod Machine
 pub mod Sent
 pub mod Turn
 pub mod Acts
+pub mod Wants
 pub mod Event
 pub mod Requests
 pub mod Frames
+pub mod Seizing
 pub mod Ticks
 pub mod Step
 pub mod StandsFor

@@ -21,7 +21,8 @@ pub record Machine : Type 0 where
   pub params : Params
   -- the state, the conditions, the retries and the timers
   pub control : Control
-  -- V(A), V(S), one past the highest that was ever sent, and the packets given and not acknowledged
+  -- V(A), V(S), one past the highest that was ever sent, the packets given and not acknowledged, and those of their
+  -- numbers that SREJ asked for
   pub outgoing : Outgoing
   -- V(R), the packets received before their turn and the numbers asked for, by their distance from V(R); also the
   -- link's modulus, 8 or 128, whether REJ or SREJ asks for what is lost, and k
@@ -33,11 +34,7 @@ pub record Machine : Type 0 where
 abbrev pub t1_ticks : ℕ → ℕ → ℕ
 t1_ticks hops retries = 200 * (2 * hops + 1) * max 1 (retries / 2)
 
--- T2 and T3
-
-abbrev pub t2_ticks : ℕ
-t2_ticks = 30
-
+-- T3
 abbrev pub t3_ticks : ℕ
 t3_ticks = 30000
 
@@ -60,18 +57,23 @@ most_packets = 1024
 abbrev pub with_control : Control → Machine → Machine
 with_control control m = record m { control = control }
 
+-- nothing is to be sent, no poll awaits its answer, and the other side is not busy
+abbrev pub nothing_owed : Control → Control
+nothing_owed c = record c {
+  rej = false;
+  answer = false;
+  ask = false;
+  due = false;
+  poll = false;
+  open = false;
+  passed = false;
+  picked = false;
+  busy = false;
+}
+
 -- The conditions and the timers of a set-up that begins. A wish to disconnect stays.
 abbrev pub fresh_control : Control → Control
-fresh_control c = record c {
-  rej = false;
-  poll = false;
-  busy = false;
-  due = false;
-  rc = 0;
-  t1 = None;
-  t2 = None;
-  t3 = Some t3_ticks;
-}
+fresh_control c = record (nothing_owed c) { rc = 0; t1 = None; t3 = Some t3_ticks }
 
 -- nothing is stored or asked for, and V(R) is 0
 abbrev pub cleared : Incoming → Incoming
@@ -139,13 +141,17 @@ idle_control hops = record {
   hops = hops;
   state = Idle;
   rej = false;
-  poll = false;
-  busy = false;
+  answer = false;
+  ask = false;
   due = false;
+  poll = false;
+  open = false;
+  passed = false;
+  picked = false;
+  busy = false;
   quit = false;
   rc = 0;
   t1 = None;
-  t2 = None;
   t3 = None;
 }
 

@@ -12,7 +12,7 @@ use Rattle.link_machine.specs.Machine.{Machine, fresh, in_own_modulus, most_pack
 use Rattle.link_machine.specs.Turn.{Act, changing, in_order}
 use Rattle.link_machine.specs.Acts.{call}
 use Rattle.link_machine.specs.Event.{Event}
-use Rattle.link_machine.specs.Event.Event.{Connect, Send, Disconnect, Hear, Tick}
+use Rattle.link_machine.specs.Event.Event.{Connect, Send, Disconnect, Hear, Tick, Seize}
 
 -- a link is called if there is none
 abbrev pub has_link : LinkState → Bool
@@ -31,7 +31,8 @@ takes_none Releasing = true
 abbrev pub is_closed : Control → Bool
 is_closed c = takes_none c.state || c.quit
 
--- why an event is refused, if so many packets wait: the first cause that holds. Frames and ticks never are.
+-- why an event is refused, if so many packets wait: the first cause that holds. Frames, ticks and the
+-- channel never are.
 abbrev pub refusal : Control → ℕ → Event → Option LinkFault
 refusal c count Connect = if has_link c.state then Some (WrongState c.state c.quit) else None
 refusal c count (Send packet) =
@@ -41,6 +42,7 @@ refusal c count (Send packet) =
 refusal c count Disconnect = if is_closed c then Some (WrongState c.state c.quit) else None
 refusal c count (Hear frame) = None
 refusal c count (Tick still) = None
+refusal c count (Seize last full) = None
 
 -- a call in the link's own modulus
 abbrev pub connect : Act

@@ -1,6 +1,6 @@
 -- The frames that a link sends, with their true numbers, and how each is written: on the link's path, in its role, and
 -- with its numbers modulo the modulus (AX.25 2.2 sections 4.2 and 6.1.2).
-use Rattle.std.specs.Prelude.{ℕ, ◌+◌, ◌%◌, Bool, false, if◌then◌else◌, List, [], ◌∷◌, map}
+use Rattle.std.specs.Prelude.{ℕ, ◌%◌, Bool, if◌then◌else◌, List, map}
 use Rattle.ax25_address.specs.declared.path.Path.{Path}
 use Rattle.ax25_address.specs.declared.path.Role.{Role}
 use Rattle.ax25_address.specs.declared.path.Role.TheVariants.{Command, Response}
@@ -16,8 +16,8 @@ use Rattle.link_machine.specs.declared.acts.SentFrame.{SentFrame}
 use Rattle.link_machine.specs.Machine.{modulus_named}
 
 pub data Sent : Type 0 where
-  -- an I frame with P = 0: its number, N(R), and the packet
-  InfoSent : (number nr : ℕ) → (packet : Packet) → Sent
+  -- an I frame: its number, N(R), P, and the packet
+  InfoSent : (number nr : ℕ) → (poll : Bool) → (packet : Packet) → Sent
   -- an S frame: which one, whether it is a command, N(R), and P or F
   SuperSent : (which : S) → (command : Bool) → (nr : ℕ) → (flag : Bool) → Sent
   -- SABM, SABME, DISC, UA or DM, and P or F
@@ -39,12 +39,12 @@ role_of command = if command then Command else Response
 
 -- an I frame is a command, and so are SABM, SABME and DISC; UA and DM are responses
 abbrev pub sent_role : Sent → Role
-sent_role (InfoSent number nr packet) = Command
+sent_role (InfoSent number nr poll packet) = Command
 sent_role (SuperSent which command nr flag) = role_of command
 sent_role (SetupSent which flag) = role_of (sets_up_or_ends which)
 
 abbrev pub sent_kind : ℕ → Sent → Kind
-sent_kind modulus (InfoSent number nr packet) = Info (number % modulus) (nr % modulus) false packet.pid packet.octets
+sent_kind modulus (InfoSent number nr poll packet) = Info (number % modulus) (nr % modulus) poll packet.pid packet.octets
 sent_kind modulus (SuperSent which command nr flag) = Super which (nr % modulus) flag
 sent_kind modulus (SetupSent which flag) = Setup which flag
 
@@ -61,8 +61,3 @@ sent_frames path sent = map (sent_frame path) sent
 -- the frame can be written in its modulus
 abbrev pub IsWritable : SentFrame → Type 0
 IsWritable sent = CanWrite sent.modulus sent.frame
-
--- packets as I frames, numbered from a number on
-abbrev pub infos_from : ℕ → ℕ → List Packet → List Sent
-infos_from number nr [] = []
-infos_from number nr (packet ∷ packets) = InfoSent number nr packet ∷ infos_from (number + 1) nr packets

@@ -9,12 +9,13 @@ use Rattle.link_machine.specs.Done.{Done}
 use Rattle.link_machine.specs.Machine.{Machine}
 use Rattle.link_machine.specs.Sent.{sent_frames}
 use Rattle.link_machine.specs.Turn.{Turn, Act, begin, changing, setting, nothing}
-use Rattle.link_machine.specs.Acts.{settle}
+use Rattle.link_machine.specs.Acts.{close}
 use Rattle.link_machine.specs.Event.{Event}
-use Rattle.link_machine.specs.Event.Event.{Connect, Send, Disconnect, Hear, Tick}
+use Rattle.link_machine.specs.Event.Event.{Connect, Send, Disconnect, Hear, Tick, Seize}
 use Rattle.link_machine.specs.Requests.{refusal, connect, joined, quitting}
 use Rattle.link_machine.specs.Frames.{hear}
 use Rattle.link_machine.specs.Ticks.{tick}
+use Rattle.link_machine.specs.Seizing.{seize}
 
 -- why an event is refused
 abbrev pub refusal_of : Machine → Event → Option LinkFault
@@ -27,12 +28,13 @@ row (Send packet) = changing (joined packet)
 row Disconnect = setting quitting
 row (Hear frame) = hear (is_command_of frame.path.role frame.kind) frame.kind
 row (Tick still) = tick still
+row (Seize last full) = seize last full
 
--- an event that leaves the link up ends with what can be sent, and then, if it is time, with the release
+-- an event that leaves the link up ends with the release, if it is time
 abbrev pub settle_in : LinkState → Act
 settle_in Idle = nothing
 settle_in Calling = nothing
-settle_in Up = settle
+settle_in Up = close
 settle_in Releasing = nothing
 
 abbrev pub settled : Act

@@ -1,5 +1,6 @@
 -- A tick of 10 ms, and the timers that run out with it (AX.25 2.2 section 6.7.1).
-use Rattle.std.specs.Prelude.{ℕ, ◌+◌, ◌-◌, Bool, true, false, nat_le, if◌then◌else◌, [], ◌∷◌, Option, Some, None}
+use Rattle.std.specs.Prelude.{ℕ, ◌+◌, ◌-◌, Bool, true, false, nat_le, ◌||◌, if◌then◌else◌, [], ◌∷◌, Option, Some}
+use Rattle.std.specs.Prelude.{None}
 use Rattle.ax25_frames.specs.declared.frame.U.TheVariants.{Disc}
 use Rattle.link_machine.specs.declared.state.LinkState.{LinkState}
 use Rattle.link_machine.specs.declared.state.LinkState.TheVariants.{Idle, Calling, Up, Releasing}
@@ -7,9 +8,10 @@ use Rattle.link_machine.specs.declared.acts.Told.TheVariants.{Ended}
 use Rattle.link_machine.specs.declared.acts.Why.TheVariants.{Failed}
 use Rattle.link_machine.specs.declared.control.Control.{Control}
 use Rattle.link_machine.specs.Machine.{t1_ticks, most_retries, narrowed, falls_back}
+use Rattle.link_machine.specs.Wants.{wants}
 use Rattle.link_machine.specs.Sent.Sent.{SetupSent}
 use Rattle.link_machine.specs.Turn.{Act, changing, setting, sending, telling, nothing, in_order}
-use Rattle.link_machine.specs.Acts.{respond_ready, send_call, poll}
+use Rattle.link_machine.specs.Acts.{send_call}
 use Rattle.link_machine.specs.Frames.{answer_dm, leave, end_call}
 
 -- a tick of a timer with so many ticks left: one that comes to 0 has run out and is off
@@ -22,18 +24,8 @@ lowered left = if runs_out left then None else Some (left - 1)
 abbrev pub with_t1 : Option ℕ → Control → Control
 with_t1 timer c = record c { t1 = timer }
 
-abbrev pub with_t2 : Option ℕ → Control → Control
-with_t2 timer c = record c { t2 = timer }
-
 abbrev pub with_t3 : Option ℕ → Control → Control
 with_t3 timer c = record c { t3 = timer }
-
--- T2 runs out: what is due is sent
-abbrev pub t2_out : LinkState → Act
-t2_out Idle = nothing
-t2_out Calling = nothing
-t2_out Up = respond_ready false
-t2_out Releasing = nothing
 
 -- one retry more
 abbrev pub retried : Control → Control
@@ -53,11 +45,15 @@ call_again turn =
     else if falls_back turn.now then fall_back turn
     else in_order (setting retried ∷ send_call ∷ []) turn
 
--- the DM that ends a set-up still goes out in its modulus
+-- A side that is up is to be polled: T1 runs again when the poll is sent. The DM that ends a set-up still goes out in
+-- its modulus.
+abbrev pub to_poll : Control → Control
+to_poll c = record c { ask = true; rc = c.rc + 1 }
+
 abbrev pub poll_again : Act
 poll_again turn =
     if is_spent turn.now.control then in_order (answer_dm false ∷ leave ∷ telling (Ended Failed) ∷ []) turn
-    else in_order (setting retried ∷ poll ∷ []) turn
+    else setting to_poll turn
 
 abbrev pub release_again : Act
 release_again turn =
@@ -71,25 +67,15 @@ t1_out Calling = call_again
 t1_out Up = poll_again
 t1_out Releasing = release_again
 
--- T3 runs out: a side that was silent is polled
-abbrev pub unretried : Control → Control
-unretried c = record c { rc = 0; t3 = None }
+-- T3 runs out: a side that was silent is to be polled
+abbrev pub silent : Control → Control
+silent c = record c { ask = true; rc = 0; t3 = None }
 
 abbrev pub t3_out : LinkState → Act
 t3_out Idle = nothing
 t3_out Calling = nothing
-t3_out Up = in_order (setting unretried ∷ poll ∷ [])
+t3_out Up = setting silent
 t3_out Releasing = nothing
-
--- a tick of T2
-abbrev pub tick_t2_of : Option ℕ → Act
-tick_t2_of None turn = turn
-tick_t2_of (Some left) turn =
-    if runs_out left then in_order (setting (with_t2 None) ∷ t2_out turn.now.control.state ∷ []) turn
-    else setting (with_t2 (lowered left)) turn
-
-abbrev pub tick_t2 : Act
-tick_t2 turn = tick_t2_of turn.now.control.t2 turn
 
 -- a tick of T3
 abbrev pub tick_t3_of : Option ℕ → Act
@@ -109,15 +95,16 @@ tick_t1_of (Some left) false turn =
     if runs_out left then in_order (setting (with_t1 None) ∷ t1_out turn.now.control.state ∷ []) turn
     else setting (with_t1 (lowered left)) turn
 
+-- it stands still too while the link wants to send
 abbrev pub tick_t1 : Bool → Act
-tick_t1 still turn = tick_t1_of turn.now.control.t1 still turn
+tick_t1 still turn = tick_t1_of turn.now.control.t1 (still || wants turn.now) turn
 
 -- an idle link has no timers
 abbrev pub tick_in : LinkState → Bool → Act
 tick_in Idle still = nothing
-tick_in Calling still = in_order (tick_t2 ∷ tick_t1 still ∷ [])
-tick_in Up still = in_order (tick_t2 ∷ tick_t1 still ∷ [])
-tick_in Releasing still = in_order (tick_t2 ∷ tick_t1 still ∷ [])
+tick_in Calling still = tick_t1 still
+tick_in Up still = tick_t1 still
+tick_in Releasing still = tick_t1 still
 
 abbrev pub tick : Bool → Act
 tick still turn = tick_in turn.now.control.state still turn

@@ -1,5 +1,5 @@
 -- How much a tick may do.
-use Rattle.std.specs.Prelude.{ℕ, ◌+◌, if◌then◌else◌, Option, Some, None}
+use Rattle.std.specs.Prelude.{ℕ, if◌then◌else◌, Option, Some, None}
 use Rattle.link_machine.specs.declared.control.Control.{Control}
 use Rattle.link_machine.specs.Ticks.{runs_out}
 
@@ -8,8 +8,9 @@ abbrev pub out_of : Option ℕ → ℕ
 out_of None = 0
 out_of (Some left) = if runs_out left then 1 else 0
 
+-- T3 sends nothing
 abbrev pub outs : Control → ℕ
-outs c = out_of c.t1 + out_of c.t2 + out_of c.t3
+outs c = out_of c.t1
 
 -- 1 if a disconnect was asked for
 abbrev pub quits : Control → ℕ

@@ -1,18 +1,18 @@
 //! The variables of a link apart from its numbers and packets.
-ghost use Rattle.std.specs.Prelude.{◌≡◌, ◌<◌, ◌&&◌, Bool};
-ghost use Rattle.link_machine.specs.Machine.{fresh_control, in_state, idle_control, t1_ticks};
-ghost use Rattle.link_machine.specs.Acts.{timed_by, nothing_due, behind_poll, polling, awaiting, releasing, calling};
-ghost use Rattle.link_machine.specs.Acts.{owing, watching};
-ghost use Rattle.link_machine.specs.Frames.{stopped_t1, stopped, unretried_call, heard, with_busy};
+ghost use Rattle.std.specs.Prelude.{◌≡◌, ◌<◌, ◌&&◌, if◌then◌else◌};
+ghost use Rattle.selective_reject.specs.Outgoing.{back};
+ghost use Rattle.link_machine.specs.Machine.{Machine as State, fresh_control, nothing_owed, idle_control, t1_ticks};
+ghost use Rattle.link_machine.specs.Turn.{begin};
+ghost use Rattle.link_machine.specs.Acts.{timed_by, behind_poll, releasing, calling, watching};
+ghost use Rattle.link_machine.specs.Wants.{owes, is_asked_again};
+ghost use Rattle.link_machine.specs.Seizing.{notice_passed, polling, info_sent};
+ghost use Rattle.link_machine.specs.Frames.{stopped_t1, stopped, unretried_call, heard, heard_busy, out_of_sequence};
 ghost use Rattle.link_machine.specs.Requests.{has_link, is_closed};
-ghost use Rattle.link_machine.specs.Ticks.{retried, is_spent, unretried};
+ghost use Rattle.link_machine.specs.Ticks.{retried, is_spent, to_poll, silent};
 
 use crate::state::LinkState;
 
-/// The response delay timer T2, in ticks of 10 ms.
-const T2: u32 = 30;
-
-/// The inactive link timer T3: five minutes.
+/// The inactive link timer T3, in ticks of 10 ms: five minutes.
 const T3: u32 = 30_000;
 
 /// The most retries, N2.
@@ -35,22 +35,30 @@ pub struct Control {
     pub hops: u8,
     /// The state.
     pub state: LinkState,
-    /// REJ was sent, and the frame that it asks for has not come.
+    /// REJ is to be sent.
     pub rej: bool,
-    /// A poll was sent, and its answer has not come.
-    pub poll: bool,
-    /// The other side is busy.
-    pub busy: bool,
+    /// A command with P = 1 is to be answered.
+    pub answer: bool,
+    /// A poll is to be sent.
+    pub ask: bool,
     /// An acknowledgement is due.
     pub due: bool,
+    /// A poll was sent, and its answer has not come.
+    pub poll: bool,
+    /// That poll went with an I frame.
+    pub open: bool,
+    /// The other side sent since, and did not answer it.
+    pub passed: bool,
+    /// SREJ came since.
+    pub picked: bool,
+    /// The other side is busy.
+    pub busy: bool,
     /// A disconnect was asked for.
     pub quit: bool,
     /// The retries so far.
     pub rc: u8,
     /// The acknowledgement timer.
     pub t1: Option<u32>,
-    /// The response delay timer.
-    pub t2: Option<u32>,
     /// The inactive link timer.
     pub t3: Option<u32>,
 }
@@ -64,13 +72,17 @@ impl Control {
             hops,
             state: LinkState::Idle,
             rej: false,
-            poll: false,
-            busy: false,
+            answer: false,
+            ask: false,
             due: false,
+            poll: false,
+            open: false,
+            passed: false,
+            picked: false,
+            busy: false,
             quit: false,
             rc: 0,
             t1: None,
-            t2: None,
             t3: None,
         }
     }
@@ -89,17 +101,28 @@ impl Control {
         matches!(self.state, LinkState::Idle | LinkState::Releasing) || self.quit
     }
 
+    /// Nothing is to be sent, no poll awaits its answer, and the other side is not busy.
+    fn owe_nothing(&mut self)
+        ensures { self.new ≡ nothing_owed self.old }
+    {
+        self.rej = false;
+        self.answer = false;
+        self.ask = false;
+        self.due = false;
+        self.poll = false;
+        self.open = false;
+        self.passed = false;
+        self.picked = false;
+        self.busy = false;
+    }
+
     /// A set-up begins. A wish to disconnect stays.
     pub(crate) fn begin(&mut self)
         ensures { self.new ≡ fresh_control self.old }
     {
-        self.rej = false;
-        self.poll = false;
-        self.busy = false;
-        self.due = false;
+        self.owe_nothing();
         self.rc = 0;
         self.t1 = None;
-        self.t2 = None;
         self.t3 = Some(T3);
     }
 
@@ -124,12 +147,10 @@ impl Control {
     pub(crate) fn release(&mut self)
         ensures { self.new ≡ releasing self.old }
     {
+        self.owe_nothing();
         self.state = LinkState::Releasing;
-        self.poll = false;
-        self.due = false;
         self.rc = 0;
         self.t1 = Some(t1_ticks(self.hops, 0));
-        self.t2 = None;
         self.t3 = None;
     }
 
@@ -145,9 +166,9 @@ impl Control {
     pub(crate) fn leave(&mut self)
         ensures { self.new ≡ stopped self.old }
     {
+        self.owe_nothing();
         self.state = LinkState::Idle;
         self.t1 = None;
-        self.t2 = None;
         self.t3 = None;
     }
 
@@ -155,10 +176,14 @@ impl Control {
     pub(crate) fn acknowledge(&mut self, some: bool, all: bool)
         ensures { self.new ≡ timed_by some all self.old }
     {
-        if !some || self.poll {
+        if !some {
             return;
         }
         self.rc = 0;
+        if self.poll {
+            return;
+        }
+        self.ask = false;
         if all {
             self.t1 = None;
             self.t3 = Some(T3);
@@ -167,60 +192,100 @@ impl Control {
         }
     }
 
-    /// The other side was heard, by an I or S frame.
-    pub(crate) fn hear(&mut self)
-        ensures { self.new ≡ heard self.old }
+    /// The other side was heard, by an I or S frame; `answers` says that it is a response with F = 1.
+    pub(crate) fn hear(&mut self, answers: bool)
+        ensures { self.new ≡ heard answers self.old }
     {
         if self.t3.is_some() {
             self.t3 = Some(T3);
         }
+        if self.poll && !answers {
+            self.passed = true;
+        }
     }
 
-    /// The other side tells whether it is busy.
-    pub(crate) fn hear_busy(&mut self, busy: bool)
-        ensures { self.new ≡ with_busy busy self.old }
+    /// The same, by an S frame, which tells whether it is busy.
+    pub(crate) fn hear_busy(&mut self, busy: bool, answers: bool)
+        ensures { self.new ≡ heard_busy busy answers self.old }
     {
-        self.hear();
+        self.hear(answers);
         self.busy = busy;
     }
 
-    /// V(R) was told.
-    pub(crate) fn settle_due(&mut self)
-        ensures { self.new ≡ nothing_due self.old }
+    /// By REJ, a frame came that is not the next: one ahead of it, or a repeat.
+    pub(crate) fn hear_out_of_sequence(&mut self, lies_ahead: bool)
+        ensures { self.new ≡ out_of_sequence lies_ahead self.old }
     {
+        if lies_ahead {
+            self.rej = true;
+        } else {
+            self.due = true;
+        }
+    }
+
+    /// Whether an S frame is to be sent, or it is to be seen whether a poll was heard.
+    pub(crate) fn owes(&self) -> bool
+        ensures { result ≡ owes self.now }
+    {
+        self.passed || self.rej || self.answer || self.ask || self.due
+    }
+
+    /// A poll was sent, and with an I frame if `open`.
+    pub(crate) fn poll(&mut self, open: bool)
+        ensures { self.new ≡ polling open self.old }
+    {
+        self.ask = false;
         self.due = false;
-        self.t2 = None;
-    }
-
-    /// V(R) is to be told.
-    pub(crate) fn owe(&mut self)
-        ensures { self.new ≡ owing self.old }
-    {
-        self.due = true;
-        self.t2 = self.t2.or(Some(T2));
-    }
-
-    /// A poll was sent.
-    pub(crate) fn poll(&mut self)
-        ensures { self.new ≡ polling self.old }
-    {
         self.poll = true;
+        self.open = open;
+        self.passed = false;
+        self.picked = false;
         self.t1 = Some(t1_ticks(self.hops, self.rc));
+        self.t3 = None;
     }
 
-    /// The answer to a poll has come.
-    pub(crate) fn recover(&mut self)
-        ensures { self.new ≡ behind_poll self.old }
+    /// The answer to a poll has come, or comes no more; the retries then are so many.
+    pub(crate) fn recover(&mut self, retries: u8)
+        ensures { self.new ≡ behind_poll retries self.old }
     {
         self.poll = false;
-        self.rc = 0;
+        self.open = false;
+        self.passed = false;
+        self.rc = retries;
         if self.busy {
-            self.t1 = Some(t1_ticks(self.hops, 0));
+            self.t1 = Some(t1_ticks(self.hops, retries));
             self.t3 = None;
         } else {
             self.t1 = None;
             self.t3 = Some(T3);
         }
+    }
+
+    /// Sees whether the other side has passed a poll over; `again` says that SREJ asked for numbers. Tells whether all
+    /// is to be sent again.
+    pub(crate) fn notice_passed(&mut self, full: bool, again: bool) -> bool
+        ensures control { (m : State) → m.control ≡ self.old → again ≡ is_asked_again m
+            → self.new ≡ (notice_passed full (begin m)).now.control }
+        ensures outgoing { (m : State) → m.control ≡ self.old → again ≡ is_asked_again m
+            → (notice_passed full (begin m)).now.outgoing ≡ (if result then back m.outgoing else m.outgoing) }
+        ensures state { self.new.state ≡ self.old.state }
+        ensures quit { self.new.quit ≡ self.old.quit }
+    {
+        if !self.passed {
+            return false;
+        }
+        self.passed = false;
+        if !self.poll || full {
+            return false;
+        }
+        if !self.open {
+            self.ask = true;
+            return false;
+        }
+        let kept = self.picked && again;
+        self.recover(self.rc);
+        self.picked = false;
+        !kept
     }
 
     /// Whether a response with F = 1, if this is one, is the answer to a poll.
@@ -230,13 +295,15 @@ impl Control {
         self.poll && answers
     }
 
-    /// I frames were sent.
-    pub(crate) fn await_answer(&mut self)
-        ensures { self.new ≡ awaiting self.old }
+    /// An I frame was sent, with this P.
+    pub(crate) fn send_info(&mut self, poll: bool)
+        ensures { self.new ≡ info_sent poll self.old }
     {
-        if self.t1.is_none() {
-            self.t1 = Some(t1_ticks(self.hops, self.rc));
-            self.t3 = None;
+        if poll {
+            self.poll(true);
+        } else {
+            self.due = false;
+            self.watch();
         }
     }
 
@@ -264,10 +331,20 @@ impl Control {
         self.t1 = Some(t1_ticks(self.hops, self.rc));
     }
 
-    /// A side that was silent is polled.
-    pub(crate) fn begin_retries(&mut self)
-        ensures { self.new ≡ unretried self.old }
+    /// A side that is up is to be polled.
+    pub(crate) fn ask_again(&mut self)
+        requires { self.old.rc < 255 }
+        ensures { self.new ≡ to_poll self.old }
     {
+        self.ask = true;
+        self.rc += 1;
+    }
+
+    /// A side that was silent is to be polled.
+    pub(crate) fn break_silence(&mut self)
+        ensures { self.new ≡ silent self.old }
+    {
+        self.ask = true;
         self.rc = 0;
         self.t3 = None;
     }

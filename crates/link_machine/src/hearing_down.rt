@@ -16,7 +16,6 @@ use crate::room::Room;
 use crate::state::LinkState;
 use ax25_frames::{Frame, Kind, Modulus, U, W, is_command};
 use std::alloc::Global;
-use std::collections::VecDeque;
 use tnc_base::OutOfMemory;
 
 impl Machine {
@@ -71,10 +70,9 @@ impl Machine {
         requires state { self.old.control.state ≡ Calling }
         ensures { Makes (hear_calling kind.now) self.old self.new result }
     {
-        let packets = self.copies_to_send(alloc, 0, true)?;
-        let mut room = Room::new(alloc, packets.len() + 2, 1)?;
+        let mut room = Room::new(alloc, 2, 1)?;
         self.take_calling(&mut room, kind);
-        self.settle(&mut room, packets);
+        self.settle(&mut room);
         Ok(room.finish())
     }
 

@@ -1,22 +1,18 @@
 //! The frames that a link hears while it is up.
-ghost use Rattle.std.specs.Prelude.{◌≡◌, ℕ, ◌+◌, ◌≤◌, ◌<◌, ◌&&◌, not, true, Bool};
-ghost use Rattle.link_machine.specs.declared.state.LinkState.TheVariants.{Up};
-ghost use Rattle.std.specs.Prelude.{if◌then◌else◌};
+ghost use Rattle.std.specs.Prelude.{◌≡◌, ℕ, ◌≤◌, ◌<◌, ◌&&◌, not, true, Bool};
 ghost use Rattle.ax25_frames.specs.ControlField.{IsNumbered, numbers};
 ghost use Rattle.ax25_frames.specs.FrameOctets.{control_of};
+ghost use Rattle.link_machine.specs.declared.state.LinkState.TheVariants.{Up};
+ghost use Rattle.link_machine.specs.declared.room.Room.{Room as AnyRoom};
 ghost use Rattle.link_machine.specs.Machine.{Machine as State, is_valid, named, modulus_named};
 ghost use Rattle.link_machine.specs.Turn.{Turn, nothing};
-ghost use Rattle.std.specs.Prelude.{◌%◌, ◌||◌, Ok, IfOk};
-ghost use Rattle.std.specs.Option.{option_to_list};
-ghost use Rattle.selective_reject.specs.Outgoing.{acknowledgement, sent_packet};
-ghost use Rattle.link_machine.specs.Acts.{reset, send_again, sent_packet as asked_packets};
+ghost use Rattle.link_machine.specs.Acts.{reset};
 ghost use Rattle.link_machine.specs.Frames.{open_again, end_by_disc, end_by_dm, hear_rr, hear_rnr, hear_rej, hear_srej};
 ghost use Rattle.link_machine.specs.Frames.{hear_supervisory, acknowledged_by_srej, hear_info, hear_up};
-ghost use Rattle.link_machine.specs.Room.{frames_left, told_left, Uses};
+ghost use Rattle.link_machine.specs.Room.{told_left, Uses};
 ghost use Rattle.link_machine.specs.Held.{IsLink, IsWhole, Holds, Shows, Makes, hear_numbered, hear_supervisory_of};
 
 use crate::acts::Acts;
-use crate::flushing::copy_of;
 use crate::machine::Machine;
 use crate::room::Room;
 use ax25_frames::{Kind, Modulus, S, U, W};
@@ -36,14 +32,6 @@ fn is_answering(command: bool, flag: bool) -> bool
     ensures { result ≡ (not command && flag) }
 {
     !command && flag
-}
-
-/// How many packets an SREJ acknowledges.
-fn acknowledged_by_srej(count: u8, flag: bool) -> u8
-    ensures value { result ≡ (if flag then count else 0) }
-    ensures bound { result ≤ count }
-{
-    if flag { count } else { 0 }
 }
 
 impl Machine {
@@ -121,9 +109,8 @@ impl Machine {
         requires formed { IsWhole self.old }
         ensures { Makes nothing self.old self.new result }
     {
-        let packets = self.copies_to_send(alloc, 0, false)?;
-        let mut room = Room::new(alloc, packets.len() + 1, 0)?;
-        self.settle(&mut room, packets);
+        let mut room = Room::new(alloc, 1, 0)?;
+        self.settle(&mut room);
         Ok(room.finish())
     }
 
@@ -150,177 +137,86 @@ impl Machine {
         requires number { nr < self.old.incoming.modulus }
         ensures { Makes (hear_numbered nr (hear_supervisory_of which command flag)) self.old self.new result }
     {
-        let Ok(count) = self.outgoing.acknowledgement(self.incoming.modulus(), nr) else {
+        if !self.is_valid(nr) {
             return self.hear_error(alloc);
-        };
+        }
+        let mut room = Room::new(alloc, 1, 0)?;
+        self.take_super(which, nr, command, flag);
+        self.settle(&mut room);
+        Ok(room.finish())
+    }
+
+    /// Whether N(R) names a number from V(A) to the top.
+    fn is_valid(&self, nr: u8) -> bool
+        requires { nr < self.now.incoming.modulus }
+        ensures { (m : State) → Holds self.now m → result ≡ is_valid nr m }
+    {
+        self.outgoing
+            .acknowledgement(self.incoming.modulus(), nr)
+            .is_ok()
+    }
+
+    fn take_super(&mut self, which: S, nr: u8, command: bool, flag: bool)
+        requires { nr < self.old.incoming.modulus }
+        ensures { (room : AnyRoom) (t : Turn) → Shows self.old room t → is_valid nr t.now ≡ true
+            → Shows self.new room (hear_supervisory which (named nr t.now) command flag t) }
+    {
         let asks = is_asking(command, flag);
         let answers = is_answering(command, flag);
         match which {
-            S::Rr => self.hear_rr(alloc, count, nr, asks, answers),
-            S::Rnr => self.hear_rnr(alloc, count, nr, asks, answers),
-            S::Rej => self.hear_rej(alloc, count, nr, asks, answers),
-            S::Srej => self.hear_srej(alloc, count, nr, flag, asks, answers),
+            S::Rr => self.hear_rr(nr, asks, answers),
+            S::Rnr => self.hear_rnr(nr, asks, answers),
+            S::Rej => self.hear_rej(nr, asks, answers),
+            S::Srej => self.hear_srej(nr, flag, asks, answers),
         }
     }
 
-    fn hear_rr(
-        &mut self,
-        alloc: Global,
-        count: u8,
-        nr: u8,
-        asks: bool,
-        answers: bool,
-    ) -> Result<Acts, OutOfMemory>
-        requires formed { IsWhole self.old }
-        requires number { nr < self.old.incoming.modulus }
-        requires valid { acknowledgement self.old.incoming.modulus nr self.old.outgoing ≡ Ok count }
-        ensures { Makes (λ t. hear_rr (named nr t.now) asks answers t) self.old self.new result }
+    fn hear_rr(&mut self, nr: u8, asks: bool, answers: bool)
+        requires { nr < self.old.incoming.modulus }
+        ensures { (room : AnyRoom) (t : Turn) → Shows self.old room t → is_valid nr t.now ≡ true
+            → Shows self.new room (hear_rr (named nr t.now) asks answers t) }
     {
-        let recovers = self.control.recovers(answers);
-        let packets = self.copies_to_send(alloc, count, recovers)?;
-        let mut room = Room::new(alloc, packets.len() + 2, 0)?;
-        self.take_rr(&mut room, nr, asks, answers);
-        self.settle(&mut room, packets);
-        Ok(room.finish())
-    }
-
-    fn take_rr(&mut self, room: &mut Room, nr: u8, asks: bool, answers: bool)
-        requires number { nr < self.old.incoming.modulus }
-        requires room { 1 ≤ frames_left room.old }
-        ensures shows { (t : Turn) → Shows self.old room.old t → is_valid nr t.now ≡ true
-            → Shows self.new room.new (hear_rr (named nr t.now) asks answers t) }
-        ensures uses { Uses room.old room.new 1 0 }
-    {
-        self.control.hear_busy(false);
+        self.control.hear_busy(false, answers);
         self.acknowledge(nr);
-        self.answer_poll(room, asks);
+        self.hear_poll(asks);
         self.recover(answers);
     }
 
-    fn hear_rnr(
-        &mut self,
-        alloc: Global,
-        count: u8,
-        nr: u8,
-        asks: bool,
-        answers: bool,
-    ) -> Result<Acts, OutOfMemory>
-        requires formed { IsWhole self.old }
-        requires number { nr < self.old.incoming.modulus }
-        requires valid { acknowledgement self.old.incoming.modulus nr self.old.outgoing ≡ Ok count }
-        ensures { Makes (λ t. hear_rnr (named nr t.now) asks answers t) self.old self.new result }
+    fn hear_rnr(&mut self, nr: u8, asks: bool, answers: bool)
+        requires { nr < self.old.incoming.modulus }
+        ensures { (room : AnyRoom) (t : Turn) → Shows self.old room t → is_valid nr t.now ≡ true
+            → Shows self.new room (hear_rnr (named nr t.now) asks answers t) }
     {
-        let recovers = self.control.recovers(answers);
-        let packets = self.copies_to_send(alloc, count, recovers)?;
-        let mut room = Room::new(alloc, packets.len() + 2, 0)?;
-        self.take_rnr(&mut room, nr, asks, answers);
-        self.settle(&mut room, packets);
-        Ok(room.finish())
-    }
-
-    fn take_rnr(&mut self, room: &mut Room, nr: u8, asks: bool, answers: bool)
-        requires number { nr < self.old.incoming.modulus }
-        requires room { 1 ≤ frames_left room.old }
-        ensures shows { (t : Turn) → Shows self.old room.old t → is_valid nr t.now ≡ true
-            → Shows self.new room.new (hear_rnr (named nr t.now) asks answers t) }
-        ensures uses { Uses room.old room.new 1 0 }
-    {
-        self.control.hear_busy(true);
+        self.control.hear_busy(true, answers);
         self.acknowledge(nr);
-        self.answer_poll(room, asks);
+        self.hear_poll(asks);
         self.recover(answers);
         self.control.watch();
     }
 
-    fn hear_rej(
-        &mut self,
-        alloc: Global,
-        count: u8,
-        nr: u8,
-        asks: bool,
-        answers: bool,
-    ) -> Result<Acts, OutOfMemory>
-        requires formed { IsWhole self.old }
-        requires number { nr < self.old.incoming.modulus }
-        requires valid { acknowledgement self.old.incoming.modulus nr self.old.outgoing ≡ Ok count }
-        ensures { Makes (λ t. hear_rej (named nr t.now) asks answers t) self.old self.new result }
+    fn hear_rej(&mut self, nr: u8, asks: bool, answers: bool)
+        requires { nr < self.old.incoming.modulus }
+        ensures { (room : AnyRoom) (t : Turn) → Shows self.old room t → is_valid nr t.now ≡ true
+            → Shows self.new room (hear_rej (named nr t.now) asks answers t) }
     {
-        let packets = self.copies_to_send(alloc, count, true)?;
-        let mut room = Room::new(alloc, packets.len() + 2, 0)?;
-        self.take_rej(&mut room, nr, asks, answers);
-        self.settle(&mut room, packets);
-        Ok(room.finish())
-    }
-
-    fn take_rej(&mut self, room: &mut Room, nr: u8, asks: bool, answers: bool)
-        requires number { nr < self.old.incoming.modulus }
-        requires room { 1 ≤ frames_left room.old }
-        ensures shows { (t : Turn) → Shows self.old room.old t → is_valid nr t.now ≡ true
-            → Shows self.new room.new (hear_rej (named nr t.now) asks answers t) }
-        ensures uses { Uses room.old room.new 1 0 }
-    {
-        self.control.hear_busy(false);
+        self.control.hear_busy(false, answers);
         self.acknowledge(nr);
+        self.pick_none();
         self.go_back();
-        self.answer_poll(room, asks);
+        self.hear_poll(asks);
         self.recover(answers);
     }
 
     /// SREJ, which acknowledges with P/F = 1 alone.
-    fn hear_srej(
-        &mut self,
-        alloc: Global,
-        count: u8,
-        nr: u8,
-        flag: bool,
-        asks: bool,
-        answers: bool,
-    ) -> Result<Acts, OutOfMemory>
-        requires formed { IsWhole self.old }
-        requires number { nr < self.old.incoming.modulus }
-        requires valid { acknowledgement self.old.incoming.modulus nr self.old.outgoing ≡ Ok count }
-        ensures { Makes (λ t. hear_srej (named nr t.now) flag asks answers t) self.old self.new result }
+    fn hear_srej(&mut self, nr: u8, flag: bool, asks: bool, answers: bool)
+        requires { nr < self.old.incoming.modulus }
+        ensures { (room : AnyRoom) (t : Turn) → Shows self.old room t → is_valid nr t.now ≡ true
+            → Shows self.new room (hear_srej (named nr t.now) flag asks answers t) }
     {
-        let again = self.copy_asked(alloc, nr)?;
-        let recovers = self.control.recovers(answers);
-        let packets = self.copies_to_send(alloc, acknowledged_by_srej(count, flag), recovers)?;
-        let mut room = Room::new(alloc, packets.len() + 3, 0)?;
-        self.take_srej(&mut room, nr, flag, asks, answers, again);
-        self.settle(&mut room, packets);
-        Ok(room.finish())
-    }
-
-    /// A copy of the packet that an SREJ asks for, if it was sent.
-    fn copy_asked(&self, alloc: Global, nr: u8) -> Result<Option<Packet>, OutOfMemory>
-        requires { nr < self.now.incoming.modulus }
-        ensures { IfOk result (λ again. again ≡ sent_packet self.now.incoming.modulus nr self.now.outgoing) }
-    {
-        match self.outgoing.one(self.incoming.modulus(), nr) {
-            Some(packet) => Ok(Some(copy_of(alloc, packet)?)),
-            None => Ok(None),
-        }
-    }
-
-    fn take_srej(
-        &mut self,
-        room: &mut Room,
-        nr: u8,
-        flag: bool,
-        asks: bool,
-        answers: bool,
-        again: Option<Packet>,
-    )
-        requires number { nr < self.old.incoming.modulus }
-        requires room { 2 ≤ frames_left room.old }
-        ensures shows { (t : Turn) → Shows self.old room.old t → is_valid nr t.now ≡ true → again
-            ≡ sent_packet self.old.incoming.modulus nr self.old.outgoing
-            → Shows self.new room.new (hear_srej (named nr t.now) flag asks answers t) }
-        ensures uses { Uses room.old room.new 2 0 }
-    {
-        self.control.hear_busy(false);
+        self.control.hear_busy(false, answers);
         self.acknowledge_by_srej(nr, flag);
-        self.send_again(room, nr, again);
-        self.answer_poll(room, asks);
+        self.pick_out(nr);
+        self.hear_poll(asks);
         self.recover(answers);
     }
 
@@ -332,24 +228,6 @@ impl Machine {
     {
         if flag {
             self.acknowledge(nr);
-        }
-    }
-
-    /// Sends again the I frame that an SREJ asks for, if it was sent.
-    fn send_again(&mut self, room: &mut Room, nr: u8, again: Option<Packet>)
-        requires { 1 ≤ frames_left room.old }
-        ensures shows { (t : Turn) (n : ℕ) → Shows self.old room.old t → nr ≡ n % self.old.incoming.modulus
-            → t.now.outgoing.va ≤ n
-            → option_to_list again ≡ asked_packets n t.now.outgoing → Shows self.new room.new (send_again n t) }
-        ensures uses { Uses room.old room.new 1 0 }
-    {
-        match again {
-            Some(packet) => {
-                self.control.settle_due();
-                self.control.watch();
-                self.send_info(room, nr, packet);
-            }
-            None => {}
         }
     }
 
@@ -369,18 +247,16 @@ impl Machine {
         ensures { Makes (hear_numbered nr (λ n. hear_info n ns flag
             (record { pid = pid; octets = octets.now }))) self.old self.new result }
     {
-        let Ok(count) = self.outgoing.acknowledgement(self.incoming.modulus(), nr) else {
+        if !self.is_valid(nr) {
             return self.hear_error(alloc);
-        };
+        }
         let packet = Packet {
             pid,
             octets: Octets::from_slice(alloc, octets.as_slice())?,
         };
-        let packets = self.copies_to_send(alloc, count, false)?;
-        let window = usize::from(self.incoming.window());
-        let mut room = Room::new(alloc, packets.len() + window + 2, window)?;
+        let mut room = Room::new(alloc, 1, usize::from(self.incoming.window()))?;
         self.take_info(&mut room, ns, nr, flag, packet);
-        self.settle(&mut room, packets);
+        self.settle(&mut room);
         Ok(room.finish())
     }
 
@@ -388,17 +264,17 @@ impl Machine {
         requires formed { IsLink self.old }
         requires send_number { ns < self.old.incoming.modulus }
         requires receive_number { nr < self.old.incoming.modulus }
-        requires frames { self.old.incoming.window + 1 ≤ frames_left room.old }
         requires told { self.old.incoming.window ≤ told_left room.old }
         ensures shows { (t : Turn) → Shows self.old room.old t → is_valid nr t.now ≡ true
             → Shows self.new room.new (hear_info (named nr t.now) ns flag packet t) }
-        ensures uses { Uses room.old room.new (self.old.incoming.window + 1) self.old.incoming.window }
+        ensures uses { Uses room.old room.new 0 self.old.incoming.window }
     {
-        self.control.hear();
+        self.control.hear(false);
         self.acknowledge(nr);
         match self.incoming.mode() {
-            Mode::Rej => self.take_by_rej(room, ns, flag, packet),
-            Mode::Srej => self.take_by_srej(room, ns, flag, packet),
+            Mode::Rej => self.take_by_rej(room, ns, packet),
+            Mode::Srej => self.take_by_srej(room, ns, packet),
         }
+        self.hear_poll(flag);
     }
 }

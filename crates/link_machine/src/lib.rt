@@ -1,7 +1,12 @@
 //! One link of AX.25 2.2 (sections 4, 6), modulo 8 or 128, as a machine without a clock of its own. Each call is one
-//! event: a request of the layer above, a frame heard or a tick of 10 ms. It answers the frames that are sent, each
-//! with its modulus, and what the layer above is told. Lost I frames are asked for again by REJ or by SREJ. Every call
-//! makes exactly the step of the link's table, and one that is refused or finds no memory changes nothing.
+//! event: a request of the layer above, a frame heard, a tick of 10 ms, or the channel takes a frame. It answers the
+//! frames that are sent, each with its modulus, and what the layer above is told. Lost I frames are asked for again by
+//! REJ or by SREJ. Every call makes exactly the step of the link's table, and one that is refused or finds no memory
+//! changes nothing.
+//!
+//! I and S frames wait in no queue: [`Link::wants`] says that there is something to send, and [`Link::seize`] gives one
+//! frame, made from what the link then knows (LM-SEIZE, section C4). So an acknowledgement is never older than the
+//! transmission that it goes with, and nothing is sent again that was acknowledged meanwhile.
 //!
 //! ```text
 //! A call                        A                         B
@@ -13,21 +18,22 @@
 //!                               | -- SABM P=1 ----------> |  told: opened
 //!   told: opened, ours          | <----------- UA F=1 --- |
 //! Data
-//!   send                        | -- I ns=0 nr=0 -------> |  told: given
-//!                               | <-- RR nr=1, after T2 - |
+//!   seize, seize, seize         | -- I ns=0, 1 ---------> |  told: given, given
+//!   the window is full          | -- I ns=2 P=1 --------> |  told: given
+//!   more waits                  | <--------- RR nr=3 F=1  |  seize
 //! A loss with REJ
-//!   send, send                  | -- I ns=1 ---- lost     |
-//!                               | -- I ns=2 ------------> |  not the next
-//!                               | <----------- REJ nr=1 - |
-//!                               | -- I ns=1, I ns=2 ----> |  told: given, given
+//!                               | -- I ns=3 ---- lost     |
+//!                               | -- I ns=4 P=1 --------> |  not the next
+//!                               | <--------- REJ nr=3 F=1 |  seize
+//!                               | -- I ns=3, I ns=4 ----> |  told: given, given
 //! A loss with SREJ
-//!   send, send                  | -- I ns=3 ---- lost     |
-//!                               | -- I ns=4 ------------> |  stored
-//!                               | <----- SREJ nr=3 F=0 -- |
-//!                               | -- I ns=3 ------------> |  told: given, given
+//!                               | -- I ns=5 ---- lost     |
+//!                               | -- I ns=6 P=1 --------> |  stored
+//!                               | <--- SREJ nr=5, RR F=1  |  seize, seize
+//!                               | -- I ns=5 ------------> |  told: given, given
 //! A poll
-//!   T1 runs out                 | -- RR P=1 ------------> |
-//!   goes back to V(A)           | <--------- RR nr F=1 -- |
+//!   T1 runs out, seize          | -- I P=1, or RR P=1 --> |
+//!   goes back to V(A)           | <--------- RR nr F=1 -- |  seize
 //! A release
 //!   disconnect, nothing waits   | -- DISC P=1 ----------> |  told: ended by the peer
 //!   told: ended as asked        | <----------- UA F=1 --- |
@@ -54,6 +60,12 @@
 //! - T1 counts silence alone: it stands still while a frame of the link waits or is on the air, and while the channel
 //!   is busy in half duplex, since no answer can be expected then. So it needs no measured round trip (section
 //!   6.7.1.1): it is two seconds and four more for each repeater, and from the fourth retry on a multiple of that.
+//! - There is no T2: the time until the channel takes the next frame serves for it.
+//! - The last I frame of a transmission in half duplex has P = 1 if more packets wait. If the other side sends and does
+//!   not answer it, it did not hear it, and what is not acknowledged is sent again without waiting for T1.
+//! - A poll is the I frame V(A), if that is short, since its repeat may save the answer (section 6.4.11).
+//! - A frame that is no answer shows no state of rejection: by REJ each frame ahead of V(R) has REJ sent, one a
+//!   transmission; by SREJ a poll has all that is missing asked for anew.
 //! - T3 begins anew with every I and S frame that is heard, so that a link on which something comes is not polled
 //!   (section 6.7.1.3).
 #![tactic(auto)]
@@ -61,7 +73,6 @@
 mod acts;
 mod control;
 mod fault;
-mod flushing;
 mod hearing_down;
 mod hearing_up;
 mod link;
@@ -70,6 +81,7 @@ mod params;
 mod receiving;
 mod requests;
 mod room;
+mod seizing;
 mod sending;
 mod setting_up;
 mod state;

@@ -45,7 +45,8 @@ impl Link {
     ghost use Rattle.ax25_frames.specs.FrameOctets.{control_of};
     ghost use Rattle.link_machine.specs.Params.{HasWindows, IsRefusedWindow};
     ghost use Rattle.link_machine.specs.Machine.{Machine as State, new_machine, modulus_named};
-    ghost use Rattle.link_machine.specs.Event.Event.{Connect, Send, Disconnect, Hear, Tick};
+    ghost use Rattle.link_machine.specs.Event.Event.{Connect, Send, Disconnect, Hear, Tick, Seize};
+    ghost use Rattle.link_machine.specs.Wants.{wants};
     ghost use Rattle.link_machine.specs.Requests.{refusal};
     ghost use Rattle.link_machine.specs.Sent.{IsWritable};
     ghost use Rattle.link_machine.specs.Step.{step, done_of};
@@ -165,6 +166,26 @@ impl Link {
         ensures unchanged { OnErr result (self.new ≡ self.old) }
     {
         self.machine.tick(self.alloc, still)
+    }
+
+    /// Gives the channel one frame, made from what the link then owes and has to give; none if it does not want to
+    /// send. `last` says that the transmission ends with it, `full` that both sides may send at once.
+    pub fn seize(&mut self, last: bool, full: bool) -> Result<Acts, OutOfMemory>
+        ensures step { (m : State) → StandsFor self.old m → IfOk result (λ acts. acts
+            ≡ done_of (step m (Seize last full))) }
+        ensures stands_for { (m : State) → StandsFor self.old m
+            → OnOk result (StandsFor self.new (step m (Seize last full)).now) }
+        ensures writable { IfOk result (λ acts. All IsWritable acts.frames) }
+        ensures unchanged { OnErr result (self.new ≡ self.old) }
+    {
+        self.machine.seize(self.alloc, last, full)
+    }
+
+    /// True if the link wants to send: [`Link::seize`] then gives a frame, or sees that a poll was not heard.
+    pub fn wants(&self) -> bool
+        ensures { (m : State) → StandsFor self.now m → result ≡ wants m }
+    {
+        self.machine.wants()
     }
 
     /// Why [`Link::connect`] would refuse, memory apart. It takes none.

@@ -1,5 +1,5 @@
 //! What a link keeps, and the acts that change it without a word.
-ghost use Rattle.std.specs.Prelude.{◌≡◌, ℕ, ◌<◌, ◌≤◌, ◌↔◌, ◌==◌, true, Bool, IfOk, OnOk};
+ghost use Rattle.std.specs.Prelude.{◌≡◌, ℕ, ◌%◌, ◌<◌, ◌≤◌, ◌↔◌, ◌==◌, true, Bool, IfOk, OnOk};
 ghost use Rattle.std.specs.Result.{IsErrOf};
 ghost use Rattle.ax25_frames.specs.ControlField.{numbers};
 ghost use Rattle.selective_reject.specs.Numbers.{IsModulus};
@@ -8,13 +8,17 @@ ghost use Rattle.link_machine.specs.StandsFor.{StandsFor};
 ghost use Rattle.link_machine.specs.Machine.{Machine as State, fresh, emptied, in_modulus, narrowed, unquit, is_valid};
 ghost use Rattle.link_machine.specs.Machine.{named, modulus_named, new_machine};
 ghost use Rattle.link_machine.specs.Turn.{Turn, changing};
-ghost use Rattle.link_machine.specs.Acts.{acknowledged, gone_back, recover};
-ghost use Rattle.link_machine.specs.Held.{IsLink, IsWhole, Holds, Shows};
+ghost use Rattle.link_machine.specs.Acts.{acknowledged, gone_back, none_again, picked_out, polled, recover};
+ghost use Rattle.link_machine.specs.Step.{settled};
+ghost use Rattle.link_machine.specs.Held.{IsLink, IsWhole, Holds, Shows, frames_to_close};
+ghost use Rattle.link_machine.specs.Room.{frames_left};
 ghost use Rattle.link_machine.specs.declared.room.Room.{Room};
 
 use crate::control::Control;
 use crate::fault::{LinkFault, NewFault};
 use crate::params::{FittingParams, Params};
+use crate::room::Room as EventRoom;
+use crate::state::LinkState;
 use ax25_address::Path;
 use ax25_frames::Modulus;
 use selective_reject::{BadWindow, InStore, OutStore};
@@ -168,11 +172,45 @@ impl Machine {
         }
     }
 
-    /// Begins to send again from V(A) on.
+    /// Sends again from V(A) on, unless numbers that SREJ asked for since the poll are still to be sent.
     pub(crate) fn go_back(&mut self)
-        ensures { (m : State) → Holds self.old m → Holds self.new (gone_back m) }
+        ensures holds { (m : State) → Holds self.old m → Holds self.new (gone_back m) }
+        ensures incoming { self.new.incoming ≡ self.old.incoming }
     {
-        self.outgoing.go_back();
+        let kept = self.control.picked && self.outgoing.first_again().is_some();
+        self.control.picked = false;
+        if !kept {
+            self.outgoing.go_back();
+        }
+    }
+
+    /// Sends no number by itself again, since all is sent again.
+    pub(crate) fn pick_none(&mut self)
+        ensures holds { (m : State) → Holds self.old m → Holds self.new (none_again m) }
+        ensures incoming { self.new.incoming ≡ self.old.incoming }
+    {
+        self.outgoing.unask_again();
+    }
+
+    /// Is to send again the number that an SREJ asks for, if it was sent.
+    pub(crate) fn pick_out(&mut self, nr: u8)
+        requires { nr < self.old.incoming.modulus }
+        ensures { (m : State) (n : ℕ) → Holds self.old m → nr ≡ n % m.incoming.modulus → m.outgoing.va ≤ n
+            → n ≤ m.outgoing.top → Holds self.new (picked_out n m) }
+    {
+        if self.outgoing.ask_again(self.incoming.modulus(), nr) {
+            self.control.picked = true;
+        }
+    }
+
+    /// Is to answer a command with P = 1, and to ask anew for what is missing.
+    pub(crate) fn hear_poll(&mut self, asks: bool)
+        ensures { (room : Room) (t : Turn) → Shows self.old room t → Shows self.new room (polled asks t) }
+    {
+        if asks {
+            self.control.answer = true;
+            self.incoming.unask();
+        }
     }
 
     /// Takes a response with F = 1 as the answer to a poll, if one is awaited.
@@ -180,8 +218,19 @@ impl Machine {
         ensures { (room : Room) (t : Turn) → Shows self.old room t → Shows self.new room (recover answers t) }
     {
         if self.control.poll && answers {
-            self.control.recover();
-            self.outgoing.go_back();
+            self.control.recover(0);
+            self.go_back();
+        }
+    }
+
+    /// Releases the link if it is up, a disconnect was asked for and no packet waits: what each event ends with.
+    pub(crate) fn settle(&mut self, room: &mut EventRoom)
+        requires { frames_to_close self.old ≤ frames_left room.old }
+        ensures shows { (t : Turn) → Shows self.old room.old t → Shows self.new room.new (settled t) }
+    {
+        let closes = self.control.quit && self.outgoing.is_empty();
+        if matches!(self.control.state, LinkState::Up) && closes {
+            self.release(room);
         }
     }
 }

@@ -6,16 +6,14 @@ ghost use Rattle.selective_reject.specs.Incoming.{Incoming, IsIncoming, StandsFo
 ghost use Rattle.selective_reject.specs.Places.{is_full};
 ghost use Rattle.link_machine.specs.Machine.{ahead_of_vr};
 ghost use Rattle.link_machine.specs.Turn.{Turn};
-ghost use Rattle.link_machine.specs.Acts.{run, moved_on, give, ask};
-ghost use Rattle.link_machine.specs.Frames.{take_selected, refuse_out_of_sequence, hear_info_by_rej, hear_info_by_srej};
-ghost use Rattle.link_machine.specs.Room.{frames_left, told_left, Uses};
-ghost use Rattle.link_machine.specs.Held.{IsLink, Shows, srej_frame};
+ghost use Rattle.link_machine.specs.Acts.{run, moved_on, give};
+ghost use Rattle.link_machine.specs.Frames.{take_selected, hear_info_by_rej, hear_info_by_srej};
+ghost use Rattle.link_machine.specs.Room.{told_left, Uses};
+ghost use Rattle.link_machine.specs.Held.{IsLink, Shows};
 
 use crate::acts::Told;
 use crate::machine::Machine;
 use crate::room::Room;
-use ax25_address::Role;
-use ax25_frames::{Kind, S};
 use selective_reject::{InStore, Mode, Packet, Took};
 
 /// Gives the packet with number V(R), if it is there.
@@ -72,113 +70,49 @@ impl Machine {
     }
 
     /// Takes an I frame by REJ.
-    pub(crate) fn take_by_rej(&mut self, room: &mut Room, ns: u8, flag: bool, packet: Packet)
+    pub(crate) fn take_by_rej(&mut self, room: &mut Room, ns: u8, packet: Packet)
         requires formed { IsLink self.old }
         requires number { ns < self.old.incoming.modulus }
-        requires frames { 1 ≤ frames_left room.old }
-        requires told { 1 ≤ told_left room.old }
+        requires room { 1 ≤ told_left room.old }
         ensures shows { (t : Turn) → Shows self.old room.old t → t.now.incoming.mode ≡ Mode.Rej
-            → Shows self.new room.new (hear_info_by_rej ns flag packet t) }
-        ensures uses { Uses room.old room.new 1 1 }
+            → Shows self.new room.new (hear_info_by_rej ns packet t) }
+        ensures uses { Uses room.old room.new 0 1 }
     {
-        let next = self.receive_in_sequence(room, ns, packet);
-        if next {
+        let lies_ahead = self.incoming.lies_ahead(ns);
+        if self.receive_in_sequence(room, ns, packet) {
             self.control.rej = false;
-            self.control.owe();
-            self.answer_poll(room, flag);
+            self.control.due = true;
         } else {
-            self.refuse_out_of_sequence(room, flag);
+            self.control.hear_out_of_sequence(lies_ahead);
         }
     }
 
-    /// Asks by REJ for the frame that is missing, unless that was done.
-    fn refuse_out_of_sequence(&mut self, room: &mut Room, flag: bool)
-        requires { 1 ≤ frames_left room.old }
-        ensures shows { (t : Turn) → Shows self.old room.old t
-            → Shows self.new room.new (refuse_out_of_sequence flag t) }
-        ensures uses { Uses room.old room.new 1 0 }
-    {
-        let asked = self.control.rej;
-        if asked {
-            self.answer_poll(room, flag);
-        } else {
-            self.reject(room, flag);
-        }
-    }
-
-    /// Sends an SREJ for each of the numbers.
-    fn send_srejs(&self, room: &mut Room, numbers: &[u8])
-        requires { length numbers.now ≤ frames_left room.old }
-        ensures frames { room.new.frames.items ≡ room.old.frames.items ++ map (srej_frame self.now) numbers.now }
-        ensures told { room.new.told ≡ room.old.told }
-        ensures uses { Uses room.old room.new (length numbers.now) 0 }
-    {
-        for nr in numbers {
-            self.send_srej(room, *nr);
-        }
-    }
-
-    /// Sends an SREJ.
-    fn send_srej(&self, room: &mut Room, nr: u8)
-        requires { 1 ≤ frames_left room.old }
-        ensures frames { room.new.frames.items ≡ room.old.frames.items ++ srej_frame self.now nr ∷ [] }
-        ensures told { room.new.told ≡ room.old.told }
-        ensures uses { Uses room.old room.new 1 0 }
-    {
-        let kind = Kind::Super {
-            which: S::Srej,
-            nr,
-            flag: false,
-        };
-        self.send(room, Role::Response, kind);
-    }
-
-    /// Asks by SREJ for what is missing before the frame `ns`, which is in the window and is stored.
-    fn ask(&mut self, room: &mut Room, ns: u8)
-        requires formed { IsLink self.old }
-        requires mode { self.old.incoming.mode ≡ Mode.Srej }
-        requires number { ns < self.old.incoming.modulus }
-        requires room { self.old.incoming.window ≤ frames_left room.old }
-        ensures shows { (t : Turn) → Shows self.old room.old t → ahead_of_vr ns t.now < t.now.incoming.window
-            → Shows self.new room.new (ask (ahead_of_vr ns t.now) t) }
-        ensures uses { Uses room.old room.new self.old.incoming.window 0 }
-    {
-        let numbers = self.incoming.ask(ns);
-        self.send_srejs(room, numbers.as_slice());
-    }
-
-    /// Takes an I frame by SREJ: gives its packet if it is the next, with those that follow, or stores it and asks for
-    /// what is missing before it.
+    /// Takes an I frame by SREJ: gives its packet if it is the next, with those that follow, or stores it.
     fn receive_selected(&mut self, room: &mut Room, ns: u8, packet: Packet)
         requires formed { IsLink self.old }
         requires mode { self.old.incoming.mode ≡ Mode.Srej }
         requires number { ns < self.old.incoming.modulus }
-        requires frames { self.old.incoming.window ≤ frames_left room.old }
         requires told { self.old.incoming.window ≤ told_left room.old }
         ensures shows { (t : Turn) → Shows self.old room.old t
             → Shows self.new room.new (take_selected (ahead_of_vr ns t.now) packet t) }
-        ensures uses { Uses room.old room.new self.old.incoming.window self.old.incoming.window }
+        ensures uses { Uses room.old room.new 0 self.old.incoming.window }
     {
-        match self.incoming.accept(ns, packet) {
-            Took::Next => give_run(&mut self.incoming, room),
-            Took::Stored => self.ask(room, ns),
-            _ => {}
+        if let Took::Next = self.incoming.accept(ns, packet) {
+            give_run(&mut self.incoming, room);
         }
     }
 
     /// Takes an I frame by SREJ.
-    pub(crate) fn take_by_srej(&mut self, room: &mut Room, ns: u8, flag: bool, packet: Packet)
+    pub(crate) fn take_by_srej(&mut self, room: &mut Room, ns: u8, packet: Packet)
         requires formed { IsLink self.old }
         requires mode { self.old.incoming.mode ≡ Mode.Srej }
         requires number { ns < self.old.incoming.modulus }
-        requires frames { self.old.incoming.window + 1 ≤ frames_left room.old }
         requires told { self.old.incoming.window ≤ told_left room.old }
         ensures shows { (t : Turn) → Shows self.old room.old t
-            → Shows self.new room.new (hear_info_by_srej ns flag packet t) }
-        ensures uses { Uses room.old room.new (self.old.incoming.window + 1) self.old.incoming.window }
+            → Shows self.new room.new (hear_info_by_srej ns packet t) }
+        ensures uses { Uses room.old room.new 0 self.old.incoming.window }
     {
         self.receive_selected(room, ns, packet);
-        self.control.owe();
-        self.answer_poll(room, flag);
+        self.control.due = true;
     }
 }

@@ -3,7 +3,6 @@ ghost use Rattle.std.specs.Prelude.{◌≡◌, ℕ, ◌+◌, ◌%◌, ◌≤◌,
 ghost use Rattle.link_machine.specs.Sent.{role_of};
 ghost use Rattle.link_machine.specs.Sent.Sent.{SuperSent, SetupSent};
 ghost use Rattle.link_machine.specs.Turn.{Turn, sending, telling};
-ghost use Rattle.link_machine.specs.Acts.{nothing_due, polling, respond_ready, answer_poll, poll, reject};
 ghost use Rattle.link_machine.specs.Room.{frames_left, told_left, Uses};
 ghost use Rattle.link_machine.specs.Held.{Shows, frame_from};
 ghost use Rattle.ax25_frames.specs.FrameText.{sets_up_or_ends};
@@ -68,51 +67,6 @@ impl Machine {
         ensures uses { Uses room.old room.new 1 0 }
     {
         self.send(room, role_of(command), Kind::Super { which, nr, flag });
-    }
-
-    /// Tells V(R) by RR as a response.
-    pub(crate) fn respond_ready(&mut self, room: &mut Room, flag: bool)
-        requires { 1 ≤ frames_left room.old }
-        ensures shows { (t : Turn) → Shows self.old room.old t → Shows self.new room.new (respond_ready flag t) }
-        ensures control { self.new.control ≡ nothing_due self.old.control }
-        ensures uses { Uses room.old room.new 1 0 }
-    {
-        self.control.settle_due();
-        self.send_super(room, S::Rr, false, self.incoming.vr(), flag);
-    }
-
-    /// Answers a command with P = 1.
-    pub(crate) fn answer_poll(&mut self, room: &mut Room, asks: bool)
-        requires { 1 ≤ frames_left room.old }
-        ensures shows { (t : Turn) → Shows self.old room.old t → Shows self.new room.new (answer_poll asks t) }
-        ensures uses { Uses room.old room.new 1 0 }
-    {
-        if asks {
-            self.respond_ready(room, true);
-        }
-    }
-
-    /// Polls the other side by RR as a command.
-    pub(crate) fn poll(&mut self, room: &mut Room)
-        requires { 1 ≤ frames_left room.old }
-        ensures shows { (t : Turn) → Shows self.old room.old t → Shows self.new room.new (poll t) }
-        ensures control { self.new.control ≡ polling (nothing_due self.old.control) }
-        ensures uses { Uses room.old room.new 1 0 }
-    {
-        self.control.settle_due();
-        self.send_super(room, S::Rr, true, self.incoming.vr(), true);
-        self.control.poll();
-    }
-
-    /// Asks by REJ for all from V(R) on.
-    pub(crate) fn reject(&mut self, room: &mut Room, flag: bool)
-        requires { 1 ≤ frames_left room.old }
-        ensures shows { (t : Turn) → Shows self.old room.old t → Shows self.new room.new (reject flag t) }
-        ensures uses { Uses room.old room.new 1 0 }
-    {
-        self.control.settle_due();
-        self.send_super(room, S::Rej, false, self.incoming.vr(), flag);
-        self.control.rej = true;
     }
 
     /// Tells the layer above.

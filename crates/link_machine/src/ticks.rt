@@ -3,9 +3,9 @@ ghost use Rattle.std.specs.Prelude.{◌≡◌, ℕ, ◌+◌, ◌≤◌, ◌<◌,
 ghost use Rattle.link_machine.specs.declared.state.LinkState.TheVariants.{Idle};
 ghost use Rattle.link_machine.specs.Machine.{Machine as State, falls_back};
 ghost use Rattle.link_machine.specs.Turn.{Turn};
-ghost use Rattle.link_machine.specs.Ticks.{t2_out, fall_back, call_again, poll_again, release_again, t1_out, t3_out};
-ghost use Rattle.link_machine.specs.Ticks.{tick_t2};
-ghost use Rattle.link_machine.specs.Ticks.{tick_t3, tick_t1, tick};
+ghost use Rattle.link_machine.specs.Ticks.{fall_back, call_again, poll_again, release_again, t1_out, t3_out, tick_t3};
+ghost use Rattle.link_machine.specs.Ticks.{tick_t1, tick};
+ghost use Rattle.link_machine.specs.declared.room.Room.{Room as AnyRoom};
 ghost use Rattle.link_machine.specs.Room.{frames_left, told_left, Uses};
 ghost use Rattle.link_machine.specs.Held.{IsLink, IsWhole, Holds, Shows, Makes};
 ghost use Rattle.link_machine.specs.Timers.{outs, out_of, quits};
@@ -38,12 +38,10 @@ impl Machine {
         requires { IsWhole self.old }
         ensures { Makes (tick still) self.old self.new result }
     {
-        let packets = self.copies_to_send(alloc, 0, false)?;
-        let outs = out_of(self.control.t1) + out_of(self.control.t2) + out_of(self.control.t3);
-        let frames = packets.len() + outs + usize::from(self.control.quit);
-        let mut room = Room::new(alloc, frames, outs)?;
+        let outs = out_of(self.control.t1);
+        let mut room = Room::new(alloc, outs + usize::from(self.control.quit), outs)?;
         self.tick_timers(&mut room, still);
-        self.settle(&mut room, packets);
+        self.settle(&mut room);
         Ok(room.finish())
     }
 
@@ -56,58 +54,22 @@ impl Machine {
     {
         match self.control.state {
             LinkState::Idle => {}
-            _ => {
-                self.tick_t2(room);
-                self.tick_t1(room, still);
-            }
-        }
-    }
-
-    fn tick_t2(&mut self, room: &mut Room)
-        requires { out_of self.old.control.t2 ≤ frames_left room.old }
-        ensures shows { (t : Turn) → Shows self.old room.old t → Shows self.new room.new (tick_t2 t) }
-        ensures uses { Uses room.old room.new (out_of self.old.control.t2) 0 }
-        ensures quit { quits self.new.control ≤ quits self.old.control }
-        ensures others { (self.new.control.t1 ≡ self.old.control.t1) × (self.new.control.t3 ≡ self.old.control.t3) }
-    {
-        let Some(left) = self.control.t2 else {
-            return;
-        };
-        if left > 1 {
-            self.control.t2 = Some(left - 1);
-            return;
-        }
-        self.control.t2 = None;
-        self.t2_out(room);
-    }
-
-    /// T2 runs out: what is due is sent.
-    fn t2_out(&mut self, room: &mut Room)
-        requires { 1 ≤ frames_left room.old }
-        ensures shows { (t : Turn) → Shows self.old room.old t
-            → Shows self.new room.new (t2_out t.now.control.state t) }
-        ensures uses { Uses room.old room.new 1 0 }
-        ensures quit { quits self.new.control ≤ quits self.old.control }
-        ensures others { (self.new.control.t1 ≡ self.old.control.t1) × (self.new.control.t3 ≡ self.old.control.t3) }
-    {
-        match self.control.state {
-            LinkState::Up => self.respond_ready(room, false),
-            _ => {}
+            _ => self.tick_t1(room, still),
         }
     }
 
     fn tick_t1(&mut self, room: &mut Room, still: bool)
-        requires frames { out_of self.old.control.t1 + out_of self.old.control.t3 ≤ frames_left room.old }
-        requires told { out_of self.old.control.t1 + out_of self.old.control.t3 ≤ told_left room.old }
+        requires formed { IsWhole self.old }
+        requires frames { outs self.old.control ≤ frames_left room.old }
+        requires told { outs self.old.control ≤ told_left room.old }
         ensures shows { (t : Turn) → Shows self.old room.old t → Shows self.new room.new (tick_t1 still t) }
-        ensures uses { let most = out_of self.old.control.t1 + out_of self.old.control.t3
-            in Uses room.old room.new most most }
+        ensures uses { Uses room.old room.new (outs self.old.control) (outs self.old.control) }
         ensures quit { quits self.new.control ≤ quits self.old.control }
     {
         let Some(left) = self.control.t1 else {
-            return self.tick_t3(room);
+            return self.tick_t3();
         };
-        if still {
+        if still || self.wants() {
             return;
         }
         if left > 1 {
@@ -184,8 +146,7 @@ impl Machine {
             self.leave();
             self.tell(room, Told::Ended { why: Why::Failed });
         } else {
-            self.control.retry();
-            self.poll(room);
+            self.control.ask_again();
         }
     }
 
@@ -204,11 +165,9 @@ impl Machine {
         }
     }
 
-    fn tick_t3(&mut self, room: &mut Room)
-        requires { out_of self.old.control.t3 ≤ frames_left room.old }
-        ensures shows { (t : Turn) → Shows self.old room.old t → Shows self.new room.new (tick_t3 t) }
-        ensures uses { Uses room.old room.new (out_of self.old.control.t3) 0 }
-        ensures quit { quits self.new.control ≤ quits self.old.control }
+    fn tick_t3(&mut self)
+        ensures shows { (room : AnyRoom) (t : Turn) → Shows self.old room t → Shows self.new room (tick_t3 t) }
+        ensures quit { self.new.control.quit ≡ self.old.control.quit }
     {
         let Some(left) = self.control.t3 else {
             return;
@@ -218,23 +177,17 @@ impl Machine {
             return;
         }
         self.control.t3 = None;
-        self.t3_out(room);
+        self.t3_out();
     }
 
-    /// T3 runs out: a side that was silent is polled.
-    fn t3_out(&mut self, room: &mut Room)
-        requires { 1 ≤ frames_left room.old }
-        ensures shows { (t : Turn) → Shows self.old room.old t
-            → Shows self.new room.new (t3_out t.now.control.state t) }
-        ensures uses { Uses room.old room.new 1 0 }
-        ensures quit { quits self.new.control ≤ quits self.old.control }
+    /// T3 runs out: a side that was silent is to be polled.
+    fn t3_out(&mut self)
+        ensures shows { (room : AnyRoom) (t : Turn) → Shows self.old room t
+            → Shows self.new room (t3_out t.now.control.state t) }
+        ensures quit { self.new.control.quit ≡ self.old.control.quit }
     {
-        match self.control.state {
-            LinkState::Up => {
-                self.control.begin_retries();
-                self.poll(room);
-            }
-            _ => {}
+        if let LinkState::Up = self.control.state {
+            self.control.break_silence();
         }
     }
 }

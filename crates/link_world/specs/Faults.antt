@@ -5,7 +5,7 @@ use Rattle.link_machine.specs.Machine.{Machine}
 use Rattle.link_machine.specs.Event.Event.{Connect as LinkConnect, Send as LinkSend, Disconnect as LinkDisconnect}
 use Rattle.link_machine.specs.Step.{refusal_of}
 use Rattle.link_world.specs.declared.event.Event.{Event}
-use Rattle.link_world.specs.declared.event.Event.TheVariants.{Connect, Send, Disconnect, Tick, Hear, Lose}
+use Rattle.link_world.specs.declared.event.Event.TheVariants.{Connect, Send, Disconnect, Tick, Seize, Hear, Lose}
 use Rattle.link_world.specs.declared.fault.WorldFault.{WorldFault}
 use Rattle.link_world.specs.declared.fault.WorldFault.TheVariants.{NothingThere, Link, NotQuiet}
 use Rattle.link_world.specs.World.{World, seen_from, end_of}
@@ -17,6 +17,7 @@ is_there (Connect end) count = true
 is_there (Send end packet) count = true
 is_there (Disconnect end) count = true
 is_there (Tick end waiting) count = true
+is_there (Seize end last full) count = true
 is_there (Hear end) count = nat_lt 0 count
 is_there (Lose end index) count = nat_lt index count
 
@@ -26,6 +27,7 @@ refused_by (Connect end) m = refusal_of m LinkConnect
 refused_by (Send end packet) m = refusal_of m (LinkSend packet)
 refused_by (Disconnect end) m = refusal_of m LinkDisconnect
 refused_by (Tick end waiting) m = None
+refused_by (Seize end last full) m = None
 refused_by (Hear end) m = None
 refused_by (Lose end index) m = None
 

@@ -17,16 +17,17 @@ use Rattle.link_machine.specs.Machine.{Machine}
 use Rattle.link_machine.specs.StandsFor.{StandsFor as LinkStandsFor}
 use Rattle.link_machine.specs.Event.{Event as LinkEvent}
 use Rattle.link_machine.specs.Event.Event.{Connect as LinkConnect, Send as LinkSend, Disconnect as LinkDisconnect}
-use Rattle.link_machine.specs.Event.Event.{Tick as LinkTick}
+use Rattle.link_machine.specs.Event.Event.{Seize as LinkSeize, Tick as LinkTick}
 use Rattle.link_world.specs.declared.end.End.{End}
 use Rattle.link_world.specs.declared.end.End.TheVariants.{A, B}
 use Rattle.link_world.specs.declared.event.Event.{Event}
-use Rattle.link_world.specs.declared.event.Event.TheVariants.{Connect, Send, Disconnect, Tick}
+use Rattle.link_world.specs.declared.event.Event.TheVariants.{Connect, Send, Disconnect, Tick, Seize}
 use Rattle.link_world.specs.declared.request.Request.{Request}
 use Rattle.link_world.specs.declared.request.Request.TheVariants.{Connect as ConnectRequest, Send as SendRequest}
 use Rattle.link_world.specs.declared.request.Request.TheVariants.{Disconnect as DisconnectRequest, Tick as TickRequest}
+use Rattle.link_world.specs.declared.request.Request.TheVariants.{Seize as SeizeRequest}
 use Rattle.link_world.specs.Recorded.{Happening}
-use Rattle.link_world.specs.Recorded.Happening.{Connects, Sends, Disconnects, Ticks}
+use Rattle.link_world.specs.Recorded.Happening.{Connects, Sends, Disconnects, Ticks, Seizes}
 use Rattle.link_world.specs.declared.fault.WorldFault.{WorldFault}
 use Rattle.link_world.specs.declared.fault.WorldFault.TheVariants.{NothingThere, Link, NotQuiet, Memory}
 use Rattle.link_world.specs.declared.flight.InFlight.{InFlight}
@@ -97,18 +98,21 @@ event_of ConnectRequest end = Connect end
 event_of (SendRequest packet) end = Send end packet
 event_of DisconnectRequest end = Disconnect end
 event_of (TickRequest waiting) end = Tick end waiting
+event_of (SeizeRequest last full) end = Seize end last full
 
 abbrev pub happening_of : Request → Happening
 happening_of ConnectRequest = Connects
 happening_of (SendRequest packet) = Sends packet
 happening_of DisconnectRequest = Disconnects
 happening_of (TickRequest waiting) = Ticks waiting
+happening_of (SeizeRequest last full) = Seizes last full
 
 abbrev pub seen_of : Request → LinkEvent
 seen_of ConnectRequest = LinkConnect
 seen_of (SendRequest packet) = LinkSend packet
 seen_of DisconnectRequest = LinkDisconnect
 seen_of (TickRequest waiting) = LinkTick waiting
+seen_of (SeizeRequest last full) = LinkSeize last full
 
 -- frames that a link sent, as they are in flight
 abbrev pub flying : Bool → SentFrame → InFlight

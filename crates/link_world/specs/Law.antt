@@ -9,7 +9,7 @@ use Rattle.link_machine.specs.declared.state.LinkState.{LinkState}
 use Rattle.link_machine.specs.declared.state.LinkState.TheVariants.{Idle, Calling, Up, Releasing}
 use Rattle.link_machine.specs.Machine.{Machine, is_valid}
 use Rattle.link_world.specs.declared.event.Event.{Event}
-use Rattle.link_world.specs.declared.event.Event.TheVariants.{Connect, Send, Disconnect, Tick, Hear, Lose}
+use Rattle.link_world.specs.declared.event.Event.TheVariants.{Connect, Send, Disconnect, Tick, Seize, Hear, Lose}
 use Rattle.link_world.specs.Flight.{Tagged}
 use Rattle.link_world.specs.World.{World, read_in, seen_from, end_of, new_world, step, run}
 use Rattle.link_world.specs.Quiet.{IsQuietRun}
@@ -44,6 +44,7 @@ hears_valid (Connect end) w = true
 hears_valid (Send end packet) w = true
 hears_valid (Disconnect end) w = true
 hears_valid (Tick end waiting) w = true
+hears_valid (Seize end last full) w = true
 hears_valid (Hear end) w = reads_valid w.a.end.machine.control.state w.a.end.machine w.a.towards
 hears_valid (Lose end index) w = true
 

@@ -7,7 +7,7 @@ use Rattle.ax25_frames.specs.declared.frame.U.TheVariants.{Sabm, Sabme, Disc, Dm
 use Rattle.link_machine.specs.declared.state.LinkState.{LinkState}
 use Rattle.link_machine.specs.declared.state.LinkState.TheVariants.{Idle, Calling, Up, Releasing}
 use Rattle.link_world.specs.declared.event.Event.{Event}
-use Rattle.link_world.specs.declared.event.Event.TheVariants.{Connect, Send, Disconnect, Tick, Hear, Lose}
+use Rattle.link_world.specs.declared.event.Event.TheVariants.{Connect, Send, Disconnect, Tick, Seize, Hear, Lose}
 use Rattle.link_world.specs.Flight.{Tagged, asks_in, answers_in}
 use Rattle.link_world.specs.World.{World, seen_from, end_of, near_turn, staying, step}
 
@@ -54,6 +54,7 @@ is_called (Connect end) w = false
 is_called (Send end packet) w = false
 is_called (Disconnect end) w = false
 is_called (Tick end waiting) w = false
+is_called (Seize end last full) w = false
 is_called (Hear end) w = is_idle w.a.end.machine.control.state && begins_with_sabm w.a.towards
 is_called (Lose end index) w = false
 

@@ -14,7 +14,7 @@ use Rattle.link_machine.specs.Machine.{Machine, is_valid}
 use Rattle.link_machine.specs.Sent.{SentIn, frame_of}
 use Rattle.link_machine.specs.Turn.{Turn}
 use Rattle.link_machine.specs.Event.{Event}
-use Rattle.link_machine.specs.Event.Event.{Connect, Send, Disconnect, Hear, Tick}
+use Rattle.link_machine.specs.Event.Event.{Connect, Send, Disconnect, Hear, Seize, Tick}
 use Rattle.link_machine.specs.Step.{step, refusal_of}
 use Rattle.link_world.specs.Flight.{Tagged, asks, is_answer, is_numbered, set_up_of}
 use Rattle.link_world.specs.SetUps.{SetUp, opened, giving, getting, acting, change_last}
@@ -32,6 +32,7 @@ pub data Happening : Type 0 where
   Sends : (packet : Packet) → Happening
   Disconnects : Happening
   Ticks : (waiting : Bool) → Happening
+  Seizes : (last full : Bool) → Happening
   Hears : (frame : Tagged) → Happening
 
 -- what its link sees of that
@@ -40,6 +41,7 @@ seen Connects = Connect
 seen (Sends packet) = Send packet
 seen Disconnects = Disconnect
 seen (Ticks waiting) = Tick waiting
+seen (Seizes last full) = Seize last full
 seen (Hears tagged) = Hear tagged.frame
 
 -- an I frame is accepted if its N(R) is valid and the receiver keeps its packet
@@ -74,6 +76,7 @@ noting (Sends packet) r =
     if is_some (refusal_of r.machine (Send packet)) then r else taking r.machine.control.state packet r
 noting Disconnects r = r
 noting (Ticks waiting) r = r
+noting (Seizes last full) r = r
 noting (Hears tagged) r = hearing r.machine.control.state tagged r
 
 -- the set-up that a heard frame belongs to; nothing but a heard frame opens a set-up
@@ -82,6 +85,7 @@ mate_of Connects = 0
 mate_of (Sends packet) = 0
 mate_of Disconnects = 0
 mate_of (Ticks waiting) = 0
+mate_of (Seizes last full) = 0
 mate_of (Hears tagged) = tagged.set_up
 
 -- the set-up that opens in a turn, if one does: in the link's modulus, with what was given in the call
@@ -117,6 +121,7 @@ hears_ask Connects = false
 hears_ask (Sends packet) = false
 hears_ask Disconnects = false
 hears_ask (Ticks waiting) = false
+hears_ask (Seizes last full) = false
 hears_ask (Hears tagged) = asks tagged.frame.kind
 
 -- a frame as the end sends it, with its tags

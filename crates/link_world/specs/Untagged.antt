@@ -7,13 +7,13 @@ use Rattle.link_machine.specs.Machine.{Machine, modulus_named}
 use Rattle.link_machine.specs.Turn.{Turn, begin}
 use Rattle.link_machine.specs.Event.{Event as LinkEvent}
 use Rattle.link_machine.specs.Event.Event.{Connect as LinkConnect, Send as LinkSend, Disconnect as LinkDisconnect}
-use Rattle.link_machine.specs.Event.Event.{Hear as LinkHear, Tick as LinkTick}
+use Rattle.link_machine.specs.Event.Event.{Hear as LinkHear, Seize as LinkSeize, Tick as LinkTick}
 use Rattle.link_machine.specs.Sent.{sent_frames}
 use Rattle.link_machine.specs.Step.{step as link_step}
 use Rattle.link_world.specs.declared.end.End.{End}
 use Rattle.link_world.specs.declared.end.End.TheVariants.{A, B}
 use Rattle.link_world.specs.declared.event.Event.{Event}
-use Rattle.link_world.specs.declared.event.Event.TheVariants.{Connect, Send, Disconnect, Tick, Hear, Lose}
+use Rattle.link_world.specs.declared.event.Event.TheVariants.{Connect, Send, Disconnect, Tick, Seize, Hear, Lose}
 use Rattle.link_world.specs.Flight.{Tagged}
 use Rattle.link_world.specs.Reading.{frame_read}
 use Rattle.link_world.specs.StandsFor.{sent_tagged}
@@ -50,6 +50,7 @@ link_event (Connect end) modulus towards = Some LinkConnect
 link_event (Send end packet) modulus towards = Some (LinkSend packet)
 link_event (Disconnect end) modulus towards = Some LinkDisconnect
 link_event (Tick end waiting) modulus towards = Some (LinkTick waiting)
+link_event (Seize end last full) modulus towards = Some (LinkSeize last full)
 link_event (Hear end) modulus towards = first_frame modulus towards
 link_event (Lose end index) modulus towards = None
 
@@ -58,6 +59,7 @@ frames_staying (Connect end) towards = towards
 frames_staying (Send end packet) towards = towards
 frames_staying (Disconnect end) towards = towards
 frames_staying (Tick end waiting) towards = towards
+frames_staying (Seize end last full) towards = towards
 frames_staying (Hear end) towards = drop 1 towards
 frames_staying (Lose end index) towards = remove towards index
 

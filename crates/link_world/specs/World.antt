@@ -10,11 +10,11 @@ use Rattle.link_machine.specs.Machine.{new_machine, modulus_named}
 use Rattle.link_world.specs.declared.end.End.{End}
 use Rattle.link_world.specs.declared.end.End.TheVariants.{A, B}
 use Rattle.link_world.specs.declared.event.Event.{Event}
-use Rattle.link_world.specs.declared.event.Event.TheVariants.{Connect, Send, Disconnect, Tick, Hear, Lose}
+use Rattle.link_world.specs.declared.event.Event.TheVariants.{Connect, Send, Disconnect, Tick, Seize, Hear, Lose}
 use Rattle.link_world.specs.Reading.{frame_read}
 use Rattle.link_world.specs.Flight.{Tagged}
 use Rattle.link_world.specs.Recorded.{RecordedEnd, Happening, EndTurn, end_turn, no_turn}
-use Rattle.link_world.specs.Recorded.Happening.{Connects, Sends, Disconnects, Ticks, Hears}
+use Rattle.link_world.specs.Recorded.Happening.{Connects, Sends, Disconnects, Ticks, Seizes, Hears}
 
 -- an end, and the frames in flight towards it, the earliest first
 pub record Side : Type 0 where
@@ -46,6 +46,7 @@ end_of (Connect end) = end
 end_of (Send end packet) = end
 end_of (Disconnect end) = end
 end_of (Tick end waiting) = end
+end_of (Seize end last full) = end
 end_of (Hear end) = end
 end_of (Lose end index) = end
 
@@ -69,6 +70,7 @@ happening (Connect end) modulus towards = Some Connects
 happening (Send end packet) modulus towards = Some (Sends packet)
 happening (Disconnect end) modulus towards = Some Disconnects
 happening (Tick end waiting) modulus towards = Some (Ticks waiting)
+happening (Seize end last full) modulus towards = Some (Seizes last full)
 happening (Hear end) modulus towards = hearing_first modulus towards
 happening (Lose end index) modulus towards = None
 
@@ -78,6 +80,7 @@ staying (Connect end) towards = towards
 staying (Send end packet) towards = towards
 staying (Disconnect end) towards = towards
 staying (Tick end waiting) towards = towards
+staying (Seize end last full) towards = towards
 staying (Hear end) towards = drop 1 towards
 staying (Lose end index) towards = remove towards index
 

@@ -15,6 +15,9 @@ pub enum Event {
     Disconnect(End),
     /// A tick of 10 ms passes for it; the flag says that T1 stands still in it.
     Tick(End, bool),
+    /// The channel takes a frame of it, if it wants to send; the flags say that the transmission ends with that frame,
+    /// and that both sides may send at once.
+    Seize(End, bool, bool),
     /// It hears the frame at the front of those in flight towards it.
     Hear(End),
     /// The frame with this index, counted from 0, of those in flight towards it is lost.
@@ -33,6 +36,7 @@ impl Event {
             | Event::Send(end, _)
             | Event::Disconnect(end)
             | Event::Tick(end, _)
+            | Event::Seize(end, _, _)
             | Event::Hear(end)
             | Event::Lose(end, _) => *end,
         }

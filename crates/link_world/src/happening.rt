@@ -66,6 +66,7 @@ fn happen_near(
         Event::Send(_, packet) => take(near, far, Request::Send(packet), number),
         Event::Disconnect(_) => take(near, far, Request::Disconnect, number),
         Event::Tick(_, waiting) => take(near, far, Request::Tick(waiting), number),
+        Event::Seize(_, last, full) => take(near, far, Request::Seize(last, full), number),
         Event::Hear(_) => hear(alloc, near, far, number),
         Event::Lose(_, index) => lose(alloc, near, far, index, number),
     }

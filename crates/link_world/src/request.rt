@@ -9,7 +9,7 @@ ghost use Rattle.link_world.specs.Held.{seen_of};
 use link_machine::{Acts, Link, LinkFault};
 use selective_reject::Packet;
 
-/// A request of the layer above, or a tick.
+/// A request of the layer above, a tick, or a frame for the channel.
 #[derive(Drop)]
 pub(crate) enum Request {
     Connect,
@@ -17,6 +17,8 @@ pub(crate) enum Request {
     Disconnect,
     /// The flag says that T1 stands still.
     Tick(bool),
+    /// The flags say that the transmission ends with the frame, and that both sides may send at once.
+    Seize(bool, bool),
 }
 
 impl Request {
@@ -28,7 +30,7 @@ impl Request {
             Request::Connect => link.connect_refusal(),
             Request::Send(packet) => link.send_refusal(packet),
             Request::Disconnect => link.disconnect_refusal(),
-            Request::Tick(_) => None,
+            Request::Tick(_) | Request::Seize(..) => None,
         }
     }
 
@@ -49,6 +51,7 @@ impl Request {
             Request::Send(packet) => link.send(packet),
             Request::Disconnect => link.disconnect(),
             Request::Tick(waiting) => Ok(link.tick(waiting)?),
+            Request::Seize(last, full) => Ok(link.seize(last, full)?),
         }
     }
 }

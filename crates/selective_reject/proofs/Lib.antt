@@ -3,3 +3,4 @@ pub mod Distances
 pub mod PlaceLemmas
 pub mod IncomingRounds
 pub mod OutgoingRounds
+pub mod AgainLemmas

@@ -1,6 +1,6 @@
 -- What a receiver keeps of a sender's packets (AX.25 2.2 sections 4.2 and 6.4).
 use Rattle.std.specs.Prelude.{◌≡◌, ℕ, ◌+◌, ◌%◌, ◌<◌, ◌==◌, nat_lt, Bool, true, false, if◌then◌else◌, List, [], ◌∷◌}
-use Rattle.std.specs.Prelude.{◌++◌, length, map, drop, replicate, Option}
+use Rattle.std.specs.Prelude.{◌++◌, length, map, drop, replicate, Option, Some, None}
 use Rattle.selective_reject.specs.declared.packet.Packet.{Packet}
 use Rattle.selective_reject.specs.declared.place.Place.{Place}
 use Rattle.selective_reject.specs.declared.window.Mode.{Mode}
@@ -9,7 +9,8 @@ use Rattle.selective_reject.specs.declared.incoming.Took.{Took}
 use Rattle.selective_reject.specs.declared.incoming.Took.TheVariants.{Next, NotNext, Stored, Again, Outside}
 use Rattle.selective_reject.specs.Numbers.{IsModulus, ahead}
 use Rattle.selective_reject.specs.Window.{IsWindow}
-use Rattle.selective_reject.specs.Places.{empty_place, packet_at, is_full, with_packet, missing, asked}
+use Rattle.selective_reject.specs.Places.{empty_place, packet_at, is_full, with_packet, missing, asked, unasked}
+use Rattle.selective_reject.specs.Places.{first_missing, with_asked}
 
 -- vr is the number of the next packet in sequence, and place k is that of number vr + k
 pub record Incoming : Type 0 where
@@ -72,6 +73,29 @@ numbers_to_ask store ns = map (λ k. (store.vr + k) % store.modulus) (missing st
 
 abbrev pub after_ask : Incoming → ℕ → Incoming
 after_ask store ns = record store { places = asked store.places (before_number store ns) }
+
+-- how far ahead of vr the lowest number lies that is neither there nor asked for while one above it is there
+abbrev pub next_missing : Incoming → Option ℕ
+next_missing store = first_missing store.places
+
+-- that one is asked for, as its number is sent
+abbrev pub number_of_missing : Incoming → Option ℕ → Option ℕ
+number_of_missing store None = None
+number_of_missing store (Some k) = Some ((store.vr + k) % store.modulus)
+
+abbrev pub next_to_ask : Incoming → Option ℕ
+next_to_ask store = number_of_missing store (next_missing store)
+
+abbrev pub asked_for : Option ℕ → Incoming → Incoming
+asked_for None store = store
+asked_for (Some k) store = record store { places = with_asked store.places k }
+
+abbrev pub after_ask_next : Incoming → Incoming
+after_ask_next store = asked_for (next_missing store) store
+
+-- nothing is asked for any more
+abbrev pub unasked_store : Incoming → Incoming
+unasked_store store = record store { places = unasked store.places }
 
 -- what holds of each store that is kept
 pub record IsIncoming (held : Incoming) : Type 0 where

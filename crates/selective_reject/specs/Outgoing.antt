@@ -4,17 +4,19 @@ use Rattle.std.specs.Prelude.{List, [], ◌∷◌, ◌++◌, length, drop, slice
 use Rattle.selective_reject.specs.declared.packet.Packet.{Packet}
 use Rattle.selective_reject.specs.declared.outgoing.BadNr.{BadNr}
 use Rattle.selective_reject.specs.Numbers.{ahead}
+use Rattle.selective_reject.specs.Again.{with_number, numbers_from}
 
 -- va is the number of the first packet, vs that of the next one to be sent, and top one more than the highest that was
--- sent
+-- sent; again has the numbers from va to below top that SREJ asked for, each by how far it lies ahead of va
 pub record Outgoing : Type 0 where
   pub va : ℕ
   pub vs : ℕ
   pub top : ℕ
   pub packets : List Packet
+  pub again : List ℕ
 
 abbrev pub empty_outgoing : Outgoing
-empty_outgoing = record { va = 0; vs = 0; top = 0; packets = [] }
+empty_outgoing = record { va = 0; vs = 0; top = 0; packets = []; again = [] }
 
 abbrev pub after_push : Packet → Outgoing → Outgoing
 after_push packet store = record store { packets = store.packets ++ packet ∷ [] }
@@ -33,8 +35,13 @@ after_next window store =
 
 -- the packets below a number are removed
 abbrev pub acknowledged : ℕ → Outgoing → Outgoing
-acknowledged number store =
-    record { va = number; vs = max store.vs number; top = store.top; packets = drop (number - store.va) store.packets }
+acknowledged number store = record {
+  va = number;
+  vs = max store.vs number;
+  top = store.top;
+  packets = drop (number - store.va) store.packets;
+  again = numbers_from (number - store.va) store.again;
+}
 
 -- N(R) names a number from va to top
 abbrev pub is_named : ℕ → ℕ → Outgoing → Bool
@@ -50,18 +57,45 @@ abbrev pub after_acknowledge : ℕ → ℕ → Outgoing → Outgoing
 after_acknowledge modulus nr store =
     if is_named modulus nr store then acknowledged (store.va + ahead modulus store.va nr) store else store
 
+-- all is sent again from va on
 abbrev pub back : Outgoing → Outgoing
-back store = record store { vs = store.va }
+back store = record store { vs = store.va; again = [] }
+
+-- a number from va on is to be sent again
+abbrev pub asked_again : ℕ → Outgoing → Outgoing
+asked_again number store = record store { again = with_number (number - store.va) store.again }
+
+-- no number is asked for any more
+abbrev pub unasked_again : Outgoing → Outgoing
+unasked_again store = record store { again = [] }
+
+-- how far ahead of va the lowest number lies that was asked for, of those that were sent
+abbrev pub within : ℕ → Option ℕ → Option ℕ
+within reach None = None
+within reach (Some place) = if nat_lt place reach then Some place else None
+
+abbrev pub first_again : Outgoing → Option ℕ
+first_again store = within (store.top - store.va) (slice_get store.again 0)
+
+-- that one is sent
+abbrev pub after_again : Outgoing → Outgoing
+after_again store = record store { again = drop 1 store.again }
 
 -- the packets that stay are counted from 0 again
 abbrev pub restarted : Outgoing → Outgoing
-restarted store = record { va = 0; vs = 0; top = 0; packets = store.packets }
+restarted store = record { va = 0; vs = 0; top = 0; packets = store.packets; again = [] }
 
 -- the packet that was sent with a number: from va to below top
 abbrev pub sent_packet : ℕ → ℕ → Outgoing → Option Packet
 sent_packet modulus number store =
     let place = ahead modulus store.va number in
     if nat_lt place (store.top - store.va) then slice_get store.packets place else None
+
+-- the number that SREJ asks for, if it was sent, is to be sent again
+abbrev pub after_ask_again : ℕ → ℕ → Outgoing → Outgoing
+after_ask_again modulus number store =
+    let place = ahead modulus store.va number in
+    if nat_lt place (store.top - store.va) then asked_again (store.va + place) store else store
 
 -- what holds of each store that is kept
 pub record IsOutgoing (held : Outgoing) : Type 0 where
@@ -79,9 +113,16 @@ pub record StandsForOutgoing (held store : Outgoing) : Type 0 where
   pub vs : held.vs + store.va ≡ store.vs + held.va
   pub top : held.top + store.va ≡ store.top + held.va
   pub packets : held.packets ≡ store.packets
+  pub again : held.again ≡ store.again
 
 -- the same store without whole rounds
 abbrev pub reduced_outgoing : Outgoing → Outgoing
 reduced_outgoing store =
     let rounds = 128 * (store.va / 128) in
-    record { va = store.va % 128; vs = store.vs - rounds; top = store.top - rounds; packets = store.packets }
+    record {
+      va = store.va % 128;
+      vs = store.vs - rounds;
+      top = store.top - rounds;
+      packets = store.packets;
+      again = store.again;
+    }

@@ -1,12 +1,14 @@
 //! What came of a sender's packets.
 
-ghost use Rattle.std.specs.Prelude.{◌≡◌, ℕ, ◌+◌, ◌%◌, ◌<◌, ◌≤◌, ◌↔◌, OnOk, IfOk, if◌then◌else◌};
+ghost use Rattle.std.specs.Prelude.{◌≡◌, ℕ, ◌+◌, ◌%◌, ◌<◌, ◌≤◌, ◌↔◌, OnOk, IfOk, if◌then◌else◌, is_some};
+ghost use Rattle.std.specs.Prelude.{◌/◌, nat_lt};
 ghost use Rattle.std.specs.Result.{IsErrOf};
 ghost use Rattle.selective_reject.specs.Numbers.{IsModulus, ahead};
 ghost use Rattle.selective_reject.specs.Window.{IsWindow, IsBadWindow, AreFitting};
 ghost use Rattle.selective_reject.specs.Incoming.{Incoming, IsIncoming, StandsForIncoming, empty_incoming};
 ghost use Rattle.selective_reject.specs.Incoming.{reduced_incoming, took, taking, keeps, after_accept, taken};
-ghost use Rattle.selective_reject.specs.Incoming.{after_take, before_number, numbers_to_ask, after_ask};
+ghost use Rattle.selective_reject.specs.Incoming.{after_take, before_number, numbers_to_ask, after_ask, next_missing};
+ghost use Rattle.selective_reject.specs.Incoming.{next_to_ask, after_ask_next, unasked_store};
 ghost use Rattle.selective_reject.specs.TrueNumbers.{IsInReach, took_truly, after_accept_truly};
 
 use crate::number::ahead;
@@ -200,6 +202,46 @@ impl InStore {
     {
         let count = self.before_number(ns);
         self.places.ask_first(count, self.vr, self.modulus)
+    }
+
+    /// Whether `ns` lies ahead of V(R), by less than half the numbers; else it is a repeat.
+    pub fn lies_ahead(&self, ns: u8) -> bool
+        requires { ns < self.now.modulus }
+        ensures ahead { result ≡ nat_lt (ahead self.now.modulus self.now.vr ns) (self.now.modulus / 2) }
+    {
+        ahead(self.modulus, self.vr, ns) < self.modulus / 2
+    }
+
+    /// True if a number is neither stored nor asked for while one above it is stored.
+    pub fn is_missing(&self) -> bool
+        ensures missing { result ≡ is_some (next_missing self.now) }
+        ensures stands_for { (store : Incoming) → StandsForIncoming self.now store
+            → result ≡ is_some (next_missing store) }
+    {
+        self.places.first_missing().is_some()
+    }
+
+    /// The lowest such number. It is then asked for.
+    pub fn ask_next(&mut self) -> Option<u8>
+        ensures number { result ≡ next_to_ask self.old }
+        ensures store { self.new ≡ after_ask_next self.old }
+        ensures stands_for { (store : Incoming) → StandsForIncoming self.old store
+            → (result ≡ next_to_ask store) × StandsForIncoming self.new (after_ask_next store) }
+        ensures formed { IsIncoming self.new }
+    {
+        let place = self.places.first_missing()?;
+        self.places.ask(place);
+        Some((self.vr + place) % self.modulus)
+    }
+
+    /// Nothing is asked for any more.
+    pub fn unask(&mut self)
+        ensures store { self.new ≡ unasked_store self.old }
+        ensures stands_for { (store : Incoming) → StandsForIncoming self.old store
+            → StandsForIncoming self.new (unasked_store store) }
+        ensures formed { IsIncoming self.new }
+    {
+        self.places.unask();
     }
 
     /// How many places from V(R) on stand before that of `ns`: none if it is not in the window.

@@ -4,6 +4,7 @@
 //! which count all packets from 0.
 #![tactic(auto)]
 
+mod asked_again;
 mod incoming;
 mod laws;
 mod number;

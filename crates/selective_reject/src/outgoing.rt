@@ -3,12 +3,15 @@
 ghost use Rattle.std.specs.Prelude.{◌≡◌, ℕ, ◌+◌, ◌-◌, ◌%◌, ◌<◌, ◌≤◌, ◌↔◌, ◌==◌, length, slice_get, nat_lt, Ok, OnOk};
 ghost use Rattle.std.specs.Prelude.{IfOk, IfErr, IfSome, IsErr, if◌then◌else◌};
 ghost use Rattle.std.specs.Option.{option_copied};
-ghost use Rattle.selective_reject.specs.Numbers.{IsModulus};
+ghost use Rattle.selective_reject.specs.Numbers.{IsModulus, ahead};
 ghost use Rattle.selective_reject.specs.Outgoing.{Outgoing, IsOutgoing, StandsForOutgoing, empty_outgoing};
-ghost use Rattle.selective_reject.specs.Outgoing.{reduced_outgoing, after_push, number_to_send, after_next};
+ghost use Rattle.selective_reject.specs.Outgoing.{reduced_outgoing, after_push, may_send, number_to_send};
+ghost use Rattle.selective_reject.specs.Outgoing.{after_next};
 ghost use Rattle.selective_reject.specs.Outgoing.{acknowledgement, after_acknowledge, acknowledged, back, restarted};
-ghost use Rattle.selective_reject.specs.Outgoing.{sent_packet};
+ghost use Rattle.selective_reject.specs.Outgoing.{sent_packet, asked_again, unasked_again, first_again};
+ghost use Rattle.selective_reject.specs.Outgoing.{after_again, after_ask_again};
 
+use crate::asked_again::AskedAgain;
 use crate::number::ahead;
 use crate::packet::Packet;
 use circular_buffer::HeapCircularBuffer;
@@ -41,6 +44,8 @@ pub struct OutStore {
     sent: u8,
     // The greatest V(S) so far, less V(A).
     most_sent: u8,
+    // The numbers that SREJ asked for, each less V(A).
+    again: AskedAgain,
 }
 
 impl Model for OutStore {
@@ -49,10 +54,12 @@ impl Model for OutStore {
 
     ghost Value = { Outgoing };
 
-    ghost view = { λ s. record { va = s.va; vs = s.va + s.sent; top = s.va + s.most_sent; packets = s.packets.items } };
+    ghost view = { λ s. record
+        { va = s.va; vs = s.va + s.sent; top = s.va + s.most_sent; packets = s.packets.items; again = s.again } };
 
     ghost invariant = { λ s. (s.packets.capacity ≡ 1024)
-        × IsOutgoing (record { va = s.va; vs = s.va + s.sent; top = s.va + s.most_sent; packets = s.packets.items }) };
+        × IsOutgoing (record
+        { va = s.va; vs = s.va + s.sent; top = s.va + s.most_sent; packets = s.packets.items; again = s.again }) };
 }
 
 impl OutStore {
@@ -65,6 +72,7 @@ impl OutStore {
             va: 0,
             sent: 0,
             most_sent: 0,
+            again: AskedAgain::new(),
         })
     }
 
@@ -83,6 +91,7 @@ impl OutStore {
             va: self.va,
             sent: self.sent,
             most_sent: self.most_sent,
+            again: self.again.copy(),
         })
     }
 
@@ -123,6 +132,14 @@ impl OutStore {
         Some(number)
     }
 
+    /// True if the window allows a further packet and one waits.
+    pub fn may_send(&self, window: u8) -> bool
+        ensures value { result ≡ may_send window self.now }
+        ensures stands_for { (store : Outgoing) → StandsForOutgoing self.now store → result ≡ may_send window store }
+    {
+        usize::from(self.sent) < self.packets.len().min(usize::from(window))
+    }
+
     /// Removes the packets below the number that `nr` names, and says how many. Refuses `nr` exactly when it names
     /// none from V(A) to the greatest V(S) so far; the store is then unchanged.
     pub fn acknowledge(&mut self, modulus: u8, nr: u8) -> Result<u8, BadNr>
@@ -145,10 +162,12 @@ impl OutStore {
         self.va = (self.va + count) % 128;
         self.sent = self.sent.saturating_sub(count);
         self.most_sent -= count;
+        self.again.acknowledge(count);
         Ok(count)
     }
 
-    /// Begins to send again from the first packet that is not acknowledged: V(S) becomes V(A).
+    /// Begins to send again from the first packet that is not acknowledged: V(S) becomes V(A), and no number is asked
+    /// for any more.
     pub fn go_back(&mut self)
         ensures store { self.new ≡ back self.old }
         ensures stands_for { (store : Outgoing) → StandsForOutgoing self.old store
@@ -156,6 +175,73 @@ impl OutStore {
         ensures formed { IsOutgoing self.new }
     {
         self.sent = 0;
+        self.again.clear();
+    }
+
+    /// SREJ asked for a number: it is to be sent again. Tells whether one from V(A) to the greatest V(S) so far has it;
+    /// else nothing changes.
+    pub fn ask_again(&mut self, modulus: u8, nr: u8) -> bool
+        requires modulus { IsModulus modulus }
+        requires number { nr < modulus }
+        ensures sent { result ≡ nat_lt (ahead modulus self.old.va nr) (self.old.top - self.old.va) }
+        ensures store { self.new ≡ after_ask_again modulus nr self.old }
+        ensures stands_for { (store : Outgoing) → StandsForOutgoing self.old store
+            → StandsForOutgoing self.new (after_ask_again modulus nr store) }
+        // If fewer than the modulus are under way, a number from V(A) to the top is the one that is asked for.
+        ensures true_number { (store : Outgoing) (number : ℕ) → StandsForOutgoing self.old store
+            → store.va ≤ number → number ≤ store.top → store.top < store.va + modulus → nr ≡ number % modulus
+            → (result ≡ nat_lt number store.top)
+            × StandsForOutgoing self.new (if nat_lt number store.top then asked_again number store else store) }
+        ensures formed { IsOutgoing self.new }
+    {
+        let place = ahead(modulus, self.va, nr);
+        if place >= self.most_sent {
+            return false;
+        }
+        self.again.add(place);
+        true
+    }
+
+    /// No number is asked for any more.
+    pub fn unask_again(&mut self)
+        ensures store { self.new ≡ unasked_again self.old }
+        ensures formed { IsOutgoing self.new }
+    {
+        self.again.clear();
+    }
+
+    /// How far ahead of V(A) the lowest number lies that SREJ asked for, of those that were sent.
+    #[tactic(auto, using(crate::proofs::OutgoingRounds::same_first_again))]
+    pub fn first_again(&self) -> Option<u8>
+        ensures place { result ≡ first_again self.now }
+        ensures within { IfSome result (λ place. place < 127) }
+        ensures stands_for { (store : Outgoing) → StandsForOutgoing self.now store → result ≡ first_again store }
+    {
+        let place = self.again.first()?;
+        if place < self.most_sent {
+            Some(place)
+        } else {
+            None
+        }
+    }
+
+    /// That one is sent.
+    pub fn take_again(&mut self)
+        ensures store { self.new ≡ after_again self.old }
+        ensures formed { IsOutgoing self.new }
+    {
+        self.again.take();
+    }
+
+    /// The number, as it is sent, of the packet that stands so many places after the first.
+    pub fn number(&self, modulus: u8, place: u8) -> u8
+        requires modulus { IsModulus modulus }
+        requires place { place < 128 }
+        ensures value { result ≡ (self.now.va + place) % modulus }
+        ensures stands_for { (store : Outgoing) → StandsForOutgoing self.now store
+            → result ≡ (store.va + place) % modulus }
+    {
+        (self.va + place) % modulus
     }
 
     /// The packet that was sent with that number. None exactly when none from V(A) to the greatest V(S) so far has it.

@@ -1,9 +1,10 @@
 //! The places of the numbers that may come next.
 
-ghost use Rattle.std.specs.Prelude.{◌≡◌, ◌+◌, ◌%◌, ◌<◌, ◌≤◌, true, [], ◌∷◌, ◌++◌, length, map, drop, replicate, IfOk};
+ghost use Rattle.std.specs.Prelude.{◌≡◌, ◌+◌, ◌%◌, ◌<◌, ◌≤◌, true, [], ◌∷◌, ◌++◌, length, map, drop, replicate, IfOk, IfSome};
 ghost use Rattle.selective_reject.specs.Numbers.{IsModulus};
 ghost use Rattle.selective_reject.specs.Places.{empty_place, filled_place, asked_place, misses, is_full, is_missing};
-ghost use Rattle.selective_reject.specs.Places.{packet_at, with_packet, with_asked, missing, asked};
+ghost use Rattle.selective_reject.specs.Places.{packet_at, with_packet, with_asked, missing, asked, full_end, first_missing};
+ghost use Rattle.selective_reject.specs.Places.{unasked, with_unasked};
 
 use crate::packet::Packet;
 use arrayvec::ArrayVec;
@@ -161,7 +162,67 @@ impl Places {
         numbers
     }
 
-    fn ask(&mut self, place: u8) -> bool
+    /// How many places there are up to the last that is full.
+    #[tactic(auto, using(crate::proofs::PlaceLemmas::end_more))]
+    fn full_end(&self) -> u8
+        ensures end { result ≡ full_end self.now }
+        ensures within { result ≤ length self.now }
+    {
+        let mut end = 0;
+        for place in 0..self.places.len() as u8 {
+            if self.is_full(place) {
+                end = place + 1;
+            }
+        }
+        end
+    }
+
+    /// The first place that misses its packet while one further on is there.
+    #[tactic(auto, using(crate::proofs::PlaceLemmas::first_of_missing, crate::proofs::PlaceLemmas::none_missing_more))]
+    pub(crate) fn first_missing(&self) -> Option<u8>
+        ensures first { result ≡ first_missing self.now }
+        ensures within { IfSome result (λ place. place < length self.now) }
+    {
+        let end = self.full_end();
+        for place in 0..end {
+            if self.misses(place) {
+                return Some(place);
+            }
+        }
+        None
+    }
+
+    /// Whether a packet is neither there nor asked for.
+    fn misses(&self, place: u8) -> bool
+        requires { place < length self.now }
+        ensures { result ≡ is_missing self.now place }
+    {
+        match self.places.get(usize::from(place)) {
+            Some(place) => !place.asked && place.packet.is_none(),
+            None => true,
+        }
+    }
+
+    /// No place is asked for any more.
+    #[tactic(auto, using(crate::proofs::PlaceLemmas::unasked_more, crate::proofs::PlaceLemmas::length_unasked_to, crate::proofs::PlaceLemmas::unasked_all))]
+    pub(crate) fn unask(&mut self)
+        ensures { self.new ≡ unasked self.old }
+    {
+        for place in 0..self.places.len() as u8 {
+            self.unask_at(place);
+        }
+    }
+
+    fn unask_at(&mut self, place: u8)
+        requires { place < length self.old }
+        ensures { self.new ≡ with_unasked self.old place }
+    {
+        if let Some(place) = self.places.get_mut(usize::from(place)) {
+            place.asked = false;
+        }
+    }
+
+    pub(crate) fn ask(&mut self, place: u8) -> bool
         requires { place < length self.old }
         ensures asked { result ≡ is_missing self.old place }
         ensures places { self.new ≡ with_asked self.old place }

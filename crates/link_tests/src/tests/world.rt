@@ -2,7 +2,8 @@
 //! the last of that, and how many frames are then in flight to A and to B. The rows of `machine` have those frames.
 //!
 //! What happens is a list of words: the end, and after a colon `connect`, `send/7` (a packet of the octet 7), `sends/3`
-//! (packets of the octets 0, 1 and 2), `disconnect`, `ticks/200`, `hears/2` (the next two frames), and `loses/0`, the
+//! (packets of the octets 0, 1 and 2), `disconnect`, `ticks/200`, `turns/4` (the channel takes
+//! four frames), `hears/2` (the next two frames), and `loses/0`, the
 //! frame at that place of those towards the end.
 use crate::tests::assertions::assert_equal;
 use crate::tests::packets::packet;
@@ -32,7 +33,7 @@ impl Subject for World {
 /// How often the event of a word happens.
 fn times(name: &str, number: u16) -> u16 {
     match name {
-        "sends" | "ticks" | "hears" => number,
+        "sends" | "ticks" | "turns" | "hears" => number,
         _ => 1,
     }
 }
@@ -43,6 +44,7 @@ fn event_of(alloc: Global, end: End, name: &str, number: u16) -> Result<Event, F
         "send" | "sends" => Event::Send(end, packet(alloc, &[octet(number)])?),
         "disconnect" => Event::Disconnect(end),
         "ticks" => Event::Tick(end, false),
+        "turns" => Event::Seize(end, false, false),
         "loses" => Event::Lose(end, usize::from(number)),
         _ => Event::Hear(end),
     })
@@ -80,10 +82,13 @@ fn by_rej(window: u8) -> Params {
 
 /// Ten packets by REJ with a window of seven. Frame 3 is lost, is asked for once, and all from it on are sent again.
 const GO_BACK: &str = "A:connect B:hears/1 A:hears/1 | opened by us, 0 0
-A:sends/10 | 0 7
+A:sends/10 | 0 0
+A:turns/8 | 0 7
 B:loses/3 | 0 6
-B:hears/6 | given 0,given 1,given 2, 1 0
-A:hears/1 | 0 7
+B:hears/6 | given 0,given 1,given 2, 0 0
+B:turns/2 | 1 0
+A:hears/1 | 0 0
+A:turns/8 | 0 7
 B:hears/7 | given 3,given 4,given 5,given 6,given 7,given 8,given 9, 0 0";
 
 #[test]
@@ -92,14 +97,14 @@ fn rej_sends_again_from_the_lost_frame_on(rt: HostRuntime) -> Result<(), Fail> {
 }
 
 /// Four packets by SREJ with a window of four. Frame 0 is lost, is asked for once, and alone is sent again. RR for all
-/// comes at the 30th tick after the first that came, and lets four more go.
-const ONE_AGAIN: &str = "A:connect B:hears/1 A:hears/1 A:sends/4 B:loses/0 | 0 3
-B:hears/3 | 1 0
-A:hears/1 | 0 1
+/// lets four more go.
+const ONE_AGAIN: &str = "A:connect B:hears/1 A:hears/1 A:sends/4 A:turns/5 B:loses/0 | 0 3
+B:hears/3 | 0 0
+B:turns/3 | 2 0
+A:hears/2 A:turns/2 | 0 1
 B:hears/1 | given 0,given 1,given 2,given 3, 0 0
-B:ticks/29 | 0 0
-B:ticks/1 | 1 0
-A:hears/1 A:sends/5 | 0 4";
+B:turns/2 | 1 0
+A:hears/1 A:sends/5 A:turns/5 | 0 4";
 
 #[test]
 fn srej_sends_the_lost_frame_again(rt: HostRuntime) -> Result<(), Fail> {
@@ -162,8 +167,8 @@ A:hears/1 | opened by us, 0 0
 B:ticks/200 | 1 0
 A:hears/1 | ended Reset,opened, 0 1
 B:hears/1 | opened by us, 0 0
-A:sends/5 | 0 4
-B:sends/5 | 4 4";
+A:sends/5 A:turns/5 | 0 4
+B:sends/5 B:turns/5 | 4 4";
 
 #[test]
 fn a_wide_and_a_narrow_call_cross(rt: HostRuntime) -> Result<(), Fail> {
@@ -176,10 +181,9 @@ fn a_wide_and_a_narrow_call_cross(rt: HostRuntime) -> Result<(), Fail> {
 
 /// 130 packets modulo 128 by REJ with a window of 127: N(S) 0 to 126 go out, and 127, 0 and 1 once all are
 /// acknowledged.
-const WHOLE_WINDOW: &str = "A:connect B:hears/1 A:hears/1 A:sends/130 | 0 127
-B:hears/127 B:ticks/29 | 0 0
-B:ticks/1 | 1 0
-A:hears/1 | 0 3
+const WHOLE_WINDOW: &str = "A:connect B:hears/1 A:hears/1 A:sends/130 A:turns/127 | 0 127
+B:hears/127 B:turns/2 | 1 0
+A:hears/1 A:turns/4 | 0 3
 B:hears/3 | given 127,given 128,given 129, 0 0";
 
 #[test]

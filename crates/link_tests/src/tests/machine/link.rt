@@ -76,6 +76,10 @@ impl Subject for Link {
             "disconnect" => note(alloc, self.disconnect()?, text),
             "ticks" => tick(alloc, self, first, false, text),
             "waits" => tick(alloc, self, first, true, text),
+            "turns" => seize(alloc, self, first, (false, false), text),
+            "ends" => seize(alloc, self, 1, (true, false), text),
+            "fulls" => seize(alloc, self, first, (false, true), text),
+            "wants" => want(alloc, self, text),
             "hears" => hear_all(alloc, self, first, text),
             "look" => look(alloc, self, text),
             _ => hear(alloc, self, word, text),
@@ -104,6 +108,26 @@ fn tick(
     for _ in 0..count {
         note(alloc, link.tick(still)?, text)?;
     }
+    Ok(())
+}
+
+/// The channel takes so many frames; `last` and `full` as in [`Link::seize`].
+fn seize(
+    alloc: Global,
+    link: &mut Link,
+    count: u16,
+    (last, full): (bool, bool),
+    text: &mut String,
+) -> Result<(), Fail> {
+    for _ in 0..count {
+        note(alloc, link.seize(last, full)?, text)?;
+    }
+    Ok(())
+}
+
+fn want(alloc: Global, link: &Link, text: &mut String) -> Result<(), Fail> {
+    let wants = link.wants();
+    text.push_str(format!(in alloc; "{wants}")?.as_str())?;
     Ok(())
 }
 

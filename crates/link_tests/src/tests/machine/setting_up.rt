@@ -29,7 +29,8 @@ const CALLING: &str = "send/1 |
 disconnect |
 UA/1 | opened by us,
 UA/0 |
-send/7 UA/1 | A>B I cmd ns=0 nr=0 p=0 pid=f0 len=1 07,opened by us,
+send/7 UA/1 | opened by us,
+send/7 UA/1 turns/1 | A>B I cmd ns=0 nr=0 p=0 pid=f0 len=1 07,
 disconnect UA/1 | A>B DISC cmd f=1,opened by us,
 DM/1 | ended Refused,
 DM/0 |
@@ -53,7 +54,7 @@ fn rows_of_a_call(rt: HostRuntime) -> Result<(), Fail> {
 
 const CALLING_WIDE: &str = "look | Calling OneTwentyEight
 UA/1 look | Up OneTwentyEight
-send/7 UA/1 | A>B I cmd ns=0 nr=0 p=0 pid=f0 len=1 07/128,opened by us,
+send/7 UA/1 turns/1 | A>B I cmd ns=0 nr=0 p=0 pid=f0 len=1 07/128,
 DM/0 look | Calling OneTwentyEight
 DM/1 | A>B SABM cmd f=1,
 DM/1 look | Calling Eight
@@ -68,7 +69,7 @@ FRMR | A>B SABM cmd f=1,
 FRMR FRMR |
 FRMR UA/1 | opened by us,
 FRMR UA/1 look | Up Eight
-send/7 FRMR UA/1 | A>B I cmd ns=0 nr=0 p=0 pid=f0 len=1 07,opened by us,
+send/7 FRMR UA/1 turns/1 | A>B I cmd ns=0 nr=0 p=0 pid=f0 len=1 07,
 XID |
 I/0/0/1 |
 ticks/200 | A>B SABME cmd f=1/128,

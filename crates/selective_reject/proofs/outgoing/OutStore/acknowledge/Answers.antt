@@ -36,6 +36,7 @@ returns-clause-stands_for c store h =
       vs = va + c.saturating_sub-self-inside.result;
       top = va + (c.self.inside.most_sent - count);
       packets = c.truncate_front.new.self.items;
+      again = c.acknowledge.new.self;
     } in
     let becomes : new ≡ reduced_outgoing (after_acknowledge c.args.modulus c.args.nr held) = search rules in
     let Q : Outgoing → Type 0 = λ t. StandsForOutgoing t (after_acknowledge c.args.modulus c.args.nr store) in (
@@ -54,6 +55,7 @@ returns-clause-true_number c store number h low sent high is =
       vs = va + c.saturating_sub-self-inside.result;
       top = va + (c.self.inside.most_sent - count);
       packets = c.truncate_front.new.self.items;
+      again = c.acknowledge.new.self;
     } in
     let becomes : new ≡ reduced_outgoing (after_acknowledge c.args.modulus c.args.nr held) = search rules in
     let Q : Outgoing → Type 0 = λ t. StandsForOutgoing t (acknowledged number store) in

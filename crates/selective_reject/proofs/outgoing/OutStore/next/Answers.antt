@@ -13,6 +13,7 @@ returns-clause-packet c =
       vs = inside.va + (inside.sent + 1);
       top = inside.va + c.max-self-inside.result;
       packets = inside.packets.items;
+      again = inside.again;
     } in
     let sent : number < new.top = omega (arith, c.max-self-inside.ensures) in
     let within : number < inside.va + m = omega (arith, c.min-most.ensures, c.requires.at_most) in
