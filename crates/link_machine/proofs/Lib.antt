@@ -1,7 +1,6 @@
 pub mod Common
 pub mod Examples
 pub mod Showing
-pub mod PacketLemmas
 pub mod Events
 pub mod KeptByActs
 pub mod Answered

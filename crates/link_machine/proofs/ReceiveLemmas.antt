@@ -1,20 +1,14 @@
 -- What becomes of the packet of an I frame.
 use Rattle.link_machine.proofs.Common.{◌≡◌, ℕ, zero, suc, ◌+◌, ◌%◌, ◌<◌, ◌≤◌, ◌==◌, Bool, true, false, if◌then◌else◌}
-use Rattle.link_machine.proofs.Common.{List, [], ◌∷◌, ◌++◌, length, drop, map, replicate, Some, refl, sym, ◌∙◌, ap}
-use Rattle.link_machine.proofs.Common.{arith, nat_lt, eqb-true, false≢true, lt-ltb, ltb-true, cond-true, Packet, Place}
-use Rattle.link_machine.proofs.Common.{Next, Stored, Mode, ahead, empty_place, packet_at, is_full, with_packet, missing}
-use Rattle.link_machine.proofs.Common.{asked, Incoming, took, keeps, after_accept, before_number, numbers_to_ask}
-use Rattle.link_machine.proofs.Common.{moved_on, srej_for, Machine, all_sent_in, sent_frames, IsReady, srej_frame}
+use Rattle.link_machine.proofs.Common.{List, [], ◌∷◌, ◌++◌, length, drop, replicate, Some, refl, sym, ◌∙◌, ap, arith}
+use Rattle.link_machine.proofs.Common.{nat_lt, eqb-true, false≢true, lt-ltb, Packet, Place, Next, Stored, Mode, ahead}
+use Rattle.link_machine.proofs.Common.{empty_place, packet_at, is_full, with_packet, Incoming, took, keeps}
+use Rattle.link_machine.proofs.Common.{after_accept, moved_on, IsReady}
 use Rattle.std.proofs.Common.{◌&&◌, not}
-use Rattle.std.proofs.lemmas.List.{length-map}
-use Rattle.std.specs.Prelude.{filter}
-use Rattle.std.specs.List.{range_with_len}
 use Rattle.selective_reject.specs.declared.incoming.Took.{Took}
 use Rattle.selective_reject.specs.declared.incoming.Took.TheVariants.{NotNext, Again, Outside}
 use Rattle.selective_reject.specs.declared.window.Mode.TheVariants.{Rej, Srej}
-use Rattle.selective_reject.specs.Places.{is_missing}
 use Rattle.selective_reject.specs.Incoming.{taking_by, empty_incoming}
-use Rattle.link_machine.specs.declared.machine.Machine.{Machine as Held}
 
 abbrev pub is_next : Took → Bool
 is_next Next = true
@@ -162,60 +156,6 @@ pub first_kept : (ps : List Place) (d : ℕ) (packet : Packet) → (d == 0) ≡ 
 first_kept ps zero packet e = absurd (false≢true (sym e))
 first_kept [] (suc d) packet e = refl
 first_kept (p ∷ ps) (suc d) packet e = refl
-
--- numbers that are asked for leave the packets
-pub first_asked : (ps : List Place) (n : ℕ) → is_full (asked ps n) 0 ≡ is_full ps 0
-unfolding asked
-first_asked ps zero = refl
-first_asked [] (suc n) = refl
-first_asked (p ∷ ps) (suc n) = refl
-
--- the SREJs as they are written
-pub srejs_as_written :
-    (held : Held) (m : Machine) (xs : List ℕ) →
-    sent_frames held.path (all_sent_in held.incoming.modulus (map (srej_for m) xs))
-    ≡ map (srej_frame held) (map (λ k. (m.incoming.vr + k) % held.incoming.modulus) xs)
-srejs_as_written held m [] = refl
-srejs_as_written held m (x ∷ xs) =
-    ap (λ fs. srej_frame held ((m.incoming.vr + x) % held.incoming.modulus) ∷ fs) (srejs_as_written held m xs)
-
-pub length-filter_le : (p : ℕ → Bool) (xs : List ℕ) → length (filter p xs) ≤ length xs
-length-filter_le p [] = omega arith
-length-filter_le p (x ∷ xs) = by (p x) (filter p xs) xs (length-filter_le p xs)
-  where
-    by : (b : Bool) (ys xs : List ℕ) → length ys ≤ length xs → length (if b then x ∷ ys else ys) ≤ length (x ∷ xs)
-    by true ys xs h = omega arith
-    by false ys xs h = omega arith
-
-length-range : (a n : ℕ) → length (range_with_len a n) ≡ n
-length-range a zero = refl
-length-range a (suc n) = ap suc (length-range (a + 1) n)
-
-pub length-missing : (ps : List Place) (n : ℕ) → length (missing ps n) ≤ n
-unfolding missing
-length-missing ps n =
-    let e : length (range_with_len 0 n) ≡ n = length-range 0 n in
-    let h : length (filter (is_missing ps) (range_with_len 0 n)) ≤ length (range_with_len 0 n) =
-    length-filter_le (is_missing ps) (range_with_len 0 n) in
-    omega arith
-
-count_in_window : (d w : ℕ) (b : Bool) → b ≡ nat_lt d w → (if b then d else 0) ≤ w
-count_in_window d w true e = let h : d < w = ltb-true d w (sym e) in omega arith
-count_in_window d w false e = omega arith
-
-pub asks_at_most : (i : Incoming) (ns : ℕ) → length (numbers_to_ask i ns) ≤ i.window
-asks_at_most i ns =
-    let n = before_number i ns in
-    let e : length (numbers_to_ask i ns) ≡ length (missing i.places n) =
-    length-map (missing i.places n) (λ k. (i.vr + k) % i.modulus) in
-    let h : length (missing i.places n) ≤ n = length-missing i.places n in
-    let w : n ≤ i.window = count_in_window (ahead i.modulus i.vr ns) i.window
-    (nat_lt (ahead i.modulus i.vr ns) i.window) refl in
-    omega arith
-
-pub before_in_window : (i : Incoming) (ns : ℕ) → ahead i.modulus i.vr ns < i.window
-    → before_number i ns ≡ ahead i.modulus i.vr ns
-before_in_window i ns h = cond-true _ _ _ (lt-ltb (ahead i.modulus i.vr ns) i.window h)
 
 pub rej_is_not_srej : Rej ≡ Srej → ⊥
 rej_is_not_srej e = false≢true (ap is_srej e)

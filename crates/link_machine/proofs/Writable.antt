@@ -1,31 +1,33 @@
 -- Every frame that a link sends can be written in its modulus: its numbers are below it, and its packet is short.
 use Rattle.link_machine.proofs.Common.{◌≡◌, ℕ, ◌+◌, ◌-◌, ◌<◌, ◌≤◌, ◌==◌, Bool, true, false, if◌then◌else◌, List, []}
-use Rattle.link_machine.proofs.Common.{◌∷◌, ◌++◌, length, drop, map, min, None, Some, refl, sym, ap, subst, arith}
-use Rattle.link_machine.proofs.Common.{nat_lt, inl, inr, Option, is_some, get_or, ◌⊎◌, slice_get, option_to_list}
-use Rattle.link_machine.proofs.Common.{slice_get_cases, ltb-false, false≢true, Path, Kind, Info, Super, Setup, Ui}
-use Rattle.link_machine.proofs.Common.{Other, S, Rr, Rnr, Rej, Srej, Sabm, Sabme, Disc, Dm, Ua, Frmr, Xid, Test, Packet}
-use Rattle.link_machine.proofs.Common.{Mode, IsModulus, Outgoing, is_full, missing, Told, Opened, Ended, Failed, Reset}
-use Rattle.link_machine.proofs.Common.{Control, LinkFault, LinkState, Idle, Calling, Up, Releasing, Machine, fresh}
-use Rattle.link_machine.proofs.Common.{emptied, in_modulus, narrowed, in_state, is_wide, is_valid, named, ahead_of_vr}
-use Rattle.link_machine.proofs.Common.{Sent, SentIn, sent_in, all_sent_in, infos_from, sent_frame, InfoSent, SuperSent}
-use Rattle.link_machine.proofs.Common.{SetupSent, Turn, Act, begin, changing, setting, sending, telling, acknowledged}
-use Rattle.link_machine.proofs.Common.{nothing_due, report, answer_poll, gone_back, recover, polling, poll, in_window}
-use Rattle.link_machine.proofs.Common.{send_packets, flush, releasing, close, settle, calling, reset, owing, with_rej}
-use Rattle.link_machine.proofs.Common.{reject, run_with, give, stored, srej_for, ask, watching, sent_packet, send_again}
-use Rattle.link_machine.proofs.Common.{falls_back, heard}
-use Rattle.link_machine.proofs.Common.{quitting, answer_dm, stopped_t1, end_call, stopped, leave, open_called}
-use Rattle.link_machine.proofs.Common.{unretried_call, hear_idle, hear_calling_in, hear_releasing, with_busy, hear_rr}
-use Rattle.link_machine.proofs.Common.{hear_rnr, hear_rej, acknowledged_by_srej, hear_srej, take_in_sequence}
-use Rattle.link_machine.proofs.Common.{hear_info_by_rej, take_selected, hear_info_by, hear_info, open_again}
-use Rattle.link_machine.proofs.Common.{end_by_disc, end_by_dm, hear_in, runs_out, lowered, with_t1, with_t2, with_t3}
-use Rattle.link_machine.proofs.Common.{t2_out, retried, is_spent, t1_out, unretried, t3_out, tick_t2_of, tick_t2}
+use Rattle.link_machine.proofs.Common.{◌∷◌, ◌++◌, length, map, None, Some, refl, sym, ap, subst, arith, nat_lt, inl}
+use Rattle.link_machine.proofs.Common.{inr, Option, is_some, get_or, ◌⊎◌, slice_get, option_to_list, slice_get_cases}
+use Rattle.link_machine.proofs.Common.{ltb-false, false≢true, Path, Kind, Info, Super, Setup, Ui, Other, S, Rr, Rnr}
+use Rattle.link_machine.proofs.Common.{Rej, Srej, Sabm, Sabme, Disc, Dm, Ua, Frmr, Xid, Test, Packet, Mode, IsModulus}
+use Rattle.link_machine.proofs.Common.{Outgoing, is_full, Told, Opened, Ended, Failed, Reset, Control, LinkFault}
+use Rattle.link_machine.proofs.Common.{LinkState, Idle, Calling, Up, Releasing, Machine, fresh, emptied, in_modulus}
+use Rattle.link_machine.proofs.Common.{narrowed, in_state, is_wide, is_valid, named, ahead_of_vr, Sent, SentIn, sent_in}
+use Rattle.link_machine.proofs.Common.{all_sent_in, sent_frame, InfoSent, SuperSent, SetupSent, Turn, Act, begin}
+use Rattle.link_machine.proofs.Common.{changing, setting, sending, telling, acknowledged, nothing_due, gone_back}
+use Rattle.link_machine.proofs.Common.{recover, polling, releasing, close, calling, reset, owing, with_rej, run_with}
+use Rattle.link_machine.proofs.Common.{give, stored, watching, send_again, falls_back, heard, quitting, answer_dm}
+use Rattle.link_machine.proofs.Common.{stopped_t1, end_call, stopped, leave, open_called, unretried_call, hear_idle}
+use Rattle.link_machine.proofs.Common.{hear_calling_in, hear_releasing, hear_rr, hear_rnr, hear_rej}
+use Rattle.link_machine.proofs.Common.{acknowledged_by_srej, hear_srej, take_in_sequence, hear_info_by_rej}
+use Rattle.link_machine.proofs.Common.{take_selected, hear_info_by, hear_info, open_again, end_by_disc, end_by_dm}
+use Rattle.link_machine.proofs.Common.{hear_in, runs_out, lowered, with_t1, with_t3, retried, is_spent, t1_out, t3_out}
 use Rattle.link_machine.proofs.Common.{tick_t3_of, tick_t1_of, tick_t1, tick_in, Event, Connect, Send, Disconnect, Hear}
 use Rattle.link_machine.proofs.Common.{Tick, refusal_of, row, settle_in, settled, step, done_of, Done, Made, Makes}
-use Rattle.link_machine.proofs.Common.{OutOfMemory, Result, IfOk, Ok, Err}
+use Rattle.link_machine.proofs.Common.{OutOfMemory, Result, IfOk, Ok, Err, Seize, after_next, answered, answering, back}
+use Rattle.link_machine.proofs.Common.{behind_poll, heard_busy, is_asked_again, is_missing_some, left_with, lies_ahead}
+use Rattle.link_machine.proofs.Common.{max, may_send_info, next_missing, none_again, not_passed, nothing_asked}
+use Rattle.link_machine.proofs.Common.{notice_passed, out_of_sequence, picked_out, poll_frame, polled, polled_packet}
+use Rattle.link_machine.proofs.Common.{polls, recover_with, rejected, seize_in, send_due, send_frame, send_info}
+use Rattle.link_machine.proofs.Common.{send_next, send_poll, send_srej, silent, to_poll, wants}
 use Rattle.std.proofs.Common.{◌&&◌, ◌||◌, not, nat_le}
 use Rattle.std.specs.Prelude.{All, ⊤}
 use Rattle.std.proofs.lemmas.List.Elements.{All-nil, All-cons, All-head, All-tail, All-same, All-append, All-push}
-use Rattle.std.proofs.lemmas.List.Elements.{All-take, All-drop, All-map, All-get_or, All-weaker}
+use Rattle.std.proofs.lemmas.List.Elements.{All-drop, All-map, All-get_or, All-weaker}
 use Rattle.ax25_frames.specs.declared.frame.Modulus.TheVariants.{Eight, OneTwentyEight}
 use Rattle.ax25_frames.specs.FrameOctets.{CanWrite}
 use Rattle.selective_reject.specs.declared.window.Mode.TheVariants.{Rej as RejMode, Srej as SrejMode}
@@ -34,7 +36,11 @@ use Rattle.link_machine.specs.declared.acts.Why.TheVariants.{Peer}
 use Rattle.link_machine.specs.declared.fault.LinkFault.TheVariants.{Full, TooLong}
 use Rattle.link_machine.specs.Machine.{in_own_modulus, modulus_named}
 use Rattle.link_machine.specs.Sent.{frame_of, IsWritable}
-use Rattle.link_machine.specs.Acts.{respond_ready, behind_poll, to_send, release, calling_frame, send_call, call}
+use Rattle.link_machine.specs.Acts.{picking, release, calling_frame, send_call, call}
+use Rattle.link_machine.specs.Seizing.{asking, after_passing, missing_asked, poll_anew, short_packet}
+use Rattle.selective_reject.specs.Incoming.{asked_for}
+use Rattle.selective_reject.specs.Outgoing.{asked_again, after_again, first_again, may_send}
+use Rattle.std.specs.Prelude.{IfSome}
 use Rattle.link_machine.specs.Requests.{is_closed}
 use Rattle.link_machine.specs.Frames.{answer_ua, open_answered, call_narrow, hear_supervisory, hear_up}
 use Rattle.link_machine.specs.declared.machine.Machine.{Machine as Held}
@@ -49,7 +55,7 @@ pub record IsSound (m : Machine) : Type 0 where
 
 -- a frame in a modulus of AX.25, whose packet is short if it has one
 abbrev pub HasShort : Sent → Type 0
-HasShort (InfoSent number nr packet) = IsShort packet
+HasShort (InfoSent number nr poll packet) = IsShort packet
 HasShort (SuperSent which command nr flag) = ⊤
 HasShort (SetupSent which flag) = ⊤
 
@@ -111,8 +117,36 @@ sound_acknowledged n m h = record {
       All-drop IsShort (n - m.outgoing.va) m.outgoing.packets h.short;
 }
 
+short_back : (kept : Bool) (o : Outgoing) → All IsShort o.packets → All IsShort (if kept then o else back o).packets
+short_back true o h = h
+short_back false o h = h
+
 sound_back : (m : Machine) → IsSound m → IsSound (gone_back m)
-sound_back m h = record { modulus = h.modulus; short = h.short }
+sound_back m h = record {
+  modulus = h.modulus;
+  short = short_back (m.control.picked && is_some (first_again m.outgoing)) m.outgoing h.short;
+}
+
+sound_none_again : (m : Machine) → IsSound m → IsSound (none_again m)
+sound_none_again m h = record { modulus = h.modulus; short = h.short }
+
+sound_picked : (n : ℕ) (m : Machine) → IsSound m → IsSound (picked_out n m)
+sound_picked n m h = go (nat_lt n m.outgoing.top)
+  where
+    go : (b : Bool) → IsSound (if b
+        then record m { control = picking m.control; outgoing = asked_again n m.outgoing } else m)
+    go true = record { modulus = h.modulus; short = h.short }
+    go false = h
+
+sound_nothing_asked : (m : Machine) → IsSound m → IsSound (nothing_asked m)
+sound_nothing_asked m h = record { modulus = h.modulus; short = h.short }
+
+sound_missing_asked : (m : Machine) → IsSound m → IsSound (missing_asked m)
+sound_missing_asked m h = record { modulus = known (next_missing m.incoming); short = h.short }
+  where
+    known : (o : Option ℕ) → IsModulus (asked_for o m.incoming).modulus
+    known None = h.modulus
+    known (Some k) = h.modulus
 
 sound_stored : (ahead : ℕ) (packet : Packet) (m : Machine) → IsSound m → IsSound (stored ahead packet m)
 sound_stored ahead packet m h = record { modulus = h.modulus; short = h.short }
@@ -120,33 +154,6 @@ sound_stored ahead packet m h = record { modulus = h.modulus; short = h.short }
 sound_by_srej : (n : ℕ) (flag : Bool) (m : Machine) → IsSound m → IsSound (acknowledged_by_srej n flag m)
 sound_by_srej n true m h = sound_acknowledged n m h
 sound_by_srej n false m h = h
-
--- lists of frames
-infos_can_send : (modulus n nr : ℕ) (packets : List Packet) → IsModulus modulus → All IsShort packets
-    → All CanSend (all_sent_in modulus (infos_from n nr packets))
-infos_can_send modulus n nr [] known short = All-nil CanSend
-infos_can_send modulus n nr (p ∷ ps) known short =
-    All-cons CanSend _ _ (known, All-head IsShort p ps short)
-    (infos_can_send modulus (n + 1) nr ps known (All-tail IsShort p ps short))
-
-srejs_can_send : (modulus : ℕ) (m : Machine) (ns : List ℕ) → IsModulus modulus
-    → All CanSend (all_sent_in modulus (map (srej_for m) ns))
-srejs_can_send modulus m [] known = All-nil CanSend
-srejs_can_send modulus m (n ∷ ns) known = All-cons CanSend _ _ (known, tt) (srejs_can_send modulus m ns known)
-
-short_in_window : (k : ℕ) (o : Outgoing) → All IsShort o.packets → All IsShort (in_window k o)
-short_in_window k o h =
-    let ahead = o.vs - o.va in
-    All-take IsShort (min k (length o.packets) - ahead) (drop ahead o.packets) (All-drop IsShort ahead o.packets h)
-
-short_if : (b : Bool) (ps qs : List Packet) → All IsShort ps → All IsShort qs → All IsShort (if b then ps else qs)
-short_if true ps qs h k = h
-short_if false ps qs h k = k
-
-short_to_send : (m : Machine) → IsSound m → All IsShort (to_send m)
-short_to_send m h =
-    short_if (m.control.busy || m.control.poll) [] _ (All-nil IsShort)
-    (short_in_window m.incoming.window m.outgoing h.short)
 
 short_at : (ps : List Packet) (i : ℕ) → All IsShort ps → All IsShort (option_to_list (slice_get ps i))
 short_at ps i h = go (slice_get_cases ps i).1
@@ -161,43 +168,22 @@ short_at ps i h = go (slice_get_cases ps i).1
     go (inr past) = All-same IsShort _ [] (ap option_to_list past.1) (All-nil IsShort)
 
 -- the acts of a link that is up
-keeps_report : (x : Sent) → HasShort x → Keeps (report x)
-keeps_report x short t h = keeps_sending x short _ (keeps_setting nothing_due t h)
+keeps_polled : (asks : Bool) → Keeps (polled asks)
+keeps_polled asks t h =
+    sound_if asks _ t (keeps_changing nothing_asked sound_nothing_asked _ (keeps_setting answering t h)) h
 
-keeps_respond : (flag : Bool) → Keeps (respond_ready flag)
-keeps_respond flag t h = keeps_report (SuperSent Rr false t.now.incoming.vr flag) tt t h
-
-keeps_answer : (asks : Bool) → Keeps (answer_poll asks)
-keeps_answer asks t h = sound_if asks _ t (keeps_respond true t h) h
+keeps_recover_with : (retries : ℕ) → Keeps (recover_with retries)
+keeps_recover_with retries t h =
+    keeps_changing gone_back sound_back _ (keeps_setting (behind_poll retries) t h)
 
 keeps_recover : (answers : Bool) → Keeps (recover answers)
-keeps_recover answers t h =
-    sound_if (t.now.control.poll && answers) _ t (keeps_changing gone_back sound_back _ (keeps_setting behind_poll t h))
-    h
-
-keeps_poll : Keeps poll
-keeps_poll t h = keeps_setting polling _ (keeps_report (SuperSent Rr true t.now.incoming.vr true) tt t h)
-
-keeps_packets : (packets : List Packet) → All IsShort packets → Keeps (send_packets packets)
-keeps_packets packets short t h = record {
-  now = record { modulus = h.now.modulus; short = h.now.short };
-  sent = All-append CanSend t.sent _ h.sent (
-      infos_can_send t.now.incoming.modulus t.now.outgoing.vs t.now.incoming.vr packets h.now.modulus short
-      );
-}
-
-keeps_flush : Keeps flush
-keeps_flush t h = sound_if (length (to_send t.now) == 0) t _ h
-    (keeps_packets (to_send t.now) (short_to_send t.now h.now) t h)
+keeps_recover answers t h = sound_if (t.now.control.poll && answers) _ t (keeps_recover_with 0 t h) h
 
 keeps_release : Keeps release
 keeps_release t h = keeps_sending (SetupSent Disc true) tt _ (keeps_setting releasing t h)
 
 keeps_close : Keeps close
 keeps_close t h = sound_if (t.now.control.quit && length t.now.outgoing.packets == 0) _ t (keeps_release t h) h
-
-keeps_settle : Keeps settle
-keeps_settle t h = keeps_close (flush t) (keeps_flush t h)
 
 keeps_send_call : Keeps send_call
 keeps_send_call t h = keeps_sending (SetupSent (calling_frame (is_wide t.now)) true) tt t h
@@ -210,40 +196,8 @@ keeps_reset t h =
     keeps_call _ (keeps_changing emptied sound_emptied _
     (keeps_changing fresh sound_fresh _ (keeps_telling (Ended Reset) t h)))
 
-keeps_reject : (flag : Bool) → Keeps (reject flag)
-keeps_reject flag t h = keeps_setting (with_rej true) _
-    (keeps_report (SuperSent Rej false t.now.incoming.vr flag) tt t h)
-
 keeps_give : (packets : List Packet) → Keeps (give packets)
 keeps_give packets t h = record { now = record { modulus = h.now.modulus; short = h.now.short }; sent = h.sent }
-
-keeps_ask : (ahead : ℕ) → Keeps (ask ahead)
-keeps_ask ahead t h = record {
-  now = record { modulus = h.now.modulus; short = h.now.short };
-  sent = All-append CanSend t.sent _ h.sent (
-      srejs_can_send t.now.incoming.modulus t.now (missing t.now.incoming.places ahead) h.now.modulus
-      );
-}
-
-keeps_again : (n : ℕ) → Keeps (send_again n)
-keeps_again n t h = sound_if (nat_lt n t.now.outgoing.top) _ t again h
-  where
-    short : All IsShort (sent_packet n t.now.outgoing)
-    short =
-        short_if (nat_lt n t.now.outgoing.top) _ [] (short_at t.now.outgoing.packets (n - t.now.outgoing.va)
-        h.now.short) (All-nil IsShort)
-
-    again : Sound (record t {
-      now = record t.now { control = watching (nothing_due t.now.control) };
-      sent = t.sent ++ all_sent_in t.now.incoming.modulus
-          (infos_from n t.now.incoming.vr (sent_packet n t.now.outgoing));
-    })
-    again = record {
-      now = record { modulus = h.now.modulus; short = h.now.short };
-      sent = All-append CanSend t.sent _ h.sent (
-          infos_can_send t.now.incoming.modulus n t.now.incoming.vr (sent_packet n t.now.outgoing) h.now.modulus short
-          );
-    }
 
 -- how a link begins and ends
 keeps_ua : (flag : Bool) → Keeps (answer_ua flag)
@@ -335,26 +289,28 @@ keeps_releasing command (Ui flag pid octets) t h = h
 keeps_releasing command (Other which flag octets) t h = h
 
 -- an acknowledgement by an S frame
-sound_heard : (busy : Bool) (n : ℕ) (t : Turn) → Sound t
-    → Sound (changing (acknowledged n) (setting (with_busy busy) t))
-sound_heard busy n t h = keeps_changing (acknowledged n) (sound_acknowledged n) _ (keeps_setting (with_busy busy) t h)
+sound_heard : (busy answers : Bool) (n : ℕ) (t : Turn) → Sound t
+    → Sound (changing (acknowledged n) (setting (heard_busy busy answers) t))
+sound_heard busy answers n t h =
+    keeps_changing (acknowledged n) (sound_acknowledged n) _ (keeps_setting (heard_busy busy answers) t h)
 
 keeps_rr : (n : ℕ) (asks answers : Bool) → Keeps (hear_rr n asks answers)
-keeps_rr n asks answers t h = keeps_recover answers _ (keeps_answer asks _ (sound_heard false n t h))
+keeps_rr n asks answers t h = keeps_recover answers _ (keeps_polled asks _ (sound_heard false answers n t h))
 
 keeps_rnr : (n : ℕ) (asks answers : Bool) → Keeps (hear_rnr n asks answers)
 keeps_rnr n asks answers t h =
-    keeps_setting watching _ (keeps_recover answers _ (keeps_answer asks _ (sound_heard true n t h)))
+    keeps_setting watching _ (keeps_recover answers _ (keeps_polled asks _ (sound_heard true answers n t h)))
 
 keeps_rej : (n : ℕ) (asks answers : Bool) → Keeps (hear_rej n asks answers)
 keeps_rej n asks answers t h =
-    keeps_recover answers _ (keeps_answer asks _ (keeps_changing gone_back sound_back _ (sound_heard false n t h)))
+    keeps_recover answers _ (keeps_polled asks _ (keeps_changing gone_back sound_back _
+    (keeps_changing none_again sound_none_again _ (sound_heard false answers n t h))))
 
 keeps_srej : (n : ℕ) (flag asks answers : Bool) → Keeps (hear_srej n flag asks answers)
 keeps_srej n flag asks answers t h =
     let acked = keeps_changing (acknowledged_by_srej n flag) (sound_by_srej n flag) _
-    (keeps_setting (with_busy false) t h) in
-    keeps_recover answers _ (keeps_answer asks _ (keeps_again n _ acked))
+    (keeps_setting (heard_busy false answers) t h) in
+    keeps_recover answers _ (keeps_polled asks _ (keeps_changing (picked_out n) (sound_picked n) _ acked))
 
 keeps_supervisory : (which : S) (n : ℕ) (command flag : Bool) → Keeps (hear_supervisory which n command flag)
 keeps_supervisory Rr n command flag t h = keeps_rr n _ _ t h
@@ -362,33 +318,129 @@ keeps_supervisory Rnr n command flag t h = keeps_rnr n _ _ t h
 keeps_supervisory Rej n command flag t h = keeps_rej n _ _ t h
 keeps_supervisory Srej n command flag t h = keeps_srej n flag _ _ t h
 
-keeps_in_sequence : (flag : Bool) (packet : Packet) → Keeps (take_in_sequence flag packet)
-keeps_in_sequence flag packet t h =
-    keeps_answer flag _ (keeps_setting owing _ (keeps_setting (with_rej false) _ (keeps_give (packet ∷ []) t h)))
+keeps_in_sequence : (packet : Packet) → Keeps (take_in_sequence packet)
+keeps_in_sequence packet t h = keeps_setting owing _ (keeps_setting (with_rej false) _ (keeps_give (packet ∷ []) t h))
 
-keeps_info_by_rej : (ns : ℕ) (flag : Bool) (packet : Packet) → Keeps (hear_info_by_rej ns flag packet)
-keeps_info_by_rej ns flag packet t h =
-    sound_if (ahead_of_vr ns t.now == 0) _ _ (keeps_in_sequence flag packet t h) (
-    sound_if t.now.control.rej _ _ (keeps_answer flag t h) (keeps_reject flag t h)
-    )
+keeps_info_by_rej : (ns : ℕ) (packet : Packet) → Keeps (hear_info_by_rej ns packet)
+keeps_info_by_rej ns packet t h =
+    sound_if (ahead_of_vr ns t.now == 0) _ _ (keeps_in_sequence packet t h)
+    (keeps_setting (out_of_sequence (lies_ahead ns t.now)) t h)
 
 keeps_selected : (ahead : ℕ) (packet : Packet) → Keeps (take_selected ahead packet)
 keeps_selected ahead packet t h =
     sound_if (ahead == 0) _ _ (keeps_give (run_with packet t.now) t h) (
-    sound_if (nat_lt ahead t.now.incoming.window && not (is_full t.now.incoming.places ahead)) _ t (
-    keeps_ask ahead _ (keeps_changing (stored ahead packet) (sound_stored ahead packet) t h)
-    ) h
+    sound_if (nat_lt ahead t.now.incoming.window && not (is_full t.now.incoming.places ahead)) _ t
+    (keeps_changing (stored ahead packet) (sound_stored ahead packet) t h) h
     )
 
-keeps_info_by : (mode : Mode) (ns : ℕ) (flag : Bool) (packet : Packet) → Keeps (hear_info_by mode ns flag packet)
-keeps_info_by RejMode ns flag packet t h = keeps_info_by_rej ns flag packet t h
-keeps_info_by SrejMode ns flag packet t h =
-    keeps_answer flag _ (keeps_setting owing _ (keeps_selected (ahead_of_vr ns t.now) packet t h))
+keeps_info_by : (mode : Mode) (ns : ℕ) (packet : Packet) → Keeps (hear_info_by mode ns packet)
+keeps_info_by RejMode ns packet t h = keeps_info_by_rej ns packet t h
+keeps_info_by SrejMode ns packet t h = keeps_setting owing _ (keeps_selected (ahead_of_vr ns t.now) packet t h)
 
 keeps_info : (n ns : ℕ) (flag : Bool) (packet : Packet) → Keeps (hear_info n ns flag packet)
 keeps_info n ns flag packet t h =
-    keeps_info_by t.now.incoming.mode ns flag packet _
-    (keeps_changing (acknowledged n) (sound_acknowledged n) _ (keeps_setting heard t h))
+    keeps_polled flag _ (keeps_info_by t.now.incoming.mode ns packet _
+    (keeps_changing (acknowledged n) (sound_acknowledged n) _ (keeps_setting (heard false) t h)))
+
+-- the channel takes a frame
+keeps_poll_anew : Keeps poll_anew
+keeps_poll_anew t h =
+    sound_if t.now.control.open _ _ (keeps_recover_with t.now.control.rc t h) (keeps_setting asking t h)
+
+keeps_after_passing : (full : Bool) → Keeps (after_passing full)
+keeps_after_passing full t h = sound_if (t.now.control.poll && not full) _ t (keeps_poll_anew t h) h
+
+keeps_notice : (full : Bool) → Keeps (notice_passed full)
+keeps_notice full t h = sound_if t.now.control.passed _ t (keeps_after_passing full _ (keeps_setting not_passed t h)) h
+
+keeps_send_srej : (o : Option ℕ) → Keeps (send_srej o)
+keeps_send_srej None t h = h
+keeps_send_srej (Some ahead) t h =
+    keeps_changing missing_asked sound_missing_asked _
+    (keeps_sending (SuperSent Srej false (t.now.incoming.vr + ahead) false) tt t h)
+
+short_polled : (o : Option Packet) → IfSome o IsShort → IfSome (short_packet o) IsShort
+short_polled None h = tt
+short_polled (Some packet) h = go (nat_le (length packet.octets) 128)
+  where
+    go : (b : Bool) → IfSome (if b then Some packet else None) IsShort
+    go true = h
+    go false = tt
+
+short_first : (ps : List Packet) → All IsShort ps → IfSome (slice_get ps 0) IsShort
+short_first [] h = tt
+short_first (p ∷ ps) h = All-head IsShort p ps h
+
+polled_is_short : (m : Machine) → IsSound m → IfSome (polled_packet m) IsShort
+polled_is_short m h = go (nat_lt m.outgoing.va m.outgoing.top && not m.control.busy)
+  where
+    go : (b : Bool) → IfSome (if b then short_packet (slice_get m.outgoing.packets 0) else None) IsShort
+    go true = short_polled (slice_get m.outgoing.packets 0) (short_first m.outgoing.packets h.short)
+    go false = tt
+
+short_poll : (m : Machine) (o : Option Packet) → IfSome o IsShort → HasShort (poll_frame m o)
+short_poll m None h = tt
+short_poll m (Some packet) h = h
+
+keeps_send_poll : (full : Bool) → Keeps (send_poll full)
+keeps_send_poll full t h =
+    let packet = polled_packet t.now in
+    keeps_setting (polling (is_some packet && not full)) _
+    (keeps_sending (poll_frame t.now packet) (short_poll t.now packet (polled_is_short t.now h.now)) t h)
+
+infos_can_send : (modulus n nr : ℕ) (poll : Bool) (packets : List Packet) → IsModulus modulus → All IsShort packets
+    → All CanSend (all_sent_in modulus (map (InfoSent n nr poll) packets))
+infos_can_send modulus n nr poll [] known short = All-nil CanSend
+infos_can_send modulus n nr poll (p ∷ ps) known short =
+    All-cons CanSend _ _ (known, All-head IsShort p ps short)
+    (infos_can_send modulus n nr poll ps known (All-tail IsShort p ps short))
+
+-- an I frame, and what is left of the packets
+keeps_info_sent : (last full : Bool) (ahead : ℕ) (left : Outgoing) (t : Turn) → All IsShort left.packets → Sound t
+    → Sound (send_info last full ahead left t)
+keeps_info_sent last full ahead left t short h = record {
+  now = record { modulus = h.now.modulus; short = short };
+  sent = All-append CanSend t.sent _ h.sent (infos_can_send t.now.incoming.modulus (t.now.outgoing.va + ahead)
+      t.now.incoming.vr (polls last full (left_with left t.now))
+      (option_to_list (slice_get t.now.outgoing.packets ahead)) h.now.modulus
+      (short_at t.now.outgoing.packets ahead h.now.short));
+}
+
+keeps_send_again : (last full : Bool) (o : Option ℕ) → Keeps (send_again last full o)
+keeps_send_again last full None t h = h
+keeps_send_again last full (Some ahead) t h =
+    keeps_info_sent last full ahead (after_again t.now.outgoing) t h.now.short h
+
+short_next : (may : Bool) (o : Outgoing) → All IsShort o.packets
+    → All IsShort (if may then record o { vs = o.vs + 1; top = max o.top (o.vs + 1) } else o).packets
+short_next true o h = h
+short_next false o h = h
+
+keeps_send_next : (last full : Bool) → Keeps (send_next last full)
+keeps_send_next last full t h =
+    keeps_info_sent last full (t.now.outgoing.vs - t.now.outgoing.va) (after_next t.now.incoming.window t.now.outgoing) t
+    (short_next (may_send t.now.incoming.window t.now.outgoing) t.now.outgoing h.now.short) h
+
+keeps_send_due : Keeps send_due
+keeps_send_due t h = sound_if t.now.control.due _ t
+    (keeps_setting nothing_due _ (keeps_sending (SuperSent Rr false t.now.incoming.vr false) tt t h)) h
+
+keeps_send_frame : (last full : Bool) → Keeps (send_frame last full)
+keeps_send_frame last full t h =
+    sound_if t.now.control.rej _ _ (keeps_setting rejected _
+    (keeps_sending (SuperSent Rej false t.now.incoming.vr t.now.control.answer) tt t h)) (
+    sound_if (is_missing_some t.now) _ _ (keeps_send_srej (next_missing t.now.incoming) t h) (
+    sound_if t.now.control.answer _ _ (keeps_setting answered _
+    (keeps_sending (SuperSent Rr false t.now.incoming.vr true) tt t h)) (
+    sound_if t.now.control.ask _ _ (keeps_send_poll full t h) (
+    sound_if (is_asked_again t.now) _ _ (keeps_send_again last full (first_again t.now.outgoing) t h) (
+    sound_if (may_send_info t.now) _ _ (keeps_send_next last full t h) (keeps_send_due t h))))))
+
+keeps_seize_in : (s : LinkState) (last full : Bool) → Keeps (seize_in s last full)
+keeps_seize_in Idle last full t h = h
+keeps_seize_in Calling last full t h = h
+keeps_seize_in Up last full t h = keeps_send_frame last full _ (keeps_notice full t h)
+keeps_seize_in Releasing last full t h = h
 
 keeps_up : (command : Bool) (kind : Kind) → Keeps (hear_up command kind)
 keeps_up command (Setup Sabm flag) t h = keeps_open_again 8 (inl refl) flag t h
@@ -413,12 +465,6 @@ keeps_hear_in Up command kind t h = keeps_up command kind t h
 keeps_hear_in Releasing command kind t h = keeps_releasing command kind t h
 
 -- ticks
-keeps_t2_out : (s : LinkState) → Keeps (t2_out s)
-keeps_t2_out Idle t h = h
-keeps_t2_out Calling t h = h
-keeps_t2_out Up t h = keeps_respond false t h
-keeps_t2_out Releasing t h = h
-
 keeps_t1_out : (s : LinkState) → Keeps (t1_out s)
 keeps_t1_out Idle t h = h
 keeps_t1_out Calling t h =
@@ -429,7 +475,7 @@ keeps_t1_out Calling t h =
     )
 keeps_t1_out Up t h =
     sound_if (is_spent t.now.control) _ _ (keeps_telling (Ended Failed) _ (keeps_leave _ (keeps_dm false t h))) (
-    keeps_poll _ (keeps_setting retried t h)
+    keeps_setting to_poll t h
     )
 keeps_t1_out Releasing t h =
     sound_if (is_spent t.now.control) _ _ (keeps_end_call Failed t h) (
@@ -439,15 +485,8 @@ keeps_t1_out Releasing t h =
 keeps_t3_out : (s : LinkState) → Keeps (t3_out s)
 keeps_t3_out Idle t h = h
 keeps_t3_out Calling t h = h
-keeps_t3_out Up t h = keeps_poll _ (keeps_setting unretried t h)
+keeps_t3_out Up t h = keeps_setting silent t h
 keeps_t3_out Releasing t h = h
-
-keeps_t2 : (timer : Option ℕ) → Keeps (tick_t2_of timer)
-keeps_t2 None t h = h
-keeps_t2 (Some left) t h =
-    sound_if (runs_out left) _ _ (keeps_t2_out t.now.control.state _ (keeps_setting (with_t2 None) t h)) (
-    keeps_setting (with_t2 (lowered left)) t h
-    )
 
 keeps_t3 : (timer : Option ℕ) → Keeps (tick_t3_of timer)
 keeps_t3 None t h = h
@@ -464,8 +503,8 @@ keeps_t1 (Some left) false t h =
     keeps_setting (with_t1 (lowered left)) t h
     )
 
-keeps_timers : (still : Bool) (t : Turn) → Sound t → Sound (tick_t1 still (tick_t2 t))
-keeps_timers still t h = keeps_t1 (tick_t2 t).now.control.t1 still _ (keeps_t2 t.now.control.t2 t h)
+keeps_timers : (still : Bool) → Keeps (tick_t1 still)
+keeps_timers still t h = keeps_t1 t.now.control.t1 (still || wants t.now) t h
 
 keeps_tick_in : (s : LinkState) (still : Bool) → Keeps (tick_in s still)
 keeps_tick_in Idle still t h = h
@@ -477,7 +516,7 @@ keeps_tick_in Releasing still t h = keeps_timers still t h
 keeps_settle_in : (s : LinkState) → Keeps (settle_in s)
 keeps_settle_in Idle t h = h
 keeps_settle_in Calling t h = h
-keeps_settle_in Up t h = keeps_settle t h
+keeps_settle_in Up t h = keeps_close t h
 keeps_settle_in Releasing t h = h
 
 -- a packet that is taken is short
@@ -512,6 +551,7 @@ keeps_row (Send packet) m free h =
 keeps_row Disconnect m free h = keeps_setting quitting (begin m) (sound_begin m h)
 keeps_row (Hear frame) m free h = keeps_hear_in m.control.state _ frame.kind (begin m) (sound_begin m h)
 keeps_row (Tick still) m free h = keeps_tick_in m.control.state still (begin m) (sound_begin m h)
+keeps_row (Seize last full) m free h = keeps_seize_in m.control.state last full (begin m) (sound_begin m h)
 
 keeps_free : (b : Bool) (event : Event) (m : Machine) → is_some (refusal_of m event) ≡ b → IsSound m
     → Sound (if b then begin m else settled (row event (begin m)))
@@ -524,7 +564,7 @@ sound_step m event h = keeps_free (is_some (refusal_of m event)) event m refl h
 
 -- what a frame is written as
 written_narrow : (path : Path) (x : Sent) → HasShort x → CanWrite Eight (frame_of 8 path x)
-written_narrow path (InfoSent number nr packet) short = record {
+written_narrow path (InfoSent number nr poll packet) short = record {
   kind = record { numbered = (omega arith, omega arith); fits = short };
   room = omega (arith, short);
 }
@@ -538,7 +578,7 @@ written_narrow path (SetupSent which flag) short = record {
 }
 
 written_wide : (path : Path) (x : Sent) → HasShort x → CanWrite OneTwentyEight (frame_of 128 path x)
-written_wide path (InfoSent number nr packet) short = record {
+written_wide path (InfoSent number nr poll packet) short = record {
   kind = record { numbered = (omega arith, omega arith); fits = short };
   room = omega (arith, short);
 }

@@ -1,6 +1,6 @@
-use Rattle.link_machine.proofs.Common.{◌≡◌, refl, Up, Turn, begin, setting, in_window, quitting, settled}
+use Rattle.link_machine.proofs.Common.{refl, Turn, begin, setting, quitting, settled}
 use Rattle.link_machine.proofs.Showing.{shows_control}
-use Rattle.link_machine.proofs.Events.{shows_begin, made, copies_right_now}
+use Rattle.link_machine.proofs.Events.{shows_begin, made}
 use Rattle.link_machine.proofs.machine.Machine.take_disconnect.Goals as goal
 
 pub returns : goal.returns
@@ -8,8 +8,5 @@ returns c = λ m h.
     let begun = shows_begin c.args.self.now m c.in_ok-room.room _ _ c.in_ok-room.ensures h in
     let t : Turn = setting quitting (begin m) in
     let shown = shows_control quitting c.args.self.now _ c.in_ok-room.room (begin m) refl begun in
-    let right : (t.now.control.state ≡ Up → c.in_ok-packets.packets.items
-    ≡ in_window t.now.incoming.window t.now.outgoing) = λ _.
-    copies_right_now c.args.self.now m c.in_ok-packets.packets.items h c.in_ok-packets.ensures in
-    made c.settle.new.self c.settle.new.room (settled t) c.finish.result (c.settle.ensures.shows t shown right)
+    made c.settle.new.self c.settle.new.room (settled t) c.finish.result (c.settle.ensures.shows t shown)
     c.finish.ensures.frames c.finish.ensures.told

@@ -1,9 +1,7 @@
-use Rattle.link_machine.proofs.Common.{◌≡◌, length, refl, ◌∙◌, ap, arith, after_push, Up, Turn, begin, changing}
-use Rattle.link_machine.proofs.Common.{in_window, settled, IsErr}
+use Rattle.link_machine.proofs.Common.{◌≡◌, length, refl, arith, after_push, Turn, begin, changing, settled, IsErr}
 use Rattle.link_machine.specs.Requests.{joined}
 use Rattle.link_machine.proofs.Showing.{shows_changing, holds_outgoing}
 use Rattle.link_machine.proofs.Events.{shows_begin, made}
-use Rattle.link_machine.proofs.KeptByActs.{same_pushed}
 use Rattle.link_machine.proofs.Answered.{on_ok}
 use Rattle.link_machine.proofs.machine.Machine.take_packet.Goals as goal
 
@@ -17,10 +15,5 @@ returns c = λ m h.
     let shown = shows_changing (joined c.args.packet) c.args.self.now _ c.in_ok-room.room (begin m) refl begun
     (holds_outgoing c.args.self.now m c.push.new.self (after_push c.args.packet m.outgoing)
     h c.push.ensures.formed pushed) in
-    let right : (t.now.control.state ≡ Up → c.in_ok-packets.packets.items
-    ≡ in_window t.now.incoming.window t.now.outgoing) = λ _.
-    c.in_ok-packets.ensures
-    ∙ same_pushed c.args.self.now.incoming.window c.args.packet c.args.self.now.outgoing m.outgoing h.stands.outgoing
-    ∙ ap (λ k. in_window k (after_push c.args.packet m.outgoing)) h.stands.incoming.window in
-    made c.settle.new.self c.settle.new.room (settled t) c.finish.result (c.settle.ensures.shows t shown right)
+    made c.settle.new.self c.settle.new.room (settled t) c.finish.result (c.settle.ensures.shows t shown)
     c.finish.ensures.frames c.finish.ensures.told
