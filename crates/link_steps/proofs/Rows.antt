@@ -1,5 +1,5 @@
 -- What a row of a link's table does: each row is one of a few kinds, and so is the end of an event.
-use Rattle.std.proofs.Common.{◌≡◌, ℕ, ◌≤◌, ◌==◌, ◌&&◌, Bool, true, false, [], ◌∷◌, length, cond, Option, Some, None}
+use Rattle.std.proofs.Common.{◌≡◌, ℕ, ◌≤◌, ◌==◌, ◌&&◌, ◌||◌, Bool, true, false, [], ◌∷◌, length, cond, Option, Some, None}
 use Rattle.std.proofs.Common.{is_some, refl, sym, ap, ◌∙◌, subst, inl, inr}
 use Rattle.std.specs.Bool.{⊤}
 use Rattle.std.proofs.lemmas.Bool.{and_parts, false≢true, ltb-false}
@@ -22,29 +22,28 @@ use Rattle.link_machine.specs.declared.fault.LinkFault.{LinkFault}
 use Rattle.link_machine.specs.declared.fault.LinkFault.TheVariants.{Full, TooLong}
 use Rattle.link_machine.specs.declared.state.LinkState.{LinkState}
 use Rattle.link_machine.specs.declared.state.LinkState.TheVariants.{Idle, Calling, Up, Releasing}
-use Rattle.link_machine.specs.Acts.{awaiting, flush, nothing_due, poll, release, reset, send_call, to_send}
+use Rattle.link_machine.specs.Acts.{release, reset, send_call}
 use Rattle.link_machine.specs.Event.{Event}
-use Rattle.link_machine.specs.Event.Event.{Connect, Send, Disconnect, Hear, Tick}
+use Rattle.link_machine.specs.Event.Event.{Connect, Send, Disconnect, Hear, Seize, Tick}
 use Rattle.link_machine.specs.Frames.{answer_dm, answer_ua, call_narrow, end_by_disc, end_by_dm, end_call}
 use Rattle.link_machine.specs.Frames.{hear_calling_in}
 use Rattle.link_machine.specs.Frames.{hear_idle, hear_in, hear_releasing, hear_up, leave}
 use Rattle.link_machine.specs.Frames.{open_again, open_answered, open_called}
-use Rattle.link_machine.specs.Held.{IsShort, sending_packets}
+use Rattle.link_machine.specs.Held.{IsShort}
 use Rattle.link_machine.specs.Machine.{Machine, falls_back, is_valid, is_wide, most_packets, named, wide_retries}
 use Rattle.link_machine.specs.Requests.{connect, has_link, is_closed, joined, quitting}
 use Rattle.link_machine.specs.Sent.Sent.{SetupSent}
 use Rattle.link_machine.specs.Step.{refusal_of, row, settle_in, settled, step}
 use Rattle.link_machine.specs.Ticks.{fall_back, is_spent, lowered, retried, runs_out, t1_out}
-use Rattle.link_machine.specs.Ticks.{t2_out, t3_out, tick_in, tick_t1, tick_t1_of, tick_t2, tick_t2_of, tick_t3_of}
-use Rattle.link_machine.specs.Ticks.{with_t1, with_t2, with_t3}
+use Rattle.link_machine.specs.Ticks.{t3_out, tick_in, tick_t1, tick_t1_of, tick_t3_of, to_poll, with_t1, with_t3}
+use Rattle.link_machine.specs.Seizing.{seize_in}
+use Rattle.link_machine.specs.Wants.{wants}
 use Rattle.link_machine.specs.Turn.{Turn, begin, changing, in_order, sending, setting, telling}
 use Rattle.step_laws.proofs.Choices.{either}
 use Rattle.step_laws.proofs.Runs.{run_on}
 use Rattle.step_laws.proofs.Runs.Run.{none, more}
-use Rattle.link_steps.proofs.Traffic.{KeepsMode, Traffic, awaiting_mode, info, poll_more, supervisory, ticks_t2}
-use Rattle.link_steps.proofs.Traffic.{ticks_t3}
-use Rattle.link_steps.proofs.Traffic.{timed, traffic_mode}
-use Rattle.link_steps.proofs.Traffic.Single.{flushes, times}
+use Rattle.link_steps.proofs.Traffic.{KeepsMode, Traffic, info, seizes, supervisory, ticks_t3, timed, to_poll_mode}
+use Rattle.link_steps.proofs.Traffic.Single.{times}
 
 -- ---- what an event is
 
@@ -55,6 +54,7 @@ Hears P (Send packet) = ⊥
 Hears P Disconnect = ⊥
 Hears P (Hear frame) = P frame.kind
 Hears P (Tick still) = ⊥
+Hears P (Seize last full) = ⊥
 
 -- SABM, SABME or DISC
 abbrev pub IsAsking : Kind → Type 0
@@ -117,6 +117,7 @@ IsT1Tick (Send packet) = ⊥
 IsT1Tick Disconnect = ⊥
 IsT1Tick (Hear frame) = ⊥
 IsT1Tick (Tick still) = still ≡ false
+IsT1Tick (Seize last full) = ⊥
 
 abbrev pub IsConnect : Event → Type 0
 IsConnect Connect = ⊤
@@ -124,6 +125,7 @@ IsConnect (Send packet) = ⊥
 IsConnect Disconnect = ⊥
 IsConnect (Hear frame) = ⊥
 IsConnect (Tick still) = ⊥
+IsConnect (Seize last full) = ⊥
 
 abbrev pub IsDisconnect : Event → Type 0
 IsDisconnect Connect = ⊥
@@ -131,6 +133,7 @@ IsDisconnect (Send packet) = ⊥
 IsDisconnect Disconnect = ⊤
 IsDisconnect (Hear frame) = ⊥
 IsDisconnect (Tick still) = ⊥
+IsDisconnect (Seize last full) = ⊥
 
 abbrev pub IsSending : Packet → Event → Type 0
 IsSending packet Connect = ⊥
@@ -138,6 +141,7 @@ IsSending packet (Send given) = packet ≡ given
 IsSending packet Disconnect = ⊥
 IsSending packet (Hear frame) = ⊥
 IsSending packet (Tick still) = ⊥
+IsSending packet (Seize last full) = ⊥
 
 abbrev pub IsDown : LinkState → Type 0
 IsDown Idle = ⊤
@@ -192,17 +196,11 @@ pub data Row (m : Machine) (event : Event) : Turn → Type 0 where
       → Row m event (changing (joined packet) (begin m))
   wishes : IsDisconnect event → Row m event (setting quitting (begin m))
 
--- what may go out does
-pub data Flushes (t : Turn) : Turn → Type 0 where
-  sends_none : Flushes t t
-  sends_all : Flushes t (timed (awaiting (nothing_due t.now.control)) (sending_packets (to_send t.now) t))
-
--- how an event ends: if the link is up then, what may go out does, and perhaps the link is released
-pub data Settles : Turn → Turn → Type 0 where
-  is_down : {t : Turn} → IsDown t.now.control.state → Settles t t
-  goes_on : {t u : Turn} → t.now.control.state ≡ Up → Flushes t u → Settles t u
-  releases : {t u : Turn} → t.now.control.state ≡ Up → Flushes t u → u.now.control.quit ≡ true
-      → Settles t (release u)
+-- how an event ends: a link that is up then is perhaps released
+pub data Settles (t : Turn) : Turn → Type 0 where
+  is_down : IsDown t.now.control.state → Settles t t
+  goes_on : t.now.control.state ≡ Up → Settles t t
+  releases : t.now.control.state ≡ Up → t.now.control.quit ≡ true → Settles t (release t)
 
 pub data Stepped (m : Machine) (event : Event) : Turn → Type 0 where
   is_refused : Stepped m event (begin m)
@@ -342,12 +340,6 @@ heard_row Releasing command kind m event is at = releasing_row command kind m ev
 
 -- ---- a tick
 
-t2_rests : (state : LinkState) (t : Turn) → IsDown state → Rests t (t2_out state t)
-t2_rests Idle t down = rests_same t
-t2_rests Calling t down = rests_same t
-t2_rests Up t down = absurd down
-t2_rests Releasing t down = rests_same t
-
 t3_rests : (state : LinkState) (t : Turn) → IsDown state → Rests t (t3_out state t)
 t3_rests Idle t down = rests_same t
 t3_rests Calling t down = rests_same t
@@ -357,14 +349,6 @@ t3_rests Releasing t down = rests_same t
 sets_timer : (c : Control) (t : Turn) → KeepsMode t.now.control c → Rests t (timed c t)
 sets_timer c t mode = as_timed c mode
 
-tick_t2_rests : (timer : Option ℕ) (t : Turn) → IsDown t.now.control.state → Rests t (tick_t2_of timer t)
-tick_t2_rests None t down = rests_same t
-tick_t2_rests (Some left) t down =
-    either (Rests t) (runs_out left) (t2_out t.now.control.state (setting (with_t2 None) t))
-    (setting (with_t2 (lowered left)) t)
-    (rests_on (sets_timer (with_t2 None t.now.control) t (refl, refl)) (t2_rests t.now.control.state _ down))
-    (sets_timer (with_t2 (lowered left) t.now.control) t (refl, refl))
-
 tick_t3_rests : (timer : Option ℕ) (t : Turn) → IsDown t.now.control.state → Rests t (tick_t3_of timer t)
 tick_t3_rests None t down = rests_same t
 tick_t3_rests (Some left) t down =
@@ -372,18 +356,6 @@ tick_t3_rests (Some left) t down =
     (setting (with_t3 (lowered left)) t)
     (rests_on (sets_timer (with_t3 None t.now.control) t (refl, refl)) (t3_rests t.now.control.state _ down))
     (sets_timer (with_t3 (lowered left) t.now.control) t (refl, refl))
-
-t2_tells_none : (state : LinkState) (t : Turn) → (t2_out state t).told ≡ t.told
-t2_tells_none Idle t = refl
-t2_tells_none Calling t = refl
-t2_tells_none Up t = refl
-t2_tells_none Releasing t = refl
-
-tick_t2_tells_none : (timer : Option ℕ) (t : Turn) → (tick_t2_of timer t).told ≡ t.told
-tick_t2_tells_none None t = refl
-tick_t2_tells_none (Some left) t =
-    either (λ (u : Turn). u.told ≡ t.told) (runs_out left) (t2_out t.now.control.state (setting (with_t2 None) t))
-    (setting (with_t2 (lowered left)) t) (t2_tells_none t.now.control.state (setting (with_t2 None) t)) refl
 
 -- what a tick has done so far: nothing was told, and if the link is not up, at most timers changed
 record Begun (m : Machine) (t : Turn) : Type 0 where
@@ -412,13 +384,16 @@ begun_timed {t = t} c h mode = record {
   told = h.told;
 }
 
+begun_none : (m : Machine) → Begun m (begin m)
+begun_none m = record { only = λ down. rests_same (begin m); run = none; told = refl }
+
 -- T1 runs out
 t1_row :
-    (state : LinkState) (m : Machine) (t : Turn) → m.control.state ≡ state → Begun m t
-    → Row m (Tick false) (t1_out state t)
-t1_row Idle m t is h = begun_row h
-t1_row Calling m t is h =
-    either (Row m (Tick false)) (is_spent t.now.control) (end_call Failed t)
+    (state : LinkState) (m : Machine) (event : Event) (t : Turn) → m.control.state ≡ state → IsT1Tick event → Begun m t
+    → Row m event (t1_out state t)
+t1_row Idle m event t is counts h = begun_row h
+t1_row Calling m event t is counts h =
+    either (Row m event) (is_spent t.now.control) (end_call Failed t)
     (cond (falls_back t.now) (fall_back t) (send_call (setting retried t)))
     (ends_call Failed (h.only down) down) (by_modulus (falls_back t.now) refl)
   where
@@ -430,48 +405,56 @@ t1_row Calling m t is h =
         ∙ (and_parts (is_wide t.now) (t.now.control.rc == wide_retries) falls).0
 
     by_modulus : (b : Bool) → falls_back t.now ≡ b
-        → Row m (Tick false) (cond b (fall_back t) (send_call (setting retried t)))
-    by_modulus true falls = falls_narrow (h.only down) is (wide_is falls) refl
+        → Row m event (cond b (fall_back t) (send_call (setting retried t)))
+    by_modulus true falls = falls_narrow (h.only down) is (wide_is falls) counts
     by_modulus false on =
-        calls_again (rests_on (h.only down) (sets_timer (retried t.now.control) t (refl, refl))) is refl
-t1_row Up m t is h =
-    either (Row m (Tick false)) (is_spent t.now.control) (giving_up t) (poll (setting retried t))
-    (gives_up is h.run h.told refl) (works is (run_on h.run (poll_more t)))
-t1_row Releasing m t is h =
+        calls_again (rests_on (h.only down) (sets_timer (retried t.now.control) t (refl, refl))) is counts
+t1_row Up m event t is counts h =
+    either (Row m event) (is_spent t.now.control) (giving_up t) (setting to_poll t)
+    (gives_up is h.run h.told counts) (works is (run_on h.run (to_poll_mode t)))
+t1_row Releasing m event t is counts h =
     let down : IsDown m.control.state = subst IsDown (sym is) tt in
-    either (Row m (Tick false)) (is_spent t.now.control) (end_call Failed t)
+    either (Row m event) (is_spent t.now.control) (end_call Failed t)
     (sending (SetupSent Disc true) (setting retried t)) (ends_call Failed (h.only down) down)
-    (releases_again (rests_on (h.only down) (sets_timer (retried t.now.control) t (refl, refl))) is refl)
+    (releases_again (rests_on (h.only down) (sets_timer (retried t.now.control) t (refl, refl))) is counts)
 
+-- if T1 stands still, the tick counts for T3 at most
 tick_t1_row :
-    (timer : Option ℕ) (still : Bool) (m : Machine) (t : Turn) → Begun m t
-    → Row m (Tick still) (tick_t1_of timer still t)
-tick_t1_row None still m t h =
-    only_row (λ down. rests_on (h.only down)
-    (tick_t3_rests t.now.control.t3 t (subst IsDown (sym (traffic_mode h.run).0) down)))
-    (run_on h.run (ticks_t3 t.now.control.t3 t))
-tick_t1_row (Some left) true m t h = begun_row h
-tick_t1_row (Some left) false m t h =
-    let off = setting (with_t1 None) t in
-    either (Row m (Tick false)) (runs_out left) (t1_out t.now.control.state off) (setting (with_t1 (lowered left)) t)
-    (t1_row t.now.control.state m off (sym (traffic_mode h.run).0)
-    (begun_timed (with_t1 None t.now.control) h (refl, refl)))
-    (begun_row (begun_timed (with_t1 (lowered left) t.now.control) h (refl, refl)))
+    (timer : Option ℕ) (stands : Bool) (m : Machine) (event : Event) → (stands ≡ false → IsT1Tick event)
+    → Row m event (tick_t1_of timer stands (begin m))
+tick_t1_row None stands m event counts =
+    only_row (λ down. tick_t3_rests m.control.t3 (begin m) down) (ticks_t3 m.control.t3 (begin m))
+tick_t1_row (Some left) true m event counts = stays
+tick_t1_row (Some left) false m event counts =
+    let off = setting (with_t1 None) (begin m) in
+    either (Row m event) (runs_out left) (t1_out m.control.state off) (setting (with_t1 (lowered left)) (begin m))
+    (t1_row m.control.state m event off refl (counts refl)
+    (begun_timed (with_t1 None m.control) (begun_none m) (refl, refl)))
+    (begun_row (begun_timed (with_t1 (lowered left) m.control) (begun_none m) (refl, refl)))
 
-timers_row : (still : Bool) (m : Machine) → Row m (Tick still) (tick_t1 still (tick_t2 (begin m)))
+either_false : (a b : Bool) → (a || b) ≡ false → a ≡ false
+either_false true b is = is
+either_false false b is = refl
+
+timers_row : (still : Bool) (m : Machine) → Row m (Tick still) (tick_t1 still (begin m))
 timers_row still m =
-    let t = tick_t2 (begin m) in
-    tick_t1_row t.now.control.t1 still m t (record {
-      only = λ down. tick_t2_rests m.control.t2 (begin m) down;
-      run = ticks_t2 m.control.t2 (begin m);
-      told = tick_t2_tells_none m.control.t2 (begin m);
-    })
+    tick_t1_row m.control.t1 (still || wants m) m (Tick still) (λ is. either_false still (wants m) is)
 
 tick_row : (state : LinkState) (still : Bool) (m : Machine) → Row m (Tick still) (tick_in state still (begin m))
 tick_row Idle still m = stays
 tick_row Calling still m = timers_row still m
 tick_row Up still m = timers_row still m
 tick_row Releasing still m = timers_row still m
+
+-- ---- the channel takes a frame
+
+seize_row :
+    (state : LinkState) (last full : Bool) (m : Machine) → m.control.state ≡ state
+    → Row m (Seize last full) (seize_in state last full (begin m))
+seize_row Idle last full m is = stays
+seize_row Calling last full m is = stays
+seize_row Up last full m is = works is (seizes Up last full (begin m))
+seize_row Releasing last full m is = stays
 
 -- ---- each event
 
@@ -505,25 +488,17 @@ row_is m Disconnect free = wishes tt
 row_is m (Hear frame) free =
     heard_row m.control.state (is_command_of frame.path.role frame.kind) frame.kind m (Hear frame) refl (λ P p. p)
 row_is m (Tick still) free = tick_row m.control.state still m
-
-pub flush_traffic : {t u : Turn} → Flushes t u → Traffic t u
-flush_traffic sends_none = none
-flush_traffic {t = t} sends_all =
-    more (more none flushes) (times (awaiting (nothing_due t.now.control)) (awaiting_mode (nothing_due t.now.control)))
-
-flush_is : (t : Turn) → Flushes t (flush t)
-flush_is t = either (Flushes t) (length (to_send t.now) == 0) t _ sends_none sends_all
+row_is m (Seize last full) free = seize_row m.control.state last full m refl
 
 settle_is : (state : LinkState) (t : Turn) → t.now.control.state ≡ state → Settles t (settle_in state t)
 settle_is Idle t is = is_down (subst IsDown (sym is) tt)
 settle_is Calling t is = is_down (subst IsDown (sym is) tt)
-settle_is Up t is = go ((flush t).now.control.quit && length (flush t).now.outgoing.packets == 0) refl
+settle_is Up t is = go (t.now.control.quit && length t.now.outgoing.packets == 0) refl
   where
-    go : (b : Bool) → ((flush t).now.control.quit && length (flush t).now.outgoing.packets == 0) ≡ b
-        → Settles t (cond b (release (flush t)) (flush t))
-    go true quits = releases is (flush_is t)
-        (and_parts (flush t).now.control.quit (length (flush t).now.outgoing.packets == 0) quits).0
-    go false on = goes_on is (flush_is t)
+    go : (b : Bool) → (t.now.control.quit && length t.now.outgoing.packets == 0) ≡ b
+        → Settles t (cond b (release t) t)
+    go true quits = releases is (and_parts t.now.control.quit (length t.now.outgoing.packets == 0) quits).0
+    go false on = goes_on is
 settle_is Releasing t is = is_down (subst IsDown (sym is) tt)
 
 pub step_is : (m : Machine) (event : Event) → Stepped m event (step m event)

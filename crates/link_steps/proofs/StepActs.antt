@@ -24,7 +24,7 @@ use Rattle.link_machine.specs.Ticks.{retried}
 use Rattle.link_machine.specs.Turn.{Turn, begin, changing, sending, telling}
 use Rattle.step_laws.proofs.Runs.{GoesOn, Run, along_run, run_each, run_on, run_one}
 use Rattle.step_laws.proofs.Runs.Run.{none, more}
-use Rattle.link_steps.proofs.Rows.{Row, Settles, Stepped, flush_traffic, rests_traffic, step_is}
+use Rattle.link_steps.proofs.Rows.{Row, Settles, Stepped, rests_traffic, step_is}
 use Rattle.link_steps.proofs.Rows.Row.{rests, works, declines, agrees, calls_again, releases_again, ends_call}
 use Rattle.link_steps.proofs.Rows.Row.{ends_by_dm}
 use Rattle.link_steps.proofs.Rows.Row.{ends_by_disc, gives_up, is_called, is_called_again, is_answered, narrows}
@@ -108,9 +108,8 @@ row_acts m event t (wishes wishing) = run_one (controls (quitting m.control))
 
 settled_acts : (t u : Turn) → Settles t u → Acts t u
 settled_acts t u (is_down down) = none
-settled_acts t u (goes_on up run) = going (flush_traffic run)
-settled_acts t u (releases {u = v} up run quits) =
-    more (more (going (flush_traffic run)) (controls (releasing v.now.control))) (sets_up Disc true)
+settled_acts t u (goes_on up) = none
+settled_acts t u (releases up quits) = more (run_one (controls (releasing t.now.control))) (sets_up Disc true)
 
 stepped_acts : (m : Machine) (event : Event) (u : Turn) → Stepped m event u → Acts (begin m) u
 stepped_acts m event u is_refused = none
