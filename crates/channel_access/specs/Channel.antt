@@ -2,7 +2,8 @@
 -- protocol, Chepponis and Karn).
 use Rattle.std.specs.Prelude.{◌≡◌, ℕ, ◌-◌, ◌==◌, nat_lt, nat_le, Bool, true, false, ◌&&◌, ◌||◌, if◌then◌else◌, ℤ, pos}
 use Rattle.std.specs.Prelude.{List}
-use Rattle.std.specs.Prelude.{[], ◌∷◌, ◌++◌, length, take, map, replicate, Option, Some, None, is_some, is_none}
+use Rattle.std.specs.Prelude.{[], ◌∷◌, ◌++◌, ◌+◌, not, length, replicate, Option, Some, None, is_some, is_none}
+use Rattle.std.specs.List.{list_any}
 use Rattle.rand_pcg.specs.Lcg.{Lcg}
 use Rattle.channel_access.specs.declared.air_tick.AirTick.{AirTick}
 use Rattle.channel_access.specs.declared.air_tick.Sent.{Sent}
@@ -14,8 +15,8 @@ use Rattle.channel_access.specs.Happenings.Happening.{Heard, Ticked}
 use Rattle.channel_access.specs.Turns.{was_quiet, is_spoken_to, is_its_turn}
 use Rattle.channel_access.specs.Waiting.{WaitingFrame}
 use Rattle.channel_access.specs.Words.{generator_of, draw_stream, draw, after_word}
-use Rattle.channel_access.specs.OnAir.{OnAir, bits_then, decided, with_named, waiting_with_named, frame_named}
-use Rattle.channel_access.specs.OnAir.{tick_samples, with_tick}
+use Rattle.channel_access.specs.OnAir.{OnAir, bits_then, decided, has_sent_frames, most_frames}
+use Rattle.channel_access.specs.OnAir.{waiting_after, with_named, waiting_with_named, frame_named, tick_samples, with_tick}
 
 -- The frames that wait, in order, with those of the transmission under way that are not named as sent yet; the ticks
 -- that are left of a slot; and the transmission under way.
@@ -66,12 +67,16 @@ slot_in busy channel =
     else if is_spoken_to channel.past then 0
     else channel.parameters.slot_time
 
--- The first rule that fits decides: no frame waits; full duplex; the channel is busy; it is the station's turn; the
--- slot runs; a draw.
-abbrev pub decision : Bool → Channel → Decision
-decision busy channel =
+-- there is nothing to send: no frame waits, and no link wants to send
+abbrev pub has_nothing : Bool → Channel → Bool
+has_nothing wants channel = (length channel.waiting == 0) && not wants
+
+-- The first rule that fits decides: there is nothing to send; full duplex; the channel is busy; it is the station's turn;
+-- the slot runs; a draw. `wants` says that a link wants to send.
+abbrev pub decision : Bool → Bool → Channel → Decision
+decision busy wants channel =
     let slot = slot_in busy channel in
-    if length channel.waiting == 0
+    if has_nothing wants channel
     then record { begins = false; slot = slot - 1; generator = channel.generator }
     else if channel.parameters.full_duplex
     then record { begins = true; slot = slot; generator = channel.generator }
@@ -84,12 +89,12 @@ decision busy channel =
     then record { begins = true; slot = slot; generator = after_word channel.generator }
     else record { begins = false; slot = channel.parameters.slot_time; generator = after_word channel.generator }
 
--- a transmission that begins now, with the front one of the frames that wait
+-- a transmission that begins now, with its opening flags
 abbrev pub begun : Channel → OnAir
 begun channel = record {
   opening = opening_flags channel.parameters.tx_delay;
   closing = closing_flags channel.parameters.tx_tail;
-  frames = map (λ frame. frame.octets) (take 1 channel.waiting);
+  frames = [];
   ends = false;
   named = 0;
   ticks = 0;
@@ -100,8 +105,34 @@ with_decision d channel =
     record channel { slot = d.slot; generator = d.generator; air = if d.begins then Some (begun channel) else None }
 
 -- the channel with the decision of a tick, if it is at rest
-abbrev pub after_rules : Bool → Channel → Channel
-after_rules busy channel = if is_none channel.air then with_decision (decision busy channel) channel else channel
+abbrev pub after_rules : Bool → Bool → Channel → Channel
+after_rules busy wants channel =
+    if is_none channel.air then with_decision (decision busy wants channel) channel else channel
+
+-- ---- the channel takes a frame of a link
+
+abbrev pub is_of_link : WaitingFrame → Bool
+is_of_link frame = is_some frame.link
+
+-- With the bits of this tick the opening flags or a frame end, fewer than eight frames were sent, and none of a link waits
+-- to follow. So at most one frame of a link waits, and it was made as late as can be.
+abbrev pub takes_on_air : List WaitingFrame → Option OnAir → Bool
+takes_on_air waiting None = false
+takes_on_air waiting (Some t) =
+    has_sent_frames (bits_then t) t && nat_lt (length t.frames) most_frames
+    && not (list_any is_of_link (waiting_after t waiting))
+
+abbrev pub takes_frame : Bool → Bool → Channel → Bool
+takes_frame busy wants channel =
+    let now = after_rules busy wants channel in takes_on_air now.waiting now.air
+
+-- a transmission ends with its eighth frame
+abbrev pub is_last_on_air : Option OnAir → Bool
+is_last_on_air None = false
+is_last_on_air (Some t) = length t.frames + 1 == most_frames
+
+abbrev pub takes_last : Bool → Bool → Channel → Bool
+takes_last busy wants channel = is_last_on_air (after_rules busy wants channel).air
 
 -- ---- what a tick sends
 
@@ -127,9 +158,9 @@ abbrev pub began_in : Channel → Option OnAir → Bool
 began_in channel now = is_none channel.air && is_some now
 
 -- a tick of the channel
-abbrev pub air_tick : Bool → Channel → AirTick
-air_tick busy channel =
-    let now = after_rules busy channel in
+abbrev pub air_tick : Bool → Bool → Channel → AirTick
+air_tick busy wants channel =
+    let now = after_rules busy wants channel in
     record {
       samples = air_samples now.waiting now.air;
       began = began_in channel now.air;
@@ -137,9 +168,9 @@ air_tick busy channel =
     }
 
 -- and the channel after it
-abbrev pub after_tick : Bool → Channel → Channel
-after_tick busy channel =
-    let now = after_rules busy channel in
+abbrev pub after_tick : Bool → Bool → Channel → Channel
+after_tick busy wants channel =
+    let now = after_rules busy wants channel in
     record now {
       waiting = air_waiting now.waiting now.air;
       air = air_after now.waiting now.air;

@@ -7,7 +7,9 @@ use Rattle.afsk_modulator.specs.Transmission.{transmission}
 use Rattle.channel_access.specs.declared.air_tick.Sent.{Sent}
 use Rattle.channel_access.specs.Waiting.{WaitingFrame}
 
--- The frames are those that it has as far as that is decided, in order, and `ends` says that no further one follows. Of
+-- A transmission begins with its opening flags alone, and its first frame is decided where they end, as each other one is
+-- where the frame before it ends. The frames are those that it has as far as that is decided, in order, and `ends` says
+-- that no further one follows. Of
 -- these frames the first `named` are sent, each with the flag after it, and so many ticks of the whole are sent.
 pub record OnAir : Type 0 where
   pub opening : ℕ
@@ -48,18 +50,21 @@ flag_end count t = length (body (take count t.frames) t.opening 1)
 abbrev pub has_sent_frames : ℕ → OnAir → Bool
 has_sent_frames bits t = not t.ends && nat_le (frames_end t) bits
 
--- What follows the last frame, if these wait after it: the first of them, if the transmission has fewer than
--- eight frames, and else the closing flags.
+-- What follows the opening flags or the last frame, if these wait then: the first of them, if the transmission has fewer
+-- than eight frames, and else the closing flags.
 abbrev pub followed_by : List WaitingFrame → OnAir → OnAir
 followed_by [] t = record t { ends = true }
 followed_by (next ∷ others) t =
     if nat_lt (length t.frames) most_frames then record t { frames = t.frames ++ next.octets ∷ [] }
     else record t { ends = true }
 
--- The transmission with what is decided when so many bits are sent. While its last frame is being sent, that frame is
--- the front one of those that wait.
+-- those that wait after its frames: a frame of it that is not named yet waits in front of them
+abbrev pub waiting_after : OnAir → List WaitingFrame → List WaitingFrame
+waiting_after t waiting = drop (length t.frames - t.named) waiting
+
+-- The transmission with what is decided when so many bits are sent.
 abbrev pub decided : ℕ → List WaitingFrame → OnAir → OnAir
-decided bits waiting t = if has_sent_frames bits t then followed_by (drop 1 waiting) t else t
+decided bits waiting t = if has_sent_frames bits t then followed_by (waiting_after t waiting) t else t
 
 -- With so many bits sent, the flag after the first frame that is not named yet is sent.
 abbrev pub names_next : ℕ → OnAir → Bool

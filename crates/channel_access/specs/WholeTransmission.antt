@@ -16,19 +16,19 @@ use Rattle.channel_access.specs.Channel.{after_tick}
 
 -- ---- a run of calls
 
--- A frame joins the queue, a parameter is set, a frame was heard, which was an event of a link or not, or a tick passes
--- in which another station is heard or not.
+-- A frame joins the queue, a parameter is set, a frame was heard, which was an event of a link or not, or a tick passes,
+-- in which another station is heard or not and a link wants to send or not.
 pub data Call : Type 0 where
   Queues : Option ℕ → List ℕ → Call
   Sets : Param → Call
   Hears : Bool → Call
-  Ticks : Bool → Call
+  Ticks : (busy wants : Bool) → Call
 
 abbrev pub after_call : Call → Channel → Channel
 after_call (Queues link octets) channel = with_frame link octets channel
 after_call (Sets param) channel = with_setting param channel
 after_call (Hears ours) channel = with_heard ours channel
-after_call (Ticks busy) channel = after_tick busy channel
+after_call (Ticks busy wants) channel = after_tick busy wants channel
 
 -- the channel after all of them
 abbrev pub after_calls : List Call → Channel → Channel
@@ -40,7 +40,7 @@ abbrev pub tick_of_call : Call → Channel → List AirTick
 tick_of_call (Queues link octets) channel = []
 tick_of_call (Sets param) channel = []
 tick_of_call (Hears ours) channel = []
-tick_of_call (Ticks busy) channel = air_tick busy channel ∷ []
+tick_of_call (Ticks busy wants) channel = air_tick busy wants channel ∷ []
 
 -- the ticks of some calls, in order
 abbrev pub ticks_of : List Call → Channel → List AirTick
@@ -52,7 +52,7 @@ abbrev pub joins_in : Call → List WaitingFrame
 joins_in (Queues link octets) = (record { link = link; octets = octets }) ∷ []
 joins_in (Sets param) = []
 joins_in (Hears ours) = []
-joins_in (Ticks busy) = []
+joins_in (Ticks busy wants) = []
 
 abbrev pub joining : List Call → List WaitingFrame
 joining calls = flat_map joins_in calls
@@ -82,9 +82,9 @@ abbrev pub named_in : List AirTick → List (List ℕ)
 named_in ticks = flat_map (λ tick. names_of tick.sent) ticks
 
 -- These ticks are one transmission of these frames, with so many opening and closing flags: its samples, and zeros up
--- to the end of the last tick, which are fewer than a tick has. Each frame is named once, in order.
+-- to the end of the last tick, which are fewer than a tick has. Each frame is named once, in order. There may be none: a
+-- link that wanted to send as it began may want no longer where the opening flags end.
 pub record AreOneTransmission (frames : List (List ℕ)) (opening closing : ℕ) (ticks : List AirTick) : Type 0 where
-  pub some : 1 ≤ length frames
   pub few : length frames ≤ most_frames
   pub zeros : ℕ
   pub fewer : zeros < 96

@@ -21,6 +21,8 @@ pub record StationState : Type 0 where
   pub dropped : ℕ
   -- how many ticks of 10 ms the station has made
   pub ticks : ℕ
+  -- the key of the link that was asked for a frame last
+  pub asked : ℕ
 
 abbrev pub new_station : Config → ℕ → StationState
 new_station config seed = record {
@@ -32,6 +34,7 @@ new_station config seed = record {
   channel = new_channel seed;
   dropped = 0;
   ticks = 0;
+  asked = 0;
 }
 
 -- a count that stays at the greatest number of 64 bits

@@ -1,22 +1,24 @@
--- A tick of 10 ms: of each link in the order of their keys, and then of the channel. A frame whose sending ends in it
--- is shown to hosts that monitor the channel.
-use Rattle.std.specs.Prelude.{◌≡◌, ℕ, Bool, true, not, ◌&&◌, ◌||◌, List, map, Option, Some, None}
+-- A tick of 10 ms: of each link in the order of their keys, then one link is asked for a frame if the channel takes one,
+-- and then of the channel. A frame whose sending ends in it is shown to hosts that monitor the channel.
+use Rattle.std.specs.Prelude.{◌≡◌, ℕ, Bool, true, false, not, ◌&&◌, ◌||◌, nat_lt, if◌then◌else◌, List, ◌++◌, length, filter}
+use Rattle.std.specs.Prelude.{map, slice_get, Option, Some, None}
 use Rattle.std.specs.List.{range_with_len, list_any}
 use Rattle.ax25_address.specs.declared.path.Path.{Path}
 use Rattle.ax25_frames.specs.declared.frame.Frame.{Frame}
-use Rattle.channel_access.specs.Channel.{Channel, air_tick, after_tick}
+use Rattle.channel_access.specs.Channel.{Channel, air_tick, after_tick, takes_frame, takes_last}
 use Rattle.channel_access.specs.Waiting.{WaitingFrame}
 use Rattle.channel_access.specs.declared.air_tick.AirTick.{AirTick}
 use Rattle.channel_access.specs.declared.air_tick.Sent.{Sent}
-use Rattle.link_machine.specs.Event.Event.{Tick}
+use Rattle.link_machine.specs.Event.Event.{Seize, Tick}
+use Rattle.link_machine.specs.Wants.{wants}
 use Rattle.station.specs.Heard.{IsPathOf, IsReadAs}
 use Rattle.station.specs.LinkEvents.{event_at}
-use Rattle.station.specs.Links.{Links, most_links}
+use Rattle.station.specs.Links.{Link, Links, link_at, most_links}
 use Rattle.station.specs.Monitored.{sent_modulus}
 use Rattle.station.specs.Monitoring.{monitoring}
 use Rattle.station.specs.Registrations.{is_number}
 use Rattle.station.specs.State.{StationState, one_more}
-use Rattle.station.specs.Turn.{Turn, Act, begin, in_order, changing}
+use Rattle.station.specs.Turn.{Turn, Act, begin, in_order, changing, nothing}
 
 -- a frame of the link of a key waits to be sent, or is on the air
 abbrev pub waits : ℕ → List WaitingFrame → Bool
@@ -34,12 +36,53 @@ ticking_at busy key turn = event_at key (Tick (t1_stands busy key turn.now.chann
 unfoldable pub ticking_links : Bool → Act
 ticking_links busy = in_order (map (ticking_at busy) (range_with_len 0 most_links))
 
-abbrev pub with_air_tick : Bool → StationState → StationState
-with_air_tick busy s = record s { channel = after_tick busy s.channel; ticks = one_more s.ticks }
+-- ---- asking
+
+abbrev pub link_wants : Option Link → Bool
+link_wants None = false
+link_wants (Some link) = wants link.machine
+
+-- the keys of the links that want to send
+abbrev pub wanting : Links → List ℕ
+wanting links = filter (λ key. link_wants (link_at key links)) (range_with_len 0 most_links)
+
+-- a link wants to send
+abbrev pub some_wants : Links → Bool
+some_wants links = nat_lt 0 (length (wanting links))
+
+-- The link that is asked: the next by key, round and round, after the one that was asked last.
+abbrev pub next_after : ℕ → List ℕ → Option ℕ
+next_after key keys = slice_get (filter (nat_lt key) keys ++ keys) 0
+
+abbrev pub with_asked : ℕ → StationState → StationState
+with_asked key s = record s { asked = key }
+
+abbrev pub asking_one : Bool → Option ℕ → Act
+asking_one last None = nothing
+asking_one last (Some key) turn =
+    event_at key (Seize last turn.now.channel.parameters.full_duplex) (changing (with_asked key) turn)
+
+-- one link is asked for a frame if the channel takes one in this tick
+abbrev pub asking : Bool → Act
+asking busy turn =
+    let some = some_wants turn.now.links in
+    if takes_frame busy some turn.now.channel
+    then asking_one (takes_last busy some turn.now.channel) (next_after turn.now.asked (wanting turn.now.links)) turn
+    else turn
+
+-- the links have ticked, and one was perhaps asked; `wants` says that one wanted to send before it was asked
+abbrev pub asked_links : Bool → Act
+asked_links busy turn = asking busy (ticking_links busy turn)
+
+abbrev pub wanted_in : Bool → Turn → Bool
+wanted_in busy turn = some_wants (ticking_links busy turn).now.links
+
+abbrev pub with_air_tick : Bool → Bool → StationState → StationState
+with_air_tick busy wants s = record s { channel = after_tick busy wants s.channel; ticks = one_more s.ticks }
 
 -- what the channel sends
 abbrev pub air_in : Bool → Turn → AirTick
-air_in busy turn = air_tick busy (ticking_links busy turn).now.channel
+air_in busy turn = air_tick busy (wanted_in busy turn) (asked_links busy turn).now.channel
 
 abbrev pub air_of : Bool → StationState → AirTick
 air_of busy s = air_in busy (begin s)
@@ -48,9 +91,10 @@ air_of busy s = air_in busy (begin s)
 abbrev pub shown_sent : Option Frame → Act
 shown_sent frame turn = monitoring true turn.now.ticks frame turn
 
--- the links tick, the frame is shown, and the channel ticks
+-- the links tick, one is perhaps asked, the frame is shown, and the channel ticks
 abbrev pub ticking : Bool → Option Frame → Act
-ticking busy frame turn = changing (with_air_tick busy) (shown_sent frame (ticking_links busy turn))
+ticking busy frame turn =
+    changing (with_air_tick busy (wanted_in busy turn)) (shown_sent frame (asked_links busy turn))
 
 -- the frame whose sending ends, as it is read when the links stand so
 abbrev pub IsSentFrame : Option Sent → Links → Option Frame → Type 0
@@ -62,5 +106,5 @@ IsSentFrame (Some sent) links frame =
 pub record IsTick (busy : Bool) (before after : Turn) : Type 0 where
   -- the frame that hosts which monitor are shown
   pub monitored : Option Frame
-  pub read_as : IsSentFrame (air_in busy before).sent (ticking_links busy before).now.links monitored
+  pub read_as : IsSentFrame (air_in busy before).sent (asked_links busy before).now.links monitored
   pub effect : after ≡ ticking busy monitored before
