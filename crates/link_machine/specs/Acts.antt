@@ -81,12 +81,12 @@ gone_back m = record m {
 abbrev pub behind_poll : ℕ → Control → Control
 behind_poll retries c = if c.busy then record c {
   poll = false;
-  open = false;
+  by_info = false;
   passed = false;
   rc = retries;
   t1 = Some (t1_ticks c.hops retries);
   t3 = None;
-} else record c { poll = false; open = false; passed = false; rc = retries; t1 = None; t3 = Some t3_ticks }
+} else record c { poll = false; by_info = false; passed = false; rc = retries; t1 = None; t3 = Some t3_ticks }
 
 abbrev pub recover_with : ℕ → Act
 recover_with retries = in_order (setting (behind_poll retries) ∷ changing gone_back ∷ [])

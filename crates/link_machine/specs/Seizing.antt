@@ -27,7 +27,7 @@ asking c = record c { ask = true }
 
 abbrev pub poll_anew : Act
 poll_anew turn =
-    if turn.now.control.open then recover_with turn.now.control.rc turn else setting asking turn
+    if turn.now.control.by_info then recover_with turn.now.control.rc turn else setting asking turn
 
 abbrev pub after_passing : Bool → Act
 after_passing full turn = if turn.now.control.poll && not full then poll_anew turn else turn
@@ -80,11 +80,11 @@ poll_frame m None = SuperSent Rr true m.incoming.vr true
 poll_frame m (Some packet) = InfoSent m.outgoing.va m.incoming.vr true packet
 
 abbrev pub polling : Bool → Control → Control
-polling open c = record c {
+polling by_info c = record c {
   ask = false;
   due = false;
   poll = true;
-  open = open;
+  by_info = by_info;
   passed = false;
   picked = false;
   t1 = Some (t1_of c);

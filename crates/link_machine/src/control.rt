@@ -46,7 +46,7 @@ pub struct Control {
     /// A poll was sent, and its answer has not come.
     pub poll: bool,
     /// That poll went with an I frame.
-    pub open: bool,
+    pub by_info: bool,
     /// The other side sent since, and did not answer it.
     pub passed: bool,
     /// SREJ came since.
@@ -76,7 +76,7 @@ impl Control {
             ask: false,
             due: false,
             poll: false,
-            open: false,
+            by_info: false,
             passed: false,
             picked: false,
             busy: false,
@@ -110,7 +110,7 @@ impl Control {
         self.ask = false;
         self.due = false;
         self.poll = false;
-        self.open = false;
+        self.by_info = false;
         self.passed = false;
         self.picked = false;
         self.busy = false;
@@ -230,14 +230,14 @@ impl Control {
         self.passed || self.rej || self.answer || self.ask || self.due
     }
 
-    /// A poll was sent, and with an I frame if `open`.
-    pub(crate) fn poll(&mut self, open: bool)
-        ensures { self.new ≡ polling open self.old }
+    /// A poll was sent, and with an I frame if `by_info`.
+    pub(crate) fn poll(&mut self, by_info: bool)
+        ensures { self.new ≡ polling by_info self.old }
     {
         self.ask = false;
         self.due = false;
         self.poll = true;
-        self.open = open;
+        self.by_info = by_info;
         self.passed = false;
         self.picked = false;
         self.t1 = Some(t1_ticks(self.hops, self.rc));
@@ -249,7 +249,7 @@ impl Control {
         ensures { self.new ≡ behind_poll retries self.old }
     {
         self.poll = false;
-        self.open = false;
+        self.by_info = false;
         self.passed = false;
         self.rc = retries;
         if self.busy {
@@ -278,7 +278,7 @@ impl Control {
         if !self.poll || full {
             return false;
         }
-        if !self.open {
+        if !self.by_info {
             self.ask = true;
             return false;
         }

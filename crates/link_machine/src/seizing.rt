@@ -132,7 +132,11 @@ impl Machine {
         let sent = if goes_back { 0 } else { self.outgoing.sent() };
         if control.ask {
             let sent_some = self.outgoing.is_waiting() && !control.busy;
-            let first = if sent_some { self.outgoing.packet(0) } else { None };
+            let first = if sent_some {
+                self.outgoing.packet(0)
+            } else {
+                None
+            };
             return copy_of(alloc, short_packet(first));
         }
         let again = if goes_back {

@@ -171,9 +171,14 @@ hears_rej n asked answer t =
 picked : (n : ℕ) (t : Turn) → Traffic t (changing (picked_out n) t)
 picked n t = go (nat_lt n t.now.outgoing.top)
   where
-    go : (b : Bool) → Traffic t (record t { now = if b
-        then record t.now { control = picking t.now.control; outgoing = record t.now.outgoing
-        { again = with_number (n - t.now.outgoing.va) t.now.outgoing.again } } else t.now })
+    go : (b : Bool) → Traffic t (record t {
+      now = if b
+          then record t.now {
+            control = picking t.now.control;
+            outgoing = record t.now.outgoing
+                { again = with_number (n - t.now.outgoing.va) t.now.outgoing.again };
+          } else t.now;
+    })
     go true = more (sets (picking t.now.control) none (refl, refl))
         (picks (with_number (n - t.now.outgoing.va) t.now.outgoing.again))
     go false = none

@@ -52,11 +52,7 @@ fn above(numbers: &ArrayVec<u8, 127>, number: u8) -> ArrayVec<u8, 127>
 }
 
 /// Numbers, one more, and others.
-fn joined(
-    first: ArrayVec<u8, 127>,
-    number: u8,
-    rest: &ArrayVec<u8, 127>,
-) -> ArrayVec<u8, 127>
+fn joined(first: ArrayVec<u8, 127>, number: u8, rest: &ArrayVec<u8, 127>) -> ArrayVec<u8, 127>
     requires { length first.items + 1 + length rest.now.items ≤ 127 }
     ensures numbers { result.items ≡ first.items ++ number ∷ rest.now.items }
 {

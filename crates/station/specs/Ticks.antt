@@ -9,6 +9,7 @@ use Rattle.channel_access.specs.Channel.{Channel, air_tick, after_tick, takes_fr
 use Rattle.channel_access.specs.Waiting.{WaitingFrame}
 use Rattle.channel_access.specs.declared.air_tick.AirTick.{AirTick}
 use Rattle.channel_access.specs.declared.air_tick.Sent.{Sent}
+use Rattle.link_machine.specs.Event.{Event}
 use Rattle.link_machine.specs.Event.Event.{Seize, Tick}
 use Rattle.link_machine.specs.Wants.{wants}
 use Rattle.station.specs.Heard.{IsPathOf, IsReadAs}
@@ -57,18 +58,21 @@ next_after key keys = slice_get (filter (nat_lt key) keys ++ keys) 0
 abbrev pub with_asked : ℕ → StationState → StationState
 with_asked key s = record s { asked = key }
 
-abbrev pub asking_one : Bool → Option ℕ → Act
-asking_one last None = nothing
-asking_one last (Some key) turn =
-    event_at key (Seize last turn.now.channel.parameters.full_duplex) (changing (with_asked key) turn)
+-- the key of the link that is asked in this tick, if the channel takes a frame
+abbrev pub asked_key : Bool → StationState → Option ℕ
+asked_key busy s =
+    if takes_frame busy (some_wants s.links) s.channel then next_after s.asked (wanting s.links) else None
 
--- one link is asked for a frame if the channel takes one in this tick
+-- what it is asked: whether the transmission ends with the frame, and whether both sides may send at once
+abbrev pub seizing : Bool → StationState → Event
+seizing busy s = Seize (takes_last busy (some_wants s.links) s.channel) s.channel.parameters.full_duplex
+
+abbrev pub asking_at : Option ℕ → Event → Act
+asking_at None event = nothing
+asking_at (Some key) event turn = event_at key event (changing (with_asked key) turn)
+
 abbrev pub asking : Bool → Act
-asking busy turn =
-    let some = some_wants turn.now.links in
-    if takes_frame busy some turn.now.channel
-    then asking_one (takes_last busy some turn.now.channel) (next_after turn.now.asked (wanting turn.now.links)) turn
-    else turn
+asking busy turn = asking_at (asked_key busy turn.now) (seizing busy turn.now) turn
 
 -- the links have ticked, and one was perhaps asked; `wants` says that one wanted to send before it was asked
 abbrev pub asked_links : Bool → Act
