@@ -187,24 +187,23 @@ invalid_number held m nr bad h e =
 
 -- a frame with a valid N(R)
 pub makes_numbered :
-    (act : ℕ → Act) (nr count : ℕ) (before behind : Held) (result : Result Done OutOfMemory)
-    → acknowledgement before.incoming.modulus nr before.outgoing ≡ Ok count
+    (act : ℕ → Act) (nr : ℕ) (before behind : Held) (result : Result Done OutOfMemory)
+    → ((m : Machine) → Holds before m → is_valid nr m ≡ true)
     → Makes (λ t. act (named nr t.now) t) before behind result → Makes (hear_numbered nr act) before behind result
-makes_numbered act nr count before behind (Ok done) valid makes = λ m h.
+makes_numbered act nr before behind (Ok done) valid makes = λ m h.
     let P : Turn → Type 0 = λ x. Made (settled x) behind done in
-    subst P (sym (cond-true (is_valid nr m) _ (reset (begin m)) (valid_number before m nr count h valid).0)) (makes m h)
-makes_numbered act nr count before behind (Err fault) valid makes = makes
+    subst P (sym (cond-true (is_valid nr m) _ (reset (begin m)) (valid m h))) (makes m h)
+makes_numbered act nr before behind (Err fault) valid makes = makes
 
 -- a frame with another
 pub makes_reset :
-    (act : ℕ → Act) (nr : ℕ) (bad : BadNr) (before behind : Held) (result : Result Done OutOfMemory)
-    → acknowledgement before.incoming.modulus nr before.outgoing ≡ Err bad
+    (act : ℕ → Act) (nr : ℕ) (before behind : Held) (result : Result Done OutOfMemory)
+    → ((m : Machine) → Holds before m → is_valid nr m ≡ false)
     → Makes reset before behind result → Makes (hear_numbered nr act) before behind result
-makes_reset act nr bad before behind (Ok done) valid makes = λ m h.
+makes_reset act nr before behind (Ok done) not_valid makes = λ m h.
     let P : Turn → Type 0 = λ x. Made (settled x) behind done in
-    subst P (sym (cond-false (is_valid nr m) (act (named nr m) (begin m)) _ (invalid_number before m nr bad h valid)))
-    (makes m h)
-makes_reset act nr bad before behind (Err fault) valid makes = makes
+    subst P (sym (cond-false (is_valid nr m) (act (named nr m) (begin m)) _ (not_valid m h))) (makes m h)
+makes_reset act nr before behind (Err fault) not_valid makes = makes
 
 -- what a frame does by the state
 pub makes_hear :

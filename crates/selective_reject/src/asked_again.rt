@@ -103,7 +103,6 @@ impl AskedAgain {
     }
 
     /// One number more.
-    #[tactic(auto, using(crate::proofs::AgainLemmas::room_with))]
     pub(crate) fn add(&mut self, number: u8)
         requires { number < 127 }
         ensures { self.new ≡ with_number number self.old }
