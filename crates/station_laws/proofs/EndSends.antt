@@ -124,7 +124,7 @@ asks_unnumbered : (s : SentIn) → asks_when_sent s ≡ true → is_unnumbered s
 asks_unnumbered s = go s.frame
   where
     go : (f : Sent) → asks (sent_kind s.modulus f) ≡ true → is_unnumbered_frame f ≡ true
-    go (InfoSent number nr packet) is = absurd (cc)
+    go (InfoSent number nr poll packet) is = absurd (cc)
     go (SuperSent which command nr flag) is = absurd (cc)
     go (SetupSent which flag) is = refl
 
@@ -134,7 +134,7 @@ answers_unnumbered false s is = absurd (cc)
 answers_unnumbered true s is = go s.frame is
   where
     go : (f : Sent) → is_answer (sent_kind s.modulus f) ≡ true → is_unnumbered_frame f ≡ true
-    go (InfoSent number nr packet) never = absurd (cc)
+    go (InfoSent number nr poll packet) never = absurd (cc)
     go (SuperSent which command nr flag) never = absurd (cc)
     go (SetupSent which flag) answer = refl
 

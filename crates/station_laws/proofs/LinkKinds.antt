@@ -12,7 +12,7 @@ IsLinkKind (Ui flag pid octets) = ⊥
 IsLinkKind (Other which flag octets) = ⊥
 
 pub sent_link_kind : (modulus : ℕ) (sent : Sent) → IsLinkKind (sent_kind modulus sent)
-sent_link_kind modulus (InfoSent number nr packet) = tt
+sent_link_kind modulus (InfoSent number nr poll packet) = tt
 sent_link_kind modulus (SuperSent which command nr flag) = tt
 sent_link_kind modulus (SetupSent which flag) = tt
 

@@ -33,7 +33,7 @@ numbered_asks : (s : SentIn) → is_unnumbered s ≡ false → asks_when_sent s 
 numbered_asks s = go s.frame
   where
     go : (f : Sent) → is_unnumbered_frame f ≡ false → asks (sent_kind s.modulus f) ≡ false
-    go (InfoSent number nr packet) is = refl
+    go (InfoSent number nr poll packet) is = refl
     go (SuperSent which command nr flag) is = refl
     go (SetupSent which flag) is = absurd (cc)
 
@@ -41,7 +41,7 @@ numbered_ua : (s : SentIn) → is_unnumbered s ≡ false → ua_when_sent s ≡ 
 numbered_ua s = go s.frame
   where
     go : (f : Sent) → is_unnumbered_frame f ≡ false → is_ua (sent_kind s.modulus f) ≡ false
-    go (InfoSent number nr packet) is = refl
+    go (InfoSent number nr poll packet) is = refl
     go (SuperSent which command nr flag) is = refl
     go (SetupSent which flag) is = absurd (cc)
 

@@ -13,7 +13,7 @@ use Rattle.link_steps.proofs.Traffic.Single.{asks}
 
 -- SABM, SABME, DISC, UA or DM
 abbrev pub is_unnumbered_frame : Sent → Bool
-is_unnumbered_frame (InfoSent number nr packet) = false
+is_unnumbered_frame (InfoSent number nr poll packet) = false
 is_unnumbered_frame (SuperSent which command nr flag) = false
 is_unnumbered_frame (SetupSent which flag) = true
 

@@ -60,12 +60,12 @@ tags_append l r (tag ∷ tags) more (queued ∷ rest) others h k = (h.0, tags_ap
 
 -- a good frame is a kind of its modulus
 narrow_kind : (sent : Sent) → HasShort sent → IsKind (modulus_named 8) (sent_kind 8 sent)
-narrow_kind (InfoSent number nr packet) short = record { numbered = (omega arith, omega arith); fits = short }
+narrow_kind (InfoSent number nr poll packet) short = record { numbered = (omega arith, omega arith); fits = short }
 narrow_kind (SuperSent which command nr flag) short = record { numbered = omega arith; fits = tt }
 narrow_kind (SetupSent which flag) short = record { numbered = tt; fits = tt }
 
 wide_kind : (sent : Sent) → HasShort sent → IsKind (modulus_named 128) (sent_kind 128 sent)
-wide_kind (InfoSent number nr packet) short = record { numbered = (omega arith, omega arith); fits = short }
+wide_kind (InfoSent number nr poll packet) short = record { numbered = (omega arith, omega arith); fits = short }
 wide_kind (SuperSent which command nr flag) short = record { numbered = omega arith; fits = tt }
 wide_kind (SetupSent which flag) short = record { numbered = tt; fits = tt }
 

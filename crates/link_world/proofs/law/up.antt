@@ -2,6 +2,7 @@ pub mod Acts
 pub mod Taking
 pub mod Hearing
 pub mod Info
+pub mod Seizing
 pub mod Settling
 pub mod Events
 pub mod Changes

@@ -215,7 +215,7 @@ pub calling_hears :
     → let f = heard_as a kind sent in
     DownEnd CallingState r y (core_tagged f ∷ rest) to_y → IsReadAs sent kind
     → Keeps (Hears f) r y rest to_y (settled (hear_calling kind (begin r.machine)))
-calling_hears {r} a kind (InfoSent ns nr packet) d read =
+calling_hears {r} a kind (InfoSent ns nr poll packet) d read =
     calling_hears_numbered (r.machine.incoming.modulus == 128) kind d read
 calling_hears {r} a kind (SuperSent which c nr flag) d read =
     calling_hears_numbered (r.machine.incoming.modulus == 128) kind d read

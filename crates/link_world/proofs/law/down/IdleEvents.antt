@@ -88,7 +88,7 @@ pub idle_hears :
     DownEnd IdleState r y (core_tagged f ∷ rest) to_y → IsReadAs sent kind
     → ((which : U) (flag : Bool) → sent ≡ SetupSent which flag → is_sabm_frame which ≡ true → sabms to_y ≡ 0)
     → Keeps (Hears f) r y rest to_y (settled (hear_idle command kind (begin r.machine)))
-idle_hears a kind (InfoSent ns nr packet) command d read quiet = idle_hears_numbered command kind d refl read
+idle_hears a kind (InfoSent ns nr poll packet) command d read quiet = idle_hears_numbered command kind d refl read
 idle_hears a kind (SuperSent which c nr flag) command d read quiet = idle_hears_numbered command kind d refl read
 idle_hears {r} a kind (SetupSent which flag) command {y} {rest} {to_y} d read quiet =
     subst (λ k. Keeps (Hears (heard_as a k (SetupSent which flag))) r y rest to_y

@@ -107,7 +107,7 @@ pub releasing_hears :
     {rest to_y : List CoreTagged} → let f = heard_as a kind sent in
     DownEnd ReleasingState r y (core_tagged f ∷ rest) to_y → IsReadAs sent kind
     → Keeps (Hears f) r y rest to_y (settled (hear_releasing command kind (begin r.machine)))
-releasing_hears a kind (InfoSent ns nr packet) command d read = releasing_hears_numbered command kind d refl read
+releasing_hears a kind (InfoSent ns nr poll packet) command d read = releasing_hears_numbered command kind d refl read
 releasing_hears a kind (SuperSent which c nr flag) command d read = releasing_hears_numbered command kind d refl read
 releasing_hears {r} a kind (SetupSent which flag) command {y} {rest} {to_y} d read =
     subst (λ k. Keeps (Hears (heard_as a k (SetupSent which flag))) r y rest to_y

@@ -40,7 +40,7 @@ setup_of answers UaFrame = Ua
 
 -- what a link sends in a modulus; its UA and DM answer a SABM, SABME or DISC, or not
 abbrev pub kind_of : Bool → ℕ → Sent → Kind
-kind_of answers modulus (InfoSent number nr packet) = IsNumbered modulus (Info number nr packet)
+kind_of answers modulus (InfoSent number nr poll packet) = IsNumbered modulus (Info number nr packet)
 kind_of answers modulus (SuperSent which command nr flag) = IsNumbered modulus (super_of which nr flag)
 kind_of answers modulus (SetupSent which flag) = setup_of answers which
 

@@ -88,7 +88,7 @@ mate_of_front :
     {rest to_y : List CoreTagged} → is_numbered (sent_kind f.modulus sent) ≡ true
     → Invariant (between (up_end r.machine (core_set_ups ended) (core_set_up last)) y
     (core_tagged (record f { sent = sent }) ∷ rest) to_y) → f.set_up ≡ last.mate
-mate_of_front r ended last f (InfoSent ns nr packet) is inv =
+mate_of_front r ended last f (InfoSent ns nr poll packet) is inv =
     front_of_mate (end_behind r.machine (core_set_ups ended)) inv
 mate_of_front r ended last f (SuperSent which command nr flag) is inv =
     front_of_mate (end_behind r.machine (core_set_ups ended)) inv

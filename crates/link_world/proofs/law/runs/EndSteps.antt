@@ -142,14 +142,28 @@ tick_keeps still (StandsCalling d) = calling_ticks still d
 tick_keeps still (StandsUp ended last u) = up_ticks still u
 tick_keeps still (StandsReleasing d) = releasing_ticks still d
 
+seize_keeps :
+    {r : RecordedEnd} (last full : Bool) {y : End} {to_x to_y : List CoreTagged} → Stands r y to_x to_y
+    → Keeps (Seizes last full) r y to_x to_y (settled (seize last full (begin r.machine)))
+seize_keeps {r} last full {y} {to_x} {to_y} (StandsIdle d) =
+    subst (λ s. Keeps (Seizes last full) r y to_x to_y (settled (seize_in s last full (begin r.machine))))
+    (sym d.state_is) (down_silent r.machine.control d d.state_is refl d.holds)
+seize_keeps {r} last full {y} {to_x} {to_y} (StandsCalling d) =
+    subst (λ s. Keeps (Seizes last full) r y to_x to_y (settled (seize_in s last full (begin r.machine))))
+    (sym d.state_is) (down_silent r.machine.control d d.state_is refl d.holds)
+seize_keeps last full (StandsUp ended last_set_up u) = up_seizes last full u
+seize_keeps {r} last full {y} {to_x} {to_y} (StandsReleasing d) =
+    subst (λ s. Keeps (Seizes last full) r y to_x to_y (settled (seize_in s last full (begin r.machine))))
+    (sym d.state_is) (down_silent r.machine.control d d.state_is refl d.holds)
+
 up_hears :
     {r : RecordedEnd} {ended : List SetUp} {last : SetUp} (a : Arrival) (sent : Sent) {y : End}
     {rest to_y : List CoreTagged} → WindowsOf r.machine.incoming y → let e = heard_frame a sent in
     UpEnd r ended last y (core_tagged e ∷ rest) to_y
     → Keeps (Hears e) r y rest to_y (settled (hear_up (is_command_of a.path.role e.frame.kind) e.frame.kind
     (begin r.machine)))
-up_hears {r} {ended} a (InfoSent ns nr packet) windows u =
-    up_hears_info a ns nr packet (front_modulus (end_behind r.machine (core_set_ups ended)) u.holds) windows u
+up_hears {r} {ended} a (InfoSent ns nr poll packet) windows u =
+    up_hears_info a ns nr poll packet (front_modulus (end_behind r.machine (core_set_ups ended)) u.holds) windows u
 up_hears {r} {ended} a (SuperSent which command nr flag) windows u =
     up_hears_super a which command nr flag (front_modulus (end_behind r.machine (core_set_ups ended)) u.holds)
     windows.own u
@@ -168,7 +182,7 @@ pub kind_of_up :
     → (a.modulus ≡ m.incoming.modulus → kind ≡ sent_kind a.modulus sent)
     → Invariant (between (up_end m (core_set_ups ended) (core_set_up last)) y
     (core_tagged (heard_as a kind sent) ∷ rest) to_y) → kind ≡ sent_kind a.modulus sent
-kind_of_up m ended last kind a (InfoSent ns nr packet) read same inv =
+kind_of_up m ended last kind a (InfoSent ns nr poll packet) read same inv =
     same (front_modulus (end_behind m (core_set_ups ended)) inv)
 kind_of_up m ended last kind a (SuperSent which command nr flag) read same inv =
     same (front_modulus (end_behind m (core_set_ups ended)) inv)
@@ -233,6 +247,7 @@ HearsNothing Connects = ⊤
 HearsNothing (Sends packet) = ⊤
 HearsNothing Disconnects = ⊤
 HearsNothing (Ticks still) = ⊤
+HearsNothing (Seizes last full) = ⊤
 HearsNothing (Hears f) = ⊥
 
 -- what else happens to it
@@ -244,4 +259,5 @@ asks_keep Connects {r} silent s = connect_keeps (is_some (refusal_of r.machine C
 asks_keep (Sends packet) {r} silent s = send_keeps packet (is_some (refusal_of r.machine (Send packet))) refl s
 asks_keep Disconnects {r} silent s = quit_keeps (is_some (refusal_of r.machine Disconnect)) refl s
 asks_keep (Ticks still) silent s = tick_keeps still s
+asks_keep (Seizes last full) silent s = seize_keeps last full s
 asks_keep (Hears f) silent s = absurd silent

@@ -32,7 +32,7 @@ names_by :
     (m : Machine) (ended : List SetUp) (last : SetUp) {y : End} (f : Tagged) (sent : Sent) {rest to_y : List CoreTagged}
     → m.incoming.window < m.incoming.modulus → Invariant (between (up_end m (core_set_ups ended) (core_set_up last)) y
     (core_tagged (record f { sent = sent }) ∷ rest) to_y) → names_valid m (sent_kind f.modulus sent) ≡ true
-names_by m ended last f (InfoSent ns nr packet) fits inv = valid_by m ended last refl fits inv
+names_by m ended last f (InfoSent ns nr poll packet) fits inv = valid_by m ended last refl fits inv
 names_by m ended last f (SuperSent which command nr flag) fits inv =
     valid_by m ended last (nr_of_super which nr flag) fits inv
 names_by m ended last f (SetupSent which flag) fits inv = refl

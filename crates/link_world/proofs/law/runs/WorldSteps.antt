@@ -125,7 +125,7 @@ alone_of (suc n) ahead h = elim (or_cases (suc n == 0) (suc n + ahead == 1) h) [
 ask_same :
     (modulus : ℕ) (answers : Bool) (s : Sent) → cond (asks (sent_kind modulus s)) 1 0
     ≡ ask_of (kind_of answers modulus s)
-ask_same modulus answers (InfoSent number nr packet) = refl
+ask_same modulus answers (InfoSent number nr poll packet) = refl
 ask_same modulus answers (SuperSent which command nr flag) = refl
 ask_same modulus answers (SetupSent SabmFrame flag) = refl
 ask_same modulus answers (SetupSent SabmeFrame flag) = refl
@@ -152,7 +152,7 @@ asks_flying (f ∷ fs) h = sum_by-cons (λ (g : Tagged). cond (asks g.frame.kind
 answer_same :
     (answers : Bool) (modulus : ℕ) (s : Sent) → AnswersAsSent answers s
     → cond answers 1 0 ≡ answer_of (kind_of answers modulus s)
-answer_same answers modulus (InfoSent number nr packet) h = ap (λ b. cond b 1 0) h
+answer_same answers modulus (InfoSent number nr poll packet) h = ap (λ b. cond b 1 0) h
 answer_same answers modulus (SuperSent which command nr flag) h = ap (λ b. cond b 1 0) h
 answer_same answers modulus (SetupSent SabmFrame flag) h = ap (λ b. cond b 1 0) h
 answer_same answers modulus (SetupSent SabmeFrame flag) h = ap (λ b. cond b 1 0) h

@@ -7,19 +7,19 @@ use Rattle.link_world.proofs.Common.{kind_read, frame_read, read_narrow, with_ki
 use Rattle.link_world.specs.Reading.{read_wide}
 
 abbrev pub IsReadAs : Sent → Kind → Type 0
-IsReadAs (InfoSent number nr packet) kind = is_numbered kind ≡ true
+IsReadAs (InfoSent number nr poll packet) kind = is_numbered kind ≡ true
 IsReadAs (SuperSent which command nr flag) kind = is_numbered kind ≡ true
 IsReadAs (SetupSent which flag) kind = kind ≡ Setup which flag
 
 read_self : (modulus : ℕ) (s : Sent) → IsReadAs s (sent_kind modulus s)
-read_self modulus (InfoSent number nr packet) = refl
+read_self modulus (InfoSent number nr poll packet) = refl
 read_self modulus (SuperSent which command nr flag) = refl
 read_self modulus (SetupSent which flag) = refl
 
 reads_wide : (modulus : ℕ) (s : Sent) → IfSome (read_wide (sent_kind modulus s)) (IsReadAs s)
-reads_wide modulus (InfoSent number nr packet) = go packet.octets
+reads_wide modulus (InfoSent number nr poll packet) = go packet.octets
   where
-    go : (octets : List ℕ) → IfSome (read_wide (Info (number % modulus) (nr % modulus) false packet.pid octets))
+    go : (octets : List ℕ) → IfSome (read_wide (Info (number % modulus) (nr % modulus) poll packet.pid octets))
         (λ k. is_numbered k ≡ true)
     go [] = tt
     go (pid ∷ octets) = refl
@@ -27,7 +27,7 @@ reads_wide modulus (SuperSent which command nr flag) = tt
 reads_wide modulus (SetupSent which flag) = refl
 
 reads_narrow : (modulus : ℕ) (s : Sent) → IfSome (read_narrow (sent_kind modulus s)) (IsReadAs s)
-reads_narrow modulus (InfoSent number nr packet) = go (nat_lt (length packet.octets) 256) _ refl
+reads_narrow modulus (InfoSent number nr poll packet) = go (nat_lt (length packet.octets) 256) _ refl
   where
     go : (b : Bool) (kind : Kind) → is_numbered kind ≡ true
         → IfSome (if b then Some kind else None) (λ k. is_numbered k ≡ true)

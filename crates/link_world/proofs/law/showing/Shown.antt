@@ -42,7 +42,7 @@ pub data Shown (r : RecordedEnd) : End → Type 0 where
 
 -- UA answers, DM may, and no other frame does
 abbrev pub AnswersAsSent : Bool → Sent → Type 0
-AnswersAsSent answers (InfoSent number nr packet) = answers ≡ false
+AnswersAsSent answers (InfoSent number nr poll packet) = answers ≡ false
 AnswersAsSent answers (SuperSent which command nr flag) = answers ≡ false
 AnswersAsSent answers (SetupSent SabmFrame flag) = answers ≡ false
 AnswersAsSent answers (SetupSent SabmeFrame flag) = answers ≡ false
@@ -83,7 +83,7 @@ told_given next qs c (p ∷ packets) =
 pub kind_by :
     (on_ask : Bool) (modulus : ℕ) (s : Sent)
     → kind_of (on_ask && is_answer (sent_kind modulus s)) modulus s ≡ kind_of on_ask modulus s
-kind_by on_ask modulus (InfoSent number nr packet) = refl
+kind_by on_ask modulus (InfoSent number nr poll packet) = refl
 kind_by on_ask modulus (SuperSent which command nr flag) = refl
 kind_by true modulus (SetupSent SabmFrame flag) = refl
 kind_by true modulus (SetupSent SabmeFrame flag) = refl
@@ -98,7 +98,7 @@ kind_by false modulus (SetupSent UaFrame flag) = refl
 
 -- the tag of a frame of an end that is up is the number of its last set-up
 up_tag : (modulus n : ℕ) (s : Sent) → set_up_of (sent_kind modulus s) UpState (n + 1) ≡ n
-up_tag modulus n (InfoSent number nr packet) = omega arith
+up_tag modulus n (InfoSent number nr poll packet) = omega arith
 up_tag modulus n (SuperSent which command nr flag) = omega arith
 up_tag modulus n (SetupSent which flag) = omega arith
 

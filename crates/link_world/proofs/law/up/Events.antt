@@ -123,13 +123,13 @@ origin_same false o tag = refl
 
 -- an I frame is heard
 pub up_hears_info :
-    {r : RecordedEnd} {ended : List SetUp} {last : SetUp} (a : Arrival) (ns nr : ℕ) (packet : Packet) {y : End}
-    {rest to_y : List CoreTagged} → a.modulus ≡ r.machine.incoming.modulus → WindowsOf r.machine.incoming y
-    → let f = heard_frame a (InfoSent ns nr packet) in
+    {r : RecordedEnd} {ended : List SetUp} {last : SetUp} (a : Arrival) (ns nr : ℕ) (poll : Bool) (packet : Packet)
+    {y : End} {rest to_y : List CoreTagged} → a.modulus ≡ r.machine.incoming.modulus → WindowsOf r.machine.incoming y
+    → let f = heard_frame a (InfoSent ns nr poll packet) in
     UpEnd r ended last y (core_tagged f ∷ rest) to_y
     → Keeps (Hears f) r y rest to_y (settled (hear_up (is_command_of a.path.role f.frame.kind) f.frame.kind
     (begin r.machine)))
-up_hears_info {r} {ended} {last} a ns nr packet {y} {rest} {to_y} own windows u =
+up_hears_info {r} {ended} {last} a ns nr poll packet {y} {rest} {to_y} own windows u =
     let m = r.machine in
     let i = m.incoming in
     let tag = a.set_up in
@@ -139,12 +139,12 @@ up_hears_info {r} {ended} {last} a ns nr packet {y} {rest} {to_y} own windows u 
     let read : IsRead m nr = nr_is_read refl windows.own up in
     let acted = acting tag takes last in
     let command = is_command_of a.path.role
-    (InfoKind (ns % i.modulus) (nr % i.modulus) false packet.pid packet.octets) in
-    let kind = InfoKind (ns % i.modulus) (nr % i.modulus) false packet.pid packet.octets in
+    (InfoKind (ns % i.modulus) (nr % i.modulus) poll packet.pid packet.octets) in
+    let kind = InfoKind (ns % i.modulus) (nr % i.modulus) poll packet.pid packet.octets in
     let heard : HasHeard rest tag takes g (hear_up command kind (begin m)) =
-    hear_info_heard command false windows u.sound.fit up in
+    hear_info_heard command poll windows u.sound.fit up in
     let after = getting_all heard.packets acted in
-    let f = heard_as a kind (InfoSent ns nr packet) in
+    let f = heard_as a kind (InfoSent ns nr poll packet) in
     let does : accepts m kind ≡ takes = ap (λ b. b && takes) read.valid in
     let noted : (noting (Hears f) r).set_ups ≡ ended ++ acted ∷ [] =
     ap (λ s. (hearing s f r).set_ups) u.state ∙ ap (λ b. change_last (acting tag b) r.set_ups) does
@@ -162,6 +162,6 @@ up_hears_info {r} {ended} {last} a ns nr packet {y} {rest} {to_y} own windows u 
       told = map Given heard.packets;
       incoming = heard.incoming;
     }) (hear_up command kind (begin m))) (origin_same takes last.accepted tag) heard.up in
-    subst (λ n. let k = InfoKind (ns % n) (nr % n) false packet.pid packet.octets in
-    Keeps (Hears (heard_as a k (InfoSent ns nr packet))) r y rest to_y
+    subst (λ n. let k = InfoKind (ns % n) (nr % n) poll packet.pid packet.octets in
+    Keeps (Hears (heard_as a k (InfoSent ns nr poll packet))) r y rest to_y
     (settled (hear_up (is_command_of a.path.role k) k (begin m)))) (sym own) (up_ends ends got)

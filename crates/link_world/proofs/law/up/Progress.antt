@@ -10,7 +10,7 @@ use Rattle.link_world.proofs.law.invariant.Invariant.{Invariant}
 
 -- a link that is up sends I and S frames, up to the DISC that ends it
 abbrev pub IsNumberedSent : Sent → Type 0
-IsNumberedSent (InfoSent number nr packet) = ⊤
+IsNumberedSent (InfoSent number nr poll packet) = ⊤
 IsNumberedSent (SuperSent which command nr flag) = ⊤
 IsNumberedSent (SetupSent which flag) = ⊥
 

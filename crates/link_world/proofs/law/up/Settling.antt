@@ -34,7 +34,7 @@ use Rattle.link_world.proofs.law.down.Ends.{EndsDown, down_end, down_keeps, setu
 answers_by :
     (on_ask : Bool) (modulus : ℕ) (s : Sent) → IsNumberedSent s
     → AnswersAsSent (on_ask && is_answer (sent_kind modulus s)) s
-answers_by on_ask modulus (InfoSent number nr packet) fits = and_right on_ask false refl
+answers_by on_ask modulus (InfoSent number nr poll packet) fits = and_right on_ask false refl
 answers_by on_ask modulus (SuperSent which command nr flag) fits = and_right on_ask false refl
 answers_by on_ask modulus (SetupSent which flag) fits = absurd fits
 
@@ -53,7 +53,7 @@ numbered_written on_ask r (s ∷ sent) fits =
 numbered_tag :
     (modulus n : ℕ) (state : LinkState) (s : Sent) → IsNumberedSent s
     → set_up_of (sent_kind modulus s) state (n + 1) ≡ n
-numbered_tag modulus n state (InfoSent number nr packet) fits = omega arith
+numbered_tag modulus n state (InfoSent number nr poll packet) fits = omega arith
 numbered_tag modulus n state (SuperSent which command nr flag) fits = omega arith
 numbered_tag modulus n state (SetupSent which flag) fits = absurd fits
 
@@ -75,7 +75,7 @@ flight_of_numbered on_ask r n (s ∷ sent) count fits =
     ∙ ap (λ t. core_sent on_ask n s ∷ t) (flight_of_numbered on_ask r n sent count fits.1)
 
 numbered_ask : (on_ask : Bool) (modulus : ℕ) (s : Sent) → IsNumberedSent s → ask_of (kind_of on_ask modulus s) ≡ 0
-numbered_ask on_ask modulus (InfoSent number nr packet) fits = refl
+numbered_ask on_ask modulus (InfoSent number nr poll packet) fits = refl
 numbered_ask on_ask modulus (SuperSent which command nr flag) fits = refl
 numbered_ask on_ask modulus (SetupSent which flag) fits = absurd fits
 
