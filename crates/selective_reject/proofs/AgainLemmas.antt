@@ -1,6 +1,6 @@
 -- Numbers that rise stay so when some are left out, when one is added, and when they are counted from further on.
 use Rattle.std.proofs.Common.{ℕ, ◌+◌, ◌-◌, ◌<◌, ◌≤◌, ◌≡◌, Bool, true, false, nat_lt, nat_le, List, [], ◌∷◌, ◌++◌, length}
-use Rattle.std.proofs.Common.{filter, map, drop, if◌then◌else◌, refl, sym, subst, arith}
+use Rattle.std.proofs.Common.{filter, map, drop, if◌then◌else◌, refl, subst, arith}
 use Rattle.std.proofs.lemmas.Bool.{ltb-true, leb-true}
 use Rattle.selective_reject.specs.Again.{RisesBelow, with_number, numbers_from}
 

@@ -1,4 +1,4 @@
-use Rattle.std.proofs.Common.{◌≡◌, ◌-◌, ◌≤◌, subst, sym, arith}
+use Rattle.std.proofs.Common.{◌-◌, subst, sym, arith}
 use Rattle.selective_reject.specs.Again.{RisesBelow, numbers_from}
 use Rattle.selective_reject.proofs.AgainLemmas.{rises_from, rises_lower}
 use Rattle.selective_reject.proofs.asked_again.AskedAgain.acknowledge.Goals as goal

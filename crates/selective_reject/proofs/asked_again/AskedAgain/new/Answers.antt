@@ -1,4 +1,4 @@
-use Rattle.std.proofs.Common.{◌≡◌, [], subst, sym, arith}
+use Rattle.std.proofs.Common.{subst, sym, arith}
 use Rattle.selective_reject.specs.Again.{RisesBelow}
 use Rattle.selective_reject.proofs.asked_again.AskedAgain.new.Goals as goal
 
