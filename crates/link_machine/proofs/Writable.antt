@@ -345,7 +345,7 @@ keeps_info n ns flag packet t h =
 -- the channel takes a frame
 keeps_poll_anew : Keeps poll_anew
 keeps_poll_anew t h =
-    sound_if t.now.control.open _ _ (keeps_recover_with t.now.control.rc t h) (keeps_setting asking t h)
+    sound_if t.now.control.by_info _ _ (keeps_recover_with t.now.control.rc t h) (keeps_setting asking t h)
 
 keeps_after_passing : (full : Bool) → Keeps (after_passing full)
 keeps_after_passing full t h = sound_if (t.now.control.poll && not full) _ t (keeps_poll_anew t h) h

@@ -1,5 +1,6 @@
 -- The frames that a link hears, by state (AX.25 2.2 sections 6.3 to 6.5).
 use Rattle.std.specs.Prelude.{ℕ, ◌/◌, Bool, true, false, nat_lt, ◌==◌, not, ◌&&◌, ◌||◌, if◌then◌else◌, [], ◌∷◌, None}
+use Rattle.std.specs.Prelude.{Some}
 use Rattle.ax25_frames.specs.declared.frame.Kind.{Kind}
 use Rattle.ax25_frames.specs.declared.frame.Kind.TheVariants.{Info, Super, Setup, Ui, Other}
 use Rattle.ax25_frames.specs.declared.frame.S.{S}

@@ -1,4 +1,5 @@
--- What a link keeps in one event, act by act. No public clause Rattle.std.specs.Prelude.{All, ◌≤◌, ◌-◌, replicate, Result, Ok, Err, ◌≡◌, ℕ, Bool, false, ◌||◌, length, if◌then◌else◌}
+-- What a link keeps in one event, act by act. No public clause speaks of this.
+use Rattle.std.specs.Prelude.{All, ◌≤◌, ◌-◌, replicate, Result, Ok, Err, ◌≡◌, ℕ, Bool, false, ◌||◌, length, if◌then◌else◌}
 use Rattle.std.specs.Prelude.{slice_get, Option, Some, None}
 use Rattle.selective_reject.specs.Outgoing.{IsOutgoing, first_again}
 use Rattle.selective_reject.specs.Incoming.{Incoming, IsIncoming}

@@ -234,7 +234,7 @@ info n ns flag packet t =
 
 polls_anew : (t : Turn) → Traffic t (poll_anew t)
 polls_anew t =
-    either (Traffic t) t.now.control.open (recover_with t.now.control.rc t) (setting asking t)
+    either (Traffic t) t.now.control.by_info (recover_with t.now.control.rc t) (setting asking t)
     (recovers_with t.now.control.rc t) (sets (asking t.now.control) none (refl, refl))
 
 passes : (full : Bool) (t : Turn) → Traffic t (after_passing full t)
