@@ -31,7 +31,7 @@ A>B I cmd ns=0 nr=4 p=0 pid=f0 len=1 00,\
 A>B I cmd ns=1 nr=4 p=0 pid=f0 len=1 01,\
 A>B I cmd ns=2 nr=4 p=0 pid=f0 len=1 02,\
 A>B I cmd ns=3 nr=4 p=1 pid=f0 len=1 03,
-sends/6 turns/4 RR/4/1 hears/3 I/3/4/1 turns/4 | A>B RR rsp nr=4 f=1,\
+sends/6 turns/4 RR/4/1 I/0/4/0 I/1/4/0 I/2/4/0 I/3/4/1 turns/4 | A>B RR rsp nr=4 f=1,\
 A>B I cmd ns=4 nr=4 p=0 pid=f0 len=1 04,\
 A>B I cmd ns=5 nr=4 p=0 pid=f0 len=1 05,
 sends/6 turns/4 hears/3 I/3/0/1 turns/6 | A>B RR rsp nr=4 f=1,\
