@@ -148,7 +148,7 @@ vr_lies_ahead held m ns h =
     ∙ ap (λ d. nat_lt d (m.incoming.modulus / 2)) (ahead-mod m.incoming.modulus m.incoming.vr ns)
 
 -- V(S) lies from V(A) to the top, also in whole numbers
-in_number_order : (held o : Outgoing) → IsOutgoing held → StandsForOutgoing held o → (o.va ≤ o.vs) × (o.vs ≤ o.top)
+pub in_number_order : (held o : Outgoing) → IsOutgoing held → StandsForOutgoing held o → (o.va ≤ o.vs) × (o.vs ≤ o.top)
 in_number_order held o formed stands =
     let a : held.va ≤ held.vs = formed.vs in
     let b : held.vs ≤ held.top = formed.top in

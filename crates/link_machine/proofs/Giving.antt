@@ -1,9 +1,13 @@
 -- Which frame a link gives, and which packet goes with it.
-use Rattle.link_machine.proofs.Common.{◌≡◌, ℕ, ◌-◌, Bool, true, false, if◌then◌else◌, ◌||◌, refl, sym, ◌∙◌, ap, Option, Some}
+use Rattle.link_machine.proofs.Common.{◌≡◌, ℕ, ◌-◌, Bool, true, false, if◌then◌else◌, refl, sym, ◌∙◌, ap, Option, Some}
 use Rattle.link_machine.proofs.Common.{None, is_some, slice_get, false≢true, cond-true, cond-false, Packet, Machine, Turn}
 use Rattle.link_machine.proofs.Common.{is_missing_some, is_asked_again, may_send_info, next_missing, polled_packet}
 use Rattle.link_machine.proofs.Common.{send_frame, send_rej, send_srej, send_answer, send_poll, send_again, send_next}
-use Rattle.link_machine.proofs.Common.{send_due, carried, setting, nothing_due, sending, SuperSent, Rr, in_order}
+use Rattle.link_machine.proofs.Common.{send_due, carried}
+use Rattle.link_machine.proofs.Common.{◌+◌, ◌<◌, ◌&&◌, not, nat_lt, min, length, arith, inl, inr, lt-ltb}
+use Rattle.std.specs.Prelude.{◌||◌}
+use Rattle.std.proofs.lemmas.Bool.{cases_lt, le-ltb}
+use Rattle.std.proofs.lemmas.Option.{slice_get_past}
 use Rattle.selective_reject.specs.Outgoing.{first_again}
 use Rattle.link_machine.specs.Held.{packet_ahead}
 
@@ -89,3 +93,25 @@ carries_next m h again e = info_of m h.owes ∙ cond-false _ _ _ h.ask ∙ cond-
 pub carries_nothing : (m : Machine) → AsksNone m → is_asked_again m ≡ false → may_send_info m ≡ false
     → carried m ≡ None
 carries_nothing m h again e = info_of m h.owes ∙ cond-false _ _ _ h.ask ∙ cond-false _ _ _ again ∙ cond-false _ _ _ e
+
+-- the packet so far ahead of V(A), if nothing goes before it and the window allows it
+pub carries_at :
+    (m : Machine) (sent : ℕ) → AsksNone m → is_asked_again m ≡ false → m.control.busy ≡ false
+    → m.control.poll ≡ false → m.outgoing.vs ≡ m.outgoing.va + sent → sent < m.incoming.window
+    → carried m ≡ slice_get m.outgoing.packets sent
+carries_at m sent asks again busy poll vs within =
+    let o = m.outgoing in
+    let reach : ℕ = o.va + min m.incoming.window (length o.packets) in
+    let free : not (m.control.busy || m.control.poll) ≡ true =
+    ap (λ b. not (b || m.control.poll)) busy ∙ ap not poll in
+    let place : o.vs - o.va ≡ sent = omega (arith, vs) in
+    elim (cases_lt sent (length o.packets)) [
+      | inl there ↦
+          let may : may_send_info m ≡ true =
+          ap (λ b. b && nat_lt o.vs reach) free ∙ lt-ltb o.vs reach (omega (arith, vs, within, there)) in
+          carries_next m asks again may ∙ ap (slice_get o.packets) place
+      | inr past ↦
+          let none : may_send_info m ≡ false =
+          ap (λ b. b && nat_lt o.vs reach) free ∙ le-ltb o.vs reach (omega (arith, vs, past)) in
+          carries_nothing m asks again none ∙ sym (slice_get_past o.packets sent past)
+    ]

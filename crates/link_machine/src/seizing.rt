@@ -1,15 +1,15 @@
 //! The frame that a link gives when the channel takes one.
 ghost use Rattle.std.specs.Option.{option_copied};
-ghost use Rattle.std.specs.Prelude.{◌≡◌, ℕ, true, slice_get, ◌-◌, ◌%◌, ◌<◌, ◌≤◌, Some, if◌then◌else◌, IfOk};
+ghost use Rattle.std.specs.Prelude.{◌≡◌, ℕ, true, slice_get, ◌+◌, ◌-◌, ◌%◌, ◌<◌, ◌≤◌, Some, if◌then◌else◌, IfOk};
 ghost use Rattle.selective_reject.specs.Incoming.{next_missing};
-ghost use Rattle.selective_reject.specs.Outgoing.{back, first_again};
+ghost use Rattle.selective_reject.specs.Outgoing.{Outgoing, back, first_again};
 ghost use Rattle.link_machine.specs.declared.state.LinkState.TheVariants.{Up};
 ghost use Rattle.link_machine.specs.Machine.{Machine as State, with_control};
 ghost use Rattle.link_machine.specs.Sent.Sent.{InfoSent};
-ghost use Rattle.link_machine.specs.Turn.{Turn, sending};
+ghost use Rattle.link_machine.specs.Turn.{Turn, changing, sending};
 ghost use Rattle.link_machine.specs.Wants.{wants, may_send_info, can_send_info, has_more};
 ghost use Rattle.link_machine.specs.Seizing.{send_rej, send_srej, send_answer, send_poll, send_again, send_next};
-ghost use Rattle.link_machine.specs.Seizing.{send_frame, seize, polls, polled_packet, short_packet, left_with};
+ghost use Rattle.link_machine.specs.Seizing.{send_info, send_frame, seize, polls, polled_packet, short_packet, left_with};
 ghost use Rattle.link_machine.specs.Room.{frames_left, Uses};
 ghost use Rattle.link_machine.specs.Held.{IsLink, IsWhole, Holds, Shows, Makes, carried};
 
@@ -270,11 +270,7 @@ impl Machine {
     {
         let ns = self.outgoing.number(self.incoming.modulus(), place);
         self.outgoing.take_again();
-        let poll = self.polls(last, full);
-        self.control.send_info(poll);
-        if let Some(packet) = packet {
-            self.send_packet(room, ns, poll, packet);
-        }
+        self.send_info(room, ns, last, full, packet);
     }
 
     /// Number V(S), which rises.
@@ -292,6 +288,19 @@ impl Machine {
         let Some(ns) = self.outgoing.next(modulus, window) else {
             return;
         };
+        self.send_info(room, ns, last, full, packet);
+    }
+
+    /// An I frame with the number `ns`, which has left what waits, and what becomes of the timers.
+    fn send_info(&mut self, room: &mut Room, ns: u8, last: bool, full: bool, packet: Option<Packet>)
+        requires { 1 ≤ frames_left room.old }
+        ensures shows { (t : Turn) (place : ℕ) (left : Outgoing)
+            → Shows self.old room.old (changing (left_with left) t) → ns
+            ≡ (t.now.outgoing.va + place) % self.old.incoming.modulus → packet
+            ≡ slice_get t.now.outgoing.packets place → Shows self.new room.new (send_info last full place left t) }
+        ensures uses { Uses room.old room.new 1 0 }
+        ensures quit { self.new.control.quit ≡ self.old.control.quit }
+    {
         let poll = self.polls(last, full);
         self.control.send_info(poll);
         if let Some(packet) = packet {
