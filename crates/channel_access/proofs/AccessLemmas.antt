@@ -1,7 +1,7 @@
 -- A tick of the whole channel.
-use Rattle.channel_access.proofs.Common.{◌≡◌, ℕ, ◌≤◌, Bool, true, false, cond, eqb, Option, Some, None, is_some, List}
-use Rattle.channel_access.proofs.Common.{[], ◌∷◌, length, refl, ap, ◌∙◌, sym, subst, inl, inr, arith, All, le-max_left}
-use Rattle.channel_access.proofs.Common.{cases_Bool, cond-true, Lcg, Parameters, Sending, opening_flags, WaitingFrame}
+use Rattle.channel_access.proofs.Common.{◌≡◌, ℕ, ◌≤◌, Bool, true, false, cond, Option, Some, None, is_some, List}
+use Rattle.channel_access.proofs.Common.{[], ◌∷◌, refl, ap, ◌∙◌, sym, subst, arith, All, le-max_left}
+use Rattle.channel_access.proofs.Common.{Sending, opening_flags, WaitingFrame}
 use Rattle.channel_access.proofs.Common.{HasFrameLength, OnAir, bits_then, decided, with_tick, Channel, decision, begun}
 use Rattle.channel_access.proofs.Common.{air_samples, air_sent, air_waiting, air_after, air_tick, after_tick, Takes}
 use Rattle.channel_access.proofs.Common.{Held, new_sending, run_of, going_on, held_tick, StandsFor, StandsForAir, Goes}
@@ -10,7 +10,6 @@ use Rattle.channel_access.specs.Held.{held_after}
 use Rattle.channel_access.specs.HeldTurns.{listening_of}
 use Rattle.channel_access.specs.Happenings.{Happening}
 use Rattle.channel_access.specs.Happenings.Happening.{Heard, Ticked}
-use Rattle.std.proofs.lemmas.Bool.{eqb-false}
 use Rattle.channel_access.specs.Channel.{Decision}
 use Rattle.channel_access.specs.HeldTick.{held_samples, held_sent, after_held_send, after_held_tick}
 use Rattle.channel_access.proofs.BodyLemmas.{flags-is}

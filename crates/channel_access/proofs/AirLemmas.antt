@@ -3,7 +3,7 @@ use Rattle.channel_access.proofs.Common.{◌≡◌, ℕ, ◌+◌, ◌-◌, ◌*�
 use Rattle.channel_access.proofs.Common.{Option, Some, None, ℤ, pos, List, [], ◌∷◌, ◌++◌, length, take, drop, replicate}
 use Rattle.channel_access.proofs.Common.{refl, ap, ◌∙◌, sym, subst, inl, inr, arith, length-append, append_assoc}
 use Rattle.channel_access.proofs.Common.{append-nil, All, le-max_left, cases_Bool, cond-true, cond-false, le-leb}
-use Rattle.channel_access.proofs.Common.{lt-leb, replicate-append-replicate, All-head, wave_from, wave, line}
+use Rattle.channel_access.proofs.Common.{lt-leb, replicate-append-replicate, wave_from, wave, line}
 use Rattle.channel_access.proofs.Common.{transmission, Mark, flags, body, frame_bits, Sending, Stage, Opening, Frame}
 use Rattle.channel_access.proofs.Common.{Following, Closing, Over, WaitingFrame, HasFrameLength, OnAir, bits_then}
 use Rattle.channel_access.proofs.Common.{bits_of, samples_on_air, decided, followed_by, has_sent_frames, names_next}
@@ -18,7 +18,7 @@ use Rattle.afsk_modulator.proofs.WaveLemmas.{wave_from-append}
 use Rattle.channel_access.proofs.BodyLemmas.{length-flag_rest, body-more_closing, body-push}
 use Rattle.channel_access.proofs.FrameLemmas.{next_given}
 use Rattle.channel_access.proofs.StageLemmas.{now_at, by_test, same_now, same_waiting, frames_go_on, frames_ended}
-use Rattle.channel_access.proofs.StageLemmas.{flag_goes_on, all_named, flag_end-last, frames_end-next, flag_there_at}
+use Rattle.channel_access.proofs.StageLemmas.{flag_goes_on, all_named, frames_end-next, flag_there_at}
 use Rattle.channel_access.proofs.StageLemmas.{opening_bits, opening_end, opening_named}
 use Rattle.channel_access.proofs.SendingLemmas.{padded, padded-full, length-padded}
 use Rattle.channel_access.proofs.JoinLemmas.{may_come, end_later, flag_not_yet}

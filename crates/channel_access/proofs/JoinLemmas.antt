@@ -1,7 +1,7 @@
 -- Bits of one tick: what is decided and named bit by bit is what is decided and named at its end. Frames are
 -- longer than a tick, so a tick sees at most one end of a frame and one flag after a frame.
 use Rattle.channel_access.proofs.Common.{◌≡◌, ℕ, ◌+◌, ◌<◌, ◌≤◌, ◌⊎◌, Bool, true, false, not, ◌&&◌, leb, ltb, List, []}
-use Rattle.channel_access.proofs.Common.{◌∷◌, ◌++◌, length, drop, refl, ap, ◌∙◌, sym, subst, inl, inr, arith}
+use Rattle.channel_access.proofs.Common.{◌∷◌, ◌++◌, length, refl, ap, ◌∙◌, sym, subst, inl, inr, arith}
 use Rattle.channel_access.proofs.Common.{length-append, append-nil, All, cases_Bool, cond-true, cond-false, leb-true}
 use Rattle.channel_access.proofs.Common.{leb-false, All-head, All-tail, body, FrameBits, Stage, Opening, Frame}
 use Rattle.channel_access.proofs.Common.{Following, Closing, Over, WaitingFrame, HasFrameLength, OnAir, most_frames}

@@ -1,11 +1,11 @@
 -- Whether the channel takes a frame of a link in the next tick.
 use Rattle.channel_access.proofs.Common.{◌≡◌, ℕ, ◌+◌, ◌*◌, ◌≤◌, ◌<◌, Bool, true, false, not, ◌&&◌, leb, ltb, eqb, Option}
-use Rattle.channel_access.proofs.Common.{Some, None, List, [], ◌∷◌, ◌++◌, length, drop, refl, ap, ◌∙◌, sym, subst, arith}
+use Rattle.channel_access.proofs.Common.{Some, None, List, [], ◌∷◌, length, drop, refl, ap, ◌∙◌, sym, arith}
 use Rattle.channel_access.proofs.Common.{length-append, All, All-head, All-tail, cases_Bool, leb-true, leb-false, inl, inr}
 use Rattle.channel_access.proofs.Common.{Sending, Stage, Opening, Frame, Following, Closing, Over, WaitingFrame}
 use Rattle.channel_access.proofs.Common.{HasFrameLength, OnAir, bits_then, has_sent_frames, most_frames, waiting_after}
 use Rattle.channel_access.proofs.Common.{frames_end, Held, StandsFor, StandsForAir, Goes, Stands, Counts, frame_rest}
-use Rattle.channel_access.proofs.Common.{Channel, body, frame_bits}
+use Rattle.channel_access.proofs.Common.{Channel}
 use Rattle.std.specs.List.{list_any}
 use Rattle.channel_access.specs.Channel.{is_of_link, takes_on_air, takes_frame, is_last_on_air, takes_last}
 use Rattle.channel_access.specs.HeldTaking.{ends_in_tick, on_air_in, sender_takes, held_takes, held_takes_last}

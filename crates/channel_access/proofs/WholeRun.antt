@@ -1,11 +1,11 @@
 -- The ticks of a transmission from its first one on are one transmission.
 use Rattle.channel_access.proofs.Common.{◌≡◌, ℕ, ◌+◌, ◌-◌, ◌*◌, ◌/◌, ◌<◌, ◌≤◌, ◌⊎◌, Bool, true, false, cond, leb}
-use Rattle.channel_access.proofs.Common.{Option, Some, None, is_some, pos, List, [], ◌∷◌, ◌++◌, length, take, get_or}
+use Rattle.channel_access.proofs.Common.{Option, Some, None, is_some, pos, List, [], ◌∷◌, ◌++◌, length, get_or}
 use Rattle.channel_access.proofs.Common.{replicate, refl, ap, ◌∙◌, sym, subst, inl, inr, arith, append_assoc}
 use Rattle.channel_access.proofs.Common.{append-nil, length-append, cases_Bool, take_all, flat_map-append, All-nil}
 use Rattle.channel_access.proofs.Common.{All-head, All-tail, All-push, le-max_left, line, wave, body, HasFrameLength}
 use Rattle.channel_access.proofs.Common.{transmission, AirTick, Sending, Stage, Opening, Frame, Following, Closing}
-use Rattle.channel_access.proofs.Common.{Over, Lcg, Parameters, opening_flags, closing_flags, WaitingFrame, OnAir}
+use Rattle.channel_access.proofs.Common.{Over, opening_flags, closing_flags, WaitingFrame, OnAir}
 use Rattle.channel_access.proofs.Common.{bits_of, bits_then, decided, names_next, flag_end, frame_named, tick_samples}
 use Rattle.channel_access.proofs.Common.{with_tick, Channel, decision, begun, air_samples, air_sent, air_waiting}
 use Rattle.channel_access.proofs.Common.{air_after, air_tick, after_tick, new_sending, stage_over, run_of, Stands}
@@ -16,7 +16,6 @@ use Rattle.channel_access.specs.WholeTransmission.{Call, after_call, after_calls
 use Rattle.channel_access.specs.WholeTransmission.{joining, AreFrames, samples_in, AreOneTransmission}
 use Rattle.channel_access.specs.WholeTransmission.{SendOneTransmission}
 use Rattle.channel_access.specs.WholeTransmission.Call.{Queues, Sets, Hears}
-use Rattle.channel_access.specs.Happenings.{Happening}
 use Rattle.channel_access.specs.Happenings.Happening.{Ticked}
 use Rattle.channel_access.proofs.OrderLemmas.{decided_frames, air_takes}
 use Rattle.channel_access.proofs.StageLemmas.{now_at, waiting_at}

@@ -1,4 +1,4 @@
-use Rattle.channel_access.proofs.Common.{◌≡◌, ◌∙◌, sym, arith, length, le-leb, frame_rest}
+use Rattle.channel_access.proofs.Common.{◌∙◌, sym, arith, length, le-leb, frame_rest}
 use Rattle.channel_access.proofs.FrameLemmas.{fewer_left, none_left, some_left, all_counted}
 use Rattle.channel_access.proofs.frame_bits.FrameBits.end_within.Goals as goal
 
