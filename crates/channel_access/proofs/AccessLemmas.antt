@@ -1,7 +1,7 @@
 -- A tick of the whole channel.
-use Rattle.channel_access.proofs.Common.{◌≡◌, ℕ, ◌≤◌, Bool, true, false, cond, eqb, Option, Some, None, is_some, List}
-use Rattle.channel_access.proofs.Common.{[], ◌∷◌, length, refl, ap, ◌∙◌, sym, subst, inl, inr, arith, All, le-max_left}
-use Rattle.channel_access.proofs.Common.{cases_Bool, cond-true, Lcg, Parameters, Sending, opening_flags, WaitingFrame}
+use Rattle.channel_access.proofs.Common.{◌≡◌, ℕ, ◌≤◌, Bool, true, false, cond, Option, Some, None, is_some, List}
+use Rattle.channel_access.proofs.Common.{[], ◌∷◌, refl, ap, ◌∙◌, sym, subst, arith, All, le-max_left}
+use Rattle.channel_access.proofs.Common.{Sending, opening_flags, WaitingFrame}
 use Rattle.channel_access.proofs.Common.{HasFrameLength, OnAir, bits_then, decided, with_tick, Channel, decision, begun}
 use Rattle.channel_access.proofs.Common.{air_samples, air_sent, air_waiting, air_after, air_tick, after_tick, Takes}
 use Rattle.channel_access.proofs.Common.{Held, new_sending, run_of, going_on, held_tick, StandsFor, StandsForAir, Goes}
@@ -10,7 +10,6 @@ use Rattle.channel_access.specs.Held.{held_after}
 use Rattle.channel_access.specs.HeldTurns.{listening_of}
 use Rattle.channel_access.specs.Happenings.{Happening}
 use Rattle.channel_access.specs.Happenings.Happening.{Heard, Ticked}
-use Rattle.std.proofs.lemmas.Bool.{eqb-false}
 use Rattle.channel_access.specs.Channel.{Decision}
 use Rattle.channel_access.specs.HeldTick.{held_samples, held_sent, after_held_send, after_held_tick}
 use Rattle.channel_access.proofs.BodyLemmas.{flags-is}
@@ -19,21 +18,11 @@ use Rattle.channel_access.proofs.StageLemmas.{now_at}
 use Rattle.channel_access.proofs.TickLemmas.{all_waiting}
 use Rattle.channel_access.proofs.AirLemmas.{at_end, run_samples, run_sent, run_air}
 
--- a new transmission, if a frame waits
-unfoldable pub begins : (parameters : Parameters) (waiting : List WaitingFrame) (generator : Lcg) (slot : ℕ)
-    (past : List Happening) → 1 ≤ length waiting
-    → Goes (new_sending parameters) waiting (begun (record {
-      waiting = waiting;
-      parameters = parameters;
-      generator = generator;
-      slot = slot;
-      air = None;
-      past = past;
-    }))
+-- a new transmission
+unfoldable pub begins : (channel : Channel) → Goes (new_sending channel.parameters) channel.waiting (begun channel)
 unfolding new_sending
-begins parameters [] generator slot past some = absurd (omega arith)
-begins parameters (front ∷ others) generator slot past some =
-    let opening : ℕ = opening_flags parameters.tx_delay in
+begins channel =
+    let opening : ℕ = opening_flags channel.parameters.tx_delay in
     let two : 2 ≤ opening = le-max_left 2 _ in
     record {
       sent = [];
@@ -146,48 +135,32 @@ pub stands_heard : (ours : Bool) (held : Held) (channel : Channel) → StandsFor
 stands_heard ours held channel h = stands_after (Heard ours) channel.past held channel h
 
 -- a tick of what is kept is the tick of the channel
-pub record IsTick (busy : Bool) (held : Held) (channel : Channel) : Type 0 where
-  pub order : Takes (air_tick busy channel).sent channel.waiting (after_tick busy channel).waiting
-  pub tick : held_tick busy channel.past held ≡ air_tick busy channel
-  pub after : StandsFor (after_held_tick busy channel.past held) (after_tick busy channel)
-
--- a transmission begins only when a frame waits
-pub some_wait : (busy : Bool) (channel : Channel) → (decision busy channel).begins ≡ true → 1 ≤ length channel.waiting
-some_wait busy channel begins =
-    elim (cases_Bool (eqb (length channel.waiting) 0)) [
-      | inl none ↦
-          let never : (decision busy channel).begins ≡ false =
-          ap (λ (d : Decision). d.begins) (cond-true (eqb (length channel.waiting) 0) _ _ none) in
-          let both : true ≡ false = sym begins ∙ never in
-          cc
-      | inr some ↦
-          let ne : length channel.waiting ≡ 0 → ⊥ = eqb-false (length channel.waiting) 0 some in
-          omega arith
-    ]
+pub record IsTick (busy wants : Bool) (held : Held) (channel : Channel) : Type 0 where
+  pub order : Takes (air_tick busy wants channel).sent channel.waiting (after_tick busy wants channel).waiting
+  pub tick : held_tick busy wants channel.past held ≡ air_tick busy wants channel
+  pub after : StandsFor (after_held_tick busy wants channel.past held) (after_tick busy wants channel)
 
 -- the decision of a tick at rest, d, channel being the channel with it
-rest_tick : (busy : Bool) (channel : Channel) (d : Decision) (b : Bool) → (b ≡ true → 1 ≤ length channel.waiting)
-    → All (λ frame. HasFrameLength frame.octets) channel.waiting
+rest_tick : (channel : Channel) (d : Decision) (b : Bool) → All (λ frame. HasFrameLength frame.octets) channel.waiting
     → SendsTick (cond b (Some (new_sending channel.parameters)) None) channel.waiting
     (cond b (Some (begun channel)) None)
     (record (held_of channel (cond b (Some (new_sending channel.parameters)) None))
     { slot = d.slot; generator = d.generator })
     (record channel { slot = d.slot; generator = d.generator; air = cond b (Some (begun channel)) None })
-rest_tick busy channel d true some fit =
+rest_tick channel d true fit =
     sends_tick (Some (new_sending channel.parameters)) (Some (begun channel))
-    (record channel { slot = d.slot; generator = d.generator; air = Some (begun channel) }) fit
-    (begins channel.parameters channel.waiting channel.generator channel.slot channel.past (some refl))
-rest_tick busy channel d false some fit =
+    (record channel { slot = d.slot; generator = d.generator; air = Some (begun channel) }) fit (begins channel)
+rest_tick channel d false fit =
     sends_tick None None (record channel { slot = d.slot; generator = d.generator; air = None }) fit tt
 
-is_tick : (busy : Bool) (channel : Channel) (s : Option Sending) (air : Option OnAir)
+is_tick : (busy wants : Bool) (channel : Channel) (s : Option Sending) (air : Option OnAir)
     → All (λ frame. HasFrameLength frame.octets) channel.waiting → StandsForAir s channel.waiting air
-    → IsTick busy (held_of channel s) (record channel { air = air })
-is_tick busy channel None None fit h =
-    let d : Decision = decision busy (record channel { air = None }) in
+    → IsTick busy wants (held_of channel s) (record channel { air = air })
+is_tick busy wants channel None None fit h =
+    let d : Decision = decision busy wants (record channel { air = None }) in
     let now : Option Sending = cond d.begins (Some (new_sending channel.parameters)) None in
     let air : Option OnAir = cond d.begins (Some (begun channel)) None in
-    let r = rest_tick busy channel d d.begins (some_wait busy channel) fit in
+    let r = rest_tick channel d d.begins fit in
     let same : is_some now ≡ is_some air = both_some d.begins in
     let then : Channel = record channel {
       slot = d.slot;
@@ -196,7 +169,7 @@ is_tick busy channel None None fit h =
       air = air_after channel.waiting air;
     } in
     record {
-      order = rest_takes d.begins (some_wait busy channel);
+      order = rest_takes d.begins;
       tick =
           ap (λ x. record { samples = x; began = is_some now; sent = held_sent now channel.waiting }) r.samples
           ∙ ap (λ x. record {
@@ -205,28 +178,27 @@ is_tick busy channel None None fit h =
             sent = held_sent now channel.waiting;
           }) same
           ∙ ap (λ x. record { samples = air_samples channel.waiting air; began = is_some air; sent = x }) r.sent;
-      after = subst (λ own. StandsFor (after_held_tick busy channel.past (held_of channel None))
+      after = subst (λ own. StandsFor (after_held_tick busy wants channel.past (held_of channel None))
           (record then { past = Ticked busy own own ∷ channel.past })) same
           (stands_after (Ticked busy (is_some now) (is_some now)) channel.past
           (after_held_send now (record (held_of channel now)
           { slot = d.slot; generator = d.generator })) then r.after);
     }
   where
-    rest_takes : (b : Bool) → (b ≡ true → 1 ≤ length channel.waiting)
+    rest_takes : (b : Bool)
         → Takes (air_sent channel.waiting (cond b (Some (begun channel)) None)) channel.waiting
         (air_waiting channel.waiting (cond b (Some (begun channel)) None))
-    rest_takes true some =
-        air_takes (Some (new_sending channel.parameters)) channel.waiting (Some (begun channel))
-        (begins channel.parameters channel.waiting channel.generator channel.slot channel.past (some refl))
-    rest_takes false some = refl
+    rest_takes true =
+        air_takes (Some (new_sending channel.parameters)) channel.waiting (Some (begun channel)) (begins channel)
+    rest_takes false = refl
 
     both_some : (b : Bool) → is_some (cond b (Some (new_sending channel.parameters)) None)
         ≡ is_some (cond b (Some (begun channel)) None)
     both_some true = refl
     both_some false = refl
-is_tick busy channel None (Some t) fit h = absurd h
-is_tick busy channel (Some s) None fit h = absurd h
-is_tick busy channel (Some s) (Some t) fit h =
+is_tick busy wants channel None (Some t) fit h = absurd h
+is_tick busy wants channel (Some s) None fit h = absurd h
+is_tick busy wants channel (Some s) (Some t) fit h =
     let r = sends_tick (Some s) (Some t) (record channel { air = Some t }) fit h in
     record {
       order = air_takes (Some s) channel.waiting (Some t) h;
@@ -240,7 +212,8 @@ is_tick busy channel (Some s) (Some t) fit h =
           }) r.after;
     }
 
-pub tick_of : (busy : Bool) (held : Held) (channel : Channel) → StandsFor held channel → IsTick busy held channel
-tick_of busy held channel h =
-    let P : Held → Type 0 = λ k. IsTick busy k channel in
-    subst P (sym (held-is held channel h)) (is_tick busy channel held.sending channel.air h.lengths h.air)
+pub tick_of : (busy wants : Bool) (held : Held) (channel : Channel) → StandsFor held channel
+    → IsTick busy wants held channel
+tick_of busy wants held channel h =
+    let P : Held → Type 0 = λ k. IsTick busy wants k channel in
+    subst P (sym (held-is held channel h)) (is_tick busy wants channel held.sending channel.air h.lengths h.air)

@@ -3,23 +3,23 @@ use Rattle.channel_access.proofs.Common.{◌≡◌, ℕ, ◌+◌, ◌-◌, ◌*�
 use Rattle.channel_access.proofs.Common.{Option, Some, None, ℤ, pos, List, [], ◌∷◌, ◌++◌, length, take, drop, replicate}
 use Rattle.channel_access.proofs.Common.{refl, ap, ◌∙◌, sym, subst, inl, inr, arith, length-append, append_assoc}
 use Rattle.channel_access.proofs.Common.{append-nil, All, le-max_left, cases_Bool, cond-true, cond-false, le-leb}
-use Rattle.channel_access.proofs.Common.{lt-leb, replicate-append-replicate, All-head, wave_from, wave, line}
+use Rattle.channel_access.proofs.Common.{lt-leb, replicate-append-replicate, wave_from, wave, line}
 use Rattle.channel_access.proofs.Common.{transmission, Mark, flags, body, frame_bits, Sending, Stage, Opening, Frame}
 use Rattle.channel_access.proofs.Common.{Following, Closing, Over, WaitingFrame, HasFrameLength, OnAir, bits_then}
 use Rattle.channel_access.proofs.Common.{bits_of, samples_on_air, decided, followed_by, has_sent_frames, names_next}
 use Rattle.channel_access.proofs.Common.{with_named, frame_named, tick_samples, with_tick, most_frames, Run, tick_start}
 use Rattle.channel_access.proofs.Common.{stage_over, run_of, going_on, Stands, Counts, Sends, Goes, StandsForAir}
-use Rattle.channel_access.proofs.Common.{flag_rest, frame_rest}
+use Rattle.channel_access.proofs.Common.{flag_rest, frame_rest, waiting_after}
 use Rattle.std.proofs.Math.Seq.{take-append_seam, drop-append_seam}
 use Rattle.nrzi_bits.specs.Line.{line_from, last_from}
 use Rattle.nrzi_bits.proofs.LineLemmas.{line_from-append}
 use Rattle.afsk_modulator.specs.Phase.{phase_from}
 use Rattle.afsk_modulator.proofs.WaveLemmas.{wave_from-append}
-use Rattle.channel_access.proofs.BodyLemmas.{length-flag_rest, body-more_closing, body-single, body-push}
+use Rattle.channel_access.proofs.BodyLemmas.{length-flag_rest, body-more_closing, body-push}
 use Rattle.channel_access.proofs.FrameLemmas.{next_given}
 use Rattle.channel_access.proofs.StageLemmas.{now_at, by_test, same_now, same_waiting, frames_go_on, frames_ended}
-use Rattle.channel_access.proofs.StageLemmas.{flag_goes_on, all_named, flag_end-last, frames_end-next, flag_there_at}
-use Rattle.channel_access.proofs.StageLemmas.{opening_end}
+use Rattle.channel_access.proofs.StageLemmas.{flag_goes_on, all_named, frames_end-next, flag_there_at}
+use Rattle.channel_access.proofs.StageLemmas.{opening_bits, opening_end, opening_named}
 use Rattle.channel_access.proofs.SendingLemmas.{padded, padded-full, length-padded}
 use Rattle.channel_access.proofs.JoinLemmas.{may_come, end_later, flag_not_yet}
 use Rattle.channel_access.proofs.TickLemmas.{AtBit, sent_at, bits_more, all_waiting}
@@ -48,14 +48,11 @@ never is = cc
 
 pub is_left : (stage : Stage) (waiting : List WaitingFrame) (t : OnAir) (sent : List Bool) → Stands stage waiting t sent
     → All (λ frame. HasFrameLength frame.octets) waiting → 1 ≤ t.closing → (rest : List Bool) × IsLeft stage t sent rest
-is_left (Opening left) [] t sent h fit closes = absurd h
-is_left (Opening left) (front ∷ others) t sent h fit closes = (
-  flag_rest left ++ frame_bits front.octets,
+is_left (Opening left) waiting t sent h fit closes = (
+  flag_rest left,
   record {
-    whole = sym (append_assoc sent (flag_rest left) (frame_bits front.octets))
-        ∙ ap (λ xs. xs ++ frame_bits front.octets) h.bits ∙ sym (body-single front.octets t.opening)
-        ∙ ap (λ xs. body xs t.opening 0) (sym h.frames) ∙ open_bits t h.ends;
-    some = λ _. flags_left left (frame_bits front.octets) h.some;
+    whole = h.bits ∙ opening_bits left t (length sent) sent h refl ∙ open_bits t h.ends;
+    some = λ _. omega (arith, h.some, length-flag_rest left);
     none = λ is. never (sym is);
   },
 )
@@ -195,13 +192,13 @@ module _ (bits : ℕ) (waiting : List WaitingFrame) (t : OnAir) where
 starts_tick : (stage : Stage) (waiting : List WaitingFrame) (t : OnAir) (total : ℕ) (sent : List Bool)
     → Stands stage waiting t sent → Counts stage total sent → All (λ frame. HasFrameLength frame.octets) waiting
     → StartsTick total waiting t
-starts_tick (Opening left) [] t total sent h count fit = absurd h
-starts_tick (Opening left) (front ∷ others) t total sent h count fit =
-    let fits = All-head (λ (frame : WaitingFrame). HasFrameLength frame.octets) front others fit in
+starts_tick (Opening left) waiting t total sent h count fit =
     let some : 1 ≤ left = h.some in
-    let end = opening_end left front others t total sent h count fits in
-    let behind = flag_end-last t [] front.octets h.frames h.named in
-    record { goes = frames_go_on total t (omega arith); flag = flag_goes_on total t (omega arith) }
+    let end = opening_end left t total sent h count in
+    record {
+      goes = frames_go_on total t (omega arith);
+      flag = all_named total t (opening_named left t total sent h count);
+    }
 starts_tick (Frame f) [] t total sent h count fit = absurd h
 starts_tick (Frame f) (front ∷ others) t total sent h count fit =
     let later = end_later f front t total sent h count in
@@ -227,8 +224,7 @@ starts_tick Over waiting t total sent h count fit =
 pub retick : (stage : Stage) (waiting : List WaitingFrame) (t : OnAir) (ticks : ℕ) (sent : List Bool)
     → Stands stage waiting t sent
     → Stands stage waiting (record t { ticks = ticks }) sent
-retick (Opening left) [] t ticks sent h = h
-retick (Opening left) (front ∷ others) t ticks sent h =
+retick (Opening left) waiting t ticks sent h =
     record { some = h.some; bits = h.bits; frames = h.frames; ends = h.ends; named = h.named }
 retick (Frame f) [] t ticks sent h = h
 retick (Frame f) (front ∷ others) t ticks sent h =
@@ -251,8 +247,8 @@ ticks-followed_by (next ∷ others) t =
 
 ticks-decided : (bits : ℕ) (waiting : List WaitingFrame) (t : OnAir) → (decided bits waiting t).ticks ≡ t.ticks
 ticks-decided bits waiting t =
-    by_test (λ (u : OnAir). u.ticks ≡ t.ticks) (has_sent_frames bits t) (followed_by (drop 1 waiting) t) t
-    (λ _. ticks-followed_by (drop 1 waiting) t) (λ _. refl)
+    by_test (λ (u : OnAir). u.ticks ≡ t.ticks) (has_sent_frames bits t) (followed_by (waiting_after t waiting) t) t
+    (λ _. ticks-followed_by (waiting_after t waiting) t) (λ _. refl)
 
 ticks-with_named : (bits : ℕ) (t : OnAir) → (with_named bits t).ticks ≡ t.ticks
 ticks-with_named bits t =

@@ -61,6 +61,11 @@ body-more_closing frames opening closing =
     let more : 1 + closing ≡ suc closing = omega arith in
     ap (λ n. flags opening ++ (joined frames ++ flags n)) more ∙ simp append_assoc
 
+-- with no frame the closing flags come after the opening flags
+pub body-none : (opening closing : ℕ) → body [] opening closing ≡ flags opening ++ flags closing
+unfolding body
+body-none opening closing = refl
+
 -- the first frame comes after the opening flags
 pub body-single : (octets : List ℕ) (opening : ℕ) → body (octets ∷ []) opening 0 ≡ flags opening ++ frame_bits octets
 unfolding body

@@ -8,7 +8,8 @@ pub use Rattle.channel_access.specs.Held.{held_with_frame, sent_with, stage_over
 pub use Rattle.channel_access.specs.HeldTick.{going_on, held_tick, run_of}
 unfoldable pub use Rattle.channel_access.specs.OnAir.{bits_of, flag_end, frames_end, samples_on_air, tick_samples}
 pub use Rattle.channel_access.specs.OnAir.{OnAir, bits_then, decided, followed_by, frame_named, has_sent_frames}
-pub use Rattle.channel_access.specs.OnAir.{most_frames, names_next, waiting_with_named, with_named, with_tick}
+pub use Rattle.channel_access.specs.OnAir.{most_frames, names_next, waiting_after, waiting_with_named, with_named}
+pub use Rattle.channel_access.specs.OnAir.{with_tick}
 pub use Rattle.channel_access.specs.Parameters.{closing_flags, opening_flags}
 unfoldable pub use Rattle.channel_access.specs.StandsFor.{frame_rest}
 pub use Rattle.channel_access.specs.StandsFor.{Counts, Goes, InFrame, IsSent, Sends, Stands, StandsFor, StandsForAir}

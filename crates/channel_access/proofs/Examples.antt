@@ -4,6 +4,7 @@ use Rattle.channel_access.proofs.Common.{refl}
 use Rattle.channel_access.proofs.Common.{octet_bits, body, fcs_of, with_fcs, frame_bits, OnAir, bits_of, flag_end}
 use Rattle.channel_access.proofs.Common.{followed_by, frame_named, frames_end, GoesToItsEnd, Ticks, Channel}
 use Rattle.channel_access.proofs.Common.{new_channel, with_frame, with_setting, decision, begun, air_tick, after_tick}
+use Rattle.channel_access.specs.Channel.{takes_frame, takes_last}
 use Rattle.channel_access.specs.declared.parameters.Param.TheVariants.{FullDuplex, Persist, TxDelay, TxTail}
 use Rattle.channel_access.specs.Words.{generator_of, draw_stream, draw, after_word}
 use Rattle.channel_access.specs.Channel.{Decision}
@@ -19,12 +20,15 @@ shortest = 0x9C ∷ 0x94 ∷ 0x6E ∷ 0xA0 ∷ 0x40 ∷ 0x40 ∷ 0xE0 ∷ 0x9C �
 abbrev waiting : Channel
 waiting = with_setting (FullDuplex true) (with_frame None shortest (new_channel 1))
 
-begins_at_once : (decision true waiting).begins ≡ true
+begins_at_once : (decision true false waiting).begins ≡ true
 begins_at_once = refl
 
--- 75 flags, the frame and 3 flags
+-- 75 flags, which the frame follows if it waits where they end, and 3 flags
+abbrev opened : OnAir
+opened = followed_by waiting.waiting (begun waiting)
+
 abbrev whole : OnAir
-whole = followed_by [] (begun waiting)
+whole = followed_by [] opened
 
 flags_round_it : whole.closing + whole.opening ≡ 78
 flags_round_it = refl
@@ -57,10 +61,10 @@ next_draws = refl
 abbrev one_waits : Channel
 one_waits = with_frame None shortest (new_channel 2)
 
-a_slot_passes : (decision false one_waits).slot ≡ 10
+a_slot_passes : (decision false false one_waits).slot ≡ 10
 a_slot_passes = refl
 
-at_p_begins : (decision false (with_setting (Persist 102) one_waits)).begins ≡ true
+at_p_begins : (decision false false (with_setting (Persist 102) one_waits)).begins ≡ true
 at_p_begins = refl
 
 -- With no TXDELAY and no TXtail there are two flags before the frame and one after it: 162 bits, which are sent in
@@ -68,11 +72,11 @@ at_p_begins = refl
 short_one : Channel
 short_one = with_setting (TxTail 0) (with_setting (TxDelay 0) waiting)
 
-short_begins : (air_tick true short_one).began ≡ true
+short_begins : (air_tick true false short_one).began ≡ true
 unfolding short_one
 short_begins = refl
 
-short_ends : GoesToItsEnd (replicate 13 (Ticks true)) (after_tick true short_one)
+short_ends : GoesToItsEnd (replicate 13 (Ticks true false)) (after_tick true false short_one)
 unfolding short_one fcs_of octet_bits with_fcs frame_bits body bits_of frames_end flag_end
 short_ends = (
   refl,
@@ -87,6 +91,47 @@ short_ends = (
     ),
   ),
 )
+
+-- ---- a link wants to send
+
+-- With no frame that waits a transmission begins because a link wants to send, with two opening flags.
+abbrev wanted : Channel
+wanted = with_setting (TxTail 0) (with_setting (TxDelay 0) (with_setting (FullDuplex true) (new_channel 1)))
+
+wanting_begins : (air_tick true true wanted).began ≡ true
+wanting_begins = refl
+
+else_silent : (air_tick true false wanted).began ≡ false
+else_silent = refl
+
+-- The flags end with the second tick, before which the channel takes a frame, and it is not the last.
+abbrev in_flags : Channel
+in_flags = after_tick true true wanted
+
+no_frame_at_first : takes_frame wanted ≡ false
+no_frame_at_first = refl
+
+a_frame_then : takes_frame in_flags ≡ true
+unfolding frames_end body bits_of
+a_frame_then = refl
+
+not_the_last : takes_last in_flags ≡ false
+unfolding frames_end body bits_of
+not_the_last = refl
+
+-- no other one is taken while a frame of a link waits to follow, but beside a frame of a host it is
+one_is_enough : takes_frame (with_frame (Some 3) shortest in_flags) ≡ false
+unfolding frames_end body bits_of
+one_is_enough = refl
+
+beside_a_host : takes_frame (with_frame None shortest in_flags) ≡ true
+unfolding frames_end body bits_of
+beside_a_host = refl
+
+-- If none comes, one closing flag follows, and all is sent with that tick.
+none_comes : (after_tick true true in_flags).air ≡ None
+unfolding frames_end body bits_of flag_end
+none_comes = refl
 
 -- ---- whose turn it is
 
@@ -128,7 +173,7 @@ turns_alternate = refl
 
 -- With these behind it a channel in which one frame waits decides so. The draw of seed 2 is 102, and P is 63.
 abbrev decides : List Happening → Decision
-decides past = decision false (record one_waits { past = past })
+decides past = decision false false (record one_waits { past = past })
 
 a_turn_has_no_draw : decides (busy 1 ++ asked 10)
     ≡ record { begins = true; slot = 0; generator = one_waits.generator }
@@ -146,5 +191,5 @@ a_slot_after_its_own : (decides (Ticked false false true ∷ [])).slot ≡ 9
 a_slot_after_its_own = refl
 
 -- without a frame the slot runs too
-a_slot_runs : (decision false (record (new_channel 2) { slot = 3; past = quiet 1 })).slot ≡ 2
+a_slot_runs : (decision false false (record (new_channel 2) { slot = 3; past = quiet 1 })).slot ≡ 2
 a_slot_runs = refl

@@ -1,12 +1,13 @@
 -- The bits of a frame, one at a time.
 use Rattle.channel_access.proofs.Common.{◌≡◌, ℕ, zero, suc, ◌+◌, ◌*◌, ◌/◌, ◌%◌, ◌^◌, ◌<◌, ◌≤◌, Bool, true, false, eqb}
 use Rattle.channel_access.proofs.Common.{bit_and, List, [], ◌∷◌, length, get_or, refl, ap, ◌∙◌, sym, inl, inr, cond}
-use Rattle.channel_access.proofs.Common.{leb, ltb, drop, Some, arith, length-append, add-one, cases_Bool, cond-true}
+use Rattle.channel_access.proofs.Common.{leb, ltb, drop, Option, Some, None, subst, arith, length-append, add-one, cases_Bool, cond-true}
 use Rattle.channel_access.proofs.Common.{cond-false, le-leb, lt-leb, lt-ltb, leb-true, leb-false, nat_tests, octet_bits}
 use Rattle.channel_access.proofs.Common.{sent_bits, length-sent_bits, frame_bits, with_fcs, stuffed_is, FrameBits}
 use Rattle.channel_access.proofs.Common.{checked, frame_start, frame_over, frame_rest}
 use Rattle.std.proofs.Math.Seq.{drop-cons}
 use Rattle.std.proofs.lemmas.List.{drop_all, get_or_append_left, get_or-append_right}
+use Rattle.std.proofs.lemmas.Bool.{le-ltb}
 use Rattle.std.proofs.lemmas.Nat.{and_mask, shr-shr}
 use Rattle.hdlc_framer.specs.BitOrder.{low_bits}
 use Rattle.hdlc_framer.proofs.BitLemmas.{length-octet_bits}
@@ -129,3 +130,65 @@ frame_rest-over f octets over =
     let none : drop f.place (bits_in octets f.check) ≡ [] =
     drop_all f.place (bits_in octets f.check) (omega (arith, length-bits_in octets f.check)) in
     ap (rest_behind f.ones) none ∙ cond-false (leb 5 f.ones) _ _ (lt-leb 5 f.ones few)
+
+-- ---- how many bits are left
+
+-- a frame that is over gives none
+over_none : (f : FrameBits) (octets : List ℕ) → frame_over f octets ≡ true → next_in_frame f octets ≡ None
+over_none f octets over =
+    let few : f.ones < 5 = grind (arith, nat_tests) in
+    let behind : bit_count octets ≤ f.place = grind (arith, nat_tests) in
+    cond-false (leb 5 f.ones) _ _ (lt-leb 5 f.ones few)
+    ∙ cond-false (ltb f.place (bit_count octets)) _ _ (le-ltb f.place (bit_count octets) behind)
+
+none_some : {A X : Type 0} (x : Option A) (a : A) → x ≡ None → x ≡ Some a → X
+none_some None a none some = absurd cc
+none_some (Some b) a none some = absurd cc
+
+-- one fewer with each bit
+pub fewer_left : (f behind : FrameBits) (octets : List ℕ) (bit : Bool) → next_in_frame f octets ≡ Some (bit, behind)
+    → length (frame_rest f octets) ≡ length (frame_rest behind octets) + 1
+fewer_left f behind octets bit is =
+    elim (cases_Bool (frame_over f octets)) [
+      | inl over ↦ none_some (next_in_frame f octets) (bit, behind) (over_none f octets over) is
+      | inr going ↦
+          let next = next_given f octets going in
+          let P : Option (Bool × FrameBits) → Type 0 = λ o. is_behind o ≡ next.behind in
+          let same : behind ≡ next.behind = subst P (sym next.given ∙ is) refl in
+          omega (arith, ap length next.rest, ap (λ b. length (frame_rest b octets)) same)
+    ]
+  where
+    -- where the frame stands after a bit
+    is_behind : Option (Bool × FrameBits) → FrameBits
+    is_behind None = f
+    is_behind (Some given) = given.1
+
+pub none_left : (f : FrameBits) (octets : List ℕ) → next_in_frame f octets ≡ None
+    → length (frame_rest f octets) ≡ 0
+none_left f octets is =
+    elim (cases_Bool (frame_over f octets)) [
+      | inl over ↦ ap length (frame_rest-over f octets over)
+      | inr going ↦
+          let next = next_given f octets going in
+          none_some (next_in_frame f octets) (next.bit, next.behind) is next.given
+    ]
+
+-- some are left exactly if it is not over
+pub some_left : (f : FrameBits) (octets : List ℕ) → frame_over f octets ≡ leb (length (frame_rest f octets)) 0
+some_left f octets =
+    elim (cases_Bool (frame_over f octets)) [
+      | inl over ↦
+          over ∙ sym (le-leb (length (frame_rest f octets)) 0
+          (omega (arith, ap length (frame_rest-over f octets over))))
+      | inr going ↦
+          let next = next_given f octets going in
+          going ∙ sym (lt-leb (length (frame_rest f octets)) 0 (omega (arith, ap length next.rest)))
+    ]
+
+-- after so many bits as there may be, none is left exactly if there were no more
+pub all_counted : (count most left whole : ℕ) → count ≡ most → count + left ≡ whole → leb left 0 ≡ leb whole most
+all_counted count most left whole all is =
+    elim (cases_Bool (leb left 0)) [
+      | inl none ↦ none ∙ sym (le-leb whole most (omega (arith, leb-true left 0 none)))
+      | inr some ↦ some ∙ sym (lt-leb whole most (omega (arith, leb-false left 0 some)))
+    ]

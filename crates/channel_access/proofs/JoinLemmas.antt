@@ -1,17 +1,18 @@
 -- Bits of one tick: what is decided and named bit by bit is what is decided and named at its end. Frames are
 -- longer than a tick, so a tick sees at most one end of a frame and one flag after a frame.
 use Rattle.channel_access.proofs.Common.{◌≡◌, ℕ, ◌+◌, ◌<◌, ◌≤◌, ◌⊎◌, Bool, true, false, not, ◌&&◌, leb, ltb, List, []}
-use Rattle.channel_access.proofs.Common.{◌∷◌, ◌++◌, length, drop, refl, ap, ◌∙◌, sym, subst, inl, inr, arith}
+use Rattle.channel_access.proofs.Common.{◌∷◌, ◌++◌, length, refl, ap, ◌∙◌, sym, subst, inl, inr, arith}
 use Rattle.channel_access.proofs.Common.{length-append, append-nil, All, cases_Bool, cond-true, cond-false, leb-true}
 use Rattle.channel_access.proofs.Common.{leb-false, All-head, All-tail, body, FrameBits, Stage, Opening, Frame}
 use Rattle.channel_access.proofs.Common.{Following, Closing, Over, WaitingFrame, HasFrameLength, OnAir, most_frames}
 use Rattle.channel_access.proofs.Common.{has_sent_frames, followed_by, decided, names_next, frames_end, flag_end}
-use Rattle.channel_access.proofs.Common.{Stands, Counts, InFrame}
+use Rattle.channel_access.proofs.Common.{Stands, Counts, InFrame, waiting_after}
+use Rattle.channel_access.specs.StandsFor.{InOpening}
 use Rattle.channel_access.proofs.BodyLemmas.{frame_bits-long}
 use Rattle.channel_access.proofs.FrameLemmas.{next_given}
 use Rattle.channel_access.proofs.StageLemmas.{frames_go_on, frames_ended, frames_end_here, flag_goes_on, all_named}
 use Rattle.channel_access.proofs.StageLemmas.{flag_end-at, flag_end-last, frames_end-next, length-frames_flag}
-use Rattle.channel_access.proofs.StageLemmas.{opening_end, frame_end, flag_there_at, by_test}
+use Rattle.channel_access.proofs.StageLemmas.{opening_named, first_end, after_none, after_front, none_left, frame_end, flag_there_at, by_test}
 
 -- up to so many bits nothing is decided
 pub record IsQuiet (limit : ℕ) (t : OnAir) : Type 0 where
@@ -31,11 +32,11 @@ pub record MayName (limit : ℕ) (t : OnAir) : Type 0 where
   pub quiet : IsQuiet limit t
   pub then_settled : IsSettled limit (next_named t)
 
--- The last frame may end, and then the flag after it.
+-- The opening flags or the last frame may end, and then the flag after it.
 pub record MayEnd (limit : ℕ) (waiting : List WaitingFrame) (t : OnAir) : Type 0 where
   pub goes : t.ends ≡ false
   pub flag_later : (bits : ℕ) → bits < frames_end t → names_next bits t ≡ false
-  pub then_names : MayName limit (followed_by (drop 1 waiting) t)
+  pub then_names : MayName limit (followed_by (waiting_after t waiting) t)
 
 -- what may come up to so many bits
 pub data MayCome (limit : ℕ) (waiting : List WaitingFrame) (t : OnAir) : Type 0 where
@@ -48,9 +49,12 @@ pub data MayCome (limit : ℕ) (waiting : List WaitingFrame) (t : OnAir) : Type 
 quiet_when_ended : (limit : ℕ) (t : OnAir) → t.ends ≡ true → IsQuiet limit t
 quiet_when_ended limit t ended = record { none = λ bits below. frames_ended bits t ended }
 
+settled_when_ended : (limit : ℕ) (t : OnAir) → t.ends ≡ true → length t.frames ≤ t.named → IsSettled limit t
+settled_when_ended limit t ended all =
+    record { none = λ bits below. frames_ended bits t ended; unnamed = λ bits below. none_left bits t all }
+
 settled_when_all : (limit : ℕ) (t : OnAir) → t.ends ≡ true → t.named ≡ length t.frames → IsSettled limit t
-settled_when_all limit t ended all =
-    record { none = λ bits below. frames_ended bits t ended; unnamed = λ bits below. all_named bits t all }
+settled_when_all limit t ended all = settled_when_ended limit t ended (omega arith)
 
 -- if the last frame ends later, its flag ends later too
 settled_before_end : (limit : ℕ) (t : OnAir) (past : List (List ℕ)) (octets : List ℕ) → t.frames ≡ past ++ octets ∷ []
@@ -116,31 +120,72 @@ frame_may_end : (f : FrameBits) (front : WaitingFrame) (others : List WaitingFra
     (sent : List Bool)
     → InFrame f front t sent → length sent ≡ total → All (λ frame. HasFrameLength frame.octets) others
     → MayEnd (total + 12) (front ∷ others) t
-frame_may_end f front [] t total sent h count fit = record {
+frame_may_end f front others t total sent h count fit = record {
   goes = h.ends;
   flag_later = flag_not_yet f front t total sent h count;
-  then_names = ends_then f front t total sent h count (total + 12);
+  then_names = subst (λ w. MayName (total + 12) (followed_by w t))
+      (sym (after_front t h.past front.octets front others h.frames h.named)) (then_names others fit);
 }
-frame_may_end f front (next ∷ others) t total sent h count fit =
-    let fits = All-head (λ (frame : WaitingFrame). HasFrameLength frame.octets) next others fit in
-    record {
-      goes = h.ends;
-      flag_later = flag_not_yet f front t total sent h count;
-      then_names = by_test (λ now. MayName (total + 12) now) (ltb (length t.frames) most_frames) _ _
-          (λ few. joined_then f front t total sent h count (total + 12) next.octets fits.least (omega arith))
-          (λ many. ends_then f front t total sent h count (total + 12));
-    }
+  where
+    then_names : (others : List WaitingFrame) → All (λ frame. HasFrameLength frame.octets) others
+        → MayName (total + 12) (followed_by others t)
+    then_names [] fit = ends_then f front t total sent h count (total + 12)
+    then_names (next ∷ others) fit =
+        let fits = All-head (λ (frame : WaitingFrame). HasFrameLength frame.octets) next others fit in
+        by_test (λ now. MayName (total + 12) now) (ltb (length t.frames) most_frames) _ _
+        (λ few. joined_then f front t total sent h count (total + 12) next.octets fits.least (omega arith))
+        (λ many. ends_then f front t total sent h count (total + 12))
+
+-- opening flags that are being sent
+module _ (left : ℕ) (t : OnAir) (total : ℕ) (sent : List Bool) (h : InOpening left t sent)
+    (count : length sent ≡ total) where
+  opening_then_ends : MayName (total + 12) (record t { ends = true })
+  opening_then_ends = record {
+    quiet = quiet_when_ended (total + 12) (record t { ends = true }) refl;
+    then_settled = settled_when_ended (total + 12) (next_named (record t { ends = true })) refl
+        (omega (arith, ap length h.frames));
+  }
+
+  opening_then_joined : (octets : List ℕ) → 15 ≤ length octets
+      → MayName (total + 12) (record t { frames = t.frames ++ octets ∷ [] })
+  opening_then_joined octets least =
+      let now : OnAir = record t { frames = t.frames ++ octets ∷ [] } in
+      let all : now.frames ≡ octets ∷ [] = ap (λ xs. xs ++ octets ∷ []) h.frames in
+      let end = first_end left t total sent h count now octets refl all in
+      let end_then = first_end left t total sent h count (next_named now) octets refl all in
+      let long = frame_bits-long octets least in
+      let one : t.named + 1 ≡ length now.frames = omega (arith, h.named, ap length all) in
+      record {
+        quiet = record { none = λ bits below. frames_go_on bits now (omega arith) };
+        then_settled = record {
+          none = λ bits below. frames_go_on bits (next_named now) (omega arith);
+          unnamed = λ bits below. all_named bits (next_named now) one;
+        };
+      }
+
+  opening_may_end : (waiting : List WaitingFrame) → All (λ frame. HasFrameLength frame.octets) waiting
+      → MayEnd (total + 12) waiting t
+  opening_may_end waiting fit = record {
+    goes = h.ends;
+    flag_later = λ bits before. all_named bits t (opening_named left t total sent h count);
+    then_names = subst (λ w. MayName (total + 12) (followed_by w t)) (sym (after_none t waiting h.frames))
+        (then_names waiting fit);
+  }
+    where
+      then_names : (waiting : List WaitingFrame) → All (λ frame. HasFrameLength frame.octets) waiting
+          → MayName (total + 12) (followed_by waiting t)
+      then_names [] fit = opening_then_ends
+      then_names (front ∷ others) fit =
+          let fits = All-head (λ (frame : WaitingFrame). HasFrameLength frame.octets) front others fit in
+          by_test (λ now. MayName (total + 12) now) (ltb (length t.frames) most_frames) _ _
+          (λ few. opening_then_joined front.octets fits.least) (λ many. opening_then_ends)
 
 -- what may come within a tick
 pub may_come : (stage : Stage) (waiting : List WaitingFrame) (t : OnAir) (total : ℕ) (sent : List Bool)
     → Stands stage waiting t sent → Counts stage total sent → All (λ frame. HasFrameLength frame.octets) waiting
     → MayCome (total + 12) waiting t
-may_come (Opening left) [] t total sent h count fit = absurd h
-may_come (Opening left) (front ∷ others) t total sent h count fit =
-    let fits = All-head (λ (frame : WaitingFrame). HasFrameLength frame.octets) front others fit in
-    let long = frame_bits-long front.octets fits.least in
-    let end = opening_end left front others t total sent h count fits in
-    nothing (settled_before_end (total + 12) t [] front.octets h.frames h.named (omega arith))
+may_come (Opening left) waiting t total sent h count fit =
+    frame_ends (opening_may_end left t total sent h count waiting fit)
 may_come (Frame f) [] t total sent h count fit = absurd h
 may_come (Frame f) (front ∷ others) t total sent h count fit =
     let behind = All-tail (λ (frame : WaitingFrame). HasFrameLength frame.octets) front others fit in
@@ -203,7 +248,7 @@ module _ (limit bits : ℕ) (below : bits + 1 ≤ limit) (waiting : List Waiting
 
   frame_case : MayEnd limit waiting t → IsBefore bits waiting t ⊎ IsAfter limit bits waiting t
   frame_case may =
-      let u : OnAir = followed_by (drop 1 waiting) t in
+      let u : OnAir = followed_by (waiting_after t waiting) t in
       elim (cases_Bool (has_sent_frames bits t)) [
         | inl ended ↦
             let there : leb (frames_end t) bits ≡ true = ap (λ b. not b && leb (frames_end t) bits) (sym may.goes)

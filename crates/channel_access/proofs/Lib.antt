@@ -10,6 +10,7 @@ pub mod AirLemmas
 pub mod OrderLemmas
 pub mod TurnLemmas
 pub mod AccessLemmas
+pub mod TakingLemmas
 pub mod QueueLemmas
 mod Examples
 pub mod WholeLemmas

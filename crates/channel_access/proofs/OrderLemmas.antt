@@ -5,9 +5,10 @@ use Rattle.channel_access.proofs.Common.{arith, append_assoc, append-nil, get_or
 use Rattle.channel_access.proofs.Common.{cond-false, ltb-true, Sent, Sending, Stage, Opening, Frame, Following, Closing}
 use Rattle.channel_access.proofs.Common.{Over, WaitingFrame, OnAir, bits_then, has_sent_frames, followed_by, decided}
 use Rattle.channel_access.proofs.Common.{names_next, flag_end, waiting_with_named, most_frames, air_sent, air_waiting}
-use Rattle.channel_access.proofs.Common.{Takes, Stands, StandsForAir}
+use Rattle.channel_access.proofs.Common.{Takes, Stands, StandsForAir, waiting_after}
 use Rattle.std.proofs.lemmas.List.{length_push}
-use Rattle.channel_access.proofs.StageLemmas.{by_test, frames_ended, all_named}
+use Rattle.channel_access.proofs.StageLemmas.{by_test, frames_ended, all_named, after_none}
+use Rattle.channel_access.specs.StandsFor.{InOpening}
 
 -- a decision adds frames after those that the transmission has, up to eight, and changes no flags
 pub record AddsFrames (t u : OnAir) : Type 0 where
@@ -46,8 +47,8 @@ followed_frames (next ∷ others) t =
 
 pub decided_frames : (bits : ℕ) (waiting : List WaitingFrame) (t : OnAir) → AddsFrames t (decided bits waiting t)
 decided_frames bits waiting t =
-    by_test (λ (u : OnAir). AddsFrames t u) (has_sent_frames bits t) (followed_by (drop 1 waiting) t) t
-    (λ ended. followed_frames (drop 1 waiting) t)
+    by_test (λ (u : OnAir). AddsFrames t u) (has_sent_frames bits t) (followed_by (waiting_after t waiting) t) t
+    (λ ended. followed_frames (waiting_after t waiting) t)
     (λ goes. same_frames t t refl refl refl refl)
 
 -- the octets are those of the front frame
@@ -70,12 +71,37 @@ nothing_named bits waiting t ends all is =
     let never : true ≡ false = sym is ∙ ap (names_next bits) same ∙ all_named bits t all in
     cc
 
+-- the first frame is the front one of those that wait where the opening flags end
+opened_named : (left : ℕ) (waiting : List WaitingFrame) (t : OnAir) (sent : List Bool) (bits : ℕ)
+    → InOpening left t sent → names_next bits (decided bits waiting t) ≡ true
+    → FrontIs waiting (get_or (decided bits waiting t).frames (decided bits waiting t).named [])
+opened_named left waiting t sent bits h is =
+    by_test (λ (u : OnAir). names_next bits u ≡ true → FrontIs waiting (get_or u.frames u.named []))
+    (has_sent_frames bits t) (followed_by (waiting_after t waiting) t) t
+    (λ ended. subst (λ w. names_next bits (followed_by w t) ≡ true
+    → FrontIs waiting (get_or (followed_by w t).frames (followed_by w t).named []))
+    (sym (after_none t waiting h.frames)) (followed waiting))
+    (λ goes. nothing t h.frames h.named) is
+  where
+    nothing : {A : Type 0} (u : OnAir) → u.frames ≡ [] → u.named ≡ 0 → names_next bits u ≡ true → A
+    nothing u frames named is =
+        let never : true ≡ false = sym is ∙ all_named bits u (named ∙ sym (ap length frames)) in
+        cc
+
+    followed : (w : List WaitingFrame) → names_next bits (followed_by w t) ≡ true
+        → FrontIs w (get_or (followed_by w t).frames (followed_by w t).named [])
+    followed [] is = nothing (record t { ends = true }) h.frames h.named is
+    followed (next ∷ others) is =
+        by_test (λ (u : OnAir). names_next bits u ≡ true → get_or u.frames u.named [] ≡ next.octets)
+        (ltb (length t.frames) most_frames) _ _
+        (λ few named. ap (λ n. get_or (t.frames ++ next.octets ∷ []) n []) h.named
+        ∙ ap (λ xs. get_or (xs ++ next.octets ∷ []) 0 []) h.frames)
+        (λ many named. nothing (record t { ends = true }) h.frames h.named named) is
+
 front_named : (stage : Stage) (waiting : List WaitingFrame) (t : OnAir) (sent : List Bool) (bits : ℕ)
     → Stands stage waiting t sent → names_next bits (decided bits waiting t) ≡ true
     → FrontIs waiting (get_or (decided bits waiting t).frames (decided bits waiting t).named [])
-front_named (Opening left) [] t sent bits h is = h
-front_named (Opening left) (front ∷ others) t sent bits h is =
-    next_is t _ [] front.octets [] (decided_frames bits (front ∷ others) t) h.frames h.named
+front_named (Opening left) waiting t sent bits h is = opened_named left waiting t sent bits h is
 front_named (Frame f) [] t sent bits h is = h
 front_named (Frame f) (front ∷ others) t sent bits h is =
     next_is t _ h.past front.octets [] (decided_frames bits (front ∷ others) t) h.frames h.named

@@ -15,8 +15,7 @@ pub record GoesWith (s : Sending) (waiting : List WaitingFrame) (t : OnAir) (sen
 
 pub stands_joined : (stage : Stage) (waiting more : List WaitingFrame) (t : OnAir) (sent : List Bool)
     → Stands stage waiting t sent → Stands stage (waiting ++ more) t sent
-stands_joined (Opening left) [] more t sent h = absurd h
-stands_joined (Opening left) (front ∷ others) more t sent h = h
+stands_joined (Opening left) waiting more t sent h = h
 stands_joined (Frame f) [] more t sent h = absurd h
 stands_joined (Frame f) (front ∷ others) more t sent h = h
 stands_joined (Following left true) [] more t sent h = absurd h

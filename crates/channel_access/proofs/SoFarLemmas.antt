@@ -18,7 +18,6 @@ pub record SoFar (opens closes : ℕ) (first joined : List WaitingFrame) (ticks 
   pub names : named_in ticks ≡ octets_of gone
   pub named : octets_of gone ≡ take t.named t.frames
   pub within : t.named ≤ length t.frames
-  pub some : 1 ≤ length t.frames
   pub few : length t.frames ≤ most_frames
   pub opening : t.opening ≡ opens
   pub closing : t.closing ≡ closes
@@ -48,7 +47,6 @@ module _ (opens closes : ℕ) (first joined : List WaitingFrame) (ticks : List A
     names = h.names;
     named = h.named;
     within = h.within;
-    some = h.some;
     few = h.few;
     opening = h.opening;
     closing = h.closing;
@@ -62,7 +60,6 @@ module _ (opens closes : ℕ) (first joined : List WaitingFrame) (ticks : List A
     names = h.names;
     named = h.named;
     within = h.within;
-    some = h.some;
     few = h.few;
     opening = h.opening;
     closing = h.closing;
@@ -98,7 +95,6 @@ module _ (opens closes : ℕ) (first joined : List WaitingFrame) (ticks : List A
       names = named_more None ∙ append-nil (octets_of h.gone);
       named = same_named;
       within = omega (arith, h.within, adds.named, longer);
-      some = omega (arith, h.some, longer);
       few = adds.few h.few;
       opening = adds.opening ∙ h.opening;
       closing = adds.closing ∙ h.closing;
@@ -120,7 +116,6 @@ module _ (opens closes : ℕ) (first joined : List WaitingFrame) (ticks : List A
               ∙ ap (λ o. take u.named u.frames ++ o ∷ []) octets
               ∙ sym (take_more u.frames u.named [] some);
           within = omega (arith, some);
-          some = omega (arith, h.some, longer);
           few = adds.few h.few;
           opening = adds.opening ∙ h.opening;
           closing = adds.closing ∙ h.closing;

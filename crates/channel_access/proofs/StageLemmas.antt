@@ -6,15 +6,15 @@ use Rattle.channel_access.proofs.Common.{append_assoc, append-nil, get_or-append
 use Rattle.channel_access.proofs.Common.{cond-false, le-leb, lt-leb, lt-ltb, ltb-true, All, All-head, All-tail}
 use Rattle.channel_access.proofs.Common.{le-max_left, flags, body, frame_bits, FrameBits, Stage, Opening, Frame}
 use Rattle.channel_access.proofs.Common.{Following, Closing, Over, closing_flags, WaitingFrame, HasFrameLength, OnAir}
-use Rattle.channel_access.proofs.Common.{most_frames, has_sent_frames, followed_by, decided, names_next, with_named}
+use Rattle.channel_access.proofs.Common.{most_frames, waiting_after, has_sent_frames, followed_by, decided, names_next, with_named}
 use Rattle.channel_access.proofs.Common.{waiting_with_named, frames_end, flag_end, Step, flag_bit, frame_start}
 use Rattle.channel_access.proofs.Common.{frame_over, Stands, Counts, InFrame, IsSent, flag_rest, frame_rest}
 use Rattle.std.proofs.Math.Bool.{and-false}
 use Rattle.std.proofs.Math.Seq.{take-append-add}
 use Rattle.std.proofs.lemmas.Bool.{le-ltb, ltb-false}
-use Rattle.channel_access.specs.Held.{stage_step, frame_step, behind_opening, joins, other_closing}
+use Rattle.channel_access.specs.Held.{stage_step, frame_step, after_opening, frames_opened, joins, other_closing}
 use Rattle.channel_access.specs.StandsFor.{InOpening, InFlag, InClosing}
-use Rattle.channel_access.proofs.BodyLemmas.{flags-is, length-flag_rest, body-closing, body-more_closing, body-single}
+use Rattle.channel_access.proofs.BodyLemmas.{flags-is, length-flag_rest, body-closing, body-more_closing, body-none, body-single}
 use Rattle.channel_access.proofs.BodyLemmas.{body-push, frame_bits-long}
 use Rattle.channel_access.proofs.FrameLemmas.{NextInFrame, next_given, frame_rest-start, frame_rest-over}
 
@@ -83,8 +83,8 @@ module _ (bits : ℕ) (waiting : List WaitingFrame) (t : OnAir) where
       pub one_named : named_at bits waiting t ≡ Some (get_or t.frames t.named [])
       one_named = ap (named_of bits) undecided ∙ cond-true (names_next bits t) _ None names
 
-  module _ (ended : has_sent_frames bits t ≡ true) (next : OnAir) (follows : followed_by (drop 1 waiting) t ≡ next)
-      (names : names_next bits next ≡ false) where
+  module _ (ended : has_sent_frames bits t ≡ true) (next : OnAir)
+      (follows : followed_by (waiting_after t waiting) t ≡ next) (names : names_next bits next ≡ false) where
     is_decided : decided bits waiting t ≡ next
     is_decided = cond-true (has_sent_frames bits t) _ t ended ∙ follows
 
@@ -122,14 +122,34 @@ module _ (bits : ℕ) (t : OnAir) where
       ap (λ b. ltb t.named (length t.frames) && b) (lt-leb (flag_end (t.named + 1) t) bits h)
       ∙ and-false (ltb t.named (length t.frames))
 
+  pub none_left : length t.frames ≤ t.named → names_next bits t ≡ false
+  none_left h =
+      ap (λ b. b && leb (flag_end (t.named + 1) t) bits) (le-ltb t.named (length t.frames) h)
+
   pub all_named : t.named ≡ length t.frames → names_next bits t ≡ false
-  all_named h =
-      ap (λ b. b && leb (flag_end (t.named + 1) t) bits) (le-ltb t.named (length t.frames) (omega arith))
+  all_named h = none_left (omega arith)
 
   pub flag_ends_here : t.named < length t.frames → flag_end (t.named + 1) t ≤ bits → names_next bits t ≡ true
   flag_ends_here some h =
       ap (λ b. b && leb (flag_end (t.named + 1) t) bits) (lt-ltb t.named (length t.frames) some)
       ∙ le-leb (flag_end (t.named + 1) t) bits h
+
+-- ---- what waits after the frames of a transmission
+
+-- all that waits, if it has none
+pub after_none : (t : OnAir) (waiting : List WaitingFrame) → t.frames ≡ [] → waiting_after t waiting ≡ waiting
+after_none t waiting none =
+    let few : length t.frames - t.named ≡ 0 = omega (arith, ap length none) in
+    ap (λ n. drop n waiting) few
+
+-- what waits after the front one, if that is its last
+pub after_front : (t : OnAir) (past : List (List ℕ)) (octets : List ℕ) (front : WaitingFrame)
+    (others : List WaitingFrame) → t.frames ≡ past ++ octets ∷ [] → t.named ≡ length past
+    → waiting_after t (front ∷ others) ≡ others
+after_front t past octets front others frames named =
+    let one : length t.frames - t.named ≡ 1 =
+    omega (arith, ap length frames, length-append past (octets ∷ [])) in
+    ap (λ n. drop n (front ∷ others)) one
 
 -- the flag after the frame that is named next, if these frames are named and those follow
 pub flag_end-at : (t : OnAir) (past : List (List ℕ)) (octets : List ℕ) (next : List (List ℕ))
@@ -211,67 +231,184 @@ frame_begins sent before all octets is whole =
 
 -- ---- a bit of the opening flags
 
-module _ (left : ℕ) (front : WaitingFrame) (others : List WaitingFrame) (t : OnAir) (total : ℕ) (sent : List Bool)
-    (h : InOpening left front t sent) (count : length sent ≡ total) (fits : HasFrameLength front.octets) where
-  pub opening_end : frames_end t ≡ (total + left) + length (frame_bits front.octets)
+module _ (left : ℕ) (t : OnAir) (total : ℕ) (sent : List Bool) (h : InOpening left t sent)
+    (count : length sent ≡ total) where
+  -- they are all that is decided
+  pub opening_bits : flags t.opening ≡ body t.frames t.opening 0
+  opening_bits =
+      sym (ap (λ xs. body xs t.opening 0) h.frames ∙ body-none t.opening 0 ∙ append-nil (flags t.opening))
+
+  pub opening_end : frames_end t ≡ total + left
   unfolding frames_end
   opening_end = omega (
     arith,
-    ap (λ xs. length (body xs t.opening 0)) h.frames,
-    ap length (body-single front.octets t.opening),
-    length-append (flags t.opening) (frame_bits front.octets),
+    ap length opening_bits,
     ap length h.bits,
     length-with_flags sent left,
   )
 
-  opening_stands : Stands (behind_opening left (front ∷ others)) (front ∷ others) t (sent ++ flag_bit left ∷ [])
-  opening_stands =
-      by_test (λ stage. Stands stage (front ∷ others) t (sent ++ flag_bit left ∷ [])) (ltb 1 left) (Opening (left - 1))
-      (Frame (frame_start front.octets))
-      (λ more.
-      let several : 1 < left = ltb-true 1 left more in
-      record {
-        some = omega arith;
-        bits = flag_more sent left h.some ∙ h.bits;
-        frames = h.frames;
-        ends = h.ends;
-        named = h.named;
-      })
-      (λ last.
-      let few : left ≤ 1 = ltb-false 1 left last in
-      let some : 1 ≤ left = h.some in
-      let one : left ≡ 1 = omega arith in
-      record {
-        past = [];
-        some = started front.octets;
-        bits = frame_begins (sent ++ flag_bit left ∷ []) (flags t.opening) (body t.frames t.opening 0) front.octets
-            (flag_last sent left one ∙ h.bits)
-            (sym (ap (λ xs. body xs t.opening 0) h.frames ∙ body-single front.octets t.opening));
-        frames = h.frames;
-        ends = h.ends;
-        named = h.named;
-      })
+  -- the end of the first frame, if that is decided
+  pub first_end : (now : OnAir) (octets : List ℕ) → now.opening ≡ t.opening → now.frames ≡ octets ∷ []
+      → frames_end now ≡ (total + left) + length (frame_bits octets)
+  unfolding frames_end
+  first_end now octets opening frames = omega (
+    arith,
+    ap (λ xs. length (body xs now.opening 0)) frames,
+    ap (λ n. length (body (octets ∷ []) n 0)) opening,
+    ap length (body-single octets t.opening),
+    length-append (flags t.opening) (frame_bits octets),
+    ap length h.bits,
+    length-with_flags sent left,
+  )
 
-  pub opening_step : (tail frames : ℕ) → frames ≡ length t.frames
-      → Steps (front ∷ others) t total sent (stage_step (Opening left) tail frames (front ∷ others))
-  opening_step tail frames is_frames =
-      let long : 136 ≤ length (frame_bits front.octets) = frame_bits-long front.octets fits.least in
-      let flag_there : flag_end (t.named + 1) t ≡ frames_end t + 8 = flag_end-last t [] front.octets h.frames h.named in
+  pub opening_named : t.named ≡ length t.frames
+  opening_named = h.named ∙ sym (ap length h.frames)
+
+  -- before the last one
+  opening_goes_on : (waiting : List WaitingFrame) (frames : ℕ) → 1 < left → frames ≡ length t.frames
+      → Steps waiting t total sent (record {
+        bit = Some (flag_bit left);
+        named = None;
+        stage = Opening (left - 1);
+        frames = frames;
+        waiting = waiting;
+      })
+  opening_goes_on waiting frames several is_frames =
       let end_there = opening_end in
       let goes : has_sent_frames (total + 1) t ≡ false = frames_go_on (total + 1) t (omega arith) in
-      let flag : names_next (total + 1) t ≡ false = flag_goes_on (total + 1) t (omega arith) in
+      let flag : names_next (total + 1) t ≡ false = all_named (total + 1) t opening_named in
       record {
         bit = flag_bit left;
         is_bit = refl;
         now = t;
-        is_now = same_now (total + 1) (front ∷ others) t goes flag;
-        is_waiting = same_waiting (total + 1) (front ∷ others) t goes flag;
-        is_named = none_named (total + 1) (front ∷ others) t goes flag;
-        place = no_place (total + 1) (front ∷ others) t goes flag;
-        stands = opening_stands;
+        is_now = same_now (total + 1) waiting t goes flag;
+        is_waiting = same_waiting (total + 1) waiting t goes flag;
+        is_named = none_named (total + 1) waiting t goes flag;
+        place = no_place (total + 1) waiting t goes flag;
+        stands = record {
+          some = omega arith;
+          bits = flag_more sent left h.some ∙ h.bits;
+          frames = h.frames;
+          ends = h.ends;
+          named = h.named;
+        };
         frames = is_frames;
         closing = refl;
       }
+
+  module _ (one : left ≡ 1) where
+    all_open : sent ++ flag_bit left ∷ [] ≡ flags t.opening
+    all_open = flag_last sent left one ∙ h.bits
+
+    open_ended : has_sent_frames (total + 1) t ≡ true
+    open_ended =
+        let end_there = opening_end in
+        frames_end_here (total + 1) t h.ends (omega arith)
+
+    -- no frame waits
+    opening_closes : (tail frames : ℕ) → frames ≡ length t.frames → t.closing ≡ closing_flags tail
+        → Steps [] t total sent (record {
+          bit = Some (flag_bit left);
+          named = None;
+          stage = Closing (8 * closing_flags tail);
+          frames = frames;
+          waiting = [];
+        })
+    opening_closes tail frames is_frames is_closing =
+        let now : OnAir = record t { ends = true } in
+        let follows : followed_by (waiting_after t []) t ≡ now =
+        ap (λ w. followed_by w t) (after_none t [] h.frames) in
+        let flag : names_next (total + 1) now ≡ false = all_named (total + 1) now opening_named in
+        let least : 1 ≤ closing_flags tail = le-max_left 1 (3 * tail / 2) in
+        record {
+          bit = flag_bit left;
+          is_bit = refl;
+          now = now;
+          is_now = decided_now (total + 1) [] t open_ended now follows flag;
+          is_waiting = decided_waiting (total + 1) [] t open_ended now follows flag;
+          is_named = decided_named (total + 1) [] t open_ended now follows flag;
+          place = decided_place (total + 1) [] t open_ended now follows flag;
+          stands = record {
+            some = omega arith;
+            bits = ap (λ xs. xs ++ flag_rest (8 * closing_flags tail)) all_open
+                ∙ ap (λ xs. flags t.opening ++ xs) (sym (flags-is (closing_flags tail)))
+                ∙ sym (body-none t.opening (closing_flags tail))
+                ∙ ap (λ n. body [] t.opening n) (sym is_closing)
+                ∙ ap (λ xs. body xs t.opening t.closing) (sym h.frames);
+            ends = refl;
+            named = opening_named;
+          };
+          frames = is_frames;
+          closing = refl;
+        }
+
+    -- the front frame follows
+    opening_begins : (front : WaitingFrame) (others : List WaitingFrame)
+        → Steps (front ∷ others) t total sent (record {
+          bit = Some (flag_bit left);
+          named = None;
+          stage = Frame (frame_start front.octets);
+          frames = 1;
+          waiting = front ∷ others;
+        })
+    opening_begins front others =
+        let waiting : List WaitingFrame = front ∷ others in
+        let now : OnAir = record t { frames = t.frames ++ front.octets ∷ [] } in
+        let all : now.frames ≡ front.octets ∷ [] = ap (λ xs. xs ++ front.octets ∷ []) h.frames in
+        let few : ltb (length t.frames) most_frames ≡ true =
+        lt-ltb (length t.frames) most_frames (omega (arith, ap length h.frames)) in
+        let follows : followed_by (waiting_after t waiting) t ≡ now =
+        ap (λ w. followed_by w t) (after_none t waiting h.frames)
+        ∙ cond-true (ltb (length t.frames) most_frames) _ _ few in
+        let single : body now.frames t.opening 0 ≡ flags t.opening ++ frame_bits front.octets =
+        ap (λ xs. body xs t.opening 0) all ∙ body-single front.octets t.opening in
+        let behind = first_end now front.octets refl all in
+        let there = flag_end-last now [] front.octets all h.named in
+        let flag : names_next (total + 1) now ≡ false = flag_goes_on (total + 1) now (omega arith) in
+        record {
+          bit = flag_bit left;
+          is_bit = refl;
+          now = now;
+          is_now = decided_now (total + 1) waiting t open_ended now follows flag;
+          is_waiting = decided_waiting (total + 1) waiting t open_ended now follows flag;
+          is_named = decided_named (total + 1) waiting t open_ended now follows flag;
+          place = decided_place (total + 1) waiting t open_ended now follows flag;
+          stands = record {
+            past = [];
+            some = started front.octets;
+            bits = frame_begins (sent ++ flag_bit left ∷ []) (flags t.opening) (body now.frames t.opening 0)
+                front.octets all_open (sym single);
+            frames = all;
+            ends = h.ends;
+            named = h.named;
+          };
+          frames = sym (ap length all);
+          closing = refl;
+        }
+
+  pub opening_steps : (waiting : List WaitingFrame) (tail frames : ℕ) → frames ≡ length t.frames
+      → t.closing ≡ closing_flags tail
+      → Steps waiting t total sent (stage_step (Opening left) tail frames waiting)
+  opening_steps waiting tail frames is_frames is_closing =
+      by_test (λ step. Steps waiting t total sent step) (ltb 1 left) _ _
+      (λ several. opening_goes_on waiting frames (ltb-true 1 left several) is_frames)
+      (λ last.
+      let few : left ≤ 1 = ltb-false 1 left last in
+      let some : 1 ≤ left = h.some in
+      let one : left ≡ 1 = omega arith in
+      opened_steps waiting tail frames one is_frames is_closing)
+    where
+      opened_steps : (waiting : List WaitingFrame) (tail frames : ℕ) → left ≡ 1 → frames ≡ length t.frames
+          → t.closing ≡ closing_flags tail
+          → Steps waiting t total sent (record {
+            bit = Some (flag_bit left);
+            named = None;
+            stage = after_opening tail waiting;
+            frames = frames_opened frames waiting;
+            waiting = waiting;
+          })
+      opened_steps [] tail frames one is_frames is_closing = opening_closes one tail frames is_frames is_closing
+      opened_steps (front ∷ others) tail frames one is_frames is_closing = opening_begins one front others
 
 -- ---- a bit of a frame
 
@@ -358,8 +495,10 @@ module _ (f : FrameBits) (front : WaitingFrame) (others : List WaitingFrame) (t 
           frames = frames;
           waiting = front ∷ others;
         })
-    closes follows alone =
+    closes is alone =
         let now : OnAir = record t { ends = true } in
+        let follows : followed_by (waiting_after t (front ∷ others)) t ≡ now =
+        ap (λ w. followed_by w t) (after_front t h.past front.octets front others h.frames h.named) ∙ is in
         let behind_there : flag_end (t.named + 1) now ≡ frames_end t + 8 =
         flag_end-at now h.past front.octets [] (h.frames ∙ sym (append-nil (h.past ++ front.octets ∷ []))) h.named
         ∙ ap (λ xs. length (body xs t.opening 1)) (sym h.frames) ∙ length-frames_flag t in
@@ -395,8 +534,10 @@ module _ (f : FrameBits) (front : WaitingFrame) (others : List WaitingFrame) (t 
           frames = frames + 1;
           waiting = front ∷ others;
         })
-    joined_by follower more is_others follows =
+    joined_by follower more is_others is =
         let now : OnAir = record t { frames = t.frames ++ follower.octets ∷ [] } in
+        let follows : followed_by (waiting_after t (front ∷ others)) t ≡ now =
+        ap (λ w. followed_by w t) (after_front t h.past front.octets front others h.frames h.named) ∙ is in
         let all : now.frames ≡ (h.past ++ front.octets ∷ []) ++ follower.octets ∷ [] =
         ap (λ xs. xs ++ follower.octets ∷ []) h.frames in
         let behind_there : flag_end (t.named + 1) now ≡ frames_end t + 8 =
@@ -713,13 +854,10 @@ pub stage_cases : (stage : Stage) (waiting : List WaitingFrame) (t : OnAir) (tot
     → frames ≡ length t.frames → t.closing ≡ closing_flags tail
     → SendsBit waiting t total sent (stage_step stage tail frames waiting)
     ⊎ IsOver waiting t total sent frames (stage_step stage tail frames waiting)
-stage_cases (Opening left) [] t total sent tail frames h count fit is_frames is_closing = absurd h
-stage_cases (Opening left) (front ∷ others) t total sent tail frames h count fit is_frames is_closing =
-    let fits = All-head (λ (frame : WaitingFrame). HasFrameLength frame.octets) front others fit in
+stage_cases (Opening left) waiting t total sent tail frames h count fit is_frames is_closing =
     inl (record {
-      steps = opening_step left front others t total sent h count fits tail frames is_frames;
-      count =
-          count;
+      steps = opening_steps left t total sent h count waiting tail frames is_frames is_closing;
+      count = count;
     })
 stage_cases (Frame f) [] t total sent tail frames h count fit is_frames is_closing = absurd h
 stage_cases (Frame f) (front ∷ others) t total sent tail frames h count fit is_frames is_closing =

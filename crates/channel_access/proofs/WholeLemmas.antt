@@ -5,7 +5,7 @@ use Rattle.channel_access.proofs.Common.{inl, inr, arith, append_assoc, append-n
 use Rattle.channel_access.proofs.Common.{transmission, flags, body, frame_bits, flag, joined-push, line}
 use Rattle.channel_access.proofs.Common.{length-line_from, Mark, wave, WaitingFrame, OnAir, bits_then, bits_of}
 use Rattle.channel_access.proofs.Common.{samples_on_air, frames_end, has_sent_frames, followed_by, decided}
-use Rattle.channel_access.proofs.Common.{tick_samples, most_frames}
+use Rattle.channel_access.proofs.Common.{tick_samples, most_frames, waiting_after}
 use Rattle.std.proofs.lemmas.List.{drop-append-le, length-drop}
 use Rattle.channel_access.proofs.BodyLemmas.{body-closing}
 use Rattle.channel_access.proofs.StageLemmas.{by_test}
@@ -60,7 +60,8 @@ pub decided_adds : (bits : ℕ) (waiting : List WaitingFrame) (t : OnAir)
     → (rest : List Bool) × (bits_of (decided bits waiting t) ≡ bits_of t ++ rest)
 decided_adds bits waiting t =
     by_test (λ (u : OnAir). (rest : List Bool) × (bits_of u ≡ bits_of t ++ rest)) (has_sent_frames bits t)
-    (followed_by (drop 1 waiting) t) t (λ ended. followed_adds (drop 1 waiting) t (open_when_ended bits t ended))
+    (followed_by (waiting_after t waiting) t) t
+    (λ ended. followed_adds (waiting_after t waiting) t (open_when_ended bits t ended))
     (λ _. ([], sym (append-nil (bits_of t))))
 
 pub whole_at_end : (t : OnAir) → t.ends ≡ true → samples_on_air t ≡ transmission t.frames t.opening t.closing

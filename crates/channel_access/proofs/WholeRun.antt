@@ -1,11 +1,11 @@
 -- The ticks of a transmission from its first one on are one transmission.
 use Rattle.channel_access.proofs.Common.{◌≡◌, ℕ, ◌+◌, ◌-◌, ◌*◌, ◌/◌, ◌<◌, ◌≤◌, ◌⊎◌, Bool, true, false, cond, leb}
-use Rattle.channel_access.proofs.Common.{Option, Some, None, is_some, pos, List, [], ◌∷◌, ◌++◌, length, take, get_or}
+use Rattle.channel_access.proofs.Common.{Option, Some, None, is_some, pos, List, [], ◌∷◌, ◌++◌, length, get_or}
 use Rattle.channel_access.proofs.Common.{replicate, refl, ap, ◌∙◌, sym, subst, inl, inr, arith, append_assoc}
 use Rattle.channel_access.proofs.Common.{append-nil, length-append, cases_Bool, take_all, flat_map-append, All-nil}
 use Rattle.channel_access.proofs.Common.{All-head, All-tail, All-push, le-max_left, line, wave, body, HasFrameLength}
 use Rattle.channel_access.proofs.Common.{transmission, AirTick, Sending, Stage, Opening, Frame, Following, Closing}
-use Rattle.channel_access.proofs.Common.{Over, Lcg, Parameters, opening_flags, closing_flags, WaitingFrame, OnAir}
+use Rattle.channel_access.proofs.Common.{Over, opening_flags, closing_flags, WaitingFrame, OnAir}
 use Rattle.channel_access.proofs.Common.{bits_of, bits_then, decided, names_next, flag_end, frame_named, tick_samples}
 use Rattle.channel_access.proofs.Common.{with_tick, Channel, decision, begun, air_samples, air_sent, air_waiting}
 use Rattle.channel_access.proofs.Common.{air_after, air_tick, after_tick, new_sending, stage_over, run_of, Stands}
@@ -16,7 +16,6 @@ use Rattle.channel_access.specs.WholeTransmission.{Call, after_call, after_calls
 use Rattle.channel_access.specs.WholeTransmission.{joining, AreFrames, samples_in, AreOneTransmission}
 use Rattle.channel_access.specs.WholeTransmission.{SendOneTransmission}
 use Rattle.channel_access.specs.WholeTransmission.Call.{Queues, Sets, Hears}
-use Rattle.channel_access.specs.Happenings.{Happening}
 use Rattle.channel_access.specs.Happenings.Happening.{Ticked}
 use Rattle.channel_access.proofs.OrderLemmas.{decided_frames, air_takes}
 use Rattle.channel_access.proofs.StageLemmas.{now_at, waiting_at}
@@ -24,7 +23,7 @@ use Rattle.channel_access.proofs.SendingLemmas.{padded}
 use Rattle.channel_access.proofs.TickLemmas.{all_waiting}
 use Rattle.channel_access.proofs.AirLemmas.{at_end, run_samples, run_air, goes_on, same_ticks, full_before, is_left}
 use Rattle.channel_access.proofs.AirLemmas.{closed_bits, bits_of-with_named}
-use Rattle.channel_access.proofs.AccessLemmas.{begins, some_wait}
+use Rattle.channel_access.proofs.AccessLemmas.{begins}
 use Rattle.channel_access.proofs.QueueLemmas.{GoesWith, goes_joined}
 use Rattle.channel_access.proofs.WholeLemmas.{decided_adds}
 use Rattle.channel_access.proofs.SoFarLemmas.{SoFar, so_far_joined, so_far_reticked, so_far_more, some_left}
@@ -185,7 +184,6 @@ module _ (s : Sending) (waiting : List WaitingFrame) (t : OnAir) (g : Goes s wai
           frames = so.gone;
           front = so.queue;
           whole = record {
-            some = subst (λ (xs : List (List ℕ)). 1 ≤ length xs) (sym all) so.some;
             few = subst (λ (xs : List (List ℕ)). length xs ≤ 8) (sym all) so.few;
             zeros = zeros;
             fewer = omega arith;
@@ -246,16 +244,16 @@ under_way_joined opening closing first joined ticks channel frame fits h =
 
 -- ---- a run of calls
 
-tick_is : (busy : Bool) (channel : Channel) (t : OnAir) → channel.air ≡ Some t
-    → air_tick busy channel ≡ sends channel.waiting t false
-tick_is busy channel t is =
-    subst (λ (a : Option OnAir). air_tick busy (record channel { air = a }) ≡ sends channel.waiting t false)
+tick_is : (busy wants : Bool) (channel : Channel) (t : OnAir) → channel.air ≡ Some t
+    → air_tick busy wants channel ≡ sends channel.waiting t false
+tick_is busy wants channel t is =
+    subst (λ (a : Option OnAir). air_tick busy wants (record channel { air = a }) ≡ sends channel.waiting t false)
     (sym is) refl
 
-after_is : (busy : Bool) (channel : Channel) (t : OnAir) → channel.air ≡ Some t
-    → after_tick busy channel ≡ behind busy false channel t
-after_is busy channel t is =
-    subst (λ (a : Option OnAir). after_tick busy (record channel { air = a }) ≡ behind busy false channel t) (sym is)
+after_is : (busy wants : Bool) (channel : Channel) (t : OnAir) → channel.air ≡ Some t
+    → after_tick busy wants channel ≡ behind busy false channel t
+after_is busy wants channel t is =
+    subst (λ (a : Option OnAir). after_tick busy wants (record channel { air = a }) ≡ behind busy false channel t) (sym is)
     refl
 
 call_more : (opening closing : ℕ) (first joined : List WaitingFrame) (ticks : List AirTick) (channel : Channel)
@@ -294,13 +292,13 @@ call_more opening closing first joined ticks channel (Hears ours) fit h =
       so_far = h.so_far;
       samples = h.samples;
     })))
-call_more opening closing first joined ticks channel (Ticks busy) fit h =
-    subst (λ js. After opening closing first js (ticks ++ air_tick busy channel ∷ []) (after_tick busy channel))
+call_more opening closing first joined ticks channel (Ticks busy wants) fit h =
+    subst (λ js. After opening closing first js (ticks ++ air_tick busy wants channel ∷ []) (after_tick busy wants channel))
     (sym (append-nil joined))
-    (subst (λ tick. After opening closing first joined (ticks ++ tick ∷ []) (after_tick busy channel))
-    (sym (tick_is busy channel h.t h.air))
+    (subst (λ tick. After opening closing first joined (ticks ++ tick ∷ []) (after_tick busy wants channel))
+    (sym (tick_is busy wants channel h.t h.air))
     (subst (λ next. After opening closing first joined (ticks ++ sends channel.waiting h.t false ∷ []) next)
-    (sym (after_is busy channel h.t h.air))
+    (sym (after_is busy wants channel h.t h.air))
     (under_way_more opening closing first joined ticks channel h busy false)))
 
 both_fit : (xs ys : List WaitingFrame) → AreFrames (xs ++ ys) → AreFrames xs × AreFrames ys
@@ -338,55 +336,40 @@ run opening closing first joined ticks (call ∷ calls) channel fit (inl h) end 
 
 -- ---- the first tick
 
-begins_with : (parameters : Parameters) (waiting : List WaitingFrame) (generator : Lcg) (slot : ℕ)
-    (past : List Happening) → 1 ≤ length waiting
-    → GoesWith (new_sending parameters) waiting (begun (record {
-      waiting = waiting;
-      parameters = parameters;
-      generator = generator;
-      slot = slot;
-      air = None;
-      past = past;
-    })) []
+begins_with : (channel : Channel) → GoesWith (new_sending channel.parameters) channel.waiting (begun channel) []
 unfolding begins
-begins_with parameters [] generator slot past some = absurd (omega arith)
-begins_with parameters (front ∷ others) generator slot past some =
-    record { goes = begins parameters (front ∷ others) generator slot past some; is = refl }
-
-one_frame : (waiting : List WaitingFrame) → 1 ≤ length waiting → length (octets_of (take 1 waiting)) ≡ 1
-one_frame [] some = absurd (omega arith)
-one_frame (front ∷ others) some = refl
+begins_with channel = record { goes = begins channel; is = refl }
 
 nothing_sent : padded 0 [] ≡ []
 unfolding padded
 nothing_sent = refl
 
-module _ (busy : Bool) (channel : Channel) (fit : AreFrames channel.waiting) (rest : channel.air ≡ None) where
+module _ (busy wants : Bool) (channel : Channel) (fit : AreFrames channel.waiting) (rest : channel.air ≡ None) where
   -- with the decision of the tick
   abbrev then : Channel
   then = record channel {
-    slot = (decision busy channel).slot;
-    generator = (decision busy channel).generator;
+    slot = (decision busy wants channel).slot;
+    generator = (decision busy wants channel).generator;
     air = Some (begun channel);
   }
 
-  begins_now : (air_tick busy channel).began ≡ true → (decision busy channel).begins ≡ true
+  begins_now : (air_tick busy wants channel).began ≡ true → (decision busy wants channel).begins ≡ true
   begins_now began =
-      elim (cases_Bool (decision busy channel).begins) [
+      elim (cases_Bool (decision busy wants channel).begins) [
         | inl begins ↦ begins
         | inr not_yet ↦
-            let P : Option OnAir → Type 0 = λ a. (air_tick busy (record channel { air = a })).began ≡ false in
-            let never : (air_tick busy channel).began ≡ false =
+            let P : Option OnAir → Type 0 = λ a. (air_tick busy wants (record channel { air = a })).began ≡ false in
+            let never : (air_tick busy wants channel).began ≡ false =
             subst P (sym rest) (ap (λ b. is_some (cond b (Some (begun channel)) None)) not_yet) in
             let both : true ≡ false = sym began ∙ never in
             cc
       ]
 
-  module _ (begins : (decision busy channel).begins ≡ true) where
-    first_tick : air_tick busy channel ≡ sends channel.waiting (begun channel) true
+  module _ (begins : (decision busy wants channel).begins ≡ true) where
+    first_tick : air_tick busy wants channel ≡ sends channel.waiting (begun channel) true
     first_tick =
         let P : Option OnAir → Type 0 =
-        λ a. air_tick busy (record channel { air = a }) ≡ sends channel.waiting (begun channel) true in
+        λ a. air_tick busy wants (record channel { air = a }) ≡ sends channel.waiting (begun channel) true in
         let tick : Option OnAir → AirTick = λ air. record {
           samples = air_samples channel.waiting air;
           began = is_some air;
@@ -394,10 +377,10 @@ module _ (busy : Bool) (channel : Channel) (fit : AreFrames channel.waiting) (re
         } in
         subst P (sym rest) (ap (λ b. tick (cond b (Some (begun channel)) None)) begins)
 
-    after_first : after_tick busy channel ≡ behind busy true then (begun channel)
+    after_first : after_tick busy wants channel ≡ behind busy true then (begun channel)
     after_first =
         let P : Option OnAir → Type 0 =
-        λ a. after_tick busy (record channel { air = a }) ≡ behind busy true then (begun channel) in
+        λ a. after_tick busy wants (record channel { air = a }) ≡ behind busy true then (begun channel) in
         let next : Option OnAir → Channel = λ air. record then {
           waiting = air_waiting channel.waiting air;
           air = air_after channel.waiting air;
@@ -408,9 +391,7 @@ module _ (busy : Bool) (channel : Channel) (fit : AreFrames channel.waiting) (re
     starts : UnderWay (opening_flags channel.parameters.tx_delay) (closing_flags channel.parameters.tx_tail)
         channel.waiting [] [] then
     starts =
-        let some : 1 ≤ length channel.waiting = some_wait busy channel begins in
-        let one = one_frame channel.waiting some in
-        let new = begins_with channel.parameters channel.waiting channel.generator channel.slot channel.past some in
+        let new = begins_with channel in
         record {
           t = begun channel;
           air = refl;
@@ -423,7 +404,6 @@ module _ (busy : Bool) (channel : Channel) (fit : AreFrames channel.waiting) (re
             names = refl;
             named = refl;
             within = omega arith;
-            some = omega arith;
             few = omega arith;
             opening = refl;
             closing = refl;
@@ -432,21 +412,21 @@ module _ (busy : Bool) (channel : Channel) (fit : AreFrames channel.waiting) (re
         }
 
 -- a transmission, from the tick in which it begins to the one with which it ends
-pub whole_transmission : (channel : Channel) (busy : Bool) (calls : List Call) → AreFrames channel.waiting
-    → AreFrames (joining calls) → channel.air ≡ None → (air_tick busy channel).began ≡ true
-    → GoesToItsEnd calls (after_tick busy channel) → SendOneTransmission (Ticks busy ∷ calls) channel
+pub whole_transmission : (channel : Channel) (busy wants : Bool) (calls : List Call) → AreFrames channel.waiting
+    → AreFrames (joining calls) → channel.air ≡ None → (air_tick busy wants channel).began ≡ true
+    → GoesToItsEnd calls (after_tick busy wants channel) → SendOneTransmission (Ticks busy wants ∷ calls) channel
 unfolding starts
-whole_transmission channel busy calls fit joins rest began end =
+whole_transmission channel busy wants calls fit joins rest began end =
     let opening : ℕ = opening_flags channel.parameters.tx_delay in
     let closing : ℕ = closing_flags channel.parameters.tx_tail in
-    let begins = begins_now busy channel fit rest began in
-    let first = under_way_more opening closing channel.waiting [] [] (then busy channel fit rest)
-    (starts busy channel fit rest begins) busy true in
-    let after : After opening closing channel.waiting [] (air_tick busy channel ∷ []) (after_tick busy channel) =
-    subst (λ tick. After opening closing channel.waiting [] (tick ∷ []) (after_tick busy channel))
-    (sym (first_tick busy channel fit rest begins))
+    let begins = begins_now busy wants channel fit rest began in
+    let first = under_way_more opening closing channel.waiting [] [] (then busy wants channel fit rest)
+    (starts busy wants channel fit rest begins) busy true in
+    let after : After opening closing channel.waiting [] (air_tick busy wants channel ∷ []) (after_tick busy wants channel) =
+    subst (λ tick. After opening closing channel.waiting [] (tick ∷ []) (after_tick busy wants channel))
+    (sym (first_tick busy wants channel fit rest begins))
     (subst (λ next. After opening closing channel.waiting [] (sends channel.waiting (begun channel) true ∷ []) next)
-    (sym (after_first busy channel fit rest begins)) first) in
-    let whole = run opening closing channel.waiting [] (air_tick busy channel ∷ []) calls (after_tick busy channel)
+    (sym (after_first busy wants channel fit rest begins)) first) in
+    let whole = run opening closing channel.waiting [] (air_tick busy wants channel ∷ []) calls (after_tick busy wants channel)
     joins after end in
     record { frames = whole.frames; front = whole.front; whole = whole.whole }

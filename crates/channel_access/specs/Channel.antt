@@ -114,25 +114,26 @@ after_rules busy wants channel =
 abbrev pub is_of_link : WaitingFrame → Bool
 is_of_link frame = is_some frame.link
 
--- With the bits of this tick the opening flags or a frame end, fewer than eight frames were sent, and none of a link waits
--- to follow. So at most one frame of a link waits, and it was made as late as can be.
+-- With the bits of the next tick the opening flags or a frame end, fewer than eight frames were sent, and none of a link
+-- waits to follow. So at most one frame of a link waits, and it was made as late as can be.
 abbrev pub takes_on_air : List WaitingFrame → Option OnAir → Bool
 takes_on_air waiting None = false
 takes_on_air waiting (Some t) =
     has_sent_frames (bits_then t) t && nat_lt (length t.frames) most_frames
     && not (list_any is_of_link (waiting_after t waiting))
 
-abbrev pub takes_frame : Bool → Bool → Channel → Bool
-takes_frame busy wants channel =
-    let now = after_rules busy wants channel in takes_on_air now.waiting now.air
+-- Whether the channel takes a frame of a link in the next tick. At rest it takes none, also where a transmission begins
+-- with that tick: two opening flags are longer than a tick.
+abbrev pub takes_frame : Channel → Bool
+takes_frame channel = takes_on_air channel.waiting channel.air
 
 -- a transmission ends with its eighth frame
 abbrev pub is_last_on_air : Option OnAir → Bool
 is_last_on_air None = false
 is_last_on_air (Some t) = length t.frames + 1 == most_frames
 
-abbrev pub takes_last : Bool → Bool → Channel → Bool
-takes_last busy wants channel = is_last_on_air (after_rules busy wants channel).air
+abbrev pub takes_last : Channel → Bool
+takes_last channel = is_last_on_air channel.air
 
 -- ---- what a tick sends
 

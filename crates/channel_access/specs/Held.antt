@@ -78,8 +78,33 @@ abbrev pub front_begins : List WaitingFrame → Stage
 front_begins [] = Over
 front_begins (front ∷ others) = Frame (frame_start front.octets)
 
-abbrev pub behind_opening : ℕ → List WaitingFrame → Stage
-behind_opening left waiting = if nat_lt 1 left then Opening (left - 1) else front_begins waiting
+-- With the last bit of the opening flags it is decided what follows: the front frame, or the closing flags if none waits.
+abbrev pub after_opening : ℕ → List WaitingFrame → Stage
+after_opening tail [] = Closing (8 * closing_flags tail)
+after_opening tail (front ∷ others) = Frame (frame_start front.octets)
+
+abbrev pub frames_opened : ℕ → List WaitingFrame → ℕ
+frames_opened frames [] = frames
+frames_opened frames (front ∷ others) = 1
+
+-- a bit of the opening flags
+abbrev pub opening_step : ℕ → ℕ → ℕ → List WaitingFrame → Step
+opening_step left tail frames waiting =
+    if nat_lt 1 left
+    then record {
+      bit = Some (flag_bit left);
+      named = None;
+      stage = Opening (left - 1);
+      frames = frames;
+      waiting = waiting;
+    }
+    else record {
+      bit = Some (flag_bit left);
+      named = None;
+      stage = after_opening tail waiting;
+      frames = frames_opened frames waiting;
+      waiting = waiting;
+    }
 
 -- another frame follows
 abbrev pub joins : ℕ → List WaitingFrame → Bool
@@ -101,6 +126,10 @@ abbrev pub followed : ℕ → Sending → Sending
 followed waiting s =
     let another = nat_lt s.frames most_frames && nat_lt 1 waiting in
     record s { stage = Following 8 another; frames = if another then s.frames + 1 else s.frames }
+
+-- the sender after the last bit of the opening flags
+abbrev pub opened : List WaitingFrame → Sending → Sending
+opened waiting s = record s { stage = after_opening s.tail waiting; frames = frames_opened s.frames waiting }
 
 -- a step of a frame
 abbrev pub frame_step : Option (Bool × FrameBits) → List ℕ → ℕ → List WaitingFrame → Step
@@ -146,14 +175,7 @@ flag_step left another tail frames waiting =
     }
 
 abbrev pub stage_step : Stage → ℕ → ℕ → List WaitingFrame → Step
-stage_step (Opening left) tail frames waiting =
-    record {
-      bit = Some (flag_bit left);
-      named = None;
-      stage = behind_opening left waiting;
-      frames = frames;
-      waiting = waiting;
-    }
+stage_step (Opening left) tail frames waiting = opening_step left tail frames waiting
 stage_step (Frame f) tail frames waiting = front_step f frames waiting
 stage_step (Following left another) tail frames waiting = flag_step left another tail frames waiting
 stage_step (Closing left) tail frames waiting =
@@ -223,7 +245,7 @@ tick_start sending waiting = record { sending = sending; waiting = waiting; samp
 unfoldable pub new_sending : Parameters → Sending
 new_sending parameters = record {
   stage = Opening (8 * opening_flags parameters.tx_delay);
-  frames = 1;
+  frames = 0;
   tail = parameters.tx_tail;
   line = Mark;
   modulator = full;

@@ -47,15 +47,15 @@ after_held_send (Some s) held = record held {
 }
 
 -- what is kept with the decision of a tick, if it is at rest
-abbrev pub held_begun : Bool → List Happening → Held → Option Sending → Held
-held_begun busy past held (Some s) = held
-held_begun busy past held None =
-    let d = decision busy (channel_of past held) in
+abbrev pub held_begun : Bool → Bool → List Happening → Held → Option Sending → Held
+held_begun busy wants past held (Some s) = held
+held_begun busy wants past held None =
+    let d = decision busy wants (channel_of past held) in
     record (with_held_decision d held) { sending = if d.begins then Some (new_sending held.parameters) else None }
 
-abbrev pub held_tick : Bool → List Happening → Held → AirTick
-held_tick busy past held =
-    let now = held_begun busy past held held.sending in
+abbrev pub held_tick : Bool → Bool → List Happening → Held → AirTick
+held_tick busy wants past held =
+    let now = held_begun busy wants past held held.sending in
     record {
       samples = held_samples now.sending now.waiting;
       began = is_none held.sending && is_some now.sending;
@@ -63,12 +63,12 @@ held_tick busy past held =
     }
 
 -- what happened in a tick
-abbrev pub held_happening : Bool → List Happening → Held → Happening
-held_happening busy past held =
-    let now = held_begun busy past held held.sending in
+abbrev pub held_happening : Bool → Bool → List Happening → Held → Happening
+held_happening busy wants past held =
+    let now = held_begun busy wants past held held.sending in
     Ticked busy (is_none held.sending && is_some now.sending) (is_some now.sending)
 
-abbrev pub after_held_tick : Bool → List Happening → Held → Held
-after_held_tick busy past held =
-    let now = held_begun busy past held held.sending in
-    held_after (held_happening busy past held) past (after_held_send now.sending now)
+abbrev pub after_held_tick : Bool → Bool → List Happening → Held → Held
+after_held_tick busy wants past held =
+    let now = held_begun busy wants past held held.sending in
+    held_after (held_happening busy wants past held) past (after_held_send now.sending now)

@@ -9,4 +9,5 @@ pub mod HeldTurns
 pub mod Held
 pub mod HeldTick
 pub mod StandsFor
+pub mod HeldTaking
 pub mod WholeTransmission

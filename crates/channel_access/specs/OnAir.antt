@@ -7,10 +7,10 @@ use Rattle.afsk_modulator.specs.Transmission.{transmission}
 use Rattle.channel_access.specs.declared.air_tick.Sent.{Sent}
 use Rattle.channel_access.specs.Waiting.{WaitingFrame}
 
--- A transmission begins with its opening flags alone, and its first frame is decided where they end, as each other one is
--- where the frame before it ends. The frames are those that it has as far as that is decided, in order, and `ends` says
--- that no further one follows. Of
--- these frames the first `named` are sent, each with the flag after it, and so many ticks of the whole are sent.
+-- A transmission begins with its opening flags alone. Its first frame is decided where they end, and each other one where
+-- the frame before it ends. The frames are those that it has as far as that is decided, in order, and `ends` says that no
+-- further one follows. Of these frames the first `named` are sent, each with the flag after it, and so many ticks of the
+-- whole are sent.
 pub record OnAir : Type 0 where
   pub opening : ℕ
   pub closing : ℕ
@@ -38,7 +38,7 @@ bits_of t = body t.frames t.opening (flags_behind t)
 unfoldable pub samples_on_air : OnAir → List ℤ
 samples_on_air t = transmission t.frames t.opening (flags_behind t)
 
--- how many bits are sent when the last bit of its last frame is sent
+-- how many bits are sent when the last bit of its last frame is sent, or of its opening flags if it has no frame yet
 unfoldable pub frames_end : OnAir → ℕ
 frames_end t = length (body t.frames t.opening 0)
 
@@ -46,7 +46,7 @@ frames_end t = length (body t.frames t.opening 0)
 unfoldable pub flag_end : ℕ → OnAir → ℕ
 flag_end count t = length (body (take count t.frames) t.opening 1)
 
--- With so many bits sent, the last frame is sent, and it is open what follows it.
+-- With so many bits sent, the opening flags and the frames so far are sent, and it is open what follows them.
 abbrev pub has_sent_frames : ℕ → OnAir → Bool
 has_sent_frames bits t = not t.ends && nat_le (frames_end t) bits
 

@@ -33,10 +33,10 @@ flag_rest zero = []
 flag_rest (suc left) = flag_bit (suc left) ∷ flag_rest left
 
 -- The bits sent so far, stage by stage, and what of the transmission they are.
-pub record InOpening (left : ℕ) (front : WaitingFrame) (t : OnAir) (sent : List Bool) : Type 0 where
+pub record InOpening (left : ℕ) (t : OnAir) (sent : List Bool) : Type 0 where
   pub some : 1 ≤ left
   pub bits : sent ++ flag_rest left ≡ flags t.opening
-  pub frames : t.frames ≡ front.octets ∷ []
+  pub frames : t.frames ≡ []
   pub ends : t.ends ≡ false
   pub named : t.named ≡ 0
 
@@ -70,8 +70,7 @@ pub record IsSent (t : OnAir) (sent : List Bool) : Type 0 where
   pub named : t.named ≡ length t.frames
 
 abbrev pub Stands : Stage → List WaitingFrame → OnAir → List Bool → Type 0
-Stands (Opening left) [] t sent = ⊥
-Stands (Opening left) (front ∷ others) t sent = InOpening left front t sent
+Stands (Opening left) waiting t sent = InOpening left t sent
 Stands (Frame f) [] t sent = ⊥
 Stands (Frame f) (front ∷ others) t sent = InFrame f front t sent
 Stands (Following left true) [] t sent = ⊥

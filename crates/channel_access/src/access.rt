@@ -30,7 +30,7 @@ impl Model for Access {
 
 impl Access {
     ghost use Rattle.channel_access.specs.Channel.{Channel, new_channel, with_frame, with_setting, with_heard};
-    ghost use Rattle.channel_access.specs.Channel.{air_tick, after_tick, Takes};
+    ghost use Rattle.channel_access.specs.Channel.{takes_frame, takes_last, air_tick, after_tick, Takes};
     ghost use Rattle.channel_access.specs.StandsFor.{StandsFor, StandsForSome};
 
     /// No frame waits, and the parameters are the defaults: TXDELAY 50, P 63, slot time 10, TXtail 2, half duplex. The
@@ -78,17 +78,34 @@ impl Access {
         self.transmitter.hear(ours);
     }
 
-    /// A tick of 10 ms; `busy` says whether another station is heard. At rest it decides whether a transmission
-    /// begins, and that begins at once. Frames that wait when the frame before them ends join it, up to eight.
-    pub fn tick(&mut self, busy: bool) -> AirTick
-        ensures stood { StandsForSome self.old }
-        ensures tick { (channel : Channel) → StandsFor self.old channel → result ≡ air_tick busy channel }
-        ensures stands_for { (channel : Channel) → StandsFor self.old channel
-            → StandsFor self.new (after_tick busy channel) }
-        ensures order { (channel : Channel) → StandsFor self.old channel
-            → Takes result.sent channel.waiting (after_tick busy channel).waiting }
+    /// Whether the next tick takes a frame of a link: the opening flags or a frame end with it, the transmission has
+    /// fewer than eight frames, and no frame of a link waits to follow. Then a link that wants to send makes one and
+    /// [`queue`](Access::queue)s it before that tick. At rest none is taken.
+    pub fn takes_frame(&self) -> bool
+        ensures { (channel : Channel) → StandsFor self.now channel → result ≡ takes_frame channel }
     {
-        self.transmitter.tick(busy)
+        self.transmitter.takes_frame()
+    }
+
+    /// Whether the transmission ends with the frame that it takes next, the eighth.
+    pub fn takes_last(&self) -> bool
+        ensures { (channel : Channel) → StandsFor self.now channel → result ≡ takes_last channel }
+    {
+        self.transmitter.takes_last()
+    }
+
+    /// A tick of 10 ms; `busy` says whether another station is heard, and `wants` whether a link wants to send. At rest
+    /// it decides whether a transmission begins, and that begins at once, with its opening flags. The frame that waits
+    /// when they end, or when the frame before it ends, joins it, up to eight. If none waits, the closing flags follow.
+    pub fn tick(&mut self, busy: bool, wants: bool) -> AirTick
+        ensures stood { StandsForSome self.old }
+        ensures tick { (channel : Channel) → StandsFor self.old channel → result ≡ air_tick busy wants channel }
+        ensures stands_for { (channel : Channel) → StandsFor self.old channel
+            → StandsFor self.new (after_tick busy wants channel) }
+        ensures order { (channel : Channel) → StandsFor self.old channel
+            → Takes result.sent channel.waiting (after_tick busy wants channel).waiting }
+    {
+        self.transmitter.tick(busy, wants)
     }
 
     /// Whether a frame of the link waits. A frame waits until a tick names it as sent.

@@ -1,7 +1,8 @@
 //! A frame bit by bit, as it is sent (AX.25 2.2 sections 3.6 to 3.8).
-ghost use Rattle.std.specs.Prelude.{◌≡◌, ◌+◌, ◌*◌, ◌<◌, ◌≤◌, false, length, slice_index, slice_index_or};
+ghost use Rattle.std.specs.Prelude.{◌≡◌, ◌+◌, ◌*◌, ◌<◌, ◌≤◌, nat_le, false, length, slice_index, slice_index_or};
 ghost use Rattle.hdlc_framer.specs.FrameLength.{most_frame_length};
 ghost use Rattle.channel_access.specs.Held.{checked, bits_in, bit_count, frame_start, next_in_frame, frame_over};
+ghost use Rattle.channel_access.specs.StandsFor.{frame_rest};
 
 use hdlc_framer::fcs;
 
@@ -52,6 +53,21 @@ impl FrameBits {
                 ..self
             },
         ))
+    }
+
+    /// Whether at most so many bits are left.
+    pub(crate) fn end_within(self, bits: u8, octets: &[u8]) -> bool
+        requires { length octets.now ≤ most_frame_length }
+        ensures { result ≡ nat_le (length (frame_rest self octets.now)) bits }
+    {
+        let mut at = self;
+        for _ in 0..bits {
+            let Some((_, after)) = at.next(octets) else {
+                return true;
+            };
+            at = after;
+        }
+        at.is_over(octets)
     }
 
     /// Whether no bit is left.

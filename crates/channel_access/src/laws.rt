@@ -30,7 +30,7 @@ pub fn a_tick_is_a_part_of_the_whole()
 /// called meanwhile, is one transmission of at most eight frames, which are the front of the queue in order, and zeros
 /// up to a whole tick. Each frame is named once as sent, in order.
 pub fn a_transmission_is_whole()
-    ensures { (channel : Channel) (busy : Bool) (calls : List Call) → AreFrames channel.waiting
-        → AreFrames (joining calls) → channel.air ≡ None → (air_tick busy channel).began ≡ true
-        → GoesToItsEnd calls (after_tick busy channel) → SendOneTransmission (Ticks busy ∷ calls) channel }
+    ensures { (channel : Channel) (busy wants : Bool) (calls : List Call) → AreFrames channel.waiting
+        → AreFrames (joining calls) → channel.air ≡ None → (air_tick busy wants channel).began ≡ true
+        → GoesToItsEnd calls (after_tick busy wants channel) → SendOneTransmission (Ticks busy wants ∷ calls) channel }
 {}

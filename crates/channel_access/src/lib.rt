@@ -1,6 +1,7 @@
 //! Access to a shared radio channel, in ticks of 10 ms: frames wait in a queue, and a transmission begins by the rule
 //! of p-persistence in half duplex and at once in full duplex (the KISS TNC protocol, Chepponis and Karn). In half
-//! duplex a station that was spoken to answers at once, and all others wait a slot. Up to eight frames are sent in one.
+//! duplex a station that was spoken to answers at once, and all others wait a slot. It begins with its opening flags
+//! alone, and up to eight frames are sent in one. A link makes its frame as late as can be, when the channel takes it.
 //! What is promised: over any list of calls each tick has exactly the samples of the transmission that the rules give,
 //! and each frame waits until the flag after it is sent.
 #![tactic(auto)]

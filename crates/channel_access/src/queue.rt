@@ -1,7 +1,9 @@
 //! The frames that wait to be sent.
 ghost use Rattle.std.specs.Prelude.{◌≡◌, ◌≤◌, ◌<◌, ◌↔◌, List, [], ◌∷◌, ◌++◌, length, drop, Ok, IfOk, OnOk, IfErr};
 ghost use Rattle.std.specs.Prelude.{IsErr, IfSome, IsTrue, option_map, slice_get};
+ghost use Rattle.std.specs.List.{list_any};
 ghost use Rattle.std.specs.Option.{option_copied};
+ghost use Rattle.channel_access.specs.Channel.{is_of_link};
 ghost use Rattle.channel_access.specs.Waiting.{WaitingFrame, IsWaiting};
 ghost use Rattle.hdlc_framer.specs.FrameLength.{HasFrameLength};
 
@@ -37,6 +39,12 @@ impl Waiting {
         ensures { IsTrue result ↔ (self.now.link ≡ Some link) }
     {
         self.link == Some(link)
+    }
+
+    fn is_of_links(&self) -> bool
+        ensures { result ≡ is_of_link self.now }
+    {
+        self.link.is_some()
     }
 
     fn octets(&self) -> &Octets
@@ -116,6 +124,16 @@ impl Queue {
         ensures most { result ≤ 256 }
     {
         self.frames.len()
+    }
+
+    /// Whether a frame of a link waits after so many.
+    pub(crate) fn holds_of_links(&self, after: usize) -> bool
+        ensures { result ≡ list_any is_of_link (drop after self.now) }
+    {
+        self.frames
+            .iter()
+            .skip(after)
+            .any(|frame| frame.is_of_links())
     }
 
     /// Whether a frame of the link waits.

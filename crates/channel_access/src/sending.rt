@@ -1,7 +1,8 @@
 //! A transmission under way, bit by bit.
-ghost use Rattle.std.specs.Prelude.{◌≡◌, ◌+◌, ◌*◌, ◌<◌, ◌≤◌, ◌++◌, Some, None, take};
-ghost use Rattle.channel_access.specs.Held.{step_of, with_step, behind_bit, behind_opening, behind_closing};
-ghost use Rattle.channel_access.specs.Held.{front_begins, front_step, flag_step, followed, other_closing, flag_bit};
+ghost use Rattle.std.specs.Prelude.{◌≡◌, ◌+◌, ◌*◌, ◌<◌, ◌≤◌, ◌++◌, ◌==◌, Some, None, take};
+ghost use Rattle.channel_access.specs.Held.{step_of, with_step, behind_bit, opening_step, behind_closing};
+ghost use Rattle.channel_access.specs.Held.{front_begins, opened, front_step, flag_step, followed, other_closing, flag_bit};
+ghost use Rattle.channel_access.specs.HeldTaking.{ends_in_tick, on_air_in, sender_takes};
 ghost use Rattle.channel_access.specs.Held.{stage_over, window_of, sent_with, with_bits, tick_start, new_sending};
 
 use crate::air_tick::{SAMPLES, Sent};
@@ -70,7 +71,7 @@ impl Sending {
             stage: Stage::Opening {
                 left: 8 * opening_flags(parameters.tx_delay),
             },
-            frames: 1,
+            frames: 0,
             tail: parameters.tx_tail,
             line: NrziOut::new(),
             modulator: Modulator::new(),
@@ -82,6 +83,47 @@ impl Sending {
         ensures { result ≡ stage_over self.now.stage }
     {
         matches!(self.stage, Stage::Over)
+    }
+
+    /// Whether the next tick takes a frame of a link: the opening flags or a frame end with it, there are fewer than
+    /// eight frames, and none of a link waits to follow.
+    pub(crate) fn takes_frame(&self, queue: &Queue) -> bool
+        ensures { result ≡ sender_takes self.now queue.now }
+    {
+        self.ends_in_tick(queue)
+            && self.frames < MOST_FRAMES
+            && !queue.holds_of_links(self.on_air())
+    }
+
+    /// Whether the next frame is the last.
+    pub(crate) fn takes_last(&self) -> bool
+        ensures { result ≡ (self.now.frames + 1 == 8) }
+    {
+        self.frames == MOST_FRAMES - 1
+    }
+
+    /// Whether the opening flags or the front frame end with the bits of a tick.
+    fn ends_in_tick(&self, queue: &Queue) -> bool
+        ensures { result ≡ ends_in_tick self.now.stage queue.now }
+    {
+        match self.stage {
+            Stage::Opening { left } => left <= u16::from(TICK_BITS),
+            Stage::Frame { bits } => match queue.front() {
+                Some(octets) => bits.end_within(TICK_BITS, octets),
+                None => false,
+            },
+            Stage::Following { .. } | Stage::Closing { .. } | Stage::Over => false,
+        }
+    }
+
+    /// How many of the frames that wait are on the air.
+    fn on_air(&self) -> usize
+        ensures { result ≡ on_air_in self.now.stage }
+    {
+        match self.stage {
+            Stage::Frame { .. } | Stage::Following { .. } => 1,
+            Stage::Opening { .. } | Stage::Closing { .. } | Stage::Over => 0,
+        }
     }
 
     /// The samples of a tick, and the frame that is sent with it.
@@ -111,10 +153,7 @@ impl Sending {
         ensures waiting { queue.new ≡ (step_of self.old queue.old).waiting }
     {
         match self.stage {
-            Stage::Opening { left } => {
-                self.stage = behind_opening(left, queue);
-                Bit::of(flag_bit(left))
-            }
+            Stage::Opening { left } => self.step_in_opening(left, queue),
             Stage::Frame { bits } => self.step_in_frame(bits, queue),
             Stage::Following { left, another } => self.step_in_flag(left, another, queue),
             Stage::Closing { left } => {
@@ -123,6 +162,22 @@ impl Sending {
             }
             Stage::Over => Bit::silent(),
         }
+    }
+
+    /// A bit of the opening flags. With their last one it is decided what follows: the front frame, or the closing
+    /// flags if none waits.
+    fn step_in_opening(&mut self, left: u16, queue: &Queue) -> Bit
+        ensures bit { result.value ≡ Some (flag_bit left) }
+        ensures named { result.named ≡ None }
+        ensures sending { self.new
+            ≡ with_step self.old (opening_step left self.old.tail self.old.frames queue.now) }
+    {
+        if left > 1 {
+            self.stage = Stage::Opening { left: left - 1 };
+        } else {
+            self.open(queue);
+        }
+        Bit::of(flag_bit(left))
     }
 
     /// A bit of the front frame.
@@ -151,6 +206,25 @@ impl Sending {
     {
         self.stage = Stage::Over;
         Bit::silent()
+    }
+
+    /// The last bit of the opening flags is sent: the front frame follows, or the closing flags if none waits.
+    fn open(&mut self, queue: &Queue)
+        ensures { self.new ≡ opened queue.now self.old }
+    {
+        match queue.front() {
+            Some(octets) => {
+                self.frames = 1;
+                self.stage = Stage::Frame {
+                    bits: FrameBits::new(octets),
+                };
+            }
+            None => {
+                self.stage = Stage::Closing {
+                    left: 8 * closing_flags(self.tail),
+                };
+            }
+        }
     }
 
     /// The last bit of the front frame is sent, and it is decided what follows: another frame if one waits after it
@@ -208,16 +282,6 @@ fn flag_bit(left: u16) -> bool
     ensures { result ≡ flag_bit left }
 {
     left % 8 > 1
-}
-
-fn behind_opening(left: u16, queue: &Queue) -> Stage
-    ensures { result ≡ behind_opening left queue.now }
-{
-    if left > 1 {
-        Stage::Opening { left: left - 1 }
-    } else {
-        front_begins(queue)
-    }
 }
 
 fn behind_closing(left: u16) -> Stage

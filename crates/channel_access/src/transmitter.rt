@@ -52,6 +52,7 @@ impl Transmitter {
     ghost use Rattle.channel_access.specs.Held.{new_held, held_with_frame, held_with_setting, held_after};
     ghost use Rattle.channel_access.specs.HeldTick.{channel_of, with_held_decision, held_samples, held_sent};
     ghost use Rattle.channel_access.specs.HeldTick.{after_held_send, held_tick, after_held_tick};
+    ghost use Rattle.channel_access.specs.HeldTaking.{held_takes, held_takes_last};
 
     /// No frame waits, the parameters are the defaults, and the draws are those of the seed.
     pub(crate) fn new(alloc: Global, seed: u64) -> Result<Transmitter, OutOfMemory>
@@ -111,14 +112,34 @@ impl Transmitter {
         self.listening.hear(ours);
     }
 
-    /// A tick, in which another station is heard or not.
-    pub(crate) fn tick(&mut self, busy: bool) -> AirTick
-        ensures tick { (past : List Happening) → self.old.listening ≡ listening_of past
-            → result ≡ held_tick busy past self.old }
-        ensures held { (past : List Happening) → self.old.listening ≡ listening_of past
-            → self.new ≡ after_held_tick busy past self.old }
+    /// Whether the next tick takes a frame of a link.
+    pub(crate) fn takes_frame(&self) -> bool
+        ensures { result ≡ held_takes self.now.sending self.now.waiting }
     {
-        let began = self.sending.is_none() && self.begins(busy);
+        match &self.sending {
+            Some(sending) => sending.takes_frame(&self.queue),
+            None => false,
+        }
+    }
+
+    /// Whether the next frame is the last.
+    pub(crate) fn takes_last(&self) -> bool
+        ensures { result ≡ held_takes_last self.now.sending }
+    {
+        match &self.sending {
+            Some(sending) => sending.takes_last(),
+            None => false,
+        }
+    }
+
+    /// A tick, in which another station is heard or not, and a link wants to send or not.
+    pub(crate) fn tick(&mut self, busy: bool, wants: bool) -> AirTick
+        ensures tick { (past : List Happening) → self.old.listening ≡ listening_of past
+            → result ≡ held_tick busy wants past self.old }
+        ensures held { (past : List Happening) → self.old.listening ≡ listening_of past
+            → self.new ≡ after_held_tick busy wants past self.old }
+    {
+        let began = self.sending.is_none() && self.begins(busy, wants);
         if began {
             self.sending = Some(Sending::new(&self.parameters));
         }
@@ -133,14 +154,14 @@ impl Transmitter {
     }
 
     /// Whether a transmission begins with this tick, at rest.
-    fn begins(&mut self, busy: bool) -> bool
+    fn begins(&mut self, busy: bool, wants: bool) -> bool
         ensures begins { (past : List Happening) → self.old.listening ≡ listening_of past
-            → result ≡ (decision busy (channel_of past self.old)).begins }
+            → result ≡ (decision busy wants (channel_of past self.old)).begins }
         ensures held { (past : List Happening) → self.old.listening ≡ listening_of past
-            → self.new ≡ with_held_decision (decision busy (channel_of past self.old)) self.old }
+            → self.new ≡ with_held_decision (decision busy wants (channel_of past self.old)) self.old }
     {
         self.slot = self.slot_in(busy);
-        if self.queue.len() == 0 {
+        if self.queue.len() == 0 && !wants {
             self.slot = self.slot.saturating_sub(1);
             return false;
         }

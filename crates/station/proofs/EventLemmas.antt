@@ -110,6 +110,7 @@ shows-settled parts out turn set_links settled key link machine shows at is same
         channel = h.channel;
         dropped = h.dropped;
         ticks = h.ticks;
+        asked = h.asked;
       };
       gave = shows.gave;
     }

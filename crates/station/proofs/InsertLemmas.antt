@@ -48,6 +48,7 @@ shows_made parts out turn key id pid local remote path held links shows next bel
           channel = h.channel;
           dropped = h.dropped;
           ticks = h.ticks;
+          asked = h.asked;
         };
         gave = shows.gave;
       },

@@ -43,6 +43,7 @@ shows_set parts out turn links key link next shows at is =
         channel = h.channel;
         dropped = h.dropped;
         ticks = h.ticks;
+        asked = h.asked;
       };
       gave = shows.gave;
     }
@@ -112,9 +113,9 @@ pub shows_forgotten : (parts new : Parts) (out : Out) (turn : Turn) (id : ℕ) �
     → new.connections.items ≡ filter (λ connection. not (connection.id == id)) parts.connections.items
     → new.registrations.items ≡ without_registrations id parts.registrations.items
     → new.parameters ≡ parts.parameters → new.digi ≡ parts.digi → new.links ≡ parts.links → new.channel ≡ parts.channel
-    → new.dropped ≡ parts.dropped
-    → new.ticks ≡ parts.ticks → Shows new out (changing (without_host id) turn)
-shows_forgotten parts new out turn id shows kept left parameters digi links channel dropped ticks =
+    → new.dropped ≡ parts.dropped → new.ticks ≡ parts.ticks → new.asked ≡ parts.asked
+    → Shows new out (changing (without_host id) turn)
+shows_forgotten parts new out turn id shows kept left parameters digi links channel dropped ticks asked =
     let h = shows.holds in
     record {
       holds = record {
@@ -131,6 +132,7 @@ shows_forgotten parts new out turn id shows kept left parameters digi links chan
         channel = subst (λ held. StandsForChannel held turn.now.channel) (sym channel) h.channel;
         dropped = dropped ∙ h.dropped;
         ticks = ticks ∙ h.ticks;
+        asked = asked ∙ h.asked;
       };
       gave = shows.gave;
     }

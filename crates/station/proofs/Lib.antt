@@ -10,6 +10,7 @@ mod TableLemmas
 mod TurnLemmas
 mod EventLemmas
 mod TickLemmas
+mod AskLemmas
 mod InsertLemmas
 mod ShowLemmas
 mod MonitorLemmas

@@ -192,9 +192,9 @@ pub shows_connections : (parts new : Parts) (out : Out) (turn : Turn) (id : ℕ)
     (with_connection id change turn.now.connections)
     → new.parameters ≡ parts.parameters → new.digi ≡ parts.digi → new.registrations ≡ parts.registrations
     → new.links ≡ parts.links → new.channel ≡ parts.channel → new.dropped ≡ parts.dropped → new.ticks ≡ parts.ticks
-    → Shows new out (changing (with_connections (with_connection id change)) turn)
+    → new.asked ≡ parts.asked → Shows new out (changing (with_connections (with_connection id change)) turn)
 shows_connections parts new out turn id change shows keeps each parameters digi registrations links channel dropped
-    ticks =
+    ticks asked =
     let h = shows.holds in
     record {
       holds = record {
@@ -207,6 +207,7 @@ shows_connections parts new out turn id change shows keeps each parameters digi 
         channel = subst (λ held. StandsForChannel held turn.now.channel) (sym channel) h.channel;
         dropped = dropped ∙ h.dropped;
         ticks = ticks ∙ h.ticks;
+        asked = asked ∙ h.asked;
       };
       gave = shows.gave;
     }

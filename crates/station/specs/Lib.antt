@@ -15,6 +15,7 @@ pub mod AgwKinds
 pub mod AgwRequests
 pub mod Kiss
 pub mod Heard
+pub mod Asking
 pub mod Ticks
 pub mod Leaving
 pub mod Host

@@ -9,14 +9,14 @@ use Rattle.link_machine.specs.declared.fault.LinkFault.{LinkFault}
 use Rattle.link_machine.specs.declared.fault.LinkFault.TheVariants.{WrongState, Full, TooLong, Memory}
 use Rattle.link_machine.specs.Done.{Done}
 use Rattle.link_machine.specs.Event.{Event}
-use Rattle.link_machine.specs.Event.Event.{Connect, Send, Disconnect, Hear, Tick}
+use Rattle.link_machine.specs.Event.Event.{Connect, Send, Disconnect, Hear, Tick, Seize}
 use Rattle.link_machine.specs.Machine.{modulus_named}
 use Rattle.link_machine.specs.Step.{step}
 use Rattle.station.specs.declared.link_event.LinkEvent.{LinkEvent}
 use Rattle.station.specs.declared.owned_link.OwnedLink.{OwnedLink}
 use Rattle.station.specs.declared.link_event.LinkEvent.TheVariants.{Connect as ConnectNow, Send as SendNow}
 use Rattle.station.specs.declared.link_event.LinkEvent.TheVariants.{Disconnect as DisconnectNow, Hear as HearNow}
-use Rattle.station.specs.declared.link_event.LinkEvent.TheVariants.{Tick as TickNow}
+use Rattle.station.specs.declared.link_event.LinkEvent.TheVariants.{Tick as TickNow, Seize as SeizeNow}
 use Rattle.station.specs.Links.{Link}
 
 abbrev pub event_of : LinkEvent → Event
@@ -24,7 +24,8 @@ event_of ConnectNow = Connect
 event_of (SendNow packet) = Send packet
 event_of DisconnectNow = Disconnect
 event_of (HearNow frame) = Hear frame
-event_of (TickNow waiting) = Tick waiting
+event_of (TickNow still) = Tick still
+event_of (SeizeNow last full) = Seize last full
 
 -- the modulus of the link at a place; 8 if there is none
 abbrev pub held_modulus : Option OwnedLink → Modulus
@@ -37,7 +38,8 @@ HasNumbers ConnectNow place = Unit {0}
 HasNumbers (SendNow packet) place = Unit {0}
 HasNumbers DisconnectNow place = Unit {0}
 HasNumbers (HearNow frame) place = IsNumbered (held_modulus place) (control_of frame.kind)
-HasNumbers (TickNow waiting) place = Unit {0}
+HasNumbers (TickNow still) place = Unit {0}
+HasNumbers (SeizeNow last full) place = Unit {0}
 
 -- the link after its event
 abbrev pub stepped_link : Event → Link → Link

@@ -71,6 +71,7 @@ pub record AreParts (parts : Parts) (s : StationState) : Type 0 where
   pub channel : StandsForChannel parts.channel s.channel
   pub dropped : parts.dropped ≡ s.dropped
   pub ticks : parts.ticks ≡ s.ticks
+  pub asked : parts.asked ≡ s.asked
 
 pub record StandsFor (held : Held) (s : StationState) : Type 0 where
   pub live : held.spent ≡ false

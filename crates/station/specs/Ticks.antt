@@ -1,25 +1,23 @@
 -- A tick of 10 ms: of each link in the order of their keys, then one link is asked for a frame if the channel takes one,
 -- and then of the channel. A frame whose sending ends in it is shown to hosts that monitor the channel.
-use Rattle.std.specs.Prelude.{◌≡◌, ℕ, Bool, true, false, not, ◌&&◌, ◌||◌, nat_lt, if◌then◌else◌, List, ◌++◌, length, filter}
-use Rattle.std.specs.Prelude.{map, slice_get, Option, Some, None}
+use Rattle.std.specs.Prelude.{◌≡◌, ℕ, Bool, true, not, ◌&&◌, ◌||◌, List, map, Option, Some, None}
 use Rattle.std.specs.List.{range_with_len, list_any}
 use Rattle.ax25_address.specs.declared.path.Path.{Path}
 use Rattle.ax25_frames.specs.declared.frame.Frame.{Frame}
-use Rattle.channel_access.specs.Channel.{Channel, air_tick, after_tick, takes_frame, takes_last}
+use Rattle.channel_access.specs.Channel.{Channel, air_tick, after_tick}
 use Rattle.channel_access.specs.Waiting.{WaitingFrame}
 use Rattle.channel_access.specs.declared.air_tick.AirTick.{AirTick}
 use Rattle.channel_access.specs.declared.air_tick.Sent.{Sent}
-use Rattle.link_machine.specs.Event.{Event}
-use Rattle.link_machine.specs.Event.Event.{Seize, Tick}
-use Rattle.link_machine.specs.Wants.{wants}
+use Rattle.link_machine.specs.Event.Event.{Tick}
+use Rattle.station.specs.Asking.{asking, some_wants}
 use Rattle.station.specs.Heard.{IsPathOf, IsReadAs}
 use Rattle.station.specs.LinkEvents.{event_at}
-use Rattle.station.specs.Links.{Link, Links, link_at, most_links}
+use Rattle.station.specs.Links.{Links, most_links}
 use Rattle.station.specs.Monitored.{sent_modulus}
 use Rattle.station.specs.Monitoring.{monitoring}
 use Rattle.station.specs.Registrations.{is_number}
 use Rattle.station.specs.State.{StationState, one_more}
-use Rattle.station.specs.Turn.{Turn, Act, begin, in_order, changing, nothing}
+use Rattle.station.specs.Turn.{Turn, Act, begin, in_order, changing}
 
 -- a frame of the link of a key waits to be sent, or is on the air
 abbrev pub waits : ℕ → List WaitingFrame → Bool
@@ -37,56 +35,18 @@ ticking_at busy key turn = event_at key (Tick (t1_stands busy key turn.now.chann
 unfoldable pub ticking_links : Bool → Act
 ticking_links busy = in_order (map (ticking_at busy) (range_with_len 0 most_links))
 
--- ---- asking
-
-abbrev pub link_wants : Option Link → Bool
-link_wants None = false
-link_wants (Some link) = wants link.machine
-
--- the keys of the links that want to send
-abbrev pub wanting : Links → List ℕ
-wanting links = filter (λ key. link_wants (link_at key links)) (range_with_len 0 most_links)
-
--- a link wants to send
-abbrev pub some_wants : Links → Bool
-some_wants links = nat_lt 0 (length (wanting links))
-
--- The link that is asked: the next by key, round and round, after the one that was asked last.
-abbrev pub next_after : ℕ → List ℕ → Option ℕ
-next_after key keys = slice_get (filter (nat_lt key) keys ++ keys) 0
-
-abbrev pub with_asked : ℕ → StationState → StationState
-with_asked key s = record s { asked = key }
-
--- the key of the link that is asked in this tick, if the channel takes a frame
-abbrev pub asked_key : Bool → StationState → Option ℕ
-asked_key busy s =
-    if takes_frame busy (some_wants s.links) s.channel then next_after s.asked (wanting s.links) else None
-
--- what it is asked: whether the transmission ends with the frame, and whether both sides may send at once
-abbrev pub seizing : Bool → StationState → Event
-seizing busy s = Seize (takes_last busy (some_wants s.links) s.channel) s.channel.parameters.full_duplex
-
-abbrev pub asking_at : Option ℕ → Event → Act
-asking_at None event = nothing
-asking_at (Some key) event turn = event_at key event (changing (with_asked key) turn)
-
-abbrev pub asking : Bool → Act
-asking busy turn = asking_at (asked_key busy turn.now) (seizing busy turn.now) turn
-
--- the links have ticked, and one was perhaps asked; `wants` says that one wanted to send before it was asked
+-- the links have ticked, and one was perhaps asked
 abbrev pub asked_links : Bool → Act
-asked_links busy turn = asking busy (ticking_links busy turn)
+asked_links busy turn = asking (ticking_links busy turn)
 
-abbrev pub wanted_in : Bool → Turn → Bool
-wanted_in busy turn = some_wants (ticking_links busy turn).now.links
-
-abbrev pub with_air_tick : Bool → Bool → StationState → StationState
-with_air_tick busy wants s = record s { channel = after_tick busy wants s.channel; ticks = one_more s.ticks }
+abbrev pub with_air_tick : Bool → StationState → StationState
+with_air_tick busy s =
+    record s { channel = after_tick busy (some_wants s.links) s.channel; ticks = one_more s.ticks }
 
 -- what the channel sends
 abbrev pub air_in : Bool → Turn → AirTick
-air_in busy turn = air_tick busy (wanted_in busy turn) (asked_links busy turn).now.channel
+air_in busy turn =
+    let s = (asked_links busy turn).now in air_tick busy (some_wants s.links) s.channel
 
 abbrev pub air_of : Bool → StationState → AirTick
 air_of busy s = air_in busy (begin s)
@@ -97,8 +57,7 @@ shown_sent frame turn = monitoring true turn.now.ticks frame turn
 
 -- the links tick, one is perhaps asked, the frame is shown, and the channel ticks
 abbrev pub ticking : Bool → Option Frame → Act
-ticking busy frame turn =
-    changing (with_air_tick busy (wanted_in busy turn)) (shown_sent frame (asked_links busy turn))
+ticking busy frame turn = changing (with_air_tick busy) (shown_sent frame (asked_links busy turn))
 
 -- the frame whose sending ends, as it is read when the links stand so
 abbrev pub IsSentFrame : Option Sent → Links → Option Frame → Type 0

@@ -9,7 +9,7 @@
 //!   accepts(id)                may octets of this connection be given?
 //!   host(Bytes), host(Left)    what hosts sent
 //!   heard(octets)              each frame that was received
-//!   tick(busy)                 each link in the order of its key, then the channel
+//!   tick(busy)                 each link in the order of its key, one gives a frame if the channel takes it, the channel
 //! A connection
 //!   host(Joined)               KISS or AGWPE; a 65th is in `closed`, and has not joined
 //!   heard                      KISS is shown each frame, AGWPE what it asked for
@@ -30,6 +30,8 @@
 //!   a repeater has H clear     queued with H set, if that is this station; nothing more
 //!   a link (dest, source)      read in its modulus, and its event
 //!   dest is registered         read modulo 8; a link is made if the frame is no UI, XID, TEST, UA, DM or FRMR
+//! The channel takes a frame     where the opening flags or a frame end, and none of a link waits
+//!   a link that wants to send  is asked, the next one by key, round and round
 //! An event of a link
 //!   step, settle               an idle link is removed, and its key is free for the next one
 //!   frames                     to the transmit queue under its key, or dropped and counted if 256 wait

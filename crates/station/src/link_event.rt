@@ -27,6 +27,8 @@ pub enum LinkEvent {
     Hear(Frame),
     /// A tick passes, and whether T1 stands still in it.
     Tick(bool),
+    /// The channel takes a frame of it: whether the transmission ends with it, and whether both sides may send at once.
+    Seize(bool, bool),
 }
 
 impl OwnedLink {
@@ -53,6 +55,7 @@ impl OwnedLink {
             LinkEvent::Disconnect => memory.took(unless_refused(alloc, self.machine.disconnect())),
             LinkEvent::Hear(frame) => memory.took(self.machine.frame(&frame)),
             LinkEvent::Tick(still) => memory.took(self.machine.tick(still)),
+            LinkEvent::Seize(last, full) => memory.took(self.machine.seize(last, full)),
         }
     }
 }

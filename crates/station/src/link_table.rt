@@ -4,11 +4,12 @@ ghost use Rattle.std.specs.Prelude.{replicate, true, position, count_by, is_some
 ghost use Rattle.std.specs.Option.{option_copied, option_or};
 ghost use Rattle.link_machine.specs.Sent.{IsWritable};
 ghost use Rattle.link_machine.specs.Step.{step, done_of};
+ghost use Rattle.station.specs.Asking.{link_wants, wants_from, first_wanting, some_wants, next_wanting};
 ghost use Rattle.station.specs.HasFew.{HasFew};
 ghost use Rattle.station.specs.HeldLinks.{is_held_between, IsVacant};
 ghost use Rattle.station.specs.LinkRequests.{event_of, held_modulus, HasNumbers, stepped_link};
 ghost use Rattle.station.specs.Leaving.{without_owner};
-ghost use Rattle.station.specs.Links.{Link, Links};
+ghost use Rattle.station.specs.Links.{Link, Links, link_at};
 ghost use Rattle.station.specs.Monitored.{modulus_between};
 ghost use Rattle.station.specs.StandsFor.{StandsForLinks};
 ghost use Rattle.station.specs.TableSteps.{place_at, HasAt, IsSetAt, settled_at};
@@ -152,6 +153,52 @@ impl LinkTable {
         match self.key_between(first, second) {
             Some(key) => Some(key),
             None => self.key_between(second, first),
+        }
+    }
+
+    /// The key of the next link that wants to send after the link of a key, round and round.
+    pub(crate) fn next_wanting(&self, last: u32) -> Option<u32>
+        ensures { (links : Links) → StandsForLinks self.now links → result ≡ next_wanting last links }
+    {
+        match self.first_wanting(u64::from(last) + 1) {
+            Some(key) => Some(key),
+            None => self.first_wanting(0),
+        }
+    }
+
+    /// Whether a link wants to send.
+    pub(crate) fn some_wants(&self) -> bool
+        ensures { (links : Links) → StandsForLinks self.now links → result ≡ some_wants links }
+    {
+        self.first_wanting(0).is_some()
+    }
+
+    /// The key of the first link that wants to send, from a key on.
+    fn first_wanting(&self, start: u64) -> Option<u32>
+        ensures { (links : Links) → StandsForLinks self.now links → result ≡ first_wanting start links }
+    {
+        for key in 0..MOST_LINKS {
+            if self.wants_from(start, key) {
+                return Some(key);
+            }
+        }
+        None
+    }
+
+    /// Whether the link of a key wants to send, if the key is not below `start`.
+    fn wants_from(&self, start: u64, key: u32) -> bool
+        ensures { (links : Links) → StandsForLinks self.now links → result ≡ wants_from start links key }
+    {
+        u64::from(key) >= start && self.wants(key)
+    }
+
+    /// Whether there is a link of a key that wants to send.
+    fn wants(&self, key: u32) -> bool
+        ensures { (links : Links) → StandsForLinks self.now links → result ≡ link_wants (link_at key links) }
+    {
+        match self.get(key) {
+            Some(link) => link.wants(),
+            None => false,
         }
     }
 

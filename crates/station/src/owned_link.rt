@@ -28,6 +28,9 @@ impl OwnedLink {
     ghost use Rattle.station.specs.HeldLinks.{is_held_between};
     ghost use Rattle.station.specs.LinkEvents.{is_idle};
     ghost use Rattle.station.specs.Registrations.{is_number};
+    ghost use Rattle.station.specs.Links.{Link as Owned};
+    ghost use Rattle.station.specs.StandsFor.{StandsForLink};
+    ghost use Rattle.link_machine.specs.Wants.{wants};
 
     /// Whether it is another connection's, or holds few packets.
     pub(crate) fn has_few(&self, id: u32) -> bool
@@ -58,6 +61,13 @@ impl OwnedLink {
         ensures { result ≡ is_held_between local.now remote.now (Some self.now) }
     {
         self.local == *local && self.remote == *remote
+    }
+
+    /// Whether it wants to send.
+    pub(crate) fn wants(&self) -> bool
+        ensures { (link : Owned) → StandsForLink self.now link → result ≡ wants link.machine }
+    {
+        self.machine.wants()
     }
 
     /// Whether there is no link any more.

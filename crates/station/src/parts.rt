@@ -38,6 +38,8 @@ pub struct Parts {
     pub dropped: u64,
     /// How many ticks were made. The count stays at the greatest number of 64 bits.
     pub ticks: u64,
+    /// The key of the link that was asked for a frame last.
+    pub asked: u32,
 }
 
 impl Parts {
@@ -66,6 +68,7 @@ impl Parts {
             channel: Access::new(alloc, seed)?,
             dropped: 0,
             ticks: 0,
+            asked: 0,
         })
     }
 

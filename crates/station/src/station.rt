@@ -124,7 +124,8 @@ impl Station {
     }
 
     /// A tick of 10 ms of each link, in the order of their keys, and then of the channel; `busy` says whether
-    /// another station is heard. Fails only for want of memory, and is then spent.
+    /// another station is heard. Before the channel's, one link that wants to send is asked for a frame if the channel
+    /// takes one. Fails only for want of memory, and is then spent.
     pub fn tick(&mut self, busy: bool) -> Result<TickOut, OutOfMemory>
         ensures stood { self.old.spent ≡ false → StandsForSome self.old }
         ensures air { (s : StationState) → StandsFor self.old s → IfOk result (λ tick. tick.air ≡ air_of busy s) }

@@ -1,5 +1,6 @@
-//! A tick of the links and of the channel.
+//! A tick of the links and of the channel, which may take a frame of one of them.
 ghost use Rattle.std.specs.Prelude.{◌≡◌, ◌||◌, ◌&&◌, not, IfOk, OnOk, true, OnErr};
+ghost use Rattle.station.specs.Asking.{asking};
 ghost use Rattle.station.specs.Held.{ids_in};
 ghost use Rattle.station.specs.StandsFor.{Shows};
 ghost use Rattle.station.specs.State.{one_more};
@@ -15,7 +16,8 @@ use channel_access::AirTick;
 use tnc_base::OutOfMemory;
 
 impl Parts {
-    /// A tick of each link, and then of the channel. Hosts that monitor are shown the frame whose sending has ended.
+    /// A tick of each link, and then of the channel, which takes a frame of a link before if it can. Hosts that monitor
+    /// are shown the frame whose sending has ended.
     pub(crate) fn tick(
         &mut self,
         memory: &mut Memory,
@@ -29,7 +31,9 @@ impl Parts {
         ensures wanted { OnErr result (memory.new.refused ≡ true) }
     {
         self.tick_links(memory, out, busy)?;
-        let air = self.channel.tick(busy);
+        self.ask_link(memory, out)?;
+        let wants = self.links.some_wants();
+        let air = self.channel.tick(busy, wants);
         self.monitor_sent(memory, out, &air.sent)?;
         self.ticks = one_more(self.ticks);
         Ok(air)
@@ -51,6 +55,25 @@ impl Parts {
             self.tick_link(memory, out, key, busy)?;
         }
         Ok(())
+    }
+
+    /// Asks the next link that wants to send for a frame, if the channel takes one.
+    fn ask_link(&mut self, memory: &mut Memory, out: &mut HostOut) -> Result<(), OutOfMemory>
+        ensures shows { (turn : Turn) → Shows self.old out.old turn
+            → OnOk result (Shows self.new out.new (asking turn)) }
+        ensures ids { OnOk result (ids_in self.new ≡ ids_in self.old) }
+        ensures wanted { OnErr result (memory.new.refused ≡ true) }
+    {
+        if !self.channel.takes_frame() {
+            return Ok(());
+        }
+        let Some(key) = self.links.next_wanting(self.asked) else {
+            return Ok(());
+        };
+        let last = self.channel.takes_last();
+        let full_duplex = self.channel.parameters().full_duplex;
+        self.asked = key;
+        self.link_event(memory, out, key, LinkEvent::Seize(last, full_duplex))
     }
 
     /// A tick of the link that a key has, which is told whether T1 stands still.

@@ -44,7 +44,7 @@ fn tick_into(
     samples: &mut Vec<i16>,
     access: &mut Access,
 ) -> Result<(bool, Option<u8>, bool), Fail> {
-    let air = access.tick(true);
+    let air = access.tick(true, false);
     samples.extend_from_slice(air.samples.as_slice())?;
     let after = air.sent.map(|sent| sent.after);
     Ok((air.began, after, access.waiting(0)))
@@ -107,7 +107,7 @@ fn a_draw_begins_in_a_free_slot(rt: HostRuntime) -> Result<(), Fail> {
         access.set(Param::Persist(*persist));
         access.set(Param::SlotTime(*slot_time));
         for tick in 1..begins.saturating_add(3) {
-            let began = access.tick(tick == *busy).began;
+            let began = access.tick(tick == *busy, false).began;
             assert_equal(&rt, &(*seed, tick, began), &(*seed, tick, tick == *begins));
         }
     }
@@ -140,7 +140,7 @@ fn last_begin(alloc: Global, access: &mut Access, script: &str) -> Result<u32, F
             b'x' => access.heard(false),
             free_or_busy => {
                 tick = tick.saturating_add(1);
-                if access.tick(free_or_busy == b'b').began {
+                if access.tick(free_or_busy == b'b', false).began {
                     last = tick;
                 }
             }
@@ -165,7 +165,7 @@ fn who_was_spoken_to_has_the_turn(rt: HostRuntime) -> Result<(), Fail> {
 #[test]
 fn nothing_begins_without_a_frame(rt: HostRuntime) -> Result<(), Fail> {
     let mut access = quick_access(rt.alloc(), 0)?;
-    assert!(rt; !access.tick(false).began);
+    assert!(rt; !access.tick(false, false).began);
     decisions_add_bits();
     the_end_is_a_transmission();
     a_tick_is_a_part_of_the_whole();
@@ -177,7 +177,7 @@ fn nothing_begins_without_a_frame(rt: HostRuntime) -> Result<(), Fail> {
 fn eight_frames_are_one_transmission(rt: HostRuntime) -> Result<(), Fail> {
     let mut access = quick_access(rt.alloc(), 9)?;
     for tick in 1..101_u32 {
-        let began = access.tick(true).began;
+        let began = access.tick(true, false).began;
         assert_equal(&rt, &(tick, began), &(tick, tick == 1 || tick == 100));
     }
     assert_equal(&rt, &(access.len(), access.waiting(8)), &(1, true));
@@ -194,7 +194,7 @@ fn joined(
     let mut began = 0_u32;
     let mut sent = None;
     for tick in 1..last.saturating_add(1) {
-        let air = access.tick(true);
+        let air = access.tick(true, false);
         began = began.saturating_add(u32::from(air.began));
         sent = air.sent.map(|sent| sent.after);
         if tick == comes {
@@ -217,5 +217,72 @@ fn a_frame_joins_before_the_end_of_the_one_before(rt: HostRuntime) -> Result<(),
         let got = (*comes, began, sent, access.len());
         assert_equal(&rt, &got, &(*comes, *transmissions, Some(*after), 0));
     }
+    Ok(())
+}
+
+/// A link wants to send in the first tick, and its frame comes before a tick. Tells how many transmissions begin, and the
+/// tick in which the frame is sent.
+fn late(alloc: Global, access: &mut Access, comes: u32) -> Result<(u32, u32), Fail> {
+    let mut began = 0_u32;
+    let mut sent = 0_u32;
+    for tick in 1..20_u32 {
+        if tick == comes {
+            let _ = access.queue(Some(0), shortest(alloc)?);
+        }
+        let air = access.tick(true, tick == 1);
+        began = began.saturating_add(u32::from(air.began));
+        if air.sent.is_some() {
+            sent = tick;
+        }
+    }
+    Ok((began, sent))
+}
+
+/// Each row: the tick before which the frame comes, how many transmissions begin, and the tick in which it is sent.
+const LATE: &[(u32, u32, u32)] = &[(1, 1, 14), (2, 1, 14), (3, 2, 16)];
+
+// Two opening flags end in tick 2. A frame that waits then follows, and else a closing flag ends the transmission with that
+// tick.
+#[test]
+fn a_transmission_begins_with_its_flags_alone(rt: HostRuntime) -> Result<(), Fail> {
+    for (comes, transmissions, last) in LATE {
+        let mut access = quick_access(rt.alloc(), 0)?;
+        let got = late(rt.alloc(), &mut access, *comes)?;
+        assert_equal(&rt, &(*comes, got), &(*comes, (*transmissions, *last)));
+    }
+    Ok(())
+}
+
+/// A link gives a frame whenever the channel takes one. Tells before which ticks it does, and whether the frame is the
+/// last.
+fn taken(alloc: Global, access: &mut Access) -> Result<Vec<(u32, bool)>, Fail> {
+    let mut ticks = Vec::new(alloc);
+    for tick in 1..100_u32 {
+        if access.takes_frame() {
+            ticks.push((tick, access.takes_last()))?;
+            let _ = access.queue(Some(0), shortest(alloc)?);
+        }
+        access.tick(true, true);
+    }
+    Ok(ticks)
+}
+
+/// The ticks in which the opening flags and the frames end: bit 16, and every 146 bits after 154.
+const TAKEN: [(u32, bool); 8] = [
+    (2, false),
+    (13, false),
+    (25, false),
+    (38, false),
+    (50, false),
+    (62, false),
+    (74, false),
+    (86, true),
+];
+
+#[test]
+fn eight_frames_are_taken_one_by_one(rt: HostRuntime) -> Result<(), Fail> {
+    let mut access = quick_access(rt.alloc(), 0)?;
+    let ticks = taken(rt.alloc(), &mut access)?;
+    assert_equal(&rt, &ticks.as_slice(), &TAKEN.as_slice());
     Ok(())
 }

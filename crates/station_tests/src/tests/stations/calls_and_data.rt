@@ -34,6 +34,7 @@ fn registered(alloc: Global) -> Result<Box<Desk>, Fail> {
 /// Connection 1 has called NJ7P so, and is answered.
 fn connected(alloc: Global, kind: (u8, u8)) -> Result<Box<Desk>, Fail> {
     let mut desk = registered(alloc)?;
+    desk.send_at_once()?;
     desk.ask_with_pid(1, kind, ENDS, b"")?;
     only_frame(&mut desk)?;
     desk.hear(UA)?;
@@ -211,27 +212,29 @@ fn a_65th_link_is_not_made(rt: HostRuntime) -> Result<(), Fail> {
     Ok(())
 }
 
-/// Each row: how many octets are given, and how long the frames are.
-const PACKETS: &[(usize, &[usize])] = &[
-    (0, &[]),
-    (1, &[17]),
-    (256, &[272]),
-    (257, &[272, 17]),
-    (600, &[272, 272, 104]),
+/// Each row: how many octets are given, in how many ticks the channel takes them, and how long the frames are. The SABM
+/// goes out first, in 13 ticks, and each whole packet in 184. T1 runs out after 200 silent ticks.
+const PACKETS: &[(usize, usize, &[usize])] = &[
+    (0, 200, &[]),
+    (1, 200, &[17]),
+    (256, 300, &[272]),
+    (257, 300, &[272, 17]),
+    (600, 500, &[272, 272, 104]),
 ];
 
-/// How long the frames of so many octets are.
-fn lens_of(alloc: Global, count: usize) -> Result<Vec<usize>, Fail> {
+/// How long the frames of so many octets are that are taken in so many ticks.
+fn lens_of(alloc: Global, count: usize, ticks: usize) -> Result<Vec<usize>, Fail> {
     let octets = filled(alloc, 65, count)?;
     let mut desk = connected(alloc, CALL)?;
     desk.ask_with_pid(1, DATA, ENDS, &octets)?;
+    desk.tick(ticks)?;
     desk.lens()
 }
 
 #[test]
 fn data_goes_in_packets_of_256_octets(rt: HostRuntime) -> Result<(), Fail> {
-    for (count, want) in PACKETS {
-        let lens = lens_of(rt.alloc(), *count)?;
+    for (count, ticks, want) in PACKETS {
+        let lens = lens_of(rt.alloc(), *count, *ticks)?;
         assert_equal(&rt, &lens.as_slice(), want);
     }
     Ok(())
@@ -244,7 +247,7 @@ fn receive_ready(number: u8) -> [u8; 15] {
     frame
 }
 
-// 40 packets go out by windows of four, each once the four before it are acknowledged.
+// 40 packets go out by windows of four, each in 736 ticks once the four before it are acknowledged.
 #[test]
 fn a_link_carries_many_packets(rt: HostRuntime) -> Result<(), Fail> {
     let octets = filled(rt.alloc(), 65, 2560)?;
@@ -253,6 +256,7 @@ fn a_link_carries_many_packets(rt: HostRuntime) -> Result<(), Fail> {
         desk.ask_with_pid(1, DATA, ENDS, &octets)?;
     }
     for number in [4, 8, 12, 16, 20, 24, 28, 32, 36, 40_u8] {
+        desk.tick(760)?;
         let lens = desk.lens()?;
         assert_equal(
             &rt,
@@ -278,6 +282,7 @@ const PIDS: &[((u8, u8), u8, u8)] = &[
 fn pid_of(alloc: Global, call: (u8, u8), pid: u8) -> Result<Option<u8>, Fail> {
     let mut desk = connected(alloc, call)?;
     desk.ask_with_pid(1, (b'D', pid), ENDS, b"A")?;
+    desk.tick(20)?;
     let frame = only_frame(&mut desk)?;
     Ok(frame.as_slice().get(15).copied())
 }

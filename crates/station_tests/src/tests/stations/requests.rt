@@ -41,24 +41,32 @@ fn whole_call(alloc: Global) -> Result<Vec<u8>, Fail> {
 fn after_a_whole_call(alloc: Global) -> Result<Box<Desk>, Fail> {
     let octets = whole_call(alloc)?;
     let mut desk = Desk::new(alloc, Params::default())?;
+    desk.send_at_once()?;
     desk.take(1, &octets)?;
     Ok(desk)
 }
 
-/// How long the link frames are that a heard frame brings.
-fn lens_after(desk: &mut Desk, frame: &[u8]) -> Result<Vec<usize>, Fail> {
+/// How long the link frames are that a heard frame and so many ticks bring.
+fn lens_after(desk: &mut Desk, frame: &[u8], ticks: usize) -> Result<Vec<usize>, Fail> {
     desk.hear(frame)?;
+    desk.tick(ticks)?;
     desk.lens()
 }
 
-/// Each row: what is heard, first nothing, and how long the link frames then are.
-const LENS: &[(&[u8], &[usize])] = &[(b"", &[15]), (UA, &[272, 272, 104]), (RR, &[15])];
+/// Each row: what is heard, first nothing, how many ticks pass, and how long the link frames then are. Data goes out as the
+/// channel takes it, after the SABM.
+const LENS: &[(&[u8], usize, &[usize])] = &[
+    (b"", 0, &[15]),
+    (UA, 0, &[]),
+    (b"", 500, &[272, 272, 104]),
+    (RR, 0, &[15]),
+];
 
 #[test]
 fn a_whole_call_in_one_piece(rt: HostRuntime) -> Result<(), Fail> {
     let mut desk = after_a_whole_call(rt.alloc())?;
-    for (frame, want) in LENS {
-        let lens = lens_after(&mut desk, frame)?;
+    for (frame, ticks, want) in LENS {
+        let lens = lens_after(&mut desk, frame, *ticks)?;
         assert_equal(&rt, &lens.as_slice(), want);
     }
     Ok(())
@@ -97,13 +105,17 @@ fn tells_how_a_whole_call_goes(rt: HostRuntime) -> Result<(), Fail> {
     Ok(())
 }
 
-/// How many link frames and pieces there are after two pieces of a whole call and its answer.
-fn counts(alloc: Global, (front, rest): (&[u8], &[u8])) -> Result<(usize, usize), Fail> {
+/// How many link frames and pieces there are after two pieces of a whole call and its answer, and whether three packets
+/// wait.
+fn counts(alloc: Global, (front, rest): (&[u8], &[u8])) -> Result<(usize, usize, bool), Fail> {
     let mut desk = Desk::new(alloc, Params::default())?;
     desk.take(1, front)?;
     desk.take(1, rest)?;
     desk.hear(UA)?;
-    Ok((desk.out().queued.len(), desk.out().pieces.len()))
+    let (frames, pieces) = (desk.out().queued.len(), desk.out().pieces.len());
+    desk.ask(1, b'Y', ENDS, b"")?;
+    let waits = desk.tells(b'Y', ENDS, b"\x03\0\0\0")?;
+    Ok((frames, pieces, waits))
 }
 
 #[test]
@@ -111,7 +123,7 @@ fn a_whole_call_cut_at_every_octet(rt: HostRuntime) -> Result<(), Fail> {
     let octets = whole_call(rt.alloc())?;
     for cut in 0..octets.len() {
         let got = counts(rt.alloc(), octets.split_at(cut))?;
-        assert_equal(&rt, &(cut, got), &(cut, (4, 3)));
+        assert_equal(&rt, &(cut, got), &(cut, (1, 3, true)));
     }
     Ok(())
 }

@@ -53,6 +53,7 @@ returns-clause-shows c = λ turn shows.
         channel = shows.holds.channel;
         dropped = shows.holds.dropped;
         ticks = shows.holds.ticks;
+        asked = shows.holds.asked;
       };
       gave = shows.gave;
     })) c.push.ensures.items

@@ -1,22 +1,28 @@
-use Rattle.station.proofs.Common.{◌≡◌, Option, ◌∙◌, ap, subst, Sent, Parts, Shows, IsSentFrame}
-use Rattle.station.proofs.Common.{ticking_links, Turn, changing}
+use Rattle.station.proofs.Common.{◌≡◌, Bool, Option, ◌∙◌, ap, subst, Sent, Parts, Shows, IsSentFrame}
+use Rattle.station.proofs.Common.{Turn, changing}
 use Rattle.std.proofs.Common.{refl}
-use Rattle.channel_access.specs.Channel.{after_tick}
+use Rattle.channel_access.specs.Channel.{air_tick, after_tick}
+use Rattle.channel_access.specs.StandsFor.{StandsFor as StandsForChannel}
 use Rattle.channel_access.specs.declared.air_tick.AirTick.{AirTick}
+use Rattle.station.specs.Asking.{some_wants}
 use Rattle.station.specs.State.{one_more}
-use Rattle.station.specs.Ticks.{air_in, ticking}
+use Rattle.station.specs.Ticks.{asked_links, air_in, ticking}
 use Rattle.station.proofs.parts.Parts.tick.Goals as goal
 
 pub returns-clause-step : goal.returns-clause-step
 returns-clause-step c = λ turn shows.
     let busy = c.args.busy in
-    let linked : Turn = ticking_links busy turn in
-    let first = c.in_ok-tick_links.ensures.shows turn shows in
+    let asked : Turn = asked_links busy turn in
+    let wants : Bool = some_wants asked.now.links in
+    let ticked = c.in_ok-tick_links.ensures.shows turn shows in
+    let first = c.in_ok-ask_link.ensures.shows _ ticked in
+    let told : c.some_wants-wants.result ≡ wants = c.some_wants-wants.ensures asked.now.links first.holds.links in
     let sent : c.tick-air.result.sent ≡ (air_in busy turn).sent =
-    ap (λ (air : AirTick). air.sent) (c.tick-air.ensures.tick linked.now.channel first.holds.channel) in
-    let aired : Turn = changing (λ s. record s { channel = after_tick busy s.channel }) linked in
-    let parts : Parts = record c.tick_links.new.self { channel = c.tick-air.new.self } in
-    let second : Shows parts c.tick_links.new.out aired = record {
+    ap (λ (air : AirTick). air.sent) (c.tick-air.ensures.tick asked.now.channel first.holds.channel
+    ∙ ap (λ b. air_tick busy b asked.now.channel) told) in
+    let aired : Turn = changing (λ s. record s { channel = after_tick busy wants s.channel }) asked in
+    let parts : Parts = record c.ask_link.new.self { channel = c.tick-air.new.self } in
+    let second : Shows parts c.ask_link.new.out aired = record {
       holds = record {
         parameters = first.holds.parameters;
         digi = first.holds.digi;
@@ -24,9 +30,11 @@ returns-clause-step c = λ turn shows.
         ids = first.holds.ids;
         registrations = first.holds.registrations;
         links = first.holds.links;
-        channel = c.tick-air.ensures.stands_for linked.now.channel first.holds.channel;
+        channel = subst (λ b. StandsForChannel c.tick-air.new.self (after_tick busy b asked.now.channel)) told
+            (c.tick-air.ensures.stands_for asked.now.channel first.holds.channel);
         dropped = first.holds.dropped;
         ticks = first.holds.ticks;
+        asked = first.holds.asked;
       };
       gave = first.gave;
     } in
@@ -34,7 +42,7 @@ returns-clause-step c = λ turn shows.
       ticking busy p.0 turn,
       record {
         monitored = p.0;
-        read_as = subst (λ (named : Option Sent). IsSentFrame named linked.now.links p.0) sent p.1;
+        read_as = subst (λ (named : Option Sent). IsSentFrame named asked.now.links p.0) sent p.1;
         effect = refl;
       },
       record {
@@ -48,6 +56,7 @@ returns-clause-step c = λ turn shows.
           channel = p.2.holds.channel;
           dropped = p.2.holds.dropped;
           ticks = c.one_more-self.ensures ∙ ap one_more p.2.holds.ticks;
+          asked = p.2.holds.asked;
         };
         gave = p.2.gave;
       },
@@ -55,5 +64,9 @@ returns-clause-step c = λ turn shows.
 
 pub returns-clause-air : goal.returns-clause-air
 returns-clause-air c = λ turn shows.
-    c.tick-air.ensures.tick (ticking_links c.args.busy turn).now.channel
-    (c.in_ok-tick_links.ensures.shows turn shows).holds.channel
+    let asked : Turn = asked_links c.args.busy turn in
+    let ticked = c.in_ok-tick_links.ensures.shows turn shows in
+    let first = c.in_ok-ask_link.ensures.shows _ ticked in
+    c.tick-air.ensures.tick asked.now.channel first.holds.channel
+    ∙ ap (λ b. air_tick c.args.busy b asked.now.channel)
+    (c.some_wants-wants.ensures asked.now.links first.holds.links)
