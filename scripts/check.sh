@@ -445,8 +445,8 @@ check "a line of 1025 octets" is_bad_line 0 "long line" "$(printf '%02050d' 0)"
 check "a loop" loops
 check "a rough loop" loops_roughly
 nothing="given 0 cbf29ce484222325 got 0 cbf29ce484222325"
-check "a bench" benches "ticks 252\nsent 4 lost 0\nA 1 $nothing\nB 1 $nothing\n" --seed 7 --octets 0 --full
-check "a wide bench" benches "ticks 252\nsent 4 lost 0\nA 1 $nothing\nB 1 $nothing\n" --seed 7 --octets 0 --full --wide
+check "a bench" benches "ticks 172\nsent 4 lost 0\nA 1 $nothing\nB 1 $nothing\n" --seed 7 --octets 0 --full
+check "a wide bench" benches "ticks 172\nsent 4 lost 0\nA 1 $nothing\nB 1 $nothing\n" --seed 7 --octets 0 --full --wide
 
 # Live stations: one whose air is silence, one that cannot have its ports, and two that hear each other and carry text both
 # ways between their host programs.

@@ -20,10 +20,10 @@ import subprocess
 import sys
 
 WORKED = [
-    ("--seed 7 --octets 0 --full", 0, "ticks 252", "sent 4 lost 0"),
-    ("--seed 7 --octets 0 --full --wide", 0, "ticks 252", "sent 4 lost 0"),
-    ("--seed 7 --octets 2000 --loss 20", 0, "ticks 8222", "sent 31 lost 10"),
-    ("--seed 85 --octets 5000 --full", 0, "ticks 4278", None),
+    ("--seed 7 --octets 0 --full", 0, "ticks 172", "sent 4 lost 0"),
+    ("--seed 7 --octets 0 --full --wide", 0, "ticks 172", "sent 4 lost 0"),
+    ("--seed 7 --octets 2000 --loss 20", 0, "ticks 5264", "sent 16 lost 6"),
+    ("--seed 85 --octets 5000 --full", 0, "ticks 3952", None),
 ]
 REPORTS = {0: r"", 6: r"tnc: stray [0-9a-f]+\n", 7: r"tnc: not quiet at [0-9]+\n", 8: r"tnc: spent after [0-9]+ ticks\n"}
 SET_UP = re.compile(r"([AB]) (\d+) given (\d+) ([0-9a-f]{16}) got (\d+) ([0-9a-f]{16})")

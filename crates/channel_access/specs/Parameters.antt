@@ -7,7 +7,7 @@ use Rattle.channel_access.specs.declared.parameters.Parameters.{Parameters}
 
 -- before anything is set
 abbrev pub default_parameters : Parameters
-default_parameters = record { tx_delay = 50; persist = 63; slot_time = 10; tx_tail = 2; full_duplex = false }
+default_parameters = record { tx_delay = 30; persist = 63; slot_time = 10; tx_tail = 2; full_duplex = false }
 
 -- one of them set, the others as they were
 abbrev pub with_param : Param → Parameters → Parameters

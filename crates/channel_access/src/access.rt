@@ -33,7 +33,7 @@ impl Access {
     ghost use Rattle.channel_access.specs.Channel.{takes_frame, takes_last, air_tick, after_tick, Takes};
     ghost use Rattle.channel_access.specs.StandsFor.{StandsFor, StandsForSome};
 
-    /// No frame waits, and the parameters are the defaults: TXDELAY 50, P 63, slot time 10, TXtail 2, half duplex. The
+    /// No frame waits, and the parameters are the defaults: TXDELAY 30, P 63, slot time 10, TXtail 2, half duplex. The
     /// draws are those of the seed. The 256 places are taken here; fails only for want of memory.
     pub fn new(alloc: Global, seed: u64) -> Result<Access, OutOfMemory>
         ensures { IfOk result (λ access. StandsFor access (new_channel seed)) }

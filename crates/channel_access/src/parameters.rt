@@ -38,7 +38,7 @@ impl Parameters {
         ensures { result ≡ default_parameters }
     {
         Parameters {
-            tx_delay: 50,
+            tx_delay: 30,
             persist: 63,
             slot_time: 10,
             tx_tail: 2,

@@ -21,7 +21,7 @@ const OPTIONS: BenchOptions = BenchOptions {
 fn a_run_of_no_octets_is_told(rt: HostRuntime) -> Result<(), Fail> {
     let mut output = MemSink::new(rt.alloc(), 1000, Vec::new(rt.alloc()))?;
     assert!(rt; bench(rt.alloc(), OPTIONS, &mut output).is_ok());
-    let want = b"ticks 252\n\
+    let want = b"ticks 172\n\
         sent 4 lost 0\n\
         A 1 given 0 cbf29ce484222325 got 0 cbf29ce484222325\n\
         B 1 given 0 cbf29ce484222325 got 0 cbf29ce484222325\n";
@@ -38,8 +38,8 @@ fn a_run_with_losses_is_told(rt: HostRuntime) -> Result<(), Fail> {
     };
     let mut output = MemSink::new(rt.alloc(), 1000, Vec::new(rt.alloc()))?;
     assert!(rt; bench(rt.alloc(), options, &mut output).is_ok());
-    let want = b"ticks 1910\n\
-        sent 16 lost 6\n\
+    let want = b"ticks 1020\n\
+        sent 11 lost 3\n\
         A 1 given 6 5fa5b78966bba91a got 6 ce0f0eec67d63017\n\
         B 1 given 6 ce0f0eec67d63017 got 6 5fa5b78966bba91a\n";
     assert_equal(&rt, &output.written(), &want.as_slice());

@@ -37,11 +37,11 @@ fn is_exchanged(report: &BenchReport, octets: usize) -> bool {
     }
 }
 
-// Both stations only call each other and end the link: SABM, DISC and their answers, each in 63 ticks.
+// Both stations only call each other and end the link: SABM, DISC and their answers, each in 43 ticks.
 #[test]
-fn a_link_without_data_takes_252_ticks(rt: HostRuntime) -> Result<(), Fail> {
+fn a_link_without_data_takes_172_ticks(rt: HostRuntime) -> Result<(), Fail> {
     let report = bench(rt.alloc(), words(7, 0))?;
-    assert_equal(&rt, &counts(&report), &(252, 4, 0));
+    assert_equal(&rt, &counts(&report), &(172, 4, 0));
     assert!(rt; is_exchanged(&report, 0));
     Ok(())
 }
@@ -53,14 +53,14 @@ fn so_does_a_link_modulo_128(rt: HostRuntime) -> Result<(), Fail> {
         ..words(7, 0)
     };
     let report = bench(rt.alloc(), wide)?;
-    assert_equal(&rt, &counts(&report), &(252, 4, 0));
+    assert_equal(&rt, &counts(&report), &(172, 4, 0));
     Ok(())
 }
 
 #[test]
-fn texts_of_5000_octets_take_4278_ticks(rt: HostRuntime) -> Result<(), Fail> {
+fn texts_of_5000_octets_take_3952_ticks(rt: HostRuntime) -> Result<(), Fail> {
     let report = bench(rt.alloc(), words(85, 5000))?;
-    assert_equal(&rt, &report.ticks, &4278);
+    assert_equal(&rt, &report.ticks, &3952);
     assert!(rt; is_exchanged(&report, 5000));
     Ok(())
 }
