@@ -1,5 +1,5 @@
 -- An event from its first act to its last.
-use Rattle.link_machine.proofs.Common.{◌≡◌, ℕ, ◌+◌, ◌-◌, ◌<◌, ◌≤◌, Bool, true, false, if◌then◌else◌, [], Ok, Err, refl}
+use Rattle.link_machine.proofs.Common.{◌≡◌, ℕ, ◌+◌, ◌-◌, ◌<◌, ◌≤◌, Bool, true, false, if◌then◌else◌, Ok, Err, refl}
 use Rattle.link_machine.proofs.Common.{sym, ◌∙◌, ap, subst, arith, inl, false≢true, ahead, Outgoing, StandsForOutgoing}
 use Rattle.link_machine.proofs.Common.{acknowledgement, Control, Room, LinkState, Idle, Calling, Up, Releasing, Done}
 use Rattle.link_machine.proofs.Common.{Machine, is_valid, named, Turn, Act, begin, reset, close, Asked, hear_in, hear}
@@ -7,13 +7,20 @@ use Rattle.link_machine.proofs.Common.{hear_idle, hear_releasing, open_called, e
 use Rattle.link_machine.proofs.Common.{Other, Sabm, Sabme, Disc, Dm, Ua, OutOfMemory, ◌==◌, nat_lt, inr, lt-ltb}
 use Rattle.link_machine.proofs.Common.{ltb-true, ltb-false, eqb-true, not, cond-true, cond-false, settle_in, settled}
 use Rattle.link_machine.proofs.Common.{IsWhole, Holds, Shows, Made, Makes, hear_numbered, IsOutgoing}
-use Rattle.std.proofs.Common.{◌&&◌, Result}
+use Rattle.std.proofs.Common.{Result}
+use Rattle.std.specs.Result.{is_ok}
 use Rattle.std.proofs.Math.Nat.{mod-eq_of_lt}
 use Rattle.selective_reject.specs.declared.outgoing.BadNr.{BadNr}
-use Rattle.selective_reject.specs.Outgoing.{acknowledged as without_acknowledged, is_named}
-use Rattle.selective_reject.proofs.OutgoingRounds.{same_acknowledgement}
+use Rattle.selective_reject.specs.Outgoing.{is_named, after_ask_again, asked_again}
+use Rattle.selective_reject.proofs.OutgoingRounds.{same_acknowledgement, same_sent}
+use Rattle.link_machine.proofs.Common.{picked_out}
+use Rattle.link_machine.proofs.Showing.{holds_outgoing, holds_setting}
+use Rattle.link_machine.specs.Acts.{picking}
 use Rattle.link_machine.specs.declared.machine.Machine.{Machine as Held}
 use Rattle.std.proofs.lemmas.Bool.{le-ltb, cases_lt, leb-true, eqb-false}
+use Rattle.std.specs.Prelude.{◌/◌, ◌%◌}
+use Rattle.selective_reject.proofs.Distances.{ahead-mod}
+use Rattle.link_machine.specs.Frames.{lies_ahead}
 use Rattle.link_machine.specs.Room.{HasRoom}
 
 abbrev pub is_up : LinkState → Bool
@@ -107,7 +114,7 @@ is_named_if_counted false d count bad h = absurd (false≢true (ap is_good h))
     is_good (Err e) = false
 
 -- N(R) acknowledges of the machine what it acknowledges of the link
-as_machine :
+pub as_machine :
     (held : Held) (m : Machine) (nr : ℕ) → Holds held m
     → acknowledgement held.incoming.modulus nr held.outgoing ≡ acknowledgement m.incoming.modulus nr m.outgoing
 as_machine held m nr h =
@@ -128,8 +135,20 @@ valid_number held m nr count h e =
         → (is_valid nr m ≡ true) × (named nr m ≡ m.outgoing.va + count)
     both found = (found.0, ap (λ k. m.outgoing.va + k) found.1)
 
+pub ok_if : {A E : Type 0} (b : Bool) (x : A) (e : E) → is_ok (if b then Ok x else Err e) ≡ b
+ok_if true x e = refl
+ok_if false x e = refl
+
+-- N(S) lies as far ahead of V(R)
+pub vr_lies_ahead : (held : Held) (m : Machine) (ns : ℕ) → Holds held m
+    → nat_lt (ahead held.incoming.modulus held.incoming.vr ns) (held.incoming.modulus / 2) ≡ lies_ahead ns m
+vr_lies_ahead held m ns h =
+    ap (λ v. nat_lt (ahead held.incoming.modulus v ns) (held.incoming.modulus / 2)) h.stands.incoming.vr
+    ∙ ap (λ k. nat_lt (ahead k (m.incoming.vr % m.incoming.modulus) ns) (k / 2)) h.stands.incoming.modulus
+    ∙ ap (λ d. nat_lt d (m.incoming.modulus / 2)) (ahead-mod m.incoming.modulus m.incoming.vr ns)
+
 -- V(S) lies from V(A) to the top, also in whole numbers
-in_number_order : (held o : Outgoing) → IsOutgoing held → StandsForOutgoing held o → (o.va ≤ o.vs) × (o.vs ≤ o.top)
+pub in_number_order : (held o : Outgoing) → IsOutgoing held → StandsForOutgoing held o → (o.va ≤ o.vs) × (o.vs ≤ o.top)
 in_number_order held o formed stands =
     let a : held.va ≤ held.vs = formed.vs in
     let b : held.vs ≤ held.top = formed.top in
@@ -256,3 +275,52 @@ settled_releasing true (Super which nr false) t e = unsettled _ (releasing_is t 
 settled_releasing false (Super which nr flag) t e = unsettled _ (releasing_is t e)
 settled_releasing command (Ui flag pid octets) t e = unsettled _ (releasing_is t e)
 settled_releasing command (Other which flag octets) t e = unsettled _ (releasing_is t e)
+
+-- whether the number that N(R) names was sent
+sent_near : (m : Machine) (nr : ℕ)
+    → nat_lt (ahead m.incoming.modulus m.outgoing.va nr) (m.outgoing.top - m.outgoing.va)
+    ≡ nat_lt (named nr m) m.outgoing.top
+sent_near m nr =
+    let d = ahead m.incoming.modulus m.outgoing.va nr in
+    same_less d (m.outgoing.top - m.outgoing.va) (m.outgoing.va + d) m.outgoing.top (λ h. omega arith) (λ h. omega arith)
+
+pub sent_number : (held : Held) (m : Machine) (nr : ℕ) → Holds held m
+    → nat_lt (ahead held.incoming.modulus held.outgoing.va nr) (held.outgoing.top - held.outgoing.va)
+    ≡ nat_lt (named nr m) m.outgoing.top
+sent_number held m nr h =
+    same_sent held.outgoing m.outgoing held.incoming.modulus nr h.formed.incoming.modulus h.stands.outgoing
+    ∙ ap (λ k. nat_lt (ahead k m.outgoing.va nr) (m.outgoing.top - m.outgoing.va)) h.stands.incoming.modulus
+    ∙ sent_near m nr
+
+-- it is to be sent again if it was
+pub holds_picked :
+    (sent : Bool) (held : Held) (m : Machine) (behind : Outgoing) (nr : ℕ) → Holds held m
+    → sent ≡ nat_lt (named nr m) m.outgoing.top
+    → StandsForOutgoing behind (after_ask_again m.incoming.modulus nr m.outgoing) → IsOutgoing behind
+    → Holds (record held {
+      control = if sent then picking held.control else held.control;
+      outgoing = behind;
+    }) (picked_out (named nr m) m)
+holds_picked true held m behind nr h e stands formed =
+    let n = named nr m in
+    let sent : nat_lt n m.outgoing.top ≡ true = sym e in
+    let o : Outgoing = asked_again n m.outgoing in
+    let S : Outgoing → Type 0 = λ x. StandsForOutgoing behind x in
+    let asked : StandsForOutgoing behind o = subst S (cond-true _ o m.outgoing (sent_near m nr ∙ sent)) stands in
+    let P : Machine → Type 0 = λ x. Holds (record held {
+      control = picking held.control;
+      outgoing = behind;
+    }) x in
+    subst P (sym (cond-true (nat_lt n m.outgoing.top) _ m sent))
+    (holds_outgoing _ _ behind o (holds_setting picking held m h) formed asked)
+holds_picked false held m behind nr h e stands formed =
+    let n = named nr m in
+    let not_sent : nat_lt n m.outgoing.top ≡ false = sym e in
+    let o : Outgoing = asked_again n m.outgoing in
+    let S : Outgoing → Type 0 = λ x. StandsForOutgoing behind x in
+    let same : StandsForOutgoing behind m.outgoing = subst S (cond-false _ o m.outgoing (sent_near m nr ∙ not_sent)) stands in
+    let P : Machine → Type 0 = λ x. Holds (record held { outgoing = behind }) x in
+    subst P (sym (cond-false (nat_lt n m.outgoing.top) (record m {
+      control = picking m.control;
+      outgoing = o;
+    }) m not_sent)) (holds_outgoing held m behind m.outgoing h formed same)

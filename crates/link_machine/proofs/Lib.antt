@@ -7,3 +7,7 @@ pub mod Answered
 pub mod Writable
 pub mod RunLemmas
 pub mod ReceiveLemmas
+pub mod Asking
+pub mod Giving
+pub mod Informing
+pub mod Noticing

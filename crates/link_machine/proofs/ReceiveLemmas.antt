@@ -1,5 +1,5 @@
 -- What becomes of the packet of an I frame.
-use Rattle.link_machine.proofs.Common.{◌≡◌, ℕ, zero, suc, ◌+◌, ◌%◌, ◌<◌, ◌≤◌, ◌==◌, Bool, true, false, if◌then◌else◌}
+use Rattle.link_machine.proofs.Common.{◌≡◌, ℕ, zero, suc, ◌+◌, ◌≤◌, ◌==◌, Bool, true, false, if◌then◌else◌}
 use Rattle.link_machine.proofs.Common.{List, [], ◌∷◌, ◌++◌, length, drop, replicate, Some, refl, sym, ◌∙◌, ap, arith}
 use Rattle.link_machine.proofs.Common.{nat_lt, eqb-true, false≢true, lt-ltb, Packet, Place, Next, Stored, Mode, ahead}
 use Rattle.link_machine.proofs.Common.{empty_place, packet_at, is_full, with_packet, Incoming, took, keeps}
@@ -31,19 +31,19 @@ not_next Stored h = refl
 not_next Again h = refl
 not_next Outside h = refl
 
-pub not_stored : (x : Took) → (x ≡ Stored → ⊥) → is_stored x ≡ false
-not_stored Next h = refl
-not_stored NotNext h = refl
-not_stored Stored h = absurd (h refl)
-not_stored Again h = refl
-not_stored Outside h = refl
-
 pub keeps_none : (x : Took) → is_next x ≡ false → is_stored x ≡ false → keeps x ≡ false
 keeps_none Next h k = absurd (false≢true (sym h))
 keeps_none NotNext h k = refl
 keeps_none Stored h k = absurd (false≢true (sym k))
 keeps_none Again h k = refl
 keeps_none Outside h k = refl
+
+pub keeps_stored : (x : Took) → is_stored x ≡ true → keeps x ≡ true
+keeps_stored Next h = refl
+keeps_stored NotNext h = absurd (false≢true h)
+keeps_stored Stored h = refl
+keeps_stored Again h = absurd (false≢true h)
+keeps_stored Outside h = absurd (false≢true h)
 
 -- a place that stands at the front
 full_at : (ps : List Place) (d : ℕ) → is_full ps 0 ≡ false → (d == 0) ≡ true → is_full ps d ≡ false
@@ -166,7 +166,3 @@ rej_is_not_srej e = false≢true (ap is_srej e)
 
 pub drop_one : (ps : List Place) (packet : Packet) → drop 1 (with_packet ps 0 packet) ≡ drop 1 ps
 drop_one ps packet = drop_with ps 0 packet
-
-pub both_first : (a b : Bool) → (a && b) ≡ true → a ≡ true
-both_first true b e = refl
-both_first false b e = e

@@ -16,7 +16,7 @@ use crate::acts::Acts;
 use crate::machine::Machine;
 use crate::room::Room;
 use ax25_frames::{Kind, Modulus, S, U, W};
-use selective_reject::{Mode, Packet};
+use selective_reject::Packet;
 use std::alloc::Global;
 use tnc_base::{Octets, OutOfMemory};
 
@@ -223,8 +223,9 @@ impl Machine {
     /// SREJ acknowledges with P/F = 1 alone.
     fn acknowledge_by_srej(&mut self, nr: u8, flag: bool)
         requires { nr < self.old.incoming.modulus }
-        ensures { (m : State) → Holds self.old m → is_valid nr m ≡ true
+        ensures holds { (m : State) → Holds self.old m → is_valid nr m ≡ true
             → Holds self.new (acknowledged_by_srej (named nr m) flag m) }
+        ensures incoming { self.new.incoming ≡ self.old.incoming }
     {
         if flag {
             self.acknowledge(nr);
@@ -271,10 +272,7 @@ impl Machine {
     {
         self.control.hear(false);
         self.acknowledge(nr);
-        match self.incoming.mode() {
-            Mode::Rej => self.take_by_rej(room, ns, packet),
-            Mode::Srej => self.take_by_srej(room, ns, packet),
-        }
+        self.take_by_mode(room, ns, packet);
         self.hear_poll(flag);
     }
 }

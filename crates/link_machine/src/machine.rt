@@ -195,8 +195,7 @@ impl Machine {
     /// Is to send again the number that an SREJ asks for, if it was sent.
     pub(crate) fn pick_out(&mut self, nr: u8)
         requires { nr < self.old.incoming.modulus }
-        ensures { (m : State) (n : ℕ) → Holds self.old m → nr ≡ n % m.incoming.modulus → m.outgoing.va ≤ n
-            → n ≤ m.outgoing.top → Holds self.new (picked_out n m) }
+        ensures { (m : State) → Holds self.old m → Holds self.new (picked_out (named nr m) m) }
     {
         if self.outgoing.ask_again(self.incoming.modulus(), nr) {
             self.control.picked = true;

@@ -7,7 +7,7 @@ ghost use Rattle.selective_reject.specs.Places.{is_full};
 ghost use Rattle.link_machine.specs.Machine.{ahead_of_vr};
 ghost use Rattle.link_machine.specs.Turn.{Turn};
 ghost use Rattle.link_machine.specs.Acts.{run, moved_on, give};
-ghost use Rattle.link_machine.specs.Frames.{take_selected, hear_info_by_rej, hear_info_by_srej};
+ghost use Rattle.link_machine.specs.Frames.{take_selected, hear_info_by_rej, hear_info_by_srej, hear_info_by};
 ghost use Rattle.link_machine.specs.Room.{told_left, Uses};
 ghost use Rattle.link_machine.specs.Held.{IsLink, Shows};
 
@@ -70,7 +70,7 @@ impl Machine {
     }
 
     /// Takes an I frame by REJ.
-    pub(crate) fn take_by_rej(&mut self, room: &mut Room, ns: u8, packet: Packet)
+    fn take_by_rej(&mut self, room: &mut Room, ns: u8, packet: Packet)
         requires formed { IsLink self.old }
         requires number { ns < self.old.incoming.modulus }
         requires room { 1 ≤ told_left room.old }
@@ -103,7 +103,7 @@ impl Machine {
     }
 
     /// Takes an I frame by SREJ.
-    pub(crate) fn take_by_srej(&mut self, room: &mut Room, ns: u8, packet: Packet)
+    fn take_by_srej(&mut self, room: &mut Room, ns: u8, packet: Packet)
         requires formed { IsLink self.old }
         requires mode { self.old.incoming.mode ≡ Mode.Srej }
         requires number { ns < self.old.incoming.modulus }
@@ -114,5 +114,20 @@ impl Machine {
     {
         self.receive_selected(room, ns, packet);
         self.control.due = true;
+    }
+
+    /// Takes an I frame as lost ones are asked for.
+    pub(crate) fn take_by_mode(&mut self, room: &mut Room, ns: u8, packet: Packet)
+        requires formed { IsLink self.old }
+        requires number { ns < self.old.incoming.modulus }
+        requires told { self.old.incoming.window ≤ told_left room.old }
+        ensures shows { (t : Turn) → Shows self.old room.old t
+            → Shows self.new room.new (hear_info_by t.now.incoming.mode ns packet t) }
+        ensures uses { Uses room.old room.new 0 self.old.incoming.window }
+    {
+        match self.incoming.mode() {
+            Mode::Rej => self.take_by_rej(room, ns, packet),
+            Mode::Srej => self.take_by_srej(room, ns, packet),
+        }
     }
 }

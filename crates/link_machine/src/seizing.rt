@@ -1,15 +1,15 @@
 //! The frame that a link gives when the channel takes one.
 ghost use Rattle.std.specs.Option.{option_copied};
-ghost use Rattle.std.specs.Prelude.{◌≡◌, ℕ, true, slice_get, ◌-◌, ◌%◌, ◌≤◌, Some, if◌then◌else◌, IfOk};
+ghost use Rattle.std.specs.Prelude.{◌≡◌, ℕ, true, slice_get, ◌+◌, ◌-◌, ◌%◌, ◌<◌, ◌≤◌, Some, if◌then◌else◌, IfOk};
 ghost use Rattle.selective_reject.specs.Incoming.{next_missing};
-ghost use Rattle.selective_reject.specs.Outgoing.{back, first_again};
+ghost use Rattle.selective_reject.specs.Outgoing.{Outgoing, back, first_again};
 ghost use Rattle.link_machine.specs.declared.state.LinkState.TheVariants.{Up};
 ghost use Rattle.link_machine.specs.Machine.{Machine as State, with_control};
 ghost use Rattle.link_machine.specs.Sent.Sent.{InfoSent};
-ghost use Rattle.link_machine.specs.Turn.{Turn, sending};
+ghost use Rattle.link_machine.specs.Turn.{Turn, changing, sending};
 ghost use Rattle.link_machine.specs.Wants.{wants, may_send_info, can_send_info, has_more};
 ghost use Rattle.link_machine.specs.Seizing.{send_rej, send_srej, send_answer, send_poll, send_again, send_next};
-ghost use Rattle.link_machine.specs.Seizing.{send_frame, seize, polls, polled_packet, short_packet, left_with};
+ghost use Rattle.link_machine.specs.Seizing.{send_info, send_frame, seize, polls, polled_packet, short_packet, left_with};
 ghost use Rattle.link_machine.specs.Room.{frames_left, Uses};
 ghost use Rattle.link_machine.specs.Held.{IsLink, IsWhole, Holds, Shows, Makes, carried};
 
@@ -29,7 +29,7 @@ const MOST_POLLED: usize = 128;
 
 /// A copy of a packet, if there is one.
 fn copy_of(alloc: Global, packet: Option<&Packet>) -> Result<Option<Packet>, OutOfMemory>
-    ensures { IfOk result (λ copy. copy ≡ option_copied packet) }
+    ensures { IfOk result (λ copy. copy ≡ option_copied packet.entry) }
 {
     match packet {
         Some(packet) => Ok(Some(packet.copy(alloc)?)),
@@ -39,7 +39,7 @@ fn copy_of(alloc: Global, packet: Option<&Packet>) -> Result<Option<Packet>, Out
 
 /// The packet, if a poll may carry it.
 fn short_packet(packet: Option<&Packet>) -> Option<&Packet>
-    ensures { option_copied result ≡ short_packet (option_copied packet) }
+    ensures { option_copied result ≡ short_packet (option_copied packet.entry) }
 {
     match packet {
         Some(packet) if packet.octets.len() <= MOST_POLLED => Some(packet),
@@ -105,13 +105,22 @@ impl Machine {
         let goes_back = control.notice_passed(full, self.outgoing.first_again().is_some());
         let packet = self.packet_to_send(alloc, &control, goes_back)?;
         let mut room = Room::new(alloc, 2, 0)?;
+        self.notice(control, goes_back);
+        self.send_frame(&mut room, last, full, packet);
+        self.settle(&mut room);
+        Ok(room.finish())
+    }
+
+    /// Has these conditions, and goes back to V(A) if it is to.
+    fn notice(&mut self, control: Control, goes_back: bool)
+        ensures holds { (m : State) → Holds self.old m
+            → Holds self.new (left_with (if goes_back then back m.outgoing else m.outgoing) (with_control control m)) }
+        ensures control { self.new.control ≡ control }
+    {
         self.control = control;
         if goes_back {
             self.outgoing.go_back();
         }
-        self.send_frame(&mut room, last, full, packet);
-        self.settle(&mut room);
-        Ok(room.finish())
     }
 
     /// A copy of the packet that goes out, with these conditions and after V(S) has perhaps gone back.
@@ -251,6 +260,7 @@ impl Machine {
         packet: Option<Packet>,
     )
         requires formed { IsLink self.old }
+        requires place { place < 128 }
         requires room { 1 ≤ frames_left room.old }
         ensures shows { (t : Turn) → Shows self.old room.old t → first_again t.now.outgoing ≡ Some place → packet
             ≡ slice_get t.now.outgoing.packets place
@@ -260,11 +270,7 @@ impl Machine {
     {
         let ns = self.outgoing.number(self.incoming.modulus(), place);
         self.outgoing.take_again();
-        let poll = self.polls(last, full);
-        if let Some(packet) = packet {
-            self.send_packet(room, ns, poll, packet);
-        }
-        self.control.send_info(poll);
+        self.send_info(room, ns, last, full, packet);
     }
 
     /// Number V(S), which rises.
@@ -282,11 +288,24 @@ impl Machine {
         let Some(ns) = self.outgoing.next(modulus, window) else {
             return;
         };
+        self.send_info(room, ns, last, full, packet);
+    }
+
+    /// An I frame with the number `ns`, which has left what waits, and what becomes of the timers.
+    fn send_info(&mut self, room: &mut Room, ns: u8, last: bool, full: bool, packet: Option<Packet>)
+        requires { 1 ≤ frames_left room.old }
+        ensures shows { (t : Turn) (place : ℕ) (left : Outgoing)
+            → Shows self.old room.old (changing (left_with left) t) → ns
+            ≡ (t.now.outgoing.va + place) % self.old.incoming.modulus → packet
+            ≡ slice_get t.now.outgoing.packets place → Shows self.new room.new (send_info last full place left t) }
+        ensures uses { Uses room.old room.new 1 0 }
+        ensures quit { self.new.control.quit ≡ self.old.control.quit }
+    {
         let poll = self.polls(last, full);
+        self.control.send_info(poll);
         if let Some(packet) = packet {
             self.send_packet(room, ns, poll, packet);
         }
-        self.control.send_info(poll);
     }
 
     /// P of an I frame that has left what waits: 1 in half duplex if it is the last that can go now and more wait.

@@ -46,6 +46,7 @@ impl Machine {
     }
 
     fn tick_timers(&mut self, room: &mut Room, still: bool)
+        requires formed { IsWhole self.old }
         requires frames { outs self.old.control ≤ frames_left room.old }
         requires told { outs self.old.control ≤ told_left room.old }
         ensures shows { (t : Turn) → Shows self.old room.old t → Shows self.new room.new (tick still t) }

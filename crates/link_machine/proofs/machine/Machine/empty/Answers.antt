@@ -15,7 +15,7 @@ formed = record {
 }
 
 stands : StandsForOutgoing empty_outgoing empty_outgoing
-stands = record { va = refl; vs = refl; top = refl; packets = refl }
+stands = record { va = refl; vs = refl; top = refl; packets = refl; again = refl }
 
 pub returns-clause-holds : goal.returns-clause-holds
 returns-clause-holds c = λ m h.

@@ -16,7 +16,8 @@ pub returns-else-is_spent-clause-shows : goal.returns-else-is_spent-clause-shows
 returns-else-is_spent-clause-shows c = λ t h.
     let spent : is_spent t.now.control ≡ false = ap is_spent (sym h.holds.stands.control) ∙ sym c.is_spent.ensures
     ∙ c.if-is_spent.false in
-    let P : Turn → Type 0 = λ x. Shows c.ask_again.new.self c.args.room.now x in
+    let P : Turn → Type 0 =
+    λ x. Shows (record c.args.self.now { control = c.ask_again.new.self }) c.args.room.now x in
     subst P (sym (cond-false (is_spent t.now.control)
     (in_order (answer_dm false ∷ leave ∷ telling (Ended Failed) ∷ []) t) _ spent))
     (shows_control to_poll c.args.self.now c.ask_again.new.self c.args.room.now t c.ask_again.ensures h)

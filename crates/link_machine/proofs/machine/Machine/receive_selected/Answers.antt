@@ -1,14 +1,14 @@
-use Rattle.link_machine.proofs.Common.{◌≡◌, ◌≤◌, ◌<◌, length, true, false, nat_lt, [], ◌∷◌, ◌++◌, drop, map, refl, sym}
+use Rattle.link_machine.proofs.Common.{◌≡◌, ◌≤◌, length, Bool, true, false, nat_lt, ◌++◌, drop, map, refl, sym}
 use Rattle.link_machine.proofs.Common.{◌∙◌, ap, subst, arith, ahead, Incoming, StandsForIncoming, after_accept, took}
-use Rattle.link_machine.proofs.Common.{Given, ahead_of_vr, Turn, changing, in_order, run, moved_on, run_with, give}
-use Rattle.link_machine.proofs.Common.{stored, ask, Shows, ◌&&◌, not, cond-true, cond-false, Next, Stored, keeps}
-use Rattle.link_machine.proofs.Common.{is_full, with_packet, IsReady, ◌==◌, eqb-true, ltb-true}
+use Rattle.link_machine.proofs.Common.{Given, ahead_of_vr, changing, run, moved_on, run_with, give}
+use Rattle.link_machine.proofs.Common.{stored, Shows, ◌&&◌, not, cond-true, cond-false, Next, keeps, inl, inr}
+use Rattle.link_machine.proofs.Common.{is_full, with_packet, IsReady, ◌==◌, eqb-true}
 use Rattle.link_machine.proofs.Showing.{shows_changing, shows_incoming, holds_incoming, same_incoming, shows_as}
 use Rattle.selective_reject.specs.declared.window.Mode.TheVariants.{Srej as SrejMode}
 use Rattle.link_machine.proofs.RunLemmas.{run_with_next}
-use Rattle.link_machine.proofs.ReceiveLemmas.{is_next, is_stored, not_next, not_stored, keeps_none, took_by_srej}
+use Rattle.link_machine.proofs.ReceiveLemmas.{is_next, is_stored, not_next, keeps_stored, keeps_none, took_by_srej}
 use Rattle.link_machine.proofs.ReceiveLemmas.{accepted, not_accepted, moved_with, first_kept, rej_is_not_srej}
-use Rattle.link_machine.proofs.ReceiveLemmas.{both_first}
+use Rattle.std.proofs.lemmas.Bool.{cases_Bool}
 use Rattle.link_machine.proofs.machine.Machine.receive_selected.Goals as goal
 
 pub returns-in-Next-clause-shows : goal.returns-in-Next-clause-shows
@@ -52,43 +52,6 @@ returns-in-Next-clause-shows c = λ t h.
     shows_as c.args.self.now c.give_run.new.incoming c.give_run.new.room _ _
     (sym (cond-true (ahead_of_vr c.args.ns t.now == 0) (give (run_with p t.now) t) _ yes)) shown
 
-pub returns-in-Stored-clause-shows : goal.returns-in-Stored-clause-shows
-returns-in-Stored-clause-shows c = λ t h.
-    let i = t.now.incoming in
-    let p = c.args.packet in
-    let d = ahead_of_vr c.args.ns t.now in
-    let accept = c.accept.ensures.stands_for i h.holds.stands.incoming in
-    let empty : is_full i.places 0 ≡ false = ap (λ ps. is_full ps 0) (sym h.holds.stands.incoming.places)
-    ∙ h.holds.next.next in
-    let srej : i.mode ≡ SrejMode = sym h.holds.stands.incoming.mode ∙ c.requires.mode in
-    let some : 1 ≤ c.args.self.now.incoming.window = c.requires.formed.incoming.window.0 in
-    let w : c.args.self.now.incoming.window ≡ i.window = h.holds.stands.incoming.window in
-    let some_whole : 1 ≤ i.window = omega arith in
-    let took_stored : took i c.args.ns ≡ Stored = sym accept.0 ∙ c.in-Stored.is in
-    let tests = took_by_srej i c.args.ns srej empty some_whole in
-    let no : (d == 0) ≡ false = sym tests.0 ∙ ap is_next took_stored in
-    let free : (nat_lt d i.window && not (is_full i.places d)) ≡ true =
-    sym (cond-false (d == 0) false (nat_lt d i.window && not (is_full i.places d)) no) ∙ sym tests.1
-    ∙ ap is_stored took_stored in
-    let near : d < i.window = ltb-true d i.window (both_first _ _ free) in
-    let store : Incoming = record i { places = with_packet i.places d p } in
-    let P : Incoming → Type 0 = λ s. StandsForIncoming c.accept.new.self s in
-    let stands : StandsForIncoming c.accept.new.self store =
-    subst P (accepted i c.args.ns p (ap keeps took_stored)) accept.1 in
-    let ready : IsReady c.accept.new.self = record {
-      next = ap (λ ps. is_full ps 0) stands.places ∙ first_kept i.places d p no ∙ empty;
-      in_sequence = λ rej. absurd (rej_is_not_srej (sym rej ∙ stands.mode ∙ srej));
-    } in
-    let t1 = changing (stored d p) t in
-    let kept : Shows (record c.args.self.now { incoming = c.accept.new.self }) c.args.room.now t1 =
-    shows_changing (stored d p) c.args.self.now _ c.args.room.now t refl h
-    (holds_incoming c.args.self.now t.now c.accept.new.self store h.holds stands c.accept.ensures.formed ready) in
-    let asked_for = c.ask.ensures.shows t1 kept near in
-    let T : Turn → Type 0 = λ x. Shows c.ask.new.self c.ask.new.room x in
-    subst T (sym (cond-false (d == 0) (give (run_with p t.now) t) _ no
-    ∙ cond-true (nat_lt d i.window && not (is_full i.places d)) (in_order (changing (stored d p) ∷ ask d ∷ []) t)
-    t free)) asked_for
-
 pub returns-in_default-clause-shows : goal.returns-in_default-clause-shows
 returns-in_default-clause-shows c = λ t h.
     let i = t.now.incoming in
@@ -104,21 +67,35 @@ returns-in_default-clause-shows c = λ t h.
     let tests = took_by_srej i c.args.ns srej empty some_whole in
     let no_next : is_next (took i c.args.ns) ≡ false = ap is_next (sym accept.0)
     ∙ not_next c.accept.result c.in_default.not-Next in
-    let no_stored : is_stored (took i c.args.ns) ≡ false = ap is_stored (sym accept.0)
-    ∙ not_stored c.accept.result c.in_default.not-Stored in
     let no : (d == 0) ≡ false = sym tests.0 ∙ no_next in
-    let taken_already : (nat_lt d i.window && not (is_full i.places d)) ≡ false =
-    sym (cond-false (d == 0) false (nat_lt d i.window && not (is_full i.places d)) no) ∙ sym tests.1 ∙ no_stored in
+    let free : Bool = nat_lt d i.window && not (is_full i.places d) in
+    let kept : is_stored (took i c.args.ns) ≡ free = tests.1 ∙ cond-false (d == 0) false free no in
     let P : Incoming → Type 0 = λ s. StandsForIncoming c.accept.new.self s in
-    let stands : StandsForIncoming c.accept.new.self i =
-    subst P (not_accepted i c.args.ns p (keeps_none (took i c.args.ns) no_next no_stored)) accept.1 in
-    let ready : IsReady c.accept.new.self = record {
-      next = ap (λ ps. is_full ps 0) stands.places ∙ empty;
-      in_sequence = λ rej. absurd (rej_is_not_srej (sym rej ∙ stands.mode ∙ srej));
-    } in
-    let same = same_incoming c.args.self.now c.accept.new.self c.args.room.now t h stands c.accept.ensures.formed ready
-    in
-    shows_as c.args.self.now c.accept.new.self c.args.room.now _ _
-    (sym (cond-false (d == 0) (give (run_with p t.now) t) _ no
-    ∙ cond-false (nat_lt d i.window && not (is_full i.places d)) (in_order (changing (stored d p) ∷ ask d ∷ []) t)
-    t taken_already)) same
+    elim (cases_Bool free) [
+      | inl fits ↦
+          let store : Incoming = record i { places = with_packet i.places d p } in
+          let stands : StandsForIncoming c.accept.new.self store =
+          subst P (accepted i c.args.ns p (keeps_stored (took i c.args.ns) (kept ∙ fits))) accept.1 in
+          let ready : IsReady c.accept.new.self = record {
+            next = ap (λ ps. is_full ps 0) stands.places ∙ first_kept i.places d p no ∙ empty;
+            in_sequence = λ rej. absurd (rej_is_not_srej (sym rej ∙ stands.mode ∙ srej));
+          } in
+          let there : Shows (record c.args.self.now { incoming = c.accept.new.self }) c.args.room.now
+          (changing (stored d p) t) = shows_changing (stored d p) c.args.self.now _ c.args.room.now t refl h
+          (holds_incoming c.args.self.now t.now c.accept.new.self store h.holds stands c.accept.ensures.formed ready) in
+          shows_as c.args.self.now c.accept.new.self c.args.room.now _ _
+          (sym (cond-false (d == 0) (give (run_with p t.now) t) _ no ∙ cond-true free (changing (stored d p) t) t fits))
+          there
+      | inr dropped ↦
+          let stands : StandsForIncoming c.accept.new.self i =
+          subst P (not_accepted i c.args.ns p (keeps_none (took i c.args.ns) no_next (kept ∙ dropped))) accept.1 in
+          let ready : IsReady c.accept.new.self = record {
+            next = ap (λ ps. is_full ps 0) stands.places ∙ empty;
+            in_sequence = λ rej. absurd (rej_is_not_srej (sym rej ∙ stands.mode ∙ srej));
+          } in
+          let same = same_incoming c.args.self.now c.accept.new.self c.args.room.now t h stands
+          c.accept.ensures.formed ready in
+          shows_as c.args.self.now c.accept.new.self c.args.room.now _ _
+          (sym (cond-false (d == 0) (give (run_with p t.now) t) _ no
+          ∙ cond-false free (changing (stored d p) t) t dropped)) same
+    ]
