@@ -72,12 +72,14 @@ fn a_whole_call_in_one_piece(rt: HostRuntime) -> Result<(), Fail> {
     Ok(())
 }
 
-/// Whether the host is told of a message last, after these frames.
+/// Whether the host is told of a message last, after so many ticks and these frames.
 fn tells_after(
     desk: &mut Desk,
+    ticks: usize,
     frames: &[&[u8]],
     told: (u8, [&str; 2], &[u8]),
 ) -> Result<bool, Fail> {
+    desk.tick(ticks)?;
     for frame in frames {
         desk.hear(frame)?;
     }
@@ -85,11 +87,13 @@ fn tells_after(
     desk.tells(kind, ends, body)
 }
 
-/// Each row: what is heard, first nothing, and the message that the host is told of last.
-const TOLD: &[(&[&[u8]], (u8, [&str; 2], &[u8]))] = &[
-    (&[], (b'X', ["AAAA", ""], b"\x01")),
-    (&[UA], (b'C', BACK, b"*** CONNECTED With Station BBBB\r")),
+/// Each row: how many ticks pass, in which data goes out, what is heard, first nothing, and the message that the host is
+/// told of last.
+const TOLD: &[(usize, &[&[u8]], (u8, [&str; 2], &[u8]))] = &[
+    (0, &[], (b'X', ["AAAA", ""], b"\x01")),
+    (0, &[UA], (b'C', BACK, b"*** CONNECTED With Station BBBB\r")),
     (
+        500,
         &[RR, UA],
         (b'd', BACK, b"*** DISCONNECTED From Station BBBB\r"),
     ),
@@ -98,8 +102,8 @@ const TOLD: &[(&[&[u8]], (u8, [&str; 2], &[u8]))] = &[
 #[test]
 fn tells_how_a_whole_call_goes(rt: HostRuntime) -> Result<(), Fail> {
     let mut desk = after_a_whole_call(rt.alloc())?;
-    for (frames, told) in TOLD {
-        let tells = tells_after(&mut desk, frames, *told)?;
+    for (ticks, frames, told) in TOLD {
+        let tells = tells_after(&mut desk, *ticks, frames, *told)?;
         assert_equal(&rt, &(told.0, tells), &(told.0, true));
     }
     Ok(())
