@@ -1,5 +1,5 @@
 -- A store that asks for a number, or for none any more, is as ready as before.
-use Rattle.link_machine.proofs.Common.{◌≡◌, ℕ, zero, suc, false, true, List, [], ◌∷◌, replicate, None, Some, Option, refl, ◌∙◌}
+use Rattle.link_machine.proofs.Common.{◌≡◌, ℕ, zero, suc, false, List, [], ◌∷◌, replicate, None, Some, Option, refl, ◌∙◌}
 use Rattle.link_machine.proofs.Common.{ap, sym, Place, empty_place, is_full, Incoming, IsReady, next_missing, is_some, false≢true}
 use Rattle.link_machine.proofs.Common.{◌%◌, ◌+◌, ◌++◌, subst, Turn, Sent, sent_in, sending, changing, SuperSent, Srej}
 use Rattle.link_machine.proofs.Common.{send_srej}

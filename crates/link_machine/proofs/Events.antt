@@ -1,5 +1,5 @@
 -- An event from its first act to its last.
-use Rattle.link_machine.proofs.Common.{◌≡◌, ℕ, ◌+◌, ◌-◌, ◌<◌, ◌≤◌, Bool, true, false, if◌then◌else◌, [], Ok, Err, refl}
+use Rattle.link_machine.proofs.Common.{◌≡◌, ℕ, ◌+◌, ◌-◌, ◌<◌, ◌≤◌, Bool, true, false, if◌then◌else◌, Ok, Err, refl}
 use Rattle.link_machine.proofs.Common.{sym, ◌∙◌, ap, subst, arith, inl, false≢true, ahead, Outgoing, StandsForOutgoing}
 use Rattle.link_machine.proofs.Common.{acknowledgement, Control, Room, LinkState, Idle, Calling, Up, Releasing, Done}
 use Rattle.link_machine.proofs.Common.{Machine, is_valid, named, Turn, Act, begin, reset, close, Asked, hear_in, hear}
@@ -7,11 +7,11 @@ use Rattle.link_machine.proofs.Common.{hear_idle, hear_releasing, open_called, e
 use Rattle.link_machine.proofs.Common.{Other, Sabm, Sabme, Disc, Dm, Ua, OutOfMemory, ◌==◌, nat_lt, inr, lt-ltb}
 use Rattle.link_machine.proofs.Common.{ltb-true, ltb-false, eqb-true, not, cond-true, cond-false, settle_in, settled}
 use Rattle.link_machine.proofs.Common.{IsWhole, Holds, Shows, Made, Makes, hear_numbered, IsOutgoing}
-use Rattle.std.proofs.Common.{◌&&◌, Result}
+use Rattle.std.proofs.Common.{Result}
 use Rattle.std.specs.Result.{is_ok}
 use Rattle.std.proofs.Math.Nat.{mod-eq_of_lt}
 use Rattle.selective_reject.specs.declared.outgoing.BadNr.{BadNr}
-use Rattle.selective_reject.specs.Outgoing.{acknowledged as without_acknowledged, is_named, after_ask_again, asked_again}
+use Rattle.selective_reject.specs.Outgoing.{is_named, after_ask_again, asked_again}
 use Rattle.selective_reject.proofs.OutgoingRounds.{same_acknowledgement, same_sent}
 use Rattle.link_machine.proofs.Common.{picked_out}
 use Rattle.link_machine.proofs.Showing.{holds_outgoing, holds_setting}

@@ -1,6 +1,6 @@
 -- Which frame a link gives, and which packet goes with it.
-use Rattle.link_machine.proofs.Common.{◌≡◌, ℕ, ◌-◌, Bool, true, false, if◌then◌else◌, refl, sym, ◌∙◌, ap, Option, Some}
-use Rattle.link_machine.proofs.Common.{None, is_some, slice_get, false≢true, cond-true, cond-false, Packet, Machine, Turn}
+use Rattle.link_machine.proofs.Common.{◌≡◌, ℕ, ◌-◌, Bool, true, false, if◌then◌else◌, refl, sym, ◌∙◌, ap, Some}
+use Rattle.link_machine.proofs.Common.{None, is_some, slice_get, false≢true, cond-true, cond-false, Machine, Turn}
 use Rattle.link_machine.proofs.Common.{is_missing_some, is_asked_again, may_send_info, next_missing, polled_packet}
 use Rattle.link_machine.proofs.Common.{send_frame, send_rej, send_srej, send_answer, send_poll, send_again, send_next}
 use Rattle.link_machine.proofs.Common.{send_due, carried}

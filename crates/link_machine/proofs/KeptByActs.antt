@@ -1,7 +1,7 @@
 -- What an SREJ leaves, and what it names.
-use Rattle.link_machine.proofs.Common.{◌≡◌, ℕ, ◌+◌, ◌-◌, ◌%◌, ◌<◌, ◌≤◌, Bool, true, false, if◌then◌else◌, [], ◌∷◌, ◌++◌}
-use Rattle.link_machine.proofs.Common.{refl, ◌∙◌, arith, inl, IsModulus, ahead, Machine, acknowledged_by_srej, ◌==◌}
-use Rattle.link_machine.proofs.Common.{inr, ◌⊎◌, ap, sym, named, nat_lt, picked_out}
+use Rattle.link_machine.proofs.Common.{◌≡◌, ℕ, ◌+◌, ◌-◌, ◌%◌, ◌<◌, Bool, true, false, if◌then◌else◌}
+use Rattle.link_machine.proofs.Common.{refl, ◌∙◌, arith, inl, IsModulus, ahead, Machine, acknowledged_by_srej}
+use Rattle.link_machine.proofs.Common.{inr, ap, sym, named, nat_lt, picked_out}
 use Rattle.selective_reject.proofs.Distances.{ahead-at_or_ahead}
 use Rattle.selective_reject.specs.Outgoing.{asked_again}
 use Rattle.link_machine.specs.Acts.{picking}

@@ -1,5 +1,5 @@
 -- What becomes of the packet of an I frame.
-use Rattle.link_machine.proofs.Common.{◌≡◌, ℕ, zero, suc, ◌+◌, ◌%◌, ◌<◌, ◌≤◌, ◌==◌, Bool, true, false, if◌then◌else◌}
+use Rattle.link_machine.proofs.Common.{◌≡◌, ℕ, zero, suc, ◌+◌, ◌≤◌, ◌==◌, Bool, true, false, if◌then◌else◌}
 use Rattle.link_machine.proofs.Common.{List, [], ◌∷◌, ◌++◌, length, drop, replicate, Some, refl, sym, ◌∙◌, ap, arith}
 use Rattle.link_machine.proofs.Common.{nat_lt, eqb-true, false≢true, lt-ltb, Packet, Place, Next, Stored, Mode, ahead}
 use Rattle.link_machine.proofs.Common.{empty_place, packet_at, is_full, with_packet, Incoming, took, keeps}

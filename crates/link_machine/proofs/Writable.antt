@@ -1,6 +1,6 @@
 -- Every frame that a link sends can be written in its modulus: its numbers are below it, and its packet is short.
 use Rattle.link_machine.proofs.Common.{◌≡◌, ℕ, ◌+◌, ◌-◌, ◌<◌, ◌≤◌, ◌==◌, Bool, true, false, if◌then◌else◌, List, []}
-use Rattle.link_machine.proofs.Common.{◌∷◌, ◌++◌, length, map, None, Some, refl, sym, ap, subst, arith, nat_lt, inl}
+use Rattle.link_machine.proofs.Common.{◌∷◌, length, map, None, Some, refl, sym, ap, subst, arith, nat_lt, inl}
 use Rattle.link_machine.proofs.Common.{inr, Option, is_some, get_or, ◌⊎◌, slice_get, option_to_list, slice_get_cases}
 use Rattle.link_machine.proofs.Common.{ltb-false, false≢true, Path, Kind, Info, Super, Setup, Ui, Other, S, Rr, Rnr}
 use Rattle.link_machine.proofs.Common.{Rej, Srej, Sabm, Sabme, Disc, Dm, Ua, Frmr, Xid, Test, Packet, Mode, IsModulus}

@@ -1,5 +1,5 @@
 -- The acts of a link that is up (AX.25 2.2 section 6.4), each by itself.
-use Rattle.std.specs.Prelude.{ℕ, ◌+◌, ◌-◌, Bool, true, false, nat_lt, ◌==◌, ◌&&◌, if◌then◌else◌, List, [], ◌∷◌, ◌++◌}
+use Rattle.std.specs.Prelude.{ℕ, ◌+◌, Bool, true, false, nat_lt, ◌==◌, ◌&&◌, if◌then◌else◌, List, [], ◌∷◌, ◌++◌}
 use Rattle.std.specs.Prelude.{length, drop, map, replicate, Option, Some, None, is_some}
 use Rattle.ax25_frames.specs.declared.frame.U.{U}
 use Rattle.ax25_frames.specs.declared.frame.U.TheVariants.{Sabm, Sabme, Disc}

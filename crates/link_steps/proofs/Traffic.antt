@@ -1,7 +1,8 @@
 -- The single acts of a link that goes on as it is. Its state and a wish to disconnect stay; it may send I and S frames,
 -- and tell of data.
-use Rattle.std.proofs.Common.{◌≡◌, ℕ, ◌+◌, ◌-◌, ◌==◌, ◌&&◌, ◌||◌, nat_lt, not, Bool, true, false, List, [], ◌∷◌, ◌++◌}
-use Rattle.std.proofs.Common.{length, max, map, Option, Some, None, is_some, slice_get, refl, ap, subst, arith, nat_le, if◌then◌else◌, ◌∙◌}
+use Rattle.std.proofs.Common.{◌≡◌, ℕ, ◌+◌, ◌-◌, ◌==◌, ◌&&◌, nat_lt, not, Bool, true, false, List, [], ◌∷◌, ◌++◌}
+use Rattle.std.proofs.Common.{length, max, map, Option, Some, None, is_some, slice_get, refl, ap, subst, arith, nat_le}
+use Rattle.std.proofs.Common.{if◌then◌else◌, ◌∙◌}
 use Rattle.std.specs.Option.{option_to_list}
 use Rattle.ax25_frames.specs.declared.frame.S.{S}
 use Rattle.ax25_frames.specs.declared.frame.S.TheVariants.{Rr, Rnr, Rej, Srej}
@@ -16,17 +17,19 @@ use Rattle.selective_reject.specs.declared.window.Mode.TheVariants.{Rej as RejMo
 use Rattle.link_machine.specs.declared.control.Control.{Control}
 use Rattle.link_machine.specs.declared.state.LinkState.{LinkState}
 use Rattle.link_machine.specs.declared.state.LinkState.TheVariants.{Idle, Calling, Up, Releasing}
-use Rattle.link_machine.specs.Acts.{acknowledged, answering, behind_poll, give, gone_back, none_again, nothing_asked}
+use Rattle.link_machine.specs.Acts.{acknowledged, answering, behind_poll, give, gone_back, nothing_asked}
 use Rattle.link_machine.specs.Acts.{nothing_due, owing, picked_out, picking, polled, recover, recover_with, run_with}
 use Rattle.link_machine.specs.Acts.{stored, timed_anew, timed_by, unretried, watching, with_rej}
-use Rattle.link_machine.specs.Frames.{acknowledged_by_srej, heard, heard_busy, hear_info, hear_info_by, hear_rej, hear_rnr}
+use Rattle.link_machine.specs.Frames.{acknowledged_by_srej, heard, heard_busy, hear_info, hear_info_by, hear_rej}
+use Rattle.link_machine.specs.Frames.{hear_rnr}
 use Rattle.link_machine.specs.Frames.{hear_rr, hear_srej, hear_supervisory, lies_ahead, out_of_sequence}
 use Rattle.link_machine.specs.Frames.{take_in_sequence, take_selected}
-use Rattle.link_machine.specs.Machine.{Machine, ahead_of_vr, t1_ticks, t3_ticks, with_control}
+use Rattle.link_machine.specs.Machine.{ahead_of_vr, with_control}
 use Rattle.link_machine.specs.Seizing.{after_passing, answered, asking, info_at, info_sent, left_with, missing_asked}
-use Rattle.link_machine.specs.Seizing.{not_passed, notice_passed, poll_anew, poll_frame, polled_packet, polling, polls, most_polled}
+use Rattle.link_machine.specs.Seizing.{not_passed, notice_passed, poll_anew, poll_frame, polled_packet, polling, polls}
+use Rattle.link_machine.specs.Seizing.{most_polled}
 use Rattle.link_machine.specs.Seizing.{short_packet}
-use Rattle.link_machine.specs.Seizing.{rejected, seize_in, send_again, send_due, send_frame, send_info, send_next}
+use Rattle.link_machine.specs.Seizing.{rejected, seize_in, send_again, send_frame, send_info, send_next}
 use Rattle.link_machine.specs.Seizing.{send_poll, send_srej}
 use Rattle.link_machine.specs.Sent.{all_sent_in}
 use Rattle.link_machine.specs.Sent.Sent.{InfoSent, SuperSent}
@@ -162,7 +165,8 @@ hears_rr n asked answer t = run_on (acknowledges_too false answer n t) (polls_an
 hears_rnr : (n : ℕ) (asked answer : Bool) (t : Turn) → Traffic t (hear_rnr n asked answer t)
 hears_rnr n asked answer t =
     let u = recover answer (polled asked (changing (acknowledged n) (setting (heard_busy true answer) t))) in
-    sets (watching u.now.control) (run_on (acknowledges_too true answer n t) (polls_answered asked answer _)) (refl, refl)
+    sets (watching u.now.control) (run_on (acknowledges_too true answer n t) (polls_answered asked answer _))
+    (refl, refl)
 
 hears_rej : (n : ℕ) (asked answer : Bool) (t : Turn) → Traffic t (hear_rej n asked answer t)
 hears_rej n asked answer t =

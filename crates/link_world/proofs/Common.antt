@@ -11,20 +11,20 @@ pub use Rattle.ax25_frames.specs.declared.frame.S.{S}
 pub use Rattle.ax25_frames.specs.declared.frame.S.TheVariants.{Rnr, Rr}
 pub use Rattle.ax25_frames.specs.declared.frame.U.{U}
 pub use Rattle.ax25_frames.specs.declared.frame.U.TheVariants.{Dm, Sabm}
-pub use Rattle.link_machine.specs.Acts.{acknowledged, answer_poll, ask, before_gap, close, give, gone_back, in_window}
-pub use Rattle.link_machine.specs.Acts.{moved_on, nothing_due, poll, recover, reject, run_with, send_packets, stored}
-pub use Rattle.link_machine.specs.Acts.{with_rej}
+pub use Rattle.link_machine.specs.Acts.{acknowledged, before_gap, close, give, gone_back, moved_on, none_again}
+pub use Rattle.link_machine.specs.Acts.{nothing_due, polled, recover, recover_with, run_with, stored, with_rej}
 pub use Rattle.link_machine.specs.Done.{Done}
 pub use Rattle.link_machine.specs.Frames.{answer_dm, end_call, hear_up, open_called}
-pub use Rattle.link_machine.specs.Machine.{Machine, is_valid, modulus_named, named, t1_ticks}
+pub use Rattle.link_machine.specs.Machine.{Machine, is_valid, modulus_named, named}
 pub use Rattle.link_machine.specs.Params.{HasWindows, called_modulus, window_in}
 pub use Rattle.link_machine.specs.Requests.{connect, joined, quitting}
-pub use Rattle.link_machine.specs.Sent.{Sent, SentIn, all_sent_in, infos_from, sent_frames, sent_in, sent_kind}
+pub use Rattle.link_machine.specs.Sent.{Sent, SentIn, all_sent_in, sent_frames, sent_in, sent_kind}
 pub use Rattle.link_machine.specs.Sent.Sent.{InfoSent, SetupSent, SuperSent}
 unfoldable pub use Rattle.link_machine.specs.Step.{step}
 pub use Rattle.link_machine.specs.Step.{done_of, refusal_of, settle_in, settled}
-pub use Rattle.link_machine.specs.Ticks.{is_spent, lowered, retried, runs_out, t1_out, t2_out, t3_out, tick, tick_in}
-pub use Rattle.link_machine.specs.Ticks.{tick_t1_of, tick_t2, tick_t2_of, tick_t3_of, with_t1, with_t2, with_t3}
+pub use Rattle.link_machine.specs.Seizing.{seize, seize_in}
+pub use Rattle.link_machine.specs.Ticks.{is_spent, lowered, retried, runs_out, t1_out, t3_out, tick, tick_in}
+pub use Rattle.link_machine.specs.Ticks.{tick_t1_of, tick_t3_of, with_t1, with_t3}
 pub use Rattle.link_machine.specs.Turn.{Turn, begin, changing, setting}
 pub use Rattle.link_machine.specs.declared.acts.SentFrame.{SentFrame}
 pub use Rattle.link_machine.specs.declared.acts.Told.{Told}
@@ -46,7 +46,7 @@ pub use Rattle.link_world.specs.Reading.{frame_read, kind_read, read_narrow, wit
 pub use Rattle.link_world.specs.Recorded.{EndTurn, Happening, RecordedEnd, accepts, behind, end_turn, hearing}
 pub use Rattle.link_world.specs.Recorded.{hears_ask, mate_of, noting, opening, seen, tagged, taking, told_of}
 pub use Rattle.link_world.specs.Recorded.{waiting_in}
-pub use Rattle.link_world.specs.Recorded.Happening.{Connects, Disconnects, Hears, Sends, Ticks}
+pub use Rattle.link_world.specs.Recorded.Happening.{Connects, Disconnects, Hears, Seizes, Sends, Ticks}
 pub use Rattle.link_world.specs.SetUps.{SetUp, acting, change_last, getting, giving, last_changed, opened}
 pub use Rattle.link_world.specs.StandsFor.{all_in_flight, in_flight, sent_tagged}
 pub use Rattle.link_world.specs.Untagged.{frames}
@@ -56,14 +56,15 @@ pub use Rattle.link_world.specs.World.{seen_from, staying, towards, turn_of}
 pub use Rattle.link_world.specs.declared.end.End.{End}
 pub use Rattle.link_world.specs.declared.end.End.TheVariants.{A, B}
 pub use Rattle.link_world.specs.declared.event.Event.{Event}
-pub use Rattle.link_world.specs.declared.event.Event.TheVariants.{Connect, Disconnect, Hear, Lose, Send, Tick}
+pub use Rattle.link_world.specs.declared.event.Event.TheVariants.{Connect, Disconnect, Hear, Lose, Seize, Send, Tick}
 pub use Rattle.link_world.specs.declared.fault.WorldFault.{WorldFault}
 pub use Rattle.link_world.specs.declared.fault.WorldFault.TheVariants.{NothingThere}
 pub use Rattle.link_world.specs.declared.flight.InFlight.{InFlight}
 pub use Rattle.selective_reject.specs.Incoming.{Incoming, empty_incoming, keeps, taking_by, took}
 unfoldable pub use Rattle.selective_reject.specs.Numbers.{ahead}
-unfoldable pub use Rattle.selective_reject.specs.Places.{asked, missing}
-pub use Rattle.selective_reject.specs.Places.{empty_place, is_full, packet_at, with_packet}
+unfoldable pub use Rattle.selective_reject.specs.Places.{missing}
+pub use Rattle.selective_reject.specs.Places.{empty_place, first_missing, full_end, is_full, packet_at, unasked}
+pub use Rattle.selective_reject.specs.Places.{with_asked, with_packet}
 pub use Rattle.selective_reject.specs.Window.{IsWindow}
 pub use Rattle.selective_reject.specs.declared.packet.Packet.{Packet}
 pub use Rattle.selective_reject.specs.declared.place.Place.{Place}

@@ -1,7 +1,7 @@
 -- Worked examples of two links, by computation.
-use Rattle.link_world.proofs.Common.{Packet, Mode, ahead, missing, asked, Opened, Ended, Reset, Params, Sent}
-use Rattle.link_world.proofs.Common.{InfoSent, SuperSent, SetupSent, Sabm, Dm, Info, Super, Eight, OneTwentyEight, End}
-use Rattle.link_world.proofs.Common.{A, B, Event, Connect, Send, Tick, Hear, Lose, kind_read, Tagged, World, run}
+use Rattle.link_world.proofs.Common.{Packet, Mode, ahead, missing, Opened, Ended, Reset, Params, Sent, InfoSent}
+use Rattle.link_world.proofs.Common.{SuperSent, SetupSent, Sabm, Dm, Info, Super, Eight, OneTwentyEight, End, A, B}
+use Rattle.link_world.proofs.Common.{Event, Connect, Send, Tick, Seize, Hear, Lose, kind_read, Tagged, World, run}
 use Rattle.link_world.proofs.Common.{towards, is_quiet}
 use Rattle.std.specs.Prelude.{◌≡◌, ℕ, true, false, List, [], ◌∷◌, ◌++◌, map, replicate, length, refl, Some, None}
 use Rattle.selective_reject.specs.declared.window.Mode.TheVariants.{Rej, Srej}
@@ -32,25 +32,31 @@ sent_to end w = map (λ (t : Tagged). t.sent) (towards end w)
 abbrev both_up : List Event
 both_up = Connect A ∷ Hear B ∷ Hear A ∷ []
 
+-- the channel takes so many frames of an end
+abbrev takes : End → ℕ → List Event
+takes end count = replicate count (Seize end false false)
+
 -- By REJ with a window of seven, ten packets: frame 3 is lost and asked for, and all from 3 on are sent again.
 abbrev lost_by_rej : List Event
-lost_by_rej = both_up ++ sends (0 ∷ 1 ∷ 2 ∷ 3 ∷ 4 ∷ 5 ∷ 6 ∷ 7 ∷ 8 ∷ 9 ∷ []) ++ Lose B 3 ∷ replicate 6 (Hear B)
+lost_by_rej =
+    both_up ++ sends (0 ∷ 1 ∷ 2 ∷ 3 ∷ 4 ∷ 5 ∷ 6 ∷ 7 ∷ 8 ∷ 9 ∷ []) ++ takes A 7 ++ Lose B 3 ∷ replicate 6 (Hear B)
+    ++ takes B 1
 
--- REJ asks from 3 on
-pub asks_by_rej : sent_to A (from_first Rej 7 lost_by_rej) ≡ SuperSent RejFrame false 3 false ∷ []
-unfolding link_step ahead
+-- the last one of the window polls, and REJ, which answers it, asks from 3 on
+pub asks_by_rej : sent_to A (from_first Rej 7 lost_by_rej) ≡ SuperSent RejFrame false 3 true ∷ []
+unfolding link_step ahead missing
 asks_by_rej = refl
 
 -- all from 3 on go out again
 pub sends_again_by_rej :
-    sent_to B (from_first Rej 7 (lost_by_rej ++ Hear A ∷ []))
-    ≡ map (λ n. InfoSent n 0 (packet n)) (3 ∷ 4 ∷ 5 ∷ 6 ∷ 7 ∷ 8 ∷ 9 ∷ [])
-unfolding link_step ahead
+    sent_to B (from_first Rej 7 (lost_by_rej ++ Hear A ∷ takes A 7))
+    ≡ map (λ n. InfoSent n 0 false (packet n)) (3 ∷ 4 ∷ 5 ∷ 6 ∷ 7 ∷ 8 ∷ 9 ∷ [])
+unfolding link_step ahead missing
 sends_again_by_rej = refl
 
 -- B got all ten, each once, in the set-up whose origin is that of A
 pub got_by_rej :
-    (from_first Rej 7 (lost_by_rej ++ Hear A ∷ replicate 7 (Hear B))).b.end.set_ups
+    (from_first Rej 7 (lost_by_rej ++ Hear A ∷ takes A 7 ++ replicate 7 (Hear B))).b.end.set_ups
     ≡ record {
       given = [];
       got = map packet (0 ∷ 1 ∷ 2 ∷ 3 ∷ 4 ∷ 5 ∷ 6 ∷ 7 ∷ 8 ∷ 9 ∷ []);
@@ -59,29 +65,36 @@ pub got_by_rej :
       acted_on = replicate 13 0;
       accepted = Some 0;
     } ∷ []
-unfolding link_step ahead
+unfolding link_step ahead missing
 got_by_rej = refl
 
 -- By SREJ with a window of four, four packets: frame 0 is lost and asked for once, and alone sent again.
 abbrev lost_by_srej : List Event
-lost_by_srej = both_up ++ sends (0 ∷ 1 ∷ 2 ∷ 3 ∷ []) ++ Lose B 0 ∷ replicate 3 (Hear B)
+lost_by_srej = both_up ++ sends (0 ∷ 1 ∷ 2 ∷ 3 ∷ []) ++ takes A 4 ++ Lose B 0 ∷ replicate 3 (Hear B) ++ takes B 1
 
 -- SREJ asks for 0
 pub asks_by_srej : sent_to A (from_first Srej 4 lost_by_srej) ≡ SuperSent SrejFrame false 0 false ∷ []
-unfolding link_step ahead missing asked
+unfolding link_step ahead missing
 asks_by_srej = refl
 
 -- 0 alone goes out again
-pub sends_again_by_srej : sent_to B (from_first Srej 4 (lost_by_srej ++ Hear A ∷ [])) ≡ InfoSent 0 0 (packet 0) ∷ []
-unfolding link_step ahead missing asked
+abbrev again_by_srej : List Event
+again_by_srej = lost_by_srej ++ Hear A ∷ takes A 4
+
+pub sends_again_by_srej : sent_to B (from_first Srej 4 again_by_srej) ≡ InfoSent 0 0 false (packet 0) ∷ []
+unfolding link_step ahead missing
 sends_again_by_srej = refl
 
--- the 30th tick acknowledges all
+-- then all are acknowledged, by one frame
 pub acknowledges_by_srej :
-    sent_to A (from_first Srej 4 (lost_by_srej ++ Hear A ∷ Hear B ∷ replicate 30 (Tick B false))) ≡ SuperSent RrFrame
-    false 4 false ∷ []
-unfolding link_step ahead missing asked
+    sent_to A (from_first Srej 4 (again_by_srej ++ Hear B ∷ takes B 2)) ≡ SuperSent RrFrame false 4 false ∷ []
+unfolding link_step ahead missing
 acknowledges_by_srej = refl
+
+-- nothing goes out on its own: a link gives a frame when the channel takes one
+pub gives_when_taken : sent_to B (from_first Rej 4 (both_up ++ sends (0 ∷ 1 ∷ []))) ≡ []
+unfolding link_step
+gives_when_taken = refl
 
 -- Both call, and the UA to A is lost: A calls again, and B begins anew.
 abbrev answer_lost : List Event

@@ -16,6 +16,7 @@ use Rattle.link_machine.specs.StandsFor.{StandsFor as LinkStandsFor}
 use Rattle.link_world.specs.declared.request.Request.{Request}
 use Rattle.link_world.specs.declared.request.Request.TheVariants.{Connect as ConnectRequest, Send as SendRequest}
 use Rattle.link_world.specs.declared.request.Request.TheVariants.{Disconnect as DisconnectRequest, Tick as TickRequest}
+use Rattle.link_world.specs.declared.request.Request.TheVariants.{Seize as SeizeRequest}
 use Rattle.link_world.specs.declared.side.Side.{Side as HeldSide}
 use Rattle.link_world.specs.Recorded.{no_turn}
 use Rattle.link_world.specs.Held.{happening_of}
@@ -32,6 +33,7 @@ is_asked ConnectRequest end w back done e d = record { turn = refl; there = refl
 is_asked (SendRequest packet) end w back done e d = record { turn = refl; there = refl; behind = e; does = d }
 is_asked DisconnectRequest end w back done e d = record { turn = refl; there = refl; behind = e; does = d }
 is_asked (TickRequest waiting) end w back done e d = record { turn = refl; there = refl; behind = e; does = d }
+is_asked (SeizeRequest last full) end w back done e d = record { turn = refl; there = refl; behind = e; does = d }
 
 -- a request that the link does not refuse has no such cause
 is_free : (request : Request) (end : End) (m : Machine) → refusal_of m (seen_of request) ≡ None → refused_by
@@ -40,6 +42,7 @@ is_free ConnectRequest end m h = h
 is_free (SendRequest packet) end m h = h
 is_free DisconnectRequest end m h = h
 is_free (TickRequest waiting) end m h = refl
+is_free (SeizeRequest last full) end m h = refl
 
 -- the link sees the request
 same_seen : (request : Request) → seen_of request ≡ seen (happening_of request)
@@ -47,6 +50,7 @@ same_seen ConnectRequest = refl
 same_seen (SendRequest packet) = refl
 same_seen DisconnectRequest = refl
 same_seen (TickRequest waiting) = refl
+same_seen (SeizeRequest last full) = refl
 
 -- a request is no SABM or DISC heard
 no_ask : (request : Request) → false ≡ hears_ask (happening_of request)
@@ -54,6 +58,7 @@ no_ask ConnectRequest = refl
 no_ask (SendRequest packet) = refl
 no_ask DisconnectRequest = refl
 no_ask (TickRequest waiting) = refl
+no_ask (SeizeRequest last full) = refl
 
 -- it is taken
 pub asked_made :

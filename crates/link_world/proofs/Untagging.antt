@@ -2,7 +2,8 @@
 use Rattle.link_world.proofs.Common.{◌≡◌, List, [], ◌∷◌, ◌++◌, ◌∙◌, ap, Option, Some, None, remove, map-append, Frame}
 use Rattle.link_world.proofs.Common.{SentFrame, Machine, sent_frames, End, A, B, Event, Connect, Send, Disconnect, Tick}
 use Rattle.link_world.proofs.Common.{Hear, Lose, Tagged, RecordedEnd, Happening, end_turn, seen, hears_ask, Connects}
-use Rattle.link_world.proofs.Common.{Sends, Disconnects, Ticks, Hears, Side, World, read_in, hearing_as, turn_of}
+use Rattle.link_world.proofs.Common.{Seize, Seizes, Sends, Disconnects, Ticks, Hears, Side, World, read_in, hearing_as}
+use Rattle.link_world.proofs.Common.{turn_of}
 use Rattle.link_world.proofs.Common.{seen_from, end_of, near_step, sent_tagged, frames}
 use Rattle.link_machine.specs.Step.{step as link_step}
 use Rattle.link_world.specs.World.{step}
@@ -67,6 +68,7 @@ near (Connect end) w = asked Connects w (frames w.a.towards)
 near (Send end packet) w = asked (Sends packet) w (frames w.a.towards)
 near (Disconnect end) w = asked Disconnects w (frames w.a.towards)
 near (Tick end waiting) w = asked (Ticks waiting) w (frames w.a.towards)
+near (Seize end last full) w = asked (Seizes last full) w (frames w.a.towards)
 near (Hear end) w = heard end w.a.end w.a.towards w.b
 near (Lose end index) w =
     ap (λ fs. world_of w.a.end.machine w.b.end.machine fs (frames (w.b.towards ++ [])))

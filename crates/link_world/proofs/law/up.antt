@@ -8,6 +8,5 @@ pub mod Events
 pub mod Changes
 pub mod Ticks
 pub mod Progress
-pub mod Flushing
 pub mod Accepting
 pub mod Keeping

@@ -1,8 +1,7 @@
 -- An end opens a set-up: it hears a SABM, or the UA to its own.
-use Rattle.link_world.proofs.Common.{◌≡◌, ℕ, zero, suc, ◌-◌, min, Bool, true, false, ◌==◌, if◌then◌else◌, List, [], ◌∷◌}
-use Rattle.link_world.proofs.Common.{◌++◌, length, take, map, replicate, refl, sym, ap, ◌∙◌, subst, fold, Packet, Told}
-use Rattle.link_world.proofs.Common.{Opened, Ended, Reset, Machine, SentIn, sent_in, SetupSent, Turn, begin, close}
-use Rattle.link_world.proofs.Common.{in_window, send_packets, window_in, open_called, settled, SetUp, RecordedEnd}
+use Rattle.link_world.proofs.Common.{◌≡◌, ℕ, Bool, true, false, List, [], ◌∷◌, ◌++◌, length, map, replicate, refl, sym}
+use Rattle.link_world.proofs.Common.{ap, ◌∙◌, subst, fold, Told, Opened, Ended, Reset, Machine, SentIn, sent_in}
+use Rattle.link_world.proofs.Common.{SetupSent, Turn, begin, window_in, open_called, settled, SetUp, RecordedEnd}
 use Rattle.link_world.proofs.Common.{Happening, told_of, opening, mate_of, noting, hears_ask, tagged, Tagged, Hears}
 use Rattle.std.proofs.lemmas.List.Sums.{fold-append}
 use Rattle.ax25_frames.specs.declared.frame.U.TheVariants.{Ua as UaFrame}
@@ -23,18 +22,6 @@ use Rattle.link_world.proofs.law.showing.Outcome.{Outcome, Keeps, end_with, outc
 use Rattle.link_world.proofs.law.up.Settling.{all_of_last, length_of_last}
 use Rattle.link_world.proofs.law.up.Events.{UpEnd}
 
-take_none : (n : ℕ) → ◌≡◌ {A = List Packet} (take n []) []
-take_none zero = refl
-take_none (suc n) = refl
-
--- if nothing waits and no disconnect was asked for, nothing more is done
-nothing_settles :
-    (turn : Turn) (window : ℕ)
-    → close (if length (in_window window (record { va = 0; vs = 0; top = 0; packets = [] })) == 0 then turn else
-    send_packets (in_window window (record { va = 0; vs = 0; top = 0; packets = [] })) turn) ≡ close turn
-nothing_settles turn window =
-    ap (λ ps. close (if length ps == 0 then turn else send_packets ps turn)) (take_none (min window 0 - 0))
-
 -- the set-up that has opened by a call in a modulus
 abbrev pub called_end : Machine → List SetUp → (mate modulus : ℕ) → End
 called_end m qs mate modulus = called mate modulus (end_behind m (core_set_ups qs))
@@ -47,8 +34,7 @@ pub open_called_outcome :
     → Invariant (between (called_end r.machine r.set_ups (mate_of h) modulus) y rest
     (to_y ++ of_end (called_end r.machine r.set_ups (mate_of h) modulus) Ua ∷ []))
     → Keeps h r y rest to_y (settled (open_called modulus flag (record (begin r.machine) { told = told })))
-open_called_outcome {h} {r} {y} {rest} {to_y} told modulus flag asks noted waiting sound is before inv =
-    subst (Keeps h r y rest to_y) (sym (nothing_settles turn window)) outcome
+open_called_outcome {h} {r} {y} {rest} {to_y} told modulus flag asks noted waiting sound is before inv = outcome
   where
     turn : Turn
     turn = open_called modulus flag (record (begin r.machine) { told = told })

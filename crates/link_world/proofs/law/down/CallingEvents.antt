@@ -133,7 +133,7 @@ calling_ticks {r} waiting {y} {to_x} {to_y} d =
     (ticks_down (λ t. Keeps (Ticks waiting) r y to_x to_y (settled t)) r.machine CallingState d.down
     (λ c is. down_silent c d is refl d.holds) (λ c is. calls_again c waiting d is) waiting d.state_is)
 
--- the UA to its call: the set-up opens in its modulus, and what waits goes out
+-- the UA to its call: the set-up opens in its modulus
 calling_opens :
     {r : RecordedEnd} {f : Tagged} {y : End} {rest to_y : List CoreTagged}
     → DownEnd CallingState r y (record { tag = f.set_up; kind = Ua } ∷ rest) to_y → hears_ask (Hears f) ≡ false
@@ -146,18 +146,17 @@ calling_opens {r} {f} {y} {rest} {to_y} d no_ask =
     let new : List Packet → SetUp = opened_set_up f.set_up i.modulus in
     let x = end_behind m (core_set_ups r.set_ups) in
     let noted = down_noted f d in
-    let up : IsUp rest (progress_in r y to_y r.set_ups (new given) (Opened true ∷ []) turn.now.incoming) turn = record {
+    let up : IsUp rest (progress_in r y to_y r.set_ups (new given) (Opened true ∷ []) i.modulus) turn = record {
       state = refl;
-      so_far = record { told_is = refl; params_are = refl; incoming_is = refl };
+      so_far = record { told_is = refl; params_are = refl; sound = sound_anew d.sound; modulus_is = refl };
       fits = tt;
       holds = subst (λ ss. Invariant (between (now (Up (record (opened f.set_up i.modulus given) { stored = ss })) x) y
           rest (to_y ++ []))) (sym (stored_empty 0 i.window))
           (subst (λ fs. Invariant (between (now (Up (opened f.set_up i.modulus given)) x) y rest fs))
           (sym (append-nil to_y)) (open_answered_keeps x d.holds));
     } in
-    let ends : EndsUp (Hears f) r r.set_ups (new given) (Opened true ∷ []) turn.now.incoming = record {
+    let ends : EndsUp (Hears f) r r.set_ups (new given) (Opened true ∷ []) i.modulus = record {
       no_ask = no_ask;
-      sound = sound_anew d.sound;
       set_ups = ap (λ (n : RecordedEnd). fold (told_of (new n.waiting)) n.set_ups (Opened true ∷ [])) noted
           ∙ ap (λ w. r.set_ups ++ new w ∷ []) d.waiting;
     } in

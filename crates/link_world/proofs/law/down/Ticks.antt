@@ -1,18 +1,12 @@
 -- A tick of an end that is calling or releasing changes its timers, and perhaps sends its SABM or DISC once more.
 use Rattle.link_world.proofs.Common.{◌≡◌, ℕ, Bool, true, false, if◌then◌else◌, Option, Some, None, refl, sym, subst}
 use Rattle.link_world.proofs.Common.{List, [], Control, LinkState, Machine, Turn, begin, runs_out, lowered, with_t1}
-use Rattle.link_world.proofs.Common.{with_t2, with_t3, t1_out, t2_out, t3_out, tick_t2, tick_t1_of, tick_t2_of}
-use Rattle.link_world.proofs.Common.{tick_t3_of, Packet}
+use Rattle.link_world.proofs.Common.{with_t3, t1_out, t3_out, tick_t1_of, tick_t3_of, Packet, ◌||◌}
 use Rattle.link_machine.specs.declared.state.LinkState.TheVariants.{Idle as IdleState, Calling as CallingState}
 use Rattle.link_machine.specs.declared.state.LinkState.TheVariants.{Up as UpState, Releasing as ReleasingState}
 use Rattle.link_machine.specs.Ticks.{tick_t1}
+use Rattle.link_machine.specs.Wants.{wants}
 use Rattle.link_world.proofs.law.down.Ends.{IsDown, goes_on}
-
-t2_quiet : (state : LinkState) (packets : List Packet) (turn : Turn) → IsDown state packets → t2_out state turn ≡ turn
-t2_quiet IdleState packets turn down = refl
-t2_quiet CallingState packets turn down = refl
-t2_quiet UpState packets turn down = absurd down
-t2_quiet ReleasingState packets turn down = refl
 
 t3_quiet : (state : LinkState) (packets : List Packet) (turn : Turn) → IsDown state packets → t3_out state turn ≡ turn
 t3_quiet IdleState packets turn down = refl
@@ -25,8 +19,9 @@ pub ticks_down :
     (P : Turn → Type 0) (m : Machine) (state : LinkState) → IsDown state m.outgoing.packets
     → ((c : Control) → c.state ≡ state → P (goes_on m c []))
     → ((c : Control) → c.state ≡ state → P (t1_out state (goes_on m c [])))
-    → (still : Bool) → m.control.state ≡ state → P (tick_t1 still (tick_t2 (begin m)))
-ticks_down P m state down stay again still is = t2 m.control.t2
+    → (still : Bool) → m.control.state ≡ state → P (tick_t1 still (begin m))
+ticks_down P m state down stay again still is =
+    t1 m.control.t1 (still || wants m) m.control is
   where
     quiet : (c : Control) → c.state ≡ state → IsDown c.state m.outgoing.packets
     quiet c same = subst (λ s. IsDown s m.outgoing.packets) (sym same) down
@@ -52,15 +47,3 @@ ticks_down P m state down stay again still is = t2 m.control.t2
     t1 None waits c same = t3 c.t3 c same
     t1 (Some left) true c same = stay c same
     t1 (Some left) false c same = out1 (runs_out left) left c same
-
-    out2 : (b : Bool) (left : ℕ)
-        → P (tick_t1 still (if b then t2_out m.control.state (goes_on m (with_t2 None m.control) [])
-        else goes_on m (with_t2 (lowered left) m.control) []))
-    out2 true left = subst (λ t. P (tick_t1 still t))
-        (sym (t2_quiet m.control.state m.outgoing.packets (goes_on m (with_t2 None m.control) []) (quiet m.control is)))
-        (t1 m.control.t1 still (with_t2 None m.control) is)
-    out2 false left = t1 m.control.t1 still (with_t2 (lowered left) m.control) is
-
-    t2 : (o : Option ℕ) → P (tick_t1 still (tick_t2_of o (goes_on m m.control [])))
-    t2 None = t1 m.control.t1 still m.control is
-    t2 (Some left) = out2 (runs_out left) left

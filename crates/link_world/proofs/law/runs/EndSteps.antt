@@ -6,7 +6,7 @@ use Rattle.link_world.proofs.Common.{Machine, modulus_named, Sent, sent_kind, In
 use Rattle.link_world.proofs.Common.{changing, setting, connect, joined, quitting, tick, tick_in, hear_up, step}
 use Rattle.link_world.proofs.Common.{settled, refusal_of, frame_read, read_in, is_sabm_frame, SetUp, Tagged}
 use Rattle.link_world.proofs.Common.{RecordedEnd, Happening, noting, seen, hears_ask, Connects, Sends, Disconnects}
-use Rattle.link_world.proofs.Common.{Ticks, Hears}
+use Rattle.link_world.proofs.Common.{Ticks, Seizes, Hears, seize, seize_in}
 use Rattle.std.proofs.Common.{nat_le}
 use Rattle.ax25_frames.specs.declared.frame.U.TheVariants.{Sabm as SabmFrame, Sabme as SabmeFrame, Disc as DiscFrame}
 use Rattle.ax25_frames.specs.declared.frame.U.TheVariants.{Dm as DmFrame, Ua as UaFrame}
@@ -30,7 +30,8 @@ use Rattle.link_world.proofs.law.showing.Shown.Shown.{ShownIdle, ShownCalling, S
 use Rattle.link_world.proofs.law.showing.Outcome.{Keeps}
 use Rattle.link_world.proofs.law.showing.Heard.{Arrival, arrival_of, heard_as, heard_frame}
 use Rattle.link_world.proofs.law.up.Settling.{EndsUp, stays_up}
-use Rattle.link_world.proofs.law.up.Events.{UpEnd, up_begins, up_sends, up_quits, up_hears_super, up_hears_info}
+use Rattle.link_world.proofs.law.up.Events.{UpEnd, up_begins, up_sends, up_quits, up_seizes, up_hears_super}
+use Rattle.link_world.proofs.law.up.Events.{up_hears_info}
 use Rattle.link_world.proofs.law.up.Changes.{noted_nothing, up_hears_ua, up_hears_dm, up_hears_disc}
 use Rattle.link_world.proofs.law.up.Ticks.{up_ticks}
 use Rattle.link_world.proofs.law.down.Ends.{DownEnd, down_silent, down_refuses}
@@ -65,9 +66,8 @@ refused :
 refused (StandsIdle d) no_ask noted = down_refuses d noted
 refused (StandsCalling d) no_ask noted = down_refuses d noted
 refused {h} {r} (StandsUp ended last u) no_ask noted =
-    let ends : EndsUp h r ended last [] r.machine.incoming = record {
+    let ends : EndsUp h r ended last [] r.machine.incoming.modulus = record {
       no_ask = no_ask;
-      sound = u.sound;
       set_ups = ap (λ (n : RecordedEnd). n.set_ups) noted ∙ u.set_ups;
     } in
     stays_up ends (up_begins u)

@@ -5,7 +5,7 @@ use Rattle.link_world.proofs.Common.{Params, window_in, HasWindows, LinkState, T
 use Rattle.link_world.proofs.Common.{Connects, Sends, Disconnects, Ticks, Side, World, read_in, hearing_as, turn_of}
 use Rattle.link_world.proofs.Common.{near_step, seen_from, end_of, run, new_world, is_alone, sends_alone, called_alone}
 use Rattle.link_world.proofs.Common.{is_quiet, IsQuietRun, WindowsFit, HasHalfWindows, A, B, Event, Connect, Send}
-use Rattle.link_world.proofs.Common.{Disconnect, Tick, Hear, Lose}
+use Rattle.link_world.proofs.Common.{Disconnect, Tick, Seize, Hear, Lose, Seizes}
 use Rattle.selective_reject.specs.declared.window.Mode.TheVariants.{Srej as SrejMode}
 use Rattle.link_machine.specs.declared.state.LinkState.TheVariants.{Idle as IdleState}
 use Rattle.link_world.proofs.law.reduced.CoreMoves.{new_end}
@@ -55,6 +55,7 @@ near_shows (Connect e) fit alone called s = near_asks s Connects tt alone
 near_shows (Send e packet) fit alone called s = near_asks s (Sends packet) tt alone
 near_shows (Disconnect e) fit alone called s = near_asks s Disconnects tt alone
 near_shows (Tick e waiting) fit alone called s = near_asks s (Ticks waiting) tt alone
+near_shows (Seize e last full) fit alone called s = near_asks s (Seizes last full) tt alone
 near_shows {w} (Hear e) fit alone called s = near_hear w.a.end w.a.towards w.b e fit alone called s
 near_shows (Lose e index) fit alone called s = near_loses index s
 

@@ -2,7 +2,8 @@
 use Rattle.link_world.proofs.Common.{◌≡◌, ℕ, ◌%◌, ◌<◌, true, List, [], ◌∷◌, Option, Some, None, refl, ap, sym, ◌∙◌}
 use Rattle.link_world.proofs.Common.{subst, le-leb, Frame, Params, Machine, is_valid, Sent, sent_kind, InfoSent}
 use Rattle.link_world.proofs.Common.{SuperSent, SetupSent, SetUp, Tagged, RecordedEnd, Side, World, read_in}
-use Rattle.link_world.proofs.Common.{hears_valid, WindowsFit, Event, Connect, Send, Disconnect, Tick, Hear, Lose}
+use Rattle.link_world.proofs.Common.{hears_valid, WindowsFit, Event, Connect, Send, Disconnect, Tick, Seize}
+use Rattle.link_world.proofs.Common.{Hear, Lose}
 use Rattle.std.specs.List.{AllByRecursion as Each}
 use Rattle.link_world.proofs.law.reduced.Core.{End, Tagged as CoreTagged, Numbered, between}
 use Rattle.link_world.proofs.law.reduced.CoreMoves.{numbered_to}
@@ -78,5 +79,6 @@ near_valid (Connect e) fit s = refl
 near_valid (Send e packet) fit s = refl
 near_valid (Disconnect e) fit s = refl
 near_valid (Tick e waiting) fit s = refl
+near_valid (Seize e last full) fit s = refl
 near_valid (Hear e) fit s = reads_by fit s
 near_valid (Lose e index) fit s = refl

@@ -2,9 +2,11 @@
 -- what the other end was given in its origin, which has the same modulus, origins rise strictly, all that a set-up
 -- acted on is of one set-up of the other end, and no number is invalid.
 use Rattle.link_world.proofs.Common.{◌≡◌, true, List, [], ◌∷◌, Option, Some, None, refl, IsTrue, Frame, Params}
-use Rattle.link_world.proofs.Common.{RecordedEnd, seen, Connects, Sends, Disconnects, Ticks, Hears, Tagged, Side, World}
+use Rattle.link_world.proofs.Common.{RecordedEnd, seen, Connects, Sends, Disconnects, Ticks, Seizes, Hears, Tagged}
+use Rattle.link_world.proofs.Common.{Side, World}
 use Rattle.link_world.proofs.Common.{read_in, hearing_as, turn_of, near_step, seen_from, end_of, run, new_world}
 use Rattle.link_world.proofs.Common.{IsQuietRun, WindowsFit, hears_valid, A, B, Event, Connect, Send, Disconnect, Tick}
+use Rattle.link_world.proofs.Common.{Seize}
 use Rattle.link_world.proofs.Common.{Hear, Lose}
 use Rattle.std.specs.List.{AllByRecursion as Each}
 use Rattle.link_machine.specs.Step.{step as link_step}
@@ -58,6 +60,10 @@ near_acted {w} (Disconnect e) s h = record {
 }
 near_acted {w} (Tick e waiting) s h = record {
   near = acted_behind (Ticks waiting) w.a.end (link_step w.a.end.machine (seen (Ticks waiting))) h.near;
+  far = h.far;
+}
+near_acted {w} (Seize e last full) s h = record {
+  near = acted_behind (Seizes last full) w.a.end (link_step w.a.end.machine (seen (Seizes last full))) h.near;
   far = h.far;
 }
 near_acted {w} (Hear e) s h = hear_acted w.a.end w.a.towards w.b e s h

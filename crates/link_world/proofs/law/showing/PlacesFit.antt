@@ -2,12 +2,14 @@
 use Rattle.link_world.proofs.Common.{◌≡◌, ℕ, zero, suc, ◌+◌, ◌-◌, ◌≤◌, Bool, true, false, ◌==◌, if◌then◌else◌, ◌⊎◌}
 use Rattle.link_world.proofs.Common.{subst, List, [], ◌∷◌, ◌++◌, length, drop, replicate, Option, Some, None, refl, sym}
 use Rattle.link_world.proofs.Common.{ap, ◌∙◌, arith, length-append, Packet, Place, Mode, Incoming, empty_incoming}
-use Rattle.link_world.proofs.Common.{empty_place, packet_at, with_packet, asked, Params, window_in, before_gap}
+use Rattle.link_world.proofs.Common.{empty_place, packet_at, with_packet, with_asked, unasked, missing, full_end}
+use Rattle.link_world.proofs.Common.{first_missing, slice_get, Params, window_in, before_gap}
 use Rattle.link_world.proofs.Common.{moved_on}
 use Rattle.std.proofs.Common.{length-drop, length-set}
+use Rattle.std.proofs.lemmas.List.{length-map}
 use Rattle.std.proofs.lemmas.List.{length-replicate, drop-replicate, replicate-append-replicate, get_or-set_other}
 use Rattle.selective_reject.specs.declared.window.Mode.TheVariants.{Rej as RejMode, Srej as SrejMode}
-use Rattle.selective_reject.specs.Places.{filled_place, place_at}
+use Rattle.selective_reject.specs.Places.{asked_place, end_after, filled_place, place_at, unasked_place}
 use Rattle.link_machine.specs.Acts.{run}
 
 pub record IsFit (i : Incoming) : Type 0 where
@@ -107,25 +109,54 @@ fit_with {i} k packet mode ahead f = record {
   in_order = λ rej. absurd (rej≢srej (sym rej ∙ mode));
 }
 
-length_asked : (ps : List Place) (k : ℕ) → length (asked ps k) ≡ length ps
-unfolding asked
-length_asked ps zero = refl
-length_asked [] (suc k) = refl
-length_asked (p ∷ ps) (suc k) = ap suc (length_asked ps k)
+first_with_asked : (ps : List Place) (k : ℕ) → packet_at (with_asked ps k) 0 ≡ packet_at ps 0
+first_with_asked [] k = refl
+first_with_asked (p ∷ ps) zero = refl
+first_with_asked (p ∷ ps) (suc k) = refl
 
-first_asked : (ps : List Place) (k : ℕ) → packet_at (asked ps k) 0 ≡ packet_at ps 0
-unfolding asked
-first_asked ps zero = refl
-first_asked [] (suc k) = refl
-first_asked (p ∷ ps) (suc k) = refl
+no_end : (count : ℕ) → full_end (replicate count empty_place) ≡ 0
+no_end zero = refl
+no_end (suc count) = ap (end_after false) (no_end count)
 
--- some are asked for
-pub fit_asked : {i : Incoming} (k : ℕ) → i.mode ≡ SrejMode → IsFit i → IsFit (record i { places = asked i.places k })
-fit_asked {i} k mode f = record {
-  places = length_asked i.places k ∙ f.places;
-  first = first_asked i.places k ∙ f.first;
+none_below : (ps : List Place) → missing ps 0 ≡ []
+unfolding missing
+none_below ps = refl
+
+-- if no place is full, none is missing
+none_missing : (count : ℕ) → first_missing (replicate count empty_place) ≡ None
+none_missing count =
+    let ps : List Place = replicate count empty_place in
+    ap (λ n. slice_get (missing ps n) 0) (no_end count) ∙ ap (λ t. slice_get t 0) (none_below ps)
+
+some≢none : {k : ℕ} → Some k ≡ None → ⊥
+some≢none e = cc
+
+-- one that is missing is asked for
+pub fit_with_asked :
+    {i : Incoming} (k : ℕ) → first_missing i.places ≡ Some k → IsFit i
+    → IsFit (record i { places = with_asked i.places k })
+fit_with_asked {i} k is f = record {
+  places = length-set i.places k (asked_place (place_at i.places k)) ∙ f.places;
+  first = first_with_asked i.places k ∙ f.first;
   positive = f.positive;
-  in_order = λ rej. absurd (rej≢srej (sym rej ∙ mode));
+  in_order = λ rej. absurd (some≢none (sym is ∙ ap first_missing (f.in_order rej) ∙ none_missing i.window));
+}
+
+first_unasked : (ps : List Place) → packet_at (unasked ps) 0 ≡ packet_at ps 0
+first_unasked [] = refl
+first_unasked (p ∷ ps) = refl
+
+unasked_empty : (count : ℕ) → unasked (replicate count empty_place) ≡ replicate count empty_place
+unasked_empty zero = refl
+unasked_empty (suc count) = ap (λ t. empty_place ∷ t) (unasked_empty count)
+
+-- none is asked for any more
+pub fit_unasked : {i : Incoming} → IsFit i → IsFit (record i { places = unasked i.places })
+fit_unasked {i} f = record {
+  places = length-map i.places unasked_place ∙ f.places;
+  first = first_unasked i.places ∙ f.first;
+  positive = f.positive;
+  in_order = λ rej. ap unasked (f.in_order rej) ∙ unasked_empty i.window;
 }
 
 -- none is stored in a link that is new

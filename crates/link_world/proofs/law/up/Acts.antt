@@ -1,13 +1,15 @@
 -- A link that is up, act by act.
-use Rattle.link_world.proofs.Common.{◌≡◌, ℕ, le_refl, nat_lt, Bool, true, false, ◌&&◌, not, if◌then◌else◌, ◌==◌, List}
-use Rattle.link_world.proofs.Common.{[], ◌∷◌, ◌++◌, length, Some, None, refl, sym, ◌∙◌, subst, S, Rr, Control, t1_ticks}
-use Rattle.link_world.proofs.Common.{SentIn, sent_in, SuperSent, Turn, changing, setting, nothing_due, answer_poll}
-use Rattle.link_world.proofs.Common.{poll, reject, with_rej, gone_back, recover, acknowledged}
+use Rattle.link_world.proofs.Common.{◌≡◌, ℕ, ◌-◌, le_refl, nat_lt, Bool, true, false, ◌&&◌, if◌then◌else◌, ◌==◌, List}
+use Rattle.link_world.proofs.Common.{[], ◌∷◌, ◌++◌, length, is_some, refl, sym, ◌∙◌, subst, S, Control, SentIn, sent_in}
+use Rattle.link_world.proofs.Common.{SuperSent, Turn, changing, setting, polled, gone_back, recover, recover_with}
+use Rattle.link_world.proofs.Common.{acknowledged}
 use Rattle.link_world.proofs.law.Each.{each_pushed}
-use Rattle.ax25_frames.specs.declared.frame.S.TheVariants.{Rej as RejFrame}
-use Rattle.link_machine.specs.Machine.{t3_ticks}
+use Rattle.selective_reject.specs.Again.{with_number}
+use Rattle.selective_reject.specs.Outgoing.{asked_again, back, first_again}
 use Rattle.link_machine.specs.Turn.{sending}
-use Rattle.link_machine.specs.Acts.{report, respond_ready, polling, behind_poll, timed_anew, timed_by}
+use Rattle.link_machine.specs.Acts.{answering, behind_poll, nothing_asked, picked_out, picking, timed_anew, timed_by}
+use Rattle.link_machine.specs.Acts.{unretried}
+use Rattle.link_machine.specs.Acts.{unpicked}
 use Rattle.link_world.proofs.law.reduced.Core.{Tagged, Numbered}
 use Rattle.link_world.proofs.law.reduced.Core.Numbered.{Super}
 use Rattle.link_world.proofs.law.reduced.Core.Kind.{IsNumbered}
@@ -16,8 +18,9 @@ use Rattle.link_world.proofs.law.reduced.CoreOf.{super_of, cores_sent, running_o
 use Rattle.link_world.proofs.law.moves.Losing.{lose_keeps}
 use Rattle.link_world.proofs.law.invariant.Upward.{set_vs_keeps, ack_front_keeps}
 use Rattle.link_world.proofs.law.moves.UpSending.{UpInvariant, send_super_keeps}
+use Rattle.link_world.proofs.law.showing.PlacesFit.{fit_unasked, sound_same}
+use Rattle.link_world.proofs.law.showing.PlacesStored.{stored_unasked}
 use Rattle.link_world.proofs.law.up.Progress.{Progress, IsUp, sent_one}
-use Rattle.link_world.proofs.law.up.Flushing.{awaiting_by}
 
 -- conditions, retries and timers change
 pub setting_keeps :
@@ -47,58 +50,93 @@ sending_super_keeps which command flag is {to_x} {g} {turn} h =
       holds = subst (λ t. UpInvariant x g.partner r to_x t) (sent_one g.answers tag g.before turn.sent s) gone;
     }
 
-nothing_due_state : (c : Control) → (nothing_due c).state ≡ c.state
-nothing_due_state c = refl
+-- the numbers that SREJ asked for change
+pub again_keeps :
+    (again : List ℕ) {to_x : List Tagged} {g : Progress} {turn : Turn} → IsUp to_x g turn
+    → IsUp to_x g (record turn { now = record turn.now { outgoing = record turn.now.outgoing { again = again } } })
+again_keeps again h = record { state = h.state; so_far = h.so_far; fits = h.fits; holds = h.holds }
 
--- an S frame that tells V(R) goes out
-pub report_keeps :
-    (which : S) (command flag : Bool) → ((vr : ℕ) → super_of which vr flag ≡ Super vr)
-    → {to_x : List Tagged} {g : Progress} {turn : Turn}
-    → IsUp to_x g turn → IsUp to_x g (report (SuperSent which command turn.now.incoming.vr flag) turn)
-report_keeps which command flag is h = sending_super_keeps which command flag is
-    (setting_keeps nothing_due nothing_due_state h)
+-- a number that SREJ asks for is kept
+pub picked_keeps :
+    (n : ℕ) {to_x : List Tagged} {g : Progress} {turn : Turn} → IsUp to_x g turn
+    → IsUp to_x g (changing (picked_out n) turn)
+picked_keeps n {to_x} {g} {turn} h = go (nat_lt n turn.now.outgoing.top)
+  where
+    go : (b : Bool) → IsUp to_x g (record turn {
+      now = if b
+          then record turn.now { control = picking turn.now.control; outgoing = asked_again n turn.now.outgoing }
+          else turn.now;
+    })
+    go true = again_keeps (with_number (n - turn.now.outgoing.va) turn.now.outgoing.again)
+        (setting_keeps picking (λ c. refl) h)
+    go false = h
 
-pub respond_ready_keeps :
-    (flag : Bool) {to_x : List Tagged} {g : Progress} {turn : Turn}
-    → IsUp to_x g turn → IsUp to_x g (respond_ready flag turn)
-respond_ready_keeps flag h = report_keeps Rr false flag (λ vr. refl) h
+-- V(S) goes back to V(A), or stays
+back_by :
+    (stays : Bool) {to_x : List Tagged} {g : Progress} {turn : Turn} → IsUp to_x g turn
+    → IsUp to_x g (record turn {
+      now = record turn.now {
+        control = unpicked turn.now.control;
+        outgoing = if stays then turn.now.outgoing else back turn.now.outgoing;
+      };
+    })
+back_by true h = setting_keeps unpicked (λ c. refl) h
+back_by false {g} {turn} h = record {
+  state = h.state;
+  so_far = h.so_far;
+  fits = h.fits;
+  holds =
+      set_vs_keeps (end_behind turn.now g.ended) turn.now.outgoing.va (le_refl turn.now.outgoing.va) h.holds;
+}
 
-pub answer_poll_keeps :
-    (asks : Bool) {to_x : List Tagged} {g : Progress} {turn : Turn}
-    → IsUp to_x g turn → IsUp to_x g (answer_poll asks turn)
-answer_poll_keeps true h = respond_ready_keeps true h
-answer_poll_keeps false h = h
-
-pub poll_keeps : {to_x : List Tagged} {g : Progress} {turn : Turn} → IsUp to_x g turn → IsUp to_x g (poll turn)
-poll_keeps h = setting_keeps polling (λ c. refl)
-    (report_keeps Rr true true (λ vr. refl) h)
-
-pub reject_keeps :
-    (flag : Bool) {to_x : List Tagged} {g : Progress} {turn : Turn} → IsUp to_x g turn → IsUp to_x g (reject flag turn)
-reject_keeps flag h = setting_keeps (with_rej true) (λ c. refl)
-    (report_keeps RejFrame false flag (λ vr. refl) h)
-
--- V(S) goes back to V(A)
 pub gone_back_keeps :
     {to_x : List Tagged} {g : Progress} {turn : Turn} → IsUp to_x g turn → IsUp to_x g (changing gone_back turn)
-gone_back_keeps {g} {turn} h =
+gone_back_keeps {turn = turn} h =
+    back_by (turn.now.control.picked && is_some (first_again turn.now.outgoing)) h
+
+-- nothing is asked for any more
+nothing_asked_keeps :
+    {to_x : List Tagged} {g : Progress} {turn : Turn} → IsUp to_x g turn → IsUp to_x g (changing nothing_asked turn)
+nothing_asked_keeps {to_x} {g} {turn} h =
     let m = turn.now in
+    let i = m.incoming in
     record {
       state = h.state;
-      so_far = h.so_far;
+      so_far = record {
+        told_is = h.so_far.told_is;
+        params_are = h.so_far.params_are;
+        sound = sound_same (fit_unasked h.so_far.sound.fit) refl refl h.so_far.sound;
+        modulus_is = h.so_far.modulus_is;
+      };
       fits = h.fits;
-      holds = set_vs_keeps (end_behind m g.ended) m.outgoing.va (le_refl m.outgoing.va) h.holds;
+      holds = subst (λ ss. UpInvariant (end_behind m g.ended) g.partner
+          (record (running_of m g.open_now) { stored = ss }) to_x
+          (g.before ++ cores_sent g.answers (length g.ended) turn.sent)) (sym (stored_unasked i.vr i.places)) h.holds;
     }
 
-behind_poll_by :
-    (b : Bool) (c d e : Control) → d.state ≡ c.state → e.state ≡ c.state → (if b then d else e).state ≡ c.state
-behind_poll_by true c d e one other = one
-behind_poll_by false c d e one other = other
+-- a command with P = 1 is to be answered
+pub polled_keeps :
+    (asks : Bool) {to_x : List Tagged} {g : Progress} {turn : Turn} → IsUp to_x g turn → IsUp to_x g (polled asks turn)
+polled_keeps true h = nothing_asked_keeps (setting_keeps answering (λ c. refl) h)
+polled_keeps false h = h
 
-behind_poll_state : (c : Control) → (behind_poll c).state ≡ c.state
-behind_poll_state c =
-    behind_poll_by c.busy c (record c { poll = false; rc = 0; t1 = Some (t1_ticks c.hops 0); t3 = None })
-    (record c { poll = false; rc = 0; t1 = None; t3 = Some t3_ticks }) refl refl
+-- a choice between two changes of the conditions
+pub state_by :
+    (b : Bool) (c d e : Control) → d.state ≡ c.state → e.state ≡ c.state → (if b then d else e).state ≡ c.state
+state_by true c d e one other = one
+state_by false c d e one other = other
+
+behind_poll_state : (retries : ℕ) (c : Control) → (behind_poll retries c).state ≡ c.state
+behind_poll_state retries c = state_by c.busy c _ _ refl refl
+
+timed_anew_state : (all : Bool) (c : Control) → (timed_anew all c).state ≡ c.state
+timed_anew_state true c = refl
+timed_anew_state false c = refl
+
+timed_by_state : (some all : Bool) (c : Control) → (timed_by some all c).state ≡ c.state
+timed_by_state some all c =
+    let now : Control = if c.poll then unretried c else timed_anew all c in
+    state_by some c now c (state_by c.poll c (unretried c) (timed_anew all c) refl (timed_anew_state all c)) refl
 
 -- a choice between two acts
 pub choice_keeps :
@@ -107,18 +145,17 @@ pub choice_keeps :
 choice_keeps true h k = h
 choice_keeps false h k = k
 
+pub recover_with_keeps :
+    (retries : ℕ) {to_x : List Tagged} {g : Progress} {turn : Turn} → IsUp to_x g turn
+    → IsUp to_x g (recover_with retries turn)
+recover_with_keeps retries h =
+    gone_back_keeps (setting_keeps (behind_poll retries) (λ c. behind_poll_state retries c) h)
+
 pub recover_keeps :
-    (responds : Bool) {to_x : List Tagged} {g : Progress} {turn : Turn}
-    → IsUp to_x g turn → IsUp to_x g (recover responds turn)
-recover_keeps responds {turn} h = choice_keeps (turn.now.control.poll && responds)
-    (gone_back_keeps (setting_keeps behind_poll behind_poll_state h)) h
-
-timed_anew_state : (all : Bool) (c : Control) → (timed_anew all c).state ≡ c.state
-timed_anew_state true c = refl
-timed_anew_state false c = refl
-
-timed_by_state : (some all : Bool) (c : Control) → (timed_by some all c).state ≡ c.state
-timed_by_state some all c = awaiting_by (some && not c.poll) c (timed_anew all c) (timed_anew_state all c)
+    (answers : Bool) {to_x : List Tagged} {g : Progress} {turn : Turn}
+    → IsUp to_x g turn → IsUp to_x g (recover answers turn)
+recover_keeps answers {turn = turn} h =
+    choice_keeps (turn.now.control.poll && answers) (recover_with_keeps 0 h) h
 
 -- the front frame acknowledges
 pub acknowledged_keeps :

@@ -2,6 +2,7 @@
 use Rattle.link_world.proofs.Common.{◌≡◌, ℕ, Bool, List, [], ◌∷◌, ◌++◌, length, sym, ap, ◌∙◌, append_assoc, ⊤}
 use Rattle.link_world.proofs.Common.{map-append, Told, Incoming, Params, Sent, SentIn, InfoSent, SuperSent, SetupSent}
 use Rattle.link_world.proofs.Common.{Turn}
+use Rattle.link_world.proofs.law.showing.PlacesFit.{IsSound}
 use Rattle.std.specs.List.{AllByRecursion as Each}
 use Rattle.link_machine.specs.declared.state.LinkState.TheVariants.{Up as UpState}
 use Rattle.link_world.proofs.law.reduced.Core.{End, SetUp, Tagged, between}
@@ -19,7 +20,7 @@ SentFits answers s = IsNumberedSent s.frame
 
 -- A link that is up, in the middle of an event: its partner, what was under way to the partner before, the set-ups
 -- that ended, the one that is open, whether a UA or DM sent now answers a SABM or DISC, what was told so far, and
--- what is kept of the partner's packets.
+-- the modulus.
 pub record Progress : Type 0 where
   pub partner : End
   pub before : List Tagged
@@ -28,12 +29,14 @@ pub record Progress : Type 0 where
   pub answers : Bool
   pub told : List Told
   pub params : Params
-  pub incoming : Incoming
+  pub modulus : ℕ
 
+-- it has told that much, and what it keeps of the partner's packets is sound
 pub record IsSoFar (g : Progress) (told : List Told) (params : Params) (incoming : Incoming) : Type 0 where
   pub told_is : told ≡ g.told
   pub params_are : params ≡ g.params
-  pub incoming_is : incoming ≡ g.incoming
+  pub sound : IsSound g.params incoming
+  pub modulus_is : incoming.modulus ≡ g.modulus
 
 -- what is under way from it is what was, and what it has sent
 pub record IsUp (to_x : List Tagged) (g : Progress) (turn : Turn) : Type 0 where
@@ -50,11 +53,3 @@ pub sent_one :
     ≡ to_y ++ cores_sent answers tag (sent ++ s ∷ [])
 sent_one answers tag to_y sent s = append_assoc to_y (cores_sent answers tag sent) (core_sent answers tag s ∷ [])
     ∙ ap (λ t. to_y ++ t) (sym (map-append (core_sent answers tag) sent (s ∷ [])))
-
--- what was sent, with more frames
-pub sent_more :
-    (answers : Bool) (tag : ℕ) (to_y : List Tagged) (sent more : List SentIn)
-    → (to_y ++ cores_sent answers tag sent) ++ cores_sent answers tag more
-    ≡ to_y ++ cores_sent answers tag (sent ++ more)
-sent_more answers tag to_y sent more = append_assoc to_y (cores_sent answers tag sent) (cores_sent answers tag more)
-    ∙ ap (λ t. to_y ++ t) (sym (map-append (core_sent answers tag) sent more))

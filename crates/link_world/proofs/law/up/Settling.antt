@@ -1,8 +1,7 @@
--- What an event of a link that is up ends with: what may go out goes out, and then, if it is time, the link is
--- released.
+-- What an event of a link that is up ends with: if it is time, the link is released.
 use Rattle.link_world.proofs.Common.{◌≡◌, ℕ, ◌+◌, Bool, true, false, ◌&&◌, ◌==◌, if◌then◌else◌, List, [], ◌∷◌, ◌++◌}
 use Rattle.link_world.proofs.Common.{length, map, inl, inr, refl, sym, ap, ◌∙◌, subst, arith, append_assoc, fold}
-use Rattle.link_world.proofs.Common.{and_parts, eqb-true, map-append, Incoming, LinkState, Machine, Sent, SentIn}
+use Rattle.link_world.proofs.Common.{and_parts, eqb-true, map-append, LinkState, Machine, Sent, SentIn}
 use Rattle.link_world.proofs.Common.{sent_in, sent_kind, InfoSent, SuperSent, SetupSent, Turn, close, SetUp, opened}
 use Rattle.link_world.proofs.Common.{is_answer, set_up_of, RecordedEnd, tagged, waiting_in, Happening, told_of, mate_of}
 use Rattle.link_world.proofs.Common.{opening, noting, hears_ask, Told, settled, settle_in}
@@ -19,9 +18,7 @@ use Rattle.link_world.proofs.law.reduced.CoreOf.{core_sent, cores_sent, kind_of,
 use Rattle.link_world.proofs.law.invariant.Exchanges.{asks_append}
 use Rattle.link_world.proofs.law.moves.Standings.{leave_to_releasing_keeps}
 use Rattle.link_world.proofs.law.moves.Kept.{release_keeps}
-use Rattle.link_world.proofs.law.showing.PlacesFit.{IsSound}
 use Rattle.link_world.proofs.law.invariant.Invariant.{Invariant}
-use Rattle.link_world.proofs.law.up.Flushing.{flush_keeps}
 use Rattle.link_world.proofs.law.up.Progress.{IsUp, Progress, IsNumberedSent, SentFits}
 use Rattle.link_world.proofs.law.showing.Shown.{core_set_up, core_set_ups, core_flight, IsWritten, AnswersAsSent}
 use Rattle.link_world.proofs.law.showing.Shown.{kind_by}
@@ -108,11 +105,11 @@ disc_in m = sent_in m.incoming.modulus (SetupSent DiscFrame true)
 pub all_of_last : (qs : List SetUp) (c : SetUp) → core_set_ups (qs ++ c ∷ []) ≡ core_set_ups qs ++ core_set_up c ∷ []
 all_of_last qs c = map-append core_set_up qs (c ∷ [])
 
--- the progress of an event of an end: what was told so far, and what is kept of the partner's packets
+-- the progress of an event of an end: what was told so far, and the modulus
 abbrev pub progress_in :
-    (r : RecordedEnd) (y : End) (to_y : List CoreTagged) (ended : List SetUp) (last : SetUp) → List Told → Incoming
+    (r : RecordedEnd) (y : End) (to_y : List CoreTagged) (ended : List SetUp) (last : SetUp) → List Told → ℕ
     → Progress
-progress_in r y to_y ended last told incoming = record {
+progress_in r y to_y ended last told modulus = record {
   partner = y;
   before = to_y;
   ended = core_set_ups ended;
@@ -120,33 +117,31 @@ progress_in r y to_y ended last told incoming = record {
   answers = false;
   told = told;
   params = r.machine.params;
-  incoming = incoming;
+  modulus = modulus;
 }
 
 -- An event that leaves an end up or releases it: it hears no SABM or DISC, and what was told makes these set-ups.
 pub record EndsUp (h : Happening) (r : RecordedEnd) (ended : List SetUp) (last : SetUp) (told : List Told)
-    (incoming : Incoming) : Type 0 where
+    (modulus : ℕ) : Type 0 where
   pub no_ask : hears_ask h ≡ false
-  pub sound : IsSound r.machine.params incoming
-  pub set_ups : fold (told_of (opened (mate_of h) incoming.modulus (noting h r).waiting)) (noting h r).set_ups told
+  pub set_ups : fold (told_of (opened (mate_of h) modulus (noting h r).waiting)) (noting h r).set_ups told
       ≡ ended ++ last ∷ []
 
 set_ups_after :
     {h : Happening} {r : RecordedEnd} {y : End} {to_x to_y : List CoreTagged} {ended : List SetUp} {last : SetUp}
-    {told : List Told} {incoming : Incoming} {turn : Turn} → EndsUp h r ended last told incoming
-    → IsUp to_x (progress_in r y to_y ended last told incoming) turn
+    {told : List Told} {modulus : ℕ} {turn : Turn} → EndsUp h r ended last told modulus
+    → IsUp to_x (progress_in r y to_y ended last told modulus) turn
     → fold (told_of (opening h (noting h r) turn)) (noting h r).set_ups turn.told ≡ ended ++ last ∷ []
-set_ups_after {h} {r} {incoming} {turn} e up =
+set_ups_after {h} {r} {modulus} {turn} e up =
     let n = noting h r in
-    ap (λ (i : Incoming). fold
-    (told_of (opened (mate_of h) i.modulus n.waiting)) n.set_ups turn.told) up.so_far.incoming_is
-    ∙ ap (fold (told_of (opened (mate_of h) incoming.modulus n.waiting)) n.set_ups) up.so_far.told_is ∙ e.set_ups
+    ap (λ k. fold (told_of (opened (mate_of h) k n.waiting)) n.set_ups turn.told) up.so_far.modulus_is
+    ∙ ap (fold (told_of (opened (mate_of h) modulus n.waiting)) n.set_ups) up.so_far.told_is ∙ e.set_ups
 
 -- it stays up
 pub stays_up :
     {h : Happening} {r : RecordedEnd} {y : End} {to_x to_y : List CoreTagged} {ended : List SetUp} {last : SetUp}
-    {told : List Told} {incoming : Incoming} {turn : Turn} → EndsUp h r ended last told incoming
-    → IsUp to_x (progress_in r y to_y ended last told incoming) turn → Keeps h r y to_x to_y turn
+    {told : List Told} {modulus : ℕ} {turn : Turn} → EndsUp h r ended last told modulus
+    → IsUp to_x (progress_in r y to_y ended last told modulus) turn → Keeps h r y to_x to_y turn
 stays_up {h} {r} {y} {to_x} {to_y} {ended} {last} {turn} e up =
     let after = end_with turn.now (ended ++ last ∷ []) [] in
     let sent : IsSentAs false after turn.sent (cores_sent false (length (core_set_ups ended)) turn.sent) =
@@ -155,7 +150,7 @@ stays_up {h} {r} {y} {to_x} {to_y} {ended} {last} {turn} e up =
       end_is = up_end turn.now (core_set_ups ended) (core_set_up last);
       shown = ShownUp ended last refl up.state refl;
       params = up.so_far.params_are;
-      sound = subst (IsSound r.machine.params) (sym up.so_far.incoming_is) e.sound;
+      sound = up.so_far.sound;
       holds = subst (λ fs. Invariant (between (up_end turn.now (core_set_ups ended) (core_set_up last)) y to_x
           (to_y ++ fs))) (sym sent.flight) up.holds;
       written = sent.written;
@@ -182,8 +177,8 @@ not_alone to_x to_y modulus sent (inr quiet) = quiet
 -- it is released
 releases :
     {h : Happening} {r : RecordedEnd} {y : End} {to_x to_y : List CoreTagged} {ended : List SetUp} {last : SetUp}
-    {told : List Told} {incoming : Incoming} {turn : Turn} → EndsUp h r ended last told incoming
-    → turn.now.outgoing.packets ≡ [] → IsUp to_x (progress_in r y to_y ended last told incoming) turn
+    {told : List Told} {modulus : ℕ} {turn : Turn} → EndsUp h r ended last told modulus
+    → turn.now.outgoing.packets ≡ [] → IsUp to_x (progress_in r y to_y ended last told modulus) turn
     → Keeps h r y to_x to_y (release turn)
 releases {h} {r} {y} {to_x} {to_y} {ended} {last} {turn} e none up =
     let t = release turn in
@@ -200,7 +195,7 @@ releases {h} {r} {y} {to_x} {to_y} {ended} {last} {turn} e none up =
       state_is = refl;
       down = none;
       params = up.so_far.params_are;
-      sound = subst (IsSound r.machine.params) (sym up.so_far.incoming_is) e.sound;
+      sound = up.so_far.sound;
       set_ups = set_ups_after e up;
       waiting = sym none;
       sent = subst (λ b. IsSentAs b after t.sent frames) (sym e.no_ask) sent;
@@ -219,8 +214,8 @@ releases {h} {r} {y} {to_x} {to_y} {ended} {last} {turn} e none up =
 -- release, if it is time
 close_keeps :
     {h : Happening} {r : RecordedEnd} {y : End} {to_x to_y : List CoreTagged} {ended : List SetUp} {last : SetUp}
-    {told : List Told} {incoming : Incoming} {turn : Turn} → EndsUp h r ended last told incoming
-    → IsUp to_x (progress_in r y to_y ended last told incoming) turn → Keeps h r y to_x to_y (close turn)
+    {told : List Told} {modulus : ℕ} {turn : Turn} → EndsUp h r ended last told modulus
+    → IsUp to_x (progress_in r y to_y ended last told modulus) turn → Keeps h r y to_x to_y (close turn)
 close_keeps {h} {r} {y} {to_x} {to_y} {turn} e up =
     go (turn.now.control.quit && (length turn.now.outgoing.packets == 0)) refl
   where
@@ -235,7 +230,7 @@ close_keeps {h} {r} {y} {to_x} {to_y} {turn} e up =
 -- an event of a link that is up ends so
 pub up_ends :
     {h : Happening} {r : RecordedEnd} {y : End} {to_x to_y : List CoreTagged} {ended : List SetUp} {last : SetUp}
-    {told : List Told} {incoming : Incoming} {turn : Turn} → EndsUp h r ended last told incoming
-    → IsUp to_x (progress_in r y to_y ended last told incoming) turn → Keeps h r y to_x to_y (settled turn)
+    {told : List Told} {modulus : ℕ} {turn : Turn} → EndsUp h r ended last told modulus
+    → IsUp to_x (progress_in r y to_y ended last told modulus) turn → Keeps h r y to_x to_y (settled turn)
 up_ends {h} {r} {y} {to_x} {to_y} {turn} e up =
-    subst (Keeps h r y to_x to_y) (sym (ap (λ s. settle_in s turn) up.state)) (close_keeps e (flush_keeps up))
+    subst (Keeps h r y to_x to_y) (sym (ap (λ s. settle_in s turn) up.state)) (close_keeps e up)

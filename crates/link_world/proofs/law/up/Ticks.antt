@@ -2,12 +2,13 @@
 use Rattle.link_world.proofs.Common.{◌≡◌, ℕ, Bool, true, false, if◌then◌else◌, List, [], ◌∷◌, ◌++◌, length, Option}
 use Rattle.link_world.proofs.Common.{Some, None, inl, refl, sym, ap, ◌∙◌, subst, append_assoc, fold, cond-false}
 use Rattle.link_world.proofs.Common.{LinkState, Ended, window_in, empty_incoming, sent_in, SetupSent, Turn, begin}
-use Rattle.link_world.proofs.Common.{setting, poll, runs_out, lowered, with_t1, with_t2, with_t3, t1_out, t2_out}
-use Rattle.link_world.proofs.Common.{t3_out, tick_t2, tick_t1_of, tick_t2_of, tick_t3_of, tick, tick_in, is_spent}
-use Rattle.link_world.proofs.Common.{retried, settled, SetUp, opened, RecordedEnd, told_of, Ticks}
+use Rattle.link_world.proofs.Common.{setting, runs_out, lowered, with_t1, with_t3, t1_out, t3_out, tick_t1_of}
+use Rattle.link_world.proofs.Common.{tick_t3_of, tick, tick_in, is_spent, settled, SetUp, opened, RecordedEnd, told_of}
+use Rattle.link_world.proofs.Common.{Ticks, ◌||◌}
 use Rattle.ax25_frames.specs.declared.frame.U.TheVariants.{Dm as DmFrame}
 use Rattle.link_machine.specs.declared.state.LinkState.TheVariants.{Idle as IdleState, Up as UpState}
-use Rattle.link_machine.specs.Ticks.{poll_again, unretried}
+use Rattle.link_machine.specs.Ticks.{poll_again, silent, to_poll}
+use Rattle.link_machine.specs.Wants.{wants}
 use Rattle.link_world.proofs.law.reduced.Core.{End, Tagged as CoreTagged, between}
 use Rattle.link_world.proofs.law.reduced.Core.Kind.{Dm}
 use Rattle.link_world.proofs.law.reduced.Core.Standing.{Idle}
@@ -16,7 +17,7 @@ use Rattle.link_world.proofs.law.reduced.CoreOf.{cores_sent, end_behind}
 use Rattle.link_world.proofs.law.showing.PlacesFit.{IsSound, sound_new}
 use Rattle.link_world.proofs.law.moves.Standings.{leave_to_idle_keeps}
 use Rattle.link_world.proofs.law.moves.Kept.{send_dm_keeps}
-use Rattle.link_world.proofs.law.up.Acts.{setting_keeps, respond_ready_keeps, poll_keeps, choice_keeps}
+use Rattle.link_world.proofs.law.up.Acts.{setting_keeps, choice_keeps}
 use Rattle.link_world.proofs.law.up.Progress.{IsUp, Progress}
 use Rattle.link_world.proofs.law.invariant.Invariant.{Invariant}
 use Rattle.link_world.proofs.law.showing.Shown.{core_set_ups}
@@ -31,15 +32,6 @@ by_state :
     → state ≡ UpState → IsUp to_x g (act UpState turn) → IsUp to_x g (act state turn)
 by_state act {to_x} {g} turn is h = subst (λ s. IsUp to_x g (act s turn)) (sym is) h
 
-t2_keeps :
-    (o : Option ℕ) {to_x : List CoreTagged} {g : Progress} {turn : Turn} → IsUp to_x g turn
-    → IsUp to_x g (tick_t2_of o turn)
-t2_keeps None h = h
-t2_keeps (Some left) {turn} h =
-    let out = setting_keeps (with_t2 None) (λ c. refl) h in
-    choice_keeps (runs_out left) (by_state t2_out (setting (with_t2 None) turn) h.state (respond_ready_keeps false out))
-    (setting_keeps (with_t2 (lowered left)) (λ c. refl) h)
-
 t3_keeps :
     (o : Option ℕ) {to_x : List CoreTagged} {g : Progress} {turn : Turn} → IsUp to_x g turn
     → IsUp to_x g (tick_t3_of o turn)
@@ -47,7 +39,7 @@ t3_keeps None h = h
 t3_keeps (Some left) {turn} h =
     let out = setting_keeps (with_t3 None) (λ c. refl) h in
     choice_keeps (runs_out left) (by_state t3_out (setting (with_t3 None) turn) h.state
-    (poll_keeps (setting_keeps unretried (λ c. refl) out))) (setting_keeps (with_t3 (lowered left)) (λ c. refl) h)
+    (setting_keeps silent (λ c. refl) out)) (setting_keeps (with_t3 (lowered left)) (λ c. refl) h)
 
 -- the retries are spent: DM goes out, and the end is idle
 spent_outcome :
@@ -67,9 +59,17 @@ spent_outcome {r} {ended} {last} waiting {y} {was} {to_x} {to_y} {turn} u h spen
       now = record turn.now {
         control = record turn.now.control {
           state = IdleState;
+          rej = false;
+          answer = false;
+          ask = false;
+          due = false;
+          poll = false;
+          by_info = false;
+          passed = false;
+          picked = false;
+          busy = false;
           quit = false;
           t1 = None;
-          t2 = None;
           t3 = None;
         };
         outgoing = Rattle.selective_reject.specs.Outgoing.empty_outgoing;
@@ -80,7 +80,7 @@ spent_outcome {r} {ended} {last} waiting {y} {was} {to_x} {to_y} {turn} u h spen
     }
 
     stays : Turn
-    stays = poll (setting retried turn)
+    stays = setting to_poll turn
 
     all : List SetUp
     all = ended ++ last ∷ []
@@ -122,8 +122,8 @@ polls {r} waiting {y} {to_x} {to_y} {turn} u h = go (is_spent turn.now.control) 
     go : (b : Bool) → is_spent turn.now.control ≡ b → Keeps (Ticks waiting) r y to_x to_y (settled (poll_again turn))
     go true spent = spent_outcome waiting u h spent
     go false spent = subst (λ t. Keeps (Ticks waiting) r y to_x to_y (settled t))
-        (sym (cond-false _ _ (poll (setting retried turn)) spent))
-        (up_goes_on u refl refl (poll_keeps (setting_keeps retried (λ c. refl) h)))
+        (sym (cond-false _ _ (setting to_poll turn) spent))
+        (up_goes_on u refl refl (setting_keeps to_poll (λ c. refl) h))
 
 t1_ends :
     (o : Option ℕ) (still : Bool) {r : RecordedEnd} {ended : List SetUp} {last : SetUp} (waiting : Bool) {y : End}
@@ -148,7 +148,5 @@ pub up_ticks :
     {r : RecordedEnd} {ended : List SetUp} {last : SetUp} (waiting : Bool) {y : End} {to_x to_y : List CoreTagged}
     → UpEnd r ended last y to_x to_y → Keeps (Ticks waiting) r y to_x to_y (settled (tick waiting (begin r.machine)))
 up_ticks {r} waiting {y} {to_x} {to_y} u =
-    let first = t2_keeps r.machine.control.t2 (up_begins u) in
-    let turn = tick_t2 (begin r.machine) in
     subst (λ s. Keeps (Ticks waiting) r y to_x to_y (settled (tick_in s waiting (begin r.machine)))) (sym u.state)
-    (t1_ends turn.now.control.t1 waiting waiting u first)
+    (t1_ends r.machine.control.t1 (waiting || wants r.machine) waiting u (up_begins u))

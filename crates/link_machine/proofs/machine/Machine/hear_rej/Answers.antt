@@ -1,4 +1,4 @@
-use Rattle.link_machine.proofs.Common.{false, refl, sym, ap, subst, named, changing, setting, acknowledged, heard_busy, none_again, gone_back}
+use Rattle.link_machine.proofs.Common.{false, refl, named, changing, setting, acknowledged, heard_busy, none_again, gone_back}
 use Rattle.link_machine.proofs.Showing.{shows_control, shows_changing}
 use Rattle.link_machine.proofs.machine.Machine.hear_rej.Goals as goal
 

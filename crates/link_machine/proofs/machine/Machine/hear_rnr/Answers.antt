@@ -1,4 +1,4 @@
-use Rattle.link_machine.proofs.Common.{true, refl, sym, ap, subst, named, changing, setting, acknowledged, heard_busy, watching}
+use Rattle.link_machine.proofs.Common.{true, refl, named, setting, acknowledged, heard_busy, watching}
 use Rattle.link_machine.proofs.Showing.{shows_control, shows_changing}
 use Rattle.link_machine.proofs.machine.Machine.hear_rnr.Goals as goal
 

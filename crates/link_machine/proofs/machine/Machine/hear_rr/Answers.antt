@@ -1,4 +1,4 @@
-use Rattle.link_machine.proofs.Common.{false, refl, sym, ap, subst, named, changing, setting, acknowledged, heard_busy}
+use Rattle.link_machine.proofs.Common.{false, refl, named, setting, acknowledged, heard_busy}
 use Rattle.link_machine.proofs.Showing.{shows_control, shows_changing}
 use Rattle.link_machine.proofs.machine.Machine.hear_rr.Goals as goal
 

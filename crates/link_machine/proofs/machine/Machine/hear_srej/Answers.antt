@@ -1,4 +1,4 @@
-use Rattle.link_machine.proofs.Common.{◌<◌, ℕ, false, refl, ap, subst, IsModulus, named, changing, setting, heard_busy}
+use Rattle.link_machine.proofs.Common.{◌<◌, ℕ, false, refl, subst, IsModulus, named, changing, setting, heard_busy}
 use Rattle.link_machine.proofs.Common.{acknowledged_by_srej, picked_out, Holds, Shows}
 use Rattle.link_machine.proofs.Showing.{shows_control, shows_changing}
 use Rattle.link_machine.proofs.KeptByActs.{srej_path, named_again, picked_path}

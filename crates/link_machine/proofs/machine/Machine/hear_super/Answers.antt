@@ -1,6 +1,5 @@
 use Rattle.link_machine.proofs.Common.{◌≡◌, true, sym, ◌∙◌, Ok, named, begin, settled, Machine, Turn, is_valid, Holds, Makes}
 use Rattle.link_machine.proofs.Common.{Result, Done, OutOfMemory}
-use Rattle.link_machine.specs.Frames.{hear_supervisory}
 use Rattle.link_machine.specs.Held.{hear_supervisory_of}
 use Rattle.link_machine.proofs.Events.{shows_begin, made, makes_numbered}
 use Rattle.link_machine.proofs.machine.Machine.hear_super.Goals as goal

@@ -1,4 +1,4 @@
-use Rattle.link_machine.proofs.Common.{◌≡◌, ℕ, ◌-◌, true, false, nat_lt, sym, ◌∙◌, ap, subst, ahead, StandsForOutgoing}
+use Rattle.link_machine.proofs.Common.{ℕ, ◌-◌, true, false, nat_lt, sym, ◌∙◌, ap, subst, ahead, StandsForOutgoing}
 use Rattle.selective_reject.specs.Outgoing.{after_ask_again}
 use Rattle.link_machine.proofs.Events.{sent_number, holds_picked}
 use Rattle.link_machine.proofs.machine.Machine.pick_out.Goals as goal

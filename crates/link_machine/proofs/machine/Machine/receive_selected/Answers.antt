@@ -1,6 +1,6 @@
-use Rattle.link_machine.proofs.Common.{◌≡◌, ◌≤◌, length, Bool, true, false, nat_lt, [], ◌∷◌, ◌++◌, drop, map, refl, sym}
+use Rattle.link_machine.proofs.Common.{◌≡◌, ◌≤◌, length, Bool, true, false, nat_lt, ◌++◌, drop, map, refl, sym}
 use Rattle.link_machine.proofs.Common.{◌∙◌, ap, subst, arith, ahead, Incoming, StandsForIncoming, after_accept, took}
-use Rattle.link_machine.proofs.Common.{Given, ahead_of_vr, Turn, changing, run, moved_on, run_with, give}
+use Rattle.link_machine.proofs.Common.{Given, ahead_of_vr, changing, run, moved_on, run_with, give}
 use Rattle.link_machine.proofs.Common.{stored, Shows, ◌&&◌, not, cond-true, cond-false, Next, keeps, inl, inr}
 use Rattle.link_machine.proofs.Common.{is_full, with_packet, IsReady, ◌==◌, eqb-true}
 use Rattle.link_machine.proofs.Showing.{shows_changing, shows_incoming, holds_incoming, same_incoming, shows_as}

@@ -1,4 +1,4 @@
-use Rattle.link_machine.proofs.Common.{◌≡◌, Bool, is_some, if◌then◌else◌, sym, ◌∙◌, ap, subst, Control, LinkState, Up, Outgoing}
+use Rattle.link_machine.proofs.Common.{◌≡◌, is_some, if◌then◌else◌, sym, ◌∙◌, ap, subst, Control, LinkState, Outgoing}
 use Rattle.link_machine.proofs.Common.{Machine, Turn, begin, back, left_with, is_asked_again, notice_passed, send_frame}
 use Rattle.link_machine.proofs.Common.{seize_in, settled, Made}
 use Rattle.link_machine.specs.Machine.{with_control}

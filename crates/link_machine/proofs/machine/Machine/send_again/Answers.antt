@@ -1,4 +1,4 @@
-use Rattle.link_machine.proofs.Common.{◌≡◌, ℕ, ◌+◌, ◌%◌, Option, refl, sym, ◌∙◌, ap, subst, changing, left_with, send_again}
+use Rattle.link_machine.proofs.Common.{◌≡◌, ℕ, ◌+◌, ◌%◌, Option, refl, sym, ◌∙◌, ap, subst, left_with, send_again}
 use Rattle.link_machine.proofs.Common.{Shows}
 use Rattle.selective_reject.specs.Outgoing.{after_again}
 use Rattle.link_machine.specs.declared.machine.Machine.{Machine as Held}

@@ -1,4 +1,4 @@
-use Rattle.link_machine.proofs.Common.{◌≡◌, ◌%◌, Bool, ap, false, subst, Rej, SuperSent, Control, setting, sending, rejected, Shows}
+use Rattle.link_machine.proofs.Common.{Bool, ap, false, subst, Rej, SuperSent, Control, setting, sending, rejected, Shows}
 use Rattle.link_machine.specs.declared.machine.Machine.{Machine as Held}
 use Rattle.link_machine.proofs.Showing.{shows_setting, vr_as_sent}
 use Rattle.link_machine.proofs.machine.Machine.send_rej.Goals as goal

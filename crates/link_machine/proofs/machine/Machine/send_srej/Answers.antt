@@ -1,4 +1,4 @@
-use Rattle.link_machine.proofs.Common.{◌≡◌, ℕ, ◌%◌, refl, sym, ◌∙◌, ap, subst, Option, None, Incoming, StandsForIncoming, IsReady}
+use Rattle.link_machine.proofs.Common.{◌≡◌, ℕ, ◌%◌, refl, sym, ◌∙◌, ap, subst, Option, None, StandsForIncoming, IsReady}
 use Rattle.link_machine.proofs.Common.{next_missing, send_srej, changing, Shows, Turn}
 use Rattle.selective_reject.specs.Incoming.{after_ask_next, asked_for}
 use Rattle.link_machine.specs.Seizing.{missing_asked}

@@ -1,4 +1,4 @@
-use Rattle.link_machine.proofs.Common.{◌≡◌, sym, ◌∙◌, ap, subst, Control, Up, setting, silent, t3_out, Shows, LinkState}
+use Rattle.link_machine.proofs.Common.{◌≡◌, sym, ◌∙◌, ap, subst, Control, Up, silent, t3_out, Shows, LinkState}
 use Rattle.link_machine.proofs.Showing.{shows_control}
 use Rattle.link_machine.proofs.machine.Machine.t3_out.Goals as goal
 

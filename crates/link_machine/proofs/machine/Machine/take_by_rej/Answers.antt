@@ -1,10 +1,9 @@
-use Rattle.link_machine.proofs.Common.{◌≡◌, Bool, true, false, [], ◌∷◌, refl, sym, ◌∙◌, ap, subst, ahead, ahead_of_vr, Turn}
+use Rattle.link_machine.proofs.Common.{◌≡◌, Bool, true, false, [], ◌∷◌, sym, ◌∙◌, ap, subst, ahead_of_vr, Turn}
 use Rattle.link_machine.proofs.Common.{setting, owing, with_rej, give, take_in_sequence, Shows, cond-true, cond-false}
 use Rattle.link_machine.proofs.Common.{◌==◌, lies_ahead, out_of_sequence}
 use Rattle.link_machine.proofs.Showing.{shows_setting, shows_control}
 use Rattle.link_machine.proofs.Events.{vr_lies_ahead}
 use Rattle.std.specs.Prelude.{if◌then◌else◌}
-use Rattle.link_machine.specs.declared.machine.Machine.{Machine as Held}
 use Rattle.link_machine.proofs.machine.Machine.take_by_rej.Goals as goal
 
 pub returns-then-receive_in_sequence-clause-shows : goal.returns-then-receive_in_sequence-clause-shows

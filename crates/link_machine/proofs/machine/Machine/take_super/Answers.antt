@@ -1,4 +1,4 @@
-use Rattle.link_machine.proofs.Common.{Bool, sym, subst, ◌&&◌, named, S, Rr, Rnr, Rej, Srej, hear_rr, hear_rnr, hear_rej, hear_srej}
+use Rattle.link_machine.proofs.Common.{Bool, sym, subst, ◌&&◌, named, S, hear_rr, hear_rnr, hear_rej, hear_srej}
 use Rattle.link_machine.proofs.Common.{Shows}
 use Rattle.link_machine.specs.Frames.{hear_supervisory}
 use Rattle.link_machine.proofs.machine.Machine.take_super.Goals as goal

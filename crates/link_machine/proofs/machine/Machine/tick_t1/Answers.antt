@@ -1,4 +1,4 @@
-use Rattle.link_machine.proofs.Common.{◌≡◌, ℕ, Bool, true, false, refl, sym, ◌∙◌, ap, subst, arith, Some, None, Control, Turn}
+use Rattle.link_machine.proofs.Common.{◌≡◌, ℕ, Bool, true, false, refl, sym, ◌∙◌, ap, subst, Some, None, Control, Turn}
 use Rattle.link_machine.proofs.Common.{setting, runs_out, lowered, with_t1, tick_t1_of, Shows, cond-true, le-leb}
 use Rattle.link_machine.proofs.Common.{Option, wants}
 use Rattle.std.specs.Prelude.{◌||◌}
