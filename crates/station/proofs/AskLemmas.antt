@@ -1,13 +1,12 @@
 -- Which link is asked for a frame.
-use Rattle.station.proofs.Common.{◌≡◌, ℕ, ◌<◌, Bool, true, false, cond, Option, Some, None, refl, sym, ◌∙◌, ap, subst}
-use Rattle.station.proofs.Common.{arith, get_or, range_with_len, find, cond-true, cond-false, most_links, Links, link_at}
-use Rattle.station.proofs.Common.{OwnedLink, HeldLinks, Link, StandsForLink, StandsForLinks, StandsForPlace, StationState}
+use Rattle.station.proofs.Common.{◌≡◌, ℕ, ◌<◌, Bool, true, false, Option, Some, None, refl, ◌∙◌, ap}
+use Rattle.station.proofs.Common.{arith, get_or, range_with_len, cond-true, cond-false, most_links, Links}
+use Rattle.station.proofs.Common.{OwnedLink, Link, StandsForLink, StandsForPlace}
 use Rattle.station.proofs.Common.{event_at, Turn, changing}
 use Rattle.std.proofs.lemmas.List.FromFn.{get_or-range_with_len, length-range_with_len}
-use Rattle.link_machine.specs.Event.{Event}
 use Rattle.link_machine.specs.Wants.{wants}
 use Rattle.channel_access.specs.Channel.{takes_frame}
-use Rattle.station.specs.Asking.{link_wants, wants_from, asked_key, asking_at, next_wanting}
+use Rattle.station.specs.Asking.{link_wants, wants_from, asking_at, next_wanting}
 use Rattle.station.specs.Asking.{with_asked, seizing, asking}
 unfoldable use Rattle.station.specs.Asking.{first_wanting}
 use Rattle.station.proofs.Searches.{find_at as find_first, find_none}

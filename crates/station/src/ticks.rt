@@ -16,8 +16,8 @@ use channel_access::AirTick;
 use tnc_base::OutOfMemory;
 
 impl Parts {
-    /// A tick of each link, and then of the channel, which takes a frame of a link before if it can. Hosts that monitor
-    /// are shown the frame whose sending has ended.
+    /// A tick of each link, and then of the channel. Before the channel's, a link is asked for a frame if the channel
+    /// takes one. Hosts that monitor are shown the frame whose sending has ended.
     pub(crate) fn tick(
         &mut self,
         memory: &mut Memory,

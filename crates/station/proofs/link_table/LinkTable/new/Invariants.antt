@@ -1,4 +1,4 @@
-use Rattle.station.proofs.Common.{◌≡◌, ◌+◌, ◌-◌, ◌≤◌, None}
+use Rattle.station.proofs.Common.{◌≡◌, ◌≤◌, None}
 use Rattle.std.specs.Prelude.{replicate, vec_capacity}
 use Rattle.station.proofs.link_table.LinkTable.new.Given as goal
 

@@ -1,4 +1,4 @@
-use Rattle.station.proofs.Common.{sym, ap, subst, Option, OwnedLink, link_at, StandsForPlace}
+use Rattle.station.proofs.Common.{sym, subst, Option, OwnedLink, link_at, StandsForPlace}
 use Rattle.station.proofs.AskLemmas.{place_wants, none_wants}
 use Rattle.station.proofs.EventLemmas.{places-at}
 use Rattle.station.proofs.link_table.LinkTable.wants.Goals as goal

@@ -1,4 +1,4 @@
-use Rattle.station.proofs.Common.{◌≡◌, Bool, Option, Some, None, OnOk, refl, sym, ◌∙◌, ap, subst, Parts, Shows}
+use Rattle.station.proofs.Common.{◌≡◌, Bool, OnOk, refl, sym, ◌∙◌, ap, subst, Shows}
 use Rattle.station.proofs.Common.{event_at, Turn, changing}
 use Rattle.channel_access.specs.Channel.{takes_last}
 use Rattle.channel_access.specs.declared.parameters.Parameters.{Parameters}

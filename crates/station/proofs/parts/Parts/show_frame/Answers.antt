@@ -1,6 +1,6 @@
 use Rattle.station.proofs.Common.{◌≡◌, ◌+◌, ◌<◌, ℕ, List, length, take, Some, AllZip, sym, subst, arith, get_or}
 use Rattle.station.proofs.Common.{take_all, spelling, Kiss, Connection, new_connection, monitor_message, monitoring}
-use Rattle.station.proofs.Common.{to_monitors, Shows, StandsForConnection, Out, Turn}
+use Rattle.station.proofs.Common.{to_monitors, Shows, StandsForConnection, Out}
 use Rattle.station.specs.declared.connection.Connection.{Connection as HeldConnection}
 use Rattle.station.proofs.MonitorLemmas.{with_pieces, shown_more, passed_more}
 use Rattle.station.proofs.Standing.{AllZip-at, AllZip-length}

@@ -1,4 +1,4 @@
-use Rattle.station.proofs.Common.{◌≡◌, true, false, refl, sym, ◌∙◌, subst, Held, AreParts, StandsFor, IsLive, Out}
+use Rattle.station.proofs.Common.{◌≡◌, true, false, sym, ◌∙◌, subst, Held, AreParts, StandsFor, IsLive, Out}
 use Rattle.station.proofs.Common.{begin}
 use Rattle.station.specs.Heard.{IsHeard}
 use Rattle.station.proofs.station.Station.heard.Goals as goal

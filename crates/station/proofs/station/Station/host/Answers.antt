@@ -1,4 +1,4 @@
-use Rattle.station.proofs.Common.{◌≡◌, true, false, refl, sym, ◌∙◌, ap, subst, Held, JoinsAnew, AreParts, StandsFor}
+use Rattle.station.proofs.Common.{◌≡◌, true, false, sym, ◌∙◌, ap, subst, Held, JoinsAnew, AreParts, StandsFor}
 use Rattle.station.proofs.Common.{IsLive, Out, begin}
 use Rattle.station.specs.Held.{ids_behind, ids_of}
 use Rattle.station.specs.Host.{IsHostTurn}
