@@ -23,30 +23,30 @@ waiting = with_setting (FullDuplex true) (with_frame None shortest (new_channel 
 begins_at_once : (decision true false waiting).begins ≡ true
 begins_at_once = refl
 
--- 75 flags, which the frame follows if it waits where they end, and 3 flags
+-- 45 flags, which the frame follows if it waits where they end, and 3 flags
 abbrev opened : OnAir
 opened = followed_by waiting.waiting (begun waiting)
 
 abbrev whole : OnAir
 whole = followed_by [] opened
 
-flags_round_it : whole.closing + whole.opening ≡ 78
+flags_round_it : whole.closing + whole.opening ≡ 48
 flags_round_it = refl
 
-whole_length : length (bits_of whole) ≡ 762
+whole_length : length (bits_of whole) ≡ 522
 unfolding fcs_of octet_bits with_fcs frame_bits body bits_of
 whole_length = refl
 
--- the flag after the frame ends with bit 746, the second of tick 63
-flag_place : flag_end 1 whole ≡ 746
+-- the flag after the frame ends with bit 506, the second of tick 43
+flag_place : flag_end 1 whole ≡ 506
 unfolding fcs_of octet_bits with_fcs frame_bits body flag_end
 flag_place = refl
 
-named_in_tick_63 : frame_named 756 (record whole { ticks = 62 }) ≡ Some (record { octets = shortest; after = 16 })
+named_in_tick_43 : frame_named 516 (record whole { ticks = 42 }) ≡ Some (record { octets = shortest; after = 16 })
 unfolding fcs_of octet_bits with_fcs frame_bits body flag_end
-named_in_tick_63 = refl
+named_in_tick_43 = refl
 
-not_before : frame_named 744 (record whole { ticks = 61 }) ≡ None
+not_before : frame_named 504 (record whole { ticks = 41 }) ≡ None
 unfolding fcs_of octet_bits with_fcs frame_bits body flag_end
 not_before = refl
 

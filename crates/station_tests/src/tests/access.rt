@@ -54,25 +54,25 @@ fn tick_into(
 fn shortest_transmission(alloc: Global) -> Result<Vec<i16>, Fail> {
     let mut frames = Vec::new(alloc);
     frames.push(shortest(alloc)?)?;
-    Ok(transmission(alloc, &frames, 75, 3)?)
+    Ok(transmission(alloc, &frames, 45, 3)?)
 }
 
-// 78 flags and 138 bits are 762 bits, in 64 ticks of 12. The flag after the frame ends with bit 746, the second of
-// tick 63.
+// 48 flags and 138 bits are 522 bits, in 44 ticks of 12. The flag after the frame ends with bit 506, the second of
+// tick 43.
 #[test]
 fn the_shortest_frame_is_one_transmission(rt: HostRuntime) -> Result<(), Fail> {
     let mut access = access(rt.alloc(), 1, 1)?;
     access.set(Param::FullDuplex(true));
     let mut samples = Vec::new(rt.alloc());
-    for tick in 1..66_u32 {
+    for tick in 1..46_u32 {
         let got = tick_into(&mut samples, &mut access)?;
-        let last = if tick == 63 { Some(16) } else { None };
-        let want = (tick == 1, last, tick < 63);
+        let last = if tick == 43 { Some(16) } else { None };
+        let want = (tick == 1, last, tick < 43);
         assert_equal(&rt, &(tick, got), &(tick, want));
     }
     let mut expected = shortest_transmission(rt.alloc())?;
-    assert_equal(&rt, &expected.len(), &(8 * 762));
-    expected.resize(65 * 96, 0)?;
+    assert_equal(&rt, &expected.len(), &(8 * 522));
+    expected.resize(45 * 96, 0)?;
     assert_equal(&rt, &samples, &expected);
     Ok(())
 }

@@ -136,7 +136,7 @@ fn a_whole_call_cut_at_every_octet(rt: HostRuntime) -> Result<(), Fail> {
 const REPLIES: &[(u8, &[u8])] = &[
     (b'R', b"\x01\0\0\0\0\0\0\0"),
     (b'G', b"1;Port1 sound card;\0"),
-    (b'g', b"\0\xff\x32\x02\x3f\x0a\x04\0\x01\0\0\0"),
+    (b'g', b"\0\xff\x1e\x02\x3f\x0a\x04\0\x01\0\0\0"),
     (b'y', b"\0\0\0\0"),
 ];
 
@@ -156,13 +156,13 @@ fn tells_of_itself(rt: HostRuntime) -> Result<(), Fail> {
 }
 
 /// KISS sets TXDELAY, the persistence, the slot time and TXTAIL of port 0, and TXDELAY of port 1.
-const SETTINGS: &[u8] = b"\xc0\x01\x1e\xc0\x02\xff\xc0\x03\x05\xc0\x04\x07\xc0\x11\x63\xc0";
+const SETTINGS: &[u8] = b"\xc0\x01\x28\xc0\x02\xff\xc0\x03\x05\xc0\x04\x07\xc0\x11\x63\xc0";
 
 #[test]
 fn tells_what_kiss_has_set(rt: HostRuntime) -> Result<(), Fail> {
     let mut desk = Desk::new(rt.alloc(), Params::default())?;
     desk.take(3, SETTINGS)?;
-    let body = b"\0\xff\x1e\x07\xff\x05\x04\0\x01\0\0\0";
+    let body = b"\0\xff\x28\x07\xff\x05\x04\0\x01\0\0\0";
     assert_reply(&rt, &mut desk, b'g', body)
 }
 
