@@ -1,5 +1,5 @@
 -- What an event of a link does to its set-up and to a wish to disconnect, row by row.
-use Rattle.station_laws.proofs.Common.{◌≡◌, Bool, true, false, List, [], ◌∷◌, ◌++◌, refl, sym, ap, ◌∙◌, ⊤, append_assoc}
+use Rattle.station_laws.proofs.Common.{◌≡◌, Bool, true, false, List, [], ◌∷◌, ◌++◌, refl, ap, ⊤, append_assoc}
 use Rattle.station_laws.proofs.Common.{Kind, Info, Super, Setup, Ui, Other, Told, Opened, Ended, Why, Failed, Peer}
 use Rattle.station_laws.proofs.Common.{Reset, Idle, Calling, Up, Releasing, Event, Connect, Send, Disconnect, Hear}
 use Rattle.station_laws.proofs.Common.{Seize, Tick, Machine, step, begin, asks, names_valid, IsAsking, IsConnect}

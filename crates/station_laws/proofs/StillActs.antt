@@ -1,7 +1,7 @@
 -- A link that goes on leaves its state and a wish to disconnect as they are, and sends I and S frames alone.
 use Rattle.station_laws.proofs.Common.{◌≡◌, ℕ, ◌+◌, Bool, Option, Some, None, true, false, List, [], ◌∷◌, ◌++◌, map}
 use Rattle.station_laws.proofs.Common.{refl, sym, ap, ◌∙◌}
-use Rattle.station_laws.proofs.Common.{list_any, or_from, or_parts, append-nil, append_assoc, Packet, Machine, Sent}
+use Rattle.station_laws.proofs.Common.{list_any, or_from, or_parts, append-nil, append_assoc, Packet, Sent}
 use Rattle.station_laws.proofs.Common.{SentIn, sent_in, InfoSent, SetupSent, SuperSent, along_run, Single, Traffic}
 use Rattle.station_laws.proofs.Common.{acknowledges, forgets, gives, goes_back, informs, picks, reports, selects}
 use Rattle.station_laws.proofs.Common.{stores}
