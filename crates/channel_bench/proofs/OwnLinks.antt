@@ -328,7 +328,9 @@ module _ (c : Cause) where
         let h = one owns in
         says_on e t u v first second h (two h.owns);
     events = λ key event t by owns. event_says e None key event t by owns;
-    asked = λ key t owns. calm_says e t (changing (with_asked key) t) owns refl refl refl;
+    asked = λ key t owns.
+        calm_says e t (changing (with_asked key) t) (record { links = owns.links; registered = owns.registered })
+        refl refl refl;
   }
 
   pub ticks_say : (e : End) (busy : Bool) (t : Turn) → ticking ≡ c → OwnsAll e t.now
