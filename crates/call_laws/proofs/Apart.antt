@@ -8,8 +8,6 @@ use Rattle.station_laws.proofs.Common.{is_called_again, narrows, falls_narrow, r
 use Rattle.station_laws.proofs.Common.{wishes, works}
 use Rattle.station_laws.proofs.Common.{goes_on, is_down, releases}
 use Rattle.link_machine.specs.Turn.{Turn}
-use Rattle.link_steps.proofs.Rows.{Flushes}
-use Rattle.link_steps.proofs.Rows.Flushes.{sends_all, sends_none}
 use Rattle.link_steps.proofs.Rows.Stepped.{makes}
 use Rattle.station_laws.proofs.LinkTells.{Gives, traffic_gives}
 
@@ -66,14 +64,10 @@ row_apart m event t runs h (connects idle connecting) = tt
 row_apart m event t runs h (takes packet sending short) = tt
 row_apart m event t runs h (wishes wishing) = tt
 
-flush_told : {t u : Turn} → Flushes t u → u.told ≡ t.told
-flush_told sends_none = refl
-flush_told sends_all = refl
-
 settled_told : (t u : Turn) → Settles t u → u.told ≡ t.told
 settled_told t u (is_down down) = refl
-settled_told t u (goes_on up run) = flush_told run
-settled_told t u (releases up run quits) = flush_told run
+settled_told t u (goes_on up) = refl
+settled_told t u (releases up quits) = refl
 
 stepped_apart : (m : Machine) (event : Event) (u : Turn) (runs : Bool) → RunsIn runs m.control.state
     → Stepped m event u → OpensApart runs u.told

@@ -3,7 +3,7 @@ use Rattle.station_laws.proofs.Common.{◌≡◌, ℕ, Bool, true, false, List, 
 use Rattle.station_laws.proofs.Common.{None, is_some, refl, sym, ap, ◌∙◌, map-append, Path, Packet, Told, Opened, Given}
 use Rattle.station_laws.proofs.Common.{Ended, LinkState, Idle, Calling, Up, Releasing, End, A, B, Change, changed}
 use Rattle.station_laws.proofs.Common.{made_in, run_changes, Keeps, Tagged, RecordedEnd, Happening, Connects, Sends}
-use Rattle.station_laws.proofs.Common.{Disconnects, Ticks, Hears, World, seen_from, other, near_turn, turn_of}
+use Rattle.station_laws.proofs.Common.{Disconnects, Seizes, Ticks, Hears, World, seen_from, other, near_turn, turn_of}
 use Rattle.station_laws.proofs.Common.{happening, Step, at_end, Calls, Pairs, Counts, link_at_end, count_at, with_more}
 use Rattle.station_laws.proofs.Common.{event_at_end, makes, heard_at, changes_by, all_changes_by, changes_from}
 use Rattle.station_laws.proofs.Common.{marks_from, FollowsAll, FollowsThrough, first_world, LinkStep, steps_of}
@@ -14,7 +14,7 @@ use Rattle.std.proofs.lemmas.List.Concat.{flat_map-append}
 use Rattle.std.proofs.lemmas.List.Sums.{fold-append}
 use Rattle.link_machine.specs.Event.{Event as LinkEvent}
 use Rattle.link_machine.specs.Event.Event.{Connect as LinkConnect, Send as LinkSend, Disconnect as LinkDisconnect}
-use Rattle.link_machine.specs.Event.Event.{Hear as LinkHear, Tick as LinkTick}
+use Rattle.link_machine.specs.Event.Event.{Hear as LinkHear, Seize as LinkSeize, Tick as LinkTick}
 use Rattle.link_machine.specs.Step.{refusal_of}
 use Rattle.link_world.specs.declared.event.Event.{Event}
 use Rattle.link_world.specs.Flight.{is_numbered}
@@ -94,6 +94,7 @@ noted_gots (Sends packet) r = go (is_some (refusal_of r.machine (LinkSend packet
     go false = taking_gots r.machine.control.state packet r
 noted_gots Disconnects r = refl
 noted_gots (Ticks waiting) r = refl
+noted_gots (Seizes last full) r = refl
 noted_gots (Hears f) r = hearing_gots r.machine.control.state f r
 
 end_gots : (h : Happening) (r : RecordedEnd)
@@ -126,11 +127,13 @@ kept_gots A (LinkSend packet) ms w = near_gots (event_at_end A (LinkSend packet)
 kept_gots A LinkDisconnect ms w = near_gots (event_at_end A LinkDisconnect) w
 kept_gots A (LinkHear frame) ms w = near_gots (event_at_end A (LinkHear frame)) w
 kept_gots A (LinkTick waiting) ms w = near_gots (event_at_end A (LinkTick waiting)) w
+kept_gots A (LinkSeize last full) ms w = near_gots (event_at_end A (LinkSeize last full)) w
 kept_gots B LinkConnect ms w = near_gots (event_at_end B LinkConnect) (seen_from B w)
 kept_gots B (LinkSend packet) ms w = near_gots (event_at_end B (LinkSend packet)) (seen_from B w)
 kept_gots B LinkDisconnect ms w = near_gots (event_at_end B LinkDisconnect) (seen_from B w)
 kept_gots B (LinkHear frame) ms w = near_gots (event_at_end B (LinkHear frame)) (seen_from B w)
 kept_gots B (LinkTick waiting) ms w = near_gots (event_at_end B (LinkTick waiting)) (seen_from B w)
+kept_gots B (LinkSeize last full) ms w = near_gots (event_at_end B (LinkSeize last full)) (seen_from B w)
 
 kept_far :
     (e : End) (event : LinkEvent) (ms : List Bool) (w : World)
@@ -140,11 +143,13 @@ kept_far A (LinkSend packet) ms w = refl
 kept_far A LinkDisconnect ms w = refl
 kept_far A (LinkHear frame) ms w = refl
 kept_far A (LinkTick waiting) ms w = refl
+kept_far A (LinkSeize last full) ms w = refl
 kept_far B LinkConnect ms w = refl
 kept_far B (LinkSend packet) ms w = refl
 kept_far B LinkDisconnect ms w = refl
 kept_far B (LinkHear frame) ms w = refl
 kept_far B (LinkTick waiting) ms w = refl
+kept_far B (LinkSeize last full) ms w = refl
 
 made_state : (state : LinkState) (path : Path) (r : RecordedEnd) → (made_in state path r).set_ups ≡ r.set_ups
 made_state Idle path r = refl

@@ -5,10 +5,12 @@ use Rattle.station_laws.proofs.Common.{each_append, range_with_len, Path, AgwMes
 use Rattle.station_laws.proofs.Common.{packets_of, data_pid, giving, disconnecting, giving_up, giving_up_all}
 use Rattle.station_laws.proofs.Common.{giving_up_link, leaving, without_host, without_owner, event_of, event_at}
 use Rattle.station_laws.proofs.Common.{with_links, Link, IsNewKey, is_between, link_at, most_links, with_link}
-use Rattle.station_laws.proofs.Common.{with_new_link, is_number, ticking_at, ticking_links, t1_stands, Turn, Act}
+use Rattle.station_laws.proofs.Common.{with_new_link, is_number, asked_key, asked_links, asking, asking_at, seizing}
+use Rattle.station_laws.proofs.Common.{ticking_at, ticking_links, t1_stands, with_asked, Turn, Act}
 use Rattle.station_laws.proofs.Common.{in_order}
 use Rattle.station_laws.proofs.Common.{changing, step, settled_link, Choice, first_chosen, LinkStep, link_step}
-use Rattle.station_laws.proofs.Common.{steps_for, steps_at, steps_along, ticks_at, tick_steps, given_up, gives_up_at}
+use Rattle.station_laws.proofs.Common.{steps_for, steps_at, steps_along, asked_at, asking_steps, ticks_at, tick_steps}
+use Rattle.station_laws.proofs.Common.{given_up, gives_up_at}
 use Rattle.station_laws.proofs.Common.{leaving_steps, sends_at, data_steps, disconnect_steps}
 use Rattle.std.specs.List.{AllByRecursion as Each}
 use Rattle.agwpe_client.specs.CallRun.{CallPlan}
@@ -272,13 +274,37 @@ made_does id plan calls before key link path made event may made_is own m table 
 
 -- ---- a tick
 
-pub ticks_do : (id : ℕ) (plan : CallPlan) → IsBetweenCalls plan → (busy : Bool) (turn : Turn)
-    → Does id plan turn (tick_steps (meant plan) busy turn) (ticking_links busy turn)
+links_tick : (id : ℕ) (plan : CallPlan) → IsBetweenCalls plan → (busy : Bool) (turn : Turn)
+    → Does id plan turn (steps_along (ticking_at busy) (ticks_at (meant plan) busy) (range_with_len 0 most_links) turn)
+    (ticking_links busy turn)
 unfolding ticking_links
-ticks_do id plan calls busy turn =
+links_tick id plan calls busy turn =
     does_along id plan (ticking_at busy) (ticks_at (meant plan) busy)
     (λ key t. event_does id plan calls key (LinkTick (t1_stands busy key t.now.channel)) t)
     (range_with_len 0 most_links) turn
+
+-- one is perhaps asked for a frame
+asking_does : (id : ℕ) (plan : CallPlan) → IsBetweenCalls plan → (turn : Turn)
+    → Does id plan turn (asking_steps (meant plan) turn) (asking turn)
+asking_does id plan calls turn = go (asked_key turn.now)
+  where
+    event : LinkEvent
+    event = seizing turn.now
+
+    go : (key : Option ℕ) → Does id plan turn (asked_at (meant plan) key event turn) (asking_at key event turn)
+    go None = same_does id plan turn
+    go (Some key) =
+        let told = changing (with_asked key) turn in
+        does_on id plan turn told (event_at key event told) [] (steps_at (meant plan) None key event told)
+        (silent_does id plan turn told refl refl) (event_does id plan calls key event told)
+
+pub ticks_do : (id : ℕ) (plan : CallPlan) → IsBetweenCalls plan → (busy : Bool) (turn : Turn)
+    → Does id plan turn (tick_steps (meant plan) busy turn) (asked_links busy turn)
+ticks_do id plan calls busy turn =
+    let ticked = ticking_links busy turn in
+    does_on id plan turn ticked (asked_links busy turn)
+    (steps_along (ticking_at busy) (ticks_at (meant plan) busy) (range_with_len 0 most_links) turn)
+    (asking_steps (meant plan) ticked) (links_tick id plan calls busy turn) (asking_does id plan calls ticked)
 
 -- ---- another host program leaves
 

@@ -21,7 +21,7 @@ use Rattle.station_laws.proofs.Common.{destination_field, waits_for_repeater, jo
 use Rattle.station_laws.proofs.Common.{new_items, taking, ending, AreTaken, AreTakenBy, IsHostTurn, IsPathOf, param_of}
 use Rattle.station_laws.proofs.Common.{with_param, heeding, heeding_all, leaving, is_between, key_between, making}
 use Rattle.station_laws.proofs.Common.{idle_link, no_layer_3, registrar, may_register, is_number, Route, route_in}
-use Rattle.station_laws.proofs.Common.{repeaters_in, behind_repeaters, path_along, ticking_links, Out, Turn, Act}
+use Rattle.station_laws.proofs.Common.{repeaters_in, behind_repeaters, path_along, asked_links, Out, Turn, Act}
 use Rattle.station_laws.proofs.Common.{in_order, changing, closing, queueing, capacity, entering, dropping, Input}
 use Rattle.station_laws.proofs.Common.{IsTurn, FromHost, OffAir, OfClock, LinkStep, tick_steps, leaving_steps}
 use Rattle.station_laws.proofs.Common.{made_steps, call_steps, data_steps, disconnect_steps, else_steps, answer_steps}
@@ -652,7 +652,7 @@ module _ (id : ℕ) (plan : CallPlan) (called : IsBetweenCalls plan) where
   turn_does (FromHost event) before after turn stays agw = host_does event before after stays agw turn
   turn_does (OffAir octets) before after turn stays agw = heard_does octets before after agw turn
   turn_does (OfClock busy) before after turn stays agw =
-      let ticked = ticking_links busy before in
+      let ticked = asked_links busy before in
       subst (Does id plan before (tick_steps (meant plan) busy before)) (sym turn.effect)
       (does_on_last before ticked (ticking busy turn.monitored before)
       (tick_steps (meant plan) busy before) (ticks_do id plan called busy before)

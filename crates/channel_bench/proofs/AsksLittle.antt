@@ -1,4 +1,5 @@
--- A link that is not up sends at most one frame by a connect or a tick, and none by a packet or a disconnect.
+-- A link that is not up sends at most one frame by a connect or a tick, and none by a packet or a disconnect, nor if it
+-- is asked for one.
 use Rattle.channel_bench.proofs.Common.{◌≡◌, ℕ, zero, suc, ◌≤◌, Bool, true, false, List, [], ◌∷◌, length, drop, cond}
 use Rattle.channel_bench.proofs.Common.{is_some, refl, sym, ap, ◌∙◌, subst, arith, list_any, or_parts, false≢true, ⊤}
 use Rattle.channel_bench.proofs.Common.{Kind, Packet, LinkState, Idle, Calling, Up, Releasing, Hear, Machine, SentIn}
@@ -9,7 +10,7 @@ use Rattle.channel_bench.proofs.Common.{releases_again}
 use Rattle.channel_bench.proofs.Common.{resets, rests, takes, wishes, works, goes_on, is_down, releases, is_refused}
 use Rattle.channel_bench.proofs.Common.{makes, LinkStep, AsksInRoom, DropsNoAsk, asks_when_sent}
 use Rattle.link_machine.specs.Event.{Event}
-use Rattle.link_machine.specs.Event.Event.{Connect, Send, Disconnect, Tick}
+use Rattle.link_machine.specs.Event.Event.{Connect, Send, Disconnect, Seize, Tick}
 use Rattle.link_machine.specs.Step.{row, settled}
 use Rattle.link_machine.specs.Turn.{Turn, begin}
 use Rattle.link_steps.proofs.Rows.{Hears, IsAsking, IsDeclined, IsConnect, IsT1Tick, IsUa}
@@ -22,6 +23,7 @@ MaySend (Send packet) = ⊥
 MaySend Disconnect = ⊥
 MaySend (Hear frame) = ⊥
 MaySend (Tick waiting) = waiting ≡ false
+MaySend (Seize last full) = ⊥
 
 abbrev IsUnheard : Event → Type 0
 IsUnheard Connect = ⊤
@@ -29,6 +31,7 @@ IsUnheard (Send packet) = ⊤
 IsUnheard Disconnect = ⊤
 IsUnheard (Hear frame) = ⊥
 IsUnheard (Tick waiting) = ⊤
+IsUnheard (Seize last full) = ⊤
 
 -- nothing is sent, or one frame, and the link is not up
 data Few (event : Event) (t : Turn) : Type 0 where
@@ -41,6 +44,7 @@ timer_may (Send packet) h = h
 timer_may Disconnect h = h
 timer_may (Hear frame) h = h
 timer_may (Tick waiting) h = h
+timer_may (Seize last full) h = h
 
 connect_may : (event : Event) → IsConnect event → MaySend event
 connect_may Connect h = tt
@@ -48,6 +52,7 @@ connect_may (Send packet) h = h
 connect_may Disconnect h = h
 connect_may (Hear frame) h = h
 connect_may (Tick waiting) h = absurd h
+connect_may (Seize last full) h = absurd h
 
 nothing_heard : (P : Kind → Type 0) (event : Event) → IsUnheard event → Hears P event → ⊥
 nothing_heard P Connect asked h = h
@@ -55,6 +60,7 @@ nothing_heard P (Send packet) asked h = h
 nothing_heard P Disconnect asked h = h
 nothing_heard P (Hear frame) asked h = asked
 nothing_heard P (Tick waiting) asked h = h
+nothing_heard P (Seize last full) asked h = h
 
 row_few :
     (m : Machine) (event : Event) (t : Turn) → IsUnheard event → IsDown m.control.state → Row m event t → Few event t
@@ -90,10 +96,10 @@ data FewSent (event : Event) (u : Turn) : Type 0 where
 settles_few : (event : Event) (t u : Turn) → Settles t u → Few event t → FewSent event u
 settles_few event t u (is_down _) (sends_not sent down) = of_none sent
 settles_few event t u (is_down _) (sends_once s sent down may) = of_one s sent may
-settles_few event t u (goes_on up run) (sends_not sent down) = absurd (subst IsDown up down)
-settles_few event t u (goes_on up run) (sends_once s sent down may) = absurd (subst IsDown up down)
-settles_few event t u (releases up run quitting) (sends_not sent down) = absurd (subst IsDown up down)
-settles_few event t u (releases up run quitting) (sends_once s sent down may) = absurd (subst IsDown up down)
+settles_few event t u (goes_on up) (sends_not sent down) = absurd (subst IsDown up down)
+settles_few event t u (goes_on up) (sends_once s sent down may) = absurd (subst IsDown up down)
+settles_few event t u (releases up quitting) (sends_not sent down) = absurd (subst IsDown up down)
+settles_few event t u (releases up quitting) (sends_once s sent down may) = absurd (subst IsDown up down)
 
 step_few : (m : Machine) (event : Event) → IsUnheard event → IsDown m.control.state → FewSent event (step m event)
 step_few m event asked down = go (step m event) (step_is m event)
@@ -115,6 +121,10 @@ send_silent m packet down = silent (Send packet) _ (λ never. never) (step_few m
 
 pub disconnect_silent : (m : Machine) → IsDown m.control.state → (step m Disconnect).sent ≡ []
 disconnect_silent m down = silent Disconnect _ (λ never. never) (step_few m Disconnect tt down)
+
+pub seize_silent : (m : Machine) (last full : Bool) → IsDown m.control.state → (step m (Seize last full)).sent ≡ []
+seize_silent m last full down =
+    silent (Seize last full) _ (λ never. never) (step_few m (Seize last full) tt down)
 
 pub connect_few : (m : Machine) → length (step m Connect).sent ≤ 1
 unfolding step

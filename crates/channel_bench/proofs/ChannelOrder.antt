@@ -1,7 +1,8 @@
 -- A channel sends the frames that wait in their order: a tick that names a frame as sent takes the front one. This
 -- holds of frames of any length, since the check sequence of a frame alone is longer than a tick.
-use Rattle.channel_bench.proofs.Common.{◌≡◌, ℕ, zero, suc, ◌+◌, ◌-◌, ◌*◌, ◌/◌, ◌%◌, ◌<◌, ◌≤◌, ◌&&◌, nat_lt, nat_le, not}
-use Rattle.channel_bench.proofs.Common.{Bool, true, false, ℤ, pos, List, [], ◌∷◌, ◌++◌, length, map, replicate, take}
+use Rattle.channel_bench.proofs.Common.{◌≡◌, ℕ, zero, suc, ◌+◌, ◌-◌, ◌*◌, ◌/◌, ◌%◌, ◌<◌, ◌≤◌, ◌⊎◌, ◌&&◌, nat_lt, nat_le}
+use Rattle.channel_bench.proofs.Common.{not, inl, inr}
+use Rattle.channel_bench.proofs.Common.{Bool, true, false, ℤ, pos, List, [], ◌∷◌, ◌++◌, length, map, replicate}
 use Rattle.channel_bench.proofs.Common.{drop, cond, Option, Some, None, is_none, refl, sym, ap, ◌∙◌, subst, arith}
 use Rattle.channel_bench.proofs.Common.{length-append, length-drop, length-replicate, length-take, leb-true, leb-false}
 use Rattle.channel_bench.proofs.Common.{lt-ltb, Sent, Channel, air_samples, air_waiting, after_rules, decision}
@@ -11,6 +12,7 @@ use Rattle.std.proofs.Common.{slice_index_or, append_assoc, append-nil}
 use Rattle.std.proofs.Math.Seq.{get_or-append_seam}
 use Rattle.std.proofs.lemmas.Bool.{and_right, le-leb, lt-leb, le-ltb}
 use Rattle.hdlc_framer.specs.BitOrder.{sent_bits}
+use Rattle.hdlc_framer.specs.Body.{body, flags}
 use Rattle.hdlc_framer.specs.CheckSequence.{fcs_of}
 use Rattle.hdlc_framer.specs.Counted.{stuffed_from}
 use Rattle.hdlc_framer.specs.Frames.{frame_bits, with_fcs}
@@ -18,11 +20,12 @@ use Rattle.hdlc_framer.proofs.BitLemmas.{length-sent_bits}
 use Rattle.hdlc_framer.proofs.StuffingLemmas.{stuffed_is}
 use Rattle.channel_access.specs.Channel.{air_after, air_sent, after_tick, air_tick, begun}
 use Rattle.channel_access.specs.OnAir.{bits_of, flag_end, followed_by, frame_named, frames_end, has_sent_frames}
-use Rattle.channel_access.specs.OnAir.{most_frames, waiting_with_named, with_named, with_tick}
+use Rattle.channel_access.specs.OnAir.{most_frames, waiting_after, waiting_with_named, with_named, with_tick}
 use Rattle.tone_table.specs.declared.tone.Tone.TheVariants.{Mark}
 use Rattle.nrzi_bits.proofs.LineLemmas.{length-line_from}
 use Rattle.channel_access.proofs.SendingLemmas.{length-wave_from}
 use Rattle.channel_access.proofs.AirLemmas.{samples_on_air-is}
+use Rattle.channel_access.proofs.BodyLemmas.{body-single}
 use Rattle.channel_access.proofs.WholeLemmas.{decided_adds}
 use Rattle.channel_access.proofs.StageLemmas.{flag_end-last, frames_end-next}
 
@@ -54,9 +57,10 @@ frame_longer octets = omega (
 
 -- ---- a transmission, and the frames that wait
 
--- of the frames that are decided these are not named as sent yet: two at most, and none after the last one only
+-- Of the frames that are decided these are not named as sent yet: two at most, and none only after the last one and
+-- before the first is decided.
 abbrev pub MayBe : OnAir → List (List ℕ) → Type 0
-MayBe t [] = t.ends ≡ true
+MayBe t [] = (t.ends ≡ true) ⊎ (t.frames ≡ [])
 MayBe t (front ∷ []) = Unit {0}
 MayBe t (front ∷ next ∷ []) = 12 * t.ticks < flag_end (t.named + 1) t
 MayBe t (front ∷ next ∷ other ∷ more) = ⊥
@@ -209,8 +213,8 @@ last_sends :
     → AirSends waiting t
 last_sends t waiting past rest front frames named waits ends =
     let flag = flag_end-last t past front frames named in
-    named_or_not t waiting past rest front [] frames named waits (λ ended. ends (omega (arith, flag, ended)))
-    (λ later. tt)
+    named_or_not t waiting past rest front [] frames named waits
+    (λ ended. inl (ends (omega (arith, flag, ended)))) (λ later. tt)
 
 -- two are not
 two_send :
@@ -269,22 +273,88 @@ followed_sends t waiting (v ∷ vs) past rest front same frames named waits = go
         (front_and_next waiting v vs front rest same waits)
     go false = last_sends (record t { ends = true }) waiting past rest front frames named waits (λ ended. refl)
 
--- what is decided, and then named
-decided_sends : (t : OnAir) (waiting : List WaitingFrame) → AirParts t waiting
-    → AirSends waiting (decided (bits_then t) waiting t)
-decided_sends t waiting h = by_unsent h.unsent h.frames h.waits h.may_be
-  where
-    -- whether the last frame is sent
-    by_end : (b : Bool) → has_sent_frames (bits_then t) t ≡ b
-        → decided (bits_then t) waiting t ≡ cond b (followed_by (drop 1 waiting) t) t
-    by_end b is = ap (λ x. cond x (followed_by (drop 1 waiting) t) t) is
+-- the first frame comes after the opening flags
+opening_alone : (opening : ℕ) → length (body [] opening 0) ≡ length (flags opening)
+unfolding body
+opening_alone opening = ap length (append-nil (flags opening))
 
-    by_unsent : (unsent : List (List ℕ)) → t.frames ≡ h.past ++ unsent → map octets_of waiting ≡ unsent ++ h.rest
-        → MayBe t unsent
-        → AirSends waiting (decided (bits_then t) waiting t)
-    by_unsent [] frames waits ends =
-        let goes : has_sent_frames (bits_then t) t ≡ false = ap
-        (λ e. not e && nat_le (frames_end t) (bits_then t)) ends in
+first_end : (t : OnAir) (octets : List ℕ) → t.frames ≡ []
+    → frames_end (record t { frames = t.frames ++ octets ∷ [] }) ≡ frames_end t + length (frame_bits octets)
+unfolding frames_end
+first_end t octets none =
+    let opening : length (body t.frames t.opening 0) ≡ length (flags t.opening) =
+    ap (λ fs. length (body fs t.opening 0)) none ∙ opening_alone t.opening in
+    ap (λ fs. length (body (fs ++ octets ∷ []) t.opening 0)) none ∙ ap length (body-single octets t.opening)
+    ∙ length-append (flags t.opening) (frame_bits octets) ∙ ap (λ n. n + length (frame_bits octets)) (sym opening)
+
+open_if : (ends sent : Bool) → (not ends && sent) ≡ true → ends ≡ false
+open_if true sent is = absurd (cc)
+open_if false sent is = refl
+
+-- while nothing ends it, what is decided of it are its frames
+open_long : (t : OnAir) → t.ends ≡ false → length (bits_of t) ≡ frames_end t
+unfolding bits_of frames_end
+open_long t goes = ap (λ b. length (body t.frames t.opening (cond b t.closing 0))) goes
+
+-- no frame is decided yet, and the opening flags are sent: these wait
+opened_sends :
+    (t : OnAir) (waiting others : List WaitingFrame) → waiting ≡ others → t.frames ≡ [] → t.named ≡ 0
+    → 12 * t.ticks ≤ frames_end t → AirSends waiting (followed_by others t)
+opened_sends t waiting others same none named long = by_others others same
+  where
+    ended : AirSends waiting (record t { ends = true })
+    ended =
+        let size : length t.frames ≡ 0 = ap length none in
+        let all : nat_lt t.named (length t.frames) ≡ false =
+        le-ltb t.named (length t.frames) (omega (arith, size)) in
+        none_sends (record t { ends = true }) waiting
+        (ap (λ b. b && nat_le (flag_end (t.named + 1) (record t { ends = true })) (bits_then t)) all) (record {
+          past = [];
+          unsent = [];
+          rest = map octets_of waiting;
+          frames = none;
+          named = named;
+          waits = refl;
+          may_be = inl refl;
+        })
+
+    by_others : (ws : List WaitingFrame) → waiting ≡ ws → AirSends waiting (followed_by ws t)
+    by_others [] is = ended
+    by_others (v ∷ vs) is = go (nat_lt (length t.frames) most_frames)
+      where
+        go : (b : Bool) → AirSends waiting (cond b (record t { frames = t.frames ++ v.octets ∷ [] })
+            (record t { ends = true }))
+        go true =
+            last_sends (record t { frames = t.frames ++ v.octets ∷ [] }) waiting [] (map octets_of vs) v.octets
+            (ap (λ fs. fs ++ v.octets ∷ []) none) named (ap (map octets_of) is)
+            (λ sent. let end = first_end t v.octets none in
+            let longer = frame_longer v.octets in
+            absurd (omega (arith, end, longer, long, sent)))
+        go false = ended
+
+-- what is decided, and then named
+decided_sends : (t : OnAir) (waiting : List WaitingFrame) → AirFits t waiting
+    → AirSends waiting (decided (bits_then t) waiting t)
+decided_sends t waiting fits = by_unsent h.unsent h.frames h.waits h.may_be
+  where
+    h : AirParts t waiting
+    h = fits.parts
+
+    -- whether the opening flags or the last frame are sent
+    by_end : (b : Bool) → has_sent_frames (bits_then t) t ≡ b
+        → decided (bits_then t) waiting t ≡ cond b (followed_by (waiting_after t waiting) t) t
+    by_end b is = ap (λ x. cond x (followed_by (waiting_after t waiting) t) t) is
+
+    -- those that wait after so many frames that are not named
+    after_those : (count : ℕ) → length t.frames ≡ t.named + count → drop count waiting ≡ waiting_after t waiting
+    after_those count size =
+        let left : count ≡ length t.frames - t.named = omega (arith, size) in ap (λ n. drop n waiting) left
+
+    -- no frame is left to be named, and none is decided
+    stays :
+        t.frames ≡ h.past ++ [] → map octets_of waiting ≡ h.rest → (t.ends ≡ true) ⊎ (t.frames ≡ [])
+        → has_sent_frames (bits_then t) t ≡ false → AirSends waiting (decided (bits_then t) waiting t)
+    stays frames waits may goes =
         let size : length t.frames ≡ t.named = ap length (frames ∙ append-nil h.past) ∙ sym h.named in
         let all : nat_lt t.named (length t.frames) ≡ false = le-ltb t.named (length t.frames) (omega (arith, size)) in
         let none : names_next (bits_then t) t ≡ false = ap
@@ -296,14 +366,36 @@ decided_sends t waiting h = by_unsent h.unsent h.frames h.waits h.may_be
           frames = frames;
           named = h.named;
           waits = waits;
-          may_be = ends;
+          may_be = may;
         }))
+
+    by_unsent : (unsent : List (List ℕ)) → t.frames ≡ h.past ++ unsent → map octets_of waiting ≡ unsent ++ h.rest
+        → MayBe t unsent
+        → AirSends waiting (decided (bits_then t) waiting t)
+    by_unsent [] frames waits (inl ends) =
+        stays frames waits (inl ends) (ap (λ e. not e && nat_le (frames_end t) (bits_then t)) ends)
+    by_unsent [] frames waits (inr none) = go (has_sent_frames (bits_then t) t) refl
+      where
+        go : (b : Bool) → has_sent_frames (bits_then t) t ≡ b → AirSends waiting (decided (bits_then t) waiting t)
+        go true is =
+            let size : length t.frames ≡ 0 = ap length none in
+            let named : t.named ≡ length t.frames = h.named ∙ sym (ap length (frames ∙ append-nil h.past)) in
+            let open_still : t.ends ≡ false = open_if t.ends (nat_le (frames_end t) (bits_then t)) is in
+            let long = fits.long in
+            let all = open_long t open_still in
+            subst (AirSends waiting) (sym (by_end true is))
+            (opened_sends t waiting (waiting_after t waiting) (after_those 0 (omega (arith, size, named))) none
+            (omega (arith, size, named)) (omega (arith, long, all)))
+        go false is = stays frames waits (inr none) is
     by_unsent (front ∷ []) frames waits one = go (has_sent_frames (bits_then t) t) refl
       where
         go : (b : Bool) → has_sent_frames (bits_then t) t ≡ b → AirSends waiting (decided (bits_then t) waiting t)
         go true is =
+            let size : length t.frames ≡ t.named + 1 = ap length frames ∙ length-append h.past (front ∷ [])
+            ∙ ap (λ n. n + 1) (sym h.named) in
             subst (AirSends waiting) (sym (by_end true is))
-            (followed_sends t waiting (drop 1 waiting) h.past h.rest front refl frames h.named waits)
+            (followed_sends t waiting (waiting_after t waiting) h.past h.rest front (after_those 1 size) frames h.named
+            waits)
         go false is =
             subst (AirSends waiting) (sym (by_end false is))
             (last_sends t waiting h.past h.rest front frames h.named waits
@@ -333,8 +425,8 @@ same_bits t waiting = go (has_sent_frames (bits_then t) t)
         by_room true = refl
         by_room false = refl
 
-    go : (b : Bool) → bits_then (cond b (followed_by (drop 1 waiting) t) t) ≡ bits_then t
-    go true = by_next (drop 1 waiting)
+    go : (b : Bool) → bits_then (cond b (followed_by (waiting_after t waiting) t) t) ≡ bits_then t
+    go true = by_next (waiting_after t waiting)
     go false = refl
 
 air_sends : (air : Option OnAir) (waiting : List WaitingFrame) → Fits air waiting
@@ -342,7 +434,7 @@ air_sends : (air : Option OnAir) (waiting : List WaitingFrame) → Fits air wait
 air_sends None waiting h = record { order = refl; fits = tt; soon = λ s same. absurd (cc) }
 air_sends (Some t) waiting h =
     subst (λ bits. SendsAt bits waiting (decided (bits_then t) waiting t)) (same_bits t waiting)
-    (decided_sends t waiting h.parts)
+    (decided_sends t waiting h)
 
 -- a tick has 96 samples
 length-samples_on_air : (t : OnAir) → length (samples_on_air t) ≡ 8 * length (bits_of t)
@@ -377,60 +469,58 @@ air_long (Some t) waiting h =
 
 -- ---- a tick of the channel
 
--- a transmission begins with the front one of the frames that wait
-begun_fits : (busy : Bool) (channel : Channel)
-    → Fits (with_decision (decision busy channel) channel).air channel.waiting
-begun_fits busy channel = by_waiting channel.waiting refl
+-- a transmission begins with its opening flags
+begun_fits : (busy wants : Bool) (channel : Channel)
+    → Fits (with_decision (decision busy wants channel) channel).air channel.waiting
+begun_fits busy wants channel = go (decision busy wants channel).begins
   where
-    by_waiting : (ws : List WaitingFrame) → channel.waiting ≡ ws
-        → Fits (cond (decision busy channel).begins (Some (begun channel)) None) channel.waiting
-    by_waiting [] same =
-        let none : (decision busy channel).begins ≡ false = ap
-        (λ xs. (decision busy (record channel { waiting = xs })).begins) same in
-        subst (λ b. Fits (cond b (Some (begun channel)) None) channel.waiting) (sym none) tt
-    by_waiting (w ∷ ws) same = go (decision busy channel).begins
-      where
-        go : (b : Bool) → Fits (cond b (Some (begun channel)) None) channel.waiting
-        go true = record {
-          parts = record {
-            past = [];
-            unsent = w.octets ∷ [];
-            rest = map octets_of ws;
-            frames = ap (λ xs. map octets_of (take 1 xs)) same;
-            named = refl;
-            waits = ap (map octets_of) same;
-            may_be = tt;
-          };
-          long = omega arith;
-        }
-        go false = tt
+    go : (b : Bool) → Fits (cond b (Some (begun channel)) None) channel.waiting
+    go true = record {
+      parts = record {
+        past = [];
+        unsent = [];
+        rest = map octets_of channel.waiting;
+        frames = refl;
+        named = refl;
+        waits = refl;
+        may_be = inr refl;
+      };
+      long = omega arith;
+    }
+    go false = tt
 
-rules_fit : (busy : Bool) (channel : Channel) → Fits channel.air channel.waiting
-    → Fits (after_rules busy channel).air channel.waiting
-rules_fit busy channel h = go (is_none channel.air)
+rules_fit : (busy wants : Bool) (channel : Channel) → Fits channel.air channel.waiting
+    → Fits (after_rules busy wants channel).air channel.waiting
+rules_fit busy wants channel h = go (is_none channel.air)
   where
-    go : (b : Bool) → Fits (cond b (with_decision (decision busy channel) channel) channel).air channel.waiting
-    go true = begun_fits busy channel
+    go : (b : Bool)
+        → Fits (cond b (with_decision (decision busy wants channel) channel) channel).air channel.waiting
+    go true = begun_fits busy wants channel
     go false = h
 
-pub rules_wait : (busy : Bool) (channel : Channel) → (after_rules busy channel).waiting ≡ channel.waiting
-rules_wait busy channel = go (is_none channel.air)
+pub rules_wait : (busy wants : Bool) (channel : Channel)
+    → (after_rules busy wants channel).waiting ≡ channel.waiting
+rules_wait busy wants channel = go (is_none channel.air)
   where
-    go : (b : Bool) → (cond b (with_decision (decision busy channel) channel) channel).waiting ≡ channel.waiting
+    go : (b : Bool) → (cond b (with_decision (decision busy wants channel) channel) channel).waiting ≡ channel.waiting
     go true = refl
     go false = refl
 
 pub tick_sends :
-    (busy : Bool) (channel : Channel) → Fits channel.air channel.waiting
-    → Sends channel.waiting (air_tick busy channel).sent (after_tick busy channel).air (after_tick busy channel).waiting
-tick_sends busy channel h =
-    let now = after_rules busy channel in
+    (busy wants : Bool) (channel : Channel) → Fits channel.air channel.waiting
+    → Sends channel.waiting (air_tick busy wants channel).sent (after_tick busy wants channel).air
+    (after_tick busy wants channel).waiting
+tick_sends busy wants channel h =
+    let now = after_rules busy wants channel in
     subst (λ ws. Sends ws (air_sent now.waiting now.air) (air_after now.waiting now.air)
-    (air_waiting now.waiting now.air)) (rules_wait busy channel)
-    (air_sends now.air now.waiting (subst (Fits now.air) (sym (rules_wait busy channel)) (rules_fit busy channel h)))
+    (air_waiting now.waiting now.air)) (rules_wait busy wants channel)
+    (air_sends now.air now.waiting
+    (subst (Fits now.air) (sym (rules_wait busy wants channel)) (rules_fit busy wants channel h)))
 
 pub tick_long :
-    (busy : Bool) (channel : Channel) → Fits channel.air channel.waiting → length (air_tick busy channel).samples ≡ 96
-tick_long busy channel h =
-    let now = after_rules busy channel in
-    air_long now.air now.waiting (subst (Fits now.air) (sym (rules_wait busy channel)) (rules_fit busy channel h))
+    (busy wants : Bool) (channel : Channel) → Fits channel.air channel.waiting
+    → length (air_tick busy wants channel).samples ≡ 96
+tick_long busy wants channel h =
+    let now = after_rules busy wants channel in
+    air_long now.air now.waiting
+    (subst (Fits now.air) (sym (rules_wait busy wants channel)) (rules_fit busy wants channel h))

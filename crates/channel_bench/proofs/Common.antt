@@ -90,6 +90,7 @@ pub use Rattle.station.specs.AgwKinds.{connect_kind, data_kind, disconnect_kind,
 pub use Rattle.station.specs.AgwRequests.{AreAnswered, IsAnswered, IsCall, IsCallMade, called_pid, called_route}
 pub use Rattle.station.specs.AgwRequests.{data_pid, disconnecting, giving, giving_packet, may_call, own_key, packets_of}
 pub use Rattle.station.specs.AgwRequests.{refused_reply, register_reply, registering, replying, with_registration}
+pub use Rattle.station.specs.Asking.{asked_key, asking, asking_at, seizing, some_wants, with_asked}
 pub use Rattle.station.specs.CallFields.{call_in}
 pub use Rattle.station.specs.Connections.{Connection, connection_of, most_connections, new_connection, with_connection}
 pub use Rattle.station.specs.Heard.{AreOctetsHeard, IsHeard, IsHeardAnew, IsHeardBy, IsHeardMaking, IsReadingHeardAnew}
@@ -108,7 +109,7 @@ pub use Rattle.station.specs.Registrations.{is_number, may_register, registrar}
 pub use Rattle.station.specs.Routes.{Route, path_along}
 pub use Rattle.station.specs.State.{StationState, most_held, most_waiting}
 unfoldable pub use Rattle.station.specs.Ticks.{ticking_links}
-pub use Rattle.station.specs.Ticks.{air_of, t1_stands, ticking_at, waits}
+pub use Rattle.station.specs.Ticks.{air_of, asked_links, t1_stands, ticking_at, waits}
 pub use Rattle.station.specs.Turn.{Act, Out, Turn, begin, capacity, changing, closing, dropping, entering, in_order}
 pub use Rattle.station.specs.Turn.{queueing}
 pub use Rattle.station.specs.declared.host_event.HostEvent.{HostEvent}
@@ -141,7 +142,8 @@ pub use Rattle.station_laws.specs.JointRun.{Input, IsTurn, Stations, Step, all_s
 pub use Rattle.station_laws.specs.JointRun.{with_state}
 pub use Rattle.station_laws.specs.JointRun.Input.{FromHost, OfClock, OffAir}
 pub use Rattle.station_laws.specs.LinkOfCalls.{Calls, first_world, link_at_end, world_of}
-pub use Rattle.station_laws.specs.LinkSteps.{Choice, LinkStep, anew_steps, by_path_steps, call_steps, data_steps}
+pub use Rattle.station_laws.specs.LinkSteps.{Choice, LinkStep, anew_steps, asked_at, asking_steps, by_path_steps}
+pub use Rattle.station_laws.specs.LinkSteps.{call_steps, data_steps}
 pub use Rattle.station_laws.specs.LinkSteps.{disconnect_steps, heard_steps, hears_at, key_steps, link_step, made_steps}
 pub use Rattle.station_laws.specs.LinkSteps.{new_steps, path_steps, reading_steps, sends_at, steps_along, steps_at}
 pub use Rattle.station_laws.specs.LinkSteps.{steps_for, steps_of, tick_steps, ticks_at, turn_steps}

@@ -8,6 +8,8 @@ use Rattle.channel_bench.proofs.Common.{air_waiting, OnAir, bits_then, decided, 
 use Rattle.channel_bench.proofs.Common.{each_weaker, PortKind, Kiss, Agw, connect_kind, data_kind, disconnect_kind}
 use Rattle.channel_bench.proofs.Common.{register_kind, IsAnswered, called_route, own_key, call_in, most_connections}
 use Rattle.channel_bench.proofs.Common.{joining, taking, with_host, no_call, Links, most_links, StationState}
+use Rattle.channel_bench.proofs.Common.{asked_links, asking_steps, each_append, steps_along, ticking_at, ticks_at}
+use Rattle.channel_bench.proofs.Common.{some_wants}
 use Rattle.channel_bench.proofs.Common.{most_waiting, ticking_links, Turn, begin, changing, closing, program_id}
 use Rattle.channel_bench.proofs.Common.{kiss_id, call_at, request, request_between, IsTurn, LinkStep, tick_steps}
 use Rattle.channel_bench.proofs.Common.{turn_steps, AsksInRoom, DropsNoAsk, asks_when_sent, ◌≤◌}
@@ -15,7 +17,7 @@ use Rattle.link_machine.specs.Turn.{Turn as LinkTurn}
 use Rattle.std.specs.List.{AllByRecursion as Each}
 use Rattle.link_machine.specs.Event.{Event as LinkEvent}
 use Rattle.link_machine.specs.Event.Event.{Connect as LinkConnect, Send as LinkSend, Disconnect as LinkDisconnect}
-use Rattle.link_machine.specs.Event.Event.{Hear as LinkHear, Tick as LinkTick}
+use Rattle.link_machine.specs.Event.Event.{Hear as LinkHear, Seize as LinkSeize, Tick as LinkTick}
 use Rattle.link_machine.specs.Step.{step as link_turn}
 use Rattle.channel_bench.proofs.AsksLittle.{disconnect_silent, drops_none, if_down, send_silent, sends_none}
 use Rattle.channel_bench.proofs.CoreRun.{Occurs, Usual, input_of}
@@ -26,7 +28,7 @@ use Rattle.channel_bench.proofs.HearsLittle.Asks.{asks_nothing, sends_one}
 use Rattle.channel_bench.proofs.HostsStay.{HasHosts, IsSaid, IsSet, said_by, set_by}
 use Rattle.channel_bench.proofs.HostsStay.IsSaid.{said, unheard}
 use Rattle.channel_bench.proofs.HostsStay.IsSet.{full, unheard as alone}
-use Rattle.channel_bench.proofs.KeyedSteps.{Finds, JoinsWide, call_finds, data_keyed, disconnect_keyed}
+use Rattle.channel_bench.proofs.KeyedSteps.{Finds, JoinsWide, asking_finds, call_finds, data_keyed, disconnect_keyed}
 use Rattle.channel_bench.proofs.KeyedSteps.{registering_keyed}
 use Rattle.channel_bench.proofs.KeyedSteps.{ticks_find}
 use Rattle.station_laws.proofs.Chains.{HearsWell}
@@ -128,6 +130,7 @@ gives_room s by = go s.event refl by
     go LinkDisconnect is c = absurd (cc)
     go (LinkHear frame) is c = absurd (cc)
     go (LinkTick waiting) is c = absurd (cc)
+    go (LinkSeize last both) is c = absurd (cc)
 
 disconnects_room : (s : LinkStep) → IsBy disconnecting s → AsksInRoom s
 disconnects_room s by = go s.event refl by
@@ -139,6 +142,7 @@ disconnects_room s by = go s.event refl by
         (ap (λ event. (link_turn s.link.machine event).sent) is ∙ disconnect_silent s.link.machine down))
     go (LinkHear frame) is c = absurd (cc)
     go (LinkTick waiting) is c = absurd (cc)
+    go (LinkSeize last both) is c = absurd (cc)
 
 none_room : (s : LinkStep) → IsBy nothing s → AsksInRoom s
 none_room s by = go s.event by
@@ -149,6 +153,7 @@ none_room s by = go s.event by
     go LinkDisconnect c = absurd (cc)
     go (LinkHear frame) c = absurd (cc)
     go (LinkTick waiting) c = absurd (cc)
+    go (LinkSeize last both) c = absurd (cc)
 
 -- the link does not wish to disconnect while it is idle or calls
 pub record HearsCalm (s : LinkStep) : Type 0 where
@@ -170,6 +175,7 @@ hears_room s by calm joins = go s.event refl by
         asked (link_turn s.link.machine (LinkHear frame)) (ap (link_turn s.link.machine) is)
         (hear_asks s.link.machine frame down calm.wishes))
     go (LinkTick waiting) is c = absurd (cc)
+    go (LinkSeize last both) is c = absurd (cc)
 
 all_hear_room : (steps : List LinkStep) → Each (IsBy hearing) steps → Each HearsCalm steps → Each JoinsWide steps
     → Each AsksInRoom steps
@@ -227,10 +233,23 @@ said_keyed :
 said_keyed m t u h keeps (unheard same) = subst (λ (v : Turn). Keyed v.now) (sym same) h
 said_keyed m t u h keeps (said answered) = keeps (taking program_id (spelling m) t) h answered
 
-ticks_find_all : (busy : Bool) (s : StationState) → Keyed s
-    → Finds (ticking_links busy (begin s)) (tick_steps (chosen A) busy (begin s))
+links_find : (busy : Bool) (s : StationState) → Keyed s
+    → Finds (ticking_links busy (begin s))
+    (steps_along (ticking_at busy) (ticks_at (chosen A) busy) (range_with_len 0 most_links) (begin s))
 unfolding ticking_links
-ticks_find_all busy s keyed = ticks_find busy (range_with_len 0 most_links) (begin s) keyed
+links_find busy s keyed = ticks_find busy (range_with_len 0 most_links) (begin s) keyed
+
+ticks_find_all : (busy : Bool) (s : StationState) → Keyed s
+    → Finds (asked_links busy (begin s)) (tick_steps (chosen A) busy (begin s))
+ticks_find_all busy s keyed =
+    let ticked = ticking_links busy (begin s) in
+    let links = links_find busy s keyed in
+    let asked = asking_finds ticked links.0 in (
+      asked.0,
+      each_append AsksInRoom
+          (steps_along (ticking_at busy) (ticks_at (chosen A) busy) (range_with_len 0 most_links) (begin s))
+          (asking_steps (chosen A) ticked) links.1 asked.1,
+    )
 
 pub usual_finds :
     (usual : Usual) (s : StationState) (u : Turn) → IsBefore usual s
@@ -281,10 +300,11 @@ usual_finds (hears octets) s u before turn calm =
 usual_finds (ticks busy) s u before turn calm =
     let found = ticks_find_all busy s before.keyed in
     let key = found.0.0 in
-    let now = (ticking_links busy (begin s)).now in
-    let rules = after_rules busy now.channel in
+    let now = (asked_links busy (begin s)).now in
+    let wants = some_wants now.links in
+    let rules = after_rules busy wants now.channel in
     let keyed : IsKeyed key rules.waiting now.links =
-    subst (λ xs. IsKeyed key xs now.links) (sym (rules_wait busy now.channel)) found.0.1 in (
+    subst (λ xs. IsKeyed key xs now.links) (sym (rules_wait busy wants now.channel)) found.0.1 in (
       subst (λ (v : Turn). Keyed v.now) (sym turn.effect) (key, air_keyed key rules.waiting now.links rules.air keyed),
       found.1,
     )

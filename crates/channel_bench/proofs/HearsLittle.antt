@@ -39,11 +39,11 @@ pub data Asks (m : Machine) (u : Turn) : Type 0 where
 quiet_settles : (m : Machine) (t u : Turn) → Settles t u → Quiet m t → Asks m u
 quiet_settles m t u settles (opens calm) = asks_nothing (settles_calm t u settles calm).asked
 quiet_settles m t u (is_down _) (stays down asks) = asks_nothing asks
-quiet_settles m t u (goes_on up run) (stays down asks) = absurd (subst IsDown up down)
-quiet_settles m t u (releases up run quitting) (stays down asks) = absurd (subst IsDown up down)
+quiet_settles m t u (goes_on up) (stays down asks) = absurd (subst IsDown up down)
+quiet_settles m t u (releases up quitting) (stays down asks) = absurd (subst IsDown up down)
 quiet_settles m t u (is_down _) (refused wide down sent) = sends_one wide sent
-quiet_settles m t u (goes_on up run) (refused wide down sent) = absurd (subst IsDown up down)
-quiet_settles m t u (releases up run quitting) (refused wide down sent) = absurd (subst IsDown up down)
+quiet_settles m t u (goes_on up) (refused wide down sent) = absurd (subst IsDown up down)
+quiet_settles m t u (releases up quitting) (refused wide down sent) = absurd (subst IsDown up down)
 
 wishes_in : (state : LinkState) (m : Machine) → m.control.state ≡ state → WishesNothing m.control.state m.control.quit
     → WishesNothing state m.control.quit

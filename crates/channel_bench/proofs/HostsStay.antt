@@ -47,6 +47,7 @@ same_hosts = record {
     links = λ change t. record { connections = refl; digi = refl };
     enters = λ key octets t. record { connections = refl; digi = refl };
     drops = λ t. record { connections = refl; digi = refl };
+    asks = λ key t. record { connections = refl; digi = refl };
   };
   registers = λ call id t. record { connections = refl; digi = refl };
   told = λ ours t. record { connections = refl; digi = refl };

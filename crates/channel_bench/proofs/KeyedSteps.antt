@@ -9,6 +9,7 @@ use Rattle.channel_bench.proofs.Common.{packets_of, refused_reply, register_repl
 use Rattle.channel_bench.proofs.Common.{with_registration, event_at, event_of, queueing_frames, settled_link}
 use Rattle.channel_bench.proofs.Common.{with_links, Link, key_between, link_at, most_links, making, is_number}
 use Rattle.channel_bench.proofs.Common.{may_register, registrar, Route, path_along, StationState, most_waiting}
+use Rattle.channel_bench.proofs.Common.{asked_at, asked_key, asking, asking_at, asking_steps, seizing, with_asked}
 use Rattle.channel_bench.proofs.Common.{or_parts, ticking_at, t1_stands, waits, Act, Turn, capacity, changing, in_order}
 use Rattle.channel_bench.proofs.Common.{program_id, call_at}
 use Rattle.channel_bench.proofs.Common.{LinkStep, call_steps, link_step, made_steps, steps_along, steps_at, steps_for}
@@ -17,10 +18,10 @@ use Rattle.channel_bench.proofs.Common.{not_both, none_by_position, Packet, inl,
 use Rattle.std.specs.List.{AllByRecursion as Each}
 use Rattle.link_machine.specs.Event.{Event as LinkEvent}
 use Rattle.link_machine.specs.Event.Event.{Connect as LinkConnect, Send as LinkSend, Disconnect as LinkDisconnect}
-use Rattle.link_machine.specs.Event.Event.{Tick as LinkTick}
+use Rattle.link_machine.specs.Event.Event.{Seize as LinkSeize, Tick as LinkTick}
 use Rattle.link_machine.specs.Step.{step as link_turn}
 use Rattle.station.specs.Links.{count_of_links}
-use Rattle.channel_bench.proofs.AsksLittle.{connect_few, if_down, sends_none, tick_sends}
+use Rattle.channel_bench.proofs.AsksLittle.{connect_few, if_down, seize_silent, sends_none, tick_sends}
 use Rattle.channel_bench.proofs.OneKey.{HasNoLinks, Keyed, LeavesFew, all_enter, empty_queue, event_keyed, made_keyed}
 use Rattle.channel_bench.proofs.WideCalls.{IsPlain, IsWideCall, step_wide}
 use Rattle.link_steps.proofs.Rows.{IsT1Tick}
@@ -89,6 +90,12 @@ tick_leaves busy key t keyed =
     wide_leaves key (LinkTick (t1_stands busy key t.now.channel)) t keyed
     (λ link at. record { unconnected = λ never. never; unasked = λ is never. never; right = λ is never. never })
     (λ link at counts. empty_queue key link t keyed at (or_parts (waits key t.now.channel.waiting) _ counts).0)
+
+seize_leaves : (last full : Bool) (key : ℕ) (t : Turn) → Keyed t.now → LeavesFew key (LinkSeize last full) t
+seize_leaves last full key t keyed =
+    wide_leaves key (LinkSeize last full) t keyed
+    (λ link at. record { unconnected = λ never. never; unasked = λ is never. never; right = λ is never. never })
+    (λ link at never. absurd never)
 
 -- ---- a connect
 
@@ -177,6 +184,36 @@ ticks_find busy (key ∷ keys) t keyed =
           (steps_along (ticking_at busy) (ticks_at (chosen A) busy) keys (ticking_at busy key t))
           (tick_room busy key t keyed) rest.1,
     )
+
+-- ---- the link is asked for a frame
+
+seize_room : (last full : Bool) (key : ℕ) (t : Turn)
+    → Each AsksInRoom (steps_at (chosen A) None key (LinkSeize last full) t)
+seize_room last full key t = go (link_at key t.now.links)
+  where
+    by_choice : (link : Link) (b : Bool) → AsksInRoom (link_step None key (LinkSeize last full) t link)
+        → Each AsksInRoom (cond b (link_step None key (LinkSeize last full) t link ∷ []) [])
+    by_choice link true h = (h, tt)
+    by_choice link false h = tt
+
+    go : (place : Option Link) → Each AsksInRoom (steps_for (chosen A) None key (LinkSeize last full) t place)
+    go None = tt
+    go (Some link) =
+        let s = link_step None key (LinkSeize last full) t link in
+        by_choice link (chosen A (Some link))
+        (if_down s (λ down. sends_none s (seize_silent link.machine last full down)))
+
+pub asking_finds : (t : Turn) → Keyed t.now → Finds (asking t) (asking_steps (chosen A) t)
+asking_finds t keyed = go (asked_key t.now)
+  where
+    event : LinkEvent
+    event = seizing t.now
+
+    go : (key : Option ℕ) → Finds (asking_at key event t) (asked_at (chosen A) key event t)
+    go None = (keyed, tt)
+    go (Some key) =
+        let told = changing (with_asked key) t in
+        (event_keyed key event told (seize_leaves _ _ key told keyed) keyed, seize_room _ _ key told)
 
 -- ---- a call
 

@@ -2,7 +2,8 @@
 use Rattle.channel_bench.proofs.Common.{ℕ, ◌+◌, ◌*◌, ◌≤◌, Bool, ℤ, pos, List, [], ◌∷◌, ◌++◌, unsigned_abs, get_or, drop}
 use Rattle.channel_bench.proofs.Common.{replicate, Option, Some, None, arith, range_with_len, All-replicate, line}
 use Rattle.channel_bench.proofs.Common.{Channel, after_rules, air_samples, OnAir, bits_then, decided, samples_on_air}
-use Rattle.channel_bench.proofs.Common.{tick_samples, WaitingFrame, StationState, air_of, ticking_links, begin}
+use Rattle.channel_bench.proofs.Common.{tick_samples, WaitingFrame, StationState, air_of, asked_links, begin}
+use Rattle.channel_bench.proofs.Common.{some_wants}
 use Rattle.std.specs.List.{All}
 use Rattle.std.proofs.lemmas.List.Elements.{All-nil, All-map, All-append, All-take, All-drop}
 use Rattle.tone_table.specs.declared.tone.Tone.{Tone}
@@ -55,5 +56,6 @@ within-air waiting (Some t) = within-tick (decided (bits_then t) waiting t)
 
 pub air_within : (busy : Bool) (s : StationState) → All IsLoudAtMost (air_of busy s).samples
 air_within busy s =
-    let now : Channel = after_rules busy (ticking_links busy (begin s)).now.channel in
+    let asked = (asked_links busy (begin s)).now in
+    let now : Channel = after_rules busy (some_wants asked.links) asked.channel in
     within-air now.waiting now.air

@@ -9,7 +9,9 @@ use Rattle.channel_bench.proofs.Common.{IsHeard, destination_field, kiss_data, s
 use Rattle.channel_bench.proofs.Common.{source_field, with_shown, message_of_told, event_at, event_of, is_idle}
 use Rattle.channel_bench.proofs.Common.{link_event, settled_link, Link, Links, link_at, with_link, without_link}
 use Rattle.channel_bench.proofs.Common.{monitor_pieces, idle_link, making, no_layer_3, registrar, StationState}
-use Rattle.channel_bench.proofs.Common.{ticking_links, Turn, in_order, the_calls, program_id, call_at, link_at_end}
+use Rattle.channel_bench.proofs.Common.{asked_links, changing, with_asked, Turn, in_order, the_calls, program_id}
+use Rattle.channel_bench.proofs.Common.{call_at}
+use Rattle.channel_bench.proofs.Common.{link_at_end}
 use Rattle.channel_bench.proofs.Common.{Choice, LinkStep, heard_steps, link_step, steps_at, steps_for, tick_steps}
 use Rattle.channel_bench.proofs.Common.{told_in, link_stepped, octets_of, calls_chosen, each_get, each_append, giving}
 use Rattle.channel_bench.proofs.Common.{data_steps, disconnect_steps}
@@ -160,6 +162,7 @@ rest_kept = record {
   links = λ change t. record { registrations = refl; closed = refl };
   enters = λ key octets t. record { registrations = refl; closed = refl };
   drops = λ t. record { registrations = refl; closed = refl };
+  asks = λ key t. record { registrations = refl; closed = refl };
 }
 
 module _ (c : Cause) where
@@ -325,10 +328,13 @@ module _ (c : Cause) where
         let h = one owns in
         says_on e t u v first second h (two h.owns);
     events = λ key event t by owns. event_says e None key event t by owns;
+    asked = λ key t owns.
+        calm_says e t (changing (with_asked key) t) (record { links = owns.links; registered = owns.registered })
+        refl refl refl;
   }
 
   pub ticks_say : (e : End) (busy : Bool) (t : Turn) → ticking ≡ c → OwnsAll e t.now
-      → Says e t (tick_steps (chosen e) busy t) (ticking_links busy t)
+      → Says e t (tick_steps (chosen e) busy t) (asked_links busy t)
   ticks_say e busy t by owns =
       ticks_kept (chosen e) (λ x. x ≡ c) (λ u steps v. OwnsAll e u.now → Says e u steps v) (says_kept e) by busy t owns
 

@@ -10,7 +10,7 @@ use Rattle.channel_bench.proofs.Common.{own_key, refused_reply, register_reply, 
 use Rattle.channel_bench.proofs.Common.{with_registration, call_in, Connection, connection_of, most_connections}
 use Rattle.channel_bench.proofs.Common.{AreTaken, AreTakenBy, ending, joining, new_messages, taking, with_host, no_call}
 use Rattle.channel_bench.proofs.Common.{monitor_pieces, may_register, registrar, Route, path_along, StationState}
-use Rattle.channel_bench.proofs.Common.{ticking_links, Out, Turn, begin, changing, closing, program_id, kiss_id}
+use Rattle.channel_bench.proofs.Common.{asked_links, Out, Turn, begin, changing, closing, program_id, kiss_id}
 use Rattle.channel_bench.proofs.Common.{call_at, full_duplex_octets, request, request_between, IsTurn, LinkStep}
 use Rattle.channel_bench.proofs.Common.{call_steps, data_steps, disconnect_steps, made_steps, turn_steps}
 use Rattle.std.proofs.Common.{if◌then◌else◌}
@@ -371,7 +371,7 @@ usual_comes e disconnects s after occurs hosts owns unshown from turn =
 usual_comes e (hears octets) s after occurs hosts owns unshown from turn =
     by_link (heard_says hearing e octets (begin s) after refl hosts.digi owns unshown from turn)
 usual_comes e (ticks busy) s after occurs hosts owns unshown from turn =
-    let ticked = ticking_links busy (begin s) in
+    let ticked = asked_links busy (begin s) in
     let h = ticks_say ticking e busy (begin s) refl owns in
     let same = ticks_kept SameHosts same_hosts busy (begin s) in
     let pieces = monitor_pieces true ticked.now.ticks turn.monitored ticked.now.connections in

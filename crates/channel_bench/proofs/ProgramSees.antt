@@ -11,7 +11,7 @@ use Rattle.channel_bench.proofs.Common.{called_after}
 use Rattle.std.specs.List.{AllByRecursion as Each}
 use Rattle.link_machine.specs.Event.{Event as LinkEvent}
 use Rattle.link_machine.specs.Event.Event.{Connect as LinkConnect, Send as LinkSend, Disconnect as LinkDisconnect}
-use Rattle.link_machine.specs.Event.Event.{Hear as LinkHear, Tick as LinkTick}
+use Rattle.link_machine.specs.Event.Event.{Hear as LinkHear, Seize as LinkSeize, Tick as LinkTick}
 use Rattle.channel_bench.specs.HostProgram.{closing, giving, told as told_message, with_got as with_got_octets}
 use Rattle.channel_bench.specs.HostProgram.{with_given as with_given_octets}
 use Rattle.station_laws.proofs.Chains.{ended_in, opened_in}
@@ -192,6 +192,7 @@ GivesNothing (LinkSend packet) = ⊥
 GivesNothing LinkDisconnect = ⊤
 GivesNothing (LinkHear frame) = ⊤
 GivesNothing (LinkTick waiting) = ⊤
+GivesNothing (LinkSeize last full) = ⊤
 
 gives_nothing : (event : LinkEvent) (seen : List Seen) → GivesNothing event → seen_giving event seen ≡ seen
 gives_nothing LinkConnect seen h = refl
@@ -199,6 +200,7 @@ gives_nothing (LinkSend packet) seen h = absurd h
 gives_nothing LinkDisconnect seen h = refl
 gives_nothing (LinkHear frame) seen h = refl
 gives_nothing (LinkTick waiting) seen h = refl
+gives_nothing (LinkSeize last full) seen h = refl
 
 pub steps_see :
     (e : End) (steps : List LinkStep) (p : ProgramState) (seen : List Seen) (runs : Bool)

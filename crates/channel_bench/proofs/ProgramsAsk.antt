@@ -4,7 +4,7 @@ use Rattle.channel_bench.proofs.Common.{◌≡◌, ℕ, ◌≤◌, List, [], ◌
 use Rattle.channel_bench.proofs.Common.{◌∙◌, subst, arith, All, All-from_recursion, call_field, spelling, AgwMessage}
 use Rattle.channel_bench.proofs.Common.{IsWritten, End, A, B, other, PortKind, Kiss, Agw, register_kind, connect_kind}
 use Rattle.channel_bench.proofs.Common.{data_kind, disconnect_kind, IsAnswered, Connection, connection_of}
-use Rattle.channel_bench.proofs.Common.{new_connection, taking, no_call, StationState, ticking_links, Turn, begin}
+use Rattle.channel_bench.proofs.Common.{new_connection, taking, no_call, StationState, asked_links, Turn, begin}
 use Rattle.channel_bench.proofs.Common.{BenchWords, Near, IsStep, program_id, kiss_id, BAsksNothing, call_at}
 use Rattle.channel_bench.proofs.Common.{full_duplex_octets, most_octets, request, request_between, Moment, steps_in}
 use Rattle.channel_bench.proofs.Common.{Steps, IsTurn, Step, Stations, state_of, with_state}
@@ -107,7 +107,7 @@ hosts_after end disconnects s after occurs turn h =
 hosts_after end (hears octets) s after occurs turn h =
     still_has (begin s) after (heard_kept SameHosts same_hosts octets (begin s) after h.digi turn) h
 hosts_after end (ticks busy) s after occurs turn h =
-    let made = still_has (begin s) (ticking_links busy (begin s)) (ticks_kept SameHosts same_hosts busy (begin s)) h in
+    let made = still_has (begin s) (asked_links busy (begin s)) (ticks_kept SameHosts same_hosts busy (begin s)) h in
     subst (λ (t : Turn). HasHosts t.now) (sym turn.effect)
     (record { connections = made.connections; digi = made.digi })
 

@@ -9,7 +9,7 @@ use Rattle.channel_bench.proofs.Common.{Steps, IsTurn, FromHost, LinkStep, steps
 use Rattle.std.specs.List.{AllByRecursion as Each}
 use Rattle.link_machine.specs.Event.{Event as LinkEvent}
 use Rattle.link_machine.specs.Event.Event.{Connect as LinkConnect, Send as LinkSend, Disconnect as LinkDisconnect}
-use Rattle.link_machine.specs.Event.Event.{Hear as LinkHear, Tick as LinkTick}
+use Rattle.link_machine.specs.Event.Event.{Hear as LinkHear, Seize as LinkSeize, Tick as LinkTick}
 use Rattle.channel_bench.proofs.BenchSees.{Holds, HoldsNear, Premises, asks_or_calls_holds, at_end_holds, both_of}
 use Rattle.channel_bench.proofs.BenchSees.{closes_hold, front, gives_hold, listens_hold, near_holds, near_there}
 use Rattle.channel_bench.proofs.BenchSees.{new_holds, sounds_hold, ticks_hold}
@@ -64,6 +64,7 @@ none_by (step ∷ made) h = absurd (never step.event h.0)
     never LinkDisconnect is = cc
     never (LinkHear frame) is = cc
     never (LinkTick waiting) is = cc
+    never (LinkSeize last full) is = cc
 
 -- then the link has no event, and the program is as it was
 quiet_comes :

@@ -5,7 +5,8 @@ use Rattle.channel_bench.proofs.Common.{Option, Some, None, refl, sym, ap, ◌�
 use Rattle.channel_bench.proofs.Common.{map-append, call_field, spelling, AgwMessage, Sent, End, A, B, PortKind, Kiss}
 use Rattle.channel_bench.proofs.Common.{Agw, register_kind, connect_kind, data_kind, disconnect_kind, IsAnswered}
 use Rattle.channel_bench.proofs.Common.{most_connections, joining, taking, with_host, no_call, StationState, air_of}
-use Rattle.channel_bench.proofs.Common.{ticking_links, Turn, begin, changing, closing, BenchWords, Near, IsStep}
+use Rattle.channel_bench.proofs.Common.{asked_links, some_wants, Turn, begin, changing, closing, BenchWords, Near}
+use Rattle.channel_bench.proofs.Common.{IsStep}
 use Rattle.channel_bench.proofs.Common.{program_id, kiss_id, call_at, request, request_between, Moment, steps_in, Input}
 use Rattle.channel_bench.proofs.Common.{IsTurn, Step, Stations, at_end, queued_at, state_of, with_state, FromHost}
 use Rattle.channel_bench.proofs.Common.{OffAir, OfClock}
@@ -63,6 +64,7 @@ fed = record {
       air = refl;
     };
     drops = λ t. fed_none t _ refl refl refl;
+    asks = λ key t. fed_none t _ refl refl refl;
   };
   registers = λ call id t. fed_none t _ refl refl refl;
   told = λ ours t. fed_none t _ refl refl refl;
@@ -87,9 +89,9 @@ clock_order : (busy : Bool) (s : StationState) (after : Turn) → IsTurn (OfCloc
     → Fits s.channel.air s.channel.waiting
     → StepOrder s (sent_octets (air_of busy s).sent) after
 clock_order busy s after turn fits =
-    let ticked = ticking_links busy (begin s) in
+    let ticked = asked_links busy (begin s) in
     let links = fed_order s ticked (ticks_kept Fed fed busy (begin s)) fits in
-    let sends = tick_sends busy ticked.now.channel links.fits in
+    let sends = tick_sends busy (some_wants ticked.now.links) ticked.now.channel links.fits in
     subst (StepOrder s (sent_octets (air_of busy s).sent)) (sym turn.effect)
     (record { order = links.order ∙ sends.order; fits = sends.fits })
 
@@ -100,11 +102,12 @@ pub record ClockSends (busy : Bool) (s : StationState) : Type 0 where
 
 pub clock_sends : (busy : Bool) (s : StationState) → Fits s.channel.air s.channel.waiting → ClockSends busy s
 clock_sends busy s fits =
-    let ticked = ticking_links busy (begin s) in
+    let ticked = asked_links busy (begin s) in
+    let wants = some_wants ticked.now.links in
     let links = fed_order s ticked (ticks_kept Fed fed busy (begin s)) fits in
     record {
-      soon = (tick_sends busy ticked.now.channel links.fits).soon;
-      long = tick_long busy ticked.now.channel links.fits;
+      soon = (tick_sends busy wants ticked.now.channel links.fits).soon;
+      long = tick_long busy wants ticked.now.channel links.fits;
     }
 
 joining_fed : (id : ℕ) (kind : PortKind) (s : StationState) → Fed (begin s) (joining id kind (begin s))

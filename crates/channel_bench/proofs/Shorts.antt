@@ -9,7 +9,7 @@ use Rattle.channel_bench.proofs.Common.{seen_giving, seen_told, with_given, with
 use Rattle.std.specs.List.{AllByRecursion as Each}
 use Rattle.link_machine.specs.Event.{Event as LinkEvent}
 use Rattle.link_machine.specs.Event.Event.{Connect as LinkConnect, Send as LinkSend, Disconnect as LinkDisconnect}
-use Rattle.link_machine.specs.Event.Event.{Hear as LinkHear, Tick as LinkTick}
+use Rattle.link_machine.specs.Event.Event.{Hear as LinkHear, Seize as LinkSeize, Tick as LinkTick}
 use Rattle.link_world.specs.Origin.{GotInOrder as PacketsInOrder}
 use Rattle.link_world.specs.SetUps.{SetUp as LinkSetUp}
 use Rattle.station_laws.specs.SetUpsSeen.{last_seen_changed}
@@ -25,6 +25,7 @@ GivesShort (LinkSend packet) = IsShort packet
 GivesShort LinkDisconnect = ⊤
 GivesShort (LinkHear frame) = ⊤
 GivesShort (LinkTick waiting) = ⊤
+GivesShort (LinkSeize last full) = ⊤
 
 abbrev pub GivenShort : Seen → Type 0
 GivenShort q = Each IsShort q.given
@@ -66,6 +67,7 @@ event_given (LinkSend packet) seen short h =
 event_given LinkDisconnect seen short h = h
 event_given (LinkHear frame) seen short h = h
 event_given (LinkTick waiting) seen short h = h
+event_given (LinkSeize last full) seen short h = h
 
 abbrev pub ShortStep : LinkStep → Type 0
 ShortStep step = GivesShort step.event
@@ -148,6 +150,7 @@ event_back (LinkSend packet) seen h = changed_back (with_given packet) (λ q g. 
 event_back LinkDisconnect seen h = h
 event_back (LinkHear frame) seen h = h
 event_back (LinkTick waiting) seen h = h
+event_back (LinkSeize last full) seen h = h
 
 steps_back : (steps : List LinkStep) (seen : List Seen) → Each GotShort (seen_by_all steps seen) → Each GotShort seen
 steps_back [] seen h = h
@@ -210,6 +213,7 @@ giving_some (LinkSend packet) seen some = changed_some (with_given packet) seen 
 giving_some LinkDisconnect seen some = some
 giving_some (LinkHear frame) seen some = some
 giving_some (LinkTick waiting) seen some = some
+giving_some (LinkSeize last full) seen some = some
 
 pub steps_short :
     (steps : List LinkStep) (seen : List Seen) (runs : Bool) → AllToldInOne runs steps → (runs ≡ true → IsSome seen)

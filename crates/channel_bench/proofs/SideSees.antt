@@ -11,7 +11,7 @@ use Rattle.channel_bench.proofs.Common.{called_behind, framed, is_connect, is_di
 use Rattle.std.specs.List.{AllByRecursion as Each}
 use Rattle.link_machine.specs.Event.{Event as LinkEvent}
 use Rattle.link_machine.specs.Event.Event.{Connect as LinkConnect, Send as LinkSend, Disconnect as LinkDisconnect}
-use Rattle.link_machine.specs.Event.Event.{Hear as LinkHear, Tick as LinkTick}
+use Rattle.link_machine.specs.Event.Event.{Hear as LinkHear, Seize as LinkSeize, Tick as LinkTick}
 use Rattle.channel_bench.specs.HostProgram.{closing, told as told_message}
 use Rattle.channel_bench.proofs.HostStreams.{IsWhole}
 use Rattle.channel_bench.proofs.LinkNow.{GivenUp}
@@ -68,6 +68,7 @@ by_gives c other (LinkSend packet) is = absurd (other (sym is))
 by_gives c other LinkDisconnect is = tt
 by_gives c other (LinkHear frame) is = tt
 by_gives c other (LinkTick waiting) is = tt
+by_gives c other (LinkSeize last full) is = tt
 
 pub by_disconnect : (c : Cause) → (c ≡ disconnecting → ⊥) → (event : LinkEvent) → cause_of event ≡ c
     → is_disconnect event ≡ false
@@ -76,6 +77,7 @@ by_disconnect c other (LinkSend packet) is = refl
 by_disconnect c other LinkDisconnect is = absurd (other (sym is))
 by_disconnect c other (LinkHear frame) is = refl
 by_disconnect c other (LinkTick waiting) is = refl
+by_disconnect c other (LinkSeize last full) is = refl
 
 pub by_connect : (c : Cause) → (c ≡ connecting → ⊥) → (event : LinkEvent) → cause_of event ≡ c
     → is_connect event ≡ false
@@ -84,6 +86,7 @@ by_connect c other (LinkSend packet) is = refl
 by_connect c other LinkDisconnect is = refl
 by_connect c other (LinkHear frame) is = refl
 by_connect c other (LinkTick waiting) is = refl
+by_connect c other (LinkSeize last full) is = refl
 
 pub none_given_up : (step : LinkStep) → GivesNothing step.event → GivenUp step
 none_given_up step h = go step.event h
@@ -94,6 +97,7 @@ none_given_up step h = go step.event h
     go LinkDisconnect h = tt
     go (LinkHear frame) h = tt
     go (LinkTick waiting) h = tt
+    go (LinkSeize last full) h = tt
 
 pub none_short : (step : LinkStep) → GivesNothing step.event → ShortStep step
 none_short step h = go step.event h
@@ -104,6 +108,7 @@ none_short step h = go step.event h
     go LinkDisconnect h = tt
     go (LinkHear frame) h = tt
     go (LinkTick waiting) h = tt
+    go (LinkSeize last full) h = tt
 
 pub never_asks : (step : LinkStep) → is_disconnect step.event ≡ false → AsksInSetUp step
 never_asks step none = λ is. absurd (not_both (is_disconnect step.event) is none)

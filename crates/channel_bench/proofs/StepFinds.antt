@@ -13,7 +13,7 @@ use Rattle.channel_bench.proofs.Common.{after_moment, BothWays}
 use Rattle.std.specs.List.{AllByRecursion as Each}
 use Rattle.link_machine.specs.Event.{Event as LinkEvent}
 use Rattle.link_machine.specs.Event.Event.{Connect as LinkConnect, Send as LinkSend, Disconnect as LinkDisconnect}
-use Rattle.link_machine.specs.Event.Event.{Hear as LinkHear, Tick as LinkTick}
+use Rattle.link_machine.specs.Event.Event.{Hear as LinkHear, Seize as LinkSeize, Tick as LinkTick}
 use Rattle.link_machine.specs.Step.{step as link_turn}
 use Rattle.link_world.proofs.law.Each.{each_of_all}
 use Rattle.station_laws.proofs.Chains.{HearsWell, asked_step, made_like}
@@ -81,6 +81,7 @@ hears_asks (LinkSend packet) h = refl
 hears_asks LinkDisconnect h = absurd (cc)
 hears_asks (LinkHear frame) h = refl
 hears_asks (LinkTick waiting) h = refl
+hears_asks (LinkSeize last full) h = refl
 
 -- Events by which frames are heard find no wish to disconnect while the link is idle or calls.
 calm_events :

@@ -42,6 +42,7 @@ same_connections = record {
     links = λ change t. record { connections = refl; closed = refl };
     enters = λ key octets t. record { connections = refl; closed = refl };
     drops = λ t. record { connections = refl; closed = refl };
+    asks = λ key t. record { connections = refl; closed = refl };
   };
   registers = λ call id t. record { connections = refl; closed = refl };
   told = λ ours t. record { connections = refl; closed = refl };

@@ -8,7 +8,13 @@ use Rattle.std.specs.List.{AllByRecursion as Each, filter}
 use Rattle.std.proofs.lemmas.List.Sums.{count_by-le-length, sum_by-cons}
 use Rattle.std.proofs.lemmas.Slice.Eq.{bytes_eq-Decides}
 use Rattle.std.proofs.lemmas.List.Quantifiers.{position-Some}
-use Rattle.link_machine.proofs.PacketLemmas.{slice_get-drop}
+
+slice_get-drop : {A : Type 0} (a n : ℕ) (xs : List A) → slice_get (drop a xs) n ≡ slice_get xs (a + n)
+slice_get-drop zero n xs = ap (λ k. slice_get xs k) (omega arith)
+slice_get-drop (suc a) n [] = refl
+slice_get-drop (suc a) n (x ∷ xs) =
+    let e : suc a + n ≡ suc (a + n) = omega arith in
+    slice_get-drop a n xs ∙ ap (λ k. slice_get (x ∷ xs) k) (sym e)
 
 abbrev pub octets_at : SentAt → List ℕ
 octets_at sent = sent.octets

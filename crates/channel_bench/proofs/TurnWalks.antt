@@ -8,7 +8,8 @@ use Rattle.channel_bench.proofs.Common.{with_registration, call_in, IsHeard, des
 use Rattle.channel_bench.proofs.Common.{shown_to_hosts, showing, showing_to, source_field, with_shown, message_of_told}
 use Rattle.channel_bench.proofs.Common.{event_at, event_of, queueing_frame, queueing_frames, settled_link, telling_one}
 use Rattle.channel_bench.proofs.Common.{with_links, Link, Links, link_at, idle_link, making, no_layer_3, path_along}
-use Rattle.channel_bench.proofs.Common.{ticking_links, Act, Turn, capacity, changing, dropping, entering, in_order}
+use Rattle.channel_bench.proofs.Common.{asked_links, with_asked, Act, Turn, capacity, changing, dropping, entering}
+use Rattle.channel_bench.proofs.Common.{in_order}
 use Rattle.channel_bench.proofs.Common.{queueing, request, Choice, LinkStep, heard_steps, StationState, ap, is_some}
 use Rattle.channel_bench.proofs.Common.{called_pid, link_event}
 use Rattle.link_machine.specs.Event.{Event as LinkEvent}
@@ -33,6 +34,8 @@ pub record KeptByActs (R : Turn → Turn → Type 0) : Type 0 where
   pub links : (change : Links → Links) (t : Turn) → R t (changing (with_links change) t)
   pub enters : (key : ℕ) (octets : List ℕ) (t : Turn) → R t (entering (Some key) octets t)
   pub drops : (t : Turn) → R t (dropping t)
+  -- a link is asked for a frame
+  pub asks : (key : ℕ) (t : Turn) → R t (changing (with_asked key) t)
 
 module _ (R : Turn → Turn → Type 0) (k : KeptByActs R) where
   acts_kept : {A : Type 0} (act : A → Act) → ((item : A) (t : Turn) → R t (act item t)) → (items : List A) (t : Turn)
@@ -96,6 +99,7 @@ module _ (R : Turn → Turn → Type 0) (k : KeptByTurns R) where
     same = k.acts.same;
     on = λ t u v first second. k.acts.on t u v;
     events = λ key event t may. event_kept R k.acts key event t;
+    asked = k.acts.asks;
   }
 
   requests : KeptRequests is_some NotHeard (λ t steps u. R t u)
@@ -109,7 +113,7 @@ module _ (R : Turn → Turn → Type 0) (k : KeptByTurns R) where
 
   -- ---- a tick
 
-  pub ticks_kept : (busy : Bool) (t : Turn) → R t (ticking_links busy t)
+  pub ticks_kept : (busy : Bool) (t : Turn) → R t (asked_links busy t)
   ticks_kept busy t = ticks_all is_some NotHeard (λ u steps v. R u v) by_events tt busy t
 
   -- ---- a message

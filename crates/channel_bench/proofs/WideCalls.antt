@@ -9,10 +9,10 @@ use Rattle.channel_bench.proofs.Common.{narrows, falls_narrow, releases_again, r
 use Rattle.channel_bench.proofs.Common.{goes_on, is_down, releases, is_refused, makes}
 use Rattle.std.specs.Prelude.{List, ◌∷◌}
 use Rattle.link_machine.specs.Event.{Event}
-use Rattle.link_machine.specs.Event.Event.{Connect, Send, Disconnect, Tick}
+use Rattle.link_machine.specs.Event.Event.{Connect, Send, Disconnect, Seize, Tick}
 use Rattle.link_machine.specs.Machine.{is_wide}
 use Rattle.link_machine.specs.Turn.{Turn}
-use Rattle.link_steps.proofs.Rows.{Hears, IsAsking, IsConnect, IsDeclined, IsT1Tick, flush_traffic}
+use Rattle.link_steps.proofs.Rows.{Hears, IsAsking, IsConnect, IsDeclined, IsT1Tick}
 use Rattle.link_steps.proofs.Traffic.{traffic_mode}
 use Rattle.station_laws.proofs.LinkDid.{HearsAsk, HearsWrong, ask_is, wrong_is}
 
@@ -38,6 +38,7 @@ declined_asks m (Send packet) calling h = h
 declined_asks m Disconnect calling h = h
 declined_asks m (Hear frame) calling h = h calling
 declined_asks m (Tick still) calling h = h
+declined_asks m (Seize last full) calling h = h
 
 row_wide :
     (m : Machine) (event : Event) (t : Turn) → IsPlain m event → Row m event t → IsWideCall t.now
@@ -77,9 +78,8 @@ settles_wide :
     (m : Machine) (event : Event) (t u : Turn) → Settles t u → (IsWideCall t.now → WasWide m event t.sent)
     → IsWideCall u.now → WasWide m event u.sent
 settles_wide m event t u (is_down down) was h = was h
-settles_wide m event t u (goes_on up run) was h =
-    let clash : Up ≡ Calling = sym up ∙ sym (traffic_mode (flush_traffic run)).0 ∙ h.state in absurd (cc)
-settles_wide m event t u (releases up run quitting) was h =
+settles_wide m event t u (goes_on up) was h = let clash : Up ≡ Calling = sym up ∙ h.state in absurd (cc)
+settles_wide m event t u (releases up quitting) was h =
     let clash : Releasing ≡ Calling = h.state in absurd (cc)
 
 pub step_wide : (m : Machine) (event : Event) → IsPlain m event → IsWideCall (step m event).now

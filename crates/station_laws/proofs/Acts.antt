@@ -4,14 +4,15 @@ use Rattle.station_laws.proofs.Common.{◌≡◌, ℕ, ◌+◌, ◌-◌, ◌<◌
 use Rattle.station_laws.proofs.Common.{drop, Option, Some, refl, sym, ap, ◌∙◌, subst, arith, ⊤, append_assoc}
 use Rattle.station_laws.proofs.Common.{length-append, length-map, Callsign, Frame, Params, Machine, SentIn, sent_kind}
 use Rattle.station_laws.proofs.Common.{step, End, kept, near_kept, Tagged, asks, RecordedEnd, Happening, behind, seen}
-use Rattle.station_laws.proofs.Common.{tagged, Connects, Sends, Disconnects, Ticks, Hears, World, near_turn, staying}
+use Rattle.station_laws.proofs.Common.{tagged, Connects, Sends, Disconnects, Seizes, Ticks, Hears, World, near_turn}
+use Rattle.station_laws.proofs.Common.{staying}
 use Rattle.station_laws.proofs.Common.{read_in, hearing_as, hearing_first, turn_of, step_keeps, event_of, event_at}
 use Rattle.station_laws.proofs.Common.{link_event, Link, Links, is_between, link_at, Turn, Pair, marks_from}
 use Rattle.station_laws.proofs.Common.{event_at_end, IsMachineOf, LinkFrame}
 use Rattle.std.specs.List.{AllByRecursion as Each}
 use Rattle.link_machine.specs.Event.{Event as LinkEvent}
 use Rattle.link_machine.specs.Event.Event.{Connect as LinkConnect, Send as LinkSend, Disconnect as LinkDisconnect}
-use Rattle.link_machine.specs.Event.Event.{Hear as LinkHear, Tick as LinkTick}
+use Rattle.link_machine.specs.Event.Event.{Hear as LinkHear, Seize as LinkSeize, Tick as LinkTick}
 use Rattle.link_machine.specs.Turn.{Turn as LinkTurn}
 use Rattle.link_world.specs.Recorded.{end_turn_of, hears_ask}
 use Rattle.station_laws.proofs.Causes.{cause_of, NotHeard}
@@ -203,6 +204,10 @@ own_asked s e back turn w key link (LinkTick waiting) asked H at is =
     with_back s back w.a.towards (event_at key (LinkTick waiting) turn) _ H.back_is
     (own_turned s back w.a.towards turn w key link (LinkTick waiting) (Ticks waiting) (λ never. absurd (cc)) H at is
     (ap (λ m. step m (LinkTick waiting)) (own_machine s back turn w key link H at is)))
+own_asked s e back turn w key link (LinkSeize last full) asked H at is =
+    with_back s back w.a.towards (event_at key (LinkSeize last full) turn) _ H.back_is
+    (own_turned s back w.a.towards turn w key link (LinkSeize last full) (Seizes last full) (λ never. absurd (cc)) H at
+    is (ap (λ m. step m (LinkSeize last full)) (own_machine s back turn w key link H at is)))
 
 -- the frame in front is heard, as it is read
 pub own_heard :
@@ -248,6 +253,7 @@ asked_told e w machine (LinkSend packet) asked is = ap (λ m. (step m (LinkSend 
 asked_told e w machine LinkDisconnect asked is = ap (λ m. (step m LinkDisconnect).told) is
 asked_told e w machine (LinkHear frame) asked is = absurd asked
 asked_told e w machine (LinkTick waiting) asked is = ap (λ m. (step m (LinkTick waiting)).told) is
+asked_told e w machine (LinkSeize last full) asked is = ap (λ m. (step m (LinkSeize last full)).told) is
 
 -- what stays in flight to it
 pub asked_stays :
@@ -258,6 +264,7 @@ asked_stays e (LinkSend packet) towards back asked is = is
 asked_stays e LinkDisconnect towards back asked is = is
 asked_stays e (LinkHear frame) towards back asked is = absurd asked
 asked_stays e (LinkTick waiting) towards back asked is = is
+asked_stays e (LinkSeize last full) towards back asked is = is
 
 -- which of the frames that it sends are SABM, SABME or DISC
 abbrev pub is_asking : Tagged → Bool
@@ -291,6 +298,9 @@ asked_asking e w machine (LinkHear frame) asked is = absurd asked
 asked_asking e w machine (LinkTick waiting) asked is =
     turn_asking (Ticks waiting) w.a.end (step w.a.end.machine (LinkTick waiting))
     ∙ ap (λ m. map asks_when_sent (step m (LinkTick waiting)).sent) is
+asked_asking e w machine (LinkSeize last full) asked is =
+    turn_asking (Seizes last full) w.a.end (step w.a.end.machine (LinkSeize last full))
+    ∙ ap (λ m. map asks_when_sent (step m (LinkSeize last full)).sent) is
 
 -- what is heard is the frame in front, as it is read
 pub record FrontRead (frame : Frame) (w : World) : Type 0 where
@@ -308,6 +318,7 @@ ReadsFront (LinkSend packet) w = ⊤
 ReadsFront LinkDisconnect w = ⊤
 ReadsFront (LinkHear frame) w = FrontRead frame w
 ReadsFront (LinkTick waiting) w = ⊤
+ReadsFront (LinkSeize last full) w = ⊤
 
 pub asked_reads : (event : LinkEvent) (w : World) → IsAsked event → ReadsFront event w
 asked_reads LinkConnect w asked = tt
@@ -315,6 +326,7 @@ asked_reads (LinkSend packet) w asked = tt
 asked_reads LinkDisconnect w asked = tt
 asked_reads (LinkHear frame) w asked = absurd asked
 asked_reads (LinkTick waiting) w asked = tt
+asked_reads (LinkSeize last full) w asked = tt
 
 -- the machine after it
 pub asked_next :
@@ -325,6 +337,7 @@ asked_next e w machine (LinkSend packet) asked is = ap (λ m. (step m (LinkSend 
 asked_next e w machine LinkDisconnect asked is = ap (λ m. (step m LinkDisconnect).now) is
 asked_next e w machine (LinkHear frame) asked is = absurd asked
 asked_next e w machine (LinkTick waiting) asked is = ap (λ m. (step m (LinkTick waiting)).now) is
+asked_next e w machine (LinkSeize last full) asked is = ap (λ m. (step m (LinkSeize last full)).now) is
 
 pub heard_next :
     (e : End) (f : Tagged) (g : Frame) (rest : List Tagged) (w : World) (machine : Machine) (frame : Frame)

@@ -7,7 +7,7 @@ use Rattle.station_laws.proofs.Common.{changes_by, all_changes_by, FollowsAll, L
 use Rattle.link_machine.specs.Step.{step as link_turn}
 use Rattle.link_machine.specs.Event.{Event as LinkEvent}
 use Rattle.link_machine.specs.Event.Event.{Connect as LinkConnect, Send as LinkSend, Disconnect as LinkDisconnect}
-use Rattle.link_machine.specs.Event.Event.{Hear as LinkHear, Tick as LinkTick}
+use Rattle.link_machine.specs.Event.Event.{Hear as LinkHear, Seize as LinkSeize, Tick as LinkTick}
 use Rattle.station_laws.proofs.Acts.{Setting, Holds, ReadsFront, is_asking, asks_when_sent}
 
 -- ---- changes as their end sees them
@@ -44,11 +44,13 @@ kept_seen A (LinkSend packet) ms w = refl
 kept_seen A LinkDisconnect ms w = refl
 kept_seen A (LinkHear frame) ms w = refl
 kept_seen A (LinkTick waiting) ms w = refl
+kept_seen A (LinkSeize last full) ms w = refl
 kept_seen B LinkConnect ms w = refl
 kept_seen B (LinkSend packet) ms w = refl
 kept_seen B LinkDisconnect ms w = refl
 kept_seen B (LinkHear frame) ms w = refl
 kept_seen B (LinkTick waiting) ms w = refl
+kept_seen B (LinkSeize last full) ms w = refl
 
 made_seen : (e : End) (path : Path) (w : World) → seen_from e (changed w (Makes e path))
     ≡ near_made path (seen_from e w)

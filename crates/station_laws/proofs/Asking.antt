@@ -9,7 +9,7 @@ use Rattle.station_laws.proofs.Common.{StationState, heard_steps, each_weaker, a
 use Rattle.std.specs.List.{AllByRecursion as Each}
 use Rattle.link_machine.specs.Event.{Event as LinkEvent}
 use Rattle.link_machine.specs.Event.Event.{Send as LinkSend, Hear as LinkHear, Tick as LinkTick, Connect as LinkConnect}
-use Rattle.link_machine.specs.Event.Event.{Disconnect as LinkDisconnect}
+use Rattle.link_machine.specs.Event.Event.{Disconnect as LinkDisconnect, Seize as LinkSeize}
 use Rattle.station.specs.Turn.{begin}
 use Rattle.station_laws.specs.HostsAsk.{AsksNothing, OctetsAskBy, OctetsAskNothing, HostsAskNothing}
 use Rattle.station_laws.proofs.Causes.{Cause, cause_of}
@@ -53,6 +53,7 @@ of_none (LinkSend packet) none = tt
 of_none LinkDisconnect none = none
 of_none (LinkHear frame) none = tt
 of_none (LinkTick waiting) none = tt
+of_none (LinkSeize last full) none = tt
 
 abbrev Asks : Turn → List LinkStep → Turn → Type 0
 Asks turn steps after = AllOfNone steps
@@ -64,6 +65,7 @@ asks_kept chosen = record {
       same = λ t. tt;
       on = λ t u v. each_append OfNoHost;
       events = λ key event t none. event_asks chosen None key event t (of_none event none);
+      asked = λ key t. tt;
     };
     called = λ id key message route t none. absurd none;
     replies = λ id message t other. tt;

@@ -3,14 +3,14 @@
 use Rattle.station_laws.proofs.Common.{◌≡◌, true, false, [], ◌∷◌, refl, sym, ap, ◌∙◌, subst, ⊤, list_any, false≢true}
 use Rattle.station_laws.proofs.Common.{Dm, Control, LinkState, Idle, Calling, Up, Releasing, Machine, sent_in}
 use Rattle.station_laws.proofs.Common.{SetupSent, step, begin, names_valid, IsConnect, IsDisconnect, Row, Settles}
-use Rattle.station_laws.proofs.Common.{Stepped, flush_traffic, rests_traffic, step_is, agrees, calls_again, connects}
+use Rattle.station_laws.proofs.Common.{Stepped, rests_traffic, step_is, agrees, calls_again, connects}
 use Rattle.station_laws.proofs.Common.{declines, ends_by_disc, ends_by_dm, ends_call, gives_up, is_answered, is_called}
 use Rattle.station_laws.proofs.Common.{is_called_again, narrows, falls_narrow, releases_again, resets, rests, takes}
 use Rattle.station_laws.proofs.Common.{wishes, works}
 use Rattle.station_laws.proofs.Common.{goes_on, is_down, releases, is_refused, Traffic, IsOfNoHost}
 use Rattle.link_machine.specs.Event.{Event as LinkEvent}
 use Rattle.link_machine.specs.Event.Event.{Connect as LinkConnect, Send as LinkSend, Disconnect as LinkDisconnect}
-use Rattle.link_machine.specs.Event.Event.{Hear as LinkHear, Tick as LinkTick}
+use Rattle.link_machine.specs.Event.Event.{Hear as LinkHear, Seize as LinkSeize, Tick as LinkTick}
 use Rattle.link_machine.specs.Turn.{Turn}
 use Rattle.link_steps.proofs.Rows.{Hears, IsWrong}
 use Rattle.link_steps.proofs.Rows.Stepped.{makes}
@@ -51,6 +51,7 @@ HearsValid (LinkSend packet) m = ⊤
 HearsValid LinkDisconnect m = ⊤
 HearsValid (LinkHear frame) m = IsLinkKind frame.kind × (m.control.state ≡ Up → names_valid m frame.kind ≡ true)
 HearsValid (LinkTick waiting) m = ⊤
+HearsValid (LinkSeize last full) m = ⊤
 
 begins_calm : (m : Machine) → IsCalm m.control → CalmTurn (begin m)
 begins_calm m calm = record { control = calm; asked = refl }
@@ -63,6 +64,7 @@ no_connect (LinkSend packet) host h = h
 no_connect LinkDisconnect host h = h
 no_connect (LinkHear frame) host h = h
 no_connect (LinkTick waiting) host h = h
+no_connect (LinkSeize last full) host h = h
 
 no_disconnect : (event : LinkEvent) → IsOfNoHost event → IsDisconnect event → ⊥
 no_disconnect LinkConnect host h = h
@@ -70,6 +72,7 @@ no_disconnect (LinkSend packet) host h = h
 no_disconnect LinkDisconnect host h = host
 no_disconnect (LinkHear frame) host h = h
 no_disconnect (LinkTick waiting) host h = h
+no_disconnect (LinkSeize last full) host h = h
 
 no_wrong : (m : Machine) (event : LinkEvent) → HearsValid event m → m.control.state ≡ Up → Hears (IsWrong m) event → ⊥
 no_wrong m LinkConnect valid up h = h
@@ -77,6 +80,7 @@ no_wrong m (LinkSend packet) valid up h = h
 no_wrong m LinkDisconnect valid up h = h
 no_wrong m (LinkHear frame) valid up h = wrong_kind m frame.kind up h valid
 no_wrong m (LinkTick waiting) valid up h = h
+no_wrong m (LinkSeize last full) valid up h = h
 
 -- ---- each row
 
@@ -122,10 +126,8 @@ row_calm m event t host valid calm (wishes wishing) = absurd (no_disconnect even
 
 pub settles_calm : (t u : Turn) → Settles t u → CalmTurn t → CalmTurn u
 settles_calm t u (is_down down) h = h
-settles_calm t u (goes_on up run) h = still_calm t u (traffic_still (flush_traffic run)) h
-settles_calm t u (releases {u = v} up run quitting) h =
-    let calm = still_calm t v (traffic_still (flush_traffic run)) h in
-    absurd (false≢true (sym calm.control.quit ∙ quitting))
+settles_calm t u (goes_on up) h = h
+settles_calm t u (releases up quitting) h = absurd (false≢true (sym h.control.quit ∙ quitting))
 
 stepped_calm :
     (m : Machine) (event : LinkEvent) (u : Turn) → IsOfNoHost event → HearsValid event m → IsCalm m.control

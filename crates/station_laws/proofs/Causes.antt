@@ -1,5 +1,5 @@
 -- What the events of links come from.
-use Rattle.station_laws.proofs.Common.{⊤, Event, Connect, Send, Disconnect, Hear, Tick}
+use Rattle.station_laws.proofs.Common.{⊤, Event, Connect, Send, Disconnect, Hear, Seize, Tick}
 
 pub data Cause : Type 0 where
   -- nothing that is an event of a link
@@ -16,6 +16,7 @@ cause_of (Send packet) = sending
 cause_of Disconnect = disconnecting
 cause_of (Hear frame) = hearing
 cause_of (Tick waiting) = ticking
+cause_of (Seize last full) = ticking
 
 -- host programs and the clock
 abbrev pub NotHeard : Cause → Type 0

@@ -13,7 +13,7 @@ use Rattle.station_laws.proofs.Common.{IsOfNoHost, link_steps_at}
 use Rattle.std.specs.List.{AllByRecursion as Each}
 use Rattle.link_machine.specs.Event.{Event as LinkEvent}
 use Rattle.link_machine.specs.Event.Event.{Connect as LinkConnect, Send as LinkSend, Disconnect as LinkDisconnect}
-use Rattle.link_machine.specs.Event.Event.{Hear as LinkHear, Tick as LinkTick}
+use Rattle.link_machine.specs.Event.Event.{Hear as LinkHear, Seize as LinkSeize, Tick as LinkTick}
 use Rattle.link_machine.specs.Step.{step as link_turn}
 use Rattle.station_laws.proofs.Acts.{ReadsFront, is_asking}
 use Rattle.station_laws.proofs.Along.{AllFollowNear, FollowsNear, by_seen, changes_seen, makes_near, makes_seen}
@@ -69,6 +69,7 @@ reads_link (LinkSend packet) x reads = tt
 reads_link LinkDisconnect x reads = tt
 reads_link (LinkHear frame) x reads = reads.of_link
 reads_link (LinkTick waiting) x reads = tt
+reads_link (LinkSeize last full) x reads = tt
 
 near_link :
     (e : End) (back : List Tagged) (pairs : List Pair) (n : ℕ) (steps : List LinkStep) (v : World)
@@ -178,6 +179,7 @@ no_ask (LinkHear frame) x reads none ask =
     reads.as_read reads.reading front in
     not_both (asks frame.kind) ask (ap asks (sym reads.kind) ∙ read)
 no_ask (LinkTick waiting) x reads none ask = ask
+no_ask (LinkSeize last full) x reads none ask = ask
 
 -- nor one that resets the link
 none_wrong : (event : LinkEvent) (m : Machine) → HearsValid event m → HearsWrong m event → ⊥
@@ -186,6 +188,7 @@ none_wrong (LinkSend packet) m valid wrong = wrong
 none_wrong LinkDisconnect m valid wrong = wrong
 none_wrong (LinkHear frame) m valid wrong = wrong valid
 none_wrong (LinkTick waiting) m valid wrong = wrong
+none_wrong (LinkSeize last full) m valid wrong = wrong
 
 well_near :
     (e : End) (back : List Tagged) (pairs : List Pair) (n : ℕ) (steps : List LinkStep) (v : World)

@@ -24,7 +24,7 @@ pub use Rattle.kiss_port.specs.declared.item.KissItem.{KissItem}
 pub use Rattle.kiss_port.specs.declared.item.KissItem.TheVariants.{Hardware, Return, Set, TooLong}
 pub use Rattle.link_machine.specs.Acts.{release}
 pub use Rattle.link_machine.specs.Event.{Event}
-pub use Rattle.link_machine.specs.Event.Event.{Connect, Disconnect, Hear, Send, Tick}
+pub use Rattle.link_machine.specs.Event.Event.{Connect, Disconnect, Hear, Seize, Send, Tick}
 pub use Rattle.link_machine.specs.Machine.{Machine, modulus_named, new_machine}
 pub use Rattle.link_machine.specs.Params.{default_params}
 pub use Rattle.link_machine.specs.Sent.{Sent, SentIn, sent_frame, sent_in, sent_kind}
@@ -41,8 +41,8 @@ pub use Rattle.link_machine.specs.declared.control.Control.{Control}
 pub use Rattle.link_machine.specs.declared.params.Params.{Params}
 pub use Rattle.link_machine.specs.declared.state.LinkState.{LinkState}
 pub use Rattle.link_machine.specs.declared.state.LinkState.TheVariants.{Calling, Idle, Releasing, Up}
-pub use Rattle.link_steps.proofs.Rows.{IsAsking, IsConnect, IsDisconnect, Row, Settles, Stepped, flush_traffic}
-pub use Rattle.link_steps.proofs.Rows.{rests_traffic, step_is}
+pub use Rattle.link_steps.proofs.Rows.{IsAsking, IsConnect, IsDisconnect, Row, Settles, Stepped, rests_traffic}
+pub use Rattle.link_steps.proofs.Rows.{step_is}
 pub use Rattle.link_steps.proofs.Rows.Rests.{as_timed}
 pub use Rattle.link_steps.proofs.Rows.Row.{agrees, calls_again, connects, declines, ends_by_disc, ends_by_dm, ends_call}
 pub use Rattle.link_steps.proofs.Rows.Row.{gives_up, is_answered, is_called, is_called_again, narrows, falls_narrow}
@@ -51,8 +51,8 @@ pub use Rattle.link_steps.proofs.Rows.Row.{resets, rests, takes, wishes, works}
 pub use Rattle.link_steps.proofs.Rows.Settles.{goes_on, is_down, releases}
 pub use Rattle.link_steps.proofs.Rows.Stepped.{is_refused}
 pub use Rattle.link_steps.proofs.Traffic.{Single, Traffic, traffic_mode}
-pub use Rattle.link_steps.proofs.Traffic.Single.{acknowledges, flushes, gives, goes_back, repeats, reports, stores}
-pub use Rattle.link_steps.proofs.Traffic.Single.{times}
+pub use Rattle.link_steps.proofs.Traffic.Single.{acknowledges, forgets, gives, goes_back, informs, picks, reports}
+pub use Rattle.link_steps.proofs.Traffic.Single.{selects, stores, times}
 pub use Rattle.link_world.proofs.StepGrowth.{step_keeps}
 pub use Rattle.link_world.proofs.law.ChangesLaw.{changes_law_holds}
 pub use Rattle.link_world.proofs.law.Each.{each_append, each_weaker}
@@ -64,7 +64,7 @@ pub use Rattle.link_world.specs.Law.{first_names_valid, hears_valid, names_valid
 pub use Rattle.link_world.specs.Quiet.{is_alone, sends_alone}
 pub use Rattle.link_world.specs.Reading.{frame_read, info_read_wide, kind_read, with_kind}
 pub use Rattle.link_world.specs.Recorded.{Happening, RecordedEnd, behind, seen, tagged}
-pub use Rattle.link_world.specs.Recorded.Happening.{Connects, Disconnects, Hears, Sends, Ticks}
+pub use Rattle.link_world.specs.Recorded.Happening.{Connects, Disconnects, Hears, Seizes, Sends, Ticks}
 pub use Rattle.link_world.specs.Windows.{WindowsFit}
 pub use Rattle.link_world.specs.World.{Side, World, happening, hearing_as, hearing_first, near_turn, other, read_in}
 pub use Rattle.link_world.specs.World.{seen_from, staying, turn_of}
@@ -80,6 +80,7 @@ pub use Rattle.station.specs.AgwRequests.{may_call, monitor_toggled, most_inform
 pub use Rattle.station.specs.AgwRequests.{pending_reply, ports_reply, queueing_raw, refused_reply, register_reply}
 pub use Rattle.station.specs.AgwRequests.{registering, replying, sending_unnumbered, toggled, unnumbered_frame}
 pub use Rattle.station.specs.AgwRequests.{unregistering, version_reply, waiting_reply, with_registration}
+pub use Rattle.station.specs.Asking.{asked_key, asking, asking_at, seizing, with_asked}
 unfoldable pub use Rattle.station.specs.CallFields.{call_of_text}
 pub use Rattle.station.specs.CallFields.{call_in}
 pub use Rattle.station.specs.Connections.{Connection, connection_of, most_connections}
@@ -102,7 +103,7 @@ pub use Rattle.station.specs.Registrations.{is_number, may_register, registrar}
 pub use Rattle.station.specs.Routes.{Route, behind_repeaters, path_along, repeaters_in, route_in}
 pub use Rattle.station.specs.State.{StationState, new_station}
 unfoldable pub use Rattle.station.specs.Ticks.{ticking_links}
-pub use Rattle.station.specs.Ticks.{t1_stands, ticking, ticking_at, waits}
+pub use Rattle.station.specs.Ticks.{asked_links, t1_stands, ticking, ticking_at, waits}
 pub use Rattle.station.specs.Turn.{Act, Out, Turn, capacity, changing, closing, dropping, entering, in_order, queueing}
 pub use Rattle.station.specs.declared.config.Config.{Config}
 pub use Rattle.station.specs.declared.host_event.HostEvent.{HostEvent}
@@ -124,7 +125,8 @@ pub use Rattle.station_laws.specs.LinkOfCalls.{Calls, Counts, FollowsAll, Follow
 pub use Rattle.station_laws.specs.LinkOfCalls.{all_changes_by, changes_by, changes_from, changes_of, count_at}
 pub use Rattle.station_laws.specs.LinkOfCalls.{event_at_end, first_world, heard_at, is_named, link_at_end, makes}
 pub use Rattle.station_laws.specs.LinkOfCalls.{marks_from, path_between, with_more}
-pub use Rattle.station_laws.specs.LinkSteps.{Choice, LinkStep, anew_steps, answer_steps, by_path_steps, call_steps}
+pub use Rattle.station_laws.specs.LinkSteps.{Choice, LinkStep, anew_steps, answer_steps, asked_at, asking_steps}
+pub use Rattle.station_laws.specs.LinkSteps.{by_path_steps, call_steps}
 pub use Rattle.station_laws.specs.LinkSteps.{data_steps, disconnect_steps, else_steps, ending_steps, given_up}
 pub use Rattle.station_laws.specs.LinkSteps.{gives_up_at, heard_steps, hears_at, host_steps, key_steps, leaving_steps}
 pub use Rattle.station_laws.specs.LinkSteps.{link_step, made_steps, message_steps, new_steps, octet_steps}

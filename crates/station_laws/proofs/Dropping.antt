@@ -5,7 +5,8 @@ use Rattle.station_laws.proofs.Common.{length-append, length-map, Callsign, way_
 use Rattle.station_laws.proofs.Common.{SentFrame, Told, sent_frame, done_of, each_append, replying, with_registration}
 use Rattle.station_laws.proofs.Common.{called_pid, shown_to_hosts, without_owner, settled_link, telling_one, telling_to}
 use Rattle.station_laws.proofs.Common.{queueing_frame, queueing_frames, link_event, event_of, event_at, with_links}
-use Rattle.station_laws.proofs.Common.{Link, link_at, with_link, making, no_layer_3, path_along, ticking, Turn}
+use Rattle.station_laws.proofs.Common.{Link, link_at, with_link, making, no_layer_3, path_along, ticking, with_asked}
+use Rattle.station_laws.proofs.Common.{Turn}
 use Rattle.station_laws.proofs.Common.{changing, closing, queueing, entering, dropping, capacity, Input, IsTurn, Step}
 use Rattle.station_laws.proofs.Common.{FromHost, OffAir, OfClock, LinkStep, Choice, link_step, steps_for, steps_at}
 use Rattle.station_laws.proofs.Common.{turn_steps, steps_of, DropsNoAsk, StationState, heard_steps}
@@ -160,6 +161,7 @@ joins_kept chosen = record {
       same = λ turn. same_joins turn turn refl;
       on = joins_on;
       events = λ key event turn may. event_joins chosen None key event turn;
+      asked = λ key turn. same_joins turn (changing (with_asked key) turn) refl;
     };
     called = λ host key message route turn may is room new.
         made_joins chosen (path_along route) key host (called_pid message) route.local route.remote LinkConnect turn;

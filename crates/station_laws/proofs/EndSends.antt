@@ -5,12 +5,13 @@ use Rattle.station_laws.proofs.Common.{None, refl, sym, ap, ◌∙◌, subst, ar
 use Rattle.station_laws.proofs.Common.{Kind, Info, Super, Setup, Ui, Other, Sabm, Sabme, Disc, Dm, Ua, Up}
 use Rattle.station_laws.proofs.Common.{modulus_named, Sent, SentIn, sent_kind, InfoSent, SetupSent, SuperSent, step}
 use Rattle.station_laws.proofs.Common.{End, Tagged, answers_in, asks, asks_in, is_answer, Happening, RecordedEnd}
-use Rattle.station_laws.proofs.Common.{behind, seen, tagged, Connects, Sends, Disconnects, Ticks, Hears, happening}
+use Rattle.station_laws.proofs.Common.{behind, seen, tagged, Connects, Sends, Disconnects, Seizes, Ticks, Hears}
+use Rattle.station_laws.proofs.Common.{happening}
 use Rattle.station_laws.proofs.Common.{hearing_as, read_in, staying, turn_of, event_at_end}
 use Rattle.std.specs.List.{AllByRecursion as Each}
 use Rattle.link_machine.specs.Event.{Event as LinkEvent}
 use Rattle.link_machine.specs.Event.Event.{Connect as LinkConnect, Send as LinkSend, Disconnect as LinkDisconnect}
-use Rattle.link_machine.specs.Event.Event.{Hear as LinkHear, Tick as LinkTick}
+use Rattle.link_machine.specs.Event.Event.{Hear as LinkHear, Seize as LinkSeize, Tick as LinkTick}
 use Rattle.link_world.specs.Recorded.{hears_ask}
 use Rattle.station_laws.proofs.Acts.{asks_when_sent}
 use Rattle.station_laws.proofs.Counts.{count_cons, count_none, one, one_less}
@@ -107,6 +108,7 @@ takes e LinkDisconnect modulus towards = takes_none (Some Disconnects) towards r
 takes e (LinkHear frame) modulus [] = takes_none None [] refl refl
 takes e (LinkHear frame) modulus (f ∷ rest) = takes_front modulus f rest (read_in modulus f) refl
 takes e (LinkTick waiting) modulus towards = takes_none (Some (Ticks waiting)) towards refl refl
+takes e (LinkSeize last full) modulus towards = takes_none (Some (Seizes last full)) towards refl refl
 
 -- ---- what is sent
 
@@ -211,6 +213,7 @@ same_asking Connects = refl
 same_asking (Sends packet) = refl
 same_asking Disconnects = refl
 same_asking (Ticks waiting) = refl
+same_asking (Seizes last full) = refl
 same_asking (Hears f) = refl
 
 pub end_makes : (o : Option Happening) (r : RecordedEnd) → Makes o r

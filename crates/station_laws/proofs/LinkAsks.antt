@@ -1,12 +1,13 @@
 -- What a link sends in an event, row by row.
 use Rattle.station_laws.proofs.Common.{◌≡◌, ◌==◌, Bool, true, false, refl, sym, ◌∙◌, subst, Kind, Info, Super, Setup}
 use Rattle.station_laws.proofs.Common.{Ui, Other, U, Sabm, Sabme, Disc, Dm, Ua, Event, Connect, Send, Disconnect, Hear}
-use Rattle.station_laws.proofs.Common.{Tick, Machine, sent_in, SetupSent, step, begin, LinkState, Up, IsAsking, Row}
-use Rattle.station_laws.proofs.Common.{Settles, Stepped, flush_traffic, rests_traffic, step_is, agrees, calls_again}
+use Rattle.station_laws.proofs.Common.{Seize, Tick, Machine, sent_in, SetupSent, step, begin, LinkState, Up, IsAsking}
+use Rattle.station_laws.proofs.Common.{Row}
+use Rattle.station_laws.proofs.Common.{Settles, Stepped, rests_traffic, step_is, agrees, calls_again}
 use Rattle.station_laws.proofs.Common.{connects, declines, ends_by_disc, ends_by_dm, ends_call, gives_up, is_answered}
 use Rattle.station_laws.proofs.Common.{is_called, is_called_again, narrows, falls_narrow, releases_again, resets, rests}
 use Rattle.station_laws.proofs.Common.{takes}
-use Rattle.station_laws.proofs.Common.{wishes, works, goes_on, is_down, releases, is_refused, traffic_mode}
+use Rattle.station_laws.proofs.Common.{wishes, works, goes_on, is_down, releases, is_refused}
 use Rattle.link_machine.specs.Acts.{calling_frame}
 use Rattle.link_machine.specs.Frames.{open_answered}
 use Rattle.link_machine.specs.Machine.{is_wide}
@@ -15,7 +16,7 @@ use Rattle.link_machine.specs.Turn.{Turn}
 use Rattle.link_steps.proofs.Rows.{Hears, IsDown, IsUa, IsUaSetup, rests_mode}
 use Rattle.link_steps.proofs.Rows.Stepped.{makes}
 use Rattle.station_laws.proofs.LinkDid.{asks_is}
-use Rattle.station_laws.proofs.Sends.{Sends, ends, flushed, hears_asking, hears_ua, is_ua, is_ua_frame, numbers, opened}
+use Rattle.station_laws.proofs.Sends.{Sends, ends, hears_asking, hears_ua, is_ua, is_ua_frame, numbers, opened}
 use Rattle.station_laws.proofs.Sends.{released, sends_one, stands}
 use Rattle.station_laws.proofs.StillActs.{still_none, still_same, traffic_still}
 
@@ -37,6 +38,7 @@ asking_is (Send packet) h = absurd h
 asking_is Disconnect h = absurd h
 asking_is (Hear frame) h = asks_is frame.kind h
 asking_is (Tick waiting) h = absurd h
+asking_is (Seize last full) h = absurd h
 
 setup_is_ua : (which : U) → IsUaSetup which → is_ua_frame which ≡ true
 setup_is_ua Sabm h = absurd h
@@ -58,6 +60,7 @@ ua_is (Send packet) h = absurd h
 ua_is Disconnect h = absurd h
 ua_is (Hear frame) h = kind_is_ua frame.kind h
 ua_is (Tick waiting) h = absurd h
+ua_is (Seize last full) h = absurd h
 
 abbrev SendsIn : Machine → Event → Turn → Type 0
 SendsIn m event u = Sends m (hears_asking event) (hears_ua event) u
@@ -129,10 +132,8 @@ row_sends m event u (wishes wishing) =
 
 settles_send : (m : Machine) (asking ua : Bool) (t u : Turn) → Sends m asking ua t → Settles t u → Sends m asking ua u
 settles_send m asking ua t u h (is_down down) = h
-settles_send m asking ua t u h (goes_on up run) = flushed m asking ua t u h (traffic_still (flush_traffic run))
-settles_send m asking ua t u h (releases {u = v} up run quitting) =
-    released m asking ua v ((traffic_mode (flush_traffic run)).0 ∙ up) quitting
-    (flushed m asking ua t v h (traffic_still (flush_traffic run)))
+settles_send m asking ua t u h (goes_on up) = h
+settles_send m asking ua t u h (releases up quitting) = released m asking ua t up quitting h
 
 stepped_sends : (m : Machine) (event : Event) (u : Turn) → Stepped m event u → SendsIn m event u
 stepped_sends m event u is_refused =

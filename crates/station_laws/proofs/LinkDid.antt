@@ -1,17 +1,17 @@
 -- What an event of a link does to its set-up and to a wish to disconnect, row by row.
-use Rattle.station_laws.proofs.Common.{◌≡◌, Bool, true, false, List, [], ◌∷◌, ◌++◌, refl, sym, ap, ◌∙◌, ⊤, append_assoc}
+use Rattle.station_laws.proofs.Common.{◌≡◌, Bool, true, false, List, [], ◌∷◌, ◌++◌, refl, ap, ⊤, append_assoc}
 use Rattle.station_laws.proofs.Common.{Kind, Info, Super, Setup, Ui, Other, Told, Opened, Ended, Why, Failed, Peer}
 use Rattle.station_laws.proofs.Common.{Reset, Idle, Calling, Up, Releasing, Event, Connect, Send, Disconnect, Hear}
-use Rattle.station_laws.proofs.Common.{Tick, Machine, step, begin, asks, names_valid, IsAsking, IsConnect, IsDisconnect}
-use Rattle.station_laws.proofs.Common.{Row, Settles, Stepped, flush_traffic, step_is, as_timed, agrees, calls_again}
+use Rattle.station_laws.proofs.Common.{Seize, Tick, Machine, step, begin, asks, names_valid, IsAsking, IsConnect}
+use Rattle.station_laws.proofs.Common.{IsDisconnect}
+use Rattle.station_laws.proofs.Common.{Row, Settles, Stepped, step_is, as_timed, agrees, calls_again}
 use Rattle.station_laws.proofs.Common.{connects, declines, ends_by_disc, ends_by_dm, ends_call, gives_up, is_answered}
 use Rattle.station_laws.proofs.Common.{is_called_again, narrows, falls_narrow, releases_again, rests, takes, works}
 use Rattle.station_laws.proofs.Common.{goes_on, is_down}
-use Rattle.station_laws.proofs.Common.{is_refused, traffic_mode}
+use Rattle.station_laws.proofs.Common.{is_refused}
 use Rattle.link_machine.specs.Machine.{is_valid}
 use Rattle.link_machine.specs.Turn.{Turn}
-use Rattle.link_steps.proofs.Rows.{Flushes, Hears, IsWrong as IsWrongKind}
-use Rattle.link_steps.proofs.Rows.Flushes.{sends_all, sends_none}
+use Rattle.link_steps.proofs.Rows.{Hears, IsWrong as IsWrongKind}
 use Rattle.link_steps.proofs.Rows.Row.{is_called as opens_called, resets as calls_anew, wishes as quits}
 use Rattle.link_steps.proofs.Rows.Settles.{releases as is_released}
 use Rattle.link_steps.proofs.Rows.Stepped.{makes}
@@ -59,6 +59,7 @@ is_connect (Send packet) = false
 is_connect Disconnect = false
 is_connect (Hear frame) = false
 is_connect (Tick waiting) = false
+is_connect (Seize last full) = false
 
 abbrev pub is_disconnect : Event → Bool
 is_disconnect Connect = false
@@ -66,6 +67,7 @@ is_disconnect (Send packet) = false
 is_disconnect Disconnect = true
 is_disconnect (Hear frame) = false
 is_disconnect (Tick waiting) = false
+is_disconnect (Seize last full) = false
 
 -- a SABM, SABME or DISC is heard
 abbrev pub HearsAsk : Event → Type 0
@@ -74,6 +76,7 @@ HearsAsk (Send packet) = ⊥
 HearsAsk Disconnect = ⊥
 HearsAsk (Hear frame) = asks frame.kind ≡ true
 HearsAsk (Tick waiting) = ⊥
+HearsAsk (Seize last full) = ⊥
 
 -- what is heard is a frame of a link
 abbrev pub IsOfLink : Event → Type 0
@@ -82,6 +85,7 @@ IsOfLink (Send packet) = ⊤
 IsOfLink Disconnect = ⊤
 IsOfLink (Hear frame) = IsLinkKind frame.kind
 IsOfLink (Tick waiting) = ⊤
+IsOfLink (Seize last full) = ⊤
 
 -- a frame that makes the link call anew
 abbrev pub HearsWrong : Machine → Event → Type 0
@@ -90,6 +94,7 @@ HearsWrong m (Send packet) = ⊥
 HearsWrong m Disconnect = ⊥
 HearsWrong m (Hear frame) = IsWrong m frame.kind
 HearsWrong m (Tick waiting) = ⊥
+HearsWrong m (Seize last full) = ⊥
 
 abbrev pub DidIn : Machine → Event → Turn → Turn → Type 0
 DidIn m event t u = Did (is_connect event ≡ true) (is_disconnect event ≡ true) (HearsAsk event) (HearsWrong m event) t u
@@ -100,6 +105,7 @@ connect_is (Send packet) h = absurd h
 connect_is Disconnect h = absurd h
 connect_is (Hear frame) h = absurd h
 connect_is (Tick waiting) h = absurd h
+connect_is (Seize last full) h = absurd h
 
 disconnect_is : (event : Event) → IsDisconnect event → is_disconnect event ≡ true
 disconnect_is Connect h = absurd h
@@ -107,6 +113,7 @@ disconnect_is (Send packet) h = absurd h
 disconnect_is Disconnect h = refl
 disconnect_is (Hear frame) h = absurd h
 disconnect_is (Tick waiting) h = absurd h
+disconnect_is (Seize last full) h = absurd h
 
 pub asks_is : (kind : Kind) → IsAsking kind → asks kind ≡ true
 asks_is (Info ns nr flag pid octets) h = absurd h
@@ -121,6 +128,7 @@ ask_is (Send packet) h = absurd h
 ask_is Disconnect h = absurd h
 ask_is (Hear frame) h = asks_is frame.kind h
 ask_is (Tick waiting) h = absurd h
+ask_is (Seize last full) h = absurd h
 
 pub wrong_kind : (m : Machine) (kind : Kind) → m.control.state ≡ Up → IsWrongKind m kind → IsWrong m kind
 wrong_kind m (Info ns nr flag pid octets) up bad = λ right. not_both (is_valid nr m) (right.1 up) bad
@@ -135,6 +143,7 @@ wrong_is m (Send packet) up h = absurd h
 wrong_is m Disconnect up h = absurd h
 wrong_is m (Hear frame) up h = wrong_kind m frame.kind up h
 wrong_is m (Tick waiting) up h = absurd h
+wrong_is m (Seize last full) up h = absurd h
 
 row_did : (m : Machine) (event : Event) (t : Turn) → Row m event t → DidIn m event (begin m) t
 row_did m event t (rests (as_timed c mode)) = gives (gives_none (begin m) _ refl mode.0 mode.1)
@@ -173,16 +182,10 @@ pub data Closes (t u : Turn) : Type 0 where
       u.told ≡ t.told → t.now.control.state ≡ Up → t.now.control.quit ≡ true → u.now.control.state ≡ Releasing
       → Closes t u
 
-flush_told : {t u : Turn} → Flushes t u → u.told ≡ t.told
-flush_told sends_none = refl
-flush_told sends_all = refl
-
 settles_closes : (t u : Turn) → Settles t u → Closes t u
 settles_closes t u (is_down down) = stays refl refl refl
-settles_closes t u (goes_on up run) =
-    let mode = traffic_mode (flush_traffic run) in stays (flush_told run) mode.0 mode.1
-settles_closes t u (is_released up run quitting) =
-    let mode = traffic_mode (flush_traffic run) in releases (flush_told run) up (sym mode.1 ∙ quitting) refl
+settles_closes t u (goes_on up) = stays refl refl refl
+settles_closes t u (is_released up quitting) = releases refl up quitting refl
 
 -- an event is refused, or its row is followed by how it ends
 pub data Steps (m : Machine) (event : Event) (u : Turn) : Type 0 where

@@ -2,19 +2,19 @@
 use Rattle.station_laws.proofs.Common.{◌≡◌, ℕ, Bool, true, false, List, [], ◌∷◌, ◌++◌, map, refl, sym, ap, ◌∙◌, subst}
 use Rattle.station_laws.proofs.Common.{inl, inr, append-nil, append_assoc, map-append, Packet, Told, Opened, Given}
 use Rattle.station_laws.proofs.Common.{Ended, Why, Failed, Peer, Reset, Idle, Calling, Up, release, Event, Machine}
-use Rattle.station_laws.proofs.Common.{step, begin, along_run, Row, Settles, Stepped, flush_traffic, step_is, as_timed}
+use Rattle.station_laws.proofs.Common.{step, begin, along_run, Row, Settles, Stepped, step_is, as_timed}
 use Rattle.station_laws.proofs.Common.{agrees, calls_again, connects, declines, ends_by_disc, ends_by_dm, ends_call}
 use Rattle.station_laws.proofs.Common.{gives_up, is_answered, is_called, is_called_again, narrows, falls_narrow}
 use Rattle.station_laws.proofs.Common.{releases_again}
 use Rattle.station_laws.proofs.Common.{resets, rests, takes, wishes, works, goes_on, is_down, releases, is_refused}
-use Rattle.station_laws.proofs.Common.{Single, Traffic, acknowledges, flushes, goes_back, repeats, reports, stores}
-use Rattle.station_laws.proofs.Common.{times, RunsIn, runs_after}
+use Rattle.station_laws.proofs.Common.{Single, Traffic, acknowledges, forgets, goes_back, informs, picks, reports}
+use Rattle.station_laws.proofs.Common.{selects, stores, times, RunsIn, runs_after}
 use Rattle.link_machine.specs.Acts.{reset}
 use Rattle.link_machine.specs.Frames.{open_again}
 use Rattle.link_machine.specs.Requests.{connect}
 use Rattle.link_machine.specs.Turn.{Turn}
 use Rattle.link_steps.proofs.Rows.Stepped.{makes}
-use Rattle.link_steps.proofs.Traffic.Single.{asks, gives as give_packets}
+use Rattle.link_steps.proofs.Traffic.Single.{gives as give_packets}
 use Rattle.station_laws.specs.LinksTell.{AreToldInOne, LinksTellInOne}
 
 -- ---- what acts tell
@@ -141,11 +141,12 @@ single_gives t u (times c mode) = gives_none t _ refl mode.0 mode.1
 single_gives t u (acknowledges n) = gives_none t _ refl refl refl
 single_gives t u goes_back = gives_none t _ refl refl refl
 single_gives t u (reports which command flag) = gives_none t _ refl refl refl
-single_gives t u flushes = gives_none t _ refl refl refl
-single_gives t u (repeats n) = gives_none t _ refl refl refl
+single_gives t u (picks again) = gives_none t _ refl refl refl
+single_gives t u (informs poll ahead left keeps) = gives_none t _ refl refl refl
 single_gives t u (give_packets packets) = record { packets = packets; told = refl; state = refl; quit = refl }
 single_gives t u (stores ahead packet) = gives_none t _ refl refl refl
-single_gives t u (asks ahead) = gives_none t _ refl refl refl
+single_gives t u (selects ahead is) = gives_none t _ refl refl refl
+single_gives t u forgets = gives_none t _ refl refl refl
 
 pub traffic_gives : {t u : Turn} → Traffic t u → Gives t u
 traffic_gives = along_run (record { same = gives_same; on = gives_on }) single_gives
@@ -218,9 +219,8 @@ row_tells m event t (wishes wishing) = tells_none (begin m) _ refl refl
 
 settles_tells : (t u : Turn) → Settles t u → Tells t u
 settles_tells t u (is_down down) = tells_none t t refl refl
-settles_tells t u (goes_on up run) = given_up t u up (traffic_gives (flush_traffic run))
-settles_tells t u (releases {u = v} up run quits) =
-    tells_on t v _ (given_up t v up (traffic_gives (flush_traffic run))) (release_tells v)
+settles_tells t u (goes_on up) = tells_none t t refl refl
+settles_tells t u (releases up quits) = release_tells t
 
 stepped_tells : (m : Machine) (event : Event) (u : Turn) → Stepped m event u → Tells (begin m) u
 stepped_tells m event u is_refused = tells_none (begin m) _ refl refl

@@ -6,7 +6,7 @@ use Rattle.station_laws.proofs.Common.{with_registration, may_call, calls, calle
 use Rattle.station_laws.proofs.Common.{IsNewKey, is_between, key_between, most_links, making, idle_link, registrar}
 use Rattle.station_laws.proofs.Common.{is_number, Route, repeaters_in, path_along, Turn, changing, closing, queueing}
 use Rattle.station_laws.proofs.Common.{entering, dropping, capacity, host_steps, first_chosen, event_at, steps_at}
-use Rattle.station_laws.proofs.Common.{tick_steps, ticking_links}
+use Rattle.station_laws.proofs.Common.{asked_links, tick_steps, with_asked}
 use Rattle.link_machine.specs.Event.Event.{Connect as LinkConnect}
 use Rattle.station.specs.AgwKinds.{connect_via_kind}
 use Rattle.station.specs.Links.{count_of_links}
@@ -101,6 +101,8 @@ goes_kept s e back = record {
       same = λ t w H. (H, tt);
       on = goes_on s e back;
       events = λ key event t asked. act_goes s e back key event t asked;
+      asked = λ key t. still_goes s e back t (changing (with_asked key) t)
+          (record { links = refl; parameters = refl; queued = refl });
     };
     called = λ id key message route t may. called_goes s e back id key message route t;
     replies = λ id message t other. still_goes s e back t (replying id message t)
@@ -124,6 +126,6 @@ host_goes s e back event before after h =
     (any_may_come event before.now) h
 
 pub ticks_go : (s : Setting) (e : End) (back : List Tagged) (busy : Bool) (turn : Turn)
-    → Goes s e back turn (tick_steps (meant s) busy turn) (ticking_links busy turn)
+    → Goes s e back turn (tick_steps (meant s) busy turn) (asked_links busy turn)
 ticks_go s e back busy turn =
     ticks_kept (meant s) NotHeard (Goes s e back) (goes_kept s e back).kept.by_events tt busy turn

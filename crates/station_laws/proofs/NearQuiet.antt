@@ -10,7 +10,7 @@ use Rattle.std.proofs.lemmas.List.{drop-map}
 use Rattle.std.proofs.lemmas.List.FromFn.{length-map-range_with_len}
 use Rattle.link_machine.specs.Event.{Event as LinkEvent}
 use Rattle.link_machine.specs.Event.Event.{Connect as LinkConnect, Send as LinkSend, Disconnect as LinkDisconnect}
-use Rattle.link_machine.specs.Event.Event.{Hear as LinkHear, Tick as LinkTick}
+use Rattle.link_machine.specs.Event.Event.{Hear as LinkHear, Seize as LinkSeize, Tick as LinkTick}
 use Rattle.link_machine.specs.Step.{step as link_turn}
 use Rattle.link_world.specs.Quiet.{called_alone, is_called, is_idle, is_sabm, begins_with_sabm}
 use Rattle.station_laws.proofs.Acts.{is_asking, asks_when_sent}
@@ -92,6 +92,7 @@ not_called e LinkDisconnect w none = refl
 not_called e (LinkHear frame) w none =
     and_right (is_idle w.a.end.machine.control.state) (begins_with_sabm w.a.towards) (no_sabm w.a.towards none)
 not_called e (LinkTick waiting) w none = refl
+not_called e (LinkSeize last full) w none = refl
 
 pub stays_less : (e : End) (event : LinkEvent) (towards : List Tagged)
     → asks_in (staying (event_at_end e event) towards) ≤ asks_in towards
@@ -100,6 +101,7 @@ stays_less e (LinkSend packet) towards = omega arith
 stays_less e LinkDisconnect towards = omega arith
 stays_less e (LinkHear frame) towards = count_drop is_asking 1 towards
 stays_less e (LinkTick waiting) towards = omega arith
+stays_less e (LinkSeize last full) towards = omega arith
 
 -- what a step sends beyond what joins does not ask
 lost_none :

@@ -1,10 +1,9 @@
 -- Whatever happens to a link, it stays on its path, and keeps what it was made with.
-use Rattle.station_laws.proofs.Common.{◌≡◌, refl, ◌∙◌, Event, Machine, step, begin, Single, acknowledges, flushes}
-use Rattle.station_laws.proofs.Common.{gives, goes_back, repeats, reports, stores, times}
+use Rattle.station_laws.proofs.Common.{◌≡◌, refl, ◌∙◌, Event, Machine, step, begin, Single, acknowledges, forgets}
+use Rattle.station_laws.proofs.Common.{gives, goes_back, informs, picks, reports, selects, stores, times}
 use Rattle.link_machine.specs.Turn.{Turn}
 use Rattle.link_steps.proofs.StepActs.{OneAct, along_step}
 use Rattle.link_steps.proofs.StepActs.OneAct.{begins, controls, counts, empties, goes, joins, sets_up, tells}
-use Rattle.link_steps.proofs.Traffic.Single.{asks}
 
 pub record Stays (before after : Turn) : Type 0 where
   pub path : after.now.path ≡ before.now.path
@@ -15,11 +14,12 @@ single_stays t u (times c mode) = record { path = refl; params = refl }
 single_stays t u (acknowledges n) = record { path = refl; params = refl }
 single_stays t u goes_back = record { path = refl; params = refl }
 single_stays t u (reports which command flag) = record { path = refl; params = refl }
-single_stays t u flushes = record { path = refl; params = refl }
-single_stays t u (repeats n) = record { path = refl; params = refl }
+single_stays t u (picks again) = record { path = refl; params = refl }
+single_stays t u (informs poll ahead left keeps) = record { path = refl; params = refl }
 single_stays t u (gives packets) = record { path = refl; params = refl }
 single_stays t u (stores ahead packet) = record { path = refl; params = refl }
-single_stays t u (asks ahead) = record { path = refl; params = refl }
+single_stays t u (selects ahead is) = record { path = refl; params = refl }
+single_stays t u forgets = record { path = refl; params = refl }
 
 act_stays : (t u : Turn) → OneAct t u → Stays t u
 act_stays t u (goes act) = single_stays t u act

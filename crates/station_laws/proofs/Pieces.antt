@@ -5,7 +5,8 @@ use Rattle.station_laws.proofs.Common.{append_assoc, recursion_from_All, Callsig
 use Rattle.station_laws.proofs.Common.{Info, Super, Setup, Ui, AgwMessage, repeated, PortKind, Kiss, Agw, data_kind}
 use Rattle.station_laws.proofs.Common.{replying, called_pid, Connection, with_shown, shown_to_hosts, showing_to}
 use Rattle.station_laws.proofs.Common.{source_field, destination_field, event_of, event_at, Link, link_at, making}
-use Rattle.station_laws.proofs.Common.{no_layer_3, path_along, ticking_links, Out, Turn, in_order, queueing, Input}
+use Rattle.station_laws.proofs.Common.{asked_links, changing, no_layer_3, path_along, with_asked, Out, Turn, in_order}
+use Rattle.station_laws.proofs.Common.{queueing, Input}
 use Rattle.station_laws.proofs.Common.{IsTurn, FromHost, OffAir, OfClock, LinkStep, steps_for, steps_at, tick_steps}
 use Rattle.station_laws.proofs.Common.{heard_steps, turn_steps, pieces_to, Choice}
 use Rattle.std.specs.Prelude.{filter, flat_map}
@@ -130,6 +131,7 @@ tells_kept id = record {
       same = same_told id;
       on = tells_on id;
       events = λ key event t may. event_tells id None key event t;
+      asked = λ key t. nothing_told id t (changing (with_asked key) t) refl;
     };
     called = λ host key message route t may is room new.
         made_tells id (path_along route) key host (called_pid message) route.local route.remote LinkConnect t;
@@ -248,7 +250,7 @@ turn_tells id (OffAir octets) before after turn agw =
     ∙ shown_to id from to octets before.now.connections before agw))
 turn_tells id (OfClock busy) before after turn agw =
     subst (Tells id before (tick_steps is_some busy before)) (sym turn.effect)
-    (monitors_told id true (ticking_links busy before).now.ticks turn.monitored (ticking_links busy before)
+    (monitors_told id true (asked_links busy before).now.ticks turn.monitored (asked_links busy before)
     ∙ ticks_kept is_some NotHeard (Tells id) (tells_kept id).kept.by_events tt busy before)
 
 pub programs_are_told_holds : ProgramsAreTold

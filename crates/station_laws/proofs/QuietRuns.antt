@@ -14,7 +14,7 @@ use Rattle.std.specs.List.{AllByRecursion as Each}
 use Rattle.std.proofs.lemmas.Bool.{and_from}
 use Rattle.link_machine.specs.Event.{Event as LinkEvent}
 use Rattle.link_machine.specs.Event.Event.{Connect as LinkConnect, Send as LinkSend, Disconnect as LinkDisconnect}
-use Rattle.link_machine.specs.Event.Event.{Hear as LinkHear, Tick as LinkTick}
+use Rattle.link_machine.specs.Event.Event.{Hear as LinkHear, Seize as LinkSeize, Tick as LinkTick}
 use Rattle.link_world.specs.Quiet.{is_quiet}
 use Rattle.link_world.proofs.law.Each.{each_both}
 use Rattle.station_laws.specs.InFlight.{asks}
@@ -130,6 +130,7 @@ quiet_event e (LinkSend packet) w h = and_from _ _ h.0 h.1
 quiet_event e LinkDisconnect w h = and_from _ _ h.0 h.1
 quiet_event e (LinkHear frame) w h = and_from _ _ h.0 h.1
 quiet_event e (LinkTick waiting) w h = and_from _ _ h.0 h.1
+quiet_event e (LinkSeize last full) w h = and_from _ _ h.0 h.1
 
 pub quiet_by :
     (e : End) (event : LinkEvent) (ms : List Bool) (anew : Option Path) (w : World)

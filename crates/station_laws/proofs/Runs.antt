@@ -4,7 +4,7 @@ use Rattle.station_laws.proofs.Common.{length, take, Option, Some, None, get_or,
 use Rattle.station_laws.proofs.Common.{inr, slice_get, cases_eq, append-nil, append_assoc, length-append, length-map}
 use Rattle.station_laws.proofs.Common.{All-from_recursion, recursion_from_All, slice_get_within, Callsign, Params}
 use Rattle.station_laws.proofs.Common.{Machine, End, Tagged, RecordedEnd, World, other, each_weaker, each_append}
-use Rattle.station_laws.proofs.Common.{StationState, ticking, ticking_links, is_between, Turn, Input, IsTurn, Step}
+use Rattle.station_laws.proofs.Common.{StationState, asked_links, ticking, is_between, Turn, Input, IsTurn, Step}
 use Rattle.station_laws.proofs.Common.{queued_at, FromHost, OffAir, OfClock, AreAlikeButForH, Pair, IsOffAir}
 use Rattle.station_laws.proofs.Common.{HearsLinkFrame, IsHeardPair, HasPair, AreHeardInOrder, LinkFrame, is_ask}
 use Rattle.station_laws.proofs.Common.{LinkStep, turn_steps}
@@ -353,7 +353,7 @@ module _ (on : Bool) (l r : Callsign) (pa pb : Params) (n : ℕ) (sa sb : Statio
       let steps = turn_steps (is_between l r) (OfClock busy) (begin sa) after turn in
       finishes e rises w.a.towards (calm (λ o off some. off)) after steps
       (subst (λ t. Kept s e w.a.towards t steps w) (sym turn.effect) (
-        still_holds s w.a.towards (ticking_links busy (begin sa)) (ticking busy turn.monitored (begin sa))
+        still_holds s w.a.towards (asked_links busy (begin sa)) (ticking busy turn.monitored (begin sa))
             (near_all e (s.done ++ s.rest) (length s.earlier) steps w)
             ticked.0 refl refl refl,
         ticked.1,

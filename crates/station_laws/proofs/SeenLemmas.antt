@@ -3,7 +3,8 @@ use Rattle.station_laws.proofs.Common.{◌≡◌, ℕ, Bool, true, false, List, 
 use Rattle.station_laws.proofs.Common.{None, is_some, refl, sym, ap, ◌∙◌, subst, map-append, recursion_from_All, Path}
 use Rattle.station_laws.proofs.Common.{Frame, Packet, Told, Opened, Given, Ended, LinkState, Idle, Calling, Up}
 use Rattle.station_laws.proofs.Common.{Releasing, Machine, End, A, B, made_in, run_changes, Tagged, RecordedEnd}
-use Rattle.station_laws.proofs.Common.{Happening, behind, Connects, Sends, Disconnects, Ticks, Hears, World, seen_from}
+use Rattle.station_laws.proofs.Common.{Happening, behind, Connects, Sends, Disconnects, Seizes, Ticks, Hears, World}
+use Rattle.station_laws.proofs.Common.{seen_from}
 use Rattle.station_laws.proofs.Common.{other, near_turn, turn_of, hearing_as, hearing_first, read_in, Step, at_end}
 use Rattle.station_laws.proofs.Common.{Calls, Pairs, Counts, link_at_end, count_at, with_more, event_at_end, makes}
 use Rattle.station_laws.proofs.Common.{heard_at, changes_by, all_changes_by, changes_from, FollowsAll, FollowsThrough}
@@ -12,7 +13,7 @@ use Rattle.std.proofs.Common.{fold}
 use Rattle.std.specs.List.{AllByRecursion as Each}
 use Rattle.link_machine.specs.Event.{Event as LinkEvent}
 use Rattle.link_machine.specs.Event.Event.{Connect as LinkConnect, Send as LinkSend, Disconnect as LinkDisconnect}
-use Rattle.link_machine.specs.Event.Event.{Hear as LinkHear, Tick as LinkTick}
+use Rattle.link_machine.specs.Event.Event.{Hear as LinkHear, Seize as LinkSeize, Tick as LinkTick}
 use Rattle.link_machine.specs.Step.{refusal_of, step as link_turn}
 use Rattle.link_machine.specs.Turn.{Turn as LinkTurn}
 use Rattle.link_world.specs.Flight.{is_numbered}
@@ -183,6 +184,11 @@ event_seen e (LinkTick waiting) v machine seen is told given s =
     (link_turn v.a.end.machine (LinkTick waiting)).told
     (link_turn machine (LinkTick waiting)).told told
     (behind_seen (Ticks waiting) v.a.end v.a.end (link_turn v.a.end.machine (LinkTick waiting)) seen refl s)
+event_seen e (LinkSeize last full) v machine seen is told given s =
+    by_told (near_turn (event_at_end e (LinkSeize last full)) v).now seen
+    (link_turn v.a.end.machine (LinkSeize last full)).told
+    (link_turn machine (LinkSeize last full)).told told
+    (behind_seen (Seizes last full) v.a.end v.a.end (link_turn v.a.end.machine (LinkSeize last full)) seen refl s)
 
 -- ---- the events of a step
 

@@ -2,7 +2,8 @@
 -- and UA only in answer to one that asks. The link comes up only as it hears UA or one that asks.
 use Rattle.station_laws.proofs.Common.{◌≡◌, ◌+◌, ◌≤◌, ◌||◌, Bool, true, false, List, [], ◌∷◌, ◌++◌, cond, refl, sym, ap}
 use Rattle.station_laws.proofs.Common.{◌∙◌, subst, arith, ℕ, count_by, list_any, Kind, Info, Super, Setup, Ui, Other, U}
-use Rattle.station_laws.proofs.Common.{Sabm, Sabme, Disc, Dm, Ua, release, Event, Connect, Send, Disconnect, Hear, Tick}
+use Rattle.station_laws.proofs.Common.{Sabm, Sabme, Disc, Dm, Ua, release, Event, Connect, Send, Disconnect, Hear}
+use Rattle.station_laws.proofs.Common.{Seize, Tick}
 use Rattle.station_laws.proofs.Common.{Machine, Sent, SentIn, sent_in, sent_kind, InfoSent, SetupSent, SuperSent, begin}
 use Rattle.station_laws.proofs.Common.{Up, asks}
 use Rattle.link_machine.specs.Turn.{Turn}
@@ -60,6 +61,7 @@ hears_asking (Send packet) = false
 hears_asking Disconnect = false
 hears_asking (Hear frame) = asks frame.kind
 hears_asking (Tick waiting) = false
+hears_asking (Seize last full) = false
 
 abbrev pub hears_ua : Event → Bool
 hears_ua Connect = false
@@ -67,6 +69,7 @@ hears_ua (Send packet) = false
 hears_ua Disconnect = false
 hears_ua (Hear frame) = is_ua frame.kind
 hears_ua (Tick waiting) = false
+hears_ua (Seize last full) = false
 
 -- ---- what is sent
 
@@ -148,25 +151,6 @@ opened m ua u modulus flag sent quit = record {
 }
 
 -- ---- how an event ends
-
--- I and S frames follow
-pub flushed :
-    (m : Machine) (asking ua : Bool) (t u : Turn) → Sends m asking ua t → Still t u → Sends m asking ua u
-flushed m asking ua t u h s =
-    let both : count_by is_unnumbered u.sent ≡ count_by is_unnumbered t.sent + count_by is_unnumbered s.more =
-    ap (count_by is_unnumbered) s.sent ∙ count_append is_unnumbered t.sent s.more in
-    let zero = count_none is_unnumbered s.more s.numbered in
-    let few = h.few in
-    record {
-      few = omega arith;
-      up = λ is. ap (list_any asks_when_sent) s.sent
-          ∙ any_append asks_when_sent t.sent s.more (h.up (sym s.state ∙ is)) (none_ask s.more s.numbered);
-      was_up = λ a b is. h.was_up a b (sym s.state ∙ is);
-      answers = λ is. ap (list_any ua_when_sent) s.sent
-          ∙ any_append ua_when_sent t.sent s.more (h.answers is) (none_ua s.more s.numbered);
-      quits = λ is wish. ap (list_any is_unnumbered) s.sent
-          ∙ any_append is_unnumbered t.sent s.more (h.quits (sym s.state ∙ is) (sym s.quit ∙ wish)) s.numbered;
-    }
 
 -- a DISC follows, if a disconnect is wished
 pub released :

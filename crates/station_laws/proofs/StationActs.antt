@@ -1,5 +1,5 @@
 -- A station's step as its single acts, and the events of links among them: what holds along each act holds along all
--- that comes from a host program, and along the ticks of the links.
+-- that comes from a host program, and along a tick of the links, one of which is then perhaps asked for a frame.
 use Rattle.station_laws.proofs.Common.{◌≡◌, ℕ, ◌==◌, ◌||◌, Bool, true, false, nat_le, nat_lt, List, [], ◌∷◌, ◌++◌}
 use Rattle.station_laws.proofs.Common.{length, map, drop, cond, if◌then◌else◌, Option, Some, None, is_some, refl, sym}
 use Rattle.station_laws.proofs.Common.{ap, ◌∙◌, subst, ⊤, MatchBool, range_with_len, cond-false, eqb-true, Callsign}
@@ -20,9 +20,11 @@ use Rattle.station_laws.proofs.Common.{IsHostTurn, param_of, with_param, heeding
 use Rattle.station_laws.proofs.Common.{giving_up_all, giving_up_link, leaving, without_host, without_owner, event_at}
 use Rattle.station_laws.proofs.Common.{with_links, Link, IsNewKey, link_at, most_links, with_link, making, is_number}
 use Rattle.station_laws.proofs.Common.{registrar, may_register, Route, route_in, repeaters_in, behind_repeaters}
-use Rattle.station_laws.proofs.Common.{path_along, StationState, ticking_at, ticking_links, t1_stands, Turn, Act}
+use Rattle.station_laws.proofs.Common.{path_along, StationState, asked_key, asked_links, asking, asking_at, seizing}
+use Rattle.station_laws.proofs.Common.{ticking_at, ticking_links, t1_stands, with_asked, Turn, Act}
 use Rattle.station_laws.proofs.Common.{in_order}
-use Rattle.station_laws.proofs.Common.{changing, closing, queueing, LinkStep, Choice, steps_at, steps_along, ticks_at}
+use Rattle.station_laws.proofs.Common.{changing, closing, queueing, LinkStep, Choice, asked_at, asking_steps, steps_at}
+use Rattle.station_laws.proofs.Common.{steps_along, ticks_at}
 use Rattle.station_laws.proofs.Common.{tick_steps, given_up, gives_up_at, leaving_steps, made_steps, call_steps}
 use Rattle.station_laws.proofs.Common.{sends_at, data_steps, disconnect_steps, else_steps, answer_steps, message_steps}
 use Rattle.station_laws.proofs.Common.{ending_steps, octet_steps_by, octet_steps, host_steps}
@@ -89,6 +91,8 @@ pub record KeptByEvents (chosen : Choice) (P : Cause → Type 0) (R : Turn → L
   pub on : (t u v : Turn) (first second : List LinkStep) → R t first u → R u second v → R t (first ++ second) v
   pub events : (key : ℕ) (event : Event) (t : Turn) → P (cause_of event)
       → R t (steps_at chosen None key event t) (event_at key event t)
+  -- a link is asked for a frame
+  pub asked : (key : ℕ) (t : Turn) → R t [] (changing (with_asked key) t)
 
 -- what is also kept by calls, replies and registrations
 pub record Kept (chosen : Choice) (P : Cause → Type 0) (R : Turn → List LinkStep → Turn → Type 0) : Type 0 where
@@ -143,12 +147,34 @@ module _ (chosen : Choice) (P : Cause → Type 0) (R : Turn → List LinkStep �
         k.on t (act item t) (in_order (map act items) (act item t)) (found item t)
         (steps_along act found items (act item t)) (each item t) (along act found each items (act item t))
 
-    pub ticks_kept : P ticking → (busy : Bool) (t : Turn) → R t (tick_steps chosen busy t) (ticking_links busy t)
+    links_kept : P ticking → (busy : Bool) (t : Turn)
+        → R t (steps_along (ticking_at busy) (ticks_at chosen busy) (range_with_len 0 most_links) t)
+        (ticking_links busy t)
     unfolding ticking_links
-    ticks_kept may busy t =
+    links_kept may busy t =
         along (ticking_at busy) (ticks_at chosen busy)
         (λ key u. k.events key (Tick (t1_stands busy key u.now.channel)) u may)
         (range_with_len 0 most_links) t
+
+    asking_kept : P ticking → (t : Turn) → R t (asking_steps chosen t) (asking t)
+    asking_kept may t = go (asked_key t.now)
+      where
+        event : Event
+        event = seizing t.now
+
+        go : (key : Option ℕ) → R t (asked_at chosen key event t) (asking_at key event t)
+        go None = k.same t
+        go (Some key) =
+            let told = changing (with_asked key) t in
+            k.on t told (event_at key event told) [] (steps_at chosen None key event told) (k.asked key t)
+            (k.events key event told may)
+
+    pub ticks_kept : P ticking → (busy : Bool) (t : Turn) → R t (tick_steps chosen busy t) (asked_links busy t)
+    ticks_kept may busy t =
+        let ticked = ticking_links busy t in
+        k.on t ticked (asked_links busy t)
+        (steps_along (ticking_at busy) (ticks_at chosen busy) (range_with_len 0 most_links) t)
+        (asking_steps chosen ticked) (links_kept may busy t) (asking_kept may ticked)
 
     pub data_kept : P sending → (message : AgwMessage) (key : Option ℕ) (t : Turn)
         → R t (data_steps chosen message key t) (giving message key t)

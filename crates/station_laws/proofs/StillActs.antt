@@ -1,13 +1,16 @@
 -- A link that goes on leaves its state and a wish to disconnect as they are, and sends I and S frames alone.
-use Rattle.station_laws.proofs.Common.{◌≡◌, ℕ, ◌+◌, Bool, true, false, List, [], ◌∷◌, ◌++◌, map, refl, sym, ap, ◌∙◌}
-use Rattle.station_laws.proofs.Common.{list_any, or_from, or_parts, append-nil, append_assoc, Packet, Machine, Sent}
+use Rattle.station_laws.proofs.Common.{◌≡◌, ℕ, ◌+◌, Bool, Option, Some, None, true, false, List, [], ◌∷◌, ◌++◌, map}
+use Rattle.station_laws.proofs.Common.{refl, sym, ap, ◌∙◌}
+use Rattle.station_laws.proofs.Common.{list_any, or_from, or_parts, append-nil, append_assoc, Packet, Sent}
 use Rattle.station_laws.proofs.Common.{SentIn, sent_in, InfoSent, SetupSent, SuperSent, along_run, Single, Traffic}
-use Rattle.station_laws.proofs.Common.{acknowledges, flushes, gives, goes_back, repeats, reports, stores, times}
-use Rattle.selective_reject.specs.Places.{missing}
-use Rattle.link_machine.specs.Acts.{sent_packet, srej_for, to_send}
-use Rattle.link_machine.specs.Sent.{all_sent_in, infos_from}
+use Rattle.station_laws.proofs.Common.{acknowledges, forgets, gives, goes_back, informs, picks, reports, selects}
+use Rattle.station_laws.proofs.Common.{stores}
+use Rattle.station_laws.proofs.Common.{times}
+use Rattle.std.specs.Option.{option_to_list}
+use Rattle.std.specs.Prelude.{slice_get}
+use Rattle.ax25_frames.specs.declared.frame.S.TheVariants.{Srej}
+use Rattle.link_machine.specs.Sent.{all_sent_in}
 use Rattle.link_machine.specs.Turn.{Turn}
-use Rattle.link_steps.proofs.Traffic.Single.{asks}
 
 -- ---- frames that are sent
 
@@ -36,17 +39,12 @@ none_more p q less (x ∷ xs) h =
     let parts = or_parts (q x) (list_any q xs) h in
     or_from (p x) (list_any p xs) (less x parts.0) (none_more p q less xs parts.1)
 
-infos_numbered :
-    (modulus n nr : ℕ) (packets : List Packet)
-    → list_any is_unnumbered (all_sent_in modulus (infos_from n nr packets)) ≡ false
-infos_numbered modulus n nr [] = refl
-infos_numbered modulus n nr (packet ∷ packets) = infos_numbered modulus (n + 1) nr packets
-
-srejs_numbered :
-    (modulus : ℕ) (m : Machine) (numbers : List ℕ)
-    → list_any is_unnumbered (all_sent_in modulus (map (srej_for m) numbers)) ≡ false
-srejs_numbered modulus m [] = refl
-srejs_numbered modulus m (n ∷ numbers) = srejs_numbered modulus m numbers
+-- the I frame of a packet, if there is one
+info_numbered :
+    (modulus n nr : ℕ) (poll : Bool) (packet : Option Packet)
+    → list_any is_unnumbered (all_sent_in modulus (map (InfoSent n nr poll) (option_to_list packet))) ≡ false
+info_numbered modulus n nr poll None = refl
+info_numbered modulus n nr poll (Some packet) = refl
 
 -- ---- what stays
 
@@ -92,20 +90,19 @@ single_still t u goes_back = still_none t _ refl refl refl
 single_still t u (reports which command flag) =
     still_more t _ (sent_in t.now.incoming.modulus (SuperSent which command t.now.incoming.vr flag) ∷ []) refl refl
     refl refl
-single_still t u flushes =
-    let packets = to_send t.now in
-    still_more t _ (all_sent_in t.now.incoming.modulus (infos_from t.now.outgoing.vs t.now.incoming.vr packets))
-    (infos_numbered t.now.incoming.modulus t.now.outgoing.vs t.now.incoming.vr packets) refl refl refl
-single_still t u (repeats n) =
-    let packets = sent_packet n t.now.outgoing in
-    still_more t _ (all_sent_in t.now.incoming.modulus (infos_from n t.now.incoming.vr packets))
-    (infos_numbered t.now.incoming.modulus n t.now.incoming.vr packets) refl refl refl
+single_still t u (picks again) = still_none t _ refl refl refl
+single_still t u (informs poll ahead left keeps) =
+    let n = t.now.outgoing.va + ahead in
+    let packet = slice_get t.now.outgoing.packets ahead in
+    still_more t _
+    (all_sent_in t.now.incoming.modulus (map (InfoSent n t.now.incoming.vr poll) (option_to_list packet)))
+    (info_numbered t.now.incoming.modulus n t.now.incoming.vr poll packet) refl refl refl
 single_still t u (gives packets) = still_none t _ refl refl refl
 single_still t u (stores ahead packet) = still_none t _ refl refl refl
-single_still t u (asks ahead) =
-    let numbers = missing t.now.incoming.places ahead in
-    still_more t _ (all_sent_in t.now.incoming.modulus (map (srej_for t.now) numbers))
-    (srejs_numbered t.now.incoming.modulus t.now numbers) refl refl refl
+single_still t u (selects ahead is) =
+    still_more t _
+    (sent_in t.now.incoming.modulus (SuperSent Srej false (t.now.incoming.vr + ahead) false) ∷ []) refl refl refl refl
+single_still t u forgets = still_none t _ refl refl refl
 
 pub traffic_still : {t u : Turn} → Traffic t u → Still t u
 traffic_still = along_run (record { same = still_same; on = still_on }) single_still

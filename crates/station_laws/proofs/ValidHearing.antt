@@ -6,7 +6,7 @@ use Rattle.station_laws.proofs.Common.{hears_valid, names_valid, read_names_vali
 use Rattle.station_laws.proofs.Common.{event_at_end}
 use Rattle.link_machine.specs.Event.{Event as LinkEvent}
 use Rattle.link_machine.specs.Event.Event.{Connect as LinkConnect, Send as LinkSend, Disconnect as LinkDisconnect}
-use Rattle.link_machine.specs.Event.Event.{Hear as LinkHear, Tick as LinkTick}
+use Rattle.link_machine.specs.Event.Event.{Hear as LinkHear, Seize as LinkSeize, Tick as LinkTick}
 use Rattle.station_laws.proofs.Acts.{ReadsFront}
 use Rattle.station_laws.proofs.Along.{makes_near}
 use Rattle.station_laws.proofs.Calm.{HearsValid, IsCalm}
@@ -27,6 +27,7 @@ valid_seen e (LinkSend packet) ms w valid = valid
 valid_seen e LinkDisconnect ms w valid = valid
 valid_seen e (LinkHear frame) ms w valid = valid
 valid_seen e (LinkTick waiting) ms w valid = valid
+valid_seen e (LinkSeize last full) ms w valid = valid
 
 pub heard_valid :
     (e : End) (event : LinkEvent) (x : World) → ReadsFront event x → hears_valid (event_at_end e event) x ≡ true
@@ -41,6 +42,7 @@ heard_valid e (LinkHear frame) x reads valid =
           ∙ ap (first_names_valid m) (sym reads.towards) ∙ ap (λ s. reads_valid s m x.a.towards) (sym up) ∙ valid,
     )
 heard_valid e (LinkTick waiting) x reads valid = tt
+heard_valid e (LinkSeize last full) x reads valid = tt
 
 -- ---- a link that is made is calm
 

@@ -9,13 +9,13 @@ use Rattle.ax25_address.specs.declared.path.Path.{Path}
 use Rattle.ax25_address.specs.declared.path.Role.TheVariants.{Command}
 use Rattle.link_machine.specs.Event.{Event as LinkEvent}
 use Rattle.link_machine.specs.Event.Event.{Connect as LinkConnect, Send as LinkSend, Disconnect as LinkDisconnect}
-use Rattle.link_machine.specs.Event.Event.{Hear as LinkHear, Tick as LinkTick}
+use Rattle.link_machine.specs.Event.Event.{Hear as LinkHear, Seize as LinkSeize, Tick as LinkTick}
 use Rattle.link_machine.specs.Step.{step as link_turn}
 use Rattle.link_machine.specs.declared.params.Params.{Params}
 use Rattle.link_world.specs.declared.end.End.{End}
 use Rattle.link_world.specs.declared.end.End.TheVariants.{A, B}
 use Rattle.link_world.specs.declared.event.Event.{Event}
-use Rattle.link_world.specs.declared.event.Event.TheVariants.{Connect, Send, Disconnect, Tick, Hear}
+use Rattle.link_world.specs.declared.event.Event.TheVariants.{Connect, Send, Disconnect, Seize, Tick, Hear}
 use Rattle.link_world.specs.Changes.{Change, run_changes, AreQuiet}
 use Rattle.link_world.specs.Changes.Change.{Makes, Keeps}
 use Rattle.link_world.specs.World.{World, new_world, near_turn, seen_from, other}
@@ -59,6 +59,7 @@ event_at_end end (LinkSend packet) = Send end packet
 event_at_end end LinkDisconnect = Disconnect end
 event_at_end end (LinkHear frame) = Hear end
 event_at_end end (LinkTick waiting) = Tick end waiting
+event_at_end end (LinkSeize last full) = Seize end last full
 
 abbrev pub makes : End → Option Path → List Change
 makes end None = []

@@ -1,7 +1,7 @@
 -- What a step of a station does to some of its links, event by event: to the one between two calls, or to any. A host
 -- program connects (AGWPE, C, v and c), sends (each packet of D), and disconnects (d, and when it leaves). A frame that
--- is heard, and that passes every test on the way to a link, is an event of that link. A tick is one of each link, and then the
--- channel perhaps takes a frame of one.
+-- is heard, and that passes every test on the way to a link, is an event of that link. A tick is one of each link, and
+-- then the channel perhaps takes a frame of one.
 use Rattle.std.specs.Prelude.{◌≡◌, ℕ, ◌-◌, ◌==◌, Bool, true, false, if◌then◌else◌, List, [], ◌∷◌, ◌++◌, length, Option}
 use Rattle.std.specs.Prelude.{Some, None, is_some, MatchBool}
 use Rattle.std.specs.List.{range_with_len}
@@ -20,6 +20,7 @@ use Rattle.station.specs.declared.host_event.HostEvent.TheVariants.{Joined, Byte
 use Rattle.station.specs.declared.host_event.PortKind.{PortKind}
 use Rattle.station.specs.declared.host_event.PortKind.TheVariants.{Kiss, Agw}
 use Rattle.station.specs.AgwKinds.{data_kind, disconnect_kind}
+use Rattle.station.specs.Asking.{asked_key, seizing, with_asked}
 use Rattle.station.specs.AgwRequests.{AreAnswered, IsCall, IsCallMade, replying, refused_reply, answering_else, calls}
 use Rattle.station.specs.AgwRequests.{called_route, called_pid, may_call, own_key, data_pid, packets_of, giving_packet}
 use Rattle.station.specs.Connections.{Connection, connection_of}
@@ -33,7 +34,7 @@ use Rattle.station.specs.Links.{Link, link_at, key_between, with_link, most_link
 use Rattle.station.specs.NewLinks.{making, no_layer_3}
 use Rattle.station.specs.Registrations.{registrar, is_number}
 use Rattle.station.specs.Routes.{Route, path_along}
-use Rattle.station.specs.Ticks.{asked_key, seizing, t1_stands, ticking_at, ticking_links, with_asked}
+use Rattle.station.specs.Ticks.{t1_stands, ticking_at, ticking_links}
 use Rattle.station.specs.Turn.{Turn, Act, begin, closing, changing}
 use Rattle.station_laws.specs.JointRun.{Input, IsTurn, Step}
 use Rattle.station_laws.specs.JointRun.Input.{FromHost, OffAir, OfClock}
@@ -88,13 +89,13 @@ abbrev pub asked_at : Choice → Option ℕ → Event → Turn → List LinkStep
 asked_at chosen None event turn = []
 asked_at chosen (Some key) event turn = steps_at chosen None key event (changing (with_asked key) turn)
 
-abbrev pub asking_steps : Choice → Bool → Turn → List LinkStep
-asking_steps chosen busy turn = asked_at chosen (asked_key busy turn.now) (seizing busy turn.now) turn
+abbrev pub asking_steps : Choice → Turn → List LinkStep
+asking_steps chosen turn = asked_at chosen (asked_key turn.now) (seizing turn.now) turn
 
 abbrev pub tick_steps : Choice → Bool → Turn → List LinkStep
 tick_steps chosen busy turn =
     steps_along (ticking_at busy) (ticks_at chosen busy) (range_with_len 0 most_links) turn
-    ++ asking_steps chosen busy (ticking_links busy turn)
+    ++ asking_steps chosen (ticking_links busy turn)
 
 -- ---- a host program leaves
 

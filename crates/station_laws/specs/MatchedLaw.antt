@@ -6,7 +6,7 @@ use Rattle.std.specs.Prelude.{is_some}
 use Rattle.std.specs.List.{list_any}
 use Rattle.link_machine.specs.Event.{Event as LinkEvent}
 use Rattle.link_machine.specs.Event.Event.{Connect as LinkConnect, Send as LinkSend, Disconnect as LinkDisconnect}
-use Rattle.link_machine.specs.Event.Event.{Hear as LinkHear, Tick as LinkTick}
+use Rattle.link_machine.specs.Event.Event.{Hear as LinkHear, Seize as LinkSeize, Tick as LinkTick}
 use Rattle.link_machine.specs.Sent.{SentIn, sent_kind}
 use Rattle.link_machine.specs.Step.{step as link_turn}
 use Rattle.link_machine.specs.declared.state.LinkState.{LinkState}
@@ -76,6 +76,7 @@ IsOfNoHost (LinkSend packet) = Unit {0}
 IsOfNoHost LinkDisconnect = ⊥
 IsOfNoHost (LinkHear frame) = Unit {0}
 IsOfNoHost (LinkTick waiting) = Unit {0}
+IsOfNoHost (LinkSeize last full) = Unit {0}
 
 abbrev pub IsEventOfCaller : End → LinkStep → Type 0
 IsEventOfCaller A step = AsksInRoom step

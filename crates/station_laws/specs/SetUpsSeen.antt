@@ -7,7 +7,7 @@ use Rattle.link_machine.specs.declared.acts.Told.TheVariants.{Opened, Given, End
 use Rattle.link_machine.specs.declared.state.LinkState.TheVariants.{Up}
 use Rattle.link_machine.specs.Event.{Event as LinkEvent}
 use Rattle.link_machine.specs.Event.Event.{Connect as LinkConnect, Send as LinkSend, Disconnect as LinkDisconnect}
-use Rattle.link_machine.specs.Event.Event.{Hear as LinkHear, Tick as LinkTick}
+use Rattle.link_machine.specs.Event.Event.{Hear as LinkHear, Seize as LinkSeize, Tick as LinkTick}
 use Rattle.link_machine.specs.Machine.{Machine}
 use Rattle.link_machine.specs.Step.{refusal_of, step as link_turn}
 use Rattle.link_world.specs.declared.end.End.{End}
@@ -47,6 +47,7 @@ seen_giving (LinkSend packet) seen = change_last_seen (with_given packet) seen
 seen_giving LinkDisconnect seen = seen
 seen_giving (LinkHear frame) seen = seen
 seen_giving (LinkTick waiting) seen = seen
+seen_giving (LinkSeize last full) seen = seen
 
 -- and what is told of
 abbrev pub seen_told : List Seen → Told → List Seen
@@ -80,6 +81,7 @@ IsGivenWhileUp (LinkSend packet) machine =
 IsGivenWhileUp LinkDisconnect machine = Unit {0}
 IsGivenWhileUp (LinkHear frame) machine = Unit {0}
 IsGivenWhileUp (LinkTick waiting) machine = Unit {0}
+IsGivenWhileUp (LinkSeize last full) machine = Unit {0}
 
 abbrev pub AllGivenWhileUp : Calls → List Step → Type 0
 AllGivenWhileUp calls steps =
