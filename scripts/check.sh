@@ -133,7 +133,10 @@ decodes_wide() {
         && "$tnc" decode --rate 48000 <"$room/48000.raw" >"$room/raw.lines" \
         && "$tnc" decode --wav <"$room/48000.wav" | cmp -s - "$room/raw.lines" \
         && "$tnc" decode --wav --threads <"$room/48000.wav" | cmp -s - "$room/raw.lines" \
-        && [ -z "$(sort "$1.frames" | comm -23 - <(sort "$room/raw.lines"))" ]
+        && [ -z "$(sort "$1.frames" | comm -23 - <(sort "$room/raw.lines"))" ] \
+        && "$tnc" decode --rate 48000 --sensitive <"$room/48000.raw" >"$room/all.lines" \
+        && "$tnc" decode --wav --sensitive --threads <"$room/48000.wav" | cmp -s - "$room/all.lines" \
+        && [ -z "$(sort "$1.frames" | comm -23 - <(sort "$room/all.lines"))" ]
 }
 
 # RECORDING: 23 lanes hear each frame that eight hear, with threads as without.
@@ -488,7 +491,7 @@ fi
 # Words that are refused, and streams that fail.
 check "a word that is no command" is_refused decod
 check "no word" is_refused
-for words in "decode --rate 44100" "decode --hf --threads" "decode --hf --rate 48000" "decode --hf --sensitive" "decode --sensitive --rate 48000" "decode --wav=yes" \
+for words in "decode --rate 44100" "decode --hf --threads" "decode --hf --rate 48000" "decode --hf --sensitive" "decode --wav=yes" \
     "decode recording.raw" "help nothing" "version 1" "bench" "bench --seed 7 --loss 91" "encode --opening 1" "encode --silence 1000001" "encode --level 9" "encode --level 32768" "show --modulo 16" "loop --seed 7" "loop --seed 7 --frames 1001" \
     "record --keep 0" "record --keep 17280001" "call --agw 8000 --from N7LEM" "call --agw 8000 --from N7LEM --to NJ7P --via N7LEM," \
     "call --agw 8000 --from N7LEM --to NJ7P --polls 0"; do

@@ -290,6 +290,10 @@ def heard_at_48000(tnc, samples, room):
     return heard_by_tnc(tnc, samples, room, "--rate", "48000")
 
 
+def heard_at_48000_by_all(tnc, samples, room):
+    return heard_by_tnc(tnc, samples, room, "--rate", "48000", "--sensitive")
+
+
 def heard_through_sox(tnc, samples, room):
     resampled(samples, 9600, "raw", f"{room}/9600.raw")
     with open(f"{room}/9600.raw", "rb") as given:
@@ -412,6 +416,8 @@ def main():
         global RATE
         RATE, made_by = 48000, wide_rows
         columns = [("--rate 48000", heard_at_48000, bytes.hex), ("through sox", heard_through_sox, bytes.hex)]
+        if given.sensitive:
+            columns.insert(1, ("--sensitive too", heard_at_48000_by_all, bytes.hex))
         if given.beside:
             columns += [("atest", heard_by_atest, bytes.hex), ("atest -P E+ -F 1", heard_by_atest_repairing, bytes.hex)]
     elif given.beside:

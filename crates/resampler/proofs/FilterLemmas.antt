@@ -163,3 +163,21 @@ decimated-more x sample given at is =
     ∙ map-range_with_len_more (λ k. filtered_at all (5 * k)) 0 n n (omega arith)
     ∙ ap (λ l. l ++ filtered_at all (5 * n) ∷ []) (fifths_stay n x (sample ∷ []) (omega arith))
     ∙ ap (λ z. decimated_settled x ++ z ∷ []) here
+
+-- the decimated samples, and those of more samples, begin with what is settled
+pub length-decimated_settled : (x : List ℤ) → length (decimated_settled x) ≡ (length x - 15 + 4) / 5
+length-decimated_settled x = length-map-range_with_len (λ k. filtered_at x (5 * k)) 0 ((length x - 15 + 4) / 5)
+
+pub length-decimated : (x : List ℤ) → length (decimated x) ≡ (length x + 4) / 5
+length-decimated x = length-map-range_with_len (λ k. filtered_at x (5 * k)) 0 ((length x + 4) / 5)
+
+pub decimated_begins : (x y : List ℤ) → (rest : List ℤ) × (decimated (x ++ y) ≡ decimated_settled x ++ rest)
+decimated_begins x y =
+    let n : ℕ = (length x - 15 + 4) / 5 in
+    let all : List ℤ = decimated (x ++ y) in
+    (drop n all, sym (take-append-drop n all) ∙ ap (λ l. l ++ drop n all) (decimated_settles x y))
+
+pub decimated_parts : (x : List ℤ) → (rest : List ℤ) × (decimated x ≡ decimated_settled x ++ rest)
+decimated_parts x =
+    let begins = decimated_begins x [] in
+    (begins.0, ap decimated (sym (append-nil x)) ∙ begins.1)

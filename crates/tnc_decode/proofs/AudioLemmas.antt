@@ -17,7 +17,8 @@ use Rattle.tnc_words.specs.declared.command.Receiving.TheVariants.{Standard, Sen
 use Rattle.tnc_decode.specs.declared.audio.Audio.{Audio}
 use Rattle.tnc_decode.specs.declared.audio.Audio.TheVariants.{Pcm}
 use Rattle.tnc_decode.specs.Audio.{fault_in_verdict}
-use Rattle.tnc_decode.specs.Modem.{modem_for, modem_of_file}
+use Rattle.tnc_words.specs.declared.command.SampleRate.{SampleRate}
+use Rattle.tnc_decode.specs.Modem.{modem_for, plain_at, sensitive_at, rate_for, rate_of_file}
 use Rattle.tnc_decode.specs.Held.{odd_octet}
 use Rattle.tnc_decode.proofs.WavFaults.{fault_stays, rate_stays, silent_before, quiet_before}
 
@@ -260,15 +261,26 @@ pub modem_stays : (words : DecodeWords) (octets more : List ℕ)
 modem_stays words octets more = by_words words.receiving words.audio
   where
     of_file : (rate : Option ℕ) → rate_in NarrowOrWide octets ≡ rate
-        → (modem_of_file (rate_in NarrowOrWide (octets ++ more)) ≡ modem_of_file (rate_in NarrowOrWide octets))
+        → (rate_of_file (rate_in NarrowOrWide (octets ++ more)) ≡ rate_of_file (rate_in NarrowOrWide octets))
         ⊎ (samples_in NarrowOrWide octets ≡ [])
     of_file None is = inr (quiet_before NarrowOrWide octets is)
-    of_file (Some rate) is = inl (ap modem_of_file (rate_stays NarrowOrWide octets more rate is ∙ sym is))
+    of_file (Some rate) is = inl (ap rate_of_file (rate_stays NarrowOrWide octets more rate is ∙ sym is))
+
+    of_form : (named : SampleRate) (form : AudioForm)
+        → (rate_for named form (octets ++ more) ≡ rate_for named form octets)
+        ⊎ (samples_at NarrowOrWide form octets ≡ [])
+    of_form named Raw = inl refl
+    of_form named Wav = of_file (rate_in NarrowOrWide octets) refl
 
     by_words : (receiving : Receiving) (form : AudioForm)
         → (modem_for receiving form (octets ++ more) ≡ modem_for receiving form octets)
         ⊎ (samples_at (rates_of receiving) form octets ≡ [])
-    by_words (Standard rate) Raw = inl refl
-    by_words (Standard rate) Wav = of_file (rate_in NarrowOrWide octets) refl
-    by_words Sensitive form = inl refl
+    by_words (Standard rate) form = elim (of_form rate form) [
+      | inl same ↦ inl (ap plain_at same)
+      | inr none ↦ inr none
+    ]
+    by_words (Sensitive rate) form = elim (of_form rate form) [
+      | inl same ↦ inl (ap sensitive_at same)
+      | inr none ↦ inr none
+    ]
     by_words ShortWave form = inl refl

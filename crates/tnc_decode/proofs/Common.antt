@@ -29,7 +29,7 @@ pub use Rattle.tnc_decode.specs.Written.{WroteMost}
 pub use Rattle.tnc_decode.specs.declared.audio.Audio.TheVariants.{File}
 pub use Rattle.tnc_decode.specs.declared.decoders.Decoders.{Decoders}
 pub use Rattle.tnc_decode.specs.declared.modem.Modem.{Modem}
-pub use Rattle.tnc_decode.specs.declared.modem.Modem.TheVariants.{Plain, Sensitive, ShortWave, Wide}
+pub use Rattle.tnc_decode.specs.declared.modem.Modem.TheVariants.{Plain, Sensitive, ShortWave, Wide, WideSensitive}
 pub use Rattle.tnc_decode.specs.declared.receiver.Receiver.{Receiver}
 pub use Rattle.tnc_forms.specs.Reading.{input_limit}
 pub use Rattle.tnc_forms.specs.Taken.{WereRead}
@@ -46,4 +46,5 @@ unfoldable pub use Rattle.wav_file.specs.Samples.{sample_of}
 pub use Rattle.wav_file.specs.declared.fault.WavFault.{WavFault}
 pub use Rattle.wav_file.specs.declared.rates.Rates.{Rates}
 pub use Rattle.wide_input.specs.MergedItems.{AreWideMergedBetween, settled_ends}
-pub use Rattle.resampler.specs.Filtered.{filtered}
+pub use Rattle.wide_input.specs.SettledByAll.{settled_by_all}
+pub use Rattle.resampler.specs.Filtered.{decimated, filtered}

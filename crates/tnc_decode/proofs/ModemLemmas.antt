@@ -2,7 +2,7 @@
 use Rattle.tnc_decode.proofs.Common.{◌≡◌, ℕ, ◌+◌, ◌/◌, ◌^◌, ◌<◌, ◌≤◌, ℤ, List, [], ◌++◌, length, refl, ap, sym, ◌∙◌}
 use Rattle.tnc_decode.proofs.Common.{arith, length-append, IsNonDecreasingBy, append_cancel_left, Candidate, merged}
 use Rattle.tnc_decode.proofs.Common.{below, between, not_below, below_between, below_then_rest, AreMergedBetween}
-use Rattle.tnc_decode.proofs.Common.{filtered, settled_ends, AreWideMergedBetween, Modem, Plain, Wide, Sensitive, ShortWave}
+use Rattle.tnc_decode.proofs.Common.{filtered, settled_ends, AreWideMergedBetween, Modem, Plain, Wide, Sensitive, WideSensitive, ShortWave, decimated}
 use Rattle.tnc_decode.proofs.Common.{HasDecoded, AreHeard, settled_count, AreGivenBetween, AreGivenBelow, AreGivenRest}
 use Rattle.frame_merge.proofs.Ordering.{rising_ends}
 use Rattle.frame_merge.proofs.Merging.{merged-rising, between_all}
@@ -24,6 +24,7 @@ use Rattle.sensitive_receiver.proofs.SomeList.{some_list as some_sensitive}
 use Rattle.wide_input.proofs.WideSteps.{no_wide, rising_wide}
 use Rattle.wide_input.proofs.WideMerged.{one_wide, some_wide}
 use Rattle.wide_input.proofs.FilteredLemmas.{filtered_still}
+use Rattle.wide_input.proofs.DecimatedLemmas.{decimated_still}
 use Rattle.wide_input.specs.MergedItems.{AreWideRest}
 use Rattle.slicer_bank.specs.HeldDecoder.{HeldDecoder, StandsFor as DecoderStandsFor}
 use Rattle.hf_modem.specs.HeldDecoder.{HeldDecoder as HeldHf, StandsFor as HfStandsFor}
@@ -38,6 +39,7 @@ pub none_heard : (modem : Modem) → AreHeard modem [] []
 none_heard Plain = candidates_none []
 none_heard Wide = no_wide
 none_heard Sensitive = no_sensitive
+none_heard WideSensitive = no_sensitive
 none_heard ShortWave = no_hf []
 
 pub one_heard : (modem : Modem) (x : List ℤ) (items others : List Candidate) → AreHeard modem x items
@@ -45,12 +47,14 @@ pub one_heard : (modem : Modem) (x : List ℤ) (items others : List Candidate) �
 one_heard Plain x items others a b = one_list x items others a b
 one_heard Wide x items others a b = one_wide (filtered x) items others a b
 one_heard Sensitive x items others a b = one_sensitive x items others a b
+one_heard WideSensitive x items others a b = one_sensitive (decimated x) items others a b
 one_heard ShortWave x items others a b = one_hf x items others a b
 
 pub some_heard : (modem : Modem) (x : List ℤ) → (items : List Candidate) × AreHeard modem x items
 some_heard Plain x = some_list x
 some_heard Wide x = some_wide (filtered x)
 some_heard Sensitive x = some_sensitive x
+some_heard WideSensitive x = some_sensitive (decimated x)
 some_heard ShortWave x = some_hf x
 
 -- the merged candidates do not fall in their ends
@@ -59,6 +63,7 @@ pub rising_heard : (modem : Modem) (x : List ℤ) (items : List Candidate) → A
 rising_heard Plain x items are = merged-rising (λ y. y.end) [] items (rising_ends items (is_in_order x items are))
 rising_heard Wide x items are = rising_wide (filtered x) items are
 rising_heard Sensitive x items are = rising_sensitive x items are
+rising_heard WideSensitive x items are = rising_sensitive (decimated x) items are
 rising_heard ShortWave x items are = merged-rising (λ y. y.end) [] items (rising_ends items (hf_in_order x items are))
 
 -- more samples settle no less, and no more than they are
@@ -67,6 +72,7 @@ pub settled_rises : (modem : Modem) (x y : List ℤ) → (settled_count modem x 
 settled_rises Plain x y = (omega (arith, length-append x y), omega (arith, length-append x y))
 settled_rises Wide x y = let size = length-append x y in (omega arith, omega arith)
 settled_rises Sensitive x y = let size = length-append x y in (omega arith, omega arith)
+settled_rises WideSensitive x y = let size = length-append x y in (omega arith, omega arith)
 settled_rises ShortWave x y = let size = length-append x y in (omega arith, omega arith)
 
 -- if all end at or after 0, the part from 0 is the part below
@@ -83,6 +89,8 @@ still_heard Plain to x y items whole within are all_are =
     ∙ from_zero to (merged whole)
 still_heard Wide to x y items whole within are all_are = sym (filtered_still to x y items whole within are all_are)
 still_heard Sensitive to x y items whole within are all_are = sensitive_still x y items whole are all_are to within
+still_heard WideSensitive to x y items whole within are all_are =
+    decimated_still to x y items whole within are all_are
 still_heard ShortWave to x y items whole within are all_are =
     sym (from_zero to (merged items))
     ∙ hf_still 0 to x y (between 0 to (merged items)) whole within (record { candidates = items; are = are; is = refl })
@@ -126,6 +134,7 @@ plain_block old new block items given Plain x h = let g = given x h in
     (g.0, given_plain (length x) (length (x ++ block)) (x ++ block) items g.1)
 plain_block old new block items given Wide x h = absurd h
 plain_block old new block items given Sensitive x h = absurd h
+plain_block old new block items given WideSensitive x h = absurd h
 plain_block old new block items given ShortWave x h = absurd h
 
 pub wide_block : (old new : HeldWide) (block : List ℤ) (items : List Candidate)
@@ -136,6 +145,7 @@ pub wide_block : (old new : HeldWide) (block : List ℤ) (items : List Candidate
     × AreGivenBetween modem (settled_count modem x) (settled_count modem (x ++ block)) (x ++ block) items
 wide_block old new block items given Plain x h = absurd h
 wide_block old new block items given Sensitive x h = absurd h
+wide_block old new block items given WideSensitive x h = absurd h
 wide_block old new block items given ShortWave x h = absurd h
 wide_block old new block items given Wide x h = let g = given x h in
     (g.0, given_wide (settled_ends (length x)) (settled_ends (length (x ++ block))) (x ++ block) items g.1)
@@ -146,6 +156,7 @@ pub wide_finish : (old : HeldWide) (items : List Candidate)
     → AreGivenRest modem (settled_count modem x) x items
 wide_finish old items rest Plain x h = absurd h
 wide_finish old items rest Sensitive x h = absurd h
+wide_finish old items rest WideSensitive x h = absurd h
 wide_finish old items rest ShortWave x h = absurd h
 wide_finish old items rest Wide x h =
     let r = rest x h in record { candidates = r.candidates; are = r.are; is = r.is }
@@ -157,6 +168,7 @@ pub plain_finish : (old : HeldDecoder) (items : List Candidate) → old.position
 plain_finish old items room rest Plain x h = rest_plain x items (rest x (let count = h.count in omega arith) h)
 plain_finish old items room rest Wide x h = absurd h
 plain_finish old items room rest Sensitive x h = absurd h
+plain_finish old items room rest WideSensitive x h = absurd h
 plain_finish old items room rest ShortWave x h = absurd h
 
 pub given_short_wave : (from to : ℕ) (x : List ℤ) (items : List Candidate) → AreHfMergedBetween from to x items
@@ -189,6 +201,7 @@ pub short_wave_block : (old new : HeldHf) (block : List ℤ) (items : List Candi
 short_wave_block old new block items given Plain x h = absurd h
 short_wave_block old new block items given Wide x h = absurd h
 short_wave_block old new block items given Sensitive x h = absurd h
+short_wave_block old new block items given WideSensitive x h = absurd h
 short_wave_block old new block items given ShortWave x h =
     let g = given x h in (g.0, given_short_wave (length x / 4) (length (x ++ block) / 4) (x ++ block) items g.1)
 
@@ -200,6 +213,7 @@ pub short_wave_finish : (old : HeldHf) (items : List Candidate) → old.position
 short_wave_finish old items room rest Plain x h = absurd h
 short_wave_finish old items room rest Wide x h = absurd h
 short_wave_finish old items room rest Sensitive x h = absurd h
+short_wave_finish old items room rest WideSensitive x h = absurd h
 short_wave_finish old items room rest ShortWave x h =
     rest_short_wave x items (rest x (let count = h.count in omega arith) h)
 

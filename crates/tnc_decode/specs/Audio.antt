@@ -50,7 +50,7 @@ audio_fault_at rates form octets =
 -- the rates that a WAV file may have
 abbrev pub rates_of : Receiving → Rates
 rates_of (Standard rate) = NarrowOrWide
-rates_of Sensitive = Narrow
+rates_of (Sensitive rate) = NarrowOrWide
 rates_of ShortWave = Narrow
 
 -- the samples of the input of words

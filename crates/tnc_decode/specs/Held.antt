@@ -3,6 +3,7 @@ use Rattle.std.specs.Prelude.{◌≡◌, ℕ, ◌+◌, ◌≤◌, List, [], ◌�
 use Rattle.tnc_base.specs.Streams.{WrotePart}
 use Rattle.slicer_bank.specs.HeldDecoder.{StandsFor as DecoderStandsFor}
 use Rattle.wide_input.specs.HeldDecoder.{StandsFor as WideStandsFor}
+use Rattle.wide_input.specs.HeldSensitive.{StandsFor as WideSensitiveStandsFor}
 use Rattle.hf_modem.specs.HeldDecoder.{StandsFor as HfStandsFor}
 use Rattle.sensitive_receiver.specs.HeldDecoder.{StandsFor as SensitiveStandsFor}
 use Rattle.wav_file.specs.declared.rates.Rates.{Rates}
@@ -14,10 +15,11 @@ use Rattle.tnc_words.specs.declared.command.DecodeWords.{DecodeWords}
 use Rattle.tnc_decode.specs.declared.audio.Audio.{Audio}
 use Rattle.tnc_decode.specs.declared.audio.Audio.TheVariants.{Pcm, File}
 use Rattle.tnc_decode.specs.declared.decoders.Decoders.{Decoders}
-use Rattle.tnc_decode.specs.declared.decoders.Decoders.TheVariants.{Plain, Wide, Sensitive, ShortWave}
+use Rattle.tnc_decode.specs.declared.decoders.Decoders.TheVariants.{Plain, Wide, Sensitive, WideSensitive, ShortWave}
 use Rattle.tnc_decode.specs.declared.modem.Modem.{Modem}
 use Rattle.tnc_decode.specs.declared.modem.Modem.TheVariants.{Plain as PlainModem, Wide as WideModem}
 use Rattle.tnc_decode.specs.declared.modem.Modem.TheVariants.{Sensitive as SensitiveModem}
+use Rattle.tnc_decode.specs.declared.modem.Modem.TheVariants.{WideSensitive as WideSensitiveModem}
 use Rattle.tnc_decode.specs.declared.modem.Modem.TheVariants.{ShortWave as ShortWaveModem}
 use Rattle.tnc_decode.specs.declared.receiver.Receiver.{Receiver}
 use Rattle.tnc_decode.specs.Audio.{rates_of, samples_read}
@@ -44,6 +46,7 @@ abbrev pub HasDecoded : Modem → Decoders → List ℤ → Type 0
 HasDecoded PlainModem (Plain decoder) x = DecoderStandsFor decoder x
 HasDecoded WideModem (Wide decoder) x = WideStandsFor decoder x
 HasDecoded SensitiveModem (Sensitive decoder) x = SensitiveStandsFor decoder x
+HasDecoded WideSensitiveModem (WideSensitive decoder) x = WideSensitiveStandsFor decoder x
 HasDecoded ShortWaveModem (ShortWave decoder) x = HfStandsFor decoder x
 HasDecoded modem decoder x = ⊥
 
@@ -52,12 +55,14 @@ abbrev pub position_of : Decoders → ℕ
 position_of (Plain decoder) = decoder.position
 position_of (Wide decoder) = decoder.bank.position
 position_of (Sensitive decoder) = decoder.position
+position_of (WideSensitive decoder) = decoder.decoder.position
 position_of (ShortWave decoder) = decoder.position
 
 abbrev pub finished_of : Decoders → Bool
 finished_of (Plain decoder) = decoder.finished
 finished_of (Wide decoder) = decoder.bank.finished
 finished_of (Sensitive decoder) = decoder.finished
+finished_of (WideSensitive decoder) = decoder.decoder.finished
 finished_of (ShortWave decoder) = decoder.finished
 
 -- the receiver was given these octets, and has written this text

@@ -7,7 +7,8 @@ use Rattle.slicer_bank.specs.Candidates.{AreCandidates}
 use Rattle.hf_modem.specs.Candidates.{AreCandidates as AreHfCandidates}
 use Rattle.sensitive_receiver.specs.Candidates.{AreHeard as AreSensitiveCandidates}
 use Rattle.sensitive_receiver.specs.MergedItems.{settled}
-use Rattle.resampler.specs.Filtered.{filtered}
+use Rattle.resampler.specs.Filtered.{filtered, decimated}
+use Rattle.wide_input.specs.SettledByAll.{settled_by_all}
 use Rattle.wide_input.specs.MergedItems.{settled_ends}
 use Rattle.wide_input.specs.Candidates.{AreWideCandidates}
 use Rattle.wav_file.specs.declared.rates.Rates.TheVariants.{NarrowOrWide}
@@ -21,24 +22,33 @@ use Rattle.tnc_words.specs.declared.command.Receiving.TheVariants.{ShortWave as 
 use Rattle.tnc_words.specs.declared.command.SampleRate.{SampleRate}
 use Rattle.tnc_words.specs.declared.command.SampleRate.TheVariants.{Narrow, Wide as WideRate}
 use Rattle.tnc_decode.specs.declared.modem.Modem.{Modem}
-use Rattle.tnc_decode.specs.declared.modem.Modem.TheVariants.{Plain, Wide, Sensitive, ShortWave}
+use Rattle.tnc_decode.specs.declared.modem.Modem.TheVariants.{Plain, Wide, Sensitive, WideSensitive, ShortWave}
 
 -- ---- which one hears
 
--- samples of a rate that words name
-abbrev pub modem_of_rate : SampleRate → Modem
-modem_of_rate Narrow = Plain
-modem_of_rate WideRate = Wide
+-- the rate of a WAV file, as it told it; before that it has no samples
+abbrev pub rate_of_file : Option ℕ → SampleRate
+rate_of_file None = Narrow
+rate_of_file (Some rate) = if rate == 48000 then WideRate else Narrow
 
--- samples of a WAV file, by the rate that it told; before that there are none
-abbrev pub modem_of_file : Option ℕ → Modem
-modem_of_file None = Plain
-modem_of_file (Some rate) = if rate == 48000 then Wide else Plain
+-- the rate of raw samples is the one that words name
+abbrev pub rate_for : SampleRate → AudioForm → List ℕ → SampleRate
+rate_for named Raw octets = named
+rate_for named Wav octets = rate_of_file (rate_in NarrowOrWide octets)
+
+-- what hears samples at a rate
+abbrev pub plain_at : SampleRate → Modem
+plain_at Narrow = Plain
+plain_at WideRate = Wide
+
+-- and with all lanes
+abbrev pub sensitive_at : SampleRate → Modem
+sensitive_at Narrow = Sensitive
+sensitive_at WideRate = WideSensitive
 
 abbrev pub modem_for : Receiving → AudioForm → List ℕ → Modem
-modem_for (Standard rate) Raw octets = modem_of_rate rate
-modem_for (Standard rate) Wav octets = modem_of_file (rate_in NarrowOrWide octets)
-modem_for AskedSensitive form octets = Sensitive
+modem_for (Standard rate) form octets = plain_at (rate_for rate form octets)
+modem_for (AskedSensitive rate) form octets = sensitive_at (rate_for rate form octets)
 modem_for OnShortWave form octets = ShortWave
 
 -- the modem that hears the input of words
@@ -47,11 +57,13 @@ modem_of words octets = modem_for words.receiving words.audio octets
 
 -- ---- what it hears
 
--- the items are all candidates of the samples, those at 48,000 a second filtered
+-- The items are all candidates of the samples. Those at 48,000 a second are filtered; eight lanes hear each of their five
+-- streams, and all lanes together the first one.
 abbrev pub AreHeard : Modem → List ℤ → List Candidate → Type 0
 AreHeard Plain x items = AreCandidates x items
 AreHeard Wide x items = AreWideCandidates (filtered x) items
 AreHeard Sensitive x items = AreSensitiveCandidates x items
+AreHeard WideSensitive x items = AreSensitiveCandidates (decimated x) items
 AreHeard ShortWave x items = AreHfCandidates x items
 
 -- what ends below this position is settled by the samples, whatever follows
@@ -59,6 +71,7 @@ abbrev pub settled_count : Modem → List ℤ → ℕ
 settled_count Plain x = length x
 settled_count Wide x = settled_ends (length x)
 settled_count Sensitive x = settled (length x)
+settled_count WideSensitive x = settled_by_all (length x)
 settled_count ShortWave x = length x / 4
 
 -- the items are those of the samples' merged candidates that end from one position to below another

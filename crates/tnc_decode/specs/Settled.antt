@@ -14,7 +14,7 @@ pub record IsPrintBelow (position : ℕ) (words : DecodeWords) (octets text : Li
   pub is : text ≡ print words.frames (candidate_frames items)
 
 -- how many samples these octets have, as their modem counts them: of several streams those of the least, and fifteen
--- fewer at 48,000 a second; by 23 lanes 17 fewer
+-- fewer at 48,000 a second; by all lanes those that the last of them has passed, of the first stream
 abbrev pub sample_count : DecodeWords → List ℕ → ℕ
 sample_count words octets = settled_count (modem_of words octets) (samples_read words octets)
 

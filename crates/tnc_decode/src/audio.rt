@@ -4,20 +4,21 @@ ghost use Rattle.wav_file.specs.Samples.{samples as samples_in_pairs};
 ghost use Rattle.tnc_forms.specs.declared.fault.InputFault.{InputFault};
 ghost use Rattle.tnc_words.specs.declared.command.AudioForm.{AudioForm};
 ghost use Rattle.wav_file.specs.declared.rates.Rates.{Rates};
+ghost use Rattle.wav_file.specs.declared.rates.Rates.TheVariants.{NarrowOrWide};
 ghost use Rattle.wav_file.specs.Held.{StandsFor};
 ghost use Rattle.tnc_words.specs.declared.command.DecodeWords.{DecodeWords};
 ghost use Rattle.tnc_decode.specs.Audio.{fault_in_verdict, form_fault_at, rates_of, samples_at, stopping_fault_at};
-ghost use Rattle.tnc_decode.specs.Modem.{modem_of};
+ghost use Rattle.tnc_decode.specs.Modem.{modem_of, rate_for};
 ghost use Rattle.tnc_decode.specs.declared.audio.Audio.{Audio};
 ghost use Rattle.tnc_decode.specs.Held.{HasTaken, HasTakenAt, odd_octet};
 
 use crate::modem::Modem;
 use tnc_base::OutOfMemory;
 use tnc_forms::{Fault, InputFault};
-use tnc_words::{AudioForm, DecodeWords, Receiving};
+use tnc_words::{AudioForm, DecodeWords, Receiving, SampleRate};
 use wav_file::WavIn;
 
-/// The samples a second of a file that the wide modem hears.
+/// The samples a second of a file whose rate is the wide one.
 const WIDE_RATE: u32 = 48_000;
 
 /// Audio up to some octet.
@@ -45,16 +46,23 @@ impl Audio {
         ensures { (words : DecodeWords) (octets : List ℕ) → receiving ≡ words.receiving → HasTaken words self.now octets
             → result ≡ modem_of words octets }
     {
-        let rate = match receiving {
-            Receiving::Standard { rate } => rate,
-            Receiving::Sensitive => return Modem::Sensitive,
-            Receiving::ShortWave => return Modem::ShortWave,
-        };
+        match receiving {
+            Receiving::Standard { rate } => Modem::plain_at(self.rate(rate)),
+            Receiving::Sensitive { rate } => Modem::sensitive_at(self.rate(rate)),
+            Receiving::ShortWave => Modem::ShortWave,
+        }
+    }
+
+    /// The rate of its samples: that which words name, or the one that a WAV file told.
+    fn rate(&self, named: SampleRate) -> SampleRate
+        ensures { (form : AudioForm) (octets : List ℕ) → HasTakenAt NarrowOrWide form self.now octets
+            → result ≡ rate_for named form octets }
+    {
         match self {
-            Audio::Pcm(_) => Modem::of_rate(rate),
+            Audio::Pcm(_) => named,
             Audio::File(file) => match file.rate() {
-                Some(WIDE_RATE) => Modem::Wide,
-                _ => Modem::Plain,
+                Some(WIDE_RATE) => SampleRate::Wide,
+                _ => SampleRate::Narrow,
             },
         }
     }
@@ -102,8 +110,8 @@ fn new_file(receiving: Receiving) -> WavIn
     ensures { StandsFor (rates_of receiving) result [] }
 {
     match receiving {
-        Receiving::Standard { .. } => WavIn::any_rate(),
-        Receiving::Sensitive | Receiving::ShortWave => WavIn::new(),
+        Receiving::Standard { .. } | Receiving::Sensitive { .. } => WavIn::any_rate(),
+        Receiving::ShortWave => WavIn::new(),
     }
 }
 

@@ -12,7 +12,7 @@ use slicer_bank::{Decoder, OpenGate};
 use std::alloc::Global;
 use std::thread::Threads;
 use tnc_base::OutOfMemory;
-use wide_input::WideDecoder;
+use wide_input::{WideDecoder, WideSensitiveDecoder};
 
 /// Samples in, frames out: a decoder for each modem.
 #[derive(Drop)]
@@ -20,6 +20,7 @@ pub(crate) enum Decoders {
     Plain(Decoder),
     Wide(WideDecoder),
     Sensitive(SensitiveDecoder),
+    WideSensitive(WideSensitiveDecoder),
     ShortWave(HfDecoder),
 }
 
@@ -34,6 +35,9 @@ impl Decoders {
             Modem::Plain => Ok(Decoders::Plain(Decoder::new(alloc)?)),
             Modem::Wide => Ok(Decoders::Wide(WideDecoder::new(alloc)?)),
             Modem::Sensitive => Ok(Decoders::Sensitive(SensitiveDecoder::new(alloc)?)),
+            Modem::WideSensitive => {
+                Ok(Decoders::WideSensitive(WideSensitiveDecoder::new(alloc)?))
+            }
             Modem::ShortWave => Ok(Decoders::ShortWave(HfDecoder::new(alloc)?)),
         }
     }
@@ -46,6 +50,7 @@ impl Decoders {
             Decoders::Plain(_) => Modem::Plain,
             Decoders::Wide(_) => Modem::Wide,
             Decoders::Sensitive(_) => Modem::Sensitive,
+            Decoders::WideSensitive(_) => Modem::WideSensitive,
             Decoders::ShortWave(_) => Modem::ShortWave,
         }
     }
@@ -74,6 +79,10 @@ impl Decoders {
             Decoders::Wide(decoder) => decoder.block(block),
             Decoders::Sensitive(decoder) if threads => decoder.block_threads(rt, block, &OpenGate),
             Decoders::Sensitive(decoder) => decoder.block(block),
+            Decoders::WideSensitive(decoder) if threads => {
+                decoder.block_threads(rt, block, &OpenGate)
+            }
+            Decoders::WideSensitive(decoder) => decoder.block(block),
             Decoders::ShortWave(decoder) => decoder.block(block),
         }
     }
@@ -88,6 +97,7 @@ impl Decoders {
             Decoders::Plain(decoder) => decoder.finish(),
             Decoders::Wide(decoder) => decoder.finish(),
             Decoders::Sensitive(decoder) => decoder.finish(),
+            Decoders::WideSensitive(decoder) => decoder.finish(),
             Decoders::ShortWave(decoder) => decoder.finish(),
         }
     }

@@ -6,5 +6,5 @@ use Rattle.tnc_words.specs.Rates.{HasRate}
 pub no_rate : (found : List Row) → ((rate : SampleRate) → HasRate found rate → ⊥) → (receiving : Receiving)
     → HasReceiving found receiving → ⊥
 no_rate found none (Standard rate) h = none rate h.2
-no_rate found none Sensitive h = none Narrow h.2
+no_rate found none (Sensitive rate) h = none rate h.2
 no_rate found none ShortWave h = none Narrow h.3

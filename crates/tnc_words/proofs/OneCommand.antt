@@ -52,13 +52,14 @@ one_receiving : (found : List Row) (receiving other : Receiving) → HasReceivin
     → HasReceiving found other → receiving ≡ other
 one_receiving found (Standard rate) (Standard other) h k =
     ap Standard (one_rate rate other (one_number _ _ _ _ _ _ h.2 k.2))
-one_receiving found (Standard rate) Sensitive h k = absurd (true≢false (sym k.1 ∙ h.1))
+one_receiving found (Standard rate) (Sensitive other) h k = absurd (true≢false (sym k.1 ∙ h.1))
 one_receiving found (Standard rate) ShortWave h k = absurd (true≢false (sym k.0 ∙ h.0))
-one_receiving found Sensitive (Standard other) h k = absurd (true≢false (sym h.1 ∙ k.1))
-one_receiving found Sensitive Sensitive h k = refl
-one_receiving found Sensitive ShortWave h k = absurd (true≢false (sym k.0 ∙ h.0))
+one_receiving found (Sensitive rate) (Standard other) h k = absurd (true≢false (sym h.1 ∙ k.1))
+one_receiving found (Sensitive rate) (Sensitive other) h k =
+    ap Sensitive (one_rate rate other (one_number _ _ _ _ _ _ h.2 k.2))
+one_receiving found (Sensitive rate) ShortWave h k = absurd (true≢false (sym k.0 ∙ h.0))
 one_receiving found ShortWave (Standard other) h k = absurd (true≢false (sym h.0 ∙ k.0))
-one_receiving found ShortWave Sensitive h k = absurd (true≢false (sym h.0 ∙ k.0))
+one_receiving found ShortWave (Sensitive other) h k = absurd (true≢false (sym h.0 ∙ k.0))
 one_receiving found ShortWave ShortWave h k = refl
 
 -- ---- what was found gives one set of options

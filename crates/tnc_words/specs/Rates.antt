@@ -17,12 +17,12 @@ samples_a_second Wide = 48000
 abbrev pub HasRate : List Row → SampleRate → Type 0
 HasRate found rate = HasNumber (first_of (codes "rate") found) 9600 9600 48000 (samples_a_second rate)
 
--- [--hf] or [--sensitive], both at 9600 samples a second, and the first without threads
+-- [--sensitive] at either rate, or [--hf] at 9600 samples a second and without threads
 abbrev pub HasReceiving : List Row → Receiving → Type 0
 HasReceiving found (Standard rate) =
     (is_used (codes "hf") found ≡ false) × (is_used (codes "sensitive") found ≡ false) × HasRate found rate
-HasReceiving found Sensitive =
-    (is_used (codes "hf") found ≡ false) × (is_used (codes "sensitive") found ≡ true) × HasRate found Narrow
+HasReceiving found (Sensitive rate) =
+    (is_used (codes "hf") found ≡ false) × (is_used (codes "sensitive") found ≡ true) × HasRate found rate
 HasReceiving found ShortWave =
     (is_used (codes "hf") found ≡ true) × (is_used (codes "sensitive") found ≡ false)
     × (is_used (codes "threads") found ≡ false) × HasRate found Narrow

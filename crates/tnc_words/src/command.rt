@@ -37,8 +37,8 @@ pub enum SampleRate {
 pub enum Receiving {
     /// Bell 202 at 1200 bits a second. The rate is that of raw samples; a WAV file tells its own.
     Standard { rate: SampleRate },
-    /// Bell 202 by more lanes, which hear weaker and less exact signals, at 9600 samples a second.
-    Sensitive,
+    /// So by more lanes, which hear weaker and less exact signals.
+    Sensitive { rate: SampleRate },
     /// 300 bits a second and a shift of 200 Hz, on short wave, at 9600 samples a second.
     ShortWave,
 }

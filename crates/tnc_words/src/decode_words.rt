@@ -55,11 +55,11 @@ fn receiving(found: &ArgMatches) -> Option<Receiving>
     let rate = sample_rate(text_of(found, "rate"))?;
     match (has_flag(found, "hf"), has_flag(found, "sensitive"), rate) {
         (false, false, rate) => Some(Receiving::Standard { rate }),
-        (false, true, SampleRate::Narrow) => Some(Receiving::Sensitive),
+        (false, true, rate) => Some(Receiving::Sensitive { rate }),
         (true, false, SampleRate::Narrow) if !has_flag(found, "threads") => Some(
             Receiving::ShortWave,
         ),
-        (false, true, SampleRate::Wide) | (true, _, _) => None,
+        (true, _, _) => None,
     }
 }
 

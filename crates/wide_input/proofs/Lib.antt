@@ -7,3 +7,4 @@ pub mod WideMerged
 pub mod WideLaw
 pub mod FilteredLemmas
 pub mod DecoderLemmas
+pub mod DecimatedLemmas

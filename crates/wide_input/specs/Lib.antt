@@ -4,3 +4,5 @@ pub mod MergedItems
 pub mod Stray
 pub mod Held
 pub mod HeldDecoder
+pub mod SettledByAll
+pub mod HeldSensitive

@@ -16,7 +16,7 @@ use std::thread::Threads;
 use tnc_base::OutOfMemory;
 
 /// The most samples of a block.
-const BLOCK: usize = 2048;
+pub(crate) const BLOCK: usize = 2048;
 
 /// A [`LowPass`] filter before a [`WideBank`]: `new`, then `block` for each block of samples, then `finish`. The filter
 /// asks for fifteen samples past a place, so a block settles so much less. After want of memory it is spent: no later
@@ -112,7 +112,10 @@ impl WideDecoder {
 }
 
 /// The items of one list and then of the other.
-fn join(first: Vec<Candidate>, second: Vec<Candidate>) -> Result<Vec<Candidate>, OutOfMemory>
+pub(crate) fn join(
+    first: Vec<Candidate>,
+    second: Vec<Candidate>,
+) -> Result<Vec<Candidate>, OutOfMemory>
     ensures { IfOk result (λ items. items.items ≡ first.items ++ second.items) }
 {
     let mut items = first;

@@ -36,7 +36,9 @@ const WORDS: DecodeWords = DecodeWords {
 
 /// By all 23 lanes.
 const SENSITIVE: DecodeWords = DecodeWords {
-    receiving: Receiving::Sensitive,
+    receiving: Receiving::Sensitive {
+        rate: SampleRate::Narrow,
+    },
     ..WORDS
 };
 
@@ -199,12 +201,42 @@ fn all_lanes_hear_a_slow_sender_too(rt: HostRuntime) -> Result<(), Fail> {
     Ok(())
 }
 
-// The rate ends at the 28th octet of a WAV file.
 #[test]
-fn all_lanes_take_no_file_of_48000_a_second(rt: HostRuntime) -> Result<(), Fail> {
-    let words = DecodeWords {
+fn all_lanes_hear_samples_at_48000_a_second(rt: HostRuntime) -> Result<(), Fail> {
+    let raw = DecodeWords {
+        receiving: Receiving::Sensitive {
+            rate: SampleRate::Wide,
+        },
+        ..WORDS
+    };
+    let on_threads = DecodeWords {
+        threads: true,
+        ..raw
+    };
+    let wav = DecodeWords {
         audio: AudioForm::Wav,
         ..SENSITIVE
+    };
+    let table: [(DecodeWords, &[u8]); 3] = [
+        (raw, b""),
+        (on_threads, b"\0\0\0\0\0\0"),
+        (wav, WIDE_HEAD),
+    ];
+    for (words, front) in table {
+        let mut octets = front.to_vec(rt.alloc())?;
+        record(&mut octets, 5)?;
+        assert_writes(&rt, rt.alloc(), words, octets, LINE)?;
+    }
+    Ok(())
+}
+
+// The rate ends at the 28th octet of a WAV file.
+#[test]
+fn short_wave_takes_no_file_of_48000_a_second(rt: HostRuntime) -> Result<(), Fail> {
+    let words = DecodeWords {
+        audio: AudioForm::Wav,
+        receiving: Receiving::ShortWave,
+        ..WORDS
     };
     let (_, end) = decoded(
         &rt,

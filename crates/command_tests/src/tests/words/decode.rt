@@ -27,7 +27,9 @@ const SHORT_WAVE: DecodeWords = DecodeWords {
 };
 
 const SENSITIVE: DecodeWords = DecodeWords {
-    receiving: Receiving::Sensitive,
+    receiving: Receiving::Sensitive {
+        rate: SampleRate::Narrow,
+    },
     ..DECODE
 };
 
@@ -73,6 +75,15 @@ fn decode_takes_what_hears_and_its_rate(rt: HostRuntime) -> Result<(), Fail> {
         ("--wav --rate=048000", DecodeWords { audio: WAV, ..WIDE }),
         ("--hf --rate 9600", SHORT_WAVE),
         ("--sensitive", SENSITIVE),
+        (
+            "--rate 48000 --sensitive",
+            DecodeWords {
+                receiving: Receiving::Sensitive {
+                    rate: SampleRate::Wide,
+                },
+                ..DECODE
+            },
+        ),
         (
             "--threads --sensitive --rate=9600 --kiss --wav",
             DecodeWords {

@@ -1,14 +1,15 @@
 use Rattle.tnc_decode.proofs.Common.{◌/◌, ◌++◌, ℤ, List, length, sym, subst, IfOk, IfOk-weaker, StandsFor}
 use Rattle.tnc_decode.proofs.Common.{AreMergedBetween, settled, filtered, settled_ends, AreWideMergedBetween, Decoders, Modem}
-use Rattle.tnc_decode.proofs.Common.{HasDecoded, settled_count, AreGivenBetween}
+use Rattle.tnc_decode.proofs.Common.{HasDecoded, settled_count, AreGivenBetween, decimated, settled_by_all}
 use Rattle.hf_modem.specs.HeldDecoder.{StandsFor as HfStandsFor}
 use Rattle.hf_modem.specs.MergedItems.{AreMergedBetween as AreHfMergedBetween}
 use Rattle.sensitive_receiver.specs.HeldDecoder.{StandsFor as SensitiveStandsFor}
 use Rattle.sensitive_receiver.specs.MergedItems.{AreMergedBetween as AreSensitiveMergedBetween}
 use Rattle.wide_input.specs.HeldDecoder.{StandsFor as WideStandsFor}
-use Rattle.tnc_decode.specs.declared.decoders.Decoders.TheVariants.{Plain, Wide, Sensitive, ShortWave}
+use Rattle.wide_input.specs.HeldSensitive.{StandsFor as WideSensitiveStandsFor}
+use Rattle.tnc_decode.specs.declared.decoders.Decoders.TheVariants.{Plain, Wide, Sensitive, WideSensitive, ShortWave}
 use Rattle.tnc_decode.proofs.ModemLemmas.{plain_block, wide_block, short_wave_block}
-use Rattle.tnc_decode.proofs.SensitiveLemmas.{sensitive_block}
+use Rattle.tnc_decode.proofs.SensitiveLemmas.{sensitive_block, wide_sensitive_block}
 use Rattle.tnc_decode.proofs.decoders.Decoders.block.Goals as goal
 
 pub returns-in-Plain-clause-given : goal.returns-in-Plain-clause-given
@@ -140,3 +141,43 @@ returns-in-Sensitive-2-clause-given g c =
     × AreGivenBetween modem (settled_count modem x) (settled_count modem (x ++ block)) (x ++ block) items.items)
     (λ items given. sensitive_block old new block items.items given)
     c.block-in-Sensitive-2.ensures.given)
+
+pub returns-in-WideSensitive-clause-given : goal.returns-in-WideSensitive-clause-given
+returns-in-WideSensitive-clause-given g c =
+    let block : List ℤ = c.args.block.now in
+    let old = c.in-WideSensitive.decoder in
+    let new = c.block_threads-in-WideSensitive.new.self in
+    let P : Decoders → Type 0 = λ self. IfOk c.block_threads-in-WideSensitive.result
+    (λ items. (modem : Modem) (x : List ℤ) → HasDecoded modem self x
+    → HasDecoded modem (WideSensitive new) (x ++ block)
+    × AreGivenBetween modem (settled_count modem x) (settled_count modem (x ++ block)) (x ++ block) items.items) in
+    subst P (sym c.in-WideSensitive.is) (IfOk-weaker c.block_threads-in-WideSensitive.result
+    (λ items. (x : List ℤ) → WideSensitiveStandsFor old x
+    → WideSensitiveStandsFor new (x ++ block)
+    × AreSensitiveMergedBetween (settled_by_all (length x)) (settled_by_all (length (x ++ block)))
+    (decimated (x ++ block)) items.items)
+    (λ items. (modem : Modem) (x : List ℤ) → HasDecoded modem (WideSensitive old) x
+    → HasDecoded modem (WideSensitive new) (x ++ block)
+    × AreGivenBetween modem (settled_count modem x) (settled_count modem (x ++ block)) (x ++ block) items.items)
+    (λ items given. wide_sensitive_block old new block items.items given)
+    c.block_threads-in-WideSensitive.ensures.given)
+
+pub returns-in-WideSensitive-2-clause-given : goal.returns-in-WideSensitive-2-clause-given
+returns-in-WideSensitive-2-clause-given g c =
+    let block : List ℤ = c.args.block.now in
+    let old = c.in-WideSensitive.decoder in
+    let new = c.block-in-WideSensitive-2.new.self in
+    let P : Decoders → Type 0 = λ self. IfOk c.block-in-WideSensitive-2.result
+    (λ items. (modem : Modem) (x : List ℤ) → HasDecoded modem self x
+    → HasDecoded modem (WideSensitive new) (x ++ block)
+    × AreGivenBetween modem (settled_count modem x) (settled_count modem (x ++ block)) (x ++ block) items.items) in
+    subst P (sym c.in-WideSensitive.is) (IfOk-weaker c.block-in-WideSensitive-2.result
+    (λ items. (x : List ℤ) → WideSensitiveStandsFor old x
+    → WideSensitiveStandsFor new (x ++ block)
+    × AreSensitiveMergedBetween (settled_by_all (length x)) (settled_by_all (length (x ++ block)))
+    (decimated (x ++ block)) items.items)
+    (λ items. (modem : Modem) (x : List ℤ) → HasDecoded modem (WideSensitive old) x
+    → HasDecoded modem (WideSensitive new) (x ++ block)
+    × AreGivenBetween modem (settled_count modem x) (settled_count modem (x ++ block)) (x ++ block) items.items)
+    (λ items given. wide_sensitive_block old new block items.items given)
+    c.block-in-WideSensitive-2.ensures.given)

@@ -1,16 +1,17 @@
 use Rattle.tnc_decode.proofs.Common.{arith, ◌<◌, ◌+◌, ◌/◌, ◌^◌, ℤ, List, length, sym, subst, IfOk, IfOk-weaker, StandsFor}
 use Rattle.tnc_decode.proofs.Common.{AreMergedBetween, settled, Decoders, Modem, HasDecoded, position_of, settled_count}
-use Rattle.tnc_decode.proofs.Common.{AreGivenRest}
+use Rattle.tnc_decode.proofs.Common.{AreGivenRest, decimated, settled_by_all}
 use Rattle.hf_modem.specs.HeldDecoder.{StandsFor as HfStandsFor}
 use Rattle.hf_modem.specs.MergedItems.{AreMergedBetween as AreHfMergedBetween}
 use Rattle.sensitive_receiver.specs.HeldDecoder.{StandsFor as SensitiveStandsFor}
 use Rattle.sensitive_receiver.specs.MergedItems.{AreMergedBetween as AreSensitiveMergedBetween}
-use Rattle.tnc_decode.specs.declared.decoders.Decoders.TheVariants.{Plain, Wide, Sensitive, ShortWave}
+use Rattle.tnc_decode.specs.declared.decoders.Decoders.TheVariants.{Plain, Wide, Sensitive, WideSensitive, ShortWave}
 use Rattle.wide_input.specs.HeldDecoder.{StandsFor as WideStandsFor}
+use Rattle.wide_input.specs.HeldSensitive.{StandsFor as WideSensitiveStandsFor}
 use Rattle.wide_input.specs.MergedItems.{AreWideRest, settled_ends}
 use Rattle.resampler.specs.Filtered.{filtered}
 use Rattle.tnc_decode.proofs.ModemLemmas.{plain_finish, short_wave_finish, wide_finish}
-use Rattle.tnc_decode.proofs.SensitiveLemmas.{sensitive_finish}
+use Rattle.tnc_decode.proofs.SensitiveLemmas.{sensitive_finish, wide_sensitive_finish}
 use Rattle.tnc_decode.proofs.decoders.Decoders.finish.Goals as goal
 
 pub returns-in-Plain : goal.returns-in-Plain
@@ -77,4 +78,20 @@ returns-in-Wide c =
           → AreGivenRest modem (settled_count modem x) x items.items)
           (λ items rest. wide_finish decoder items.items rest)
           c.finish-in-Wide.ensures.rest);
+    }
+
+pub returns-in-WideSensitive : goal.returns-in-WideSensitive
+returns-in-WideSensitive c =
+    let decoder = c.in-WideSensitive.decoder in
+    let result = c.finish-in-WideSensitive.result in
+    let P : Decoders → Type 0 = λ self. IfOk result (λ items. (modem : Modem) (x : List ℤ) → HasDecoded modem self x
+    → AreGivenRest modem (settled_count modem x) x items.items) in
+    record {
+      rest = subst P (sym c.in-WideSensitive.is) (IfOk-weaker result
+          (λ items. (x : List ℤ) → WideSensitiveStandsFor decoder x
+          → AreSensitiveMergedBetween (settled_by_all (length x)) (length (decimated x) + 1) (decimated x) items.items)
+          (λ items. (modem : Modem) (x : List ℤ) → HasDecoded modem (WideSensitive decoder) x
+          → AreGivenRest modem (settled_count modem x) x items.items)
+          (λ items rest. wide_sensitive_finish decoder items.items rest)
+          c.finish-in-WideSensitive.ensures.rest);
     }
