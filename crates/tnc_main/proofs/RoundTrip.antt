@@ -20,7 +20,7 @@ use Rattle.tnc_words.specs.declared.command.Modem.TheVariants.{Bell202, ShortWav
 use Rattle.wav_file.specs.declared.rates.Rates.TheVariants.{NarrowOrWide}
 use Rattle.tnc_decode.specs.Audio.{fault_in_verdict, form_fault, form_fault_at, rates_of, samples_at, stopping_fault}
 use Rattle.tnc_decode.specs.declared.modem.Modem.TheVariants.{ShortWave as HearsShortWave}
-use Rattle.tnc_decode.specs.Modem.{modem_for, modem_of_file}
+use Rattle.tnc_decode.specs.Modem.{modem_for, plain_at, rate_of_file}
 use Rattle.tnc_encode.specs.Frames.{form_fault as frames_fault}
 use Rattle.tnc_encode.specs.Encoded.{encode_fault, most_samples, signal_of, written_as}
 use Rattle.tnc_encode.specs.Sending.{signal_by}
@@ -76,10 +76,10 @@ hearing (Fx25 checks) = Plain
 written_heard : (modem : Sending) (form : AudioForm) (x : List ℤ) → (form ≡ Wav → length x ≤ most_samples)
     → modem_for (receiving_of modem) form (written_as form x) ≡ hearing modem
 written_heard Bell202 Raw x few = refl
-written_heard Bell202 Wav x few = ap modem_of_file (rate-wav x (few refl) NarrowOrWide)
+written_heard Bell202 Wav x few = ap (λ told. plain_at (rate_of_file told)) (rate-wav x (few refl) NarrowOrWide)
 written_heard ShortWave form x few = refl
 written_heard (Fx25 checks) Raw x few = refl
-written_heard (Fx25 checks) Wav x few = ap modem_of_file (rate-wav x (few refl) NarrowOrWide)
+written_heard (Fx25 checks) Wav x few = ap (λ told. plain_at (rate_of_file told)) (rate-wav x (few refl) NarrowOrWide)
 
 -- every sample that is sent fits
 sent_fits : (modem : Sending) (level : ℕ) (sent : List Transmission) → level ≤ 32767

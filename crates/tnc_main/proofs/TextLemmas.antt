@@ -8,10 +8,10 @@ use Rattle.std.proofs.Common.{lt-ltb}
 use Rattle.clean_signal.specs.GoodTransmission.{frames_of}
 use Rattle.clean_signal.specs.NearSignal.{Received, transmissions_of}
 use Rattle.clean_signal.proofs.Law.{near_law}
-use Rattle.resampler.specs.Filtered.{filtered}
+use Rattle.resampler.specs.Filtered.{filtered, decimated}
 use Rattle.wide_input.proofs.WideLaw.{near_stream_law}
 use Rattle.hf_signal.proofs.Law.{near_law as hf_near_law}
-use Rattle.tnc_decode.specs.declared.modem.Modem.TheVariants.{Wide, Sensitive, ShortWave}
+use Rattle.tnc_decode.specs.declared.modem.Modem.TheVariants.{Wide, Sensitive, WideSensitive, ShortWave}
 use Rattle.tnc_encode.specs.Frames.{form_fault as frames_fault}
 use Rattle.tnc_main.specs.Clean.{IsNearlyClean}
 use Rattle.sensitive_receiver.proofs.SignalLaw.{near_law as all_lanes_law}
@@ -54,6 +54,7 @@ near_merges Plain x received clean = near_law received x clean.each clean.near c
 near_merges Wide x received clean = near_stream_law clean.number received (filtered x) clean.within clean.each
     clean.near clean.no_stray
 near_merges Sensitive x received clean = all_lanes_law received x clean.each clean.near clean.none_stray
+near_merges WideSensitive x received clean = all_lanes_law received (decimated x) clean.each clean.near clean.none_stray
 near_merges ShortWave x received clean = hf_near_law received x clean.each clean.near clean.no_stray
 
 pub near_text : (words : DecodeWords) (received : List Received) (octets text : List ℕ)

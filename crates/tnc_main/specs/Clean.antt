@@ -6,11 +6,11 @@ use Rattle.clean_signal.specs.Stray.{NoStray}
 use Rattle.hf_signal.specs.NearSignal.{IsReceived as IsHfReceived, IsNearAll as IsHfNearAll}
 use Rattle.hf_signal.specs.Stray.{NoStray as NoHfStray}
 use Rattle.sensitive_receiver.specs.Stray.{NoneStray}
-use Rattle.resampler.specs.Filtered.{filtered}
+use Rattle.resampler.specs.Filtered.{filtered, decimated}
 use Rattle.wide_input.specs.Streams.{stream}
 use Rattle.wide_input.specs.Stray.{NoWideStray}
 use Rattle.tnc_decode.specs.declared.modem.Modem.{Modem}
-use Rattle.tnc_decode.specs.declared.modem.Modem.TheVariants.{Plain, Wide, Sensitive, ShortWave}
+use Rattle.tnc_decode.specs.declared.modem.Modem.TheVariants.{Plain, Wide, Sensitive, WideSensitive, ShortWave}
 
 -- the samples are near what these transmissions give, each from a phase and at a level of its own, and none of their
 -- candidates is stray
@@ -27,7 +27,7 @@ pub record IsCleanInStream (x : List ℤ) (received : List Received) : Type 0 wh
   pub near : IsNearAll received (stream number x)
   pub no_stray : NoWideStray number (transmissions_of received) x
 
--- the samples are near what these transmissions give, and no candidate of any of the 23 lanes is stray
+-- the samples are near what these transmissions give, and no candidate of any lane is stray
 pub record IsCleanOnAllLanes (x : List ℤ) (received : List Received) : Type 0 where
   pub each : All IsReceived received
   pub near : IsNearAll received x
@@ -39,9 +39,10 @@ pub record IsCleanOnShortWave (x : List ℤ) (received : List Received) : Type 0
   pub near : IsHfNearAll received x
   pub no_stray : NoHfStray (transmissions_of received) x
 
--- as the modem hears them: samples at 48,000 a second filtered
+-- as the modem hears them: samples at 48,000 a second filtered, and by all lanes each fifth of these
 abbrev pub IsNearlyClean : Modem → List ℤ → List Received → Type 0
 IsNearlyClean Plain x received = IsClean x received
 IsNearlyClean Wide x received = IsCleanInStream (filtered x) received
 IsNearlyClean Sensitive x received = IsCleanOnAllLanes x received
+IsNearlyClean WideSensitive x received = IsCleanOnAllLanes (decimated x) received
 IsNearlyClean ShortWave x received = IsCleanOnShortWave x received

@@ -19,7 +19,6 @@ x
 --hf --threads
 --hf --rate 48000
 --sensitive --hf
---sensitive --rate 48000
 --sensitive --sensitive
 --sensitive=true
 --rate 44100
