@@ -1,15 +1,19 @@
 #!/usr/bin/env python3
-"""Checks the blocks that the tests of fx25_blocks have written against those that Dire Wolf's gen_packets sends.
+"""Checks the blocks that the tests of fx25_blocks have written, and what the program hears, against what Dire Wolf's
+gen_packets sends.
 
-  scripts/check_fx25.py [--tests FILE]
+  scripts/check_fx25.py [--tests FILE] [--program FILE]
 
 For 16, 32 and 64 check octets gen_packets sends N7LEM>APRS:hello, its sound is turned into bits, and the tag and the block
 have to be those of the constants UNIT_16, UNIT_32 and UNIT_64. gen_packets keeps the line of a block apart from that of
-the flags before it, so the first bit of the tag may differ, and no other. It ends with status 0 where all is well."""
+the flags before it, so the first bit of the tag may differ, and no other. Then a stretch of the data and check octets is
+silenced, as long as is promised to be repaired: `decode --fx25` has to print the frame once, and `decode` nothing. With the
+sound as it is both have to print it once. It ends with status 0 where all is well. What is not installed is left out."""
 import argparse
 import cmath
 import pathlib
 import re
+import shutil
 import subprocess
 import sys
 import tempfile
@@ -17,6 +21,7 @@ import wave
 
 RATE, BAUD, MARK, SPACE = 9600, 1200, 1200, 2200
 PER_BIT = RATE // BAUD
+FRAME = b"82a0a4a64040e09c6e988a9a40e103f068656c6c6f"
 HERE = pathlib.Path(__file__).resolve().parent.parent
 
 
@@ -61,33 +66,61 @@ def heard(samples, offset):
     return [int(a == b) for a, b in zip([True] + tones, tones)]
 
 
-def differences(count, unit):
-    """In which bits of the unit the best offset differs from it."""
-    samples = sound(count)
+def differences(samples, unit):
+    """In which bits of the unit the best offset differs from it, and the sample with which it begins there."""
     wanted = bits(unit)
     best = None
     for offset in range(PER_BIT):
         line = heard(samples, offset)
         for start in range(len(line) - len(wanted) + 1):
             wrong = [k for k, (a, b) in enumerate(zip(line[start:], wanted)) if a != b]
-            if best is None or len(wrong) < len(best):
-                best = wrong
+            if best is None or len(wrong) < len(best[0]):
+                best = wrong, offset + PER_BIT * start
     return best
+
+
+def printed(program, samples, *options):
+    """The lines that decode prints of samples."""
+    raw = b"".join(s.to_bytes(2, "little", signed=True) for s in samples)
+    return subprocess.run([program, "decode", *options], input=raw, capture_output=True, check=True).stdout.splitlines()
+
+
+def repaired(program, samples, start, count):
+    """Whether a stretch that is lost is repaired, wherever it lies. The tag is 64 bits long."""
+    lost = 32 * count - 71
+    first = start + 64 * PER_BIT
+    good = True
+    for front in (first, first + 300, first + 1000):
+        silenced = samples[:front] + [0] * lost + samples[front + lost :]
+        good = good and printed(program, silenced, "--fx25") == [FRAME]
+    plainly = samples[:first] + [0] * lost + samples[first + lost :]
+    return good and printed(program, plainly) == [] and printed(program, samples) == printed(program, samples, "--fx25") == [FRAME]
 
 
 def main():
     reader = argparse.ArgumentParser()
     reader.add_argument("--tests", default=HERE / "crates/fx25_blocks/src/tests.rt")
-    known = units(reader.parse_args().tests)
+    reader.add_argument("--program", default=HERE / "bin/tnc")
+    words = reader.parse_args()
+    known = units(words.tests)
     if sorted(known) != [16, 32, 64]:
         sys.exit("the tests have other units")
+    if not shutil.which("gen_packets"):
+        print("gen_packets is not installed: nothing was checked")
+        return
+    program = pathlib.Path(words.program).resolve()
     good = True
     for count, unit in sorted(known.items()):
-        wrong = differences(count, unit)
-        same = wrong is not None and wrong in ([], [0])
+        samples = sound(count)
+        wrong, start = differences(samples, unit)
+        same = wrong in ([], [0])
         good = good and same
         print(f"{count} check octets, {8 * len(unit)} bits: {'the same' if same else f'differ at {wrong}'}"
               + (", but for the first bit of the tag" if wrong == [0] else ""))
+        if program.is_file():
+            well = repaired(program, samples, start, count)
+            good = good and well
+            print(f"{count} check octets, {32 * count - 71} samples lost: {'repaired' if well else 'NOT as promised'}")
     sys.exit(0 if good else 1)
 
 

@@ -11,4 +11,5 @@ pub mod OptionLemmas
 pub mod ReaderLemmas
 pub mod BlockLaws
 pub mod DamageLemmas
+pub mod CoarseLemmas
 mod Examples

@@ -1,5 +1,6 @@
 -- What a reader keeps after one bit more, and what that tells of blocks.
 use Rattle.fx25_blocks.proofs.Common.{◌≡◌, ℕ, ◌+◌, ◌-◌, ◌*◌, ◌%◌, ◌<◌, ◌≤◌, ◌↔◌, min, Bool, false, List, [], ◌∷◌, ◌++◌}
+use Rattle.std.proofs.Common.{◌≢◌}
 use Rattle.fx25_blocks.proofs.Common.{length, take, drop, get_or, refl, ap, subst, ◌∙◌, sym, inl, inr, arith}
 use Rattle.fx25_blocks.proofs.Common.{append_assoc}
 use Rattle.fx25_blocks.proofs.Common.{append-nil, length-append, length-drop, length_push, take_all, take_at}
@@ -73,7 +74,7 @@ register_push bits bit =
     ∙ ap (drop 1) (drop-append-le n zeros (bit ∷ []) (omega arith))
     ∙ drop-append-le 1 (drop n zeros) (bit ∷ []) some
 
-pub kept_none : (ring : List Bool) (tags : List ℕ) → length ring ≡ 2048 → length tags ≡ 2048 → Kept ring tags 0 0 0 []
+pub kept_none : (ring : List Bool) (tags : List ℕ) → length ring ≡ 2048 → length tags ≡ 2048 → Kept ring tags 0 0 0 0 []
 unfolding after_zeros bits_of_64
 kept_none ring tags ring_size tags_size = record {
   ring_size = ring_size;
@@ -83,18 +84,20 @@ kept_none ring tags ring_size tags_size = record {
   register_is = refl;
   bits_kept = λ i below near. absurd (omega arith);
   tags_kept = λ i least most near. absurd (omega arith);
+  no_tag = λ i least most far. absurd (omega arith);
 }
 
 other_place : (i n : ℕ) → i < n → n < i + 2048 → i % 2048 ≡ n % 2048 → ⊥
 other_place i n below near same = omega arith
 
-module _ (ring : List Bool) (tags : List ℕ) (register next taken : ℕ) (b : List Bool)
-    (kept : Kept ring tags register next taken b) where
-  pub kept_push : (bit : Bool) (after tag more : ℕ) → bits_of_64 after ≡ drop 1 (bits_of_64 register) ++ bit ∷ []
+module _ (ring : List Bool) (tags : List ℕ) (register next taken following : ℕ) (b : List Bool)
+    (kept : Kept ring tags register next taken following b) where
+  pub kept_push : (bit : Bool) (after tag more left : ℕ) → bits_of_64 after ≡ drop 1 (bits_of_64 register) ++ bit ∷ []
       → ((n : ℕ) → IsTag n → ((tag ≡ n) ↔ (differing (bits_of_64 after) (tag_bits n) ≤ 12)))
-      → more ≡ min 2104 (taken + 1)
-      → Kept (set ring next bit) (set tags ((next + 1) % 2048) tag) after ((next + 1) % 2048) more (b ++ bit ∷ [])
-  kept_push bit after tag more after_is tag_is more_is =
+      → more ≡ min 2104 (taken + 1) → (tag ≡ 0 → left ≡ following - 1) → (tag ≢ 0 → left ≡ 2041)
+      → Kept (set ring next bit) (set tags ((next + 1) % 2048) tag) after ((next + 1) % 2048) more left
+      (b ++ bit ∷ [])
+  kept_push bit after tag more left after_is tag_is more_is none_left some_left =
       let size : length (b ++ bit ∷ []) ≡ length b + 1 = length_push b bit in
       let next_is = kept.next_is in
       let taken_is = kept.taken_is in
@@ -110,6 +113,10 @@ module _ (ring : List Bool) (tags : List ℕ) (register next taken : ℕ) (b : L
         register_is = register_is;
         bits_kept = λ i below near. bit_at i (omega arith) (omega arith);
         tags_kept = λ i least most near. tag_at register_is i least (omega arith) (omega arith);
+        no_tag = λ i least most far. elim (cases_eq tag 0) [
+          | inr some ↦ let all = some_left some in absurd (omega arith)
+          | inl none ↦ untagged register_is none (none_left none) i least (omega arith) (omega arith)
+        ];
       }
     where
       next_place : (n next : ℕ) → next ≡ n % 2048 → (next + 1) % 2048 ≡ (n + 1) % 2048
@@ -162,6 +169,24 @@ module _ (ring : List Bool) (tags : List ℕ) (register next taken : ℕ) (b : L
                   λ same. subst (λ xs. EndsTag xs n) (sym front) ((was n is_tag).0 (sym value ∙ same)),
                   λ ends. value ∙ (was n is_tag).1 (subst (λ xs. EndsTag xs n) front ends),
                 )
+          ]
+
+      -- a bit that ends no tag leaves those before it
+      untagged : bits_of_64 after ≡ drop (length (b ++ bit ∷ [])) (after_zeros (b ++ bit ∷ [])) → tag ≡ 0
+          → left ≡ following - 1 → (i : ℕ) → 64 ≤ i → i ≤ length b + 1 → length b + 1 + left < i + 2041
+          → (n : ℕ) → IsTag n → ¬ EndsTag (take i (b ++ bit ∷ [])) n
+      untagged register_is none left_is i least most far n is_tag ends =
+          elim (cases_eq i (length b + 1)) [
+            | inl last ↦
+                let place : i % 2048 ≡ (next + 1) % 2048 = omega (arith, kept.next_is) in
+                let value : get_or (set tags ((next + 1) % 2048) tag) (i % 2048) 0 ≡ tag =
+                ap (λ n. get_or (set tags ((next + 1) % 2048) tag) n 0) place
+                ∙ get_or-set_same tags ((next + 1) % 2048) tag 0 (omega (arith, kept.tags_size)) in
+                let told = (tag_at register_is i least most (omega arith) n is_tag).1 ends in
+                omega (arith, is_tag.0, sym value ∙ told)
+            | inr other ↦
+                let front : take i (b ++ bit ∷ []) ≡ take i b = take-append-le i b (bit ∷ []) (omega arith) in
+                kept.no_tag i least (omega arith) (omega arith) n is_tag (subst (λ xs. EndsTag xs n) front ends)
           ]
 
   -- ---- blocks
@@ -239,3 +264,12 @@ module _ (ring : List Bool) (tags : List ℕ) (register next taken : ℕ) (b : L
           ap (λ n. get_or tags n 0) (tag_place (omega arith)) ∙ here,
           subst (λ xs. CarriesFrame tag xs frame over) (sym back) ends.carries,
         )
+
+    pub idle_told : following ≡ 0 → (frame : List ℕ) (over : ℕ) → ¬ EndsBlock b tag frame over
+    idle_told idle frame over ends =
+        let i : ℕ = length b - 8 * block_length tag in
+        let most = most_octets tag is_tag in
+        let told = block_told frame over ends in
+        let same = (kept.tags_kept i (omega (arith, told.0)) (omega arith) (omega arith) tag is_tag).0
+        (ap (λ n. get_or tags n 0) (sym (tag_place (omega (arith, told.0)))) ∙ told.1) in
+        kept.no_tag i (omega (arith, told.0)) (omega arith) (omega (arith, told.0)) tag is_tag same

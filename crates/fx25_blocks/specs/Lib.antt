@@ -7,3 +7,4 @@ pub mod Written
 pub mod Opening
 pub mod Held
 pub mod Damage
+pub mod CoarseCounts

@@ -1,6 +1,6 @@
 // Blocks in a line of bits.
 
-ghost use Rattle.std.specs.Prelude.{◌≡◌, ℕ, ◌+◌, ◌<◌, ◌≤◌, min, Bool, List, [], ◌∷◌, ◌++◌, IfSome};
+ghost use Rattle.std.specs.Prelude.{◌≡◌, ◌≢◌, ℕ, ◌+◌, ◌-◌, ◌<◌, ◌≤◌, min, Bool, true, List, [], ◌∷◌, ◌++◌, IfSome};
 ghost use Rattle.std.specs.Option.{IfNone};
 ghost use Rattle.fx25_blocks.specs.BlockEnds.{EndsBlock};
 ghost use Rattle.fx25_blocks.specs.Tags.{IsTag};
@@ -14,8 +14,12 @@ use crate::tags::block_length;
 // A block of 255 octets and its tag are so many bits.
 const MOST_TAKEN: usize = 2104;
 
+// The block of a tag ends with one of so many bits, the first being the tag's last.
+const LONGEST: usize = 2041;
+
 /// Finds the blocks in a line of bits. Every tag is followed, also one that comes while a block comes in: the reader
-/// keeps the last bits, and which tag ended with each. It takes no memory beyond its own size.
+/// keeps the last bits, and which tag ended with each. While no tag stands among them, a bit is told in few steps to end
+/// no block. It takes no memory beyond its own size.
 #[derive(Drop)]
 pub struct BlockReader {
     bits: [bool; 2048],
@@ -23,6 +27,8 @@ pub struct BlockReader {
     register: u64,
     next: usize,
     taken: usize,
+    // With so many bits more a block of the last tag may end.
+    following: usize,
     ghost place: { next < 2048 },
     ghost most: { taken ≤ 2104 },
 }
@@ -40,6 +46,7 @@ impl BlockReader {
             register: 0,
             next: 0,
             taken: 0,
+            following: 0,
         }
     }
 
@@ -50,8 +57,18 @@ impl BlockReader {
         self.register = shifted(self.register, bit);
         self.bits[self.next] = bit;
         self.next = (self.next + 1) % RING;
-        self.tags[self.next] = near_tag(self.register);
+        let tag = near_tag(self.register);
+        self.tags[self.next] = tag;
+        self.following = following(self.following, tag);
         self.taken = one_more(self.taken);
+    }
+
+    /// True if no tag stands among the last bits. Then no block ends with the last one.
+    pub fn is_idle(&self) -> bool
+        ensures { (b : List Bool) → StandsFor self.now b → result ≡ true
+            → (tag : ℕ) → (frame : List ℕ) → (over : ℕ) → ¬ EndsBlock b tag frame over }
+    {
+        self.following == 0
     }
 
     /// The frame of the block that the last bit ends, if it is a block of this tag, which has a number from 1 to 11.
@@ -84,4 +101,16 @@ fn one_more(taken: usize) -> usize
     ensures most { result ≤ 2104 }
 {
     if taken < MOST_TAKEN { taken + 1 } else { taken }
+}
+
+// With how many bits more a block may end, after a bit that ends a tag or, if `tag` is 0, none.
+fn following(before: usize, tag: u8) -> usize
+    ensures none { tag ≡ 0 → result ≡ before - 1 }
+    ensures some { tag ≢ 0 → result ≡ 2041 }
+{
+    if tag == 0 {
+        before.saturating_sub(1)
+    } else {
+        LONGEST
+    }
 }

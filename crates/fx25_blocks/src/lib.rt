@@ -9,6 +9,7 @@ mod block;
 mod block_code;
 mod block_reader;
 mod block_reading;
+mod coarse_counts;
 mod laws;
 mod opening;
 mod packing;

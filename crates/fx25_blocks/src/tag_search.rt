@@ -3,6 +3,7 @@
 ghost use Rattle.std.specs.Prelude.{◌≡◌, ℕ, ◌≤◌, ◌↔◌, ◌∷◌, [], ◌++◌, drop};
 ghost use Rattle.fx25_blocks.specs.Tags.{IsTag, bits_of_64, differing, tag_bits};
 
+use crate::coarse_counts::is_far;
 use crate::tags::{TAGS, tag_value};
 
 // In so many bits a tag may be wrong. Any two tags differ in 32.
@@ -15,6 +16,9 @@ const LAST_BIT: u64 = 0x8000_0000_0000_0000;
 pub fn near_tag(register: u64) -> u8
     ensures { (tag : ℕ) → IsTag tag → ((result ≡ tag) ↔ (differing (bits_of_64 register) (tag_bits tag) ≤ 12)) }
 {
+    if is_far(register) {
+        return 0;
+    }
     for place in 0..TAGS {
         let tag = place + 1;
         if wrong_bits(register, tag_value(tag)) <= MOST_WRONG_BITS {

@@ -7,3 +7,8 @@ pub mod OneItem
 pub mod HearingLemmas
 pub mod BlockLemmas
 pub mod StepLemmas
+pub mod BlockDecided
+pub mod HeardLists
+pub mod MergedLists
+pub mod WithoutBlocks
+pub mod DamageLemmas

@@ -7,7 +7,7 @@ use Rattle.fx25_receiver.proofs.Common.{cases_lt, inl, inr, filter, filter-appen
 use Rattle.fx25_receiver.proofs.Common.{Heard, Keeps, not_past, merged, merged_after, reach, repeats}
 
 -- merging goes along a list: what comes later is compared with all that came before
-merged_after-append : (earlier xs ys : List Heard)
+pub merged_after-append : (earlier xs ys : List Heard)
     → merged_after earlier (xs ++ ys) ≡ merged_after earlier xs ++ merged_after (earlier ++ xs) ys
 merged_after-append earlier [] ys = ap (λ e. merged_after e ys) (sym (append-nil earlier))
 merged_after-append earlier (x ∷ xs) ys =

@@ -89,6 +89,22 @@ module _ (place : Place) (x : List ℤ) (at : IsAt place x) where
     given_is = taken.given_is;
   }
 
+  -- if no block ends there, no tag adds an item
+  pub taken_idle : (kept given : List Heard)
+      → ((tag : ℕ) → (frame : List ℕ) → (over : ℕ) → ¬ EndsBlock (bits place.offset x) tag frame over)
+      → HasTakenBelow 1 kept x given → HasTakenBelow 12 kept x given
+  taken_idle kept given idle taken = up_to 11
+    where
+      up_to : (count : ℕ) → HasTakenBelow (count + 1) kept x given
+      up_to zero = taken
+      up_to (suc count) =
+          let next : count + 1 + 1 ≡ suc count + 1 = omega arith in
+          subst (λ n. HasTakenBelow n kept x given) next
+          (taken_none (count + 1) kept given (up_to count) (λ item ends same. elim ends [
+            | inl plain ↦ let none = plain.0 in absurd (omega arith)
+            | inr block ↦ idle item.tag item.octets block.0 block.1
+          ]))
+
   -- no other frame came plainly
   pub only_plain : (item : Heard) → item.tag ≡ 0 → item.at ≡ item.end → EndsFrame (bits place.offset x) item.octets
       → (other : Heard) → other.lane ≡ item.lane → other.end ≡ item.end → other.tag ≡ item.tag

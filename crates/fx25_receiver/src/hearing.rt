@@ -37,6 +37,9 @@ pub(crate) fn hear_blocks(
         → HasTakenBelow 1 kept.old.items x (before ++ given.old.items)
         → HasTakenBelow 12 kept.new.items x (before ++ given.new.items)) }
 {
+    if lane.is_idle() {
+        return Ok(());
+    }
     for below in 0..TAGS {
         let tag = below + 1;
         hear_block(alloc, lane.block(tag), tag, place, kept, given)?;

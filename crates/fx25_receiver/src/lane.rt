@@ -85,6 +85,14 @@ impl Lane {
     {
         self.reader.frame(tag)
     }
+
+    /// True only if the last tone ended no block, as no tag stands among the last bits.
+    pub(crate) fn is_idle(&self) -> bool
+        ensures { (tones : List Tone) → LaneStandsFor self.now tones → result ≡ true
+            → (tag : ℕ) → (frame : List ℕ) → (over : ℕ) → ¬ EndsBlock (bits_of tones) tag frame over }
+    {
+        self.reader.is_idle()
+    }
 }
 
 /// The eight lanes, which have taken nothing.

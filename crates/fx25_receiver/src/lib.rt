@@ -16,5 +16,8 @@ mod receiver;
 mod tests;
 
 pub use heard::Heard;
-pub use laws::{given_items_are_merged, near_blocks_are_heard};
+pub use laws::{
+    given_items_are_merged, merged_items_are_one, near_blocks_are_heard,
+    one_stretch_of_samples_is_repaired, without_blocks_as_before,
+};
 pub use receiver::Fx25Receiver;

@@ -21,7 +21,7 @@ pub use Rattle.tnc_decode.specs.Audio.{stopping_fault, stopping_fault_at}
 pub use Rattle.tnc_decode.specs.Decoded.{IsDecoded}
 pub use Rattle.tnc_decode.specs.Ended.{IsEnded}
 pub use Rattle.tnc_decode.specs.Held.{CutShort, HasDecoded, HasHeard, HasTaken, HasTakenAt, position_of}
-pub use Rattle.tnc_decode.specs.Modem.{AreGivenBelow, AreGivenBetween, AreGivenRest, AreHeard, modem_of, settled_count}
+pub use Rattle.tnc_decode.specs.Modem.{AreGivenBelow, AreGivenBetween, AreGivenRest, AreHeard, modem_of, remaining, settled_count}
 unfoldable pub use Rattle.tnc_decode.specs.Printing.{print}
 pub use Rattle.tnc_decode.specs.Printing.{printed}
 pub use Rattle.tnc_decode.specs.Settled.{IsSettled, sample_count}
@@ -29,7 +29,7 @@ pub use Rattle.tnc_decode.specs.Written.{WroteMost}
 pub use Rattle.tnc_decode.specs.declared.audio.Audio.TheVariants.{File}
 pub use Rattle.tnc_decode.specs.declared.decoders.Decoders.{Decoders}
 pub use Rattle.tnc_decode.specs.declared.modem.Modem.{Modem}
-pub use Rattle.tnc_decode.specs.declared.modem.Modem.TheVariants.{Plain, Sensitive, ShortWave, Wide, WideSensitive}
+pub use Rattle.tnc_decode.specs.declared.modem.Modem.TheVariants.{Fx25, Plain, Sensitive, ShortWave, Wide, WideSensitive}
 pub use Rattle.tnc_decode.specs.declared.receiver.Receiver.{Receiver}
 pub use Rattle.tnc_forms.specs.Reading.{input_limit}
 pub use Rattle.tnc_forms.specs.Taken.{WereRead}

@@ -1,7 +1,7 @@
 -- An input has one text, and an input is refused for the first fault that reading it meets.
 use Rattle.tnc_decode.proofs.Common.{◌≡◌, ℕ, ◌+◌, ◌-◌, ◌<◌, ◌≤◌, List, ◌++◌, length, take, refl, ap, sym, ◌∙◌, arith}
 use Rattle.tnc_decode.proofs.Common.{inl, inr, length-append, Some, None, if◌then◌else◌, cases_lt, lt-ltb, le-ltb}
-use Rattle.tnc_decode.proofs.Common.{merged, candidate_frames, Rates, DecodeWords, AudioForm, InputFault, TooLong}
+use Rattle.tnc_decode.proofs.Common.{remaining, candidate_frames, Rates, DecodeWords, AudioForm, InputFault, TooLong}
 use Rattle.tnc_decode.proofs.Common.{input_limit, samples_read, form_fault_at, stopping_fault_at, modem_of, IsDecoded}
 use Rattle.tnc_decode.proofs.Common.{print}
 use Rattle.std.specs.Option.{option_or}
@@ -14,13 +14,13 @@ use Rattle.tnc_decode.proofs.ModemLemmas.{one_heard, some_heard}
 pub some_text : (words : DecodeWords) (octets : List ℕ) → (text : List ℕ) × IsDecoded words octets text
 some_text words octets =
     let found = some_heard (modem_of words octets) (samples_read words octets) in
-    (print words.frames (candidate_frames (merged found.0)), record { candidates = found.0; are = found.1; is = refl })
+    (print words.frames (candidate_frames (remaining (modem_of words octets) found.0)), record { candidates = found.0; are = found.1; is = refl })
 
 -- and no two
 pub one_text : (words : DecodeWords) (octets text other : List ℕ) → IsDecoded words octets text
     → IsDecoded words octets other → text ≡ other
 one_text words octets text other h k =
-    h.is ∙ ap (λ t. print words.frames (candidate_frames (merged t)))
+    h.is ∙ ap (λ t. print words.frames (candidate_frames (remaining (modem_of words octets) t)))
     (one_heard (modem_of words octets) (samples_read words octets) h.candidates k.candidates h.are k.are) ∙ sym k.is
 
 -- an input that is not too long is refused for what is wrong with its form

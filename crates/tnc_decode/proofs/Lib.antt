@@ -9,3 +9,5 @@ pub mod DecodedLemmas
 pub mod DecodingLemmas
 pub mod EndedLemmas
 pub mod PrintingLemmas
+pub mod BlockItems
+pub mod Fx25Lemmas

@@ -2,7 +2,7 @@
 use Rattle.tnc_decode.proofs.Common.{◌≡◌, ℕ, ◌+◌, ◌/◌, ◌^◌, ◌<◌, ◌≤◌, ℤ, List, [], ◌++◌, length, refl, ap, sym, ◌∙◌}
 use Rattle.tnc_decode.proofs.Common.{arith, length-append, IsNonDecreasingBy, append_cancel_left, Candidate, merged}
 use Rattle.tnc_decode.proofs.Common.{below, between, not_below, below_between, below_then_rest, AreMergedBetween}
-use Rattle.tnc_decode.proofs.Common.{filtered, settled_ends, AreWideMergedBetween, Modem, Plain, Wide, Sensitive, WideSensitive, ShortWave, decimated}
+use Rattle.tnc_decode.proofs.Common.{filtered, settled_ends, AreWideMergedBetween, Modem, Plain, Wide, Sensitive, WideSensitive, ShortWave, Fx25, decimated, remaining}
 use Rattle.tnc_decode.proofs.Common.{HasDecoded, AreHeard, settled_count, AreGivenBetween, AreGivenBelow, AreGivenRest}
 use Rattle.frame_merge.proofs.Ordering.{rising_ends}
 use Rattle.frame_merge.proofs.Merging.{merged-rising, between_all}
@@ -26,6 +26,7 @@ use Rattle.wide_input.proofs.WideMerged.{one_wide, some_wide}
 use Rattle.wide_input.proofs.FilteredLemmas.{filtered_still}
 use Rattle.wide_input.proofs.DecimatedLemmas.{decimated_still}
 use Rattle.wide_input.specs.MergedItems.{AreWideRest}
+use Rattle.tnc_decode.proofs.BlockItems.{none_with_blocks, one_with_blocks, some_with_blocks, blocks_rise, still_with_blocks}
 use Rattle.slicer_bank.specs.HeldDecoder.{HeldDecoder, StandsFor as DecoderStandsFor}
 use Rattle.hf_modem.specs.HeldDecoder.{HeldDecoder as HeldHf, StandsFor as HfStandsFor}
 use Rattle.wide_input.specs.HeldDecoder.{HeldDecoder as HeldWide, StandsFor as WideStandsFor}
@@ -41,6 +42,15 @@ none_heard Wide = no_wide
 none_heard Sensitive = no_sensitive
 none_heard WideSensitive = no_sensitive
 none_heard ShortWave = no_hf []
+none_heard Fx25 = none_with_blocks
+
+pub none_remaining : (modem : Modem) → [] ≡ remaining modem []
+none_remaining Plain = refl
+none_remaining Wide = refl
+none_remaining Sensitive = refl
+none_remaining WideSensitive = refl
+none_remaining ShortWave = refl
+none_remaining Fx25 = refl
 
 pub one_heard : (modem : Modem) (x : List ℤ) (items others : List Candidate) → AreHeard modem x items
     → AreHeard modem x others → items ≡ others
@@ -49,6 +59,7 @@ one_heard Wide x items others a b = one_wide (filtered x) items others a b
 one_heard Sensitive x items others a b = one_sensitive x items others a b
 one_heard WideSensitive x items others a b = one_sensitive (decimated x) items others a b
 one_heard ShortWave x items others a b = one_hf x items others a b
+one_heard Fx25 x items others a b = one_with_blocks x items others a b
 
 pub some_heard : (modem : Modem) (x : List ℤ) → (items : List Candidate) × AreHeard modem x items
 some_heard Plain x = some_list x
@@ -56,15 +67,17 @@ some_heard Wide x = some_wide (filtered x)
 some_heard Sensitive x = some_sensitive x
 some_heard WideSensitive x = some_sensitive (decimated x)
 some_heard ShortWave x = some_hf x
+some_heard Fx25 x = some_with_blocks x
 
--- the merged candidates do not fall in their ends
+-- what remains does not fall in their ends
 pub rising_heard : (modem : Modem) (x : List ℤ) (items : List Candidate) → AreHeard modem x items
-    → IsNonDecreasingBy (λ y. y.end) (merged items)
+    → IsNonDecreasingBy (λ y. y.end) (remaining modem items)
 rising_heard Plain x items are = merged-rising (λ y. y.end) [] items (rising_ends items (is_in_order x items are))
 rising_heard Wide x items are = rising_wide (filtered x) items are
 rising_heard Sensitive x items are = rising_sensitive x items are
 rising_heard WideSensitive x items are = rising_sensitive (decimated x) items are
 rising_heard ShortWave x items are = merged-rising (λ y. y.end) [] items (rising_ends items (hf_in_order x items are))
+rising_heard Fx25 x items are = blocks_rise x items are
 
 -- more samples settle no less, and no more than they are
 pub settled_rises : (modem : Modem) (x y : List ℤ) → (settled_count modem x ≤ settled_count modem (x ++ y))
@@ -74,6 +87,7 @@ settled_rises Wide x y = let size = length-append x y in (omega arith, omega ari
 settled_rises Sensitive x y = let size = length-append x y in (omega arith, omega arith)
 settled_rises WideSensitive x y = let size = length-append x y in (omega arith, omega arith)
 settled_rises ShortWave x y = let size = length-append x y in (omega arith, omega arith)
+settled_rises Fx25 x y = let size = length-append x y in (omega arith, omega arith)
 
 -- if all end at or after 0, the part from 0 is the part below
 pub from_zero : (to : ℕ) (items : List Candidate) → between 0 to items ≡ below to items
@@ -81,7 +95,7 @@ from_zero to items = between_all 0 to items (λ k d l. omega arith)
 
 pub still_heard : (modem : Modem) (to : ℕ) (x y : List ℤ) (items whole : List Candidate) → to ≤ settled_count modem x
     → AreHeard modem x items → AreHeard modem (x ++ y) whole
-    → below to (merged items) ≡ below to (merged whole)
+    → below to (remaining modem items) ≡ below to (remaining modem whole)
 still_heard Plain to x y items whole within are all_are =
     sym (from_zero to (merged items))
     ∙ given_still 0 to x y (between 0 to (merged items)) whole within
@@ -96,6 +110,7 @@ still_heard ShortWave to x y items whole within are all_are =
     ∙ hf_still 0 to x y (between 0 to (merged items)) whole within (record { candidates = items; are = are; is = refl })
     all_are
     ∙ from_zero to (merged whole)
+still_heard Fx25 to x y items whole within are all_are = still_with_blocks to x y items whole within are all_are
 
 -- what a block gives, and what the end gives, as each decoder tells it
 pub given_plain : (from to : ℕ) (x : List ℤ) (items : List Candidate) → AreMergedBetween from to x items
@@ -135,6 +150,7 @@ plain_block old new block items given Plain x h = let g = given x h in
 plain_block old new block items given Wide x h = absurd h
 plain_block old new block items given Sensitive x h = absurd h
 plain_block old new block items given WideSensitive x h = absurd h
+plain_block old new block items given Fx25 x h = absurd h
 plain_block old new block items given ShortWave x h = absurd h
 
 pub wide_block : (old new : HeldWide) (block : List ℤ) (items : List Candidate)
@@ -146,6 +162,7 @@ pub wide_block : (old new : HeldWide) (block : List ℤ) (items : List Candidate
 wide_block old new block items given Plain x h = absurd h
 wide_block old new block items given Sensitive x h = absurd h
 wide_block old new block items given WideSensitive x h = absurd h
+wide_block old new block items given Fx25 x h = absurd h
 wide_block old new block items given ShortWave x h = absurd h
 wide_block old new block items given Wide x h = let g = given x h in
     (g.0, given_wide (settled_ends (length x)) (settled_ends (length (x ++ block))) (x ++ block) items g.1)
@@ -157,6 +174,7 @@ pub wide_finish : (old : HeldWide) (items : List Candidate)
 wide_finish old items rest Plain x h = absurd h
 wide_finish old items rest Sensitive x h = absurd h
 wide_finish old items rest WideSensitive x h = absurd h
+wide_finish old items rest Fx25 x h = absurd h
 wide_finish old items rest ShortWave x h = absurd h
 wide_finish old items rest Wide x h =
     let r = rest x h in record { candidates = r.candidates; are = r.are; is = r.is }
@@ -169,6 +187,7 @@ plain_finish old items room rest Plain x h = rest_plain x items (rest x (let cou
 plain_finish old items room rest Wide x h = absurd h
 plain_finish old items room rest Sensitive x h = absurd h
 plain_finish old items room rest WideSensitive x h = absurd h
+plain_finish old items room rest Fx25 x h = absurd h
 plain_finish old items room rest ShortWave x h = absurd h
 
 pub given_short_wave : (from to : ℕ) (x : List ℤ) (items : List Candidate) → AreHfMergedBetween from to x items
@@ -202,6 +221,7 @@ short_wave_block old new block items given Plain x h = absurd h
 short_wave_block old new block items given Wide x h = absurd h
 short_wave_block old new block items given Sensitive x h = absurd h
 short_wave_block old new block items given WideSensitive x h = absurd h
+short_wave_block old new block items given Fx25 x h = absurd h
 short_wave_block old new block items given ShortWave x h =
     let g = given x h in (g.0, given_short_wave (length x / 4) (length (x ++ block) / 4) (x ++ block) items g.1)
 
@@ -214,6 +234,7 @@ short_wave_finish old items room rest Plain x h = absurd h
 short_wave_finish old items room rest Wide x h = absurd h
 short_wave_finish old items room rest Sensitive x h = absurd h
 short_wave_finish old items room rest WideSensitive x h = absurd h
+short_wave_finish old items room rest Fx25 x h = absurd h
 short_wave_finish old items room rest ShortWave x h =
     rest_short_wave x items (rest x (let count = h.count in omega arith) h)
 
@@ -232,40 +253,40 @@ given_join modem x y items more h k =
       candidates = k.candidates;
       are = k.are;
       is = ap (λ t. t ++ more) (h.is ∙ still_heard modem n x y h.candidates k.candidates (omega arith) h.are k.are)
-          ∙ ap (λ t. below n (merged k.candidates) ++ t) k.is
-          ∙ below_between n m (merged k.candidates) (settled_rises modem x y).0 rises;
+          ∙ ap (λ t. below n (remaining modem k.candidates) ++ t) k.is
+          ∙ below_between n m (remaining modem k.candidates) (settled_rises modem x y).0 rises;
     }
 
 -- with the rest they are all
 pub given_all : (modem : Modem) (n : ℕ) (x : List ℤ) (items rest : List Candidate) → AreGivenBelow modem n x items
     → (r : AreGivenRest modem n x rest)
-    → items ++ rest ≡ merged r.candidates
+    → items ++ rest ≡ remaining modem r.candidates
 given_all modem n x items rest h r =
-    ap (λ t. t ++ rest) (h.is ∙ ap (λ c. below n (merged c)) (one_heard modem x h.candidates r.candidates h.are r.are))
-    ∙ ap (λ t. below n (merged r.candidates) ++ t) r.is
-    ∙ below_then_rest n (merged r.candidates) (rising_heard modem x r.candidates r.are)
+    ap (λ t. t ++ rest) (h.is ∙ ap (λ c. below n (remaining modem c)) (one_heard modem x h.candidates r.candidates h.are r.are))
+    ∙ ap (λ t. below n (remaining modem r.candidates) ++ t) r.is
+    ∙ below_then_rest n (remaining modem r.candidates) (rising_heard modem x r.candidates r.are)
 
--- what is given of samples is the first part of what is merged of more
+-- what is given of samples is the first part of what remains of more
 pub given_first : (modem : Modem) (x y : List ℤ) (items whole : List Candidate)
     → AreGivenBelow modem (settled_count modem x) x items → AreHeard modem (x ++ y) whole
-    → (rest : List Candidate) × (merged whole ≡ items ++ rest)
+    → (rest : List Candidate) × (remaining modem whole ≡ items ++ rest)
 given_first modem x y items whole h all_are =
     let n : ℕ = settled_count modem x in
-    let same : items ≡ below n (merged whole) = h.is ∙ still_heard modem n x y h.candidates whole (omega arith)
+    let same : items ≡ below n (remaining modem whole) = h.is ∙ still_heard modem n x y h.candidates whole (omega arith)
     h.are all_are in (
-      not_below n (merged whole),
-      sym (below_then_rest n (merged whole) (rising_heard modem (x ++ y) whole all_are))
-          ∙ ap (λ t. t ++ not_below n (merged whole)) (sym same),
+      not_below n (remaining modem whole),
+      sym (below_then_rest n (remaining modem whole) (rising_heard modem (x ++ y) whole all_are))
+          ∙ ap (λ t. t ++ not_below n (remaining modem whole)) (sym same),
     )
 
 -- and what ends below an earlier position is the first part of it
 pub given_early : (modem : Modem) (early : ℕ) (x y : List ℤ) (items whole : List Candidate)
     → early ≤ settled_count modem x
     → AreGivenBelow modem (settled_count modem x) x items → AreHeard modem (x ++ y) whole
-    → (more : List Candidate) × (items ≡ below early (merged whole) ++ more)
+    → (more : List Candidate) × (items ≡ below early (remaining modem whole) ++ more)
 given_early modem early x y items whole le h all_are =
     let n : ℕ = settled_count modem x in
-    let zs : List Candidate = merged whole in (
+    let zs : List Candidate = remaining modem whole in (
       between early n zs,
       h.is ∙ still_heard modem n x y h.candidates whole (omega arith) h.are all_are
           ∙ sym (below_between early n zs le (rising_heard modem (x ++ y) whole all_are)),

@@ -1,7 +1,7 @@
 -- What octets settle: with more octets after them, at the end of the input, and as a first part of what the whole input
 -- gives.
 use Rattle.tnc_decode.proofs.Common.{◌≡◌, ℕ, ◌-◌, ◌≤◌, ℤ, List, [], ◌++◌, length, refl, ap, sym, subst, ◌∙◌, arith}
-use Rattle.tnc_decode.proofs.Common.{append_assoc, inl, inr, Option, Some, append-nil, WrotePart, Candidate, merged}
+use Rattle.tnc_decode.proofs.Common.{append_assoc, inl, inr, Option, Some, append-nil, WrotePart, Candidate, remaining}
 use Rattle.tnc_decode.proofs.Common.{below, candidate_frames, Rates, chunks, reading, AudioForm, Raw, Wav, DecodeWords}
 use Rattle.tnc_decode.proofs.Common.{FrameForm, Modem, rates_of, samples_at, samples_read, IsDecoded, modem_of}
 use Rattle.tnc_decode.proofs.Common.{AreHeard, settled_count, AreGivenBelow, AreGivenBetween, AreGivenRest, print}
@@ -10,7 +10,7 @@ use Rattle.std.proofs.lemmas.List.{map-append}
 use Rattle.std.proofs.lemmas.Grind.{flat_map-append}
 use Rattle.tnc_decode.specs.Settled.{IsPrintBelow}
 use Rattle.tnc_decode.proofs.AudioLemmas.{modem_stays}
-use Rattle.tnc_decode.proofs.ModemLemmas.{none_heard, one_heard, settled_rises, given_join, given_all, given_first}
+use Rattle.tnc_decode.proofs.ModemLemmas.{none_heard, none_remaining, one_heard, settled_rises, given_join, given_all, given_first}
 use Rattle.tnc_decode.proofs.ModemLemmas.{given_early}
 
 -- frames are printed one after another
@@ -39,7 +39,11 @@ settled_silent words octets text none empty =
     let P : List ℤ → Type 0 = λ y. AreGivenBelow modem (settled_count modem y) y [] in
     record {
       items = [];
-      are = subst P (sym none) (record { candidates = []; are = none_heard modem; is = refl });
+      are = subst P (sym none) (record {
+        candidates = [];
+        are = none_heard modem;
+        is = ap (below (settled_count modem [])) (none_remaining modem);
+      });
       is = empty ∙ print_nothing words.frames;
     }
 
@@ -53,7 +57,7 @@ silent_text words octets none =
     record {
       candidates = [];
       are = subst (λ (y : List ℤ). AreHeard modem y []) (sym none) (none_heard modem);
-      is = print_nothing words.frames;
+      is = print_nothing words.frames ∙ ap (λ t. print words.frames (candidate_frames t)) (none_remaining modem);
     }
 
 -- what octets without a sample settled is nothing
@@ -65,7 +69,8 @@ silent_nothing words octets text none h =
     none h.are.are in
     let empty : h.are.candidates ≡ [] = one_heard modem [] h.are.candidates [] are (none_heard modem) in
     h.is ∙ ap (λ t. print words.frames (candidate_frames t)) (h.are.is
-    ∙ ap (λ c. below (sample_count words octets) (merged c)) empty) ∙ sym (print_nothing words.frames)
+    ∙ ap (λ c. below (sample_count words octets) (remaining modem c)) empty
+    ∙ ap (below (sample_count words octets)) (sym (none_remaining modem))) ∙ sym (print_nothing words.frames)
 
 -- What octets settle they settle for the modem that hears more of them: either it is the same, or nothing is settled.
 pub settled_as : (words : DecodeWords) (before octets text : List ℕ) → IsSettled words before text
@@ -82,7 +87,11 @@ settled_as words before octets text h = elim (modem_stays words before octets) [
       let modem : Modem = modem_of words (before ++ octets) in
       let P : List ℤ → Type 0 = λ y. AreGivenBelow modem (settled_count modem y) y [] in (
         [],
-        subst P (sym none) (record { candidates = []; are = none_heard modem; is = refl }),
+        subst P (sym none) (record {
+          candidates = [];
+          are = none_heard modem;
+          is = ap (below (settled_count modem [])) (none_remaining modem);
+        }),
         silent_nothing words before text none h ∙ print_nothing words.frames,
       )
 ]
@@ -138,7 +147,8 @@ settled_first words front octets rest text whole y parts longer h d =
     (subst (λ m. AreHeard m (samples_read words octets) d.candidates) same d.are) in
     let first = given_first modem (samples_read words front) y s.0 d.candidates s.1 are in (
       print words.frames (candidate_frames first.0),
-      d.is ∙ ap (λ t. print words.frames (candidate_frames t)) first.1 ∙ print-append words.frames s.0 first.0
+      d.is ∙ ap (λ t. print words.frames (candidate_frames (remaining t d.candidates))) same
+          ∙ ap (λ t. print words.frames (candidate_frames t)) first.1 ∙ print-append words.frames s.0 first.0
           ∙ ap (λ t. t ++ print words.frames (candidate_frames first.0)) (sym s.2),
     )
 
@@ -178,10 +188,12 @@ early_part words front octets rest text all_text y parts longer few h d =
     = subst (λ (z : List ℤ). AreHeard modem z d.candidates) longer
     (subst (λ t. AreHeard t (samples_read words octets) d.candidates) same d.are) in
     let halves = given_early modem m x y s.0 d.candidates (omega arith) s.1 are in
-    let early : List Candidate = below m (merged d.candidates) in (
+    let early : List Candidate = below m (remaining modem d.candidates) in
+    let early_is : early ≡ below m (remaining (modem_of words octets) d.candidates)
+    = ap (λ t. below m (remaining t d.candidates)) (sym same) in (
       print words.frames (candidate_frames early),
       print words.frames (candidate_frames halves.0),
-      record { items = early; are = record { candidates = d.candidates; are = d.are; is = refl }; is = refl },
+      record { items = early; are = record { candidates = d.candidates; are = d.are; is = early_is }; is = refl },
       s.2 ∙ ap (λ t. print words.frames (candidate_frames t)) halves.1 ∙ print-append words.frames early halves.0,
     )
 

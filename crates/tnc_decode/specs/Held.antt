@@ -1,11 +1,13 @@
 -- What the code keeps of an input, and what that stands for. No public clause cites it.
-use Rattle.std.specs.Prelude.{◌≡◌, ℕ, ◌+◌, ◌≤◌, List, [], ◌∷◌, ◌++◌, length, ℤ, Bool, Option, Some, None}
+use Rattle.std.specs.Prelude.{◌≡◌, ℕ, ◌+◌, ◌≤◌, List, [], ◌∷◌, ◌++◌, length, ℤ, Bool, false, Option, Some, None}
 use Rattle.tnc_base.specs.Streams.{WrotePart}
 use Rattle.slicer_bank.specs.HeldDecoder.{StandsFor as DecoderStandsFor}
 use Rattle.wide_input.specs.HeldDecoder.{StandsFor as WideStandsFor}
 use Rattle.wide_input.specs.HeldSensitive.{StandsFor as WideSensitiveStandsFor}
 use Rattle.hf_modem.specs.HeldDecoder.{StandsFor as HfStandsFor}
 use Rattle.sensitive_receiver.specs.HeldDecoder.{StandsFor as SensitiveStandsFor}
+use Rattle.fx25_receiver.specs.declared.heard.Heard.{Heard}
+use Rattle.fx25_receiver.specs.Held.{StandsFor as Fx25StandsFor}
 use Rattle.wav_file.specs.declared.rates.Rates.{Rates}
 use Rattle.wav_file.specs.Held.{StandsFor as FileStandsFor}
 use Rattle.wav_file.specs.Reading.{fault_in}
@@ -15,12 +17,12 @@ use Rattle.tnc_words.specs.declared.command.DecodeWords.{DecodeWords}
 use Rattle.tnc_decode.specs.declared.audio.Audio.{Audio}
 use Rattle.tnc_decode.specs.declared.audio.Audio.TheVariants.{Pcm, File}
 use Rattle.tnc_decode.specs.declared.decoders.Decoders.{Decoders}
-use Rattle.tnc_decode.specs.declared.decoders.Decoders.TheVariants.{Plain, Wide, Sensitive, WideSensitive, ShortWave}
+use Rattle.tnc_decode.specs.declared.decoders.Decoders.TheVariants.{Plain, Wide, Sensitive, WideSensitive, ShortWave, Fx25}
 use Rattle.tnc_decode.specs.declared.modem.Modem.{Modem}
 use Rattle.tnc_decode.specs.declared.modem.Modem.TheVariants.{Plain as PlainModem, Wide as WideModem}
 use Rattle.tnc_decode.specs.declared.modem.Modem.TheVariants.{Sensitive as SensitiveModem}
 use Rattle.tnc_decode.specs.declared.modem.Modem.TheVariants.{WideSensitive as WideSensitiveModem}
-use Rattle.tnc_decode.specs.declared.modem.Modem.TheVariants.{ShortWave as ShortWaveModem}
+use Rattle.tnc_decode.specs.declared.modem.Modem.TheVariants.{ShortWave as ShortWaveModem, Fx25 as Fx25Modem}
 use Rattle.tnc_decode.specs.declared.receiver.Receiver.{Receiver}
 use Rattle.tnc_decode.specs.Audio.{rates_of, samples_read}
 use Rattle.tnc_decode.specs.Modem.{modem_of}
@@ -48,6 +50,7 @@ HasDecoded WideModem (Wide decoder) x = WideStandsFor decoder x
 HasDecoded SensitiveModem (Sensitive decoder) x = SensitiveStandsFor decoder x
 HasDecoded WideSensitiveModem (WideSensitive decoder) x = WideSensitiveStandsFor decoder x
 HasDecoded ShortWaveModem (ShortWave decoder) x = HfStandsFor decoder x
+HasDecoded Fx25Modem (Fx25 decoder) x = (given : List Heard) × Fx25StandsFor decoder x given
 HasDecoded modem decoder x = ⊥
 
 -- how many samples a decoder has taken, past the filter if it has one, and whether it is finished
@@ -57,6 +60,7 @@ position_of (Wide decoder) = decoder.bank.position
 position_of (Sensitive decoder) = decoder.position
 position_of (WideSensitive decoder) = decoder.decoder.position
 position_of (ShortWave decoder) = decoder.position
+position_of (Fx25 decoder) = decoder.position
 
 abbrev pub finished_of : Decoders → Bool
 finished_of (Plain decoder) = decoder.finished
@@ -64,6 +68,7 @@ finished_of (Wide decoder) = decoder.bank.finished
 finished_of (Sensitive decoder) = decoder.finished
 finished_of (WideSensitive decoder) = decoder.decoder.finished
 finished_of (ShortWave decoder) = decoder.finished
+finished_of (Fx25 decoder) = false
 
 -- the receiver was given these octets, and has written this text
 pub record HasHeard (receiver : Receiver) (words : DecodeWords) (octets text : List ℕ) : Type 0 where

@@ -1,6 +1,6 @@
 -- What hears an input, by cases: each modem has its candidates, and settles those that end below a count of its
 -- samples.
-use Rattle.std.specs.Prelude.{◌≡◌, ℕ, ◌/◌, ◌==◌, if◌then◌else◌, ℤ, List, length, Option, Some, None}
+use Rattle.std.specs.Prelude.{◌≡◌, ℕ, ◌+◌, ◌/◌, ◌==◌, if◌then◌else◌, ℤ, List, length, map, Option, Some, None}
 use Rattle.frame_merge.specs.declared.candidate.Candidate.{Candidate}
 use Rattle.frame_merge.specs.Merged.{merged, below, between, not_below}
 use Rattle.slicer_bank.specs.Candidates.{AreCandidates}
@@ -11,6 +11,9 @@ use Rattle.resampler.specs.Filtered.{filtered, decimated}
 use Rattle.wide_input.specs.SettledByAll.{settled_by_all}
 use Rattle.wide_input.specs.MergedItems.{settled_ends}
 use Rattle.wide_input.specs.Candidates.{AreWideCandidates}
+use Rattle.fx25_receiver.specs.declared.heard.Heard.{Heard}
+use Rattle.fx25_receiver.specs.Merged.{AreMerged}
+use Rattle.fx25_receiver.specs.WithoutBlocks.{candidate_of}
 use Rattle.wav_file.specs.declared.rates.Rates.TheVariants.{NarrowOrWide}
 use Rattle.wav_file.specs.Reading.{rate_in}
 use Rattle.tnc_words.specs.declared.command.AudioForm.{AudioForm}
@@ -18,11 +21,11 @@ use Rattle.tnc_words.specs.declared.command.AudioForm.TheVariants.{Raw, Wav}
 use Rattle.tnc_words.specs.declared.command.DecodeWords.{DecodeWords}
 use Rattle.tnc_words.specs.declared.command.Receiving.{Receiving}
 use Rattle.tnc_words.specs.declared.command.Receiving.TheVariants.{Standard, Sensitive as AskedSensitive}
-use Rattle.tnc_words.specs.declared.command.Receiving.TheVariants.{ShortWave as OnShortWave}
+use Rattle.tnc_words.specs.declared.command.Receiving.TheVariants.{ShortWave as OnShortWave, Fx25 as AskedFx25}
 use Rattle.tnc_words.specs.declared.command.SampleRate.{SampleRate}
 use Rattle.tnc_words.specs.declared.command.SampleRate.TheVariants.{Narrow, Wide as WideRate}
 use Rattle.tnc_decode.specs.declared.modem.Modem.{Modem}
-use Rattle.tnc_decode.specs.declared.modem.Modem.TheVariants.{Plain, Wide, Sensitive, WideSensitive, ShortWave}
+use Rattle.tnc_decode.specs.declared.modem.Modem.TheVariants.{Plain, Wide, Sensitive, WideSensitive, ShortWave, Fx25}
 
 -- ---- which one hears
 
@@ -50,6 +53,7 @@ abbrev pub modem_for : Receiving → AudioForm → List ℕ → Modem
 modem_for (Standard rate) form octets = plain_at (rate_for rate form octets)
 modem_for (AskedSensitive rate) form octets = sensitive_at (rate_for rate form octets)
 modem_for OnShortWave form octets = ShortWave
+modem_for AskedFx25 form octets = Fx25
 
 -- the modem that hears the input of words
 abbrev pub modem_of : DecodeWords → List ℕ → Modem
@@ -57,7 +61,13 @@ modem_of words octets = modem_for words.receiving words.audio octets
 
 -- ---- what it hears
 
--- The items are all candidates of the samples. Those at 48,000 a second are filtered; eight lanes hear each of their five
+-- the items are what is heard plainly and in blocks, merged
+pub record AreMergedWithBlocks (x : List ℤ) (items : List Candidate) : Type 0 where
+  pub heard : List Heard
+  pub are : AreMerged x heard
+  pub is : items ≡ map candidate_of heard
+
+-- The items are all candidates of the samples, or if blocks are heard too what is merged of all. Those at 48,000 a second are filtered; eight lanes hear each of their five
 -- streams, and all lanes together the first one.
 abbrev pub AreHeard : Modem → List ℤ → List Candidate → Type 0
 AreHeard Plain x items = AreCandidates x items
@@ -65,6 +75,16 @@ AreHeard Wide x items = AreWideCandidates (filtered x) items
 AreHeard Sensitive x items = AreSensitiveCandidates x items
 AreHeard WideSensitive x items = AreSensitiveCandidates (decimated x) items
 AreHeard ShortWave x items = AreHfCandidates x items
+AreHeard Fx25 x items = AreMergedWithBlocks x items
+
+-- What remains of it, each frame once. Frames that also come in blocks are merged by a rule of their own.
+abbrev pub remaining : Modem → List Candidate → List Candidate
+remaining Plain items = merged items
+remaining Wide items = merged items
+remaining Sensitive items = merged items
+remaining WideSensitive items = merged items
+remaining ShortWave items = merged items
+remaining Fx25 items = items
 
 -- what ends below this position is settled by the samples, whatever follows
 abbrev pub settled_count : Modem → List ℤ → ℕ
@@ -73,21 +93,22 @@ settled_count Wide x = settled_ends (length x)
 settled_count Sensitive x = settled (length x)
 settled_count WideSensitive x = settled_by_all (length x)
 settled_count ShortWave x = length x / 4
+settled_count Fx25 x = length x + 1
 
--- the items are those of the samples' merged candidates that end from one position to below another
+-- the items are those of what remains that end from one position to below another
 pub record AreGivenBetween (modem : Modem) (from to : ℕ) (x : List ℤ) (items : List Candidate) : Type 0 where
   pub candidates : List Candidate
   pub are : AreHeard modem x candidates
-  pub is : items ≡ between from to (merged candidates)
+  pub is : items ≡ between from to (remaining modem candidates)
 
 -- the items are those that end below a position
 pub record AreGivenBelow (modem : Modem) (position : ℕ) (x : List ℤ) (items : List Candidate) : Type 0 where
   pub candidates : List Candidate
   pub are : AreHeard modem x candidates
-  pub is : items ≡ below position (merged candidates)
+  pub is : items ≡ below position (remaining modem candidates)
 
 -- the items are those that do not end below a position
 pub record AreGivenRest (modem : Modem) (from : ℕ) (x : List ℤ) (items : List Candidate) : Type 0 where
   pub candidates : List Candidate
   pub are : AreHeard modem x candidates
-  pub is : items ≡ not_below from (merged candidates)
+  pub is : items ≡ not_below from (remaining modem candidates)

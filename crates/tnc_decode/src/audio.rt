@@ -50,6 +50,7 @@ impl Audio {
             Receiving::Standard { rate } => Modem::plain_at(self.rate(rate)),
             Receiving::Sensitive { rate } => Modem::sensitive_at(self.rate(rate)),
             Receiving::ShortWave => Modem::ShortWave,
+            Receiving::Fx25 => Modem::Fx25,
         }
     }
 
@@ -111,7 +112,7 @@ fn new_file(receiving: Receiving) -> WavIn
 {
     match receiving {
         Receiving::Standard { .. } | Receiving::Sensitive { .. } => WavIn::any_rate(),
-        Receiving::ShortWave => WavIn::new(),
+        Receiving::ShortWave | Receiving::Fx25 => WavIn::new(),
     }
 }
 

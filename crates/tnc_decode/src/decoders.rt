@@ -4,6 +4,7 @@ ghost use Rattle.tnc_decode.specs.declared.modem.Modem.{Modem};
 ghost use Rattle.tnc_decode.specs.Modem.{settled_count, AreGivenBetween, AreGivenRest};
 ghost use Rattle.tnc_decode.specs.Held.{HasDecoded, position_of, finished_of};
 
+use crate::fx25_decoder::Fx25Decoder;
 use crate::modem::Modem;
 use frame_merge::Candidate;
 use hf_modem::HfDecoder;
@@ -22,6 +23,7 @@ pub(crate) enum Decoders {
     Sensitive(SensitiveDecoder),
     WideSensitive(WideSensitiveDecoder),
     ShortWave(HfDecoder),
+    Fx25(Fx25Decoder),
 }
 
 impl Decoders {
@@ -39,6 +41,7 @@ impl Decoders {
                 Ok(Decoders::WideSensitive(WideSensitiveDecoder::new(alloc)?))
             }
             Modem::ShortWave => Ok(Decoders::ShortWave(HfDecoder::new(alloc)?)),
+            Modem::Fx25 => Ok(Decoders::Fx25(Fx25Decoder::new(alloc)?)),
         }
     }
 
@@ -52,10 +55,12 @@ impl Decoders {
             Decoders::Sensitive(_) => Modem::Sensitive,
             Decoders::WideSensitive(_) => Modem::WideSensitive,
             Decoders::ShortWave(_) => Modem::ShortWave,
+            Decoders::Fx25(_) => Modem::Fx25,
         }
     }
 
-    /// The items that a block of samples settles. With threads the lanes work on two.
+    /// The items that a block of samples settles. With threads the lanes work on two, if the modem
+    /// has that.
     pub(crate) fn block<R: Threads + Sync>(
         &mut self,
         rt: &R,
@@ -84,6 +89,7 @@ impl Decoders {
             }
             Decoders::WideSensitive(decoder) => decoder.block(block),
             Decoders::ShortWave(decoder) => decoder.block(block),
+            Decoders::Fx25(decoder) => decoder.block(block),
         }
     }
 
@@ -99,6 +105,7 @@ impl Decoders {
             Decoders::Sensitive(decoder) => decoder.finish(),
             Decoders::WideSensitive(decoder) => decoder.finish(),
             Decoders::ShortWave(decoder) => decoder.finish(),
+            Decoders::Fx25(decoder) => Ok(decoder.finish()),
         }
     }
 }

@@ -17,6 +17,8 @@ pub enum Modem {
     WideSensitive,
     /// 300 bits a second on short wave, at 9600 samples a second.
     ShortWave,
+    /// 1200 bits a second, at 9600 samples a second, frames that come plainly and in blocks of FX.25.
+    Fx25,
 }
 
 impl Modem {

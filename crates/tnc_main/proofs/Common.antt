@@ -19,7 +19,7 @@ pub use Rattle.tnc_bench.specs.declared.fault.CommandFault.{CommandFault}
 pub use Rattle.tnc_call.specs.declared.call_words.CallWords.{CallWords}
 pub use Rattle.tnc_decode.specs.Audio.{audio_fault, samples_read}
 pub use Rattle.tnc_decode.specs.Decoded.{IsDecoded}
-pub use Rattle.tnc_decode.specs.Modem.{AreHeard, modem_of}
+pub use Rattle.tnc_decode.specs.Modem.{AreHeard, modem_of, remaining}
 unfoldable pub use Rattle.tnc_decode.specs.Printing.{print}
 pub use Rattle.tnc_decode.specs.declared.modem.Modem.{Modem}
 pub use Rattle.tnc_decode.specs.declared.modem.Modem.TheVariants.{Plain}

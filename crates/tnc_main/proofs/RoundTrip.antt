@@ -1,9 +1,9 @@
 -- What encode writes is heard by decode.
 use Rattle.tnc_main.proofs.Common.{◌≡◌, ℕ, ◌+◌, ◌≤◌, Bool, true, false, true≢false, ℤ, List, All, length, map, take}
 use Rattle.tnc_main.proofs.Common.{nat_lt, Option, Some, None, refl, sym, subst, ap, ◌∙◌, is_some, if◌then◌else◌}
-use Rattle.tnc_main.proofs.Common.{Transmission, IsTransmission, Candidate, merged, DecodeWords, EncodeWords, Rates}
+use Rattle.tnc_main.proofs.Common.{Transmission, IsTransmission, Candidate, DecodeWords, EncodeWords, Rates}
 use Rattle.tnc_main.proofs.Common.{InputFault, LongWav, TooLong, input_limit, audio_fault, samples_read, Modem, Plain}
-use Rattle.tnc_main.proofs.Common.{modem_of, AreHeard, IsDecoded, print, frames_of_input, encoded, fault_of_whole}
+use Rattle.tnc_main.proofs.Common.{modem_of, remaining, AreHeard, IsDecoded, print, frames_of_input, encoded, fault_of_whole}
 use Rattle.tnc_main.proofs.Common.{first_of, keeps_frames, length_fault, samples_sent, transmissions, fault_kept}
 use Rattle.std.proofs.Common.{le-ltb}
 use Rattle.std.specs.Option.{option_or}
@@ -94,7 +94,7 @@ sent_merges : (modem : Sending) (level : ℕ) (sent : List Transmission) (items 
     → All IsTransmission sent
     → IsWithoutStray modem sent (signal_by modem level sent)
     → AreHeard (hearing modem) (signal_by modem level sent) items
-    → map (λ item. item.octets) (merged items) ≡ all_frames sent
+    → map (λ item. item.octets) (remaining (hearing modem) items) ≡ all_frames sent
 unfolding signal_by
 sent_merges Bell202 level sent items fits good no_stray are = level_law level sent fits good no_stray items are
 sent_merges ShortWave level sent items fits good no_stray are = hf_level_law level sent fits good no_stray items are
@@ -143,7 +143,8 @@ module _ (encode : EncodeWords) (decode : DecodeWords) (octets : List ℕ) (none
   heard alike each opening closing level no_stray text is =
       let good = transmissions_good encode opening closing frames (frames_of_input-fit encode.frames octets each) in
       merged_text decode (all_frames (transmissions encode frames)) (encoded encode octets) text
-      (λ items are. sent_merges encode.modem encode.level (transmissions encode frames) items level good no_stray
+      (λ items are. ap (λ modem. map (λ item. item.octets) (remaining modem items)) (hears alike)
+      ∙ sent_merges encode.modem encode.level (transmissions encode frames) items level good no_stray
       (subst (λ x. AreHeard (hearing encode.modem) x items) (same_samples level)
       (subst (λ modem. AreHeard modem (samples_read decode (encoded encode octets)) items) (hears alike) are))) is
       ∙ ap (print decode.frames) (frames_sent encode frames)

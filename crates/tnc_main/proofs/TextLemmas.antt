@@ -1,6 +1,6 @@
 -- Why an input that is too long is refused, and the text of samples near a signal.
 use Rattle.tnc_main.proofs.Common.{◌≡◌, ℕ, ◌<◌, ℤ, List, length, map, Option, Some, ap, ◌∙◌, arith, if◌then◌else◌}
-use Rattle.tnc_main.proofs.Common.{Candidate, merged, Command, Decode, Encode, Show, Loop, Bench, Serve, Help, Record}
+use Rattle.tnc_main.proofs.Common.{Candidate, remaining, Command, Decode, Encode, Show, Loop, Bench, Serve, Help, Record}
 use Rattle.tnc_main.proofs.Common.{Call, Version, DecodeWords, TooLong, input_limit, samples_read, Modem, Plain}
 use Rattle.tnc_main.proofs.Common.{modem_of, AreHeard, IsDecoded, print, fault_of_whole, first_of, length_fault}
 use Rattle.tnc_main.proofs.Common.{samples_sent, fault_kept, Reads, fault_of, WritesAtEnd}
@@ -8,10 +8,12 @@ use Rattle.std.proofs.Common.{lt-ltb}
 use Rattle.clean_signal.specs.GoodTransmission.{frames_of}
 use Rattle.clean_signal.specs.NearSignal.{Received, transmissions_of}
 use Rattle.clean_signal.proofs.Law.{near_law}
+use Rattle.slicer_bank.proofs.SomeList.{some_list}
+use Rattle.fx25_receiver.proofs.WithoutBlocks.{merged_plain}
 use Rattle.resampler.specs.Filtered.{filtered, decimated}
 use Rattle.wide_input.proofs.WideLaw.{near_stream_law}
 use Rattle.hf_signal.proofs.Law.{near_law as hf_near_law}
-use Rattle.tnc_decode.specs.declared.modem.Modem.TheVariants.{Wide, Sensitive, WideSensitive, ShortWave}
+use Rattle.tnc_decode.specs.declared.modem.Modem.TheVariants.{Wide, Sensitive, WideSensitive, ShortWave, Fx25}
 use Rattle.tnc_encode.specs.Frames.{form_fault as frames_fault}
 use Rattle.tnc_main.specs.Clean.{IsNearlyClean}
 use Rattle.sensitive_receiver.proofs.SignalLaw.{near_law as all_lanes_law}
@@ -39,23 +41,27 @@ long_fault (Help topic) left octets last read long = let none : length octets �
     absurd (omega arith)
 long_fault Version left octets last read long = let none : length octets ≡ 0 = ap length read in absurd (omega arith)
 
--- what decode makes of samples whose merged candidates are these frames
+-- what decode makes of samples of which these frames remain
 pub merged_text : (words : DecodeWords) (frames : List (List ℕ)) (octets text : List ℕ)
     → ((items : List Candidate) → AreHeard (modem_of words octets) (samples_read words octets) items
-    → map (λ item. item.octets) (merged items) ≡ frames)
+    → map (λ item. item.octets) (remaining (modem_of words octets) items) ≡ frames)
     → IsDecoded words octets text → text ≡ print words.frames frames
 merged_text words frames octets text merges h = h.is ∙ ap (print words.frames) (merges h.candidates h.are)
 
 -- as those near a signal are
 near_merges : (modem : Modem) (x : List ℤ) (received : List Received) → IsNearlyClean modem x received
     → (items : List Candidate) → AreHeard modem x items
-    → map (λ item. item.octets) (merged items) ≡ frames_of (transmissions_of received)
+    → map (λ item. item.octets) (remaining modem items) ≡ frames_of (transmissions_of received)
 near_merges Plain x received clean = near_law received x clean.each clean.near clean.no_stray
 near_merges Wide x received clean = near_stream_law clean.number received (filtered x) clean.within clean.each
     clean.near clean.no_stray
 near_merges Sensitive x received clean = all_lanes_law received x clean.each clean.near clean.none_stray
 near_merges WideSensitive x received clean = all_lanes_law received (decimated x) clean.each clean.near clean.none_stray
 near_merges ShortWave x received clean = hf_near_law received x clean.each clean.near clean.no_stray
+near_merges Fx25 x received clean = λ items are.
+    let plain = some_list x in
+    ap (map (λ item. item.octets)) (are.is ∙ merged_plain x are.heard plain.0 clean.no_block are.are plain.1)
+    ∙ near_law received x clean.plain.each clean.plain.near clean.plain.no_stray plain.0 plain.1
 
 pub near_text : (words : DecodeWords) (received : List Received) (octets text : List ℕ)
     → IsNearlyClean (modem_of words octets) (samples_read words octets) received

@@ -9,8 +9,9 @@ use Rattle.sensitive_receiver.specs.Stray.{NoneStray}
 use Rattle.resampler.specs.Filtered.{filtered, decimated}
 use Rattle.wide_input.specs.Streams.{stream}
 use Rattle.wide_input.specs.Stray.{NoWideStray}
+use Rattle.fx25_receiver.specs.WithoutBlocks.{HasNoBlock}
 use Rattle.tnc_decode.specs.declared.modem.Modem.{Modem}
-use Rattle.tnc_decode.specs.declared.modem.Modem.TheVariants.{Plain, Wide, Sensitive, WideSensitive, ShortWave}
+use Rattle.tnc_decode.specs.declared.modem.Modem.TheVariants.{Plain, Wide, Sensitive, WideSensitive, ShortWave, Fx25}
 
 -- the samples are near what these transmissions give, each from a phase and at a level of its own, and none of their
 -- candidates is stray
@@ -39,6 +40,11 @@ pub record IsCleanOnShortWave (x : List ℤ) (received : List Received) : Type 0
   pub near : IsHfNearAll received x
   pub no_stray : NoHfStray (transmissions_of received) x
 
+-- the same as by the eight lanes, and no block ends with any bit of theirs
+pub record IsCleanWithoutBlock (x : List ℤ) (received : List Received) : Type 0 where
+  pub plain : IsClean x received
+  pub no_block : HasNoBlock x
+
 -- as the modem hears them: samples at 48,000 a second filtered, and by all lanes each fifth of these
 abbrev pub IsNearlyClean : Modem → List ℤ → List Received → Type 0
 IsNearlyClean Plain x received = IsClean x received
@@ -46,3 +52,4 @@ IsNearlyClean Wide x received = IsCleanInStream (filtered x) received
 IsNearlyClean Sensitive x received = IsCleanOnAllLanes x received
 IsNearlyClean WideSensitive x received = IsCleanOnAllLanes (decimated x) received
 IsNearlyClean ShortWave x received = IsCleanOnShortWave x received
+IsNearlyClean Fx25 x received = IsCleanWithoutBlock x received

@@ -1,10 +1,11 @@
 -- Words that name no rate ask for no way of hearing.
-use Rattle.tnc_words.proofs.Common.{List, Row, Receiving, Standard, Sensitive, ShortWave, SampleRate, Narrow}
+use Rattle.tnc_words.proofs.Common.{List, Row, Receiving, Standard, Sensitive, ShortWave, Fx25, SampleRate, Narrow}
 use Rattle.tnc_words.proofs.Common.{HasReceiving}
 use Rattle.tnc_words.specs.Rates.{HasRate}
 
 pub no_rate : (found : List Row) → ((rate : SampleRate) → HasRate found rate → ⊥) → (receiving : Receiving)
     → HasReceiving found receiving → ⊥
-no_rate found none (Standard rate) h = none rate h.2
-no_rate found none (Sensitive rate) h = none rate h.2
-no_rate found none ShortWave h = none Narrow h.3
+no_rate found none (Standard rate) h = none rate h.3
+no_rate found none (Sensitive rate) h = none rate h.3
+no_rate found none ShortWave h = none Narrow h.4
+no_rate found none Fx25 h = none Narrow h.4

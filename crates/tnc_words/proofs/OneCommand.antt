@@ -1,7 +1,7 @@
 -- Words ask for one command.
 use Rattle.tnc_words.proofs.Common.{◌≡◌, ℕ, ◌+◌, false, Option, Some, List, ◌∷◌, codes, refl, sym, ap, ◌∙◌, arith}
 use Rattle.tnc_words.proofs.Common.{eqb-false, eqb, Row, Text, Command, Help, Version, Receiving, Standard, Sensitive}
-use Rattle.tnc_words.proofs.Common.{ShortWave, SampleRate, Narrow, Topic, Asks, IsDecode, IsEncode, IsShow, IsLoop}
+use Rattle.tnc_words.proofs.Common.{ShortWave, Fx25, SampleRate, Narrow, Topic, Asks, IsDecode, IsEncode, IsShow, IsLoop}
 use Rattle.tnc_words.proofs.Common.{IsBench, first_word, HasDecodeOptions, HasEncodeOptions, HasShowOptions}
 use Rattle.tnc_words.proofs.Common.{HasLoopOptions, HasBenchOptions, HasServeOptions, HasRecordOptions, HasCallOptions}
 use Rattle.tnc_words.proofs.Common.{IsRecord, IsHelp, IsVersion, HasReceiving, samples_a_second}
@@ -51,16 +51,23 @@ one_rate Wide Wide h = refl
 one_receiving : (found : List Row) (receiving other : Receiving) → HasReceiving found receiving
     → HasReceiving found other → receiving ≡ other
 one_receiving found (Standard rate) (Standard other) h k =
-    ap Standard (one_rate rate other (one_number _ _ _ _ _ _ h.2 k.2))
+    ap Standard (one_rate rate other (one_number _ _ _ _ _ _ h.3 k.3))
 one_receiving found (Standard rate) (Sensitive other) h k = absurd (true≢false (sym k.1 ∙ h.1))
 one_receiving found (Standard rate) ShortWave h k = absurd (true≢false (sym k.0 ∙ h.0))
+one_receiving found (Standard rate) Fx25 h k = absurd (true≢false (sym k.2 ∙ h.2))
 one_receiving found (Sensitive rate) (Standard other) h k = absurd (true≢false (sym h.1 ∙ k.1))
 one_receiving found (Sensitive rate) (Sensitive other) h k =
-    ap Sensitive (one_rate rate other (one_number _ _ _ _ _ _ h.2 k.2))
+    ap Sensitive (one_rate rate other (one_number _ _ _ _ _ _ h.3 k.3))
 one_receiving found (Sensitive rate) ShortWave h k = absurd (true≢false (sym k.0 ∙ h.0))
+one_receiving found (Sensitive rate) Fx25 h k = absurd (true≢false (sym h.1 ∙ k.1))
 one_receiving found ShortWave (Standard other) h k = absurd (true≢false (sym h.0 ∙ k.0))
 one_receiving found ShortWave (Sensitive other) h k = absurd (true≢false (sym h.0 ∙ k.0))
 one_receiving found ShortWave ShortWave h k = refl
+one_receiving found ShortWave Fx25 h k = absurd (true≢false (sym h.0 ∙ k.0))
+one_receiving found Fx25 (Standard other) h k = absurd (true≢false (sym h.2 ∙ k.2))
+one_receiving found Fx25 (Sensitive other) h k = absurd (true≢false (sym k.1 ∙ h.1))
+one_receiving found Fx25 ShortWave h k = absurd (true≢false (sym k.0 ∙ h.0))
+one_receiving found Fx25 Fx25 h k = refl
 
 -- ---- what was found gives one set of options
 

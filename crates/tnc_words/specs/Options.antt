@@ -22,11 +22,11 @@ needed_rule name = record (option_rule name) { required = true }
 abbrev pub with_forms : App → App
 with_forms app = with_rule (with_rule app (flag_rule (codes "wav"))) (flag_rule (codes "kiss"))
 
--- decode [--wav] [--kiss] [--threads] [--hf] [--sensitive] [--rate n]
+-- decode [--wav] [--kiss] [--threads] [--hf] [--sensitive] [--fx25] [--rate n]
 abbrev pub decode_app : App
-decode_app = with_rule (with_rule (with_rule (with_rule (with_forms (new_app (codes "decode")))
+decode_app = with_rule (with_rule (with_rule (with_rule (with_rule (with_forms (new_app (codes "decode")))
     (flag_rule (codes "threads"))) (flag_rule (codes "hf"))) (flag_rule (codes "sensitive")))
-    (option_rule (codes "rate"))
+    (flag_rule (codes "fx25"))) (option_rule (codes "rate"))
 
 -- [--opening n] [--closing n] [--silence n] [--level n]
 abbrev pub with_numbers : App → App

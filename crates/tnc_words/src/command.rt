@@ -41,6 +41,8 @@ pub enum Receiving {
     Sensitive { rate: SampleRate },
     /// 300 bits a second and a shift of 200 Hz, on short wave, at 9600 samples a second.
     ShortWave,
+    /// Bell 202 at 9600 samples a second, frames that come plainly and in blocks of FX.25.
+    Fx25,
 }
 
 /// A command with its options.

@@ -53,13 +53,18 @@ fn receiving(found: &ArgMatches) -> Option<Receiving>
     ensures none { IsNone result → (receiving : Receiving) → ¬ HasReceiving (rows_of (found_of found.now)) receiving }
 {
     let rate = sample_rate(text_of(found, "rate"))?;
-    match (has_flag(found, "hf"), has_flag(found, "sensitive"), rate) {
-        (false, false, rate) => Some(Receiving::Standard { rate }),
-        (false, true, rate) => Some(Receiving::Sensitive { rate }),
-        (true, false, SampleRate::Narrow) if !has_flag(found, "threads") => Some(
-            Receiving::ShortWave,
-        ),
-        (true, _, _) => None,
+    let flags = (
+        has_flag(found, "hf"),
+        has_flag(found, "sensitive"),
+        has_flag(found, "fx25"),
+    );
+    let threads = has_flag(found, "threads");
+    match (flags, rate) {
+        ((false, false, false), rate) => Some(Receiving::Standard { rate }),
+        ((false, true, false), rate) => Some(Receiving::Sensitive { rate }),
+        ((true, false, false), SampleRate::Narrow) if !threads => Some(Receiving::ShortWave),
+        ((false, false, true), SampleRate::Narrow) if !threads => Some(Receiving::Fx25),
+        _ => None,
     }
 }
 

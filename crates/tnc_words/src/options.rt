@@ -18,12 +18,13 @@ pub(crate) enum Entry {
 }
 
 /// The options of `decode`.
-pub(crate) const DECODE: [Entry; 6] = [
+pub(crate) const DECODE: [Entry; 7] = [
     Entry::Flag("wav"),
     Entry::Flag("kiss"),
     Entry::Flag("threads"),
     Entry::Flag("hf"),
     Entry::Flag("sensitive"),
+    Entry::Flag("fx25"),
     Entry::Value("rate"),
 ];
 

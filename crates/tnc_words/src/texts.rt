@@ -13,7 +13,7 @@ Usage: tnc COMMAND [OPTION]...
 
 A software terminal node controller for packet radio: AX.25 over the tones of Bell 202.
 
-  tnc decode [--wav] [--kiss] [--threads] [--hf] [--sensitive] [--rate n]
+  tnc decode [--wav] [--kiss] [--threads] [--hf] [--sensitive] [--fx25] [--rate n]
   tnc encode [--kiss] [--wav] [--join] [--hf] [--fx25 n] [--opening n] [--closing n] [--silence n]
              [--level n]
   tnc show [--modulo n]
@@ -40,7 +40,7 @@ little-endian, one channel. `tnc help COMMAND` says what the options are, and th
 ";
 
 const DECODE: &str = "\
-Usage: tnc decode [--wav] [--kiss] [--threads] [--hf] [--sensitive] [--rate n]
+Usage: tnc decode [--wav] [--kiss] [--threads] [--hf] [--sensitive] [--fx25] [--rate n]
 
 Prints the frames that are heard in sound, a line of hexadecimal digits each, as soon as they have ended.
 
@@ -49,6 +49,8 @@ Prints the frames that are heard in sound, a line of hexadecimal digits each, as
   --threads    the receiver works on two threads
   --hf         the sound is of short wave, 300 bits a second, and not Bell 202; without --threads
   --sensitive  hears in more noise and where the sender's clock is off, and takes longer; without --hf
+  --fx25       hears frames in blocks of FX.25 too, and repairs them; at 9600 samples a second,
+               without --hf, --sensitive and --threads
   --rate n     samples a second of raw PCM, 9600 or 48000 (9600); a WAV file tells its own
 ";
 

@@ -7,8 +7,11 @@ use std::test::Fail;
 use std::thread::Threads;
 use tnc_base::{MemSink, MemSource};
 use tnc_decode::decode;
+use tnc_encode::encode;
 use tnc_forms::{Fault, InputFault};
-use tnc_words::{AudioForm, DecodeWords, FrameForm, Receiving, SampleRate};
+use tnc_words::{
+    AudioForm, CheckOctets, DecodeWords, EncodeWords, FrameForm, Modem, Receiving, SampleRate,
+};
 
 /// The tones of a SABM from N7LEM to NJ7P between two flags and one, 162 bits in all, M for mark and S for space.
 const TONES: &[u8; 162] =
@@ -25,6 +28,10 @@ const SINE: [i16; 48] = [
 /// The line of its frame.
 const LINE: &[u8] = b"9c946ea04040e09c6e988a9a40613f\n";
 
+/// The same as a KISS frame on port 0.
+const KISS_FRAME: &[u8] =
+    b"\xc0\x00\x9c\x94\x6e\xa0\x40\x40\xe0\x9c\x6e\x98\x8a\x9a\x40\x61\x3f\xc0";
+
 const WORDS: DecodeWords = DecodeWords {
     audio: AudioForm::Raw,
     frames: FrameForm::Hex,
@@ -40,6 +47,24 @@ const SENSITIVE: DecodeWords = DecodeWords {
         rate: SampleRate::Narrow,
     },
     ..WORDS
+};
+
+/// Also out of blocks.
+const FX25: DecodeWords = DecodeWords {
+    receiving: Receiving::Fx25,
+    ..WORDS
+};
+
+/// The frame of `LINE` in a block.
+const BLOCK: EncodeWords = EncodeWords {
+    frames: FrameForm::Hex,
+    audio: AudioForm::Raw,
+    join: false,
+    opening: 2,
+    closing: 1,
+    silence: 0,
+    level: 10000,
+    modem: Modem::Fx25(CheckOctets::Sixteen),
 };
 
 /// The head of a WAV file of 12,960 octets at 48,000 samples a second.
@@ -247,5 +272,54 @@ fn short_wave_takes_no_file_of_48000_a_second(rt: HostRuntime) -> Result<(), Fai
         &[],
     )?;
     assert!(rt; matches!(end, Err(Fault::Input(InputFault::Wav(_)))));
+    Ok(())
+}
+
+/// The samples of a block, of which so many are silent from sample 700 on. The data and check octets are the samples
+/// from 640 to 3712.
+fn damaged(rt: &impl Abort, alloc: Global, count: usize) -> Result<Vec<u8>, Fail> {
+    let mut source = MemSource::new(LINE.to_vec(alloc)?, 31, Vec::new(alloc));
+    let mut sink = MemSink::new(alloc, 8000, Vec::new(alloc))?;
+    let end = encode(alloc, BLOCK, &mut source, &mut sink);
+    assert_equal(rt, &(sink.written().len(), end), &(7552, Ok(())));
+    let mut octets = sink.written().to_vec(alloc)?;
+    assert!(rt; count <= 2000 && octets.len() == 7552);
+    octets[1400..1400 + 2 * count].fill(0);
+    Ok(octets)
+}
+
+// With 16 check octets any stretch of 441 samples may be wrong.
+#[test]
+fn a_block_is_heard_beside_what_comes_plainly(rt: HostRuntime) -> Result<(), Fail> {
+    let kiss = DecodeWords {
+        frames: FrameForm::Kiss,
+        ..FX25
+    };
+    let table: [(usize, DecodeWords, &[u8]); 6] = [
+        (0, WORDS, LINE),
+        (0, FX25, LINE),
+        (441, WORDS, b""),
+        (441, FX25, LINE),
+        (441, kiss, KISS_FRAME),
+        (1000, FX25, b""),
+    ];
+    for (count, words, want) in table {
+        let octets = damaged(&rt, rt.alloc(), count)?;
+        assert_writes(&rt, rt.alloc(), words, octets, want)?;
+    }
+    assert_writes(&rt, rt.alloc(), FX25, recording(rt.alloc())?, LINE)
+}
+
+#[test]
+fn a_block_is_heard_however_its_source_cuts_it(rt: HostRuntime) -> Result<(), Fail> {
+    for piece in [1, 3, 1000] {
+        let octets = damaged(&rt, rt.alloc(), 441)?;
+        let (written, end) = decoded(&rt, rt.alloc(), FX25, octets, piece, &[])?;
+        assert_equal(
+            &rt,
+            &(piece, written.as_slice(), end),
+            &(piece, LINE, Ok(())),
+        );
+    }
     Ok(())
 }

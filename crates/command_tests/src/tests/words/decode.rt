@@ -33,6 +33,11 @@ const SENSITIVE: DecodeWords = DecodeWords {
     ..DECODE
 };
 
+const FX25: DecodeWords = DecodeWords {
+    receiving: Receiving::Fx25,
+    ..DECODE
+};
+
 const KISS: FrameForm = FrameForm::Kiss;
 
 const WAV: AudioForm = AudioForm::Wav;
@@ -75,6 +80,15 @@ fn decode_takes_what_hears_and_its_rate(rt: HostRuntime) -> Result<(), Fail> {
         ("--wav --rate=048000", DecodeWords { audio: WAV, ..WIDE }),
         ("--hf --rate 9600", SHORT_WAVE),
         ("--sensitive", SENSITIVE),
+        ("--fx25", FX25),
+        (
+            "--wav --rate 9600 --fx25 --kiss",
+            DecodeWords {
+                audio: WAV,
+                frames: KISS,
+                ..FX25
+            },
+        ),
         (
             "--rate 48000 --sensitive",
             DecodeWords {

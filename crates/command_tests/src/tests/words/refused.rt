@@ -27,6 +27,13 @@ x
 --rate 9600 --rate 9600
 --threads --threads
 --threads=2
+--fx25 --hf
+--fx25 --sensitive
+--fx25 --threads
+--fx25 --rate 48000
+--fx25 --fx25
+--fx25=true
+--fx25 16
 ";
 
 /// What stands after `encode`.

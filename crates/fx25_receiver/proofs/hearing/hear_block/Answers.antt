@@ -1,4 +1,4 @@
-use Rattle.fx25_receiver.proofs.Common.{◌≡◌, ◌+◌, ◌*◌, ◌≤◌, ℕ, List, ◌++◌, length, inl, inr, refl, ap, subst, sym, ◌∙◌}
+use Rattle.fx25_receiver.proofs.Common.{◌≡◌, ◌+◌, ◌*◌, ℕ, List, ◌++◌, length, inl, inr, refl, ap, subst, sym, ◌∙◌}
 use Rattle.fx25_receiver.proofs.Common.{arith}
 use Rattle.fx25_receiver.proofs.Common.{bits, length-bits, EndsBlock, Heard, block_length}
 use Rattle.std.specs.Prelude.{IfSome}

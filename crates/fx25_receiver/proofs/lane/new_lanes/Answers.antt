@@ -1,4 +1,4 @@
-use Rattle.fx25_receiver.proofs.Common.{◌≡◌, ◌+◌, ◌∙◌, length, arith, sym, subst}
+use Rattle.fx25_receiver.proofs.Common.{◌≡◌, ◌+◌, ◌∙◌, arith, sym, subst}
 use Rattle.fx25_receiver.proofs.LaneLemmas.{AreFresh, fresh_more}
 use Rattle.fx25_receiver.proofs.lane.new_lanes.Goals as goal
 

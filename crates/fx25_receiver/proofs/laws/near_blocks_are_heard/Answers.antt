@@ -1,4 +1,4 @@
-use Rattle.fx25_receiver.proofs.Common.{◌++◌, inr, subst, sym, EndsBlock, sent_bits}
+use Rattle.fx25_receiver.proofs.Common.{inr, subst, sym, EndsBlock}
 use Rattle.fx25_blocks.specs.Blocks.{bits_needed}
 use Rattle.fx25_blocks.proofs.BlockLaws.{heard_block}
 use Rattle.fx25_receiver.proofs.OneItem.{one_item}

@@ -1,4 +1,4 @@
-use Rattle.fx25_receiver.proofs.Common.{◌≡◌, ◌+◌, List, nat_le, not_past, reach, rules, Heard}
+use Rattle.fx25_receiver.proofs.Common.{◌≡◌, ◌+◌, nat_le, not_past, reach, rules}
 use Rattle.std.proofs.lemmas.Fn.{filter_same}
 use Rattle.fx25_receiver.proofs.MergingLemmas.{keeps_fewer}
 use Rattle.fx25_receiver.proofs.merging.forget.Goals as goal

@@ -1,4 +1,4 @@
-use Rattle.fx25_receiver.proofs.Common.{◌++◌, [], ◌∷◌, List, ap, append_assoc, sym, ◌∙◌, subst, if◌then◌else◌, merged}
+use Rattle.fx25_receiver.proofs.Common.{◌++◌, [], ◌∷◌, List, ap, append_assoc, sym, ◌∙◌, subst, if◌then◌else◌}
 use Rattle.fx25_receiver.proofs.Common.{Heard, Keeps, list_any, repeats}
 use Rattle.fx25_receiver.proofs.MergingLemmas.{keeps_push, merged_kept}
 use Rattle.fx25_receiver.proofs.merging.put.Goals as goal

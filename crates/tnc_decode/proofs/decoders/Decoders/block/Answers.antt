@@ -7,9 +7,15 @@ use Rattle.sensitive_receiver.specs.HeldDecoder.{StandsFor as SensitiveStandsFor
 use Rattle.sensitive_receiver.specs.MergedItems.{AreMergedBetween as AreSensitiveMergedBetween}
 use Rattle.wide_input.specs.HeldDecoder.{StandsFor as WideStandsFor}
 use Rattle.wide_input.specs.HeldSensitive.{StandsFor as WideSensitiveStandsFor}
-use Rattle.tnc_decode.specs.declared.decoders.Decoders.TheVariants.{Plain, Wide, Sensitive, WideSensitive, ShortWave}
+use Rattle.tnc_decode.specs.declared.decoders.Decoders.TheVariants.{Plain, Wide, Sensitive, WideSensitive, ShortWave, Fx25}
 use Rattle.tnc_decode.proofs.ModemLemmas.{plain_block, wide_block, short_wave_block}
 use Rattle.tnc_decode.proofs.SensitiveLemmas.{sensitive_block, wide_sensitive_block}
+use Rattle.std.specs.Prelude.{map}
+use Rattle.tnc_decode.proofs.Common.{◌≡◌}
+use Rattle.fx25_receiver.specs.declared.heard.Heard.{Heard}
+use Rattle.fx25_receiver.specs.Held.{StandsFor as Fx25StandsFor}
+use Rattle.fx25_receiver.specs.WithoutBlocks.{candidate_of}
+use Rattle.tnc_decode.proofs.Fx25Lemmas.{fx25_block}
 use Rattle.tnc_decode.proofs.decoders.Decoders.block.Goals as goal
 
 pub returns-in-Plain-clause-given : goal.returns-in-Plain-clause-given
@@ -181,3 +187,21 @@ returns-in-WideSensitive-2-clause-given g c =
     × AreGivenBetween modem (settled_count modem x) (settled_count modem (x ++ block)) (x ++ block) items.items)
     (λ items given. wide_sensitive_block old new block items.items given)
     c.block-in-WideSensitive-2.ensures.given)
+
+pub returns-in-Fx25-clause-given : goal.returns-in-Fx25-clause-given
+returns-in-Fx25-clause-given g c =
+    let block : List ℤ = c.args.block.now in
+    let old = c.in-Fx25.decoder in
+    let new = c.block-in-Fx25.new.self in
+    let P : Decoders → Type 0 = λ self. IfOk c.block-in-Fx25.result (λ items. (modem : Modem) (x : List ℤ)
+    → HasDecoded modem self x
+    → HasDecoded modem (Fx25 new) (x ++ block) × AreGivenBetween modem (settled_count modem x)
+    (settled_count modem (x ++ block)) (x ++ block) items.items) in
+    subst P (sym c.in-Fx25.is) (IfOk-weaker c.block-in-Fx25.result
+    (λ items. (x : List ℤ) (given : List Heard) → Fx25StandsFor old x given
+    → (heard : List Heard) × Fx25StandsFor new (x ++ block) (given ++ heard) × (items.items ≡ map candidate_of heard))
+    (λ items. (modem : Modem) (x : List ℤ) → HasDecoded modem (Fx25 old) x
+    → HasDecoded modem (Fx25 new) (x ++ block) × AreGivenBetween modem (settled_count modem x)
+    (settled_count modem (x ++ block)) (x ++ block) items.items)
+    (λ items given. fx25_block old new block items.items given)
+    c.block-in-Fx25.ensures.given)

@@ -5,13 +5,14 @@ use Rattle.hf_modem.specs.HeldDecoder.{StandsFor as HfStandsFor}
 use Rattle.hf_modem.specs.MergedItems.{AreMergedBetween as AreHfMergedBetween}
 use Rattle.sensitive_receiver.specs.HeldDecoder.{StandsFor as SensitiveStandsFor}
 use Rattle.sensitive_receiver.specs.MergedItems.{AreMergedBetween as AreSensitiveMergedBetween}
-use Rattle.tnc_decode.specs.declared.decoders.Decoders.TheVariants.{Plain, Wide, Sensitive, WideSensitive, ShortWave}
+use Rattle.tnc_decode.specs.declared.decoders.Decoders.TheVariants.{Plain, Wide, Sensitive, WideSensitive, ShortWave, Fx25}
 use Rattle.wide_input.specs.HeldDecoder.{StandsFor as WideStandsFor}
 use Rattle.wide_input.specs.HeldSensitive.{StandsFor as WideSensitiveStandsFor}
 use Rattle.wide_input.specs.MergedItems.{AreWideRest, settled_ends}
 use Rattle.resampler.specs.Filtered.{filtered}
 use Rattle.tnc_decode.proofs.ModemLemmas.{plain_finish, short_wave_finish, wide_finish}
 use Rattle.tnc_decode.proofs.SensitiveLemmas.{sensitive_finish, wide_sensitive_finish}
+use Rattle.tnc_decode.proofs.Fx25Lemmas.{fx25_finish}
 use Rattle.tnc_decode.proofs.decoders.Decoders.finish.Goals as goal
 
 pub returns-in-Plain : goal.returns-in-Plain
@@ -95,3 +96,11 @@ returns-in-WideSensitive c =
           (λ items rest. wide_sensitive_finish decoder items.items rest)
           c.finish-in-WideSensitive.ensures.rest);
     }
+
+pub returns-in-Fx25 : goal.returns-in-Fx25
+returns-in-Fx25 c =
+    let decoder = c.in-Fx25.decoder in
+    let items = c.finish-in-Fx25.result.items in
+    let P : Decoders → Type 0 = λ self. (modem : Modem) (x : List ℤ) → HasDecoded modem self x
+    → AreGivenRest modem (settled_count modem x) x items in
+    record { rest = subst P (sym c.in-Fx25.is) (fx25_finish decoder items c.finish-in-Fx25.ensures) }
