@@ -16,3 +16,5 @@ mod Examples
 pub mod WholeLemmas
 pub mod SoFarLemmas
 pub mod WholeRun
+pub mod SoundLemmas
+pub mod QuietBegins

@@ -11,3 +11,4 @@ pub mod HeldTick
 pub mod StandsFor
 pub mod HeldTaking
 pub mod WholeTransmission
+pub mod Sound

@@ -1,10 +1,11 @@
 //! Laws of the definitions, which hold of all values and need no work.
-ghost use Rattle.std.specs.Prelude.{◌≡◌, ℕ, ◌*◌, ◌≤◌, true, List, Bool, ◌∷◌, ◌++◌, length, take, drop, None};
+ghost use Rattle.std.specs.Prelude.{◌≡◌, ℕ, ◌*◌, ◌≤◌, true, false, List, Bool, ◌∷◌, ◌++◌, length, take, drop, None};
 ghost use Rattle.afsk_modulator.specs.Transmission.{transmission};
 ghost use Rattle.channel_access.specs.Waiting.{WaitingFrame};
 ghost use Rattle.channel_access.specs.Channel.{Channel, air_tick, after_tick};
 ghost use Rattle.channel_access.specs.WholeTransmission.{Call, joining, AreFrames, GoesToItsEnd, SendOneTransmission};
 ghost use Rattle.channel_access.specs.WholeTransmission.Call.{Ticks};
+ghost use Rattle.channel_access.specs.Sound.{has_sound};
 ghost use Rattle.channel_access.specs.OnAir.{OnAir, bits_then, bits_of, samples_on_air, decided, tick_samples};
 
 /// What is decided of a transmission while it runs only adds bits after those that were decided before.
@@ -33,4 +34,16 @@ pub fn a_transmission_is_whole()
     ensures { (channel : Channel) (busy wants : Bool) (calls : List Call) → AreFrames channel.waiting
         → AreFrames (joining calls) → channel.air ≡ None → (air_tick busy wants channel).began ≡ true
         → GoesToItsEnd calls (after_tick busy wants channel) → SendOneTransmission (Ticks busy wants ∷ calls) channel }
+{}
+
+/// The first tick of a transmission has sound: one of its samples is not 0.
+pub fn a_transmission_begins_with_sound()
+    ensures { (busy wants : Bool) (channel : Channel) → (air_tick busy wants channel).began ≡ true
+        → has_sound (air_tick busy wants channel).samples ≡ true }
+{}
+
+/// In half duplex a transmission begins only in a tick in which the channel is not busy.
+pub fn half_duplex_begins_while_free()
+    ensures { (busy wants : Bool) (channel : Channel) → channel.parameters.full_duplex ≡ false
+        → (air_tick busy wants channel).began ≡ true → busy ≡ false }
 {}

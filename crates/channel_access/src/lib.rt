@@ -20,7 +20,7 @@ mod transmitter;
 pub use access::Access;
 pub use air_tick::{AirTick, Sent};
 pub use laws::{
-    a_tick_is_a_part_of_the_whole, a_transmission_is_whole, decisions_add_bits,
-    the_end_is_a_transmission,
+    a_tick_is_a_part_of_the_whole, a_transmission_begins_with_sound, a_transmission_is_whole,
+    decisions_add_bits, half_duplex_begins_while_free, the_end_is_a_transmission,
 };
 pub use parameters::{Param, Parameters};

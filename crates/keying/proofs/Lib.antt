@@ -8,3 +8,4 @@ pub mod ToldEnds
 pub mod KeyLasts
 pub mod Quiet
 mod Examples
+pub mod Failures
