@@ -1,30 +1,48 @@
--- A worked joint run with data: a host at AAAA calls BBBB (SABM, UA), whose host gives one octet (an I frame). The
--- client has taken all that its station has for it, and prints that octet while the call goes on.
+-- A worked joint run with data: a host at AAAA calls BBBB (SABM, UA), whose host gives one octet. Another host of BBBB
+-- has set full duplex and the shortest TXDELAY, so that the UA is on the air at once, and in the tick in which it ends
+-- the channel takes an I frame of the link. The client has taken all that its station has for it, and prints that octet
+-- while the call goes on.
 use Rattle.station_laws.proofs.Common.{All, inl, inr, arith, list_all, and_parts, ltb-true, All-from_recursion}
 use Rattle.station_laws.proofs.Common.{Callsign, IsCallCharacter, BeginsWithPath, way_back, Path, Role, Command, Frame}
 use Rattle.station_laws.proofs.Common.{Setup, Info, Eight, Sabm, Ua, IsFrame, reading, default_params, End, A, B}
-use Rattle.station_laws.proofs.Common.{Config, Joined, Bytes, Agw, answering_else, call_of_text, shown_to_hosts}
+use Rattle.station_laws.proofs.Common.{Config, Joined, Bytes, Agw, Kiss, answering_else, call_of_text, shown_to_hosts}
 use Rattle.station_laws.proofs.Common.{joining, taking, event_at, making, no_layer_3, Route, path_along, StationState}
-use Rattle.station_laws.proofs.Common.{new_station, Turn, Step, new_stations, IsJointRun, FromHost, OffAir, Calls}
+use Rattle.station_laws.proofs.Common.{new_station, Turn, Step, new_stations, IsJointRun, FromHost, OffAir, OfClock}
+use Rattle.station_laws.proofs.Common.{Calls}
 use Rattle.station_laws.proofs.Common.{Pairs, IsQuietLink, frame_octets, WindowsFit, Pair, RiseBoth, AreAlikeButForH}
 use Rattle.station_laws.proofs.Common.{HearsLinkFrame, IsHeardPair, HasPair, AreHeardInOrder, All-contains_itself}
-use Rattle.station_laws.proofs.Common.{AllPairs, slice_get, get_or, sym, ◌∙◌, subst, Connection, IsHeardBy}
-use Rattle.std.specs.Prelude.{◌≡◌, ◌≢◌, ℕ, zero, suc, ◌<◌, true, false, nat_lt, Contains, List, [], ◌∷◌, ◌++◌, length}
+use Rattle.station_laws.proofs.Common.{AllPairs, slice_get, get_or, sym, ◌∙◌, subst, Connection, IsHeardBy, changing}
+use Rattle.station_laws.proofs.Common.{IsOffAir, IsTurn, Option, Stations, all_stepped, stepped, each_append}
+use Rattle.station_laws.proofs.Common.{each_weaker, ticking}
+use Rattle.station_laws.proofs.Common.{ticking_links, with_param, ⊤}
+use Rattle.std.specs.Prelude.{◌≡◌, ◌≢◌, ℕ, zero, suc, ◌+◌, ◌<◌, true, false, nat_lt, Contains, List, [], ◌∷◌, ◌++◌}
+use Rattle.std.specs.Prelude.{length}
 use Rattle.std.specs.Prelude.{Some, None, refl}
 use Rattle.std.specs.List.{AllByRecursion as Each}
 use Rattle.std.proofs.lemmas.List.{append-nil}
 use Rattle.std.proofs.lemmas.List.Kept.{AllPairs-cons}
-use Rattle.std.proofs.lemmas.Option.{slice_get_past}
 use Rattle.ax25_address.specs.Callsign.{IsCall}
 use Rattle.ax25_address.specs.declared.path.Role.TheVariants.{Response}
 use Rattle.agwpe_port.specs.Messages.{message_of, spelling}
 use Rattle.agwpe_client.specs.CallRun.{CallPlan, call_run, printed_after}
+use Rattle.channel_access.specs.OnAir.{bits_of, flag_end, frames_end}
+use Rattle.channel_access.specs.declared.air_tick.Sent.{Sent}
+use Rattle.channel_access.specs.declared.parameters.Param.TheVariants.{FullDuplex, TxDelay}
+use Rattle.hdlc_framer.specs.BitOrder.{octet_bits}
+use Rattle.hdlc_framer.specs.Body.{body}
+use Rattle.hdlc_framer.specs.CheckSequence.{fcs_of}
+use Rattle.hdlc_framer.specs.Frames.{frame_bits, with_fcs}
+use Rattle.kiss_port.specs.Items.{items_in}
+use Rattle.kiss_port.specs.WebRequests.{has_web_beginning, is_web_request}
 use Rattle.link_machine.specs.Event.Event.{Connect as LinkConnect, Hear as LinkHear}
 use Rattle.link_machine.specs.Params.{HasWindows}
 use Rattle.link_machine.specs.Step.{step as link_turn}
 use Rattle.selective_reject.specs.Numbers.{ahead}
+use Rattle.selective_reject.specs.Places.{missing}
 use Rattle.station.specs.Heard.{IsOurs, IsReadAs, telling_channel}
 use Rattle.station.specs.Monitored.{heard_modulus}
+use Rattle.station.specs.Asking.{first_wanting}
+use Rattle.station.specs.Ticks.{IsSentFrame, air_of, asked_links}
 use Rattle.station.specs.Turn.{begin}
 use Rattle.station.specs.declared.host_out.Piece.{Piece}
 use Rattle.call_laws.specs.Client.{IsBetweenCalls, IsClientOf, IsClientStep, octets_had, pieces_at, pieces_for}
@@ -231,6 +249,39 @@ b_registers =
       octets = tt;
     }
 
+-- another host of B sets TXDELAY 0 and full duplex
+abbrev pub b_joins_again : Step
+b_joins_again = record {
+  station = B;
+  input = FromHost (Joined 2 Kiss);
+  before = b_registers.after.now;
+  after = joining 2 Kiss (begin b_registers.after.now);
+  turn = refl;
+  octets = tt;
+}
+
+abbrev pub sets : List ℕ
+sets = 0xc0 ∷ 1 ∷ 0 ∷ 0xc0 ∷ 5 ∷ 1 ∷ 0xc0 ∷ []
+
+abbrev pub after_setting : Turn
+after_setting =
+    changing (with_param (FullDuplex true)) (changing (with_param (TxDelay 0))
+    (taking 2 sets (begin b_joins_again.after.now)))
+
+pub is_setting : IsTurn (FromHost (Bytes 2 sets)) (begin b_joins_again.after.now) after_setting
+unfolding reading call_of_text items_in is_web_request has_web_beginning
+is_setting = refl
+
+abbrev pub b_sets : Step
+b_sets = record {
+  station = B;
+  input = FromHost (Bytes 2 sets);
+  before = b_joins_again.after.now;
+  after = after_setting;
+  turn = is_setting;
+  octets = tt;
+}
+
 abbrev pub route : Route
 route = record { local = aaaa; remote = bbbb; repeaters = [] }
 
@@ -279,7 +330,7 @@ hearing end s path octets frame between begins read effect ours few = record {
 abbrev pub b_hears_sabm : Step
 unfolding reading call_of_text
 b_hears_sabm =
-    let before = b_registers.after.now in
+    let before = b_sets.after.now in
     let made = making 0 1 no_layer_3 bbbb aaaa (way_back command_path Command)
     (shown command_path sabm sabm_frame before) in
     hearing B before command_path sabm sabm_frame (event_at 0 (LinkHear sabm_frame) made) (command_begins 63) sabm_is
@@ -309,6 +360,46 @@ b_gives =
       octets = tt;
     }
 
+-- the state of a station after a tick in which it hears nothing, and names no frame as sent
+abbrev pub next : StationState → StationState
+next s = (ticking false None (begin s)).now
+
+abbrev pub tick : (s : StationState) → (air_of false s).sent ≡ None → Step
+tick s silent = record {
+  station = B;
+  input = OfClock false;
+  before = s;
+  after = ticking false None (begin s);
+  turn = record {
+    monitored = None;
+    read_as =
+        subst (λ (sent : Option Sent). IsSentFrame sent (asked_links false (begin s)).now.links None) (sym silent)
+        refl;
+    effect = refl;
+  };
+  octets = tt;
+}
+
+-- so many ticks one after another
+abbrev pub NameNone : ℕ → StationState → Type 0
+NameNone zero s = ⊤
+NameNone (suc count) s = ((air_of false s).sent ≡ None) × NameNone count (next s)
+
+abbrev pub ticks_of : (count : ℕ) → (s : StationState) → NameNone count s → List Step
+ticks_of zero s silent = []
+ticks_of (suc count) s silent = tick s silent.0 ∷ ticks_of count (next s) silent.1
+
+-- the UA goes on the air, and names no frame for thirteen ticks
+pub names_none : NameNone 13 b_gives.after.now
+unfolding reading call_of_text link_turn ticking_links first_wanting frames_end flag_end bits_of body frame_bits
+    with_fcs fcs_of octet_bits frame_octets missing
+names_none =
+    (refl, (refl, (refl, (refl, (refl, (refl, (refl, (refl, (refl, (refl, (refl, (refl, (refl, tt)))))))))))))
+
+-- with the last of them it ends, and the I frame is queued
+abbrev pub ticks : List Step
+ticks = ticks_of 13 b_gives.after.now names_none
+
 abbrev pub a_hears_info : Step
 unfolding reading call_of_text link_turn ahead
 a_hears_info =
@@ -319,13 +410,31 @@ a_hears_info =
 
 -- ---- the run
 
+abbrev pub first_steps : List Step
+first_steps =
+    a_joins ∷ b_joins ∷ a_registers ∷ b_registers ∷ b_joins_again ∷ b_sets ∷ a_calls ∷ b_hears_sabm ∷ a_hears_ua
+    ∷ b_gives ∷ []
+
 abbrev pub steps : List Step
-steps =
-    a_joins ∷ b_joins ∷ a_registers ∷ b_registers ∷ a_calls ∷ b_hears_sabm ∷ a_hears_ua ∷ b_gives ∷ a_hears_info ∷ []
+steps = first_steps ++ (ticks ++ a_hears_info ∷ [])
+
+run_append : (first rest : List Step) (s : Stations) → IsJointRun s first → IsJointRun (all_stepped first s) rest
+    → IsJointRun s (first ++ rest)
+run_append [] rest s h k = k
+run_append (step ∷ first) rest s h k = (h.0, run_append first rest (stepped step s) h.1 k)
+
+ticks_run : (count : ℕ) (a b : StationState) (silent : NameNone count b)
+    → IsJointRun (record { a = a; b = b }) (ticks_of count b silent)
+ticks_run zero a b silent = tt
+ticks_run (suc count) a b silent = (refl, ticks_run count a (next b) silent.1)
 
 is_run : IsJointRun (new_stations config 1 config 2) steps
 unfolding a_registers b_registers a_calls b_hears_sabm a_hears_ua b_gives a_hears_info
-is_run = (refl, (refl, (refl, (refl, (refl, (refl, (refl, (refl, (refl, tt)))))))))
+is_run =
+    run_append first_steps (ticks ++ a_hears_info ∷ []) (new_stations config 1 config 2)
+    (refl, (refl, (refl, (refl, (refl, (refl, (refl, (refl, (refl, (refl, tt))))))))))
+    (run_append ticks (a_hears_info ∷ []) (all_stepped first_steps (new_stations config 1 config 2))
+    (ticks_run 13 a_hears_ua.after.now b_gives.after.now names_none) (refl, tt))
 
 abbrev pub calls : Calls
 calls = record { a = aaaa; b = bbbb }
@@ -333,14 +442,63 @@ calls = record { a = aaaa; b = bbbb }
 -- B hears SABM, and A hears UA and the I frame
 abbrev pub pairs : Pairs
 pairs = record {
-  at_a = record { heard = 6; sent = 0 } ∷ record { heard = 8; sent = 1 } ∷ [];
-  at_b = record { heard = 5; sent = 0 } ∷ [];
+  at_a = record { heard = 8; sent = 0 } ∷ record { heard = 23; sent = 1 } ∷ [];
+  at_b = record { heard = 7; sent = 0 } ∷ [];
 }
 
 -- the SABM entered a quiet channel
 is_quiet_run : IsQuietLink calls pairs default_params default_params steps
-unfolding reading call_of_text link_turn ahead
-is_quiet_run = (refl, (refl, (refl, (refl, (refl, (refl, (refl, tt)))))))
+unfolding reading call_of_text link_turn ahead is_web_request has_web_beginning ticking_links first_wanting frames_end flag_end bits_of body frame_bits
+    with_fcs fcs_of octet_bits frame_octets missing
+is_quiet_run = (
+  refl,
+  (
+    refl,
+    (
+      refl,
+      (
+        refl,
+        (
+          refl,
+          (
+            refl,
+            (
+              refl,
+              (
+                refl,
+                (
+                  refl,
+                  (
+                    refl,
+                    (
+                      refl,
+                      (
+                        refl,
+                        (
+                          refl,
+                          (
+                            refl,
+                            (
+                              refl,
+                              (
+                                refl,
+                                (refl, (refl, (refl, (refl, (refl, tt))))),
+                              ),
+                            ),
+                          ),
+                        ),
+                      ),
+                    ),
+                  ),
+                ),
+              ),
+            ),
+          ),
+        ),
+      ),
+    ),
+  ),
+)
 
 -- ---- what is heard
 
@@ -357,12 +515,6 @@ two_rise p q h =
 
 same_some : (x y : Step) → Some x ≡ Some y → x ≡ y
 same_some x y e = cc
-
--- a step of the other station, or one that hears nothing
-of_other : (hearer : End) (found step : Step) (octets : List ℕ) → found.station ≢ hearer → Some found ≡ Some step
-    → HearsLinkFrame hearer step octets → ⊥
-of_other hearer found step octets other is hears =
-    other (subst (λ (s : Step). HearsLinkFrame hearer s octets) (sym (same_some found step is)) hears).station
 
 a_is_not_b : A ≢ B
 a_is_not_b e = cc
@@ -407,7 +559,7 @@ b_hears_first : HearsLinkFrame B b_hears_sabm sabm
 unfolding reading call_of_text link_turn
 b_hears_first = record { station = refl; input = refl; event = λ e. cc }
 
-first_pair : IsHeardPair B steps (record { heard = 5; sent = 0 })
+first_pair : IsHeardPair B steps (record { heard = 7; sent = 0 })
 unfolding reading call_of_text link_turn frame_octets ahead
 first_pair = record {
   step = b_hears_sabm;
@@ -427,35 +579,92 @@ has_itself ps k p d all within is = record {
   is = refl;
 }
 
-all_b : (number : ℕ) (step : Step) (octets : List ℕ) → slice_get steps number ≡ Some step → HearsLinkFrame B step octets
-    → HasPair pairs.at_b number
+-- each of these steps, numbered from a number on, has its pair if it hears a frame of a link
+abbrev HaveTheirPairs : End → List Pair → ℕ → List Step → Type 0
+HaveTheirPairs end ps n [] = ⊤
+HaveTheirPairs end ps n (step ∷ rest) =
+    ((octets : List ℕ) → HearsLinkFrame end step octets → HasPair ps n) × HaveTheirPairs end ps (n + 1) rest
+
+have_pairs :
+    (end : End) (ps : List Pair) (n : ℕ) (run : List Step) → HaveTheirPairs end ps n run → (number : ℕ) (step : Step)
+    (octets : List ℕ) → slice_get run number ≡ Some step → HearsLinkFrame end step octets → HasPair ps (n + number)
+have_pairs end ps n [] h zero step octets is hears = absurd (cc)
+have_pairs end ps n [] h (suc number) step octets is hears = absurd (cc)
+have_pairs end ps n (s ∷ rest) h zero step octets is hears =
+    let here : n ≡ n + 0 = omega arith in
+    subst (HasPair ps) here
+    (h.0 octets (subst (λ (x : Step). HearsLinkFrame end x octets) (sym (same_some s step is)) hears))
+have_pairs end ps n (s ∷ rest) h (suc number) step octets is hears =
+    let next : (n + 1) + number ≡ n + suc number = omega arith in
+    subst (HasPair ps) next (have_pairs end ps (n + 1) rest h.1 number step octets is hears)
+
+have_append :
+    (end : End) (ps : List Pair) (n : ℕ) (first rest : List Step) → HaveTheirPairs end ps n first
+    → HaveTheirPairs end ps (n + length first) rest → HaveTheirPairs end ps n (first ++ rest)
+have_append end ps n [] rest h k =
+    let here : n + 0 ≡ n = omega arith in subst (λ m. HaveTheirPairs end ps m rest) here k
+have_append end ps n (s ∷ first) rest h k =
+    let next : n + suc (length first) ≡ (n + 1) + length first = omega arith in
+    (h.0, have_append end ps (n + 1) first rest h.1 (subst (λ m. HaveTheirPairs end ps m rest) next k))
+
+-- steps of the clock hear nothing
+abbrev HearsNothing : Step → Type 0
+HearsNothing step = (octets : List ℕ) → IsOffAir step.input octets → ⊥
+
+silent_have : (end : End) (ps : List Pair) (n : ℕ) (run : List Step) → Each HearsNothing run
+    → HaveTheirPairs end ps n run
+silent_have end ps n [] h = tt
+silent_have end ps n (s ∷ run) h =
+    ((λ octets hears. absurd (h.0 octets hears.input)), silent_have end ps (n + 1) run h.1)
+
+ticks_silent : (count : ℕ) (s : StationState) (silent : NameNone count s)
+    → Each HearsNothing (ticks_of count s silent)
+ticks_silent zero s silent = tt
+ticks_silent (suc count) s silent = ((λ octets off. off), ticks_silent count (next s) silent.1)
+
+have_at_b : HaveTheirPairs B pairs.at_b 0 steps
 unfolding reading call_of_text link_turn ahead
-all_b zero step octets is hears = absurd (of_other B a_joins step octets a_is_not_b is hears)
-all_b (suc zero) step octets is hears =
-    absurd (subst (λ (s : Step). HearsLinkFrame B s octets) (sym (same_some b_joins step is)) hears).input
-all_b (suc (suc zero)) step octets is hears = absurd (of_other B a_registers step octets a_is_not_b is hears)
-all_b (suc (suc (suc zero))) step octets is hears =
-    absurd (subst (λ (s : Step). HearsLinkFrame B s octets) (sym (same_some b_registers step is)) hears).input
-all_b (suc (suc (suc (suc zero)))) step octets is hears = absurd (of_other B a_calls step octets a_is_not_b is hears)
-all_b (suc (suc (suc (suc (suc zero))))) step octets is hears =
-    has_itself pairs.at_b 0 (record { heard = 5; sent = 0 }) (record { heard = 0; sent = 0 })
-    (All-contains_itself pairs.at_b) (omega arith) refl
-all_b (suc (suc (suc (suc (suc (suc zero)))))) step octets is hears =
-    absurd (of_other B a_hears_ua step octets a_is_not_b is hears)
-all_b (suc (suc (suc (suc (suc (suc (suc zero))))))) step octets is hears =
-    absurd (subst (λ (s : Step). HearsLinkFrame B s octets) (sym (same_some b_gives step is)) hears).input
-all_b (suc (suc (suc (suc (suc (suc (suc (suc zero)))))))) step octets is hears =
-    absurd (of_other B a_hears_info step octets a_is_not_b is hears)
-all_b (suc (suc (suc (suc (suc (suc (suc (suc (suc n))))))))) step octets is hears =
-    absurd (let none : slice_get steps (suc (suc (suc (suc (suc (suc (suc (suc (suc n))))))))) ≡ None =
-    slice_get_past steps (suc (suc (suc (suc (suc (suc (suc (suc (suc n))))))))) (omega arith) in
-    let clash : None ≡ Some step = sym none ∙ is in cc)
+have_at_b =
+    have_append B pairs.at_b 0 first_steps (ticks ++ a_hears_info ∷ []) (
+      λ octets hears. absurd (a_is_not_b hears.station),
+      (
+        λ octets hears. absurd hears.input,
+        (
+          λ octets hears. absurd (a_is_not_b hears.station),
+          (
+            λ octets hears. absurd hears.input,
+            (
+              λ octets hears. absurd hears.input,
+              (
+                λ octets hears. absurd hears.input,
+                (
+                  λ octets hears. absurd (a_is_not_b hears.station),
+                  (
+                    λ octets hears. has_itself pairs.at_b 0 (record { heard = 7; sent = 0 }) (record { heard = 0; sent = 0 })
+                        (All-contains_itself pairs.at_b) (omega arith) refl,
+                    (
+                      λ octets hears. absurd (a_is_not_b hears.station),
+                      (λ octets hears. absurd hears.input, tt),
+                    ),
+                  ),
+                ),
+              ),
+            ),
+          ),
+        ),
+      ),
+    )
+    (have_append B pairs.at_b 10 ticks (a_hears_info ∷ []) (silent_have B pairs.at_b 10 ticks
+    (ticks_silent 13 b_gives.after.now names_none))
+    (λ octets hears. absurd (a_is_not_b hears.station), tt))
 
 heard_at_b : AreHeardInOrder B steps pairs.at_b
 heard_at_b = record {
-  rise = one_rise (record { heard = 5; sent = 0 });
+  rise = one_rise (record { heard = 7; sent = 0 });
   each = All-from_recursion (IsHeardPair B steps) pairs.at_b (first_pair, tt);
-  all = all_b;
+  all = λ number step octets is hears.
+      let same : 0 + number ≡ number = omega arith in
+      subst (HasPair pairs.at_b) same (have_pairs B pairs.at_b 0 steps have_at_b number step octets is hears);
 }
 
 a_hears_first : HearsLinkFrame A a_hears_ua ua
@@ -466,7 +675,7 @@ a_hears_second : HearsLinkFrame A a_hears_info info
 unfolding reading call_of_text link_turn ahead
 a_hears_second = record { station = refl; input = refl; event = λ e. cc }
 
-first_answer : IsHeardPair A steps (record { heard = 6; sent = 0 })
+first_answer : IsHeardPair A steps (record { heard = 8; sent = 0 })
 unfolding reading call_of_text link_turn frame_octets ahead
 first_answer = record {
   step = a_hears_ua;
@@ -478,8 +687,9 @@ first_answer = record {
   alike = same_ua;
 }
 
-data_pair : IsHeardPair A steps (record { heard = 8; sent = 1 })
-unfolding reading call_of_text link_turn frame_octets ahead
+data_pair : IsHeardPair A steps (record { heard = 23; sent = 1 })
+unfolding reading call_of_text link_turn ahead ticking_links first_wanting frames_end flag_end bits_of body frame_bits
+    with_fcs fcs_of octet_bits frame_octets missing
 data_pair = record {
   step = a_hears_info;
   octets = info;
@@ -490,37 +700,52 @@ data_pair = record {
   alike = same_info;
 }
 
-all_a : (number : ℕ) (step : Step) (octets : List ℕ) → slice_get steps number ≡ Some step → HearsLinkFrame A step octets
-    → HasPair pairs.at_a number
+have_at_a : HaveTheirPairs A pairs.at_a 0 steps
 unfolding reading call_of_text link_turn ahead
-all_a zero step octets is hears =
-    absurd (subst (λ (s : Step). HearsLinkFrame A s octets) (sym (same_some a_joins step is)) hears).input
-all_a (suc zero) step octets is hears = absurd (of_other A b_joins step octets b_is_not_a is hears)
-all_a (suc (suc zero)) step octets is hears =
-    absurd (subst (λ (s : Step). HearsLinkFrame A s octets) (sym (same_some a_registers step is)) hears).input
-all_a (suc (suc (suc zero))) step octets is hears = absurd (of_other A b_registers step octets b_is_not_a is hears)
-all_a (suc (suc (suc (suc zero)))) step octets is hears =
-    absurd (subst (λ (s : Step). HearsLinkFrame A s octets) (sym (same_some a_calls step is)) hears).input
-all_a (suc (suc (suc (suc (suc zero))))) step octets is hears =
-    absurd (of_other A b_hears_sabm step octets b_is_not_a is hears)
-all_a (suc (suc (suc (suc (suc (suc zero)))))) step octets is hears =
-    has_itself pairs.at_a 0 (record { heard = 6; sent = 0 }) (record { heard = 0; sent = 0 })
-    (All-contains_itself pairs.at_a) (omega arith) refl
-all_a (suc (suc (suc (suc (suc (suc (suc zero))))))) step octets is hears =
-    absurd (of_other A b_gives step octets b_is_not_a is hears)
-all_a (suc (suc (suc (suc (suc (suc (suc (suc zero)))))))) step octets is hears =
-    has_itself pairs.at_a 1 (record { heard = 8; sent = 1 }) (record { heard = 0; sent = 0 })
-    (All-contains_itself pairs.at_a) (omega arith) refl
-all_a (suc (suc (suc (suc (suc (suc (suc (suc (suc n))))))))) step octets is hears =
-    absurd (let none : slice_get steps (suc (suc (suc (suc (suc (suc (suc (suc (suc n))))))))) ≡ None =
-    slice_get_past steps (suc (suc (suc (suc (suc (suc (suc (suc (suc n))))))))) (omega arith) in
-    let clash : None ≡ Some step = sym none ∙ is in cc)
+have_at_a =
+    have_append A pairs.at_a 0 first_steps (ticks ++ a_hears_info ∷ []) (
+      λ octets hears. absurd hears.input,
+      (
+        λ octets hears. absurd (b_is_not_a hears.station),
+        (
+          λ octets hears. absurd hears.input,
+          (
+            λ octets hears. absurd (b_is_not_a hears.station),
+            (
+              λ octets hears. absurd (b_is_not_a hears.station),
+              (
+                λ octets hears. absurd (b_is_not_a hears.station),
+                (
+                  λ octets hears. absurd hears.input,
+                  (
+                    λ octets hears. absurd (b_is_not_a hears.station),
+                    (
+                      λ octets hears. has_itself pairs.at_a 0 (record { heard = 8; sent = 0 }) (record { heard = 0; sent = 0 })
+                          (All-contains_itself pairs.at_a) (omega arith) refl,
+                      (λ octets hears. absurd (b_is_not_a hears.station), tt),
+                    ),
+                  ),
+                ),
+              ),
+            ),
+          ),
+        ),
+      ),
+    )
+    (have_append A pairs.at_a 10 ticks (a_hears_info ∷ []) (silent_have A pairs.at_a 10 ticks
+    (ticks_silent 13 b_gives.after.now names_none)) (
+      λ octets hears. has_itself pairs.at_a 1 (record { heard = 23; sent = 1 }) (record { heard = 0; sent = 0 })
+          (All-contains_itself pairs.at_a) (omega arith) refl,
+      tt,
+    ))
 
 heard_at_a : AreHeardInOrder A steps pairs.at_a
 heard_at_a = record {
-  rise = two_rise (record { heard = 6; sent = 0 }) (record { heard = 8; sent = 1 }) (omega arith, omega arith);
+  rise = two_rise (record { heard = 8; sent = 0 }) (record { heard = 23; sent = 1 }) (omega arith, omega arith);
   each = All-from_recursion (IsHeardPair A steps) pairs.at_a (first_answer, (data_pair, tt));
-  all = all_a;
+  all = λ number step octets is hears.
+      let same : 0 + number ≡ number = omega arith in
+      subst (HasPair pairs.at_a) same (have_pairs A pairs.at_a 0 steps have_at_a number step octets is hears);
 }
 
 default_windows : HasWindows default_params
@@ -565,48 +790,51 @@ SpeaksHere c = c.id ≡ 1 → c.kind ≡ Agw
 abbrev IsOfA : Step → Type 0
 IsOfA step = step.station ≡ A → IsClientStep 1 step
 
+ticks_of_b : (count : ℕ) (s : StationState) (silent : NameNone count s)
+    → Each (λ (step : Step). step.station ≡ B) (ticks_of count s silent)
+ticks_of_b zero s silent = tt
+ticks_of_b (suc count) s silent = (refl, ticks_of_b count (next s) silent.1)
+
 client_steps : Each IsOfA steps
 unfolding reading call_of_text link_turn ahead
-client_steps = (
-  λ same. record { speaks = All-from_recursion SpeaksHere [] tt; stays = tt },
-  (
-    λ same. absurd (b_is_not_a same),
-    (
-      λ same. record {
-        speaks = All-from_recursion SpeaksHere a_joins.after.now.connections (λ e. refl, tt);
-        stays = λ e. refl;
-      },
+client_steps =
+    each_append IsOfA first_steps (ticks ++ a_hears_info ∷ []) (
+      λ same. record { speaks = All-from_recursion SpeaksHere [] tt; stays = tt },
       (
         λ same. absurd (b_is_not_a same),
         (
-          λ same. record {
-            speaks = All-from_recursion SpeaksHere a_registers.after.now.connections (λ e. refl, tt);
-            stays = λ e. refl;
-          },
+          λ same. record { speaks = All-from_recursion SpeaksHere a_joins.after.now.connections (λ e. refl, tt); stays = λ e. refl },
           (
             λ same. absurd (b_is_not_a same),
             (
-              λ same. record {
-                speaks = All-from_recursion SpeaksHere a_calls.after.now.connections (λ e. refl, tt);
-                stays = tt;
-              },
+              λ same. absurd (b_is_not_a same),
               (
                 λ same. absurd (b_is_not_a same),
                 (
-                  λ same. record {
-                    speaks = All-from_recursion SpeaksHere a_hears_ua.after.now.connections (λ e. refl, tt);
-                    stays = tt;
-                  },
-                  tt,
+                  λ same. record { speaks = All-from_recursion SpeaksHere a_registers.after.now.connections (λ e. refl, tt); stays = λ e. refl },
+                  (
+                    λ same. absurd (b_is_not_a same),
+                    (
+                      λ same. record { speaks = All-from_recursion SpeaksHere a_calls.after.now.connections (λ e. refl, tt); stays = tt },
+                      (λ same. absurd (b_is_not_a same), tt),
+                    ),
+                  ),
                 ),
               ),
             ),
           ),
         ),
       ),
-    ),
-  ),
-)
+    )
+    (each_append IsOfA ticks (a_hears_info ∷ [])
+    (each_weaker (λ (step : Step). step.station ≡ B) IsOfA (λ step b same. absurd (b_is_not_a (sym b ∙ same))) ticks
+    (ticks_of_b 13 b_gives.after.now names_none)) (
+      λ same. record {
+        speaks = All-from_recursion SpeaksHere a_hears_ua.after.now.connections (λ e. refl, tt);
+        stays = tt;
+      },
+      tt,
+    ))
 
 abbrev IsShort : Piece → Type 0
 IsShort piece = length piece.octets < 0x100000000
