@@ -9,7 +9,7 @@ use Rattle.ring_receiver.proofs.Common.{leads_position, leads_up, next_is, IsAdd
 use Rattle.std.proofs.lemmas.List.{get_or-map}
 use Rattle.sample_ring.specs.Ends.{GoesForward}
 use Rattle.sample_ring.specs.Record.{next}
-use Rattle.tone_tracking.specs.Heard.{places_in}
+use Rattle.sensitive_receiver.specs.Lanes.{added_places}
 use Rattle.sensitive_receiver.specs.AddedCandidates.{IsAdded, EndsAtPlace}
 use Rattle.sensitive_receiver.proofs.FoundLemmas.{one_place, delay_small}
 use Rattle.sensitive_receiver.proofs.PrefixLanes.{ends-append, ends-take}
@@ -25,7 +25,7 @@ HeardIn item s = (heard : Candidate) × IsAdded s.samples heard × (item ≡ mov
 abbrev pub NewIn : Candidate → Stretch → Got → Type 0
 NewIn item s (Item at x) =
     (heard : Candidate) × (place : ℕ)
-    × ((places_in (length s.samples) ≤ place) × (place < places_in (length (s.samples ++ x ∷ []))))
+    × ((added_places (length s.samples) ≤ place) × (place < added_places (length (s.samples ++ x ∷ []))))
     × EndsAtPlace (s.samples ++ x ∷ []) heard place × (item ≡ moved s.begin heard)
 NewIn item s (Gap from to) = ⊥
 NewIn item s (Empty at) = ⊥
@@ -52,7 +52,7 @@ grow item s x h =
 
 shrink : (item : Candidate) (s : Stretch) (got : Got) → HeardIn item (stretch_after s got)
     → HeardIn item s ⊎ NewIn item s got
-shrink item s (Item at x) h = elim (cases_lt h.1.place (places_in (length s.samples))) [
+shrink item s (Item at x) h = elim (cases_lt h.1.place (added_places (length s.samples))) [
   | inl lt ↦ inl (
     h.0,
     record {
@@ -93,8 +93,8 @@ added_new a got item n =
     is_of (a ++ got ∷ []) item (last_one (HeardIn item) (stretch_at 0) (a ++ got ∷ [])
     (subst (HeardIn item) (sym (last-more a got)) (heard_new item (last_stretch a) got n)))
 
--- a new item ends at most 17 samples before the end of the stretch
-new_late : (item : Candidate) (s : Stretch) (got : Got) → NewIn item s got → end_of s ≤ item.end + 17
+-- a new item ends at most 32 samples before the end of the stretch
+new_late : (item : Candidate) (s : Stretch) (got : Got) → NewIn item s got → end_of s ≤ item.end + 32
 new_late item s (Item at x) n =
     let moved_end : item.end ≡ s.begin + n.0.end = ap (λ c. c.end) n.4 in
     let from = n.2.0 in
@@ -105,7 +105,7 @@ new_late item s (Gap from to) n = absurd n
 new_late item s (Empty at) n = absurd n
 new_late item s (End total) n = absurd n
 
-new_lane : (item : Candidate) (s : Stretch) (got : Got) → NewIn item s got → (8 ≤ item.offset) × (item.offset < 23)
+new_lane : (item : Candidate) (s : Stretch) (got : Got) → NewIn item s got → (8 ≤ item.offset) × (item.offset < 26)
 new_lane item s (Item at x) n =
     let same : item.offset ≡ n.0.offset = ap (λ c. c.offset) n.4 in
     let least = n.3.least in
@@ -222,8 +222,8 @@ since_none a = record {
   each = All-nil (IsAddedIn a);
   still = λ item h. h;
   whole = λ item h. inl h;
-  late = All-nil (λ item. position_after a ≤ item.end + 17);
-  lanes = All-nil (λ item. (8 ≤ item.offset) × (item.offset < 23));
+  late = All-nil (λ item. position_after a ≤ item.end + 32);
+  lanes = All-nil (λ item. (8 ≤ item.offset) × (item.offset < 26));
   apart = λ i j d ij jl. absurd (omega arith);
   other = All-nil (λ item. (old : Candidate) → IsAddedIn a old → standing old ≢ standing item);
   forward = omega arith;
@@ -250,9 +250,9 @@ since_more before a to got items new leads goes h with_it =
           (λ (c : Contains items item). inr (Contains-append_left items new item c)) (h.whole item was))
           (λ (n : NewIn item s got). inr (Contains-append_right items new item (with_whole s got new with_it item n)))
           (added_less a got item is);
-      late = All-append (λ item. position_after before ≤ item.end + 17) items new h.late
+      late = All-append (λ item. position_after before ≤ item.end + 32) items new h.late
           (λ k d l. let late = new_late (get_or new k d) s got (each k d l) in omega (arith, late, at, forward));
-      lanes = All-append (λ item. (8 ≤ item.offset) × (item.offset < 23)) items new h.lanes
+      lanes = All-append (λ item. (8 ≤ item.offset) × (item.offset < 26)) items new h.lanes
           (λ k d l. new_lane (get_or new k d) s got (each k d l));
       apart = AllPairs-append (λ item later. standing item ≢ standing later) items new h.apart
           (with_apart s got new with_it)

@@ -64,7 +64,7 @@ pub record ReadsOnAdded (len : ℕ) (before now : AddedRing) (turn : AddedTurn) 
   pub ring : reader_ring now.reader ≡ reader_ring before.reader
   pub at : now.begin + now.bank.position ≡ position_of now.reader
   pub quiet : turn.ended ≡ false
-  pub bounds : All (CanBePutFrom (position_of before.reader - 17)) turn.candidates.items
+  pub bounds : All (CanBePutFrom (position_of before.reader - 32)) turn.candidates.items
   pub answers : List Got
   pub on : WentOnAdded len before now answers turn.candidates.items turn.gaps.items
   pub each : All (λ got. reads_on got ≡ true) answers
@@ -77,7 +77,7 @@ reads_none len lanes turn at none no_gaps quiet = record {
   ring = refl;
   at = at;
   quiet = quiet;
-  bounds = (let P : Candidate → Type 0 = CanBePutFrom (position_of lanes.reader - 17) in
+  bounds = (let P : Candidate → Type 0 = CanBePutFrom (position_of lanes.reader - 32) in
       subst (All P) (sym none) (All-nil P));
   answers = [];
   on = subst (λ items. WentOnAdded len lanes lanes [] items turn.gaps.items) (sym none)
@@ -89,12 +89,12 @@ reads_none len lanes turn at none no_gaps quiet = record {
 -- the reader only goes forward, so what one read more brings is not late either
 pub bounds_more : (len : ℕ) (before now : AddedRing) (was turn : AddedTurn) (count : ℕ)
     → ReadsOnAdded len before now was count
-    → ((from : ℕ) → from ≤ position_of now.reader - 17 → All (CanBePutFrom from) was.candidates.items
+    → ((from : ℕ) → from ≤ position_of now.reader - 32 → All (CanBePutFrom from) was.candidates.items
     → All (CanBePutFrom from) turn.candidates.items)
-    → All (CanBePutFrom (position_of before.reader - 17)) turn.candidates.items
+    → All (CanBePutFrom (position_of before.reader - 32)) turn.candidates.items
 bounds_more len before now was turn count r bounds =
     let up = leads_up (position_of before.reader) r.answers (position_of now.reader) r.on.forward in
-    bounds (position_of before.reader - 17) (omega arith) r.bounds
+    bounds (position_of before.reader - 32) (omega arith) r.bounds
 
 pub can_of : (low : ℕ) (items : List Candidate) → All (CanBePutFrom low) items → All CanBePut items
 can_of low items h = All-weaker (CanBePutFrom low) CanBePut (λ item fits. fits.can) items h
@@ -105,7 +105,7 @@ added_from low items h = All-weaker (CanBePutFrom low) (IsAddedFrom low) (λ ite
 pub reads_more : (len : ℕ) (before now after : AddedRing) (was turn : AddedTurn) (count : ℕ) (got : Got)
     → ReadsOnAdded len before now was count → reader_ring after.reader ≡ reader_ring now.reader
     → after.begin + after.bank.position ≡ position_of after.reader → turn.ended ≡ was.ended
-    → ((from : ℕ) → from ≤ position_of now.reader - 17 → All (CanBePutFrom from) was.candidates.items
+    → ((from : ℕ) → from ≤ position_of now.reader - 32 → All (CanBePutFrom from) was.candidates.items
     → All (CanBePutFrom from) turn.candidates.items)
     → reads_on got ≡ true
     → TookAdded len now after got was.candidates.items turn.candidates.items was.gaps.items turn.gaps.items

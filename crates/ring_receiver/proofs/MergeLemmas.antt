@@ -39,7 +39,7 @@ heard_first lanes item h = record {
 
 -- the lane of what is heard
 added_lane : (answers : List Got) (item : Candidate) → IsAddedIn answers item
-    → (8 ≤ item.offset) × (item.offset < 23)
+    → (8 ≤ item.offset) × (item.offset < 26)
 added_lane answers item h =
     let same : item.offset ≡ h.heard.offset = ap (λ c. c.offset) h.item_is in
     let least = h.added.ends.least in
@@ -72,7 +72,7 @@ none_by_all : (item : Candidate) → IsHeardBy true (replicate 9 []) item → �
 none_by_all item (inl h) = none_on_ring item (heard_first (replicate 9 []) item h)
 none_by_all item (inr h) = none_added item h
 
-pub nothing_merged_all : (merger : HeldMerger) → merger.marks ≡ replicate 23 0 → MergerStandsFor merger [] []
+pub nothing_merged_all : (merger : HeldMerger) → merger.marks ≡ replicate 26 0 → MergerStandsFor merger [] []
     → HasMergedAll merger (replicate 9 [])
 nothing_merged_all merger marks stands = record {
   marks = marks;
@@ -195,10 +195,10 @@ fold_min_many a b zero = refl
 fold_min_many a b (suc n) = ap (λ m. fold min m (replicate n b)) (let e : min (min a b) b ≡ min a b = omega arith in e)
     ∙ fold_min_many a b n
 
-least_of_marks : (positions : List ℕ) (behind : ℕ) → least (positions ++ replicate 15 behind)
+least_of_marks : (positions : List ℕ) (behind : ℕ) → least (positions ++ replicate 18 behind)
     ≡ min (least positions) behind
 least_of_marks positions behind =
-    fold-append min (2 ^ 64 - 1) positions (replicate 15 behind) ∙ fold_min_many (least positions) behind 14
+    fold-append min (2 ^ 64 - 1) positions (replicate 18 behind) ∙ fold_min_many (least positions) behind 17
 
 module _ (before now : List (List Got)) (positions : List ℕ) (position : ℕ) (eight added ready : List Candidate)
     (b : BringsByAll before now positions position eight added)
@@ -242,14 +242,14 @@ module _ (before now : List (List Got)) (positions : List ℕ) (position : ℕ) 
     rises : IsNonDecreasingBy (λ y. y.end) (merged candidates)
     rises = merged-rising (λ y. y.end) [] candidates (rising_ends candidates (in_order_heard now candidates are))
 
-    settled_is : marked.marks ≡ positions ++ replicate 15 (position - 17)
+    settled_is : marked.marks ≡ positions ++ replicate 18 (position - 32)
         → least marked.marks ≡ settled_position true now
     settled_is marks =
-        ap least marks ∙ least_of_marks positions (position - 17)
-        ∙ ap (λ ps. min (least ps) (position - 17)) b.first.stand
-        ∙ ap (λ p. min (least_position (take 8 now)) (p - 17)) b.stand
+        ap least marks ∙ least_of_marks positions (position - 32)
+        ∙ ap (λ ps. min (least ps) (position - 32)) b.first.stand
+        ∙ ap (λ p. min (least_position (take 8 now)) (p - 32)) b.stand
 
-    pub merges_all : marked.marks ≡ positions ++ replicate 15 (position - 17) → after.marks ≡ marked.marks
+    pub merges_all : marked.marks ≡ positions ++ replicate 18 (position - 32) → after.marks ≡ marked.marks
         → ((puts given : List Candidate) → MergerStandsFor marked puts given
         → MergerStandsFor after puts (given ++ ready)
         × (given ++ ready ≡ below (least marked.marks) (merged (in_order puts))))
@@ -261,8 +261,8 @@ module _ (before now : List (List Got)) (positions : List ℕ) (position : ℕ) 
         step.1 ∙ ap (λ m. below m (merged (in_order puts))) (settled_is marks)
         ∙ ap (λ c. below (settled_position true now) (merged c)) all in (
           record {
-            marks = same ∙ marks ∙ ap (λ ps. ps ++ replicate 15 (position - 17)) b.first.stand
-                ∙ ap (λ p. lane_positions (take 8 now) ++ replicate 15 (p - 17)) b.stand;
+            marks = same ∙ marks ∙ ap (λ ps. ps ++ replicate 18 (position - 32)) b.first.stand
+                ∙ ap (λ p. lane_positions (take 8 now) ++ replicate 18 (p - 32)) b.stand;
             puts = puts;
             candidates = candidates;
             are = are;

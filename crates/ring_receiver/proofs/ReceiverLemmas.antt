@@ -150,7 +150,7 @@ module _ (len : ℕ) (old new : HeldRingBank) (added added' : AddedRing) (was no
     (rests : heard.ended ≡ true → (b n : List (List Got)) → HasMergedBy true was b
     → BringsByAll b n positions position candidates turn.candidates.items
     → AreRestBy true (settled_position true b) n heard.items.items)
-    (marks : heard.ended ≡ false → now.marks ≡ positions ++ replicate 15 (position - 17))
+    (marks : heard.ended ≡ false → now.marks ≡ positions ++ replicate 18 (position - 32))
     (lowest : heard.least ≡ min (least positions) position) where
   b : List (List Got)
   b = map (answers_of len) (readers_of_bank old ++ added.reader ∷ [])
@@ -253,19 +253,19 @@ module _ (len : ℕ) (old new : HeldRingBank) (added added' : AddedRing) (was no
         subst (λ p. least_position b ≤ p) (sym low) up;
     step = λ e. record {
       read = at;
-      marks = marks e ∙ ap (λ p. p ++ replicate 15 (position - 17)) stand
-          ∙ ap (λ p. positions_of_bank new ++ replicate 15 (p - 17)) here;
+      marks = marks e ∙ ap (λ p. p ++ replicate 18 (position - 32)) stand
+          ∙ ap (λ p. positions_of_bank new ++ replicate 18 (p - 32)) here;
     };
   }
 
 -- ---- the marks before a turn
 
 pub marks_many : (old : HeldRingBank) (added : AddedRing) (was : HeldMerger) → length (readers_of_bank old) ≡ 8
-    → AreInStep old (Some added) was → length was.marks ≡ 23
+    → AreInStep old (Some added) was → length was.marks ≡ 26
 marks_many old added was many step =
     let size = length-map (readers_of_bank old) position_of in
-    let all = length-append (positions_of_bank old) (replicate 15 (position_of added.reader - 17)) in
-    ap length step.marks ∙ (let e : length (positions_of_bank old ++ replicate 15 (position_of added.reader - 17)) ≡ 23
+    let all = length-append (positions_of_bank old) (replicate 18 (position_of added.reader - 32)) in
+    ap length step.marks ∙ (let e : length (positions_of_bank old ++ replicate 18 (position_of added.reader - 32)) ≡ 26
     = omega arith in e)
 
 pub marks_eight : (old : HeldRingBank) (added : AddedRing) (was : HeldMerger) (positions : List ℕ)
@@ -276,21 +276,21 @@ marks_eight old added was positions many step forward lane l =
     let size = length-map (readers_of_bank old) position_of in
     subst (λ (m : List ℕ). get_or m lane 0 ≤ get_or positions lane 0) (sym step.marks)
     (subst (λ p. p ≤ get_or positions lane 0)
-    (sym (get_or_append_left (positions_of_bank old) (replicate 15 (position_of added.reader - 17)) 0 lane
+    (sym (get_or_append_left (positions_of_bank old) (replicate 18 (position_of added.reader - 32)) 0 lane
     (omega arith))) (forward lane l))
 
 pub marks_added : (old : HeldRingBank) (added : AddedRing) (was : HeldMerger) (position : ℕ)
     → length (readers_of_bank old) ≡ 8 → AreInStep old (Some added) was → position_of added.reader ≤ position
-    → (lane : ℕ) → 8 ≤ lane → lane < 23 → get_or was.marks lane 0 ≤ position - 17
+    → (lane : ℕ) → 8 ≤ lane → lane < 26 → get_or was.marks lane 0 ≤ position - 32
 marks_added old added was position many step forward lane low most =
     let size = length-map (readers_of_bank old) position_of in
-    let mark : ℕ = position_of added.reader - 17 in
+    let mark : ℕ = position_of added.reader - 32 in
     let at : lane ≡ length (positions_of_bank old) + (lane - 8) = omega arith in
     let is : get_or was.marks lane 0 ≡ mark
     = ap (λ (m : List ℕ). get_or m lane 0) step.marks
-    ∙ ap (λ i. get_or (positions_of_bank old ++ replicate 15 mark) i 0) at
-    ∙ get_or-append-add (positions_of_bank old) (replicate 15 mark) (lane - 8) 0
-    ∙ get_or-replicate 15 (lane - 8) mark 0 (omega arith) in
+    ∙ ap (λ i. get_or (positions_of_bank old ++ replicate 18 mark) i 0) at
+    ∙ get_or-append-add (positions_of_bank old) (replicate 18 mark) (lane - 8) 0
+    ∙ get_or-replicate 18 (lane - 8) mark 0 (omega arith) in
     omega arith
 
 -- ---- what a turn brings is not late
@@ -311,24 +311,24 @@ eight_in_time_of_all old added was items many step can past = λ k d l.
     let lane = (can k d l).lane in
     let here : get_or was.marks item.offset 0 ≡ get_or (positions_of_bank old) item.offset 0 =
     ap (λ (m : List ℕ). get_or m item.offset 0) step.marks
-    ∙ get_or_append_left (positions_of_bank old) (replicate 15 (position_of added.reader - 17)) 0 item.offset
+    ∙ get_or_append_left (positions_of_bank old) (replicate 18 (position_of added.reader - 32)) 0 item.offset
     (omega arith) in
     omega arith
 
 pub added_in_time : (old : HeldRingBank) (added : AddedRing) (was : HeldMerger) (items : List Candidate)
     → length (readers_of_bank old) ≡ 8 → AreInStep old (Some added) was → All CanBePut items
-    → All (IsAddedFrom (position_of added.reader - 17)) items → AreInTime was.marks items
+    → All (IsAddedFrom (position_of added.reader - 32)) items → AreInTime was.marks items
 added_in_time old added was items many step can late = λ k d l.
     let item : Candidate = get_or items k d in
     let end = (late k d l).end in
     let size = length-map (readers_of_bank old) position_of in
     let low = (late k d l).lane in
     let most = (can k d l).lane in
-    let mark : ℕ = position_of added.reader - 17 in
+    let mark : ℕ = position_of added.reader - 32 in
     let at : item.offset ≡ length (positions_of_bank old) + (item.offset - 8) = omega arith in
     let is : get_or was.marks item.offset 0 ≡ mark
     = ap (λ (m : List ℕ). get_or m item.offset 0) step.marks
-    ∙ ap (λ i. get_or (positions_of_bank old ++ replicate 15 mark) i 0) at
-    ∙ get_or-append-add (positions_of_bank old) (replicate 15 mark) (item.offset - 8) 0
-    ∙ get_or-replicate 15 (item.offset - 8) mark 0 (omega arith) in
+    ∙ ap (λ i. get_or (positions_of_bank old ++ replicate 18 mark) i 0) at
+    ∙ get_or-append-add (positions_of_bank old) (replicate 18 mark) (item.offset - 8) 0
+    ∙ get_or-replicate 18 (item.offset - 8) mark 0 (omega arith) in
     omega arith

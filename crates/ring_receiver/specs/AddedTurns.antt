@@ -12,7 +12,7 @@ use Rattle.slicer_bank.specs.declared.advance.LaneGap.{LaneGap}
 use Rattle.slicer_bank.specs.RingLanes.{answers_of}
 use Rattle.slicer_bank.specs.RingTurns.{IsReading, MeetsEnd, gaps_of, Leads}
 use Rattle.slicer_bank.specs.Stretches.{Stretch, stretch_after, with_sample, position_after}
-use Rattle.tone_tracking.specs.Heard.{places_in}
+use Rattle.sensitive_receiver.specs.Lanes.{added_places}
 use Rattle.sensitive_receiver.specs.Found.{AreAddedBetween}
 use Rattle.ring_receiver.specs.declared.added_ring.AddedRing.{AddedRing}
 use Rattle.ring_receiver.specs.declared.added_turn.AddedTurn.{AddedTurn}
@@ -28,7 +28,7 @@ pub record AreAddedInStretch (from to : ℕ) (stretch : Stretch) (items : List C
 -- what they hear with one answer: something only with a sample
 abbrev pub AreAddedWith : Stretch → Got → List Candidate → Type 0
 AreAddedWith stretch (Item at x) items =
-    AreAddedInStretch (places_in (length stretch.samples)) (places_in (length (stretch.samples ++ x ∷ [])))
+    AreAddedInStretch (added_places (length stretch.samples)) (added_places (length (stretch.samples ++ x ∷ [])))
     (with_sample stretch x) items
 AreAddedWith stretch (Gap from to) items = items ≡ []
 AreAddedWith stretch (Empty at) items = items ≡ []
@@ -50,13 +50,13 @@ pub record TookAdded (len : ℕ) (before after : AddedRing) (got : Got) (was now
   pub heard : (s : Stretch) → StandsForStretch before s → AreAddedWith s got items
 
 -- The items are all that the added lanes hear in some answers and did not hear in the first of these, each once, in any
--- order. They end at most 17 samples before the position after the first answers.
+-- order. They end at most 32 samples before the position after the first answers.
 pub record AreAddedSince (before now : List Got) (items : List Candidate) : Type 0 where
   pub each : All (IsAddedIn now) items
   pub still : (item : Candidate) → IsAddedIn before item → IsAddedIn now item
   pub whole : (item : Candidate) → IsAddedIn now item → IsAddedIn before item ⊎ Contains items item
-  pub late : All (λ item. position_after before ≤ item.end + 17) items
-  pub lanes : All (λ item. (8 ≤ item.offset) × (item.offset < 23)) items
+  pub late : All (λ item. position_after before ≤ item.end + 32) items
+  pub lanes : All (λ item. (8 ≤ item.offset) × (item.offset < 26)) items
   pub apart : AllPairs (λ item later. standing item ≢ standing later) items
   pub other : All (λ item. (old : Candidate) → IsAddedIn before old → standing old ≢ standing item) items
   pub forward : position_after before ≤ position_after now

@@ -23,10 +23,10 @@ pub record AreHeardBy (sensitive : Bool) (lanes : List (List Got)) (items : List
   pub order : AllPairs (λ item later. standing item < standing later) items
 
 -- The position below which no lane hears anything more: the least of the positions of the eight lanes, and that of the
--- added lanes less 17, since they hear a frame up to 17 samples after its end.
+-- added lanes less 32, since they hear a frame up to 32 samples after its end.
 abbrev pub settled_position : Bool → List (List Got) → ℕ
 settled_position false lanes = least_position lanes
-settled_position true lanes = min (least_position (take 8 lanes)) (position_after (lane_of lanes 8) - 17)
+settled_position true lanes = min (least_position (take 8 lanes)) (position_after (lane_of lanes 8) - 32)
 
 -- the items are those of what the lanes hear, merged, that end from one position to below another
 pub record AreMergedBy (sensitive : Bool) (from to : ℕ) (lanes : List (List Got)) (items : List Candidate)

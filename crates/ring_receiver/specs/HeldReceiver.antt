@@ -62,10 +62,10 @@ abbrev pub AddedListenIf : ℕ → Option AddedRing → Type 0
 AddedListenIf len None = Unit {0}
 AddedListenIf len (Some added) = AddedListens len added
 
--- the marks of the lanes: each at its position, and the added ones at theirs less 17
+-- the marks of the lanes: each at its position, and the added ones at theirs less 32
 abbrev pub marks_of : HeldRingBank → Option AddedRing → List ℕ
 marks_of bank None = positions_of_bank bank
-marks_of bank (Some added) = positions_of_bank bank ++ replicate 15 (position_of added.reader - 17)
+marks_of bank (Some added) = positions_of_bank bank ++ replicate 18 (position_of added.reader - 32)
 
 -- how far the added lanes have heard, and how far their reader has read
 abbrev pub heard_to : Option AddedRing → ℕ
@@ -77,9 +77,9 @@ read_to None = 0
 read_to (Some added) = position_of added.reader
 
 -- The merger of all lanes took all that these heard, in whatever order, each lane is marked at its position, the added
--- ones at theirs less 17, and what ends below the settled position is given.
+-- ones at theirs less 32, and what ends below the settled position is given.
 pub record HasMergedAll (merger : HeldMerger) (lanes : List (List Got)) : Type 0 where
-  pub marks : merger.marks ≡ lane_positions (take 8 lanes) ++ replicate 15 (position_after (lane_of lanes 8) - 17)
+  pub marks : merger.marks ≡ lane_positions (take 8 lanes) ++ replicate 18 (position_after (lane_of lanes 8) - 32)
   pub puts : List Candidate
   pub candidates : List Candidate
   pub are : AreHeardBy true lanes candidates

@@ -40,7 +40,7 @@ impl AddedRing {
     ghost use Rattle.sample_ring.specs.Ends.{IsNew, ring_id, ring_len, reader_ring, position_of, reads_of};
     ghost use Rattle.slicer_bank.specs.Stretches.{Stretch, stretch_at, with_sample};
     ghost use Rattle.sensitive_receiver.specs.Found.{CanBePut, CanBePutFrom, IsAddedFrom};
-    ghost use Rattle.tone_tracking.specs.Heard.{places_in};
+    ghost use Rattle.sensitive_receiver.specs.Lanes.{added_places};
     ghost use Rattle.ring_receiver.specs.AddedTurns.{AreAddedInStretch, TookAdded, MadeAddedTurn};
     ghost use Rattle.ring_receiver.specs.HeldReceiver.{StandsForStretch, AddedListens};
 
@@ -77,7 +77,7 @@ impl AddedRing {
         ensures at { OnOk result (self.new.begin + self.new.bank.position ≡ position_of self.new.reader) }
         ensures bounds { IfOk result (λ turn. All CanBePut turn.candidates.items) }
         ensures late { IfOk result (λ turn.
-            All (IsAddedFrom (position_of self.old.reader - 17)) turn.candidates.items) }
+            All (IsAddedFrom (position_of self.old.reader - 32)) turn.candidates.items) }
     {
         let mut turn = AddedTurn {
             candidates: Vec::new(self.alloc),
@@ -106,7 +106,7 @@ impl AddedRing {
         ensures took { IfOk result (λ got. TookAdded (ring_len ring.now) self.old self.new got
             turn.old.candidates.items turn.new.candidates.items turn.old.gaps.items turn.new.gaps.items) }
         ensures at { OnOk result (self.new.begin + self.new.bank.position ≡ position_of self.new.reader) }
-        ensures bounds { (from : ℕ) → from ≤ position_of self.old.reader - 17
+        ensures bounds { (from : ℕ) → from ≤ position_of self.old.reader - 32
             → OnOk result (All (CanBePutFrom from) turn.old.candidates.items
             → All (CanBePutFrom from) turn.new.candidates.items) }
         ensures ended { turn.new.ended ≡ turn.old.ended }
@@ -133,9 +133,9 @@ impl AddedRing {
         ensures stands { OnOk result ((s : Stretch) → StandsForStretch self.old s
             → StandsForStretch self.new (with_sample s sample)) }
         ensures found { OnOk result ((items : List Candidate) × (found.new.items ≡ found.old.items ++ items)
-            × ((s : Stretch) → StandsForStretch self.old s → AreAddedInStretch (places_in (length s.samples))
-            (places_in (length (s.samples ++ sample ∷ []))) (with_sample s sample) items)) }
-        ensures bounds { (from : ℕ) → from ≤ (self.old.begin + self.old.bank.position) - 17
+            × ((s : Stretch) → StandsForStretch self.old s → AreAddedInStretch (added_places (length s.samples))
+            (added_places (length (s.samples ++ sample ∷ []))) (with_sample s sample) items)) }
+        ensures bounds { (from : ℕ) → from ≤ (self.old.begin + self.old.bank.position) - 32
             → OnOk result (All (CanBePutFrom from) found.old.items → All (CanBePutFrom from) found.new.items) }
         ensures reader { self.new.reader ≡ self.old.reader }
         ensures position { OnOk result (self.new.begin + self.new.bank.position

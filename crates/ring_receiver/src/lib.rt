@@ -1,6 +1,6 @@
-//! A receiver that reads a ring of samples, with eight lanes or with all 23.
+//! A receiver that reads a ring of samples, with eight lanes or with all 26.
 //!
-//! The eight lanes of a `RingBank` have a reader each. If the fifteen lanes that `sensitive_receiver` adds listen too,
+//! The eight lanes of a `RingBank` have a reader each. If the eighteen lanes that `sensitive_receiver` adds listen too,
 //! they share one further reader, and a gap starts them anew. All that is heard is merged, so each frame comes once.
 //! One type hides whether the added lanes listen.
 //!

@@ -17,7 +17,7 @@ use sensitive_receiver::{LANES, put_all};
 use tnc_base::OutOfMemory;
 
 /// How far behind the last sample the added lanes hear: no candidate to come of them ends lower.
-const BEHIND: u64 = 17;
+const BEHIND: u64 = 32;
 
 /// Puts what the eight lanes and the added ones heard in a turn into a merger of all of them, marks each lane, and
 /// takes the items that are settled, or all that are left if the ring has ended.
@@ -29,9 +29,9 @@ pub(crate) fn merge_all(
     position: u64,
     ended: bool,
 ) -> Result<Vec<Candidate>, OutOfMemory>
-    requires lanes { length merger.old.marks ≡ 23 }
+    requires lanes { length merger.old.marks ≡ 26 }
     requires positions { (lane : ℕ) → lane < 8 → slice_index merger.old.marks lane ≤ slice_index positions.now lane }
-    requires position { (lane : ℕ) → 8 ≤ lane → lane < 23 → slice_index merger.old.marks lane ≤ position - 17 }
+    requires position { (lane : ℕ) → 8 ≤ lane → lane < 26 → slice_index merger.old.marks lane ≤ position - 32 }
     requires eight { All CanBePutOfEight eight.items }
     requires added { All CanBePut added.items }
     requires eight_in_time { AreInTime merger.old.marks eight.items }
@@ -45,7 +45,7 @@ pub(crate) fn merge_all(
         → HasMergedBy true merger.old before
         → BringsByAll before now positions.now position eight.items added.items
         → AreRestBy true (settled_position true before) now items.items) }
-    ensures marks { OnOk result (ended ≡ false → merger.new.marks ≡ positions.now ++ replicate 15 (position - 17)) }
+    ensures marks { OnOk result (ended ≡ false → merger.new.marks ≡ positions.now ++ replicate 18 (position - 32)) }
 {
     put_all(merger, eight)?;
     put_all(merger, added)?;
@@ -57,10 +57,10 @@ pub(crate) fn merge_all(
 /// Marks each of the eight lanes at its position and the added ones at theirs, or says that no lane brings another
 /// candidate.
 fn mark_each(merger: &mut Merger, positions: &[u64; 8], position: u64, ended: bool)
-    requires lanes { length merger.old.marks ≡ 23 }
+    requires lanes { length merger.old.marks ≡ 26 }
     requires positions { (lane : ℕ) → lane < 8 → slice_index merger.old.marks lane ≤ slice_index positions.now lane }
-    requires position { (lane : ℕ) → 8 ≤ lane → lane < 23 → slice_index merger.old.marks lane ≤ position }
-    ensures marks { ended ≡ false → merger.new.marks ≡ positions.now ++ replicate 15 position }
+    requires position { (lane : ℕ) → 8 ≤ lane → lane < 26 → slice_index merger.old.marks lane ≤ position }
+    ensures marks { ended ≡ false → merger.new.marks ≡ positions.now ++ replicate 18 position }
     ensures least { ended ≡ true → least merger.new.marks ≡ 2 ^ 64 - 1 }
     ensures stands_for { (puts given : List Candidate) → StandsFor merger.old puts given
         → StandsFor merger.new puts given }

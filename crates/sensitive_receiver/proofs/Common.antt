@@ -17,7 +17,7 @@ pub use Rattle.sensitive_receiver.specs.HeldLanes.{HasTaken, HeldLane, IsLastPla
 pub use Rattle.sensitive_receiver.specs.HeldLanes.{LanesHaveRead}
 unfoldable pub use Rattle.sensitive_receiver.specs.Lanes.{lane_tones, readings_at}
 pub use Rattle.sensitive_receiver.specs.Lanes.{delay_of, is_read_at, is_read_by, lane_bits, list_of, tone_back}
-pub use Rattle.sensitive_receiver.specs.Lanes.{tone_read}
+pub use Rattle.sensitive_receiver.specs.Lanes.{added_places, tone_read, tones}
 pub use Rattle.sensitive_receiver.specs.MergedItems.{AreMergedBetween, settled}
 pub use Rattle.sensitive_receiver.specs.declared.readings.Readings.{Readings}
 pub use Rattle.slicer_bank.proofs.CandidateLemmas.{AllPairs-append, end_within}
@@ -44,8 +44,9 @@ pub use Rattle.tone_tracking.specs.Clock.{changes, reads}
 pub use Rattle.tone_tracking.specs.Heard.{heard, places_in}
 pub use Rattle.tone_tracking.specs.HeldLists.{HeldLists}
 pub use Rattle.tone_tracking.specs.HeldTracker.{tone_before}
+pub use Rattle.tone_tracking.specs.WithoutMean.{without_mean}
 pub use Rattle.tone_tracking.specs.declared.bit_clock.Pull.{Pull}
 pub use Rattle.tone_tracking.specs.declared.bit_clock.Pull.TheVariants.{Fast, Slow}
 pub use Rattle.tone_tracking.specs.declared.reach.Reach.{Reach}
-pub use Rattle.tone_tracking.specs.declared.reach.Reach.TheVariants.{Far, Near}
+pub use Rattle.tone_tracking.specs.declared.reach.Reach.TheVariants.{Alone, Far, Near}
 pub use mir.Syntax.{w16}

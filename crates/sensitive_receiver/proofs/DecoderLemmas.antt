@@ -2,7 +2,7 @@
 use Rattle.sensitive_receiver.proofs.Common.{◌≡◌, ◌+◌, ◌-◌, ◌^◌, ◌<◌, ℤ, List, [], ◌++◌, length, replicate, refl, ap}
 use Rattle.sensitive_receiver.proofs.Common.{sym, subst, ◌∙◌, arith, length-append, append_assoc, fold, Candidate}
 use Rattle.sensitive_receiver.proofs.Common.{place, in_order, merged, below, not_below, AreCandidatesBehind, HeldBank}
-use Rattle.sensitive_receiver.proofs.Common.{next_is, below_more, places_in, AreHeard, AreAddedBetween, HaveTaken}
+use Rattle.sensitive_receiver.proofs.Common.{next_is, below_more, added_places, AreHeard, AreAddedBetween, HaveTaken}
 use Rattle.sensitive_receiver.proofs.Common.{settled, AreMergedBetween}
 use Rattle.std.proofs.lemmas.List.Sums.{fold-append}
 use Rattle.frame_merge.specs.Held.{Held as HeldMerger, StandsFor as MergerStandsFor, least}
@@ -34,11 +34,11 @@ module _ (x y : List ℤ) (old new : HeldBank) (before after : HeldAdded) (was m
     (room : length (x ++ y) < 2 ^ 48)
     (h : HaveTaken old before was x)
     (heard : BankStandsFor old x → BankStandsFor new (x ++ y) × AreCandidatesBehind (length x) (x ++ y) found)
-    (read : AddedStandsFor before x → AddedStandsFor after (x ++ y) × AreAddedBetween (places_in (length x))
-    (places_in (length (x ++ y))) (x ++ y) added)
+    (read : AddedStandsFor before x → AddedStandsFor after (x ++ y) × AreAddedBetween (added_places (length x))
+    (added_places (length (x ++ y))) (x ++ y) added)
     (puts : (p given : List Candidate) → MergerStandsFor was p given
     → MergerStandsFor marked ((p ++ found) ++ added) given)
-    (marks : marked.marks ≡ replicate 23 (settled (length (x ++ y))))
+    (marks : marked.marks ≡ replicate 26 (settled (length (x ++ y))))
     (gives : (p given : List Candidate) → MergerStandsFor marked p given
     → MergerStandsFor now p (given ++ ready) × (given ++ ready ≡ below (least marked.marks) (merged (in_order p))))
     (keeps : (p given : List Candidate) → MergerStandsFor marked p given
@@ -46,7 +46,7 @@ module _ (x y : List ℤ) (old new : HeldBank) (before after : HeldAdded) (was m
   bank : BankStandsFor new (x ++ y) × AreCandidatesBehind (length x) (x ++ y) found
   bank = heard h.samples
 
-  lanes : AddedStandsFor after (x ++ y) × AreAddedBetween (places_in (length x)) (places_in (length (x ++ y)))
+  lanes : AddedStandsFor after (x ++ y) × AreAddedBetween (added_places (length x)) (added_places (length (x ++ y)))
       (x ++ y) added
   lanes = read h.places
 
@@ -71,7 +71,7 @@ module _ (x y : List ℤ) (old new : HeldBank) (before after : HeldAdded) (was m
       ∙ ap (λ done. fold (λ ordered item. place item ordered) done (found ++ added)) h.order
 
   at : least marked.marks ≡ settled (length (x ++ y))
-  at = ap least marks ∙ least-one 22 (settled (length (x ++ y))) (omega arith)
+  at = ap least marks ∙ least-one 25 (settled (length (x ++ y))) (omega arith)
 
   given_is : given ≡ below (settled (length x)) (merged candidates)
   unfolding given candidates

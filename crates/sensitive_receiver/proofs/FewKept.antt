@@ -1,4 +1,4 @@
--- Of the last places each lane has one candidate at most, so a merger keeps at most 23.
+-- Of the last places each lane has one candidate at most, so a merger keeps at most 26.
 use Rattle.sensitive_receiver.proofs.Common.{◌≡◌, ℕ, zero, suc, ◌+◌, ◌-◌, ◌<◌, ◌≤◌, ℤ, Bool, true, false, List, [], ◌∷◌}
 use Rattle.sensitive_receiver.proofs.Common.{◌++◌, length, get_or, take, drop, map, refl, ap, sym, subst, ◌∙◌, arith}
 use Rattle.sensitive_receiver.proofs.Common.{append_assoc, length-append, inl, inr, nat_le, All, AllPairs, cases_lt}
@@ -42,7 +42,7 @@ first_of all i j le within =
 -- two candidates of one lane that end close to one another end together
 one_of_lane : (x : List ℤ) (item later : Candidate) → IsCandidate x item → IsCandidate x later
     → item.offset ≡ later.offset
-    → item.end ≤ later.end → later.end ≤ item.end + 32 → item.end ≡ later.end
+    → item.end ≤ later.end → later.end ≤ item.end + 47 → item.end ≡ later.end
 one_of_lane x item later a b same le near =
     let e = a.ends.end_of in
     let f = b.ends.end_of in
@@ -111,7 +111,7 @@ bits_read x lane place reads =
 
 one_of_added : (x : List ℤ) (item later : Candidate) (p q : ℕ) → EndsAtPlace x item p → EndsAtPlace x later q
     → item.offset ≡ later.offset
-    → p < q → q ≤ p + 32 → ⊥
+    → p < q → q ≤ p + 47 → ⊥
 one_of_added x item later p q a b same lt near =
     let lane : ℕ = later.offset in
     let here : EndsFrame (lane_bits x lane (p + 1)) item.octets = subst
@@ -126,7 +126,7 @@ one_of_added x item later p q a b same lt near =
     (subst (λ t. EndsFrame t later.octets) longer b.frame) (omega arith)
 
 one_added : (x : List ℤ) (item later : Candidate) → IsAdded x item → IsAdded x later → item.offset ≡ later.offset
-    → item.end ≤ later.end → later.end ≤ item.end + 32 → item.end ≡ later.end
+    → item.end ≤ later.end → later.end ≤ item.end + 47 → item.end ≡ later.end
 one_added x item later a b same le near =
     let e = a.ends.end_of in
     let f = b.ends.end_of in
@@ -140,7 +140,7 @@ one_added x item later a b same le near =
 -- ---- all lanes
 
 one_of : (x : List ℤ) (item later : Candidate) → IsHeard x item → IsHeard x later → item.offset ≡ later.offset
-    → item.end ≤ later.end → later.end ≤ item.end + 32 → item.end ≡ later.end
+    → item.end ≤ later.end → later.end ≤ item.end + 47 → item.end ≡ later.end
 one_of x item later (inl a) (inl b) same le near = one_of_lane x item later a b same le near
 one_of x item later (inl a) (inr b) same le near = let small = a.offset in let least = b.ends.least in
     absurd (omega arith)
@@ -152,13 +152,13 @@ pub heard_within : (x : List ℤ) (item : Candidate) → IsHeard x item → item
 heard_within x item (inl h) = end_within x item h
 heard_within x item (inr h) = let inside = h.decided in let end = h.ends.end_of in omega arith
 
-pub lane_below : (x : List ℤ) (item : Candidate) → IsHeard x item → item.offset < 23
+pub lane_below : (x : List ℤ) (item : Candidate) → IsHeard x item → item.offset < 26
 lane_below x item (inl h) = let small = h.offset in omega arith
 lane_below x item (inr h) = h.ends.most
 
--- what ends in the last 33 places is at most one candidate of each lane
+-- what ends in the last 48 places is at most one candidate of each lane
 pub few_kept : (x : List ℤ) (items : List Candidate) → AreHeard x items
-    → length (not_below (settled (length x) - 15) items) ≤ 23
+    → length (not_below (settled (length x) - 15) items) ≤ 26
 few_kept x items are =
     let p : Candidate → Bool = λ item. nat_le (settled (length x) - 15) item.end in
     let kept : List Candidate = not_below (settled (length x) - 15) items in
@@ -182,9 +182,9 @@ few_kept x items are =
     let within = heard_within x (get_or kept j some) second in
     let place = one_of x (get_or kept i some) (get_or kept j some) first second lane (omega arith) (omega arith) in
     omega arith) in
-    let small : All (λ offset. offset < 23) offsets = All-map (λ offset. offset < 23) (λ item. item.offset) kept
+    let small : All (λ offset. offset < 26) offsets = All-map (λ offset. offset < 26) (λ item. item.offset) kept
     (λ k d l. lane_below x (get_or kept k d) (each k d l)) in
-    let few : length offsets ≤ 23 = length-le_from_distinct_below offsets 23 distinct
-    (λ q found. All-contains (λ offset. offset < 23) offsets q small (Contains-from_any eqb-true q offsets found))
+    let few : length offsets ≤ 26 = length-le_from_distinct_below offsets 26 distinct
+    (λ q found. All-contains (λ offset. offset < 26) offsets q small (Contains-from_any eqb-true q offsets found))
     in
     omega arith

@@ -11,7 +11,7 @@ abbrev Apart : Candidate → Candidate → Type 0
 Apart item later = standing item ≢ standing later
 
 -- a delay is at most two places
-pub delay_small : (lane : ℕ) → lane < 23 → delay_of lane ≤ 2
+pub delay_small : (lane : ℕ) → lane < 26 → delay_of lane ≤ 2
 delay_small lane small = grind arith
 
 -- two items of one standing were heard at one place by one lane

@@ -4,7 +4,7 @@ use Rattle.sensitive_receiver.proofs.Common.{sym, subst, ◌∙◌, arith, true�
 use Rattle.sensitive_receiver.proofs.Common.{Reach, heard, places_in, HeldLists, tone_before, Readings, delay_of}
 use Rattle.sensitive_receiver.proofs.Common.{list_of, is_read_by, is_read_at, tone_read, lane_tones, lane_bits}
 use Rattle.sensitive_receiver.proofs.Common.{EndsAtPlace, HasPath, is_in_time, AddsAt, HeldLane, LaneStandsFor}
-use Rattle.sensitive_receiver.proofs.Common.{IsLastPlace}
+use Rattle.sensitive_receiver.proofs.Common.{IsLastPlace, without_mean}
 use Rattle.hdlc_framer.specs.Frames.{IsFrame}
 use Rattle.hdlc_framer.specs.Held.{HoldsFrame}
 use Rattle.tone_tracking.specs.HeldLists.{HasTaken as ListsHaveTaken}
@@ -30,7 +30,7 @@ module _ (lists : HeldLists) (readings : Readings) (x : List ℤ) (number : ℕ)
 
   tone_there : tone ≡ tone_read x number place
   tone_there = tone_is_back x number place (places_in lists.count) 0 delay reach tone
-      (tone_is x last.taken) reach_is last.last (delay_is ∙ omega arith)
+      (tone_is (without_mean x) last.taken) reach_is last.last (delay_is ∙ omega arith)
 
   pushed : lane_tones x number (place + 1) ≡ lane_tones x number place ++ tone ∷ []
   pushed = tones-pushed x number place tone (is_reading lists readings x number last reads) tone_there
@@ -93,7 +93,7 @@ module _ (lists : HeldLists) (readings : Readings) (x : List ℤ) (number : ℕ)
       lacks (subst HasPath (sym (given item.octets there.2 (frame.holds item.octets there))) ends.path))
 
   -- it keeps both rules
-  pub one_frame : (found after : List Candidate) (octets : List ℕ) (end : ℕ) → 8 ≤ number → number < 23
+  pub one_frame : (found after : List Candidate) (octets : List ℕ) (end : ℕ) → 8 ≤ number → number < 26
       → after ≡ found ++ (record { end = end; offset = number; octets = octets }) ∷ []
       → end ≡ here + 8 - delay_of number
       → ((o : List ℕ) → IsFrame o → HoldsFrame lane.deframer o → octets ≡ o)

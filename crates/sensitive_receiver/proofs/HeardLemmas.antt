@@ -2,7 +2,7 @@
 use Rattle.sensitive_receiver.proofs.Common.{◌≢◌, ℕ, ◌<◌, ◌≤◌, ℤ, List, [], ◌++◌, length, get_or, arith, inl, inr}
 use Rattle.sensitive_receiver.proofs.Common.{length-append, fold, All, AllPairs, cases_lt, All-append, All-nil}
 use Rattle.sensitive_receiver.proofs.Common.{Contains-append_left, Contains-append_right, Candidate, standing, place}
-use Rattle.sensitive_receiver.proofs.Common.{IsCandidate, AreCandidatesBehind, AllPairs-append, end_within, places_in}
+use Rattle.sensitive_receiver.proofs.Common.{IsCandidate, AreCandidatesBehind, AllPairs-append, end_within, added_places}
 use Rattle.sensitive_receiver.proofs.Common.{EndsAtPlace, IsHeard, AreHeard, AreAddedBetween, settled}
 use Rattle.std.specs.List.{Contains}
 use Rattle.frame_merge.specs.Order.{IsInOrder}
@@ -36,7 +36,7 @@ heard_more x y item (inr h) =
 -- what the lanes hear in more samples
 module _ (x y : List ℤ) (candidates found added : List Candidate) (are : AreHeard x candidates)
     (new : AreCandidatesBehind (length x) (x ++ y) found)
-    (late : AreAddedBetween (places_in (length x)) (places_in (length (x ++ y))) (x ++ y) added) where
+    (late : AreAddedBetween (added_places (length x)) (added_places (length (x ++ y))) (x ++ y) added) where
   abbrev pub all_of : List Candidate
   all_of = fold (λ ordered item. place item ordered) candidates (found ++ added)
 
@@ -44,7 +44,7 @@ module _ (x y : List ℤ) (candidates found added : List Candidate) (are : AreHe
   Apart item later = standing item ≢ standing later
 
   -- an item of the eight lanes and one of the others do not stand alike
-  other_lane : (item other : Candidate) → IsCandidate (x ++ y) item → 8 ≤ other.offset → other.offset < 23
+  other_lane : (item other : Candidate) → IsCandidate (x ++ y) item → 8 ≤ other.offset → other.offset < 26
       → standing item ≢ standing other
   other_lane item other a least most same = let small = a.offset in omega arith
 
@@ -69,7 +69,7 @@ module _ (x y : List ℤ) (candidates found added : List Candidate) (are : AreHe
       let small = new_one.offset in
       omega arith
 
-  apart_added : (item old : Candidate) (at : ℕ) → IsHeard x old → places_in (length x) ≤ at
+  apart_added : (item old : Candidate) (at : ℕ) → IsHeard x old → added_places (length x) ≤ at
       → EndsAtPlace (x ++ y) item at → standing old ≢ standing item
   apart_added item old at (inl h) from ends same =
       let least = ends.least in
@@ -106,7 +106,7 @@ module _ (x y : List ℤ) (candidates found added : List Candidate) (are : AreHe
         | inr before ↦ Contains-append_left candidates (found ++ added) item
             (are.whole item (inl (candidate_less x y item h before)))
       ]
-      member item (inr h) = elim (cases_lt h.place (places_in (length x))) [
+      member item (inr h) = elim (cases_lt h.place (added_places (length x))) [
         | inl before ↦ Contains-append_left candidates (found ++ added) item
             (are.whole item (inr (record {
               place = h.place;

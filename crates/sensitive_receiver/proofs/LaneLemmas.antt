@@ -1,7 +1,7 @@
 -- What a lane reads, with one place more.
 use Rattle.sensitive_receiver.proofs.Common.{◌≡◌, ℕ, zero, suc, ◌+◌, Bool, true, false, ℤ, List, [], ◌∷◌, ◌++◌, map, ap}
 use Rattle.sensitive_receiver.proofs.Common.{sym, ◌∙◌, arith, if◌then◌else◌, not, ◌&&◌, append-nil, Tone, Reach}
-use Rattle.sensitive_receiver.proofs.Common.{changes, heard, tone_before, is_in_time, list_of, delay_of, is_read_at}
+use Rattle.sensitive_receiver.proofs.Common.{changes, tones, tone_before, is_in_time, list_of, delay_of, is_read_at}
 use Rattle.sensitive_receiver.proofs.Common.{tone_back, tone_read, lane_tones}
 use Rattle.std.specs.Prelude.{filter}
 use Rattle.std.specs.List.{range_with_len}
@@ -49,10 +49,10 @@ lane_tones-not x lane place reads =
 
 -- a tone of a list, as it was asked for, is one that the lane goes by
 pub tone_is_back : (x : List ℤ) (lane place count back delay : ℕ) (reach : Reach) (tone : Tone)
-    → tone ≡ tone_before (heard reach x) count delay
+    → tone ≡ tone_before (tones reach x) count delay
     → reach ≡ list_of lane → count ≡ place + 1 → delay ≡ delay_of lane + back → tone ≡ tone_back x lane place back
 tone_is_back x lane place count back delay reach tone is same_list same_count same_delay =
-    is ∙ (λ i. tone_before (heard (same_list i) x) (same_count i) (same_delay i))
+    is ∙ (λ i. tone_before (tones (same_list i) x) (same_count i) (same_delay i))
 
 -- the tones with the one that the lane reads, as it was asked for
 pub tones-pushed : (x : List ℤ) (lane place : ℕ) (tone : Tone) → is_read_at x lane place ≡ true
@@ -63,8 +63,8 @@ tones-pushed x lane place tone reads is = lane_tones-read x lane place reads
 
 -- whether a bit is the last of a flag in time, as the three tones that were asked for tell it
 pub in_time_told : (x : List ℤ) (lane place count delay : ℕ) (reach : Reach) (tone one two : Tone)
-    → tone ≡ tone_before (heard reach x) count delay
-    → one ≡ tone_before (heard reach x) count (delay + 8) → two ≡ tone_before (heard reach x) count (delay + 16)
+    → tone ≡ tone_before (tones reach x) count delay
+    → one ≡ tone_before (tones reach x) count (delay + 8) → two ≡ tone_before (tones reach x) count (delay + 16)
     → reach ≡ list_of lane → count ≡ place + 1 → delay ≡ delay_of lane
     → (changes one tone && not (changes two one)) ≡ is_in_time x lane place
 in_time_told x lane place count delay reach tone one two tone_is one_is two_is same_list same_count same_delay =

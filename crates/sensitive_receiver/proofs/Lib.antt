@@ -5,6 +5,7 @@ pub mod PlaceLanes
 pub mod VisitedLanes
 pub mod BankLemmas
 pub mod PrefixLemmas
+pub mod LevelLemmas
 pub mod PrefixLanes
 pub mod HearLemmas
 pub mod FarFrames

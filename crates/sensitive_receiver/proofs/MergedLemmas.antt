@@ -4,7 +4,7 @@ use Rattle.sensitive_receiver.proofs.Common.{get_or, refl, inl, inr, ap, sym, �
 use Rattle.sensitive_receiver.proofs.Common.{ltb-true, leb-true, lt-ltb, and_parts, All-weaker, All-head, All-tail}
 use Rattle.sensitive_receiver.proofs.Common.{All-filter, filter_passes, AllPairs-filter, Candidate, standing, merged}
 use Rattle.sensitive_receiver.proofs.Common.{below, not_below, IsCandidate, AreCandidatesBehind, next_is, below_more}
-use Rattle.sensitive_receiver.proofs.Common.{places_in, delay_of, EndsAtPlace, IsHeard, AreHeard, AreAddedBetween}
+use Rattle.sensitive_receiver.proofs.Common.{added_places, delay_of, EndsAtPlace, IsHeard, AreHeard, AreAddedBetween}
 use Rattle.sensitive_receiver.proofs.Common.{settled, AreMergedBetween}
 use Rattle.std.proofs.Common.{cond}
 use Rattle.std.specs.List.{filter}
@@ -107,7 +107,7 @@ module _ (x y : List ℤ) (items all : List Candidate) (are : AreHeard x items) 
   place_of item = item.end + delay_of item.offset - 8
 
   is_added : Candidate → Bool
-  is_added item = nat_le 8 item.offset && nat_le (places_in (length x)) (place_of item)
+  is_added item = nat_le 8 item.offset && nat_le (added_places (length x)) (place_of item)
 
   added : List Candidate
   added = filter is_added all
@@ -117,28 +117,28 @@ module _ (x y : List ℤ) (items all : List Candidate) (are : AreHeard x items) 
   place_is item place h = let end = h.end_of in let small = delay_small item.offset h.most in omega arith
 
   added_one : (item : Candidate) → IsHeard (x ++ y) item → is_added item ≡ true
-      → (place : ℕ) × ((places_in (length x) ≤ place) × (place < places_in (length (x ++ y)))) × EndsAtPlace
+      → (place : ℕ) × ((added_places (length x) ≤ place) × (place < added_places (length (x ++ y)))) × EndsAtPlace
       (x ++ y) item place
   unfolding is_added
   added_one item (inl h) passes =
       let large = leb-true 8 item.offset
-      (and_parts (nat_le 8 item.offset) (nat_le (places_in (length x)) (place_of item)) passes).0 in
+      (and_parts (nat_le 8 item.offset) (nat_le (added_places (length x)) (place_of item)) passes).0 in
       let small = h.offset in
       absurd (omega arith)
   added_one item (inr h) passes =
-      let behind = leb-true (places_in (length x)) (place_of item)
-      (and_parts (nat_le 8 item.offset) (nat_le (places_in (length x)) (place_of item)) passes).1 in
+      let behind = leb-true (added_places (length x)) (place_of item)
+      (and_parts (nat_le 8 item.offset) (nat_le (added_places (length x)) (place_of item)) passes).1 in
       let is = place_is item h.place h.ends in
       (h.place, (omega arith, h.decided), h.ends)
 
-  added_passes : (item : Candidate) (place : ℕ) → places_in (length x) ≤ place → EndsAtPlace (x ++ y) item place
+  added_passes : (item : Candidate) (place : ℕ) → added_places (length x) ≤ place → EndsAtPlace (x ++ y) item place
       → is_added item ≡ true
   unfolding is_added
   added_passes item place behind h =
       let is = place_is item place h in
-      (λ i. le-leb 8 item.offset h.least i && le-leb (places_in (length x)) (place_of item) (omega arith) i)
+      (λ i. le-leb 8 item.offset h.least i && le-leb (added_places (length x)) (place_of item) (omega arith) i)
 
-  added_are : AreAddedBetween (places_in (length x)) (places_in (length (x ++ y))) (x ++ y) added
+  added_are : AreAddedBetween (added_places (length x)) (added_places (length (x ++ y))) (x ++ y) added
   unfolding added
   added_are =
       let rises = AllPairs-filter (λ item later. standing item < standing later) is_added all whole.order in

@@ -17,7 +17,8 @@ use Rattle.sensitive_receiver.proofs.LaneLemmas.{lane_tones-not}
 pub fixed_told : (lane : ℕ) (r : Readings) → lane < 16 → is_read_by lane r ≡ (r.place % 8 == lane - 8)
 fixed_told lane r small =
     ap (λ b. if b then r.place % 8 == lane - 8
-    else if nat_lt lane 19 then r.slow_near else if nat_lt lane 22 then r.slow_far else r.fast_near)
+    else if nat_lt lane 19 then r.slow_near else if nat_lt lane 22 then r.slow_far
+    else if nat_lt lane 23 then r.fast_near else r.slow_alone)
     (lt-ltb lane 16 small)
 
 -- no other than the one whose turn it is reads
@@ -53,13 +54,13 @@ before_lanes place lanes x h k d m = subst (λ p. LaneStandsFor (get_or lanes k 
     (places_read-from 0 place k (omega arith)) (h k d m)
 
 -- after each of them has
-pub lanes_after : (place : ℕ) (lanes : List HeldLane) (x : List ℤ) → LanesAreAt 15 lanes place x
+pub lanes_after : (place : ℕ) (lanes : List HeldLane) (x : List ℤ) → LanesAreAt 18 lanes place x
     → LanesHaveRead lanes (place + 1) x
 lanes_after place lanes x h k d m = subst (λ p. LaneStandsFor (get_or lanes k d) (lane_tones x (8 + k) p))
-    (places_read-below 15 place k m) (h k d m)
+    (places_read-below 18 place k m) (h k d m)
 
 -- the next lane has not read yet
-pub lane_before : (place n : ℕ) (lanes : List HeldLane) (was : HeldLane) (x : List ℤ) → n < 15
+pub lane_before : (place n : ℕ) (lanes : List HeldLane) (was : HeldLane) (x : List ℤ) → n < 18
     → LanesAreAt n lanes place x
     → LaneStandsFor (get_or lanes n was) (lane_tones x (8 + n) place)
 lane_before place n lanes was x l h =
@@ -67,7 +68,7 @@ lane_before place n lanes was x l h =
     (places_read-from n place n (omega arith)) (h n was l)
 
 -- the next lane reads
-pub lane_read : (place n : ℕ) (lanes : List HeldLane) (was lane : HeldLane) (x : List ℤ) → length lanes ≡ 15 → n < 15
+pub lane_read : (place n : ℕ) (lanes : List HeldLane) (was lane : HeldLane) (x : List ℤ) → length lanes ≡ 18 → n < 18
     → (LaneStandsFor (get_or lanes n was) (lane_tones x (8 + n) place)
     → LaneStandsFor lane (lane_tones x (8 + n) (place + 1)))
     → LanesAreAt n lanes place x → LanesAreAt (n + 1) (set lanes n lane) place x
@@ -152,8 +153,8 @@ adds_join_among place first middle end x before found after le le' a b =
     (λ p l h k. let small = h.2 in let large = k.1 in omega arith)
 
 -- what all of them add
-pub adds_all : (place : ℕ) (x : List ℤ) (before after : List Candidate) → AddsAmong place 0 15 x before after
-    → AddsBelow place 23 x before after
+pub adds_all : (place : ℕ) (x : List ℤ) (before after : List Candidate) → AddsAmong place 0 18 x before after
+    → AddsBelow place 26 x before after
 adds_all place x before after a = record {
   heard = a.heard;
   found = a.found;
@@ -188,7 +189,7 @@ module _ (r : Readings) (k : ℕ) (x : List ℤ) (k_is : k ≡ r.place % 8) (tol
   }
 
   -- and that lane alone reads
-  pub lanes_fixed : (lanes : List HeldLane) (was lane : HeldLane) → length lanes ≡ 15
+  pub lanes_fixed : (lanes : List HeldLane) (was lane : HeldLane) → length lanes ≡ 18
       → (LaneStandsFor (get_or lanes k was) (lane_tones x (8 + k) r.place)
       → LaneStandsFor lane (lane_tones x (8 + k) (r.place + 1)))
       → LanesAreAt 0 lanes r.place x → LanesAreAt 8 (set lanes k lane) r.place x

@@ -1,36 +1,40 @@
 -- What the added lanes hear in samples stays as it is when more samples follow.
 use Rattle.sensitive_receiver.proofs.Common.{◌≡◌, ℕ, zero, suc, ◌+◌, ◌<◌, ◌≤◌, Bool, true, false, ℤ, List, [], ◌∷◌}
 use Rattle.sensitive_receiver.proofs.Common.{◌++◌, length, get_or, refl, ap, sym, subst, ◌∙◌, arith, not, ◌&&◌, bits_of}
-use Rattle.sensitive_receiver.proofs.Common.{EndsFrame, Candidate, Pull, Slow, Fast, Reach, Near, Far, changes}
-use Rattle.sensitive_receiver.proofs.Common.{clock_after, reads, heard, places_in, delay_of, list_of, is_read_by}
+use Rattle.sensitive_receiver.proofs.Common.{EndsFrame, Candidate, Slow, Fast, Alone, Near, Far, changes, length-append}
+use Rattle.sensitive_receiver.proofs.Common.{reads, added_places, delay_of, list_of, is_read_by}
 use Rattle.sensitive_receiver.proofs.Common.{is_read_at, readings_at, tone_back, lane_tones, EndsAtPlace, is_in_time}
 use Rattle.sensitive_receiver.proofs.Common.{LaneStandsFor, HasTaken}
 use Rattle.std.proofs.Common.{add-one}
-use Rattle.sensitive_receiver.proofs.PrefixLemmas.{heard-append, heard_before-append, clock_after-agree, taken-append}
+use Rattle.std.proofs.lemmas.List.{take-append-le}
+use Rattle.tone_tracking.specs.HeldMean.{StandsFor as MeanStandsFor}
+use Rattle.sensitive_receiver.proofs.LevelLemmas.{tones_before-append, clock-append, lists-append}
 use Rattle.sensitive_receiver.specs.HeldLanes.{HeldBank}
 use Rattle.sensitive_receiver.proofs.LaneLemmas.{lane_tones-read, lane_tones-not}
 use Rattle.sensitive_receiver.proofs.VisitedLanes.{tones_of_none}
 
 module _ (x y : List ℤ) where
-  clock-append : (pull : Pull) (reach : Reach) (count : ℕ) → count ≤ places_in (length x)
-      → clock_after pull (heard reach x) count ≡ clock_after pull (heard reach (x ++ y)) count
-  clock-append pull reach count inside = clock_after-agree pull (heard reach x) (heard reach (x ++ y)) count
-      (λ p l. heard-append reach x y p (omega arith))
-
-  pub readings-append : (place : ℕ) → place < places_in (length x) → readings_at x place ≡ readings_at (x ++ y) place
+  pub readings-append : (place : ℕ) → place < added_places (length x) → readings_at x place ≡ readings_at (x ++ y) place
   unfolding readings_at
   readings-append place inside =
-      let a = clock-append Slow Near place (omega arith) in
-      let b = clock-append Slow Far place (omega arith) in
-      let c = clock-append Fast Near place (omega arith) in
-      λ i. record { place = place; slow_near = reads (a i); slow_far = reads (b i); fast_near = reads (c i) }
+      let a = clock-append x y Slow Near place (omega arith) in
+      let b = clock-append x y Slow Far place (omega arith) in
+      let c = clock-append x y Fast Near place (omega arith) in
+      let d = clock-append x y Slow Alone place (omega arith) in
+      λ i. record {
+        place = place;
+        slow_near = reads (a i);
+        slow_far = reads (b i);
+        fast_near = reads (c i);
+        slow_alone = reads (d i);
+      }
 
-  pub tone_back-append : (lane place back : ℕ) → place < places_in (length x) → tone_back x lane place back ≡ tone_back
+  pub tone_back-append : (lane place back : ℕ) → place < added_places (length x) → tone_back x lane place back ≡ tone_back
       (x ++ y) lane place back
-  tone_back-append lane place back inside = heard_before-append (list_of lane) x y (place + 1) (delay_of lane + back)
+  tone_back-append lane place back inside = tones_before-append (list_of lane) x y (place + 1) (delay_of lane + back)
       (omega arith)
 
-  one_more : (lane count : ℕ) (b : Bool) → count < places_in (length x) → is_read_at x lane count ≡ b
+  one_more : (lane count : ℕ) (b : Bool) → count < added_places (length x) → is_read_at x lane count ≡ b
       → lane_tones x lane count ≡ lane_tones (x ++ y) lane count
       → lane_tones x lane (count + 1) ≡ lane_tones (x ++ y) lane (count + 1)
   one_more lane count true inside here before =
@@ -43,7 +47,7 @@ module _ (x y : List ℤ) where
       ∙ here in
       lane_tones-not x lane count here ∙ before ∙ sym (lane_tones-not (x ++ y) lane count there)
 
-  pub lane_tones-append : (lane count : ℕ) → count ≤ places_in (length x)
+  pub lane_tones-append : (lane count : ℕ) → count ≤ added_places (length x)
       → lane_tones x lane count ≡ lane_tones (x ++ y) lane count
   lane_tones-append lane zero inside = tones_of_none x lane ∙ sym (tones_of_none (x ++ y) lane)
   lane_tones-append lane (suc count) inside =
@@ -51,7 +55,7 @@ module _ (x y : List ℤ) where
       ∙ one_more lane count (is_read_at x lane count) (omega arith) refl (lane_tones-append lane count (omega arith))
       ∙ ap (lane_tones (x ++ y) lane) (add-one count)
 
-  in_time-append : (lane place : ℕ) → place < places_in (length x)
+  in_time-append : (lane place : ℕ) → place < added_places (length x)
       → is_in_time x lane place ≡ is_in_time (x ++ y) lane place
   in_time-append lane place inside =
       let a = tone_back-append lane place 8 inside in
@@ -60,7 +64,7 @@ module _ (x y : List ℤ) where
       λ i. changes (a i) (b i) && not (changes (c i) (a i))
 
   -- an item of a place of the first samples is one of all, and the other way round
-  pub ends-append : (item : Candidate) (place : ℕ) → place < places_in (length x) → EndsAtPlace x item place
+  pub ends-append : (item : Candidate) (place : ℕ) → place < added_places (length x) → EndsAtPlace x item place
       → EndsAtPlace (x ++ y) item place
   ends-append item place inside h = record {
     least = h.least;
@@ -73,7 +77,7 @@ module _ (x y : List ℤ) where
     in_time = sym (in_time-append item.offset place inside) ∙ h.in_time;
   }
 
-  pub ends-take : (item : Candidate) (place : ℕ) → place < places_in (length x) → EndsAtPlace (x ++ y) item place
+  pub ends-take : (item : Candidate) (place : ℕ) → place < added_places (length x) → EndsAtPlace (x ++ y) item place
       → EndsAtPlace x item place
   ends-take item place inside h = record {
     least = h.least;
@@ -89,13 +93,16 @@ module _ (x y : List ℤ) where
   -- the bank has taken the first of more samples
   pub bank_taken-append : (held : HeldBank) → held.position ≤ length x → HasTaken held x → HasTaken held (x ++ y)
   bank_taken-append held inside h = record {
-    lists = taken-append held.lists x y h.lists;
+    within = (let size = length-append x y in omega arith);
+    remover = subst (MeanStandsFor held.remover) (sym (take-append-le held.position x y inside)) h.remover;
+    lists = lists-append held.lists x y h.lists;
     count = h.count;
     clocks = record {
-      slow_near = h.clocks.slow_near ∙ clock-append Slow Near (places_in held.position) (omega arith);
-      slow_far = h.clocks.slow_far ∙ clock-append Slow Far (places_in held.position) (omega arith);
-      fast_near = h.clocks.fast_near ∙ clock-append Fast Near (places_in held.position) (omega arith);
+      slow_near = h.clocks.slow_near ∙ clock-append x y Slow Near (added_places held.position) (omega arith);
+      slow_far = h.clocks.slow_far ∙ clock-append x y Slow Far (added_places held.position) (omega arith);
+      fast_near = h.clocks.fast_near ∙ clock-append x y Fast Near (added_places held.position) (omega arith);
+      slow_alone = h.clocks.slow_alone ∙ clock-append x y Slow Alone (added_places held.position) (omega arith);
     };
     lanes = λ k d l. subst (λ tones. LaneStandsFor (get_or held.lanes k d) tones)
-        (lane_tones-append (8 + k) (places_in held.position) (omega arith)) (h.lanes k d l);
+        (lane_tones-append (8 + k) (added_places held.position) (omega arith)) (h.lanes k d l);
   }

@@ -121,6 +121,7 @@ taken-append held x y h =
         recent = λ place d there late. h.samples.recent place d there late
             ∙ correlations-append x y place (omega arith);
       };
+      alone = decided-append held.alone held.count x y inside h.alone;
       near = decided-append held.near held.count x y inside h.near;
       far = decided-append held.far held.count x y inside h.far;
     }

@@ -1,7 +1,7 @@
 -- Samples have a list of candidates: it is found place by place and lane by lane.
 use Rattle.sensitive_receiver.proofs.Common.{◌≡◌, ℕ, zero, suc, ◌+◌, ◌-◌, ◌<◌, ◌≤◌, Bool, true, false, ℤ, List, [], ◌∷◌}
 use Rattle.sensitive_receiver.proofs.Common.{◌++◌, length, refl, sym, subst, ◌∙◌, arith, inl, inr, true≢false}
-use Rattle.sensitive_receiver.proofs.Common.{EndsFrame, Candidate, places_in, delay_of, is_read_at, lane_bits}
+use Rattle.sensitive_receiver.proofs.Common.{EndsFrame, Candidate, added_places, delay_of, is_read_at, lane_bits}
 use Rattle.sensitive_receiver.proofs.Common.{EndsAtPlace, HasPath, is_in_time, AreHeard, AddsAt, AddsBelow, AddsBetween}
 use Rattle.hdlc_framer.proofs.FrameEnds.{one_frame}
 use Rattle.slicer_bank.proofs.FrameDecided.{frame_or_none}
@@ -11,7 +11,7 @@ use Rattle.sensitive_receiver.proofs.BankLemmas.{adds_place}
 use Rattle.sensitive_receiver.proofs.HeardLemmas.{all_of, heard_join, none_heard}
 use Rattle.sensitive_receiver.proofs.PathDecided.{path_or_none}
 
-module _ (x : List ℤ) (place lane : ℕ) (least : 8 ≤ lane) (most : lane < 23) (before : List Candidate) where
+module _ (x : List ℤ) (place lane : ℕ) (least : 8 ≤ lane) (most : lane < 26) (before : List Candidate) where
   abbrev Adds : Type 0
   Adds = (after : List Candidate) × AddsAt place lane x before after
 
@@ -67,7 +67,7 @@ module _ (x : List ℤ) (place lane : ℕ) (least : 8 ≤ lane) (most : lane < 2
   add_at = add_read (is_read_at x lane place) refl
 
 -- what the first of the added lanes hear at a place
-add_below : (x : List ℤ) (place n : ℕ) → n ≤ 15 → (before : List Candidate) → (after : List Candidate) × AddsBelow place
+add_below : (x : List ℤ) (place n : ℕ) → n ≤ 18 → (before : List Candidate) → (after : List Candidate) × AddsBelow place
     (8 + n) x before after
 add_below x place zero few before = (
   before,
@@ -92,14 +92,14 @@ add_first x zero = (
 )
 add_first x (suc n) =
     let rest = add_first x n in
-    let here = add_below x n 15 (omega arith) rest.0 in
+    let here = add_below x n 18 (omega arith) rest.0 in
     let at : AddsBetween n (suc n) x rest.0 here.0 = adds_place n n (suc n) x rest.0 here.0 refl (omega arith) here.1 in
     (here.0, adds_next_places 0 n (suc n) x [] rest.0 here.0 (omega arith) (omega arith) rest.1 at)
 
 pub some_list : (x : List ℤ) → (items : List Candidate) × AreHeard x items
 some_list x =
     let eight = some_of_eight x in
-    let added = add_first x (places_in (length x)) in (
+    let added = add_first x (added_places (length x)) in (
       all_of [] x [] eight.0 added.1.heard none_heard eight.1 added.1.are,
       heard_join [] x [] eight.0 added.1.heard none_heard eight.1 added.1.are,
     )

@@ -15,7 +15,7 @@ pub tones_of_none : (x : List ℤ) (lane : ℕ) → lane_tones x lane 0 ≡ []
 unfolding lane_tones
 tones_of_none x lane = refl
 
-pub read_none : (n : ℕ) (lanes : List HeldLane) (x : List ℤ) → n ≡ 15 → AreFresh n lanes → LanesHaveRead lanes 0 x
+pub read_none : (n : ℕ) (lanes : List HeldLane) (x : List ℤ) → n ≡ 18 → AreFresh n lanes → LanesHaveRead lanes 0 x
 read_none n lanes x all h k d l = subst (LaneStandsFor (get_or lanes k d)) (sym (tones_of_none x (8 + k)))
     (h.each k d (omega arith))
 
@@ -25,13 +25,13 @@ read_none n lanes x all h k d l = subst (LaneStandsFor (get_or lanes k d)) (sym 
 pub record Visited (lists : HeldLists) (readings : Readings) (old now : List HeldLane) (before after : List Candidate)
     (first n : ℕ) : Type 0 where
   pub least : first ≤ n
-  pub size : length now ≡ 15
+  pub size : length now ≡ 18
   pub hear : LanesHear first n lists readings old now before after
   pub bounds : (low : ℕ) → low ≤ readings.place + 6 → All (HasRoomFrom low) before → All (HasRoomFrom low) after
 
 pub visited_none : (lists : HeldLists) (readings : Readings) (lanes : List HeldLane) (found : List Candidate)
     (first : ℕ)
-    → length lanes ≡ 15
+    → length lanes ≡ 18
     → Visited lists readings lanes lanes found found first first
 visited_none lists readings lanes found first size = record {
   least = omega arith;
@@ -45,7 +45,7 @@ visited_none lists readings lanes found first size = record {
 
 module _ (lists : HeldLists) (readings : Readings) (old now : List HeldLane) (before found after : List Candidate)
     (first n : ℕ) (was lane : HeldLane)
-    (h : Visited lists readings old now before found first n) (l : n < 15)
+    (h : Visited lists readings old now before found first n) (l : n < 18)
     (reads : (x : List ℤ) → IsLastPlace lists readings x
     → LaneStandsFor (get_or now n was) (lane_tones x (8 + n) readings.place)
     → LaneStandsFor lane (lane_tones x (8 + n) (readings.place + 1)))

@@ -5,8 +5,7 @@ use Rattle.frame_merge.specs.declared.candidate.Candidate.{Candidate}
 use Rattle.ax25_address.specs.declared.path.Path.{Path}
 use Rattle.ax25_address.specs.FramePath.{BeginsWithPath}
 use Rattle.tone_tracking.specs.Clock.{changes}
-use Rattle.tone_tracking.specs.Heard.{places_in}
-use Rattle.sensitive_receiver.specs.Lanes.{delay_of, is_read_at, lane_bits, tone_back}
+use Rattle.sensitive_receiver.specs.Lanes.{added_places, delay_of, is_read_at, lane_bits, tone_back}
 
 -- a beginning of the octets is a path
 pub record HasPath (octets : List ℕ) : Type 0 where
@@ -25,7 +24,7 @@ is_in_time x lane place =
 -- sample after the window that was read.
 pub record EndsAtPlace (x : List ℤ) (item : Candidate) (place : ℕ) : Type 0 where
   pub least : 8 ≤ item.offset
-  pub most : item.offset < 23
+  pub most : item.offset < 26
   pub reads : is_read_at x item.offset place ≡ true
   pub end_of : item.end ≡ place + 8 - delay_of item.offset
   pub frame : EndsFrame (lane_bits x item.offset (place + 1)) item.octets
@@ -35,5 +34,5 @@ pub record EndsAtPlace (x : List ℤ) (item : Candidate) (place : ℕ) : Type 0 
 -- the item is what an added lane hears at a place that has a tone
 pub record IsAdded (x : List ℤ) (item : Candidate) : Type 0 where
   pub place : ℕ
-  pub decided : place < places_in (length x)
+  pub decided : place < added_places (length x)
   pub ends : EndsAtPlace x item place

@@ -1,4 +1,4 @@
--- The candidates of a sensitive receiver: what one of the eight lanes hears, or one of the fifteen that are added.
+-- The candidates of a sensitive receiver: what one of the eight lanes hears, or one of the eighteen that are added.
 use Rattle.std.specs.Prelude.{◌<◌, ◌⊎◌, ℤ, List}
 use Rattle.std.specs.List.{All, AllPairs, Contains}
 use Rattle.frame_merge.specs.declared.candidate.Candidate.{Candidate}

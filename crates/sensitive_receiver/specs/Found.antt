@@ -5,14 +5,14 @@ use Rattle.frame_merge.specs.declared.candidate.Candidate.{Candidate}
 use Rattle.frame_merge.specs.Order.{standing}
 use Rattle.sensitive_receiver.specs.AddedCandidates.{EndsAtPlace}
 
--- what may be put into a merger of 23 lanes
+-- what may be put into a merger of 26 lanes
 pub record CanBePut (item : Candidate) : Type 0 where
-  pub lane : item.offset < 23
+  pub lane : item.offset < 26
   pub end : item.end < 2 ^ 64 - 1
 
--- the candidate is of one of 23 lanes, and its end has room to be moved to where its samples begin in a ring
+-- the candidate is of one of 26 lanes, and its end has room to be moved to where its samples begin in a ring
 pub record HasRoom (item : Candidate) : Type 0 where
-  pub lane : item.offset < 23
+  pub lane : item.offset < 26
   pub end : item.end < 2 ^ 49
 
 -- the candidate is of an added lane, and does not end below a position
@@ -20,7 +20,7 @@ pub record IsAddedFrom (low : ℕ) (item : Candidate) : Type 0 where
   pub lane : 8 ≤ item.offset
   pub end : low ≤ item.end
 
--- it may be put into a merger of 23 lanes besides
+-- it may be put into a merger of 26 lanes besides
 pub record CanBePutFrom (low : ℕ) (item : Candidate) : Type 0 where
   pub can : CanBePut item
   pub from : IsAddedFrom low item

@@ -4,9 +4,10 @@ use Rattle.frame_merge.specs.declared.candidate.Candidate.{Candidate}
 use Rattle.frame_merge.specs.Merged.{merged, between}
 use Rattle.sensitive_receiver.specs.Candidates.{AreHeard}
 
--- The added lanes hear a frame up to seventeen samples after its end: what ends below this position is settled.
+-- The added lanes hear a frame up to 32 samples after its end, of which fifteen are wanted for the mean: what ends below
+-- this position is settled.
 abbrev pub settled : ℕ → ℕ
-settled count = count - 17
+settled count = count - 32
 
 -- the items are the merged candidates of the samples
 pub record AreMerged (x : List ℤ) (items : List Candidate) : Type 0 where

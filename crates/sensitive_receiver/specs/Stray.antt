@@ -7,7 +7,7 @@ use Rattle.clean_signal.specs.TrueEnds.{true_ends}
 use Rattle.clean_signal.specs.Stray.{is_sent}
 use Rattle.sensitive_receiver.specs.Candidates.{IsHeard, AreHeard}
 
--- No candidate of any of the 23 lanes is stray: each has the octets of a frame that was sent, and ends less than a bit
+-- No candidate of any of the 26 lanes is stray: each has the octets of a frame that was sent, and ends less than a bit
 -- from its true end.
 abbrev pub NoneStray : List Transmission → List ℤ → Type 0
 NoneStray transmissions x = (item : Candidate) → IsHeard x item → is_sent (true_ends transmissions) item ≡ true

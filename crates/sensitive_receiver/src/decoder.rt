@@ -1,4 +1,4 @@
-//! The decoder: samples in blocks in, each frame that some of the 23 lanes hears in them once and in order out.
+//! The decoder: samples in blocks in, each frame that some of the 26 lanes hears in them once and in order out.
 
 ghost use Rattle.std.specs.Prelude.{◌≡◌, ◌+◌, ◌<◌, ◌≤◌, ◌^◌, ℤ, List, [], ◌++◌, length, replicate, true, false, IfOk};
 ghost use Rattle.std.specs.Prelude.{OnOk, OnErr};
@@ -50,7 +50,7 @@ impl Model for SensitiveDecoder {
 
     ghost invariant = { λ s. s.progress.spent ≡ false → s.progress.finished ≡ false
         → (s.bank.position ≡ s.progress.position)
-        × (s.added.position ≡ s.progress.position) × (s.merger.marks ≡ replicate 23 (settled s.progress.position)) };
+        × (s.added.position ≡ s.progress.position) × (s.merger.marks ≡ replicate 26 (settled s.progress.position)) };
 }
 
 impl SensitiveDecoder {
@@ -69,7 +69,7 @@ impl SensitiveDecoder {
         })
     }
 
-    /// Takes a block of samples, and gives the items not given before that end more than 17 samples before the end of
+    /// Takes a block of samples, and gives the items not given before that end more than 32 samples before the end of
     /// what was taken so far.
     pub fn block(&mut self, block: &[i16]) -> Result<Vec<Candidate>, OutOfMemory>
         requires few { length block.now ≤ 2048 }
@@ -115,7 +115,7 @@ impl SensitiveDecoder {
         requires items { All CanBePutOfEight found.items }
         requires past { AllPast self.old.position found.items }
         requires spent { self.old.spent ≡ true }
-        requires marks { self.old.merger.marks ≡ replicate 23 (settled self.old.position) }
+        requires marks { self.old.merger.marks ≡ replicate 26 (settled self.old.position) }
         requires bank { self.old.bank.position ≡ self.old.position + length block.now }
         requires added { self.old.added.position ≡ self.old.position }
         ensures given { IfOk result (λ items. (before : HeldBank) (x : List ℤ) → self.old.finished ≡ false
@@ -156,7 +156,7 @@ impl SensitiveDecoder {
     /// How many candidates it keeps: at most one of each lane.
     pub fn held(&self) -> usize
         ensures value { result ≡ length self.now.merger.items }
-        ensures few { (x : List ℤ) → StandsFor self.now x → result ≤ 23 }
+        ensures few { (x : List ℤ) → StandsFor self.now x → result ≤ 26 }
     {
         self.merger.held()
     }

@@ -7,6 +7,7 @@ ghost use Rattle.hdlc_framer.specs.Held.{HoldsFrame};
 ghost use Rattle.tone_tracking.specs.Clock.{changes};
 ghost use Rattle.tone_tracking.specs.Heard.{places_in};
 ghost use Rattle.tone_tracking.specs.HeldLists.{HasTaken as ListsHaveTaken};
+ghost use Rattle.tone_tracking.specs.WithoutMean.{without_mean};
 ghost use Rattle.sensitive_receiver.specs.AddedCandidates.{is_in_time};
 ghost use Rattle.sensitive_receiver.specs.Found.{AddsAt, AddsBelow, HasRoomFrom};
 ghost use Rattle.sensitive_receiver.specs.HeldLanes.{HoldsFrameOf, IsLastPlace};
@@ -31,23 +32,24 @@ pub(crate) fn hear_place(
     readings: &Readings,
     found: &mut Vec<Candidate>,
 ) -> Result<(), OutOfMemory>
-    requires lanes { length lanes.old ≡ 15 }
+    requires lanes { length lanes.old ≡ 18 }
     requires room { lists.now.count < 2 ^ 49 }
     requires place { readings.now.place < 2 ^ 48 }
-    ensures lanes { length lanes.new ≡ 15 }
+    ensures lanes { length lanes.new ≡ 18 }
     ensures read { OnOk result ((x : List ℤ) → IsLastPlace lists.now readings.now x
         → LanesHaveRead lanes.old readings.now.place x → LanesHaveRead lanes.new (readings.now.place + 1) x) }
     ensures found { OnOk result ((x : List ℤ) → IsLastPlace lists.now readings.now x
         → LanesHaveRead lanes.old readings.now.place x
-        → AddsBelow readings.now.place 23 x found.old.items found.new.items) }
+        → AddsBelow readings.now.place 26 x found.old.items found.new.items) }
     ensures bounds { (low : ℕ) → low ≤ readings.now.place + 6
         → OnOk result (All (HasRoomFrom low) found.old.items → All (HasRoomFrom low) found.new.items) }
 {
     hear_fixed(alloc, lists, lanes, readings, found)?;
-    // Lanes 16 to 18 follow one clock, lanes 19 to 21 another, and lane 22 a third.
+    // Lanes 16 to 18 follow one clock, lanes 19 to 21 another, lane 22 a third, and lanes 23 to 25 a fourth.
     hear_clocked(alloc, lists, lanes, 8, 11, readings, found)?;
     hear_clocked(alloc, lists, lanes, 11, 14, readings, found)?;
-    hear_clocked(alloc, lists, lanes, 14, 15, readings, found)
+    hear_clocked(alloc, lists, lanes, 14, 15, readings, found)?;
+    hear_clocked(alloc, lists, lanes, 15, 18, readings, found)
 }
 
 /// Has one of lanes 8 to 15 read its bit: the one whose turn it is at the place.
@@ -58,10 +60,10 @@ fn hear_fixed(
     readings: &Readings,
     found: &mut Vec<Candidate>,
 ) -> Result<(), OutOfMemory>
-    requires lanes { length lanes.old ≡ 15 }
+    requires lanes { length lanes.old ≡ 18 }
     requires room { lists.now.count < 2 ^ 49 }
     requires place { readings.now.place < 2 ^ 48 }
-    ensures lanes { length lanes.new ≡ 15 }
+    ensures lanes { length lanes.new ≡ 18 }
     ensures hear { OnOk result (LanesHear 0 8 lists.now readings.now
         lanes.old lanes.new found.old.items found.new.items) }
     ensures bounds { (low : ℕ) → low ≤ readings.now.place + 6
@@ -83,13 +85,13 @@ fn hear_clocked(
     readings: &Readings,
     found: &mut Vec<Candidate>,
 ) -> Result<(), OutOfMemory>
-    requires lanes { length lanes.old ≡ 15 }
-    requires range { (first < end) × (end ≤ 15) }
+    requires lanes { length lanes.old ≡ 18 }
+    requires range { (first < end) × (end ≤ 18) }
     requires clock { (k : ℕ) → first ≤ k → k < end
         → is_read_by (8 + k) readings.now ≡ is_read_by (8 + first) readings.now }
     requires room { lists.now.count < 2 ^ 49 }
     requires place { readings.now.place < 2 ^ 48 }
-    ensures lanes { length lanes.new ≡ 15 }
+    ensures lanes { length lanes.new ≡ 18 }
     ensures hear { OnOk result (LanesHear first end lists.now readings.now
         lanes.old lanes.new found.old.items found.new.items) }
     ensures bounds { (low : ℕ) → low ≤ readings.now.place + 6
@@ -114,7 +116,7 @@ fn hear(
     readings: &Readings,
     found: &mut Vec<Candidate>,
 ) -> Result<(), OutOfMemory>
-    requires number { (8 ≤ number) × (number < 23) }
+    requires number { (8 ≤ number) × (number < 26) }
     requires reads { is_read_by number readings.now ≡ true }
     requires room { lists.now.count < 2 ^ 49 }
     requires place { readings.now.place < 2 ^ 48 }
@@ -145,7 +147,7 @@ fn add_frame(
     readings: &Readings,
     found: &mut Vec<Candidate>,
 ) -> Result<(), OutOfMemory>
-    requires number { (8 ≤ number) × (number < 23) }
+    requires number { (8 ≤ number) × (number < 26) }
     requires reads { is_read_by number readings.now ≡ true }
     requires holds { (octets : List ℕ) × IsFrame octets × HoldsFrame lane.now.deframer octets }
     requires room { lists.now.count < 2 ^ 49 }
@@ -174,8 +176,10 @@ fn add_frame(
 /// Whether the bit that a lane reads is the last 0 of a flag, also by the plain count of samples: the tones two bits
 /// and one bit before agree, and the tone of the bit is another.
 fn ends_in_time(lists: &ToneLists, number: u8) -> bool
+    requires number { number < 26 }
     requires room { lists.now.count < 2 ^ 49 }
-    ensures { (x : List ℤ) (place : ℕ) → ListsHaveTaken lists.now x → places_in lists.now.count ≡ place + 1
+    ensures { (x : List ℤ) (place : ℕ) → ListsHaveTaken lists.now (without_mean x)
+        → places_in lists.now.count ≡ place + 1
         → result ≡ is_in_time x number place }
 {
     let (list, delay) = (list_of(number), delay_of(number));

@@ -2,7 +2,6 @@
 
 ghost use Rattle.std.specs.Prelude.{◌≡◌, ◌+◌, ◌<◌, ◌^◌, ℤ, List, ◌++◌, length, replicate, IfOk, OnOk};
 ghost use Rattle.std.specs.List.{All};
-ghost use Rattle.tone_tracking.specs.Heard.{places_in};
 ghost use Rattle.frame_merge.specs.declared.candidate.Candidate.{Candidate};
 ghost use Rattle.frame_merge.specs.Held.{StandsFor};
 ghost use Rattle.slicer_bank.specs.Candidates.{AreCandidatesBehind};
@@ -11,13 +10,14 @@ ghost use Rattle.slicer_bank.specs.Merging.{CanBePut as CanBePutOfEight, AllPast
 ghost use Rattle.sensitive_receiver.specs.Found.{AreAddedBetween, CanBePut, HasRoom, IsAddedFrom};
 ghost use Rattle.sensitive_receiver.specs.HeldDecoder.{HaveTaken};
 ghost use Rattle.sensitive_receiver.specs.HeldLanes.{HeldBank as HeldAdded, StandsFor as AddedStandsFor};
+ghost use Rattle.sensitive_receiver.specs.Lanes.{added_places};
 ghost use Rattle.sensitive_receiver.specs.MergedItems.{AreMergedBetween, settled};
 
 use frame_merge::{Candidate, Merger};
 use tnc_base::OutOfMemory;
 
 /// How far behind the last sample the added lanes hear: no candidate to come ends lower.
-const BEHIND: u64 = 17;
+const BEHIND: u64 = 32;
 
 /// Gives what the eight lanes and the added ones heard in a block of `count` samples to a merger of all of them, which
 /// had taken `position` samples. Tells the items that the block settles.
@@ -33,16 +33,16 @@ pub(crate) fn merge_block(
     requires added { All HasRoom added.items }
     requires past { AllPast position found.items }
     requires late { All (IsAddedFrom (settled position)) added.items }
-    requires marks { merger.old.marks ≡ replicate 23 (settled position) }
+    requires marks { merger.old.marks ≡ replicate 26 (settled position) }
     ensures given { IfOk result (λ ready. (old new : HeldBank) (before after : HeldAdded) (x y : List ℤ)
         → length x ≡ position → length y ≡ count
         → (BankStandsFor old x → BankStandsFor new (x ++ y) × AreCandidatesBehind (length x) (x ++ y) found.items)
         → (AddedStandsFor before x → AddedStandsFor after (x ++ y)
-        × AreAddedBetween (places_in (length x)) (places_in (length (x ++ y))) (x ++ y) added.items)
+        × AreAddedBetween (added_places (length x)) (added_places (length (x ++ y))) (x ++ y) added.items)
         → HaveTaken old before merger.old x
         → HaveTaken new after merger.new (x ++ y)
         × AreMergedBetween (settled (length x)) (settled (length (x ++ y))) (x ++ y) ready.items) }
-    ensures marks { OnOk result (merger.new.marks ≡ replicate 23 (settled (position + count))) }
+    ensures marks { OnOk result (merger.new.marks ≡ replicate 26 (settled (position + count))) }
 {
     put_all(merger, found)?;
     put_all(merger, added)?;
@@ -51,9 +51,9 @@ pub(crate) fn merge_block(
     Ok(ready)
 }
 
-/// Puts candidates into a merger of 23 lanes, in their order.
+/// Puts candidates into a merger of 26 lanes, in their order.
 pub fn put_all(merger: &mut Merger, items: Vec<Candidate>) -> Result<(), OutOfMemory>
-    requires marks { length merger.old.marks ≡ 23 }
+    requires marks { length merger.old.marks ≡ 26 }
     requires items { All CanBePut items.items }
     requires in_time { AreInTime merger.old.marks items.items }
     ensures stands_for { OnOk result ((puts given : List Candidate) → StandsFor merger.old puts given

@@ -9,7 +9,7 @@ use tone_tracking::Reach;
 pub(crate) const FIRST: u8 = 8;
 
 /// One past the last lane.
-pub const LANES: u8 = 23;
+pub const LANES: u8 = 26;
 
 /// A place, and whether the clocks say that a bit is read there.
 #[derive(Clone, Copy, PartialEq, Eq, Debug)]
@@ -18,12 +18,13 @@ pub(crate) struct Readings {
     pub(crate) slow_near: bool,
     pub(crate) slow_far: bool,
     pub(crate) fast_near: bool,
+    pub(crate) slow_alone: bool,
 }
 
 impl Readings {
     /// Whether a lane reads a bit.
     pub(crate) fn are_for(&self, lane: u8) -> bool
-        requires { (8 ≤ lane) × (lane < 23) }
+        requires { (8 ≤ lane) × (lane < 26) }
         ensures { result ≡ is_read_by lane self.now }
     {
         if lane < 16 {
@@ -32,8 +33,10 @@ impl Readings {
             self.slow_near
         } else if lane < 22 {
             self.slow_far
-        } else {
+        } else if lane < 23 {
             self.fast_near
+        } else {
+            self.slow_alone
         }
     }
 }
@@ -48,13 +51,16 @@ pub(crate) fn list_of(lane: u8) -> Reach
         Reach::Near
     } else if lane < 22 {
         Reach::Far
-    } else {
+    } else if lane < 23 {
         Reach::Near
+    } else {
+        Reach::Alone
     }
 }
 
 /// How many places before the last one a lane reads.
 pub(crate) fn delay_of(lane: u8) -> u8
+    requires { lane < 26 }
     ensures delay { result ≡ delay_of lane }
     ensures bound { result ≤ 2 }
 {
@@ -64,7 +70,9 @@ pub(crate) fn delay_of(lane: u8) -> u8
         lane - 16
     } else if lane < 22 {
         lane - 19
-    } else {
+    } else if lane < 23 {
         1
+    } else {
+        lane - 23
     }
 }

@@ -23,6 +23,10 @@ max_two most x y least = omega (arith, ints, clamps)
 
 -- ---- what windows ahead can add
 
+-- no window
+pub largest-none : (from : Phasor) → largest from (none ∷ []) ≡ size from
+largest-none from = ap (λ p. int_max (pos 0) (size p)) (plus-none from) ∙ max_none _ (size_least from)
+
 -- one window
 pub largest-one : (from : Phasor) (next : Correlations)
     → largest from (ahead Mark (next ∷ [])) ≡ int_max (size (plus from next.mark)) (size (plus from next.space))

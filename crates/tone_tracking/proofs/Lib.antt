@@ -1,4 +1,5 @@
 pub mod Common
+pub mod MeanLemmas
 pub mod PhasorLemmas
 pub mod ClockLemmas
 pub mod CorrelationLemmas

@@ -2,19 +2,21 @@
 use Rattle.tone_tracking.proofs.Common.{◌≡◌, ◌≢◌, ℕ, ◌+◌, ◌-◌, ◌%◌, ◌<◌, ◌≤◌, ℤ, pos, List, length, get_or, set}
 use Rattle.tone_tracking.proofs.Common.{replicate, sym, ap, subst, ◌∙◌, arith, inl, inr, get_or-set_same}
 use Rattle.tone_tracking.proofs.Common.{get_or-set_other, All, cases_eq, cases_lt, length-set, get_or-replicate}
-use Rattle.tone_tracking.proofs.Common.{Correlations, correlations, none, places_in, HeldTracker, HeldLists, HasSamples}
+use Rattle.tone_tracking.proofs.Common.{Correlations, correlations, none, unsigned_abs, places_in, HeldTracker, HeldLists, HasSamples}
 use Rattle.tone_tracking.proofs.Common.{HasTaken}
+use Rattle.std.proofs.lemmas.List.{length-replicate}
 use Rattle.tone_tracking.specs.Correlation.{AreWithin}
 use Rattle.tone_tracking.specs.HeldTracker.{StandsFor as TrackerStandsFor}
 use Rattle.tone_tracking.specs.HeldLists.{HasDecided}
 use Rattle.tone_tracking.proofs.CorrelationLemmas.{correlations-agree}
 use Rattle.tone_tracking.proofs.PhasorLemmas.{within_none as phasor_within_none}
 
-abbrev pub held : ℕ → List ℤ → List Correlations → HeldTracker → HeldTracker → HeldLists
-held count samples recent near far = record {
+abbrev pub held : ℕ → List ℤ → List Correlations → HeldTracker → HeldTracker → HeldTracker → HeldLists
+held count samples recent alone near far = record {
   count = count;
   samples = samples;
   recent = recent;
+  alone = alone;
   near = near;
   far = far;
 }
@@ -29,11 +31,11 @@ abbrev pub with_next : ℕ → List ℤ → ℤ → List ℤ
 with_next count samples sample = set (set samples (count % 8) sample) (count % 8 + 8) sample
 
 module _ (count : ℕ) (samples : List ℤ) (recent : List Correlations) (x : List ℤ) (sample : ℤ)
-    (was : HeldTracker) (other : HeldTracker)
-    (h : HasSamples (held count samples recent was other) x) (room : count < length x)
+    (first second third : HeldTracker)
+    (h : HasSamples (held count samples recent first second third) x) (room : count < length x)
     (is : sample ≡ get_or x count (pos 0)) (wide : length samples ≡ 16) where
-  abbrev first : List ℤ
-  first = set samples (count % 8) sample
+  abbrev once : List ℤ
+  once = set samples (count % 8) sample
 
   abbrev next : List ℤ
   next = with_next count samples sample
@@ -43,12 +45,12 @@ module _ (count : ℕ) (samples : List ℤ) (recent : List Correlations) (x : Li
     | inl e ↦ (let slot : n % 8 ≡ count % 8 = ap (λ k. k % 8) e in
         let apart : count % 8 ≢ count % 8 + 8 = omega arith in
         ap (λ k. get_or next k (pos 0)) slot
-        ∙ get_or-set_other first (count % 8 + 8) (count % 8) sample (pos 0) apart
+        ∙ get_or-set_other once (count % 8 + 8) (count % 8) sample (pos 0) apart
         ∙ get_or-set_same samples (count % 8) sample (pos 0) (omega arith)
         ∙ is ∙ ap (λ k. get_or x k (pos 0)) (sym e))
     | inr ne ↦ (let apart : n % 8 ≢ count % 8 + 8 = omega arith in
         let other_slot : n % 8 ≢ count % 8 = omega arith in
-        get_or-set_other first (count % 8 + 8) (n % 8) sample (pos 0) apart
+        get_or-set_other once (count % 8 + 8) (n % 8) sample (pos 0) apart
         ∙ get_or-set_other samples (count % 8) (n % 8) sample (pos 0) other_slot
         ∙ h.once n (omega arith) (omega arith))
   ]
@@ -58,11 +60,11 @@ module _ (count : ℕ) (samples : List ℤ) (recent : List Correlations) (x : Li
     | inl e ↦ (let slot : n % 8 + 8 ≡ count % 8 + 8 = ap (λ k. k % 8 + 8) e in
         let size = length-set samples (count % 8) sample in
         ap (λ k. get_or next k (pos 0)) slot
-        ∙ get_or-set_same first (count % 8 + 8) sample (pos 0) (omega arith)
+        ∙ get_or-set_same once (count % 8 + 8) sample (pos 0) (omega arith)
         ∙ is ∙ ap (λ k. get_or x k (pos 0)) (sym e))
     | inr ne ↦ (let apart : n % 8 + 8 ≢ count % 8 + 8 = omega arith in
         let other_slot : n % 8 + 8 ≢ count % 8 = omega arith in
-        get_or-set_other first (count % 8 + 8) (n % 8 + 8) sample (pos 0) apart
+        get_or-set_other once (count % 8 + 8) (n % 8 + 8) sample (pos 0) apart
         ∙ get_or-set_other samples (count % 8) (n % 8 + 8) sample (pos 0) other_slot
         ∙ h.again n (omega arith) (omega arith))
   ]
@@ -78,8 +80,9 @@ module _ (count : ℕ) (samples : List ℤ) (recent : List Correlations) (x : Li
   ]
 
   -- before the eighth sample there are no correlations
-  pub samples_few : (near far : HeldTracker) → count + 1 < 8 → HasSamples (held (count + 1) next recent near far) x
-  samples_few near far few = record {
+  pub samples_few : (alone near far : HeldTracker) → count + 1 < 8
+      → HasSamples (held (count + 1) next recent alone near far) x
+  samples_few alone near far few = record {
     within = omega arith;
     once = once_next;
     again = again_next;
@@ -87,12 +90,12 @@ module _ (count : ℕ) (samples : List ℤ) (recent : List Correlations) (x : Li
   }
 
   -- and then one more
-  pub samples_more : (near far : HeldTracker) (window : List ℤ) (c : Correlations) → 8 ≤ count + 1
+  pub samples_more : (alone near far : HeldTracker) (window : List ℤ) (c : Correlations) → 8 ≤ count + 1
       → length recent ≡ 32
       → ((i : ℕ) → i < 8 → get_or window i (pos 0) ≡ get_or next ((count % 8 + 1) + i) (pos 0))
       → c ≡ correlations window 0
-      → HasSamples (held (count + 1) next (set recent ((count + 1 - 8) % 32) c) near far) x
-  samples_more near far window c enough size from c_is = record {
+      → HasSamples (held (count + 1) next (set recent ((count + 1 - 8) % 32) c) alone near far) x
+  samples_more alone near far window c enough size from c_is = record {
     within = omega arith;
     once = once_next;
     again = again_next;
@@ -149,25 +152,51 @@ all_within-set recent at c all one k d inside = elim (cases_eq k at) [
 ]
 
 -- no samples are taken
-pub taken_none : (x : List ℤ) (samples : List ℤ) (recent : List Correlations) (near far : HeldTracker) → near.place ≡ 0
-    → far.place ≡ 0
-    → TrackerStandsFor near (correlations x) → TrackerStandsFor far (correlations x)
-    → HasTaken (held 0 samples recent near far) x
-taken_none x samples recent near far near_place far_place near_stands far_stands = record {
-  samples = record {
-    within = omega arith;
-    once = λ n before late. absurd (omega arith);
-    again = λ n before late. absurd (omega arith);
-    recent = λ place d inside late. absurd (omega arith);
-  };
-  near = record { place = near_place; stands_for = near_stands };
-  far = record { place = far_place; stands_for = far_stands };
-}
+pub taken_none : (x : List ℤ) (samples : List ℤ) (recent : List Correlations) (alone near far : HeldTracker)
+    → alone.place ≡ 0 → near.place ≡ 0 → far.place ≡ 0
+    → TrackerStandsFor alone (correlations x) → TrackerStandsFor near (correlations x)
+    → TrackerStandsFor far (correlations x)
+    → HasTaken (held 0 samples recent alone near far) x
+taken_none x samples recent alone near far alone_place near_place far_place alone_stands near_stands far_stands
+    = record {
+      samples = record {
+        within = omega arith;
+        once = λ n before late. absurd (omega arith);
+        again = λ n before late. absurd (omega arith);
+        recent = λ place d inside late. absurd (omega arith);
+      };
+      alone = record { place = alone_place; stands_for = alone_stands };
+      near = record { place = near_place; stands_for = near_stands };
+      far = record { place = far_place; stands_for = far_stands };
+    }
 
 -- the correlations of silence are bounded
 pub within_none : AreWithin (record { mark = none; space = none })
-within_none = record { mark = phasor_within_none 40000000; space = phasor_within_none 40000000 }
+within_none = record { mark = phasor_within_none 297000000; space = phasor_within_none 297000000 }
 
 pub all_within-none : All AreWithin (replicate 32 (record { mark = none; space = none }))
 all_within-none k d inside = subst AreWithin
     (sym (get_or-replicate 32 k (record { mark = none; space = none }) d inside)) within_none
+
+-- samples stay small with one more, written twice
+pub all_small-set : (most : ℕ) (samples : List ℤ) (at : ℕ) (sample : ℤ) → All (λ s. unsigned_abs s ≤ most) samples
+    → unsigned_abs sample ≤ most → All (λ s. unsigned_abs s ≤ most) (set samples at sample)
+all_small-set most samples at sample all one k d inside = elim (cases_eq k at) [
+  | inl e ↦ (let size = length-set samples at sample in
+      subst (λ s. unsigned_abs s ≤ most)
+      (sym (ap (λ i. get_or (set samples at sample) i d) e ∙ get_or-set_same samples at sample d (omega arith))) one)
+  | inr ne ↦ (let size = length-set samples at sample in
+      subst (λ s. unsigned_abs s ≤ most) (sym (get_or-set_other samples at k sample d ne)) (all k d (omega arith)))
+]
+
+pub all_small-next : (most count : ℕ) (samples : List ℤ) (sample : ℤ) → All (λ s. unsigned_abs s ≤ most) samples
+    → unsigned_abs sample ≤ most → All (λ s. unsigned_abs s ≤ most) (with_next count samples sample)
+all_small-next most count samples sample all one =
+    all_small-set most (set samples (count % 8) sample) (count % 8 + 8) sample
+    (all_small-set most samples (count % 8) sample all one) one
+
+-- no samples are small
+pub all_small-none : (most count : ℕ) → All (λ s. unsigned_abs s ≤ most) (replicate count (pos 0))
+all_small-none most count k d inside =
+    subst (λ s. unsigned_abs s ≤ most) (sym (get_or-replicate count k (pos 0) d (let size = length-replicate count (pos 0) in omega arith)))
+    (omega arith)

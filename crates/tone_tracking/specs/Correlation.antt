@@ -34,7 +34,7 @@ abbrev pub of_tone : Tone → Correlations → Phasor
 of_tone Mark c = c.mark
 of_tone Space c = c.space
 
--- as large as those of a window of sixteen-bit samples can be
+-- as large as those of a window of samples without their mean can be
 pub record AreWithin (c : Correlations) : Type 0 where
-  pub mark : IsWithin 40000000 c.mark
-  pub space : IsWithin 40000000 c.space
+  pub mark : IsWithin 297000000 c.mark
+  pub space : IsWithin 297000000 c.space

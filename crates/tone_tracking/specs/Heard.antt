@@ -8,7 +8,7 @@ use Rattle.tone_table.specs.declared.tone.Tone.TheVariants.{Mark, Space}
 use Rattle.tone_tracking.specs.declared.phasor.Phasor.{Phasor}
 use Rattle.tone_tracking.specs.declared.correlation.Correlations.{Correlations}
 use Rattle.tone_tracking.specs.declared.reach.Reach.{Reach}
-use Rattle.tone_tracking.specs.declared.reach.Reach.TheVariants.{Near, Far}
+use Rattle.tone_tracking.specs.declared.reach.Reach.TheVariants.{Alone, Near, Far}
 use Rattle.tone_tracking.specs.Phasors.{none, plus, turn, turn_back, size, three_quarters}
 use Rattle.tone_tracking.specs.Correlation.{correlations, of_tone}
 
@@ -37,6 +37,7 @@ decided past now next = if int_le (loudness Space past now next) (loudness Mark 
 
 -- the windows that are open, of the next two
 abbrev pub open_of : Reach → Correlations → Correlations → List Correlations
+open_of Alone next later = []
 open_of Near next later = next ∷ []
 open_of Far next later = next ∷ later ∷ []
 
@@ -46,6 +47,7 @@ open_windows reach windows place = open_of reach (windows (place + 8)) (windows 
 
 -- how much of the past remains
 abbrev pub kept : Reach → Phasor → Phasor
+kept Alone past = none
 kept Near past = none
 kept Far past = three_quarters past
 
@@ -53,9 +55,15 @@ kept Far past = three_quarters past
 abbrev pub tone_after : Reach → (ℕ → Correlations) → ℕ → Phasor → Tone
 tone_after reach windows place past = decided past (windows place) (open_windows reach windows place)
 
--- the past one window on, by the past at a place and the tone decided there: as it stands in phase at the later place
+-- what is decided at a window and kept of the past there, as it stands in phase one window on
+abbrev pub in_phase : Reach → Tone → Correlations → Phasor → Phasor
+in_phase reach tone now past = turn_back tone (plus (of_tone tone now) (kept reach past))
+
+-- the past one window on, by the past at a place and the tone decided there; a window that stands alone has none
 abbrev pub passed : Reach → Tone → Correlations → Phasor → Phasor
-passed reach tone now past = turn_back tone (plus (of_tone tone now) (kept reach past))
+passed Alone tone now past = none
+passed Near tone now past = in_phase Near tone now past
+passed Far tone now past = in_phase Far tone now past
 
 -- the past at the place that so many windows lie before, the first of which begins at another place
 unfoldable pub past_of : Reach → (ℕ → Correlations) → ℕ → ℕ → Phasor

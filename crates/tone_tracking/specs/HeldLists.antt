@@ -1,4 +1,4 @@
--- What the two lists of tones keep of samples, and what that stands for.
+-- What the lists of tones keep of samples, and what that stands for.
 use Rattle.std.specs.Prelude.{◌≡◌, ℕ, ◌+◌, ◌%◌, ◌<◌, ◌≤◌, ℤ, pos, List, length, slice_index_or}
 use Rattle.tone_tracking.specs.declared.correlation.Correlations.{Correlations}
 use Rattle.tone_tracking.specs.Correlation.{correlations}
@@ -11,6 +11,7 @@ pub record HeldLists : Type 0 where
   pub count : ℕ
   pub samples : List ℤ
   pub recent : List Correlations
+  pub alone : HeldTracker
   pub near : HeldTracker
   pub far : HeldTracker
 
@@ -32,5 +33,6 @@ pub record HasSamples (held : HeldLists) (x : List ℤ) : Type 0 where
 -- the lists have taken so many of these samples as are counted, and decided all places of them
 pub record HasTaken (held : HeldLists) (x : List ℤ) : Type 0 where
   pub samples : HasSamples held x
+  pub alone : HasDecided held.alone held.count x
   pub near : HasDecided held.near held.count x
   pub far : HasDecided held.far held.count x

@@ -5,3 +5,5 @@ pub mod Clock
 pub mod HeldTracker
 pub mod HeldLists
 pub mod PairSums
+pub mod WithoutMean
+pub mod HeldMean

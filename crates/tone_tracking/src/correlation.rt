@@ -41,11 +41,12 @@ impl Correlations {
 }
 
 /// The correlations of a window of eight samples.
-pub fn correlate(window: &[i16; 8]) -> Correlations
+pub fn correlate(window: &[i32; 8]) -> Correlations
+    requires { All (λ sample. unsigned_abs sample ≤ 262144) window.now }
     ensures sums { result ≡ correlations window.now 0 }
     ensures bound { AreWithin result }
 {
-    let samples = widened(window);
+    let samples = vector_of(window);
     let mark = half_sums(samples, &MARK_ON, &MARK);
     let space = half_sums(samples, &SPACE_ON, &SPACE);
     let sums = in_pairs(mark, space).to_array();
@@ -62,26 +63,23 @@ pub fn correlate(window: &[i16; 8]) -> Correlations
 }
 
 /// The samples of a window, a lane each.
-fn widened(window: &[i16; 8]) -> i32x8
+fn vector_of(window: &[i32; 8]) -> i32x8
+    requires { All (λ sample. unsigned_abs sample ≤ 262144) window.now }
     ensures lanes { result ≡ window.now }
     ensures length { length result ≡ 8 }
-    ensures bound { All (λ sample. unsigned_abs sample ≤ 32768) result }
+    ensures bound { All (λ sample. unsigned_abs sample ≤ 262144) result }
 {
-    let mut samples = [0; 8];
-    for i in 0..8 {
-        samples[i] = i32::from(window[i]);
-    }
-    i32x8::from_array(samples)
+    i32x8::from_array(*window)
 }
 
 /// The sums of the products of samples and a tone's weights, a sixth of a turn on and as they are, each as two lanes.
 fn half_sums(samples: i32x8, on: &[i32; 8], at: &[i32; 8]) -> i32x4
     requires length { length samples ≡ 8 }
-    requires samples { All (λ sample. unsigned_abs sample ≤ 32768) samples }
+    requires samples { All (λ sample. unsigned_abs sample ≤ 262144) samples }
     requires on { sum_by unsigned_abs on.now ≤ 600 }
     requires at { sum_by unsigned_abs at.now ≤ 600 }
     ensures sums { result ≡ in_pairs (pairs_of_products samples on.now) (pairs_of_products samples at.now) }
-    ensures bound { AreSmall 80000000 result }
+    ensures bound { AreSmall 640000000 result }
 {
     in_pairs(
         pairs_of_products(samples, on),
@@ -92,10 +90,10 @@ fn half_sums(samples: i32x8, on: &[i32; 8], at: &[i32; 8]) -> i32x4
 /// The products of samples and weights, place by place, each added to the one next to it.
 fn pairs_of_products(samples: i32x8, weights: &[i32; 8]) -> i32x4
     requires length { length samples ≡ 8 }
-    requires samples { All (λ sample. unsigned_abs sample ≤ 32768) samples }
+    requires samples { All (λ sample. unsigned_abs sample ≤ 262144) samples }
     requires weights { sum_by unsigned_abs weights.now ≤ 600 }
     ensures pairs { result ≡ pairs_of_products samples weights.now }
-    ensures bound { AreSmall 40000000 result }
+    ensures bound { AreSmall 320000000 result }
 {
     let products = samples.strict_mul(i32x8::from_array(*weights));
     products
@@ -105,8 +103,8 @@ fn pairs_of_products(samples: i32x8, weights: &[i32; 8]) -> i32x4
 
 /// The lanes of two vectors, each added to the one next to it.
 fn in_pairs(first: i32x4, second: i32x4) -> i32x4
-    requires first { AreSmall 80000000 first }
-    requires second { AreSmall 80000000 second }
+    requires first { AreSmall 640000000 first }
+    requires second { AreSmall 640000000 second }
     ensures { result ≡ in_pairs first second }
 {
     first

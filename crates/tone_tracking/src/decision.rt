@@ -23,21 +23,33 @@ pub(crate) fn decide(
     next: &Correlations,
     later: &Correlations,
 ) -> Tone
-    requires past { IsWithin 200000000 past }
+    requires past { IsWithin 1190000000 past }
     requires now { AreWithin now.now }
     requires next { AreWithin next.now }
     requires later { AreWithin later.now }
     ensures { result ≡ decided past now.now (open_of reach next.now later.now) }
 {
     match reach {
+        Reach::Alone => decide_alone(past, now),
         Reach::Near => decide_near(past, now, next),
         Reach::Far => decide_far(past, now, next, later),
     }
 }
 
+/// With no window open.
+fn decide_alone(past: Phasor, now: &Correlations) -> Tone
+    requires past { IsWithin 1190000000 past }
+    requires now { AreWithin now.now }
+    ensures { result ≡ decided past now.now [] }
+{
+    let mark = past.plus(now.mark).size();
+    let space = past.plus(now.space).size();
+    louder(mark, space)
+}
+
 /// With one window open.
 fn decide_near(past: Phasor, now: &Correlations, next: &Correlations) -> Tone
-    requires past { IsWithin 200000000 past }
+    requires past { IsWithin 1190000000 past }
     requires now { AreWithin now.now }
     requires next { AreWithin next.now }
     ensures { result ≡ decided past now.now (next.now ∷ []) }
@@ -49,7 +61,7 @@ fn decide_near(past: Phasor, now: &Correlations, next: &Correlations) -> Tone
 
 /// With two windows open.
 fn decide_far(past: Phasor, now: &Correlations, next: &Correlations, later: &Correlations) -> Tone
-    requires past { IsWithin 200000000 past }
+    requires past { IsWithin 1190000000 past }
     requires now { AreWithin now.now }
     requires next { AreWithin next.now }
     requires later { AreWithin later.now }
@@ -62,7 +74,7 @@ fn decide_far(past: Phasor, now: &Correlations, next: &Correlations, later: &Cor
 
 /// The largest size of a phasor, as it stands in phase at the next window, with that window as either tone.
 fn loudest_near(from: Phasor, next: &Correlations) -> i64
-    requires from { IsWithin 400000000 from }
+    requires from { IsWithin 1790000000 from }
     requires next { AreWithin next.now }
     ensures { result ≡ largest from (ahead Mark (next.now ∷ [])) }
 {
@@ -73,7 +85,7 @@ fn loudest_near(from: Phasor, next: &Correlations) -> i64
 
 /// The same with the next two windows. A turn changes no size, so what was summed is turned, and not what is added.
 fn loudest_far(from: Phasor, next: &Correlations, later: &Correlations) -> i64
-    requires from { IsWithin 300000000 from }
+    requires from { IsWithin 1490000000 from }
     requires next { AreWithin next.now }
     requires later { AreWithin later.now }
     ensures { result ≡ largest from (ahead Mark (next.now ∷ later.now ∷ [])) }
@@ -97,11 +109,14 @@ fn louder(mark: i64, space: i64) -> Tone
 /// The past one window on: what was decided at a window, and what is kept of the past there, as they stand in phase at
 /// the next one.
 pub(crate) fn pass(reach: Reach, tone: Tone, now: &Correlations, past: Phasor) -> Phasor
-    requires past { IsWithin 200000000 past }
+    requires past { IsWithin 1190000000 past }
     requires now { AreWithin now.now }
     ensures past { result ≡ passed reach tone now.now past }
-    ensures bound { IsWithin 200000000 result }
+    ensures bound { IsWithin 1190000000 result }
 {
+    if reach == Reach::Alone {
+        return Phasor::NONE;
+    }
     // Both sums are made before one is chosen: processors often mispredict a jump to the one that is wanted.
     let remains = remains(reach, past);
     let mark = now.mark.plus(remains);
@@ -114,12 +129,12 @@ pub(crate) fn pass(reach: Reach, tone: Tone, now: &Correlations, past: Phasor) -
 
 /// What is kept of the past.
 fn remains(reach: Reach, past: Phasor) -> Phasor
-    requires { IsWithin 200000000 past }
+    requires { IsWithin 1190000000 past }
     ensures kept { result ≡ kept reach past }
-    ensures bound { IsWithin 150000002 result }
+    ensures bound { IsWithin 892500002 result }
 {
     match reach {
-        Reach::Near => Phasor::NONE,
+        Reach::Alone | Reach::Near => Phasor::NONE,
         Reach::Far => past.three_quarters(),
     }
 }

@@ -5,13 +5,15 @@
 //! so several windows of eight samples can be summed in phase: mark runs one whole cycle in a window and space 11/6, so
 //! from a window to the next the phase has turned by a whole number of sixths. A [`ToneTracker`] decides each window
 //! together with what was decided before it and with the windows after it, whatever tones these have. A [`BitClock`]
-//! watches where the tones change, and says where bits are to be read. What is promised: tones and readings are exactly
+//! watches where the tones change, and says where bits are to be read. A [`MeanRemover`] goes before: it takes out what
+//! an offset or a hum adds to the tones. What is promised: samples without their mean, tones and readings are exactly
 //! those of the definitions over all samples so far, however these were cut, and no sum overflows on any samples.
 #![tactic(auto)]
 
 mod bit_clock;
 mod correlation;
 mod decision;
+mod mean_remover;
 mod phasor;
 mod reach;
 mod tone_lists;
@@ -19,6 +21,7 @@ mod tone_tracker;
 
 pub use bit_clock::{BitClock, Pull};
 pub use correlation::{Correlations, correlate};
+pub use mean_remover::MeanRemover;
 pub use phasor::Phasor;
 pub use reach::Reach;
 pub use tone_lists::ToneLists;

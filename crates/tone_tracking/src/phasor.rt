@@ -20,8 +20,8 @@ impl Phasor {
 
     /// The sum of two phasors.
     pub(crate) fn plus(self, other: Phasor) -> Phasor
-        requires first { IsWithin 500000000 self }
-        requires second { IsWithin 500000000 other }
+        requires first { IsWithin 2000000000 self }
+        requires second { IsWithin 2000000000 other }
         ensures { result ≡ plus self other }
     {
         Phasor {
@@ -32,7 +32,7 @@ impl Phasor {
 
     /// The phasor as it stands one window of a tone later: space is a sixth of a turn short of two cycles.
     pub(crate) fn turned_back(self, tone: Tone) -> Phasor
-        requires { IsWithin 1000000000 self }
+        requires { IsWithin 2100000000 self }
         ensures { result ≡ turn_back tone self }
     {
         match tone {
@@ -46,7 +46,7 @@ impl Phasor {
 
     /// Three quarters of each part, rounded down, as a shift does.
     pub(crate) fn three_quarters(self) -> Phasor
-        requires { IsWithin 500000000 self }
+        requires { IsWithin 2000000000 self }
         ensures { result ≡ three_quarters self }
     {
         Phasor {
@@ -57,7 +57,7 @@ impl Phasor {
 
     /// The square of the amplitude, by two products in place of three.
     pub(crate) fn size(self) -> i64
-        requires { IsWithin 1000000000 self }
+        requires { IsWithin 2100000000 self }
         ensures { result ≡ size self }
     {
         let both = self.a + self.b;
@@ -67,10 +67,10 @@ impl Phasor {
 
 /// The product of two parts.
 fn product(part: i64, other: i64) -> i64
-    requires part { unsigned_abs part ≤ 1000000000 }
-    requires other { unsigned_abs other ≤ 1000000000 }
+    requires part { unsigned_abs part ≤ 2100000000 }
+    requires other { unsigned_abs other ≤ 2100000000 }
     ensures value { result ≡ part *ℤ other }
-    ensures bound { unsigned_abs result ≤ 1000000000000000000 }
+    ensures bound { unsigned_abs result ≤ 4410000000000000000 }
 {
     part * other
 }

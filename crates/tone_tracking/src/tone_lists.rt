@@ -1,6 +1,8 @@
-//! Both lists of tones of samples.
+//! The lists of tones of samples.
 
 ghost use Rattle.std.specs.Prelude.{◌≡◌, ℕ, ℤ, pos, ◌+◌, ◌<◌, ◌≤◌, ◌^◌, ◌↔◌, List, IsTrue, length, slice_index_or};
+ghost use Rattle.std.specs.Prelude.{unsigned_abs};
+ghost use Rattle.std.specs.List.{All};
 ghost use Rattle.tone_tracking.specs.Heard.{heard, places_in};
 ghost use Rattle.tone_tracking.specs.HeldLists.{HasTaken};
 ghost use Rattle.tone_tracking.specs.HeldTracker.{tone_before};
@@ -11,21 +13,22 @@ use crate::tone_tracker::ToneTracker;
 use std::marker::Model;
 use tone_table::Tone;
 
-/// Takes samples one by one, and decides the tone at each place in both lists as soon as the 24 samples from there on
-/// have come. It keeps the last eight samples, the correlations at the last places, and two trackers. It writes each
-/// sample twice, so that the last eight always stand in a row and no sample is moved.
+/// Takes samples one by one, and decides the tone at each place in every list as soon as the 24 samples from there on
+/// have come. It keeps the last eight samples, the correlations at the last places, and a tracker for each list. It
+/// writes each sample twice, so that the last eight always stand in a row and no sample is moved.
 #[derive(Debug, Drop)]
 pub struct ToneLists {
     count: u64,
-    samples: [i16; 16],
+    samples: [i32; 16],
     recent: [Correlations; 32],
+    alone: ToneTracker,
     near: ToneTracker,
     far: ToneTracker,
 }
 
 impl Model for ToneLists {
-    ghost use Rattle.std.specs.Prelude.{◌≡◌};
-    ghost use Rattle.tone_tracking.specs.declared.reach.Reach.TheVariants.{Near, Far};
+    ghost use Rattle.std.specs.Prelude.{◌≡◌, ◌≤◌, unsigned_abs};
+    ghost use Rattle.tone_tracking.specs.declared.reach.Reach.TheVariants.{Alone, Near, Far};
     ghost use Rattle.tone_tracking.specs.Heard.{places_in};
     ghost use Rattle.std.specs.List.{All};
     ghost use Rattle.tone_tracking.specs.Correlation.{AreWithin};
@@ -37,11 +40,13 @@ impl Model for ToneLists {
       count = s.count;
       samples = s.samples;
       recent = s.recent;
+      alone = s.alone;
       near = s.near;
       far = s.far;
     } };
 
-    ghost invariant = { λ s. All AreWithin s.recent × (s.near.reach ≡ Near) × (s.far.reach ≡ Far)
+    ghost invariant = { λ s. All (λ sample. unsigned_abs sample ≤ 262144) s.samples × All AreWithin s.recent
+        × (s.alone.reach ≡ Alone) × (s.near.reach ≡ Near) × (s.far.reach ≡ Far) × (s.alone.place ≡ places_in s.count)
         × (s.near.place ≡ places_in s.count) × (s.far.place ≡ places_in s.count) };
 }
 
@@ -55,14 +60,16 @@ impl ToneLists {
             count: 0,
             samples: [0; 16],
             recent: [Correlations::NONE; 32],
+            alone: ToneTracker::new(Reach::Alone),
             near: ToneTracker::new(Reach::Near),
             far: ToneTracker::new(Reach::Far),
         }
     }
 
     /// Takes a sample, and says whether a place was decided.
-    pub fn push(&mut self, sample: i16) -> bool
-        requires { self.old.count < 2 ^ 48 }
+    pub fn push(&mut self, sample: i32) -> bool
+        requires room { self.old.count < 2 ^ 48 }
+        requires sample { unsigned_abs sample ≤ 262144 }
         ensures has_taken { (x : List ℤ) → HasTaken self.old x → self.old.count < length x
             → sample ≡ slice_index_or x self.old.count (pos 0) → HasTaken self.new x }
         ensures decided { IsTrue result ↔ (23 ≤ self.old.count) }
@@ -83,6 +90,7 @@ impl ToneLists {
         }
         let now = self.recent[((count - 24) % 32) as usize];
         let next = self.recent[((count - 16) % 32) as usize];
+        self.alone.decide(Reach::Alone, &now, &next, &later);
         self.near.decide(Reach::Near, &now, &next, &later);
         self.far.decide(Reach::Far, &now, &next, &later);
         true
@@ -96,6 +104,7 @@ impl ToneLists {
             ≡ tone_before (heard reach x) (places_in self.now.count) back }
     {
         match reach {
+            Reach::Alone => self.alone.tone_before(back),
             Reach::Near => self.near.tone_before(back),
             Reach::Far => self.far.tone_before(back),
         }
@@ -103,9 +112,11 @@ impl ToneLists {
 }
 
 /// Eight samples in a row, from one of them on.
-fn eight_from(samples: &[i16; 16], first: usize) -> &[i16; 8]
-    requires { first ≤ 8 }
-    ensures { (i : ℕ) → i < 8 → slice_index_or result.now i (pos 0) ≡ slice_index_or samples.now (first + i) (pos 0) }
+fn eight_from(samples: &[i32; 16], first: usize) -> &[i32; 8]
+    requires first { first ≤ 8 }
+    requires small { All (λ sample. unsigned_abs sample ≤ 262144) samples.now }
+    ensures small { All (λ sample. unsigned_abs sample ≤ 262144) result.now }
+    ensures samples { (i : ℕ) → i < 8 → slice_index_or result.now i (pos 0) ≡ slice_index_or samples.now (first + i) (pos 0) }
 {
     samples[first..].first_chunk().unwrap()
 }

@@ -32,7 +32,7 @@ impl Model for ToneTracker {
 
     ghost view = { λ s. record { reach = s.reach; place = s.place; pasts = s.pasts; recent = s.recent } };
 
-    ghost invariant = { λ s. All (IsWithin 200000000) s.pasts };
+    ghost invariant = { λ s. All (IsWithin 1190000000) s.pasts };
 }
 
 impl ToneTracker {

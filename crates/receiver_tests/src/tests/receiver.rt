@@ -1,4 +1,4 @@
-//! A receiver over a ring, with the eight lanes alone and with all 23.
+//! A receiver over a ring, with the eight lanes alone and with all 26.
 
 ghost use Rattle.std.specs.Prelude.{◌≡◌, length as count};
 
@@ -135,7 +135,7 @@ fn a_frame_in_noise_is_heard_by_the_added_lanes_alone(rt: HostRuntime) -> Result
     assert_hears(&rt, rt.alloc(), false, &clean, &[(1294, 6)])?;
     assert_hears(&rt, rt.alloc(), true, &clean, &[(1294, 6)])?;
     assert_hears(&rt, rt.alloc(), false, &noisy, &[])?;
-    assert_hears(&rt, rt.alloc(), true, &noisy, &[(1295, 15)])?;
+    assert_hears(&rt, rt.alloc(), true, &noisy, &[(1295, 18)])?;
     Ok(())
 }
 
@@ -161,7 +161,7 @@ fn assert_starts_anew<R: Abort + Threads + Sync>(
     let places = receiver.heard(rt, alloc, rest)?;
     assert_equal(rt, &places.len(), &0);
     let places = receiver.heard(rt, alloc, noisy)?;
-    assert_equal(rt, &places.as_slice(), &[(1360 + 1295, 11)].as_slice());
+    assert_equal(rt, &places.as_slice(), &[(1360 + 1295, 18)].as_slice());
     Ok(())
 }
 

@@ -17,17 +17,24 @@ use tnc_base::OutOfMemory;
 
 /// The ends and lanes of what the added lanes hear among noise, in the order in which they hear it.
 const IN_NOISE: [(u64, u8); 7] = [
-    (1295, 15),
     (1296, 8),
     (1297, 9),
+    (1296, 17),
     (1295, 18),
-    (1296, 20),
-    (1295, 21),
     (1296, 22),
+    (1297, 20),
+    (1296, 21),
 ];
 
 /// The same of a sender whose clock is a hundredth slow.
-const SLOW: [(u64, u8); 5] = [(1308, 16), (1307, 17), (1306, 18), (1308, 20), (1308, 22)];
+const SLOW: [(u64, u8); 6] = [
+    (1308, 16),
+    (1307, 17),
+    (1306, 18),
+    (1308, 20),
+    (1308, 22),
+    (1307, 25),
+];
 
 /// What the added lanes hear of samples in which the eight lanes hear nothing.
 fn heard_by_added<R: Abort>(
@@ -66,7 +73,7 @@ fn assert_one_item<R: Abort + Threads + Sync>(
 ) -> Result<(), OutOfMemory>
     requires { count samples.now < 2 ^ 32 }
 {
-    for length in [1, 7, 23, 24, 25, 96, 2048] {
+    for length in [1, 7, 15, 16, 38, 39, 40, 96, 2048] {
         let items = items_in_blocks::<SensitiveDecoder, _>(rt, alloc, samples, length, None)?;
         assert_equal(
             rt,
@@ -82,7 +89,7 @@ fn they_are_one_item_in_blocks_of_any_length(rt: HostRuntime) -> Result<(), Fail
     let sent = transmission(&rt, rt.alloc())?;
     let noisy = in_noise(rt.alloc(), &sent)?;
     assert!(rt; noisy.len() < 2000);
-    assert_one_item(&rt, rt.alloc(), &noisy, (1295, 15))?;
+    assert_one_item(&rt, rt.alloc(), &noisy, (1295, 18))?;
     let slow = slow(rt.alloc(), &sent)?;
     assert!(rt; slow.len() < 2000);
     assert_one_item(&rt, rt.alloc(), &slow, (1306, 18))?;
@@ -105,7 +112,7 @@ fn given_and_held<R: Threads + Sync>(
     Ok((given, decoder.held()))
 }
 
-/// Ends the test unless the item of a transmission and silence comes when 18 samples follow its end.
+/// Ends the test unless the item of a transmission and silence comes when 33 samples follow its end.
 fn assert_item_comes<R: Abort + Threads + Sync>(
     rt: &R,
     decoder: &mut SensitiveDecoder,
@@ -115,7 +122,7 @@ fn assert_item_comes<R: Abort + Threads + Sync>(
     requires begins { decoder.old.position ≡ 0 }
     requires unfinished { decoder.old.finished ≡ false }
 {
-    let (first, rest) = samples.split_at(1311);
+    let (first, rest) = samples.split_at(1326);
     let (next, last) = rest.split_at(1);
     let (given, _) = given_and_held(rt, decoder, first)?;
     assert_equal(rt, &given, &0);
@@ -129,7 +136,7 @@ fn assert_item_comes<R: Abort + Threads + Sync>(
 }
 
 #[test]
-fn an_item_comes_when_18_samples_follow_its_end(rt: HostRuntime) -> Result<(), Fail> {
+fn an_item_comes_when_33_samples_follow_its_end(rt: HostRuntime) -> Result<(), Fail> {
     let mut samples = transmission(&rt, rt.alloc())?;
     samples.extend_from_slice(&[0; SILENCE])?;
     assert!(rt; samples.len() == 1360);

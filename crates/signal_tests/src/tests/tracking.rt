@@ -2,7 +2,7 @@
 
 use crate::tests::assertions::assert_equal;
 use crate::tests::letters::letter;
-use tone_tracking::{BitClock, Pull, Reach, ToneLists};
+use tone_tracking::{BitClock, MeanRemover, Pull, Reach, ToneLists};
 
 /// The first fourteen bits of a transmission, and noise as loud as it.
 const SAMPLES: [i16; 112] = [
@@ -25,6 +25,10 @@ const NEAR: &[u8; 89] =
 const FAR: &[u8; 89] =
     b"SSSSSSSSSSSSSSSSSSSSSSSSSSSSSSSSSSSSSSSSSSSSSSSSSSSSSMMMMMMMMSSSSSSSSSSSSSSSSSSSSSSSSSSSS";
 
+/// The tones of windows that are decided alone.
+const ALONE: &[u8; 89] =
+    b"SSSSSSSSSSSSSSSSSSSMMMSSSSSSSSSSSMSMMMSSSSSMSSSSSSSSSMSSSSMMMSSSSSSSSSSSSMSMSSSSSSSSSSSSS";
+
 /// Where a slow clock on the first list reads bits.
 const SLOW: &[u8; 89] =
     b"....1.......1.......1.......1.......1.......1.......1.......1.......1.......1.......1....";
@@ -32,6 +36,22 @@ const SLOW: &[u8; 89] =
 /// Where a fast one does.
 const FAST: &[u8; 89] =
     b"....1.......1.......1.......1.........1.......1.......1......1......1.......1.......1....";
+
+/// Where a slow clock on the last list does.
+const SLOW_ALONE: &[u8; 89] =
+    b"....1.......1.......1.......1........1.......1.......1.......1......1........1.......1...";
+
+/// The samples without their mean, in quarters.
+const LEVELS: [i32; 97] = [
+    -42970, 41818, 5306, -25380, -19350, -9075, -5775, 4957, -76727, 7407, 79177, -11661, -36166,
+    -21183, 37988, -20606, -21355, -18485, 76985, -695, -9312, -4865, 48392, 79737, -15398, -37465,
+    -23022, -6688, 11603, -40430, -29597, 71456, 22709, -32978, -28310, -34906, 64431, 45346,
+    -1110, -8582, 11892, -6091, -56006, 399, 75894, 11645, -25465, -62323, -3376, 2883, 36655,
+    -64852, -27940, 22511, 27600, -16258, -71494, -46369, 20576, 86300, -6010, -22982, 36689,
+    -30893, 9334, 10673, 49153, -22168, -60950, -48940, 51046, 48084, -69950, 16779, 39161, 3995,
+    -41040, -1993, 18275, 76792, 35625, -34409, -34569, 47908, 38788, -39232, -67451, 49083, 25169,
+    -10951, -62310, -27774, 42575, 20843, -10202, -30534, 15521,
+];
 
 fn mark(read: bool) -> u8 {
     if read { b'1' } else { b'.' }
@@ -42,23 +62,42 @@ fn tones_and_readings_in_noise_are_those_of_a_second_program(rt: HostRuntime) {
     let mut lists = ToneLists::new();
     let mut slow = BitClock::new(Pull::Slow);
     let mut fast = BitClock::new(Pull::Fast);
+    let mut slow_alone = BitClock::new(Pull::Slow);
     for (index, sample) in SAMPLES.iter().enumerate() {
-        let decided = lists.push(*sample);
+        let decided = lists.push(i32::from(*sample));
         assert_equal(&rt, &(index, decided), &(index, index >= 23));
         if index >= 23 {
             let place = index - 23;
             assert!(rt; place < 89);
             let near = lists.tone_before(Reach::Near, 0);
             let far = lists.tone_before(Reach::Far, 0);
-            let tones = (letter(near), letter(far));
-            let readings = (mark(slow.step(near)), mark(fast.step(near)));
-            let wanted_tones = (NEAR[place], FAR[place]);
-            let wanted_readings = (SLOW[place], FAST[place]);
+            let alone = lists.tone_before(Reach::Alone, 0);
+            let tones = (letter(near), letter(far), letter(alone));
+            let readings = (
+                mark(slow.step(near)),
+                mark(fast.step(near)),
+                mark(slow_alone.step(alone)),
+            );
+            let wanted_tones = (NEAR[place], FAR[place], ALONE[place]);
+            let wanted_readings = (SLOW[place], FAST[place], SLOW_ALONE[place]);
             assert_equal(
                 &rt,
                 &(place, tones, readings),
                 &(place, wanted_tones, wanted_readings),
             );
         }
+    }
+}
+
+#[test]
+fn samples_without_their_mean_are_those_of_a_second_program(rt: HostRuntime) {
+    let mut remover = MeanRemover::new();
+    for (index, sample) in SAMPLES.iter().enumerate() {
+        let want = if index < 15 {
+            None
+        } else {
+            LEVELS.get(index - 15).copied()
+        };
+        assert_equal(&rt, &(index, remover.push(*sample)), &(index, want));
     }
 }

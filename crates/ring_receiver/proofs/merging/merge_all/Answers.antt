@@ -10,7 +10,7 @@ returns-clause-heard c = λ goes before now h b.
     (c.in_ok-put_all.ensures.stands_for puts given stands))
     c.mark_each.ensures.stands_for
     (c.mark_each.ensures.marks goes
-    ∙ ap (λ (p : ℕ). c.args.positions.now ++ replicate 15 p) c.saturating_sub.ensures)
+    ∙ ap (λ (p : ℕ). c.args.positions.now ++ replicate 18 p) c.saturating_sub.ensures)
     c.take_ready.ensures.marks c.in_ok-ready.ensures.ready
 
 pub returns-clause-rest : goal.returns-clause-rest

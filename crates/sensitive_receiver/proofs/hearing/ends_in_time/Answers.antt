@@ -1,4 +1,4 @@
-use Rattle.sensitive_receiver.proofs.Common.{◌≡◌, ◌∙◌, sym, true, false, not, ◌&&◌, changes, places_in}
+use Rattle.sensitive_receiver.proofs.Common.{◌≡◌, ◌∙◌, sym, true, false, not, ◌&&◌, changes, places_in, without_mean}
 use Rattle.sensitive_receiver.proofs.LaneLemmas.{in_time_told}
 use Rattle.sensitive_receiver.proofs.hearing.ends_in_time.Goals as goal
 
@@ -10,8 +10,8 @@ returns-then-has_changed c = λ x place taken last.
     ∙ in_time_told x c.args.number place
     (places_in c.args.lists.now.count) c.delay_of-delay.result c.list_of-list.result
     c.tone_before-tone.result c.tone_before-one_before.result c.tone_before-two_before.result
-    (c.tone_before-tone.ensures x taken) (c.tone_before-one_before.ensures x taken)
-    (c.tone_before-two_before.ensures x taken)
+    (c.tone_before-tone.ensures (without_mean x) taken) (c.tone_before-one_before.ensures (without_mean x) taken)
+    (c.tone_before-two_before.ensures (without_mean x) taken)
     c.list_of-list.ensures last c.delay_of-delay.ensures.delay
 
 pub returns-else-has_changed : goal.returns-else-has_changed
@@ -23,6 +23,6 @@ returns-else-has_changed c = λ x place taken last.
     ∙ in_time_told x c.args.number place
     (places_in c.args.lists.now.count) c.delay_of-delay.result c.list_of-list.result
     c.tone_before-tone.result c.tone_before-one_before.result c.tone_before-two_before.result
-    (c.tone_before-tone.ensures x taken) (c.tone_before-one_before.ensures x taken)
-    (c.tone_before-two_before.ensures x taken)
+    (c.tone_before-tone.ensures (without_mean x) taken) (c.tone_before-one_before.ensures (without_mean x) taken)
+    (c.tone_before-two_before.ensures (without_mean x) taken)
     c.list_of-list.ensures last c.delay_of-delay.ensures.delay

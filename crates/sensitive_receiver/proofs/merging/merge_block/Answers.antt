@@ -1,6 +1,7 @@
 use Rattle.sensitive_receiver.proofs.Common.{◌≡◌, ℕ, ◌+◌, ◌<◌, ◌^◌, List, ◌++◌, ◌∙◌, ap, sym, length, length-append}
 use Rattle.sensitive_receiver.proofs.Common.{replicate, arith, get_or, Candidate, settled}
-use Rattle.std.proofs.lemmas.List.{get_or-replicate}
+use Rattle.sensitive_receiver.proofs.Common.{subst}
+use Rattle.std.proofs.lemmas.List.{get_or-replicate, length-replicate}
 use Rattle.sensitive_receiver.proofs.DecoderLemmas.{block_gives}
 use Rattle.sensitive_receiver.proofs.merging.merge_block.Goals as goal
 
@@ -9,11 +10,11 @@ returns-clause-given c = λ old new before after x y size more heard read h.
     let len : length (x ++ y) ≡ c.args.position + c.args.count = length-append x y ∙ ap (λ n. n + length y) size
     ∙ ap (λ n. c.args.position + n) more in
     let room : length (x ++ y) < 2 ^ 48 = (let r = c.requires.room in omega arith) in
-    let many : length c.put_all-2.new.merger.marks ≡ 23 = ap length
+    let many : length c.put_all-2.new.merger.marks ≡ 26 = ap length
     (c.in_ok-put_all-2.ensures.marks ∙ c.in_ok-put_all.ensures.marks ∙ c.requires.marks) in
-    let marks : c.mark_all.new.self.marks ≡ replicate 23 (settled (length (x ++ y)))
+    let marks : c.mark_all.new.self.marks ≡ replicate 26 (settled (length (x ++ y)))
     = c.mark_all.ensures.marks ∙ ap (λ n. replicate n c.saturating_sub.result) many
-    ∙ ap (replicate 23) (c.saturating_sub.ensures ∙ ap settled (sym len)) in
+    ∙ ap (replicate 26) (c.saturating_sub.ensures ∙ ap settled (sym len)) in
     block_gives x y old new before after c.args.merger.now c.mark_all.new.self c.take_ready.new.self c.args.found.items
     c.args.added.items c.in_ok-ready.ready.items
     room h heard read
@@ -29,5 +30,18 @@ put_all-requires-2-clause-in_time c = λ k d l.
     let end = (c.requires.late k d l).end in
     let mark : get_or c.put_all.new.merger.marks item.offset 0 ≡ settled c.args.position =
     ap (λ (m : List ℕ). get_or m item.offset 0) (c.in_ok-put_all.ensures.marks ∙ c.requires.marks)
-    ∙ get_or-replicate 23 item.offset (settled c.args.position) 0 lane in
+    ∙ get_or-replicate 26 item.offset (settled c.args.position) 0 lane in
     omega arith
+
+-- the marks only rise
+pub mark_all-requires : goal.mark_all-requires
+mark_all-requires c = record {
+  position = λ k d l.
+      let marks : c.put_all-2.new.merger.marks ≡ replicate 26 (settled c.args.position)
+      = c.in_ok-put_all-2.ensures.marks ∙ c.in_ok-put_all.ensures.marks ∙ c.requires.marks in
+      let few : k < 26 = subst (λ n. k < n) (ap length marks ∙ length-replicate 26 (settled c.args.position)) l in
+      let mark : get_or c.put_all-2.new.merger.marks k d ≡ settled c.args.position
+      = ap (λ m. get_or m k d) marks ∙ get_or-replicate 26 k (settled c.args.position) d few in
+      let now = c.saturating_sub.ensures in
+      omega arith;
+}

@@ -1,11 +1,11 @@
 use Rattle.tone_tracking.proofs.Common.{◌≡◌, ℕ, ◌+◌, ◌*◌, ◌<◌, ◌≤◌, ℤ, pos, negsuc, ◌+ℤ◌, ◌-ℤ◌, neg_ℤ, List, [], ◌∷◌}
 use Rattle.tone_tracking.proofs.Common.{length, map, get_or, unsigned_abs, to_z, of_z, w32, w64, FitsSigned, refl, sym}
 use Rattle.tone_tracking.proofs.Common.{subst, ap, ◌∙◌, arith, ints, All, Mark, Space, sum_below, product_of}
-use Rattle.tone_tracking.proofs.Common.{unsigned_abs-product, weight, correlation, AreSmall, in_pairs}
+use Rattle.tone_tracking.proofs.Common.{weight, correlation, AreSmall, in_pairs}
 use Rattle.tone_tracking.proofs.Common.{pairs_of_products, IsWithin}
 use Rattle.tone_table.specs.Sine.{quarter, half_wave, cycle_sample, wave_sample}
 use Rattle.tone_tracking.proofs.CorrelationLemmas.{sum-product_at}
-use Rattle.tone_tracking.proofs.LaneLemmas.{lane, lane_is, passed_below, four_small}
+use Rattle.tone_tracking.proofs.LaneLemmas.{lane, lane_is, passed_below, four_small, product_size}
 use Rattle.tone_tracking.proofs.correlation.correlate.Goals as goal
 
 -- the weights of both tones, a sixth of a turn on and as they are
@@ -43,12 +43,12 @@ two_small_sum : (a b : ℤ) (k l : ℕ) → unsigned_abs a ≤ k → unsigned_ab
 two_small_sum a b k l one two = omega (arith, ints)
 
 -- the products of small samples and weights
-module _ (window weights : List ℤ) (small : (k : ℕ) → k < 8 → unsigned_abs (get_or window k (pos 0)) ≤ 32768) where
+module _ (window weights : List ℤ) (small : (k : ℕ) → k < 8 → unsigned_abs (get_or window k (pos 0)) ≤ 262144) where
   abbrev size : ℕ → ℕ
-  size k = 32768 * unsigned_abs (get_or weights k (pos 0))
+  size k = 262144 * unsigned_abs (get_or weights k (pos 0))
 
   product_small : (k : ℕ) → k < 8 → unsigned_abs (product_of window weights k) ≤ size k
-  product_small k below = unsigned_abs-product (get_or window k (pos 0)) (get_or weights k (pos 0)) (small k below)
+  product_small k below = product_size 262144 (get_or window k (pos 0)) (get_or weights k (pos 0)) (small k below)
 
   in_halves_small : unsigned_abs (in_halves (product_of window weights))
       ≤ ((size 0 + size 1) + (size 2 + size 3)) + ((size 4 + size 5) + (size 6 + size 7))
@@ -72,8 +72,8 @@ sums_of window =
 abbrev passed : List ℤ → List ℤ
 passed xs = map (to_z w32) (map (of_z w32) xs)
 
-module _ (window : List ℤ) (long : length window ≡ 8) (small : All (λ sample. unsigned_abs sample ≤ 32768) window) where
-  each : (k : ℕ) → k < 8 → unsigned_abs (get_or window k (pos 0)) ≤ 32768
+module _ (window : List ℤ) (long : length window ≡ 8) (small : All (λ sample. unsigned_abs sample ≤ 262144) window) where
+  each : (k : ℕ) → k < 8 → unsigned_abs (get_or window k (pos 0)) ≤ 262144
   each k below = small k (pos 0) (omega (arith, long))
 
   -- each of the four is small
@@ -82,43 +82,43 @@ module _ (window : List ℤ) (long : length window ≡ 8) (small : All (λ sampl
       + (size window weights each 2 + size window weights each 3))
       + ((size window weights each 4 + size window weights each 5)
       + (size window weights each 6 + size window weights each 7)) ≡ n
-      → n ≤ 19660800 → unsigned_abs (in_halves (product_of window weights)) ≤ 19660800
+      → n ≤ 148111360 → unsigned_abs (in_halves (product_of window weights)) ≤ 148111360
   of_table weights n is most = omega (arith, in_halves_small window weights each, is, most)
 
-  first : unsigned_abs (in_halves (product_of window mark_on)) ≤ 19660800
-  first = of_table mark_on 17039360 refl (omega arith)
+  first : unsigned_abs (in_halves (product_of window mark_on)) ≤ 148111360
+  first = of_table mark_on 136314880 refl (omega arith)
 
-  second : unsigned_abs (in_halves (product_of window mark_at)) ≤ 19660800
-  second = of_table mark_at 15859712 refl (omega arith)
+  second : unsigned_abs (in_halves (product_of window mark_at)) ≤ 148111360
+  second = of_table mark_at 126877696 refl (omega arith)
 
-  third : unsigned_abs (in_halves (product_of window space_on)) ≤ 19660800
-  third = of_table space_on 18513920 refl (omega arith)
+  third : unsigned_abs (in_halves (product_of window space_on)) ≤ 148111360
+  third = of_table space_on 148111360 refl (omega arith)
 
-  fourth : unsigned_abs (in_halves (product_of window space_at)) ≤ 19660800
-  fourth = of_table space_at 15663104 refl (omega arith)
+  fourth : unsigned_abs (in_halves (product_of window space_at)) ≤ 148111360
+  fourth = of_table space_at 125304832 refl (omega arith)
 
-  sums_small : AreSmall 19660800 (sums_of window)
+  sums_small : AreSmall 148111360 (sums_of window)
   sums_small =
-      four_small 19660800 (in_halves (product_of window mark_on)) (in_halves (product_of window mark_at))
+      four_small 148111360 (in_halves (product_of window mark_on)) (in_halves (product_of window mark_at))
       (in_halves (product_of window space_on)) (in_halves (product_of window space_at)) first second third fourth
 
   came : passed window ≡ window
-  came = passed_below 32768 (omega arith) window small
+  came = passed_below 262144 (omega arith) window small
 
   -- what the vectors hold is the four sums
-  sums_are : (mark space result : List ℤ) → AreSmall 80000000 mark → AreSmall 80000000 space
+  sums_are : (mark space result : List ℤ) → AreSmall 640000000 mark → AreSmall 640000000 space
       → mark ≡ in_pairs (pairs_of_products (passed window) mark_on) (pairs_of_products (passed window) mark_at)
       → space ≡ in_pairs (pairs_of_products (passed window) space_on) (pairs_of_products (passed window) space_at)
       → result ≡ in_pairs (passed mark) (passed space) → passed result ≡ sums_of window
   sums_are mark space result mark_small space_small mark_is space_is is =
       let one : passed mark ≡ in_pairs (pairs_of_products window mark_on) (pairs_of_products window mark_at)
-      = passed_below 80000000 (omega arith) mark mark_small.small ∙ mark_is
+      = passed_below 640000000 (omega arith) mark mark_small.small ∙ mark_is
       ∙ ap (λ xs. in_pairs (pairs_of_products xs mark_on) (pairs_of_products xs mark_at)) came in
       let two : passed space ≡ in_pairs (pairs_of_products window space_on) (pairs_of_products window space_at)
-      = passed_below 80000000 (omega arith) space space_small.small ∙ space_is
+      = passed_below 640000000 (omega arith) space space_small.small ∙ space_is
       ∙ ap (λ xs. in_pairs (pairs_of_products xs space_on) (pairs_of_products xs space_at)) came in
       let whole : result ≡ sums_of window = is ∙ (λ i. in_pairs (one i) (two i)) in
-      ap passed whole ∙ passed_below 19660800 (omega arith) (sums_of window) sums_small.small
+      ap passed whole ∙ passed_below 148111360 (omega arith) (sums_of window) sums_small.small
 
 -- a sum over the samples of a window
 of_window : (x w weights : List ℤ) → x ≡ w → in_halves (product_of x weights) ≡ sum_below (product_of w weights) 8
@@ -127,27 +127,27 @@ of_window x w weights lanes =
 
 -- ---- a sum as it is given back
 
-kept : (z y wide : ℤ) → unsigned_abs z ≤ 19660800 → y ≡ z → wide ≡ lane y → to_z w64 (of_z w64 wide) ≡ z
+kept : (z y wide : ℤ) → unsigned_abs z ≤ 148111360 → y ≡ z → wide ≡ lane y → to_z w64 (of_z w64 wide) ≡ z
 kept z y wide bound same is =
     let value : wide ≡ z = is ∙ ap lane same ∙ lane_is z (omega arith) in
     omega (arith, ints)
 
 -- and one that was turned round first
-turned : (z y wide : ℤ) → unsigned_abs z ≤ 19660800 → y ≡ z → wide ≡ lane (pos 0 -ℤ lane y)
+turned : (z y wide : ℤ) → unsigned_abs z ≤ 148111360 → y ≡ z → wide ≡ lane (pos 0 -ℤ lane y)
     → to_z w64 (of_z w64 wide) ≡ neg_ℤ z
 turned z y wide bound same is =
-    let small : unsigned_abs (pos 0 -ℤ z) ≤ 1000000000 = omega (arith, ints) in
+    let small : unsigned_abs (pos 0 -ℤ z) ≤ 2000000000 = omega (arith, ints) in
     let value : wide ≡ pos 0 -ℤ z
     = is ∙ ap (λ x. lane (pos 0 -ℤ x)) (ap lane same ∙ lane_is z (omega arith)) ∙ lane_is (pos 0 -ℤ z) small in
     omega (arith, ints)
 
-turn_fits : (z y : ℤ) → unsigned_abs z ≤ 19660800 → y ≡ z → FitsSigned w32 (pos 0 -ℤ lane y)
+turn_fits : (z y : ℤ) → unsigned_abs z ≤ 148111360 → y ≡ z → FitsSigned w32 (pos 0 -ℤ lane y)
 turn_fits z y bound same =
     let value : lane y ≡ z = ap lane same ∙ lane_is z (omega arith) in
     omega (arith, ints)
 
-within : (x y first second : ℤ) → unsigned_abs x ≤ 19660800 → unsigned_abs y ≤ 19660800 → first ≡ x
-    → second ≡ neg_ℤ y → IsWithin 40000000 (record { a = first; b = second })
+within : (x y first second : ℤ) → unsigned_abs x ≤ 148111360 → unsigned_abs y ≤ 148111360 → first ≡ x
+    → second ≡ neg_ℤ y → IsWithin 297000000 (record { a = first; b = second })
 within x y first second small large is turned_is =
     record { first = omega (arith, ints); second = omega (arith, ints); both = omega (arith, ints) }
 
@@ -155,29 +155,29 @@ within x y first second small large is turned_is =
 
 pub half_sums-mark-requires-clause-samples : goal.half_sums-mark-requires-clause-samples
 half_sums-mark-requires-clause-samples c =
-    let samples = c.widened-samples in
-    subst (All (λ sample. unsigned_abs sample ≤ 32768))
-    (sym (passed_below 32768 (omega arith) samples.result samples.ensures.bound)) samples.ensures.bound
+    let samples = c.vector_of-samples in
+    subst (All (λ sample. unsigned_abs sample ≤ 262144))
+    (sym (passed_below 262144 (omega arith) samples.result samples.ensures.bound)) samples.ensures.bound
 
 pub half_sums-space-requires-clause-samples : goal.half_sums-space-requires-clause-samples
 half_sums-space-requires-clause-samples c =
-    let samples = c.widened-samples in
-    subst (All (λ sample. unsigned_abs sample ≤ 32768))
-    (sym (passed_below 32768 (omega arith) samples.result samples.ensures.bound)) samples.ensures.bound
+    let samples = c.vector_of-samples in
+    subst (All (λ sample. unsigned_abs sample ≤ 262144))
+    (sym (passed_below 262144 (omega arith) samples.result samples.ensures.bound)) samples.ensures.bound
 
 pub in_pairs-requires-clause-first : goal.in_pairs-requires-clause-first
 in_pairs-requires-clause-first c =
     let bound = c.half_sums-mark.ensures.bound in
-    subst (AreSmall 80000000) (sym (passed_below 80000000 (omega arith) c.half_sums-mark.result bound.small)) bound
+    subst (AreSmall 640000000) (sym (passed_below 640000000 (omega arith) c.half_sums-mark.result bound.small)) bound
 
 pub in_pairs-requires-clause-second : goal.in_pairs-requires-clause-second
 in_pairs-requires-clause-second c =
     let bound = c.half_sums-space.ensures.bound in
-    subst (AreSmall 80000000) (sym (passed_below 80000000 (omega arith) c.half_sums-space.result bound.small)) bound
+    subst (AreSmall 640000000) (sym (passed_below 640000000 (omega arith) c.half_sums-space.result bound.small)) bound
 
 pub overflow_sub-sums : goal.overflow_sub-sums
 overflow_sub-sums c =
-    let s = c.widened-samples in
+    let s = c.vector_of-samples in
     let x = s.result in
     let is = sums_are x s.ensures.length s.ensures.bound c.half_sums-mark.result c.half_sums-space.result
     c.in_pairs.result
@@ -188,7 +188,7 @@ overflow_sub-sums c =
 
 pub overflow_sub-sums-2 : goal.overflow_sub-sums-2
 overflow_sub-sums-2 c =
-    let s = c.widened-samples in
+    let s = c.vector_of-samples in
     let x = s.result in
     let is = sums_are x s.ensures.length s.ensures.bound c.half_sums-mark.result c.half_sums-space.result
     c.in_pairs.result
@@ -200,7 +200,7 @@ overflow_sub-sums-2 c =
 pub returns-clause-sums : goal.returns-clause-sums
 unfolding correlation weight wave_sample cycle_sample half_wave quarter
 returns-clause-sums c =
-    let s = c.widened-samples in
+    let s = c.vector_of-samples in
     let x = s.result in
     let l = s.ensures.length in
     let b = s.ensures.bound in
@@ -224,7 +224,7 @@ returns-clause-sums c =
 
 pub returns-clause-bound : goal.returns-clause-bound
 returns-clause-bound c =
-    let s = c.widened-samples in
+    let s = c.vector_of-samples in
     let x = s.result in
     let l = s.ensures.length in
     let b = s.ensures.bound in

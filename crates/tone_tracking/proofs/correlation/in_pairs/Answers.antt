@@ -4,8 +4,8 @@ use Rattle.tone_tracking.proofs.correlation.in_pairs.Goals as goal
 
 pub overflow_add-result : goal.overflow_add-result
 overflow_add-result c =
-    let x = lane_small 80000000 c.args.first c.requires.first in
-    let y = lane_small 80000000 c.args.second c.requires.second in
+    let x = lane_small 640000000 c.args.first c.requires.first in
+    let y = lane_small 640000000 c.args.second c.requires.second in
     let at = λ (zs : List ℤ) (k : ℕ). get_or zs k (pos 0) in
     let a = c.args.first in
     let b = c.args.second in
@@ -24,8 +24,8 @@ pub returns : goal.returns
 returns c =
     let xs = c.args.first in
     let ys = c.args.second in
-    let x = lane_small 80000000 xs c.requires.first in
-    let y = lane_small 80000000 ys c.requires.second in
+    let x = lane_small 640000000 xs c.requires.first in
+    let y = lane_small 640000000 ys c.requires.second in
     let one : lane (lane (get_or xs 0 (pos 0)) +ℤ lane (get_or xs 1 (pos 0)))
     ≡ get_or xs 0 (pos 0) +ℤ get_or xs 1 (pos 0)
     = sum_is (get_or xs 0 (pos 0)) (get_or xs 1 (pos 0)) (x 0 (omega arith)) (x 1 (omega arith)) in

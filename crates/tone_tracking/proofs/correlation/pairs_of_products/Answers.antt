@@ -7,7 +7,7 @@ use Rattle.tone_tracking.proofs.LaneLemmas.{four_small}
 use Rattle.tone_tracking.proofs.correlation.pairs_of_products.Goals as goal
 
 -- eight samples and their weights
-module _ (samples weights : List ℤ) (small : (k : ℕ) → k < 8 → unsigned_abs (get_or samples k (pos 0)) ≤ 32768)
+module _ (samples weights : List ℤ) (small : (k : ℕ) → k < 8 → unsigned_abs (get_or samples k (pos 0)) ≤ 262144)
     (light : (k : ℕ) → k < 8 → unsigned_abs (get_or weights k (pos 0)) ≤ 600) where
   abbrev x : ℕ → ℤ
   x k = get_or samples k (pos 0)
@@ -31,15 +31,15 @@ module _ (samples weights : List ℤ) (small : (k : ℕ) → k < 8 → unsigned_
       (small (k + 1) (omega arith))
       (light (k + 1) (omega arith))
 
-  pair_small_at : (k : ℕ) → k < 7 → unsigned_abs (product_pair samples weights k) ≤ 40000000
+  pair_small_at : (k : ℕ) → k < 7 → unsigned_abs (product_pair samples weights k) ≤ 320000000
   pair_small_at k below =
       pair_small (x k) (w k) (x (k + 1)) (w (k + 1)) (small k (omega arith)) (light k (omega arith))
       (small (k + 1) (omega arith))
       (light (k + 1) (omega arith))
 
-  pairs_small : AreSmall 40000000 (pairs_of_products samples weights)
+  pairs_small : AreSmall 320000000 (pairs_of_products samples weights)
   pairs_small =
-      four_small 40000000 (product_pair samples weights 0) (product_pair samples weights 2)
+      four_small 320000000 (product_pair samples weights 0) (product_pair samples weights 2)
       (product_pair samples weights 4) (product_pair samples weights 6) (pair_small_at 0 (omega arith))
       (pair_small_at 2 (omega arith)) (pair_small_at 4 (omega arith)) (pair_small_at 6 (omega arith))
 
@@ -49,7 +49,7 @@ overflow_mul-products c =
     let weights = c.args.weights.now in
     let long = c.requires.length in
     let wide = c.told-weights in
-    let small : (k : ℕ) → k < 8 → unsigned_abs (get_or samples k (pos 0)) ≤ 32768
+    let small : (k : ℕ) → k < 8 → unsigned_abs (get_or samples k (pos 0)) ≤ 262144
     = λ k below. c.requires.samples k (pos 0) (omega arith) in
     let light : (k : ℕ) → k < 8 → unsigned_abs (get_or weights k (pos 0)) ≤ 600
     = λ k below. omega (arith, get_or-le-sum_by unsigned_abs weights k (pos 0) (omega arith), c.requires.weights) in
@@ -80,7 +80,7 @@ overflow_add-result c =
     let weights = c.args.weights.now in
     let long = c.requires.length in
     let wide = c.told-weights in
-    let small : (k : ℕ) → k < 8 → unsigned_abs (get_or samples k (pos 0)) ≤ 32768
+    let small : (k : ℕ) → k < 8 → unsigned_abs (get_or samples k (pos 0)) ≤ 262144
     = λ k below. c.requires.samples k (pos 0) (omega arith) in
     let light : (k : ℕ) → k < 8 → unsigned_abs (get_or weights k (pos 0)) ≤ 600
     = λ k below. omega (arith, get_or-le-sum_by unsigned_abs weights k (pos 0) (omega arith), c.requires.weights) in
@@ -94,7 +94,7 @@ returns-clause-pairs c =
     let weights = c.args.weights.now in
     let long = c.requires.length in
     let wide = c.told-weights in
-    let small : (k : ℕ) → k < 8 → unsigned_abs (get_or samples k (pos 0)) ≤ 32768
+    let small : (k : ℕ) → k < 8 → unsigned_abs (get_or samples k (pos 0)) ≤ 262144
     = λ k below. c.requires.samples k (pos 0) (omega arith) in
     let light : (k : ℕ) → k < 8 → unsigned_abs (get_or weights k (pos 0)) ≤ 600
     = λ k below. omega (arith, get_or-le-sum_by unsigned_abs weights k (pos 0) (omega arith), c.requires.weights) in
@@ -111,9 +111,9 @@ returns-clause-bound c =
     let weights = c.args.weights.now in
     let long = c.requires.length in
     let wide = c.told-weights in
-    let small : (k : ℕ) → k < 8 → unsigned_abs (get_or samples k (pos 0)) ≤ 32768
+    let small : (k : ℕ) → k < 8 → unsigned_abs (get_or samples k (pos 0)) ≤ 262144
     = λ k below. c.requires.samples k (pos 0) (omega arith) in
     let light : (k : ℕ) → k < 8 → unsigned_abs (get_or weights k (pos 0)) ≤ 600
     = λ k below. omega (arith, get_or-le-sum_by unsigned_abs weights k (pos 0) (omega arith), c.requires.weights) in
-    subst (AreSmall 40000000) (sym (returns-clause-pairs c))
+    subst (AreSmall 320000000) (sym (returns-clause-pairs c))
     (pairs_small samples weights small light)

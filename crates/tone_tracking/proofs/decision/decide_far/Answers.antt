@@ -6,8 +6,8 @@ use Rattle.tone_tracking.proofs.decision.decide_far.Goals as goal
 
 pub loudest_far-space-requires-clause-from : goal.loudest_far-space-requires-clause-from
 loudest_far-space-requires-clause-from c =
-    within_more 240000000 300000000 _ (turned_back_within 240000000 Space _ _ c.turned_back.ensures
-    (sum_within 200000000 40000000 _ _ _ c.plus-2.ensures c.requires.past c.requires.now.space)) (omega arith)
+    within_more 1487000000 1490000000 _ (turned_back_within 1487000000 Space _ _ c.turned_back.ensures
+    (sum_within 1190000000 297000000 _ _ _ c.plus-2.ensures c.requires.past c.requires.now.space)) (omega arith)
 
 pub returns : goal.returns
 returns c =

@@ -6,8 +6,8 @@ use Rattle.tone_tracking.proofs.decision.loudest_far.Goals as goal
 
 pub loudest_near-space-requires-clause-from : goal.loudest_near-space-requires-clause-from
 loudest_near-space-requires-clause-from c =
-    within_more 340000000 400000000 _ (turned_back_within 340000000 Space _ _ c.turned_back.ensures
-    (sum_within 300000000 40000000 _ _ _ c.plus-2.ensures c.requires.from c.requires.next.space)) (omega arith)
+    within_more 1787000000 1790000000 _ (turned_back_within 1787000000 Space _ _ c.turned_back.ensures
+    (sum_within 1490000000 297000000 _ _ _ c.plus-2.ensures c.requires.from c.requires.next.space)) (omega arith)
 
 pub returns : goal.returns
 returns c =

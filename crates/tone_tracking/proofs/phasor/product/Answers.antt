@@ -4,12 +4,12 @@ use Rattle.tone_tracking.proofs.PhasorLemmas.{product_bound}
 use Rattle.tone_tracking.proofs.phasor.product.Goals as goal
 
 -- a product of parts as it is passed and given back
-product_is : (x y : ℤ) → unsigned_abs x ≤ 1000000000 → unsigned_abs y ≤ 1000000000
+product_is : (x y : ℤ) → unsigned_abs x ≤ 2100000000 → unsigned_abs y ≤ 2100000000
     → to_z w64 (of_z w64 (to_z w64 (of_z w64 x) *ℤ to_z w64 (of_z w64 y))) ≡ x *ℤ y
 product_is x y a b =
     let fits_x : FitsSigned w64 x = omega (arith, ints) in
     let fits_y : FitsSigned w64 y = omega (arith, ints) in
-    let bound : unsigned_abs (x *ℤ y) ≤ 1000000000000000000 = product_bound 1000000000 x y a b in
+    let bound : unsigned_abs (x *ℤ y) ≤ 4410000000000000000 = product_bound 2100000000 x y a b in
     let fits : FitsSigned w64 (x *ℤ y) = omega (arith, ints) in
     simp to_z-of_z
 
@@ -18,6 +18,6 @@ returns-clause-value c = product_is c.args.part c.args.other c.requires.part c.r
 
 pub returns-clause-bound : goal.returns-clause-bound
 returns-clause-bound c =
-    subst (λ z. unsigned_abs z ≤ 1000000000000000000)
+    subst (λ z. unsigned_abs z ≤ 4410000000000000000)
     (sym (product_is c.args.part c.args.other c.requires.part c.requires.other))
-    (product_bound 1000000000 c.args.part c.args.other c.requires.part c.requires.other)
+    (product_bound 2100000000 c.args.part c.args.other c.requires.part c.requires.other)

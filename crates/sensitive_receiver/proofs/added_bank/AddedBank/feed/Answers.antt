@@ -9,7 +9,7 @@ pub loop-sample-init : goal.loop-sample-init
 loop-sample-init c = record {
   fed = subst (λ items. HasFed c.args.self.now c.args.self.now c.args.block.now items 0) (sym c.new-found.ensures.items)
       (fed_none c.args.self.now c.args.block.now);
-  bounds = (let P : Candidate → Type 0 = HasRoomFrom (c.args.self.now.position - 17) in
+  bounds = (let P : Candidate → Type 0 = HasRoomFrom (c.args.self.now.position - 32) in
       subst (All P) (sym c.new-found.ensures.items) (All-nil P));
 }
 
@@ -26,7 +26,7 @@ loop-sample-preserved c =
           (λ x taken inside is. c.in_ok-take.ensures.has_taken x taken inside (to_z-of_z w16 sample fits ∙ is))
           (λ x taken inside is. c.in_ok-take.ensures.found x taken inside (to_z-of_z w16 sample fits ∙ is));
       bounds = (let at = c.loop-sample.invariant.fed.position in
-          c.in_ok-take.ensures.bounds (c.args.self.now.position - 17) (omega arith) c.loop-sample.invariant.bounds);
+          c.in_ok-take.ensures.bounds (c.args.self.now.position - 32) (omega arith) c.loop-sample.invariant.bounds);
     }
 
 pub returns-clause-found : goal.returns-clause-found
@@ -38,10 +38,10 @@ returns-clause-found c =
 
 pub returns-clause-bounds : goal.returns-clause-bounds
 returns-clause-bounds c =
-    All-weaker (HasRoomFrom (c.args.self.now.position - 17)) HasRoom (λ item fits. fits.room) c.loop-sample.found.items
+    All-weaker (HasRoomFrom (c.args.self.now.position - 32)) HasRoom (λ item fits. fits.room) c.loop-sample.found.items
     c.loop-sample.invariant.bounds
 
 pub returns-clause-late : goal.returns-clause-late
 returns-clause-late c =
-    All-weaker (HasRoomFrom (c.args.self.now.position - 17)) (IsAddedFrom (c.args.self.now.position - 17))
+    All-weaker (HasRoomFrom (c.args.self.now.position - 32)) (IsAddedFrom (c.args.self.now.position - 32))
     (λ item fits. fits.from) c.loop-sample.found.items c.loop-sample.invariant.bounds

@@ -4,13 +4,13 @@ use Rattle.tone_tracking.proofs.PhasorLemmas.{size-sum}
 use Rattle.tone_tracking.proofs.phasor.Phasor.size.Goals as goal
 
 -- a part as it is passed
-part_is : (x : ℤ) → unsigned_abs x ≤ 1000000000 → to_z w64 (of_z w64 x) ≡ x
+part_is : (x : ℤ) → unsigned_abs x ≤ 2100000000 → to_z w64 (of_z w64 x) ≡ x
 part_is x small =
     let fits : FitsSigned w64 x = omega (arith, ints) in
     to_z-of_z w64 x fits
 
 -- both parts added, as they are passed
-both_is : (p : Phasor) → IsWithin 1000000000 p
+both_is : (p : Phasor) → IsWithin 2100000000 p
     → to_z w64 (of_z w64 (to_z w64 (of_z w64 p.a) +ℤ to_z w64 (of_z w64 p.b))) ≡ p.a +ℤ p.b
 both_is p within =
     ap (λ z. to_z w64 (of_z w64 z))
@@ -18,7 +18,7 @@ both_is p within =
     ∙ part_is (p.a +ℤ p.b) within.both
 
 -- a difference as it is given back
-difference_is : (x y : ℤ) → unsigned_abs x ≤ 1000000000000000000 → unsigned_abs y ≤ 1000000000000000000
+difference_is : (x y : ℤ) → unsigned_abs x ≤ 4410000000000000000 → unsigned_abs y ≤ 4410000000000000000
     → to_z w64 (of_z w64 (to_z w64 (of_z w64 x) -ℤ to_z w64 (of_z w64 y))) ≡ x -ℤ y
 difference_is x y a b = omega (arith, ints)
 
@@ -27,11 +27,11 @@ less x y z is = omega (arith, ints)
 
 pub product-requires-clause-part : goal.product-requires-clause-part
 product-requires-clause-part c =
-    subst (λ z. unsigned_abs z ≤ 1000000000) (sym (both_is c.args.self c.requires)) c.requires.both
+    subst (λ z. unsigned_abs z ≤ 2100000000) (sym (both_is c.args.self c.requires)) c.requires.both
 
 pub product-requires-clause-other : goal.product-requires-clause-other
 product-requires-clause-other c =
-    subst (λ z. unsigned_abs z ≤ 1000000000) (sym (both_is c.args.self c.requires)) c.requires.both
+    subst (λ z. unsigned_abs z ≤ 2100000000) (sym (both_is c.args.self c.requires)) c.requires.both
 
 pub returns : goal.returns
 returns c =

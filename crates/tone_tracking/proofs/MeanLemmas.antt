@@ -1,0 +1,148 @@
+-- Samples without their mean: those that the samples settle, and those with a sample more.
+use Rattle.tone_tracking.proofs.Common.{◌≡◌, ℕ, ◌+◌, ◌-◌, ◌<◌, ◌≤◌, ℤ, pos, ◌-ℤ◌, ◌*ℤ◌, List, [], ◌∷◌, length, map}
+use Rattle.tone_tracking.proofs.Common.{get_or, set, replicate, refl, ap, sym, ◌∙◌, arith, sum_below, inl, inr, cases_lt}
+use Rattle.std.proofs.Common.{◌++◌, append_assoc, append-nil, drop, take, length-append, length-drop}
+use Rattle.std.proofs.Common.{get_or-append-add}
+use Rattle.std.specs.Int.{int_div_euclid}
+use Rattle.std.specs.List.{copy_within, range_with_len}
+use Rattle.std.proofs.lemmas.List.{drop-append-le, drop-drop, get_or-drop, get_or_append_left, length-replicate, length_push, length-set, take-append-drop}
+use Rattle.std.proofs.lemmas.List.{take_all, take_more_set}
+use Rattle.std.proofs.lemmas.List.Edits.{take-paste}
+use Rattle.std.proofs.lemmas.List.FromFn.{fill_by_all, get_or-map-range_with_len, length-map-range_with_len}
+use Rattle.std.proofs.lemmas.List.FromFn.{map-range_with_len_more}
+use Rattle.offset_slicers.proofs.DecisionLemmas.{sum_below-agree}
+unfoldable use Rattle.tone_tracking.specs.WithoutMean.{sum_around}
+use Rattle.tone_tracking.specs.WithoutMean.{without_mean, without_mean_at, without_mean_first}
+use Rattle.tone_tracking.specs.HeldMean.{last_samples}
+
+abbrev zeros : ℕ → List ℤ
+zeros n = replicate n (pos 0)
+
+abbrev pub sum_of_first : List ℤ → ℕ → ℤ
+sum_of_first samples count = sum_below (λ j. get_or samples j (pos 0)) count
+
+-- ---- what is kept
+
+pub length-last_samples : (x : List ℤ) → length (last_samples x) ≡ 32
+length-last_samples x = omega (
+  arith,
+  length-drop (length x) (zeros 32 ++ x),
+  length-append (zeros 32) x,
+  length-replicate 32 (pos 0),
+)
+
+-- with one sample more
+pub last_samples-push : (x : List ℤ) (sample : ℤ) → last_samples (x ++ sample ∷ [])
+    ≡ drop 1 (last_samples x) ++ sample ∷ []
+last_samples-push x sample =
+    let inside : length x ≤ length (zeros 32 ++ x) = omega (arith, length-append (zeros 32) x) in
+    let some : 1 ≤ length (last_samples x) = omega (arith, length-last_samples x) in
+    ap (λ n. drop n (zeros 32 ++ (x ++ sample ∷ []))) (length_push x sample)
+    ∙ ap (λ l. drop (length x + 1) l) (sym (append_assoc (zeros 32) x (sample ∷ [])))
+    ∙ sym (drop-drop 1 (length x) ((zeros 32 ++ x) ++ sample ∷ []))
+    ∙ ap (drop 1) (drop-append-le (length x) (zeros 32 ++ x) (sample ∷ []) inside)
+    ∙ drop-append-le 1 (last_samples x) (sample ∷ []) some
+
+-- the last 31 moved to the front, and a new one after them
+pub slid : (samples moved : List ℤ) (sample : ℤ) → length samples ≡ 32 → length moved ≡ length samples
+    → moved ≡ copy_within samples 1 32 0 → set moved 31 sample ≡ drop 1 samples ++ sample ∷ []
+slid samples moved sample whole same is =
+    let size = length-set moved 31 sample in
+    let rest : length (drop 1 samples) ≡ 31 = omega (arith, length-drop 1 samples) in
+    sym (take_all 32 (set moved 31 sample) (omega arith))
+    ∙ take_more_set moved 31 sample (omega arith)
+    ∙ ap (λ w. take 31 w ++ sample ∷ []) is
+    ∙ ap (λ w. w ++ sample ∷ []) (take-paste samples 0 (drop 1 samples) 31 (omega arith) (omega arith))
+    ∙ ap (λ w. w ++ sample ∷ []) (take_all 31 (drop 1 samples) (omega arith))
+
+-- a place of what is kept
+kept_place : (u : List ℤ) (n i : ℕ) → length u ≡ n + 16 → get_or (last_samples u) i (pos 0)
+    ≡ get_or (zeros 16 ++ u) (n + i) (pos 0)
+kept_place u n i size =
+    let at : length u + i ≡ length (zeros 16) + (n + i) = omega (arith, length-replicate 16 (pos 0)) in
+    get_or-drop (length u) (zeros 32 ++ u) i (pos 0)
+    ∙ ap (λ l. get_or l (length u + i) (pos 0)) (append_assoc (zeros 16) (zeros 16) u)
+    ∙ ap (λ k. get_or (zeros 16 ++ (zeros 16 ++ u)) k (pos 0)) at
+    ∙ get_or-append-add (zeros 16) (zeros 16 ++ u) (n + i) (pos 0)
+
+kept_sum : (u : List ℤ) (n : ℕ) → length u ≡ n + 16
+    → sum_below (λ j. get_or (last_samples u) j (pos 0)) 32 ≡ sum_around u n
+unfolding sum_around
+kept_sum u n size = sum_below-agree (λ j. get_or (last_samples u) j (pos 0)) (λ j. get_or (zeros 16 ++ u) (n + j) (pos 0))
+    32 (λ i below. kept_place u n i size)
+
+kept_middle : (u : List ℤ) (n : ℕ) → length u ≡ n + 16 → get_or (last_samples u) 16 (pos 0) ≡ get_or u n (pos 0)
+kept_middle u n size =
+    let at : n + 16 ≡ length (zeros 16) + n = omega (arith, length-replicate 16 (pos 0)) in
+    kept_place u n 16 size ∙ ap (λ k. get_or (zeros 16 ++ u) k (pos 0)) at ∙ get_or-append-add (zeros 16) u n (pos 0)
+
+-- ---- more samples
+
+-- more samples do not change what is fifteen samples before the end
+at_stays : (x y : List ℤ) (n : ℕ) → n + 16 ≤ length x → without_mean_at (x ++ y) n ≡ without_mean_at x n
+unfolding sum_around
+at_stays x y n inside =
+    let front = length-append (zeros 16) x in
+    let zero = length-replicate 16 (pos 0) in
+    let sum = sum_below-agree (λ j. get_or (zeros 16 ++ (x ++ y)) (n + j) (pos 0))
+    (λ j. get_or (zeros 16 ++ x) (n + j) (pos 0)) 32
+    (λ j below. ap (λ l. get_or l (n + j) (pos 0)) (sym (append_assoc (zeros 16) x y))
+    ∙ get_or_append_left (zeros 16 ++ x) y (pos 0) (n + j) (omega arith)) in
+    let sample = get_or_append_left x y (pos 0) n (omega arith) in
+    λ i. pos 4 *ℤ sample i -ℤ int_div_euclid (sum i) (pos 8)
+
+first_stays : (count : ℕ) (x y : List ℤ) → count ≤ length x - 15
+    → without_mean_first count (x ++ y) ≡ without_mean_first count x
+first_stays count x y few =
+    fill_by_all (without_mean_at x) (without_mean_first count (x ++ y)) count (pos 0)
+    (length-map-range_with_len (without_mean_at (x ++ y)) 0 count)
+    (λ n below. get_or-map-range_with_len (without_mean_at (x ++ y)) 0 count n n (pos 0) below (omega arith)
+    ∙ at_stays x y n (omega arith))
+
+pub length-without_mean : (x : List ℤ) → length (without_mean x) ≡ length x - 15
+length-without_mean x = length-map-range_with_len (without_mean_at x) 0 (length x - 15)
+
+pub without_mean-none : (x : List ℤ) (sample : ℤ) → length x < 15
+    → without_mean (x ++ sample ∷ []) ≡ without_mean x ++ []
+without_mean-none x sample few =
+    let none : length x - 15 ≡ 0 = omega arith in
+    let still : length (x ++ sample ∷ []) - 15 ≡ 0 = omega (arith, length_push x sample) in
+    ap (λ n. without_mean_first n (x ++ sample ∷ [])) still
+    ∙ ap (λ n. without_mean_first n x) (sym none)
+    ∙ sym (append-nil (without_mean x))
+
+pub without_mean-more : (x : List ℤ) (sample given : ℤ) → 15 ≤ length x
+    → given ≡ pos 4 *ℤ get_or (last_samples (x ++ sample ∷ [])) 16 (pos 0)
+    -ℤ int_div_euclid (sum_below (λ j. get_or (last_samples (x ++ sample ∷ [])) j (pos 0)) 32) (pos 8)
+    → without_mean (x ++ sample ∷ []) ≡ without_mean x ++ given ∷ []
+without_mean-more x sample given enough is =
+    let all : List ℤ = x ++ sample ∷ [] in
+    let n : ℕ = length x - 15 in
+    let more : length all - 15 ≡ n + 1 = omega (arith, length_push x sample) in
+    let size : length all ≡ n + 16 = omega (arith, length_push x sample) in
+    let middle = kept_middle all n size in
+    let sum = kept_sum all n size in
+    let here : without_mean_at all n ≡ given
+    = sym (is ∙ (λ i. pos 4 *ℤ middle i -ℤ int_div_euclid (sum i) (pos 8))) in
+    ap (λ k. without_mean_first k all) more
+    ∙ map-range_with_len_more (without_mean_at all) 0 n n (omega arith)
+    ∙ ap (λ l. l ++ without_mean_at all n ∷ []) (first_stays n x (sample ∷ []) (omega arith))
+    ∙ ap (λ z. without_mean x ++ z ∷ []) here
+
+-- So samples without their mean begin those of more samples, a sample at a time.
+pub without_mean_begins : (x y : List ℤ) → (rest : List ℤ) × (without_mean (x ++ y) ≡ without_mean x ++ rest)
+without_mean_begins x [] = ([], ap without_mean (append-nil x) ∙ sym (append-nil (without_mean x)))
+without_mean_begins x (sample ∷ y) =
+    let whole : (x ++ sample ∷ []) ++ y ≡ x ++ sample ∷ y = append_assoc x (sample ∷ []) y in
+    let later = without_mean_begins (x ++ sample ∷ []) y in
+    let first = one_more x sample in (
+      first.0 ++ later.0,
+      sym (ap without_mean whole) ∙ later.1 ∙ ap (λ l. l ++ later.0) first.1
+          ∙ append_assoc (without_mean x) first.0 later.0,
+    )
+  where
+    one_more : (x : List ℤ) (sample : ℤ) → (rest : List ℤ) × (without_mean (x ++ sample ∷ []) ≡ without_mean x ++ rest)
+    one_more x sample = elim (cases_lt (length x) 15) [
+      | inl few ↦ ([], without_mean-none x sample few)
+      | inr enough ↦ (_ ∷ [], without_mean-more x sample _ enough refl)
+    ]

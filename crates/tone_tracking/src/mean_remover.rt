@@ -1,0 +1,94 @@
+//! Samples without their mean: what an offset of a sound card or a hum adds to the tones is taken out.
+//!
+//! Mark runs one whole cycle in a window of eight samples, and space 11/6. So a constant gives nothing as mark, but a part
+//! of it as space: if it is louder than the tones, every window is space. A mean over 32 samples, four bits, takes out
+//! constants and what changes slowly, and of both tones so little that it is not missed.
+
+ghost use Rattle.std.specs.Prelude.{◌≡◌, ◌≤◌, ℤ, pos, ◌-ℤ◌, ◌*ℤ◌, List, [], ◌∷◌, ◌++◌, IfSome, drop, slice_index_or};
+ghost use Rattle.std.specs.Prelude.{◌-◌, ◌<◌, IsNone, IsSome, unsigned_abs};
+ghost use Rattle.std.specs.Int.{int_div_euclid};
+ghost use Rattle.std.specs.Option.{option_to_list};
+ghost use Rattle.offset_slicers.specs.Decision.{sum_below};
+ghost use Rattle.tone_tracking.specs.WithoutMean.{without_mean};
+ghost use Rattle.tone_tracking.specs.HeldMean.{StandsFor};
+
+use std::marker::Model;
+
+/// How many samples past its own place the mean of a sample asks for.
+const AHEAD: u8 = 15;
+
+/// Takes samples one by one, and gives each without its mean, in quarters, as soon as fifteen more have come. It keeps
+/// the last 32.
+#[derive(Debug, Drop)]
+pub struct MeanRemover {
+    samples: [i16; 32],
+    left: u8,
+}
+
+impl Model for MeanRemover {
+    ghost use Rattle.tone_tracking.specs.HeldMean.{HeldMean};
+
+    ghost Value = { HeldMean };
+
+    ghost view = { λ s. record { samples = s.samples; left = s.left } };
+}
+
+impl MeanRemover {
+    /// A remover that has taken nothing.
+    pub fn new() -> MeanRemover
+        ensures { StandsFor result [] }
+    {
+        MeanRemover {
+            samples: [0; 32],
+            left: AHEAD,
+        }
+    }
+
+    /// Takes a sample, and gives the one that it settles: none as long as fewer than sixteen have come.
+    pub fn push(&mut self, sample: i16) -> Option<i32>
+        ensures stands_for { (x : List ℤ) → StandsFor self.old x → StandsFor self.new (x ++ sample ∷ []) }
+        ensures settled { (x : List ℤ) → StandsFor self.old x
+            → without_mean (x ++ sample ∷ []) ≡ without_mean x ++ option_to_list result }
+        ensures bound { IfSome result (λ level. unsigned_abs level ≤ 262144) }
+        ensures left { self.new.left ≡ self.old.left - 1 }
+        ensures some { IsSome result → self.old.left ≡ 0 }
+        ensures none { IsNone result → 0 < self.old.left }
+    {
+        self.take(sample);
+        if self.left > 0 {
+            self.left -= 1;
+            return None;
+        }
+        Some(less_mean(self.samples[16], sum(&self.samples)))
+    }
+
+    /// Takes a sample in place of the first of the last 32.
+    fn take(&mut self, sample: i16)
+        ensures samples { self.new.samples ≡ drop 1 self.old.samples ++ sample ∷ [] }
+        ensures left { self.new.left ≡ self.old.left }
+    {
+        self.samples.copy_within(1..32, 0);
+        self.samples[31] = sample;
+    }
+}
+
+/// The sum of 32 samples.
+fn sum(samples: &[i16; 32]) -> i32
+    ensures sum { result ≡ sum_below (λ j. slice_index_or samples.now j (pos 0)) 32 }
+    ensures bound { unsigned_abs result ≤ 1048576 }
+{
+    let mut sum = 0;
+    for i in 0..32 {
+        sum += i32::from(samples[i]);
+    }
+    sum
+}
+
+/// Four times a sample, less four times the mean of 32 that have a sum.
+fn less_mean(sample: i16, sum: i32) -> i32
+    requires { unsigned_abs sum ≤ 1048576 }
+    ensures value { result ≡ pos 4 *ℤ sample -ℤ int_div_euclid sum (pos 8) }
+    ensures bound { unsigned_abs result ≤ 262144 }
+{
+    4 * i32::from(sample) - sum.div_euclid(8)
+}
