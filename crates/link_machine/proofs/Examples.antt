@@ -1,7 +1,7 @@
 -- Worked examples of the link's step, by computation.
 use Rattle.link_machine.proofs.Common.{Path, Command, Kind, Info, Super, Setup, Other, Rr, Rej, Srej, Sabm, Sabme, Ua}
 use Rattle.link_machine.proofs.Common.{Dm, Disc, Frmr, Packet, Mode, ahead, missing, Opened, Given, Ended, Asked, Failed}
-use Rattle.link_machine.proofs.Common.{Params, Machine, Sent, SentIn, all_sent_in, InfoSent, SuperSent, SetupSent, Turn}
+use Rattle.link_machine.proofs.Common.{Idle, Releasing, Params, Machine, Sent, SentIn, all_sent_in, InfoSent, SuperSent, SetupSent, Turn}
 use Rattle.link_machine.proofs.Common.{begin, Event, step, Connect, Send, Disconnect, Hear, Tick, Seize, Told}
 use Rattle.std.specs.List.{range_with_len}
 use Rattle.std.specs.Prelude.{◌≡◌, ℕ, Bool, true, false, List, [], ◌∷◌, ◌++◌, map, fold, replicate, Some, None, refl}
@@ -9,6 +9,7 @@ use Rattle.ax25_address.specs.declared.path.Role.{Role}
 use Rattle.ax25_address.specs.declared.path.Role.TheVariants.{Response}
 use Rattle.selective_reject.specs.declared.window.Mode.TheVariants.{Rej as RejMode, Srej as SrejMode}
 use Rattle.link_machine.specs.Machine.{new_machine, t1_ticks}
+use Rattle.link_machine.specs.Params.{default_params}
 use Rattle.link_machine.specs.Wants.{wants}
 use Rattle.link_machine.specs.declared.acts.Why.TheVariants.{Refused}
 
@@ -33,7 +34,7 @@ abbrev after : List Event → Machine → Machine
 after events m = (along events m).now
 
 abbrev params_of : Mode → Bool → Params
-params_of mode wide = record { mode = mode; window = 4; wide = wide; wide_window = 32 }
+params_of mode wide = record { mode = mode; window = 4; wide = wide; wide_mode = mode; wide_window = 32 }
 
 -- the same path without repeaters
 abbrev direct : Path → Path
@@ -350,6 +351,39 @@ pub is_released :
 unfolding step
 is_released p = refl
 
+-- asked for again it gives them up: DISC goes out at once, and nothing waits
+abbrev asked_again_to_quit : Path → List Event
+asked_again_to_quit p = opened p ++ given 6 ++ turns 1 ++ Disconnect ∷ Disconnect ∷ []
+
+pub gives_packets_up :
+    (p : Path) → let turn = from_new p RejMode (asked_again_to_quit p) in
+    (turn.sent ≡ eight (SetupSent Disc true ∷ [])) × (turn.now.outgoing.packets ≡ [])
+    × (turn.now.control.state ≡ Releasing)
+unfolding step missing
+gives_packets_up p = (refl, refl, refl)
+
+-- a call is taken back at once, with DM, which ends what the other side may have opened
+pub withdraws :
+    (p : Path) → let turn = from_new p RejMode (Connect ∷ given 2 ++ Disconnect ∷ []) in
+    (turn.sent ≡ eight (SetupSent Dm false ∷ [])) × (turn.told ≡ Ended Asked ∷ []) × (turn.now.control.state ≡ Idle)
+unfolding step
+withdraws p = (refl, refl, refl)
+
+-- a wide call in its modulus
+pub withdraws_wide :
+    (p : Path) → (from_wide p RejMode (Connect ∷ Disconnect ∷ [])).sent ≡ wide (SetupSent Dm false ∷ [])
+unfolding step
+withdraws_wide p = refl
+
+-- a transmission of four I frames of no link has one answer, as the last polls
+pub answers_the_poll :
+    (p : Path) →
+    sent_along (info p 0 0 false ∷ info p 1 0 false ∷ info p 2 0 false ∷ info p 3 0 true ∷ [])
+    (new_machine (direct p) (params_of RejMode false))
+    ≡ eight (SetupSent Dm true ∷ [])
+unfolding step
+answers_the_poll p = refl
+
 -- a call without an answer is repeated ten times in 54 seconds: four times every two, then every four, four, six, six,
 -- eight and eight, and ten seconds after the last it has failed
 pub gives_up : (p : Path) → (from_new p RejMode (Connect ∷ replicate 5400 (Tick false))).told ≡ Ended Failed ∷ []
@@ -398,6 +432,25 @@ t3_stays_off p = refl
 pub calls_wide : (p : Path) → (from_wide p RejMode (Connect ∷ [])).sent ≡ wide (SetupSent Sabme true ∷ [])
 unfolding step
 calls_wide p = refl
+
+-- if nothing else is said, lost frames are asked for by REJ modulo 8 and by SREJ modulo 128
+abbrev by_default : Path → Bool → List Event → Mode
+by_default p wide events =
+    (run_on events (begin (new_machine (direct p) (record default_params { wide = wide })))).now.incoming.mode
+
+pub asks_by_modulus :
+    (p : Path) → (by_default p false (Connect ∷ []) ≡ RejMode) × (by_default p true (Connect ∷ []) ≡ SrejMode)
+    × (by_default p false (hears p Command (Setup Sabme true) ∷ []) ≡ SrejMode)
+    × (by_default p true (hears p Command (Setup Sabm true) ∷ []) ≡ RejMode)
+unfolding step
+asks_by_modulus p = (refl, refl, refl, refl)
+
+-- and a wide call that goes on modulo 8 asks as there
+pub asks_narrow :
+    (p : Path) → (by_default p true (Connect ∷ hears p Response (Setup Dm true) ∷ []) ≡ RejMode)
+    × (by_default p true (Connect ∷ replicate 800 (Tick false)) ≡ RejMode)
+unfolding step
+asks_narrow p = (refl, refl)
 
 -- FRMR in reply: SABM goes out, and UA opens the link modulo 8
 abbrev refused_wide : Path → List Event

@@ -11,3 +11,4 @@ pub mod Asking
 pub mod Giving
 pub mod Informing
 pub mod Noticing
+pub mod Leaving

@@ -10,7 +10,8 @@ use Rattle.link_machine.proofs.Common.{narrowed, in_state, is_wide, is_valid, na
 use Rattle.link_machine.proofs.Common.{all_sent_in, sent_frame, InfoSent, SuperSent, SetupSent, Turn, Act, begin}
 use Rattle.link_machine.proofs.Common.{changing, setting, sending, telling, acknowledged, nothing_due, gone_back}
 use Rattle.link_machine.proofs.Common.{recover, polling, releasing, close, calling, reset, owing, with_rej, run_with}
-use Rattle.link_machine.proofs.Common.{give, stored, watching, send_again, falls_back, heard, quitting, answer_dm}
+use Rattle.link_machine.proofs.Common.{Asked, disconnect_in, give, quit_up, quitting}
+use Rattle.link_machine.proofs.Common.{stored, watching, send_again, falls_back, heard, answer_dm}
 use Rattle.link_machine.proofs.Common.{stopped_t1, end_call, stopped, leave, open_called, unretried_call, hear_idle}
 use Rattle.link_machine.proofs.Common.{hear_calling_in, hear_releasing, hear_rr, hear_rnr, hear_rej}
 use Rattle.link_machine.proofs.Common.{acknowledged_by_srej, hear_srej, take_in_sequence, hear_info_by_rej}
@@ -247,8 +248,10 @@ keeps_idle command (Setup Sabme flag) t h = keeps_open_called 128 (inr refl) fla
 keeps_idle command (Setup Disc flag) t h = keeps_dm flag t h
 keeps_idle command (Setup Dm flag) t h = h
 keeps_idle command (Setup Ua flag) t h = h
-keeps_idle command (Info ns nr flag pid octets) t h = keeps_dm flag t h
-keeps_idle true (Super which nr flag) t h = keeps_dm flag t h
+keeps_idle command (Info ns nr true pid octets) t h = keeps_dm true t h
+keeps_idle command (Info ns nr false pid octets) t h = h
+keeps_idle true (Super which nr true) t h = keeps_dm true t h
+keeps_idle true (Super which nr false) t h = h
 keeps_idle false (Super which nr flag) t h = h
 keeps_idle command (Ui flag pid octets) t h = h
 keeps_idle command (Other which flag octets) t h = h
@@ -533,6 +536,18 @@ taken_is_short false false fault n e = ltb-false 256 n (by (nat_lt 256 n) e)
     by true f = absurd (false≢true (sym f))
     by false f = refl
 
+-- a disconnect
+keeps_quit_up : Keeps quit_up
+keeps_quit_up t h =
+    sound_if t.now.control.quit _ _ (keeps_release _ (keeps_changing emptied sound_emptied t h))
+    (keeps_setting quitting t h)
+
+keeps_disconnect_in : (state : LinkState) → Keeps (disconnect_in state)
+keeps_disconnect_in Idle t h = h
+keeps_disconnect_in Calling t h = keeps_end_call Asked _ (keeps_dm false t h)
+keeps_disconnect_in Up t h = keeps_quit_up t h
+keeps_disconnect_in Releasing t h = h
+
 sound_begin : (m : Machine) → IsSound m → Sound (begin m)
 sound_begin m h = record { now = h; sent = All-nil CanSend }
 
@@ -548,7 +563,7 @@ keeps_row (Send packet) m free h =
       now = record { modulus = h.modulus; short = All-push IsShort m.outgoing.packets packet h.short short };
       sent = All-nil CanSend;
     }
-keeps_row Disconnect m free h = keeps_setting quitting (begin m) (sound_begin m h)
+keeps_row Disconnect m free h = keeps_disconnect_in m.control.state (begin m) (sound_begin m h)
 keeps_row (Hear frame) m free h = keeps_hear_in m.control.state _ frame.kind (begin m) (sound_begin m h)
 keeps_row (Tick still) m free h = keeps_tick_in m.control.state still (begin m) (sound_begin m h)
 keeps_row (Seize last full) m free h = keeps_seize_in m.control.state last full (begin m) (sound_begin m h)

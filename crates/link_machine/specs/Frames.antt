@@ -55,15 +55,16 @@ open_called modulus flag = in_order (
 abbrev pub open_answered : Act
 open_answered = in_order (changing fresh ∷ setting (in_state Up) ∷ telling (Opened true) ∷ [])
 
--- Idle: SABM opens in modulus 8, SABME in 128; DISC and numbered commands are answered by DM with F = P
+-- Idle: SABM opens in modulus 8, SABME in 128; DISC is answered by DM with F = P, and a numbered command only if P = 1,
+-- so that a transmission of such frames has one answer
 abbrev pub hear_idle : Bool → Kind → Act
 hear_idle command (Setup Sabm flag) = open_called 8 flag
 hear_idle command (Setup Sabme flag) = open_called 128 flag
 hear_idle command (Setup Disc flag) = answer_dm flag
 hear_idle command (Setup Dm flag) = nothing
 hear_idle command (Setup Ua flag) = nothing
-hear_idle command (Info ns nr flag pid octets) = answer_dm flag
-hear_idle command (Super which nr flag) = if command then answer_dm flag else nothing
+hear_idle command (Info ns nr flag pid octets) = if flag then answer_dm true else nothing
+hear_idle command (Super which nr flag) = if command && flag then answer_dm true else nothing
 hear_idle command (Ui flag pid octets) = nothing
 hear_idle command (Other which flag octets) = nothing
 

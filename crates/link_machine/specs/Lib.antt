@@ -15,3 +15,4 @@ pub mod StandsFor
 pub mod Room
 pub mod Held
 pub mod Timers
+pub mod Asks

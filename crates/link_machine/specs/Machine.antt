@@ -12,7 +12,7 @@ use Rattle.link_machine.specs.declared.state.LinkState.{LinkState}
 use Rattle.link_machine.specs.declared.state.LinkState.TheVariants.{Idle}
 use Rattle.link_machine.specs.declared.control.Control.{Control}
 use Rattle.link_machine.specs.declared.params.Params.{Params}
-use Rattle.link_machine.specs.Params.{window_in, called_modulus}
+use Rattle.link_machine.specs.Params.{window_in, mode_in, called_modulus}
 
 pub record Machine : Type 0 where
   -- from this side to the other
@@ -89,9 +89,12 @@ fresh m = record {
   incoming = cleared m.incoming;
 }
 
--- Numbers are modulo a modulus from here on, with its window. Nothing is stored or asked for, and V(R) is 0.
+-- Numbers are modulo a modulus from here on, with its window, and lost frames are asked for as in that modulus. Nothing
+-- is stored or asked for, and V(R) is 0.
 abbrev pub in_modulus : ℕ → Machine → Machine
-in_modulus modulus m = record m { incoming = empty_incoming modulus (window_in modulus m.params) m.params.mode }
+in_modulus modulus m = record m {
+  incoming = empty_incoming modulus (window_in modulus m.params) (mode_in modulus m.params);
+}
 
 -- a link that is not there has modulus 8
 abbrev pub narrowed : Machine → Machine

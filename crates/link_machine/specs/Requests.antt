@@ -5,12 +5,14 @@ use Rattle.selective_reject.specs.declared.packet.Packet.{Packet}
 use Rattle.selective_reject.specs.Outgoing.{after_push}
 use Rattle.link_machine.specs.declared.state.LinkState.{LinkState}
 use Rattle.link_machine.specs.declared.state.LinkState.TheVariants.{Idle, Calling, Up, Releasing}
+use Rattle.link_machine.specs.declared.acts.Why.TheVariants.{Asked}
 use Rattle.link_machine.specs.declared.fault.LinkFault.{LinkFault}
 use Rattle.link_machine.specs.declared.fault.LinkFault.TheVariants.{WrongState, Full, TooLong}
 use Rattle.link_machine.specs.declared.control.Control.{Control}
-use Rattle.link_machine.specs.Machine.{Machine, fresh, in_own_modulus, most_packets, most_octets}
-use Rattle.link_machine.specs.Turn.{Act, changing, in_order}
-use Rattle.link_machine.specs.Acts.{call}
+use Rattle.link_machine.specs.Machine.{Machine, fresh, emptied, in_own_modulus, most_packets, most_octets}
+use Rattle.link_machine.specs.Turn.{Act, changing, setting, nothing, in_order}
+use Rattle.link_machine.specs.Acts.{call, release}
+use Rattle.link_machine.specs.Frames.{answer_dm, end_call}
 use Rattle.link_machine.specs.Event.{Event}
 use Rattle.link_machine.specs.Event.Event.{Connect, Send, Disconnect, Hear, Tick, Seize}
 
@@ -21,7 +23,7 @@ has_link Calling = true
 has_link Up = true
 has_link Releasing = true
 
--- packets and a disconnect are taken while a link is called or up, until a disconnect was asked for
+-- a disconnect is taken while a link is called or up, and packets are until a disconnect was asked for
 abbrev pub takes_none : LinkState → Bool
 takes_none Idle = true
 takes_none Calling = false
@@ -39,7 +41,7 @@ refusal c count (Send packet) =
     if is_closed c then Some (WrongState c.state c.quit) else
     if nat_le most_packets count then Some Full else
     if nat_lt most_octets (length packet.octets) then Some (TooLong (length packet.octets)) else None
-refusal c count Disconnect = if is_closed c then Some (WrongState c.state c.quit) else None
+refusal c count Disconnect = if takes_none c.state then Some (WrongState c.state c.quit) else None
 refusal c count (Hear frame) = None
 refusal c count (Tick still) = None
 refusal c count (Seize last full) = None
@@ -52,5 +54,25 @@ connect = in_order (changing fresh ∷ changing in_own_modulus ∷ call ∷ [])
 abbrev pub joined : Packet → Machine → Machine
 joined packet m = record m { outgoing = after_push packet m.outgoing }
 
+-- A call is taken back: it ends at once. The other side may have heard it and have a set-up, which DM ends.
+abbrev pub withdraw : Act
+withdraw = in_order (answer_dm false ∷ end_call Asked ∷ [])
+
+-- The link is to be released. The packets that wait go first; if it is asked for again, they are given up.
 abbrev pub quitting : Control → Control
 quitting c = record c { quit = true }
+
+abbrev pub give_up : Act
+give_up = in_order (changing emptied ∷ release ∷ [])
+
+abbrev pub quit_up : Act
+quit_up turn = if turn.now.control.quit then give_up turn else setting quitting turn
+
+abbrev pub disconnect_in : LinkState → Act
+disconnect_in Idle = nothing
+disconnect_in Calling = withdraw
+disconnect_in Up = quit_up
+disconnect_in Releasing = nothing
+
+abbrev pub disconnect : Act
+disconnect turn = disconnect_in turn.now.control.state turn

@@ -8,11 +8,11 @@ use Rattle.link_machine.specs.declared.fault.LinkFault.{LinkFault}
 use Rattle.link_machine.specs.Done.{Done}
 use Rattle.link_machine.specs.Machine.{Machine}
 use Rattle.link_machine.specs.Sent.{sent_frames}
-use Rattle.link_machine.specs.Turn.{Turn, Act, begin, changing, setting, nothing}
+use Rattle.link_machine.specs.Turn.{Turn, Act, begin, changing, nothing}
 use Rattle.link_machine.specs.Acts.{close}
 use Rattle.link_machine.specs.Event.{Event}
 use Rattle.link_machine.specs.Event.Event.{Connect, Send, Disconnect, Hear, Tick, Seize}
-use Rattle.link_machine.specs.Requests.{refusal, connect, joined, quitting}
+use Rattle.link_machine.specs.Requests.{refusal, connect, joined, disconnect}
 use Rattle.link_machine.specs.Frames.{hear}
 use Rattle.link_machine.specs.Ticks.{tick}
 use Rattle.link_machine.specs.Seizing.{seize}
@@ -25,7 +25,7 @@ refusal_of m event = refusal m.control (length m.outgoing.packets) event
 abbrev pub row : Event → Act
 row Connect = connect
 row (Send packet) = changing (joined packet)
-row Disconnect = setting quitting
+row Disconnect = disconnect
 row (Hear frame) = hear (is_command_of frame.path.role frame.kind) frame.kind
 row (Tick still) = tick still
 row (Seize last full) = seize last full

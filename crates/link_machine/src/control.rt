@@ -7,7 +7,7 @@ ghost use Rattle.link_machine.specs.Acts.{timed_by, behind_poll, releasing, call
 ghost use Rattle.link_machine.specs.Wants.{owes, is_asked_again};
 ghost use Rattle.link_machine.specs.Seizing.{notice_passed, polling, info_sent};
 ghost use Rattle.link_machine.specs.Frames.{stopped_t1, stopped, unretried_call, heard, heard_busy, out_of_sequence};
-ghost use Rattle.link_machine.specs.Requests.{has_link, is_closed};
+ghost use Rattle.link_machine.specs.Requests.{has_link, takes_none, is_closed};
 ghost use Rattle.link_machine.specs.Ticks.{retried, is_spent, to_poll, silent};
 
 use crate::state::LinkState;
@@ -94,11 +94,18 @@ impl Control {
         !matches!(self.state, LinkState::Idle)
     }
 
-    /// Whether packets and a disconnect are refused.
+    /// Whether a disconnect is refused.
+    pub(crate) fn takes_none(&self) -> bool
+        ensures { result ≡ takes_none self.now.state }
+    {
+        matches!(self.state, LinkState::Idle | LinkState::Releasing)
+    }
+
+    /// Whether packets are refused.
     pub(crate) fn is_closed(&self) -> bool
         ensures { result ≡ is_closed self.now }
     {
-        matches!(self.state, LinkState::Idle | LinkState::Releasing) || self.quit
+        self.takes_none() || self.quit
     }
 
     /// Nothing is to be sent, no poll awaits its answer, and the other side is not busy.

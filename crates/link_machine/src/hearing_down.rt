@@ -58,9 +58,9 @@ impl Machine {
                 U::Disc => self.send_setup(room, U::Dm, *flag),
                 U::Dm | U::Ua => {}
             },
-            Kind::Info { poll, .. } => self.send_setup(room, U::Dm, *poll),
-            Kind::Super { flag, .. } if command => self.send_setup(room, U::Dm, *flag),
-            Kind::Super { .. } | Kind::Ui { .. } | Kind::Other { .. } => {}
+            Kind::Info { poll, .. } if *poll => self.send_setup(room, U::Dm, *poll),
+            Kind::Super { flag, .. } if command && *flag => self.send_setup(room, U::Dm, *flag),
+            Kind::Info { .. } | Kind::Super { .. } | Kind::Ui { .. } | Kind::Other { .. } => {}
         }
     }
 

@@ -147,7 +147,7 @@ impl Machine {
     }
 
     /// Whether N(R) names a number from V(A) to the top.
-    fn is_valid(&self, nr: u8) -> bool
+    pub(crate) fn is_valid(&self, nr: u8) -> bool
         requires { nr < self.now.incoming.modulus }
         ensures { (m : State) → Holds self.now m → result ≡ is_valid nr m }
     {

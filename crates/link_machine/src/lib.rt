@@ -57,6 +57,9 @@
 //!   SABME is answered by DM while a call modulo 8 is under way.
 //! - A link that is not there counts modulo 8. The frame that ends a set-up is written in the modulus of that set-up.
 //! - A packet that is given while the call is under way belongs to the set-up that follows.
+//! - A disconnect takes a call back at once, with DM, F = 0, for a side that has heard it. A link that is up is released
+//!   once every packet is acknowledged, and at once if the layer above asks again (section 6.3.4).
+//! - A link that is not there answers an I or S frame only with P = 1, so that a transmission has one answer.
 //! - T1 counts silence alone: it stands still while a frame of the link waits or is on the air, and while the channel
 //!   is busy in half duplex, since no answer can be expected then. So it needs no measured round trip (section
 //!   6.7.1.1): it is two seconds and four more for each repeater, and from the fourth retry on a multiple of that.
@@ -71,6 +74,7 @@
 #![tactic(auto)]
 
 mod acts;
+mod asks;
 mod control;
 mod fault;
 mod hearing_down;

@@ -1,6 +1,6 @@
 //! A link, as the layer above sees it.
 ghost use Rattle.std.specs.Prelude.{◌≡◌, ℕ, ◌<◌, ◌⊎◌, ◌↔◌, true, Bool, Ok, Err, Some, OnOk, OnErr, IfOk, IfErr, All};
-ghost use Rattle.std.specs.Prelude.{length};
+ghost use Rattle.std.specs.Prelude.{length, List};
 ghost use Rattle.std.specs.Result.{IsErrOf};
 
 use crate::acts::Acts;
@@ -41,12 +41,15 @@ impl Model for Link {
 }
 
 impl Link {
-    ghost use Rattle.ax25_frames.specs.ControlField.{IsNumbered};
+    ghost use Rattle.ax25_frames.specs.ControlField.{IsNumbered, numbers};
     ghost use Rattle.ax25_frames.specs.FrameOctets.{control_of};
+    ghost use Rattle.ax25_frames.specs.declared.frame.Kind.TheVariants.{Info};
+    ghost use Rattle.ax25_address.specs.declared.path.Path.{Path as AnyPath};
     ghost use Rattle.link_machine.specs.Params.{HasWindows, IsRefusedWindow};
     ghost use Rattle.link_machine.specs.Machine.{Machine as State, new_machine, modulus_named};
     ghost use Rattle.link_machine.specs.Event.Event.{Connect, Send, Disconnect, Hear, Tick, Seize};
     ghost use Rattle.link_machine.specs.Wants.{wants};
+    ghost use Rattle.link_machine.specs.Asks.{asks};
     ghost use Rattle.link_machine.specs.Requests.{refusal};
     ghost use Rattle.link_machine.specs.Sent.{IsWritable};
     ghost use Rattle.link_machine.specs.Step.{step, done_of};
@@ -120,8 +123,9 @@ impl Link {
         Ok(acts)
     }
 
-    /// Asks for the link to be released once every packet is acknowledged. Refused if there is no link, and if it was
-    /// asked for before.
+    /// Takes a call back at once. A link that is up is to be released once every packet is acknowledged; if that is
+    /// asked for again, the packets are given up and it is released at once. Refused if there is no link, and while it
+    /// is released.
     pub fn disconnect(&mut self) -> Result<Acts, LinkFault>
         ensures step { (m : State) → StandsFor self.old m → IfOk result (λ acts. acts ≡ done_of (step m Disconnect)) }
         ensures stands_for { (m : State) → StandsFor self.old m
@@ -188,6 +192,54 @@ impl Link {
         self.machine.wants()
     }
 
+    /// Whether [`Link::connect`] sends SABM or SABME, memory apart. It takes none.
+    pub fn connect_asks(&self) -> bool
+        ensures { (m : State) → StandsFor self.now m → result ≡ asks m Connect }
+    {
+        self.connect_refusal().is_none()
+    }
+
+    /// Whether [`Link::disconnect`] sends DISC at once, memory apart. It takes none.
+    pub fn disconnect_asks(&self) -> bool
+        ensures { (m : State) → StandsFor self.now m → result ≡ asks m Disconnect }
+    {
+        if self.disconnect_refusal().is_some() {
+            return false;
+        }
+        self.machine.quit_asks()
+    }
+
+    /// Whether [`Link::frame`] sends SABM, SABME or DISC on this frame, memory apart. It takes none.
+    pub fn frame_asks(&self, frame: &Frame) -> bool
+        requires { IsNumbered (modulus_named self.now.incoming.modulus) (control_of frame.now.kind) }
+        ensures { (m : State) → StandsFor self.now m → result ≡ asks m (Hear frame.now) }
+    {
+        self.machine.hear_asks(&frame.kind)
+    }
+
+    /// The same of an I frame with this N(R), whatever else it says.
+    pub fn info_asks(&self, nr: u8) -> bool
+        requires { nr < numbers (modulus_named self.now.incoming.modulus) }
+        ensures { (m : State) (path : AnyPath) (ns pid : ℕ) (poll : Bool) (octets : List ℕ) → StandsFor self.now m
+            → result ≡ asks m (Hear (record { path = path; kind = Info ns nr poll pid octets })) }
+    {
+        self.machine.info_asks(nr)
+    }
+
+    /// The same of [`Link::tick`].
+    pub fn tick_asks(&self, still: bool) -> bool
+        ensures { (m : State) → StandsFor self.now m → result ≡ asks m (Tick still) }
+    {
+        self.machine.tick_asks(still)
+    }
+
+    /// The same of [`Link::seize`].
+    pub fn seize_asks(&self) -> bool
+        ensures { (m : State) (last full : Bool) → StandsFor self.now m → result ≡ asks m (Seize last full) }
+    {
+        self.machine.seize_asks()
+    }
+
     /// Why [`Link::connect`] would refuse, memory apart. It takes none.
     pub fn connect_refusal(&self) -> Option<LinkFault>
         ensures { result ≡ refusal self.now.control (length self.now.outgoing.packets) Connect }
@@ -219,7 +271,7 @@ impl Link {
     pub fn disconnect_refusal(&self) -> Option<LinkFault>
         ensures { result ≡ refusal self.now.control (length self.now.outgoing.packets) Disconnect }
     {
-        if self.machine.control.is_closed() {
+        if self.machine.control.takes_none() {
             return Some(self.machine.wrong_state());
         }
         None

@@ -121,14 +121,15 @@ impl Machine {
         }
     }
 
-    /// Counts in a modulus from here on, in its window. V(R) is 0, and nothing is stored or asked for.
+    /// Counts in a modulus from here on, in its window, and asks for lost frames as in that modulus. V(R) is 0, and
+    /// nothing is stored or asked for.
     pub(crate) fn count_in(&mut self, modulus: Modulus)
         ensures holds { (m : State) → Holds self.old m → Holds self.new (in_modulus (numbers modulus) m) }
         ensures control { self.new.control ≡ self.old.control }
     {
         let window = self.params.window_in(modulus);
-        self.incoming
-            .begin(numbers(modulus), window, self.params.mode());
+        let mode = self.params.mode_in(modulus);
+        self.incoming.begin(numbers(modulus), window, mode);
     }
 
     /// Counts modulo 8, as a link that is not there does.

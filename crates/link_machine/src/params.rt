@@ -3,28 +3,31 @@ ghost use Rattle.std.specs.Prelude.{◌≡◌, ℕ, ◌↔◌, OnOk, IfOk};
 ghost use Rattle.std.specs.Result.{IsErrOf};
 ghost use Rattle.ax25_frames.specs.ControlField.{numbers};
 ghost use Rattle.selective_reject.specs.Window.{IsWindow};
-ghost use Rattle.link_machine.specs.Params.{default_params, window_in, called_modulus, HasWindows, IsRefusedWindow};
+ghost use Rattle.link_machine.specs.Params.{default_params, window_in, mode_in, called_modulus, HasWindows};
+ghost use Rattle.link_machine.specs.Params.{IsRefusedWindow};
 
 use ax25_frames::Modulus;
 use selective_reject::{BadWindow, Mode, check_window};
 use std::marker::Model;
 
-/// How a link asks for lost frames, how many I frames it has under way, and whether it calls modulo 8 or 128. It
-/// answers both kinds of call.
+/// How a link asks for lost frames and how many I frames it has under way, in each modulus, and whether it calls modulo
+/// 8 or 128. It answers both kinds of call.
 #[derive(Clone, Copy, Debug, PartialEq, Eq)]
 pub struct Params {
-    /// REJ or SREJ.
+    /// REJ or SREJ, modulo 8.
     pub mode: Mode,
     /// The most I frames that are sent and not acknowledged, k, modulo 8: 1 to 7, with SREJ 1 to 4.
     pub window: u8,
     /// The link calls with SABME, and so modulo 128.
     pub wide: bool,
+    /// REJ or SREJ, modulo 128.
+    pub wide_mode: Mode,
     /// The same as `window`, modulo 128: 1 to 127, with SREJ 1 to 64.
     pub wide_window: u8,
 }
 
 impl Default for Params {
-    /// REJ, a window of 4, calls modulo 8, and a window of 32 modulo 128.
+    /// REJ and a window of 4, calls modulo 8, and modulo 128 SREJ and a window of 32.
     fn default() -> Params
         ensures { result ≡ default_params }
     {
@@ -32,6 +35,7 @@ impl Default for Params {
             mode: Mode::Rej,
             window: 4,
             wide: false,
+            wide_mode: Mode::Srej,
             wide_window: 32,
         }
     }
@@ -63,7 +67,7 @@ impl FittingParams {
             ↔ IsRefusedWindow params window }
     {
         check_window(8, params.window, params.mode)?;
-        check_window(128, params.wide_window, params.mode)?;
+        check_window(128, params.wide_window, params.wide_mode)?;
         Ok(FittingParams { params })
     }
 
@@ -76,17 +80,20 @@ impl FittingParams {
         }
     }
 
-    /// REJ or SREJ.
-    pub(crate) fn mode(&self) -> Mode
-        ensures { result ≡ self.now.mode }
+    /// REJ or SREJ, in a modulus.
+    pub(crate) fn mode_in(&self, modulus: Modulus) -> Mode
+        ensures { result ≡ mode_in (numbers modulus) self.now }
     {
-        self.params.mode
+        match modulus {
+            Modulus::Eight => self.params.mode,
+            Modulus::OneTwentyEight => self.params.wide_mode,
+        }
     }
 
     /// The window in a modulus.
     pub(crate) fn window_in(&self, modulus: Modulus) -> u8
         ensures window { result ≡ window_in (numbers modulus) self.now }
-        ensures fits { IsWindow (numbers modulus) result self.now.mode }
+        ensures fits { IsWindow (numbers modulus) result (mode_in (numbers modulus) self.now) }
     {
         match modulus {
             Modulus::Eight => self.params.window,

@@ -3,7 +3,7 @@ ghost use Rattle.std.specs.Prelude.{◌≡◌, ℕ, ◌≤◌, Bool};
 ghost use Rattle.link_machine.specs.Machine.{unquit};
 ghost use Rattle.link_machine.specs.Turn.{Turn};
 ghost use Rattle.ax25_frames.specs.ControlField.{numbers};
-ghost use Rattle.link_machine.specs.Acts.{calling_frame, send_call, call, reset, release};
+ghost use Rattle.link_machine.specs.Acts.{calling_frame, send_call, call, reset, release, releasing};
 ghost use Rattle.link_machine.specs.Requests.{connect};
 ghost use Rattle.link_machine.specs.Frames.{stopped_t1, stopped, call_narrow, end_call, leave, open_called};
 ghost use Rattle.link_machine.specs.Frames.{open_answered, open_again, end_by_disc, end_by_dm};
@@ -84,6 +84,7 @@ impl Machine {
     pub(crate) fn release(&mut self, room: &mut Room)
         requires { 1 ≤ frames_left room.old }
         ensures shows { (t : Turn) → Shows self.old room.old t → Shows self.new room.new (release t) }
+        ensures control { self.new.control ≡ releasing self.old.control }
         ensures uses { Uses room.old room.new 1 0 }
     {
         self.control.release();

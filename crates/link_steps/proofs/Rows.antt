@@ -32,7 +32,8 @@ use Rattle.link_machine.specs.Frames.{hear_idle, hear_in, hear_releasing, hear_u
 use Rattle.link_machine.specs.Frames.{open_again, open_answered, open_called}
 use Rattle.link_machine.specs.Held.{IsShort}
 use Rattle.link_machine.specs.Machine.{Machine, falls_back, is_valid, is_wide, most_packets, named, wide_retries}
-use Rattle.link_machine.specs.Requests.{connect, has_link, is_closed, joined, quitting}
+use Rattle.link_machine.specs.Requests.{connect, disconnect_in, give_up, has_link, is_closed, joined, quitting}
+use Rattle.link_machine.specs.Requests.{withdraw}
 use Rattle.link_machine.specs.Sent.Sent.{SetupSent}
 use Rattle.link_machine.specs.Step.{refusal_of, row, settle_in, settled, step}
 use Rattle.link_machine.specs.Ticks.{fall_back, is_spent, lowered, retried, runs_out, t1_out}
@@ -192,10 +193,14 @@ pub data Row (m : Machine) (event : Event) : Turn → Type 0 where
   -- the link calls anew, or calls
   resets : m.control.state ≡ Up → Hears (IsWrong m) event → Row m event (reset (begin m))
   connects : m.control.state ≡ Idle → IsConnect event → Row m event (connect (begin m))
-  -- a packet is taken, and a disconnect
+  -- a packet is taken
   takes : (packet : Packet) → IsSending packet event → IsShort packet
       → Row m event (changing (joined packet) (begin m))
+  -- A disconnect: the call is taken back, the link is to be released, or it is released at once and what waits is
+  -- given up
+  withdraws : m.control.state ≡ Calling → IsDisconnect event → Row m event (withdraw (begin m))
   wishes : IsDisconnect event → Row m event (setting quitting (begin m))
+  abandons : m.control.state ≡ Up → m.control.quit ≡ true → IsDisconnect event → Row m event (give_up (begin m))
 
 -- how an event ends: a link that is up then is perhaps released
 pub data Settles (t : Turn) : Turn → Type 0 where
@@ -251,9 +256,11 @@ idle_row command (Setup Sabme flag) m event is at = is_called 128 flag is (inr r
 idle_row command (Setup Disc flag) m event is at = idle_declines flag (Setup Disc flag) m event is at
 idle_row command (Setup Dm flag) m event is at = stays
 idle_row command (Setup Ua flag) m event is at = stays
-idle_row command (Info ns nr flag pid octets) m event is at = idle_declines flag
-    (Info ns nr flag pid octets) m event is at
-idle_row true (Super which nr flag) m event is at = idle_declines flag (Super which nr flag) m event is at
+idle_row command (Info ns nr true pid octets) m event is at = idle_declines true
+    (Info ns nr true pid octets) m event is at
+idle_row command (Info ns nr false pid octets) m event is at = stays
+idle_row true (Super which nr true) m event is at = idle_declines true (Super which nr true) m event is at
+idle_row true (Super which nr false) m event is at = stays
 idle_row false (Super which nr flag) m event is at = stays
 idle_row command (Ui flag pid octets) m event is at = stays
 idle_row command (Other which flag octets) m event is at = stays
@@ -479,13 +486,26 @@ taken_is_short false false fault n e = ltb-false 256 n (by (nat_lt 256 n) e)
     by true f = absurd (false≢true (sym f))
     by false f = refl
 
+-- a disconnect, by state
+disconnect_row : (state : LinkState) (m : Machine) → m.control.state ≡ state
+    → Row m Disconnect (disconnect_in state (begin m))
+disconnect_row Idle m is = stays
+disconnect_row Calling m is = withdraws is tt
+disconnect_row Up m is = go m.control.quit refl
+  where
+    go : (b : Bool) → m.control.quit ≡ b
+        → Row m Disconnect (cond b (give_up (begin m)) (setting quitting (begin m)))
+    go true wish = abandons is wish tt
+    go false free = wishes tt
+disconnect_row Releasing m is = stays
+
 pub row_is : (m : Machine) (event : Event) → is_some (refusal_of m event) ≡ false → Row m event (row event (begin m))
 row_is m Connect free = connects (idle_is m.control.state _ free) tt
 row_is m (Send packet) free =
     takes packet refl
     (taken_is_short (is_closed m.control) (nat_le most_packets (length m.outgoing.packets)) _ (length packet.octets)
     free)
-row_is m Disconnect free = wishes tt
+row_is m Disconnect free = disconnect_row m.control.state m refl
 row_is m (Hear frame) free =
     heard_row m.control.state (is_command_of frame.path.role frame.kind) frame.kind m (Hear frame) refl (λ P p. p)
 row_is m (Tick still) free = tick_row m.control.state still m

@@ -7,7 +7,7 @@ use Rattle.selective_reject.specs.declared.packet.Packet.{Packet}
 use Rattle.link_machine.specs.declared.acts.Told.{Told}
 use Rattle.link_machine.specs.declared.acts.Told.TheVariants.{Ended, Opened}
 use Rattle.link_machine.specs.declared.acts.Why.{Why}
-use Rattle.link_machine.specs.declared.acts.Why.TheVariants.{Failed, Peer, Reset}
+use Rattle.link_machine.specs.declared.acts.Why.TheVariants.{Asked, Failed, Peer, Reset}
 use Rattle.link_machine.specs.declared.control.Control.{Control}
 use Rattle.link_machine.specs.declared.state.LinkState.TheVariants.{Up}
 use Rattle.link_machine.specs.Acts.{call, calling, calling_frame, releasing}
@@ -30,7 +30,7 @@ use Rattle.link_steps.proofs.Rows.Row.{ends_by_dm}
 use Rattle.link_steps.proofs.Rows.Row.{ends_by_disc, gives_up, is_called, is_called_again, is_answered, narrows}
 use Rattle.link_steps.proofs.Rows.Row.{falls_narrow}
 use Rattle.link_steps.proofs.Rows.Row.{resets}
-use Rattle.link_steps.proofs.Rows.Row.{connects, takes, wishes}
+use Rattle.link_steps.proofs.Rows.Row.{connects, takes, withdraws, wishes, abandons}
 use Rattle.link_steps.proofs.Rows.Settles.{is_down, goes_on, releases}
 use Rattle.link_steps.proofs.Rows.Stepped.{is_refused, makes}
 use Rattle.link_steps.proofs.Traffic.{Single, Traffic, timed}
@@ -104,7 +104,10 @@ row_acts m event t (resets up wrong) = called (more (more (run_one (tells (Ended
 row_acts m event t (connects idle connecting) =
     called (more (run_one begins) (counts (called_modulus m.params) (own_known m.params.wide)))
 row_acts m event t (takes packet sending short) = run_one (joins packet short)
+row_acts m event t (withdraws calling wishing) = call_ended Asked (run_one (sets_up Dm false))
 row_acts m event t (wishes wishing) = run_one (controls (quitting m.control))
+row_acts m event t (abandons up wish wishing) =
+    more (more (run_one empties) (controls (releasing (emptied m).control))) (sets_up Disc true)
 
 settled_acts : (t u : Turn) → Settles t u → Acts t u
 settled_acts t u (is_down down) = none

@@ -16,7 +16,7 @@ pub use Rattle.link_machine.specs.Acts.{nothing_due, polled, recover, recover_wi
 pub use Rattle.link_machine.specs.Done.{Done}
 pub use Rattle.link_machine.specs.Frames.{answer_dm, end_call, hear_up, open_called}
 pub use Rattle.link_machine.specs.Machine.{Machine, is_valid, modulus_named, named}
-pub use Rattle.link_machine.specs.Params.{HasWindows, called_modulus, window_in}
+pub use Rattle.link_machine.specs.Params.{HasWindows, called_modulus, mode_in, window_in}
 pub use Rattle.link_machine.specs.Requests.{connect, joined, quitting}
 pub use Rattle.link_machine.specs.Sent.{Sent, SentIn, all_sent_in, sent_frames, sent_in, sent_kind}
 pub use Rattle.link_machine.specs.Sent.Sent.{InfoSent, SetupSent, SuperSent}
@@ -38,8 +38,8 @@ pub use Rattle.link_machine.specs.declared.params.Params.{Params}
 pub use Rattle.link_machine.specs.declared.state.LinkState.{LinkState}
 pub use Rattle.link_world.specs.Faults.{is_there, near_cause, refused_by}
 pub use Rattle.link_world.specs.Flight.{Tagged, answers_in, asks, asks_in, is_answer, is_numbered, set_up_of}
-pub use Rattle.link_world.specs.Held.{CanFly, Flew, IsRefusal, MadeStep, StandForBoth, Stayed, answering, asking}
-pub use Rattle.link_world.specs.Held.{asking_frames, event_of, flying, seen_of}
+pub use Rattle.link_world.specs.Held.{CanFly, Flew, IsAnswered, MadeStep, StandForBoth, answering, asking, event_of}
+pub use Rattle.link_world.specs.Held.{flying, hearing_asks, is_quiet_between, seen_of}
 pub use Rattle.link_world.specs.Law.{hears_valid}
 pub use Rattle.link_world.specs.Quiet.{IsQuietRun, called_alone, is_alone, is_quiet, is_sabm_frame, sends_alone}
 pub use Rattle.link_world.specs.Reading.{frame_read, kind_read, read_narrow, with_kind}
@@ -50,7 +50,7 @@ pub use Rattle.link_world.specs.Recorded.Happening.{Connects, Disconnects, Hears
 pub use Rattle.link_world.specs.SetUps.{SetUp, acting, change_last, getting, giving, last_changed, opened}
 pub use Rattle.link_world.specs.StandsFor.{all_in_flight, in_flight, sent_tagged}
 pub use Rattle.link_world.specs.Untagged.{frames}
-pub use Rattle.link_world.specs.Windows.{HasHalfWindows, WindowsFit}
+pub use Rattle.link_world.specs.Windows.{AreHalves, IsHalf, WindowsFit}
 pub use Rattle.link_world.specs.World.{Side, World, end_of, hearing_as, near_step, near_turn, new_world, read_in, run}
 pub use Rattle.link_world.specs.World.{seen_from, staying, towards, turn_of}
 pub use Rattle.link_world.specs.declared.end.End.{End}

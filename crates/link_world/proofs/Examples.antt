@@ -11,10 +11,10 @@ use Rattle.link_world.specs.World.{first_world, told_by}
 use Rattle.link_world.specs.Quiet.{is_quiet_to_send}
 
 abbrev params : Mode → ℕ → Params
-params mode window = record { mode = mode; window = window; wide = false; wide_window = 32 }
+params mode window = record { mode = mode; window = window; wide = false; wide_mode = mode; wide_window = 32 }
 
 abbrev wide_params : Params
-wide_params = record { mode = Rej; window = 4; wide = true; wide_window = 127 }
+wide_params = record { mode = Rej; window = 4; wide = true; wide_mode = Rej; wide_window = 127 }
 
 abbrev from_first : Mode → ℕ → List Event → World
 from_first mode window events = run (first_world (params mode window) (params mode window)) events

@@ -10,3 +10,7 @@ pub mod Sides
 pub mod ErrorLemmas
 pub mod WindowLemmas
 pub mod law
+pub mod Asking
+pub mod Quieting
+pub mod Causes
+pub mod OtherModulus

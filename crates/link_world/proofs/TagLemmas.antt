@@ -1,8 +1,8 @@
 -- Frames with their tags and without.
 use Rattle.link_world.proofs.Common.{◌≡◌, ℕ, ◌+◌, Bool, suc, List, [], ◌∷◌, ◌++◌, map, take, drop, refl, sym, ◌∙◌, ap}
-use Rattle.link_world.proofs.Common.{remove, map-append, SentFrame, SentIn, sent_frames, InFlight, Tagged, asks}
+use Rattle.link_world.proofs.Common.{remove, map-append, SentIn, sent_frames, InFlight, Tagged, asks}
 use Rattle.link_world.proofs.Common.{asks_in, answers_in, RecordedEnd, tagged, frames, sent_tagged, in_flight}
-use Rattle.link_world.proofs.Common.{all_in_flight, flying, asking, answering, asking_frames}
+use Rattle.link_world.proofs.Common.{all_in_flight, flying, asking, answering}
 use Rattle.std.specs.Prelude.{count_by, fold, cond}
 use Rattle.std.proofs.lemmas.List.{take-map, drop-map}
 use Rattle.std.proofs.lemmas.Simd.{map-map}
@@ -39,10 +39,6 @@ asks_in-flight tags = sym (count_by-map (λ (f : InFlight). asks f.sent.frame.ki
 -- so are answers
 pub answers_in-flight : (tags : List Tagged) → answers_in tags ≡ answering (all_in_flight tags)
 answers_in-flight tags = sym (count_by-map (λ (f : InFlight). f.answers) in_flight tags)
-
--- and SABM, SABME and DISC as frames
-pub asks_in-frames : (tags : List Tagged) → asks_in tags ≡ asking_frames (frames tags)
-asks_in-frames tags = sym (count_by-map (λ (f : SentFrame). asks f.frame.kind) sent_tagged tags)
 
 -- the images of a list without one item
 pub map-remove : {X Y : Type 0} (f : X → Y) (xs : List X) (index : ℕ) → map f (remove xs index) ≡ remove (map f xs)

@@ -13,7 +13,7 @@ fits_or_not modulus window mode h (inr large) = let high = h.1 in omega arith
 -- if both windows fit, none is refused
 pub none_refused : (p : Params) (window : ℕ) → HasWindows p → IsRefusedWindow p window → ⊥
 none_refused p window h (inl r) = fits_or_not 8 p.window p.mode h.0 r.1
-none_refused p window h (inr r) = fits_or_not 128 p.wide_window p.mode h.1 r.2
+none_refused p window h (inr r) = fits_or_not 128 p.wide_window p.wide_mode h.1 r.2
 
 same_made :
     {T : Type 0} (a b : ℕ) → ◌≡◌ {A = Result T NewFault} (Err (RefusedWindow a)) (Err (RefusedWindow b)) → a ≡ b

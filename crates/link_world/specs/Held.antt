@@ -1,8 +1,9 @@
 -- What a world keeps in one event. No public clause speaks of this.
 use Rattle.std.specs.Prelude.{◌≡◌, ℕ, ◌+◌, ◌≤◌, ◌⊎◌, ◌&&◌, Bool, true, List, length, map, count_by, All, Option, Some}
-use Rattle.std.specs.Prelude.{None, Result, Ok, Err, ◌++◌, false}
+use Rattle.std.specs.Prelude.{None, Result, Ok, Err, ◌++◌, false, ◌==◌, IfErr}
 use Rattle.std.specs.List.{AllByRecursion as Each}
 use Rattle.ax25_frames.specs.FrameOctets.{CanWrite}
+use Rattle.ax25_frames.specs.declared.frame.Frame.{Frame}
 use Rattle.ax25_frames.specs.declared.fault.FrameFault.{FrameFault}
 use Rattle.ax25_frames.specs.declared.fault.FrameFault.TheVariants.{Address, NoControl, NoPid, UnknownControl}
 use Rattle.ax25_frames.specs.declared.fault.FrameFault.TheVariants.{InfoTooLong, StrayInfo, Memory as OutOfRoom}
@@ -17,7 +18,8 @@ use Rattle.link_machine.specs.Machine.{Machine}
 use Rattle.link_machine.specs.StandsFor.{StandsFor as LinkStandsFor}
 use Rattle.link_machine.specs.Event.{Event as LinkEvent}
 use Rattle.link_machine.specs.Event.Event.{Connect as LinkConnect, Send as LinkSend, Disconnect as LinkDisconnect}
-use Rattle.link_machine.specs.Event.Event.{Seize as LinkSeize, Tick as LinkTick}
+use Rattle.link_machine.specs.Event.Event.{Seize as LinkSeize, Tick as LinkTick, Hear as LinkHear}
+use Rattle.link_machine.specs.Asks.{asks as link_asks}
 use Rattle.link_world.specs.declared.end.End.{End}
 use Rattle.link_world.specs.declared.end.End.TheVariants.{A, B}
 use Rattle.link_world.specs.declared.event.Event.{Event}
@@ -34,8 +36,6 @@ use Rattle.link_world.specs.declared.flight.InFlight.{InFlight}
 use Rattle.link_world.specs.declared.side.Side.{Side as HeldSide}
 use Rattle.link_world.specs.Flight.{asks, is_answer}
 use Rattle.link_world.specs.World.{Side, World, near_step, near_turn, step, told_by}
-use Rattle.link_world.specs.Quiet.{is_alone}
-use Rattle.link_world.specs.Faults.{near_cause, cause}
 use Rattle.link_world.specs.StandsFor.{all_in_flight}
 
 -- octets were not read for want of memory
@@ -114,12 +114,14 @@ seen_of DisconnectRequest = LinkDisconnect
 seen_of (TickRequest waiting) = LinkTick waiting
 seen_of (SeizeRequest last full) = LinkSeize last full
 
+-- a frame makes a link send SABM, SABME or DISC if it is read and the link then asks; one that is refused does not
+abbrev pub hearing_asks : Machine → Option Frame → Bool
+hearing_asks m None = false
+hearing_asks m (Some frame) = link_asks m (LinkHear frame)
+
 -- frames that a link sent, as they are in flight
 abbrev pub flying : Bool → SentFrame → InFlight
 flying on_ask sent = record { sent = sent; answers = on_ask && is_answer sent.frame.kind }
-
-abbrev pub asking_frames : List SentFrame → ℕ
-asking_frames frames = count_by (λ (f : SentFrame). asks f.frame.kind) frames
 
 abbrev pub asking : List InFlight → ℕ
 asking frames = count_by (λ (f : InFlight). asks f.sent.frame.kind) frames
@@ -127,9 +129,9 @@ asking frames = count_by (λ (f : InFlight). asks f.sent.frame.kind) frames
 abbrev pub answering : List InFlight → ℕ
 answering frames = count_by (λ (f : InFlight). f.answers) frames
 
--- whether the frames may be sent, if these are in flight to the other end and back
-abbrev pub may_fly : List SentFrame → List InFlight → List InFlight → Bool
-may_fly frames ahead back = is_alone (asking_frames frames) (asking ahead + answering back)
+-- the channel is quiet for a SABM, SABME or DISC, if these are in flight to the other end and back
+abbrev pub is_quiet_between : List InFlight → List InFlight → Bool
+is_quiet_between ahead back = asking ahead + answering back == 0
 
 abbrev pub world_fault_of : LinkFault → WorldFault
 world_fault_of (WrongState state quit) = Link (WrongState state quit)
@@ -138,21 +140,14 @@ world_fault_of (TooLong len) = Link (TooLong len)
 world_fault_of LinkMemory = Memory
 
 -- the sides made the step of the world, and this was told
-pub record MadeStep (event : Event) (number : ℕ) (w : World) (near far : HeldSide) (told : List Told) : Type 0 where
-  pub free : near_cause number event w ≡ None
+pub record MadeStep (event : Event) (w : World) (near far : HeldSide) (told : List Told) : Type 0 where
   pub stands : StandForBoth near far (near_step event w)
   pub tells : told ≡ (near_turn event w).told
 
 -- the frames of an event went after those in flight
-pub record Flew (done : Done) (on_ask : Bool) (ahead back behind : List InFlight) (told : List Told) : Type 0 where
-  pub quiet : may_fly done.frames ahead back ≡ true
+pub record Flew (done : Done) (on_ask : Bool) (ahead behind : List InFlight) (told : List Told) : Type 0 where
   pub towards : behind ≡ ahead ++ map (flying on_ask) done.frames
   pub tells : told ≡ done.told
-
--- they did not, since the channel was not quiet
-pub record Stayed (done : Done) (number : ℕ) (ahead back : List InFlight) (fault : WorldFault) : Type 0 where
-  pub noisy : may_fly done.frames ahead back ≡ false
-  pub answers : fault ≡ NotQuiet number
 
 -- at which event the world stops, by what that answered
 abbrev pub stop_by : WorldFault → Option ℕ
@@ -161,9 +156,10 @@ stop_by (Link fault) = None
 stop_by (NotQuiet index) = Some index
 stop_by Memory = None
 
--- why an event was refused
-abbrev pub IsRefusal : Event → ℕ → World → WorldFault → Type 0
-IsRefusal event number w fault = (fault ≡ Memory) ⊎ (near_cause number event w ≡ Some fault)
+-- what an event is answered: its cause, if there is one; if there is none, at most that memory was not given
+abbrev pub IsAnswered : {T : Type 0} → Option WorldFault → Result T WorldFault → Type 0
+IsAnswered (Some fault) result = result ≡ Err fault
+IsAnswered None result = IfErr result (λ fault. fault ≡ Memory)
 
 -- a refusal changes nothing but the room for frames
 pub record IsKept (near_old far_old near far : HeldSide) : Type 0 where
@@ -172,19 +168,10 @@ pub record IsKept (near_old far_old near far : HeldSide) : Type 0 where
   pub near_towards : near.towards.items ≡ near_old.towards.items
   pub far_towards : far.towards.items ≡ far_old.towards.items
 
--- of two sides, that of an end
-abbrev pub side_at : End → HeldSide → HeldSide → HeldSide
-side_at A a b = a
-side_at B a b = b
-
--- the same of the two sides of a world
-pub record MadeStepOf (event : Event) (number : ℕ) (w : World) (a b : HeldSide) (told : List Told) : Type 0 where
-  pub free : cause number w event ≡ None
+-- the same of the two sides of a world, in its own order
+pub record MadeStepOf (event : Event) (w : World) (a b : HeldSide) (told : List Told) : Type 0 where
   pub stands : StandForBoth a b (step w event)
   pub tells : told ≡ told_by w event
-
-abbrev pub IsRefusalOf : Event → ℕ → World → WorldFault → Type 0
-IsRefusalOf event number w fault = (fault ≡ Memory) ⊎ (cause number w event ≡ Some fault)
 
 -- at which event the world stops, by what an event answered
 abbrev pub stop_of : {T : Type 0} → Result T WorldFault → Option ℕ

@@ -1,12 +1,11 @@
 //! One event at an end, and what it changes there and on the way to the partner.
-ghost use Rattle.std.specs.Prelude.{◌≡◌, ℕ, ◌≤◌, ◌⊎◌, false, drop, length, Err, Some, IfOk, IfErr, OnErr};
-ghost use Rattle.link_machine.specs.declared.fault.LinkFault.{LinkFault as AnyFault};
+ghost use Rattle.std.specs.Prelude.{◌≡◌, ◌+◌, ◌&&◌, ◌==◌, not, IfOk, OnErr};
 ghost use Rattle.link_world.specs.declared.event.Event.TheVariants.{Hear, Lose};
 ghost use Rattle.link_world.specs.declared.end.End.{End as AnyEnd};
-ghost use Rattle.link_world.specs.World.{World as State, end_of};
-ghost use Rattle.link_world.specs.Faults.{is_there, refused_by, refused_at};
-ghost use Rattle.link_world.specs.Held.{event_of, side_at, IsSide, AreSides, StandForBoth, MadeStep, IsRefusal, IsKept};
-ghost use Rattle.link_world.specs.Held.{MadeStepOf, IsRefusalOf, Flew, Stayed, asking_frames};
+ghost use Rattle.link_world.specs.World.{World as State};
+ghost use Rattle.link_world.specs.Faults.{near_cause, cause};
+ghost use Rattle.link_world.specs.Held.{event_of, IsSide, AreSides, StandForBoth, MadeStep, MadeStepOf, IsAnswered, IsKept};
+ghost use Rattle.link_world.specs.Held.{Flew};
 
 use crate::end::End;
 use crate::event::Event;
@@ -14,8 +13,9 @@ use crate::fault::WorldFault;
 use crate::flight::asks;
 use crate::request::Request;
 use crate::side::Side;
-use link_machine::{Acts, SentFrame, Told};
+use link_machine::{Acts, Told};
 use std::alloc::Global;
+use tnc_base::OutOfMemory;
 
 /// Lets the event with this number happen at its end.
 pub(crate) fn happen(
@@ -27,12 +27,8 @@ pub(crate) fn happen(
 ) -> Result<Vec<Told>, WorldFault>
     requires { AreSides a.old b.old }
     ensures step { (w : State) → StandForBoth a.old b.old w
-        → IfOk result (λ told. MadeStepOf event number w a.new b.new told.items) }
-    ensures refused { (w : State) → StandForBoth a.old b.old w → IfErr result (IsRefusalOf event number w) }
-    ensures link_refuses { (w : State) (fault : AnyFault) → StandForBoth a.old b.old w
-        → refused_at event w ≡ Some fault → result ≡ Err (WorldFault.Link fault) }
-    ensures nothing_there { is_there event (length (side_at (end_of event) a.old b.old).towards.items) ≡ false
-        → result ≡ Err WorldFault.NothingThere }
+        → IfOk result (λ told. MadeStepOf event w a.new b.new told.items) }
+    ensures answered { (w : State) → StandForBoth a.old b.old w → IsAnswered (cause number w event) result }
     ensures kept { OnErr result (IsKept a.old b.old a.new b.new) }
     ensures formed { AreSides a.new b.new }
 {
@@ -52,12 +48,8 @@ fn happen_near(
 ) -> Result<Vec<Told>, WorldFault>
     requires { AreSides near.old far.old }
     ensures step { (w : State) → StandForBoth near.old far.old w
-        → IfOk result (λ told. MadeStep event number w near.new far.new told.items) }
-    ensures refused { (w : State) → StandForBoth near.old far.old w → IfErr result (IsRefusal event number w) }
-    ensures link_refuses { (w : State) (fault : AnyFault) → StandForBoth near.old far.old w
-        → refused_by event w.a.end.machine ≡ Some fault → result ≡ Err (WorldFault.Link fault) }
-    ensures nothing_there { is_there event (length near.old.towards.items) ≡ false
-        → result ≡ Err WorldFault.NothingThere }
+        → IfOk result (λ told. MadeStep event w near.new far.new told.items) }
+    ensures answered { (w : State) → StandForBoth near.old far.old w → IsAnswered (near_cause number event w) result }
     ensures kept { OnErr result (IsKept near.old far.old near.new far.new) }
     ensures formed { AreSides near.new far.new }
 {
@@ -82,20 +74,21 @@ fn take(
 ) -> Result<Vec<Told>, WorldFault>
     requires { AreSides near.old far.old }
     ensures step { (w : State) (end : AnyEnd) → StandForBoth near.old far.old w
-        → IfOk result (λ told. MadeStep (event_of request end) number w near.new far.new told.items) }
-    ensures refused { (w : State) (end : AnyEnd) → StandForBoth near.old far.old w
-        → IfErr result (IsRefusal (event_of request end) number w) }
-    ensures link_refuses { (w : State) (end : AnyEnd) (fault : AnyFault) → StandForBoth near.old far.old w
-        → refused_by (event_of request end) w.a.end.machine ≡ Some fault → result ≡ Err (WorldFault.Link fault) }
+        → IfOk result (λ told. MadeStep (event_of request end) w near.new far.new told.items) }
+    ensures answered { (w : State) (end : AnyEnd) → StandForBoth near.old far.old w
+        → IsAnswered (near_cause number (event_of request end) w) result }
     ensures kept { OnErr result (IsKept near.old far.old near.new far.new) }
     ensures formed { AreSides near.new far.new }
 {
     if let Some(fault) = request.refusal(&near.link) {
         return Err(WorldFault::from(fault));
     }
+    if is_noisy(request.asks(&near.link), far.asking(), near.answering(0)) {
+        return Err(WorldFault::NotQuiet { index: number });
+    }
     let mut link = near.link.copy()?;
     let acts = request.ask(&mut link)?;
-    let told = deliver(near, far, acts, 0, false, number)?;
+    let told = deliver(far, acts, false)?;
     near.link = link;
     Ok(told)
 }
@@ -110,10 +103,9 @@ fn lose(
 ) -> Result<Vec<Told>, WorldFault>
     requires { AreSides near.old far.now }
     ensures step { (w : State) (end : AnyEnd) → StandForBoth near.old far.now w
-        → IfOk result (λ told. MadeStep (Lose end index) number w near.new far.now told.items) }
-    ensures refused { (w : State) (end : AnyEnd) → StandForBoth near.old far.now w
-        → IfErr result (IsRefusal (Lose end index) number w) }
-    ensures nothing_there { length near.old.towards.items ≤ index → result ≡ Err WorldFault.NothingThere }
+        → IfOk result (λ told. MadeStep (Lose end index) w near.new far.now told.items) }
+    ensures answered { (w : State) (end : AnyEnd) → StandForBoth near.old far.now w
+        → IsAnswered (near_cause number (Lose end index) w) result }
     ensures kept { OnErr result (IsKept near.old far.now near.new far.now) }
     ensures formed { IsSide near.new }
 {
@@ -133,58 +125,47 @@ fn hear(
 ) -> Result<Vec<Told>, WorldFault>
     requires { AreSides near.old far.old }
     ensures step { (w : State) (end : AnyEnd) → StandForBoth near.old far.old w
-        → IfOk result (λ told. MadeStep (Hear end) number w near.new far.new told.items) }
-    ensures refused { (w : State) (end : AnyEnd) → StandForBoth near.old far.old w
-        → IfErr result (IsRefusal (Hear end) number w) }
-    ensures nothing_there { length near.old.towards.items ≡ 0 → result ≡ Err WorldFault.NothingThere }
+        → IfOk result (λ told. MadeStep (Hear end) w near.new far.new told.items) }
+    ensures answered { (w : State) (end : AnyEnd) → StandForBoth near.old far.old w
+        → IsAnswered (near_cause number (Hear end) w) result }
     ensures kept { OnErr result (IsKept near.old far.old near.new far.new) }
     ensures formed { AreSides near.new far.new }
 {
+    let coming = near.answering(1);
     let Some(heard) = near.towards.front() else {
         return Err(WorldFault::NothingThere);
     };
+    if is_noisy(heard.asks_when_heard(&near.link), far.asking(), coming) {
+        return Err(WorldFault::NotQuiet { index: number });
+    }
     let Some(frame) = heard.read_in(alloc, near.link.modulus())? else {
         let _ = near.towards.pop_front();
         return Ok(Vec::new(alloc));
     };
     let mut link = near.link.copy()?;
     let acts = link.frame(&frame)?;
-    let told = deliver(near, far, acts, 1, asks(&frame.kind), number)?;
+    let told = deliver(far, acts, asks(&frame.kind))?;
     let _ = near.towards.pop_front();
     near.link = link;
     Ok(told)
 }
 
-/// Sends what a link sent on its way to `far`, if `heard` of the frames towards `near` were heard. A SABM, SABME or
-/// DISC is refused unless it is alone.
-fn deliver(
-    near: &Side,
-    far: &mut Side,
-    acts: Acts,
-    heard: usize,
-    on_ask: bool,
-    number: u64,
-) -> Result<Vec<Told>, WorldFault>
+/// Whether a SABM, SABME or DISC of an end, which it sends if it `asks`, would enter a channel that is not quiet: that
+/// many earlier ones are in flight towards its partner, and that many answers to one are coming.
+fn is_noisy(asks: bool, earlier: usize, coming: usize) -> bool
+    ensures { result ≡ (asks && not (earlier + coming == 0)) }
+{
+    asks && earlier.saturating_add(coming) > 0
+}
+
+/// Sends what a link sent on its way to `far`.
+fn deliver(far: &mut Side, acts: Acts, on_ask: bool) -> Result<Vec<Told>, OutOfMemory>
     ensures flew { IfOk result (λ told.
-        Flew acts on_ask far.old.towards.items (drop heard near.now.towards.items) far.new.towards.items told.items) }
-    ensures stayed { IfErr result (λ fault. (fault ≡ WorldFault.Memory)
-        ⊎ Stayed acts number far.old.towards.items (drop heard near.now.towards.items) fault) }
+        Flew acts on_ask far.old.towards.items far.new.towards.items told.items) }
     ensures towards { OnErr result (far.new.towards.items ≡ far.old.towards.items) }
     ensures link { far.new.link ≡ far.old.link }
 {
-    let sent = asking_frames(&acts.frames);
-    let ahead = far.asking().saturating_add(near.answering(heard));
-    if sent > 0 && sent.saturating_add(ahead) != 1 {
-        return Err(WorldFault::NotQuiet { index: number });
-    }
     far.make_room(acts.frames.len())?;
     far.append(acts.frames, on_ask);
     Ok(acts.told)
-}
-
-/// How many SABM, SABME and DISC are among the frames.
-fn asking_frames(frames: &[SentFrame]) -> usize
-    ensures { result ≡ asking_frames frames.now }
-{
-    frames.iter().filter(|sent| asks(&sent.frame.kind)).count()
 }

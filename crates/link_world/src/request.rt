@@ -2,6 +2,7 @@
 ghost use Rattle.std.specs.Prelude.{◌≡◌, ◌⊎◌, Err, Some, IfOk, IfErr, OnOk, OnErr};
 ghost use Rattle.link_machine.specs.Machine.{Machine as State};
 ghost use Rattle.link_machine.specs.StandsFor.{StandsFor};
+ghost use Rattle.link_machine.specs.Asks.{asks};
 ghost use Rattle.link_machine.specs.Step.{step, done_of, refusal_of};
 ghost use Rattle.link_machine.specs.declared.fault.LinkFault.{LinkFault as AnyFault};
 ghost use Rattle.link_world.specs.Held.{seen_of};
@@ -31,6 +32,19 @@ impl Request {
             Request::Send(packet) => link.send_refusal(packet),
             Request::Disconnect => link.disconnect_refusal(),
             Request::Tick(_) | Request::Seize(..) => None,
+        }
+    }
+
+    /// Whether it makes a link send SABM, SABME or DISC, memory apart. It takes none.
+    pub(crate) fn asks(&self, link: &Link) -> bool
+        ensures { (m : State) → StandsFor link.now m → result ≡ asks m (seen_of self.now) }
+    {
+        match self {
+            Request::Connect => link.connect_asks(),
+            Request::Send(_) => false,
+            Request::Disconnect => link.disconnect_asks(),
+            Request::Tick(still) => link.tick_asks(*still),
+            Request::Seize(..) => link.seize_asks(),
         }
     }
 

@@ -76,8 +76,8 @@ impl World {
     }
 
     /// Makes an event of one end, and answers what the end was told. The refusals come in the order of [`WorldFault`],
-    /// and each leaves both links and all frames in flight as they were. Once the channel was not quiet the world has
-    /// stopped, and refuses every event alike.
+    /// all but the last before memory is taken, and each leaves both links and all frames in flight as they were. Once
+    /// the channel was not quiet the world has stopped, and refuses every event alike.
     pub fn apply(&mut self, event: Event) -> Result<Vec<Told>, WorldFault>
         // If the links and the frames stand for a world, the event is the step of that world.
         ensures stands_for { (w : State) → StandsFor self.old w → OnOk result (StandsFor self.new (step w event)) }
@@ -87,10 +87,9 @@ impl World {
         // What is refused leaves the links, the frames in flight and the one to be heard as they were.
         ensures kept { OnErr result (IsAlike self.old self.new) }
 
-        // It is refused exactly when there is a cause, or memory was not given.
+        // If there is a cause, that is the answer; if there is none, it is refused for want of memory at most.
         ensures refused { (w : State) (fault : WorldFault) → StandsFor self.old w
-            → cause_in self.old.stopped self.new.calls w event ≡ Some fault
-            → (result ≡ Err fault) ⊎ (result ≡ Err WorldFault.Memory) }
+            → cause_in self.old.stopped self.new.calls w event ≡ Some fault → result ≡ Err fault }
         ensures fault { (w : State) → StandsFor self.old w
             → IfErr result (λ fault. (fault ≡ WorldFault.Memory)
             ⊎ (cause_in self.old.stopped self.new.calls w event ≡ Some fault)) }
@@ -131,7 +130,7 @@ fn check_windows(params: &Params) -> Result<(), BadWindow>
         ↔ IsRefusedWindow params.now window }
 {
     check_window(8, params.window, params.mode)?;
-    check_window(128, params.wide_window, params.mode)
+    check_window(128, params.wide_window, params.wide_mode)
 }
 
 /// The number of the event that found the channel not quiet, by what it answered.

@@ -12,9 +12,11 @@
 //! - `I/2/0/1` is an I frame of the octet 2 with N(S) 2, N(R) 0 and P = 1, and `hears/3` is I/0/0/0, I/1/0/0 and
 //!   I/2/0/0.
 //! - `UI`, `FRMR`, `XID`.
-//! - `look` shows the state and the modulus, `wants` whether the link wants to send.
+//! - `look` shows the state and the modulus, `wants` whether the link wants to send, and `asks` which events would make
+//!   it send SABM, SABME or DISC: a call, a disconnect, a tick, a turn, an FRMR, and an I frame with N(R) 1.
 //!
 //! A frame that is sent modulo 128 has `/128` after it.
+mod asking;
 mod kinds;
 mod link;
 mod refusals;

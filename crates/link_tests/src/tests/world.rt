@@ -132,10 +132,10 @@ fn both_call_and_an_answer_is_lost(rt: HostRuntime) -> Result<(), Fail> {
 /// refuses all.
 const REFUSED: &str = "A:hears/1 | NothingThere, 0 0
 A:send/1 | Link(WrongState { state: Idle, quit: false }), 0 0
+A:disconnect | Link(WrongState { state: Idle, quit: false }), 0 0
 A:connect | 0 1
 B:loses/1 | NothingThere, 0 1
-A:disconnect | 0 1
-A:disconnect | Link(WrongState { state: Calling, quit: true }), 0 1
+A:connect | Link(WrongState { state: Calling, quit: false }), 0 1
 A:ticks/199 | 0 1
 A:ticks/1 | NotQuiet { index: 206 }, 0 1
 B:hears/1 | NotQuiet { index: 206 }, 0 1
@@ -144,6 +144,19 @@ A:hears/1 | NotQuiet { index: 206 }, 0 1";
 #[test]
 fn events_are_refused(rt: HostRuntime) -> Result<(), Fail> {
     assert_world(&rt, rt.alloc(), by_rej(4), by_rej(4), REFUSED)
+}
+
+/// A takes its call back while the SABM is in flight: DM ends what that opens, and A may call again.
+const TAKEN_BACK: &str = "A:connect | 0 1
+A:disconnect | ended Asked, 0 2
+B:hears/1 | opened, 1 1
+B:hears/1 | ended Peer, 1 0
+A:hears/1 | 0 0
+A:connect | 0 1";
+
+#[test]
+fn a_call_is_taken_back(rt: HostRuntime) -> Result<(), Fail> {
+    assert_world(&rt, rt.alloc(), by_rej(4), by_rej(4), TAKEN_BACK)
 }
 
 /// The repeat comes with the 201st call. From there on the laws say nothing.
@@ -190,6 +203,7 @@ B:hears/3 | given 127,given 128,given 129, 0 0";
 fn a_wide_window_is_sent_whole(rt: HostRuntime) -> Result<(), Fail> {
     let wide = Params {
         wide: true,
+        wide_mode: Mode::Rej,
         wide_window: 127,
         ..Params::default()
     };

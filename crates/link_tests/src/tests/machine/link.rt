@@ -28,9 +28,18 @@ pub(super) fn wide() -> Params {
     }
 }
 
+/// Parameters of a link that asks by SREJ in both moduli.
 pub(super) fn srej() -> Params {
     Params {
         mode: Mode::Srej,
+        ..Params::default()
+    }
+}
+
+/// Parameters of a link that asks by REJ in both moduli.
+pub(super) fn rej() -> Params {
+    Params {
+        wide_mode: Mode::Rej,
         ..Params::default()
     }
 }
@@ -80,6 +89,7 @@ impl Subject for Link {
             "ends" => seize(alloc, self, 1, (true, false), text),
             "fulls" => seize(alloc, self, first, (false, true), text),
             "wants" => want(alloc, self, text),
+            "asks" => ask(alloc, self, text),
             "hears" => hear_all(alloc, self, first, text),
             "look" => look(alloc, self, text),
             _ => hear(alloc, self, word, text),
@@ -128,6 +138,28 @@ fn seize(
 fn want(alloc: Global, link: &Link, text: &mut String) -> Result<(), Fail> {
     let wants = link.wants();
     text.push_str(format!(in alloc; "{wants}")?.as_str())?;
+    Ok(())
+}
+
+/// Appends the events that would make the link send SABM, SABME or DISC.
+fn ask(alloc: Global, link: &Link, text: &mut String) -> Result<(), Fail> {
+    let frmr = Frame {
+        path: reversed(&path("B", "A")?, Role::Response),
+        kind: kind_of(alloc, "FRMR", link.modulus())?,
+    };
+    let asked = [
+        ("connect,", link.connect_asks()),
+        ("disconnect,", link.disconnect_asks()),
+        ("tick,", link.tick_asks(false)),
+        ("turn,", link.seize_asks()),
+        ("FRMR,", link.frame_asks(&frmr)),
+        ("I,", link.info_asks(1)),
+    ];
+    for (name, asks) in asked {
+        if asks {
+            text.push_str(name)?;
+        }
+    }
     Ok(())
 }
 

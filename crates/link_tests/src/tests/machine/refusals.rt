@@ -13,7 +13,7 @@ fn wrong(state: LinkState, quit: bool) -> Option<LinkFault> {
     Some(LinkFault::WrongState { state, quit })
 }
 
-/// Asserts that an idle link refuses a packet, and then a second call and a second disconnect.
+/// Asserts that an idle link refuses a packet, one that calls a second call, and an idle one a disconnect.
 fn assert_refuses_requests<R: Abort>(rt: &R, alloc: Global, link: &mut Link) -> Result<(), Fail> {
     let early = link.send(packet(alloc, b"x")?).err();
     assert_equal(rt, &early, &wrong(LinkState::Idle, false));
@@ -21,8 +21,8 @@ fn assert_refuses_requests<R: Abort>(rt: &R, alloc: Global, link: &mut Link) -> 
     let again = link.connect().err();
     assert_equal(rt, &again, &wrong(LinkState::Calling, false));
     link.disconnect()?;
-    let twice = link.disconnect().err();
-    assert_equal(rt, &twice, &wrong(LinkState::Calling, true));
+    let late = link.disconnect().err();
+    assert_equal(rt, &late, &wrong(LinkState::Idle, false));
     Ok(())
 }
 
@@ -63,20 +63,25 @@ fn packets_are_refused(rt: HostRuntime) -> Result<(), Fail> {
 #[test]
 fn windows_are_refused(rt: HostRuntime) -> Result<(), Fail> {
     let table = [
-        (Mode::Rej, 0, 32, 0),
-        (Mode::Rej, 7, 127, 255),
-        (Mode::Rej, 8, 0, 8),
-        (Mode::Rej, 7, 128, 128),
-        (Mode::Rej, 7, 0, 0),
-        (Mode::Srej, 4, 64, 255),
-        (Mode::Srej, 5, 65, 5),
-        (Mode::Srej, 4, 65, 65),
+        (Mode::Rej, 0, Mode::Rej, 32, 0),
+        (Mode::Rej, 7, Mode::Rej, 127, 255),
+        (Mode::Rej, 8, Mode::Rej, 0, 8),
+        (Mode::Rej, 7, Mode::Rej, 128, 128),
+        (Mode::Rej, 7, Mode::Rej, 0, 0),
+        (Mode::Srej, 4, Mode::Srej, 64, 255),
+        (Mode::Srej, 5, Mode::Srej, 65, 5),
+        (Mode::Srej, 4, Mode::Srej, 65, 65),
+        (Mode::Rej, 7, Mode::Srej, 64, 255),
+        (Mode::Rej, 7, Mode::Srej, 65, 65),
+        (Mode::Srej, 4, Mode::Rej, 127, 255),
+        (Mode::Srej, 5, Mode::Rej, 127, 5),
     ];
-    for (mode, window, wide_window, refused) in table {
+    for (mode, window, wide_mode, wide_window, refused) in table {
         let params = Params {
             mode,
             window,
             wide: false,
+            wide_mode,
             wide_window,
         };
         // No window is 255.

@@ -12,7 +12,11 @@ SABM/0 | A>B UA rsp f=0,opened,
 SABME/1 | A>B UA rsp f=1/128,opened,
 DISC/0 | A>B DM rsp f=0,
 I/0/0/1 | A>B DM rsp f=1,
+I/0/0/0 |
+I/2/0/0 I/3/0/1 | A>B DM rsp f=1,
+I/3/0/1 I/2/0/0 |
 RRc/0/1 | A>B DM rsp f=1,
+RRc/0/0 |
 RR/0/1 |
 UA/1 |
 FRMR |
@@ -26,12 +30,15 @@ fn rows_where_there_is_no_link(rt: HostRuntime) -> Result<(), Fail> {
 }
 
 const CALLING: &str = "send/1 |
-disconnect |
+disconnect | A>B DM rsp f=0,ended Asked,
+send/1 disconnect | A>B DM rsp f=0,ended Asked,
+disconnect look | Idle Eight
+disconnect UA/1 |
+disconnect ticks/200 |
 UA/1 | opened by us,
 UA/0 |
 send/7 UA/1 | opened by us,
 send/7 UA/1 turns/1 | A>B I cmd ns=0 nr=0 p=0 pid=f0 len=1 07,
-disconnect UA/1 | A>B DISC cmd f=1,opened by us,
 DM/1 | ended Refused,
 DM/0 |
 SABM/1 | A>B UA rsp f=1,
@@ -65,6 +72,9 @@ SABM/1 |
 SABME/1 | A>B UA rsp f=1/128,
 SABME/1 look | Calling OneTwentyEight
 DISC/0 | A>B DM rsp f=0/128,
+disconnect | A>B DM rsp f=0/128,ended Asked,
+disconnect look | Idle Eight
+DM/1 disconnect | A>B DM rsp f=0,ended Asked,
 FRMR | A>B SABM cmd f=1,
 FRMR FRMR |
 FRMR UA/1 | opened by us,

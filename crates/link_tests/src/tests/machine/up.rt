@@ -1,5 +1,5 @@
 //! What a link that is up sends, takes and asks for again.
-use super::link::{assert_rows, idle, srej, wide};
+use super::link::{assert_rows, idle, rej, srej, wide};
 use crate::tests::script::assert_exchange;
 use link_machine::Params;
 use std::test::Fail;
@@ -11,6 +11,9 @@ send/1 turns/1 wants | false
 disconnect | A>B DISC cmd f=1,
 send/1 disconnect |
 send/1 turns/1 disconnect RR/1/0 | A>B DISC cmd f=1,
+sends/6 turns/2 disconnect disconnect | A>B DISC cmd f=1,
+sends/6 turns/2 disconnect disconnect look | Releasing Eight
+sends/6 turns/2 disconnect disconnect UA/1 | ended Asked,
 SABM/1 | A>B UA rsp f=1,ended Reset,opened,
 SABME/1 | A>B UA rsp f=1/128,ended Reset,opened,
 SABME/1 look | Up OneTwentyEight
@@ -91,7 +94,24 @@ turns/1 ticks/600 turns/1 ticks/600 turns/1 ticks/800 turns/1 ticks/800 turns/1 
 
 #[test]
 fn rows_of_a_wide_link_that_is_up(rt: HostRuntime) -> Result<(), Fail> {
-    assert_rows(&rt, rt.alloc(), Params::default(), "SABME/1", UP_WIDE)
+    assert_rows(&rt, rt.alloc(), rej(), "SABME/1", UP_WIDE)
+}
+
+/// If nothing else is said, lost frames are asked for by SREJ modulo 128 and by REJ modulo 8, also on one link after
+/// the other, and also if a wide call goes on modulo 8.
+const BY_MODULUS: &str = "SABM/1 I/1/0/0 turns/2 | A>B REJ rsp nr=0 f=0,
+SABME/1 I/1/0/0 turns/3 | A>B SREJ rsp nr=0 f=0/128,A>B RR rsp nr=0 f=0/128,
+SABME/1 SABM/1 I/1/0/0 turns/2 | A>B REJ rsp nr=0 f=0,
+SABME/1 DISC/1 SABM/1 I/1/0/0 turns/2 | A>B REJ rsp nr=0 f=0,
+SABM/1 SABME/1 I/1/0/0 turns/3 | A>B SREJ rsp nr=0 f=0/128,A>B RR rsp nr=0 f=0/128,
+connect UA/1 I/1/0/0 turns/3 | A>B SREJ rsp nr=0 f=0/128,A>B RR rsp nr=0 f=0/128,
+connect DM/1 UA/1 I/1/0/0 turns/2 | A>B REJ rsp nr=0 f=0,
+connect FRMR UA/1 I/1/0/0 turns/2 | A>B REJ rsp nr=0 f=0,
+connect ticks/800 UA/1 I/1/0/0 turns/2 | A>B REJ rsp nr=0 f=0,";
+
+#[test]
+fn each_modulus_has_its_mode(rt: HostRuntime) -> Result<(), Fail> {
+    assert_rows(&rt, rt.alloc(), wide(), "", BY_MODULUS)
 }
 
 /// By REJ with a window of seven: frame 3 is lost, is asked for, and all from it on are sent again.
@@ -115,8 +135,9 @@ fn rows_of_the_largest_windows(rt: HostRuntime) -> Result<(), Fail> {
     };
     assert_rows(&rt, rt.alloc(), narrow, "connect UA/1", WINDOW_OF_7)?;
     let wide = Params {
+        wide: true,
         wide_window: 127,
-        ..wide()
+        ..rej()
     };
     assert_rows(&rt, rt.alloc(), wide, "connect UA/1", WINDOW_OF_127)
 }

@@ -1,42 +1,70 @@
-use Rattle.link_world.proofs.Common.{◌≡◌, false, sym, subst, inl, inr, refl, rules, tests, IfErr, err_from_is_err_and}
-use Rattle.link_world.proofs.Common.{refusal_of, event_of, seen_of, IsRefusal}
-use Rattle.link_machine.specs.declared.machine.Machine.{Machine as HeldLink}
+use Rattle.link_world.proofs.Common.{◌≡◌, ◌∙◌, ap, sym, subst, refl, false, true, IfErr, err_from_is_err_and, event_of}
+use Rattle.link_world.proofs.Common.{seen_of, inl, inr, None, Some, Err, rules, tests}
+use Rattle.std.specs.Prelude.{IsErrAnd}
 use Rattle.link_machine.specs.StandsFor.{StandsFor as LinkStandsFor}
+use Rattle.link_machine.specs.declared.fault.LinkFault.TheVariants.{Memory as LinkMemory}
+use Rattle.link_machine.specs.declared.machine.Machine.{Machine as HeldLink}
 use Rattle.link_world.specs.declared.side.Side.{Side as HeldSide}
+use Rattle.link_world.specs.declared.fault.WorldFault.TheVariants.{Memory}
+use Rattle.link_world.proofs.Causes.{refused_asked, asked_cause, answered_by, memory_answered}
 use Rattle.link_world.proofs.Counting.{Steps, near_formed, far_formed}
-use Rattle.link_world.proofs.Sides.{asked_made, asked_noisy, not_refused}
+use Rattle.link_world.proofs.Sides.{asked_made}
 use Rattle.link_world.proofs.happening.take.Goals as goal
 
-pub returns-in_err-acts-clause-refused : goal.returns-in_err-acts-clause-refused
-returns-in_err-acts-clause-refused c = λ w end both.
-    let copied : c.in_ok-link.link ≡ c.args.near.now.link = c.in_ok-link.ensures in
-    let stands : LinkStandsFor c.in_ok-link.link w.a.end.machine =
-    subst (λ (l : HeldLink). LinkStandsFor l w.a.end.machine) (sym copied) both.of_near.link in
-    let cause = c.in_err-acts.ensures.fault w.a.end.machine stands in
-    search (rules, tests)
+pub returns-in-Some-clause-answered : goal.returns-in-Some-clause-answered
+returns-in-Some-clause-answered c = λ w end both.
+    let refused = sym (c.refusal.ensures w.a.end.machine both.of_near.link) ∙ c.in-Some.is in
+    answered_by _ _ _ (refused_asked c.args.request end c.args.number w c.in-Some.fault refused) (ap Err c.from.ensures)
 
-pub returns-in_err-told-clause-refused : goal.returns-in_err-told-clause-refused
-returns-in_err-told-clause-refused c = λ w end both.
-    let event = seen_of c.args.request in
+pub returns-then-is_noisy-clause-answered : goal.returns-then-is_noisy-clause-answered
+returns-then-is_noisy-clause-answered c = λ w end both.
+    let m = w.a.end.machine in
+    let free = sym (c.refusal.ensures m both.of_near.link) ∙ c.in_default.is in
+    answered_by _ _ _ (asked_cause c.args.request end c.args.number w c.args.near.now c.args.far.now c.asks.result true
+    c.asking.result c.answering.result both free (c.asks.ensures m both.of_near.link) c.asking.ensures
+    c.answering.ensures (sym c.if-is_noisy.true ∙ c.is_noisy.ensures)) refl
+
+pub returns-in_err-link-clause-answered : goal.returns-in_err-link-clause-answered
+returns-in_err-link-clause-answered c = λ w end both.
+    let m = w.a.end.machine in
+    let free = sym (c.refusal.ensures m both.of_near.link) ∙ c.in_default.is in
+    let none = asked_cause c.args.request end c.args.number w c.args.near.now c.args.far.now c.asks.result false
+    c.asking.result c.answering.result both free (c.asks.ensures m both.of_near.link) c.asking.ensures
+    c.answering.ensures (sym c.if-is_noisy.false ∙ c.is_noisy.ensures) in
+    memory_answered _ _ none c.from_residual.ensures.1
+
+pub returns-in_err-acts-clause-answered : goal.returns-in_err-acts-clause-answered
+returns-in_err-acts-clause-answered c = λ w end both.
+    let m = w.a.end.machine in
+    let free = sym (c.refusal.ensures m both.of_near.link) ∙ c.in_default.is in
+    let none = asked_cause c.args.request end c.args.number w c.args.near.now c.args.far.now c.asks.result false
+    c.asking.result c.answering.result both free (c.asks.ensures m both.of_near.link) c.asking.ensures
+    c.answering.ensures (sym c.if-is_noisy.false ∙ c.is_noisy.ensures) in
     let copied : c.in_ok-link.link ≡ c.args.near.now.link = c.in_ok-link.ensures in
-    let steps : Steps event c.args.near.now.link c.ask.new.link c.in_ok-acts.acts =
-    subst (λ (l : HeldLink). Steps event l c.ask.new.link c.in_ok-acts.acts) copied
-    (record { does = c.in_ok-acts.ensures.step; stands = c.in_ok-acts.ensures.stands_for }) in
-    let near : HeldSide = record { link = c.ask.new.link; towards = c.args.near.now.towards } in
-    let stands : LinkStandsFor c.in_ok-link.link w.a.end.machine =
-    subst (λ (l : HeldLink). LinkStandsFor l w.a.end.machine) (sym copied) both.of_near.link in
-    let free =
-    not_refused c.ask.result c.in_ok-acts.acts (refusal_of w.a.end.machine event)
-    (λ fault e. c.ask.ensures.refused w.a.end.machine fault stands e) c.in_ok-acts.was in
-    let cause : IsRefusal (event_of c.args.request end) c.args.number w c.in_err-told.field-0.0 =
-    elim c.in_err-told.ensures.stayed [
-      | inl memory ↦ inl memory
-      | inr stayed ↦ inr (asked_noisy c.args.request end c.args.number w c.args.near.now near c.args.far.now
-          c.in_ok-acts.acts c.in_err-told.field-0.0 both steps free stayed)
+    let stands = subst (λ (l : HeldLink). LinkStandsFor l m) (sym copied) both.of_near.link in
+    let memory : c.in_err-acts.field-0.0 ≡ LinkMemory = elim (c.in_err-acts.ensures.fault m stands) [
+      | inl is ↦ is
+      | inr refused ↦ absurd (let n : None ≡ Some c.in_err-acts.field-0.0 = sym free ∙ refused in cc)
     ] in
-    let is = err_from_is_err_and c.from_residual-in_err-told.result c.from_residual-in_err-told.ensures.1 in
-    let told = subst (λ f. IsRefusal (event_of c.args.request end) c.args.number w f) (sym is.2) cause in
-    subst (λ r. IfErr r (IsRefusal (event_of c.args.request end) c.args.number w)) (sym is.1) told
+    let is : IsErrAnd c.from_residual-in_err-acts.result (λ f. f ≡ Memory) = search (rules, tests) in
+    memory_answered _ _ none is
+
+pub returns-in_err-told-clause-answered : goal.returns-in_err-told-clause-answered
+returns-in_err-told-clause-answered c = λ w end both.
+    let m = w.a.end.machine in
+    let free = sym (c.refusal.ensures m both.of_near.link) ∙ c.in_default.is in
+    let none = asked_cause c.args.request end c.args.number w c.args.near.now c.args.far.now c.asks.result false
+    c.asking.result c.answering.result both free (c.asks.ensures m both.of_near.link) c.asking.ensures
+    c.answering.ensures (sym c.if-is_noisy.false ∙ c.is_noisy.ensures) in
+    memory_answered _ _ none c.from_residual-in_err-told.ensures.1
+
+pub returns-clause-answered : goal.returns-clause-answered
+returns-clause-answered c = λ w end both.
+    let m = w.a.end.machine in
+    let free = sym (c.refusal.ensures m both.of_near.link) ∙ c.in_default.is in
+    answered_by _ _ _ (asked_cause c.args.request end c.args.number w c.args.near.now c.args.far.now c.asks.result false
+    c.asking.result c.answering.result both free (c.asks.ensures m both.of_near.link) c.asking.ensures
+    c.answering.ensures (sym c.if-is_noisy.false ∙ c.is_noisy.ensures)) tt
 
 pub returns-clause-step : goal.returns-clause-step
 returns-clause-step c = λ w end both.
@@ -46,14 +74,8 @@ returns-clause-step c = λ w end both.
     subst (λ (l : HeldLink). Steps event l c.ask.new.link c.in_ok-acts.acts) copied
     (record { does = c.in_ok-acts.ensures.step; stands = c.in_ok-acts.ensures.stands_for }) in
     let near : HeldSide = record { link = c.ask.new.link; towards = c.args.near.now.towards } in
-    let stands : LinkStandsFor c.in_ok-link.link w.a.end.machine =
-    subst (λ (l : HeldLink). LinkStandsFor l w.a.end.machine) (sym copied) both.of_near.link in
-    let free =
-    not_refused c.ask.result c.in_ok-acts.acts (refusal_of w.a.end.machine event)
-    (λ fault e. c.ask.ensures.refused w.a.end.machine fault stands e) c.in_ok-acts.was in
-    asked_made c.args.request end c.args.number w c.args.near.now c.args.far.now near c.deliver.new.far
-    c.in_ok-acts.acts
-    c.in_ok-told.told.items both steps free refl c.in_ok-told.ensures.link c.in_ok-told.ensures.flew
+    asked_made c.args.request end w c.args.near.now c.args.far.now near c.deliver.new.far c.in_ok-acts.acts
+    c.in_ok-told.told.items both steps refl c.in_ok-told.ensures.link c.in_ok-told.ensures.flew
 
 pub returns-clause-formed : goal.returns-clause-formed
 returns-clause-formed c =

@@ -2,23 +2,24 @@
 use Rattle.link_world.proofs.Common.{◌≡◌, ℕ, Bool, true, false, ◌==◌, if◌then◌else◌, List, [], ◌∷◌, ◌++◌, is_some, refl}
 use Rattle.link_world.proofs.Common.{sym, ap, ◌∙◌, subst, append-nil, ◌&&◌, fold, cond-false, false≢true, Info, Super}
 use Rattle.link_world.proofs.Common.{Setup, Ui, Other, U, Packet, Control, Opened, Failed, Refused, Sent, InfoSent}
-use Rattle.link_world.proofs.Common.{SuperSent, SetupSent, begin, changing, setting, joined, quitting, tick, tick_in}
+use Rattle.link_world.proofs.Common.{SuperSent, SetupSent, begin, changing, setting, joined, tick, tick_in}
 use Rattle.link_world.proofs.Common.{is_spent, retried, end_call, settled, settle_in, refusal_of, SetUp, Tagged}
 use Rattle.link_world.proofs.Common.{is_numbered, RecordedEnd, noting, taking, hears_ask, told_of, Sends, Disconnects}
 use Rattle.link_world.proofs.Common.{Ticks, Hears, Happening, inl, length, arith}
 use Rattle.ax25_frames.specs.declared.frame.Kind.{Kind as FrameKind}
 use Rattle.ax25_frames.specs.declared.frame.U.TheVariants.{Sabm as SabmFrame, Sabme as SabmeFrame, Disc as DiscFrame}
 use Rattle.ax25_frames.specs.declared.frame.U.TheVariants.{Dm as DmFrame, Ua as UaFrame}
-use Rattle.link_machine.specs.declared.state.LinkState.TheVariants.{Calling as CallingState}
+use Rattle.link_machine.specs.declared.state.LinkState.TheVariants.{Calling as CallingState, Idle as IdleState}
 use Rattle.link_machine.specs.Event.Event.{Send}
 use Rattle.link_machine.specs.Machine.{falls_back, narrowed}
+use Rattle.link_machine.specs.Requests.{withdraw}
 use Rattle.link_machine.specs.Ticks.{call_again, fall_back}
 use Rattle.link_machine.specs.Turn.{sending}
 use Rattle.link_machine.specs.Frames.{hear_calling, hear_calling_in, answer_ua, open_answered, unretried_call}
 use Rattle.link_world.proofs.law.reduced.Core.{End, Tagged as CoreTagged, between}
-use Rattle.link_world.proofs.law.reduced.Core.Kind.{Sabm, Ua}
+use Rattle.link_world.proofs.law.reduced.Core.Kind.{Dm, Sabm, Ua}
 use Rattle.link_world.proofs.law.reduced.Core.Standing.{Calling, Up}
-use Rattle.link_world.proofs.law.reduced.CoreMoves.{now, setup_to, opened}
+use Rattle.link_world.proofs.law.reduced.CoreMoves.{now, of_end, setup_to, opened}
 use Rattle.link_world.proofs.law.reduced.CoreOf.{end_behind}
 use Rattle.link_world.specs.SetUps.{opened as opened_set_up}
 use Rattle.link_world.proofs.law.down.Calls.{call_in, call_alone, wide_is, narrow_is, call_sent}
@@ -26,8 +27,8 @@ use Rattle.link_world.proofs.law.showing.Readings.{IsReadAs}
 use Rattle.link_world.proofs.law.showing.PlacesFit.{sound_anew, sound_new}
 use Rattle.link_world.proofs.law.showing.PlacesStored.{stored_empty}
 use Rattle.link_world.proofs.law.moves.Losing.{lose_keeps}
-use Rattle.link_world.proofs.law.moves.Standings.{begin_keeps, give_calling_keeps}
-use Rattle.link_world.proofs.law.moves.Kept.{call_keeps}
+use Rattle.link_world.proofs.law.moves.Standings.{begin_keeps, give_calling_keeps, leave_to_idle_keeps}
+use Rattle.link_world.proofs.law.moves.Kept.{call_keeps, send_dm_keeps}
 use Rattle.link_world.proofs.law.moves.Opening.{agree_keeps, open_answered_keeps}
 use Rattle.link_world.proofs.law.invariant.Invariant.{Invariant}
 use Rattle.link_world.proofs.law.showing.Shown.{core_set_ups, core_tagged}
@@ -38,7 +39,7 @@ use Rattle.link_world.proofs.law.up.Progress.{IsUp}
 use Rattle.link_world.proofs.law.up.Settling.{EndsUp, progress_in, up_ends}
 use Rattle.link_world.proofs.law.down.Ends.{DownEnd, EndsDown, IsDown, down_end, goes_on, down_keeps, down_stays}
 use Rattle.link_world.proofs.law.down.Ends.{down_silent, down_passes, down_noted, down_answers, down_declines}
-use Rattle.link_world.proofs.law.down.Ends.{down_ends}
+use Rattle.link_world.proofs.law.down.Ends.{down_ends, setup_sent}
 
 -- a packet is given
 pub calling_sends :
@@ -64,11 +65,23 @@ calling_sends {r} packet {y} {to_x} {to_y} d taken =
     (λ alone. subst (λ fs. Invariant (between (now (Calling more) x) y to_x fs)) (sym (append-nil to_y))
     (give_calling_keeps x d.holds)))
 
--- a disconnect is asked for
-pub calling_quits :
+-- a disconnect is asked for: the call is taken back, and a DM goes out that answers no SABM or DISC
+pub calling_withdraws :
     {r : RecordedEnd} {y : End} {to_x to_y : List CoreTagged} → DownEnd CallingState r y to_x to_y
-    → Keeps Disconnects r y to_x to_y (settled (setting quitting (begin r.machine)))
-calling_quits {r} d = down_silent (quitting r.machine.control) d d.state_is refl d.holds
+    → Keeps Disconnects r y to_x to_y (settled (withdraw (begin r.machine)))
+calling_withdraws {r} {y} {to_x} {to_y} d =
+    let turn = withdraw (begin r.machine) in
+    let x = down_end IdleState turn.now r.set_ups in
+    let ends : EndsDown Disconnects r turn IdleState r.set_ups (of_end x (Dm false) ∷ []) = record {
+      state_is = refl;
+      down = refl;
+      params = refl;
+      sound = sound_new 8 (inl refl) d.sound.room;
+      set_ups = refl;
+      waiting = refl;
+      sent = setup_sent false (end_with turn.now r.set_ups []) r.machine.incoming.modulus DmFrame false refl tt;
+    } in
+    down_keeps ends (λ alone. send_dm_keeps (leave_to_idle_keeps 8 d.holds))
 
 -- The call goes on in modulus 8: SABM goes out. The channel is quiet then, so no SABME of the end is under way, and no
 -- UA to it.

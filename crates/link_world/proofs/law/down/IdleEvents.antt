@@ -53,8 +53,10 @@ idle_hears_numbered :
     {r : RecordedEnd} {f : Tagged} (command : Bool) (kind : FrameKind) {y : End} {rest to_y : List CoreTagged}
     → DownEnd IdleState r y (core_tagged f ∷ rest) to_y → f.frame.kind ≡ kind → is_numbered kind ≡ true
     → Keeps (Hears f) r y rest to_y (settled (hear_idle command kind (begin r.machine)))
-idle_hears_numbered command (Info ns nr flag pid octets) d is numbered = down_dm flag d (ap asks_kind is)
-idle_hears_numbered true (Super which nr flag) d is numbered = down_dm flag d (ap asks_kind is)
+idle_hears_numbered command (Info ns nr true pid octets) d is numbered = down_dm true d (ap asks_kind is)
+idle_hears_numbered command (Info ns nr false pid octets) d is numbered = down_passes d
+idle_hears_numbered true (Super which nr true) d is numbered = down_dm true d (ap asks_kind is)
+idle_hears_numbered true (Super which nr false) d is numbered = down_passes d
 idle_hears_numbered false (Super which nr flag) d is numbered = down_passes d
 idle_hears_numbered command (Setup which flag) d is numbered = absurd (false≢true numbered)
 idle_hears_numbered command (Ui flag pid octets) d is numbered = absurd (false≢true numbered)

@@ -3,7 +3,7 @@ use Rattle.link_world.proofs.Common.{◌≡◌, ℕ, Bool, true, false, ◌||◌
 use Rattle.link_world.proofs.Common.{Option, Some, None, is_some, IfSome, inl, inr, refl, sym, ap, ◌∙◌, subst, ⊤}
 use Rattle.link_world.proofs.Common.{cond-true, false≢true, Frame, Kind, U, is_command_of, Packet, LinkState, LinkFault}
 use Rattle.link_world.proofs.Common.{Machine, modulus_named, Sent, sent_kind, InfoSent, SuperSent, SetupSent, begin}
-use Rattle.link_world.proofs.Common.{changing, setting, connect, joined, quitting, tick, tick_in, hear_up, step}
+use Rattle.link_world.proofs.Common.{changing, connect, joined, tick, tick_in, hear_up, step}
 use Rattle.link_world.proofs.Common.{settled, refusal_of, frame_read, read_in, is_sabm_frame, SetUp, Tagged}
 use Rattle.link_world.proofs.Common.{RecordedEnd, Happening, noting, seen, hears_ask, Connects, Sends, Disconnects}
 use Rattle.link_world.proofs.Common.{Ticks, Seizes, Hears, seize, seize_in}
@@ -15,7 +15,7 @@ use Rattle.link_machine.specs.declared.state.LinkState.TheVariants.{Releasing as
 use Rattle.link_machine.specs.declared.fault.LinkFault.TheVariants.{WrongState, Full, TooLong}
 use Rattle.link_machine.specs.Machine.{most_packets, most_octets}
 use Rattle.link_machine.specs.Event.Event.{Connect, Send, Disconnect, Hear}
-use Rattle.link_machine.specs.Requests.{has_link, takes_none}
+use Rattle.link_machine.specs.Requests.{disconnect, disconnect_in, has_link, takes_none}
 use Rattle.link_machine.specs.Frames.{hear, hear_in}
 use Rattle.link_world.proofs.law.reduced.Core.{End, Tagged as CoreTagged, between}
 use Rattle.link_world.proofs.law.reduced.CoreMoves.{sabms}
@@ -37,7 +37,7 @@ use Rattle.link_world.proofs.law.up.Ticks.{up_ticks}
 use Rattle.link_world.proofs.law.down.Ends.{DownEnd, down_silent, down_refuses}
 use Rattle.link_world.proofs.law.down.Called.{up_hears_call}
 use Rattle.link_world.proofs.law.down.IdleEvents.{idle_connects, idle_hears}
-use Rattle.link_world.proofs.law.down.CallingEvents.{calling_sends, calling_quits, calling_ticks, calling_hears}
+use Rattle.link_world.proofs.law.down.CallingEvents.{calling_sends, calling_withdraws, calling_ticks, calling_hears}
 use Rattle.link_world.proofs.law.down.ReleasingEvents.{releasing_ticks, releasing_hears}
 
 -- an end before an event, by its state
@@ -85,8 +85,8 @@ quit_refused :
     (m : Machine) {state : LinkState} → m.control.state ≡ state → takes_none state ≡ true
     → is_some (refusal_of m Disconnect) ≡ true
 quit_refused m {state} is none =
-    ap (λ s. is_some (if takes_none s || m.control.quit then Some (WrongState s m.control.quit) else None)) is
-    ∙ ap (λ b. is_some (if b || m.control.quit then Some (WrongState state m.control.quit) else None)) none
+    ap (λ s. is_some (if takes_none s then Some (WrongState s m.control.quit) else None)) is
+    ∙ ap (λ b. is_some (if b then Some (WrongState state m.control.quit) else None)) none
 
 send_refused :
     (m : Machine) (packet : Packet) {state : LinkState} → m.control.state ≡ state → takes_none state ≡ true
@@ -125,11 +125,15 @@ send_keeps {r} packet false is (StandsReleasing d) =
 quit_keeps :
     {r : RecordedEnd} {y : End} {to_x to_y : List CoreTagged} (b : Bool)
     → is_some (refusal_of r.machine Disconnect) ≡ b → Stands r y to_x to_y
-    → Keeps Disconnects r y to_x to_y (if b then begin r.machine else settled (setting quitting (begin r.machine)))
+    → Keeps Disconnects r y to_x to_y (if b then begin r.machine else settled (disconnect (begin r.machine)))
 quit_keeps true is s = refused s refl refl
 quit_keeps {r} false is (StandsIdle d) = absurd (false≢true (sym is ∙ quit_refused r.machine d.state_is refl))
-quit_keeps false is (StandsCalling d) = calling_quits d
-quit_keeps false is (StandsUp ended last u) = up_quits u
+quit_keeps {r} {y} {to_x} {to_y} false is (StandsCalling d) =
+    subst (λ s. Keeps Disconnects r y to_x to_y (settled (disconnect_in s (begin r.machine)))) (sym d.state_is)
+    (calling_withdraws d)
+quit_keeps {r} {y} {to_x} {to_y} false is (StandsUp ended last u) =
+    subst (λ s. Keeps Disconnects r y to_x to_y (settled (disconnect_in s (begin r.machine)))) (sym u.state)
+    (up_quits u)
 quit_keeps {r} false is (StandsReleasing d) = absurd (false≢true (sym is ∙ quit_refused r.machine d.state_is refl))
 
 tick_keeps :

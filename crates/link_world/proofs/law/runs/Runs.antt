@@ -1,10 +1,11 @@
 -- A quiet run keeps what holds, from a new world on.
 use Rattle.link_world.proofs.Common.{◌≡◌, ℕ, ◌+◌, Option, Some, None, Bool, true, ◌&&◌, ◌||◌, not, ◌==◌, List, [], ◌∷◌}
 use Rattle.link_world.proofs.Common.{◌++◌, ◌⊎◌, inl, inr, refl, sym, ap, ◌∙◌, IsTrue, and_parts, eqb-true, Path, Frame}
-use Rattle.link_world.proofs.Common.{Params, window_in, HasWindows, LinkState, Tagged, asks_in, answers_in, RecordedEnd}
+use Rattle.link_world.proofs.Common.{Params, mode_in, window_in, HasWindows, LinkState, Tagged, asks_in, answers_in}
+use Rattle.link_world.proofs.Common.{RecordedEnd}
 use Rattle.link_world.proofs.Common.{Connects, Sends, Disconnects, Ticks, Side, World, read_in, hearing_as, turn_of}
 use Rattle.link_world.proofs.Common.{near_step, seen_from, end_of, run, new_world, is_alone, sends_alone, called_alone}
-use Rattle.link_world.proofs.Common.{is_quiet, IsQuietRun, WindowsFit, HasHalfWindows, A, B, Event, Connect, Send}
+use Rattle.link_world.proofs.Common.{is_quiet, IsQuietRun, WindowsFit, AreHalves, IsHalf, A, B, Event, Connect, Send}
 use Rattle.link_world.proofs.Common.{Disconnect, Tick, Seize, Hear, Lose, Seizes}
 use Rattle.selective_reject.specs.declared.window.Mode.TheVariants.{Srej as SrejMode}
 use Rattle.link_machine.specs.declared.state.LinkState.TheVariants.{Idle as IdleState}
@@ -61,11 +62,18 @@ near_shows (Lose e index) fit alone called s = near_loses index s
 
 -- the windows fit seen from either end
 pub fit_mirror : (a b : Params) → WindowsFit a b → WindowsFit b a
-fit_mirror a b fit = record { of_a = fit.of_b; of_b = fit.of_a; halves = λ modes. swap modes }
+fit_mirror a b fit = record {
+  of_a = fit.of_b;
+  of_b = fit.of_a;
+  narrow = swap 8 fit.narrow;
+  wide = swap 128 fit.wide;
+}
   where
-    swap : (b.mode ≡ SrejMode) ⊎ (a.mode ≡ SrejMode) → HasHalfWindows b × HasHalfWindows a
-    swap (inl is) = let h = fit.halves (inr is) in (h.1, h.0)
-    swap (inr is) = let h = fit.halves (inl is) in (h.1, h.0)
+    swap :
+        (modulus : ℕ) → AreHalves modulus a b → (mode_in modulus b ≡ SrejMode) ⊎ (mode_in modulus a ≡ SrejMode)
+        → IsHalf modulus b × IsHalf modulus a
+    swap modulus halves (inl is) = let h = halves (inr is) in (h.1, h.0)
+    swap modulus halves (inr is) = let h = halves (inl is) in (h.1, h.0)
 
 -- an event of either
 pub step_shows :

@@ -1,10 +1,11 @@
 -- Each event of a quiet run keeps what holds of a world.
 use Rattle.link_world.proofs.Common.{◌≡◌, ℕ, zero, suc, ◌+◌, ◌<◌, ◌≤◌, Some, Bool, true, false, ◌==◌, List, [], ◌∷◌}
 use Rattle.link_world.proofs.Common.{◌++◌, map, ◌⊎◌, inl, inr, refl, sym, ap, ◌∙◌, subst, arith, append-nil, eqb-true}
-use Rattle.link_world.proofs.Common.{map-append, Frame, Mode, IsWindow, Params, window_in, HasWindows, Sent, SentIn}
+use Rattle.link_world.proofs.Common.{map-append, Frame, Mode, IsWindow, Params, mode_in, window_in, HasWindows, Sent}
+use Rattle.link_world.proofs.Common.{SentIn}
 use Rattle.link_world.proofs.Common.{sent_kind, InfoSent, SuperSent, SetupSent, Tagged, asks, asks_in, answers_in}
 use Rattle.link_world.proofs.Common.{RecordedEnd, Happening, seen, hears_ask, behind, tagged, Hears, World, read_in}
-use Rattle.link_world.proofs.Common.{is_alone, WindowsFit, HasHalfWindows}
+use Rattle.link_world.proofs.Common.{is_alone, WindowsFit, AreHalves, IsHalf}
 use Rattle.std.proofs.Common.{cond}
 use Rattle.std.specs.List.{AllByRecursion as Each, remove}
 use Rattle.std.proofs.lemmas.Bool.{or_cases}
@@ -84,16 +85,23 @@ below modulus window SrejMode some h = let high = h.1 in omega arith
 window_below : (p : Params) (modulus : ℕ) → IsModulus modulus → HasWindows p → window_in modulus p < modulus
 window_below p modulus (inl is) h = subst (λ m. window_in m p < m) (sym is) (below 8 p.window p.mode (omega arith) h.0)
 window_below p modulus (inr is) h = subst (λ m. window_in m p < m) (sym is)
-    (below 128 p.wide_window p.mode (omega arith) h.1)
+    (below 128 p.wide_window p.wide_mode (omega arith) h.1)
 
 -- and perhaps at most half of it
 window_half :
-    (p : Params) (modulus : ℕ) → IsModulus modulus → HasHalfWindows p
+    (p : Params) (modulus : ℕ) → IsModulus modulus → IsHalf modulus p
     → window_in modulus p + window_in modulus p ≤ modulus
 window_half p modulus (inl is) h =
-    let half = h.narrow in subst (λ m. window_in m p + window_in m p ≤ m) (sym is) (omega arith)
+    let half : p.window ≤ 4 = subst (λ m. IsHalf m p) is h in
+    subst (λ m. window_in m p + window_in m p ≤ m) (sym is) (omega arith)
 window_half p modulus (inr is) h =
-    let half = h.wide in subst (λ m. window_in m p + window_in m p ≤ m) (sym is) (omega arith)
+    let half : p.wide_window ≤ 64 = subst (λ m. IsHalf m p) is h in
+    subst (λ m. window_in m p + window_in m p ≤ m) (sym is) (omega arith)
+
+-- in the modulus that a link has
+halves_in : {a b : Params} (modulus : ℕ) → IsModulus modulus → WindowsFit a b → AreHalves modulus a b
+halves_in {a} {b} modulus (inl is) fit = subst (λ m. AreHalves m a b) (sym is) fit.narrow
+halves_in {a} {b} modulus (inr is) fit = subst (λ m. AreHalves m a b) (sym is) fit.wide
 
 -- the windows of the two ends fit
 pub windows_of :
@@ -107,8 +115,8 @@ windows_of {a} {b} {w} fit s =
     record {
       own = subst (λ k. k < i.modulus) (sym own) (window_below a i.modulus is fit.of_a);
       sender = subst (λ k. k < i.modulus) (sym sender) (window_below b i.modulus is fit.of_b);
-      halves = λ mode. let half = fit.halves (inl (sym (s.near_sound.mode ∙ ap (λ (p : Params). p.mode) s.near_params)
-          ∙ mode)) in (
+      halves = λ mode. let half = halves_in i.modulus is fit (inl (sym (s.near_sound.mode
+          ∙ ap (mode_in i.modulus) s.near_params) ∙ mode)) in (
             subst (λ k. k + k ≤ i.modulus) (sym own) (window_half a i.modulus is half.0),
             subst (λ k. k + k ≤ i.modulus) (sym sender) (window_half b i.modulus is half.1),
           );
@@ -133,7 +141,7 @@ ask_same modulus answers (SetupSent DiscFrame flag) = refl
 ask_same modulus answers (SetupSent DmFrame flag) = refl
 ask_same modulus answers (SetupSent UaFrame flag) = refl
 
-asks_sent :
+pub asks_sent :
     (on_ask : Bool) (r : RecordedEnd) (sent : List SentIn)
     → asks_in (map (tagged on_ask r) sent) ≡ core_asks (cores_sent false 0 sent)
 asks_sent on_ask r [] = refl

@@ -3,7 +3,7 @@ use Rattle.link_world.proofs.Common.{◌≡◌, ℕ, zero, suc, ◌+◌, ◌-◌
 use Rattle.link_world.proofs.Common.{subst, List, [], ◌∷◌, ◌++◌, length, drop, replicate, Option, Some, None, refl, sym}
 use Rattle.link_world.proofs.Common.{ap, ◌∙◌, arith, length-append, Packet, Place, Mode, Incoming, empty_incoming}
 use Rattle.link_world.proofs.Common.{empty_place, packet_at, with_packet, with_asked, unasked, missing, full_end}
-use Rattle.link_world.proofs.Common.{first_missing, slice_get, Params, window_in, before_gap}
+use Rattle.link_world.proofs.Common.{first_missing, slice_get, Params, mode_in, window_in, before_gap}
 use Rattle.link_world.proofs.Common.{moved_on}
 use Rattle.std.proofs.Common.{length-drop, length-set}
 use Rattle.std.proofs.lemmas.List.{length-map}
@@ -189,14 +189,14 @@ IsModulus modulus = (modulus ≡ 8) ⊎ (modulus ≡ 128)
 -- what a link keeps of its partner's packets, by its parameters
 pub record IsSound (p : Params) (i : Incoming) : Type 0 where
   pub fit : IsFit i
-  pub mode : i.mode ≡ p.mode
+  pub mode : i.mode ≡ mode_in i.modulus p
   pub modulus : IsModulus i.modulus
   pub room : HasRoom p
 
 -- a link that begins anew in a modulus
 pub sound_new :
     {p : Params} (modulus : ℕ) → IsModulus modulus → HasRoom p
-    → IsSound p (empty_incoming modulus (window_in modulus p) p.mode)
+    → IsSound p (empty_incoming modulus (window_in modulus p) (mode_in modulus p))
 sound_new modulus is room = record {
   fit = fit_new (room_in modulus room);
   mode = refl;
@@ -216,9 +216,9 @@ sound_anew s = record {
 -- its places change
 pub sound_same :
     {p : Params} {i j : Incoming} → IsFit j → j.mode ≡ i.mode → j.modulus ≡ i.modulus → IsSound p i → IsSound p j
-sound_same fit mode modulus s = record {
+sound_same {p} fit mode modulus s = record {
   fit = fit;
-  mode = mode ∙ s.mode;
+  mode = mode ∙ s.mode ∙ ap (λ m. mode_in m p) (sym modulus);
   modulus = subst IsModulus (sym modulus) s.modulus;
   room = s.room;
 }

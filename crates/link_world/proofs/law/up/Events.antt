@@ -8,7 +8,10 @@ use Rattle.link_world.proofs.Common.{told_of, noting, hearing, hears_ask, Sends,
 use Rattle.link_world.proofs.Common.{seize_in}
 use Rattle.ax25_frames.specs.declared.frame.Kind.TheVariants.{Info as InfoKind, Super as SuperKind}
 use Rattle.link_machine.specs.declared.state.LinkState.TheVariants.{Up as UpState}
+use Rattle.selective_reject.specs.Outgoing.{empty_outgoing}
 use Rattle.link_machine.specs.Event.Event.{Send}
+use Rattle.link_machine.specs.Machine.{unquit}
+use Rattle.link_machine.specs.Requests.{give_up, quit_up}
 use Rattle.link_world.proofs.law.reduced.Core.{End, Tagged as CoreTagged, between}
 use Rattle.link_world.proofs.law.reduced.CoreMoves.{first_origin}
 use Rattle.link_world.proofs.law.reduced.CoreOf.{end_behind, up_end}
@@ -27,7 +30,7 @@ use Rattle.link_world.proofs.law.showing.Shown.{core_set_up, core_set_ups, core_
 use Rattle.link_world.proofs.law.showing.Shown.{told_given}
 use Rattle.link_world.proofs.law.showing.Outcome.{Keeps}
 use Rattle.link_world.proofs.law.showing.Heard.{Arrival, heard_as, heard_frame}
-use Rattle.link_world.proofs.law.up.Settling.{EndsUp, progress_in, up_ends}
+use Rattle.link_world.proofs.law.up.Settling.{EndsUp, progress_in, releases, up_ends}
 
 -- an end that is up before an event, with its last set-up, its partner and what is under way to each
 pub record UpEnd (r : RecordedEnd) (ended : List SetUp) (last : SetUp) (y : End) (to_x to_y : List CoreTagged)
@@ -85,11 +88,19 @@ up_goes_on {h} {r} {ended} {last} u no_ask noted up =
     record { no_ask = no_ask; set_ups = noted ∙ u.set_ups } in
     up_ends ends up
 
--- a disconnect is asked for
+-- a disconnect is asked for, and perhaps the packets that wait are given up
 pub up_quits :
     {r : RecordedEnd} {ended : List SetUp} {last : SetUp} {y : End} {to_x to_y : List CoreTagged}
-    → UpEnd r ended last y to_x to_y → Keeps Disconnects r y to_x to_y (settled (setting quitting (begin r.machine)))
-up_quits u = up_goes_on u refl refl (setting_keeps quitting (λ c. refl) (up_begins u))
+    → UpEnd r ended last y to_x to_y → Keeps Disconnects r y to_x to_y (settled (quit_up (begin r.machine)))
+up_quits {r} {ended} {last} {y} {to_x} {to_y} u = go r.machine.control.quit
+  where
+    go : (b : Bool) → Keeps Disconnects r y to_x to_y
+        (settled (if b then give_up (begin r.machine) else setting quitting (begin r.machine)))
+    go true =
+        let ends : EndsUp Disconnects r ended last [] r.machine.incoming.modulus =
+        record { no_ask = refl; set_ups = u.set_ups } in
+        releases (unquit r.machine.control) empty_outgoing ends refl (up_begins u)
+    go false = up_goes_on u refl refl (setting_keeps quitting (λ c. refl) (up_begins u))
 
 -- the channel takes a frame of it
 pub up_seizes :

@@ -9,6 +9,8 @@ use Rattle.std.specs.List.{AllByRecursion as Each}
 use Rattle.std.proofs.lemmas.Bool.{and_right}
 use Rattle.std.proofs.lemmas.List.{nil_from_length}
 use Rattle.ax25_frames.specs.declared.frame.U.TheVariants.{Disc as DiscFrame}
+use Rattle.selective_reject.specs.Outgoing.{Outgoing}
+use Rattle.link_machine.specs.declared.control.Control.{Control}
 use Rattle.link_machine.specs.Acts.{release}
 use Rattle.link_world.proofs.law.reduced.Core.{End, Tagged as CoreTagged, between}
 use Rattle.link_world.proofs.law.reduced.Core.Kind.{Disc}
@@ -174,14 +176,18 @@ not_alone to_x to_y modulus sent (inl none) = absurd (some (ap asks (map-append 
     some e = omega arith
 not_alone to_x to_y modulus sent (inr quiet) = quiet
 
--- it is released
-releases :
+-- what waits is no more, and the conditions may change
+abbrev pub leaving : Control → Outgoing → Turn → Turn
+leaving c o turn = record turn { now = record turn.now { control = c; outgoing = o } }
+
+-- it is released, and no packet waits
+pub releases :
     {h : Happening} {r : RecordedEnd} {y : End} {to_x to_y : List CoreTagged} {ended : List SetUp} {last : SetUp}
-    {told : List Told} {modulus : ℕ} {turn : Turn} → EndsUp h r ended last told modulus
-    → turn.now.outgoing.packets ≡ [] → IsUp to_x (progress_in r y to_y ended last told modulus) turn
-    → Keeps h r y to_x to_y (release turn)
-releases {h} {r} {y} {to_x} {to_y} {ended} {last} {turn} e none up =
-    let t = release turn in
+    {told : List Told} {modulus : ℕ} {turn : Turn} (c : Control) (o : Outgoing) → EndsUp h r ended last told modulus
+    → o.packets ≡ [] → IsUp to_x (progress_in r y to_y ended last told modulus) turn
+    → Keeps h r y to_x to_y (release (leaving c o turn))
+releases {h} {r} {y} {to_x} {to_y} {ended} {last} {turn} c o e none up =
+    let t = release (leaving c o turn) in
     let m = turn.now in
     let all : List SetUp = ended ++ last ∷ [] in
     let n : ℕ = length (core_set_ups ended) in
@@ -223,7 +229,7 @@ close_keeps {h} {r} {y} {to_x} {to_y} {turn} e up =
         → Keeps h r y to_x to_y (if b then release turn else turn)
     go true is =
         let parts = and_parts turn.now.control.quit (length turn.now.outgoing.packets == 0) is in
-        releases e (nil_from_length turn.now.outgoing.packets
+        releases turn.now.control turn.now.outgoing e (nil_from_length turn.now.outgoing.packets
         (eqb-true (length turn.now.outgoing.packets) 0 parts.1)) up
     go false is = stays_up e up
 

@@ -1,7 +1,8 @@
 -- A tick of an end that is up.
 use Rattle.link_world.proofs.Common.{◌≡◌, ℕ, Bool, true, false, if◌then◌else◌, List, [], ◌∷◌, ◌++◌, length, Option}
 use Rattle.link_world.proofs.Common.{Some, None, inl, refl, sym, ap, ◌∙◌, subst, append_assoc, fold, cond-false}
-use Rattle.link_world.proofs.Common.{LinkState, Ended, window_in, empty_incoming, sent_in, SetupSent, Turn, begin}
+use Rattle.link_world.proofs.Common.{LinkState, Ended, mode_in, window_in, empty_incoming, sent_in, SetupSent, Turn}
+use Rattle.link_world.proofs.Common.{begin}
 use Rattle.link_world.proofs.Common.{setting, runs_out, lowered, with_t1, with_t3, t1_out, t3_out, tick_t1_of}
 use Rattle.link_world.proofs.Common.{tick_t3_of, tick, tick_in, is_spent, settled, SetUp, opened, RecordedEnd, told_of}
 use Rattle.link_world.proofs.Common.{Ticks, ◌||◌}
@@ -73,7 +74,7 @@ spent_outcome {r} {ended} {last} waiting {y} {was} {to_x} {to_y} {turn} u h spen
           t3 = None;
         };
         outgoing = Rattle.selective_reject.specs.Outgoing.empty_outgoing;
-        incoming = empty_incoming 8 (window_in 8 turn.now.params) turn.now.params.mode;
+        incoming = empty_incoming 8 (window_in 8 turn.now.params) (mode_in 8 turn.now.params);
       };
       sent = turn.sent ++ sent_in own (SetupSent DmFrame false) ∷ [];
       told = turn.told ++ Ended Rattle.link_machine.specs.declared.acts.Why.TheVariants.Failed ∷ [];
@@ -103,7 +104,8 @@ spent_outcome {r} {ended} {last} waiting {y} {was} {to_x} {to_y} {turn} u h spen
       state_is = refl;
       down = refl;
       params = h.so_far.params_are;
-      sound = subst (λ q. IsSound r.machine.params (empty_incoming 8 (window_in 8 q) q.mode)) (sym h.so_far.params_are)
+      sound = subst (λ q. IsSound r.machine.params (empty_incoming 8 (window_in 8 q) (mode_in 8 q)))
+          (sym h.so_far.params_are)
           (sound_new 8 (inl refl) u.sound.room);
       set_ups = ap (λ t. fold (told_of (opened 0 8 r.waiting)) r.set_ups
           (t ++ Ended Rattle.link_machine.specs.declared.acts.Why.TheVariants.Failed ∷ [])) h.so_far.told_is

@@ -1,13 +1,14 @@
-use Rattle.link_world.proofs.Common.{◌≡◌, ℕ, ◌+◌, ◌⊎◌, length, sym, ◌∙◌, ap, subst, inl, inr, Some, None, Result, Ok}
-use Rattle.link_world.proofs.Common.{Err, IfOk, IfErr, length-map, End, A, B, Event, WorldFault, NothingThere, is_there}
-use Rattle.link_world.proofs.Common.{StandForBoth, in_flight, World, towards, end_of}
+use Rattle.link_world.proofs.Common.{◌≡◌, ℕ, ◌+◌, ◌⊎◌, refl, sym, ◌∙◌, ap, subst, inl, inr, Option, Some, None, Result}
+use Rattle.link_world.proofs.Common.{Ok, Err, IfOk, IfErr, WorldFault, NothingThere, StandForBoth, World, seen_from}
+use Rattle.link_world.proofs.Common.{end_of, IsAnswered}
 use Rattle.std.specs.Prelude.{OnOk, OnErr, min}
 use Rattle.link_machine.specs.declared.machine.Machine.{Machine as HeldLink}
 use Rattle.link_machine.specs.StandsFor.{StandsFor as LinkStandsFor}
 use Rattle.link_world.specs.declared.fault.WorldFault.TheVariants.{Link, NotQuiet, Memory}
 use Rattle.link_world.specs.Faults.{cause, cause_in}
-use Rattle.link_world.specs.Held.{IsKept, IsRefusalOf, side_at, stop_of}
+use Rattle.link_world.specs.Held.{IsKept, stop_of}
 use Rattle.link_world.specs.StandsFor.{HeldWorld, StandsFor, IsAlike}
+use Rattle.link_world.proofs.Causes.{refused_cause, missing_cause}
 use Rattle.link_world.proofs.world.World.apply.Goals as goal
 
 -- what holds of one outcome of a call gives what else holds of it
@@ -61,22 +62,19 @@ unchanged held behind w h k = record {
   towards_b = k.far_towards ∙ h.towards_b;
 }
 
--- the frames in flight towards an end are as many as in the world
-count_at : (end : End) (held : HeldWorld) (w : World) → StandsFor held w
-    → length (side_at end held.a held.b).towards.items ≡ length (towards end w)
-count_at A held w h = ap length h.towards_a ∙ length-map w.a.towards in_flight
-count_at B held w h = ap length h.towards_b ∙ length-map w.b.towards in_flight
+-- a cause is the answer
+cause_answered :
+    {T : Type 0} (r : Result T WorldFault) (found : Option WorldFault) (fault : WorldFault)
+    → IsAnswered found r → found ≡ Some fault → r ≡ Err fault
+cause_answered r found fault h e = subst (λ c. IsAnswered c r) e h
 
--- a cause is told, or memory was not given
-told_cause :
-    {T : Type 0} (r : Result T WorldFault) (event : Event) (number : ℕ) (w : World) (fault : WorldFault)
-    → OnOk r (cause number w event ≡ None) → IfErr r (IsRefusalOf event number w)
-    → cause number w event ≡ Some fault → (r ≡ Err fault) ⊎ (r ≡ Err Memory)
-told_cause (Ok told) event number w fault free refused e = absurd (let n : None ≡ Some fault = sym free ∙ e in cc)
-told_cause (Err other) event number w fault free refused e = elim refused [
-  | inl memory ↦ inr (ap Err memory)
-  | inr is ↦ inl (let same : Some other ≡ Some fault = sym is ∙ e in ap Err cc)
-]
+-- and the answer is a cause, or that memory was not given
+fault_is :
+    {T : Type 0} (r : Result T WorldFault) (found : Option WorldFault)
+    → IsAnswered found r → IfErr r (λ fault. (fault ≡ Memory) ⊎ (found ≡ Some fault))
+fault_is r None h = each_err r _ _ (λ fault memory. inl memory) h
+fault_is r (Some cause) h = subst (λ x. IfErr x (λ fault. (fault ≡ Memory) ⊎ (Some cause ≡ Some fault))) (sym h)
+    (inr refl)
 
 -- a world stops at an event exactly when that answers so
 stopped_at : {T : Type 0} (r : Result T WorldFault) (index : ℕ) → stop_of r ≡ Some index → r ≡ Err (NotQuiet index)
@@ -105,13 +103,11 @@ returns-clause-unchanged c = λ w h.
 pub returns-clause-refused : goal.returns-clause-refused
 returns-clause-refused c = λ w fault h e.
     let held = subst (λ (v : HeldWorld). StandsFor v w) (sym c.self.view_is) h in
-    let both = both_of _ w held in
     let number = c.saturating_add-self-inside.result in
     let none : c.args.self.now.stopped ≡ None = sym (ap (λ (v : HeldWorld). v.stopped) c.self.view_is)
     ∙ c.in_default.is in
-    told_cause c.happen-outcome.result c.args.event number w fault
-    (ok_too c.happen-outcome.result _ _ (λ told made. made.free) (c.happen-outcome.ensures.step w both))
-    (c.happen-outcome.ensures.refused w both)
+    cause_answered c.happen-outcome.result (cause number w c.args.event) fault
+    (c.happen-outcome.ensures.answered w (both_of _ w held))
     (sym (ap (λ s. cause_in s number w c.args.event) none) ∙ e)
 
 pub returns-clause-fault : goal.returns-clause-fault
@@ -124,18 +120,24 @@ returns-clause-fault c = λ w h.
       | inl memory ↦ inl memory
       | inr cause_is ↦ inr (ap (λ s. cause_in s number w c.args.event) none ∙ cause_is)
     ])
-    (c.happen-outcome.ensures.refused w (both_of _ w held))
+    (fault_is c.happen-outcome.result (cause number w c.args.event)
+    (c.happen-outcome.ensures.answered w (both_of _ w held)))
 
 pub returns-clause-nothing_there : goal.returns-clause-nothing_there
 returns-clause-nothing_there c = λ w h none e.
     let held = subst (λ (v : HeldWorld). StandsFor v w) (sym c.self.view_is) h in
-    c.happen-outcome.ensures.nothing_there
-    (ap (is_there c.args.event) (count_at (end_of c.args.event) _ w held) ∙ e)
+    let number = c.saturating_add-self-inside.result in
+    cause_answered c.happen-outcome.result (cause number w c.args.event) NothingThere
+    (c.happen-outcome.ensures.answered w (both_of _ w held))
+    (missing_cause c.args.event number (seen_from (end_of c.args.event) w) e)
 
 pub returns-clause-link_refuses : goal.returns-clause-link_refuses
 returns-clause-link_refuses c = λ w fault h none e.
     let held = subst (λ (v : HeldWorld). StandsFor v w) (sym c.self.view_is) h in
-    c.happen-outcome.ensures.link_refuses w fault (both_of _ w held) e
+    let number = c.saturating_add-self-inside.result in
+    cause_answered c.happen-outcome.result (cause number w c.args.event) (Link fault)
+    (c.happen-outcome.ensures.answered w (both_of _ w held))
+    (refused_cause c.args.event number (seen_from (end_of c.args.event) w) fault e)
 
 pub returns-clause-kept : goal.returns-clause-kept
 returns-clause-kept c =
