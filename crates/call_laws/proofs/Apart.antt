@@ -5,7 +5,7 @@ use Rattle.station_laws.proofs.Common.{Up, Releasing, Event, Machine, step, begi
 use Rattle.station_laws.proofs.Common.{step_is, is_refused, as_timed, agrees, calls_again, connects, declines}
 use Rattle.station_laws.proofs.Common.{ends_by_disc, ends_by_dm, ends_call, gives_up, is_answered, is_called}
 use Rattle.station_laws.proofs.Common.{is_called_again, narrows, falls_narrow, releases_again, resets, rests, takes}
-use Rattle.station_laws.proofs.Common.{wishes, works}
+use Rattle.station_laws.proofs.Common.{withdraws, wishes, abandons, works}
 use Rattle.station_laws.proofs.Common.{goes_on, is_down, releases}
 use Rattle.link_machine.specs.Turn.{Turn}
 use Rattle.link_steps.proofs.Rows.Stepped.{makes}
@@ -62,7 +62,9 @@ row_apart m event t runs h (narrows calling wide heard) = tt
 row_apart m event t runs h (resets up wrong) = tt
 row_apart m event t runs h (connects idle connecting) = tt
 row_apart m event t runs h (takes packet sending short) = tt
+row_apart m event t runs h (withdraws calling wishing) = tt
 row_apart m event t runs h (wishes wishing) = tt
+row_apart m event t runs h (abandons up wish wishing) = tt
 
 settled_told : (t u : Turn) → Settles t u → u.told ≡ t.told
 settled_told t u (is_down down) = refl

@@ -7,7 +7,7 @@ use Rattle.station_laws.proofs.Common.{Callsign, IsCallCharacter, BeginsWithPath
 use Rattle.station_laws.proofs.Common.{Setup, Info, Eight, Sabm, Ua, IsFrame, reading, default_params, End, A, B}
 use Rattle.station_laws.proofs.Common.{Config, Joined, Bytes, Agw, Kiss, answering_else, call_of_text, shown_to_hosts}
 use Rattle.station_laws.proofs.Common.{joining, taking, event_at, making, no_layer_3, Route, path_along, StationState}
-use Rattle.station_laws.proofs.Common.{new_station, Turn, Step, new_stations, IsJointRun, FromHost, OffAir, OfClock}
+use Rattle.station_laws.proofs.Common.{new_station, usual_config, Turn, Step, new_stations, IsJointRun, FromHost, OffAir, OfClock}
 use Rattle.station_laws.proofs.Common.{Calls}
 use Rattle.station_laws.proofs.Common.{Pairs, IsQuietLink, frame_octets, WindowsFit, Pair, RiseBoth, AreAlikeButForH}
 use Rattle.station_laws.proofs.Common.{HearsLinkFrame, IsHeardPair, HasPair, AreHeardInOrder, All-contains_itself}
@@ -199,7 +199,7 @@ header kind from to = 0 ∷ 0 ∷ 0 ∷ 0 ∷ kind ∷ 0 ∷ 0 ∷ 0 ∷ (from +
 -- ---- the steps
 
 abbrev pub config : Config
-config = record { params = default_params; digi = None }
+config = usual_config default_params None
 
 abbrev pub joins : End → StationState → Step
 joins end s = record {
@@ -658,13 +658,13 @@ have_at_b =
     (ticks_silent 13 b_gives.after.now names_none))
     (λ octets hears. absurd (a_is_not_b hears.station), tt))
 
-heard_at_b : AreHeardInOrder B steps pairs.at_b
+heard_at_b : AreHeardInOrder calls.b calls.a B steps pairs.at_b
 heard_at_b = record {
   rise = one_rise (record { heard = 7; sent = 0 });
   each = All-from_recursion (IsHeardPair B steps) pairs.at_b (first_pair, tt);
   all = λ number step octets is hears.
       let same : 0 + number ≡ number = omega arith in
-      subst (HasPair pairs.at_b) same (have_pairs B pairs.at_b 0 steps have_at_b number step octets is hears);
+      subst (HasPair pairs.at_b) same (have_pairs B pairs.at_b 0 steps have_at_b number step octets is hears.link);
 }
 
 a_hears_first : HearsLinkFrame A a_hears_ua ua
@@ -739,13 +739,13 @@ have_at_a =
       tt,
     ))
 
-heard_at_a : AreHeardInOrder A steps pairs.at_a
+heard_at_a : AreHeardInOrder calls.a calls.b A steps pairs.at_a
 heard_at_a = record {
   rise = two_rise (record { heard = 8; sent = 0 }) (record { heard = 23; sent = 1 }) (omega arith, omega arith);
   each = All-from_recursion (IsHeardPair A steps) pairs.at_a (first_answer, (data_pair, tt));
   all = λ number step octets is hears.
       let same : 0 + number ≡ number = omega arith in
-      subst (HasPair pairs.at_a) same (have_pairs A pairs.at_a 0 steps have_at_a number step octets is hears);
+      subst (HasPair pairs.at_a) same (have_pairs A pairs.at_a 0 steps have_at_a number step octets is hears.link);
 }
 
 default_windows : HasWindows default_params
@@ -755,7 +755,8 @@ fits : WindowsFit default_params default_params
 fits = record {
   of_a = default_windows;
   of_b = default_windows;
-  halves = λ modes. elim modes [ inl e ↦ absurd (cc) | inr e ↦ absurd (cc) ];
+  narrow = λ modes. elim modes [ inl e ↦ absurd (cc) | inr e ↦ absurd (cc) ];
+  wide = λ modes. (omega arith, omega arith);
 }
 
 -- ---- the client
@@ -861,5 +862,5 @@ client = record {
 
 speaks : CallLaw → PrintsGiven (world_of calls pairs default_params default_params steps) (printed_after plan stream)
 speaks law =
-    law config config 1 2 steps pairs is_run heard_at_a heard_at_b fits A plan calls_valid is_quiet_run 1 client stream
+    law config config 1 2 steps A plan pairs is_run heard_at_a heard_at_b fits calls_valid is_quiet_run 1 client stream
     whole prints_some

@@ -313,15 +313,15 @@ call_told_holds a b seed_a seed_b steps run x plan called id client stream part 
     client.short) part some
 
 pub call_law_by : StationsLaw → SetUpsAreTold → CallLaw
-call_law_by law told a b seed_a seed_b steps pairs run heard_a heard_b fits x plan called quiet id client stream part
+call_law_by law told a b seed_a seed_b steps x plan pairs run heard_a heard_b fits called quiet id client stream part
     some =
     let calls = calls_of x plan in
-    let keeps = law a b seed_a seed_b steps pairs run heard_a heard_b fits calls quiet in
+    let keeps = law a b seed_a seed_b steps calls pairs run heard_a heard_b fits quiet in
     let has : PrintsTold (fold got_told [] (told_at calls x steps)) (printed_after plan stream) =
     call_told_holds a b seed_a seed_b steps run x plan called id client stream part some in
     let world = seen_from x (world_of calls pairs a.params b.params steps) in
     let there : slice_get (gots world.a.end.set_ups) has.number ≡ Some has.got =
-    ap (λ gs. slice_get gs has.number) (told a b seed_a seed_b steps pairs run heard_a heard_b calls x)
+    ap (λ gs. slice_get gs has.number) (told a b seed_a seed_b steps calls pairs run heard_a heard_b x)
     ∙ has.is_there in
     given_in world has.number has.got (printed_after plan stream)
     (order_at x calls pairs a b steps (all_stepped steps (new_stations a seed_a b seed_b)) keeps) there has.part some

@@ -24,13 +24,18 @@ seen_far A calls pairs a b steps seen = seen.at_b
 seen_far B calls pairs a b steps seen = seen.at_a
 
 pub call_seen_by : CallLaw → SetUpsLaw → CallSeenLaw
-call_seen_by law seen a b seed_a seed_b steps pairs run heard_a heard_b fits x plan called quiet given id client stream
+call_seen_by law seen a b seed_a seed_b steps x plan pairs run heard_a heard_b fits called quiet given id client stream
     part some =
     let calls = calls_of x plan in
-    let h = law a b seed_a seed_b steps pairs run heard_a heard_b fits x plan called quiet id client stream part some in
-    let far = seen_far x calls pairs a b steps (seen a b seed_a seed_b steps pairs run heard_a heard_b calls given) in
+    let h = law a b seed_a seed_b steps x plan pairs run heard_a heard_b fits called quiet id client stream part some in
+    let far = seen_far x calls pairs a b steps (seen a b seed_a seed_b steps calls pairs run heard_a heard_b given) in
     record {
+      place = h.place;
+      own = h.own;
+      is_own = h.is_own;
+      got = h.got;
       number = h.number;
+      is_origin = h.is_origin;
       giver = as_seen h.giver;
       is_there = ap (λ qs. slice_get qs h.number) (sym far) ∙ get_seen _ h.number h.giver h.is_there;
       part = h.part;

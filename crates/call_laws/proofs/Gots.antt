@@ -237,8 +237,8 @@ run_gots calls pairs x counts (step ∷ steps) w follows =
 
 -- over a joint run of two new stations
 pub set_ups_are_told_by : FollowingLaw → SetUpsAreTold
-set_ups_are_told_by law a b seed_a seed_b steps pairs run heard_a heard_b calls end =
-    let follows = law a b seed_a seed_b steps pairs run heard_a heard_b calls in
+set_ups_are_told_by law a b seed_a seed_b steps calls pairs run heard_a heard_b end =
+    let follows = law a b seed_a seed_b steps calls pairs run heard_a heard_b in
     run_gots calls pairs end (record { a = 0; b = 0 }) steps (first_world calls a.params b.params) follows.through
     ∙ start end
   where

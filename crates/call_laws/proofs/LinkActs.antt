@@ -2,7 +2,7 @@
 use Rattle.station_laws.proofs.Common.{◌≡◌, ◌≢◌, ℕ, Bool, true, false, List, [], ◌∷◌, ◌++◌, map, cond, Option, Some}
 use Rattle.station_laws.proofs.Common.{None, refl, sym, ap, ◌∙◌, subst, append-nil, append_assoc, map-append}
 use Rattle.station_laws.proofs.Common.{each_append, range_with_len, Path, AgwMessage, Machine, Idle, giving_packet}
-use Rattle.station_laws.proofs.Common.{packets_of, data_pid, giving, disconnecting, giving_up, giving_up_all}
+use Rattle.station_laws.proofs.Common.{packet_length, packets_of, data_pid, giving, disconnecting, giving_up, giving_up_all}
 use Rattle.station_laws.proofs.Common.{giving_up_link, leaving, without_host, without_owner, event_of, event_at}
 use Rattle.station_laws.proofs.Common.{with_links, Link, IsNewKey, is_between, link_at, most_links, with_link}
 use Rattle.station_laws.proofs.Common.{with_new_link, is_number, asked_key, asked_links, asking, asking_at, seizing}
@@ -355,7 +355,7 @@ data_does id plan calls message None turn = same_does id plan turn
 data_does id plan calls message (Some key) turn =
     does_along id plan (giving_packet key) (sends_at (meant plan) key)
     (λ packet t. event_does id plan calls key (LinkSend packet) t)
-    (packets_of (data_pid message.pid (link_at key turn.now.links)) message.body) turn
+    (packets_of (packet_length turn.now.paclen) (data_pid message.pid (link_at key turn.now.links)) message.body) turn
 
 pub disconnect_does : (id : ℕ) (plan : CallPlan) → IsBetweenCalls plan → (key : Option ℕ) (turn : Turn)
     → Does id plan turn (disconnect_steps (meant plan) key turn) (disconnecting key turn)

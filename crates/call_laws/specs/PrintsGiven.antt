@@ -30,16 +30,16 @@ pub record PrintsGiven (w : World) (printed : List ℕ) : Type 0 where
   pub is_there : slice_get w.b.end.set_ups number ≡ Some giver
   pub part : IsFirstPart printed (octets_of giver.given)
 
--- Over every joint run of two new stations that is heard in order in both directions, for a link whose windows fit and
--- whose channel is quiet: a client of one of the stations that calls the other and has taken a first part of what its
--- station has for it prints nothing, or what the partner's host gave in one set-up, whether the call is done or not.
+-- Over every joint run of two new stations, for a link whose frames are heard in order in both directions, whose
+-- windows fit and whose channel is quiet: a client of one of the stations that calls the other and has taken a first
+-- part of what its station has for it prints nothing, or what the partner's host gave in one set-up, whether the call
+-- is done or not.
 abbrev pub CallLaw : Type 0
 CallLaw =
-    (a b : Config) (seed_a seed_b : ℕ) (steps : List Step) (pairs : Pairs)
-    → let start = new_stations a seed_a b seed_b in
-    IsJointRun start steps → AreHeardInOrder A steps pairs.at_a → AreHeardInOrder B steps pairs.at_b
-    → WindowsFit a.params b.params → (end : End) (plan : CallPlan) → IsBetweenCalls plan
-    → let calls = calls_of end plan in
-    IsQuietLink calls pairs a.params b.params steps → (id : ℕ) → IsClientOf id end steps
+    (a b : Config) (seed_a seed_b : ℕ) (steps : List Step) (end : End) (plan : CallPlan) (pairs : Pairs)
+    → let start = new_stations a seed_a b seed_b in let calls = calls_of end plan in
+    IsJointRun start steps → AreHeardInOrder calls.a calls.b A steps pairs.at_a
+    → AreHeardInOrder calls.b calls.a B steps pairs.at_b → WindowsFit a.params b.params → IsBetweenCalls plan
+    → IsQuietLink calls pairs a.params b.params steps → (id : ℕ) → IsClientOf id end steps
     → (stream : List ℕ) → IsFirstPart stream (octets_had id end steps) → printed_after plan stream ≢ []
     → PrintsGiven (seen_from end (world_of calls pairs a.params b.params steps)) (printed_after plan stream)

@@ -36,13 +36,13 @@ got_told gots (Ended why) = gots
 abbrev pub told_at : Calls → End → List Step → List Told
 told_at calls end steps = flat_map told_in (link_steps_at calls end steps)
 
--- Over every joint run of two new stations that is heard in order in both directions, the packets that the set-ups of
--- an end got are those that its link told of in each, in order.
+-- Over every joint run of two new stations in which the frames of the link are heard in order in both directions, the
+-- packets that the set-ups of an end got are those that its link told of in each, in order.
 abbrev pub SetUpsAreTold : Type 0
 SetUpsAreTold =
-    (a b : Config) (seed_a seed_b : ℕ) (steps : List Step) (pairs : Pairs)
+    (a b : Config) (seed_a seed_b : ℕ) (steps : List Step) (calls : Calls) (pairs : Pairs)
     → let start = new_stations a seed_a b seed_b in
-    IsJointRun start steps → AreHeardInOrder A steps pairs.at_a → AreHeardInOrder B steps pairs.at_b
-    → (calls : Calls) (end : End)
+    IsJointRun start steps → AreHeardInOrder calls.a calls.b A steps pairs.at_a
+    → AreHeardInOrder calls.b calls.a B steps pairs.at_b → (end : End)
     → map (λ (q : SetUp). q.got) (seen_from end (world_of calls pairs a.params b.params steps)).a.end.set_ups
     ≡ fold got_told [] (told_at calls end steps)

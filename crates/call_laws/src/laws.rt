@@ -30,10 +30,11 @@ pub fn a_call_prints_what_was_told()
 {}
 
 /// The law of a call whose host is a live station, as [`a_call_prints_what_was_told`] speaks of it, in any joint run of
-/// two stations of which [`stations_law`] speaks: what is heard was sent before, and is heard in order and once, the
-/// windows fit, and the channel of the link of the call is quiet. Then what the call prints, whether it is done, goes
-/// on or was broken off, is nothing, or a first part of the octets that the partner's host gave in one set-up of the
-/// link, in order and nothing left out. That set-up is the origin of the one in which the client's end got them.
+/// two stations of which [`stations_law`] speaks: what is heard of the link of the call was sent before, and is heard
+/// in order and once, the windows fit, and the channel of that link is quiet. Then what the call prints, whether it is
+/// done, goes on or was broken off, is nothing, or a first part of the octets that the partner's host gave in one
+/// set-up of the link, in order and nothing left out. That set-up is the origin of the one in which the client's end
+/// got them.
 pub fn a_call_prints_what_was_given()
     ensures { CallLaw }
 {
@@ -42,8 +43,8 @@ pub fn a_call_prints_what_was_given()
 }
 
 /// [`a_call_prints_what_was_given`] in what is seen at the other station, if hosts give packets only while the link is
-/// up and takes them: that set-up is one of those that are seen there, and the packets given in it are those that the
-/// events of the link there brought while it ran.
+/// up and takes them: that set-up, the origin, is one of those that are seen there, and the packets given in it are
+/// those that the events of the link there brought while it ran.
 pub fn a_call_prints_what_was_seen_given()
     ensures { CallSeenLaw }
 {

@@ -71,7 +71,7 @@ pub use Rattle.link_steps.proofs.Rows.Rests.{as_timed}
 pub use Rattle.link_steps.proofs.Rows.Row.{agrees, calls_again, connects, declines, ends_by_disc, ends_by_dm, ends_call}
 pub use Rattle.link_steps.proofs.Rows.Row.{gives_up, is_answered, is_called, is_called_again, narrows, falls_narrow}
 pub use Rattle.link_steps.proofs.Rows.Row.{releases_again}
-pub use Rattle.link_steps.proofs.Rows.Row.{resets, rests, takes, wishes, works}
+pub use Rattle.link_steps.proofs.Rows.Row.{abandons, resets, rests, takes, wishes, withdraws, works}
 pub use Rattle.link_steps.proofs.Rows.Settles.{goes_on, is_down, releases}
 pub use Rattle.link_steps.proofs.Rows.Stepped.{is_refused, makes}
 pub use Rattle.link_world.proofs.law.ChangesLaw.{changes_law_holds}
@@ -88,7 +88,8 @@ pub use Rattle.slicer_bank.specs.MergedItems.{AreMergedBetween}
 pub use Rattle.station.proofs.MemoryLemmas.{if_took}
 pub use Rattle.station.specs.AgwKinds.{connect_kind, data_kind, disconnect_kind, register_kind}
 pub use Rattle.station.specs.AgwRequests.{AreAnswered, IsAnswered, IsCall, IsCallMade, called_pid, called_route}
-pub use Rattle.station.specs.AgwRequests.{data_pid, disconnecting, giving, giving_packet, may_call, own_key, packets_of}
+pub use Rattle.station.specs.AgwRequests.{data_pid, disconnecting, giving, giving_packet, may_call, own_key, packet_length}
+pub use Rattle.station.specs.AgwRequests.{packets_of}
 pub use Rattle.station.specs.AgwRequests.{refused_reply, register_reply, registering, replying, with_registration}
 pub use Rattle.station.specs.Asking.{asked_key, asking, asking_at, seizing, some_wants, with_asked}
 pub use Rattle.station.specs.CallFields.{call_in}
@@ -122,6 +123,7 @@ pub use Rattle.station_laws.proofs.ChainRun.{RunChain, run_chained}
 pub use Rattle.station_laws.proofs.Chains.{AsksInSetUp, IsChain, StandsAsked, StandsCalled, asked_after, asked_append}
 pub use Rattle.station_laws.proofs.Chains.{asked_behind, behind_append, called_after, called_append, called_behind}
 pub use Rattle.station_laws.proofs.Chains.{chain_asked, chain_parts, last_machine, made_by}
+pub use Rattle.station_laws.proofs.EachLink.{matched_for_each, quiet_for_each}
 pub use Rattle.station_laws.proofs.Framed.{framed}
 pub use Rattle.station_laws.proofs.LinkDid.{is_connect, is_disconnect}
 pub use Rattle.station_laws.proofs.MatchedLaws.{matched_law_holds}

@@ -19,7 +19,7 @@ use Rattle.link_machine.specs.Event.{Event as LinkEvent}
 use Rattle.link_machine.specs.Event.Event.{Connect as LinkConnect, Send as LinkSend, Disconnect as LinkDisconnect}
 use Rattle.link_machine.specs.Event.Event.{Hear as LinkHear, Seize as LinkSeize, Tick as LinkTick}
 use Rattle.link_machine.specs.Step.{step as link_turn}
-use Rattle.channel_bench.proofs.AsksLittle.{disconnect_silent, drops_none, if_down, send_silent, sends_none}
+use Rattle.channel_bench.proofs.AsksLittle.{disconnect_asks_nothing, drops_none, if_down, send_silent, sends_none}
 use Rattle.channel_bench.proofs.CoreRun.{Occurs, Usual, input_of}
 use Rattle.channel_bench.proofs.CoreRun.Usual.{connects, disconnects, gives, hears, joins_kiss, joins_program}
 use Rattle.channel_bench.proofs.CoreRun.Usual.{registers, sets_full, ticks}
@@ -138,8 +138,9 @@ disconnects_room s by = go s.event refl by
     go : (event : LinkEvent) → s.event ≡ event → cause_of event ≡ disconnecting → AsksInRoom s
     go LinkConnect is c = absurd (cc)
     go (LinkSend packet) is c = absurd (cc)
-    go LinkDisconnect is c = if_down s (λ down. sends_none s
-        (ap (λ event. (link_turn s.link.machine event).sent) is ∙ disconnect_silent s.link.machine down))
+    go LinkDisconnect is c = if_down s (λ down. drops_none s
+        (ap (λ event. list_any asks_when_sent (link_turn s.link.machine event).sent) is
+        ∙ disconnect_asks_nothing s.link.machine down))
     go (LinkHear frame) is c = absurd (cc)
     go (LinkTick waiting) is c = absurd (cc)
     go (LinkSeize last both) is c = absurd (cc)

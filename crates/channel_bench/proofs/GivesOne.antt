@@ -3,11 +3,13 @@ use Rattle.channel_bench.proofs.Common.{◌≡◌, ℕ, ◌+◌, ◌/◌, ◌<�
 use Rattle.channel_bench.proofs.Common.{length, map, cond, get_or, Option, Some, None, is_some, is_none, refl, sym, ap}
 use Rattle.channel_bench.proofs.Common.{◌∙◌, subst, arith, position, range_with_len, append-nil, take_all}
 use Rattle.channel_bench.proofs.Common.{recursion_from_All, Packet, Up, Machine, refusal_of, End, A, B, other, spelling}
-use Rattle.channel_bench.proofs.Common.{data_kind, data_pid, giving_packet, own_key, packets_of, connection_of, taking}
+use Rattle.channel_bench.proofs.Common.{data_kind, data_pid, giving_packet, own_key, packet_length, packets_of}
+use Rattle.channel_bench.proofs.Common.{connection_of, taking}
 use Rattle.channel_bench.proofs.Common.{Link, Links, key_between, link_at, is_number, Route, StationState, most_held}
 use Rattle.channel_bench.proofs.Common.{Turn, begin, program_id, call_at, most_octets, request_between, IsTurn, Choice}
 use Rattle.channel_bench.proofs.Common.{LinkStep, data_steps, link_step, sends_at, steps_along, steps_for, turn_steps}
 use Rattle.channel_bench.proofs.Common.{first_chosen, each_get, not_both, none_by_position}
+use Rattle.std.specs.Int.{div_ceil}
 use Rattle.std.specs.Prelude.{IfSome}
 use Rattle.std.proofs.lemmas.Bool.Decides.{nat_tests}
 use Rattle.link_machine.specs.declared.control.Control.{Control}
@@ -30,10 +32,10 @@ use Rattle.station_laws.proofs.ValidCalls.{at_position}
 -- ---- one packet
 
 one_packet : (pid : ℕ) (octets : List ℕ) → 0 < length octets → length octets ≤ most_octets
-    → packets_of pid octets ≡ (let p : Packet = record { pid = pid; octets = octets } in p) ∷ []
+    → packets_of 256 pid octets ≡ (let p : Packet = record { pid = pid; octets = octets } in p) ∷ []
 one_packet pid octets some few =
-    let count : (length octets + 255) / 256 ≡ 1 = omega arith in
-    ap (λ n. map (packet_at pid octets) (range_with_len 0 n)) count
+    let count : div_ceil (length octets) 256 ≡ 1 = omega arith in
+    ap (λ n. map (packet_at 256 pid octets) (range_with_len 0 n)) count
     ∙ ap (λ xs. (let p : Packet = record { pid = pid; octets = xs } in p) ∷ []) (take_all 256 octets few)
 
 -- ---- the key of the link
@@ -106,12 +108,13 @@ abbrev Place : ℕ → Option Link → Type 0
 Place id place = IfSome place (HoldsFew id)
 
 data_gives :
-    (e : End) (piece : List ℕ) (s : StationState) (took : Turn) → took.now.links ≡ s.links → OwnsAll e s
+    (e : End) (piece : List ℕ) (s : StationState) (took : Turn) → took.now.links ≡ s.links → took.now.paclen ≡ 256
+    → OwnsAll e s
     → Accepts program_id s → is_some (first_chosen (chosen e) s.links.places) ≡ true → 0 < length piece
     → length piece ≤ most_octets
     → let m = request_between data_kind e piece in
     GivesOne e piece s (data_steps (chosen e) m (own_key program_id m took.now.links) took)
-data_gives e piece s took same owns accepts there some few =
+data_gives e piece s took same longest owns accepts there some few =
     let m = request_between data_kind e piece in
     let h = is_at e s.links there in
     let own : IsOwn e h.link = subst (IsOwnPlace e) h.at (each_get (IsOwnPlace e) s.links.places h.key tt owns.links) in
@@ -130,7 +133,7 @@ data_gives e piece s took same owns accepts there some few =
       packet = packet;
       is = ap (λ k. data_steps (chosen e) m k took) key
           ∙ ap (λ ps. steps_along (giving_packet h.key) (sends_at (chosen e) h.key) ps took)
-          (one_packet pid piece some few)
+          (ap (λ n. packets_of (packet_length n) pid piece) longest ∙ one_packet pid piece some few)
           ∙ append-nil (sends_at (chosen e) h.key packet took)
           ∙ ap (steps_for (chosen e) None h.key (LinkSend packet) took) at
           ∙ ap (λ b. cond b (step ∷ []) []) h.is_chosen;
@@ -149,7 +152,8 @@ gives_one e piece s after hosts owns accepts program there some few turn =
     let m = request_between data_kind e piece in
     said_go e m (begin s) (λ steps u. GivesOne e piece s steps) (between_written data_kind e piece few) hosts
     (λ missing. absurd (not_both (is_some (connection_of program_id s.connections)) program (ap is_some missing)))
-    (λ u h. data_gives e piece s (taking program_id (spelling m) (begin s)) refl owns accepts there some few) after turn
+    (λ u h. data_gives e piece s (taking program_id (spelling m) (begin s)) refl hosts.paclen owns accepts there some few)
+    after turn
 
 -- ---- it is taken
 

@@ -5,7 +5,7 @@ use Rattle.channel_bench.proofs.Common.{Calling, Up, Releasing, Hear, Machine, s
 use Rattle.channel_bench.proofs.Common.{Stepped, step_is, as_timed, agrees, calls_again, connects, declines}
 use Rattle.channel_bench.proofs.Common.{ends_by_disc, ends_by_dm, ends_call, gives_up, is_answered, is_called}
 use Rattle.channel_bench.proofs.Common.{is_called_again, narrows, falls_narrow, releases_again, resets, rests, takes}
-use Rattle.channel_bench.proofs.Common.{wishes, works}
+use Rattle.channel_bench.proofs.Common.{withdraws, wishes, abandons, works}
 use Rattle.channel_bench.proofs.Common.{goes_on, is_down, releases, is_refused, makes, asks_when_sent, StandsAsked}
 use Rattle.link_machine.specs.Turn.{Turn}
 use Rattle.channel_bench.proofs.WideCalls.{IsWideCall}
@@ -74,7 +74,9 @@ row_quiet m frame t down calm (narrows calling wide heard) =
 row_quiet m frame t down calm (resets up wrong) = absurd (subst IsDown up down)
 row_quiet m frame t down calm (connects idle connecting) = absurd connecting
 row_quiet m frame t down calm (takes packet sending short) = absurd sending
+row_quiet m frame t down calm (withdraws calling wishing) = absurd wishing
 row_quiet m frame t down calm (wishes wishing) = absurd wishing
+row_quiet m frame t down calm (abandons up wish wishing) = absurd wishing
 
 -- so a frame makes it ask for nothing, or send one frame
 pub hear_asks :

@@ -28,34 +28,40 @@ pub record IsHosts (c : Connection) : Type 0 where
   pub raw : c.raw ≡ false
   pub monitors : c.monitors ≡ false
 
--- all that a station has, which repeats for nobody
+-- all that a station has, which repeats for nobody and makes the longest packets
 pub record HasHosts (s : StationState) : Type 0 where
   pub connections : Each IsHosts s.connections
   pub digi : s.digi ≡ None
+  pub paclen : s.paclen ≡ 256
 
 -- a step that no connection's octets come in changes none
 pub record SameHosts (before after : Turn) : Type 0 where
   pub connections : after.now.connections ≡ before.now.connections
   pub digi : after.now.digi ≡ before.now.digi
+  pub paclen : after.now.paclen ≡ before.now.paclen
 
 pub same_hosts : KeptByTurns SameHosts
 same_hosts = record {
   acts = record {
-    same = λ t. record { connections = refl; digi = refl };
-    on = λ t u v h k. record { connections = k.connections ∙ h.connections; digi = k.digi ∙ h.digi };
-    tells = λ t pieces. record { connections = refl; digi = refl };
-    links = λ change t. record { connections = refl; digi = refl };
-    enters = λ key octets t. record { connections = refl; digi = refl };
-    drops = λ t. record { connections = refl; digi = refl };
-    asks = λ key t. record { connections = refl; digi = refl };
+    same = λ t. record { connections = refl; digi = refl; paclen = refl };
+    on = λ t u v h k. record { connections = k.connections ∙ h.connections; digi = k.digi ∙ h.digi; paclen = k.paclen ∙ h.paclen };
+    tells = λ t pieces. record { connections = refl; digi = refl; paclen = refl };
+    links = λ change t. record { connections = refl; digi = refl; paclen = refl };
+    enters = λ key octets t. record { connections = refl; digi = refl; paclen = refl };
+    drops = λ t. record { connections = refl; digi = refl; paclen = refl };
+    asks = λ key t. record { connections = refl; digi = refl; paclen = refl };
   };
-  registers = λ call id t. record { connections = refl; digi = refl };
-  told = λ ours t. record { connections = refl; digi = refl };
+  registers = λ call id t. record { connections = refl; digi = refl; paclen = refl };
+  told = λ ours t. record { connections = refl; digi = refl; paclen = refl };
 }
 
 pub still_has : (before after : Turn) → SameHosts before after → HasHosts before.now → HasHosts after.now
 still_has before after same h =
-    record { connections = subst (Each IsHosts) (sym same.connections) h.connections; digi = same.digi ∙ h.digi }
+    record {
+      connections = subst (Each IsHosts) (sym same.connections) h.connections;
+      digi = same.digi ∙ h.digi;
+      paclen = same.paclen ∙ h.paclen;
+    }
 
 -- ---- a connection that joins
 
@@ -67,6 +73,7 @@ joins_hosts id kind s new h = go (nat_lt (length s.connections) most_connections
     go true = record {
       connections = each_append IsHosts s.connections (new_connection id kind ∷ []) h.connections (new, tt);
       digi = h.digi;
+      paclen = h.paclen;
     }
     go false = h
 
@@ -147,6 +154,7 @@ taken_hosts message before written h = record {
   connections = with_more program_id (spelling message) before.now.connections
       (message_hosts message written) h.connections;
   digi = h.digi;
+  paclen = h.paclen;
 }
 
 -- ---- KISS
@@ -189,4 +197,5 @@ pub kiss_taken : (before : Turn) → HasHosts before.now → HasHosts (taking ki
 kiss_taken before h = record {
   connections = with_more kiss_id full_duplex_octets before.now.connections kiss_hosts h.connections;
   digi = h.digi;
+  paclen = h.paclen;
 }

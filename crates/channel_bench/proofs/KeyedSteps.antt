@@ -5,7 +5,7 @@ use Rattle.channel_bench.proofs.Common.{length, map, cond, Option, Some, None, i
 use Rattle.channel_bench.proofs.Common.{arith, MatchBool, list_any, and_parts, drop_all, length-map, Callsign, Path}
 use Rattle.channel_bench.proofs.Common.{AgwMessage, sent_frame, done_of, A, B, each_append, IsCall, IsCallMade}
 use Rattle.channel_bench.proofs.Common.{called_pid, data_pid, disconnecting, giving, giving_packet, may_call}
-use Rattle.channel_bench.proofs.Common.{packets_of, refused_reply, register_reply, registering, replying}
+use Rattle.channel_bench.proofs.Common.{packet_length, packets_of, refused_reply, register_reply, registering, replying}
 use Rattle.channel_bench.proofs.Common.{with_registration, event_at, event_of, queueing_frames, settled_link}
 use Rattle.channel_bench.proofs.Common.{with_links, Link, key_between, link_at, most_links, making, is_number}
 use Rattle.channel_bench.proofs.Common.{may_register, registrar, Route, path_along, StationState, most_waiting}
@@ -289,7 +289,7 @@ pub data_keyed : (m : AgwMessage) (key : Option ℕ) (t : Turn) → Keyed t.now 
 data_keyed m None t h = h
 data_keyed m (Some key) t h =
     along_keyed (giving_packet key) (λ packet u k. event_keyed key (LinkSend packet) u (send_leaves key packet u k) k)
-    (packets_of (data_pid m.pid (link_at key t.now.links)) m.body) t h
+    (packets_of (packet_length t.now.paclen) (data_pid m.pid (link_at key t.now.links)) m.body) t h
 
 pub disconnect_keyed : (key : Option ℕ) (t : Turn) → Keyed t.now → Keyed (disconnecting key t).now
 disconnect_keyed None t h = h

@@ -8,7 +8,7 @@ use Rattle.channel_bench.proofs.Common.{AllToldInOne, runs_behind, IsGivenWhileU
 use Rattle.channel_bench.proofs.Common.{IsMachineOf, first_chosen, seed_at, RunChain, run_chained, AsksInSetUp, IsChain}
 use Rattle.channel_bench.proofs.Common.{StandsAsked, StandsCalled, asked_behind, called_behind, chain_asked}
 use Rattle.channel_bench.proofs.Common.{last_machine, matched_law_holds, matched_in_order_holds, AsksFindRoom}
-use Rattle.channel_bench.proofs.Common.{AsksFindRoomAt, set_ups_law_holds}
+use Rattle.channel_bench.proofs.Common.{AsksFindRoomAt, matched_for_each, quiet_for_each, set_ups_law_holds}
 use Rattle.std.specs.List.{AllByRecursion as Each}
 use Rattle.link_world.specs.Windows.{WindowsFit}
 use Rattle.station_laws.specs.MatchedLaw.{IsEventOfCaller, OnlyACalls}
@@ -33,8 +33,8 @@ pub windows : (w : BenchWords) → WindowsFit (params_of w) (params_of w)
 windows w = record {
   of_a = ((omega arith, omega arith), (omega arith, omega arith));
   of_b = ((omega arith, omega arith), (omega arith, omega arith));
-  halves = λ modes.
-      (record { narrow = omega arith; wide = omega arith }, record { narrow = omega arith; wide = omega arith });
+  narrow = λ modes. (omega arith, omega arith);
+  wide = λ modes. (omega arith, omega arith);
 }
 
 -- the events of the link that a caller may have
@@ -71,8 +71,10 @@ pub law_kept :
     (all_stepped (steps_in moments) (first_stations w))
 law_kept w moments s known =
     let config = config_of w in
-    matched_law_holds changes_law_holds config config (seed_at w A) (seed_at w B) moments known.noted.run known.matched
-    known.noted.quiet (windows w) the_calls (only_a_calls (steps_in moments) known.little.asks known.room)
+    matched_law_holds changes_law_holds config config (seed_at w A) (seed_at w B) moments the_calls known.noted.run
+    (matched_for_each the_calls moments nothing_sent known.matched)
+    (quiet_for_each the_calls moments nothing_sent known.noted.quiet) (windows w)
+    (only_a_calls (steps_in moments) known.little.asks known.room)
 
 -- the events of the link at an end
 abbrev pub links_of : End → List Moment → List LinkStep
@@ -89,10 +91,10 @@ chained : (w : BenchWords) (moments : List Moment) (s : Stations) → Known w mo
     (steps_in moments)
 chained w moments s known =
     let config = config_of w in
-    let order = matched_in_order_holds moments known.matched in
-    run_chained config config (seed_at w A) (seed_at w B) (steps_in moments) (pairs_in moments)
-    the_calls known.noted.run
-    order.0 order.1
+    let order = matched_in_order_holds moments the_calls
+    (matched_for_each the_calls moments nothing_sent known.matched) in
+    run_chained config config (seed_at w A) (seed_at w B) (steps_in moments) the_calls (pairs_in moments)
+    known.noted.run order.0 order.1
 
 pub link_chain : (w : BenchWords) (moments : List Moment) (s : Stations) → Known w moments s → (e : End)
     → IsChain (first_machine w e) (links_of e moments)
@@ -190,10 +192,11 @@ law_short w moments s known given short e =
     let config = config_of w in
     let steps = steps_in moments in
     let pairs = pairs_in moments in
-    let order = matched_in_order_holds moments known.matched in
+    let order = matched_in_order_holds moments the_calls
+    (matched_for_each the_calls moments nothing_sent known.matched) in
     let kept = law_kept w moments s known in
-    let seen = set_ups_law_holds config config (seed_at w A) (seed_at w B) steps pairs known.noted.run order.0 order.1
-    the_calls (λ x. All-from_recursion GivenUp (links_of x moments) (given x)) in
+    let seen = set_ups_law_holds config config (seed_at w A) (seed_at w B) steps the_calls pairs known.noted.run order.0
+    order.1 (λ x. All-from_recursion GivenUp (links_of x moments) (given x)) in
     let world = world_of the_calls pairs config.params config.params steps in
     let given_a = subst (Each GivenShort) (sym seen.at_a) (seen_short w moments A (short A)) in
     let given_b = subst (Each GivenShort) (sym seen.at_b) (seen_short w moments B (short B)) in

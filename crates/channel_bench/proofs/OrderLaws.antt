@@ -2,13 +2,14 @@
 -- the host programs got in order.
 use Rattle.channel_bench.proofs.Common.{◌≡◌, List, [], ◌∷◌, map, refl, sym, ap, ◌∙◌, subst, All-from_recursion, A, B}
 use Rattle.channel_bench.proofs.Common.{RecordedEnd, changes_law_holds, SetUp, BenchWords, set_up_of, steps_of_run}
-use Rattle.channel_bench.proofs.Common.{the_calls, config_of, ProgramState, set_ups_of, GotInOrder, KeepsOrder}
+use Rattle.channel_bench.proofs.Common.{the_calls, config_of, ProgramState, set_ups_of, GotInOrder}
 use Rattle.channel_bench.proofs.Common.{AreMatched, nothing_sent, IsOver, world_of, pairs_in, Seen, as_seen}
 use Rattle.channel_bench.proofs.Common.{set_ups_seen, seed_at, matched_law_holds, matched_in_order_holds, AsksFindRoom}
-use Rattle.channel_bench.proofs.Common.{set_ups_law_holds}
+use Rattle.channel_bench.proofs.Common.{matched_for_each, quiet_for_each, set_ups_law_holds}
 use Rattle.link_world.specs.Origin.{GotInOrder as PacketsInOrder}
 use Rattle.link_world.specs.SetUps.{SetUp as LinkSetUp}
 use Rattle.channel_bench.specs.BenchLaw.{BenchLaw, IsFollowed, ProgramsFollow}
+use Rattle.channel_bench.specs.KeepsOrder.{SidesKeepOrder, octets_origins}
 use Rattle.channel_bench.specs.Report.{Report}
 use Rattle.channel_bench.proofs.LinkNow.{GivenUp, links_of, only_a_calls, windows}
 use Rattle.channel_bench.proofs.GotOctets.{octets_in_order, seen_as}
@@ -28,10 +29,11 @@ saw program set_ups seen told same = sym (told ∙ ap (map set_up_of) (sym same)
 
 order_of :
     (near far : RecordedEnd) (ours theirs : List SetUp) → PacketsInOrder near far → map seen_as near.set_ups ≡ ours
-    → map seen_as far.set_ups ≡ theirs → GotInOrder theirs ours
+    → map seen_as far.set_ups ≡ theirs → GotInOrder (octets_origins near.set_ups) theirs ours
 order_of near far ours theirs order same_ours same_theirs =
-    subst (λ qs. GotInOrder qs ours) same_theirs
-    (subst (GotInOrder (map seen_as far.set_ups)) same_ours (octets_in_order near far order))
+    let from = octets_origins near.set_ups in
+    subst (λ qs. GotInOrder from qs ours) same_theirs
+    (subst (GotInOrder from (map seen_as far.set_ups)) same_ours (octets_in_order near far order))
 
 -- the host programs saw the set-ups of the link
 followed :
@@ -69,18 +71,20 @@ bench_law_holds w report over =
     let holds = run_sees w over.count bench over.ticks over.no_trouble in
     let matched = (run_in_time w over.count bench over.ticks over.no_trouble).both.matched in
     let room = asks_find_room w report over matched in
-    let order = matched_in_order_holds moments matched in
+    let for_link = matched_for_each the_calls moments nothing_sent matched in
+    let order = matched_in_order_holds moments the_calls for_link in
     let h = followed w report over matched room in
     let kept =
     matched_law_holds changes_law_holds config config (seed_at w A)
-    (seed_at w B) moments holds.noted.run matched holds.noted.quiet (windows w)
-    the_calls (only_a_calls steps holds.little.asks room) in
+    (seed_at w B) moments the_calls holds.noted.run for_link
+    (quiet_for_each the_calls moments nothing_sent holds.noted.quiet) (windows w)
+    (only_a_calls steps holds.little.asks room) in
     let seen = set_ups_law_holds config config (seed_at w A)
-    (seed_at w B) steps pairs holds.noted.run order.0 order.1 the_calls h.given in
+    (seed_at w B) steps the_calls pairs holds.noted.run order.0 order.1 h.given in
     let world = world_of the_calls pairs config.params config.params steps in
     let at_a = saw bench.a.program world.a.end.set_ups (set_ups_seen the_calls A steps) h.seen_a seen.at_a in
     let at_b = saw bench.b.program world.b.end.set_ups (set_ups_seen the_calls B steps) h.seen_b seen.at_b in
-    subst KeepsOrder (sym over.told) (record {
+    subst (SidesKeepOrder w bench) (sym over.told) (record {
       at_a = order_of world.a.end world.b.end (set_ups_of bench.a.program)
           (set_ups_of bench.b.program) kept.got_a at_a at_b;
       at_b = order_of world.b.end world.a.end (set_ups_of bench.b.program)

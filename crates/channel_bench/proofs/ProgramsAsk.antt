@@ -69,7 +69,7 @@ set_hosts : (before after : Turn) → HasHosts before.now → IsSet before after
 set_hosts before after h (alone same) = subst (λ (t : Turn). HasHosts t.now) (sym same) h
 set_hosts before after h (full same) =
     let took = kiss_taken before h in
-    subst (λ (t : Turn). HasHosts t.now) (sym same) (record { connections = took.connections; digi = took.digi })
+    subst (λ (t : Turn). HasHosts t.now) (sym same) (record { connections = took.connections; digi = took.digi; paclen = took.paclen })
 
 pub hosts_after :
     (end : End) (usual : Usual) (s : StationState) (after : Turn) → Occurs end usual
@@ -109,7 +109,7 @@ hosts_after end (hears octets) s after occurs turn h =
 hosts_after end (ticks busy) s after occurs turn h =
     let made = still_has (begin s) (asked_links busy (begin s)) (ticks_kept SameHosts same_hosts busy (begin s)) h in
     subst (λ (t : Turn). HasHosts t.now) (sym turn.effect)
-    (record { connections = made.connections; digi = made.digi })
+    (record { connections = made.connections; digi = made.digi; paclen = made.paclen })
 
 -- ---- the host program of B asks nothing
 
@@ -222,12 +222,8 @@ pub asks_kept : (w : BenchWords) → KeptByCore w AskLittle
 asks_kept w = record {
   new = record {
     asks = tt;
-    a = record { connections = tt; digi = refl };
-    b = record {
-      connections = tt;
-      digi =
-          refl;
-    };
+    a = record { connections = tt; digi = refl; paclen = refl };
+    b = record { connections = tt; digi = refl; paclen = refl };
   };
   steps = λ end usual matched before after s occurs h calm at little. step_asks end usual matched before after
       s occurs h at little;

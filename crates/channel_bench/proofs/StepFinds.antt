@@ -8,7 +8,7 @@ use Rattle.channel_bench.proofs.Common.{state_of, with_state, Calls, first_world
 use Rattle.channel_bench.proofs.Common.{turn_steps, pairs_in, seed_at, RunChain, run_chained, AsksInSetUp, IsChain}
 use Rattle.channel_bench.proofs.Common.{StandsAsked, asked_after, asked_behind, chain_asked, chain_parts, last_machine}
 use Rattle.channel_bench.proofs.Common.{is_disconnect, matched_in_order_holds, AsksFindRoom, AsksFindRoomAt, AsksInRoom}
-use Rattle.channel_bench.proofs.Common.{not_both}
+use Rattle.channel_bench.proofs.Common.{matched_for_each, not_both}
 use Rattle.channel_bench.proofs.Common.{after_moment, BothWays}
 use Rattle.std.specs.List.{AllByRecursion as Each}
 use Rattle.link_machine.specs.Event.{Event as LinkEvent}
@@ -71,8 +71,8 @@ run_chain_of : (w : BenchWords) (moments : List Moment) (s : Stations) → IsNot
     (first_world the_calls (params_of w) (params_of w)) (steps_in moments)
 run_chain_of w moments s noted matched =
     let config = config_of w in
-    let order = matched_in_order_holds moments matched in
-    run_chained config config (seed_at w A) (seed_at w B) (steps_in moments) (pairs_in moments) the_calls noted.run
+    let order = matched_in_order_holds moments the_calls (matched_for_each the_calls moments nothing_sent matched) in
+    run_chained config config (seed_at w A) (seed_at w B) (steps_in moments) the_calls (pairs_in moments) noted.run
     order.0 order.1
 
 hears_asks : (event : LinkEvent) → cause_of event ≡ hearing → is_disconnect event ≡ false

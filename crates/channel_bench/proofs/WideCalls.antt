@@ -5,7 +5,8 @@ use Rattle.channel_bench.proofs.Common.{Idle, Calling, Up, Releasing, Hear, Mach
 use Rattle.channel_bench.proofs.Common.{Stepped}
 use Rattle.channel_bench.proofs.Common.{step_is, as_timed, agrees, calls_again, connects, declines, ends_by_disc}
 use Rattle.channel_bench.proofs.Common.{ends_by_dm, ends_call, gives_up, is_answered, is_called, is_called_again}
-use Rattle.channel_bench.proofs.Common.{narrows, falls_narrow, releases_again, resets, rests, takes, wishes, works}
+use Rattle.channel_bench.proofs.Common.{narrows, falls_narrow, releases_again, resets, rests, takes, works}
+use Rattle.channel_bench.proofs.Common.{withdraws, wishes, abandons}
 use Rattle.channel_bench.proofs.Common.{goes_on, is_down, releases, is_refused, makes}
 use Rattle.std.specs.Prelude.{List, ◌∷◌}
 use Rattle.link_machine.specs.Event.{Event}
@@ -71,8 +72,11 @@ row_wide m event t plain (resets up wrong) h = absurd (plain.right up (wrong_is 
 row_wide m event t plain (connects idle connecting) h = absurd (plain.unconnected connecting)
 row_wide m event t plain (takes packet sending short) h =
     record { before = record { state = h.state; wide = h.wide }; sends = inl refl }
+row_wide m event t plain (withdraws calling wishing) h = let clash : Idle ≡ Calling = h.state in absurd (cc)
 row_wide m event t plain (wishes wishing) h =
     record { before = record { state = h.state; wide = h.wide }; sends = inl refl }
+row_wide m event t plain (abandons up wish wishing) h =
+    let clash : Releasing ≡ Calling = h.state in absurd (cc)
 
 settles_wide :
     (m : Machine) (event : Event) (t u : Turn) → Settles t u → (IsWideCall t.now → WasWide m event t.sent)

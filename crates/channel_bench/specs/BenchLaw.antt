@@ -1,5 +1,5 @@
--- The law on a bench: in each set-up a host program got a first part of what its partner gave in one set-up of its own,
--- in order.
+-- The law on a bench: in each set-up a host program got a first part of what its partner gave in the set-up that is its
+-- origin, and origins come in order.
 use Rattle.channel_bench.specs.declared.words.BenchWords.{BenchWords}
 use Rattle.link_world.specs.declared.end.End.TheVariants.{A, B}
 use Rattle.channel_bench.specs.BenchOrder.{SawSetUps, steps_of_run, the_calls}
@@ -21,4 +21,4 @@ ProgramsFollow = (w : BenchWords) (report : Report) (over : IsOver w report) →
 
 -- And the host programs got in order what was given.
 abbrev pub BenchLaw : Type 0
-BenchLaw = (w : BenchWords) (report : Report) → IsOver w report → KeepsOrder report
+BenchLaw = (w : BenchWords) (report : Report) → KeepsOrder w report

@@ -8,7 +8,7 @@ use Rattle.link_world.specs.declared.end.End.{End}
 use Rattle.link_world.specs.declared.end.End.TheVariants.{A, B}
 use Rattle.selective_reject.specs.declared.window.Mode.TheVariants.{Srej}
 use Rattle.station.specs.declared.config.Config.{Config}
-use Rattle.station.specs.State.{StationState, new_station}
+use Rattle.station.specs.State.{StationState, new_station, usual_config}
 use Rattle.channel_bench.specs.declared.matching.SentAt.{SentAt}
 use Rattle.channel_bench.specs.declared.trouble.Trouble.{Trouble}
 use Rattle.channel_bench.specs.declared.words.BenchWords.{BenchWords}
@@ -67,10 +67,10 @@ ways_of common = after_moments common.moments nothing_sent
 -- Both stations ask for lost frames by SREJ, with a window of 4, or of 32 if they count modulo 128, and repeat for
 -- nobody.
 abbrev pub params_of : BenchWords → Params
-params_of w = record { mode = Srej; window = 4; wide = w.wide; wide_window = 32 }
+params_of w = record { mode = Srej; window = 4; wide = w.wide; wide_mode = Srej; wide_window = 32 }
 
 abbrev pub config_of : BenchWords → Config
-config_of w = record { params = params_of w; digi = None }
+config_of w = usual_config (params_of w) None
 
 abbrev pub no_air : AirTick
 no_air = record { samples = replicate 96 (pos 0); began = false; sent = None }

@@ -13,14 +13,14 @@ use crate::words::BenchWords;
 use std::alloc::Global;
 
 /// Runs two stations joined by sound in one process, as the words say, until A has sent d (AGWPE) and both host
-/// programs were told d after it. Then each got in each set-up a first part of what the other gave in one set-up of its
-/// own, and these come in order ([`bench_law`](crate::bench_law)). Fails if a heard frame matches none that was sent,
-/// if SABM, SABME or DISC finds no quiet channel, if the run is not over after the most ticks that it may take, and for
-/// want of memory.
+/// programs were told d after it. Then each got in each set-up a first part of what the other gave in the set-up that
+/// is its origin, and these come in order ([`bench_law`](crate::bench_law)). Fails if a heard frame matches none that
+/// was sent, if SABM, SABME or DISC finds no quiet channel, if the run is not over after the most ticks that it may
+/// take, and for want of memory.
 pub fn bench(alloc: Global, words: BenchWords) -> Result<BenchReport, BenchFault>
     requires { AreInRange words }
     ensures over { IfOk result (IsOver words) }
-    ensures order { IfOk result KeepsOrder }
+    ensures order { IfOk result (KeepsOrder words) }
     ensures fault { IfErr result (IsFaultOf words) }
 {
     let mut run = Run::new(alloc, words)?;

@@ -1,8 +1,9 @@
 //! Laws on a bench. A law is the contract of a function that does nothing.
 ghost use Rattle.channel_bench.specs.BenchLaw.{BenchLaw, ProgramsFollow};
 
-/// The law on a bench. In a run that is over, at each side each set-up that got octets has an origin, a set-up of the
-/// other side; what was got is a first part of what was given in it; and origins rise strictly from set-up to set-up.
+/// The law on a bench. In a run that is over, at each side each set-up that got octets has an origin: the set-up of the
+/// other side that the first I frame belonged to that it accepted. What was got is a first part of what was given in
+/// it, and origins rise strictly from set-up to set-up.
 pub fn bench_law()
     ensures { BenchLaw }
 {}

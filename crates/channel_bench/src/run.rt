@@ -539,7 +539,8 @@ fn config_of(words: &BenchWords) -> Config
         mode: Mode::Srej,
         window: 4,
         wide: words.wide,
+        wide_mode: Mode::Srej,
         wide_window: 32,
     };
-    Config { params, digi: None }
+    Config::new(params, None)
 }

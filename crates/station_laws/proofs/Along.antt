@@ -2,8 +2,8 @@
 use Rattle.station_laws.proofs.Common.{◌≡◌, ℕ, ◌+◌, Bool, List, [], ◌∷◌, ◌++◌, length, map, Option, Some, None, refl}
 use Rattle.station_laws.proofs.Common.{sym, ap, ◌∙◌, subst, Path, ⊤, End, A, B, Change, changed, run_changes, near_made}
 use Rattle.station_laws.proofs.Common.{near_kept, Makes, Keeps, Tagged, World, near_turn, seen_from, other, staying}
-use Rattle.station_laws.proofs.Common.{Turn, Act, in_order, Pair, Pairs, heard_at, marks_from, event_at_end, makes}
-use Rattle.station_laws.proofs.Common.{changes_by, all_changes_by, FollowsAll, LinkStep, steps_along}
+use Rattle.station_laws.proofs.Common.{Turn, Pair, Pairs, heard_at, marks_from, event_at_end, makes}
+use Rattle.station_laws.proofs.Common.{changes_by, all_changes_by, FollowsAll, LinkStep}
 use Rattle.link_machine.specs.Step.{step as link_turn}
 use Rattle.link_machine.specs.Event.{Event as LinkEvent}
 use Rattle.link_machine.specs.Event.Event.{Connect as LinkConnect, Send as LinkSend, Disconnect as LinkDisconnect}

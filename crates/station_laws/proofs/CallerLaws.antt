@@ -69,6 +69,6 @@ caller_holds calls (step ∷ steps) st run none_lost asks =
     }
 
 pub caller_law_holds : ChangesLaw → CallerLaw
-caller_law_holds law a b seed_a seed_b moments run matched quiet fit asks none_lost calls =
-    matched_law_holds law a b seed_a seed_b moments run matched quiet fit calls
+caller_law_holds law a b seed_a seed_b moments calls run matched quiet fit asks none_lost =
+    matched_law_holds law a b seed_a seed_b moments calls run matched quiet fit
     (caller_holds calls (steps_in moments) (new_stations a seed_a b seed_b) run none_lost asks).only

@@ -6,7 +6,7 @@ use Rattle.station_laws.proofs.Common.{SetupSent, step, begin, names_valid, IsCo
 use Rattle.station_laws.proofs.Common.{Stepped, rests_traffic, step_is, agrees, calls_again, connects}
 use Rattle.station_laws.proofs.Common.{declines, ends_by_disc, ends_by_dm, ends_call, gives_up, is_answered, is_called}
 use Rattle.station_laws.proofs.Common.{is_called_again, narrows, falls_narrow, releases_again, resets, rests, takes}
-use Rattle.station_laws.proofs.Common.{wishes, works}
+use Rattle.station_laws.proofs.Common.{withdraws, wishes, abandons, works}
 use Rattle.station_laws.proofs.Common.{goes_on, is_down, releases, is_refused, Traffic, IsOfNoHost}
 use Rattle.link_machine.specs.Event.{Event as LinkEvent}
 use Rattle.link_machine.specs.Event.Event.{Connect as LinkConnect, Send as LinkSend, Disconnect as LinkDisconnect}
@@ -122,7 +122,9 @@ row_calm m event t host valid calm (narrows calling wide heard) = absurd (subst 
 row_calm m event t host valid calm (resets up wrong) = absurd (no_wrong m event valid up wrong)
 row_calm m event t host valid calm (connects idle connecting) = absurd (no_connect event host connecting)
 row_calm m event t host valid calm (takes packet sending short) = record { control = calm; asked = refl }
+row_calm m event t host valid calm (withdraws calling wishing) = absurd (no_disconnect event host wishing)
 row_calm m event t host valid calm (wishes wishing) = absurd (no_disconnect event host wishing)
+row_calm m event t host valid calm (abandons up wish wishing) = absurd (no_disconnect event host wishing)
 
 pub settles_calm : (t u : Turn) → Settles t u → CalmTurn t → CalmTurn u
 settles_calm t u (is_down down) h = h

@@ -363,11 +363,12 @@ run_chain calls pairs a b full past (step ∷ rest) st counts w h =
 
 -- of a run of two new stations
 pub run_chained :
-    (a b : Config) (seed_a seed_b : ℕ) (steps : List Step) (pairs : Pairs) (calls : Calls)
+    (a b : Config) (seed_a seed_b : ℕ) (steps : List Step) (calls : Calls) (pairs : Pairs)
     → let start = new_stations a seed_a b seed_b in
-    IsJointRun start steps → AreHeardInOrder A steps pairs.at_a → AreHeardInOrder B steps pairs.at_b
+    IsJointRun start steps → AreHeardInOrder calls.a calls.b A steps pairs.at_a
+    → AreHeardInOrder calls.b calls.a B steps pairs.at_b
     → RunChain calls pairs (record { a = 0; b = 0 }) (first_world calls a.params b.params) steps
-run_chained a b seed_a seed_b steps pairs calls run heard_a heard_b =
+run_chained a b seed_a seed_b steps calls pairs run heard_a heard_b =
     run_chain calls pairs a.params b.params steps [] steps (new_stations a seed_a b seed_b) (record { a = 0; b = 0 })
     (first_world calls a.params b.params)
-    (new_run_holds a b seed_a seed_b steps pairs calls run heard_a heard_b)
+    (new_run_holds a b seed_a seed_b steps calls pairs run heard_a heard_b)

@@ -12,7 +12,7 @@ use Rattle.station_laws.specs.RunsTell.{AllToldInOne, told_in}
 use Rattle.station_laws.proofs.LinkDid.{Closes, DidIn, HearsAsk, HearsWrong, IsOfLink, Steps, is_connect, is_disconnect}
 use Rattle.station_laws.proofs.LinkDid.{step_steps}
 use Rattle.station_laws.proofs.LinkDid.Closes.{releases, stays}
-use Rattle.station_laws.proofs.LinkDid.Did.{calls, ends, gives, is_called, opens, resets, wishes}
+use Rattle.station_laws.proofs.LinkDid.Did.{abandons, calls, ends, gives, is_called, opens, resets, wishes}
 use Rattle.station_laws.proofs.LinkDid.Steps.{made, refused}
 use Rattle.station_laws.proofs.LinkTells.{links_tell_holds}
 
@@ -217,6 +217,12 @@ asked_did m event t asked up h (wishes wish told state) =
     subst (λ b. StandsAsked b t.now.control.state t.now.control.quit) (sym is)
     (subst (λ s. StandsAsked true s t.now.control.quit) (sym state)
     (wish_stands m.control.state t.now.control.quit (up wish)))
+asked_did m event t asked up h (abandons wish told was state) =
+    let more = asked_after asked (is_disconnect event) t.told in
+    let is : more ≡ true =
+    asked_stays asked (is_disconnect event) t.told (ap opened_in told) (ap ended_in told)
+    ∙ or_right asked (is_disconnect event) wish in
+    subst (λ s. StandsAsked more s t.now.control.quit) (sym state) is
 asked_did m event t asked up h (calls connects told idle state quit) =
     stands_at (asked_after asked (is_disconnect event) t.told) t.now.control Calling false state
     (quit ∙ quit_idle asked m.control.state m.control.quit idle h) refl
@@ -358,6 +364,14 @@ called_did m event t called no_ask right h (wishes wish told state) =
     record {
       stands = subst (StandsCalled (called_after called (is_connect event) t.told)) (sym state)
           (called_more called (called_after called (is_connect event) t.told) m.control.state more h);
+      opens = no_opening t.told called (ap opened_in told);
+    }
+called_did m event t called no_ask right h (abandons wish told up state) =
+    let was : called ≡ true = subst (StandsCalled called) up h in
+    let more : called_after called (is_connect event) t.told ≡ true =
+    called_stays called (is_connect event) t.told (ap ended_in told) ∙ or_left called (is_connect event) was in
+    record {
+      stands = is_called_all (called_after called (is_connect event) t.told) t.now.control.state more;
       opens = no_opening t.told called (ap opened_in told);
     }
 called_did m event t called no_ask right h (calls connects told idle state quit) =

@@ -47,7 +47,7 @@ pub use Rattle.link_steps.proofs.Rows.Rests.{as_timed}
 pub use Rattle.link_steps.proofs.Rows.Row.{agrees, calls_again, connects, declines, ends_by_disc, ends_by_dm, ends_call}
 pub use Rattle.link_steps.proofs.Rows.Row.{gives_up, is_answered, is_called, is_called_again, narrows, falls_narrow}
 pub use Rattle.link_steps.proofs.Rows.Row.{releases_again}
-pub use Rattle.link_steps.proofs.Rows.Row.{resets, rests, takes, wishes, works}
+pub use Rattle.link_steps.proofs.Rows.Row.{abandons, resets, rests, takes, wishes, withdraws, works}
 pub use Rattle.link_steps.proofs.Rows.Settles.{goes_on, is_down, releases}
 pub use Rattle.link_steps.proofs.Rows.Stepped.{is_refused}
 pub use Rattle.link_steps.proofs.Traffic.{Single, Traffic, traffic_mode}
@@ -76,7 +76,8 @@ pub use Rattle.station.specs.AgwKinds.{ports_kind, raw_kind, register_kind, togg
 pub use Rattle.station.specs.AgwKinds.{unregister_kind, version_kind, waiting_kind}
 pub use Rattle.station.specs.AgwRequests.{AreAnswered, IsCall, IsCallMade, answering_else, called_pid, called_route}
 pub use Rattle.station.specs.AgwRequests.{calls, capabilities_reply, data_pid, disconnecting, giving, giving_packet}
-pub use Rattle.station.specs.AgwRequests.{may_call, monitor_toggled, most_information, own_key, packets_of, pending_in}
+pub use Rattle.station.specs.AgwRequests.{may_call, monitor_toggled, most_information, own_key, packet_length, packets_of}
+pub use Rattle.station.specs.AgwRequests.{pending_in}
 pub use Rattle.station.specs.AgwRequests.{pending_reply, ports_reply, queueing_raw, refused_reply, register_reply}
 pub use Rattle.station.specs.AgwRequests.{registering, replying, sending_unnumbered, toggled, unnumbered_frame}
 pub use Rattle.station.specs.AgwRequests.{unregistering, version_reply, waiting_reply, with_registration}
@@ -101,7 +102,7 @@ pub use Rattle.station.specs.Links.{with_new_link}
 pub use Rattle.station.specs.NewLinks.{idle_link, making, no_layer_3}
 pub use Rattle.station.specs.Registrations.{is_number, may_register, registrar}
 pub use Rattle.station.specs.Routes.{Route, behind_repeaters, path_along, repeaters_in, route_in}
-pub use Rattle.station.specs.State.{StationState, new_station}
+pub use Rattle.station.specs.State.{StationState, new_station, usual_config}
 unfoldable pub use Rattle.station.specs.Ticks.{ticking_links}
 pub use Rattle.station.specs.Ticks.{asked_links, t1_stands, ticking, ticking_at, waits}
 pub use Rattle.station.specs.Turn.{Act, Out, Turn, capacity, changing, closing, dropping, entering, in_order, queueing}
@@ -110,8 +111,8 @@ pub use Rattle.station.specs.declared.host_event.HostEvent.{HostEvent}
 pub use Rattle.station.specs.declared.host_event.HostEvent.TheVariants.{Bytes, Joined, Left}
 pub use Rattle.station.specs.declared.host_event.PortKind.{PortKind}
 pub use Rattle.station.specs.declared.host_event.PortKind.TheVariants.{Agw, Kiss}
-pub use Rattle.station_laws.specs.HeardInOrder.{AreAlikeButForH, AreHeardInOrder, HasPair, HearsLinkFrame, IsHeardPair}
-pub use Rattle.station_laws.specs.HeardInOrder.{IsOffAir, Pair, RiseBoth, with_none_done}
+pub use Rattle.station_laws.specs.HeardInOrder.{AreAlikeButForH, AreHeardInOrder, HasPair, HearsFrameOf}
+pub use Rattle.station_laws.specs.HeardInOrder.{HearsLinkFrame, IsHeardPair, IsOffAir, Pair, RiseBoth, with_none_done}
 pub use Rattle.station_laws.specs.HostsAsk.{InputAsksNothing}
 pub use Rattle.station_laws.specs.InFlight.{AreMatched, AreQuietAt, AreQuietThrough, BothWays, IsMatched, LinkFrame}
 pub use Rattle.station_laws.specs.InFlight.{Moment, OneWay, after_moment, answers, hearing_at, hears_ask, in_flight}
@@ -121,8 +122,10 @@ pub use Rattle.station_laws.specs.InFlight.Moment.{Passes, Steps}
 pub use Rattle.station_laws.specs.JointRun.{Input, IsJointRun, IsTurn, Stations, Step, all_stepped, at_end}
 pub use Rattle.station_laws.specs.JointRun.{new_stations, queued_at, state_of, stepped, with_state}
 pub use Rattle.station_laws.specs.JointRun.Input.{FromHost, OfClock, OffAir}
+pub use Rattle.station_laws.specs.LinkFrames.{is_from_to}
+pub use Rattle.station_laws.specs.LinkInFlight.{AreMatchedFor, AreQuietAtFor, AreQuietFor, IsMatchedFor}
 pub use Rattle.station_laws.specs.LinkOfCalls.{Calls, Counts, FollowsAll, FollowsThrough, IsQuietLink, Pairs}
-pub use Rattle.station_laws.specs.LinkOfCalls.{all_changes_by, changes_by, changes_from, changes_of, count_at}
+pub use Rattle.station_laws.specs.LinkOfCalls.{all_changes_by, call_at_end, changes_by, changes_from, changes_of, count_at}
 pub use Rattle.station_laws.specs.LinkOfCalls.{event_at_end, first_world, heard_at, is_named, link_at_end, makes}
 pub use Rattle.station_laws.specs.LinkOfCalls.{marks_from, path_between, with_more}
 pub use Rattle.station_laws.specs.LinkSteps.{Choice, LinkStep, anew_steps, answer_steps, asked_at, asking_steps}

@@ -1,5 +1,5 @@
 -- The connection of an id, among connections of which each has some property.
-use Rattle.station_laws.proofs.Common.{◌≡◌, ℕ, ◌==◌, Bool, true, false, List, [], ◌∷◌, cond, Option, Some, refl}
+use Rattle.station_laws.proofs.Common.{◌≡◌, ℕ, ◌==◌, Bool, true, false, List, [], ◌∷◌, cond, Some, refl}
 use Rattle.station_laws.proofs.Common.{subst, eqb-true, Connection, connection_of}
 use Rattle.std.specs.List.{AllByRecursion as Each}
 

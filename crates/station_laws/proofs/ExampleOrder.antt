@@ -138,11 +138,11 @@ all_b (suc (suc (suc (suc (suc (suc (suc (suc (suc (suc n)))))))))) step octets 
     slice_get_past steps (suc (suc (suc (suc (suc (suc (suc (suc (suc (suc n)))))))))) (omega arith) in
     let clash : None ≡ Some step = sym none ∙ is in cc)
 
-heard_at_b : AreHeardInOrder B steps pairs.at_b
+heard_at_b : AreHeardInOrder calls.b calls.a B steps pairs.at_b
 heard_at_b = record {
   rise = two_rise (record { heard = 5; sent = 0 }) (record { heard = 8; sent = 1 }) (omega arith, omega arith);
   each = All-from_recursion (IsHeardPair B steps) pairs.at_b (first_pair, (second_pair, tt));
-  all = all_b;
+  all = λ number step octets is hears. all_b number step octets is hears.link;
 }
 
 -- ---- what A hears
@@ -208,11 +208,11 @@ all_a (suc (suc (suc (suc (suc (suc (suc (suc (suc (suc n)))))))))) step octets 
     slice_get_past steps (suc (suc (suc (suc (suc (suc (suc (suc (suc (suc n)))))))))) (omega arith) in
     let clash : None ≡ Some step = sym none ∙ is in cc)
 
-heard_at_a : AreHeardInOrder A steps pairs.at_a
+heard_at_a : AreHeardInOrder calls.a calls.b A steps pairs.at_a
 heard_at_a = record {
   rise = two_rise (record { heard = 6; sent = 0 }) (record { heard = 9; sent = 1 }) (omega arith, omega arith);
   each = All-from_recursion (IsHeardPair A steps) pairs.at_a (first_answer, (second_answer, tt));
-  all = all_a;
+  all = λ number step octets is hears. all_a number step octets is hears.link;
 }
 
 -- ---- so the law speaks of this run
@@ -224,9 +224,10 @@ pub fits : WindowsFit default_params default_params
 fits = record {
   of_a = default_windows;
   of_b = default_windows;
-  halves = λ modes. elim modes [ inl e ↦ absurd (cc) | inr e ↦ absurd (cc) ];
+  narrow = λ modes. elim modes [ inl e ↦ absurd (cc) | inr e ↦ absurd (cc) ];
+  wide = λ modes. (omega arith, omega arith);
 }
 
 keeps_order : LinkKeepsOrder calls pairs config config steps (all_stepped steps (new_stations config 1 config 2))
-keeps_order = stations_law_holds changes_law_holds config config 1 2 steps pairs is_run heard_at_a heard_at_b fits calls
+keeps_order = stations_law_holds changes_law_holds config config 1 2 steps calls pairs is_run heard_at_a heard_at_b fits
     is_quiet_run

@@ -5,7 +5,7 @@ use Rattle.station_laws.proofs.Common.{IsCallCharacter, BeginsWithPath, way_back
 use Rattle.station_laws.proofs.Common.{Eight, Sabm, Disc, Ua, IsFrame, reading, Idle, Calling, default_params, End, A}
 use Rattle.station_laws.proofs.Common.{B, Makes, Keeps, World, Config, Joined, Bytes, Agw, answering_else, call_of_text}
 use Rattle.station_laws.proofs.Common.{shown_to_hosts, joining, taking, event_at, making, no_layer_3, Route, path_along}
-use Rattle.station_laws.proofs.Common.{StationState, new_station, Turn, Step, new_stations, IsJointRun, FromHost}
+use Rattle.station_laws.proofs.Common.{StationState, new_station, usual_config, Turn, Step, new_stations, IsJointRun, FromHost}
 use Rattle.station_laws.proofs.Common.{OffAir, Calls, Pairs, changes_of, IsQuietLink, IsHeardBy}
 use Rattle.std.specs.Prelude.{◌≡◌, ℕ, ◌<◌, true, false, nat_lt, List, [], ◌∷◌, ◌++◌, Some, None, refl}
 use Rattle.std.specs.List.{AllByRecursion as Each}
@@ -148,7 +148,7 @@ header kind from to = 0 ∷ 0 ∷ 0 ∷ 0 ∷ kind ∷ 0 ∷ 0 ∷ 0 ∷ (from +
 -- ---- the steps
 
 abbrev pub config : Config
-config = record { params = default_params; digi = None }
+config = usual_config default_params None
 
 abbrev pub joins : End → StationState → Step
 joins end s = record {

@@ -5,7 +5,7 @@ use Rattle.station_laws.proofs.Common.{sym, ap, ◌∙◌, subst, arith, inl, in
 use Rattle.station_laws.proofs.Common.{get_or_append_left, All-contains_itself, All-from_recursion, slice_get-get_or}
 use Rattle.station_laws.proofs.Common.{slice_get_within, get_or-append_seam, take-append_seam, End, other, Step}
 use Rattle.station_laws.proofs.Common.{Stations, state_of, stepped, IsJointRun, all_stepped, queued_at, AreAlikeButForH}
-use Rattle.station_laws.proofs.Common.{Pair, RiseBoth, HearsLinkFrame, IsHeardPair, AreHeardInOrder}
+use Rattle.station_laws.proofs.Common.{Pair, RiseBoth, Callsign, HearsFrameOf, HearsLinkFrame, IsHeardPair, AreHeardInOrder}
 use Rattle.std.proofs.lemmas.List.{take-append-le}
 use Rattle.std.proofs.lemmas.List.Elements.{All-append, Contains-append_left, Contains-append_right}
 use Rattle.std.proofs.lemmas.List.Quantifiers.{all_pairs_push}
@@ -63,12 +63,13 @@ pairs_stay :
     → All (IsHeardPair hearer (steps ++ step ∷ [])) pairs
 pairs_stay hearer steps step pairs h = λ i d within. pair_stays hearer steps step (get_or pairs i d) (h i d within)
 
--- a step that hears no frame of a link
+-- a step that hears no frame of the link
 pub heard_none_more :
-    (hearer : End) (steps : List Step) (step : Step) (pairs : List Pair) → AreHeardInOrder hearer steps pairs
-    → ((octets : List ℕ) → HearsLinkFrame hearer step octets → ⊥)
-    → AreHeardInOrder hearer (steps ++ step ∷ []) pairs
-heard_none_more hearer steps step pairs order never = record {
+    (local remote : Callsign) (hearer : End) (steps : List Step) (step : Step) (pairs : List Pair)
+    → AreHeardInOrder local remote hearer steps pairs
+    → ((octets : List ℕ) → HearsFrameOf local remote hearer step octets → ⊥)
+    → AreHeardInOrder local remote hearer (steps ++ step ∷ []) pairs
+heard_none_more local remote hearer steps step pairs order never = record {
   rise = order.rise;
   each = pairs_stay hearer steps step pairs order.each;
   all = λ number found octets is hears. elim (cases_lt number (length steps)) [
@@ -80,23 +81,25 @@ heard_none_more hearer steps step pairs order never = record {
 }
   where
     at_end : (number : ℕ) (found : Step) (octets : List ℕ) → slice_get (steps ++ step ∷ []) number ≡ Some found
-        → HearsLinkFrame hearer found octets → length steps ≤ number → HearsLinkFrame hearer step octets
+        → HearsFrameOf local remote hearer found octets → length steps ≤ number
+        → HearsFrameOf local remote hearer step octets
     at_end number found octets is hears past =
         let within = slice_get_within (steps ++ step ∷ []) number found is in
         let size = length-append steps (step ∷ []) in
         let last : number ≡ length steps = omega arith in
         let e : Some found ≡ Some step = sym is ∙ ap (slice_get (steps ++ step ∷ [])) last ∙ get_last steps step in
         let same : found ≡ step = cc in
-        subst (λ (s : Step). HearsLinkFrame hearer s octets) same hears
+        subst (λ (s : Step). HearsFrameOf local remote hearer s octets) same hears
 
 -- a step that hears the frame of the next pair
 pub heard_one_more :
-    (hearer : End) (steps : List Step) (step : Step) (pairs : List Pair) (octets queued : List ℕ) (sent : ℕ)
-    → AreHeardInOrder hearer steps pairs → HearsLinkFrame hearer step octets
+    (local remote : Callsign) (hearer : End) (steps : List Step) (step : Step) (pairs : List Pair)
+    (octets queued : List ℕ) (sent : ℕ) → AreHeardInOrder local remote hearer steps pairs → HearsLinkFrame hearer step octets
     → slice_get (queued_at (other hearer) steps) sent ≡ Some queued → AreAlikeButForH octets queued
     → All (λ (p : Pair). p.sent < sent) pairs
-    → AreHeardInOrder hearer (steps ++ step ∷ []) (pairs ++ (record { heard = length steps; sent = sent }) ∷ [])
-heard_one_more hearer steps step pairs octets queued sent order hears there alike above =
+    → AreHeardInOrder local remote hearer (steps ++ step ∷ [])
+    (pairs ++ (record { heard = length steps; sent = sent }) ∷ [])
+heard_one_more local remote hearer steps step pairs octets queued sent order hears there alike above =
     let p : Pair = record { heard = length steps; sent = sent } in
     let new : IsHeardPair hearer (steps ++ step ∷ []) p = record {
       step = step;

@@ -1,12 +1,12 @@
 -- What a frame that is heard is to the links of a station, once hosts have been shown it: nothing, an event of the link
 -- of its two calls, or one of a link that is made for it.
-use Rattle.station_laws.proofs.Common.{◌≡◌, ℕ, Bool, true, false, List, [], ◌∷◌, map, Option, Some, None, refl, sym, ap}
+use Rattle.station_laws.proofs.Common.{◌≡◌, ℕ, Bool, true, false, List, [], ◌∷◌, map, Option, Some, None, refl, sym}
 use Rattle.station_laws.proofs.Common.{◌∙◌, subst, inl, inr, MatchBool, Callsign, BeginsWithPath, BeginsWithPath-same}
 use Rattle.station_laws.proofs.Common.{way_back, Path, Command, Frame, Eight, IsFrame, repeated, Hear, PortKind, Kiss}
 use Rattle.station_laws.proofs.Common.{Agw, Connection, IsPathOf, IsHeard, IsHeardBy, IsHeardAnew, IsHeardMaking}
 use Rattle.station_laws.proofs.Common.{IsReadingHeardAnew, IsRepeatedFor, AreHeardAt, AreOctetsHeard, may_make}
 use Rattle.station_laws.proofs.Common.{with_shown, showing_to, shown_to_hosts, source_field, destination_field}
-use Rattle.station_laws.proofs.Common.{waits_for_repeater, event_at, Links, IsNewKey, key_between, link_at, making}
+use Rattle.station_laws.proofs.Common.{waits_for_repeater, event_at, IsNewKey, key_between, link_at, making}
 use Rattle.station_laws.proofs.Common.{no_layer_3, registrar, Turn, in_order, queueing, Choice, LinkStep, steps_at}
 use Rattle.station_laws.proofs.Common.{hears_at, new_steps, anew_steps, reading_steps, key_steps, path_steps}
 use Rattle.station_laws.proofs.Common.{by_path_steps, heard_steps}

@@ -1,7 +1,7 @@
 -- A frame that is heard keeps what holds of a link between two calls: as an event of that link it is the frame in front
 -- of those in flight, and as an event of another it is not among them.
 use Rattle.station_laws.proofs.Common.{◌≡◌, ℕ, ◌<◌, Bool, true, false, List, [], ◌∷◌, ◌++◌, length, drop, arith, cond}
-use Rattle.station_laws.proofs.Common.{Option, Some, None, is_some, refl, sym, ap, ◌∙◌, subst, inl, All, is_none}
+use Rattle.station_laws.proofs.Common.{Option, Some, None, is_some, refl, sym, ap, ◌∙◌, subst, inl, inr, ◌⊎◌, All, is_none}
 use Rattle.station_laws.proofs.Common.{get_or-set_same, Callsign, BeginsWithPath, way_back, Path, Command}
 use Rattle.station_laws.proofs.Common.{BeginsWithPath-same, Frame, Eight, IsFrame, Machine, new_machine, modulus_named}
 use Rattle.station_laws.proofs.Common.{step, End, near_made, near_kept, Tagged, asks, World, near_turn, read_in}
@@ -9,7 +9,7 @@ use Rattle.station_laws.proofs.Common.{repeated, IsHeard, shown_to_hosts, event_
 use Rattle.station_laws.proofs.Common.{is_between, key_between, link_at, with_new_link, making, idle_link, no_layer_3}
 use Rattle.station_laws.proofs.Common.{Turn, changing, AreAlikeButForH, with_none_done, LinkFrame, is_ask, event_at_end}
 use Rattle.station_laws.proofs.Common.{LinkStep, link_step, steps_for, steps_at, heard_steps, first_chosen}
-use Rattle.station_laws.proofs.Common.{StationState, Choice, IsNewKey}
+use Rattle.station_laws.proofs.Common.{StationState, Choice, IsNewKey, is_from_to}
 use Rattle.std.specs.Prelude.{map}
 use Rattle.link_machine.specs.Event.{Event as LinkEvent}
 use Rattle.link_machine.specs.Event.Event.{Hear as LinkHear}
@@ -21,6 +21,7 @@ use Rattle.station_laws.proofs.Addresses.{heard_again}
 use Rattle.station_laws.proofs.Along.{Kept, makes_near, near_all}
 use Rattle.station_laws.proofs.Events.{meant, MayMake, made_own, made_another}
 use Rattle.station_laws.proofs.Controls.{ask_heard}
+use Rattle.station_laws.proofs.LinkFrames.{from_to_path}
 use Rattle.station_laws.proofs.Messages.{IsStill, still, still_both, raw_still}
 use Rattle.station_laws.proofs.Readings.{reread, hears_same}
 use Rattle.station_laws.proofs.Standing.{chosen_calls, calls_chosen, made_at}
@@ -169,15 +170,59 @@ new_goes s e octets back stays before turn key link way path len frame w low pop
     is at (λ chosen. made_own s back before w key link way turn H may chosen new turn_is)
     (λ chosen. made_another s back before w key link turn H may chosen turn_is) (meant s (Some link)) refl))
 
+-- ---- an event of another link
+
+pub past_goes :
+    (s : Setting) (e : End) (turn : Turn) (key : ℕ) (link : Link) (frame : Frame) (anew : Option Path) (w : World)
+    (back : List Tagged) → meant s (Some link) ≡ false → link_at key turn.now.links ≡ Some link → Holds s back turn w
+    → Kept s e back (event_at key (LinkHear frame) turn) (steps_at (meant s) anew key (LinkHear frame) turn) w
+past_goes s e turn key link frame anew w back other at H =
+    subst (λ place. Kept s e back (event_at key (LinkHear frame) turn)
+    (steps_for (meant s) anew key (LinkHear frame) turn place) w)
+    (sym at)
+    (by_choice s e back turn key link frame anew w (meant s (Some link))
+    (subst (λ b. HeardBy b s e back turn key link frame (makes_near anew w) w) (sym other)
+    (other_event s back turn w key link (LinkHear frame) H at other)))
+
+-- a frame with the calls of the link that is meant is one of that link
+between_calls :
+    (s : Setting) (link : Link) (octets : List ℕ) (path : Path) (len : ℕ) → meant s (Some link) ≡ true
+    → BeginsWithPath octets path len → link.local ≡ path.dest → link.remote ≡ path.source
+    → is_from_to s.remote s.local octets ≡ true
+between_calls s link octets path len chosen begins local remote =
+    let calls = chosen_calls s.local s.remote link chosen in
+    subst (λ source. is_from_to source s.local octets ≡ true) (sym remote ∙ calls.remote_is)
+    (subst (λ dest. is_from_to path.source dest octets ≡ true) (sym local ∙ calls.local_is)
+    (from_to_path octets path len begins))
+
+-- it goes on with what is in flight, if that is not among it
+abbrev pub GoesPast : Setting → End → Turn → Turn → List LinkStep → Type 0
+GoesPast s e before after own = (w : World) (back : List Tagged) → Holds s back before w → Kept s e back after own w
+
+-- one of the link that is meant, or of another
+own_or_past :
+    (s : Setting) (e : End) (octets : List ℕ) (before after : Turn) (own : List LinkStep) (link : Link) (path : Path)
+    (len : ℕ) → BeginsWithPath octets path len → link.local ≡ path.dest → link.remote ≡ path.source
+    → (meant s (Some link) ≡ false → GoesPast s e before after own)
+    → (is_from_to s.remote s.local octets ≡ true) ⊎ GoesPast s e before after own
+own_or_past s e octets before after own link path len begins local remote past = by_test (meant s (Some link)) refl
+  where
+    by_test : (b : Bool) → meant s (Some link) ≡ b
+        → (is_from_to s.remote s.local octets ≡ true) ⊎ GoesPast s e before after own
+    by_test true chosen = inl (between_calls s link octets path len chosen begins local remote)
+    by_test false other = inr (past other)
+
 -- ---- what a heard frame comes to
 
--- nothing, or an event of a link, perhaps of one that is made for it
+-- Nothing, or an event of a link, perhaps of one that is made for it. If the frame is not one of the link that is
+-- meant, it is nothing to that link.
 pub data Outcome (s : Setting) (e : End) (octets : List ℕ) (before after : Turn) (own any : List LinkStep)
     : Type 0 where
   Passed : IsStill before after → own ≡ [] → any ≡ [] → Outcome s e octets before after own any
   Event : ((w : World) (back stays : List Tagged) → Pop s octets back stays → Holds s back before w
       → Kept s e stays after own w)
-      → (any ≡ [] → ⊥) → Outcome s e octets before after own any
+      → (any ≡ [] → ⊥) → (is_from_to s.remote s.local octets ≡ true) ⊎ GoesPast s e before after own
+      → Outcome s e octets before after own any
 
 not_empty :
     (anew : Option Path) (key : ℕ) (event : LinkEvent) (turn : Turn) (link : Link) (place : Option Link)
@@ -201,9 +246,7 @@ new_outcome s e octets key id frame turn low is vacant params size new =
     let way = way_back path Command in
     let link = idle_link id no_layer_3 path.dest path.source way turn.now.parameters in
     let made = making key id no_layer_3 path.dest path.source way turn in
-    Event (λ w back stays pop H.
-    new_goes s e octets back stays turn made key link way path is.len frame w low pop is.path refl refl is
-    (record {
+    let may : MayMake s turn key link = record {
       new = new;
       good = record {
         path = heard_good octets path is.len Command is.path;
@@ -217,10 +260,19 @@ new_outcome s e octets key id frame turn low is vacant params size new =
           (subst (λ (r : Callsign). first_chosen (is_between path.dest r) turn.now.links.places ≡ None) calls.remote_is
           (none_chosen (is_between path.dest path.source) turn.now.links.places
           (none_by_position (is_between path.dest path.source) turn.now.links.places (ap is_none vacant))));
-    }) (ap (new_machine way) params) refl H)
-    (not_empty (Some way) key (LinkHear frame) made link (link_at key made.now.links)
-    (let within : key < length turn.now.links.places = let low_key = new.within in omega arith in
-    get_or-set_same turn.now.links.places key (Some link) None within))
+    } in
+    let at : link_at key made.now.links ≡ Some link =
+    let within : key < length turn.now.links.places = let low_key = new.within in omega arith in
+    get_or-set_same turn.now.links.places key (Some link) None within in
+    Event (λ w back stays pop H.
+    new_goes s e octets back stays turn made key link way path is.len frame w low pop is.path refl refl is may
+    (ap (new_machine way) params) refl H)
+    (not_empty (Some way) key (LinkHear frame) made link (link_at key made.now.links) at)
+    (own_or_past s e octets turn (event_at key (LinkHear frame) made)
+    (steps_at (meant s) (Some way) key (LinkHear frame) made) link path is.len is.path refl refl
+    (λ other w back H.
+    past_goes s e made key link frame (Some way) w back other at
+    (made_another s back turn w key link made H may other refl)))
 
 -- of the link of the two calls
 there_outcome :
@@ -245,6 +297,9 @@ there_outcome s e octets path len key frame turn low begins found is = by_place 
         there_goes s e octets back stays turn key link path len frame w low pop begins calls.local_is calls.remote_is
         (subst (λ place. IsFrame frame (link_modulus place) octets) at is) at H)
         (not_empty None key (LinkHear frame) turn link (link_at key turn.now.links) at)
+        (own_or_past s e octets turn (event_at key (LinkHear frame) turn)
+        (steps_at (meant s) None key (LinkHear frame) turn) link path len begins calls.local_is calls.remote_is
+        (λ other w back H. past_goes s e turn key link frame None w back other at H))
 
 outcome_of :
     (s : Setting) (e : End) (octets : List ℕ) (turn : Turn) (steps : Choice → List LinkStep) (after : Turn)
@@ -265,9 +320,14 @@ after_showing :
     → Outcome s e octets shown after own any → Outcome s e octets before after own any
 after_showing s e octets before shown after own any h (Passed calm none none_any) =
     Passed (still_both before shown after h calm) none none_any
-after_showing s e octets before shown after own any h (Event goes some) =
+after_showing s e octets before shown after own any h (Event goes some past) =
     Event (λ w back stays pop H. goes w back stays pop
     (still_holds s back before shown w H h.links h.parameters h.queued)) some
+    (elim past [
+      | inl own_frame ↦ inl own_frame
+      | inr goes_past ↦
+          inr (λ w back H. goes_past w back (still_holds s back before shown w H h.links h.parameters h.queued))
+    ])
 
 -- nor is what the channel is told
 after_telling :
@@ -275,11 +335,18 @@ after_telling :
     → Outcome s e octets before between own any → Outcome s e octets before (telling_channel ours between) own any
 after_telling s e octets before between own any ours (Passed calm none none_any) =
     Passed (record { links = calm.links; parameters = calm.parameters; queued = calm.queued }) none none_any
-after_telling s e octets before between own any ours (Event goes some) =
-    Event (λ w back stays pop H.
-    let kept = goes w back stays pop H in
-    let then = near_all e (s.done ++ s.rest) (length s.earlier) own w in
-    (still_holds s stays between (telling_channel ours between) then kept.0 refl refl refl, kept.1)) some
+after_telling s e octets before between own any ours (Event goes some past) =
+    Event (λ w back stays pop H. told w stays (goes w back stays pop H)) some
+    (elim past [
+      | inl own_frame ↦ inl own_frame
+      | inr goes_past ↦ inr (λ w back H. told w back (goes_past w back H))
+    ])
+  where
+    told : (w : World) (stays : List Tagged) → Kept s e stays between own w
+        → Kept s e stays (telling_channel ours between) own w
+    told w stays kept =
+        let then = near_all e (s.done ++ s.rest) (length s.earlier) own w in
+        (still_holds s stays between (telling_channel ours between) then kept.0 refl refl refl, kept.1)
 
 pub heard_outcome :
     (s : Setting) (e : End) (octets : List ℕ) (before after : Turn) → All (λ octet. octet < 256) octets

@@ -18,7 +18,7 @@ use Rattle.station_laws.proofs.Along.{AllFollowNear, near_all, changes_seen, fol
 use Rattle.station_laws.proofs.Flights.{RiseFrom, flight_past}
 use Rattle.station_laws.proofs.Framed.{framed, length-framed, frames_at, frames_more}
 use Rattle.station_laws.proofs.Runs.{SideHolds, Sent, Between, Stepped, none_rises, none_heard, popped_by, setting_of}
-use Rattle.station_laws.proofs.Runs.{takes}
+use Rattle.station_laws.proofs.Runs.{perhaps_popped, takes}
 use Rattle.station_laws.proofs.Standing.{IsGoodPlace}
 use Rattle.station_laws.proofs.Tables.{NotChosen, none_chosen, one_of_none}
 
@@ -39,33 +39,37 @@ pub step_rising :
     (out_pairs back_pairs : List Pair) (w : World) (full : List Step) (step : Step)
     (h : Between l r pa pb n step.before sb qa qb out_pairs back_pairs w) → RiseFrom (n + 1) 0 h.out.rest
     → step.station ≡ e → slice_get full n ≡ Some step → frames_at (other e) (take n full) ≡ qb
-    → AreHeardInOrder e full back_pairs
+    → AreHeardInOrder l r e full back_pairs
     → Stepped e (hears_ask step.input) l r pa pb n sb qa qb out_pairs back_pairs w step.after
     (steps_of (is_between l r) step)
 step_rising e l r pa pb n sb qa qb out_pairs back_pairs w full step h rises station is queue back_order =
+    let setting = setting_of (hears_ask step.input) l r pa pb n step.before sb qa qb out_pairs back_pairs w h in
     takes (hears_ask step.input) l r pa pb n step.before sb qa qb out_pairs back_pairs w h e rises
     step.input step.after step.turn step.octets
-    (λ never. none_heard e full back_pairs r l qb n w.a.towards step back_order is
+    (λ never. none_heard e full back_pairs r l qb n w.a.towards step back_order.each is
     (λ octets hears. never octets hears.input hears.event) h.back)
-    (λ octets off some.
+    (λ octets off some own_frame.
     let hears : HearsLinkFrame e step octets = record { station = station; input = off; event = some } in
-    popped_by (setting_of (hears_ask step.input) l r pa pb n step.before sb qa qb out_pairs back_pairs w h)
-    e full back_pairs qb n
-    w.a.towards step octets h.back.done h.back.rest h.back.tags back_order is hears
+    popped_by setting e full back_pairs qb n
+    w.a.towards step octets h.back.done h.back.rest h.back.tags back_order.each is hears
     (λ asking. off_air_asks step.input octets off ∙ asking) queue h.back.split h.back.rises h.back.below h.back.before
-    h.back.tagged h.back.ahead (back_order.all n step octets is hears))
+    h.back.tagged h.back.ahead (back_order.all n step octets is (record { link = hears; calls = own_frame })))
+    (λ octets off some.
+    perhaps_popped setting e full back_pairs qb n w.a.towards step octets back_order.each is
+    (record { station = station; input = off; event = some })
+    (λ asking. off_air_asks step.input octets off ∙ asking) queue h.back)
 
 pub step_near :
     (e : End) (l r : Callsign) (pa pb : Params) (n : ℕ) (sb : StationState) (qa qb : List LinkFrame)
     (out_pairs back_pairs : List Pair) (w : World) (full : List Step) (step : Step)
     → Between l r pa pb n step.before sb qa qb out_pairs back_pairs w → step.station ≡ e
-    → slice_get full n ≡ Some step → frames_at (other e) (take n full) ≡ qb → AreHeardInOrder (other e) full out_pairs
-    → AreHeardInOrder e full back_pairs
+    → slice_get full n ≡ Some step → frames_at (other e) (take n full) ≡ qb
+    → AreHeardInOrder r l (other e) full out_pairs → AreHeardInOrder l r e full back_pairs
     → Stepped e (hears_ask step.input) l r pa pb n sb qa qb out_pairs back_pairs w step.after
     (steps_of (is_between l r) step)
 step_near e l r pa pb n sb qa qb out_pairs back_pairs w full step h station is queue out_order back_order =
     step_rising e l r pa pb n sb qa qb out_pairs back_pairs w full step h
-    (none_rises (other e) full out_pairs l r qa n w.b.towards step out_order is
+    (none_rises (other e) full out_pairs l r qa n w.b.towards step out_order.each is
     (λ octets hears. not_other e (sym station ∙ hears.station)) h.out)
     station is queue back_order
 
@@ -99,7 +103,7 @@ step_done :
     → Between calls.a calls.b a b n st.a st.b (frames_at A past) (frames_at B past) pairs.at_b pairs.at_a w
     → step.station ≡ e → step.before ≡ state_of e st → slice_get full n ≡ Some step → take n full ≡ past
     → counts.a ≡ length (frames_at A past) → counts.b ≡ length (frames_at B past)
-    → AreHeardInOrder A full pairs.at_a → AreHeardInOrder B full pairs.at_b
+    → AreHeardInOrder calls.a calls.b A full pairs.at_a → AreHeardInOrder calls.b calls.a B full pairs.at_b
     → StepDone calls pairs a b n st past counts w step e
 step_done calls pairs a b n st past full counts w step A h station before is taken ca cb heard_a heard_b =
     let qa = frames_at A past in
@@ -223,7 +227,7 @@ run_holds :
     (calls : Calls) (pairs : Pairs) (a b : Params) (full past rest : List Step) (st : Stations) (counts : Counts)
     (w : World) → full ≡ past ++ rest → IsJointRun st rest
     → counts.a ≡ length (frames_at A past) → counts.b ≡ length (frames_at B past)
-    → AreHeardInOrder A full pairs.at_a → AreHeardInOrder B full pairs.at_b
+    → AreHeardInOrder calls.a calls.b A full pairs.at_a → AreHeardInOrder calls.b calls.a B full pairs.at_b
     → Between calls.a calls.b a b (length past) st.a st.b (frames_at A past) (frames_at B past) pairs.at_b pairs.at_a w
     → RunHolds calls pairs a b full past st counts w rest
 run_holds calls pairs a b full past [] st counts w is run ca cb heard_a heard_b h = h
@@ -334,12 +338,13 @@ new_sent l r pairs rise =
     }
 
 pub new_run_holds :
-    (a b : Config) (seed_a seed_b : ℕ) (steps : List Step) (pairs : Pairs) (calls : Calls)
+    (a b : Config) (seed_a seed_b : ℕ) (steps : List Step) (calls : Calls) (pairs : Pairs)
     → let start = new_stations a seed_a b seed_b in
-    IsJointRun start steps → AreHeardInOrder A steps pairs.at_a → AreHeardInOrder B steps pairs.at_b
+    IsJointRun start steps → AreHeardInOrder calls.a calls.b A steps pairs.at_a
+    → AreHeardInOrder calls.b calls.a B steps pairs.at_b
     → RunHolds calls pairs a.params b.params steps [] start (record { a = 0; b = 0 })
     (first_world calls a.params b.params) steps
-new_run_holds a b seed_a seed_b steps pairs calls run heard_a heard_b =
+new_run_holds a b seed_a seed_b steps calls pairs run heard_a heard_b =
     run_holds calls pairs a.params b.params steps [] steps (new_stations a seed_a b seed_b) (record { a = 0; b = 0 })
     (first_world calls a.params b.params) refl run refl refl heard_a heard_b (record {
       near = new_side calls.a calls.b a seed_a calls.a calls.b;
@@ -377,21 +382,21 @@ run_done calls pairs a b full past (step ∷ rest) st counts w h =
     }
 
 pub following_law_holds : FollowingLaw
-following_law_holds a b seed_a seed_b steps pairs run heard_a heard_b calls =
+following_law_holds a b seed_a seed_b steps calls pairs run heard_a heard_b =
     let start = new_stations a seed_a b seed_b in
     let done = run_done calls pairs a.params b.params steps [] steps start (record { a = 0; b = 0 })
     (first_world calls a.params b.params)
-    (new_run_holds a b seed_a seed_b steps pairs calls run heard_a heard_b) in
+    (new_run_holds a b seed_a seed_b steps calls pairs run heard_a heard_b) in
     record { through = done.follows; after = done.ends }
 
 -- the law, from the law of two links
 pub stations_law_holds : ChangesLaw → StationsLaw
-stations_law_holds law a b seed_a seed_b steps pairs run heard_a heard_b fit calls quiet =
+stations_law_holds law a b seed_a seed_b steps calls pairs run heard_a heard_b fit quiet =
     let order = law (path_between calls.a calls.b) (path_between calls.b calls.a) a.params b.params fit
     (changes_of calls pairs steps) quiet in
     record {
       got_a = order.a;
       got_b = order.b;
       numbers = order.numbers;
-      ends = following_law_holds a b seed_a seed_b steps pairs run heard_a heard_b calls;
+      ends = following_law_holds a b seed_a seed_b steps calls pairs run heard_a heard_b;
     }

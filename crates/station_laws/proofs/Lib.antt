@@ -13,6 +13,7 @@ pub mod Standing
 pub mod LinkKinds
 pub mod Framed
 mod Controls
+mod LinkFrames
 mod Tags
 pub mod Acts
 mod Along
@@ -26,6 +27,7 @@ mod JointLaw
 mod Examples
 mod ExampleOrder
 mod MatchedExample
+mod ThirdStation
 pub mod OwnerLemmas
 mod Pieces
 mod Asking
@@ -38,6 +40,7 @@ pub mod MatchedOrder
 mod Counts
 mod NearQuiet
 mod Naming
+pub mod EachLink
 mod BenchQuiet
 mod StillActs
 mod Sends

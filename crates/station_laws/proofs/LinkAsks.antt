@@ -7,7 +7,7 @@ use Rattle.station_laws.proofs.Common.{Settles, Stepped, rests_traffic, step_is,
 use Rattle.station_laws.proofs.Common.{connects, declines, ends_by_disc, ends_by_dm, ends_call, gives_up, is_answered}
 use Rattle.station_laws.proofs.Common.{is_called, is_called_again, narrows, falls_narrow, releases_again, resets, rests}
 use Rattle.station_laws.proofs.Common.{takes}
-use Rattle.station_laws.proofs.Common.{wishes, works, goes_on, is_down, releases, is_refused}
+use Rattle.station_laws.proofs.Common.{withdraws, wishes, abandons, works, goes_on, is_down, releases, is_refused}
 use Rattle.link_machine.specs.Acts.{calling_frame}
 use Rattle.link_machine.specs.Frames.{open_answered}
 use Rattle.link_machine.specs.Machine.{is_wide}
@@ -127,6 +127,12 @@ row_sends m event u (connects idle connecting) =
     (λ is. absurd (cc)) (λ is. call_no_ua (modulus == 128))
 row_sends m event u (takes packet sending short) =
     stands m (hears_asking event) (hears_ua event) _ (still_none (begin m) _ refl refl refl)
+row_sends m event u (withdraws calling wishing) =
+    sends_one m (hears_asking event) (hears_ua event) (begin m) _ (sent_in m.incoming.modulus (SetupSent Dm false))
+    (still_same (begin m)) refl (λ up. absurd (cc)) (λ is. refl)
+row_sends m event u (abandons up wish wishing) =
+    sends_one m (hears_asking event) (hears_ua event) (begin m) _ (sent_in m.incoming.modulus (SetupSent Disc true))
+    (still_same (begin m)) refl (λ is. absurd (cc)) (λ is. refl)
 row_sends m event u (wishes wishing) =
     numbers m (hears_asking event) (hears_ua event) (begin m) _ (still_same (begin m)) refl (λ a b is. is)
 

@@ -11,8 +11,10 @@ use Rattle.station_laws.proofs.Common.{goes_on, is_down}
 use Rattle.station_laws.proofs.Common.{is_refused}
 use Rattle.link_machine.specs.Machine.{is_valid}
 use Rattle.link_machine.specs.Turn.{Turn}
+use Rattle.link_machine.specs.declared.acts.Why.TheVariants.{Asked}
 use Rattle.link_steps.proofs.Rows.{Hears, IsWrong as IsWrongKind}
-use Rattle.link_steps.proofs.Rows.Row.{is_called as opens_called, resets as calls_anew, wishes as quits}
+use Rattle.link_steps.proofs.Rows.Row.{abandons as gives_all, is_called as opens_called, resets as calls_anew}
+use Rattle.link_steps.proofs.Rows.Row.{wishes as quits, withdraws}
 use Rattle.link_steps.proofs.Rows.Settles.{releases as is_released}
 use Rattle.link_steps.proofs.Rows.Stepped.{makes}
 use Rattle.station_laws.proofs.LinkKinds.{IsLinkKind}
@@ -25,6 +27,10 @@ pub data Did (connects disconnects called wrong : Type 0) (t u : Turn) : Type 0 
   gives : Gives t u → Did connects disconnects called wrong t u
   -- a wish to disconnect
   wishes : disconnects → u.told ≡ t.told → u.now.control.state ≡ t.now.control.state
+      → Did connects disconnects called wrong t u
+  -- a disconnect that was asked for before: the link is released
+  abandons :
+      disconnects → u.told ≡ t.told → t.now.control.state ≡ Up → u.now.control.state ≡ Releasing
       → Did connects disconnects called wrong t u
   -- the link calls
   calls :
@@ -170,7 +176,9 @@ row_did m event t (narrows calling wide heard) = gives (gives_none (begin m) _ r
 row_did m event t (calls_anew up wrong) = resets (wrong_is m event up wrong) (Ended Reset ∷ []) refl refl refl
 row_did m event t (connects idle connecting) = calls (connect_is event connecting) refl idle refl refl
 row_did m event t (takes packet sending short) = gives (gives_none (begin m) _ refl refl refl)
+row_did m event t (withdraws calling wishing) = ends Asked refl refl refl
 row_did m event t (quits wishing) = wishes (disconnect_is event wishing) refl refl
+row_did m event t (gives_all up wish wishing) = abandons (disconnect_is event wishing) refl up refl
 
 -- ---- how an event ends
 

@@ -6,13 +6,16 @@ use Rattle.station_laws.proofs.Common.{step, begin, along_run, Row, Settles, Ste
 use Rattle.station_laws.proofs.Common.{agrees, calls_again, connects, declines, ends_by_disc, ends_by_dm, ends_call}
 use Rattle.station_laws.proofs.Common.{gives_up, is_answered, is_called, is_called_again, narrows, falls_narrow}
 use Rattle.station_laws.proofs.Common.{releases_again}
-use Rattle.station_laws.proofs.Common.{resets, rests, takes, wishes, works, goes_on, is_down, releases, is_refused}
+use Rattle.station_laws.proofs.Common.{resets, rests, takes, withdraws, wishes, abandons, works}
+use Rattle.station_laws.proofs.Common.{goes_on, is_down, releases, is_refused}
 use Rattle.station_laws.proofs.Common.{Single, Traffic, acknowledges, forgets, goes_back, informs, picks, reports}
 use Rattle.station_laws.proofs.Common.{selects, stores, times, RunsIn, runs_after}
 use Rattle.link_machine.specs.Acts.{reset}
 use Rattle.link_machine.specs.Frames.{open_again}
 use Rattle.link_machine.specs.Requests.{connect}
-use Rattle.link_machine.specs.Turn.{Turn}
+use Rattle.link_machine.specs.Machine.{emptied}
+use Rattle.link_machine.specs.Turn.{Turn, changing}
+use Rattle.link_machine.specs.declared.acts.Why.TheVariants.{Asked}
 use Rattle.link_steps.proofs.Rows.Stepped.{makes}
 use Rattle.link_steps.proofs.Traffic.Single.{gives as give_packets}
 use Rattle.station_laws.specs.LinksTell.{AreToldInOne, LinksTellInOne}
@@ -215,7 +218,10 @@ row_tells m event t (narrows calling wide heard) = tells_none (begin m) _ refl r
 row_tells m event t (resets up wrong) = reset_tells (begin m)
 row_tells m event t (connects idle connecting) = connect_tells (begin m) idle
 row_tells m event t (takes packet sending short) = tells_none (begin m) _ refl refl
+row_tells m event t (withdraws calling wishing) = tells_end (begin m) _ Asked refl refl
 row_tells m event t (wishes wishing) = tells_none (begin m) _ refl refl
+row_tells m event t (abandons up wish wishing) =
+    tells_on (begin m) (changing emptied (begin m)) _ (tells_none (begin m) _ refl refl) (release_tells _)
 
 settles_tells : (t u : Turn) → Settles t u → Tells t u
 settles_tells t u (is_down down) = tells_none t t refl refl

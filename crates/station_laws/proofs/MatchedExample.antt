@@ -7,6 +7,7 @@ use Rattle.station_laws.proofs.Common.{OnlyACalls, pairs_in, LinkKeepsOrder}
 use Rattle.std.specs.Prelude.{◌≡◌, true, false, List, [], ◌∷◌, Some, None, refl}
 use Rattle.link_machine.specs.Step.{step as link_turn}
 use Rattle.station_laws.specs.InFlight.{is_quiet_at, after_moments}
+use Rattle.station_laws.proofs.EachLink.{matched_for_each, quiet_for_each}
 use Rattle.station_laws.proofs.ExampleOrder.{fits}
 use Rattle.station_laws.proofs.Examples.{sabm, disc, ua, a_joins, b_joins, a_registers, b_registers, a_calls}
 use Rattle.station_laws.proofs.Examples.{b_hears_sabm, a_hears_ua, a_disconnects, b_hears_disc, a_hears_ua_again}
@@ -124,5 +125,5 @@ only_a = (
 
 keeps_order : LinkKeepsOrder calls (pairs_in moments) config config steps
     (all_stepped steps (new_stations config 1 config 2))
-keeps_order = matched_law_holds changes_law_holds config config 1 2 moments is_run are_matched is_quiet fits calls
-    only_a
+keeps_order = matched_law_holds changes_law_holds config config 1 2 moments calls is_run
+    (matched_for_each calls moments nothing_sent are_matched) (quiet_for_each calls moments nothing_sent is_quiet) fits only_a

@@ -1,6 +1,6 @@
 -- The law on two stations of which only one calls, over a run with its matches.
 use Rattle.station_laws.proofs.Common.{ℕ, List, [], ◌∷◌, refl, arith, recursion_from_All, ChangesLaw, WindowsFit}
-use Rattle.station_laws.proofs.Common.{Config, Moment, AreMatched, AreQuietThrough, nothing_sent, steps_in, Step}
+use Rattle.station_laws.proofs.Common.{Config, Moment, AreMatchedFor, AreQuietFor, nothing_sent, steps_in, Step}
 use Rattle.station_laws.proofs.Common.{new_stations, IsJointRun, Calls, IsQuietLink, link_at_end, path_between}
 use Rattle.station_laws.proofs.Common.{first_world, steps_of, IsEventOfCaller, OnlyACalls, pairs_in}
 use Rattle.station_laws.specs.MatchedLaw.{MatchedLaw}
@@ -19,15 +19,15 @@ events_hold calls (step ∷ steps) h = (
 quiet_link :
     (a b : Config) (seed_a seed_b : ℕ) (moments : List Moment) (calls : Calls) → ChangesLaw
     → WindowsFit a.params b.params
-    → IsJointRun (new_stations a seed_a b seed_b) (steps_in moments) → AreMatched moments nothing_sent
-    → AreQuietThrough moments nothing_sent → OnlyACalls calls (steps_in moments)
+    → IsJointRun (new_stations a seed_a b seed_b) (steps_in moments) → AreMatchedFor calls moments nothing_sent
+    → AreQuietFor calls moments nothing_sent → OnlyACalls calls (steps_in moments)
     → IsQuietLink calls (pairs_in moments) a.params b.params (steps_in moments)
 quiet_link a b seed_a seed_b moments calls law fit run matched quiet holds =
-    let order = matched_in_order_holds moments matched in
+    let order = matched_in_order_holds moments calls matched in
     let start = first_world calls a.params b.params in
     quiet_run calls (pairs_in moments) a.params b.params (new_stations a seed_a b seed_b) [] (steps_in moments)
     (record { a = 0; b = 0 }) start nothing_sent moments order.0 order.1 (record {
-      run = new_run_holds a b seed_a seed_b (steps_in moments) (pairs_in moments) calls run order.0 order.1;
+      run = new_run_holds a b seed_a seed_b (steps_in moments) calls (pairs_in moments) run order.0 order.1;
       queued_a = refl;
       queued_b = refl;
       fits = record { of_a = omega arith; of_b = omega arith };
@@ -51,7 +51,7 @@ quiet_link a b seed_a seed_b moments calls law fit run matched quiet holds =
     })
 
 pub matched_law_holds : ChangesLaw → MatchedLaw
-matched_law_holds law a b seed_a seed_b moments run matched quiet fit calls holds =
-    let order = matched_in_order_holds moments matched in
-    stations_law_holds law a b seed_a seed_b (steps_in moments) (pairs_in moments) run order.0 order.1 fit calls
+matched_law_holds law a b seed_a seed_b moments calls run matched quiet fit holds =
+    let order = matched_in_order_holds moments calls matched in
+    stations_law_holds law a b seed_a seed_b (steps_in moments) calls (pairs_in moments) run order.0 order.1 fit
     (quiet_link a b seed_a seed_b moments calls law fit run matched quiet holds)

@@ -4,7 +4,8 @@ use Rattle.station_laws.proofs.Common.{Some, None, is_some, refl, sym, ap, ◌�
 use Rattle.station_laws.proofs.Common.{append-nil, append_assoc, length-append, All-from_recursion, BeginsWithPath}
 use Rattle.station_laws.proofs.Common.{Path, End, A, B, other, each_weaker, each_append, IsHeardBy, IsPathOf}
 use Rattle.station_laws.proofs.Common.{shown_to_hosts, Turn, AreAlikeButForH, Pair, IsOffAir, AreHeardInOrder, Moment}
-use Rattle.station_laws.proofs.Common.{LinkFrame, OneWay, BothWays, IsMatched, AreMatched, hears_ask, nothing_sent}
+use Rattle.station_laws.proofs.Common.{Callsign, Calls, call_at_end, HearsFrameOf, IsMatchedFor, AreMatchedFor}
+use Rattle.station_laws.proofs.Common.{LinkFrame, OneWay, BothWays, IsMatched, hears_ask, nothing_sent}
 use Rattle.station_laws.proofs.Common.{sent_by, steps_in, queueing_all, hearing_at, after_moment, Steps, Passes, Input}
 use Rattle.station_laws.proofs.Common.{IsTurn, Step, at_end, queued_at, FromHost, OffAir, OfClock, LinkStep, steps_of}
 use Rattle.station_laws.proofs.Common.{turn_steps, by_path_steps, is_event, pair_of, pairs_from}
@@ -69,61 +70,66 @@ get_octets queue k frame is = slice_get-map (λ (f : LinkFrame). f.octets) queue
     ∙ ap (option_map (λ (f : LinkFrame). f.octets)) is
 
 own_more :
-    (e : End) (past : List Step) (pairs : List Pair) (way : OneWay) (step : Step) (matched : Option ℕ) (input : Input)
-    (b : Bool) → step.station ≡ e → step.input ≡ input → is_event (steps_of is_some step) ≡ b
-    → AreHeardInOrder e past pairs → Each (λ (p : Pair). p.sent < way.front) pairs
-    → way.queued ≡ frames_at (other e) past → IsMatched input matched way
-    → AreHeardInOrder e (past ++ step ∷ []) (pairs ++ pair_of b (length past) matched)
-own_more e past pairs way step matched input false station input_is event order below queued is =
-    subst (AreHeardInOrder e (past ++ step ∷ [])) (sym (append-nil pairs))
-    (heard_none_more e past step pairs order (λ octets hears. hears.event (no_event (steps_of is_some step) event)))
-own_more e past pairs way step None (FromHost host) true station input_is event order below queued is =
-    subst (AreHeardInOrder e (past ++ step ∷ [])) (sym (append-nil pairs))
-    (heard_none_more e past step pairs order (λ octets hears. subst (λ i. IsOffAir i octets) input_is hears.input))
-own_more e past pairs way step None (OffAir octets) true station input_is event order below queued is = absurd is
-own_more e past pairs way step None (OfClock busy) true station input_is event order below queued is =
-    subst (AreHeardInOrder e (past ++ step ∷ [])) (sym (append-nil pairs))
-    (heard_none_more e past step pairs order (λ octets hears. subst (λ i. IsOffAir i octets) input_is hears.input))
-own_more e past pairs way step (Some sent) (FromHost host) true station input_is event order below queued is =
-    absurd (cc)
-own_more e past pairs way step (Some sent) (OfClock busy) true station input_is event order below queued is =
-    absurd (cc)
-own_more e past pairs way step (Some sent) (OffAir octets) true station input_is event order below queued is =
-    let off : IsOffAir step.input octets = subst (λ i. IsOffAir i octets) (sym input_is) refl in
-    let some : steps_of is_some step ≢ [] = some_event (steps_of is_some step) event in
-    let there : slice_get (queued_at (other e) past) sent ≡ Some octets =
-    ap (λ q. slice_get q sent) (sym (ap octets_in queued ∙ octets_at (other e) past))
-    ∙ get_octets way.queued sent is.frame is.is_there ∙ ap Some is.same in
-    let ahead : way.front ≤ sent = is.ahead in
-    heard_one_more e past step pairs octets octets sent order (record { station = station; input = off; event = some })
-    there
-    (alike_turn step.input (begin step.before) step.after step.turn octets off some)
-    (All-from_recursion (λ (p : Pair). p.sent < sent) pairs
-    (each_weaker (λ (p : Pair). p.sent < way.front) (λ (p : Pair). p.sent < sent) (λ p less. omega arith) pairs below))
+    (l r : Callsign) (e : End) (past : List Step) (pairs : List Pair) (way : OneWay) (step : Step) (matched : Option ℕ)
+    (b : Bool) → step.station ≡ e → is_event (steps_of is_some step) ≡ b → AreHeardInOrder l r e past pairs
+    → Each (λ (p : Pair). p.sent < way.front) pairs → way.queued ≡ frames_at (other e) past
+    → IsMatchedFor l r step matched way
+    → AreHeardInOrder l r e (past ++ step ∷ []) (pairs ++ pair_of b (length past) matched)
+own_more l r e past pairs way step matched false station event order below queued is =
+    subst (AreHeardInOrder l r e (past ++ step ∷ [])) (sym (append-nil pairs))
+    (heard_none_more l r e past step pairs order
+    (λ octets hears. hears.link.event (no_event (steps_of is_some step) event)))
+own_more l r e past pairs way step None true station event order below queued is =
+    subst (AreHeardInOrder l r e (past ++ step ∷ [])) (sym (append-nil pairs))
+    (heard_none_more l r e past step pairs order
+    (λ octets hears. is octets (subst (λ x. HearsFrameOf l r x step octets) (sym station) hears)))
+own_more l r e past pairs way step (Some sent) true station event order below queued is = by_input step.input refl is
+  where
+    by_input : (input : Input) → step.input ≡ input → IsMatched input (Some sent) way
+        → AreHeardInOrder l r e (past ++ step ∷ []) (pairs ++ pair_of true (length past) (Some sent))
+    by_input (FromHost host) input_is h = absurd (cc)
+    by_input (OfClock busy) input_is h = absurd (cc)
+    by_input (OffAir octets) input_is h =
+        let off : IsOffAir step.input octets = subst (λ i. IsOffAir i octets) (sym input_is) refl in
+        let some : steps_of is_some step ≢ [] = some_event (steps_of is_some step) event in
+        let there : slice_get (queued_at (other e) past) sent ≡ Some octets =
+        ap (λ q. slice_get q sent) (sym (ap octets_in queued ∙ octets_at (other e) past))
+        ∙ get_octets way.queued sent h.frame h.is_there ∙ ap Some h.same in
+        let ahead : way.front ≤ sent = h.ahead in
+        heard_one_more l r e past step pairs octets octets sent order
+        (record { station = station; input = off; event = some }) there
+        (alike_turn step.input (begin step.before) step.after step.turn octets off some)
+        (All-from_recursion (λ (p : Pair). p.sent < sent) pairs
+        (each_weaker (λ (p : Pair). p.sent < way.front) (λ (p : Pair). p.sent < sent) (λ p less. omega arith) pairs
+        below))
 
 other_more :
-    (e : End) (past : List Step) (pairs : List Pair) (step : Step) → step.station ≡ other e
-    → AreHeardInOrder e past pairs
-    → AreHeardInOrder e (past ++ step ∷ []) (pairs ++ [])
-other_more e past pairs step station order =
-    subst (AreHeardInOrder e (past ++ step ∷ [])) (sym (append-nil pairs))
-    (heard_none_more e past step pairs order (λ octets hears. not_same e (sym station ∙ hears.station)))
+    (l r : Callsign) (e : End) (past : List Step) (pairs : List Pair) (step : Step) → step.station ≡ other e
+    → AreHeardInOrder l r e past pairs → AreHeardInOrder l r e (past ++ step ∷ []) (pairs ++ [])
+other_more l r e past pairs step station order =
+    subst (AreHeardInOrder l r e (past ++ step ∷ [])) (sym (append-nil pairs))
+    (heard_none_more l r e past step pairs order
+    (λ octets hears. not_same e (sym station ∙ hears.link.station)))
 
 any_more :
-    (e s : End) (past : List Step) (pairs : List Pair) (ways : BothWays) (step : Step) (matched : Option ℕ)
-    → step.station ≡ s → AreHeardInOrder e past pairs
+    (calls : Calls) (e s : End) (past : List Step) (pairs : List Pair) (ways : BothWays) (step : Step)
+    (matched : Option ℕ) → step.station ≡ s
+    → AreHeardInOrder (call_at_end calls e) (call_at_end calls (other e)) e past pairs
     → Each (λ (p : Pair). p.sent < (sent_by (other e) ways).front) pairs
-    → (sent_by (other e) ways).queued ≡ frames_at (other e) past → IsMatched step.input matched (sent_by (other s) ways)
-    → AreHeardInOrder e (past ++ step ∷ [])
+    → (sent_by (other e) ways).queued ≡ frames_at (other e) past
+    → IsMatchedFor (call_at_end calls s) (call_at_end calls (other s)) step matched (sent_by (other s) ways)
+    → AreHeardInOrder (call_at_end calls e) (call_at_end calls (other e)) e (past ++ step ∷ [])
     (pairs ++ at_end e s (pair_of (is_event (steps_of is_some step)) (length past) matched))
-any_more A A past pairs ways step matched station order below queued is =
-    own_more A past pairs ways.from_b step matched step.input (is_event (steps_of is_some step))
-    station refl refl order below queued is
-any_more B B past pairs ways step matched station order below queued is =
-    own_more B past pairs ways.from_a step matched step.input (is_event (steps_of is_some step))
-    station refl refl order below queued is
-any_more A B past pairs ways step matched station order below queued is = other_more A past pairs step station order
-any_more B A past pairs ways step matched station order below queued is = other_more B past pairs step station order
+any_more calls A A past pairs ways step matched station order below queued is =
+    own_more calls.a calls.b A past pairs ways.from_b step matched (is_event (steps_of is_some step)) station refl order
+    below queued is
+any_more calls B B past pairs ways step matched station order below queued is =
+    own_more calls.b calls.a B past pairs ways.from_a step matched (is_event (steps_of is_some step)) station refl order
+    below queued is
+any_more calls A B past pairs ways step matched station order below queued is =
+    other_more calls.a calls.b A past pairs step station order
+any_more calls B A past pairs ways step matched station order below queued is =
+    other_more calls.b calls.a B past pairs step station order
 
 -- the front lies past what was heard
 pair_below :
@@ -171,47 +177,51 @@ queued_step e past ways step matched is =
     ∙ sym (frames_more e past step)
 
 order_from :
-    (e : End) (past : List Step) (pairs : List Pair) (ways : BothWays) (moments : List Moment)
-    → AreHeardInOrder e past pairs → Each (λ (p : Pair). p.sent < (sent_by (other e) ways).front) pairs
-    → (sent_by (other e) ways).queued ≡ frames_at (other e) past → AreMatched moments ways
-    → AreHeardInOrder e (past ++ steps_in moments) (pairs ++ pairs_from e (length past) moments)
-order_from e past pairs ways [] order below queued matched =
-    subst (λ xs. AreHeardInOrder e xs (pairs ++ [])) (sym (append-nil past))
-    (subst (AreHeardInOrder e past) (sym (append-nil pairs)) order)
-order_from e past pairs ways (Passes sender under ∷ moments) order below queued matched =
+    (calls : Calls) (e : End) (past : List Step) (pairs : List Pair) (ways : BothWays) (moments : List Moment)
+    → let l = call_at_end calls e in let r = call_at_end calls (other e) in
+    AreHeardInOrder l r e past pairs → Each (λ (p : Pair). p.sent < (sent_by (other e) ways).front) pairs
+    → (sent_by (other e) ways).queued ≡ frames_at (other e) past → AreMatchedFor calls moments ways
+    → AreHeardInOrder l r e (past ++ steps_in moments) (pairs ++ pairs_from e (length past) moments)
+order_from calls e past pairs ways [] order below queued matched =
+    let l = call_at_end calls e in let r = call_at_end calls (other e) in
+    subst (λ xs. AreHeardInOrder l r e xs (pairs ++ [])) (sym (append-nil past))
+    (subst (AreHeardInOrder l r e past) (sym (append-nil pairs)) order)
+order_from calls e past pairs ways (Passes sender under ∷ moments) order below queued matched =
     let next = after_moment (Passes sender under) ways in
-    order_from e past pairs next moments order
+    order_from calls e past pairs next moments order
     (each_weaker (λ (p : Pair). p.sent < (sent_by (other e) ways).front)
     (λ (p : Pair). p.sent < (sent_by (other e) next).front)
     (λ p less. let more = front_passed (other e) sender under ways in omega arith) pairs below)
     (queued_passed (other e) sender under ways ∙ queued) matched.1
-order_from e past pairs ways (Steps step found ∷ moments) order below queued matched =
+order_from calls e past pairs ways (Steps step found ∷ moments) order below queued matched =
+    let l = call_at_end calls e in let r = call_at_end calls (other e) in
     let next = after_moment (Steps step found) ways in
     let pair = at_end e step.station (pair_of (is_event (steps_of is_some step)) (length past) found) in
     let longer = past ++ step ∷ [] in
-    let more : AreHeardInOrder e longer (pairs ++ pair) =
-    any_more e step.station past pairs ways step found refl order below queued matched.0 in
+    let more : AreHeardInOrder l r e longer (pairs ++ pair) =
+    any_more calls e step.station past pairs ways step found refl order below queued matched.0 in
     let lower = fronts_more e step.station pairs (is_event (steps_of is_some step)) (length past) found
     (hears_ask step.input)
     step.after.out.queued ways below in
-    let all : AreHeardInOrder e (longer ++ steps_in moments) ((pairs ++ pair) ++ pairs_from e (length longer) moments) =
-    order_from e longer (pairs ++ pair) next moments more lower (queued_step (other e) past ways step found queued)
-    matched.1 in
-    subst (λ xs. AreHeardInOrder e xs (pairs ++ pairs_from e (length past) (Steps step found ∷ moments)))
+    let all : AreHeardInOrder l r e (longer ++ steps_in moments)
+    ((pairs ++ pair) ++ pairs_from e (length longer) moments) =
+    order_from calls e longer (pairs ++ pair) next moments more lower
+    (queued_step (other e) past ways step found queued) matched.1 in
+    subst (λ xs. AreHeardInOrder l r e xs (pairs ++ pairs_from e (length past) (Steps step found ∷ moments)))
     (append_assoc past (step ∷ []) (steps_in moments))
-    (subst (AreHeardInOrder e (longer ++ steps_in moments))
+    (subst (AreHeardInOrder l r e (longer ++ steps_in moments))
     (append_assoc pairs pair (pairs_from e (length longer) moments)
     ∙ ap (λ n. pairs ++ (pair ++ pairs_from e n moments)) (length-append past (step ∷ []))) all)
 
-no_order : (e : End) → AreHeardInOrder e [] []
-no_order e = record {
+no_order : (l r : Callsign) (e : End) → AreHeardInOrder l r e [] []
+no_order l r e = record {
   rise = λ i j d less within. absurd (omega arith);
   each = λ i d within. absurd (omega arith);
   all = λ number step octets is hears. absurd (cc);
 }
 
 pub matched_in_order_holds : MatchedInOrder
-matched_in_order_holds moments matched = (
-  order_from A [] [] nothing_sent moments (no_order A) tt refl matched,
-  order_from B [] [] nothing_sent moments (no_order B) tt refl matched,
+matched_in_order_holds moments calls matched = (
+  order_from calls A [] [] nothing_sent moments (no_order calls.a calls.b A) tt refl matched,
+  order_from calls B [] [] nothing_sent moments (no_order calls.b calls.a B) tt refl matched,
 )

@@ -2,7 +2,7 @@
 use Rattle.station_laws.proofs.Common.{◌≡◌, ℕ, Bool, true, false, ◌==◌, ◌&&◌, nat_lt, List, [], length, cond}
 use Rattle.station_laws.proofs.Common.{if◌then◌else◌, Some, None, refl, ap, ◌∙◌, subst, inl, is_none, and_parts}
 use Rattle.station_laws.proofs.Common.{append-nil, Callsign, AgwMessage, new_machine, End, Tagged, HostEvent, replying}
-use Rattle.station_laws.proofs.Common.{with_registration, may_call, calls, called_route, called_pid, IsHostTurn}
+use Rattle.station_laws.proofs.Common.{with_registration, may_call, called_route, called_pid, IsHostTurn}
 use Rattle.station_laws.proofs.Common.{IsNewKey, is_between, key_between, most_links, making, idle_link, registrar}
 use Rattle.station_laws.proofs.Common.{is_number, Route, repeaters_in, path_along, Turn, changing, closing, queueing}
 use Rattle.station_laws.proofs.Common.{entering, dropping, capacity, host_steps, first_chosen, event_at, steps_at}

@@ -6,11 +6,13 @@ use Rattle.station_laws.proofs.Common.{count_by, le-max_left, le-max_right, eq-e
 use Rattle.station_laws.proofs.Common.{append_assoc, Callsign, Path, Params, modulus_named, End, kept, near_made}
 use Rattle.station_laws.proofs.Common.{near_kept, Tagged, asks_in, World, Side, near_turn, other, frame_octets}
 use Rattle.station_laws.proofs.Common.{is_between, StationState, Pair, AreHeardInOrder, LinkFrame, hears_ask, Step}
-use Rattle.station_laws.proofs.Common.{is_named, marks_from, event_at_end, LinkStep, steps_of}
+use Rattle.station_laws.proofs.Common.{is_from_to, is_named, marks_from, event_at_end, LinkStep, steps_of}
 use Rattle.std.specs.Prelude.{max}
 use Rattle.std.specs.List.{AllByRecursion as Each}
 use Rattle.std.proofs.Math.Seq.{drop-append_seam}
+use Rattle.std.proofs.lemmas.Bool.{and_from}
 use Rattle.station_laws.specs.InFlight.{asks}
+use Rattle.station_laws.specs.LinkInFlight.{asks_from_to}
 use Rattle.station_laws.proofs.Acts.{is_asking}
 use Rattle.station_laws.proofs.Addresses.{frame_spelled}
 use Rattle.station_laws.proofs.Along.{makes_near, near_by, near_all}
@@ -19,6 +21,7 @@ use Rattle.station_laws.proofs.Counts.{Tells, flight_count}
 use Rattle.station_laws.proofs.Flights.{RiseFrom, flight, flight_past, marks, marks_as_map, rise_lower}
 use Rattle.station_laws.proofs.Framed.{framed, frames_at}
 use Rattle.station_laws.proofs.JointLaw.{step_rising}
+use Rattle.station_laws.proofs.LinkFrames.{from_to_path}
 use Rattle.station_laws.proofs.NearQuiet.{sent_near, joined_near, made_far}
 use Rattle.station_laws.proofs.Runs.{Between, Sent, Stepped, each_right}
 use Rattle.station_laws.proofs.Tags.{IsTagged, tags_length}
@@ -151,8 +154,19 @@ told_tagged l r f q tag =
     f.frame.path _
     spelled.begins spelled.body)
 
-pub asks_told : (l r : Callsign) → Tells l r is_asking asks
-asks_told l r f q tag asking = (told_tagged l r f q tag).ask ∙ asking
+-- and are frames between the calls of the link
+pub tagged_between : (l r : Callsign) (f : Tagged) (q : LinkFrame) → IsTagged l r f q → is_from_to l r q.octets ≡ true
+tagged_between l r f q tag =
+    let spelled = frame_spelled (modulus_named f.modulus) f.frame tag.path in
+    subst (λ o. is_from_to l r o ≡ true) (sym tag.spelled)
+    (subst (λ source. is_from_to source r (frame_octets (modulus_named f.modulus) f.frame) ≡ true) tag.source
+    (subst (λ dest. is_from_to f.frame.path.source dest (frame_octets (modulus_named f.modulus) f.frame) ≡ true)
+    tag.dest
+    (from_to_path (frame_octets (modulus_named f.modulus) f.frame) f.frame.path _ spelled.begins)))
+
+pub asks_told : (l r : Callsign) → Tells l r is_asking (asks_from_to l r)
+asks_told l r f q tag asking =
+    and_from (is_from_to l r q.octets) (asks q) (tagged_between l r f q tag) ((told_tagged l r f q tag).ask ∙ asking)
 
 -- pairs that rise, from a higher number on
 pub rise_higher :
@@ -166,9 +180,9 @@ pub asks_joined :
     (e : End) (l r : Callsign) (pa pb : Params) (n : ℕ) (sb : StationState) (qa qb : List LinkFrame)
     (out_pairs back_pairs : List Pair) (w : World) (full : List Step) (step : Step)
     → Between l r pa pb n step.before sb qa qb out_pairs back_pairs w → step.station ≡ e → slice_get full n ≡ Some step
-    → frames_at (other e) (take n full) ≡ qb → AreHeardInOrder e full back_pairs
+    → frames_at (other e) (take n full) ≡ qb → AreHeardInOrder l r e full back_pairs
     → asks_in (joined_near e out_pairs (length qa) (steps_of (is_between l r) step) w)
-    ≤ count_by asks (framed (hears_ask step.input) step.after.out.queued)
+    ≤ count_by (asks_from_to l r) (framed (hears_ask step.input) step.after.out.queued)
 asks_joined e l r pa pb n sb qa qb out_pairs back_pairs w full step h station is queue back_order =
     let steps = steps_of (is_between l r) step in
     let joined = framed (hears_ask step.input) step.after.out.queued in
@@ -201,7 +215,7 @@ asks_joined e l r pa pb n sb qa qb out_pairs back_pairs w full step h station is
     each_right (λ (p : Pair). length qa ≤ p.sent) out.done out.rest
     (subst (λ xs. Each (λ (p : Pair). length qa ≤ p.sent) xs) out.split
     (named_from (length qa) (n + 1) (length qa) count (omega arith))) in
-    let fits = flight_count l r is_asking asks (asks_told l r) out.tags (qa ++ joined) out.tagged (n + 1) (length qa)
+    let fits = flight_count l r is_asking (asks_from_to l r) (asks_told l r) out.tags (qa ++ joined) out.tagged (n + 1) (length qa)
     out.rest
     (rise_higher (n + 1) 0 (length qa) out.rest out.rises low) in
     let towards : joined_near e out_pairs (length qa) steps w ≡ (near_all e ps (length qa) steps v).b.towards =
@@ -209,6 +223,6 @@ asks_joined e l r pa pb n sb qa qb out_pairs back_pairs w full step h station is
     ∙ sym (towards_named e ps (length qa) steps v (all_kept (n + 1) (length qa) count steps (omega arith))) in
     let left : asks_in (joined_near e out_pairs (length qa) steps w) ≡ count_by is_asking (flight out.tags out.rest) =
     ap asks_in (towards ∙ out.ahead) in
-    let right : count_by asks (drop (length qa) (qa ++ joined)) ≡ count_by asks joined =
-    ap (λ xs. count_by asks xs) (drop-append_seam qa joined) in
+    let right : count_by (asks_from_to l r) (drop (length qa) (qa ++ joined)) ≡ count_by (asks_from_to l r) joined =
+    ap (λ xs. count_by (asks_from_to l r) xs) (drop-append_seam qa joined) in
     omega arith

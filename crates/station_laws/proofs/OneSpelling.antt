@@ -1,5 +1,5 @@
 -- What a station's definitions of texts and frames are in the formats' terms.
-use Rattle.station_laws.proofs.Common.{◌≡◌, ℕ, List, refl, sym, subst, Frame, Modulus, frame_octets, path_octets}
+use Rattle.station_laws.proofs.Common.{ℕ, List, refl, sym, subst, Frame, Modulus, frame_octets, path_octets}
 use Rattle.ax25_frames.specs.FrameOctets.{IsWrittenFrame}
 use Rattle.station.proofs.CallLemmas.{call_of_text-is, IsCallText-from}
 use Rattle.station.proofs.FrameLemmas.{frame_spelled}

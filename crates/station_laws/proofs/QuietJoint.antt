@@ -3,8 +3,8 @@ use Rattle.station_laws.proofs.Common.{◌≡◌, ℕ, ◌+◌, ◌<◌, ◌≤�
 use Rattle.station_laws.proofs.Common.{is_some, refl, sym, ap, ◌∙◌, subst, arith, ⊤, append_assoc, length-append}
 use Rattle.station_laws.proofs.Common.{slice_get_within, Params, End, A, B, Change, run_changes, AreQuiet}
 use Rattle.station_laws.proofs.Common.{ChangesAreValid, RecordedEnd, World, other, each_weaker, each_append, Pair}
-use Rattle.station_laws.proofs.Common.{AreHeardInOrder, Moment, LinkFrame, OneWay, BothWays, IsMatched, AreMatched}
-use Rattle.station_laws.proofs.Common.{AreQuietThrough, AreQuietAt, hears_ask, steps_in, sent_by, queueing_all}
+use Rattle.station_laws.proofs.Common.{AreHeardInOrder, Moment, LinkFrame, OneWay, BothWays, IsMatched, Callsign, call_at_end}
+use Rattle.station_laws.proofs.Common.{AreMatchedFor, IsMatchedFor, AreQuietFor, AreQuietAtFor, hears_ask, steps_in, sent_by, queueing_all}
 use Rattle.station_laws.proofs.Common.{hearing_at, after_moment, Steps, Passes, Input, Step, Stations, state_of}
 use Rattle.station_laws.proofs.Common.{stepped, at_end, FromHost, OffAir, OfClock, Calls, Pairs, Counts, link_at_end}
 use Rattle.station_laws.proofs.Common.{count_at, with_more, all_changes_by, changes_from, steps_of, IsEventOfCaller}
@@ -39,13 +39,17 @@ EventsHold calls (step ∷ steps) =
 abbrev pub FrontFits : OneWay → Type 0
 FrontFits way = way.front ≤ length way.queued
 
-heard_fits : (matched : Option ℕ) (input : Input) (way : OneWay) → IsMatched input matched way → FrontFits way
-    → FrontFits (past_heard matched way)
-heard_fits None input way is fits = fits
-heard_fits (Some number) (FromHost event) way is fits = absurd (cc)
-heard_fits (Some number) (OffAir octets) way is fits =
-    let within = slice_get_within way.queued number is.frame is.is_there in max-le fits (omega arith)
-heard_fits (Some number) (OfClock busy) way is fits = absurd (cc)
+heard_fits :
+    (l r : Callsign) (step : Step) (matched : Option ℕ) (way : OneWay) → IsMatchedFor l r step matched way
+    → FrontFits way → FrontFits (past_heard matched way)
+heard_fits l r step None way is fits = fits
+heard_fits l r step (Some number) way is fits = by_input step.input is
+  where
+    by_input : (input : Input) → IsMatched input (Some number) way → FrontFits (past_heard (Some number) way)
+    by_input (FromHost event) h = absurd (cc)
+    by_input (OffAir octets) h =
+        let within = slice_get_within way.queued number h.frame h.is_there in max-le fits (omega arith)
+    by_input (OfClock busy) h = absurd (cc)
 
 joined_fits : (frames : List LinkFrame) (way : OneWay) → FrontFits way → FrontFits (joined frames way)
 joined_fits frames way fits = let size = length-append way.queued frames in omega arith
@@ -55,18 +59,18 @@ pub record BothFit (ways : BothWays) : Type 0 where
   pub of_b : FrontFits ways.from_b
 
 step_fits :
-    (e : End) (on : Bool) (queue : List (List ℕ)) (matched : Option ℕ) (input : Input) (ways : BothWays)
-    → IsMatched input matched (sent_by (other e) ways) → BothFit ways
-    → BothFit (queueing_all e on queue (hearing_at e matched ways))
-step_fits A on queue matched input ways is fits = record {
+    (calls : Calls) (e : End) (on : Bool) (queue : List (List ℕ)) (step : Step) (matched : Option ℕ) (ways : BothWays)
+    → IsMatchedFor (call_at_end calls e) (call_at_end calls (other e)) step matched (sent_by (other e) ways)
+    → BothFit ways → BothFit (queueing_all e on queue (hearing_at e matched ways))
+step_fits calls A on queue step matched ways is fits = record {
   of_a = subst FrontFits (sym (stepped_own A on queue matched ways))
       (joined_fits (framed on queue) ways.from_a fits.of_a);
   of_b = subst FrontFits (sym (stepped_other A on queue matched ways))
-      (heard_fits matched input ways.from_b is fits.of_b);
+      (heard_fits calls.a calls.b step matched ways.from_b is fits.of_b);
 }
-step_fits B on queue matched input ways is fits = record {
+step_fits calls B on queue step matched ways is fits = record {
   of_a = subst FrontFits (sym (stepped_other B on queue matched ways))
-      (heard_fits matched input ways.from_a is fits.of_a);
+      (heard_fits calls.b calls.a step matched ways.from_a is fits.of_a);
   of_b = subst FrontFits (sym (stepped_own B on queue matched ways))
       (joined_fits (framed on queue) ways.from_b fits.of_b);
 }
@@ -96,8 +100,8 @@ pub record Now (calls : Calls) (pairs : Pairs) (a b : Params) (st : Stations) (p
   pub split_b : pairs.at_b ≡ before_b ++ pairs_from B (length past) moments
   pub past_a : Each (λ (p : Pair). p.heard < length past) before_a
   pub past_b : Each (λ (p : Pair). p.heard < length past) before_b
-  pub matched : AreMatched moments ways
-  pub quiet : AreQuietThrough moments ways
+  pub matched : AreMatchedFor calls moments ways
+  pub quiet : AreQuietFor calls moments ways
   pub holds : EventsHold calls (steps_in moments)
   pub asks : AsksOut w
   pub start : World
@@ -131,10 +135,10 @@ later_ahead x s pairs before b n front found moments split past later =
 step_quiet :
     (calls : Calls) (pairs : Pairs) (a b : Params) (st : Stations) (past full : List Step) (counts : Counts) (w : World)
     (ways : BothWays) (step : Step) (found : Option ℕ) (moments : List Moment) (e : End)
-    → AreHeardInOrder A full pairs.at_a → AreHeardInOrder B full pairs.at_b
+    → AreHeardInOrder calls.a calls.b A full pairs.at_a → AreHeardInOrder calls.b calls.a B full pairs.at_b
     → Now calls pairs a b st past full counts w ways (Steps step found ∷ moments) → step.station ≡ e
     → step.before ≡ state_of e st → StepDone calls pairs a b (length past) st past counts w step e
-    → AreQuietAt e (hears_ask step.input) step.after.out.queued (hearing_at e found ways)
+    → AreQuietAtFor calls e (hears_ask step.input) step.after.out.queued (hearing_at e found ways)
     → Each (λ (p : Pair). (sent_by (other e) (queueing_all e (hears_ask step.input) step.after.out.queued
     (hearing_at e found ways))).front ≤ p.sent)
     (pairs_from e (length past + 1) moments)
@@ -154,7 +158,7 @@ step_quiet calls pairs a b st past full counts w ways step found moments A heard
     let out_ahead : Each (AheadFrom n ways.from_a.front) pairs.at_b =
     subst (λ xs. Each (AheadFrom n ways.from_a.front) xs) (sym r.split_b)
     (all_ahead n ways.from_a.front r.before_b (pairs_from B n (Steps step found ∷ moments)) r.past_b
-    (ahead_from B n (Steps step found ∷ moments) ways r.matched)) in
+    (ahead_from calls B n (Steps step found ∷ moments) ways r.matched)) in
     let front : sent_by B (queueing_all A on step.after.out.queued (hearing_at A found ways)) ≡ back =
     stepped_other A on step.after.out.queued found ways in
     let back_ahead : Each (AheadFrom (n + 1) back.front) pairs.at_a =
@@ -165,7 +169,7 @@ step_quiet calls pairs a b st past full counts w ways step found moments A heard
     send_step A calls.a calls.b a b n st.b qa qb pairs.at_b pairs.at_a w full step ways.from_a back now station
     here.there (ap (frames_at B) here.taken) heard_b heard_a r.queued_a (past_queued found ways.from_b ∙ r.queued_b)
     r.fits.of_a out_ahead back_ahead
-    (quiet_one A on step.after.out.queued (hearing_at A found ways) quiet) in
+    (quiet_one calls A on step.after.out.queued (hearing_at A found ways) quiet) in
     let near : CallerQuiet A pairs.at_b (length qa) steps w =
     caller_quiet A q.stays pairs.at_b (length qa) steps w q.follows holds q.sends r.asks in
     let seen = changes_seen A pairs (length qa) steps w in
@@ -213,7 +217,7 @@ past_more x s before b past step found all =
 
 pub quiet_run :
     (calls : Calls) (pairs : Pairs) (a b : Params) (st : Stations) (past full : List Step) (counts : Counts) (w : World)
-    (ways : BothWays) (moments : List Moment) → AreHeardInOrder A full pairs.at_a → AreHeardInOrder B full pairs.at_b
+    (ways : BothWays) (moments : List Moment) → AreHeardInOrder calls.a calls.b A full pairs.at_a → AreHeardInOrder calls.b calls.a B full pairs.at_b
     → Now calls pairs a b st past full counts w ways moments
     → AreQuiet w (changes_from calls pairs counts (steps_in moments))
 quiet_run calls pairs a b st past full counts w ways [] heard_a heard_b h = tt
@@ -249,14 +253,14 @@ quiet_run calls pairs a b st past full counts w ways (Steps step found ∷ momen
     let ways_next = after_moment (Steps step found) ways in
     let one : StepQuiet calls pairs counts w step e =
     step_quiet calls pairs a b st past full counts w ways step found moments e heard_a heard_b h refl h.run.0.before
-    h.run.0.done h.quiet.0 (ahead_from e (length past + 1) moments ways_next h.matched.1) h.holds.0 in
+    h.run.0.done h.quiet.0 (ahead_from calls e (length past + 1) moments ways_next h.matched.1) h.holds.0 in
     quiet-append w changes (changes_from calls pairs more (steps_in moments)) one.quiet
     (quiet_run calls pairs a b (stepped step st) (past ++ step ∷ []) full more (run_changes w changes) ways_next moments
     heard_a heard_b (record {
       run = h.run.1;
       queued_a = queued_step A past ways step found h.queued_a;
       queued_b = queued_step B past ways step found h.queued_b;
-      fits = step_fits e (hears_ask step.input) step.after.out.queued found step.input ways h.matched.0 h.fits;
+      fits = step_fits calls e (hears_ask step.input) step.after.out.queued step found ways h.matched.0 h.fits;
       before_a = h.before_a ++ at_end A e (pair_of event (length past) found);
       before_b = h.before_b ++ at_end B e (pair_of event (length past) found);
       split_a = split_more A e pairs.at_a h.before_a event past step found moments h.split_a;

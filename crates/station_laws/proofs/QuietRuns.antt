@@ -5,7 +5,8 @@ use Rattle.station_laws.proofs.Common.{drop, Option, Some, None, is_some, refl, 
 use Rattle.station_laws.proofs.Common.{slice_get, count_by, Callsign, Path, Params, End, A, B, Change, changed}
 use Rattle.station_laws.proofs.Common.{run_changes, AreQuiet, Makes, Keeps, Tagged, asks_in, answers_in, World}
 use Rattle.station_laws.proofs.Common.{seen_from, other, each_weaker, each_append, is_between, StationState, Pair}
-use Rattle.station_laws.proofs.Common.{AreHeardInOrder, Moment, LinkFrame, OneWay, BothWays, IsMatched, AreMatched}
+use Rattle.station_laws.proofs.Common.{AreHeardInOrder, Moment, LinkFrame, OneWay, BothWays, IsMatched, IsMatchedFor, AreMatchedFor}
+use Rattle.station_laws.proofs.Common.{Calls, call_at_end, is_from_to}
 use Rattle.station_laws.proofs.Common.{hears_ask, sent_by, in_flight, answers, is_ua_or_dm, after_moment, Steps, Passes}
 use Rattle.station_laws.proofs.Common.{Input, Step, at_end, FromHost, OffAir, OfClock, Pairs, heard_at, makes}
 use Rattle.station_laws.proofs.Common.{marks_from, event_at_end, changes_by, all_changes_by, LinkStep, steps_of}
@@ -17,7 +18,7 @@ use Rattle.link_machine.specs.Event.Event.{Connect as LinkConnect, Send as LinkS
 use Rattle.link_machine.specs.Event.Event.{Hear as LinkHear, Seize as LinkSeize, Tick as LinkTick}
 use Rattle.link_world.specs.Quiet.{is_quiet}
 use Rattle.link_world.proofs.law.Each.{each_both}
-use Rattle.station_laws.specs.InFlight.{asks}
+use Rattle.station_laws.specs.LinkInFlight.{answers_from_to, asks_from_to}
 use Rattle.station_laws.proofs.Acts.{is_asking}
 use Rattle.station_laws.proofs.Along.{makes_near, near_all, AllFollowNear, by_seen, makes_seen}
 use Rattle.station_laws.proofs.BenchQuiet.{AreQuietOne, bench_quiet}
@@ -25,7 +26,7 @@ use Rattle.station_laws.proofs.Counts.{Tells, flight_count}
 use Rattle.station_laws.proofs.Flights.{RiseFrom, flight}
 use Rattle.station_laws.proofs.Framed.{framed, frames_at}
 use Rattle.station_laws.proofs.JointLaw.{step_near}
-use Rattle.station_laws.proofs.Naming.{told_tagged, asks_told, rise_higher, asks_joined}
+use Rattle.station_laws.proofs.Naming.{told_tagged, tagged_between, asks_told, rise_higher, asks_joined}
 use Rattle.station_laws.proofs.NearQuiet.{joined_near, QuietNear, AllQuietNear, SendsAlone}
 use Rattle.station_laws.proofs.Runs.{Between, Sent, Stepped, each_right}
 use Rattle.station_laws.proofs.Ways.{front_by, front_passed}
@@ -56,10 +57,11 @@ rise_ahead n front pairs done rest split ahead rises =
     rest here
     (rise_heard n 0 rest rises))
 
-answers_told : (l r : Callsign) → Tells l r (λ (f : Tagged). f.answers) answers
+answers_told : (l r : Callsign) → Tells l r (λ (f : Tagged). f.answers) (answers_from_to l r)
 answers_told l r f q tag answering =
-    and_from q.on_ask (is_ua_or_dm q.octets) (tag.cause answering) ((told_tagged l r f q tag).answer
-    ∙ tag.answer answering)
+    and_from (is_from_to l r q.octets) (answers q) (tagged_between l r f q tag)
+    (and_from q.on_ask (is_ua_or_dm q.octets) (tag.cause answering) ((told_tagged l r f q tag).answer
+    ∙ tag.answer answering))
 
 -- ---- one step
 
@@ -73,10 +75,10 @@ pub send_step :
     (e : End) (l r : Callsign) (pa pb : Params) (n : ℕ) (sb : StationState) (qa qb : List LinkFrame)
     (out_pairs back_pairs : List Pair) (w : World) (full : List Step) (step : Step) (own back : OneWay)
     → Between l r pa pb n step.before sb qa qb out_pairs back_pairs w → step.station ≡ e → slice_get full n ≡ Some step
-    → frames_at (other e) (take n full) ≡ qb → AreHeardInOrder (other e) full out_pairs
-    → AreHeardInOrder e full back_pairs → own.queued ≡ qa → back.queued ≡ qb → own.front ≤ length own.queued
+    → frames_at (other e) (take n full) ≡ qb → AreHeardInOrder r l (other e) full out_pairs
+    → AreHeardInOrder l r e full back_pairs → own.queued ≡ qa → back.queued ≡ qb → own.front ≤ length own.queued
     → Each (AheadFrom n own.front) out_pairs → Each (AheadFrom (n + 1) back.front) back_pairs
-    → AreQuietOne (hears_ask step.input) step.after.out.queued own back
+    → AreQuietOne l r (hears_ask step.input) step.after.out.queued own back
     → SendStep e out_pairs (length qa) (steps_of (is_between l r) step) w
 send_step e l r pa pb n sb qa qb out_pairs back_pairs w full step own back h station is queue out_order back_order
     own_is back_is
@@ -86,29 +88,29 @@ send_step e l r pa pb n sb qa qb out_pairs back_pairs w full step own back h sta
     let done : Stepped e on l r pa pb n sb qa qb out_pairs back_pairs w step.after steps =
     step_near e l r pa pb n sb qa qb out_pairs back_pairs w full step h station is queue out_order back_order in
     let total = asks_in (joined_near e out_pairs (length qa) steps w) in
-    let fits : total ≤ count_by asks (framed on step.after.out.queued) =
+    let fits : total ≤ count_by (asks_from_to l r) (framed on step.after.out.queued) =
     asks_joined e l r pa pb n sb qa qb out_pairs back_pairs w full step h station is queue back_order in
     let out_rises : RiseFrom n own.front h.out.rest =
     rise_ahead n own.front out_pairs h.out.done h.out.rest h.out.split own_ahead h.out.rises in
-    let ahead : asks_in (flight h.out.tags h.out.rest) ≤ count_by asks (drop own.front qa) =
-    flight_count l r is_asking asks (asks_told l r) h.out.tags qa h.out.tagged n own.front h.out.rest out_rises in
+    let ahead : asks_in (flight h.out.tags h.out.rest) ≤ count_by (asks_from_to l r) (drop own.front qa) =
+    flight_count l r is_asking (asks_from_to l r) (asks_told l r) h.out.tags qa h.out.tagged n own.front h.out.rest out_rises in
     let ahead_is : asks_in w.b.towards ≡ asks_in (flight h.out.tags h.out.rest) = ap asks_in h.out.ahead in
-    let own_flight : count_by asks (in_flight own) ≡ count_by asks (drop own.front qa) =
-    ap (λ q. count_by asks (drop own.front q)) own_is in
+    let own_flight : count_by (asks_from_to l r) (in_flight own) ≡ count_by (asks_from_to l r) (drop own.front qa) =
+    ap (λ q. count_by (asks_from_to l r) (drop own.front q)) own_is in
     let later : Sent r l qb back_pairs (n + 1) (near_all e out_pairs (length qa) steps w).a.towards =
     done.between.back in
     let back_rises : RiseFrom (n + 1) back.front later.rest =
     rise_ahead (n + 1) back.front back_pairs later.done later.rest later.split back_ahead later.rises in
-    let behind : answers_in (flight later.tags later.rest) ≤ count_by answers (drop back.front qb) =
-    flight_count r l (λ (f : Tagged). f.answers) answers (answers_told r l) later.tags qb later.tagged (n + 1)
+    let behind : answers_in (flight later.tags later.rest) ≤ count_by (answers_from_to r l) (drop back.front qb) =
+    flight_count r l (λ (f : Tagged). f.answers) (answers_from_to r l) (answers_told r l) later.tags qb later.tagged (n + 1)
     back.front later.rest
     back_rises in
     let behind_is : answers_in done.stays ≡ answers_in (flight later.tags later.rest) =
     ap answers_in (sym done.left ∙ later.ahead) in
-    let back_flight : count_by answers (in_flight back) ≡ count_by answers (drop back.front qb) =
-    ap (λ q. count_by answers (drop back.front q)) back_is in
+    let back_flight : count_by (answers_from_to r l) (in_flight back) ≡ count_by (answers_from_to r l) (drop back.front qb) =
+    ap (λ q. count_by (answers_from_to r l) (drop back.front q)) back_is in
     let sends : SendsAlone total w done.stays =
-    elim (bench_quiet on step.after.out.queued own back low quiet) [
+    elim (bench_quiet l r on step.after.out.queued own back low quiet) [
       | inl none ↦ inl (omega arith)
       | inr few ↦ let one = few.0 in let none = few.1 in inr (omega arith, omega arith)
     ] in
@@ -160,44 +162,48 @@ quiet_all e pairs n (step ∷ steps) w h =
 -- ---- what is matched later lies ahead
 
 pair_ahead :
-    (b : Bool) (n : ℕ) (matched : Option ℕ) (input : Input) (way : OneWay) → IsMatched input matched way
-    → Each (λ (p : Pair). way.front ≤ p.sent) (pair_of b n matched)
-pair_ahead false n matched input way is = tt
-pair_ahead true n None input way is = tt
-pair_ahead true n (Some sent) (FromHost event) way is = absurd (cc)
-pair_ahead true n (Some sent) (OffAir octets) way is = (is.ahead, tt)
-pair_ahead true n (Some sent) (OfClock busy) way is = absurd (cc)
+    (l r : Callsign) (b : Bool) (n : ℕ) (step : Step) (matched : Option ℕ) (way : OneWay)
+    → IsMatchedFor l r step matched way → Each (λ (p : Pair). way.front ≤ p.sent) (pair_of b n matched)
+pair_ahead l r false n step matched way is = tt
+pair_ahead l r true n step None way is = tt
+pair_ahead l r true n step (Some sent) way is = by_input step.input is
+  where
+    by_input : (input : Input) → IsMatched input (Some sent) way
+        → Each (λ (p : Pair). way.front ≤ p.sent) (pair_of true n (Some sent))
+    by_input (FromHost event) h = absurd (cc)
+    by_input (OffAir octets) h = (h.ahead, tt)
+    by_input (OfClock busy) h = absurd (cc)
 
 here_ahead :
-    (e s : End) (b : Bool) (n : ℕ) (matched : Option ℕ) (input : Input) (ways : BothWays)
-    → IsMatched input matched (sent_by (other s) ways)
+    (calls : Calls) (e s : End) (b : Bool) (n : ℕ) (step : Step) (matched : Option ℕ) (ways : BothWays)
+    → IsMatchedFor (call_at_end calls s) (call_at_end calls (other s)) step matched (sent_by (other s) ways)
     → Each (λ (p : Pair). (sent_by (other e) ways).front ≤ p.sent) (at_end e s (pair_of b n matched))
-here_ahead A A b n matched input ways is = pair_ahead b n matched input ways.from_b is
-here_ahead B B b n matched input ways is = pair_ahead b n matched input ways.from_a is
-here_ahead A B b n matched input ways is = tt
-here_ahead B A b n matched input ways is = tt
+here_ahead calls A A b n step matched ways is = pair_ahead calls.a calls.b b n step matched ways.from_b is
+here_ahead calls B B b n step matched ways is = pair_ahead calls.b calls.a b n step matched ways.from_a is
+here_ahead calls A B b n step matched ways is = tt
+here_ahead calls B A b n step matched ways is = tt
 
 pub ahead_from :
-    (e : End) (n : ℕ) (moments : List Moment) (ways : BothWays) → AreMatched moments ways
+    (calls : Calls) (e : End) (n : ℕ) (moments : List Moment) (ways : BothWays) → AreMatchedFor calls moments ways
     → Each (λ (p : Pair). (sent_by (other e) ways).front ≤ p.sent) (pairs_from e n moments)
-ahead_from e n [] ways matched = tt
-ahead_from e n (Passes sender below ∷ moments) ways matched =
+ahead_from calls e n [] ways matched = tt
+ahead_from calls e n (Passes sender below ∷ moments) ways matched =
     let next = after_moment (Passes sender below) ways in
     each_weaker (λ (p : Pair). (sent_by (other e) next).front ≤ p.sent)
     (λ (p : Pair). (sent_by (other e) ways).front ≤ p.sent)
     (λ p ahead. let more = front_passed (other e) sender below ways in omega arith) (pairs_from e n moments)
-    (ahead_from e n moments next matched.1)
-ahead_from e n (Steps step found ∷ moments) ways matched =
+    (ahead_from calls e n moments next matched.1)
+ahead_from calls e n (Steps step found ∷ moments) ways matched =
     let next = after_moment (Steps step found) ways in
     each_append (λ (p : Pair). (sent_by (other e) ways).front ≤ p.sent)
     (at_end e step.station (pair_of (is_event (steps_of is_some step)) n found)) (pairs_from e (n + 1) moments)
-    (here_ahead e step.station (is_event (steps_of is_some step)) n found step.input ways matched.0)
+    (here_ahead calls e step.station (is_event (steps_of is_some step)) n step found ways matched.0)
     (each_weaker (λ (p : Pair). (sent_by (other e) next).front ≤ p.sent)
     (λ (p : Pair). (sent_by (other e) ways).front ≤ p.sent)
     (λ p ahead.
     let more = front_by (other e) step.station (hears_ask step.input) step.after.out.queued found ways in
     omega arith)
-    (pairs_from e (n + 1) moments) (ahead_from e (n + 1) moments next matched.1))
+    (pairs_from e (n + 1) moments) (ahead_from calls e (n + 1) moments next matched.1))
 
 -- pairs before, and those ahead
 pub all_ahead :

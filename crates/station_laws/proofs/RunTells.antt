@@ -14,9 +14,9 @@ state_is None m is = is
 state_is (Some link) m is = ap (λ (x : Machine). x.control.state) is
 
 pub runs_tell_holds : RunsTellInOne
-runs_tell_holds a b seed_a seed_b steps pairs run heard_a heard_b calls end =
-    let follows = following_law_holds a b seed_a seed_b steps pairs run heard_a heard_b calls in
-    let chain = run_chained a b seed_a seed_b steps pairs calls run heard_a heard_b in
+runs_tell_holds a b seed_a seed_b steps calls pairs run heard_a heard_b end =
+    let follows = following_law_holds a b seed_a seed_b steps calls pairs run heard_a heard_b in
+    let chain = run_chained a b seed_a seed_b steps calls pairs run heard_a heard_b in
     let first = first_world calls a.params b.params in
     let tells_a = chain_tells false first.a.end.machine (link_steps_at calls A steps) chain.chain_a none_idle in
     let tells_b = chain_tells false first.b.end.machine (link_steps_at calls B steps) chain.chain_b none_idle in

@@ -1,16 +1,17 @@
 -- A joint run, step by step: the two ends of the link between two calls follow it.
 use Rattle.station_laws.proofs.Common.{◌≡◌, ◌≢◌, ℕ, zero, suc, ◌+◌, ◌<◌, ◌≤◌, Bool, true, false, List, [], ◌∷◌, ◌++◌}
 use Rattle.station_laws.proofs.Common.{length, take, Option, Some, None, get_or, refl, sym, ap, ◌∙◌, subst, arith, inl}
-use Rattle.station_laws.proofs.Common.{inr, slice_get, cases_eq, append-nil, append_assoc, length-append, length-map}
+use Rattle.station_laws.proofs.Common.{inr, ◌⊎◌, All, All-contains_itself, is_from_to, slice_get, cases_eq, append-nil, append_assoc, length-append, length-map}
 use Rattle.station_laws.proofs.Common.{All-from_recursion, recursion_from_All, slice_get_within, Callsign, Params}
 use Rattle.station_laws.proofs.Common.{Machine, End, Tagged, RecordedEnd, World, other, each_weaker, each_append}
 use Rattle.station_laws.proofs.Common.{StationState, asked_links, ticking, is_between, Turn, Input, IsTurn, Step}
 use Rattle.station_laws.proofs.Common.{queued_at, FromHost, OffAir, OfClock, AreAlikeButForH, Pair, IsOffAir}
-use Rattle.station_laws.proofs.Common.{HearsLinkFrame, IsHeardPair, HasPair, AreHeardInOrder, LinkFrame, is_ask}
+use Rattle.station_laws.proofs.Common.{HearsLinkFrame, IsHeardPair, HasPair, LinkFrame, is_ask}
 use Rattle.station_laws.proofs.Common.{LinkStep, turn_steps}
 use Rattle.std.specs.Prelude.{is_some}
 use Rattle.std.specs.List.{AllByRecursion as Each}
-use Rattle.std.proofs.lemmas.List.Elements.{All-contains}
+use Rattle.std.specs.Prelude.{Contains}
+use Rattle.std.proofs.lemmas.List.Elements.{All-contains, Contains-append_right}
 use Rattle.std.proofs.lemmas.Option.{get_or_from_slice_get}
 use Rattle.link_world.proofs.law.Each.{each_pushed}
 use Rattle.station.specs.Turn.{begin}
@@ -103,11 +104,11 @@ hears_at_number hearer full n step p is h at =
 
 pub none_rises :
     (hearer : End) (full : List Step) (pairs : List Pair) (l r : Callsign) (queue : List LinkFrame) (n : ℕ)
-    (towards : List Tagged) (step : Step) → AreHeardInOrder hearer full pairs → slice_get full n ≡ Some step
+    (towards : List Tagged) (step : Step) → All (IsHeardPair hearer full) pairs → slice_get full n ≡ Some step
     → ((octets : List ℕ) → HearsLinkFrame hearer step octets → ⊥) → (s : Sent l r queue pairs n towards)
     → RiseFrom (n + 1) 0 s.rest
-none_rises hearer full pairs l r queue n towards step order is never s =
-    let all : Each (IsHeardPair hearer full) pairs = recursion_from_All (IsHeardPair hearer full) pairs order.each in
+none_rises hearer full pairs l r queue n towards step each is never s =
+    let all : Each (IsHeardPair hearer full) pairs = recursion_from_All (IsHeardPair hearer full) pairs each in
     let rest : Each (IsHeardPair hearer full) s.rest =
     each_right (IsHeardPair hearer full) s.done s.rest (subst (λ ps. Each (IsHeardPair hearer full) ps) s.split all) in
     rise_next n s.rest
@@ -116,12 +117,12 @@ none_rises hearer full pairs l r queue n towards step order is never s =
 
 pub none_heard :
     (hearer : End) (full : List Step) (pairs : List Pair) (l r : Callsign) (queue : List LinkFrame) (n : ℕ)
-    (towards : List Tagged) (step : Step) → AreHeardInOrder hearer full pairs → slice_get full n ≡ Some step
+    (towards : List Tagged) (step : Step) → All (IsHeardPair hearer full) pairs → slice_get full n ≡ Some step
     → ((octets : List ℕ) → HearsLinkFrame hearer step octets → ⊥) → Sent l r queue pairs n towards
     → Sent l r queue pairs (n + 1) towards
-none_heard hearer full pairs l r queue n towards step order is never s =
+none_heard hearer full pairs l r queue n towards step each is never s =
     sent_later l r queue pairs n towards s
-    (none_rises hearer full pairs l r queue n towards step order is never s)
+    (none_rises hearer full pairs l r queue n towards step each is never s)
 
 -- ---- a step that does
 
@@ -171,14 +172,14 @@ all_rise n m (p ∷ ps) sent less rises =
 pub popped_by :
     (s : Setting) (hearer : End) (full : List Step) (pairs : List Pair) (queue : List LinkFrame) (n : ℕ)
     (towards : List Tagged) (step : Step) (octets : List ℕ) (done rest : List Pair) (tags : List (Option Tagged))
-    → AreHeardInOrder hearer full pairs → slice_get full n ≡ Some step → HearsLinkFrame hearer step octets
+    → All (IsHeardPair hearer full) pairs → slice_get full n ≡ Some step → HearsLinkFrame hearer step octets
     → (is_ask octets ≡ true → s.on_ask ≡ true)
     → frames_at (other hearer) (take n full) ≡ queue → pairs ≡ done ++ rest → RiseFrom n 0 rest
     → Each (λ (p : Pair). p.sent < length queue) done → Each (λ (p : Pair). p.heard < n) done
     → AreTags s.remote s.local tags queue → towards ≡ flight tags rest → (found : HasPair pairs n)
     → Popped s octets queue pairs n towards
 popped_by s hearer full pairs queue n towards step octets done []
-    tags order is hears caused queue_is split rises below before tagged
+    tags each is hears caused queue_is split rises below before tagged
     ahead found =
     let others : Each (λ (p : Pair). p.heard ≢ n) done =
     each_weaker (λ (p : Pair). p.heard < n) (λ (p : Pair). p.heard ≢ n) (λ p less e. absurd (omega arith))
@@ -187,7 +188,7 @@ popped_by s hearer full pairs queue n towards step octets done []
     (All-from_recursion (λ (p : Pair). p.heard ≢ n) pairs
     (subst (λ ps. Each (λ (p : Pair). p.heard ≢ n) ps) (sym (split ∙ append-nil done)) others)) found.contains found.is)
 popped_by s hearer full pairs queue n towards step octets done (p ∷ ps)
-    tags order is hears caused queue_is split rises below before
+    tags each is hears caused queue_is split rises below before
     tagged ahead found = elim (cases_eq p.heard n) [
       | inr ne ↦
           let low = rises.0 in
@@ -202,8 +203,7 @@ popped_by s hearer full pairs queue n towards step octets done (p ∷ ps)
           (subst (λ qs. Each (λ (q : Pair). q.heard ≢ n) qs) (sym split)
           (each_append (λ (q : Pair). q.heard ≢ n) done (p ∷ ps) others later))) found.contains found.is)
       | inl at ↦
-          let all : Each (IsHeardPair hearer full) pairs = recursion_from_All (IsHeardPair hearer full)
-          pairs order.each in
+          let all : Each (IsHeardPair hearer full) pairs = recursion_from_All (IsHeardPair hearer full) pairs each in
           let here : IsHeardPair hearer full p =
           (each_right (IsHeardPair hearer full) done (p ∷ ps)
           (subst (λ qs. Each (IsHeardPair hearer full) qs) split all)).0 in
@@ -247,6 +247,40 @@ popped_by s hearer full pairs queue n towards step octets done (p ∷ ps)
             };
           }
     ]
+
+-- a frame of another link: a pair may be of it or not
+pub perhaps_popped :
+    (s : Setting) (hearer : End) (full : List Step) (pairs : List Pair) (queue : List LinkFrame) (n : ℕ)
+    (towards : List Tagged) (step : Step) (octets : List ℕ) → All (IsHeardPair hearer full) pairs
+    → slice_get full n ≡ Some step → HearsLinkFrame hearer step octets → (is_ask octets ≡ true → s.on_ask ≡ true)
+    → frames_at (other hearer) (take n full) ≡ queue → Sent s.remote s.local queue pairs n towards
+    → Sent s.remote s.local queue pairs (n + 1) towards ⊎ Popped s octets queue pairs n towards
+perhaps_popped s hearer full pairs queue n towards step octets each is hears caused queue_is sent =
+    by_rest sent.rest refl
+  where
+    by_rest : (rest : List Pair) → sent.rest ≡ rest
+        → Sent s.remote s.local queue pairs (n + 1) towards ⊎ Popped s octets queue pairs n towards
+    by_rest [] none =
+        inl (sent_later s.remote s.local queue pairs n towards sent (subst (RiseFrom (n + 1) 0) (sym none) tt))
+    by_rest (p ∷ ps) some =
+        let rises : RiseFrom n 0 (p ∷ ps) = subst (RiseFrom n 0) some sent.rises in
+        elim (cases_eq p.heard n) [
+          | inr ne ↦
+              let low = rises.0 in
+              inl (sent_later s.remote s.local queue pairs n towards sent
+              (subst (RiseFrom (n + 1) 0) (sym some) (next_from low ne, rises.1, rises.2)))
+          | inl at ↦
+              let split : pairs ≡ sent.done ++ p ∷ ps = sent.split ∙ ap (λ ps. sent.done ++ ps) some in
+              let there : Contains pairs p =
+              subst (λ qs. Contains qs p) (sym split)
+              (Contains-append_right sent.done (p ∷ ps) p (All-contains_itself (p ∷ ps) 0 p (omega arith))) in
+              inr (popped_by s hearer full pairs queue n towards step octets sent.done sent.rest sent.tags each is hears
+              caused queue_is sent.split sent.rises sent.below sent.before sent.tagged sent.ahead
+              (record { pair = p; contains = there; is = at }))
+        ]
+      where
+        next_from : n ≤ p.heard → p.heard ≢ n → n + 1 ≤ p.heard
+        next_from low ne = elim (cases_eq p.heard n) [ inl e ↦ absurd (ne e) | inr other ↦ omega arith ]
 
 -- ---- a step of one station, as its end sees it
 
@@ -340,14 +374,16 @@ module _ (on : Bool) (l r : Callsign) (pa pb : Params) (n : ℕ) (sa sb : Statio
       → (((octets : List ℕ) → IsOffAir input octets → turn_steps is_some input (begin sa) after turn ≢ [] → ⊥)
       → Sent r l qb back_pairs (n + 1) w.a.towards)
       → ((octets : List ℕ) → IsOffAir input octets → turn_steps is_some input (begin sa) after turn ≢ []
-      → Popped setting_of octets qb back_pairs n w.a.towards)
+      → is_from_to r l octets ≡ true → Popped setting_of octets qb back_pairs n w.a.towards)
+      → ((octets : List ℕ) → IsOffAir input octets → turn_steps is_some input (begin sa) after turn ≢ []
+      → Sent r l qb back_pairs (n + 1) w.a.towards ⊎ Popped setting_of octets qb back_pairs n w.a.towards)
       → Stepped e on l r pa pb n sb qa qb out_pairs back_pairs w after
       (turn_steps (is_between l r) input (begin sa) after turn)
-  takes e rises (FromHost event) after turn octets calm popped =
+  takes e rises (FromHost event) after turn octets calm popped perhaps =
       finishes e rises w.a.towards (calm (λ o off some. off)) after
       (turn_steps (is_between l r) (FromHost event) (begin sa) after turn)
       (host_goes setting_of e w.a.towards event (begin sa) after turn w begins)
-  takes e rises (OfClock busy) after turn octets calm popped =
+  takes e rises (OfClock busy) after turn octets calm popped perhaps =
       let s = setting_of in
       let ticked = ticks_go s e w.a.towards busy (begin sa) w begins in
       let steps = turn_steps (is_between l r) (OfClock busy) (begin sa) after turn in
@@ -358,7 +394,7 @@ module _ (on : Bool) (l r : Callsign) (pa pb : Params) (n : ℕ) (sa sb : Statio
             ticked.0 refl refl refl,
         ticked.1,
       ))
-  takes e rises (OffAir octets) after turn low calm popped =
+  takes e rises (OffAir octets) after turn low calm popped perhaps =
       let s = setting_of in
       let H : Holds s w.a.towards (begin sa) w = begins in
       let own = turn_steps (is_between l r) (OffAir octets) (begin sa) after turn in
@@ -367,7 +403,13 @@ module _ (on : Bool) (l r : Callsign) (pa pb : Params) (n : ℕ) (sa sb : Statio
             finishes e rises w.a.towards (calm (λ o off some. some none_any)) after own
             (subst (λ steps. Kept s e w.a.towards after steps w) (sym none)
             (still_goes s e w.a.towards (begin sa) after calmly w H))
-        | Event goes some ↦
-            let p = popped octets refl some in
-            finishes e rises p.stays p.sent after own (goes w w.a.towards p.stays p.pop H)
+        | Event goes some past ↦ elim past [
+          | inl own_frame ↦
+              let p = popped octets refl some own_frame in
+              finishes e rises p.stays p.sent after own (goes w w.a.towards p.stays p.pop H)
+          | inr goes_past ↦ elim (perhaps octets refl some) [
+            | inl sent ↦ finishes e rises w.a.towards sent after own (goes_past w w.a.towards H)
+            | inr p ↦ finishes e rises p.stays p.sent after own (goes w w.a.towards p.stays p.pop H)
+          ]
+        ]
       ]

@@ -317,8 +317,8 @@ run_seen calls pairs counts (step ∷ steps) w a b follows given s =
     (sym (run_changes-append changes (changes_from calls pairs more steps) w)) all))
 
 pub set_ups_law_holds : SetUpsLaw
-set_ups_law_holds a b seed_a seed_b steps pairs run heard_a heard_b calls given =
-    let follows = following_law_holds a b seed_a seed_b steps pairs run heard_a heard_b calls in
+set_ups_law_holds a b seed_a seed_b steps calls pairs run heard_a heard_b given =
+    let follows = following_law_holds a b seed_a seed_b steps calls pairs run heard_a heard_b in
     let done = run_seen calls pairs (record { a = 0; b = 0 }) steps (first_world calls a.params b.params) [] []
     follows.through
     (record {

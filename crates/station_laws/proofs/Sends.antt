@@ -1,6 +1,6 @@
 -- The frames that acts of a link send: at most one SABM, SABME, DISC, UA or DM, none that asks if the link is up then,
 -- and UA only in answer to one that asks. The link comes up only as it hears UA or one that asks.
-use Rattle.station_laws.proofs.Common.{◌≡◌, ◌+◌, ◌≤◌, ◌||◌, Bool, true, false, List, [], ◌∷◌, ◌++◌, cond, refl, sym, ap}
+use Rattle.station_laws.proofs.Common.{◌≡◌, ◌≤◌, ◌||◌, Bool, true, false, List, [], ◌∷◌, ◌++◌, cond, refl, sym, ap}
 use Rattle.station_laws.proofs.Common.{◌∙◌, subst, arith, ℕ, count_by, list_any, Kind, Info, Super, Setup, Ui, Other, U}
 use Rattle.station_laws.proofs.Common.{Sabm, Sabme, Disc, Dm, Ua, release, Event, Connect, Send, Disconnect, Hear}
 use Rattle.station_laws.proofs.Common.{Seize, Tick}

@@ -12,7 +12,7 @@ use Rattle.station_laws.proofs.Common.{replying, version_reply, ports_reply, cap
 use Rattle.station_laws.proofs.Common.{monitor_toggled, register_reply, with_registration, registering, unregistering}
 use Rattle.station_laws.proofs.Common.{queueing_raw, most_information, unnumbered_frame, sending_unnumbered}
 use Rattle.station_laws.proofs.Common.{refused_reply, may_call, calls, called_route, called_pid, IsCall, IsCallMade}
-use Rattle.station_laws.proofs.Common.{own_key, giving, giving_packet, packets_of, data_pid, pending_in}
+use Rattle.station_laws.proofs.Common.{own_key, giving, giving_packet, packet_length, packets_of, data_pid, pending_in}
 use Rattle.station_laws.proofs.Common.{pending_reply, waiting_reply, answering_else, AreAnswered, has_frame_length}
 use Rattle.station_laws.proofs.Common.{call_in, Connection, connection_of, most_connections, frame_octets, joining}
 use Rattle.station_laws.proofs.Common.{with_host, new_messages, new_items, taking, ending, AreTaken, AreTakenBy}
@@ -181,7 +181,7 @@ module _ (chosen : Choice) (P : Cause → Type 0) (R : Turn → List LinkStep �
     data_kept may message None t = k.same t
     data_kept may message (Some key) t =
         along (giving_packet key) (sends_at chosen key) (λ packet u. k.events key (Send packet) u may)
-        (packets_of (data_pid message.pid (link_at key t.now.links)) message.body) t
+        (packets_of (packet_length t.now.paclen) (data_pid message.pid (link_at key t.now.links)) message.body) t
 
     pub disconnect_kept : P disconnecting → (key : Option ℕ) (t : Turn)
         → R t (disconnect_steps chosen key t) (disconnecting_act key t)

@@ -1,13 +1,15 @@
--- Frames that are heard in the order in which they were sent, each once, and none that was not sent: one list of pairs
--- for each direction, over all links.
+-- Frames of a link that are heard in the order in which they were sent, each once, and none that was not sent: one list
+-- of pairs for each direction. What is heard of other links, or of other stations, does not matter.
 use Rattle.std.specs.Prelude.{◌≡◌, ◌≢◌, ℕ, ◌<◌, List, [], map, take, drop, All, AllPairs, Contains, slice_get, Some}
-use Rattle.std.specs.Prelude.{is_some}
+use Rattle.std.specs.Prelude.{is_some, IsTrue}
+use Rattle.ax25_address.specs.Callsign.{Callsign}
 use Rattle.ax25_address.specs.FramePath.{BeginsWithPath, undone}
 use Rattle.ax25_address.specs.declared.path.Path.{Path}
 use Rattle.link_world.specs.declared.end.End.{End}
 use Rattle.link_world.specs.World.{other}
 use Rattle.station_laws.specs.JointRun.{Input, Step, queued_at}
 use Rattle.station_laws.specs.JointRun.Input.{FromHost, OffAir, OfClock}
+use Rattle.station_laws.specs.LinkFrames.{is_from_to}
 use Rattle.station_laws.specs.LinkSteps.{steps_of}
 
 -- a path whose repeaters have not yet repeated the frame
@@ -44,6 +46,12 @@ pub record HearsLinkFrame (hearer : End) (step : Step) (octets : List ℕ) : Typ
   pub input : IsOffAir step.input octets
   pub event : steps_of is_some step ≢ []
 
+-- The step hears a frame of the link of two calls, of which this end has the first: its address field has the two
+-- calls, it waits for no repeater, and it can be read, so that the link hears it.
+pub record HearsFrameOf (local remote : Callsign) (hearer : End) (step : Step) (octets : List ℕ) : Type 0 where
+  pub link : HearsLinkFrame hearer step octets
+  pub calls : IsTrue (is_from_to remote local octets)
+
 -- the frame of a pair is heard as an event of a link, and joined the other station's queue before
 pub record IsHeardPair (hearer : End) (steps : List Step) (p : Pair) : Type 0 where
   pub step : Step
@@ -60,9 +68,11 @@ pub record HasPair (pairs : List Pair) (heard : ℕ) : Type 0 where
   pub contains : Contains pairs pair
   pub is : pair.heard ≡ heard
 
--- all that the links of an end hear was sent before, and is heard in order and once
-pub record AreHeardInOrder (hearer : End) (steps : List Step) (pairs : List Pair) : Type 0 where
+-- All that the link of two calls hears at an end, of which this end has the first call, was sent before, and is heard
+-- in order and once. Pairs of frames of other links may be in the list; none has to be.
+pub record AreHeardInOrder (local remote : Callsign) (hearer : End) (steps : List Step) (pairs : List Pair)
+    : Type 0 where
   pub rise : AllPairs RiseBoth pairs
   pub each : All (IsHeardPair hearer steps) pairs
   pub all : (number : ℕ) (step : Step) (octets : List ℕ) → slice_get steps number ≡ Some step
-      → HearsLinkFrame hearer step octets → HasPair pairs number
+      → HearsFrameOf local remote hearer step octets → HasPair pairs number

@@ -1,7 +1,9 @@
 pub mod JointRun
 pub mod LinkSteps
+pub mod LinkFrames
 pub mod HeardInOrder
 pub mod InFlight
+pub mod LinkInFlight
 pub mod MatchedLaw
 pub mod HostsAsk
 pub mod CallerLaw

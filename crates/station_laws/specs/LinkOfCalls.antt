@@ -29,6 +29,11 @@ pub record Calls : Type 0 where
   pub a : Callsign
   pub b : Callsign
 
+-- the call at each station
+abbrev pub call_at_end : Calls → End → Callsign
+call_at_end calls A = calls.a
+call_at_end calls B = calls.b
+
 -- the link at each station
 abbrev pub link_at_end : Calls → End → Choice
 link_at_end calls A = is_between calls.a calls.b

@@ -22,7 +22,7 @@ use Rattle.station.specs.declared.host_event.PortKind.TheVariants.{Kiss, Agw}
 use Rattle.station.specs.AgwKinds.{data_kind, disconnect_kind}
 use Rattle.station.specs.Asking.{asked_key, seizing, with_asked}
 use Rattle.station.specs.AgwRequests.{AreAnswered, IsCall, IsCallMade, replying, refused_reply, answering_else, calls}
-use Rattle.station.specs.AgwRequests.{called_route, called_pid, may_call, own_key, data_pid, packets_of, giving_packet}
+use Rattle.station.specs.AgwRequests.{called_route, called_pid, may_call, own_key, data_pid, packet_length, packets_of, giving_packet}
 use Rattle.station.specs.Connections.{Connection, connection_of}
 use Rattle.station.specs.Heard.{IsHeard, IsHeardBy, IsHeardAnew, IsHeardMaking, IsReadingHeardAnew, IsRepeatedFor}
 use Rattle.station.specs.Heard.{AreHeardAt, AreOctetsHeard, may_make, shown_to_hosts, waits_for_repeater}
@@ -139,7 +139,7 @@ abbrev pub data_steps : Choice → AgwMessage → Option ℕ → Turn → List L
 data_steps chosen message None turn = []
 data_steps chosen message (Some key) turn =
     steps_along (giving_packet key) (sends_at chosen key)
-    (packets_of (data_pid message.pid (link_at key turn.now.links)) message.body) turn
+    (packets_of (packet_length turn.now.paclen) (data_pid message.pid (link_at key turn.now.links)) message.body) turn
 
 -- d, to a link of the connection
 abbrev pub disconnect_steps : Choice → Option ℕ → Turn → List LinkStep

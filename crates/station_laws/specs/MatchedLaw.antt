@@ -1,6 +1,6 @@
 -- The law on two stations of which only one ever calls, over a run whose heard frames are matched as they are heard:
--- each with a frame that was then in flight, as far as one could know. The map of frames heard to frames sent is found
--- so, and a channel that is quiet by this wider count of what is in flight is quiet.
+-- each of the link in question with a frame that was then in flight, as far as one could know. The map of frames heard
+-- to frames sent is found so, and a channel that is quiet by this wider count of what is in flight is quiet.
 use Rattle.std.specs.Prelude.{◌≡◌, ℕ, ◌+◌, Bool, true, false, List, [], ◌∷◌, ◌++◌, drop, All, Option, Some, None}
 use Rattle.std.specs.Prelude.{is_some}
 use Rattle.std.specs.List.{list_any}
@@ -17,9 +17,10 @@ use Rattle.link_world.specs.Flight.{asks as is_ask_kind}
 use Rattle.link_world.specs.Windows.{WindowsFit}
 use Rattle.station.specs.declared.config.Config.{Config}
 use Rattle.station_laws.specs.HeardInOrder.{Pair, AreHeardInOrder}
-use Rattle.station_laws.specs.InFlight.{Moment, steps_in, nothing_sent, AreMatched, AreQuietThrough}
+use Rattle.station_laws.specs.InFlight.{Moment, steps_in, nothing_sent}
 use Rattle.station_laws.specs.InFlight.Moment.{Steps, Passes}
 use Rattle.station_laws.specs.JointRun.{Step, new_stations, IsJointRun, all_stepped, at_end}
+use Rattle.station_laws.specs.LinkInFlight.{AreMatchedFor, AreQuietFor}
 use Rattle.station_laws.specs.LinkOfCalls.{Calls, Pairs, link_at_end}
 use Rattle.station_laws.specs.LinkSteps.{LinkStep, steps_of}
 use Rattle.station_laws.specs.StationsLaw.{LinkKeepsOrder}
@@ -91,19 +92,20 @@ OnlyACalls calls (step ∷ steps) =
 
 -- ---- the law
 
--- What is heard was sent before, and is heard in order and once.
+-- What is heard of the link was sent before, and is heard in order and once.
 abbrev pub MatchedInOrder : Type 0
 MatchedInOrder =
-    (moments : List Moment) → AreMatched moments nothing_sent
-    → AreHeardInOrder A (steps_in moments) (pairs_in moments).at_a
-    × AreHeardInOrder B (steps_in moments) (pairs_in moments).at_b
+    (moments : List Moment) (calls : Calls) → AreMatchedFor calls moments nothing_sent
+    → AreHeardInOrder calls.a calls.b A (steps_in moments) (pairs_in moments).at_a
+    × AreHeardInOrder calls.b calls.a B (steps_in moments) (pairs_in moments).at_b
 
--- Over each joint run of two new stations whose windows fit, if each heard frame is matched with one in flight, and
--- each SABM, SABME and DISC finds a quiet channel, the link of two calls keeps the order, if only A calls.
+-- Over each joint run of two new stations whose windows fit, if each heard frame of the link of two calls is matched
+-- with one in flight, and each SABM, SABME and DISC of it finds a quiet channel, the link keeps the order, if only A
+-- calls.
 abbrev pub MatchedLaw : Type 0
 MatchedLaw =
-    (a b : Config) (seed_a seed_b : ℕ) (moments : List Moment)
+    (a b : Config) (seed_a seed_b : ℕ) (moments : List Moment) (calls : Calls)
     → let start = new_stations a seed_a b seed_b in let steps = steps_in moments in
-    IsJointRun start steps → AreMatched moments nothing_sent → AreQuietThrough moments nothing_sent
-    → WindowsFit a.params b.params → (calls : Calls) → OnlyACalls calls steps
+    IsJointRun start steps → AreMatchedFor calls moments nothing_sent → AreQuietFor calls moments nothing_sent
+    → WindowsFit a.params b.params → OnlyACalls calls steps
     → LinkKeepsOrder calls (pairs_in moments) a b steps (all_stepped steps start)

@@ -43,11 +43,11 @@ pub record ToldInOneAt (calls : Calls) (end : End) (steps : List Step) (links : 
   pub now : RunsIn (runs_behind false (link_steps_at calls end steps))
       (state_of_link (first_chosen (link_at_end calls end) links))
 
--- Over every joint run of two new stations that is heard in order, at both.
+-- Over every joint run of two new stations in which the frames of the link are heard in order, at both.
 abbrev pub RunsTellInOne : Type 0
 RunsTellInOne =
-    (a b : Config) (seed_a seed_b : ℕ) (steps : List Step) (pairs : Pairs)
+    (a b : Config) (seed_a seed_b : ℕ) (steps : List Step) (calls : Calls) (pairs : Pairs)
     → let start = new_stations a seed_a b seed_b in
-    IsJointRun start steps → AreHeardInOrder A steps pairs.at_a → AreHeardInOrder B steps pairs.at_b
-    → (calls : Calls) (end : End)
+    IsJointRun start steps → AreHeardInOrder calls.a calls.b A steps pairs.at_a
+    → AreHeardInOrder calls.b calls.a B steps pairs.at_b → (end : End)
     → ToldInOneAt calls end steps (state_of end (all_stepped steps start)).links.places

@@ -97,12 +97,12 @@ pub record AreSetUpsSeen (calls : Calls) (pairs : Pairs) (a b : Config) (steps :
   pub at_b : let w = world_of calls pairs a.params b.params steps in
       map as_seen w.b.end.set_ups ≡ set_ups_seen calls B steps
 
--- Over every joint run of two new stations that is heard in order in both directions, if packets are given only while
--- the link is up, the set-ups of the link's two ends are those that are seen at the stations: as many, each with the
--- packets that were given in it and those that were told of.
+-- Over every joint run of two new stations in which the frames of the link are heard in order in both directions, if
+-- packets are given only while the link is up, the set-ups of the link's two ends are those that are seen at the
+-- stations: as many, each with the packets that were given in it and those that were told of.
 abbrev pub SetUpsLaw : Type 0
 SetUpsLaw =
-    (a b : Config) (seed_a seed_b : ℕ) (steps : List Step) (pairs : Pairs)
+    (a b : Config) (seed_a seed_b : ℕ) (steps : List Step) (calls : Calls) (pairs : Pairs)
     → let start = new_stations a seed_a b seed_b in
-    IsJointRun start steps → AreHeardInOrder A steps pairs.at_a → AreHeardInOrder B steps pairs.at_b
-    → (calls : Calls) → AllGivenWhileUp calls steps → AreSetUpsSeen calls pairs a b steps
+    IsJointRun start steps → AreHeardInOrder calls.a calls.b A steps pairs.at_a
+    → AreHeardInOrder calls.b calls.a B steps pairs.at_b → AllGivenWhileUp calls steps → AreSetUpsSeen calls pairs a b steps

@@ -46,21 +46,21 @@ pub record LinkKeepsOrder (calls : Calls) (pairs : Pairs) (a b : Config) (steps 
   -- the ends are those of the link at the two stations
   pub ends : EndsFollow calls pairs a b steps now
 
--- Over every joint run of two new stations that is heard in order in both directions, the two ends of each link follow
--- it, whether its channel is quiet or not.
+-- Over every joint run of two new stations, if the frames of a link are heard in order in both directions, the two ends
+-- of the link follow it, whether its channel is quiet or not.
 abbrev pub FollowingLaw : Type 0
 FollowingLaw =
-    (a b : Config) (seed_a seed_b : ℕ) (steps : List Step) (pairs : Pairs)
+    (a b : Config) (seed_a seed_b : ℕ) (steps : List Step) (calls : Calls) (pairs : Pairs)
     → let start = new_stations a seed_a b seed_b in
-    IsJointRun start steps → AreHeardInOrder A steps pairs.at_a → AreHeardInOrder B steps pairs.at_b
-    → (calls : Calls) → EndsFollow calls pairs a b steps (all_stepped steps start)
+    IsJointRun start steps → AreHeardInOrder calls.a calls.b A steps pairs.at_a
+    → AreHeardInOrder calls.b calls.a B steps pairs.at_b → EndsFollow calls pairs a b steps (all_stepped steps start)
 
--- Over every joint run of two new stations that is heard in order in both directions, each link whose windows fit and
--- whose channel is quiet keeps the order.
+-- Over every joint run of two new stations, each link whose frames are heard in order in both directions, whose windows
+-- fit and whose channel is quiet keeps the order.
 abbrev pub StationsLaw : Type 0
 StationsLaw =
-    (a b : Config) (seed_a seed_b : ℕ) (steps : List Step) (pairs : Pairs)
+    (a b : Config) (seed_a seed_b : ℕ) (steps : List Step) (calls : Calls) (pairs : Pairs)
     → let start = new_stations a seed_a b seed_b in
-    IsJointRun start steps → AreHeardInOrder A steps pairs.at_a → AreHeardInOrder B steps pairs.at_b
-    → WindowsFit a.params b.params → (calls : Calls) → IsQuietLink calls pairs a.params b.params steps
+    IsJointRun start steps → AreHeardInOrder calls.a calls.b A steps pairs.at_a
+    → AreHeardInOrder calls.b calls.a B steps pairs.at_b → WindowsFit a.params b.params → IsQuietLink calls pairs a.params b.params steps
     → LinkKeepsOrder calls pairs a b steps (all_stepped steps start)

@@ -11,21 +11,23 @@ ghost use Rattle.station_laws.specs.RunsTell.{RunsTellInOne};
 ghost use Rattle.station_laws.specs.SetUpsSeen.{SetUpsLaw};
 
 /// The law on any two stations. A joint run is a list of steps, each of one of two stations that began new: what comes
-/// from a host, a frame that is heard, or a tick. It is heard in order if, in each direction, a list of pairs that
-/// rises in both numbers joins each heard frame that was an event of a link with a frame that a link of the other
-/// station queued before, equal but for the H bits of repeaters. Then each link of two calls keeps the order, if the
-/// windows of its ends fit each other, each SABM, SABME and DISC of it enters a quiet channel, also one that finds the
-/// transmit queue full, and an idle end hears SABM or SABME only while none of its own is in flight. In each set-up,
-/// what one side was given by the other is, packet for packet, a prefix of what the other's host gave in one set-up of
-/// its own, its origin, and origins rise strictly. Both ends follow the links of the stations: each event finds the
+/// from a host, a frame that is heard, or a tick. It speaks of the link of two calls. A frame of that link is one
+/// between its calls, by its address field, that is an event of a link where it is heard; what else is heard does not
+/// matter. The frames of the link are heard in order if, in each direction, a list of pairs that rises in both numbers
+/// joins each one that was heard with a frame that a link of the other station queued before, equal but for the H bits
+/// of repeaters. Then the link keeps the order, if the windows of its ends fit each other, each SABM, SABME and DISC of
+/// it enters a quiet channel, also one that finds the transmit queue full, and an idle end hears SABM or SABME only
+/// while none of its own is in flight. In each set-up, what one side was given by the other is, packet for packet, a
+/// prefix of what the other's host gave in one set-up of its own, its origin: the one that the first I frame belonged
+/// to that was accepted. Origins rise strictly. Both ends follow the links of the stations: each event finds the
 /// machine of the station's link, and is told what that tells its owner.
 pub fn stations_law()
     ensures { StationsLaw }
 {}
 
 /// The two ends of a link follow the links of the stations, whether the channel is quiet or not, over every joint run
-/// that is heard in order: each event finds an end with the machine of its station's link and tells it what that link
-/// tells, and after the run the machines are those of the links, or idle if there is none.
+/// in which the frames of the link are heard in order: each event finds an end with the machine of its station's link
+/// and tells it what that link tells, and after the run the machines are those of the links, or idle if there is none.
 pub fn ends_follow()
     ensures { FollowingLaw }
 {}
@@ -36,27 +38,29 @@ pub fn owners_are_told()
     ensures { OwnersAreTold }
 {}
 
-/// In a run in which each heard frame is matched with one in flight that has the same octets, the matches are the list
-/// of pairs that [`stations_law`] asks for: what the links of each station hear was sent before, and is heard in order
-/// and once.
+/// In a run in which each heard frame of the link of two calls is matched with one in flight that has the same octets,
+/// the matches are the list of pairs that [`stations_law`] asks for: what the link hears at each station was sent
+/// before, and is heard in order and once.
 pub fn matched_in_order()
     ensures { MatchedInOrder }
 {}
 
 /// The law on two stations of which one alone calls, over a run whose heard frames are matched as they are heard. What
 /// is in flight is counted as one can know it: a frame of a link from the moment at which it is queued until it is
-/// heard, a later one of its direction is heard, or it has passed. If each heard frame is matched with one in flight
-/// that has the same octets, each SABM, SABME and DISC that joins a transmit queue finds none of its station in flight,
-/// and no UA or DM that was sent on hearing one in flight to it, and the windows fit, then the link of two calls keeps
-/// the order of [`stations_law`], if hosts of A alone connect and disconnect it and, while it is not up at A, none of
-/// its SABM, SABME and DISC finds the transmit queue full there.
+/// heard, a later one of its direction is heard, or it has passed. It speaks of the link of two calls, and counts its
+/// frames alone. If each that is heard is matched with one in flight that has the same octets, each SABM, SABME and
+/// DISC that joins a transmit queue finds none of its station in flight, and no UA or DM that was sent on hearing one
+/// in flight to it, and the windows fit, then the link keeps the order of [`stations_law`], if hosts of A alone connect
+/// and disconnect it and, while it is not up at A, none of its SABM, SABME and DISC finds the transmit queue full
+/// there.
 pub fn matched_law()
     ensures { MatchedLaw }
 {}
 
 /// The set-ups of which the laws speak are those that are seen at the stations. One begins when the link tells that it
 /// is open; it has the packets that were given in it, and those that the link told of, in order. This holds of each
-/// joint run that is heard in order, if hosts give packets only while the link is up and takes them.
+/// joint run in which the frames of the link are heard in order, if hosts give packets only while the link is up and
+/// takes them.
 pub fn set_ups_law()
     ensures { SetUpsLaw }
 {}
@@ -86,8 +90,9 @@ pub fn links_tell_in_one()
     ensures { LinksTellInOne }
 {}
 
-/// What the link of two calls tells at a station in a joint run that is heard in order: data is told of only while a
-/// set-up runs, the set-up of a link that is up runs, and one that runs is of a link that is up or is being released.
+/// What the link of two calls tells at a station in a joint run in which its frames are heard in order: data is told of
+/// only while a set-up runs, the set-up of a link that is up runs, and one that runs is of a link that is up or is
+/// being released.
 pub fn runs_tell_in_one()
     ensures { RunsTellInOne }
 {}

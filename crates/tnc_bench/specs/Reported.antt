@@ -46,9 +46,9 @@ report_text report =
     ++ set_up_lines (codes "B") 1 report.b))))))))
 
 -- The text tells of a run that is over, which the options ask for. In each set-up a side got a first part of what the
--- other gave in one set-up of its own, and these come in order.
+-- other gave in the set-up that is its origin, and these come in order.
 pub record IsReportOf (options : BenchOptions) (text : List ℕ) : Type 0 where
   pub report : Report
   pub over : IsOver (words_of options) report
-  pub order : KeepsOrder report
+  pub order : KeepsOrder (words_of options) report
   pub is : text ≡ report_text report

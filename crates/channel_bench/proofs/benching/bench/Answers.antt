@@ -1,5 +1,5 @@
 -- A new run is under way, and what a whole one tells keeps the order.
-use Rattle.channel_bench.proofs.Common.{refl, arith, BenchWords, IsOver, new_bench, KeepsOrder}
+use Rattle.channel_bench.proofs.Common.{refl, arith, BenchWords, new_bench, KeepsOrder}
 use Rattle.std.proofs.Common.{Result, Ok, Err, IfOk}
 use Rattle.channel_bench.specs.declared.report.BenchReport.{BenchReport}
 use Rattle.channel_bench.specs.declared.report.BenchFault.{BenchFault}
@@ -21,9 +21,9 @@ finish-requires c = (
   c.requires,
 )
 
-keeps : (w : BenchWords) (told : Result BenchReport BenchFault) → IfOk told (IsOver w) → IfOk told KeepsOrder
-keeps w (Ok report) over = bench_law_holds w report over
-keeps w (Err fault) over = tt
+keeps : (w : BenchWords) (told : Result BenchReport BenchFault) → IfOk told (KeepsOrder w)
+keeps w (Ok report) = bench_law_holds w report
+keeps w (Err fault) = tt
 
 pub returns-clause-order : goal.returns-clause-order
-returns-clause-order c = keeps c.args.words _ c.finish.ensures.over
+returns-clause-order c = keeps c.args.words _

@@ -10,11 +10,11 @@ use Rattle.tnc_bench.proofs.command.bench.Goals as goal
 
 is_report :
     (options : BenchOptions) (words : BenchWords) (report : Report) (text : List ℕ) → words ≡ words_of options
-    → IsOver words report → KeepsOrder report → text ≡ report_text report → IsReportOf options text
+    → IsOver words report → KeepsOrder words report → text ≡ report_text report → IsReportOf options text
 is_report options words report text asked over order is = record {
   report = report;
   over = subst (λ w. IsOver w report) asked over;
-  order = order;
+  order = subst (λ w. KeepsOrder w report) asked order;
   is = is;
 }
 
