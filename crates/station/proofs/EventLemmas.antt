@@ -100,6 +100,7 @@ shows-settled parts out turn set_links settled key link machine shows at is same
       holds = record {
         parameters = h.parameters;
         digi = h.digi;
+        paclen = h.paclen;
         connections = h.connections;
         ids = h.ids;
         registrations = h.registrations;

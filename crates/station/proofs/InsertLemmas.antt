@@ -35,6 +35,7 @@ shows_made parts out turn key id pid local remote path held links shows next bel
         holds = record {
           parameters = h.parameters;
           digi = h.digi;
+          paclen = h.paclen;
           connections = h.connections;
           ids = h.ids;
           registrations = h.registrations;

@@ -29,6 +29,7 @@ shows_set parts out turn links key link next shows at is =
       holds = record {
         parameters = h.parameters;
         digi = h.digi;
+        paclen = h.paclen;
         connections = h.connections;
         ids = h.ids;
         registrations = h.registrations;
@@ -114,13 +115,15 @@ pub shows_forgotten : (parts new : Parts) (out : Out) (turn : Turn) (id : ℕ) �
     → new.registrations.items ≡ without_registrations id parts.registrations.items
     → new.parameters ≡ parts.parameters → new.digi ≡ parts.digi → new.links ≡ parts.links → new.channel ≡ parts.channel
     → new.dropped ≡ parts.dropped → new.ticks ≡ parts.ticks → new.asked ≡ parts.asked
-    → Shows new out (changing (without_host id) turn)
-shows_forgotten parts new out turn id shows kept left parameters digi links channel dropped ticks asked =
+    → new.paclen ≡ parts.paclen → Shows new out (changing (without_host id) turn)
+shows_forgotten parts new out turn id shows kept left parameters digi links channel dropped ticks asked
+    paclen =
     let h = shows.holds in
     record {
       holds = record {
         parameters = parameters ∙ h.parameters;
         digi = digi ∙ h.digi;
+        paclen = paclen ∙ h.paclen;
         connections = subst (λ xs. AllZip StandsForConnection xs (without_connection id turn.now.connections))
             (sym kept)
             (AllZip-filter StandsForConnection (λ connection. not (connection.id == id))

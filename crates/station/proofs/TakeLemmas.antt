@@ -192,14 +192,16 @@ pub shows_connections : (parts new : Parts) (out : Out) (turn : Turn) (id : ℕ)
     (with_connection id change turn.now.connections)
     → new.parameters ≡ parts.parameters → new.digi ≡ parts.digi → new.registrations ≡ parts.registrations
     → new.links ≡ parts.links → new.channel ≡ parts.channel → new.dropped ≡ parts.dropped → new.ticks ≡ parts.ticks
-    → new.asked ≡ parts.asked → Shows new out (changing (with_connections (with_connection id change)) turn)
+    → new.asked ≡ parts.asked → new.paclen ≡ parts.paclen
+    → Shows new out (changing (with_connections (with_connection id change)) turn)
 shows_connections parts new out turn id change shows keeps each parameters digi registrations links channel dropped
-    ticks asked =
+    ticks asked paclen =
     let h = shows.holds in
     record {
       holds = record {
         parameters = parameters ∙ h.parameters;
         digi = digi ∙ h.digi;
+        paclen = paclen ∙ h.paclen;
         connections = each;
         ids = ids_apart id change keeps turn.now.connections h.ids;
         registrations = ap (λ held. held.items) registrations ∙ h.registrations;

@@ -10,4 +10,4 @@ fits_or_not modulus window mode fits (inr over) = let most = fits.1 in omega ari
 
 pub none_refused : (params : Params) (window : ℕ) → HasWindows params → ¬ IsRefusedWindow params window
 none_refused params window fits (inl small) = fits_or_not 8 params.window params.mode fits.0 small.1
-none_refused params window fits (inr wide) = fits_or_not 128 params.wide_window params.mode fits.1 wide.2
+none_refused params window fits (inr wide) = fits_or_not 128 params.wide_window params.wide_mode fits.1 wide.2

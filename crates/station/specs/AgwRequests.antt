@@ -1,7 +1,8 @@
 -- What an AGWPE message asks of a station (the AGWPE TCP/IP API tutorial, SV2AGW; as this project has it).
 use Rattle.std.specs.Prelude.{◌≡◌, ℕ, ◌+◌, ◌-◌, ◌*◌, ◌/◌, ◌==◌, nat_lt, nat_le, Bool, true, false, ◌&&◌, ◌||◌}
 use Rattle.std.specs.Prelude.{if◌then◌else◌, List, [], ◌∷◌, ◌++◌, length, map, take, drop, codes, Option, Some, None}
-use Rattle.std.specs.Prelude.{is_none, MatchBool}
+use Rattle.std.specs.Prelude.{is_none, max, min, MatchBool}
+use Rattle.std.specs.Int.{div_ceil}
 use Rattle.std.specs.List.{range_with_len}
 use Rattle.byteorder.specs.Endian.{little_bytes}
 use Rattle.ax25_address.specs.Callsign.{Callsign}
@@ -145,17 +146,17 @@ IsCall id message (Some route) before after =
 
 -- ---- D, d, Y, y
 
-abbrev pub most_octets : ℕ
-most_octets = 256
+-- how many octets go into a packet: as many as the station was made for, but 1 at least and 256 at most
+abbrev pub packet_length : ℕ → ℕ
+packet_length paclen = max 1 (min 256 paclen)
 
--- packet k of the octets
-abbrev pub packet_at : ℕ → List ℕ → ℕ → Packet
-packet_at pid octets k = record { pid = pid; octets = take most_octets (drop (most_octets * k) octets) }
+-- packet k of the octets, of so many each
+abbrev pub packet_at : ℕ → ℕ → List ℕ → ℕ → Packet
+packet_at len pid octets k = record { pid = pid; octets = take len (drop (len * k) octets) }
 
--- all of 256 octets but the last, which may be shorter
-abbrev pub packets_of : ℕ → List ℕ → List Packet
-packets_of pid octets =
-    map (packet_at pid octets) (range_with_len 0 ((length octets + (most_octets - 1)) / most_octets))
+-- all of so many octets but the last, which may be shorter
+abbrev pub packets_of : ℕ → ℕ → List ℕ → List Packet
+packets_of len pid octets = map (packet_at len pid octets) (range_with_len 0 (div_ceil (length octets) len))
 
 abbrev pub key_of_route : Option Route → Links → Option ℕ
 key_of_route None links = None
@@ -188,7 +189,8 @@ data_pid pid (Some link) = pid_or link.pid pid
 abbrev pub giving : AgwMessage → Option ℕ → Act
 giving message None turn = turn
 giving message (Some key) turn =
-    giving_packets key (packets_of (data_pid message.pid (link_at key turn.now.links)) message.body) turn
+    let len = packet_length turn.now.paclen in
+    giving_packets key (packets_of len (data_pid message.pid (link_at key turn.now.links)) message.body) turn
 
 abbrev pub disconnecting : Option ℕ → Act
 disconnecting None = nothing

@@ -64,6 +64,7 @@ pub record StandsForLinks (held : HeldLinks) (links : Links) : Type 0 where
 pub record AreParts (parts : Parts) (s : StationState) : Type 0 where
   pub parameters : parts.parameters ≡ s.parameters
   pub digi : parts.digi ≡ s.digi
+  pub paclen : parts.paclen ≡ s.paclen
   pub connections : AllZip StandsForConnection parts.connections.items s.connections
   pub ids : AllPairs HasOtherId s.connections
   pub registrations : parts.registrations.items ≡ s.registrations

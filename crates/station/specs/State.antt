@@ -3,6 +3,8 @@ use Rattle.std.specs.Prelude.{◌≡◌, ℕ, ◌+◌, ◌<◌, ◌≤◌, nat_l
 use Rattle.ax25_address.specs.Callsign.{Callsign}
 use Rattle.link_machine.specs.declared.params.Params.{Params}
 use Rattle.channel_access.specs.Channel.{Channel, new_channel}
+use Rattle.channel_access.specs.Parameters.{default_parameters}
+use Rattle.channel_access.specs.declared.parameters.Parameters.{Parameters}
 use Rattle.station.specs.declared.config.Config.{Config}
 use Rattle.station.specs.declared.registration.Registration.{Registration}
 use Rattle.station.specs.Connections.{Connection}
@@ -13,6 +15,8 @@ pub record StationState : Type 0 where
   pub parameters : Params
   -- the call that the station repeats for
   pub digi : Option Callsign
+  -- how many octets of a host's data go into a packet
+  pub paclen : ℕ
   pub connections : List Connection
   pub registrations : List Registration
   pub links : Links
@@ -24,14 +28,23 @@ pub record StationState : Type 0 where
   -- the key of the link that was asked for a frame last
   pub asked : ℕ
 
+-- what a station is made with that has the usual parameters of the channel and the longest packets
+abbrev pub usual_config : Params → Option Callsign → Config
+usual_config params digi = record { params = params; channel = default_parameters; paclen = 256; digi = digi }
+
+-- a channel that has these parameters from the start
+abbrev pub channel_with : Parameters → ℕ → Channel
+channel_with parameters seed = record (new_channel seed) { parameters = parameters }
+
 abbrev pub new_station : Config → ℕ → StationState
 new_station config seed = record {
   parameters = config.params;
   digi = config.digi;
+  paclen = config.paclen;
   connections = [];
   registrations = [];
   links = no_links;
-  channel = new_channel seed;
+  channel = channel_with config.channel seed;
   dropped = 0;
   ticks = 0;
   asked = 0;

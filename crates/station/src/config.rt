@@ -4,17 +4,45 @@ ghost use Rattle.std.specs.Result.{IsErrOf};
 ghost use Rattle.link_machine.specs.Params.{HasWindows, IsRefusedWindow};
 
 use ax25_address::Call;
+use channel_access::Parameters;
 use link_machine::Params;
 use selective_reject::{BadWindow, check_window};
 use std::marker::Model;
 
-/// How a station's links ask for lost frames and call, and for which call it repeats.
+/// How a station's links ask for lost frames and call, how it takes the channel, how long the packets of hosts' data are,
+/// and for which call it repeats.
 #[derive(Clone, Copy, Debug)]
 pub struct Config {
-    /// The mode and the windows of each link, and in which modulus it calls.
+    /// The modes and the windows of each link, and in which modulus it calls.
     pub params: Params,
+    /// How it takes the channel until a host sets it otherwise.
+    pub channel: Parameters,
+    /// How many octets of a host's data go into a packet: 1 to 256. Less than 1 is as 1, and more than 256 is as 256.
+    pub paclen: u16,
     /// The call of the digipeater, if the station is one.
     pub digi: Option<Call>,
+}
+
+impl Config {
+    ghost use Rattle.station.specs.State.{usual_config};
+
+    /// A station that has the usual parameters of the channel and the longest packets.
+    pub fn new(params: Params, digi: Option<Call>) -> Config
+        ensures { result ≡ usual_config params digi }
+    {
+        Config {
+            params,
+            channel: Parameters {
+                tx_delay: 30,
+                persist: 63,
+                slot_time: 10,
+                tx_tail: 2,
+                full_duplex: false,
+            },
+            paclen: 256,
+            digi,
+        }
+    }
 }
 
 /// Parameters of links whose windows fit.
@@ -42,7 +70,7 @@ impl LinkParams {
             ↔ IsRefusedWindow params window }
     {
         check_window(8, params.window, params.mode)?;
-        check_window(128, params.wide_window, params.mode)?;
+        check_window(128, params.wide_window, params.wide_mode)?;
         Ok(LinkParams { params })
     }
 

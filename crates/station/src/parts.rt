@@ -4,15 +4,16 @@ ghost use Rattle.std.specs.Prelude.{OnErr, Option, Some, None, true};
 ghost use Rattle.hdlc_framer.specs.FrameLength.{HasFrameLength};
 ghost use Rattle.channel_access.specs.Channel.{Channel, with_frame};
 ghost use Rattle.channel_access.specs.StandsFor.{StandsFor as StandsForChannel};
+ghost use Rattle.station.specs.State.{channel_with};
 
-use crate::config::LinkParams;
+use crate::config::{Config, LinkParams};
 use crate::connection::Connection;
 use crate::host_out::HostOut;
 use crate::link_table::LinkTable;
 use crate::memory::Memory;
 use crate::registration::Registration;
 use ax25_address::Call;
-use channel_access::Access;
+use channel_access::{Access, Param, Parameters};
 use std::alloc::Global;
 use tnc_base::{Octets, OutOfMemory};
 
@@ -26,6 +27,8 @@ pub struct Parts {
     pub parameters: LinkParams,
     /// The call of the digipeater, if the station is one.
     pub digi: Option<Call>,
+    /// How many octets of a host's data go into a packet, as the station was asked for.
+    pub paclen: u16,
     /// The connections, in the order in which they joined.
     pub connections: Vec<Connection>,
     /// The calls that are registered.
@@ -52,20 +55,21 @@ impl Parts {
     pub(crate) fn new(
         alloc: Global,
         parameters: LinkParams,
-        digi: Option<Call>,
+        config: Config,
         seed: u64,
     ) -> Result<Parts, OutOfMemory>
-        ensures parts { IfOk result (λ parts. AreParts parts
-            (new_station (record { params = parameters; digi = digi }) seed)) }
+        requires { parameters ≡ config.params }
+        ensures parts { IfOk result (λ parts. AreParts parts (new_station config seed)) }
         ensures no_connection { IfOk result (λ parts. parts.connections.items ≡ []) }
     {
         Ok(Parts {
             parameters,
-            digi,
+            digi: config.digi,
+            paclen: config.paclen,
             connections: Vec::new(alloc),
             registrations: Vec::new(alloc),
             links: LinkTable::new(alloc)?,
-            channel: Access::new(alloc, seed)?,
+            channel: channel_with(alloc, config.channel, seed)?,
             dropped: 0,
             ticks: 0,
             asked: 0,
@@ -95,6 +99,19 @@ impl Parts {
         enter(&mut self.channel, link, octets);
         Ok(())
     }
+}
+
+/// A channel that has these parameters from the start.
+fn channel_with(alloc: Global, parameters: Parameters, seed: u64) -> Result<Access, OutOfMemory>
+    ensures { IfOk result (λ access. StandsForChannel access (channel_with parameters seed)) }
+{
+    let mut access = Access::new(alloc, seed)?;
+    access.set(Param::TxDelay(parameters.tx_delay));
+    access.set(Param::Persist(parameters.persist));
+    access.set(Param::SlotTime(parameters.slot_time));
+    access.set(Param::TxTail(parameters.tx_tail));
+    access.set(Param::FullDuplex(parameters.full_duplex));
+    Ok(access)
 }
 
 /// Puts a frame after all others, if there is room.

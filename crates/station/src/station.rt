@@ -52,7 +52,7 @@ impl Station {
     ghost use Rattle.station.specs.StandsFor.{StandsFor, StandsForSome};
 
     /// A station without connections and links, whose channel draws from a seed. Refused if the window does not fit
-    /// the mode (0, over 7 with REJ, over 4 with SREJ), and else if the wide window does not (0, over 127, over 64).
+    /// its mode (0, over 7 with REJ, over 4 with SREJ), and else if the wide window does not (0, over 127, over 64).
     pub fn new(alloc: Global, config: Config, seed: u64) -> Result<Station, NewFault>
         ensures stands_for { IfOk result (λ station. StandsFor station (new_station config seed)) }
         ensures no_ids { IfOk result (λ station. ids_of station ≡ []) }
@@ -63,7 +63,7 @@ impl Station {
             Ok(params) => params,
             Err(BadWindow { window }) => return Err(NewFault::BadWindow { window }),
         };
-        let Ok(parts) = Parts::new(alloc, params, config.digi, seed) else {
+        let Ok(parts) = Parts::new(alloc, params, config, seed) else {
             return Err(NewFault::Memory);
         };
         Ok(Station {

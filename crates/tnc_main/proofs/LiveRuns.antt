@@ -56,21 +56,21 @@ module _ (words : ServeWords) (code : ℕ) (input left : InputSide) (before afte
       ]
 
 -- what was served as some words ask for it was served as options that give these words ask for it
-pub served_as : (words : ServeWords) (options : ServeOptions) (code : ℕ) (input left : InputSide)
-    (before after : Outside) → words ≡ words_of options
+pub served_as : (words : ServeWords) (options : ServeOptions) (outer code : ℕ) (input left : InputSide)
+    (before after : Outside) → words ≡ words_of options outer
     → (status : Status) × (code ≡ code_of status) × Serves words status input left before after
-    → (status : Status) × (code ≡ code_of status) × Serves (words_of options) status input left before after
-served_as words options code input left before after same h =
+    → (status : Status) × (code ≡ code_of status) × Serves (words_of options outer) status input left before after
+served_as words options outer code input left before after same h =
     (h.0, h.1, subst (λ w. Serves w h.0 input left before after) same h.2)
 
 -- what holds from an input and an outside on holds from equal ones on
-pub rebased : (options : ServeOptions) (code : ℕ) (was input left : InputSide) (stood before after : Outside)
+pub rebased : (options : ServeOptions) (outer code : ℕ) (was input left : InputSide) (stood before after : Outside)
     → was ≡ input → stood ≡ before
-    → (status : Status) × (code ≡ code_of status) × Serves (words_of options) status was left stood after
-    → (status : Status) × (code ≡ code_of status) × RunsLive options status input left before after
-rebased options code was input left stood before after unread untouched h = (
+    → (status : Status) × (code ≡ code_of status) × Serves (words_of options outer) status was left stood after
+    → (status : Status) × (code ≡ code_of status) × RunsLive options outer status input left before after
+rebased options outer code was input left stood before after unread untouched h = (
   h.0,
   h.1,
-  inr (subst (λ i. Serves (words_of options) h.0 i left before after) unread
-      (subst (λ o. Serves (words_of options) h.0 was left o after) untouched h.2)),
+  inr (subst (λ i. Serves (words_of options outer) h.0 i left before after) unread
+      (subst (λ o. Serves (words_of options outer) h.0 was left o after) untouched h.2)),
 )

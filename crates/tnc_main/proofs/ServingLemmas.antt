@@ -32,7 +32,10 @@ WritesFailed before after = HasRisen before.output_faults after.output_faults
 module _ (words : ServeWords) (input left : InputSide) (before open_ports after : Outside) (lanes : List (List Got))
     (only : OnlyListens before open_ports) where
   all_written : IsLooped words LoopDone lanes open_ports after → AreWritten before after
-  all_written looped = (looped.2.no_output_fault ∙ only.output_faults, looped.2.no_report_fault ∙ only.report_faults)
+  all_written looped = (
+    looped.2.written.no_output_fault ∙ only.output_faults,
+    looped.2.written.no_report_fault ∙ only.report_faults,
+  )
 
   by_done : (loop : LoopEnd) (pump : PumpEnd) → Done ≡ end_of loop pump → IsLooped words loop lanes open_ports after
       → ReadFaults pump input left
@@ -296,10 +299,10 @@ want_as words other threads threads_after input left before after same h =
     subst (λ w. IsServedInWant w threads threads_after input left before after) same h
 
 -- from an input and an outside on that are equal to these
-pub want_from : (options : ServeOptions) (threads threads_after : ℕ) (was input left : InputSide)
+pub want_from : (options : ServeOptions) (outer threads threads_after : ℕ) (was input left : InputSide)
     (stood before after : Outside) → was ≡ input → stood ≡ before
-    → IsServedInWant (words_of options) threads threads_after was left stood after
-    → IsInWant options threads threads_after input left before after
-want_from options threads threads_after was input left stood before after unread untouched h =
-    inr (subst (λ i. IsServedInWant (words_of options) threads threads_after i left before after) unread
-    (subst (λ o. IsServedInWant (words_of options) threads threads_after was left o after) untouched h))
+    → IsServedInWant (words_of options outer) threads threads_after was left stood after
+    → IsInWant options outer threads threads_after input left before after
+want_from options outer threads threads_after was input left stood before after unread untouched h =
+    inr (subst (λ i. IsServedInWant (words_of options outer) threads threads_after i left before after) unread
+    (subst (λ o. IsServedInWant (words_of options outer) threads threads_after was left o after) untouched h))

@@ -1,13 +1,17 @@
 -- A run of a live command: what a station is asked for, how its serving ends, and what is told last.
-use Rattle.std.specs.Prelude.{◌≡◌, ◌⊎◌, ℕ, List, Option, Some, None}
+use Rattle.std.specs.Prelude.{◌≡◌, ◌⊎◌, ℕ, List, Option, Some, None, option_map}
 use Rattle.tnc_base.specs.Faults.{HasRisen}
 use Rattle.tnc_base.specs.Streams.{WrotePart}
 use Rattle.slicer_bank.specs.declared.detection.Detection.{Detection}
 use Rattle.slicer_bank.specs.declared.detection.Detection.TheVariants.{Tones, Flags}
+use Rattle.channel_access.specs.declared.parameters.Parameters.{Parameters}
+use Rattle.tnc_words.specs.declared.command.ChannelOptions.{ChannelOptions}
 use Rattle.tnc_words.specs.declared.command.Dcd.{Dcd}
 use Rattle.tnc_words.specs.declared.command.Dcd.TheVariants.{Tones as ByTones, Flags as ByFlags}
+use Rattle.tnc_words.specs.declared.command.PttOptions.{PttOptions}
 use Rattle.tnc_words.specs.declared.command.ServeOptions.{ServeOptions}
 use Rattle.tnc_forms.specs.declared.fault.InputFault.TheVariants.{TooLong as InputTooLong}
+use Rattle.tnc_ports.specs.declared.serve_words.KeyWords.{KeyWords}
 use Rattle.tnc_ports.specs.declared.serve_words.ServeWords.{ServeWords}
 use Rattle.tnc_ports.specs.declared.serving.ServeEnd.{ServeEnd}
 use Rattle.tnc_ports.specs.declared.serving.ServeEnd.TheVariants.{Done, TooLong, Memory, ReadFault, WriteFault, NoPort}
@@ -25,16 +29,40 @@ abbrev pub detection_of : Dcd → Detection
 detection_of ByTones = Tones
 detection_of (ByFlags count) = Flags count
 
--- the ports, the station, the lanes and the report that the options ask for
-abbrev pub words_of : ServeOptions → ServeWords
-words_of options = record {
-  kiss = options.kiss;
-  agw = options.agw;
-  seed = options.seed;
-  config = record { params = options.params; digi = options.digi };
+-- how the transmitter is keyed
+abbrev pub key_of : PttOptions → KeyWords
+key_of ptt = record { port = ptt.port; words = record { tail = ptt.tail; «data» = ptt.data_socket } }
+
+-- the seed that an option names, or that of the outside if it names none
+abbrev pub seed_of : Option ℕ → ℕ → ℕ
+seed_of None outer = outer
+seed_of (Some seed) outer = seed
+
+-- how the station takes the channel
+abbrev pub channel_of : ChannelOptions → Parameters
+channel_of channel = record {
+  tx_delay = channel.tx_delay;
+  persist = channel.persist;
+  slot_time = channel.slot_time;
+  tx_tail = channel.tx_tail;
+  full_duplex = channel.full_duplex;
+}
+
+-- the ports, the station, the lanes, the report and the key that the options ask for, with this seed of the outside
+abbrev pub words_of : ServeOptions → ℕ → ServeWords
+words_of options outer = record {
+  listen = record { address = options.bind; kiss = options.kiss; agw = options.agw };
+  seed = seed_of options.seed outer;
+  config = record {
+    params = options.params;
+    channel = channel_of options.channel;
+    paclen = options.paclen;
+    digi = options.digi;
+  };
   dcd = detection_of options.dcd;
   monitor = options.monitor;
   sensitive = options.sensitive;
+  key = option_map key_of options.ptt;
 }
 
 -- the status of an end
@@ -99,10 +127,11 @@ pub record HasNotBegun (status : Status) (input left : InputSide) (before after 
   pub unread : left ≡ input
   pub untouched : after ≡ before
 
--- The options are those of a live command: a station was served as they ask for it, or there was no memory to begin.
-abbrev pub RunsLive : ServeOptions → Status → InputSide → InputSide → Outside → Outside → Type 0
-RunsLive options status input left before after =
-    HasNotBegun status input left before after ⊎ Serves (words_of options) status input left before after
+-- The options are those of a live command: a station was served as they ask for it, with a seed of the outside if they
+-- name none, or there was no memory to begin.
+abbrev pub RunsLive : ServeOptions → ℕ → Status → InputSide → InputSide → Outside → Outside → Type 0
+RunsLive options outer status input left before after =
+    HasNotBegun status input left before after ⊎ Serves (words_of options outer) status input left before after
 
 -- What status 3 of a served station stands for: memory was wanted and not given; or no thread could be started, which the
 -- spawner has counted, and then the ports were opened, nothing was read and no turn was made.
@@ -111,9 +140,9 @@ IsServedInWant words threads threads_after input left before after =
     ((threads_after ≡ threads) × IsServed words Memory input left before after)
     ⊎ (HasRisen threads threads_after × IsServed words NoThread input left before after)
 
--- And of a run: the same, or memory was wanted before serving began. The numbers are how often no thread could be
--- started, before the run and after it.
-abbrev pub IsInWant : ServeOptions → ℕ → ℕ → InputSide → InputSide → Outside → Outside → Type 0
-IsInWant options threads threads_after input left before after =
+-- And of a run: the same, or memory was wanted before serving began. The numbers are a seed of the outside, and how often
+-- no thread could be started, before the run and after it.
+abbrev pub IsInWant : ServeOptions → ℕ → ℕ → ℕ → InputSide → InputSide → Outside → Outside → Type 0
+IsInWant options outer threads threads_after input left before after =
     ((threads_after ≡ threads) × HasNotBegun NoMemory input left before after)
-    ⊎ IsServedInWant (words_of options) threads threads_after input left before after
+    ⊎ IsServedInWant (words_of options outer) threads threads_after input left before after

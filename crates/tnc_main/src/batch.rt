@@ -74,7 +74,7 @@ pub fn run_batch<Rt: Threads + Sync, I: Source, O: Sink, E: Sink>(
         → O.written output.new ≡ Some (before ++ print decode.frames (frames_of (transmissions_of received)))) }
     ensures benched { IfOk result (λ code. (bench : BenchOptions) → (before : List ℕ)
         → IsBench (map string_bytes words.now) bench → O.written output.old ≡ Some before → code ≡ 0
-        → (told : Report) × IsOver (bench_words bench) told × KeepsOrder told
+        → (told : Report) × IsOver (bench_words bench) told × KeepsOrder (bench_words bench) told
         × (O.written output.new ≡ Some (before ++ report_text told))) }
 
     // what each command reads and writes

@@ -20,6 +20,7 @@ use crate::calling::{call, call_words};
 use crate::live_command::LiveCommand;
 use crate::recording::{record, record_words};
 use crate::serving::{serve, serve_words};
+use key_port::KeyPort;
 use std::alloc::Global;
 use std::net::Net;
 use std::sync::Wait;
@@ -35,6 +36,7 @@ pub(crate) fn run_live<
     E: Sink,
     N: Ports,
     W: Spawner,
+    K: KeyPort<O>,
 >(
     rt: &Rt,
     alloc: Global,
@@ -42,16 +44,17 @@ pub(crate) fn run_live<
     input: &mut I,
     output: &mut O,
     report: &mut E,
-    live: &mut Live<N, W>,
+    live: &mut Live<N, W, K>,
 ) -> u8
     requires can_run { CanRunLive command }
     ensures served { (options : ServeOptions) → command ≡ LiveCommand.Serve options
         → (status : Status) × (result ≡ code_of status)
-        × Serves (words_of options) status (input_by I.left I.faults input.old) (input_by I.left I.faults input.new)
-        (outside_by N.listens N.polls N.sends N.sent N.is_shut N.faults O.written O.faults E.written E.faults
-        live.old.ports output.old report.old)
-        (outside_by N.listens N.polls N.sends N.sent N.is_shut N.faults O.written O.faults E.written E.faults
-        live.new.ports output.new report.new) }
+        × Serves (words_of options live.old.seed) status (input_by I.left I.faults input.old)
+        (input_by I.left I.faults input.new)
+        (outside_by N.listens N.polls N.sends N.sent N.is_shut N.faults K.lines K.faults O.written O.faults
+        E.written E.faults live.old.ports live.old.key output.old report.old)
+        (outside_by N.listens N.polls N.sends N.sent N.is_shut N.faults K.lines K.faults O.written O.faults
+        E.written E.faults live.new.ports live.new.key output.new report.new) }
 
     ensures recorded { (options : RecordOptions) → command ≡ LiveCommand.Record options
         → (status : Status) × (result ≡ code_of status)
@@ -78,12 +81,12 @@ pub(crate) fn run_live<
     ensures write_fault { result ≡ 5
         → HasRisen (O.faults output.old) (O.faults output.new) ⊎ HasRisen (E.faults report.old) (E.faults report.new) }
     ensures want { (options : ServeOptions) → command ≡ LiveCommand.Serve options → result ≡ 3
-        → IsServedInWant (words_of options) (W.faults live.old.spawner) (W.faults live.new.spawner)
+        → IsServedInWant (words_of options live.old.seed) (W.faults live.old.spawner) (W.faults live.new.spawner)
         (input_by I.left I.faults input.old) (input_by I.left I.faults input.new)
-        (outside_by N.listens N.polls N.sends N.sent N.is_shut N.faults O.written O.faults E.written E.faults
-        live.old.ports output.old report.old)
-        (outside_by N.listens N.polls N.sends N.sent N.is_shut N.faults O.written O.faults E.written E.faults
-        live.new.ports output.new report.new) }
+        (outside_by N.listens N.polls N.sends N.sent N.is_shut N.faults K.lines K.faults O.written O.faults
+        E.written E.faults live.old.ports live.old.key output.old report.old)
+        (outside_by N.listens N.polls N.sends N.sent N.is_shut N.faults K.lines K.faults O.written O.faults
+        E.written E.faults live.new.ports live.new.key output.new report.new) }
     ensures no_port { result ≡ 10 → (options : ServeOptions) × (command ≡ LiveCommand.Serve options)
         × HasRisen (N.faults live.old.ports) (N.faults live.new.ports) }
     ensures of_call { 11 ≤ result → (options : CallOptions) × (command ≡ LiveCommand.Call options) }
@@ -102,7 +105,8 @@ pub(crate) fn run_live<
 {
     match command {
         LiveCommand::Serve(options) => {
-            serve(rt, alloc, serve_words(options), input, output, report, live)
+            let words = serve_words(options, live.seed);
+            serve(rt, alloc, words, input, output, report, live)
         }
         LiveCommand::Record(options) => {
             record(

@@ -21,9 +21,11 @@ mod stop;
 
 use crate::program::run;
 use crate::status::Status;
+use key_port::RealKeyPort;
 use std::env;
 use std::io::{self, ErrorKind};
 use std::process::ExitCode;
+use std::time::{Clock, SystemTime};
 use tnc_base::{RealSink, RealSource};
 use tnc_ports::{Live, RealPorts, RealSpawner};
 
@@ -33,6 +35,24 @@ fn given_words(rt: &HostRuntime) -> io::Result<Vec<String>> {
         Ok(words) => Ok(words.skip(1).collect(rt.alloc())?),
         Err(error) if error.kind() == ErrorKind::OutOfMemory => Err(error),
         Err(_) => Ok(Vec::new(rt.alloc())),
+    }
+}
+
+/// The nanoseconds of the system's clock, or 0 if it tells no time. Two stations that start by themselves have two seeds
+/// by it, so that they do not draw the same numbers.
+fn seed_by_clock(clock: &impl Clock) -> u64 {
+    let Ok(now) = SystemTime::now(clock) else {
+        return 0;
+    };
+    match now.duration_since(SystemTime::UNIX_EPOCH) {
+        Ok(since) => {
+            let nanos = u64::from(since.subsec_nanos());
+            since
+                .as_secs()
+                .wrapping_mul(1_000_000_000)
+                .wrapping_add(nanos)
+        }
+        Err(_) => 0,
     }
 }
 
@@ -46,6 +66,8 @@ fn main(rt: HostRuntime) -> ExitCode {
     let mut live = Live {
         ports: RealPorts::new(rt.alloc()),
         spawner: RealSpawner::new(),
+        key: RealKeyPort::new(&rt),
+        seed: seed_by_clock(&rt),
     };
     ExitCode::from(run(
         &rt,

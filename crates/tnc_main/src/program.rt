@@ -38,6 +38,7 @@ ghost use Rattle.tnc_main.specs.Status.{code_of};
 
 use crate::batch::run_batch;
 use crate::live_run::run_live;
+use key_port::KeyPort;
 use std::alloc::Global;
 use std::net::Net;
 use std::sync::Wait;
@@ -76,6 +77,7 @@ pub fn run<
     E: Sink,
     N: Ports,
     W: Spawner,
+    K: KeyPort<O>,
 >(
     rt: &Rt,
     alloc: Global,
@@ -83,7 +85,7 @@ pub fn run<
     input: &mut I,
     output: &mut O,
     report: &mut E,
-    live: &mut Live<N, W>,
+    live: &mut Live<N, W, K>,
 ) -> u8
     // what a decode hears, what a bench tells, and what a live station, a recording and a call do
     ensures heard { (job : Job (map string_bytes words.now) (I.left input.old) result) → (decode : DecodeWords)
@@ -94,15 +96,16 @@ pub fn run<
         → O.written output.new ≡ Some (before ++ print decode.frames (frames_of (transmissions_of received))) }
     ensures benched { (bench : BenchOptions) → (before : List ℕ) → IsBench (map string_bytes words.now) bench
         → O.written output.old ≡ Some before → result ≡ 0
-        → (told : Report) × IsOver (bench_words bench) told × KeepsOrder told
+        → (told : Report) × IsOver (bench_words bench) told × KeepsOrder (bench_words bench) told
         × (O.written output.new ≡ Some (before ++ report_text told)) }
     ensures served { (options : ServeOptions) → IsServe (map string_bytes words.now) options
         → (status : Status) × (result ≡ code_of status)
-        × RunsLive options status (input_by I.left I.faults input.old) (input_by I.left I.faults input.new)
-        (outside_by N.listens N.polls N.sends N.sent N.is_shut N.faults O.written O.faults E.written E.faults
-        live.old.ports output.old report.old)
-        (outside_by N.listens N.polls N.sends N.sent N.is_shut N.faults O.written O.faults E.written E.faults
-        live.new.ports output.new report.new) }
+        × RunsLive options live.old.seed status (input_by I.left I.faults input.old)
+        (input_by I.left I.faults input.new)
+        (outside_by N.listens N.polls N.sends N.sent N.is_shut N.faults K.lines K.faults O.written O.faults
+        E.written E.faults live.old.ports live.old.key output.old report.old)
+        (outside_by N.listens N.polls N.sends N.sent N.is_shut N.faults K.lines K.faults O.written O.faults
+        E.written E.faults live.new.ports live.new.key output.new report.new) }
 
     ensures recorded { (options : RecordOptions) → IsRecord (map string_bytes words.now) options
         → (status : Status) × (result ≡ code_of status)
@@ -156,12 +159,12 @@ pub fn run<
     ensures spent { result ≡ 8 → (command : Command) × Asks (map string_bytes words.now) command
         × ((ticks : ℕ) × IsSpent command ticks) }
     ensures no_thread { (options : ServeOptions) → IsServe (map string_bytes words.now) options → result ≡ 3
-        → IsInWant options (W.faults live.old.spawner) (W.faults live.new.spawner)
+        → IsInWant options live.old.seed (W.faults live.old.spawner) (W.faults live.new.spawner)
         (input_by I.left I.faults input.old) (input_by I.left I.faults input.new)
-        (outside_by N.listens N.polls N.sends N.sent N.is_shut N.faults O.written O.faults E.written E.faults
-        live.old.ports output.old report.old)
-        (outside_by N.listens N.polls N.sends N.sent N.is_shut N.faults O.written O.faults E.written E.faults
-        live.new.ports output.new report.new) }
+        (outside_by N.listens N.polls N.sends N.sent N.is_shut N.faults K.lines K.faults O.written O.faults
+        E.written E.faults live.old.ports live.old.key output.old report.old)
+        (outside_by N.listens N.polls N.sends N.sent N.is_shut N.faults K.lines K.faults O.written O.faults
+        E.written E.faults live.new.ports live.new.key output.new report.new) }
     ensures no_port { result ≡ 10 → (options : ServeOptions) × IsServe (map string_bytes words.now) options
         × HasRisen (N.faults live.old.ports) (N.faults live.new.ports) }
     ensures of_call { 11 ≤ result → (options : CallOptions) × IsCall (map string_bytes words.now) options }

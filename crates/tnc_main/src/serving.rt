@@ -1,5 +1,5 @@
 //! The command `serve`: a station on the air, until its input ends.
-ghost use Rattle.std.specs.Prelude.{◌≡◌, ◌⊎◌, ◌≤◌, ℕ, List, Some, length};
+ghost use Rattle.std.specs.Prelude.{◌≡◌, ◌⊎◌, ◌≤◌, ℕ, List, Some, length, option_map};
 ghost use Rattle.tnc_base.specs.Faults.{HasRisen};
 ghost use Rattle.link_machine.specs.Params.{IsRefusedWindow};
 ghost use Rattle.tnc_forms.specs.Reading.{input_limit};
@@ -8,11 +8,14 @@ ghost use Rattle.tnc_ports.specs.ServeRun.{input_by};
 ghost use Rattle.tnc_main.specs.declared.status.Status.{Status};
 ghost use Rattle.slicer_bank.specs.Detection.{CanBeAsked};
 ghost use Rattle.tnc_main.specs.Serving.{IsServedInWant, IsToldAs, Serves, detection_of, last_line, status_of_end};
-ghost use Rattle.tnc_main.specs.Serving.{words_of};
+ghost use Rattle.tnc_main.specs.Serving.{channel_of, key_of, seed_of, words_of};
 ghost use Rattle.tnc_main.specs.Status.{code_of, IsLiveCode};
 
 use crate::report::{NO_PORT, TOO_LONG, told};
 use crate::status::Status;
+use channel_access::Parameters;
+use key_port::KeyPort;
+use keying::Words;
 use slicer_bank::Detection;
 use station::Config;
 use std::alloc::Global;
@@ -20,8 +23,8 @@ use std::net::Net;
 use std::sync::Wait;
 use std::thread::Threads;
 use tnc_base::{Sink, Source};
-use tnc_ports::{Live, Ports, ServeEnd, ServeWords, Spawner};
-use tnc_words::{Dcd, ServeOptions};
+use tnc_ports::{KeyWords, Listen, Live, Ports, ServeEnd, ServeWords, Spawner};
+use tnc_words::{ChannelOptions, Dcd, PttOptions, ServeOptions};
 
 /// Serves hosts until the input ends, tells how that ended, and answers the exit status. It may wait for the input.
 pub(crate) fn serve<
@@ -31,6 +34,7 @@ pub(crate) fn serve<
     E: Sink,
     N: Ports,
     W: Spawner,
+    K: KeyPort<O>,
 >(
     rt: &Rt,
     alloc: Global,
@@ -38,16 +42,16 @@ pub(crate) fn serve<
     input: &mut I,
     output: &mut O,
     report: &mut E,
-    live: &mut Live<N, W>,
+    live: &mut Live<N, W, K>,
 ) -> u8
     requires window { (window : ℕ) → ¬ IsRefusedWindow words.config.params window }
     requires dcd { CanBeAsked words.dcd }
     ensures served { (status : Status) × (result ≡ code_of status)
         × Serves words status (input_by I.left I.faults input.old) (input_by I.left I.faults input.new)
-        (outside_by N.listens N.polls N.sends N.sent N.is_shut N.faults O.written O.faults E.written E.faults
-        live.old.ports output.old report.old)
-        (outside_by N.listens N.polls N.sends N.sent N.is_shut N.faults O.written O.faults E.written E.faults
-        live.new.ports output.new report.new) }
+        (outside_by N.listens N.polls N.sends N.sent N.is_shut N.faults K.lines K.faults O.written O.faults
+        E.written E.faults live.old.ports live.old.key output.old report.old)
+        (outside_by N.listens N.polls N.sends N.sent N.is_shut N.faults K.lines K.faults O.written O.faults
+        E.written E.faults live.new.ports live.new.key output.new report.new) }
 
     // each status and its cause
     ensures own { IsLiveCode result }
@@ -58,10 +62,10 @@ pub(crate) fn serve<
         → HasRisen (O.faults output.old) (O.faults output.new) ⊎ HasRisen (E.faults report.old) (E.faults report.new) }
     ensures want { result ≡ 3 → IsServedInWant words (W.faults live.old.spawner) (W.faults live.new.spawner)
         (input_by I.left I.faults input.old) (input_by I.left I.faults input.new)
-        (outside_by N.listens N.polls N.sends N.sent N.is_shut N.faults O.written O.faults E.written E.faults
-        live.old.ports output.old report.old)
-        (outside_by N.listens N.polls N.sends N.sent N.is_shut N.faults O.written O.faults E.written E.faults
-        live.new.ports output.new report.new) }
+        (outside_by N.listens N.polls N.sends N.sent N.is_shut N.faults K.lines K.faults O.written O.faults
+        E.written E.faults live.old.ports live.old.key output.old report.old)
+        (outside_by N.listens N.polls N.sends N.sent N.is_shut N.faults K.lines K.faults O.written O.faults
+        E.written E.faults live.new.ports live.new.key output.new report.new) }
     ensures no_port { result ≡ 10 → HasRisen (N.faults live.old.ports) (N.faults live.new.ports) }
     ensures not_called { result ≤ 10 }
     ensures complete { (octets : List ℕ) → I.left input.old ≡ Some octets → length octets ≤ input_limit
@@ -90,21 +94,66 @@ fn tell_end<E: Sink>(end: ServeEnd, report: &mut E) -> Status
     }
 }
 
-/// What a live station is asked for by its options.
-pub(crate) fn serve_words(options: ServeOptions) -> ServeWords
-    ensures { result ≡ words_of options }
+/// What a live station is asked for by its options, with a seed of the outside if they name none.
+pub(crate) fn serve_words(options: ServeOptions, outer: u64) -> ServeWords
+    ensures { result ≡ words_of options outer }
 {
     ServeWords {
-        kiss: options.kiss,
-        agw: options.agw,
-        seed: options.seed,
+        listen: Listen {
+            address: options.bind,
+            kiss: options.kiss,
+            agw: options.agw,
+        },
+        seed: seed(options.seed, outer),
         config: Config {
             params: options.params,
+            channel: parameters(options.channel),
+            paclen: options.paclen,
             digi: options.digi,
         },
         dcd: detection(options.dcd),
         monitor: options.monitor,
         sensitive: options.sensitive,
+        key: key_words(options.ptt),
+    }
+}
+
+/// How the station takes the channel, as the options say it.
+fn parameters(channel: ChannelOptions) -> Parameters
+    ensures { result ≡ channel_of channel }
+{
+    Parameters {
+        tx_delay: channel.tx_delay,
+        persist: channel.persist,
+        slot_time: channel.slot_time,
+        tx_tail: channel.tx_tail,
+        full_duplex: channel.full_duplex,
+    }
+}
+
+/// The seed that an option names, or that of the outside.
+fn seed(named: Option<u64>, outer: u64) -> u64
+    ensures { result ≡ seed_of named outer }
+{
+    match named {
+        Some(seed) => seed,
+        None => outer,
+    }
+}
+
+/// How the transmitter is keyed, as the options say it.
+fn key_words(ptt: Option<PttOptions>) -> Option<KeyWords>
+    ensures { result ≡ option_map key_of ptt }
+{
+    match ptt {
+        None => None,
+        Some(ptt) => Some(KeyWords {
+            port: ptt.port,
+            words: Words {
+                tail: ptt.tail,
+                data: ptt.data_socket,
+            },
+        }),
     }
 }
 

@@ -68,10 +68,12 @@ pub use Rattle.tnc_ports.specs.RealSockets.{Admits, OpenIds, Rise, ids_of_socket
 pub use Rattle.tnc_ports.specs.ReportText.{output_octets, report_text}
 pub use Rattle.tnc_ports.specs.ReportedGaps.{AreAllGaps, AreFirstGaps, gaps_in}
 pub use Rattle.tnc_ports.specs.Sampled.{AreHeard, AreTicked, HaveEnded, HearsAll, IsTurn, LanesReadOn, Live, MakesAll}
-pub use Rattle.tnc_ports.specs.Sampled.{gap_line, new_live, with_hosts}
+pub use Rattle.tnc_ports.specs.KeyTurns.{CallsKey, TicksKeyIf, TurnsKeyIf, Whole, is_held, key_line}
+pub use Rattle.tnc_ports.specs.Sampled.{IsKeyTurn, gap_line, new_live, octets_sent, with_hosts}
 pub use Rattle.tnc_ports.specs.SampledFrames.{AreReceivedLines, AreSentLines, IsFrameHeard, IsTickMade, with_lines}
 pub use Rattle.tnc_ports.specs.SampledHeld.{HearsFrames, HearsSome, IsCutOff, Keeps, Reads, Runs, ServesAll}
-pub use Rattle.tnc_ports.specs.SampledHeld.{StandsForLive, Ticks, TicksAll, Turns, told_in}
+pub use Rattle.tnc_ports.specs.SampledHeld.{From, KeyedSince, RunsOut, StandsForLive, Ticks, TicksAll, Turns, TurnsTheKey}
+pub use Rattle.tnc_ports.specs.SampledHeld.{from_of, told_in}
 pub use Rattle.tnc_ports.specs.SampledRun.{AllIsWritten, AreTurns, IsCutInReading, IsCutInServing, IsCutRun, IsCutTurn}
 pub use Rattle.tnc_ports.specs.SampledRun.{IsLooped, IsRun, Outside, PortsTell}
 pub use Rattle.tnc_ports.specs.SampledWrites.{Puts, ReportsMore, Stream, WritesMore, stream_of}
@@ -87,7 +89,8 @@ pub use Rattle.tnc_ports.specs.declared.line.Line.{Line}
 pub use Rattle.tnc_ports.specs.declared.looping.LoopEnd.TheVariants.{Memory}
 pub use Rattle.tnc_ports.specs.declared.pumping.PumpEnd.TheVariants.{InputEnd, ReadFault, TooLong}
 pub use Rattle.tnc_ports.specs.declared.report_line.ReportLine.{ReportLine}
-pub use Rattle.tnc_ports.specs.declared.report_line.ReportLine.TheVariants.{ClosedLine, ReceivedLine, SentLine}
+pub use Rattle.tnc_ports.specs.declared.report_line.ReportLine.TheVariants.{ClosedLine, KeyLine, ReceivedLine, SentLine}
+pub use Rattle.tnc_ports.specs.declared.serve_words.KeyWords.{KeyWords}
 pub use Rattle.tnc_ports.specs.declared.serve_words.ServeWords.{ServeWords}
 pub use Rattle.tnc_ports.specs.declared.socket.Socket.{Socket}
 pub use Rattle.tnc_ports.specs.declared.turning.Turning.{Turning}

@@ -33,3 +33,12 @@ pub mod LiveKept
 pub mod LiveAccounts
 pub mod LiveGaps
 pub mod LiveServed
+pub mod Unkeyed
+pub mod KeyFailures
+pub mod KeySteps
+pub mod KeyTicks
+pub mod LiveTicks
+pub mod KeyReleases
+pub mod TickParameters
+pub mod KeyBegins
+pub mod KeyLaws

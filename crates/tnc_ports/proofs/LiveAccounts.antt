@@ -8,7 +8,9 @@ use Rattle.tnc_ports.proofs.Common.{line_of, is_among, was_there, Asked, Offer, 
 use Rattle.tnc_ports.proofs.Common.{IsOffered, IsOfferedTo, IsHostPart, ids_of_lines, octets_for, IsOrderly, NoneTwice}
 use Rattle.tnc_ports.proofs.Common.{octets_to, ids_closed, closed_by, IsShutHavingCome, Poll, has_come, is_joining_of}
 use Rattle.std.specs.Prelude.{◌≡◌, ℕ, [], ◌++◌, map, refl}
+use Rattle.keying.specs.declared.report.Report.{Report}
 use Rattle.tnc_ports.specs.CutPart.{IsCutPart, IsCutInTaking}
+use Rattle.tnc_ports.specs.KeyTurns.{key_line}
 use Rattle.tnc_ports.specs.ServedHosts.{ids_sent_to, ids_shut, AreSentInTurns, AreShutInTurns}
 use Rattle.tnc_ports.proofs.GivenLemmas.{offers_given}
 use Rattle.tnc_ports.proofs.KeptLemmas.{IsKeptByStep, IsKeptByPart, kept_tried, kept_takes, kept_offers}
@@ -218,6 +220,11 @@ accounted_relined turns report hosts same h =
     moved turns hosts (record hosts { report = report }) h.orderly h.few
     (sound_relined (ids_shut turns) report hosts same h.sound) refl refl h
 
+-- lines on the key call nobody closed
+keys_close_nobody : (reported : List Report) → ids_closed (map key_line reported) ≡ []
+keys_close_nobody [] = refl
+keys_close_nobody (one ∷ reported) = keys_close_nobody reported
+
 pub accounted_by_frames : (turns : List Asked) → IsKeptByFrames (IsAccounted turns)
 accounted_by_frames turns = record {
   steps = accounted_by_step turns;
@@ -228,6 +235,11 @@ accounted_by_frames turns = record {
       accounted_relined turns (report ++ (SentLine text ∷ [] ++ reported)) hosts
       (flat_map-append closed_by report (SentLine text ∷ reported) ∙ sym (flat_map-append closed_by report reported)
       ∙ ap ids_closed (sym told)) h;
+  keyed = λ reported hosts h.
+      accounted_relined turns (hosts.report ++ map key_line reported) hosts
+      (flat_map-append closed_by hosts.report (map key_line reported)
+      ∙ ap (λ ids. ids_closed hosts.report ++ ids) (keys_close_nobody reported)
+      ∙ append-nil (ids_closed hosts.report)) h;
 }
 
 -- ---- the part of a turn that is for hosts

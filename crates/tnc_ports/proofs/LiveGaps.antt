@@ -6,6 +6,8 @@ use Rattle.tnc_ports.proofs.Common.{ReportLine, ServeWords, ClosedLine, Received
 use Rattle.tnc_ports.proofs.Common.{AreAllGaps, AreFirstGaps, Live, LanesReadOn, gap_line, ids_closed, closed_by}
 use Rattle.std.specs.Prelude.{◌≡◌, ℕ, ◌+◌, ◌<◌, [], ◌++◌, length, map, refl}
 use Rattle.slicer_bank.specs.RingTurns.{gaps_from}
+use Rattle.keying.specs.declared.report.Report.{Report}
+use Rattle.tnc_ports.specs.KeyTurns.{key_line}
 use Rattle.tnc_ports.specs.ReportedGaps.{gap_by}
 use Rattle.tnc_ports.proofs.KeptLemmas.{IsKeptByStep, IsKeptByPart}
 use Rattle.tnc_ports.proofs.LiveKept.{IsKeptByFrames}
@@ -31,6 +33,10 @@ gaps_by_part gaps events = record {
   sent = λ line count hosts found h. h;
 }
 
+keys_tell_no_gap : (lane : ℕ) (reported : List Report) → gaps_in lane (map key_line reported) ≡ []
+keys_tell_no_gap lane [] = refl
+keys_tell_no_gap lane (one ∷ reported) = keys_tell_no_gap lane reported
+
 pub gaps_by_frames : (gaps : ℕ → List LaneGap) → IsKeptByFrames (TellsGaps gaps)
 gaps_by_frames gaps = record {
   steps = gaps_by_step gaps;
@@ -39,6 +45,9 @@ gaps_by_frames gaps = record {
   sent = λ text report reported hosts told h lane.
       flat_map-append (gap_by lane) report (SentLine text ∷ reported)
       ∙ sym (flat_map-append (gap_by lane) report reported) ∙ ap (gaps_in lane) (sym told) ∙ h lane;
+  keyed = λ reported hosts h lane. flat_map-append (gap_by lane) hosts.report (map key_line reported)
+      ∙ ap (λ gaps. gaps_in lane hosts.report ++ gaps) (keys_tell_no_gap lane reported)
+      ∙ append-nil (gaps_in lane hosts.report) ∙ h lane;
 }
 
 -- ---- the gaps of a turn

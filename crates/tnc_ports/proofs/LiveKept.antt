@@ -3,7 +3,12 @@ use Rattle.tnc_ports.proofs.Common.{◌⊎◌, zero, suc, Bool, true, false, Lis
 use Rattle.tnc_ports.proofs.Common.{subst, inl, inr, append-nil, AirTick, Sent, Candidate, Links, ReportLine}
 use Rattle.tnc_ports.proofs.Common.{ReceivedLine, SentLine, Hosts, Live, AreHeard, AreTicked, AreReceivedLines}
 use Rattle.tnc_ports.proofs.Common.{AreSentLines, IsFrameHeard, IsTickMade, with_lines}
-use Rattle.std.specs.Prelude.{◌≡◌, ℕ, [], ◌++◌}
+use Rattle.tnc_ports.proofs.Common.{CallsKey, TicksKeyIf, TurnsKeyIf, Whole, is_held, key_line, octets_sent, KeyWords}
+use Rattle.tnc_ports.proofs.Common.{ServeWords}
+use Rattle.std.specs.Prelude.{◌≡◌, ℕ, ℤ, ◌||◌, [], ◌++◌, map}
+use Rattle.keying.specs.declared.report.Report.{Report}
+use Rattle.keying.specs.Calls.{Call}
+use Rattle.key_port.specs.KeyEvents.{KeyEvent}
 use Rattle.tnc_ports.proofs.KeptLemmas.{IsKeptByStep, kept_step}
 
 pub record IsKeptByFrames (P : Hosts → Type 0) : Type 0 where
@@ -12,6 +17,7 @@ pub record IsKeptByFrames (P : Hosts → Type 0) : Type 0 where
   pub sent : (text : List ℕ) (report reported : List ReportLine) (hosts : Hosts) → hosts.report ≡ report ++ reported
       → P hosts
       → P (record hosts { report = report ++ (SentLine text ∷ [] ++ reported) })
+  pub keyed : (reported : List Report) (hosts : Hosts) → P hosts → P (with_lines (map key_line reported) hosts)
 
 received_or_none : (monitor : Bool) (octets : List ℕ) (links : Links) (lines : List ReportLine)
     → AreReceivedLines monitor octets links lines
@@ -55,10 +61,30 @@ module _ (P : Hosts → Type 0) (k : IsKeptByFrames P) where
             (sym some.1) (k.sent some.0 before.report t.reported t.ticked t.told q)
       ])
 
-  pub kept_ticks : (monitor busy : Bool) (count : ℕ) (before after : Live) → AreTicked monitor busy count before after
-      → P before.hosts → P after.hosts
-  kept_ticks monitor busy zero before after ticked p = subst (λ (live : Live). P live.hosts) (sym ticked) p
-  kept_ticks monitor busy (suc count) before after ticked p =
-      kept_ticks monitor busy count ticked.0 after ticked.2
+  kept_call : (key : KeyWords) (octets : ℕ) (call : Call) (keyed new : List KeyEvent) (before after : Hosts)
+      → CallsKey key octets call keyed new before after → P before → P after
+  kept_call key octets call keyed new before after c p = subst P (sym c.hosts) (k.keyed c.reported before p)
+
+  kept_key_tick : (key : Option KeyWords) (octets : ℕ) (samples : List ℤ) (keyed new : List KeyEvent)
+      (whole told : Whole) (before after : Hosts) → TicksKeyIf key octets samples keyed new whole told before after
+      → P before → P after
+  kept_key_tick None octets samples keyed new whole told before after t p = subst P (sym t.2) p
+  kept_key_tick (Some key) octets samples keyed new whole told before after t p =
+      kept_call key t.had _ t.between new t.reached after t.write
+      (kept_call key octets _ keyed t.between before t.reached t.tick p)
+
+  pub kept_key_turn : (key : Option KeyWords) (octets : ℕ) (keyed new : List KeyEvent) (before after : Hosts)
+      → TurnsKeyIf key octets keyed new before after → P before → P after
+  kept_key_turn None octets keyed new before after t p = subst P (sym t.1) p
+  kept_key_turn (Some key) octets keyed new before after t p = kept_call key octets _ keyed new before after t.call p
+
+  pub kept_ticks : (words : ServeWords) (busy : Bool) (count : ℕ) (before after : Live)
+      → AreTicked words busy count before after → P before.hosts → P after.hosts
+  kept_ticks words busy zero before after ticked p = subst (λ (live : Live). P live.hosts) (sym ticked) p
+  kept_ticks words busy (suc count) before after ticked p =
+      kept_ticks words busy count ticked.0 after ticked.2
       (subst (λ (live : Live). P live.hosts) (sym ticked.1.is)
-      (kept_tick monitor busy ticked.1.air before.hosts ticked.1.hosts ticked.1.step p))
+      (kept_key_tick words.key (octets_sent before) ticked.1.air.samples before.keyed ticked.1.keyed before.whole
+      ticked.1.whole ticked.1.made ticked.1.hosts ticked.1.key
+      (kept_tick words.monitor (busy || is_held words.key before.keyed) ticked.1.air before.hosts ticked.1.made
+      ticked.1.step p)))

@@ -3,11 +3,17 @@ use Rattle.tnc_ports.proofs.Common.{Bool, true, false, Some, ◌≡◌, ℕ, ◌
 use Rattle.tnc_ports.proofs.Common.{arith, HeldReceiver, answers_in, WrotePart, Memory, ServeWords, Turning, Told}
 use Rattle.tnc_ports.proofs.Common.{output_octets, report_text, Live, new_live, IsTurn, StandsForLive, Turns, IsCutOff}
 use Rattle.tnc_ports.proofs.Common.{Runs, told_in, Outside, IsRun, IsCutRun, IsCutTurn, IsCutInServing, PortsTell}
-use Rattle.tnc_ports.proofs.Common.{AllIsWritten, IsLooped, Stream, WritesMore}
+use Rattle.tnc_ports.proofs.Common.{AllIsWritten, Stream, WritesMore}
 use Rattle.std.proofs.Common.{suc, ◌⊎◌, ◌∷◌}
 use Rattle.tnc_ports.specs.declared.looping.LoopEnd.TheVariants.{Done, WriteFault}
 use Rattle.tnc_ports.specs.SampledHeld.{output_of, report_of}
-use Rattle.tnc_ports.specs.SampledRun.{PortsStay, PartIsWritten, IsWhole}
+use Rattle.tnc_ports.proofs.Common.{From, KeyWords, KeyedSince, RunsOut, from_of}
+use Rattle.std.specs.Prelude.{Option, None, List, length, option_map}
+use Rattle.key_port.specs.KeyEvents.{lines_of}
+use Rattle.key_port.specs.KeyLines.{KeyLine}
+use Rattle.key_port.specs.KeyTasks.{LineTold}
+use Rattle.tnc_ports.specs.SampledHeld.{KeyStands, LineStands, IsOutputSince, IsReportSince, IsRunOut, IsWrittenSince}
+use Rattle.tnc_ports.specs.SampledRun.{PortsStay, PartIsWritten, IsWhole, AllIsWrittenAsTold, key_failed}
 use Rattle.tnc_ports.proofs.LiveSteps.{turns_more}
 use Rattle.tnc_ports.proofs.LiveAccounts.{are_sent, are_shut, accounted_cut}
 use Rattle.tnc_ports.proofs.LiveServed.{served_run, served_cut, all_told}
@@ -17,16 +23,80 @@ use Rattle.tnc_ports.proofs.LiveWrites.{no_write, writes_more}
 stay_stay : (x y z : Outside) → PortsStay x y → z.listens ≡ y.listens → y.port_faults ≤ z.port_faults → PortsStay x z
 stay_stay x y z h same le = record { listens = same ∙ h.listens; faults = let f = h.faults in omega (arith, f, le) }
 
+-- ---- the key before the first turn
+
+number_in : ℕ → Option ℕ → ℕ
+number_in other None = other
+number_in other (Some n) = n
+
+lines_same : (port start : ℕ) (was : Option (List KeyLine))
+    → was ≡ option_map (λ lines. lines_of port start lines []) was
+lines_same port start None = refl
+lines_same port start (Some lines) = refl
+
+first_output : (start : ℕ) (key : Option KeyWords) (failed : Bool) (words : ServeWords) (o : Option (List ℕ))
+    (output : Stream) → output.written ≡ o → option_map (λ out. length out) o ≡ Some start
+    → IsOutputSince start key failed (new_live words) output
+unfolding number_in
+first_output start key failed words None output is e = absurd (cc e)
+first_output start key failed words (Some out) output is e =
+    let same : length out ≡ start = ap (number_in start) e in
+    record {
+      out = out;
+      is = is;
+      longer = omega (arith, same);
+      kept = λ none. omega (arith, same);
+      all = λ key is none. omega (arith, same);
+      whole = omega (arith, same);
+    }
+
+first_report : (start : ℕ) (failed : Bool) (words : ServeWords) (o : Option (List ℕ)) (report : Stream)
+    → report.written ≡ o → option_map (λ out. length out) o ≡ Some start
+    → IsReportSince start failed (new_live words) report
+unfolding number_in
+first_report start failed words None report is e = absurd (cc e)
+first_report start failed words (Some out) report is e =
+    let same : length out ≡ start = ap (number_in start) e in
+    record { out = out; is = is; kept = λ none. omega (arith, same); whole = omega (arith, same) }
+
+pub first_line : (start : Outside) (key : Option KeyWords) (words : ServeWords)
+    → LineStands (from_of start) key (new_live words) start.line
+first_line start None words = refl
+first_line start (Some key) words = (λ from e. lines_same key.port from start.line.lines, refl)
+
+pub first_untold : (key : Option KeyWords) (words : ServeWords) → key_failed key (new_live words) ≡ false
+first_untold None words = refl
+first_untold (Some key) words = refl
+
+pub first_written : (words : ServeWords) (key : Option KeyWords) (failed : Bool) (start : Outside)
+    → IsWrittenSince (from_of start) key failed (new_live words) (output_of start) (report_of start)
+first_written words key failed start = record {
+  outputs = λ from e. first_output from key failed words start.output (output_of start) refl e;
+  reports = λ from e. first_report from failed words start.report (report_of start) refl e;
+  lines = omega arith;
+}
+
+pub first_keyed : (words : ServeWords) (turning : Turning) (start : Outside)
+    → KeyStands turning.words.key turning.key []
+    → KeyedSince (from_of start) turning (new_live words) (output_of start) (report_of start) start.line
+first_keyed words turning start stands = record {
+  stands = stands;
+  untold = λ none. first_untold turning.words.key words;
+  written = first_written words turning.words.key turning.failed start;
+  line_stands = first_line start turning.words.key words;
+}
+
 -- before the first turn
 pub runs_first : (words : ServeWords) (turning : Turning) (len : ℕ) (receiver : HeldReceiver) (start : Outside)
     → StandsForLive turning len receiver (new_live words) → turning.words ≡ words → turning.failed ≡ false
-    → Runs words turning len receiver start start
-runs_first words turning len receiver start stands same none = record {
+    → KeyStands turning.words.key turning.key [] → Runs words turning len receiver start start
+runs_first words turning len receiver start stands same none key = record {
   count = 0;
   live = new_live words;
   turns = refl;
   stands = stands;
   words_kept = same;
+  key = first_keyed words turning start key;
   writes = subst (λ f. WritesMore false f (new_live words) (new_live words) (output_of start) (output_of start)
       (report_of start) (report_of start)) (sym none)
       (no_write false (new_live words) (output_of start) (report_of start));
@@ -37,8 +107,8 @@ runs_first words turning len receiver start stands same none = record {
 -- one turn more
 pub runs_more : (words : ServeWords) (a b : Turning) (len : ℕ) (old receiver : HeldReceiver) (start x y : Outside)
     → (h : Runs words a len old start x)
-    → Turns false a b len receiver h.live (output_of x) (output_of y) (report_of x) (report_of y) (told_in x)
-    (told_in y)
+    → Turns (from_of start) false a b len receiver h.live (output_of x) (output_of y) (report_of x) (report_of y)
+    (told_in x) (told_in y) y.line
     → b.words ≡ a.words → y.listens ≡ x.listens → x.port_faults ≤ y.port_faults → Runs words b len receiver start y
 runs_more words a b len old receiver start x y h t same listens later = record {
   count = suc h.count;
@@ -47,6 +117,7 @@ runs_more words a b len old receiver start x y h t same listens later = record {
       (subst (λ w. IsTurn w false h.live t.next) h.words_kept t.turn);
   stands = t.goes_on refl;
   words_kept = same ∙ h.words_kept;
+  key = t.key;
   writes = writes_more false a.failed b.failed (new_live words) h.live t.next (output_of start) (output_of x)
       (output_of y) (report_of start) (report_of x) (report_of y) h.writes t.writes;
   told = subst (λ xs. PortsTell xs start y) (sym t.asks)
@@ -89,8 +160,8 @@ written true words live start now h = part_written words live start now h
 
 whole : (words : ServeWords) (a b : Turning) (len : ℕ) (old receiver : HeldReceiver) (start x y : Outside)
     → (h : Runs words a len old start x)
-    → (t : Turns true a b len receiver h.live (output_of x) (output_of y) (report_of x) (report_of y) (told_in x)
-    (told_in y))
+    → (t : Turns (from_of start) true a b len receiver h.live (output_of x) (output_of y) (report_of x) (report_of y)
+    (told_in x) (told_in y) y.line)
     → y.listens ≡ x.listens → x.port_faults ≤ y.port_faults
     → IsWhole words (answers_in len receiver) t.next start y
     × WritesMore false b.failed (new_live words) t.next (output_of start) (output_of y) (report_of start)
@@ -120,44 +191,65 @@ whole words a b len old receiver start x y h t listens later =
           (report_of start) (report_of x) (report_of y) h.writes t.writes,
     )
 
+run_out : (words : ServeWords) (b : Turning) (live : Live) (start y : Outside) → b.words ≡ words
+    → KeyedSince (from_of start) b live (output_of y) (report_of y) y.line → IsRunOut words live b start y
+run_out words b live start y same key = record { words_kept = same; key = key }
+
+as_told : (words : ServeWords) (b : Turning) (live : Live) (start y : Outside) → b.words ≡ words → b.failed ≡ false
+    → KeyedSince (from_of start) b live (output_of y) (report_of y) y.line
+    → AllIsWritten live start y → AllIsWrittenAsTold words.key live start y
+as_told words b live start y same none key all = record {
+  written = all;
+  untold = ap (λ (w : ServeWords). key_failed w.key live) (sym same) ∙ key.untold none;
+}
+
 pub loop_done : (words : ServeWords) (a b : Turning) (len : ℕ) (old receiver : HeldReceiver) (start x y : Outside)
     → (h : Runs words a len old start x)
-    → Turns true a b len receiver h.live (output_of x) (output_of y) (report_of x) (report_of y) (told_in x) (told_in y)
-    → y.listens ≡ x.listens → x.port_faults ≤ y.port_faults → b.failed ≡ false
-    → IsLooped words Done (answers_in len receiver) start y
-loop_done words a b len old receiver start x y h t listens later none =
-    let w = whole words a b len old receiver start x y h t listens later in (
+    → Turns (from_of start) true a b len receiver h.live (output_of x) (output_of y) (report_of x) (report_of y)
+    (told_in x) (told_in y) y.line
+    → b.words ≡ a.words → y.listens ≡ x.listens → x.port_faults ≤ y.port_faults → b.failed ≡ false
+    → RunsOut words Done (answers_in len receiver) b start y
+loop_done words a b len old receiver start x y h t same listens later none =
+    let w = whole words a b len old receiver start x y h t listens later in
+    let kept = same ∙ h.words_kept in (
       t.next,
       w.0,
-      all_written words t.next start y
+      as_told words b t.next start y kept none t.key (all_written words t.next start y
           (subst (λ f. WritesMore false f (new_live words) t.next (output_of start) (output_of y) (report_of start)
-          (report_of y)) none w.1),
+          (report_of y)) none w.1)),
+      run_out words b t.next start y kept t.key,
     )
 
 pub loop_fault : (words : ServeWords) (a b : Turning) (len : ℕ) (old receiver : HeldReceiver) (start x y : Outside)
     → (h : Runs words a len old start x)
-    → Turns true a b len receiver h.live (output_of x) (output_of y) (report_of x) (report_of y) (told_in x) (told_in y)
-    → y.listens ≡ x.listens → x.port_faults ≤ y.port_faults → b.failed ≡ true
-    → IsLooped words WriteFault (answers_in len receiver) start y
-loop_fault words a b len old receiver start x y h t listens later some =
+    → Turns (from_of start) true a b len receiver h.live (output_of x) (output_of y) (report_of x) (report_of y)
+    (told_in x) (told_in y) y.line
+    → b.words ≡ a.words → y.listens ≡ x.listens → x.port_faults ≤ y.port_faults → b.failed ≡ true
+    → RunsOut words WriteFault (answers_in len receiver) b start y
+loop_fault words a b len old receiver start x y h t same listens later some =
     let w = whole words a b len old receiver start x y h t listens later in (
       t.next,
       w.0,
       part_written words t.next start y
           (subst (λ f. WritesMore false f (new_live words) t.next (output_of start) (output_of y) (report_of start)
           (report_of y)) some w.1),
+      run_out words b t.next start y (same ∙ h.words_kept) t.key,
     )
 
-either : (failed : Bool) (live : Live) (start now : Outside) → WrittenBy failed live start now
-    → AllIsWritten live start now ⊎ PartIsWritten live start now
-either false live start now h = inl h
-either true live start now h = inr h
+either : (words : ServeWords) (b : Turning) (live : Live) (start now : Outside) (failed : Bool) → b.failed ≡ failed
+    → b.words ≡ words → KeyedSince (from_of start) b live (output_of now) (report_of now) now.line
+    → WrittenBy failed live start now
+    → AllIsWrittenAsTold words.key live start now ⊎ PartIsWritten live start now
+either words b live start now false e same key h = inl (as_told words b live start now same e key h)
+either words b live start now true e same key h = inr h
 
 pub loop_memory : (words : ServeWords) (a b : Turning) (len : ℕ) (old receiver : HeldReceiver) (start x y : Outside)
     → (h : Runs words a len old start x)
-    → IsCutOff a b len receiver h.live (output_of x) (output_of y) (report_of x) (report_of y) (told_in x) (told_in y)
-    → y.listens ≡ x.listens → x.port_faults ≤ y.port_faults → IsLooped words Memory (answers_in len receiver) start y
-loop_memory words a b len old receiver start x y h t listens later =
+    → IsCutOff (from_of start) a b len receiver h.live (output_of x) (output_of y) (report_of x) (report_of y)
+    (told_in x) (told_in y) y.line
+    → b.words ≡ a.words → y.listens ≡ x.listens → x.port_faults ≤ y.port_faults
+    → RunsOut words Memory (answers_in len receiver) b start y
+loop_memory words a b len old receiver start x y h t same listens later =
     let all = writes_more false a.failed b.failed (new_live words) h.live t.next (output_of start) (output_of x)
     (output_of y) (report_of start) (report_of x) (report_of y) h.writes t.writes in
     let run : IsCutRun words t.next = record {
@@ -204,18 +296,22 @@ loop_memory words a b len old receiver start x y h t listens later =
               size = served.size;
             }
       ],
-      either b.failed t.next start y (written b.failed words t.next start y all),
+      either words b t.next start y b.failed refl (same ∙ h.words_kept) t.key (written b.failed words t.next start y all),
+      run_out words b t.next start y (same ∙ h.words_kept) t.key,
     )
 
 -- ---- whether a turn was the last
 
-pub turned_over : (ended : Bool) (a b : Turning) (len : ℕ) (receiver : HeldReceiver) (live : Live) (o o' r r' : Stream)
-    (t t' : Told) → ended ≡ true
-    → Turns ended a b len receiver live o o' r r' t t' → Turns true a b len receiver live o o' r r' t t'
-turned_over ended a b len receiver live o o' r r' t t' e h =
-    subst (λ x. Turns x a b len receiver live o o' r r' t t') e h
+pub turned_over : (from : From) (ended : Bool) (a b : Turning) (len : ℕ) (receiver : HeldReceiver) (live : Live)
+    (o o' r r' : Stream) (t t' : Told) (line : LineTold) → ended ≡ true
+    → Turns from ended a b len receiver live o o' r r' t t' line
+    → Turns from true a b len receiver live o o' r r' t t' line
+turned_over from ended a b len receiver live o o' r r' t t' line e h =
+    subst (λ x. Turns from x a b len receiver live o o' r r' t t' line) e h
 
-pub turned_on : (ended : Bool) (a b : Turning) (len : ℕ) (receiver : HeldReceiver) (live : Live) (o o' r r' : Stream)
-    (t t' : Told) → ended ≡ false
-    → Turns ended a b len receiver live o o' r r' t t' → Turns false a b len receiver live o o' r r' t t'
-turned_on ended a b len receiver live o o' r r' t t' e h = subst (λ x. Turns x a b len receiver live o o' r r' t t') e h
+pub turned_on : (from : From) (ended : Bool) (a b : Turning) (len : ℕ) (receiver : HeldReceiver) (live : Live)
+    (o o' r r' : Stream) (t t' : Told) (line : LineTold) → ended ≡ false
+    → Turns from ended a b len receiver live o o' r r' t t' line
+    → Turns from false a b len receiver live o o' r r' t t' line
+turned_on from ended a b len receiver live o o' r r' t t' line e h =
+    subst (λ x. Turns from x a b len receiver live o o' r r' t t' line) e h

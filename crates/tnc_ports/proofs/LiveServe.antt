@@ -8,7 +8,7 @@ use Rattle.tnc_ports.proofs.Common.{Memory, false≢true, InputEnd, ReadFault, T
 use Rattle.tnc_ports.proofs.Common.{Turning, StandsFor, new_hosts, StandsForLive, Outside, IsCutInReading, IsCutRun}
 use Rattle.tnc_ports.proofs.Common.{IsLooped, AllIsWritten}
 use Rattle.std.specs.Prelude.{nat_lt}
-use Rattle.std.proofs.Common.{◌≢◌, ⊎_elim, List, ◌∷◌}
+use Rattle.std.proofs.Common.{⊎_elim, List, ◌∷◌}
 use Rattle.std.proofs.lemmas.List.Elements.{All-head, All-tail, Contains-append_cases}
 use Rattle.std.proofs.lemmas.Option.{slice_get_past}
 use Rattle.sample_ring.specs.declared.view.Entry.{Entry}
@@ -24,6 +24,11 @@ use Rattle.tnc_ports.specs.ServeRun.{InputSide, ring_cells, answers_of_record, L
 use Rattle.tnc_ports.specs.ServeRun.{HasOpened, HasServed, IsServed}
 use Rattle.tnc_ports.specs.SampledPump.{IsClosed, IsLoopedIf}
 use Rattle.tnc_ports.proofs.LiveAccounts.{are_sent, are_shut}
+use Rattle.tnc_ports.proofs.Common.{from_of}
+use Rattle.key_port.specs.KeyTasks.{LineTold}
+use Rattle.tnc_ports.specs.SampledHeld.{IsReleasedSince}
+use Rattle.tnc_ports.proofs.KeyReleases.{cut_on, as_told_on, key_told}
+use Rattle.tnc_ports.proofs.LiveLoop.{first_written, first_untold}
 use Rattle.tnc_ports.proofs.LiveServed.{served_cut}
 use Rattle.tnc_ports.proofs.LiveTold.{tells_nothing}
 
@@ -43,9 +48,11 @@ first_stands words turning len receiver hosts same ticks sensitive new hears = r
   passed = omega arith;
 }
 
-pub nothing_looped : (words : ServeWords) (lanes : List (List Got)) (start : Outside)
-    → lanes ≡ replicate (readers_wanted words.sensitive) [] → IsLooped words Memory lanes start start
-nothing_looped words lanes start same =
+pub nothing_looped : (words : ServeWords) (lanes : List (List Got)) (start : Outside) (line : LineTold)
+    → lanes ≡ replicate (readers_wanted words.sensitive) []
+    → IsReleasedSince (from_of start) words.key (new_live words) line
+    → IsLooped words Memory lanes start (record start { line = line })
+nothing_looped words lanes start line same released =
     let cut : IsCutInReading words (new_live words) (new_live words) = record {
       lanes = replicate (readers_wanted words.sensitive) [];
       more = λ lane lt. ([], sym (append-nil (lane_of (replicate (readers_wanted words.sensitive) []) lane)));
@@ -65,7 +72,7 @@ nothing_looped words lanes start same =
       no_report_fault = refl;
     } in (
       new_live words,
-      record {
+      cut_on start start line words lanes (new_live words) (record {
         run = run;
         lanes = sym same;
         turns = [];
@@ -77,8 +84,10 @@ nothing_looped words lanes start same =
         shuts = are_shut [] (new_live words).hosts served.accounted;
         gaps = served.gaps;
         size = served.size;
-      },
-      inl all,
+      }),
+      inl (as_told_on start start line words.key (new_live words)
+          (record { written = all; untold = first_untold words.key words })),
+      key_told start start line words.key false (new_live words) (first_written words words.key false start) released,
     )
 
 -- ---- the records
@@ -199,7 +208,7 @@ served words LoopFault pump end input left before after e h =
 pub has_opened : {T E : Type 0} → (words : ServeWords) (before after : Outside) (r : Result T E) (failed : Bool)
     → failed ≡ is_err r → failed ≡ false
     → ((was : List Listen) → before.listens ≡ Some was
-    → OnOk r (after.listens ≡ Some (was ++ (record { kiss = words.kiss; agw = words.agw }) ∷ [])))
+    → OnOk r (after.listens ≡ Some (was ++ words.listen ∷ [])))
     → OnlyListens before after → HasOpened words before after
 has_opened words before after (Ok v) failed e f opens only = record { opened = opens; only = only }
 has_opened words before after (Err x) failed e f opens only = absurd (false≢true (sym f ∙ e))

@@ -3,7 +3,7 @@ use Rattle.tnc_ports.proofs.Common.{zero, suc, Bool, true, false, List, ◌∷�
 use Rattle.tnc_ports.proofs.Common.{inr, Candidate, lane_of, gaps_of, readers_wanted, ServeWords, Hosts, new_hosts}
 use Rattle.tnc_ports.proofs.Common.{Asked, IsHostPart, gaps_in, AreAllGaps, AreFirstGaps, Live, new_live, with_hosts}
 use Rattle.tnc_ports.proofs.Common.{gap_line, LanesReadOn, AreHeard, HearsAll, AreTicked, MakesAll, IsTurn, AreTurns}
-use Rattle.tnc_ports.proofs.Common.{IsRun, IsCutTurn, IsCutRun}
+use Rattle.tnc_ports.proofs.Common.{IsRun, IsCutTurn, IsCutRun, IsKeyTurn, octets_sent}
 use Rattle.std.specs.Prelude.{◌≡◌, ℕ, ◌*◌, [], ◌++◌, length, map, refl}
 use Rattle.std.proofs.Common.{length-append}
 use Rattle.tnc_ports.specs.Sampled.{ServesHosts}
@@ -12,7 +12,7 @@ use Rattle.tnc_ports.proofs.LiveAccounts.{IsAccounted, accounted_new, accounted_
 use Rattle.tnc_ports.proofs.LiveAccounts.{accounted_part}
 use Rattle.tnc_ports.proofs.LiveGaps.{TellsGaps, gaps_by_frames, gaps_by_part, gaps_closed, read_gaps, first_gaps}
 use Rattle.tnc_ports.proofs.LiveGaps.{cut_gaps}
-use Rattle.tnc_ports.proofs.LiveKept.{kept_heard, kept_ticks}
+use Rattle.tnc_ports.proofs.LiveKept.{kept_heard, kept_key_turn, kept_ticks}
 use Rattle.tnc_ports.proofs.LiveSteps.{ticked_to}
 use Rattle.tnc_ports.proofs.SentLemmas.{orderly_new}
 use Rattle.tnc_ports.proofs.ServedLemmas.{sound_new}
@@ -84,15 +84,15 @@ served_heard words items read hosts heard h = record {
   size = h.size;
 }
 
-ticked_size : (monitor busy : Bool) (count : ℕ) (before after : Live) → AreTicked monitor busy count before after
-    → HasTicked before → HasTicked after
-ticked_size monitor busy zero before after ticked h = subst HasTicked (sym ticked) h
-ticked_size monitor busy (suc count) before after ticked h =
+ticked_size : (words : ServeWords) (busy : Bool) (count : ℕ) (before after : Live)
+    → AreTicked words busy count before after → HasTicked before → HasTicked after
+ticked_size words busy zero before after ticked h = subst HasTicked (sym ticked) h
+ticked_size words busy (suc count) before after ticked h =
     let one = ticked.1 in
     let sent = ap (λ (l : Live). length l.sent) one.is ∙ length-append before.sent one.air.samples in
     let ticks = ap (λ (l : Live). l.ticks) one.is in
     let size = one.size in
-    ticked_size monitor busy count ticked.0 after ticked.2 (omega (arith, h, sent, ticks, size))
+    ticked_size words busy count ticked.0 after ticked.2 (omega (arith, h, sent, ticks, size))
 
 served_hearing : (words : ServeWords) (ended : Bool) (before after : Live) → HearsAll words ended before after
     → IsServed words before → IsServed words after
@@ -101,25 +101,38 @@ served_hearing words ended before after t h =
     (served_reading words ended before t.read t.reads h))
 
 served_ticks : (words : ServeWords) (busy : Bool) (count : ℕ) (before after : Live)
-    → AreTicked words.monitor busy count before after → IsServed words before → IsServed words after
+    → AreTicked words busy count before after → IsServed words before → IsServed words after
 served_ticks words busy count before after ticked h =
-    let to = ticked_to words.monitor busy count before after ticked in
+    let to = ticked_to words busy count before after ticked in
     record {
       accounted = subst (λ asked. IsAccounted asked after.hosts) (sym to.asked)
           (kept_ticks (IsAccounted before.asked) (accounted_by_frames before.asked)
-          words.monitor busy count before after ticked h.accounted);
+          words busy count before after ticked h.accounted);
       gaps = with_gaps words before after to.lanes h.gaps
           (kept_ticks (TellsGaps (λ lane. gaps_in lane before.hosts.report))
-          (gaps_by_frames (λ lane. gaps_in lane before.hosts.report)) words.monitor busy count before after ticked
+          (gaps_by_frames (λ lane. gaps_in lane before.hosts.report)) words busy count before after ticked
           (λ lane. refl));
-      size = ticked_size words.monitor busy count before after ticked h.size;
+      size = ticked_size words busy count before after ticked h.size;
     }
+
+served_key : (words : ServeWords) (before after : Live) → IsKeyTurn words before after → IsServed words before
+    → IsServed words after
+served_key words before after t h = subst (IsServed words) (sym t.is) (record {
+  accounted = kept_key_turn (IsAccounted before.asked) (accounted_by_frames before.asked) words.key (octets_sent before)
+      before.keyed t.keyed before.hosts t.hosts t.turn h.accounted;
+  gaps = with_gaps words before (record before { keyed = t.keyed; hosts = t.hosts }) refl h.gaps
+      (kept_key_turn (TellsGaps (λ lane. gaps_in lane before.hosts.report))
+      (gaps_by_frames (λ lane. gaps_in lane before.hosts.report)) words.key (octets_sent before)
+      before.keyed t.keyed before.hosts t.hosts t.turn (λ lane. refl));
+  size = h.size;
+})
 
 pub served_making : (words : ServeWords) (ended : Bool) (before after : Live) → MakesAll words ended before after
     → IsServed words before → IsServed words after
 served_making words ended before after m h =
-    served_ticks words m.makes.busy m.count m.heard after m.makes.made
-    (served_hearing words ended before m.heard m.hears h)
+    served_ticks words m.makes.busy m.count m.keyed after m.makes.made
+    (served_key words m.heard m.keyed m.keys
+    (served_hearing words ended before m.heard m.hears h))
 
 part_gaps : (asked : Asked) (before after : Hosts) → IsHostPart asked before after → (lane : ℕ)
     → gaps_in lane after.report ≡ gaps_in lane before.report
@@ -177,8 +190,9 @@ cut_turn words before after cut h = elim cut [
     | inr more ↦ elim more [
       | inl ticking ↦
           in_part words after
-          (served_ticks words ticking.makes.busy ticking.count ticking.heard after ticking.makes.made
-          (served_hearing words ticking.ended before ticking.heard ticking.hears h))
+          (served_ticks words ticking.makes.busy ticking.count ticking.keyed after ticking.makes.made
+          (served_key words ticking.heard ticking.keyed ticking.keys
+          (served_hearing words ticking.ended before ticking.heard ticking.hears h)))
       | inr serving ↦ in_part words after (served_making words serving.0 before after serving.1 h)
     ]
   ]

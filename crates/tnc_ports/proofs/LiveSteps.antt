@@ -3,10 +3,14 @@ use Rattle.tnc_ports.proofs.Common.{Bool, true, false, Option, Some, Result, Ok,
 use Rattle.tnc_ports.proofs.Common.{[], ◌++◌, length, take, drop, get_or, refl, sym, ap, subst, ◌∙◌, arith}
 use Rattle.tnc_ports.proofs.Common.{append_assoc, append-nil, take_more, take-append-drop, Sent, Links, AirTick}
 use Rattle.tnc_ports.proofs.Common.{Candidate, ReportLine, Turning, Told, IsAsked, taken_of, octets_for, StandsFor}
-use Rattle.tnc_ports.proofs.Common.{Hosts, Asked, IsHostPart, report_text, output_octets, Live, AreHeard, AreTicked}
+use Rattle.tnc_ports.proofs.Common.{Hosts, Asked, IsHostPart, report_text, Live, AreHeard, AreTicked}
 use Rattle.tnc_ports.proofs.Common.{IsTurn, ReceivedLine, SentLine, with_lines, AreReceivedLines, AreSentLines}
-use Rattle.tnc_ports.proofs.Common.{IsFrameHeard, IsTickMade, Keeps, HearsFrames, HearsSome, Ticks, TicksAll, ServesAll}
-use Rattle.tnc_ports.proofs.Common.{AreTurns, Stream, Puts, ReportsMore, WritesMore, ServeWords}
+use Rattle.tnc_ports.proofs.Common.{IsFrameHeard, Keeps, HearsFrames, HearsSome, Ticks, TicksAll, ServesAll}
+use Rattle.tnc_ports.proofs.Common.{AreTurns, Stream, Puts, ReportsMore, WritesMore, ServeWords, From, KeyedSince}
+use Rattle.key_port.specs.declared.key_side.KeySide.{KeySide}
+use Rattle.key_port.specs.KeyTasks.{LineTold}
+use Rattle.tnc_ports.specs.SampledHeld.{KeyStands, LineStands, IsWrittenSince}
+use Rattle.tnc_ports.specs.SampledRun.{key_failed}
 use Rattle.std.proofs.Common.{zero, suc, List, ◌∷◌}
 use Rattle.std.proofs.lemmas.List.{append_cancel_left, take_all}
 use Rattle.ax25_address.specs.declared.path.Path.{Path}
@@ -18,7 +22,7 @@ use Rattle.tnc_ports.specs.Hosts.{IsHeardStep, IsTickStep}
 use Rattle.tnc_ports.specs.Sampled.{IsTicked}
 use Rattle.tnc_ports.specs.SampledFrames.{IsFrameText}
 use Rattle.tnc_ports.specs.SampledHeld.{HearsFrame}
-use Rattle.tnc_ports.proofs.LiveWrites.{both_puts, reports_more, writes_more, no_report, no_write}
+use Rattle.tnc_ports.proofs.LiveWrites.{reports_more, writes_more, no_report, no_write}
 
 -- ---- lines
 
@@ -189,57 +193,33 @@ pub hears_some_same : (items others : List Candidate) (first after : Turning) (h
     → HearsSome items first after hosts r r' → HearsSome others first after hosts r r'
 hears_some_same items others first after hosts r r' e h = subst (λ xs. HearsSome xs first after hosts r r') e h
 
+-- ---- a key to which nothing was done
+
+pub keyed_same : (from : From) (before after : Turning) (live : Live) (o o' r r' : Stream) (line line' : LineTold)
+    → o' ≡ o → r' ≡ r → line' ≡ line → after.failed ≡ before.failed → after.words ≡ before.words
+    → after.key ≡ before.key → KeyedSince from before live o r line → KeyedSince from after live o' r' line'
+keyed_same from before after live o o' r r' line line' so sr sl failed words key h = record {
+  stands = subst (λ (w : ServeWords). KeyStands w.key after.key live.keyed) (sym words)
+      (subst (λ (k : Option KeySide). KeyStands before.words.key k live.keyed) (sym key) h.stands);
+  untold = λ none. ap (λ (w : ServeWords). key_failed w.key live) words ∙ h.untold (sym failed ∙ none);
+  written = subst (λ (w : ServeWords). IsWrittenSince from w.key after.failed live o' r') (sym words)
+      (subst (λ (f : Bool). IsWrittenSince from before.words.key f live o' r') (sym failed)
+      (subst (λ (s : Stream). IsWrittenSince from before.words.key before.failed live s r') (sym so)
+      (subst (λ (s : Stream). IsWrittenSince from before.words.key before.failed live o s) (sym sr) h.written)));
+  line_stands = subst (λ (w : ServeWords). LineStands from w.key live line') (sym words)
+      (subst (λ (l : LineTold). LineStands from before.words.key live l) (sym sl) h.line_stands);
+}
+
 -- ---- a tick
 
 abbrev pub IsTicking : Bool → AirTick → HeldHosts → HeldHosts → Type 0
 IsTicking busy air before after = (hosts : Hosts) (printed : List ReportLine) → StandsFor before printed hosts
     → (next : Hosts) × IsTickStep busy air hosts next × StandsFor after printed next
 
-pub ticks_once : (busy : Bool) (air : AirTick) (before after : Turning) (between : HeldHosts) (live : Live)
-    (shown taken : List ReportLine) (mid : Bool) (wrote text : List ℕ) (o o' r r' : Stream)
-    → Keeps before.hosts live.hosts → IsTicking busy air before.hosts between → AreTakenLines between after.hosts taken
-    → ((hosts : Hosts) (printed : List ReportLine) → StandsFor after.hosts printed hosts
-    → AreSentLines before.words.monitor air.sent hosts.station.links shown)
-    → text ≡ report_text (shown ++ taken) → wrote ≡ output_octets air.samples
-    → Puts before.failed mid wrote o o' → Puts mid after.failed text r r'
-    → after.ticks ≡ live.ticks + 1 → length air.samples ≡ 96
-    → TicksAll busy 1 before after live o o' r r'
-ticks_once busy air before after between live shown taken mid wrote text o o' r r' keeps tick take sent is is_out out
-    rep count size =
-    let given = tick live.hosts live.hosts.report keeps in
-    let took = take given.0 live.hosts.report given.2 in
-    let all = live.hosts.report ++ (shown ++ taken) in
-    let hosts : Hosts = record given.0 { report = all } in
-    let next : Live = record live { hosts = hosts; ticks = live.ticks + 1; sent = live.sent ++ air.samples } in
-    let made : IsTickMade before.words.monitor busy air live.hosts hosts = record {
-      ticked = given.0;
-      step = given.1;
-      reported = taken;
-      told = took.0;
-      lines = shown;
-      shown = sent given.0 (live.hosts.report ++ taken) took.1;
-      is = refl;
-    } in
-    record {
-      next = next;
-      ticked = (next, record { air = air; hosts = hosts; step = made; size = size; is = refl }, refl);
-      writes = record {
-        lines = shown ++ taken;
-        more = refl;
-        samples = air.samples;
-        sent = refl;
-        puts = both_puts before.failed mid after.failed (output_octets air.samples) (report_text (shown ++ taken))
-            o o' r r' (subst (λ t. Puts before.failed mid t o o') is_out out)
-            (subst (λ t. Puts mid after.failed t r r') is rep);
-      };
-      keeps = relined after.hosts given.0 all (subst (λ x. StandsFor after.hosts x given.0) (sym took.0) took.1);
-      ticks = count;
-    }
-
-ticked_more : (monitor busy : Bool) (count : ℕ) (a b c : Live) → AreTicked monitor busy count a b
-    → AreTicked monitor busy 1 b c → AreTicked monitor busy (suc count) a c
-ticked_more monitor busy zero a b c h g = (g.0, subst (λ x. IsTicked monitor busy x g.0) h g.1, g.2)
-ticked_more monitor busy (suc count) a b c h g = (h.0, h.1, ticked_more monitor busy count h.0 b c h.2 g)
+ticked_more : (words : ServeWords) (busy : Bool) (count : ℕ) (a b c : Live) → AreTicked words busy count a b
+    → AreTicked words busy 1 b c → AreTicked words busy (suc count) a c
+ticked_more words busy zero a b c h g = (g.0, subst (λ x. IsTicked words busy x g.0) h g.1, g.2)
+ticked_more words busy (suc count) a b c h g = (h.0, h.1, ticked_more words busy count h.0 b c h.2 g)
 
 -- what ticks leave as it was
 pub record IsTickedTo (count : ℕ) (a b : Live) : Type 0 where
@@ -247,49 +227,59 @@ pub record IsTickedTo (count : ℕ) (a b : Live) : Type 0 where
   pub lanes : b.lanes ≡ a.lanes
   pub asked : b.asked ≡ a.asked
 
-pub ticked_to : (monitor busy : Bool) (count : ℕ) (a b : Live) → AreTicked monitor busy count a b → IsTickedTo count a b
-ticked_to monitor busy zero a b h = record {
+pub ticked_to : (words : ServeWords) (busy : Bool) (count : ℕ) (a b : Live) → AreTicked words busy count a b
+    → IsTickedTo count a b
+ticked_to words busy zero a b h = record {
   ticks = let e = ap (λ (l : Live). l.ticks) h in omega (arith, e);
   lanes = ap (λ (l : Live). l.lanes) h;
   asked = ap (λ (l : Live). l.asked) h;
 }
-ticked_to monitor busy (suc count) a b h =
-    let rest = ticked_to monitor busy count h.0 b h.2 in
+ticked_to words busy (suc count) a b h =
+    let rest = ticked_to words busy count h.0 b h.2 in
     record {
       ticks = let e = ap (λ (l : Live). l.ticks) h.1.is in let f = rest.ticks in omega (arith, e, f);
       lanes = rest.lanes ∙ ap (λ (l : Live). l.lanes) h.1.is;
       asked = rest.asked ∙ ap (λ (l : Live). l.asked) h.1.is;
     }
 
-pub ticks_more : (busy : Bool) (count tick : ℕ) (first before after : Turning) (live : Live)
-    (o o' o'' r r' r'' : Stream)
+pub ticks_more : (from : From) (busy : Bool) (count tick : ℕ) (first before after : Turning) (live : Live)
+    (o o' o'' r r' r'' : Stream) (line line' : LineTold)
     → before.words ≡ first.words → tick ≡ live.ticks + count
-    → TicksAll busy count first before live o o' r r'
-    → ((live : Live) → Keeps before.hosts live.hosts → tick ≡ live.ticks
-    → TicksAll busy 1 before after live o' o'' r' r'')
-    → TicksAll busy (suc count) first after live o o'' r r''
-ticks_more busy count tick first before after live o o' o'' r r' r'' words at h step =
-    let to = ticked_to first.words.monitor busy count live h.next h.ticked in
-    let one = step h.next h.keeps (at ∙ sym to.ticks) in
+    → TicksAll from busy count first before live o o' r r' line
+    → ((live : Live) → Keeps before.hosts live.hosts → tick ≡ live.ticks → KeyedSince from before live o' r' line
+    → TicksAll from busy 1 before after live o' o'' r' r'' line')
+    → TicksAll from busy (suc count) first after live o o'' r r'' line'
+ticks_more from busy count tick first before after live o o' o'' r r' r'' line line' words at h step =
+    let to = ticked_to first.words busy count live h.next h.ticked in
+    let one = step h.next h.keeps (at ∙ sym to.ticks) h.key in
     record {
       next = one.next;
-      ticked = ticked_more first.words.monitor busy count live h.next one.next h.ticked
-          (subst (λ w. AreTicked w.monitor busy 1 h.next one.next) words one.ticked);
+      ticked = ticked_more first.words busy count live h.next one.next h.ticked
+          (subst (λ w. AreTicked w busy 1 h.next one.next) words one.ticked);
+      key = one.key;
       writes = writes_more first.failed before.failed after.failed live h.next one.next o o' o'' r r' r'' h.writes
           one.writes;
       keeps = one.keeps;
       ticks = one.ticks;
     }
 
-pub ticks_none : (busy : Bool) (turning : Turning) (live : Live) (o r : Stream) → Keeps turning.hosts live.hosts
-    → turning.ticks ≡ live.ticks
-    → TicksAll busy 0 turning turning live o o r r
-ticks_none busy turning live o r keeps at =
-    record { next = live; ticked = refl; writes = no_write turning.failed live o r; keeps = keeps; ticks = at }
+pub ticks_none : (from : From) (busy : Bool) (turning : Turning) (live : Live) (o r : Stream) (line : LineTold)
+    → Keeps turning.hosts live.hosts → turning.ticks ≡ live.ticks → KeyedSince from turning live o r line
+    → TicksAll from busy 0 turning turning live o o r r line
+ticks_none from busy turning live o r line keeps at key = record {
+  next = live;
+  ticked = refl;
+  key = key;
+  writes = no_write turning.failed live o r;
+  keeps = keeps;
+  ticks = at;
+}
 
-pub ticks_done : (busy : Bool) (count due : ℕ) (first after : Turning) (live : Live) (o o' r r' : Stream) → count ≡ due
-    → TicksAll busy count first after live o o' r r' → TicksAll busy due first after live o o' r r'
-ticks_done busy count due first after live o o' r r' e h = subst (λ n. TicksAll busy n first after live o o' r r') e h
+pub ticks_done : (from : From) (busy : Bool) (count due : ℕ) (first after : Turning) (live : Live) (o o' r r' : Stream)
+    (line' : LineTold) → count ≡ due → TicksAll from busy count first after live o o' r r' line'
+    → TicksAll from busy due first after live o o' r r' line'
+ticks_done from busy count due first after live o o' r r' line' e h =
+    subst (λ n. TicksAll from busy n first after live o o' r r' line') e h
 
 -- how many ticks are due
 pub count_due : (count tick ticks due : ℕ) → tick ≡ ticks + count → (0 < count → tick ≤ due) → due ≤ tick
@@ -298,12 +288,15 @@ count_due zero tick ticks due a b t = omega (arith, a, t)
 count_due (suc n) tick ticks due a b t = let positive : 0 < suc n = omega arith in let h = b positive in
     omega (arith, a, h, t)
 
-pub ticks_some : (busy : Bool) (count : ℕ) (first before after : Turning) (live : Live) (o o' o'' r r' r'' : Stream)
-    → TicksAll busy count first before live o o' r r' → o'' ≡ o' → r'' ≡ r' → after.failed ≡ before.failed
-    → Ticks busy count first after live o o'' r r''
-ticks_some busy count first before after live o o' o'' r r' r'' h so sr failed = record {
+pub ticks_some : (from : From) (busy : Bool) (count : ℕ) (first before after : Turning) (live : Live)
+    (o o' o'' r r' r'' : Stream) (line line' : LineTold)
+    → TicksAll from busy count first before live o o' r r' line → o'' ≡ o' → r'' ≡ r' → line' ≡ line
+    → after.failed ≡ before.failed → after.words ≡ before.words → after.key ≡ before.key
+    → Ticks from busy count first after live o o'' r r'' line'
+ticks_some from busy count first before after live o o' o'' r r' r'' line line' h so sr sl failed words key = record {
   next = h.next;
   ticked = h.ticked;
+  key = keyed_same from before after h.next o' o'' r' r'' line line' so sr sl failed words key h.key;
   writes = subst (λ s. WritesMore first.failed after.failed live h.next o s r r'') (sym so)
       (subst (λ s. WritesMore first.failed after.failed live h.next o o' r s) (sym sr)
       (subst (λ f. WritesMore first.failed f live h.next o o' r r') (sym failed) h.writes));

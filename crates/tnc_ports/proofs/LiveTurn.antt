@@ -12,8 +12,18 @@ use Rattle.tnc_ports.specs.Sampled.{MakesTicks}
 use Rattle.tnc_ports.specs.SampledHeld.{Makes}
 use Rattle.tnc_ports.specs.SampledRun.{IsCutInHearing, IsCutInTicking}
 use Rattle.tnc_ports.proofs.AskedLemmas.{unasked}
-use Rattle.tnc_ports.proofs.LiveSteps.{ticked_to}
-use Rattle.tnc_ports.proofs.LiveWrites.{writes_more, writes_report, no_write}
+use Rattle.tnc_ports.proofs.Common.{From, IsKeyTurn, KeyWords, KeyedSince, TurnsTheKey, Got}
+use Rattle.std.specs.Prelude.{Option, Some, None}
+use Rattle.key_port.specs.declared.key_side.KeySide.{KeySide}
+use Rattle.key_port.specs.KeyEvents.{KeyEvent}
+use Rattle.key_port.specs.KeyTasks.{LineTold}
+use Rattle.tnc_ports.specs.SampledHeld.{KeyStands, LineStands, IsWrittenSince}
+use Rattle.tnc_ports.specs.SampledWrites.{ReportsMore}
+use Rattle.tnc_ports.specs.ReportText.{report_text}
+use Rattle.tnc_ports.specs.SampledRun.{key_failed}
+use Rattle.tnc_ports.proofs.KeySteps.{LineHas, failed_same, written_since, put_failed}
+use Rattle.tnc_ports.proofs.LiveSteps.{keyed_same, ticked_to}
+use Rattle.tnc_ports.proofs.LiveWrites.{writes_more, writes_report, no_write, no_report, reports_more}
 
 -- nothing is written
 pub writes_nothing : (f f' : Bool) (a b : Live) (o o' r r' : Stream) → f' ≡ f → o' ≡ o → r' ≡ r → b.sent ≡ a.sent
@@ -62,36 +72,39 @@ ticks_behind : (busy : Bool) (count least : ℕ) (before b : Turning) (len : ℕ
     (heard next : Live)
     → (answers_in len receiver ≡ heard.lanes) → (IsTrue busy ↔ IsBusyOnRing receiver.detection (answers_in len receiver))
     → receiver.detection ≡ before.words.dcd
-    → b.words ≡ before.words → AreTicked b.words.monitor busy count heard next → least ≡ least_position heard.lanes
+    → b.words ≡ before.words → AreTicked b.words busy count heard next → least ≡ least_position heard.lanes
     → heard.ticks + count ≤ least / 96 → MakesTicks before.words count heard next
 ticks_behind busy count least before b len receiver heard next lanes carrier detection words ticked is few =
-    let to = ticked_to b.words.monitor busy count heard next ticked in
+    let to = ticked_to b.words busy count heard next ticked in
     let same : least ≡ least_position next.lanes = is ∙ ap least_position (sym to.lanes) in
     record {
       busy = busy;
       carrier = subst (λ l. IsTrue busy ↔ IsBusyOnRing before.words.dcd l) lanes
           (subst (λ n. IsTrue busy ↔ IsBusyOnRing n (answers_in len receiver)) detection carrier);
-      made = subst (λ w. AreTicked w.monitor busy count heard next) words ticked;
+      made = subst (λ w. AreTicked w busy count heard next) words ticked;
       passed = subst (λ n. 96 * next.ticks ≤ n) same (let t = to.ticks in omega (arith, t, few));
     }
 
 makes_all : (ended busy : Bool) (least : ℕ) (before b : Turning) (len : ℕ) (receiver : HeldReceiver)
-    (live heard next : Live)
-    → HearsAll before.words ended live heard
-    → (answers_in len receiver ≡ heard.lanes) → (IsTrue busy ↔ IsBusyOnRing receiver.detection (answers_in len receiver))
+    (live heard keyed next : Live)
+    → HearsAll before.words ended live heard → IsKeyTurn before.words heard keyed
+    → (answers_in len receiver ≡ keyed.lanes) → (IsTrue busy ↔ IsBusyOnRing receiver.detection (answers_in len receiver))
     → receiver.detection ≡ before.words.dcd
-    → b.words ≡ before.words → AreTicked b.words.monitor busy (least / 96 - heard.ticks) heard next
-    → least ≡ least_position heard.lanes
-    → 96 * heard.ticks ≤ least → MakesAll before.words ended live next
-makes_all ended busy least before b len receiver live heard next hears lanes carrier detection words ticked is passed =
-    let to = ticked_to b.words.monitor busy (least / 96 - heard.ticks) heard next ticked in
+    → b.words ≡ before.words → AreTicked b.words busy (least / 96 - keyed.ticks) keyed next
+    → least ≡ least_position keyed.lanes
+    → 96 * keyed.ticks ≤ least → MakesAll before.words ended live next
+makes_all ended busy least before b len receiver live heard keyed next hears keys lanes carrier detection words ticked is
+    passed =
+    let to = ticked_to b.words busy (least / 96 - keyed.ticks) keyed next ticked in
     let same : least ≡ least_position next.lanes = is ∙ ap least_position (sym to.lanes) in
     record {
       heard = heard;
       hears = hears;
-      count = least / 96 - heard.ticks;
-      makes = ticks_behind busy (least / 96 - heard.ticks)
-          least before b len receiver heard next lanes carrier detection words ticked is (omega (arith, passed));
+      keyed = keyed;
+      keys = keys;
+      count = least / 96 - keyed.ticks;
+      makes = ticks_behind busy (least / 96 - keyed.ticks)
+          least before b len receiver keyed next lanes carrier detection words ticked is (omega (arith, passed));
       next = subst (λ n. n < 96 * (next.ticks + 1)) same (let t = to.ticks in omega (arith, t, passed));
     }
 
@@ -100,51 +113,136 @@ read_ticks : (ended : Bool) (least : ℕ) (items : List Candidate) (before a : T
     → (h : Reads ended least items before a len receiver live r0 r1) → h.read.ticks ≡ live.ticks
 read_ticks ended least items before a len receiver live r0 r1 h = ap (λ (l : Live). l.ticks) h.reads.is
 
+-- ---- the key meanwhile
+
+line_alike : (from : From) (key : Option KeyWords) (live next : Live) (line : LineTold) → next.keyed ≡ live.keyed
+    → LineStands from key live line → LineStands from key next line
+line_alike from None live next line same h = h
+line_alike from (Some key) live next line same h = subst (λ (events : List KeyEvent). LineHas from key events line)
+    (sym same) h
+
+-- other lanes
+relaned : (from : From) (key : Option KeyWords) (failed : Bool) (live : Live) (lanes : List (List Got)) (o r : Stream)
+    → IsWrittenSince from key failed live o r → IsWrittenSince from key failed (record live { lanes = lanes }) o r
+relaned from key failed live lanes o r h = written_since from key failed failed live (record live { lanes = lanes }) o r r
+    refl refl refl (no_report failed live.hosts r) h
+
+-- what the readers and the frames report is written, and the key did nothing
+keyed_heard : (from : From) (before b : Turning) (live next : Live) (o r r' : Stream) (line : LineTold)
+    → b.words ≡ before.words → b.key ≡ before.key → next.sent ≡ live.sent → next.whole ≡ live.whole
+    → next.keyed ≡ live.keyed → ReportsMore before.failed b.failed live.hosts next.hosts r r'
+    → KeyedSince from before live o r line → KeyedSince from b next o r' line
+keyed_heard from before b live next o r r' line words key sent whole keyed writes h = record {
+  stands = subst (λ (w : ServeWords). KeyStands w.key b.key next.keyed) (sym words)
+      (subst (λ (k : Option KeySide). KeyStands before.words.key k next.keyed) (sym key)
+      (subst (λ (events : List KeyEvent). KeyStands before.words.key before.key events) (sym keyed) h.stands));
+  untold = λ none. ap (λ (w : ServeWords). key_failed w.key next) words
+      ∙ failed_same before.words.key live next keyed
+      ∙ h.untold (put_failed before.failed b.failed (report_text writes.lines) r r' writes.puts none);
+  written = subst (λ (w : ServeWords). IsWrittenSince from w.key b.failed next o r') (sym words)
+      (written_since from before.words.key before.failed b.failed live next o r r' sent whole keyed writes h.written);
+  line_stands = subst (λ (w : ServeWords). LineStands from w.key next line) (sym words)
+      (line_alike from before.words.key live next line keyed h.line_stands);
+}
+
 -- ---- a whole turn
 
-pub all_made : (ended busy : Bool) (least : ℕ) (items : List Candidate) (before a b c : Turning) (len : ℕ)
-    (old receiver : HeldReceiver) (live : Live) (o o' r0 r1 r2 r3 : Stream)
-    → StandsForLive before len old live
+-- up to the key's turn
+pub record Keyed (from : From) (ended : Bool) (least : ℕ) (before k : Turning) (len : ℕ) (receiver : HeldReceiver)
+    (live : Live) (o r0 r3 : Stream) (line : LineTold) : Type 0 where
+  pub heard : Live
+  pub hears : HearsAll before.words ended live heard
+  pub next : Live
+  pub keys : IsKeyTurn before.words heard next
+  pub keeps : Keeps k.hosts next.hosts
+  pub key : KeyedSince from k next o r3 line
+  pub lanes : answers_in len receiver ≡ next.lanes
+  pub is_least : least ≡ least_position next.lanes
+  pub ticks : next.ticks ≡ live.ticks
+  pub asked : next.asked ≡ live.asked
+  pub writes : WritesMore before.failed k.failed live next o o r0 r3
+
+keyed_up_to : (from : From) (ended : Bool) (least : ℕ) (items : List Candidate) (before a b k : Turning) (len : ℕ)
+    (receiver : HeldReceiver) (live : Live) (o r0 r1 r2 r3 : Stream) (line line1 : LineTold)
+    → KeyedSince from before live o r0 line
     → Reads ended least items before a len receiver live r0 r1
     → ((hosts : Hosts) → Keeps a.hosts hosts → HearsFrames items a b hosts r1 r2)
-    → ((live : Live) → Keeps b.hosts live.hosts → b.ticks ≡ live.ticks
-    → TicksAll busy (least / 96 - live.ticks) b c live o o' r2 r3)
-    → ((n : ℕ) → EightListen n receiver → IsTrue busy ↔ IsBusyOnRing receiver.detection (answers_in n receiver))
-    → receiver.detection ≡ before.words.dcd
-    → a.words ≡ before.words → b.words ≡ a.words → a.ticks ≡ before.ticks → b.ticks ≡ a.ticks
-    → Makes ended before c len receiver live o o' r0 r3
-all_made ended busy least items before a b c len old receiver live o o' r0 r1 r2 r3 stands reads hear
-    tick carrier detection wa wb ta tb =
+    → ((live : Live) → Keeps b.hosts live.hosts → KeyedSince from b live o r2 line
+    → TurnsTheKey from b k live o r2 r3 line1)
+    → a.words ≡ before.words → b.words ≡ a.words → a.key ≡ before.key → b.key ≡ a.key
+    → Keyed from ended least before k len receiver live o r0 r3 line1
+keyed_up_to from ended least items before a b k len receiver live o r0 r1 r2 r3 line line1 key reads hear turn wa wb ka
+    kb =
     let h = hear reads.read.hosts reads.keeps in
     let heard : Live = with_hosts h.next reads.read in
-    let at : reads.read.ticks ≡ live.ticks = read_ticks ended least items before a len receiver live r0 r1 reads in
-    let bt : b.ticks ≡ heard.ticks = tb ∙ ta ∙ stands.ticks ∙ sym at in
-    let t = tick heard h.keeps bt in
-    let to = ticked_to b.words.monitor busy (least / 96 - heard.ticks) heard t.next t.ticked in
-    let passed : 96 * heard.ticks ≤ least = let p = stands.passed in let f = reads.forward in omega (arith, p, f, at) in
+    let both = reports_more before.failed a.failed b.failed live.hosts reads.read.hosts h.next r0 r1 r2 reads.writes
+    h.writes in
+    let is = reads.reads.is in
+    let keyed_b = keyed_heard from before b live heard o r0 r2 line (wb ∙ wa) (kb ∙ ka)
+    (ap (λ (l : Live). l.sent) is) (ap (λ (l : Live). l.whole) is) (ap (λ (l : Live). l.keyed) is) both key in
+    let t = turn heard h.keeps keyed_b in
+    let to = t.turn.is in
     record {
-      made = t.next;
-      makes = makes_all ended busy least before b len receiver live heard t.next
-          (hears_all ended least items before a b len receiver live r0 r1 r2 reads h wa)
-          reads.lanes (carrier len reads.listens) detection (wb ∙ wa) t.ticked reads.is_least passed;
-      lanes = reads.lanes ∙ sym to.lanes;
-      sensitive = reads.sensitive;
-      hears = reads.hears;
-      ends = λ e. subst HaveEnded (sym to.lanes) (reads.ends e);
+      heard = heard;
+      hears = hears_all ended least items before a b len receiver live r0 r1 r2 reads h wa;
+      next = t.next;
+      keys = subst (λ (w : ServeWords). IsKeyTurn w heard t.next) (wb ∙ wa) t.turn;
       keeps = t.keeps;
-      ticks = t.ticks;
-      asked = to.asked ∙ ap (λ (l : Live). l.asked) reads.reads.is;
-      writes = writes_more before.failed b.failed c.failed live heard t.next o o o' r0 r2 r3
-          (heard_writes ended least items before a b len receiver live o r0 r1 r2 reads h) t.writes;
+      key = t.key;
+      lanes = reads.lanes ∙ sym (ap (λ (l : Live). l.lanes) to);
+      is_least = reads.is_least ∙ ap least_position (sym (ap (λ (l : Live). l.lanes) to));
+      ticks = ap (λ (l : Live). l.ticks) to ∙ read_ticks ended least items before a len receiver live r0 r1 reads;
+      asked = ap (λ (l : Live). l.asked) to ∙ ap (λ (l : Live). l.asked) is;
+      writes = writes_report before.failed k.failed live t.next o r0 r3
+          (ap (λ (l : Live). l.sent) to ∙ ap (λ (l : Live). l.sent) is)
+          (reports_more before.failed b.failed k.failed live.hosts heard.hosts t.next.hosts r0 r2 r3 both t.writes);
     }
 
-pub whole_turn : (ended : Bool) (before c d : Turning) (len : ℕ) (receiver : HeldReceiver) (live : Live)
-    (o o' r0 r3 r4 : Stream) (told told' : Told)
-    → Makes ended before c len receiver live o o' r0 r3
+pub all_made : (from : From) (ended busy : Bool) (least : ℕ) (items : List Candidate) (before a b k c : Turning)
+    (len : ℕ) (old receiver : HeldReceiver) (live : Live) (o o' r0 r1 r2 r3 r4 : Stream) (line line1 line2 : LineTold)
+    → StandsForLive before len old live → KeyedSince from before live o r0 line
+    → Reads ended least items before a len receiver live r0 r1
+    → ((hosts : Hosts) → Keeps a.hosts hosts → HearsFrames items a b hosts r1 r2)
+    → ((live : Live) → Keeps b.hosts live.hosts → KeyedSince from b live o r2 line
+    → TurnsTheKey from b k live o r2 r3 line1)
+    → ((live : Live) → Keeps k.hosts live.hosts → k.ticks ≡ live.ticks → KeyedSince from k live o r3 line1
+    → TicksAll from busy (least / 96 - live.ticks) k c live o o' r3 r4 line2)
+    → ((n : ℕ) → EightListen n receiver → IsTrue busy ↔ IsBusyOnRing receiver.detection (answers_in n receiver))
+    → receiver.detection ≡ before.words.dcd
+    → a.words ≡ before.words → b.words ≡ a.words → k.words ≡ b.words → a.key ≡ before.key → b.key ≡ a.key
+    → a.ticks ≡ before.ticks → b.ticks ≡ a.ticks → k.ticks ≡ b.ticks
+    → Makes from ended before c len receiver live o o' r0 r4 line2
+all_made from ended busy least items before a b k c len old receiver live o o' r0 r1 r2 r3 r4 line line1 line2 stands key
+    reads hear turn tick carrier detection wa wb wk ka kb ta tb tk =
+    let up = keyed_up_to from ended least items before a b k len receiver live o r0 r1 r2 r3 line line1 key reads hear
+    turn wa wb ka kb in
+    let kt : k.ticks ≡ up.next.ticks = tk ∙ tb ∙ ta ∙ stands.ticks ∙ sym up.ticks in
+    let t = tick up.next up.keeps kt up.key in
+    let to = ticked_to k.words busy (least / 96 - up.next.ticks) up.next t.next t.ticked in
+    let passed : 96 * up.next.ticks ≤ least =
+    (let p = stands.passed in let f = reads.forward in let at = up.ticks in omega (arith, p, f, at)) in
+    record {
+      made = t.next;
+      makes = makes_all ended busy least before k len receiver live up.heard up.next t.next up.hears up.keys
+          up.lanes (carrier len reads.listens) detection (wk ∙ wb ∙ wa) t.ticked up.is_least passed;
+      lanes = up.lanes ∙ sym to.lanes;
+      sensitive = reads.sensitive;
+      hears = reads.hears;
+      ends = λ e. subst HaveEnded (sym reads.lanes ∙ up.lanes ∙ sym to.lanes) (reads.ends e);
+      keeps = t.keeps;
+      ticks = t.ticks;
+      asked = to.asked ∙ up.asked;
+      key = t.key;
+      writes = writes_more before.failed k.failed c.failed live up.next t.next o o o' r0 r3 r4 up.writes t.writes;
+    }
+
+pub whole_turn : (from : From) (ended : Bool) (before c d : Turning) (len : ℕ) (receiver : HeldReceiver) (live : Live)
+    (o o' r0 r3 r4 : Stream) (told told' : Told) (line : LineTold)
+    → Makes from ended before c len receiver live o o' r0 r3 line
     → ((hosts : Hosts) → Keeps c.hosts hosts → ServesAll c d hosts r3 r4 told told')
-    → d.ticks ≡ c.ticks → c.words ≡ before.words → d.words ≡ c.words
-    → Turns ended before d len receiver live o o' r0 r4 told told'
-whole_turn ended before c d len receiver live o o' r0 r3 r4 told told' m serve td wc wd =
+    → d.ticks ≡ c.ticks → c.words ≡ before.words → d.words ≡ c.words → d.key ≡ c.key
+    → Turns from ended before d len receiver live o o' r0 r4 told told' line
+whole_turn from ended before c d len receiver live o o' r0 r3 r4 told told' line m serve td wc wd kd =
     let s = serve m.made.hosts m.keeps in
     let next : Live = record m.made { hosts = s.next; asked = m.made.asked ++ s.asked ∷ [] } in
     record {
@@ -168,6 +266,7 @@ whole_turn ended before c d len receiver live o o' r0 r3 r4 told told' m serve t
       };
       over = m.ends;
       lanes = m.lanes;
+      key = keyed_heard from c d m.made next o' r3 r4 line wd kd refl refl refl s.writes m.key;
       writes = writes_more before.failed c.failed d.failed live m.made next o o' o' r0 r3 r4
           m.writes (writes_report c.failed d.failed m.made next o' r3 r4 refl s.writes);
       asked = s.asked;
@@ -177,29 +276,43 @@ whole_turn ended before c d len receiver live o o' r0 r3 r4 told told' m serve t
 
 -- ---- turns that are cut short
 
-pub cut_reading : (before a : Turning) (len : ℕ) (receiver : HeldReceiver) (live : Live) (o r0 r1 : Stream)
-    (told : Told)
+pub cut_reading : (from : From) (before a : Turning) (len : ℕ) (receiver : HeldReceiver) (live : Live) (o r0 r1 : Stream)
+    (told : Told) (line : LineTold)
+    → KeyedSince from before live o r0 line
     → IsCutInReading before.words live (record live { lanes = answers_in len receiver }) → a.failed ≡ before.failed
-    → r1 ≡ r0
-    → IsCutOff before a len receiver live o o r0 r1 told told
-cut_reading before a len receiver live o r0 r1 told cut failed same = record {
+    → a.words ≡ before.words → a.key ≡ before.key → r1 ≡ r0
+    → IsCutOff from before a len receiver live o o r0 r1 told told line
+cut_reading from before a len receiver live o r0 r1 told line key cut failed words same_key same = record {
   next = record live { lanes = answers_in len receiver };
   cut = inl cut;
   lanes = refl;
+  key = keyed_same from before a (record live { lanes = answers_in len receiver }) o o r0 r1 line line refl same refl
+      failed words same_key (record {
+        stands = key.stands;
+        untold = λ none. failed_same before.words.key live (record live { lanes = answers_in len receiver }) refl
+            ∙ key.untold none;
+        written = relaned from before.words.key before.failed live
+            (answers_in len receiver) o r0 key.written;
+        line_stands = line_alike from before.words.key live
+            (record live { lanes = answers_in len receiver }) line refl key.line_stands;
+      });
   writes = writes_nothing before.failed a.failed live (record live { lanes = answers_in len receiver })
       o o r0 r1 failed refl same refl refl;
   asks = refl;
   tells = inl (unasked told);
 }
 
-pub cut_hearing : (ended : Bool) (least : ℕ) (items : List Candidate) (before a b : Turning) (len : ℕ)
-    (receiver : HeldReceiver) (live : Live) (o r0 r1 r2 : Stream) (told : Told)
+pub cut_hearing : (from : From) (ended : Bool) (least : ℕ) (items : List Candidate) (before a b : Turning) (len : ℕ)
+    (receiver : HeldReceiver) (live : Live) (o r0 r1 r2 : Stream) (told : Told) (line : LineTold)
+    → KeyedSince from before live o r0 line
     → Reads ended least items before a len receiver live r0 r1
     → ((hosts : Hosts) → Keeps a.hosts hosts → HearsSome items a b hosts r1 r2)
-    → a.words ≡ before.words → IsCutOff before b len receiver live o o r0 r2 told told
-cut_hearing ended least items before a b len receiver live o r0 r1 r2 told reads hear words =
+    → a.words ≡ before.words → b.words ≡ a.words → a.key ≡ before.key → b.key ≡ a.key
+    → IsCutOff from before b len receiver live o o r0 r2 told told line
+cut_hearing from ended least items before a b len receiver live o r0 r1 r2 told line key reads hear wa wb ka kb =
     let h = hear reads.read.hosts reads.keeps in
     let next : Live = with_hosts h.next reads.read in
+    let is = reads.reads.is in
     let cut : IsCutInHearing before.words live next = record {
       ended = ended;
       read = reads.read;
@@ -208,55 +321,62 @@ cut_hearing ended least items before a b len receiver live o r0 r1 r2 told reads
       others = h.others;
       due = subst (AreDueBy before.words.sensitive ended live.lanes reads.read.lanes) h.parts reads.due;
       hosts = h.next;
-      hears = subst (λ w. AreHeard w.monitor h.first reads.read.hosts h.next) words h.heard;
+      hears = subst (λ w. AreHeard w.monitor h.first reads.read.hosts h.next) wa h.heard;
       is = refl;
     } in
     record {
       next = next;
       cut = inr (inl cut);
       lanes = reads.lanes;
+      key = keyed_heard from before b live next o r0 r2 line (wb ∙ wa) (kb ∙ ka) (ap (λ (l : Live). l.sent) is)
+          (ap (λ (l : Live). l.whole) is) (ap (λ (l : Live). l.keyed) is)
+          (reports_more before.failed a.failed b.failed live.hosts reads.read.hosts h.next r0 r1 r2 reads.writes h.writes)
+          key;
       writes = writes_more before.failed a.failed b.failed live reads.read next o o o r0 r1 r2
-          (writes_report before.failed a.failed live reads.read o r0 r1 (ap (λ (l : Live). l.sent) reads.reads.is)
-          reads.writes)
+          (writes_report before.failed a.failed live reads.read o r0 r1 (ap (λ (l : Live). l.sent) is) reads.writes)
           (writes_report a.failed b.failed reads.read next o r1 r2 refl h.writes);
-      asks = ap (λ (l : Live). l.asked) reads.reads.is;
+      asks = ap (λ (l : Live). l.asked) is;
       tells = inl (unasked told);
     }
 
-pub cut_ticking : (ended busy : Bool) (least : ℕ) (items : List Candidate) (before a b c : Turning) (len : ℕ)
-    (old receiver : HeldReceiver) (live : Live) (o o' r0 r1 r2 r3 : Stream) (told : Told)
-    → StandsForLive before len old live
+pub cut_ticking : (from : From) (ended busy : Bool) (least : ℕ) (items : List Candidate) (before a b k c : Turning)
+    (len : ℕ) (old receiver : HeldReceiver) (live : Live) (o o' r0 r1 r2 r3 r4 : Stream) (told : Told)
+    (line line1 line2 : LineTold)
+    → StandsForLive before len old live → KeyedSince from before live o r0 line
     → Reads ended least items before a len receiver live r0 r1
     → ((hosts : Hosts) → Keeps a.hosts hosts → HearsFrames items a b hosts r1 r2)
-    → ((live : Live) → Keeps b.hosts live.hosts → b.ticks ≡ live.ticks
-    → (count : ℕ) × (live.ticks + count ≤ least / 96) × Ticks busy count b c live o o' r2 r3)
+    → ((live : Live) → Keeps b.hosts live.hosts → KeyedSince from b live o r2 line
+    → TurnsTheKey from b k live o r2 r3 line1)
+    → ((live : Live) → Keeps k.hosts live.hosts → k.ticks ≡ live.ticks → KeyedSince from k live o r3 line1
+    → (count : ℕ) × (live.ticks + count ≤ least / 96) × Ticks from busy count k c live o o' r3 r4 line2)
     → ((n : ℕ) → EightListen n receiver → IsTrue busy ↔ IsBusyOnRing receiver.detection (answers_in n receiver))
     → receiver.detection ≡ before.words.dcd
-    → a.words ≡ before.words → b.words ≡ a.words → a.ticks ≡ before.ticks → b.ticks ≡ a.ticks
-    → IsCutOff before c len receiver live o o' r0 r3 told told
-cut_ticking ended busy least items before a b c len old receiver live o o' r0 r1 r2 r3 told stands reads hear tick
-    carrier detection wa wb ta tb =
-    let h = hear reads.read.hosts reads.keeps in
-    let heard : Live = with_hosts h.next reads.read in
-    let at : reads.read.ticks ≡ live.ticks = read_ticks ended least items before a len receiver live r0 r1 reads in
-    let bt : b.ticks ≡ heard.ticks = tb ∙ ta ∙ stands.ticks ∙ sym at in
-    let t = tick heard h.keeps bt in
-    let to = ticked_to b.words.monitor busy t.0 heard t.2.next t.2.ticked in
+    → a.words ≡ before.words → b.words ≡ a.words → k.words ≡ b.words → a.key ≡ before.key → b.key ≡ a.key
+    → a.ticks ≡ before.ticks → b.ticks ≡ a.ticks → k.ticks ≡ b.ticks
+    → IsCutOff from before c len receiver live o o' r0 r4 told told line2
+cut_ticking from ended busy least items before a b k c len old receiver live o o' r0 r1 r2 r3 r4 told line line1 line2
+    stands key reads hear turn tick carrier detection wa wb wk ka kb ta tb tk =
+    let up = keyed_up_to from ended least items before a b k len receiver live o r0 r1 r2 r3 line line1 key reads hear
+    turn wa wb ka kb in
+    let t = tick up.next up.keeps (tk ∙ tb ∙ ta ∙ stands.ticks ∙ sym up.ticks) up.key in
+    let to = ticked_to k.words busy t.0 up.next t.2.next t.2.ticked in
     let cut : IsCutInTicking before.words live t.2.next = record {
       ended = ended;
-      heard = heard;
-      hears = hears_all ended least items before a b len receiver live r0 r1 r2 reads h wa;
+      heard = up.heard;
+      hears = up.hears;
+      keyed = up.next;
+      keys = up.keys;
       count = t.0;
-      makes = ticks_behind busy t.0 least before b len receiver heard t.2.next reads.lanes (carrier len reads.listens)
-          detection (wb ∙ wa) t.2.ticked reads.is_least t.1;
+      makes = ticks_behind busy t.0 least before k len receiver up.next t.2.next up.lanes (carrier len reads.listens)
+          detection (wk ∙ wb ∙ wa) t.2.ticked up.is_least t.1;
     } in
     record {
       next = t.2.next;
       cut = inr (inr (inl cut));
-      lanes = reads.lanes ∙ sym to.lanes;
-      writes = writes_more before.failed b.failed c.failed live heard t.2.next o o o' r0 r2 r3
-          (heard_writes ended least items before a b len receiver live o r0 r1 r2 reads h) t.2.writes;
-      asks = to.asked ∙ ap (λ (l : Live). l.asked) reads.reads.is;
+      lanes = up.lanes ∙ sym to.lanes;
+      key = t.2.key;
+      writes = writes_more before.failed k.failed c.failed live up.next t.2.next o o o' r0 r3 r4 up.writes t.2.writes;
+      asks = to.asked ∙ up.asked;
       tells = inl (unasked told);
     }
 
@@ -268,15 +388,17 @@ in_serving words ended before made told told' makes (inl none) = inl none
 in_serving words ended before made told told' makes (inr some) =
     inr (some.0, some.1, record { ended = ended; makes = makes; part = some.2 }, some.3)
 
-pub cut_serving : (ended : Bool) (before c d : Turning) (len : ℕ) (receiver : HeldReceiver) (live : Live)
-    (o o' r0 r3 r4 : Stream) (told told' : Told)
-    → Makes ended before c len receiver live o o' r0 r3
-    → d.failed ≡ c.failed → r4 ≡ r3 → ((hosts : Hosts) → Keeps c.hosts hosts → HasCutPart hosts told told')
-    → IsCutOff before d len receiver live o o' r0 r4 told told'
-cut_serving ended before c d len receiver live o o' r0 r3 r4 told told' m failed same cut = record {
+pub cut_serving : (from : From) (ended : Bool) (before c d : Turning) (len : ℕ) (receiver : HeldReceiver) (live : Live)
+    (o o' r0 r3 r4 : Stream) (told told' : Told) (line : LineTold)
+    → Makes from ended before c len receiver live o o' r0 r3 line
+    → d.failed ≡ c.failed → d.words ≡ c.words → d.key ≡ c.key → r4 ≡ r3
+    → ((hosts : Hosts) → Keeps c.hosts hosts → HasCutPart hosts told told')
+    → IsCutOff from before d len receiver live o o' r0 r4 told told' line
+cut_serving from ended before c d len receiver live o o' r0 r3 r4 told told' line m failed words key same cut = record {
   next = m.made;
   cut = inr (inr (inr (ended, m.makes)));
   lanes = m.lanes;
+  key = keyed_same from c d m.made o' o' r3 r4 line line refl same refl failed words key m.key;
   writes = writes_more before.failed c.failed d.failed live m.made m.made o o' o' r0 r3 r4
       m.writes (writes_nothing c.failed d.failed m.made m.made o' o' r3 r4 failed refl same refl refl);
   asks = m.asked;

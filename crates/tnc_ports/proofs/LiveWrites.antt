@@ -104,7 +104,7 @@ both_both false true false a b t u o o' o'' r r' r'' h g = absurd (false≢true 
 
 -- ---- of hosts and of a live station
 
-report_text-append : (xs ys : List ReportLine) → report_text (xs ++ ys) ≡ report_text xs ++ report_text ys
+pub report_text-append : (xs ys : List ReportLine) → report_text (xs ++ ys) ≡ report_text xs ++ report_text ys
 report_text-append xs ys = flat_map-append ended_line xs ys
 
 reports_none : (failed : Bool) (hosts : Hosts) (r : Stream) → ReportsMore failed failed hosts hosts r r

@@ -1,5 +1,5 @@
 -- A pump that publishes the samples of each read before the next one.
-use Rattle.tnc_ports.proofs.Common.{ℤ, ◌⊎◌, List, ◌∷◌, Option, Some, None, flat_map, sym, ap, ◌∙◌, subst, append_assoc}
+use Rattle.tnc_ports.proofs.Common.{ℤ, ◌⊎◌, List, ◌∷◌, Option, Some, None, sym, ap, ◌∙◌, subst, append_assoc}
 use Rattle.tnc_ports.proofs.Common.{inl, inr, flat_map-append, append-nil, samples, Step, Publishes, odd_octet}
 use Rattle.std.specs.Prelude.{◌≡◌, ℕ, [], ◌++◌, map, refl}
 use Rattle.tnc_ports.specs.Inlet.{octets_of_step, samples_of_step, octets_read, samples_published, AreAllPublished}

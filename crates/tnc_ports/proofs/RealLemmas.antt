@@ -1,9 +1,9 @@
 -- The ids of the connections of the system's sockets.
-use Rattle.tnc_ports.proofs.Common.{◌≢◌, ◌⊎◌, zero, suc, ◌==◌, ◌||◌, Bool, true, false, List, ◌∷◌, All, filter}
-use Rattle.tnc_ports.proofs.Common.{if◌then◌else◌, flat_map, sym, ap, subst, ◌∙◌, append_assoc, arith, get_or, set}
+use Rattle.tnc_ports.proofs.Common.{zero, suc, ◌==◌, ◌||◌, Bool, true, false, List, ◌∷◌, All, filter}
+use Rattle.tnc_ports.proofs.Common.{sym, ap, subst, ◌∙◌, append_assoc, arith, get_or, set}
 use Rattle.tnc_ports.proofs.Common.{eq-eqb, ne_eqb, or_left, or_right, false≢true, flat_map-append, append-nil}
-use Rattle.tnc_ports.proofs.Common.{length-map, All-append, HostEvent, Joined, PortKind, Kiss, Agw, Socket, is_among}
-use Rattle.tnc_ports.proofs.Common.{ids_of_sockets, Rise, joined_ids, Admits, MayCome, is_octets_of}
+use Rattle.tnc_ports.proofs.Common.{length-map, All-append, HostEvent, PortKind, Kiss, Agw, Socket, is_among}
+use Rattle.tnc_ports.proofs.Common.{ids_of_sockets, Rise, joined_ids, Admits, MayCome}
 use Rattle.std.specs.Prelude.{◌≡◌, ℕ, ◌+◌, ◌<◌, ◌≤◌, [], ◌++◌, length, map, refl}
 use Rattle.std.specs.List.{range_with_len}
 use Rattle.std.proofs.Common.{cond}

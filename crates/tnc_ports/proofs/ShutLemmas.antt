@@ -1,6 +1,6 @@
 -- Connections that go.
 use Rattle.tnc_ports.proofs.Common.{◌==◌, true, false, not, ◌∷◌, filter, All, list_any, sym, ◌∙◌, ap, subst, arith}
-use Rattle.tnc_ports.proofs.Common.{eqb-true, and_parts, length-append, list_any-append, HostParts, ClosedLine, Untaken}
+use Rattle.tnc_ports.proofs.Common.{and_parts, HostParts, ClosedLine, Untaken}
 use Rattle.tnc_ports.proofs.Common.{Narrows, is_named, weight, is_line_of, is_among}
 use Rattle.std.specs.Prelude.{◌≡◌, ℕ, ◌+◌, ◌≤◌, [], ◌++◌, length}
 use Rattle.std.proofs.lemmas.List.Elements.{All-filter}

@@ -1,6 +1,6 @@
 -- What comes from connections, one after another.
 use Rattle.tnc_ports.proofs.Common.{◌==◌, ◌||◌, Bool, true, false, List, ◌∷◌, list_any, sym, ◌∙◌, ap, subst, arith, inl}
-use Rattle.tnc_ports.proofs.Common.{inr, eqb-true, or_left, false≢true, true≢false, append-nil, All-append}
+use Rattle.tnc_ports.proofs.Common.{inr, or_left, append-nil}
 use Rattle.tnc_ports.proofs.Common.{list_any-append, Joined, Bytes, Left, PortKind, IsHostTurn, HostParts, ReportLine}
 use Rattle.tnc_ports.proofs.Common.{AreParts, Moves, MovesBy, IsKnown, is_known, Hosts, without, was_there, is_line_of}
 use Rattle.tnc_ports.proofs.Common.{is_among, IsStep, InOrder, HasToWait, AreTaken, joining, is_within}

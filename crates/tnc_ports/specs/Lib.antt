@@ -18,7 +18,9 @@ pub mod HeldHosts
 pub mod ReportText
 pub mod SampledFrames
 pub mod ServedHosts
+pub mod KeyTurns
 pub mod Sampled
+pub mod Unkeyed
 pub mod ReportedGaps
 pub mod SampledRun
 pub mod FreshReceiver
@@ -26,3 +28,4 @@ pub mod SampledWrites
 pub mod SampledHeld
 pub mod ServeRun
 pub mod SampledPump
+pub mod KeyLaws

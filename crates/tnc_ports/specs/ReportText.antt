@@ -5,6 +5,8 @@ use Rattle.std.specs.List.{flat_map}
 use Rattle.byteorder.specs.Endian.{little_bytes}
 use Rattle.tnc_ports.specs.declared.report_line.ReportLine.{ReportLine}
 use Rattle.tnc_ports.specs.declared.report_line.ReportLine.TheVariants.{GapLine, ClosedLine, ReceivedLine, SentLine}
+use Rattle.tnc_ports.specs.declared.report_line.ReportLine.TheVariants.{KeyLine}
+use Rattle.keying.specs.Texts.{report_text as key_text}
 
 -- ---- the report
 
@@ -15,6 +17,7 @@ line_text (GapLine lane from to) =
 line_text (ClosedLine id) = codes "closed " ++ decimal id
 line_text (ReceivedLine text) = codes "rx " ++ text
 line_text (SentLine text) = codes "tx " ++ text
+line_text (KeyLine report) = key_text report
 
 -- a line, and the line feed that ends it
 abbrev pub ended_line : ReportLine → List ℕ

@@ -2,8 +2,9 @@
 -- have read are heard, the ticks that every reader has passed are made, and the hosts are served. The samples are the
 -- only clock: a tick of 10 ms is 96 of them. Each of the eight lanes has a reader of its own, and the added lanes share
 -- a ninth.
-use Rattle.std.specs.Prelude.{◌≡◌, ℕ, zero, suc, ℤ, ◌+◌, ◌*◌, ◌<◌, ◌≤◌, ◌↔◌, Bool, IsTrue, List, [], ◌∷◌, ◌++◌, length}
-use Rattle.std.specs.Prelude.{map, All, replicate}
+use Rattle.std.specs.Prelude.{◌≡◌, ℕ, zero, suc, ℤ, ◌+◌, ◌*◌, ◌<◌, ◌≤◌, ◌↔◌, ◌||◌, Bool, IsTrue, List, [], ◌∷◌, ◌++◌}
+use Rattle.std.specs.Prelude.{length, map, All, replicate}
+use Rattle.key_port.specs.KeyEvents.{KeyEvent}
 use Rattle.sample_ring.specs.declared.got.Got.{Got}
 use Rattle.frame_merge.specs.declared.candidate.Candidate.{Candidate}
 use Rattle.slicer_bank.specs.declared.advance.LaneGap.{LaneGap}
@@ -18,6 +19,7 @@ use Rattle.tnc_ports.specs.declared.report_line.ReportLine.TheVariants.{GapLine}
 use Rattle.tnc_ports.specs.declared.serve_words.ServeWords.{ServeWords}
 use Rattle.tnc_ports.specs.Hosts.{Hosts, new_hosts}
 use Rattle.tnc_ports.specs.HostTurns.{Asked, IsHostPart}
+use Rattle.tnc_ports.specs.KeyTurns.{Whole, nothing_written, TurnsKeyIf, TicksKeyIf, is_held}
 use Rattle.tnc_ports.specs.SampledFrames.{with_lines, IsFrameHeard, IsTickMade}
 
 -- all that a live station has done so far
@@ -30,6 +32,10 @@ pub record Live : Type 0 where
   pub sent : List ℤ
   -- what the ports were asked and gave, turn by turn
   pub asked : List Asked
+  -- what the key did, the newest event first; nothing if no key was asked for
+  pub keyed : List KeyEvent
+  -- how much there was to write when the key was last told that no write has failed
+  pub whole : Whole
 
 -- before the first turn
 abbrev pub new_live : ServeWords → Live
@@ -39,7 +45,13 @@ new_live words = record {
   ticks = 0;
   sent = [];
   asked = [];
+  keyed = [];
+  whole = nothing_written;
 }
+
+-- how many octets of the output the run has written, if no write failed
+abbrev pub octets_sent : Live → ℕ
+octets_sent live = 2 * length live.sent
 
 abbrev pub with_hosts : Hosts → Live → Live
 with_hosts hosts live = record live { hosts = hosts }
@@ -86,34 +98,55 @@ pub record HearsAll (words : ServeWords) (ended : Bool) (before after : Live) : 
 abbrev pub tick_samples : ℕ
 tick_samples = 96
 
--- one tick
-pub record IsTicked (monitor busy : Bool) (before after : Live) : Type 0 where
+-- One tick. To the station the channel is busy also while its transmitter cannot be keyed. What the key reports of the
+-- tick stands after what the station does.
+pub record IsTicked (words : ServeWords) (busy : Bool) (before after : Live) : Type 0 where
   pub air : AirTick
-  pub hosts : Hosts
-  pub step : IsTickMade monitor busy air before.hosts hosts
+  pub made : Hosts
+  pub step : IsTickMade words.monitor (busy || is_held words.key before.keyed) air before.hosts made
   pub size : length air.samples ≡ tick_samples
-  pub is : after ≡ record before { hosts = hosts; ticks = before.ticks + 1; sent = before.sent ++ air.samples }
+  pub keyed : List KeyEvent
+  pub whole : Whole
+  pub hosts : Hosts
+  pub key : TicksKeyIf words.key (octets_sent before) air.samples before.keyed keyed before.whole whole made hosts
+  pub is : after ≡ record before {
+    hosts = hosts;
+    keyed = keyed;
+    whole = whole;
+    ticks = before.ticks + 1;
+    sent = before.sent ++ air.samples;
+  }
 
 -- so many
-abbrev pub AreTicked : Bool → Bool → ℕ → Live → Live → Type 0
-AreTicked monitor busy zero before after = after ≡ before
-AreTicked monitor busy (suc count) before after =
-    (between : Live) × IsTicked monitor busy before between × AreTicked monitor busy count between after
+abbrev pub AreTicked : ServeWords → Bool → ℕ → Live → Live → Type 0
+AreTicked words busy zero before after = after ≡ before
+AreTicked words busy (suc count) before after =
+    (between : Live) × IsTicked words busy before between × AreTicked words busy count between after
 
 -- So many ticks are made, each passed by every reader. The channel is busy in them exactly if one of the eight lanes
 -- hears a station, by what the words ask for; the added lanes do not count.
 pub record MakesTicks (words : ServeWords) (count : ℕ) (before after : Live) : Type 0 where
   pub busy : Bool
   pub carrier : IsTrue busy ↔ IsBusyOnRing words.dcd before.lanes
-  pub made : AreTicked words.monitor busy count before after
+  pub made : AreTicked words busy count before after
   pub passed : tick_samples * after.ticks ≤ least_position after.lanes
 
--- all that is due is heard, and every tick is made that every reader has passed
+-- ---- the key's turn
+
+pub record IsKeyTurn (words : ServeWords) (before after : Live) : Type 0 where
+  pub keyed : List KeyEvent
+  pub hosts : Hosts
+  pub turn : TurnsKeyIf words.key (octets_sent before) before.keyed keyed before.hosts hosts
+  pub is : after ≡ record before { keyed = keyed; hosts = hosts }
+
+-- All that is due is heard, the key has its turn, and every tick is made that every reader has passed.
 pub record MakesAll (words : ServeWords) (ended : Bool) (before after : Live) : Type 0 where
   pub heard : Live
   pub hears : HearsAll words ended before heard
+  pub keyed : Live
+  pub keys : IsKeyTurn words heard keyed
   pub count : ℕ
-  pub makes : MakesTicks words count heard after
+  pub makes : MakesTicks words count keyed after
   pub next : least_position after.lanes < tick_samples * (after.ticks + 1)
 
 -- ---- hosts are served

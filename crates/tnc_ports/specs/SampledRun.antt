@@ -1,16 +1,23 @@
 -- A run of a live station: turns until every reader has met the end of the ring, or until memory is wanted; and what
 -- the outside then tells of it.
 use Rattle.std.specs.Prelude.{◌≡◌, ◌≢◌, ℕ, zero, suc, ◌+◌, ◌*◌, ◌<◌, ◌≤◌, ◌⊎◌, Bool, true, false, List, [], ◌∷◌, ◌++◌}
-use Rattle.std.specs.Prelude.{All, length, map, Option, Some}
+use Rattle.std.specs.Prelude.{All, length, map, take, Option, Some, None}
 use Rattle.std.specs.List.{flat_map}
 use Rattle.frame_merge.specs.declared.candidate.Candidate.{Candidate}
 use Rattle.sample_ring.specs.declared.got.Got.{Got}
 use Rattle.slicer_bank.specs.HeardOnRing.{lane_of}
 use Rattle.ring_receiver.specs.HeardByAll.{AreDueBy}
 use Rattle.ring_receiver.specs.Readers.{readers_wanted}
+use Rattle.keying.specs.Keyed.{failed}
+use Rattle.key_port.specs.KeyCalls.{IsReleased}
+use Rattle.key_port.specs.KeyEvents.{KeyEvent, marks_of, lines_of}
+use Rattle.key_port.specs.KeyFaults.{has_failed}
+use Rattle.key_port.specs.KeyLines.{KeyLine}
+use Rattle.key_port.specs.KeyTasks.{LineTold, line_told, CountsIf}
 use Rattle.tnc_base.specs.Faults.{HasRisen}
 use Rattle.tnc_base.specs.Streams.{WrotePart}
 use Rattle.tnc_ports.specs.declared.records.Listen.{Listen}
+use Rattle.tnc_ports.specs.declared.serve_words.KeyWords.{KeyWords}
 use Rattle.tnc_ports.specs.declared.serve_words.ServeWords.{ServeWords}
 use Rattle.tnc_ports.specs.declared.looping.LoopEnd.{LoopEnd}
 use Rattle.tnc_ports.specs.declared.looping.LoopEnd.TheVariants.{Done, Memory, WriteFault}
@@ -21,7 +28,7 @@ use Rattle.tnc_ports.specs.HostTurns.{Asked}
 use Rattle.tnc_ports.specs.ReportedGaps.{AreAllGaps, AreFirstGaps}
 use Rattle.tnc_ports.specs.ReportText.{output_octets, report_text}
 use Rattle.tnc_ports.specs.Sampled.{Live, new_live, with_hosts, HaveEnded, LanesReadOn, AreHeard, HearsAll, MakesTicks}
-use Rattle.tnc_ports.specs.Sampled.{MakesAll, IsTurn, tick_samples}
+use Rattle.tnc_ports.specs.Sampled.{MakesAll, IsTurn, IsKeyTurn, octets_sent, tick_samples}
 use Rattle.tnc_ports.specs.ServedHosts.{octets_to, ids_shut, IsShutHavingCome, AreSentInTurns, AreShutInTurns}
 use Rattle.tnc_ports.specs.Sockets.{Poll, Send, MayCome}
 
@@ -62,13 +69,15 @@ pub record IsCutInHearing (words : ServeWords) (before after : Live) : Type 0 wh
   pub hears : AreHeard words.monitor items read.hosts hosts
   pub is : after ≡ with_hosts hosts read
 
--- a turn in which all of them are heard, and the first of the ticks are made
+-- a turn in which all of them are heard, the key has its turn, and the first of the ticks are made
 pub record IsCutInTicking (words : ServeWords) (before after : Live) : Type 0 where
   pub ended : Bool
   pub heard : Live
   pub hears : HearsAll words ended before heard
+  pub keyed : Live
+  pub keys : IsKeyTurn words heard keyed
   pub count : ℕ
-  pub makes : MakesTicks words count heard after
+  pub makes : MakesTicks words count keyed after
 
 -- a turn that is cut short: when it reads, hears, ticks, or serves its hosts
 abbrev pub IsCutTurn : ServeWords → Live → Live → Type 0
@@ -85,7 +94,7 @@ pub record IsCutRun (words : ServeWords) (live : Live) : Type 0 where
 
 -- ---- what the outside tells
 
--- what the ports, the output and the report tell of the calls so far, and how often they failed
+-- what the ports, the key's line, the output and the report tell of the calls so far, and how often they failed
 pub record Outside : Type 0 where
   pub listens : Option (List Listen)
   pub polls : Option (List Poll)
@@ -93,15 +102,18 @@ pub record Outside : Type 0 where
   pub sent_to : ℕ → Option (List ℕ)
   pub is_shut : ℕ → Option Bool
   pub port_faults : ℕ
+  pub line : LineTold
   pub output : Option (List ℕ)
   pub output_faults : ℕ
   pub report : Option (List ℕ)
   pub report_faults : ℕ
 
-abbrev pub outside_by : {P O E : Type 0} → (P → Option (List Listen)) → (P → Option (List Poll))
+abbrev pub outside_by : {P K O E : Type 0} → (P → Option (List Listen)) → (P → Option (List Poll))
     → (P → Option (List Send)) → (P → ℕ → Option (List ℕ)) → (P → ℕ → Option Bool) → (P → ℕ)
-    → (O → Option (List ℕ)) → (O → ℕ) → (E → Option (List ℕ)) → (E → ℕ) → P → O → E → Outside
-outside_by listens polls sends sent is_shut port_faults written faults reported report_faults ports output report =
+    → (K → Option (List KeyLine)) → (K → ℕ)
+    → (O → Option (List ℕ)) → (O → ℕ) → (E → Option (List ℕ)) → (E → ℕ) → P → K → O → E → Outside
+outside_by listens polls sends sent is_shut port_faults lines line_faults written faults reported report_faults
+    ports key output report =
     record {
       listens = listens ports;
       polls = polls ports;
@@ -109,6 +121,7 @@ outside_by listens polls sends sent is_shut port_faults written faults reported 
       sent_to = sent ports;
       is_shut = is_shut ports;
       port_faults = port_faults ports;
+      line = line_told lines line_faults key;
       output = written output;
       output_faults = faults output;
       report = reported report;
@@ -142,6 +155,34 @@ pub record PortsTell (turns : List Asked) (before after : Outside) : Type 0 wher
 pub record PortsStay (before after : Outside) : Type 0 where
   pub listens : after.listens ≡ before.listens
   pub faults : before.port_faults ≤ after.port_faults
+
+-- All that there was to write when the key was last told that no write has failed is written. So a write that fails is
+-- told to the key after the samples of the tick in which it fails, or of the next one.
+pub record WroteWhole (live : Live) (before after : Outside) : Type 0 where
+  pub output : (was now : List ℕ) → before.output ≡ Some was → after.output ≡ Some now
+      → length was + live.whole.octets ≤ length now
+  pub report : (was now : List ℕ) → before.report ≡ Some was → after.report ≡ Some now
+      → length was + length (report_text (take live.whole.lines live.hosts.report)) ≤ length now
+
+-- At every end of the run the key was released. The connections on its line are exactly those of the events, and a
+-- fault of the line is counted exactly if one of them failed.
+pub record KeyIsReleased (key : KeyWords) (live : Live) (before after : Outside) : Type 0 where
+  pub keyed : List KeyEvent
+  pub releases : IsReleased key.words (octets_sent live) live.keyed keyed
+  pub lines : (was : List KeyLine) (out : List ℕ) → before.line.lines ≡ Some was → before.output ≡ Some out
+      → after.line.lines ≡ Some (lines_of key.port (length out) was keyed)
+  pub faults : CountsIf (has_failed keyed) before.line.faults after.line.faults
+  pub whole : WroteWhole live before after
+
+-- without key words nothing is done on the line
+abbrev pub KeyTold : Option KeyWords → Live → Outside → Outside → Type 0
+KeyTold None live before after = after.line ≡ before.line
+KeyTold (Some key) live before after = KeyIsReleased key live before after
+
+-- whether the key was told that a write has failed
+abbrev pub key_failed : Option KeyWords → Live → Bool
+key_failed None live = false
+key_failed (Some key) live = failed (marks_of key.words live.keyed)
 
 -- The output is the samples of the ticks, the report is its lines, and no write failed.
 pub record AllIsWritten (live : Live) (before after : Outside) : Type 0 where
@@ -200,13 +241,21 @@ pub record IsCut (words : ServeWords) (answers : List (List Got)) (live : Live) 
   pub gaps : AreFirstGaps words live
   pub size : length live.sent ≡ tick_samples * live.ticks
 
+-- All is written, and the key was never told otherwise.
+pub record AllIsWrittenAsTold (key : Option KeyWords) (live : Live) (before after : Outside) : Type 0 where
+  pub written : AllIsWritten live before after
+  pub untold : key_failed key live ≡ false
+
 -- The loop by how it ends: all of a whole run is written; or after a write that failed the run went on to its end; or
--- memory was wanted, and the run is cut short.
+-- memory was wanted, and the run is cut short. Whichever it is, the key is released.
 abbrev pub IsLooped : ServeWords → LoopEnd → List (List Got) → Outside → Outside → Type 0
 IsLooped words Done answers before after =
-    (live : Live) × IsWhole words answers live before after × AllIsWritten live before after
+    (live : Live) × IsWhole words answers live before after × AllIsWrittenAsTold words.key live before after
+    × KeyTold words.key live before after
 IsLooped words WriteFault answers before after =
     (live : Live) × IsWhole words answers live before after × PartIsWritten live before after
+    × KeyTold words.key live before after
 IsLooped words Memory answers before after =
     (live : Live) × IsCut words answers live before after
-    × (AllIsWritten live before after ⊎ PartIsWritten live before after)
+    × (AllIsWrittenAsTold words.key live before after ⊎ PartIsWritten live before after)
+    × KeyTold words.key live before after

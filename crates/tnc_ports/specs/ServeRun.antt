@@ -1,6 +1,6 @@
 -- A live station as a whole: it listens, a pump publishes the samples of its input in a ring, and a run reads them
 -- there.
-use Rattle.std.specs.Prelude.{◌≡◌, ℕ, ℤ, ◌≤◌, ◌⊎◌, true, List, [], ◌∷◌, length, map, All, Option, Some}
+use Rattle.std.specs.Prelude.{◌≡◌, ℕ, ℤ, ◌≤◌, ◌⊎◌, true, List, [], ◌∷◌, length, map, All, Some}
 use Rattle.sample_ring.specs.declared.got.Got.{Got}
 use Rattle.sample_ring.specs.declared.view.Track.{Track}
 use Rattle.sample_ring.specs.Record.{StandsIn, answer}
@@ -55,6 +55,7 @@ pub record OnlyListens (before after : Outside) : Type 0 where
   pub sent_to : (id : ℕ) → after.sent_to id ≡ before.sent_to id
   pub is_shut : (id : ℕ) → after.is_shut id ≡ before.is_shut id
   pub faults : before.port_faults ≤ after.port_faults
+  pub line : after.line ≡ before.line
   pub output : after.output ≡ before.output
   pub output_faults : after.output_faults ≡ before.output_faults
   pub report : after.report ≡ before.report
@@ -62,7 +63,7 @@ pub record OnlyListens (before after : Outside) : Type 0 where
 
 -- the ports of the words are opened
 pub record HasOpened (words : ServeWords) (before after : Outside) : Type 0 where
-  pub opened : GrowsBy ((record { kiss = words.kiss; agw = words.agw }) ∷ []) before.listens after.listens
+  pub opened : GrowsBy (words.listen ∷ []) before.listens after.listens
   pub only : OnlyListens before after
 
 -- the ports could not be opened

@@ -3,6 +3,7 @@ ghost use Rattle.std.specs.Prelude.{◌≡◌, ℕ, List, IfOk, OnOk};
 ghost use Rattle.station.specs.declared.host_event.PortKind.TheVariants.{Kiss, Agw};
 ghost use Rattle.tnc_ports.specs.RealSockets.{Admits};
 
+use crate::records::Listen;
 use crate::sockets::Sockets;
 use mio::net::{TcpListener, TcpStream};
 use mio::{Interest, Poll, Token};
@@ -20,11 +21,12 @@ pub(crate) const KISS: usize = 0;
 /// The token of the AGWPE port.
 pub(crate) const AGW: usize = 1;
 
-/// A port that hosts connect to.
+/// A port that hosts connect to, or none.
 #[derive(Drop)]
 pub(crate) struct Door {
     kind: PortKind,
-    listener: TcpListener,
+    /// What listens, if the port is opened.
+    listener: Option<TcpListener>,
     /// Connections may wait.
     ready: bool,
 }
@@ -39,10 +41,10 @@ pub(crate) struct Doors {
 }
 
 impl Doors {
-    /// Opens both ports on 127.0.0.1.
-    pub(crate) fn open<R: Net>(rt: &R, poll: &Poll, kiss: u16, agw: u16) -> io::Result<Doors> {
-        let kiss = Door::open(rt, poll, PortKind::Kiss, KISS, kiss)?;
-        let agw = Door::open(rt, poll, PortKind::Agw, AGW, agw)?;
+    /// Opens the ports at an address.
+    pub(crate) fn open<R: Net>(rt: &R, poll: &Poll, at: Listen) -> io::Result<Doors> {
+        let kiss = Door::open(rt, poll, PortKind::Kiss, KISS, at.address, at.kiss)?;
+        let agw = Door::open(rt, poll, PortKind::Agw, AGW, at.address, at.agw)?;
         Ok(Doors { kiss, agw })
     }
 
@@ -78,16 +80,24 @@ impl Door {
         poll: &Poll,
         kind: PortKind,
         token: usize,
-        port: u16,
+        address: Ipv4Addr,
+        port: Option<u16>,
     ) -> io::Result<Door>
         ensures { IfOk result (λ door. door.kind ≡ kind) }
     {
-        let mut listener = TcpListener::bind(rt, SocketAddr::from((Ipv4Addr::LOCALHOST, port)))?;
+        let Some(port) = port else {
+            return Ok(Door {
+                kind,
+                listener: None,
+                ready: false,
+            });
+        };
+        let mut listener = TcpListener::bind(rt, SocketAddr::from((address, port)))?;
         poll.registry()
             .register(&mut listener, Token(token), Interest::READABLE)?;
         Ok(Door {
             kind,
-            listener,
+            listener: Some(listener),
             ready: true,
         })
     }
@@ -106,8 +116,11 @@ impl Door {
         if !self.ready {
             return Ok(());
         }
+        let Some(listener) = &self.listener else {
+            return Ok(());
+        };
         for _ in 0..MOST_JOINING {
-            let Ok((stream, _)) = self.listener.accept() else {
+            let Ok((stream, _)) = listener.accept() else {
                 self.ready = false;
                 return Ok(());
             };

@@ -2,8 +2,10 @@
 //!
 //! A pump reads the sound and publishes its samples in a ring. Beside it the station's turns take the samples from
 //! there, and in each turn poll the sockets once and offer each host the rest of one piece. The sockets and the threads
-//! are after two traits, so that all of this also runs in memory. What is promised: what the pump publishes is the
-//! samples of what it read; a host is sent its pieces whole and in order; a paused host gives no octets.
+//! are after two traits, and the line of the transmitter's key is after a third, so that all of this also runs in
+//! memory. What is promised: what the pump publishes is the samples of what it read; a host is sent its pieces whole and
+//! in order; a paused host gives no octets; the key is turned on before the first sample of a transmission, and is
+//! released at every end.
 #![tactic(auto)]
 
 mod delivering;
@@ -13,6 +15,7 @@ mod host_parts;
 mod host_side;
 mod id_range;
 mod inlet;
+mod key_lines;
 mod laws;
 mod line;
 mod lines;
@@ -30,6 +33,7 @@ mod pumping;
 mod real_live;
 mod real_ports;
 mod records;
+mod releasing;
 mod report_line;
 mod report_lines;
 mod script;
@@ -39,6 +43,7 @@ mod serving;
 mod shutting;
 mod socket;
 mod sockets;
+mod sound;
 mod spawner;
 mod starting;
 mod taking;
@@ -51,7 +56,10 @@ pub use host_parts::HostParts;
 pub use host_side::HostSide;
 pub use id_range::IdRange;
 pub use inlet::Inlet;
-pub use laws::steps_are_heard;
+pub use laws::{
+    a_tick_without_a_key_is_plain, a_transmission_begins_keyed, steps_are_heard,
+    the_key_is_kept_within_its_limit, the_key_is_released_at_every_end,
+};
 pub use line::Line;
 pub use live::Live;
 pub use looping::{LoopEnd, station_loop};
@@ -67,7 +75,7 @@ pub use records::{Came, Dial, Listen, PollRecord, Taken};
 pub use report_line::ReportLine;
 pub use report_lines::text_of_lines;
 pub use sending::{OfferFault, offer};
-pub use serve_words::ServeWords;
+pub use serve_words::{KeyWords, ServeWords};
 pub use serving::{ServeEnd, serve};
 pub use spawner::{Order, Spawner, beside};
 pub use starting::Start;

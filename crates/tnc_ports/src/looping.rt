@@ -1,15 +1,19 @@
 //! The turns of a live station, from the first to the last.
-ghost use Rattle.std.specs.Prelude.{◌≡◌, ℕ, All};
+ghost use Rattle.std.specs.Prelude.{◌≡◌, ℕ, [], false, All};
 ghost use Rattle.link_machine.specs.Params.{IsRefusedWindow};
 ghost use Rattle.sample_ring.specs.Ends.{ring_id, ring_len, reader_ring};
 ghost use Rattle.ring_receiver.specs.HeldReceiver.{readers_in, answers_in};
 ghost use Rattle.tnc_ports.specs.FreshReceiver.{IsFresh};
+ghost use Rattle.tnc_ports.specs.Sampled.{new_live};
+ghost use Rattle.tnc_ports.specs.SampledHeld.{StandsForLive, KeyStands, RunsOut};
 ghost use Rattle.tnc_ports.specs.SampledRun.{IsLooped, outside_by};
 
 use crate::host_side::HostSide;
 use crate::ports::Ports;
+use crate::releasing::{key_of, release_key};
 use crate::serve_words::ServeWords;
 use crate::turning::Turning;
+use key_port::KeyPort;
 use ring_receiver::RingReceiver;
 use sample_ring::Ring;
 use std::alloc::Global;
@@ -29,9 +33,10 @@ pub enum LoopEnd {
     WriteFault,
 }
 
-/// Makes turn after turn until every reader has met the end of the ring, or memory is wanted. It may wait for the
-/// ring's writer.
-pub fn station_loop<R: Threads + Wait + Net + Sync, O: Sink, E: Sink, N: Ports>(
+/// Makes turn after turn until every reader has met the end of the ring, or memory is wanted, and releases the key of
+/// the transmitter, however the turns end. It may wait for the ring's writer, and for a second at most for the last
+/// answers to the key.
+pub fn station_loop<R: Threads + Wait + Net + Sync, O: Sink, E: Sink, N: Ports, K: KeyPort<O>>(
     rt: &R,
     alloc: Global,
     words: &ServeWords,
@@ -40,18 +45,21 @@ pub fn station_loop<R: Threads + Wait + Net + Sync, O: Sink, E: Sink, N: Ports>(
     output: &mut O,
     report: &mut E,
     ports: &mut N,
+    key: &mut K,
 ) -> LoopEnd
     requires window { (window : ℕ) → ¬ IsRefusedWindow words.now.config.params window }
     requires fresh { IsFresh words.now ring.now receiver.old }
     ensures readers { All (λ reader. reader_ring reader ≡ ring_id ring.now) (readers_in receiver.new) }
     ensures dials { N.dials ports.new ≡ N.dials ports.old }
     ensures looped { IsLooped words.now result (answers_in (ring_len ring.now) receiver.new)
-        (outside_by N.listens N.polls N.sends N.sent N.is_shut N.faults O.written O.faults E.written E.faults
-        ports.old output.old report.old)
-        (outside_by N.listens N.polls N.sends N.sent N.is_shut N.faults O.written O.faults E.written E.faults
-        ports.new output.new report.new) }
+        (outside_by N.listens N.polls N.sends N.sent N.is_shut N.faults K.lines K.faults O.written O.faults
+        E.written E.faults ports.old key.old output.old report.old)
+        (outside_by N.listens N.polls N.sends N.sent N.is_shut N.faults K.lines K.faults O.written O.faults
+        E.written E.faults ports.new key.new output.new report.new) }
 {
+    let mut side = key_of(words.key);
     let Ok(hosts) = HostSide::new(alloc, words.config, words.seed) else {
+        release_key(rt, &mut side, output, key);
         return LoopEnd::Memory;
     };
     let mut turning = Turning {
@@ -60,9 +68,39 @@ pub fn station_loop<R: Threads + Wait + Net + Sync, O: Sink, E: Sink, N: Ports>(
         hosts,
         ticks: 0,
         failed: false,
+        key: side,
     };
+    let end = run(rt, &mut turning, ring, receiver, output, report, ports, key);
+    turning.release(rt, output, key);
+    end
+}
+
+/// Makes the turns.
+fn run<R: Threads + Wait + Net + Sync, O: Sink, E: Sink, N: Ports, K: KeyPort<O>>(
+    rt: &R,
+    turning: &mut Turning,
+    ring: &Ring,
+    receiver: &mut RingReceiver,
+    output: &mut O,
+    report: &mut E,
+    ports: &mut N,
+    key: &mut K,
+) -> LoopEnd
+    requires stands { StandsForLive turning.old (ring_len ring.now) receiver.old (new_live turning.old.words) }
+    requires readers { All (λ reader. reader_ring reader ≡ ring_id ring.now) (readers_in receiver.old) }
+    requires detection { receiver.old.detection ≡ turning.old.words.dcd }
+    requires failed { turning.old.failed ≡ false }
+    requires key { KeyStands turning.old.words.key turning.old.key [] }
+    ensures readers { All (λ reader. reader_ring reader ≡ ring_id ring.now) (readers_in receiver.new) }
+    ensures dials { N.dials ports.new ≡ N.dials ports.old }
+    ensures run { RunsOut turning.old.words result (answers_in (ring_len ring.now) receiver.new) turning.new
+        (outside_by N.listens N.polls N.sends N.sent N.is_shut N.faults K.lines K.faults O.written O.faults
+        E.written E.faults ports.old key.old output.old report.old)
+        (outside_by N.listens N.polls N.sends N.sent N.is_shut N.faults K.lines K.faults O.written O.faults
+        E.written E.faults ports.new key.new output.new report.new) }
+{
     'turns: for _ in rt.forever() {
-        match turning.turn(rt, ring, receiver, output, report, ports) {
+        match turning.turn(rt, ring, receiver, output, report, ports, key) {
             Ok(false) => {}
             Ok(true) if turning.failed => return LoopEnd::WriteFault,
             Ok(true) => return LoopEnd::Done,

@@ -1,5 +1,6 @@
 //! A live side in memory.
-ghost use Rattle.std.specs.Prelude.{◌≡◌, ◌-◌, ◌^◌, All};
+ghost use Rattle.std.specs.Prelude.{◌≡◌, ◌-◌, ◌^◌, [], All};
+ghost use Rattle.key_port.specs.KeyScripts.{new_key};
 ghost use Rattle.tnc_ports.specs.declared.spawner.Order.TheVariants.{PumpFirst};
 ghost use Rattle.tnc_ports.specs.Sockets.{IsWholePiece};
 ghost use Rattle.tnc_ports.specs.Scripts.{new_ports};
@@ -8,9 +9,13 @@ use crate::live::Live;
 use crate::mem_ports::MemPorts;
 use crate::spawner::{Order, Spawner};
 use crate::starting::Start;
+use key_port::MemKeyPort;
 use station::HostEvent;
 use std::alloc::Global;
 use std::sync::{OnceToken, Wait};
+
+/// The seed of a live side in memory, which is the same at each start.
+const SEED: u64 = 1;
 
 /// Runs the pump to its end before the other job, in one thread.
 #[derive(Debug, Drop)]
@@ -39,19 +44,23 @@ impl Spawner for MemSpawner {
     }
 }
 
-/// Sockets in memory, and jobs one after the other.
-pub type MemLive = Live<MemPorts, MemSpawner>;
+/// Sockets and a key's line in memory, and jobs one after the other.
+pub type MemLive = Live<MemPorts, MemSpawner, MemKeyPort>;
 
-impl Live<MemPorts, MemSpawner> {
+impl Live<MemPorts, MemSpawner, MemKeyPort> {
     /// Gives each event of the script at the poll of its number. The calls of `listen`, `dial`, `poll` and `send` whose
     /// numbers, counted together from 0, are in `failing` fail.
     pub fn new(alloc: Global, script: Vec<(u64, HostEvent)>, failing: Vec<u64>) -> MemLive
         requires { All (λ entry. IsWholePiece entry.1) script.items }
-        ensures { result.ports ≡ new_ports script.items failing.items (2 ^ 64 - 1) }
+        ensures ports { result.ports ≡ new_ports script.items failing.items (2 ^ 64 - 1) }
+        ensures key { result.key ≡ new_key [] 0 }
+        ensures seed { result.seed ≡ 1 }
     {
         Live {
             ports: MemPorts::new(alloc, script, failing, usize::MAX),
             spawner: MemSpawner::new(),
+            key: MemKeyPort::new(alloc, Vec::new(alloc), 0),
+            seed: SEED,
         }
     }
 
@@ -63,11 +72,15 @@ impl Live<MemPorts, MemSpawner> {
         takes: u32,
     ) -> MemLive
         requires { All (λ entry. IsWholePiece entry.1) script.items }
-        ensures { result.ports ≡ new_ports script.items failing.items takes }
+        ensures ports { result.ports ≡ new_ports script.items failing.items takes }
+        ensures key { result.key ≡ new_key [] 0 }
+        ensures seed { result.seed ≡ 1 }
     {
         Live {
             ports: MemPorts::new(alloc, script, failing, takes as usize),
             spawner: MemSpawner::new(),
+            key: MemKeyPort::new(alloc, Vec::new(alloc), 0),
+            seed: SEED,
         }
     }
 }

@@ -256,11 +256,11 @@ impl Ports for MemPorts {
 
     ghost faults = { λ s. s.faults };
 
-    fn listen<R: Net>(&mut self, _rt: &R, kiss: u16, agw: u16) -> Result<(), Failed>
+    fn listen<R: Net>(&mut self, _rt: &R, at: Listen) -> Result<(), Failed>
         ensures fails { Contains self.old.failing self.old.calls → IsErr result }
         ensures opened { OnOk result (self.new ≡ record self.old {
           calls = next_count self.old.calls;
-          listens = self.old.listens ++ (record { kiss = kiss; agw = agw }) ∷ [];
+          listens = self.old.listens ++ at ∷ [];
         }) }
         ensures failed { OnErr result (self.new ≡ record self.old {
           calls = next_count self.old.calls;
@@ -268,7 +268,7 @@ impl Ports for MemPorts {
         }) }
         ensures later { self.old.faults ≤ self.new.faults }
     {
-        if self.begin() || self.listens.push(Listen { kiss, agw }).is_err() {
+        if self.begin() || self.listens.push(at).is_err() {
             self.fail();
             return Err(Failed);
         }

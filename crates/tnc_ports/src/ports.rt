@@ -11,6 +11,7 @@ ghost use Rattle.tnc_ports.specs.declared.records.Listen.{Listen};
 ghost use Rattle.tnc_ports.specs.declared.records.Dial.{Dial};
 ghost use Rattle.tnc_ports.specs.Sockets.{Poll, Send, MayCome, has_come, has_dialed};
 
+use crate::records::Listen;
 use station::HostEvent;
 use std::net::Net;
 use thiserror::Error;
@@ -60,10 +61,10 @@ pub trait Ports {
     /// How often a call has failed.
     ghost faults: { Self → ℕ };
 
-    /// Opens both ports on 127.0.0.1.
-    fn listen<R: Net>(&mut self, rt: &R, kiss: u16, agw: u16) -> Result<(), Failed>
-        ensures opened { (before : List Listen) → listens self.old ≡ Some before → OnOk result (listens self.new
-            ≡ Some (before ++ (record { kiss = kiss; agw = agw }) ∷ [])) }
+    /// Opens the ports at an address.
+    fn listen<R: Net>(&mut self, rt: &R, at: Listen) -> Result<(), Failed>
+        ensures opened { (before : List Listen) → listens self.old ≡ Some before
+            → OnOk result (listens self.new ≡ Some (before ++ at ∷ [])) }
         ensures refused { OnErr result (listens self.new ≡ listens self.old) }
         ensures dials { dials self.new ≡ dials self.old }
         ensures polls { polls self.new ≡ polls self.old }

@@ -6,6 +6,7 @@ use crate::live::Live;
 use crate::real_ports::RealPorts;
 use crate::spawner::{Order, Spawner};
 use crate::starting::Start;
+use key_port::RealKeyPort;
 use std::sync::{OnceToken, Wait};
 
 /// Runs two jobs at once, one of them in a thread of its own.
@@ -35,5 +36,5 @@ impl Spawner for RealSpawner {
     }
 }
 
-/// The sockets and threads of the system.
-pub type RealLive = Live<RealPorts, RealSpawner>;
+/// The sockets and threads of the system, with a clock for the line of the transmitter's key.
+pub type RealLive<C> = Live<RealPorts, RealSpawner, RealKeyPort<C>>;

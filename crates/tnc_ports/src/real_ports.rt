@@ -1,4 +1,4 @@
-//! The sockets of the system, on 127.0.0.1. They tell nothing, since no contract can know what a socket gives or takes.
+//! The sockets of the system. They tell nothing, since no contract can know what a socket gives or takes.
 //!
 //! A poll takes one piece of each connection that may have more octets, and waits only if none is left that may. Each
 //! connection, whether it came or was dialed, has an id that none had before.
@@ -13,6 +13,7 @@ ghost use Rattle.tnc_ports.specs.Sockets.{MayCome};
 use crate::dialing::connected;
 use crate::door::{AGW, Doors, KISS};
 use crate::ports::{PollFault, Ports};
+use crate::records::Listen;
 use crate::sockets::Sockets;
 use mio::{Events, Poll};
 use station::HostEvent;
@@ -57,13 +58,13 @@ impl RealPorts {
         }
     }
 
-    /// Opens both ports.
-    fn open<R: Net>(&mut self, rt: &R, kiss: u16, agw: u16) -> io::Result<()>
+    /// Opens the ports.
+    fn open<R: Net>(&mut self, rt: &R, at: Listen) -> io::Result<()>
         ensures faults { self.new.faults ≡ self.old.faults }
         ensures sockets { self.new.sockets ≡ self.old.sockets }
     {
         let watch = watching(rt, self.alloc, self.watch.take())?;
-        let doors = Doors::open(rt, &watch.poll, kiss, agw);
+        let doors = Doors::open(rt, &watch.poll, at);
         self.watch = Some(watch);
         self.doors = Some(doors?);
         Ok(())
@@ -113,8 +114,8 @@ impl Ports for RealPorts {
 
     ghost faults = { λ s. s.faults };
 
-    fn listen<R: Net>(&mut self, rt: &R, kiss: u16, agw: u16) -> Result<(), Failed> {
-        match self.open(rt, kiss, agw) {
+    fn listen<R: Net>(&mut self, rt: &R, at: Listen) -> Result<(), Failed> {
+        match self.open(rt, at) {
             Ok(()) => Ok(()),
             Err(_) => {
                 self.fail();

@@ -4,15 +4,18 @@ ghost use Rattle.std.specs.Prelude.{◌≡◌, IfOk};
 use station::HostEvent;
 use std::alloc::Global;
 use std::marker::Model;
+use std::net::Ipv4Addr;
 use tnc_base::{Octets, OutOfMemory};
 
-/// The two ports of a listen.
+/// The ports of a listen.
 #[derive(Clone, Copy, Debug, PartialEq, Eq)]
 pub struct Listen {
-    /// That for KISS.
-    pub kiss: u16,
-    /// That for AGWPE.
-    pub agw: u16,
+    /// The address that hosts connect to.
+    pub address: Ipv4Addr,
+    /// That for KISS, if one is opened.
+    pub kiss: Option<u16>,
+    /// That for AGWPE, if one is opened.
+    pub agw: Option<u16>,
 }
 
 /// A connection that was opened.

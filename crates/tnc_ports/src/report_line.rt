@@ -1,5 +1,6 @@
 //! The report of a live station.
 
+use keying::Report;
 use tnc_base::Octets;
 
 /// A line of the report.
@@ -13,4 +14,6 @@ pub enum ReportLine {
     ReceivedLine { text: Octets },
     /// A frame was sent: its text.
     SentLine { text: Octets },
+    /// Something is told of the transmitter's key.
+    KeyLine { report: Report },
 }

@@ -48,6 +48,11 @@ fn text_of_line(alloc: Global, line: &ReportLine) -> Result<Vec<u8>, OutOfMemory
         }
         ReportLine::ReceivedLine { text } => shown(alloc, b"rx ", text),
         ReportLine::SentLine { text } => shown(alloc, b"tx ", text),
+        ReportLine::KeyLine { report } => {
+            let mut line = report.text().as_slice().to_vec(alloc)?;
+            line.push(b'\n')?;
+            Ok(line)
+        }
     }
 }
 

@@ -1,15 +1,24 @@
 //! What a live station is asked for.
 
+use crate::records::Listen;
+use keying::Words;
 use slicer_bank::Detection;
 use station::Config;
+
+/// How the transmitter is keyed.
+#[derive(Clone, Copy, Debug)]
+pub struct KeyWords {
+    /// The port of rigctld on 127.0.0.1.
+    pub port: u16,
+    /// The tail, and the command that keys.
+    pub words: Words,
+}
 
 /// The ports, the station and the report of a live station.
 #[derive(Clone, Copy, Debug)]
 pub struct ServeWords {
-    /// The port for KISS.
-    pub kiss: u16,
-    /// The port for AGWPE.
-    pub agw: u16,
+    /// The ports that are opened.
+    pub listen: Listen,
     /// The seed of the draws with which the station takes the channel.
     pub seed: u64,
     /// How the station's links work, and for which call it repeats.
@@ -18,6 +27,8 @@ pub struct ServeWords {
     pub dcd: Detection,
     /// Whether each frame that is heard or sent has a line in the report.
     pub monitor: bool,
-    /// Whether all 23 lanes listen, and not only eight.
+    /// Whether all 26 lanes listen, and not only eight.
     pub sensitive: bool,
+    /// How the transmitter is keyed, if it is.
+    pub key: Option<KeyWords>,
 }

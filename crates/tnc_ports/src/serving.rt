@@ -20,6 +20,7 @@ use crate::pump_run::pump_beside;
 use crate::pumping::{PumpEnd, Pumped};
 use crate::serve_words::ServeWords;
 use crate::spawner::Spawner;
+use key_port::KeyPort;
 use ring_receiver::{RingReceiver, readers_wanted};
 use sample_ring::{Ring, Writer};
 use std::alloc::Global;
@@ -53,7 +54,8 @@ pub enum ServeEnd {
 /// Opens the ports, reads the input to its end or until it fails, and serves hosts meanwhile: a pump publishes the
 /// samples of the input in a ring, and beside it the turns of the station read them there. It may wait for the input.
 /// What the turns met counts before what the pump met. If no thread can be started for the pump it ends, without a
-/// turn. It dials nobody.
+/// turn. It dials nobody. If a key is asked for, the transmitter is keyed before the first sample of each transmission,
+/// and released at every end of the turns.
 pub fn serve<
     R: Threads + Wait + Net + Sync,
     I: Source + Send,
@@ -61,6 +63,7 @@ pub fn serve<
     E: Sink,
     N: Ports,
     W: Spawner,
+    K: KeyPort<O>,
 >(
     rt: &R,
     alloc: Global,
@@ -68,21 +71,26 @@ pub fn serve<
     input: &mut I,
     output: &mut O,
     report: &mut E,
-    live: &mut Live<N, W>,
+    live: &mut Live<N, W, K>,
 ) -> ServeEnd
     requires window { (window : ℕ) → ¬ IsRefusedWindow words.config.params window }
     requires dcd { CanBeAsked words.dcd }
     ensures served { IsServed words result (input_by I.left I.faults input.old) (input_by I.left I.faults input.new)
-        (outside_by N.listens N.polls N.sends N.sent N.is_shut N.faults O.written O.faults E.written E.faults
-        live.old.ports output.old report.old)
-        (outside_by N.listens N.polls N.sends N.sent N.is_shut N.faults O.written O.faults E.written E.faults
-        live.new.ports output.new report.new) }
+        (outside_by N.listens N.polls N.sends N.sent N.is_shut N.faults K.lines K.faults O.written O.faults
+        E.written E.faults live.old.ports live.old.key output.old report.old)
+        (outside_by N.listens N.polls N.sends N.sent N.is_shut N.faults K.lines K.faults O.written O.faults
+        E.written E.faults live.new.ports live.new.key output.new report.new) }
     ensures no_thread { result ≡ ServeEnd.NoThread → HasRisen (W.faults live.old.spawner) (W.faults live.new.spawner) }
     ensures thread { result ≢ ServeEnd.NoThread → W.faults live.new.spawner ≡ W.faults live.old.spawner }
     ensures dials { N.dials live.new.ports ≡ N.dials live.old.ports }
 {
-    let Live { ports, spawner } = live;
-    if ports.listen(rt, words.kiss, words.agw).is_err() {
+    let Live {
+        ports,
+        spawner,
+        key,
+        ..
+    } = live;
+    if ports.listen(rt, words.listen).is_err() {
         return ServeEnd::NoPort;
     }
     let Ok((ring, writer, readers)) = Ring::new(alloc, CELLS, readers_wanted(words.sensitive))
@@ -106,6 +114,7 @@ pub fn serve<
         report,
         ports,
         spawner,
+        key,
     ) else {
         return ServeEnd::NoThread;
     };
@@ -120,6 +129,7 @@ fn run_beside<
     E: Sink,
     N: Ports,
     W: Spawner,
+    K: KeyPort<O>,
 >(
     rt: &R,
     alloc: Global,
@@ -133,6 +143,7 @@ fn run_beside<
     report: &mut E,
     ports: &mut N,
     spawner: &mut W,
+    key: &mut K,
 ) -> Option<Pumped>
     requires window { (window : ℕ) → ¬ IsRefusedWindow words.now.config.params window }
     requires ring { writer_ring writer ≡ ring_id ring.now }
@@ -143,10 +154,10 @@ fn run_beside<
     ensures unread { IsNone result → input_by I.left I.faults input.new ≡ input_by I.left I.faults input.old }
     ensures readers { All (λ reader. reader_ring reader ≡ ring_id ring.now) (readers_in receiver.new) }
     ensures looped { IsLoopedIf (is_some result) words.now end.new (answers_in (ring_len ring.now) receiver.new)
-        (outside_by N.listens N.polls N.sends N.sent N.is_shut N.faults O.written O.faults E.written E.faults
-        ports.old output.old report.old)
-        (outside_by N.listens N.polls N.sends N.sent N.is_shut N.faults O.written O.faults E.written E.faults
-        ports.new output.new report.new) }
+        (outside_by N.listens N.polls N.sends N.sent N.is_shut N.faults K.lines K.faults O.written O.faults
+        E.written E.faults ports.old key.old output.old report.old)
+        (outside_by N.listens N.polls N.sends N.sent N.is_shut N.faults K.lines K.faults O.written O.faults
+        E.written E.faults ports.new key.new output.new report.new) }
     ensures counted { CountsUnless (is_some result) (W.faults spawner.old) (W.faults spawner.new) }
     ensures dials { N.dials ports.new ≡ N.dials ports.old }
 {
@@ -163,21 +174,21 @@ fn run_beside<
             ensures { All (λ reader. reader_ring reader ≡ ring_id ring.entry.now) (readers_in receiver.exit.now)
                 × IsLoopedIf begins words.entry.now end.exit.now
                 (answers_in (ring_len ring.entry.now) receiver.exit.now)
-                (outside_by N.listens N.polls N.sends N.sent N.is_shut N.faults O.written O.faults E.written E.faults
-                ports.entry.now output.entry.now report.entry.now)
-                (outside_by N.listens N.polls N.sends N.sent N.is_shut N.faults O.written O.faults E.written E.faults
-                ports.exit.now output.exit.now report.exit.now)
+                (outside_by N.listens N.polls N.sends N.sent N.is_shut N.faults K.lines K.faults O.written
+                O.faults E.written E.faults ports.entry.now key.entry.now output.entry.now report.entry.now)
+                (outside_by N.listens N.polls N.sends N.sent N.is_shut N.faults K.lines K.faults O.written
+                O.faults E.written E.faults ports.exit.now key.exit.now output.exit.now report.exit.now)
                 × (N.dials ports.exit.now ≡ N.dials ports.entry.now) }
         {
             loop_if(
-                begins, rt, alloc, words, ring, receiver, end, output, report, ports,
+                begins, rt, alloc, words, ring, receiver, end, output, report, ports, key,
             )
         },
     )
 }
 
 /// Makes the turns if the pump begins, and none if not.
-fn loop_if<R: Threads + Wait + Net + Sync, O: Sink, E: Sink, N: Ports>(
+fn loop_if<R: Threads + Wait + Net + Sync, O: Sink, E: Sink, N: Ports, K: KeyPort<O>>(
     begins: bool,
     rt: &R,
     alloc: Global,
@@ -188,19 +199,20 @@ fn loop_if<R: Threads + Wait + Net + Sync, O: Sink, E: Sink, N: Ports>(
     output: &mut O,
     report: &mut E,
     ports: &mut N,
+    key: &mut K,
 )
     requires window { (window : ℕ) → ¬ IsRefusedWindow words.now.config.params window }
     requires fresh { IsFresh words.now ring.now receiver.old }
     ensures readers { All (λ reader. reader_ring reader ≡ ring_id ring.now) (readers_in receiver.new) }
     ensures looped { IsLoopedIf begins words.now end.new (answers_in (ring_len ring.now) receiver.new)
-        (outside_by N.listens N.polls N.sends N.sent N.is_shut N.faults O.written O.faults E.written E.faults
-        ports.old output.old report.old)
-        (outside_by N.listens N.polls N.sends N.sent N.is_shut N.faults O.written O.faults E.written E.faults
-        ports.new output.new report.new) }
+        (outside_by N.listens N.polls N.sends N.sent N.is_shut N.faults K.lines K.faults O.written O.faults
+        E.written E.faults ports.old key.old output.old report.old)
+        (outside_by N.listens N.polls N.sends N.sent N.is_shut N.faults K.lines K.faults O.written O.faults
+        E.written E.faults ports.new key.new output.new report.new) }
     ensures dials { N.dials ports.new ≡ N.dials ports.old }
 {
     if begins {
-        *end = station_loop(rt, alloc, words, ring, receiver, output, report, ports);
+        *end = station_loop(rt, alloc, words, ring, receiver, output, report, ports, key);
     }
 }
 

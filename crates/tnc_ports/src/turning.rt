@@ -4,8 +4,13 @@
 //! sample is written of a step that did not come to its end.
 
 ghost use Rattle.std.specs.Prelude.{◌≡◌, ℕ, ◌+◌, ◌-◌, ◌*◌, ◌/◌, ◌^◌, ◌<◌, ◌≤◌, Bool, true, false, List, Option, Some};
-ghost use Rattle.std.specs.Prelude.{None, map, All, IfOk, OnOk, OnErr};
+ghost use Rattle.std.specs.Prelude.{None, map, All, IfOk, OnOk, OnErr, [], ◌||◌};
 ghost use Rattle.hdlc_framer.specs.FrameLength.{HasFrameLength};
+ghost use Rattle.keying.specs.Calls.Call.{Tick as KeyTick, AfterWrite as KeyAfterWrite};
+ghost use Rattle.key_port.specs.KeyEvents.{KeyEvent};
+ghost use Rattle.key_port.specs.KeySides.{reports_in};
+ghost use Rattle.key_port.specs.KeyTasks.{line_told};
+ghost use Rattle.channel_access.specs.Sound.{has_sound};
 ghost use Rattle.ax25_address.specs.declared.path.Path.{Path};
 ghost use Rattle.sample_ring.specs.Ends.{ring_id, ring_len, reader_ring};
 ghost use Rattle.ring_receiver.specs.HeldReceiver.{readers_in, answers_in};
@@ -14,29 +19,36 @@ ghost use Rattle.station.specs.Monitored.{heard_modulus, sent_modulus};
 ghost use Rattle.tnc_ports.specs.AskedPorts.{Told, told_by};
 ghost use Rattle.tnc_ports.specs.CutPart.{HasCutPart};
 ghost use Rattle.tnc_ports.specs.declared.report_line.ReportLine.{ReportLine};
+ghost use Rattle.tnc_ports.specs.declared.serve_words.KeyWords.{KeyWords};
 ghost use Rattle.tnc_ports.specs.HeldHosts.{StandsFor};
+ghost use Rattle.tnc_ports.specs.KeyTurns.{is_held};
 ghost use Rattle.tnc_ports.specs.Hosts.{Hosts};
 ghost use Rattle.tnc_ports.specs.Sampled.{Live, gap_line};
 ghost use Rattle.tnc_ports.specs.SampledFrames.{AreReceivedLines, AreSentLines};
 ghost use Rattle.tnc_ports.specs.SampledRun.{IsCutInReading};
-ghost use Rattle.tnc_ports.specs.SampledWrites.{stream_of};
+ghost use Rattle.tnc_ports.specs.SampledWrites.{Stream, stream_of};
 
 use crate::host_side::HostSide;
+use crate::key_lines::put_reports;
 use crate::monitor::frame_text;
 use crate::ports::Ports;
+use crate::releasing::release_key;
 use crate::report_line::ReportLine;
 use crate::report_lines::{octets_of_samples, text_of_both, text_of_lines};
 use crate::serve_words::ServeWords;
+use crate::sound::has_sound;
 use crate::writing::put;
 use ax25_address::read_path;
 use ax25_frames::Modulus;
 use channel_access::AirTick;
 use frame_merge::Candidate;
+use key_port::{KeyPort, KeyReports, KeySide};
 use ring_receiver::{Heard, RingReceiver};
 use sample_ring::Ring;
 use slicer_bank::{LaneGap, OpenGate};
 use std::alloc::Global;
 use std::net::Net;
+use std::sync::Wait;
 use std::thread::Threads;
 use tnc_base::{Octets, OutOfMemory, Sink};
 
@@ -53,14 +65,17 @@ pub(crate) struct Turning {
     pub(crate) ticks: u64,
     /// A write failed, so nothing more is written.
     pub(crate) failed: bool,
+    /// The key of the transmitter, if it has one.
+    pub(crate) key: Option<KeySide>,
 }
 
 impl Turning {
     ghost use Rattle.tnc_ports.specs.SampledHeld.{Keeps, StandsForLive, HearsFrame, HearsFrames, HearsSome, Ticks};
-    ghost use Rattle.tnc_ports.specs.SampledHeld.{TicksAll, ServesAll, Reads, Makes, Turns, IsCutOff};
+    ghost use Rattle.tnc_ports.specs.SampledHeld.{TicksAll, ServesAll, Reads, Makes, Turns, IsCutOff, From, KeyedSince};
+    ghost use Rattle.tnc_ports.specs.SampledHeld.{KeyStands, TurnsTheKey, IsReleasedSince, DoesForKey};
 
     /// Makes a turn, and answers whether every reader has met the end of the ring.
-    pub(crate) fn turn<R: Threads + Net + Sync, O: Sink, E: Sink, N: Ports>(
+    pub(crate) fn turn<R: Threads + Net + Sync, O: Sink, E: Sink, N: Ports, K: KeyPort<O>>(
         &mut self,
         rt: &R,
         ring: &Ring,
@@ -68,22 +83,27 @@ impl Turning {
         output: &mut O,
         report: &mut E,
         ports: &mut N,
+        key: &mut K,
     ) -> Result<bool, OutOfMemory>
         requires stands { (live : Live) × StandsForLive self.old (ring_len ring.now) receiver.old live }
         requires readers { All (λ reader. reader_ring reader ≡ ring_id ring.now) (readers_in receiver.old) }
         requires detection { receiver.old.detection ≡ self.old.words.dcd }
-        ensures turned { (live : Live) → StandsForLive self.old (ring_len ring.now) receiver.old live
-            → IfOk result (λ ended. Turns ended self.old self.new (ring_len ring.now) receiver.new live
+        ensures turned { (from : From) (live : Live) → StandsForLive self.old (ring_len ring.now) receiver.old live
+            → KeyedSince from self.old live (stream_of O.written O.faults output.old)
+            (stream_of E.written E.faults report.old) (line_told K.lines K.faults key.old)
+            → IfOk result (λ ended. Turns from ended self.old self.new (ring_len ring.now) receiver.new live
             (stream_of O.written O.faults output.old) (stream_of O.written O.faults output.new)
             (stream_of E.written E.faults report.old) (stream_of E.written E.faults report.new)
             (told_by N.polls N.sends N.sent N.is_shut N.faults ports.old)
-            (told_by N.polls N.sends N.sent N.is_shut N.faults ports.new)) }
-        ensures cut { (live : Live) → StandsForLive self.old (ring_len ring.now) receiver.old live
-            → OnErr result (IsCutOff self.old self.new (ring_len ring.now) receiver.new live
+            (told_by N.polls N.sends N.sent N.is_shut N.faults ports.new) (line_told K.lines K.faults key.new)) }
+        ensures cut { (from : From) (live : Live) → StandsForLive self.old (ring_len ring.now) receiver.old live
+            → KeyedSince from self.old live (stream_of O.written O.faults output.old)
+            (stream_of E.written E.faults report.old) (line_told K.lines K.faults key.old)
+            → OnErr result (IsCutOff from self.old self.new (ring_len ring.now) receiver.new live
             (stream_of O.written O.faults output.old) (stream_of O.written O.faults output.new)
             (stream_of E.written E.faults report.old) (stream_of E.written E.faults report.new)
             (told_by N.polls N.sends N.sent N.is_shut N.faults ports.old)
-            (told_by N.polls N.sends N.sent N.is_shut N.faults ports.new)) }
+            (told_by N.polls N.sends N.sent N.is_shut N.faults ports.new) (line_told K.lines K.faults key.new)) }
         ensures words { self.new.words ≡ self.old.words }
         ensures readers { All (λ reader. reader_ring reader ≡ ring_id ring.now) (readers_in receiver.new) }
         ensures detection { receiver.new.detection ≡ receiver.old.detection }
@@ -91,39 +111,48 @@ impl Turning {
         ensures dials { N.dials ports.new ≡ N.dials ports.old }
         ensures later { N.faults ports.old ≤ N.faults ports.new }
     {
-        let ended = self.make(rt, ring, receiver, output, report)?;
+        let ended = self.make(rt, ring, receiver, output, report, key)?;
         self.serve_hosts(rt, report, ports)?;
         Ok(ended)
     }
 
     /// Makes all of a turn that is not for hosts, and answers whether every reader has met the end of the ring. The
-    /// samples of its ticks are handed to the output here, before the ports are polled.
-    fn make<R: Threads + Sync, O: Sink, E: Sink>(
+    /// samples of its ticks are handed to the output here, before the ports are polled. The key has its turn right
+    /// before the ticks.
+    fn make<R: Threads + Net + Sync, O: Sink, E: Sink, K: KeyPort<O>>(
         &mut self,
         rt: &R,
         ring: &Ring,
         receiver: &mut RingReceiver,
         output: &mut O,
         report: &mut E,
+        key: &mut K,
     ) -> Result<bool, OutOfMemory>
         requires stands { (live : Live) × StandsForLive self.old (ring_len ring.now) receiver.old live }
         requires readers { All (λ reader. reader_ring reader ≡ ring_id ring.now) (readers_in receiver.old) }
         requires detection { receiver.old.detection ≡ self.old.words.dcd }
-        ensures made { (live : Live) → StandsForLive self.old (ring_len ring.now) receiver.old live
-            → IfOk result (λ ended. Makes ended self.old self.new (ring_len ring.now) receiver.new live
+        ensures made { (from : From) (live : Live) → StandsForLive self.old (ring_len ring.now) receiver.old live
+            → KeyedSince from self.old live (stream_of O.written O.faults output.old)
+            (stream_of E.written E.faults report.old) (line_told K.lines K.faults key.old)
+            → IfOk result (λ ended. Makes from ended self.old self.new (ring_len ring.now) receiver.new live
             (stream_of O.written O.faults output.old) (stream_of O.written O.faults output.new)
-            (stream_of E.written E.faults report.old) (stream_of E.written E.faults report.new)) }
-        ensures cut { (live : Live) → StandsForLive self.old (ring_len ring.now) receiver.old live
-            → OnErr result ((told : Told) → IsCutOff self.old self.new (ring_len ring.now) receiver.new live
+            (stream_of E.written E.faults report.old) (stream_of E.written E.faults report.new)
+            (line_told K.lines K.faults key.new)) }
+        ensures cut { (from : From) (live : Live) → StandsForLive self.old (ring_len ring.now) receiver.old live
+            → KeyedSince from self.old live (stream_of O.written O.faults output.old)
+            (stream_of E.written E.faults report.old) (line_told K.lines K.faults key.old)
+            → OnErr result ((told : Told) → IsCutOff from self.old self.new (ring_len ring.now) receiver.new live
             (stream_of O.written O.faults output.old) (stream_of O.written O.faults output.new)
-            (stream_of E.written E.faults report.old) (stream_of E.written E.faults report.new) told told) }
+            (stream_of E.written E.faults report.old) (stream_of E.written E.faults report.new) told told
+            (line_told K.lines K.faults key.new)) }
         ensures words { self.new.words ≡ self.old.words }
         ensures readers { All (λ reader. reader_ring reader ≡ ring_id ring.now) (readers_in receiver.new) }
         ensures detection { receiver.new.detection ≡ receiver.old.detection }
     {
         let heard = self.read(rt, ring, receiver, report)?;
         self.hear_all(report, &heard.items)?;
-        self.tick_up_to(output, report, receiver.busy(), heard.least)?;
+        self.turn_key(rt, output, report, key);
+        self.tick_up_to(output, report, key, receiver.busy(), heard.least)?;
         Ok(heard.ended)
     }
 
@@ -146,7 +175,7 @@ impl Turning {
             (record live { lanes = answers_in (ring_len ring.now) receiver.new })) }
         ensures unwritten { OnErr result ((report.new ≡ report.old) × (self.new.failed ≡ self.old.failed)) }
         ensures rest { (self.new.words ≡ self.old.words) × (self.new.hosts ≡ self.old.hosts)
-            × (self.new.ticks ≡ self.old.ticks) }
+            × (self.new.ticks ≡ self.old.ticks) × (self.new.key ≡ self.old.key) }
         ensures lengths { IfOk result (λ heard. All (λ item. HasFrameLength item.octets) heard.items.items) }
         ensures readers { All (λ reader. reader_ring reader ≡ ring_id ring.now) (readers_in receiver.new) }
         ensures detection { receiver.new.detection ≡ receiver.old.detection }
@@ -167,7 +196,8 @@ impl Turning {
         ensures cut { (hosts : Hosts) → Keeps self.old.hosts hosts
             → OnErr result (HearsSome items.now self.old self.new hosts (stream_of E.written E.faults report.old)
             (stream_of E.written E.faults report.new)) }
-        ensures rest { (self.new.words ≡ self.old.words) × (self.new.ticks ≡ self.old.ticks) }
+        ensures rest { (self.new.words ≡ self.old.words) × (self.new.ticks ≡ self.old.ticks)
+            × (self.new.key ≡ self.old.key) }
     {
         for item in items {
             self.hear(report, item.octets.as_slice())?;
@@ -182,7 +212,8 @@ impl Turning {
             → OnOk result (HearsFrame octets.now self.old self.new hosts (stream_of E.written E.faults report.old)
             (stream_of E.written E.faults report.new)) }
         ensures unwritten { OnErr result ((report.new ≡ report.old) × (self.new.failed ≡ self.old.failed)) }
-        ensures rest { (self.new.words ≡ self.old.words) × (self.new.ticks ≡ self.old.ticks) }
+        ensures rest { (self.new.words ≡ self.old.words) × (self.new.ticks ≡ self.old.ticks)
+            × (self.new.key ≡ self.old.key) }
     {
         let shown = self.received_lines(octets)?;
         self.hosts.hear(octets)?;
@@ -192,56 +223,166 @@ impl Turning {
         Ok(())
     }
 
+    /// Gives the key its turn, if there is one.
+    fn turn_key<R: Net, O: Sink, E: Sink, K: KeyPort<O>>(
+        &mut self,
+        rt: &R,
+        output: &O,
+        report: &mut E,
+        key: &mut K,
+    )
+        ensures turned { (from : From) (live : Live) → Keeps self.old.hosts live.hosts
+            → KeyedSince from self.old live (stream_of O.written O.faults output.now)
+            (stream_of E.written E.faults report.old) (line_told K.lines K.faults key.old)
+            → TurnsTheKey from self.old self.new live (stream_of O.written O.faults output.now)
+            (stream_of E.written E.faults report.old) (stream_of E.written E.faults report.new)
+            (line_told K.lines K.faults key.new) }
+        ensures rest { (self.new.words ≡ self.old.words) × (self.new.ticks ≡ self.old.ticks)
+            × (self.new.hosts ≡ self.old.hosts) }
+    {
+        match &mut self.key {
+            None => {}
+            Some(side) => {
+                let told = side.turn(rt, key, output);
+                put_reports(report, &mut self.failed, told);
+            }
+        }
+    }
+
     /// Makes each tick that a position has passed.
-    fn tick_up_to<O: Sink, E: Sink>(
+    fn tick_up_to<O: Sink, E: Sink, K: KeyPort<O>>(
         &mut self,
         output: &mut O,
         report: &mut E,
+        key: &mut K,
         busy: bool,
         least: u64,
     ) -> Result<(), OutOfMemory>
-        ensures ticked { (live : Live) → Keeps self.old.hosts live.hosts → self.old.ticks ≡ live.ticks
-            → OnOk result (TicksAll busy (least / 96 - live.ticks) self.old self.new live
+        ensures ticked { (from : From) (live : Live) → Keeps self.old.hosts live.hosts → self.old.ticks ≡ live.ticks
+            → KeyedSince from self.old live (stream_of O.written O.faults output.old)
+            (stream_of E.written E.faults report.old) (line_told K.lines K.faults key.old)
+            → OnOk result (TicksAll from busy (least / 96 - live.ticks) self.old self.new live
             (stream_of O.written O.faults output.old) (stream_of O.written O.faults output.new)
-            (stream_of E.written E.faults report.old) (stream_of E.written E.faults report.new)) }
-        ensures cut { (live : Live) → Keeps self.old.hosts live.hosts → self.old.ticks ≡ live.ticks
-            → OnErr result ((count : ℕ) × (live.ticks + count ≤ least / 96) × Ticks busy count self.old self.new live
+            (stream_of E.written E.faults report.old) (stream_of E.written E.faults report.new)
+            (line_told K.lines K.faults key.new)) }
+        ensures cut { (from : From) (live : Live) → Keeps self.old.hosts live.hosts → self.old.ticks ≡ live.ticks
+            → KeyedSince from self.old live (stream_of O.written O.faults output.old)
+            (stream_of E.written E.faults report.old) (line_told K.lines K.faults key.old)
+            → OnErr result ((count : ℕ) × (live.ticks + count ≤ least / 96) × Ticks from busy count self.old self.new live
             (stream_of O.written O.faults output.old) (stream_of O.written O.faults output.new)
-            (stream_of E.written E.faults report.old) (stream_of E.written E.faults report.new)) }
+            (stream_of E.written E.faults report.old) (stream_of E.written E.faults report.new)
+            (line_told K.lines K.faults key.new)) }
         ensures rest { self.new.words ≡ self.old.words }
     {
         for tick in self.ticks..least / TICK {
-            self.tick(output, report, busy, tick)?;
+            self.tick(output, report, key, busy, tick)?;
         }
         Ok(())
     }
 
-    /// Makes the tick of a number.
-    fn tick<O: Sink, E: Sink>(
+    /// Makes the tick of a number. The key is turned on, or off, before the samples are written.
+    fn tick<O: Sink, E: Sink, K: KeyPort<O>>(
         &mut self,
         output: &mut O,
         report: &mut E,
+        key: &mut K,
         busy: bool,
         tick: u64,
     ) -> Result<(), OutOfMemory>
         requires { tick < 2 ^ 64 - 1 }
-        ensures ticked { (live : Live) → Keeps self.old.hosts live.hosts → tick ≡ live.ticks
-            → OnOk result (TicksAll busy 1 self.old self.new live
+        ensures ticked { (from : From) (live : Live) → Keeps self.old.hosts live.hosts → tick ≡ live.ticks
+            → KeyedSince from self.old live (stream_of O.written O.faults output.old)
+            (stream_of E.written E.faults report.old) (line_told K.lines K.faults key.old)
+            → OnOk result (TicksAll from busy 1 self.old self.new live
             (stream_of O.written O.faults output.old) (stream_of O.written O.faults output.new)
-            (stream_of E.written E.faults report.old) (stream_of E.written E.faults report.new)) }
-        ensures unwritten { OnErr result ((output.new ≡ output.old) × (report.new ≡ report.old)
-            × (self.new.failed ≡ self.old.failed)) }
+            (stream_of E.written E.faults report.old) (stream_of E.written E.faults report.new)
+            (line_told K.lines K.faults key.new)) }
+        ensures unwritten { OnErr result ((output.new ≡ output.old) × (report.new ≡ report.old) × (key.new ≡ key.old)
+            × (self.new.failed ≡ self.old.failed) × (self.new.key ≡ self.old.key)) }
         ensures count { OnOk result (self.new.ticks ≡ tick + 1) }
         ensures rest { self.new.words ≡ self.old.words }
     {
-        let air = self.hosts.tick(busy)?;
+        let held = self.is_busy(busy);
+        let air = self.hosts.tick(held)?;
         let lines = self.hosts.take_lines();
         let shown = self.sent_lines(&air)?;
         let text = text_of_both(self.alloc, &shown, &lines)?;
+        let keyed = self.key_tick(&air.samples, output, key);
         put(output, &mut self.failed, &octets_of_samples(&air.samples));
         put(report, &mut self.failed, &text);
+        put_reports(report, &mut self.failed, keyed);
+        let lost = self.key_written(output, key);
+        put_reports(report, &mut self.failed, lost);
         self.ticks = tick + 1;
         Ok(())
+    }
+
+    /// Whether no transmission may begin: the channel is busy, or the transmitter cannot be keyed.
+    fn is_busy(&self, busy: bool) -> bool
+        ensures { (keyed : List KeyEvent) → KeyStands self.now.words.key self.now.key keyed
+            → result ≡ (busy || is_held self.now.words.key keyed) }
+    {
+        if busy {
+            return true;
+        }
+        match &self.key {
+            None => false,
+            Some(side) => !side.is_free(),
+        }
+    }
+
+    /// Tells the key whether the samples of a tick have sound, before they are written.
+    fn key_tick<O: Sink, K: KeyPort<O>>(
+        &mut self,
+        samples: &[i16; 96],
+        output: &O,
+        key: &mut K,
+    ) -> KeyReports
+        ensures told { (words : KeyWords) (octets : ℕ) (keyed : List KeyEvent) → self.old.words.key ≡ Some words
+            → KeyStands self.old.words.key self.old.key keyed
+            → DoesForKey words octets (O.written output.now) (KeyTick (has_sound samples.now)) keyed
+            (reports_in result) self.new.key
+            (line_told K.lines K.faults key.old) (line_told K.lines K.faults key.new) }
+        ensures none { self.old.key ≡ None → (self.new.key ≡ None) × (key.new ≡ key.old) × (reports_in result ≡ []) }
+        ensures rest { (self.new.words ≡ self.old.words) × (self.new.ticks ≡ self.old.ticks)
+            × (self.new.hosts ≡ self.old.hosts) × (self.new.failed ≡ self.old.failed) }
+    {
+        match &mut self.key {
+            None => KeyReports::NOTHING,
+            Some(side) => side.tick(has_sound(samples), key, output),
+        }
+    }
+
+    /// Tells the key whether a write has failed by now, after the samples of a tick.
+    fn key_written<O: Sink, K: KeyPort<O>>(&mut self, output: &O, key: &mut K) -> KeyReports
+        ensures told { (words : KeyWords) (octets : ℕ) (keyed : List KeyEvent) → self.old.words.key ≡ Some words
+            → KeyStands self.old.words.key self.old.key keyed
+            → DoesForKey words octets (O.written output.now) (KeyAfterWrite self.old.failed) keyed
+            (reports_in result) self.new.key
+            (line_told K.lines K.faults key.old) (line_told K.lines K.faults key.new) }
+        ensures none { self.old.key ≡ None → (self.new.key ≡ None) × (key.new ≡ key.old) × (reports_in result ≡ []) }
+        ensures rest { (self.new.words ≡ self.old.words) × (self.new.ticks ≡ self.old.ticks)
+            × (self.new.hosts ≡ self.old.hosts) × (self.new.failed ≡ self.old.failed) }
+    {
+        match &mut self.key {
+            None => KeyReports::NOTHING,
+            Some(side) => side.written(self.failed, key, output),
+        }
+    }
+
+    /// Releases the key at the end of the run, if there is one.
+    pub(crate) fn release<R: Net + Wait, O: Sink, K: KeyPort<O>>(
+        &mut self,
+        rt: &R,
+        output: &O,
+        key: &mut K,
+    )
+        ensures { (from : From) (live : Live) (report : Stream)
+            → KeyedSince from self.old live (stream_of O.written O.faults output.now) report
+            (line_told K.lines K.faults key.old)
+            → IsReleasedSince from self.old.words.key live (line_told K.lines K.faults key.new) }
+    {
+        release_key(rt, &mut self.key, output, key);
     }
 
     /// Polls the ports, takes what came, and sends.
@@ -260,7 +401,8 @@ impl Turning {
             (told_by N.polls N.sends N.sent N.is_shut N.faults ports.old)
             (told_by N.polls N.sends N.sent N.is_shut N.faults ports.new)) }
         ensures unwritten { OnErr result ((report.new ≡ report.old) × (self.new.failed ≡ self.old.failed)) }
-        ensures rest { (self.new.words ≡ self.old.words) × (self.new.ticks ≡ self.old.ticks) }
+        ensures rest { (self.new.words ≡ self.old.words) × (self.new.ticks ≡ self.old.ticks)
+            × (self.new.key ≡ self.old.key) }
         ensures listens { N.listens ports.new ≡ N.listens ports.old }
         ensures dials { N.dials ports.new ≡ N.dials ports.old }
         ensures later { N.faults ports.old ≤ N.faults ports.new }

@@ -3,6 +3,10 @@ pub mod Found
 pub mod OneNumber
 pub mod OneLink
 pub mod OneCarrier
+pub mod OneKey
+pub mod OnePort
+pub mod OneChannel
+pub mod OneServe
 pub mod CallLists
 pub mod AskedHelp
 pub mod OneCommand

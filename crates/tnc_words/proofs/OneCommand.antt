@@ -3,7 +3,7 @@ use Rattle.tnc_words.proofs.Common.{◌≡◌, ℕ, ◌+◌, false, Option, Some
 use Rattle.tnc_words.proofs.Common.{eqb-false, eqb, Row, Text, Command, Help, Version, Receiving, Standard, Sensitive}
 use Rattle.tnc_words.proofs.Common.{ShortWave, Fx25, SampleRate, Narrow, Topic, Asks, IsDecode, IsEncode, IsShow, IsLoop}
 use Rattle.tnc_words.proofs.Common.{IsBench, first_word, HasDecodeOptions, HasEncodeOptions, HasShowOptions}
-use Rattle.tnc_words.proofs.Common.{HasLoopOptions, HasBenchOptions, HasServeOptions, HasRecordOptions, HasCallOptions}
+use Rattle.tnc_words.proofs.Common.{HasLoopOptions, HasBenchOptions, HasRecordOptions, HasCallOptions}
 use Rattle.tnc_words.proofs.Common.{IsRecord, IsHelp, IsVersion, HasReceiving, samples_a_second}
 use Rattle.std.proofs.Common.{◌*◌}
 use Rattle.std.proofs.lemmas.Bool.{true≢false}
@@ -23,10 +23,9 @@ use Rattle.tnc_words.specs.declared.command.CallOptions.{CallOptions}
 use Rattle.tnc_words.specs.Commands.{IsServe, IsCall}
 use Rattle.tnc_words.proofs.AskedHelp.{help_alone, help_is_no_version, one_topic, version_alone}
 use Rattle.tnc_words.proofs.CallLists.{one_given_call, one_repeaters}
-use Rattle.tnc_words.proofs.OneCarrier.{one_dcd}
-use Rattle.tnc_words.proofs.OneLink.{one_call as one_digi, one_params}
 use Rattle.tnc_words.proofs.OneModem.{one_modem}
 use Rattle.tnc_words.proofs.OneNumber.{given_number, one_number}
+use Rattle.tnc_words.proofs.OneServe.{one_serve_options}
 
 eight_is_not : (n : ℕ) → n ≡ 128 → 8 ≡ n → ⊥
 eight_is_not n is same = omega arith
@@ -137,36 +136,6 @@ one_bench_options found bench other h k =
     ∙ ap (λ v. record bench { seed = seed; octets = octets; loss = loss; noise = noise; full = v }) (h.full
     ∙ sym k.full)
     ∙ ap (λ v. record other { wide = v }) (h.wide ∙ sym k.wide)
-
-one_serve_options : (found : List Row) (serve other : ServeOptions) → HasServeOptions found serve
-    → HasServeOptions found other → serve ≡ other
-one_serve_options found serve other h k =
-    let kiss = other.kiss in
-    let agw = other.agw in
-    let seed = other.seed in
-    let params = other.params in
-    let digi = other.digi in
-    let dcd = other.dcd in
-    ap (λ v. record serve { kiss = v }) (given_number _ _ _ _ _ h.kiss k.kiss)
-    ∙ ap (λ v. record serve { kiss = kiss; agw = v }) (given_number _ _ _ _ _ h.agw k.agw)
-    ∙ ap (λ v. record serve { kiss = kiss; agw = agw; seed = v }) (one_number _ _ _ _ _ _ h.seed k.seed)
-    ∙ ap (λ v. record serve { kiss = kiss; agw = agw; seed = seed; params = v })
-    (one_params found serve.params other.params h.params.said k.params.said)
-    ∙ ap (λ v. record serve { kiss = kiss; agw = agw; seed = seed; params = params; digi = v })
-    (one_digi _ serve.digi other.digi h.digi k.digi)
-    ∙ ap (λ v. record serve { kiss = kiss; agw = agw; seed = seed; params = params; digi = digi; dcd = v })
-    (one_dcd _ serve.dcd other.dcd h.dcd k.dcd)
-    ∙ ap (λ v. record serve {
-      kiss = kiss;
-      agw = agw;
-      seed = seed;
-      params = params;
-      digi = digi;
-      dcd = dcd;
-      sensitive = v;
-    })
-    (h.sensitive ∙ sym k.sensitive)
-    ∙ ap (λ v. record other { monitor = v }) (h.monitor ∙ sym k.monitor)
 
 one_record_options : (found : List Row) (recorder other : RecordOptions) → HasRecordOptions found recorder
     → HasRecordOptions found other → recorder ≡ other

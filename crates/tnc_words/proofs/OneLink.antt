@@ -13,19 +13,23 @@ use Rattle.tnc_words.proofs.OneNumber.{one_number}
 other_name : codes "rej" ≡ codes "srej" → ⊥
 other_name is = eqb-false 3 4 refl (ap length is)
 
-one_mode : (text : Option Text) (mode other : Mode) → HasMode text mode → HasMode text other → mode ≡ other
-one_mode None mode other h k = h ∙ sym k
-one_mode (Some text) Rej Rej h k = refl
-one_mode (Some text) Rej Srej h k = absurd (other_name (sym h ∙ k))
-one_mode (Some text) Srej Rej h k = absurd (other_name (sym k ∙ h))
-one_mode (Some text) Srej Srej h k = refl
+one_mode :
+    (usual : Mode) (text : Option Text) (mode other : Mode) → HasMode usual text mode → HasMode usual text other
+    → mode ≡ other
+one_mode usual None mode other h k = h ∙ sym k
+one_mode usual (Some text) Rej Rej h k = refl
+one_mode usual (Some text) Rej Srej h k = absurd (other_name (sym h ∙ k))
+one_mode usual (Some text) Srej Rej h k = absurd (other_name (sym k ∙ h))
+one_mode usual (Some text) Srej Srej h k = refl
 
 pub one_params : (found : List Row) (params other : Params) → SaysParams found params → SaysParams found other
     → params ≡ other
 one_params found params other h k =
-    ap (λ v. record params { mode = v }) (one_mode _ params.mode other.mode h.mode k.mode)
+    ap (λ v. record params { mode = v }) (one_mode Rej _ params.mode other.mode h.mode k.mode)
     ∙ ap (λ v. record params { mode = other.mode; window = v }) (one_number _ _ _ _ _ _ h.window k.window)
     ∙ ap (λ v. record params { mode = other.mode; window = other.window; wide = v }) (h.wide ∙ sym k.wide)
+    ∙ ap (λ v. record other { wide_mode = v; wide_window = params.wide_window })
+    (one_mode Srej _ params.wide_mode other.wide_mode h.wide_mode k.wide_mode)
     ∙ ap (λ v. record other { wide_window = v }) (one_number _ _ _ _ _ _ h.wide_window k.wide_window)
 
 -- what tells an SSID tells one

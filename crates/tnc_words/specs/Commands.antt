@@ -21,7 +21,10 @@ use Rattle.tnc_words.specs.Forms.{audio_form, frame_form}
 use Rattle.tnc_words.specs.Rates.{HasReceiving}
 use Rattle.tnc_words.specs.Links.{HasCall, HasParams}
 use Rattle.tnc_words.specs.Carriers.{HasDcd}
-use Rattle.tnc_words.specs.Numbers.{GivesNumber, HasNumber}
+use Rattle.tnc_words.specs.Keys.{HasPtt}
+use Rattle.tnc_words.specs.Numbers.{GivesNumber, HasNumber, NamesNumber}
+use Rattle.tnc_words.specs.Ports.{HasAddress, HasPort}
+use Rattle.tnc_words.specs.Channels.{HasChannel}
 use Rattle.tnc_words.specs.Stations.{GivesCall, HasRepeaters}
 use Rattle.tnc_words.specs.Sending.{HasModem}
 
@@ -98,17 +101,23 @@ pub record IsBench (words : List Text) (bench : BenchOptions) : Type 0 where
   pub taken : bench_faults words ≡ []
   pub options : HasBenchOptions (bench_rows words) bench
 
--- The options of serve. Its ports have no default. If no other was given, the seed is 1, and a channel is busy by the
--- tones of another station.
+-- The options of serve. If no others were given, the ports are 8001 for KISS and 8000 for AGWPE at 127.0.0.1, the seed is
+-- not named, a packet of a host's data has 256 octets, and a channel is busy by the tones of another station. Nothing is
+-- keyed if no port of rigctld was given.
 pub record HasServeOptions (found : List Row) (serve : ServeOptions) : Type 0 where
-  pub kiss : GivesNumber (first_of (codes "kiss") found) 1 65535 serve.kiss
-  pub agw : GivesNumber (first_of (codes "agw") found) 1 65535 serve.agw
-  pub seed : HasNumber (first_of (codes "seed") found) 1 0 (2 ^ 64 - 1) serve.seed
+  pub kiss : HasPort (first_of (codes "kiss") found) 8001 serve.kiss
+  pub agw : HasPort (first_of (codes "agw") found) 8000 serve.agw
+  pub bind : HasAddress (first_of (codes "bind") found) serve.bind
+  pub seed : NamesNumber (first_of (codes "seed") found) 0 (2 ^ 64 - 1) serve.seed
   pub params : HasParams found serve.params
+  pub channel : HasChannel found serve.channel
+  pub paclen : HasNumber (first_of (codes "paclen") found) 256 16 256 serve.paclen
   pub digi : HasCall (first_of (codes "digi") found) serve.digi
   pub dcd : HasDcd (first_of (codes "dcd") found) serve.dcd
   pub sensitive : serve.sensitive ≡ is_used (codes "sensitive") found
   pub monitor : serve.monitor ≡ is_used (codes "monitor") found
+  pub ptt : HasPtt (first_of (codes "ptt") found) (first_of (codes "ptt-tail") found) (is_used (codes "ptt-data") found)
+      serve.ptt
 
 -- serve with these options
 pub record IsServe (words : List Text) (serve : ServeOptions) : Type 0 where

@@ -6,6 +6,9 @@ pub mod Sending
 pub mod Help
 pub mod Links
 pub mod Carriers
+pub mod Keys
+pub mod Ports
+pub mod Channels
 pub mod Rates
 pub mod Stations
 pub mod Commands

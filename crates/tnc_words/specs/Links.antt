@@ -15,20 +15,21 @@ abbrev pub mode_name : Mode → Text
 mode_name Rej = codes "rej"
 mode_name Srej = codes "srej"
 
--- the mode that an option names, or REJ if it was not given
-abbrev pub HasMode : Option Text → Mode → Type 0
-HasMode None mode = mode ≡ Rej
-HasMode (Some text) mode = text ≡ mode_name mode
+-- the mode that an option names, or the usual one if it was not given
+abbrev pub HasMode : Mode → Option Text → Mode → Type 0
+HasMode usual None mode = mode ≡ usual
+HasMode usual (Some text) mode = text ≡ mode_name mode
 
--- What the options say of links. If no other was given, the mode is REJ, the window 4, calls are modulo 8, and the
--- window modulo 128 is 32.
+-- What the options say of links. A mode that is given is that of both moduli. If no other was given, the mode modulo 8
+-- is REJ, the window 4, calls are modulo 8, the mode modulo 128 is SREJ, and the window there is 32.
 pub record SaysParams (found : List Row) (params : Params) : Type 0 where
-  pub mode : HasMode (first_of (codes "mode") found) params.mode
+  pub mode : HasMode Rej (first_of (codes "mode") found) params.mode
   pub window : HasNumber (first_of (codes "window") found) 4 0 255 params.window
   pub wide : params.wide ≡ is_used (codes "wide") found
+  pub wide_mode : HasMode Srej (first_of (codes "mode") found) params.wide_mode
   pub wide_window : HasNumber (first_of (codes "wide-window") found) 32 0 255 params.wide_window
 
--- these are the parameters of links, and each window fits its modulus in the mode
+-- these are the parameters of links, and each window fits its modulus in its mode
 pub record HasParams (found : List Row) (params : Params) : Type 0 where
   pub said : SaysParams found params
   pub fit : HasWindows params

@@ -17,3 +17,9 @@ GivesNumber (Some text) least greatest number = IsNumber text number × (least �
 abbrev pub HasNumber : Option Text → ℕ → ℕ → ℕ → ℕ → Type 0
 HasNumber None default least greatest number = number ≡ default
 HasNumber (Some text) default least greatest number = GivesNumber (Some text) least greatest number
+
+-- an option's number, or no number if it was not given
+abbrev pub NamesNumber : Option Text → ℕ → ℕ → Option ℕ → Type 0
+NamesNumber None least greatest number = number ≡ None
+NamesNumber (Some text) least greatest None = ⊥
+NamesNumber (Some text) least greatest (Some number) = GivesNumber (Some text) least greatest number

@@ -59,9 +59,10 @@ abbrev pub bench_app : App
 bench_app = with_rule (with_rule (with_run (with_rule (new_app (codes "bench"))
     (needed_rule (codes "seed")))) (flag_rule (codes "full"))) (flag_rule (codes "wide"))
 
--- --kiss n --agw n
+-- [--kiss port] [--agw port] [--bind A.B.C.D]
 abbrev pub with_ports : App → App
-with_ports app = with_rule (with_rule app (needed_rule (codes "kiss"))) (needed_rule (codes "agw"))
+with_ports app = with_rule (with_rule (with_rule app
+    (option_rule (codes "kiss"))) (option_rule (codes "agw"))) (option_rule (codes "bind"))
 
 -- [--mode rej or srej] [--window n]
 abbrev pub with_window : App → App
@@ -71,17 +72,29 @@ with_window app = with_rule (with_rule app (option_rule (codes "mode"))) (option
 abbrev pub with_wide_window : App → App
 with_wide_window app = with_rule (with_rule app (flag_rule (codes "wide"))) (option_rule (codes "wide-window"))
 
+-- [--txdelay n] [--txtail n] [--persist n] [--slot n] [--duplex]
+abbrev pub with_channel : App → App
+with_channel app = with_rule (with_rule (with_rule (with_rule (with_rule app
+    (option_rule (codes "txdelay"))) (option_rule (codes "txtail"))) (option_rule (codes "persist")))
+    (option_rule (codes "slot"))) (flag_rule (codes "duplex"))
+
 -- [--digi call] [--dcd how] [--sensitive] [--monitor]
 abbrev pub with_station : App → App
 with_station app = with_rule (with_rule (with_rule (with_rule app
     (option_rule (codes "digi"))) (option_rule (codes "dcd"))) (flag_rule (codes "sensitive")))
     (flag_rule (codes "monitor"))
 
--- serve --kiss n --agw n [--seed n] [--mode rej or srej] [--window n] [--wide] [--wide-window n] [--digi call]
--- [--dcd how] [--sensitive] [--monitor]
+-- [--ptt n] [--ptt-tail n] [--ptt-data]
+abbrev pub with_key : App → App
+with_key app = with_rule (with_rule (with_rule app
+    (option_rule (codes "ptt"))) (option_rule (codes "ptt-tail"))) (flag_rule (codes "ptt-data"))
+
+-- serve [--kiss port] [--agw port] [--bind A.B.C.D] [--seed n] [--mode rej or srej] [--window n] [--wide] [--wide-window n]
+-- [--txdelay n] [--txtail n] [--persist n] [--slot n] [--duplex] [--paclen n] [--digi call] [--dcd how] [--sensitive] [--monitor] [--ptt n] [--ptt-tail n] [--ptt-data]
 abbrev pub serve_app : App
-serve_app = with_station (with_wide_window
-    (with_window (with_rule (with_ports (new_app (codes "serve"))) (option_rule (codes "seed")))))
+serve_app = with_key (with_station (with_rule (with_channel (with_wide_window
+    (with_window (with_rule (with_ports (new_app (codes "serve"))) (option_rule (codes "seed"))))))
+    (option_rule (codes "paclen"))))
 
 -- record [--keep n] [--sensitive]
 abbrev pub record_app : App

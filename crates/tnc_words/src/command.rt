@@ -4,6 +4,7 @@ use arrayvec::ArrayVec;
 use ax25_address::Call;
 use ax25_frames::Modulus;
 use link_machine::Params;
+use std::net::Ipv4Addr;
 
 /// How samples come and go: raw PCM, or a WAV file.
 #[derive(Clone, Copy, Debug, PartialEq, Eq)]
@@ -175,14 +176,20 @@ pub enum Dcd {
 /// The options of `serve`.
 #[derive(Clone, Copy, Debug, PartialEq, Eq)]
 pub struct ServeOptions {
-    /// The TCP port for KISS hosts, 1 to 65,535.
-    pub kiss: u16,
-    /// The TCP port for AGWPE hosts, 1 to 65,535.
-    pub agw: u16,
-    /// What the random numbers of channel access are drawn from.
-    pub seed: u64,
+    /// The TCP port for KISS hosts, 1 to 65,535, if one is opened.
+    pub kiss: Option<u16>,
+    /// The TCP port for AGWPE hosts, 1 to 65,535, if one is opened.
+    pub agw: Option<u16>,
+    /// The address that hosts connect to.
+    pub bind: Ipv4Addr,
+    /// What the random numbers of channel access are drawn from, if it was named.
+    pub seed: Option<u64>,
     /// What new links are made with. Each window fits its modulus.
     pub params: Params,
+    /// How the station takes the channel until a host sets it otherwise.
+    pub channel: ChannelOptions,
+    /// How many octets of a host's data go into a packet, 16 to 256.
+    pub paclen: u16,
     /// The call for which frames are repeated, if any are.
     pub digi: Option<Call>,
     /// By what the channel is busy.
@@ -191,6 +198,34 @@ pub struct ServeOptions {
     pub sensitive: bool,
     /// Each frame that is heard or sent is reported in a line.
     pub monitor: bool,
+    /// How the transmitter is keyed, if it is.
+    pub ptt: Option<PttOptions>,
+}
+
+/// How the station of `serve` takes the channel. Times are in units of 10 ms.
+#[derive(Clone, Copy, Debug, PartialEq, Eq)]
+pub struct ChannelOptions {
+    /// TXDELAY: how long flags are sent before the first frame.
+    pub tx_delay: u8,
+    /// TXtail: how long flags are sent after the last frame.
+    pub tx_tail: u8,
+    /// P: a draw from 0 to 255 begins a transmission if it is at most this.
+    pub persist: u8,
+    /// The slot time: how long a transmission waits after a draw that began none.
+    pub slot_time: u8,
+    /// A transmission begins whether or not the channel is busy.
+    pub full_duplex: bool,
+}
+
+/// How the transmitter of `serve` is keyed: by rigctld, the daemon of hamlib.
+#[derive(Clone, Copy, Debug, PartialEq, Eq)]
+pub struct PttOptions {
+    /// The port of rigctld on 127.0.0.1, 1 to 65535.
+    pub port: u16,
+    /// For how many ticks of 10 ms the key stays on after the last one with sound, at most 500.
+    pub tail: u16,
+    /// The transmitter takes the sound of its data socket, and not of its microphone.
+    pub data_socket: bool,
 }
 
 /// The options of `record`.

@@ -7,6 +7,7 @@
 
 mod bench_words;
 mod call_words;
+mod channel_words;
 mod command;
 mod decode_words;
 mod encode_words;
@@ -29,8 +30,9 @@ mod texts;
 mod topic;
 
 pub use command::{
-    AudioForm, BenchOptions, CallOptions, CheckOctets, Command, Dcd, DecodeWords, EncodeWords,
-    FrameForm, LoopWords, Modem, Receiving, RecordOptions, SampleRate, ServeOptions, ShowWords,
+    AudioForm, BenchOptions, CallOptions, ChannelOptions, CheckOctets, Command, Dcd, DecodeWords,
+    EncodeWords, FrameForm, LoopWords, Modem, PttOptions, Receiving, RecordOptions, SampleRate,
+    ServeOptions, ShowWords,
 };
 pub use fault::WordsFault;
 pub use laws::one_command;

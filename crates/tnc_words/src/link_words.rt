@@ -38,29 +38,30 @@ fn params_said(found: &ArgMatches) -> Option<Params>
     ensures none { IsNone result → (params : Params) → ¬ SaysParams (rows_of (found_of found.now)) params }
 {
     Some(Params {
-        mode: mode(text_of(found, "mode"))?,
+        mode: mode(text_of(found, "mode"), Mode::Rej)?,
         window: number_found(found, "window", 4, WINDOW)? as u8,
         wide: has_flag(found, "wide"),
+        wide_mode: mode(text_of(found, "mode"), Mode::Srej)?,
         wide_window: number_found(found, "wide-window", 32, WINDOW)? as u8,
     })
 }
 
-/// Whether each window fits its modulus in the mode.
+/// Whether each window fits its modulus in its mode.
 fn has_windows(params: Params) -> bool
     ensures yes { IsTrue result → HasWindows params }
     ensures no { IsFalse result → ¬ HasWindows params }
 {
     check_window(8, params.window, params.mode).is_ok()
-        && check_window(128, params.wide_window, params.mode).is_ok()
+        && check_window(128, params.wide_window, params.wide_mode).is_ok()
 }
 
-/// The mode with the name in a text, or REJ if there is no text.
-fn mode(text: Option<&str>) -> Option<Mode>
-    ensures mode { IfSome result (HasMode (option_map (λ t. t.now) text.entry)) }
-    ensures none { IsNone result → (mode : Mode) → ¬ HasMode (option_map (λ t. t.now) text.entry) mode }
+/// The mode with the name in a text, or `usual` if there is no text.
+fn mode(text: Option<&str>, usual: Mode) -> Option<Mode>
+    ensures mode { IfSome result (HasMode usual (option_map (λ t. t.now) text.entry)) }
+    ensures none { IsNone result → (mode : Mode) → ¬ HasMode usual (option_map (λ t. t.now) text.entry) mode }
 {
     let Some(text) = text else {
-        return Some(Mode::Rej);
+        return Some(usual);
     };
     match text {
         "rej" => Some(Mode::Rej),

@@ -1,7 +1,7 @@
 //! Numbers among the words.
-ghost use Rattle.std.specs.Prelude.{◌≡◌, ◌<◌, ◌^◌, ℕ, IfSome, IsNone, Some, option_map};
+ghost use Rattle.std.specs.Prelude.{◌≡◌, ◌<◌, ◌^◌, ℕ, IfSome, IsNone, Option, Some, option_map};
 ghost use Rattle.clap.specs.Words.{first_of, found_of, rows_of};
-ghost use Rattle.tnc_words.specs.Numbers.{GivesNumber, HasNumber, IsNumber};
+ghost use Rattle.tnc_words.specs.Numbers.{GivesNumber, HasNumber, IsNumber, NamesNumber};
 
 use crate::parsing::text_of;
 use clap::ArgMatches;
@@ -49,6 +49,18 @@ pub(crate) fn number_or_default(text: Option<&str>, default: u64, bounds: Bounds
         return Some(default);
     };
     number_within(text, bounds)
+}
+
+/// The number of an option: that of its text, or no number if it has none.
+pub(crate) fn number_if_given(text: Option<&str>, bounds: Bounds) -> Option<Option<u64>>
+    ensures number { IfSome result (NamesNumber (option_map (λ t. t.now) text.entry) bounds.least bounds.greatest) }
+    ensures none { IsNone result → (number : Option ℕ)
+        → ¬ NamesNumber (option_map (λ t. t.now) text.entry) bounds.least bounds.greatest number }
+{
+    let Some(text) = text else {
+        return Some(None);
+    };
+    Some(Some(number_within(text, bounds)?))
 }
 
 /// The number of a text, if it is one within bounds.

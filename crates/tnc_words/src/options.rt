@@ -63,18 +63,28 @@ pub(crate) const BENCH: [Entry; 6] = [
 ];
 
 /// The options of `serve`.
-pub(crate) const SERVE: [Entry; 11] = [
-    Entry::Needed("kiss"),
-    Entry::Needed("agw"),
+pub(crate) const SERVE: [Entry; 21] = [
+    Entry::Value("kiss"),
+    Entry::Value("agw"),
+    Entry::Value("bind"),
     Entry::Value("seed"),
     Entry::Value("mode"),
     Entry::Value("window"),
     Entry::Flag("wide"),
     Entry::Value("wide-window"),
+    Entry::Value("txdelay"),
+    Entry::Value("txtail"),
+    Entry::Value("persist"),
+    Entry::Value("slot"),
+    Entry::Flag("duplex"),
+    Entry::Value("paclen"),
     Entry::Value("digi"),
     Entry::Value("dcd"),
     Entry::Flag("sensitive"),
     Entry::Flag("monitor"),
+    Entry::Value("ptt"),
+    Entry::Value("ptt-tail"),
+    Entry::Flag("ptt-data"),
 ];
 
 /// The options of `record`.

@@ -1,19 +1,25 @@
 //! `serve` and its options.
-ghost use Rattle.std.specs.Prelude.{◌≡◌, Some, IfOk, IfSome, IsErrOf, IsNone, codes, map, option_map, string_bytes};
+ghost use Rattle.std.specs.Prelude.{◌≡◌, ℕ, Option, Some, IfOk, IfSome, IsErrOf, IsNone, codes, map, option_map, string_bytes};
+ghost use Rattle.std.specs.declared.net.ipv4_addr.Ipv4Addr.{Ipv4Addr};
 ghost use Rattle.clap.specs.Words.{found_of, rows_of};
 ghost use Rattle.tnc_words.specs.declared.command.Dcd.{Dcd};
+ghost use Rattle.tnc_words.specs.declared.command.PttOptions.{PttOptions};
 ghost use Rattle.tnc_words.specs.declared.command.ServeOptions.{ServeOptions};
 ghost use Rattle.tnc_words.specs.Carriers.{HasDcd};
+ghost use Rattle.tnc_words.specs.Keys.{HasPtt};
+ghost use Rattle.tnc_words.specs.Ports.{HasAddress, HasPort};
 ghost use Rattle.tnc_words.specs.Commands.{HasServeOptions, IsServe, first_word};
 
-use crate::command::{Dcd, ServeOptions};
+use crate::channel_words::channel;
+use crate::command::{Dcd, PttOptions, ServeOptions};
 use crate::fault::WordsFault;
 use crate::link_words::{call_said, link_params};
-use crate::number::{Bounds, number_found, number_given, number_within};
+use crate::number::{Bounds, number_found, number_if_given, number_or_default, number_within};
 use crate::options::SERVE;
 use crate::parsing::{has_flag, parsed, text_of};
 use clap::ArgMatches;
 use std::alloc::Global;
+use std::net::Ipv4Addr;
 
 /// The ports of TCP.
 const PORT: Bounds = Bounds {
@@ -25,6 +31,18 @@ const PORT: Bounds = Bounds {
 const SEED: Bounds = Bounds {
     least: 0,
     greatest: u64::MAX,
+};
+
+/// The octets of a packet.
+const PACLEN: Bounds = Bounds {
+    least: 16,
+    greatest: 256,
+};
+
+/// For how many ticks a key stays on after the last one with sound.
+const TAIL: Bounds = Bounds {
+    least: 0,
+    greatest: 500,
 };
 
 /// How many flags in a row make a channel busy.
@@ -53,14 +71,75 @@ fn serve_options(found: &ArgMatches) -> Option<ServeOptions>
     ensures none { IsNone result → (serve : ServeOptions) → ¬ HasServeOptions (rows_of (found_of found.now)) serve }
 {
     Some(ServeOptions {
-        kiss: number_given(found, "kiss", PORT)? as u16,
-        agw: number_given(found, "agw", PORT)? as u16,
-        seed: number_found(found, "seed", 1, SEED)?,
+        kiss: port_said(text_of(found, "kiss"), 8001)?,
+        agw: port_said(text_of(found, "agw"), 8000)?,
+        bind: address(text_of(found, "bind"))?,
+        seed: number_if_given(text_of(found, "seed"), SEED)?,
         params: link_params(found)?,
+        channel: channel(found)?,
+        paclen: number_found(found, "paclen", 256, PACLEN)? as u16,
         digi: call_said(text_of(found, "digi"))?,
         dcd: dcd(text_of(found, "dcd"))?,
         sensitive: has_flag(found, "sensitive"),
         monitor: has_flag(found, "monitor"),
+        ptt: ptt(
+            text_of(found, "ptt"),
+            text_of(found, "ptt-tail"),
+            has_flag(found, "ptt-data"),
+        )?,
+    })
+}
+
+/// The port that a text says: by its number, or none by the word `none`. The default if there is no text.
+fn port_said(text: Option<&str>, default: u16) -> Option<Option<u16>>
+    ensures port { IfSome result (HasPort (option_map (λ t. t.now) text.entry) default) }
+    ensures none { IsNone result → (port : Option ℕ) → ¬ HasPort (option_map (λ t. t.now) text.entry) default port }
+{
+    let Some(text) = text else {
+        return Some(Some(default));
+    };
+    if text == "none" {
+        return Some(None);
+    }
+    Some(Some(number_within(text, PORT)? as u16))
+}
+
+/// The address that a text spells, or that of this machine alone if there is no text.
+fn address(text: Option<&str>) -> Option<Ipv4Addr>
+    ensures address { IfSome result (HasAddress (option_map (λ t. t.now) text.entry)) }
+    ensures none { IsNone result → (address : Ipv4Addr) → ¬ HasAddress (option_map (λ t. t.now) text.entry) address }
+{
+    let Some(text) = text else {
+        return Some(Ipv4Addr::new(127, 0, 0, 1));
+    };
+    text.parse().ok()
+}
+
+/// How the transmitter is keyed, as the texts of a port and of a tail say: by nothing if there is no port, and then there
+/// may be no tail and no data socket either.
+fn ptt(port: Option<&str>, tail: Option<&str>, socket: bool) -> Option<Option<PttOptions>>
+    ensures ptt { IfSome result (HasPtt (option_map (λ t. t.now) port.entry) (option_map (λ t. t.now) tail.entry) socket) }
+    ensures none { IsNone result → (ptt : Option PttOptions)
+        → ¬ HasPtt (option_map (λ t. t.now) port.entry) (option_map (λ t. t.now) tail.entry) socket ptt }
+{
+    match (port, tail, socket) {
+        (None, None, false) => Some(None),
+        (None, None, true) => None,
+        (None, Some(_), _) => None,
+        (Some(port), tail, socket) => Some(Some(ptt_by(port, tail, socket)?)),
+    }
+}
+
+/// The key at the port that a text says.
+fn ptt_by(port: &str, tail: Option<&str>, socket: bool) -> Option<PttOptions>
+    ensures ptt { IfSome result (λ ptt. HasPtt (Some port.now) (option_map (λ t. t.now) tail.entry) socket (Some ptt)) }
+    ensures none { IsNone result → (ptt : PttOptions)
+        → ¬ HasPtt (Some port.now) (option_map (λ t. t.now) tail.entry) socket (Some ptt) }
+{
+    Some(PttOptions {
+        port: number_within(port, PORT)? as u16,
+        tail: number_or_default(tail, 70, TAIL)? as u16,
+        data_socket: socket,
     })
 }
 

@@ -19,8 +19,11 @@ A software terminal node controller for packet radio: AX.25 over the tones of Be
   tnc show [--modulo n]
   tnc loop --seed n --frames n [--rough] [--threads]
   tnc bench --seed n [--octets n] [--loss n] [--noise n] [--full] [--wide]
-  tnc serve --kiss n --agw n [--seed n] [--mode name] [--window n] [--wide]
-            [--wide-window n] [--digi call] [--dcd how] [--sensitive] [--monitor]
+  tnc serve [--kiss port] [--agw port] [--bind A.B.C.D] [--seed n] [--mode name]
+            [--window n] [--wide] [--wide-window n] [--txdelay n] [--txtail n] [--persist n]
+            [--slot n] [--duplex] [--paclen n] [--digi call] [--dcd how] [--sensitive]
+            [--monitor]
+            [--ptt n] [--ptt-tail n] [--ptt-data]
   tnc record [--keep n] [--sensitive]
   tnc call --agw n --from call --to call [--via calls] [--expect n] [--polls n]
   tnc help [COMMAND]
@@ -103,23 +106,35 @@ Runs two stations that are joined by sound, whose hosts give each other a text, 
 ";
 
 const SERVE: &str = "\
-Usage: tnc serve --kiss n --agw n [--seed n] [--mode name] [--window n] [--wide]
-                 [--wide-window n] [--digi call] [--dcd how] [--sensitive] [--monitor]
+Usage: tnc serve [--kiss port] [--agw port] [--bind A.B.C.D] [--seed n] [--mode name]
+                 [--window n] [--wide] [--wide-window n] [--txdelay n] [--txtail n] [--persist n]
+                 [--slot n] [--duplex] [--paclen n] [--digi call] [--dcd how] [--sensitive]
+                 [--monitor]
+                 [--ptt n] [--ptt-tail n] [--ptt-data]
 
-Runs a station until its sound ends: it hears standard input, sends standard output, and serves host programs
-on 127.0.0.1.
+Runs a station until its sound ends: it hears standard input, sends standard output, and serves host programs.
 
-  --kiss n         the port for KISS hosts, 1 to 65535
-  --agw n          the port for AGWPE hosts, 1 to 65535
-  --seed n         what channel access draws from, 0 to 18446744073709551615; each station its own (1)
-  --mode name      how links ask for lost frames, rej or srej (rej)
-  --window n       frames that a link sends ahead, modulo 8, 1 to 7 (4)
+  --kiss port      the port for KISS hosts, 1 to 65535, or none (8001)
+  --agw port       the port for AGWPE hosts, 1 to 65535, or none (8000)
+  --bind A.B.C.D   the address that hosts connect to (127.0.0.1); whoever reaches it sends under your licence
+  --seed n         what channel access draws from, 0 to 18446744073709551615 (the clock at the start)
+  --mode name      how links ask for lost frames, rej or srej (rej modulo 8, srej modulo 128)
+  --window n       frames that a link sends ahead, modulo 8, 1 to 7, with srej to 4 (4)
   --wide           links are called modulo 128
-  --wide-window n  frames that a link sends ahead, modulo 128, 1 to 127 (32)
+  --wide-window n  frames that a link sends ahead, modulo 128, 1 to 64, with rej to 127 (32)
+  --txdelay n      flags before the first frame, in units of 10 ms, 0 to 255 (30)
+  --txtail n       flags after the last frame, in units of 10 ms, 0 to 255 (2)
+  --persist n      a draw from 0 to 255 sends if it is at most n, 0 to 255 (63)
+  --slot n         how long a draw waits for the next one, in units of 10 ms, 0 to 255 (10)
+  --duplex         sends whether or not the channel is busy
+  --paclen n       octets of a packet that is made of a host's data, 16 to 256 (256)
   --digi call      repeats frames for this call
   --dcd how        by what the channel is busy: tones, or so many flags in a row, 1 to 8 (tones)
   --sensitive      hears in more noise and where the sender's clock is off, and takes longer
   --monitor        tells each frame that is heard or sent on standard error
+  --ptt n          keys the transmitter by rigctld, the daemon of hamlib, at this port of 127.0.0.1, 1 to 65535
+  --ptt-tail n     ticks of 10 ms that the key stays on after the last sound, 0 to 500 (70); with --ptt
+  --ptt-data       keys for the sound of the radio's data socket, and not of its microphone; with --ptt
 ";
 
 const RECORD: &str = "\

@@ -88,7 +88,7 @@ fn record(octets: &mut Vec<u8>, times: usize) -> Result<(), AllocError> {
 }
 
 /// The octets of the samples of a sender whose clock is slow by one part in eighty: each tenth tone has nine samples.
-/// Two bits of silence follow, since an added lane decides a bit together with the two after it.
+/// Five bits of silence follow: an added lane decides a bit together with the two after it, and their mean takes two more.
 fn slow_recording(alloc: Global) -> Result<Vec<u8>, AllocError> {
     let mut octets = Vec::new(alloc);
     let mut phase = 0usize;
@@ -96,7 +96,7 @@ fn slow_recording(alloc: Global) -> Result<Vec<u8>, AllocError> {
         let samples = if index % 10 == 9 { 9 } else { 8 };
         phase = record_tone(&mut octets, phase, *tone, samples, 1)?;
     }
-    octets.extend_from_slice(&[0; 32])?;
+    octets.extend_from_slice(&[0; 80])?;
     Ok(octets)
 }
 

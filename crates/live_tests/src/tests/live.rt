@@ -2,6 +2,7 @@
 
 mod held_input;
 mod host_side;
+mod keyed;
 mod offering;
 mod outcome;
 mod pumping;

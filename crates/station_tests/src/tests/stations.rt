@@ -24,7 +24,7 @@ fn takes_a_window_that_fits(rt: HostRuntime) -> Result<(), Fail> {
         mode: Mode::Srej,
         ..Params::default()
     };
-    let station = Station::new(rt.alloc(), Config { params, digi: None }, 7)?;
+    let station = Station::new(rt.alloc(), Config::new(params, None), 7)?;
     assert_equal(&rt, &(station.accepts(1), station.dropped()), &(true, 0));
     Ok(())
 }
@@ -36,7 +36,7 @@ fn refuses_a_window_of_5_with_srej(rt: HostRuntime) -> Result<(), Fail> {
         window: 5,
         ..Params::default()
     };
-    let refused = Station::new(rt.alloc(), Config { params, digi: None }, 7).err();
+    let refused = Station::new(rt.alloc(), Config::new(params, None), 7).err();
     assert!(rt; refused == Some(NewFault::BadWindow { window: 5 }));
     Ok(())
 }

@@ -31,8 +31,18 @@ fn a_station_without_hosts_sends_silence(rt: HostRuntime) -> Result<(), Fail> {
 }
 
 #[test]
+fn one_word_is_enough(rt: HostRuntime) -> Result<(), Fail> {
+    for words in ["serve", "serve --kiss none", "serve --agw=none --kiss none"] {
+        let got = run_live(&rt, rt.alloc(), words, b"", [NEVER; 4])?;
+        assert_ended(&rt, words, &got, (0, 0, ""));
+        assert_equal(&rt, &(words, got.listens), &(words, 1));
+    }
+    Ok(())
+}
+
+#[test]
 fn other_words_open_no_port(rt: HostRuntime) -> Result<(), Fail> {
-    for words in ["decode", "serve", "serve --kiss=8001 --agw=0"] {
+    for words in ["decode", "serve --kiss=8001 --agw=0"] {
         let got = run_live(&rt, rt.alloc(), words, b"", [NEVER; 4])?;
         assert_equal(&rt, &(words, got.listens), &(words, 0));
     }

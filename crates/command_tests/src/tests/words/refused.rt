@@ -124,11 +124,16 @@ const LOOP: &str = "\
 
 /// What stands after `serve`.
 const SERVE: &str = "\
---kiss 8001
---agw 8000
+--kiss
+--agw
+--kiss=
 --kiss 0 --agw 8000
 --kiss 8001 --agw 65536
 --kiss 65536 --agw 1
+--kiss None
+--agw nones
+--agw non
+--kiss none --kiss none
 8001 8000
 ";
 
@@ -150,8 +155,30 @@ x
 --wide=true
 --wide-window 0
 --wide-window 128
+--wide-window 65
 --wide-window 65 --mode srej
+--wide-window 128 --mode rej
 --wide 8
+--txdelay 256
+--txdelay -1
+--txdelay=
+--txtail 256
+--persist 256
+--slot 256
+--slot +1
+--duplex=1
+--bind
+--bind=
+--bind localhost
+--bind 127.0.0
+--bind 127.0.0.256
+--bind 127.0.0.01
+--bind 127.0.0.1:8000
+--bind ::1
+--paclen
+--paclen 15
+--paclen 257
+--paclen 0
 --digi N7LEM-16
 --digi TOOLONG
 --digi N7/LEM
@@ -161,6 +188,19 @@ x
 --dcd Tones
 --dcd tone
 --monitor=1
+--ptt
+--ptt=
+--ptt 0
+--ptt 65536
+--ptt x
+--ptt 4532 --ptt 4532
+--ptt-tail 70
+--ptt-data
+--ptt-tail 70 --ptt-data
+--ptt 4532 --ptt-tail 501
+--ptt 4532 --ptt-tail -1
+--ptt 4532 --ptt-tail=
+--ptt 4532 --ptt-data=true
 --threads
 --sensitive=true
 --sensitive --sensitive
@@ -232,7 +272,6 @@ help version
 --help loop
 -h serve
 loop
-serve
 help help
 help decode encode
 help Decode

@@ -3,6 +3,7 @@ ghost use Rattle.std.specs.Prelude.{None};
 
 use super::outcome::words;
 use crate::assertions::assert_equal;
+use key_port::{MemKeyPort, RealKeyPort};
 use station::HostEvent;
 use std::alloc::Global;
 use std::net::Net;
@@ -11,8 +12,9 @@ use std::sync::atomic::{AtomicU64, Ordering};
 use std::test::Fail;
 use std::thread;
 use std::thread::Threads;
+use std::time::Clock;
 use tnc_base::{Failed, MemSink, OutOfMemory, Sink, Source};
-use tnc_ports::{Live, PollFault, Ports, RealSpawner, ServeEnd, serve};
+use tnc_ports::{Listen, Live, PollFault, Ports, RealSpawner, ServeEnd, serve};
 
 /// Sockets without hosts. They count their polls, for another thread to see, and after so many they want memory.
 #[derive(Drop)]
@@ -37,7 +39,7 @@ impl Ports for CountingPorts<'_> {
 
     ghost faults = { λ _. 0 };
 
-    fn listen<R: Net>(&mut self, _rt: &R, _kiss: u16, _agw: u16) -> Result<(), Failed> {
+    fn listen<R: Net>(&mut self, _rt: &R, _at: Listen) -> Result<(), Failed> {
         Ok(())
     }
 
@@ -116,7 +118,7 @@ impl Sink for CountingSink<'_> {
 }
 
 /// How a station ends whose input of a tick ends only once something was written, and whether it gave up waiting.
-fn written<R: Threads + Wait + Net + Sync>(
+fn written<R: Threads + Wait + Net + Clock + Sync>(
     rt: &R,
     alloc: Global,
 ) -> Result<(ServeEnd, bool), OutOfMemory> {
@@ -134,7 +136,13 @@ fn written<R: Threads + Wait + Net + Sync>(
         most: u64::MAX,
     };
     let spawner = RealSpawner::new();
-    let mut live = Live { ports, spawner };
+    let key = RealKeyPort::new(rt);
+    let mut live = Live {
+        ports,
+        spawner,
+        key,
+        seed: 1,
+    };
     let mut output = CountingSink { writes: &writes };
     let mut report = MemSink::new(alloc, 1000, Vec::new(alloc))?;
     let words = words(false, false);
@@ -151,7 +159,7 @@ fn written<R: Threads + Wait + Net + Sync>(
 }
 
 /// How a station ends whose sockets want memory after so many polls, and whether its input gave up waiting for polls.
-fn held<R: Threads + Wait + Net + Sync>(
+fn held<R: Threads + Wait + Net + Clock + Sync>(
     rt: &R,
     alloc: Global,
     most: u64,
@@ -170,7 +178,13 @@ fn held<R: Threads + Wait + Net + Sync>(
         most,
     };
     let spawner = RealSpawner::new();
-    let mut live = Live { ports, spawner };
+    let key = MemKeyPort::new(alloc, Vec::new(alloc), 0);
+    let mut live = Live {
+        ports,
+        spawner,
+        key,
+        seed: 1,
+    };
     let mut output = MemSink::new(alloc, 1000, Vec::new(alloc))?;
     let mut report = MemSink::new(alloc, 1000, Vec::new(alloc))?;
     let words = words(false, false);

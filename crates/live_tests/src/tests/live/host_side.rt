@@ -33,7 +33,7 @@ impl Desk {
     /// In a box, so that each test that owns a desk is proved several times faster.
     fn new(alloc: Global, live: Box<MemLive>) -> Result<Box<Desk>, Fail> {
         let params = Params::default();
-        let side = HostSide::new(alloc, Config { params, digi: None }, 7)?;
+        let side = HostSide::new(alloc, Config::new(params, None), 7)?;
         Ok(Box::new(alloc, Desk { alloc, side, live })?)
     }
 

@@ -3,32 +3,34 @@ ghost use Rattle.std.specs.Prelude.{◌≤◌, ℕ};
 ghost use Rattle.link_machine.specs.Params.{IsRefusedWindow};
 ghost use Rattle.slicer_bank.specs.Detection.{CanBeAsked};
 
+use key_port::MemKeyPort;
 use link_machine::Params;
 use slicer_bank::Detection;
 use station::Config;
 use std::alloc::Global;
 use std::marker::Model;
-use std::net::Net;
+use std::net::{Ipv4Addr, Net};
 use std::sync::Wait;
 use std::thread::Threads;
 use tnc_base::{MemSink, MemSource, OutOfMemory};
-use tnc_ports::{Live, MemPorts, ServeEnd, ServeWords, Spawner, serve};
+use tnc_ports::{Listen, Live, MemPorts, ServeEnd, ServeWords, Spawner, serve};
 
 pub(super) fn words(monitor: bool, sensitive: bool) -> ServeWords
     ensures window { (window : ℕ) → ¬ IsRefusedWindow result.config.params window }
     ensures dcd { CanBeAsked result.dcd }
 {
     ServeWords {
-        kiss: 8001,
-        agw: 8000,
-        seed: 1,
-        config: Config {
-            params: Params::default(),
-            digi: None,
+        listen: Listen {
+            address: Ipv4Addr::LOCALHOST,
+            kiss: Some(8001),
+            agw: Some(8000),
         },
+        seed: 1,
+        config: Config::new(Params::default(), None),
         dcd: Detection::Tones,
         monitor,
         sensitive,
+        key: None,
     }
 }
 
@@ -93,27 +95,41 @@ pub(super) fn served<R: Threads + Wait + Net + Sync, W: Spawner>(
     alloc: Global,
     input: Vec<u8>,
     failing: Failing<'_>,
-    live: &mut Live<MemPorts, W>,
+    live: &mut Live<MemPorts, W, MemKeyPort>,
 ) -> Result<Box<Outcome>, OutOfMemory> {
     served_by(rt, alloc, false, input, failing, live)
 }
 
-/// The same, or all 23 lanes listen.
+/// The same, or all 26 lanes listen.
 pub(super) fn served_by<R: Threads + Wait + Net + Sync, W: Spawner>(
     rt: &R,
     alloc: Global,
     sensitive: bool,
     input: Vec<u8>,
     failing: Failing<'_>,
-    live: &mut Live<MemPorts, W>,
+    live: &mut Live<MemPorts, W, MemKeyPort>,
 ) -> Result<Box<Outcome>, OutOfMemory> {
+    served_as(rt, alloc, words(true, sensitive), input, failing, live)
+}
+
+/// A station that is asked for this.
+pub(super) fn served_as<R: Threads + Wait + Net + Sync, W: Spawner>(
+    rt: &R,
+    alloc: Global,
+    words: ServeWords,
+    input: Vec<u8>,
+    failing: Failing<'_>,
+    live: &mut Live<MemPorts, W, MemKeyPort>,
+) -> Result<Box<Outcome>, OutOfMemory>
+    requires window { (window : ℕ) → ¬ IsRefusedWindow words.config.params window }
+    requires dcd { CanBeAsked words.dcd }
+{
     let mut streams = Streams::new(alloc, input, failing)?;
     let Streams {
         source,
         output,
         report,
     } = &mut *streams;
-    let words = words(true, sensitive);
     let end = serve(rt, alloc, words, source, output, report, live);
     streams.outcome(alloc, end)
 }

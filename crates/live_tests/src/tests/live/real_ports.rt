@@ -7,7 +7,7 @@ use std::io::{Read, Write};
 use std::net::{Ipv4Addr, Net, SocketAddr, TcpListener, TcpStream};
 use std::process::Abort;
 use std::test::Fail;
-use tnc_ports::{Ports, RealPorts};
+use tnc_ports::{Listen, Ports, RealPorts};
 
 /// A port that nobody listens on.
 fn free_port(rt: &HostRuntime) -> Result<u16, Fail> {
@@ -39,7 +39,12 @@ fn at(port: u16) -> SocketAddr {
 fn opened(rt: &HostRuntime) -> Result<(Box<RealPorts>, SocketAddr, SocketAddr), Fail> {
     let (kiss, agw) = (free_port(rt)?, free_port(rt)?);
     let mut ports = Box::new(rt.alloc(), RealPorts::new(rt.alloc()))?;
-    ports.listen(rt, kiss, agw)?;
+    let asked = Listen {
+        address: Ipv4Addr::LOCALHOST,
+        kiss: Some(kiss),
+        agw: Some(agw),
+    };
+    ports.listen(rt, asked)?;
     Ok((ports, at(kiss), at(agw)))
 }
 
@@ -108,6 +113,35 @@ fn two_hosts_at_each_port_are_told_apart(rt: HostRuntime) -> Result<(), Fail> {
     for (host, (_, _, text)) in hosts.into_iter().zip(table) {
         assert_equal(&rt, &answer(host)?, text);
     }
+    Ok(())
+}
+
+#[test]
+fn a_port_that_is_not_asked_for_stays_closed(rt: HostRuntime) -> Result<(), Fail> {
+    let (kiss, agw) = (free_port(&rt)?, free_port(&rt)?);
+    let mut ports = Box::new(rt.alloc(), RealPorts::new(rt.alloc()))?;
+    let asked = Listen {
+        address: Ipv4Addr::LOCALHOST,
+        kiss: None,
+        agw: Some(agw),
+    };
+    ports.listen(&rt, asked)?;
+    assert!(rt; TcpStream::connect(&rt, at(kiss)).is_err());
+    let _host = TcpStream::connect(&rt, at(agw))?;
+    assert_polled(&rt, rt.alloc(), &mut ports, &[], "A1 ")?;
+    Ok(())
+}
+
+// The address belongs to nobody: it is kept for documents.
+#[test]
+fn an_address_of_another_machine_is_refused(rt: HostRuntime) -> Result<(), Fail> {
+    let asked = Listen {
+        address: Ipv4Addr::new(192, 0, 2, 1),
+        kiss: Some(free_port(&rt)?),
+        agw: None,
+    };
+    let mut ports = Box::new(rt.alloc(), RealPorts::new(rt.alloc()))?;
+    assert!(rt; ports.listen(&rt, asked).is_err());
     Ok(())
 }
 

@@ -4,6 +4,7 @@ use super::outcome::{Failing, NONE, Outcome, served, served_by, silence};
 use super::script::Script;
 use crate::assertions::assert_equal;
 use afsk_modulator::transmission;
+use key_port::MemKeyPort;
 use station::PortKind;
 use station_tests::message;
 use std::alloc::Global;
@@ -42,7 +43,7 @@ fn no_hosts(alloc: Global) -> Result<Box<MemLive>, OutOfMemory> {
 fn served_silence<R: Threads + Wait + Net + Sync, W: Spawner>(
     rt: &R,
     alloc: Global,
-    live: &mut Live<MemPorts, W>,
+    live: &mut Live<MemPorts, W, MemKeyPort>,
 ) -> Result<Box<Outcome>, OutOfMemory> {
     let input = silence(alloc, 960)?;
     served(rt, alloc, input, NONE, live)
@@ -63,9 +64,20 @@ fn silence_gives_silence(rt: HostRuntime) -> Result<(), Fail> {
 #[test]
 fn without_a_thread_it_ends(rt: HostRuntime) -> Result<(), Fail> {
     let alloc = rt.alloc();
-    let Live { ports, spawner: _ } = Box::into_inner(no_hosts(alloc)?);
+    let Live {
+        ports,
+        spawner: _,
+        key,
+        seed,
+    } = Box::into_inner(no_hosts(alloc)?);
     let spawner = NoThread { faults: 0 };
-    let mut live = Box::new(alloc, Live { ports, spawner })?;
+    let live = Live {
+        ports,
+        spawner,
+        key,
+        seed,
+    };
+    let mut live = Box::new(alloc, live)?;
     let served = served_silence(&rt, alloc, &mut live)?;
     let got = (served.end, served.output.len(), served.report.len());
     assert_equal(&rt, &got, &(ServeEnd::NoThread, 0, 0));
@@ -117,7 +129,7 @@ fn overwritten_samples_are_reported(rt: HostRuntime) -> Result<(), Fail> {
 const SABM: &[u8] = b"\x9c\x94\x6e\xa0\x40\x40\xe0\x9c\x6e\x98\x8a\x9a\x40\x61\x3f";
 
 /// 2 s of silence, and then SABM.
-fn a_call(alloc: Global) -> Result<Vec<u8>, Fail> {
+pub(super) fn a_call(alloc: Global) -> Result<Vec<u8>, Fail> {
     let mut input = silence(alloc, 19_200)?;
     let mut frames = Vec::new(alloc);
     frames.push(Octets::from_slice(alloc, SABM)?)?;
@@ -128,7 +140,7 @@ fn a_call(alloc: Global) -> Result<Vec<u8>, Fail> {
 }
 
 /// A host registers NJ7P at the first poll.
-fn with_registration(alloc: Global) -> Result<Script, Fail> {
+pub(super) fn with_registration(alloc: Global) -> Result<Script, Fail> {
     let mut script = Script::new(alloc);
     script.joins(0, 1, PortKind::Agw)?;
     script.brings(0, 1, &message(alloc, b'X', ["NJ7P", ""], b"")?)?;

@@ -3,7 +3,7 @@
 use super::desk::{Desk, filled};
 use crate::{assert_equal, field};
 use link_machine::Params;
-use station::{HostOut, Piece};
+use station::{Config, HostOut, Piece};
 use std::alloc::Global;
 use std::process::Abort;
 use std::test::Fail;
@@ -22,9 +22,19 @@ const UA: &[u8] = b"\x9c\x6e\x98\x8a\x9a\x40\x60\x9c\x94\x6e\xa0\x40\x40\xe1\x73
 /// DISC with P from N7LEM to NJ7P.
 const DISC: &[u8] = b"\x9c\x94\x6e\xa0\x40\x40\xe0\x9c\x6e\x98\x8a\x9a\x40\x61\x53";
 
+/// DM with F = 0 from N7LEM to NJ7P.
+const DM: &[u8] = b"\x9c\x94\x6e\xa0\x40\x40\x60\x9c\x6e\x98\x8a\x9a\x40\xe1\x0f";
+
 /// Connection 1 has registered N7LEM, and connection 2 AAAA.
 fn registered(alloc: Global) -> Result<Box<Desk>, Fail> {
-    let mut desk = Desk::new(alloc, Params::default())?;
+    registered_with(alloc, 256)
+}
+
+/// The same, and so many octets of a host's data go into a packet.
+fn registered_with(alloc: Global, paclen: u16) -> Result<Box<Desk>, Fail> {
+    let mut config = Config::new(Params::default(), None);
+    config.paclen = paclen;
+    let mut desk = Desk::made_with(alloc, config)?;
     desk.register(1, "N7LEM")?;
     desk.register(2, "AAAA")?;
     desk.look();
@@ -33,7 +43,12 @@ fn registered(alloc: Global) -> Result<Box<Desk>, Fail> {
 
 /// Connection 1 has called NJ7P so, and is answered.
 fn connected(alloc: Global, kind: (u8, u8)) -> Result<Box<Desk>, Fail> {
-    let mut desk = registered(alloc)?;
+    connected_with(alloc, kind, 256)
+}
+
+/// The same, and so many octets of a host's data go into a packet.
+fn connected_with(alloc: Global, kind: (u8, u8), paclen: u16) -> Result<Box<Desk>, Fail> {
+    let mut desk = registered_with(alloc, paclen)?;
     desk.send_at_once()?;
     desk.ask_with_pid(1, kind, ENDS, b"")?;
     only_frame(&mut desk)?;
@@ -240,6 +255,28 @@ fn data_goes_in_packets_of_256_octets(rt: HostRuntime) -> Result<(), Fail> {
     Ok(())
 }
 
+/// Each row: how many octets go into a packet, how many are given, in how many ticks the channel takes them, and how long
+/// the frames are.
+const LENGTHS: &[(u16, usize, usize, &[usize])] = &[
+    (16, 40, 200, &[32, 32, 24]),
+    (100, 200, 200, &[116, 116]),
+    (0, 3, 200, &[17, 17, 17]),
+    (300, 257, 300, &[272, 17]),
+];
+
+#[test]
+fn packets_are_as_long_as_the_station_is_made_for(rt: HostRuntime) -> Result<(), Fail> {
+    for (paclen, count, ticks, want) in LENGTHS {
+        let octets = filled(rt.alloc(), 65, *count)?;
+        let mut desk = connected_with(rt.alloc(), CALL, *paclen)?;
+        desk.ask_with_pid(1, DATA, ENDS, &octets)?;
+        desk.tick(*ticks)?;
+        let lens = desk.lens()?;
+        assert_equal(&rt, &(*paclen, lens.as_slice()), &(*paclen, *want));
+    }
+    Ok(())
+}
+
 /// RR with F = 0 from NJ7P to N7LEM, which acknowledges the frames below a number.
 fn receive_ready(number: u8) -> [u8; 15] {
     let mut frame = *b"\x9c\x6e\x98\x8a\x9a\x40\x60\x9c\x94\x6e\xa0\x40\x40\xe1\x01";
@@ -292,6 +329,74 @@ fn data_without_a_pid_has_that_of_the_call(rt: HostRuntime) -> Result<(), Fail> 
     for (call, pid, want) in PIDS {
         let got = pid_of(rt.alloc(), *call, *pid)?;
         assert_equal(&rt, &(*call, *pid, got), &(*call, *pid, Some(*want)));
+    }
+    Ok(())
+}
+
+/// N7LEM has called NJ7P and given data, and takes the call back by a message, or by leaving. The one frame of a link,
+/// and the octets that hosts are told. An answer to the call then is passed over.
+fn taken_back(alloc: Global, leaves: bool) -> Result<(Octets, Vec<u8>), Fail> {
+    let mut desk = registered(alloc)?;
+    desk.ask_with_pid(1, CALL, ENDS, b"")?;
+    desk.ask_with_pid(1, DATA, ENDS, b"A")?;
+    only_frame(&mut desk)?;
+    if leaves {
+        desk.leave(1)?;
+    } else {
+        desk.ask_with_pid(1, END, ENDS, b"")?;
+    }
+    let mut out = desk.look();
+    desk.hear(UA)?;
+    if desk.frames() > 0 {
+        return Err(Fail::new("the answer is answered"));
+    }
+    let last = out.queued.pop();
+    let mut told = Vec::new(alloc);
+    for piece in &out.pieces {
+        told.extend_from_slice(piece.octets.as_slice())?;
+    }
+    match last {
+        Some(frame) if out.queued.is_empty() => Ok((frame, told)),
+        _ => Err(Fail::new("not one frame")),
+    }
+}
+
+#[test]
+fn a_call_is_taken_back_at_once(rt: HostRuntime) -> Result<(), Fail> {
+    let (frame, told) = taken_back(rt.alloc(), false)?;
+    let want = refusal(rt.alloc(), "NJ7P", "N7LEM", "NJ7P")?;
+    assert_equal(
+        &rt,
+        &(frame.as_slice(), told.as_slice()),
+        &(DM, want.as_slice()),
+    );
+    let (frame, told) = taken_back(rt.alloc(), true)?;
+    assert_equal(&rt, &(frame.as_slice(), told.is_empty()), &(DM, true));
+    Ok(())
+}
+
+/// Data waits, and the host disconnects; then it disconnects again, or leaves. The one frame of it.
+fn given_up(alloc: Global, leaves: bool) -> Result<Octets, Fail> {
+    let octets = filled(alloc, 65, 600)?;
+    let mut desk = connected(alloc, CALL)?;
+    desk.ask_with_pid(1, DATA, ENDS, &octets)?;
+    desk.ask_with_pid(1, END, ENDS, b"")?;
+    if !is_nothing(desk.out()) {
+        return Err(Fail::new("the link does not wait for its data"));
+    }
+    if leaves {
+        desk.leave(1)?;
+    } else {
+        desk.ask_with_pid(1, END, ENDS, b"")?;
+    }
+    only_frame(&mut desk)
+}
+
+#[test]
+fn a_second_disconnect_gives_data_up(rt: HostRuntime) -> Result<(), Fail> {
+    for leaves in [false, true] {
+        let frame = given_up(rt.alloc(), leaves)?;
+        assert_equal(&rt, &(leaves, frame.as_slice()), &(leaves, DISC));
     }
     Ok(())
 }

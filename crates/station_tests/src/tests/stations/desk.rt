@@ -52,9 +52,14 @@ impl Desk {
         params: Params,
         digi: Option<Call>,
     ) -> Result<Box<Desk>, Fail> {
+        Desk::made_with(alloc, Config::new(params, digi))
+    }
+
+    /// The same, and the station is made with all of this.
+    pub(super) fn made_with(alloc: Global, config: Config) -> Result<Box<Desk>, Fail> {
         let desk = Desk {
             alloc,
-            station: Station::new(alloc, Config { params, digi }, 7)?,
+            station: Station::new(alloc, config, 7)?,
             there: Vec::new(alloc),
             failed: false,
             out: nothing(alloc),

@@ -2,8 +2,9 @@
 
 use super::desk::{Desk, assert_told, filled};
 use crate::{assert_equal, message};
+use channel_access::Parameters;
 use link_machine::Params;
-use station::PortKind;
+use station::{Config, PortKind};
 use std::alloc::Global;
 use std::process::Abort;
 use std::test::Fail;
@@ -27,13 +28,12 @@ fn add_message(alloc: Global, octets: &mut Vec<u8>, kind: u8, body: &[u8]) -> Re
     Ok(())
 }
 
-/// AAAA registers and calls BBBB, gives 600 octets, and ends the call.
+/// AAAA registers and calls BBBB, and gives 600 octets.
 fn whole_call(alloc: Global) -> Result<Vec<u8>, Fail> {
     let data = filled(alloc, 65, 600)?;
     let mut octets = message(alloc, b'X', ["AAAA", ""], b"")?;
     add_message(alloc, &mut octets, b'C', b"")?;
     add_message(alloc, &mut octets, b'D', &data)?;
-    add_message(alloc, &mut octets, b'd', b"")?;
     Ok(octets)
 }
 
@@ -46,39 +46,47 @@ fn after_a_whole_call(alloc: Global) -> Result<Box<Desk>, Fail> {
     Ok(desk)
 }
 
-/// How long the link frames are that a heard frame and so many ticks bring.
-fn lens_after(desk: &mut Desk, frame: &[u8], ticks: usize) -> Result<Vec<usize>, Fail> {
+/// How long the link frames are that a heard frame, the end of the call if the host asks for it, and so many ticks
+/// bring.
+fn lens_after(desk: &mut Desk, frame: &[u8], ends: bool, ticks: usize) -> Result<Vec<usize>, Fail> {
     desk.hear(frame)?;
+    if ends {
+        desk.ask(1, b'd', ENDS, b"")?;
+    }
     desk.tick(ticks)?;
     desk.lens()
 }
 
-/// Each row: what is heard, first nothing, how many ticks pass, and how long the link frames then are. Data goes out as the
-/// channel takes it, after the SABM.
-const LENS: &[(&[u8], usize, &[usize])] = &[
-    (b"", 0, &[15]),
-    (UA, 0, &[]),
-    (b"", 500, &[272, 272, 104]),
-    (RR, 0, &[15]),
+/// Each row: what is heard, first nothing, whether the host ends the call, how many ticks pass, and how long the link
+/// frames then are. Data goes out as the channel takes it, after the SABM.
+const LENS: &[(&[u8], bool, usize, &[usize])] = &[
+    (b"", false, 0, &[15]),
+    (UA, true, 0, &[]),
+    (b"", false, 500, &[272, 272, 104]),
+    (RR, false, 0, &[15]),
 ];
 
 #[test]
 fn a_whole_call_in_one_piece(rt: HostRuntime) -> Result<(), Fail> {
     let mut desk = after_a_whole_call(rt.alloc())?;
-    for (frame, ticks, want) in LENS {
-        let lens = lens_after(&mut desk, frame, *ticks)?;
+    for (frame, ends, ticks, want) in LENS {
+        let lens = lens_after(&mut desk, frame, *ends, *ticks)?;
         assert_equal(&rt, &lens.as_slice(), want);
     }
     Ok(())
 }
 
-/// Whether the host is told of a message last, after so many ticks and these frames.
+/// Whether the host is told of a message last, after it has asked for the end of the call, if any ticks pass, so many
+/// ticks, and these frames.
 fn tells_after(
     desk: &mut Desk,
     ticks: usize,
     frames: &[&[u8]],
     told: (u8, [&str; 2], &[u8]),
 ) -> Result<bool, Fail> {
+    if ticks > 0 {
+        desk.ask(1, b'd', ENDS, b"")?;
+    }
     desk.tick(ticks)?;
     for frame in frames {
         desk.hear(frame)?;
@@ -161,6 +169,29 @@ const SETTINGS: &[u8] = b"\xc0\x01\x28\xc0\x02\xff\xc0\x03\x05\xc0\x04\x07\xc0\x
 #[test]
 fn tells_what_kiss_has_set(rt: HostRuntime) -> Result<(), Fail> {
     let mut desk = Desk::new(rt.alloc(), Params::default())?;
+    desk.take(3, SETTINGS)?;
+    let body = b"\0\xff\x28\x07\xff\x05\x04\0\x01\0\0\0";
+    assert_reply(&rt, &mut desk, b'g', body)
+}
+
+// The words of the channel stand until KISS sets them.
+#[test]
+fn tells_what_it_is_made_with(rt: HostRuntime) -> Result<(), Fail> {
+    let mut config = Config::new(Params::default(), None);
+    config.channel = Parameters {
+        tx_delay: 5,
+        persist: 200,
+        slot_time: 3,
+        tx_tail: 9,
+        full_duplex: true,
+    };
+    let mut desk = Desk::made_with(rt.alloc(), config)?;
+    assert_reply(
+        &rt,
+        &mut desk,
+        b'g',
+        b"\0\xff\x05\x09\xc8\x03\x04\0\x01\0\0\0",
+    )?;
     desk.take(3, SETTINGS)?;
     let body = b"\0\xff\x28\x07\xff\x05\x04\0\x01\0\0\0";
     assert_reply(&rt, &mut desk, b'g', body)

@@ -24,11 +24,11 @@ returns-in-Ok-clause-served g c = λ options asked.
         unread = ap (input_by g.I.Source.left g.I.Source.faults) kept.1;
         untouched =
             ap (λ output. outside_by g.N.Ports.listens g.N.Ports.polls g.N.Ports.sends g.N.Ports.sent g.N.Ports.is_shut
-            g.N.Ports.faults g.O.Sink.written g.O.Sink.faults g.E.Sink.written g.E.Sink.faults
-            c.args.live.now.ports output c.run_batch.new.report) kept.2
+            g.N.Ports.faults g.K.KeyPort.lines g.K.KeyPort.faults g.O.Sink.written g.O.Sink.faults g.E.Sink.written g.E.Sink.faults
+            c.args.live.now.ports c.args.live.now.key output c.run_batch.new.report) kept.2
             ∙ ap (outside_by g.N.Ports.listens g.N.Ports.polls g.N.Ports.sends g.N.Ports.sent g.N.Ports.is_shut
-            g.N.Ports.faults g.O.Sink.written g.O.Sink.faults g.E.Sink.written g.E.Sink.faults
-            c.args.live.now.ports c.args.output.now) kept.3;
+            g.N.Ports.faults g.K.KeyPort.lines g.K.KeyPort.faults g.O.Sink.written g.O.Sink.faults g.E.Sink.written g.E.Sink.faults
+            c.args.live.now.ports c.args.live.now.key c.args.output.now) kept.3;
       }),
     )
 
@@ -93,13 +93,13 @@ returns-in-Err-clause-served g c = λ options asked.
     let same = one_live (map string_bytes c.args.words.now) c.in-Err.command c.in-Err.ensures.live
     (LiveServe options) asked in
     let kept = c.in-Err.ensures.untouched in
-    rebased options c.run_live.result _ _ _ _ _ _ (ap (input_by g.I.Source.left g.I.Source.faults) kept.0)
+    rebased options c.args.live.now.seed c.run_live.result _ _ _ _ _ _ (ap (input_by g.I.Source.left g.I.Source.faults) kept.0)
     (ap (λ output. outside_by g.N.Ports.listens g.N.Ports.polls g.N.Ports.sends g.N.Ports.sent g.N.Ports.is_shut
-    g.N.Ports.faults g.O.Sink.written g.O.Sink.faults g.E.Sink.written g.E.Sink.faults
-    c.args.live.now.ports output c.run_batch.new.report) kept.1
+    g.N.Ports.faults g.K.KeyPort.lines g.K.KeyPort.faults g.O.Sink.written g.O.Sink.faults g.E.Sink.written g.E.Sink.faults
+    c.args.live.now.ports c.args.live.now.key output c.run_batch.new.report) kept.1
     ∙ ap (outside_by g.N.Ports.listens g.N.Ports.polls g.N.Ports.sends g.N.Ports.sent g.N.Ports.is_shut
-    g.N.Ports.faults g.O.Sink.written g.O.Sink.faults g.E.Sink.written g.E.Sink.faults
-    c.args.live.now.ports c.args.output.now) kept.2)
+    g.N.Ports.faults g.K.KeyPort.lines g.K.KeyPort.faults g.O.Sink.written g.O.Sink.faults g.E.Sink.written g.E.Sink.faults
+    c.args.live.now.ports c.args.live.now.key c.args.output.now) kept.2)
     (c.run_live.ensures.served options same)
 
 pub returns-in-Ok-clause-no_thread : goal.returns-in-Ok-clause-no_thread
@@ -112,11 +112,11 @@ returns-in-Ok-clause-no_thread g c = λ options asked three.
         unread = ap (input_by g.I.Source.left g.I.Source.faults) kept.1;
         untouched =
             ap (λ output. outside_by g.N.Ports.listens g.N.Ports.polls g.N.Ports.sends g.N.Ports.sent g.N.Ports.is_shut
-            g.N.Ports.faults g.O.Sink.written g.O.Sink.faults g.E.Sink.written g.E.Sink.faults
-            c.args.live.now.ports output c.run_batch.new.report) kept.2
+            g.N.Ports.faults g.K.KeyPort.lines g.K.KeyPort.faults g.O.Sink.written g.O.Sink.faults g.E.Sink.written g.E.Sink.faults
+            c.args.live.now.ports c.args.live.now.key output c.run_batch.new.report) kept.2
             ∙ ap (outside_by g.N.Ports.listens g.N.Ports.polls g.N.Ports.sends g.N.Ports.sent g.N.Ports.is_shut
-            g.N.Ports.faults g.O.Sink.written g.O.Sink.faults g.E.Sink.written g.E.Sink.faults
-            c.args.live.now.ports c.args.output.now) kept.3;
+            g.N.Ports.faults g.K.KeyPort.lines g.K.KeyPort.faults g.O.Sink.written g.O.Sink.faults g.E.Sink.written g.E.Sink.faults
+            c.args.live.now.ports c.args.live.now.key c.args.output.now) kept.3;
       },
     )
 
@@ -125,13 +125,13 @@ returns-in-Err-clause-no_thread g c = λ options asked three.
     let same = one_live (map string_bytes c.args.words.now) c.in-Err.command c.in-Err.ensures.live
     (LiveServe options) asked in
     let kept = c.in-Err.ensures.untouched in
-    want_from options _ _ _ _ _ _ _ _ (ap (input_by g.I.Source.left g.I.Source.faults) kept.0)
+    want_from options _ _ _ _ _ _ _ _ _ (ap (input_by g.I.Source.left g.I.Source.faults) kept.0)
     (ap (λ output. outside_by g.N.Ports.listens g.N.Ports.polls g.N.Ports.sends g.N.Ports.sent g.N.Ports.is_shut
-    g.N.Ports.faults g.O.Sink.written g.O.Sink.faults g.E.Sink.written g.E.Sink.faults
-    c.args.live.now.ports output c.run_batch.new.report) kept.1
+    g.N.Ports.faults g.K.KeyPort.lines g.K.KeyPort.faults g.O.Sink.written g.O.Sink.faults g.E.Sink.written g.E.Sink.faults
+    c.args.live.now.ports c.args.live.now.key output c.run_batch.new.report) kept.1
     ∙ ap (outside_by g.N.Ports.listens g.N.Ports.polls g.N.Ports.sends g.N.Ports.sent g.N.Ports.is_shut
-    g.N.Ports.faults g.O.Sink.written g.O.Sink.faults g.E.Sink.written g.E.Sink.faults
-    c.args.live.now.ports c.args.output.now) kept.2)
+    g.N.Ports.faults g.K.KeyPort.lines g.K.KeyPort.faults g.O.Sink.written g.O.Sink.faults g.E.Sink.written g.E.Sink.faults
+    c.args.live.now.ports c.args.live.now.key c.args.output.now) kept.2)
     (c.run_live.ensures.want options same three)
 
 pub returns-in-Ok-clause-called : goal.returns-in-Ok-clause-called

@@ -1,56 +1,40 @@
-use Rattle.tnc_ports.proofs.Common.{refl, ◌∙◌, ring_len}
-use Rattle.tnc_ports.proofs.LiveLoop.{runs_first, runs_more, loop_done, loop_fault, loop_memory, turned_over, turned_on}
+use Rattle.key_port.specs.KeyTasks.{LineTold, line_told}
+use Rattle.tnc_ports.proofs.Common.{refl, false, [], Outside, from_of, new_live, ring_len}
+use Rattle.tnc_ports.specs.SampledHeld.{output_of, report_of}
+use Rattle.tnc_ports.specs.SampledRun.{outside_by}
+use Rattle.tnc_ports.proofs.KeyReleases.{looped, released_by}
+use Rattle.tnc_ports.proofs.LiveLoop.{first_written, first_line}
 use Rattle.tnc_ports.proofs.LiveServe.{first_stands, nothing_looped}
 use Rattle.tnc_ports.proofs.looping.station_loop.Goals as goal
 
 pub returns-in_default-clause-looped : goal.returns-in_default-clause-looped
-returns-in_default-clause-looped g c = nothing_looped c.args.words.now _ _ c.requires.fresh.new
+returns-in_default-clause-looped g c =
+    let words = c.args.words.now in
+    let line : LineTold = line_told g.K.KeyPort.lines g.K.KeyPort.faults c.release_key.new.key in
+    let start : Outside = outside_by g.N.Ports.listens g.N.Ports.polls g.N.Ports.sends g.N.Ports.sent g.N.Ports.is_shut
+    g.N.Ports.faults g.K.KeyPort.lines g.K.KeyPort.faults g.O.Sink.written g.O.Sink.faults g.E.Sink.written
+    g.E.Sink.faults c.args.ports.now c.args.key.now c.args.output.now c.args.report.now in
+    nothing_looped words _ start line c.requires.fresh.new
+    (released_by (from_of start) words.key c.key_of-side.result c.release_key.new.side false (new_live words)
+    (output_of start) (report_of start) start.line line c.key_of-side.ensures
+    (first_written words words.key false start) (first_line start words.key words)
+    (c.release_key.ensures words.key _ [] c.key_of-side.ensures))
 
-pub turns-init : goal.turns-init
-turns-init g c = (
-  runs_first c.args.words.now _ (ring_len c.args.ring.now) c.args.receiver.now _
-      (first_stands c.args.words.now _ (ring_len c.args.ring.now) c.args.receiver.now c.in-Ok.ensures.stands_for
-      refl refl c.requires.fresh.sensitive c.requires.fresh.new c.requires.fresh.hears)
-      refl refl,
-  c.requires.fresh.readers,
-  c.requires.fresh.detection,
-  refl,
-)
+pub run-end-requires-clause-stands : goal.run-end-requires-clause-stands
+run-end-requires-clause-stands g c = λ κs within.
+    first_stands c.args.words.now _ (ring_len c.args.ring.now) c.args.receiver.now c.in-Ok.ensures.stands_for
+    refl refl c.requires.fresh.sensitive c.requires.fresh.new c.requires.fresh.hears
 
-pub turns-preserved : goal.turns-preserved
-turns-preserved g c = (
-  runs_more c.args.words.now c.turns.turning c.turn.new.self (ring_len c.args.ring.now)
-      c.turns.receiver c.turn.new.receiver _ _ _ c.turns.invariant.0
-      (turned_on c.in-Ok-false.field-0 c.turns.turning c.turn.new.self (ring_len c.args.ring.now)
-      c.turn.new.receiver c.turns.invariant.0.live _ _ _ _ _ _
-      c.in-Ok-false.field-0-test (c.in-Ok-false.ensures.turned c.turns.invariant.0.live c.turns.invariant.0.stands))
-      c.in-Ok-false.ensures.words c.in-Ok-false.ensures.listens c.in-Ok-false.ensures.later,
-  c.in-Ok-false.ensures.readers,
-  c.in-Ok-false.ensures.detection ∙ c.turns.invariant.2,
-  c.in-Ok-false.ensures.dials ∙ c.turns.invariant.3,
-)
+pub run-end-requires-clause-readers : goal.run-end-requires-clause-readers
+run-end-requires-clause-readers g c = λ κs within. c.requires.fresh.readers
 
-pub returns-in-Ok-true-clause-looped : goal.returns-in-Ok-true-clause-looped
-returns-in-Ok-true-clause-looped g c =
-    loop_fault c.args.words.now c.turns.turning c.turn.new.self (ring_len c.args.ring.now)
-    c.turns.receiver c.turn.new.receiver _ _ _ c.turns.invariant.0
-    (turned_over c.in-Ok-true.field-0 c.turns.turning c.turn.new.self (ring_len c.args.ring.now)
-    c.turn.new.receiver c.turns.invariant.0.live _ _ _ _ _ _
-    c.in-Ok-true.field-0-test (c.in-Ok-true.ensures.turned c.turns.invariant.0.live c.turns.invariant.0.stands))
-    c.in-Ok-true.ensures.listens c.in-Ok-true.ensures.later c.if-turning.true
+pub run-end-requires-clause-detection : goal.run-end-requires-clause-detection
+run-end-requires-clause-detection g c = λ κs within. c.requires.fresh.detection
 
-pub returns-in-Ok-true-2-clause-looped : goal.returns-in-Ok-true-2-clause-looped
-returns-in-Ok-true-2-clause-looped g c =
-    loop_done c.args.words.now c.turns.turning c.turn.new.self (ring_len c.args.ring.now)
-    c.turns.receiver c.turn.new.receiver _ _ _ c.turns.invariant.0
-    (turned_over c.in-Ok-true.field-0 c.turns.turning c.turn.new.self (ring_len c.args.ring.now)
-    c.turn.new.receiver c.turns.invariant.0.live _ _ _ _ _ _
-    c.in-Ok-true.field-0-test (c.in-Ok-true.ensures.turned c.turns.invariant.0.live c.turns.invariant.0.stands))
-    c.in-Ok-true.ensures.listens c.in-Ok-true.ensures.later c.if-turning.false
+pub run-end-requires-clause-key : goal.run-end-requires-clause-key
+run-end-requires-clause-key g c = λ κs within. c.key_of-side.ensures
 
-pub returns-in-Err-clause-looped : goal.returns-in-Err-clause-looped
-returns-in-Err-clause-looped g c =
-    loop_memory c.args.words.now c.turns.turning c.turn.new.self (ring_len c.args.ring.now)
-    c.turns.receiver c.turn.new.receiver _ _ _ c.turns.invariant.0
-    (c.in-Err.ensures.cut c.turns.invariant.0.live c.turns.invariant.0.stands)
-    c.in-Err.ensures.listens c.in-Err.ensures.later
+pub returns-clause-looped : goal.returns-clause-looped
+returns-clause-looped g c =
+    looped _ _ _ c.args.words.now c.run-end.new.turning (λ live key. c.release.ensures _ live _ key) c.run-end.result _
+    c.run-end.ensures.run

@@ -35,6 +35,7 @@ returns-clause-shows c = λ turn shows.
       holds = record {
         parameters = h.parameters;
         digi = h.digi;
+        paclen = h.paclen;
         connections = h.connections;
         ids = h.ids;
         registrations = h.registrations;

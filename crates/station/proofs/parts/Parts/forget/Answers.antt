@@ -9,7 +9,7 @@ returns-clause-shows c = λ out turn shows.
       connections = c.remove_connection.new.connections;
       registrations = c.remove_registrations.new.registrations;
     }) out turn c.args.id shows
-    c.remove_connection.ensures c.remove_registrations.ensures refl refl refl refl refl refl refl
+    c.remove_connection.ensures c.remove_registrations.ensures refl refl refl refl refl refl refl refl
 
 pub returns-clause-ids : goal.returns-clause-ids
 returns-clause-ids c =

@@ -46,6 +46,7 @@ returns-clause-shows c = λ turn shows.
       holds = record {
         parameters = shows.holds.parameters;
         digi = shows.holds.digi;
+        paclen = shows.holds.paclen;
         connections = joined.0;
         ids = joined.1;
         registrations = shows.holds.registrations;

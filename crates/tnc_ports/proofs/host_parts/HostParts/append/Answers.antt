@@ -1,4 +1,4 @@
-use Rattle.tnc_ports.proofs.Common.{◌≡◌, ◌<◌, ◌≤◌, ◌+◌, length, refl, sym, ap, subst, ◌∙◌, inl, inr, on_ok_weaker}
+use Rattle.tnc_ports.proofs.Common.{◌≡◌, ◌<◌, ◌≤◌, ◌+◌, length, sym, ap, subst, ◌∙◌, inl, inr, on_ok_weaker}
 use Rattle.tnc_ports.proofs.Common.{HostParts, Line, with_piece, octets_of, most_octets}
 use Rattle.std.proofs.Common.{Err}
 use Rattle.std.proofs.lemmas.Bool.{cases_lt}

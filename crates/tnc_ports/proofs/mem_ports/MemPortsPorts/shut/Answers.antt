@@ -1,4 +1,4 @@
-use Rattle.tnc_ports.proofs.Common.{sym, ap, ◌∙◌, PortsView, was_shut, has_come, has_dialed}
+use Rattle.tnc_ports.proofs.Common.{ap, ◌∙◌, PortsView, was_shut, has_come, has_dialed}
 use Rattle.tnc_ports.proofs.ScriptLemmas.{with_shut-itself, with_shut-others, with_shut-ids, is_one_of}
 use Rattle.tnc_ports.proofs.mem_ports.MemPortsPorts.shut.Goals as goal
 

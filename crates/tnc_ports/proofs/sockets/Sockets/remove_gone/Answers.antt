@@ -1,4 +1,4 @@
-use Rattle.tnc_ports.proofs.Common.{ap, sym, subst, ◌∙◌, rules, filter_same, ids_of_sockets, Rise}
+use Rattle.tnc_ports.proofs.Common.{sym, subst, rules, filter_same, ids_of_sockets, Rise}
 use Rattle.std.proofs.Common.{not}
 use Rattle.tnc_ports.proofs.RealLemmas.{rise_without}
 use Rattle.tnc_ports.proofs.sockets.Sockets.remove_gone.Goals as goal

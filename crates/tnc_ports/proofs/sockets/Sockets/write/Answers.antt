@@ -1,5 +1,5 @@
-use Rattle.tnc_ports.proofs.Common.{◌≡◌, ◌<◌, ℕ, length, get_or, set, ap, sym, subst, ◌∙◌, Socket, OpenIds}
-use Rattle.tnc_ports.proofs.Common.{ids_of_sockets, Rise}
+use Rattle.tnc_ports.proofs.Common.{◌≡◌, ◌<◌, ℕ, length, get_or, ap, sym, subst, ◌∙◌, Socket, OpenIds}
+use Rattle.tnc_ports.proofs.Common.{Rise}
 use Rattle.std.proofs.Common.{List}
 use Rattle.tnc_ports.proofs.RealLemmas.{ids_set}
 use Rattle.tnc_ports.proofs.sockets.Sockets.write.Goals as goal

@@ -4,48 +4,59 @@ use Rattle.tnc_ports.proofs.LiveTurn.{all_made, cut_reading, cut_hearing, cut_ti
 use Rattle.tnc_ports.proofs.turning.Turning.make.Goals as goal
 
 pub returns-in_err-heard-clause-cut : goal.returns-in_err-heard-clause-cut
-returns-in_err-heard-clause-cut g c = λ live stands.
+returns-in_err-heard-clause-cut g c = λ from live stands key.
     on_err c.from_residual.result _
-    (λ told. cut_reading c.args.self.now c.read.new.self (ring_len c.args.ring.now) c.read.new.receiver live _ _ _ _
-    (c.in_err-heard.ensures.cut live stands) c.in_err-heard.ensures.unwritten.1
+    (λ told. cut_reading from c.args.self.now c.read.new.self (ring_len c.args.ring.now) c.read.new.receiver live _ _ _ _
+    _ key (c.in_err-heard.ensures.cut live stands) c.in_err-heard.ensures.unwritten.1 c.in_err-heard.ensures.rest.0
+    c.in_err-heard.ensures.rest.3
     (ap (stream_of g.E.Sink.written g.E.Sink.faults) c.in_err-heard.ensures.unwritten.0))
 
 pub returns-in_err-hear_all-clause-cut : goal.returns-in_err-hear_all-clause-cut
-returns-in_err-hear_all-clause-cut g c = λ live stands.
+returns-in_err-hear_all-clause-cut g c = λ from live stands key.
     on_err c.from_residual-in_err-hear_all.result _
-    (λ told. cut_hearing c.in_ok-heard.heard.ended c.in_ok-heard.heard.least c.in_ok-heard.heard.items.items c.args.self.now
-    c.read.new.self c.hear_all.new.self (ring_len c.args.ring.now) c.read.new.receiver live _ _
-    (stream_of g.E.Sink.written g.E.Sink.faults c.read.new.report) _ _
+    (λ told. cut_hearing from c.in_ok-heard.heard.ended c.in_ok-heard.heard.least c.in_ok-heard.heard.items.items
+    c.args.self.now c.read.new.self c.hear_all.new.self (ring_len c.args.ring.now) c.read.new.receiver live _ _
+    (stream_of g.E.Sink.written g.E.Sink.faults c.read.new.report) _ _ _ key
     (c.in_ok-heard.ensures.reads live stands)
     (λ hosts keeps. hears_some_same c.deref.result.now c.in_ok-heard.heard.items.items c.read.new.self
     c.hear_all.new.self hosts _ _ c.deref.ensures.value (c.in_err-hear_all.ensures.cut hosts keeps))
-    c.in_ok-heard.ensures.rest.0)
+    c.in_ok-heard.ensures.rest.0 c.in_err-hear_all.ensures.rest.0 c.in_ok-heard.ensures.rest.3
+    c.in_err-hear_all.ensures.rest.2)
 
 pub returns-in_err-tick_up_to-clause-cut : goal.returns-in_err-tick_up_to-clause-cut
-returns-in_err-tick_up_to-clause-cut g c = λ live stands.
+returns-in_err-tick_up_to-clause-cut g c = λ from live stands key.
     on_err c.from_residual-in_err-tick_up_to.result _
-    (λ told. cut_ticking c.in_ok-heard.heard.ended c.busy.result c.in_ok-heard.heard.least c.in_ok-heard.heard.items.items
-    c.args.self.now c.read.new.self c.hear_all.new.self c.tick_up_to.new.self
+    (λ told. cut_ticking from c.in_ok-heard.heard.ended c.busy.result c.in_ok-heard.heard.least
+    c.in_ok-heard.heard.items.items
+    c.args.self.now c.read.new.self c.hear_all.new.self c.turn_key.new.self c.tick_up_to.new.self
     (ring_len c.args.ring.now) c.args.receiver.now c.read.new.receiver live _ _ _
     (stream_of g.E.Sink.written g.E.Sink.faults c.read.new.report)
-    (stream_of g.E.Sink.written g.E.Sink.faults c.hear_all.new.report) _ _
-    stands (c.in_ok-heard.ensures.reads live stands)
+    (stream_of g.E.Sink.written g.E.Sink.faults c.hear_all.new.report)
+    (stream_of g.E.Sink.written g.E.Sink.faults c.turn_key.new.report) _ _ _ _ _
+    stands key (c.in_ok-heard.ensures.reads live stands)
     (λ hosts keeps. hears_same c.deref.result.now c.in_ok-heard.heard.items.items c.read.new.self c.hear_all.new.self
     hosts _ _ c.deref.ensures.value (c.in_ok-hear_all.ensures.heard hosts keeps))
-    c.in_err-tick_up_to.ensures.cut c.busy.ensures (c.in_ok-heard.ensures.detection ∙ c.requires.detection)
-    c.in_ok-heard.ensures.rest.0 c.in_ok-hear_all.ensures.rest.0 c.in_ok-heard.ensures.rest.2
-    c.in_ok-hear_all.ensures.rest.1)
+    (λ live. c.turn_key.ensures.turned from live)
+    (λ live. c.in_err-tick_up_to.ensures.cut from live) c.busy.ensures
+    (c.in_ok-heard.ensures.detection ∙ c.requires.detection)
+    c.in_ok-heard.ensures.rest.0 c.in_ok-hear_all.ensures.rest.0 c.turn_key.ensures.rest.0
+    c.in_ok-heard.ensures.rest.3 c.in_ok-hear_all.ensures.rest.2
+    c.in_ok-heard.ensures.rest.2 c.in_ok-hear_all.ensures.rest.1 c.turn_key.ensures.rest.1)
 
 pub returns-clause-made : goal.returns-clause-made
-returns-clause-made g c = λ live stands.
-    all_made c.in_ok-heard.heard.ended c.busy.result c.in_ok-heard.heard.least c.in_ok-heard.heard.items.items
-    c.args.self.now c.read.new.self c.hear_all.new.self c.tick_up_to.new.self
+returns-clause-made g c = λ from live stands key.
+    all_made from c.in_ok-heard.heard.ended c.busy.result c.in_ok-heard.heard.least c.in_ok-heard.heard.items.items
+    c.args.self.now c.read.new.self c.hear_all.new.self c.turn_key.new.self c.tick_up_to.new.self
     (ring_len c.args.ring.now) c.args.receiver.now c.read.new.receiver live _ _ _
     (stream_of g.E.Sink.written g.E.Sink.faults c.read.new.report)
-    (stream_of g.E.Sink.written g.E.Sink.faults c.hear_all.new.report) _
-    stands (c.in_ok-heard.ensures.reads live stands)
+    (stream_of g.E.Sink.written g.E.Sink.faults c.hear_all.new.report)
+    (stream_of g.E.Sink.written g.E.Sink.faults c.turn_key.new.report) _ _ _ _
+    stands key (c.in_ok-heard.ensures.reads live stands)
     (λ hosts keeps. hears_same c.deref.result.now c.in_ok-heard.heard.items.items c.read.new.self c.hear_all.new.self
     hosts _ _ c.deref.ensures.value (c.in_ok-hear_all.ensures.heard hosts keeps))
-    c.in_ok-tick_up_to.ensures.ticked c.busy.ensures (c.in_ok-heard.ensures.detection ∙ c.requires.detection)
-    c.in_ok-heard.ensures.rest.0 c.in_ok-hear_all.ensures.rest.0 c.in_ok-heard.ensures.rest.2
-    c.in_ok-hear_all.ensures.rest.1
+    (λ live. c.turn_key.ensures.turned from live)
+    (λ live. c.in_ok-tick_up_to.ensures.ticked from live) c.busy.ensures
+    (c.in_ok-heard.ensures.detection ∙ c.requires.detection)
+    c.in_ok-heard.ensures.rest.0 c.in_ok-hear_all.ensures.rest.0 c.turn_key.ensures.rest.0
+    c.in_ok-heard.ensures.rest.3 c.in_ok-hear_all.ensures.rest.2
+    c.in_ok-heard.ensures.rest.2 c.in_ok-hear_all.ensures.rest.1 c.turn_key.ensures.rest.1

@@ -1,15 +1,51 @@
-use Rattle.tnc_ports.proofs.Common.{◌++◌, ap, ◌∙◌, ◌+◌, report_text}
-use Rattle.tnc_ports.proofs.LiveSteps.{ticks_once}
+use Rattle.key_port.specs.KeySides.{reports_in}
+use Rattle.key_port.specs.KeyTasks.{line_told}
+use Rattle.tnc_ports.proofs.Common.{◌++◌, ap, refl, sym, subst, ◌∙◌, ◌+◌, StandsFor, report_text}
+use Rattle.tnc_ports.proofs.Common.{Bool, Puts, key_line, map, stream_of}
+use Rattle.tnc_ports.specs.SampledHeld.{KeyStands}
+use Rattle.tnc_ports.proofs.LiveSteps.{AreTakenLines}
+use Rattle.tnc_ports.proofs.LiveTicks.{ticks_once}
 use Rattle.tnc_ports.proofs.turning.Turning.tick.Goals as goal
 
 pub returns-clause-ticked : goal.returns-clause-ticked
-returns-clause-ticked g c = λ live keeps at.
-    ticks_once c.args.busy c.in_ok-air.air c.args.self.now _ c.tick.new.self live c.in_ok-shown.shown.items
-    c.take_lines-lines.result.items c.put.new.failed
-    c.octets_of_samples.result c.deref-3.result.now _ _ _ _
-    keeps c.in_ok-air.ensures.step c.take_lines-lines.ensures.taken c.in_ok-shown.ensures
+returns-clause-ticked g c = λ from live keeps at key.
+    let same_words = c.key_written-lost.ensures.rest.0 ∙ c.key_tick-keyed.ensures.rest.0 in
+    let same_hosts = c.key_written-lost.ensures.rest.2 ∙ c.key_tick-keyed.ensures.rest.2 in
+    let out : Puts c.args.self.now.failed c.put.new.failed c.octets_of_samples.result
+    (stream_of g.O.Sink.written g.O.Sink.faults c.args.output.now)
+    (stream_of g.O.Sink.written g.O.Sink.faults c.put.new.sink) =
+    subst (λ (b : Bool). Puts b c.put.new.failed c.octets_of_samples.result
+    (stream_of g.O.Sink.written g.O.Sink.faults c.args.output.now)
+    (stream_of g.O.Sink.written g.O.Sink.faults c.put.new.sink)) c.key_tick-keyed.ensures.rest.3 c.put.ensures in
+    let last : Puts c.put_reports.new.failed c.put_reports-2.new.failed
+    (report_text (map key_line (reports_in c.key_written-lost.result)))
+    (stream_of g.E.Sink.written g.E.Sink.faults c.put_reports.new.report)
+    (stream_of g.E.Sink.written g.E.Sink.faults c.put_reports-2.new.report) =
+    subst (λ (b : Bool). Puts b c.put_reports-2.new.failed
+    (report_text (map key_line (reports_in c.key_written-lost.result)))
+    (stream_of g.E.Sink.written g.E.Sink.faults c.put_reports.new.report)
+    (stream_of g.E.Sink.written g.E.Sink.faults c.put_reports-2.new.report)) c.key_written-lost.ensures.rest.3
+    c.put_reports-2.ensures in
+    ticks_once from c.args.busy c.is_busy-held.result c.in_ok-air.air c.args.self.now _ c.tick.new.self live
+    c.in_ok-shown.shown.items c.take_lines-lines.result.items (reports_in c.key_tick-keyed.result)
+    (reports_in c.key_written-lost.result) c.key_tick-keyed.new.self.key c.key_written-lost.new.self.key
+    c.put.new.failed c.put-2.new.failed c.put_reports.new.failed _ _ _ _ _ _ _ _ _ _ _
+    keeps key (c.is_busy-held.ensures live.keyed key.stands) c.in_ok-air.ensures.step
+    (subst (λ held. AreTakenLines c.tick.new.self held c.take_lines-lines.result.items) (sym same_hosts)
+    c.take_lines-lines.ensures.taken)
+    (λ hosts printed stands. c.in_ok-shown.ensures hosts printed
+    (subst (λ held. StandsFor held printed hosts) same_hosts stands))
     (c.deref-3.ensures.value ∙ c.in_ok-text.ensures ∙ ap (λ x. report_text (x ++ c.deref-2.result.now))
     c.deref.ensures.value
     ∙ ap (λ x. report_text (c.in_ok-shown.shown.items ++ x)) c.deref-2.ensures.value)
-    c.octets_of_samples.ensures.octets c.put.ensures c.put-2.ensures (ap (λ n. n + 1) at)
-    c.octets_of_samples.ensures.size
+    c.octets_of_samples.ensures.octets
+    c.key_tick-keyed.ensures.told
+    (λ none. let still = c.key_tick-keyed.ensures.none none in
+    (still.0, ap (line_told g.K.KeyPort.lines g.K.KeyPort.faults) still.1, still.2))
+    (λ words octets keyed is stands. c.key_written-lost.ensures.told words octets keyed
+    (ap (λ w. w.key) c.key_tick-keyed.ensures.rest.0 ∙ is)
+    (subst (λ w. KeyStands w.key c.key_tick-keyed.new.self.key keyed) (sym c.key_tick-keyed.ensures.rest.0) stands))
+    (λ none. let still = c.key_written-lost.ensures.none none in
+    (still.0, ap (line_told g.K.KeyPort.lines g.K.KeyPort.faults) still.1, still.2))
+    out c.put-2.ensures c.put_reports.ensures last
+    same_words refl (ap (λ n. n + 1) at) c.octets_of_samples.ensures.size

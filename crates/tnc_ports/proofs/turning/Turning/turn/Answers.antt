@@ -4,23 +4,25 @@ use Rattle.tnc_ports.proofs.LiveTurn.{whole_turn, cut_serving}
 use Rattle.tnc_ports.proofs.turning.Turning.turn.Goals as goal
 
 pub returns-in_err-ended-clause-cut : goal.returns-in_err-ended-clause-cut
-returns-in_err-ended-clause-cut g c = λ live stands.
-    on_err c.from_residual.result _ (c.in_err-ended.ensures.cut live stands _)
+returns-in_err-ended-clause-cut g c = λ from live stands key.
+    on_err c.from_residual.result _ (c.in_err-ended.ensures.cut from live stands key _)
 
 pub returns-in_err-serve_hosts-clause-cut : goal.returns-in_err-serve_hosts-clause-cut
-returns-in_err-serve_hosts-clause-cut g c = λ live stands.
+returns-in_err-serve_hosts-clause-cut g c = λ from live stands key.
     on_err c.from_residual-in_err-serve_hosts.result _
-    (cut_serving c.in_ok-ended.ended c.args.self.now c.make.new.self c.serve_hosts.new.self
+    (cut_serving from c.in_ok-ended.ended c.args.self.now c.make.new.self c.serve_hosts.new.self
     (ring_len c.args.ring.now) c.make.new.receiver live _ _ _
-    (stream_of g.E.Sink.written g.E.Sink.faults c.make.new.report) _ _ _
-    (c.in_ok-ended.ensures.made live stands) c.in_err-serve_hosts.ensures.unwritten.1
+    (stream_of g.E.Sink.written g.E.Sink.faults c.make.new.report) _ _ _ _
+    (c.in_ok-ended.ensures.made from live stands key) c.in_err-serve_hosts.ensures.unwritten.1
+    c.in_err-serve_hosts.ensures.rest.0 c.in_err-serve_hosts.ensures.rest.2
     (ap (stream_of g.E.Sink.written g.E.Sink.faults) c.in_err-serve_hosts.ensures.unwritten.0)
     c.in_err-serve_hosts.ensures.cut)
 
 pub returns-clause-turned : goal.returns-clause-turned
-returns-clause-turned g c = λ live stands.
-    whole_turn c.in_ok-ended.ended c.args.self.now c.make.new.self c.serve_hosts.new.self
+returns-clause-turned g c = λ from live stands key.
+    whole_turn from c.in_ok-ended.ended c.args.self.now c.make.new.self c.serve_hosts.new.self
     (ring_len c.args.ring.now) c.make.new.receiver live _ _ _
-    (stream_of g.E.Sink.written g.E.Sink.faults c.make.new.report) _ _ _
-    (c.in_ok-ended.ensures.made live stands) c.in_ok-serve_hosts.ensures.served
+    (stream_of g.E.Sink.written g.E.Sink.faults c.make.new.report) _ _ _ _
+    (c.in_ok-ended.ensures.made from live stands key) c.in_ok-serve_hosts.ensures.served
     c.in_ok-serve_hosts.ensures.rest.1 c.in_ok-ended.ensures.words c.in_ok-serve_hosts.ensures.rest.0
+    c.in_ok-serve_hosts.ensures.rest.2

@@ -1,15 +1,17 @@
 -- The turns so far.
 use Rattle.tnc_ports.proofs.Common.{All, ◌≡◌, ring_id, ring_len, reader_ring, readers_in, Runs}
 use Rattle.tnc_ports.specs.SampledRun.{outside_by}
-use Rattle.tnc_ports.proofs.looping.station_loop.Given as goal
+use Rattle.tnc_ports.proofs.looping.run.Given as goal
 
 abbrev pub invariant-turns : goal.invariant-turns
 invariant-turns g l =
-    Runs l.words l.turning (ring_len l.ring) l.receiver
+    Runs l.initial.turning.words l.turning (ring_len l.ring) l.receiver
     (outside_by g.N.Ports.listens g.N.Ports.polls g.N.Ports.sends g.N.Ports.sent g.N.Ports.is_shut g.N.Ports.faults
-    g.O.Sink.written g.O.Sink.faults g.E.Sink.written g.E.Sink.faults l.initial.ports l.initial.output l.initial.report)
+    g.K.KeyPort.lines g.K.KeyPort.faults g.O.Sink.written g.O.Sink.faults g.E.Sink.written g.E.Sink.faults
+    l.initial.ports l.initial.key l.initial.output l.initial.report)
     (outside_by g.N.Ports.listens g.N.Ports.polls g.N.Ports.sends g.N.Ports.sent g.N.Ports.is_shut g.N.Ports.faults
-    g.O.Sink.written g.O.Sink.faults g.E.Sink.written g.E.Sink.faults l.ports l.output l.report)
+    g.K.KeyPort.lines g.K.KeyPort.faults g.O.Sink.written g.O.Sink.faults g.E.Sink.written g.E.Sink.faults
+    l.ports l.key l.output l.report)
     × All (λ reader. reader_ring reader ≡ ring_id l.ring) (readers_in l.receiver)
-    × (l.receiver.detection ≡ l.words.dcd)
+    × (l.receiver.detection ≡ l.initial.turning.words.dcd)
     × (g.N.Ports.dials l.ports ≡ g.N.Ports.dials l.initial.ports)
