@@ -12,6 +12,7 @@ import tempfile
 import time
 
 TICK = 192  # octets of a tick: 96 samples of 16 bits
+TAIL = 7  # ticks for which a transmitter stays on after the last one with sound: a step, and some more
 
 
 def free_port(kept=[]):
@@ -44,11 +45,17 @@ def connect(port, program=None):
 
 
 class Station:
-    """A running `tnc serve`. Its report is kept in a file, so that it may be of any length, and Ctrl-C does not reach it."""
+    """A running `tnc serve`. Its report is kept in a file, so that it may be of any length, and Ctrl-C does not reach it. Its
+    sound goes out through a transmitter, if it has one."""
 
-    def __init__(self, tnc, *words, env=None):
+    def __init__(self, tnc, *words, env=None, transmitter=None):
         self.kiss, self.agw = free_port(), free_port()
+        self.transmitter = transmitter
+        if "--seed" not in words:
+            words = ("--seed", 1, *words)  # so that each run is the same
         words = [tnc, "serve", "--kiss", str(self.kiss), "--agw", str(self.agw), *map(str, words)]
+        if transmitter:
+            words += ["--ptt", str(transmitter.rig.port), "--ptt-tail", str(TAIL)]
         pipe, self.report_file = subprocess.PIPE, tempfile.TemporaryFile()
         self.program = subprocess.Popen(
             words, stdin=pipe, stdout=pipe, stderr=self.report_file, bufsize=0, start_new_session=True, env=env
@@ -57,6 +64,11 @@ class Station:
     def connect(self, port):
         """A socket to one of its ports."""
         return connect(port, self.program)
+
+    def sound(self, count):
+        """So many octets that go out."""
+        sent = read_all(self.program.stdout, count)
+        return self.transmitter.played(sent) if self.transmitter else sent
 
     def end(self):
         """Ends its sound, and tells its exit status and its report."""
@@ -118,8 +130,7 @@ class Air:
         """Both stations hear what the other sent in the step before."""
         self.a.program.stdin.write(self.to_a)
         self.b.program.stdin.write(self.to_b)
-        sent_a = read_all(self.a.program.stdout, self.count)
-        sent_b = read_all(self.b.program.stdout, self.count)
+        sent_a, sent_b = self.a.sound(self.count), self.b.sound(self.count)
         self.to_b, self.to_a = self.from_a.heard(sent_a), self.from_b.heard(sent_b)
         self.ticks += self.count // TICK
 

@@ -1,7 +1,7 @@
 #!/usr/bin/env bash
 # Proves and builds the program, tells how far that is, and puts the program at bin/tnc. Where a folder is named, it is
 # installed there as tnc; where a prefix is named, at DIR/bin/tnc, with the manual page at DIR/share/man/man1/tnc.1 and the
-# service of systemd at DIR/lib/systemd/system/tnc.service.
+# services of systemd, tnc.service and rigctld.service, in DIR/lib/systemd/system.
 #   scripts/build.sh [FOLDER]
 #   scripts/build.sh --prefix DIR
 set -euo pipefail
@@ -27,5 +27,6 @@ if [ -n "$prefix" ]; then
     install -D -m 644 man/tnc.1 "$prefix/share/man/man1/tnc.1"
     sed "s|/usr/local/|$(realpath "$prefix")/|" systemd/tnc.service \
         | install -D -m 644 /dev/stdin "$prefix/lib/systemd/system/tnc.service"
+    install -D -m 644 systemd/rigctld.service "$prefix/lib/systemd/system/rigctld.service"
 fi
 echo "$target/tnc"

@@ -139,7 +139,7 @@ decodes_wide() {
         && [ -z "$(sort "$1.frames" | comm -23 - <(sort "$room/all.lines"))" ]
 }
 
-# RECORDING: 23 lanes hear each frame that eight hear, with threads as without.
+# RECORDING: all lanes hear each frame that eight hear, with threads as without.
 decodes_sensitively() {
     "$tnc" decode --sensitive <"$1.raw" >"$room/more.lines" \
         && "$tnc" decode --sensitive --threads <"$1.raw" | cmp -s - "$room/more.lines" \
@@ -511,6 +511,7 @@ if has python3; then
     check "the documents show what the program prints" scripts/check_readme.py "$tnc"
     check "the files to believe are those that the contracts name" scripts/trust_table.py --check
     check "what the documents name is there" scripts/check_docs.py "$tnc"
+    check "the pages on clauses and definitions say what the sources have" scripts/check_clauses.py
     check "scores within their bounds" scripts/scores.py --check --tnc "$tnc"
 else
     skip "the documents show what the program prints" python3

@@ -16,7 +16,7 @@ from pathlib import Path
 ROOT = Path(__file__).resolve().parent.parent
 FOLDERS = ("crates", "docs", "scripts", "samples", "bench", "man", "systemd", ".ci")
 COMMANDS = ("serve", "decode", "encode", "show", "loop", "bench", "record", "call")
-REPORTING = ("tnc_main", "tnc_ports", "tnc_record")  # the crates whose sources spell what goes to standard error
+REPORTING = ("tnc_main", "tnc_ports", "tnc_record", "keying")  # the crates whose sources spell what goes to standard error
 OPERATING = "docs/OPERATING.md"
 MANUAL = "man/tnc.1"
 
@@ -62,6 +62,7 @@ def report_lines(crate):
             text = file.read_text()
             found |= set(re.findall(r'(?:&str = |format!\(in alloc; )"([a-z][a-z :]*[a-z])(?: ?[\d{].*)?\\n"', text))
             found |= set(re.findall(r'\bb"([a-z]+) "', text))
+            found |= set(re.findall(r'\btext_of\(b"(ptt [a-z]+)', text))
             found |= {f"tnc: bad input: {it} at" for it in re.findall(r'LineFlaw::\w+ => "([a-z ]+)"', text)}
     return found
 
@@ -230,8 +231,8 @@ def not_in_operating(facts):
     """Finds report lines of `serve` that the table of the page for operators does not have."""
     rows = rows_of_reports(facts.pages.get(OPERATING, ""))
     told = [it for _, row in rows for it in re.findall(r"`([a-z: ]*[a-z])", row)]
-    for said in sorted(facts.lines["tnc_ports"]):
-        if said not in told:
+    for said in sorted(facts.lines["tnc_ports"] | facts.lines["keying"]):
+        if not any(it == said or it.startswith(f"{said} ") for it in told):
             yield f"does not have the report line `{said}` of serve"
 
 
@@ -280,7 +281,7 @@ def self_test(facts):
         if (len(found) != 1 or said not in found[0]) if said else found:
             wrong.append(f"{what}: {found}")
 
-    table = "".join(f"| `{it}` |\n" for it in facts.lines["tnc_ports"])
+    table = "".join(f"| `{it}` |\n" for it in facts.lines["tnc_ports"] | facts.lines["keying"])
     page = {OPERATING: f"| Line on standard error |\n|---|\n{table}"}
     sees("a good page", None, pages={**page, "README.md": GOOD})
     for text, said in PLANTED.items():

@@ -1,7 +1,7 @@
 #!/usr/bin/env bash
 # The checks of the live TNC that need a clock: sessions with a Dire Wolf at the other end of the sound, other people's
 # programs as hosts, mail by Winlink's pat, and the commands that docs/OPERATING.md and docs/HOSTS.md show. They are run by hand
-# before a release, on a machine that has a processor to spare, and take about four minutes.
+# before a release, on a machine that has a processor to spare, and take about eight minutes.
 #   scripts/check_live.sh [PROGRAM]      bin/tnc, where no other is named
 set -uo pipefail
 cd "$(dirname "$0")/.."
@@ -27,11 +27,20 @@ else
     echo "skipped: sessions with Dire Wolf (direwolf is not installed)"
 fi
 check "other people's programs as hosts" scripts/check_hosts.py --programs --tnc "$tnc"
+if command -v rigctld >/dev/null; then
+    check "a transmitter keyed by rigctld" scripts/check_ptt.py --tnc "$tnc" --long
+    check "mail by pat, keyed by rigctld" scripts/check_pat.py --tnc "$tnc" --ptt
+    if command -v direwolf >/dev/null; then
+        check "sessions with Dire Wolf, keyed by rigctld" scripts/check_peers.py --tnc "$tnc" --ptt
+    fi
+else
+    echo "skipped: a transmitter keyed by rigctld (rigctld is not installed)"
+fi
 # It says itself where pat is missing or too old.
 check "mail by pat" scripts/check_pat.py --tnc "$tnc"
 check "the commands of docs/OPERATING.md and docs/HOSTS.md" scripts/check_operating.py "$tnc"
 if command -v systemd-analyze >/dev/null; then
-    check "the service of systemd" systemd-analyze verify --man=no systemd/tnc.service
+    check "the services of systemd" systemd-analyze verify --man=no systemd/tnc.service systemd/rigctld.service
 else
     echo "skipped: the service of systemd (systemd-analyze is not installed)"
 fi

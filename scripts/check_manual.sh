@@ -28,6 +28,7 @@ needed_beside() {
         bench*) echo "--seed 7 --octets 0 --full" ;;
         "serve --kiss") echo "--agw 18101" ;;
         "serve --agw") echo "--kiss 18100" ;;
+        "serve --ptt-tail" | "serve --ptt-data") echo "--kiss 18100 --agw 18101 --ptt 18103" ;;
         serve*) echo "--kiss 18100 --agw 18101" ;;
         "call --agw") echo "--from N7LEM --to NJ7P --polls 1" ;;
         "call --from") echo "--agw 18102 --to NJ7P --polls 1" ;;
@@ -136,10 +137,23 @@ for command in $commands; do
             takes_words "$command" "$option" "${BASH_REMATCH[1]}" "${BASH_REMATCH[2]}"
             [ "${BASH_REMATCH[3]}" = "${BASH_REMATCH[1]}" ] || fault "$command $option has another default"
             continue
+        elif [[ $entry == *"|$option name|"* && $text =~ ([a-z]+)\ or\ ([a-z]+)[^.]*\;\ if\ it\ is\ not\ given,\  ]]; then
+            takes_words "$command" "$option" "${BASH_REMATCH[1]}" "${BASH_REMATCH[2]}"
+            is_taken "$command" $beside || fault "$command needs $option"
+            continue
         elif [[ $entry == *"|$option call|"* ]]; then
             takes_words "$command" "$option" N7LEM N7LEM-15
             does_not_take "$command" "$option" N7LEM-16 TOOLONGX ""
             [[ $text != *"It has to be given."* ]] || is_refused "$command" $beside || fault "$command does not need $option"
+            continue
+        elif [[ $entry == *"|$option port|"* && $text =~ number\ from\ ([0-9]+)\ to\ ([0-9]+),\ or\ the\ word\ ([a-z]+), ]]; then
+            takes_words "$command" "$option" "${BASH_REMATCH[3]}"
+            takes "$command" "$option" "${BASH_REMATCH[1]}" "${BASH_REMATCH[2]}"
+            does_not_take "$command" "$option" "$(one_less "${BASH_REMATCH[1]}")" "$(one_more "${BASH_REMATCH[2]}")" +8 8x ""
+            continue
+        elif [[ $entry == *"|$option A.B.C.D|"* ]]; then
+            takes_words "$command" "$option" 127.0.0.1 0.0.0.0
+            does_not_take "$command" "$option" 127.0.0 127.0.0.256 127.0.0.01 localhost ::1 ""
             continue
         elif [[ $entry == *"|$option calls|"* ]]; then
             takes_words "$command" "$option" N7LEM N7LEM-15,W1AW
@@ -181,6 +195,8 @@ for command in $commands; do
             written_by "$command" $beside <$given >"$room/without"
             written_by "$command" $beside "$option" "${BASH_REMATCH[1]}" <$given | cmp -s - "$room/without" \
                 || fault "$command $option has another default"
+        elif [[ $text == *"; if it is not given, "* ]]; then
+            is_taken "$command" $beside || fault "$command needs $option"
         elif [[ $text == *"It has to be given."* ]]; then
             is_refused "$command" $beside || fault "$command does not need $option"
         else
@@ -217,7 +233,7 @@ for command in $commands; do
     [ "$("$tnc" "$command" --help)" = "$help" ] || fault "$command --help is not help $command"
     [ "$(joined <<<"$help" | sed -n '1s/^Usage: //p')" = "$(grep "^tnc $command\( \|$\)" <<<"$synopsis")" ] \
         || fault "help $command has another synopsis"
-    told=$(sed -n 's/^  \(--[a-z0-9-]*\)\( n\| name\| how\| calls\| call\|\) .*/\1\2/p' <<<"$help" | sort)
+    told=$(sed -n 's/^  \(--[a-z0-9-]*\)\( n\| name\| how\| calls\| call\| port\| A\.B\.C\.D\|\) .*/\1\2/p' <<<"$help" | sort)
     [ "$told" = "$(sed -n "s/^$command|\([^|]*\)|.*/\1/p" <<<"$entries" | sort)" ] || fault "help $command has the options" $told
     while IFS='|' read -r _ option text; do
         line=$(grep -- "^  $option  *" <<<"$help" || true)

@@ -20,8 +20,9 @@ TOP = os.path.dirname(os.path.dirname(os.path.abspath(__file__)))
 PAGES = ("docs/OPERATING.md", "docs/HOSTS.md")
 OTHERS = (
     "sox", "arecord", "aplay", "nc", "socat", "kissutil", "aclients", "appserver", "aprx", "pat-winlink", "systemd-analyze",
+    "rigctld", "rigctl",
 )
-PORTS = ("8000", "8001", "8002", "8010", "8011", "8080")
+PORTS = ("8000", "8001", "8002", "8010", "8011", "8080", "4532")
 CARD = """pcm.!default {{
   type asym
   capture.pcm {{ type file slave.pcm null file /dev/null infile "{heard}" format raw }}
@@ -67,6 +68,11 @@ def card(room, called):
     rate = re.search(r"\barecord .*?-r (\d+)", called)
     rate = int(rate[1]) if rate else 9600
     heard = f"{TOP}/samples/direwolf-clean.raw"
+    if "--ptt" in called:
+        # a station that is to send at once hears nobody
+        heard = f"{room}/silence.raw"
+        with open(heard, "wb") as file:
+            file.write(bytes(192_000))
     if rate != 9600:
         form = ["-e", "signed", "-b", "16", "-c", "1"]
         words = ["sox", "-q", "-t", "raw", "-r", "9600", *form, heard, "-t", "raw", "-r", str(rate), f"{room}/heard.raw"]
@@ -85,17 +91,17 @@ def card(room, called):
 
 
 def with_ports(text, ports):
-    return re.sub(r"\b80(?:[01][0-2]|80)\b", lambda it: ports.get(it[0], it[0]), text)
+    return re.sub(r"\b(?:80(?:[01][0-2]|80)|4532)\b", lambda it: ports.get(it[0], it[0]), text)
 
 
 def session(room, commands):
-    """What each command of a block prints. What it left running is ended with it."""
+    """What each command of a block prints. What it left running is ended with it, also what passes over a signal."""
     mark = "-- command --"
     script = "".join(f"{command}\necho '{mark}'\n" for command in commands)
-    script += "kill $(jobs -p) 2>/dev/null; wait\n"
+    script += "kill $(jobs -p) 2>/dev/null; sleep 0.2; kill -KILL -- -$$\n"
     env = {**os.environ, "HOME": room, "PATH": f"{room}/card:{os.environ['PATH']}:/usr/sbin"}
     told = subprocess.run(["bash", "-c", script], cwd=room, env=env, text=True, stdin=subprocess.DEVNULL,
-                          stdout=subprocess.PIPE, stderr=subprocess.STDOUT, timeout=120).stdout
+                          stdout=subprocess.PIPE, stderr=subprocess.STDOUT, timeout=120, start_new_session=True).stdout
     return [part.splitlines() for part in told.split(f"{mark}\n")[:-1]]
 
 

@@ -1,13 +1,14 @@
 #!/usr/bin/env python3
 """Checks that Winlink's `pat` carries mail over the station: two of them at two stations whose sound reaches each other.
 
-  scripts/check_pat.py [--tnc PROGRAM] [--pat PROGRAM] [--only NAME] [--at-once N] [--speed N] [--seed N]
+  scripts/check_pat.py [--tnc PROGRAM] [--pat PROGRAM] [--only NAME] [--at-once N] [--speed N] [--seed N] [--ptt]
 
 Each has a fresh home, and a message for the other one; one has an attachment. One waits for calls, the other one calls, and
 both messages have to arrive whole, by REJ, by SREJ and modulo 128, and also while 15 % of the transmissions are lost. It prints
 a line for each session, with its seconds on the air from the call to its end. AGWPE came with pat 0.14: an older one is left
 out, as is one that is not installed (status 0). Debian calls the program pat-winlink. The sound goes at its own pace, or N
-times as fast, while pat has its own clock."""
+times as fast, while pat has its own clock. With --ptt each station keys the dummy rig of a rigctld of its own, and its sound
+goes out only while that is keyed; none may be cut off."""
 import argparse
 import concurrent.futures
 import json
@@ -21,6 +22,7 @@ import tempfile
 import time
 
 from air import Air, Kiss, Station, free_port
+from rigs import Rig, Transmitter, are_there
 
 CALLS = ("N7LEM", "NJ7P")
 OLDEST = (0, 14)
@@ -133,9 +135,12 @@ class World:
     """Two stations, a `pat` at each, and a way to let their sound go on."""
 
     def __init__(self, given, words, loss, seed):
-        self.stations = [Station(given.tnc, "--seed", str(at + 1), "--monitor", *words) for at in range(2)]
+        keys = [Transmitter(Rig().start()) if given.ptt else None for _ in range(2)]
+        self.stations = [
+            Station(given.tnc, "--seed", str(at + 1), "--monitor", *words, transmitter=key) for at, key in enumerate(keys)
+        ]
         self.air = Air(*self.stations, ticks=2, loss=loss, seed=seed)
-        self.began, self.speed = time.monotonic(), given.speed
+        self.began, self.speed, self.faults = time.monotonic(), given.speed, []
         self.pats = [Pat(given.pat, call, station.agw) for call, station in zip(CALLS, self.stations)]
 
     def until(self, what, holds):
@@ -157,6 +162,8 @@ class World:
             texts.append(report)
             if status:
                 texts.append(f"status {status}")
+            if station.transmitter:
+                self.faults += station.transmitter.end()
         return texts
 
 
@@ -188,14 +195,16 @@ def session(given, words, loss, seed):
                 raise AssertionError(f"what {pat.call} got is not what {other.call} sent")
         sent = world.air.from_a.sent_count + world.air.from_b.sent_count
         lost = world.air.from_a.lost_count + world.air.from_b.lost_count
-        return took / 100, sent, lost
     except BaseException as error:
         fault = error
         raise
     finally:
         texts = world.end()
-        if fault:
+        if fault or world.faults:
             print("\n".join(text[-2500:] for text in texts))
+    if world.faults:
+        raise AssertionError("; ".join(world.faults))
+    return took / 100, sent, lost
 
 
 def main():
@@ -206,12 +215,16 @@ def main():
     reader.add_argument("--seed", type=int, default=1)
     reader.add_argument("--only", default="")
     reader.add_argument("--at-once", type=int, default=4)
+    reader.add_argument("--ptt", action="store_true")
     given = reader.parse_args()
     if not given.pat:
         sys.exit(print("skipped: mail by pat (pat is not installed)"))
     version = version_of(given.pat)
     if version < OLDEST:
         sys.exit(print(f"skipped: mail by pat ({given.pat} is {'.'.join(map(str, version))}, and 0.14 is the first with AGWPE)"))
+
+    if given.ptt and not are_there():
+        sys.exit(print("skipped: mail by pat, keyed by rigctld (rigctld or rigctl is not installed)"))
 
     def is_well(row):
         name, words, loss = row

@@ -2,11 +2,12 @@
 """Checks `tnc serve` against Dire Wolf at the other end of the sound: connected sessions by REJ and SREJ, modulo 8 and 128,
 called by either end, all at once and at the pace of sound, while parts of long transmissions are lost.
 
-  scripts/check_peers.py [--tnc PROGRAM] [--packets N] [--seed N] [--only N] [--times] [--log FOLDER]
+  scripts/check_peers.py [--tnc PROGRAM] [--packets N] [--seed N] [--only N] [--times] [--log FOLDER] [--ptt]
 
 In a session the host of each station gives so many packets, and the host of the other one has to get just these; then the
-end that called disconnects. It prints a line for each session that failed, or for all, and ends with status 0 where all is
-well."""
+end that called disconnects. With --ptt the station keys the dummy rig of a rigctld, and its sound goes out only while that is
+keyed; none may be cut off. It prints a line for each session that failed, or for all, and ends with status 0 where all is
+well, and 77 if there is to be a rigctld and none is installed."""
 import argparse
 import collections
 import itertools
@@ -16,6 +17,7 @@ import threading
 
 from air import Agw, Kiss, Station
 from direwolf import DireWolf, PacedAir
+from rigs import Rig, Transmitter, are_there
 
 LIMIT = 100 * 100  # ticks: a session that takes longer has failed
 SIZE = 48  # octets of a packet
@@ -34,6 +36,7 @@ def wanted(words):
     reader.add_argument("--only", type=int)
     reader.add_argument("--times", action="store_true")
     reader.add_argument("--log")
+    reader.add_argument("--ptt", action="store_true")
     return reader.parse_args(words)
 
 
@@ -45,7 +48,8 @@ class Session:
         draws = random.Random(given.seed * 100 + number)
         options = ["--mode", self.mode, *(["--wide"] if self.wide else []), "--monitor", "--seed", given.seed + number]
         settings = ["NOXID TTTT", "FRACK 3"] if self.wide else ["MAXV22 0", "FRACK 3"]
-        self.station = Station(given.tnc, *options)
+        transmitter = Transmitter(Rig().start()) if given.ptt else None
+        self.station = Station(given.tnc, *options, transmitter=transmitter)
         self.wolf = DireWolf("DDDD", *settings)
         self.air = PacedAir(self.station, self.wolf, draws)
         self.kiss = Kiss(self.station)
@@ -116,7 +120,9 @@ def told(session, number):
         wrong = [str(error)]
     status, _, report = session.station.end()
     log = session.wolf.end()
-    lines = [line.split() for line in report.splitlines()]
+    if session.station.transmitter:
+        wrong += session.station.transmitter.end()
+    lines = [line.split() for line in report.splitlines() if line != "ptt ready"]
     frames = collections.Counter(f"{line[0]} {line[2]}" for line in lines if line[0] in ("rx", "tx") and len(line) > 2)
     others = [line for line in lines if line[0] not in ("rx", "tx")]
     if status or others:
@@ -138,6 +144,9 @@ def keep(folder, number, report, log):
 
 def main(words):
     given = wanted(words)
+    if given.ptt and not are_there():
+        print("rigctld or rigctl is not installed")
+        return 77
     numbers = range(len(SESSIONS)) if given.only is None else [given.only]
     answers = {}
 

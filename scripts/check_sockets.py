@@ -1,5 +1,6 @@
 #!/usr/bin/env python3
-"""Looks up in the system's tables which sockets a running station has: its two ports, on 127.0.0.1, and nothing else.
+"""Looks up in the system's tables which sockets a running station has: its two ports, on 127.0.0.1 or where the words
+bind them, or the one that they leave, and nothing else.
 
   scripts/check_sockets.py [--tnc PROGRAM] [--kiss N] [--agw N]
 
@@ -33,36 +34,44 @@ def sockets_of(process):
     return sorted(found)
 
 
-def main():
-    words = argparse.ArgumentParser(description=__doc__.split("\n")[0])
-    words.add_argument("--tnc", default="bin/tnc")
-    words.add_argument("--kiss", type=int, default=18102)
-    words.add_argument("--agw", type=int, default=18103)
-    given = words.parse_args()
-    # 127.0.0.1, as Linux prints it: the octets from the last to the first
-    wanted = sorted(("tcp", "0100007F", port, LISTENS) for port in (given.kiss, given.agw))
-    program = subprocess.Popen(
-        [given.tnc, "serve", "--kiss", str(given.kiss), "--agw", str(given.agw)],
-        stdin=subprocess.PIPE, stdout=subprocess.DEVNULL,
-    )
+def found_of(tnc, words, wanted):
+    """The sockets of a station with these words, once they are as wanted or ten seconds have passed, and some ticks later."""
+    program = subprocess.Popen([tnc, "serve", *words], stdin=subprocess.PIPE, stdout=subprocess.DEVNULL)
     try:
-        found = []
         for _ in range(100):
-            found = sockets_of(program.pid)
-            if found == wanted:
+            if sockets_of(program.pid) == wanted:
                 break
             time.sleep(0.1)
         # What opens later would show here.
         program.stdin.write(bytes(192 * 20))
         program.stdin.flush()
         time.sleep(0.3)
-        found = sockets_of(program.pid)
+        return sockets_of(program.pid)
     finally:
         program.stdin.close()
         program.wait(20)
-    if found != wanted:
-        print("wanted", wanted, "found", found)
-        sys.exit(1)
+
+
+def main():
+    words = argparse.ArgumentParser(description=__doc__.split("\n")[0])
+    words.add_argument("--tnc", default="bin/tnc")
+    words.add_argument("--kiss", type=int, default=18102)
+    words.add_argument("--agw", type=int, default=18103)
+    given = words.parse_args()
+    kiss, agw = ("--kiss", str(given.kiss)), ("--agw", str(given.agw))
+    # addresses as Linux prints them: the octets from the last to the first
+    here, everywhere = "0100007F", "00000000"
+    for row, address, ports in (
+        ((*kiss, *agw), here, (given.kiss, given.agw)),
+        (("--kiss", "none", *agw), here, (given.agw,)),
+        (("--kiss=none", "--agw=none"), here, ()),
+        ((*kiss, *agw, "--bind", "0.0.0.0"), everywhere, (given.kiss, given.agw)),
+    ):
+        wanted = sorted(("tcp", address, port, LISTENS) for port in ports)
+        found = found_of(given.tnc, row, wanted)
+        if found != wanted:
+            print("serve", *row, "wanted", wanted, "found", found)
+            sys.exit(1)
 
 
 if __name__ == "__main__":

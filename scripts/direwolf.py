@@ -7,7 +7,7 @@ import subprocess
 import tempfile
 import time
 
-from air import TICK, connect, free_port, read_all
+from air import TICK, connect, free_port
 
 CARD = 'pcm.air {{ type file slave.pcm null file "{}" format raw }}\n'
 SETTINGS = """ADEVICE stdin air
@@ -107,8 +107,7 @@ class PacedAir:
     def step(self):
         """A few ticks, and the time that they take."""
         self.station.program.stdin.write(self.to_station.heard(self.wolf.take(self.count)))
-        sent = read_all(self.station.program.stdout, self.count)
-        self.wolf.program.stdin.write(self.to_wolf.heard(sent))
+        self.wolf.program.stdin.write(self.to_wolf.heard(self.station.sound(self.count)))
         self.ticks += self.count // TICK
         ahead = self.ticks / 100 - (time.monotonic() - self.began)
         if ahead > 0:

@@ -33,7 +33,7 @@ class Ours:
     """A station of this program on the air."""
 
     def __init__(self, given, seed):
-        words = ["--mode", given.mode, *(["--wide"] if given.wide else [])]
+        words = [*(["--mode", given.mode] if given.mode else []), *(["--wide"] if given.wide else [])]
         self.station = Station(given.tnc, "--seed", seed, *words)
 
     def tick(self, heard):
@@ -176,7 +176,7 @@ def line(given):
     with ThreadPoolExecutor(beside) as pool:
         rows = list(pool.map(lambda it: run(given, it), range(given.runs)))
     rate, seconds, sent = (sum(it) / len(rows) for it in list(zip(*rows))[:3])
-    what = f"{given.ends}, {given.kind}, {'128' if given.wide else '8'}, {given.mode}, {given.loss} %" + (", third" * given.third)
+    what = f"{given.ends}, {given.kind}, {'128' if given.wide else '8'}, {given.mode or 'usual'}, {given.loss} %" + (", third" * given.third)
     return f"| {what} | {rate:.0f} | {seconds:.0f} | {sent:.0f} | {sum(it[3] for it in rows)} of {len(rows)} |"
 
 
@@ -197,7 +197,7 @@ def main(words):
     reader.add_argument("--ends", choices=("ours", "wolves", "mixed"), default="ours")
     reader.add_argument("--kind", choices=("one", "both", "ask"), default="one")
     reader.add_argument("--octets", type=int, default=5000)
-    reader.add_argument("--mode", choices=("rej", "srej"), default="rej")
+    reader.add_argument("--mode", choices=("rej", "srej"))
     reader.add_argument("--loss", type=int, default=0)
     reader.add_argument("--runs", type=int, default=10)
     reader.add_argument("--seed", type=int, default=1)

@@ -4,7 +4,8 @@
   scripts/scores.py                 a table with 100 frames a row
   scripts/scores.py --frames 20     with another number
   scripts/scores.py --sensitive     and what `tnc decode --sensitive` hears
-  scripts/scores.py --more          rows of its own: noise by half decibels, clocks that are far off, an FM receiver's sound
+  scripts/scores.py --more          rows of its own: noise by half decibels, clocks that are far off, offset and hum, phases
+                                    that begin anew, an FM receiver's sound
   scripts/scores.py --wide          sound at 48,000 samples a second, with noise up to 24,000 Hz: what `decode --rate 48000` hears, and
                                     `decode` of what sox brings to 9600
   scripts/scores.py --beside        and what atest (as it is, and as `atest -P E+ -F 1`), soundmodem and multimon-ng hear of
@@ -83,16 +84,19 @@ def line_bits(frame, opening):
         yield level
 
 
-def tones(frame, start, clock=0.0, mark=LEVEL, space=LEVEL, opening=30):
+def tones(frame, start, clock=0.0, mark=LEVEL, space=LEVEL, opening=30, anew=False):
     """The samples of a transmission that begins `start` samples (a fraction of one) after the first. The sender's clock
-    is fast by so many parts per million, its tones as well as its bits."""
+    is fast by so many parts per million, its tones as well as its bits. If `anew`, the phase begins anew at each change of
+    tone."""
     rate = 1 + clock / 1e6
     samples_a_bit = RATE / (BAUD * rate)
-    begin, phase, at = start, 0.0, math.ceil(start)
+    begin, phase, at, before = start, 0.0, math.ceil(start), None
     made = [0.0] * at
     for level in line_bits(frame, opening):
         step = 2 * math.pi * (MARK if level else SPACE) * rate / RATE
         loud = mark if level else space
+        if anew and level != before:
+            phase, before = 0.0, level
         end = begin + samples_a_bit
         while at < end:
             made.append(loud * math.sin(phase + step * (at - begin)))
@@ -207,8 +211,9 @@ def short_frame(number):
     return frames(1, 1000 + number, random.Random(number).randrange(5, 85))[0]
 
 
-# More rows, without bounds: noise by half decibels, clocks that are far off, and what an FM receiver makes of a signal. The
-# noise of its discriminator rises with the frequency; its de-emphasis takes 6 dB an octave from both (here above 212 Hz).
+# More rows, without bounds: noise by half decibels, clocks that are far off, an offset and a hum that are louder than the
+# tones, phases that begin anew, and what an FM receiver makes of a signal. The noise of its discriminator rises with the
+# frequency; its de-emphasis takes 6 dB an octave from both (here above 212 Hz).
 def more_rows(count):
     mixed = frames(count, 1, None)
     clean = sound(mixed, 11)
@@ -223,6 +228,13 @@ def more_rows(count):
         for sign in (-1, 1):
             made = noisy(sound(short, 13, clock=sign * clock), 10)
             yield f"clock {sign * clock:+} ppm, noise, 10 dB", 0, count, short, made, []
+    quiet = sound(short, 13, mark=1500, space=1500)
+    for louder in (15, 20):
+        yield f"offset, {louder} dB louder", 0, count, short, [sample + 1500 * 10 ** (louder / 20) for sample in quiet], []
+        hum = [1500 * 10 ** (louder / 20) * math.sin(2 * math.pi * 50 * place / RATE) for place in range(len(quiet))]
+        yield f"hum of 50 Hz, {louder} dB louder", 0, count, short, added(quiet, hum), []
+    for clock in (0, -10000, 10000):
+        yield f"phase anew, clock {clock:+} ppm", 0, count, short, sound(short, 13, clock=clock, anew=True), []
     rising = of_unit_power(filtered(NOISE.of(len(clean)), 1, -1, 0))
     decay = math.exp(-2 * math.pi * 212 / RATE)
     for ratio in (10, 8, 6, 4, 2, 0):
