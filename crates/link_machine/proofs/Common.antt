@@ -22,7 +22,7 @@ pub use Rattle.link_machine.specs.Frames.{open_called, out_of_sequence, stopped,
 pub use Rattle.link_machine.specs.Frames.{take_selected, unretried_call}
 pub use Rattle.link_machine.specs.Held.{Holds, IsReady, IsWhole, Made, Makes, Shows, carried, hear_numbered}
 pub use Rattle.link_machine.specs.Machine.{Machine, ahead_of_vr, emptied, fresh, in_modulus, in_state, is_valid}
-pub use Rattle.link_machine.specs.Machine.{falls_back, is_wide, named, narrowed, t1_ticks}
+pub use Rattle.link_machine.specs.Machine.{falls_back, is_wide, named, narrowed}
 pub use Rattle.link_machine.specs.Requests.{disconnect, disconnect_in, give_up, quit_up, quitting, refusal, withdraw}
 pub use Rattle.link_machine.specs.Room.{frames_left, told_left}
 pub use Rattle.link_machine.specs.Sent.{Sent, SentIn, all_sent_in, sent_frame, sent_frames, sent_in}

@@ -34,7 +34,7 @@ abbrev after : List Event → Machine → Machine
 after events m = (along events m).now
 
 abbrev params_of : Mode → Bool → Params
-params_of mode wide = record { mode = mode; window = 4; wide = wide; wide_mode = mode; wide_window = 32 }
+params_of mode wide = record default_params { mode = mode; wide = wide; wide_mode = mode }
 
 -- the same path without repeaters
 abbrev direct : Path → Path
@@ -397,12 +397,43 @@ calls_late p = refl
 
 -- T1 by the repeaters of the path and the retries
 pub t1_grows :
-    map (t1_ticks 0) (0 ∷ 1 ∷ 2 ∷ 3 ∷ 4 ∷ 5 ∷ 6 ∷ 7 ∷ 8 ∷ 9 ∷ 10 ∷ [])
+    map (t1_ticks 200 0) (0 ∷ 1 ∷ 2 ∷ 3 ∷ 4 ∷ 5 ∷ 6 ∷ 7 ∷ 8 ∷ 9 ∷ 10 ∷ [])
     ≡ 200 ∷ 200 ∷ 200 ∷ 200 ∷ 400 ∷ 400 ∷ 600 ∷ 600 ∷ 800 ∷ 800 ∷ 1000 ∷ []
 t1_grows = refl
 
-pub t1_is_longer_by_repeaters : map (λ hops. t1_ticks hops 0) (0 ∷ 1 ∷ 2 ∷ 8 ∷ []) ≡ 200 ∷ 600 ∷ 1000 ∷ 3400 ∷ []
+pub t1_is_longer_by_repeaters :
+    map (λ hops. t1_ticks 200 hops 0) (0 ∷ 1 ∷ 2 ∷ 8 ∷ []) ≡ 200 ∷ 600 ∷ 1000 ∷ 3400 ∷ []
 t1_is_longer_by_repeaters = refl
+
+pub t1_is_longer_by_its_base :
+    map (λ base. t1_ticks base 2 5) (100 ∷ 300 ∷ 3000 ∷ []) ≡ 1000 ∷ 3000 ∷ 30000 ∷ []
+t1_is_longer_by_its_base = refl
+
+-- a link of one second and two retries: it calls three times, each a second after the one before, and fails a second
+-- after the last
+abbrev hasty : Path → Bool → List Event → Turn
+hasty p wide events =
+    run_on events (begin (new_machine (direct p) (record default_params { wide = wide; t1 = 100; retries = 2 })))
+
+pub calls_three_times :
+    (p : Path) → let at : ℕ → List SentIn = λ count. (hasty p false (Connect ∷ replicate count (Tick false))).sent in
+    (at 99 ≡ []) × (at 100 ≡ eight (SetupSent Sabm true ∷ [])) × (at 101 ≡ [])
+    × (at 200 ≡ eight (SetupSent Sabm true ∷ [])) × (at 300 ≡ [])
+unfolding step
+calls_three_times p = (refl, refl, refl, refl, refl)
+
+pub fails_in_three_seconds :
+    (p : Path) → let at : ℕ → List Told = λ count. (hasty p false (Connect ∷ replicate count (Tick false))).told in
+    (at 299 ≡ []) × (at 300 ≡ Ended Failed ∷ [])
+unfolding step
+fails_in_three_seconds p = (refl, refl)
+
+-- modulo 128 its last retry is SABM
+pub calls_narrow_at_last :
+    (p : Path) → let at : ℕ → List SentIn = λ count. (hasty p true (Connect ∷ replicate count (Tick false))).sent in
+    (at 100 ≡ wide (SetupSent Sabme true ∷ [])) × (at 200 ≡ eight (SetupSent Sabm true ∷ []))
+unfolding step
+calls_narrow_at_last p = (refl, refl)
 
 -- it counts silence alone
 pub stands_still :

@@ -13,7 +13,7 @@ use Rattle.link_machine.specs.declared.state.LinkState.TheVariants.{Calling, Rel
 use Rattle.link_machine.specs.declared.acts.Told.TheVariants.{Given, Ended}
 use Rattle.link_machine.specs.declared.acts.Why.TheVariants.{Reset}
 use Rattle.link_machine.specs.declared.control.Control.{Control}
-use Rattle.link_machine.specs.Machine.{Machine, fresh, emptied, is_wide, nothing_owed, t1_ticks, t3_ticks}
+use Rattle.link_machine.specs.Machine.{Machine, fresh, emptied, is_wide, nothing_owed, t1_after, t3_ticks}
 use Rattle.link_machine.specs.Sent.Sent.{SetupSent}
 use Rattle.link_machine.specs.Turn.{Act, changing, setting, sending, telling, in_order}
 
@@ -29,7 +29,7 @@ anew ticks (Some left) = Some ticks
 
 -- T1 after as many retries as there were
 abbrev pub t1_of : Control → ℕ
-t1_of c = t1_ticks c.hops c.rc
+t1_of c = t1_after c.rc c
 
 -- The packets below a number are acknowledged. If at least one is, the retries begin anew; and if no poll awaits its
 -- answer none is to be sent, and T1 runs exactly if something that was sent is still not acknowledged.
@@ -38,7 +38,7 @@ unretried c = record c { rc = 0 }
 
 abbrev pub timed_anew : Bool → Control → Control
 timed_anew all c = if all then record c { ask = false; rc = 0; t1 = None; t3 = Some t3_ticks }
-    else record c { ask = false; rc = 0; t1 = Some (t1_ticks c.hops 0) }
+    else record c { ask = false; rc = 0; t1 = Some (t1_after 0 c) }
 
 abbrev pub timed_by : Bool → Bool → Control → Control
 timed_by some all c = if some then (if c.poll then unretried c else timed_anew all c) else c
@@ -84,7 +84,7 @@ behind_poll retries c = if c.busy then record c {
   by_info = false;
   passed = false;
   rc = retries;
-  t1 = Some (t1_ticks c.hops retries);
+  t1 = Some (t1_after retries c);
   t3 = None;
 } else record c { poll = false; by_info = false; passed = false; rc = retries; t1 = None; t3 = Some t3_ticks }
 
@@ -96,7 +96,7 @@ recover answers turn = if turn.now.control.poll && answers then recover_with 0 t
 
 -- if a disconnect was asked for and no packet waits, the link is released
 abbrev pub releasing : Control → Control
-releasing c = record (nothing_owed c) { state = Releasing; rc = 0; t1 = Some (t1_ticks c.hops 0); t3 = None }
+releasing c = record (nothing_owed c) { state = Releasing; rc = 0; t1 = Some (t1_after 0 c); t3 = None }
 
 abbrev pub release : Act
 release = in_order (setting releasing ∷ sending (SetupSent Disc true) ∷ [])

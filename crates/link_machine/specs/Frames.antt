@@ -17,7 +17,7 @@ use Rattle.link_machine.specs.declared.acts.Told.TheVariants.{Opened, Ended}
 use Rattle.link_machine.specs.declared.acts.Why.{Why}
 use Rattle.link_machine.specs.declared.acts.Why.TheVariants.{Asked, Peer, Reset, Refused}
 use Rattle.link_machine.specs.declared.control.Control.{Control}
-use Rattle.link_machine.specs.Machine.{Machine, fresh, emptied, in_modulus, narrowed, is_wide, nothing_owed, t1_ticks}
+use Rattle.link_machine.specs.Machine.{Machine, fresh, emptied, in_modulus, narrowed, is_wide, nothing_owed, t1_after}
 use Rattle.link_machine.specs.Machine.{t3_ticks, in_state}
 use Rattle.link_machine.specs.Machine.{is_valid, named, ahead_of_vr}
 use Rattle.link_machine.specs.Sent.Sent.{SetupSent}
@@ -70,7 +70,7 @@ hear_idle command (Other which flag octets) = nothing
 
 -- FRMR or DM answers a SABME that the other side does not know: the call goes on in modulus 8, with all its retries
 abbrev pub unretried_call : Control → Control
-unretried_call c = record c { rc = 0; t1 = Some (t1_ticks c.hops 0) }
+unretried_call c = record c { rc = 0; t1 = Some (t1_after 0 c) }
 
 abbrev pub call_narrow : Act
 call_narrow = in_order (changing narrowed ∷ setting unretried_call ∷ sending (SetupSent Sabm true) ∷ [])

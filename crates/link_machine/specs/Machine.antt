@@ -1,6 +1,6 @@
 -- A link as a machine (AX.25 2.2 sections 6.3 and 6.7.1): its state and its variables. Sequence numbers count from 0 in
 -- each set-up; only frames carry them modulo the link's modulus.
-use Rattle.std.specs.Prelude.{ℕ, ◌+◌, ◌*◌, ◌/◌, ◌==◌, max, Bool, false, ◌&&◌, Some, None, if◌then◌else◌}
+use Rattle.std.specs.Prelude.{ℕ, ◌+◌, ◌-◌, ◌*◌, ◌/◌, ◌==◌, min, max, Bool, false, ◌&&◌, Some, None, if◌then◌else◌}
 use Rattle.ax25_address.specs.FramePath.{repeater_count}
 use Rattle.ax25_address.specs.declared.path.Path.{Path}
 use Rattle.ax25_frames.specs.declared.frame.Modulus.{Modulus}
@@ -28,23 +28,24 @@ pub record Machine : Type 0 where
   -- link's modulus, 8 or 128, whether REJ or SREJ asks for what is lost, and k
   pub incoming : Incoming
 
--- T1, in ticks of 10 ms, on a path of so many repeaters and after so many retries: two seconds, and four more for each
+-- T1, in ticks of 10 ms, after so many retries: that of a path without repeaters, and twice as much more for each
 -- repeater, since a frame and its answer each pass it. From the fourth retry on it is as many times that as half the
 -- retries.
-abbrev pub t1_ticks : ℕ → ℕ → ℕ
-t1_ticks hops retries = 200 * (2 * hops + 1) * max 1 (retries / 2)
+abbrev pub t1_ticks : ℕ → ℕ → ℕ → ℕ
+t1_ticks base hops retries = base * (2 * hops + 1) * max 1 (retries / 2)
+
+-- T1 of a link after so many retries
+abbrev pub t1_after : ℕ → Control → ℕ
+t1_after retries c = t1_ticks c.t1_base c.hops retries
 
 -- T3
 abbrev pub t3_ticks : ℕ
 t3_ticks = 30000
 
--- the most retries, N2
-abbrev pub most_retries : ℕ
-most_retries = 10
-
--- how many retries a call in modulus 128 has
-abbrev pub wide_retries : ℕ
-wide_retries = 3
+-- How many retries a call in modulus 128 has: three, and all but one if the link has no more than three, so that the
+-- last goes out in modulus 8.
+abbrev pub wide_retries : Control → ℕ
+wide_retries c = min 3 (c.most_retries - 1)
 
 -- the most octets of a packet, N1
 abbrev pub most_octets : ℕ
@@ -110,7 +111,7 @@ is_wide m = m.incoming.modulus == 128
 -- a call in modulus 128 that was retried in vain goes on in modulus 8, since a side that does not know SABME may be
 -- silent
 abbrev pub falls_back : Machine → Bool
-falls_back m = is_wide m && m.control.rc == wide_retries
+falls_back m = is_wide m && m.control.rc == wide_retries m.control
 
 -- a modulus by its name: 8 or 128
 abbrev pub modulus_named : ℕ → Modulus
@@ -139,9 +140,11 @@ abbrev pub ahead_of_vr : ℕ → Machine → ℕ
 ahead_of_vr ns m = ahead m.incoming.modulus m.incoming.vr ns
 
 -- a link that is new, on a path of so many repeaters: modulus 8, no numbers, no packets, no timers
-abbrev pub idle_control : ℕ → Control
-idle_control hops = record {
+abbrev pub idle_control : ℕ → Params → Control
+idle_control hops params = record {
   hops = hops;
+  t1_base = params.t1;
+  most_retries = params.retries;
   state = Idle;
   rej = false;
   answer = false;
@@ -162,7 +165,7 @@ abbrev pub new_machine : Path → Params → Machine
 new_machine path params = record {
   path = path;
   params = params;
-  control = idle_control (repeater_count path);
+  control = idle_control (repeater_count path) params;
   outgoing = empty_outgoing;
   incoming = empty_incoming 8 params.window params.mode;
 }

@@ -1,5 +1,6 @@
--- What a link is made with (AX.25 2.2 sections 4.2, 6.3.1 and 6.4): how it asks for lost frames and its window k, each in
--- both moduli, and in which modulus it calls.
+-- What a link is made with (AX.25 2.2 sections 4.2, 6.3.1, 6.4 and 6.7): how it asks for lost frames and its window k,
+-- each in both moduli, in which modulus it calls, and T1 and the most retries. Only windows are refused: every T1 and
+-- every count of retries makes a link.
 use Rattle.std.specs.Prelude.{◌≡◌, ℕ, ◌==◌, false, ◌⊎◌, if◌then◌else◌}
 use Rattle.selective_reject.specs.declared.window.Mode.{Mode}
 use Rattle.selective_reject.specs.declared.window.Mode.TheVariants.{Rej, Srej}
@@ -7,7 +8,15 @@ use Rattle.selective_reject.specs.Window.{IsWindow, IsBadWindow}
 use Rattle.link_machine.specs.declared.params.Params.{Params}
 
 abbrev pub default_params : Params
-default_params = record { mode = Rej; window = 4; wide = false; wide_mode = Srej; wide_window = 32 }
+default_params = record {
+  mode = Rej;
+  window = 4;
+  wide = false;
+  wide_mode = Srej;
+  wide_window = 32;
+  t1 = 200;
+  retries = 10;
+}
 
 -- k in a modulus
 abbrev pub window_in : ℕ → Params → ℕ

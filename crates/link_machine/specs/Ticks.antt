@@ -7,7 +7,7 @@ use Rattle.link_machine.specs.declared.state.LinkState.TheVariants.{Idle, Callin
 use Rattle.link_machine.specs.declared.acts.Told.TheVariants.{Ended}
 use Rattle.link_machine.specs.declared.acts.Why.TheVariants.{Failed}
 use Rattle.link_machine.specs.declared.control.Control.{Control}
-use Rattle.link_machine.specs.Machine.{t1_ticks, most_retries, narrowed, falls_back}
+use Rattle.link_machine.specs.Machine.{t1_after, narrowed, falls_back}
 use Rattle.link_machine.specs.Wants.{wants}
 use Rattle.link_machine.specs.Sent.Sent.{SetupSent}
 use Rattle.link_machine.specs.Turn.{Act, changing, setting, sending, telling, nothing, in_order}
@@ -29,11 +29,11 @@ with_t3 timer c = record c { t3 = timer }
 
 -- one retry more
 abbrev pub retried : Control → Control
-retried c = record c { rc = c.rc + 1; t1 = Some (t1_ticks c.hops (c.rc + 1)) }
+retried c = record c { rc = c.rc + 1; t1 = Some (t1_after (c.rc + 1) c) }
 
--- the retries are spent if there were 10; there are never more
+-- the retries are spent if there were as many as the link may make; there are never more
 abbrev pub is_spent : Control → Bool
-is_spent c = nat_le most_retries c.rc
+is_spent c = nat_le c.most_retries c.rc
 
 -- a call without an answer goes out once more, if it falls back in modulus 8
 abbrev pub fall_back : Act

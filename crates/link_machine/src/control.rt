@@ -1,7 +1,8 @@
 //! The variables of a link apart from its numbers and packets.
-ghost use Rattle.std.specs.Prelude.{◌≡◌, ◌<◌, ◌&&◌, if◌then◌else◌};
+ghost use Rattle.std.specs.Prelude.{◌≡◌, ◌<◌, ◌&&◌, IsFalse, if◌then◌else◌};
 ghost use Rattle.selective_reject.specs.Outgoing.{back};
-ghost use Rattle.link_machine.specs.Machine.{Machine as State, fresh_control, nothing_owed, idle_control, t1_ticks};
+ghost use Rattle.link_machine.specs.Machine.{Machine as State, fresh_control, nothing_owed, idle_control, t1_after};
+ghost use Rattle.link_machine.specs.Machine.{wide_retries};
 ghost use Rattle.link_machine.specs.Turn.{begin};
 ghost use Rattle.link_machine.specs.Acts.{timed_by, behind_poll, releasing, calling, watching};
 ghost use Rattle.link_machine.specs.Wants.{owes, is_asked_again};
@@ -10,22 +11,14 @@ ghost use Rattle.link_machine.specs.Frames.{stopped_t1, stopped, unretried_call,
 ghost use Rattle.link_machine.specs.Requests.{has_link, takes_none, is_closed};
 ghost use Rattle.link_machine.specs.Ticks.{retried, is_spent, to_poll, silent};
 
+use crate::params::Params;
 use crate::state::LinkState;
 
 /// The inactive link timer T3, in ticks of 10 ms: five minutes.
 const T3: u32 = 30_000;
 
-/// The most retries, N2.
-const MOST_RETRIES: u8 = 10;
-
-/// The acknowledgement timer T1 on a path of so many repeaters, after so many retries.
-fn t1_ticks(hops: u8, retries: u8) -> u32
-    ensures { result ≡ t1_ticks hops retries }
-{
-    let way = 2 * u32::from(hops) + 1;
-    let patience = u32::from(retries / 2).max(1);
-    200 * way * patience
-}
+/// How many retries a call modulo 128 has, if the link has more.
+const WIDE_RETRIES: u8 = 3;
 
 /// The state of a link, its conditions, its retry count and its timers (AX.25 2.2 section 6.7.1). A timer is off, or
 /// has so many ticks left.
@@ -33,6 +26,10 @@ fn t1_ticks(hops: u8, retries: u8) -> u32
 pub struct Control {
     /// How many repeaters its path has, on which T1 depends.
     pub hops: u8,
+    /// T1 on a path without repeaters, in ticks of 10 ms.
+    pub t1_base: u16,
+    /// The most retries, N2.
+    pub most_retries: u8,
     /// The state.
     pub state: LinkState,
     /// REJ is to be sent.
@@ -65,11 +62,13 @@ pub struct Control {
 
 impl Control {
     /// A link that is not there, on a path of so many repeaters.
-    pub(crate) fn idle(hops: u8) -> Control
-        ensures { result ≡ idle_control hops }
+    pub(crate) fn idle(hops: u8, params: Params) -> Control
+        ensures { result ≡ idle_control hops params }
     {
         Control {
             hops,
+            t1_base: params.t1,
+            most_retries: params.retries,
             state: LinkState::Idle,
             rej: false,
             answer: false,
@@ -85,6 +84,15 @@ impl Control {
             t1: None,
             t3: None,
         }
+    }
+
+    /// The acknowledgement timer T1 after so many retries.
+    fn t1_after(&self, retries: u8) -> u32
+        ensures { result ≡ t1_after retries self.now }
+    {
+        let way = 2 * u32::from(self.hops) + 1;
+        let patience = u32::from(retries / 2).max(1);
+        u32::from(self.t1_base) * way * patience
     }
 
     /// Whether a link is called, up or released.
@@ -138,7 +146,7 @@ impl Control {
         ensures { self.new ≡ calling self.old }
     {
         self.state = LinkState::Calling;
-        self.t1 = Some(t1_ticks(self.hops, self.rc));
+        self.t1 = Some(self.t1_after(self.rc));
         self.t3 = None;
     }
 
@@ -147,7 +155,7 @@ impl Control {
         ensures { self.new ≡ unretried_call self.old }
     {
         self.rc = 0;
-        self.t1 = Some(t1_ticks(self.hops, 0));
+        self.t1 = Some(self.t1_after(0));
     }
 
     /// DISC was sent.
@@ -157,7 +165,7 @@ impl Control {
         self.owe_nothing();
         self.state = LinkState::Releasing;
         self.rc = 0;
-        self.t1 = Some(t1_ticks(self.hops, 0));
+        self.t1 = Some(self.t1_after(0));
         self.t3 = None;
     }
 
@@ -195,7 +203,7 @@ impl Control {
             self.t1 = None;
             self.t3 = Some(T3);
         } else {
-            self.t1 = Some(t1_ticks(self.hops, 0));
+            self.t1 = Some(self.t1_after(0));
         }
     }
 
@@ -247,7 +255,7 @@ impl Control {
         self.by_info = by_info;
         self.passed = false;
         self.picked = false;
-        self.t1 = Some(t1_ticks(self.hops, self.rc));
+        self.t1 = Some(self.t1_after(self.rc));
         self.t3 = None;
     }
 
@@ -260,7 +268,7 @@ impl Control {
         self.passed = false;
         self.rc = retries;
         if self.busy {
-            self.t1 = Some(t1_ticks(self.hops, retries));
+            self.t1 = Some(self.t1_after(retries));
             self.t3 = None;
         } else {
             self.t1 = None;
@@ -318,15 +326,23 @@ impl Control {
     pub(crate) fn watch(&mut self)
         ensures { self.new ≡ watching self.old }
     {
-        self.t1 = self.t1.or(Some(t1_ticks(self.hops, self.rc)));
+        self.t1 = self.t1.or(Some(self.t1_after(self.rc)));
         self.t3 = None;
     }
 
     /// Whether there were as many retries as there may be.
     pub(crate) fn is_spent(&self) -> bool
-        ensures { result ≡ is_spent self.now }
+        ensures spent { result ≡ is_spent self.now }
+        ensures more { IsFalse result → self.now.rc < 255 }
     {
-        self.rc >= MOST_RETRIES
+        self.rc >= self.most_retries
+    }
+
+    /// How many retries a call modulo 128 has, before it goes on modulo 8.
+    pub(crate) fn wide_retries(&self) -> u8
+        ensures { result ≡ wide_retries self.now }
+    {
+        WIDE_RETRIES.min(self.most_retries.saturating_sub(1))
     }
 
     /// One retry more.
@@ -335,7 +351,7 @@ impl Control {
         ensures { self.new ≡ retried self.old }
     {
         self.rc += 1;
-        self.t1 = Some(t1_ticks(self.hops, self.rc));
+        self.t1 = Some(self.t1_after(self.rc));
     }
 
     /// A side that is up is to be polled.

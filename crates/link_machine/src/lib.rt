@@ -46,13 +46,15 @@
 //! - SREJ acknowledges the packets below its number with P/F = 1 alone (section 4.3.2.4).
 //! - An S frame whose C bits are equal, as the older version has them, is a response (section 6.1.2).
 //! - A UA or DM ends a call or a release only with F = 1; a DM ends a link that is up with any F (section 6.3).
-//! - At the last retry a link that is up sends DM with F = 0 and ends (section 6.7.2). There are ten retries.
+//! - At the last retry a link that is up sends DM with F = 0 and ends (section 6.7.2). There are ten retries, or as many
+//!   as the link was made with.
 //! - FRMR is never sent. A frame with an invalid N(R), or an FRMR, ends the set-up, and this side calls anew
 //!   (section 6.5).
 //! - RNR is never sent.
 //! - Every link answers SABM and SABME, and takes the modulus of the one that it hears; `wide` says how it calls
 //!   itself. FRMR or DM in reply to SABME brings SABM, with all retries anew (section 6.3.1). After three retries
-//!   without an answer the call goes on with SABM too, since a side that does not know SABME may be silent.
+//!   without an answer the call goes on with SABM too, since a side that does not know SABME may be silent; if the link
+//!   has no more than three, the last of them is SABM.
 //! - While a wide call is under way SABM is passed over: the other side hears the SABME, and answers it by DM or FRMR.
 //!   SABME is answered by DM while a call modulo 8 is under way.
 //! - A link that is not there counts modulo 8. The frame that ends a set-up is written in the modulus of that set-up.
@@ -62,7 +64,8 @@
 //! - A link that is not there answers an I or S frame only with P = 1, so that a transmission has one answer.
 //! - T1 counts silence alone: it stands still while a frame of the link waits or is on the air, and while the channel
 //!   is busy in half duplex, since no answer can be expected then. So it needs no measured round trip (section
-//!   6.7.1.1): it is two seconds and four more for each repeater, and from the fourth retry on a multiple of that.
+//!   6.7.1.1): it is two seconds, or what the link was made with, and twice as much more for each repeater, and from the
+//!   fourth retry on a multiple of that.
 //! - There is no T2: the time until the channel takes the next frame serves for it.
 //! - The last I frame of a transmission in half duplex has P = 1 if more packets wait. If the other side sends and does
 //!   not answer it, it did not hear it, and what is not acknowledged is sent again without waiting for T1.

@@ -74,7 +74,7 @@ impl Machine {
         Ok(Machine {
             path,
             params: fitting,
-            control: Control::idle(hops),
+            control: Control::idle(hops, params),
             outgoing,
             incoming,
         })

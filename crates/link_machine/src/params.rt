@@ -10,8 +10,8 @@ use ax25_frames::Modulus;
 use selective_reject::{BadWindow, Mode, check_window};
 use std::marker::Model;
 
-/// How a link asks for lost frames and how many I frames it has under way, in each modulus, and whether it calls modulo
-/// 8 or 128. It answers both kinds of call.
+/// How a link asks for lost frames and how many I frames it has under way, in each modulus, whether it calls modulo 8 or
+/// 128, how long it waits for an answer and how often it asks again. It answers both kinds of call.
 #[derive(Clone, Copy, Debug, PartialEq, Eq)]
 pub struct Params {
     /// REJ or SREJ, modulo 8.
@@ -24,10 +24,15 @@ pub struct Params {
     pub wide_mode: Mode,
     /// The same as `window`, modulo 128: 1 to 127, with SREJ 1 to 64.
     pub wide_window: u8,
+    /// The acknowledgement timer T1 on a path without repeaters, in ticks of 10 ms.
+    pub t1: u16,
+    /// The most retries, N2.
+    pub retries: u8,
 }
 
 impl Default for Params {
-    /// REJ and a window of 4, calls modulo 8, and modulo 128 SREJ and a window of 32.
+    /// REJ and a window of 4, calls modulo 8, and modulo 128 SREJ and a window of 32; a T1 of two seconds, and ten
+    /// retries.
     fn default() -> Params
         ensures { result ≡ default_params }
     {
@@ -37,6 +42,8 @@ impl Default for Params {
             wide: false,
             wide_mode: Mode::Srej,
             wide_window: 32,
+            t1: 200,
+            retries: 10,
         }
     }
 }

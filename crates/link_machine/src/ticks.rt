@@ -18,9 +18,6 @@ use ax25_frames::U;
 use std::alloc::Global;
 use tnc_base::OutOfMemory;
 
-/// How many retries a call modulo 128 has.
-const WIDE_RETRIES: u8 = 3;
-
 /// Whether a timer runs out with the next tick, as a count of what may be sent for it.
 fn out_of(timer: Option<u32>) -> usize
     ensures count { result ≡ out_of timer }
@@ -119,7 +116,7 @@ impl Machine {
     fn falls_back(&self) -> bool
         ensures { (m : State) → Holds self.now m → result ≡ falls_back m }
     {
-        self.is_wide() && self.control.rc == WIDE_RETRIES
+        self.is_wide() && self.control.rc == self.control.wide_retries()
     }
 
     /// Goes on calling modulo 8, since the other side may not know SABME.

@@ -410,7 +410,7 @@ t1_row Calling m event t is counts h =
 
     wide_is : falls_back t.now ≡ true → is_wide m ≡ true
     wide_is falls = ap (λ (i : Incoming). i.modulus == 128) (sym (rests_incoming (h.only down)))
-        ∙ (and_parts (is_wide t.now) (t.now.control.rc == wide_retries) falls).0
+        ∙ (and_parts (is_wide t.now) (t.now.control.rc == wide_retries t.now.control) falls).0
 
     by_modulus : (b : Bool) → falls_back t.now ≡ b
         → Row m event (cond b (fall_back t) (send_call (setting retried t)))

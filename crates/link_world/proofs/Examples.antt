@@ -5,16 +5,17 @@ use Rattle.link_world.proofs.Common.{Event, Connect, Send, Tick, Seize, Hear, Lo
 use Rattle.link_world.proofs.Common.{towards, is_quiet}
 use Rattle.std.specs.Prelude.{◌≡◌, ℕ, true, false, List, [], ◌∷◌, ◌++◌, map, replicate, length, refl, Some, None}
 use Rattle.selective_reject.specs.declared.window.Mode.TheVariants.{Rej, Srej}
+use Rattle.link_machine.specs.Params.{default_params}
 use Rattle.link_machine.specs.Step.{step as link_step}
 use Rattle.ax25_frames.specs.declared.frame.S.TheVariants.{Rr as RrFrame, Rej as RejFrame, Srej as SrejFrame}
 use Rattle.link_world.specs.World.{first_world, told_by}
 use Rattle.link_world.specs.Quiet.{is_quiet_to_send}
 
 abbrev params : Mode → ℕ → Params
-params mode window = record { mode = mode; window = window; wide = false; wide_mode = mode; wide_window = 32 }
+params mode window = record default_params { mode = mode; window = window; wide_mode = mode }
 
 abbrev wide_params : Params
-wide_params = record { mode = Rej; window = 4; wide = true; wide_mode = Rej; wide_window = 127 }
+wide_params = record default_params { wide = true; wide_mode = Rej; wide_window = 127 }
 
 abbrev from_first : Mode → ℕ → List Event → World
 from_first mode window events = run (first_world (params mode window) (params mode window)) events

@@ -83,6 +83,7 @@ fn windows_are_refused(rt: HostRuntime) -> Result<(), Fail> {
             wide: false,
             wide_mode,
             wide_window,
+            ..Params::default()
         };
         // No window is 255.
         let found = match Link::new(rt.alloc(), params, path("B", "A")?) {

@@ -3,6 +3,7 @@ use super::link::{assert_rows, path, wide};
 use crate::tests::assertions::assert_equal;
 use ax25_frames::{Kind, write_frame};
 use link_machine::{Link, Params, SentFrame};
+use selective_reject::Mode;
 use std::alloc::Global;
 use std::test::Fail;
 use tnc_base::Octets;
@@ -57,6 +58,39 @@ ticks/4400 ticks/1000 | ended Failed,";
 #[test]
 fn rows_of_a_call(rt: HostRuntime) -> Result<(), Fail> {
     assert_rows(&rt, rt.alloc(), Params::default(), "connect", CALLING)
+}
+
+/// A T1 of one second, and two retries.
+const HASTY: Params = Params {
+    mode: Mode::Rej,
+    window: 4,
+    wide: false,
+    wide_mode: Mode::Srej,
+    wide_window: 32,
+    t1: 100,
+    retries: 2,
+};
+
+const CALLING_HASTILY: &str = "ticks/99 |
+ticks/100 | A>B SABM cmd f=1,
+ticks/200 | A>B SABM cmd f=1,A>B SABM cmd f=1,
+ticks/299 ticks/1 | ended Failed,
+UA/1 disconnect ticks/100 | A>B DISC cmd f=1,
+UA/1 disconnect ticks/299 ticks/1 | ended Failed,";
+
+/// The last retry of a wide call is SABM.
+const CALLING_WIDE_HASTILY: &str = "ticks/100 | A>B SABME cmd f=1/128,
+ticks/200 | A>B SABME cmd f=1/128,A>B SABM cmd f=1,
+ticks/299 ticks/1 | ended Failed,";
+
+#[test]
+fn rows_of_a_call_with_two_retries(rt: HostRuntime) -> Result<(), Fail> {
+    let wide = Params {
+        wide: true,
+        ..HASTY
+    };
+    assert_rows(&rt, rt.alloc(), HASTY, "connect", CALLING_HASTILY)?;
+    assert_rows(&rt, rt.alloc(), wide, "connect", CALLING_WIDE_HASTILY)
 }
 
 const CALLING_WIDE: &str = "look | Calling OneTwentyEight

@@ -5,7 +5,7 @@ use Rattle.link_machine.proofs.machine.Machine.call_again.Goals as goal
 
 pub returns-else-falls_back-clause-shows : goal.returns-else-falls_back-clause-shows
 returns-else-falls_back-clause-shows c = λ t h.
-    let spent : is_spent t.now.control ≡ false = ap is_spent (sym h.holds.stands.control) ∙ sym c.is_spent.ensures
+    let spent : is_spent t.now.control ≡ false = ap is_spent (sym h.holds.stands.control) ∙ sym c.is_spent.ensures.spent
     ∙ c.if-is_spent.false in
     let falls : falls_back t.now ≡ false = sym (c.falls_back.ensures t.now h.holds) ∙ c.if-falls_back.false in
     let retry = shows_control retried c.args.self.now c.retry.new.self c.args.room.now t c.retry.ensures h in

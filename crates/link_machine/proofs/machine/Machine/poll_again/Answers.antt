@@ -6,7 +6,7 @@ use Rattle.link_machine.proofs.machine.Machine.poll_again.Goals as goal
 
 pub returns-then-is_spent-clause-shows : goal.returns-then-is_spent-clause-shows
 returns-then-is_spent-clause-shows c = λ t h.
-    let spent : is_spent t.now.control ≡ true = ap is_spent (sym h.holds.stands.control) ∙ sym c.is_spent.ensures
+    let spent : is_spent t.now.control ≡ true = ap is_spent (sym h.holds.stands.control) ∙ sym c.is_spent.ensures.spent
     ∙ c.if-is_spent.true in
     let P : Turn → Type 0 = λ x. Shows c.leave.new.self c.tell.new.room x in
     subst P (sym (cond-true (is_spent t.now.control) _ (setting to_poll t) spent))
@@ -14,7 +14,7 @@ returns-then-is_spent-clause-shows c = λ t h.
 
 pub returns-else-is_spent-clause-shows : goal.returns-else-is_spent-clause-shows
 returns-else-is_spent-clause-shows c = λ t h.
-    let spent : is_spent t.now.control ≡ false = ap is_spent (sym h.holds.stands.control) ∙ sym c.is_spent.ensures
+    let spent : is_spent t.now.control ≡ false = ap is_spent (sym h.holds.stands.control) ∙ sym c.is_spent.ensures.spent
     ∙ c.if-is_spent.false in
     let P : Turn → Type 0 =
     λ x. Shows (record c.args.self.now { control = c.ask_again.new.self }) c.args.room.now x in
