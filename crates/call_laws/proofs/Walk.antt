@@ -39,18 +39,22 @@ use Rattle.agwpe_port.specs.Messages.{spelling, messages_in}
 use Rattle.agwpe_client.specs.CallMessages.{connect_kind}
 use Rattle.agwpe_client.specs.CallRun.{CallPlan}
 use Rattle.kiss_port.specs.WebRequests.{is_web_request}
-use Rattle.kiss_port.specs.declared.item.KissItem.TheVariants.{Frame as KissFrame, Other}
+use Rattle.kiss_port.specs.declared.item.KissItem.TheVariants.{Frame as KissFrame, AckFrame, Other}
 use Rattle.link_machine.specs.Event.Event.{Connect as LinkConnect, Hear as LinkHear}
 use Rattle.station.specs.AgwKinds.{connect_via_kind}
 use Rattle.station.specs.Heard.{IsReadAs, hearing_at, kiss_data, showing, telling_channel}
+use Rattle.station.specs.Askers.{answer_of, pieces_for, sent_pieces, speaks_kiss}
 use Rattle.station.specs.HostMessages.{raw_message}
+use Rattle.station.specs.Kiss.{queueing_asked}
 use Rattle.station.specs.Links.{IsNewKey, Links, count_of_links}
 use Rattle.station.specs.Monitoring.{monitor_message, monitor_pieces, monitoring, piece_for, to_monitors}
-use Rattle.station.specs.Ticks.{IsSentFrame, air_in, ticking}
-use Rattle.station.specs.Turn.{begin}
+use Rattle.station.specs.Ticks.{IsSentFrame, air_in, telling_sent, ticking}
+use Rattle.station.specs.Turn.{begin, entering_for, queueing_for}
+use Rattle.station.specs.declared.asker.Asker.{Asker}
 use Rattle.station.specs.declared.host_out.Piece.{Piece}
 use Rattle.channel_access.specs.declared.air_tick.Sent.{Sent}
 use Rattle.station_laws.proofs.Connected.{found}
+use Rattle.station_laws.proofs.HostsStand.{asked_hosts, no_kiss, told_is_other}
 use Rattle.station_laws.proofs.OwnerLemmas.{queued_pieces}
 use Rattle.station_laws.proofs.Standing.{chosen_calls}
 use Rattle.station_laws.proofs.Tables.{none_chosen}
@@ -118,6 +122,29 @@ module _ (id : ℕ) (plan : CallPlan) (called : IsBetweenCalls plan) where
     where
       go : (b : Bool) → Does id plan turn [] ((if b then queueing None octets else (λ t. t)) turn)
       go true = queueing_does octets turn
+      go false = same_does id plan turn
+
+  -- a frame whose sending a host is told
+  asked_does : (host : ℕ) (mark octets : List ℕ) (turn : Turn)
+      → Does id plan turn [] (queueing_asked host mark octets turn)
+  asked_does host mark octets turn = go (has_frame_length octets)
+    where
+      asker : Option Asker
+      asker = Some (record { id = host; mark = mark })
+
+      pieces : (b : Bool) → (cond b (entering_for asker None octets turn) (dropping turn)).out.pieces ≡ turn.out.pieces
+      pieces true = refl
+      pieces false = refl
+
+      links : (b : Bool) → (cond b (entering_for asker None octets turn) (dropping turn)).now.links ≡ turn.now.links
+      links true = refl
+      links false = refl
+
+      go : (b : Bool) → Does id plan turn [] ((if b then queueing_for asker None octets else (λ t. t)) turn)
+      go true =
+          silent_does id plan turn (queueing_for asker None octets turn)
+          (pieces (nat_lt (length turn.now.channel.waiting) capacity))
+          (links (nat_lt (length turn.now.channel.waiting) capacity))
       go false = same_does id plan turn
 
   unnumbered_does : (pid : ℕ) (information : List ℕ) (route : Option Route) (turn : Turn)
@@ -327,21 +354,24 @@ module _ (id : ℕ) (plan : CallPlan) (called : IsBetweenCalls plan) where
       go true = h
       go false = same_does id plan turn
 
-  heeding_does : (item : KissItem) (turn : Turn) → Does id plan turn [] (heeding item turn)
-  heeding_does (KissFrame port octets) turn = on_port_does port (queueing_raw octets) turn (raw_does octets turn)
-  heeding_does (Set port command value) turn =
+  heeding_does : (host : ℕ) (item : KissItem) (turn : Turn) → Does id plan turn [] (heeding host item turn)
+  heeding_does host (KissFrame port octets) turn = on_port_does port (queueing_raw octets) turn (raw_does octets turn)
+  heeding_does host (AckFrame port mark octets) turn =
+      on_port_does port (queueing_asked host mark octets) turn (asked_does host mark octets turn)
+  heeding_does host (Set port command value) turn =
       on_port_does port (changing (with_param (param_of command value))) turn
       (silent_does id plan turn (changing (with_param (param_of command value)) turn) refl refl)
-  heeding_does (Hardware port octets) turn = same_does id plan turn
-  heeding_does Return turn = same_does id plan turn
-  heeding_does (TooLong port) turn = same_does id plan turn
-  heeding_does (Other port command) turn = same_does id plan turn
+  heeding_does host (Hardware port octets) turn = same_does id plan turn
+  heeding_does host Return turn = same_does id plan turn
+  heeding_does host (TooLong port) turn = same_does id plan turn
+  heeding_does host (Other port command) turn = same_does id plan turn
 
-  heeding_all_does : (items : List KissItem) (turn : Turn) → Does id plan turn [] (heeding_all items turn)
-  heeding_all_does [] turn = same_does id plan turn
-  heeding_all_does (item ∷ items) turn =
-      does_on id plan turn (heeding item turn) (heeding_all items (heeding item turn)) [] [] (heeding_does item turn)
-      (heeding_all_does items (heeding item turn))
+  heeding_all_does : (host : ℕ) (items : List KissItem) (turn : Turn)
+      → Does id plan turn [] (heeding_all host items turn)
+  heeding_all_does host [] turn = same_does id plan turn
+  heeding_all_does host (item ∷ items) turn =
+      does_on id plan turn (heeding host item turn) (heeding_all host items (heeding host item turn)) [] []
+      (heeding_does host item turn) (heeding_all_does host items (heeding host item turn))
 
   -- ---- an event of a host
 
@@ -353,14 +383,14 @@ module _ (id : ℕ) (plan : CallPlan) (called : IsBetweenCalls plan) where
       → Does id plan before (octet_steps_by (meant plan) kind connection octets before after h) after
   octets_do_by Kiss connection octets before after agw stays h =
       let taken = taking connection.id octets before in
-      let heeded = heeding_all (new_items connection.stream octets) taken in
+      let heeded = heeding_all connection.id (new_items connection.stream octets) taken in
       let web = is_web_request (connection.stream ++ octets) in
       let left = ending_steps (meant plan) connection.id web heeded in
       subst (Does id plan before left) (sym h)
       (does_on id plan before taken (ending connection.id web heeded) [] left
       (silent_does id plan before taken refl refl)
       (does_on id plan taken heeded (ending connection.id web heeded) [] left
-      (heeding_all_does (new_items connection.stream octets) taken)
+      (heeding_all_does connection.id (new_items connection.stream octets) taken)
       (ending_does connection.id web heeded (λ is. let clash : Kiss ≡ Agw = agw is in absurd (cc)))))
   octets_do_by Agw connection octets before after agw stays h =
       let taken = taking connection.id octets before in
@@ -497,6 +527,35 @@ module _ (id : ℕ) (plan : CallPlan) (called : IsBetweenCalls plan) where
           to_monitors_says message turn.now.connections
           (record { from = field_ten f.path.source h.0; to = field_ten f.path.dest h.1 })
           (none_by_kind plan message (letter_connect sent f.kind) (letter_data sent f.kind))
+
+  -- a client, which speaks AGWPE, is told of no frame
+  asker_says :
+      (asker : Option Asker) (connections : List Connection)
+      → Each (λ (c : Connection). c.id ≡ id → c.kind ≡ Agw) connections
+      → SaysOnly id plan (pieces_for asker connections)
+  asker_says None connections agw = says_nothing id plan
+  asker_says (Some asker) connections agw = go (speaks_kiss asker.id connections) refl
+    where
+      go : (b : Bool) → speaks_kiss asker.id connections ≡ b
+          → SaysOnly id plan (if b then answer_of asker ∷ [] else [])
+      go true is =
+          says_other id plan (answer_of asker)
+          (told_is_other id asker.id connections (no_kiss id connections agw) is)
+      go false is = says_nothing id plan
+
+  tells_does :
+      (sent : Option Sent) (turn : Turn)
+      → Each (λ (c : Connection). c.id ≡ id → c.kind ≡ Agw) turn.now.connections
+      → Does id plan turn [] (telling_sent sent turn)
+  tells_does sent turn agw =
+      says_does id plan turn (telling_sent sent turn) (sent_pieces sent turn.now.askers turn.now.connections) refl
+      (by_sent sent turn.now.askers) refl
+    where
+      by_sent : (s : Option Sent) (askers : List (Option Asker))
+          → SaysOnly id plan (sent_pieces s askers turn.now.connections)
+      by_sent None askers = says_nothing id plan
+      by_sent (Some sent) [] = says_nothing id plan
+      by_sent (Some sent) (asker ∷ others) = asker_says asker turn.now.connections agw
 
   -- what is read of octets has calls
   read_calls : (modulus : Modulus) (octets : List ℕ) (frame : Option Frame) → IsReadAs modulus octets frame
@@ -653,15 +712,18 @@ module _ (id : ℕ) (plan : CallPlan) (called : IsBetweenCalls plan) where
   turn_does (OffAir octets) before after turn stays agw = heard_does octets before after agw turn
   turn_does (OfClock busy) before after turn stays agw =
       let ticked = asked_links busy before in
+      let shown = monitoring true ticked.now.ticks turn.monitored ticked in
+      let sent = (air_in busy before).sent in
       subst (Does id plan before (tick_steps (meant plan) busy before)) (sym turn.effect)
       (does_on_last before ticked (ticking busy turn.monitored before)
       (tick_steps (meant plan) busy before) (ticks_do id plan called busy before)
-      (does_on id plan ticked (monitoring true ticked.now.ticks turn.monitored ticked)
-      (ticking busy turn.monitored before) [] []
+      (does_on id plan ticked shown (ticking busy turn.monitored before) [] []
       (monitors_does true ticked.now.ticks turn.monitored ticked
-      (sent_calls (air_in busy before).sent ticked.now.links turn.monitored turn.read_as))
-      (silent_does id plan (monitoring true ticked.now.ticks turn.monitored ticked)
-      (ticking busy turn.monitored before) refl refl)))
+      (sent_calls sent ticked.now.links turn.monitored turn.read_as))
+      (does_on id plan shown (telling_sent sent shown) (ticking busy turn.monitored before) [] []
+      (tells_does sent shown (subst (λ connections. Each (λ (c : Connection). c.id ≡ id → c.kind ≡ Agw) connections)
+      (sym (asked_hosts busy before)) agw))
+      (silent_does id plan (telling_sent sent shown) (ticking busy turn.monitored before) refl refl))))
 
   pub step_does : (step : Step) → IsClientStep id step
       → Does id plan (begin step.before) (steps_of (meant plan) step) step.after

@@ -180,9 +180,9 @@ set_by before after h taken = go (connection_of kiss_id before.now.connections) 
     by_kind c Agw hosts id is t = let clash : Kiss ≡ Agw = sym (hosts.kiss id) ∙ is in absurd (cc)
     by_kind c Kiss hosts id is t =
         full (t
-        ∙ ap (λ web. ending c.id web (heeding_all (new_items c.stream full_duplex_octets)
+        ∙ ap (λ web. ending c.id web (heeding_all c.id (new_items c.stream full_duplex_octets)
         (taking c.id full_duplex_octets before))) (no_web c.stream (hosts.setting is))
-        ∙ ap (λ items. heeding_all items (taking c.id full_duplex_octets before))
+        ∙ ap (λ items. heeding_all c.id items (taking c.id full_duplex_octets before))
         (one_setting c.stream (hosts.setting is))
         ∙ ap (λ n. changing full_set (taking n full_duplex_octets before)) id)
 

@@ -15,13 +15,17 @@ use Rattle.channel_bench.proofs.Common.{call_at, full_duplex_octets, request, re
 use Rattle.channel_bench.proofs.Common.{call_steps, data_steps, disconnect_steps, made_steps, turn_steps}
 use Rattle.std.proofs.Common.{if◌then◌else◌}
 use Rattle.std.specs.List.{AllByRecursion as Each}
+use Rattle.channel_access.specs.declared.air_tick.Sent.{Sent}
 use Rattle.link_machine.specs.Event.Event.{Connect as LinkConnect}
 use Rattle.station.specs.AgwKinds.{connect_via_kind}
 use Rattle.station.specs.AgwRequests.{calls, disconnecting as disconnecting_act}
+use Rattle.station.specs.Askers.{answer_of, sent_pieces, speaks_kiss}
 use Rattle.station.specs.CallFields.{call_of_text}
 use Rattle.station.specs.Host.{new_items}
 use Rattle.station.specs.Kiss.{heeding_all}
 use Rattle.station.specs.Registrations.{registered}
+use Rattle.station.specs.Ticks.{air_in}
+use Rattle.station.specs.declared.asker.Asker.{Asker}
 use Rattle.station.specs.Routes.{repeaters_in}
 use Rattle.station_laws.specs.LinkSteps.{answer_steps, ending_steps, message_steps, octet_steps, octet_steps_by}
 use Rattle.channel_bench.proofs.CoreRun.{Occurs, Usual, input_of}
@@ -35,6 +39,7 @@ use Rattle.channel_bench.proofs.OwnLinks.{heard_says, made_says, messages_of, no
 use Rattle.channel_bench.proofs.OwnLinks.{same_says, ticks_say, data_says, disconnect_says}
 use Rattle.channel_bench.proofs.ProgramsAsk.{between_written, registers_written}
 use Rattle.channel_bench.proofs.TurnWalks.{ticks_kept}
+use Rattle.station_laws.proofs.HostsStand.{no_kiss, told_is_other}
 use Rattle.station_laws.proofs.ValidCalls.{along_good, no_or_few, route_valid}
 use Rattle.station_laws.proofs.Causes.{Cause}
 use Rattle.station_laws.proofs.Causes.Cause.{nothing, connecting, sending, disconnecting, hearing, ticking}
@@ -304,7 +309,7 @@ kiss_steps e s after hosts h = go (connection_of kiss_id s.connections) refl h
         → (k : AreTakenBy kind c full_duplex_octets (begin s) after)
         → octet_steps_by (chosen e) kind c full_duplex_octets (begin s) after k ≡ []
     by_kind c Kiss own id is k =
-        ap (λ web. ending_steps (chosen e) c.id web (heeding_all (new_items c.stream full_duplex_octets)
+        ap (λ web. ending_steps (chosen e) c.id web (heeding_all c.id (new_items c.stream full_duplex_octets)
         (taking c.id full_duplex_octets (begin s)))) (no_web c.stream (own.setting is))
     by_kind c Agw own id is k = let clash : Kiss ≡ Agw = sym (own.kiss id) ∙ is in absurd (cc)
 
@@ -315,6 +320,32 @@ kiss_steps e s after hosts h = go (connection_of kiss_id s.connections) refl h
     go (Some c) is k =
         let at = found IsHosts kiss_id s.connections c hosts.connections is in
         by_kind c c.kind at.0 at.1 refl k
+
+-- the program speaks AGWPE, so it is told of no frame
+speaks_agwpe : (connections : List Connection) → Each IsUnshown connections
+    → Each (λ (c : Connection). c.id ≡ program_id → c.kind ≡ Agw) connections
+speaks_agwpe [] unshown = tt
+speaks_agwpe (c ∷ connections) unshown = (by_kind c.kind refl, speaks_agwpe connections unshown.1)
+  where
+    by_kind : (kind : PortKind) → c.kind ≡ kind → c.id ≡ program_id → kind ≡ Agw
+    by_kind Kiss is own = absurd (unshown.0.kiss is own)
+    by_kind Agw is own = refl
+
+asker_unshown : (asker : Asker) (connections : List Connection) (speaks : Bool)
+    → (speaks ≡ true → (asker.id == program_id) ≡ false)
+    → own_pieces (cond speaks (answer_of asker ∷ []) []) ≡ []
+asker_unshown asker connections true other = ap (λ b. cond b (answer_of asker ∷ []) []) (other refl)
+asker_unshown asker connections false other = refl
+
+answers_unshown : (sent : Option Sent) (askers : List (Option Asker)) (connections : List Connection)
+    → Each IsUnshown connections → own_pieces (sent_pieces sent askers connections) ≡ []
+answers_unshown None askers connections unshown = refl
+answers_unshown (Some sent) [] connections unshown = refl
+answers_unshown (Some sent) (None ∷ others) connections unshown = refl
+answers_unshown (Some sent) (Some asker ∷ others) connections unshown =
+    asker_unshown asker connections (speaks_kiss asker.id connections)
+    (told_is_other program_id asker.id connections
+    (no_kiss program_id connections (speaks_agwpe connections unshown)))
 
 set_comes : (e : End) (t u : Turn) → OwnsAll e t.now → IsSet t u → Comes nothing ⊥ e t [] u
 set_comes e t u owns (unheard same) = subst (Comes nothing ⊥ e t []) (sym same) (by_link (same_says nothing e t owns))
@@ -374,15 +405,21 @@ usual_comes e (ticks busy) s after occurs hosts owns unshown from turn =
     let ticked = asked_links busy (begin s) in
     let h = ticks_say ticking e busy (begin s) refl owns in
     let same = ticks_kept SameHosts same_hosts busy (begin s) in
+    let still : Each IsUnshown ticked.now.connections = subst (Each IsUnshown) (sym same.connections) unshown in
     let pieces = monitor_pieces true ticked.now.ticks turn.monitored ticked.now.connections in
     let none : pieces ≡ [] =
-    none_monitored true ticked.now.ticks turn.monitored ticked.now.connections
-    (subst (Each IsUnshown) (sym same.connections) unshown) in
+    none_monitored true ticked.now.ticks turn.monitored ticked.now.connections still in
+    let sent : Option Sent = (air_in busy (begin s)).sent in
+    let answers = sent_pieces sent ticked.now.askers ticked.now.connections in
     by_link (subst (Says ticking e (begin s) (turn_steps (chosen e) (input_of e (ticks busy)) (begin s) after turn))
     (sym turn.effect) (record {
       owns = record { links = h.owns.links; registered = h.owns.registered };
       closed = h.closed;
-      pieces = filter-append (λ (p : Piece). p.id == program_id) ticked.out.pieces pieces
+      pieces = filter-append (λ (p : Piece). p.id == program_id) (ticked.out.pieces ++ pieces) answers
+          ∙ ap (λ ps. own_pieces (ticked.out.pieces ++ pieces) ++ ps)
+          (answers_unshown sent ticked.now.askers ticked.now.connections still)
+          ∙ append-nil (own_pieces (ticked.out.pieces ++ pieces))
+          ∙ filter-append (λ (p : Piece). p.id == program_id) ticked.out.pieces pieces
           ∙ ap (λ ps. own_pieces ticked.out.pieces ++ own_pieces ps) none
           ∙ append-nil (own_pieces ticked.out.pieces) ∙ h.pieces;
       more = h.more;

@@ -64,10 +64,18 @@ ways_of common = after_moments common.moments nothing_sent
 
 -- ---- before the first tick
 
--- Both stations ask for lost frames by SREJ, with a window of 4, or of 32 if they count modulo 128, and repeat for
--- nobody.
+-- Both stations ask for lost frames by SREJ, with a window of 4, or of 32 if they count modulo 128, wait two seconds for
+-- an answer and ask again ten times at most, and repeat for nobody.
 abbrev pub params_of : BenchWords → Params
-params_of w = record { mode = Srej; window = 4; wide = w.wide; wide_mode = Srej; wide_window = 32 }
+params_of w = record {
+  mode = Srej;
+  window = 4;
+  wide = w.wide;
+  wide_mode = Srej;
+  wide_window = 32;
+  t1 = 200;
+  retries = 10;
+}
 
 abbrev pub config_of : BenchWords → Config
 config_of w = usual_config (params_of w) None

@@ -541,6 +541,8 @@ fn config_of(words: &BenchWords) -> Config
         wide: words.wide,
         wide_mode: Mode::Srej,
         wide_window: 32,
+        t1: 200,
+        retries: 10,
     };
     Config::new(params, None)
 }

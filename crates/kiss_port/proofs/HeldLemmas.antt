@@ -1,7 +1,7 @@
 -- What is kept stands for all octets so far.
 use Rattle.std.proofs.Common.{◌≡◌, ◌≢◌, ℕ, suc, ◌+◌, eqb, ltb, cond, Bool, true, false, List, [], ◌∷◌, ◌++◌, length}
 use Rattle.std.proofs.Common.{take, min, refl, ap, subst, ◌∙◌, sym, inl, inr, arith, append_assoc, append-nil}
-use Rattle.std.proofs.Common.{length-take, Some}
+use Rattle.std.proofs.Common.{length-take, Some, ◌≤◌, ◌%◌, ◌==◌}
 use Rattle.std.specs.Option.{option_to_list}
 use Rattle.std.specs.List.{flat_map}
 use Rattle.std.proofs.lemmas.Bool.{cond-true, cond-false, eq-eqb, ne_eqb, lt-ltb, le-ltb, cases_eq, cases_lt}
@@ -9,7 +9,7 @@ use Rattle.std.proofs.lemmas.List.{length_push, take_all, take-append-le}
 use Rattle.std.proofs.lemmas.List.Concat.{flat_map-append}
 use Rattle.kiss_port.specs.Escapes.{fend, fesc, tfend, tfesc, meant, unescaped, spelled}
 use Rattle.kiss_port.specs.Pieces.{pieces}
-use Rattle.kiss_port.specs.Items.{item_of, items_in}
+use Rattle.kiss_port.specs.Items.{ack_command, most_octets, item_of, items_in}
 use Rattle.kiss_port.specs.Held.{Held, StandsForPiece, StandsFor, rest_of_piece, new_held, kept_item, held_item}
 use Rattle.kiss_port.specs.Held.{StandsForSome, keeping, unmarked, behind_escape, with_octet}
 use Rattle.kiss_port.proofs.PieceLemmas.{inside-append, pieces_inside, pieces_end}
@@ -18,42 +18,50 @@ use Rattle.kiss_port.proofs.EscapeLemmas.{unescaped_plain, spelled_back, spelled
 -- ---- what is kept of a meaning
 
 record Keeps (held : Held) (meaning : List ℕ) : Type 0 where
-  kept : held.kept ≡ take 1025 meaning
-  long : held.long ≡ ltb 1025 (length meaning)
+  kept : held.kept ≡ take 1027 meaning
+  long : held.long ≡ ltb 1027 (length meaning)
 
 keeps_more : (held : Held) (meaning : List ℕ) (octet : ℕ) → Keeps held meaning
     → Keeps (keeping held octet) (meaning ++ octet ∷ [])
 keeps_more held meaning octet keeps =
     let K : Held → Type 0 = λ h. Keeps h (meaning ++ octet ∷ []) in
-    let count : length held.kept ≡ min 1025 (length meaning) = ap length keeps.kept ∙ length-take 1025 meaning in
+    let count : length held.kept ≡ min 1027 (length meaning) = ap length keeps.kept ∙ length-take 1027 meaning in
     let longer : length (meaning ++ octet ∷ []) ≡ length meaning + 1 = length_push meaning octet in
-    elim (cases_eq (length held.kept) 1025) [
+    elim (cases_eq (length held.kept) 1027) [
       | inl full ↦
-          subst K (sym (cond-true _ _ _ (eq-eqb (length held.kept) 1025 full))) (record {
-            kept = keeps.kept ∙ sym (take-append-le 1025 meaning (octet ∷ []) (omega arith));
-            long = sym (lt-ltb 1025 (length (meaning ++ octet ∷ [])) (omega arith));
+          subst K (sym (cond-true _ _ _ (eq-eqb (length held.kept) 1027 full))) (record {
+            kept = keeps.kept ∙ sym (take-append-le 1027 meaning (octet ∷ []) (omega arith));
+            long = sym (lt-ltb 1027 (length (meaning ++ octet ∷ [])) (omega arith));
           })
       | inr room ↦
-          subst K (sym (cond-false _ _ _ (ne_eqb (length held.kept) 1025 room))) (record {
-            kept = ap (λ xs. xs ++ octet ∷ []) (keeps.kept ∙ take_all 1025 meaning (omega arith))
-                ∙ sym (take_all 1025 (meaning ++ octet ∷ []) (omega arith));
-            long = keeps.long ∙ le-ltb 1025 (length meaning) (omega arith)
-                ∙ sym (le-ltb 1025 (length (meaning ++ octet ∷ [])) (omega arith));
+          subst K (sym (cond-false _ _ _ (ne_eqb (length held.kept) 1027 room))) (record {
+            kept = ap (λ xs. xs ++ octet ∷ []) (keeps.kept ∙ take_all 1027 meaning (omega arith))
+                ∙ sym (take_all 1027 (meaning ++ octet ∷ []) (omega arith));
+            long = keeps.long ∙ le-ltb 1027 (length meaning) (omega arith)
+                ∙ sym (le-ltb 1027 (length (meaning ++ octet ∷ [])) (omega arith));
           })
     ]
 
+-- no piece of this length is short enough
+most_at_most : (kind : ℕ) → most_octets kind ≤ 1026
+most_at_most kind = go (kind % 16 == ack_command)
+  where
+    go : (b : Bool) → cond b 1026 1024 ≤ 1026
+    go true = omega arith
+    go false = omega arith
+
 -- what is kept tells the item
-kept_says : (meaning : List ℕ) → kept_item (ltb 1025 (length meaning)) (take 1025 meaning) ≡ item_of meaning
+kept_says : (meaning : List ℕ) → kept_item (ltb 1027 (length meaning)) (take 1027 meaning) ≡ item_of meaning
 kept_says [] = refl
 kept_says (kind ∷ octets) =
-    elim (cases_lt 1024 (length octets)) [
+    let most = most_at_most kind in
+    elim (cases_lt 1026 (length octets)) [
       | inl past ↦
-          ap (λ b. kept_item b (kind ∷ take 1024 octets)) (lt-ltb 1025 (suc (length octets)) (omega arith))
-          ∙ ap Some (sym (cond-true _ _ _ (lt-ltb 1024 (length octets) past)))
+          ap (λ b. kept_item b (kind ∷ take 1026 octets)) (lt-ltb 1027 (suc (length octets)) (omega arith))
+          ∙ ap Some (sym (cond-true _ _ _ (lt-ltb (most_octets kind) (length octets) (omega arith))))
       | inr within ↦
-          ap (λ b. kept_item b (kind ∷ take 1024 octets)) (le-ltb 1025 (suc (length octets)) (omega arith))
-          ∙ ap (λ xs. kept_item false (kind ∷ xs)) (take_all 1024 octets within)
-          ∙ ap Some (sym (cond-false _ _ _ (le-ltb 1024 (length octets) within)))
+          ap (λ b. kept_item b (kind ∷ take 1026 octets)) (le-ltb 1027 (suc (length octets)) (omega arith))
+          ∙ ap (λ xs. kept_item false (kind ∷ xs)) (take_all 1026 octets within)
     ]
 
 -- ---- the piece
@@ -81,7 +89,7 @@ longer held next piece octet meaning escaped other stands keeps mark further = r
 
 -- the mark of an escape stays if an octet is kept
 keeping_mark : (held : Held) (octet : ℕ) → (keeping held octet).escaped ≡ held.escaped
-keeping_mark held octet = by_room (eqb (length held.kept) 1025)
+keeping_mark held octet = by_room (eqb (length held.kept) 1027)
   where
     by_room : (b : Bool)
         → (cond b (let h : Held = record { kept = held.kept; long = true; escaped = held.escaped } in h)
@@ -169,7 +177,7 @@ piece_says held piece stands =
     let all : unescaped piece ≡ stands.meaning =
     ap unescaped (sym (append-nil piece)) ∙ stands.rest [] ∙ ap (λ xs. stands.meaning ++ xs) (nothing held.escaped)
     ∙ append-nil stands.meaning in
-    ap (λ b. kept_item b held.kept) stands.long ∙ ap (kept_item (ltb 1025 (length stands.meaning))) stands.kept
+    ap (λ b. kept_item b held.kept) stands.long ∙ ap (kept_item (ltb 1027 (length stands.meaning))) stands.kept
     ∙ kept_says stands.meaning ∙ ap item_of (sym all)
   where
     nothing : (escaped : Bool) → rest_of_piece escaped [] ≡ []

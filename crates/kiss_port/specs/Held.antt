@@ -1,15 +1,15 @@
 -- What is kept of the piece under way. No public clause looks inside: they cite `StandsFor` alone.
-use Rattle.std.specs.Prelude.{◌≡◌, ◌≢◌, ℕ, ◌/◌, ◌%◌, ◌==◌, nat_lt, if◌then◌else◌, Bool, true, false, List, [], ◌∷◌}
+use Rattle.std.specs.Prelude.{◌≡◌, ◌≢◌, ℕ, ◌/◌, ◌==◌, nat_lt, if◌then◌else◌, Bool, true, false, List, [], ◌∷◌}
 use Rattle.std.specs.Prelude.{◌++◌, length, take, Option, Some, None}
 use Rattle.std.specs.List.{AllByRecursion}
 use Rattle.kiss_port.specs.declared.item.KissItem.{KissItem}
-use Rattle.kiss_port.specs.declared.item.KissItem.TheVariants.{TooLong, Return}
+use Rattle.kiss_port.specs.declared.item.KissItem.TheVariants.{TooLong}
 use Rattle.kiss_port.specs.Escapes.{fend, fesc, tfend, tfesc, unescaped}
 use Rattle.kiss_port.specs.Pieces.{pieces}
-use Rattle.kiss_port.specs.Items.{by_command}
+use Rattle.kiss_port.specs.Items.{item_by_type}
 
 pub record Held : Type 0 where
-  -- the first octets of what the piece stands for so far, at most 1025
+  -- the first octets of what the piece stands for so far, at most 1027
   pub kept : List ℕ
   -- there were more
   pub long : Bool
@@ -23,7 +23,7 @@ new_held = record { kept = []; long = false; escaped = false }
 abbrev pub kept_item : Bool → List ℕ → Option KissItem
 kept_item long [] = None
 kept_item true (kind ∷ octets) = Some (TooLong (kind / 16))
-kept_item false (kind ∷ octets) = Some (if kind == 0xff then Return else by_command (kind / 16) (kind % 16) octets)
+kept_item false (kind ∷ octets) = Some (item_by_type kind octets)
 
 abbrev pub held_item : Held → Option KissItem
 held_item held = kept_item held.long held.kept
@@ -31,7 +31,7 @@ held_item held = kept_item held.long held.kept
 -- one octet more of what the piece stands for
 abbrev pub keeping : Held → ℕ → Held
 keeping held octet =
-    if length held.kept == 1025 then record { kept = held.kept; long = true; escaped = held.escaped }
+    if length held.kept == 1027 then record { kept = held.kept; long = true; escaped = held.escaped }
     else record { kept = held.kept ++ octet ∷ []; long = held.long; escaped = held.escaped }
 
 abbrev pub unmarked : Held → Held
@@ -59,8 +59,8 @@ pub record StandsForPiece (held : Held) (piece : List ℕ) : Type 0 where
   -- what it stands for so far
   pub meaning : List ℕ
   pub rest : (more : List ℕ) → unescaped (piece ++ more) ≡ meaning ++ rest_of_piece held.escaped more
-  pub kept : held.kept ≡ take 1025 meaning
-  pub long : held.long ≡ nat_lt 1025 (length meaning)
+  pub kept : held.kept ≡ take 1027 meaning
+  pub long : held.long ≡ nat_lt 1027 (length meaning)
 
 -- these octets of a stream have come
 pub record StandsFor (held : Held) (stream : List ℕ) : Type 0 where

@@ -8,8 +8,8 @@ use std::alloc::Global;
 use std::marker::Model;
 use tnc_base::OutOfMemory;
 
-// The most octets that are kept: the first of a piece, and the 1024 after it.
-const MOST_KEPT: usize = 1025;
+// The most octets that are kept: the first of a piece, and the 1026 after it.
+const MOST_KEPT: usize = 1027;
 
 #[derive(Drop)]
 pub(crate) struct OpenPiece {
@@ -27,7 +27,7 @@ impl Model for OpenPiece {
 
     ghost view = { λ k. record { kept = k.kept.items; long = k.long; escaped = k.escaped } };
 
-    ghost invariant = { λ k. length k.kept.items ≤ 1025 };
+    ghost invariant = { λ k. length k.kept.items ≤ 1027 };
 }
 
 impl OpenPiece {

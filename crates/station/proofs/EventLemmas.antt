@@ -109,6 +109,7 @@ shows-settled parts out turn set_links settled key link machine shows at is same
             (settled_links parts.links set_links turn.now.links key link machine (is_idle machine.control.state)
             h.links at is);
         channel = h.channel;
+        askers = h.askers;
         dropped = h.dropped;
         ticks = h.ticks;
         asked = h.asked;

@@ -47,6 +47,7 @@ shows_made parts out turn key id pid local remote path held links shows next bel
             freed = tt;
           };
           channel = h.channel;
+          askers = h.askers;
           dropped = h.dropped;
           ticks = h.ticks;
           asked = h.asked;

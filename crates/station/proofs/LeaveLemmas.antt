@@ -8,6 +8,7 @@ use Rattle.station.proofs.Common.{IsSetAt, Out, Turn, in_order, changing}
 use Rattle.std.proofs.lemmas.List.Kept.{AllPairs-filter}
 use Rattle.channel_access.specs.StandsFor.{StandsFor as StandsForChannel}
 use Rattle.station.specs.declared.connection.Connection.{Connection as HeldConnection}
+use Rattle.station.specs.Askers.{without_askers}
 use Rattle.station.specs.Connections.{without_connection}
 use Rattle.station.specs.Leaving.{without_host, giving_up_all, giving_up_link}
 use Rattle.station.specs.Registrations.{without_registrations}
@@ -42,6 +43,7 @@ shows_set parts out turn links key link next shows at is =
               h.links.freed;
         };
         channel = h.channel;
+        askers = h.askers;
         dropped = h.dropped;
         ticks = h.ticks;
         asked = h.asked;
@@ -113,10 +115,11 @@ ids_filtered id (x ∷ xs) =
 pub shows_forgotten : (parts new : Parts) (out : Out) (turn : Turn) (id : ℕ) → Shows parts out turn
     → new.connections.items ≡ filter (λ connection. not (connection.id == id)) parts.connections.items
     → new.registrations.items ≡ without_registrations id parts.registrations.items
+    → new.askers.items ≡ without_askers id parts.askers.items
     → new.parameters ≡ parts.parameters → new.digi ≡ parts.digi → new.links ≡ parts.links → new.channel ≡ parts.channel
     → new.dropped ≡ parts.dropped → new.ticks ≡ parts.ticks → new.asked ≡ parts.asked
     → new.paclen ≡ parts.paclen → Shows new out (changing (without_host id) turn)
-shows_forgotten parts new out turn id shows kept left parameters digi links channel dropped ticks asked
+shows_forgotten parts new out turn id shows kept left told parameters digi links channel dropped ticks asked
     paclen =
     let h = shows.holds in
     record {
@@ -133,6 +136,7 @@ shows_forgotten parts new out turn id shows kept left parameters digi links chan
         registrations = left ∙ ap (without_registrations id) h.registrations;
         links = subst (λ (held : HeldLinks). StandsForLinks held turn.now.links) (sym links) h.links;
         channel = subst (λ held. StandsForChannel held turn.now.channel) (sym channel) h.channel;
+        askers = told ∙ ap (without_askers id) h.askers;
         dropped = dropped ∙ h.dropped;
         ticks = ticks ∙ h.ticks;
         asked = asked ∙ h.asked;

@@ -26,5 +26,6 @@ pub mod CallLemmas
 mod RouteLemmas
 mod TakeLemmas
 mod AnswerLemmas
+mod AskerLemmas
 mod TakenLemmas
 mod PendingLemmas

@@ -72,18 +72,18 @@ taken_none octets turn own is = subst (λ (o : Option Connection). AreTaken o oc
 -- items are heeded, and a request of the web ends
 pub taken_items : (id : ℕ) (octets : List ℕ) (turn : Turn) (items : List KissItem) (web : Bool)
     (own : Option Connection) → IfSome own (λ connection. connection.id ≡ id) → AreSaidItems own octets items web
-    → AreTaken own octets turn (ending id web (heeding_all items (taking id octets turn)))
+    → AreTaken own octets turn (ending id web (heeding_all id items (taking id octets turn)))
 taken_items id octets turn items web None same h = absurd h
 taken_items id octets turn items web (Some connection) same h = by_kind connection.kind h
   where
     by_kind : (kind : PortKind) → SaysItems kind connection.stream octets items web
-        → AreTakenBy kind connection octets turn (ending id web (heeding_all items (taking id octets turn)))
+        → AreTakenBy kind connection octets turn (ending id web (heeding_all id items (taking id octets turn)))
     by_kind Kiss is =
-        ap (λ (ends : Bool). ending id ends (heeding_all items (taking id octets turn))) is.1
+        ap (λ (ends : Bool). ending id ends (heeding_all id items (taking id octets turn))) is.1
         ∙ ap (λ (all : List KissItem). ending id (is_web_request (connection.stream ++ octets))
-        (heeding_all all (taking id octets turn))) is.0
+        (heeding_all id all (taking id octets turn))) is.0
         ∙ ap (λ (n : ℕ). ending n (is_web_request (connection.stream ++ octets))
-        (heeding_all (new_items connection.stream octets) (taking n octets turn))) (sym same)
+        (heeding_all n (new_items connection.stream octets) (taking n octets turn))) (sym same)
     by_kind Agw is = absurd is
 
 -- messages are answered, and past too long a body the connection ends

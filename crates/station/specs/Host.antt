@@ -50,7 +50,7 @@ ending id true turn = leaving id (closing id turn)
 abbrev pub AreTakenBy : PortKind → Connection → List ℕ → Turn → Turn → Type 0
 AreTakenBy Kiss connection octets before after =
     after ≡ ending connection.id (is_web_request (connection.stream ++ octets))
-    (heeding_all (new_items connection.stream octets) (taking connection.id octets before))
+    (heeding_all connection.id (new_items connection.stream octets) (taking connection.id octets before))
 AreTakenBy Agw connection octets before after =
     (answered : Turn)
     × AreAnswered connection.id (new_messages connection.stream octets) (taking connection.id octets before) answered

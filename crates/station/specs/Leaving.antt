@@ -1,8 +1,9 @@
--- A connection leaves: its registrations end, and each link of it, in the order of their keys, has no owner from then
--- on and is disconnected. What it tells is told to nobody.
+-- A connection leaves: its registrations end, it is told of no frame any more, and each link of it, in the order of
+-- their keys, has no owner from then on and is disconnected. What it tells is told to nobody.
 use Rattle.std.specs.Prelude.{ℕ, if◌then◌else◌, map, Option, Some, None}
 use Rattle.std.specs.List.{range_with_len}
 use Rattle.link_machine.specs.Event.Event.{Disconnect}
+use Rattle.station.specs.Askers.{without_askers}
 use Rattle.station.specs.Connections.{without_connection}
 use Rattle.station.specs.LinkEvents.{event_at, with_links}
 use Rattle.station.specs.Links.{Link, most_links, link_at, with_link}
@@ -14,6 +15,7 @@ abbrev pub without_host : ℕ → StationState → StationState
 without_host id s = record s {
   connections = without_connection id s.connections;
   registrations = without_registrations id s.registrations;
+  askers = without_askers id s.askers;
 }
 
 abbrev pub without_owner : Link → Link

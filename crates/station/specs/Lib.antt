@@ -1,5 +1,6 @@
 pub mod Connections
 pub mod Registrations
+pub mod Askers
 pub mod Links
 pub mod State
 pub mod Turn

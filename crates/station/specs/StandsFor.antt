@@ -70,6 +70,7 @@ pub record AreParts (parts : Parts) (s : StationState) : Type 0 where
   pub registrations : parts.registrations.items ≡ s.registrations
   pub links : StandsForLinks parts.links s.links
   pub channel : StandsForChannel parts.channel s.channel
+  pub askers : parts.askers.items ≡ s.askers
   pub dropped : parts.dropped ≡ s.dropped
   pub ticks : parts.ticks ≡ s.ticks
   pub asked : parts.asked ≡ s.asked

@@ -6,6 +6,7 @@ use Rattle.channel_access.specs.Channel.{Channel, new_channel}
 use Rattle.channel_access.specs.Parameters.{default_parameters}
 use Rattle.channel_access.specs.declared.parameters.Parameters.{Parameters}
 use Rattle.station.specs.declared.config.Config.{Config}
+use Rattle.station.specs.declared.asker.Asker.{Asker}
 use Rattle.station.specs.declared.registration.Registration.{Registration}
 use Rattle.station.specs.Connections.{Connection}
 use Rattle.station.specs.Links.{Link, Links, no_links}
@@ -21,6 +22,8 @@ pub record StationState : Type 0 where
   pub registrations : List Registration
   pub links : Links
   pub channel : Channel
+  -- for each frame that waits to be sent, the host that is told when it has been sent, if one is
+  pub askers : List (Option Asker)
   -- how many frames found the transmit queue full
   pub dropped : ℕ
   -- how many ticks of 10 ms the station has made
@@ -45,6 +48,7 @@ new_station config seed = record {
   registrations = [];
   links = no_links;
   channel = channel_with config.channel seed;
+  askers = [];
   dropped = 0;
   ticks = 0;
   asked = 0;

@@ -1,6 +1,7 @@
 -- A tick of 10 ms: of each link in the order of their keys, then one link is asked for a frame if the channel takes one,
--- and then of the channel. A frame whose sending ends in it is shown to hosts that monitor the channel.
-use Rattle.std.specs.Prelude.{◌≡◌, ℕ, Bool, true, not, ◌&&◌, ◌||◌, List, map, Option, Some, None}
+-- and then of the channel. A frame whose sending ends in it is shown to hosts that monitor the channel, and the host
+-- that asked for that is told of it.
+use Rattle.std.specs.Prelude.{◌≡◌, ℕ, Bool, true, not, ◌&&◌, ◌||◌, List, ◌++◌, map, Option, Some, None}
 use Rattle.std.specs.List.{range_with_len, list_any}
 use Rattle.ax25_address.specs.declared.path.Path.{Path}
 use Rattle.ax25_frames.specs.declared.frame.Frame.{Frame}
@@ -9,6 +10,7 @@ use Rattle.channel_access.specs.Waiting.{WaitingFrame}
 use Rattle.channel_access.specs.declared.air_tick.AirTick.{AirTick}
 use Rattle.channel_access.specs.declared.air_tick.Sent.{Sent}
 use Rattle.link_machine.specs.Event.Event.{Tick}
+use Rattle.station.specs.Askers.{askers_after, sent_pieces}
 use Rattle.station.specs.Asking.{asking, some_wants}
 use Rattle.station.specs.Heard.{IsPathOf, IsReadAs}
 use Rattle.station.specs.LinkEvents.{event_at}
@@ -55,9 +57,17 @@ air_of busy s = air_in busy (begin s)
 abbrev pub shown_sent : Option Frame → Act
 shown_sent frame turn = monitoring true turn.now.ticks frame turn
 
--- the links tick, one is perhaps asked, the frame is shown, and the channel ticks
+-- the host that asked for the frame that was sent, which is the front one, is told of it
+abbrev pub telling_sent : Option Sent → Act
+telling_sent sent turn = record {
+  now = record turn.now { askers = askers_after sent turn.now.askers };
+  out = record turn.out { pieces = turn.out.pieces ++ sent_pieces sent turn.now.askers turn.now.connections };
+}
+
+-- the links tick, one is perhaps asked, the frame is shown and its host is told, and the channel ticks
 abbrev pub ticking : Bool → Option Frame → Act
-ticking busy frame turn = changing (with_air_tick busy) (shown_sent frame (asked_links busy turn))
+ticking busy frame turn =
+    changing (with_air_tick busy) (telling_sent (air_in busy turn).sent (shown_sent frame (asked_links busy turn)))
 
 -- the frame whose sending ends, as it is read when the links stand so
 abbrev pub IsSentFrame : Option Sent → Links → Option Frame → Type 0

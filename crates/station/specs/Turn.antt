@@ -1,6 +1,7 @@
 -- One call of a station, act by act: what the station is after the acts so far, and what they gave.
 use Rattle.std.specs.Prelude.{ℕ, nat_lt, if◌then◌else◌, List, [], ◌∷◌, ◌++◌, length, Option, Some, None}
 use Rattle.channel_access.specs.Channel.{with_frame}
+use Rattle.station.specs.declared.asker.Asker.{Asker}
 use Rattle.station.specs.declared.host_out.Piece.{Piece}
 use Rattle.station.specs.State.{StationState, one_more}
 
@@ -50,11 +51,17 @@ abbrev pub told_of : Option ℕ → List ℕ → List (List ℕ)
 told_of None octets = []
 told_of (Some key) octets = octets ∷ []
 
-abbrev pub entering : Option ℕ → List ℕ → Act
-entering link octets turn = record {
-  now = record turn.now { channel = with_frame link octets turn.now.channel };
+abbrev pub entering_for : Option Asker → Option ℕ → List ℕ → Act
+entering_for asker link octets turn = record {
+  now = record turn.now {
+    channel = with_frame link octets turn.now.channel;
+    askers = turn.now.askers ++ asker ∷ [];
+  };
   out = record turn.out { queued = turn.out.queued ++ told_of link octets };
 }
+
+abbrev pub entering : Option ℕ → List ℕ → Act
+entering link octets = entering_for None link octets
 
 abbrev pub dropping : Act
 dropping turn = record turn { now = record turn.now { dropped = one_more turn.now.dropped } }
@@ -63,7 +70,11 @@ dropping turn = record turn { now = record turn.now { dropped = one_more turn.no
 abbrev pub capacity : ℕ
 capacity = 256
 
--- a frame joins the transmit queue, for the link of a key or for none, or is dropped if 256 wait
+-- a frame joins the transmit queue, for the link of a key or for none, or is dropped if 256 wait; and a host that is
+-- told when it has been sent, or none
+abbrev pub queueing_for : Option Asker → Option ℕ → List ℕ → Act
+queueing_for asker link octets turn =
+    if nat_lt (length turn.now.channel.waiting) capacity then entering_for asker link octets turn else dropping turn
+
 abbrev pub queueing : Option ℕ → List ℕ → Act
-queueing link octets turn =
-    if nat_lt (length turn.now.channel.waiting) capacity then entering link octets turn else dropping turn
+queueing link octets = queueing_for None link octets

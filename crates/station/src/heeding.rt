@@ -5,10 +5,11 @@ ghost use Rattle.channel_access.specs.StandsFor.{StandsFor as StandsForChannel};
 ghost use Rattle.station.specs.AgwRequests.{queueing_raw};
 ghost use Rattle.hdlc_framer.specs.FrameLength.{has_frame_length};
 ghost use Rattle.station.specs.Held.{ids_in};
-ghost use Rattle.station.specs.Kiss.{heeding, heeding_all, param_of, with_param};
+ghost use Rattle.station.specs.Kiss.{heeding, heeding_all, param_of, queueing_asked, with_param};
 ghost use Rattle.station.specs.StandsFor.{Shows};
 ghost use Rattle.station.specs.Turn.{Out, Turn, changing};
 
+use crate::asker::Asker;
 use crate::host_out::HostOut;
 use crate::memory::Memory;
 use crate::parts::Parts;
@@ -23,16 +24,17 @@ impl Parts {
         &mut self,
         memory: &mut Memory,
         out: &mut HostOut,
+        id: u32,
         items: &[KissItem],
     ) -> Result<(), OutOfMemory>
         ensures shows { (turn : Turn) → Shows self.old out.old turn
-            → OnOk result (Shows self.new out.new (heeding_all items.now turn)) }
+            → OnOk result (Shows self.new out.new (heeding_all id items.now turn)) }
         ensures ids { OnOk result (ids_in self.new ≡ ids_in self.old) }
         ensures closed { OnOk result (out.new.closed ≡ out.old.closed) }
         ensures wanted { OnErr result (memory.new.refused ≡ true) }
     {
         for item in items {
-            self.heed(memory, out, item)?;
+            self.heed(memory, out, id, item)?;
         }
         Ok(())
     }
@@ -42,10 +44,11 @@ impl Parts {
         &mut self,
         memory: &mut Memory,
         out: &mut HostOut,
+        id: u32,
         item: &KissItem,
     ) -> Result<(), OutOfMemory>
         ensures shows { (turn : Turn) → Shows self.old out.old turn
-            → OnOk result (Shows self.new out.new (heeding item.now turn)) }
+            → OnOk result (Shows self.new out.new (heeding id item.now turn)) }
         ensures ids { OnOk result (ids_in self.new ≡ ids_in self.old) }
         ensures closed { OnOk result (out.new.closed ≡ out.old.closed) }
         ensures wanted { OnErr result (memory.new.refused ≡ true) }
@@ -56,6 +59,12 @@ impl Parts {
                     return Ok(());
                 }
                 self.queue_raw(memory, out, octets.as_slice())
+            }
+            KissItem::AckFrame { port, mark, octets } => {
+                if *port != 0 {
+                    return Ok(());
+                }
+                self.queue_asked(memory, out, Asker { id, mark: *mark }, octets.as_slice())
             }
             KissItem::Set {
                 port,
@@ -92,6 +101,27 @@ impl Parts {
         }
         let frame = memory.copy(octets)?;
         self.queue(memory, out, None, frame)
+    }
+
+    /// Queues octets of a host, which is told when they have been sent, if they have the length of a frame.
+    fn queue_asked(
+        &mut self,
+        memory: &mut Memory,
+        out: &mut HostOut,
+        asker: Asker,
+        octets: &[u8],
+    ) -> Result<(), OutOfMemory>
+        ensures shows { (turn : Turn) → Shows self.old out.old turn
+            → OnOk result (Shows self.new out.new (queueing_asked asker.id asker.mark octets.now turn)) }
+        ensures ids { OnOk result (ids_in self.new ≡ ids_in self.old) }
+        ensures closed { OnOk result (out.new.closed ≡ out.old.closed) }
+        ensures wanted { OnErr result (memory.new.refused ≡ true) }
+    {
+        if !has_frame_length(octets) {
+            return Ok(());
+        }
+        let frame = memory.copy(octets)?;
+        self.queue_for(memory, out, Some(asker), None, frame)
     }
 
     /// Sets a parameter of the channel.

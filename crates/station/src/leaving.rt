@@ -6,6 +6,7 @@ ghost use Rattle.station.specs.Registrations.{without_registrations};
 ghost use Rattle.station.specs.StandsFor.{Shows};
 ghost use Rattle.station.specs.Turn.{Out, Turn, changing};
 
+use crate::asker::remove_askers;
 use crate::connection::Connection;
 use crate::host_out::HostOut;
 use crate::link_event::LinkEvent;
@@ -76,7 +77,7 @@ impl Parts {
         self.link_event(memory, out, key, LinkEvent::Disconnect)
     }
 
-    /// The connection and its registrations are there no more.
+    /// The connection and its registrations are there no more, and it is told of no frame.
     fn forget(&mut self, id: u32)
         ensures shows { (out : Out) (turn : Turn) → Shows self.old out turn
             → Shows self.new out (changing (without_host id) turn) }
@@ -84,6 +85,7 @@ impl Parts {
     {
         remove_connection(&mut self.connections, id);
         remove_registrations(&mut self.registrations, id);
+        remove_askers(&mut self.askers, id);
     }
 }
 

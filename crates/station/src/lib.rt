@@ -13,7 +13,7 @@
 //! A connection
 //!   host(Joined)               KISS or AGWPE; a 65th is in `closed`, and has not joined
 //!   heard                      KISS is shown each frame, AGWPE what it asked for
-//!   tick                       AGWPE is shown what was sent, if it monitors
+//!   tick                       AGWPE is shown what was sent, if it monitors; KISS is told of it, if it asked
 //!   host(Left)                 its registrations end, its links have no owner and are disconnected
 //! Octets of a connection       however they are cut
 //!   KISS, port 0               a frame is queued, a parameter is set
@@ -42,6 +42,7 @@
 #![tactic(auto)]
 
 mod answering;
+mod asker;
 mod call_fields;
 mod calling;
 mod config;
@@ -71,12 +72,14 @@ mod registering;
 mod registration;
 mod replies;
 mod routes;
+mod sent_frames;
 mod showing;
 mod station;
 mod taking;
 mod ticks;
 mod unproto;
 
+pub use asker::Asker;
 pub use config::{Config, LinkParams};
 pub use connection::{Connection, Reader};
 pub use host_event::{HostEvent, PortKind};

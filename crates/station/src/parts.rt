@@ -6,6 +6,7 @@ ghost use Rattle.channel_access.specs.Channel.{Channel, with_frame};
 ghost use Rattle.channel_access.specs.StandsFor.{StandsFor as StandsForChannel};
 ghost use Rattle.station.specs.State.{channel_with};
 
+use crate::asker::Asker;
 use crate::config::{Config, LinkParams};
 use crate::connection::Connection;
 use crate::host_out::HostOut;
@@ -37,6 +38,8 @@ pub struct Parts {
     pub links: LinkTable,
     /// The transmit queue and the channel.
     pub channel: Access,
+    /// For each frame that waits to be sent, the host that is told when it has been sent, if one is.
+    pub askers: Vec<Option<Asker>>,
     /// How many frames found the queue full.
     pub dropped: u64,
     /// How many ticks were made. The count stays at the greatest number of 64 bits.
@@ -47,7 +50,7 @@ pub struct Parts {
 
 impl Parts {
     ghost use Rattle.station.specs.State.{StationState, new_station};
-    ghost use Rattle.station.specs.Turn.{Turn, queueing};
+    ghost use Rattle.station.specs.Turn.{Turn, queueing, queueing_for};
     ghost use Rattle.station.specs.Held.{ids_in};
     ghost use Rattle.station.specs.StandsFor.{AreParts, Shows};
 
@@ -70,6 +73,7 @@ impl Parts {
             registrations: Vec::new(alloc),
             links: LinkTable::new(alloc)?,
             channel: channel_with(alloc, config.channel, seed)?,
+            askers: Vec::new(alloc),
             dropped: 0,
             ticks: 0,
             asked: 0,
@@ -91,10 +95,30 @@ impl Parts {
         ensures closed { OnOk result (out.new.closed ≡ out.old.closed) }
         ensures wanted { OnErr result (memory.new.refused ≡ true) }
     {
+        self.queue_for(memory, out, None, link, octets)
+    }
+
+    /// The same for a frame whose sending a host is told, if one is named.
+    pub(crate) fn queue_for(
+        &mut self,
+        memory: &mut Memory,
+        out: &mut HostOut,
+        asker: Option<Asker>,
+        link: Option<u32>,
+        octets: Octets,
+    ) -> Result<(), OutOfMemory>
+        requires { HasFrameLength octets }
+        ensures shows { (turn : Turn) → Shows self.old out.old turn
+            → OnOk result (Shows self.new out.new (queueing_for asker link octets turn)) }
+        ensures ids { OnOk result (ids_in self.new ≡ ids_in self.old) }
+        ensures closed { OnOk result (out.new.closed ≡ out.old.closed) }
+        ensures wanted { OnErr result (memory.new.refused ≡ true) }
+    {
         if self.channel.len() >= CAPACITY {
             self.dropped = self.dropped.saturating_add(1);
             return Ok(());
         }
+        memory.push(&mut self.askers, asker)?;
         out.tell_queued(memory, link, &octets)?;
         enter(&mut self.channel, link, octets);
         Ok(())

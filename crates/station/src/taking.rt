@@ -35,7 +35,7 @@ impl Parts {
         };
         match self.read_at(memory, id, place, octets)? {
             Said::Items(items, web) => {
-                self.heed_all(memory, out, &items)?;
+                self.heed_all(memory, out, id, &items)?;
                 self.end(memory, out, id, web)
             }
             Said::Messages(messages, failed) => {

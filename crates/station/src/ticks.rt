@@ -17,7 +17,8 @@ use tnc_base::OutOfMemory;
 
 impl Parts {
     /// A tick of each link, and then of the channel. Before the channel's, a link is asked for a frame if the channel
-    /// takes one. Hosts that monitor are shown the frame whose sending has ended.
+    /// takes one. Hosts that monitor are shown the frame whose sending has ended, and the host that asked is told of
+    /// it.
     pub(crate) fn tick(
         &mut self,
         memory: &mut Memory,
@@ -35,6 +36,7 @@ impl Parts {
         let wants = self.links.some_wants();
         let air = self.channel.tick(busy, wants);
         self.monitor_sent(memory, out, &air.sent)?;
+        self.tell_sent(memory, out, &air.sent)?;
         self.ticks = one_more(self.ticks);
         Ok(air)
     }

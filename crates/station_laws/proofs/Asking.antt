@@ -73,7 +73,7 @@ asks_kept chosen = record {
   };
   changes = λ now t h. tt;
   closes = λ id t. tt;
-  queues = λ octets t. tt;
+  queues = λ asker octets t. tt;
   disowns = λ key link t at. tt;
 }
 

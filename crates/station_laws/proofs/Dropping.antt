@@ -7,7 +7,8 @@ use Rattle.station_laws.proofs.Common.{called_pid, shown_to_hosts, without_owner
 use Rattle.station_laws.proofs.Common.{queueing_frame, queueing_frames, link_event, event_of, event_at, with_links}
 use Rattle.station_laws.proofs.Common.{Link, link_at, with_link, making, no_layer_3, path_along, ticking, with_asked}
 use Rattle.station_laws.proofs.Common.{Turn}
-use Rattle.station_laws.proofs.Common.{changing, closing, queueing, entering, dropping, capacity, Input, IsTurn, Step}
+use Rattle.station_laws.proofs.Common.{changing, closing, queueing, queueing_for, entering, entering_for, dropping, capacity}
+use Rattle.station_laws.proofs.Common.{Asker, Input, IsTurn, Step}
 use Rattle.station_laws.proofs.Common.{FromHost, OffAir, OfClock, LinkStep, Choice, link_step, steps_for, steps_at}
 use Rattle.station_laws.proofs.Common.{turn_steps, steps_of, DropsNoAsk, StationState, heard_steps}
 use Rattle.std.specs.List.{AllByRecursion as Each}
@@ -145,11 +146,12 @@ made_joins chosen path key host pid local remote event turn nothing_lost =
     record { before = done.before; joined = done.joined }
 
 -- a frame of no link
-queueing_joins : (link : Option ℕ) (octets : List ℕ) (turn : Turn) → Joins turn [] (queueing link octets turn)
-queueing_joins link octets turn = go (nat_lt (length turn.now.channel.waiting) capacity)
+queueing_joins : (asker : Option Asker) (octets : List ℕ) (turn : Turn)
+    → Joins turn [] (queueing_for asker None octets turn)
+queueing_joins asker octets turn = go (nat_lt (length turn.now.channel.waiting) capacity)
   where
-    go : (b : Bool) → Joins turn [] (cond b (entering link octets turn) (dropping turn))
-    go true = same_joins turn (entering link octets turn) refl
+    go : (b : Bool) → Joins turn [] (cond b (entering_for asker None octets turn) (dropping turn))
+    go true = same_joins turn (entering_for asker None octets turn) refl
     go false = λ nothing_lost. absurd (never_zero turn.now.dropped nothing_lost)
 
 -- ---- what comes from host programs
@@ -170,7 +172,7 @@ joins_kept chosen = record {
   };
   changes = λ now turn h. same_joins turn (record turn { now = now }) h.dropped;
   closes = λ host turn. same_joins turn (closing host turn) refl;
-  queues = queueing_joins None;
+  queues = queueing_joins;
   disowns = λ key link turn at. same_joins turn
       (changing (with_links (with_link key (without_owner link))) turn) refl;
 }

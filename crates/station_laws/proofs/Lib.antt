@@ -29,7 +29,10 @@ mod ExampleOrder
 mod MatchedExample
 mod ThirdStation
 pub mod OwnerLemmas
+pub mod HostsStand
 mod Pieces
+mod Beside
+mod Answering
 mod Asking
 mod Dropping
 pub mod RoomForAsks

@@ -6,7 +6,7 @@ use Rattle.station_laws.proofs.Common.{Info, Super, Setup, Ui, AgwMessage, repea
 use Rattle.station_laws.proofs.Common.{replying, called_pid, Connection, with_shown, shown_to_hosts, showing_to}
 use Rattle.station_laws.proofs.Common.{source_field, destination_field, event_of, event_at, Link, link_at, making}
 use Rattle.station_laws.proofs.Common.{asked_links, changing, no_layer_3, path_along, with_asked, Out, Turn, in_order}
-use Rattle.station_laws.proofs.Common.{queueing, Input}
+use Rattle.station_laws.proofs.Common.{queueing_for, Asker, Input}
 use Rattle.station_laws.proofs.Common.{IsTurn, FromHost, OffAir, OfClock, LinkStep, steps_for, steps_at, tick_steps}
 use Rattle.station_laws.proofs.Common.{heard_steps, turn_steps, pieces_to, Choice}
 use Rattle.std.specs.Prelude.{filter, flat_map}
@@ -19,14 +19,18 @@ use Rattle.link_machine.specs.Event.{Event as LinkEvent}
 use Rattle.link_machine.specs.Event.Event.{Connect as LinkConnect, Hear as LinkHear}
 use Rattle.link_machine.specs.Step.{step as link_turn}
 use Rattle.station.specs.declared.host_out.Piece.{Piece}
+use Rattle.channel_access.specs.declared.air_tick.Sent.{Sent}
 use Rattle.station.specs.AgwKinds.{connect_kind}
+use Rattle.station.specs.Askers.{answer_of, sent_pieces, speaks_kiss, told_sent}
 use Rattle.station.specs.Heard.{kiss_data, showing}
 use Rattle.station.specs.HostMessages.{raw_message}
 use Rattle.station.specs.Monitoring.{monitor_message, monitor_pieces, monitoring, piece_for, to_monitors}
+use Rattle.station.specs.Ticks.{air_in}
 use Rattle.station.specs.Turn.{begin}
 use Rattle.station_laws.specs.ProgramsTold.{kind_of, is_of_link, of_links, told_by, ProgramsAreTold}
-use Rattle.station_laws.proofs.OwnerLemmas.{owners_are_told, queued_pieces}
+use Rattle.station_laws.proofs.OwnerLemmas.{owners_are_told, queued_pieces_for}
 use Rattle.station_laws.proofs.Causes.{NotHeard}
+use Rattle.station_laws.proofs.HostsStand.{asked_hosts, no_kiss, told_is_other}
 use Rattle.station_laws.proofs.HeardAs.{Heard, heard_as}
 use Rattle.station_laws.proofs.HeardAs.Heard.{passes, repeats, hears, hears_new}
 use Rattle.station_laws.proofs.StationActs.{IsNoLinks, KeptByAll, any_may_come, host_kept, ticks_kept}
@@ -117,10 +121,11 @@ reply_told id host message turn other =
     (and_right (host == id) (is_data (spelling message))
     (ap (λ k. (k == connect_kind) || (k == data_kind)) (reply_kind message) ∙ other)))
 
-queueing_tells : (id : ℕ) (link : Option ℕ) (octets : List ℕ) (turn : Turn)
-    → Tells id turn [] (queueing link octets turn)
-queueing_tells id link octets turn =
-    nothing_told id turn (queueing link octets turn) (ap (of_links id) (queued_pieces link octets turn))
+queueing_tells : (id : ℕ) (asker : Option Asker) (octets : List ℕ) (turn : Turn)
+    → Tells id turn [] (queueing_for asker None octets turn)
+queueing_tells id asker octets turn =
+    nothing_told id turn (queueing_for asker None octets turn)
+    (ap (of_links id) (queued_pieces_for asker None octets turn))
 
 -- ---- what comes from host programs
 
@@ -140,7 +145,7 @@ tells_kept id = record {
   };
   changes = λ now t h. same_told id t;
   closes = λ host t. same_told id t;
-  queues = queueing_tells id None;
+  queues = queueing_tells id;
   disowns = λ key link t at. same_told id t;
 }
 
@@ -217,6 +222,26 @@ monitors_told id sent ticks frame turn =
     (monitor_pieces_told id sent ticks frame turn.now.connections)
     ∙ append-nil (of_links id turn.out.pieces)
 
+-- what a connection is told of frames is no C or D to one that speaks AGWPE
+asker_told : (id : ℕ) (asker : Asker) (connections : List Connection) (speaks : Bool)
+    → (speaks ≡ true → (asker.id == id) ≡ false)
+    → of_links id (cond speaks (answer_of asker ∷ []) []) ≡ []
+asker_told id asker connections true other =
+    ap (λ b. cond b (answer_of asker ∷ []) [])
+    (and_left (asker.id == id) (is_data (told_sent asker.mark)) (other refl))
+asker_told id asker connections false other = refl
+
+answers_told :
+    (id : ℕ) (sent : Option Sent) (askers : List (Option Asker)) (connections : List Connection)
+    → Each (λ (c : Connection). c.id ≡ id → c.kind ≡ Agw) connections
+    → of_links id (sent_pieces sent askers connections) ≡ []
+answers_told id None askers connections agw = refl
+answers_told id (Some sent) [] connections agw = refl
+answers_told id (Some sent) (None ∷ others) connections agw = refl
+answers_told id (Some sent) (Some asker ∷ others) connections agw =
+    asker_told id asker connections (speaks_kiss asker.id connections)
+    (told_is_other id asker.id connections (no_kiss id connections agw))
+
 -- the events that it is
 heard_tells :
     (id : ℕ) (octets : List ℕ) (turn : Turn) (steps : Choice → List LinkStep) (after : Turn)
@@ -249,8 +274,17 @@ turn_tells id (OffAir octets) before after turn agw =
     (monitors_told id false before.now.ticks turn.monitored (showing from to octets before)
     ∙ shown_to id from to octets before.now.connections before agw))
 turn_tells id (OfClock busy) before after turn agw =
+    let asked = asked_links busy before in
+    let shown = monitoring true asked.now.ticks turn.monitored asked in
+    let sent : Option Sent = (air_in busy before).sent in
+    let answers = sent_pieces sent asked.now.askers asked.now.connections in
     subst (Tells id before (tick_steps is_some busy before)) (sym turn.effect)
-    (monitors_told id true (asked_links busy before).now.ticks turn.monitored (asked_links busy before)
+    (links_append id shown.out.pieces answers
+    ∙ ap (λ ps. of_links id shown.out.pieces ++ ps)
+    (answers_told id sent asked.now.askers asked.now.connections
+    (subst (Each (λ (c : Connection). c.id ≡ id → c.kind ≡ Agw)) (sym (asked_hosts busy before)) agw))
+    ∙ append-nil (of_links id shown.out.pieces)
+    ∙ monitors_told id true asked.now.ticks turn.monitored asked
     ∙ ticks_kept is_some NotHeard (Tells id) (tells_kept id).kept.by_events tt busy before)
 
 pub programs_are_told_holds : ProgramsAreTold

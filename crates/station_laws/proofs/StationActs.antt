@@ -22,7 +22,8 @@ use Rattle.station_laws.proofs.Common.{with_links, Link, IsNewKey, link_at, most
 use Rattle.station_laws.proofs.Common.{registrar, may_register, Route, route_in, repeaters_in, behind_repeaters}
 use Rattle.station_laws.proofs.Common.{path_along, StationState, asked_key, asked_links, asking, asking_at, seizing}
 use Rattle.station_laws.proofs.Common.{ticking_at, ticking_links, t1_stands, with_asked, Turn, Act}
-use Rattle.station_laws.proofs.Common.{in_order}
+use Rattle.station_laws.proofs.Common.{in_order, length-map, Asker, queueing_for}
+use Rattle.station.specs.Askers.{without_asker}
 use Rattle.station_laws.proofs.Common.{changing, closing, queueing, LinkStep, Choice, asked_at, asking_steps, steps_at}
 use Rattle.station_laws.proofs.Common.{steps_along, ticks_at}
 use Rattle.station_laws.proofs.Common.{tick_steps, given_up, gives_up_at, leaving_steps, made_steps, call_steps}
@@ -30,10 +31,11 @@ use Rattle.station_laws.proofs.Common.{sends_at, data_steps, disconnect_steps, e
 use Rattle.station_laws.proofs.Common.{ending_steps, octet_steps_by, octet_steps, host_steps}
 use Rattle.std.specs.List.{AllByRecursion as Each}
 use Rattle.kiss_port.specs.WebRequests.{is_web_request}
-use Rattle.kiss_port.specs.declared.item.KissItem.TheVariants.{Frame as KissFrame, Other}
+use Rattle.kiss_port.specs.declared.item.KissItem.TheVariants.{Frame as KissFrame, AckFrame, Other}
 use Rattle.link_world.proofs.law.Each.{each_of_all}
 use Rattle.station.specs.AgwKinds.{connect_kind}
 use Rattle.station.specs.AgwRequests.{disconnecting as disconnecting_act}
+use Rattle.station.specs.Kiss.{queueing_asked}
 use Rattle.station_laws.proofs.Causes.{Cause, cause_of, NotHeard}
 use Rattle.station_laws.proofs.Causes.Cause.{connecting, sending, disconnecting, ticking}
 
@@ -111,6 +113,8 @@ pub record KeepsLinks (s now : StationState) : Type 0 where
   pub links : now.links ≡ s.links
   pub parameters : now.parameters ≡ s.parameters
   pub dropped : now.dropped ≡ s.dropped
+  pub waiting : now.channel.waiting ≡ s.channel.waiting
+  pub askers : length now.askers ≡ length s.askers
 
 -- what is also kept by all else that a host program makes a station do
 pub record KeptByAll (chosen : Choice) (P : Cause → Type 0) (R : Turn → List LinkStep → Turn → Type 0) : Type 0 where
@@ -118,7 +122,7 @@ pub record KeptByAll (chosen : Choice) (P : Cause → Type 0) (R : Turn → List
   pub changes : (now : StationState) (t : Turn) → KeepsLinks t.now now → R t [] (record t { now = now })
   pub closes : (id : ℕ) (t : Turn) → R t [] (closing id t)
   -- a frame of no link
-  pub queues : (octets : List ℕ) (t : Turn) → R t [] (queueing None octets t)
+  pub queues : (asker : Option Asker) (octets : List ℕ) (t : Turn) → R t [] (queueing_for asker None octets t)
   -- a link whose connection has left
   pub disowns : (key : ℕ) (link : Link) (t : Turn) → link_at key t.now.links ≡ Some link
       → R t [] (changing (with_links (with_link key (without_owner link))) t)
@@ -253,7 +257,13 @@ module _ (chosen : Choice) (P : Cause → Type 0) (R : Turn → List LinkStep �
     leaving_kept by id t =
         let left = changing (without_host id) t in
         after_act t left (leaving id t) (leaving_steps chosen id t)
-        (a.changes (without_host id t.now) t (record { links = refl; parameters = refl; dropped = refl }))
+        (a.changes (without_host id t.now) t (record {
+          links = refl;
+          parameters = refl;
+          dropped = refl;
+          waiting = refl;
+          askers = length-map t.now.askers (without_asker id);
+        }))
         (along chosen P R a.kept.by_events (giving_up id) (gives_up_at chosen id) (gives_up_kept by id)
         (range_with_len 0 most_links) left)
 
@@ -263,7 +273,18 @@ module _ (chosen : Choice) (P : Cause → Type 0) (R : Turn → List LinkStep �
     raw_kept octets t = go (has_frame_length octets)
       where
         go : (b : Bool) → R t [] ((if b then queueing None octets else (λ u. u)) t)
-        go true = a.queues octets t
+        go true = a.queues None octets t
+        go false = a.kept.by_events.same t
+
+    -- a frame whose sending a host is told
+    asked_kept : (id : ℕ) (mark octets : List ℕ) (t : Turn) → R t [] (queueing_asked id mark octets t)
+    asked_kept id mark octets t = go (has_frame_length octets)
+      where
+        asker : Option Asker
+        asker = Some (record { id = id; mark = mark })
+
+        go : (b : Bool) → R t [] ((if b then queueing_for asker None octets else (λ u. u)) t)
+        go true = a.queues asker octets t
         go false = a.kept.by_events.same t
 
     unnumbered_kept : (pid : ℕ) (information : List ℕ) (route : Option Route) (t : Turn)
@@ -275,13 +296,14 @@ module _ (chosen : Choice) (P : Cause → Type 0) (R : Turn → List LinkStep �
         frame = frame_octets Eight (unnumbered_frame route pid information)
 
         go : (b : Bool) → R t [] ((if b then queueing None frame else (λ u. u)) t)
-        go true = a.queues frame t
+        go true = a.queues None frame t
         go false = a.kept.by_events.same t
 
     unregistering_kept : (id : ℕ) (call : Option Callsign) (t : Turn) → R t [] (unregistering id call t)
     unregistering_kept id None t = a.kept.by_events.same t
     unregistering_kept id (Some call) t =
-        a.changes (unregistering id (Some call) t).now t (record { links = refl; parameters = refl; dropped = refl })
+        a.changes (unregistering id (Some call) t).now t
+        (record { links = refl; parameters = refl; dropped = refl; waiting = refl; askers = refl })
 
     else_kept : (id : ℕ) (message : AgwMessage) (t : Turn) → MayAsk P message
         → R t (else_steps chosen id message t) (answering_else id message t)
@@ -304,9 +326,11 @@ module _ (chosen : Choice) (P : Cause → Type 0) (R : Turn → List LinkStep �
         by_kind Q n unregister_kind _ _ (chosen_as unregister_kind _
         (unregistering_kept id (call_in message.from) t)) (λ n4.
         by_kind Q n toggle_kind _ _ (chosen_as toggle_kind _
-        (a.changes (toggled id t.now) t (record { links = refl; parameters = refl; dropped = refl }))) (λ n5.
+        (a.changes (toggled id t.now) t
+        (record { links = refl; parameters = refl; dropped = refl; waiting = refl; askers = refl }))) (λ n5.
         by_kind Q n monitor_kind _ _ (chosen_as monitor_kind _
-        (a.changes (monitor_toggled id t.now) t (record { links = refl; parameters = refl; dropped = refl }))) (λ n6.
+        (a.changes (monitor_toggled id t.now) t
+        (record { links = refl; parameters = refl; dropped = refl; waiting = refl; askers = refl }))) (λ n6.
         by_kind Q n raw_kind _ _ (chosen_as raw_kind _ (raw_kept (drop 1 message.body) t)) (λ n7.
         by_kind Q n unproto_kind _ _ (chosen_as unproto_kind _
         (unnumbered_kept message.pid message.body (route_in message.from message.to (Some [])) t)) (λ n8.
@@ -359,28 +383,31 @@ module _ (chosen : Choice) (P : Cause → Type 0) (R : Turn → List LinkStep �
         go true = h
         go false = a.kept.by_events.same t
 
-    heeding_kept : (item : KissItem) (t : Turn) → R t [] (heeding item t)
-    heeding_kept (KissFrame port octets) t = on_port_kept port (queueing_raw octets) t (raw_kept octets t)
-    heeding_kept (Set port command value) t =
+    heeding_kept : (id : ℕ) (item : KissItem) (t : Turn) → R t [] (heeding id item t)
+    heeding_kept id (KissFrame port octets) t = on_port_kept port (queueing_raw octets) t (raw_kept octets t)
+    heeding_kept id (AckFrame port mark octets) t =
+        on_port_kept port (queueing_asked id mark octets) t (asked_kept id mark octets t)
+    heeding_kept id (Set port command value) t =
         on_port_kept port (changing (with_param (param_of command value))) t
         (a.changes (with_param (param_of command value) t.now) t
-        (record { links = refl; parameters = refl; dropped = refl }))
-    heeding_kept (Hardware port octets) t = a.kept.by_events.same t
-    heeding_kept Return t = a.kept.by_events.same t
-    heeding_kept (TooLong port) t = a.kept.by_events.same t
-    heeding_kept (Other port command) t = a.kept.by_events.same t
+        (record { links = refl; parameters = refl; dropped = refl; waiting = refl; askers = refl }))
+    heeding_kept id (Hardware port octets) t = a.kept.by_events.same t
+    heeding_kept id Return t = a.kept.by_events.same t
+    heeding_kept id (TooLong port) t = a.kept.by_events.same t
+    heeding_kept id (Other port command) t = a.kept.by_events.same t
 
-    heeding_all_kept : (items : List KissItem) (t : Turn) → R t [] (heeding_all items t)
-    heeding_all_kept [] t = a.kept.by_events.same t
-    heeding_all_kept (item ∷ items) t =
-        after_act t (heeding item t) (heeding_all items (heeding item t)) [] (heeding_kept item t)
-        (heeding_all_kept items (heeding item t))
+    heeding_all_kept : (id : ℕ) (items : List KissItem) (t : Turn) → R t [] (heeding_all id items t)
+    heeding_all_kept id [] t = a.kept.by_events.same t
+    heeding_all_kept id (item ∷ items) t =
+        after_act t (heeding id item t) (heeding_all id items (heeding id item t)) [] (heeding_kept id item t)
+        (heeding_all_kept id items (heeding id item t))
 
     -- ---- what comes from a host program
 
     taking_kept : (id : ℕ) (octets : List ℕ) (t : Turn) → R t [] (taking id octets t)
     taking_kept id octets t =
-        a.changes (taking id octets t).now t (record { links = refl; parameters = refl; dropped = refl })
+        a.changes (taking id octets t).now t
+        (record { links = refl; parameters = refl; dropped = refl; waiting = refl; askers = refl })
 
     octets_kept_by :
         (kind : PortKind) (connection : Connection) (octets : List ℕ) (t u : Turn) → MayBring P kind connection octets
@@ -388,12 +415,12 @@ module _ (chosen : Choice) (P : Cause → Type 0) (R : Turn → List LinkStep �
     octets_kept_by Kiss connection octets t u may h =
         let took = taking connection.id octets t in
         let items = new_items connection.stream octets in
-        let heeded = heeding_all items took in
+        let heeded = heeding_all connection.id items took in
         let web = is_web_request (connection.stream ++ octets) in
         let left = ending_steps chosen connection.id web heeded in
         subst (R t left) (sym h) (after_act t took (ending connection.id web heeded) left
         (taking_kept connection.id octets t)
-        (after_act took heeded (ending connection.id web heeded) left (heeding_all_kept items took)
+        (after_act took heeded (ending connection.id web heeded) left (heeding_all_kept connection.id items took)
         (ending_kept connection.id web heeded may)))
     octets_kept_by Agw connection octets t u may h =
         let took = taking connection.id octets t in
@@ -418,7 +445,8 @@ module _ (chosen : Choice) (P : Cause → Type 0) (R : Turn → List LinkStep �
       where
         go : (b : Bool) → R t [] (cond b (changing (with_host id kind) t) (closing id t))
         go true =
-            a.changes (with_host id kind t.now) t (record { links = refl; parameters = refl; dropped = refl })
+            a.changes (with_host id kind t.now) t
+            (record { links = refl; parameters = refl; dropped = refl; waiting = refl; askers = refl })
         go false = a.closes id t
 
     pub host_kept :

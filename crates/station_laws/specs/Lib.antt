@@ -12,6 +12,7 @@ pub mod LinkOfCalls
 pub mod StationsLaw
 pub mod Owners
 pub mod ProgramsTold
+pub mod FramesTold
 pub mod LinksTell
 pub mod RunsTell
 pub mod OneSpelling

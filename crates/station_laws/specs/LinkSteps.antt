@@ -180,7 +180,7 @@ abbrev pub octet_steps_by :
     → AreTakenBy kind connection octets before after → List LinkStep
 octet_steps_by chosen Kiss connection octets before after h =
     ending_steps chosen connection.id (is_web_request (connection.stream ++ octets))
-    (heeding_all (new_items connection.stream octets) (taking connection.id octets before))
+    (heeding_all connection.id (new_items connection.stream octets) (taking connection.id octets before))
 octet_steps_by chosen Agw connection octets before after h =
     message_steps chosen connection.id (new_messages connection.stream octets) (taking connection.id octets before)
     h.0 h.1

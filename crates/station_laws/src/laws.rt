@@ -1,6 +1,7 @@
 //! The laws. Each is the contract of a function that does nothing.
 ghost use Rattle.station_laws.specs.StationsLaw.{FollowingLaw, StationsLaw};
 ghost use Rattle.station_laws.specs.CallerLaw.{CallerLaw};
+ghost use Rattle.station_laws.specs.FramesTold.{AnswersAreOfSent, AskersStandBeside};
 ghost use Rattle.station_laws.specs.HostsAsk.{HostsAskNothing};
 ghost use Rattle.station_laws.specs.LinksTell.{LinksTellInOne};
 ghost use Rattle.station_laws.specs.MatchedLaw.{MatchedInOrder, MatchedLaw};
@@ -81,6 +82,19 @@ pub fn caller_law()
 /// same order; no message of another act is one.
 pub fn programs_are_told()
     ensures { ProgramsAreTold }
+{}
+
+/// A connection of KISS that asks to be told when its frames have been sent is told of exactly those that were: in a
+/// step it is sent an answer if and only if the step names a frame as sent beside which it stands as the one to be told,
+/// and the answer has the two octets by which it knows that frame. No other act sends one.
+pub fn answers_are_of_sent()
+    ensures { AnswersAreOfSent }
+{}
+
+/// In each state of a run one stands beside each frame that waits to be sent, or nobody does. A step names the front
+/// frame alone, so with [`answers_are_of_sent`] the answers come in the order of sending.
+pub fn askers_stand_beside()
+    ensures { AskersStandBeside }
 {}
 
 /// What a link tells its owner. A set-up runs from when it is told to be open until it is told to have ended. The

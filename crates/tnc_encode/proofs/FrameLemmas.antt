@@ -7,7 +7,8 @@ use Rattle.std.proofs.Common.{nat_le, ◌&&◌}
 use Rattle.std.specs.List.{cons_option}
 use Rattle.std.proofs.lemmas.Bool.{and_parts, leb-true}
 use Rattle.std.proofs.lemmas.List.Elements.{All-cons, All-nil}
-use Rattle.kiss_port.specs.declared.item.KissItem.TheVariants.{Frame, Set, Hardware, Return, TooLong, Other}
+use Rattle.kiss_port.specs.declared.item.KissItem.TheVariants.{Frame, AckFrame, Set, Hardware, Return, TooLong}
+use Rattle.kiss_port.specs.declared.item.KissItem.TheVariants.{Other}
 use Rattle.hdlc_framer.specs.FrameLength.{IsBadLength}
 use Rattle.tnc_forms.proofs.HexFrameLemmas.{frames_in_lines-good}
 
@@ -28,6 +29,7 @@ item_sendable (Frame port octets) = go ((port == 0) && (nat_le 15 (length octets
         let sizes = and_parts (nat_le 15 (length octets)) (nat_le (length octets) 1024) outer.1 in
         sendable octets (leb-true _ _ sizes.0) (leb-true _ _ sizes.1)
     go false is = tt
+item_sendable (AckFrame port mark octets) = tt
 item_sendable (Set port command value) = tt
 item_sendable (Hardware port octets) = tt
 item_sendable Return = tt

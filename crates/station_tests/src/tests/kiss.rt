@@ -13,6 +13,7 @@ type Plain<'a> = (&'static str, u8, u8, &'a [u8]);
 fn plain(item: &KissItem) -> Plain<'_> {
     match item {
         KissItem::Frame { port, octets } => ("frame", *port, 0, octets.as_slice()),
+        KissItem::AckFrame { port, octets, .. } => ("ack", *port, 12, octets.as_slice()),
         KissItem::Set {
             port,
             command,
@@ -73,6 +74,10 @@ const PIECES: &[(&[u8], Plain<'static>)] = &[
     (b"\xc0\x16\x01\x02\xc0", ("hardware", 1, 6, b"\x01\x02")),
     (b"\xc0\x06\xc0", ("hardware", 0, 6, b"")),
     (b"\xc0\x07\x01\xc0", ("other", 0, 7, b"")),
+    (b"\xc0\x0c\x12\x34\x05\x06\xc0", ("ack", 0, 12, b"\x05\x06")),
+    (b"\xc0\x3c\xdb\xdc\xdb\xdd\xc0", ("ack", 3, 12, b"")),
+    (b"\xc0\x0c\x12\xc0", ("other", 0, 12, b"")),
+    (b"\xc0\x0c\xc0", ("other", 0, 12, b"")),
     (b"\xc0\xfe\x01\xc0", ("other", 15, 14, b"")),
     (b"\xc0\x0f\x01\xc0", ("other", 0, 15, b"")),
     (b"\xc0\xff\xc0", ("return", 0, 0, b"")),
@@ -122,6 +127,27 @@ fn a_stream_goes_on_after_an_item(rt: HostRuntime) -> Result<(), Fail> {
     Ok(())
 }
 
+/// The two octets of each frame that asks to be told of.
+#[test]
+fn a_frame_that_asks_has_two_octets(rt: HostRuntime) -> Result<(), Fail> {
+    let items = items_of(
+        rt.alloc(),
+        b"\xc0\x0c\x12\x34\x05\xc0\x0c\xdb\xdc\xdb\xdd\xc0",
+    )?;
+    let mut marks = Vec::new(rt.alloc());
+    for (_, item) in &items {
+        if let KissItem::AckFrame { mark, .. } = item {
+            marks.push(*mark)?;
+        }
+    }
+    assert_equal(
+        &rt,
+        &marks.as_slice(),
+        &[[0x12, 0x34], [0xc0, 0xdb]].as_slice(),
+    );
+    Ok(())
+}
+
 /// The most octets of a piece.
 const MOST: &[u8] = &[0x41; 1024];
 
@@ -162,6 +188,7 @@ fn more_than_1024_octets_are_too_long(rt: HostRuntime) -> Result<(), Fail> {
 /// Each row: a port, a command, octets, and the stream that they are written as.
 const WRITTEN: &[(u8, u8, &[u8], &[u8])] = &[
     (0, 0, b"\xc0\xdb", b"\xc0\x00\xdb\xdc\xdb\xdd\xc0"),
+    (0, 12, b"\xc0\xdb", b"\xc0\x0c\xdb\xdc\xdb\xdd\xc0"),
     (0, 0, b"", b"\xc0\x00\xc0"),
     (12, 0, b"\xdc", b"\xc0\xdb\xdc\xdc\xc0"),
     (13, 11, b"\x01\xdd", b"\xc0\xdb\xdd\x01\xdd\xc0"),

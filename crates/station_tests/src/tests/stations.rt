@@ -17,6 +17,7 @@ mod desk;
 mod monitoring;
 mod random_octets;
 mod requests;
+mod sent_frames;
 
 #[test]
 fn takes_a_window_that_fits(rt: HostRuntime) -> Result<(), Fail> {

@@ -41,6 +41,7 @@ returns-clause-shows c = λ turn shows.
         registrations = h.registrations;
         links = h.links;
         channel = h.channel;
+        askers = h.askers;
         dropped = h.dropped;
         ticks = h.ticks;
         asked = refl;

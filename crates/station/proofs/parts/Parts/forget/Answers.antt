@@ -8,8 +8,9 @@ returns-clause-shows c = λ out turn shows.
     shows_forgotten c.args.self.now (record c.args.self.now {
       connections = c.remove_connection.new.connections;
       registrations = c.remove_registrations.new.registrations;
+      askers = c.remove_askers.new.askers;
     }) out turn c.args.id shows
-    c.remove_connection.ensures c.remove_registrations.ensures refl refl refl refl refl refl refl refl
+    c.remove_connection.ensures c.remove_registrations.ensures c.remove_askers.ensures refl refl refl refl refl refl refl refl
 
 pub returns-clause-ids : goal.returns-clause-ids
 returns-clause-ids c =

@@ -7,10 +7,11 @@ loop-item-preserved c = record {
   shows = λ turn shows.
       let items = c.args.items.now in
       let i = c.loop-item.item-index in
-      let before : Turn = heeding_all (take i items) turn in
-      let more : heeding_all (take (i + 1) items) turn ≡ heeding c.item-item.result before =
-      in_order-more heeding items i c.item-item.result turn c.loop-item-test.true
-      ∙ ap (λ (item : KissItem). heeding item before) (sym c.item-item.is) in
+      let id = c.args.id in
+      let before : Turn = heeding_all id (take i items) turn in
+      let more : heeding_all id (take (i + 1) items) turn ≡ heeding id c.item-item.result before =
+      in_order-more (heeding id) items i c.item-item.result turn c.loop-item-test.true
+      ∙ ap (λ (item : KissItem). heeding id item before) (sym c.item-item.is) in
       subst (λ (behind : Turn). Shows c.heed.new.self c.heed.new.out behind) (sym more)
       (c.in_ok-heed.ensures.shows before (c.loop-item.invariant.shows turn shows));
   ids = c.in_ok-heed.ensures.ids ∙ c.loop-item.invariant.ids;

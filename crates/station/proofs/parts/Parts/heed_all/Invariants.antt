@@ -5,7 +5,7 @@ use Rattle.station.proofs.parts.Parts.heed_all.Given as goal
 abbrev pub invariant-loop-item : goal.invariant-loop-item
 invariant-loop-item l = record {
   shows : (turn : Turn) → Shows l.fn.self l.fn.out turn
-      → Shows l.self l.out (heeding_all (take l.item-index l.items) turn);
+      → Shows l.self l.out (heeding_all l.id (take l.item-index l.items) turn);
   ids : ids_in l.self ≡ ids_in l.fn.self;
   closed : l.out.closed ≡ l.fn.out.closed;
 }

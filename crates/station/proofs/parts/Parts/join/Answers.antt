@@ -52,6 +52,7 @@ returns-clause-shows c = λ turn shows.
         registrations = shows.holds.registrations;
         links = shows.holds.links;
         channel = shows.holds.channel;
+        askers = shows.holds.askers;
         dropped = shows.holds.dropped;
         ticks = shows.holds.ticks;
         asked = shows.holds.asked;

@@ -26,7 +26,7 @@ returns-in_ok-heed_all-in-Items-clause-step c = λ turn shows.
     (c.in_ok-items.ensures.said c.args.out.now turn shows) in
     let said : AreSaidItems own octets items web = subst (λ (all : List KissItem). AreSaidItems own octets all web)
     (sym c.deref.ensures.value) told in
-    let heeded = heeding_all items (taking id octets turn) in
+    let heeded = heeding_all id items (taking id octets turn) in
     on_ok_weaker c.end.result (λ done. (
       ending id web heeded,
       taken_items id octets turn items web own (found_id id turn.now.connections) said,

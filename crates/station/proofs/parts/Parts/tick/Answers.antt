@@ -1,12 +1,12 @@
 use Rattle.station.proofs.Common.{◌≡◌, Bool, Option, ◌∙◌, ap, subst, Sent, Parts, Shows, IsSentFrame}
-use Rattle.station.proofs.Common.{Turn, changing}
+use Rattle.station.proofs.Common.{Turn, changing, monitoring, true}
 use Rattle.std.proofs.Common.{refl}
 use Rattle.channel_access.specs.Channel.{air_tick, after_tick}
 use Rattle.channel_access.specs.StandsFor.{StandsFor as StandsForChannel}
 use Rattle.channel_access.specs.declared.air_tick.AirTick.{AirTick}
 use Rattle.station.specs.Asking.{some_wants}
 use Rattle.station.specs.State.{one_more}
-use Rattle.station.specs.Ticks.{asked_links, air_in, ticking}
+use Rattle.station.specs.Ticks.{asked_links, air_in, telling_sent, ticking}
 use Rattle.station.proofs.parts.Parts.tick.Goals as goal
 
 pub returns-clause-step : goal.returns-clause-step
@@ -33,13 +33,19 @@ returns-clause-step c = λ turn shows.
         links = first.holds.links;
         channel = subst (λ b. StandsForChannel c.tick-air.new.self (after_tick busy b asked.now.channel)) told
             (c.tick-air.ensures.stands_for asked.now.channel first.holds.channel);
+        askers = first.holds.askers;
         dropped = first.holds.dropped;
         ticks = first.holds.ticks;
         asked = first.holds.asked;
       };
       gave = first.gave;
     } in
-    let p = c.in_ok-monitor_sent.ensures.shows aired second in (
+    let p = c.in_ok-monitor_sent.ensures.shows aired second in
+    let shown : Turn = monitoring true aired.now.ticks p.0 aired in
+    let answered : Shows c.tell_sent.new.self c.tell_sent.new.out (telling_sent (air_in busy turn).sent shown) =
+    subst (λ (named : Option Sent). Shows c.tell_sent.new.self c.tell_sent.new.out (telling_sent named shown)) sent
+    (c.in_ok-tell_sent.ensures.shows shown p.2) in
+    let all = answered.holds in (
       ticking busy p.0 turn,
       record {
         monitored = p.0;
@@ -48,19 +54,20 @@ returns-clause-step c = λ turn shows.
       },
       record {
         holds = record {
-          parameters = p.2.holds.parameters;
-          digi = p.2.holds.digi;
-          paclen = p.2.holds.paclen;
-          connections = p.2.holds.connections;
-          ids = p.2.holds.ids;
-          registrations = p.2.holds.registrations;
-          links = p.2.holds.links;
-          channel = p.2.holds.channel;
-          dropped = p.2.holds.dropped;
-          ticks = c.one_more-self.ensures ∙ ap one_more p.2.holds.ticks;
-          asked = p.2.holds.asked;
+          parameters = all.parameters;
+          digi = all.digi;
+          paclen = all.paclen;
+          connections = all.connections;
+          ids = all.ids;
+          registrations = all.registrations;
+          links = all.links;
+          channel = all.channel;
+          askers = all.askers;
+          dropped = all.dropped;
+          ticks = c.one_more-self.ensures ∙ ap one_more all.ticks;
+          asked = all.asked;
         };
-        gave = p.2.gave;
+        gave = answered.gave;
       },
     )
 
