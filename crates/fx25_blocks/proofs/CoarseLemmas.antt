@@ -84,14 +84,19 @@ low_bits-add (suc m) n a =
     ∙ ap (λ xs. eqb (a % 2) 1 ∷ xs)
     (low_bits-add m n (a / 2) ∙ ap (λ b. low_bits m (a / 2) ++ low_bits n b) (shr-shr a 1 m ∙ ap (λ k. a / 2 ^ k) later))
 
--- four bits are those of the remainder by 16
-four_of : (a : ℕ) → low_bits 4 (a % 16) ≡ low_bits 4 a
-four_of a =
-    let first : a % 16 % 2 ≡ a % 2 = omega arith in
-    let second : a % 16 / 2 % 2 ≡ a / 2 % 2 = omega arith in
-    let third : a % 16 / 2 / 2 % 2 ≡ a / 2 / 2 % 2 = omega arith in
-    let last : a % 16 / 2 / 2 / 2 % 2 ≡ a / 2 / 2 / 2 % 2 = omega arith in
-    (λ i. eqb (first i) 1 ∷ eqb (second i) 1 ∷ eqb (third i) 1 ∷ eqb (last i) 1 ∷ [])
+-- eight bits are those of the remainder by 256
+eight_of : (a : ℕ) → low_bits 8 (a % 256) ≡ low_bits 8 a
+eight_of a =
+    let first : a % 256 % 2 ≡ a % 2 = omega arith in
+    let second : a % 256 / 2 % 2 ≡ a / 2 % 2 = omega arith in
+    let third : a % 256 / 2 / 2 % 2 ≡ a / 2 / 2 % 2 = omega arith in
+    let fourth : a % 256 / 2 / 2 / 2 % 2 ≡ a / 2 / 2 / 2 % 2 = omega arith in
+    let fifth : a % 256 / 2 / 2 / 2 / 2 % 2 ≡ a / 2 / 2 / 2 / 2 % 2 = omega arith in
+    let sixth : a % 256 / 2 / 2 / 2 / 2 / 2 % 2 ≡ a / 2 / 2 / 2 / 2 / 2 % 2 = omega arith in
+    let seventh : a % 256 / 2 / 2 / 2 / 2 / 2 / 2 % 2 ≡ a / 2 / 2 / 2 / 2 / 2 / 2 % 2 = omega arith in
+    let last : a % 256 / 2 / 2 / 2 / 2 / 2 / 2 / 2 % 2 ≡ a / 2 / 2 / 2 / 2 / 2 / 2 / 2 % 2 = omega arith in
+    (λ i. eqb (first i) 1 ∷ eqb (second i) 1 ∷ eqb (third i) 1 ∷ eqb (fourth i) 1 ∷ eqb (fifth i) 1
+    ∷ eqb (sixth i) 1 ∷ eqb (seventh i) 1 ∷ eqb (last i) 1 ∷ [])
 
 -- the wrong bits among the first
 wrong_first : ℕ → ℕ → ℕ → ℕ
@@ -106,47 +111,47 @@ wrong_more register m n tag =
     ∙ differing-append (low_bits m register) (low_bits m (tag_value tag)) (low_bits n (register / 2 ^ m))
     (low_bits n (tag_value tag / 2 ^ m)) (length-low_bits m register ∙ sym (length-low_bits m (tag_value tag)))
 
-coarse_most : (piece register tag : ℕ) → coarse piece (register / 2 ^ (4 * piece) % 16) tag
-    ≤ differing (low_bits 4 (register / 2 ^ (4 * piece))) (low_bits 4 (tag_value tag / 2 ^ (4 * piece)))
+coarse_most : (piece register tag : ℕ) → coarse piece (register / 2 ^ (8 * piece) % 256) tag
+    ≤ differing (low_bits 8 (register / 2 ^ (8 * piece))) (low_bits 8 (tag_value tag / 2 ^ (8 * piece)))
 unfolding coarse
 coarse_most piece register tag =
-    let tag_four = low_bits 4 (tag_value tag / 2 ^ (4 * piece)) in
-    let same = ap (λ xs. differing xs tag_four) (four_of (register / 2 ^ (4 * piece))) in
+    let tag_eight = low_bits 8 (tag_value tag / 2 ^ (8 * piece)) in
+    let same = ap (λ xs. differing xs tag_eight) (eight_of (register / 2 ^ (8 * piece))) in
     omega (
       arith,
       same,
-      min-le_right 2 (differing (low_bits 4 (register / 2 ^ (4 * piece) % 16)) tag_four),
+      min-le_right 4 (differing (low_bits 8 (register / 2 ^ (8 * piece) % 256)) tag_eight),
     )
 
-pub coarse_small : (piece four tag : ℕ) → coarse piece four tag ≤ 2
+pub coarse_small : (piece eight tag : ℕ) → coarse piece eight tag ≤ 4
 unfolding coarse
-coarse_small piece four tag =
-    min-le_left 2 (differing (low_bits 4 four) (low_bits 4 (tag_value tag / 2 ^ (4 * piece))))
+coarse_small piece eight tag =
+    min-le_left 4 (differing (low_bits 8 eight) (low_bits 8 (tag_value tag / 2 ^ (8 * piece))))
 
-pub total_small : (register pieces tag : ℕ) → coarse_total register pieces tag ≤ 3 + 2 * pieces
+pub total_small : (register pieces tag : ℕ) → coarse_total register pieces tag ≤ 3 + 4 * pieces
 total_small register zero tag = omega arith
 total_small register (suc pieces) tag =
-    omega (arith, total_small register pieces tag, coarse_small pieces (register / 2 ^ (4 * pieces) % 16) tag)
+    omega (arith, total_small register pieces tag, coarse_small pieces (register / 2 ^ (8 * pieces) % 256) tag)
 
 total_most : (register pieces tag : ℕ)
-    → coarse_total register pieces tag ≤ 3 + wrong_first register (4 * pieces) tag
+    → coarse_total register pieces tag ≤ 3 + wrong_first register (8 * pieces) tag
 total_most register zero tag = omega arith
 total_most register (suc pieces) tag =
-    let next : 4 * suc pieces ≡ 4 * pieces + 4 = omega arith in
-    let more : wrong_first register (4 * suc pieces) tag ≡ wrong_first register (4 * pieces) tag
-    + differing (low_bits 4 (register / 2 ^ (4 * pieces))) (low_bits 4 (tag_value tag / 2 ^ (4 * pieces)))
-    = ap (λ n. wrong_first register n tag) next ∙ wrong_more register (4 * pieces) 4 tag in
+    let next : 8 * suc pieces ≡ 8 * pieces + 8 = omega arith in
+    let more : wrong_first register (8 * suc pieces) tag ≡ wrong_first register (8 * pieces) tag
+    + differing (low_bits 8 (register / 2 ^ (8 * pieces))) (low_bits 8 (tag_value tag / 2 ^ (8 * pieces)))
+    = ap (λ n. wrong_first register n tag) next ∙ wrong_more register (8 * pieces) 8 tag in
     omega (arith, more, total_most register pieces tag, coarse_most pieces register tag)
 
 -- a count of 16 tells of 13 wrong bits
-many_wrong : (register tag : ℕ) → 16 ≤ coarse_total register 12 tag
+many_wrong : (register tag : ℕ) → 16 ≤ coarse_total register 6 tag
     → 12 < differing (bits_of_64 register) (tag_bits tag)
 unfolding bits_of_64 wrong_first
 many_wrong register tag many =
     let all : wrong_first register 64 tag ≡ wrong_first register 48 tag
     + differing (low_bits 16 (register / 2 ^ 48)) (low_bits 16 (tag_value tag / 2 ^ 48)) = wrong_more register 48 16 tag
     in
-    omega (arith, all, total_most register 12 tag)
+    omega (arith, all, total_most register 6 tag)
 
 -- ---- all tags at once
 
@@ -162,7 +167,7 @@ bit_of_highest : (i : ℕ) → i < 11 → bit_at highest (5 * i + 4) ≡ 1
 bit_of_highest i below = eqb-true _ _
     (agree_below_at (λ j. eqb (bit_at highest (5 * j + 4)) 1) (λ _. true) 11 i refl below)
 
-pub all_far : (register counts : ℕ) → counts ≡ packed (map (coarse_total register 12) tag_numbers)
+pub all_far : (register counts : ℕ) → counts ≡ packed (map (coarse_total register 6) tag_numbers)
     → bit_and counts highest ≡ highest
     → (tag : ℕ) → IsTag tag → 12 < differing (bits_of_64 register) (tag_bits tag)
 all_far register counts is all tag is_tag =
@@ -172,43 +177,43 @@ all_far register counts is all tag is_tag =
     let set : min (bit_at counts place) (bit_at highest place) ≡ bit_at highest place =
     sym (bit_at_and counts highest place) ∙ ap (λ n. bit_at n place) all in
     let one = bit_of_highest i below in
-    let small : (t : ℕ) → coarse_total register 12 t < 32 = λ t. omega (arith, total_small register 12 t) in
+    let small : (t : ℕ) → coarse_total register 6 t < 32 = λ t. omega (arith, total_small register 6 t) in
     let number : get_or tag_numbers i 0 ≡ tag = number_at i below ∙ omega arith in
-    let field : bit_at counts place ≡ coarse_total register 12 tag / 16 =
-    ap (λ n. bit_at n place) is ∙ highest_bit (coarse_total register 12) tag_numbers i small below
-    ∙ ap (λ t. coarse_total register 12 t / 16) number in
+    let field : bit_at counts place ≡ coarse_total register 6 tag / 16 =
+    ap (λ n. bit_at n place) is ∙ highest_bit (coarse_total register 6) tag_numbers i small below
+    ∙ ap (λ t. coarse_total register 6 t / 16) number in
     let least = min-le_left (bit_at counts place) (bit_at highest place) in
     many_wrong register tag (omega arith)
 
 -- ---- the table and the loop
 
 -- a row of the table
-pub row_in : (piece four : ℕ) → piece < 12 → four < 16
-    → get_or (map (λ place. row_at (place / 16) (place % 16)) (range_with_len 0 192)) (16 * piece + four) 0
-    ≡ row_at piece four
-row_in piece four low small =
-    let place : ℕ = 16 * piece + four in
-    let first : place / 16 ≡ piece = omega arith in
-    let second : place % 16 ≡ four = omega arith in
-    get_or-map-range_with_len (λ p. row_at (p / 16) (p % 16)) 0 192 place place 0 (omega arith) (omega arith)
-    ∙ ap (λ n. row_at n (place % 16)) first ∙ ap (row_at piece) second
+pub row_in : (piece eight : ℕ) → piece < 6 → eight < 256
+    → get_or (map (λ place. row_at (place / 256) (place % 256)) (range_with_len 0 1536)) (256 * piece + eight) 0
+    ≡ row_at piece eight
+row_in piece eight low small =
+    let place : ℕ = 256 * piece + eight in
+    let first : place / 256 ≡ piece = omega arith in
+    let second : place % 256 ≡ eight = omega arith in
+    get_or-map-range_with_len (λ p. row_at (p / 256) (p % 256)) 0 1536 place place 0 (omega arith) (omega arith)
+    ∙ ap (λ n. row_at n (place % 256)) first ∙ ap (row_at piece) second
 
 pub totals_none : (register : ℕ) → 0x000C_6318_C631_8C63 ≡ packed (map (coarse_total register 0) tag_numbers)
 unfolding packed
 totals_none register = refl
 
-pub totals_more : (register piece rest counts row : ℕ) → rest ≡ register / 2 ^ (4 * piece)
-    → counts ≡ packed (map (coarse_total register piece) tag_numbers) → row ≡ row_at piece (rest % 16)
+pub totals_more : (register piece rest counts row : ℕ) → rest ≡ register / 2 ^ (8 * piece)
+    → counts ≡ packed (map (coarse_total register piece) tag_numbers) → row ≡ row_at piece (rest % 256)
     → counts + row ≡ packed (map (coarse_total register (piece + 1)) tag_numbers)
 unfolding row_at
 totals_more register piece rest counts row rest_is counts_is row_is =
     ap (λ n. n + row) counts_is
     ∙ ap (λ n. packed (map (coarse_total register piece) tag_numbers) + n)
-    (row_is ∙ ap (λ n. row_at piece (n % 16)) rest_is)
-    ∙ packed-add (coarse_total register piece) (coarse piece (register / 2 ^ (4 * piece) % 16)) tag_numbers
+    (row_is ∙ ap (λ n. row_at piece (n % 256)) rest_is)
+    ∙ packed-add (coarse_total register piece) (coarse piece (register / 2 ^ (8 * piece) % 256)) tag_numbers
     ∙ ap (λ n. packed (map (coarse_total register n) tag_numbers)) (sym (add-one piece))
 
-pub totals-lt : (register pieces counts : ℕ) → pieces ≤ 12
+pub totals-lt : (register pieces counts : ℕ) → pieces ≤ 6
     → counts ≡ packed (map (coarse_total register pieces) tag_numbers) → counts < 2 ^ 55
 totals-lt register pieces counts few is =
     let most = packed-lt (coarse_total register pieces)

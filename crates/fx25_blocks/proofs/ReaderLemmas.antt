@@ -4,7 +4,7 @@ use Rattle.std.proofs.Common.{◌≢◌}
 use Rattle.fx25_blocks.proofs.Common.{length, take, drop, get_or, refl, ap, subst, ◌∙◌, sym, inl, inr, arith}
 use Rattle.fx25_blocks.proofs.Common.{append_assoc}
 use Rattle.fx25_blocks.proofs.Common.{append-nil, length-append, length-drop, length_push, take_all, take_at}
-use Rattle.fx25_blocks.proofs.Common.{take-append-le}
+use Rattle.fx25_blocks.proofs.Common.{length-take, take-append-le, true, false≢true}
 use Rattle.fx25_blocks.proofs.Common.{drop_at, cases_eq, All, sent_bits, IsTag, IsNearTag, EndsTag, differing, tag_bits}
 use Rattle.fx25_blocks.proofs.Common.{bits_of_64, block_length, EndsBlock, CarriesFrame}
 use Rattle.std.proofs.Common.{replicate, set, length-set}
@@ -13,7 +13,7 @@ use Rattle.std.proofs.lemmas.List.{take-append-drop, drop-drop, drop-append-le, 
 use Rattle.std.proofs.lemmas.List.{get_or-set_other}
 use Rattle.std.proofs.lemmas.List.{get_or-set_same, get_or_append_left, get_or_push}
 use Rattle.hdlc_framer.proofs.BitLemmas.{length-sent_bits, same_octets}
-use Rattle.fx25_blocks.specs.Held.{IsTagAt, Kept, after_zeros}
+use Rattle.fx25_blocks.specs.Held.{IsTagAt, Kept, MayEnd, after_zeros}
 use Rattle.fx25_blocks.proofs.TagFacts.{most_octets}
 
 pub same_octet_list : (xs ys : List ℕ) → All (λ octet. octet < 256) xs → All (λ octet. octet < 256) ys
@@ -74,30 +74,41 @@ register_push bits bit =
     ∙ ap (drop 1) (drop-append-le n zeros (bit ∷ []) (omega arith))
     ∙ drop-append-le 1 (drop n zeros) (bit ∷ []) some
 
-pub kept_none : (ring : List Bool) (tags : List ℕ) → length ring ≡ 2048 → length tags ≡ 2048 → Kept ring tags 0 0 0 0 []
+no_tag_of_none : (n tag : ℕ) → ¬ EndsTag (take n []) tag
+no_tag_of_none n tag ends =
+    let none : List Bool = [] in
+    let told = tag_told (take n none) tag ends in
+    omega (arith, told.0, length-take n none)
+
+pub kept_none : (ring : List Bool) (tags : List ℕ) (due : List Bool) → length ring ≡ 2048 → length tags ≡ 2048
+    → length due ≡ 2048 → Kept ring tags due 0 0 0 []
 unfolding after_zeros bits_of_64
-kept_none ring tags ring_size tags_size = record {
+kept_none ring tags due ring_size tags_size due_size = record {
   ring_size = ring_size;
   tags_size = tags_size;
+  due_size = due_size;
   next_is = refl;
   taken_is = refl;
   register_is = refl;
   bits_kept = λ i below near. absurd (omega arith);
   tags_kept = λ i least most near. absurd (omega arith);
-  no_tag = λ i least most far. absurd (omega arith);
+  due_kept = λ i least near tag may. absurd (no_tag_of_none (i - 8 * block_length tag) tag may.ends);
 }
 
 other_place : (i n : ℕ) → i < n → n < i + 2048 → i % 2048 ≡ n % 2048 → ⊥
 other_place i n below near same = omega arith
 
-module _ (ring : List Bool) (tags : List ℕ) (register next taken following : ℕ) (b : List Bool)
-    (kept : Kept ring tags register next taken following b) where
-  pub kept_push : (bit : Bool) (after tag more left : ℕ) → bits_of_64 after ≡ drop 1 (bits_of_64 register) ++ bit ∷ []
+module _ (ring : List Bool) (tags : List ℕ) (due : List Bool) (register next taken : ℕ) (b : List Bool)
+    (kept : Kept ring tags due register next taken b) where
+  pub kept_push : (bit : Bool) (after tag more : ℕ) (now_due : List Bool)
+      → bits_of_64 after ≡ drop 1 (bits_of_64 register) ++ bit ∷ []
       → ((n : ℕ) → IsTag n → ((tag ≡ n) ↔ (differing (bits_of_64 after) (tag_bits n) ≤ 12)))
-      → more ≡ min 2104 (taken + 1) → (tag ≡ 0 → left ≡ following - 1) → (tag ≢ 0 → left ≡ 2041)
-      → Kept (set ring next bit) (set tags ((next + 1) % 2048) tag) after ((next + 1) % 2048) more left
+      → more ≡ min 2104 (taken + 1)
+      → (tag ≡ 0 → now_due ≡ set due next false)
+      → (tag ≢ 0 → now_due ≡ set (set due next false) (((next + 1) % 2048 + 8 * block_length tag) % 2048) true)
+      → Kept (set ring next bit) (set tags ((next + 1) % 2048) tag) now_due after ((next + 1) % 2048) more
       (b ++ bit ∷ [])
-  kept_push bit after tag more left after_is tag_is more_is none_left some_left =
+  kept_push bit after tag more now_due after_is tag_is more_is none some =
       let size : length (b ++ bit ∷ []) ≡ length b + 1 = length_push b bit in
       let next_is = kept.next_is in
       let taken_is = kept.taken_is in
@@ -108,15 +119,13 @@ module _ (ring : List Bool) (tags : List ℕ) (register next taken following : �
       record {
         ring_size = length-set ring next bit ∙ kept.ring_size;
         tags_size = length-set tags ((next + 1) % 2048) tag ∙ kept.tags_size;
+        due_size = due_size;
         next_is = here ∙ ap (λ n. n % 2048) (sym size);
         taken_is = omega arith;
         register_is = register_is;
         bits_kept = λ i below near. bit_at i (omega arith) (omega arith);
         tags_kept = λ i least most near. tag_at register_is i least (omega arith) (omega arith);
-        no_tag = λ i least most far. elim (cases_eq tag 0) [
-          | inr some ↦ let all = some_left some in absurd (omega arith)
-          | inl none ↦ untagged register_is none (none_left none) i least (omega arith) (omega arith)
-        ];
+        due_kept = λ i least near n may. due_at register_is i (omega arith) n may;
       }
     where
       next_place : (n next : ℕ) → next ≡ n % 2048 → (next + 1) % 2048 ≡ (n + 1) % 2048
@@ -171,22 +180,77 @@ module _ (ring : List Bool) (tags : List ℕ) (register next taken following : �
                 )
           ]
 
-      -- a bit that ends no tag leaves those before it
-      untagged : bits_of_64 after ≡ drop (length (b ++ bit ∷ [])) (after_zeros (b ++ bit ∷ [])) → tag ≡ 0
-          → left ≡ following - 1 → (i : ℕ) → 64 ≤ i → i ≤ length b + 1 → length b + 1 + left < i + 2041
-          → (n : ℕ) → IsTag n → ¬ EndsTag (take i (b ++ bit ∷ [])) n
-      untagged register_is none left_is i least most far n is_tag ends =
-          elim (cases_eq i (length b + 1)) [
-            | inl last ↦
-                let place : i % 2048 ≡ (next + 1) % 2048 = omega (arith, kept.next_is) in
-                let value : get_or (set tags ((next + 1) % 2048) tag) (i % 2048) 0 ≡ tag =
-                ap (λ n. get_or (set tags ((next + 1) % 2048) tag) n 0) place
-                ∙ get_or-set_same tags ((next + 1) % 2048) tag 0 (omega (arith, kept.tags_size)) in
-                let told = (tag_at register_is i least most (omega arith) n is_tag).1 ends in
-                omega (arith, is_tag.0, sym value ∙ told)
+      cleared : List Bool
+      cleared = set due next false
+
+      cleared_size : length cleared ≡ 2048
+      cleared_size = length-set due next false ∙ kept.due_size
+
+      due_size : length now_due ≡ 2048
+      due_size =
+          elim (cases_eq tag 0) [
+            | inl zero_tag ↦ ap length (none zero_tag) ∙ cleared_size
+            | inr other ↦ ap length (some other)
+                ∙ length-set cleared (((next + 1) % 2048 + 8 * block_length tag) % 2048) true ∙ cleared_size
+          ]
+
+      due_place : (n next i count : ℕ) → next ≡ n % 2048 → i ≡ n + 1 + count
+          → i % 2048 ≡ ((next + 1) % 2048 + count) % 2048
+      due_place n next i count is last = omega arith
+
+      -- a place that was due stays so
+      due_stays : (place : ℕ) → place < 2048 → get_or cleared place false ≡ true → get_or now_due place false ≡ true
+      due_stays place below was =
+          elim (cases_eq tag 0) [
+            | inl zero_tag ↦ ap (λ xs. get_or xs place false) (none zero_tag) ∙ was
             | inr other ↦
-                let front : take i (b ++ bit ∷ []) ≡ take i b = take-append-le i b (bit ∷ []) (omega arith) in
-                kept.no_tag i least (omega arith) (omega arith) n is_tag (subst (λ xs. EndsTag xs n) front ends)
+                let end : ℕ = ((next + 1) % 2048 + 8 * block_length tag) % 2048 in
+                ap (λ xs. get_or xs place false) (some other)
+                ∙ elim (cases_eq place end) [
+                  | inl same ↦ ap (λ n. get_or (set cleared end true) n false) same
+                      ∙ get_or-set_same cleared end true false (omega (arith, cleared_size))
+                  | inr apart ↦ get_or-set_other cleared end place true false apart ∙ was
+                ]
+          ]
+
+      due_at : bits_of_64 after ≡ drop (length (b ++ bit ∷ [])) (after_zeros (b ++ bit ∷ []))
+          → (i : ℕ) → length b + 1 ≤ i → (n : ℕ) → MayEnd n i (b ++ bit ∷ [])
+          → get_or now_due (i % 2048) false ≡ true
+      due_at register_is i least n may =
+          let size : length (b ++ bit ∷ []) ≡ length b + 1 = length_push b bit in
+          let count : ℕ = 8 * block_length n in
+          let most = most_octets n may.is_tag in
+          let within = may.within in
+          elim (cases_eq i (length b + 1 + count)) [
+            | inl last ↦
+                let all : take (i - count) (b ++ bit ∷ []) ≡ b ++ bit ∷ [] =
+                take_all (i - count) (b ++ bit ∷ []) (omega arith) in
+                let told = tag_told (b ++ bit ∷ []) n (subst (λ xs. EndsTag xs n) all may.ends) in
+                let heard : bits_of_64 after ≡ drop (length (b ++ bit ∷ []) - 64) (b ++ bit ∷ []) = register_is
+                ∙ last_64 (b ++ bit ∷ []) told.0 in
+                let is : tag ≡ n = (tag_is n may.is_tag).1
+                (subst (λ xs. differing xs (tag_bits n) ≤ 12) (sym heard) told.1) in
+                let place : i % 2048 ≡ ((next + 1) % 2048 + 8 * block_length tag) % 2048 =
+                due_place (length b) next i count kept.next_is last
+                ∙ ap (λ m. ((next + 1) % 2048 + 8 * block_length m) % 2048) (sym is) in
+                ap (λ m. get_or now_due m false) place
+                ∙ ap (λ xs. get_or xs (((next + 1) % 2048 + 8 * block_length tag) % 2048) false)
+                (some (λ zero_tag. let first = may.is_tag.0 in omega arith))
+                ∙ get_or-set_same cleared (((next + 1) % 2048 + 8 * block_length tag) % 2048) true false
+                (omega (arith, cleared_size))
+            | inr earlier ↦
+                let front : take (i - count) (b ++ bit ∷ []) ≡ take (i - count) b =
+                take-append-le (i - count) b (bit ∷ []) (omega arith) in
+                let was : MayEnd n i b = record {
+                  is_tag = may.is_tag;
+                  within = omega arith;
+                  ends = subst (λ xs. EndsTag xs n) front may.ends;
+                } in
+                let apart : i % 2048 ≡ next → ⊥ = λ same. other_place (length b) i (omega arith) (omega arith)
+                (sym (same ∙ kept.next_is)) in
+                due_stays (i % 2048) (omega arith)
+                (get_or-set_other due next (i % 2048) false false apart
+                ∙ kept.due_kept i (omega arith) (omega arith) n was)
           ]
 
   -- ---- blocks
@@ -265,11 +329,13 @@ module _ (ring : List Bool) (tags : List ℕ) (register next taken following : �
           subst (λ xs. CarriesFrame tag xs frame over) (sym back) ends.carries,
         )
 
-    pub idle_told : following ≡ 0 → (frame : List ℕ) (over : ℕ) → ¬ EndsBlock b tag frame over
+    pub idle_told : get_or due next false ≡ false → (frame : List ℕ) (over : ℕ) → ¬ EndsBlock b tag frame over
     idle_told idle frame over ends =
         let i : ℕ = length b - 8 * block_length tag in
         let most = most_octets tag is_tag in
         let told = block_told frame over ends in
         let same = (kept.tags_kept i (omega (arith, told.0)) (omega arith) (omega arith) tag is_tag).0
         (ap (λ n. get_or tags n 0) (sym (tag_place (omega (arith, told.0)))) ∙ told.1) in
-        kept.no_tag i (omega (arith, told.0)) (omega arith) (omega (arith, told.0)) tag is_tag same
+        let may : MayEnd tag (length b) b = record { is_tag = is_tag; within = omega arith; ends = same } in
+        false≢true (sym idle ∙ ap (λ n. get_or due n false) kept.next_is
+        ∙ kept.due_kept (length b) (omega arith) (omega arith) tag may)

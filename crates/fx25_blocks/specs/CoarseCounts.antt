@@ -11,16 +11,16 @@ unfoldable pub packed : List ℕ → ℕ
 packed [] = 0
 packed (field ∷ fields) = field + 32 * packed fields
 
--- in how many of four bits, the lowest of a number, a piece differs from that of a tag, but at most two
+-- in how many of eight bits, the lowest of a number, a piece differs from that of a tag, but at most four
 unfoldable pub coarse : ℕ → ℕ → ℕ → ℕ
-coarse piece four tag = min 2 (differing (low_bits 4 four) (low_bits 4 (tag_value tag / 2 ^ (4 * piece))))
+coarse piece eight tag = min 4 (differing (low_bits 8 eight) (low_bits 8 (tag_value tag / 2 ^ (8 * piece))))
 
 -- the counts of a piece for all tags
 unfoldable pub row_at : ℕ → ℕ → ℕ
-row_at piece four = packed (map (coarse piece four) tag_numbers)
+row_at piece eight = packed (map (coarse piece eight) tag_numbers)
 
 -- the count for a tag after so many pieces
 abbrev pub coarse_total : ℕ → ℕ → ℕ → ℕ
 coarse_total register zero tag = 3
 coarse_total register (suc pieces) tag =
-    coarse_total register pieces tag + coarse pieces (register / 2 ^ (4 * pieces) % 16) tag
+    coarse_total register pieces tag + coarse pieces (register / 2 ^ (8 * pieces) % 256) tag

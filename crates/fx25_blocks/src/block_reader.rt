@@ -1,9 +1,9 @@
 // Blocks in a line of bits.
 
-ghost use Rattle.std.specs.Prelude.{◌≡◌, ◌≢◌, ℕ, ◌+◌, ◌-◌, ◌<◌, ◌≤◌, min, Bool, true, List, [], ◌∷◌, ◌++◌, IfSome};
+ghost use Rattle.std.specs.Prelude.{◌≡◌, ◌≢◌, ℕ, ◌+◌, ◌*◌, ◌%◌, ◌<◌, ◌≤◌, min, set, Bool, true, List, [], ◌∷◌, ◌++◌, IfSome};
 ghost use Rattle.std.specs.Option.{IfNone};
 ghost use Rattle.fx25_blocks.specs.BlockEnds.{EndsBlock};
-ghost use Rattle.fx25_blocks.specs.Tags.{IsTag};
+ghost use Rattle.fx25_blocks.specs.Tags.{IsTag, block_length};
 
 use crate::block_reading::read_block;
 use crate::opening::BlockFrame;
@@ -14,21 +14,17 @@ use crate::tags::block_length;
 // A block of 255 octets and its tag are so many bits.
 const MOST_TAKEN: usize = 2104;
 
-// The block of a tag ends with one of so many bits, the first being the tag's last.
-const LONGEST: usize = 2041;
-
 /// Finds the blocks in a line of bits. Every tag is followed, also one that comes while a block comes in: the reader
-/// keeps the last bits, and which tag ended with each. While no tag stands among them, a bit is told in few steps to end
-/// no block. It takes no memory beyond its own size.
+/// keeps the last bits, and which tag ended with each. It also keeps with which bits to come a block may end, so that any
+/// other bit is told in one step to end none. It takes no memory beyond its own size.
 #[derive(Drop)]
 pub struct BlockReader {
     bits: [bool; 2048],
     tags: [u8; 2048],
+    due: [bool; 2048],
     register: u64,
     next: usize,
     taken: usize,
-    // With so many bits more a block of the last tag may end.
-    following: usize,
     ghost place: { next < 2048 },
     ghost most: { taken ≤ 2104 },
 }
@@ -43,10 +39,10 @@ impl BlockReader {
         BlockReader {
             bits: [false; RING],
             tags: [0; RING],
+            due: [false; RING],
             register: 0,
             next: 0,
             taken: 0,
-            following: 0,
         }
     }
 
@@ -56,19 +52,20 @@ impl BlockReader {
     {
         self.register = shifted(self.register, bit);
         self.bits[self.next] = bit;
+        self.due[self.next] = false;
         self.next = (self.next + 1) % RING;
         let tag = near_tag(self.register);
         self.tags[self.next] = tag;
-        self.following = following(self.following, tag);
+        expect(&mut self.due, self.next, tag);
         self.taken = one_more(self.taken);
     }
 
-    /// True if no tag stands among the last bits. Then no block ends with the last one.
+    /// True if no tag stands where a block that ends with the last bit has one. Then no block ends with it.
     pub fn is_idle(&self) -> bool
         ensures { (b : List Bool) → StandsFor self.now b → result ≡ true
             → (tag : ℕ) → (frame : List ℕ) → (over : ℕ) → ¬ EndsBlock b tag frame over }
     {
-        self.following == 0
+        !self.due[self.next]
     }
 
     /// The frame of the block that the last bit ends, if it is a block of this tag, which has a number from 1 to 11.
@@ -103,14 +100,14 @@ fn one_more(taken: usize) -> usize
     if taken < MOST_TAKEN { taken + 1 } else { taken }
 }
 
-// With how many bits more a block may end, after a bit that ends a tag or, if `tag` is 0, none.
-fn following(before: usize, tag: u8) -> usize
-    ensures none { tag ≡ 0 → result ≡ before - 1 }
-    ensures some { tag ≢ 0 → result ≡ 2041 }
+// Keeps with which bit to come the block ends of a tag that ended in front of a place. No tag is 0.
+fn expect(due: &mut [bool; 2048], next: usize, tag: u8)
+    requires next { next < 2048 }
+    requires tag { tag ≤ 11 }
+    ensures none { tag ≡ 0 → due.new ≡ due.old }
+    ensures some { tag ≢ 0 → due.new ≡ set due.old ((next + 8 * block_length tag) % 2048) true }
 {
-    if tag == 0 {
-        before.saturating_sub(1)
-    } else {
-        LONGEST
+    if tag != 0 {
+        due[(next + 8 * block_length(tag)) % RING] = true;
     }
 }

@@ -10,6 +10,7 @@ mod block_code;
 mod block_reader;
 mod block_reading;
 mod coarse_counts;
+mod coarse_rows;
 mod laws;
 mod opening;
 mod packing;

@@ -14,7 +14,8 @@ const LAST_BIT: u64 = 0x8000_0000_0000_0000;
 
 // The number of the tag from which 64 bits differ in at most 12, or 0 if there is none.
 pub fn near_tag(register: u64) -> u8
-    ensures { (tag : ℕ) → IsTag tag → ((result ≡ tag) ↔ (differing (bits_of_64 register) (tag_bits tag) ≤ 12)) }
+    ensures near { (tag : ℕ) → IsTag tag → ((result ≡ tag) ↔ (differing (bits_of_64 register) (tag_bits tag) ≤ 12)) }
+    ensures number { result ≤ 11 }
 {
     if is_far(register) {
         return 0;

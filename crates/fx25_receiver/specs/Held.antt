@@ -4,23 +4,23 @@ use Rattle.tone_table.specs.declared.tone.Tone.{Tone}
 use Rattle.nrzi_bits.specs.Line.{bits_of, last_tone}
 use Rattle.offset_slicers.specs.Windows.{tones_at}
 use Rattle.slicer_bank.specs.Held.{last_seven}
-use Rattle.slicer_bank.specs.ToneLanes.{HeldToneLane, ToneLaneStandsFor}
+use Rattle.hdlc_framer.specs.Held.{Held as HeldDeframer, StandsFor as DeframerStandsFor}
 use Rattle.fx25_blocks.specs.Held.{StandsFor as ReaderStandsFor}
 use Rattle.fx25_blocks.specs.declared.block_reader.BlockReader.{BlockReader}
 use Rattle.fx25_receiver.specs.declared.heard.Heard.{Heard}
 use Rattle.fx25_receiver.specs.Heard.{AreHeard}
 use Rattle.fx25_receiver.specs.Merged.{merged, reach}
 
--- the lane of plain frames, the tone of the last window, and the reader of blocks
+-- the tone of the last window, the deframer of plain frames, and the reader of blocks
 pub record HeldLane : Type 0 where
-  pub plain : HeldToneLane
   pub line : Tone
+  pub deframer : HeldDeframer
   pub reader : BlockReader
 
 -- the lane has taken windows of these tones
 pub record LaneStandsFor (held : HeldLane) (tones : List Tone) : Type 0 where
-  pub plain : ToneLaneStandsFor held.plain tones
   pub line : held.line ≡ last_tone tones
+  pub deframer : DeframerStandsFor held.deframer (bits_of tones)
   pub reader : ReaderStandsFor held.reader (bits_of tones)
 
 -- each lane has taken the windows at its offset that lie in these samples
@@ -54,18 +54,19 @@ pub record HasHeard (kept : List Heard) (x : List ℤ) (given : List Heard) : Ty
   pub keeps : Keeps kept (length x) heard
   pub given_is : given ≡ merged heard
 
--- lanes, last samples, a count and what is kept, after these samples were taken and these items given
-pub record AreAfter (lanes : List HeldLane) (recent : List ℤ) (position : ℕ) (kept : List Heard) (x : List ℤ)
-    (given : List Heard) : Type 0 where
+-- lanes, a count and what is kept, after these samples were taken and these items given
+pub record AreAfter (lanes : List HeldLane) (position : ℕ) (kept : List Heard) (x : List ℤ) (given : List Heard)
+    : Type 0 where
   pub count : position ≡ length x
-  pub recent_is : recent ≡ last_seven x
   pub lanes_stand : LanesStandFor lanes x
   pub has_heard : HasHeard kept x given
 
 -- it has taken these samples and given these items
 abbrev pub HasTaken : Held → List ℤ → List Heard → Type 0
-HasTaken held x given = AreAfter held.lanes held.recent held.position held.kept x given
+HasTaken held x given = AreAfter held.lanes held.position held.kept x given
 
--- and every growth that it wanted was given
-abbrev pub StandsFor : Held → List ℤ → List Heard → Type 0
-StandsFor held x given = (held.spent ≡ false) × HasTaken held x given
+-- and keeps their last seven, and every growth that it wanted was given
+pub record StandsFor (held : Held) (x : List ℤ) (given : List Heard) : Type 0 where
+  pub spent : held.spent ≡ false
+  pub recent : held.recent ≡ last_seven x
+  pub taken : HasTaken held x given

@@ -56,11 +56,11 @@ pub(crate) fn hear_frame(
     kept: &mut Vec<Heard>,
     given: &mut Vec<Heard>,
 ) -> Result<(), OutOfMemory>
-    requires { plain ≡ true → (octets : List ℕ) × IsFrame octets × HoldsFrame lane.now.plain.deframer octets }
+    requires { plain ≡ true → (octets : List ℕ) × IsFrame octets × HoldsFrame lane.now.deframer octets }
     ensures { OnOk result ((x : List ℤ) (before : List Heard) → IsAt place x
         → (plain ≡ true → (octets : List ℕ) × EndsFrame (bits place.offset x) octets)
         → ((octets : List ℕ) → EndsFrame (bits place.offset x) octets
-        → (plain ≡ true) × HoldsFrame lane.now.plain.deframer octets)
+        → (plain ≡ true) × HoldsFrame lane.now.deframer octets)
         → HasTakenBelow 0 kept.old.items x (before ++ given.old.items)
         → HasTakenBelow 1 kept.new.items x (before ++ given.new.items)) }
 {

@@ -11,8 +11,8 @@ ghost use Rattle.fx25_blocks.specs.Tags.{IsTag};
 ghost use Rattle.fx25_receiver.specs.Held.{LaneStandsFor};
 
 use fx25_blocks::{BlockFrame, BlockReader};
+use hdlc_framer::{Deframer, Event};
 use nrzi_bits::NrziIn;
-use slicer_bank::ToneLane;
 use std::alloc::Global;
 use std::marker::Model;
 use tnc_base::OutOfMemory;
@@ -24,8 +24,8 @@ const LANES: u64 = 8;
 /// The tones of one lane, as plain bits and as blocks.
 #[derive(Drop)]
 pub(crate) struct Lane {
-    plain: ToneLane,
     line: NrziIn,
+    deframer: Deframer,
     reader: BlockReader,
 }
 
@@ -34,7 +34,7 @@ impl Model for Lane {
 
     ghost Value = { HeldLane };
 
-    ghost view = { λ s. record { plain = s.plain; line = s.line; reader = s.reader } };
+    ghost view = { λ s. record { line = s.line; deframer = s.deframer; reader = s.reader } };
 }
 
 impl Lane {
@@ -43,8 +43,8 @@ impl Lane {
         ensures { LaneStandsFor result [] }
     {
         Lane {
-            plain: ToneLane::new(),
             line: NrziIn::new(),
+            deframer: Deframer::new(),
             reader: BlockReader::new(),
         }
     }
@@ -54,25 +54,25 @@ impl Lane {
         ensures stands_for { (tones : List Tone) → LaneStandsFor self.old tones
             → LaneStandsFor self.new (tones ++ tone ∷ []) }
         ensures holds { result ≡ true
-            → (octets : List ℕ) × IsFrame octets × HoldsFrame self.new.plain.deframer octets }
+            → (octets : List ℕ) × IsFrame octets × HoldsFrame self.new.deframer octets }
         ensures heard { (tones : List Tone) → LaneStandsFor self.old tones → result ≡ true
             → (octets : List ℕ) × EndsFrame (bits_of (tones ++ tone ∷ [])) octets }
         ensures frame { (tones : List Tone) (octets : List ℕ) → LaneStandsFor self.old tones
             → EndsFrame (bits_of (tones ++ tone ∷ [])) octets
-            → (result ≡ true) × HoldsFrame self.new.plain.deframer octets }
+            → (result ≡ true) × HoldsFrame self.new.deframer octets }
     {
         let bit = self.line.step(tone);
         self.reader.push(bit);
-        self.plain.push(tone)
+        self.deframer.push(bit) == Event::Frame
     }
 
     /// The octets of the plain frame that the last tone ended.
     pub(crate) fn octets(&self) -> &[u8]
-        requires { (octets : List ℕ) × IsFrame octets × HoldsFrame self.now.plain.deframer octets }
-        ensures { (octets : List ℕ) → IsFrame octets → HoldsFrame self.now.plain.deframer octets
+        requires { (octets : List ℕ) × IsFrame octets × HoldsFrame self.now.deframer octets }
+        ensures { (octets : List ℕ) → IsFrame octets → HoldsFrame self.now.deframer octets
             → result.now ≡ octets }
     {
-        self.plain.octets()
+        self.deframer.octets()
     }
 
     /// The frame of the block of a tag that the last tone ended.
@@ -86,7 +86,7 @@ impl Lane {
         self.reader.frame(tag)
     }
 
-    /// True only if the last tone ended no block, as no tag stands among the last bits.
+    /// True only if the last tone ended no block.
     pub(crate) fn is_idle(&self) -> bool
         ensures { (tones : List Tone) → LaneStandsFor self.now tones → result ≡ true
             → (tag : ℕ) → (frame : List ℕ) → (over : ℕ) → ¬ EndsBlock (bits_of tones) tag frame over }

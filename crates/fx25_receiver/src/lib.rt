@@ -12,6 +12,7 @@ mod lane;
 mod laws;
 mod merging;
 mod receiver;
+mod seven;
 #[cfg(test)]
 mod tests;
 

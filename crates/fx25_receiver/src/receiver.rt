@@ -1,5 +1,5 @@
 //! The receiver: samples in blocks in, each frame once and in order out.
-ghost use Rattle.std.specs.Prelude.{◌≡◌, ◌<◌, ◌+◌, ◌^◌, ℤ, List, [], ◌∷◌, ◌++◌, length, true, IfOk, IsErr, OnErr, OnOk};
+ghost use Rattle.std.specs.Prelude.{◌≡◌, ◌<◌, ◌≤◌, ◌+◌, ◌^◌, ℤ, List, [], ◌++◌, length, take, drop, true, IfOk, IsErr, OnErr, OnOk};
 ghost use Rattle.slicer_bank.specs.Held.{last_seven};
 ghost use Rattle.fx25_receiver.specs.declared.heard.Heard.{Heard};
 ghost use Rattle.fx25_receiver.specs.Held.{HasTaken, StandsFor};
@@ -8,6 +8,7 @@ use crate::heard::Heard;
 use crate::hearing::{Place, hear_blocks, hear_frame};
 use crate::lane::{Lane, new_lanes};
 use crate::merging::forget;
+use crate::seven::{bridge, keep_last};
 use offset_slicers::decide;
 use std::alloc::Global;
 use std::marker::Model;
@@ -71,25 +72,63 @@ impl Fx25Receiver {
         }
         self.spent = true;
         let mut given = Vec::new(self.alloc);
-        for sample in block {
-            self.step(*sample, &mut given)?;
-        }
+        self.take(block, &mut given)?;
+        keep_last(&mut self.recent, block);
         forget(&mut self.kept, self.position);
         self.spent = false;
         Ok(given)
     }
 
-    /// Takes the next sample, and adds the items that end with it.
-    fn step(&mut self, sample: i16, given: &mut Vec<Heard>) -> Result<(), OutOfMemory>
-        requires room { self.old.position + 1 < 2 ^ 48 }
-        ensures taken { OnOk result ((x : List ℤ) (before : List Heard)
+    /// Takes the samples of a block, and adds the items that end with them.
+    fn take(&mut self, block: &[i16], given: &mut Vec<Heard>) -> Result<(), OutOfMemory>
+        requires room { self.old.position + length block.now < 2 ^ 48 }
+        ensures taken { OnOk result ((x : List ℤ) (before : List Heard) → self.old.recent ≡ last_seven x
             → HasTaken self.old x (before ++ given.old.items)
-            → HasTaken self.new (x ++ sample ∷ []) (before ++ given.new.items)) }
-        ensures position { OnOk result (self.new.position ≡ self.old.position + 1) }
+            → HasTaken self.new (x ++ block.now) (before ++ given.new.items)) }
+        ensures position { OnOk result (self.new.position ≡ self.old.position + length block.now) }
+        ensures recent { self.new.recent ≡ self.old.recent }
         ensures spent { self.new.spent ≡ self.old.spent }
     {
-        let window = window(&self.recent, sample);
-        self.recent.copy_from_slice(&window[1..]);
+        let (first, _) = block.split_at(block.len().min(7));
+        let bridge = bridge(&self.recent, first);
+        self.slide(&bridge[..7 + first.len()], given)?;
+        if block.len() <= 7 {
+            return Ok(());
+        }
+        self.slide(block, given)
+    }
+
+    /// Takes the samples of a piece past its first seven, which are the last seven that were taken, and adds the items
+    /// that end with them.
+    fn slide(&mut self, piece: &[i16], given: &mut Vec<Heard>) -> Result<(), OutOfMemory>
+        requires seven { 7 ≤ length piece.now }
+        requires room { self.old.position + length piece.now < 2 ^ 48 + 7 }
+        ensures taken { OnOk result ((x : List ℤ) (before : List Heard) → last_seven x ≡ take 7 piece.now
+            → HasTaken self.old x (before ++ given.old.items)
+            → HasTaken self.new (x ++ drop 7 piece.now) (before ++ given.new.items)) }
+        ensures position { OnOk result (self.new.position + 7 ≡ self.old.position + length piece.now) }
+        ensures recent { self.new.recent ≡ self.old.recent }
+        ensures spent { self.new.spent ≡ self.old.spent }
+    {
+        let mut rest = piece;
+        while let Some((window, _)) = rest.split_first_chunk::<8>() {
+            self.step(window, given)?;
+            rest = &rest[1..];
+        }
+        Ok(())
+    }
+
+    /// Takes the last sample of a window, whose others are the last seven that were taken, and adds the items that end
+    /// with it.
+    fn step(&mut self, window: &[i16; 8], given: &mut Vec<Heard>) -> Result<(), OutOfMemory>
+        requires room { self.old.position + 1 < 2 ^ 48 }
+        ensures taken { OnOk result ((x : List ℤ) (before : List Heard) → last_seven x ≡ take 7 window.now
+            → HasTaken self.old x (before ++ given.old.items)
+            → HasTaken self.new (x ++ drop 7 window.now) (before ++ given.new.items)) }
+        ensures position { OnOk result (self.new.position ≡ self.old.position + 1) }
+        ensures recent { self.new.recent ≡ self.old.recent }
+        ensures spent { self.new.spent ≡ self.old.spent }
+    {
         self.position += 1;
         if self.position < 8 {
             return Ok(());
@@ -99,19 +138,9 @@ impl Fx25Receiver {
             end: self.position,
         };
         let lane = &mut self.lanes[place.offset as usize];
-        let plain = lane.push(decide(&window));
+        let plain = lane.push(decide(window));
         hear_frame(self.alloc, lane, plain, place, &mut self.kept, given)?;
         hear_blocks(self.alloc, lane, place, &mut self.kept, given)?;
         Ok(())
     }
-}
-
-/// Seven samples and the next one.
-fn window(recent: &[i16; 7], sample: i16) -> [i16; 8]
-    ensures { result ≡ recent.now ++ sample ∷ [] }
-{
-    let mut window = [0; 8];
-    window[..7].copy_from_slice(recent);
-    window[7] = sample;
-    window
 }

@@ -20,7 +20,7 @@ use Rattle.tnc_decode.proofs.BlockItems.{blocks_rise, still_with_blocks}
 
 -- what was given is what is merged
 given_are : (held : HeldFx25) (x : List ℤ) (given : List Heard) → Fx25StandsFor held x given → AreMerged x given
-given_are held x given stands = let h = stands.1.has_heard in record { heard = h.heard; are = h.are; is = h.given_is }
+given_are held x given stands = let h = stands.taken.has_heard in record { heard = h.heard; are = h.are; is = h.given_is }
 
 candidates_are : (x : List ℤ) (given : List Heard) → AreMerged x given
     → AreMergedWithBlocks x (map candidate_of given)

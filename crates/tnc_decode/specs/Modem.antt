@@ -67,8 +67,8 @@ pub record AreMergedWithBlocks (x : List ℤ) (items : List Candidate) : Type 0 
   pub are : AreMerged x heard
   pub is : items ≡ map candidate_of heard
 
--- The items are all candidates of the samples, or if blocks are heard too what is merged of all. Those at 48,000 a second are filtered; eight lanes hear each of their five
--- streams, and all lanes together the first one.
+-- The items are all candidates of the samples, or if blocks are heard too what is merged of all. Samples at 48,000 a second
+-- are filtered; eight lanes hear each of their five streams, and all lanes together the first one.
 abbrev pub AreHeard : Modem → List ℤ → List Candidate → Type 0
 AreHeard Plain x items = AreCandidates x items
 AreHeard Wide x items = AreWideCandidates (filtered x) items

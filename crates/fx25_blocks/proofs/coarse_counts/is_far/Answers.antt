@@ -28,9 +28,9 @@ loop-piece-preserved c =
     let h = c.loop-piece.invariant in
     let register = c.args.register in
     let piece = c.loop-piece.piece in
-    let places : 4 * (piece + 1) ≡ 4 * piece + 4 = omega arith in
+    let places : 8 * (piece + 1) ≡ 8 * piece + 8 = omega arith in
     record {
-      rest = ap (λ n. n / 16) h.rest ∙ shr-shr register (4 * piece) 4 ∙ ap (λ n. register / 2 ^ n) (sym places);
+      rest = ap (λ n. n / 256) h.rest ∙ shr-shr register (8 * piece) 8 ∙ ap (λ n. register / 2 ^ n) (sym places);
       counts = counts_more c;
     }
 
@@ -38,7 +38,7 @@ pub returns : goal.returns
 returns c = λ far.
     let past = c.loop-piece-test.false in
     let most = c.loop-piece.auto.piece-end in
-    let all : c.loop-piece.piece ≡ 12 = omega arith in
+    let all : c.loop-piece.piece ≡ 6 = omega arith in
     all_far c.args.register c.loop-piece.counts
     (c.loop-piece.invariant.counts
     ∙ ap (λ n. packed (map (coarse_total c.args.register n) tag_numbers)) all) (eqb-true _ _ far)

@@ -14,8 +14,8 @@ loop-place-preserved c = λ n least most.
       | inr other ↦ c.loop-place.invariant n least (omega arith)
     ]
 
-pub returns-then-wrong_bits-le-MOST_WRONG_BITS : goal.returns-then-wrong_bits-le-MOST_WRONG_BITS
-returns-then-wrong_bits-le-MOST_WRONG_BITS c = λ n is_tag.
+pub returns-then-wrong_bits-le-MOST_WRONG_BITS-clause-near : goal.returns-then-wrong_bits-le-MOST_WRONG_BITS-clause-near
+returns-then-wrong_bits-le-MOST_WRONG_BITS-clause-near c = λ n is_tag.
     let heard = bits_of_64 c.args.register in
     let tag : ℕ = c.loop-place.place + 1 in
     let wrong : c.wrong_bits.result ≡ differing heard (tag_bits tag) = c.wrong_bits.ensures
@@ -27,8 +27,8 @@ returns-then-wrong_bits-le-MOST_WRONG_BITS c = λ n is_tag.
           (record { size = size; near = also }),
     )
 
-pub returns : goal.returns
-returns c = λ n is_tag. (
+pub returns-clause-near : goal.returns-clause-near
+returns-clause-near c = λ n is_tag. (
   λ same. absurd (omega arith),
   λ near. absurd (omega (arith, c.loop-place.invariant n is_tag.0 (omega arith))),
 )

@@ -10,7 +10,7 @@ use Rattle.fx25_blocks.proofs.block_reader.BlockReader.frame.Goals as goal
 pub returns-then-taken-needed-clause-none : goal.returns-then-taken-needed-clause-none
 returns-then-taken-needed-clause-none c = λ b kept frame over ends.
     let r = c.args.self.now in
-    let told = block_told r.bits r.tags r.register r.next r.taken r.following b kept c.args.tag c.requires frame over ends in
+    let told = block_told r.bits r.tags r.due r.register r.next r.taken b kept c.args.tag c.requires frame over ends in
     omega (
       arith,
       told.0,
@@ -23,7 +23,7 @@ returns-then-taken-needed-clause-none c = λ b kept frame over ends.
 pub returns-then-kept-tag-clause-none : goal.returns-then-kept-tag-clause-none
 returns-then-kept-tag-clause-none c = λ b kept frame over ends.
     let r = c.args.self.now in
-    let told = block_told r.bits r.tags r.register r.next r.taken r.following b kept c.args.tag c.requires frame over ends in
+    let told = block_told r.bits r.tags r.due r.register r.next r.taken b kept c.args.tag c.requires frame over ends in
     c.if-kept-tag.true
     (ap (λ n. get_or r.tags ((r.next + 2048 - 8 * n) % 2048) 0) c.block_length-count.ensures.value ∙ told.1)
 
@@ -37,7 +37,7 @@ bits_are c b kept =
     let most = most_octets c.args.tag c.requires in
     let taken_is = kept.taken_is in
     c.as_slice.ensures.value
-    ∙ recent_are r.bits r.tags r.register r.next r.taken r.following b kept c.recent-bits.result.items (8 * count) (omega arith)
+    ∙ recent_are r.bits r.tags r.due r.register r.next r.taken b kept c.recent-bits.result.items (8 * count) (omega arith)
     (omega (arith, c.if-taken-needed.false)) c.recent-bits.ensures.size c.recent-bits.ensures.each
     ∙ ap (λ n. drop (length b - 8 * n) b) is
 
@@ -54,7 +54,7 @@ returns-clause-frame c = λ b kept.
     ap (λ n. get_or r.tags ((r.next + 2048 - 8 * n) % 2048) 0) (sym is) ∙ c.if-kept-tag.false in
     some_from c.read_block.result (λ found. CarriesFrame tag line found.octets.items found.over)
     (λ found. EndsBlock b tag found.octets.items found.over)
-    (λ found carries. block_from r.bits r.tags r.register r.next r.taken r.following b kept tag c.requires
+    (λ found carries. block_from r.bits r.tags r.due r.register r.next r.taken b kept tag c.requires
     found.octets.items found.over
     least same (subst (λ xs. CarriesFrame tag xs found.octets.items found.over) (bits_are c b kept) carries))
     c.read_block.ensures.frame
@@ -67,5 +67,5 @@ returns-clause-none c = λ b kept.
     none_from c.read_block.result ((frame : List ℕ) → (over : ℕ) → ¬ CarriesFrame tag line frame over)
     ((frame : List ℕ) → (over : ℕ) → ¬ EndsBlock b tag frame over)
     (λ none frame over ends. none frame over (subst (λ xs. CarriesFrame tag xs frame over) (sym (bits_are c b kept))
-    (block_told r.bits r.tags r.register r.next r.taken r.following b kept tag c.requires frame over ends).2))
+    (block_told r.bits r.tags r.due r.register r.next r.taken b kept tag c.requires frame over ends).2))
     c.read_block.ensures.none

@@ -1,8 +1,13 @@
-use Rattle.fx25_blocks.proofs.Common.{eqb-true}
+use Rattle.fx25_blocks.proofs.Common.{◌≡◌, Bool, true, false, refl, false≢true}
+use Rattle.std.specs.Prelude.{not}
 use Rattle.fx25_blocks.proofs.ReaderLemmas.{idle_told}
 use Rattle.fx25_blocks.proofs.block_reader.BlockReader.is_idle.Goals as goal
+
+is_false : (test : Bool) → not test ≡ true → test ≡ false
+is_false false is = refl
+is_false true is = absurd (false≢true is)
 
 pub returns : goal.returns
 returns c = λ b kept idle tag frame over ends.
     let r = c.args.self.now in
-    idle_told r.bits r.tags r.register r.next r.taken r.following b kept tag ends.is_tag (eqb-true _ _ idle) frame over ends
+    idle_told r.bits r.tags r.due r.register r.next r.taken b kept tag ends.is_tag (is_false _ idle) frame over ends

@@ -4,4 +4,6 @@ use Rattle.fx25_blocks.proofs.ReaderLemmas.{kept_none}
 use Rattle.fx25_blocks.proofs.block_reader.BlockReader.new.Goals as goal
 
 pub returns : goal.returns
-returns c = kept_none _ _ (length-replicate {A = Bool} 2048 false) (length-replicate {A = ℕ} 2048 0)
+returns c =
+    let bits = length-replicate {A = Bool} 2048 false in
+    kept_none _ _ _ bits (length-replicate {A = ℕ} 2048 0) bits

@@ -1,0 +1,4 @@
+pub mod Units
+pub mod Merging
+pub mod Damage
+pub mod NearSignal
