@@ -17,3 +17,4 @@ pub mod CallingLemmas
 pub mod RecordingLemmas
 pub mod LiveCommandLemmas
 pub mod LiveRuns
+pub mod KeyedRuns

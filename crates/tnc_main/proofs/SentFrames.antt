@@ -12,10 +12,12 @@ use Rattle.std.proofs.lemmas.List.{append-nil, get_or_default}
 use Rattle.std.proofs.lemmas.List.Elements.{All-cons, All-head, All-tail}
 use Rattle.hdlc_framer.specs.Frames.{IsFrame}
 use Rattle.kiss_port.specs.declared.item.KissItem.{KissItem}
-use Rattle.kiss_port.specs.declared.item.KissItem.TheVariants.{Frame, Set, Hardware, Return, TooLong, Other}
+use Rattle.kiss_port.specs.declared.item.KissItem.TheVariants.{Frame, AckFrame, Set, Hardware, Return, TooLong}
+use Rattle.kiss_port.specs.declared.item.KissItem.TheVariants.{Other}
 use Rattle.kiss_port.specs.Escapes.{fend, fesc, tfend, tfesc, meant, unescaped}
 use Rattle.kiss_port.specs.Pieces.{onto_first, pieces}
-use Rattle.kiss_port.specs.Items.{by_command, item_by_type, item_of, items_in, setting}
+use Rattle.kiss_port.specs.Items.{ack_command, ack_frame, by_command, item_by_type, item_of, items_in, most_octets}
+use Rattle.kiss_port.specs.Items.{setting}
 use Rattle.clean_signal.specs.GoodTransmission.{frames_of as all_frames}
 use Rattle.tnc_forms.proofs.HexFrameLemmas.{frames_in_lines-good}
 use Rattle.tnc_words.specs.declared.command.FrameForm.{FrameForm}
@@ -96,15 +98,23 @@ setting_fits port command [] = tt
 setting_fits port command (value ∷ octets) = either (nat_le 1 command && nat_le command 5) (Set port command value)
     (Other port command) tt tt
 
+ack_fits : (port : ℕ) (octets : List ℕ) → HasOctets (ack_frame port octets)
+ack_fits port [] = tt
+ack_fits port (first ∷ []) = tt
+ack_fits port (first ∷ second ∷ octets) = tt
+
 by_command_fits : (port command : ℕ) (octets : List ℕ) → AreOctets octets → HasOctets (by_command port command octets)
 by_command_fits port command octets each =
+    let other = either (command == ack_command) (ack_frame port octets) (setting port command octets)
+    (ack_fits port octets) (setting_fits port command octets) in
     either (command == 0) (Frame port octets) (if command == 6 then Hardware port octets
-    else setting port command octets) each
-    (either (command == 6) (Hardware port octets) (setting port command octets) tt (setting_fits port command octets))
+    else if command == ack_command then ack_frame port octets else setting port command octets) each
+    (either (command == 6) (Hardware port octets) (if command == ack_command then ack_frame port octets
+    else setting port command octets) tt other)
 
 by_type_fits : (kind : ℕ) (octets : List ℕ) → AreOctets octets → HasOctets (item_by_type kind octets)
 by_type_fits kind octets each =
-    either (nat_lt 1024 (length octets)) (TooLong (kind / 16)) (if kind == 0xff then Return
+    either (nat_lt (most_octets kind) (length octets)) (TooLong (kind / 16)) (if kind == 0xff then Return
     else by_command (kind / 16) (kind % 16) octets) tt
     (either (kind == 0xff) Return (by_command (kind / 16) (kind % 16) octets) tt
     (by_command_fits (kind / 16) (kind % 16) octets each))
@@ -137,6 +147,7 @@ frame_fits (Frame port octets) each =
         let sizes = and_parts (nat_le 15 (length octets)) (nat_le (length octets) 1024) outer.1 in
         record { octets_fit = each; least = leb-true _ _ sizes.0; most = leb-true _ _ sizes.1 }
     by_test false is = tt
+frame_fits (AckFrame port mark octets) each = tt
 frame_fits (Set port command value) each = tt
 frame_fits (Hardware port octets) each = tt
 frame_fits Return each = tt

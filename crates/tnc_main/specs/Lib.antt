@@ -8,6 +8,7 @@ pub mod Parts
 pub mod Report
 pub mod Runs
 pub mod Serving
+pub mod KeyedRuns
 pub mod Status
 pub mod Stops
 pub mod RoundTrip

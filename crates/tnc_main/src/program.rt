@@ -1,15 +1,17 @@
 //! The program as one call: from the words of a command line, over streams that are handed in, to an exit status.
-ghost use Rattle.std.specs.Prelude.{◌≡◌, ◌⊎◌, ◌<◌, ◌≤◌, ◌++◌, ℕ, List, Some, length, map};
+ghost use Rattle.std.specs.Prelude.{◌≡◌, ◌⊎◌, ◌<◌, ◌≤◌, ◌++◌, ℕ, false, List, Some, None, length, map};
 ghost use Rattle.std.specs.Prelude.{string_bytes};
 ghost use Rattle.tnc_base.specs.Faults.{HasRisen};
 ghost use Rattle.tnc_base.specs.Streams.{WrotePart};
 ghost use Rattle.clean_signal.specs.GoodTransmission.{frames_of};
 ghost use Rattle.clean_signal.specs.NearSignal.{Received, transmissions_of};
+ghost use Rattle.key_port.specs.KeyLines.{KeyLine, is_open};
 ghost use Rattle.tnc_words.specs.declared.command.DecodeWords.{DecodeWords};
 ghost use Rattle.tnc_words.specs.declared.command.BenchOptions.{BenchOptions};
 ghost use Rattle.tnc_words.specs.declared.command.LoopWords.{LoopWords};
 ghost use Rattle.tnc_words.specs.declared.command.CallOptions.{CallOptions};
 ghost use Rattle.tnc_words.specs.declared.command.RecordOptions.{RecordOptions};
+ghost use Rattle.tnc_words.specs.declared.command.PttOptions.{PttOptions};
 ghost use Rattle.tnc_words.specs.declared.command.ServeOptions.{ServeOptions};
 ghost use Rattle.tnc_words.specs.Commands.{Asks, IsBench, IsCall, IsLoop, IsRecord, IsServe};
 ghost use Rattle.tnc_forms.specs.Reading.{input_limit};
@@ -29,6 +31,7 @@ ghost use Rattle.tnc_main.specs.Calling.{RunsCall};
 ghost use Rattle.tnc_main.specs.RecordRuns.{RunsRecord};
 ghost use Rattle.tnc_main.specs.Clean.{IsNearlyClean};
 ghost use Rattle.tnc_main.specs.Commands.{FindsNoQuiet, HeardAsMade, IsFaultless, IsSpent, ReadsNothing, Strays};
+ghost use Rattle.tnc_main.specs.KeyedRuns.{RunsKeyed};
 ghost use Rattle.tnc_main.specs.LiveCommands.{AskNoLive, AskNoPorts};
 ghost use Rattle.tnc_main.specs.Parts.{WritesAtEnd};
 ghost use Rattle.tnc_main.specs.Report.{bad_words_line};
@@ -106,6 +109,19 @@ pub fn run<
         E.written E.faults live.old.ports live.old.key output.old report.old)
         (outside_by N.listens N.polls N.sends N.sent N.is_shut N.faults K.lines K.faults O.written O.faults
         E.written E.faults live.new.ports live.new.key output.new report.new) }
+
+    ensures keyed { (options : ServeOptions) → (ptt : PttOptions) → (was : List KeyLine) → (out : List ℕ)
+        → IsServe (map string_bytes words.now) options → options.ptt ≡ Some ptt
+        → K.lines live.old.key ≡ Some was → is_open was ≡ false → O.written output.old ≡ Some out
+        → (status : Status) × (result ≡ code_of status)
+        × RunsKeyed options ptt live.old.seed was out status (input_by I.left I.faults input.old)
+        (input_by I.left I.faults input.new)
+        (outside_by N.listens N.polls N.sends N.sent N.is_shut N.faults K.lines K.faults O.written O.faults
+        E.written E.faults live.old.ports live.old.key output.old report.old)
+        (outside_by N.listens N.polls N.sends N.sent N.is_shut N.faults K.lines K.faults O.written O.faults
+        E.written E.faults live.new.ports live.new.key output.new report.new) }
+    ensures unkeyed { (options : ServeOptions) → IsServe (map string_bytes words.now) options → options.ptt ≡ None
+        → (K.lines live.new.key ≡ K.lines live.old.key) × (K.faults live.new.key ≡ K.faults live.old.key) }
 
     ensures recorded { (options : RecordOptions) → IsRecord (map string_bytes words.now) options
         → (status : Status) × (result ≡ code_of status)

@@ -3,6 +3,7 @@ use Rattle.std.proofs.Common.{◌≡◌, List, [], ◌∷◌, ◌++◌, refl, sy
 use Rattle.std.proofs.lemmas.Bool.{or_parts, true≢false}
 use Rattle.std.specs.Prelude.{Bool, true, false, ◌||◌, not, Option, Some}
 use Rattle.channel_access.specs.Sound.{has_sound}
+use Rattle.channel_access.specs.Channel.{Channel}
 use Rattle.channel_access.specs.declared.parameters.Parameters.{Parameters}
 use Rattle.channel_access.proofs.QuietBegins.{begins_while_free}
 use Rattle.channel_access.proofs.SoundLemmas.{begins_with_sound}
@@ -26,7 +27,7 @@ use Rattle.station.specs.Turn.{begin}
 use Rattle.tnc_ports.proofs.Common.{AirTick, KeyWords, Live, ServeWords, is_held}
 use Rattle.tnc_ports.specs.KeyLaws.{BeginsKeyed, IsAccepted, NoEndSince, from_tick}
 use Rattle.tnc_ports.specs.Sampled.{IsTicked}
-use Rattle.tnc_ports.proofs.TickParameters.{asked_keep}
+use Rattle.tnc_ports.proofs.ChannelKept.{asked_keep}
 
 -- ---- the tick of the channel
 
@@ -35,14 +36,16 @@ ticking held s = (asked_links held (begin s)).now
 
 half_as : (held : Bool) (s : StationState) → s.channel.parameters.full_duplex ≡ false
     → (ticking held s).channel.parameters.full_duplex ≡ false
-half_as held s half = ap (λ (p : Parameters). p.full_duplex) (asked_keep held (begin s)) ∙ half
+half_as held s half =
+    ap (λ (p : Parameters). p.full_duplex)
+    (asked_keep Parameters (λ (c : Channel). c.parameters) (λ link octets c. refl) held (begin s)) ∙ half
 
 begins_free : (held : Bool) (s : StationState) → s.channel.parameters.full_duplex ≡ false
     → (air_of held s).began ≡ true → held ≡ false
 begins_free held s half began =
     begins_while_free held (some_wants (ticking held s).links) (ticking held s).channel (half_as held s half) began
 
-begins_loud : (held : Bool) (s : StationState) (air : AirTick) → air ≡ air_of held s → air.began ≡ true
+pub begins_loud : (held : Bool) (s : StationState) (air : AirTick) → air ≡ air_of held s → air.began ≡ true
     → has_sound air.samples ≡ true
 begins_loud held s air is began =
     ap (λ (a : AirTick). has_sound a.samples) is
@@ -55,7 +58,7 @@ free_so : (b : Bool) → not b ≡ false → b ≡ true
 free_so true e = refl
 free_so false e = absurd (true≢false e)
 
-calls-append : (more events : List KeyEvent) → calls_of (more ++ events) ≡ calls_of more ++ calls_of events
+pub calls-append : (more events : List KeyEvent) → calls_of (more ++ events) ≡ calls_of more ++ calls_of events
 calls-append [] events = refl
 calls-append (Called call ∷ more) events = ap (λ (calls : List Call). call ∷ calls) (calls-append more events)
 calls-append (Began ∷ more) events = calls-append more events

@@ -39,6 +39,13 @@ pub mod KeySteps
 pub mod KeyTicks
 pub mod LiveTicks
 pub mod KeyReleases
-pub mod TickParameters
+pub mod ChannelKept
 pub mod KeyBegins
 pub mod KeyLaws
+pub mod AirKept
+pub mod AirTicks
+pub mod LoudTicks
+pub mod KeyUntold
+pub mod HostsOnAir
+pub mod KeyRuns
+pub mod KeyServed

@@ -29,3 +29,5 @@ pub mod SampledHeld
 pub mod ServeRun
 pub mod SampledPump
 pub mod KeyLaws
+pub mod RunTicks
+pub mod KeyRuns

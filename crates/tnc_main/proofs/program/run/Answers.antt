@@ -7,6 +7,8 @@ use Rattle.tnc_main.proofs.LiveCommandLemmas.{can_run_live, no_bench, no_job, no
 use Rattle.tnc_main.proofs.LiveCommandLemmas.{only_record}
 use Rattle.tnc_main.specs.Calling.{words_of}
 use Rattle.tnc_main.proofs.CallingLemmas.{called_from}
+use Rattle.key_port.specs.KeyTasks.{LineTold}
+use Rattle.tnc_main.proofs.KeyedRuns.{keyed_from, unkeyed_from}
 use Rattle.tnc_main.proofs.LiveRuns.{rebased}
 use Rattle.tnc_main.proofs.RecordingLemmas.{recorded_from}
 use Rattle.tnc_main.proofs.ServingLemmas.{want_from}
@@ -230,3 +232,21 @@ returns-in-Err-clause-complete_recorded g c = λ options asked octets tells few 
     kept.1 rose))
     (λ rose. no_report (subst (λ report. HasRisen (g.E.Sink.faults report) (g.E.Sink.faults c.run_live.new.report))
     kept.2 rose))
+
+-- ---- the key
+
+pub returns-in-Ok-clause-keyed : goal.returns-in-Ok-clause-keyed
+returns-in-Ok-clause-keyed g c = λ options ptt was out asked is lines closed output.
+    let ran = returns-in-Ok-clause-served g c options asked in
+    (ran.0, ran.1, keyed_from options ptt c.args.live.now.seed was out ran.0 _ _ _ _ is lines closed output ran.2)
+
+pub returns-in-Err-clause-keyed : goal.returns-in-Err-clause-keyed
+returns-in-Err-clause-keyed g c = λ options ptt was out asked is lines closed output.
+    let ran = returns-in-Err-clause-served g c options asked in
+    (ran.0, ran.1, keyed_from options ptt c.args.live.now.seed was out ran.0 _ _ _ _ is lines closed output ran.2)
+
+pub returns-in-Err-clause-unkeyed : goal.returns-in-Err-clause-unkeyed
+returns-in-Err-clause-unkeyed g c = λ options asked none.
+    let ran = returns-in-Err-clause-served g c options asked in
+    let same = unkeyed_from options c.args.live.now.seed ran.0 _ _ _ _ none ran.2 in
+    (ap (λ (line : LineTold). line.lines) same, ap (λ (line : LineTold). line.faults) same)
