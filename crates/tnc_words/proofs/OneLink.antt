@@ -28,9 +28,12 @@ one_params found params other h k =
     ap (λ v. record params { mode = v }) (one_mode Rej _ params.mode other.mode h.mode k.mode)
     ∙ ap (λ v. record params { mode = other.mode; window = v }) (one_number _ _ _ _ _ _ h.window k.window)
     ∙ ap (λ v. record params { mode = other.mode; window = other.window; wide = v }) (h.wide ∙ sym k.wide)
-    ∙ ap (λ v. record other { wide_mode = v; wide_window = params.wide_window })
+    ∙ ap (λ v. record other { wide_mode = v; wide_window = params.wide_window; t1 = params.t1; retries = params.retries })
     (one_mode Srej _ params.wide_mode other.wide_mode h.wide_mode k.wide_mode)
-    ∙ ap (λ v. record other { wide_window = v }) (one_number _ _ _ _ _ _ h.wide_window k.wide_window)
+    ∙ ap (λ v. record other { wide_window = v; t1 = params.t1; retries = params.retries })
+    (one_number _ _ _ _ _ _ h.wide_window k.wide_window)
+    ∙ ap (λ v. record other { t1 = v; retries = params.retries }) (one_number _ _ _ _ _ _ h.t1 k.t1)
+    ∙ ap (λ v. record other { retries = v }) (one_number _ _ _ _ _ _ h.retries k.retries)
 
 -- what tells an SSID tells one
 one_ssid : (tail : List ℕ) (ssid other : ℕ) → ssid < 16 → other < 16 → TellsSsid tail ssid → TellsSsid tail other

@@ -72,6 +72,10 @@ with_window app = with_rule (with_rule app (option_rule (codes "mode"))) (option
 abbrev pub with_wide_window : App → App
 with_wide_window app = with_rule (with_rule app (flag_rule (codes "wide"))) (option_rule (codes "wide-window"))
 
+-- [--t1 n] [--retries n]
+abbrev pub with_retries : App → App
+with_retries app = with_rule (with_rule app (option_rule (codes "t1"))) (option_rule (codes "retries"))
+
 -- [--txdelay n] [--txtail n] [--persist n] [--slot n] [--duplex]
 abbrev pub with_channel : App → App
 with_channel app = with_rule (with_rule (with_rule (with_rule (with_rule app
@@ -90,10 +94,10 @@ with_key app = with_rule (with_rule (with_rule app
     (option_rule (codes "ptt"))) (option_rule (codes "ptt-tail"))) (flag_rule (codes "ptt-data"))
 
 -- serve [--kiss port] [--agw port] [--bind A.B.C.D] [--seed n] [--mode rej or srej] [--window n] [--wide] [--wide-window n]
--- [--txdelay n] [--txtail n] [--persist n] [--slot n] [--duplex] [--paclen n] [--digi call] [--dcd how] [--sensitive] [--monitor] [--ptt n] [--ptt-tail n] [--ptt-data]
+-- [--t1 n] [--retries n] [--txdelay n] [--txtail n] [--persist n] [--slot n] [--duplex] [--paclen n] [--digi call] [--dcd how] [--sensitive] [--monitor] [--ptt n] [--ptt-tail n] [--ptt-data]
 abbrev pub serve_app : App
-serve_app = with_key (with_station (with_rule (with_channel (with_wide_window
-    (with_window (with_rule (with_ports (new_app (codes "serve"))) (option_rule (codes "seed"))))))
+serve_app = with_key (with_station (with_rule (with_channel (with_retries (with_wide_window
+    (with_window (with_rule (with_ports (new_app (codes "serve"))) (option_rule (codes "seed")))))))
     (option_rule (codes "paclen"))))
 
 -- record [--keep n] [--sensitive]

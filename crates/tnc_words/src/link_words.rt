@@ -20,6 +20,18 @@ const WINDOW: Bounds = Bounds {
     greatest: 255,
 };
 
+/// T1 on a path without repeaters, in ticks of 10 ms.
+const T1: Bounds = Bounds {
+    least: 100,
+    greatest: 3000,
+};
+
+/// The most retries.
+const RETRIES: Bounds = Bounds {
+    least: 1,
+    greatest: 20,
+};
+
 /// The parameters of links among what was found. `None` also if a window does not fit its modulus.
 pub(crate) fn link_params(found: &ArgMatches) -> Option<Params>
     ensures params { IfSome result (HasParams (rows_of (found_of found.now))) }
@@ -43,6 +55,8 @@ fn params_said(found: &ArgMatches) -> Option<Params>
         wide: has_flag(found, "wide"),
         wide_mode: mode(text_of(found, "mode"), Mode::Srej)?,
         wide_window: number_found(found, "wide-window", 32, WINDOW)? as u8,
+        t1: number_found(found, "t1", 200, T1)? as u16,
+        retries: number_found(found, "retries", 10, RETRIES)? as u8,
     })
 }
 

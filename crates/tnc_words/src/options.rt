@@ -63,7 +63,7 @@ pub(crate) const BENCH: [Entry; 6] = [
 ];
 
 /// The options of `serve`.
-pub(crate) const SERVE: [Entry; 21] = [
+pub(crate) const SERVE: [Entry; 23] = [
     Entry::Value("kiss"),
     Entry::Value("agw"),
     Entry::Value("bind"),
@@ -72,6 +72,8 @@ pub(crate) const SERVE: [Entry; 21] = [
     Entry::Value("window"),
     Entry::Flag("wide"),
     Entry::Value("wide-window"),
+    Entry::Value("t1"),
+    Entry::Value("retries"),
     Entry::Value("txdelay"),
     Entry::Value("txtail"),
     Entry::Value("persist"),

@@ -20,9 +20,9 @@ A software terminal node controller for packet radio: AX.25 over the tones of Be
   tnc loop --seed n --frames n [--rough] [--threads]
   tnc bench --seed n [--octets n] [--loss n] [--noise n] [--full] [--wide]
   tnc serve [--kiss port] [--agw port] [--bind A.B.C.D] [--seed n] [--mode name]
-            [--window n] [--wide] [--wide-window n] [--txdelay n] [--txtail n] [--persist n]
-            [--slot n] [--duplex] [--paclen n] [--digi call] [--dcd how] [--sensitive]
-            [--monitor]
+            [--window n] [--wide] [--wide-window n] [--t1 n] [--retries n] [--txdelay n]
+            [--txtail n] [--persist n] [--slot n] [--duplex] [--paclen n] [--digi call]
+            [--dcd how] [--sensitive] [--monitor]
             [--ptt n] [--ptt-tail n] [--ptt-data]
   tnc record [--keep n] [--sensitive]
   tnc call --agw n --from call --to call [--via calls] [--expect n] [--polls n]
@@ -107,9 +107,9 @@ Runs two stations that are joined by sound, whose hosts give each other a text, 
 
 const SERVE: &str = "\
 Usage: tnc serve [--kiss port] [--agw port] [--bind A.B.C.D] [--seed n] [--mode name]
-                 [--window n] [--wide] [--wide-window n] [--txdelay n] [--txtail n] [--persist n]
-                 [--slot n] [--duplex] [--paclen n] [--digi call] [--dcd how] [--sensitive]
-                 [--monitor]
+                 [--window n] [--wide] [--wide-window n] [--t1 n] [--retries n] [--txdelay n]
+                 [--txtail n] [--persist n] [--slot n] [--duplex] [--paclen n] [--digi call]
+                 [--dcd how] [--sensitive] [--monitor]
                  [--ptt n] [--ptt-tail n] [--ptt-data]
 
 Runs a station until its sound ends: it hears standard input, sends standard output, and serves host programs.
@@ -122,6 +122,8 @@ Runs a station until its sound ends: it hears standard input, sends standard out
   --window n       frames that a link sends ahead, modulo 8, 1 to 7, with srej to 4 (4)
   --wide           links are called modulo 128
   --wide-window n  frames that a link sends ahead, modulo 128, 1 to 64, with rej to 127 (32)
+  --t1 n           ticks of 10 ms that a link waits for an answer, without repeaters, 100 to 3000 (200)
+  --retries n      how often a link asks again before it fails, 1 to 20 (10)
   --txdelay n      flags before the first frame, in units of 10 ms, 0 to 255 (30)
   --txtail n       flags after the last frame, in units of 10 ms, 0 to 255 (2)
   --persist n      a draw from 0 to 255 sends if it is at most n, 0 to 255 (63)

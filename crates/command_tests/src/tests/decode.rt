@@ -41,7 +41,7 @@ const WORDS: DecodeWords = DecodeWords {
     },
 };
 
-/// By all 23 lanes.
+/// By all 26 lanes.
 const SENSITIVE: DecodeWords = DecodeWords {
     receiving: Receiving::Sensitive {
         rate: SampleRate::Narrow,

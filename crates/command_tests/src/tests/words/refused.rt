@@ -159,6 +159,21 @@ x
 --wide-window 65 --mode srej
 --wide-window 128 --mode rej
 --wide 8
+--t1
+--t1=
+--t1 99
+--t1 3001
+--t1 0
+--t1 -200
+--t1 +200
+--t1 2s
+--t1 200 --t1 200
+--retries
+--retries 0
+--retries 21
+--retries +3
+--retries 3x
+--retries 3 --retries 3
 --txdelay 256
 --txdelay -1
 --txdelay=

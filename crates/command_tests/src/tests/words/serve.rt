@@ -16,6 +16,8 @@ const PARAMS: Params = Params {
     wide: false,
     wide_mode: Mode::Srej,
     wide_window: 32,
+    t1: 200,
+    retries: 10,
 };
 
 const CHANNEL: ChannelOptions = ChannelOptions {
@@ -98,6 +100,23 @@ fn serve_takes_what_links_are_made_with(rt: HostRuntime) -> Result<(), Fail> {
                 wide: true,
                 wide_window: 64,
                 ..srej
+            },
+        ),
+        ("--t1 100", Params { t1: 100, ..PARAMS }),
+        ("--t1=03000", Params { t1: 3000, ..PARAMS }),
+        (
+            "--retries 1",
+            Params {
+                retries: 1,
+                ..PARAMS
+            },
+        ),
+        (
+            "--retries=20 --t1 300",
+            Params {
+                t1: 300,
+                retries: 20,
+                ..PARAMS
             },
         ),
     ];
