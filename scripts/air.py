@@ -191,6 +191,10 @@ class Kiss:
 
     def frames(self):
         """All frames so far."""
+        return self.items(0)
+
+    def items(self, command):
+        """What has come so far by a command of port 0."""
         try:
             while part := self.socket.recv(65536):
                 self.input += part
@@ -198,4 +202,4 @@ class Kiss:
             pass
         parts = [it for it in self.input.split(b"\xc0")[:-1] if it]
         plain = [it.replace(b"\xdb\xdc", b"\xc0").replace(b"\xdb\xdd", b"\xdb") for it in parts]
-        return [it[1:] for it in plain if it[0] == 0]
+        return [it[1:] for it in plain if it[0] == command]

@@ -526,7 +526,7 @@ def speaks_kiss(tnc):
     odd = ui_frame("N0CALL", "APRS", b"\xc0\xdb\xdc\xdd\xdb\xc0")
     near.send(RAW)
     near.send(odd)
-    for command in (0x10, 0xF0, 0x0C, 0x0E, 0x07):
+    for command in (0x10, 0xF0, 0x0D, 0x0E, 0x07):
         near.send(RAW, command=command)
     near.send(RAW[:14])
     near.send(RAW + bytes(1025 - len(RAW)))
@@ -535,6 +535,29 @@ def speaks_kiss(tnc):
     for host in (far, also):
         wanted = [RAW, odd, RAW[:3], RAW + b"last"][:2] + [RAW + b"last"]
         same(world.frames(host, 3), wanted)
+    same(near.frames(), [])
+    world.end()
+
+
+def tells_of_sent_frames(tnc):
+    """KISS command 12, ACKMODE: who asks is told of each frame of its own once that has been sent, in order; no other host is."""
+    world = World(tnc)
+    near, other, far = world.kiss(0), world.kiss(0), world.kiss(1)
+    long = RAW + bytes(1024 - len(RAW))
+    near.send(b"\xc0\xdb" + RAW, command=12)
+    world.go(3)
+    same(near.items(12), [])
+    for frame, command in ((long, 0), (b"\1\2" + RAW, 12)):
+        other.send(frame, command=command)
+        world.go(5)
+    for command in (0x1C, 0xFC):
+        near.send(b"\3\4" + RAW, command=command)
+    for passed_over in (b"\5\6" + RAW[:14], b"\7\x08" + long + b"\0", b"\x09", b""):
+        near.send(passed_over, command=12)
+    near.send(b"\x0c\x0c" + long, command=12)
+    same(world.frames(far, 4), [RAW, long, RAW, long])
+    for host, marks in ((near, [b"\xc0\xdb", b"\x0c\x0c"]), (other, [b"\1\2"]), (far, [])):
+        same(host.items(12), marks)
     same(near.frames(), [])
     world.end()
 
@@ -553,7 +576,8 @@ def repeats(tnc):
 
 OWN = [
     answers, settings, registers, sends_unproto, raw_frames, monitors, carries, connects_with_pid, connects_by_repeater,
-    refuses_calls, has_links_for_64, is_refused_by_nobody, takes_pieces, closes, has_room_for_64, is_flooded, speaks_kiss, repeats,
+    refuses_calls, has_links_for_64, is_refused_by_nobody, takes_pieces, closes, has_room_for_64, is_flooded, speaks_kiss,
+    tells_of_sent_frames, repeats,
 ]
 
 

@@ -27,7 +27,7 @@ class DireWolf:
 
     def __init__(self, call, *settings):
         self.kiss, self.agw = free_port(), free_port()
-        self.home = tempfile.TemporaryDirectory(prefix="direwolf-")
+        self.home = tempfile.TemporaryDirectory(prefix="direwolf-", ignore_cleanup_errors=True)
         pipe = f"{self.home.name}/sent"
         os.mkfifo(pipe)
         self.write(".asoundrc", CARD.format(pipe))

@@ -6,10 +6,12 @@
 Two stations are joined by an air of pipes. Again and again there is a storm: random and mutated octets, in random
 pieces, come from many hosts to both ports of the first station, some of which leave in the middle of a message, and
 random and mutated frames come from the second station. Then there is a calm, in which hosts that speak as they are to
-must be served: each question is answered, a frame that is heard is shown, and a whole connected session carries its
-octets both ways. One random host in ten begins as a program of the web does: it must be closed, and no frame that it sends may
-be heard. At the end both stations must end with status 0, and must have reported nothing but connections that they closed. It prints one line and ends with status 0 if all is well. The seed tells what is said; how fast the
-sockets are tells in which tick.
+must be served: each question is answered, a frame that is heard is shown, a whole connected session carries its
+octets both ways, and a host that asks to be told when its frames have been sent is told of each of them. One random
+host in ten begins as a program of the web does: it must be closed, and no frame that it sends may be heard. At the
+end both stations must end with status 0, and must have reported nothing but connections that they closed. It prints
+one line and ends with status 0 if all is well. The seed tells what is said; how fast the sockets are tells in which
+tick.
 
 A KISS host sets the channel for all: with a persistence near 0 the station hardly ever sends, and while a hundred frames wait it
 hears no host, so none can overrule that one. If a wait is given up in which the station sent next to nothing, and a random
@@ -92,8 +94,10 @@ class Words:
         if self.draws.randrange(3) == 0:
             return self.noise(200)
         # the port and the command; the parameters of the channel are set by one in ten
-        command = self.draws.choice([0] * 9 + [self.draws.randrange(256)])
-        text = bytes([command]) + self.frame()
+        command = self.draws.choice([0] * 7 + [12] * 2 + [self.draws.randrange(256)])
+        # a frame that asks to be told of has two octets of the host's own before it
+        mark = self.draws.randbytes(2) if command & 15 == 12 else b""
+        text = bytes([command]) + mark + self.frame()
         text = text.replace(b"\xdb", b"\xdb\xdd").replace(b"\xc0", b"\xdb\xdc")
         return self.spoiled(b"\xc0" + text + b"\xc0")
 
@@ -293,11 +297,23 @@ class Storms:
         for _ in range(20):
             self.step()
         self.session()
+        self.tells_of_frames()
         self.until("each program of the web is closed", self.has_shut_the_web)
         self.calms += 1
         self.least = 255
         for host in self.random_hosts:
             host.said = b""
+
+    def tells_of_frames(self):
+        """A KISS host is told of each of its frames once it has been sent, in order, and of no frame of another host."""
+        self.until("an empty queue", lambda: self.answered(self.agw_a, "y") == bytes(4))
+        marks, before = [self.draws.randbytes(2) for _ in range(3)], len(self.kiss_a.items(12))
+        frame = bytes(ord(it) << 1 for it in "BEACON0SANEA ") + b"\x61\x03\xf0told"
+        for mark in marks:
+            self.kiss_a.send(mark + frame, 12)
+        self.until("told of its frames", lambda: len(self.kiss_a.items(12)) >= before + len(marks))
+        if self.kiss_a.items(12)[before:] != marks:
+            raise RuntimeError("a host is told of other frames than its own")
 
     def has_shut_the_web(self):
         """Whether no program of the web is left; each is asked for its turn, in which it says no more than it has begun."""

@@ -26,6 +26,7 @@ PROMISES = [
     ("heard", "tnc_main/src/program.rt", "clause", "heard"),
     ("benched", "tnc_main/src/program.rt", "clause", "benched"),
     ("served", "tnc_main/src/program.rt", "clause", "served"),
+    ("keyed", "tnc_main/src/program.rt", "clause", "keyed"),
     ("recorded", "tnc_main/src/program.rt", "clause", "recorded"),
     ("called", "tnc_main/src/program.rt", "clause", "called"),
     ("two links", "link_world/src/laws.rt", "function", "prefix_law"),
