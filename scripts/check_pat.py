@@ -1,14 +1,15 @@
 #!/usr/bin/env python3
 """Checks that Winlink's `pat` carries mail over the station: two of them at two stations whose sound reaches each other.
 
-  scripts/check_pat.py [--tnc PROGRAM] [--pat PROGRAM] [--only NAME] [--at-once N] [--speed N] [--seed N] [--ptt]
+  scripts/check_pat.py [--tnc PROGRAM] [--pat PROGRAM] [--only NAME] [--at-once N] [--speed N] [--seed N] [--ptt | --wolves]
 
 Each has a fresh home, and a message for the other one; one has an attachment. One waits for calls, the other one calls, and
 both messages have to arrive whole, by REJ, by SREJ and modulo 128, and also while 15 % of the transmissions are lost. It prints
 a line for each session, with its seconds on the air from the call to its end. AGWPE came with pat 0.14: an older one is left
 out, as is one that is not installed (status 0). Debian calls the program pat-winlink. The sound goes at its own pace, or N
 times as fast, while pat has its own clock. With --ptt each station keys the dummy rig of a rigctld of its own, and its sound
-goes out only while that is keyed; none may be cut off."""
+goes out only while that is keyed; none may be cut off. With --wolves both stations are Dire Wolfs, on the same sound at its
+own pace: that is for a comparison and no check."""
 import argparse
 import concurrent.futures
 import json
@@ -22,6 +23,7 @@ import tempfile
 import time
 
 from air import Air, Kiss, Station, free_port
+from direwolf import DireWolf
 from rigs import Rig, Transmitter, are_there
 
 CALLS = ("N7LEM", "NJ7P")
@@ -38,6 +40,15 @@ SESSIONS = [
     ("SREJ, 15 % lost", ["--mode", "srej"], 15),
     ("modulo 128, 15 % lost", ["--wide", "--wide-window", "8"], 15),
     ("modulo 128, SREJ, 15 % lost", ["--wide", "--wide-window", "8", "--mode", "srej"], 15),
+]
+
+
+# The same of two Dire Wolfs. They call modulo 128 and by SREJ if they may, and else modulo 8 and by REJ.
+WOLVES = [
+    ("REJ", ["MAXV22 0"], 0),
+    ("modulo 128, SREJ", [], 0),
+    ("REJ, 15 % lost", ["MAXV22 0"], 15),
+    ("modulo 128, SREJ, 15 % lost", [], 15),
 ]
 
 
@@ -135,10 +146,13 @@ class World:
     """Two stations, a `pat` at each, and a way to let their sound go on."""
 
     def __init__(self, given, words, loss, seed):
-        keys = [Transmitter(Rig().start()) if given.ptt else None for _ in range(2)]
-        self.stations = [
-            Station(given.tnc, "--seed", str(at + 1), "--monitor", *words, transmitter=key) for at, key in enumerate(keys)
-        ]
+        if given.wolves:
+            self.stations = [DireWolf(call, *words) for call in CALLS]
+        else:
+            keys = [Transmitter(Rig().start()) if given.ptt else None for _ in range(2)]
+            self.stations = [
+                Station(given.tnc, "--seed", str(at + 1), "--monitor", *words, transmitter=key) for at, key in enumerate(keys)
+            ]
         self.air = Air(*self.stations, ticks=2, loss=loss, seed=seed)
         self.began, self.speed, self.faults = time.monotonic(), given.speed, []
         self.pats = [Pat(given.pat, call, station.agw) for call, station in zip(CALLS, self.stations)]
@@ -158,6 +172,9 @@ class World:
         """Ends all; what was printed."""
         texts = [pat.end() for pat in self.pats]
         for station in self.stations:
+            if isinstance(station, DireWolf):
+                texts.append(station.end())
+                continue
             status, _, report = station.end()
             texts.append(report)
             if status:
@@ -215,7 +232,9 @@ def main():
     reader.add_argument("--seed", type=int, default=1)
     reader.add_argument("--only", default="")
     reader.add_argument("--at-once", type=int, default=4)
-    reader.add_argument("--ptt", action="store_true")
+    keying = reader.add_mutually_exclusive_group()
+    keying.add_argument("--ptt", action="store_true")
+    keying.add_argument("--wolves", action="store_true")
     given = reader.parse_args()
     if not given.pat:
         sys.exit(print("skipped: mail by pat (pat is not installed)"))
@@ -238,7 +257,7 @@ def main():
 
     # most of a session is waiting for its sound
     with concurrent.futures.ThreadPoolExecutor(given.at_once) as pool:
-        wells = list(pool.map(is_well, [row for row in SESSIONS if given.only in row[0]]))
+        wells = list(pool.map(is_well, [row for row in (WOLVES if given.wolves else SESSIONS) if given.only in row[0]]))
     sys.exit(not all(wells))
 
 

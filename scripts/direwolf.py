@@ -59,6 +59,10 @@ class DireWolf:
         part, self.queue = self.queue[:count], self.queue[count:]
         return part.ljust(count, b"\0")
 
+    def sound(self, count):
+        """The same, as a station of this program is asked."""
+        return self.take(count)
+
     def end(self):
         """Ends it, and tells what it printed."""
         self.program.stdin.close()

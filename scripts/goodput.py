@@ -140,7 +140,9 @@ class Hosts:
             self.is_over = self.got_a == QUESTIONS * self.octets
         else:
             self.is_over = self.got_b == self.octets and (self.kind == "one" or self.got_a == self.octets)
-        if self.a.take("d") or self.b.take("d"):
+        # The host that is called is told of an end, and of the call again, if the answer to the call is lost: no link is lost.
+        is_ended = [bool(host.take("d")) for host in (self.a, self.b)]
+        if is_ended[0] or is_ended[1] and self.is_up:
             self.is_lost = self.is_over = True
         for host in (self.a, self.b):
             host.pump()
