@@ -4,6 +4,7 @@ use Rattle.tnc_decode.proofs.Common.{ap, sym, subst, ◌∙◌, arith, append_as
 use Rattle.tnc_decode.proofs.Common.{Result, Ok, ◌⊎◌, WavFault, Rates, chunks, Reading, reading, samples_in, fault_in}
 use Rattle.tnc_decode.proofs.Common.{rate_in, sample_of, InputFault, AudioForm, Raw, Wav, DecodeWords, File, rates_of}
 use Rattle.tnc_decode.proofs.Common.{samples_at, samples_read, stopping_fault_at, form_fault_at, modem_of, HasTakenAt}
+use Rattle.std.proofs.Math.Seq.{take-add}
 use Rattle.std.proofs.lemmas.List.{take_more, take-append-drop}
 use Rattle.std.specs.Prelude.{Err, option_map}
 use Rattle.std.specs.Result.{result_err}
@@ -109,6 +110,24 @@ module _ (rates : Rates) (form : AudioForm) (before : List ℕ) (octet : ℕ) (f
           → stopping_fault_at rates form (before ++ octet ∷ []) ≡ Some (BadWav fault)
       by_form Raw h = absurd h
       by_form Wav h = ap (option_map BadWav) (shows before h.0 ∙ ap result_err is)
+
+-- whole samples of the data at once
+module _ (rates : Rates) (form : AudioForm) (before octets : List ℕ) (file next : HeldFile)
+    (stands : (before : List ℕ) → FileStandsFor rates file before → FileStandsFor rates next (before ++ octets))
+    (gives : (before : List ℕ) → FileStandsFor rates file before
+    → samples_in rates (before ++ octets) ≡ samples_in rates before ++ samples octets)
+    (shows : (before : List ℕ) → FileStandsFor rates file before
+    → fault_in rates (before ++ octets) ≡ fault_in rates before) where
+  pub data_takes : HasTakenAt rates form (File file) before
+      → HasTakenAt rates form (File next) (before ++ octets)
+      × (samples_at rates form (before ++ octets) ≡ samples_at rates form before ++ samples octets)
+  data_takes h = by_form form h
+    where
+      by_form : (form : AudioForm) → HasTakenAt rates form (File file) before
+          → HasTakenAt rates form (File next) (before ++ octets)
+          × (samples_at rates form (before ++ octets) ≡ samples_at rates form before ++ samples octets)
+      by_form Raw h = absurd h
+      by_form Wav h = ((stands before h.0, shows before h.0 ∙ h.1), gives before h.0)
 
 -- ---- faults
 
@@ -221,6 +240,30 @@ takes_more initial was now octets count found more below h takes samples few = r
             (samples_at rates form before) so_far.0 so_far.1,
       );
   few = (let l = h.few in omega arith);
+}
+
+-- many octets more of the block, the first of those that are left
+pub takes_many : (initial was now : Audio) (octets left : List ℕ) (count many total : ℕ) (found more : List ℤ)
+    → total ≡ count + many → left ≡ drop count octets → TakesOn initial was octets count found
+    → ((rates : Rates) (form : AudioForm) (before : List ℕ) → HasTakenAt rates form was before
+    → HasTakenAt rates form now (before ++ take many left))
+    → ((rates : Rates) (form : AudioForm) (before : List ℕ) (front : List ℤ) → HasTakenAt rates form was before
+    → samples_at rates form before ≡ front ++ found
+    → samples_at rates form (before ++ take many left) ≡ front ++ more)
+    → length more ≤ length found + many
+    → TakesOn initial now octets total more
+takes_many initial was now octets left count many total found more sum is h takes samples few = record {
+  takes = λ rates form before k.
+      let so_far = h.takes rates form before k in
+      let longer : before ++ take total octets ≡ (before ++ take count octets) ++ take many left =
+      ap (λ n. before ++ take n octets) sum ∙ ap (λ t. before ++ t) (take-add count many octets)
+      ∙ ap (λ t. before ++ (take count octets ++ take many t)) (sym is)
+      ∙ sym (append_assoc before (take count octets) (take many left)) in (
+        subst (HasTakenAt rates form now) (sym longer) (takes rates form (before ++ take count octets) so_far.0),
+        ap (samples_at rates form) longer ∙ samples rates form (before ++ take count octets)
+            (samples_at rates form before) so_far.0 so_far.1,
+      );
+  few = (let l = h.few in omega (arith, l, few, sum));
 }
 
 -- a fault at an octet of the block stops at the block

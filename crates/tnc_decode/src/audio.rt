@@ -1,5 +1,5 @@
 //! Audio in its two forms, as its octets come.
-ghost use Rattle.std.specs.Prelude.{◌≡◌, ◌≤◌, ◌+◌, ◌++◌, List, ℕ, ℤ, [], ◌∷◌, Some, IfOk, OnOk, IsErrOf, length};
+ghost use Rattle.std.specs.Prelude.{◌≡◌, ◌≤◌, ◌+◌, ◌++◌, List, ℕ, ℤ, [], ◌∷◌, Some, IfOk, OnOk, IsErrOf, length, take};
 ghost use Rattle.wav_file.specs.Samples.{samples as samples_in_pairs};
 ghost use Rattle.tnc_forms.specs.declared.fault.InputFault.{InputFault};
 ghost use Rattle.tnc_words.specs.declared.command.AudioForm.{AudioForm};
@@ -150,7 +150,7 @@ fn take_pairs(octets: &[u8], samples: &mut Vec<i16>) -> Result<Option<u8>, OutOf
     Ok(rest.first().copied())
 }
 
-/// Takes the next octets of a WAV file.
+/// Takes the next octets of a WAV file: whole samples of the data many at once, and other octets one by one.
 fn take_file(file: &mut WavIn, octets: &[u8], samples: &mut Vec<i16>) -> Result<(), Fault>
     requires { samples.old.items ≡ [] }
     ensures takes { OnOk result ((rates : Rates) (form : AudioForm) (before : List ℕ)
@@ -165,10 +165,31 @@ fn take_file(file: &mut WavIn, octets: &[u8], samples: &mut Vec<i16>) -> Result<
     ensures read { ¬ IsErrOf result Fault.Read }
     ensures write { ¬ IsErrOf result Fault.Write }
 {
-    for octet in octets {
-        take_one(file, *octet, samples)?;
+    let mut count = take_data(file, octets, samples)?;
+    'taking: while count < octets.len() {
+        take_one(file, octets[count], samples)?;
+        count += 1;
+        count += take_data(file, &octets[count..], samples)?;
     }
     Ok(())
+}
+
+/// Takes the octets at the front that are whole samples of the data, appends their samples, and gives how many octets
+/// they are.
+fn take_data(file: &mut WavIn, octets: &[u8], samples: &mut Vec<i16>) -> Result<usize, OutOfMemory>
+    ensures count { IfOk result (λ count. count ≤ length octets.now) }
+    ensures takes { IfOk result (λ count. (rates : Rates) (form : AudioForm) (before : List ℕ)
+        → HasTakenAt rates form (Audio.File file.old) before
+        → HasTakenAt rates form (Audio.File file.new) (before ++ take count octets.now)) }
+    ensures samples { IfOk result (λ count. (rates : Rates) (form : AudioForm) (before : List ℕ) (front : List ℤ)
+        → HasTakenAt rates form (Audio.File file.old) before
+        → samples_at rates form before ≡ front ++ samples.old.items
+        → samples_at rates form (before ++ take count octets.now) ≡ front ++ samples.new.items) }
+    ensures few { IfOk result (λ count. length samples.new.items ≤ length samples.old.items + count) }
+{
+    let count = file.take_pairs(octets);
+    take_pairs(&octets[..count], samples)?;
+    Ok(count)
 }
 
 /// Takes the next octet of a WAV file, and appends the sample that ends with it.

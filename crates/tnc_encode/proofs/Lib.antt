@@ -8,3 +8,4 @@ pub mod PieceLemmas
 pub mod EndedLemmas
 pub mod ModemLemmas
 pub mod WritingLemmas
+pub mod WindowLemmas

@@ -3,3 +3,4 @@ pub mod Frames
 pub mod Encoded
 pub mod HeldFrames
 pub mod Writing
+pub mod Windows

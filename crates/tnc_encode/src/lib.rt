@@ -3,11 +3,13 @@
 //! words make of the input's frames; at a bad line it is that of the frames before it, or no WAV file.
 #![tactic(auto)]
 
+mod bell202;
 mod counting;
 mod encoding;
 mod frame_in;
 mod frames;
 mod pieces;
 mod sending;
+mod windows;
 
 pub use encoding::encode;

@@ -1,12 +1,13 @@
 //! Frames as the octets of their signal.
-ghost use Rattle.std.specs.Prelude.{◌≡◌, ◌↔◌, ℕ, IfOk, IsErrOf};
+ghost use Rattle.std.specs.Prelude.{◌≡◌, ℕ, IfOk, IsErrOf};
 ghost use Rattle.afsk_modulator.specs.Modulation.{IsLevel};
 ghost use Rattle.afsk_modulator.specs.Transmission.{AreFewFlags, IsFirstBadLength};
 ghost use Rattle.tnc_encode.specs.Encoded.{samples_at_once};
 ghost use Rattle.tnc_encode.specs.Sending.{transmission_by};
 ghost use Rattle.tnc_encode.specs.Writing.{CanBeSent, CanSend};
 
-use afsk_modulator::{ModFault, transmission_at};
+use crate::bell202::bell202_transmission;
+use afsk_modulator::ModFault;
 use fx25_sender::fx25_transmission;
 use hf_modem::hf_transmission;
 use std::alloc::Global;
@@ -41,13 +42,19 @@ fn transmission(alloc: Global, words: EncodeWords, frames: &[Octets]) -> Result<
     requires level { IsLevel words.level }
     ensures sent { IfOk result (λ samples. samples.items
         ≡ transmission_by words.modem words.level frames.now words.opening words.closing) }
-    ensures few_flags { IsErrOf result ModFault.FewFlags ↔ AreFewFlags words.opening words.closing }
-    ensures bad_length { (index : ℕ) → IsErrOf result (ModFault.BadLength index)
-        ↔ ((¬ AreFewFlags words.opening words.closing) × IsFirstBadLength frames.now index) }
+    ensures few_flags { IsErrOf result ModFault.FewFlags → AreFewFlags words.opening words.closing }
+    ensures bad_length { (index : ℕ) → IsErrOf result (ModFault.BadLength index) → IsFirstBadLength frames.now index }
 {
     match words.modem {
         Modem::Bell202 => {
-            transmission_at(alloc, 0, words.level, frames, words.opening, words.closing)
+            let samples = bell202_transmission(
+                alloc,
+                words.level,
+                frames,
+                words.opening,
+                words.closing,
+            )?;
+            Ok(samples)
         }
         Modem::ShortWave => {
             hf_transmission(alloc, words.level, frames, words.opening, words.closing)

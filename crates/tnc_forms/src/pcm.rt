@@ -7,14 +7,11 @@ use std::alloc::Global;
 use tnc_base::OutOfMemory;
 
 /// Samples as raw PCM.
+#[tactic(auto, unfolding(crate::specs::Pcm::pcm))]
 pub fn write_pcm(alloc: Global, samples: &[i16]) -> Result<Vec<u8>, OutOfMemory>
     ensures { IfOk result (λ octets. octets.items ≡ pcm samples.now) }
 {
-    let mut octets = Vec::new(alloc);
-    for sample in samples {
-        let mut pair = [0; 2];
-        LittleEndian::write_i16(&mut pair, *sample);
-        octets.extend_from_slice(&pair)?;
-    }
+    let mut octets = vec![in alloc; 0; 2 * samples.len()]?;
+    LittleEndian::write_i16_into(samples, &mut octets);
     Ok(octets)
 }

@@ -1,4 +1,5 @@
 pub mod ChunkLemmas
 pub mod StepLemmas
 pub mod RestLemmas
+pub mod PairLemmas
 pub mod HeadLemmas

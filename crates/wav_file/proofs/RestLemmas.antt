@@ -260,7 +260,7 @@ module _ (rates : Rates) where
       }
 
   -- all that has come
-  now_told : (held : Held) (octets : List ℕ) → StandsFor rates held octets → Fits held.position held.part held.unit
+  pub now_told : (held : Held) (octets : List ℕ) → StandsFor rates held octets → Fits held.position held.part held.unit
       → ((reading rates octets).fault ≡ fault_of_part held.part)
       × ((reading rates octets).whole ≡ whole_of_part held.part)
       × ((reading rates octets).rate ≡ rate_of_part held.part)

@@ -1,6 +1,6 @@
 -- What is kept of a file while its octets come: the part of the file that is under way. No public clause looks inside:
 -- they cite `StandsFor` alone.
-use Rattle.std.specs.Prelude.{◌≡◌, ℕ, ◌+◌, ◌-◌, ◌<◌, ◌≤◌, ◌==◌, ◌&&◌, is_none, nat_lt, nat_le, if◌then◌else◌, Bool}
+use Rattle.std.specs.Prelude.{◌≡◌, ℕ, ◌+◌, ◌-◌, ◌<◌, ◌≤◌, ◌==◌, ◌&&◌, ◌%◌, min, is_none, nat_lt, nat_le, if◌then◌else◌, Bool}
 use Rattle.std.specs.Prelude.{true, false, List, [], ◌∷◌, ◌++◌, length, take, drop, codes, slice_index, ℤ, Option, Some}
 use Rattle.std.specs.Prelude.{None, Result, Ok, Err}
 use Rattle.std.specs.Option.{option_to_list}
@@ -109,6 +109,26 @@ abbrev pub after_data : ℕ → Option ℕ → Option ℕ → ℕ → Part × Op
 after_data rate None low octet = after_data_octet rate None low octet
 after_data rate (Some left) low octet =
     if left == 0 then (Data rate (Some left) low, None) else after_data_octet rate (Some (left - 1)) low octet
+
+-- how many of so many octets are whole samples of the data that come next: none if a sample has begun
+abbrev pub pairs_ahead : Part → ℕ → ℕ
+pairs_ahead Head count = 0
+pairs_ahead (AtChunk rate skip) count = 0
+pairs_ahead (AtFormat field rate skip) count = 0
+pairs_ahead (Data rate left (Some low)) count = 0
+pairs_ahead (Data rate None None) count = count - count % 2
+pairs_ahead (Data rate (Some left) None) count = min count left - min count left % 2
+pairs_ahead (Failed fault) count = 0
+
+-- after so many of them
+abbrev pub after_pairs : Part → ℕ → Part
+after_pairs Head count = Head
+after_pairs (AtChunk rate skip) count = AtChunk rate skip
+after_pairs (AtFormat field rate skip) count = AtFormat field rate skip
+after_pairs (Data rate left (Some low)) count = Data rate left (Some low)
+after_pairs (Data rate None None) count = Data rate None None
+after_pairs (Data rate (Some left) None) count = Data rate (Some (left - count)) None
+after_pairs (Failed fault) count = Failed fault
 
 -- the step that an octet makes
 abbrev pub step_of : Rates → ℕ → Part → List ℕ → ℕ → Step

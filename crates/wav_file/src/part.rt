@@ -1,6 +1,6 @@
 // The parts of a file, and which one is under way after an octet.
 
-ghost use Rattle.std.specs.Prelude.{◌≡◌, ◌<◌, ◌≢◌, ◌≤◌, length, take, drop, Some};
+ghost use Rattle.std.specs.Prelude.{◌≡◌, ◌<◌, ◌≢◌, ◌≤◌, ℕ, length, take, drop, Some};
 ghost use Rattle.byteorder.specs.Endian.{little_number};
 ghost use Rattle.wav_file.specs.Chunks.{padded};
 ghost use Rattle.wav_file.specs.Samples.{sample_of};
@@ -52,6 +52,7 @@ pub enum Part {
 
 impl Part {
     ghost use Rattle.wav_file.specs.Held.{after_head, after_chunk_head, after_field, after_data, data_begun};
+    ghost use Rattle.wav_file.specs.Held.{pairs_ahead, after_pairs};
     ghost use Rattle.wav_file.specs.Held.{format_begun, answer_of, fault_of_part, rate_of_part, whole_of_part};
     ghost use Rattle.wav_file.specs.Reading.{verdict_on};
 
@@ -124,6 +125,47 @@ impl Part {
                     Some(sample),
                 )
             }
+        }
+    }
+
+    // How many of so many octets are whole samples of the data that come next: none if a sample has begun.
+    pub fn pairs_ahead(self, count: usize) -> usize
+        ensures { result ≡ pairs_ahead self count }
+    {
+        match self {
+            Part::Data {
+                left: None,
+                low: None,
+                ..
+            } => count - count % 2,
+            Part::Data {
+                left: Some(left),
+                low: None,
+                ..
+            } => {
+                let count = count.min(left as usize);
+                count - count % 2
+            }
+            _ => 0,
+        }
+    }
+
+    // After so many octets that are whole samples of the data.
+    pub fn after_pairs(self, count: usize) -> Part
+        requires { (most : ℕ) × (count ≡ pairs_ahead self most) }
+        ensures { result ≡ after_pairs self count }
+    {
+        match self {
+            Part::Data {
+                rate,
+                left: Some(left),
+                low: None,
+            } => Part::Data {
+                rate,
+                left: Some(left - count as u32),
+                low: None,
+            },
+            part => part,
         }
     }
 

@@ -1,6 +1,6 @@
 // A WAV file as its octets come.
 
-ghost use Rattle.std.specs.Prelude.{◌≡◌, ◌+◌, ℕ, List, [], ◌∷◌, ◌++◌, Some, Err};
+ghost use Rattle.std.specs.Prelude.{◌≡◌, ◌+◌, ◌≤◌, ℕ, List, [], ◌∷◌, ◌++◌, length, take, Some, Err};
 ghost use Rattle.std.specs.Result.{result_err};
 
 use crate::fault::WavFault;
@@ -13,7 +13,7 @@ use std::marker::Model;
 // The most octets that are looked at together: those of a chunk's head.
 const UNIT: usize = 8;
 
-/// Reads a WAV file octet by octet, and takes no memory.
+/// Reads a WAV file octet by octet, or its data by many samples at once, and takes no memory.
 #[derive(Drop)]
 pub struct WavIn {
     rates: Rates,
@@ -38,6 +38,7 @@ impl WavIn {
     ghost use Rattle.wav_file.specs.Held.{StandsFor, Fits, step_of, to_part, made};
     ghost use Rattle.wav_file.specs.Reading.{samples_in, fault_in, given, rate_in, verdict_of};
     ghost use Rattle.wav_file.specs.Place.{told_place};
+    ghost use Rattle.wav_file.specs.Samples.{samples};
 
     /// A reader of files at 9600 samples a second, to which no octet has come.
     pub fn new() -> Self
@@ -78,6 +79,25 @@ impl WavIn {
     {
         let sample = self.take(octet);
         self.part.answer(sample)
+    }
+
+    /// Takes the octets at the front that are whole samples of the data, and gives how many they are. Their samples are
+    /// those of the octets by twos, which the caller reads. None is taken before the data, in the middle of a sample,
+    /// or of a single octet, so `push` must take what follows.
+    pub fn take_pairs(&mut self, octets: &[u8]) -> usize
+        ensures count { result ≤ length octets.now }
+        ensures stands_for { (rates : Rates) (before : List ℕ) → StandsFor rates self.old before
+            → StandsFor rates self.new (before ++ take result octets.now) }
+        ensures samples { (rates : Rates) (before : List ℕ) → StandsFor rates self.old before
+            → samples_in rates (before ++ take result octets.now)
+            ≡ samples_in rates before ++ samples (take result octets.now) }
+        ensures fault { (rates : Rates) (before : List ℕ) → StandsFor rates self.old before
+            → fault_in rates (before ++ take result octets.now) ≡ fault_in rates before }
+    {
+        let count = self.part.pairs_ahead(octets.len());
+        self.part = self.part.after_pairs(count);
+        self.position = self.position.saturating_add(count as u64);
+        count
     }
 
     /// Whether a file that ends here is whole: the fault that showed, or `Truncated` exactly when the file ends before
