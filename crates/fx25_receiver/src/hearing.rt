@@ -24,7 +24,8 @@ pub(crate) struct Place {
     pub end: u64,
 }
 
-/// Takes the frames in blocks that end with the last bit of a lane.
+/// Takes the frames in blocks that end with the last bit of a lane. Nearly always there is none, and then nothing is
+/// done: what has room for a frame stands in a function of its own, since that room costs time even if it is not used.
 pub(crate) fn hear_blocks(
     alloc: Global,
     lane: &Lane,
@@ -38,8 +39,25 @@ pub(crate) fn hear_blocks(
         → HasTakenBelow 12 kept.new.items x (before ++ given.new.items)) }
 {
     if lane.is_idle() {
-        return Ok(());
+        Ok(())
+    } else {
+        hear_tags(alloc, lane, place, kept, given)
     }
+}
+
+/// Takes the frame in the block of each tag, if one ends with the last bit of a lane.
+fn hear_tags(
+    alloc: Global,
+    lane: &Lane,
+    place: Place,
+    kept: &mut Vec<Heard>,
+    given: &mut Vec<Heard>,
+) -> Result<(), OutOfMemory>
+    ensures { OnOk result ((x : List ℤ) (before : List Heard) → IsAt place x
+        → LaneStandsFor lane.now (tones_at place.offset x)
+        → HasTakenBelow 1 kept.old.items x (before ++ given.old.items)
+        → HasTakenBelow 12 kept.new.items x (before ++ given.new.items)) }
+{
     for below in 0..TAGS {
         let tag = below + 1;
         hear_block(alloc, lane.block(tag), tag, place, kept, given)?;

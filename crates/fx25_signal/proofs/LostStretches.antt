@@ -125,7 +125,7 @@ block_comes unit stretch y sent right block lost differ =
     let inside : index < length all = omega arith in
     let tag_size = length-tag_bits unit.tag in
     let octets = block.block_of.octets in
-    let start = lost.behind in
+    let start = lost.after_tag in
     let behind : lane + 8 * (length before + 64) ≤ stretch.start = omega arith in
     let found = word stretch.start stretch.count y sent differ lane index unit.tag before heard block.block block.is_tag inside
     is tag_size block.block_of.size octets behind lost.short in
@@ -237,7 +237,7 @@ later_outside (unit ∷ units) (stretch ∷ stretches) place i apart lost before
     let begin = apart.0 in (
       elim lost.0 [
         | inl none ↦ outside_none i stretch none
-        | inr can ↦ let start = can.behind in inl (omega arith)
+        | inr can ↦ let start = can.after_tag in inl (omega arith)
       ],
       later_outside units stretches (unit_end unit) i apart.1 lost.1 (omega arith),
     )

@@ -16,11 +16,11 @@ pub record Stretch : Type 0 where
 abbrev pub IsOutside : ℕ → Stretch → Type 0
 IsOutside i stretch = (i < stretch.start) ⊎ (stretch.start + stretch.count ≤ i)
 
--- A stretch that a block can lose: it lies behind the tag, the last bit of the block is not touched, and it has at most
+-- A stretch that a block can lose: it begins after the tag, ends before the last bit of the block, and has at most
 -- 32c - 71 samples, c being the number of check octets.
 pub record CanBeLost (unit : SentUnit) (stretch : Stretch) : Type 0 where
   pub is_tag : IsTag unit.tag
-  pub behind : unit.begin + 512 ≤ stretch.start
+  pub after_tag : unit.begin + 512 ≤ stretch.start
   pub before : stretch.start + stretch.count + 8 ≤ unit_end unit
   pub short : stretch.count + 71 ≤ 32 * check_count unit.tag
 

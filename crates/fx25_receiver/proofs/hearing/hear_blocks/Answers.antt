@@ -1,26 +1,9 @@
-use Rattle.fx25_receiver.proofs.Common.{◌≡◌, ◌+◌, ◌++◌, subst, arith, bits, HasTakenBelow}
+use Rattle.fx25_receiver.proofs.Common.{◌++◌, bits}
 use Rattle.fx25_receiver.proofs.TakenLemmas.{taken_idle}
 use Rattle.fx25_receiver.proofs.hearing.hear_blocks.Goals as goal
-
-pub loop-below-init : goal.loop-below-init
-loop-below-init c = λ x before at stands taken. taken
-
-pub loop-below-preserved : goal.loop-below-preserved
-unfolding bits
-loop-below-preserved c = λ x before at stands taken.
-    c.in_ok-hear_block.ensures x before at (c.block.ensures.frame _ stands) (c.block.ensures.none _ stands)
-    (c.loop-below.invariant x before at stands taken)
 
 pub returns-then-is_idle : goal.returns-then-is_idle
 unfolding bits
 returns-then-is_idle c = λ x before at stands taken.
     taken_idle c.args.place x at c.args.kept.now.items (before ++ c.args.given.now.items)
     (c.is_idle.ensures _ stands c.if-is_idle.true) taken
-
-pub returns : goal.returns
-returns c = λ x before at stands taken.
-    let past = c.loop-below-test.false in
-    let most = c.loop-below.auto.below-end in
-    let all : c.loop-below.below ≡ 11 = omega arith in
-    subst (λ n. HasTakenBelow (n + 1) c.loop-below.kept.items x (before ++ c.loop-below.given.items)) all
-    (c.loop-below.invariant x before at stands taken)

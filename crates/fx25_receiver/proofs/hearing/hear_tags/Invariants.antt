@@ -1,5 +1,5 @@
 use Rattle.fx25_receiver.proofs.HearingLemmas.{HasHeardTags}
-use Rattle.fx25_receiver.proofs.hearing.hear_blocks.Given as goal
+use Rattle.fx25_receiver.proofs.hearing.hear_tags.Given as goal
 
 abbrev pub invariant-loop-below : goal.invariant-loop-below
 invariant-loop-below l =
