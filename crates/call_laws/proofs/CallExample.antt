@@ -804,7 +804,7 @@ client_steps =
       (
         λ same. absurd (b_is_not_a same),
         (
-          λ same. record { speaks = All-from_recursion SpeaksHere a_joins.after.now.connections (λ e. refl, tt); stays = λ e. refl },
+          λ same. record { speaks = All-from_recursion SpeaksHere a_joins.after.now.connections (λ e. refl, tt); stays = All-from_recursion (λ n. n ≢ 1) [] tt },
           (
             λ same. absurd (b_is_not_a same),
             (
@@ -812,7 +812,7 @@ client_steps =
               (
                 λ same. absurd (b_is_not_a same),
                 (
-                  λ same. record { speaks = All-from_recursion SpeaksHere a_registers.after.now.connections (λ e. refl, tt); stays = λ e. refl },
+                  λ same. record { speaks = All-from_recursion SpeaksHere a_registers.after.now.connections (λ e. refl, tt); stays = All-from_recursion (λ n. n ≢ 1) [] tt },
                   (
                     λ same. absurd (b_is_not_a same),
                     (

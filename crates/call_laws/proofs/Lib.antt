@@ -1,13 +1,13 @@
-mod Reading
-mod Gots
-mod Apart
-mod Items
-mod Collect
-mod CallFields
-mod OwnTables
-mod Sayings
-mod LinkActs
-mod Walk
-mod CallLaw
+pub mod Reading
+pub mod Gots
+pub mod Apart
+pub mod Items
+pub mod Collect
+pub mod CallFields
+pub mod OwnTables
+pub mod Sayings
+pub mod LinkActs
+pub mod Walk
+pub mod CallLaw
 mod CallExample
-mod CallSeen
+pub mod CallSeen

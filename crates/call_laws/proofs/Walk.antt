@@ -53,13 +53,15 @@ use Rattle.station.specs.Turn.{begin, entering_for, queueing_for}
 use Rattle.station.specs.declared.asker.Asker.{Asker}
 use Rattle.station.specs.declared.host_out.Piece.{Piece}
 use Rattle.channel_access.specs.declared.air_tick.Sent.{Sent}
-use Rattle.station_laws.proofs.Connected.{found}
+use Rattle.station_laws.proofs.Closings.{IsOpen, ending_closes, messages_close, open_before, open_other, register_closes}
+use Rattle.station_laws.proofs.Common.{◌≢◌, cond-false, loser, loser_steps, passing, passing_steps, shut_steps, shutting}
+use Rattle.station_laws.proofs.Common.{shutting_loser}
 use Rattle.station_laws.proofs.HostsStand.{asked_hosts, no_kiss, told_is_other}
 use Rattle.station_laws.proofs.OwnerLemmas.{queued_pieces}
 use Rattle.station_laws.proofs.Standing.{chosen_calls}
 use Rattle.station_laws.proofs.Tables.{none_chosen}
 use Rattle.station_laws.proofs.ValidCalls.{none_by_position, no_or_few, route_valid}
-use Rattle.call_laws.specs.Client.{IsBetweenCalls, IsClientStep, Stays, TellsNoBadLength}
+use Rattle.call_laws.specs.Client.{IsBetweenCalls, IsClientStep, Stays}
 use Rattle.call_laws.proofs.CallFields.{field_ten, sent_back_ten}
 use Rattle.call_laws.proofs.Collect.{IsNoneOf}
 use Rattle.call_laws.proofs.LinkActs.{Does, MayMake, data_does, disconnect_does, does_on, event_does, leaving_does}
@@ -170,23 +172,71 @@ module _ (id : ℕ) (plan : CallPlan) (called : IsBetweenCalls plan) where
       go true is = same (eqb-true k c is)
       go false is = other
 
-  abbrev choice : ℕ → (data_list disconnect_list : List LinkStep) → List LinkStep
-  choice k data_list disconnect_list = cond (k == data_kind) data_list (cond (k == disconnect_kind) disconnect_list [])
+  -- the same, and what the test says
+  by_other :
+      (P : Turn → List LinkStep → Type 0) (k c : ℕ) (x y : Turn) (xs : List LinkStep) → (k ≡ c → P x xs)
+      → ((k == c) ≡ false → P y xs) → P (cond (k == c) x y) xs
+  by_other P k c x y xs same other = go (k == c) refl
+    where
+      go : (b : Bool) → (k == c) ≡ b → P (cond b x y) xs
+      go true is = same (eqb-true k c is)
+      go false is = other is
+
+  abbrev choice : ℕ → (pass_list data_list disconnect_list : List LinkStep) → List LinkStep
+  choice k pass_list data_list disconnect_list =
+      cond (k == register_kind) pass_list
+      (cond (k == data_kind) data_list (cond (k == disconnect_kind) disconnect_list []))
+
+  -- a connection that is closed, which is another one
+  shut_does : (host : ℕ) (turn : Turn) → IsOpen id (shutting host turn)
+      → Does id plan turn (shut_steps (meant plan) host turn) (shutting host turn)
+  shut_does host turn stays =
+      does_on id plan turn (closing host turn) (shutting host turn) [] (shut_steps (meant plan) host turn)
+      (silent_does id plan turn (closing host turn) refl refl)
+      (leaving_does id plan called host (open_other id host turn stays) (closing host turn))
+
+  loser_does : (other : Option ℕ) (turn : Turn) → IsOpen id (shutting_loser other turn)
+      → Does id plan turn (loser_steps (meant plan) other turn) (shutting_loser other turn)
+  loser_does None turn stays = same_does id plan turn
+  loser_does (Some other) turn stays = shut_does other turn stays
+
+  passing_does : (host : ℕ) (call : Option Callsign) (turn : Turn) → IsOpen id (passing host call turn)
+      → Does id plan turn (passing_steps (meant plan) host call turn) (passing host call turn)
+  passing_does host None turn stays = same_does id plan turn
+  passing_does host (Some call) turn stays = loser_does (loser host call turn.now) turn stays
+
+  -- X
+  passed_does :
+      (host : ℕ) (from : List ℕ) (call : Option Callsign) (turn : Turn) → length from ≡ 10
+      → IsOpen id (registering host from call (passing host call turn))
+      → Does id plan turn (passing_steps (meant plan) host call turn)
+      (registering host from call (passing host call turn))
+  passed_does host from call turn ten stays =
+      let passed = passing host call turn in
+      let after = registering host from call passed in
+      let steps = passing_steps (meant plan) host call turn in
+      subst (λ all. Does id plan turn all after) (append-nil steps)
+      (does_on id plan turn passed after steps []
+      (passing_does host call turn (subst (Each (λ other. other ≢ id)) (register_closes host from call passed) stays))
+      (registering_does host from call passed ten))
 
   pub else_does :
-      (host : ℕ) (message : AgwMessage) (turn : Turn) → HasTen message
+      (host : ℕ) (message : AgwMessage) (turn : Turn) → HasTen message → IsOpen id (answering_else host message turn)
       → Does id plan turn (else_steps (meant plan) host message turn) (answering_else host message turn)
   else_does host message turn ten =
+      let from = message.from in
+      let call = call_in from in
+      let ws = passing_steps (meant plan) host call turn in
       let k = message.kind in
       let key = own_key host message turn.now.links in
       let xs = data_steps (meant plan) message key turn in
       let ys = disconnect_steps (meant plan) key turn in
       let all = else_steps (meant plan) host message turn in
-      let P : Turn → List LinkStep → Type 0 = λ after steps. Does id plan turn steps after in
-      let calm : (c : ℕ) (after : Turn) → choice c xs ys ≡ [] → Does id plan turn [] after → k ≡ c
-      → P after (choice k xs ys) =
-      λ c after none h is.
-      subst (λ steps. Does id plan turn steps after) (sym (ap (λ n. choice n xs ys) is ∙ none)) h in
+      let P : Turn → List LinkStep → Type 0 = λ after steps. IsOpen id after → Does id plan turn steps after in
+      let calm : (c : ℕ) (after : Turn) → choice c ws xs ys ≡ [] → Does id plan turn [] after → k ≡ c
+      → P after (choice k ws xs ys) =
+      λ c after none h is stays.
+      subst (λ steps. Does id plan turn steps after) (sym (ap (λ n. choice n ws xs ys) is ∙ none)) h in
       by_kind P k version_kind (replying host version_reply turn) _ all
       (calm version_kind (replying host version_reply turn) refl
       (reply_does host version_reply turn (record { from = refl; to = refl }) refl refl))
@@ -196,10 +246,10 @@ module _ (id : ℕ) (plan : CallPlan) (called : IsBetweenCalls plan) where
       (by_kind P k capabilities_kind (replying host (capabilities_reply turn.now) turn) _ all
       (calm capabilities_kind (replying host (capabilities_reply turn.now) turn) refl
       (reply_does host (capabilities_reply turn.now) turn (record { from = refl; to = refl }) refl refl))
-      (by_kind P k register_kind (registering host message.from (call_in message.from) turn) _ all
-      (calm register_kind (registering host message.from (call_in message.from) turn) refl
-      (registering_does host message.from (call_in message.from) turn ten.from))
-      (by_kind P k unregister_kind (unregistering host (call_in message.from) turn) _ all
+      (by_other P k register_kind (registering host from call (passing host call turn)) _ all
+      (λ is stays. subst (λ steps. Does id plan turn steps (registering host from call (passing host call turn)))
+      (sym (ap (λ n. choice n ws xs ys) is)) (passed_does host from call turn ten.from stays))
+      (λ no_register. by_kind P k unregister_kind (unregistering host (call_in message.from) turn) _ all
       (calm unregister_kind (unregistering host (call_in message.from) turn) refl
       (unregistering_does host (call_in message.from) turn))
       (by_kind P k toggle_kind (changing (toggled host) turn) _ all
@@ -220,8 +270,7 @@ module _ (id : ℕ) (plan : CallPlan) (called : IsBetweenCalls plan) where
       (route_in message.from message.to (repeaters_in message.body)) turn) refl
       (unnumbered_does message.pid (behind_repeaters message.body)
       (route_in message.from message.to (repeaters_in message.body)) turn))
-      (rest (k == data_kind) (k == disconnect_kind) xs ys (data_does id plan called message key turn)
-      (disconnect_does id plan called key turn)))))))))))
+      (λ stays. without_register no_register))))))))))
     where
       last : Does id plan turn [] (cond (message.kind == pending_kind)
           (replying host (pending_reply message (pending_in message turn.now.links)) turn)
@@ -252,6 +301,27 @@ module _ (id : ℕ) (plan : CallPlan) (called : IsBetweenCalls plan) where
       rest true d xs ys one two = one
       rest false true xs ys one two = two
       rest false false xs ys one two = last
+
+      remaining : Turn
+      remaining =
+          cond (message.kind == data_kind) (giving message (own_key host message turn.now.links) turn)
+          (cond (message.kind == disconnect_kind) (disconnecting (own_key host message turn.now.links) turn)
+          (cond (message.kind == pending_kind)
+          (replying host (pending_reply message (pending_in message turn.now.links)) turn)
+          (cond (message.kind == waiting_kind) (replying host (waiting_reply (length turn.now.channel.waiting)) turn)
+          turn)))
+
+      without_register : (message.kind == register_kind) ≡ false
+          → Does id plan turn (else_steps (meant plan) host message turn) remaining
+      without_register no_register =
+          let key = own_key host message turn.now.links in
+          let xs = data_steps (meant plan) message key turn in
+          let ys = disconnect_steps (meant plan) key turn in
+          subst (λ steps. Does id plan turn steps remaining)
+          (sym (cond-false (message.kind == register_kind) (passing_steps (meant plan) host (call_in message.from) turn)
+          (cond (message.kind == data_kind) xs (cond (message.kind == disconnect_kind) ys [])) no_register))
+          (rest (message.kind == data_kind) (message.kind == disconnect_kind) xs ys
+          (data_does id plan called message key turn) (disconnect_does id plan called key turn))
 
   -- ---- a message that calls
 
@@ -314,35 +384,33 @@ module _ (id : ℕ) (plan : CallPlan) (called : IsBetweenCalls plan) where
       made_call_does host (called_pid message) message route (may_call host route before.now) before after ten is refl h
 
   answer_does :
-      (host : ℕ) (message : AgwMessage) (calling : Bool) (before after : Turn) → HasTen message
+      (host : ℕ) (message : AgwMessage) (calling : Bool) (before after : Turn) → HasTen message → IsOpen id after
       → (h : MatchBool calling (IsCall host message (called_route message) before after)
       (after ≡ answering_else host message before))
       → Does id plan before (answer_steps (meant plan) host message calling before after h) after
-  answer_does host message true before after ten h =
+  answer_does host message true before after ten stays h =
       call_does host message (called_route message) before after ten refl h
-  answer_does host message false before after ten h =
+  answer_does host message false before after ten stays h =
       subst (Does id plan before (else_steps (meant plan) host message before)) (sym h)
-      (else_does host message before ten)
+      (else_does host message before ten (subst (IsOpen id) h stays))
 
   messages_do :
-      (host : ℕ) (messages : List AgwMessage) (before after : Turn) → Each HasTen messages
+      (host : ℕ) (messages : List AgwMessage) (before after : Turn) → Each HasTen messages → IsOpen id after
       → (h : AreAnswered host messages before after)
       → Does id plan before (message_steps (meant plan) host messages before after h) after
-  messages_do host [] before after ten h = subst (Does id plan before []) (sym h) (same_does id plan before)
-  messages_do host (message ∷ messages) before after ten h =
+  messages_do host [] before after ten stays h = subst (Does id plan before []) (sym h) (same_does id plan before)
+  messages_do host (message ∷ messages) before after ten stays h =
+      let between = open_before id h.0 after [] (messages_close host messages h.0 after h.2) stays in
       does_on id plan before h.0 after (answer_steps (meant plan) host message (calls message) before h.0 h.1)
       (message_steps (meant plan) host messages h.0 after h.2)
-      (answer_does host message (calls message) before h.0 ten.0 h.1) (messages_do host messages h.0 after ten.1 h.2)
+      (answer_does host message (calls message) before h.0 ten.0 between h.1)
+      (messages_do host messages h.0 after ten.1 stays h.2)
 
-  -- a connection that is read no further is closed, which is another one
-  ending_does : (host : ℕ) (ends : Bool) (turn : Turn) → (host ≡ id → ends ≡ false)
+  -- a connection that is perhaps read no further
+  ending_does : (host : ℕ) (ends : Bool) (turn : Turn) → IsOpen id (ending host ends turn)
       → Does id plan turn (ending_steps (meant plan) host ends turn) (ending host ends turn)
   ending_does host false turn stays = same_does id plan turn
-  ending_does host true turn stays =
-      does_on id plan turn (closing host turn) (leaving host (closing host turn)) []
-      (leaving_steps (meant plan) host (closing host turn))
-      (silent_does id plan turn (closing host turn) refl refl)
-      (leaving_does id plan called host (λ is. let e : true ≡ false = stays is in cc) (closing host turn))
+  ending_does host true turn stays = shut_does host turn stays
 
   -- ---- KISS
 
@@ -377,11 +445,9 @@ module _ (id : ℕ) (plan : CallPlan) (called : IsBetweenCalls plan) where
 
   octets_do_by :
       (kind : PortKind) (connection : Connection) (octets : List ℕ) (before after : Turn)
-      → (connection.id ≡ id → kind ≡ Agw)
-      → (connection.id ≡ id → bad_length_in (connection.stream ++ octets) ≡ None)
-      → (h : AreTakenBy kind connection octets before after)
+      → IsOpen id after → (h : AreTakenBy kind connection octets before after)
       → Does id plan before (octet_steps_by (meant plan) kind connection octets before after h) after
-  octets_do_by Kiss connection octets before after agw stays h =
+  octets_do_by Kiss connection octets before after stays h =
       let taken = taking connection.id octets before in
       let heeded = heeding_all connection.id (new_items connection.stream octets) taken in
       let web = is_web_request (connection.stream ++ octets) in
@@ -391,32 +457,31 @@ module _ (id : ℕ) (plan : CallPlan) (called : IsBetweenCalls plan) where
       (silent_does id plan before taken refl refl)
       (does_on id plan taken heeded (ending connection.id web heeded) [] left
       (heeding_all_does connection.id (new_items connection.stream octets) taken)
-      (ending_does connection.id web heeded (λ is. let clash : Kiss ≡ Agw = agw is in absurd (cc)))))
-  octets_do_by Agw connection octets before after agw stays h =
+      (ending_does connection.id web heeded (subst (IsOpen id) h stays))))
+  octets_do_by Agw connection octets before after stays h =
       let taken = taking connection.id octets before in
       let bad = is_some (bad_length_in (connection.stream ++ octets)) in
       let messages = new_messages connection.stream octets in
       let first = message_steps (meant plan) connection.id messages taken h.0 h.1 in
       let second = ending_steps (meant plan) connection.id bad h.0 in
+      let ended : IsOpen id (ending connection.id bad h.0) = subst (IsOpen id) h.2 stays in
+      let between = open_before id h.0 (ending connection.id bad h.0) [] (ending_closes connection.id bad h.0) ended in
       subst (Does id plan before (octet_steps_by (meant plan) Agw connection octets before after h)) (sym h.2)
       (does_on id plan before taken (ending connection.id bad h.0) [] (first ++ second)
       (silent_does id plan before taken refl refl)
       (does_on id plan taken h.0 (ending connection.id bad h.0) first second
       (messages_do connection.id messages taken h.0
-      (new_ten (length (messages_in connection.stream)) (connection.stream ++ octets)) h.1)
-      (ending_does connection.id bad h.0 (λ is. ap is_some (stays is)))))
+      (new_ten (length (messages_in connection.stream)) (connection.stream ++ octets)) between h.1)
+      (ending_does connection.id bad h.0 ended)))
 
   octets_do :
-      (host : ℕ) (connection : Option Connection) (octets : List ℕ) (before after : Turn)
-      → Each (λ (c : Connection). c.id ≡ id → c.kind ≡ Agw) before.now.connections
-      → connection_of host before.now.connections ≡ connection → (host ≡ id → TellsNoBadLength connection octets)
+      (connection : Option Connection) (octets : List ℕ) (before after : Turn) → IsOpen id after
       → (h : AreTaken connection octets before after)
       → Does id plan before (octet_steps (meant plan) connection octets before after h) after
-  octets_do host None octets before after agw is stays h =
+  octets_do None octets before after stays h =
       subst (Does id plan before []) (sym h) (same_does id plan before)
-  octets_do host (Some connection) octets before after agw is stays h =
-      let at = found (λ (c : Connection). c.id ≡ id → c.kind ≡ Agw) host before.now.connections connection agw is in
-      octets_do_by connection.kind connection octets before after at.0 (λ e. stays (sym at.1 ∙ e)) h
+  octets_do (Some connection) octets before after stays h =
+      octets_do_by connection.kind connection octets before after stays h
 
   joining_does : (host : ℕ) (kind : PortKind) (turn : Turn) → Does id plan turn [] (joining host kind turn)
   joining_does host kind turn = go (nat_lt (length turn.now.connections) most_connections)
@@ -426,15 +491,15 @@ module _ (id : ℕ) (plan : CallPlan) (called : IsBetweenCalls plan) where
       go false = silent_does id plan turn (closing host turn) refl refl
 
   host_does :
-      (event : HostEvent) (before after : Turn) → Stays id (FromHost event) before.now
-      → Each (λ (c : Connection). c.id ≡ id → c.kind ≡ Agw) before.now.connections
+      (event : HostEvent) (before after : Turn) → Stays id (FromHost event) after.out.closed
       → (h : IsHostTurn event before after)
       → Does id plan before (host_steps (meant plan) event before after h) after
-  host_does (Joined host kind) before after stays agw h =
+  host_does (Joined host kind) before after stays h =
       subst (Does id plan before []) (sym h) (joining_does host kind before)
-  host_does (Bytes host octets) before after stays agw h =
-      octets_do host (connection_of host before.now.connections) octets before after agw refl stays h
-  host_does (Left host) before after stays agw h =
+  host_does (Bytes host octets) before after stays h =
+      octets_do (connection_of host before.now.connections) octets before after
+      (recursion_from_All (λ n. n ≢ id) after.out.closed stays) h
+  host_does (Left host) before after stays h =
       subst (Does id plan before (host_steps (meant plan) (Left host) before after h)) (sym h)
       (leaving_does id plan called host stays before)
 
@@ -705,10 +770,10 @@ module _ (id : ℕ) (plan : CallPlan) (called : IsBetweenCalls plan) where
   -- ---- each step
 
   turn_does :
-      (input : Input) (before after : Turn) (turn : IsTurn input before after) → Stays id input before.now
+      (input : Input) (before after : Turn) (turn : IsTurn input before after) → Stays id input after.out.closed
       → Each (λ (c : Connection). c.id ≡ id → c.kind ≡ Agw) before.now.connections
       → Does id plan before (turn_steps (meant plan) input before after turn) after
-  turn_does (FromHost event) before after turn stays agw = host_does event before after stays agw turn
+  turn_does (FromHost event) before after turn stays agw = host_does event before after stays turn
   turn_does (OffAir octets) before after turn stays agw = heard_does octets before after agw turn
   turn_does (OfClock busy) before after turn stays agw =
       let ticked = asked_links busy before in

@@ -1,15 +1,12 @@
 -- A client of a station of a joint run, and what the station has for it.
-use Rattle.std.specs.Prelude.{◌≡◌, ◌≢◌, ℕ, ◌<◌, ◌==◌, All, List, [], ◌∷◌, ◌++◌, length, filter, Option, Some, None}
+use Rattle.std.specs.Prelude.{◌≡◌, ◌≢◌, ℕ, ◌<◌, ◌==◌, All, List, [], ◌∷◌, ◌++◌, length, filter}
 use Rattle.std.specs.List.{flat_map}
 use Rattle.ax25_address.specs.Callsign.{IsCall}
-use Rattle.agwpe_port.specs.Messages.{bad_length_in}
 use Rattle.agwpe_client.specs.CallRun.{CallPlan}
 use Rattle.link_world.specs.declared.end.End.{End}
 use Rattle.link_world.specs.declared.end.End.TheVariants.{A, B}
 use Rattle.station.specs.declared.host_event.HostEvent.TheVariants.{Joined, Bytes, Left}
 use Rattle.station.specs.declared.host_out.Piece.{Piece}
-use Rattle.station.specs.Connections.{Connection, connection_of}
-use Rattle.station.specs.State.{StationState}
 use Rattle.station_laws.specs.JointRun.{Input, Step, at_end}
 use Rattle.station_laws.specs.JointRun.Input.{FromHost, OffAir, OfClock}
 use Rattle.station_laws.specs.LinkOfCalls.{Calls}
@@ -32,23 +29,17 @@ octets_had id end steps = flat_map (λ (piece : Piece). piece.octets) (pieces_fo
 
 -- ---- its connection
 
--- the octets tell no body that is too long, past which the station closes the connection
-abbrev pub TellsNoBadLength : Option Connection → List ℕ → Type 0
-TellsNoBadLength None octets = Unit {0}
-TellsNoBadLength (Some connection) octets = bad_length_in (connection.stream ++ octets) ≡ None
-
--- the connection neither leaves nor is closed for what it sends
-abbrev pub Stays : ℕ → Input → StationState → Type 0
-Stays id (FromHost (Joined other kind)) s = Unit {0}
-Stays id (FromHost (Bytes other octets)) s =
-    other ≡ id → TellsNoBadLength (connection_of other s.connections) octets
-Stays id (FromHost (Left other)) s = other ≢ id
-Stays id (OffAir octets) s = Unit {0}
-Stays id (OfClock busy) s = Unit {0}
+-- The connection neither leaves nor is closed: for what it sends, or since a call of it passes to another one.
+abbrev pub Stays : ℕ → Input → List ℕ → Type 0
+Stays id (FromHost (Joined other kind)) closed = Unit {0}
+Stays id (FromHost (Bytes other octets)) closed = All (λ n. n ≢ id) closed
+Stays id (FromHost (Left other)) closed = other ≢ id
+Stays id (OffAir octets) closed = Unit {0}
+Stays id (OfClock busy) closed = Unit {0}
 
 pub record IsClientStep (id : ℕ) (step : Step) : Type 0 where
   pub speaks : SpeaksAgwpe id step.before
-  pub stays : Stays id step.input step.before
+  pub stays : Stays id step.input step.after.out.closed
 
 -- A connection of the station that speaks AGWPE, through a run in which it does not leave. No piece for it has 2^32
 -- octets: a header tells no more.

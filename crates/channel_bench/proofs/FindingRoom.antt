@@ -25,9 +25,10 @@ use Rattle.channel_bench.proofs.CoreRun.Usual.{connects, disconnects, gives, hea
 use Rattle.channel_bench.proofs.CoreRun.Usual.{registers, sets_full, ticks}
 use Rattle.channel_bench.proofs.HearsLittle.{Asks, WishesNothing, hear_asks}
 use Rattle.channel_bench.proofs.HearsLittle.Asks.{asks_nothing, sends_one}
-use Rattle.channel_bench.proofs.HostsStay.{HasHosts, IsSaid, IsSet, said_by, set_by}
+use Rattle.channel_bench.proofs.HostsStay.{HasHosts, IsOfProgram, IsSaid, IsSet, none_passes, said_by, set_by}
 use Rattle.channel_bench.proofs.HostsStay.IsSaid.{said, unheard}
 use Rattle.channel_bench.proofs.HostsStay.IsSet.{full, unheard as alone}
+use Rattle.channel_bench.proofs.Common.{registering}
 use Rattle.channel_bench.proofs.KeyedSteps.{Finds, JoinsWide, asking_finds, call_finds, data_keyed, disconnect_keyed}
 use Rattle.channel_bench.proofs.KeyedSteps.{registering_keyed}
 use Rattle.channel_bench.proofs.KeyedSteps.{ticks_find}
@@ -230,9 +231,10 @@ comes_find usual s u before each keyed turn = (
 
 said_keyed :
     (m : AgwMessage) (t u : Turn) → Keyed t.now
-    → ((v : Turn) → Keyed v.now → IsAnswered program_id m v u → Keyed u.now) → IsSaid m t u → Keyed u.now
+    → ((v : Turn) → v.now.registrations ≡ t.now.registrations → Keyed v.now → IsAnswered program_id m v u
+    → Keyed u.now) → IsSaid m t u → Keyed u.now
 said_keyed m t u h keeps (unheard same) = subst (λ (v : Turn). Keyed v.now) (sym same) h
-said_keyed m t u h keeps (said answered) = keeps (taking program_id (spelling m) t) h answered
+said_keyed m t u h keeps (said answered) = keeps (taking program_id (spelling m) t) refl h answered
 
 links_find : (busy : Bool) (s : StationState) → Keyed s
     → Finds (ticking_links busy (begin s))
@@ -270,7 +272,9 @@ usual_finds registers s u before turn calm =
     let field = call_field (call_at A) in
     let m = request register_kind field no_call [] in
     comes_find registers s u before none_room
-    (said_keyed m (begin s) u before.keyed (λ v k answered. subst (λ (x : Turn). Keyed x.now) (sym answered)
+    (said_keyed m (begin s) u before.keyed (λ v same k answered. subst (λ (x : Turn). Keyed x.now)
+    (sym (answered ∙ ap (registering program_id field (call_in field)) (none_passes (call_in field) v
+    (subst (Each IsOfProgram) (sym same) before.hosts.registered))))
     (registering_keyed field (call_in field) v k))
     (said_by m (begin s) u (registers_written A) before.hosts turn)) turn
 usual_finds connects s u before turn calm =
@@ -282,13 +286,13 @@ usual_finds connects s u before turn calm =
 usual_finds (gives piece) s u before turn calm =
     let m = request_between data_kind A piece in
     comes_find (gives piece) s u before gives_room
-    (said_keyed m (begin s) u before.keyed (λ v k answered. subst (λ (x : Turn). Keyed x.now) (sym answered)
+    (said_keyed m (begin s) u before.keyed (λ v same k answered. subst (λ (x : Turn). Keyed x.now) (sym answered)
     (data_keyed m (own_key program_id m v.now.links) v k))
     (said_by m (begin s) u (between_written data_kind A piece before.occurs) before.hosts turn)) turn
 usual_finds disconnects s u before turn calm =
     let m = request_between disconnect_kind A [] in
     comes_find disconnects s u before disconnects_room
-    (said_keyed m (begin s) u before.keyed (λ v k answered. subst (λ (x : Turn). Keyed x.now) (sym answered)
+    (said_keyed m (begin s) u before.keyed (λ v same k answered. subst (λ (x : Turn). Keyed x.now) (sym answered)
     (disconnect_keyed (own_key program_id m v.now.links) v k))
     (said_by m (begin s) u (between_written disconnect_kind A [] (omega arith)) before.hosts turn)) turn
 usual_finds (hears octets) s u before turn calm =

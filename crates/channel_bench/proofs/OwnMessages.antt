@@ -32,7 +32,8 @@ use Rattle.channel_bench.proofs.CoreRun.{Occurs, Usual, input_of}
 use Rattle.channel_bench.proofs.CoreRun.Usual.{connects, disconnects, gives, hears, joins_kiss, joins_program}
 use Rattle.channel_bench.proofs.CoreRun.Usual.{registers, sets_full, ticks}
 use Rattle.channel_bench.proofs.HostStreams.{no_web, none_bad, one_new}
-use Rattle.channel_bench.proofs.HostsStay.{HasHosts, IsHosts, IsSet, SameHosts, found, same_hosts, set_by}
+use Rattle.channel_bench.proofs.HostsStay.{HasHosts, IsHosts, IsSet, SameHosts, found, no_passing_steps, none_passes}
+use Rattle.channel_bench.proofs.HostsStay.{same_hosts, set_by}
 use Rattle.channel_bench.proofs.HostsStay.IsSet.{full, unheard}
 use Rattle.channel_bench.proofs.OwnLinks.{IsFromPartner, IsOwnRegistration, IsUnshown, OwnsAll, Says, calm_says, chosen}
 use Rattle.channel_bench.proofs.OwnLinks.{heard_says, made_says, messages_of, none_monitored, own_pieces, piece_to}
@@ -369,10 +370,13 @@ usual_comes e registers s after occurs hosts owns unshown from turn =
     let m = request register_kind field no_call [] in
     said_go e m (begin s) (λ steps u. Comes nothing ⊥ e (begin s) steps u) (registers_written e) hosts
     (λ missing. by_link (same_says nothing e (begin s) owns))
-    (λ u h. replied (subst (Replied register_kind e (begin s)) (sym h)
+    (λ u h. replied (subst (Replied register_kind e (begin s))
+    (sym (h ∙ ap (registering program_id field (call_in field)) (none_passes (call_in field)
+    (taking program_id (spelling m) (begin s)) hosts.registered)))
     (registering_comes nothing e (begin s) (taking program_id (spelling m) (begin s)) (call_in field) (call_known e)
     owns refl
-    (took_owns e m (begin s) owns))) refl) after turn
+    (took_owns e m (begin s) owns))) (no_passing_steps (chosen e) (call_in field)
+    (taking program_id (spelling m) (begin s)) hosts.registered)) after turn
 usual_comes e connects s after occurs hosts owns unshown from turn =
     let m = request_between connect_kind e [] in
     said_go e m (begin s) (λ steps u. Comes connecting ⊤ e (begin s) steps u)

@@ -14,9 +14,11 @@ use Rattle.channel_bench.proofs.ChannelOrder.{Fits, fits_more, octets_of, sent_o
 use Rattle.channel_bench.proofs.CoreRun.{KeptByCore, Occurs, Usual, input_of, told_station}
 use Rattle.channel_bench.proofs.CoreRun.Usual.{joins_kiss, sets_full, joins_program, registers, connects, gives}
 use Rattle.channel_bench.proofs.CoreRun.Usual.{disconnects, hears, ticks}
-use Rattle.channel_bench.proofs.HostsStay.{HasHosts, IsSaid, IsSet, said_by, set_by}
+use Rattle.channel_bench.proofs.HostsStay.{HasHosts, IsOfProgram, IsSaid, IsSet, none_passes, said_by, set_by}
 use Rattle.channel_bench.proofs.HostsStay.IsSaid.{unheard, said}
 use Rattle.channel_bench.proofs.HostsStay.IsSet.{unheard as alone, full}
+use Rattle.std.specs.List.{AllByRecursion as Each}
+use Rattle.station.specs.CallFields.{call_in}
 use Rattle.channel_bench.proofs.NotedRun.{steps_more, steps_passed}
 use Rattle.channel_bench.proofs.ProgramsAsk.{AskLittle, asks_kept, between_written, hosts_at, registers_written}
 use Rattle.channel_bench.proofs.TurnWalks.{KeptByTurns, connect_kept, data_kept, disconnect_kept, heard_kept}
@@ -66,7 +68,7 @@ fed = record {
     drops = λ t. fed_none t _ refl refl refl;
     asks = λ key t. fed_none t _ refl refl refl;
   };
-  registers = λ call id t. fed_none t _ refl refl refl;
+  registers = λ call t. fed_none t _ refl refl refl;
   told = λ ours t. fed_none t _ refl refl refl;
 }
 
@@ -118,13 +120,14 @@ joining_fed id kind s = go (nat_lt (length s.connections) most_connections)
     go false = fed_none (begin s) _ refl refl refl
 
 said_fed :
-    (message : AgwMessage) (before after : Turn) → ((t : Turn) → IsAnswered program_id message t after → Fed t after)
+    (message : AgwMessage) (before after : Turn) → ((t : Turn) → t.now.registrations ≡ before.now.registrations → IsAnswered program_id message t after
+    → Fed t after)
     → IsSaid message before after → Fed before after
 said_fed message before after keeps (unheard same) = subst (Fed before) (sym same)
     (fed_none before before refl refl refl)
 said_fed message before after keeps (said answered) =
     let took = taking program_id (spelling message) before in
-    fed_on before took after (fed_none before took refl refl refl) (keeps took answered)
+    fed_on before took after (fed_none before took refl refl refl) (keeps took refl answered)
 
 set_fed : (before after : Turn) → IsSet before after → Fed before after
 set_fed before after (alone same) = subst (Fed before) (sym same) (fed_none before before refl refl refl)
@@ -150,25 +153,26 @@ order_after end registers s after occurs turn h fits =
     let from = call_field (call_at end) in
     let message = request register_kind from no_call [] in
     fed_order s after (said_fed message (begin s) after
-    (λ t answered. register_kept Fed fed program_id from no_call [] t after answered)
+    (λ t same answered. register_kept Fed fed from no_call [] t after
+    (none_passes (call_in from) t (subst (Each IsOfProgram) (sym same) h.registered)) answered)
     (said_by message (begin s) after (registers_written end) h turn)) fits
 order_after end connects s after occurs turn h fits =
     let message = request_between connect_kind end [] in
     fed_order s after
     (said_fed message (begin s) after
-    (λ t answered. connect_kept Fed fed program_id message.from message.to [] t after answered)
+    (λ t same answered. connect_kept Fed fed program_id message.from message.to [] t after answered)
     (said_by message (begin s) after (between_written connect_kind end [] (omega arith)) h turn)) fits
 order_after end (gives piece) s after occurs turn h fits =
     let message = request_between data_kind end piece in
     fed_order s after
     (said_fed message (begin s) after
-    (λ t answered. data_kept Fed fed program_id message.from message.to piece t after answered)
+    (λ t same answered. data_kept Fed fed program_id message.from message.to piece t after answered)
     (said_by message (begin s) after (between_written data_kind end piece occurs) h turn)) fits
 order_after end disconnects s after occurs turn h fits =
     let message = request_between disconnect_kind end [] in
     fed_order s after
     (said_fed message (begin s) after
-    (λ t answered. disconnect_kept Fed fed program_id message.from message.to [] t after answered)
+    (λ t same answered. disconnect_kept Fed fed program_id message.from message.to [] t after answered)
     (said_by message (begin s) after (between_written disconnect_kind end [] (omega arith)) h turn)) fits
 order_after end (hears octets) s after occurs turn h fits = fed_order s after
     (heard_kept Fed fed octets (begin s) after h.digi turn) fits

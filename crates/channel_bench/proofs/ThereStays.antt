@@ -12,9 +12,11 @@ use Rattle.std.proofs.lemmas.List.Folds.{list_any-append}
 use Rattle.channel_bench.proofs.CoreRun.{Occurs, Usual, input_of}
 use Rattle.channel_bench.proofs.CoreRun.Usual.{connects, disconnects, gives, hears, joins_kiss, joins_program}
 use Rattle.channel_bench.proofs.CoreRun.Usual.{registers, sets_full, ticks}
-use Rattle.channel_bench.proofs.HostsStay.{HasHosts, IsSaid, IsSet, said_by, set_by}
+use Rattle.channel_bench.proofs.HostsStay.{HasHosts, IsOfProgram, IsSaid, IsSet, none_passes, said_by, set_by}
 use Rattle.channel_bench.proofs.HostsStay.IsSaid.{said, unheard}
 use Rattle.channel_bench.proofs.HostsStay.IsSet.{full, unheard as alone}
+use Rattle.std.specs.List.{AllByRecursion as Each}
+use Rattle.station.specs.CallFields.{call_in}
 use Rattle.channel_bench.proofs.ProgramsAsk.{between_written, registers_written}
 use Rattle.channel_bench.proofs.TurnWalks.{KeptByTurns, connect_kept, data_kept, disconnect_kept, heard_kept}
 use Rattle.channel_bench.proofs.TurnWalks.{register_kept, ticks_kept}
@@ -44,7 +46,7 @@ same_connections = record {
     drops = λ t. record { connections = refl; closed = refl };
     asks = λ key t. record { connections = refl; closed = refl };
   };
-  registers = λ call id t. record { connections = refl; closed = refl };
+  registers = λ call t. record { connections = refl; closed = refl };
   told = λ ours t. record { connections = refl; closed = refl };
 }
 
@@ -61,14 +63,14 @@ stays_same s after h = record {
 
 -- octets more of a connection
 has_with :
-    (id : ℕ) (octets : List ℕ) (connections : List Connection)
-    → is_some (connection_of program_id (with_connection id (with_octets octets) connections))
+    (id made : ℕ) (octets : List ℕ) (connections : List Connection)
+    → is_some (connection_of program_id (with_connection id (with_octets made octets) connections))
     ≡ is_some (connection_of program_id connections)
-has_with id octets [] = refl
-has_with id octets (c ∷ connections) = go (c.id == id) (has_with id octets connections)
+has_with id made octets [] = refl
+has_with id made octets (c ∷ connections) = go (c.id == id) (has_with id made octets connections)
   where
     rest : Option Connection
-    rest = connection_of program_id (with_connection id (with_octets octets) connections)
+    rest = connection_of program_id (with_connection id (with_octets made octets) connections)
 
     inner : (b : Bool) (x : Connection) → is_some rest ≡ is_some (connection_of program_id connections)
         → is_some (cond b (Some x) rest) ≡ is_some (cond b (Some c) (connection_of program_id connections))
@@ -76,28 +78,29 @@ has_with id octets (c ∷ connections) = go (c.id == id) (has_with id octets con
     inner false x same = same
 
     go : (b : Bool) → is_some rest ≡ is_some (connection_of program_id connections)
-        → is_some (cond ((cond b (with_octets octets c) c).id == program_id) (Some (cond b (with_octets octets c) c))
+        → is_some (cond ((cond b (with_octets made octets c) c).id == program_id) (Some (cond b (with_octets made octets c) c))
         rest)
         ≡ is_some (cond (c.id == program_id) (Some c) (connection_of program_id connections))
-    go true same = inner (c.id == program_id) (with_octets octets c) same
+    go true same = inner (c.id == program_id) (with_octets made octets c) same
     go false same = inner (c.id == program_id) c same
 
 stays_took :
     (id : ℕ) (octets : List ℕ) (s : StationState) (after : Turn) → SameConnections (taking id octets (begin s)) after
     → Stays s after
 stays_took id octets s after h = record {
-  has = λ has. ap (λ cs. is_some (connection_of program_id cs)) h.connections ∙ has_with id octets s.connections ∙ has;
+  has = λ has. ap (λ cs. is_some (connection_of program_id cs)) h.connections ∙ has_with id s.ticks octets s.connections ∙ has;
   closed = h.closed;
 }
 
 stays_said :
     (message : AgwMessage) (s : StationState) (after : Turn)
-    → ((t : Turn) → IsAnswered program_id message t after → SameConnections t after) → IsSaid message (begin s) after
+    → ((t : Turn) → t.now.registrations ≡ s.registrations → IsAnswered program_id message t after
+    → SameConnections t after) → IsSaid message (begin s) after
     → Stays s after
 stays_said message s after keeps (unheard same) =
     stays_same s after (subst (SameConnections (begin s)) (sym same) (record { connections = refl; closed = refl }))
 stays_said message s after keeps (said answered) =
-    stays_took program_id (spelling message) s after (keeps (taking program_id (spelling message) (begin s)) answered)
+    stays_took program_id (spelling message) s after (keeps (taking program_id (spelling message) (begin s)) refl answered)
 
 stays_set : (s : StationState) (after : Turn) → IsSet (begin s) after → Stays s after
 stays_set s after (alone same) =
@@ -232,28 +235,29 @@ there_grows e registers s after there occurs h turn =
     let from = call_field (call_at e) in
     stays_there s after there _
     (stays_said (request register_kind from no_call []) s after
-    (λ t answered. register_kept SameConnections same_connections program_id from no_call [] t after answered)
+    (λ t same answered. register_kept SameConnections same_connections from no_call [] t after
+    (none_passes (call_in from) t (subst (Each IsOfProgram) (sym same) h.registered)) answered)
     (said_by (request register_kind from no_call []) (begin s) after (registers_written e) h turn))
     (λ none. ap (λ c. without_ids c there) none)
 there_grows e connects s after there occurs h turn =
     let m = request_between connect_kind e [] in
     stays_there s after there _
     (stays_said m s after
-    (λ t answered. connect_kept SameConnections same_connections program_id m.from m.to [] t after answered)
+    (λ t same answered. connect_kept SameConnections same_connections program_id m.from m.to [] t after answered)
     (said_by m (begin s) after (between_written connect_kind e [] (omega arith)) h turn))
     (λ none. ap (λ c. without_ids c there) none)
 there_grows e (gives piece) s after there occurs h turn =
     let m = request_between data_kind e piece in
     stays_there s after there _
     (stays_said m s after
-    (λ t answered. data_kept SameConnections same_connections program_id m.from m.to piece t after answered)
+    (λ t same answered. data_kept SameConnections same_connections program_id m.from m.to piece t after answered)
     (said_by m (begin s) after (between_written data_kind e piece occurs) h turn))
     (λ none. ap (λ c. without_ids c there) none)
 there_grows e disconnects s after there occurs h turn =
     let m = request_between disconnect_kind e [] in
     stays_there s after there _
     (stays_said m s after
-    (λ t answered. disconnect_kept SameConnections same_connections program_id m.from m.to [] t after answered)
+    (λ t same answered. disconnect_kept SameConnections same_connections program_id m.from m.to [] t after answered)
     (said_by m (begin s) after (between_written disconnect_kind e [] (omega arith)) h turn))
     (λ none. ap (λ c. without_ids c there) none)
 there_grows e (hears octets) s after there occurs h turn =

@@ -11,7 +11,9 @@ use Rattle.channel_bench.proofs.Common.{with_links, Link, Links, link_at, idle_l
 use Rattle.channel_bench.proofs.Common.{asked_links, with_asked, Act, Turn, capacity, changing, dropping, entering}
 use Rattle.channel_bench.proofs.Common.{in_order}
 use Rattle.channel_bench.proofs.Common.{queueing, request, Choice, LinkStep, heard_steps, StationState, ap, is_some}
-use Rattle.channel_bench.proofs.Common.{called_pid, link_event}
+use Rattle.channel_bench.proofs.Common.{called_pid, link_event, program_id, register_reply, registering, replying}
+use Rattle.station.specs.Passing.{passing}
+use Rattle.station.specs.Registrations.{may_register, registrar}
 use Rattle.link_machine.specs.Event.{Event as LinkEvent}
 use Rattle.link_machine.specs.Event.Event.{Connect as LinkConnect, Hear as LinkHear}
 use Rattle.link_machine.specs.Step.{step as link_turn}
@@ -23,8 +25,8 @@ use Rattle.station.specs.Turn.{with_piece}
 use Rattle.station_laws.proofs.Causes.{NotHeard}
 use Rattle.station_laws.proofs.HeardAs.{Heard, heard_as, only_shows}
 use Rattle.station_laws.proofs.HeardAs.Heard.{passes, repeats, hears, hears_new}
-use Rattle.station_laws.proofs.StationActs.{KeptByEvents, Kept as KeptRequests, ticks_kept as ticks_all, call_kept}
-use Rattle.station_laws.proofs.StationActs.{registering_kept, data_kept as data_all, disconnect_kept as disconnect_all}
+use Rattle.station_laws.proofs.StationActs.{KeptByCalls, KeptByEvents, ticks_kept as ticks_all, call_kept}
+use Rattle.station_laws.proofs.StationActs.{data_kept as data_all, disconnect_kept as disconnect_all}
 
 -- what is kept by whatever happens to the links, is told, and joins the transmit queue or finds it full
 pub record KeptByActs (R : Turn → Turn → Type 0) : Type 0 where
@@ -80,7 +82,8 @@ module _ (R : Turn → Turn → Type 0) (k : KeptByActs R) where
 -- what is also kept by a registration, and by what the channel is told of a heard frame
 pub record KeptByTurns (R : Turn → Turn → Type 0) : Type 0 where
   pub acts : KeptByActs R
-  pub registers : (call : Callsign) (id : ℕ) (t : Turn) → R t (changing (with_registration call id) t)
+  -- by the host program
+  pub registers : (call : Callsign) (t : Turn) → R t (changing (with_registration call program_id) t)
   pub told : (ours : Bool) (t : Turn) → R t (telling_channel ours t)
 
 module _ (R : Turn → Turn → Type 0) (k : KeptByTurns R) where
@@ -102,13 +105,12 @@ module _ (R : Turn → Turn → Type 0) (k : KeptByTurns R) where
     asked = k.acts.asks;
   }
 
-  requests : KeptRequests is_some NotHeard (λ t steps u. R t u)
+  requests : KeptByCalls is_some NotHeard (λ t steps u. R t u)
   requests = record {
     by_events = by_events;
     called = λ id key message route t may is room new.
         made_kept key id (called_pid message) route.local route.remote (path_along route) LinkConnect t;
     replies = λ id message t other. k.acts.tells t (with_piece id (spelling message) t.out).pieces;
-    registers = k.registers;
   }
 
   -- ---- a tick
@@ -118,12 +120,33 @@ module _ (R : Turn → Turn → Type 0) (k : KeptByTurns R) where
 
   -- ---- a message
 
+  registering_kept : (from : List ℕ) (call : Option Callsign) (t : Turn) → R t (registering program_id from call t)
+  registering_kept from call t = by_call call
+    where
+      replied : (done : Bool) (u : Turn) → R u (replying program_id (register_reply from done) u)
+      replied done u = k.acts.tells u (with_piece program_id (spelling (register_reply from done)) u.out).pieces
+
+      by_test : (b : Bool) (c : Callsign)
+          → R t (cond b (replying program_id (register_reply from true) (changing (with_registration c program_id) t))
+          (replying program_id (register_reply from false) t))
+      by_test true c =
+          let registered = changing (with_registration c program_id) t in
+          k.acts.on t registered (replying program_id (register_reply from true) registered) (k.registers c t)
+          (replied true registered)
+      by_test false c = replied false t
+
+      by_call : (o : Option Callsign) → R t (registering program_id from o t)
+      by_call None = replied false t
+      by_call (Some c) = by_test (may_register program_id (registrar c t.now.registrations)) c
+
+  -- X of the host program, to which no call passes
   pub register_kept :
-      (id : ℕ) (from to body : List ℕ) (before after : Turn)
-      → IsAnswered id (request register_kind from to body) before after
+      (from to body : List ℕ) (before after : Turn) → passing program_id (call_in from) before ≡ before
+      → IsAnswered program_id (request register_kind from to body) before after
       → R before after
-  register_kept id from to body before after h = subst (R before) (sym h)
-      (registering_kept is_some NotHeard (λ t steps u. R t u) requests id from (call_in from) before)
+  register_kept from to body before after none h =
+      subst (R before) (sym (h ∙ ap (registering program_id from (call_in from)) none))
+      (registering_kept from (call_in from) before)
 
   pub connect_kept :
       (id : ℕ) (from to body : List ℕ) (before after : Turn)

@@ -30,17 +30,17 @@ new_id (x ∷ xs) (y ∷ ys) id each others (suc k) d within =
 -- the station with one connection more
 pub shows_joined : (parts : Parts) (out : Out) (turn : Turn) (held : List HeldConnection) (connection : HeldConnection)
     (kind : PortKind) → Shows parts out turn → All (λ other. other ≢ connection.id) (ids_in parts)
-    → connection.raw ≡ false → connection.monitors ≡ false → Reads connection.reader kind []
+    → connection.came ≡ 0 → connection.raw ≡ false → connection.monitors ≡ false → Reads connection.reader kind []
     → held ≡ parts.connections.items ++ connection ∷ []
     → AllZip StandsForConnection held (with_host connection.id kind turn.now).connections
     × AllPairs HasOtherId (with_host connection.id kind turn.now).connections
-shows_joined parts out turn held connection kind shows others raw monitors reads is =
+shows_joined parts out turn held connection kind shows others came raw monitors reads is =
     let h = shows.holds in
     let items = parts.connections.items in
     let new : Connection = new_connection connection.id kind in (
       subst (λ xs. AllZip StandsForConnection xs (turn.now.connections ++ new ∷ [])) (sym is)
           (AllZip-more StandsForConnection items turn.now.connections connection new h.connections
-          (record { id = refl; raw = raw; monitors = monitors; reader = reads })),
+          (record { id = refl; came = came; raw = raw; monitors = monitors; reader = reads })),
       all_pairs_push HasOtherId turn.now.connections new h.ids
           (λ k d within. new_id items turn.now.connections connection.id h.connections others k d within),
     )

@@ -27,5 +27,7 @@ mod RouteLemmas
 mod TakeLemmas
 mod AnswerLemmas
 mod AskerLemmas
+mod CloseLemmas
+mod PassLemmas
 mod TakenLemmas
 mod PendingLemmas

@@ -74,18 +74,18 @@ stands_here held connections k here d h within is =
 
 -- and still does when it is turned
 pub stands_turned : (here new : HeldConnection) (connection : Connection) → StandsForConnection here connection
-    → new ≡ record { id = here.id; raw = not here.raw; monitors = here.monitors; reader = here.reader }
+    → new ≡ record here { raw = not here.raw }
     → StandsForConnection new (turned_raw connection)
 stands_turned here new connection h is =
     subst (λ (item : HeldConnection). StandsForConnection item (turned_raw connection)) (sym is)
-    (record { id = h.id; raw = ap not h.raw; monitors = h.monitors; reader = h.reader })
+    (record { id = h.id; came = h.came; raw = ap not h.raw; monitors = h.monitors; reader = h.reader })
 
 pub stands_monitoring : (here new : HeldConnection) (connection : Connection) → StandsForConnection here connection
-    → new ≡ record { id = here.id; raw = here.raw; monitors = not here.monitors; reader = here.reader }
+    → new ≡ record here { monitors = not here.monitors }
     → StandsForConnection new (turned_monitor connection)
 stands_monitoring here new connection h is =
     subst (λ (item : HeldConnection). StandsForConnection item (turned_monitor connection)) (sym is)
-    (record { id = h.id; raw = h.raw; monitors = ap not h.monitors; reader = h.reader })
+    (record { id = h.id; came = h.came; raw = h.raw; monitors = ap not h.monitors; reader = h.reader })
 
 -- a connection keeps its id
 abbrev pub KeepsId : (Connection → Connection) → Type 0

@@ -3,7 +3,7 @@ use Rattle.station.proofs.Common.{◌≡◌, ℕ, ◌==◌, Bool, true, false, L
 use Rattle.station.proofs.Common.{None, IfSome, refl, sym, ◌∙◌, ap, subst, eqb-true, AgwMessage, KissItem}
 use Rattle.station.proofs.Common.{PortKind, Kiss, Agw, Said, Items, Messages, AreAnswered, Connection, connection_of}
 use Rattle.station.proofs.Common.{AreSaidItems, AreSaidMessages, IsSaid, Says, taking, ending, heeding_all, Turn}
-use Rattle.station.proofs.Common.{closing, host_items, Reads}
+use Rattle.station.proofs.Common.{host_items, Reads}
 use Rattle.agwpe_port.specs.Messages.{bad_length_in}
 use Rattle.agwpe_port.proofs.StreamLemmas.{behind}
 use Rattle.kiss_port.specs.HeldHost.{HeldHost, HostStandsFor}
@@ -12,7 +12,7 @@ use Rattle.station.specs.declared.connection.Reader.{Reader}
 use Rattle.station.specs.declared.connection.Reader.TheVariants.{KissReader}
 use Rattle.station.specs.HeldReading.{SaysItems, SaysMessages}
 use Rattle.station.specs.Host.{AreTaken, AreTakenBy, new_items}
-use Rattle.station.specs.Leaving.{leaving}
+use Rattle.station.specs.Leaving.{shutting}
 
 -- the connection that is found has the id
 pub found_id : (id : ℕ) (connections : List Connection)
@@ -106,6 +106,5 @@ taken_messages id octets turn answered messages failed (Some connection) same h 
     )
 
 -- a connection that ends
-pub ending_left : (id : ℕ) (ends : Bool) (turn : Turn) → ends ≡ true → ending id ends turn ≡ leaving id
-    (closing id turn)
-ending_left id ends turn is = ap (λ (e : Bool). ending id e turn) is
+pub ending_shut : (id : ℕ) (ends : Bool) (turn : Turn) → ends ≡ true → ending id ends turn ≡ shutting id turn
+ending_shut id ends turn is = ap (λ (e : Bool). ending id e turn) is

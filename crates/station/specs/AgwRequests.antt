@@ -1,5 +1,5 @@
 -- What an AGWPE message asks of a station (the AGWPE TCP/IP API tutorial, SV2AGW; as this project has it).
-use Rattle.std.specs.Prelude.{◌≡◌, ℕ, ◌+◌, ◌-◌, ◌*◌, ◌/◌, ◌==◌, nat_lt, nat_le, Bool, true, false, ◌&&◌, ◌||◌}
+use Rattle.std.specs.Prelude.{◌≡◌, ℕ, ◌*◌, ◌==◌, nat_lt, nat_le, Bool, true, false, ◌&&◌, ◌||◌}
 use Rattle.std.specs.Prelude.{if◌then◌else◌, List, [], ◌∷◌, ◌++◌, length, map, take, drop, codes, Option, Some, None}
 use Rattle.std.specs.Prelude.{is_none, max, min, MatchBool}
 use Rattle.std.specs.Int.{div_ceil}
@@ -25,6 +25,7 @@ use Rattle.station.specs.HostMessages.{to_host, no_call, disconnected_text}
 use Rattle.station.specs.LinkEvents.{event_at}
 use Rattle.station.specs.Links.{Link, Links, IsNewKey, most_links, link_at, key_between, count_of_links}
 use Rattle.station.specs.NewLinks.{making, pid_or, no_layer_3}
+use Rattle.station.specs.Passing.{passing}
 use Rattle.station.specs.Registrations.{registrar, is_number, may_register, registered, unregistered}
 use Rattle.station.specs.Routes.{Route, route_in, repeaters_in, behind_repeaters, path_along}
 use Rattle.station.specs.State.{StationState}
@@ -60,6 +61,7 @@ abbrev pub with_registration : Callsign → ℕ → StationState → StationStat
 with_registration call id s =
     record s { registrations = registered call id (registrar call s.registrations) s.registrations }
 
+-- A call that another connection has is refused. The one that loses it has left before, so that nobody has it then.
 abbrev pub registering : ℕ → List ℕ → Option Callsign → Act
 registering id from None turn = replying id (register_reply from false) turn
 registering id from (Some call) turn =
@@ -223,7 +225,7 @@ answering_else id message turn =
     if message.kind == version_kind then replying id version_reply turn else
     if message.kind == ports_kind then replying id ports_reply turn else
     if message.kind == capabilities_kind then replying id (capabilities_reply turn.now) turn else
-    if message.kind == register_kind then registering id message.from (call_in message.from) turn else
+    if message.kind == register_kind then registering id message.from (call_in message.from) (passing id (call_in message.from) turn) else
     if message.kind == unregister_kind then unregistering id (call_in message.from) turn else
     if message.kind == toggle_kind then changing (toggled id) turn else
     if message.kind == monitor_kind then changing (monitor_toggled id) turn else

@@ -8,6 +8,8 @@ pub record Connection : Type 0 where
   pub kind : PortKind
   -- every octet that came from it
   pub stream : List ℕ
+  -- how many ticks the station had made when octets came from it last (0 if none have)
+  pub came : ℕ
   -- whether it is sent each frame that is heard (AGWPE, kind k)
   pub raw : Bool
   -- whether it is shown each frame that is heard and sent (AGWPE, kind m)
@@ -19,7 +21,7 @@ most_connections = 64
 
 -- a connection that joins
 abbrev pub new_connection : ℕ → PortKind → Connection
-new_connection id kind = record { id = id; kind = kind; stream = []; raw = false; monitors = false }
+new_connection id kind = record { id = id; kind = kind; stream = []; came = 0; raw = false; monitors = false }
 
 -- the connection of an id
 abbrev pub connection_of : ℕ → List Connection → Option Connection

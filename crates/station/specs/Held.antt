@@ -6,6 +6,7 @@ use Rattle.station.specs.declared.host_event.HostEvent.TheVariants.{Joined, Byte
 use Rattle.station.specs.declared.parts.Parts.{Parts}
 use Rattle.station.specs.HasFew.{HasFew}
 use Rattle.station.specs.State.{most_waiting}
+use Rattle.station.specs.Turn.{Out}
 
 pub record Held : Type 0 where
   pub parts : Parts
@@ -38,6 +39,11 @@ IsAdmitted (Left id) held = IsThere id held
 abbrev pub without_ids : List ℕ → List ℕ → List ℕ
 without_ids [] ids = ids
 without_ids (closed ∷ others) ids = without_ids others (filter (λ id. not (id == closed)) ids)
+
+-- the ids of a list but those that are closed, if they were before
+abbrev pub ClosesIds : Parts → Out → Parts → Out → Type 0
+ClosesIds parts out now gave =
+    (ids : List ℕ) → ids_in parts ≡ without_ids out.closed ids → ids_in now ≡ without_ids gave.closed ids
 
 abbrev pub ids_behind : HostEvent → List ℕ → List ℕ → List ℕ
 ids_behind (Joined id kind) closed ids = without_ids closed (ids ++ id ∷ [])

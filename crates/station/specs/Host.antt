@@ -12,7 +12,7 @@ use Rattle.station.specs.declared.host_event.PortKind.TheVariants.{Kiss, Agw}
 use Rattle.station.specs.AgwRequests.{AreAnswered}
 use Rattle.station.specs.Connections.{Connection, most_connections, new_connection, connection_of, with_connection}
 use Rattle.station.specs.Kiss.{heeding_all}
-use Rattle.station.specs.Leaving.{leaving}
+use Rattle.station.specs.Leaving.{leaving, shutting}
 use Rattle.station.specs.State.{StationState}
 use Rattle.station.specs.Turn.{Turn, Act, changing, closing}
 
@@ -28,11 +28,13 @@ joining id kind turn =
 
 -- ---- its octets
 
-abbrev pub with_octets : List ℕ → Connection → Connection
-with_octets octets connection = record connection { stream = connection.stream ++ octets }
+-- octets come, when the station has made so many ticks
+abbrev pub with_octets : ℕ → List ℕ → Connection → Connection
+with_octets ticks octets connection = record connection { stream = connection.stream ++ octets; came = ticks }
 
 abbrev pub taking : ℕ → List ℕ → Act
-taking id octets = changing (λ s. record s { connections = with_connection id (with_octets octets) s.connections })
+taking id octets =
+    changing (λ s. record s { connections = with_connection id (with_octets s.ticks octets) s.connections })
 
 -- the items that end in the octets after a stream
 abbrev pub new_items : List ℕ → List ℕ → List KissItem
@@ -44,7 +46,7 @@ new_messages stream octets = drop (length (messages_in stream)) (messages_in (st
 -- a connection that is to be read no further is closed and has left
 abbrev pub ending : ℕ → Bool → Act
 ending id false turn = turn
-ending id true turn = leaving id (closing id turn)
+ending id true turn = shutting id turn
 
 -- by KISS that is a request of the web, and by AGWPE one in which a header tells too long a body
 abbrev pub AreTakenBy : PortKind → Connection → List ℕ → Turn → Turn → Type 0

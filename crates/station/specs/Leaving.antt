@@ -9,7 +9,7 @@ use Rattle.station.specs.LinkEvents.{event_at, with_links}
 use Rattle.station.specs.Links.{Link, most_links, link_at, with_link}
 use Rattle.station.specs.Registrations.{is_number, without_registrations}
 use Rattle.station.specs.State.{StationState}
-use Rattle.station.specs.Turn.{Act, in_order, changing}
+use Rattle.station.specs.Turn.{Act, in_order, changing, closing}
 
 abbrev pub without_host : ℕ → StationState → StationState
 without_host id s = record s {
@@ -36,3 +36,7 @@ giving_up_all id = in_order (map (giving_up id) (range_with_len 0 most_links))
 
 abbrev pub leaving : ℕ → Act
 leaving id turn = giving_up_all id (changing (without_host id) turn)
+
+-- a connection is closed, and has left
+abbrev pub shutting : ℕ → Act
+shutting id turn = leaving id (closing id turn)

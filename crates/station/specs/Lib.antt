@@ -12,6 +12,7 @@ pub mod Monitoring
 pub mod LinkEvents
 pub mod NewLinks
 pub mod Routes
+pub mod Passing
 pub mod AgwKinds
 pub mod AgwRequests
 pub mod Kiss

@@ -29,6 +29,7 @@ Reads (AgwReader reader) Agw stream = AgwStandsFor reader stream
 
 pub record StandsForConnection (held : HeldConnection) (connection : Connection) : Type 0 where
   pub id : held.id ≡ connection.id
+  pub came : held.came ≡ connection.came
   pub raw : held.raw ≡ connection.raw
   pub monitors : held.monitors ≡ connection.monitors
   pub reader : Reads held.reader connection.kind connection.stream

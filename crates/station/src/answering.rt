@@ -1,7 +1,7 @@
 //! What AGWPE messages ask of a station, kind by kind.
 ghost use Rattle.std.specs.Prelude.{◌≡◌, OnOk, true, OnErr};
 ghost use Rattle.station.specs.AgwRequests.{AreAnswered, IsAnswered, answering_else};
-ghost use Rattle.station.specs.Held.{ids_in};
+ghost use Rattle.station.specs.Held.{ClosesIds};
 ghost use Rattle.station.specs.StandsFor.{Shows};
 ghost use Rattle.station.specs.Turn.{Turn};
 
@@ -22,8 +22,7 @@ impl Parts {
     ) -> Result<(), OutOfMemory>
         ensures step { (turn : Turn) → Shows self.old out.old turn → OnOk result ((behind : Turn)
             × AreAnswered id messages.now turn behind × Shows self.new out.new behind) }
-        ensures ids { OnOk result (ids_in self.new ≡ ids_in self.old) }
-        ensures closed { OnOk result (out.new.closed ≡ out.old.closed) }
+        ensures ids { OnOk result (ClosesIds self.old out.old self.new out.new) }
         ensures wanted { OnErr result (memory.new.refused ≡ true) }
     {
         for message in messages {
@@ -42,8 +41,7 @@ impl Parts {
     ) -> Result<(), OutOfMemory>
         ensures step { (turn : Turn) → Shows self.old out.old turn → OnOk result ((behind : Turn)
             × IsAnswered id message.now turn behind × Shows self.new out.new behind) }
-        ensures ids { OnOk result (ids_in self.new ≡ ids_in self.old) }
-        ensures closed { OnOk result (out.new.closed ≡ out.old.closed) }
+        ensures ids { OnOk result (ClosesIds self.old out.old self.new out.new) }
         ensures wanted { OnErr result (memory.new.refused ≡ true) }
     {
         match message.kind {
@@ -62,8 +60,7 @@ impl Parts {
     ) -> Result<(), OutOfMemory>
         ensures shows { (turn : Turn) → Shows self.old out.old turn
             → OnOk result (Shows self.new out.new (answering_else id message.now turn)) }
-        ensures ids { OnOk result (ids_in self.new ≡ ids_in self.old) }
-        ensures closed { OnOk result (out.new.closed ≡ out.old.closed) }
+        ensures ids { OnOk result (ClosesIds self.old out.old self.new out.new) }
         ensures wanted { OnErr result (memory.new.refused ≡ true) }
     {
         match message.kind {

@@ -21,6 +21,8 @@ pub struct Connection {
     pub raw: bool,
     /// Whether it is shown each frame that is heard and sent.
     pub monitors: bool,
+    /// How many ticks the station had made when octets came from it last, 0 if none have.
+    pub came: u64,
     /// What has read its octets so far.
     pub reader: Reader,
 }

@@ -42,6 +42,7 @@ impl Parts {
             id,
             raw: false,
             monitors: false,
+            came: 0,
             reader: new_reader(memory.alloc(), kind),
         };
         memory.push(&mut self.connections, connection)

@@ -1,7 +1,7 @@
 //! Connections that leave.
 ghost use Rattle.std.specs.Prelude.{◌≡◌, ◌==◌, not, filter, [], ◌∷◌, OnOk, true, OnErr};
-ghost use Rattle.station.specs.Held.{ids_in, without_ids};
-ghost use Rattle.station.specs.Leaving.{leaving, giving_up, giving_up_all, without_host};
+ghost use Rattle.station.specs.Held.{ClosesIds, ids_in, without_ids};
+ghost use Rattle.station.specs.Leaving.{leaving, giving_up, giving_up_all, shutting, without_host};
 ghost use Rattle.station.specs.Registrations.{without_registrations};
 ghost use Rattle.station.specs.StandsFor.{Shows};
 ghost use Rattle.station.specs.Turn.{Out, Turn, changing};
@@ -32,6 +32,22 @@ impl Parts {
     {
         self.forget(id);
         self.give_up_all(memory, out, id)
+    }
+
+    /// Closes a connection, and it has left.
+    pub(crate) fn shut(
+        &mut self,
+        memory: &mut Memory,
+        out: &mut HostOut,
+        id: u32,
+    ) -> Result<(), OutOfMemory>
+        ensures shows { (turn : Turn) → Shows self.old out.old turn
+            → OnOk result (Shows self.new out.new (shutting id turn)) }
+        ensures ids { OnOk result (ClosesIds self.old out.old self.new out.new) }
+        ensures wanted { OnErr result (memory.new.refused ≡ true) }
+    {
+        out.close(memory, id)?;
+        self.leave(memory, out, id)
     }
 
     /// Gives up each link of a connection, in the order of their keys.

@@ -67,6 +67,7 @@ mod new_links;
 mod own_links;
 mod owned_link;
 mod parts;
+mod passing;
 mod reading;
 mod registering;
 mod registration;

@@ -3,7 +3,8 @@ ghost use Rattle.std.specs.Prelude.{◌≡◌, not, OnOk, true, OnErr};
 ghost use Rattle.agwpe_port.specs.Messages.{spelling};
 ghost use Rattle.station.specs.AgwRequests.{monitor_toggled, register_reply, registering, toggled, unregistering};
 ghost use Rattle.station.specs.CallFields.{call_in};
-ghost use Rattle.station.specs.Held.{ids_in};
+ghost use Rattle.station.specs.Held.{ClosesIds, ids_in};
+ghost use Rattle.station.specs.Passing.{passing};
 ghost use Rattle.station.specs.Registrations.{unregistered};
 ghost use Rattle.station.specs.StandsFor.{Shows};
 ghost use Rattle.station.specs.Turn.{Out, Turn, changing, with_piece};
@@ -19,7 +20,7 @@ use ax25_address::Call;
 use tnc_base::OutOfMemory;
 
 impl Parts {
-    /// X: registers the call of a field, if it is one that no other connection has.
+    /// X: registers the call of a field, if it is one that no other connection has. A silent one loses it before.
     pub(crate) fn register(
         &mut self,
         memory: &mut Memory,
@@ -28,14 +29,14 @@ impl Parts {
         from: [u8; 10],
     ) -> Result<(), OutOfMemory>
         ensures shows { (turn : Turn) → Shows self.old out.old turn
-            → OnOk result (Shows self.new out.new (registering id from (call_in from) turn)) }
-        ensures ids { OnOk result (ids_in self.new ≡ ids_in self.old) }
-        ensures closed { OnOk result (out.new.closed ≡ out.old.closed) }
+            → OnOk result (Shows self.new out.new (registering id from (call_in from) (passing id (call_in from) turn))) }
+        ensures ids { OnOk result (ClosesIds self.old out.old self.new out.new) }
         ensures wanted { OnErr result (memory.new.refused ≡ true) }
     {
         let Some(call) = call_in(&from) else {
             return reply_registered(memory, out, id, from, false);
         };
+        self.pass(memory, out, id, &call)?;
         match self.registrar(&call) {
             Some(other) => reply_registered(memory, out, id, from, other == id),
             None => {

@@ -42,6 +42,7 @@ impl Model for Station {
 
 impl Station {
     ghost use Rattle.link_machine.specs.declared.fault.NewFault.{NewFault};
+    ghost use Rattle.station.specs.Links.{count_of_links};
     ghost use Rattle.station.specs.State.{StationState, new_station, Accepts};
     ghost use Rattle.station.specs.Turn.{Turn, begin};
     ghost use Rattle.station.specs.Host.{IsHostTurn};
@@ -153,6 +154,13 @@ impl Station {
             → result ≡ modulus_between first.now second.now s.links }
     {
         self.parts.links.modulus_between(first, second)
+    }
+
+    /// How many links there are, in whatever state.
+    pub fn links(&self) -> u32
+        ensures stands_for { (s : StationState) → StandsFor self.now s → result ≡ count_of_links s.links }
+    {
+        self.parts.links.len()
     }
 
     /// How many frames found the transmit queue full and were dropped. The count stays at the greatest number of 64

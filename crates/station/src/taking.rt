@@ -1,7 +1,7 @@
 //! Octets of a connection.
 ghost use Rattle.std.specs.Prelude.{◌≡◌, ◌≢◌, ℕ, [], All, None, OnOk, IfOk, IfSome, true, OnErr};
 ghost use Rattle.station.specs.Connections.{connection_of};
-ghost use Rattle.station.specs.Held.{ids_in, without_ids};
+ghost use Rattle.station.specs.Held.{ClosesIds, ids_in, without_ids};
 ghost use Rattle.station.specs.HeldConnections.{HasIdAt};
 ghost use Rattle.station.specs.HeldReading.{IsSaid};
 ghost use Rattle.station.specs.Host.{AreTaken, taking, ending};
@@ -74,10 +74,13 @@ impl Parts {
         ensures ids { OnOk result (ids_in self.new ≡ ids_in self.old) }
         ensures wanted { OnErr result (memory.new.refused ≡ true) }
     {
-        self.connections[place].reader.read(memory, octets)
+        let ticks = self.ticks;
+        let connection = &mut self.connections[place];
+        connection.came = ticks;
+        connection.reader.read(memory, octets)
     }
 
-    /// Closes a connection that is to be read no further, and it has left.
+    /// Shuts a connection that is to be read no further.
     fn end(
         &mut self,
         memory: &mut Memory,
@@ -87,14 +90,12 @@ impl Parts {
     ) -> Result<(), OutOfMemory>
         ensures shows { (turn : Turn) → Shows self.old out.old turn
             → OnOk result (Shows self.new out.new (ending id ends turn)) }
-        ensures ids { OnOk result (out.old.closed ≡ []
-            → ids_in self.new ≡ without_ids out.new.closed (ids_in self.old)) }
+        ensures ids { OnOk result (ClosesIds self.old out.old self.new out.new) }
         ensures wanted { OnErr result (memory.new.refused ≡ true) }
     {
         if !ends {
             return Ok(());
         }
-        out.close(memory, id)?;
-        self.leave(memory, out, id)
+        self.shut(memory, out, id)
     }
 }

@@ -29,7 +29,7 @@ use Rattle.station_laws.proofs.Causes.{NotHeard}
 use Rattle.station_laws.proofs.HeardAs.{Heard, heard_as}
 use Rattle.station_laws.proofs.HeardAs.Heard.{passes, repeats, hears, hears_new}
 use Rattle.station_laws.proofs.HostsStand.{asked_hosts}
-use Rattle.station_laws.proofs.StationActs.{KeptByAll, any_may_come, host_kept, ticks_kept}
+use Rattle.station_laws.proofs.StationActs.{KeptByAll, any_kept, ticks_kept}
 
 -- an act that sends no answer
 abbrev Silent : ℕ → Turn → List LinkStep → Turn → Type 0
@@ -195,7 +195,7 @@ turn_answers :
     → speaks_kiss id before.now.connections ≡ true → answers_to id before.out.pieces ≡ []
     → answers_to id after.out.pieces ≡ answer_for id (asker_in input before)
 turn_answers id (FromHost event) before after turn kiss none =
-    host_kept is_some NotHeard (Silent id) (silent_kept id) event before after (any_may_come event before.now) turn
+    any_kept is_some (Silent id) (silent_kept id) event before after turn
     ∙ none
 turn_answers id (OffAir octets) before after turn kiss none =
     let from = source_field turn.path in

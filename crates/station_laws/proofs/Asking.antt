@@ -5,7 +5,8 @@ use Rattle.station_laws.proofs.Common.{each_append, HostEvent, Joined, Bytes, Le
 use Rattle.station_laws.proofs.Common.{connection_of, shown_to_hosts, new_messages, Link, link_at, making, no_layer_3}
 use Rattle.station_laws.proofs.Common.{Turn, InputAsksNothing, Input, IsTurn, FromHost, OffAir, OfClock, LinkStep}
 use Rattle.station_laws.proofs.Common.{Choice, link_step, steps_for, steps_at, turn_steps, steps_of, IsOfNoHost, ⊤}
-use Rattle.station_laws.proofs.Common.{StationState, heard_steps, each_weaker, ap, is_some, ◌∙◌}
+use Rattle.station_laws.proofs.Common.{IsHostTurn, host_steps, heard_steps, each_weaker, shut_steps, shutting, ◌++◌}
+use Rattle.station_laws.proofs.Common.{◌∙◌}
 use Rattle.std.specs.List.{AllByRecursion as Each}
 use Rattle.link_machine.specs.Event.{Event as LinkEvent}
 use Rattle.link_machine.specs.Event.Event.{Send as LinkSend, Hear as LinkHear, Tick as LinkTick, Connect as LinkConnect}
@@ -16,7 +17,9 @@ use Rattle.station_laws.proofs.Causes.{Cause, cause_of}
 use Rattle.station_laws.proofs.Causes.Cause.{nothing, connecting, sending, disconnecting, hearing, ticking}
 use Rattle.station_laws.proofs.HeardAs.{Heard, heard_as}
 use Rattle.station_laws.proofs.HeardAs.Heard.{passes, repeats, hears, hears_new}
-use Rattle.station_laws.proofs.StationActs.{KeptByAll, host_kept, ticks_kept, MayCome, MayBring, MayTake, MayAsk}
+use Rattle.station_laws.proofs.Closings.{event_closed, queued_closed, shut_closed}
+use Rattle.station_laws.proofs.StationActs.{AnyHost, KeptByAll, KeptByEvents, MayAsk, MayBring, MayTake, hosts_of}
+use Rattle.station_laws.proofs.StationActs.{octets_kept, ticks_kept}
 
 abbrev OfNoHost : LinkStep → Type 0
 OfNoHost s = IsOfNoHost s.event
@@ -55,27 +58,39 @@ of_none (LinkHear frame) none = tt
 of_none (LinkTick waiting) none = tt
 of_none (LinkSeize last full) none = tt
 
+-- if nobody is closed, nobody was
 abbrev Asks : Turn → List LinkStep → Turn → Type 0
-Asks turn steps after = AllOfNone steps
+Asks turn steps after = after.out.closed ≡ [] → AllOfNone steps × (turn.out.closed ≡ [])
+
+-- somebody is closed
+closes_one : (before : List ℕ) (id : ℕ) → before ++ id ∷ [] ≡ [] → ⊥
+closes_one [] id is = cc
+closes_one (x ∷ before) id is = cc
 
 asks_kept : (chosen : Choice) → KeptByAll chosen OfNone Asks
 asks_kept chosen = record {
   kept = record {
     by_events = record {
-      same = λ t. tt;
-      on = λ t u v. each_append OfNoHost;
-      events = λ key event t none. event_asks chosen None key event t (of_none event none);
-      asked = λ key t. tt;
+      same = λ t is. (tt, is);
+      on = λ t u v first second one two is.
+          let then = two is in
+          let before = one then.1 in (each_append OfNoHost first second before.0 then.0, before.1);
+      events = λ key event t none is.
+          (event_asks chosen None key event t (of_none event none), sym (event_closed key event t) ∙ is);
+      asked = λ key t is. (tt, is);
     };
     called = λ id key message route t none. absurd none;
-    replies = λ id message t other. tt;
-    registers = λ call id t. tt;
+    replies = λ id message t other is. (tt, is);
+    registers = λ call id t is. (tt, is);
   };
-  changes = λ now t h. tt;
-  closes = λ id t. tt;
-  queues = λ asker octets t. tt;
-  disowns = λ key link t at. tt;
+  changes = λ now t h is. (tt, is);
+  closes = λ id t is. absurd (closes_one t.out.closed id is);
+  queues = λ asker octets t is. (tt, sym (queued_closed asker None octets t) ∙ is);
+  disowns = λ key link t at is. (tt, is);
 }
+
+asks_shut : (chosen : Choice) (id : ℕ) (t : Turn) → Asks t (shut_steps chosen id t) (shutting id t)
+asks_shut chosen id t = λ is. absurd (closes_one t.out.closed id (sym (shut_closed id t) ∙ is))
 
 message_asks : (message : AgwMessage) → AsksNothing message → MayAsk OfNone message
 message_asks message none = record {
@@ -85,23 +100,29 @@ message_asks message none = record {
 }
 
 octets_ask : (kind : PortKind) (connection : Connection) (octets : List ℕ) → OctetsAskBy kind connection octets
-    → MayBring OfNone kind connection octets
-octets_ask Kiss connection octets none = λ e. let clash : true ≡ false = sym e ∙ none in absurd (cc)
+    → MayBring OfNone AnyHost kind connection octets
+octets_ask Kiss connection octets none = tt
 octets_ask Agw connection octets none =
-    let messages = new_messages connection.stream octets in (
-      each_weaker AsksNothing (MayAsk OfNone) message_asks messages (recursion_from_All AsksNothing messages none.0),
-      λ e. let clash : true ≡ false = sym e ∙ ap is_some none.1 in absurd (cc),
-    )
+    let messages = new_messages connection.stream octets in
+    each_weaker AsksNothing (MayAsk OfNone) message_asks messages (recursion_from_All AsksNothing messages none)
 
 taken_asks : (connection : Option Connection) (octets : List ℕ) → OctetsAskNothing connection octets
-    → MayTake OfNone connection octets
+    → MayTake OfNone AnyHost connection octets
 taken_asks None octets none = tt
 taken_asks (Some connection) octets none = octets_ask connection.kind connection octets none
 
-host_asks : (event : HostEvent) (s : StationState) → InputAsksNothing (FromHost event) s → MayCome OfNone event s
-host_asks (Joined id kind) s none = tt
-host_asks (Bytes id octets) s none = taken_asks (connection_of id s.connections) octets none
-host_asks (Left id) s none = none
+host_asks :
+    (chosen : Choice) (event : HostEvent) (before after : Turn) (turn : IsHostTurn event before after)
+    → InputAsksNothing (FromHost event) before.now after.out.closed
+    → AllOfNone (host_steps chosen event before after turn)
+host_asks chosen (Joined id kind) before after turn none = tt
+host_asks chosen (Bytes id octets) before after turn none =
+    let kept = asks_kept chosen in
+    (octets_kept chosen OfNone AnyHost Asks (hosts_of kept) (asks_shut chosen)
+    (λ n mark frame t may. kept.queues (Some (record { id = n; mark = mark })) frame t)
+    (connection_of id before.now.connections) octets before after
+    (taken_asks (connection_of id before.now.connections) octets none.0) turn none.1).0
+host_asks chosen (Left id) before after turn none = absurd none
 
 -- ---- a frame that is heard
 
@@ -119,17 +140,24 @@ heard_asks chosen octets turn steps after (hears_new key id frame is vacant know
 
 -- ---- each step
 
+ticks_ask : (chosen : Choice) → KeptByEvents chosen OfNone (λ t steps u. AllOfNone steps)
+ticks_ask chosen = record {
+  same = λ t. tt;
+  on = λ t u v. each_append OfNoHost;
+  events = λ key event t none. event_asks chosen None key event t (of_none event none);
+  asked = λ key t. tt;
+}
+
 turn_asks :
     (chosen : Choice) (input : Input) (before after : Turn) (turn : IsTurn input before after)
-    → InputAsksNothing input before.now
+    → InputAsksNothing input before.now after.out.closed
     → AllOfNone (turn_steps chosen input before after turn)
-turn_asks chosen (FromHost event) before after turn none =
-    host_kept chosen OfNone Asks (asks_kept chosen) event before after (host_asks event before.now none) turn
+turn_asks chosen (FromHost event) before after turn none = host_asks chosen event before after turn none
 turn_asks chosen (OffAir octets) before after turn none =
     heard_asks chosen octets (shown_to_hosts turn.path octets turn.monitored before)
     (λ any. heard_steps any octets before after turn) turn.between (heard_as octets before after turn)
 turn_asks chosen (OfClock busy) before after turn none =
-    ticks_kept chosen OfNone Asks (asks_kept chosen).kept.by_events tt busy before
+    ticks_kept chosen OfNone (λ t steps u. AllOfNone steps) (ticks_ask chosen) tt busy before
 
 pub hosts_ask_nothing_holds : HostsAskNothing
 hosts_ask_nothing_holds chosen step none =

@@ -22,7 +22,7 @@ use Rattle.station_laws.specs.FramesTold.{StandBeside, AskersStandBeside}
 use Rattle.station_laws.proofs.Causes.{NotHeard}
 use Rattle.station_laws.proofs.HeardAs.{Heard, heard_as, only_shows}
 use Rattle.station_laws.proofs.HeardAs.Heard.{passes, repeats, hears, hears_new}
-use Rattle.station_laws.proofs.StationActs.{KeptByAll, any_may_come, host_kept, ticks_kept}
+use Rattle.station_laws.proofs.StationActs.{KeptByAll, any_kept, ticks_kept}
 
 abbrev Beside : Turn → List LinkStep → Turn → Type 0
 Beside turn steps after = StandBeside turn.now → StandBeside after.now
@@ -145,7 +145,7 @@ heard_beside octets turn steps after (hears_new key host frame is vacant known n
 turn_beside :
     (input : Input) (before after : Turn) → IsTurn input before after → StandBeside before.now → StandBeside after.now
 turn_beside (FromHost event) before after turn h =
-    host_kept is_some NotHeard Beside beside_kept event before after (any_may_come event before.now) turn h
+    any_kept is_some Beside beside_kept event before after turn h
 turn_beside (OffAir octets) before after turn h =
     let shown = shown_to_hosts turn.path octets turn.monitored before in
     subst (λ (t : Turn). StandBeside t.now) (sym turn.told)

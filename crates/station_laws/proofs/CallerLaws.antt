@@ -2,7 +2,7 @@
 -- counts of dropped frames.
 use Rattle.station_laws.proofs.Common.{◌≡◌, List, [], ◌∷◌, refl, sym, ap, ◌∙◌, All-from_recursion, recursion_from_All}
 use Rattle.station_laws.proofs.Common.{LinkState, Idle, Calling, Up, Releasing, End, A, B, ChangesLaw, each_weaker}
-use Rattle.station_laws.proofs.Common.{StationState, InputAsksNothing, steps_in, Step, Stations, new_stations, state_of}
+use Rattle.station_laws.proofs.Common.{StationState, StepAsksNothing, steps_in, Step, Stations, new_stations, state_of}
 use Rattle.station_laws.proofs.Common.{with_state, stepped, IsJointRun, all_stepped, Calls, link_at_end, LinkStep}
 use Rattle.station_laws.proofs.Common.{steps_of, DropsNoAsk, FindsRoom, IsOfNoHost, IsEventOfCaller, OnlyACalls}
 use Rattle.std.specs.List.{AllByRecursion as Each}
@@ -24,7 +24,7 @@ before_zero B state s h none_lost = record { a = h.a; b = none_lost }
 
 pub events_by :
     (e : End) (calls : Calls) (step : Step) → step.station ≡ e
-    → (step.station ≡ B → InputAsksNothing step.input step.before)
+    → (step.station ≡ B → StepAsksNothing step)
     → Each (AsksFindRoomAt e) (steps_of (link_at_end calls e) step)
     → Each (IsEventOfCaller e) (steps_of (link_at_end calls e) step)
 events_by A calls step station asks room = room

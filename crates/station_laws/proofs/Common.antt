@@ -94,12 +94,13 @@ pub use Rattle.station.specs.Host.{AreTaken, AreTakenBy, IsHostTurn, ending, joi
 pub use Rattle.station.specs.Host.{with_host}
 pub use Rattle.station.specs.Kiss.{heeding, heeding_all, param_of, with_param}
 unfoldable pub use Rattle.station.specs.Leaving.{giving_up_all}
-pub use Rattle.station.specs.Leaving.{giving_up, giving_up_link, leaving, without_host, without_owner}
+pub use Rattle.station.specs.Leaving.{giving_up, giving_up_link, leaving, shutting, without_host, without_owner}
 pub use Rattle.station.specs.LinkEvents.{event_at, event_of, link_event, queueing_frame, queueing_frames, settled_link}
 pub use Rattle.station.specs.LinkEvents.{telling_one, telling_to, with_links}
 pub use Rattle.station.specs.Links.{IsNewKey, Link, Links, is_between, key_between, link_at, most_links, with_link}
 pub use Rattle.station.specs.Links.{with_new_link}
 pub use Rattle.station.specs.NewLinks.{idle_link, making, no_layer_3}
+pub use Rattle.station.specs.Passing.{loser, passing, shutting_loser}
 pub use Rattle.station.specs.Registrations.{is_number, may_register, registrar}
 pub use Rattle.station.specs.Routes.{Route, behind_repeaters, path_along, repeaters_in, route_in}
 pub use Rattle.station.specs.State.{StationState, new_station, usual_config}
@@ -115,7 +116,7 @@ pub use Rattle.station.specs.declared.host_event.PortKind.{PortKind}
 pub use Rattle.station.specs.declared.host_event.PortKind.TheVariants.{Agw, Kiss}
 pub use Rattle.station_laws.specs.HeardInOrder.{AreAlikeButForH, AreHeardInOrder, HasPair, HearsFrameOf}
 pub use Rattle.station_laws.specs.HeardInOrder.{HearsLinkFrame, IsHeardPair, IsOffAir, Pair, RiseBoth, with_none_done}
-pub use Rattle.station_laws.specs.HostsAsk.{InputAsksNothing}
+pub use Rattle.station_laws.specs.HostsAsk.{InputAsksNothing, StepAsksNothing}
 pub use Rattle.station_laws.specs.InFlight.{AreMatched, AreQuietAt, AreQuietThrough, BothWays, IsMatched, LinkFrame}
 pub use Rattle.station_laws.specs.InFlight.{Moment, OneWay, after_moment, answers, hearing_at, hears_ask, in_flight}
 pub use Rattle.station_laws.specs.InFlight.{is_ask, is_ua_or_dm, nothing_sent, queueing_all, queueing_at, sent_by}
@@ -134,8 +135,9 @@ pub use Rattle.station_laws.specs.LinkSteps.{Choice, LinkStep, anew_steps, answe
 pub use Rattle.station_laws.specs.LinkSteps.{by_path_steps, call_steps}
 pub use Rattle.station_laws.specs.LinkSteps.{data_steps, disconnect_steps, else_steps, ending_steps, given_up}
 pub use Rattle.station_laws.specs.LinkSteps.{gives_up_at, heard_steps, hears_at, host_steps, key_steps, leaving_steps}
-pub use Rattle.station_laws.specs.LinkSteps.{link_step, made_steps, message_steps, new_steps, octet_steps}
-pub use Rattle.station_laws.specs.LinkSteps.{octet_steps_by, path_steps, reading_steps, sends_at, steps_along, steps_at}
+pub use Rattle.station_laws.specs.LinkSteps.{link_step, loser_steps, made_steps, message_steps, new_steps, octet_steps}
+pub use Rattle.station_laws.specs.LinkSteps.{octet_steps_by, passing_steps, path_steps, reading_steps, sends_at}
+pub use Rattle.station_laws.specs.LinkSteps.{shut_steps, steps_along, steps_at}
 pub use Rattle.station_laws.specs.LinkSteps.{steps_for, steps_of, tick_steps, ticks_at, turn_steps}
 pub use Rattle.station_laws.specs.LinksTell.{RunsIn, runs_after}
 pub use Rattle.station_laws.specs.MatchedLaw.{AsksInRoom, DropsNoAsk, FindsRoom, IsEventOfCaller, IsOfNoHost}

@@ -23,7 +23,7 @@ use Rattle.station_laws.proofs.Queues.{octets_of}
 use Rattle.station_laws.proofs.Causes.{NotHeard}
 use Rattle.station_laws.proofs.HeardAs.{Heard, heard_as, only_shows}
 use Rattle.station_laws.proofs.HeardAs.Heard.{passes, repeats, hears, hears_new}
-use Rattle.station_laws.proofs.StationActs.{KeptByAll, any_may_come, host_kept, ticks_kept}
+use Rattle.station_laws.proofs.StationActs.{KeptByAll, any_kept, ticks_kept}
 
 -- ---- what no drop says
 
@@ -196,7 +196,7 @@ turn_joins :
     (chosen : Choice) (input : Input) (before after : Turn) (turn : IsTurn input before after)
     → Joins before (turn_steps chosen input before after turn) after
 turn_joins chosen (FromHost event) before after turn =
-    host_kept chosen NotHeard Joins (joins_kept chosen) event before after (any_may_come event before.now) turn
+    any_kept chosen Joins (joins_kept chosen) event before after turn
 turn_joins chosen (OffAir octets) before after turn = λ nothing_lost.
     let shown = shown_to_hosts turn.path octets turn.monitored before in
     let done = heard_joins chosen octets shown (λ any. heard_steps any octets before after turn) turn.between

@@ -34,7 +34,7 @@ told_hosts (Some id) local remote [] turn = refl
 told_hosts (Some id) local remote (item ∷ told) turn =
     told_hosts (Some id) local remote told (telling_one (Some id) local remote item turn)
 
-event_hosts : (key : ℕ) (event : Event) (turn : Turn)
+pub event_hosts : (key : ℕ) (event : Event) (turn : Turn)
     → (event_at key event turn).now.connections ≡ turn.now.connections
 event_hosts key event turn = by_place (link_at key turn.now.links)
   where

@@ -16,7 +16,7 @@ mod Controls
 mod LinkFrames
 mod Tags
 pub mod Acts
-mod Along
+pub mod Along
 mod Events
 pub mod ValidCalls
 mod Messages
@@ -33,6 +33,9 @@ pub mod HostsStand
 mod Pieces
 mod Beside
 mod Answering
+mod Waits
+mod AnswerRuns
+pub mod Closings
 mod Asking
 mod Dropping
 pub mod RoomForAsks

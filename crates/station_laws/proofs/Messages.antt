@@ -18,7 +18,7 @@ use Rattle.station_laws.proofs.Standing.{chosen_calls}
 use Rattle.station_laws.proofs.Tables.{none_chosen}
 use Rattle.station_laws.proofs.ValidCalls.{route_valid, no_or_few, along_good, none_by_position}
 use Rattle.station_laws.proofs.Causes.{NotHeard}
-use Rattle.station_laws.proofs.StationActs.{KeptByAll, any_may_come, host_kept, ticks_kept}
+use Rattle.station_laws.proofs.StationActs.{KeptByAll, any_kept, ticks_kept}
 
 -- ---- what is nothing to a link
 
@@ -125,8 +125,7 @@ pub host_goes :
     (s : Setting) (e : End) (back : List Tagged) (event : HostEvent) (before after : Turn)
     → (h : IsHostTurn event before after) → Goes s e back before (host_steps (meant s) event before after h) after
 host_goes s e back event before after h =
-    host_kept (meant s) NotHeard (Goes s e back) (goes_kept s e back) event before after
-    (any_may_come event before.now) h
+    any_kept (meant s) (Goes s e back) (goes_kept s e back) event before after h
 
 pub ticks_go : (s : Setting) (e : End) (back : List Tagged) (busy : Bool) (turn : Turn)
     → Goes s e back turn (tick_steps (meant s) busy turn) (asked_links busy turn)

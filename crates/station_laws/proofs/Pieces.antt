@@ -33,7 +33,7 @@ use Rattle.station_laws.proofs.Causes.{NotHeard}
 use Rattle.station_laws.proofs.HostsStand.{asked_hosts, no_kiss, told_is_other}
 use Rattle.station_laws.proofs.HeardAs.{Heard, heard_as}
 use Rattle.station_laws.proofs.HeardAs.Heard.{passes, repeats, hears, hears_new}
-use Rattle.station_laws.proofs.StationActs.{IsNoLinks, KeptByAll, any_may_come, host_kept, ticks_kept}
+use Rattle.station_laws.proofs.StationActs.{IsNoLinks, KeptByAll, any_kept, ticks_kept}
 
 -- what the events of an act tell joins what was told before
 abbrev Tells : ℕ → Turn → List LinkStep → Turn → Type 0
@@ -261,8 +261,7 @@ turn_tells :
     → Each (λ (c : Connection). c.id ≡ id → c.kind ≡ Agw) before.now.connections
     → Tells id before (turn_steps is_some input before after turn) after
 turn_tells id (FromHost event) before after turn agw =
-    host_kept is_some NotHeard (Tells id) (tells_kept id) event before after
-    (any_may_come event before.now) turn
+    any_kept is_some (Tells id) (tells_kept id) event before after turn
 turn_tells id (OffAir octets) before after turn agw =
     let from = source_field turn.path in
     let to = destination_field turn.path in

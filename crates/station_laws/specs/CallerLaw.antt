@@ -4,7 +4,7 @@ use Rattle.std.specs.Prelude.{◌≡◌, ℕ, List, [], ◌∷◌}
 use Rattle.link_world.specs.declared.end.End.TheVariants.{B}
 use Rattle.link_world.specs.Windows.{WindowsFit}
 use Rattle.station.specs.declared.config.Config.{Config}
-use Rattle.station_laws.specs.HostsAsk.{InputAsksNothing}
+use Rattle.station_laws.specs.HostsAsk.{StepAsksNothing}
 use Rattle.station_laws.specs.InFlight.{Moment, steps_in, nothing_sent}
 use Rattle.station_laws.specs.JointRun.{Step, Stations, new_stations, IsJointRun, all_stepped}
 use Rattle.station_laws.specs.LinkInFlight.{AreMatchedFor, AreQuietFor}
@@ -12,10 +12,10 @@ use Rattle.station_laws.specs.LinkOfCalls.{Calls}
 use Rattle.station_laws.specs.MatchedLaw.{pairs_in}
 use Rattle.station_laws.specs.StationsLaw.{LinkKeepsOrder}
 
--- no host of B connects or disconnects
+-- no host of B connects or disconnects, and none is closed
 abbrev pub BAsksNothing : List Step → Type 0
 BAsksNothing [] = Unit {0}
-BAsksNothing (step ∷ steps) = (step.station ≡ B → InputAsksNothing step.input step.before) × BAsksNothing steps
+BAsksNothing (step ∷ steps) = (step.station ≡ B → StepAsksNothing step) × BAsksNothing steps
 
 -- neither station has dropped a frame
 pub record DroppedNothing (s : Stations) : Type 0 where

@@ -1,10 +1,11 @@
 -- What a step of a station does to some of its links, event by event: to the one between two calls, or to any. A host
--- program connects (AGWPE, C, v and c), sends (each packet of D), and disconnects (d, and when it leaves). A frame that
--- is heard, and that passes every test on the way to a link, is an event of that link. A tick is one of each link, and
+-- program connects (AGWPE, C, v and c), sends (each packet of D), and disconnects (d, and when it leaves, or loses a call
+-- by X of another one). A frame that is heard, and that passes every test on the way to a link, is an event of that link. A tick is one of each link, and
 -- then the channel perhaps takes a frame of one.
 use Rattle.std.specs.Prelude.{◌≡◌, ℕ, ◌-◌, ◌==◌, Bool, true, false, if◌then◌else◌, List, [], ◌∷◌, ◌++◌, length, Option}
 use Rattle.std.specs.Prelude.{Some, None, is_some, MatchBool}
 use Rattle.std.specs.List.{range_with_len}
+use Rattle.ax25_address.specs.Callsign.{Callsign}
 use Rattle.ax25_address.specs.FramePath.{way_back}
 use Rattle.ax25_address.specs.declared.path.Path.{Path}
 use Rattle.ax25_address.specs.declared.path.Role.TheVariants.{Command}
@@ -19,10 +20,11 @@ use Rattle.station.specs.declared.host_event.HostEvent.{HostEvent}
 use Rattle.station.specs.declared.host_event.HostEvent.TheVariants.{Joined, Bytes, Left}
 use Rattle.station.specs.declared.host_event.PortKind.{PortKind}
 use Rattle.station.specs.declared.host_event.PortKind.TheVariants.{Kiss, Agw}
-use Rattle.station.specs.AgwKinds.{data_kind, disconnect_kind}
+use Rattle.station.specs.AgwKinds.{data_kind, disconnect_kind, register_kind}
 use Rattle.station.specs.Asking.{asked_key, seizing, with_asked}
 use Rattle.station.specs.AgwRequests.{AreAnswered, IsCall, IsCallMade, replying, refused_reply, answering_else, calls}
 use Rattle.station.specs.AgwRequests.{called_route, called_pid, may_call, own_key, data_pid, packet_length, packets_of, giving_packet}
+use Rattle.station.specs.CallFields.{call_in}
 use Rattle.station.specs.Connections.{Connection, connection_of}
 use Rattle.station.specs.Heard.{IsHeard, IsHeardBy, IsHeardAnew, IsHeardMaking, IsReadingHeardAnew, IsRepeatedFor}
 use Rattle.station.specs.Heard.{AreHeardAt, AreOctetsHeard, may_make, shown_to_hosts, waits_for_repeater}
@@ -32,6 +34,7 @@ use Rattle.station.specs.Leaving.{giving_up, without_host, without_owner}
 use Rattle.station.specs.LinkEvents.{event_at, with_links}
 use Rattle.station.specs.Links.{Link, link_at, key_between, with_link, most_links}
 use Rattle.station.specs.NewLinks.{making, no_layer_3}
+use Rattle.station.specs.Passing.{loser}
 use Rattle.station.specs.Registrations.{registrar, is_number}
 use Rattle.station.specs.Routes.{Route, path_along}
 use Rattle.station.specs.Ticks.{t1_stands, ticking_at, ticking_links}
@@ -112,6 +115,10 @@ abbrev pub leaving_steps : Choice → ℕ → Turn → List LinkStep
 leaving_steps chosen id turn =
     steps_along (giving_up id) (gives_up_at chosen id) (range_with_len 0 most_links) (changing (without_host id) turn)
 
+-- and is closed
+abbrev pub shut_steps : Choice → ℕ → Turn → List LinkStep
+shut_steps chosen id turn = leaving_steps chosen id (closing id turn)
+
 -- ---- a message of a host program
 
 -- C, v and c, if the call is made
@@ -146,9 +153,19 @@ abbrev pub disconnect_steps : Choice → Option ℕ → Turn → List LinkStep
 disconnect_steps chosen None turn = []
 disconnect_steps chosen (Some key) turn = steps_at chosen None key Disconnect turn
 
+-- X, if another connection loses the call, which has left then
+abbrev pub loser_steps : Choice → Option ℕ → Turn → List LinkStep
+loser_steps chosen None turn = []
+loser_steps chosen (Some other) turn = shut_steps chosen other turn
+
+abbrev pub passing_steps : Choice → ℕ → Option Callsign → Turn → List LinkStep
+passing_steps chosen id None turn = []
+passing_steps chosen id (Some call) turn = loser_steps chosen (loser id call turn.now) turn
+
 -- any other message is nothing to a link
 abbrev pub else_steps : Choice → ℕ → AgwMessage → Turn → List LinkStep
 else_steps chosen id message turn =
+    if message.kind == register_kind then passing_steps chosen id (call_in message.from) turn else
     if message.kind == data_kind then data_steps chosen message (own_key id message turn.now.links) turn else
     if message.kind == disconnect_kind then disconnect_steps chosen (own_key id message turn.now.links) turn else []
 
@@ -170,7 +187,7 @@ message_steps chosen id (message ∷ messages) before after h =
 -- a connection that is to be read no further has left
 abbrev pub ending_steps : Choice → ℕ → Bool → Turn → List LinkStep
 ending_steps chosen id false turn = []
-ending_steps chosen id true turn = leaving_steps chosen id (closing id turn)
+ending_steps chosen id true turn = shut_steps chosen id turn
 
 -- ---- octets of a host program
 

@@ -1,5 +1,6 @@
 //! The laws. Each is the contract of a function that does nothing.
 ghost use Rattle.station_laws.specs.StationsLaw.{FollowingLaw, StationsLaw};
+ghost use Rattle.station_laws.specs.AnswersOverRuns.{AnswersOverRuns};
 ghost use Rattle.station_laws.specs.CallerLaw.{CallerLaw};
 ghost use Rattle.station_laws.specs.FramesTold.{AnswersAreOfSent, AskersStandBeside};
 ghost use Rattle.station_laws.specs.HostsAsk.{HostsAskNothing};
@@ -95,6 +96,14 @@ pub fn answers_are_of_sent()
 /// frame alone, so with [`answers_are_of_sent`] the answers come in the order of sending.
 pub fn askers_stand_beside()
     ensures { AskersStandBeside }
+{}
+
+/// Over a whole run of a station from its beginning: the answers that a connection of KISS was sent since it joined are
+/// exactly those for its frames that asked to be told of, joined the transmit queue and were named as sent, in the order
+/// in which it asked. The others of its frames that asked still wait. A connection that has left is told nothing, nor is
+/// a later one of its id for the frames of the first.
+pub fn answers_over_runs()
+    ensures { AnswersOverRuns }
 {}
 
 /// What a link tells its owner. A set-up runs from when it is told to be open until it is told to have ended. The

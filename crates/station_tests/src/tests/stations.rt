@@ -15,6 +15,7 @@ mod absurd_frames;
 mod calls_and_data;
 mod desk;
 mod monitoring;
+mod passing;
 mod random_octets;
 mod requests;
 mod sent_frames;

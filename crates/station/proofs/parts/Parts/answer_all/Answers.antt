@@ -18,6 +18,5 @@ loop-message-preserved c = record {
             (answered-more c.args.id (take i messages) c.message-item.result turn so_far.0 next.0 so_far.1 next.1),
         next.2,
       );
-  ids = c.in_ok-answer.ensures.ids ∙ c.loop-message.invariant.ids;
-  closed = c.in_ok-answer.ensures.closed ∙ c.loop-message.invariant.closed;
+  ids = λ ids is. c.in_ok-answer.ensures.ids ids (c.loop-message.invariant.ids ids is);
 }

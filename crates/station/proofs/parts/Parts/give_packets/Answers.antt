@@ -1,7 +1,7 @@
-use Rattle.station.proofs.Common.{◌≡◌, ◌+◌, length, sym, ◌∙◌, ap, arith, subst, Packet, giving_packet, giving_packets}
+use Rattle.station.proofs.Common.{◌≡◌, sym, ◌∙◌, ap, arith, subst, Packet, giving_packet, giving_packets}
 use Rattle.station.proofs.Common.{Shows, Turn}
 use Rattle.station.specs.AgwRequests.{packet_length, packets_of}
-use Rattle.station.proofs.GiveLemmas.{first_packets, packets-more, begins_within}
+use Rattle.station.proofs.GiveLemmas.{first_packets, packets-more}
 use Rattle.station.proofs.parts.Parts.give_packets.Goals as goal
 
 pub loop-place-preserved : goal.loop-place-preserved

@@ -35,10 +35,10 @@ returns-clause-shows c = λ turn shows.
     let same = AllZip-length StandsForConnection parts.connections.items turn.now.connections shows.holds.connections in
     let room : nat_lt (length turn.now.connections) 64 ≡ true =
     grind (arith, nat_tests, c.len.ensures, parts.connections.ok) in
-    let held : HeldConnection = record { id = id; raw = false; monitors = false; reader = c.new_reader.result } in
+    let held : HeldConnection = record { id = id; raw = false; monitors = false; came = 0; reader = c.new_reader.result } in
     on_ok_weaker c.push.result (λ items.
     let joined = shows_joined parts c.args.out.now turn c.push.new.items.items held c.args.kind shows c.requires refl
-    refl c.new_reader.ensures items in
+    refl refl c.new_reader.ensures items in
     subst (λ (behind : Turn). Shows (record parts { connections = c.push.new.items }) c.args.out.now behind)
     (sym (cond-true (nat_lt (length turn.now.connections) 64) (changing (with_host id c.args.kind) turn)
     (closing id turn) room))
@@ -63,7 +63,7 @@ returns-clause-shows c = λ turn shows.
 pub returns-clause-ids : goal.returns-clause-ids
 returns-clause-ids c =
     let id = c.args.id in
-    let held : HeldConnection = record { id = id; raw = false; monitors = false; reader = c.new_reader.result } in
+    let held : HeldConnection = record { id = id; raw = false; monitors = false; came = 0; reader = c.new_reader.result } in
     on_ok_weaker c.push.result (λ items none.
     ap (λ (xs : List HeldConnection). map (λ (connection : HeldConnection). connection.id) xs) items
     ∙ map-append (λ (connection : HeldConnection). connection.id) c.args.self.now.connections.items (held ∷ [])

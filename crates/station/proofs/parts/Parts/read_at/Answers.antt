@@ -17,21 +17,22 @@ returns-clause-shows c = λ out turn shows.
     let held = parts.connections.items in
     let places = turn.now.connections in
     let connection : Connection = get_or places k (new_connection 0 Kiss) in
-    let here = c.index_mut.result.now in
+    let here = c.index_mut-connection.result.now in
     let stands = stands_here held places k here (new_connection 0 Kiss)
-    shows.holds.connections c.requires.within c.index_mut.ensures.value in
+    shows.holds.connections c.requires.within c.index_mut-connection.ensures.value in
     let next : HeldConnection = record {
       id = here.id;
       raw = here.raw;
       monitors = here.monitors;
+      came = parts.ticks;
       reader = c.read.new.self;
     } in
     let new : Parts = record parts { connections = with_item parts.connections k next } in
     on_ok_weaker c.read.result (λ reads.
-    shows_connections parts new out turn id (with_octets octets) shows (λ connection. refl)
-    (zip_changed id k (with_octets octets) next held places (new_connection 0 Kiss) shows.holds.connections
+    shows_connections parts new out turn id (with_octets turn.now.ticks octets) shows (λ connection. refl)
+    (zip_changed id k (with_octets turn.now.ticks octets) next held places (new_connection 0 Kiss) shows.holds.connections
     (place_is id k held places shows.holds.connections shows.holds.ids c.requires)
-    (record { id = stands.id; raw = stands.raw; monitors = stands.monitors; reader = reads }))
+    (record { id = stands.id; came = shows.holds.ticks; raw = stands.raw; monitors = stands.monitors; reader = reads }))
     refl refl refl refl refl refl refl refl refl refl)
     (c.read.ensures.stands_for connection.kind connection.stream stands.reader)
 
@@ -43,8 +44,8 @@ returns-clause-said c = λ out turn shows.
     let held = c.args.self.now.connections.items in
     let places = turn.now.connections in
     let connection : Connection = get_or places k (new_connection 0 Kiss) in
-    let stands = stands_here held places k c.index_mut.result.now (new_connection 0 Kiss)
-    shows.holds.connections c.requires.within c.index_mut.ensures.value in
+    let stands = stands_here held places k c.index_mut-connection.result.now (new_connection 0 Kiss)
+    shows.holds.connections c.requires.within c.index_mut-connection.ensures.value in
     let own : connection_of id places ≡ Some connection =
     connection_at id k places (new_connection 0 Kiss)
     (place_is id k held places shows.holds.connections shows.holds.ids c.requires) in
@@ -55,12 +56,13 @@ returns-clause-said c = λ out turn shows.
 
 pub returns-clause-ids : goal.returns-clause-ids
 returns-clause-ids c =
-    let here = c.index_mut.result.now in
+    let here = c.index_mut-connection.result.now in
     let next : HeldConnection = record {
       id = here.id;
       raw = here.raw;
       monitors = here.monitors;
+      came = c.args.self.now.ticks;
       reader = c.read.new.self;
     } in
     on_any c.read.result (ids_set c.args.self.now.connections.items c.args.place next here refl
-    c.index_mut.ensures.value)
+    c.index_mut-connection.ensures.value)
