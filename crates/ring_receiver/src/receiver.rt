@@ -177,7 +177,8 @@ impl RingReceiver {
 
     /// Its readers, in their order, in the Vec that it was made of. It takes no memory.
     pub fn finish(self) -> Vec<Reader>
-        ensures { result.items ≡ readers_in self }
+        ensures items { result.items ≡ readers_in self }
+        ensures most { length result.items ≤ 9 }
     {
         let RingReceiver { bank, added, .. } = self;
         let eight = bank.finish();

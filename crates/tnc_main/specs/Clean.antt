@@ -10,6 +10,11 @@ use Rattle.resampler.specs.Filtered.{filtered, decimated}
 use Rattle.wide_input.specs.Streams.{stream}
 use Rattle.wide_input.specs.Stray.{NoWideStray}
 use Rattle.fx25_receiver.specs.WithoutBlocks.{HasNoBlock}
+use Rattle.fx25_signal.specs.Damage.{AreLost, DifferInStretches, Stretch}
+use Rattle.fx25_signal.specs.Merging.{NoneStray as NoneStrayOfUnits}
+use Rattle.fx25_signal.specs.NearSignal.{IsNearAll as IsNearAllBlocks, IsReceived as IsReceivedInBlocks}
+use Rattle.fx25_signal.specs.NearSignal.{ReceivedBlocks, sent_units}
+use Rattle.fx25_signal.specs.Units.{AreApart, Comes, SentUnit}
 use Rattle.tnc_decode.specs.declared.modem.Modem.{Modem}
 use Rattle.tnc_decode.specs.declared.modem.Modem.TheVariants.{Plain, Wide, Sensitive, WideSensitive, ShortWave, Fx25}
 
@@ -53,3 +58,24 @@ IsNearlyClean Sensitive x received = IsCleanOnAllLanes x received
 IsNearlyClean WideSensitive x received = IsCleanOnAllLanes (decimated x) received
 IsNearlyClean ShortWave x received = IsCleanOnShortWave x received
 IsNearlyClean Fx25 x received = IsCleanWithoutBlock x received
+
+-- ---- frames in blocks
+
+-- Frames come in the samples one after another, each plainly between two flags of its own or in a block with no more wrong
+-- than can be repaired, and nothing that is heard is stray.
+pub record CarriesUnits (x : List ℤ) (units : List SentUnit) : Type 0 where
+  pub apart : AreApart 0 units
+  pub come : All (Comes x) units
+  pub none_stray : NoneStrayOfUnits units x
+
+-- The samples are near a signal of frames in blocks, but for one stretch of each block, or none, which is anything, and
+-- nothing that is heard is stray. A stretch lies among the data and check octets of its block, leaves the last bit alone
+-- and has at most 32c - 71 samples, c being the number of check octets.
+pub record IsNearButForStretches (x : List ℤ) (received : List ReceivedBlocks) : Type 0 where
+  pub each : All IsReceivedInBlocks received
+  pub sent : List ℤ
+  pub near : IsNearAllBlocks received sent
+  pub stretches : List Stretch
+  pub lost : AreLost (sent_units received) stretches
+  pub differ : DifferInStretches stretches x sent
+  pub none_stray : NoneStrayOfUnits (sent_units received) x

@@ -61,6 +61,7 @@ words_of options outer = record {
   };
   dcd = detection_of options.dcd;
   monitor = options.monitor;
+  stats = options.stats;
   sensitive = options.sensitive;
   key = option_map key_of options.ptt;
 }

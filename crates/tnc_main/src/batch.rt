@@ -5,9 +5,12 @@ ghost use Rattle.tnc_base.specs.Faults.{HasRisen};
 ghost use Rattle.tnc_base.specs.Streams.{WrotePart};
 ghost use Rattle.clean_signal.specs.GoodTransmission.{frames_of};
 ghost use Rattle.clean_signal.specs.NearSignal.{Received, transmissions_of};
+ghost use Rattle.fx25_signal.specs.NearSignal.{ReceivedBlocks, frames_of as frames_in_blocks};
+ghost use Rattle.fx25_signal.specs.Units.{SentUnit};
 ghost use Rattle.tnc_words.specs.declared.command.DecodeWords.{DecodeWords};
 ghost use Rattle.tnc_words.specs.declared.command.BenchOptions.{BenchOptions};
 ghost use Rattle.tnc_words.specs.declared.command.LoopWords.{LoopWords};
+ghost use Rattle.tnc_words.specs.declared.command.Receiving.{Receiving};
 ghost use Rattle.tnc_words.specs.Commands.{Asks, IsBench, IsLoop};
 ghost use Rattle.tnc_forms.specs.Reading.{input_limit};
 ghost use Rattle.tnc_decode.specs.Audio.{samples_read};
@@ -20,7 +23,7 @@ ghost use Rattle.tnc_bench.specs.Reported.{report_text, words_of as bench_words}
 ghost use Rattle.tnc_main.specs.declared.live_command.LiveCommand.{LiveCommand};
 ghost use Rattle.tnc_main.specs.declared.status.Status.{Status};
 ghost use Rattle.tnc_main.specs.declared.stop.Stop.{Stop};
-ghost use Rattle.tnc_main.specs.Clean.{IsNearlyClean};
+ghost use Rattle.tnc_main.specs.Clean.{CarriesUnits, IsNearButForStretches, IsNearlyClean};
 ghost use Rattle.tnc_main.specs.Commands.{FindsNoQuiet, HeardAsMade, IsFaultless, IsSpent, ReadsNothing, Strays};
 ghost use Rattle.tnc_main.specs.LiveCommands.{command_of};
 ghost use Rattle.tnc_main.specs.Parts.{WritesAtEnd};
@@ -72,6 +75,20 @@ pub fn run_batch<Rt: Threads + Sync, I: Source, O: Sink, E: Sink>(
         → O.written output.old ≡ Some before
         → code ≡ 0
         → O.written output.new ≡ Some (before ++ print decode.frames (frames_of (transmissions_of received)))) }
+    ensures heard_in_blocks { IfOk result (λ code. (job : Job (map string_bytes words.now) (I.left input.old) code)
+        → (decode : DecodeWords) → (units : List SentUnit) → (before : List ℕ)
+        → job.command ≡ Command.Decode decode → decode.receiving ≡ Receiving.Fx25
+        → CarriesUnits (samples_read decode job.octets) units
+        → O.written output.old ≡ Some before
+        → code ≡ 0
+        → O.written output.new ≡ Some (before ++ print decode.frames (map (λ unit. unit.octets) units))) }
+    ensures repaired { IfOk result (λ code. (job : Job (map string_bytes words.now) (I.left input.old) code)
+        → (decode : DecodeWords) → (received : List ReceivedBlocks) → (before : List ℕ)
+        → job.command ≡ Command.Decode decode → decode.receiving ≡ Receiving.Fx25
+        → IsNearButForStretches (samples_read decode job.octets) received
+        → O.written output.old ≡ Some before
+        → code ≡ 0
+        → O.written output.new ≡ Some (before ++ print decode.frames (frames_in_blocks received))) }
     ensures benched { IfOk result (λ code. (bench : BenchOptions) → (before : List ℕ)
         → IsBench (map string_bytes words.now) bench → O.written output.old ≡ Some before → code ≡ 0
         → (told : Report) × IsOver (bench_words bench) told × KeepsOrder (bench_words bench) told

@@ -5,10 +5,13 @@ ghost use Rattle.tnc_base.specs.Faults.{HasRisen};
 ghost use Rattle.tnc_base.specs.Streams.{WrotePart};
 ghost use Rattle.clean_signal.specs.GoodTransmission.{frames_of};
 ghost use Rattle.clean_signal.specs.NearSignal.{Received, transmissions_of};
+ghost use Rattle.fx25_signal.specs.NearSignal.{ReceivedBlocks, frames_of as frames_in_blocks};
+ghost use Rattle.fx25_signal.specs.Units.{SentUnit};
 ghost use Rattle.key_port.specs.KeyLines.{KeyLine, is_open};
 ghost use Rattle.tnc_words.specs.declared.command.DecodeWords.{DecodeWords};
 ghost use Rattle.tnc_words.specs.declared.command.BenchOptions.{BenchOptions};
 ghost use Rattle.tnc_words.specs.declared.command.LoopWords.{LoopWords};
+ghost use Rattle.tnc_words.specs.declared.command.Receiving.{Receiving};
 ghost use Rattle.tnc_words.specs.declared.command.CallOptions.{CallOptions};
 ghost use Rattle.tnc_words.specs.declared.command.RecordOptions.{RecordOptions};
 ghost use Rattle.tnc_words.specs.declared.command.PttOptions.{PttOptions};
@@ -29,7 +32,7 @@ ghost use Rattle.tnc_call.specs.CallTrace.{ports_by};
 ghost use Rattle.tnc_main.specs.declared.status.Status.{Status};
 ghost use Rattle.tnc_main.specs.Calling.{RunsCall};
 ghost use Rattle.tnc_main.specs.RecordRuns.{RunsRecord};
-ghost use Rattle.tnc_main.specs.Clean.{IsNearlyClean};
+ghost use Rattle.tnc_main.specs.Clean.{CarriesUnits, IsNearButForStretches, IsNearlyClean};
 ghost use Rattle.tnc_main.specs.Commands.{FindsNoQuiet, HeardAsMade, IsFaultless, IsSpent, ReadsNothing, Strays};
 ghost use Rattle.tnc_main.specs.KeyedRuns.{RunsKeyed};
 ghost use Rattle.tnc_main.specs.LiveCommands.{AskNoLive, AskNoPorts};
@@ -97,6 +100,20 @@ pub fn run<
         → O.written output.old ≡ Some before
         → result ≡ 0
         → O.written output.new ≡ Some (before ++ print decode.frames (frames_of (transmissions_of received))) }
+    ensures heard_in_blocks { (job : Job (map string_bytes words.now) (I.left input.old) result)
+        → (decode : DecodeWords) → (units : List SentUnit) → (before : List ℕ)
+        → job.command ≡ Command.Decode decode → decode.receiving ≡ Receiving.Fx25
+        → CarriesUnits (samples_read decode job.octets) units
+        → O.written output.old ≡ Some before
+        → result ≡ 0
+        → O.written output.new ≡ Some (before ++ print decode.frames (map (λ unit. unit.octets) units)) }
+    ensures repaired { (job : Job (map string_bytes words.now) (I.left input.old) result)
+        → (decode : DecodeWords) → (received : List ReceivedBlocks) → (before : List ℕ)
+        → job.command ≡ Command.Decode decode → decode.receiving ≡ Receiving.Fx25
+        → IsNearButForStretches (samples_read decode job.octets) received
+        → O.written output.old ≡ Some before
+        → result ≡ 0
+        → O.written output.new ≡ Some (before ++ print decode.frames (frames_in_blocks received)) }
     ensures benched { (bench : BenchOptions) → (before : List ℕ) → IsBench (map string_bytes words.now) bench
         → O.written output.old ≡ Some before → result ≡ 0
         → (told : Report) × IsOver (bench_words bench) told × KeepsOrder (bench_words bench) told

@@ -113,6 +113,7 @@ pub(crate) fn serve_words(options: ServeOptions, outer: u64) -> ServeWords
         },
         dcd: detection(options.dcd),
         monitor: options.monitor,
+        stats: options.stats,
         sensitive: options.sensitive,
         key: key_words(options.ptt),
     }

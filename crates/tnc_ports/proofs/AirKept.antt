@@ -42,6 +42,7 @@ use Rattle.station.specs.Leaving.{giving_up, giving_up_all, giving_up_link, leav
 use Rattle.station.specs.LinkEvents.{event_at, with_links}
 use Rattle.station.specs.Links.{Link, key_between, link_at, most_links, with_link}
 use Rattle.station.specs.NewLinks.{making, no_layer_3}
+use Rattle.station.specs.Passing.{loser, passing, shutting_loser}
 use Rattle.station.specs.Registrations.{is_number, may_register, registrar}
 use Rattle.station.specs.Routes.{Route, behind_repeaters, path_along, repeaters_in, route_in}
 use Rattle.station.specs.State.{StationState}
@@ -130,6 +131,20 @@ registering_keeps id from (Some call) turn =
     (replying id (register_reply from true) (changing (with_registration call id) turn))
     (replying id (register_reply from false) turn) turn refl refl
 
+passing_keeps : (id : ℕ) (call : Option Callsign) → Keeps (passing id call)
+passing_keeps id None turn = refl
+passing_keeps id (Some call) turn = go (loser id call turn.now)
+  where
+    go : (other : Option ℕ) → air_in (shutting_loser other turn) ≡ air_in turn
+    go None = refl
+    go (Some other) = leaving_keeps other (closing other turn)
+
+-- X
+register_keeps : (id : ℕ) (from : List ℕ) (call : Option Callsign) (turn : Turn)
+    → air_in (registering id from call (passing id call turn)) ≡ air_in turn
+register_keeps id from call turn =
+    registering_keeps id from call (passing id call turn) ∙ passing_keeps id call turn
+
 unregistering_keeps : (id : ℕ) (call : Option Callsign) → Keeps (unregistering id call)
 unregistering_keeps id None turn = refl
 unregistering_keeps id (Some call) turn = refl
@@ -151,7 +166,7 @@ else_keeps id message turn =
     chosen (n == version_kind) _ _ turn refl
     (chosen (n == ports_kind) _ _ turn refl
     (chosen (n == capabilities_kind) _ _ turn refl
-    (chosen (n == register_kind) _ _ turn (registering_keeps id message.from (call_in message.from) turn)
+    (chosen (n == register_kind) _ _ turn (register_keeps id message.from (call_in message.from) turn)
     (chosen (n == unregister_kind) _ _ turn (unregistering_keeps id (call_in message.from) turn)
     (chosen (n == toggle_kind) _ _ turn refl
     (chosen (n == monitor_kind) _ _ turn refl

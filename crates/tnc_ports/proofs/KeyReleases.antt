@@ -79,7 +79,7 @@ module _ (start y : Outside) (line : LineTold) where
       → IsWhole words answers live start z
   whole_on words answers live h = record {
     run = h.run;
-    lanes = h.lanes;
+    answered = h.answered;
     told = tell_on live.asked h.told;
     stay = stay_on h.stay;
     sends = h.sends;
@@ -93,7 +93,8 @@ module _ (start y : Outside) (line : LineTold) where
       → IsCut words answers live start z
   cut_on words answers live h = record {
     run = h.run;
-    lanes = h.lanes;
+    more = h.more;
+    answered = h.answered;
     turns = h.turns;
     reached = h.reached;
     asked = h.asked;

@@ -9,6 +9,7 @@ pub mod LineLemmas
 pub mod LiveWrites
 pub mod LiveSteps
 pub mod LiveReads
+pub mod LiveMeter
 pub mod LiveTurn
 pub mod LiveTold
 pub mod LiveLoop

@@ -10,6 +10,8 @@ use Rattle.tnc_ports.proofs.Common.{octets_to, ids_closed, closed_by, IsShutHavi
 use Rattle.std.specs.Prelude.{◌≡◌, ℕ, [], ◌++◌, map, refl}
 use Rattle.keying.specs.declared.report.Report.{Report}
 use Rattle.tnc_ports.specs.CutPart.{IsCutPart, IsCutInTaking}
+use Rattle.tnc_ports.specs.declared.health_note.HealthNote.{HealthNote}
+use Rattle.tnc_ports.specs.HealthNotes.{health_line}
 use Rattle.tnc_ports.specs.KeyTurns.{key_line}
 use Rattle.tnc_ports.specs.ServedHosts.{ids_sent_to, ids_shut, AreSentInTurns, AreShutInTurns}
 use Rattle.tnc_ports.proofs.GivenLemmas.{offers_given}
@@ -225,6 +227,11 @@ keys_close_nobody : (reported : List Report) → ids_closed (map key_line report
 keys_close_nobody [] = refl
 keys_close_nobody (one ∷ reported) = keys_close_nobody reported
 
+-- nor do lines on the station's health
+notes_close_nobody : (notes : List HealthNote) → ids_closed (map health_line notes) ≡ []
+notes_close_nobody [] = refl
+notes_close_nobody (one ∷ notes) = notes_close_nobody notes
+
 pub accounted_by_frames : (turns : List Asked) → IsKeptByFrames (IsAccounted turns)
 accounted_by_frames turns = record {
   steps = accounted_by_step turns;
@@ -239,6 +246,11 @@ accounted_by_frames turns = record {
       accounted_relined turns (hosts.report ++ map key_line reported) hosts
       (flat_map-append closed_by hosts.report (map key_line reported)
       ∙ ap (λ ids. ids_closed hosts.report ++ ids) (keys_close_nobody reported)
+      ∙ append-nil (ids_closed hosts.report)) h;
+  noted = λ notes hosts h.
+      accounted_relined turns (hosts.report ++ map health_line notes) hosts
+      (flat_map-append closed_by hosts.report (map health_line notes)
+      ∙ ap (λ ids. ids_closed hosts.report ++ ids) (notes_close_nobody notes)
       ∙ append-nil (ids_closed hosts.report)) h;
 }
 

@@ -7,6 +7,8 @@ use Rattle.tnc_ports.proofs.Common.{AreAllGaps, AreFirstGaps, Live, LanesReadOn,
 use Rattle.std.specs.Prelude.{◌≡◌, ℕ, ◌+◌, ◌<◌, [], ◌++◌, length, map, refl}
 use Rattle.slicer_bank.specs.RingTurns.{gaps_from}
 use Rattle.keying.specs.declared.report.Report.{Report}
+use Rattle.tnc_ports.specs.declared.health_note.HealthNote.{HealthNote}
+use Rattle.tnc_ports.specs.HealthNotes.{health_line}
 use Rattle.tnc_ports.specs.KeyTurns.{key_line}
 use Rattle.tnc_ports.specs.ReportedGaps.{gap_by}
 use Rattle.tnc_ports.proofs.KeptLemmas.{IsKeptByStep, IsKeptByPart}
@@ -37,6 +39,10 @@ keys_tell_no_gap : (lane : ℕ) (reported : List Report) → gaps_in lane (map k
 keys_tell_no_gap lane [] = refl
 keys_tell_no_gap lane (one ∷ reported) = keys_tell_no_gap lane reported
 
+notes_tell_no_gap : (lane : ℕ) (notes : List HealthNote) → gaps_in lane (map health_line notes) ≡ []
+notes_tell_no_gap lane [] = refl
+notes_tell_no_gap lane (one ∷ notes) = notes_tell_no_gap lane notes
+
 pub gaps_by_frames : (gaps : ℕ → List LaneGap) → IsKeptByFrames (TellsGaps gaps)
 gaps_by_frames gaps = record {
   steps = gaps_by_step gaps;
@@ -47,6 +53,9 @@ gaps_by_frames gaps = record {
       ∙ sym (flat_map-append (gap_by lane) report reported) ∙ ap (gaps_in lane) (sym told) ∙ h lane;
   keyed = λ reported hosts h lane. flat_map-append (gap_by lane) hosts.report (map key_line reported)
       ∙ ap (λ gaps. gaps_in lane hosts.report ++ gaps) (keys_tell_no_gap lane reported)
+      ∙ append-nil (gaps_in lane hosts.report) ∙ h lane;
+  noted = λ notes hosts h lane. flat_map-append (gap_by lane) hosts.report (map health_line notes)
+      ∙ ap (λ gaps. gaps_in lane hosts.report ++ gaps) (notes_tell_no_gap lane notes)
       ∙ append-nil (gaps_in lane hosts.report) ∙ h lane;
 }
 

@@ -9,6 +9,9 @@ use Rattle.std.specs.Prelude.{◌≡◌, ℕ, ℤ, ◌||◌, [], ◌++◌, map}
 use Rattle.keying.specs.declared.report.Report.{Report}
 use Rattle.keying.specs.Calls.{Call}
 use Rattle.key_port.specs.KeyEvents.{KeyEvent}
+use Rattle.tnc_ports.specs.declared.health_note.HealthNote.{HealthNote}
+use Rattle.tnc_ports.specs.HealthNotes.{health_line, notes_in}
+use Rattle.tnc_ports.specs.Sampled.{notes_in_tick}
 use Rattle.tnc_ports.proofs.KeptLemmas.{IsKeptByStep, kept_step}
 
 pub record IsKeptByFrames (P : Hosts → Type 0) : Type 0 where
@@ -18,6 +21,7 @@ pub record IsKeptByFrames (P : Hosts → Type 0) : Type 0 where
       → P hosts
       → P (record hosts { report = report ++ (SentLine text ∷ [] ++ reported) })
   pub keyed : (reported : List Report) (hosts : Hosts) → P hosts → P (with_lines (map key_line reported) hosts)
+  pub noted : (notes : List HealthNote) (hosts : Hosts) → P hosts → P (with_lines (map health_line notes) hosts)
 
 received_or_none : (monitor : Bool) (octets : List ℕ) (links : Links) (lines : List ReportLine)
     → AreReceivedLines monitor octets links lines
@@ -84,7 +88,7 @@ module _ (P : Hosts → Type 0) (k : IsKeptByFrames P) where
   kept_ticks words busy (suc count) before after ticked p =
       kept_ticks words busy count ticked.0 after ticked.2
       (subst (λ (live : Live). P live.hosts) (sym ticked.1.is)
-      (kept_key_tick words.key (octets_sent before) ticked.1.air.samples before.keyed ticked.1.keyed before.whole
+      (k.noted (notes_in (notes_in_tick words busy ticked.1.reads ticked.1.air before ticked.1.hosts)) ticked.1.hosts (kept_key_tick words.key (octets_sent before) ticked.1.air.samples before.keyed ticked.1.keyed before.whole
       ticked.1.whole ticked.1.made ticked.1.hosts ticked.1.key
       (kept_tick words.monitor (busy || is_held words.key before.keyed) ticked.1.air before.hosts ticked.1.made
-      ticked.1.step p)))
+      ticked.1.step p))))

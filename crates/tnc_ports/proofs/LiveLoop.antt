@@ -1,11 +1,14 @@
 -- All turns of a live station, from the first to the last.
 use Rattle.tnc_ports.proofs.Common.{Bool, true, false, Some, ◌≡◌, ℕ, ◌≤◌, [], ◌++◌, refl, sym, ap, subst, inl, inr, ◌∙◌}
-use Rattle.tnc_ports.proofs.Common.{arith, HeldReceiver, answers_in, WrotePart, Memory, ServeWords, Turning, Told}
+use Rattle.tnc_ports.proofs.Common.{arith, Reader, HeldReceiver, answers_in, WrotePart, Memory, ServeWords, Turning, Told}
 use Rattle.tnc_ports.proofs.Common.{output_octets, report_text, Live, new_live, IsTurn, StandsForLive, Turns, IsCutOff}
 use Rattle.tnc_ports.proofs.Common.{Runs, told_in, Outside, IsRun, IsCutRun, IsCutTurn, IsCutInServing, PortsTell}
 use Rattle.tnc_ports.proofs.Common.{AllIsWritten, Stream, WritesMore}
 use Rattle.std.proofs.Common.{suc, ◌⊎◌, ◌∷◌}
+use Rattle.slicer_bank.specs.RingLanes.{answers_of}
 use Rattle.tnc_ports.specs.declared.looping.LoopEnd.TheVariants.{Done, WriteFault}
+use Rattle.tnc_ports.specs.HeldMeter.{answers_with}
+use Rattle.tnc_ports.specs.Sampled.{answers_of_all}
 use Rattle.tnc_ports.specs.SampledHeld.{output_of, report_of}
 use Rattle.tnc_ports.proofs.Common.{From, KeyWords, KeyedSince, RunsOut, from_of}
 use Rattle.std.specs.Prelude.{Option, None, List, length, option_map}
@@ -158,12 +161,19 @@ written true words live start now h = part_written words live start now h
 
 -- ---- the end
 
+-- what all readers were answered
+answered_by : (len : ℕ) (receiver : HeldReceiver) (reader : Reader) (live : Live)
+    → answers_in len receiver ≡ live.lanes → answers_of len reader ≡ live.sound
+    → answers_of_all live ≡ answers_with len receiver reader
+answered_by len receiver reader live lanes sound =
+    ap (λ ls. ls ++ live.sound ∷ []) (sym lanes) ∙ ap (λ x. answers_in len receiver ++ x ∷ []) (sym sound)
+
 whole : (words : ServeWords) (a b : Turning) (len : ℕ) (old receiver : HeldReceiver) (start x y : Outside)
     → (h : Runs words a len old start x)
     → (t : Turns (from_of start) true a b len receiver h.live (output_of x) (output_of y) (report_of x) (report_of y)
     (told_in x) (told_in y) y.line)
     → y.listens ≡ x.listens → x.port_faults ≤ y.port_faults
-    → IsWhole words (answers_in len receiver) t.next start y
+    → IsWhole words (answers_with len receiver b.meter.reader) t.next start y
     × WritesMore false b.failed (new_live words) t.next (output_of start) (output_of y) (report_of start)
     (report_of y)
 whole words a b len old receiver start x y h t listens later =
@@ -177,7 +187,7 @@ whole words a b len old receiver start x y h t listens later =
     let served = served_run words t.next run in (
       record {
         run = run;
-        lanes = sym t.lanes;
+        answered = answered_by len receiver b.meter.reader t.next t.lanes t.sound;
         told = subst (λ xs. PortsTell xs start y) (sym t.asks)
             (tells_more h.live.asked t.asked start x y h.stay.faults later h.told t.tells);
         stay = stay_stay start x y h.stay listens later;
@@ -208,7 +218,7 @@ pub loop_done : (words : ServeWords) (a b : Turning) (len : ℕ) (old receiver :
     → Turns (from_of start) true a b len receiver h.live (output_of x) (output_of y) (report_of x) (report_of y)
     (told_in x) (told_in y) y.line
     → b.words ≡ a.words → y.listens ≡ x.listens → x.port_faults ≤ y.port_faults → b.failed ≡ false
-    → RunsOut words Done (answers_in len receiver) b start y
+    → RunsOut words Done (answers_with len receiver b.meter.reader) b start y
 loop_done words a b len old receiver start x y h t same listens later none =
     let w = whole words a b len old receiver start x y h t listens later in
     let kept = same ∙ h.words_kept in (
@@ -225,7 +235,7 @@ pub loop_fault : (words : ServeWords) (a b : Turning) (len : ℕ) (old receiver 
     → Turns (from_of start) true a b len receiver h.live (output_of x) (output_of y) (report_of x) (report_of y)
     (told_in x) (told_in y) y.line
     → b.words ≡ a.words → y.listens ≡ x.listens → x.port_faults ≤ y.port_faults → b.failed ≡ true
-    → RunsOut words WriteFault (answers_in len receiver) b start y
+    → RunsOut words WriteFault (answers_with len receiver b.meter.reader) b start y
 loop_fault words a b len old receiver start x y h t same listens later some =
     let w = whole words a b len old receiver start x y h t listens later in (
       t.next,
@@ -248,7 +258,7 @@ pub loop_memory : (words : ServeWords) (a b : Turning) (len : ℕ) (old receiver
     → IsCutOff (from_of start) a b len receiver h.live (output_of x) (output_of y) (report_of x) (report_of y)
     (told_in x) (told_in y) y.line
     → b.words ≡ a.words → y.listens ≡ x.listens → x.port_faults ≤ y.port_faults
-    → RunsOut words Memory (answers_in len receiver) b start y
+    → RunsOut words Memory (answers_with len receiver b.meter.reader) b start y
 loop_memory words a b len old receiver start x y h t same listens later =
     let all = writes_more false a.failed b.failed (new_live words) h.live t.next (output_of start) (output_of x)
     (output_of y) (report_of start) (report_of x) (report_of y) h.writes t.writes in
@@ -263,7 +273,9 @@ loop_memory words a b len old receiver start x y h t same listens later =
       elim t.tells [
         | inl none ↦ record {
           run = run;
-          lanes = sym t.lanes;
+          more = t.measured.0;
+          answered = answered_by len receiver b.meter.reader (record t.next { sound = t.next.sound ++ t.measured.0 })
+              t.lanes t.measured.1;
           turns = t.next.asked;
           reached = t.next.hosts;
           asked = inl (refl, refl);
@@ -283,7 +295,9 @@ loop_memory words a b len old receiver start x y h t same listens later =
             let all = accounted_cut t.next.asked asked t.next.hosts reached cut.part served.accounted in
             record {
               run = run;
-              lanes = sym t.lanes;
+              more = t.measured.0;
+              answered = answered_by len receiver b.meter.reader
+                  (record t.next { sound = t.next.sound ++ t.measured.0 }) t.lanes t.measured.1;
               turns = t.next.asked ++ asked ∷ [];
               reached = reached;
               asked = inr (asked, cut, refl);

@@ -15,6 +15,13 @@ use Rattle.sample_ring.specs.declared.view.Entry.{Entry}
 use Rattle.sample_ring.specs.Cells.{lap_of, sample_of}
 use Rattle.sample_ring.specs.Record.{next, Stands, StandsAs, Tiles}
 use Rattle.tnc_ports.specs.declared.looping.LoopEnd.{LoopEnd}
+use Rattle.std.specs.Option.{option_to_list}
+use Rattle.std.specs.Prelude.{IsSome, Option, is_ok}
+use Rattle.tnc_ports.proofs.Common.{reader_ring, ring_id}
+use Rattle.sample_ring.specs.Ends.{IsNew}
+use Rattle.tnc_ports.specs.Health.{new_health}
+use Rattle.sample_ring.specs.declared.ring.Ring.{Ring}
+use Rattle.tnc_ports.specs.HeldMeter.{IsFreshSound, answers_if}
 use Rattle.tnc_ports.specs.declared.looping.LoopEnd.TheVariants.{Done as LoopDone, WriteFault as LoopFault}
 use Rattle.tnc_ports.specs.declared.records.Listen.{Listen}
 use Rattle.tnc_ports.specs.declared.serving.ServeEnd.{ServeEnd}
@@ -36,20 +43,34 @@ use Rattle.tnc_ports.proofs.LiveTold.{tells_nothing}
 
 pub first_stands : (words : ServeWords) (turning : Turning) (len : ℕ) (receiver : HeldReceiver)
     → StandsFor turning.hosts [] (new_hosts words.config words.seed)
-    → turning.words ≡ words → turning.ticks ≡ 0 → receiver.sensitive ≡ words.sensitive
+    → turning.words ≡ words → turning.ticks ≡ 0 → turning.meter.health ≡ new_health
+    → IsNew turning.meter.reader → receiver.sensitive ≡ words.sensitive
     → answers_in len receiver ≡ replicate (readers_wanted words.sensitive) [] → Hears len receiver
     → StandsForLive turning len receiver (new_live words)
-first_stands words turning len receiver hosts same ticks sensitive new hears = record {
+first_stands words turning len receiver hosts same ticks health fresh sensitive new hears = record {
   hosts = hosts;
   ticks = ticks;
   sensitive = sensitive ∙ ap (λ (w : ServeWords). w.sensitive) (sym same);
   lanes = new;
   hears = hears;
   passed = omega arith;
+  measures = record {
+    sound = ap (map (answer len)) fresh.nothing_read;
+    place = fresh.at_start;
+    health = health;
+  };
 }
 
+-- no reader was answered
+pub fresh_answers : (ring : Ring) (len : ℕ) (receiver : HeldReceiver) (sound : Option Reader) (lanes : List (List Got))
+    → answers_in len receiver ≡ lanes → IsFreshSound ring sound → answers_if len receiver sound ≡ lanes ++ [] ∷ []
+fresh_answers ring len receiver None lanes is fresh = absurd fresh
+fresh_answers ring len receiver (Some reader) lanes is fresh =
+    ap (λ ls. ls ++ answers_of len reader ∷ []) is
+    ∙ ap (λ reads. lanes ++ map (answer len) reads ∷ []) fresh.1.nothing_read
+
 pub nothing_looped : (words : ServeWords) (lanes : List (List Got)) (start : Outside) (line : LineTold)
-    → lanes ≡ replicate (readers_wanted words.sensitive) []
+    → lanes ≡ replicate (readers_wanted words.sensitive) [] ++ [] ∷ []
     → IsReleasedSince (from_of start) words.key (new_live words) line
     → IsLooped words Memory lanes start (record start { line = line })
 nothing_looped words lanes start line same released =
@@ -74,7 +95,8 @@ nothing_looped words lanes start line same released =
       new_live words,
       cut_on start start line words lanes (new_live words) (record {
         run = run;
-        lanes = sym same;
+        more = [];
+        answered = sym same;
         turns = [];
         reached = (new_live words).hosts;
         asked = inl (refl, refl);
@@ -155,15 +177,11 @@ end_at len from to published (e ∷ reads) stands tiles (total, c) =
 
 -- each record that meets the end is read to the last published sample
 pub ends_whole : (published : List ℤ) (records : List Track) → All (StandsIn ring_cells published true) records
-    → HaveEnded (map answers_of_record records)
-    → All (λ track. track.at ≡ length published) records
-ends_whole published records stand ended = λ k d lt.
+    → All (λ track. MeetsEnd (answers_of_record track) → track.at ≡ length published) records
+ends_whole published records stand = λ k d lt ended.
     let track = get_or records k d in
     let s = stand k d lt in
-    let m : MeetsEnd (answers_of_record track) =
-    subst MeetsEnd (get_or-map answers_of_record records k d)
-    (ended k (answers_of_record d) (subst (λ n. k < n) (sym (length-map records answers_of_record)) lt)) in
-    end_at ring_cells 0 track.at published track.reads s.stands s.tiles m
+    end_at ring_cells 0 track.at published track.reads s.stands s.tiles ended
 
 map_tracks : (readers : List Reader) → map (answers_of ring_cells) readers
     ≡ map answers_of_record (map record_of readers)
@@ -177,9 +195,28 @@ lanes_stand published readers records is stand = record {
   records = records;
   answers = map_tracks readers ∙ ap (map answers_of_record) (sym is);
   stand = stand;
-  whole = λ ended. ends_whole published records stand
-      (subst HaveEnded (map_tracks readers ∙ ap (map answers_of_record) (sym is)) ended);
+  whole = ends_whole published records stand;
 }
+
+-- all readers in one Vec
+pub joined : {T E : Type 0} (r : Result T E) (v : T) (all room readers : List Reader) → r ≡ Ok v
+    → all ≡ (if is_ok r then room ++ readers else room) → room ≡ [] → all ≡ readers
+joined r v all room readers ok is empty =
+    subst (λ x. all ≡ (if is_ok x then room ++ readers else room)) ok is ∙ ap (λ xs. xs ++ readers) empty
+
+last_of : (P : Reader → Type 0) (readers : List Reader) (last : Reader) → All P (readers ++ last ∷ []) → P last
+last_of P [] last all = All-head P last [] all
+last_of P (reader ∷ readers) last all =
+    last_of P readers last (All-tail P reader (readers ++ last ∷ []) all)
+
+-- the last reader is that of the sound
+pub fresh_last : (ring : Ring) (all rest : List Reader) (sound : Option Reader) → IsSome sound
+    → all ≡ rest ++ option_to_list sound → All (λ reader. (reader_ring reader ≡ ring_id ring) × IsNew reader) all
+    → IsFreshSound ring sound
+fresh_last ring all rest None some is fresh = absurd (false≢true some)
+fresh_last ring all rest (Some last) some is fresh =
+    last_of (λ reader. (reader_ring reader ≡ ring_id ring) × IsNew reader) rest last
+    (subst (All (λ reader. (reader_ring reader ≡ ring_id ring) × IsNew reader)) is fresh)
 
 -- ---- by how serving ends
 
@@ -226,21 +263,21 @@ no_thread words end lanes begins input left before opened after opens given_up u
     record { opens = subst (HasOpened words before) (sym same) opens; unread = unread }
 
 pub all_served : (words : ServeWords) (loop : LoopEnd) (end : ServeEnd) (len : ℕ) (receiver : HeldReceiver)
-    (input left : InputSide) (before opened after : Outside)
-    → HasOpened words before opened → IsLooped words loop (answers_in len receiver) opened after
-    → IsClosed loop end (answers_in ring_cells receiver) input left → len ≡ ring_cells
+    (sound : Option Reader) (input left : InputSide) (before opened after : Outside)
+    → HasOpened words before opened → IsLooped words loop (answers_if len receiver sound) opened after
+    → IsClosed loop end (answers_if ring_cells receiver sound) input left → len ≡ ring_cells
     → IsServed words end input left before after
-all_served words loop end len receiver input left before opened after opens looped closed cells =
+all_served words loop end len receiver sound input left before opened after opens looped closed cells =
     served words loop closed.pump end input left before after closed.ends (record {
       open_ports = opened;
       opens = opens;
       loop = loop;
-      lanes = answers_in len receiver;
+      lanes = answers_if len receiver sound;
       looped = looped;
       pump = closed.pump;
       published = closed.published;
       pumped = closed.pumped;
       faults = closed.faults;
-      stand = subst (λ n. LanesStandIn closed.published (answers_in n receiver)) (sym cells) closed.stand;
+      stand = subst (λ n. LanesStandIn closed.published (answers_if n receiver sound)) (sym cells) closed.stand;
       ends = closed.ends;
     })

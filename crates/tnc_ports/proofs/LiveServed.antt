@@ -6,7 +6,7 @@ use Rattle.tnc_ports.proofs.Common.{gap_line, LanesReadOn, AreHeard, HearsAll, A
 use Rattle.tnc_ports.proofs.Common.{IsRun, IsCutTurn, IsCutRun, IsKeyTurn, octets_sent}
 use Rattle.std.specs.Prelude.{◌≡◌, ℕ, ◌*◌, [], ◌++◌, length, map, refl}
 use Rattle.std.proofs.Common.{length-append}
-use Rattle.tnc_ports.specs.Sampled.{ServesHosts}
+use Rattle.tnc_ports.specs.Sampled.{ServesHosts, having_heard}
 use Rattle.tnc_ports.proofs.KeptLemmas.{kept_part}
 use Rattle.tnc_ports.proofs.LiveAccounts.{IsAccounted, accounted_new, accounted_relined, accounted_by_frames}
 use Rattle.tnc_ports.proofs.LiveAccounts.{accounted_part}
@@ -94,11 +94,16 @@ ticked_size words busy (suc count) before after ticked h =
     let size = one.size in
     ticked_size words busy count ticked.0 after ticked.2 (omega (arith, h, sent, ticks, size))
 
+-- and counted
+served_counted : (words : ServeWords) (items : List Candidate) (read : Live) (hosts : Hosts)
+    → IsServed words (with_hosts hosts read) → IsServed words (having_heard items hosts read)
+served_counted words items read hosts h = record { accounted = h.accounted; gaps = h.gaps; size = h.size }
+
 served_hearing : (words : ServeWords) (ended : Bool) (before after : Live) → HearsAll words ended before after
     → IsServed words before → IsServed words after
 served_hearing words ended before after t h =
-    subst (IsServed words) (sym t.is) (served_heard words t.items t.read t.hosts t.hears
-    (served_reading words ended before t.read t.reads h))
+    subst (IsServed words) (sym t.is) (served_counted words t.items t.read t.hosts
+    (served_heard words t.items t.read t.hosts t.hears (served_reading words ended before t.read t.reads h)))
 
 served_ticks : (words : ServeWords) (busy : Bool) (count : ℕ) (before after : Live)
     → AreTicked words busy count before after → IsServed words before → IsServed words after

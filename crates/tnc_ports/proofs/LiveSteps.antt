@@ -2,7 +2,7 @@
 use Rattle.tnc_ports.proofs.Common.{Bool, true, false, Option, Some, Result, Ok, Err, OnErr, ◌≡◌, ℕ, ◌+◌, ◌-◌, ◌<◌, ◌≤◌}
 use Rattle.tnc_ports.proofs.Common.{[], ◌++◌, length, take, drop, get_or, refl, sym, ap, subst, ◌∙◌, arith}
 use Rattle.tnc_ports.proofs.Common.{append_assoc, append-nil, take_more, take-append-drop, Sent, Links, AirTick}
-use Rattle.tnc_ports.proofs.Common.{Candidate, ReportLine, Turning, Told, IsAsked, taken_of, octets_for, StandsFor}
+use Rattle.tnc_ports.proofs.Common.{Candidate, Got, ReportLine, Turning, Told, IsAsked, taken_of, octets_for, StandsFor}
 use Rattle.tnc_ports.proofs.Common.{Hosts, Asked, IsHostPart, report_text, Live, AreHeard, AreTicked}
 use Rattle.tnc_ports.proofs.Common.{IsTurn, ReceivedLine, SentLine, with_lines, AreReceivedLines, AreSentLines}
 use Rattle.tnc_ports.proofs.Common.{IsFrameHeard, Keeps, HearsFrames, HearsSome, Ticks, TicksAll, ServesAll}
@@ -17,7 +17,9 @@ use Rattle.ax25_address.specs.declared.path.Path.{Path}
 use Rattle.ax25_frames.specs.declared.frame.Modulus.{Modulus}
 use Rattle.station.specs.Heard.{IsPathOf}
 use Rattle.station.specs.Monitored.{heard_modulus, sent_modulus}
+use Rattle.slicer_bank.specs.RingLanes.{answers_of}
 use Rattle.tnc_ports.specs.HeldHosts.{HeldHosts}
+use Rattle.tnc_ports.specs.HeldMeter.{Measures}
 use Rattle.tnc_ports.specs.Hosts.{IsHeardStep, IsTickStep}
 use Rattle.tnc_ports.specs.Sampled.{IsTicked}
 use Rattle.tnc_ports.specs.SampledFrames.{IsFrameText}
@@ -183,6 +185,17 @@ hears_some items k first before after hosts r r' r'' h same failed = record {
       (subst (λ f. ReportsMore first.failed f hosts h.next r r') (sym failed) h.writes);
 }
 
+-- with other counts
+pub hears_counted : (items : List Candidate) (first after last : Turning) (hosts : Hosts) (r r' : Stream)
+    → last.hosts ≡ after.hosts → last.failed ≡ after.failed → HearsFrames items first after hosts r r'
+    → HearsFrames items first last hosts r r'
+hears_counted items first after last hosts r r' same failed h = record {
+  next = h.next;
+  heard = h.heard;
+  keeps = subst (λ (held : HeldHosts). Keeps held h.next) (sym same) h.keeps;
+  writes = subst (λ (f : Bool). ReportsMore first.failed f hosts h.next r r') (sym failed) h.writes;
+}
+
 pub hears_same : (items others : List Candidate) (first after : Turning) (hosts : Hosts) (r r' : Stream)
     → items ≡ others
     → HearsFrames items first after hosts r r' → HearsFrames others first after hosts r r'
@@ -242,16 +255,17 @@ ticked_to words busy (suc count) a b h =
       asked = rest.asked ∙ ap (λ (l : Live). l.asked) h.1.is;
     }
 
-pub ticks_more : (from : From) (busy : Bool) (count tick : ℕ) (first before after : Turning) (live : Live)
+pub ticks_more : (from : From) (busy : Bool) (count tick len : ℕ) (first before after : Turning) (live : Live)
     (o o' o'' r r' r'' : Stream) (line line' : LineTold)
     → before.words ≡ first.words → tick ≡ live.ticks + count
-    → TicksAll from busy count first before live o o' r r' line
-    → ((live : Live) → Keeps before.hosts live.hosts → tick ≡ live.ticks → KeyedSince from before live o' r' line
-    → TicksAll from busy 1 before after live o' o'' r' r'' line')
-    → TicksAll from busy (suc count) first after live o o'' r r'' line'
-ticks_more from busy count tick first before after live o o' o'' r r' r'' line line' words at h step =
+    → TicksAll from busy count len first before live o o' r r' line
+    → ((live : Live) → Keeps before.hosts live.hosts → tick ≡ live.ticks → Measures len before.meter live
+    → KeyedSince from before live o' r' line
+    → TicksAll from busy 1 len before after live o' o'' r' r'' line')
+    → TicksAll from busy (suc count) len first after live o o'' r r'' line'
+ticks_more from busy count tick len first before after live o o' o'' r r' r'' line line' words at h step =
     let to = ticked_to first.words busy count live h.next h.ticked in
-    let one = step h.next h.keeps (at ∙ sym to.ticks) h.key in
+    let one = step h.next h.keeps (at ∙ sym to.ticks) h.measures h.key in
     record {
       next = one.next;
       ticked = ticked_more first.words busy count live h.next one.next h.ticked
@@ -261,25 +275,28 @@ ticks_more from busy count tick first before after live o o' o'' r r' r'' line l
           one.writes;
       keeps = one.keeps;
       ticks = one.ticks;
+      measures = one.measures;
     }
 
-pub ticks_none : (from : From) (busy : Bool) (turning : Turning) (live : Live) (o r : Stream) (line : LineTold)
-    → Keeps turning.hosts live.hosts → turning.ticks ≡ live.ticks → KeyedSince from turning live o r line
-    → TicksAll from busy 0 turning turning live o o r r line
-ticks_none from busy turning live o r line keeps at key = record {
+pub ticks_none : (from : From) (busy : Bool) (len : ℕ) (turning : Turning) (live : Live) (o r : Stream) (line : LineTold)
+    → Keeps turning.hosts live.hosts → turning.ticks ≡ live.ticks → Measures len turning.meter live
+    → KeyedSince from turning live o r line
+    → TicksAll from busy 0 len turning turning live o o r r line
+ticks_none from busy len turning live o r line keeps at measures key = record {
   next = live;
   ticked = refl;
   key = key;
   writes = no_write turning.failed live o r;
   keeps = keeps;
   ticks = at;
+  measures = measures;
 }
 
-pub ticks_done : (from : From) (busy : Bool) (count due : ℕ) (first after : Turning) (live : Live) (o o' r r' : Stream)
-    (line' : LineTold) → count ≡ due → TicksAll from busy count first after live o o' r r' line'
-    → TicksAll from busy due first after live o o' r r' line'
-ticks_done from busy count due first after live o o' r r' line' e h =
-    subst (λ n. TicksAll from busy n first after live o o' r r' line') e h
+pub ticks_done : (from : From) (busy : Bool) (count due len : ℕ) (first after : Turning) (live : Live) (o o' r r' : Stream)
+    (line' : LineTold) → count ≡ due → TicksAll from busy count len first after live o o' r r' line'
+    → TicksAll from busy due len first after live o o' r r' line'
+ticks_done from busy count due len first after live o o' r r' line' e h =
+    subst (λ n. TicksAll from busy n len first after live o o' r r' line') e h
 
 -- how many ticks are due
 pub count_due : (count tick ticks due : ℕ) → tick ≡ ticks + count → (0 < count → tick ≤ due) → due ≤ tick
@@ -288,19 +305,22 @@ count_due zero tick ticks due a b t = omega (arith, a, t)
 count_due (suc n) tick ticks due a b t = let positive : 0 < suc n = omega arith in let h = b positive in
     omega (arith, a, h, t)
 
-pub ticks_some : (from : From) (busy : Bool) (count : ℕ) (first before after : Turning) (live : Live)
+pub ticks_some : (from : From) (busy : Bool) (count len : ℕ) (first before after : Turning) (live : Live)
     (o o' o'' r r' r'' : Stream) (line line' : LineTold)
-    → TicksAll from busy count first before live o o' r r' line → o'' ≡ o' → r'' ≡ r' → line' ≡ line
+    → TicksAll from busy count len first before live o o' r r' line → o'' ≡ o' → r'' ≡ r' → line' ≡ line
     → after.failed ≡ before.failed → after.words ≡ before.words → after.key ≡ before.key
-    → Ticks from busy count first after live o o'' r r'' line'
-ticks_some from busy count first before after live o o' o'' r r' r'' line line' h so sr sl failed words key = record {
-  next = h.next;
-  ticked = h.ticked;
-  key = keyed_same from before after h.next o' o'' r' r'' line line' so sr sl failed words key h.key;
-  writes = subst (λ s. WritesMore first.failed after.failed live h.next o s r r'') (sym so)
-      (subst (λ s. WritesMore first.failed after.failed live h.next o o' r s) (sym sr)
-      (subst (λ f. WritesMore first.failed f live h.next o o' r r') (sym failed) h.writes));
-}
+    → ((more : List Got) × (answers_of len after.meter.reader ≡ answers_of len before.meter.reader ++ more))
+    → Ticks from busy count len first after live o o'' r r'' line'
+ticks_some from busy count len first before after live o o' o'' r r' r'' line line' h so sr sl failed words key more =
+    record {
+      next = h.next;
+      ticked = h.ticked;
+      key = keyed_same from before after h.next o' o'' r' r'' line line' so sr sl failed words key h.key;
+      writes = subst (λ s. WritesMore first.failed after.failed live h.next o s r r'') (sym so)
+          (subst (λ s. WritesMore first.failed after.failed live h.next o o' r s) (sym sr)
+          (subst (λ f. WritesMore first.failed f live h.next o o' r r') (sym failed) h.writes));
+      measured = (more.0, more.1 ∙ ap (λ xs. xs ++ more.0) h.measures.sound);
+    }
 
 -- what holds at an error holds if there is one
 pub on_err : {T E : Type 0} → (r : Result T E) → (P : Type 0) → P → OnErr r P

@@ -10,17 +10,23 @@ use Rattle.key_port.specs.KeyTasks.{LineTold}
 use Rattle.tnc_ports.proofs.Common.{AirTick, AreSentLines, From, Hosts, IsTickMade, Keeps, KeyWords, KeyedSince, Live}
 use Rattle.tnc_ports.proofs.Common.{Puts, ReportLine, ServeWords, StandsFor, Stream, TicksAll, Turning, append_assoc}
 use Rattle.tnc_ports.proofs.Common.{is_held, key_line, output_octets, report_text, with_lines}
+use Rattle.tnc_ports.specs.declared.health.Health.{Health}
+use Rattle.tnc_ports.specs.declared.health_note.HealthNotes.{HealthNotes}
+use Rattle.tnc_ports.specs.HealthNotes.{health_lines}
 use Rattle.tnc_ports.specs.HeldHosts.{HeldHosts}
+use Rattle.tnc_ports.specs.Sampled.{notes_in_tick, health_after_tick}
 use Rattle.tnc_ports.specs.SampledHeld.{KeyStands, LineStands, IsWrittenSince}
 use Rattle.tnc_ports.specs.SampledRun.{key_failed}
 use Rattle.tnc_ports.proofs.KeySteps.{failed_same, put_failed}
 use Rattle.tnc_ports.proofs.KeyTicks.{KeyTicked, Asks, Rests, ticked, output_since, tick_report_since, lines_within}
+use Rattle.tnc_ports.proofs.LiveMeter.{HasReadTick}
 use Rattle.tnc_ports.proofs.LiveSteps.{AreTakenLines, IsTicking, relined}
 use Rattle.tnc_ports.proofs.LiveWrites.{both_puts, puts_puts, report_text-append}
 
-pub ticks_once : (from : From) (busy held : Bool) (air : AirTick) (before after : Turning) (between : HeldHosts)
+pub ticks_once : (from : From) (len : ℕ) (busy held : Bool) (air : AirTick) (before after : Turning) (between : HeldHosts)
     (live : Live) (shown taken : List ReportLine) (reps1 reps2 : List Report) (side1 side2 : Option KeySide)
-    (f1 f2 f3 : Bool) (wrote text : List ℕ) (o o' r r1 r2 r3 : Stream) (line line1 line2 : LineTold)
+    (f1 f2 f3 f4 : Bool) (wrote text told : List ℕ) (o o' r r1 r2 r3 r4 : Stream) (line line1 line2 : LineTold)
+    (notes : HealthNotes) (was read : Health) (measured : HasReadTick len live was read after.meter)
     → Keeps before.hosts live.hosts → KeyedSince from before live o r line
     → held ≡ (busy || is_held before.words.key live.keyed)
     → IsTicking held air before.hosts between → AreTakenLines between after.hosts taken
@@ -33,21 +39,26 @@ pub ticks_once : (from : From) (busy held : Bool) (air : AirTick) (before after 
     → Rests side1 side2 reps2 line1 line2
     → Puts before.failed f1 wrote o o' → Puts f1 f2 text r r1
     → Puts f2 f3 (report_text (map key_line reps1)) r1 r2
-    → Puts f3 after.failed (report_text (map key_line reps2)) r2 r3
+    → Puts f3 f4 (report_text (map key_line reps2)) r2 r3
+    → told ≡ report_text (health_lines notes) → Puts f4 after.failed told r3 r4
+    → ((hosts : Hosts) (printed : List ReportLine) → StandsFor after.hosts printed hosts
+    → (notes ≡ notes_in_tick before.words busy measured.reads air live hosts)
+    × (after.meter.health ≡ health_after_tick before.words busy measured.reads air live hosts))
     → after.words ≡ before.words → after.key ≡ side2
     → after.ticks ≡ live.ticks + 1 → length air.samples ≡ 96
-    → TicksAll from busy 1 before after live o o' r r3 line2
-ticks_once from busy held air before after between live shown taken reps1 reps2 side1 side2 f1 f2 f3 wrote text
-    o o' r r1 r2 r3 line line1 line2 keeps key is_held_so tick take sent is is_out one rest1 two rest2 out put1 put2 put3
-    words same_key count size =
+    → TicksAll from busy 1 len before after live o o' r r4 line2
+ticks_once from len busy held air before after between live shown taken reps1 reps2 side1 side2 f1 f2 f3 f4 wrote text told
+    o o' r r1 r2 r3 r4 line line1 line2 notes was read measured keeps key is_held_so tick take sent is is_out one rest1 two rest2 out put1
+    put2 put3 is_told put4 health words same_key count size =
     let given = tick live.hosts live.hosts.report keeps in
     let took = take given.0 live.hosts.report given.2 in
     let all = live.hosts.report ++ (shown ++ taken) in
     let made : Hosts = record given.0 { report = all } in
     let lines1 = map key_line reps1 in
-    let lines2 = map key_line reps2 in
+    let lines2 = map key_line reps2 ++ health_lines notes in
     let first = (shown ++ taken) ++ lines1 in
-    let hosts : Hosts = with_lines lines2 (with_lines lines1 made) in
+    let keyed : Hosts = with_lines (map key_line reps2) (with_lines lines1 made) in
+    let hosts : Hosts = with_lines (health_lines notes) keyed in
     let text_put : Puts f1 f2 (report_text (shown ++ taken)) r r1 = subst (λ t. Puts f1 f2 t r r1) is put1 in
     let out_put : Puts before.failed f1 (output_octets air.samples) o o' =
     subst (λ t. Puts before.failed f1 t o o') is_out out in
@@ -55,7 +66,11 @@ ticks_once from busy held air before after between live shown taken reps1 reps2 
     subst (λ t. Puts f1 f3 t r r2) (sym (report_text-append (shown ++ taken) lines1))
     (puts_puts f1 f2 f3 (report_text (shown ++ taken)) (report_text lines1) r r1 r2 text_put put2) in
     let later : f3 ≡ false → f1 ≡ false = put_failed f1 f3 (report_text first) r r2 first_put in
-    let last : after.failed ≡ false → f3 ≡ false = put_failed f3 after.failed (report_text lines2) r2 r3 put3 in
+    let last_put : Puts f3 after.failed (report_text lines2) r2 r4 =
+    subst (λ t. Puts f3 after.failed t r2 r4) (sym (report_text-append (map key_line reps2) (health_lines notes)))
+    (puts_puts f3 f4 after.failed (report_text (map key_line reps2)) (report_text (health_lines notes)) r2 r3 r4 put3
+    (subst (λ t. Puts f4 after.failed t r3 r4) is_told put4)) in
+    let last : after.failed ≡ false → f3 ≡ false = put_failed f3 after.failed (report_text lines2) r2 r4 last_put in
     let k : KeyTicked from before.words.key side2 live air.samples f3 reps1 reps2 made line2 =
     ticked from live air.samples before.failed f1 f3 reps1 reps2 o o' r line line1 line2 made size out_put later
     before.words.key before.key side1 side2 key.stands key.written key.line_stands one rest1 two rest2 in
@@ -65,6 +80,8 @@ ticks_once from busy held air before after between live shown taken reps1 reps2 
       whole = k.whole;
       ticks = live.ticks + 1;
       sent = live.sent ++ air.samples;
+      sound = live.sound ++ measured.reads;
+      health = health_after_tick before.words busy measured.reads air live keyed;
     } in
     let made_so : IsTickMade before.words.monitor held air live.hosts made = record {
       ticked = given.0;
@@ -76,7 +93,9 @@ ticks_once from busy held air before after between live shown taken reps1 reps2 
       is = refl;
     } in
     let report_is : hosts.report ≡ (live.hosts.report ++ first) ++ lines2 =
-    ap (λ xs. xs ++ lines2) (append_assoc live.hosts.report (shown ++ taken) lines1) in
+    append_assoc (made.report ++ lines1) (map key_line reps2) (health_lines notes)
+    ∙ ap (λ xs. xs ++ lines2) (append_assoc live.hosts.report (shown ++ taken) lines1) in
+    let known = health given.0 (live.hosts.report ++ taken) took.1 in
     let count_is : length (made.report ++ lines1) ≡ length (live.hosts.report ++ first) =
     ap (λ (xs : List ReportLine). length xs) (append_assoc live.hosts.report (shown ++ taken) lines1) in
     record {
@@ -84,15 +103,17 @@ ticks_once from busy held air before after between live shown taken reps1 reps2 
       ticked = (
         next,
         record {
+          reads = measured.reads;
+          reading = measured.reading;
           air = air;
           made = made;
           step = subst (λ (b : Bool). IsTickMade before.words.monitor b air live.hosts made) is_held_so made_so;
           size = size;
           keyed = k.keyed;
           whole = k.whole;
-          hosts = hosts;
+          hosts = keyed;
           key = k.does;
-          is = refl;
+          is = ap (λ (told : HealthNotes). record next { hosts = with_lines (health_lines told) keyed }) known.0;
         },
         refl,
       );
@@ -103,13 +124,14 @@ ticks_once from busy held air before after between live shown taken reps1 reps2 
             ∙ failed_same before.words.key (record live { keyed = k.keyed }) next refl
             ∙ k.so_far (last none) (key.untold (put_failed before.failed f1 (output_octets air.samples) o o' out_put
             (later (last none))));
-        written = subst (λ (w : ServeWords). IsWrittenSince from w.key after.failed next o' r3) (sym words) (record {
+        written = subst (λ (w : ServeWords). IsWrittenSince from w.key after.failed next o' r4) (sym words) (record {
           outputs = λ start e. output_since before.words.key k.told live next air.samples
               (length (made.report ++ lines1)) refl k.is_whole start before.failed f1 after.failed o o' out_put
               (λ none. later (last none)) (λ none. later (k.so none)) k.untold (key.written.outputs start e);
           reports = λ start e. tick_report_since before.words.key k.told live next air.samples
               (length (made.report ++ lines1)) refl k.is_whole first lines2 count_is report_is start before.failed f1 f3
-              after.failed r r2 r3 (put_failed before.failed f1 (output_octets air.samples) o o' out_put) first_put put3
+              after.failed r r2 r4 (put_failed before.failed f1 (output_octets air.samples) o o' out_put) first_put
+              last_put
               k.so key.written.lines (key.written.reports start e);
           lines = lines_within before.words.key k.told live next air.samples (length (made.report ++ lines1)) refl
               k.is_whole first lines2 count_is report_is k.told refl key.written.lines;
@@ -123,13 +145,14 @@ ticks_once from busy held air before after between live shown taken reps1 reps2 
         samples = air.samples;
         sent = refl;
         puts = both_puts before.failed f1 after.failed (output_octets air.samples) (report_text (first ++ lines2))
-            o o' r r3 out_put
-            (subst (λ t. Puts f1 after.failed t r r3) (sym (report_text-append first lines2))
-            (puts_puts f1 f3 after.failed (report_text first) (report_text lines2) r r2 r3 first_put put3));
+            o o' r r4 out_put
+            (subst (λ t. Puts f1 after.failed t r r4) (sym (report_text-append first lines2))
+            (puts_puts f1 f3 after.failed (report_text first) (report_text lines2) r r2 r4 first_put last_put));
       };
       keeps = relined after.hosts given.0 hosts.report
           (subst (λ x. StandsFor after.hosts x given.0) (sym took.0) took.1);
       ticks = count;
+      measures = record { sound = measured.sound; place = measured.place; health = known.1 };
     }
   where
     line_as : (key : Option KeyWords) (keyed : List KeyEvent) (next : Live)

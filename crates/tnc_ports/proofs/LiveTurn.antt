@@ -1,14 +1,19 @@
 -- The parts of a turn make a turn, and those that came to pass one that is cut short.
-use Rattle.tnc_ports.proofs.Common.{Bool, IsTrue, ◌↔◌, ◌≡◌, ℕ, ◌+◌, ◌-◌, ◌*◌, ◌/◌, ◌<◌, ◌≤◌, [], ◌++◌, refl, sym, ap}
+use Rattle.tnc_ports.proofs.Common.{append-nil, Bool, IsTrue, ◌↔◌, ◌≡◌, ℕ, ◌+◌, ◌-◌, ◌*◌, ◌/◌, ◌<◌, ◌≤◌, [], ◌++◌, refl, sym, ap}
 use Rattle.tnc_ports.proofs.Common.{subst, inl, inr, ◌∙◌, arith, Candidate, least_position, AreDueBy, HeldReceiver}
 use Rattle.tnc_ports.proofs.Common.{answers_in, EightListen, Turning, ServeWords, Told, AreUnasked, IsAsked, Hosts}
 use Rattle.tnc_ports.proofs.Common.{Asked, Live, HaveEnded, with_hosts, AreHeard, AreTicked, HearsAll, MakesAll, Keeps}
 use Rattle.tnc_ports.proofs.Common.{StandsForLive, HearsFrames, HearsSome, Ticks, TicksAll, ServesAll, Reads, Turns}
 use Rattle.tnc_ports.proofs.Common.{IsCutOff, IsCutInReading, IsCutInServing, Stream, WritesMore}
-use Rattle.std.proofs.Common.{◌⊎◌, List, ◌∷◌}
+use Rattle.std.proofs.Common.{◌⊎◌, List, ◌∷◌, length}
 use Rattle.slicer_bank.specs.HeardOnRing.{IsBusyOnRing}
 use Rattle.tnc_ports.specs.CutPart.{HasCutPart}
-use Rattle.tnc_ports.specs.Sampled.{MakesTicks}
+use Rattle.slicer_bank.specs.RingLanes.{answers_of}
+use Rattle.tnc_ports.specs.declared.meter.Meter.{Meter}
+use Rattle.tnc_ports.specs.Health.{with_heard}
+use Rattle.tnc_ports.specs.HeldMeter.{HasMeasured, Measures}
+use Rattle.tnc_ports.specs.Measured.{place_after}
+use Rattle.tnc_ports.specs.Sampled.{MakesTicks, having_heard}
 use Rattle.tnc_ports.specs.SampledHeld.{Makes}
 use Rattle.tnc_ports.specs.SampledRun.{IsCutInHearing, IsCutInTicking}
 use Rattle.tnc_ports.proofs.AskedLemmas.{unasked}
@@ -43,10 +48,14 @@ writes_nothing f f' a b o o' r r' ef eo er es eh =
 
 -- ---- up to the frames
 
+-- so many frames are counted
+abbrev pub counted_in : ℕ → Meter → Meter
+counted_in count meter = record meter { health = with_heard count meter.health }
+
 hears_all : (ended : Bool) (least : ℕ) (items : List Candidate) (before a b : Turning) (len : ℕ)
     (receiver : HeldReceiver) (live : Live) (r0 r1 r2 : Stream)
     → (h : Reads ended least items before a len receiver live r0 r1) → (g : HearsFrames items a b h.read.hosts r1 r2)
-    → a.words ≡ before.words → HearsAll before.words ended live (with_hosts g.next h.read)
+    → a.words ≡ before.words → HearsAll before.words ended live (having_heard items g.next h.read)
 hears_all ended least items before a b len receiver live r0 r1 r2 h g words = record {
   read = h.read;
   reads = h.reads;
@@ -159,6 +168,7 @@ pub record Keyed (from : From) (ended : Bool) (least : ℕ) (before k : Turning)
   pub lanes : answers_in len receiver ≡ next.lanes
   pub is_least : least ≡ least_position next.lanes
   pub ticks : next.ticks ≡ live.ticks
+  pub measures : Measures len k.meter next
   pub asked : next.asked ≡ live.asked
   pub writes : WritesMore before.failed k.failed live next o o r0 r3
 
@@ -170,11 +180,13 @@ keyed_up_to : (from : From) (ended : Bool) (least : ℕ) (items : List Candidate
     → ((live : Live) → Keeps b.hosts live.hosts → KeyedSince from b live o r2 line
     → TurnsTheKey from b k live o r2 r3 line1)
     → a.words ≡ before.words → b.words ≡ a.words → a.key ≡ before.key → b.key ≡ a.key
+    → Measures len before.meter live → a.meter ≡ before.meter → b.meter ≡ counted_in (length items) a.meter
+    → k.meter ≡ b.meter
     → Keyed from ended least before k len receiver live o r0 r3 line1
 keyed_up_to from ended least items before a b k len receiver live o r0 r1 r2 r3 line line1 key reads hear turn wa wb ka
-    kb =
+    kb measures ma mb mk =
     let h = hear reads.read.hosts reads.keeps in
-    let heard : Live = with_hosts h.next reads.read in
+    let heard : Live = having_heard items h.next reads.read in
     let both = reports_more before.failed a.failed b.failed live.hosts reads.read.hosts h.next r0 r1 r2 reads.writes
     h.writes in
     let is = reads.reads.is in
@@ -192,6 +204,13 @@ keyed_up_to from ended least items before a b k len receiver live o r0 r1 r2 r3 
       lanes = reads.lanes ∙ sym (ap (λ (l : Live). l.lanes) to);
       is_least = reads.is_least ∙ ap least_position (sym (ap (λ (l : Live). l.lanes) to));
       ticks = ap (λ (l : Live). l.ticks) to ∙ read_ticks ended least items before a len receiver live r0 r1 reads;
+      measures = subst (Measures len k.meter) (sym to)
+          (subst (λ (m : Meter). Measures len m (record heard { hosts = t.turn.hosts; keyed = t.turn.keyed }))
+          (sym (mk ∙ mb ∙ ap (counted_in (length items)) ma)) (record {
+            sound = measures.sound ∙ sym (ap (λ (l : Live). l.sound) is);
+            place = measures.place ∙ ap (place_after 0) (sym (ap (λ (l : Live). l.sound) is));
+            health = ap (with_heard (length items)) (measures.health ∙ sym (ap (λ (l : Live). l.health) is));
+          }));
       asked = ap (λ (l : Live). l.asked) to ∙ ap (λ (l : Live). l.asked) is;
       writes = writes_report before.failed k.failed live t.next o r0 r3
           (ap (λ (l : Live). l.sent) to ∙ ap (λ (l : Live). l.sent) is)
@@ -205,19 +224,21 @@ pub all_made : (from : From) (ended busy : Bool) (least : ℕ) (items : List Can
     → ((hosts : Hosts) → Keeps a.hosts hosts → HearsFrames items a b hosts r1 r2)
     → ((live : Live) → Keeps b.hosts live.hosts → KeyedSince from b live o r2 line
     → TurnsTheKey from b k live o r2 r3 line1)
-    → ((live : Live) → Keeps k.hosts live.hosts → k.ticks ≡ live.ticks → KeyedSince from k live o r3 line1
-    → TicksAll from busy (least / 96 - live.ticks) k c live o o' r3 r4 line2)
+    → ((live : Live) → Keeps k.hosts live.hosts → k.ticks ≡ live.ticks → Measures len k.meter live
+    → KeyedSince from k live o r3 line1
+    → TicksAll from busy (least / 96 - live.ticks) len k c live o o' r3 r4 line2)
     → ((n : ℕ) → EightListen n receiver → IsTrue busy ↔ IsBusyOnRing receiver.detection (answers_in n receiver))
     → receiver.detection ≡ before.words.dcd
     → a.words ≡ before.words → b.words ≡ a.words → k.words ≡ b.words → a.key ≡ before.key → b.key ≡ a.key
     → a.ticks ≡ before.ticks → b.ticks ≡ a.ticks → k.ticks ≡ b.ticks
+    → a.meter ≡ before.meter → b.meter ≡ counted_in (length items) a.meter → k.meter ≡ b.meter
     → Makes from ended before c len receiver live o o' r0 r4 line2
 all_made from ended busy least items before a b k c len old receiver live o o' r0 r1 r2 r3 r4 line line1 line2 stands key
-    reads hear turn tick carrier detection wa wb wk ka kb ta tb tk =
+    reads hear turn tick carrier detection wa wb wk ka kb ta tb tk ma mb mk =
     let up = keyed_up_to from ended least items before a b k len receiver live o r0 r1 r2 r3 line line1 key reads hear
-    turn wa wb ka kb in
+    turn wa wb ka kb stands.measures ma mb mk in
     let kt : k.ticks ≡ up.next.ticks = tk ∙ tb ∙ ta ∙ stands.ticks ∙ sym up.ticks in
-    let t = tick up.next up.keeps kt up.key in
+    let t = tick up.next up.keeps kt up.measures up.key in
     let to = ticked_to k.words busy (least / 96 - up.next.ticks) up.next t.next t.ticked in
     let passed : 96 * up.next.ticks ≤ least =
     (let p = stands.passed in let f = reads.forward in let at = up.ticks in omega (arith, p, f, at)) in
@@ -231,6 +252,7 @@ all_made from ended busy least items before a b k c len old receiver live o o' r
       ends = λ e. subst HaveEnded (sym reads.lanes ∙ up.lanes ∙ sym to.lanes) (reads.ends e);
       keeps = t.keeps;
       ticks = t.ticks;
+      measures = t.measures;
       asked = to.asked ∙ up.asked;
       key = t.key;
       writes = writes_more before.failed k.failed c.failed live up.next t.next o o o' r0 r3 r4 up.writes t.writes;
@@ -240,9 +262,9 @@ pub whole_turn : (from : From) (ended : Bool) (before c d : Turning) (len : ℕ)
     (o o' r0 r3 r4 : Stream) (told told' : Told) (line : LineTold)
     → Makes from ended before c len receiver live o o' r0 r3 line
     → ((hosts : Hosts) → Keeps c.hosts hosts → ServesAll c d hosts r3 r4 told told')
-    → d.ticks ≡ c.ticks → c.words ≡ before.words → d.words ≡ c.words → d.key ≡ c.key
+    → d.ticks ≡ c.ticks → c.words ≡ before.words → d.words ≡ c.words → d.key ≡ c.key → d.meter ≡ c.meter
     → Turns from ended before d len receiver live o o' r0 r4 told told' line
-whole_turn from ended before c d len receiver live o o' r0 r3 r4 told told' line m serve td wc wd kd =
+whole_turn from ended before c d len receiver live o o' r0 r3 r4 told told' line m serve td wc wd kd md =
     let s = serve m.made.hosts m.keeps in
     let next : Live = record m.made { hosts = s.next; asked = m.made.asked ++ s.asked ∷ [] } in
     record {
@@ -263,9 +285,15 @@ whole_turn from ended before c d len receiver live o o' r0 r3 r4 told told' line
         lanes = m.lanes;
         hears = m.hears e;
         passed = m.makes.makes.passed;
+        measures = subst (λ (meter : Meter). Measures len meter next) (sym md) (record {
+          sound = m.measures.sound;
+          place = m.measures.place;
+          health = m.measures.health;
+        });
       };
       over = m.ends;
       lanes = m.lanes;
+      sound = ap (λ (meter : Meter). answers_of len meter.reader) md ∙ m.measures.sound;
       key = keyed_heard from c d m.made next o' r3 r4 line wd kd refl refl refl s.writes m.key;
       writes = writes_more before.failed c.failed d.failed live m.made next o o' o' r0 r3 r4
           m.writes (writes_report c.failed d.failed m.made next o' r3 r4 refl s.writes);
@@ -276,16 +304,27 @@ whole_turn from ended before c d len receiver live o o' r0 r3 r4 told told' line
 
 -- ---- turns that are cut short
 
+-- a meter that stayed
+measured_so : (len : ℕ) (before after : Meter) (live next : Live) → after ≡ before → Measures len before live
+    → next.sound ≡ live.sound → HasMeasured len after next
+measured_so len before after live next same h sound = (
+  [],
+  ap (λ (m : Meter). answers_of len m.reader) same ∙ h.sound ∙ sym sound ∙ sym (append-nil next.sound),
+)
+
 pub cut_reading : (from : From) (before a : Turning) (len : ℕ) (receiver : HeldReceiver) (live : Live) (o r0 r1 : Stream)
     (told : Told) (line : LineTold)
     → KeyedSince from before live o r0 line
     → IsCutInReading before.words live (record live { lanes = answers_in len receiver }) → a.failed ≡ before.failed
     → a.words ≡ before.words → a.key ≡ before.key → r1 ≡ r0
+    → Measures len before.meter live → a.meter ≡ before.meter
     → IsCutOff from before a len receiver live o o r0 r1 told told line
-cut_reading from before a len receiver live o r0 r1 told line key cut failed words same_key same = record {
+cut_reading from before a len receiver live o r0 r1 told line key cut failed words same_key same measures ma = record {
   next = record live { lanes = answers_in len receiver };
   cut = inl cut;
   lanes = refl;
+  measured = measured_so len before.meter a.meter live (record live { lanes = answers_in len receiver }) ma measures
+      refl;
   key = keyed_same from before a (record live { lanes = answers_in len receiver }) o o r0 r1 line line refl same refl
       failed words same_key (record {
         stands = key.stands;
@@ -308,8 +347,10 @@ pub cut_hearing : (from : From) (ended : Bool) (least : ℕ) (items : List Candi
     → Reads ended least items before a len receiver live r0 r1
     → ((hosts : Hosts) → Keeps a.hosts hosts → HearsSome items a b hosts r1 r2)
     → a.words ≡ before.words → b.words ≡ a.words → a.key ≡ before.key → b.key ≡ a.key
+    → Measures len before.meter live → a.meter ≡ before.meter → b.meter ≡ a.meter
     → IsCutOff from before b len receiver live o o r0 r2 told told line
-cut_hearing from ended least items before a b len receiver live o r0 r1 r2 told line key reads hear wa wb ka kb =
+cut_hearing from ended least items before a b len receiver live o r0 r1 r2 told line key reads hear wa wb ka kb measures ma
+    mb =
     let h = hear reads.read.hosts reads.keeps in
     let next : Live = with_hosts h.next reads.read in
     let is = reads.reads.is in
@@ -328,6 +369,7 @@ cut_hearing from ended least items before a b len receiver live o r0 r1 r2 told 
       next = next;
       cut = inr (inl cut);
       lanes = reads.lanes;
+      measured = measured_so len before.meter b.meter live next (mb ∙ ma) measures (ap (λ (l : Live). l.sound) is);
       key = keyed_heard from before b live next o r0 r2 line (wb ∙ wa) (kb ∙ ka) (ap (λ (l : Live). l.sent) is)
           (ap (λ (l : Live). l.whole) is) (ap (λ (l : Live). l.keyed) is)
           (reports_more before.failed a.failed b.failed live.hosts reads.read.hosts h.next r0 r1 r2 reads.writes h.writes)
@@ -347,18 +389,20 @@ pub cut_ticking : (from : From) (ended busy : Bool) (least : ℕ) (items : List 
     → ((hosts : Hosts) → Keeps a.hosts hosts → HearsFrames items a b hosts r1 r2)
     → ((live : Live) → Keeps b.hosts live.hosts → KeyedSince from b live o r2 line
     → TurnsTheKey from b k live o r2 r3 line1)
-    → ((live : Live) → Keeps k.hosts live.hosts → k.ticks ≡ live.ticks → KeyedSince from k live o r3 line1
-    → (count : ℕ) × (live.ticks + count ≤ least / 96) × Ticks from busy count k c live o o' r3 r4 line2)
+    → ((live : Live) → Keeps k.hosts live.hosts → k.ticks ≡ live.ticks → Measures len k.meter live
+    → KeyedSince from k live o r3 line1
+    → (count : ℕ) × (live.ticks + count ≤ least / 96) × Ticks from busy count len k c live o o' r3 r4 line2)
     → ((n : ℕ) → EightListen n receiver → IsTrue busy ↔ IsBusyOnRing receiver.detection (answers_in n receiver))
     → receiver.detection ≡ before.words.dcd
     → a.words ≡ before.words → b.words ≡ a.words → k.words ≡ b.words → a.key ≡ before.key → b.key ≡ a.key
     → a.ticks ≡ before.ticks → b.ticks ≡ a.ticks → k.ticks ≡ b.ticks
+    → a.meter ≡ before.meter → b.meter ≡ counted_in (length items) a.meter → k.meter ≡ b.meter
     → IsCutOff from before c len receiver live o o' r0 r4 told told line2
 cut_ticking from ended busy least items before a b k c len old receiver live o o' r0 r1 r2 r3 r4 told line line1 line2
-    stands key reads hear turn tick carrier detection wa wb wk ka kb ta tb tk =
+    stands key reads hear turn tick carrier detection wa wb wk ka kb ta tb tk ma mb mk =
     let up = keyed_up_to from ended least items before a b k len receiver live o r0 r1 r2 r3 line line1 key reads hear
-    turn wa wb ka kb in
-    let t = tick up.next up.keeps (tk ∙ tb ∙ ta ∙ stands.ticks ∙ sym up.ticks) up.key in
+    turn wa wb ka kb stands.measures ma mb mk in
+    let t = tick up.next up.keeps (tk ∙ tb ∙ ta ∙ stands.ticks ∙ sym up.ticks) up.measures up.key in
     let to = ticked_to k.words busy t.0 up.next t.2.next t.2.ticked in
     let cut : IsCutInTicking before.words live t.2.next = record {
       ended = ended;
@@ -374,6 +418,7 @@ cut_ticking from ended busy least items before a b k c len old receiver live o o
       next = t.2.next;
       cut = inr (inr (inl cut));
       lanes = up.lanes ∙ sym to.lanes;
+      measured = t.2.measured;
       key = t.2.key;
       writes = writes_more before.failed k.failed c.failed live up.next t.2.next o o o' r0 r3 r4 up.writes t.2.writes;
       asks = to.asked ∙ up.asked;
@@ -392,15 +437,17 @@ pub cut_serving : (from : From) (ended : Bool) (before c d : Turning) (len : ℕ
     (o o' r0 r3 r4 : Stream) (told told' : Told) (line : LineTold)
     → Makes from ended before c len receiver live o o' r0 r3 line
     → d.failed ≡ c.failed → d.words ≡ c.words → d.key ≡ c.key → r4 ≡ r3
-    → ((hosts : Hosts) → Keeps c.hosts hosts → HasCutPart hosts told told')
+    → ((hosts : Hosts) → Keeps c.hosts hosts → HasCutPart hosts told told') → d.meter ≡ c.meter
     → IsCutOff from before d len receiver live o o' r0 r4 told told' line
-cut_serving from ended before c d len receiver live o o' r0 r3 r4 told told' line m failed words key same cut = record {
-  next = m.made;
-  cut = inr (inr (inr (ended, m.makes)));
-  lanes = m.lanes;
-  key = keyed_same from c d m.made o' o' r3 r4 line line refl same refl failed words key m.key;
-  writes = writes_more before.failed c.failed d.failed live m.made m.made o o' o' r0 r3 r4
-      m.writes (writes_nothing c.failed d.failed m.made m.made o' o' r3 r4 failed refl same refl refl);
-  asks = m.asked;
-  tells = in_serving before.words ended live m.made told told' m.makes (cut m.made.hosts m.keeps);
-}
+cut_serving from ended before c d len receiver live o o' r0 r3 r4 told told' line m failed words key same cut md =
+    record {
+      next = m.made;
+      cut = inr (inr (inr (ended, m.makes)));
+      lanes = m.lanes;
+      measured = measured_so len c.meter d.meter m.made m.made md m.measures refl;
+      key = keyed_same from c d m.made o' o' r3 r4 line line refl same refl failed words key m.key;
+      writes = writes_more before.failed c.failed d.failed live m.made m.made o o' o' r0 r3 r4
+          m.writes (writes_nothing c.failed d.failed m.made m.made o' o' r3 r4 failed refl same refl refl);
+      asks = m.asked;
+      tells = in_serving before.words ended live m.made told told' m.makes (cut m.made.hosts m.keeps);
+    }

@@ -7,8 +7,9 @@ use Rattle.tnc_ports.specs.declared.serve_words.KeyWords.{KeyWords}
 use Rattle.tnc_ports.specs.declared.serve_words.ServeWords.{ServeWords}
 use Rattle.tnc_ports.specs.Hosts.{Hosts}
 use Rattle.tnc_ports.specs.KeyTurns.{Whole, is_held, TicksKeyIf, TurnsKeyIf}
-use Rattle.tnc_ports.specs.Sampled.{Live, IsTicked, IsKeyTurn, octets_sent}
-use Rattle.tnc_ports.specs.SampledFrames.{IsTickMade}
+use Rattle.tnc_ports.specs.HealthNotes.{health_lines}
+use Rattle.tnc_ports.specs.Sampled.{Live, IsTicked, IsKeyTurn, health_after_tick, notes_in_tick, octets_sent}
+use Rattle.tnc_ports.specs.SampledFrames.{IsTickMade, with_lines}
 use Rattle.tnc_ports.specs.Unkeyed.{IsPlainTick}
 
 busy_alone : (words : ServeWords) (busy : Bool) (keyed : List KeyEvent) → words.key ≡ None
@@ -17,12 +18,15 @@ busy_alone words busy keyed none =
     ap (λ (key : Option KeyWords). busy || is_held key keyed) none ∙ or-false busy
 
 is_plain : (words : ServeWords) (busy : Bool) (before after : Live) → words.key ≡ None
-    → IsTicked words busy before after → IsPlainTick words.monitor busy before after
+    → IsTicked words busy before after → IsPlainTick words busy before after
 is_plain words busy before after none h =
     let k : (h.keyed ≡ before.keyed) × (h.whole ≡ before.whole) × (h.hosts ≡ h.made) =
     subst (λ (key : Option KeyWords). TicksKeyIf key (octets_sent before) h.air.samples before.keyed h.keyed before.whole
     h.whole h.made h.hosts) none h.key in
+    let told : Hosts → Hosts = λ x. with_lines (health_lines (notes_in_tick words busy h.reads h.air before x)) x in
     record {
+      reads = h.reads;
+      reading = h.reading;
       air = h.air;
       hosts = h.made;
       step = subst (λ (b : Bool). IsTickMade words.monitor b h.air before.hosts h.made)
@@ -30,28 +34,36 @@ is_plain words busy before after none h =
       size = h.size;
       is = h.is
           ∙ ap (λ (x : List KeyEvent). record before {
-            hosts = h.hosts;
+            hosts = told h.hosts;
             keyed = x;
             whole = h.whole;
             ticks = before.ticks + 1;
             sent = before.sent ++ h.air.samples;
+            sound = before.sound ++ h.reads;
+            health = health_after_tick words busy h.reads h.air before h.hosts;
           }) k.0
           ∙ ap (λ (x : Whole). record before {
-            hosts = h.hosts;
+            hosts = told h.hosts;
             whole = x;
             ticks = before.ticks + 1;
             sent = before.sent ++ h.air.samples;
+            sound = before.sound ++ h.reads;
+            health = health_after_tick words busy h.reads h.air before h.hosts;
           }) k.1
           ∙ ap (λ (x : Hosts). record before {
-            hosts = x;
+            hosts = told x;
             ticks = before.ticks + 1;
             sent = before.sent ++ h.air.samples;
+            sound = before.sound ++ h.reads;
+            health = health_after_tick words busy h.reads h.air before x;
           }) k.2;
     }
 
 of_plain : (words : ServeWords) (busy : Bool) (before after : Live) → words.key ≡ None
-    → IsPlainTick words.monitor busy before after → IsTicked words busy before after
+    → IsPlainTick words busy before after → IsTicked words busy before after
 of_plain words busy before after none h = record {
+  reads = h.reads;
+  reading = h.reading;
   air = h.air;
   made = h.hosts;
   step = subst (λ (b : Bool). IsTickMade words.monitor b h.air before.hosts h.hosts)
@@ -84,7 +96,7 @@ of_still words before after none same = record {
 }
 
 pub plain_ticks : (words : ServeWords) (busy : Bool) (before after : Live) → words.key ≡ None
-    → IsTicked words busy before after ↔ IsPlainTick words.monitor busy before after
+    → IsTicked words busy before after ↔ IsPlainTick words busy before after
 plain_ticks words busy before after none =
     (is_plain words busy before after none, of_plain words busy before after none)
 

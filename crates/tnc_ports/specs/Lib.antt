@@ -19,7 +19,11 @@ pub mod ReportText
 pub mod SampledFrames
 pub mod ServedHosts
 pub mod KeyTurns
+pub mod Health
+pub mod HealthNotes
+pub mod Measured
 pub mod Sampled
+pub mod HeldMeter
 pub mod Unkeyed
 pub mod ReportedGaps
 pub mod SampledRun

@@ -5,10 +5,36 @@ use Rattle.std.specs.List.{flat_map}
 use Rattle.byteorder.specs.Endian.{little_bytes}
 use Rattle.tnc_ports.specs.declared.report_line.ReportLine.{ReportLine}
 use Rattle.tnc_ports.specs.declared.report_line.ReportLine.TheVariants.{GapLine, ClosedLine, ReceivedLine, SentLine}
-use Rattle.tnc_ports.specs.declared.report_line.ReportLine.TheVariants.{KeyLine}
+use Rattle.tnc_ports.specs.declared.report_line.ReportLine.TheVariants.{KeyLine, HealthLine}
+use Rattle.tnc_ports.specs.declared.health_note.Counts.{Counts}
+use Rattle.tnc_ports.specs.declared.health_note.HealthNote.{HealthNote}
+use Rattle.tnc_ports.specs.declared.health_note.HealthNote.TheVariants.{Dropped, DeadSound, Stats}
 use Rattle.keying.specs.Texts.{report_text as key_text}
 
 -- ---- the report
+
+-- what was counted of the sound and of the channel, after how many ticks were made
+abbrev pub sound_text : Counts → List ℕ
+sound_text counts =
+    decimal counts.ticks ++ codes " peak " ++ decimal counts.peak ++ codes " clipped " ++ decimal counts.clipped
+    ++ codes " busy " ++ decimal counts.busy
+
+-- what was counted of frames, and how many hosts and links there are
+abbrev pub frames_text : Counts → List ℕ
+frames_text counts =
+    codes " heard " ++ decimal counts.heard ++ codes " sent " ++ decimal counts.sent
+    ++ codes " dropped " ++ decimal counts.dropped ++ codes " hosts " ++ decimal counts.hosts
+    ++ codes " links " ++ decimal counts.links
+
+-- what was counted
+abbrev pub counts_text : Counts → List ℕ
+counts_text counts = codes "stats " ++ sound_text counts ++ frames_text counts
+
+-- what is told of the station's health
+abbrev pub note_text : HealthNote → List ℕ
+note_text (Dropped count) = codes "dropped " ++ decimal count
+note_text DeadSound = codes "dead sound"
+note_text (Stats counts) = counts_text counts
 
 -- the text of a line, without the line feed that ends it
 abbrev pub line_text : ReportLine → List ℕ
@@ -18,6 +44,7 @@ line_text (ClosedLine id) = codes "closed " ++ decimal id
 line_text (ReceivedLine text) = codes "rx " ++ text
 line_text (SentLine text) = codes "tx " ++ text
 line_text (KeyLine report) = key_text report
+line_text (HealthLine note) = note_text note
 
 -- a line, and the line feed that ends it
 abbrev pub ended_line : ReportLine → List ℕ

@@ -7,7 +7,7 @@ use Rattle.slicer_bank.specs.RingTurns.{gaps_of}
 use Rattle.ring_receiver.specs.Readers.{readers_wanted}
 use Rattle.tnc_ports.specs.declared.report_line.ReportLine.{ReportLine}
 use Rattle.tnc_ports.specs.declared.report_line.ReportLine.TheVariants.{GapLine, ClosedLine, ReceivedLine, SentLine}
-use Rattle.tnc_ports.specs.declared.report_line.ReportLine.TheVariants.{KeyLine}
+use Rattle.tnc_ports.specs.declared.report_line.ReportLine.TheVariants.{KeyLine, HealthLine}
 use Rattle.tnc_ports.specs.declared.serve_words.ServeWords.{ServeWords}
 use Rattle.tnc_ports.specs.Sampled.{Live}
 
@@ -18,6 +18,7 @@ gap_by lane (ClosedLine id) = []
 gap_by lane (ReceivedLine text) = []
 gap_by lane (SentLine text) = []
 gap_by lane (KeyLine report) = []
+gap_by lane (HealthLine note) = []
 
 -- all gaps of a lane that a report tells, in order
 abbrev pub gaps_in : ℕ → List ReportLine → List LaneGap

@@ -1,9 +1,9 @@
 -- A live station, turn by turn. In a turn each reader reads on in the ring, the frames that are settled by what all
 -- have read are heard, the ticks that every reader has passed are made, and the hosts are served. The samples are the
 -- only clock: a tick of 10 ms is 96 of them. Each of the eight lanes has a reader of its own, and the added lanes share
--- a ninth.
+-- a ninth. One more reader reads the samples of each tick, by which the station tells how its sound is.
 use Rattle.std.specs.Prelude.{◌≡◌, ℕ, zero, suc, ℤ, ◌+◌, ◌*◌, ◌<◌, ◌≤◌, ◌↔◌, ◌||◌, Bool, IsTrue, List, [], ◌∷◌, ◌++◌}
-use Rattle.std.specs.Prelude.{length, map, All, replicate}
+use Rattle.std.specs.Prelude.{length, map, All, replicate, is_some}
 use Rattle.key_port.specs.KeyEvents.{KeyEvent}
 use Rattle.sample_ring.specs.declared.got.Got.{Got}
 use Rattle.frame_merge.specs.declared.candidate.Candidate.{Candidate}
@@ -17,6 +17,12 @@ use Rattle.channel_access.specs.declared.air_tick.AirTick.{AirTick}
 use Rattle.tnc_ports.specs.declared.report_line.ReportLine.{ReportLine}
 use Rattle.tnc_ports.specs.declared.report_line.ReportLine.TheVariants.{GapLine}
 use Rattle.tnc_ports.specs.declared.serve_words.ServeWords.{ServeWords}
+use Rattle.tnc_ports.specs.declared.health.Health.{Health}
+use Rattle.tnc_ports.specs.declared.health_note.HealthNotes.{HealthNotes}
+use Rattle.tnc_ports.specs.Health.{new_health, with_heard, after_answers, after_tick, notes_of, after_notes}
+use Rattle.tnc_ports.specs.Health.{standing_of}
+use Rattle.tnc_ports.specs.Measured.{ReadsTo, place_after}
+use Rattle.tnc_ports.specs.HealthNotes.{health_lines}
 use Rattle.tnc_ports.specs.Hosts.{Hosts, new_hosts}
 use Rattle.tnc_ports.specs.HostTurns.{Asked, IsHostPart}
 use Rattle.tnc_ports.specs.KeyTurns.{Whole, nothing_written, TurnsKeyIf, TicksKeyIf, is_held}
@@ -36,6 +42,10 @@ pub record Live : Type 0 where
   pub keyed : List KeyEvent
   -- how much there was to write when the key was last told that no write has failed
   pub whole : Whole
+  -- what the reader of the sound was answered
+  pub sound : List Got
+  -- what was counted, and what of it the report has told
+  pub health : Health
 
 -- before the first turn
 abbrev pub new_live : ServeWords → Live
@@ -47,6 +57,8 @@ new_live words = record {
   asked = [];
   keyed = [];
   whole = nothing_written;
+  sound = [];
+  health = new_health;
 }
 
 -- how many octets of the output the run has written, if no write failed
@@ -81,7 +93,11 @@ AreHeard monitor [] before after = after ≡ before
 AreHeard monitor (item ∷ items) before after =
     (between : Hosts) × IsFrameHeard monitor item.octets before between × AreHeard monitor items between after
 
--- The readers read on, and all frames that are due are heard: those that all lanes have settled since, and every frame
+-- frames are heard and counted
+abbrev pub having_heard : List Candidate → Hosts → Live → Live
+having_heard items hosts live = record live { hosts = hosts; health = with_heard (length items) live.health }
+
+-- The readers read on, and all frames that are due are heard and counted: those that all lanes have settled since, and every frame
 -- that is left once the ring has ended.
 pub record HearsAll (words : ServeWords) (ended : Bool) (before after : Live) : Type 0 where
   pub read : Live
@@ -90,7 +106,7 @@ pub record HearsAll (words : ServeWords) (ended : Bool) (before after : Live) : 
   pub due : AreDueBy words.sensitive ended before.lanes read.lanes items
   pub hosts : Hosts
   pub hears : AreHeard words.monitor items read.hosts hosts
-  pub is : after ≡ with_hosts hosts read
+  pub is : after ≡ having_heard items hosts read
 
 -- ---- ticks are made
 
@@ -98,9 +114,26 @@ pub record HearsAll (words : ServeWords) (ended : Bool) (before after : Live) : 
 abbrev pub tick_samples : ℕ
 tick_samples = 96
 
--- One tick. To the station the channel is busy also while its transmitter cannot be keyed. What the key reports of the
--- tick stands after what the station does.
+-- the health after a tick, of which the report is not told yet
+abbrev pub health_in : Bool → List Got → AirTick → Live → Health
+health_in busy reads air before = after_tick busy (is_some air.sent) (after_answers reads before.health)
+
+-- what the report is told of it
+abbrev pub notes_in_tick : ServeWords → Bool → List Got → AirTick → Live → Hosts → HealthNotes
+notes_in_tick words busy reads air before hosts =
+    notes_of words.stats (before.ticks + 1) before.health.alike (standing_of hosts) (health_in busy reads air before)
+
+-- and what is counted from then on
+abbrev pub health_after_tick : ServeWords → Bool → List Got → AirTick → Live → Hosts → Health
+health_after_tick words busy reads air before hosts =
+    after_notes words.stats (before.ticks + 1) (standing_of hosts) (health_in busy reads air before)
+
+-- One tick, before which the reader of the sound reads to its end. To the station the channel is busy also while its transmitter cannot be keyed; its health counts other
+-- stations alone. What the key reports of the tick stands after what the station does, and what is told of its health
+-- stands after all else.
 pub record IsTicked (words : ServeWords) (busy : Bool) (before after : Live) : Type 0 where
+  pub reads : List Got
+  pub reading : ReadsTo (tick_samples * (before.ticks + 1)) (place_after 0 before.sound) reads
   pub air : AirTick
   pub made : Hosts
   pub step : IsTickMade words.monitor (busy || is_held words.key before.keyed) air before.hosts made
@@ -110,12 +143,18 @@ pub record IsTicked (words : ServeWords) (busy : Bool) (before after : Live) : T
   pub hosts : Hosts
   pub key : TicksKeyIf words.key (octets_sent before) air.samples before.keyed keyed before.whole whole made hosts
   pub is : after ≡ record before {
-    hosts = hosts;
+    hosts = with_lines (health_lines (notes_in_tick words busy reads air before hosts)) hosts;
     keyed = keyed;
     whole = whole;
     ticks = before.ticks + 1;
     sent = before.sent ++ air.samples;
+    sound = before.sound ++ reads;
+    health = health_after_tick words busy reads air before hosts;
   }
+
+-- what all readers were answered: those of the lanes, and then that of the sound
+abbrev pub answers_of_all : Live → List (List Got)
+answers_of_all live = live.lanes ++ live.sound ∷ []
 
 -- so many
 abbrev pub AreTicked : ServeWords → Bool → ℕ → Live → Live → Type 0

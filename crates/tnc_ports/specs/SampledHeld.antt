@@ -13,6 +13,7 @@ use Rattle.key_port.specs.KeySides.{port_of, HasDone, DoesCall, DoesRelease}
 use Rattle.key_port.specs.KeyTasks.{LineTold, CountsIf}
 use Rattle.sample_ring.specs.declared.got.Got.{Got}
 use Rattle.slicer_bank.specs.HeardOnRing.{least_position}
+use Rattle.slicer_bank.specs.RingLanes.{answers_of}
 use Rattle.ring_receiver.specs.HeardByAll.{AreDueBy}
 use Rattle.ring_receiver.specs.HeldReceiver.{HeldReceiver, answers_in, Hears, EightListen}
 use Rattle.tnc_ports.specs.declared.looping.LoopEnd.{LoopEnd}
@@ -22,6 +23,7 @@ use Rattle.tnc_ports.specs.declared.serve_words.ServeWords.{ServeWords}
 use Rattle.tnc_ports.specs.declared.turning.Turning.{Turning}
 use Rattle.tnc_ports.specs.AskedPorts.{Told, AreUnasked, IsAsked}
 use Rattle.tnc_ports.specs.HeldHosts.{HeldHosts, StandsFor}
+use Rattle.tnc_ports.specs.HeldMeter.{HasMeasured, Measures}
 use Rattle.tnc_ports.specs.Hosts.{Hosts}
 use Rattle.tnc_ports.specs.HostTurns.{Asked, IsHostPart}
 use Rattle.tnc_ports.specs.Sampled.{Live, new_live, HaveEnded, LanesReadOn, AreHeard, AreTicked, MakesAll, IsTurn}
@@ -96,6 +98,7 @@ pub record StandsForLive (turning : Turning) (len : ℕ) (receiver : HeldReceive
   pub lanes : answers_in len receiver ≡ live.lanes
   pub hears : Hears len receiver
   pub passed : tick_samples * live.ticks ≤ least_position live.lanes
+  pub measures : Measures len turning.meter live
 
 -- ---- frames
 
@@ -164,14 +167,15 @@ pub record TurnsTheKey (from : From) (before after : Turning) (live : Live) (out
 -- ---- ticks
 
 -- so many ticks, whatever is kept
-pub record Ticks (from : From) (busy : Bool) (count : ℕ) (before after : Turning) (live : Live)
+pub record Ticks (from : From) (busy : Bool) (count len : ℕ) (before after : Turning) (live : Live)
     (output output' report report' : Stream) (line' : LineTold) : Type 0 where
   pub next : Live
   pub ticked : AreTicked before.words busy count live next
   pub key : KeyedSince from after next output' report' line'
   pub writes : WritesMore before.failed after.failed live next output output' report report'
+  pub measured : HasMeasured len after.meter next
 
-pub record TicksAll (from : From) (busy : Bool) (count : ℕ) (before after : Turning) (live : Live)
+pub record TicksAll (from : From) (busy : Bool) (count len : ℕ) (before after : Turning) (live : Live)
     (output output' report report' : Stream) (line' : LineTold) : Type 0 where
   pub next : Live
   pub ticked : AreTicked before.words busy count live next
@@ -179,6 +183,7 @@ pub record TicksAll (from : From) (busy : Bool) (count : ℕ) (before after : Tu
   pub writes : WritesMore before.failed after.failed live next output output' report report'
   pub keeps : Keeps after.hosts next.hosts
   pub ticks : after.ticks ≡ next.ticks
+  pub measures : Measures len after.meter next
 
 -- ---- hosts
 
@@ -222,6 +227,7 @@ pub record Makes (from : From) (ended : Bool) (before after : Turning) (len : �
   pub ends : ended ≡ true → HaveEnded made.lanes
   pub keeps : Keeps after.hosts made.hosts
   pub ticks : after.ticks ≡ made.ticks
+  pub measures : Measures len after.meter made
   pub asked : made.asked ≡ live.asked
   pub key : KeyedSince from after made output' report' line'
   pub writes : WritesMore before.failed after.failed live made output output' report report'
@@ -239,6 +245,7 @@ pub record Turns (from : From) (ended : Bool) (before after : Turning) (len : �
   pub goes_on : ended ≡ false → StandsForLive after len receiver next
   pub over : ended ≡ true → HaveEnded next.lanes
   pub lanes : answers_in len receiver ≡ next.lanes
+  pub sound : answers_of len after.meter.reader ≡ next.sound
   pub key : KeyedSince from after next output' report' line'
   pub writes : WritesMore before.failed after.failed live next output output' report report'
   pub asked : Asked
@@ -250,6 +257,7 @@ pub record IsCutOff (from : From) (before after : Turning) (len : ℕ) (receiver
   pub next : Live
   pub cut : IsCutTurn before.words live next
   pub lanes : answers_in len receiver ≡ next.lanes
+  pub measured : HasMeasured len after.meter next
   pub key : KeyedSince from after next output' report' line'
   pub writes : WritesMore before.failed after.failed live next output output' report report'
   pub asks : next.asked ≡ live.asked

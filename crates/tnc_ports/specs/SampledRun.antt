@@ -28,7 +28,7 @@ use Rattle.tnc_ports.specs.HostTurns.{Asked}
 use Rattle.tnc_ports.specs.ReportedGaps.{AreAllGaps, AreFirstGaps}
 use Rattle.tnc_ports.specs.ReportText.{output_octets, report_text}
 use Rattle.tnc_ports.specs.Sampled.{Live, new_live, with_hosts, HaveEnded, LanesReadOn, AreHeard, HearsAll, MakesTicks}
-use Rattle.tnc_ports.specs.Sampled.{MakesAll, IsTurn, IsKeyTurn, octets_sent, tick_samples}
+use Rattle.tnc_ports.specs.Sampled.{MakesAll, IsTurn, IsKeyTurn, answers_of_all, octets_sent, tick_samples}
 use Rattle.tnc_ports.specs.ServedHosts.{octets_to, ids_shut, IsShutHavingCome, AreSentInTurns, AreShutInTurns}
 use Rattle.tnc_ports.specs.Sockets.{Poll, Send, MayCome}
 
@@ -199,13 +199,13 @@ pub record PartIsWritten (live : Live) (before after : Outside) : Type 0 where
 
 -- ---- the loop
 
--- A whole run, whose readers were answered this. The pieces for each connection were appended in order, and what it was
+-- A whole run, whose readers were answered this: those of the lanes, and then that of the sound. The pieces for each connection were appended in order, and what it was
 -- sent is a first part of them. The sockets are told of each connection that was shut, and the report names exactly
 -- these.
 pub record IsWhole (words : ServeWords) (answers : List (List Got)) (live : Live) (before after : Outside)
     : Type 0 where
   pub run : IsRun words live
-  pub lanes : live.lanes ≡ answers
+  pub answered : answers_of_all live ≡ answers
   pub told : PortsTell live.asked before after
   pub stay : PortsStay before after
   pub sends : AreSentInTurns live.asked live.hosts
@@ -227,10 +227,12 @@ AreAskedInTurns words last live turns reached =
     ((turns ≡ live.asked) × (reached ≡ live.hosts))
     ⊎ ((asked : Asked) × IsCutInServing words last live asked reached × (turns ≡ live.asked ++ asked ∷ []))
 
--- A run that is cut short. What each connection was sent is a first part of what was appended for it here too.
+-- A run that is cut short. What each connection was sent is a first part of what was appended for it here too. The reader
+-- of the sound was perhaps answered more, of a tick that was not made.
 pub record IsCut (words : ServeWords) (answers : List (List Got)) (live : Live) (before after : Outside) : Type 0 where
   pub run : IsCutRun words live
-  pub lanes : live.lanes ≡ answers
+  pub more : List Got
+  pub answered : answers_of_all (record live { sound = live.sound ++ more }) ≡ answers
   pub turns : List Asked
   pub reached : Hosts
   pub asked : AreAskedInTurns words run.last live turns reached

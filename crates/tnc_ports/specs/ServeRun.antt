@@ -4,6 +4,7 @@ use Rattle.std.specs.Prelude.{◌≡◌, ℕ, ℤ, ◌≤◌, ◌⊎◌, true, L
 use Rattle.sample_ring.specs.declared.got.Got.{Got}
 use Rattle.sample_ring.specs.declared.view.Track.{Track}
 use Rattle.sample_ring.specs.Record.{StandsIn, answer}
+use Rattle.slicer_bank.specs.RingTurns.{MeetsEnd}
 use Rattle.tnc_base.specs.Faults.{HasRisen}
 use Rattle.tnc_ports.specs.declared.pumping.PumpEnd.{PumpEnd}
 use Rattle.tnc_ports.specs.declared.pumping.PumpEnd.TheVariants.{InputEnd, ReadFault as PumpFailed}
@@ -17,7 +18,6 @@ use Rattle.tnc_ports.specs.declared.looping.LoopEnd.TheVariants.{Done as LoopDon
 use Rattle.tnc_ports.specs.declared.looping.LoopEnd.TheVariants.{WriteFault as LoopFault}
 use Rattle.tnc_ports.specs.Pumped.{IsPumped}
 pub use Rattle.tnc_ports.specs.PumpRun.{InputSide, input_by, ReadFaults}
-use Rattle.tnc_ports.specs.Sampled.{HaveEnded}
 use Rattle.tnc_ports.specs.SampledRun.{Outside, GrowsBy, IsLooped}
 
 -- ---- what the readers were answered, and what was published
@@ -30,13 +30,13 @@ ring_cells = 65536
 abbrev pub answers_of_record : Track → List Got
 answers_of_record track = map (answer ring_cells) track.reads
 
--- The records of all readers stand in the published list: each sample is that of its position, and each gap is a part
--- that was overwritten. If every reader has met the end, samples and gaps tile the whole list.
+-- The records of readers stand in the published list: each sample is that of its position, and each gap is a part
+-- that was overwritten. If a reader has met the end, its samples and gaps tile the whole list.
 pub record LanesStandIn (published : List ℤ) (lanes : List (List Got)) : Type 0 where
   pub records : List Track
   pub answers : lanes ≡ map answers_of_record records
   pub stand : All (StandsIn ring_cells published true) records
-  pub whole : HaveEnded lanes → All (λ track. track.at ≡ length published) records
+  pub whole : All (λ track. MeetsEnd (answers_of_record track) → track.at ≡ length published) records
 
 -- ---- serving
 

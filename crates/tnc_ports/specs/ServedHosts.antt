@@ -4,7 +4,7 @@ use Rattle.std.specs.Prelude.{⊤, ◌≡◌, ℕ, ◌≤◌, ◌⊎◌, true, f
 use Rattle.std.specs.List.{flat_map}
 use Rattle.tnc_ports.specs.declared.report_line.ReportLine.{ReportLine}
 use Rattle.tnc_ports.specs.declared.report_line.ReportLine.TheVariants.{GapLine, ClosedLine, ReceivedLine, SentLine}
-use Rattle.tnc_ports.specs.declared.report_line.ReportLine.TheVariants.{KeyLine}
+use Rattle.tnc_ports.specs.declared.report_line.ReportLine.TheVariants.{KeyLine, HealthLine}
 use Rattle.tnc_ports.specs.AskedPorts.{poll_of, taken_of}
 use Rattle.tnc_ports.specs.Hosts.{Hosts, is_among, is_there, was_there}
 use Rattle.tnc_ports.specs.HostTurns.{Asked}
@@ -49,6 +49,7 @@ closed_by (ClosedLine id) = id ∷ []
 closed_by (ReceivedLine text) = []
 closed_by (SentLine text) = []
 closed_by (KeyLine report) = []
+closed_by (HealthLine note) = []
 
 -- those that the report calls closed, in order
 abbrev pub ids_closed : List ReportLine → List ℕ

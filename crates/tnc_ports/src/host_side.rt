@@ -13,12 +13,14 @@ ghost use Rattle.station.specs.Monitored.{modulus_between};
 ghost use Rattle.tnc_ports.specs.declared.report_line.ReportLine.{ReportLine};
 ghost use Rattle.tnc_ports.specs.AskedPorts.{IsAsked, taken_of, told_by};
 ghost use Rattle.tnc_ports.specs.CutPart.{HasCutPart};
+ghost use Rattle.tnc_ports.specs.Health.{standing_of};
 ghost use Rattle.tnc_ports.specs.HeldHosts.{StandsFor};
 ghost use Rattle.tnc_ports.specs.Hosts.{Hosts, new_hosts, reporting, IsHeardStep, IsTickStep};
 ghost use Rattle.tnc_ports.specs.HostTurns.{Asked, IsHostPart};
 ghost use Rattle.tnc_ports.specs.SentSoFar.{octets_for};
 ghost use Rattle.tnc_ports.specs.Sockets.{Poll, MayCome};
 
+use crate::health::Standing;
 use crate::host_parts::HostParts;
 use crate::ports::{PollFault, Ports};
 use crate::report_line::ReportLine;
@@ -157,6 +159,18 @@ impl HostSide {
             → result ≡ modulus_between first.now second.now hosts.station.links }
     {
         self.parts.station.modulus(first, second)
+    }
+
+    /// What the report tells of the station as it is.
+    pub(crate) fn standing(&self) -> Standing
+        ensures { (hosts : Hosts) (printed : List ReportLine) → StandsFor self.now printed hosts
+            → result ≡ standing_of hosts }
+    {
+        Standing {
+            dropped: self.parts.station.dropped(),
+            hosts: self.parts.lines.len() as u64,
+            links: self.parts.station.links(),
+        }
     }
 
     /// Adds a line to the report. Fails only for want of memory, and is then spent.

@@ -24,7 +24,7 @@ pub fn steps_are_heard()
 /// Without key words a tick is a plain one, and a turn of the key changes nothing.
 pub fn a_tick_without_a_key_is_plain()
     ensures ticks { (words : ServeWords) (busy : Bool) (before after : Live) → words.key ≡ None
-        → IsTicked words busy before after ↔ IsPlainTick words.monitor busy before after }
+        → IsTicked words busy before after ↔ IsPlainTick words busy before after }
     ensures turns { (words : ServeWords) (before after : Live) → words.key ≡ None
         → IsKeyTurn words before after ↔ (after ≡ before) }
 {}

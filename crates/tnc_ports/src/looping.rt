@@ -2,20 +2,23 @@
 ghost use Rattle.std.specs.Prelude.{◌≡◌, ℕ, [], false, All};
 ghost use Rattle.link_machine.specs.Params.{IsRefusedWindow};
 ghost use Rattle.sample_ring.specs.Ends.{ring_id, ring_len, reader_ring};
-ghost use Rattle.ring_receiver.specs.HeldReceiver.{readers_in, answers_in};
+ghost use Rattle.ring_receiver.specs.HeldReceiver.{readers_in};
 ghost use Rattle.tnc_ports.specs.FreshReceiver.{IsFresh};
+ghost use Rattle.tnc_ports.specs.HeldMeter.{IsFreshSound, IsSoundOf, answers_if, answers_with};
 ghost use Rattle.tnc_ports.specs.Sampled.{new_live};
 ghost use Rattle.tnc_ports.specs.SampledHeld.{StandsForLive, KeyStands, RunsOut};
 ghost use Rattle.tnc_ports.specs.SampledRun.{IsLooped, outside_by};
 
+use crate::health::Health;
 use crate::host_side::HostSide;
+use crate::meter::Meter;
 use crate::ports::Ports;
 use crate::releasing::{key_of, release_key};
 use crate::serve_words::ServeWords;
 use crate::turning::Turning;
 use key_port::KeyPort;
 use ring_receiver::RingReceiver;
-use sample_ring::Ring;
+use sample_ring::{Reader, Ring};
 use std::alloc::Global;
 use std::net::Net;
 use std::sync::Wait;
@@ -33,15 +36,16 @@ pub enum LoopEnd {
     WriteFault,
 }
 
-/// Makes turn after turn until every reader has met the end of the ring, or memory is wanted, and releases the key of
+/// Makes turn after turn until every lane's reader has met the end of the ring, or memory is wanted, and releases the key of
 /// the transmitter, however the turns end. It may wait for the ring's writer, and for a second at most for the last
-/// answers to the key.
+/// answers to the key. The reader of the sound is lent.
 pub fn station_loop<R: Threads + Wait + Net + Sync, O: Sink, E: Sink, N: Ports, K: KeyPort<O>>(
     rt: &R,
     alloc: Global,
     words: &ServeWords,
     ring: &Ring,
     receiver: &mut RingReceiver,
+    sound: &mut Option<Reader>,
     output: &mut O,
     report: &mut E,
     ports: &mut N,
@@ -49,9 +53,11 @@ pub fn station_loop<R: Threads + Wait + Net + Sync, O: Sink, E: Sink, N: Ports, 
 ) -> LoopEnd
     requires window { (window : ℕ) → ¬ IsRefusedWindow words.now.config.params window }
     requires fresh { IsFresh words.now ring.now receiver.old }
+    requires sound { IsFreshSound ring.now sound.old }
+    ensures sound { IsSoundOf ring.now sound.new }
     ensures readers { All (λ reader. reader_ring reader ≡ ring_id ring.now) (readers_in receiver.new) }
     ensures dials { N.dials ports.new ≡ N.dials ports.old }
-    ensures looped { IsLooped words.now result (answers_in (ring_len ring.now) receiver.new)
+    ensures looped { IsLooped words.now result (answers_if (ring_len ring.now) receiver.new sound.new)
         (outside_by N.listens N.polls N.sends N.sent N.is_shut N.faults K.lines K.faults O.written O.faults
         E.written E.faults ports.old key.old output.old report.old)
         (outside_by N.listens N.polls N.sends N.sent N.is_shut N.faults K.lines K.faults O.written O.faults
@@ -62,6 +68,9 @@ pub fn station_loop<R: Threads + Wait + Net + Sync, O: Sink, E: Sink, N: Ports, 
         release_key(rt, &mut side, output, key);
         return LoopEnd::Memory;
     };
+    let Some(reader) = sound.take() else {
+        unreachable!()
+    };
     let mut turning = Turning {
         alloc,
         words: *words,
@@ -69,9 +78,15 @@ pub fn station_loop<R: Threads + Wait + Net + Sync, O: Sink, E: Sink, N: Ports, 
         ticks: 0,
         failed: false,
         key: side,
+        meter: Meter {
+            reader,
+            health: Health::new(),
+        },
     };
     let end = run(rt, &mut turning, ring, receiver, output, report, ports, key);
     turning.release(rt, output, key);
+    let Turning { meter, .. } = turning;
+    *sound = Some(meter.reader);
     end
 }
 
@@ -89,11 +104,14 @@ fn run<R: Threads + Wait + Net + Sync, O: Sink, E: Sink, N: Ports, K: KeyPort<O>
     requires stands { StandsForLive turning.old (ring_len ring.now) receiver.old (new_live turning.old.words) }
     requires readers { All (λ reader. reader_ring reader ≡ ring_id ring.now) (readers_in receiver.old) }
     requires detection { receiver.old.detection ≡ turning.old.words.dcd }
+    requires meter { reader_ring turning.old.meter.reader ≡ ring_id ring.now }
     requires failed { turning.old.failed ≡ false }
     requires key { KeyStands turning.old.words.key turning.old.key [] }
     ensures readers { All (λ reader. reader_ring reader ≡ ring_id ring.now) (readers_in receiver.new) }
     ensures dials { N.dials ports.new ≡ N.dials ports.old }
-    ensures run { RunsOut turning.old.words result (answers_in (ring_len ring.now) receiver.new) turning.new
+    ensures meter { reader_ring turning.new.meter.reader ≡ ring_id ring.now }
+    ensures run { RunsOut turning.old.words result
+        (answers_with (ring_len ring.now) receiver.new turning.new.meter.reader) turning.new
         (outside_by N.listens N.polls N.sends N.sent N.is_shut N.faults K.lines K.faults O.written O.faults
         E.written E.faults ports.old key.old output.old report.old)
         (outside_by N.listens N.polls N.sends N.sent N.is_shut N.faults K.lines K.faults O.written O.faults

@@ -1,5 +1,6 @@
 //! The report of a live station.
 
+use crate::health_note::HealthNote;
 use keying::Report;
 use tnc_base::Octets;
 
@@ -16,4 +17,6 @@ pub enum ReportLine {
     SentLine { text: Octets },
     /// Something is told of the transmitter's key.
     KeyLine { report: Report },
+    /// Something is told of the station's health.
+    HealthLine { note: HealthNote },
 }

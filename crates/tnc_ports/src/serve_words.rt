@@ -31,4 +31,6 @@ pub struct ServeWords {
     pub sensitive: bool,
     /// How the transmitter is keyed, if it is.
     pub key: Option<KeyWords>,
+    /// After how many seconds each the report has a line of counts, if it has.
+    pub stats: Option<u32>,
 }

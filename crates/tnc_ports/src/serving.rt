@@ -1,12 +1,14 @@
 //! A live station from its first poll to the end of its input.
-ghost use Rattle.std.specs.Prelude.{◌≡◌, ◌≢◌, ℕ, List, [], Some, All, IfSome, IsNone, is_some};
+ghost use Rattle.std.specs.Prelude.{◌≡◌, ◌≢◌, ℕ, ◌≤◌, List, [], ◌∷◌, ◌++◌, Some, All, IfSome, IsNone, is_some};
+ghost use Rattle.std.specs.Prelude.{vec_capacity};
 ghost use Rattle.std.specs.Thread.{IsSync};
 ghost use Rattle.link_machine.specs.Params.{IsRefusedWindow};
 ghost use Rattle.sample_ring.specs.Ends.{ring_id, ring_len, reader_ring, writer_ring, published_by};
 ghost use Rattle.slicer_bank.specs.Detection.{CanBeAsked};
 ghost use Rattle.tnc_base.specs.Faults.{HasRisen};
-ghost use Rattle.ring_receiver.specs.HeldReceiver.{readers_in, answers_in};
+ghost use Rattle.ring_receiver.specs.HeldReceiver.{readers_in};
 ghost use Rattle.tnc_ports.specs.FreshReceiver.{IsFresh};
+ghost use Rattle.tnc_ports.specs.HeldMeter.{IsFreshSound, IsSoundOf, answers_if};
 ghost use Rattle.tnc_ports.specs.PumpRun.{InputSide, Pumps, input_by};
 ghost use Rattle.tnc_ports.specs.SampledPump.{IsClosed, IsLoopedIf};
 ghost use Rattle.tnc_ports.specs.SampledRun.{outside_by};
@@ -22,7 +24,7 @@ use crate::serve_words::ServeWords;
 use crate::spawner::Spawner;
 use key_port::KeyPort;
 use ring_receiver::{RingReceiver, readers_wanted};
-use sample_ring::{Ring, Writer};
+use sample_ring::{Reader, Ring, Writer};
 use std::alloc::Global;
 use std::net::Net;
 use std::sync::Wait;
@@ -31,6 +33,9 @@ use tnc_base::{Sink, Source};
 
 /// The cells of the ring, which hold about seven seconds.
 const CELLS: u32 = 65_536;
+
+/// The most readers of the ring: nine of lanes, and that of the sound.
+const MOST_READERS: usize = 10;
 
 /// How a live station ends.
 #[derive(Clone, Copy, Debug, PartialEq, Eq)]
@@ -93,10 +98,14 @@ pub fn serve<
     if ports.listen(rt, words.listen).is_err() {
         return ServeEnd::NoPort;
     }
-    let Ok((ring, writer, readers)) = Ring::new(alloc, CELLS, readers_wanted(words.sensitive))
-    else {
+    let count = readers_wanted(words.sensitive) + 1;
+    let Ok((ring, writer, mut readers)) = Ring::new(alloc, CELLS, count) else {
         return ServeEnd::Memory;
     };
+    let Ok(room) = Vec::with_capacity(alloc, MOST_READERS) else {
+        return ServeEnd::Memory;
+    };
+    let mut sound = readers.pop();
     let Ok(mut receiver) = RingReceiver::new(alloc, readers, words.dcd, words.sensitive) else {
         return ServeEnd::Memory;
     };
@@ -108,6 +117,7 @@ pub fn serve<
         &ring,
         writer,
         &mut receiver,
+        &mut sound,
         &mut end,
         input,
         output,
@@ -118,7 +128,7 @@ pub fn serve<
     ) else {
         return ServeEnd::NoThread;
     };
-    close(ring, pumped, receiver, end)
+    close(ring, pumped, receiver, sound, room, end)
 }
 
 /// Runs the pump beside the turns.
@@ -137,6 +147,7 @@ fn run_beside<
     ring: &Ring,
     writer: Writer,
     receiver: &mut RingReceiver,
+    sound: &mut Option<Reader>,
     end: &mut LoopEnd,
     input: &mut I,
     output: &mut O,
@@ -149,11 +160,14 @@ fn run_beside<
     requires ring { writer_ring writer ≡ ring_id ring.now }
     requires new { published_by writer ≡ [] }
     requires fresh { IsFresh words.now ring.now receiver.old }
+    requires sound { IsFreshSound ring.now sound.old }
     ensures pumped { IfSome result (λ pumped. Pumps ring.now pumped (input_by I.left I.faults input.old)
         (input_by I.left I.faults input.new)) }
     ensures unread { IsNone result → input_by I.left I.faults input.new ≡ input_by I.left I.faults input.old }
     ensures readers { All (λ reader. reader_ring reader ≡ ring_id ring.now) (readers_in receiver.new) }
-    ensures looped { IsLoopedIf (is_some result) words.now end.new (answers_in (ring_len ring.now) receiver.new)
+    ensures sound { IsSoundOf ring.now sound.new }
+    ensures looped { IsLoopedIf (is_some result) words.now end.new
+        (answers_if (ring_len ring.now) receiver.new sound.new)
         (outside_by N.listens N.polls N.sends N.sent N.is_shut N.faults K.lines K.faults O.written O.faults
         E.written E.faults ports.old key.old output.old report.old)
         (outside_by N.listens N.polls N.sends N.sent N.is_shut N.faults K.lines K.faults O.written O.faults
@@ -170,10 +184,11 @@ fn run_beside<
         &mut |begins: bool|
             requires { IsSync R.row
                 × ((window : ℕ) → ¬ IsRefusedWindow words.now.config.params window)
-                × IsFresh words.now ring.now receiver.now }
+                × IsFresh words.now ring.now receiver.now × IsFreshSound ring.now sound.now }
             ensures { All (λ reader. reader_ring reader ≡ ring_id ring.entry.now) (readers_in receiver.exit.now)
+                × IsSoundOf ring.entry.now sound.exit.now
                 × IsLoopedIf begins words.entry.now end.exit.now
-                (answers_in (ring_len ring.entry.now) receiver.exit.now)
+                (answers_if (ring_len ring.entry.now) receiver.exit.now sound.exit.now)
                 (outside_by N.listens N.polls N.sends N.sent N.is_shut N.faults K.lines K.faults O.written
                 O.faults E.written E.faults ports.entry.now key.entry.now output.entry.now report.entry.now)
                 (outside_by N.listens N.polls N.sends N.sent N.is_shut N.faults K.lines K.faults O.written
@@ -181,7 +196,7 @@ fn run_beside<
                 × (N.dials ports.exit.now ≡ N.dials ports.entry.now) }
         {
             loop_if(
-                begins, rt, alloc, words, ring, receiver, end, output, report, ports, key,
+                begins, rt, alloc, words, ring, receiver, sound, end, output, report, ports, key,
             )
         },
     )
@@ -195,6 +210,7 @@ fn loop_if<R: Threads + Wait + Net + Sync, O: Sink, E: Sink, N: Ports, K: KeyPor
     words: &ServeWords,
     ring: &Ring,
     receiver: &mut RingReceiver,
+    sound: &mut Option<Reader>,
     end: &mut LoopEnd,
     output: &mut O,
     report: &mut E,
@@ -203,8 +219,10 @@ fn loop_if<R: Threads + Wait + Net + Sync, O: Sink, E: Sink, N: Ports, K: KeyPor
 )
     requires window { (window : ℕ) → ¬ IsRefusedWindow words.now.config.params window }
     requires fresh { IsFresh words.now ring.now receiver.old }
+    requires sound { IsFreshSound ring.now sound.old }
     ensures readers { All (λ reader. reader_ring reader ≡ ring_id ring.now) (readers_in receiver.new) }
-    ensures looped { IsLoopedIf begins words.now end.new (answers_in (ring_len ring.now) receiver.new)
+    ensures sound { IsSoundOf ring.now sound.new }
+    ensures looped { IsLoopedIf begins words.now end.new (answers_if (ring_len ring.now) receiver.new sound.new)
         (outside_by N.listens N.polls N.sends N.sent N.is_shut N.faults K.lines K.faults O.written O.faults
         E.written E.faults ports.old key.old output.old report.old)
         (outside_by N.listens N.polls N.sends N.sent N.is_shut N.faults K.lines K.faults O.written O.faults
@@ -212,22 +230,47 @@ fn loop_if<R: Threads + Wait + Net + Sync, O: Sink, E: Sink, N: Ports, K: KeyPor
     ensures dials { N.dials ports.new ≡ N.dials ports.old }
 {
     if begins {
-        *end = station_loop(rt, alloc, words, ring, receiver, output, report, ports, key);
+        *end = station_loop(
+            rt, alloc, words, ring, receiver, sound, output, report, ports, key,
+        );
     }
 }
 
-/// Closes the ring once both have ended.
-fn close(ring: Ring, pumped: Pumped, receiver: RingReceiver, end: LoopEnd) -> ServeEnd
+/// Closes the ring once both have ended, with the reader of the sound after those of the lanes.
+fn close(
+    ring: Ring,
+    pumped: Pumped,
+    receiver: RingReceiver,
+    sound: Option<Reader>,
+    room: Vec<Reader>,
+    end: LoopEnd,
+) -> ServeEnd
     requires cells { ring_len ring ≡ CELLS }
     requires readers { All (λ reader. reader_ring reader ≡ ring_id ring) (readers_in receiver) }
+    requires sound { IsSoundOf ring sound }
+    requires empty { room.items ≡ [] }
+    requires room { 10 ≤ vec_capacity room }
     requires pumped { (input : InputSide) × (left : InputSide) × Pumps ring pumped input left }
     ensures closed { (input left : InputSide) → Pumps ring pumped input left
-        → IsClosed end result (answers_in CELLS receiver) input left }
+        → IsClosed end result (answers_if CELLS receiver sound) input left }
     ensures thread { result ≢ ServeEnd.NoThread }
 {
-    let readers = receiver.finish();
+    let Some(last) = sound else { unreachable!() };
+    let readers = rejoined(receiver, last, room);
     let _history = ring.close(pumped.done, readers);
     end_of(end, pumped.end)
+}
+
+/// All readers in a Vec that is empty and has room for them. It takes no memory.
+fn rejoined(receiver: RingReceiver, sound: Reader, mut room: Vec<Reader>) -> Vec<Reader>
+    requires empty { room.items ≡ [] }
+    requires room { 10 ≤ vec_capacity room }
+    ensures { result.items ≡ readers_in receiver ++ sound ∷ [] }
+{
+    let mut readers = receiver.finish();
+    room.append(&mut readers).unwrap();
+    room.push_reserved(sound);
+    room
 }
 
 /// How serving ends by the ends of the turns and of the pump, of which that of the turns counts first.

@@ -4,7 +4,7 @@
 //! sample is written of a step that did not come to its end.
 
 ghost use Rattle.std.specs.Prelude.{◌≡◌, ℕ, ◌+◌, ◌-◌, ◌*◌, ◌/◌, ◌^◌, ◌<◌, ◌≤◌, Bool, true, false, List, Option, Some};
-ghost use Rattle.std.specs.Prelude.{None, map, All, IfOk, OnOk, OnErr, [], ◌||◌};
+ghost use Rattle.std.specs.Prelude.{None, map, All, IfOk, OnOk, OnErr, [], ◌||◌, ◌++◌};
 ghost use Rattle.hdlc_framer.specs.FrameLength.{HasFrameLength};
 ghost use Rattle.keying.specs.Calls.Call.{Tick as KeyTick, AfterWrite as KeyAfterWrite};
 ghost use Rattle.key_port.specs.KeyEvents.{KeyEvent};
@@ -14,27 +14,34 @@ ghost use Rattle.channel_access.specs.Sound.{has_sound};
 ghost use Rattle.ax25_address.specs.declared.path.Path.{Path};
 ghost use Rattle.sample_ring.specs.Ends.{ring_id, ring_len, reader_ring};
 ghost use Rattle.ring_receiver.specs.HeldReceiver.{readers_in, answers_in};
+ghost use Rattle.sample_ring.specs.declared.got.Got.{Got};
+ghost use Rattle.slicer_bank.specs.RingLanes.{answers_of};
 ghost use Rattle.station.specs.Heard.{IsPathOf};
 ghost use Rattle.station.specs.Monitored.{heard_modulus, sent_modulus};
 ghost use Rattle.tnc_ports.specs.AskedPorts.{Told, told_by};
 ghost use Rattle.tnc_ports.specs.CutPart.{HasCutPart};
 ghost use Rattle.tnc_ports.specs.declared.report_line.ReportLine.{ReportLine};
 ghost use Rattle.tnc_ports.specs.declared.serve_words.KeyWords.{KeyWords};
+ghost use Rattle.tnc_ports.specs.Health.{after_notes, after_tick, notes_of, standing_of};
 ghost use Rattle.tnc_ports.specs.HeldHosts.{StandsFor};
 ghost use Rattle.tnc_ports.specs.KeyTurns.{is_held};
+ghost use Rattle.tnc_ports.specs.HeldMeter.{Measures};
 ghost use Rattle.tnc_ports.specs.Hosts.{Hosts};
 ghost use Rattle.tnc_ports.specs.Sampled.{Live, gap_line};
 ghost use Rattle.tnc_ports.specs.SampledFrames.{AreReceivedLines, AreSentLines};
 ghost use Rattle.tnc_ports.specs.SampledRun.{IsCutInReading};
 ghost use Rattle.tnc_ports.specs.SampledWrites.{Stream, stream_of};
 
+use crate::health::Health;
+use crate::health_note::HealthNotes;
 use crate::host_side::HostSide;
 use crate::key_lines::put_reports;
+use crate::meter::Meter;
 use crate::monitor::frame_text;
 use crate::ports::Ports;
 use crate::releasing::release_key;
 use crate::report_line::ReportLine;
-use crate::report_lines::{octets_of_samples, text_of_both, text_of_lines};
+use crate::report_lines::{octets_of_samples, text_of_both, text_of_lines, text_of_notes};
 use crate::serve_words::ServeWords;
 use crate::sound::has_sound;
 use crate::writing::put;
@@ -67,6 +74,8 @@ pub(crate) struct Turning {
     pub(crate) failed: bool,
     /// The key of the transmitter, if it has one.
     pub(crate) key: Option<KeySide>,
+    /// The reader of the sound, and what was counted.
+    pub(crate) meter: Meter,
 }
 
 impl Turning {
@@ -88,6 +97,7 @@ impl Turning {
         requires stands { (live : Live) × StandsForLive self.old (ring_len ring.now) receiver.old live }
         requires readers { All (λ reader. reader_ring reader ≡ ring_id ring.now) (readers_in receiver.old) }
         requires detection { receiver.old.detection ≡ self.old.words.dcd }
+        requires meter { reader_ring self.old.meter.reader ≡ ring_id ring.now }
         ensures turned { (from : From) (live : Live) → StandsForLive self.old (ring_len ring.now) receiver.old live
             → KeyedSince from self.old live (stream_of O.written O.faults output.old)
             (stream_of E.written E.faults report.old) (line_told K.lines K.faults key.old)
@@ -107,6 +117,7 @@ impl Turning {
         ensures words { self.new.words ≡ self.old.words }
         ensures readers { All (λ reader. reader_ring reader ≡ ring_id ring.now) (readers_in receiver.new) }
         ensures detection { receiver.new.detection ≡ receiver.old.detection }
+        ensures meter { reader_ring self.new.meter.reader ≡ ring_id ring.now }
         ensures listens { N.listens ports.new ≡ N.listens ports.old }
         ensures dials { N.dials ports.new ≡ N.dials ports.old }
         ensures later { N.faults ports.old ≤ N.faults ports.new }
@@ -131,6 +142,7 @@ impl Turning {
         requires stands { (live : Live) × StandsForLive self.old (ring_len ring.now) receiver.old live }
         requires readers { All (λ reader. reader_ring reader ≡ ring_id ring.now) (readers_in receiver.old) }
         requires detection { receiver.old.detection ≡ self.old.words.dcd }
+        requires meter { reader_ring self.old.meter.reader ≡ ring_id ring.now }
         ensures made { (from : From) (live : Live) → StandsForLive self.old (ring_len ring.now) receiver.old live
             → KeyedSince from self.old live (stream_of O.written O.faults output.old)
             (stream_of E.written E.faults report.old) (line_told K.lines K.faults key.old)
@@ -148,11 +160,13 @@ impl Turning {
         ensures words { self.new.words ≡ self.old.words }
         ensures readers { All (λ reader. reader_ring reader ≡ ring_id ring.now) (readers_in receiver.new) }
         ensures detection { receiver.new.detection ≡ receiver.old.detection }
+        ensures meter { reader_ring self.new.meter.reader ≡ ring_id ring.now }
     {
         let heard = self.read(rt, ring, receiver, report)?;
         self.hear_all(report, &heard.items)?;
+        self.meter.health.hear(heard.items.len());
         self.turn_key(rt, output, report, key);
-        self.tick_up_to(output, report, key, receiver.busy(), heard.least)?;
+        self.tick_up_to(ring, output, report, key, receiver.busy(), heard.least)?;
         Ok(heard.ended)
     }
 
@@ -175,7 +189,8 @@ impl Turning {
             (record live { lanes = answers_in (ring_len ring.now) receiver.new })) }
         ensures unwritten { OnErr result ((report.new ≡ report.old) × (self.new.failed ≡ self.old.failed)) }
         ensures rest { (self.new.words ≡ self.old.words) × (self.new.hosts ≡ self.old.hosts)
-            × (self.new.ticks ≡ self.old.ticks) × (self.new.key ≡ self.old.key) }
+            × (self.new.ticks ≡ self.old.ticks) × (self.new.key ≡ self.old.key)
+            × (self.new.meter ≡ self.old.meter) }
         ensures lengths { IfOk result (λ heard. All (λ item. HasFrameLength item.octets) heard.items.items) }
         ensures readers { All (λ reader. reader_ring reader ≡ ring_id ring.now) (readers_in receiver.new) }
         ensures detection { receiver.new.detection ≡ receiver.old.detection }
@@ -197,7 +212,7 @@ impl Turning {
             → OnErr result (HearsSome items.now self.old self.new hosts (stream_of E.written E.faults report.old)
             (stream_of E.written E.faults report.new)) }
         ensures rest { (self.new.words ≡ self.old.words) × (self.new.ticks ≡ self.old.ticks)
-            × (self.new.key ≡ self.old.key) }
+            × (self.new.key ≡ self.old.key) × (self.new.meter ≡ self.old.meter) }
     {
         for item in items {
             self.hear(report, item.octets.as_slice())?;
@@ -213,7 +228,7 @@ impl Turning {
             (stream_of E.written E.faults report.new)) }
         ensures unwritten { OnErr result ((report.new ≡ report.old) × (self.new.failed ≡ self.old.failed)) }
         ensures rest { (self.new.words ≡ self.old.words) × (self.new.ticks ≡ self.old.ticks)
-            × (self.new.key ≡ self.old.key) }
+            × (self.new.key ≡ self.old.key) × (self.new.meter ≡ self.old.meter) }
     {
         let shown = self.received_lines(octets)?;
         self.hosts.hear(octets)?;
@@ -238,7 +253,7 @@ impl Turning {
             (stream_of E.written E.faults report.old) (stream_of E.written E.faults report.new)
             (line_told K.lines K.faults key.new) }
         ensures rest { (self.new.words ≡ self.old.words) × (self.new.ticks ≡ self.old.ticks)
-            × (self.new.hosts ≡ self.old.hosts) }
+            × (self.new.hosts ≡ self.old.hosts) × (self.new.meter ≡ self.old.meter) }
     {
         match &mut self.key {
             None => {}
@@ -252,67 +267,90 @@ impl Turning {
     /// Makes each tick that a position has passed.
     fn tick_up_to<O: Sink, E: Sink, K: KeyPort<O>>(
         &mut self,
+        ring: &Ring,
         output: &mut O,
         report: &mut E,
         key: &mut K,
         busy: bool,
         least: u64,
     ) -> Result<(), OutOfMemory>
+        requires meter { reader_ring self.old.meter.reader ≡ ring_id ring.now }
         ensures ticked { (from : From) (live : Live) → Keeps self.old.hosts live.hosts → self.old.ticks ≡ live.ticks
-            → KeyedSince from self.old live (stream_of O.written O.faults output.old)
+            → Measures (ring_len ring.now) self.old.meter live → KeyedSince from self.old live (stream_of O.written O.faults output.old)
             (stream_of E.written E.faults report.old) (line_told K.lines K.faults key.old)
-            → OnOk result (TicksAll from busy (least / 96 - live.ticks) self.old self.new live
+            → OnOk result (TicksAll from busy (least / 96 - live.ticks) (ring_len ring.now) self.old self.new live
             (stream_of O.written O.faults output.old) (stream_of O.written O.faults output.new)
             (stream_of E.written E.faults report.old) (stream_of E.written E.faults report.new)
             (line_told K.lines K.faults key.new)) }
         ensures cut { (from : From) (live : Live) → Keeps self.old.hosts live.hosts → self.old.ticks ≡ live.ticks
-            → KeyedSince from self.old live (stream_of O.written O.faults output.old)
+            → Measures (ring_len ring.now) self.old.meter live → KeyedSince from self.old live (stream_of O.written O.faults output.old)
             (stream_of E.written E.faults report.old) (line_told K.lines K.faults key.old)
-            → OnErr result ((count : ℕ) × (live.ticks + count ≤ least / 96) × Ticks from busy count self.old self.new live
+            → OnErr result ((count : ℕ) × (live.ticks + count ≤ least / 96) × Ticks from busy count (ring_len ring.now) self.old
+            self.new live
             (stream_of O.written O.faults output.old) (stream_of O.written O.faults output.new)
             (stream_of E.written E.faults report.old) (stream_of E.written E.faults report.new)
             (line_told K.lines K.faults key.new)) }
         ensures rest { self.new.words ≡ self.old.words }
+        ensures meter { reader_ring self.new.meter.reader ≡ ring_id ring.now }
     {
         for tick in self.ticks..least / TICK {
-            self.tick(output, report, key, busy, tick)?;
+            self.tick(ring, output, report, key, busy, tick)?;
         }
         Ok(())
     }
 
-    /// Makes the tick of a number. The key is turned on, or off, before the samples are written.
+    /// Makes the tick of a number, after its samples are read. The key is turned on, or off, before the samples are written. What is told of the
+    /// station's health comes last.
     fn tick<O: Sink, E: Sink, K: KeyPort<O>>(
         &mut self,
+        ring: &Ring,
         output: &mut O,
         report: &mut E,
         key: &mut K,
         busy: bool,
         tick: u64,
     ) -> Result<(), OutOfMemory>
-        requires { tick < 2 ^ 64 - 1 }
+        requires tick { 96 * (tick + 1) < 2 ^ 64 }
+        requires meter { reader_ring self.old.meter.reader ≡ ring_id ring.now }
         ensures ticked { (from : From) (live : Live) → Keeps self.old.hosts live.hosts → tick ≡ live.ticks
-            → KeyedSince from self.old live (stream_of O.written O.faults output.old)
+            → Measures (ring_len ring.now) self.old.meter live → KeyedSince from self.old live (stream_of O.written O.faults output.old)
             (stream_of E.written E.faults report.old) (line_told K.lines K.faults key.old)
-            → OnOk result (TicksAll from busy 1 self.old self.new live
+            → OnOk result (TicksAll from busy 1 (ring_len ring.now) self.old self.new live
             (stream_of O.written O.faults output.old) (stream_of O.written O.faults output.new)
             (stream_of E.written E.faults report.old) (stream_of E.written E.faults report.new)
             (line_told K.lines K.faults key.new)) }
         ensures unwritten { OnErr result ((output.new ≡ output.old) × (report.new ≡ report.old) × (key.new ≡ key.old)
             × (self.new.failed ≡ self.old.failed) × (self.new.key ≡ self.old.key)) }
+        ensures measured { OnErr result ((more : List Got) × (answers_of (ring_len ring.now) self.new.meter.reader
+            ≡ answers_of (ring_len ring.now) self.old.meter.reader ++ more)) }
         ensures count { OnOk result (self.new.ticks ≡ tick + 1) }
         ensures rest { self.new.words ≡ self.old.words }
+        ensures meter { reader_ring self.new.meter.reader ≡ ring_id ring.now }
     {
+        let alike = self.meter.health.alike;
+        self.meter.read_to(ring, TICK * (tick + 1));
         let held = self.is_busy(busy);
         let air = self.hosts.tick(held)?;
         let lines = self.hosts.take_lines();
         let shown = self.sent_lines(&air)?;
         let text = text_of_both(self.alloc, &shown, &lines)?;
+        let notes = tell_health(
+            &mut self.meter.health,
+            alike,
+            &self.hosts,
+            self.words.stats,
+            busy,
+            air.sent.is_some(),
+            tick + 1,
+        );
+        let told = text_of_notes(self.alloc, notes)?;
         let keyed = self.key_tick(&air.samples, output, key);
         put(output, &mut self.failed, &octets_of_samples(&air.samples));
         put(report, &mut self.failed, &text);
         put_reports(report, &mut self.failed, keyed);
         let lost = self.key_written(output, key);
         put_reports(report, &mut self.failed, lost);
+        put(report, &mut self.failed, &told);
         self.ticks = tick + 1;
         Ok(())
     }
@@ -345,7 +383,8 @@ impl Turning {
             (line_told K.lines K.faults key.old) (line_told K.lines K.faults key.new) }
         ensures none { self.old.key ≡ None → (self.new.key ≡ None) × (key.new ≡ key.old) × (reports_in result ≡ []) }
         ensures rest { (self.new.words ≡ self.old.words) × (self.new.ticks ≡ self.old.ticks)
-            × (self.new.hosts ≡ self.old.hosts) × (self.new.failed ≡ self.old.failed) }
+            × (self.new.hosts ≡ self.old.hosts) × (self.new.failed ≡ self.old.failed)
+            × (self.new.meter ≡ self.old.meter) }
     {
         match &mut self.key {
             None => KeyReports::NOTHING,
@@ -362,7 +401,8 @@ impl Turning {
             (line_told K.lines K.faults key.old) (line_told K.lines K.faults key.new) }
         ensures none { self.old.key ≡ None → (self.new.key ≡ None) × (key.new ≡ key.old) × (reports_in result ≡ []) }
         ensures rest { (self.new.words ≡ self.old.words) × (self.new.ticks ≡ self.old.ticks)
-            × (self.new.hosts ≡ self.old.hosts) × (self.new.failed ≡ self.old.failed) }
+            × (self.new.hosts ≡ self.old.hosts) × (self.new.failed ≡ self.old.failed)
+            × (self.new.meter ≡ self.old.meter) }
     {
         match &mut self.key {
             None => KeyReports::NOTHING,
@@ -377,10 +417,11 @@ impl Turning {
         output: &O,
         key: &mut K,
     )
-        ensures { (from : From) (live : Live) (report : Stream)
+        ensures released { (from : From) (live : Live) (report : Stream)
             → KeyedSince from self.old live (stream_of O.written O.faults output.now) report
             (line_told K.lines K.faults key.old)
             → IsReleasedSince from self.old.words.key live (line_told K.lines K.faults key.new) }
+        ensures meter { self.new.meter ≡ self.old.meter }
     {
         release_key(rt, &mut self.key, output, key);
     }
@@ -402,7 +443,7 @@ impl Turning {
             (told_by N.polls N.sends N.sent N.is_shut N.faults ports.new)) }
         ensures unwritten { OnErr result ((report.new ≡ report.old) × (self.new.failed ≡ self.old.failed)) }
         ensures rest { (self.new.words ≡ self.old.words) × (self.new.ticks ≡ self.old.ticks)
-            × (self.new.key ≡ self.old.key) }
+            × (self.new.key ≡ self.old.key) × (self.new.meter ≡ self.old.meter) }
         ensures listens { N.listens ports.new ≡ N.listens ports.old }
         ensures dials { N.dials ports.new ≡ N.dials ports.old }
         ensures later { N.faults ports.old ≤ N.faults ports.new }
@@ -468,6 +509,24 @@ impl Turning {
             Err(_) => Modulus::Eight,
         }
     }
+}
+
+/// Counts a tick, and answers what the report is told after so many, if so many samples were alike before it.
+fn tell_health(
+    health: &mut Health,
+    alike: u64,
+    hosts: &HostSide,
+    seconds: Option<u32>,
+    busy: bool,
+    sent: bool,
+    ticks: u64,
+) -> HealthNotes
+    ensures { (state : Hosts) (printed : List ReportLine) → StandsFor hosts.now printed state
+        → (result ≡ notes_of seconds ticks alike (standing_of state) (after_tick busy sent health.old))
+        × (health.new ≡ after_notes seconds ticks (standing_of state) (after_tick busy sent health.old)) }
+{
+    health.tick(busy, sent);
+    health.tell(seconds, ticks, alike, hosts.standing())
 }
 
 /// A line for each gap.

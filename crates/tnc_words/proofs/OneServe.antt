@@ -31,6 +31,7 @@ one_serve_options found serve other h k =
       dcd = serve.dcd;
       sensitive = serve.sensitive;
       monitor = serve.monitor;
+      stats = serve.stats;
       ptt = serve.ptt;
     })
     (one_number _ _ _ _ _ _ h.paclen k.paclen)
@@ -39,11 +40,20 @@ one_serve_options found serve other h k =
       dcd = serve.dcd;
       sensitive = serve.sensitive;
       monitor = serve.monitor;
+      stats = serve.stats;
       ptt = serve.ptt;
     })
     (one_digi _ serve.digi other.digi h.digi k.digi)
-    ∙ ap (λ v. record other { dcd = v; sensitive = serve.sensitive; monitor = serve.monitor; ptt = serve.ptt })
+    ∙ ap (λ v. record other {
+      dcd = v;
+      sensitive = serve.sensitive;
+      monitor = serve.monitor;
+      stats = serve.stats;
+      ptt = serve.ptt;
+    })
     (one_dcd _ serve.dcd other.dcd h.dcd k.dcd)
-    ∙ ap (λ v. record other { sensitive = v; monitor = serve.monitor; ptt = serve.ptt }) (h.sensitive ∙ sym k.sensitive)
-    ∙ ap (λ v. record other { monitor = v; ptt = serve.ptt }) (h.monitor ∙ sym k.monitor)
+    ∙ ap (λ v. record other { sensitive = v; monitor = serve.monitor; stats = serve.stats; ptt = serve.ptt })
+    (h.sensitive ∙ sym k.sensitive)
+    ∙ ap (λ v. record other { monitor = v; stats = serve.stats; ptt = serve.ptt }) (h.monitor ∙ sym k.monitor)
+    ∙ ap (λ v. record other { stats = v; ptt = serve.ptt }) (named_number _ _ _ serve.stats other.stats h.stats k.stats)
     ∙ ap (λ v. record other { ptt = v }) (one_ptt _ _ _ serve.ptt other.ptt h.ptt k.ptt)

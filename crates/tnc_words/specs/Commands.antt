@@ -102,8 +102,8 @@ pub record IsBench (words : List Text) (bench : BenchOptions) : Type 0 where
   pub options : HasBenchOptions (bench_rows words) bench
 
 -- The options of serve. If no others were given, the ports are 8001 for KISS and 8000 for AGWPE at 127.0.0.1, the seed is
--- not named, a packet of a host's data has 256 octets, and a channel is busy by the tones of another station. Nothing is
--- keyed if no port of rigctld was given.
+-- not named, a packet of a host's data has 256 octets, a channel is busy by the tones of another station, and the report
+-- has no lines of counts. Nothing is keyed if no port of rigctld was given.
 pub record HasServeOptions (found : List Row) (serve : ServeOptions) : Type 0 where
   pub kiss : HasPort (first_of (codes "kiss") found) 8001 serve.kiss
   pub agw : HasPort (first_of (codes "agw") found) 8000 serve.agw
@@ -116,6 +116,7 @@ pub record HasServeOptions (found : List Row) (serve : ServeOptions) : Type 0 wh
   pub dcd : HasDcd (first_of (codes "dcd") found) serve.dcd
   pub sensitive : serve.sensitive ≡ is_used (codes "sensitive") found
   pub monitor : serve.monitor ≡ is_used (codes "monitor") found
+  pub stats : NamesNumber (first_of (codes "stats") found) 1 86400 serve.stats
   pub ptt : HasPtt (first_of (codes "ptt") found) (first_of (codes "ptt-tail") found) (is_used (codes "ptt-data") found)
       serve.ptt
 

@@ -198,6 +198,8 @@ pub struct ServeOptions {
     pub sensitive: bool,
     /// Each frame that is heard or sent is reported in a line.
     pub monitor: bool,
+    /// After how many seconds each the report has a line of counts, 1 to 86,400, if it has.
+    pub stats: Option<u32>,
     /// How the transmitter is keyed, if it is.
     pub ptt: Option<PttOptions>,
 }

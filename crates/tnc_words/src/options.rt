@@ -63,7 +63,7 @@ pub(crate) const BENCH: [Entry; 6] = [
 ];
 
 /// The options of `serve`.
-pub(crate) const SERVE: [Entry; 23] = [
+pub(crate) const SERVE: [Entry; 24] = [
     Entry::Value("kiss"),
     Entry::Value("agw"),
     Entry::Value("bind"),
@@ -84,6 +84,7 @@ pub(crate) const SERVE: [Entry; 23] = [
     Entry::Value("dcd"),
     Entry::Flag("sensitive"),
     Entry::Flag("monitor"),
+    Entry::Value("stats"),
     Entry::Value("ptt"),
     Entry::Value("ptt-tail"),
     Entry::Flag("ptt-data"),

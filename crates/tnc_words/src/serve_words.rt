@@ -7,6 +7,7 @@ ghost use Rattle.tnc_words.specs.declared.command.PttOptions.{PttOptions};
 ghost use Rattle.tnc_words.specs.declared.command.ServeOptions.{ServeOptions};
 ghost use Rattle.tnc_words.specs.Carriers.{HasDcd};
 ghost use Rattle.tnc_words.specs.Keys.{HasPtt};
+ghost use Rattle.tnc_words.specs.Numbers.{NamesNumber};
 ghost use Rattle.tnc_words.specs.Ports.{HasAddress, HasPort};
 ghost use Rattle.tnc_words.specs.Commands.{HasServeOptions, IsServe, first_word};
 
@@ -43,6 +44,12 @@ const PACLEN: Bounds = Bounds {
 const TAIL: Bounds = Bounds {
     least: 0,
     greatest: 500,
+};
+
+/// The seconds between two lines of counts: at most a day.
+const SECONDS: Bounds = Bounds {
+    least: 1,
+    greatest: 86_400,
 };
 
 /// How many flags in a row make a channel busy.
@@ -82,6 +89,7 @@ fn serve_options(found: &ArgMatches) -> Option<ServeOptions>
         dcd: dcd(text_of(found, "dcd"))?,
         sensitive: has_flag(found, "sensitive"),
         monitor: has_flag(found, "monitor"),
+        stats: seconds(text_of(found, "stats"))?,
         ptt: ptt(
             text_of(found, "ptt"),
             text_of(found, "ptt-tail"),
@@ -113,6 +121,18 @@ fn address(text: Option<&str>) -> Option<Ipv4Addr>
         return Some(Ipv4Addr::new(127, 0, 0, 1));
     };
     text.parse().ok()
+}
+
+/// The seconds that a text says, or none if there is no text.
+fn seconds(text: Option<&str>) -> Option<Option<u32>>
+    ensures seconds { IfSome result (NamesNumber (option_map (λ t. t.now) text.entry) 1 86400) }
+    ensures none { IsNone result → (seconds : Option ℕ)
+        → ¬ NamesNumber (option_map (λ t. t.now) text.entry) 1 86400 seconds }
+{
+    let Some(text) = text else {
+        return Some(None);
+    };
+    Some(Some(number_within(text, SECONDS)? as u32))
 }
 
 /// How the transmitter is keyed, as the texts of a port and of a tail say: by nothing if there is no port, and then there

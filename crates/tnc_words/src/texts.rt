@@ -22,7 +22,7 @@ A software terminal node controller for packet radio: AX.25 over the tones of Be
   tnc serve [--kiss port] [--agw port] [--bind A.B.C.D] [--seed n] [--mode name]
             [--window n] [--wide] [--wide-window n] [--t1 n] [--retries n] [--txdelay n]
             [--txtail n] [--persist n] [--slot n] [--duplex] [--paclen n] [--digi call]
-            [--dcd how] [--sensitive] [--monitor]
+            [--dcd how] [--sensitive] [--monitor] [--stats n]
             [--ptt n] [--ptt-tail n] [--ptt-data]
   tnc record [--keep n] [--sensitive]
   tnc call --agw n --from call --to call [--via calls] [--expect n] [--polls n]
@@ -109,7 +109,7 @@ const SERVE: &str = "\
 Usage: tnc serve [--kiss port] [--agw port] [--bind A.B.C.D] [--seed n] [--mode name]
                  [--window n] [--wide] [--wide-window n] [--t1 n] [--retries n] [--txdelay n]
                  [--txtail n] [--persist n] [--slot n] [--duplex] [--paclen n] [--digi call]
-                 [--dcd how] [--sensitive] [--monitor]
+                 [--dcd how] [--sensitive] [--monitor] [--stats n]
                  [--ptt n] [--ptt-tail n] [--ptt-data]
 
 Runs a station until its sound ends: it hears standard input, sends standard output, and serves host programs.
@@ -134,6 +134,7 @@ Runs a station until its sound ends: it hears standard input, sends standard out
   --dcd how        by what the channel is busy: tones, or so many flags in a row, 1 to 8 (tones)
   --sensitive      hears in more noise and where the sender's clock is off, and takes longer
   --monitor        tells each frame that is heard or sent on standard error
+  --stats n        tells each n seconds what the station counted, on standard error, 1 to 86400
   --ptt n          keys the transmitter by rigctld, the daemon of hamlib, at this port of 127.0.0.1, 1 to 65535
   --ptt-tail n     ticks of 10 ms that the key stays on after the last sound, 0 to 500 (70); with --ptt
   --ptt-data       keys for the sound of the radio's data socket, and not of its microphone; with --ptt

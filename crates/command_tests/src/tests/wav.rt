@@ -254,3 +254,20 @@ fn the_rate_is_told_once_the_format_was_read(rt: HostRuntime) {
         assert_equal(&rt, &reader.finish(), &Ok(()));
     }
 }
+
+// None before the data; in it, whole samples up to its end, but none in the middle of a sample.
+#[test]
+fn whole_samples_are_taken_at_once(rt: HostRuntime) {
+    let mut reader = WavIn::new();
+    assert_equal(&rt, &reader.take_pairs(&WRITTEN), &0);
+    for octet in &WRITTEN[..44] {
+        assert!(rt; reader.push(*octet).is_ok());
+    }
+    assert_equal(&rt, &reader.take_pairs(&WRITTEN[44..47]), &2);
+    assert_equal(&rt, &reader.push(WRITTEN[46]), &Ok(None));
+    assert_equal(&rt, &reader.take_pairs(&WRITTEN[47..]), &0);
+    assert_equal(&rt, &reader.push(WRITTEN[47]), &Ok(Some(SAMPLES[1])));
+    assert_equal(&rt, &reader.take_pairs(&WRITTEN), &10);
+    assert_equal(&rt, &reader.finish(), &Ok(()));
+    assert_equal(&rt, &reader.take_pairs(&WRITTEN), &0);
+}

@@ -1,5 +1,6 @@
 //! The live side, part by part and as a whole, over sockets in memory and on loopback.
 
+mod health;
 mod held_input;
 mod host_side;
 mod keyed;

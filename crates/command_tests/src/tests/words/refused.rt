@@ -173,6 +173,13 @@ x
 --retries 21
 --retries +3
 --retries 3x
+--stats
+--stats=
+--stats 0
+--stats 86401
+--stats +10
+--stats 10s
+--stats 10 --stats 10
 --retries 3 --retries 3
 --txdelay 256
 --txdelay -1

@@ -41,6 +41,7 @@ const SERVE: ServeOptions = ServeOptions {
     dcd: Dcd::Tones,
     sensitive: false,
     monitor: false,
+    stats: None,
     ptt: None,
 };
 
@@ -189,6 +190,20 @@ fn serve_takes_what_its_station_does(rt: HostRuntime) -> Result<(), Fail> {
         ),
         ("--dcd tones", SERVE),
         ("--dcd=tones", SERVE),
+        (
+            "--stats 1",
+            ServeOptions {
+                stats: Some(1),
+                ..SERVE
+            },
+        ),
+        (
+            "--stats=086400",
+            ServeOptions {
+                stats: Some(86_400),
+                ..SERVE
+            },
+        ),
         ("--sensitive", sensitive),
         ("--monitor", monitor),
         (

@@ -5,6 +5,7 @@ use super::script::{Script, came};
 use crate::assertions::assert_equal;
 use link_machine::Params;
 use station::{Config, PortKind};
+use station_tests::message;
 use std::alloc::Global;
 use std::net::Net;
 use std::process::Abort;
@@ -50,6 +51,14 @@ impl Desk {
         for times in frames {
             self.hear(*times)?;
             self.side.part(rt, &mut self.live.ports)?;
+        }
+        Ok(())
+    }
+
+    /// So many ticks of a free channel.
+    fn ticks(&mut self, count: u32) -> Result<(), OutOfMemory> {
+        for _ in 0..count {
+            self.side.tick(false)?;
         }
         Ok(())
     }
@@ -157,4 +166,36 @@ fn a_line_is_noted(rt: HostRuntime) -> Result<(), Fail> {
     let mut desk = Desk::new(alloc, Script::new(alloc).taking(0)?)?;
     desk.side.note(ReportLine::ClosedLine { id: 9 })?;
     assert_closed(&rt, &mut desk, "9 ")
+}
+
+/// Hosts 5 and 2 join, and 5 registers N7LEM; later 2 asks for it.
+fn a_call_for_two(alloc: Global) -> Result<Script, Fail> {
+    let call = message(alloc, b'X', ["N7LEM", ""], b"")?;
+    let mut script = Script::new(alloc);
+    script.joins(0, 5, PortKind::Agw)?;
+    script.joins(0, 2, PortKind::Agw)?;
+    script.brings(0, 5, &call)?;
+    script.brings(1, 2, &call)?;
+    Ok(script)
+}
+
+/// Each row: how many ticks nothing comes from the host that has the call, the `closed` lines when another one asks for
+/// it, and the answers to both.
+const SILENCES: &[(u32, &str, &str)] = &[
+    (5999, "", "1:5:37 2:2:37 "),
+    (6000, "5 ", "1:5:37 2:2:37 "),
+];
+
+#[test]
+fn a_call_passes_from_a_silent_host(rt: HostRuntime) -> Result<(), Fail> {
+    for (ticks, closed, sends) in SILENCES {
+        let live = a_call_for_two(rt.alloc())?.failing(&[])?;
+        let mut desk = Desk::new(rt.alloc(), live)?;
+        desk.turns(&rt, &[0])?;
+        desk.ticks(*ticks)?;
+        desk.turns(&rt, &[0])?;
+        assert_closed(&rt, &mut desk, *closed)?;
+        assert_sends(&rt, &desk, *sends)?;
+    }
+    Ok(())
 }

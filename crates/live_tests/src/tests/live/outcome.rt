@@ -29,6 +29,7 @@ pub(super) fn words(monitor: bool, sensitive: bool) -> ServeWords
         config: Config::new(Params::default(), None),
         dcd: Detection::Tones,
         monitor,
+        stats: None,
         sensitive,
         key: None,
     }

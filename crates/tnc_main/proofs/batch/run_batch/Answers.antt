@@ -1,5 +1,5 @@
 use Rattle.tnc_main.proofs.Common.{◌≡◌, ◌≤◌, [], ◌++◌, Some, None, Err, IfErr, map, string_bytes, append-nil, inl, inr}
-use Rattle.tnc_main.proofs.Common.{refl, sym, subst, ap, ◌∙◌, arith, true≢false, is_some, Bench, Decode, Loop, Asks}
+use Rattle.tnc_main.proofs.Common.{refl, sym, subst, ap, ◌∙◌, arith, true≢false, is_some, Bench, Loop, Asks}
 use Rattle.tnc_main.proofs.Common.{one_command, TooLong, IsReportOf, Done, WriteFault, Input, IsFaultless, Makes, Reads}
 use Rattle.tnc_main.proofs.Common.{ReadsNothing, fault_of, command_of, WritesAtEnd, IsCaused, Leaves, Tells, Writes}
 use Rattle.tnc_main.proofs.Common.{code_of, CanRun, IsStopOfRun, status_of}
@@ -10,7 +10,7 @@ use Rattle.tnc_main.proofs.Statuses.{at_bad_input, at_done, at_not_quiet, at_rea
 use Rattle.tnc_main.proofs.Statuses.{status_done, up_to_eight}
 use Rattle.tnc_main.proofs.CommandLemmas.{last as last_of}
 use Rattle.tnc_main.proofs.Jobs.{same_command, reads, for_job}
-use Rattle.tnc_main.proofs.TextLemmas.{long_fault, near_text}
+use Rattle.tnc_main.proofs.TextLemmas.{done_text, long_fault, near_text, repaired_text, units_text}
 use Rattle.tnc_main.proofs.Writing.{told_writes}
 use Rattle.tnc_main.proofs.DecodeWriting.{unread}
 use Rattle.tnc_main.proofs.Telling.{caused, ends_well, leaves, tells}
@@ -71,17 +71,39 @@ returns-in-Ok-clause-heard g c = λ job decode received before is clean was zero
     let mine = reads (map string_bytes c.args.words.now) (g.I.Source.left c.args.input.now)
     c.code.result c.in-Ok.command c.explained.result c.in-Ok.ensures.asks c.code.ensures job in
     let made = c.perform-end.ensures.written job.octets before mine was in
-    let done : Done ≡ status_of c.perform-end.result =
-    sym (status_done c.perform-end.result (at_done c.perform-end.result c.explained.result c.explained.ensures.ends
-    (sym c.code.ensures ∙ zero))) in
-    let decoded : Makes c.in-Ok.command job.octets made.0 =
-    subst (λ status. Writes c.in-Ok.command job.octets (g.I.Source.left c.perform-end.new.input) status made.0)
-    (sym done) made.1 in
-    let text : Makes (Decode decode) job.octets made.0 =
-    subst (λ command. Makes command job.octets made.0)
+    let text = done_text c.in-Ok.command decode job.octets made.0 (g.I.Source.left c.perform-end.new.input)
+    (status_of c.perform-end.result)
+    (sym (status_done c.perform-end.result (at_done c.perform-end.result c.explained.result c.explained.ensures.ends
+    (sym c.code.ensures ∙ zero))))
     (sym (same_command (map string_bytes c.args.words.now) (g.I.Source.left c.args.input.now)
-    c.code.result c.in-Ok.command c.explained.result c.in-Ok.ensures.asks c.code.ensures job) ∙ is) decoded in
+    c.code.result c.in-Ok.command c.explained.result c.in-Ok.ensures.asks c.code.ensures job) ∙ is) made.1 in
     made.2 ∙ ap (λ t. Some (before ++ t)) (near_text decode received job.octets made.0 clean text)
+
+pub returns-in-Ok-clause-heard_in_blocks : goal.returns-in-Ok-clause-heard_in_blocks
+returns-in-Ok-clause-heard_in_blocks g c = λ job decode units before is asked carries was zero.
+    let mine = reads (map string_bytes c.args.words.now) (g.I.Source.left c.args.input.now)
+    c.code.result c.in-Ok.command c.explained.result c.in-Ok.ensures.asks c.code.ensures job in
+    let made = c.perform-end.ensures.written job.octets before mine was in
+    let text = done_text c.in-Ok.command decode job.octets made.0 (g.I.Source.left c.perform-end.new.input)
+    (status_of c.perform-end.result)
+    (sym (status_done c.perform-end.result (at_done c.perform-end.result c.explained.result c.explained.ensures.ends
+    (sym c.code.ensures ∙ zero))))
+    (sym (same_command (map string_bytes c.args.words.now) (g.I.Source.left c.args.input.now)
+    c.code.result c.in-Ok.command c.explained.result c.in-Ok.ensures.asks c.code.ensures job) ∙ is) made.1 in
+    made.2 ∙ ap (λ t. Some (before ++ t)) (units_text decode units job.octets made.0 asked carries text)
+
+pub returns-in-Ok-clause-repaired : goal.returns-in-Ok-clause-repaired
+returns-in-Ok-clause-repaired g c = λ job decode received before is asked near was zero.
+    let mine = reads (map string_bytes c.args.words.now) (g.I.Source.left c.args.input.now)
+    c.code.result c.in-Ok.command c.explained.result c.in-Ok.ensures.asks c.code.ensures job in
+    let made = c.perform-end.ensures.written job.octets before mine was in
+    let text = done_text c.in-Ok.command decode job.octets made.0 (g.I.Source.left c.perform-end.new.input)
+    (status_of c.perform-end.result)
+    (sym (status_done c.perform-end.result (at_done c.perform-end.result c.explained.result c.explained.ensures.ends
+    (sym c.code.ensures ∙ zero))))
+    (sym (same_command (map string_bytes c.args.words.now) (g.I.Source.left c.args.input.now)
+    c.code.result c.in-Ok.command c.explained.result c.in-Ok.ensures.asks c.code.ensures job) ∙ is) made.1 in
+    made.2 ∙ ap (λ t. Some (before ++ t)) (repaired_text decode received job.octets made.0 asked near text)
 
 pub returns-in-Ok-clause-looped : goal.returns-in-Ok-clause-looped
 returns-in-Ok-clause-looped g c = λ loop is.

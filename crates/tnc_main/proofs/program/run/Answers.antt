@@ -48,6 +48,14 @@ pub returns-in-Err-clause-heard : goal.returns-in-Err-clause-heard
 returns-in-Err-clause-heard g c = λ job.
     absurd (no_job (map string_bytes c.args.words.now) c.in-Err.command c.in-Err.ensures.live _ _ job)
 
+pub returns-in-Err-clause-heard_in_blocks : goal.returns-in-Err-clause-heard_in_blocks
+returns-in-Err-clause-heard_in_blocks g c = λ job.
+    absurd (no_job (map string_bytes c.args.words.now) c.in-Err.command c.in-Err.ensures.live _ _ job)
+
+pub returns-in-Err-clause-repaired : goal.returns-in-Err-clause-repaired
+returns-in-Err-clause-repaired g c = λ job.
+    absurd (no_job (map string_bytes c.args.words.now) c.in-Err.command c.in-Err.ensures.live _ _ job)
+
 pub returns-in-Err-clause-read : goal.returns-in-Err-clause-read
 returns-in-Err-clause-read g c = λ job.
     absurd (no_job (map string_bytes c.args.words.now) c.in-Err.command c.in-Err.ensures.live _ _ job)

@@ -9,6 +9,7 @@ turns-init g c = (
   c.requires.readers,
   c.requires.detection,
   refl,
+  c.requires.meter,
 )
 
 pub turns-preserved : goal.turns-preserved
@@ -23,6 +24,7 @@ turns-preserved g c = (
   c.in-Ok-false.ensures.readers,
   c.in-Ok-false.ensures.detection ∙ c.turns.invariant.2,
   c.in-Ok-false.ensures.dials ∙ c.turns.invariant.3,
+  c.in-Ok-false.ensures.meter,
 )
 
 pub returns-in-Ok-true-clause-run : goal.returns-in-Ok-true-clause-run

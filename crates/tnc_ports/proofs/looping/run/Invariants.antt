@@ -15,3 +15,4 @@ invariant-turns g l =
     × All (λ reader. reader_ring reader ≡ ring_id l.ring) (readers_in l.receiver)
     × (l.receiver.detection ≡ l.initial.turning.words.dcd)
     × (g.N.Ports.dials l.ports ≡ g.N.Ports.dials l.initial.ports)
+    × (reader_ring l.turning.meter.reader ≡ ring_id l.ring)

@@ -16,7 +16,7 @@ close-history-requires-clause-readers c =
     rings_are c.args.ring c.args.listening c.push_reserved.new.self.items
     (all_are c.args.listening c.args.room.items c.finish-readers.result.items c.truncate.new.self.items
     c.append.new.self.items c.push_reserved.new.self.items c.finish.result c.append.result c.requires.empty
-    c.finish-readers.ensures c.truncate.ensures.items
+    c.finish-readers.ensures.items c.truncate.ensures.items
     (c.append.ensures.succeeds (room_fits _ _ _ _ c.args.room.items c.requires.empty c.args.room.ok.0
     c.truncate.ensures.len c.requires.room)) c.append.ensures.items c.finish.ensures c.push_reserved.ensures.items)
     c.requires.readers
@@ -29,7 +29,7 @@ returns c = λ input left recording pumps answered.
     c.close-history.ensures.records ∙ records_are listening c.push_reserved.new.self.items
     (all_are listening c.args.room.items c.finish-readers.result.items c.truncate.new.self.items
     c.append.new.self.items c.push_reserved.new.self.items c.finish.result c.append.result c.requires.empty
-    c.finish-readers.ensures c.truncate.ensures.items
+    c.finish-readers.ensures.items c.truncate.ensures.items
     (c.append.ensures.succeeds (room_fits _ _ _ _ c.args.room.items c.requires.empty c.args.room.ok.0
     c.truncate.ensures.len c.requires.room)) c.append.ensures.items c.finish.ensures
     c.push_reserved.ensures.items) in

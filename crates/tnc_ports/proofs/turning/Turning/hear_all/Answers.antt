@@ -3,7 +3,7 @@ use Rattle.tnc_ports.proofs.LiveSteps.{hears_none, hears_next, hears_done, hears
 use Rattle.tnc_ports.proofs.turning.Turning.hear_all.Goals as goal
 
 pub loop-item-init : goal.loop-item-init
-loop-item-init g c = ((λ hosts keeps. hears_none c.args.self.now c.args.items.now hosts _ keeps), refl, refl, refl)
+loop-item-init g c = ((λ hosts keeps. hears_none c.args.self.now c.args.items.now hosts _ keeps), refl, refl, refl, refl)
 
 pub loop-item-preserved : goal.loop-item-preserved
 loop-item-preserved g c = (
@@ -15,6 +15,7 @@ loop-item-preserved g c = (
   c.in_ok-hear.ensures.rest.0 ∙ c.loop-item.invariant.1,
   c.in_ok-hear.ensures.rest.1 ∙ c.loop-item.invariant.2,
   c.in_ok-hear.ensures.rest.2 ∙ c.loop-item.invariant.3,
+  c.in_ok-hear.ensures.rest.3 ∙ c.loop-item.invariant.4,
 )
 
 pub returns-in_err-hear-clause-cut : goal.returns-in_err-hear-clause-cut
@@ -30,6 +31,7 @@ returns-in_err-hear-clause-rest g c = (
   c.in_err-hear.ensures.rest.0 ∙ c.loop-item.invariant.1,
   c.in_err-hear.ensures.rest.1 ∙ c.loop-item.invariant.2,
   c.in_err-hear.ensures.rest.2 ∙ c.loop-item.invariant.3,
+  c.in_err-hear.ensures.rest.3 ∙ c.loop-item.invariant.4,
 )
 
 pub returns-clause-heard : goal.returns-clause-heard

@@ -8,4 +8,4 @@ invariant-loop-item g l =
     → HearsFrames (take l.item-index l.items) l.initial.self l.self hosts
     (stream_of g.E.Sink.written g.E.Sink.faults l.initial.report) (stream_of g.E.Sink.written g.E.Sink.faults l.report))
     × (l.self.words ≡ l.initial.self.words) × (l.self.ticks ≡ l.initial.self.ticks)
-    × (l.self.key ≡ l.initial.self.key)
+    × (l.self.key ≡ l.initial.self.key) × (l.self.meter ≡ l.initial.self.meter)

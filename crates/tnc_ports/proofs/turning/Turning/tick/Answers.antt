@@ -1,16 +1,21 @@
 use Rattle.key_port.specs.KeySides.{reports_in}
 use Rattle.key_port.specs.KeyTasks.{line_told}
 use Rattle.tnc_ports.proofs.Common.{◌++◌, ap, refl, sym, subst, ◌∙◌, ◌+◌, StandsFor, report_text}
-use Rattle.tnc_ports.proofs.Common.{Bool, Puts, key_line, map, stream_of}
+use Rattle.tnc_ports.proofs.Common.{Bool, Puts, key_line, map, ring_len, stream_of}
 use Rattle.tnc_ports.specs.SampledHeld.{KeyStands}
-use Rattle.tnc_ports.proofs.LiveSteps.{AreTakenLines}
+use Rattle.tnc_ports.specs.declared.meter.Meter.{Meter}
+use Rattle.tnc_ports.proofs.LiveMeter.{tick_read, tick_told}
+use Rattle.tnc_ports.proofs.LiveSteps.{AreTakenLines, on_err}
 use Rattle.tnc_ports.proofs.LiveTicks.{ticks_once}
 use Rattle.tnc_ports.proofs.turning.Turning.tick.Goals as goal
 
 pub returns-clause-ticked : goal.returns-clause-ticked
-returns-clause-ticked g c = λ from live keeps at key.
+returns-clause-ticked g c = λ from live keeps at measures key.
     let same_words = c.key_written-lost.ensures.rest.0 ∙ c.key_tick-keyed.ensures.rest.0 in
     let same_hosts = c.key_written-lost.ensures.rest.2 ∙ c.key_tick-keyed.ensures.rest.2 in
+    let same_meter = c.key_written-lost.ensures.rest.4 ∙ c.key_tick-keyed.ensures.rest.4 in
+    let read = tick_read (ring_len c.args.ring.now) c.args.tick c.args.self.now.meter c.read_to.new.self
+    c.key_written-lost.new.self.meter live measures at (ap (λ (m : Meter). m.reader) same_meter) c.read_to.ensures.read in
     let out : Puts c.args.self.now.failed c.put.new.failed c.octets_of_samples.result
     (stream_of g.O.Sink.written g.O.Sink.faults c.args.output.now)
     (stream_of g.O.Sink.written g.O.Sink.faults c.put.new.sink) =
@@ -26,11 +31,11 @@ returns-clause-ticked g c = λ from live keeps at key.
     (stream_of g.E.Sink.written g.E.Sink.faults c.put_reports.new.report)
     (stream_of g.E.Sink.written g.E.Sink.faults c.put_reports-2.new.report)) c.key_written-lost.ensures.rest.3
     c.put_reports-2.ensures in
-    ticks_once from c.args.busy c.is_busy-held.result c.in_ok-air.air c.args.self.now _ c.tick.new.self live
+    ticks_once from (ring_len c.args.ring.now) c.args.busy c.is_busy-held.result c.in_ok-air.air c.args.self.now _ c.tick.new.self live
     c.in_ok-shown.shown.items c.take_lines-lines.result.items (reports_in c.key_tick-keyed.result)
     (reports_in c.key_written-lost.result) c.key_tick-keyed.new.self.key c.key_written-lost.new.self.key
-    c.put.new.failed c.put-2.new.failed c.put_reports.new.failed _ _ _ _ _ _ _ _ _ _ _
-    keeps key (c.is_busy-held.ensures live.keyed key.stands) c.in_ok-air.ensures.step
+    c.put.new.failed c.put-2.new.failed c.put_reports.new.failed c.put_reports-2.new.failed _ _ _ _ _ _ _ _ _ _ _ _ _
+    c.tell_health-notes.result _ _ read keeps key (c.is_busy-held.ensures live.keyed key.stands) c.in_ok-air.ensures.step
     (subst (λ held. AreTakenLines c.tick.new.self held c.take_lines-lines.result.items) (sym same_hosts)
     c.take_lines-lines.ensures.taken)
     (λ hosts printed stands. c.in_ok-shown.ensures hosts printed
@@ -48,4 +53,16 @@ returns-clause-ticked g c = λ from live keeps at key.
     (λ none. let still = c.key_written-lost.ensures.none none in
     (still.0, ap (line_told g.K.KeyPort.lines g.K.KeyPort.faults) still.1, still.2))
     out c.put-2.ensures c.put_reports.ensures last
+    (c.deref-4.ensures.value ∙ c.in_ok-told.ensures) c.put-3.ensures
+    (λ hosts printed stands.
+    let told = c.tell_health-notes.ensures hosts printed
+    (subst (λ held. StandsFor held printed hosts) same_hosts stands) in
+    tick_told c.args.self.now.words c.args.busy c.is_some.result read.reads c.in_ok-air.air c.args.tick
+    c.args.self.now.meter.health c.read_to.new.self.health _ live hosts c.tell_health-notes.result measures.health
+    read.counted at c.is_some.ensures
+    (told.0, ap (λ (m : Meter). m.health) same_meter ∙ told.1))
     same_words refl (ap (λ n. n + 1) at) c.octets_of_samples.ensures.size
+
+pub returns-in_err-air-clause-measured : goal.returns-in_err-air-clause-measured
+returns-in_err-air-clause-measured g c =
+    on_err c.from_residual.result _ (c.read_to.ensures.read.0, c.read_to.ensures.read.2)

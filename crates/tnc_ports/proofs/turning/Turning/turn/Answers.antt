@@ -16,7 +16,7 @@ returns-in_err-serve_hosts-clause-cut g c = λ from live stands key.
     (c.in_ok-ended.ensures.made from live stands key) c.in_err-serve_hosts.ensures.unwritten.1
     c.in_err-serve_hosts.ensures.rest.0 c.in_err-serve_hosts.ensures.rest.2
     (ap (stream_of g.E.Sink.written g.E.Sink.faults) c.in_err-serve_hosts.ensures.unwritten.0)
-    c.in_err-serve_hosts.ensures.cut)
+    c.in_err-serve_hosts.ensures.cut c.in_err-serve_hosts.ensures.rest.3)
 
 pub returns-clause-turned : goal.returns-clause-turned
 returns-clause-turned g c = λ from live stands key.
@@ -25,4 +25,4 @@ returns-clause-turned g c = λ from live stands key.
     (stream_of g.E.Sink.written g.E.Sink.faults c.make.new.report) _ _ _ _
     (c.in_ok-ended.ensures.made from live stands key) c.in_ok-serve_hosts.ensures.served
     c.in_ok-serve_hosts.ensures.rest.1 c.in_ok-ended.ensures.words c.in_ok-serve_hosts.ensures.rest.0
-    c.in_ok-serve_hosts.ensures.rest.2
+    c.in_ok-serve_hosts.ensures.rest.2 c.in_ok-serve_hosts.ensures.rest.3
