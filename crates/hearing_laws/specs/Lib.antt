@@ -1,0 +1,3 @@
+pub mod HeardInRun
+pub mod ClearSamples
+pub mod HearingLaw

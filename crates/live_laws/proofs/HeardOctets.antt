@@ -1,0 +1,59 @@
+-- What a receiver hears are frames, so each has octets.
+use Rattle.tnc_ports.proofs.Common.{◌<◌, Bool, true, false, List, [], ◌∷◌, ◌++◌, cond, sym, subst, inl, inr}
+use Rattle.tnc_ports.proofs.Common.{Got, Candidate, list_any}
+use Rattle.std.specs.Prelude.{All, filter}
+use Rattle.std.specs.List.{AllByRecursion as Each}
+use Rattle.std.proofs.lemmas.List.Elements.{recursion_from_All}
+use Rattle.link_world.proofs.law.Each.{each_weaker}
+use Rattle.frame_merge.specs.Merged.{merged, merged_after, repeats}
+use Rattle.ring_receiver.specs.HeardByAll.{AreDueBy, IsHeardBy}
+
+abbrev pub HasFrame : Candidate → Type 0
+HasFrame item = All (λ octet. octet < 256) item.octets
+
+heard_frame : (sensitive : Bool) (lanes : List (List Got)) (item : Candidate) → IsHeardBy sensitive lanes item
+    → HasFrame item
+heard_frame false lanes item h = h.heard.ends.frame.2.octets_fit
+heard_frame true lanes item (inl h) = h.heard.ends.frame.2.octets_fit
+heard_frame true lanes item (inr h) =
+    subst HasFrame (sym h.item_is) h.added.ends.frame.2.octets_fit
+
+all_frames : (sensitive : Bool) (lanes : List (List Got)) (items : List Candidate)
+    → All (IsHeardBy sensitive lanes) items → Each HasFrame items
+all_frames sensitive lanes items h =
+    each_weaker (IsHeardBy sensitive lanes) HasFrame (heard_frame sensitive lanes) items
+    (recursion_from_All (IsHeardBy sensitive lanes) items h)
+
+merged_frames : (earlier items : List Candidate) → Each HasFrame items → Each HasFrame (merged_after earlier items)
+merged_frames earlier [] h = tt
+merged_frames earlier (item ∷ items) h =
+    go (list_any (repeats item) earlier) (merged_frames (earlier ++ item ∷ []) items h.1)
+  where
+    go : (b : Bool) → Each HasFrame (merged_after (earlier ++ item ∷ []) items)
+        → Each HasFrame (cond b (merged_after (earlier ++ item ∷ []) items)
+        (item ∷ merged_after (earlier ++ item ∷ []) items))
+    go true rest = rest
+    go false rest = (h.0, rest)
+
+filter_frames : (p : Candidate → Bool) (items : List Candidate) → Each HasFrame items → Each HasFrame (filter p items)
+filter_frames p [] h = tt
+filter_frames p (item ∷ items) h = go (p item) (filter_frames p items h.1)
+  where
+    go : (b : Bool) → Each HasFrame (filter p items) → Each HasFrame (cond b (item ∷ filter p items) (filter p items))
+    go true rest = (h.0, rest)
+    go false rest = rest
+
+pub due_frames : (sensitive ended : Bool) (before now : List (List Got)) (items : List Candidate)
+    → AreDueBy sensitive ended before now items → Each HasFrame items
+due_frames sensitive false before now items due =
+    subst (Each HasFrame) (sym due.is)
+    (filter_frames _ (merged due.candidates)
+    (merged_frames [] due.candidates (all_frames sensitive now due.candidates due.are.each)))
+due_frames sensitive true before now items due =
+    subst (Each HasFrame) (sym due.is)
+    (filter_frames _ (merged due.candidates)
+    (merged_frames [] due.candidates (all_frames sensitive now due.candidates due.are.each)))
+
+pub each_first : (P : Candidate → Type 0) (first second : List Candidate) → Each P (first ++ second) → Each P first
+each_first P [] second h = tt
+each_first P (item ∷ first) second h = (h.0, each_first P first second h.1)

@@ -1,0 +1,16 @@
+pub mod Delivering
+pub mod Connections
+pub mod Strangers
+pub mod Accounts
+pub mod Speaks
+pub mod HeardOctets
+pub mod Walks
+pub mod RunFacts
+pub mod Standing
+pub mod OwnSends
+pub mod Noted
+pub mod BodyTaken
+pub mod ActsLemmas
+pub mod GivenLemmas
+pub mod Placing
+pub mod LiveLaw

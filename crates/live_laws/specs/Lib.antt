@@ -1,0 +1,10 @@
+pub mod LiveSteps
+pub mod LiveRuns
+pub mod Taken
+pub mod RunLaws
+pub mod Orders
+pub mod HostData
+pub mod HostActs
+pub mod HostGives
+pub mod BodiesGiven
+pub mod LiveLaw
