@@ -512,6 +512,7 @@ if has python3; then
     check "the files to believe are those that the contracts name" scripts/trust_table.py --check
     check "what the documents name is there" scripts/check_docs.py "$tnc"
     check "the pages on clauses and definitions say what the sources have" scripts/check_clauses.py
+    check "the table of coarse counts is that of the tags" scripts/coarse_rows.py --check
     check "scores within their bounds" scripts/scores.py --check --tnc "$tnc"
 else
     skip "the documents show what the program prints" python3

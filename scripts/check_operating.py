@@ -69,10 +69,10 @@ def card(room, called):
     rate = int(rate[1]) if rate else 9600
     heard = f"{TOP}/samples/direwolf-clean.raw"
     if "--ptt" in called:
-        # a station that is to send at once hears nobody
+        # a station that is to send at once hears nobody, but a click each five seconds
         heard = f"{room}/silence.raw"
         with open(heard, "wb") as file:
-            file.write(bytes(192_000))
+            file.write((b"\1\0" + bytes(95_998)) * 2)
     if rate != 9600:
         form = ["-e", "signed", "-b", "16", "-c", "1"]
         words = ["sox", "-q", "-t", "raw", "-r", "9600", *form, heard, "-t", "raw", "-r", str(rate), f"{room}/heard.raw"]

@@ -155,7 +155,7 @@ class Run:
 
     def report(self):
         self.report_file.seek(0)
-        return self.report_file.read().decode().splitlines()
+        return [line for line in self.report_file.read().decode().splitlines() if line != "dead sound"]
 
     def queue(self, *octets):
         self.host.sendall(b"".join(octets))

@@ -73,7 +73,7 @@ class Progress:
         """How far it is: crates done of all, minutes so far, and about how many are left."""
         part = sum(self.lines[it] for it in self.done) / sum(self.lines.values())
         minutes = (self.clock() - self.start) / 60
-        is_known = minutes > 1 and 0.02 < part < 1
+        is_known = minutes > 1 and 0.1 < part < 1
         left = f", about {max(1, round(minutes * (1 - part) / part))} min left" if is_known else ""
         last = f" ({self.last})" if self.last else ""
         return f"{len(self.done)} of {len(self.lines)} crates proved, {minutes:.0f} min so far{left}{last}"

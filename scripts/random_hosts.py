@@ -200,7 +200,7 @@ class Storms:
         fault = ""
         for at, station in enumerate((self.a, self.b)):
             status, _, report = station.end()
-            strange = [line for line in report.splitlines() if not re.fullmatch(r"closed [0-9]+", line)]
+            strange = [line for line in report.splitlines() if not re.fullmatch(r"(closed|dropped) [0-9]+", line)]
             if status != 0:
                 fault = fault or f"status {status}"
             if strange:

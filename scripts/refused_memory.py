@@ -158,7 +158,7 @@ def session(refusing, draws, call, tally):
         return "it does not end", False
     status, _, report = it.a.end()
     other, _, _ = it.b.end()
-    strange = [line for line in report.splitlines() if not line.startswith(("rx ", "tx ", "closed "))]
+    strange = [line for line in report.splitlines() if not line.startswith(("rx ", "tx ", "closed ", "dropped "))]
     if other:
         return f"status {other} of the other station", cut
     if strange:

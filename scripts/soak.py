@@ -540,7 +540,7 @@ class Soak:
         """Ends both stations, and tells what is wrong with them."""
         for station in self.stations:
             status, _, report = station.end()
-            others = [line for line in report.splitlines() if not line.startswith("closed ")]
+            others = [line for line in report.splitlines() if not line.startswith(("closed ", "dropped "))]
             if status or others:
                 yield f"status {status}, report {others[:5]}"
         peak = max(self.peaks, default=0)

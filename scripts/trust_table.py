@@ -32,6 +32,7 @@ PROMISES = [
     ("two links", "link_world/src/laws.rt", "function", "prefix_law"),
     ("two stations", "station_laws/src/laws.rt", "function", "stations_law"),
     ("a call", "call_laws/src/laws.rt", "function", "a_call_prints_what_was_given"),
+    ("two live runs", "live_laws/src/laws.rt", "function", "two_live_runs"),
 ]
 
 WORD = re.compile(r"[^\W\d]\w*")
