@@ -35,7 +35,7 @@ impl Model for WavIn {
 impl WavIn {
     ghost use Rattle.wav_file.specs.declared.fault.WavFault.{WavFault};
     ghost use Rattle.wav_file.specs.declared.rates.Rates.{Rates};
-    ghost use Rattle.wav_file.specs.Held.{StandsFor, Fits, step_of, to_part, made};
+    ghost use Rattle.wav_file.specs.Held.{StandsFor, Fits, step_of, to_part, made, pairs_ahead};
     ghost use Rattle.wav_file.specs.Reading.{samples_in, fault_in, given, rate_in, verdict_of};
     ghost use Rattle.wav_file.specs.Place.{told_place};
     ghost use Rattle.wav_file.specs.Samples.{samples};
@@ -82,9 +82,10 @@ impl WavIn {
     }
 
     /// Takes the octets at the front that are whole samples of the data, and gives how many they are. Their samples are
-    /// those of the octets by twos, which the caller reads. None is taken before the data, in the middle of a sample,
-    /// or of a single octet, so `push` must take what follows.
+    /// those of the octets by twos, which the caller reads. All that are there are taken, but none before the data, in
+    /// the middle of a sample, or of a single octet, so `push` must take what follows.
     pub fn take_pairs(&mut self, octets: &[u8]) -> usize
+        ensures most { result ≡ pairs_ahead self.old.part (length octets.now) }
         ensures count { result ≤ length octets.now }
         ensures stands_for { (rates : Rates) (before : List ℕ) → StandsFor rates self.old before
             → StandsFor rates self.new (before ++ take result octets.now) }

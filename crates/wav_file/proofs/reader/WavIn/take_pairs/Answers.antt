@@ -1,8 +1,8 @@
-use Rattle.std.proofs.Common.{◌≡◌, ◌++◌, ℕ, List, take, refl, subst}
+use Rattle.std.proofs.Common.{◌≡◌, ◌++◌, ℕ, List, length, take, refl, subst}
 use Rattle.wav_file.specs.declared.rates.Rates.{Rates}
 use Rattle.wav_file.specs.Reading.{fault_in, samples_in}
 use Rattle.wav_file.specs.Samples.{samples}
-use Rattle.wav_file.specs.Held.{Held, StandsFor}
+use Rattle.wav_file.specs.Held.{Held, StandsFor, pairs_ahead}
 use Rattle.wav_file.proofs.PairLemmas.{few, samples_after, fault_after, stands_after}
 use Rattle.wav_file.proofs.reader.WavIn.take_pairs.Goals as goal
 
@@ -29,6 +29,7 @@ returns c =
           c.pairs_ahead-count.ensures next refl c.after_pairs-self-inside.ensures refl c.saturating_add-self-inside.ensures,
     )) in
     record {
+      most = subst (λ held. count ≡ pairs_ahead held.part (length octets)) c.self.view_is c.pairs_ahead-count.ensures;
       count = few c.self.inside.part octets count c.pairs_ahead-count.ensures;
       stands_for = λ rates before stands. (told rates before stands).0;
       samples = λ rates before stands. (told rates before stands).1;
