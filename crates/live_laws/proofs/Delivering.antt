@@ -7,11 +7,11 @@ use Rattle.tnc_ports.proofs.Common.{or_parts, Out, Piece, Hosts, without, closin
 use Rattle.tnc_ports.proofs.Common.{waiting_too, fits, appending, appending_one, appending_to}
 use Rattle.tnc_ports.proofs.Common.{closing_one, closing_all, delivering, line_of, is_among, is_line_of, is_there, was_there}
 use Rattle.tnc_ports.proofs.Common.{with_piece, length, most_octets, octets_of, arith, ◌+◌, ◌≤◌}
-use Rattle.tnc_ports.specs.declared.line.Line.{Line}
+use Rattle.host_ports.specs.declared.line.Line.{Line}
 use Rattle.std.specs.List.{AllByRecursion as Each}
 use Rattle.std.proofs.lemmas.Bool.{leb-true}
-use Rattle.tnc_ports.proofs.LineLemmas.{found_id, there_line, waiting_names}
-use Rattle.tnc_ports.proofs.NamedLemmas.{ids_without, lines_without, not_itself}
+use Rattle.host_ports.proofs.LineLemmas.{found_id, there_line, waiting_names}
+use Rattle.host_ports.proofs.NamedLemmas.{ids_without, lines_without, not_itself}
 use Rattle.tnc_ports.proofs.ServedLemmas.{among_snoc}
 use Rattle.call_laws.specs.Client.{pieces_for}
 use Rattle.call_laws.proofs.Sayings.{pieces_both}

@@ -10,9 +10,9 @@ use Rattle.tnc_ports.proofs.Common.{ids_of_lines, after_sending, with_lines, Are
 use Rattle.tnc_ports.proofs.Common.{HearsAll, MakesAll, IsKeyTurn, LanesReadOn, IsTurn, AreTurns, IsRun, IsCutTurn}
 use Rattle.tnc_ports.proofs.Common.{IsCutRun, new_live, new_hosts, TicksKeyIf, TurnsKeyIf}
 use Rattle.tnc_ports.proofs.Common.{Whole, StationState, gap_line, is_held, map, octets_sent}
-use Rattle.tnc_ports.specs.declared.line.Line.{Line}
-use Rattle.tnc_ports.specs.declared.report_line.ReportLine.{ReportLine}
-use Rattle.tnc_ports.specs.declared.untaken.Untaken.{Untaken}
+use Rattle.host_ports.specs.declared.line.Line.{Line}
+use Rattle.host_ports.specs.declared.report_line.ReportLine.{ReportLine}
+use Rattle.host_ports.specs.declared.untaken.Untaken.{Untaken}
 use Rattle.tnc_ports.specs.declared.serve_words.ServeWords.{ServeWords}
 use Rattle.tnc_ports.specs.declared.serve_words.KeyWords.{KeyWords}
 use Rattle.key_port.specs.KeyEvents.{KeyEvent}
@@ -24,13 +24,13 @@ use Rattle.station_laws.specs.JointRun.{HasOctets, Input}
 use Rattle.station_laws.specs.JointRun.Input.{FromHost, OffAir, OfClock}
 use Rattle.station_laws.specs.JointRun.{IsTurn as IsOwnTurn}
 use Rattle.call_laws.specs.Client.{Stays}
-use Rattle.tnc_ports.specs.CutPart.{IsCutPart}
-use Rattle.tnc_ports.specs.HostTurns.{HasJoined, HasLeft, Takes}
-use Rattle.tnc_ports.specs.Hosts.{FirstHasLeft}
+use Rattle.host_ports.specs.CutPart.{IsCutPart}
+use Rattle.host_ports.specs.HostTurns.{HasJoined, HasLeft, Takes}
+use Rattle.host_ports.specs.Hosts.{FirstHasLeft}
 use Rattle.tnc_ports.specs.Sampled.{IsTicked}
 use Rattle.tnc_ports.specs.SampledRun.{AreAskedInTurns}
-use Rattle.tnc_ports.proofs.LeftLemmas.{first_among}
-use Rattle.tnc_ports.proofs.LineLemmas.{found_id, there_line, waiting_names}
+use Rattle.host_ports.proofs.LeftLemmas.{first_among}
+use Rattle.host_ports.proofs.LineLemmas.{found_id, there_line, waiting_names}
 use Rattle.live_laws.specs.LiveSteps.{OwnStep, all_left_steps, cut_part_steps, cut_steps, delivered_step, event_steps}
 use Rattle.live_laws.specs.LiveSteps.{events_steps, gone_steps, heard_steps, hearing_steps, host_part_steps, joined_steps}
 use Rattle.live_laws.specs.LiveSteps.{last_steps, left_step, left_steps, line_steps, making_steps, offered_steps}

@@ -8,7 +8,7 @@ use Rattle.station_laws.specs.JointRun.{Step, at_end}
 use Rattle.tnc_ports.specs.declared.looping.LoopEnd.{LoopEnd}
 use Rattle.tnc_ports.specs.declared.looping.LoopEnd.TheVariants.{Done, Memory, WriteFault}
 use Rattle.tnc_ports.specs.declared.serve_words.ServeWords.{ServeWords}
-use Rattle.tnc_ports.specs.HostTurns.{Asked}
+use Rattle.host_ports.specs.HostTurns.{Asked}
 use Rattle.tnc_ports.specs.SampledRun.{IsLooped, Outside}
 use Rattle.tnc_ports.specs.ServedHosts.{octets_to}
 use Rattle.live_laws.specs.LiveSteps.{OwnStep, steps_of_run, steps_of_cut_run}

@@ -10,13 +10,13 @@ use Rattle.station.specs.State.{StationState}
 use Rattle.station.specs.Turn.{Turn, begin}
 use Rattle.station_laws.specs.JointRun.{Input, IsTurn}
 use Rattle.station_laws.specs.JointRun.Input.{FromHost, OffAir, OfClock}
-use Rattle.tnc_ports.specs.declared.line.Line.{Line}
+use Rattle.host_ports.specs.declared.line.Line.{Line}
 use Rattle.tnc_ports.specs.declared.serve_words.ServeWords.{ServeWords}
-use Rattle.tnc_ports.specs.declared.untaken.Untaken.{Untaken}
-use Rattle.tnc_ports.specs.Hosts.{Hosts, IsDelivered, IsStep, HaveLeft, FirstHasLeft, AllHaveLeft, cutting, line_of, without}
-use Rattle.tnc_ports.specs.HostTurns.{Asked, InOrder, AreTaken, HasJoined, HasLeft, IsTaken, IsTried, joining}
-use Rattle.tnc_ports.specs.HostTurns.{IsHostPart, IsOffered, IsOfferedTo, Offering, ids_of_lines}
-use Rattle.tnc_ports.specs.CutPart.{IsCutPart}
+use Rattle.host_ports.specs.declared.untaken.Untaken.{Untaken}
+use Rattle.host_ports.specs.Hosts.{Hosts, IsDelivered, IsStep, HaveLeft, FirstHasLeft, AllHaveLeft, cutting, line_of, without}
+use Rattle.host_ports.specs.HostTurns.{Asked, InOrder, AreTaken, HasJoined, HasLeft, IsTaken, IsTried, joining}
+use Rattle.host_ports.specs.HostTurns.{IsHostPart, IsOffered, IsOfferedTo, Offering, ids_of_lines}
+use Rattle.host_ports.specs.CutPart.{IsCutPart}
 use Rattle.tnc_ports.specs.KeyTurns.{is_held}
 use Rattle.tnc_ports.specs.Sampled.{Live, new_live, AreHeard, HearsAll, IsTicked, AreTicked, MakesAll}
 use Rattle.tnc_ports.specs.Sampled.{IsTurn as IsLiveTurn}

@@ -10,7 +10,7 @@ use Rattle.station_laws.specs.JointRun.{Input}
 use Rattle.station_laws.specs.JointRun.Input.{FromHost, OffAir, OfClock}
 use Rattle.call_laws.specs.Client.{Stays, pieces_for}
 use Rattle.call_laws.specs.FirstPart.{IsFirstPart}
-use Rattle.tnc_ports.specs.Waiting.{most_octets}
+use Rattle.host_ports.specs.Waiting.{most_octets}
 use Rattle.live_laws.specs.LiveSteps.{OwnStep}
 
 -- the pieces that steps of a station give, in order

@@ -30,5 +30,5 @@ pub use Rattle.tnc_call.specs.declared.call_end.CallEnd.TheVariants.{ReadFault, 
 pub use Rattle.tnc_call.specs.declared.call_words.CallWords.{CallWords}
 pub use Rattle.tnc_call.specs.declared.talk.Talk.{Talk}
 pub use Rattle.tnc_ports.specs.SampledRun.{GrowsBy}
-pub use Rattle.tnc_ports.specs.Sockets.{Poll}
-pub use Rattle.tnc_ports.specs.declared.records.Dial.{Dial}
+pub use Rattle.host_ports.specs.Sockets.{Poll}
+pub use Rattle.host_ports.specs.declared.records.Dial.{Dial}

@@ -12,7 +12,7 @@ use Rattle.std.proofs.lemmas.Bool.{le-leb, leb-true, cases_lt, cases_eq, eqb-tru
 use Rattle.std.proofs.lemmas.List.{map-append, take-append-le, take_at}
 use Rattle.std.proofs.lemmas.List.Elements.{All-append, filter-append}
 use Rattle.std.proofs.lemmas.List.Sums.{sum_by-append, sum_by_push}
-use Rattle.tnc_ports.specs.Sockets.{Send}
+use Rattle.host_ports.specs.Sockets.{Send}
 use Rattle.tnc_call.specs.CallTrace.{CallOffer, IsAlwaysOffered, IsOfferedBefore, TookLess, count_taken, offers_before}
 use Rattle.tnc_call.specs.CallTrace.{send_of, sends_of}
 

@@ -6,7 +6,7 @@ use Rattle.tnc_call.proofs.Common.{HostLost, Broken, GaveUp, text_limit, IsEnded
 use Rattle.tnc_call.proofs.Common.{IsCalled, plan_of, CallPorts, CallTrace, events_in, HasTalked}
 use Rattle.std.proofs.Common.{◌||◌}
 use Rattle.std.proofs.lemmas.List.Folds.{list_any-append}
-use Rattle.tnc_ports.specs.Sockets.{has_dialed}
+use Rattle.host_ports.specs.Sockets.{has_dialed}
 use Rattle.tnc_call.specs.CallInput.{IsTalkEnd}
 
 -- what a dial leaves as it was, and what a shut does

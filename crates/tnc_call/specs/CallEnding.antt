@@ -6,7 +6,7 @@ use Rattle.tnc_base.specs.Faults.{HasRisen}
 use Rattle.tnc_base.specs.Streams.{WrotePart}
 use Rattle.station.specs.declared.host_event.HostEvent.{HostEvent}
 use Rattle.station.specs.declared.host_event.HostEvent.TheVariants.{Left}
-use Rattle.tnc_ports.specs.declared.records.Dial.{Dial}
+use Rattle.host_ports.specs.declared.records.Dial.{Dial}
 use Rattle.tnc_ports.specs.SampledRun.{GrowsBy}
 use Rattle.agwpe_client.specs.declared.call_state.CallState.TheVariants.{Done as DoneState, Refused as RefusedState}
 use Rattle.agwpe_client.specs.declared.call_state.CallState.TheVariants.{Broken as BrokenState}

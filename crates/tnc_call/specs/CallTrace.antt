@@ -4,10 +4,10 @@ use Rattle.std.specs.Prelude.{Any, length, map, filter, sum_by, take, Option, So
 use Rattle.std.specs.List.{flat_map}
 use Rattle.station.specs.declared.host_event.HostEvent.{HostEvent}
 use Rattle.station.specs.declared.host_event.HostEvent.TheVariants.{Joined, Bytes, Left}
-use Rattle.tnc_ports.specs.declared.records.Dial.{Dial}
-use Rattle.tnc_ports.specs.declared.records.Listen.{Listen}
+use Rattle.host_ports.specs.declared.records.Dial.{Dial}
+use Rattle.host_ports.specs.declared.records.Listen.{Listen}
 use Rattle.tnc_ports.specs.SampledRun.{GrowsBy}
-use Rattle.tnc_ports.specs.Sockets.{Poll, Send}
+use Rattle.host_ports.specs.Sockets.{Poll, Send}
 use Rattle.agwpe_client.specs.CallRun.{CallPlan, sent_after}
 
 -- ---- what the sockets tell

@@ -2,8 +2,8 @@
 use Rattle.std.specs.Prelude.{◌≡◌, ◌≢◌, ℕ, ◌≤◌, ◌⊎◌, List, [], ◌∷◌, ◌++◌, All, length, Option, Some}
 use Rattle.tnc_base.specs.Faults.{HasRisen}
 use Rattle.station.specs.declared.host_event.HostEvent.TheVariants.{Left}
-use Rattle.tnc_ports.specs.declared.records.Dial.{Dial}
-use Rattle.tnc_ports.specs.Sockets.{Poll}
+use Rattle.host_ports.specs.declared.records.Dial.{Dial}
+use Rattle.host_ports.specs.Sockets.{Poll}
 use Rattle.agwpe_client.specs.declared.call_state.CallState.{CallState}
 use Rattle.agwpe_client.specs.declared.call_state.CallState.TheVariants.{Asking, Calling, Up, Done as DoneState}
 use Rattle.agwpe_client.specs.declared.call_state.CallState.TheVariants.{Refused as RefusedState}

@@ -14,7 +14,7 @@ use crate::talk::Talk;
 use std::alloc::Global;
 use std::net::Net;
 use tnc_base::{Sink, Source};
-use tnc_ports::Ports;
+use host_ports::Ports;
 
 /// Makes one call. The input is read to its end, and then the port is dialed. Each turn offers the host what waits for
 /// it and polls once, for at most 100 ms, and prints what comes of the remote station as it comes. The connection to

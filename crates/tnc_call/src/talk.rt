@@ -4,7 +4,7 @@ ghost use Rattle.std.specs.Prelude.{OnErr};
 ghost use Rattle.std.specs.Prelude.{MatchOption, IfSome};
 ghost use Rattle.tnc_base.specs.Faults.{HasRisen};
 ghost use Rattle.station.specs.declared.host_event.HostEvent.{HostEvent};
-ghost use Rattle.tnc_ports.specs.Sockets.{Poll, Send};
+ghost use Rattle.host_ports.specs.Sockets.{Poll, Send};
 ghost use Rattle.agwpe_client.specs.CallRun.{CallPlan, state_after};
 ghost use Rattle.agwpe_client.specs.HeldCall.{StandsFor};
 ghost use Rattle.agwpe_client.specs.declared.call_state.CallState.TheVariants.{Done as DoneState};
@@ -23,7 +23,7 @@ use station::HostEvent;
 use std::alloc::Global;
 use std::net::Net;
 use tnc_base::{Failed, Octets, OutOfMemory, Sink};
-use tnc_ports::{PollFault, Ports};
+use host_ports::{PollFault, Ports};
 
 /// How long a poll waits, in milliseconds.
 const WAIT_MS: u32 = 100;

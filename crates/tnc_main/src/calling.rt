@@ -12,11 +12,11 @@ use crate::report::{
     HOST_LOST, LONG_TEXT, NO_HOST, REFUSED, of_broken_host, of_got, of_long_call, told,
 };
 use crate::status::Status;
+use host_ports::Ports;
 use std::alloc::Global;
 use std::net::Net;
 use tnc_base::{OutOfMemory, Sink, Source};
 use tnc_call::{CallEnd, CallWords};
-use tnc_ports::Ports;
 use tnc_words::CallOptions;
 
 /// Makes the call that the words ask for, tells how it ended, and answers the exit status.

@@ -20,13 +20,14 @@ use crate::calling::{call, call_words};
 use crate::live_command::LiveCommand;
 use crate::recording::{record, record_words};
 use crate::serving::{serve, serve_words};
+use host_ports::Ports;
 use key_port::KeyPort;
 use std::alloc::Global;
 use std::net::Net;
 use std::sync::Wait;
 use std::thread::Threads;
 use tnc_base::{Sink, Source};
-use tnc_ports::{Live, Ports, Spawner};
+use tnc_ports::{Live, Spawner};
 
 /// Does a live command, and answers the exit status. It may wait for the input.
 pub(crate) fn run_live<

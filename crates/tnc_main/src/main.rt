@@ -21,13 +21,14 @@ mod stop;
 
 use crate::program::run;
 use crate::status::Status;
+use host_ports::RealPorts;
 use key_port::RealKeyPort;
 use std::env;
 use std::io::{self, ErrorKind};
 use std::process::ExitCode;
 use std::time::{Clock, SystemTime};
 use tnc_base::{RealSink, RealSource};
-use tnc_ports::{Live, RealPorts, RealSpawner};
+use tnc_ports::{Live, RealSpawner};
 
 /// The words after the program's name. If any is no text, there are none, which is no command either.
 fn given_words(rt: &HostRuntime) -> io::Result<Vec<String>> {

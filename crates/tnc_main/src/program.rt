@@ -44,13 +44,14 @@ ghost use Rattle.tnc_main.specs.Status.{code_of};
 
 use crate::batch::run_batch;
 use crate::live_run::run_live;
+use host_ports::Ports;
 use key_port::KeyPort;
 use std::alloc::Global;
 use std::net::Net;
 use std::sync::Wait;
 use std::thread::Threads;
 use tnc_base::{Sink, Source};
-use tnc_ports::{Live, Ports, Spawner};
+use tnc_ports::{Live, Spawner};
 use tnc_words::Command;
 
 /// Does what `words`, those after the program's name, ask for, and answers the exit status:

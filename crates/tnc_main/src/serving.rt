@@ -14,6 +14,7 @@ ghost use Rattle.tnc_main.specs.Status.{code_of, IsLiveCode};
 use crate::report::{NO_PORT, TOO_LONG, told};
 use crate::status::Status;
 use channel_access::Parameters;
+use host_ports::{Listen, Ports};
 use key_port::KeyPort;
 use keying::Words;
 use slicer_bank::Detection;
@@ -23,7 +24,7 @@ use std::net::Net;
 use std::sync::Wait;
 use std::thread::Threads;
 use tnc_base::{Sink, Source};
-use tnc_ports::{KeyWords, Listen, Live, Ports, ServeEnd, ServeWords, Spawner};
+use tnc_ports::{KeyWords, Live, ServeEnd, ServeWords, Spawner};
 use tnc_words::{ChannelOptions, Dcd, PttOptions, ServeOptions};
 
 /// Serves hosts until the input ends, tells how that ended, and answers the exit status. It may wait for the input.

@@ -15,7 +15,6 @@ pub use Rattle.slicer_bank.specs.HeardOnRing.{lane_of, least_position}
 pub use Rattle.slicer_bank.specs.RingLanes.{answers_of}
 pub use Rattle.slicer_bank.specs.RingTurns.{MeetsEnd, gaps_of}
 pub use Rattle.slicer_bank.specs.declared.advance.LaneGap.{LaneGap}
-pub use Rattle.station.specs.Held.{ids_behind, ids_of}
 pub use Rattle.station.specs.Host.{IsHostTurn}
 pub use Rattle.station.specs.Links.{Links}
 pub use Rattle.station.specs.State.{StationState}
@@ -24,47 +23,38 @@ pub use Rattle.station.specs.declared.config.Config.{Config}
 pub use Rattle.station.specs.declared.host_event.HostEvent.{HostEvent}
 pub use Rattle.station.specs.declared.host_event.HostEvent.TheVariants.{Bytes, Joined, Left}
 pub use Rattle.station.specs.declared.host_event.PortKind.{PortKind}
-pub use Rattle.station.specs.declared.host_event.PortKind.TheVariants.{Agw, Kiss}
 pub use Rattle.station.specs.declared.host_out.Piece.{Piece}
-pub use Rattle.std.proofs.Common.{[], ap, append_assoc, arith, drop, get_or, inl, inr, length, map, refl, rules, set}
-pub use Rattle.std.proofs.Common.{subst, sum, sym, take, ℕ, ◌*◌, ◌++◌, ◌+◌, ◌-◌, ◌/◌, ◌<◌, ◌∙◌, ◌≡◌, ◌≤◌}
+pub use Rattle.std.proofs.Common.{[], ap, append_assoc, arith, drop, get_or, inl, inr, length, map, refl, rules}
+pub use Rattle.std.proofs.Common.{subst, sym, take, ℕ, ◌*◌, ◌++◌, ◌+◌, ◌-◌, ◌/◌, ◌<◌, ◌∙◌, ◌≡◌, ◌≤◌}
 pub use Rattle.std.proofs.Math.ListN.{get_or-map}
-pub use Rattle.std.proofs.Math.Seq.{take-length}
-pub use Rattle.std.proofs.lemmas.Bool.{and_parts, cases_Bool, cases_eq, cond-false, cond-true, eq-eqb, eqb-true}
+pub use Rattle.std.proofs.lemmas.Bool.{cases_Bool, cases_eq, cond-false, cond-true, eq-eqb, eqb-true}
 pub use Rattle.std.proofs.lemmas.Bool.{false_from_ne_true, false≢true, le-leb, ne_eqb, or_cases, or_left, or_parts}
 pub use Rattle.std.proofs.lemmas.Bool.{or_right, true≢false}
-pub use Rattle.std.proofs.lemmas.Bool.Decides.{nat_tests}
-pub use Rattle.std.proofs.lemmas.Fn.{filter_same}
 pub use Rattle.std.proofs.lemmas.Grind.{flat_map-append}
-pub use Rattle.std.proofs.lemmas.List.{append-nil, length-append, length-drop, length-map, length-take-le, map-append}
+pub use Rattle.std.proofs.lemmas.List.{append-nil, length-append, length-map, length-take-le, map-append}
 pub use Rattle.std.proofs.lemmas.List.{take-append-drop, take-append-le, take_more}
 pub use Rattle.std.proofs.lemmas.List.Elements.{All-append}
 pub use Rattle.std.proofs.lemmas.List.Folds.{list_any-append}
-pub use Rattle.std.proofs.lemmas.Result.{on_ok_weaker}
-pub use Rattle.std.specs.List.{flat_map, list_any, slice_get}
+pub use Rattle.std.specs.List.{flat_map, list_any}
 pub use Rattle.std.specs.Prelude.{All, Bool, Contains, Err, IsTrue, List, None, Ok, OnErr, OnOk, Option, Result, Some}
-pub use Rattle.std.specs.Prelude.{cond, false, filter, if◌then◌else◌, is_err, not, replicate, suc, true, zero, ℤ, ◌&&◌}
+pub use Rattle.std.specs.Prelude.{cond, false, filter, if◌then◌else◌, is_err, not, replicate, suc, true, zero, ℤ}
 pub use Rattle.std.specs.Prelude.{◌==◌, ◌||◌, ◌↔◌, ◌∷◌, ◌≢◌, ◌⊎◌}
 pub use Rattle.tnc_base.specs.Faults.{HasRisen}
 pub use Rattle.tnc_base.specs.Streams.{Gives, WrotePart}
-pub use Rattle.tnc_ports.specs.AskedPorts.{AreOffered, AreShut, AreUnasked, IsAsked, Told, poll_of, send_of, taken_of}
-pub use Rattle.tnc_ports.specs.AskedPorts.{told_by}
-pub use Rattle.tnc_ports.specs.CutPart.{IsCutInSending}
-pub use Rattle.tnc_ports.specs.HeldHosts.{AreParts, IsAtRest, IsKnown, Moves, MovesBy, Narrows, StandsFor, is_known}
-pub use Rattle.tnc_ports.specs.HeldHosts.{is_named, joins, leaves, weight}
-pub use Rattle.tnc_ports.specs.HostTurns.{ArePaused, AreTaken, AreTried, Asked, HasToWait, InOrder, IsHostPart}
-pub use Rattle.tnc_ports.specs.HostTurns.{IsOffered, IsOfferedTo, IsTaken, IsTried, Offer, Offering, ids_of_lines}
-pub use Rattle.tnc_ports.specs.HostTurns.{is_from, joining}
-pub use Rattle.tnc_ports.specs.Hosts.{AllHaveLeft, HaveLeft, Hosts, IsDelivered, IsStep, appending, appending_one}
-pub use Rattle.tnc_ports.specs.Hosts.{appending_to, closing, closing_all, closing_one, cutting, delivering, fits}
-pub use Rattle.tnc_ports.specs.Hosts.{is_among, is_line_of, is_there, line_of, new_hosts, waiting_too, was_there}
-pub use Rattle.tnc_ports.specs.Hosts.{with_waiting, without}
-pub use Rattle.tnc_ports.specs.IdRanges.{is_within}
+pub use Rattle.host_ports.specs.AskedPorts.{AreUnasked, IsAsked, Told, poll_of, send_of, taken_of}
+pub use Rattle.host_ports.specs.CutPart.{IsCutInSending}
+pub use Rattle.host_ports.specs.HeldHosts.{StandsFor}
+pub use Rattle.host_ports.specs.HostTurns.{AreTaken, AreTried, Asked, InOrder, IsHostPart}
+pub use Rattle.host_ports.specs.HostTurns.{IsOffered, IsOfferedTo, IsTaken, IsTried, Offer, Offering, ids_of_lines}
+pub use Rattle.host_ports.specs.HostTurns.{joining}
+pub use Rattle.host_ports.specs.Hosts.{AllHaveLeft, HaveLeft, Hosts, IsDelivered, IsStep, appending, appending_one}
+pub use Rattle.host_ports.specs.Hosts.{appending_to, closing, closing_all, closing_one, cutting, delivering, fits}
+pub use Rattle.host_ports.specs.Hosts.{is_among, is_line_of, is_there, line_of, new_hosts, waiting_too, was_there}
+pub use Rattle.host_ports.specs.Hosts.{with_waiting, without}
 pub use Rattle.tnc_ports.specs.Inlet.{Step}
 pub use Rattle.tnc_ports.specs.Inlet.Step.{Publishes}
 pub use Rattle.tnc_ports.specs.OddOctet.{count_of, ended, odd_after, odd_octet}
 pub use Rattle.tnc_ports.specs.Pumped.{IsPumped, most_input}
-pub use Rattle.tnc_ports.specs.RealSockets.{Admits, OpenIds, Rise, ids_of_sockets, joined_ids}
 pub use Rattle.tnc_ports.specs.ReportText.{output_octets, report_text}
 pub use Rattle.tnc_ports.specs.ReportedGaps.{AreAllGaps, AreFirstGaps, gaps_in}
 pub use Rattle.tnc_ports.specs.Sampled.{AreHeard, AreTicked, HaveEnded, HearsAll, IsTurn, LanesReadOn, Live, MakesAll}
@@ -77,23 +67,18 @@ pub use Rattle.tnc_ports.specs.SampledHeld.{from_of, told_in}
 pub use Rattle.tnc_ports.specs.SampledRun.{AllIsWritten, AreTurns, IsCutInReading, IsCutInServing, IsCutRun, IsCutTurn}
 pub use Rattle.tnc_ports.specs.SampledRun.{IsLooped, IsRun, Outside, PortsTell}
 pub use Rattle.tnc_ports.specs.SampledWrites.{Puts, ReportsMore, Stream, WritesMore, stream_of}
-pub use Rattle.tnc_ports.specs.Scripts.{PortsView, due_of, given_of, has_to_wait, joined_in, joined_of, scripted_for}
-pub use Rattle.tnc_ports.specs.Scripts.{shut_one, waiting_of, was_shut, with_shut}
-pub use Rattle.tnc_ports.specs.SentSoFar.{IsOrderly, octets_for}
+pub use Rattle.host_ports.specs.SentSoFar.{IsOrderly, octets_for}
 pub use Rattle.tnc_ports.specs.ServedHosts.{IsShutHavingCome, NoneTwice, closed_by, ids_closed, octets_to}
-pub use Rattle.tnc_ports.specs.Sockets.{IsWholePiece, MayCome, Poll, Send, has_come, has_dialed, is_joining_of}
-pub use Rattle.tnc_ports.specs.Sockets.{is_octets_of}
-pub use Rattle.tnc_ports.specs.Waiting.{after_sending, behind, cut, front_of, most_octets, octets_of, with_piece}
-pub use Rattle.tnc_ports.specs.declared.host_parts.HostParts.{HostParts}
-pub use Rattle.tnc_ports.specs.declared.line.Line.{Line}
+pub use Rattle.host_ports.specs.Sockets.{MayCome, Poll, has_come, is_joining_of}
+pub use Rattle.host_ports.specs.Waiting.{after_sending, front_of, most_octets, octets_of, with_piece}
+pub use Rattle.host_ports.specs.declared.line.Line.{Line}
 pub use Rattle.tnc_ports.specs.declared.looping.LoopEnd.TheVariants.{Memory}
 pub use Rattle.tnc_ports.specs.declared.pumping.PumpEnd.TheVariants.{InputEnd, ReadFault, TooLong}
-pub use Rattle.tnc_ports.specs.declared.report_line.ReportLine.{ReportLine}
-pub use Rattle.tnc_ports.specs.declared.report_line.ReportLine.TheVariants.{ClosedLine, KeyLine, ReceivedLine, SentLine}
+pub use Rattle.host_ports.specs.declared.report_line.ReportLine.{ReportLine}
+pub use Rattle.host_ports.specs.declared.report_line.ReportLine.TheVariants.{ClosedLine, ReceivedLine, SentLine}
 pub use Rattle.tnc_ports.specs.declared.serve_words.KeyWords.{KeyWords}
 pub use Rattle.tnc_ports.specs.declared.serve_words.ServeWords.{ServeWords}
-pub use Rattle.tnc_ports.specs.declared.socket.Socket.{Socket}
 pub use Rattle.tnc_ports.specs.declared.turning.Turning.{Turning}
-pub use Rattle.tnc_ports.specs.declared.untaken.Untaken.{Untaken}
+pub use Rattle.host_ports.specs.declared.untaken.Untaken.{Untaken}
 unfoldable pub use Rattle.wav_file.specs.Samples.{sample_of}
 pub use Rattle.wav_file.specs.Samples.{samples}

@@ -13,8 +13,8 @@ use Rattle.tnc_ports.proofs.Common.{IsOfferedTo, IsStep, IsTaken, IsTickMade, Is
 use Rattle.tnc_ports.proofs.Common.{Piece, PortKind, StationState, Turn, Untaken, appending, appending_one, appending_to}
 use Rattle.tnc_ports.proofs.Common.{closing, closing_all, closing_one, cutting, delivering, fits, ids_of_lines, is_among}
 use Rattle.tnc_ports.proofs.Common.{is_there, joining, line_of, waiting_too, with_lines, without}
-use Rattle.tnc_ports.specs.Hosts.{FirstHasLeft}
-use Rattle.tnc_ports.specs.HostTurns.{HasJoined, HasLeft}
+use Rattle.host_ports.specs.Hosts.{FirstHasLeft}
+use Rattle.host_ports.specs.HostTurns.{HasJoined, HasLeft}
 use Rattle.tnc_ports.proofs.AirKept.{heard_keeps, host_keeps}
 use Rattle.tnc_ports.proofs.ChannelKept.{either}
 

@@ -9,16 +9,16 @@ use Rattle.tnc_ports.proofs.Common.{IsOffered, IsOfferedTo, IsHostPart, ids_of_l
 use Rattle.tnc_ports.proofs.Common.{octets_to, ids_closed, closed_by, IsShutHavingCome, Poll, has_come, is_joining_of}
 use Rattle.std.specs.Prelude.{◌≡◌, ℕ, [], ◌++◌, map, refl}
 use Rattle.keying.specs.declared.report.Report.{Report}
-use Rattle.tnc_ports.specs.CutPart.{IsCutPart, IsCutInTaking}
-use Rattle.tnc_ports.specs.declared.health_note.HealthNote.{HealthNote}
+use Rattle.host_ports.specs.CutPart.{IsCutPart, IsCutInTaking}
+use Rattle.host_ports.specs.declared.health_note.HealthNote.{HealthNote}
 use Rattle.tnc_ports.specs.HealthNotes.{health_line}
 use Rattle.tnc_ports.specs.KeyTurns.{key_line}
 use Rattle.tnc_ports.specs.ServedHosts.{ids_sent_to, ids_shut, AreSentInTurns, AreShutInTurns}
-use Rattle.tnc_ports.proofs.GivenLemmas.{offers_given}
-use Rattle.tnc_ports.proofs.KeptLemmas.{IsKeptByStep, IsKeptByPart, kept_tried, kept_takes, kept_offers}
-use Rattle.tnc_ports.proofs.LineLemmas.{found_id}
+use Rattle.host_ports.proofs.GivenLemmas.{offers_given}
+use Rattle.host_ports.proofs.KeptLemmas.{IsKeptByStep, IsKeptByPart, kept_tried, kept_takes, kept_offers}
+use Rattle.host_ports.proofs.LineLemmas.{found_id}
 use Rattle.tnc_ports.proofs.LiveKept.{IsKeptByFrames}
-use Rattle.tnc_ports.proofs.SentLemmas.{orderly_by_step, orderly_by_part}
+use Rattle.host_ports.proofs.SentLemmas.{orderly_by_step, orderly_by_part}
 use Rattle.tnc_ports.proofs.StepLemmas.{FewWait, few_by_step, few_by_part}
 use Rattle.tnc_ports.proofs.ServedLemmas.{IsSound, among_snoc, none_twice-snoc, sound_by_step, sound_by_part}
 use Rattle.tnc_ports.proofs.ServedLemmas.{sound_relined, sound_told}

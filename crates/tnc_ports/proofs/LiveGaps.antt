@@ -7,11 +7,11 @@ use Rattle.tnc_ports.proofs.Common.{AreAllGaps, AreFirstGaps, Live, LanesReadOn,
 use Rattle.std.specs.Prelude.{◌≡◌, ℕ, ◌+◌, ◌<◌, [], ◌++◌, length, map, refl}
 use Rattle.slicer_bank.specs.RingTurns.{gaps_from}
 use Rattle.keying.specs.declared.report.Report.{Report}
-use Rattle.tnc_ports.specs.declared.health_note.HealthNote.{HealthNote}
+use Rattle.host_ports.specs.declared.health_note.HealthNote.{HealthNote}
 use Rattle.tnc_ports.specs.HealthNotes.{health_line}
 use Rattle.tnc_ports.specs.KeyTurns.{key_line}
 use Rattle.tnc_ports.specs.ReportedGaps.{gap_by}
-use Rattle.tnc_ports.proofs.KeptLemmas.{IsKeptByStep, IsKeptByPart}
+use Rattle.host_ports.proofs.KeptLemmas.{IsKeptByStep, IsKeptByPart}
 use Rattle.tnc_ports.proofs.LiveKept.{IsKeptByFrames}
 
 -- ---- what hosts do leaves the gaps

@@ -9,10 +9,10 @@ use Rattle.std.specs.Prelude.{◌≡◌, ℕ, ℤ, ◌||◌, [], ◌++◌, map}
 use Rattle.keying.specs.declared.report.Report.{Report}
 use Rattle.keying.specs.Calls.{Call}
 use Rattle.key_port.specs.KeyEvents.{KeyEvent}
-use Rattle.tnc_ports.specs.declared.health_note.HealthNote.{HealthNote}
+use Rattle.host_ports.specs.declared.health_note.HealthNote.{HealthNote}
 use Rattle.tnc_ports.specs.HealthNotes.{health_line, notes_in}
 use Rattle.tnc_ports.specs.Sampled.{notes_in_tick}
-use Rattle.tnc_ports.proofs.KeptLemmas.{IsKeptByStep, kept_step}
+use Rattle.host_ports.proofs.KeptLemmas.{IsKeptByStep, kept_step}
 
 pub record IsKeptByFrames (P : Hosts → Type 0) : Type 0 where
   pub steps : IsKeptByStep P

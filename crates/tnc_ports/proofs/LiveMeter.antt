@@ -6,10 +6,10 @@ use Rattle.std.specs.Prelude.{is_some}
 use Rattle.sample_ring.specs.Ends.{AddsRead, GoesForward, position_of, reads_of}
 use Rattle.sample_ring.specs.Record.{next}
 use Rattle.slicer_bank.specs.RingTurns.{reads_on}
-use Rattle.tnc_ports.specs.declared.health.Health.{Health}
-use Rattle.tnc_ports.specs.declared.health_note.HealthNotes.{HealthNotes}
+use Rattle.host_ports.specs.declared.health.Health.{Health}
+use Rattle.host_ports.specs.declared.health_note.HealthNotes.{HealthNotes}
 use Rattle.tnc_ports.specs.declared.meter.Meter.{Meter}
-use Rattle.tnc_ports.specs.Health.{after_answer, after_answers, after_notes, after_tick, notes_of, standing_of}
+use Rattle.host_ports.specs.Health.{after_answer, after_answers, after_notes, after_tick, notes_of, standing_of}
 use Rattle.tnc_ports.specs.HeldMeter.{Measures, ReadsOnce}
 use Rattle.tnc_ports.specs.Measured.{ReadsTo, place_after}
 use Rattle.tnc_ports.specs.Sampled.{health_after_tick, notes_in_tick}

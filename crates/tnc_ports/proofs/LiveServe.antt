@@ -19,11 +19,11 @@ use Rattle.std.specs.Option.{option_to_list}
 use Rattle.std.specs.Prelude.{IsSome, Option, is_ok}
 use Rattle.tnc_ports.proofs.Common.{reader_ring, ring_id}
 use Rattle.sample_ring.specs.Ends.{IsNew}
-use Rattle.tnc_ports.specs.Health.{new_health}
+use Rattle.host_ports.specs.Health.{new_health}
 use Rattle.sample_ring.specs.declared.ring.Ring.{Ring}
 use Rattle.tnc_ports.specs.HeldMeter.{IsFreshSound, answers_if}
 use Rattle.tnc_ports.specs.declared.looping.LoopEnd.TheVariants.{Done as LoopDone, WriteFault as LoopFault}
-use Rattle.tnc_ports.specs.declared.records.Listen.{Listen}
+use Rattle.host_ports.specs.declared.records.Listen.{Listen}
 use Rattle.tnc_ports.specs.declared.serving.ServeEnd.{ServeEnd}
 use Rattle.tnc_ports.specs.declared.serving.ServeEnd.TheVariants.{Memory as NoMemory, NoThread}
 use Rattle.tnc_ports.specs.declared.pumping.PumpEnd.{PumpEnd}

@@ -7,14 +7,14 @@ use Rattle.tnc_ports.proofs.Common.{IsRun, IsCutTurn, IsCutRun, IsKeyTurn, octet
 use Rattle.std.specs.Prelude.{◌≡◌, ℕ, ◌*◌, [], ◌++◌, length, map, refl}
 use Rattle.std.proofs.Common.{length-append}
 use Rattle.tnc_ports.specs.Sampled.{ServesHosts, having_heard}
-use Rattle.tnc_ports.proofs.KeptLemmas.{kept_part}
+use Rattle.host_ports.proofs.KeptLemmas.{kept_part}
 use Rattle.tnc_ports.proofs.LiveAccounts.{IsAccounted, accounted_new, accounted_relined, accounted_by_frames}
 use Rattle.tnc_ports.proofs.LiveAccounts.{accounted_part}
 use Rattle.tnc_ports.proofs.LiveGaps.{TellsGaps, gaps_by_frames, gaps_by_part, gaps_closed, read_gaps, first_gaps}
 use Rattle.tnc_ports.proofs.LiveGaps.{cut_gaps}
 use Rattle.tnc_ports.proofs.LiveKept.{kept_heard, kept_key_turn, kept_ticks}
 use Rattle.tnc_ports.proofs.LiveSteps.{ticked_to}
-use Rattle.tnc_ports.proofs.SentLemmas.{orderly_new}
+use Rattle.host_ports.proofs.SentLemmas.{orderly_new}
 use Rattle.tnc_ports.proofs.ServedLemmas.{sound_new}
 
 abbrev pub IsAccountedFor : Live → Type 0

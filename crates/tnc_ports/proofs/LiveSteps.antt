@@ -18,9 +18,9 @@ use Rattle.ax25_frames.specs.declared.frame.Modulus.{Modulus}
 use Rattle.station.specs.Heard.{IsPathOf}
 use Rattle.station.specs.Monitored.{heard_modulus, sent_modulus}
 use Rattle.slicer_bank.specs.RingLanes.{answers_of}
-use Rattle.tnc_ports.specs.HeldHosts.{HeldHosts}
+use Rattle.host_ports.specs.HeldHosts.{HeldHosts}
 use Rattle.tnc_ports.specs.HeldMeter.{Measures}
-use Rattle.tnc_ports.specs.Hosts.{IsHeardStep, IsTickStep}
+use Rattle.host_ports.specs.Hosts.{IsHeardStep, IsTickStep}
 use Rattle.tnc_ports.specs.Sampled.{IsTicked}
 use Rattle.tnc_ports.specs.SampledFrames.{IsFrameText}
 use Rattle.tnc_ports.specs.SampledHeld.{HearsFrame}
@@ -321,11 +321,6 @@ ticks_some from busy count len first before after live o o' o'' r r' r'' line li
           (subst (λ f. WritesMore first.failed f live h.next o o' r r') (sym failed) h.writes));
       measured = (more.0, more.1 ∙ ap (λ xs. xs ++ more.0) h.measures.sound);
     }
-
--- what holds at an error holds if there is one
-pub on_err : {T E : Type 0} → (r : Result T E) → (P : Type 0) → P → OnErr r P
-on_err (Ok v) P p = tt
-on_err (Err e) P p = p
 
 -- ---- hosts
 

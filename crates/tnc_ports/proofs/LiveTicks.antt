@@ -10,10 +10,10 @@ use Rattle.key_port.specs.KeyTasks.{LineTold}
 use Rattle.tnc_ports.proofs.Common.{AirTick, AreSentLines, From, Hosts, IsTickMade, Keeps, KeyWords, KeyedSince, Live}
 use Rattle.tnc_ports.proofs.Common.{Puts, ReportLine, ServeWords, StandsFor, Stream, TicksAll, Turning, append_assoc}
 use Rattle.tnc_ports.proofs.Common.{is_held, key_line, output_octets, report_text, with_lines}
-use Rattle.tnc_ports.specs.declared.health.Health.{Health}
-use Rattle.tnc_ports.specs.declared.health_note.HealthNotes.{HealthNotes}
+use Rattle.host_ports.specs.declared.health.Health.{Health}
+use Rattle.host_ports.specs.declared.health_note.HealthNotes.{HealthNotes}
 use Rattle.tnc_ports.specs.HealthNotes.{health_lines}
-use Rattle.tnc_ports.specs.HeldHosts.{HeldHosts}
+use Rattle.host_ports.specs.HeldHosts.{HeldHosts}
 use Rattle.tnc_ports.specs.Sampled.{notes_in_tick, health_after_tick}
 use Rattle.tnc_ports.specs.SampledHeld.{KeyStands, LineStands, IsWrittenSince}
 use Rattle.tnc_ports.specs.SampledRun.{key_failed}

@@ -6,7 +6,7 @@ use Rattle.tnc_ports.proofs.Common.{send_of, taken_of, AreUnasked, IsAsked, is_a
 use Rattle.tnc_ports.proofs.Common.{PortsTell, octets_to, IsShutHavingCome, Poll, MayCome, has_come, is_joining_of}
 use Rattle.std.proofs.Common.{◌⊎◌, zero, suc, List, ◌∷◌, length-append}
 use Rattle.tnc_ports.specs.SampledRun.{sends_from}
-use Rattle.tnc_ports.proofs.AskedLemmas.{risen_later}
+use Rattle.host_ports.proofs.AskedLemmas.{risen_later}
 
 sends-more : (n : ℕ) (turns : List Asked) (asked : Asked) → sends_from n (turns ++ asked ∷ [])
     ≡ sends_from n turns ++ map (send_of (n + length turns)) asked.offers

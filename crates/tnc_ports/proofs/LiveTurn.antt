@@ -7,16 +7,16 @@ use Rattle.tnc_ports.proofs.Common.{StandsForLive, HearsFrames, HearsSome, Ticks
 use Rattle.tnc_ports.proofs.Common.{IsCutOff, IsCutInReading, IsCutInServing, Stream, WritesMore}
 use Rattle.std.proofs.Common.{◌⊎◌, List, ◌∷◌, length}
 use Rattle.slicer_bank.specs.HeardOnRing.{IsBusyOnRing}
-use Rattle.tnc_ports.specs.CutPart.{HasCutPart}
+use Rattle.host_ports.specs.CutPart.{HasCutPart}
 use Rattle.slicer_bank.specs.RingLanes.{answers_of}
 use Rattle.tnc_ports.specs.declared.meter.Meter.{Meter}
-use Rattle.tnc_ports.specs.Health.{with_heard}
+use Rattle.host_ports.specs.Health.{with_heard}
 use Rattle.tnc_ports.specs.HeldMeter.{HasMeasured, Measures}
 use Rattle.tnc_ports.specs.Measured.{place_after}
 use Rattle.tnc_ports.specs.Sampled.{MakesTicks, having_heard}
 use Rattle.tnc_ports.specs.SampledHeld.{Makes}
 use Rattle.tnc_ports.specs.SampledRun.{IsCutInHearing, IsCutInTicking}
-use Rattle.tnc_ports.proofs.AskedLemmas.{unasked}
+use Rattle.host_ports.proofs.AskedLemmas.{unasked}
 use Rattle.tnc_ports.proofs.Common.{From, IsKeyTurn, KeyWords, KeyedSince, TurnsTheKey, Got}
 use Rattle.std.specs.Prelude.{Option, Some, None}
 use Rattle.key_port.specs.declared.key_side.KeySide.{KeySide}

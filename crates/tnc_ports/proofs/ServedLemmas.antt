@@ -7,8 +7,8 @@ use Rattle.tnc_ports.proofs.Common.{new_hosts, without, closing, with_waiting, i
 use Rattle.tnc_ports.proofs.Common.{was_there, joining, ids_of_lines, NoneTwice, ids_closed, closed_by, with_piece}
 use Rattle.tnc_ports.proofs.Common.{after_sending}
 use Rattle.std.specs.Prelude.{◌≡◌, ℕ, [], ◌++◌, refl}
-use Rattle.tnc_ports.proofs.KeptLemmas.{IsKeptByStep, IsKeptByPart, sending}
-use Rattle.tnc_ports.proofs.LineLemmas.{waiting_names}
+use Rattle.host_ports.proofs.KeptLemmas.{IsKeptByStep, IsKeptByPart, sending}
+use Rattle.host_ports.proofs.LineLemmas.{waiting_names}
 
 -- ---- ids
 

@@ -11,10 +11,10 @@ use Rattle.std.proofs.Common.{length-append}
 use Rattle.std.proofs.lemmas.Bool.{leb-true}
 use Rattle.std.proofs.lemmas.Bool.Decides.{leb_tells}
 use Rattle.tnc_ports.specs.StepShuts.{octets_waiting, octets_waiting_for, HearsStep}
-use Rattle.tnc_ports.proofs.KeptLemmas.{IsKeptByStep, IsKeptByPart}
-use Rattle.tnc_ports.proofs.LineLemmas.{found_id, there_line}
-use Rattle.tnc_ports.proofs.SentLemmas.{no_line_without, other_line_without, waiting_line, other_waiting_line}
-use Rattle.tnc_ports.proofs.SentLemmas.{octets_of-with_piece, octets_of-sent}
+use Rattle.host_ports.proofs.KeptLemmas.{IsKeptByStep, IsKeptByPart}
+use Rattle.host_ports.proofs.LineLemmas.{found_id, there_line}
+use Rattle.host_ports.proofs.SentLemmas.{no_line_without, other_line_without, waiting_line, other_waiting_line}
+use Rattle.host_ports.proofs.SentLemmas.{octets_of-with_piece, octets_of-sent}
 
 -- ---- a piece for another connection
 

@@ -5,7 +5,7 @@ use Rattle.std.specs.Prelude.{Bool, ◌||◌, ◌↔◌, ◌+◌, ◌++◌, Opti
 use Rattle.key_port.specs.KeyEvents.{KeyEvent}
 use Rattle.tnc_ports.specs.declared.serve_words.KeyWords.{KeyWords}
 use Rattle.tnc_ports.specs.declared.serve_words.ServeWords.{ServeWords}
-use Rattle.tnc_ports.specs.Hosts.{Hosts}
+use Rattle.host_ports.specs.Hosts.{Hosts}
 use Rattle.tnc_ports.specs.KeyTurns.{Whole, is_held, TicksKeyIf, TurnsKeyIf}
 use Rattle.tnc_ports.specs.HealthNotes.{health_lines}
 use Rattle.tnc_ports.specs.Sampled.{Live, IsTicked, IsKeyTurn, health_after_tick, notes_in_tick, octets_sent}

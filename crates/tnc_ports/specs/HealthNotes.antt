@@ -1,11 +1,11 @@
 -- What a report tells of a station's health after a tick, in order.
 use Rattle.std.specs.Prelude.{ℕ, Bool, true, false, List, [], ◌∷◌, ◌++◌, map, Option, Some, None}
-use Rattle.tnc_ports.specs.declared.health_note.Counts.{Counts}
-use Rattle.tnc_ports.specs.declared.health_note.HealthNote.{HealthNote}
-use Rattle.tnc_ports.specs.declared.health_note.HealthNote.TheVariants.{Dropped, DeadSound, Stats}
-use Rattle.tnc_ports.specs.declared.health_note.HealthNotes.{HealthNotes}
-use Rattle.tnc_ports.specs.declared.report_line.ReportLine.{ReportLine}
-use Rattle.tnc_ports.specs.declared.report_line.ReportLine.TheVariants.{HealthLine}
+use Rattle.host_ports.specs.declared.health_note.Counts.{Counts}
+use Rattle.host_ports.specs.declared.health_note.HealthNote.{HealthNote}
+use Rattle.host_ports.specs.declared.health_note.HealthNote.TheVariants.{Dropped, DeadSound, Stats}
+use Rattle.host_ports.specs.declared.health_note.HealthNotes.{HealthNotes}
+use Rattle.host_ports.specs.declared.report_line.ReportLine.{ReportLine}
+use Rattle.host_ports.specs.declared.report_line.ReportLine.TheVariants.{HealthLine}
 
 abbrev pub dropped_note : Option ℕ → List HealthNote
 dropped_note None = []

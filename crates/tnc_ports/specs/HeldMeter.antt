@@ -9,7 +9,7 @@ use Rattle.ring_receiver.specs.HeldReceiver.{HeldReceiver, answers_in}
 use Rattle.slicer_bank.specs.RingLanes.{answers_of}
 use Rattle.slicer_bank.specs.RingTurns.{reads_on}
 use Rattle.tnc_ports.specs.declared.meter.Meter.{Meter}
-use Rattle.tnc_ports.specs.Health.{after_answer, new_health}
+use Rattle.host_ports.specs.Health.{after_answer, new_health}
 use Rattle.tnc_ports.specs.Measured.{place_after}
 use Rattle.tnc_ports.specs.Sampled.{Live}
 

@@ -9,7 +9,7 @@ use Rattle.key_port.specs.KeyEvents.{KeyEvent, lines_of, marks_of, reports_of}
 use Rattle.key_port.specs.KeyLines.{KeyLine, is_open, open_commands}
 use Rattle.tnc_ports.specs.declared.serve_words.KeyWords.{KeyWords}
 use Rattle.tnc_ports.specs.declared.serve_words.ServeWords.{ServeWords}
-use Rattle.tnc_ports.specs.Hosts.{Hosts}
+use Rattle.host_ports.specs.Hosts.{Hosts}
 use Rattle.tnc_ports.specs.KeyLaws.{BeginsKeyed, EndsReleased, IsKeptWithin}
 use Rattle.tnc_ports.specs.KeyTurns.{TicksKeyIf, Whole}
 use Rattle.tnc_ports.specs.ReportText.{output_octets}

@@ -9,10 +9,10 @@ use Rattle.keying.specs.Calls.Call.{Turn, Tick, AfterWrite}
 use Rattle.keying.specs.Key.{is_free}
 use Rattle.key_port.specs.KeyCalls.{MakesCall}
 use Rattle.key_port.specs.KeyEvents.{KeyEvent, marks_of}
-use Rattle.tnc_ports.specs.declared.report_line.ReportLine.{ReportLine}
-use Rattle.tnc_ports.specs.declared.report_line.ReportLine.TheVariants.{KeyLine}
+use Rattle.host_ports.specs.declared.report_line.ReportLine.{ReportLine}
+use Rattle.host_ports.specs.declared.report_line.ReportLine.TheVariants.{KeyLine}
 use Rattle.tnc_ports.specs.declared.serve_words.KeyWords.{KeyWords}
-use Rattle.tnc_ports.specs.Hosts.{Hosts}
+use Rattle.host_ports.specs.Hosts.{Hosts}
 use Rattle.tnc_ports.specs.SampledFrames.{with_lines}
 
 -- whether no transmission may begin for the key: to half duplex that is a carrier

@@ -3,12 +3,12 @@ use Rattle.std.specs.Prelude.{ℕ, ℤ, List, [], ◌∷◌, ◌++◌, codes, de
 use Rattle.std.specs.Int.{cast_unsigned, w16}
 use Rattle.std.specs.List.{flat_map}
 use Rattle.byteorder.specs.Endian.{little_bytes}
-use Rattle.tnc_ports.specs.declared.report_line.ReportLine.{ReportLine}
-use Rattle.tnc_ports.specs.declared.report_line.ReportLine.TheVariants.{GapLine, ClosedLine, ReceivedLine, SentLine}
-use Rattle.tnc_ports.specs.declared.report_line.ReportLine.TheVariants.{KeyLine, HealthLine}
-use Rattle.tnc_ports.specs.declared.health_note.Counts.{Counts}
-use Rattle.tnc_ports.specs.declared.health_note.HealthNote.{HealthNote}
-use Rattle.tnc_ports.specs.declared.health_note.HealthNote.TheVariants.{Dropped, DeadSound, Stats}
+use Rattle.host_ports.specs.declared.report_line.ReportLine.{ReportLine}
+use Rattle.host_ports.specs.declared.report_line.ReportLine.TheVariants.{GapLine, ClosedLine, ReceivedLine, SentLine}
+use Rattle.host_ports.specs.declared.report_line.ReportLine.TheVariants.{KeyLine, HealthLine}
+use Rattle.host_ports.specs.declared.health_note.Counts.{Counts}
+use Rattle.host_ports.specs.declared.health_note.HealthNote.{HealthNote}
+use Rattle.host_ports.specs.declared.health_note.HealthNote.TheVariants.{Dropped, DeadSound, Stats}
 use Rattle.keying.specs.Texts.{report_text as key_text}
 
 -- ---- the report

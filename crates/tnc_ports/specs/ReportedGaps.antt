@@ -5,9 +5,9 @@ use Rattle.slicer_bank.specs.declared.advance.LaneGap.{LaneGap}
 use Rattle.slicer_bank.specs.HeardOnRing.{lane_of}
 use Rattle.slicer_bank.specs.RingTurns.{gaps_of}
 use Rattle.ring_receiver.specs.Readers.{readers_wanted}
-use Rattle.tnc_ports.specs.declared.report_line.ReportLine.{ReportLine}
-use Rattle.tnc_ports.specs.declared.report_line.ReportLine.TheVariants.{GapLine, ClosedLine, ReceivedLine, SentLine}
-use Rattle.tnc_ports.specs.declared.report_line.ReportLine.TheVariants.{KeyLine, HealthLine}
+use Rattle.host_ports.specs.declared.report_line.ReportLine.{ReportLine}
+use Rattle.host_ports.specs.declared.report_line.ReportLine.TheVariants.{GapLine, ClosedLine, ReceivedLine, SentLine}
+use Rattle.host_ports.specs.declared.report_line.ReportLine.TheVariants.{KeyLine, HealthLine}
 use Rattle.tnc_ports.specs.declared.serve_words.ServeWords.{ServeWords}
 use Rattle.tnc_ports.specs.Sampled.{Live}
 

@@ -14,17 +14,17 @@ use Rattle.ring_receiver.specs.HeardByAll.{AreDueBy}
 use Rattle.ring_receiver.specs.Readers.{readers_wanted}
 use Rattle.ring_receiver.specs.Turns.{IsTurnOf}
 use Rattle.channel_access.specs.declared.air_tick.AirTick.{AirTick}
-use Rattle.tnc_ports.specs.declared.report_line.ReportLine.{ReportLine}
-use Rattle.tnc_ports.specs.declared.report_line.ReportLine.TheVariants.{GapLine}
+use Rattle.host_ports.specs.declared.report_line.ReportLine.{ReportLine}
+use Rattle.host_ports.specs.declared.report_line.ReportLine.TheVariants.{GapLine}
 use Rattle.tnc_ports.specs.declared.serve_words.ServeWords.{ServeWords}
-use Rattle.tnc_ports.specs.declared.health.Health.{Health}
-use Rattle.tnc_ports.specs.declared.health_note.HealthNotes.{HealthNotes}
-use Rattle.tnc_ports.specs.Health.{new_health, with_heard, after_answers, after_tick, notes_of, after_notes}
-use Rattle.tnc_ports.specs.Health.{standing_of}
+use Rattle.host_ports.specs.declared.health.Health.{Health}
+use Rattle.host_ports.specs.declared.health_note.HealthNotes.{HealthNotes}
+use Rattle.host_ports.specs.Health.{new_health, with_heard, after_answers, after_tick, notes_of, after_notes}
+use Rattle.host_ports.specs.Health.{standing_of}
 use Rattle.tnc_ports.specs.Measured.{ReadsTo, place_after}
 use Rattle.tnc_ports.specs.HealthNotes.{health_lines}
-use Rattle.tnc_ports.specs.Hosts.{Hosts, new_hosts}
-use Rattle.tnc_ports.specs.HostTurns.{Asked, IsHostPart}
+use Rattle.host_ports.specs.Hosts.{Hosts, new_hosts}
+use Rattle.host_ports.specs.HostTurns.{Asked, IsHostPart}
 use Rattle.tnc_ports.specs.KeyTurns.{Whole, nothing_written, TurnsKeyIf, TicksKeyIf, is_held}
 use Rattle.tnc_ports.specs.SampledFrames.{with_lines, IsFrameHeard, IsTickMade}
 

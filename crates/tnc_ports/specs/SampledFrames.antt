@@ -12,9 +12,9 @@ use Rattle.channel_access.specs.declared.air_tick.Sent.{Sent}
 use Rattle.station.specs.Heard.{IsPathOf}
 use Rattle.station.specs.Links.{Links}
 use Rattle.station.specs.Monitored.{heard_modulus, sent_modulus}
-use Rattle.tnc_ports.specs.declared.report_line.ReportLine.{ReportLine}
-use Rattle.tnc_ports.specs.declared.report_line.ReportLine.TheVariants.{ReceivedLine, SentLine}
-use Rattle.tnc_ports.specs.Hosts.{Hosts, IsHeardStep, IsTickStep}
+use Rattle.host_ports.specs.declared.report_line.ReportLine.{ReportLine}
+use Rattle.host_ports.specs.declared.report_line.ReportLine.TheVariants.{ReceivedLine, SentLine}
+use Rattle.host_ports.specs.Hosts.{Hosts, IsHeardStep, IsTickStep}
 
 -- ---- a frame as a line of text
 

@@ -21,11 +21,11 @@ use Rattle.tnc_ports.specs.declared.looping.LoopEnd.TheVariants.{Done, Memory, W
 use Rattle.tnc_ports.specs.declared.serve_words.KeyWords.{KeyWords}
 use Rattle.tnc_ports.specs.declared.serve_words.ServeWords.{ServeWords}
 use Rattle.tnc_ports.specs.declared.turning.Turning.{Turning}
-use Rattle.tnc_ports.specs.AskedPorts.{Told, AreUnasked, IsAsked}
-use Rattle.tnc_ports.specs.HeldHosts.{HeldHosts, StandsFor}
+use Rattle.host_ports.specs.AskedPorts.{Told, AreUnasked, IsAsked}
+use Rattle.host_ports.specs.HeldHosts.{HeldHosts, StandsFor}
 use Rattle.tnc_ports.specs.HeldMeter.{HasMeasured, Measures}
-use Rattle.tnc_ports.specs.Hosts.{Hosts}
-use Rattle.tnc_ports.specs.HostTurns.{Asked, IsHostPart}
+use Rattle.host_ports.specs.Hosts.{Hosts}
+use Rattle.host_ports.specs.HostTurns.{Asked, IsHostPart}
 use Rattle.tnc_ports.specs.Sampled.{Live, new_live, HaveEnded, LanesReadOn, AreHeard, AreTicked, MakesAll, IsTurn}
 use Rattle.tnc_ports.specs.Sampled.{IsKeyTurn, octets_sent, tick_samples}
 use Rattle.tnc_ports.specs.SampledFrames.{IsFrameHeard}

@@ -16,21 +16,21 @@ use Rattle.key_port.specs.KeyLines.{KeyLine}
 use Rattle.key_port.specs.KeyTasks.{LineTold, line_told, CountsIf}
 use Rattle.tnc_base.specs.Faults.{HasRisen}
 use Rattle.tnc_base.specs.Streams.{WrotePart}
-use Rattle.tnc_ports.specs.declared.records.Listen.{Listen}
+use Rattle.host_ports.specs.declared.records.Listen.{Listen}
 use Rattle.tnc_ports.specs.declared.serve_words.KeyWords.{KeyWords}
 use Rattle.tnc_ports.specs.declared.serve_words.ServeWords.{ServeWords}
 use Rattle.tnc_ports.specs.declared.looping.LoopEnd.{LoopEnd}
 use Rattle.tnc_ports.specs.declared.looping.LoopEnd.TheVariants.{Done, Memory, WriteFault}
-use Rattle.tnc_ports.specs.AskedPorts.{poll_of, send_of}
-use Rattle.tnc_ports.specs.CutPart.{IsCutPart}
-use Rattle.tnc_ports.specs.Hosts.{Hosts, is_among}
-use Rattle.tnc_ports.specs.HostTurns.{Asked}
+use Rattle.host_ports.specs.AskedPorts.{poll_of, send_of}
+use Rattle.host_ports.specs.CutPart.{IsCutPart}
+use Rattle.host_ports.specs.Hosts.{Hosts, is_among}
+use Rattle.host_ports.specs.HostTurns.{Asked}
 use Rattle.tnc_ports.specs.ReportedGaps.{AreAllGaps, AreFirstGaps}
 use Rattle.tnc_ports.specs.ReportText.{output_octets, report_text}
 use Rattle.tnc_ports.specs.Sampled.{Live, new_live, with_hosts, HaveEnded, LanesReadOn, AreHeard, HearsAll, MakesTicks}
 use Rattle.tnc_ports.specs.Sampled.{MakesAll, IsTurn, IsKeyTurn, answers_of_all, octets_sent, tick_samples}
 use Rattle.tnc_ports.specs.ServedHosts.{octets_to, ids_shut, IsShutHavingCome, AreSentInTurns, AreShutInTurns}
-use Rattle.tnc_ports.specs.Sockets.{Poll, Send, MayCome}
+use Rattle.host_ports.specs.Sockets.{Poll, Send, MayCome}
 
 -- ---- a whole run
 

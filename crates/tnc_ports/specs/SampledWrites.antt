@@ -3,11 +3,11 @@
 use Rattle.std.specs.Prelude.{◌≡◌, ℕ, ℤ, ◌⊎◌, Bool, true, false, List, ◌++◌, Option, Some}
 use Rattle.tnc_base.specs.Faults.{HasRisen}
 use Rattle.tnc_base.specs.Streams.{WrotePart}
-use Rattle.tnc_ports.specs.Hosts.{Hosts}
+use Rattle.host_ports.specs.Hosts.{Hosts}
 use Rattle.tnc_ports.specs.ReportText.{output_octets, report_text}
 use Rattle.tnc_ports.specs.Sampled.{Live}
 use Rattle.tnc_ports.specs.SampledRun.{GrowsBy}
-use Rattle.tnc_ports.specs.declared.report_line.ReportLine.{ReportLine}
+use Rattle.host_ports.specs.declared.report_line.ReportLine.{ReportLine}
 
 -- what a stream tells, and how often it failed
 pub record Stream : Type 0 where

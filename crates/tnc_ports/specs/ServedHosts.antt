@@ -2,16 +2,16 @@
 -- connections were shut.
 use Rattle.std.specs.Prelude.{⊤, ◌≡◌, ℕ, ◌≤◌, ◌⊎◌, true, false, List, [], ◌∷◌, ◌++◌, All, length, map}
 use Rattle.std.specs.List.{flat_map}
-use Rattle.tnc_ports.specs.declared.report_line.ReportLine.{ReportLine}
-use Rattle.tnc_ports.specs.declared.report_line.ReportLine.TheVariants.{GapLine, ClosedLine, ReceivedLine, SentLine}
-use Rattle.tnc_ports.specs.declared.report_line.ReportLine.TheVariants.{KeyLine, HealthLine}
-use Rattle.tnc_ports.specs.AskedPorts.{poll_of, taken_of}
-use Rattle.tnc_ports.specs.Hosts.{Hosts, is_among, is_there, was_there}
-use Rattle.tnc_ports.specs.HostTurns.{Asked}
-use Rattle.tnc_ports.specs.SentSoFar.{octets_for, IsOrderly}
-use Rattle.tnc_ports.specs.Sockets.{Poll, has_come}
+use Rattle.host_ports.specs.declared.report_line.ReportLine.{ReportLine}
+use Rattle.host_ports.specs.declared.report_line.ReportLine.TheVariants.{GapLine, ClosedLine, ReceivedLine, SentLine}
+use Rattle.host_ports.specs.declared.report_line.ReportLine.TheVariants.{KeyLine, HealthLine}
+use Rattle.host_ports.specs.AskedPorts.{poll_of, taken_of}
+use Rattle.host_ports.specs.Hosts.{Hosts, is_among, is_there, was_there}
+use Rattle.host_ports.specs.HostTurns.{Asked}
+use Rattle.host_ports.specs.SentSoFar.{octets_for, IsOrderly}
+use Rattle.host_ports.specs.Sockets.{Poll, has_come}
 use Rattle.tnc_ports.specs.StepShuts.{octets_waiting_for}
-use Rattle.tnc_ports.specs.Waiting.{most_octets}
+use Rattle.host_ports.specs.Waiting.{most_octets}
 
 -- no id stands there twice
 abbrev pub NoneTwice : List ℕ → Type 0

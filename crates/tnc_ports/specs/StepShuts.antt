@@ -2,10 +2,10 @@
 use Rattle.std.specs.Prelude.{◌≡◌, ℕ, ◌+◌, ◌<◌, ◌≤◌, ◌⊎◌, ◌↔◌, true, false, IsTrue, List, [], ◌++◌, length, Option}
 use Rattle.std.specs.Prelude.{Some, None}
 use Rattle.station.specs.Turn.{Out}
-use Rattle.tnc_ports.specs.declared.line.Line.{Line}
-use Rattle.tnc_ports.specs.Hosts.{Hosts, line_of, is_among, is_there, delivering}
-use Rattle.tnc_ports.specs.SentSoFar.{octets_for}
-use Rattle.tnc_ports.specs.Waiting.{most_octets, octets_of}
+use Rattle.host_ports.specs.declared.line.Line.{Line}
+use Rattle.host_ports.specs.Hosts.{Hosts, line_of, is_among, is_there, delivering}
+use Rattle.host_ports.specs.SentSoFar.{octets_for}
+use Rattle.host_ports.specs.Waiting.{most_octets, octets_of}
 
 -- the octets that wait for a connection
 abbrev pub octets_waiting : Option Line → List ℕ

@@ -5,7 +5,7 @@ use Rattle.channel_access.specs.declared.air_tick.AirTick.{AirTick}
 use Rattle.tnc_ports.specs.declared.serve_words.ServeWords.{ServeWords}
 use Rattle.tnc_ports.specs.HealthNotes.{health_lines}
 use Rattle.tnc_ports.specs.Measured.{ReadsTo, place_after}
-use Rattle.tnc_ports.specs.Hosts.{Hosts}
+use Rattle.host_ports.specs.Hosts.{Hosts}
 use Rattle.tnc_ports.specs.Sampled.{Live, health_after_tick, notes_in_tick, tick_samples}
 use Rattle.tnc_ports.specs.SampledFrames.{IsTickMade, with_lines}
 

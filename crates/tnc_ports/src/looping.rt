@@ -9,13 +9,11 @@ ghost use Rattle.tnc_ports.specs.Sampled.{new_live};
 ghost use Rattle.tnc_ports.specs.SampledHeld.{StandsForLive, KeyStands, RunsOut};
 ghost use Rattle.tnc_ports.specs.SampledRun.{IsLooped, outside_by};
 
-use crate::health::Health;
-use crate::host_side::HostSide;
 use crate::meter::Meter;
-use crate::ports::Ports;
 use crate::releasing::{key_of, release_key};
 use crate::serve_words::ServeWords;
 use crate::turning::Turning;
+use host_ports::{Health, HostSide, Ports};
 use key_port::KeyPort;
 use ring_receiver::RingReceiver;
 use sample_ring::{Reader, Ring};

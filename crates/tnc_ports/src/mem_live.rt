@@ -2,13 +2,13 @@
 ghost use Rattle.std.specs.Prelude.{◌≡◌, ◌-◌, ◌^◌, [], All};
 ghost use Rattle.key_port.specs.KeyScripts.{new_key};
 ghost use Rattle.tnc_ports.specs.declared.spawner.Order.TheVariants.{PumpFirst};
-ghost use Rattle.tnc_ports.specs.Sockets.{IsWholePiece};
-ghost use Rattle.tnc_ports.specs.Scripts.{new_ports};
+ghost use Rattle.host_ports.specs.Sockets.{IsWholePiece};
+ghost use Rattle.host_ports.specs.Scripts.{new_ports};
 
 use crate::live::Live;
-use crate::mem_ports::MemPorts;
 use crate::spawner::{Order, Spawner};
 use crate::starting::Start;
+use host_ports::MemPorts;
 use key_port::MemKeyPort;
 use station::HostEvent;
 use std::alloc::Global;

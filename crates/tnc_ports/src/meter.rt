@@ -3,11 +3,11 @@ ghost use Rattle.std.specs.Prelude.{◌≡◌, ◌++◌, List};
 ghost use Rattle.sample_ring.specs.declared.got.Got.{Got};
 ghost use Rattle.sample_ring.specs.Ends.{position_of, reader_ring, ring_id, ring_len};
 ghost use Rattle.slicer_bank.specs.RingLanes.{answers_of};
-ghost use Rattle.tnc_ports.specs.Health.{after_answers};
+ghost use Rattle.host_ports.specs.Health.{after_answers};
 ghost use Rattle.tnc_ports.specs.HeldMeter.{ReadsOnce};
 ghost use Rattle.tnc_ports.specs.Measured.{ReadsTo, place_after};
 
-use crate::health::Health;
+use host_ports::Health;
 use sample_ring::{Got, Reader, Ring};
 
 /// A reader of the ring, and what was counted. It reads all samples of a tick before the tick is made.

@@ -3,9 +3,9 @@ ghost use Rattle.std.specs.Prelude.{◌≡◌};
 ghost use Rattle.tnc_ports.specs.declared.spawner.Order.TheVariants.{AtOnce};
 
 use crate::live::Live;
-use crate::real_ports::RealPorts;
 use crate::spawner::{Order, Spawner};
 use crate::starting::Start;
+use host_ports::RealPorts;
 use key_port::RealKeyPort;
 use std::sync::{OnceToken, Wait};
 

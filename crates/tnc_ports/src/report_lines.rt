@@ -4,9 +4,8 @@ ghost use Rattle.tnc_ports.specs.HealthNotes.{dead_note, dropped_note, health_li
 ghost use Rattle.tnc_ports.specs.ReportText.{counts_text, ended_line, frames_text, note_text, output_octets, report_text};
 ghost use Rattle.tnc_ports.specs.ReportText.{sound_text};
 
-use crate::health_note::{Counts, HealthNote, HealthNotes};
-use crate::report_line::ReportLine;
 use byteorder::{ByteOrder, LittleEndian};
+use host_ports::{Counts, HealthNote, HealthNotes, ReportLine};
 use std::alloc::Global;
 use tnc_base::{Octets, OutOfMemory};
 

@@ -1,6 +1,6 @@
 //! What a live station is asked for.
 
-use crate::records::Listen;
+use host_ports::Listen;
 use keying::Words;
 use slicer_bank::Detection;
 use station::Config;

@@ -17,11 +17,11 @@ ghost use Rattle.tnc_ports.specs.Starts.{CountsUnless};
 
 use crate::live::Live;
 use crate::looping::{LoopEnd, station_loop};
-use crate::ports::Ports;
 use crate::pump_run::pump_beside;
 use crate::pumping::{PumpEnd, Pumped};
 use crate::serve_words::ServeWords;
 use crate::spawner::Spawner;
+use host_ports::Ports;
 use key_port::KeyPort;
 use ring_receiver::{RingReceiver, readers_wanted};
 use sample_ring::{Reader, Ring, Writer};

@@ -12,7 +12,8 @@ use std::net::Net;
 use std::test::Fail;
 use tnc_base::{MemSink, MemSource, Octets, OutOfMemory};
 use tnc_call::{CallEnd, call};
-use tnc_ports::{MemLive, MemPorts};
+use host_ports::MemPorts;
+use tnc_ports::MemLive;
 
 /// The most octets of an event.
 const MOST: usize = 4096;
@@ -27,7 +28,7 @@ struct Script {
 // No test needs a fact about a script, so its value shows none. Each test is then proved faster.
 impl Model for Script {
     ghost use Rattle.std.specs.Prelude.{⊤, All};
-    ghost use Rattle.tnc_ports.specs.Sockets.{IsWholePiece};
+    ghost use Rattle.host_ports.specs.Sockets.{IsWholePiece};
 
     ghost Value = { ⊤ };
 

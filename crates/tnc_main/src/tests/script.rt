@@ -22,7 +22,7 @@ pub(super) struct Script {
 // No test needs a fact about a script, so its value shows none. Each test is then proved faster.
 impl Model for Script {
     ghost use Rattle.std.specs.Prelude.{⊤, All};
-    ghost use Rattle.tnc_ports.specs.Sockets.{IsWholePiece};
+    ghost use Rattle.host_ports.specs.Sockets.{IsWholePiece};
 
     ghost Value = { ⊤ };
 

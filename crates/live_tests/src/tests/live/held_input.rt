@@ -3,6 +3,7 @@ ghost use Rattle.std.specs.Prelude.{None};
 
 use super::outcome::words;
 use crate::assertions::assert_equal;
+use host_ports::{Listen, PollFault, Ports};
 use key_port::{MemKeyPort, RealKeyPort};
 use station::HostEvent;
 use std::alloc::Global;
@@ -14,7 +15,7 @@ use std::thread;
 use std::thread::Threads;
 use std::time::Clock;
 use tnc_base::{Failed, MemSink, OutOfMemory, Sink, Source};
-use tnc_ports::{Listen, Live, PollFault, Ports, RealSpawner, ServeEnd, serve};
+use tnc_ports::{Live, RealSpawner, ServeEnd, serve};
 
 /// Sockets without hosts. They count their polls, for another thread to see, and after so many they want memory.
 #[derive(Drop)]

@@ -3,6 +3,7 @@ ghost use Rattle.hdlc_framer.specs.FrameLength.{HasFrameLength};
 
 use super::script::{Script, came};
 use crate::assertions::assert_equal;
+use host_ports::{HostSide, ReportLine};
 use link_machine::Params;
 use station::{Config, PortKind};
 use station_tests::message;
@@ -11,7 +12,7 @@ use std::net::Net;
 use std::process::Abort;
 use std::test::Fail;
 use tnc_base::OutOfMemory;
-use tnc_ports::{HostSide, MemLive, ReportLine};
+use tnc_ports::MemLive;
 
 /// A UI frame from N7LEM to NJ7P. As a KISS frame it has 19 octets.
 const FRAME: &[u8] = b"\x9c\x94\x6e\xa0\x40\x40\xe0\x9c\x6e\x98\x8a\x9a\x40\x61\x03\xf0";

@@ -2,11 +2,11 @@
 
 use super::script::Script;
 use crate::assertions::assert_equal;
+use host_ports::{MemPorts, Outgoing, offer};
 use std::alloc::Global;
 use std::net::Net;
 use std::test::Fail;
 use tnc_base::OutOfMemory;
-use tnc_ports::{MemPorts, Outgoing, offer};
 
 /// Pieces that wait.
 fn waiting_of(alloc: Global, pieces: &[&[u8]]) -> Result<Box<Outgoing>, Fail> {

@@ -3,6 +3,7 @@ ghost use Rattle.std.specs.Prelude.{◌≤◌, ℕ};
 ghost use Rattle.link_machine.specs.Params.{IsRefusedWindow};
 ghost use Rattle.slicer_bank.specs.Detection.{CanBeAsked};
 
+use host_ports::{Listen, MemPorts};
 use key_port::MemKeyPort;
 use link_machine::Params;
 use slicer_bank::Detection;
@@ -13,7 +14,7 @@ use std::net::{Ipv4Addr, Net};
 use std::sync::Wait;
 use std::thread::Threads;
 use tnc_base::{MemSink, MemSource, OutOfMemory};
-use tnc_ports::{Listen, Live, MemPorts, ServeEnd, ServeWords, Spawner, serve};
+use tnc_ports::{Live, ServeEnd, ServeWords, Spawner, serve};
 
 pub(super) fn words(monitor: bool, sensitive: bool) -> ServeWords
     ensures window { (window : ℕ) → ¬ IsRefusedWindow result.config.params window }

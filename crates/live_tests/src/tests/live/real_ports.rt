@@ -2,12 +2,12 @@
 
 use super::script::names;
 use crate::assertions::assert_equal;
+use host_ports::{Listen, Ports, RealPorts};
 use std::alloc::Global;
 use std::io::{Read, Write};
 use std::net::{Ipv4Addr, Net, SocketAddr, TcpListener, TcpStream};
 use std::process::Abort;
 use std::test::Fail;
-use tnc_ports::{Listen, Ports, RealPorts};
 
 /// A port that nobody listens on.
 fn free_port(rt: &HostRuntime) -> Result<u16, Fail> {

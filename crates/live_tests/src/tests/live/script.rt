@@ -1,6 +1,7 @@
 //! A script of events, and how sockets in memory give it.
 
 use crate::assertions::assert_equal;
+use host_ports::{Dial, MemPorts, Ports};
 use station::{HostEvent, PortKind};
 use std::alloc::Global;
 use std::marker::Model;
@@ -8,7 +9,7 @@ use std::net::Net;
 use std::process::Abort;
 use std::test::Fail;
 use tnc_base::{Octets, OutOfMemory};
-use tnc_ports::{Dial, MemLive, MemPorts, Ports};
+use tnc_ports::MemLive;
 
 /// The most octets of an event.
 const MOST: usize = 4096;
@@ -23,7 +24,7 @@ pub(super) struct Script {
 // No test needs a fact about a script, so its value shows none. Each test is then proved faster.
 impl Model for Script {
     ghost use Rattle.std.specs.Prelude.{⊤, All};
-    ghost use Rattle.tnc_ports.specs.Sockets.{IsWholePiece};
+    ghost use Rattle.host_ports.specs.Sockets.{IsWholePiece};
 
     ghost Value = { ⊤ };
 

@@ -4,6 +4,7 @@ use super::outcome::{Failing, NONE, Outcome, served, served_by, silence};
 use super::script::Script;
 use crate::assertions::assert_equal;
 use afsk_modulator::transmission;
+use host_ports::MemPorts;
 use key_port::MemKeyPort;
 use station::PortKind;
 use station_tests::message;
@@ -14,7 +15,7 @@ use std::sync::{OnceToken, Wait};
 use std::test::Fail;
 use std::thread::Threads;
 use tnc_base::{Octets, OutOfMemory};
-use tnc_ports::{Live, MemLive, MemPorts, Order, ServeEnd, Spawner, Start};
+use tnc_ports::{Live, MemLive, Order, ServeEnd, Spawner, Start};
 
 /// No thread can be started, so the pump runs last.
 #[derive(Debug, Drop)]

@@ -3,7 +3,7 @@ use Rattle.slicer_bank.specs.RingTurns.{reads_on}
 use Rattle.std.proofs.Common.{of_z, to_z}
 use Rattle.std.proofs.lemmas.Int.{to_z-of_z}
 use mir.Syntax.{w16}
-use Rattle.tnc_ports.specs.Health.{after_answer, after_sample}
+use Rattle.host_ports.specs.Health.{after_answer, after_sample}
 use Rattle.tnc_ports.proofs.LiveMeter.{read_more, stays_so}
 use Rattle.tnc_ports.proofs.meter.Meter.read_once.Goals as goal
 

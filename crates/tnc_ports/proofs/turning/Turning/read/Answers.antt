@@ -1,6 +1,6 @@
 use Rattle.tnc_ports.proofs.Common.{ap, map, ◌∙◌, refl, ring_len, report_text, gap_line}
 use Rattle.tnc_ports.proofs.LiveReads.{cut_in_reading, reads_all}
-use Rattle.tnc_ports.proofs.LiveSteps.{on_err}
+use Rattle.host_ports.proofs.ResultLemmas.{on_err}
 use Rattle.tnc_ports.proofs.turning.Turning.read.Goals as goal
 
 pub returns-in_err-heard-clause-cut : goal.returns-in_err-heard-clause-cut

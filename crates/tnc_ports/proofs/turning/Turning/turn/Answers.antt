@@ -1,5 +1,5 @@
 use Rattle.tnc_ports.proofs.Common.{ap, ring_len, stream_of}
-use Rattle.tnc_ports.proofs.LiveSteps.{on_err}
+use Rattle.host_ports.proofs.ResultLemmas.{on_err}
 use Rattle.tnc_ports.proofs.LiveTurn.{whole_turn, cut_serving}
 use Rattle.tnc_ports.proofs.turning.Turning.turn.Goals as goal
 

@@ -1,0 +1,12 @@
+pub mod Sockets
+pub mod Scripts
+pub mod RealSockets
+pub mod Waiting
+pub mod IdRanges
+pub mod Hosts
+pub mod HostTurns
+pub mod SentSoFar
+pub mod AskedPorts
+pub mod CutPart
+pub mod HeldHosts
+pub mod Health

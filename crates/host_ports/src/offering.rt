@@ -1,0 +1,120 @@
+//! What is sent to connections in a turn: each is offered the rest of one piece.
+ghost use Rattle.std.specs.Prelude.{◌≡◌, ◌≤◌, ℕ, List, [], ◌++◌, IfOk, OnOk, OnErr};
+ghost use Rattle.host_ports.specs.declared.report_line.ReportLine.{ReportLine};
+ghost use Rattle.host_ports.specs.AskedPorts.{Told, AreOffered, AreShut, told_by};
+ghost use Rattle.host_ports.specs.HeldHosts.{AreParts, IsAtRest};
+ghost use Rattle.host_ports.specs.Hosts.{Hosts};
+ghost use Rattle.host_ports.specs.HostTurns.{Offer, Offering, IsOffered, InOrder, ids_of_lines};
+
+use crate::host_parts::HostParts;
+use crate::lines::place_of;
+use crate::ports::Ports;
+use crate::sending::{OfferFault, offer};
+use std::alloc::Global;
+use std::net::Net;
+use tnc_base::OutOfMemory;
+
+impl HostParts {
+    /// Each connection for which something waits is offered the rest of its front piece, once.
+    pub(crate) fn offer_all<R: Net, N: Ports>(
+        &mut self,
+        rt: &R,
+        alloc: Global,
+        ports: &mut N,
+    ) -> Result<(), OutOfMemory>
+        requires rest { IsAtRest self.old }
+        ensures offers { (printed : List ReportLine) (hosts : Hosts) → AreParts self.old printed hosts
+            → OnOk result ((next : Offering)
+            × InOrder IsOffered (ids_of_lines hosts.lines) (record { hosts = hosts; offers = []; failed = [] }) next
+            × AreParts self.new printed next.hosts
+            × AreOffered next.offers next.failed (told_by N.polls N.sends N.sent N.is_shut N.faults ports.old)
+            (told_by N.polls N.sends N.sent N.is_shut N.faults ports.new)) }
+        ensures cut { (printed : List ReportLine) (hosts : Hosts) → AreParts self.old printed hosts
+            → OnErr result ((first others : List ℕ) × (next : Offering) × (ids_of_lines hosts.lines ≡ first ++ others)
+            × InOrder IsOffered first (record { hosts = hosts; offers = []; failed = [] }) next
+            × AreOffered next.offers next.failed (told_by N.polls N.sends N.sent N.is_shut N.faults ports.old)
+            (told_by N.polls N.sends N.sent N.is_shut N.faults ports.new)) }
+        ensures rest { OnOk result (IsAtRest self.new) }
+        ensures listens { N.listens ports.new ≡ N.listens ports.old }
+        ensures dials { N.dials ports.new ≡ N.dials ports.old }
+        ensures later { N.faults ports.old ≤ N.faults ports.new }
+    {
+        let ids = self.ids(alloc)?;
+        for id in &ids {
+            self.offer_to(rt, alloc, ports, *id)?;
+        }
+        Ok(())
+    }
+
+    /// The connections that are there.
+    fn ids(&self, alloc: Global) -> Result<Vec<u32>, OutOfMemory>
+        ensures { IfOk result (λ ids. ids.items ≡ ids_of_lines self.now.lines.items) }
+    {
+        let mut ids = Vec::new(alloc);
+        for line in &self.lines {
+            ids.push(line.id)?;
+        }
+        Ok(ids)
+    }
+
+    /// A connection for which something waits is offered the rest of its front piece, or is shut if its send fails.
+    fn offer_to<R: Net, N: Ports>(
+        &mut self,
+        rt: &R,
+        alloc: Global,
+        ports: &mut N,
+        id: u32,
+    ) -> Result<(), OutOfMemory>
+        requires rest { IsAtRest self.old }
+        ensures offers { (printed : List ReportLine) (before : Offering) (start : Told)
+            → AreParts self.old printed before.hosts
+            → AreOffered before.offers before.failed start (told_by N.polls N.sends N.sent N.is_shut N.faults ports.old)
+            → OnOk result ((next : Offering) × IsOffered id before next × AreParts self.new printed next.hosts
+            × AreOffered next.offers next.failed start (told_by N.polls N.sends N.sent N.is_shut N.faults ports.new)) }
+        ensures cut { (offers : List Offer) (failing : List ℕ) (start : Told)
+            → AreOffered offers failing start (told_by N.polls N.sends N.sent N.is_shut N.faults ports.old)
+            → OnErr result (AreOffered offers failing start
+            (told_by N.polls N.sends N.sent N.is_shut N.faults ports.new)) }
+        ensures rest { OnOk result (IsAtRest self.new) }
+        ensures listens { N.listens ports.new ≡ N.listens ports.old }
+        ensures dials { N.dials ports.new ≡ N.dials ports.old }
+        ensures later { N.faults ports.old ≤ N.faults ports.new }
+    {
+        let Some(at) = place_of(id, &self.lines) else {
+            return Ok(());
+        };
+        if self.lines[at].waiting.is_empty() {
+            return Ok(());
+        }
+        match offer(rt, alloc, ports, id, &mut self.lines[at].waiting) {
+            Ok(_) => Ok(()),
+            Err(OfferFault::Failed) => self.cut_off(id),
+            Err(OfferFault::Memory) => Err(OutOfMemory),
+        }
+    }
+
+    /// The sockets are told of each connection that was shut.
+    pub(crate) fn shut_all<N: Ports>(&mut self, ports: &mut N)
+        ensures parts { (printed : List ReportLine) (hosts : Hosts) → AreParts self.old printed hosts
+            → AreParts self.new printed (record hosts { to_shut = [] }) }
+        ensures shut { AreShut self.old.to_shut.items (told_by N.polls N.sends N.sent N.is_shut N.faults ports.old)
+            (told_by N.polls N.sends N.sent N.is_shut N.faults ports.new) }
+        ensures rest { IsAtRest self.old → IsAtRest self.new }
+        ensures listens { N.listens ports.new ≡ N.listens ports.old }
+        ensures dials { N.dials ports.new ≡ N.dials ports.old }
+    {
+        tell_shut(&self.to_shut, ports);
+        self.to_shut.clear();
+    }
+}
+
+fn tell_shut<N: Ports>(ids: &[u32], ports: &mut N)
+    ensures shut { AreShut ids.now (told_by N.polls N.sends N.sent N.is_shut N.faults ports.old)
+        (told_by N.polls N.sends N.sent N.is_shut N.faults ports.new) }
+    ensures listens { N.listens ports.new ≡ N.listens ports.old }
+    ensures dials { N.dials ports.new ≡ N.dials ports.old }
+{
+    for id in ids {
+        ports.shut(*id);
+    }
+}

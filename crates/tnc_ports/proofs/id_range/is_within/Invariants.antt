@@ -1,7 +1,0 @@
--- None so far.
-use Rattle.tnc_ports.proofs.Common.{◌≡◌, take, is_within}
-use Rattle.std.proofs.Common.{false}
-use Rattle.tnc_ports.proofs.id_range.is_within.Given as goal
-
-abbrev pub invariant-loop-range : goal.invariant-loop-range
-invariant-loop-range l = is_within l.id (take l.range-index l.ranges) ≡ false

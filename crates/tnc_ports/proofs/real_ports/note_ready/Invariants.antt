@@ -1,6 +1,0 @@
--- No id changes.
-use Rattle.tnc_ports.proofs.Common.{◌≡◌}
-use Rattle.tnc_ports.proofs.real_ports.note_ready.Given as goal
-
-abbrev pub invariant-loop-event : goal.invariant-loop-event
-invariant-loop-event l = l.sockets ≡ l.initial.sockets

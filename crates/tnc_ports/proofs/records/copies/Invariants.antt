@@ -1,6 +1,0 @@
--- Copies of the events so far.
-use Rattle.tnc_ports.proofs.Common.{◌≡◌, take}
-use Rattle.tnc_ports.proofs.records.copies.Given as goal
-
-abbrev pub invariant-loop-event : goal.invariant-loop-event
-invariant-loop-event l = l.same.items ≡ take l.event-index l.events

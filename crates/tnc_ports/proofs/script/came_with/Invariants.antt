@@ -1,6 +1,0 @@
--- Those that joined so far.
-use Rattle.tnc_ports.proofs.Common.{◌≡◌, ◌++◌, take, joined_in}
-use Rattle.tnc_ports.proofs.script.came_with.Given as goal
-
-abbrev pub invariant-loop-event : goal.invariant-loop-event
-invariant-loop-event l = l.all.items ≡ l.fn.came ++ joined_in (take l.event-index l.events)

@@ -1,6 +1,0 @@
--- What the script so far has for the poll.
-use Rattle.tnc_ports.proofs.Common.{◌≡◌, ◌++◌, take, scripted_for}
-use Rattle.tnc_ports.proofs.script.due.Given as goal
-
-abbrev pub invariant-loop-entry : goal.invariant-loop-entry
-invariant-loop-entry l = l.all.items ≡ l.fn.waiting ++ scripted_for l.number (take l.entry-index l.script)

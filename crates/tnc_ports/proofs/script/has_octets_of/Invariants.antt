@@ -1,7 +1,0 @@
--- None so far.
-use Rattle.tnc_ports.proofs.Common.{◌≡◌, take, list_any, is_octets_of}
-use Rattle.std.proofs.Common.{false}
-use Rattle.tnc_ports.proofs.script.has_octets_of.Given as goal
-
-abbrev pub invariant-loop-event : goal.invariant-loop-event
-invariant-loop-event l = list_any (is_octets_of l.id) (take l.event-index l.events) ≡ false
