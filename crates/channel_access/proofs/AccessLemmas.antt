@@ -13,16 +13,18 @@ use Rattle.channel_access.specs.Happenings.Happening.{Heard, Ticked}
 use Rattle.channel_access.specs.Channel.{Decision}
 use Rattle.channel_access.specs.HeldTick.{held_samples, held_sent, after_held_send, after_held_tick}
 use Rattle.channel_access.proofs.BodyLemmas.{flags-is}
+use Rattle.channel_access.proofs.ModemLemmas.{bits_of_ticks-none}
 use Rattle.channel_access.proofs.OrderLemmas.{air_takes}
 use Rattle.channel_access.proofs.StageLemmas.{now_at}
 use Rattle.channel_access.proofs.TickLemmas.{all_waiting}
 use Rattle.channel_access.proofs.AirLemmas.{at_end, run_samples, run_sent, run_air}
 
 -- a new transmission
-unfoldable pub begins : (channel : Channel) → Goes (new_sending channel.parameters) channel.waiting (begun channel)
+unfoldable pub begins : (channel : Channel)
+    → Goes (new_sending channel.modem channel.parameters) channel.waiting (begun channel)
 unfolding new_sending
 begins channel =
-    let opening : ℕ = opening_flags channel.parameters.tx_delay in
+    let opening : ℕ = opening_flags channel.modem channel.parameters.tx_delay in
     let two : 2 ≤ opening = le-max_left 2 _ in
     record {
       sent = [];
@@ -34,11 +36,11 @@ begins channel =
           ends = refl;
           named = refl;
         };
-        count = refl;
+        count = sym (bits_of_ticks-none channel.modem);
         frames = refl;
         closing = refl;
         tone = refl;
-        phase = refl;
+        wave = refl;
       };
       left = refl;
     }
@@ -56,6 +58,7 @@ pub record SendsTick (s : Option Sending) (waiting : List WaitingFrame) (air : O
 pub sends_tick : (s : Option Sending) (air : Option OnAir) (channel : Channel)
     → All (λ frame. HasFrameLength frame.octets) channel.waiting → StandsForAir s channel.waiting air
     → SendsTick s channel.waiting air (record {
+      modem = channel.modem;
       waiting = channel.waiting;
       parameters = channel.parameters;
       generator = channel.generator;
@@ -67,6 +70,7 @@ sends_tick None None channel fit h = record {
   samples = refl;
   sent = refl;
   after = record {
+    modem = refl;
     waiting = refl;
     parameters = refl;
     generator = refl;
@@ -86,6 +90,7 @@ sends_tick (Some s) (Some t) channel fit h =
       samples = run_samples s channel.waiting t h fit;
       sent = run_sent s channel.waiting t h fit;
       after = record {
+        modem = refl;
         waiting = end.is_waiting;
         parameters = refl;
         generator = refl;
@@ -101,6 +106,7 @@ sends_tick (Some s) (Some t) channel fit h =
 -- what is kept of a channel, with its sender
 abbrev pub held_of : Channel → Option Sending → Held
 held_of channel s = record {
+  modem = channel.modem;
   waiting = channel.waiting;
   parameters = channel.parameters;
   generator = channel.generator;
@@ -111,9 +117,11 @@ held_of channel s = record {
 
 pub held-is : (held : Held) (channel : Channel) → StandsFor held channel → held ≡ held_of channel held.sending
 held-is held channel h =
-    ap (λ w. record held { waiting = w }) h.waiting
-    ∙ ap (λ p. record held { waiting = channel.waiting; parameters = p }) h.parameters
-    ∙ ap (λ g. record held { waiting = channel.waiting; parameters = channel.parameters; generator = g }) h.generator
+    ap (λ m. record held { modem = m }) h.modem
+    ∙ ap (λ w. record held { modem = channel.modem; waiting = w }) h.waiting
+    ∙ ap (λ p. record held { modem = channel.modem; waiting = channel.waiting; parameters = p }) h.parameters
+    ∙ ap (λ g. record (held_of channel held.sending) { generator = g; slot = held.slot; listening = held.listening })
+    h.generator
     ∙ ap (λ n. record (held_of channel held.sending) { slot = n; listening = held.listening }) h.slot
     ∙ ap (λ l. record (held_of channel held.sending) { listening = l }) h.listening
 
@@ -121,6 +129,7 @@ held-is held channel h =
 stands_after : (here : Happening) (past : List Happening) (held : Held) (channel : Channel) → StandsFor held channel
     → StandsFor (held_after here past held) (record channel { past = here ∷ past })
 stands_after here past held channel h = record {
+  modem = h.modem;
   waiting = h.waiting;
   parameters = h.parameters;
   generator = h.generator;
@@ -142,13 +151,13 @@ pub record IsTick (busy wants : Bool) (held : Held) (channel : Channel) : Type 0
 
 -- the decision of a tick at rest, d, channel being the channel with it
 rest_tick : (channel : Channel) (d : Decision) (b : Bool) → All (λ frame. HasFrameLength frame.octets) channel.waiting
-    → SendsTick (cond b (Some (new_sending channel.parameters)) None) channel.waiting
+    → SendsTick (cond b (Some (new_sending channel.modem channel.parameters)) None) channel.waiting
     (cond b (Some (begun channel)) None)
-    (record (held_of channel (cond b (Some (new_sending channel.parameters)) None))
+    (record (held_of channel (cond b (Some (new_sending channel.modem channel.parameters)) None))
     { slot = d.slot; generator = d.generator })
     (record channel { slot = d.slot; generator = d.generator; air = cond b (Some (begun channel)) None })
 rest_tick channel d true fit =
-    sends_tick (Some (new_sending channel.parameters)) (Some (begun channel))
+    sends_tick (Some (new_sending channel.modem channel.parameters)) (Some (begun channel))
     (record channel { slot = d.slot; generator = d.generator; air = Some (begun channel) }) fit (begins channel)
 rest_tick channel d false fit =
     sends_tick None None (record channel { slot = d.slot; generator = d.generator; air = None }) fit tt
@@ -158,7 +167,7 @@ is_tick : (busy wants : Bool) (channel : Channel) (s : Option Sending) (air : Op
     → IsTick busy wants (held_of channel s) (record channel { air = air })
 is_tick busy wants channel None None fit h =
     let d : Decision = decision busy wants (record channel { air = None }) in
-    let now : Option Sending = cond d.begins (Some (new_sending channel.parameters)) None in
+    let now : Option Sending = cond d.begins (Some (new_sending channel.modem channel.parameters)) None in
     let air : Option OnAir = cond d.begins (Some (begun channel)) None in
     let r = rest_tick channel d d.begins fit in
     let same : is_some now ≡ is_some air = both_some d.begins in
@@ -189,10 +198,10 @@ is_tick busy wants channel None None fit h =
         → Takes (air_sent channel.waiting (cond b (Some (begun channel)) None)) channel.waiting
         (air_waiting channel.waiting (cond b (Some (begun channel)) None))
     rest_takes true =
-        air_takes (Some (new_sending channel.parameters)) channel.waiting (Some (begun channel)) (begins channel)
+        air_takes (Some (new_sending channel.modem channel.parameters)) channel.waiting (Some (begun channel)) (begins channel)
     rest_takes false = refl
 
-    both_some : (b : Bool) → is_some (cond b (Some (new_sending channel.parameters)) None)
+    both_some : (b : Bool) → is_some (cond b (Some (new_sending channel.modem channel.parameters)) None)
         ≡ is_some (cond b (Some (begun channel)) None)
     both_some true = refl
     both_some false = refl

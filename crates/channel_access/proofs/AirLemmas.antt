@@ -3,8 +3,8 @@ use Rattle.channel_access.proofs.Common.{◌≡◌, ℕ, ◌+◌, ◌-◌, ◌*�
 use Rattle.channel_access.proofs.Common.{Option, Some, None, ℤ, pos, List, [], ◌∷◌, ◌++◌, length, take, drop, replicate}
 use Rattle.channel_access.proofs.Common.{refl, ap, ◌∙◌, sym, subst, inl, inr, arith, length-append, append_assoc}
 use Rattle.channel_access.proofs.Common.{append-nil, All, le-max_left, cases_Bool, cond-true, cond-false, le-leb}
-use Rattle.channel_access.proofs.Common.{lt-leb, replicate-append-replicate, wave_from, wave, line}
-use Rattle.channel_access.proofs.Common.{transmission, Mark, flags, body, frame_bits, Sending, Stage, Opening, Frame}
+use Rattle.channel_access.proofs.Common.{lt-leb, replicate-append-replicate, line, tick_bits, bits_of_ticks, samples_of_bits, with_bits}
+use Rattle.channel_access.proofs.Common.{Modem, flags_in, Mark, flags, body, frame_bits, Sending, Stage, Opening, Frame}
 use Rattle.channel_access.proofs.Common.{Following, Closing, Over, WaitingFrame, HasFrameLength, OnAir, bits_then}
 use Rattle.channel_access.proofs.Common.{bits_of, samples_on_air, decided, followed_by, has_sent_frames, names_next}
 use Rattle.channel_access.proofs.Common.{with_named, frame_named, tick_samples, with_tick, most_frames, Run, tick_start}
@@ -13,16 +13,18 @@ use Rattle.channel_access.proofs.Common.{flag_rest, frame_rest, waiting_after}
 use Rattle.std.proofs.Math.Seq.{take-append_seam, drop-append_seam}
 use Rattle.nrzi_bits.specs.Line.{line_from, last_from}
 use Rattle.nrzi_bits.proofs.LineLemmas.{line_from-append}
-use Rattle.afsk_modulator.specs.Phase.{phase_from}
-use Rattle.afsk_modulator.proofs.WaveLemmas.{wave_from-append}
+use Rattle.channel_access.proofs.ModemLemmas.{bits_of_ticks-more, tick_bits-most, samples_of_bits-tick}
+use Rattle.channel_access.proofs.ModemLemmas.{samples_of_bits-ticks, samples_of_bits-fewer, modem_wave}
+use Rattle.channel_access.proofs.ModemLemmas.{modem_wave-append, transmission_by-is}
 use Rattle.channel_access.proofs.BodyLemmas.{length-flag_rest, body-more_closing, body-push}
 use Rattle.channel_access.proofs.FrameLemmas.{next_given}
 use Rattle.channel_access.proofs.StageLemmas.{now_at, by_test, same_now, same_waiting, frames_go_on, frames_ended}
 use Rattle.channel_access.proofs.StageLemmas.{flag_goes_on, all_named, frames_end-next, flag_there_at}
 use Rattle.channel_access.proofs.StageLemmas.{opening_bits, opening_end, opening_named}
-use Rattle.channel_access.proofs.SendingLemmas.{padded, padded-full, length-padded}
+use Rattle.channel_access.proofs.SendingLemmas.{padded, padded-full, length-padded, sends_by}
 use Rattle.channel_access.proofs.JoinLemmas.{may_come, end_later, flag_not_yet}
-use Rattle.channel_access.proofs.TickLemmas.{AtBit, sent_at, bits_more, all_waiting}
+use Rattle.channel_access.proofs.TickLemmas.{AtBit, sent_at, bits_more, all_waiting, modem-decided}
+use Rattle.channel_access.proofs.TickLemmas.{modem-with_named, modem-now_at}
 
 -- ---- what is left of a transmission, as far as it is decided
 
@@ -134,40 +136,46 @@ bits_of-with_named bits t =
 
 -- ---- the samples of a tick
 
-pub samples_on_air-is : (t : OnAir) → samples_on_air t ≡ wave (line (bits_of t))
-unfolding samples_on_air bits_of transmission
-samples_on_air-is t = refl
+pub samples_on_air-is : (t : OnAir) → samples_on_air t ≡ modem_wave t.modem (line (bits_of t))
+unfolding samples_on_air bits_of
+samples_on_air-is t = transmission_by-is t.modem t.frames t.opening (cond t.ends t.closing 0)
 
-pub wave-append : (sent rest : List Bool) → (later : List ℤ) × (wave (line (sent ++ rest)) ≡ wave (line sent) ++ later)
-wave-append sent rest =
-    let tones = line_from (last_from Mark (line sent)) rest in (
-      wave_from (phase_from 0 (line sent)) tones,
-      ap wave (line_from-append Mark sent rest) ∙ wave_from-append 0 (line sent) tones,
-    )
+pub wave-append : (modem : Modem) (sent rest : List Bool)
+    → (later : List ℤ) × (modem_wave modem (line (sent ++ rest)) ≡ modem_wave modem (line sent) ++ later)
+wave-append modem sent rest =
+    let later = modem_wave-append modem (line sent) (line_from (last_from Mark (line sent)) rest) in
+    (later.0, ap (modem_wave modem) (line_from-append Mark sent rest) ∙ later.1)
 
 -- the samples so far are the first of all samples with zeros after them
-first_samples : (total : ℕ) (t : OnAir) (sent rest : List Bool) → sent ++ rest ≡ bits_of t → length sent ≤ total
-    → (rest ≡ []) ⊎ (length sent ≡ total) → total ≤ length sent + 12
-    → (later : List ℤ) × (samples_on_air t ++ replicate 96 (pos 0) ≡ padded total sent ++ later)
+first_samples : (modem : Modem) (total : ℕ) (t : OnAir) (sent rest : List Bool) → t.modem ≡ modem
+    → sent ++ rest ≡ bits_of t → length sent ≤ total → (rest ≡ []) ⊎ (length sent ≡ total)
+    → total ≤ length sent + tick_bits modem
+    → (later : List ℤ) × (samples_on_air t ++ replicate 96 (pos 0) ≡ padded modem total sent ++ later)
 unfolding padded
-first_samples total t sent rest whole short (inl over) near =
-    let zeros : ℕ = 8 * (total - length sent) in
-    let all : zeros + (96 - zeros) ≡ 96 = omega arith in
-    let same : samples_on_air t ≡ wave (line sent) =
-    samples_on_air-is t ∙ ap (λ xs. wave (line xs)) (sym whole ∙ ap (λ xs. sent ++ xs) over ∙ append-nil sent) in (
+first_samples modem total t sent rest is whole short (inl over) near =
+    let all_sent : List ℤ = modem_wave modem (line sent) in
+    let zeros : ℕ = samples_of_bits modem (total - length sent) in
+    let few : zeros ≤ samples_of_bits modem (tick_bits modem) =
+    samples_of_bits-fewer modem (total - length sent) (tick_bits modem) (omega arith) in
+    let all : zeros + (96 - zeros) ≡ 96 = omega (arith, few, samples_of_bits-tick modem) in
+    let same : samples_on_air t ≡ all_sent =
+    samples_on_air-is t ∙ ap (λ m. modem_wave m (line (bits_of t))) is
+    ∙ ap (λ xs. modem_wave modem (line xs)) (sym whole ∙ ap (λ xs. sent ++ xs) over ∙ append-nil sent) in (
       replicate (96 - zeros) (pos 0),
       ap (λ xs. xs ++ replicate 96 (pos 0)) same
-          ∙ ap (λ n. wave (line sent) ++ replicate n (pos 0)) (sym all)
-          ∙ ap (λ xs. wave (line sent) ++ xs) (sym (replicate-append-replicate zeros (96 - zeros) (pos 0)))
-          ∙ sym (append_assoc (wave (line sent)) (replicate zeros (pos 0)) (replicate (96 - zeros) (pos 0))),
+          ∙ ap (λ n. all_sent ++ replicate n (pos 0)) (sym all)
+          ∙ ap (λ xs. all_sent ++ xs) (sym (replicate-append-replicate zeros (96 - zeros) (pos 0)))
+          ∙ sym (append_assoc all_sent (replicate zeros (pos 0)) (replicate (96 - zeros) (pos 0))),
     )
-first_samples total t sent rest whole short (inr full) near =
-    let later = wave-append sent rest in
-    let same : samples_on_air t ≡ wave (line sent) ++ later.0 =
-    samples_on_air-is t ∙ ap (λ xs. wave (line xs)) (sym whole) ∙ later.1 in (
+first_samples modem total t sent rest is whole short (inr full) near =
+    let later = wave-append modem sent rest in
+    let same : samples_on_air t ≡ modem_wave modem (line sent) ++ later.0 =
+    samples_on_air-is t ∙ ap (λ m. modem_wave m (line (bits_of t))) is
+    ∙ ap (λ xs. modem_wave modem (line xs)) (sym whole) ∙ later.1 in (
       later.0 ++ replicate 96 (pos 0),
-      ap (λ xs. xs ++ replicate 96 (pos 0)) same ∙ append_assoc (wave (line sent)) later.0 (replicate 96 (pos 0))
-          ∙ ap (λ xs. xs ++ (later.0 ++ replicate 96 (pos 0))) (sym (padded-full total sent full)),
+      ap (λ xs. xs ++ replicate 96 (pos 0)) same
+          ∙ append_assoc (modem_wave modem (line sent)) later.0 (replicate 96 (pos 0))
+          ∙ ap (λ xs. xs ++ (later.0 ++ replicate 96 (pos 0))) (sym (padded-full modem total sent full)),
     )
 
 -- the part of a list that stands between two others
@@ -245,7 +253,7 @@ ticks-followed_by [] t = refl
 ticks-followed_by (next ∷ others) t =
     by_test (λ (u : OnAir). u.ticks ≡ t.ticks) (ltb (length t.frames) most_frames) _ _ (λ _. refl) (λ _. refl)
 
-ticks-decided : (bits : ℕ) (waiting : List WaitingFrame) (t : OnAir) → (decided bits waiting t).ticks ≡ t.ticks
+pub ticks-decided : (bits : ℕ) (waiting : List WaitingFrame) (t : OnAir) → (decided bits waiting t).ticks ≡ t.ticks
 ticks-decided bits waiting t =
     by_test (λ (u : OnAir). u.ticks ≡ t.ticks) (has_sent_frames bits t) (followed_by (waiting_after t waiting) t) t
     (λ _. ticks-followed_by (waiting_after t waiting) t) (λ _. refl)
@@ -257,9 +265,12 @@ ticks-with_named bits t =
 
 module _ (s : Sending) (waiting : List WaitingFrame) (t : OnAir) (g : Goes s waiting t)
     (fit : All (λ frame. HasFrameLength frame.octets) waiting) where
-  at_start : AtBit (12 * t.ticks) waiting t g.sent (12 * t.ticks) (tick_start s waiting)
+  abbrev before : ℕ
+  before = bits_of_ticks t.modem t.ticks
+
+  at_start : AtBit before waiting t g.sent before (tick_start s waiting)
   at_start =
-      let total : ℕ = 12 * t.ticks in
+      let total : ℕ = before in
       let st = starts_tick s.stage waiting t total g.sent g.sends.stands g.sends.count fit in
       let P : OnAir → Type 0 = λ u. Sends s waiting u total g.sent in
       let is : decided total waiting t ≡ t = cond-false (has_sent_frames total t) _ t st.goes in
@@ -267,18 +278,27 @@ module _ (s : Sending) (waiting : List WaitingFrame) (t : OnAir) (g : Goes s wai
         more = g.sent;
         sends = subst P (sym (same_now total waiting t st.goes st.flag)) g.sends;
         is_waiting = sym (same_waiting total waiting t st.goes st.flag);
-        is_sent = sym (ap (sent_at total total) is ∙ cond-false (names_next total t) _ None st.flag);
+        is_sent = sym (ap (sent_at t.modem total total) is ∙ cond-false (names_next total t) _ None st.flag);
         grows = omega arith;
-        samples = sym (append-nil (padded total g.sent));
+        samples = sym (append-nil (padded t.modem total g.sent));
       }
 
-  pub at_end : AtBit (12 * t.ticks) waiting t g.sent (bits_then t) (run_of s waiting)
+  -- by the modem of the transmission, which is that of the sender
+  ends_at : AtBit before waiting t g.sent (before + tick_bits t.modem) (with_bits t.modem (tick_bits t.modem)
+      (tick_start s waiting))
+  ends_at =
+      let may = may_come s.stage waiting t before g.sent g.sends.stands g.sends.count fit in
+      let most = tick_bits-most t.modem in
+      bits_more before s waiting t g.sent fit (before + 12) may at_start (tick_bits t.modem) (omega arith)
+
+  pub at_end : AtBit before waiting t g.sent (bits_then t) (run_of s waiting)
   at_end =
-      let total : ℕ = 12 * t.ticks in
-      let may = may_come s.stage waiting t total g.sent g.sends.stands g.sends.count fit in
-      let P : ℕ → Type 0 = λ n. AtBit total waiting t g.sent n (run_of s waiting) in
-      let then_sent : total + 12 ≡ bits_then t = omega arith in
-      subst P then_sent (bits_more total s waiting t g.sent fit (total + 12) may at_start 12 (omega arith))
+      let P : Modem → Type 0 = λ modem. AtBit before waiting t g.sent (bits_then t) (with_bits modem (tick_bits modem)
+      (tick_start s waiting)) in
+      let Q : ℕ → Type 0 = λ n. AtBit before waiting t g.sent n (with_bits t.modem (tick_bits t.modem)
+      (tick_start s waiting)) in
+      subst P (sym (sends_by s waiting t before g.sent g.sends))
+      (subst Q (sym (bits_of_ticks-more t.modem t.ticks)) ends_at)
 
   abbrev run : Run
   run = run_of s waiting
@@ -296,15 +316,24 @@ module _ (s : Sending) (waiting : List WaitingFrame) (t : OnAir) (g : Goes s wai
 
   what_is_left : (rest : List Bool) × IsLeft run.sending.stage then_on_air at_end.more rest
   what_is_left =
-      let closes = le-max_left 1 (3 * run.sending.tail / 2) in
+      let closes = le-max_left 1 (flags_in then_on_air.modem run.sending.tail) in
       is_left run.sending.stage run.waiting then_on_air at_end.more at_end.sends.stands run_fits
       (omega (arith, at_end.sends.closing))
 
   pub same_ticks : then_on_air.ticks ≡ t.ticks
   same_ticks = ticks-with_named (bits_then t) decided_then ∙ ticks-decided (bits_then t) waiting t
 
-  pub full_before : length g.sent ≡ 12 * t.ticks
-  full_before = all_sent s.stage (12 * t.ticks) g.sent g.sends.count g.left
+  pub same_modem : then_on_air.modem ≡ t.modem
+  same_modem = modem-now_at (bits_then t) waiting t
+
+  -- the bits that are sent with the next tick
+  pub same_bits : bits_then then_on_air ≡ bits_then t
+  same_bits =
+      ap (λ modem. bits_of_ticks modem (then_on_air.ticks + 1)) same_modem
+      ∙ ap (λ n. bits_of_ticks t.modem (n + 1)) same_ticks
+
+  pub full_before : length g.sent ≡ bits_of_ticks t.modem t.ticks
+  full_before = all_sent s.stage before g.sent g.sends.count g.left
 
   pub run_samples : run.samples ≡ tick_samples decided_then
   unfolding tick_samples
@@ -318,27 +347,35 @@ module _ (s : Sending) (waiting : List WaitingFrame) (t : OnAir) (g : Goes s wai
         | inl over ↦ inl (left.1.none over)
         | inr goes ↦ inr (all_sent run.sending.stage (bits_then t) b.more b.sends.count goes)
       ] in
-      let first = first_samples (bits_then t) then_on_air b.more left.0 left.1.whole short ended
-      (omega (arith, b.grows)) in
+      let adds = bits_of_ticks-more t.modem t.ticks in
+      let first = first_samples t.modem (bits_then t) then_on_air b.more left.0 same_modem left.1.whole short ended
+      (omega (arith, b.grows, full, adds)) in
       let same : samples_on_air decided_then ≡ samples_on_air then_on_air =
-      samples_on_air-is decided_then ∙ ap (λ xs. wave (line xs)) (sym (bits_of-with_named (bits_then t) decided_then))
+      samples_on_air-is decided_then
+      ∙ ap (λ xs. modem_wave decided_then.modem (line xs)) (sym (bits_of-with_named (bits_then t) decided_then))
+      ∙ ap (λ m. modem_wave m (line (bits_of then_on_air))) (sym (modem-with_named (bits_then t) decided_then))
       ∙ sym (samples_on_air-is then_on_air) in
       let whole : samples_on_air decided_then ++ replicate 96 (pos 0) ≡
-      (padded (12 * t.ticks) g.sent ++ run.samples) ++ first.0 =
+      (padded t.modem before g.sent ++ run.samples) ++ first.0 =
       ap (λ xs. xs ++ replicate 96 (pos 0)) same ∙ first.1 ∙ ap (λ xs. xs ++ first.0) b.samples in
-      let before = length-padded (12 * t.ticks) g.sent (omega arith) in
-      let behind = length-padded (bits_then t) b.more short in
+      let size_before : length (padded t.modem before g.sent) ≡ 96 * t.ticks =
+      length-padded t.modem before g.sent (omega arith) ∙ samples_of_bits-ticks t.modem t.ticks in
+      let size_then : length (padded t.modem (bits_then t) b.more) ≡ 96 * (t.ticks + 1) =
+      length-padded t.modem (bits_then t) b.more short ∙ samples_of_bits-ticks t.modem (t.ticks + 1) in
       let ticks : 96 * (decided (bits_then t) waiting t).ticks ≡ 96 * t.ticks =
       ap (λ n. 96 * n) (ticks-decided (bits_then t) waiting t) in
-      middle (padded (12 * t.ticks) g.sent) run.samples first.0 (samples_on_air decided_then ++ replicate 96 (pos 0))
+      middle (padded t.modem before g.sent) run.samples first.0 (samples_on_air decided_then ++ replicate 96 (pos 0))
       (96 * decided_then.ticks) 96 whole (omega arith)
-      (omega (arith, ap length b.samples, length-append (padded (12 * t.ticks) g.sent) run.samples))
+      (omega (arith, ap length b.samples, length-append (padded t.modem before g.sent) run.samples))
 
   pub run_sent : run.sent ≡ frame_named (bits_then t) decided_then
   run_sent =
-      let ticks : 12 * t.ticks ≡ 12 * decided_then.ticks =
-      ap (λ n. 12 * n) (sym (ticks-decided (bits_then t) waiting t)) in
-      at_end.is_sent ∙ ap (λ n. sent_at n (bits_then t) decided_then) ticks
+      let by : t.modem ≡ decided_then.modem = sym (modem-decided (bits_then t) waiting t) in
+      let ticks : before ≡ bits_of_ticks decided_then.modem decided_then.ticks =
+      ap (λ modem. bits_of_ticks modem t.ticks) by
+      ∙ ap (bits_of_ticks decided_then.modem) (sym (ticks-decided (bits_then t) waiting t)) in
+      at_end.is_sent ∙ ap (λ modem. sent_at modem before (bits_then t) decided_then) by
+      ∙ ap (λ n. sent_at decided_then.modem n (bits_then t) decided_then) ticks
 
   -- if something is left
   unfoldable pub goes_on : stage_over run.sending.stage ≡ false
@@ -347,16 +384,15 @@ module _ (s : Sending) (waiting : List WaitingFrame) (t : OnAir) (g : Goes s wai
       let b = at_end in
       let next : OnAir = record then_on_air { ticks = then_on_air.ticks + 1 } in
       let P : ℕ → Type 0 = λ n. Sends run.sending run.waiting next n b.more in
-      let same : bits_then t ≡ 12 * next.ticks = ap (λ n. 12 * (n + 1)) (sym same_ticks) in
       record {
         sent = b.more;
-        sends = subst P same (record {
+        sends = subst P (sym same_bits) (record {
           stands = retick run.sending.stage run.waiting then_on_air (then_on_air.ticks + 1) b.more b.sends.stands;
           count = b.sends.count;
           frames = b.sends.frames;
           closing = b.sends.closing;
           tone = b.sends.tone;
-          phase = b.sends.phase;
+          wave = b.sends.wave;
         });
         left = goes;
       }
@@ -368,7 +404,7 @@ module _ (s : Sending) (waiting : List WaitingFrame) (t : OnAir) (g : Goes s wai
       let size : length (bits_of then_on_air) ≡ length b.more + length left.0 =
       ap length (sym left.1.whole) ∙ length-append b.more left.0 in
       let short = no_more_sent run.sending.stage (bits_then t) b.more b.sends.count in
-      let same : bits_then then_on_air ≡ bits_then t = ap (λ n. 12 * (n + 1)) same_ticks in
+      let same : bits_then then_on_air ≡ bits_then t = same_bits in
       let P : Option Sending → Type 0 = λ x. StandsForAir x run.waiting (with_tick then_on_air) in
       elim (cases_Bool (stage_over run.sending.stage)) [
         | inl over ↦

@@ -1,7 +1,9 @@
 -- The names that most proofs of this crate cite, passed on from one place.
-unfoldable pub use Rattle.afsk_modulator.specs.Transmission.{transmission}
+unfoldable pub use Rattle.channel_access.specs.Modem.{transmission_by}
+pub use Rattle.channel_access.specs.Modem.{bits_of_ticks, samples_of_bits, tick_bits}
+pub use Rattle.channel_access.specs.HeldWave.{after_tone, modem_of, wave_behind, wave_start, wave_window}
 pub use Rattle.channel_access.specs.Channel.{Channel, Takes, after_tick, air_after, air_samples, air_sent, air_tick}
-pub use Rattle.channel_access.specs.Channel.{air_waiting, begun, decision, new_channel, with_frame, with_setting}
+pub use Rattle.channel_access.specs.Channel.{air_waiting, begun, decision, new_channel, new_channel_by, with_frame, with_setting}
 unfoldable pub use Rattle.channel_access.specs.Held.{new_sending, step_of, window_of, with_bit, with_bits}
 pub use Rattle.channel_access.specs.Held.{Held, Run, Step, behind_bit, checked, flag_bit, frame_over, frame_start}
 pub use Rattle.channel_access.specs.Held.{held_with_frame, sent_with, stage_over, tick_start, with_step}
@@ -10,7 +12,7 @@ unfoldable pub use Rattle.channel_access.specs.OnAir.{bits_of, flag_end, frames_
 pub use Rattle.channel_access.specs.OnAir.{OnAir, bits_then, decided, followed_by, frame_named, has_sent_frames}
 pub use Rattle.channel_access.specs.OnAir.{most_frames, names_next, waiting_after, waiting_with_named, with_named}
 pub use Rattle.channel_access.specs.OnAir.{with_tick}
-pub use Rattle.channel_access.specs.Parameters.{closing_flags, opening_flags}
+pub use Rattle.channel_access.specs.Parameters.{closing_flags, flags_in, opening_flags}
 unfoldable pub use Rattle.channel_access.specs.StandsFor.{frame_rest}
 pub use Rattle.channel_access.specs.StandsFor.{Counts, Goes, InFrame, IsSent, Sends, Stands, StandsFor, StandsForAir}
 pub use Rattle.channel_access.specs.StandsFor.{StandsForSome, flag_rest}
@@ -20,6 +22,9 @@ pub use Rattle.channel_access.specs.WholeTransmission.Call.{Ticks}
 pub use Rattle.channel_access.specs.declared.air_tick.AirTick.{AirTick}
 pub use Rattle.channel_access.specs.declared.air_tick.Sent.{Sent}
 pub use Rattle.channel_access.specs.declared.frame_bits.FrameBits.{FrameBits}
+pub use Rattle.channel_access.specs.declared.modem.Modem.{Modem}
+pub use Rattle.channel_access.specs.declared.modem.Modem.TheVariants.{Bell202, ShortWave}
+pub use Rattle.channel_access.specs.declared.wave.Wave.{Wave}
 pub use Rattle.channel_access.specs.declared.parameters.Parameters.{Parameters}
 pub use Rattle.channel_access.specs.declared.sending.Sending.{Sending}
 pub use Rattle.channel_access.specs.declared.stage.Stage.{Stage}
@@ -52,5 +57,5 @@ pub use Rattle.std.proofs.lemmas.List.{replicate-append-replicate, take-append-l
 pub use Rattle.std.proofs.lemmas.List.Concat.{flat_map-append}
 pub use Rattle.std.proofs.lemmas.List.Elements.{All-head, All-nil, All-push, All-tail}
 pub use Rattle.std.specs.List.{All}
-pub use Rattle.tone_table.specs.Wave.{wave, wave_from}
+pub use Rattle.tone_table.specs.declared.tone.Tone.{Tone}
 pub use Rattle.tone_table.specs.declared.tone.Tone.TheVariants.{Mark}

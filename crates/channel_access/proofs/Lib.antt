@@ -1,4 +1,5 @@
 pub mod Common
+pub mod ModemLemmas
 pub mod FrameLemmas
 pub mod RunLemmas
 pub mod BodyLemmas

@@ -5,7 +5,7 @@ use Rattle.channel_access.proofs.Common.{arith, append_assoc, append-nil, get_or
 use Rattle.channel_access.proofs.Common.{cond-false, ltb-true, Sent, Sending, Stage, Opening, Frame, Following, Closing}
 use Rattle.channel_access.proofs.Common.{Over, WaitingFrame, OnAir, bits_then, has_sent_frames, followed_by, decided}
 use Rattle.channel_access.proofs.Common.{names_next, flag_end, waiting_with_named, most_frames, air_sent, air_waiting}
-use Rattle.channel_access.proofs.Common.{Takes, Stands, StandsForAir, waiting_after}
+use Rattle.channel_access.proofs.Common.{Takes, Stands, StandsForAir, waiting_after, bits_of_ticks, samples_of_bits}
 use Rattle.std.proofs.lemmas.List.{length_push}
 use Rattle.channel_access.proofs.StageLemmas.{by_test, frames_ended, all_named, after_none}
 use Rattle.channel_access.specs.StandsFor.{InOpening}
@@ -16,23 +16,25 @@ pub record AddsFrames (t u : OnAir) : Type 0 where
   pub frames : u.frames ≡ t.frames ++ more
   pub few : length t.frames ≤ most_frames → length u.frames ≤ most_frames
   pub named : u.named ≡ t.named
+  pub modem : u.modem ≡ t.modem
   pub opening : u.opening ≡ t.opening
   pub closing : u.closing ≡ t.closing
 
 -- none is added
-same_frames : (t u : OnAir) → u.frames ≡ t.frames → u.named ≡ t.named → u.opening ≡ t.opening → u.closing ≡ t.closing
+same_frames : (t u : OnAir) → u.frames ≡ t.frames → u.named ≡ t.named → u.modem ≡ t.modem → u.opening ≡ t.opening → u.closing ≡ t.closing
     → AddsFrames t u
-same_frames t u frames named opening closing = record {
+same_frames t u frames named modem opening closing = record {
   more = [];
   frames = frames ∙ sym (append-nil t.frames);
   few = λ few. subst (λ (xs : List (List ℕ)). length xs ≤ most_frames) (sym frames) few;
   named = named;
+  modem = modem;
   opening = opening;
   closing = closing;
 }
 
 followed_frames : (others : List WaitingFrame) (t : OnAir) → AddsFrames t (followed_by others t)
-followed_frames [] t = same_frames t (record t { ends = true }) refl refl refl refl
+followed_frames [] t = same_frames t (record t { ends = true }) refl refl refl refl refl
 followed_frames (next ∷ others) t =
     by_test (λ (u : OnAir). AddsFrames t u) (ltb (length t.frames) most_frames) _ _
     (λ few. record {
@@ -40,16 +42,17 @@ followed_frames (next ∷ others) t =
       frames = refl;
       few = λ _. omega (arith, length_push t.frames next.octets, ltb-true (length t.frames) most_frames few);
       named = refl;
+      modem = refl;
       opening = refl;
       closing = refl;
     })
-    (λ many. same_frames t (record t { ends = true }) refl refl refl refl)
+    (λ many. same_frames t (record t { ends = true }) refl refl refl refl refl)
 
 pub decided_frames : (bits : ℕ) (waiting : List WaitingFrame) (t : OnAir) → AddsFrames t (decided bits waiting t)
 decided_frames bits waiting t =
     by_test (λ (u : OnAir). AddsFrames t u) (has_sent_frames bits t) (followed_by (waiting_after t waiting) t) t
     (λ ended. followed_frames (waiting_after t waiting) t)
-    (λ goes. same_frames t t refl refl refl refl)
+    (λ goes. same_frames t t refl refl refl refl refl)
 
 -- the octets are those of the front frame
 abbrev FrontIs : List WaitingFrame → List ℕ → Type 0
@@ -133,7 +136,7 @@ air_takes (Some s) waiting (Some t) h =
     let u : OnAir = decided bits waiting t in
     let sent : Sent = record {
       octets = get_or u.frames u.named [];
-      after = 8 * (flag_end (u.named + 1) u - 12 * u.ticks);
+      after = samples_of_bits u.modem (flag_end (u.named + 1) u - bits_of_ticks u.modem u.ticks);
     } in
     let P : Option Sent → Type 0 = λ x. Takes x waiting (waiting_with_named bits u waiting) in
     elim (cases_Bool (names_next bits u)) [

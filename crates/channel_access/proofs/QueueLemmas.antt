@@ -2,7 +2,7 @@
 -- way.
 use Rattle.channel_access.proofs.Common.{◌≡◌, ℕ, Bool, true, false, Option, Some, None, List, [], ◌∷◌, ◌++◌, refl, ap}
 use Rattle.channel_access.proofs.Common.{All-nil, All-push, HasFrameLength, Sending, Stage, Opening, Frame, Following}
-use Rattle.channel_access.proofs.Common.{Closing, Over, WaitingFrame, OnAir, Channel, new_channel, with_frame}
+use Rattle.channel_access.proofs.Common.{Closing, Over, WaitingFrame, OnAir, Channel, new_channel_by, with_frame, Modem}
 use Rattle.channel_access.proofs.Common.{with_setting, Held, held_with_frame, StandsFor, StandsForAir, Goes, Stands}
 use Rattle.channel_access.specs.declared.parameters.Param.{Param}
 use Rattle.channel_access.specs.Parameters.{with_param}
@@ -37,7 +37,7 @@ goes_joined s waiting more t g = record {
       frames = g.sends.frames;
       closing = g.sends.closing;
       tone = g.sends.tone;
-      phase = g.sends.phase;
+      wave = g.sends.wave;
     };
     left = g.left;
   };
@@ -56,6 +56,7 @@ pub stands_queued : (link : Option ℕ) (octets : List ℕ) (held : Held) (chann
 stands_queued link octets held channel fits h =
     let frame : WaitingFrame = record { link = link; octets = octets } in
     record {
+      modem = h.modem;
       waiting = ap (λ xs. xs ++ frame ∷ []) h.waiting;
       parameters = h.parameters;
       generator = h.generator;
@@ -66,8 +67,9 @@ stands_queued link octets held channel fits h =
     }
 
 -- before any call
-pub stands_new : (seed : ℕ) → StandsFor (new_held seed) (new_channel seed)
-stands_new seed = record {
+pub stands_new : (modem : Modem) (seed : ℕ) → StandsFor (new_held modem seed) (new_channel_by modem seed)
+stands_new modem seed = record {
+  modem = refl;
   waiting = refl;
   parameters = refl;
   generator = refl;
@@ -80,6 +82,7 @@ stands_new seed = record {
 pub stands_set : (param : Param) (held : Held) (channel : Channel) → StandsFor held channel
     → StandsFor (held_with_setting param held) (with_setting param channel)
 stands_set param held channel h = record {
+  modem = h.modem;
   waiting = h.waiting;
   parameters = ap (with_param param) h.parameters;
   generator = h.generator;

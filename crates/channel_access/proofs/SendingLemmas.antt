@@ -1,52 +1,50 @@
 -- One bit of a sender, with its samples.
 use Rattle.channel_access.proofs.Common.{◌≡◌, ℕ, ◌+◌, ◌-◌, ◌*◌, ◌≤◌, Bool, true, Option, ℤ, pos, List, [], ◌∷◌, ◌++◌}
 use Rattle.channel_access.proofs.Common.{length, replicate, refl, ap, ◌∙◌, sym, subst, inl, inr, arith, length-append}
-use Rattle.channel_access.proofs.Common.{append_assoc, append-nil, All, replicate-append-replicate, Mark, wave_from}
-use Rattle.channel_access.proofs.Common.{wave, line, length-line_from, Sending, Stage, Opening, Frame, Following}
-use Rattle.channel_access.proofs.Common.{Closing, Over, WaitingFrame, HasFrameLength, OnAir, names_next, decided}
-use Rattle.channel_access.proofs.Common.{flag_end, Step, step_of, with_step, behind_bit, window_of, Sends, Counts}
+use Rattle.channel_access.proofs.Common.{append_assoc, append-nil, All, replicate-append-replicate, Mark, line}
+use Rattle.channel_access.proofs.Common.{length-line_from, Sending, Stage, Opening, Frame, Following, Closing, Over}
+use Rattle.channel_access.proofs.Common.{WaitingFrame, HasFrameLength, OnAir, names_next, decided, flag_end, Step}
+use Rattle.channel_access.proofs.Common.{step_of, with_step, behind_bit, window_of, Sends, Counts, closing_flags}
+use Rattle.channel_access.proofs.Common.{Modem, Tone, samples_of_bits, modem_of, wave_behind, wave_window}
 use Rattle.std.proofs.lemmas.List.{length-replicate}
-use Rattle.tone_table.specs.declared.tone.Tone.{Tone}
-use Rattle.tone_table.specs.Tones.{next_phase}
-use Rattle.tone_table.specs.Wave.{pure_window}
 use Rattle.nrzi_bits.specs.Line.{sent_tone, last_tone}
 use Rattle.nrzi_bits.proofs.LineLemmas.{line-push, last_tone-push}
-use Rattle.afsk_modulator.specs.Modulation.{full, tone_window, behind}
-use Rattle.afsk_modulator.proofs.WaveLemmas.{behind-push, wave-push}
+use Rattle.channel_access.proofs.ModemLemmas.{samples_of_bits-none, samples_of_bits-more, modem_wave, modem_wave-push}
+use Rattle.channel_access.proofs.ModemLemmas.{length-modem_wave, wave_behind-push, modem_of-behind}
 use Rattle.channel_access.proofs.StageLemmas.{Steps, IsOver, stage_cases, now_at, waiting_at, named_at}
 
 -- the samples of the bits sent so far, and zeros if there were none
-unfoldable pub padded : ℕ → List Bool → List ℤ
-padded total sent = wave (line sent) ++ replicate (8 * (total - length sent)) (pos 0)
+unfoldable pub padded : Modem → ℕ → List Bool → List ℤ
+padded modem total sent =
+    modem_wave modem (line sent) ++ replicate (samples_of_bits modem (total - length sent)) (pos 0)
 
-pub padded-full : (total : ℕ) (sent : List Bool) → length sent ≡ total → padded total sent ≡ wave (line sent)
+pub padded-full : (modem : Modem) (total : ℕ) (sent : List Bool) → length sent ≡ total
+    → padded modem total sent ≡ modem_wave modem (line sent)
 unfolding padded
-padded-full total sent full =
-    let none : 8 * (total - length sent) ≡ 0 = omega arith in
-    ap (λ n. wave (line sent) ++ replicate n (pos 0)) none ∙ append-nil (wave (line sent))
+padded-full modem total sent full =
+    let none : total - length sent ≡ 0 = omega arith in
+    ap (λ n. modem_wave modem (line sent) ++ replicate n (pos 0))
+    (ap (samples_of_bits modem) none ∙ samples_of_bits-none modem) ∙ append-nil (modem_wave modem (line sent))
 
-length-pure_window : (phase : ℕ) (tone : Tone) → length (pure_window phase tone) ≡ 8
-unfolding pure_window
-length-pure_window phase tone = refl
-
-pub length-wave_from : (phase : ℕ) (tones : List Tone) → length (wave_from phase tones) ≡ 8 * length tones
-length-wave_from phase [] = refl
-length-wave_from phase (tone ∷ tones) = omega (
-  arith,
-  length-append (pure_window phase tone) (wave_from (next_phase phase tone) tones),
-  length-pure_window phase tone,
-  length-wave_from (next_phase phase tone) tones,
-)
-
-pub length-padded : (total : ℕ) (sent : List Bool) → length sent ≤ total → length (padded total sent) ≡ 8 * total
+pub length-padded : (modem : Modem) (total : ℕ) (sent : List Bool) → length sent ≤ total
+    → length (padded modem total sent) ≡ samples_of_bits modem total
 unfolding padded
-length-padded total sent short = omega (
-  arith,
-  length-append (wave (line sent)) (replicate (8 * (total - length sent)) (pos 0)),
-  length-wave_from 0 (line sent),
-  length-line_from Mark sent,
-  length-replicate (8 * (total - length sent)) (pos 0),
-)
+length-padded modem total sent short =
+    let all : length sent + (total - length sent) ≡ total = omega arith in
+    omega (
+      arith,
+      length-append (modem_wave modem (line sent)) (replicate (samples_of_bits modem (total - length sent)) (pos 0)),
+      length-modem_wave modem (line sent),
+      ap (samples_of_bits modem) (length-line_from Mark sent),
+      length-replicate (samples_of_bits modem (total - length sent)) (pos 0),
+      samples_of_bits-more modem (length sent) (total - length sent),
+      ap (samples_of_bits modem) all,
+    )
+
+-- the modem of a sender
+pub sends_by : (s : Sending) (waiting : List WaitingFrame) (t : OnAir) (total : ℕ) (sent : List Bool)
+    → Sends s waiting t total sent → modem_of s.wave ≡ t.modem
+sends_by s waiting t total sent h = ap modem_of h.wave ∙ modem_of-behind t.modem (line sent)
 
 counts_all : (stage : Stage) (total : ℕ) (sent : List Bool) → length sent ≡ total → Counts stage total sent
 counts_all (Opening left) total sent is = is
@@ -68,7 +66,8 @@ pub record SendsMore (s : Sending) (waiting : List WaitingFrame) (t : OnAir) (to
       → flag_end ((decided (total + 1) waiting t).named + 1) (decided (total + 1) waiting t) ≡ total + 1
   pub sends : Sends (behind_bit (with_step s step) step.bit) step.waiting now (total + 1) more
   pub grows : length sent ≤ length more
-  pub samples : padded (total + 1) more ≡ padded total sent ++ window_of (with_step s step) step.bit
+  pub samples : padded t.modem (total + 1) more ≡ padded t.modem total sent ++ window_of (with_step s step) step.bit
+  pub modem : now.modem ≡ t.modem
 
 module _ (s : Sending) (waiting : List WaitingFrame) (t : OnAir) (total : ℕ) (sent : List Bool)
     (h : Sends s waiting t total sent) (step : Step) where
@@ -94,22 +93,29 @@ module _ (s : Sending) (waiting : List WaitingFrame) (t : OnAir) (total : ℕ) (
           stands = st.stands;
           count = counts_all step.stage (total + 1) more longer;
           frames = st.frames;
-          closing = st.closing ∙ h.closing;
+          closing = st.closing ∙ h.closing ∙ ap (λ m. closing_flags m s.tail) (sym st.modem);
           tone = sym (ap last_tone lined ∙ last_tone-push (line sent) tone);
-          phase = behind-push full (line sent) tone s.modulator h.phase ∙ ap (behind full) (sym lined);
+          wave = wave_behind-push t.modem (line sent) tone s.wave h.wave ∙ ap (wave_behind t.modem) (sym lined)
+              ∙ ap (λ m. wave_behind m (line more)) (sym st.modem);
         });
         grows = omega (arith, length-append sent (bit ∷ []));
         samples =
-            padded-full (total + 1) more longer ∙ ap wave lined ∙ wave-push (line sent) tone s.modulator h.phase
-            ∙ ap (λ xs. xs ++ tone_window s.modulator tone) (sym (padded-full total sent count))
-            ∙ ap (λ o. padded total sent ++ window_of (with_step s step) o) (sym st.is_bit);
+            padded-full t.modem (total + 1) more longer ∙ ap (modem_wave t.modem) lined
+            ∙ modem_wave-push t.modem (line sent) tone s.wave h.wave
+            ∙ ap (λ xs. xs ++ wave_window s.wave tone) (sym (padded-full t.modem total sent count))
+            ∙ ap (λ o. padded t.modem total sent ++ window_of (with_step s step) o) (sym st.is_bit);
+        modem = st.modem;
       }
 
   -- with none
   with_none : IsOver waiting t total sent s.frames step → SendsMore s waiting t total sent step
   unfolding window_of padded
   with_none over =
-      let longer : 8 * (total - length sent) + 8 ≡ 8 * ((total + 1) - length sent) = omega (arith, over.short) in
+      let before : ℕ = samples_of_bits t.modem (total - length sent) in
+      let one : ℕ = samples_of_bits t.modem 1 in
+      let later : (total + 1) - length sent ≡ (total - length sent) + 1 = omega (arith, over.short) in
+      let longer : samples_of_bits t.modem ((total + 1) - length sent) ≡ before + one =
+      ap (samples_of_bits t.modem) later ∙ samples_of_bits-more t.modem (total - length sent) 1 in
       let P : Step → Type 0 = λ x. SendsMore s waiting t total sent x in
       subst P (sym over.is) (record {
         now = t;
@@ -124,14 +130,16 @@ module _ (s : Sending) (waiting : List WaitingFrame) (t : OnAir) (total : ℕ) (
           frames = h.frames;
           closing = h.closing;
           tone = h.tone;
-          phase = h.phase;
+          wave = h.wave;
         };
         grows = omega arith;
         samples =
-            ap (λ n. wave (line sent) ++ replicate n (pos 0)) (sym longer)
-            ∙ ap (λ xs. wave (line sent) ++ xs) (sym (replicate-append-replicate (8 * (total - length sent)) 8 (pos 0)))
-            ∙ sym (append_assoc (wave (line sent)) (replicate (8 * (total - length sent)) (pos 0))
-            (replicate 8 (pos 0)));
+            ap (λ n. modem_wave t.modem (line sent) ++ replicate n (pos 0)) longer
+            ∙ ap (λ xs. modem_wave t.modem (line sent) ++ xs) (sym (replicate-append-replicate before one (pos 0)))
+            ∙ sym (append_assoc (modem_wave t.modem (line sent)) (replicate before (pos 0)) (replicate one (pos 0)))
+            ∙ ap (λ m. (modem_wave t.modem (line sent) ++ replicate before (pos 0))
+            ++ replicate (samples_of_bits m 1) (pos 0)) (sym (sends_by s waiting t total sent h));
+        modem = refl;
       })
 
 -- one bit more
@@ -140,7 +148,10 @@ pub sends_more : (s : Sending) (waiting : List WaitingFrame) (t : OnAir) (total 
     → SendsMore s waiting t total sent (step_of s waiting)
 unfolding step_of
 sends_more s waiting t total sent h fit =
-    elim (stage_cases s.stage waiting t total sent s.tail s.frames h.stands h.count fit h.frames h.closing) [
+    let closes : t.closing ≡ closing_flags (modem_of s.wave) s.tail =
+    h.closing ∙ ap (λ m. closing_flags m s.tail) (sym (sends_by s waiting t total sent h)) in
+    elim (stage_cases s.stage waiting t total sent (modem_of s.wave) s.tail s.frames h.stands h.count fit h.frames
+    closes) [
       | inl given ↦ with_one s waiting t total sent h _ given.steps given.count
       | inr over ↦ with_none s waiting t total sent h _ over
     ]

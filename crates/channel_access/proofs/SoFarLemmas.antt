@@ -3,14 +3,14 @@ use Rattle.channel_access.proofs.Common.{◌≡◌, ℕ, ◌+◌, ◌<◌, ◌�
 use Rattle.channel_access.proofs.Common.{None, ℤ, List, [], ◌∷◌, ◌++◌, length, take, drop, get_or, refl, ap, ◌∙◌, sym}
 use Rattle.channel_access.proofs.Common.{inl, inr, arith, append_assoc, append-nil, cases_Bool, ltb-true}
 use Rattle.channel_access.proofs.Common.{take-append-le, flat_map-append, AirTick, Sent, WaitingFrame, OnAir}
-use Rattle.channel_access.proofs.Common.{most_frames, names_next, flag_end, Takes, octets_of}
+use Rattle.channel_access.proofs.Common.{most_frames, names_next, flag_end, Takes, octets_of, Modem}
 use Rattle.std.proofs.lemmas.List.{map-append, take_more, length-append}
 use Rattle.channel_access.specs.WholeTransmission.{names_of, named_in}
 use Rattle.channel_access.proofs.OrderLemmas.{AddsFrames}
 
 -- These frames waited when the transmission began, and those joined since. Of them the first are gone, named by its
 -- ticks, and the others wait.
-pub record SoFar (opens closes : ℕ) (first joined : List WaitingFrame) (ticks : List AirTick)
+pub record SoFar (modem : Modem) (opens closes : ℕ) (first joined : List WaitingFrame) (ticks : List AirTick)
     (waiting : List WaitingFrame) (t : OnAir)
     : Type 0 where
   pub gone : List WaitingFrame
@@ -19,6 +19,7 @@ pub record SoFar (opens closes : ℕ) (first joined : List WaitingFrame) (ticks 
   pub named : octets_of gone ≡ take t.named t.frames
   pub within : t.named ≤ length t.frames
   pub few : length t.frames ≤ most_frames
+  pub by : t.modem ≡ modem
   pub opening : t.opening ≡ opens
   pub closing : t.closing ≡ closes
 
@@ -37,10 +38,10 @@ takes_front sent (front ∷ others) after h = record {
   octets = h.0;
 }
 
-module _ (opens closes : ℕ) (first joined : List WaitingFrame) (ticks : List AirTick) (waiting : List WaitingFrame)
-    (t : OnAir) (h : SoFar opens closes first joined ticks waiting t) where
+module _ (modem : Modem) (opens closes : ℕ) (first joined : List WaitingFrame) (ticks : List AirTick) (waiting : List WaitingFrame)
+    (t : OnAir) (h : SoFar modem opens closes first joined ticks waiting t) where
   -- a frame joins the queue
-  pub so_far_joined : (more : List WaitingFrame) → SoFar opens closes first (joined ++ more) ticks (waiting ++ more) t
+  pub so_far_joined : (more : List WaitingFrame) → SoFar modem opens closes first (joined ++ more) ticks (waiting ++ more) t
   so_far_joined more = record {
     gone = h.gone;
     queue = sym (append_assoc first joined more) ∙ ap (λ xs. xs ++ more) h.queue ∙ append_assoc h.gone waiting more;
@@ -48,12 +49,13 @@ module _ (opens closes : ℕ) (first joined : List WaitingFrame) (ticks : List A
     named = h.named;
     within = h.within;
     few = h.few;
+    by = h.by;
     opening = h.opening;
     closing = h.closing;
   }
 
   -- the count of ticks is no matter
-  pub so_far_reticked : (n : ℕ) → SoFar opens closes first joined ticks waiting (record t { ticks = n })
+  pub so_far_reticked : (n : ℕ) → SoFar modem opens closes first joined ticks waiting (record t { ticks = n })
   so_far_reticked n = record {
     gone = h.gone;
     queue = h.queue;
@@ -61,6 +63,7 @@ module _ (opens closes : ℕ) (first joined : List WaitingFrame) (ticks : List A
     named = h.named;
     within = h.within;
     few = h.few;
+    by = h.by;
     opening = h.opening;
     closing = h.closing;
   }
@@ -88,7 +91,7 @@ module _ (opens closes : ℕ) (first joined : List WaitingFrame) (ticks : List A
         ∙ ap (λ n. take n u.frames) (sym adds.named)
 
     none_named : (after : List WaitingFrame) → after ≡ waiting
-        → SoFar opens closes first joined (ticks ++ tick None ∷ []) after u
+        → SoFar modem opens closes first joined (ticks ++ tick None ∷ []) after u
     none_named after same = record {
       gone = h.gone;
       queue = h.queue ∙ ap (λ xs. h.gone ++ xs) (sym same);
@@ -96,12 +99,13 @@ module _ (opens closes : ℕ) (first joined : List WaitingFrame) (ticks : List A
       named = same_named;
       within = omega (arith, h.within, adds.named, longer);
       few = adds.few h.few;
+      by = adds.modem ∙ h.by;
       opening = adds.opening ∙ h.opening;
       closing = adds.closing ∙ h.closing;
     }
 
     one_named : (after : List WaitingFrame) → u.named < length u.frames → Takes (Some sent) waiting after
-        → SoFar opens closes first joined (ticks ++ tick (Some sent) ∷ []) after (record u { named = u.named + 1 })
+        → SoFar modem opens closes first joined (ticks ++ tick (Some sent) ∷ []) after (record u { named = u.named + 1 })
     one_named after some takes =
         let taken = takes_front sent waiting after takes in
         let gone : List WaitingFrame = h.gone ++ taken.front ∷ [] in
@@ -117,13 +121,14 @@ module _ (opens closes : ℕ) (first joined : List WaitingFrame) (ticks : List A
               ∙ sym (take_more u.frames u.named [] some);
           within = omega (arith, some);
           few = adds.few h.few;
+          by = adds.modem ∙ h.by;
           opening = adds.opening ∙ h.opening;
           closing = adds.closing ∙ h.closing;
         }
 
     pub so_far_more : (b : Bool) → (b ≡ true → u.named < length u.frames)
         → Takes (cond b (Some sent) None) waiting (cond b (drop 1 waiting) waiting)
-        → SoFar opens closes first joined (ticks ++ tick (cond b (Some sent) None) ∷ [])
+        → SoFar modem opens closes first joined (ticks ++ tick (cond b (Some sent) None) ∷ [])
         (cond b (drop 1 waiting) waiting) (cond b (record u { named = u.named + 1 }) u)
     so_far_more true some takes = one_named (drop 1 waiting) (some refl) takes
     so_far_more false some takes = none_named waiting takes

@@ -5,7 +5,13 @@ use Rattle.std.specs.Prelude.{Option, Some, None, is_none, is_some}
 use Rattle.tone_table.specs.Sine.{quarter, half_wave, cycle_sample, wave_sample}
 use Rattle.tone_table.specs.Wave.{pure_window}
 use Rattle.hdlc_framer.specs.Body.{body}
+use Rattle.afsk_modulator.specs.Level.{sample_at, at_level}
 use Rattle.afsk_modulator.specs.Transmission.{transmission}
+use Rattle.hf_sender.specs.Transmission.{hf_transmission}
+use Rattle.hf_sender.specs.Wave.{pure_window as hf_pure_window}
+use Rattle.channel_access.specs.declared.modem.Modem.{Modem}
+use Rattle.channel_access.specs.declared.modem.Modem.TheVariants.{Bell202, ShortWave}
+use Rattle.channel_access.specs.Modem.{transmission_by}
 use Rattle.channel_access.specs.Channel.{Channel, Decision, decision, begun, with_decision, air_samples}
 use Rattle.channel_access.specs.Channel.{air_tick}
 use Rattle.channel_access.specs.OnAir.{OnAir, most_frames, bits_then, flags_behind, samples_on_air, has_sent_frames}
@@ -14,18 +20,19 @@ use Rattle.channel_access.specs.Parameters.{opening_flags}
 use Rattle.channel_access.specs.Sound.{has_sound}
 use Rattle.channel_access.specs.Waiting.{WaitingFrame}
 
-sounds_first : (frames : List (List ℕ)) (opening closing : ℕ) (after : List ℤ)
-    → has_sound (take 96 (transmission frames (suc opening) closing ++ after)) ≡ true
-unfolding transmission body pure_window wave_sample cycle_sample half_wave quarter
-sounds_first frames opening closing after = refl
+sounds_first : (modem : Modem) (frames : List (List ℕ)) (opening closing : ℕ) (after : List ℤ)
+    → has_sound (take 96 (transmission_by modem frames (suc opening) closing ++ after)) ≡ true
+unfolding transmission_by transmission hf_transmission at_level sample_at body pure_window hf_pure_window wave_sample cycle_sample half_wave quarter
+sounds_first Bell202 frames opening closing after = refl
+sounds_first ShortWave frames opening closing after = refl
 
 first_tick : (t : OnAir) (opening : ℕ) → t.ticks ≡ 0 → t.opening ≡ suc opening → has_sound (tick_samples t) ≡ true
 unfolding tick_samples samples_on_air
 first_tick t opening none some =
-    ap (λ (n : ℕ). has_sound (take 96 (drop (96 * n) (transmission t.frames t.opening (flags_behind t)
+    ap (λ (n : ℕ). has_sound (take 96 (drop (96 * n) (transmission_by t.modem t.frames t.opening (flags_behind t)
     ++ replicate 96 (pos 0))))) none
-    ∙ ap (λ (n : ℕ). has_sound (take 96 (transmission t.frames n (flags_behind t) ++ replicate 96 (pos 0)))) some
-    ∙ sounds_first t.frames opening (flags_behind t) (replicate 96 (pos 0))
+    ∙ ap (λ (n : ℕ). has_sound (take 96 (transmission_by t.modem t.frames n (flags_behind t) ++ replicate 96 (pos 0)))) some
+    ∙ sounds_first t.modem t.frames opening (flags_behind t) (replicate 96 (pos 0))
 
 -- ---- a decision keeps the opening and the ticks
 
@@ -52,7 +59,7 @@ begun_sounds : (channel : Channel) (waiting : List WaitingFrame)
 begun_sounds channel waiting =
     let t = begun channel in
     let same = decided_same (bits_then t) waiting t in
-    let opening : ℕ = opening_flags channel.parameters.tx_delay in
+    let opening : ℕ = opening_flags channel.modem channel.parameters.tx_delay in
     let some : opening ≡ suc (opening - 1) = omega arith in
     first_tick (decided (bits_then t) waiting t) (opening - 1) same.0 (same.1 ∙ some)
 

@@ -5,6 +5,7 @@ use Rattle.channel_access.proofs.Common.{drop, get_or, refl, ap, ◌∙◌, sym,
 use Rattle.channel_access.proofs.Common.{append_assoc, append-nil, get_or-append_seam, cases_Bool, cond-true}
 use Rattle.channel_access.proofs.Common.{cond-false, le-leb, lt-leb, lt-ltb, ltb-true, All, All-head, All-tail}
 use Rattle.channel_access.proofs.Common.{le-max_left, flags, body, frame_bits, FrameBits, Stage, Opening, Frame}
+use Rattle.channel_access.proofs.Common.{Modem, flags_in}
 use Rattle.channel_access.proofs.Common.{Following, Closing, Over, closing_flags, WaitingFrame, HasFrameLength, OnAir}
 use Rattle.channel_access.proofs.Common.{most_frames, waiting_after, has_sent_frames, followed_by, decided, names_next, with_named}
 use Rattle.channel_access.proofs.Common.{waiting_with_named, frames_end, flag_end, Step, flag_bit, frame_start}
@@ -44,6 +45,7 @@ pub record Steps (waiting : List WaitingFrame) (t : OnAir) (total : ℕ) (sent :
       → flag_end ((decided (total + 1) waiting t).named + 1) (decided (total + 1) waiting t) ≡ total + 1
   pub frames : step.frames ≡ length now.frames
   pub closing : now.closing ≡ t.closing
+  pub modem : now.modem ≡ t.modem
 
 -- ---- a bit with which nothing is decided or named, one with which it is decided what follows, and one that
 -- names a frame
@@ -294,6 +296,7 @@ module _ (left : ℕ) (t : OnAir) (total : ℕ) (sent : List Bool) (h : InOpenin
         };
         frames = is_frames;
         closing = refl;
+        modem = refl;
       }
 
   module _ (one : left ≡ 1) where
@@ -306,20 +309,20 @@ module _ (left : ℕ) (t : OnAir) (total : ℕ) (sent : List Bool) (h : InOpenin
         frames_end_here (total + 1) t h.ends (omega arith)
 
     -- no frame waits
-    opening_closes : (tail frames : ℕ) → frames ≡ length t.frames → t.closing ≡ closing_flags tail
+    opening_closes : (modem : Modem) (tail frames : ℕ) → frames ≡ length t.frames → t.closing ≡ closing_flags modem tail
         → Steps [] t total sent (record {
           bit = Some (flag_bit left);
           named = None;
-          stage = Closing (8 * closing_flags tail);
+          stage = Closing (8 * closing_flags modem tail);
           frames = frames;
           waiting = [];
         })
-    opening_closes tail frames is_frames is_closing =
+    opening_closes modem tail frames is_frames is_closing =
         let now : OnAir = record t { ends = true } in
         let follows : followed_by (waiting_after t []) t ≡ now =
         ap (λ w. followed_by w t) (after_none t [] h.frames) in
         let flag : names_next (total + 1) now ≡ false = all_named (total + 1) now opening_named in
-        let least : 1 ≤ closing_flags tail = le-max_left 1 (3 * tail / 2) in
+        let least : 1 ≤ closing_flags modem tail = le-max_left 1 (flags_in modem tail) in
         record {
           bit = flag_bit left;
           is_bit = refl;
@@ -330,9 +333,9 @@ module _ (left : ℕ) (t : OnAir) (total : ℕ) (sent : List Bool) (h : InOpenin
           place = decided_place (total + 1) [] t open_ended now follows flag;
           stands = record {
             some = omega arith;
-            bits = ap (λ xs. xs ++ flag_rest (8 * closing_flags tail)) all_open
-                ∙ ap (λ xs. flags t.opening ++ xs) (sym (flags-is (closing_flags tail)))
-                ∙ sym (body-none t.opening (closing_flags tail))
+            bits = ap (λ xs. xs ++ flag_rest (8 * closing_flags modem tail)) all_open
+                ∙ ap (λ xs. flags t.opening ++ xs) (sym (flags-is (closing_flags modem tail)))
+                ∙ sym (body-none t.opening (closing_flags modem tail))
                 ∙ ap (λ n. body [] t.opening n) (sym is_closing)
                 ∙ ap (λ xs. body xs t.opening t.closing) (sym h.frames);
             ends = refl;
@@ -340,6 +343,7 @@ module _ (left : ℕ) (t : OnAir) (total : ℕ) (sent : List Bool) (h : InOpenin
           };
           frames = is_frames;
           closing = refl;
+          modem = refl;
         }
 
     -- the front frame follows
@@ -384,31 +388,32 @@ module _ (left : ℕ) (t : OnAir) (total : ℕ) (sent : List Bool) (h : InOpenin
           };
           frames = sym (ap length all);
           closing = refl;
+          modem = refl;
         }
 
-  pub opening_steps : (waiting : List WaitingFrame) (tail frames : ℕ) → frames ≡ length t.frames
-      → t.closing ≡ closing_flags tail
-      → Steps waiting t total sent (stage_step (Opening left) tail frames waiting)
-  opening_steps waiting tail frames is_frames is_closing =
+  pub opening_steps : (waiting : List WaitingFrame) (modem : Modem) (tail frames : ℕ) → frames ≡ length t.frames
+      → t.closing ≡ closing_flags modem tail
+      → Steps waiting t total sent (stage_step (Opening left) modem tail frames waiting)
+  opening_steps waiting modem tail frames is_frames is_closing =
       by_test (λ step. Steps waiting t total sent step) (ltb 1 left) _ _
       (λ several. opening_goes_on waiting frames (ltb-true 1 left several) is_frames)
       (λ last.
       let few : left ≤ 1 = ltb-false 1 left last in
       let some : 1 ≤ left = h.some in
       let one : left ≡ 1 = omega arith in
-      opened_steps waiting tail frames one is_frames is_closing)
+      opened_steps waiting modem tail frames one is_frames is_closing)
     where
-      opened_steps : (waiting : List WaitingFrame) (tail frames : ℕ) → left ≡ 1 → frames ≡ length t.frames
-          → t.closing ≡ closing_flags tail
+      opened_steps : (waiting : List WaitingFrame) (modem : Modem) (tail frames : ℕ) → left ≡ 1 → frames ≡ length t.frames
+          → t.closing ≡ closing_flags modem tail
           → Steps waiting t total sent (record {
             bit = Some (flag_bit left);
             named = None;
-            stage = after_opening tail waiting;
+            stage = after_opening modem tail waiting;
             frames = frames_opened frames waiting;
             waiting = waiting;
           })
-      opened_steps [] tail frames one is_frames is_closing = opening_closes one tail frames is_frames is_closing
-      opened_steps (front ∷ others) tail frames one is_frames is_closing = opening_begins one front others
+      opened_steps [] modem tail frames one is_frames is_closing = opening_closes one modem tail frames is_frames is_closing
+      opened_steps (front ∷ others) modem tail frames one is_frames is_closing = opening_begins one front others
 
 -- ---- a bit of a frame
 
@@ -467,6 +472,7 @@ module _ (f : FrameBits) (front : WaitingFrame) (others : List WaitingFrame) (t 
           };
           frames = is_frames;
           closing = refl;
+          modem = refl;
         }
 
   module _ (over : frame_over next.behind front.octets ≡ true) (frames : ℕ) (is_frames : frames ≡ length t.frames) where
@@ -522,6 +528,7 @@ module _ (f : FrameBits) (front : WaitingFrame) (others : List WaitingFrame) (t 
           };
           frames = is_frames;
           closing = refl;
+          modem = refl;
         }
 
     -- another frame follows
@@ -564,6 +571,7 @@ module _ (f : FrameBits) (front : WaitingFrame) (others : List WaitingFrame) (t 
           });
           frames = omega (arith, length-append t.frames (follower.octets ∷ []));
           closing = refl;
+          modem = refl;
         }
 
 -- the step that ends a frame, as the sender makes it
@@ -614,9 +622,9 @@ ended_step f front (follower ∷ more) t total sent h count next over frames is_
     ]
 
 pub frame_steps : (f : FrameBits) (front : WaitingFrame) (others : List WaitingFrame) (t : OnAir) (total : ℕ)
-    (sent : List Bool) → InFrame f front t sent → length sent ≡ total → (tail frames : ℕ) → frames ≡ length t.frames
-    → Steps (front ∷ others) t total sent (stage_step (Frame f) tail frames (front ∷ others))
-frame_steps f front others t total sent h count tail frames is_frames =
+    (sent : List Bool) → InFrame f front t sent → length sent ≡ total → (modem : Modem) (tail frames : ℕ) → frames ≡ length t.frames
+    → Steps (front ∷ others) t total sent (stage_step (Frame f) modem tail frames (front ∷ others))
+frame_steps f front others t total sent h count modem tail frames is_frames =
     let next = next_given f front.octets h.some in
     let P : Option (Bool × FrameBits) → Type 0 =
     λ o. Steps (front ∷ others) t total sent (frame_step o front.octets frames (front ∷ others)) in
@@ -675,6 +683,7 @@ module _ (left : ℕ) (front : WaitingFrame) (next : List (List ℕ)) (last : Bo
         stands = stands;
         frames = is_frames;
         closing = refl;
+        modem = refl;
       }
 
   pub flag_less : 1 < left → InFlag (left - 1) front next last t (sent ++ flag_bit left ∷ [])
@@ -716,14 +725,15 @@ module _ (left : ℕ) (front : WaitingFrame) (next : List (List ℕ)) (last : Bo
         stands = stands;
         frames = is_frames;
         closing = refl;
+        modem = refl;
       }
 
 pub following_next : (left : ℕ) (front follower : WaitingFrame) (more : List WaitingFrame) (t : OnAir) (total : ℕ)
     (sent : List Bool) → InFlag left front (follower.octets ∷ []) false t sent → length sent ≡ total
-    → HasFrameLength follower.octets → (tail frames : ℕ) → frames ≡ length t.frames
-    → Steps (front ∷ follower ∷ more) t total sent (stage_step (Following left true) tail frames
+    → HasFrameLength follower.octets → (modem : Modem) (tail frames : ℕ) → frames ≡ length t.frames
+    → Steps (front ∷ follower ∷ more) t total sent (stage_step (Following left true) modem tail frames
     (front ∷ follower ∷ more))
-following_next left front follower more t total sent h count fits tail frames is_frames =
+following_next left front follower more t total sent h count fits modem tail frames is_frames =
     let next : List (List ℕ) = follower.octets ∷ [] in
     let waiting : List WaitingFrame = front ∷ follower ∷ more in
     let there = flag_there_at left front next false t total sent h count in
@@ -753,20 +763,20 @@ following_next left front follower more t total sent h count fits tail frames is
     }))
 
 -- the closing flags after the first one
-closing_follows : (frames : List (List ℕ)) (opening tail : ℕ) (now : List Bool) → 1 < closing_flags tail
+closing_follows : (frames : List (List ℕ)) (opening : ℕ) (modem : Modem) (tail : ℕ) (now : List Bool) → 1 < closing_flags modem tail
     → now ≡ body frames opening 1
-    → now ++ flag_rest (8 * (closing_flags tail - 1)) ≡ body frames opening (closing_flags tail)
-closing_follows frames opening tail now several is =
-    let others : ℕ = closing_flags tail - 1 in
-    let all : 1 + others ≡ closing_flags tail = omega arith in
+    → now ++ flag_rest (8 * (closing_flags modem tail - 1)) ≡ body frames opening (closing_flags modem tail)
+closing_follows frames opening modem tail now several is =
+    let others : ℕ = closing_flags modem tail - 1 in
+    let all : 1 + others ≡ closing_flags modem tail = omega arith in
     ap (λ xs. xs ++ flag_rest (8 * others)) is ∙ ap (λ xs. body frames opening 1 ++ xs) (sym (flags-is others))
     ∙ sym (body-more_closing frames opening others) ∙ ap (body frames opening) all
 
 pub following_last : (left : ℕ) (front : WaitingFrame) (others : List WaitingFrame) (t : OnAir) (total : ℕ)
-    (sent : List Bool) → InFlag left front [] true t sent → length sent ≡ total → (tail frames : ℕ)
-    → frames ≡ length t.frames → t.closing ≡ closing_flags tail
-    → Steps (front ∷ others) t total sent (stage_step (Following left false) tail frames (front ∷ others))
-following_last left front others t total sent h count tail frames is_frames is_closing =
+    (sent : List Bool) → InFlag left front [] true t sent → length sent ≡ total → (modem : Modem) (tail frames : ℕ)
+    → frames ≡ length t.frames → t.closing ≡ closing_flags modem tail
+    → Steps (front ∷ others) t total sent (stage_step (Following left false) modem tail frames (front ∷ others))
+following_last left front others t total sent h count modem tail frames is_frames is_closing =
     let goes : has_sent_frames (total + 1) t ≡ false = frames_ended (total + 1) t h.ends in
     let some : 1 ≤ left = h.some in
     let whole : t.frames ≡ h.past ++ front.octets ∷ [] = h.frames ∙ append-nil (h.past ++ front.octets ∷ []) in
@@ -783,28 +793,28 @@ following_last left front others t total sent h count tail frames is_frames is_c
     let now : List Bool = sent ++ flag_bit left ∷ [] in
     let is_now : now ≡ body t.frames t.opening 1 =
     flag_whole left front [] true t total sent h count one ∙ ap (λ xs. body xs t.opening 1) (sym whole) in
-    flag_ends left front [] true t total sent h count others frames (other_closing tail) one is_frames goes
-    (by_test (λ stage. Stands stage others (record t { named = t.named + 1 }) now) (ltb 1 (closing_flags tail)) _ _
+    flag_ends left front [] true t total sent h count others frames (other_closing modem tail) one is_frames goes
+    (by_test (λ stage. Stands stage others (record t { named = t.named + 1 }) now) (ltb 1 (closing_flags modem tail)) _ _
     (λ several.
-    let above : 1 < closing_flags tail = ltb-true 1 (closing_flags tail) several in
+    let above : 1 < closing_flags modem tail = ltb-true 1 (closing_flags modem tail) several in
     record {
       some = omega arith;
-      bits = closing_follows t.frames t.opening tail now above is_now ∙ ap (body t.frames t.opening) (sym is_closing);
+      bits = closing_follows t.frames t.opening modem tail now above is_now ∙ ap (body t.frames t.opening) (sym is_closing);
       ends = h.ends;
       named = all;
     })
     (λ single.
-    let few : closing_flags tail ≤ 1 = ltb-false 1 (closing_flags tail) single in
-    let least : 1 ≤ closing_flags tail = le-max_left 1 (3 * tail / 2) in
+    let few : closing_flags modem tail ≤ 1 = ltb-false 1 (closing_flags modem tail) single in
+    let least : 1 ≤ closing_flags modem tail = le-max_left 1 (flags_in modem tail) in
     let is_one : 1 ≡ t.closing = omega arith in
     record { bits = is_now ∙ ap (body t.frames t.opening) is_one; ends = h.ends; named = all })))
 
 -- ---- a bit of the closing flags
 
 pub closing_step : (left : ℕ) (waiting : List WaitingFrame) (t : OnAir) (total : ℕ) (sent : List Bool)
-    → InClosing left t sent → (tail frames : ℕ) → frames ≡ length t.frames
-    → Steps waiting t total sent (stage_step (Closing left) tail frames waiting)
-closing_step left waiting t total sent h tail frames is_frames =
+    → InClosing left t sent → (modem : Modem) (tail frames : ℕ) → frames ≡ length t.frames
+    → Steps waiting t total sent (stage_step (Closing left) modem tail frames waiting)
+closing_step left waiting t total sent h modem tail frames is_frames =
     let goes : has_sent_frames (total + 1) t ≡ false = frames_ended (total + 1) t h.ends in
     let flag : names_next (total + 1) t ≡ false = all_named (total + 1) t h.named in
     let some : 1 ≤ left = h.some in
@@ -826,6 +836,7 @@ closing_step left waiting t total sent h tail frames is_frames =
           record { bits = flag_last sent left one ∙ h.bits; ends = h.ends; named = h.named });
       frames = is_frames;
       closing = refl;
+      modem = refl;
     }
 
 -- ---- all of them
@@ -849,38 +860,38 @@ pub record SendsBit (waiting : List WaitingFrame) (t : OnAir) (total : ℕ) (sen
   pub count : length sent ≡ total
 
 pub stage_cases : (stage : Stage) (waiting : List WaitingFrame) (t : OnAir) (total : ℕ) (sent : List Bool)
-    (tail frames : ℕ)
+    (modem : Modem) (tail frames : ℕ)
     → Stands stage waiting t sent → Counts stage total sent → All (λ frame. HasFrameLength frame.octets) waiting
-    → frames ≡ length t.frames → t.closing ≡ closing_flags tail
-    → SendsBit waiting t total sent (stage_step stage tail frames waiting)
-    ⊎ IsOver waiting t total sent frames (stage_step stage tail frames waiting)
-stage_cases (Opening left) waiting t total sent tail frames h count fit is_frames is_closing =
+    → frames ≡ length t.frames → t.closing ≡ closing_flags modem tail
+    → SendsBit waiting t total sent (stage_step stage modem tail frames waiting)
+    ⊎ IsOver waiting t total sent frames (stage_step stage modem tail frames waiting)
+stage_cases (Opening left) waiting t total sent modem tail frames h count fit is_frames is_closing =
     inl (record {
-      steps = opening_steps left t total sent h count waiting tail frames is_frames is_closing;
+      steps = opening_steps left t total sent h count waiting modem tail frames is_frames is_closing;
       count = count;
     })
-stage_cases (Frame f) [] t total sent tail frames h count fit is_frames is_closing = absurd h
-stage_cases (Frame f) (front ∷ others) t total sent tail frames h count fit is_frames is_closing =
-    inl (record { steps = frame_steps f front others t total sent h count tail frames is_frames; count = count })
-stage_cases (Following left true) [] t total sent tail frames h count fit is_frames is_closing = absurd h
-stage_cases (Following left true) (front ∷ []) t total sent tail frames h count fit is_frames is_closing = absurd h
-stage_cases (Following left true) (front ∷ next ∷ others) t total sent tail frames h count fit is_frames is_closing =
+stage_cases (Frame f) [] t total sent modem tail frames h count fit is_frames is_closing = absurd h
+stage_cases (Frame f) (front ∷ others) t total sent modem tail frames h count fit is_frames is_closing =
+    inl (record { steps = frame_steps f front others t total sent h count modem tail frames is_frames; count = count })
+stage_cases (Following left true) [] t total sent modem tail frames h count fit is_frames is_closing = absurd h
+stage_cases (Following left true) (front ∷ []) t total sent modem tail frames h count fit is_frames is_closing = absurd h
+stage_cases (Following left true) (front ∷ next ∷ others) t total sent modem tail frames h count fit is_frames is_closing =
     let behind = All-tail (λ (frame : WaitingFrame). HasFrameLength frame.octets) front (next ∷ others) fit in
     let fits = All-head (λ (frame : WaitingFrame). HasFrameLength frame.octets) next others behind in
     inl (record {
       steps =
-          following_next left front next others t total sent h count fits tail frames is_frames;
+          following_next left front next others t total sent h count fits modem tail frames is_frames;
       count = count;
     })
-stage_cases (Following left false) [] t total sent tail frames h count fit is_frames is_closing = absurd h
-stage_cases (Following left false) (front ∷ others) t total sent tail frames h count fit is_frames is_closing =
+stage_cases (Following left false) [] t total sent modem tail frames h count fit is_frames is_closing = absurd h
+stage_cases (Following left false) (front ∷ others) t total sent modem tail frames h count fit is_frames is_closing =
     inl (record {
-      steps = following_last left front others t total sent h count tail frames is_frames is_closing;
+      steps = following_last left front others t total sent h count modem tail frames is_frames is_closing;
       count = count;
     })
-stage_cases (Closing left) waiting t total sent tail frames h count fit is_frames is_closing =
-    inl (record { steps = closing_step left waiting t total sent h tail frames is_frames; count = count })
-stage_cases Over waiting t total sent tail frames h count fit is_frames is_closing =
+stage_cases (Closing left) waiting t total sent modem tail frames h count fit is_frames is_closing =
+    inl (record { steps = closing_step left waiting t total sent h modem tail frames is_frames; count = count })
+stage_cases Over waiting t total sent modem tail frames h count fit is_frames is_closing =
     let goes : has_sent_frames (total + 1) t ≡ false = frames_ended (total + 1) t h.ends in
     let flag : names_next (total + 1) t ≡ false = all_named (total + 1) t h.named in
     inr (record {

@@ -5,7 +5,9 @@ use Rattle.channel_access.proofs.Common.{length-append, All, All-head, All-tail,
 use Rattle.channel_access.proofs.Common.{Sending, Stage, Opening, Frame, Following, Closing, Over, WaitingFrame}
 use Rattle.channel_access.proofs.Common.{HasFrameLength, OnAir, bits_then, has_sent_frames, most_frames, waiting_after}
 use Rattle.channel_access.proofs.Common.{frames_end, Held, StandsFor, StandsForAir, Goes, Stands, Counts, frame_rest}
-use Rattle.channel_access.proofs.Common.{Channel}
+use Rattle.channel_access.proofs.Common.{Channel, tick_bits, bits_of_ticks, modem_of}
+use Rattle.channel_access.proofs.ModemLemmas.{bits_of_ticks-more, tick_bits-most}
+use Rattle.channel_access.proofs.SendingLemmas.{sends_by}
 use Rattle.std.specs.List.{list_any}
 use Rattle.channel_access.specs.Channel.{is_of_link, takes_on_air, takes_frame, is_last_on_air, takes_last}
 use Rattle.channel_access.specs.HeldTaking.{ends_in_tick, on_air_in, sender_takes, held_takes, held_takes_last}
@@ -15,24 +17,25 @@ use Rattle.channel_access.proofs.StageLemmas.{frames_end-next, flag_there_at}
 
 -- what a sender says of its transmission
 record TellsTick (stage : Stage) (waiting : List WaitingFrame) (t : OnAir) : Type 0 where
-  pub ends : ends_in_tick stage waiting ≡ has_sent_frames (bits_then t) t
+  pub ends : ends_in_tick t.modem stage waiting ≡ has_sent_frames (bits_then t) t
   pub behind : has_sent_frames (bits_then t) t ≡ true → drop (on_air_in stage) waiting ≡ waiting_after t waiting
 
 -- the opening flags or the last frame end with the tick if so many bits are left of them
-within : (t : OnAir) (left : ℕ) → t.ends ≡ false → frames_end t ≡ 12 * t.ticks + left
-    → leb left 12 ≡ has_sent_frames (bits_then t) t
+within : (t : OnAir) (left : ℕ) → t.ends ≡ false → frames_end t ≡ bits_of_ticks t.modem t.ticks + left
+    → leb left (tick_bits t.modem) ≡ has_sent_frames (bits_then t) t
 within t left goes end =
-    elim (cases_Bool (leb left 12)) [
+    let more_bits = bits_of_ticks-more t.modem t.ticks in
+    elim (cases_Bool (leb left (tick_bits t.modem))) [
       | inl few ↦
-          let at_most : left ≤ 12 = leb-true left 12 few in
+          let at_most : left ≤ tick_bits t.modem = leb-true left (tick_bits t.modem) few in
           few ∙ sym (frames_end_here (bits_then t) t goes (omega arith))
       | inr many ↦
-          let more : 12 < left = leb-false left 12 many in
+          let more : tick_bits t.modem < left = leb-false left (tick_bits t.modem) many in
           many ∙ sym (frames_go_on (bits_then t) t (omega arith))
     ]
 
 -- nothing ends with it
-none_ends : (stage : Stage) (waiting : List WaitingFrame) (t : OnAir) → ends_in_tick stage waiting ≡ false
+none_ends : (stage : Stage) (waiting : List WaitingFrame) (t : OnAir) → ends_in_tick t.modem stage waiting ≡ false
     → has_sent_frames (bits_then t) t ≡ false → TellsTick stage waiting t
 none_ends stage waiting t none goes = record {
   ends = none ∙ sym goes;
@@ -40,16 +43,16 @@ none_ends stage waiting t none goes = record {
 }
 
 tells_tick : (stage : Stage) (waiting : List WaitingFrame) (t : OnAir) (sent : List Bool)
-    → Stands stage waiting t sent → Counts stage (12 * t.ticks) sent
+    → Stands stage waiting t sent → Counts stage (bits_of_ticks t.modem t.ticks) sent
     → All (λ frame. HasFrameLength frame.octets) waiting → TellsTick stage waiting t
 unfolding frames_end
 tells_tick (Opening left) waiting t sent h count fit = record {
-  ends = within t left h.ends (opening_end left t (12 * t.ticks) sent h count);
+  ends = within t left h.ends (opening_end left t (bits_of_ticks t.modem t.ticks) sent h count);
   behind = λ _. sym (after_none t waiting h.frames);
 }
 tells_tick (Frame f) [] t sent h count fit = absurd h
 tells_tick (Frame f) (front ∷ others) t sent h count fit =
-    let end : frames_end t ≡ 12 * t.ticks + length (frame_rest f front.octets) = omega (
+    let end : frames_end t ≡ bits_of_ticks t.modem t.ticks + length (frame_rest f front.octets) = omega (
       arith,
       ap length h.bits,
       length-append sent (frame_rest f front.octets),
@@ -64,7 +67,9 @@ tells_tick (Following left true) (front ∷ next ∷ others) t sent h count fit 
     let behind = All-tail (λ (frame : WaitingFrame). HasFrameLength frame.octets) front (next ∷ others) fit in
     let fits = All-head (λ (frame : WaitingFrame). HasFrameLength frame.octets) next others behind in
     let long = frame_bits-long next.octets fits.least in
-    let there = flag_there_at left front (next.octets ∷ []) false t (12 * t.ticks) sent h count in
+    let there = flag_there_at left front (next.octets ∷ []) false t (bits_of_ticks t.modem t.ticks) sent h count in
+    let more_bits = bits_of_ticks-more t.modem t.ticks in
+    let most = tick_bits-most t.modem in
     let end = frames_end-next t h.past front.octets next.octets h.frames h.named in
     none_ends (Following left true) (front ∷ next ∷ others) t refl (frames_go_on (bits_then t) t (omega arith))
 tells_tick (Following left false) [] t sent h count fit = absurd h
@@ -80,13 +85,16 @@ sender_is s waiting t g fit =
     let tells = tells_tick s.stage waiting t g.sent g.sends.stands g.sends.count fit in
     let ended : Bool = has_sent_frames (bits_then t) t in
     let others : List WaitingFrame = drop (on_air_in s.stage) waiting in
+    let same : ends_in_tick (modem_of s.wave) s.stage waiting ≡ ended =
+    ap (λ modem. ends_in_tick modem s.stage waiting) (sends_by s waiting t (bits_of_ticks t.modem t.ticks) g.sent g.sends)
+    ∙ tells.ends in
     elim (cases_Bool ended) [
       | inl ends ↦
-          ap (λ b. b && ltb s.frames most_frames && not (list_any is_of_link others)) tells.ends
+          ap (λ b. b && ltb s.frames most_frames && not (list_any is_of_link others)) same
           ∙ ap (λ n. ended && ltb n most_frames && not (list_any is_of_link others)) g.sends.frames
           ∙ ap (λ w. ended && ltb (length t.frames) most_frames && not (list_any is_of_link w)) (tells.behind ends)
       | inr not_yet ↦
-          ap (λ b. b && ltb s.frames most_frames && not (list_any is_of_link others)) (tells.ends ∙ not_yet)
+          ap (λ b. b && ltb s.frames most_frames && not (list_any is_of_link others)) (same ∙ not_yet)
           ∙ sym (ap (λ b. b && ltb (length t.frames) most_frames
           && not (list_any is_of_link (waiting_after t waiting))) not_yet)
     ]

@@ -2,14 +2,15 @@
 use Rattle.channel_access.proofs.Common.{◌≡◌, ℕ, ◌+◌, ◌*◌, ◌≤◌, Bool, true, false, not, ◌&&◌, cond, eqb, leb, ltb, ℤ}
 use Rattle.channel_access.proofs.Common.{pos, List, [], ◌∷◌, ◌++◌, length, take, drop, replicate, refl, ap, ◌∙◌, sym}
 use Rattle.channel_access.proofs.Common.{inl, inr, arith, append_assoc, append-nil, cases_Bool, take-append-le}
-use Rattle.channel_access.proofs.Common.{transmission, flags, body, frame_bits, flag, joined-push, line}
-use Rattle.channel_access.proofs.Common.{length-line_from, Mark, wave, WaitingFrame, OnAir, bits_then, bits_of}
+use Rattle.channel_access.proofs.Common.{transmission_by, samples_of_bits, flags, body, frame_bits, flag, joined-push, line}
+use Rattle.channel_access.proofs.Common.{length-line_from, Mark, WaitingFrame, OnAir, bits_then, bits_of}
 use Rattle.channel_access.proofs.Common.{samples_on_air, frames_end, has_sent_frames, followed_by, decided}
 use Rattle.channel_access.proofs.Common.{tick_samples, most_frames, waiting_after}
 use Rattle.std.proofs.lemmas.List.{drop-append-le, length-drop}
 use Rattle.channel_access.proofs.BodyLemmas.{body-closing}
 use Rattle.channel_access.proofs.StageLemmas.{by_test}
-use Rattle.channel_access.proofs.SendingLemmas.{length-wave_from}
+use Rattle.channel_access.proofs.ModemLemmas.{samples_of_bits-ticks, samples_of_bits-fewer, modem_wave}
+use Rattle.channel_access.proofs.ModemLemmas.{length-modem_wave}
 use Rattle.channel_access.proofs.AirLemmas.{open_bits, closed_bits, samples_on_air-is, wave-append}
 
 -- the closing flags come after all frames
@@ -64,14 +65,15 @@ decided_adds bits waiting t =
     (λ ended. followed_adds (waiting_after t waiting) t (open_when_ended bits t ended))
     (λ _. ([], sym (append-nil (bits_of t))))
 
-pub whole_at_end : (t : OnAir) → t.ends ≡ true → samples_on_air t ≡ transmission t.frames t.opening t.closing
+pub whole_at_end : (t : OnAir) → t.ends ≡ true → samples_on_air t
+    ≡ transmission_by t.modem t.frames t.opening t.closing
 unfolding samples_on_air
-whole_at_end t ends = ap (λ b. transmission t.frames t.opening (cond b t.closing 0)) ends
+whole_at_end t ends = ap (λ b. transmission_by t.modem t.frames t.opening (cond b t.closing 0)) ends
 
-length-samples_on_air : (t : OnAir) → length (samples_on_air t) ≡ 8 * length (bits_of t)
+length-samples_on_air : (t : OnAir) → length (samples_on_air t) ≡ samples_of_bits t.modem (length (bits_of t))
 length-samples_on_air t =
-    ap length (samples_on_air-is t) ∙ length-wave_from 0 (line (bits_of t))
-    ∙ ap (λ n. 8 * n) (length-line_from Mark (bits_of t))
+    ap length (samples_on_air-is t) ∙ length-modem_wave t.modem (line (bits_of t))
+    ∙ ap (samples_of_bits t.modem) (length-line_from Mark (bits_of t))
 
 -- a piece of a list is there with anything after the list
 piece : (xs ys : List ℤ) (start size : ℕ) → start + size ≤ length xs
@@ -80,15 +82,18 @@ piece xs ys start size within =
     ap (take size) (drop-append-le start xs ys (omega arith))
     ∙ take-append-le size (drop start xs) ys (omega (arith, length-drop start xs))
 
-pub tick_in_whole : (t whole : OnAir) (rest : List Bool) → bits_of whole ≡ bits_of t ++ rest
+pub tick_in_whole : (t whole : OnAir) (rest : List Bool) → whole.modem ≡ t.modem → bits_of whole ≡ bits_of t ++ rest
     → bits_then t ≤ length (bits_of t)
     → tick_samples t ≡ take 96 (drop (96 * t.ticks) (samples_on_air whole))
 unfolding tick_samples
-tick_in_whole t whole rest adds within =
-    let later = wave-append (bits_of t) rest in
+tick_in_whole t whole rest same_modem adds within =
+    let later = wave-append t.modem (bits_of t) rest in
     let all : samples_on_air whole ≡ samples_on_air t ++ later.0 =
-    samples_on_air-is whole ∙ ap (λ xs. wave (line xs)) adds ∙ later.1
+    samples_on_air-is whole ∙ ap (λ m. modem_wave m (line (bits_of whole))) same_modem
+    ∙ ap (λ xs. modem_wave t.modem (line xs)) adds ∙ later.1
     ∙ ap (λ xs. xs ++ later.0) (sym (samples_on_air-is t)) in
-    let long : 96 * t.ticks + 96 ≤ length (samples_on_air t) = omega (arith, length-samples_on_air t) in
+    let ticks = samples_of_bits-ticks t.modem (t.ticks + 1) in
+    let fewer = samples_of_bits-fewer t.modem (bits_then t) (length (bits_of t)) within in
+    let long : 96 * t.ticks + 96 ≤ length (samples_on_air t) = omega (arith, ticks, fewer, length-samples_on_air t) in
     piece (samples_on_air t) (replicate 96 (pos 0)) (96 * t.ticks) 96 long
     ∙ sym (ap (λ xs. take 96 (drop (96 * t.ticks) xs)) all ∙ piece (samples_on_air t) later.0 (96 * t.ticks) 96 long)

@@ -7,6 +7,8 @@ use Rattle.std.specs.List.{list_any}
 use Rattle.rand_pcg.specs.Lcg.{Lcg}
 use Rattle.channel_access.specs.declared.air_tick.AirTick.{AirTick}
 use Rattle.channel_access.specs.declared.air_tick.Sent.{Sent}
+use Rattle.channel_access.specs.declared.modem.Modem.{Modem}
+use Rattle.channel_access.specs.declared.modem.Modem.TheVariants.{Bell202}
 use Rattle.channel_access.specs.declared.parameters.Param.{Param}
 use Rattle.channel_access.specs.declared.parameters.Parameters.{Parameters}
 use Rattle.channel_access.specs.Parameters.{default_parameters, with_param, opening_flags, closing_flags}
@@ -18,9 +20,10 @@ use Rattle.channel_access.specs.Words.{generator_of, draw_stream, draw, after_wo
 use Rattle.channel_access.specs.OnAir.{OnAir, bits_then, decided, has_sent_frames, most_frames}
 use Rattle.channel_access.specs.OnAir.{waiting_after, with_named, waiting_with_named, frame_named, tick_samples, with_tick}
 
--- The frames that wait, in order, with those of the transmission under way that are not named as sent yet; the ticks
--- that are left of a slot; and the transmission under way.
+-- The modem, which never changes; the frames that wait, in order, with those of the transmission under way that are not
+-- named as sent yet; the ticks that are left of a slot; and the transmission under way.
 pub record Channel : Type 0 where
+  pub modem : Modem
   pub waiting : List WaitingFrame
   pub parameters : Parameters
   pub generator : Lcg
@@ -28,9 +31,11 @@ pub record Channel : Type 0 where
   pub air : Option OnAir
   pub past : List Happening
 
-abbrev pub new_channel : ℕ → Channel
-new_channel seed =
+-- before any call, with the draws of a seed
+abbrev pub new_channel_by : Modem → ℕ → Channel
+new_channel_by modem seed =
     record {
+      modem = modem;
       waiting = [];
       parameters = default_parameters;
       generator = generator_of seed draw_stream;
@@ -38,6 +43,10 @@ new_channel seed =
       air = None;
       past = [];
     }
+
+-- the same for Bell 202
+abbrev pub new_channel : ℕ → Channel
+new_channel seed = new_channel_by Bell202 seed
 
 -- with one frame more
 abbrev pub with_frame : Option ℕ → List ℕ → Channel → Channel
@@ -92,8 +101,9 @@ decision busy wants channel =
 -- a transmission that begins now, with its opening flags
 abbrev pub begun : Channel → OnAir
 begun channel = record {
-  opening = opening_flags channel.parameters.tx_delay;
-  closing = closing_flags channel.parameters.tx_tail;
+  modem = channel.modem;
+  opening = opening_flags channel.modem channel.parameters.tx_delay;
+  closing = closing_flags channel.modem channel.parameters.tx_tail;
   frames = [];
   ends = false;
   named = 0;

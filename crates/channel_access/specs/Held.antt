@@ -7,17 +7,19 @@ use Rattle.tone_table.specs.declared.tone.Tone.TheVariants.{Mark}
 use Rattle.nrzi_bits.specs.Line.{sent_tone}
 use Rattle.hdlc_framer.specs.BitOrder.{sent_bits}
 use Rattle.hdlc_framer.specs.CheckSequence.{fcs_of}
-use Rattle.afsk_modulator.specs.Modulation.{full, tone_window, behind}
 use Rattle.channel_access.specs.declared.air_tick.Sent.{Sent}
 use Rattle.channel_access.specs.declared.frame_bits.FrameBits.{FrameBits}
 use Rattle.channel_access.specs.declared.listening.Listening.{Listening}
 use Rattle.channel_access.specs.declared.stage.Stage.{Stage}
 use Rattle.channel_access.specs.declared.stage.Stage.TheVariants.{Opening, Frame, Following, Closing, Over}
 use Rattle.channel_access.specs.declared.sending.Sending.{Sending}
+use Rattle.channel_access.specs.declared.modem.Modem.{Modem}
 use Rattle.channel_access.specs.declared.parameters.Parameters.{Parameters}
 use Rattle.channel_access.specs.declared.parameters.Param.{Param}
 use Rattle.channel_access.specs.Parameters.{default_parameters, with_param, opening_flags, closing_flags}
 use Rattle.channel_access.specs.Words.{generator_of, draw_stream}
+use Rattle.channel_access.specs.Modem.{samples_of_bits}
+use Rattle.channel_access.specs.HeldWave.{modem_of, wave_start, wave_window, after_tone}
 use Rattle.channel_access.specs.HeldTurns.{listening_of}
 use Rattle.channel_access.specs.Happenings.{Happening}
 use Rattle.channel_access.specs.Waiting.{WaitingFrame}
@@ -79,17 +81,17 @@ front_begins [] = Over
 front_begins (front ∷ others) = Frame (frame_start front.octets)
 
 -- With the last bit of the opening flags it is decided what follows: the front frame, or the closing flags if none waits.
-abbrev pub after_opening : ℕ → List WaitingFrame → Stage
-after_opening tail [] = Closing (8 * closing_flags tail)
-after_opening tail (front ∷ others) = Frame (frame_start front.octets)
+abbrev pub after_opening : Modem → ℕ → List WaitingFrame → Stage
+after_opening modem tail [] = Closing (8 * closing_flags modem tail)
+after_opening modem tail (front ∷ others) = Frame (frame_start front.octets)
 
 abbrev pub frames_opened : ℕ → List WaitingFrame → ℕ
 frames_opened frames [] = frames
 frames_opened frames (front ∷ others) = 1
 
 -- a bit of the opening flags
-abbrev pub opening_step : ℕ → ℕ → ℕ → List WaitingFrame → Step
-opening_step left tail frames waiting =
+abbrev pub opening_step : ℕ → Modem → ℕ → ℕ → List WaitingFrame → Step
+opening_step left modem tail frames waiting =
     if nat_lt 1 left
     then record {
       bit = Some (flag_bit left);
@@ -101,7 +103,7 @@ opening_step left tail frames waiting =
     else record {
       bit = Some (flag_bit left);
       named = None;
-      stage = after_opening tail waiting;
+      stage = after_opening modem tail waiting;
       frames = frames_opened frames waiting;
       waiting = waiting;
     }
@@ -111,12 +113,12 @@ abbrev pub joins : ℕ → List WaitingFrame → Bool
 joins frames waiting = nat_lt frames most_frames && nat_lt 1 (length waiting)
 
 -- the closing flags after the first of them
-abbrev pub other_closing : ℕ → Stage
-other_closing tail = if nat_lt 1 (closing_flags tail) then Closing (8 * (closing_flags tail - 1)) else Over
+abbrev pub other_closing : Modem → ℕ → Stage
+other_closing modem tail = if nat_lt 1 (closing_flags modem tail) then Closing (8 * (closing_flags modem tail - 1)) else Over
 
-abbrev pub behind_flag : Bool → ℕ → List WaitingFrame → Stage
-behind_flag true tail waiting = front_begins waiting
-behind_flag false tail waiting = other_closing tail
+abbrev pub behind_flag : Bool → Modem → ℕ → List WaitingFrame → Stage
+behind_flag true modem tail waiting = front_begins waiting
+behind_flag false modem tail waiting = other_closing modem tail
 
 abbrev pub behind_closing : ℕ → Stage
 behind_closing left = if nat_lt 1 left then Closing (left - 1) else Over
@@ -129,7 +131,7 @@ followed waiting s =
 
 -- the sender after the last bit of the opening flags
 abbrev pub opened : List WaitingFrame → Sending → Sending
-opened waiting s = record s { stage = after_opening s.tail waiting; frames = frames_opened s.frames waiting }
+opened waiting s = record s { stage = after_opening (modem_of s.wave) s.tail waiting; frames = frames_opened s.frames waiting }
 
 -- a step of a frame
 abbrev pub frame_step : Option (Bool × FrameBits) → List ℕ → ℕ → List WaitingFrame → Step
@@ -156,8 +158,8 @@ front_octets [] = None
 front_octets (front ∷ others) = Some front.octets
 
 -- the flag after the front frame, which is named with the last bit of it
-abbrev pub flag_step : ℕ → Bool → ℕ → ℕ → List WaitingFrame → Step
-flag_step left another tail frames waiting =
+abbrev pub flag_step : ℕ → Bool → Modem → ℕ → ℕ → List WaitingFrame → Step
+flag_step left another modem tail frames waiting =
     if nat_lt 1 left
     then record {
       bit = Some (flag_bit left);
@@ -169,22 +171,22 @@ flag_step left another tail frames waiting =
     else record {
       bit = Some (flag_bit left);
       named = front_octets waiting;
-      stage = behind_flag another tail (drop 1 waiting);
+      stage = behind_flag another modem tail (drop 1 waiting);
       frames = frames;
       waiting = drop 1 waiting;
     }
 
-abbrev pub stage_step : Stage → ℕ → ℕ → List WaitingFrame → Step
-stage_step (Opening left) tail frames waiting = opening_step left tail frames waiting
-stage_step (Frame f) tail frames waiting = front_step f frames waiting
-stage_step (Following left another) tail frames waiting = flag_step left another tail frames waiting
-stage_step (Closing left) tail frames waiting =
+abbrev pub stage_step : Stage → Modem → ℕ → ℕ → List WaitingFrame → Step
+stage_step (Opening left) modem tail frames waiting = opening_step left modem tail frames waiting
+stage_step (Frame f) modem tail frames waiting = front_step f frames waiting
+stage_step (Following left another) modem tail frames waiting = flag_step left another modem tail frames waiting
+stage_step (Closing left) modem tail frames waiting =
     record { bit = Some (flag_bit left); named = None; stage = behind_closing left; frames = frames; waiting = waiting }
-stage_step Over tail frames waiting =
+stage_step Over modem tail frames waiting =
     record { bit = None; named = None; stage = Over; frames = frames; waiting = waiting }
 
 unfoldable pub step_of : Sending → List WaitingFrame → Step
-step_of s waiting = stage_step s.stage s.tail s.frames waiting
+step_of s waiting = stage_step s.stage (modem_of s.wave) s.tail s.frames waiting
 
 -- the sender with the stage of a step
 abbrev pub with_step : Sending → Step → Sending
@@ -196,16 +198,16 @@ stage_over _ = false
 
 -- ---- its samples
 
--- eight samples of a bit, or silence
+-- the samples of a bit, or as much silence
 unfoldable pub window_of : Sending → Option Bool → List ℤ
-window_of s None = replicate 8 (pos 0)
-window_of s (Some bit) = tone_window s.modulator (sent_tone s.line bit)
+window_of s None = replicate (samples_of_bits (modem_of s.wave) 1) (pos 0)
+window_of s (Some bit) = wave_window s.wave (sent_tone s.line bit)
 
 -- the sender after it
 abbrev pub behind_bit : Sending → Option Bool → Sending
 behind_bit s None = s
 behind_bit s (Some bit) =
-    record s { line = sent_tone s.line bit; modulator = behind s.modulator (sent_tone s.line bit ∷ []) }
+    record s { line = sent_tone s.line bit; wave = after_tone s.wave (sent_tone s.line bit) }
 
 -- ---- some bits, one after another
 
@@ -217,43 +219,44 @@ pub record Run : Type 0 where
   pub sent : Option Sent
 
 -- the frame that a step names, if it does, after so many bits
-abbrev pub sent_with : Option (List ℕ) → ℕ → Option Sent → Option Sent
-sent_with None bits before = before
-sent_with (Some octets) bits before = Some (record { octets = octets; after = 8 * bits })
+abbrev pub sent_with : Modem → Option (List ℕ) → ℕ → Option Sent → Option Sent
+sent_with modem None bits before = before
+sent_with modem (Some octets) bits before = Some (record { octets = octets; after = samples_of_bits modem bits })
 
 -- one bit more, after so many
-unfoldable pub with_bit : ℕ → Run → Run
-with_bit count run =
+unfoldable pub with_bit : Modem → ℕ → Run → Run
+with_bit modem count run =
     let step = step_of run.sending run.waiting in
     let stepped = with_step run.sending step in
     record {
       sending = behind_bit stepped step.bit;
       waiting = step.waiting;
       samples = run.samples ++ window_of stepped step.bit;
-      sent = sent_with step.named (count + 1) run.sent;
+      sent = sent_with modem step.named (count + 1) run.sent;
     }
 
-unfoldable pub with_bits : ℕ → Run → Run
-with_bits zero run = run
-with_bits (suc count) run = with_bit count (with_bits count run)
+unfoldable pub with_bits : Modem → ℕ → Run → Run
+with_bits modem zero run = run
+with_bits modem (suc count) run = with_bit modem count (with_bits modem count run)
 
 -- before the first bit of a tick
 abbrev pub tick_start : Sending → List WaitingFrame → Run
 tick_start sending waiting = record { sending = sending; waiting = waiting; samples = []; sent = None }
 
 -- a new transmission
-unfoldable pub new_sending : Parameters → Sending
-new_sending parameters = record {
-  stage = Opening (8 * opening_flags parameters.tx_delay);
+unfoldable pub new_sending : Modem → Parameters → Sending
+new_sending modem parameters = record {
+  stage = Opening (8 * opening_flags modem parameters.tx_delay);
   frames = 0;
   tail = parameters.tx_tail;
   line = Mark;
-  modulator = full;
+  wave = wave_start modem;
 }
 
 -- ---- what an access keeps
 
 pub record Held : Type 0 where
+  pub modem : Modem
   pub waiting : List WaitingFrame
   pub parameters : Parameters
   pub generator : Lcg
@@ -262,8 +265,9 @@ pub record Held : Type 0 where
   pub listening : Listening
 
 -- before any call
-abbrev pub new_held : ℕ → Held
-new_held seed = record {
+abbrev pub new_held : Modem → ℕ → Held
+new_held modem seed = record {
+  modem = modem;
   waiting = [];
   parameters = default_parameters;
   generator = generator_of seed draw_stream;

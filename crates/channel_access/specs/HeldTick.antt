@@ -6,12 +6,15 @@ use Rattle.channel_access.specs.declared.sending.Sending.{Sending}
 use Rattle.channel_access.specs.Waiting.{WaitingFrame}
 use Rattle.channel_access.specs.Channel.{Channel, Decision, decision}
 use Rattle.channel_access.specs.Held.{Held, Run, tick_start, with_bits, stage_over, new_sending, held_after}
+use Rattle.channel_access.specs.Modem.{tick_bits}
+use Rattle.channel_access.specs.HeldWave.{modem_of}
 use Rattle.channel_access.specs.Happenings.{Happening}
 use Rattle.channel_access.specs.Happenings.Happening.{Ticked}
 
 -- the channel at rest, with what has come to pass
 abbrev pub channel_of : List Happening → Held → Channel
 channel_of past held = record {
+  modem = held.modem;
   waiting = held.waiting;
   parameters = held.parameters;
   generator = held.generator;
@@ -25,7 +28,7 @@ with_held_decision d held = record held { slot = d.slot; generator = d.generator
 
 -- a tick of a sender
 abbrev pub run_of : Sending → List WaitingFrame → Run
-run_of s waiting = with_bits 12 (tick_start s waiting)
+run_of s waiting = with_bits (modem_of s.wave) (tick_bits (modem_of s.wave)) (tick_start s waiting)
 
 -- the sender after it, if something is left
 abbrev pub going_on : Sending → Option Sending
@@ -51,7 +54,7 @@ abbrev pub held_begun : Bool → Bool → List Happening → Held → Option Sen
 held_begun busy wants past held (Some s) = held
 held_begun busy wants past held None =
     let d = decision busy wants (channel_of past held) in
-    record (with_held_decision d held) { sending = if d.begins then Some (new_sending held.parameters) else None }
+    record (with_held_decision d held) { sending = if d.begins then Some (new_sending held.modem held.parameters) else None }
 
 abbrev pub held_tick : Bool → Bool → List Happening → Held → AirTick
 held_tick busy wants past held =

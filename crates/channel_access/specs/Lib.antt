@@ -1,3 +1,4 @@
+pub mod Modem
 pub mod Parameters
 pub mod Waiting
 pub mod Words
@@ -6,6 +7,7 @@ pub mod Happenings
 pub mod Turns
 pub mod Channel
 pub mod HeldTurns
+pub mod HeldWave
 pub mod Held
 pub mod HeldTick
 pub mod StandsFor

@@ -1,10 +1,11 @@
 -- A transmission under way (AX.25 2.2 section 3, ISO/IEC 3309): flags, frames with one flag between neighbours, and
--- flags. It is sent tick by tick, 12 bits each, and frames may join it while it runs.
+-- flags. It is sent tick by tick, and frames may join it while it runs.
 use Rattle.std.specs.Prelude.{ℕ, ◌+◌, ◌-◌, ◌*◌, nat_lt, nat_le, Bool, true, not, ◌&&◌, if◌then◌else◌, ℤ, pos, List, []}
 use Rattle.std.specs.Prelude.{◌∷◌, ◌++◌, length, take, drop, replicate, slice_index_or, Option, Some, None}
 use Rattle.hdlc_framer.specs.Body.{body}
-use Rattle.afsk_modulator.specs.Transmission.{transmission}
 use Rattle.channel_access.specs.declared.air_tick.Sent.{Sent}
+use Rattle.channel_access.specs.declared.modem.Modem.{Modem}
+use Rattle.channel_access.specs.Modem.{bits_of_ticks, samples_of_bits, transmission_by}
 use Rattle.channel_access.specs.Waiting.{WaitingFrame}
 
 -- A transmission begins with its opening flags alone. Its first frame is decided where they end, and each other one where
@@ -12,6 +13,7 @@ use Rattle.channel_access.specs.Waiting.{WaitingFrame}
 -- further one follows. Of these frames the first `named` are sent, each with the flag after it, and so many ticks of the
 -- whole are sent.
 pub record OnAir : Type 0 where
+  pub modem : Modem
   pub opening : ℕ
   pub closing : ℕ
   pub frames : List (List ℕ)
@@ -25,7 +27,7 @@ most_frames = 8
 
 -- how many bits are sent when the next tick has been sent
 abbrev pub bits_then : OnAir → ℕ
-bits_then t = 12 * (t.ticks + 1)
+bits_then t = bits_of_ticks t.modem (t.ticks + 1)
 
 -- the flags after the last frame: none is decided before it is decided that no further frame follows
 abbrev pub flags_behind : OnAir → ℕ
@@ -36,7 +38,7 @@ unfoldable pub bits_of : OnAir → List Bool
 bits_of t = body t.frames t.opening (flags_behind t)
 
 unfoldable pub samples_on_air : OnAir → List ℤ
-samples_on_air t = transmission t.frames t.opening (flags_behind t)
+samples_on_air t = transmission_by t.modem t.frames t.opening (flags_behind t)
 
 -- how many bits are sent when the last bit of its last frame is sent, or of its opening flags if it has no frame yet
 unfoldable pub frames_end : OnAir → ℕ
@@ -83,7 +85,7 @@ frame_named bits t =
     if names_next bits t
     then Some (record {
       octets = slice_index_or t.frames t.named [];
-      after = 8 * (flag_end (t.named + 1) t - 12 * t.ticks);
+      after = samples_of_bits t.modem (flag_end (t.named + 1) t - bits_of_ticks t.modem t.ticks);
     })
     else None
 

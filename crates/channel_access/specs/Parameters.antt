@@ -1,6 +1,8 @@
 -- What a host sets of the channel access (the KISS TNC protocol, Chepponis and Karn, commands 1 to 5). Times are in
--- units of 10 ms, which is a tick of 12 bits.
-use Rattle.std.specs.Prelude.{ℕ, ◌*◌, ◌/◌, max, false}
+-- units of 10 ms, which is a tick.
+use Rattle.std.specs.Prelude.{ℕ, ◌+◌, ◌*◌, ◌/◌, max, false}
+use Rattle.channel_access.specs.declared.modem.Modem.{Modem}
+use Rattle.channel_access.specs.declared.modem.Modem.TheVariants.{Bell202, ShortWave}
 use Rattle.channel_access.specs.declared.parameters.Param.{Param}
 use Rattle.channel_access.specs.declared.parameters.Param.TheVariants.{TxDelay, Persist, SlotTime, TxTail, FullDuplex}
 use Rattle.channel_access.specs.declared.parameters.Parameters.{Parameters}
@@ -17,10 +19,16 @@ with_param (SlotTime ticks) parameters = record parameters { slot_time = ticks }
 with_param (TxTail ticks) parameters = record parameters { tx_tail = ticks }
 with_param (FullDuplex on) parameters = record parameters { full_duplex = on }
 
--- The flags that open a transmission: three fit in two ticks, so as many as fit in TXDELAY, and at least two.
-abbrev pub opening_flags : ℕ → ℕ
-opening_flags tx_delay = max 2 (3 * tx_delay / 2)
+-- The flags of a time. At 1200 bits a second three fit in two ticks: as many as fit. At 300 bits a second a tick has 3
+-- bits, and a flag is 8: as many as fill the time.
+abbrev pub flags_in : Modem → ℕ → ℕ
+flags_in Bell202 ticks = 3 * ticks / 2
+flags_in ShortWave ticks = (3 * ticks + 7) / 8
 
--- the flags that close one: as many as fit in TXtail, and at least one
-abbrev pub closing_flags : ℕ → ℕ
-closing_flags tx_tail = max 1 (3 * tx_tail / 2)
+-- the flags that open a transmission: those of TXDELAY, and at least two
+abbrev pub opening_flags : Modem → ℕ → ℕ
+opening_flags modem tx_delay = max 2 (flags_in modem tx_delay)
+
+-- the flags that close one: those of TXtail, and at least one
+abbrev pub closing_flags : Modem → ℕ → ℕ
+closing_flags modem tx_tail = max 1 (flags_in modem tx_tail)

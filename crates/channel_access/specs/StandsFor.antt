@@ -4,13 +4,14 @@ use Rattle.std.specs.Prelude.{◌≡◌, ℕ, zero, suc, ◌-◌, ◌*◌, ◌�
 use Rattle.std.specs.Prelude.{nat_le, Option, Some, None, if◌then◌else◌}
 use Rattle.std.specs.List.{All}
 use Rattle.nrzi_bits.specs.Line.{line, last_tone}
-use Rattle.afsk_modulator.specs.Modulation.{full, behind}
 use Rattle.hdlc_framer.specs.Body.{flags, body}
 use Rattle.hdlc_framer.specs.Counted.{stuffed_from}
 use Rattle.channel_access.specs.declared.frame_bits.FrameBits.{FrameBits}
 use Rattle.channel_access.specs.declared.stage.Stage.{Stage}
 use Rattle.channel_access.specs.declared.stage.Stage.TheVariants.{Opening, Frame, Following, Closing, Over}
 use Rattle.channel_access.specs.declared.sending.Sending.{Sending}
+use Rattle.channel_access.specs.Modem.{bits_of_ticks}
+use Rattle.channel_access.specs.HeldWave.{wave_behind}
 use Rattle.channel_access.specs.Parameters.{closing_flags}
 use Rattle.channel_access.specs.Waiting.{WaitingFrame}
 use Rattle.hdlc_framer.specs.FrameLength.{HasFrameLength}
@@ -91,14 +92,14 @@ pub record Sends (s : Sending) (waiting : List WaitingFrame) (t : OnAir) (total 
   pub stands : Stands s.stage waiting t sent
   pub count : Counts s.stage total sent
   pub frames : s.frames ≡ length t.frames
-  pub closing : t.closing ≡ closing_flags s.tail
+  pub closing : t.closing ≡ closing_flags t.modem s.tail
   pub tone : s.line ≡ last_tone (line sent)
-  pub phase : s.modulator ≡ behind full (line sent)
+  pub wave : s.wave ≡ wave_behind t.modem (line sent)
 
 -- A transmission under way, between two ticks of it.
 pub record Goes (s : Sending) (waiting : List WaitingFrame) (t : OnAir) : Type 0 where
   pub sent : List Bool
-  pub sends : Sends s waiting t (12 * t.ticks) sent
+  pub sends : Sends s waiting t (bits_of_ticks t.modem t.ticks) sent
   pub left : stage_over s.stage ≡ false
 
 abbrev pub StandsForAir : Option Sending → List WaitingFrame → Option OnAir → Type 0
@@ -108,6 +109,7 @@ StandsForAir (Some s) waiting None = ⊥
 StandsForAir (Some s) waiting (Some t) = Goes s waiting t
 
 pub record StandsFor (held : Held) (channel : Channel) : Type 0 where
+  pub modem : held.modem ≡ channel.modem
   pub waiting : held.waiting ≡ channel.waiting
   pub parameters : held.parameters ≡ channel.parameters
   pub generator : held.generator ≡ channel.generator

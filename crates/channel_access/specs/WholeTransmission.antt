@@ -4,10 +4,11 @@ use Rattle.std.specs.Prelude.{None, IsSome, option_map}
 use Rattle.std.specs.Option.{option_to_list}
 use Rattle.std.specs.List.{All, flat_map}
 use Rattle.hdlc_framer.specs.FrameLength.{HasFrameLength}
-use Rattle.afsk_modulator.specs.Transmission.{transmission}
 use Rattle.channel_access.specs.declared.air_tick.AirTick.{AirTick}
 use Rattle.channel_access.specs.declared.air_tick.Sent.{Sent}
+use Rattle.channel_access.specs.declared.modem.Modem.{Modem}
 use Rattle.channel_access.specs.declared.parameters.Param.{Param}
+use Rattle.channel_access.specs.Modem.{transmission_by}
 use Rattle.channel_access.specs.Parameters.{opening_flags, closing_flags}
 use Rattle.channel_access.specs.Waiting.{WaitingFrame}
 use Rattle.channel_access.specs.OnAir.{most_frames}
@@ -81,20 +82,21 @@ names_of sent = option_to_list (option_map (λ s. s.octets) sent)
 abbrev pub named_in : List AirTick → List (List ℕ)
 named_in ticks = flat_map (λ tick. names_of tick.sent) ticks
 
--- These ticks are one transmission of these frames, with so many opening and closing flags: its samples, and zeros up
--- to the end of the last tick, which are fewer than a tick has. Each frame is named once, in order. There may be none: a
--- link that wanted to send as it began may want no longer where the opening flags end.
-pub record AreOneTransmission (frames : List (List ℕ)) (opening closing : ℕ) (ticks : List AirTick) : Type 0 where
+-- These ticks are one transmission of these frames by a modem, with so many opening and closing flags: its samples, and
+-- zeros up to the end of the last tick, which are fewer than a tick has. Each frame is named once, in order. There may be
+-- none: a link that wanted to send as it began may want no longer where the opening flags end.
+pub record AreOneTransmission (modem : Modem) (frames : List (List ℕ)) (opening closing : ℕ) (ticks : List AirTick) : Type 0 where
   pub few : length frames ≤ most_frames
   pub zeros : ℕ
   pub fewer : zeros < 96
-  pub samples : samples_in ticks ≡ transmission frames opening closing ++ replicate zeros (pos 0)
+  pub samples : samples_in ticks ≡ transmission_by modem frames opening closing ++ replicate zeros (pos 0)
   pub named : named_in ticks ≡ frames
 
 -- What some calls send is one transmission, of the first frames of the queue, those that join it meanwhile among them,
--- with the flags that the parameters ask for at the first of the calls.
+-- with the flags that the parameters ask for at the first of the calls, by the modem of the channel.
 pub record SendOneTransmission (calls : List Call) (channel : Channel) : Type 0 where
   pub frames : List WaitingFrame
   pub front : channel.waiting ++ joining calls ≡ frames ++ (after_calls calls channel).waiting
-  pub whole : AreOneTransmission (octets_of frames) (opening_flags channel.parameters.tx_delay)
-      (closing_flags channel.parameters.tx_tail) (ticks_of calls channel)
+  pub whole : AreOneTransmission channel.modem (octets_of frames)
+      (opening_flags channel.modem channel.parameters.tx_delay)
+      (closing_flags channel.modem channel.parameters.tx_tail) (ticks_of calls channel)

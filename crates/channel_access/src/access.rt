@@ -4,6 +4,7 @@ ghost use Rattle.channel_access.specs.Waiting.{IsWaiting};
 ghost use Rattle.hdlc_framer.specs.FrameLength.{HasFrameLength};
 
 use crate::air_tick::AirTick;
+use crate::modem::Modem;
 use crate::parameters::{Param, Parameters};
 use crate::transmitter::Transmitter;
 use std::alloc::Global;
@@ -29,17 +30,18 @@ impl Model for Access {
 }
 
 impl Access {
-    ghost use Rattle.channel_access.specs.Channel.{Channel, new_channel, with_frame, with_setting, with_heard};
+    ghost use Rattle.channel_access.specs.Channel.{Channel, new_channel_by, with_frame, with_setting, with_heard};
     ghost use Rattle.channel_access.specs.Channel.{takes_frame, takes_last, air_tick, after_tick, Takes};
     ghost use Rattle.channel_access.specs.StandsFor.{StandsFor, StandsForSome};
 
     /// No frame waits, and the parameters are the defaults: TXDELAY 30, P 63, slot time 10, TXtail 2, half duplex. The
-    /// draws are those of the seed. The 256 places are taken here; fails only for want of memory.
-    pub fn new(alloc: Global, seed: u64) -> Result<Access, OutOfMemory>
-        ensures { IfOk result (λ access. StandsFor access (new_channel seed)) }
+    /// draws are those of the seed. All is sent by the modem. The 256 places are taken here; fails only for want of
+    /// memory.
+    pub fn new(alloc: Global, modem: Modem, seed: u64) -> Result<Access, OutOfMemory>
+        ensures { IfOk result (λ access. StandsFor access (new_channel_by modem seed)) }
     {
         Ok(Access {
-            transmitter: Transmitter::new(alloc, seed)?,
+            transmitter: Transmitter::new(alloc, modem, seed)?,
         })
     }
 

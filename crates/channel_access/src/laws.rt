@@ -1,6 +1,6 @@
 //! Laws of the definitions, which hold of all values and need no work.
 ghost use Rattle.std.specs.Prelude.{◌≡◌, ℕ, ◌*◌, ◌≤◌, true, false, List, Bool, ◌∷◌, ◌++◌, length, take, drop, None};
-ghost use Rattle.afsk_modulator.specs.Transmission.{transmission};
+ghost use Rattle.channel_access.specs.Modem.{transmission_by};
 ghost use Rattle.channel_access.specs.Waiting.{WaitingFrame};
 ghost use Rattle.channel_access.specs.Channel.{Channel, air_tick, after_tick};
 ghost use Rattle.channel_access.specs.WholeTransmission.{Call, joining, AreFrames, GoesToItsEnd, SendOneTransmission};
@@ -16,13 +16,15 @@ pub fn decisions_add_bits()
 
 /// If no further frame follows, its samples are those of one transmission of all its frames.
 pub fn the_end_is_a_transmission()
-    ensures { (t : OnAir) → t.ends ≡ true → samples_on_air t ≡ transmission t.frames t.opening t.closing }
+    ensures { (t : OnAir) → t.ends ≡ true → samples_on_air t
+        ≡ transmission_by t.modem t.frames t.opening t.closing }
 {}
 
 /// A tick whose bits are decided has the samples that stand at its place in the whole transmission, whatever bits are
 /// added later.
 pub fn a_tick_is_a_part_of_the_whole()
-    ensures { (t whole : OnAir) (rest : List Bool) → bits_of whole ≡ bits_of t ++ rest
+    ensures { (t whole : OnAir) (rest : List Bool) → whole.modem ≡ t.modem
+        → bits_of whole ≡ bits_of t ++ rest
         → bits_then t ≤ length (bits_of t)
         → tick_samples t ≡ take 96 (drop (96 * t.ticks) (samples_on_air whole)) }
 {}

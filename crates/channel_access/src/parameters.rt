@@ -1,6 +1,9 @@
 //! What a host sets (the KISS TNC protocol, Chepponis and Karn, commands 1 to 5).
 ghost use Rattle.std.specs.Prelude.{◌≡◌, ◌≤◌};
+ghost use Rattle.channel_access.specs.Parameters.{flags_in};
 ghost use Rattle.channel_access.specs.Parameters.{default_parameters, with_param, opening_flags, closing_flags};
+
+use crate::modem::Modem;
 
 /// A parameter, and what it is set to. Times are in units of 10 ms.
 #[derive(Clone, Copy, Debug, PartialEq, Eq)]
@@ -60,20 +63,33 @@ impl Parameters {
     }
 }
 
-/// The flags that open a transmission, at three in two ticks.
-pub(crate) fn opening_flags(tx_delay: u8) -> u16
-    ensures count { result ≡ opening_flags tx_delay }
+/// The flags that open a transmission.
+pub(crate) fn opening_flags(modem: Modem, tx_delay: u8) -> u16
+    ensures count { result ≡ opening_flags modem tx_delay }
     ensures least { 2 ≤ result }
     ensures most { result ≤ 382 }
 {
-    (3 * u16::from(tx_delay) / 2).max(2)
+    flags_in(modem, tx_delay).max(2)
 }
 
 /// The flags that close one.
-pub(crate) fn closing_flags(tx_tail: u8) -> u16
-    ensures count { result ≡ closing_flags tx_tail }
+pub(crate) fn closing_flags(modem: Modem, tx_tail: u8) -> u16
+    ensures count { result ≡ closing_flags modem tx_tail }
     ensures least { 1 ≤ result }
     ensures most { result ≤ 382 }
 {
-    (3 * u16::from(tx_tail) / 2).max(1)
+    flags_in(modem, tx_tail).max(1)
+}
+
+/// The flags of so many ticks: at 1200 bits a second three in two ticks, as many as fit, and at 300 bits a second one in
+/// eight thirds of a tick, as many as fill the time.
+fn flags_in(modem: Modem, ticks: u8) -> u16
+    ensures count { result ≡ flags_in modem ticks }
+    ensures most { result ≤ 382 }
+{
+    let thrice = 3 * u16::from(ticks);
+    match modem {
+        Modem::Bell202 => thrice / 2,
+        Modem::ShortWave => (thrice + 7) / 8,
+    }
 }

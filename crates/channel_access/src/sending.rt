@@ -1,21 +1,22 @@
 //! A transmission under way, bit by bit.
-ghost use Rattle.std.specs.Prelude.{◌≡◌, ◌+◌, ◌*◌, ◌<◌, ◌≤◌, ◌++◌, ◌==◌, Some, None, take};
+ghost use Rattle.std.specs.Prelude.{◌≡◌, ◌+◌, ◌<◌, ◌≤◌, ◌++◌, ◌==◌, Some, None, pos, replicate, take};
+ghost use Rattle.channel_access.specs.Modem.{tick_bits, samples_of_bits};
+ghost use Rattle.channel_access.specs.HeldWave.{modem_of};
 ghost use Rattle.channel_access.specs.Held.{step_of, with_step, behind_bit, opening_step, behind_closing};
 ghost use Rattle.channel_access.specs.Held.{front_begins, opened, front_step, flag_step, followed, other_closing, flag_bit};
 ghost use Rattle.channel_access.specs.HeldTaking.{ends_in_tick, on_air_in, sender_takes};
-ghost use Rattle.channel_access.specs.Held.{stage_over, window_of, sent_with, with_bits, tick_start, new_sending};
+ghost use Rattle.channel_access.specs.Held.{stage_over, window_of, sent_with, new_sending};
+ghost use Rattle.channel_access.specs.HeldTick.{run_of};
 
 use crate::air_tick::{SAMPLES, Sent};
 use crate::frame_bits::FrameBits;
+use crate::modem::Modem;
 use crate::parameters::{Parameters, closing_flags, opening_flags};
 use crate::queue::Queue;
 use crate::stage::Stage;
-use afsk_modulator::Modulator;
+use crate::wave::Wave;
 use nrzi_bits::NrziOut;
 use tnc_base::Octets;
-
-/// The bits of a tick.
-const TICK_BITS: u8 = 12;
 
 /// How many frames one transmission has at most.
 const MOST_FRAMES: u8 = 8;
@@ -30,7 +31,7 @@ pub(crate) struct Sending {
     /// TXtail, as it was when the transmission began.
     tail: u8,
     line: NrziOut,
-    modulator: Modulator,
+    wave: Wave,
 }
 
 /// What one bit of a transmission is.
@@ -64,17 +65,17 @@ impl Bit {
 
 impl Sending {
     /// Before the first flag of a transmission.
-    pub(crate) fn new(parameters: &Parameters) -> Sending
-        ensures { result ≡ new_sending parameters.now }
+    pub(crate) fn new(modem: Modem, parameters: &Parameters) -> Sending
+        ensures { result ≡ new_sending modem parameters.now }
     {
         Sending {
             stage: Stage::Opening {
-                left: 8 * opening_flags(parameters.tx_delay),
+                left: 8 * opening_flags(modem, parameters.tx_delay),
             },
             frames: 0,
             tail: parameters.tx_tail,
             line: NrziOut::new(),
-            modulator: Modulator::new(),
+            wave: Wave::new(modem),
         }
     }
 
@@ -104,12 +105,13 @@ impl Sending {
 
     /// Whether the opening flags or the front frame end with the bits of a tick.
     fn ends_in_tick(&self, queue: &Queue) -> bool
-        ensures { result ≡ ends_in_tick self.now.stage queue.now }
+        ensures { result ≡ ends_in_tick (modem_of self.now.wave) self.now.stage queue.now }
     {
+        let tick_bits = self.wave.modem().tick_bits();
         match self.stage {
-            Stage::Opening { left } => left <= u16::from(TICK_BITS),
+            Stage::Opening { left } => left <= u16::from(tick_bits),
             Stage::Frame { bits } => match queue.front() {
-                Some(octets) => bits.end_within(TICK_BITS, octets),
+                Some(octets) => bits.end_within(tick_bits, octets),
                 None => false,
             },
             Stage::Following { .. } | Stage::Closing { .. } | Stage::Over => false,
@@ -128,18 +130,18 @@ impl Sending {
 
     /// The samples of a tick, and the frame that is sent with it.
     pub(crate) fn tick(&mut self, queue: &mut Queue) -> ([i16; SAMPLES], Option<Sent>)
-        ensures samples { result.0 ≡ (with_bits 12 (tick_start self.old queue.old)).samples }
-        ensures sent { result.1 ≡ (with_bits 12 (tick_start self.old queue.old)).sent }
-        ensures sending { self.new ≡ (with_bits 12 (tick_start self.old queue.old)).sending }
-        ensures waiting { queue.new ≡ (with_bits 12 (tick_start self.old queue.old)).waiting }
+        ensures samples { result.0 ≡ (run_of self.old queue.old).samples }
+        ensures sent { result.1 ≡ (run_of self.old queue.old).sent }
+        ensures sending { self.new ≡ (run_of self.old queue.old).sending }
+        ensures waiting { queue.new ≡ (run_of self.old queue.old).waiting }
     {
+        let modem = self.wave.modem();
         let mut samples = [0; SAMPLES];
         let mut sent = None;
-        for count in 0..TICK_BITS {
+        for count in 0..modem.tick_bits() {
             let bit = self.step(queue);
-            let window = self.window(bit.value);
-            put_window(&mut samples, count, &window);
-            sent = sent_with(bit.named, count + 1, sent);
+            self.put(bit.value, &mut samples, count);
+            sent = sent_with(modem, bit.named, count + 1, sent);
         }
         (samples, sent)
     }
@@ -170,7 +172,7 @@ impl Sending {
         ensures bit { result.value ≡ Some (flag_bit left) }
         ensures named { result.named ≡ None }
         ensures sending { self.new
-            ≡ with_step self.old (opening_step left self.old.tail self.old.frames queue.now) }
+            ≡ with_step self.old (opening_step left (modem_of self.old.wave) self.old.tail self.old.frames queue.now) }
     {
         if left > 1 {
             self.stage = Stage::Opening { left: left - 1 };
@@ -221,7 +223,7 @@ impl Sending {
             }
             None => {
                 self.stage = Stage::Closing {
-                    left: 8 * closing_flags(self.tail),
+                    left: 8 * closing_flags(self.wave.modem(), self.tail),
                 };
             }
         }
@@ -242,10 +244,12 @@ impl Sending {
     /// A bit of the flag after the front frame. With its last one that frame is sent.
     fn step_in_flag(&mut self, left: u8, another: bool, queue: &mut Queue) -> Bit
         ensures bit { result.value ≡ Some (flag_bit left) }
-        ensures named { result.named ≡ (flag_step left another self.old.tail self.old.frames queue.old).named }
+        ensures named { result.named
+            ≡ (flag_step left another (modem_of self.old.wave) self.old.tail self.old.frames queue.old).named }
         ensures sending { self.new
-            ≡ with_step self.old (flag_step left another self.old.tail self.old.frames queue.old) }
-        ensures waiting { queue.new ≡ (flag_step left another self.old.tail self.old.frames queue.old).waiting }
+            ≡ with_step self.old (flag_step left another (modem_of self.old.wave) self.old.tail self.old.frames queue.old) }
+        ensures waiting { queue.new
+            ≡ (flag_step left another (modem_of self.old.wave) self.old.tail self.old.frames queue.old).waiting }
     {
         let value = Some(flag_bit(u16::from(left)));
         if left > 1 {
@@ -259,19 +263,23 @@ impl Sending {
         self.stage = if another {
             front_begins(queue)
         } else {
-            other_closing(self.tail)
+            other_closing(self.wave.modem(), self.tail)
         };
         Bit { value, named }
     }
 
-    /// Eight samples of a bit, or silence.
-    fn window(&mut self, bit: Option<bool>) -> [i16; 8]
-        ensures samples { result ≡ window_of self.old bit }
+    /// Puts the samples of a bit, or as much silence, after those of so many bits of a tick.
+    fn put(&mut self, bit: Option<bool>, samples: &mut [i16; SAMPLES], count: u8)
+        requires { count < tick_bits (modem_of self.old.wave) }
+        ensures samples { take (samples_of_bits (modem_of self.old.wave) (count + 1)) samples.new
+            ≡ take (samples_of_bits (modem_of self.old.wave) count) samples.old ++ window_of self.old bit }
         ensures sending { self.new ≡ behind_bit self.old bit }
     {
+        let modem = self.wave.modem();
+        let start = usize::from(modem.samples(count));
         match bit {
-            Some(bit) => self.modulator.next(self.line.step(bit)),
-            None => [0; 8],
+            Some(bit) => self.wave.put(self.line.step(bit), samples, start),
+            None => put_silence(samples, start, usize::from(modem.samples(1))),
         }
     }
 }
@@ -306,10 +314,10 @@ fn front_begins(queue: &Queue) -> Stage
 }
 
 /// The closing flags after the first of them.
-fn other_closing(tail: u8) -> Stage
-    ensures { result ≡ other_closing tail }
+fn other_closing(modem: Modem, tail: u8) -> Stage
+    ensures { result ≡ other_closing modem tail }
 {
-    let flags = closing_flags(tail);
+    let flags = closing_flags(modem, tail);
     if flags > 1 {
         Stage::Closing {
             left: 8 * (flags - 1),
@@ -319,24 +327,23 @@ fn other_closing(tail: u8) -> Stage
     }
 }
 
-/// The window of a bit before which so many were put.
-fn put_window(samples: &mut [i16; SAMPLES], count: u8, window: &[i16; 8])
-    requires { count < 12 }
-    ensures { take (8 * (count + 1)) samples.new ≡ take (8 * count) samples.old ++ window.now }
+/// Puts silence after so many samples of a tick.
+fn put_silence(samples: &mut [i16; SAMPLES], start: usize, count: usize)
+    requires { start + count ≤ 96 }
+    ensures { take (start + count) samples.new ≡ take start samples.old ++ replicate count (pos 0) }
 {
-    let start = 8 * usize::from(count);
-    samples[start..start + 8].copy_from_slice(window.as_slice());
+    samples[start..start + count].fill(0);
 }
 
 /// The frame that was sent so far, if so many bits of the tick are sent and the last of them names a frame or none.
-fn sent_with(named: Option<Octets>, bits: u8, sent: Option<Sent>) -> Option<Sent>
-    requires { bits ≤ 12 }
-    ensures { result ≡ sent_with named bits sent }
+fn sent_with(modem: Modem, named: Option<Octets>, bits: u8, sent: Option<Sent>) -> Option<Sent>
+    requires { bits ≤ tick_bits modem }
+    ensures { result ≡ sent_with modem named bits sent }
 {
     match named {
         Some(octets) => Some(Sent {
             octets,
-            after: 8 * bits,
+            after: modem.samples(bits),
         }),
         None => sent,
     }

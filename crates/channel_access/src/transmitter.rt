@@ -9,6 +9,7 @@ ghost use Rattle.hdlc_framer.specs.FrameLength.{HasFrameLength};
 
 use crate::air_tick::{AirTick, SAMPLES, Sent};
 use crate::listening::Listening;
+use crate::modem::Modem;
 use crate::parameters::{Param, Parameters};
 use crate::queue::Queue;
 use crate::sending::Sending;
@@ -23,6 +24,7 @@ const STREAM: u64 = 1;
 
 #[derive(Drop)]
 pub(crate) struct Transmitter {
+    modem: Modem,
     queue: Queue,
     parameters: Parameters,
     generator: Lcg64Xsh32,
@@ -38,6 +40,7 @@ impl Model for Transmitter {
     ghost Value = { Held };
 
     ghost view = { λ a. record {
+      modem = a.modem;
       waiting = a.queue;
       parameters = a.parameters;
       generator = a.generator;
@@ -55,10 +58,11 @@ impl Transmitter {
     ghost use Rattle.channel_access.specs.HeldTaking.{held_takes, held_takes_last};
 
     /// No frame waits, the parameters are the defaults, and the draws are those of the seed.
-    pub(crate) fn new(alloc: Global, seed: u64) -> Result<Transmitter, OutOfMemory>
-        ensures { IfOk result (λ transmitter. transmitter ≡ new_held seed) }
+    pub(crate) fn new(alloc: Global, modem: Modem, seed: u64) -> Result<Transmitter, OutOfMemory>
+        ensures { IfOk result (λ transmitter. transmitter ≡ new_held modem seed) }
     {
         Ok(Transmitter {
+            modem,
             queue: Queue::new(alloc)?,
             parameters: Parameters::new(),
             generator: Lcg64Xsh32::new(seed, STREAM),
@@ -141,7 +145,7 @@ impl Transmitter {
     {
         let began = self.sending.is_none() && self.begins(busy, wants);
         if began {
-            self.sending = Some(Sending::new(&self.parameters));
+            self.sending = Some(Sending::new(self.modem, &self.parameters));
         }
         let own = self.sending.is_some();
         let (samples, sent) = self.send();

@@ -7,9 +7,9 @@ use Rattle.hf_modem.proofs.LastWindow.{tones_at-last}
 use Rattle.hf_modem.proofs.LaneLemmas.{lanes_none, lanes_more}
 use Rattle.hf_modem.proofs.HeardLemmas.{lane_hears, nothing_heard}
 
-module _ (lanes : List HeldToneLane) (recent now : List ℤ) (position : ℕ) (x : List ℤ) (sample : ℤ)
+module _ (lanes : List HeldToneLane) (recent now : List ℤ) (position flags : ℕ) (x : List ℤ) (sample : ℤ)
     (push : (y : List ℤ) → recent ≡ last_window y → now ≡ last_window (y ++ sample ∷ []))
-    (h : BankStandsFor (record { lanes = lanes; recent = recent; position = position }) x) where
+    (h : BankStandsFor (record { lanes = lanes; recent = recent; position = position; flags = flags }) x) where
   abbrev all : List ℤ
   all = x ++ sample ∷ []
 
@@ -17,7 +17,7 @@ module _ (lanes : List HeldToneLane) (recent now : List ℤ) (position : ℕ) (x
   further = let count = h.count in let more = length_push x sample in omega arith
 
   -- before the 32nd sample
-  pub bank_early : position + 1 < 32 → BankStandsFor (record { lanes = lanes; recent = now; position = position + 1 })
+  pub bank_early : position + 1 < 32 → BankStandsFor (record { lanes = lanes; recent = now; position = position + 1; flags = flags })
       all × AreCandidatesAfter (length x) all []
   bank_early few =
       let count = h.count in (
@@ -33,7 +33,7 @@ module _ (lanes : List HeldToneLane) (recent now : List ℤ) (position : ℕ) (x
       → ToneLaneStandsFor lane (tones ++ tone ∷ []))
       → ((tones : List Tone) → ToneLaneStandsFor (get_or lanes offset was) tones
       → IsHeard offset (position + 1) (bits_of (tones ++ tone ∷ [])) heard)
-      → BankStandsFor (record { lanes = set lanes offset lane; recent = now; position = position + 1 }) all
+      → BankStandsFor (record { lanes = set lanes offset lane; recent = now; position = position + 1; flags = flags }) all
       × AreCandidatesAfter (length x) all (option_to_list heard)
   unfolding bits
   bank_more offset was lane tone heard whole enough is decided step hears =

@@ -14,10 +14,10 @@ pub use Rattle.hf_modem.specs.HeldDecoder.{HeldDecoder, StandsFor}
 pub use Rattle.hf_modem.specs.MergedItems.{AreMergedBetween}
 unfoldable pub use Rattle.hf_modem.specs.Signal.{hf_signal}
 pub use Rattle.hf_modem.specs.Signal.{hf_samples_of}
-pub use Rattle.hf_modem.specs.Tones.{next_phase, phase_step}
-unfoldable pub use Rattle.hf_modem.specs.Transmission.{hf_transmission}
-unfoldable pub use Rattle.hf_modem.specs.Wave.{pure_window}
-pub use Rattle.hf_modem.specs.Wave.{phase_from, wave, wave_from}
+pub use Rattle.hf_sender.specs.Tones.{next_phase, phase_step}
+unfoldable pub use Rattle.hf_sender.specs.Transmission.{hf_transmission}
+unfoldable pub use Rattle.hf_sender.specs.Wave.{pure_window}
+pub use Rattle.hf_sender.specs.Wave.{phase_from, wave, wave_from}
 unfoldable pub use Rattle.hf_modem.specs.Windows.{bits, tones_at, window_at}
 pub use Rattle.hf_modem.specs.Windows.{EndsWindow, windows_in}
 pub use Rattle.nrzi_bits.specs.Line.{bits_of, last_tone, line}

@@ -1,7 +1,6 @@
 pub mod Common
 pub mod WindowLemmas
 pub mod LastWindow
-pub mod WaveLemmas
 pub mod SlicerLemmas
 pub mod CandidateLemmas
 pub mod HeardLemmas
@@ -10,6 +9,7 @@ pub mod SomeList
 pub mod MergedLemmas
 pub mod LaneLemmas
 pub mod BankLemmas
+pub mod BusyLemmas
 pub mod HearingLemmas
 pub mod SignalLemmas
 pub mod LoudnessLemmas

@@ -4,7 +4,7 @@ use Rattle.tone_table.specs.declared.tone.Tone.{Tone}
 use Rattle.tone_table.specs.declared.tone.Tone.TheVariants.{Mark, Space}
 use Rattle.tone_table.specs.Sine.{wave_sample}
 use Rattle.offset_slicers.specs.Decision.{sum_below, square}
-use Rattle.hf_modem.specs.Tones.{phase_step}
+use Rattle.hf_sender.specs.Tones.{phase_step}
 
 -- a sample of a window times a tone's wave there, the wave being some steps on
 abbrev pub product_at : Tone → ℕ → List ℤ → ℕ → ℤ

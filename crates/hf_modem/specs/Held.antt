@@ -2,6 +2,7 @@
 use Rattle.std.specs.Prelude.{◌≡◌, ℕ, ◌<◌, ℤ, pos, List, ◌++◌, length, drop, replicate, slice_index_or}
 use Rattle.tone_table.specs.declared.tone.Tone.{Tone}
 use Rattle.nrzi_bits.specs.Line.{last_tone}
+use Rattle.hdlc_framer.specs.Held.{flags_asked}
 use Rattle.slicer_bank.specs.ToneLanes.{HeldToneLane, ToneLaneStandsFor}
 use Rattle.hf_modem.specs.Windows.{tones_at}
 
@@ -32,10 +33,15 @@ LanesStandFor lanes x =
     (offset : ℕ) (d : HeldToneLane) → offset < 32
     → ToneLaneStandsFor (slice_index_or lanes offset d) (tones_at offset x)
 
+-- a lane listens for so many flags in a row
+abbrev pub AsksFor : ℕ → HeldToneLane → Type 0
+AsksFor flags lane = flags_asked lane.deframer ≡ flags
+
 pub record HeldBank : Type 0 where
   pub lanes : List HeldToneLane
   pub recent : List ℤ
   pub position : ℕ
+  pub flags : ℕ
 
 -- the bank has taken these samples
 pub record BankStandsFor (held : HeldBank) (x : List ℤ) : Type 0 where

@@ -1,9 +1,7 @@
-pub mod Tones
-pub mod Wave
-pub mod Transmission
 pub mod Signal
 pub mod Decision
 pub mod Windows
+pub mod Busy
 pub mod Candidates
 pub mod MergedItems
 pub mod Held

@@ -2,7 +2,7 @@
 use Rattle.std.specs.Prelude.{ℕ, ℤ, pos, List, ◌++◌, replicate}
 use Rattle.std.specs.List.{flat_map}
 use Rattle.afsk_modulator.specs.Signal.{Transmission}
-use Rattle.hf_modem.specs.Transmission.{hf_transmission}
+use Rattle.hf_sender.specs.Transmission.{hf_transmission}
 
 -- the samples of one transmission at a level: the silent ones, which are 0, and then those of its flags and frames
 abbrev pub hf_samples_of : ℕ → Transmission → List ℤ

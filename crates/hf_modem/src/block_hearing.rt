@@ -10,16 +10,16 @@ ghost use Rattle.hf_modem.specs.Heard.{HasHeard};
 ghost use Rattle.hf_modem.specs.HeldDecoder.{CanBePut, HaveTaken};
 ghost use Rattle.hf_modem.specs.MergedItems.{AreMergedBetween};
 
-use crate::bank::{Bank, SAMPLES_AN_END};
+use crate::bank::{HfBank, SAMPLES_AN_END};
 use frame_merge::{Candidate, Merger};
 use tnc_base::OutOfMemory;
 
 /// The offsets of a bit, each with a lane of its own.
-pub(crate) const OFFSETS: u8 = 32;
+pub const OFFSETS: u8 = 32;
 
 /// Gives the bank a block, and what it hears in it to the merger. Tells the items that are settled by the block.
 pub(crate) fn hear_block(
-    bank: &mut Bank,
+    bank: &mut HfBank,
     merger: &mut Merger,
     block: &[i16],
 ) -> Result<Vec<Candidate>, OutOfMemory>
@@ -38,7 +38,7 @@ pub(crate) fn hear_block(
 }
 
 /// Gives the bank the samples of a block one by one, and the merger each candidate that one of them ends.
-fn hear_all(bank: &mut Bank, merger: &mut Merger, block: &[i16]) -> Result<(), OutOfMemory>
+fn hear_all(bank: &mut HfBank, merger: &mut Merger, block: &[i16]) -> Result<(), OutOfMemory>
     requires room { bank.old.position + length block.now < 2 ^ 48 }
     requires marks { merger.old.marks ≡ replicate 32 (bank.old.position / 4) }
     ensures heard { OnOk result ((x : List ℤ) (puts given : List Candidate) → BankStandsFor bank.old x

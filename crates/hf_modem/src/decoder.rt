@@ -5,7 +5,7 @@ ghost use Rattle.slicer_bank.specs.Progress.{Finishes, TakesBlock};
 ghost use Rattle.hf_modem.specs.HeldDecoder.{StandsFor, progress};
 ghost use Rattle.hf_modem.specs.MergedItems.{AreMergedBetween};
 
-use crate::bank::Bank;
+use crate::bank::HfBank;
 use crate::block_hearing::{OFFSETS, hear_block};
 use frame_merge::{Candidate, Merger};
 use slicer_bank::Progress;
@@ -19,7 +19,7 @@ use tnc_base::OutOfMemory;
 #[derive(Drop)]
 pub struct HfDecoder {
     alloc: Global,
-    bank: Bank,
+    bank: HfBank,
     merger: Merger,
     progress: Progress,
 }
@@ -51,7 +51,7 @@ impl HfDecoder {
     {
         Ok(HfDecoder {
             alloc,
-            bank: Bank::new(alloc)?,
+            bank: HfBank::new(alloc, 1)?,
             merger: Merger::new(alloc, OFFSETS)?,
             progress: Progress::new(),
         })

@@ -1,10 +1,9 @@
-//! A modem for packet radio on short wave: 300 bits a second, mark at 1600 Hz and space at 1800 Hz, 9600 samples a
-//! second and so 32 samples a bit.
+//! The receiving half of a modem for packet radio on short wave: 300 bits a second, mark at 1600 Hz and space at 1800
+//! Hz, 9600 samples a second and so 32 samples a bit.
 //!
-//! `hf_transmission` makes the samples of frames between flags (AX.25 2.2 section 3). A receiver does not know where a
-//! bit begins, so an [`HfDecoder`] hears the bits at each of the 32 offsets of a bit, and gives each frame once. What
-//! is promised: each sample sent, each tone decided and each frame given is exactly the one of the definitions over all
-//! samples, in whatever blocks they came.
+//! A receiver does not know where a bit begins, so an [`HfDecoder`] hears the bits at each of the 32 offsets of a bit,
+//! and gives each frame once. An [`HfBank`] is its lanes alone, without the merging. What is promised: each tone decided
+//! and each frame given is exactly the one of the definitions over all samples, in whatever blocks they came.
 #![tactic(auto)]
 
 mod bank;
@@ -14,14 +13,14 @@ mod decision;
 mod decoder;
 mod laws;
 mod recent;
-mod sending;
 mod slicer;
 mod window;
 
+pub use bank::{HfBank, SAMPLES_AN_END};
+pub use block_hearing::OFFSETS;
 pub use decision::hf_decide;
 pub use decoder::HfDecoder;
 pub use laws::{
     hf_items_are_all, hf_items_join, one_list_of_hf_candidates, some_list_of_hf_candidates,
 };
-pub use sending::hf_transmission;
 pub use slicer::HfSlicer;

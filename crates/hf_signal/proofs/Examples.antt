@@ -7,8 +7,8 @@ use Rattle.hdlc_framer.specs.CheckSequence.{fcs_of}
 use Rattle.hdlc_framer.specs.Frames.{with_fcs, frame_bits}
 use Rattle.frame_merge.specs.declared.candidate.Candidate.{Candidate}
 use Rattle.afsk_modulator.specs.Level.{sample_at, at_level}
-use Rattle.hf_modem.specs.Wave.{pure_window}
-use Rattle.hf_modem.specs.Transmission.{hf_transmission}
+use Rattle.hf_sender.specs.Wave.{pure_window}
+use Rattle.hf_sender.specs.Transmission.{hf_transmission}
 use Rattle.hf_signal.specs.TrueEnds.{true_ends}
 use Rattle.hf_signal.specs.Stray.{is_sent}
 

@@ -13,9 +13,9 @@ use Rattle.afsk_modulator.specs.Signal.{Transmission}
 use Rattle.clean_signal.specs.GoodTransmission.{IsTransmission, body_of}
 use Rattle.clean_signal.specs.NearSignal.{Received, transmissions_of, sent_at}
 use Rattle.clean_signal.proofs.NearLemmas.{at_level-near}
-use Rattle.hf_modem.specs.Tones.{next_phase}
-use Rattle.hf_modem.specs.Wave.{pure_window, wave_from, wave, IsBitPhase}
-use Rattle.hf_modem.specs.Transmission.{hf_transmission}
+use Rattle.hf_sender.specs.Tones.{next_phase}
+use Rattle.hf_sender.specs.Wave.{pure_window, wave_from, wave, IsBitPhase}
+use Rattle.hf_sender.specs.Transmission.{hf_transmission}
 use Rattle.hf_signal.specs.Carried.{Carries, CarriesAll}
 use Rattle.hf_modem.specs.Signal.{hf_samples_of, hf_signal}
 use Rattle.hf_signal.specs.NearSignal.{IsReceived, IsNearAll}

@@ -5,8 +5,8 @@ use Rattle.std.specs.List.{range_with_len}
 use Rattle.std.proofs.lemmas.List.{take_all, take-append-drop}
 use Rattle.tone_table.specs.declared.tone.Tone.{Tone}
 use Rattle.tone_table.specs.declared.tone.Tone.TheVariants.{Mark, Space}
-use Rattle.hf_modem.specs.Tones.{next_phase}
-use Rattle.hf_modem.specs.Wave.{pure_window, wave_from}
+use Rattle.hf_sender.specs.Tones.{next_phase}
+use Rattle.hf_sender.specs.Wave.{pure_window, wave_from}
 use Rattle.hf_modem.specs.Decision.{tone_of}
 use Rattle.hf_modem.specs.Windows.{window_at, tones_at}
 use Rattle.offset_slicers.specs.Near.{IsNear}

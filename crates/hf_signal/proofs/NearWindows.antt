@@ -2,8 +2,8 @@
 use Rattle.std.proofs.Common.{◌≡◌, ℕ, ◌*◌, ◌<◌, ◌≤◌, ℤ, List, length, true, refl}
 use Rattle.tone_table.specs.declared.tone.Tone.{Tone}
 use Rattle.tone_table.specs.Sine.{quarter, half_wave, cycle_sample, wave_sample}
-use Rattle.hf_modem.specs.Tones.{phase_step}
-use Rattle.hf_modem.specs.Wave.{pure_window}
+use Rattle.hf_sender.specs.Tones.{phase_step}
+use Rattle.hf_sender.specs.Wave.{pure_window}
 use Rattle.offset_slicers.specs.Decision.{sum_below}
 use Rattle.hf_modem.specs.Decision.{sine_sum, cosine_sum, energy, tone_of}
 use Rattle.offset_slicers.specs.Near.{IsNear}

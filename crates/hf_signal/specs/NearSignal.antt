@@ -5,7 +5,7 @@ use Rattle.nrzi_bits.specs.Line.{line}
 use Rattle.offset_slicers.specs.Near.{IsNear}
 use Rattle.clean_signal.specs.GoodTransmission.{IsTransmission, body_of}
 use Rattle.clean_signal.specs.NearSignal.{Received}
-use Rattle.hf_modem.specs.Wave.{wave_from, IsBitPhase}
+use Rattle.hf_sender.specs.Wave.{wave_from, IsBitPhase}
 
 -- A good transmission, from any phase at which a bit can begin, at any level that sixteen bits can hold.
 pub record IsReceived (r : Received) : Type 0 where

@@ -6,7 +6,7 @@ use Rattle.afsk_modulator.specs.Transmission.{transmission_at}
 use Rattle.fx25_sender.specs.Signal.{fx25_samples_of, fx25_signal}
 use Rattle.fx25_sender.specs.Transmission.{fx25_transmission}
 use Rattle.hf_modem.specs.Signal.{hf_samples_of, hf_signal}
-use Rattle.hf_modem.specs.Transmission.{hf_transmission}
+use Rattle.hf_sender.specs.Transmission.{hf_transmission}
 use Rattle.tnc_words.specs.Sending.{count_of}
 use Rattle.tnc_words.specs.declared.command.Modem.{Modem}
 use Rattle.tnc_words.specs.declared.command.Modem.TheVariants.{Bell202, ShortWave, Fx25}

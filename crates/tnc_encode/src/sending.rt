@@ -9,7 +9,7 @@ ghost use Rattle.tnc_encode.specs.Writing.{CanBeSent, CanSend};
 use crate::bell202::bell202_transmission;
 use afsk_modulator::ModFault;
 use fx25_sender::fx25_transmission;
-use hf_modem::hf_transmission;
+use hf_sender::hf_transmission;
 use std::alloc::Global;
 use tnc_base::{Octets, OutOfMemory};
 use tnc_words::{EncodeWords, Modem};

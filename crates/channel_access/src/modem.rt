@@ -1,0 +1,37 @@
+//! The modem of a channel.
+ghost use Rattle.std.specs.Prelude.{◌≡◌, ◌≤◌};
+ghost use Rattle.channel_access.specs.Modem.{tick_bits, samples_of_bits};
+
+/// How the bits of a transmission are sent.
+#[derive(Clone, Copy, Debug, PartialEq, Eq)]
+pub enum Modem {
+    /// Bell 202: 1200 bits a second, on VHF and UHF.
+    Bell202,
+    /// 300 bits a second and a shift of 200 Hz, on short wave.
+    ShortWave,
+}
+
+impl Modem {
+    /// The bits of a tick.
+    pub(crate) fn tick_bits(self) -> u8
+        ensures bits { result ≡ tick_bits self }
+        ensures most { result ≤ 12 }
+    {
+        match self {
+            Modem::Bell202 => 12,
+            Modem::ShortWave => 3,
+        }
+    }
+
+    /// How many samples so many bits of a tick have.
+    pub(crate) fn samples(self, bits: u8) -> u8
+        requires { bits ≤ tick_bits self }
+        ensures samples { result ≡ samples_of_bits self bits }
+        ensures most { result ≤ 96 }
+    {
+        match self {
+            Modem::Bell202 => 8 * bits,
+            Modem::ShortWave => 32 * bits,
+        }
+    }
+}

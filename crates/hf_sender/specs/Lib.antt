@@ -1,0 +1,4 @@
+pub mod Tones
+pub mod Wave
+pub mod Modulation
+pub mod Transmission
