@@ -1,8 +1,9 @@
 -- A run of the bench, tick by tick.
-use Rattle.channel_bench.proofs.Common.{◌≡◌, ℕ, ◌+◌, ◌≤◌, Some, None, sym, subst, arith, Run, BenchWords, Trouble}
+use Rattle.channel_bench.proofs.Common.{◌≡◌, ℕ, ◌+◌, ◌<◌, ◌≤◌, Some, None, sym, subst, arith, Run, BenchWords, Trouble}
 use Rattle.channel_bench.proofs.Common.{AreTicks, IsEndedBy, BenchState, IsTick, HasMade, IsGoing, StandsForRun}
 use Rattle.std.proofs.Common.{add-one}
 use Rattle.channel_bench.specs.BenchRun.{IsUnderWay}
+use Rattle.channel_bench.specs.Words.{most_ticks}
 
 ticks_more : (w : BenchWords) (count : ℕ) (before bench : BenchState) → AreTicks w count before
     → IsUnderWay before → IsTick w before bench
@@ -28,12 +29,13 @@ made_more w count before after going next tick stands none few =
 
 -- and one that something has
 pub ended_by : (w : BenchWords) (count : ℕ) (run : Run) (going : IsGoing w count run) (next : BenchState)
-    (trouble : Trouble)
+    (trouble : Trouble) → count < most_ticks w.octets
     → IsTick w going.made.bench next → next.common.trouble ≡ Some trouble → IsEndedBy w trouble
-ended_by w count run going next trouble tick is =
+ended_by w count run going next trouble early tick is =
     let was = going.made in
     record {
       count = count + 1;
+      in_time = omega (arith, early);
       bench = next;
       ticks = ticks_more w count was.bench next was.ticks
           (record { no_trouble = was.no_trouble; not_over = going.not_over }) tick;

@@ -23,8 +23,12 @@ use Rattle.channel_access.specs.OnAir.{bits_of, flag_end, followed_by, frame_nam
 use Rattle.channel_access.specs.OnAir.{most_frames, waiting_after, waiting_with_named, with_named, with_tick}
 use Rattle.tone_table.specs.declared.tone.Tone.TheVariants.{Mark}
 use Rattle.nrzi_bits.proofs.LineLemmas.{length-line_from}
-use Rattle.channel_access.proofs.SendingLemmas.{length-wave_from}
-use Rattle.channel_access.proofs.AirLemmas.{samples_on_air-is}
+use Rattle.channel_access.specs.Modem.{bits_of_ticks, samples_of_bits, tick_bits}
+use Rattle.channel_access.proofs.ModemLemmas.{bits_of_ticks-more, bits_of_ticks-none, tick_bits-most}
+use Rattle.channel_access.proofs.ModemLemmas.{samples_of_bits-fewer, samples_of_bits-tick, samples_of_bits-ticks}
+use Rattle.channel_access.proofs.ModemLemmas.{length-modem_wave}
+use Rattle.channel_access.proofs.TickLemmas.{modem-decided}
+use Rattle.channel_access.proofs.AirLemmas.{samples_on_air-is, ticks-decided}
 use Rattle.channel_access.proofs.BodyLemmas.{body-single}
 use Rattle.channel_access.proofs.WholeLemmas.{decided_adds}
 use Rattle.channel_access.proofs.StageLemmas.{flag_end-last, frames_end-next}
@@ -62,7 +66,7 @@ frame_longer octets = omega (
 abbrev pub MayBe : OnAir → List (List ℕ) → Type 0
 MayBe t [] = (t.ends ≡ true) ⊎ (t.frames ≡ [])
 MayBe t (front ∷ []) = Unit {0}
-MayBe t (front ∷ next ∷ []) = 12 * t.ticks < flag_end (t.named + 1) t
+MayBe t (front ∷ next ∷ []) = bits_of_ticks t.modem t.ticks < flag_end (t.named + 1) t
 MayBe t (front ∷ next ∷ other ∷ more) = ⊥
 
 pub record AirParts (t : OnAir) (waiting : List WaitingFrame) : Type 0 where
@@ -77,7 +81,7 @@ pub record AirParts (t : OnAir) (waiting : List WaitingFrame) : Type 0 where
 -- and the bits of its ticks are decided
 pub record AirFits (t : OnAir) (waiting : List WaitingFrame) : Type 0 where
   pub parts : AirParts t waiting
-  pub long : 12 * t.ticks ≤ length (bits_of t)
+  pub long : bits_of_ticks t.modem t.ticks ≤ length (bits_of t)
 
 abbrev pub Fits : Option OnAir → List WaitingFrame → Type 0
 Fits None waiting = Unit {0}
@@ -150,8 +154,7 @@ named_or_not t waiting past rest front others frames named waits if_named if_not
         → Sends waiting
         (cond b (Some (let s : Sent = record {
           octets = slice_index_or t.frames t.named [];
-          after = 8 *
-              (flag_end (t.named + 1) t - 12 * t.ticks);
+          after = samples_of_bits t.modem (flag_end (t.named + 1) t - bits_of_ticks t.modem t.ticks);
         } in s)) None)
         (with_tick (cond b (record t { named = t.named + 1 }) t)) (cond b (drop 1 waiting) waiting)
     go true is =
@@ -173,8 +176,11 @@ named_or_not t waiting past rest front others frames named waits if_named if_not
             waits = behind;
             may_be = if_named ended;
           });
-          soon = λ s same. let e : 8 * (flag_end (t.named + 1) t - 12 * t.ticks) ≡ s.after = cc in omega
-              (arith, e, ended);
+          soon = λ s same.
+              let few : ℕ = flag_end (t.named + 1) t - bits_of_ticks t.modem t.ticks in
+              let e : samples_of_bits t.modem few ≡ s.after = cc in
+              let within : few ≤ tick_bits t.modem = omega (arith, ended, bits_of_ticks-more t.modem t.ticks) in
+              omega (arith, e, samples_of_bits-fewer t.modem few (tick_bits t.modem) within, samples_of_bits-tick t.modem);
         }
       where
         dropped : (ws : List WaitingFrame) → map octets_of ws ≡ front ∷ (others ++ rest)
@@ -234,8 +240,7 @@ none_sends t waiting none h =
     subst (λ b. Sends waiting
     (cond b (Some (let s : Sent = record {
       octets = slice_index_or t.frames t.named [];
-      after = 8 *
-          (flag_end (t.named + 1) t - 12 * t.ticks);
+      after = samples_of_bits t.modem (flag_end (t.named + 1) t - bits_of_ticks t.modem t.ticks);
     } in s)) None)
     (with_tick (cond b (record t { named = t.named + 1 }) t)) (cond b (drop 1 waiting) waiting)) (sym none)
     (record { order = refl; fits = ticked_fits t waiting h; soon = λ s same. absurd (cc) })
@@ -299,7 +304,7 @@ open_long t goes = ap (λ b. length (body t.frames t.opening (cond b t.closing 0
 -- no frame is decided yet, and the opening flags are sent: these wait
 opened_sends :
     (t : OnAir) (waiting others : List WaitingFrame) → waiting ≡ others → t.frames ≡ [] → t.named ≡ 0
-    → 12 * t.ticks ≤ frames_end t → AirSends waiting (followed_by others t)
+    → bits_of_ticks t.modem t.ticks ≤ frames_end t → AirSends waiting (followed_by others t)
 opened_sends t waiting others same none named long = by_others others same
   where
     ended : AirSends waiting (record t { ends = true })
@@ -329,7 +334,9 @@ opened_sends t waiting others same none named long = by_others others same
             (ap (λ fs. fs ++ v.octets ∷ []) none) named (ap (map octets_of) is)
             (λ sent. let end = first_end t v.octets none in
             let longer = frame_longer v.octets in
-            absurd (omega (arith, end, longer, long, sent)))
+            let more = bits_of_ticks-more t.modem t.ticks in
+            let most = tick_bits-most t.modem in
+            absurd (omega (arith, end, longer, long, sent, more, most)))
         go false = ended
 
 -- what is decided, and then named
@@ -408,7 +415,8 @@ decided_sends t waiting fits = by_unsent h.unsent h.frames h.waits h.may_be
         let long = frame_longer next in
         let goes : has_sent_frames (bits_then t) t ≡ false =
         and_right (not t.ends) (nat_le (frames_end t) (bits_then t))
-        (lt-leb (frames_end t) (bits_then t) (omega (arith, end, long, later))) in
+        (lt-leb (frames_end t) (bits_then t)
+        (omega (arith, end, long, later, bits_of_ticks-more t.modem t.ticks, tick_bits-most t.modem))) in
         subst (AirSends waiting) (sym (by_end false goes))
         (two_send t waiting h.past h.rest front next frames h.named waits)
     by_unsent (front ∷ next ∷ other ∷ more) frames waits never = absurd never
@@ -437,19 +445,20 @@ air_sends (Some t) waiting h =
     (decided_sends t waiting h)
 
 -- a tick has 96 samples
-length-samples_on_air : (t : OnAir) → length (samples_on_air t) ≡ 8 * length (bits_of t)
+length-samples_on_air : (t : OnAir) → length (samples_on_air t) ≡ samples_of_bits t.modem (length (bits_of t))
 length-samples_on_air t =
-    ap length (samples_on_air-is t) ∙ length-wave_from 0 (line (bits_of t))
-    ∙ ap (λ n. 8 * n) (length-line_from Mark (bits_of t))
+    ap length (samples_on_air-is t) ∙ length-modem_wave t.modem (line (bits_of t))
+    ∙ ap (samples_of_bits t.modem) (length-line_from Mark (bits_of t))
 
-length-tick : (t : OnAir) → 12 * t.ticks ≤ length (bits_of t) → length (tick_samples t) ≡ 96
+length-tick : (t : OnAir) → bits_of_ticks t.modem t.ticks ≤ length (bits_of t) → length (tick_samples t) ≡ 96
 unfolding tick_samples
 length-tick t long =
     let quiet : List ℤ = replicate 96 (pos 0) in
     let all = samples_on_air t ++ quiet in
     omega (
       arith,
-      long,
+      samples_of_bits-fewer t.modem (bits_of_ticks t.modem t.ticks) (length (bits_of t)) long,
+      samples_of_bits-ticks t.modem t.ticks,
       length-samples_on_air t,
       length-append (samples_on_air t) quiet,
       length-replicate 96 (pos 0),
@@ -462,9 +471,11 @@ air_long None waiting h = length-replicate 96 (pos 0)
 air_long (Some t) waiting h =
     let d = decided (bits_then t) waiting t in
     let adds = decided_adds (bits_then t) waiting t in
-    let same = same_bits t waiting in
+    let same : bits_of_ticks d.modem d.ticks ≡ bits_of_ticks t.modem t.ticks =
+    ap (bits_of_ticks d.modem) (ticks-decided (bits_then t) waiting t)
+    ∙ ap (λ modem. bits_of_ticks modem t.ticks) (modem-decided (bits_then t) waiting t) in
     let size = ap length adds.1 ∙ length-append (bits_of t) adds.0 in
-    let long : 12 * d.ticks ≤ length (bits_of d) = omega (arith, same, size, h.long) in
+    let long : bits_of_ticks d.modem d.ticks ≤ length (bits_of d) = omega (arith, same, size, h.long) in
     length-tick d long
 
 -- ---- a tick of the channel
@@ -485,7 +496,7 @@ begun_fits busy wants channel = go (decision busy wants channel).begins
         waits = refl;
         may_be = inr refl;
       };
-      long = omega arith;
+      long = omega (arith, bits_of_ticks-none channel.modem);
     }
     go false = tt
 

@@ -51,6 +51,9 @@ mod GivesSees
 mod BenchSees
 mod RunSees
 mod OrderLaws
+mod Alike
+mod AlikeParts
+mod OneReport
 mod AsksLittle
 mod WideCalls
 mod HearsLittle

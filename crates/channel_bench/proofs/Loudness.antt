@@ -13,7 +13,11 @@ use Rattle.tone_table.specs.Wave.{pure_window, wave_from}
 use Rattle.tone_table.proofs.SineLemmas.{unsigned_abs-wave_sample}
 use Rattle.hdlc_framer.specs.Body.{body}
 use Rattle.afsk_modulator.specs.Transmission.{transmission}
+use Rattle.hf_sender.proofs.LoudnessLemmas.{within-hf_transmission}
+use Rattle.channel_access.specs.Modem.{transmission_by}
 use Rattle.channel_access.specs.OnAir.{flags_behind}
+use Rattle.channel_access.specs.declared.modem.Modem.{Modem}
+use Rattle.channel_access.specs.declared.modem.Modem.TheVariants.{Bell202, ShortWave}
 
 abbrev pub IsLoudAtMost : ℤ → Type 0
 IsLoudAtMost sample = unsigned_abs sample ≤ 10000
@@ -35,9 +39,15 @@ within-transmission : (frames : List (List ℕ)) (opening closing : ℕ)
 unfolding transmission
 within-transmission frames opening closing = within-wave_from 0 (line (body frames opening closing))
 
+within-by : (modem : Modem) (frames : List (List ℕ)) (opening closing : ℕ)
+    → All IsLoudAtMost (transmission_by modem frames opening closing)
+unfolding transmission_by
+within-by Bell202 frames opening closing = within-transmission frames opening closing
+within-by ShortWave frames opening closing = within-hf_transmission 10000 frames opening closing
+
 within-samples : (t : OnAir) → All IsLoudAtMost (samples_on_air t)
 unfolding samples_on_air
-within-samples t = within-transmission t.frames t.opening (flags_behind t)
+within-samples t = within-by t.modem t.frames t.opening (flags_behind t)
 
 pub silence_within : (n : ℕ) → All IsLoudAtMost (replicate n (pos 0))
 silence_within n = All-replicate IsLoudAtMost n (pos 0) (omega arith)

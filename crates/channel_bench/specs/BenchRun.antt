@@ -1,5 +1,5 @@
 -- A run of the bench: tick after tick, until it is over, or something ends it, or it has taken too long.
-use Rattle.std.specs.Prelude.{◌≡◌, ℕ, zero, suc, ◌&&◌, Bool, true, false, Some, None}
+use Rattle.std.specs.Prelude.{◌≡◌, ◌≤◌, ℕ, zero, suc, ◌&&◌, Bool, true, false, Some, None}
 use Rattle.channel_bench.specs.declared.report.BenchFault.{BenchFault}
 use Rattle.channel_bench.specs.declared.report.BenchFault.TheVariants.{Stray, NotQuiet, Spent, Memory}
 use Rattle.channel_bench.specs.declared.trouble.Trouble.{Trouble}
@@ -35,18 +35,20 @@ report_of bench = record {
   b = set_ups_of bench.b.program;
 }
 
--- a run that is over, and what is told of it
+-- a run that is over in time, and what is told of it
 pub record IsOver (w : BenchWords) (report : Report) : Type 0 where
   pub count : ℕ
+  pub in_time : count ≤ most_ticks w.octets
   pub bench : BenchState
   pub ticks : AreTicks w count bench
   pub no_trouble : bench.common.trouble ≡ None
   pub over : is_over bench ≡ true
   pub told : report ≡ report_of bench
 
--- a run that something ended
+-- a run that something ended in time
 pub record IsEndedBy (w : BenchWords) (trouble : Trouble) : Type 0 where
   pub count : ℕ
+  pub in_time : count ≤ most_ticks w.octets
   pub bench : BenchState
   pub ticks : AreTicks w count bench
   pub is : bench.common.trouble ≡ Some trouble

@@ -10,3 +10,4 @@ pub mod HeldBench
 pub mod KeepsOrder
 pub mod BenchOrder
 pub mod BenchLaw
+pub mod OneReport

@@ -48,7 +48,8 @@ fn advance(run: &mut Run) -> Result<(), BenchFault>
     requires { (w : BenchWords) × (count : ℕ) × IsGoing w count run.old × AreInRange w × (count < 2 ^ 32) }
     ensures made { (w : BenchWords) (count : ℕ) → IsGoing w count run.old
         → OnOk result (HasMade w (count + 1) run.new) }
-    ensures fault { (w : BenchWords) (count : ℕ) → IsGoing w count run.old → IfErr result (IsFaultOf w) }
+    ensures fault { (w : BenchWords) (count : ℕ) → IsGoing w count run.old → count < most_ticks w.octets
+        → IfErr result (IsFaultOf w) }
 {
     run.tick()?;
     match run.shared.trouble.take() {

@@ -20,6 +20,6 @@ mod trouble;
 mod words;
 
 pub use benching::bench;
-pub use laws::{bench_law, programs_follow};
+pub use laws::{bench_law, one_report, programs_follow};
 pub use report::{BenchFault, BenchReport, SetUp};
 pub use words::BenchWords;

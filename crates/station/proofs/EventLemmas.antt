@@ -1,9 +1,11 @@
 -- A station after an event of one of its links.
-use Rattle.station.proofs.Common.{◌≡◌, ◌≢◌, ℕ, zero, suc, ◌<◌, Bool, true, false, List, [], ◌∷◌, length, cond, Option}
+use Rattle.station.proofs.Common.{◌≡◌, ◌≢◌, ℕ, zero, suc, ◌<◌, Bool, true, false, inl, inr, List, [], ◌∷◌, length, cond}
+use Rattle.station.proofs.Common.{Option, is_some}
 use Rattle.station.proofs.Common.{Some, None, IfSome, refl, AllZip, sym, ◌∙◌, ap, subst, arith, get_or, set}
 use Rattle.station.proofs.Common.{get_or-set_same, get_or-set_other, length-set, Machine, OwnedLink, Parts, HeldLinks}
 use Rattle.station.proofs.Common.{is_idle, settled_link, with_links, Link, Links, link_at, with_link, StandsForPlace}
 use Rattle.station.proofs.Common.{StandsForLinks, IsFreed, Shows, HasAt, IsSetAt, settled_at, Out, Turn, changing}
+use Rattle.std.proofs.lemmas.Bool.{cases_eq}
 use Rattle.station.specs.Links.{without_link}
 use Rattle.station.proofs.Places.{within_slots}
 use Rattle.station.proofs.Standing.{AllZip-length}
@@ -48,6 +50,15 @@ freed-kept old new links key link next (Some k) at same h = record {
       ∙ h.vacant;
 }
 
+-- a key that has a link still has one if another link is written
+pub some-kept : (places : List (Option Link)) (key lower : ℕ) (link next : Link) → get_or places key None ≡ Some link
+    → is_some (get_or places lower None) ≡ true → is_some (get_or (set places key (Some next)) lower None) ≡ true
+some-kept places key lower link next at some = elim (cases_eq lower key) [
+  | inl same ↦ ap (λ k. is_some (get_or (set places key (Some next)) k None)) same
+      ∙ ap is_some (get_or-set_same places key (Some next) None (within_slots places key link at))
+  | inr other ↦ ap is_some (get_or-set_other places key lower (Some next) None other) ∙ some
+]
+
 -- the links after an event of one of them
 settled_links : (old new : HeldLinks) (links : Links) (key : ℕ) (link : Link) (machine : Machine) (idle : Bool)
     → StandsForLinks old links → link_at key links ≡ Some link → IsSetAt key old new (record link { machine = machine })
@@ -65,6 +76,7 @@ settled_links old new links key link machine true h at is =
         within = omega (arith, within, h.size);
         vacant = get_or-set_same links.places key None None within;
       };
+      least = λ none. let clash : Some key ≡ None = none in absurd (cc);
     }
 settled_links old new links key link machine false h at is = record {
   places = subst (λ held. AllZip StandsForPlace held (set links.places key (Some (record link { machine = machine }))))
@@ -72,6 +84,8 @@ settled_links old new links key link machine false h at is = record {
       (Some (record link { machine = machine })) h.places is.stands);
   size = length-set links.places key (Some (record link { machine = machine })) ∙ h.size;
   freed = freed-kept old new links key link (record link { machine = machine }) links.freed at is.next h.freed;
+  least = λ none lower less. some-kept links.places key lower link (record link { machine = machine }) at
+      (h.least none lower (subst (λ (k : ℕ). lower < k) is.next less));
 }
 
 -- what is set is there

@@ -1,5 +1,5 @@
 -- A connection that leaves.
-use Rattle.station.proofs.Common.{◌≡◌, ℕ, ◌==◌, not, Bool, true, false, List, [], ◌∷◌, map, filter, cond, Option, Some}
+use Rattle.station.proofs.Common.{◌≡◌, ℕ, ◌<◌, ◌==◌, not, Bool, true, false, List, [], ◌∷◌, map, filter, cond, Option, Some}
 use Rattle.station.proofs.Common.{None, refl, AllZip, range_with_len, sym, ◌∙◌, ap, subst, set, cond-true, cond-false}
 use Rattle.station.proofs.Common.{false≢true, length-set, Disconnect, OwnedLink, Parts, HeldLinks, giving_up}
 use Rattle.station.proofs.Common.{without_owner, event_at, with_links, Link, link_at, most_links, with_link, is_number}
@@ -12,7 +12,7 @@ use Rattle.station.specs.Askers.{without_askers}
 use Rattle.station.specs.Connections.{without_connection}
 use Rattle.station.specs.Leaving.{without_host, giving_up_all, giving_up_link}
 use Rattle.station.specs.Registrations.{without_registrations}
-use Rattle.station.proofs.EventLemmas.{AllZip-set, freed-kept}
+use Rattle.station.proofs.EventLemmas.{AllZip-set, freed-kept, some-kept}
 
 -- the links of all keys
 pub all_given_up : (id n : ℕ) (turn : Turn) → n ≡ most_links
@@ -41,6 +41,8 @@ shows_set parts out turn links key link next shows at is =
           size = length-set turn.now.links.places key (Some next) ∙ h.links.size;
           freed = freed-kept parts.links links turn.now.links key link next turn.now.links.freed at is.next
               h.links.freed;
+          least = λ none lower less. some-kept turn.now.links.places key lower link next at
+              (h.links.least none lower (subst (λ (k : ℕ). lower < k) is.next less));
         };
         channel = h.channel;
         askers = h.askers;

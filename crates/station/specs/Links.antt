@@ -1,6 +1,6 @@
 -- The links of a station. A link stands between a call of this station and one of another; it has a key, under which
 -- its frames wait to be sent, and an owner, the connection that is told of it.
-use Rattle.std.specs.Prelude.{◌≡◌, ℕ, ◌<◌, ◌&&◌, Bool, false, List, replicate, position, slice_index_or, slice_set}
+use Rattle.std.specs.Prelude.{◌≡◌, ℕ, ◌<◌, ◌&&◌, Bool, true, false, List, replicate, position, slice_index_or, slice_set}
 use Rattle.std.specs.Prelude.{count_by, is_some, Option, Some, None, IfSome}
 use Rattle.ax25_address.specs.Callsign.{Callsign}
 use Rattle.ax25_address.specs.SameCall.{is_same_call}
@@ -49,11 +49,12 @@ key_between local remote links = position (is_between local remote) links.places
 abbrev pub count_of_links : Links → ℕ
 count_of_links links = count_by is_some links.places
 
--- A new link has the key that was freed last, if no link was made since, and else any that no link has.
+-- A new link has the key that was freed last, if no link was made since, and else the least that no link has.
 pub record IsNewKey (key : ℕ) (links : Links) : Type 0 where
   pub within : key < most_links
   pub vacant : link_at key links ≡ None
   pub freed : IfSome links.freed (λ last. key ≡ last)
+  pub least : links.freed ≡ None → (lower : ℕ) → lower < key → is_some (link_at lower links) ≡ true
 
 abbrev pub with_new_link : ℕ → Link → Links → Links
 with_new_link key link links = record { places = slice_set links.places key (Some link); freed = None }

@@ -1,6 +1,6 @@
 -- What a station stands for. Its links and its channel stand for those of the definitions, and each reader for all the
 -- octets that came. A station that met want of memory stands for none.
-use Rattle.std.specs.Prelude.{◌≡◌, ◌≢◌, ℕ, ◌<◌, false, List, length, AllPairs, Option, Some, None, IfSome}
+use Rattle.std.specs.Prelude.{◌≡◌, ◌≢◌, ℕ, ◌<◌, true, false, is_some, List, length, AllPairs, Option, Some, None, IfSome}
 use Rattle.std.specs.List.{AllZip}
 use Rattle.agwpe_port.specs.Held.{StandsFor as AgwStandsFor}
 use Rattle.channel_access.specs.StandsFor.{StandsFor as StandsForChannel}
@@ -61,6 +61,8 @@ pub record StandsForLinks (held : HeldLinks) (links : Links) : Type 0 where
   pub places : AllZip StandsForPlace held.places links.places
   pub size : length links.places ≡ most_links
   pub freed : IfSome links.freed (IsFreed held links)
+  -- if none was freed last, each key below the next one has a link
+  pub least : links.freed ≡ None → (lower : ℕ) → lower < held.next → is_some (link_at lower links) ≡ true
 
 pub record AreParts (parts : Parts) (s : StationState) : Type 0 where
   pub parameters : parts.parameters ≡ s.parameters

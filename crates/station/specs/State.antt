@@ -2,8 +2,10 @@
 use Rattle.std.specs.Prelude.{◌≡◌, ℕ, ◌+◌, ◌<◌, ◌≤◌, nat_lt, if◌then◌else◌, List, [], length, All, Option, Some, IfSome}
 use Rattle.ax25_address.specs.Callsign.{Callsign}
 use Rattle.link_machine.specs.declared.params.Params.{Params}
-use Rattle.channel_access.specs.Channel.{Channel, new_channel}
+use Rattle.channel_access.specs.Channel.{Channel, new_channel_by}
 use Rattle.channel_access.specs.Parameters.{default_parameters}
+use Rattle.channel_access.specs.declared.modem.Modem.{Modem}
+use Rattle.channel_access.specs.declared.modem.Modem.TheVariants.{Bell202}
 use Rattle.channel_access.specs.declared.parameters.Parameters.{Parameters}
 use Rattle.station.specs.declared.config.Config.{Config}
 use Rattle.station.specs.declared.asker.Asker.{Asker}
@@ -31,13 +33,14 @@ pub record StationState : Type 0 where
   -- the key of the link that was asked for a frame last
   pub asked : ℕ
 
--- what a station is made with that has the usual parameters of the channel and the longest packets
+-- what a station is made with that sends by Bell 202, and has the usual parameters of the channel and the longest packets
 abbrev pub usual_config : Params → Option Callsign → Config
-usual_config params digi = record { params = params; channel = default_parameters; paclen = 256; digi = digi }
+usual_config params digi =
+    record { params = params; modem = Bell202; channel = default_parameters; paclen = 256; digi = digi }
 
--- a channel that has these parameters from the start
-abbrev pub channel_with : Parameters → ℕ → Channel
-channel_with parameters seed = record (new_channel seed) { parameters = parameters }
+-- a channel that sends by a modem and has these parameters from the start
+abbrev pub channel_with : Modem → Parameters → ℕ → Channel
+channel_with modem parameters seed = record (new_channel_by modem seed) { parameters = parameters }
 
 abbrev pub new_station : Config → ℕ → StationState
 new_station config seed = record {
@@ -47,7 +50,7 @@ new_station config seed = record {
   connections = [];
   registrations = [];
   links = no_links;
-  channel = channel_with config.channel seed;
+  channel = channel_with config.modem config.channel seed;
   askers = [];
   dropped = 0;
   ticks = 0;

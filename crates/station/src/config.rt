@@ -4,17 +4,19 @@ ghost use Rattle.std.specs.Result.{IsErrOf};
 ghost use Rattle.link_machine.specs.Params.{HasWindows, IsRefusedWindow};
 
 use ax25_address::Call;
-use channel_access::Parameters;
+use channel_access::{Modem, Parameters};
 use link_machine::Params;
 use selective_reject::{BadWindow, check_window};
 use std::marker::Model;
 
-/// How a station's links ask for lost frames and call, how it takes the channel, how long the packets of hosts' data are,
-/// and for which call it repeats.
+/// How a station's links ask for lost frames and call, how it takes the channel and sends, how long the packets of
+/// hosts' data are, and for which call it repeats.
 #[derive(Clone, Copy, Debug)]
 pub struct Config {
     /// The modes and the windows of each link, and in which modulus it calls.
     pub params: Params,
+    /// The modem that it sends by.
+    pub modem: Modem,
     /// How it takes the channel until a host sets it otherwise.
     pub channel: Parameters,
     /// How many octets of a host's data go into a packet: 1 to 256. Less than 1 is as 1, and more than 256 is as 256.
@@ -26,12 +28,13 @@ pub struct Config {
 impl Config {
     ghost use Rattle.station.specs.State.{usual_config};
 
-    /// A station that has the usual parameters of the channel and the longest packets.
+    /// A station that sends by Bell 202, and has the usual parameters of the channel and the longest packets.
     pub fn new(params: Params, digi: Option<Call>) -> Config
         ensures { result ≡ usual_config params digi }
     {
         Config {
             params,
+            modem: Modem::Bell202,
             channel: Parameters {
                 tx_delay: 30,
                 persist: 63,

@@ -1,6 +1,6 @@
 //! The links by their keys.
 ghost use Rattle.std.specs.Prelude.{◌≡◌, ℕ, ◌<◌, ◌≤◌, ◌↔◌, List, [], All, IfOk, OnOk, OnErr, IfSome, IsTrue, length};
-ghost use Rattle.std.specs.Prelude.{replicate, true, position, count_by, is_some, nat_lt, slice_set, Some, None};
+ghost use Rattle.std.specs.Prelude.{replicate, true, position, count_by, is_some, nat_lt, slice_set, slice_index_or, Some, None};
 ghost use Rattle.std.specs.Option.{option_copied, option_or};
 ghost use Rattle.link_machine.specs.Sent.{IsWritable};
 ghost use Rattle.link_machine.specs.Step.{step, done_of};
@@ -99,7 +99,7 @@ impl LinkTable {
         self.len() < MOST_LINKS
     }
 
-    /// Puts a link under the key that was freed last, or under one that no link has had, and tells the key.
+    /// Puts a link under the key that was freed last, or else under the least vacant one, and tells the key.
     pub(crate) fn insert(&mut self, link: OwnedLink) -> u32
         requires { count_by is_some self.old.places < 64 }
         ensures next { result ≡ self.old.next }
@@ -107,6 +107,7 @@ impl LinkTable {
         ensures vacant { place_at result self.old ≡ None }
         ensures places { self.new.places ≡ slice_set self.old.places result (Some link) }
         ensures there { place_at result self.new ≡ Some link }
+        ensures least { (lower : ℕ) → lower < self.new.next → is_some (place_at lower self.new) ≡ true }
     {
         let key = self.next;
         self.places[key as usize] = Some(link);
@@ -275,7 +276,8 @@ fn count<T>(places: &[Option<T>]) -> usize
 /// The first place without a link; 64 if each has one.
 fn first_vacant(places: &[Option<OwnedLink>]) -> u32
     requires { length places.now ≡ MOST_LINKS }
-    ensures { count_by is_some places.now < MOST_LINKS → IsVacant result places.now }
+    ensures vacant { count_by is_some places.now < MOST_LINKS → IsVacant result places.now }
+    ensures least { (lower : ℕ) → lower < result → is_some (slice_index_or places.now lower None) ≡ true }
 {
     for key in 0..MOST_LINKS {
         if places[key as usize].is_none() {

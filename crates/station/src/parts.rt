@@ -14,7 +14,7 @@ use crate::link_table::LinkTable;
 use crate::memory::Memory;
 use crate::registration::Registration;
 use ax25_address::Call;
-use channel_access::{Access, Param, Parameters};
+use channel_access::{Access, Modem, Param, Parameters};
 use std::alloc::Global;
 use tnc_base::{Octets, OutOfMemory};
 
@@ -72,7 +72,7 @@ impl Parts {
             connections: Vec::new(alloc),
             registrations: Vec::new(alloc),
             links: LinkTable::new(alloc)?,
-            channel: channel_with(alloc, config.channel, seed)?,
+            channel: channel_with(alloc, config.modem, config.channel, seed)?,
             askers: Vec::new(alloc),
             dropped: 0,
             ticks: 0,
@@ -125,11 +125,16 @@ impl Parts {
     }
 }
 
-/// A channel that has these parameters from the start.
-fn channel_with(alloc: Global, parameters: Parameters, seed: u64) -> Result<Access, OutOfMemory>
-    ensures { IfOk result (λ access. StandsForChannel access (channel_with parameters seed)) }
+/// A channel that sends by a modem and has these parameters from the start.
+fn channel_with(
+    alloc: Global,
+    modem: Modem,
+    parameters: Parameters,
+    seed: u64,
+) -> Result<Access, OutOfMemory>
+    ensures { IfOk result (λ access. StandsForChannel access (channel_with modem parameters seed)) }
 {
-    let mut access = Access::new(alloc, seed)?;
+    let mut access = Access::new(alloc, modem, seed)?;
     access.set(Param::TxDelay(parameters.tx_delay));
     access.set(Param::Persist(parameters.persist));
     access.set(Param::SlotTime(parameters.slot_time));

@@ -11,6 +11,7 @@ use Rattle.station_laws.proofs.Common.{IsJointRun, all_stepped, new_stations, st
 use Rattle.station_laws.proofs.Common.{heard_steps}
 use Rattle.std.specs.Prelude.{slice_index_or}
 use Rattle.channel_access.specs.Channel.{Channel, after_rules, air_sent, air_waiting, decision, with_decision}
+use Rattle.channel_access.specs.Modem.{bits_of_ticks, samples_of_bits}
 use Rattle.channel_access.specs.OnAir.{OnAir, bits_then, decided, flag_end, names_next}
 use Rattle.channel_access.specs.Waiting.{WaitingFrame}
 use Rattle.channel_access.specs.declared.air_tick.Sent.{Sent}
@@ -97,7 +98,7 @@ named_beside askers waiting (Some t) h =
     let next = decided (bits_then t) waiting t in
     let named : Sent = record {
       octets = slice_index_or next.frames next.named [];
-      after = 8 * (flag_end (next.named + 1) next - 12 * next.ticks);
+      after = samples_of_bits next.modem (flag_end (next.named + 1) next - bits_of_ticks next.modem next.ticks);
     } in
     go (names_next (bits_then t) next) named
   where

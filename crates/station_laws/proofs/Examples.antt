@@ -20,6 +20,7 @@ use Rattle.station.specs.Turn.{begin}
 use Rattle.station_laws.specs.LinkOfCalls.{world_of}
 use Rattle.station.specs.Heard.{IsOurs, IsReadAs, telling_channel}
 use Rattle.station.specs.Monitored.{heard_modulus}
+use Rattle.station_laws.proofs.NewKeys.{first_key}
 
 abbrev pub aaaa : Callsign
 aaaa = record { name = 65 ∷ 65 ∷ 65 ∷ 65 ∷ []; ssid = 0 }
@@ -212,7 +213,7 @@ a_calls =
       input = FromHost (Bytes 1 octets);
       before = before;
       after = after;
-      turn = (after, (after, (0, record { within = omega arith; vacant = refl; freed = tt }, refl), refl), refl);
+      turn = (after, (after, (0, first_key before.links refl tt, refl), refl), refl);
       octets = tt;
     }
 
@@ -250,7 +251,7 @@ b_hears_sabm =
     let made = making 0 1 no_layer_3 bbbb aaaa (way_back command_path Command)
     (shown command_path sabm sabm_frame before) in
     hearing B before command_path sabm sabm_frame (event_at 0 (LinkHear sabm_frame) made) (command_begins 63) sabm_is
-    (Some sabm_frame, sabm_is, (0, record { within = omega arith; vacant = refl; freed = tt }, refl))
+    (Some sabm_frame, sabm_is, (0, first_key before.links refl tt, refl))
     (Some sabm_frame, sabm_is, refl) (low sabm refl)
 
 abbrev pub a_hears_ua : Step

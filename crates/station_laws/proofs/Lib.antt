@@ -67,3 +67,5 @@ pub mod LinkDid
 pub mod Chains
 pub mod ChainRun
 mod RunTells
+pub mod NewKeys
+pub mod OneTurn

@@ -14,6 +14,7 @@ use Rattle.link_machine.specs.Event.Event.{Hear as LinkHear}
 use Rattle.link_machine.specs.Step.{step as link_turn}
 use Rattle.station_laws.proofs.ExampleOrder.{fits}
 use Rattle.station_laws.proofs.Examples.{aaaa, bbbb, bbbb_valid, path_in, low, shown, hearing, config, calls, sabm, disc}
+use Rattle.station_laws.proofs.NewKeys.{second_key}
 use Rattle.station_laws.proofs.Examples.{ua, disc_frame, disc_is, command_path, command_begins, a_joins, b_joins}
 use Rattle.station_laws.proofs.Examples.{a_registers, b_registers, a_calls, b_hears_sabm, a_hears_ua, a_disconnects}
 use Rattle.station_laws.proofs.Examples.{a_hears_ua_again}
@@ -72,7 +73,7 @@ b_hears_third =
     let made = making 1 1 no_layer_3 bbbb cccc (way_back third_path Command)
     (shown third_path third third_frame before) in
     hearing B before third_path third third_frame (event_at 1 (LinkHear third_frame) made) third_begins third_is
-    (Some third_frame, third_is, (1, record { within = omega arith; vacant = refl; freed = tt }, refl))
+    (Some third_frame, third_is, (1, second_key before.links refl refl tt, refl))
     (Some third_frame, third_is, refl) (low third refl)
 
 abbrev b_hears_disc : Step

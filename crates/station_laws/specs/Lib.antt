@@ -16,4 +16,5 @@ pub mod FramesTold
 pub mod AnswersOverRuns
 pub mod LinksTell
 pub mod RunsTell
+pub mod OneTurn
 pub mod OneSpelling

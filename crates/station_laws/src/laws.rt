@@ -7,6 +7,7 @@ ghost use Rattle.station_laws.specs.HostsAsk.{HostsAskNothing};
 ghost use Rattle.station_laws.specs.LinksTell.{LinksTellInOne};
 ghost use Rattle.station_laws.specs.MatchedLaw.{MatchedInOrder, MatchedLaw};
 ghost use Rattle.station_laws.specs.OneSpelling.{CallTextsAgree, WrittenFramesAgree};
+ghost use Rattle.station_laws.specs.OneTurn.{OneTurn};
 ghost use Rattle.station_laws.specs.Owners.{OwnersAreTold};
 ghost use Rattle.station_laws.specs.ProgramsTold.{ProgramsAreTold};
 ghost use Rattle.station_laws.specs.RunsTell.{RunsTellInOne};
@@ -118,6 +119,12 @@ pub fn links_tell_in_one()
 /// being released.
 pub fn runs_tell_in_one()
     ensures { RunsTellInOne }
+{}
+
+/// What a station makes of an input, what it is then and what it gives, depends on its state and on the input alone:
+/// the definition of a step describes one turn of each.
+pub fn one_turn()
+    ensures { OneTurn }
 {}
 
 /// The texts that a station reads as a call are the texts of that call (AX.25 2.2 section 3.12), and no other text is.

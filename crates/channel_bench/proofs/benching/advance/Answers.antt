@@ -17,10 +17,10 @@ pub tick-requires-clause-few : goal.tick-requires-clause-few
 tick-requires-clause-few c = omega (arith, c.requires.2.made.few, c.requires.4)
 
 pub returns-in-Some-clause-fault : goal.returns-in-Some-clause-fault
-returns-in-Some-clause-fault c = λ w count going.
+returns-in-Some-clause-fault c = λ w count going early.
     let made = c.in_ok-tick.ensures.tick w going.made.bench going.made.stands in
     let is : made.0.common.trouble ≡ Some c.in-Some.trouble = sym (c.in-Some.ensures.value ∙ made.2.shared.trouble) in
-    c.fault_of.ensures w (ended_by w count c.args.run.now going made.0 c.in-Some.trouble made.1 is)
+    c.fault_of.ensures w (ended_by w count c.args.run.now going made.0 c.in-Some.trouble early made.1 is)
 
 pub returns-in-None-clause-made : goal.returns-in-None-clause-made
 returns-in-None-clause-made c = λ w count going.

@@ -1,6 +1,7 @@
 -- The run goes on until it is over, or something ends it, or it has taken too long.
 use Rattle.channel_bench.proofs.Common.{◌≡◌, ◌+◌, ◌<◌, ◌^◌, refl, sym, ◌∙◌, subst, arith, AreTicks, HasMade}
 use Rattle.std.proofs.lemmas.Result.{err_from_is_err_and}
+use Rattle.channel_bench.specs.Words.{most_ticks}
 use Rattle.channel_bench.proofs.benching.finish.Goals as goal
 
 pub loop-init : goal.loop-init
@@ -24,6 +25,7 @@ returns-then-is_over-clause-over c =
     c.loop.counter c.loop.invariant in
     record {
       count = c.loop.counter + 1;
+      in_time = omega (arith, c.most_ticks-most.ensures, c.loop-test.true);
       bench = made.bench;
       ticks = made.ticks;
       no_trouble = made.no_trouble;
@@ -46,4 +48,5 @@ returns-clause-fault c =
 pub returns-in_err-advance-clause-fault : goal.returns-in_err-advance-clause-fault
 returns-in_err-advance-clause-fault c =
     let p = err_from_is_err_and c.from_residual.result c.from_residual.ensures.1 in
-    rw (p.1, p.2) (c.in_err-advance.ensures.fault c.args.words c.loop.counter c.loop.invariant)
+    let early : c.loop.counter < most_ticks c.args.words.octets = omega (arith, c.most_ticks-most.ensures, c.loop-test.true) in
+    rw (p.1, p.2) (c.in_err-advance.ensures.fault c.args.words c.loop.counter c.loop.invariant early)

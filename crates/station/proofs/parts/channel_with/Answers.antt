@@ -1,11 +1,11 @@
-use Rattle.channel_access.specs.Channel.{Channel, new_channel, with_setting}
+use Rattle.channel_access.specs.Channel.{Channel, new_channel_by, with_setting}
 use Rattle.channel_access.specs.declared.parameters.Param.TheVariants.{TxDelay, Persist, SlotTime, TxTail}
 use Rattle.station.proofs.parts.channel_with.Goals as goal
 
 pub returns : goal.returns
 returns c =
     let p = c.args.parameters in
-    let at_first : Channel = new_channel c.args.seed in
+    let at_first : Channel = new_channel_by c.args.modem c.args.seed in
     let delayed : Channel = with_setting (TxDelay p.tx_delay) at_first in
     let persistent : Channel = with_setting (Persist p.persist) delayed in
     let slotted : Channel = with_setting (SlotTime p.slot_time) persistent in

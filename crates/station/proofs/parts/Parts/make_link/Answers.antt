@@ -38,6 +38,7 @@ returns-clause-made c = λ out turn shows.
       machine = subst (λ (parameters : Params). StandsFor machine (new_machine c.args.path parameters))
           (c.get.ensures.value ∙ shows.holds.parameters) stands;
     })
+    e.least
 
 pub returns-clause-modulus : goal.returns-clause-modulus
 returns-clause-modulus c =
