@@ -1,6 +1,6 @@
 //! The word decode: from audio to the frames that are heard in it, block after block.
 ghost use Rattle.std.specs.Prelude.{◌≡◌, ◌≤◌, ◌<◌, ◌+◌, ◌++◌, List, ℕ, Some, None, Err, [], length, drop, OnOk, OnErr};
-ghost use Rattle.std.specs.Prelude.{IsErrOf, ◌⊎◌};
+ghost use Rattle.std.specs.Prelude.{IsErrOf, ◌⊎◌, false};
 ghost use Rattle.tnc_base.specs.Faults.{HasRisen};
 ghost use Rattle.tnc_base.specs.Streams.{WrotePart};
 ghost use Rattle.tnc_forms.specs.declared.fault.InputFault.{InputFault};
@@ -8,6 +8,7 @@ ghost use Rattle.tnc_forms.specs.Reading.{input_limit};
 ghost use Rattle.tnc_decode.specs.Audio.{audio_fault};
 ghost use Rattle.tnc_decode.specs.Decoded.{IsDecoded};
 ghost use Rattle.tnc_decode.specs.Ended.{IsEnded};
+ghost use Rattle.tnc_decode.specs.Held.{HasHeard, finished_of, position_of};
 ghost use Rattle.tnc_decode.specs.Settled.{IsSettled};
 ghost use Rattle.tnc_forms.specs.Taken.{WereRead};
 ghost use Rattle.tnc_decode.specs.Written.{WroteMost};
@@ -92,6 +93,28 @@ fn decode_blocks<R: Threads + Sync, I: Source, O: Sink>(
     ensures write { IsErrOf result Fault.Write → HasRisen (O.faults output.old) (O.faults output.new) }
 {
     let mut receiver = Receiver::new(alloc, words)?;
+    hear_blocks(rt, &mut receiver, words, input, output)
+}
+
+/// The same by a receiver to which no octet has come. It is lent, since a loop that owned it would be proved several times
+/// slower.
+fn hear_blocks<R: Threads + Sync, I: Source, O: Sink>(
+    rt: &R,
+    receiver: &mut Receiver,
+    words: DecodeWords,
+    input: &mut I,
+    output: &mut O,
+) -> Result<(), Fault>
+    requires heard { HasHeard receiver.old words [] [] }
+    requires position { position_of receiver.old.decoder ≡ 0 }
+    requires unfinished { finished_of receiver.old.decoder ≡ false }
+    ensures ended { (octets : List ℕ) → I.left input.old ≡ Some octets
+        → IsEnded words octets (I.left input.new) (O.written output.old) (O.written output.new) result }
+    ensures faultless { OnOk result ((I.faults input.new ≡ I.faults input.old)
+        × (O.faults output.new ≡ O.faults output.old)) }
+    ensures read { IsErrOf result Fault.Read → HasRisen (I.faults input.old) (I.faults input.new) }
+    ensures write { IsErrOf result Fault.Write → HasRisen (O.faults output.old) (O.faults output.new) }
+{
     let mut buffer = [0; BLOCK];
     let mut total: u64 = 0;
     'reading: while total <= INPUT_LIMIT {

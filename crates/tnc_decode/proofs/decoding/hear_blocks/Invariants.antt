@@ -3,7 +3,7 @@ use Rattle.tnc_decode.proofs.Common.{◌≡◌, ◌≤◌, ◌+◌, ◌-◌, Lis
 use Rattle.std.proofs.Common.{Some}
 use Rattle.tnc_decode.specs.Held.{finished_of}
 use Rattle.tnc_decode.proofs.DecodingLemmas.{Progress}
-use Rattle.tnc_decode.proofs.decoding.decode_blocks.Given as goal
+use Rattle.tnc_decode.proofs.decoding.hear_blocks.Given as goal
 
 abbrev pub invariant-reading : goal.invariant-reading
 invariant-reading g l = record {
