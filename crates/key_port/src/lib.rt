@@ -15,8 +15,6 @@ mod key_side;
 mod laws;
 mod mem_key;
 mod real_key;
-#[cfg(test)]
-mod tests;
 
 pub use key_port::KeyPort;
 pub use key_records::{KeyCame, KeyStep, KeyWrite};

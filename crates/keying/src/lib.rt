@@ -22,8 +22,6 @@ mod losses;
 mod machine;
 mod reading;
 mod report;
-#[cfg(test)]
-mod tests;
 mod ticking;
 mod trying;
 mod turning;

@@ -2,12 +2,19 @@
 use crate::tests::assertions::assert_equal;
 use arrayvec::ArrayVec;
 use ax25_address::{AddrFault, Call, CallFault, Hop, Path, Role, read_path, reversed, write_path};
+use std::process::Abort;
 use std::test::Fail;
+
+/// Whether the text of a call is this.
+fn has_text(call: &Call, text: &str) -> bool {
+    call.text().as_str() == text
+}
 
 #[test]
 fn names_are_calls(rt: HostRuntime) -> Result<(), Fail> {
     for name in ["A", "NJ7P", "ABCDEF", "123456"] {
-        assert_equal(&rt, &Call::new(name, 0)?.text().as_str(), &name);
+        let call = Call::new(name, 0)?;
+        assert_equal(&rt, &(name, has_text(&call, name)), &(name, true));
     }
     assert_equal(&rt, &Call::default(), &Call::new("A", 0)?);
     Ok(())
@@ -43,7 +50,8 @@ fn texts_are_calls(rt: HostRuntime) -> Result<(), Fail> {
         ("wide2-15", "WIDE2-15"),
         ("A-1", "A-1"),
     ] {
-        assert_equal(&rt, &Call::parse(text)?.text().as_str(), &again);
+        let call = Call::parse(text)?;
+        assert_equal(&rt, &(text, has_text(&call, again)), &(text, true));
     }
     Ok(())
 }
@@ -87,9 +95,26 @@ fn a_path_is_read_and_written(rt: HostRuntime) -> Result<(), Fail> {
         role: Role::Command,
     };
     let (path, len) = read_path(BY_RELAY)?;
-    assert_equal(&rt, &len, &21);
-    assert_equal(&rt, &path, &wanted);
+    assert_equal(&rt, &(&path, len), &(&wanted, 21));
     assert_equal(&rt, &write_path(&path).as_slice(), &&BY_RELAY[..21]);
+    Ok(())
+}
+
+fn assert_is_back<R: Abort>(rt: &R, path: &Path, back: &Path) -> Result<(), Fail> {
+    let ends = (back.dest, back.source);
+    let by = back.repeaters.as_slice();
+    let role = back.with_role(Role::Command).role;
+    assert_equal(
+        rt,
+        &(ends, by, role),
+        &(
+            (path.source, path.dest),
+            [relay()?].as_slice(),
+            Role::Command,
+        ),
+    );
+    let octets = write_path(back);
+    assert_equal(rt, &(octets[6], octets[13]), &(0x60, 0xe0));
     Ok(())
 }
 
@@ -97,12 +122,7 @@ fn a_path_is_read_and_written(rt: HostRuntime) -> Result<(), Fail> {
 fn a_path_is_reversed(rt: HostRuntime) -> Result<(), Fail> {
     let (path, _) = read_path(BY_RELAY)?;
     let back = reversed(&path, Role::Response);
-    assert_equal(&rt, &(back.dest, back.source), &(path.source, path.dest));
-    assert_equal(&rt, &back.repeaters.as_slice(), &[relay()?].as_slice());
-    assert_equal(&rt, &back.with_role(Role::Command).role, &Role::Command);
-    let octets = write_path(&back);
-    assert_equal(&rt, &(octets[6], octets[13]), &(0x60, 0xe0));
-    Ok(())
+    assert_is_back(&rt, &path, &back)
 }
 
 /// As many fields of the call `A` as are wanted, the last one with the end bit.

@@ -73,42 +73,38 @@ fn a_store_refuses_a_bad_window(rt: HostRuntime) {
     assert!(rt; matches!(store, Err(StoreFault::BadWindow { window: 5 })));
 }
 
-// Each row: the window, the packets that have come, the number of the next one, and what becomes of it.
+/// Each row: the mode, the window, the packets that have come, the number of the next one, and what becomes of it.
+const TAKEN: &[(Mode, u8, &[u8], u8, Took)] = &[
+    (Mode::Rej, 7, b"", 0, Took::Next),
+    (Mode::Rej, 7, b"", 1, Took::NotNext),
+    (Mode::Rej, 7, b"", 7, Took::NotNext),
+    (Mode::Rej, 7, b"\x00", 0, Took::Again),
+    (Mode::Rej, 7, b"\x00", 1, Took::NotNext),
+    (Mode::Srej, 4, b"", 0, Took::Next),
+    (Mode::Srej, 4, b"", 1, Took::Stored),
+    (Mode::Srej, 4, b"", 3, Took::Stored),
+    (Mode::Srej, 4, b"", 4, Took::Outside),
+    (Mode::Srej, 4, b"", 7, Took::Outside),
+    (Mode::Srej, 4, b"\x02", 2, Took::Again),
+    (Mode::Srej, 4, b"\x02\x03", 1, Took::Stored),
+    (Mode::Srej, 4, b"\x02\x00", 0, Took::Again),
+    (Mode::Srej, 1, b"", 0, Took::Next),
+    (Mode::Srej, 1, b"", 1, Took::Outside),
+];
+
 #[test]
-fn a_packet_is_taken_by_rej(rt: HostRuntime) -> Result<(), Fail> {
-    let table: [(u8, &[u8], u8, Took); 5] = [
-        (7, b"", 0, Took::Next),
-        (7, b"", 1, Took::NotNext),
-        (7, b"", 7, Took::NotNext),
-        (7, b"\x00", 0, Took::Again),
-        (7, b"\x00", 1, Took::NotNext),
-    ];
-    for (window, before, ns, want) in table {
-        let took = took(rt.alloc(), Mode::Rej, window, before, ns)?;
-        assert_equal(&rt, &(before, ns, took), &(before, ns, want));
+fn a_packet_is_taken_by_its_number(rt: HostRuntime) -> Result<(), Fail> {
+    for (mode, window, before, ns, want) in TAKEN {
+        let took = took(rt.alloc(), *mode, *window, before, *ns)?;
+        assert_equal(&rt, &(*before, *ns, took), &(*before, *ns, *want));
     }
     Ok(())
 }
 
-#[test]
-fn a_packet_is_taken_by_srej(rt: HostRuntime) -> Result<(), Fail> {
-    let table: [(u8, &[u8], u8, Took); 10] = [
-        (4, b"", 0, Took::Next),
-        (4, b"", 1, Took::Stored),
-        (4, b"", 3, Took::Stored),
-        (4, b"", 4, Took::Outside),
-        (4, b"", 7, Took::Outside),
-        (4, b"\x02", 2, Took::Again),
-        (4, b"\x02\x03", 1, Took::Stored),
-        (4, b"\x02\x00", 0, Took::Again),
-        (1, b"", 0, Took::Next),
-        (1, b"", 1, Took::Outside),
-    ];
-    for (window, before, ns, want) in table {
-        let took = took(rt.alloc(), Mode::Srej, window, before, ns)?;
-        assert_equal(&rt, &(before, ns, took), &(before, ns, want));
-    }
-    Ok(())
+/// Asserts that a store is in its widest window of modulo 128 from N(S) 0 on.
+fn assert_is_wide<R: Abort>(rt: &R, store: &InStore) {
+    let begun = (store.modulus(), store.window(), store.mode(), store.vr());
+    assert_equal(rt, &begun, &(128, 64, Mode::Srej, 0));
 }
 
 /// Asserts what a store of modulo 8 takes, then in its widest window of modulo 128, and then modulo 8 by REJ.
@@ -117,8 +113,7 @@ fn assert_begins_anew<R: Abort>(rt: &R, alloc: Global, store: &mut InStore) -> R
 {
     let narrow = store.accept(3, packet(alloc, &[3])?);
     store.begin(128, 64, Mode::Srej);
-    let begun = (store.modulus(), store.window(), store.mode(), store.vr());
-    assert_equal(rt, &begun, &(128, 64, Mode::Srej, 0));
+    assert_is_wide(rt, store);
     let within = store.accept(63, packet(alloc, &[63])?);
     store.begin(128, 64, Mode::Srej);
     let beyond = store.accept(64, packet(alloc, &[64])?);
@@ -164,22 +159,39 @@ fn fill_gap<R: Abort>(rt: &R, alloc: Global, store: &mut InStore) -> Result<(), 
     give(alloc, store, 2)?;
     store.ask(2);
     for (ns, want) in [(3, Took::Stored), (1, Took::Stored), (0, Took::Next)] {
-        assert!(*rt; store.take().is_none());
-        assert_equal(rt, &give(alloc, store, ns)?, &want);
+        let took = give_after_none(alloc, store, ns)?;
+        assert_equal(rt, &(ns, took), &(ns, want));
     }
+    Ok(())
+}
+
+/// What becomes of a packet that comes to a store of which none can be taken.
+fn give_after_none(alloc: Global, store: &mut InStore, ns: u8) -> Result<Took, Fail>
+    ensures mode { store.new.mode ≡ store.old.mode }
+{
+    if store.take().is_some() {
+        return Err(Fail::new("a packet can be taken"));
+    }
+    give(alloc, store, ns)
+}
+
+/// Asserts that the packets after a gap are taken in order, and that a cleared store counts from 0 again.
+fn assert_takes_after_gap<R: Abort>(rt: &R, alloc: Global, store: &mut InStore) -> Result<(), Fail>
+    requires { store.old.mode ≡ Mode.Srej }
+{
+    fill_gap(rt, alloc, store)?;
+    for name in 0..4 {
+        assert!(*rt; is_named(store.take().as_ref(), name));
+    }
+    assert!(*rt; store.take().is_none());
+    assert_equal(rt, &store.vr(), &4);
+    store.clear();
+    assert_equal(rt, &store.vr(), &0);
     Ok(())
 }
 
 #[test]
 fn packets_ahead_of_a_gap_are_taken_after_it(rt: HostRuntime) -> Result<(), Fail> {
     let mut store = InStore::new(rt.alloc(), 8, 4, Mode::Srej)?;
-    fill_gap(&rt, rt.alloc(), &mut store)?;
-    for name in 0..4 {
-        assert!(rt; is_named(store.take().as_ref(), name));
-    }
-    assert!(rt; store.take().is_none());
-    assert_equal(&rt, &store.vr(), &4);
-    store.clear();
-    assert_equal(&rt, &store.vr(), &0);
-    Ok(())
+    assert_takes_after_gap(&rt, rt.alloc(), &mut store)
 }

@@ -1,6 +1,6 @@
 //! Exchanges as lines of text: words that happen in order, a bar, and what is seen at the last of them.
 use crate::tests::assertions::assert_equal;
-use link_machine::Told;
+use link_machine::{Told, Why};
 use std::alloc::Global;
 use std::process::Abort;
 use std::test::Fail;
@@ -34,9 +34,13 @@ pub(crate) fn assert_line<R: Abort, S: Subject>(
 ) -> Result<(), Fail> {
     let (words, wanted) = line.split_once('|').unwrap_or((line, ""));
     let text = last_of(alloc, subject, words)?;
-    let found = (words, text.as_str().trim());
-    assert_equal(rt, &found, &(words, wanted.trim()));
+    assert_text(rt, words, text.as_str(), wanted);
     Ok(())
+}
+
+/// Asserts a text, but for the spaces around it.
+fn assert_text<R: Abort>(rt: &R, words: &str, text: &str, wanted: &str) {
+    assert_equal(rt, &(words, text.trim()), &(words, wanted.trim()));
 }
 
 /// Asserts all lines, one after the other.
@@ -72,17 +76,28 @@ pub(crate) fn octet(number: u16) -> u8 {
 pub(crate) fn push_told(alloc: Global, told: &[Told], text: &mut String) -> Result<(), Fail> {
     for item in told {
         match item {
-            Told::Opened { ours: true } => text.push_str("opened by us,")?,
-            Told::Opened { ours: false } => text.push_str("opened,")?,
-            Told::Given { packet } => {
-                for octet in packet.octets.as_slice() {
-                    text.push_str(format!(in alloc; "given {octet},")?.as_str())?;
-                }
-            }
-            Told::Ended { why } => {
-                text.push_str(format!(in alloc; "ended {why:?},")?.as_str())?;
-            }
+            Told::Opened { ours } => push_opened(*ours, text)?,
+            Told::Given { packet } => push_given(alloc, packet.octets.as_slice(), text)?,
+            Told::Ended { why } => push_ended(alloc, *why, text)?,
         }
     }
+    Ok(())
+}
+
+fn push_opened(ours: bool, text: &mut String) -> Result<(), Fail> {
+    let opened = if ours { "opened by us," } else { "opened," };
+    text.push_str(opened)?;
+    Ok(())
+}
+
+fn push_given(alloc: Global, octets: &[u8], text: &mut String) -> Result<(), Fail> {
+    for octet in octets {
+        text.push_str(format!(in alloc; "given {octet},")?.as_str())?;
+    }
+    Ok(())
+}
+
+fn push_ended(alloc: Global, why: Why, text: &mut String) -> Result<(), Fail> {
+    text.push_str(format!(in alloc; "ended {why:?},")?.as_str())?;
     Ok(())
 }

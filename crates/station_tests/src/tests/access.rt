@@ -5,8 +5,10 @@ ghost use Rattle.hdlc_framer.specs.FrameLength.{HasFrameLength};
 use crate::assert_equal;
 use afsk_modulator::transmission;
 use channel_access::{
-    Access, Param, a_tick_is_a_part_of_the_whole, decisions_add_bits, the_end_is_a_transmission,
+    Access, Modem, Param, a_tick_is_a_part_of_the_whole, decisions_add_bits,
+    the_end_is_a_transmission,
 };
+use hf_sender::hf_transmission;
 use std::alloc::Global;
 use std::test::Fail;
 use tnc_base::Octets;
@@ -20,9 +22,14 @@ fn shortest(alloc: Global) -> Result<Octets, Fail>
     Ok(Octets::from_slice(alloc, SHORTEST.as_slice())?)
 }
 
-/// An access in which so many frames wait, each of the link of its number. A test that owns a box is proved faster.
+/// An access in which so many frames wait, each of the link of its number.
 fn access(alloc: Global, seed: u64, frames: u32) -> Result<Box<Access>, Fail> {
-    let mut access = Box::new(alloc, Access::new(alloc, seed)?)?;
+    access_by(alloc, Modem::Bell202, seed, frames)
+}
+
+/// The same by a modem. A test that owns a box is proved faster.
+fn access_by(alloc: Global, modem: Modem, seed: u64, frames: u32) -> Result<Box<Access>, Fail> {
+    let mut access = Box::new(alloc, Access::new(alloc, modem, seed)?)?;
     for link in 0..frames {
         let _ = access.queue(Some(link), shortest(alloc)?);
     }
@@ -50,11 +57,16 @@ fn tick_into(
     Ok((air.began, after, access.waiting(0)))
 }
 
-/// The samples of the shortest frame with its flags.
-fn shortest_transmission(alloc: Global) -> Result<Vec<i16>, Fail> {
+/// The shortest frame alone.
+fn one_frame(alloc: Global) -> Result<Vec<Octets>, Fail> {
     let mut frames = Vec::new(alloc);
     frames.push(shortest(alloc)?)?;
-    Ok(transmission(alloc, &frames, 45, 3)?)
+    Ok(frames)
+}
+
+/// The samples of the shortest frame with its flags.
+fn shortest_transmission(alloc: Global) -> Result<Vec<i16>, Fail> {
+    Ok(transmission(alloc, &one_frame(alloc)?, 45, 3)?)
 }
 
 // 48 flags and 138 bits are 522 bits, in 44 ticks of 12. The flag after the frame ends with bit 506, the second of
@@ -73,6 +85,25 @@ fn the_shortest_frame_is_one_transmission(rt: HostRuntime) -> Result<(), Fail> {
     let mut expected = shortest_transmission(rt.alloc())?;
     assert_equal(&rt, &expected.len(), &(8 * 522));
     expected.resize(45 * 96, 0)?;
+    assert_equal(&rt, &samples, &expected);
+    Ok(())
+}
+
+// 12 flags before the frame, 138 bits and a flag after it are 242 bits, in 81 ticks of 3, the last of them with 2.
+#[test]
+fn on_short_wave_a_tick_has_three_bits(rt: HostRuntime) -> Result<(), Fail> {
+    let mut access = access_by(rt.alloc(), Modem::ShortWave, 1, 1)?;
+    access.set(Param::FullDuplex(true));
+    let mut samples = Vec::new(rt.alloc());
+    for tick in 1..84_u32 {
+        let got = tick_into(&mut samples, &mut access)?;
+        let last = if tick == 81 { Some(64) } else { None };
+        let want = (tick == 1, last, tick < 81);
+        assert_equal(&rt, &(tick, got), &(tick, want));
+    }
+    let mut expected = hf_transmission(rt.alloc(), 10000, &one_frame(rt.alloc())?, 12, 1)?;
+    assert_equal(&rt, &expected.len(), &(32 * 242));
+    expected.resize(83 * 96, 0)?;
     assert_equal(&rt, &samples, &expected);
     Ok(())
 }

@@ -79,10 +79,10 @@ impl Subject for Link {
     fn happen(&mut self, alloc: Global, word: &str, text: &mut String) -> Result<(), Fail> {
         let (name, first, _, _) = parts(word);
         match name {
-            "connect" => note(alloc, self.connect()?, text),
+            "connect" => connect(alloc, self, text),
             "send" => send(alloc, self, octet(first), text),
             "sends" => send_all(alloc, self, first, text),
-            "disconnect" => note(alloc, self.disconnect()?, text),
+            "disconnect" => disconnect(alloc, self, text),
             "ticks" => tick(alloc, self, first, false, text),
             "waits" => tick(alloc, self, first, true, text),
             "turns" => seize(alloc, self, first, (false, false), text),
@@ -95,6 +95,14 @@ impl Subject for Link {
             _ => hear(alloc, self, word, text),
         }
     }
+}
+
+fn connect(alloc: Global, link: &mut Link, text: &mut String) -> Result<(), Fail> {
+    note(alloc, link.connect()?, text)
+}
+
+fn disconnect(alloc: Global, link: &mut Link, text: &mut String) -> Result<(), Fail> {
+    note(alloc, link.disconnect()?, text)
 }
 
 fn send(alloc: Global, link: &mut Link, name: u8, text: &mut String) -> Result<(), Fail> {
@@ -147,12 +155,17 @@ fn ask(alloc: Global, link: &Link, text: &mut String) -> Result<(), Fail> {
         path: reversed(&path("B", "A")?, Role::Response),
         kind: kind_of(alloc, "FRMR", link.modulus())?,
     };
+    let by_frame = link.frame_asks(&frmr);
+    push_asked(link, by_frame, text)
+}
+
+fn push_asked(link: &Link, by_frame: bool, text: &mut String) -> Result<(), Fail> {
     let asked = [
         ("connect,", link.connect_asks()),
         ("disconnect,", link.disconnect_asks()),
         ("tick,", link.tick_asks(false)),
         ("turn,", link.seize_asks()),
-        ("FRMR,", link.frame_asks(&frmr)),
+        ("FRMR,", by_frame),
         ("I,", link.info_asks(1)),
     ];
     for (name, asks) in asked {

@@ -173,23 +173,36 @@ fn octets_of(alloc: Global, sent: &SentFrame) -> Result<Octets, Fail> {
     }
 }
 
+/// The octets of all frames.
+fn octets_of_all(alloc: Global, frames: &[SentFrame]) -> Result<Vec<u8>, Fail> {
+    let mut all = Vec::new(alloc);
+    for sent in frames {
+        let octets = octets_of(alloc, sent)?;
+        all.extend_from_slice(octets.as_slice())?;
+    }
+    Ok(all)
+}
+
 /// The frames of a call modulo 128 from N7LEM to NJ7P.
 fn frames_of_call(alloc: Global) -> Result<Vec<SentFrame>, Fail> {
     let mut link = Link::new(alloc, wide(), path("NJ7P", "N7LEM")?)?;
-    Ok(link.connect()?.frames)
+    frames_that_call(&mut link)
+}
+
+fn frames_that_call(link: &mut Link) -> Result<Vec<SentFrame>, Fail> {
+    let acts = link.connect()?;
+    Ok(acts.frames)
 }
 
 #[test]
 fn a_wide_call_in_octets(rt: HostRuntime) -> Result<(), Fail> {
     let frames = frames_of_call(rt.alloc())?;
-    assert_equal(&rt, &frames.len(), &1);
-    for sent in &frames {
-        let octets = octets_of(rt.alloc(), sent)?;
-        assert_equal(
-            &rt,
-            &octets.as_slice(),
-            &b"\x9c\x94\x6e\xa0\x40\x40\xe0\x9c\x6e\x98\x8a\x9a\x40\x61\x7f".as_slice(),
-        );
-    }
+    let octets = octets_of_all(rt.alloc(), &frames)?;
+    let call = b"\x9c\x94\x6e\xa0\x40\x40\xe0\x9c\x6e\x98\x8a\x9a\x40\x61\x7f";
+    assert_equal(
+        &rt,
+        &(frames.len(), octets.as_slice()),
+        &(1, call.as_slice()),
+    );
     Ok(())
 }

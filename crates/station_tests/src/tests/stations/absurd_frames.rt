@@ -1,9 +1,10 @@
 //! Frames that no station would send, and what a station makes of them.
 
 use super::desk::Desk;
+use super::script::Sight::{Kinds, Links, Sends};
+use super::script::Step::{Forgets, Hears, Registers, SendsAtOnce, Ticks};
+use super::script::{Made, Row, desk, each_plays};
 use crate::assert_equal;
-use ax25_address::Call;
-use link_machine::Params;
 use std::alloc::Global;
 use std::test::Fail;
 
@@ -52,7 +53,7 @@ const UA_VIA: &[u8] =
 
 impl Desk {
     /// The kinds of the messages to connection 1 since the last look.
-    fn kinds(&mut self) -> Result<Vec<u8>, Fail> {
+    pub(super) fn kinds(&mut self) -> Result<Vec<u8>, Fail> {
         let pieces = self.look().pieces;
         let mut kinds = Vec::new(self.alloc());
         for piece in &pieces {
@@ -64,7 +65,7 @@ impl Desk {
     }
 
     /// How many links NJ7P has to N7LEM and to itself. A call to either is refused if there is a link.
-    fn links(&mut self) -> Result<usize, Fail> {
+    pub(super) fn links(&mut self) -> Result<usize, Fail> {
         self.call(1, "NJ7P", "N7LEM")?;
         self.call(1, "NJ7P", "NJ7P")?;
         Ok(self.kinds()?.len())
@@ -72,60 +73,96 @@ impl Desk {
 }
 
 /// Longer than a frame with two repeaters is sent, and shorter than a link waits for an answer.
-const SENT: usize = 60;
+const LONG: usize = 60;
 
-/// DIGI repeats, connection 1 has registered NJ7P, and this frame was heard, if it is one.
-fn desk_after(alloc: Global, frame: &[u8]) -> Result<Box<Desk>, Fail> {
-    let digi = Some(Call::parse("DIGI")?);
-    let mut desk = Desk::with_digipeater(alloc, Params::default(), digi)?;
-    begin(&mut desk, frame)?;
-    Ok(desk)
-}
+/// Connection 1 has registered NJ7P.
+const REGISTERED: &[Row] = &[(SendsAtOnce, &[]), (Registers(1, "NJ7P"), &[])];
 
-fn begin(desk: &mut Desk, frame: &[u8]) -> Result<(), Fail> {
-    desk.send_at_once()?;
-    desk.register(1, "NJ7P")?;
-    desk.hear(frame)?;
-    desk.tick(SENT)?;
-    desk.look();
-    Ok(())
-}
-
-/// What is sent for a frame after another, the kinds that the host is told, and the number of links.
-fn outcome(alloc: Global, before: &[u8], heard: &[u8]) -> Result<(Vec<u8>, Vec<u8>, usize), Fail> {
-    let mut desk = desk_after(alloc, before)?;
-    desk.hear(heard)?;
-    let sent = desk.tick(SENT)?;
-    let told = desk.kinds()?;
-    Ok((sent, told, desk.links()?))
-}
-
-/// Each row: the frame before or nothing, the frame, what is sent for it, the kinds that the host is told, and the
+/// Each row: the frame before, if there is one, the frame, what is sent for it, the kinds that the host is told, and the
 /// number of links.
-const ABSURD: &[(&[u8], &[u8], &[u8], &[u8], usize)] = &[
-    (b"", INFO, DM_BACK, b"", 0),
-    (b"", UA, b"", b"", 0),
-    (b"", DM, b"", b"", 0),
-    (b"", FRMR, b"", b"", 0),
-    (SABM, INFO_3, SABM_BACK, b"d", 1),
-    (b"", SABM_SELF, UA_SELF, b"C", 1),
-    (SABM_SELF, UA_SELF, b"", b"", 1),
-    (b"", DISC_SELF, DM_SELF, b"", 0),
-    (b"", UA_SELF, b"", b"", 0),
-    (b"", VIA_0, VIA_1, b"", 0),
-    (b"", VIA_1, VIA_2, b"", 0),
-    (b"", VIA_2, UA_VIA, b"C", 1),
-    (SABM, VIA_0, VIA_1, b"", 1),
+const ABSURD: &[&[Row]] = &[
+    &[
+        (Ticks(LONG), &[]),
+        (Forgets, &[]),
+        (Hears(INFO), &[Sends(LONG, DM_BACK), Kinds(b""), Links(0)]),
+    ],
+    &[
+        (Ticks(LONG), &[]),
+        (Forgets, &[]),
+        (Hears(UA), &[Sends(LONG, b""), Kinds(b""), Links(0)]),
+    ],
+    &[
+        (Ticks(LONG), &[]),
+        (Forgets, &[]),
+        (Hears(DM), &[Sends(LONG, b""), Kinds(b""), Links(0)]),
+    ],
+    &[
+        (Ticks(LONG), &[]),
+        (Forgets, &[]),
+        (Hears(FRMR), &[Sends(LONG, b""), Kinds(b""), Links(0)]),
+    ],
+    &[
+        (Hears(SABM), &[]),
+        (Ticks(LONG), &[]),
+        (Forgets, &[]),
+        (
+            Hears(INFO_3),
+            &[Sends(LONG, SABM_BACK), Kinds(b"d"), Links(1)],
+        ),
+    ],
+    &[
+        (Ticks(LONG), &[]),
+        (Forgets, &[]),
+        (
+            Hears(SABM_SELF),
+            &[Sends(LONG, UA_SELF), Kinds(b"C"), Links(1)],
+        ),
+    ],
+    &[
+        (Hears(SABM_SELF), &[]),
+        (Ticks(LONG), &[]),
+        (Forgets, &[]),
+        (Hears(UA_SELF), &[Sends(LONG, b""), Kinds(b""), Links(1)]),
+    ],
+    &[
+        (Ticks(LONG), &[]),
+        (Forgets, &[]),
+        (
+            Hears(DISC_SELF),
+            &[Sends(LONG, DM_SELF), Kinds(b""), Links(0)],
+        ),
+    ],
+    &[
+        (Ticks(LONG), &[]),
+        (Forgets, &[]),
+        (Hears(UA_SELF), &[Sends(LONG, b""), Kinds(b""), Links(0)]),
+    ],
+    &[
+        (Ticks(LONG), &[]),
+        (Forgets, &[]),
+        (Hears(VIA_0), &[Sends(LONG, VIA_1), Kinds(b""), Links(0)]),
+    ],
+    &[
+        (Ticks(LONG), &[]),
+        (Forgets, &[]),
+        (Hears(VIA_1), &[Sends(LONG, VIA_2), Kinds(b""), Links(0)]),
+    ],
+    &[
+        (Ticks(LONG), &[]),
+        (Forgets, &[]),
+        (Hears(VIA_2), &[Sends(LONG, UA_VIA), Kinds(b"C"), Links(1)]),
+    ],
+    &[
+        (Hears(SABM), &[]),
+        (Ticks(LONG), &[]),
+        (Forgets, &[]),
+        (Hears(VIA_0), &[Sends(LONG, VIA_1), Kinds(b""), Links(1)]),
+    ],
 ];
 
 #[test]
 fn absurd_frames(rt: HostRuntime) -> Result<(), Fail> {
-    for (before, heard, sent, told, links) in ABSURD {
-        let got = outcome(rt.alloc(), before, heard)?;
-        let got = (got.0.as_slice(), got.1.as_slice(), got.2);
-        assert_equal(&rt, &got, &(*sent, *told, *links));
-    }
-    Ok(())
+    each_plays(&rt, rt.alloc(), Made::Digi, &[REGISTERED], ABSURD)
 }
 
 /// UA with F to NJ7P from X and a number of at most five digits.
@@ -156,14 +193,33 @@ fn answer_64(desk: &mut Desk) -> Result<Vec<u8>, Fail> {
     desk.kinds()
 }
 
+/// A station at which connection 1 has registered NJ7P.
+fn registered(alloc: Global) -> Result<Box<Desk>, Fail> {
+    let mut desk = desk(alloc, Made::Digi)?;
+    register(&mut desk)?;
+    Ok(desk)
+}
+
+fn register(desk: &mut Desk) -> Result<(), Fail> {
+    desk.send_at_once()?;
+    desk.register(1, "NJ7P")?;
+    desk.tick(LONG)?;
+    desk.look();
+    Ok(())
+}
+
+/// How many frames 64 calls and then a heard call bring.
+fn frames_of_65(desk: &mut Desk) -> Result<(usize, usize), Fail> {
+    let called = call_64(desk)?;
+    desk.hear(SABM)?;
+    Ok((called, desk.frames()))
+}
+
 // The 64 calls are still there when they are answered.
 #[test]
 fn a_65th_link_is_not_made_for_a_frame(rt: HostRuntime) -> Result<(), Fail> {
-    let mut desk = desk_after(rt.alloc(), b"")?;
-    let called = call_64(&mut desk)?;
-    desk.hear(SABM)?;
-    let heard = desk.frames();
-    assert_equal(&rt, &(called, heard), &(64, 0));
+    let mut desk = registered(rt.alloc())?;
+    assert_equal(&rt, &frames_of_65(&mut desk)?, &(64, 0));
     let told = answer_64(&mut desk)?;
     assert_equal(&rt, &told.as_slice(), &[b'C'; 64].as_slice());
     Ok(())

@@ -3,7 +3,7 @@ ghost use Rattle.std.specs.Prelude.{◌≡◌, ◌≢◌, ◌==◌, not, filter,
 ghost use Rattle.std.specs.Bool.{IsFalse};
 ghost use Rattle.station.specs.Held.{ids_of, without_ids};
 
-use crate::{assert_equal, message, message_with_pid};
+use crate::{message, message_with_pid};
 use ax25_address::Call;
 use ax25_frames::Modulus;
 use link_machine::Params;
@@ -11,7 +11,6 @@ use station::{Config, HostEvent, HostOut, PortKind, Station};
 use std::alloc::{AllocError, Global};
 use std::marker::Model;
 use std::mem;
-use std::process::Abort;
 use std::test::Fail;
 use tnc_base::Octets;
 
@@ -242,20 +241,6 @@ impl Desk {
         }
         Ok(lens)
     }
-}
-
-/// Ends the test unless the octets since the last look are a message.
-pub(super) fn assert_told<R: Abort>(
-    rt: &R,
-    desk: &mut Desk,
-    kind: u8,
-    ends: [&str; 2],
-    body: &[u8],
-) -> Result<(), Fail> {
-    let want = message(desk.alloc(), kind, ends, body)?;
-    let told = desk.told()?;
-    assert_equal(rt, &told.as_slice(), &want.as_slice());
-    Ok(())
 }
 
 /// So many times an octet.

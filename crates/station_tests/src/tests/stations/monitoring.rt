@@ -1,9 +1,13 @@
 //! What hosts that monitor the channel are shown.
 
-use super::desk::{Desk, assert_told, filled};
+use super::desk::{Desk, filled};
+use super::script::Sight::{Message, Tells};
+use super::script::Step::{Asks, Gives, Hears, Ticks};
+use super::script::{Ends, Made, Row, plays};
 use crate::assert_equal;
 use link_machine::Params;
 use std::alloc::Global;
+use std::process::Abort;
 use std::test::Fail;
 
 /// UI from BBBB to AAAA.
@@ -14,26 +18,24 @@ const HEARD: &[u8] = b" 1:Fm BBBB To AAAA <UI pid=F0 Len=2 P=0 >[00:00:01]\rhi\r
 const SENT: &[u8] = b" 1:Fm AAAA To BBBB <UI pid=F0 Len=2 P=0 >[00:00:00]\rhi\r\0";
 
 /// Connection 2 turns monitoring on, or off again.
-fn toggle(desk: &mut Desk) -> Result<(), Fail> {
-    desk.ask(2, b'm', ["", ""], b"")
-}
+const TOGGLED: Row = (Asks(2, (b'm', 0), ("", ""), b""), &[]);
+
+const BACK: Ends = ("BBBB", "AAAA");
 
 /// Whether the frame is shown when it is heard, before connection 2 asks again.
-fn is_shown_before(desk: &mut Desk) -> Result<bool, Fail> {
-    desk.hear(UI)?;
-    let shown = desk.tells(b'U', ["BBBB", "AAAA"], HEARD)?;
-    toggle(desk)?;
-    Ok(shown)
-}
+const SHOWN: &[Row] = &[
+    (Ticks(100), &[]),
+    (Hears(UI), &[Tells(false, b'U', BACK, HEARD)]),
+    TOGGLED,
+    (Hears(UI), &[Tells(true, b'U', BACK, HEARD)]),
+    TOGGLED,
+    (Hears(UI), &[Tells(false, b'U', BACK, HEARD)]),
+    TOGGLED,
+];
 
 #[test]
 fn shows_what_is_heard_until_asked_again(rt: HostRuntime) -> Result<(), Fail> {
-    let mut desk = Desk::new(rt.alloc(), Params::default())?;
-    desk.tick(100)?;
-    for shown in [false, true, false] {
-        assert_equal(&rt, &is_shown_before(&mut desk)?, &shown);
-    }
-    Ok(())
+    plays(&rt, rt.alloc(), Made::Usual, &[SHOWN])
 }
 
 /// UI from BBBB to AAAA with so many octets.
@@ -54,32 +56,45 @@ fn long_text(alloc: Global, len: usize) -> Result<Vec<u8>, Fail> {
     Ok(octets)
 }
 
-// A link's frames have at most 256 octets; others may have up to 937.
-#[test]
-fn shows_a_long_frame_whole(rt: HostRuntime) -> Result<(), Fail> {
-    let mut desk = Desk::new(rt.alloc(), Params::default())?;
-    toggle(&mut desk)?;
-    for len in [256, 257, 300, 937] {
-        desk.hear(&long_ui(rt.alloc(), len)?)?;
-        let want = long_text(rt.alloc(), len)?;
-        let shown = desk.tells(b'U', ["BBBB", "AAAA"], &want)?;
-        assert_equal(&rt, &(len, shown), &(len, true));
+/// Such a frame is heard.
+fn hear_long(desk: &mut Desk, len: usize) -> Result<(), Fail> {
+    let frame = long_ui(desk.alloc(), len)?;
+    desk.hear(&frame)
+}
+
+/// Whether it is told.
+fn tells_long(desk: &mut Desk, len: usize) -> Result<bool, Fail> {
+    let want = long_text(desk.alloc(), len)?;
+    desk.tells(b'U', ["BBBB", "AAAA"], &want)
+}
+
+/// Ends the test unless each frame is shown whole once connection 2 has asked for it.
+fn assert_shows_long<R: Abort>(rt: &R, desk: &mut Desk, lens: &[usize]) -> Result<(), Fail> {
+    desk.ask(2, b'm', ["", ""], b"")?;
+    for len in lens {
+        hear_long(desk, *len)?;
+        let shown = tells_long(desk, *len)?;
+        assert_equal(rt, &(*len, shown), &(*len, true));
     }
     Ok(())
 }
 
-/// Connection 1 sends a frame, in full duplex with one flag before it.
-fn send(desk: &mut Desk) -> Result<(), Fail> {
-    desk.take(3, b"\xc0\x01\0\xc0\x05\x01\xc0")?;
-    desk.ask(1, b'M', ["AAAA", "BBBB"], b"hi")?;
-    desk.tick(40)?;
-    Ok(())
+// A link's frames have at most 256 octets; others may have up to 937.
+#[test]
+fn shows_a_long_frame_whole(rt: HostRuntime) -> Result<(), Fail> {
+    let mut desk = Desk::new(rt.alloc(), Params::default())?;
+    assert_shows_long(&rt, &mut desk, &[256, 257, 300, 937])
 }
+
+/// Connection 1 sends a frame, in full duplex with one flag before it.
+const SENDS: &[Row] = &[
+    TOGGLED,
+    (Gives(3, b"\xc0\x01\0\xc0\x05\x01\xc0"), &[]),
+    (Asks(1, (b'M', 0), ("AAAA", "BBBB"), b"hi"), &[]),
+    (Ticks(40), &[Message(b'T', ("AAAA", "BBBB"), SENT)]),
+];
 
 #[test]
 fn shows_what_is_sent(rt: HostRuntime) -> Result<(), Fail> {
-    let mut desk = Desk::new(rt.alloc(), Params::default())?;
-    toggle(&mut desk)?;
-    send(&mut desk)?;
-    assert_told(&rt, &mut desk, b'T', ["AAAA", "BBBB"], SENT)
+    plays(&rt, rt.alloc(), Made::Usual, &[SENDS])
 }

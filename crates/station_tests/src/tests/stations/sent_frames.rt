@@ -1,8 +1,8 @@
 //! Frames whose sending a host wants to be told.
 
-use super::desk::Desk;
-use crate::assert_equal;
-use link_machine::Params;
+use super::script::Sight::{Pieces, PiecesAre};
+use super::script::Step::{Gives, Joins, Leaves, SendsAtOnce, Ticks};
+use super::script::{Made, Row, plays};
 use station::PortKind;
 use std::test::Fail;
 
@@ -23,38 +23,37 @@ const PASSED_OVER: &[u8] =
     b"\xc0\x1c\x03\x04\x84\x84\x84\x84\x40\x40\x60\x82\x82\x82\x82\x40\x40\x61\x03\xf0\xc0\
 \x0c\x05\x06\x84\x84\x84\x84\x40\x40\x60\x82\x82\x82\x82\x40\x40\x61\xc0";
 
+const TOLD: &[Row] = &[
+    (Joins(4, PortKind::Kiss), &[]),
+    (SendsAtOnce, &[]),
+    (Gives(3, FIRST), &[]),
+    (Gives(4, PLAIN), &[]),
+    (Gives(4, SECOND), &[]),
+    (Gives(3, PASSED_OVER), &[Pieces(0)]),
+    (
+        Ticks(100),
+        &[PiecesAre(&[
+            (3, b"\xc0\x0c\xdb\xdc\xdb\xdd\xc0"),
+            (4, b"\xc0\x0c\x01\x02\xc0"),
+        ])],
+    ),
+];
+
 #[test]
 fn a_host_is_told_when_its_frame_has_been_sent(rt: HostRuntime) -> Result<(), Fail> {
-    let mut desk = Desk::new(rt.alloc(), Params::default())?;
-    desk.join(4, PortKind::Kiss)?;
-    desk.send_at_once()?;
-    desk.take(3, FIRST)?;
-    desk.take(4, PLAIN)?;
-    desk.take(4, SECOND)?;
-    desk.take(3, PASSED_OVER)?;
-    assert_equal(&rt, &desk.look().pieces.len(), &0);
-    desk.tick(100)?;
-    let told = desk.look().pieces;
-    assert_equal(&rt, &told.len(), &2);
-    let wants: [(u32, &[u8]); 2] = [
-        (3, b"\xc0\x0c\xdb\xdc\xdb\xdd\xc0"),
-        (4, b"\xc0\x0c\x01\x02\xc0"),
-    ];
-    for (piece, want) in told.iter().zip(&wants) {
-        assert_equal(&rt, &(piece.id, piece.octets.as_slice()), want);
-    }
-    Ok(())
+    plays(&rt, rt.alloc(), Made::Usual, &[TOLD])
 }
+
+const LEFT: &[Row] = &[
+    (Joins(4, PortKind::Kiss), &[]),
+    (SendsAtOnce, &[]),
+    (Gives(4, FIRST), &[]),
+    (Leaves(4), &[]),
+    (Joins(4, PortKind::Kiss), &[]),
+    (Ticks(100), &[Pieces(0)]),
+];
 
 #[test]
 fn a_host_that_has_left_is_told_nothing(rt: HostRuntime) -> Result<(), Fail> {
-    let mut desk = Desk::new(rt.alloc(), Params::default())?;
-    desk.join(4, PortKind::Kiss)?;
-    desk.send_at_once()?;
-    desk.take(4, FIRST)?;
-    desk.leave(4)?;
-    desk.join(4, PortKind::Kiss)?;
-    desk.tick(100)?;
-    assert_equal(&rt, &desk.look().pieces.len(), &0);
-    Ok(())
+    plays(&rt, rt.alloc(), Made::Usual, &[LEFT])
 }

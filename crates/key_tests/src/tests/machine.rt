@@ -3,9 +3,10 @@
 mod cases;
 mod script;
 
-use crate::{Command, OffWhy, Report, Why};
+use crate::tests::assertions::assert_equal;
 use cases::CASES;
-use script::{assert_equal, run};
+use keying::{Command, OffWhy, Report, Why};
+use script::run;
 use std::test::Fail;
 
 #[test]

@@ -1,8 +1,8 @@
 //! A script, and a run of it that writes down each answer.
 
-use crate::{Command, End, Ending, Keying, Next, Report, Try, Turn, Words};
+use crate::tests::assertions::assert_equal;
+use keying::{Command, End, Ending, Keying, Next, Report, Try, Turn, Words};
 use std::alloc::{AllocError, Global};
-use std::fmt::Debug;
 use std::process::Abort;
 use std::test::Fail;
 
@@ -30,11 +30,6 @@ pub(super) struct Case {
     /// Whether it begins on a line that got ready at 50 ms, by a connection at 0 ms.
     pub(super) ready: bool,
     pub(super) rows: &'static [Row],
-}
-
-/// Ends the test, with both values, unless they are equal.
-pub(super) fn assert_equal<R: Abort, T: PartialEq + Debug>(rt: &R, got: &T, wanted: &T) {
-    assert_eq!(*rt; *got, *wanted);
 }
 
 /// Runs a script, and compares each answer.

@@ -2,7 +2,7 @@
 
 use super::script::Case;
 use super::script::Step::{AfterTry, CommandFailed, Release, Ticks, Turn, WriteFault};
-use crate::{End, Try, Words};
+use keying::{End, Try, Words};
 
 /// The tail of a small buffer, and none.
 const SHORT: Words = Words {

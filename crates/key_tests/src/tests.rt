@@ -1,0 +1,3 @@
+mod assertions;
+mod line;
+mod machine;
