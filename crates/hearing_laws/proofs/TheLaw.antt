@@ -14,6 +14,7 @@ use Rattle.sensitive_receiver.proofs.SomeList.{some_list as some_list_of_all}
 use Rattle.tnc_ports.specs.declared.looping.LoopEnd.{LoopEnd}
 use Rattle.tnc_ports.specs.declared.looping.LoopEnd.TheVariants.{Done as LoopDone, Memory as LoopMemory}
 use Rattle.tnc_ports.specs.declared.looping.LoopEnd.TheVariants.{WriteFault as LoopFault}
+use Rattle.live_receiver.specs.declared.listening.Listening.TheVariants.{Bell202}
 use Rattle.tnc_ports.specs.declared.serve_words.ServeWords.{ServeWords}
 use Rattle.tnc_ports.specs.Sampled.{Live}
 use Rattle.tnc_ports.specs.SampledRun.{IsCutRun, IsLooped, IsRun, IsWhole, Outside}
@@ -68,28 +69,29 @@ merged_frames true x all received every clear =
 
 -- ---- each run
 
-module _ (words : ServeWords) (published : List ℤ) (answers : List (List Got)) (received : List Received)
-    (stand : LanesStandIn published answers) (no_gap : HaveNoGap words.sensitive answers)
-    (clear : AreClear words.sensitive published received) where
+module _ (words : ServeWords) (sensitive : Bool) (tones : words.listening ≡ Bell202 sensitive)
+    (published : List ℤ) (answers : List (List Got)) (received : List Received)
+    (stand : LanesStandIn published answers) (no_gap : HaveNoGap sensitive answers)
+    (clear : AreClear sensitive published received) where
   run_frames : (live : Live) (run : IsRun words live) (sound : List Got) → live.lanes ++ sound ∷ [] ≡ answers
       → candidate_frames (items_of_run words live run) ≡ frames_of (transmissions_of received)
   run_frames live run sound is =
-      let all = every_one words.sensitive published in
-      ap candidate_frames (run_hears words published all.0 all.1 live
-      (lanes_read published answers live.lanes sound is stand words.sensitive no_gap)
-      (lanes_end published answers live.lanes sound is stand words.sensitive no_gap) run)
-      ∙ merged_frames words.sensitive published all.0 received all.1 clear
+      let all = every_one sensitive published in
+      ap candidate_frames (run_hears words sensitive tones published all.0 all.1 live
+      (lanes_read published answers live.lanes sound is stand sensitive no_gap)
+      (lanes_end published answers live.lanes sound is stand sensitive no_gap) run)
+      ∙ merged_frames sensitive published all.0 received all.1 clear
 
   cut_frames : (live : Live) (run : IsCutRun words live) (sound : List Got) → live.lanes ++ sound ∷ [] ≡ answers
       → (rest : List (List ℕ))
       × (frames_of (transmissions_of received) ≡ candidate_frames (items_of_cut_run words live run) ++ rest)
   cut_frames live run sound is =
-      let all = every_one words.sensitive published in
-      let heard = cut_run_hears words published all.0 all.1 live
-      (lanes_read published answers live.lanes sound is stand words.sensitive no_gap)
-      (lanes_end published answers live.lanes sound is stand words.sensitive no_gap) run in (
+      let all = every_one sensitive published in
+      let heard = cut_run_hears words sensitive tones published all.0 all.1 live
+      (lanes_read published answers live.lanes sound is stand sensitive no_gap)
+      (lanes_end published answers live.lanes sound is stand sensitive no_gap) run in (
         candidate_frames heard.0,
-        sym (merged_frames words.sensitive published all.0 received all.1 clear)
+        sym (merged_frames sensitive published all.0 received all.1 clear)
             ∙ ap candidate_frames heard.1
             ∙ map-append (λ (item : Candidate). item.octets) (items_of_cut_run words live run) heard.0,
       )
@@ -101,20 +103,23 @@ module _ (words : ServeWords) (published : List ℤ) (answers : List (List Got))
 -- ---- the law
 
 pub hears_what_was_sent : HearsWhatWasSent
-hears_what_was_sent words end input left before after run received whole no_gap clear =
+hears_what_was_sent words sensitive end input left before after run received tones whole no_gap clear =
     by_end run.loop run.looped run.ends
   where
     by_end : (loop : LoopEnd) (looped : IsLooped words loop run.lanes run.open_ports after) → end ≡ end_of loop run.pump
         → candidate_frames (items_looped words loop run.lanes run.open_ports after looped)
         ≡ frames_of (transmissions_of received)
     by_end LoopDone looped ends =
-        whole_frames words run.published run.lanes received run.stand no_gap clear looped.0 run.open_ports after looped.1
+        whole_frames words sensitive tones run.published run.lanes received run.stand no_gap clear looped.0 run.open_ports
+        after looped.1
     by_end LoopFault looped ends =
-        whole_frames words run.published run.lanes received run.stand no_gap clear looped.0 run.open_ports after looped.1
+        whole_frames words sensitive tones run.published run.lanes received run.stand no_gap clear looped.0 run.open_ports
+        after looped.1
     by_end LoopMemory looped ends = absurd (whole ends)
 
 pub hears_nothing_else : HearsNothingElse
-hears_nothing_else words end input left before after run received no_gap clear = by_end run.loop run.looped
+hears_nothing_else words sensitive end input left before after run received tones no_gap clear =
+    by_end run.loop run.looped
   where
     all_of_them : (frames heard : List (List ℕ)) → heard ≡ frames → (rest : List (List ℕ)) × (frames ≡ heard ++ rest)
     all_of_them frames heard same = ([], sym same ∙ sym (append-nil heard))
@@ -125,12 +130,12 @@ hears_nothing_else words end input left before after run received no_gap clear =
         ≡ candidate_frames (items_looped words loop run.lanes run.open_ports after looped) ++ rest)
     by_end LoopDone looped = all_of_them (frames_of (transmissions_of received))
         (candidate_frames (items_looped words LoopDone run.lanes run.open_ports after looped))
-        (whole_frames words run.published run.lanes received run.stand no_gap clear looped.0 run.open_ports after
-        looped.1)
+        (whole_frames words sensitive tones run.published run.lanes received run.stand no_gap clear looped.0
+        run.open_ports after looped.1)
     by_end LoopFault looped = all_of_them (frames_of (transmissions_of received))
         (candidate_frames (items_looped words LoopFault run.lanes run.open_ports after looped))
-        (whole_frames words run.published run.lanes received run.stand no_gap clear looped.0 run.open_ports after
-        looped.1)
+        (whole_frames words sensitive tones run.published run.lanes received run.stand no_gap clear looped.0
+        run.open_ports after looped.1)
     by_end LoopMemory looped =
-        cut_frames words run.published run.lanes received run.stand no_gap clear looped.0 looped.1.run
+        cut_frames words sensitive tones run.published run.lanes received run.stand no_gap clear looped.0 looped.1.run
         (looped.0.sound ++ looped.1.more) looped.1.answered

@@ -17,6 +17,8 @@ use Rattle.slicer_bank.proofs.MergedLemmas.{between_between}
 use Rattle.ring_receiver.specs.HeardByAll.{AreDueBy, AreHeardBy, IsHeardBy, settled_position}
 use Rattle.ring_receiver.specs.Readers.{readers_wanted}
 use Rattle.ring_receiver.specs.Turns.{AreAnsweredMore}
+use Rattle.live_receiver.specs.declared.listening.Listening.TheVariants.{Bell202}
+use Rattle.live_receiver.specs.Listening.{AreDueBy as AreDueByListening, readers_wanted as readers_by}
 use Rattle.tnc_ports.specs.declared.serve_words.ServeWords.{ServeWords}
 use Rattle.tnc_ports.specs.Sampled.{AreTicked, HaveEnded, HearsAll, IsKeyTurn, IsTurn, LanesReadOn, Live, MakesAll, MakesTicks}
 use Rattle.tnc_ports.specs.SampledRun.{AreTurns}
@@ -29,15 +31,15 @@ use Rattle.hearing_laws.proofs.MergedParts.{AreAllOf, between_same, rising_merge
 -- ---- the answers of a turn
 
 -- so many readers go on from some answers to more, and these items are due
-pub record GoesOn (words : ServeWords) (ended : Bool) (before now : List (List Got)) (items : List Candidate)
+pub record GoesOn (sensitive : Bool) (ended : Bool) (before now : List (List Got)) (items : List Candidate)
     : Type 0 where
   pub reads : List (List Got)
-  pub count_before : length before ≡ readers_wanted words.sensitive
-  pub count_now : length now ≡ readers_wanted words.sensitive
-  pub each : (lane : ℕ) → lane < readers_wanted words.sensitive
+  pub count_before : length before ≡ readers_wanted sensitive
+  pub count_now : length now ≡ readers_wanted sensitive
+  pub each : (lane : ℕ) → lane < readers_wanted sensitive
       → lane_of now lane ≡ lane_of before lane ++ lane_of reads lane
   pub meets_end : ended ≡ true → HaveEnded now
-  pub due : AreDueBy words.sensitive ended before now items
+  pub due : AreDueBy sensitive ended before now items
 
 -- a reader that met the end in a turn has met it
 all_end : (count : ℕ) (before reads now : List (List Got)) → AreAnsweredMore count before reads now → All MeetsEnd reads
@@ -49,27 +51,31 @@ all_end count before reads now h all = λ lane d within.
     (met.0, Contains-append_right (lane_of before lane) (lane_of reads lane) (End met.0) met.1) in
     subst MeetsEnd (sym (get_or_default now lane d [] within ∙ h.each lane wanted)) joined
 
-pub reading_goes_on : (words : ServeWords) (ended : Bool) (before read : Live) (items : List Candidate)
-    → LanesReadOn words ended before read → AreDueBy words.sensitive ended before.lanes read.lanes items
-    → GoesOn words ended before.lanes read.lanes items
-reading_goes_on words ended before read items reads due =
+pub reading_goes_on : (words : ServeWords) (sensitive : Bool) → words.listening ≡ Bell202 sensitive
+    → (ended : Bool) (before read : Live) (items : List Candidate)
+    → LanesReadOn words ended before read → AreDueByListening words.listening ended before.lanes read.lanes items
+    → GoesOn sensitive ended before.lanes read.lanes items
+reading_goes_on words sensitive tones ended before read items reads due =
     let same : reads.lanes ≡ read.lanes = sym (ap (λ (live : Live). live.lanes) reads.is) in
     let longer = reads.turn.longer in
+    let count : readers_by words.listening ≡ readers_wanted sensitive = ap readers_by tones in
     record {
       reads = reads.turn.reads;
-      count_before = longer.count_before;
-      count_now = subst (λ lanes. length lanes ≡ readers_wanted words.sensitive) same longer.count_now;
-      each = λ lane within. ap (λ lanes. lane_of lanes lane) (sym same) ∙ longer.each lane within;
-      meets_end = λ is. subst HaveEnded same (all_end (readers_wanted words.sensitive) before.lanes reads.turn.reads
+      count_before = longer.count_before ∙ count;
+      count_now = subst (λ lanes. length lanes ≡ readers_wanted sensitive) same (longer.count_now ∙ count);
+      each = λ lane within. ap (λ lanes. lane_of lanes lane) (sym same)
+          ∙ longer.each lane (subst (λ n. lane < n) (sym count) within);
+      meets_end = λ is. subst HaveEnded same (all_end (readers_by words.listening) before.lanes reads.turn.reads
           reads.lanes longer (reads.turn.over.0 is));
-      due = due;
+      due = subst (λ listening. AreDueByListening listening ended before.lanes read.lanes items) tones due;
     }
 
-pub hearing_goes_on : (words : ServeWords) (ended : Bool) (before after : Live) (h : HearsAll words ended before after)
-    → GoesOn words ended before.lanes after.lanes h.items
-hearing_goes_on words ended before after h =
-    subst (λ lanes. GoesOn words ended before.lanes lanes h.items) (sym (ap (λ (live : Live). live.lanes) h.is))
-    (reading_goes_on words ended before h.read h.items h.reads h.due)
+pub hearing_goes_on : (words : ServeWords) (sensitive : Bool) → words.listening ≡ Bell202 sensitive
+    → (ended : Bool) (before after : Live) (h : HearsAll words ended before after)
+    → GoesOn sensitive ended before.lanes after.lanes h.items
+hearing_goes_on words sensitive tones ended before after h =
+    subst (λ lanes. GoesOn sensitive ended before.lanes lanes h.items) (sym (ap (λ (live : Live). live.lanes) h.is))
+    (reading_goes_on words sensitive tones ended before h.read h.items h.reads h.due)
 
 ticks_leave : (words : ServeWords) (busy : Bool) (count : ℕ) (before after : Live)
     → AreTicked words busy count before after → after.lanes ≡ before.lanes
@@ -78,39 +84,42 @@ ticks_leave words busy (suc count) before after ticked =
     ticks_leave words busy count ticked.0 after ticked.2 ∙ ap (λ (live : Live). live.lanes) ticked.1.is
 
 -- ticks, hosts and the key leave the answers as they are
-pub ticking_goes_on : (words : ServeWords) (ended : Bool) (before heard keyed after : Live) (count : ℕ)
+pub ticking_goes_on : (words : ServeWords) (sensitive : Bool) → words.listening ≡ Bell202 sensitive
+    → (ended : Bool) (before heard keyed after : Live) (count : ℕ)
     (h : HearsAll words ended before heard) → IsKeyTurn words heard keyed → MakesTicks words count keyed after
-    → GoesOn words ended before.lanes after.lanes h.items
-ticking_goes_on words ended before heard keyed after count h keys makes =
-    subst (λ lanes. GoesOn words ended before.lanes lanes h.items)
+    → GoesOn sensitive ended before.lanes after.lanes h.items
+ticking_goes_on words sensitive tones ended before heard keyed after count h keys makes =
+    subst (λ lanes. GoesOn sensitive ended before.lanes lanes h.items)
     (sym (ticks_leave words makes.busy count keyed after makes.made ∙ ap (λ (live : Live). live.lanes) keys.is))
-    (hearing_goes_on words ended before heard h)
+    (hearing_goes_on words sensitive tones ended before heard h)
 
-pub making_goes_on : (words : ServeWords) (ended : Bool) (before after : Live) (h : MakesAll words ended before after)
-    → GoesOn words ended before.lanes after.lanes (items_of_making words ended before after h)
-making_goes_on words ended before after h =
-    ticking_goes_on words ended before h.heard h.keyed after h.count h.hears h.keys h.makes
+pub making_goes_on : (words : ServeWords) (sensitive : Bool) → words.listening ≡ Bell202 sensitive
+    → (ended : Bool) (before after : Live) (h : MakesAll words ended before after)
+    → GoesOn sensitive ended before.lanes after.lanes (items_of_making words ended before after h)
+making_goes_on words sensitive tones ended before after h =
+    ticking_goes_on words sensitive tones ended before h.heard h.keyed after h.count h.hears h.keys h.makes
 
-pub turn_goes_on : (words : ServeWords) (ended : Bool) (before after : Live) (turn : IsTurn words ended before after)
-    → GoesOn words ended before.lanes after.lanes (items_of_turn words ended before after turn)
-turn_goes_on words ended before after turn =
-    subst (λ lanes. GoesOn words ended before.lanes lanes turn.makes.hears.items)
+pub turn_goes_on : (words : ServeWords) (sensitive : Bool) → words.listening ≡ Bell202 sensitive
+    → (ended : Bool) (before after : Live) (turn : IsTurn words ended before after)
+    → GoesOn sensitive ended before.lanes after.lanes (items_of_turn words ended before after turn)
+turn_goes_on words sensitive tones ended before after turn =
+    subst (λ lanes. GoesOn sensitive ended before.lanes lanes turn.makes.hears.items)
     (sym (ap (λ (live : Live). live.lanes) turn.serves.is))
-    (making_goes_on words ended before turn.made turn.makes)
+    (making_goes_on words sensitive tones ended before turn.made turn.makes)
 
 -- what the readers had read before
-pub read_before : (words : ServeWords) (ended : Bool) (x : List ℤ) (before now : List (List Got))
-    (items : List Candidate) → GoesOn words ended before now items → HaveRead words.sensitive x now
-    → HaveRead words.sensitive x before
-read_before words ended x before now items on read lane within =
+pub read_before : (sensitive ended : Bool) (x : List ℤ) (before now : List (List Got))
+    (items : List Candidate) → GoesOn sensitive ended before now items → HaveRead sensitive x now
+    → HaveRead sensitive x before
+read_before sensitive ended x before now items on read lane within =
     has_read_first x (lane_of before lane) (lane_of on.reads lane) (lane_of now lane) (on.each lane within)
     (read lane within)
 
-pub rises_in_turn : (words : ServeWords) (ended : Bool) (x : List ℤ) (before now : List (List Got))
-    (items : List Candidate) → GoesOn words ended before now items → HaveRead words.sensitive x now
-    → settled_position words.sensitive before ≤ settled_position words.sensitive now
-rises_in_turn words ended x before now items on read =
-    settled_rises words.sensitive before now on.count_before on.count_now (λ lane within.
+pub rises_in_turn : (sensitive ended : Bool) (x : List ℤ) (before now : List (List Got))
+    (items : List Candidate) → GoesOn sensitive ended before now items → HaveRead sensitive x now
+    → settled_position sensitive before ≤ settled_position sensitive now
+rises_in_turn sensitive ended x before now items on read =
+    settled_rises sensitive before now on.count_before on.count_now (λ lane within.
     positions_rise x (lane_of before lane) (lane_of on.reads lane) (lane_of now lane) (on.each lane within)
     (read lane within))
 
@@ -127,12 +136,12 @@ all_heard_by sensitive x lanes items read are = record {
 -- ---- all turns
 
 -- from one position to another the items are those of all that is merged
-pub record HearsPart (words : ServeWords) (x : List ℤ) (all : List Candidate) (before after : Live)
+pub record HearsPart (sensitive : Bool) (x : List ℤ) (all : List Candidate) (before after : Live)
     (items : List Candidate) : Type 0 where
-  pub read : HaveRead words.sensitive x before.lanes
-  pub rises : settled_position words.sensitive before.lanes ≤ settled_position words.sensitive after.lanes
-  pub is : items ≡ between (settled_position words.sensitive before.lanes)
-      (settled_position words.sensitive after.lanes) (merged all)
+  pub read : HaveRead sensitive x before.lanes
+  pub rises : settled_position sensitive before.lanes ≤ settled_position sensitive after.lanes
+  pub is : items ≡ between (settled_position sensitive before.lanes)
+      (settled_position sensitive after.lanes) (merged all)
 
 -- from a position to itself there is nothing
 nothing_between : (position : ℕ) (items : List Candidate) → IsNonDecreasingBy (λ item. item.end) items
@@ -141,47 +150,48 @@ nothing_between position items rises =
     sym (append_cancel_left (below position items) (between position position items) []
     (below_between position position items (le_refl position) rises ∙ sym (append-nil (below position items))))
 
-module _ (words : ServeWords) (x : List ℤ) (all : List Candidate) (every : AreAllOf (IsHeardIf words.sensitive x) all)
+module _ (words : ServeWords) (sensitive : Bool) (tones : words.listening ≡ Bell202 sensitive)
+    (x : List ℤ) (all : List Candidate) (every : AreAllOf (IsHeardIf sensitive x) all)
   where
     -- what is due of a turn in which the ring has not ended
-    pub due_between : (before now : List (List Got)) (items : List Candidate) → GoesOn words false before now items
-        → HaveRead words.sensitive x now
+    pub due_between : (before now : List (List Got)) (items : List Candidate) → GoesOn sensitive false before now items
+        → HaveRead sensitive x now
         → items
-        ≡ between (settled_position words.sensitive before) (settled_position words.sensitive now) (merged all)
+        ≡ between (settled_position sensitive before) (settled_position sensitive now) (merged all)
     due_between before now items on read =
-        on.due.is ∙ between_same (IsHeardIf words.sensitive x) (IsHeardBy words.sensitive now) on.due.candidates all
-        (all_heard_by words.sensitive x now on.due.candidates read on.due.are) every
-        (λ item h. hears words.sensitive x now item read h)
-        (settled_position words.sensitive before) (settled_position words.sensitive now)
-        (rises_in_turn words false x before now items on read)
-        (λ item h early. heard words.sensitive x now item read
-        (settled_within words.sensitive x now item on.count_now early) h)
+        on.due.is ∙ between_same (IsHeardIf sensitive x) (IsHeardBy sensitive now) on.due.candidates all
+        (all_heard_by sensitive x now on.due.candidates read on.due.are) every
+        (λ item h. hears sensitive x now item read h)
+        (settled_position sensitive before) (settled_position sensitive now)
+        (rises_in_turn sensitive false x before now items on read)
+        (λ item h early. heard sensitive x now item read
+        (settled_within sensitive x now item on.count_now early) h)
 
-    turn_hears : (before after : Live) (turn : IsTurn words false before after) → HaveRead words.sensitive x after.lanes
-        → HearsPart words x all before after (items_of_turn words false before after turn)
+    turn_hears : (before after : Live) (turn : IsTurn words false before after) → HaveRead sensitive x after.lanes
+        → HearsPart sensitive x all before after (items_of_turn words false before after turn)
     turn_hears before after turn read =
-        let on = turn_goes_on words false before after turn in
+        let on = turn_goes_on words sensitive tones false before after turn in
         let items : List Candidate = items_of_turn words false before after turn in
         record {
-          read = read_before words false x before.lanes after.lanes items on read;
-          rises = rises_in_turn words false x before.lanes after.lanes items on read;
+          read = read_before sensitive false x before.lanes after.lanes items on read;
+          rises = rises_in_turn sensitive false x before.lanes after.lanes items on read;
           is = due_between before.lanes after.lanes items on read;
         }
 
     pub turns_hear : (count : ℕ) (before after : Live) (turns : AreTurns words count before after)
-        → HaveRead words.sensitive x after.lanes
-        → HearsPart words x all before after (items_of_turns words count before after turns)
+        → HaveRead sensitive x after.lanes
+        → HearsPart sensitive x all before after (items_of_turns words count before after turns)
     turns_hear zero before after turns read =
         let same : before.lanes ≡ after.lanes = ap (λ (live : Live). live.lanes) (sym turns) in
         record {
-          read = subst (HaveRead words.sensitive x) (sym same) read;
-          rises = subst (λ lanes. settled_position words.sensitive before.lanes
-              ≤ settled_position words.sensitive lanes) same
-              (le_refl (settled_position words.sensitive before.lanes));
-          is = subst (λ lanes. [] ≡ between (settled_position words.sensitive before.lanes)
-              (settled_position words.sensitive lanes) (merged all)) same
-              (nothing_between (settled_position words.sensitive before.lanes) (merged all)
-              (rising_merged (IsHeardIf words.sensitive x) all every));
+          read = subst (HaveRead sensitive x) (sym same) read;
+          rises = subst (λ lanes. settled_position sensitive before.lanes
+              ≤ settled_position sensitive lanes) same
+              (le_refl (settled_position sensitive before.lanes));
+          is = subst (λ lanes. [] ≡ between (settled_position sensitive before.lanes)
+              (settled_position sensitive lanes) (merged all)) same
+              (nothing_between (settled_position sensitive before.lanes) (merged all)
+              (rising_merged (IsHeardIf sensitive x) all every));
         }
     turns_hear (suc count) before after turns read =
         let rest = turns_hear count turns.0 after turns.2 read in
@@ -192,9 +202,9 @@ module _ (words : ServeWords) (x : List ℤ) (all : List Candidate) (every : Are
           read = first.read;
           rises = omega arith;
           is = ap (λ items. items ++ items_of_turns words count turns.0 after turns.2) first.is
-              ∙ ap (λ items. between (settled_position words.sensitive before.lanes)
-              (settled_position words.sensitive turns.0.lanes) (merged all) ++ items) rest.is
-              ∙ between_between (settled_position words.sensitive before.lanes)
-              (settled_position words.sensitive turns.0.lanes) (settled_position words.sensitive after.lanes)
-              (merged all) first.rises rest.rises (rising_merged (IsHeardIf words.sensitive x) all every);
+              ∙ ap (λ items. between (settled_position sensitive before.lanes)
+              (settled_position sensitive turns.0.lanes) (merged all) ++ items) rest.is
+              ∙ between_between (settled_position sensitive before.lanes)
+              (settled_position sensitive turns.0.lanes) (settled_position sensitive after.lanes)
+              (merged all) first.rises rest.rises (rising_merged (IsHeardIf sensitive x) all every);
         }

@@ -1,8 +1,9 @@
--- The law of what a live station hears that reads its input without a gap.
+-- The law of what a live station hears that listens for Bell 202 and reads its input without a gap.
 use Rattle.std.specs.Prelude.{◌≡◌, ◌≢◌, ℕ, Bool, List, [], ◌++◌, take}
 use Rattle.sample_ring.specs.declared.got.Got.{Got}
 use Rattle.slicer_bank.specs.RingTurns.{gaps_from}
 use Rattle.ring_receiver.specs.Readers.{readers_wanted}
+use Rattle.live_receiver.specs.declared.listening.Listening.TheVariants.{Bell202}
 use Rattle.clean_signal.specs.GoodTransmission.{frames_of}
 use Rattle.clean_signal.specs.NearSignal.{Received, transmissions_of}
 use Rattle.frame_merge.specs.Merged.{candidate_frames}
@@ -31,15 +32,17 @@ frames_heard words end input left before after run =
 -- In a run whose lanes meet no gap, and that memory does not cut short, the station hears exactly the frames of a signal
 -- near the published samples: each once, whole and in order.
 abbrev pub HearsWhatWasSent : Type 0
-HearsWhatWasSent = (words : ServeWords) (end : ServeEnd) (input left : InputSide) (before after : Outside)
-    (run : HasServed words end input left before after) (received : List Received)
-    → end ≢ Memory → HaveNoGap words.sensitive run.lanes → AreClear words.sensitive run.published received
+HearsWhatWasSent = (words : ServeWords) (sensitive : Bool) (end : ServeEnd) (input left : InputSide)
+    (before after : Outside) (run : HasServed words end input left before after) (received : List Received)
+    → words.listening ≡ Bell202 sensitive → end ≢ Memory → HaveNoGap sensitive run.lanes
+    → AreClear sensitive run.published received
     → frames_heard words end input left before after run ≡ frames_of (transmissions_of received)
 
 -- However such a run ends, the station hears the first of them.
 abbrev pub HearsNothingElse : Type 0
-HearsNothingElse = (words : ServeWords) (end : ServeEnd) (input left : InputSide) (before after : Outside)
-    (run : HasServed words end input left before after) (received : List Received)
-    → HaveNoGap words.sensitive run.lanes → AreClear words.sensitive run.published received
+HearsNothingElse = (words : ServeWords) (sensitive : Bool) (end : ServeEnd) (input left : InputSide)
+    (before after : Outside) (run : HasServed words end input left before after) (received : List Received)
+    → words.listening ≡ Bell202 sensitive → HaveNoGap sensitive run.lanes
+    → AreClear sensitive run.published received
     → (rest : List (List ℕ))
     × (frames_of (transmissions_of received) ≡ frames_heard words end input left before after run ++ rest)

@@ -72,7 +72,7 @@ impl MemPorts {
     /// Sockets that give each event of the script at the poll of its number, counted from 0. Each send takes at most
     /// `takes` octets, and the calls of `listen`, `dial`, `poll` and `send` whose numbers, counted together from 0, are
     /// in `failing` fail.
-    pub(crate) fn new(
+    pub fn new(
         alloc: Global,
         script: Vec<(u64, HostEvent)>,
         failing: Vec<u64>,

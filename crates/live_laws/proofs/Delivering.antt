@@ -1,6 +1,6 @@
 -- What a step says to one connection, piece by piece: what is appended for it is a first part of the pieces for it, all
 -- of them if it is there afterwards.
-use Rattle.tnc_ports.proofs.Common.{◌≡◌, ◌⊎◌, ℕ, ◌==◌, ◌||◌, ◌&&◌, Bool, true, false, not, cond, List, [], ◌∷◌, ◌++◌}
+use Rattle.tnc_ports.proofs.Common.{◌≡◌, ◌⊎◌, ℕ, ◌==◌, ◌||◌, Bool, true, false, not, cond, List, [], ◌∷◌, ◌++◌}
 use Rattle.tnc_ports.proofs.Common.{Option, Some, None, refl, sym, ap, ◌∙◌, subst, inl, inr, list_any, append-nil}
 use Rattle.tnc_ports.proofs.Common.{append_assoc, eq-eqb, ne_eqb, cases_eq, false≢true, true≢false}
 use Rattle.tnc_ports.proofs.Common.{or_parts, Out, Piece, Hosts, without, closing, cutting}
@@ -9,6 +9,7 @@ use Rattle.tnc_ports.proofs.Common.{closing_one, closing_all, delivering, line_o
 use Rattle.tnc_ports.proofs.Common.{with_piece, length, most_octets, octets_of, arith, ◌+◌, ◌≤◌}
 use Rattle.host_ports.specs.declared.line.Line.{Line}
 use Rattle.std.specs.List.{AllByRecursion as Each}
+use Rattle.std.specs.Prelude.{◌&&◌}
 use Rattle.std.proofs.lemmas.Bool.{leb-true}
 use Rattle.host_ports.proofs.LineLemmas.{found_id, there_line, waiting_names}
 use Rattle.host_ports.proofs.NamedLemmas.{ids_without, lines_without, not_itself}

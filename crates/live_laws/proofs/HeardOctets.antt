@@ -6,7 +6,12 @@ use Rattle.std.specs.List.{AllByRecursion as Each}
 use Rattle.std.proofs.lemmas.List.Elements.{recursion_from_All}
 use Rattle.link_world.proofs.law.Each.{each_weaker}
 use Rattle.frame_merge.specs.Merged.{merged, merged_after, repeats}
-use Rattle.ring_receiver.specs.HeardByAll.{AreDueBy, IsHeardBy}
+use Rattle.slicer_bank.specs.HeardOnRing.{lane_of}
+use Rattle.ring_receiver.specs.HeardByAll.{AreDueBy as AreDueByTones, IsHeardBy}
+use Rattle.live_receiver.specs.declared.listening.Listening.{Listening}
+use Rattle.live_receiver.specs.declared.listening.Listening.TheVariants.{Bell202, ShortWave}
+use Rattle.live_receiver.specs.Listening.{AreDueBy}
+use Rattle.live_receiver.specs.HeardOnShortWave.{AreDue, AreHeard, IsHeardIn}
 
 abbrev pub HasFrame : Candidate → Type 0
 HasFrame item = All (λ octet. octet < 256) item.octets
@@ -43,16 +48,40 @@ filter_frames p (item ∷ items) h = go (p item) (filter_frames p items h.1)
     go true rest = (h.0, rest)
     go false rest = rest
 
-pub due_frames : (sensitive ended : Bool) (before now : List (List Got)) (items : List Candidate)
-    → AreDueBy sensitive ended before now items → Each HasFrame items
-due_frames sensitive false before now items due =
+due_of_tones : (sensitive ended : Bool) (before now : List (List Got)) (items : List Candidate)
+    → AreDueByTones sensitive ended before now items → Each HasFrame items
+due_of_tones sensitive false before now items due =
     subst (Each HasFrame) (sym due.is)
     (filter_frames _ (merged due.candidates)
     (merged_frames [] due.candidates (all_frames sensitive now due.candidates due.are.each)))
-due_frames sensitive true before now items due =
+due_of_tones sensitive true before now items due =
     subst (Each HasFrame) (sym due.is)
     (filter_frames _ (merged due.candidates)
     (merged_frames [] due.candidates (all_frames sensitive now due.candidates due.are.each)))
+
+-- on short wave
+wave_frame : (answers : List Got) (item : Candidate) → IsHeardIn answers item → HasFrame item
+wave_frame answers item h = subst (λ (i : Candidate). HasFrame i) (sym h.item_is) h.candidate.ends.frame.2.octets_fit
+
+wave_frames : (answers : List Got) (items : List Candidate) → AreHeard answers items
+    → Each HasFrame (merged items)
+wave_frames answers items are =
+    merged_frames [] items (each_weaker (IsHeardIn answers) HasFrame (wave_frame answers) items
+    (recursion_from_All (IsHeardIn answers) items are.each))
+
+due_of_wave : (ended : Bool) (before now : List Got) (items : List Candidate) → AreDue ended before now items
+    → Each HasFrame items
+due_of_wave false before now items due =
+    subst (Each HasFrame) (sym due.is)
+    (filter_frames _ (merged due.candidates) (wave_frames now due.candidates due.are))
+due_of_wave true before now items due =
+    subst (Each HasFrame) (sym due.is)
+    (filter_frames _ (merged due.candidates) (wave_frames now due.candidates due.are))
+
+pub due_frames : (listening : Listening) (ended : Bool) (before now : List (List Got)) (items : List Candidate)
+    → AreDueBy listening ended before now items → Each HasFrame items
+due_frames (Bell202 sensitive) ended before now items due = due_of_tones sensitive ended before now items due
+due_frames ShortWave ended before now items due = due_of_wave ended (lane_of before 0) (lane_of now 0) items due
 
 pub each_first : (P : Candidate → Type 0) (first second : List Candidate) → Each P (first ++ second) → Each P first
 each_first P [] second h = tt

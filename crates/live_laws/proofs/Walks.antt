@@ -251,7 +251,7 @@ hearing_walks words ended before after h =
     subst (λ (live : Live). Walks before.hosts live.hosts steps) (sym h.is)
     (lined_walks before.hosts h.read.hosts h.hosts steps (read_lined words ended before h.read h.reads)
     (frames_walk words.monitor h.items h.read.hosts h.hosts h.hears
-    (due_frames words.sensitive ended before.lanes h.read.lanes h.items h.due)))
+    (due_frames words.listening ended before.lanes h.read.lanes h.items h.due)))
 
 key_turn_lined : (words : ServeWords) (before after : Live) → IsKeyTurn words before after
     → AreLined before.hosts after.hosts
@@ -446,7 +446,7 @@ cut_walks words before after (inr (inl h)) =
     (lined_walks before.hosts h.read.hosts h.hosts steps (read_lined words h.ended before h.read h.reads)
     (frames_walk words.monitor h.items h.read.hosts h.hosts h.hears
     (each_first HasFrame h.items h.others
-    (due_frames words.sensitive h.ended before.lanes h.read.lanes (h.items ++ h.others) h.due))))
+    (due_frames words.listening h.ended before.lanes h.read.lanes (h.items ++ h.others) h.due))))
 cut_walks words before after (inr (inr (inl h))) =
     making_walk words h.ended h.makes.busy h.count before h.heard h.keyed after h.hears h.keys h.makes.made
 cut_walks words before after (inr (inr (inr h))) = making_walks words h.0 before after h.1

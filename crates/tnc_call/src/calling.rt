@@ -11,10 +11,10 @@ use crate::call_end::CallEnd;
 use crate::call_words::CallWords;
 use crate::reading::read_text;
 use crate::talk::Talk;
+use host_ports::Ports;
 use std::alloc::Global;
 use std::net::Net;
 use tnc_base::{Sink, Source};
-use host_ports::Ports;
 
 /// Makes one call. The input is read to its end, and then the port is dialed. Each turn offers the host what waits for
 /// it and polls once, for at most 100 ms, and prints what comes of the remote station as it comes. The connection to

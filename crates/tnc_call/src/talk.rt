@@ -19,11 +19,11 @@ use crate::call_end::CallEnd;
 use crate::call_words::CallWords;
 use crate::printing::print;
 use agwpe_client::{Client, ClientFault, ClientOut};
+use host_ports::{PollFault, Ports};
 use station::HostEvent;
 use std::alloc::Global;
 use std::net::Net;
 use tnc_base::{Failed, Octets, OutOfMemory, Sink};
-use host_ports::{PollFault, Ports};
 
 /// How long a poll waits, in milliseconds.
 const WAIT_MS: u32 = 100;

@@ -3,14 +3,20 @@ use Rattle.tnc_main.proofs.Common.{◌≡◌, ℕ, ◌≤◌, List, Option, Some
 use Rattle.tnc_main.proofs.Common.{BenchOptions, Command, Bench, Loop, Serve, Record, Call, LoopWords, RecordOptions}
 use Rattle.tnc_main.proofs.Common.{Asks, one_command, Reads, ReadsNothing, CanRunLive, command_of, WritesAtEnd, Job}
 use Rattle.tnc_main.proofs.Common.{CanRun}
+use Rattle.std.proofs.Common.{Bool, true, false}
 use Rattle.link_world.proofs.WindowLemmas.{none_refused}
 use Rattle.tnc_words.specs.Commands.{IsBench, IsLoop}
 use Rattle.slicer_bank.specs.Detection.{CanBeAsked}
+use Rattle.live_receiver.specs.declared.listening.Listening.TheVariants.{ShortWave}
+use Rattle.live_receiver.specs.Listening.{CanBeAskedBy}
 use Rattle.tnc_words.specs.Carriers.{HasDcd}
 use Rattle.tnc_words.specs.Numbers.{HasNumber}
+use Rattle.tnc_words.specs.StationModems.{IsStationModem}
+use Rattle.tnc_words.specs.declared.command.StationModem.{StationModem}
+use Rattle.tnc_words.specs.declared.command.StationModem.TheVariants.{Bell202 as OfBell202, ShortWave as OfShortWave}
 use Rattle.tnc_words.specs.declared.command.Dcd.{Dcd}
 use Rattle.tnc_words.specs.declared.command.Dcd.TheVariants.{Tones as ByTones, Flags as ByFlags}
-use Rattle.tnc_main.specs.Serving.{detection_of}
+use Rattle.tnc_main.specs.Serving.{detection_of, listening_of}
 use Rattle.tnc_main.specs.declared.live_command.LiveCommand.{LiveCommand}
 use Rattle.tnc_main.specs.declared.live_command.LiveCommand.TheVariants.{Serve as LiveServe, Record as LiveRecord}
 use Rattle.tnc_main.specs.declared.live_command.LiveCommand.TheVariants.{Call as LiveCall}
@@ -106,15 +112,30 @@ flags_are_no_tones : (count : ℕ) → ByFlags count ≡ ByTones → ⊥
 flags_are_no_tones count is = cc is
 
 -- what the words say of the channel can be asked for
-can_be_asked : (text : Option (List ℕ)) (dcd : Dcd) → HasDcd text dcd → CanBeAsked (detection_of dcd)
-can_be_asked text ByTones h = tt
-can_be_asked None (ByFlags count) h = absurd (flags_are_no_tones count h)
-can_be_asked (Some text) (ByFlags count) h = (h.1, h.2)
+asked_plainly : (text : Option (List ℕ)) (dcd : Dcd) → HasDcd false text dcd → CanBeAsked (detection_of dcd)
+asked_plainly text ByTones h = tt
+asked_plainly None (ByFlags count) h = absurd (flags_are_no_tones count h)
+asked_plainly (Some text) (ByFlags count) h = (h.1, h.2)
+
+asked_on_wave : (text : Option (List ℕ)) (dcd : Dcd) → HasDcd true text dcd → CanBeAskedBy ShortWave (detection_of dcd)
+asked_on_wave None dcd h =
+    subst (λ d. CanBeAskedBy ShortWave (detection_of d)) (sym h) (omega arith, omega arith)
+asked_on_wave (Some text) ByTones h = absurd h
+asked_on_wave (Some text) (ByFlags count) h = (let least = h.1 in omega arith, h.2)
+
+can_be_asked : (hf sensitive : Bool) (text : Option (List ℕ)) (dcd : Dcd) (modem : StationModem) → HasDcd hf text dcd
+    → IsStationModem hf sensitive modem → CanBeAskedBy (listening_of modem) (detection_of dcd)
+can_be_asked hf sensitive text dcd (OfBell202 more) h is =
+    asked_plainly text dcd (subst (λ b. HasDcd b text dcd) is.0 h)
+can_be_asked hf sensitive text dcd OfShortWave h is = asked_on_wave text dcd (subst (λ b. HasDcd b text dcd) is.0 h)
 
 -- the options of a live command that words ask for are within their ranges
 pub can_run_live : (words : List (List ℕ)) (live : LiveCommand) → Asks words (command_of live) → CanRunLive live
-can_run_live words (LiveServe options) h =
-    (λ window. none_refused options.params window h.options.params.fit, can_be_asked _ options.dcd h.options.dcd)
+can_run_live words (LiveServe options) h = (
+  λ window. none_refused options.params window h.options.params.fit,
+  can_be_asked _ _ _ options.dcd options.modem h.options.dcd
+      h.options.modem,
+)
 can_run_live words (LiveRecord options) h =
     within _ 576000 1 17280000 options.keep (omega arith) (omega arith) h.options.keep
 can_run_live words (LiveCall options) h =

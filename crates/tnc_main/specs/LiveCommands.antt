@@ -6,8 +6,8 @@ use Rattle.tnc_words.specs.declared.command.Command.TheVariants.{Serve, Record, 
 use Rattle.tnc_words.specs.declared.command.CallOptions.{CallOptions}
 use Rattle.tnc_words.specs.declared.command.ServeOptions.{ServeOptions}
 use Rattle.tnc_words.specs.Commands.{Asks, IsCall, IsServe}
-use Rattle.slicer_bank.specs.Detection.{CanBeAsked}
-use Rattle.tnc_main.specs.Serving.{detection_of}
+use Rattle.live_receiver.specs.Listening.{CanBeAskedBy}
+use Rattle.tnc_main.specs.Serving.{detection_of, listening_of}
 use Rattle.tnc_main.specs.declared.live_command.LiveCommand.{LiveCommand}
 use Rattle.tnc_main.specs.declared.live_command.LiveCommand.TheVariants.{Serve as LiveServe, Record as LiveRecord}
 use Rattle.tnc_main.specs.declared.live_command.LiveCommand.TheVariants.{Call as LiveCall}
@@ -21,7 +21,8 @@ command_of (LiveCall options) = Call options
 -- the options are within their ranges
 abbrev pub CanRunLive : LiveCommand → Type 0
 CanRunLive (LiveServe options) =
-    ((window : ℕ) → ¬ IsRefusedWindow options.params window) × CanBeAsked (detection_of options.dcd)
+    ((window : ℕ) → ¬ IsRefusedWindow options.params window)
+    × CanBeAskedBy (listening_of options.modem) (detection_of options.dcd)
 CanRunLive (LiveRecord options) = (1 ≤ options.keep) × (options.keep ≤ 17280000)
 CanRunLive (LiveCall options) = (options.expect ≤ 1000000) × (1 ≤ options.polls) × (options.polls ≤ 1000000)
 

@@ -4,12 +4,18 @@ use Rattle.tnc_base.specs.Faults.{HasRisen}
 use Rattle.tnc_base.specs.Streams.{WrotePart}
 use Rattle.slicer_bank.specs.declared.detection.Detection.{Detection}
 use Rattle.slicer_bank.specs.declared.detection.Detection.TheVariants.{Tones, Flags}
+use Rattle.channel_access.specs.declared.modem.Modem.{Modem}
+use Rattle.channel_access.specs.declared.modem.Modem.TheVariants.{Bell202 as SendsBell202, ShortWave as SendsShortWave}
+use Rattle.live_receiver.specs.declared.listening.Listening.{Listening}
+use Rattle.live_receiver.specs.declared.listening.Listening.TheVariants.{Bell202, ShortWave}
 use Rattle.channel_access.specs.declared.parameters.Parameters.{Parameters}
 use Rattle.tnc_words.specs.declared.command.ChannelOptions.{ChannelOptions}
 use Rattle.tnc_words.specs.declared.command.Dcd.{Dcd}
 use Rattle.tnc_words.specs.declared.command.Dcd.TheVariants.{Tones as ByTones, Flags as ByFlags}
 use Rattle.tnc_words.specs.declared.command.PttOptions.{PttOptions}
 use Rattle.tnc_words.specs.declared.command.ServeOptions.{ServeOptions}
+use Rattle.tnc_words.specs.declared.command.StationModem.{StationModem}
+use Rattle.tnc_words.specs.declared.command.StationModem.TheVariants.{Bell202 as OfBell202, ShortWave as OfShortWave}
 use Rattle.tnc_forms.specs.declared.fault.InputFault.TheVariants.{TooLong as InputTooLong}
 use Rattle.tnc_ports.specs.declared.serve_words.KeyWords.{KeyWords}
 use Rattle.tnc_ports.specs.declared.serve_words.ServeWords.{ServeWords}
@@ -28,6 +34,15 @@ use Rattle.tnc_main.specs.Report.{input_line, no_port_line}
 abbrev pub detection_of : Dcd → Detection
 detection_of ByTones = Tones
 detection_of (ByFlags count) = Flags count
+
+-- how a station of a modem listens, and by what it sends
+abbrev pub listening_of : StationModem → Listening
+listening_of (OfBell202 sensitive) = Bell202 sensitive
+listening_of OfShortWave = ShortWave
+
+abbrev pub sending_of : StationModem → Modem
+sending_of (OfBell202 sensitive) = SendsBell202
+sending_of OfShortWave = SendsShortWave
 
 -- how the transmitter is keyed
 abbrev pub key_of : PttOptions → KeyWords
@@ -48,13 +63,15 @@ channel_of channel = record {
   full_duplex = channel.full_duplex;
 }
 
--- the ports, the station, the lanes, the report and the key that the options ask for, with this seed of the outside
+-- The ports, the station, the lanes, the report and the key that the options ask for, with this seed of the outside. The
+-- station sends by the modem for which it listens.
 abbrev pub words_of : ServeOptions → ℕ → ServeWords
 words_of options outer = record {
   listen = record { address = options.bind; kiss = options.kiss; agw = options.agw };
   seed = seed_of options.seed outer;
   config = record {
     params = options.params;
+    modem = sending_of options.modem;
     channel = channel_of options.channel;
     paclen = options.paclen;
     digi = options.digi;
@@ -62,7 +79,7 @@ words_of options outer = record {
   dcd = detection_of options.dcd;
   monitor = options.monitor;
   stats = options.stats;
-  sensitive = options.sensitive;
+  listening = listening_of options.modem;
   key = option_map key_of options.ptt;
 }
 

@@ -6,17 +6,18 @@ ghost use Rattle.tnc_forms.specs.Reading.{input_limit};
 ghost use Rattle.tnc_ports.specs.SampledRun.{Outside, outside_by};
 ghost use Rattle.tnc_ports.specs.ServeRun.{input_by};
 ghost use Rattle.tnc_main.specs.declared.status.Status.{Status};
-ghost use Rattle.slicer_bank.specs.Detection.{CanBeAsked};
+ghost use Rattle.live_receiver.specs.Listening.{CanBeAskedBy};
 ghost use Rattle.tnc_main.specs.Serving.{IsServedInWant, IsToldAs, Serves, detection_of, last_line, status_of_end};
-ghost use Rattle.tnc_main.specs.Serving.{channel_of, key_of, seed_of, words_of};
+ghost use Rattle.tnc_main.specs.Serving.{channel_of, key_of, listening_of, seed_of, sending_of, words_of};
 ghost use Rattle.tnc_main.specs.Status.{code_of, IsLiveCode};
 
 use crate::report::{NO_PORT, TOO_LONG, told};
 use crate::status::Status;
-use channel_access::Parameters;
+use channel_access::{Modem, Parameters};
 use host_ports::{Listen, Ports};
 use key_port::KeyPort;
 use keying::Words;
+use live_receiver::Listening;
 use slicer_bank::Detection;
 use station::Config;
 use std::alloc::Global;
@@ -25,7 +26,7 @@ use std::sync::Wait;
 use std::thread::Threads;
 use tnc_base::{Sink, Source};
 use tnc_ports::{KeyWords, Live, ServeEnd, ServeWords, Spawner};
-use tnc_words::{ChannelOptions, Dcd, PttOptions, ServeOptions};
+use tnc_words::{ChannelOptions, Dcd, PttOptions, ServeOptions, StationModem};
 
 /// Serves hosts until the input ends, tells how that ended, and answers the exit status. It may wait for the input.
 pub(crate) fn serve<
@@ -46,7 +47,7 @@ pub(crate) fn serve<
     live: &mut Live<N, W, K>,
 ) -> u8
     requires window { (window : ℕ) → ¬ IsRefusedWindow words.config.params window }
-    requires dcd { CanBeAsked words.dcd }
+    requires dcd { CanBeAskedBy words.listening words.dcd }
     ensures served { (status : Status) × (result ≡ code_of status)
         × Serves words status (input_by I.left I.faults input.old) (input_by I.left I.faults input.new)
         (outside_by N.listens N.polls N.sends N.sent N.is_shut N.faults K.lines K.faults O.written O.faults
@@ -108,6 +109,7 @@ pub(crate) fn serve_words(options: ServeOptions, outer: u64) -> ServeWords
         seed: seed(options.seed, outer),
         config: Config {
             params: options.params,
+            modem: sending(options.modem),
             channel: parameters(options.channel),
             paclen: options.paclen,
             digi: options.digi,
@@ -115,7 +117,7 @@ pub(crate) fn serve_words(options: ServeOptions, outer: u64) -> ServeWords
         dcd: detection(options.dcd),
         monitor: options.monitor,
         stats: options.stats,
-        sensitive: options.sensitive,
+        listening: listening(options.modem),
         key: key_words(options.ptt),
     }
 }
@@ -156,6 +158,26 @@ fn key_words(ptt: Option<PttOptions>) -> Option<KeyWords>
                 data: ptt.data_socket,
             },
         }),
+    }
+}
+
+/// How a station of a modem listens.
+fn listening(modem: StationModem) -> Listening
+    ensures { result ≡ listening_of modem }
+{
+    match modem {
+        StationModem::Bell202 { sensitive } => Listening::Bell202 { sensitive },
+        StationModem::ShortWave => Listening::ShortWave,
+    }
+}
+
+/// By what it sends.
+fn sending(modem: StationModem) -> Modem
+    ensures { result ≡ sending_of modem }
+{
+    match modem {
+        StationModem::Bell202 { .. } => Modem::Bell202,
+        StationModem::ShortWave => Modem::ShortWave,
     }
 }
 

@@ -2,9 +2,9 @@
 pub use Rattle.channel_access.specs.declared.air_tick.AirTick.{AirTick}
 pub use Rattle.channel_access.specs.declared.air_tick.Sent.{Sent}
 pub use Rattle.frame_merge.specs.declared.candidate.Candidate.{Candidate}
-pub use Rattle.ring_receiver.specs.HeardByAll.{AreDueBy}
-pub use Rattle.ring_receiver.specs.HeldReceiver.{EightListen, Hears, HeldReceiver, answers_in, readers_in}
-pub use Rattle.ring_receiver.specs.Readers.{readers_wanted}
+pub use Rattle.live_receiver.specs.Listening.{AreDueBy, readers_wanted}
+pub use Rattle.live_receiver.specs.LiveReceivers.{Hears, LanesListen, answers_in, detection_of, listening_of, readers_in}
+pub use Rattle.live_receiver.specs.declared.receiver.LiveReceiver.{LiveReceiver}
 pub use Rattle.sample_ring.specs.Ends.{reader_ring, record_of, ring_id, ring_len}
 pub use Rattle.sample_ring.specs.Record.{StandsIn, answer}
 pub use Rattle.sample_ring.specs.declared.got.Got.{Got}

@@ -160,7 +160,7 @@ pub first_gaps : (words : ServeWords) (live : Live) → AreAllGaps words live �
 first_gaps words live h = λ lane lt. ([], sym (h lane lt) ∙ sym (append-nil (gaps_in lane live.hosts.report)))
 
 pub cut_gaps : (words : ServeWords) (live : Live) (lanes : List (List Got))
-    → ((lane : ℕ) → lane < readers_wanted words.sensitive → (reads : List Got)
+    → ((lane : ℕ) → lane < readers_wanted words.listening → (reads : List Got)
     × (lane_of lanes lane ≡ lane_of live.lanes lane ++ reads))
     → AreAllGaps words live → AreFirstGaps words (record live { lanes = lanes })
 cut_gaps words live lanes more h = λ lane lt.

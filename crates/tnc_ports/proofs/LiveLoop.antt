@@ -1,6 +1,6 @@
 -- All turns of a live station, from the first to the last.
 use Rattle.tnc_ports.proofs.Common.{Bool, true, false, Some, ◌≡◌, ℕ, ◌≤◌, [], ◌++◌, refl, sym, ap, subst, inl, inr, ◌∙◌}
-use Rattle.tnc_ports.proofs.Common.{arith, Reader, HeldReceiver, answers_in, WrotePart, Memory, ServeWords, Turning, Told}
+use Rattle.tnc_ports.proofs.Common.{arith, Reader, LiveReceiver, answers_in, WrotePart, Memory, ServeWords, Turning, Told}
 use Rattle.tnc_ports.proofs.Common.{output_octets, report_text, Live, new_live, IsTurn, StandsForLive, Turns, IsCutOff}
 use Rattle.tnc_ports.proofs.Common.{Runs, told_in, Outside, IsRun, IsCutRun, IsCutTurn, IsCutInServing, PortsTell}
 use Rattle.tnc_ports.proofs.Common.{AllIsWritten, Stream, WritesMore}
@@ -90,7 +90,7 @@ first_keyed words turning start stands = record {
 }
 
 -- before the first turn
-pub runs_first : (words : ServeWords) (turning : Turning) (len : ℕ) (receiver : HeldReceiver) (start : Outside)
+pub runs_first : (words : ServeWords) (turning : Turning) (len : ℕ) (receiver : LiveReceiver) (start : Outside)
     → StandsForLive turning len receiver (new_live words) → turning.words ≡ words → turning.failed ≡ false
     → KeyStands turning.words.key turning.key [] → Runs words turning len receiver start start
 runs_first words turning len receiver start stands same none key = record {
@@ -108,7 +108,7 @@ runs_first words turning len receiver start stands same none key = record {
 }
 
 -- one turn more
-pub runs_more : (words : ServeWords) (a b : Turning) (len : ℕ) (old receiver : HeldReceiver) (start x y : Outside)
+pub runs_more : (words : ServeWords) (a b : Turning) (len : ℕ) (old receiver : LiveReceiver) (start x y : Outside)
     → (h : Runs words a len old start x)
     → Turns (from_of start) false a b len receiver h.live (output_of x) (output_of y) (report_of x) (report_of y)
     (told_in x) (told_in y) y.line
@@ -162,13 +162,13 @@ written true words live start now h = part_written words live start now h
 -- ---- the end
 
 -- what all readers were answered
-answered_by : (len : ℕ) (receiver : HeldReceiver) (reader : Reader) (live : Live)
+answered_by : (len : ℕ) (receiver : LiveReceiver) (reader : Reader) (live : Live)
     → answers_in len receiver ≡ live.lanes → answers_of len reader ≡ live.sound
     → answers_of_all live ≡ answers_with len receiver reader
 answered_by len receiver reader live lanes sound =
     ap (λ ls. ls ++ live.sound ∷ []) (sym lanes) ∙ ap (λ x. answers_in len receiver ++ x ∷ []) (sym sound)
 
-whole : (words : ServeWords) (a b : Turning) (len : ℕ) (old receiver : HeldReceiver) (start x y : Outside)
+whole : (words : ServeWords) (a b : Turning) (len : ℕ) (old receiver : LiveReceiver) (start x y : Outside)
     → (h : Runs words a len old start x)
     → (t : Turns (from_of start) true a b len receiver h.live (output_of x) (output_of y) (report_of x) (report_of y)
     (told_in x) (told_in y) y.line)
@@ -213,7 +213,7 @@ as_told words b live start y same none key all = record {
   untold = ap (λ (w : ServeWords). key_failed w.key live) (sym same) ∙ key.untold none;
 }
 
-pub loop_done : (words : ServeWords) (a b : Turning) (len : ℕ) (old receiver : HeldReceiver) (start x y : Outside)
+pub loop_done : (words : ServeWords) (a b : Turning) (len : ℕ) (old receiver : LiveReceiver) (start x y : Outside)
     → (h : Runs words a len old start x)
     → Turns (from_of start) true a b len receiver h.live (output_of x) (output_of y) (report_of x) (report_of y)
     (told_in x) (told_in y) y.line
@@ -230,7 +230,7 @@ loop_done words a b len old receiver start x y h t same listens later none =
       run_out words b t.next start y kept t.key,
     )
 
-pub loop_fault : (words : ServeWords) (a b : Turning) (len : ℕ) (old receiver : HeldReceiver) (start x y : Outside)
+pub loop_fault : (words : ServeWords) (a b : Turning) (len : ℕ) (old receiver : LiveReceiver) (start x y : Outside)
     → (h : Runs words a len old start x)
     → Turns (from_of start) true a b len receiver h.live (output_of x) (output_of y) (report_of x) (report_of y)
     (told_in x) (told_in y) y.line
@@ -253,7 +253,7 @@ either : (words : ServeWords) (b : Turning) (live : Live) (start now : Outside) 
 either words b live start now false e same key h = inl (as_told words b live start now same e key h)
 either words b live start now true e same key h = inr h
 
-pub loop_memory : (words : ServeWords) (a b : Turning) (len : ℕ) (old receiver : HeldReceiver) (start x y : Outside)
+pub loop_memory : (words : ServeWords) (a b : Turning) (len : ℕ) (old receiver : LiveReceiver) (start x y : Outside)
     → (h : Runs words a len old start x)
     → IsCutOff (from_of start) a b len receiver h.live (output_of x) (output_of y) (report_of x) (report_of y)
     (told_in x) (told_in y) y.line
@@ -316,14 +316,14 @@ loop_memory words a b len old receiver start x y h t same listens later =
 
 -- ---- whether a turn was the last
 
-pub turned_over : (from : From) (ended : Bool) (a b : Turning) (len : ℕ) (receiver : HeldReceiver) (live : Live)
+pub turned_over : (from : From) (ended : Bool) (a b : Turning) (len : ℕ) (receiver : LiveReceiver) (live : Live)
     (o o' r r' : Stream) (t t' : Told) (line : LineTold) → ended ≡ true
     → Turns from ended a b len receiver live o o' r r' t t' line
     → Turns from true a b len receiver live o o' r r' t t' line
 turned_over from ended a b len receiver live o o' r r' t t' line e h =
     subst (λ x. Turns from x a b len receiver live o o' r r' t t' line) e h
 
-pub turned_on : (from : From) (ended : Bool) (a b : Turning) (len : ℕ) (receiver : HeldReceiver) (live : Live)
+pub turned_on : (from : From) (ended : Bool) (a b : Turning) (len : ℕ) (receiver : LiveReceiver) (live : Live)
     (o o' r r' : Stream) (t t' : Told) (line : LineTold) → ended ≡ false
     → Turns from ended a b len receiver live o o' r r' t t' line
     → Turns from false a b len receiver live o o' r r' t t' line

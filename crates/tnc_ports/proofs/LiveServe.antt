@@ -3,7 +3,7 @@ use Rattle.tnc_ports.proofs.Common.{Bool, true, false, Contains, ℤ, Some, None
 use Rattle.tnc_ports.proofs.Common.{Ok, Err, is_err, OnOk, All, replicate, ◌≡◌, ℕ, ◌+◌, ◌-◌, ◌<◌, [], ◌++◌, get_or}
 use Rattle.tnc_ports.proofs.Common.{length, map, refl, sym, ap, subst, inl, inr, ◌∙◌, arith, append-nil, length-map}
 use Rattle.tnc_ports.proofs.Common.{get_or-map, Got, Item, Gap, Empty, End, Reader, Track, record_of, answer, StandsIn}
-use Rattle.tnc_ports.proofs.Common.{lane_of, answers_of, MeetsEnd, HeldReceiver, answers_in, Hears, readers_wanted}
+use Rattle.tnc_ports.proofs.Common.{lane_of, answers_of, MeetsEnd, LiveReceiver, answers_in, listening_of, Hears, readers_wanted}
 use Rattle.tnc_ports.proofs.Common.{Memory, false≢true, InputEnd, ReadFault, TooLong, ServeWords, new_live, HaveEnded}
 use Rattle.tnc_ports.proofs.Common.{Turning, StandsFor, new_hosts, StandsForLive, Outside, IsCutInReading, IsCutRun}
 use Rattle.tnc_ports.proofs.Common.{IsLooped, AllIsWritten}
@@ -41,16 +41,16 @@ use Rattle.tnc_ports.proofs.LiveTold.{tells_nothing}
 
 -- ---- before the first turn
 
-pub first_stands : (words : ServeWords) (turning : Turning) (len : ℕ) (receiver : HeldReceiver)
+pub first_stands : (words : ServeWords) (turning : Turning) (len : ℕ) (receiver : LiveReceiver)
     → StandsFor turning.hosts [] (new_hosts words.config words.seed)
     → turning.words ≡ words → turning.ticks ≡ 0 → turning.meter.health ≡ new_health
-    → IsNew turning.meter.reader → receiver.sensitive ≡ words.sensitive
-    → answers_in len receiver ≡ replicate (readers_wanted words.sensitive) [] → Hears len receiver
+    → IsNew turning.meter.reader → listening_of receiver ≡ words.listening
+    → answers_in len receiver ≡ replicate (readers_wanted words.listening) [] → Hears len receiver
     → StandsForLive turning len receiver (new_live words)
-first_stands words turning len receiver hosts same ticks health fresh sensitive new hears = record {
+first_stands words turning len receiver hosts same ticks health fresh listening new hears = record {
   hosts = hosts;
   ticks = ticks;
-  sensitive = sensitive ∙ ap (λ (w : ServeWords). w.sensitive) (sym same);
+  listening = listening ∙ ap (λ (w : ServeWords). w.listening) (sym same);
   lanes = new;
   hears = hears;
   passed = omega arith;
@@ -62,7 +62,7 @@ first_stands words turning len receiver hosts same ticks health fresh sensitive 
 }
 
 -- no reader was answered
-pub fresh_answers : (ring : Ring) (len : ℕ) (receiver : HeldReceiver) (sound : Option Reader) (lanes : List (List Got))
+pub fresh_answers : (ring : Ring) (len : ℕ) (receiver : LiveReceiver) (sound : Option Reader) (lanes : List (List Got))
     → answers_in len receiver ≡ lanes → IsFreshSound ring sound → answers_if len receiver sound ≡ lanes ++ [] ∷ []
 fresh_answers ring len receiver None lanes is fresh = absurd fresh
 fresh_answers ring len receiver (Some reader) lanes is fresh =
@@ -70,13 +70,13 @@ fresh_answers ring len receiver (Some reader) lanes is fresh =
     ∙ ap (λ reads. lanes ++ map (answer len) reads ∷ []) fresh.1.nothing_read
 
 pub nothing_looped : (words : ServeWords) (lanes : List (List Got)) (start : Outside) (line : LineTold)
-    → lanes ≡ replicate (readers_wanted words.sensitive) [] ++ [] ∷ []
+    → lanes ≡ replicate (readers_wanted words.listening) [] ++ [] ∷ []
     → IsReleasedSince (from_of start) words.key (new_live words) line
     → IsLooped words Memory lanes start (record start { line = line })
 nothing_looped words lanes start line same released =
     let cut : IsCutInReading words (new_live words) (new_live words) = record {
-      lanes = replicate (readers_wanted words.sensitive) [];
-      more = λ lane lt. ([], sym (append-nil (lane_of (replicate (readers_wanted words.sensitive) []) lane)));
+      lanes = replicate (readers_wanted words.listening) [];
+      more = λ lane lt. ([], sym (append-nil (lane_of (replicate (readers_wanted words.listening) []) lane)));
       is = refl;
     } in
     let run : IsCutRun words (new_live words) = record {
@@ -262,7 +262,7 @@ no_thread words end lanes begins input left before opened after opens given_up u
     let same : after ≡ opened = subst (λ b. IsLoopedIf b words end lanes opened after) given_up looped in
     record { opens = subst (HasOpened words before) (sym same) opens; unread = unread }
 
-pub all_served : (words : ServeWords) (loop : LoopEnd) (end : ServeEnd) (len : ℕ) (receiver : HeldReceiver)
+pub all_served : (words : ServeWords) (loop : LoopEnd) (end : ServeEnd) (len : ℕ) (receiver : LiveReceiver)
     (sound : Option Reader) (input left : InputSide) (before opened after : Outside)
     → HasOpened words before opened → IsLooped words loop (answers_if len receiver sound) opened after
     → IsClosed loop end (answers_if ring_cells receiver sound) input left → len ≡ ring_cells

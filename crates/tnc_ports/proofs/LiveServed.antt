@@ -49,7 +49,7 @@ served_new words = record {
   accounted = accounted_new (new_hosts words.config words.seed) (orderly_new words.config words.seed)
       (sound_new words.config words.seed)
       (λ id. omega arith) refl refl;
-  gaps = λ lane lt. no_gaps lane lane (readers_wanted words.sensitive);
+  gaps = λ lane lt. no_gaps lane lane (readers_wanted words.listening);
   size = refl;
 }
 

@@ -1,12 +1,13 @@
 -- The parts of a turn make a turn, and those that came to pass one that is cut short.
 use Rattle.tnc_ports.proofs.Common.{append-nil, Bool, IsTrue, ◌↔◌, ◌≡◌, ℕ, ◌+◌, ◌-◌, ◌*◌, ◌/◌, ◌<◌, ◌≤◌, [], ◌++◌, refl, sym, ap}
-use Rattle.tnc_ports.proofs.Common.{subst, inl, inr, ◌∙◌, arith, Candidate, least_position, AreDueBy, HeldReceiver}
-use Rattle.tnc_ports.proofs.Common.{answers_in, EightListen, Turning, ServeWords, Told, AreUnasked, IsAsked, Hosts}
+use Rattle.tnc_ports.proofs.Common.{subst, inl, inr, ◌∙◌, arith, Candidate, least_position, AreDueBy, LiveReceiver, detection_of}
+use Rattle.tnc_ports.proofs.Common.{listening_of}
+use Rattle.tnc_ports.proofs.Common.{answers_in, LanesListen, Turning, ServeWords, Told, AreUnasked, IsAsked, Hosts}
 use Rattle.tnc_ports.proofs.Common.{Asked, Live, HaveEnded, with_hosts, AreHeard, AreTicked, HearsAll, MakesAll, Keeps}
 use Rattle.tnc_ports.proofs.Common.{StandsForLive, HearsFrames, HearsSome, Ticks, TicksAll, ServesAll, Reads, Turns}
 use Rattle.tnc_ports.proofs.Common.{IsCutOff, IsCutInReading, IsCutInServing, Stream, WritesMore}
 use Rattle.std.proofs.Common.{◌⊎◌, List, ◌∷◌, length}
-use Rattle.slicer_bank.specs.HeardOnRing.{IsBusyOnRing}
+use Rattle.live_receiver.specs.Listening.{IsBusyBy}
 use Rattle.host_ports.specs.CutPart.{HasCutPart}
 use Rattle.slicer_bank.specs.RingLanes.{answers_of}
 use Rattle.tnc_ports.specs.declared.meter.Meter.{Meter}
@@ -53,7 +54,7 @@ abbrev pub counted_in : ℕ → Meter → Meter
 counted_in count meter = record meter { health = with_heard count meter.health }
 
 hears_all : (ended : Bool) (least : ℕ) (items : List Candidate) (before a b : Turning) (len : ℕ)
-    (receiver : HeldReceiver) (live : Live) (r0 r1 r2 : Stream)
+    (receiver : LiveReceiver) (live : Live) (r0 r1 r2 : Stream)
     → (h : Reads ended least items before a len receiver live r0 r1) → (g : HearsFrames items a b h.read.hosts r1 r2)
     → a.words ≡ before.words → HearsAll before.words ended live (having_heard items g.next h.read)
 hears_all ended least items before a b len receiver live r0 r1 r2 h g words = record {
@@ -67,7 +68,7 @@ hears_all ended least items before a b len receiver live r0 r1 r2 h g words = re
 }
 
 heard_writes : (ended : Bool) (least : ℕ) (items : List Candidate) (before a b : Turning) (len : ℕ)
-    (receiver : HeldReceiver) (live : Live) (o r0 r1 r2 : Stream)
+    (receiver : LiveReceiver) (live : Live) (o r0 r1 r2 : Stream)
     → (h : Reads ended least items before a len receiver live r0 r1) → (g : HearsFrames items a b h.read.hosts r1 r2)
     → WritesMore before.failed b.failed live (with_hosts g.next h.read) o o r0 r2
 heard_writes ended least items before a b len receiver live o r0 r1 r2 h g =
@@ -77,33 +78,34 @@ heard_writes ended least items before a b len receiver live o r0 r1 r2 h g =
 
 -- ---- up to the ticks
 
-ticks_behind : (busy : Bool) (count least : ℕ) (before b : Turning) (len : ℕ) (receiver : HeldReceiver)
+ticks_behind : (busy : Bool) (count least : ℕ) (before b : Turning) (len : ℕ) (receiver : LiveReceiver)
     (heard next : Live)
-    → (answers_in len receiver ≡ heard.lanes) → (IsTrue busy ↔ IsBusyOnRing receiver.detection (answers_in len receiver))
-    → receiver.detection ≡ before.words.dcd
+    → (answers_in len receiver ≡ heard.lanes) → (IsTrue busy ↔ IsBusyBy (listening_of receiver) (detection_of receiver) (answers_in len receiver))
+    → listening_of receiver ≡ before.words.listening → detection_of receiver ≡ before.words.dcd
     → b.words ≡ before.words → AreTicked b.words busy count heard next → least ≡ least_position heard.lanes
     → heard.ticks + count ≤ least / 96 → MakesTicks before.words count heard next
-ticks_behind busy count least before b len receiver heard next lanes carrier detection words ticked is few =
+ticks_behind busy count least before b len receiver heard next lanes carrier listening detection words ticked is few =
     let to = ticked_to b.words busy count heard next ticked in
     let same : least ≡ least_position next.lanes = is ∙ ap least_position (sym to.lanes) in
     record {
       busy = busy;
-      carrier = subst (λ l. IsTrue busy ↔ IsBusyOnRing before.words.dcd l) lanes
-          (subst (λ n. IsTrue busy ↔ IsBusyOnRing n (answers_in len receiver)) detection carrier);
+      carrier = subst (λ l. IsTrue busy ↔ IsBusyBy before.words.listening before.words.dcd l) lanes
+          (subst (λ d. IsTrue busy ↔ IsBusyBy before.words.listening d (answers_in len receiver)) detection
+          (subst (λ w. IsTrue busy ↔ IsBusyBy w (detection_of receiver) (answers_in len receiver)) listening carrier));
       made = subst (λ w. AreTicked w busy count heard next) words ticked;
       passed = subst (λ n. 96 * next.ticks ≤ n) same (let t = to.ticks in omega (arith, t, few));
     }
 
-makes_all : (ended busy : Bool) (least : ℕ) (before b : Turning) (len : ℕ) (receiver : HeldReceiver)
+makes_all : (ended busy : Bool) (least : ℕ) (before b : Turning) (len : ℕ) (receiver : LiveReceiver)
     (live heard keyed next : Live)
     → HearsAll before.words ended live heard → IsKeyTurn before.words heard keyed
-    → (answers_in len receiver ≡ keyed.lanes) → (IsTrue busy ↔ IsBusyOnRing receiver.detection (answers_in len receiver))
-    → receiver.detection ≡ before.words.dcd
+    → (answers_in len receiver ≡ keyed.lanes) → (IsTrue busy ↔ IsBusyBy (listening_of receiver) (detection_of receiver) (answers_in len receiver))
+    → listening_of receiver ≡ before.words.listening → detection_of receiver ≡ before.words.dcd
     → b.words ≡ before.words → AreTicked b.words busy (least / 96 - keyed.ticks) keyed next
     → least ≡ least_position keyed.lanes
     → 96 * keyed.ticks ≤ least → MakesAll before.words ended live next
-makes_all ended busy least before b len receiver live heard keyed next hears keys lanes carrier detection words ticked is
-    passed =
+makes_all ended busy least before b len receiver live heard keyed next hears keys lanes carrier listening detection words
+    ticked is passed =
     let to = ticked_to b.words busy (least / 96 - keyed.ticks) keyed next ticked in
     let same : least ≡ least_position next.lanes = is ∙ ap least_position (sym to.lanes) in
     record {
@@ -113,12 +115,13 @@ makes_all ended busy least before b len receiver live heard keyed next hears key
       keys = keys;
       count = least / 96 - keyed.ticks;
       makes = ticks_behind busy (least / 96 - keyed.ticks)
-          least before b len receiver keyed next lanes carrier detection words ticked is (omega (arith, passed));
+          least before b len receiver keyed next lanes carrier listening detection words ticked is
+          (omega (arith, passed));
       next = subst (λ n. n < 96 * (next.ticks + 1)) same (let t = to.ticks in omega (arith, t, passed));
     }
 
 read_ticks : (ended : Bool) (least : ℕ) (items : List Candidate) (before a : Turning) (len : ℕ)
-    (receiver : HeldReceiver) (live : Live) (r0 r1 : Stream)
+    (receiver : LiveReceiver) (live : Live) (r0 r1 : Stream)
     → (h : Reads ended least items before a len receiver live r0 r1) → h.read.ticks ≡ live.ticks
 read_ticks ended least items before a len receiver live r0 r1 h = ap (λ (l : Live). l.ticks) h.reads.is
 
@@ -157,7 +160,7 @@ keyed_heard from before b live next o r r' line words key sent whole keyed write
 -- ---- a whole turn
 
 -- up to the key's turn
-pub record Keyed (from : From) (ended : Bool) (least : ℕ) (before k : Turning) (len : ℕ) (receiver : HeldReceiver)
+pub record Keyed (from : From) (ended : Bool) (least : ℕ) (before k : Turning) (len : ℕ) (receiver : LiveReceiver)
     (live : Live) (o r0 r3 : Stream) (line : LineTold) : Type 0 where
   pub heard : Live
   pub hears : HearsAll before.words ended live heard
@@ -173,7 +176,7 @@ pub record Keyed (from : From) (ended : Bool) (least : ℕ) (before k : Turning)
   pub writes : WritesMore before.failed k.failed live next o o r0 r3
 
 keyed_up_to : (from : From) (ended : Bool) (least : ℕ) (items : List Candidate) (before a b k : Turning) (len : ℕ)
-    (receiver : HeldReceiver) (live : Live) (o r0 r1 r2 r3 : Stream) (line line1 : LineTold)
+    (receiver : LiveReceiver) (live : Live) (o r0 r1 r2 r3 : Stream) (line line1 : LineTold)
     → KeyedSince from before live o r0 line
     → Reads ended least items before a len receiver live r0 r1
     → ((hosts : Hosts) → Keeps a.hosts hosts → HearsFrames items a b hosts r1 r2)
@@ -218,7 +221,7 @@ keyed_up_to from ended least items before a b k len receiver live o r0 r1 r2 r3 
     }
 
 pub all_made : (from : From) (ended busy : Bool) (least : ℕ) (items : List Candidate) (before a b k c : Turning)
-    (len : ℕ) (old receiver : HeldReceiver) (live : Live) (o o' r0 r1 r2 r3 r4 : Stream) (line line1 line2 : LineTold)
+    (len : ℕ) (old receiver : LiveReceiver) (live : Live) (o o' r0 r1 r2 r3 r4 : Stream) (line line1 line2 : LineTold)
     → StandsForLive before len old live → KeyedSince from before live o r0 line
     → Reads ended least items before a len receiver live r0 r1
     → ((hosts : Hosts) → Keeps a.hosts hosts → HearsFrames items a b hosts r1 r2)
@@ -227,8 +230,8 @@ pub all_made : (from : From) (ended busy : Bool) (least : ℕ) (items : List Can
     → ((live : Live) → Keeps k.hosts live.hosts → k.ticks ≡ live.ticks → Measures len k.meter live
     → KeyedSince from k live o r3 line1
     → TicksAll from busy (least / 96 - live.ticks) len k c live o o' r3 r4 line2)
-    → ((n : ℕ) → EightListen n receiver → IsTrue busy ↔ IsBusyOnRing receiver.detection (answers_in n receiver))
-    → receiver.detection ≡ before.words.dcd
+    → ((n : ℕ) → LanesListen n receiver → IsTrue busy ↔ IsBusyBy (listening_of receiver) (detection_of receiver) (answers_in n receiver))
+    → detection_of receiver ≡ before.words.dcd
     → a.words ≡ before.words → b.words ≡ a.words → k.words ≡ b.words → a.key ≡ before.key → b.key ≡ a.key
     → a.ticks ≡ before.ticks → b.ticks ≡ a.ticks → k.ticks ≡ b.ticks
     → a.meter ≡ before.meter → b.meter ≡ counted_in (length items) a.meter → k.meter ≡ b.meter
@@ -245,9 +248,9 @@ all_made from ended busy least items before a b k c len old receiver live o o' r
     record {
       made = t.next;
       makes = makes_all ended busy least before k len receiver live up.heard up.next t.next up.hears up.keys
-          up.lanes (carrier len reads.listens) detection (wk ∙ wb ∙ wa) t.ticked up.is_least passed;
+          up.lanes (carrier len reads.listens) reads.listening detection (wk ∙ wb ∙ wa) t.ticked up.is_least passed;
       lanes = up.lanes ∙ sym to.lanes;
-      sensitive = reads.sensitive;
+      listening = reads.listening;
       hears = reads.hears;
       ends = λ e. subst HaveEnded (sym reads.lanes ∙ up.lanes ∙ sym to.lanes) (reads.ends e);
       keeps = t.keeps;
@@ -258,7 +261,7 @@ all_made from ended busy least items before a b k c len old receiver live o o' r
       writes = writes_more before.failed k.failed c.failed live up.next t.next o o o' r0 r3 r4 up.writes t.writes;
     }
 
-pub whole_turn : (from : From) (ended : Bool) (before c d : Turning) (len : ℕ) (receiver : HeldReceiver) (live : Live)
+pub whole_turn : (from : From) (ended : Bool) (before c d : Turning) (len : ℕ) (receiver : LiveReceiver) (live : Live)
     (o o' r0 r3 r4 : Stream) (told told' : Told) (line : LineTold)
     → Makes from ended before c len receiver live o o' r0 r3 line
     → ((hosts : Hosts) → Keeps c.hosts hosts → ServesAll c d hosts r3 r4 told told')
@@ -281,7 +284,7 @@ whole_turn from ended before c d len receiver live o o' r0 r3 r4 told told' line
       goes_on = λ e. record {
         hosts = s.keeps;
         ticks = td ∙ m.ticks;
-        sensitive = m.sensitive ∙ ap (λ (w : ServeWords). w.sensitive) (sym (wd ∙ wc));
+        listening = m.listening ∙ ap (λ (w : ServeWords). w.listening) (sym (wd ∙ wc));
         lanes = m.lanes;
         hears = m.hears e;
         passed = m.makes.makes.passed;
@@ -312,7 +315,7 @@ measured_so len before after live next same h sound = (
   ap (λ (m : Meter). answers_of len m.reader) same ∙ h.sound ∙ sym sound ∙ sym (append-nil next.sound),
 )
 
-pub cut_reading : (from : From) (before a : Turning) (len : ℕ) (receiver : HeldReceiver) (live : Live) (o r0 r1 : Stream)
+pub cut_reading : (from : From) (before a : Turning) (len : ℕ) (receiver : LiveReceiver) (live : Live) (o r0 r1 : Stream)
     (told : Told) (line : LineTold)
     → KeyedSince from before live o r0 line
     → IsCutInReading before.words live (record live { lanes = answers_in len receiver }) → a.failed ≡ before.failed
@@ -342,7 +345,7 @@ cut_reading from before a len receiver live o r0 r1 told line key cut failed wor
 }
 
 pub cut_hearing : (from : From) (ended : Bool) (least : ℕ) (items : List Candidate) (before a b : Turning) (len : ℕ)
-    (receiver : HeldReceiver) (live : Live) (o r0 r1 r2 : Stream) (told : Told) (line : LineTold)
+    (receiver : LiveReceiver) (live : Live) (o r0 r1 r2 : Stream) (told : Told) (line : LineTold)
     → KeyedSince from before live o r0 line
     → Reads ended least items before a len receiver live r0 r1
     → ((hosts : Hosts) → Keeps a.hosts hosts → HearsSome items a b hosts r1 r2)
@@ -360,7 +363,7 @@ cut_hearing from ended least items before a b len receiver live o r0 r1 r2 told 
       reads = reads.reads;
       items = h.first;
       others = h.others;
-      due = subst (AreDueBy before.words.sensitive ended live.lanes reads.read.lanes) h.parts reads.due;
+      due = subst (AreDueBy before.words.listening ended live.lanes reads.read.lanes) h.parts reads.due;
       hosts = h.next;
       hears = subst (λ w. AreHeard w.monitor h.first reads.read.hosts h.next) wa h.heard;
       is = refl;
@@ -382,7 +385,7 @@ cut_hearing from ended least items before a b len receiver live o r0 r1 r2 told 
     }
 
 pub cut_ticking : (from : From) (ended busy : Bool) (least : ℕ) (items : List Candidate) (before a b k c : Turning)
-    (len : ℕ) (old receiver : HeldReceiver) (live : Live) (o o' r0 r1 r2 r3 r4 : Stream) (told : Told)
+    (len : ℕ) (old receiver : LiveReceiver) (live : Live) (o o' r0 r1 r2 r3 r4 : Stream) (told : Told)
     (line line1 line2 : LineTold)
     → StandsForLive before len old live → KeyedSince from before live o r0 line
     → Reads ended least items before a len receiver live r0 r1
@@ -392,8 +395,8 @@ pub cut_ticking : (from : From) (ended busy : Bool) (least : ℕ) (items : List 
     → ((live : Live) → Keeps k.hosts live.hosts → k.ticks ≡ live.ticks → Measures len k.meter live
     → KeyedSince from k live o r3 line1
     → (count : ℕ) × (live.ticks + count ≤ least / 96) × Ticks from busy count len k c live o o' r3 r4 line2)
-    → ((n : ℕ) → EightListen n receiver → IsTrue busy ↔ IsBusyOnRing receiver.detection (answers_in n receiver))
-    → receiver.detection ≡ before.words.dcd
+    → ((n : ℕ) → LanesListen n receiver → IsTrue busy ↔ IsBusyBy (listening_of receiver) (detection_of receiver) (answers_in n receiver))
+    → detection_of receiver ≡ before.words.dcd
     → a.words ≡ before.words → b.words ≡ a.words → k.words ≡ b.words → a.key ≡ before.key → b.key ≡ a.key
     → a.ticks ≡ before.ticks → b.ticks ≡ a.ticks → k.ticks ≡ b.ticks
     → a.meter ≡ before.meter → b.meter ≡ counted_in (length items) a.meter → k.meter ≡ b.meter
@@ -412,7 +415,7 @@ cut_ticking from ended busy least items before a b k c len old receiver live o o
       keys = up.keys;
       count = t.0;
       makes = ticks_behind busy t.0 least before k len receiver up.next t.2.next up.lanes (carrier len reads.listens)
-          detection (wk ∙ wb ∙ wa) t.2.ticked up.is_least t.1;
+          reads.listening detection (wk ∙ wb ∙ wa) t.2.ticked up.is_least t.1;
     } in
     record {
       next = t.2.next;
@@ -433,7 +436,7 @@ in_serving words ended before made told told' makes (inl none) = inl none
 in_serving words ended before made told told' makes (inr some) =
     inr (some.0, some.1, record { ended = ended; makes = makes; part = some.2 }, some.3)
 
-pub cut_serving : (from : From) (ended : Bool) (before c d : Turning) (len : ℕ) (receiver : HeldReceiver) (live : Live)
+pub cut_serving : (from : From) (ended : Bool) (before c d : Turning) (len : ℕ) (receiver : LiveReceiver) (live : Live)
     (o o' r0 r3 r4 : Stream) (told told' : Told) (line : LineTold)
     → Makes from ended before c len receiver live o o' r0 r3 line
     → d.failed ≡ c.failed → d.words ≡ c.words → d.key ≡ c.key → r4 ≡ r3

@@ -13,7 +13,15 @@ use Rattle.tone_table.specs.declared.tone.Tone.{Tone}
 use Rattle.tone_table.specs.declared.tone.Tone.TheVariants.{Mark, Space}
 use Rattle.tone_table.specs.Sine.{quarter, half_wave, cycle_sample, wave_sample}
 use Rattle.tone_table.specs.Tones.{next_phase, phase_step}
-use Rattle.tone_table.specs.Wave.{pure_window, wave, wave_from}
+use Rattle.tone_table.specs.Wave.{pure_window, wave_from}
+use Rattle.hf_sender.specs.Tones.{next_phase as hf_next_phase, phase_step as hf_phase_step}
+use Rattle.hf_sender.specs.Wave.{pure_window as hf_pure_window, wave as hf_wave, wave_from as hf_wave_from}
+use Rattle.afsk_modulator.proofs.LevelLemmas.{at_level-full}
+use Rattle.channel_access.specs.Modem.{bits_of_ticks, samples_of_bits}
+use Rattle.channel_access.specs.declared.modem.Modem.{Modem}
+use Rattle.channel_access.specs.declared.modem.Modem.TheVariants.{Bell202, ShortWave}
+use Rattle.channel_access.proofs.ModemLemmas.{modem_wave, samples_of_bits-ticks}
+use Rattle.channel_access.proofs.TickLemmas.{modem-decided}
 use Rattle.nrzi_bits.specs.Line.{line}
 use Rattle.nrzi_bits.proofs.LineLemmas.{length-line_from}
 use Rattle.channel_access.specs.Channel.{Channel, after_rules, after_tick, air_after, air_samples, air_tick}
@@ -67,20 +75,66 @@ loud_from (suc n) phase (tone ∷ tones) rest within below =
     ∙ ap (λ (xs : List ℤ). has_sound (take 96 xs)) (drop-append-add front (later ++ rest) (8 * n))
     ∙ loud_from n (next_phase phase tone) tones rest (mod-lt (phase + 8 * phase_step tone) (omega arith)) (omega arith)
 
+-- ---- the same on short wave
+
+loud_hf_window : (phase : ℕ) (tone : Tone) → phase < 48 → has_sound (hf_pure_window phase tone) ≡ true
+unfolding hf_pure_window wave_sample cycle_sample half_wave quarter
+loud_hf_window phase Mark within =
+    agree_below_at (λ p. has_sound (hf_pure_window p Mark)) (λ _. true) 48 phase refl within
+loud_hf_window phase Space within =
+    agree_below_at (λ p. has_sound (hf_pure_window p Space)) (λ _. true) 48 phase refl within
+
+hf_window_length : (phase : ℕ) (tone : Tone) → length (hf_pure_window phase tone) ≡ 32
+unfolding hf_pure_window
+hf_window_length phase tone = refl
+
+loud_hf_now : (phase : ℕ) (tone : Tone) (later : List ℤ) → phase < 48
+    → has_sound (take 96 (hf_pure_window phase tone ++ later)) ≡ true
+unfolding hf_pure_window
+loud_hf_now phase tone later within =
+    loud_first (hf_pure_window phase tone) (take 64 later) (loud_hf_window phase tone within)
+
+loud_hf_from : (n phase : ℕ) (tones : List Tone) (rest : List ℤ) → phase < 48 → n < length tones
+    → has_sound (take 96 (drop (32 * n) (hf_wave_from phase tones ++ rest))) ≡ true
+loud_hf_from n phase [] rest within below = absurd (omega arith)
+loud_hf_from zero phase (tone ∷ tones) rest within below =
+    ap (λ (xs : List ℤ). has_sound (take 96 xs))
+    (append_assoc (hf_pure_window phase tone) (hf_wave_from (hf_next_phase phase tone) tones) rest)
+    ∙ loud_hf_now phase tone (hf_wave_from (hf_next_phase phase tone) tones ++ rest) within
+loud_hf_from (suc n) phase (tone ∷ tones) rest within below =
+    let front : List ℤ = hf_pure_window phase tone in
+    let later : List ℤ = hf_wave_from (hf_next_phase phase tone) tones in
+    let size : length (hf_pure_window phase tone) ≡ 32 = hf_window_length phase tone in
+    let place : 32 * suc n ≡ length (hf_pure_window phase tone) + 32 * n = omega (arith, size) in
+    ap (λ (k : ℕ). has_sound (take 96 (drop k ((front ++ later) ++ rest)))) place
+    ∙ ap (λ (xs : List ℤ). has_sound (take 96 (drop (length front + 32 * n) xs))) (append_assoc front later rest)
+    ∙ ap (λ (xs : List ℤ). has_sound (take 96 xs)) (drop-append-add front (later ++ rest) (32 * n))
+    ∙ loud_hf_from n (hf_next_phase phase tone) tones rest
+    (mod-lt (phase + 32 * hf_phase_step tone) (omega arith)) (omega arith)
+
+-- 96 samples from the beginning of a bit on, by any modem
+loud_by : (modem : Modem) (n : ℕ) (tones : List Tone) (rest : List ℤ) → n < length tones
+    → has_sound (take 96 (drop (samples_of_bits modem n) (modem_wave modem tones ++ rest))) ≡ true
+loud_by Bell202 n tones rest below = loud_from n 0 tones rest (omega arith) below
+loud_by ShortWave n tones rest below =
+    ap (λ (xs : List ℤ). has_sound (take 96 (drop (32 * n) (xs ++ rest)))) (at_level-full (hf_wave tones))
+    ∙ loud_hf_from n 0 tones rest (omega arith) below
+
 -- ---- a transmission under way
 
 -- some bits of it are not sent yet
 abbrev pub HasLeft : Option OnAir → Type 0
 HasLeft None = Unit {0}
-HasLeft (Some t) = 12 * t.ticks < length (bits_of t)
+HasLeft (Some t) = bits_of_ticks t.modem t.ticks < length (bits_of t)
 
 loud_tick : (t : OnAir) → HasLeft (Some t) → has_sound (tick_samples t) ≡ true
 unfolding tick_samples
 loud_tick t left =
-    let place : 96 * t.ticks ≡ 8 * (12 * t.ticks) = omega arith in
+    let place : 96 * t.ticks ≡ samples_of_bits t.modem (bits_of_ticks t.modem t.ticks) =
+    sym (samples_of_bits-ticks t.modem t.ticks) in
     ap (λ (xs : List ℤ). has_sound (take 96 (drop (96 * t.ticks) (xs ++ replicate 96 (pos 0))))) (samples_on_air-is t)
-    ∙ ap (λ (k : ℕ). has_sound (take 96 (drop k (wave (line (bits_of t)) ++ replicate 96 (pos 0))))) place
-    ∙ loud_from (12 * t.ticks) 0 (line (bits_of t)) (replicate 96 (pos 0)) (omega arith)
+    ∙ ap (λ (k : ℕ). has_sound (take 96 (drop k (modem_wave t.modem (line (bits_of t)) ++ replicate 96 (pos 0))))) place
+    ∙ loud_by t.modem (bits_of_ticks t.modem t.ticks) (line (bits_of t)) (replicate 96 (pos 0))
     (let size = length-line_from Mark (bits_of t) in omega (arith, left, size))
 
 -- ---- what is left when more is decided, and a tick is sent
@@ -102,7 +156,10 @@ decided_left bits waiting t left =
     let more = decided_adds bits waiting t in
     let size = ap length more.1 in
     let parts = length-append (bits_of t) more.0 in
-    let same = decided_ticks bits waiting t in
+    let d : OnAir = decided bits waiting t in
+    let same : bits_of_ticks d.modem d.ticks ≡ bits_of_ticks t.modem t.ticks =
+    ap (bits_of_ticks d.modem) (decided_ticks bits waiting t)
+    ∙ ap (λ modem. bits_of_ticks modem t.ticks) (modem-decided bits waiting t) in
     omega (arith, left, size, parts, same)
 
 one_more_sent : (t : OnAir) → HasLeft (with_tick t)

@@ -5,7 +5,8 @@ use Rattle.sample_ring.specs.declared.reader.Reader.{Reader}
 use Rattle.sample_ring.specs.declared.ring.Ring.{Ring}
 use Rattle.sample_ring.specs.Ends.{GoesForward, IsNew, position_of, reader_ring, ring_id}
 use Rattle.sample_ring.specs.Record.{next}
-use Rattle.ring_receiver.specs.HeldReceiver.{HeldReceiver, answers_in}
+use Rattle.live_receiver.specs.declared.receiver.LiveReceiver.{LiveReceiver}
+use Rattle.live_receiver.specs.LiveReceivers.{answers_in}
 use Rattle.slicer_bank.specs.RingLanes.{answers_of}
 use Rattle.slicer_bank.specs.RingTurns.{reads_on}
 use Rattle.tnc_ports.specs.declared.meter.Meter.{Meter}
@@ -33,10 +34,10 @@ IsSoundOf ring None = ⊥
 IsSoundOf ring (Some reader) = reader_ring reader ≡ ring_id ring
 
 -- the answers of the readers of a receiver, and then those of the reader of the sound
-abbrev pub answers_with : ℕ → HeldReceiver → Reader → List (List Got)
+abbrev pub answers_with : ℕ → LiveReceiver → Reader → List (List Got)
 answers_with len receiver reader = answers_in len receiver ++ answers_of len reader ∷ []
 
-abbrev pub answers_if : ℕ → HeldReceiver → Option Reader → List (List Got)
+abbrev pub answers_if : ℕ → LiveReceiver → Option Reader → List (List Got)
 answers_if len receiver None = answers_in len receiver
 answers_if len receiver (Some reader) = answers_with len receiver reader
 

@@ -1,17 +1,17 @@
 -- A live station, turn by turn. In a turn each reader reads on in the ring, the frames that are settled by what all
 -- have read are heard, the ticks that every reader has passed are made, and the hosts are served. The samples are the
--- only clock: a tick of 10 ms is 96 of them. Each of the eight lanes has a reader of its own, and the added lanes share
--- a ninth. One more reader reads the samples of each tick, by which the station tells how its sound is.
+-- only clock: a tick of 10 ms is 96 of them. Each of the eight lanes of Bell 202 has a reader of its own, and the added
+-- lanes share a ninth; the lanes of short wave share one. One more reader reads the samples of each tick, by which the
+-- station tells how its sound is.
 use Rattle.std.specs.Prelude.{◌≡◌, ℕ, zero, suc, ℤ, ◌+◌, ◌*◌, ◌<◌, ◌≤◌, ◌↔◌, ◌||◌, Bool, IsTrue, List, [], ◌∷◌, ◌++◌}
 use Rattle.std.specs.Prelude.{length, map, All, replicate, is_some}
 use Rattle.key_port.specs.KeyEvents.{KeyEvent}
 use Rattle.sample_ring.specs.declared.got.Got.{Got}
 use Rattle.frame_merge.specs.declared.candidate.Candidate.{Candidate}
 use Rattle.slicer_bank.specs.declared.advance.LaneGap.{LaneGap}
-use Rattle.slicer_bank.specs.HeardOnRing.{IsBusyOnRing, least_position}
+use Rattle.slicer_bank.specs.HeardOnRing.{least_position}
 use Rattle.slicer_bank.specs.RingTurns.{MeetsEnd}
-use Rattle.ring_receiver.specs.HeardByAll.{AreDueBy}
-use Rattle.ring_receiver.specs.Readers.{readers_wanted}
+use Rattle.live_receiver.specs.Listening.{AreDueBy, IsBusyBy, readers_wanted}
 use Rattle.ring_receiver.specs.Turns.{IsTurnOf}
 use Rattle.channel_access.specs.declared.air_tick.AirTick.{AirTick}
 use Rattle.host_ports.specs.declared.report_line.ReportLine.{ReportLine}
@@ -31,7 +31,8 @@ use Rattle.tnc_ports.specs.SampledFrames.{with_lines, IsFrameHeard, IsTickMade}
 -- all that a live station has done so far
 pub record Live : Type 0 where
   pub hosts : Hosts
-  -- what each reader was answered: those of lanes 0 to 7, and then that of the added lanes if they listen
+  -- what each reader was answered: those of lanes 0 to 7, and then that of the added lanes if they listen; or that of the
+  -- lanes of short wave
   pub lanes : List (List Got)
   -- how many ticks were made, and their samples
   pub ticks : ℕ
@@ -51,7 +52,7 @@ pub record Live : Type 0 where
 abbrev pub new_live : ServeWords → Live
 new_live words = record {
   hosts = new_hosts words.config words.seed;
-  lanes = replicate (readers_wanted words.sensitive) [];
+  lanes = replicate (readers_wanted words.listening) [];
   ticks = 0;
   sent = [];
   asked = [];
@@ -78,11 +79,11 @@ abbrev pub gap_line : LaneGap → ReportLine
 gap_line gap = GapLine gap.lane gap.from gap.to
 
 -- Each reader reads as far as one reads in a turn, and each gap is reported, lanes rising. A gap of the ninth reader is
--- that of the added lanes, and is reported as one of lane 8.
+-- that of the added lanes, and is reported as one of lane 8; one of the lanes of short wave is reported as one of lane 0.
 pub record LanesReadOn (words : ServeWords) (ended : Bool) (before after : Live) : Type 0 where
   pub lanes : List (List Got)
   pub gaps : List LaneGap
-  pub turn : IsTurnOf (readers_wanted words.sensitive) before.lanes lanes gaps ended
+  pub turn : IsTurnOf (readers_wanted words.listening) before.lanes lanes gaps ended
   pub is : after ≡ record before { lanes = lanes; hosts = with_lines (map gap_line gaps) before.hosts }
 
 -- ---- frames are heard
@@ -103,7 +104,7 @@ pub record HearsAll (words : ServeWords) (ended : Bool) (before after : Live) : 
   pub read : Live
   pub reads : LanesReadOn words ended before read
   pub items : List Candidate
-  pub due : AreDueBy words.sensitive ended before.lanes read.lanes items
+  pub due : AreDueBy words.listening ended before.lanes read.lanes items
   pub hosts : Hosts
   pub hears : AreHeard words.monitor items read.hosts hosts
   pub is : after ≡ having_heard items hosts read
@@ -162,11 +163,11 @@ AreTicked words busy zero before after = after ≡ before
 AreTicked words busy (suc count) before after =
     (between : Live) × IsTicked words busy before between × AreTicked words busy count between after
 
--- So many ticks are made, each passed by every reader. The channel is busy in them exactly if one of the eight lanes
--- hears a station, by what the words ask for; the added lanes do not count.
+-- So many ticks are made, each passed by every reader. The channel is busy in them exactly if one of the eight lanes, or
+-- a lane of short wave, hears a station, by what the words ask for; the added lanes do not count.
 pub record MakesTicks (words : ServeWords) (count : ℕ) (before after : Live) : Type 0 where
   pub busy : Bool
-  pub carrier : IsTrue busy ↔ IsBusyOnRing words.dcd before.lanes
+  pub carrier : IsTrue busy ↔ IsBusyBy words.listening words.dcd before.lanes
   pub made : AreTicked words busy count before after
   pub passed : tick_samples * after.ticks ≤ least_position after.lanes
 

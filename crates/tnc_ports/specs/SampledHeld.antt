@@ -14,8 +14,9 @@ use Rattle.key_port.specs.KeyTasks.{LineTold, CountsIf}
 use Rattle.sample_ring.specs.declared.got.Got.{Got}
 use Rattle.slicer_bank.specs.HeardOnRing.{least_position}
 use Rattle.slicer_bank.specs.RingLanes.{answers_of}
-use Rattle.ring_receiver.specs.HeardByAll.{AreDueBy}
-use Rattle.ring_receiver.specs.HeldReceiver.{HeldReceiver, answers_in, Hears, EightListen}
+use Rattle.live_receiver.specs.Listening.{AreDueBy}
+use Rattle.live_receiver.specs.declared.receiver.LiveReceiver.{LiveReceiver}
+use Rattle.live_receiver.specs.LiveReceivers.{answers_in, listening_of, Hears, LanesListen}
 use Rattle.tnc_ports.specs.declared.looping.LoopEnd.{LoopEnd}
 use Rattle.tnc_ports.specs.declared.looping.LoopEnd.TheVariants.{Done, Memory, WriteFault}
 use Rattle.tnc_ports.specs.declared.serve_words.KeyWords.{KeyWords}
@@ -91,10 +92,10 @@ pub record KeyedSince (from : From) (turning : Turning) (live : Live) (output re
   pub written : IsWrittenSince from turning.words.key turning.failed live output report
   pub line_stands : LineStands from turning.words.key live line
 
-pub record StandsForLive (turning : Turning) (len : ℕ) (receiver : HeldReceiver) (live : Live) : Type 0 where
+pub record StandsForLive (turning : Turning) (len : ℕ) (receiver : LiveReceiver) (live : Live) : Type 0 where
   pub hosts : Keeps turning.hosts live.hosts
   pub ticks : turning.ticks ≡ live.ticks
-  pub sensitive : receiver.sensitive ≡ turning.words.sensitive
+  pub listening : listening_of receiver ≡ turning.words.listening
   pub lanes : answers_in len receiver ≡ live.lanes
   pub hears : Hears len receiver
   pub passed : tick_samples * live.ticks ≤ least_position live.lanes
@@ -199,13 +200,13 @@ pub record ServesAll (before after : Turning) (hosts : Hosts) (report report' : 
 -- ---- reading
 
 pub record Reads (ended : Bool) (least : ℕ) (items : List Candidate) (before after : Turning) (len : ℕ)
-    (receiver : HeldReceiver) (live : Live) (report report' : Stream) : Type 0 where
+    (receiver : LiveReceiver) (live : Live) (report report' : Stream) : Type 0 where
   pub read : Live
   pub reads : LanesReadOn before.words ended live read
-  pub due : AreDueBy before.words.sensitive ended live.lanes read.lanes items
+  pub due : AreDueBy before.words.listening ended live.lanes read.lanes items
   pub lanes : answers_in len receiver ≡ read.lanes
-  pub sensitive : receiver.sensitive ≡ before.words.sensitive
-  pub listens : EightListen len receiver
+  pub listening : listening_of receiver ≡ before.words.listening
+  pub listens : LanesListen len receiver
   pub is_least : least ≡ least_position read.lanes
   pub forward : least_position live.lanes ≤ least
   pub hears : ended ≡ false → Hears len receiver
@@ -217,12 +218,12 @@ pub record Reads (ended : Bool) (least : ℕ) (items : List Candidate) (before a
 
 -- All of a turn that is not for hosts. The samples of its ticks are handed to the output here, before the ports are
 -- asked anything.
-pub record Makes (from : From) (ended : Bool) (before after : Turning) (len : ℕ) (receiver : HeldReceiver) (live : Live)
+pub record Makes (from : From) (ended : Bool) (before after : Turning) (len : ℕ) (receiver : LiveReceiver) (live : Live)
     (output output' report report' : Stream) (line' : LineTold) : Type 0 where
   pub made : Live
   pub makes : MakesAll before.words ended live made
   pub lanes : answers_in len receiver ≡ made.lanes
-  pub sensitive : receiver.sensitive ≡ before.words.sensitive
+  pub listening : listening_of receiver ≡ before.words.listening
   pub hears : ended ≡ false → Hears len receiver
   pub ends : ended ≡ true → HaveEnded made.lanes
   pub keeps : Keeps after.hosts made.hosts
@@ -232,7 +233,7 @@ pub record Makes (from : From) (ended : Bool) (before after : Turning) (len : �
   pub key : KeyedSince from after made output' report' line'
   pub writes : WritesMore before.failed after.failed live made output output' report report'
 
-pub record Turns (from : From) (ended : Bool) (before after : Turning) (len : ℕ) (receiver : HeldReceiver) (live : Live)
+pub record Turns (from : From) (ended : Bool) (before after : Turning) (len : ℕ) (receiver : LiveReceiver) (live : Live)
     (output output' report report' : Stream) (told told' : Told) (line' : LineTold) : Type 0 where
   -- what is kept after the part that is not for hosts, and the report then: it has written all that it had to, and
   -- only then the part for hosts asks the ports
@@ -252,7 +253,7 @@ pub record Turns (from : From) (ended : Bool) (before after : Turning) (len : �
   pub asks : next.asked ≡ live.asked ++ asked ∷ []
   pub tells : IsAsked asked told told'
 
-pub record IsCutOff (from : From) (before after : Turning) (len : ℕ) (receiver : HeldReceiver) (live : Live)
+pub record IsCutOff (from : From) (before after : Turning) (len : ℕ) (receiver : LiveReceiver) (live : Live)
     (output output' report report' : Stream) (told told' : Told) (line' : LineTold) : Type 0 where
   pub next : Live
   pub cut : IsCutTurn before.words live next
@@ -285,7 +286,7 @@ from_of start = record {
 }
 
 -- so many turns were made since the first
-pub record Runs (words : ServeWords) (turning : Turning) (len : ℕ) (receiver : HeldReceiver) (start now : Outside)
+pub record Runs (words : ServeWords) (turning : Turning) (len : ℕ) (receiver : LiveReceiver) (start now : Outside)
     : Type 0 where
   pub count : ℕ
   pub live : Live

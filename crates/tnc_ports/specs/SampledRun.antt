@@ -6,8 +6,7 @@ use Rattle.std.specs.List.{flat_map}
 use Rattle.frame_merge.specs.declared.candidate.Candidate.{Candidate}
 use Rattle.sample_ring.specs.declared.got.Got.{Got}
 use Rattle.slicer_bank.specs.HeardOnRing.{lane_of}
-use Rattle.ring_receiver.specs.HeardByAll.{AreDueBy}
-use Rattle.ring_receiver.specs.Readers.{readers_wanted}
+use Rattle.live_receiver.specs.Listening.{AreDueBy, readers_wanted}
 use Rattle.keying.specs.Keyed.{failed}
 use Rattle.key_port.specs.KeyCalls.{IsReleased}
 use Rattle.key_port.specs.KeyEvents.{KeyEvent, marks_of, lines_of}
@@ -53,7 +52,7 @@ pub record IsRun (words : ServeWords) (live : Live) : Type 0 where
 -- a turn in which readers read on, and nothing more came to pass
 pub record IsCutInReading (words : ServeWords) (before after : Live) : Type 0 where
   pub lanes : List (List Got)
-  pub more : (lane : ℕ) → lane < readers_wanted words.sensitive
+  pub more : (lane : ℕ) → lane < readers_wanted words.listening
       → (reads : List Got) × (lane_of lanes lane ≡ lane_of before.lanes lane ++ reads)
   pub is : after ≡ record before { lanes = lanes }
 
@@ -64,7 +63,7 @@ pub record IsCutInHearing (words : ServeWords) (before after : Live) : Type 0 wh
   pub reads : LanesReadOn words ended before read
   pub items : List Candidate
   pub others : List Candidate
-  pub due : AreDueBy words.sensitive ended before.lanes read.lanes (items ++ others)
+  pub due : AreDueBy words.listening ended before.lanes read.lanes (items ++ others)
   pub hosts : Hosts
   pub hears : AreHeard words.monitor items read.hosts hosts
   pub is : after ≡ with_hosts hosts read

@@ -2,7 +2,7 @@
 ghost use Rattle.std.specs.Prelude.{◌≡◌, ℕ, [], false, All};
 ghost use Rattle.link_machine.specs.Params.{IsRefusedWindow};
 ghost use Rattle.sample_ring.specs.Ends.{ring_id, ring_len, reader_ring};
-ghost use Rattle.ring_receiver.specs.HeldReceiver.{readers_in};
+ghost use Rattle.live_receiver.specs.LiveReceivers.{readers_in, detection_of};
 ghost use Rattle.tnc_ports.specs.FreshReceiver.{IsFresh};
 ghost use Rattle.tnc_ports.specs.HeldMeter.{IsFreshSound, IsSoundOf, answers_if, answers_with};
 ghost use Rattle.tnc_ports.specs.Sampled.{new_live};
@@ -15,7 +15,7 @@ use crate::serve_words::ServeWords;
 use crate::turning::Turning;
 use host_ports::{Health, HostSide, Ports};
 use key_port::KeyPort;
-use ring_receiver::RingReceiver;
+use live_receiver::LiveReceiver;
 use sample_ring::{Reader, Ring};
 use std::alloc::Global;
 use std::net::Net;
@@ -42,7 +42,7 @@ pub fn station_loop<R: Threads + Wait + Net + Sync, O: Sink, E: Sink, N: Ports, 
     alloc: Global,
     words: &ServeWords,
     ring: &Ring,
-    receiver: &mut RingReceiver,
+    receiver: &mut LiveReceiver,
     sound: &mut Option<Reader>,
     output: &mut O,
     report: &mut E,
@@ -93,7 +93,7 @@ fn run<R: Threads + Wait + Net + Sync, O: Sink, E: Sink, N: Ports, K: KeyPort<O>
     rt: &R,
     turning: &mut Turning,
     ring: &Ring,
-    receiver: &mut RingReceiver,
+    receiver: &mut LiveReceiver,
     output: &mut O,
     report: &mut E,
     ports: &mut N,
@@ -101,7 +101,7 @@ fn run<R: Threads + Wait + Net + Sync, O: Sink, E: Sink, N: Ports, K: KeyPort<O>
 ) -> LoopEnd
     requires stands { StandsForLive turning.old (ring_len ring.now) receiver.old (new_live turning.old.words) }
     requires readers { All (λ reader. reader_ring reader ≡ ring_id ring.now) (readers_in receiver.old) }
-    requires detection { receiver.old.detection ≡ turning.old.words.dcd }
+    requires detection { detection_of receiver.old ≡ turning.old.words.dcd }
     requires meter { reader_ring turning.old.meter.reader ≡ ring_id ring.now }
     requires failed { turning.old.failed ≡ false }
     requires key { KeyStands turning.old.words.key turning.old.key [] }

@@ -2,6 +2,7 @@
 
 use host_ports::Listen;
 use keying::Words;
+use live_receiver::Listening;
 use slicer_bank::Detection;
 use station::Config;
 
@@ -27,8 +28,8 @@ pub struct ServeWords {
     pub dcd: Detection,
     /// Whether each frame that is heard or sent has a line in the report.
     pub monitor: bool,
-    /// Whether all 26 lanes listen, and not only eight.
-    pub sensitive: bool,
+    /// How the station listens: by which lanes, and for which modem.
+    pub listening: Listening,
     /// How the transmitter is keyed, if it is.
     pub key: Option<KeyWords>,
     /// After how many seconds each the report has a line of counts, if it has.

@@ -4,9 +4,9 @@ ghost use Rattle.std.specs.Prelude.{vec_capacity};
 ghost use Rattle.std.specs.Thread.{IsSync};
 ghost use Rattle.link_machine.specs.Params.{IsRefusedWindow};
 ghost use Rattle.sample_ring.specs.Ends.{ring_id, ring_len, reader_ring, writer_ring, published_by};
-ghost use Rattle.slicer_bank.specs.Detection.{CanBeAsked};
+ghost use Rattle.live_receiver.specs.Listening.{CanBeAskedBy};
 ghost use Rattle.tnc_base.specs.Faults.{HasRisen};
-ghost use Rattle.ring_receiver.specs.HeldReceiver.{readers_in};
+ghost use Rattle.live_receiver.specs.LiveReceivers.{readers_in};
 ghost use Rattle.tnc_ports.specs.FreshReceiver.{IsFresh};
 ghost use Rattle.tnc_ports.specs.HeldMeter.{IsFreshSound, IsSoundOf, answers_if};
 ghost use Rattle.tnc_ports.specs.PumpRun.{InputSide, Pumps, input_by};
@@ -23,7 +23,7 @@ use crate::serve_words::ServeWords;
 use crate::spawner::Spawner;
 use host_ports::Ports;
 use key_port::KeyPort;
-use ring_receiver::{RingReceiver, readers_wanted};
+use live_receiver::{LiveReceiver, readers_wanted};
 use sample_ring::{Reader, Ring, Writer};
 use std::alloc::Global;
 use std::net::Net;
@@ -79,7 +79,7 @@ pub fn serve<
     live: &mut Live<N, W, K>,
 ) -> ServeEnd
     requires window { (window : ℕ) → ¬ IsRefusedWindow words.config.params window }
-    requires dcd { CanBeAsked words.dcd }
+    requires dcd { CanBeAskedBy words.listening words.dcd }
     ensures served { IsServed words result (input_by I.left I.faults input.old) (input_by I.left I.faults input.new)
         (outside_by N.listens N.polls N.sends N.sent N.is_shut N.faults K.lines K.faults O.written O.faults
         E.written E.faults live.old.ports live.old.key output.old report.old)
@@ -98,7 +98,7 @@ pub fn serve<
     if ports.listen(rt, words.listen).is_err() {
         return ServeEnd::NoPort;
     }
-    let count = readers_wanted(words.sensitive) + 1;
+    let count = readers_wanted(words.listening) + 1;
     let Ok((ring, writer, mut readers)) = Ring::new(alloc, CELLS, count) else {
         return ServeEnd::Memory;
     };
@@ -106,7 +106,7 @@ pub fn serve<
         return ServeEnd::Memory;
     };
     let mut sound = readers.pop();
-    let Ok(mut receiver) = RingReceiver::new(alloc, readers, words.dcd, words.sensitive) else {
+    let Ok(mut receiver) = LiveReceiver::new(alloc, readers, words.dcd, words.listening) else {
         return ServeEnd::Memory;
     };
     let mut end = LoopEnd::Memory;
@@ -146,7 +146,7 @@ fn run_beside<
     words: &ServeWords,
     ring: &Ring,
     writer: Writer,
-    receiver: &mut RingReceiver,
+    receiver: &mut LiveReceiver,
     sound: &mut Option<Reader>,
     end: &mut LoopEnd,
     input: &mut I,
@@ -209,7 +209,7 @@ fn loop_if<R: Threads + Wait + Net + Sync, O: Sink, E: Sink, N: Ports, K: KeyPor
     alloc: Global,
     words: &ServeWords,
     ring: &Ring,
-    receiver: &mut RingReceiver,
+    receiver: &mut LiveReceiver,
     sound: &mut Option<Reader>,
     end: &mut LoopEnd,
     output: &mut O,
@@ -240,7 +240,7 @@ fn loop_if<R: Threads + Wait + Net + Sync, O: Sink, E: Sink, N: Ports, K: KeyPor
 fn close(
     ring: Ring,
     pumped: Pumped,
-    receiver: RingReceiver,
+    receiver: LiveReceiver,
     sound: Option<Reader>,
     room: Vec<Reader>,
     end: LoopEnd,
@@ -262,7 +262,7 @@ fn close(
 }
 
 /// All readers in a Vec that is empty and has room for them. It takes no memory.
-fn rejoined(receiver: RingReceiver, sound: Reader, mut room: Vec<Reader>) -> Vec<Reader>
+fn rejoined(receiver: LiveReceiver, sound: Reader, mut room: Vec<Reader>) -> Vec<Reader>
     requires empty { room.items ≡ [] }
     requires room { 10 ≤ vec_capacity room }
     ensures { result.items ≡ readers_in receiver ++ sound ∷ [] }

@@ -13,7 +13,7 @@ ghost use Rattle.key_port.specs.KeyTasks.{line_told};
 ghost use Rattle.channel_access.specs.Sound.{has_sound};
 ghost use Rattle.ax25_address.specs.declared.path.Path.{Path};
 ghost use Rattle.sample_ring.specs.Ends.{ring_id, ring_len, reader_ring};
-ghost use Rattle.ring_receiver.specs.HeldReceiver.{readers_in, answers_in};
+ghost use Rattle.live_receiver.specs.LiveReceivers.{readers_in, answers_in, detection_of};
 ghost use Rattle.sample_ring.specs.declared.got.Got.{Got};
 ghost use Rattle.slicer_bank.specs.RingLanes.{answers_of};
 ghost use Rattle.station.specs.Heard.{IsPathOf};
@@ -46,7 +46,8 @@ use channel_access::AirTick;
 use frame_merge::Candidate;
 use host_ports::{Health, HealthNotes, HostSide, Ports, ReportLine};
 use key_port::{KeyPort, KeyReports, KeySide};
-use ring_receiver::{Heard, RingReceiver};
+use live_receiver::LiveReceiver;
+use ring_receiver::Heard;
 use sample_ring::Ring;
 use slicer_bank::{LaneGap, OpenGate};
 use std::alloc::Global;
@@ -84,7 +85,7 @@ impl Turning {
         &mut self,
         rt: &R,
         ring: &Ring,
-        receiver: &mut RingReceiver,
+        receiver: &mut LiveReceiver,
         output: &mut O,
         report: &mut E,
         ports: &mut N,
@@ -92,7 +93,7 @@ impl Turning {
     ) -> Result<bool, OutOfMemory>
         requires stands { (live : Live) × StandsForLive self.old (ring_len ring.now) receiver.old live }
         requires readers { All (λ reader. reader_ring reader ≡ ring_id ring.now) (readers_in receiver.old) }
-        requires detection { receiver.old.detection ≡ self.old.words.dcd }
+        requires detection { detection_of receiver.old ≡ self.old.words.dcd }
         requires meter { reader_ring self.old.meter.reader ≡ ring_id ring.now }
         ensures turned { (from : From) (live : Live) → StandsForLive self.old (ring_len ring.now) receiver.old live
             → KeyedSince from self.old live (stream_of O.written O.faults output.old)
@@ -112,7 +113,7 @@ impl Turning {
             (told_by N.polls N.sends N.sent N.is_shut N.faults ports.new) (line_told K.lines K.faults key.new)) }
         ensures words { self.new.words ≡ self.old.words }
         ensures readers { All (λ reader. reader_ring reader ≡ ring_id ring.now) (readers_in receiver.new) }
-        ensures detection { receiver.new.detection ≡ receiver.old.detection }
+        ensures detection { detection_of receiver.new ≡ detection_of receiver.old }
         ensures meter { reader_ring self.new.meter.reader ≡ ring_id ring.now }
         ensures listens { N.listens ports.new ≡ N.listens ports.old }
         ensures dials { N.dials ports.new ≡ N.dials ports.old }
@@ -130,14 +131,14 @@ impl Turning {
         &mut self,
         rt: &R,
         ring: &Ring,
-        receiver: &mut RingReceiver,
+        receiver: &mut LiveReceiver,
         output: &mut O,
         report: &mut E,
         key: &mut K,
     ) -> Result<bool, OutOfMemory>
         requires stands { (live : Live) × StandsForLive self.old (ring_len ring.now) receiver.old live }
         requires readers { All (λ reader. reader_ring reader ≡ ring_id ring.now) (readers_in receiver.old) }
-        requires detection { receiver.old.detection ≡ self.old.words.dcd }
+        requires detection { detection_of receiver.old ≡ self.old.words.dcd }
         requires meter { reader_ring self.old.meter.reader ≡ ring_id ring.now }
         ensures made { (from : From) (live : Live) → StandsForLive self.old (ring_len ring.now) receiver.old live
             → KeyedSince from self.old live (stream_of O.written O.faults output.old)
@@ -155,7 +156,7 @@ impl Turning {
             (line_told K.lines K.faults key.new)) }
         ensures words { self.new.words ≡ self.old.words }
         ensures readers { All (λ reader. reader_ring reader ≡ ring_id ring.now) (readers_in receiver.new) }
-        ensures detection { receiver.new.detection ≡ receiver.old.detection }
+        ensures detection { detection_of receiver.new ≡ detection_of receiver.old }
         ensures meter { reader_ring self.new.meter.reader ≡ ring_id ring.now }
     {
         let heard = self.read(rt, ring, receiver, report)?;
@@ -171,7 +172,7 @@ impl Turning {
         &mut self,
         rt: &R,
         ring: &Ring,
-        receiver: &mut RingReceiver,
+        receiver: &mut LiveReceiver,
         report: &mut E,
     ) -> Result<Heard, OutOfMemory>
         requires stands { (live : Live) × StandsForLive self.old (ring_len ring.now) receiver.old live }
@@ -189,7 +190,7 @@ impl Turning {
             × (self.new.meter ≡ self.old.meter) }
         ensures lengths { IfOk result (λ heard. All (λ item. HasFrameLength item.octets) heard.items.items) }
         ensures readers { All (λ reader. reader_ring reader ≡ ring_id ring.now) (readers_in receiver.new) }
-        ensures detection { receiver.new.detection ≡ receiver.old.detection }
+        ensures detection { detection_of receiver.new ≡ detection_of receiver.old }
     {
         let heard = receiver.advance(rt, ring, &OpenGate)?;
         let lines = gap_lines(self.alloc, &heard.gaps)?;

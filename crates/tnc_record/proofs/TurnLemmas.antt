@@ -12,6 +12,7 @@ use Rattle.ring_receiver.specs.HeardByAll.{AreDueBy}
 use Rattle.ring_receiver.specs.HeldReceiver.{records_in, answers_in, Hears as HearsSoFar}
 use Rattle.ring_receiver.specs.Turns.{IsTurnOf, AreGrownBy}
 use Rattle.ring_recorder.specs.Turns.{IsTurn as IsRecorderTurn}
+use Rattle.live_receiver.specs.declared.receiver.LiveReceiver.TheVariants.{Bell202}
 use Rattle.tnc_ports.proofs.LiveReads.{lane_answers, nothing_read}
 use Rattle.tnc_record.specs.HeldListening.{StandsForRecording, ReportsMore, HearsMore, StopsHearing}
 use Rattle.tnc_record.specs.RecordTurns.{HasEnded, IsTurn}
@@ -122,9 +123,9 @@ stops_hearing words before after len recording s stands grown same unfailed =
             (subst (λ b. lane < readers_wanted b) (sym stands.sensitive) lt) in (
               map (answer len) g.0,
               get_or-take 9 all lane [] (let most = nine words.sensitive in omega arith)
-                  ∙ lane_answers len after.receiver lane ∙ ap (map (answer len)) g.1
+                  ∙ lane_answers len (Bell202 after.receiver) lane ∙ ap (map (answer len)) g.1
                   ∙ map-append (answer len) (get_or (records_in before.receiver) lane nothing_read).reads g.0
-                  ∙ ap (λ xs. xs ++ map (answer len) g.0) (sym (lane_answers len before.receiver lane)
+                  ∙ ap (λ xs. xs ++ map (answer len) g.0) (sym (lane_answers len (Bell202 before.receiver) lane)
                   ∙ ap (λ xs. lane_of xs lane) stands.all_lanes),
             );
         is = refl;

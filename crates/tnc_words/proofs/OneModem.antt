@@ -1,4 +1,4 @@
--- Words name one modem at most.
+-- Words name one modem at most, of what is sent as of a station.
 use Rattle.tnc_words.proofs.Common.{◌≡◌, Bool, List, Option, Some, None, ap, refl, sym, ◌∙◌, arith, codes, Row, Text}
 use Rattle.std.proofs.lemmas.Bool.{true≢false}
 use Rattle.clap.specs.Words.{first_of}
@@ -6,6 +6,10 @@ use Rattle.tnc_words.specs.declared.command.CheckOctets.{CheckOctets}
 use Rattle.tnc_words.specs.declared.command.CheckOctets.TheVariants.{Sixteen, ThirtyTwo, SixtyFour}
 use Rattle.tnc_words.specs.declared.command.Modem.{Modem}
 use Rattle.tnc_words.specs.declared.command.Modem.TheVariants.{Bell202, ShortWave as OnShortWave, Fx25}
+use Rattle.tnc_words.specs.declared.command.StationModem.{StationModem}
+use Rattle.tnc_words.specs.declared.command.StationModem.TheVariants.{Bell202 as StationBell202}
+use Rattle.tnc_words.specs.declared.command.StationModem.TheVariants.{ShortWave as StationShortWave}
+use Rattle.tnc_words.specs.StationModems.{IsStationModem}
 use Rattle.tnc_words.specs.Options.{is_used}
 use Rattle.tnc_words.specs.Sending.{HasModem, IsModem, count_of}
 use Rattle.tnc_words.proofs.OneNumber.{given_number}
@@ -39,3 +43,10 @@ one_modem_by hf (Some text) (Fx25 checks) (Fx25 other) h k =
 
 pub one_modem : (found : List Row) (modem other : Modem) → HasModem found modem → HasModem found other → modem ≡ other
 one_modem found modem other = one_modem_by (is_used (codes "hf") found) (first_of (codes "fx25") found) modem other
+
+pub one_station_modem : (hf sensitive : Bool) (modem other : StationModem) → IsStationModem hf sensitive modem
+    → IsStationModem hf sensitive other → modem ≡ other
+one_station_modem hf sensitive (StationBell202 more) (StationBell202 less) h k = ap StationBell202 (h.1 ∙ sym k.1)
+one_station_modem hf sensitive (StationBell202 more) StationShortWave h k = absurd (true≢false (sym k.0 ∙ h.0))
+one_station_modem hf sensitive StationShortWave (StationBell202 less) h k = absurd (true≢false (sym h.0 ∙ k.0))
+one_station_modem hf sensitive StationShortWave StationShortWave h k = refl

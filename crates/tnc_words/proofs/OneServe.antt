@@ -6,6 +6,7 @@ use Rattle.tnc_words.proofs.OneChannel.{one_channel}
 use Rattle.tnc_words.proofs.OneKey.{one_ptt}
 use Rattle.tnc_words.proofs.OneLink.{one_call as one_digi, one_params}
 use Rattle.tnc_words.proofs.OneNumber.{named_number, one_number}
+use Rattle.tnc_words.proofs.OneModem.{one_station_modem}
 use Rattle.tnc_words.proofs.OnePort.{one_address, one_port}
 
 pub one_serve_options : (found : List Row) (serve other : ServeOptions) → HasServeOptions found serve
@@ -29,7 +30,7 @@ one_serve_options found serve other h k =
       paclen = v;
       digi = serve.digi;
       dcd = serve.dcd;
-      sensitive = serve.sensitive;
+      modem = serve.modem;
       monitor = serve.monitor;
       stats = serve.stats;
       ptt = serve.ptt;
@@ -38,7 +39,7 @@ one_serve_options found serve other h k =
     ∙ ap (λ v. record other {
       digi = v;
       dcd = serve.dcd;
-      sensitive = serve.sensitive;
+      modem = serve.modem;
       monitor = serve.monitor;
       stats = serve.stats;
       ptt = serve.ptt;
@@ -46,14 +47,14 @@ one_serve_options found serve other h k =
     (one_digi _ serve.digi other.digi h.digi k.digi)
     ∙ ap (λ v. record other {
       dcd = v;
-      sensitive = serve.sensitive;
+      modem = serve.modem;
       monitor = serve.monitor;
       stats = serve.stats;
       ptt = serve.ptt;
     })
-    (one_dcd _ serve.dcd other.dcd h.dcd k.dcd)
-    ∙ ap (λ v. record other { sensitive = v; monitor = serve.monitor; stats = serve.stats; ptt = serve.ptt })
-    (h.sensitive ∙ sym k.sensitive)
+    (one_dcd _ _ serve.dcd other.dcd h.dcd k.dcd)
+    ∙ ap (λ v. record other { modem = v; monitor = serve.monitor; stats = serve.stats; ptt = serve.ptt })
+    (one_station_modem _ _ serve.modem other.modem h.modem k.modem)
     ∙ ap (λ v. record other { monitor = v; stats = serve.stats; ptt = serve.ptt }) (h.monitor ∙ sym k.monitor)
     ∙ ap (λ v. record other { stats = v; ptt = serve.ptt }) (named_number _ _ _ serve.stats other.stats h.stats k.stats)
     ∙ ap (λ v. record other { ptt = v }) (one_ptt _ _ _ serve.ptt other.ptt h.ptt k.ptt)

@@ -11,4 +11,5 @@ pub mod Ports
 pub mod Channels
 pub mod Rates
 pub mod Stations
+pub mod StationModems
 pub mod Commands

@@ -173,6 +173,15 @@ pub enum Dcd {
     Flags(u8),
 }
 
+/// The modem of the station of `serve`, and how it listens.
+#[derive(Clone, Copy, Debug, PartialEq, Eq)]
+pub enum StationModem {
+    /// Bell 202 at 1200 bits a second. If it is sensitive, more lanes hear, which take weaker and less exact signals.
+    Bell202 { sensitive: bool },
+    /// Short wave at 300 bits a second.
+    ShortWave,
+}
+
 /// The options of `serve`.
 #[derive(Clone, Copy, Debug, PartialEq, Eq)]
 pub struct ServeOptions {
@@ -192,10 +201,10 @@ pub struct ServeOptions {
     pub paclen: u16,
     /// The call for which frames are repeated, if any are.
     pub digi: Option<Call>,
-    /// By what the channel is busy.
+    /// By what the channel is busy; on short wave by 2 to 8 flags in a row.
     pub dcd: Dcd,
-    /// More lanes hear, which take weaker and less exact signals.
-    pub sensitive: bool,
+    /// The modem, and how it listens.
+    pub modem: StationModem,
     /// Each frame that is heard or sent is reported in a line.
     pub monitor: bool,
     /// After how many seconds each the report has a line of counts, 1 to 86,400, if it has.

@@ -32,7 +32,7 @@ mod topic;
 pub use command::{
     AudioForm, BenchOptions, CallOptions, ChannelOptions, CheckOctets, Command, Dcd, DecodeWords,
     EncodeWords, FrameForm, LoopWords, Modem, PttOptions, Receiving, RecordOptions, SampleRate,
-    ServeOptions, ShowWords,
+    ServeOptions, ShowWords, StationModem,
 };
 pub use fault::WordsFault;
 pub use laws::one_command;

@@ -1,11 +1,11 @@
 //! What the words say of links and of the station's call.
-ghost use Rattle.std.specs.Prelude.{◌≡◌, IfSome, IsNone, IsTrue, IsFalse, Option, option_map};
+ghost use Rattle.std.specs.Prelude.{◌≡◌, ◌≤◌, IfSome, IsNone, IsTrue, IsFalse, Option, option_map};
 ghost use Rattle.clap.specs.Words.{found_of, rows_of};
 ghost use Rattle.ax25_address.specs.Callsign.{Callsign};
 ghost use Rattle.selective_reject.specs.declared.window.Mode.{Mode};
 ghost use Rattle.link_machine.specs.declared.params.Params.{Params};
 ghost use Rattle.link_machine.specs.Params.{HasWindows};
-ghost use Rattle.tnc_words.specs.Links.{HasCall, HasMode, HasParams, SaysParams};
+ghost use Rattle.tnc_words.specs.Links.{HasCall, HasMode, HasParams, SaysParams, usual_t1};
 
 use crate::number::{Bounds, number_found};
 use crate::parsing::{has_flag, text_of};
@@ -55,9 +55,17 @@ fn params_said(found: &ArgMatches) -> Option<Params>
         wide: has_flag(found, "wide"),
         wide_mode: mode(text_of(found, "mode"), Mode::Srej)?,
         wide_window: number_found(found, "wide-window", 32, WINDOW)? as u8,
-        t1: number_found(found, "t1", 200, T1)? as u16,
+        t1: number_found(found, "t1", usual_t1(has_flag(found, "hf")), T1)? as u16,
         retries: number_found(found, "retries", 10, RETRIES)? as u8,
     })
+}
+
+/// The usual T1, by whether the station is for short wave.
+fn usual_t1(hf: bool) -> u64
+    ensures value { result ≡ usual_t1 hf }
+    ensures bound { result ≤ 3000 }
+{
+    if hf { 600 } else { 200 }
 }
 
 /// Whether each window fits its modulus in its mode.

@@ -63,7 +63,7 @@ pub(crate) const BENCH: [Entry; 6] = [
 ];
 
 /// The options of `serve`.
-pub(crate) const SERVE: [Entry; 24] = [
+pub(crate) const SERVE: [Entry; 25] = [
     Entry::Value("kiss"),
     Entry::Value("agw"),
     Entry::Value("bind"),
@@ -82,6 +82,7 @@ pub(crate) const SERVE: [Entry; 24] = [
     Entry::Value("paclen"),
     Entry::Value("digi"),
     Entry::Value("dcd"),
+    Entry::Flag("hf"),
     Entry::Flag("sensitive"),
     Entry::Flag("monitor"),
     Entry::Value("stats"),

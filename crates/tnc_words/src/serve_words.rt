@@ -1,18 +1,20 @@
 //! `serve` and its options.
-ghost use Rattle.std.specs.Prelude.{◌≡◌, ℕ, Option, Some, IfOk, IfSome, IsErrOf, IsNone, codes, map, option_map, string_bytes};
+ghost use Rattle.std.specs.Prelude.{◌≡◌, ℕ, Option, Some, IfOk, IfSome, IsErrOf, IsNone, true, false, codes, map, option_map, string_bytes};
 ghost use Rattle.std.specs.declared.net.ipv4_addr.Ipv4Addr.{Ipv4Addr};
 ghost use Rattle.clap.specs.Words.{found_of, rows_of};
 ghost use Rattle.tnc_words.specs.declared.command.Dcd.{Dcd};
 ghost use Rattle.tnc_words.specs.declared.command.PttOptions.{PttOptions};
 ghost use Rattle.tnc_words.specs.declared.command.ServeOptions.{ServeOptions};
+ghost use Rattle.tnc_words.specs.declared.command.StationModem.{StationModem};
 ghost use Rattle.tnc_words.specs.Carriers.{HasDcd};
 ghost use Rattle.tnc_words.specs.Keys.{HasPtt};
 ghost use Rattle.tnc_words.specs.Numbers.{NamesNumber};
 ghost use Rattle.tnc_words.specs.Ports.{HasAddress, HasPort};
+ghost use Rattle.tnc_words.specs.StationModems.{IsStationModem};
 ghost use Rattle.tnc_words.specs.Commands.{HasServeOptions, IsServe, first_word};
 
 use crate::channel_words::channel;
-use crate::command::{Dcd, PttOptions, ServeOptions};
+use crate::command::{Dcd, PttOptions, ServeOptions, StationModem};
 use crate::fault::WordsFault;
 use crate::link_words::{call_said, link_params};
 use crate::number::{Bounds, number_found, number_if_given, number_or_default, number_within};
@@ -58,6 +60,12 @@ const FLAGS: Bounds = Bounds {
     greatest: 8,
 };
 
+/// And on short wave, where noise has single flags too often.
+const HF_FLAGS: Bounds = Bounds {
+    least: 2,
+    greatest: 8,
+};
+
 /// `serve` and its options, after its own word.
 pub(crate) fn read_serve(alloc: Global, words: &[String]) -> Result<ServeOptions, WordsFault>
     requires { first_word (map string_bytes words.now) ≡ Some (codes "serve") }
@@ -86,8 +94,8 @@ fn serve_options(found: &ArgMatches) -> Option<ServeOptions>
         channel: channel(found)?,
         paclen: number_found(found, "paclen", 256, PACLEN)? as u16,
         digi: call_said(text_of(found, "digi"))?,
-        dcd: dcd(text_of(found, "dcd"))?,
-        sensitive: has_flag(found, "sensitive"),
+        dcd: dcd(has_flag(found, "hf"), text_of(found, "dcd"))?,
+        modem: station_modem(has_flag(found, "hf"), has_flag(found, "sensitive"))?,
         monitor: has_flag(found, "monitor"),
         stats: seconds(text_of(found, "stats"))?,
         ptt: ptt(
@@ -163,10 +171,45 @@ fn ptt_by(port: &str, tail: Option<&str>, socket: bool) -> Option<PttOptions>
     })
 }
 
-/// By what the channel is busy, as a text says, or by tones if there is no text.
-fn dcd(text: Option<&str>) -> Option<Dcd>
-    ensures dcd { IfSome result (HasDcd (option_map (λ t. t.now) text.entry)) }
-    ensures none { IsNone result → (dcd : Dcd) → ¬ HasDcd (option_map (λ t. t.now) text.entry) dcd }
+/// The modem, by whether it is for short wave and whether it is sensitive.
+fn station_modem(hf: bool, sensitive: bool) -> Option<StationModem>
+    ensures modem { IfSome result (IsStationModem hf sensitive) }
+    ensures none { IsNone result → (modem : StationModem) → ¬ IsStationModem hf sensitive modem }
+{
+    match (hf, sensitive) {
+        (false, sensitive) => Some(StationModem::Bell202 { sensitive }),
+        (true, false) => Some(StationModem::ShortWave),
+        (true, true) => None,
+    }
+}
+
+/// By what the channel is busy, as a text says.
+fn dcd(hf: bool, text: Option<&str>) -> Option<Dcd>
+    ensures dcd { IfSome result (HasDcd hf (option_map (λ t. t.now) text.entry)) }
+    ensures none { IsNone result → (dcd : Dcd) → ¬ HasDcd hf (option_map (λ t. t.now) text.entry) dcd }
+{
+    if hf {
+        hf_dcd(text)
+    } else {
+        tones_or_flags(text)
+    }
+}
+
+/// By what it is on short wave: by so many flags in a row, or by three if there is no text.
+fn hf_dcd(text: Option<&str>) -> Option<Dcd>
+    ensures dcd { IfSome result (HasDcd true (option_map (λ t. t.now) text.entry)) }
+    ensures none { IsNone result → (dcd : Dcd) → ¬ HasDcd true (option_map (λ t. t.now) text.entry) dcd }
+{
+    let Some(text) = text else {
+        return Some(Dcd::Flags(3));
+    };
+    Some(Dcd::Flags(number_within(text, HF_FLAGS)? as u8))
+}
+
+/// By what it is with Bell 202: by tones or so many flags in a row, or by tones if there is no text.
+fn tones_or_flags(text: Option<&str>) -> Option<Dcd>
+    ensures dcd { IfSome result (HasDcd false (option_map (λ t. t.now) text.entry)) }
+    ensures none { IsNone result → (dcd : Dcd) → ¬ HasDcd false (option_map (λ t. t.now) text.entry) dcd }
 {
     let Some(text) = text else {
         return Some(Dcd::Tones);

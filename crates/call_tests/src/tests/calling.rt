@@ -5,6 +5,7 @@ use super::octets::{
 };
 use super::words::words;
 use crate::assertions::assert_equal;
+use host_ports::MemPorts;
 use station::HostEvent;
 use std::alloc::Global;
 use std::marker::Model;
@@ -12,7 +13,6 @@ use std::net::Net;
 use std::test::Fail;
 use tnc_base::{MemSink, MemSource, Octets, OutOfMemory};
 use tnc_call::{CallEnd, call};
-use host_ports::MemPorts;
 use tnc_ports::MemLive;
 
 /// The most octets of an event.

@@ -1,6 +1,8 @@
 //! The command `bench`. The hashes of texts were computed apart from the program, from words of PCG XSH RR 64/32 and by
 //! FNV-1a.
 use crate::tests::assertions::assert_equal;
+use std::alloc::Global;
+use std::process::Abort;
 use std::test::Fail;
 use tnc_base::MemSink;
 use tnc_bench::bench;
@@ -16,33 +18,46 @@ const OPTIONS: BenchOptions = BenchOptions {
     wide: false,
 };
 
-// Both stations only call each other and end the link.
-#[test]
-fn a_run_of_no_octets_is_told(rt: HostRuntime) -> Result<(), Fail> {
-    let mut output = MemSink::new(rt.alloc(), 1000, Vec::new(rt.alloc()))?;
-    assert!(rt; bench(rt.alloc(), OPTIONS, &mut output).is_ok());
-    let want = b"ticks 172\n\
-        sent 4 lost 0\n\
-        A 1 given 0 cbf29ce484222325 got 0 cbf29ce484222325\n\
-        B 1 given 0 cbf29ce484222325 got 0 cbf29ce484222325\n";
-    assert_equal(&rt, &output.written(), &want.as_slice());
-    Ok(())
-}
-
-#[test]
-fn a_run_with_losses_is_told(rt: HostRuntime) -> Result<(), Fail> {
+/// What is told of a run with so many octets of each host, in which so many of a hundred transmissions are lost.
+fn told<R: Abort>(rt: &R, alloc: Global, octets: u32, loss: u8) -> Result<Vec<u8>, Fail> {
+    assert!(*rt; octets <= 100_000 && loss <= 90);
     let options = BenchOptions {
-        octets: 6,
-        loss: 20,
+        octets,
+        loss,
         ..OPTIONS
     };
-    let mut output = MemSink::new(rt.alloc(), 1000, Vec::new(rt.alloc()))?;
-    assert!(rt; bench(rt.alloc(), options, &mut output).is_ok());
-    let want = b"ticks 1020\n\
+    let mut output = MemSink::new(alloc, 1000, Vec::new(alloc))?;
+    bench(alloc, options, &mut output)?;
+    Ok(output.written().to_vec(alloc)?)
+}
+
+/// Each row: how many octets are given, how many of a hundred transmissions are lost, and what is told. In the first row
+/// both stations only call each other and end the link.
+const RUNS: &[(u32, u8, &[u8])] = &[
+    (
+        0,
+        0,
+        b"ticks 172\n\
+        sent 4 lost 0\n\
+        A 1 given 0 cbf29ce484222325 got 0 cbf29ce484222325\n\
+        B 1 given 0 cbf29ce484222325 got 0 cbf29ce484222325\n",
+    ),
+    (
+        6,
+        20,
+        b"ticks 1020\n\
         sent 11 lost 3\n\
         A 1 given 6 5fa5b78966bba91a got 6 ce0f0eec67d63017\n\
-        B 1 given 6 ce0f0eec67d63017 got 6 5fa5b78966bba91a\n";
-    assert_equal(&rt, &output.written(), &want.as_slice());
+        B 1 given 6 ce0f0eec67d63017 got 6 5fa5b78966bba91a\n",
+    ),
+];
+
+#[test]
+fn short_runs_are_told(rt: HostRuntime) -> Result<(), Fail> {
+    for (octets, loss, want) in RUNS {
+        let report = told(&rt, rt.alloc(), *octets, *loss)?;
+        assert_equal(&rt, &(*octets, report.as_slice()), &(*octets, *want));
+    }
     Ok(())
 }
 
@@ -63,17 +78,11 @@ fn ticks_of(report: &[u8]) -> u64 {
 // 20,000 octets take over 133 seconds at 1200 bits a second, and go in 79 packets each way.
 #[test]
 fn a_long_run_is_told(rt: HostRuntime) -> Result<(), Fail> {
-    let options = BenchOptions {
-        octets: 20_000,
-        ..OPTIONS
-    };
-    let mut output = MemSink::new(rt.alloc(), 1000, Vec::new(rt.alloc()))?;
-    assert!(rt; bench(rt.alloc(), options, &mut output).is_ok());
     let want = b" lost 0\n\
         A 1 given 20000 84f51cfb8f56aa80 got 20000 72e68f561754f47e\n\
         B 1 given 20000 72e68f561754f47e got 20000 84f51cfb8f56aa80\n";
-    let written = output.written();
-    let told = (ticks_of(&written) > 13_333, written.ends_with(want));
-    assert_equal(&rt, &told, &(true, true));
+    let report = told(&rt, rt.alloc(), 20_000, 0)?;
+    let right = (ticks_of(&report) > 13_333, report.ends_with(want));
+    assert_equal(&rt, &right, &(true, true));
     Ok(())
 }

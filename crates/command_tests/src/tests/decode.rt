@@ -136,6 +136,24 @@ fn decoded<R: Abort + Threads + Sync>(
     Ok((output.written().to_vec(alloc)?, end))
 }
 
+/// Asserts what is written of an input that comes in pieces of so many octets.
+fn assert_cut<R: Abort + Threads + Sync>(
+    rt: &R,
+    alloc: Global,
+    words: DecodeWords,
+    octets: Vec<u8>,
+    (piece, reads): (usize, &[u64]),
+    want: (&[u8], Result<(), Fault>),
+) -> Result<(), Fail> {
+    let (written, end) = decoded(rt, alloc, words, octets, piece, reads)?;
+    assert_equal(
+        rt,
+        &(words, piece, (written.as_slice(), end)),
+        &(words, piece, want),
+    );
+    Ok(())
+}
+
 /// Asserts what is written of an input that comes in pieces of 4095 octets, to its end.
 fn assert_writes<R: Abort + Threads + Sync>(
     rt: &R,
@@ -144,27 +162,35 @@ fn assert_writes<R: Abort + Threads + Sync>(
     octets: Vec<u8>,
     want: &[u8],
 ) -> Result<(), Fail> {
-    let (written, end) = decoded(rt, alloc, words, octets, 4095, &[])?;
-    assert_equal(
-        rt,
-        &(words, written.as_slice(), end),
-        &(words, want, Ok(())),
-    );
-    Ok(())
+    assert_cut(rt, alloc, words, octets, (4095, &[]), (want, Ok(())))
+}
+
+/// Each row: how many octets come at once, and whether the lanes have threads.
+const CUTS: &[(usize, bool)] = &[(1, false), (3, false), (4095, false), (4095, true)];
+
+/// The octets of the samples, and one more.
+fn odd_recording(alloc: Global) -> Result<Vec<u8>, AllocError> {
+    let mut octets = recording(alloc)?;
+    octets.push(0)?;
+    Ok(octets)
 }
 
 #[test]
 fn a_recording_gives_one_line_however_its_source_cuts_it(rt: HostRuntime) -> Result<(), Fail> {
-    for (piece, threads) in [(1, false), (3, false), (4095, false), (4095, true)] {
-        let mut octets = recording(rt.alloc())?;
-        octets.push(0)?;
-        let words = DecodeWords { threads, ..WORDS };
-        let (written, end) = decoded(&rt, rt.alloc(), words, octets, piece, &[])?;
-        assert_equal(
+    for (piece, threads) in CUTS {
+        let words = DecodeWords {
+            threads: *threads,
+            ..WORDS
+        };
+        let octets = odd_recording(rt.alloc())?;
+        assert_cut(
             &rt,
-            &(piece, threads, written.as_slice(), end),
-            &(piece, threads, LINE, Ok(())),
-        );
+            rt.alloc(),
+            words,
+            octets,
+            (*piece, &[]),
+            (LINE, Ok(())),
+        )?;
     }
     Ok(())
 }
@@ -172,85 +198,100 @@ fn a_recording_gives_one_line_however_its_source_cuts_it(rt: HostRuntime) -> Res
 // The frame ends at sample 1294 of 1296.
 #[test]
 fn a_frame_is_written_before_the_input_fails(rt: HostRuntime) -> Result<(), Fail> {
-    let (written, end) = decoded(&rt, rt.alloc(), WORDS, recording(rt.alloc())?, 4095, &[2])?;
-    assert_equal(&rt, &(written.as_slice(), end), &(LINE, Err(Fault::Read)));
-    Ok(())
+    let octets = recording(rt.alloc())?;
+    let want = (LINE, Err(Fault::Read));
+    assert_cut(&rt, rt.alloc(), WORDS, octets, (4095, &[2]), want)
 }
 
+const WIDE: DecodeWords = DecodeWords {
+    receiving: Receiving::Standard {
+        rate: SampleRate::Wide,
+    },
+    ..WORDS
+};
+
+const WIDE_SENSITIVE: DecodeWords = DecodeWords {
+    receiving: Receiving::Sensitive {
+        rate: SampleRate::Wide,
+    },
+    ..WORDS
+};
+
+/// Each row: the words, and what stands before samples at 48,000 a second.
+const AT_48000: &[(DecodeWords, &[u8])] = &[
+    (WIDE, b""),
+    (
+        DecodeWords {
+            threads: true,
+            ..WIDE
+        },
+        b"\0\0\0\0\0\0",
+    ),
+    (
+        DecodeWords {
+            audio: AudioForm::Wav,
+            ..WORDS
+        },
+        WIDE_HEAD,
+    ),
+    (WIDE_SENSITIVE, b""),
+    (
+        DecodeWords {
+            threads: true,
+            ..WIDE_SENSITIVE
+        },
+        b"\0\0\0\0\0\0",
+    ),
+    (
+        DecodeWords {
+            audio: AudioForm::Wav,
+            ..SENSITIVE
+        },
+        WIDE_HEAD,
+    ),
+];
+
+/// The octets of the samples at 48,000 a second, after others.
+fn wide_recording(alloc: Global, front: &[u8]) -> Result<Vec<u8>, AllocError> {
+    let mut octets = front.to_vec(alloc)?;
+    record(&mut octets, 5)?;
+    Ok(octets)
+}
+
+// By eight lanes and by all.
 #[test]
 fn samples_at_48000_a_second_give_the_same_line(rt: HostRuntime) -> Result<(), Fail> {
-    let raw = DecodeWords {
-        receiving: Receiving::Standard {
-            rate: SampleRate::Wide,
-        },
-        ..WORDS
-    };
-    let on_threads = DecodeWords {
-        threads: true,
-        ..raw
-    };
-    let wav = DecodeWords {
-        audio: AudioForm::Wav,
-        ..WORDS
-    };
-    let table: [(DecodeWords, &[u8]); 3] = [
-        (raw, b""),
-        (on_threads, b"\0\0\0\0\0\0"),
-        (wav, WIDE_HEAD),
-    ];
-    for (words, front) in table {
-        let mut octets = front.to_vec(rt.alloc())?;
-        record(&mut octets, 5)?;
-        assert_writes(&rt, rt.alloc(), words, octets, LINE)?;
+    for (words, front) in AT_48000 {
+        let octets = wide_recording(rt.alloc(), front)?;
+        assert_writes(&rt, rt.alloc(), *words, octets, LINE)?;
     }
     Ok(())
 }
+
+/// Each row: whether the sender is slow, the words, and what is written.
+const SENDERS: &[(bool, DecodeWords, &[u8])] = &[
+    (false, SENSITIVE, LINE),
+    (true, SENSITIVE, LINE),
+    (
+        true,
+        DecodeWords {
+            threads: true,
+            ..SENSITIVE
+        },
+        LINE,
+    ),
+    (true, WORDS, b""),
+];
 
 #[test]
 fn all_lanes_hear_a_slow_sender_too(rt: HostRuntime) -> Result<(), Fail> {
-    let exact = recording(rt.alloc())?;
-    let slow = slow_recording(rt.alloc())?;
-    let on_threads = DecodeWords {
-        threads: true,
-        ..SENSITIVE
-    };
-    let table: [(&[u8], DecodeWords, &[u8]); 4] = [
-        (&exact, SENSITIVE, LINE),
-        (&slow, SENSITIVE, LINE),
-        (&slow, on_threads, LINE),
-        (&slow, WORDS, b""),
-    ];
-    for (octets, words, want) in table {
-        assert_writes(&rt, rt.alloc(), words, octets.to_vec(rt.alloc())?, want)?;
-    }
-    Ok(())
-}
-
-#[test]
-fn all_lanes_hear_samples_at_48000_a_second(rt: HostRuntime) -> Result<(), Fail> {
-    let raw = DecodeWords {
-        receiving: Receiving::Sensitive {
-            rate: SampleRate::Wide,
-        },
-        ..WORDS
-    };
-    let on_threads = DecodeWords {
-        threads: true,
-        ..raw
-    };
-    let wav = DecodeWords {
-        audio: AudioForm::Wav,
-        ..SENSITIVE
-    };
-    let table: [(DecodeWords, &[u8]); 3] = [
-        (raw, b""),
-        (on_threads, b"\0\0\0\0\0\0"),
-        (wav, WIDE_HEAD),
-    ];
-    for (words, front) in table {
-        let mut octets = front.to_vec(rt.alloc())?;
-        record(&mut octets, 5)?;
-        assert_writes(&rt, rt.alloc(), words, octets, LINE)?;
+    for (is_slow, words, want) in SENDERS {
+        let octets = if *is_slow {
+            slow_recording(rt.alloc())?
+        } else {
+            recording(rt.alloc())?
+        };
+        assert_writes(&rt, rt.alloc(), *words, octets, want)?;
     }
     Ok(())
 }
@@ -263,49 +304,52 @@ fn short_wave_takes_no_file_of_48000_a_second(rt: HostRuntime) -> Result<(), Fai
         receiving: Receiving::ShortWave,
         ..WORDS
     };
-    let (_, end) = decoded(
-        &rt,
-        rt.alloc(),
-        words,
-        WIDE_HEAD.to_vec(rt.alloc())?,
-        4095,
-        &[],
-    )?;
+    let octets = WIDE_HEAD.to_vec(rt.alloc())?;
+    let (_, end) = decoded(&rt, rt.alloc(), words, octets, 4095, &[])?;
     assert!(rt; matches!(end, Err(Fault::Input(InputFault::Wav(_)))));
     Ok(())
+}
+
+/// The samples of a block.
+fn block(alloc: Global) -> Result<Vec<u8>, Fail> {
+    let mut source = MemSource::new(LINE.to_vec(alloc)?, 31, Vec::new(alloc));
+    let mut sink = MemSink::new(alloc, 8000, Vec::new(alloc))?;
+    encode(alloc, BLOCK, &mut source, &mut sink)?;
+    Ok(sink.written().to_vec(alloc)?)
 }
 
 /// The samples of a block, of which so many are silent from sample 700 on. The data and check octets are the samples
 /// from 640 to 3712.
 fn damaged(rt: &impl Abort, alloc: Global, count: usize) -> Result<Vec<u8>, Fail> {
-    let mut source = MemSource::new(LINE.to_vec(alloc)?, 31, Vec::new(alloc));
-    let mut sink = MemSink::new(alloc, 8000, Vec::new(alloc))?;
-    let end = encode(alloc, BLOCK, &mut source, &mut sink);
-    assert_equal(rt, &(sink.written().len(), end), &(7552, Ok(())));
-    let mut octets = sink.written().to_vec(alloc)?;
+    let mut octets = block(alloc)?;
     assert!(rt; count <= 2000 && octets.len() == 7552);
     octets[1400..1400 + 2 * count].fill(0);
     Ok(octets)
 }
 
-// With 16 check octets any stretch of 441 samples may be wrong.
+/// Each row: how many samples are silent, the words, and what is written. With 16 check octets any stretch of 441 samples
+/// may be wrong.
+const DAMAGED: &[(usize, DecodeWords, &[u8])] = &[
+    (0, WORDS, LINE),
+    (0, FX25, LINE),
+    (441, WORDS, b""),
+    (441, FX25, LINE),
+    (
+        441,
+        DecodeWords {
+            frames: FrameForm::Kiss,
+            ..FX25
+        },
+        KISS_FRAME,
+    ),
+    (1000, FX25, b""),
+];
+
 #[test]
 fn a_block_is_heard_beside_what_comes_plainly(rt: HostRuntime) -> Result<(), Fail> {
-    let kiss = DecodeWords {
-        frames: FrameForm::Kiss,
-        ..FX25
-    };
-    let table: [(usize, DecodeWords, &[u8]); 6] = [
-        (0, WORDS, LINE),
-        (0, FX25, LINE),
-        (441, WORDS, b""),
-        (441, FX25, LINE),
-        (441, kiss, KISS_FRAME),
-        (1000, FX25, b""),
-    ];
-    for (count, words, want) in table {
-        let octets = damaged(&rt, rt.alloc(), count)?;
-        assert_writes(&rt, rt.alloc(), words, octets, want)?;
+    for (count, words, want) in DAMAGED {
+        let octets = damaged(&rt, rt.alloc(), *count)?;
+        assert_writes(&rt, rt.alloc(), *words, octets, want)?;
     }
     assert_writes(&rt, rt.alloc(), FX25, recording(rt.alloc())?, LINE)
 }
@@ -314,12 +358,7 @@ fn a_block_is_heard_beside_what_comes_plainly(rt: HostRuntime) -> Result<(), Fai
 fn a_block_is_heard_however_its_source_cuts_it(rt: HostRuntime) -> Result<(), Fail> {
     for piece in [1, 3, 1000] {
         let octets = damaged(&rt, rt.alloc(), 441)?;
-        let (written, end) = decoded(&rt, rt.alloc(), FX25, octets, piece, &[])?;
-        assert_equal(
-            &rt,
-            &(piece, written.as_slice(), end),
-            &(piece, LINE, Ok(())),
-        );
+        assert_cut(&rt, rt.alloc(), FX25, octets, (piece, &[]), (LINE, Ok(())))?;
     }
     Ok(())
 }

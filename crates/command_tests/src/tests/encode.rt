@@ -55,120 +55,157 @@ fn encoded(
     Ok((sink.written().to_vec(alloc)?, end))
 }
 
-#[test]
-fn frames_and_their_samples(rt: HostRuntime) -> Result<(), Fail> {
-    let kiss = EncodeWords {
-        frames: FrameForm::Kiss,
-        ..WORDS
-    };
-    let wav = EncodeWords {
-        audio: AudioForm::Wav,
-        ..WORDS
-    };
-    let joined = EncodeWords {
-        join: true,
-        ..WORDS
-    };
-    let quiet = EncodeWords {
-        opening: 3,
-        closing: 2,
-        silence: 7,
-        level: 1000,
-        ..WORDS
-    };
-    // the words, the input, and how many octets come and their hash
-    for (words, input, count, hash) in [
-        (WORDS, LINE, 2592, 0xaa5a_7dd0_ab09_8f3d),
-        (kiss, KISS, 2592, 0xaa5a_7dd0_ab09_8f3d),
-        (wav, LINE, 2636, 0xcce1_aaf6_e749_73bc),
-        (WORDS, TWO, 5168, 0x29fd_d972_36a4_4ab0),
-        (joined, TWO, 4912, 0x6262_5458_9968_6b6e),
-        (quiet, LINE, 2862, 0x1b64_0697_088c_f578),
-        (WORDS, b"", 0, 0xcbf2_9ce4_8422_2325),
-    ] {
-        let (written, end) = encoded(&rt, rt.alloc(), words, input, &[], &[])?;
-        assert_equal(
-            &rt,
-            &(words, written.len(), fnv(&written), end),
-            &(words, count, hash, Ok(())),
-        );
+/// How many octets are written of a whole input, their hash, and how the command ends.
+fn hashed(
+    rt: &impl Abort,
+    alloc: Global,
+    words: EncodeWords,
+    input: &[u8],
+) -> Result<(usize, u64, Result<(), Fault>), Fail> {
+    let (written, end) = encoded(rt, alloc, words, input, &[], &[])?;
+    Ok((written.len(), fnv(&written), end))
+}
+
+/// Each row: the words, the input, and how many octets come and their hash.
+type Row = (EncodeWords, &'static [u8], usize, u64);
+
+fn assert_rows<R: Abort>(rt: &R, alloc: Global, rows: &[Row]) -> Result<(), Fail> {
+    for (words, input, count, hash) in rows {
+        let got = hashed(rt, alloc, *words, input)?;
+        assert_equal(rt, &(*words, got), &(*words, (*count, *hash, Ok(()))));
     }
     Ok(())
 }
 
-/// The tag and the block of `hello` as Dire Wolf's gen_packets makes them, between flags on one line.
+const SAMPLES: &[Row] = &[
+    (WORDS, LINE, 2592, 0xaa5a_7dd0_ab09_8f3d),
+    (
+        EncodeWords {
+            frames: FrameForm::Kiss,
+            ..WORDS
+        },
+        KISS,
+        2592,
+        0xaa5a_7dd0_ab09_8f3d,
+    ),
+    (
+        EncodeWords {
+            audio: AudioForm::Wav,
+            ..WORDS
+        },
+        LINE,
+        2636,
+        0xcce1_aaf6_e749_73bc,
+    ),
+    (WORDS, TWO, 5168, 0x29fd_d972_36a4_4ab0),
+    (
+        EncodeWords {
+            join: true,
+            ..WORDS
+        },
+        TWO,
+        4912,
+        0x6262_5458_9968_6b6e,
+    ),
+    (
+        EncodeWords {
+            opening: 3,
+            closing: 2,
+            silence: 7,
+            level: 1000,
+            ..WORDS
+        },
+        LINE,
+        2862,
+        0x1b64_0697_088c_f578,
+    ),
+    (WORDS, b"", 0, 0xcbf2_9ce4_8422_2325),
+];
+
+#[test]
+fn frames_and_their_samples(rt: HostRuntime) -> Result<(), Fail> {
+    assert_rows(&rt, rt.alloc(), SAMPLES)
+}
+
+const WITH_16: EncodeWords = EncodeWords {
+    modem: Modem::Fx25(CheckOctets::Sixteen),
+    ..WORDS
+};
+
+const WITH_32: EncodeWords = EncodeWords {
+    modem: Modem::Fx25(CheckOctets::ThirtyTwo),
+    ..WORDS
+};
+
+const WITH_64: EncodeWords = EncodeWords {
+    modem: Modem::Fx25(CheckOctets::SixtyFour),
+    ..WORDS
+};
+
+/// One frame, and two in one transmission: the tag and the block of `hello` as Dire Wolf's gen_packets makes them, between
+/// flags on one line.
+const BLOCKS: &[Row] = &[
+    (WITH_16, HELLO, 7552, 0xd616_ba2a_b954_1d6d),
+    (
+        EncodeWords {
+            join: true,
+            ..WITH_16
+        },
+        HELLO_TWICE,
+        14720,
+        0x0106_9044_9ecc_14e5,
+    ),
+    (WITH_32, HELLO, 9600, 0xfcb4_cb09_dbef_39e3),
+    (
+        EncodeWords {
+            join: true,
+            ..WITH_32
+        },
+        HELLO_TWICE,
+        18816,
+        0xf023_4b62_7567_e7cc,
+    ),
+    (WITH_64, HELLO, 17792, 0x0560_b9ff_af07_03b8),
+    (
+        EncodeWords {
+            join: true,
+            ..WITH_64
+        },
+        HELLO_TWICE,
+        35200,
+        0xefe0_29a2_a805_3353,
+    ),
+];
+
 #[test]
 fn frames_with_check_octets(rt: HostRuntime) -> Result<(), Fail> {
-    // the check octets, and how many octets come and their hash: of one frame, and of two in one transmission
-    for (checks, count, hash, joined_count, joined_hash) in [
-        (
-            CheckOctets::Sixteen,
-            7552,
-            0xd616_ba2a_b954_1d6d,
-            14720,
-            0x0106_9044_9ecc_14e5,
-        ),
-        (
-            CheckOctets::ThirtyTwo,
-            9600,
-            0xfcb4_cb09_dbef_39e3,
-            18816,
-            0xf023_4b62_7567_e7cc,
-        ),
-        (
-            CheckOctets::SixtyFour,
-            17792,
-            0x0560_b9ff_af07_03b8,
-            35200,
-            0xefe0_29a2_a805_3353,
-        ),
-    ] {
-        let one = EncodeWords {
-            modem: Modem::Fx25(checks),
-            ..WORDS
-        };
-        let (written, end) = encoded(&rt, rt.alloc(), one, HELLO, &[], &[])?;
-        assert_equal(
-            &rt,
-            &(one, written.len(), fnv(&written), end),
-            &(one, count, hash, Ok(())),
-        );
-        let two = EncodeWords { join: true, ..one };
-        let (written, end) = encoded(&rt, rt.alloc(), two, HELLO_TWICE, &[], &[])?;
-        assert_equal(
-            &rt,
-            &(two, written.len(), fnv(&written), end),
-            &(two, joined_count, joined_hash, Ok(())),
-        );
-    }
-    Ok(())
+    assert_rows(&rt, rt.alloc(), BLOCKS)
 }
+
+const ODD: Fault = Fault::Input(InputFault::Line(LineFault {
+    flaw: LineFlaw::OddLine,
+    place: 31,
+}));
+
+/// Each row: the input, the reads and writes that fail, the fault, and how many octets are written.
+const CUT: &[(&[u8], &[u64], &[u64], Fault, usize)] = &[
+    (TWO, &[1], &[], Fault::Read, 2592),
+    (TWO, &[0], &[], Fault::Read, 0),
+    (TWO, &[], &[0], Fault::Write, 0),
+    (
+        b"9c946ea04040e09c6e988a9a40613f\n9c9\n",
+        &[],
+        &[],
+        ODD,
+        2592,
+    ),
+];
 
 #[test]
 fn what_had_ended_stands_written(rt: HostRuntime) -> Result<(), Fail> {
-    let odd = Fault::Input(InputFault::Line(LineFault {
-        flaw: LineFlaw::OddLine,
-        place: 31,
-    }));
-    // the input, the reads and writes that fail, the fault, and how many octets are written
-    for (input, reads, writes, fault, count) in [
-        (TWO, [1].as_slice(), [].as_slice(), Fault::Read, 2592),
-        (TWO, [0].as_slice(), [].as_slice(), Fault::Read, 0),
-        (TWO, [].as_slice(), [0].as_slice(), Fault::Write, 0),
-        (
-            b"9c946ea04040e09c6e988a9a40613f\n9c9\n",
-            [].as_slice(),
-            [].as_slice(),
-            odd,
-            2592,
-        ),
-    ] {
+    for (input, reads, writes, fault, count) in CUT {
         let (written, end) = encoded(&rt, rt.alloc(), WORDS, input, reads, writes)?;
-        assert_equal(
-            &rt,
-            &(fault, written.len(), end),
-            &(fault, count, Err(fault)),
-        );
+        assert_equal(&rt, &(written.len(), end), &(*count, Err(*fault)));
     }
     Ok(())
 }

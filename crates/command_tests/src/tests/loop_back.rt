@@ -29,30 +29,47 @@ fn looped<R: Threads + Sync>(
     Ok((output.written().to_vec(alloc)?, end))
 }
 
-// Counts and hashes of another program; the hash of no octet is the offset basis of FNV-1a.
+const ROUGH: LoopWords = LoopWords {
+    rough: true,
+    ..WORDS
+};
+
+const EXACT_SUMMARY: &[u8] = b"frames 20\nheard 20\nstray 0\nhash 3c053d315c843125\n";
+
+const ROUGH_SUMMARY: &[u8] = b"frames 20\nheard 20\nstray 0\nhash a3787c7f30285198\n";
+
+const NO_SUMMARY: &[u8] = b"frames 0\nheard 0\nstray 0\nhash cbf29ce484222325\n";
+
+/// Each row: the words, and what is written. Counts and hashes are those of another program; the hash of no octet is the
+/// offset basis of FNV-1a.
+const SUMMARIES: &[(LoopWords, &[u8])] = &[
+    (WORDS, EXACT_SUMMARY),
+    (
+        LoopWords {
+            threads: true,
+            ..WORDS
+        },
+        EXACT_SUMMARY,
+    ),
+    (ROUGH, ROUGH_SUMMARY),
+    (
+        LoopWords {
+            threads: true,
+            ..ROUGH
+        },
+        ROUGH_SUMMARY,
+    ),
+    (LoopWords { frames: 0, ..WORDS }, NO_SUMMARY),
+];
+
 #[test]
 fn the_frames_of_seed_seven_are_heard(rt: HostRuntime) -> Result<(), Fail> {
-    let none = LoopWords { frames: 0, ..WORDS };
-    let rough = LoopWords {
-        rough: true,
-        ..WORDS
-    };
-    let exact_summary = b"frames 20\nheard 20\nstray 0\nhash 3c053d315c843125\n".as_slice();
-    let rough_summary = b"frames 20\nheard 20\nstray 0\nhash a3787c7f30285198\n".as_slice();
-    let no_summary = b"frames 0\nheard 0\nstray 0\nhash cbf29ce484222325\n".as_slice();
-    for (words, threads, summary) in [
-        (WORDS, false, exact_summary),
-        (WORDS, true, exact_summary),
-        (rough, false, rough_summary),
-        (rough, true, rough_summary),
-        (none, false, no_summary),
-    ] {
-        let words = LoopWords { threads, ..words };
-        let (written, end) = looped(&rt, rt.alloc(), words, &[])?;
+    for (words, summary) in SUMMARIES {
+        let (written, end) = looped(&rt, rt.alloc(), *words, &[])?;
         assert_equal(
             &rt,
-            &(words, written.as_slice(), end.is_ok()),
-            &(words, summary, true),
+            &(*words, written.as_slice(), end.is_ok()),
+            &(*words, *summary, true),
         );
     }
     Ok(())
@@ -65,44 +82,54 @@ fn an_output_that_fails_is_told(rt: HostRuntime) -> Result<(), Fail> {
     Ok(())
 }
 
-// Frames that end at samples 100 and 200, and candidates by their ends and octets.
+/// Frames that end at samples 100 and 200.
+fn ends(alloc: Global) -> Result<[TrueEnd; 2], Fail> {
+    let one = Octets::from_slice(alloc, b"one")?;
+    let two = Octets::from_slice(alloc, b"two")?;
+    Ok([
+        TrueEnd {
+            end: 100,
+            octets: one,
+        },
+        TrueEnd {
+            end: 200,
+            octets: two,
+        },
+    ])
+}
+
+/// Each row: the end and the octets of a candidate, and whether one of them was sent so.
+const CANDIDATES: &[(u64, &str, bool)] = &[
+    (92, "one", false),
+    (93, "one", true),
+    (100, "one", true),
+    (107, "one", true),
+    (108, "one", false),
+    (100, "two", false),
+    (200, "one", false),
+    (200, "two", true),
+    (150, "not", false),
+    (160, "no", false),
+];
+
+/// Whether a candidate was sent.
+fn was_sent(alloc: Global, ends: &[TrueEnd], end: u64, octets: &str) -> Result<bool, Fail> {
+    let item = Candidate {
+        end,
+        offset: 0,
+        octets: Octets::from_slice(alloc, octets.as_bytes())?,
+    };
+    Ok(is_sent(ends, &item))
+}
+
 #[test]
 fn a_candidate_with_other_octets_or_eight_samples_off_is_stray(
     rt: HostRuntime,
 ) -> Result<(), Fail> {
-    let alloc = rt.alloc();
-    let ends = [
-        TrueEnd {
-            end: 100,
-            octets: Octets::from_slice(alloc, b"one")?,
-        },
-        TrueEnd {
-            end: 200,
-            octets: Octets::from_slice(alloc, b"two")?,
-        },
-    ];
-    for (end, octets, is) in [
-        (92, "one", false),
-        (93, "one", true),
-        (100, "one", true),
-        (107, "one", true),
-        (108, "one", false),
-        (100, "two", false),
-        (200, "one", false),
-        (200, "two", true),
-        (150, "not", false),
-        (160, "no", false),
-    ] {
-        let item = Candidate {
-            end,
-            offset: 0,
-            octets: Octets::from_slice(alloc, octets.as_bytes())?,
-        };
-        assert_equal(
-            &rt,
-            &(end, octets, is_sent(&ends, &item)),
-            &(end, octets, is),
-        );
+    let ends = ends(rt.alloc())?;
+    for (end, octets, is) in CANDIDATES {
+        let got = was_sent(rt.alloc(), &ends, *end, octets)?;
+        assert_equal(&rt, &(*end, *octets, got), &(*end, *octets, *is));
     }
     Ok(())
 }

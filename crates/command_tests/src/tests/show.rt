@@ -24,145 +24,202 @@ fn shown(
     Ok((sink.written().to_vec(alloc)?, end))
 }
 
-/// Asserts what is written of a whole input, and how the command ends.
-fn assert_shown<R: Abort>(
+/// A flaw of a line, and its place.
+type Bad = Option<(LineFlaw, usize)>;
+
+/// How the command ends on such a line, or if there is none.
+fn ended(bad: Bad) -> Result<(), Fault> {
+    match bad {
+        Some((flaw, place)) => Err(Fault::Input(InputFault::Line(LineFault { flaw, place }))),
+        None => Ok(()),
+    }
+}
+
+/// Asserts what is written of an input, and how the command ends, if the source fails the reads and the sink the writes
+/// of these numbers.
+fn assert_run<R: Abort>(
     rt: &R,
     alloc: Global,
     modulus: Modulus,
-    input: &str,
-    text: &str,
-    end: Result<(), Fault>,
+    input: &[u8],
+    failing: [&[u64]; 2],
+    (text, end): (&str, Result<(), Fault>),
 ) -> Result<(), Fail> {
-    let (written, ended) = shown(alloc, modulus, input.as_bytes(), &[], &[])?;
+    let [reads, writes] = failing;
+    let (written, ended) = shown(alloc, modulus, input, reads, writes)?;
     assert_equal(
         rt,
-        &(input, written.as_slice(), ended),
-        &(input, text.as_bytes(), end),
+        &(failing, written.as_slice(), ended),
+        &(failing, text.as_bytes(), end),
     );
     Ok(())
 }
 
-/// A bad line.
-fn bad(flaw: LineFlaw, place: usize) -> Result<(), Fault> {
-    Err(Fault::Input(InputFault::Line(LineFault { flaw, place })))
+/// An input, its text, and the bad line.
+type Row = (&'static str, &'static str, Bad);
+
+/// Asserts what is written of each whole input, and how the command ends.
+fn assert_rows<R: Abort>(
+    rt: &R,
+    alloc: Global,
+    modulus: Modulus,
+    rows: &[Row],
+) -> Result<(), Fail> {
+    for (input, text, bad) in rows {
+        let end = ended(*bad);
+        assert_run(
+            rt,
+            alloc,
+            modulus,
+            input.as_bytes(),
+            [&[], &[]],
+            (text, end),
+        )?;
+    }
+    Ok(())
 }
+
+const INPUTS: &[Row] = &[
+    ("", "", None),
+    (
+        "9c946ea04040e09c6e988a9a40613f",
+        "N7LEM>NJ7P SABM cmd f=1\n",
+        None,
+    ),
+    (
+        "9c946ea04040e09c6e988a9a406174f06869\n",
+        "N7LEM>NJ7P I cmd ns=2 nr=3 p=1 pid=f0 len=2 6869\n",
+        None,
+    ),
+    (
+        "\n\r\n9C946EA04040E09C6E988A9A40613F\r\n\n9c946ea04040e09c6e988a9a406163\n",
+        "N7LEM>NJ7P SABM cmd f=1\nN7LEM>NJ7P UA rsp f=0\n",
+        None,
+    ),
+    ("00", "! bad character at 0\n", None),
+    ("9c946ea04040e0", "! short at 7\n", None),
+    ("9c946ea04041e0", "! bad character at 5\n", None),
+    ("9c946ea0404061", "! one address\n", None),
+    ("9c946ea04040e09c6e988a9a4061", "! no control at 14\n", None),
+    ("9c946ea04040e09c6e988a9a406103", "! no pid at 15\n", None),
+    (
+        "9c946ea04040e09c6e988a9a406107",
+        "! unknown control 07\n",
+        None,
+    ),
+    (
+        "9c946ea04040e09c6e988a9a40613f00",
+        "! stray info at 15\n",
+        None,
+    ),
+    (
+        "00\n9c946ea04040e09c6e988a9a40613f\n",
+        "! bad character at 0\nN7LEM>NJ7P SABM cmd f=1\n",
+        None,
+    ),
+    ("9c9", "", Some((LineFlaw::OddLine, 0))),
+    (
+        "00\n9c9\n",
+        "! bad character at 0\n",
+        Some((LineFlaw::OddLine, 3)),
+    ),
+    (
+        "9c\n9cx0\n",
+        "! short at 1\n",
+        Some((LineFlaw::BadDigit, 5)),
+    ),
+    (
+        "9c\r\n9\r\n00\n",
+        "! short at 1\n",
+        Some((LineFlaw::OddLine, 4)),
+    ),
+    ("9c\r", "", Some((LineFlaw::OddLine, 0))),
+    ("00 \n", "", Some((LineFlaw::OddLine, 0))),
+    (" 00\n\n", "", Some((LineFlaw::OddLine, 0))),
+];
 
 #[test]
 fn inputs_and_their_lines(rt: HostRuntime) -> Result<(), Fail> {
-    let alloc = rt.alloc();
-    let table: [(&str, &str, Result<(), Fault>); 20] = [
-        ("", "", Ok(())),
-        (
-            "9c946ea04040e09c6e988a9a40613f",
-            "N7LEM>NJ7P SABM cmd f=1\n",
-            Ok(()),
-        ),
-        (
-            "9c946ea04040e09c6e988a9a406174f06869\n",
-            "N7LEM>NJ7P I cmd ns=2 nr=3 p=1 pid=f0 len=2 6869\n",
-            Ok(()),
-        ),
-        (
-            "\n\r\n9C946EA04040E09C6E988A9A40613F\r\n\n9c946ea04040e09c6e988a9a406163\n",
-            "N7LEM>NJ7P SABM cmd f=1\nN7LEM>NJ7P UA rsp f=0\n",
-            Ok(()),
-        ),
-        ("00", "! bad character at 0\n", Ok(())),
-        ("9c946ea04040e0", "! short at 7\n", Ok(())),
-        ("9c946ea04041e0", "! bad character at 5\n", Ok(())),
-        ("9c946ea0404061", "! one address\n", Ok(())),
-        (
-            "9c946ea04040e09c6e988a9a4061",
-            "! no control at 14\n",
-            Ok(()),
-        ),
-        ("9c946ea04040e09c6e988a9a406103", "! no pid at 15\n", Ok(())),
-        (
-            "9c946ea04040e09c6e988a9a406107",
-            "! unknown control 07\n",
-            Ok(()),
-        ),
-        (
-            "9c946ea04040e09c6e988a9a40613f00",
-            "! stray info at 15\n",
-            Ok(()),
-        ),
-        (
-            "00\n9c946ea04040e09c6e988a9a40613f\n",
-            "! bad character at 0\nN7LEM>NJ7P SABM cmd f=1\n",
-            Ok(()),
-        ),
-        ("9c9", "", bad(LineFlaw::OddLine, 0)),
-        (
-            "00\n9c9\n",
-            "! bad character at 0\n",
-            bad(LineFlaw::OddLine, 3),
-        ),
-        ("9c\n9cx0\n", "! short at 1\n", bad(LineFlaw::BadDigit, 5)),
-        (
-            "9c\r\n9\r\n00\n",
-            "! short at 1\n",
-            bad(LineFlaw::OddLine, 4),
-        ),
-        ("9c\r", "", bad(LineFlaw::OddLine, 0)),
-        ("00 \n", "", bad(LineFlaw::OddLine, 0)),
-        (" 00\n\n", "", bad(LineFlaw::OddLine, 0)),
-    ];
-    for &(input, text, end) in &table {
-        assert_shown(&rt, alloc, Modulus::Eight, input, text, end)?;
-    }
     one_text();
-    Ok(())
+    assert_rows(&rt, rt.alloc(), Modulus::Eight, INPUTS)
 }
+
+const CONTROL_FIELDS: &[Row] = &[
+    (
+        "9c946ea04040e09c6e988a9a40610407f06869\n",
+        "N7LEM>NJ7P I cmd ns=2 nr=3 p=1 pid=f0 len=2 6869\n",
+        None,
+    ),
+    (
+        "9c946ea04040e09c6e988a9a406104\n",
+        "! no control at 15\n",
+        None,
+    ),
+    (
+        "9c946ea04040e09c6e988a9a406111\n",
+        "! unknown control 11\n",
+        None,
+    ),
+];
 
 #[test]
 fn control_fields_of_two_octets(rt: HostRuntime) -> Result<(), Fail> {
-    let alloc = rt.alloc();
-    for (input, text) in [
-        (
-            "9c946ea04040e09c6e988a9a40610407f06869\n",
-            "N7LEM>NJ7P I cmd ns=2 nr=3 p=1 pid=f0 len=2 6869\n",
-        ),
-        ("9c946ea04040e09c6e988a9a406104\n", "! no control at 15\n"),
-        ("9c946ea04040e09c6e988a9a406111\n", "! unknown control 11\n"),
-    ] {
-        assert_shown(&rt, alloc, Modulus::OneTwentyEight, input, text, Ok(()))?;
+    assert_rows(&rt, rt.alloc(), Modulus::OneTwentyEight, CONTROL_FIELDS)
+}
+
+/// What an input begins with, and digits that follow so many times.
+fn repeated(alloc: Global, begin: &str, digits: &str, count: usize) -> Result<String, Fail> {
+    let mut input = String::from_str(alloc, begin)?;
+    for _ in 0..count {
+        input.push_str(digits)?;
     }
-    Ok(())
+    Ok(input)
+}
+
+/// Each row: what an input begins with, digits and how often they follow, its text, and the bad line.
+const LONG: &[(&str, &str, usize, &str, Bad)] = &[
+    ("", "82404040404060", 11, "! no end\n", None),
+    (
+        "9c946ea04040e09c6e988a9a406100f0",
+        "41",
+        257,
+        "! info too long 257\n",
+        None,
+    ),
+    ("", "0", 2048, "! bad character at 0\n", None),
+    ("", "0", 2049, "", Some((LineFlaw::LongLine, 0))),
+    (
+        "9c\n",
+        "0",
+        2049,
+        "! short at 1\n",
+        Some((LineFlaw::LongLine, 3)),
+    ),
+];
+
+/// Asserts what is written of such a whole input, and how the command ends.
+fn assert_long<R: Abort>(
+    rt: &R,
+    alloc: Global,
+    (begin, digits, count): (&str, &str, usize),
+    want: (&str, Result<(), Fault>),
+) -> Result<(), Fail> {
+    let input = repeated(alloc, begin, digits, count)?;
+    assert_run(
+        rt,
+        alloc,
+        Modulus::Eight,
+        input.as_bytes(),
+        [&[], &[]],
+        want,
+    )
 }
 
 #[test]
 fn long_lines(rt: HostRuntime) -> Result<(), Fail> {
-    let alloc = rt.alloc();
-    for (begin, digits, count, text, end) in [
-        ("", "82404040404060", 11, "! no end\n", Ok(())),
-        (
-            "9c946ea04040e09c6e988a9a406100f0",
-            "41",
-            257,
-            "! info too long 257\n",
-            Ok(()),
-        ),
-        ("", "0", 2048, "! bad character at 0\n", Ok(())),
-        ("", "0", 2049, "", bad(LineFlaw::LongLine, 0)),
-        (
-            "9c\n",
-            "0",
-            2049,
-            "! short at 1\n",
-            bad(LineFlaw::LongLine, 3),
-        ),
-    ] {
-        let mut input = String::from_str(alloc, begin)?;
-        for _ in 0..count {
-            input.push_str(digits)?;
-        }
-        let (written, ended) = shown(alloc, Modulus::Eight, input.as_bytes(), &[], &[])?;
-        assert_equal(
-            &rt,
-            &(count, written.as_slice(), ended),
-            &(count, text.as_bytes(), end),
-        );
+    for (begin, digits, count, text, bad) in LONG {
+        let want = (*text, ended(*bad));
+        assert_long(&rt, rt.alloc(), (begin, digits, *count), want)?;
     }
     Ok(())
 }
@@ -197,19 +254,26 @@ fn many_lines(alloc: Global, times: usize, octets: usize) -> Result<(String, Str
     Ok((input, text))
 }
 
+/// Asserts what stands written of these lines thirty times, if a read or a write fails after so many octets.
+fn assert_cut<R: Abort>(
+    rt: &R,
+    alloc: Global,
+    octets: usize,
+    failing: [&[u64]; 2],
+    fault: Fault,
+) -> Result<(), Fail> {
+    let (input, text) = many_lines(alloc, 30, octets)?;
+    let want = (text.as_str(), Err(fault));
+    assert_run(rt, alloc, Modulus::Eight, input.as_bytes(), failing, want)
+}
+
 // The read after so many pieces fails: the lines that ended in these stand written.
 #[test]
 fn a_failed_read_keeps_the_lines_before_it(rt: HostRuntime) -> Result<(), Fail> {
-    let alloc = rt.alloc();
     for read in 0..=50 {
-        let octets = read * 31;
-        let (input, text) = many_lines(alloc, 30, octets)?;
-        let (written, ended) = shown(alloc, Modulus::Eight, input.as_bytes(), &[read as u64], &[])?;
-        assert_equal(
-            &rt,
-            &(read, written.as_slice(), ended),
-            &(read, text.as_bytes(), Err(Fault::Read)),
-        );
+        let reads = [read as u64];
+        let failing: [&[u64]; 2] = [&reads, &[]];
+        assert_cut(&rt, rt.alloc(), read * 31, failing, Fault::Read)?;
     }
     Ok(())
 }
@@ -218,21 +282,10 @@ fn a_failed_read_keeps_the_lines_before_it(rt: HostRuntime) -> Result<(), Fail> 
 // brought stands written.
 #[test]
 fn a_failed_write_keeps_the_lines_before_it(rt: HostRuntime) -> Result<(), Fail> {
-    let alloc = rt.alloc();
     for write in 0..=50 {
-        let (input, text) = many_lines(alloc, 30, write * 31)?;
-        let (written, ended) = shown(
-            alloc,
-            Modulus::Eight,
-            input.as_bytes(),
-            &[],
-            &[write as u64],
-        )?;
-        assert_equal(
-            &rt,
-            &(write, written.as_slice(), ended),
-            &(write, text.as_bytes(), Err(Fault::Write)),
-        );
+        let writes = [write as u64];
+        let failing: [&[u64]; 2] = [&[], &writes];
+        assert_cut(&rt, rt.alloc(), write * 31, failing, Fault::Write)?;
     }
     Ok(())
 }
@@ -241,36 +294,42 @@ fn a_failed_write_keeps_the_lines_before_it(rt: HostRuntime) -> Result<(), Fail>
 #[test]
 fn no_line_no_write(rt: HostRuntime) -> Result<(), Fail> {
     for input in ["", "\n\r\n\n"] {
-        let (written, ended) = shown(rt.alloc(), Modulus::Eight, input.as_bytes(), &[], &[0])?;
-        assert_equal(&rt, &(input, written.len(), ended), &(input, 0, Ok(())));
+        let failing: [&[u64]; 2] = [&[], &[0]];
+        assert_run(
+            &rt,
+            rt.alloc(),
+            Modulus::Eight,
+            input.as_bytes(),
+            failing,
+            ("", Ok(())),
+        )?;
     }
     Ok(())
 }
 
 /// What is shown of the octet 00.
-const FIRST: &[u8] = b"! bad character at 0\n";
+const FIRST: &str = "! bad character at 0\n";
+
+/// Asserts that a read that fails is not made after a line that is bad so.
+fn assert_ends_before<R: Abort>(
+    rt: &R,
+    alloc: Global,
+    input: &str,
+    read: u64,
+    flaw: LineFlaw,
+) -> Result<(), Fail> {
+    let want = (FIRST, ended(Some((flaw, 3))));
+    let reads = [read];
+    let failing: [&[u64]; 2] = [&reads, &[]];
+    assert_run(rt, alloc, Modulus::Eight, input.as_bytes(), failing, want)
+}
 
 // A bad line ends the reading: a later read is not made, and so does not fail.
 #[test]
 fn nothing_is_read_after_a_bad_line(rt: HostRuntime) -> Result<(), Fail> {
-    let alloc = rt.alloc();
-    let mut long = String::from_str(alloc, "00\n")?;
-    for _ in 0..4000 {
-        long.push('4')?;
-    }
-    // The 67th read brings the octet at 2052, which is the 2050th of the line.
-    let (written, ended) = shown(alloc, Modulus::Eight, long.as_bytes(), &[67], &[])?;
-    assert_equal(
-        &rt,
-        &(written.as_slice(), ended),
-        &(FIRST, bad(LineFlaw::LongLine, 3)),
-    );
     let input = "00\nzz\n00\n00\n00\n00\n00\n00\n00\n00\n00\n00\n";
-    let (written, ended) = shown(alloc, Modulus::Eight, input.as_bytes(), &[1], &[])?;
-    assert_equal(
-        &rt,
-        &(written.as_slice(), ended),
-        &(FIRST, bad(LineFlaw::BadDigit, 3)),
-    );
-    Ok(())
+    assert_ends_before(&rt, rt.alloc(), input, 1, LineFlaw::BadDigit)?;
+    // The 67th read brings the octet at 2052, which is the 2050th of the line.
+    let long = repeated(rt.alloc(), "00\n", "4", 4000)?;
+    assert_ends_before(&rt, rt.alloc(), &long, 67, LineFlaw::LongLine)
 }

@@ -76,18 +76,25 @@ fn a_head_counts_its_samples(rt: HostRuntime) {
     }
 }
 
+// Into a pipe sox writes sizes that stand for no end.
+const PIPED: [u8; 58] =
+    *b"RIFF\x24\xf0\xff\x7fWAVEfmt \x10\0\0\0\x01\0\x01\0\x80\x25\0\0\0\x4b\0\0\x02\0\x10\0data\0\xf0\xff\x7f\0\0\xba\x26\x1c\x0a\xe9\xdb\0\x80\xff\x7f\xff\xff";
+
+/// Asserts that a file is read whole, without a fault.
+fn assert_whole<R: Abort>(rt: &R, alloc: Global, octets: &[u8; 58]) -> Result<(), Fail> {
+    let found = read_all(alloc, octets)?;
+    assert_equal(
+        rt,
+        &(found.samples.as_slice(), found.shown, found.end),
+        &(SAMPLES.as_slice(), None, Ok(())),
+    );
+    Ok(())
+}
+
 #[test]
 fn a_file_of_another_program_is_read(rt: HostRuntime) -> Result<(), Fail> {
-    // Into a pipe sox writes sizes that stand for no end.
-    let mut piped = WRITTEN;
-    piped[4..8].copy_from_slice(b"\x24\xf0\xff\x7f");
-    piped[40..44].copy_from_slice(b"\0\xf0\xff\x7f");
-    for octets in [WRITTEN, piped] {
-        let found = read_all(rt.alloc(), &octets)?;
-        assert_equal(&rt, &found.samples.as_slice(), &SAMPLES.as_slice());
-        assert_equal(&rt, &(found.shown, found.end), &(None, Ok(())));
-    }
-    Ok(())
+    assert_whole(&rt, rt.alloc(), &WRITTEN)?;
+    assert_whole(&rt, rt.alloc(), &PIPED)
 }
 
 #[test]
@@ -105,38 +112,110 @@ fn a_file_cut_anywhere_is_truncated_there(rt: HostRuntime) -> Result<(), Fail> {
     Ok(())
 }
 
+// The place of an octet, what stands there in place of the right one, and the fault.
+const WRONG: &[(usize, u8, Option<WavFault>)] = &[
+    (3, 0x58, Some(WavFault::NotRiff { at: 3 })),
+    (0, 0x72, Some(WavFault::NotRiff { at: 0 })),
+    (6, 0x58, None),
+    (11, 0x58, Some(WavFault::NotWave { at: 11 })),
+    (8, 0x77, Some(WavFault::NotWave { at: 8 })),
+    (16, 0x0e, Some(WavFault::NoFormat { at: 19 })),
+    (
+        20,
+        0x03,
+        Some(WavFault::BadFormat {
+            at: 21,
+            field: 1,
+            value: 3,
+        }),
+    ),
+    (
+        21,
+        0x01,
+        Some(WavFault::BadFormat {
+            at: 21,
+            field: 1,
+            value: 257,
+        }),
+    ),
+    (
+        22,
+        0x02,
+        Some(WavFault::BadFormat {
+            at: 23,
+            field: 2,
+            value: 2,
+        }),
+    ),
+    (
+        24,
+        0x81,
+        Some(WavFault::BadFormat {
+            at: 27,
+            field: 3,
+            value: 9601,
+        }),
+    ),
+    (
+        27,
+        0x01,
+        Some(WavFault::BadFormat {
+            at: 27,
+            field: 3,
+            value: 0x0100_2580,
+        }),
+    ),
+    (28, 0x01, None),
+    (31, 0x01, None),
+    (
+        32,
+        0x04,
+        Some(WavFault::BadFormat {
+            at: 33,
+            field: 5,
+            value: 4,
+        }),
+    ),
+    (
+        34,
+        0x18,
+        Some(WavFault::BadFormat {
+            at: 35,
+            field: 6,
+            value: 24,
+        }),
+    ),
+    (
+        35,
+        0x01,
+        Some(WavFault::BadFormat {
+            at: 35,
+            field: 6,
+            value: 272,
+        }),
+    ),
+];
+
+/// Asserts what a reader makes of the file with another octet at a place.
+fn assert_faulty<R: Abort>(
+    rt: &R,
+    alloc: Global,
+    (place, octet): (usize, u8),
+    want: Option<WavFault>,
+) -> Result<(), Fail> {
+    let mut file = WRITTEN;
+    assert!(*rt; place < file.len());
+    file[place] = octet;
+    let found = read_all(alloc, &file)?;
+    let got = (found.shown, found.faults, found.end);
+    assert_equal(rt, &(place, got), &(place, faulty(want, file.len())));
+    Ok(())
+}
+
 #[test]
 fn a_fault_comes_at_the_octet_that_shows_it(rt: HostRuntime) -> Result<(), Fail> {
-    let bad = |at: u64, field: u8, value: u32| WavFault::BadFormat { at, field, value };
-    let table: [(usize, u8, Option<WavFault>); 16] = [
-        (3, 0x58, Some(WavFault::NotRiff { at: 3 })),
-        (0, 0x72, Some(WavFault::NotRiff { at: 0 })),
-        (6, 0x58, None),
-        (11, 0x58, Some(WavFault::NotWave { at: 11 })),
-        (8, 0x77, Some(WavFault::NotWave { at: 8 })),
-        (16, 0x0e, Some(WavFault::NoFormat { at: 19 })),
-        (20, 0x03, Some(bad(21, 1, 3))),
-        (21, 0x01, Some(bad(21, 1, 257))),
-        (22, 0x02, Some(bad(23, 2, 2))),
-        (24, 0x81, Some(bad(27, 3, 9601))),
-        (27, 0x01, Some(bad(27, 3, 0x0100_2580))),
-        (28, 0x01, None),
-        (31, 0x01, None),
-        (32, 0x04, Some(bad(33, 5, 4))),
-        (34, 0x18, Some(bad(35, 6, 24))),
-        (35, 0x01, Some(bad(35, 6, 272))),
-    ];
-    for (place, octet, want) in table {
-        let mut file = WRITTEN;
-        assert!(rt; place < file.len());
-        file[place] = octet;
-        let found = read_all(rt.alloc(), &file)?;
-        let got = (found.shown, found.faults, found.end);
-        assert_equal(
-            &rt,
-            &(place, octet, got),
-            &(place, octet, faulty(want, file.len())),
-        );
+    for (place, octet, want) in WRONG {
+        assert_faulty(&rt, rt.alloc(), (*place, *octet), *want)?;
     }
     Ok(())
 }
@@ -190,84 +269,119 @@ fn assert_read<R: Abort>(
     number: usize,
     parts: &[&[u8]],
     samples: &[i16],
-    end: Result<(), WavFault>,
+    fault: Option<WavFault>,
 ) -> Result<(), Fail> {
-    let found = read_all(alloc, &joined(alloc, parts)?)?;
+    let found = read_parts(alloc, parts)?;
     assert_equal(
         rt,
-        &(number, found.samples.as_slice(), found.end),
-        &(number, samples, end),
+        &(number, found.samples.as_slice(), found.end.err()),
+        &(number, samples, fault),
     );
     Ok(())
 }
 
+fn read_parts(alloc: Global, parts: &[&[u8]]) -> Result<Read, AllocError> {
+    let octets = joined(alloc, parts)?;
+    read_all(alloc, &octets)
+}
+
+const WIDE_FORMAT: &[u8] = b"fmt \x12\0\0\0\x01\0\x01\0\x80\x25\0\0\0\0\0\0\x02\0\x10\0\x07\x07";
+
+const OTHER_FORMAT: &[u8] = b"fmt \x10\0\0\0\x03\0\x02\0\x44\xac\0\0\0\0\0\0\x08\0\x20\0";
+
+const LIST: &[u8] = b"LIST\x03\0\0\0abc\0";
+
+const DATA: &[u8] = b"data\x05\0\0\0\x01\0\x02\0\x03\0";
+
+const ENDLESS: &[u8] = b"data\0\xf0\xff\x7f\x01\0\x02\0\x03";
+
+const NO_DATA: &[u8] = b"data\0\0\0\0";
+
+const TWO: &[i16] = &[1, 2];
+
+// Each row: the parts of a file, its samples, and the fault at its end.
+const CHUNKS: &[(&[&[u8]], &[i16], Option<WavFault>)] = &[
+    (&[FRONT, FORMAT, DATA], TWO, None),
+    (&[FRONT, LIST, FORMAT, LIST, DATA, LIST, DATA], TWO, None),
+    (&[FRONT, WIDE_FORMAT, DATA], TWO, None),
+    (&[FRONT, FORMAT, OTHER_FORMAT, DATA, b"x"], TWO, None),
+    (&[FRONT, FORMAT, ENDLESS], TWO, None),
+    (
+        &[FRONT, FORMAT, ENDLESS, b"\0data"],
+        &[1, 2, 3, 24932, 24948],
+        None,
+    ),
+    (&[FRONT, FORMAT, NO_DATA], &[], None),
+    (&[FRONT, FORMAT, NO_DATA, DATA], &[], None),
+    (
+        &[FRONT, FORMAT, LIST],
+        &[],
+        Some(WavFault::Truncated { at: 48 }),
+    ),
+    (
+        &[FRONT, b"data\x08\0\0\0", FORMAT, DATA],
+        &[],
+        Some(WavFault::NoFormat { at: 19 }),
+    ),
+    (
+        &[FRONT, FORMAT, b"data\x06\0\0\0\x01\0\x02\0\x03"],
+        TWO,
+        Some(WavFault::Truncated { at: 49 }),
+    ),
+];
+
 #[test]
 fn chunks_in_any_order_are_read(rt: HostRuntime) -> Result<(), Fail> {
-    let alloc = rt.alloc();
-    let wide = b"fmt \x12\0\0\0\x01\0\x01\0\x80\x25\0\0\0\0\0\0\x02\0\x10\0\x07\x07".as_slice();
-    let other_format = b"fmt \x10\0\0\0\x03\0\x02\0\x44\xac\0\0\0\0\0\0\x08\0\x20\0".as_slice();
-    let list = b"LIST\x03\0\0\0abc\0".as_slice();
-    let data = b"data\x05\0\0\0\x01\0\x02\0\x03\0".as_slice();
-    let endless = b"data\0\xf0\xff\x7f\x01\0\x02\0\x03".as_slice();
-    let none = b"data\0\0\0\0".as_slice();
-    let two = [1, 2].as_slice();
-    let cut = |at: u64| Err(WavFault::Truncated { at });
-    let early = WavFault::NoFormat { at: 19 };
-    let table: [(&[&[u8]], &[i16], Result<(), WavFault>); 11] = [
-        (&[FRONT, FORMAT, data], two, Ok(())),
-        (&[FRONT, list, FORMAT, list, data, list, data], two, Ok(())),
-        (&[FRONT, wide, data], two, Ok(())),
-        (&[FRONT, FORMAT, other_format, data, b"x"], two, Ok(())),
-        (&[FRONT, FORMAT, endless], two, Ok(())),
-        (
-            &[FRONT, FORMAT, endless, b"\0data"],
-            &[1, 2, 3, 24932, 24948],
-            Ok(()),
-        ),
-        (&[FRONT, FORMAT, none], &[], Ok(())),
-        (&[FRONT, FORMAT, none, data], &[], Ok(())),
-        (&[FRONT, FORMAT, list], &[], cut(48)),
-        (&[FRONT, b"data\x08\0\0\0", FORMAT, data], &[], Err(early)),
-        (
-            &[FRONT, FORMAT, b"data\x06\0\0\0\x01\0\x02\0\x03"],
-            two,
-            cut(49),
-        ),
-    ];
-    for (number, (parts, samples, end)) in table.iter().enumerate() {
-        assert_read(&rt, alloc, number, parts, samples, *end)?;
+    for (number, (parts, samples, fault)) in CHUNKS.iter().enumerate() {
+        assert_read(&rt, rt.alloc(), number, parts, samples, *fault)?;
     }
     Ok(())
 }
 
+// The place of the first octet before which the rate is not told as it is to be, or that is a fault.
+fn wrong_rate(octets: &[u8; 58], rate: u32) -> Option<usize> {
+    let mut reader = WavIn::any_rate();
+    for (place, octet) in octets.iter().enumerate() {
+        let want = if place < 36 { None } else { Some(rate) };
+        if reader.rate() != want || reader.push(*octet).is_err() {
+            return Some(place);
+        }
+    }
+    if reader.finish().is_err() {
+        return Some(octets.len());
+    }
+    None
+}
+
 #[test]
 fn the_rate_is_told_once_the_format_was_read(rt: HostRuntime) {
+    assert_equal(&rt, &wrong_rate(&WRITTEN, 9600), &None);
     let mut wide = WRITTEN;
     wide[24..28].copy_from_slice(b"\x80\xbb\0\0");
-    for (octets, rate) in [(WRITTEN, 9600), (wide, 48_000)] {
-        let mut reader = WavIn::any_rate();
-        for (place, octet) in octets.iter().enumerate() {
-            let want = if place < 36 { None } else { Some(rate) };
-            assert_equal(&rt, &(place, reader.rate()), &(place, want));
-            assert!(rt; reader.push(*octet).is_ok());
-        }
-        assert_equal(&rt, &reader.finish(), &Ok(()));
+    assert_equal(&rt, &wrong_rate(&wide, 48_000), &None);
+}
+
+// The answers of a reader to all octets, then to the head one by one, and to pieces of the samples.
+fn taken() -> [usize; 7] {
+    let mut reader = WavIn::new();
+    let before = reader.take_pairs(&WRITTEN);
+    let mut faults: usize = 0;
+    for octet in &WRITTEN[..44] {
+        faults = faults.saturating_add(usize::from(reader.push(*octet).is_err()));
     }
+    let first = reader.take_pairs(&WRITTEN[44..47]);
+    let half = reader.push(WRITTEN[46]) == Ok(None);
+    let in_the_middle = reader.take_pairs(&WRITTEN[47..]);
+    let whole = reader.push(WRITTEN[47]) == Ok(Some(SAMPLES[1]));
+    let rest = reader.take_pairs(&WRITTEN);
+    let ends = reader.finish() == Ok(());
+    let right = usize::from(half && whole && ends);
+    let after = reader.take_pairs(&WRITTEN);
+    [before, faults, first, in_the_middle, rest, right, after]
 }
 
 // None before the data; in it, whole samples up to its end, but none in the middle of a sample.
 #[test]
 fn whole_samples_are_taken_at_once(rt: HostRuntime) {
-    let mut reader = WavIn::new();
-    assert_equal(&rt, &reader.take_pairs(&WRITTEN), &0);
-    for octet in &WRITTEN[..44] {
-        assert!(rt; reader.push(*octet).is_ok());
-    }
-    assert_equal(&rt, &reader.take_pairs(&WRITTEN[44..47]), &2);
-    assert_equal(&rt, &reader.push(WRITTEN[46]), &Ok(None));
-    assert_equal(&rt, &reader.take_pairs(&WRITTEN[47..]), &0);
-    assert_equal(&rt, &reader.push(WRITTEN[47]), &Ok(Some(SAMPLES[1])));
-    assert_equal(&rt, &reader.take_pairs(&WRITTEN), &10);
-    assert_equal(&rt, &reader.finish(), &Ok(()));
-    assert_equal(&rt, &reader.take_pairs(&WRITTEN), &0);
+    assert_equal(&rt, &taken(), &[0, 0, 2, 0, 10, 1, 0]);
 }

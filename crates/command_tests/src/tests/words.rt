@@ -38,7 +38,8 @@ fn assert_asked<R: Abort>(
     line: &str,
     want: Command,
 ) -> Result<(), Fail> {
-    let asked = read_words(alloc, &words_of(alloc, front, line)?);
+    let words = words_of(alloc, front, line)?;
+    let asked = read_words(alloc, &words);
     assert_equal(rt, &(line, asked), &(line, Ok(want)));
     Ok(())
 }
@@ -50,6 +51,18 @@ fn is_refused(alloc: Global, front: &str, line: &str) -> Result<bool, Fail> {
         Err(WordsFault::Memory) => Ok(false),
         Ok(_) => Ok(false),
     }
+}
+
+/// Asserts that the words of each line are refused after those of `front`.
+fn assert_none_taken<R: Abort>(
+    rt: &R,
+    alloc: Global,
+    front: &str,
+    lines: &str,
+) -> Result<(), Fail> {
+    let taken = taken(alloc, front, lines)?;
+    assert_equal(rt, &(front, taken.as_str()), &(front, ""));
+    Ok(())
 }
 
 /// The lines whose words are not refused after those of `front`.

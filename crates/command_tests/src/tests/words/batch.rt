@@ -1,6 +1,8 @@
 //! `encode`, `show` and `loop`.
 use super::assert_asked;
 use ax25_frames::Modulus;
+use std::alloc::Global;
+use std::process::Abort;
 use std::test::Fail;
 use tnc_words::{
     AudioForm, CheckOctets, Command, EncodeWords, FrameForm, LoopWords, Modem, ShowWords,
@@ -19,150 +21,243 @@ const ENCODE: EncodeWords = EncodeWords {
     modem: Modem::Bell202,
 };
 
-#[test]
-fn encode_takes_its_forms_and_flags(rt: HostRuntime) -> Result<(), Fail> {
-    let kiss = EncodeWords {
-        frames: FrameForm::Kiss,
-        ..ENCODE
-    };
-    let wav = EncodeWords {
-        audio: AudioForm::Wav,
-        ..ENCODE
-    };
-    let table = [
-        ("", ENCODE),
-        ("--kiss", kiss),
-        ("--wav", wav),
-        (
-            "--wav --kiss",
-            EncodeWords {
-                audio: AudioForm::Wav,
-                ..kiss
-            },
-        ),
-        (
-            "--join",
-            EncodeWords {
-                join: true,
-                ..ENCODE
-            },
-        ),
-        (
-            "--hf",
-            EncodeWords {
-                modem: Modem::ShortWave,
-                ..ENCODE
-            },
-        ),
-        ("--fx25 16", with_checks(CheckOctets::Sixteen)),
-        ("--fx25=032", with_checks(CheckOctets::ThirtyTwo)),
-        ("--fx25 64", with_checks(CheckOctets::SixtyFour)),
-    ];
-    for &(line, want) in &table {
-        assert_asked(&rt, rt.alloc(), "encode", line, Command::Encode(want))?;
+const AS_KISS: EncodeWords = EncodeWords {
+    frames: FrameForm::Kiss,
+    ..ENCODE
+};
+
+const AS_WAV: EncodeWords = EncodeWords {
+    audio: AudioForm::Wav,
+    ..ENCODE
+};
+
+/// What stands after `encode`, and what it asks for: forms and flags.
+const FORMS: &[(&str, EncodeWords)] = &[
+    ("", ENCODE),
+    ("--kiss", AS_KISS),
+    ("--wav", AS_WAV),
+    (
+        "--wav --kiss",
+        EncodeWords {
+            audio: AudioForm::Wav,
+            ..AS_KISS
+        },
+    ),
+    (
+        "--join",
+        EncodeWords {
+            join: true,
+            ..ENCODE
+        },
+    ),
+    (
+        "--hf",
+        EncodeWords {
+            modem: Modem::ShortWave,
+            ..ENCODE
+        },
+    ),
+    (
+        "--fx25 16",
+        EncodeWords {
+            modem: Modem::Fx25(CheckOctets::Sixteen),
+            ..ENCODE
+        },
+    ),
+    (
+        "--fx25=032",
+        EncodeWords {
+            modem: Modem::Fx25(CheckOctets::ThirtyTwo),
+            ..ENCODE
+        },
+    ),
+    (
+        "--fx25 64",
+        EncodeWords {
+            modem: Modem::Fx25(CheckOctets::SixtyFour),
+            ..ENCODE
+        },
+    ),
+];
+
+fn assert_encode<R: Abort>(
+    rt: &R,
+    alloc: Global,
+    rows: &[(&str, EncodeWords)],
+) -> Result<(), Fail> {
+    for (line, want) in rows {
+        assert_asked(rt, alloc, "encode", line, Command::Encode(*want))?;
     }
     Ok(())
 }
 
-/// `ENCODE` with check octets around each frame.
-fn with_checks(checks: CheckOctets) -> EncodeWords {
-    EncodeWords {
-        modem: Modem::Fx25(checks),
-        ..ENCODE
-    }
+#[test]
+fn encode_takes_its_forms_and_flags(rt: HostRuntime) -> Result<(), Fail> {
+    assert_encode(&rt, rt.alloc(), FORMS)
 }
 
-/// `ENCODE` with other numbers.
-fn numbers(opening: u16, closing: u16, silence: u32, level: u16) -> EncodeWords {
-    EncodeWords {
-        opening,
-        closing,
-        silence,
-        level,
-        ..ENCODE
-    }
-}
+/// The same: numbers.
+const NUMBERS: &[(&str, EncodeWords)] = &[
+    (
+        "--opening 2",
+        EncodeWords {
+            opening: 2,
+            ..ENCODE
+        },
+    ),
+    (
+        "--opening=10000",
+        EncodeWords {
+            opening: 10_000,
+            ..ENCODE
+        },
+    ),
+    (
+        "--closing 1",
+        EncodeWords {
+            closing: 1,
+            ..ENCODE
+        },
+    ),
+    (
+        "--closing=10000",
+        EncodeWords {
+            closing: 10_000,
+            ..ENCODE
+        },
+    ),
+    (
+        "--closing 00000000000000000000000000007",
+        EncodeWords {
+            closing: 7,
+            ..ENCODE
+        },
+    ),
+    ("--silence=0", ENCODE),
+    (
+        "--silence 1000000 --opening 0128",
+        EncodeWords {
+            opening: 128,
+            silence: 1_000_000,
+            ..ENCODE
+        },
+    ),
+    (
+        "--level 10",
+        EncodeWords {
+            level: 10,
+            ..ENCODE
+        },
+    ),
+    ("--level=010000", ENCODE),
+    (
+        "--level=32767",
+        EncodeWords {
+            level: 32_767,
+            ..ENCODE
+        },
+    ),
+];
 
 #[test]
 fn encode_takes_its_numbers(rt: HostRuntime) -> Result<(), Fail> {
-    let table = [
-        ("--opening 2", numbers(2, 2, 0, 10_000)),
-        ("--opening=10000", numbers(10_000, 2, 0, 10_000)),
-        ("--closing 1", numbers(75, 1, 0, 10_000)),
-        ("--closing=10000", numbers(75, 10_000, 0, 10_000)),
-        (
-            "--closing 00000000000000000000000000007",
-            numbers(75, 7, 0, 10_000),
-        ),
-        ("--silence=0", ENCODE),
-        (
-            "--silence 1000000 --opening 0128",
-            numbers(128, 2, 1_000_000, 10_000),
-        ),
-        ("--level 10", numbers(75, 2, 0, 10)),
-        ("--level=010000", ENCODE),
-        ("--level=32767", numbers(75, 2, 0, 32_767)),
-    ];
-    for &(line, want) in &table {
-        assert_asked(&rt, rt.alloc(), "encode", line, Command::Encode(want))?;
-    }
-    Ok(())
+    assert_encode(&rt, rt.alloc(), NUMBERS)
 }
+
+/// What stands after `show`, and the modulus that it asks for.
+const SHOW: &[(&str, Modulus)] = &[
+    ("", Modulus::Eight),
+    ("--modulo 8", Modulus::Eight),
+    ("--modulo=008", Modulus::Eight),
+    ("--modulo 128", Modulus::OneTwentyEight),
+    ("--modulo=0128", Modulus::OneTwentyEight),
+];
 
 #[test]
 fn show_takes_a_modulus(rt: HostRuntime) -> Result<(), Fail> {
-    let table = [
-        ("", Modulus::Eight),
-        ("--modulo 8", Modulus::Eight),
-        ("--modulo=008", Modulus::Eight),
-        ("--modulo 128", Modulus::OneTwentyEight),
-        ("--modulo=0128", Modulus::OneTwentyEight),
-    ];
     one_command();
-    for &(line, modulus) in &table {
+    for (line, modulus) in SHOW {
+        let modulus = *modulus;
         let want = Command::Show(ShowWords { modulus });
         assert_asked(&rt, rt.alloc(), "show", line, want)?;
     }
     Ok(())
 }
 
-/// A loop without threads.
-fn loop_of(seed: u64, frames: u16, rough: bool) -> LoopWords {
-    LoopWords {
-        seed,
-        frames,
-        rough,
-        threads: false,
-    }
-}
+/// Twenty frames of seed 7.
+const TWENTY: LoopWords = LoopWords {
+    seed: 7,
+    frames: 20,
+    rough: false,
+    threads: false,
+};
+
+/// None of seed 0.
+const NONE: LoopWords = LoopWords {
+    seed: 0,
+    frames: 0,
+    ..TWENTY
+};
+
+/// Of the greatest seed.
+const GREATEST: LoopWords = LoopWords {
+    seed: u64::MAX,
+    ..TWENTY
+};
+
+/// What stands after `loop`, and what it asks for.
+const LOOP: &[(&str, LoopWords)] = &[
+    ("--seed 7 --frames 20", TWENTY),
+    ("--frames=20 --seed=7", TWENTY),
+    ("--seed 0 --frames 0", NONE),
+    (
+        "--seed 18446744073709551615 --frames 1000",
+        LoopWords {
+            frames: 1000,
+            ..GREATEST
+        },
+    ),
+    (
+        "--seed 0018446744073709551615 --frames 001",
+        LoopWords {
+            frames: 1,
+            ..GREATEST
+        },
+    ),
+    (
+        "--seed 7 --frames 20 --rough",
+        LoopWords {
+            rough: true,
+            ..TWENTY
+        },
+    ),
+    (
+        "--rough --frames=20 --seed=7",
+        LoopWords {
+            rough: true,
+            ..TWENTY
+        },
+    ),
+    (
+        "--seed=0 --rough --frames=0 --",
+        LoopWords {
+            rough: true,
+            ..NONE
+        },
+    ),
+    (
+        "--seed 7 --threads --frames 20",
+        LoopWords {
+            threads: true,
+            ..TWENTY
+        },
+    ),
+];
 
 #[test]
 fn loop_takes_its_numbers_and_flags(rt: HostRuntime) -> Result<(), Fail> {
-    let table = [
-        ("--seed 7 --frames 20", loop_of(7, 20, false)),
-        ("--frames=20 --seed=7", loop_of(7, 20, false)),
-        ("--seed 0 --frames 0", loop_of(0, 0, false)),
-        (
-            "--seed 18446744073709551615 --frames 1000",
-            loop_of(u64::MAX, 1000, false),
-        ),
-        (
-            "--seed 0018446744073709551615 --frames 001",
-            loop_of(u64::MAX, 1, false),
-        ),
-        ("--seed 7 --frames 20 --rough", loop_of(7, 20, true)),
-        ("--rough --frames=20 --seed=7", loop_of(7, 20, true)),
-        ("--seed=0 --rough --frames=0 --", loop_of(0, 0, true)),
-        (
-            "--seed 7 --threads --frames 20",
-            LoopWords {
-                threads: true,
-                ..loop_of(7, 20, false)
-            },
-        ),
-    ];
-    for &(line, want) in &table {
-        assert_asked(&rt, rt.alloc(), "loop", line, Command::Loop(want))?;
+    for (line, want) in LOOP {
+        assert_asked(&rt, rt.alloc(), "loop", line, Command::Loop(*want))?;
     }
     Ok(())
 }

@@ -1,6 +1,5 @@
 //! `bench`.
-use super::{assert_asked, taken};
-use crate::tests::assertions::assert_equal;
+use super::{assert_asked, assert_none_taken};
 use std::test::Fail;
 use tnc_words::{BenchOptions, Command};
 
@@ -14,28 +13,36 @@ const REFUSED: &str = "\
 --seed 7 --window 4
 ";
 
+/// What stands after `bench`, and what it asks for.
+const BENCH: &[(&str, BenchOptions)] = &[
+    (
+        "--seed 7",
+        BenchOptions {
+            seed: 7,
+            octets: 2000,
+            loss: 0,
+            noise: 0,
+            full: false,
+            wide: false,
+        },
+    ),
+    (
+        "--wide --noise 2000 --loss=90 --full --octets 100000 --seed 18446744073709551615 --",
+        BenchOptions {
+            seed: u64::MAX,
+            octets: 100_000,
+            loss: 90,
+            noise: 2000,
+            full: true,
+            wide: true,
+        },
+    ),
+];
+
 #[test]
 fn bench_is_asked_for_with_a_seed(rt: HostRuntime) -> Result<(), Fail> {
-    let least = BenchOptions {
-        seed: 7,
-        octets: 2000,
-        loss: 0,
-        noise: 0,
-        full: false,
-        wide: false,
-    };
-    let most = BenchOptions {
-        seed: u64::MAX,
-        octets: 100_000,
-        loss: 90,
-        noise: 2000,
-        full: true,
-        wide: true,
-    };
-    let of_most =
-        "--wide --noise 2000 --loss=90 --full --octets 100000 --seed 18446744073709551615 --";
-    assert_asked(&rt, rt.alloc(), "bench", "--seed 7", Command::Bench(least))?;
-    assert_asked(&rt, rt.alloc(), "bench", of_most, Command::Bench(most))?;
-    assert_equal(&rt, &taken(rt.alloc(), "bench", REFUSED)?.as_str(), &"");
-    Ok(())
+    for (line, want) in BENCH {
+        assert_asked(&rt, rt.alloc(), "bench", line, Command::Bench(*want))?;
+    }
+    assert_none_taken(&rt, rt.alloc(), "bench", REFUSED)
 }

@@ -1,5 +1,7 @@
 //! `decode`.
 use super::assert_asked;
+use std::alloc::Global;
+use std::process::Abort;
 use std::test::Fail;
 use tnc_words::{AudioForm, Command, DecodeWords, FrameForm, Receiving, SampleRate};
 
@@ -42,74 +44,87 @@ const KISS: FrameForm = FrameForm::Kiss;
 
 const WAV: AudioForm = AudioForm::Wav;
 
-#[test]
-fn decode_takes_its_forms_and_threads(rt: HostRuntime) -> Result<(), Fail> {
-    let kiss = DecodeWords {
-        frames: KISS,
-        ..DECODE
-    };
-    let wav = DecodeWords {
-        audio: WAV,
-        ..DECODE
-    };
-    let table = [
-        ("", DECODE),
-        ("--", DECODE),
-        ("--wav", wav),
-        ("--kiss", kiss),
-        ("--kiss --wav", DecodeWords { audio: WAV, ..kiss }),
-        (
-            "--threads --wav",
-            DecodeWords {
-                threads: true,
-                ..wav
-            },
-        ),
-    ];
-    for &(line, want) in &table {
-        assert_asked(&rt, rt.alloc(), "decode", line, Command::Decode(want))?;
+const FROM_WAV: DecodeWords = DecodeWords {
+    audio: WAV,
+    ..DECODE
+};
+
+const AS_KISS: DecodeWords = DecodeWords {
+    frames: KISS,
+    ..DECODE
+};
+
+/// What stands after `decode`, and what it asks for: forms and threads.
+const FORMS: &[(&str, DecodeWords)] = &[
+    ("", DECODE),
+    ("--", DECODE),
+    ("--wav", FROM_WAV),
+    ("--kiss", AS_KISS),
+    (
+        "--kiss --wav",
+        DecodeWords {
+            audio: WAV,
+            ..AS_KISS
+        },
+    ),
+    (
+        "--threads --wav",
+        DecodeWords {
+            threads: true,
+            ..FROM_WAV
+        },
+    ),
+];
+
+fn assert_rows<R: Abort>(rt: &R, alloc: Global, rows: &[(&str, DecodeWords)]) -> Result<(), Fail> {
+    for (line, want) in rows {
+        assert_asked(rt, alloc, "decode", line, Command::Decode(*want))?;
     }
     Ok(())
 }
 
 #[test]
+fn decode_takes_its_forms_and_threads(rt: HostRuntime) -> Result<(), Fail> {
+    assert_rows(&rt, rt.alloc(), FORMS)
+}
+
+/// The same: what hears, and the rate.
+const HEARING: &[(&str, DecodeWords)] = &[
+    ("--rate=9600", DECODE),
+    ("--rate 48000", WIDE),
+    ("--wav --rate=048000", DecodeWords { audio: WAV, ..WIDE }),
+    ("--hf --rate 9600", SHORT_WAVE),
+    ("--sensitive", SENSITIVE),
+    ("--fx25", FX25),
+    (
+        "--wav --rate 9600 --fx25 --kiss",
+        DecodeWords {
+            audio: WAV,
+            frames: KISS,
+            ..FX25
+        },
+    ),
+    (
+        "--rate 48000 --sensitive",
+        DecodeWords {
+            receiving: Receiving::Sensitive {
+                rate: SampleRate::Wide,
+            },
+            ..DECODE
+        },
+    ),
+    (
+        "--threads --sensitive --rate=9600 --kiss --wav",
+        DecodeWords {
+            audio: WAV,
+            frames: KISS,
+            threads: true,
+            ..SENSITIVE
+        },
+    ),
+];
+
+#[test]
 fn decode_takes_what_hears_and_its_rate(rt: HostRuntime) -> Result<(), Fail> {
-    let table = [
-        ("--rate=9600", DECODE),
-        ("--rate 48000", WIDE),
-        ("--wav --rate=048000", DecodeWords { audio: WAV, ..WIDE }),
-        ("--hf --rate 9600", SHORT_WAVE),
-        ("--sensitive", SENSITIVE),
-        ("--fx25", FX25),
-        (
-            "--wav --rate 9600 --fx25 --kiss",
-            DecodeWords {
-                audio: WAV,
-                frames: KISS,
-                ..FX25
-            },
-        ),
-        (
-            "--rate 48000 --sensitive",
-            DecodeWords {
-                receiving: Receiving::Sensitive {
-                    rate: SampleRate::Wide,
-                },
-                ..DECODE
-            },
-        ),
-        (
-            "--threads --sensitive --rate=9600 --kiss --wav",
-            DecodeWords {
-                audio: WAV,
-                frames: KISS,
-                threads: true,
-                ..SENSITIVE
-            },
-        ),
-    ];
-    for &(line, want) in &table {
-        assert_asked(&rt, rt.alloc(), "decode", line, Command::Decode(want))?;
-    }
-    Ok(())
+    assert_rows(&rt, rt.alloc(), HEARING)
 }

@@ -3,18 +3,44 @@ use super::assert_asked;
 use std::test::Fail;
 use tnc_words::{Command, RecordOptions};
 
+/// What that word alone asks for.
+const ALONE: RecordOptions = RecordOptions {
+    keep: 576_000,
+    sensitive: false,
+};
+
+/// What stands after `record`, and what it asks for.
+const RECORD: &[(&str, RecordOptions)] = &[
+    ("", ALONE),
+    ("--", ALONE),
+    ("--keep 1", RecordOptions { keep: 1, ..ALONE }),
+    (
+        "--keep=0017280000",
+        RecordOptions {
+            keep: 17_280_000,
+            ..ALONE
+        },
+    ),
+    (
+        "--sensitive",
+        RecordOptions {
+            sensitive: true,
+            ..ALONE
+        },
+    ),
+    (
+        "--sensitive --keep 100",
+        RecordOptions {
+            keep: 100,
+            sensitive: true,
+        },
+    ),
+];
+
 #[test]
 fn record_takes_how_much_it_keeps(rt: HostRuntime) -> Result<(), Fail> {
-    for (line, keep, sensitive) in [
-        ("", 576_000, false),
-        ("--", 576_000, false),
-        ("--keep 1", 1, false),
-        ("--keep=0017280000", 17_280_000, false),
-        ("--sensitive", 576_000, true),
-        ("--sensitive --keep 100", 100, true),
-    ] {
-        let want = Command::Record(RecordOptions { keep, sensitive });
-        assert_asked(&rt, rt.alloc(), "record", line, want)?;
+    for (line, want) in RECORD {
+        assert_asked(&rt, rt.alloc(), "record", line, Command::Record(*want))?;
     }
     Ok(())
 }

@@ -1,5 +1,5 @@
 //! Words that are refused.
-use super::taken;
+use super::assert_none_taken;
 use crate::tests::assertions::assert_equal;
 use std::alloc::Global;
 use std::test::Fail;
@@ -223,6 +223,12 @@ x
 --ptt 4532 --ptt-tail -1
 --ptt 4532 --ptt-tail=
 --ptt 4532 --ptt-data=true
+--hf=true
+--hf --hf
+--hf --sensitive
+--hf --dcd tones
+--hf --dcd 1
+--hf --dcd 9
 --threads
 --sensitive=true
 --sensitive --sensitive
@@ -301,22 +307,24 @@ version help
 -v
 ";
 
+/// Each row: the words before, and the lines.
+const REFUSED: &[(&str, &str)] = &[
+    ("decode", DECODE),
+    ("encode", ENCODE),
+    ("show", SHOW),
+    ("loop", LOOP),
+    ("serve", SERVE),
+    ("serve --kiss 8001 --agw=8000", STATION),
+    ("record", RECORD),
+    ("call", CALL),
+    ("call --agw 8000 --from N7LEM --to=NJ7P", WAY),
+    ("", OTHERS),
+];
+
 #[test]
 fn other_words_are_refused(rt: HostRuntime) -> Result<(), Fail> {
-    for (front, lines) in [
-        ("decode", DECODE),
-        ("encode", ENCODE),
-        ("show", SHOW),
-        ("loop", LOOP),
-        ("serve", SERVE),
-        ("serve --kiss 8001 --agw=8000", STATION),
-        ("record", RECORD),
-        ("call", CALL),
-        ("call --agw 8000 --from N7LEM --to=NJ7P", WAY),
-        ("", OTHERS),
-    ] {
-        let taken = taken(rt.alloc(), front, lines)?;
-        assert_equal(&rt, &(front, taken.as_str()), &(front, ""));
+    for (front, lines) in REFUSED {
+        assert_none_taken(&rt, rt.alloc(), front, lines)?;
     }
     Ok(())
 }
@@ -330,19 +338,21 @@ fn are_refused(alloc: Global, words: &[&str]) -> Result<bool, Fail> {
     Ok(matches!(read_words(alloc, &given), Err(WordsFault::Refused)))
 }
 
-// Words that a line cannot have.
+/// Words that a line cannot have.
+const NO_LINE: &[&[&str]] = &[
+    &[],
+    &[""],
+    &["encode", "--opening", " 5"],
+    &["serve", "--kiss=1", "--agw=2", "--mode", "srej "],
+    &["serve", "--kiss=1", "--agw=2", "--digi", ""],
+    &["call", "--agw=1", "--from=A1", "--to=B2", "--via", "C3, D4"],
+];
+
 #[test]
 fn no_words_and_words_with_spaces_are_refused(rt: HostRuntime) -> Result<(), Fail> {
-    let table: [&[&str]; 6] = [
-        &[],
-        &[""],
-        &["encode", "--opening", " 5"],
-        &["serve", "--kiss=1", "--agw=2", "--mode", "srej "],
-        &["serve", "--kiss=1", "--agw=2", "--digi", ""],
-        &["call", "--agw=1", "--from=A1", "--to=B2", "--via", "C3, D4"],
-    ];
-    for words in table {
-        assert!(rt; are_refused(rt.alloc(), words)?, "of {words:?}");
+    for words in NO_LINE {
+        let refused = are_refused(rt.alloc(), words)?;
+        assert_equal(&rt, &(*words, refused), &(*words, true));
     }
     Ok(())
 }

@@ -3,9 +3,11 @@ use super::assert_asked;
 use ax25_address::Call;
 use link_machine::Params;
 use selective_reject::Mode;
+use std::alloc::Global;
 use std::net::Ipv4Addr;
+use std::process::Abort;
 use std::test::Fail;
-use tnc_words::{ChannelOptions, Command, Dcd, PttOptions, ServeOptions};
+use tnc_words::{ChannelOptions, Command, Dcd, PttOptions, ServeOptions, StationModem};
 
 /// The word that is enough.
 const LEAST: &str = "serve";
@@ -39,7 +41,7 @@ const SERVE: ServeOptions = ServeOptions {
     paclen: 256,
     digi: None,
     dcd: Dcd::Tones,
-    sensitive: false,
+    modem: StationModem::Bell202 { sensitive: false },
     monitor: false,
     stats: None,
     ptt: None,
@@ -139,7 +141,14 @@ fn serve_takes_what_its_station_does(rt: HostRuntime) -> Result<(), Fail> {
         ..SERVE
     };
     let sensitive = ServeOptions {
-        sensitive: true,
+        modem: StationModem::Bell202 { sensitive: true },
+        ..SERVE
+    };
+    // A station for short wave, with T1 three times as long.
+    let hf = ServeOptions {
+        params: Params { t1: 600, ..PARAMS },
+        dcd: Dcd::Flags(3),
+        modem: StationModem::ShortWave,
         ..SERVE
     };
     let table = [
@@ -204,6 +213,15 @@ fn serve_takes_what_its_station_does(rt: HostRuntime) -> Result<(), Fail> {
                 ..SERVE
             },
         ),
+        ("--hf", hf),
+        (
+            "--t1 200 --hf --dcd=2",
+            ServeOptions {
+                params: PARAMS,
+                dcd: Dcd::Flags(2),
+                ..hf
+            },
+        ),
         ("--sensitive", sensitive),
         ("--monitor", monitor),
         (
@@ -222,145 +240,162 @@ fn serve_takes_what_its_station_does(rt: HostRuntime) -> Result<(), Fail> {
     Ok(())
 }
 
+/// Each row: what stands after `serve`, and the ports of KISS and of AGWPE.
+const PORTS: &[(&str, Option<u16>, Option<u16>)] = &[
+    ("", Some(8001), Some(8000)),
+    ("--kiss 8001 --agw=8000", Some(8001), Some(8000)),
+    ("--kiss 1", Some(1), Some(8000)),
+    ("--agw=65535", Some(8001), Some(65_535)),
+    ("--agw 08010 --kiss 8011", Some(8011), Some(8010)),
+    ("--kiss none", None, Some(8000)),
+    ("--agw=none", Some(8001), None),
+    ("--agw none --kiss=none", None, None),
+];
+
+/// Asserts what `serve` asks for with words after it.
+fn assert_serve<R: Abort>(
+    rt: &R,
+    alloc: Global,
+    line: &str,
+    want: ServeOptions,
+) -> Result<(), Fail> {
+    assert_asked(rt, alloc, LEAST, line, Command::Serve(want))
+}
+
 #[test]
 fn serve_takes_its_ports(rt: HostRuntime) -> Result<(), Fail> {
-    let table = [
-        ("", (Some(8001), Some(8000))),
-        ("--kiss 8001 --agw=8000", (Some(8001), Some(8000))),
-        ("--kiss 1", (Some(1), Some(8000))),
-        ("--agw=65535", (Some(8001), Some(65_535))),
-        ("--agw 08010 --kiss 8011", (Some(8011), Some(8010))),
-        ("--kiss none", (None, Some(8000))),
-        ("--agw=none", (Some(8001), None)),
-        ("--agw none --kiss=none", (None, None)),
-    ];
-    for (line, (kiss, agw)) in table {
-        let want = ServeOptions { kiss, agw, ..SERVE };
-        assert_asked(&rt, rt.alloc(), LEAST, line, Command::Serve(want))?;
+    for (line, kiss, agw) in PORTS {
+        let (kiss, agw) = (*kiss, *agw);
+        assert_serve(&rt, rt.alloc(), line, ServeOptions { kiss, agw, ..SERVE })?;
     }
     Ok(())
 }
+
+/// Each row: what stands after `serve`, and the address.
+const ADDRESSES: &[(&str, [u8; 4])] = &[
+    ("--bind 127.0.0.1", [127, 0, 0, 1]),
+    ("--bind=0.0.0.0", [0, 0, 0, 0]),
+    ("--bind 192.168.1.10", [192, 168, 1, 10]),
+    ("--bind=255.255.255.255", [255, 255, 255, 255]),
+];
 
 #[test]
 fn serve_takes_its_address(rt: HostRuntime) -> Result<(), Fail> {
-    let table = [
-        ("--bind 127.0.0.1", Ipv4Addr::LOCALHOST),
-        ("--bind=0.0.0.0", Ipv4Addr::UNSPECIFIED),
-        ("--bind 192.168.1.10", Ipv4Addr::new(192, 168, 1, 10)),
-        ("--bind=255.255.255.255", Ipv4Addr::BROADCAST),
-    ];
-    for (line, bind) in table {
-        let want = ServeOptions { bind, ..SERVE };
-        assert_asked(&rt, rt.alloc(), LEAST, line, Command::Serve(want))?;
+    for (line, octets) in ADDRESSES {
+        let bind = Ipv4Addr::from(*octets);
+        assert_serve(&rt, rt.alloc(), line, ServeOptions { bind, ..SERVE })?;
     }
     Ok(())
 }
+
+/// Each row: what stands after `serve`, and how the channel is taken.
+const CHANNELS: &[(&str, ChannelOptions)] = &[
+    (
+        "--txdelay 0",
+        ChannelOptions {
+            tx_delay: 0,
+            ..CHANNEL
+        },
+    ),
+    (
+        "--txdelay=255",
+        ChannelOptions {
+            tx_delay: 255,
+            ..CHANNEL
+        },
+    ),
+    (
+        "--txtail 7",
+        ChannelOptions {
+            tx_tail: 7,
+            ..CHANNEL
+        },
+    ),
+    (
+        "--persist 255",
+        ChannelOptions {
+            persist: 255,
+            ..CHANNEL
+        },
+    ),
+    (
+        "--slot=001",
+        ChannelOptions {
+            slot_time: 1,
+            ..CHANNEL
+        },
+    ),
+    (
+        "--duplex",
+        ChannelOptions {
+            full_duplex: true,
+            ..CHANNEL
+        },
+    ),
+    (
+        "--slot 4 --persist 3 --duplex --txtail 2 --txdelay 1",
+        ChannelOptions {
+            tx_delay: 1,
+            tx_tail: 2,
+            persist: 3,
+            slot_time: 4,
+            full_duplex: true,
+        },
+    ),
+];
 
 #[test]
 fn serve_takes_how_the_channel_is_taken(rt: HostRuntime) -> Result<(), Fail> {
-    let table = [
-        (
-            "--txdelay 0",
-            ChannelOptions {
-                tx_delay: 0,
-                ..CHANNEL
-            },
-        ),
-        (
-            "--txdelay=255",
-            ChannelOptions {
-                tx_delay: 255,
-                ..CHANNEL
-            },
-        ),
-        (
-            "--txtail 7",
-            ChannelOptions {
-                tx_tail: 7,
-                ..CHANNEL
-            },
-        ),
-        (
-            "--persist 255",
-            ChannelOptions {
-                persist: 255,
-                ..CHANNEL
-            },
-        ),
-        (
-            "--slot=001",
-            ChannelOptions {
-                slot_time: 1,
-                ..CHANNEL
-            },
-        ),
-        (
-            "--duplex",
-            ChannelOptions {
-                full_duplex: true,
-                ..CHANNEL
-            },
-        ),
-        (
-            "--slot 4 --persist 3 --duplex --txtail 2 --txdelay 1",
-            ChannelOptions {
-                tx_delay: 1,
-                tx_tail: 2,
-                persist: 3,
-                slot_time: 4,
-                full_duplex: true,
-            },
-        ),
-    ];
-    for (line, channel) in table {
-        let want = ServeOptions { channel, ..SERVE };
-        assert_asked(&rt, rt.alloc(), LEAST, line, Command::Serve(want))?;
+    for (line, channel) in CHANNELS {
+        let channel = *channel;
+        assert_serve(&rt, rt.alloc(), line, ServeOptions { channel, ..SERVE })?;
     }
     Ok(())
 }
 
+/// A key at port 4532.
+const PTT: PttOptions = PttOptions {
+    port: 4532,
+    tail: 70,
+    data_socket: false,
+};
+
+/// Each row: what stands after `serve`, and how the transmitter is keyed.
+const KEYS: &[(&str, PttOptions)] = &[
+    ("--ptt 4532", PTT),
+    ("--ptt=04532", PTT),
+    ("--ptt 1", PttOptions { port: 1, ..PTT }),
+    (
+        "--ptt 65535",
+        PttOptions {
+            port: 65_535,
+            ..PTT
+        },
+    ),
+    ("--ptt 4532 --ptt-tail 0", PttOptions { tail: 0, ..PTT }),
+    ("--ptt-tail=500 --ptt 4532", PttOptions { tail: 500, ..PTT }),
+    (
+        "--ptt-data --ptt 4532",
+        PttOptions {
+            data_socket: true,
+            ..PTT
+        },
+    ),
+    (
+        "--ptt 4533 --ptt-data --ptt-tail 7",
+        PttOptions {
+            port: 4533,
+            tail: 7,
+            data_socket: true,
+        },
+    ),
+];
+
 #[test]
 fn serve_takes_how_the_transmitter_is_keyed(rt: HostRuntime) -> Result<(), Fail> {
-    let ptt = PttOptions {
-        port: 4532,
-        tail: 70,
-        data_socket: false,
-    };
-    let table = [
-        ("--ptt 4532", ptt),
-        ("--ptt=04532", ptt),
-        ("--ptt 1", PttOptions { port: 1, ..ptt }),
-        (
-            "--ptt 65535",
-            PttOptions {
-                port: 65_535,
-                ..ptt
-            },
-        ),
-        ("--ptt 4532 --ptt-tail 0", PttOptions { tail: 0, ..ptt }),
-        ("--ptt-tail=500 --ptt 4532", PttOptions { tail: 500, ..ptt }),
-        (
-            "--ptt-data --ptt 4532",
-            PttOptions {
-                data_socket: true,
-                ..ptt
-            },
-        ),
-        (
-            "--ptt 4533 --ptt-data --ptt-tail 7",
-            PttOptions {
-                port: 4533,
-                tail: 7,
-                data_socket: true,
-            },
-        ),
-    ];
-    for (line, ptt) in table {
-        let want = ServeOptions {
-            ptt: Some(ptt),
-            ..SERVE
-        };
-        assert_asked(&rt, rt.alloc(), LEAST, line, Command::Serve(want))?;
+    for (line, ptt) in KEYS {
+        let ptt = Some(*ptt);
+        assert_serve(&rt, rt.alloc(), line, ServeOptions { ptt, ..SERVE })?;
     }
     Ok(())
 }

@@ -1,6 +1,6 @@
 //! What a live station tells of its health.
 
-use super::outcome::{NONE, Outcome, served_as, silence, words};
+use super::outcome::{EIGHT, NONE, Outcome, served_as, silence, words};
 use super::script::Script;
 use super::serving::{a_call, with_registration};
 use crate::assertions::assert_equal;
@@ -21,7 +21,7 @@ fn told<R: Threads + Wait + Net + Sync>(
     input: Vec<u8>,
     live: &mut MemLive,
 ) -> Result<Box<Outcome>, OutOfMemory> {
-    let mut asked = words(false, false);
+    let mut asked = words(false, EIGHT);
     asked.stats = seconds;
     served_as(rt, alloc, asked, input, NONE, live)
 }
@@ -113,7 +113,7 @@ fn dropped_frames_are_told_once(rt: HostRuntime) -> Result<(), Fail> {
 #[test]
 fn frames_hosts_and_links_are_counted(rt: HostRuntime) -> Result<(), Fail> {
     let alloc = rt.alloc();
-    let mut input = a_call(alloc)?;
+    let mut input = a_call(alloc, EIGHT)?;
     input.extend_from_slice(&silence(alloc, 9600)?)?;
     let mut live = with_registration(alloc)?.failing(&[])?;
     let told = told(&rt, alloc, Some(3), input, &mut live)?;

@@ -1,7 +1,7 @@
 //! A live station over real threads, whose input waits until the sockets are polled.
 ghost use Rattle.std.specs.Prelude.{None};
 
-use super::outcome::words;
+use super::outcome::{EIGHT, words};
 use crate::assertions::assert_equal;
 use host_ports::{Listen, PollFault, Ports};
 use key_port::{MemKeyPort, RealKeyPort};
@@ -146,7 +146,7 @@ fn written<R: Threads + Wait + Net + Clock + Sync>(
     };
     let mut output = CountingSink { writes: &writes };
     let mut report = MemSink::new(alloc, 1000, Vec::new(alloc))?;
-    let words = words(false, false);
+    let words = words(false, EIGHT);
     let end = serve(
         rt,
         alloc,
@@ -188,7 +188,7 @@ fn held<R: Threads + Wait + Net + Clock + Sync>(
     };
     let mut output = MemSink::new(alloc, 1000, Vec::new(alloc))?;
     let mut report = MemSink::new(alloc, 1000, Vec::new(alloc))?;
-    let words = words(false, false);
+    let words = words(false, EIGHT);
     let end = serve(
         rt,
         alloc,

@@ -1,9 +1,9 @@
 //! A live station whose transmitter is keyed over a line in memory.
 ghost use Rattle.std.specs.Prelude.{ℕ};
 ghost use Rattle.link_machine.specs.Params.{IsRefusedWindow};
-ghost use Rattle.slicer_bank.specs.Detection.{CanBeAsked};
+ghost use Rattle.live_receiver.specs.Listening.{CanBeAskedBy};
 
-use super::outcome::{Failing, NONE, Outcome, served_as, silence, words};
+use super::outcome::{EIGHT, Failing, NONE, Outcome, served_as, silence, words};
 use super::script::Script;
 use crate::assertions::assert_equal;
 use key_port::{KeyOutcome, KeyStep, MemKeyPort};
@@ -36,7 +36,7 @@ fn script(alloc: Global, (brings, fails): Calls) -> Result<Vec<(u64, KeyOutcome)
 /// A station whose transmitter is keyed, with a tail of one tick.
 fn keyed_words() -> ServeWords
     ensures window { (window : ℕ) → ¬ IsRefusedWindow result.config.params window }
-    ensures dcd { CanBeAsked result.dcd }
+    ensures dcd { CanBeAskedBy result.listening result.dcd }
 {
     let key = KeyWords {
         port: 4532,
@@ -47,7 +47,7 @@ fn keyed_words() -> ServeWords
     };
     ServeWords {
         key: Some(key),
-        ..words(false, false)
+        ..words(false, EIGHT)
     }
 }
 

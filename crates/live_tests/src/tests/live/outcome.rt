@@ -1,11 +1,12 @@
 //! What a live station over streams in memory writes of an input.
 ghost use Rattle.std.specs.Prelude.{◌≤◌, ℕ};
 ghost use Rattle.link_machine.specs.Params.{IsRefusedWindow};
-ghost use Rattle.slicer_bank.specs.Detection.{CanBeAsked};
+ghost use Rattle.live_receiver.specs.Listening.{CanBeAskedBy};
 
 use host_ports::{Listen, MemPorts};
 use key_port::MemKeyPort;
 use link_machine::Params;
+use live_receiver::Listening;
 use slicer_bank::Detection;
 use station::Config;
 use std::alloc::Global;
@@ -16,9 +17,15 @@ use std::thread::Threads;
 use tnc_base::{MemSink, MemSource, OutOfMemory};
 use tnc_ports::{Live, ServeEnd, ServeWords, Spawner, serve};
 
-pub(super) fn words(monitor: bool, sensitive: bool) -> ServeWords
+/// Eight lanes listen for Bell 202.
+pub(super) const EIGHT: Listening = Listening::Bell202 { sensitive: false };
+
+/// All 26 lanes listen.
+pub(super) const ALL: Listening = Listening::Bell202 { sensitive: true };
+
+pub(super) fn words(monitor: bool, listening: Listening) -> ServeWords
     ensures window { (window : ℕ) → ¬ IsRefusedWindow result.config.params window }
-    ensures dcd { CanBeAsked result.dcd }
+    ensures dcd { CanBeAskedBy result.listening result.dcd }
 {
     ServeWords {
         listen: Listen {
@@ -28,11 +35,21 @@ pub(super) fn words(monitor: bool, sensitive: bool) -> ServeWords
         },
         seed: 1,
         config: Config::new(Params::default(), None),
-        dcd: Detection::Tones,
+        dcd: dcd(listening),
         monitor,
         stats: None,
-        sensitive,
+        listening,
         key: None,
+    }
+}
+
+/// By what the channel is busy: by tones, or on short wave by three flags in a row.
+fn dcd(listening: Listening) -> Detection
+    ensures { CanBeAskedBy listening result }
+{
+    match listening {
+        Listening::Bell202 { .. } => Detection::Tones,
+        Listening::ShortWave => Detection::Flags(3),
     }
 }
 
@@ -99,19 +116,19 @@ pub(super) fn served<R: Threads + Wait + Net + Sync, W: Spawner>(
     failing: Failing<'_>,
     live: &mut Live<MemPorts, W, MemKeyPort>,
 ) -> Result<Box<Outcome>, OutOfMemory> {
-    served_by(rt, alloc, false, input, failing, live)
+    served_by(rt, alloc, EIGHT, input, failing, live)
 }
 
-/// The same, or all 26 lanes listen.
+/// The same, but it listens so.
 pub(super) fn served_by<R: Threads + Wait + Net + Sync, W: Spawner>(
     rt: &R,
     alloc: Global,
-    sensitive: bool,
+    listening: Listening,
     input: Vec<u8>,
     failing: Failing<'_>,
     live: &mut Live<MemPorts, W, MemKeyPort>,
 ) -> Result<Box<Outcome>, OutOfMemory> {
-    served_as(rt, alloc, words(true, sensitive), input, failing, live)
+    served_as(rt, alloc, words(true, listening), input, failing, live)
 }
 
 /// A station that is asked for this.
@@ -124,7 +141,7 @@ pub(super) fn served_as<R: Threads + Wait + Net + Sync, W: Spawner>(
     live: &mut Live<MemPorts, W, MemKeyPort>,
 ) -> Result<Box<Outcome>, OutOfMemory>
     requires window { (window : ℕ) → ¬ IsRefusedWindow words.config.params window }
-    requires dcd { CanBeAsked words.dcd }
+    requires dcd { CanBeAskedBy words.listening words.dcd }
 {
     let mut streams = Streams::new(alloc, input, failing)?;
     let Streams {

@@ -1,11 +1,13 @@
 //! A live station over memory, from its first poll to the end of its input.
 
-use super::outcome::{Failing, NONE, Outcome, served, served_by, silence};
+use super::outcome::{ALL, EIGHT, Failing, NONE, Outcome, served, served_by, silence};
 use super::script::Script;
 use crate::assertions::assert_equal;
 use afsk_modulator::transmission;
+use hf_sender::hf_transmission;
 use host_ports::MemPorts;
 use key_port::MemKeyPort;
+use live_receiver::Listening;
 use station::PortKind;
 use station_tests::message;
 use std::alloc::Global;
@@ -98,10 +100,11 @@ fn line_count(text: &[u8]) -> usize {
     count
 }
 
-/// Each row: whether all lanes listen, how many samples are missed, and the line of the last.
-const MISSED: &[(bool, usize, &[u8])] = &[
-    (false, 8 * 4464, b"gap 7 4463 4464\n"),
-    (true, 9 * 4464, b"gap 8 4463 4464\n"),
+/// Each row: how it listens, how many samples are missed, and the line of the last.
+const MISSED: &[(Listening, usize, &[u8])] = &[
+    (EIGHT, 8 * 4464, b"gap 7 4463 4464\n"),
+    (ALL, 9 * 4464, b"gap 8 4463 4464\n"),
+    (Listening::ShortWave, 4464, b"gap 0 4463 4464\n"),
 ];
 
 /// Ends the test unless the report has a line for each missed sample, and all of the rest comes out.
@@ -113,14 +116,15 @@ fn assert_gaps<R: Abort>(rt: &R, served: &Outcome, gaps: usize, last: &[u8]) {
     assert_equal(rt, &got, &(ServeEnd::Done, 2 * 69_984, true, true, gaps));
 }
 
-// The ring keeps 65,536 samples, so each reader misses the first 4464 one by one. The added lanes share the ninth.
+// The ring keeps 65,536 samples, so each reader misses the first 4464 one by one. The added lanes share the ninth; the
+// lanes of short wave have one.
 #[test]
 fn overwritten_samples_are_reported(rt: HostRuntime) -> Result<(), Fail> {
     let alloc = rt.alloc();
-    for (sensitive, gaps, last) in MISSED {
+    for (listening, gaps, last) in MISSED {
         let input = silence(alloc, 70_000)?;
         let mut live = no_hosts(alloc)?;
-        let served = served_by(&rt, alloc, *sensitive, input, NONE, &mut live)?;
+        let served = served_by(&rt, alloc, *listening, input, NONE, &mut live)?;
         assert_gaps(&rt, &served, *gaps, last);
     }
     Ok(())
@@ -129,12 +133,20 @@ fn overwritten_samples_are_reported(rt: HostRuntime) -> Result<(), Fail> {
 /// SABM with P from N7LEM to NJ7P.
 const SABM: &[u8] = b"\x9c\x94\x6e\xa0\x40\x40\xe0\x9c\x6e\x98\x8a\x9a\x40\x61\x3f";
 
+/// The sound of frames, for a station that listens so.
+fn sound(alloc: Global, listening: Listening, frames: &[Octets]) -> Result<Vec<i16>, Fail> {
+    match listening {
+        Listening::Bell202 { .. } => Ok(transmission(alloc, frames, 2, 1)?),
+        Listening::ShortWave => Ok(hf_transmission(alloc, 10_000, frames, 2, 1)?),
+    }
+}
+
 /// 2 s of silence, and then SABM.
-pub(super) fn a_call(alloc: Global) -> Result<Vec<u8>, Fail> {
+pub(super) fn a_call(alloc: Global, listening: Listening) -> Result<Vec<u8>, Fail> {
     let mut input = silence(alloc, 19_200)?;
     let mut frames = Vec::new(alloc);
     frames.push(Octets::from_slice(alloc, SABM)?)?;
-    for sample in transmission(alloc, &frames, 2, 1)? {
+    for sample in sound(alloc, listening, &frames)? {
         input.extend_from_slice(&sample.to_le_bytes())?;
     }
     Ok(input)
@@ -170,12 +182,12 @@ fn told(alloc: Global) -> Result<Vec<u8>, Fail> {
 fn served_call<R: Threads + Wait + Net + Sync>(
     rt: &R,
     alloc: Global,
-    sensitive: bool,
+    listening: Listening,
     failing: Failing<'_>,
     live: &mut MemLive,
 ) -> Result<Box<Outcome>, Fail> {
-    let input = a_call(alloc)?;
-    Ok(served_by(rt, alloc, sensitive, input, failing, live)?)
+    let input = a_call(alloc, listening)?;
+    Ok(served_by(rt, alloc, listening, input, failing, live)?)
 }
 
 /// Ends the test unless the host is told of the call.
@@ -186,15 +198,22 @@ fn assert_told<R: Abort>(rt: &R, alloc: Global, live: &MemLive) -> Result<(), Fa
     Ok(())
 }
 
-// All lanes hear the call, and it is told once.
+/// Each row: how it listens, and how many ticks are made: a bit lasts 8 samples, or 32 on short wave.
+const CALLED: &[(Listening, usize)] = &[(EIGHT, 213), (ALL, 213), (Listening::ShortWave, 254)];
+
+// Whichever lanes listen, they hear the call, and it is told once.
 #[test]
 fn a_call_is_heard_and_told(rt: HostRuntime) -> Result<(), Fail> {
     let alloc = rt.alloc();
-    for sensitive in [false, true] {
+    for (listening, ticks) in CALLED {
         let mut live = with_registration(alloc)?.failing(&[])?;
-        let served = served_call(&rt, alloc, sensitive, NONE, &mut live)?;
-        let got = (served.end, served.output.len(), live.ports.sends().len());
-        assert_equal(&rt, &got, &(ServeEnd::Done, 2 * 213 * 96, 2));
+        let served = served_call(&rt, alloc, *listening, NONE, &mut live)?;
+        let got = (
+            served.end,
+            served.output.len() / 192,
+            live.ports.sends().len(),
+        );
+        assert_equal(&rt, &got, &(ServeEnd::Done, *ticks, 2));
         let report = b"rx N7LEM>NJ7P SABM cmd f=1\n".as_slice();
         assert_equal(&rt, &served.report.as_slice(), &report);
         assert_told(&rt, alloc, &live)?;
@@ -217,7 +236,7 @@ fn faults_end_it_or_not(rt: HostRuntime) -> Result<(), Fail> {
     let alloc = rt.alloc();
     for (failing, calls, end, octets) in FAULTS {
         let mut live = with_registration(alloc)?.failing(calls)?;
-        let served = served_call(&rt, alloc, false, *failing, &mut live)?;
+        let served = served_call(&rt, alloc, EIGHT, *failing, &mut live)?;
         let got = (*failing, *calls, served.end, served.output.len());
         assert_equal(&rt, &got, &(*failing, *calls, *end, *octets));
     }

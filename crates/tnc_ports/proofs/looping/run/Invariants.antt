@@ -1,5 +1,5 @@
 -- The turns so far.
-use Rattle.tnc_ports.proofs.Common.{All, ◌≡◌, ring_id, ring_len, reader_ring, readers_in, Runs}
+use Rattle.tnc_ports.proofs.Common.{All, ◌≡◌, detection_of, ring_id, ring_len, reader_ring, readers_in, Runs}
 use Rattle.tnc_ports.specs.SampledRun.{outside_by}
 use Rattle.tnc_ports.proofs.looping.run.Given as goal
 
@@ -13,6 +13,6 @@ invariant-turns g l =
     g.K.KeyPort.lines g.K.KeyPort.faults g.O.Sink.written g.O.Sink.faults g.E.Sink.written g.E.Sink.faults
     l.ports l.key l.output l.report)
     × All (λ reader. reader_ring reader ≡ ring_id l.ring) (readers_in l.receiver)
-    × (l.receiver.detection ≡ l.initial.turning.words.dcd)
+    × (detection_of l.receiver ≡ l.initial.turning.words.dcd)
     × (g.N.Ports.dials l.ports ≡ g.N.Ports.dials l.initial.ports)
     × (reader_ring l.turning.meter.reader ≡ ring_id l.ring)

@@ -28,7 +28,7 @@ pub run-end-requires-clause-stands : goal.run-end-requires-clause-stands
 run-end-requires-clause-stands g c = λ κs within.
     first_stands c.args.words.now _ (ring_len c.args.ring.now) c.args.receiver.now c.in-Ok.ensures.stands_for
     refl refl c.new-2.ensures
-    (subst (IsFreshSound c.args.ring.now) (sym c.take.ensures.value ∙ c.in-Some.is) c.requires.sound).1 c.requires.fresh.sensitive c.requires.fresh.new c.requires.fresh.hears
+    (subst (IsFreshSound c.args.ring.now) (sym c.take.ensures.value ∙ c.in-Some.is) c.requires.sound).1 c.requires.fresh.listening c.requires.fresh.new c.requires.fresh.hears
 
 pub run-end-requires-clause-readers : goal.run-end-requires-clause-readers
 run-end-requires-clause-readers g c = λ κs within. c.requires.fresh.readers

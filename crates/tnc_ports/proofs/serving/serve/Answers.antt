@@ -58,7 +58,7 @@ run_beside-requires-clause-fresh g c = λ κs within. record {
   new = c.in-Ok-new.ensures.nothing (ring_len c.in-Ok.ring);
   hears = c.in-Ok-new.ensures.hears (ring_len c.in-Ok.ring);
   detection = c.in-Ok-new.ensures.detection;
-  sensitive = c.in-Ok-new.ensures.sensitive;
+  listening = c.in-Ok-new.ensures.listening;
 }
 
 pub run_beside-requires-clause-sound : goal.run_beside-requires-clause-sound

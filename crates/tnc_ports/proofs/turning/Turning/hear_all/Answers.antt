@@ -1,5 +1,6 @@
 use Rattle.tnc_ports.proofs.Common.{refl, ap, ◌∙◌, stream_of}
-use Rattle.tnc_ports.proofs.LiveSteps.{hears_none, hears_next, hears_done, hears_some, on_err}
+use Rattle.host_ports.proofs.ResultLemmas.{on_err}
+use Rattle.tnc_ports.proofs.LiveSteps.{hears_none, hears_next, hears_done, hears_some}
 use Rattle.tnc_ports.proofs.turning.Turning.hear_all.Goals as goal
 
 pub loop-item-init : goal.loop-item-init

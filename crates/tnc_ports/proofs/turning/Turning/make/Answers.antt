@@ -2,7 +2,8 @@ use Rattle.tnc_ports.proofs.Common.{ap, ◌∙◌, ℕ, length, refl, ring_len, 
 use Rattle.tnc_ports.proofs.Common.{◌≡◌, Candidate, List, Turning}
 use Rattle.host_ports.specs.declared.health.Health.{Health}
 use Rattle.host_ports.specs.Health.{with_heard}
-use Rattle.tnc_ports.proofs.LiveSteps.{hears_counted, hears_same, hears_some_same, on_err}
+use Rattle.host_ports.proofs.ResultLemmas.{on_err}
+use Rattle.tnc_ports.proofs.LiveSteps.{hears_counted, hears_same, hears_some_same}
 use Rattle.tnc_ports.proofs.LiveTurn.{all_made, counted_in, cut_reading, cut_hearing, cut_ticking}
 use Rattle.tnc_ports.proofs.turning.Turning.make.Goals as goal
 

@@ -1,5 +1,6 @@
 use Rattle.tnc_ports.proofs.Common.{ap, inr, ◌∙◌, report_text}
-use Rattle.tnc_ports.proofs.LiveSteps.{serves_all, on_err}
+use Rattle.host_ports.proofs.ResultLemmas.{on_err}
+use Rattle.tnc_ports.proofs.LiveSteps.{serves_all}
 use Rattle.tnc_ports.proofs.turning.Turning.serve_hosts.Goals as goal
 
 pub returns-clause-served : goal.returns-clause-served

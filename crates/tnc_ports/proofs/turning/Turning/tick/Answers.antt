@@ -5,7 +5,8 @@ use Rattle.tnc_ports.proofs.Common.{Bool, Puts, key_line, map, ring_len, stream_
 use Rattle.tnc_ports.specs.SampledHeld.{KeyStands}
 use Rattle.tnc_ports.specs.declared.meter.Meter.{Meter}
 use Rattle.tnc_ports.proofs.LiveMeter.{tick_read, tick_told}
-use Rattle.tnc_ports.proofs.LiveSteps.{AreTakenLines, on_err}
+use Rattle.host_ports.proofs.ResultLemmas.{on_err}
+use Rattle.tnc_ports.proofs.LiveSteps.{AreTakenLines}
 use Rattle.tnc_ports.proofs.LiveTicks.{ticks_once}
 use Rattle.tnc_ports.proofs.turning.Turning.tick.Goals as goal
 

@@ -1,7 +1,8 @@
 use Rattle.key_port.specs.KeyTasks.{line_told}
 use Rattle.tnc_ports.proofs.Common.{◌-◌, ◌/◌, refl, ap, ◌∙◌, arith, ring_len, stream_of}
 use Rattle.std.proofs.Common.{suc}
-use Rattle.tnc_ports.proofs.LiveSteps.{ticks_none, ticks_more, ticks_done, ticks_some, count_due, on_err}
+use Rattle.host_ports.proofs.ResultLemmas.{on_err}
+use Rattle.tnc_ports.proofs.LiveSteps.{ticks_none, ticks_more, ticks_done, ticks_some, count_due}
 use Rattle.tnc_ports.proofs.turning.Turning.tick_up_to.Goals as goal
 
 pub loop-tick-init : goal.loop-tick-init

@@ -1,0 +1,39 @@
+-- The names that most proofs of this crate cite, passed on from one place.
+pub use Rattle.frame_merge.specs.Held.{least}
+pub use Rattle.frame_merge.specs.Merged.{below, merged, not_below}
+pub use Rattle.frame_merge.specs.Order.{in_order, standing}
+pub use Rattle.frame_merge.specs.declared.candidate.Candidate.{Candidate}
+pub use Rattle.hf_modem.specs.Candidates.{AreCandidatesAfter, IsCandidate, end_sample}
+pub use Rattle.live_receiver.specs.HeardOnShortWave.{AreDue, AreHeard, AreMerged, AreRest, IsHeardIn, moved, placed}
+pub use Rattle.live_receiver.specs.HeardOnShortWave.{settled_end}
+pub use Rattle.live_receiver.specs.HeldHf.{AreInStep, HasMergedHf, HeldHf, HfHears, HfListens, StandsForStretch}
+pub use Rattle.live_receiver.specs.HeldHf.{hf_answers, hf_of}
+pub use Rattle.live_receiver.specs.HfTurns.{AreHeardWith, HaveRoom, HearsMore, MadeHfTurn, MakesHfTurn, PutsMore}
+pub use Rattle.live_receiver.specs.HfTurns.{TookHf, WentOnHf}
+pub use Rattle.live_receiver.specs.declared.hf_ring.HfRing.{HfRing}
+pub use Rattle.live_receiver.specs.declared.hf_turn.HfTurn.{HfTurn}
+pub use Rattle.ring_receiver.specs.declared.heard.Heard.{Heard}
+pub use Rattle.sample_ring.specs.Ends.{position_of, reader_ring, reads_of, ring_id, ring_len}
+pub use Rattle.sample_ring.specs.Record.{answer}
+pub use Rattle.sample_ring.specs.declared.got.Got.{Got}
+pub use Rattle.sample_ring.specs.declared.got.Got.TheVariants.{Empty, End, Gap, Item}
+pub use Rattle.sample_ring.specs.declared.view.Entry.{Entry}
+pub use Rattle.slicer_bank.proofs.CandidateLemmas.{AllPairs-append}
+pub use Rattle.slicer_bank.proofs.StretchLemmas.{last-more, leads_more, leads_position, leads_up}
+pub use Rattle.slicer_bank.specs.HeardOnRing.{lane_of, least_position}
+pub use Rattle.slicer_bank.specs.RingJobs.{is_end}
+pub use Rattle.slicer_bank.specs.RingLanes.{answers_of}
+pub use Rattle.slicer_bank.specs.RingTurns.{IsReading, Leads, MeetsEnd, gaps_of, reads_on}
+pub use Rattle.slicer_bank.specs.Stretches.{Stretch, end_of, last_stretch, position_after, stretch_after, stretch_at}
+pub use Rattle.slicer_bank.specs.Stretches.{stretches, with_sample}
+pub use Rattle.slicer_bank.specs.declared.advance.LaneGap.{LaneGap}
+pub use Rattle.std.proofs.Common.{Bool, List, [], ap, append_assoc, arith, false, get_or, inl, inr, length, map, refl}
+pub use Rattle.std.proofs.Common.{replicate, subst, suc, sym, true, zero, ℕ, ℤ, ⊎_elim, ◌%◌, ◌*◌, ◌++◌, ◌+◌, ◌-◌, ◌/◌, ◌<◌}
+pub use Rattle.std.proofs.Common.{◌^◌, ◌↔◌, ◌∙◌, ◌∷◌, ◌≡◌, ◌≤◌, ◌⊎◌}
+pub use Rattle.std.proofs.lemmas.Bool.{cases_lt, true≢false}
+pub use Rattle.std.proofs.lemmas.List.{append-nil, get_or-map, length-map, length_push, map-append}
+pub use Rattle.std.proofs.lemmas.List.Elements.{All-append, All-map, All-nil, All-push, Contains-append_left}
+pub use Rattle.std.proofs.lemmas.List.Elements.{Contains-append_right}
+pub use Rattle.std.specs.List.{All, AllPairs, Contains}
+pub use Rattle.std.specs.Option.{option_to_list}
+pub use Rattle.std.specs.Prelude.{IfSome, None, Option, Some, option_map}

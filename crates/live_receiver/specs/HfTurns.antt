@@ -1,0 +1,100 @@
+-- What one read, and one turn of reads, make of the lanes of short wave, and what is put into the merger meanwhile.
+use Rattle.std.specs.Prelude.{◌≡◌, ◌↔◌, ℕ, ◌+◌, ◌/◌, ◌<◌, ◌≤◌, ℤ, Bool, true, false, List, [], ◌∷◌, ◌++◌, length, map}
+use Rattle.std.specs.Prelude.{replicate}
+use Rattle.std.specs.List.{All}
+use Rattle.hdlc_framer.specs.FrameLength.{HasFrameLength}
+use Rattle.sample_ring.specs.declared.got.Got.{Got}
+use Rattle.sample_ring.specs.declared.got.Got.TheVariants.{Item, Gap, Empty, End}
+use Rattle.sample_ring.specs.declared.view.Entry.{Entry}
+use Rattle.sample_ring.specs.Ends.{GoesForward, position_of, reads_of}
+use Rattle.sample_ring.specs.Record.{answer, next}
+use Rattle.frame_merge.specs.declared.candidate.Candidate.{Candidate}
+use Rattle.frame_merge.specs.Held.{Held as HeldMerger, StandsFor as MergerStandsFor}
+use Rattle.slicer_bank.specs.declared.advance.LaneGap.{LaneGap}
+use Rattle.slicer_bank.specs.HeardOnRing.{least_position}
+use Rattle.slicer_bank.specs.RingLanes.{answers_of}
+use Rattle.slicer_bank.specs.RingTurns.{IsReading, MeetsEnd, gaps_of, Leads}
+use Rattle.slicer_bank.specs.Stretches.{Stretch, stretch_after, position_after}
+use Rattle.hf_modem.specs.Candidates.{AreCandidatesAfter, end_sample}
+use Rattle.ring_receiver.specs.declared.heard.Heard.{Heard}
+use Rattle.ring_receiver.specs.Turns.{IsTurnOf}
+use Rattle.live_receiver.specs.declared.hf_ring.HfRing.{HfRing}
+use Rattle.live_receiver.specs.declared.hf_turn.HfTurn.{HfTurn}
+use Rattle.live_receiver.specs.HeardOnShortWave.{moved, AreHeard, AreDue}
+use Rattle.live_receiver.specs.HeldHf.{HeldHf, hf_answers, HfHears, HfLanesListen, HfListens, StandsForStretch, AreInStep}
+
+-- these were put into the merger, after all that it had taken before
+abbrev pub PutsMore : HeldMerger → HeldMerger → List Candidate → Type 0
+PutsMore was now items = (puts given : List Candidate) → MergerStandsFor was puts given
+    → MergerStandsFor now (puts ++ items) given
+
+-- the items are what the lanes hear in a stretch with one sample more
+pub record AreHeardInStretch (stretch : Stretch) (x : ℤ) (items : List Candidate) : Type 0 where
+  pub heard : List Candidate
+  pub are : AreCandidatesAfter (length stretch.samples) (stretch.samples ++ x ∷ []) heard
+  pub is : items ≡ map (moved stretch.begin) heard
+
+-- what they hear with one answer: something only with a sample
+abbrev pub AreHeardWith : Stretch → Got → List Candidate → Type 0
+AreHeardWith stretch (Item at x) items = AreHeardInStretch stretch x items
+AreHeardWith stretch (Gap from to) items = items ≡ []
+AreHeardWith stretch (Empty at) items = items ≡ []
+AreHeardWith stretch (End total) items = items ≡ []
+
+-- All that the lanes hear in more answers is what they heard in the first of these, and then these items, which end past
+-- the place that the first lead to.
+pub record HearsMore (before now : List Got) (items : List Candidate) : Type 0 where
+  pub all : (found : List Candidate) → AreHeard before found → AreHeard now (found ++ items)
+  pub late : All (λ item. position_after before < end_sample item) items
+
+-- The lanes have read once, with this answer. What they heard was put into the merger, and the gap that they were told of
+-- is added to those of before.
+pub record TookHf (len : ℕ) (before after : HfRing) (was now : HeldMerger) (got : Got)
+    (told_before told : List LaneGap) : Type 0 where
+  pub entry : Entry
+  pub is : got ≡ answer len entry
+  pub read : reads_of after.reader ≡ reads_of before.reader ++ entry ∷ []
+  pub forward : GoesForward (position_of before.reader) got
+  pub position : position_of after.reader ≡ next got
+  pub gaps : told ≡ told_before ++ gaps_of 0 (got ∷ [])
+  pub stands : (s : Stretch) → StandsForStretch before s → StandsForStretch after (stretch_after s got)
+  pub items : List Candidate
+  pub put : PutsMore was now items
+  pub heard : (s : Stretch) → StandsForStretch before s → AreHeardWith s got items
+
+-- the lanes have gone on by these answers, and were told of these gaps
+pub record WentOnHf (len : ℕ) (before after : HfRing) (was now : HeldMerger) (answers : List Got)
+    (told : List LaneGap) : Type 0 where
+  pub entries : List Entry
+  pub are : answers ≡ map (answer len) entries
+  pub read : reads_of after.reader ≡ reads_of before.reader ++ entries
+  pub forward : Leads (position_of before.reader) answers (position_of after.reader)
+  pub gaps : told ≡ gaps_of 0 answers
+  pub items : List Candidate
+  pub put : PutsMore was now items
+  pub heard : HfListens len before → HfListens len after
+      × HearsMore (answers_of len before.reader) (answers_of len after.reader) items
+
+-- the lanes have made their turn of reading
+pub record MadeHfTurn (len : ℕ) (before after : HfRing) (was now : HeldMerger) (turn : HfTurn) : Type 0 where
+  pub answers : List Got
+  pub on : WentOnHf len before after was now answers turn.gaps.items
+  pub reading : IsReading answers
+  pub met : (turn.ended ≡ true) ↔ MeetsEnd answers
+
+-- the lanes can take more: none is marked past their place
+pub record HaveRoom (lanes : HfRing) (merger : HeldMerger) : Type 0 where
+  pub mark : ℕ
+  pub marks : merger.marks ≡ replicate 32 (mark / 4)
+  pub low : mark ≤ lanes.begin + lanes.bank.position
+
+-- a receiver has made a turn, which brought this
+pub record MakesHfTurn (len : ℕ) (before after : HeldHf) (heard : Heard) : Type 0 where
+  pub turn : IsTurnOf 1 (hf_answers len before ∷ []) (hf_answers len after ∷ []) heard.gaps.items heard.ended
+  pub listens : HfLanesListen len before → HfLanesListen len after
+  pub due : HfHears len before → AreDue heard.ended (hf_answers len before) (hf_answers len after) heard.items.items
+  pub lengths : HfHears len before → All (λ item. HasFrameLength item.octets) heard.items.items
+  pub hears : heard.ended ≡ false → HfHears len before → HfHears len after
+  pub least : HfHears len before → heard.least ≡ least_position (hf_answers len after ∷ [])
+  pub forward : HfHears len before → least_position (hf_answers len before ∷ []) ≤ heard.least
+  pub step : heard.ended ≡ false → AreInStep after.lanes after.merger

@@ -1,0 +1,5 @@
+pub mod HeardOnShortWave
+pub mod HeldHf
+pub mod HfTurns
+pub mod Listening
+pub mod LiveReceivers

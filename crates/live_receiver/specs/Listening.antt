@@ -1,0 +1,38 @@
+-- How a live station listens: with how many readers of the ring, by what it can be asked to hear other stations, what is
+-- due of what its lanes hear, and when the channel is busy.
+use Rattle.std.specs.Prelude.{ℕ, Bool, List}
+use Rattle.sample_ring.specs.declared.got.Got.{Got}
+use Rattle.frame_merge.specs.declared.candidate.Candidate.{Candidate}
+use Rattle.slicer_bank.specs.declared.detection.Detection.{Detection}
+use Rattle.slicer_bank.specs.declared.detection.Detection.TheVariants.{Flags, Tones}
+use Rattle.slicer_bank.specs.Detection.{CanBeAsked}
+use Rattle.slicer_bank.specs.HeardOnRing.{IsBusyOnRing, lane_of}
+use Rattle.slicer_bank.specs.Stretches.{last_stretch}
+use Rattle.hf_modem.specs.Busy.{HearsCarrier}
+use Rattle.ring_receiver.specs.HeardByAll.{AreDueBy as AreDueByTones}
+use Rattle.ring_receiver.specs.Readers.{readers_wanted as readers_of_tones}
+use Rattle.live_receiver.specs.declared.listening.Listening.{Listening}
+use Rattle.live_receiver.specs.declared.listening.Listening.TheVariants.{Bell202, ShortWave}
+use Rattle.live_receiver.specs.HeardOnShortWave.{AreDue}
+
+-- One reader for each of the eight lanes of Bell 202, and one that all added lanes share; one for all lanes of short wave.
+abbrev pub readers_wanted : Listening → ℕ
+readers_wanted (Bell202 sensitive) = readers_of_tones sensitive
+readers_wanted ShortWave = 1
+
+-- on short wave other stations are heard by flags in a row alone
+abbrev pub CanBeAskedBy : Listening → Detection → Type 0
+CanBeAskedBy (Bell202 sensitive) detection = CanBeAsked detection
+CanBeAskedBy ShortWave (Flags count) = CanBeAsked (Flags count)
+CanBeAskedBy ShortWave Tones = ⊥
+
+-- what is due of what the lanes hear, by all that their readers were answered before a turn and after it
+abbrev pub AreDueBy : Listening → Bool → List (List Got) → List (List Got) → List Candidate → Type 0
+AreDueBy (Bell202 sensitive) ended before now items = AreDueByTones sensitive ended before now items
+AreDueBy ShortWave ended before now items = AreDue ended (lane_of before 0) (lane_of now 0) items
+
+-- another station is heard: by one of the eight lanes in its last stretch, or by a lane of short wave
+abbrev pub IsBusyBy : Listening → Detection → List (List Got) → Type 0
+IsBusyBy (Bell202 sensitive) detection lanes = IsBusyOnRing detection lanes
+IsBusyBy ShortWave (Flags count) lanes = HearsCarrier count (last_stretch (lane_of lanes 0)).samples
+IsBusyBy ShortWave Tones lanes = ⊥

@@ -1,0 +1,154 @@
+//! The lanes of short wave and the reader of the ring that they share.
+
+use crate::hf_merging::put;
+use crate::hf_turn::HfTurn;
+use frame_merge::Merger;
+use hf_modem::HfBank;
+use sample_ring::{Got, Reader, Ring};
+use slicer_bank::LaneGap;
+use std::alloc::Global;
+use tnc_base::OutOfMemory;
+
+/// The lane of which a gap is reported: all lanes share one reader.
+const LANE: u8 = 0;
+
+/// The most answers that the reader takes in one turn: those of a second.
+const MOST_READS: u32 = 9600;
+
+/// The lanes of short wave, which hear the samples of one reader. A gap starts them anew.
+#[derive(Drop)]
+pub struct HfRing {
+    pub(crate) alloc: Global,
+    pub(crate) reader: Reader,
+    /// The lanes, which have heard the samples since the last gap.
+    pub(crate) bank: HfBank,
+    /// The position of the first of these samples.
+    pub(crate) begin: u64,
+}
+
+impl HfRing {
+    ghost use Rattle.std.specs.Prelude.{◌≡◌, ℕ, ◌+◌, ◌-◌, ◌<◌, ◌≤◌, ◌^◌, List, [], ◌∷◌, ◌++◌, IfOk, OnOk};
+    ghost use Rattle.sample_ring.specs.declared.view.Entry.{Entry};
+    ghost use Rattle.sample_ring.specs.Ends.{IsNew, ring_id, ring_len, reader_ring, position_of, reads_of};
+    ghost use Rattle.frame_merge.specs.declared.candidate.Candidate.{Candidate};
+    ghost use Rattle.slicer_bank.specs.Stretches.{Stretch, stretch_at, with_sample};
+    ghost use Rattle.live_receiver.specs.HeldHf.{HfListens, StandsForStretch};
+    ghost use Rattle.live_receiver.specs.HfTurns.{AreHeardInStretch, HaveRoom, MadeHfTurn, PutsMore, TookHf};
+
+    /// Lanes that have heard nothing and listen for so many flags in a row, 1 to 8, with a reader that has read nothing.
+    pub(crate) fn new(alloc: Global, reader: Reader, flags: u8) -> Result<HfRing, OutOfMemory>
+        requires fresh { IsNew reader }
+        requires flags { (1 ≤ flags) × (flags ≤ 8) }
+        ensures reader { IfOk result (λ lanes. lanes.reader ≡ reader) }
+        ensures nothing { IfOk result (λ lanes. reads_of lanes.reader ≡ []) }
+        ensures listens { IfOk result (λ lanes. (len : ℕ) → HfListens len lanes) }
+        ensures at { IfOk result (λ lanes. (lanes.begin + lanes.bank.position ≡ position_of lanes.reader)
+            × (position_of lanes.reader ≡ 0)) }
+        ensures flags { IfOk result (λ lanes. lanes.bank.flags ≡ flags) }
+    {
+        Ok(HfRing {
+            alloc,
+            reader,
+            bank: HfBank::new(alloc, flags)?,
+            begin: 0,
+        })
+    }
+
+    /// Makes a turn of reading: until the ring is empty or has ended, or as often as a lane reads in a turn. What the
+    /// lanes hear goes into the merger.
+    pub(crate) fn advance(
+        &mut self,
+        ring: &Ring,
+        merger: &mut Merger,
+    ) -> Result<HfTurn, OutOfMemory>
+        requires ring { reader_ring self.old.reader ≡ ring_id ring.now }
+        requires at { self.old.begin + self.old.bank.position ≡ position_of self.old.reader }
+        requires room { HaveRoom self.old merger.old }
+        ensures ring { reader_ring self.new.reader ≡ reader_ring self.old.reader }
+        ensures grown { (entries : List Entry) × (reads_of self.new.reader ≡ reads_of self.old.reader ++ entries) }
+        ensures made { IfOk result (λ turn. MadeHfTurn (ring_len ring.now) self.old self.new merger.old merger.new turn) }
+        ensures at { OnOk result (self.new.begin + self.new.bank.position ≡ position_of self.new.reader) }
+        ensures marks { merger.new.marks ≡ merger.old.marks }
+        ensures flags { self.new.bank.flags ≡ self.old.bank.flags }
+    {
+        let mut turn = HfTurn {
+            gaps: Vec::new(self.alloc),
+            ended: false,
+        };
+        for _ in 0..MOST_READS {
+            match self.take(ring, merger, &mut turn.gaps)? {
+                Got::Item { .. } | Got::Gap { .. } => {}
+                Got::Empty { .. } => return Ok(turn),
+                Got::End { .. } => {
+                    turn.ended = true;
+                    return Ok(turn);
+                }
+            }
+        }
+        Ok(turn)
+    }
+
+    /// Reads once, and hears what it is given. It tells the answer.
+    fn take(
+        &mut self,
+        ring: &Ring,
+        merger: &mut Merger,
+        gaps: &mut Vec<LaneGap>,
+    ) -> Result<Got, OutOfMemory>
+        requires ring { reader_ring self.old.reader ≡ ring_id ring.now }
+        requires at { self.old.begin + self.old.bank.position ≡ position_of self.old.reader }
+        requires room { HaveRoom self.old merger.old }
+        ensures ring { reader_ring self.new.reader ≡ reader_ring self.old.reader }
+        ensures grown { (entry : Entry) × (reads_of self.new.reader ≡ reads_of self.old.reader ++ entry ∷ []) }
+        ensures took { IfOk result (λ got. TookHf (ring_len ring.now) self.old self.new merger.old merger.new got
+            gaps.old.items gaps.new.items) }
+        ensures at { OnOk result (self.new.begin + self.new.bank.position ≡ position_of self.new.reader) }
+        ensures marks { merger.new.marks ≡ merger.old.marks }
+        ensures flags { self.new.bank.flags ≡ self.old.bank.flags }
+    {
+        let got = self.reader.read(ring);
+        match got {
+            Got::Item { sample, .. } => self.hear(sample, merger)?,
+            Got::Gap { from, to } => {
+                self.begin_at(to)?;
+                gaps.push(LaneGap {
+                    lane: LANE,
+                    from,
+                    to,
+                })?;
+            }
+            Got::Empty { .. } | Got::End { .. } => {}
+        }
+        Ok(got)
+    }
+
+    /// Has the lanes hear a sample, and puts what they hear into the merger.
+    fn hear(&mut self, sample: i16, merger: &mut Merger) -> Result<(), OutOfMemory>
+        requires position { self.old.begin + self.old.bank.position < 2 ^ 48 - 1 }
+        requires room { HaveRoom self.old merger.old }
+        ensures stands { OnOk result ((s : Stretch) → StandsForStretch self.old s
+            → StandsForStretch self.new (with_sample s sample)) }
+        ensures heard { OnOk result ((items : List Candidate) × PutsMore merger.old merger.new items
+            × ((s : Stretch) → StandsForStretch self.old s → AreHeardInStretch s sample items)) }
+        ensures reader { self.new.reader ≡ self.old.reader }
+        ensures position { OnOk result (self.new.begin + self.new.bank.position
+            ≡ self.old.begin + self.old.bank.position + 1) }
+        ensures marks { merger.new.marks ≡ merger.old.marks }
+        ensures flags { self.new.bank.flags ≡ self.old.bank.flags }
+    {
+        let heard = self.bank.push(sample)?;
+        put(merger, heard, self.begin + self.bank.position())
+    }
+
+    /// Has the lanes begin anew, with the sample at a position as the first.
+    fn begin_at(&mut self, position: u64) -> Result<(), OutOfMemory>
+        ensures stands { OnOk result (StandsForStretch self.new (stretch_at position)) }
+        ensures reader { self.new.reader ≡ self.old.reader }
+        ensures position { OnOk result (self.new.begin + self.new.bank.position ≡ position) }
+        ensures flags { self.new.bank.flags ≡ self.old.bank.flags }
+    {
+        self.bank.restart()?;
+        self.begin = position;
+        Ok(())
+    }
+}
