@@ -2,12 +2,12 @@
 """Checks `tnc serve` against Dire Wolf at the other end of the sound: connected sessions by REJ and SREJ, modulo 8 and 128,
 called by either end, all at once and at the pace of sound, while parts of long transmissions are lost.
 
-  scripts/check_peers.py [--tnc PROGRAM] [--packets N] [--seed N] [--only N] [--times] [--log FOLDER] [--ptt]
+  scripts/check_peers.py [--tnc PROGRAM] [--packets N] [--seed N] [--only N] [--times] [--log FOLDER] [--ptt] [--hf]
 
 In a session the host of each station gives so many packets, and the host of the other one has to get just these; then the
 end that called disconnects. With --ptt the station keys the dummy rig of a rigctld, and its sound goes out only while that is
-keyed; none may be cut off. It prints a line for each session that failed, or for all, and ends with status 0 where all is
-well, and 77 if there is to be a rigctld and none is installed."""
+keyed; none may be cut off. With --hf both are on short wave, at 300 bits a second. It prints a line for each session that
+failed, or for all, and ends with status 0 where all is well, and 77 if there is to be a rigctld and none is installed."""
 import argparse
 import collections
 import itertools
@@ -19,7 +19,7 @@ from air import Agw, Kiss, Station
 from direwolf import DireWolf, PacedAir
 from rigs import Rig, Transmitter, are_there
 
-LIMIT = 100 * 100  # ticks: a session that takes longer has failed
+LIMIT = 100 * 100  # ticks: a session that takes longer has failed, or four times as long on short wave
 SIZE = 48  # octets of a packet
 
 SESSIONS = [
@@ -37,6 +37,7 @@ def wanted(words):
     reader.add_argument("--times", action="store_true")
     reader.add_argument("--log")
     reader.add_argument("--ptt", action="store_true")
+    reader.add_argument("--hf", action="store_true")
     return reader.parse_args(words)
 
 
@@ -48,10 +49,14 @@ class Session:
         draws = random.Random(given.seed * 100 + number)
         options = ["--mode", self.mode, *(["--wide"] if self.wide else []), "--monitor", "--seed", given.seed + number]
         settings = ["NOXID TTTT", "FRACK 3"] if self.wide else ["MAXV22 0", "FRACK 3"]
+        if given.hf:
+            options += ["--hf"]
+            settings += ["FRACK 10", "MODEM 300 1600:1800"]
+        self.longer = 4 if given.hf else 1  # how many times as long as at 1200 bits a second a bit lasts
         transmitter = Transmitter(Rig().start()) if given.ptt else None
         self.station = Station(given.tnc, *options, transmitter=transmitter)
         self.wolf = DireWolf("DDDD", *settings)
-        self.air = PacedAir(self.station, self.wolf, draws)
+        self.air = PacedAir(self.station, self.wolf, draws, longer=self.longer)
         self.kiss = Kiss(self.station)
         self.kiss.send(b"\x14", command=1)
         self.hosts = [Agw(self.station, "TTTT"), Agw(self.wolf, "DDDD")]
@@ -63,7 +68,7 @@ class Session:
     def until(self, what, holds):
         """Lets the air go on until something holds."""
         while not holds():
-            if self.air.ticks > LIMIT:
+            if self.air.ticks > LIMIT * self.longer:
                 raise RuntimeError(f"gave up waiting: {what}")
             self.air.step()
             for host in self.hosts:

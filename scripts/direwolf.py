@@ -80,10 +80,13 @@ class DireWolf:
 
 
 class Damage:
-    """What reaches the other side: of each long transmission a tenth of a second is missing, at a drawn place."""
+    """What reaches the other side: of each long transmission a tenth of a second is missing, at a drawn place. Where bits last
+    so many times as long as at 1200 a second, so do the places."""
 
-    def __init__(self, draws, wanted=True):
-        self.draws, self.wanted, self.since, self.at, self.count = draws, wanted, 0, 80, 0
+    def __init__(self, draws, wanted=True, longer=1):
+        self.draws, self.wanted, self.since, self.count = draws, wanted, 0, 0
+        self.places = (80 * longer, 300 * longer)
+        self.at = self.places[0]
 
     def heard(self, ticks):
         out = []
@@ -92,7 +95,7 @@ class Damage:
             if not any(tick):
                 self.since = 0
             elif self.since == 0:
-                self.at = self.draws.randrange(80, 300)
+                self.at = self.draws.randrange(*self.places)
             self.since += any(tick)
             gone = self.wanted and self.at <= self.since < self.at + 10
             self.count += gone and self.since == self.at
@@ -103,9 +106,9 @@ class Damage:
 class PacedAir:
     """Carries the samples of a station and a Dire Wolf to each other at the pace of sound."""
 
-    def __init__(self, station, wolf, draws, damage=True, ticks=2):
+    def __init__(self, station, wolf, draws, damage=True, ticks=2, longer=1):
         self.station, self.wolf, self.count = station, wolf, ticks * TICK
-        self.to_wolf, self.to_station = Damage(draws, damage), Damage(draws, damage)
+        self.to_wolf, self.to_station = Damage(draws, damage, longer), Damage(draws, damage, longer)
         self.ticks, self.began = 0, time.monotonic()
 
     def step(self):
