@@ -39,7 +39,7 @@ use Rattle.link_machine.specs.Params.{HasWindows}
 use Rattle.link_machine.specs.Step.{step as link_turn}
 use Rattle.selective_reject.specs.Numbers.{ahead}
 use Rattle.selective_reject.specs.Places.{missing}
-use Rattle.station.specs.Heard.{IsOurs, IsReadAs, telling_channel}
+use Rattle.station.specs.Heard.{IsOurs, IsReadAs, noting}
 use Rattle.station.specs.Monitored.{heard_modulus}
 use Rattle.station_laws.proofs.NewKeys.{first_key}
 use Rattle.station.specs.Asking.{first_wanting}
@@ -313,7 +313,7 @@ hearing end s path octets frame between begins read effect ours few = record {
   station = end;
   input = OffAir octets;
   before = s;
-  after = telling_channel true between;
+  after = noting (Some path) true between;
   turn = record {
     path = Some path;
     reading = (14, begins);

@@ -8,6 +8,7 @@ use Rattle.station_laws.proofs.Common.{bad_length_in, AgwMessage, repeated, Kiss
 use Rattle.station_laws.proofs.Common.{HostEvent, Joined, Bytes, Left, PortKind, Kiss, Agw, version_kind, ports_kind}
 use Rattle.station_laws.proofs.Common.{capabilities_kind, register_kind, unregister_kind, toggle_kind, monitor_kind}
 use Rattle.station_laws.proofs.Common.{raw_kind, unproto_kind, unproto_via_kind, data_kind, disconnect_kind}
+use Rattle.station_laws.proofs.Common.{heard_kind, heard_reply, replying_heard, HeardStation}
 use Rattle.station_laws.proofs.Common.{pending_kind, waiting_kind, replying, version_reply, ports_reply}
 use Rattle.station_laws.proofs.Common.{capabilities_reply, toggled, monitor_toggled, register_reply, with_registration}
 use Rattle.station_laws.proofs.Common.{registering, unregistering, queueing_raw, most_information, unnumbered_frame}
@@ -42,7 +43,7 @@ use Rattle.kiss_port.specs.WebRequests.{is_web_request}
 use Rattle.kiss_port.specs.declared.item.KissItem.TheVariants.{Frame as KissFrame, AckFrame, Other}
 use Rattle.link_machine.specs.Event.Event.{Connect as LinkConnect, Hear as LinkHear}
 use Rattle.station.specs.AgwKinds.{connect_via_kind}
-use Rattle.station.specs.Heard.{IsReadAs, hearing_at, kiss_data, showing, telling_channel}
+use Rattle.station.specs.Heard.{IsReadAs, hearing_at, kiss_data, showing, noting}
 use Rattle.station.specs.Askers.{answer_of, pieces_for, sent_pieces, speaks_kiss}
 use Rattle.station.specs.HostMessages.{raw_message}
 use Rattle.station.specs.Kiss.{queueing_asked}
@@ -78,6 +79,16 @@ module _ (id : ℕ) (plan : CallPlan) (called : IsBetweenCalls plan) where
   reply_does host message turn ten no_connect no_data =
       says_does id plan turn (replying host message turn) (piece_with host message ∷ []) refl
       (says_one id host plan message ten (none_by_kind plan message no_connect no_data)) refl
+
+  -- H
+  heard_replies_do : (host : ℕ) (heard : List HeardStation) (turn : Turn)
+      → Does id plan turn [] (replying_heard host heard turn)
+  heard_replies_do host [] turn = same_does id plan turn
+  heard_replies_do host (station ∷ stations) turn =
+      let told = replying host (heard_reply station) turn in
+      does_on id plan turn told (replying_heard host stations told) [] []
+      (reply_does host (heard_reply station) turn (record { from = refl; to = refl }) refl refl)
+      (heard_replies_do host stations told)
 
   registering_does :
       (host : ℕ) (from : List ℕ) (call : Option Callsign) (turn : Turn) → length from ≡ 10
@@ -275,17 +286,19 @@ module _ (id : ℕ) (plan : CallPlan) (called : IsBetweenCalls plan) where
       last : Does id plan turn [] (cond (message.kind == pending_kind)
           (replying host (pending_reply message (pending_in message turn.now.links)) turn)
           (cond (message.kind == waiting_kind) (replying host (waiting_reply (length turn.now.channel.waiting)) turn)
-          turn))
-      last = go (message.kind == pending_kind) (message.kind == waiting_kind)
+          (cond (message.kind == heard_kind) (replying_heard host turn.now.heard turn) turn)))
+      last = go (message.kind == pending_kind) (message.kind == waiting_kind) (message.kind == heard_kind)
         where
-          go : (b d : Bool) → Does id plan turn []
+          go : (b d e : Bool) → Does id plan turn []
               (cond b (replying host (pending_reply message (pending_in message turn.now.links)) turn)
-              (cond d (replying host (waiting_reply (length turn.now.channel.waiting)) turn) turn))
-          go true d = reply_does host (pending_reply message (pending_in message turn.now.links)) turn
+              (cond d (replying host (waiting_reply (length turn.now.channel.waiting)) turn)
+              (cond e (replying_heard host turn.now.heard turn) turn)))
+          go true d e = reply_does host (pending_reply message (pending_in message turn.now.links)) turn
               (record { from = sent_back_ten message.from ten.from; to = sent_back_ten message.to ten.to }) refl refl
-          go false true = reply_does host (waiting_reply (length turn.now.channel.waiting)) turn
+          go false true e = reply_does host (waiting_reply (length turn.now.channel.waiting)) turn
               (record { from = refl; to = refl }) refl refl
-          go false false = same_does id plan turn
+          go false false true = heard_replies_do host turn.now.heard turn
+          go false false false = same_does id plan turn
 
       rest :
           (b d : Bool) (xs ys : List LinkStep)
@@ -297,7 +310,7 @@ module _ (id : ℕ) (plan : CallPlan) (called : IsBetweenCalls plan) where
           (cond (message.kind == pending_kind)
           (replying host (pending_reply message (pending_in message turn.now.links)) turn)
           (cond (message.kind == waiting_kind) (replying host (waiting_reply (length turn.now.channel.waiting)) turn)
-          turn))))
+          (cond (message.kind == heard_kind) (replying_heard host turn.now.heard turn) turn)))))
       rest true d xs ys one two = one
       rest false true xs ys one two = two
       rest false false xs ys one two = last
@@ -309,7 +322,7 @@ module _ (id : ℕ) (plan : CallPlan) (called : IsBetweenCalls plan) where
           (cond (message.kind == pending_kind)
           (replying host (pending_reply message (pending_in message turn.now.links)) turn)
           (cond (message.kind == waiting_kind) (replying host (waiting_reply (length turn.now.channel.waiting)) turn)
-          turn)))
+          (cond (message.kind == heard_kind) (replying_heard host turn.now.heard turn) turn))))
 
       without_register : (message.kind == register_kind) ≡ false
           → Does id plan turn (else_steps (meant plan) host message turn) remaining
@@ -758,14 +771,14 @@ module _ (id : ℕ) (plan : CallPlan) (called : IsBetweenCalls plan) where
       let shown = shown_to_hosts h.path octets h.monitored before in
       let steps = heard_steps (meant plan) octets before after h in
       subst (Does id plan before steps) (sym h.told)
-      (does_on_last before h.between (telling_channel h.ours h.between) steps
+      (does_on_last before h.between (noting h.path h.ours h.between) steps
       (does_on id plan before shown h.between [] steps
       (does_on id plan before first shown [] []
       (showing_does from to octets before.now.connections before agw (source_ten octets h.path h.reading)
       (destination_ten octets h.path h.reading))
       (monitors_does false before.now.ticks h.monitored first (read_calls _ octets h.monitored h.read_as)))
       (by_path_does octets h.path shown h.between h.reading h.effect))
-      (silent_does id plan h.between (telling_channel h.ours h.between) refl refl))
+      (silent_does id plan h.between (noting h.path h.ours h.between) refl refl))
 
   -- ---- each step
 

@@ -115,7 +115,7 @@ same_hosts = record {
     registered = with_own call t.now.registrations (registrar call t.now.registrations);
     closed = refl;
   };
-  told = λ ours t. record { connections = refl; digi = refl; paclen = refl; registered = λ own. own; closed = refl };
+  told = λ path ours t. record { connections = refl; digi = refl; paclen = refl; registered = λ own. own; closed = refl };
 }
 
 pub still_has : (before after : Turn) → SameHosts before after → HasHosts before.now → HasHosts after.now

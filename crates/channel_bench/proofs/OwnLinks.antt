@@ -26,7 +26,7 @@ use Rattle.link_machine.specs.Event.Event.{Hear as LinkHear}
 use Rattle.link_machine.specs.Machine.{modulus_named}
 use Rattle.link_machine.specs.Sent.{frame_of}
 use Rattle.link_machine.specs.Step.{step as link_turn}
-use Rattle.station.specs.Heard.{telling_channel}
+use Rattle.station.specs.Heard.{noting}
 use Rattle.station.specs.declared.registration.Registration.{Registration}
 use Rattle.station.specs.FrameSpelling.{path_octets}
 use Rattle.station.specs.Monitoring.{piece_for, to_monitors}
@@ -454,9 +454,9 @@ module _ (c : Cause) where
       })
 
   told_says :
-      (e : End) (t u : Turn) (steps : List LinkStep) (ours : Bool) → Says e t steps u
-      → Says e t steps (telling_channel ours u)
-  told_says e t u steps ours h = record {
+      (e : End) (t u : Turn) (steps : List LinkStep) (path : Option Path) (ours : Bool) → Says e t steps u
+      → Says e t steps (noting path ours u)
+  told_says e t u steps path ours h = record {
     owns = record { links = h.owns.links; registered = h.owns.registered };
     closed = h.closed;
     pieces = h.pieces;
@@ -475,7 +475,7 @@ module _ (c : Cause) where
       let first = shown_says e h.path octets h.monitored t owns unshown in
       let steps = heard_steps (chosen e) octets t u h in
       subst (Says e t steps) (sym h.told)
-      (told_says e t h.between steps h.ours
+      (told_says e t h.between steps h.path h.ours
       (says_on e t shown h.between [] steps first
       (by_heard e octets shown (λ any. heard_steps any octets t u h) h.between by
       (ap (λ (s : StationState). s.digi) (only_shows h.path octets h.monitored t).now ∙ none) first.owns from

@@ -69,7 +69,7 @@ fed = record {
     asks = λ key t. fed_none t _ refl refl refl;
   };
   registers = λ call t. fed_none t _ refl refl refl;
-  told = λ ours t. fed_none t _ refl refl refl;
+  told = λ path ours t. fed_none t _ refl refl refl;
 }
 
 -- ---- a step

@@ -47,7 +47,7 @@ same_connections = record {
     asks = λ key t. record { connections = refl; closed = refl };
   };
   registers = λ call t. record { connections = refl; closed = refl };
-  told = λ ours t. record { connections = refl; closed = refl };
+  told = λ path ours t. record { connections = refl; closed = refl };
 }
 
 -- what a step leaves of the connection of the program

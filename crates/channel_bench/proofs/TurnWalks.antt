@@ -18,7 +18,7 @@ use Rattle.link_machine.specs.Event.{Event as LinkEvent}
 use Rattle.link_machine.specs.Event.Event.{Connect as LinkConnect, Hear as LinkHear}
 use Rattle.link_machine.specs.Step.{step as link_turn}
 use Rattle.station.specs.FrameSpelling.{frame_octets}
-use Rattle.station.specs.Heard.{telling_channel}
+use Rattle.station.specs.Heard.{noting}
 use Rattle.station.specs.HostMessages.{raw_message}
 use Rattle.station.specs.Links.{with_new_link}
 use Rattle.station.specs.Turn.{with_piece}
@@ -84,7 +84,7 @@ pub record KeptByTurns (R : Turn → Turn → Type 0) : Type 0 where
   pub acts : KeptByActs R
   -- by the host program
   pub registers : (call : Callsign) (t : Turn) → R t (changing (with_registration call program_id) t)
-  pub told : (ours : Bool) (t : Turn) → R t (telling_channel ours t)
+  pub told : (path : Option Path) (ours : Bool) (t : Turn) → R t (noting path ours t)
 
 module _ (R : Turn → Turn → Type 0) (k : KeptByTurns R) where
   -- a link that is made, and its first event
@@ -206,10 +206,10 @@ module _ (R : Turn → Turn → Type 0) (k : KeptByTurns R) where
       let shown = shown_to_hosts h.path octets h.monitored before in
       let shows = only_shows h.path octets h.monitored before in
       subst (R before) (sym h.told)
-      (k.acts.on before h.between (telling_channel h.ours h.between)
+      (k.acts.on before h.between (noting h.path h.ours h.between)
       (k.acts.on before shown h.between
       (k.acts.on before raw shown (shown_kept (source_field h.path) (destination_field h.path) octets before)
       (k.acts.tells raw shown.out.pieces))
       (heard_by octets shown (λ chosen. heard_steps chosen octets before after h) h.between
       (ap (λ (s : StationState). s.digi) shows.now ∙ none) (heard_as octets before after h)))
-      (k.told h.ours h.between))
+      (k.told h.path h.ours h.between))

@@ -13,7 +13,7 @@ pub(crate) fn clock(ticks: u64) -> [u8; 8]
 }
 
 /// A number below 100 in two digits.
-fn two_digits(number: u8) -> [u8; 2]
+pub(crate) fn two_digits(number: u8) -> [u8; 2]
     requires { number < 100 }
     ensures { result ≡ two_digits number }
 {

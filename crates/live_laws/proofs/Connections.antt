@@ -7,6 +7,7 @@ use Rattle.station_laws.proofs.Common.{AgwMessage, Callsign, KissItem, Hardware,
 use Rattle.station_laws.proofs.Common.{Event, Hear, Send, HostEvent, Bytes, Joined, Left, PortKind, Agw, Kiss, version_kind}
 use Rattle.station_laws.proofs.Common.{ports_kind, capabilities_kind, register_kind, unregister_kind, toggle_kind}
 use Rattle.station_laws.proofs.Common.{monitor_kind, raw_kind, unproto_kind, unproto_via_kind, data_kind, disconnect_kind}
+use Rattle.station_laws.proofs.Common.{heard_kind, heard_reply, replying_heard, HeardStation}
 use Rattle.station_laws.proofs.Common.{pending_kind, waiting_kind, AreAnswered, IsCall, IsCallMade, answering_else}
 use Rattle.station_laws.proofs.Common.{called_pid, called_route, call_in, calls, data_pid, disconnecting, giving, giving_packet}
 use Rattle.station_laws.proofs.Common.{may_call, most_information, own_key, packet_length, packets_of, queueing_raw}
@@ -238,6 +239,11 @@ module _ (IsSo : ℕ → PortKind → Type 0) (IsNamed : ℕ → Type 0)
     closed = subst (Each IsNamed) (sym closed) h.closed;
   }
 
+  tells_heard_so : (host : ℕ) (heard : List HeardStation) (t : Turn) → Has t → Has (replying_heard host heard t)
+  tells_heard_so host heard t h =
+      along_so (λ (station : HeardStation). replying host (heard_reply station))
+      (λ station u. replies_so host (heard_reply station) u) heard t h
+
   else_so : (host : ℕ) (message : AgwMessage) (t : Turn) → Has t → Has (answering_else host message t)
   else_so host message t h =
       let n = message.kind in
@@ -259,7 +265,8 @@ module _ (IsSo : ℕ → PortKind → Type 0) (IsNamed : ℕ → Type 0)
       (either (n == data_kind) _ _ (data_so message (own_key host message t.now.links) t h)
       (either (n == disconnect_kind) _ _ (ends_so (own_key host message t.now.links) t h)
       (either (n == pending_kind) _ _ (still t _ h refl refl)
-      (either (n == waiting_kind) _ _ (still t _ h refl refl) h)))))))))))))
+      (either (n == waiting_kind) _ _ (still t _ h refl refl)
+      (either (n == heard_kind) _ _ (tells_heard_so host t.now.heard t h) h))))))))))))))
 
   made_so :
       (host pid : ℕ) (message : AgwMessage) (route : Route) (may : Bool) (t u : Turn)

@@ -194,10 +194,10 @@ frames_walk monitor (item ∷ items) before after h frames =
     (λ id new. tt) frames.0))
     (frames_walk monitor items h.0 after h.2 frames.1)
 
-key_ticks : (key : Option KeyWords) (octets : ℕ) (samples : List ℤ) (keyed new : List KeyEvent) (whole told : Whole)
-    (before after : Hosts) → TicksKeyIf key octets samples keyed new whole told before after → AreLined before after
-key_ticks None octets samples keyed new whole told before after t = (before.report, t.2)
-key_ticks (Some key) octets samples keyed new whole told before after t =
+key_ticks : (key : Option KeyWords) (octets : ℕ) (samples out : List ℤ) (keyed new : List KeyEvent)
+    (whole told : Whole) (before after : Hosts) → TicksKeyIf key octets samples out keyed new whole told before after → AreLined before after
+key_ticks None octets samples out keyed new whole told before after t = (before.report, t.2)
+key_ticks (Some key) octets samples out keyed new whole told before after t =
     lined_on before t.reached after (
       t.reached.report,
       t.tick.hosts ∙ sym (ap (λ (h : Hosts). record before { report = h.report }) t.tick.hosts),
@@ -224,7 +224,7 @@ tick_walks words busy before after h =
     (before.hosts.report ++ (h.step.lines ++ h.step.reported), h.step.is) in
     let keyed : Walks before.hosts h.hosts steps =
     walks_lined before.hosts h.made h.hosts steps made
-    (key_ticks words.key (octets_sent before) h.air.samples before.keyed h.keyed before.whole h.whole h.made h.hosts h.key) in
+    (key_ticks words.key (octets_sent before) h.air.samples h.out before.keyed h.keyed before.whole h.whole h.made h.hosts h.key) in
     let told = ap (λ (live : Live). live.hosts) h.is in
     walks_lined before.hosts h.hosts after.hosts steps keyed
     (after.hosts.report, told ∙ sym (ap (λ (x : Hosts). record h.hosts { report = x.report }) told))

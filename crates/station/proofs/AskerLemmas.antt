@@ -60,6 +60,7 @@ shows_removed parts new out turn front others shows is left same =
         links = h.links;
         channel = h.channel;
         askers = left ∙ ap (drop 1) (sym is ∙ h.askers);
+        heard = h.heard;
         dropped = h.dropped;
         ticks = h.ticks;
         asked = h.asked;

@@ -46,6 +46,7 @@ shows_set parts out turn links key link next shows at is =
         };
         channel = h.channel;
         askers = h.askers;
+        heard = h.heard;
         dropped = h.dropped;
         ticks = h.ticks;
         asked = h.asked;
@@ -119,9 +120,9 @@ pub shows_forgotten : (parts new : Parts) (out : Out) (turn : Turn) (id : ℕ) �
     → new.registrations.items ≡ without_registrations id parts.registrations.items
     → new.askers.items ≡ without_askers id parts.askers.items
     → new.parameters ≡ parts.parameters → new.digi ≡ parts.digi → new.links ≡ parts.links → new.channel ≡ parts.channel
-    → new.dropped ≡ parts.dropped → new.ticks ≡ parts.ticks → new.asked ≡ parts.asked
+    → new.heard ≡ parts.heard → new.dropped ≡ parts.dropped → new.ticks ≡ parts.ticks → new.asked ≡ parts.asked
     → new.paclen ≡ parts.paclen → Shows new out (changing (without_host id) turn)
-shows_forgotten parts new out turn id shows kept left told parameters digi links channel dropped ticks asked
+shows_forgotten parts new out turn id shows kept left told parameters digi links channel heard dropped ticks asked
     paclen =
     let h = shows.holds in
     record {
@@ -139,6 +140,7 @@ shows_forgotten parts new out turn id shows kept left told parameters digi links
         links = subst (λ (held : HeldLinks). StandsForLinks held turn.now.links) (sym links) h.links;
         channel = subst (λ held. StandsForChannel held turn.now.channel) (sym channel) h.channel;
         askers = told ∙ ap (without_askers id) h.askers;
+        heard = ap (λ held. held.items) heard ∙ h.heard;
         dropped = dropped ∙ h.dropped;
         ticks = ticks ∙ h.ticks;
         asked = asked ∙ h.asked;

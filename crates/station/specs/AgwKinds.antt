@@ -61,6 +61,10 @@ data_kind = 68
 abbrev pub disconnect_kind : ℕ
 disconnect_kind = 100
 
+-- H: the stations that were heard last
+abbrev pub heard_kind : ℕ
+heard_kind = 72
+
 -- Y: how many packets of a link are not acknowledged
 abbrev pub pending_kind : ℕ
 pending_kind = 89

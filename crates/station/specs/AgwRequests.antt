@@ -12,12 +12,14 @@ use Rattle.ax25_frames.specs.declared.frame.Modulus.TheVariants.{Eight}
 use Rattle.hdlc_framer.specs.FrameLength.{has_frame_length}
 use Rattle.agwpe_port.specs.declared.message.AgwMessage.{AgwMessage}
 use Rattle.agwpe_port.specs.Messages.{spelling}
+use Rattle.frame_monitor.specs.HeardStations.{heard_text}
+use Rattle.frame_monitor.specs.declared.heard_station.HeardStation.{HeardStation}
 use Rattle.selective_reject.specs.declared.packet.Packet.{Packet}
 use Rattle.link_machine.specs.Event.Event.{Connect, Send, Disconnect}
 use Rattle.station.specs.AgwKinds.{version_kind, ports_kind, capabilities_kind, register_kind, unregister_kind}
 use Rattle.station.specs.AgwKinds.{toggle_kind, monitor_kind, raw_kind, unproto_kind, unproto_via_kind, connect_kind}
 use Rattle.station.specs.AgwKinds.{connect_via_kind, connect_pid_kind, data_kind, disconnect_kind, pending_kind}
-use Rattle.station.specs.AgwKinds.{waiting_kind}
+use Rattle.station.specs.AgwKinds.{waiting_kind, heard_kind}
 use Rattle.station.specs.CallFields.{call_in, field_text, field_of, sent_back}
 use Rattle.station.specs.Connections.{with_connection, turned_raw, turned_monitor}
 use Rattle.station.specs.FrameSpelling.{frame_octets}
@@ -217,6 +219,15 @@ pending_reply message count =
 abbrev pub waiting_reply : ℕ → AgwMessage
 waiting_reply count = to_host waiting_kind 0 no_call no_call (little_bytes 4 count)
 
+-- ---- H
+
+-- a message of each station that was heard last: its call, when it was heard first and when last
+abbrev pub heard_reply : HeardStation → AgwMessage
+heard_reply station = to_host heard_kind 0 no_call no_call (heard_text station)
+
+abbrev pub replying_heard : ℕ → List HeardStation → Act
+replying_heard id heard = in_order (map (λ station. replying id (heard_reply station)) heard)
+
 -- ---- each kind
 
 -- What a message of a connection does that makes no link. A kind that is not named is passed over.
@@ -241,6 +252,7 @@ answering_else id message turn =
     if message.kind == pending_kind
     then replying id (pending_reply message (pending_in message turn.now.links)) turn else
     if message.kind == waiting_kind then replying id (waiting_reply (length turn.now.channel.waiting)) turn else
+    if message.kind == heard_kind then replying_heard id turn.now.heard turn else
     turn
 
 -- what a message of a connection does

@@ -1,6 +1,6 @@
 -- What a station does with a frame that it hears (AX.25 2.2 sections 3.12 and 6.3): hosts are shown it, it is repeated
 -- if it waits for a repeater, and else it is an event of the link of its two calls. The channel is told whether it is
--- one.
+-- one, and the station that sent it is among those that were heard last.
 use Rattle.std.specs.Prelude.{◌≡◌, ℕ, nat_lt, Bool, true, false, not, ◌&&◌, ◌⊎◌, if◌then◌else◌, List, [], ◌∷◌, ◌++◌}
 use Rattle.std.specs.Prelude.{map, is_some, Option, Some, None, MatchBool}
 use Rattle.std.specs.List.{list_any}
@@ -22,6 +22,8 @@ use Rattle.kiss_port.specs.Escapes.{fend, spelled}
 use Rattle.agwpe_port.specs.CallField.{call_field}
 use Rattle.agwpe_port.specs.Messages.{spelling}
 use Rattle.link_machine.specs.Event.Event.{Hear}
+use Rattle.frame_monitor.specs.HeardStations.{hearing_station}
+use Rattle.frame_monitor.specs.declared.heard_station.HeardStation.{HeardStation}
 use Rattle.station.specs.declared.host_event.PortKind.{PortKind}
 use Rattle.station.specs.declared.host_event.PortKind.TheVariants.{Kiss, Agw}
 use Rattle.station.specs.Connections.{Connection}
@@ -138,7 +140,7 @@ abbrev pub AreOctetsHeard : Path → List ℕ → Turn → Turn → Type 0
 AreOctetsHeard path octets before after =
     AreHeardAt (key_between path.dest path.source before.now.links) octets before after
 
--- ---- told to the channel
+-- ---- noted
 
 -- a frame is an event of the link of a key, or of the one that is made for it
 abbrev pub finds_link : Option ℕ → Frame → StationState → Bool
@@ -162,8 +164,20 @@ IsOurs (Some path) octets s ours =
     MatchBool (waits_for_repeater path) (ours ≡ false)
     (IsForLink (key_between path.dest path.source s.links) octets s ours)
 
-abbrev pub telling_channel : Bool → Act
-telling_channel ours = changing (λ s. record s { channel = with_heard ours s.channel })
+-- the stations that were heard last, with the source of a frame's path
+abbrev pub stations_heard : Option Path → ℕ → List HeardStation → List HeardStation
+stations_heard None ticks heard = heard
+stations_heard (Some path) ticks heard = hearing_station path.source ticks heard
+
+abbrev pub with_frame_heard : Option Path → Bool → StationState → StationState
+with_frame_heard path ours s = record s {
+  channel = with_heard ours s.channel;
+  heard = stations_heard path s.ticks s.heard;
+}
+
+-- the channel is told whether a frame on the path was an event of a link, and its source has been heard
+abbrev pub noting : Option Path → Bool → Act
+noting path ours = changing (with_frame_heard path ours)
 
 -- ---- each frame
 
@@ -192,7 +206,7 @@ pub record IsHeard (octets : List ℕ) (before after : Turn) : Type 0 where
   pub read_as : IsReadAs (heard_modulus path before.now.links) octets monitored
   pub between : Turn
   pub effect : IsHeardBy path octets (shown_to_hosts path octets monitored before) between
-  -- whether it is an event of a link, which the channel is told last
+  -- whether it is an event of a link, which is told to the channel last
   pub ours : Bool
   pub is_ours : IsOurs path octets before.now ours
-  pub told : after ≡ telling_channel ours between
+  pub told : after ≡ noting path ours between

@@ -7,6 +7,7 @@ use Rattle.channel_access.specs.Parameters.{default_parameters}
 use Rattle.channel_access.specs.declared.modem.Modem.{Modem}
 use Rattle.channel_access.specs.declared.modem.Modem.TheVariants.{Bell202}
 use Rattle.channel_access.specs.declared.parameters.Parameters.{Parameters}
+use Rattle.frame_monitor.specs.declared.heard_station.HeardStation.{HeardStation}
 use Rattle.station.specs.declared.config.Config.{Config}
 use Rattle.station.specs.declared.asker.Asker.{Asker}
 use Rattle.station.specs.declared.registration.Registration.{Registration}
@@ -26,6 +27,8 @@ pub record StationState : Type 0 where
   pub channel : Channel
   -- for each frame that waits to be sent, the host that is told when it has been sent, if one is
   pub askers : List (Option Asker)
+  -- the stations that were heard last, the last one first
+  pub heard : List HeardStation
   -- how many frames found the transmit queue full
   pub dropped : ℕ
   -- how many ticks of 10 ms the station has made
@@ -52,6 +55,7 @@ new_station config seed = record {
   links = no_links;
   channel = channel_with config.modem config.channel seed;
   askers = [];
+  heard = [];
   dropped = 0;
   ticks = 0;
   asked = 0;

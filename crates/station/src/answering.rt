@@ -87,6 +87,7 @@ impl Parts {
             b'd' => self.disconnect(memory, out, id, message),
             b'Y' => self.reply_pending(memory, out, id, message),
             b'y' => self.reply_waiting(memory, out, id),
+            b'H' => self.reply_heard(memory, out, id),
             _ => Ok(()),
         }
     }

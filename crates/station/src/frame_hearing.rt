@@ -1,14 +1,15 @@
 //! A frame that is heard.
-ghost use Rattle.std.specs.Prelude.{◌&&◌, nat_lt, count_by, is_some, ◌≡◌, ℕ, ◌<◌, ◌↔◌, not, Some, None, OnOk, IfOk};
+ghost use Rattle.std.specs.Prelude.{◌&&◌, nat_lt, count_by, is_some, ◌≡◌, ℕ, ◌<◌, ◌↔◌, not, Some, None, OnOk, IfOk, false};
 ghost use Rattle.std.specs.Prelude.{IsTrue, true, OnErr};
 ghost use Rattle.ax25_address.specs.FramePath.{BeginsWithPath, way_back};
 ghost use Rattle.ax25_address.specs.declared.path.Role.TheVariants.{Command};
 ghost use Rattle.ax25_frames.specs.ControlField.{IsNumbered};
 ghost use Rattle.ax25_frames.specs.FrameOctets.{control_of};
 ghost use Rattle.ax25_frames.specs.declared.frame.Modulus.TheVariants.{Eight};
+ghost use Rattle.frame_monitor.specs.HeardStations.{hearing_station};
 ghost use Rattle.hdlc_framer.specs.FrameLength.{HasFrameLength};
 ghost use Rattle.station.specs.Heard.{IsReadAs, IsHeard, IsRepeatedFor, AreOctetsHeard, AreHeardAt, IsHeardAnew};
-ghost use Rattle.station.specs.Heard.{IsForLink, finds_link, telling_channel};
+ghost use Rattle.station.specs.Heard.{IsForLink, finds_link, noting};
 ghost use Rattle.station.specs.Heard.{waits_for_repeater, makes_link, is_command_to_set_up};
 ghost use Rattle.station.specs.Links.{key_between};
 ghost use Rattle.station.specs.Held.{ids_in};
@@ -26,6 +27,7 @@ use agwpe_port::call_text;
 use ax25_address::{Call, Path, Role, read_path, reversed};
 use ax25_frames::{Frame, FrameFault, Kind, Modulus, U, read_frame};
 use digipeater::repeat;
+use frame_monitor::{HeardStation, hear_station};
 use tnc_base::{Octets, OutOfMemory};
 
 impl Parts {
@@ -46,7 +48,7 @@ impl Parts {
             Ok((path, _)) => self.hear_along(memory, out, &path, octets),
             Err(_) => {
                 self.show(memory, out, [0; 10], [0; 10], octets)?;
-                self.tell_channel(false);
+                self.note_unread();
                 Ok(())
             }
         }
@@ -76,21 +78,31 @@ impl Parts {
         self.monitor_heard(memory, out, path, octets)?;
         if waits_for_repeater(path) {
             self.repeat(memory, out, octets)?;
-            self.tell_channel(false);
-            return Ok(());
+            return self.note(memory, path, false);
         }
         let ours = self.hear_octets(memory, out, path, octets)?;
-        self.tell_channel(ours);
-        Ok(())
+        self.note(memory, path, ours)
     }
 
-    /// Tells the channel that a frame was heard, and whether it was an event of a link.
-    fn tell_channel(&mut self, ours: bool)
-        ensures shows { (out : Out) (turn : Turn) → Shows self.old out turn
-            → Shows self.new out (telling_channel ours turn) }
+    /// Tells the channel that a frame was heard which is no event of a link.
+    fn note_unread(&mut self)
+        ensures shows { (out : Out) (turn : Turn) → Shows self.old out turn → Shows self.new out (noting None false turn) }
         ensures ids { ids_in self.new ≡ ids_in self.old }
     {
+        self.channel.heard(false);
+    }
+
+    /// Tells the channel that a frame on this path was heard, and whether it was an event of a link. Its source is
+    /// among the stations that were heard last.
+    fn note(&mut self, memory: &mut Memory, path: &Path, ours: bool) -> Result<(), OutOfMemory>
+        ensures shows { (out : Out) (turn : Turn) → Shows self.old out turn
+            → OnOk result (Shows self.new out (noting (Some path.now) ours turn)) }
+        ensures ids { OnOk result (ids_in self.new ≡ ids_in self.old) }
+        ensures wanted { OnErr result (memory.new.refused ≡ true) }
+    {
+        hear_call(memory, &mut self.heard, &path.source, self.ticks)?;
         self.channel.heard(ours);
+        Ok(())
     }
 
     /// Queues a frame as the station repeats it, if it is the station's turn.
@@ -219,6 +231,20 @@ impl Parts {
     {
         makes_link(frame) && self.links.has_room()
     }
+}
+
+/// A station is heard after so many ticks.
+fn hear_call(
+    memory: &mut Memory,
+    heard: &mut Vec<HeardStation>,
+    call: &Call,
+    ticks: u64,
+) -> Result<(), OutOfMemory>
+    ensures heard { OnOk result (heard.new.items ≡ hearing_station call.now ticks heard.old.items) }
+    ensures wanted { OnErr result (memory.new.refused ≡ true) }
+{
+    let took = hear_station(heard, call, ticks);
+    memory.took(took)
 }
 
 /// What octets are read as.

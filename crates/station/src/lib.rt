@@ -17,7 +17,7 @@
 //!   host(Left)                 its registrations end, its links have no owner and are disconnected
 //! Octets of a connection       however they are cut
 //!   KISS, port 0               a frame is queued, a parameter is set
-//!   R, G, g, Y, y              answered at once
+//!   R, G, g, Y, y, H           answered at once
 //!   X, x, k, m                 a call is registered or freed; raw frames or monitoring on, or off again
 //!   K, M, V                    a frame is queued
 //!   C, v, c                    a link is made and calls, or d is answered
@@ -30,6 +30,7 @@
 //!   a repeater has H clear     queued with H set, if that is this station; nothing more
 //!   a link (dest, source)      read in its modulus, and its event
 //!   dest is registered         read modulo 8; a link is made if the frame is no UI, XID, TEST, UA, DM or FRMR
+//!   source                     among the 20 stations that were heard last, in each of these cases but the second
 //! The channel takes a frame     where the opening flags or a frame end, and none of a link waits
 //!   a link that wants to send  is asked, the next one by key, round and round
 //! An event of a link

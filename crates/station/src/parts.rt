@@ -15,6 +15,7 @@ use crate::memory::Memory;
 use crate::registration::Registration;
 use ax25_address::Call;
 use channel_access::{Access, Modem, Param, Parameters};
+use frame_monitor::HeardStation;
 use std::alloc::Global;
 use tnc_base::{Octets, OutOfMemory};
 
@@ -40,6 +41,8 @@ pub struct Parts {
     pub channel: Access,
     /// For each frame that waits to be sent, the host that is told when it has been sent, if one is.
     pub askers: Vec<Option<Asker>>,
+    /// The stations that were heard last, the last one first.
+    pub heard: Vec<HeardStation>,
     /// How many frames found the queue full.
     pub dropped: u64,
     /// How many ticks were made. The count stays at the greatest number of 64 bits.
@@ -74,6 +77,7 @@ impl Parts {
             links: LinkTable::new(alloc)?,
             channel: channel_with(alloc, config.modem, config.channel, seed)?,
             askers: Vec::new(alloc),
+            heard: Vec::new(alloc),
             dropped: 0,
             ticks: 0,
             asked: 0,

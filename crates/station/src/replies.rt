@@ -3,7 +3,8 @@ ghost use Rattle.std.specs.Prelude.{◌≡◌, ◌≤◌, length, IfOk, OnOk, tr
 ghost use Rattle.byteorder.specs.Endian.{little_bytes};
 ghost use Rattle.agwpe_port.specs.Messages.{spelling};
 ghost use Rattle.station.specs.AgwRequests.{capabilities_of, capabilities_reply, pending_in, pending_reply};
-ghost use Rattle.station.specs.AgwRequests.{ports_reply, replying, version_reply, waiting_reply};
+ghost use Rattle.station.specs.AgwRequests.{heard_reply, ports_reply, replying, replying_heard, version_reply};
+ghost use Rattle.station.specs.AgwRequests.{waiting_reply};
 ghost use Rattle.station.specs.HostMessages.{to_host, no_call};
 ghost use Rattle.station.specs.Links.{Links};
 ghost use Rattle.station.specs.State.{StationState};
@@ -17,6 +18,7 @@ use crate::memory::Memory;
 use crate::messages::message;
 use crate::parts::Parts;
 use agwpe_port::AgwMessage;
+use frame_monitor::{HeardStation, heard_text};
 use tnc_base::OutOfMemory;
 
 /// A call field that is not named.
@@ -147,6 +149,40 @@ impl Parts {
         let count = self.channel.len().to_le_bytes();
         reply(memory, out, id, b'y', NO_CALL, NO_CALL, &count[..4])
     }
+
+    /// H: the stations that were heard last, each in a message.
+    pub(crate) fn reply_heard(
+        &self,
+        memory: &mut Memory,
+        out: &mut HostOut,
+        id: u32,
+    ) -> Result<(), OutOfMemory>
+        ensures shows { (turn : Turn) → Shows self.now out.old turn
+            → OnOk result (Shows self.now out.new (replying_heard id turn.now.heard turn)) }
+        ensures closed { OnOk result (out.new.closed ≡ out.old.closed) }
+        ensures wanted { OnErr result (memory.new.refused ≡ true) }
+    {
+        for station in &self.heard {
+            reply_station(memory, out, id, station)?;
+        }
+        Ok(())
+    }
+}
+
+/// Sends a connection a message of a station that was heard.
+fn reply_station(
+    memory: &mut Memory,
+    out: &mut HostOut,
+    id: u32,
+    station: &HeardStation,
+) -> Result<(), OutOfMemory>
+    ensures sent { OnOk result (out.new ≡ with_piece id (spelling (heard_reply station.now)) out.old) }
+    ensures closed { OnOk result (out.new.closed ≡ out.old.closed) }
+    ensures wanted { OnErr result (memory.new.refused ≡ true) }
+{
+    let text = heard_text(memory.alloc(), station);
+    let text = memory.took(text)?;
+    reply(memory, out, id, b'H', NO_CALL, NO_CALL, &text)
 }
 
 impl LinkTable {

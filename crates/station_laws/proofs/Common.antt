@@ -73,7 +73,7 @@ pub use Rattle.link_world.specs.declared.end.End.TheVariants.{A, B}
 pub use Rattle.selective_reject.specs.declared.packet.Packet.{Packet}
 pub use Rattle.station.specs.AgwKinds.{capabilities_kind, data_kind, disconnect_kind, monitor_kind, pending_kind}
 pub use Rattle.station.specs.AgwKinds.{ports_kind, raw_kind, register_kind, toggle_kind, unproto_kind, unproto_via_kind}
-pub use Rattle.station.specs.AgwKinds.{unregister_kind, version_kind, waiting_kind}
+pub use Rattle.station.specs.AgwKinds.{unregister_kind, version_kind, waiting_kind, heard_kind}
 pub use Rattle.station.specs.AgwRequests.{AreAnswered, IsCall, IsCallMade, answering_else, called_pid, called_route}
 pub use Rattle.station.specs.AgwRequests.{calls, capabilities_reply, data_pid, disconnecting, giving, giving_packet}
 pub use Rattle.station.specs.AgwRequests.{may_call, monitor_toggled, most_information, own_key, packet_length, packets_of}
@@ -81,6 +81,8 @@ pub use Rattle.station.specs.AgwRequests.{pending_in}
 pub use Rattle.station.specs.AgwRequests.{pending_reply, ports_reply, queueing_raw, refused_reply, register_reply}
 pub use Rattle.station.specs.AgwRequests.{registering, replying, sending_unnumbered, toggled, unnumbered_frame}
 pub use Rattle.station.specs.AgwRequests.{unregistering, version_reply, waiting_reply, with_registration}
+pub use Rattle.station.specs.AgwRequests.{heard_reply, replying_heard}
+pub use Rattle.frame_monitor.specs.declared.heard_station.HeardStation.{HeardStation}
 pub use Rattle.station.specs.Asking.{asked_key, asking, asking_at, seizing, with_asked}
 unfoldable pub use Rattle.station.specs.CallFields.{call_of_text}
 pub use Rattle.station.specs.CallFields.{call_in}

@@ -18,7 +18,7 @@ use Rattle.link_world.specs.declared.event.Event.TheVariants.{Connect, Disconnec
 use Rattle.link_world.specs.SetUps.{opened}
 use Rattle.station.specs.Turn.{begin}
 use Rattle.station_laws.specs.LinkOfCalls.{world_of}
-use Rattle.station.specs.Heard.{IsOurs, IsReadAs, telling_channel}
+use Rattle.station.specs.Heard.{IsOurs, IsReadAs, noting}
 use Rattle.station.specs.Monitored.{heard_modulus}
 use Rattle.station_laws.proofs.NewKeys.{first_key}
 
@@ -229,7 +229,7 @@ hearing end s path octets frame between begins read effect ours few = record {
   station = end;
   input = OffAir octets;
   before = s;
-  after = telling_channel true between;
+  after = noting (Some path) true between;
   turn = record {
     path = Some path;
     reading = (14, begins);

@@ -13,7 +13,7 @@ use Rattle.station_laws.proofs.Common.{StationState, Choice, IsNewKey, is_from_t
 use Rattle.std.specs.Prelude.{map}
 use Rattle.link_machine.specs.Event.{Event as LinkEvent}
 use Rattle.link_machine.specs.Event.Event.{Hear as LinkHear}
-use Rattle.station.specs.Heard.{telling_channel}
+use Rattle.station.specs.Heard.{noting}
 use Rattle.station.specs.Links.{link_modulus}
 use Rattle.station_laws.proofs.Acts.{Setting, Holds, marks_of, still_holds, own_machine, own_heard, heard_told}
 use Rattle.station_laws.proofs.Acts.{heard_asking, heard_next, FrontRead, is_asking, asks_when_sent, other_event}
@@ -329,13 +329,14 @@ after_showing s e octets before shown after own any h (Event goes some past) =
           inr (λ w back H. goes_past w back (still_holds s back before shown w H h.links h.parameters h.queued))
     ])
 
--- nor is what the channel is told
+-- nor is what is noted
 after_telling :
-    (s : Setting) (e : End) (octets : List ℕ) (before between : Turn) (own any : List LinkStep) (ours : Bool)
-    → Outcome s e octets before between own any → Outcome s e octets before (telling_channel ours between) own any
-after_telling s e octets before between own any ours (Passed calm none none_any) =
+    (s : Setting) (e : End) (octets : List ℕ) (before between : Turn) (own any : List LinkStep) (path : Option Path)
+    (ours : Bool)
+    → Outcome s e octets before between own any → Outcome s e octets before (noting path ours between) own any
+after_telling s e octets before between own any path ours (Passed calm none none_any) =
     Passed (record { links = calm.links; parameters = calm.parameters; queued = calm.queued }) none none_any
-after_telling s e octets before between own any ours (Event goes some past) =
+after_telling s e octets before between own any path ours (Event goes some past) =
     Event (λ w back stays pop H. told w stays (goes w back stays pop H)) some
     (elim past [
       | inl own_frame ↦ inl own_frame
@@ -343,10 +344,10 @@ after_telling s e octets before between own any ours (Event goes some past) =
     ])
   where
     told : (w : World) (stays : List Tagged) → Kept s e stays between own w
-        → Kept s e stays (telling_channel ours between) own w
+        → Kept s e stays (noting path ours between) own w
     told w stays kept =
         let then = near_all e (s.done ++ s.rest) (length s.earlier) own w in
-        (still_holds s stays between (telling_channel ours between) then kept.0 refl refl refl, kept.1)
+        (still_holds s stays between (noting path ours between) then kept.0 refl refl refl, kept.1)
 
 pub heard_outcome :
     (s : Setting) (e : End) (octets : List ℕ) (before after : Turn) → All (λ octet. octet < 256) octets
@@ -364,7 +365,7 @@ heard_outcome s e octets before after low params size h =
     let own = heard_steps (meant s) octets before after h in
     let any = heard_steps is_some octets before after h in
     subst (λ (t : Turn). Outcome s e octets before t own any) (sym h.told)
-    (after_telling s e octets before h.between own any h.ours
+    (after_telling s e octets before h.between own any h.path h.ours
     (after_showing s e octets before shown h.between own any calm
     (outcome_of s e octets shown (λ chosen. heard_steps chosen octets before after h) h.between low
     (calm.parameters ∙ params) (ap (λ (l : Links). length l.places) calm.links ∙ size)

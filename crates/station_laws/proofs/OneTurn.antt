@@ -17,7 +17,7 @@ use Rattle.channel_access.specs.declared.air_tick.Sent.{Sent}
 use Rattle.digipeater.specs.Repeated.{IsNextRepeater, IsTurnOf}
 use Rattle.digipeater.proofs.Turns.{IsNextRepeater-same}
 use Rattle.station.specs.AgwRequests.{IsAnswered}
-use Rattle.station.specs.Heard.{IsForLink, IsOurs, IsReadAs, hearing_at, is_link_event, telling_channel}
+use Rattle.station.specs.Heard.{IsForLink, IsOurs, IsReadAs, hearing_at, is_link_event, noting}
 use Rattle.station.specs.Links.{link_modulus}
 use Rattle.station.specs.Monitored.{heard_modulus, modulus_at, sent_modulus}
 use Rattle.station.specs.Ticks.{IsSentFrame, IsTick, air_in}
@@ -191,7 +191,8 @@ one_heard octets t u v h g =
     by) g.effect in
     let ours : h.ours ≡ g.ours = one_ours g.path octets t.now h.ours g.ours
     (subst (λ (p : Option Path). IsOurs p octets t.now h.ours) path h.is_ours) g.is_ours in
-    h.told ∙ ap (λ (o : Bool). telling_channel o h.between) ours ∙ ap (λ (w : Turn). telling_channel g.ours w) between
+    h.told ∙ ap (λ (p : Option Path). noting p h.ours h.between) path
+    ∙ ap (λ (o : Bool). noting g.path o h.between) ours ∙ ap (λ (w : Turn). noting g.path g.ours w) between
     ∙ sym g.told
 
 -- ---- a tick

@@ -10,6 +10,7 @@ use Rattle.station_laws.proofs.Common.{Event, Connect, Send, Disconnect, Tick, H
 use Rattle.station_laws.proofs.Common.{PortKind, Kiss, Agw, version_kind, ports_kind, capabilities_kind, register_kind}
 use Rattle.station_laws.proofs.Common.{unregister_kind, toggle_kind, monitor_kind, raw_kind, unproto_kind}
 use Rattle.station_laws.proofs.Common.{unproto_via_kind, data_kind, disconnect_kind, pending_kind, waiting_kind}
+use Rattle.station_laws.proofs.Common.{heard_kind, heard_reply, replying_heard, HeardStation}
 use Rattle.station_laws.proofs.Common.{replying, version_reply, ports_reply, capabilities_reply, toggled}
 use Rattle.station_laws.proofs.Common.{monitor_toggled, register_reply, with_registration, registering, unregistering}
 use Rattle.station_laws.proofs.Common.{queueing_raw, most_information, unnumbered_frame, sending_unnumbered}
@@ -367,6 +368,14 @@ module _ (chosen : Choice) (P : Cause → Type 0) (R : Turn → List LinkStep �
         go true = a.queues frame t
         go false = a.kept.by_events.same t
 
+    -- a message of each station that was heard
+    heard_kept : (id : ℕ) (heard : List HeardStation) (t : Turn) → R t [] (replying_heard id heard t)
+    heard_kept id [] t = a.kept.by_events.same t
+    heard_kept id (station ∷ stations) t =
+        let told = replying id (heard_reply station) t in
+        then_kept t told (replying_heard id stations told) [] (a.kept.replies id (heard_reply station) t refl)
+        (heard_kept id stations told)
+
     unregistering_kept : (id : ℕ) (call : Option Callsign) (t : Turn) → R t [] (unregistering id call t)
     unregistering_kept id None t = a.kept.by_events.same t
     unregistering_kept id (Some call) t =
@@ -435,10 +444,11 @@ module _ (chosen : Choice) (P : Cause → Type 0) (R : Turn → List LinkStep �
         (reply pending_kind (pending_reply message (pending_in message t.now.links)) refl refl) (λ n10.
         by_kind Q n waiting_kind _ _
         (reply waiting_kind (waiting_reply (length t.now.channel.waiting)) refl refl) (λ n11.
+        by_kind Q n heard_kind _ _ (chosen_as heard_kind _ (heard_kept id t.now.heard t)) (λ n12.
         subst (λ steps. R t steps t)
         (sym (cond-false (n == register_kind) ws (cond (n == data_kind) xs (cond (n == disconnect_kind) ys []))
         no_register ∙ cond-false (n == data_kind) xs (cond (n == disconnect_kind) ys []) no_data
-        ∙ cond-false (n == disconnect_kind) ys [] no_end)) (a.kept.by_events.same t)))))))))))))))
+        ∙ cond-false (n == disconnect_kind) ys [] no_end)) (a.kept.by_events.same t))))))))))))))))
 
     answer_kept :
         (id : ℕ) (message : AgwMessage) (calling : Bool) (t u : Turn) → calls message ≡ calling → MayAsk P message

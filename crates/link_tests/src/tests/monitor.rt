@@ -1,7 +1,8 @@
 //! Texts of frames as other programs write them.
 use crate::tests::assertions::assert_equal;
+use ax25_address::Call;
 use ax25_frames::{Frame, Modulus, read_frame};
-use frame_monitor::{monitor_letter, monitor_text};
+use frame_monitor::{HeardStation, hear_station, heard_text, monitor_letter, monitor_text};
 use std::alloc::Global;
 use std::process::Abort;
 use std::test::Fail;
@@ -119,4 +120,104 @@ fn the_last_repeater_has_the_star(rt: HostRuntime) -> Result<(), Fail> {
         assert_text(&rt, rt.alloc(), digits, 0, want)?;
     }
     Ok(())
+}
+
+/// Each row: a call, when it was heard first and when last, in ticks, and the text of that.
+const STATIONS: &[(&str, u64, u64, &str)] = &[
+    ("N7LEM", 0, 99, "N7LEM 00:00:00  00:00:00\0"),
+    ("NJ7P-15", 6_199, 366_100, "NJ7P-15 00:01:01  01:01:01\0"),
+    ("A", 8_640_000, 36_005_999, "A 24:00:00  100:00:59\0"),
+];
+
+#[test]
+fn texts_of_stations(rt: HostRuntime) -> Result<(), Fail> {
+    for (call, first, last, want) in STATIONS {
+        let text = station_text(rt.alloc(), call, *first, *last)?;
+        assert_equal(&rt, &text.as_slice(), &want.as_bytes());
+    }
+    Ok(())
+}
+
+fn station_text(alloc: Global, call: &str, first: u64, last: u64) -> Result<Vec<u8>, Fail> {
+    let station = HeardStation {
+        call: Call::parse(call)?,
+        first,
+        last,
+    };
+    Ok(heard_text(alloc, &station)?)
+}
+
+/// Each row: who is heard, one after another and 100 ticks apart, and the texts of all that are kept.
+const HEARINGS: &[(&[&str], &[&str])] = &[
+    (&[], &[]),
+    (&["A"], &["A 00:00:00  00:00:00\0"]),
+    (
+        &["A", "B"],
+        &["B 00:00:01  00:00:01\0", "A 00:00:00  00:00:00\0"],
+    ),
+    (
+        &["A", "B", "A"],
+        &["A 00:00:00  00:00:02\0", "B 00:00:01  00:00:01\0"],
+    ),
+    (
+        &[
+            "A", "B", "C", "D", "E", "F", "G", "H", "I", "J", "K", "L", "M", "N", "O", "P", "Q",
+            "R", "S", "T", "U", "B", "V", "A",
+        ],
+        &[
+            "A 00:00:23  00:00:23\0",
+            "V 00:00:22  00:00:22\0",
+            "B 00:00:01  00:00:21\0",
+            "U 00:00:20  00:00:20\0",
+            "T 00:00:19  00:00:19\0",
+            "S 00:00:18  00:00:18\0",
+            "R 00:00:17  00:00:17\0",
+            "Q 00:00:16  00:00:16\0",
+            "P 00:00:15  00:00:15\0",
+            "O 00:00:14  00:00:14\0",
+            "N 00:00:13  00:00:13\0",
+            "M 00:00:12  00:00:12\0",
+            "L 00:00:11  00:00:11\0",
+            "K 00:00:10  00:00:10\0",
+            "J 00:00:09  00:00:09\0",
+            "I 00:00:08  00:00:08\0",
+            "H 00:00:07  00:00:07\0",
+            "G 00:00:06  00:00:06\0",
+            "F 00:00:05  00:00:05\0",
+            "E 00:00:04  00:00:04\0",
+        ],
+    ),
+];
+
+#[test]
+fn the_last_20_stations_are_kept(rt: HostRuntime) -> Result<(), Fail> {
+    for (calls, texts) in HEARINGS {
+        let got = text_of_all(rt.alloc(), calls)?;
+        let want = joined(rt.alloc(), texts)?;
+        assert_equal(&rt, &got.as_slice(), &want.as_slice());
+    }
+    Ok(())
+}
+
+/// The texts of the stations that are kept after each of these was heard.
+fn text_of_all(alloc: Global, calls: &[&str]) -> Result<Vec<u8>, Fail> {
+    let mut heard = Vec::new(alloc);
+    let mut ticks = 0_u64;
+    for call in calls {
+        hear_station(&mut heard, &Call::parse(call)?, ticks)?;
+        ticks = ticks.saturating_add(100);
+    }
+    let mut text = Vec::new(alloc);
+    for station in &heard {
+        text.extend_from_slice(&heard_text(alloc, station)?)?;
+    }
+    Ok(text)
+}
+
+fn joined(alloc: Global, texts: &[&str]) -> Result<Vec<u8>, Fail> {
+    let mut all = Vec::new(alloc);
+    for text in texts {
+        all.extend_from_slice(text.as_bytes())?;
+    }
+    Ok(all)
 }

@@ -112,8 +112,9 @@ impl Desk {
         self.failed = true;
         let out = self.station.host(HostEvent::Left { id })?;
         leave(&mut self.there, id);
+        add(&mut self.out, out)?;
         self.failed = false;
-        Ok(add(&mut self.out, out)?)
+        Ok(())
     }
 
     /// A connection registers a call.

@@ -126,6 +126,43 @@ fn tells_of_itself(rt: HostRuntime) -> Result<(), Fail> {
     each_plays(&rt, rt.alloc(), Made::Usual, &[], REPLIES)
 }
 
+/// UI from BBBB to AAAA, and from CCCC-1 to AAAA.
+const UI: &[u8] = b"\x82\x82\x82\x82\x40\x40\xe0\x84\x84\x84\x84\x40\x40\x61\x03\xf0hi";
+
+const OTHER_UI: &[u8] = b"\x82\x82\x82\x82\x40\x40\xe0\x86\x86\x86\x86\x40\x40\x63\x03\xf0hi";
+
+/// Nobody was heard; then BBBB, then CCCC-1 as well, and BBBB again.
+const WHO: &[Row] = &[
+    (Asks(1, (b'H', 0), NOBODY, b""), &[Pieces(0)]),
+    (Ticks(100), &[]),
+    (Hears(UI), &[]),
+    (Forgets, &[]),
+    (
+        Asks(1, (b'H', 0), NOBODY, b""),
+        &[Message(b'H', NOBODY, b"BBBB 00:00:01  00:00:01\0")],
+    ),
+    (Ticks(200), &[]),
+    (Hears(OTHER_UI), &[]),
+    (Forgets, &[]),
+    (Asks(1, (b'H', 0), NOBODY, b""), &[Pieces(2)]),
+    (
+        Asks(1, (b'H', 0), NOBODY, b""),
+        &[Tells(true, b'H', NOBODY, b"BBBB 00:00:01  00:00:01\0")],
+    ),
+    (Ticks(100), &[]),
+    (Hears(UI), &[]),
+    (Forgets, &[]),
+    (
+        Asks(1, (b'H', 0), NOBODY, b""),
+        &[Tells(true, b'H', NOBODY, b"CCCC-1 00:00:03  00:00:03\0")],
+    ),
+];
+
+#[test]
+fn tells_who_was_heard_last(rt: HostRuntime) -> Result<(), Fail> {
+    plays(&rt, rt.alloc(), Made::Usual, &[WHO])
+}
+
 /// KISS sets TXDELAY, the persistence, the slot time and TXTAIL of port 0, and TXDELAY of port 1.
 const SETTINGS: &[u8] = b"\xc0\x01\x28\xc0\x02\xff\xc0\x03\x05\xc0\x04\x07\xc0\x11\x63\xc0";
 

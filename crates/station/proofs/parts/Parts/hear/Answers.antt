@@ -1,5 +1,5 @@
 use Rattle.station.proofs.Common.{false, None, refl, showing, shown_to_hosts}
-use Rattle.station.specs.Heard.{IsPathOf, telling_channel}
+use Rattle.station.specs.Heard.{IsPathOf, noting}
 use Rattle.station.specs.HostMessages.{no_call}
 use Rattle.station.proofs.MonitorLemmas.{shows_nothing}
 use Rattle.station.proofs.parts.Parts.hear.Goals as goal
@@ -12,7 +12,7 @@ returns-in_ok-show-in-Err-clause-heard c = λ turn shows.
     absurd (let read = c.in-Err.ensures.each_path path len begins in cc) in
     let shown = shows_nothing c.args.self.now c.show.new.out (showing no_call no_call octets turn)
     (c.in_ok-show-in-Err.ensures.shows turn shows) in (
-      telling_channel false (shown_to_hosts None octets None turn),
+      noting None false (shown_to_hosts None octets None turn),
       record {
         path = None;
         reading = none;
@@ -24,5 +24,5 @@ returns-in_ok-show-in-Err-clause-heard c = λ turn shows.
         is_ours = refl;
         told = refl;
       },
-      c.tell_channel.ensures.shows c.show.new.out (shown_to_hosts None octets None turn) shown,
+      c.note_unread.ensures.shows c.show.new.out (shown_to_hosts None octets None turn) shown,
     )

@@ -1,6 +1,6 @@
-use Rattle.station.proofs.Common.{◌≡◌, false, Some, MatchBool, refl, sym, ◌∙◌, subst, key_between}
+use Rattle.station.proofs.Common.{◌≡◌, false, Some, MatchBool, refl, sym, ◌∙◌, subst, key_between, on_ok_weaker}
 use Rattle.station.proofs.Common.{IsRepeatedFor, shown_to_hosts, StationState, Turn}
-use Rattle.station.specs.Heard.{AreOctetsHeard, IsForLink, telling_channel}
+use Rattle.station.specs.Heard.{AreOctetsHeard, IsForLink, noting}
 use Rattle.station.proofs.ShowLemmas.{shown_along, hosts_shown}
 use Rattle.station.proofs.parts.Parts.hear_along.Goals as goal
 
@@ -13,8 +13,9 @@ returns-then-waits_for_repeater-clause-heard c = λ turn len begins shows.
     (c.in_ok-show.ensures.shows turn shows) c.in_ok-monitor_heard.ensures.shows in
     let all : Turn = shown_to_hosts (Some path) octets shown.0 turn in
     let p = c.in_ok-repeat.ensures.repeated all shown.2 in
-    let waits = sym c.waits_for_repeater.ensures ∙ c.if-waits_for_repeater.true in (
-      telling_channel false p.0,
+    let waits = sym c.waits_for_repeater.ensures ∙ c.if-waits_for_repeater.true in
+    on_ok_weaker c.note.result (λ noted. (
+      noting (Some path) false p.0,
       record {
         path = Some path;
         reading = (len, begins);
@@ -28,8 +29,8 @@ returns-then-waits_for_repeater-clause-heard c = λ turn len begins shows.
             (IsForLink (key_between path.dest path.source turn.now.links) octets turn.now false)) (sym waits) refl;
         told = refl;
       },
-      c.tell_channel.ensures.shows c.repeat.new.out p.0 p.2,
-    )
+      noted,
+    )) (c.note.ensures.shows c.repeat.new.out p.0 p.2)
 
 pub returns-clause-heard : goal.returns-clause-heard
 returns-clause-heard c = λ turn len begins shows.
@@ -43,8 +44,9 @@ returns-clause-heard c = λ turn len begins shows.
     let waits = sym c.waits_for_repeater.ensures ∙ c.if-waits_for_repeater.false in
     let ours = c.in_ok-ours.ours in
     let is = subst (λ (s : StationState). IsForLink (key_between path.dest path.source s.links) octets s ours)
-    (hosts_shown (Some path) octets shown.0 turn) (c.in_ok-ours.ensures.ours all shown.2) in (
-      telling_channel ours p.0,
+    (hosts_shown (Some path) octets shown.0 turn) (c.in_ok-ours.ensures.ours all shown.2) in
+    on_ok_weaker c.note-2.result (λ noted. (
+      noting (Some path) ours p.0,
       record {
         path = Some path;
         reading = (len, begins);
@@ -58,5 +60,5 @@ returns-clause-heard c = λ turn len begins shows.
             (IsForLink (key_between path.dest path.source turn.now.links) octets turn.now ours)) (sym waits) is;
         told = refl;
       },
-      c.tell_channel-2.ensures.shows c.hear_octets.new.out p.0 p.2,
-    )
+      noted,
+    )) (c.note-2.ensures.shows c.hear_octets.new.out p.0 p.2)

@@ -53,6 +53,7 @@ returns-clause-shows c = λ turn shows.
         links = shows.holds.links;
         channel = shows.holds.channel;
         askers = shows.holds.askers;
+        heard = shows.holds.heard;
         dropped = shows.holds.dropped;
         ticks = shows.holds.ticks;
         asked = shows.holds.asked;

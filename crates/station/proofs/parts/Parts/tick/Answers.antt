@@ -34,6 +34,7 @@ returns-clause-step c = λ turn shows.
         channel = subst (λ b. StandsForChannel c.tick-air.new.self (after_tick busy b asked.now.channel)) told
             (c.tick-air.ensures.stands_for asked.now.channel first.holds.channel);
         askers = first.holds.askers;
+        heard = first.holds.heard;
         dropped = first.holds.dropped;
         ticks = first.holds.ticks;
         asked = first.holds.asked;
@@ -63,6 +64,7 @@ returns-clause-step c = λ turn shows.
           links = all.links;
           channel = all.channel;
           askers = all.askers;
+          heard = all.heard;
           dropped = all.dropped;
           ticks = c.one_more-self.ensures ∙ ap one_more all.ticks;
           asked = all.asked;
