@@ -12,10 +12,10 @@ use Rattle.fx25_receiver.proofs.TakenLemmas.{block_bounds, only_in_block, only_p
 
 -- ---- one list
 
-abbrev Rises : List Heard → Type 0
+abbrev pub Rises : List Heard → Type 0
 Rises = AllPairs (λ item later. standing item < standing later)
 
-abbrev HasAll : List Heard → List Heard → Type 0
+abbrev pub HasAll : List Heard → List Heard → Type 0
 HasAll xs ys = (k : ℕ) (d : Heard) → k < length xs → Contains ys (get_or xs k d)
 
 -- the head of one list is the head of the other
@@ -44,7 +44,7 @@ tail_has x xs ys rx has k d l = go (has (suc k) d (omega arith))
 tail_rises : (x : Heard) (xs : List Heard) → Rises (x ∷ xs) → Rises xs
 tail_rises x xs h i j d ij jl = h (suc i) (suc j) d (omega arith) (omega arith)
 
-same_list : (xs ys : List Heard) → Rises xs → Rises ys → HasAll xs ys → HasAll ys xs → xs ≡ ys
+pub same_list : (xs ys : List Heard) → Rises xs → Rises ys → HasAll xs ys → HasAll ys xs → xs ≡ ys
 same_list [] [] rx ry a b = refl
 same_list [] (y ∷ ys) rx ry a b = let c = (b 0 y (omega arith)).1 in absurd (omega arith)
 same_list (x ∷ xs) [] rx ry a b = let c = (a 0 x (omega arith)).1 in absurd (omega arith)

@@ -10,7 +10,7 @@ use Rattle.fx25_receiver.proofs.HeardLists.{one_list, some_list, with_more}
 use Rattle.fx25_receiver.proofs.MergingLemmas.{merged_after-append}
 
 -- what is true of each item is true of each that remains
-All-merged : (P : Heard → Type 0) (earlier xs : List Heard) → All P xs → All P (merged_after earlier xs)
+pub All-merged : (P : Heard → Type 0) (earlier xs : List Heard) → All P xs → All P (merged_after earlier xs)
 All-merged P earlier [] h = All-nil P
 All-merged P earlier (x ∷ xs) h =
     let rest = All-merged P (earlier ++ x ∷ []) xs (All-tail P x xs h) in
@@ -19,7 +19,7 @@ All-merged P earlier (x ∷ xs) h =
     [ true ↦ rest | false ↦ All-cons P x _ (All-head P x xs h) rest ]
 
 -- what remains of a list in order is in order
-merged-rising : (n : Heard → ℕ) (earlier xs : List Heard) → IsNonDecreasingBy n xs
+pub merged-rising : (n : Heard → ℕ) (earlier xs : List Heard) → IsNonDecreasingBy n xs
     → IsNonDecreasingBy n (merged_after earlier xs)
 merged-rising n earlier [] h = h
 merged-rising n earlier (x ∷ xs) h =

@@ -85,7 +85,7 @@ module _ (x : List ℤ) (none : HasNoBlock x) (heard : List Heard) (are : AreHea
 -- ---- merging
 
 -- a plain item, which ends no earlier than those before it
-abbrev IsPlain : Heard → Type 0
+abbrev pub IsPlain : Heard → Type 0
 IsPlain item = item.at ≡ item.end
 
 both_told : (b p q r : Bool) → (p ≡ true → q ≡ true) → (p ≡ true → r ≡ true) → (((b && p) && q) && r) ≡ (b && p)
@@ -115,7 +115,7 @@ same_any item (e ∷ earlier) here plain before =
     ∙ ap (λ b. repeats_plainly (candidate_of item) (candidate_of e) || b)
     (same_any item earlier here (All-tail IsPlain e earlier plain) (All-tail (λ e. e.end ≤ item.end) e earlier before))
 
-same_merged : (last : ℕ) (earlier xs : List Heard) → All IsPlain earlier → All (λ e. e.end ≤ last) earlier
+pub same_merged : (last : ℕ) (earlier xs : List Heard) → All IsPlain earlier → All (λ e. e.end ≤ last) earlier
     → All IsPlain xs → All (λ item. last ≤ item.end) xs → IsNonDecreasingBy (λ item. item.end) xs
     → map candidate_of (merged_after earlier xs)
     ≡ merged_plainly_after (map candidate_of earlier) (map candidate_of xs)

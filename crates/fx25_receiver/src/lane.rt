@@ -23,7 +23,7 @@ const LANES: u64 = 8;
 
 /// The tones of one lane, as plain bits and as blocks.
 #[derive(Drop)]
-pub(crate) struct Lane {
+pub struct Lane {
     line: NrziIn,
     deframer: Deframer,
     reader: BlockReader,
@@ -39,7 +39,7 @@ impl Model for Lane {
 
 impl Lane {
     /// A lane that has taken nothing.
-    pub(crate) fn new() -> Lane
+    pub fn new() -> Lane
         ensures { LaneStandsFor result [] }
     {
         Lane {
@@ -50,7 +50,7 @@ impl Lane {
     }
 
     /// Takes the next tone, and says whether a frame ends plainly with it.
-    pub(crate) fn push(&mut self, tone: Tone) -> bool
+    pub fn push(&mut self, tone: Tone) -> bool
         ensures stands_for { (tones : List Tone) → LaneStandsFor self.old tones
             → LaneStandsFor self.new (tones ++ tone ∷ []) }
         ensures holds { result ≡ true
@@ -67,7 +67,7 @@ impl Lane {
     }
 
     /// The octets of the plain frame that the last tone ended.
-    pub(crate) fn octets(&self) -> &[u8]
+    pub fn octets(&self) -> &[u8]
         requires { (octets : List ℕ) × IsFrame octets × HoldsFrame self.now.deframer octets }
         ensures { (octets : List ℕ) → IsFrame octets → HoldsFrame self.now.deframer octets
             → result.now ≡ octets }
@@ -76,7 +76,7 @@ impl Lane {
     }
 
     /// The frame of the block of a tag that the last tone ended.
-    pub(crate) fn block(&self, tag: u8) -> Option<BlockFrame>
+    pub fn block(&self, tag: u8) -> Option<BlockFrame>
         requires { IsTag tag }
         ensures frame { (tones : List Tone) → LaneStandsFor self.now tones
             → IfSome result (λ found. EndsBlock (bits_of tones) tag found.octets.items found.over) }
@@ -87,7 +87,7 @@ impl Lane {
     }
 
     /// True only if the last tone ended no block.
-    pub(crate) fn is_idle(&self) -> bool
+    pub fn is_idle(&self) -> bool
         ensures { (tones : List Tone) → LaneStandsFor self.now tones → result ≡ true
             → (tag : ℕ) → (frame : List ℕ) → (over : ℕ) → ¬ EndsBlock (bits_of tones) tag frame over }
     {
@@ -96,7 +96,7 @@ impl Lane {
 }
 
 /// The eight lanes, which have taken nothing.
-pub(crate) fn new_lanes(alloc: Global) -> Result<Vec<Lane>, OutOfMemory>
+pub fn new_lanes(alloc: Global) -> Result<Vec<Lane>, OutOfMemory>
     ensures count { IfOk result (λ lanes. length lanes.items ≡ 8) }
     ensures fresh { IfOk result (λ lanes. All (λ lane. LaneStandsFor lane []) lanes.items) }
 {

@@ -17,8 +17,10 @@ mod seven;
 mod tests;
 
 pub use heard::Heard;
+pub use lane::Lane;
 pub use laws::{
     given_items_are_merged, merged_items_are_one, near_blocks_are_heard,
     one_stretch_of_samples_is_repaired, without_blocks_as_before,
 };
+pub use merging::{forget, put};
 pub use receiver::Fx25Receiver;

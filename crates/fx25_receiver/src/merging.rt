@@ -10,7 +10,7 @@ use std::alloc::Global;
 use tnc_base::OutOfMemory;
 
 /// Takes what was heard next, and adds it to `given` unless it repeats what is kept.
-pub(crate) fn put(
+pub fn put(
     alloc: Global,
     item: Heard,
     kept: &mut Vec<Heard>,
@@ -56,7 +56,7 @@ fn is_repeated(earlier: &[Heard], item: &Heard) -> bool
 }
 
 /// Forgets what no frame to come can repeat, once so many samples were taken.
-pub(crate) fn forget(kept: &mut Vec<Heard>, count: u64)
+pub fn forget(kept: &mut Vec<Heard>, count: u64)
     ensures { (heard : List Heard) (was : ℕ) → was ≤ count → Keeps kept.old.items was heard
         → Keeps kept.new.items count heard }
 {

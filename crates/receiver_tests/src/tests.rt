@@ -2,6 +2,7 @@ mod assertions;
 mod bank;
 mod block_decoder;
 mod blocks;
+mod blocks_by_all_lanes;
 mod decoder;
 mod hf_decoder;
 mod hf_sent;

@@ -1,9 +1,11 @@
 mod assertions;
 mod bits;
 mod framer;
+mod hf_tones;
 mod letters;
 mod merger;
 mod modulator;
+mod rates;
 mod resampling;
 mod ring;
 mod shortest_frame;

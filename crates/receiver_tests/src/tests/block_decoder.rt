@@ -6,6 +6,7 @@ ghost use Rattle.std.specs.Thread.{IsSync};
 use crate::tests::meeting::Meeting;
 use frame_merge::Candidate;
 use hf_modem::HfDecoder;
+use hf_sensitive::HfSensitiveDecoder;
 use sensitive_receiver::SensitiveDecoder;
 use slicer_bank::Decoder;
 use std::alloc::Global;
@@ -124,6 +125,24 @@ impl BlockDecoder for HfDecoder {
 
     fn end(&mut self) -> Result<Vec<Candidate>, OutOfMemory> {
         HfDecoder::finish(self)
+    }
+}
+
+impl BlockDecoder for HfSensitiveDecoder {
+    ghost position = { λ decoder. decoder.position };
+
+    ghost finished = { λ decoder. decoder.finished };
+
+    fn start(alloc: Global) -> Result<HfSensitiveDecoder, OutOfMemory> {
+        HfSensitiveDecoder::new(alloc)
+    }
+
+    fn hear(&mut self, block: &[i16]) -> Result<Vec<Candidate>, OutOfMemory> {
+        HfSensitiveDecoder::block(self, block)
+    }
+
+    fn end(&mut self) -> Result<Vec<Candidate>, OutOfMemory> {
+        HfSensitiveDecoder::finish(self)
     }
 }
 

@@ -1,0 +1,50 @@
+-- What the 32 lanes hear in a block, sample by sample.
+use Rattle.hf_sensitive.proofs.Common.{◌≡◌, ℕ, ◌+◌, ◌/◌, ◌<◌, ◌≤◌, ◌^◌, ℤ, List, [], ◌∷◌, ◌++◌, length, ap, sym, subst, ◌∙◌, arith, append-nil}
+use Rattle.hf_sensitive.proofs.Common.{append_assoc, length-append, Candidate, AreCandidatesAfter, BankStandsFor, HeldHfBank}
+use Rattle.hf_sensitive.proofs.Common.{All, All-append, All-cons, All-nil, CanBePutFrom, ◌-◌}
+use Rattle.std.specs.Prelude.{IfSome, None, Option, Some}
+use Rattle.std.specs.Option.{option_to_list}
+use Rattle.hf_modem.specs.HeldDecoder.{CanBePut as HfCanBePut}
+use Rattle.hf_modem.proofs.CandidateLemmas.{candidates_none, candidates_join}
+
+-- the bank has taken a part of a block after any samples that it stood for, and these are what it heard in it
+pub record HasHeard (initial now : HeldHfBank) (part : List ℤ) (found : List Candidate) : Type 0 where
+  pub samples : (x : List ℤ) → BankStandsFor initial x → BankStandsFor now (x ++ part)
+  pub are : (x : List ℤ) → BankStandsFor initial x → AreCandidatesAfter (length x) (x ++ part) found
+
+pub heard_none : (initial : HeldHfBank) → HasHeard initial initial [] []
+heard_none initial = record {
+  samples = λ x h. subst (BankStandsFor initial) (sym (append-nil x)) h;
+  are = λ x h. subst (λ xs. AreCandidatesAfter (length x) xs []) (sym (append-nil x)) (candidates_none x);
+}
+
+pub heard_more : (initial bank next : HeldHfBank) (part longer : List ℤ) (sample : ℤ) (found more after : List Candidate)
+    → HasHeard initial bank part found → longer ≡ part ++ sample ∷ [] → after ≡ found ++ more
+    → ((y : List ℤ) → BankStandsFor bank y → BankStandsFor next (y ++ sample ∷ [])
+    × AreCandidatesAfter (length y) (y ++ sample ∷ []) more)
+    → HasHeard initial next longer after
+heard_more initial bank next part longer sample found more after h is found_is step = record {
+  samples = λ x b.
+      let all : (x ++ part) ++ sample ∷ [] ≡ x ++ longer = append_assoc x part (sample ∷ []) ∙ ap (λ l. x ++ l) (sym is) in
+      subst (BankStandsFor next) all (step (x ++ part) (h.samples x b)).0;
+  are = λ x b.
+      let all : (x ++ part) ++ sample ∷ [] ≡ x ++ longer = append_assoc x part (sample ∷ []) ∙ ap (λ l. x ++ l) (sym is) in
+      let size = length-append x part in
+      subst (AreCandidatesAfter (length x) (x ++ longer)) (sym found_is)
+      (subst (λ xs. AreCandidatesAfter (length x) xs (found ++ more)) all
+      (candidates_join (length x) (x ++ part) (sample ∷ []) found more (omega arith) (h.are x b)
+      (step (x ++ part) (h.samples x b)).1));
+}
+
+-- what was heard can be put, and so can what is heard with a sample
+pub bounds_more : (low position : ℕ) (found after : List Candidate) (heard : Option Candidate)
+    → after ≡ found ++ option_to_list heard → low ≤ position / 4 → IfSome heard HfCanBePut
+    → IfSome heard (λ item. position / 4 ≤ item.end) → All (CanBePutFrom low) found → All (CanBePutFrom low) after
+bounds_more low position found after None is le can late all =
+    subst (All (CanBePutFrom low)) (sym (is ∙ append-nil found)) all
+bounds_more low position found after (Some item) is le can late all =
+    let P : Candidate → Type 0 = CanBePutFrom low in
+    let lane = can.lane in
+    let end = can.end in
+    subst (All P) (sym is) (All-append P found (item ∷ []) all
+    (All-cons P item [] (record { can = record { lane = omega arith; end = end }; from = omega arith }) (All-nil P)))

@@ -1,0 +1,14 @@
+pub mod Common
+pub mod LaneLemmas
+pub mod FoundLemmas
+pub mod HearLemmas
+pub mod PrefixLanes
+pub mod BankLemmas
+pub mod PlaceLemmas
+pub mod BanksLemmas
+pub mod HeardLemmas
+pub mod MergedLemmas
+pub mod DecoderLemmas
+pub mod HearingLemmas
+pub mod SomeList
+pub mod SignalLaw

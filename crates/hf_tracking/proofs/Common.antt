@@ -1,0 +1,28 @@
+-- The names that most proofs of this crate cite, passed on from one place.
+pub use Rattle.offset_slicers.proofs.DecisionLemmas.{unsigned_abs-product}
+unfoldable pub use Rattle.offset_slicers.specs.Decision.{sum_below}
+pub use Rattle.offset_slicers.specs.Decision.{product_of}
+pub use Rattle.std.proofs.Common.{FitsSigned, List, [], ap, arith, drop, get_or, get_or-set_other, get_or-set_same, inl, inr}
+pub use Rattle.std.proofs.Common.{length, map, neg_ℤ, negsuc, of_z, pos, refl, replicate, rules, set, subst, suc, sym}
+pub use Rattle.std.proofs.Common.{to_z, unsigned_abs, w32, w64, zero, ℕ, ℤ, ◌%◌, ◌*ℤ◌, ◌*◌, ◌+ℤ◌, ◌++◌, ◌+◌, ◌-ℤ◌, ◌-◌, ◌/◌}
+pub use Rattle.std.proofs.Common.{◌<◌, ◌^◌, ◌∙◌, ◌∷◌, ◌≡◌, ◌≢◌, ◌≤ℤ◌, ◌≤◌}
+pub use Rattle.std.proofs.lemmas.Bool.{cases_eq, cases_lt}
+pub use Rattle.std.proofs.lemmas.Int.{ints, to_z-of_z}
+pub use Rattle.std.proofs.lemmas.List.{get_or-replicate, length-set}
+pub use Rattle.std.specs.Int.{int_max}
+pub use Rattle.std.specs.List.{All}
+pub use Rattle.std.specs.Prelude.{if◌then◌else◌, int_le}
+pub use Rattle.tone_table.specs.declared.tone.Tone.{Tone}
+pub use Rattle.tone_table.specs.declared.tone.Tone.TheVariants.{Mark, Space}
+pub use Rattle.tone_tracking.specs.HeldTracker.{tone_before}
+pub use Rattle.tone_tracking.specs.Phasors.{IsWithin, none, plus, size}
+pub use Rattle.tone_tracking.specs.declared.correlation.Correlations.{Correlations}
+pub use Rattle.tone_tracking.specs.declared.phasor.Phasor.{Phasor}
+pub use mir.Syntax.{w16}
+unfoldable pub use Rattle.hf_tracking.specs.Correlation.{correlation}
+pub use Rattle.hf_tracking.specs.Correlation.{AreSmall, IsSmall, correlations, fine_weight, phase_at, phase_step}
+unfoldable pub use Rattle.hf_tracking.specs.Heard.{decided, track_at, tone_at}
+pub use Rattle.hf_tracking.specs.Heard.{heard, places_in, windows_in}
+pub use Rattle.hf_tracking.specs.Held.{HasSamples, HasTaken, HeldTones, HeldTracker, TrackerStandsFor}
+pub use Rattle.hf_tracking.specs.Tracks.{IsBounded, next_track, no_track}
+pub use Rattle.hf_tracking.specs.declared.track.Track.{Track}

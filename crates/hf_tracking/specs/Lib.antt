@@ -1,0 +1,4 @@
+pub mod Correlation
+pub mod Tracks
+pub mod Heard
+pub mod Held

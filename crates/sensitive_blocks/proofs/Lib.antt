@@ -1,0 +1,15 @@
+pub mod Common
+pub mod BitLemmas
+pub mod PrefixLemmas
+pub mod OneItem
+pub mod HeardBelow
+pub mod TakenLemmas
+pub mod LaneLemmas
+pub mod FollowerLemmas
+pub mod MomentLemmas
+pub mod ReceiverLemmas
+pub mod HearingLemmas
+pub mod HeardLists
+pub mod MergedLists
+pub mod LaneBits
+pub mod WithoutBlocks

@@ -1,0 +1,7 @@
+pub mod Bits
+pub mod Heard
+pub mod HeldLane
+pub mod Held
+pub mod Taken
+pub mod Moments
+pub mod WithoutBlocks
