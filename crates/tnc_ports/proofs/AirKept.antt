@@ -21,7 +21,9 @@ use Rattle.channel_access.specs.Channel.{Channel}
 use Rattle.channel_access.specs.OnAir.{OnAir}
 use Rattle.station.specs.AgwKinds.{version_kind, ports_kind, capabilities_kind, register_kind, unregister_kind}
 use Rattle.station.specs.AgwKinds.{toggle_kind, monitor_kind, raw_kind, unproto_kind, unproto_via_kind, data_kind}
-use Rattle.station.specs.AgwKinds.{disconnect_kind, pending_kind, waiting_kind}
+use Rattle.frame_monitor.specs.declared.heard_station.HeardStation.{HeardStation}
+use Rattle.station.specs.AgwKinds.{disconnect_kind, pending_kind, waiting_kind, heard_kind}
+use Rattle.station.specs.AgwRequests.{heard_reply, replying_heard}
 use Rattle.station.specs.AgwRequests.{AreAnswered, IsAnswered, IsCall, IsCallMade, answering_else, called_pid}
 use Rattle.station.specs.AgwRequests.{called_route, calls, data_pid, disconnecting, giving, giving_packet, giving_packets}
 use Rattle.station.specs.AgwRequests.{may_call, most_information, own_key, packet_length}
@@ -159,6 +161,10 @@ disconnecting_keeps : (key : Option ℕ) → Keeps (disconnecting key)
 disconnecting_keeps None turn = refl
 disconnecting_keeps (Some key) turn = event_keeps key Disconnect turn
 
+heard_replies_keep : (id : ℕ) (heard : List HeardStation) → Keeps (replying_heard id heard)
+heard_replies_keep id heard turn =
+    in_turn (λ (station : HeardStation). replying id (heard_reply station)) (λ station u. refl) heard turn
+
 else_keeps : (id : ℕ) (message : AgwMessage) → Keeps (answering_else id message)
 else_keeps id message turn =
     let n : ℕ = message.kind in
@@ -178,7 +184,9 @@ else_keeps id message turn =
     (route_in message.from message.to (repeaters_in message.body)) turn)
     (chosen (n == data_kind) _ _ turn (data_keeps message key turn)
     (chosen (n == disconnect_kind) _ _ turn (disconnecting_keeps key turn)
-    (chosen (n == pending_kind) _ _ turn refl (chosen (n == waiting_kind) _ _ turn refl refl)))))))))))))
+    (chosen (n == pending_kind) _ _ turn refl
+    (chosen (n == waiting_kind) _ _ turn refl
+    (chosen (n == heard_kind) _ _ turn (heard_replies_keep id turn.now.heard turn) refl))))))))))))))
 
 call_keeps : (id : ℕ) (message : AgwMessage) (route : Option Route) (before after : Turn)
     → IsCall id message route before after → Same before after

@@ -86,7 +86,7 @@ module _ (start y : Outside) (line : LineTold) where
     shuts = h.shuts;
     all_shut = h.all_shut;
     gaps = h.gaps;
-    size = h.size;
+    samples = h.samples;
   }
 
   pub cut_on : (words : ServeWords) (answers : List (List Got)) (live : Live) → IsCut words answers live start y
@@ -103,7 +103,7 @@ module _ (start y : Outside) (line : LineTold) where
     sends = h.sends;
     shuts = h.shuts;
     gaps = h.gaps;
-    size = h.size;
+    samples = h.samples;
   }
 
   all_on : (live : Live) → AllIsWritten live start y → AllIsWritten live start z

@@ -76,13 +76,13 @@ pub record IsToldTick (words : Words) (samples : List ℤ) (keyed at new : List 
   pub later : Passes new at
   pub station : after.station ≡ before.station
 
-told_tick : (asked : Option KeyWords) (key : KeyWords) (octets : ℕ) (samples : List ℤ) (keyed new : List KeyEvent)
+told_tick : (asked : Option KeyWords) (key : KeyWords) (octets : ℕ) (samples out : List ℤ) (keyed new : List KeyEvent)
     (whole told : Whole) (before after : Hosts) → asked ≡ Some key
-    → (h : TicksKeyIf asked octets samples keyed new whole told before after)
+    → (h : TicksKeyIf asked octets samples out keyed new whole told before after)
     → IsToldTick key.words samples keyed
-    (events_told asked octets samples keyed new whole told before after h) new before after
-told_tick None key octets samples keyed new whole told before after is h = absurd (cc is)
-told_tick (Some asked) key octets samples keyed new whole told before after is h =
+    (events_told asked octets samples out keyed new whole told before after h) new before after
+told_tick None key octets samples out keyed new whole told before after is h = absurd (cc is)
+told_tick (Some asked) key octets samples out keyed new whole told before after is h =
     let same : asked ≡ key = ap (λ (o : Option KeyWords). unwrap_or o key) is in
     let made = h.tick.makes in
     let wrote = h.write.makes in
@@ -192,7 +192,7 @@ module _ (words : ServeWords) (key : KeyWords) (is : words.key ≡ Some key) (bu
 
   pub tick_told : IsToldTick key.words made.air.samples before.keyed (events_at words this) made.keyed made.made
       made.hosts
-  tick_told = told_tick words.key key (octets_sent before) made.air.samples before.keyed made.keyed before.whole
+  tick_told = told_tick words.key key (octets_sent before) made.air.samples made.out before.keyed made.keyed before.whole
       made.whole made.made made.hosts is made.key
 
   pub begins_well : BeginsWell words key this
@@ -286,7 +286,7 @@ module _ (words : ServeWords) (key : KeyWords) (is : words.key ≡ Some key) (bu
 
 pub record Follows (words : ServeWords) (key : KeyWords) (start : ℕ) (was : List KeyLine) (live : Live)
     (ticks : List (RunTick words)) : Type 0 where
-  pub samples : live.sent ≡ samples_of words ticks
+  pub samples : live.samples ≡ samples_of words ticks
   pub in_order : EachTick words (λ tick older. GoesOnFrom live.keyed (events_at words tick)) ticks
   pub begins : EachTick words (λ tick older. BeginsWell words key tick) ticks
   pub sounds : EachTick words (λ tick older. sounds_in words tick ≡ true
@@ -299,11 +299,11 @@ module _ (words : ServeWords) (key : KeyWords) (is : words.key ≡ Some key) (st
   abbrev So : Live → List (RunTick words) → Type 0
   So live ticks = Follows words key start was live ticks
 
-  -- nothing is sent, and no transmission begins or ends
-  stays : (a b : Live) (ticks : List (RunTick words)) → b.sent ≡ a.sent → Passes b.keyed a.keyed
+  -- no tick is made, and no transmission begins or ends
+  stays : (a b : Live) (ticks : List (RunTick words)) → b.samples ≡ a.samples → Passes b.keyed a.keyed
       → on_air b.hosts ≡ on_air a.hosts → So a ticks → So b ticks
-  stays a b ticks sent later air so = record {
-    samples = sent ∙ so.samples;
+  stays a b ticks same later air so = record {
+    samples = same ∙ so.samples;
     in_order = each_tick words _ _
         (λ tick older known.
         goes_on_longer b.keyed a.keyed (events_at words tick) (goes_so b.keyed a.keyed later) known) ticks so.in_order;
@@ -331,7 +331,7 @@ module _ (words : ServeWords) (key : KeyWords) (is : words.key ≡ Some key) (st
       let air : on_air b.hosts ≡ on_air made.made =
       ap (λ (l : Live). on_air l.hosts) made.is ∙ ap (λ (s : StationState). s.channel.air) told.station in
       record {
-        samples = ap (λ (l : Live). l.sent) made.is ∙ ap (λ (xs : List ℤ). xs ++ made.air.samples) so.samples;
+        samples = ap (λ (l : Live). l.samples) made.is ∙ ap (λ (xs : List ℤ). xs ++ made.air.samples) so.samples;
         in_order = (
           later,
           each_tick words _ _
@@ -368,13 +368,13 @@ module _ (words : ServeWords) (key : KeyWords) (is : words.key ≡ Some key) (st
   read_on : (ended : Bool) (a b : Live) (ticks : List (RunTick words)) → LanesReadOn words ended a b → So a ticks
       → So b ticks
   read_on ended a b ticks h so =
-      stays a b ticks (ap (λ (l : Live). l.sent) h.is)
+      stays a b ticks (ap (λ (l : Live). l.samples) h.is)
       (nothing_passes b.keyed a.keyed (ap (λ (l : Live). l.keyed) h.is)) (ap (λ (l : Live). on_air l.hosts) h.is) so
 
   heard : (ended : Bool) (a b : Live) (ticks : List (RunTick words)) → HearsAll words ended a b → So a ticks
       → So b ticks
   heard ended a b ticks h so =
-      stays h.read b ticks (ap (λ (l : Live). l.sent) h.is)
+      stays h.read b ticks (ap (λ (l : Live). l.samples) h.is)
       (nothing_passes b.keyed h.read.keyed (ap (λ (l : Live). l.keyed) h.is))
       (ap (λ (l : Live). on_air l.hosts) h.is ∙ heard_all_keep words.monitor h.items h.read.hosts h.hosts h.hears)
       (read_on ended a h.read ticks h.reads so)
@@ -382,7 +382,7 @@ module _ (words : ServeWords) (key : KeyWords) (is : words.key ≡ Some key) (st
   key_turned : (a b : Live) (ticks : List (RunTick words)) → IsKeyTurn words a b → So a ticks → So b ticks
   key_turned a b ticks h so =
       let told = told_turn words.key (octets_sent a) a.keyed h.keyed a.hosts h.hosts h.turn in
-      stays a b ticks (ap (λ (l : Live). l.sent) h.is)
+      stays a b ticks (ap (λ (l : Live). l.samples) h.is)
       (then_so b.keyed h.keyed a.keyed (ap (λ (l : Live). l.keyed) h.is) told.0)
       (ap (λ (l : Live). on_air l.hosts) h.is ∙ ap (λ (s : StationState). s.channel.air) told.1) so
 
@@ -394,7 +394,7 @@ module _ (words : ServeWords) (key : KeyWords) (is : words.key ≡ Some key) (st
 
   hosts_served : (a b : Live) (ticks : List (RunTick words)) → ServesHosts a b → So a ticks → So b ticks
   hosts_served a b ticks h so =
-      stays a b ticks (ap (λ (l : Live). l.sent) h.is)
+      stays a b ticks (ap (λ (l : Live). l.samples) h.is)
       (nothing_passes b.keyed a.keyed (ap (λ (l : Live). l.keyed) h.is))
       (ap (λ (l : Live). on_air l.hosts) h.is ∙ part_keeps h.asked a.hosts h.hosts h.part) so
 
@@ -426,11 +426,11 @@ module _ (words : ServeWords) (key : KeyWords) (is : words.key ≡ Some key) (st
   pub cut_short : (a b : Live) (cut : IsCutTurn words a b) (ticks : List (RunTick words)) → So a ticks
       → So b (with_cut words a b cut ticks)
   cut_short a b (inl reading) ticks so =
-      stays a b ticks (ap (λ (l : Live). l.sent) reading.is)
+      stays a b ticks (ap (λ (l : Live). l.samples) reading.is)
       (nothing_passes b.keyed a.keyed (ap (λ (l : Live). l.keyed) reading.is))
       (ap (λ (l : Live). on_air l.hosts) reading.is) so
   cut_short a b (inr (inl hearing)) ticks so =
-      stays hearing.read b ticks (ap (λ (l : Live). l.sent) hearing.is)
+      stays hearing.read b ticks (ap (λ (l : Live). l.samples) hearing.is)
       (nothing_passes b.keyed hearing.read.keyed (ap (λ (l : Live). l.keyed) hearing.is))
       (ap (λ (l : Live). on_air l.hosts) hearing.is
       ∙ heard_all_keep words.monitor hearing.items hearing.read.hosts hearing.hosts hearing.hears)

@@ -2,6 +2,7 @@
 use Rattle.std.proofs.Common.{◌≡◌, ℕ, List, [], ◌++◌, refl, sym, ap, subst, length, inl, inr, ◌∙◌}
 use Rattle.std.proofs.lemmas.List.{append-nil}
 use Rattle.std.specs.Prelude.{true, false, ℤ, Option, Some, None}
+use Rattle.sound_rate.specs.Rates.{written_at}
 use Rattle.tnc_base.specs.Streams.{WrotePart}
 use Rattle.key_port.specs.KeyLines.{KeyLine, is_open}
 use Rattle.key_port.specs.KeyTasks.{LineTold}
@@ -51,13 +52,14 @@ module _ (words : ServeWords) (key : KeyWords) (is : words.key ≡ Some key) (wa
 
   -- what is told of the run after it
   keyed_run : (live : Live) (ticks : List (RunTick words)) (before after : Outside) → So live ticks
+      → live.sent ≡ written_at words.rate live.samples
       → KeyTold words.key live before after → before.line.lines ≡ Some was → before.output ≡ Some out
       → WrotePart out (output_octets live.sent) after.output → IsKeyedRun words key was out after ticks
-  keyed_run live ticks before after so told lines output written =
+  keyed_run live ticks before after so at_rate told lines output written =
       let kept = kept_by words.key key live before after was out is told lines output closed in
       record {
         written = subst (λ (xs : List ℤ). WrotePart out (output_octets xs) after.output)
-            so.samples written;
+            (at_rate ∙ ap (written_at words.rate) so.samples) written;
         sounds = so.sounds;
         begins = so.begins;
         kept = kept.0;
@@ -73,13 +75,14 @@ module _ (words : ServeWords) (key : KeyWords) (is : words.key ≡ Some key) (wa
       → (h : IsLooped words end answers before after) → before.line.lines ≡ Some was → before.output ≡ Some out
       → IsKeyedRun words key was out after (ticks_looped words end answers before after h)
   looped LoopDone answers before after h lines output =
-      keyed_run h.0 (ticks_of_run words h.0 h.1.run) before after (run_so h.0 h.1.run) h.3 lines output
-      (all_part h.0 before after out output h.2.written)
+      keyed_run h.0 (ticks_of_run words h.0 h.1.run) before after (run_so h.0 h.1.run)
+      h.1.samples.at_rate h.3 lines output (all_part h.0 before after out output h.2.written)
   looped LoopFault answers before after h lines output =
-      keyed_run h.0 (ticks_of_run words h.0 h.1.run) before after (run_so h.0 h.1.run) h.3 lines output
-      (h.2.output out output)
+      keyed_run h.0 (ticks_of_run words h.0 h.1.run) before after (run_so h.0 h.1.run)
+      h.1.samples.at_rate h.3 lines output (h.2.output out output)
   looped LoopMemory answers before after h lines output =
-      keyed_run h.0 (ticks_of_cut_run words h.0 h.1.run) before after (cut_run_so h.0 h.1.run) h.3 lines output
+      keyed_run h.0 (ticks_of_cut_run words h.0 h.1.run) before after (cut_run_so h.0 h.1.run)
+      h.1.samples.at_rate h.3 lines output
       (elim h.2 [
         | inl all ↦ all_part h.0 before after out output all.written
         | inr part ↦ part.output out output
@@ -96,7 +99,7 @@ module _ (words : ServeWords) (key : KeyWords) (is : words.key ≡ Some key) (wa
   pub still : (after : Outside) → after.line.lines ≡ Some was → after.output ≡ Some out
       → IsKeyedRun words key was out after []
   still after lines output = record {
-    written = ([], output_octets [], refl, output ∙ ap Some (sym (append-nil out)));
+    written = ([], output_octets (written_at words.rate []), refl, output ∙ ap Some (sym (append-nil out)));
     sounds = tt;
     begins = tt;
     kept = kept_still key was out after lines closed;
@@ -166,8 +169,8 @@ pub keyed_as : (words : ServeWords) (key : KeyWords) (was : List KeyLine) (out :
     (ticks : List (RunTick words)) → after.line.lines ≡ between.line.lines → after.output ≡ between.output
     → IsKeyedRun words key was out between ticks → IsKeyedRun words key was out after ticks
 keyed_as words key was out between after ticks lines output h = record {
-  written = subst (λ (o : Option (List ℕ)). WrotePart out (output_octets (samples_of words ticks)) o) (sym output)
-      h.written;
+  written = subst (λ (o : Option (List ℕ)). WrotePart out (output_octets (written_at words.rate (samples_of words ticks))) o)
+      (sym output) h.written;
   sounds = h.sounds;
   begins = h.begins;
   kept = record {

@@ -48,21 +48,21 @@ fault_untold words octets fault before after reported h none =
 
 -- ---- what is written in a tick
 
-sent_more : (live next : Live) (samples : List ℤ) → next.sent ≡ live.sent ++ samples
-    → octets_sent next ≡ octets_sent live + 2 * length samples
-sent_more live next samples same =
-    let l = ap (λ (xs : List ℤ). length xs) same ∙ length-append live.sent samples in omega (arith, l)
+sent_more : (live next : Live) (outs : List ℤ) → next.sent ≡ live.sent ++ outs
+    → octets_sent next ≡ octets_sent live + 2 * length outs
+sent_more live next outs same =
+    let l = ap (λ (xs : List ℤ). length xs) same ∙ length-append live.sent outs in omega (arith, l)
 
 -- The key was told of this fault, or nobody was told anything, which is as if it had been told of one.
-module _ (key : Option KeyWords) (fault : Bool) (live next : Live) (samples : List ℤ) (lines : ℕ)
-    (sent : next.sent ≡ live.sent ++ samples)
-    (whole : next.whole ≡ told_whole fault (octets_sent live + 2 * length samples) lines live.whole) where
+module _ (key : Option KeyWords) (fault : Bool) (live next : Live) (outs : List ℤ) (lines : ℕ)
+    (sent : next.sent ≡ live.sent ++ outs)
+    (whole : next.whole ≡ told_whole fault (octets_sent live + 2 * length outs) lines live.whole) where
   told_so : fault ≡ true → next.whole ≡ live.whole
-  told_so e = whole ∙ ap (λ (b : Bool). told_whole b (octets_sent live + 2 * length samples) lines live.whole) e
+  told_so e = whole ∙ ap (λ (b : Bool). told_whole b (octets_sent live + 2 * length outs) lines live.whole) e
 
   told_all : fault ≡ false
-      → next.whole ≡ record { octets = octets_sent live + 2 * length samples; lines = lines }
-  told_all e = whole ∙ ap (λ (b : Bool). told_whole b (octets_sent live + 2 * length samples) lines live.whole) e
+      → next.whole ≡ record { octets = octets_sent live + 2 * length outs; lines = lines }
+  told_all e = whole ∙ ap (λ (b : Bool). told_whole b (octets_sent live + 2 * length outs) lines live.whole) e
 
   output_whole : (start : ℕ) (b f1 : Bool) (out now : List ℕ) → fault ≡ b → (fault ≡ false → f1 ≡ false)
       → length out ≤ length now → start + live.whole.octets ≤ length out
@@ -71,20 +71,20 @@ module _ (key : Option KeyWords) (fault : Bool) (live next : Live) (samples : Li
       subst (λ (x : Whole). start + x.octets ≤ length now) (sym (told_so e)) (omega (arith, was, longer))
   output_whole start false f1 out now e told longer was kept =
       let all = kept (told e) in
-      let more = sent_more live next samples sent in
+      let more = sent_more live next outs sent in
       subst (λ (x : Whole). start + x.octets ≤ length now) (sym (told_all e)) (omega (arith, all, more))
 
-  pub output_since : (start : ℕ) (f f1 f4 : Bool) (o o' : Stream) → Puts f f1 (output_octets samples) o o'
+  pub output_since : (start : ℕ) (f f1 f4 : Bool) (o o' : Stream) → Puts f f1 (output_octets outs) o o'
       → (f4 ≡ false → f1 ≡ false) → (fault ≡ false → f1 ≡ false)
       → ((words : KeyWords) → key ≡ Some words → key_failed (Some words) next ≡ false
       → (fault ≡ false) × (key_failed (Some words) live ≡ false))
       → IsOutputSince start key f live o → IsOutputSince start key f4 next o'
   output_since start f f1 f4 o o' put later told untold i =
-      let g = put_grows f f1 (output_octets samples) i.out o o' put i.is in
-      let size = out_length samples in
-      let more = sent_more live next samples sent in
+      let g = put_grows f f1 (output_octets outs) i.out o o' put i.is in
+      let size = out_length outs in
+      let more = sent_more live next outs sent in
       let kept : f1 ≡ false → length g.now ≡ start + octets_sent next = λ none.
-      (let was = i.kept (put_failed f f1 (output_octets samples) o o' put none) in
+      (let was = i.kept (put_failed f f1 (output_octets outs) o o' put none) in
       let all = g.all none in
       omega (arith, was, all, size, more)) in
       record {
@@ -161,18 +161,18 @@ module _ (key : Option KeyWords) (fault : Bool) (live next : Live) (samples : Li
 -- ---- the calls of a tick
 
 -- what a key's two calls in a tick come to: the first reports these lines, and then a write has failed or not
-pub record KeyTicked (from : From) (key : Option KeyWords) (side : Option KeySide) (live : Live) (samples : List ℤ)
-    (fault : Bool) (reps1 reps2 : List Report) (made : Hosts) (line : LineTold) : Type 0 where
+pub record KeyTicked (from : From) (key : Option KeyWords) (side : Option KeySide) (live : Live)
+    (samples outs : List ℤ) (fault : Bool) (reps1 reps2 : List Report) (made : Hosts) (line : LineTold) : Type 0 where
   pub keyed : List KeyEvent
   pub whole : Whole
-  pub does : TicksKeyIf key (octets_sent live) samples live.keyed keyed live.whole whole made
+  pub does : TicksKeyIf key (octets_sent live) samples outs live.keyed keyed live.whole whole made
       (with_lines (map key_line reps2) (with_lines (map key_line reps1) made))
   pub stands : KeyStands key side keyed
   pub has : LineStands from key (record live { keyed = keyed }) line
   -- what the key was told; without a key it is as if it had been told of a write that failed
   pub told : Bool
   pub so : told ≡ false → fault ≡ false
-  pub is_whole : whole ≡ told_whole told (octets_sent live + 2 * length samples)
+  pub is_whole : whole ≡ told_whole told (octets_sent live + 2 * length outs)
       (length (made.report ++ map key_line reps1)) live.whole
   pub untold : (words : KeyWords) → key ≡ Some words → failed (marks_of words.words keyed) ≡ false
       → (told ≡ false) × (failed (marks_of words.words live.keyed) ≡ false)
@@ -188,37 +188,37 @@ Asks side side' written call reported line line' key =
 abbrev pub Rests : Option KeySide → Option KeySide → List Report → LineTold → LineTold → Type 0
 Rests side side' reported line line' = side ≡ None → (side' ≡ None) × (line' ≡ line) × (reported ≡ [])
 
-module _ (from : From) (live : Live) (samples : List ℤ) (f f1 fault : Bool) (reps1 reps2 : List Report)
+module _ (from : From) (live : Live) (samples outs : List ℤ) (f f1 fault : Bool) (reps1 reps2 : List Report)
     (o o' r : Stream) (line line1 line2 : LineTold) (made : Hosts) (size : length samples ≡ 96)
-    (out : Puts f f1 (output_octets samples) o o') (later : fault ≡ false → f1 ≡ false) where
+    (out : Puts f f1 (output_octets outs) o o') (later : fault ≡ false → f1 ≡ false) where
   -- the output after the samples, for the second call: if no write failed by then it has them all
   had_after : (key : KeyWords) → IsWrittenSince from (Some key) f live o r → fault ≡ false
-      → had_of from.output o'.written (octets_sent live + 2 * length samples) ≡ octets_sent live + 2 * length samples
+      → had_of from.output o'.written (octets_sent live + 2 * length outs) ≡ octets_sent live + 2 * length outs
   unfolding had_of
   had_after key written none = go from.output refl
     where
       go : (n : Option ℕ) → from.output ≡ n
-          → had_of n o'.written (octets_sent live + 2 * length samples) ≡ octets_sent live + 2 * length samples
+          → had_of n o'.written (octets_sent live + 2 * length outs) ≡ octets_sent live + 2 * length outs
       go None e = refl
       go (Some start) e =
           let i = written.outputs start e in
-          let g = put_grows f f1 (output_octets samples) i.out o o' out i.is in
-          let kept = i.kept (put_failed f f1 (output_octets samples) o o' out (later none)) in
+          let g = put_grows f f1 (output_octets outs) i.out o o' out i.is in
+          let kept = i.kept (put_failed f f1 (output_octets outs) o o' out (later none)) in
           let all = g.all (later none) in
-          let long = out_length samples in
-          let same : had_of (Some start) o'.written (octets_sent live + 2 * length samples) ≡ length g.now - start =
-          ap (λ (w : Option (List ℕ)). had_of (Some start) w (octets_sent live + 2 * length samples)) g.is in
+          let long = out_length outs in
+          let same : had_of (Some start) o'.written (octets_sent live + 2 * length outs) ≡ length g.now - start =
+          ap (λ (w : Option (List ℕ)). had_of (Some start) w (octets_sent live + 2 * length outs)) g.is in
           omega (arith, kept, all, long, same)
 
   told_after : (key : KeyWords) → IsWrittenSince from (Some key) f live o r → (start : ℕ) → from.output ≡ Some start
-      → HasOctets o'.written (start + had_of from.output o'.written (octets_sent live + 2 * length samples))
+      → HasOctets o'.written (start + had_of from.output o'.written (octets_sent live + 2 * length outs))
   unfolding had_of
   told_after key written start e =
       let i = written.outputs start e in
-      let g = put_grows f f1 (output_octets samples) i.out o o' out i.is in
-      let same : had_of from.output o'.written (octets_sent live + 2 * length samples) ≡ length g.now - start =
-      ap (λ (n : Option ℕ). had_of n o'.written (octets_sent live + 2 * length samples)) e
-      ∙ ap (λ (w : Option (List ℕ)). had_of (Some start) w (octets_sent live + 2 * length samples)) g.is in
+      let g = put_grows f f1 (output_octets outs) i.out o o' out i.is in
+      let same : had_of from.output o'.written (octets_sent live + 2 * length outs) ≡ length g.now - start =
+      ap (λ (n : Option ℕ). had_of n o'.written (octets_sent live + 2 * length outs)) e
+      ∙ ap (λ (w : Option (List ℕ)). had_of (Some start) w (octets_sent live + 2 * length outs)) g.is in
       record {
         out = g.now;
         is = g.is;
@@ -229,12 +229,12 @@ module _ (from : From) (live : Live) (samples : List ℤ) (f f1 fault : Bool) (r
       → IsWrittenSince from (Some key) f live o r → LineStands from (Some key) live line
       → (one : DoesCall key.words (had_of from.output o.written (octets_sent live)) o.written (Tick (has_sound samples))
       live.keyed reps1 side1 line line1) → port_of side1 ≡ key.port
-      → (two : DoesCall key.words (had_of from.output o'.written (octets_sent live + 2 * length samples)) o'.written
+      → (two : DoesCall key.words (had_of from.output o'.written (octets_sent live + 2 * length outs)) o'.written
       (AfterWrite fault) one.new reps2 side2 line1 line2) → port_of side2 ≡ key.port
-      → KeyTicked from (Some key) (Some side2) live samples fault reps1 reps2 made line2
+      → KeyTicked from (Some key) (Some side2) live samples outs fault reps1 reps2 made line2
   ticked_with key side side1 side2 stands written has one port1 two port2 =
       let had = had_of from.output o.written (octets_sent live) in
-      let had' = had_of from.output o'.written (octets_sent live + 2 * length samples) in
+      let had' = had_of from.output o'.written (octets_sent live + 2 * length outs) in
       let fault_told : failed (marks_of key.words two.new) ≡ false → fault ≡ false =
       fault_untold key.words had' fault one.new two.new reps2 two.is in
       let before : failed (marks_of key.words two.new) ≡ false → failed (marks_of key.words live.keyed) ≡ false =
@@ -242,7 +242,7 @@ module _ (from : From) (live : Live) (samples : List ℤ) (f f1 fault : Bool) (r
       (untold_before key.words had' (AfterWrite fault) one.new two.new reps2 two.is none)) in
       record {
         keyed = two.new;
-        whole = told_whole fault (octets_sent live + 2 * length samples) (length (made.report ++ map key_line reps1))
+        whole = told_whole fault (octets_sent live + 2 * length outs) (length (made.report ++ map key_line reps1))
             live.whole;
         does = record {
           between = one.new;
@@ -278,7 +278,7 @@ module _ (from : From) (live : Live) (samples : List ℤ) (f f1 fault : Bool) (r
 
   ticked_alone : (side side1 side2 : Option KeySide) → side ≡ None → Rests side side1 reps1 line line1
       → Rests side1 side2 reps2 line1 line2 → LineStands from None live line
-      → KeyTicked from None side2 live samples fault reps1 reps2 made line2
+      → KeyTicked from None side2 live samples outs fault reps1 reps2 made line2
   ticked_alone side side1 side2 none one two has =
       let a = one none in
       let b = two a.0 in
@@ -307,7 +307,7 @@ module _ (from : From) (live : Live) (samples : List ℤ) (f f1 fault : Bool) (r
       → IsWrittenSince from key f live o r → LineStands from key live line
       → Asks side side1 o.written (Tick (has_sound samples)) reps1 line line1 key → Rests side side1 reps1 line line1
       → Asks side1 side2 o'.written (AfterWrite fault) reps2 line1 line2 key → Rests side1 side2 reps2 line1 line2
-      → KeyTicked from key side2 live samples fault reps1 reps2 made line2
+      → KeyTicked from key side2 live samples outs fault reps1 reps2 made line2
   ticked None None side1 side2 stands written has one rest1 two rest2 =
       ticked_alone None side1 side2 refl rest1 rest2 has
   ticked None (Some side) side1 side2 stands written has one rest1 two rest2 = absurd stands
@@ -318,15 +318,15 @@ module _ (from : From) (live : Live) (samples : List ℤ) (f f1 fault : Bool) (r
       by_sides : (a b : Option KeySide)
           → DoesForKey key (had_of from.output o.written (octets_sent live)) o.written (Tick (has_sound samples))
           live.keyed reps1 a line line1 → Asks a b o'.written (AfterWrite fault) reps2 line1 line2 (Some key)
-          → KeyTicked from (Some key) b live samples fault reps1 reps2 made line2
+          → KeyTicked from (Some key) b live samples outs fault reps1 reps2 made line2
       by_sides None b d two = absurd d
       by_sides (Some a) b d two =
-          by_last b (two key (had_of from.output o'.written (octets_sent live + 2 * length samples)) d.0.new refl
+          by_last b (two key (had_of from.output o'.written (octets_sent live + 2 * length outs)) d.0.new refl
           (d.0.done, d.1))
         where
           by_last : (c : Option KeySide)
-              → DoesForKey key (had_of from.output o'.written (octets_sent live + 2 * length samples)) o'.written
+              → DoesForKey key (had_of from.output o'.written (octets_sent live + 2 * length outs)) o'.written
               (AfterWrite fault) d.0.new reps2 c line1 line2
-              → KeyTicked from (Some key) c live samples fault reps1 reps2 made line2
+              → KeyTicked from (Some key) c live samples outs fault reps1 reps2 made line2
           by_last None e = absurd e
           by_last (Some c) e = ticked_with key side a c stands written has d.0 d.1 e.0 e.1

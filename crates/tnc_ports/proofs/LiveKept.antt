@@ -69,11 +69,11 @@ module _ (P : Hosts → Type 0) (k : IsKeptByFrames P) where
       → CallsKey key octets call keyed new before after → P before → P after
   kept_call key octets call keyed new before after c p = subst P (sym c.hosts) (k.keyed c.reported before p)
 
-  kept_key_tick : (key : Option KeyWords) (octets : ℕ) (samples : List ℤ) (keyed new : List KeyEvent)
-      (whole told : Whole) (before after : Hosts) → TicksKeyIf key octets samples keyed new whole told before after
+  kept_key_tick : (key : Option KeyWords) (octets : ℕ) (samples out : List ℤ) (keyed new : List KeyEvent)
+      (whole told : Whole) (before after : Hosts) → TicksKeyIf key octets samples out keyed new whole told before after
       → P before → P after
-  kept_key_tick None octets samples keyed new whole told before after t p = subst P (sym t.2) p
-  kept_key_tick (Some key) octets samples keyed new whole told before after t p =
+  kept_key_tick None octets samples out keyed new whole told before after t p = subst P (sym t.2) p
+  kept_key_tick (Some key) octets samples out keyed new whole told before after t p =
       kept_call key t.had _ t.between new t.reached after t.write
       (kept_call key octets _ keyed t.between before t.reached t.tick p)
 
@@ -88,7 +88,7 @@ module _ (P : Hosts → Type 0) (k : IsKeptByFrames P) where
   kept_ticks words busy (suc count) before after ticked p =
       kept_ticks words busy count ticked.0 after ticked.2
       (subst (λ (live : Live). P live.hosts) (sym ticked.1.is)
-      (k.noted (notes_in (notes_in_tick words busy ticked.1.reads ticked.1.air before ticked.1.hosts)) ticked.1.hosts (kept_key_tick words.key (octets_sent before) ticked.1.air.samples before.keyed ticked.1.keyed before.whole
+      (k.noted (notes_in (notes_in_tick words busy ticked.1.reads ticked.1.air before ticked.1.hosts)) ticked.1.hosts (kept_key_tick words.key (octets_sent before) ticked.1.air.samples ticked.1.out before.keyed ticked.1.keyed before.whole
       ticked.1.whole ticked.1.made ticked.1.hosts ticked.1.key
       (kept_tick words.monitor (busy || is_held words.key before.keyed) ticked.1.air before.hosts ticked.1.made
       ticked.1.step p))))

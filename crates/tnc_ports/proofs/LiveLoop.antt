@@ -195,7 +195,7 @@ whole words a b len old receiver start x y h t listens later =
         shuts = are_shut t.next.asked t.next.hosts served.accounted;
         all_shut = all_told words t.next run;
         gaps = served.gaps;
-        size = served.size;
+        samples = served.samples;
       },
       writes_more false a.failed b.failed (new_live words) h.live t.next (output_of start) (output_of x) (output_of y)
           (report_of start) (report_of x) (report_of y) h.writes t.writes,
@@ -285,7 +285,7 @@ loop_memory words a b len old receiver start x y h t same listens later =
           sends = are_sent t.next.asked t.next.hosts served.accounted;
           shuts = are_shut t.next.asked t.next.hosts served.accounted;
           gaps = served.gaps;
-          size = served.size;
+          samples = served.samples;
         }
         | inr some ↦
             let asked = some.0 in
@@ -307,7 +307,7 @@ loop_memory words a b len old receiver start x y h t same listens later =
               sends = are_sent (t.next.asked ++ asked ∷ []) reached all;
               shuts = are_shut (t.next.asked ++ asked ∷ []) reached all;
               gaps = served.gaps;
-              size = served.size;
+              samples = served.samples;
             }
       ],
       either words b t.next start y b.failed refl (same ∙ h.words_kept) t.key (written b.failed words t.next start y all),

@@ -6,6 +6,7 @@ use Rattle.std.specs.Prelude.{is_some}
 use Rattle.sample_ring.specs.Ends.{AddsRead, GoesForward, position_of, reads_of}
 use Rattle.sample_ring.specs.Record.{next}
 use Rattle.slicer_bank.specs.RingTurns.{reads_on}
+use Rattle.sound_rate.specs.declared.rate.Rate.{Rate}
 use Rattle.host_ports.specs.declared.health.Health.{Health}
 use Rattle.host_ports.specs.declared.health_note.HealthNotes.{HealthNotes}
 use Rattle.tnc_ports.specs.declared.meter.Meter.{Meter}
@@ -71,6 +72,7 @@ pub record ReadsSoFar (len to count : ℕ) (first now : Meter) : Type 0 where
   pub answers : answers_of len now.reader ≡ answers_of len first.reader ++ reads
   pub place : position_of now.reader ≡ place_after (position_of first.reader) reads
   pub health : now.health ≡ after_answers reads first.health
+  pub out : now.out ≡ first.out
   pub rest : (more : List Got) → ReadsTo to (position_of now.reader) more
       → ReadsTo to (position_of first.reader) (reads ++ more)
 
@@ -91,6 +93,7 @@ reads_none len to count meter reached = record {
   answers = sym (append-nil (answers_of len meter.reader));
   place = refl;
   health = refl;
+  out = refl;
   rest = λ more h. h;
 }
 
@@ -111,6 +114,7 @@ reads_next len to count first before after on h lt ring once e =
       place = once.place ∙ sym (place_snoc (position_of first.reader) h.reads once.got);
       health = once.health ∙ ap (λ (health : Health). after_answer health once.got) h.health
           ∙ sym (counted_snoc h.reads once.got first.health);
+      out = once.out ∙ h.out;
       rest = λ more m. subst (ReadsTo to (position_of first.reader)) (sym (append_assoc h.reads (once.got ∷ []) more))
           (h.rest (once.got ∷ more) (on_reads to (position_of before.reader) once.got more lt goes
           (subst (λ at. ReadsTo to at more) once.place m)));
@@ -150,9 +154,10 @@ pub record HasReadTick (len : ℕ) (live : Live) (was read : Health) (after : Me
   pub place : position_of after.reader ≡ place_after 0 (live.sound ++ reads)
   pub counted : read ≡ after_answers reads was
 
-pub tick_read : (len tick : ℕ) (before read after : Meter) (live : Live) → Measures len before live → tick ≡ live.ticks
-    → after.reader ≡ read.reader → HasReadTo len (96 * (tick + 1)) before read → HasReadTick len live before.health read.health after
-tick_read len tick before read after live m at same h = record {
+pub tick_read : (len tick : ℕ) (rate : Rate) (before read after : Meter) (live : Live) → Measures len rate before live
+    → tick ≡ live.ticks → after.reader ≡ read.reader → HasReadTo len (96 * (tick + 1)) before read
+    → HasReadTick len live before.health read.health after
+tick_read len tick rate before read after live m at same h = record {
   reads = h.0;
   reading = subst (λ n. ReadsTo (96 * (n + 1)) (place_after 0 live.sound) h.0) at
       (subst (λ p. ReadsTo (96 * (tick + 1)) p h.0) m.place h.1);

@@ -20,6 +20,7 @@ use Rattle.std.specs.Prelude.{IsSome, Option, is_ok}
 use Rattle.tnc_ports.proofs.Common.{reader_ring, ring_id}
 use Rattle.sample_ring.specs.Ends.{IsNew}
 use Rattle.host_ports.specs.Health.{new_health}
+use Rattle.sound_rate.specs.HeldRates.{HasMade}
 use Rattle.sample_ring.specs.declared.ring.Ring.{Ring}
 use Rattle.tnc_ports.specs.HeldMeter.{IsFreshSound, answers_if}
 use Rattle.tnc_ports.specs.declared.looping.LoopEnd.TheVariants.{Done as LoopDone, WriteFault as LoopFault}
@@ -44,10 +45,11 @@ use Rattle.tnc_ports.proofs.LiveTold.{tells_nothing}
 pub first_stands : (words : ServeWords) (turning : Turning) (len : ℕ) (receiver : LiveReceiver)
     → StandsFor turning.hosts [] (new_hosts words.config words.seed)
     → turning.words ≡ words → turning.ticks ≡ 0 → turning.meter.health ≡ new_health
+    → HasMade words.rate turning.meter.out []
     → IsNew turning.meter.reader → listening_of receiver ≡ words.listening
     → answers_in len receiver ≡ replicate (readers_wanted words.listening) [] → Hears len receiver
     → StandsForLive turning len receiver (new_live words)
-first_stands words turning len receiver hosts same ticks health fresh listening new hears = record {
+first_stands words turning len receiver hosts same ticks health made fresh listening new hears = record {
   hosts = hosts;
   ticks = ticks;
   listening = listening ∙ ap (λ (w : ServeWords). w.listening) (sym same);
@@ -58,6 +60,7 @@ first_stands words turning len receiver hosts same ticks health fresh listening 
     sound = ap (map (answer len)) fresh.nothing_read;
     place = fresh.at_start;
     health = health;
+    made = subst (λ (w : ServeWords). HasMade w.rate turning.meter.out []) (sym same) made;
   };
 }
 
@@ -105,7 +108,7 @@ nothing_looped words lanes start line same released =
         sends = are_sent [] (new_live words).hosts served.accounted;
         shuts = are_shut [] (new_live words).hosts served.accounted;
         gaps = served.gaps;
-        size = served.size;
+        samples = served.samples;
       }),
       inl (as_told_on start start line words.key (new_live words)
           (record { written = all; untold = first_untold words.key words })),
@@ -265,7 +268,7 @@ no_thread words end lanes begins input left before opened after opens given_up u
 pub all_served : (words : ServeWords) (loop : LoopEnd) (end : ServeEnd) (len : ℕ) (receiver : LiveReceiver)
     (sound : Option Reader) (input left : InputSide) (before opened after : Outside)
     → HasOpened words before opened → IsLooped words loop (answers_if len receiver sound) opened after
-    → IsClosed loop end (answers_if ring_cells receiver sound) input left → len ≡ ring_cells
+    → IsClosed words.rate loop end (answers_if ring_cells receiver sound) input left → len ≡ ring_cells
     → IsServed words end input left before after
 all_served words loop end len receiver sound input left before opened after opens looped closed cells =
     served words loop closed.pump end input left before after closed.ends (record {

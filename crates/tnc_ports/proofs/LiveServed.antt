@@ -6,7 +6,10 @@ use Rattle.tnc_ports.proofs.Common.{gap_line, LanesReadOn, AreHeard, HearsAll, A
 use Rattle.tnc_ports.proofs.Common.{IsRun, IsCutTurn, IsCutRun, IsKeyTurn, octets_sent}
 use Rattle.std.specs.Prelude.{◌≡◌, ℕ, ◌*◌, [], ◌++◌, length, map, refl}
 use Rattle.std.proofs.Common.{length-append}
+use Rattle.sound_rate.specs.Rates.{written_at}
+use Rattle.sound_rate.proofs.Nothing.{none_written}
 use Rattle.tnc_ports.specs.Sampled.{ServesHosts, having_heard}
+use Rattle.tnc_ports.specs.SampledRun.{AreSamplesSent}
 use Rattle.host_ports.proofs.KeptLemmas.{kept_part}
 use Rattle.tnc_ports.proofs.LiveAccounts.{IsAccounted, accounted_new, accounted_relined, accounted_by_frames}
 use Rattle.tnc_ports.proofs.LiveAccounts.{accounted_part}
@@ -20,24 +23,20 @@ use Rattle.tnc_ports.proofs.ServedLemmas.{sound_new}
 abbrev pub IsAccountedFor : Live → Type 0
 IsAccountedFor live = IsAccounted live.asked live.hosts
 
--- each tick has its samples
-abbrev pub HasTicked : Live → Type 0
-HasTicked live = length live.sent ≡ 96 * live.ticks
-
 -- so far, with all gaps
 pub record IsServed (words : ServeWords) (live : Live) : Type 0 where
   pub accounted : IsAccountedFor live
   pub gaps : AreAllGaps words live
-  pub size : HasTicked live
+  pub samples : AreSamplesSent words live
 
 -- if a turn is cut short, the last gaps may be missing
 pub record IsServedInPart (words : ServeWords) (live : Live) : Type 0 where
   pub accounted : IsAccountedFor live
   pub gaps : AreFirstGaps words live
-  pub size : HasTicked live
+  pub samples : AreSamplesSent words live
 
 in_part : (words : ServeWords) (live : Live) → IsServed words live → IsServedInPart words live
-in_part words live h = record { accounted = h.accounted; gaps = first_gaps words live h.gaps; size = h.size }
+in_part words live h = record { accounted = h.accounted; gaps = first_gaps words live h.gaps; samples = h.samples }
 
 no_gaps : (name lane count : ℕ) → [] ≡ gaps_of name (lane_of (replicate count []) lane)
 no_gaps name lane zero = refl
@@ -50,7 +49,7 @@ served_new words = record {
       (sound_new words.config words.seed)
       (λ id. omega arith) refl refl;
   gaps = λ lane lt. no_gaps lane lane (readers_wanted words.listening);
-  size = refl;
+  samples = record { size = refl; at_rate = none_written words.rate };
 }
 
 -- ---- each part of a turn
@@ -62,7 +61,7 @@ served_reading words ended before after r h = record {
       (accounted_relined before.asked (before.hosts.report ++ map gap_line r.gaps) before.hosts
       (gaps_closed before.hosts.report r.gaps) h.accounted);
   gaps = read_gaps words ended before after r h.gaps;
-  size = subst HasTicked (sym r.is) h.size;
+  samples = subst (AreSamplesSent words) (sym r.is) (record { size = h.samples.size; at_rate = h.samples.at_rate });
 }
 
 -- the hosts go on, and the readers stay
@@ -81,23 +80,28 @@ served_heard words items read hosts heard h = record {
       (kept_heard (TellsGaps (λ lane. gaps_in lane read.hosts.report))
       (gaps_by_frames (λ lane. gaps_in lane read.hosts.report)) words.monitor items read.hosts hosts heard
       (λ lane. refl));
-  size = h.size;
+  samples = record { size = h.samples.size; at_rate = h.samples.at_rate };
 }
 
-ticked_size : (words : ServeWords) (busy : Bool) (count : ℕ) (before after : Live)
-    → AreTicked words busy count before after → HasTicked before → HasTicked after
-ticked_size words busy zero before after ticked h = subst HasTicked (sym ticked) h
-ticked_size words busy (suc count) before after ticked h =
+ticked_samples : (words : ServeWords) (busy : Bool) (count : ℕ) (before after : Live)
+    → AreTicked words busy count before after → AreSamplesSent words before → AreSamplesSent words after
+ticked_samples words busy zero before after ticked h = subst (AreSamplesSent words) (sym ticked) h
+ticked_samples words busy (suc count) before after ticked h =
     let one = ticked.1 in
-    let sent = ap (λ (l : Live). length l.sent) one.is ∙ length-append before.sent one.air.samples in
+    let more = ap (λ (l : Live). length l.samples) one.is ∙ length-append before.samples one.air.samples in
     let ticks = ap (λ (l : Live). l.ticks) one.is in
     let size = one.size in
-    ticked_size words busy count ticked.0 after ticked.2 (omega (arith, h, sent, ticks, size))
+    let was = h.size in
+    ticked_samples words busy count ticked.0 after ticked.2 (record {
+      size = omega (arith, was, more, ticks, size);
+      at_rate = ap (λ (l : Live). l.sent) one.is ∙ ap (λ xs. xs ++ one.out) h.at_rate ∙ sym one.at_rate
+          ∙ sym (ap (λ (l : Live). written_at words.rate l.samples) one.is);
+    })
 
 -- and counted
 served_counted : (words : ServeWords) (items : List Candidate) (read : Live) (hosts : Hosts)
     → IsServed words (with_hosts hosts read) → IsServed words (having_heard items hosts read)
-served_counted words items read hosts h = record { accounted = h.accounted; gaps = h.gaps; size = h.size }
+served_counted words items read hosts h = record { accounted = h.accounted; gaps = h.gaps; samples = record { size = h.samples.size; at_rate = h.samples.at_rate } }
 
 served_hearing : (words : ServeWords) (ended : Bool) (before after : Live) → HearsAll words ended before after
     → IsServed words before → IsServed words after
@@ -117,7 +121,7 @@ served_ticks words busy count before after ticked h =
           (kept_ticks (TellsGaps (λ lane. gaps_in lane before.hosts.report))
           (gaps_by_frames (λ lane. gaps_in lane before.hosts.report)) words busy count before after ticked
           (λ lane. refl));
-      size = ticked_size words busy count before after ticked h.size;
+      samples = ticked_samples words busy count before after ticked h.samples;
     }
 
 served_key : (words : ServeWords) (before after : Live) → IsKeyTurn words before after → IsServed words before
@@ -129,7 +133,7 @@ served_key words before after t h = subst (IsServed words) (sym t.is) (record {
       (kept_key_turn (TellsGaps (λ lane. gaps_in lane before.hosts.report))
       (gaps_by_frames (λ lane. gaps_in lane before.hosts.report)) words.key (octets_sent before)
       before.keyed t.keyed before.hosts t.hosts t.turn (λ lane. refl));
-  size = h.size;
+  samples = record { size = h.samples.size; at_rate = h.samples.at_rate };
 })
 
 pub served_making : (words : ServeWords) (ended : Bool) (before after : Live) → MakesAll words ended before after
@@ -153,7 +157,7 @@ served_hosts words before after s h = subst (IsServed words) (sym s.is) (record 
   accounted = accounted_part before.asked s.asked before.hosts s.hosts s.part h.accounted;
   gaps = with_gaps words before (record before { hosts = s.hosts; asked = before.asked ++ s.asked ∷ [] }) refl h.gaps
       (part_gaps s.asked before.hosts s.hosts s.part);
-  size = h.size;
+  samples = record { size = h.samples.size; at_rate = h.samples.at_rate };
 })
 
 served_turn : (words : ServeWords) (ended : Bool) (before after : Live) → IsTurn words ended before after
@@ -185,7 +189,7 @@ cut_turn words before after cut h = elim cut [
       subst (IsServedInPart words) (sym reading.is) (record {
         accounted = h.accounted;
         gaps = cut_gaps words before reading.lanes reading.more h.gaps;
-        size = h.size;
+        samples = record { size = h.samples.size; at_rate = h.samples.at_rate };
       })
   | inr rest ↦ elim rest [
     | inl hearing ↦

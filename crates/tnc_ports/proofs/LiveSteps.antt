@@ -259,13 +259,15 @@ pub ticks_more : (from : From) (busy : Bool) (count tick len : ℕ) (first befor
     (o o' o'' r r' r'' : Stream) (line line' : LineTold)
     → before.words ≡ first.words → tick ≡ live.ticks + count
     → TicksAll from busy count len first before live o o' r r' line
-    → ((live : Live) → Keeps before.hosts live.hosts → tick ≡ live.ticks → Measures len before.meter live
+    → ((live : Live) → Keeps before.hosts live.hosts → tick ≡ live.ticks
+    → Measures len before.words.rate before.meter live
     → KeyedSince from before live o' r' line
     → TicksAll from busy 1 len before after live o' o'' r' r'' line')
     → TicksAll from busy (suc count) len first after live o o'' r r'' line'
 ticks_more from busy count tick len first before after live o o' o'' r r' r'' line line' words at h step =
     let to = ticked_to first.words busy count live h.next h.ticked in
-    let one = step h.next h.keeps (at ∙ sym to.ticks) h.measures h.key in
+    let one = step h.next h.keeps (at ∙ sym to.ticks)
+    (subst (λ (w : ServeWords). Measures len w.rate before.meter h.next) (sym words) h.measures) h.key in
     record {
       next = one.next;
       ticked = ticked_more first.words busy count live h.next one.next h.ticked
@@ -275,11 +277,12 @@ ticks_more from busy count tick len first before after live o o' o'' r r' r'' li
           one.writes;
       keeps = one.keeps;
       ticks = one.ticks;
-      measures = one.measures;
+      measures = subst (λ (w : ServeWords). Measures len w.rate after.meter one.next) words one.measures;
     }
 
 pub ticks_none : (from : From) (busy : Bool) (len : ℕ) (turning : Turning) (live : Live) (o r : Stream) (line : LineTold)
-    → Keeps turning.hosts live.hosts → turning.ticks ≡ live.ticks → Measures len turning.meter live
+    → Keeps turning.hosts live.hosts → turning.ticks ≡ live.ticks
+    → Measures len turning.words.rate turning.meter live
     → KeyedSince from turning live o r line
     → TicksAll from busy 0 len turning turning live o o r r line
 ticks_none from busy len turning live o r line keeps at measures key = record {

@@ -13,6 +13,8 @@ use Rattle.slicer_bank.specs.RingLanes.{answers_of}
 use Rattle.tnc_ports.specs.declared.meter.Meter.{Meter}
 use Rattle.host_ports.specs.Health.{with_heard}
 use Rattle.tnc_ports.specs.HeldMeter.{HasMeasured, Measures}
+use Rattle.sound_rate.specs.declared.rate.Rate.{Rate}
+use Rattle.sound_rate.specs.HeldRates.{HasMade}
 use Rattle.tnc_ports.specs.Measured.{place_after}
 use Rattle.tnc_ports.specs.Sampled.{MakesTicks, having_heard}
 use Rattle.tnc_ports.specs.SampledHeld.{Makes}
@@ -171,7 +173,7 @@ pub record Keyed (from : From) (ended : Bool) (least : ℕ) (before k : Turning)
   pub lanes : answers_in len receiver ≡ next.lanes
   pub is_least : least ≡ least_position next.lanes
   pub ticks : next.ticks ≡ live.ticks
-  pub measures : Measures len k.meter next
+  pub measures : Measures len before.words.rate k.meter next
   pub asked : next.asked ≡ live.asked
   pub writes : WritesMore before.failed k.failed live next o o r0 r3
 
@@ -183,7 +185,7 @@ keyed_up_to : (from : From) (ended : Bool) (least : ℕ) (items : List Candidate
     → ((live : Live) → Keeps b.hosts live.hosts → KeyedSince from b live o r2 line
     → TurnsTheKey from b k live o r2 r3 line1)
     → a.words ≡ before.words → b.words ≡ a.words → a.key ≡ before.key → b.key ≡ a.key
-    → Measures len before.meter live → a.meter ≡ before.meter → b.meter ≡ counted_in (length items) a.meter
+    → Measures len before.words.rate before.meter live → a.meter ≡ before.meter → b.meter ≡ counted_in (length items) a.meter
     → k.meter ≡ b.meter
     → Keyed from ended least before k len receiver live o r0 r3 line1
 keyed_up_to from ended least items before a b k len receiver live o r0 r1 r2 r3 line line1 key reads hear turn wa wb ka
@@ -207,12 +209,14 @@ keyed_up_to from ended least items before a b k len receiver live o r0 r1 r2 r3 
       lanes = reads.lanes ∙ sym (ap (λ (l : Live). l.lanes) to);
       is_least = reads.is_least ∙ ap least_position (sym (ap (λ (l : Live). l.lanes) to));
       ticks = ap (λ (l : Live). l.ticks) to ∙ read_ticks ended least items before a len receiver live r0 r1 reads;
-      measures = subst (Measures len k.meter) (sym to)
-          (subst (λ (m : Meter). Measures len m (record heard { hosts = t.turn.hosts; keyed = t.turn.keyed }))
+      measures = subst (Measures len before.words.rate k.meter) (sym to)
+          (subst (λ (m : Meter). Measures len before.words.rate m (record heard { hosts = t.turn.hosts; keyed = t.turn.keyed }))
           (sym (mk ∙ mb ∙ ap (counted_in (length items)) ma)) (record {
             sound = measures.sound ∙ sym (ap (λ (l : Live). l.sound) is);
             place = measures.place ∙ ap (place_after 0) (sym (ap (λ (l : Live). l.sound) is));
             health = ap (with_heard (length items)) (measures.health ∙ sym (ap (λ (l : Live). l.health) is));
+            made = subst (HasMade before.words.rate before.meter.out) (sym (ap (λ (l : Live). l.samples) is))
+                measures.made;
           }));
       asked = ap (λ (l : Live). l.asked) to ∙ ap (λ (l : Live). l.asked) is;
       writes = writes_report before.failed k.failed live t.next o r0 r3
@@ -227,8 +231,8 @@ pub all_made : (from : From) (ended busy : Bool) (least : ℕ) (items : List Can
     → ((hosts : Hosts) → Keeps a.hosts hosts → HearsFrames items a b hosts r1 r2)
     → ((live : Live) → Keeps b.hosts live.hosts → KeyedSince from b live o r2 line
     → TurnsTheKey from b k live o r2 r3 line1)
-    → ((live : Live) → Keeps k.hosts live.hosts → k.ticks ≡ live.ticks → Measures len k.meter live
-    → KeyedSince from k live o r3 line1
+    → ((live : Live) → Keeps k.hosts live.hosts → k.ticks ≡ live.ticks
+    → Measures len k.words.rate k.meter live → KeyedSince from k live o r3 line1
     → TicksAll from busy (least / 96 - live.ticks) len k c live o o' r3 r4 line2)
     → ((n : ℕ) → LanesListen n receiver → IsTrue busy ↔ IsBusyBy (listening_of receiver) (detection_of receiver) (answers_in n receiver))
     → detection_of receiver ≡ before.words.dcd
@@ -241,7 +245,8 @@ all_made from ended busy least items before a b k c len old receiver live o o' r
     let up = keyed_up_to from ended least items before a b k len receiver live o r0 r1 r2 r3 line line1 key reads hear
     turn wa wb ka kb stands.measures ma mb mk in
     let kt : k.ticks ≡ up.next.ticks = tk ∙ tb ∙ ta ∙ stands.ticks ∙ sym up.ticks in
-    let t = tick up.next up.keeps kt up.measures up.key in
+    let t = tick up.next up.keeps kt
+    (subst (λ (w : ServeWords). Measures len w.rate k.meter up.next) (sym (wk ∙ wb ∙ wa)) up.measures) up.key in
     let to = ticked_to k.words busy (least / 96 - up.next.ticks) up.next t.next t.ticked in
     let passed : 96 * up.next.ticks ≤ least =
     (let p = stands.passed in let f = reads.forward in let at = up.ticks in omega (arith, p, f, at)) in
@@ -255,7 +260,7 @@ all_made from ended busy least items before a b k c len old receiver live o o' r
       ends = λ e. subst HaveEnded (sym reads.lanes ∙ up.lanes ∙ sym to.lanes) (reads.ends e);
       keeps = t.keeps;
       ticks = t.ticks;
-      measures = t.measures;
+      measures = subst (λ (w : ServeWords). Measures len w.rate c.meter t.next) (wk ∙ wb ∙ wa) t.measures;
       asked = to.asked ∙ up.asked;
       key = t.key;
       writes = writes_more before.failed k.failed c.failed live up.next t.next o o o' r0 r3 r4 up.writes t.writes;
@@ -288,11 +293,13 @@ whole_turn from ended before c d len receiver live o o' r0 r3 r4 told told' line
         lanes = m.lanes;
         hears = m.hears e;
         passed = m.makes.makes.passed;
-        measures = subst (λ (meter : Meter). Measures len meter next) (sym md) (record {
-          sound = m.measures.sound;
-          place = m.measures.place;
-          health = m.measures.health;
-        });
+        measures = subst (λ (w : ServeWords). Measures len w.rate d.meter next) (sym (wd ∙ wc))
+            (subst (λ (meter : Meter). Measures len before.words.rate meter next) (sym md) (record {
+              sound = m.measures.sound;
+              place = m.measures.place;
+              health = m.measures.health;
+              made = m.measures.made;
+            }));
       };
       over = m.ends;
       lanes = m.lanes;
@@ -308,9 +315,9 @@ whole_turn from ended before c d len receiver live o o' r0 r3 r4 told told' line
 -- ---- turns that are cut short
 
 -- a meter that stayed
-measured_so : (len : ℕ) (before after : Meter) (live next : Live) → after ≡ before → Measures len before live
-    → next.sound ≡ live.sound → HasMeasured len after next
-measured_so len before after live next same h sound = (
+measured_so : (len : ℕ) (rate : Rate) (before after : Meter) (live next : Live) → after ≡ before
+    → Measures len rate before live → next.sound ≡ live.sound → HasMeasured len after next
+measured_so len rate before after live next same h sound = (
   [],
   ap (λ (m : Meter). answers_of len m.reader) same ∙ h.sound ∙ sym sound ∙ sym (append-nil next.sound),
 )
@@ -320,13 +327,13 @@ pub cut_reading : (from : From) (before a : Turning) (len : ℕ) (receiver : Liv
     → KeyedSince from before live o r0 line
     → IsCutInReading before.words live (record live { lanes = answers_in len receiver }) → a.failed ≡ before.failed
     → a.words ≡ before.words → a.key ≡ before.key → r1 ≡ r0
-    → Measures len before.meter live → a.meter ≡ before.meter
+    → Measures len before.words.rate before.meter live → a.meter ≡ before.meter
     → IsCutOff from before a len receiver live o o r0 r1 told told line
 cut_reading from before a len receiver live o r0 r1 told line key cut failed words same_key same measures ma = record {
   next = record live { lanes = answers_in len receiver };
   cut = inl cut;
   lanes = refl;
-  measured = measured_so len before.meter a.meter live (record live { lanes = answers_in len receiver }) ma measures
+  measured = measured_so len before.words.rate before.meter a.meter live (record live { lanes = answers_in len receiver }) ma measures
       refl;
   key = keyed_same from before a (record live { lanes = answers_in len receiver }) o o r0 r1 line line refl same refl
       failed words same_key (record {
@@ -350,7 +357,7 @@ pub cut_hearing : (from : From) (ended : Bool) (least : ℕ) (items : List Candi
     → Reads ended least items before a len receiver live r0 r1
     → ((hosts : Hosts) → Keeps a.hosts hosts → HearsSome items a b hosts r1 r2)
     → a.words ≡ before.words → b.words ≡ a.words → a.key ≡ before.key → b.key ≡ a.key
-    → Measures len before.meter live → a.meter ≡ before.meter → b.meter ≡ a.meter
+    → Measures len before.words.rate before.meter live → a.meter ≡ before.meter → b.meter ≡ a.meter
     → IsCutOff from before b len receiver live o o r0 r2 told told line
 cut_hearing from ended least items before a b len receiver live o r0 r1 r2 told line key reads hear wa wb ka kb measures ma
     mb =
@@ -372,7 +379,7 @@ cut_hearing from ended least items before a b len receiver live o r0 r1 r2 told 
       next = next;
       cut = inr (inl cut);
       lanes = reads.lanes;
-      measured = measured_so len before.meter b.meter live next (mb ∙ ma) measures (ap (λ (l : Live). l.sound) is);
+      measured = measured_so len before.words.rate before.meter b.meter live next (mb ∙ ma) measures (ap (λ (l : Live). l.sound) is);
       key = keyed_heard from before b live next o r0 r2 line (wb ∙ wa) (kb ∙ ka) (ap (λ (l : Live). l.sent) is)
           (ap (λ (l : Live). l.whole) is) (ap (λ (l : Live). l.keyed) is)
           (reports_more before.failed a.failed b.failed live.hosts reads.read.hosts h.next r0 r1 r2 reads.writes h.writes)
@@ -392,8 +399,8 @@ pub cut_ticking : (from : From) (ended busy : Bool) (least : ℕ) (items : List 
     → ((hosts : Hosts) → Keeps a.hosts hosts → HearsFrames items a b hosts r1 r2)
     → ((live : Live) → Keeps b.hosts live.hosts → KeyedSince from b live o r2 line
     → TurnsTheKey from b k live o r2 r3 line1)
-    → ((live : Live) → Keeps k.hosts live.hosts → k.ticks ≡ live.ticks → Measures len k.meter live
-    → KeyedSince from k live o r3 line1
+    → ((live : Live) → Keeps k.hosts live.hosts → k.ticks ≡ live.ticks
+    → Measures len k.words.rate k.meter live → KeyedSince from k live o r3 line1
     → (count : ℕ) × (live.ticks + count ≤ least / 96) × Ticks from busy count len k c live o o' r3 r4 line2)
     → ((n : ℕ) → LanesListen n receiver → IsTrue busy ↔ IsBusyBy (listening_of receiver) (detection_of receiver) (answers_in n receiver))
     → detection_of receiver ≡ before.words.dcd
@@ -405,7 +412,8 @@ cut_ticking from ended busy least items before a b k c len old receiver live o o
     stands key reads hear turn tick carrier detection wa wb wk ka kb ta tb tk ma mb mk =
     let up = keyed_up_to from ended least items before a b k len receiver live o r0 r1 r2 r3 line line1 key reads hear
     turn wa wb ka kb stands.measures ma mb mk in
-    let t = tick up.next up.keeps (tk ∙ tb ∙ ta ∙ stands.ticks ∙ sym up.ticks) up.measures up.key in
+    let t = tick up.next up.keeps (tk ∙ tb ∙ ta ∙ stands.ticks ∙ sym up.ticks)
+    (subst (λ (w : ServeWords). Measures len w.rate k.meter up.next) (sym (wk ∙ wb ∙ wa)) up.measures) up.key in
     let to = ticked_to k.words busy t.0 up.next t.2.next t.2.ticked in
     let cut : IsCutInTicking before.words live t.2.next = record {
       ended = ended;
@@ -447,7 +455,7 @@ cut_serving from ended before c d len receiver live o o' r0 r3 r4 told told' lin
       next = m.made;
       cut = inr (inr (inr (ended, m.makes)));
       lanes = m.lanes;
-      measured = measured_so len c.meter d.meter m.made m.made md m.measures refl;
+      measured = measured_so len before.words.rate c.meter d.meter m.made m.made md m.measures refl;
       key = keyed_same from c d m.made o' o' r3 r4 line line refl same refl failed words key m.key;
       writes = writes_more before.failed c.failed d.failed live m.made m.made o o' o' r0 r3 r4
           m.writes (writes_nothing c.failed d.failed m.made m.made o' o' r3 r4 failed refl same refl refl);

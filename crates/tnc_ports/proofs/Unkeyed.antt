@@ -21,7 +21,7 @@ is_plain : (words : ServeWords) (busy : Bool) (before after : Live) → words.ke
     → IsTicked words busy before after → IsPlainTick words busy before after
 is_plain words busy before after none h =
     let k : (h.keyed ≡ before.keyed) × (h.whole ≡ before.whole) × (h.hosts ≡ h.made) =
-    subst (λ (key : Option KeyWords). TicksKeyIf key (octets_sent before) h.air.samples before.keyed h.keyed before.whole
+    subst (λ (key : Option KeyWords). TicksKeyIf key (octets_sent before) h.air.samples h.out before.keyed h.keyed before.whole
     h.whole h.made h.hosts) none h.key in
     let told : Hosts → Hosts = λ x. with_lines (health_lines (notes_in_tick words busy h.reads h.air before x)) x in
     record {
@@ -32,13 +32,16 @@ is_plain words busy before after none h =
       step = subst (λ (b : Bool). IsTickMade words.monitor b h.air before.hosts h.made)
           (busy_alone words busy before.keyed none) h.step;
       size = h.size;
+      out = h.out;
+      at_rate = h.at_rate;
       is = h.is
           ∙ ap (λ (x : List KeyEvent). record before {
             hosts = told h.hosts;
             keyed = x;
             whole = h.whole;
             ticks = before.ticks + 1;
-            sent = before.sent ++ h.air.samples;
+            samples = before.samples ++ h.air.samples;
+            sent = before.sent ++ h.out;
             sound = before.sound ++ h.reads;
             health = health_after_tick words busy h.reads h.air before h.hosts;
           }) k.0
@@ -46,14 +49,16 @@ is_plain words busy before after none h =
             hosts = told h.hosts;
             whole = x;
             ticks = before.ticks + 1;
-            sent = before.sent ++ h.air.samples;
+            samples = before.samples ++ h.air.samples;
+            sent = before.sent ++ h.out;
             sound = before.sound ++ h.reads;
             health = health_after_tick words busy h.reads h.air before h.hosts;
           }) k.1
           ∙ ap (λ (x : Hosts). record before {
             hosts = told x;
             ticks = before.ticks + 1;
-            sent = before.sent ++ h.air.samples;
+            samples = before.samples ++ h.air.samples;
+            sent = before.sent ++ h.out;
             sound = before.sound ++ h.reads;
             health = health_after_tick words busy h.reads h.air before x;
           }) k.2;
@@ -69,10 +74,12 @@ of_plain words busy before after none h = record {
   step = subst (λ (b : Bool). IsTickMade words.monitor b h.air before.hosts h.hosts)
       (sym (busy_alone words busy before.keyed none)) h.step;
   size = h.size;
+  out = h.out;
+  at_rate = h.at_rate;
   keyed = before.keyed;
   whole = before.whole;
   hosts = h.hosts;
-  key = subst (λ (key : Option KeyWords). TicksKeyIf key (octets_sent before) h.air.samples before.keyed before.keyed
+  key = subst (λ (key : Option KeyWords). TicksKeyIf key (octets_sent before) h.air.samples h.out before.keyed before.keyed
       before.whole before.whole h.hosts h.hosts) (sym none) (refl, refl, refl);
   is = h.is;
 }

@@ -1,4 +1,4 @@
--- What the code keeps of the reader of the sound and of what is counted. No public clause cites this.
+-- What the code keeps of the reader of the sound, of what is counted and of the sound that goes out. No public clause cites this.
 use Rattle.std.specs.Prelude.{◌≡◌, ℕ, Bool, List, [], ◌∷◌, ◌++◌, Option, Some, None}
 use Rattle.sample_ring.specs.declared.got.Got.{Got}
 use Rattle.sample_ring.specs.declared.reader.Reader.{Reader}
@@ -11,6 +11,8 @@ use Rattle.slicer_bank.specs.RingLanes.{answers_of}
 use Rattle.slicer_bank.specs.RingTurns.{reads_on}
 use Rattle.tnc_ports.specs.declared.meter.Meter.{Meter}
 use Rattle.host_ports.specs.Health.{after_answer, new_health}
+use Rattle.sound_rate.specs.declared.rate.Rate.{Rate}
+use Rattle.sound_rate.specs.HeldRates.{HasMade}
 use Rattle.tnc_ports.specs.Measured.{place_after}
 use Rattle.tnc_ports.specs.Sampled.{Live}
 
@@ -21,6 +23,7 @@ pub record ReadsOnce (len : ℕ) (on : Bool) (before after : Meter) : Type 0 whe
   pub place : position_of after.reader ≡ next got
   pub forward : GoesForward (position_of before.reader) got
   pub health : after.health ≡ after_answer before.health got
+  pub out : after.out ≡ before.out
   pub goes_on : on ≡ reads_on got
 
 -- the reader of the sound, which has read nothing of a ring
@@ -41,11 +44,12 @@ abbrev pub answers_if : ℕ → LiveReceiver → Option Reader → List (List Go
 answers_if len receiver None = answers_in len receiver
 answers_if len receiver (Some reader) = answers_with len receiver reader
 
--- the meter stands for what a run was answered and has counted
-pub record Measures (len : ℕ) (meter : Meter) (live : Live) : Type 0 where
+-- the meter stands for what a run was answered, has counted and has made to be sent at a rate
+pub record Measures (len : ℕ) (rate : Rate) (meter : Meter) (live : Live) : Type 0 where
   pub sound : answers_of len meter.reader ≡ live.sound
   pub place : position_of meter.reader ≡ place_after 0 live.sound
   pub health : meter.health ≡ live.health
+  pub made : HasMade rate meter.out live.samples
 
 -- and its reader was perhaps answered more
 abbrev pub HasMeasured : ℕ → Meter → Live → Type 0

@@ -3,6 +3,7 @@
 use Rattle.std.specs.Prelude.{◌≡◌, ℕ, ℤ, true, false, List, [], ◌∷◌, ◌++◌, length, Option, Some, None}
 use Rattle.std.specs.List.{list_all}
 use Rattle.tnc_base.specs.Streams.{WrotePart}
+use Rattle.sound_rate.specs.Rates.{written_at}
 use Rattle.keying.specs.Keyed.{failed}
 use Rattle.keying.specs.Laws.{newest_keys}
 use Rattle.key_port.specs.KeyEvents.{KeyEvent, lines_of, marks_of, reports_of}
@@ -21,16 +22,16 @@ use Rattle.tnc_ports.specs.SampledRun.{Outside}
 -- ---- where a tick stands among what the key does
 
 -- What the key has done when the samples of a tick are written: it was told of the tick, and did what that asks for.
-abbrev pub events_told : (key : Option KeyWords) (octets : ℕ) (samples : List ℤ) (keyed new : List KeyEvent)
-    (whole told : Whole) (before after : Hosts) → TicksKeyIf key octets samples keyed new whole told before after
+abbrev pub events_told : (key : Option KeyWords) (octets : ℕ) (samples out : List ℤ) (keyed new : List KeyEvent)
+    (whole told : Whole) (before after : Hosts) → TicksKeyIf key octets samples out keyed new whole told before after
     → List KeyEvent
-events_told None octets samples keyed new whole told before after h = keyed
-events_told (Some key) octets samples keyed new whole told before after h = h.between
+events_told None octets samples out keyed new whole told before after h = keyed
+events_told (Some key) octets samples out keyed new whole told before after h = h.between
 
 abbrev pub events_at : (words : ServeWords) → RunTick words → List KeyEvent
 events_at words tick =
-    events_told words.key (octets_sent tick.before) tick.made.air.samples tick.before.keyed tick.made.keyed
-    tick.before.whole tick.made.whole tick.made.made tick.made.hosts tick.made.key
+    events_told words.key (octets_sent tick.before) tick.made.air.samples tick.made.out tick.before.keyed
+    tick.made.keyed tick.before.whole tick.made.whole tick.made.made tick.made.hosts tick.made.key
 
 -- these events, and others after them
 pub record GoesOnFrom (events older : List KeyEvent) : Type 0 where
@@ -75,8 +76,8 @@ pub record SoundsKeyed (words : ServeWords) (key : KeyWords) (start : ℕ) (was 
 -- Of a run with these ticks, from a line without a connection and an output with these octets on:
 pub record IsKeyedRun (words : ServeWords) (key : KeyWords) (was : List KeyLine) (out : List ℕ) (after : Outside)
     (ticks : List (RunTick words)) : Type 0 where
-  -- the output has the samples of the ticks, or a first part of them
-  pub written : WrotePart out (output_octets (samples_of words ticks)) after.output
+  -- the output has what goes out for the samples of the ticks, at its rate, or a first part of that
+  pub written : WrotePart out (output_octets (written_at words.rate (samples_of words ticks))) after.output
   -- no tick with sound is without a key
   pub sounds : EachTick words (λ tick older. sounds_in words tick ≡ true
       → SoundsKeyed words key (length out) was tick older) ticks

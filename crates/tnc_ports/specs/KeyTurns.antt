@@ -62,22 +62,22 @@ told_whole fault octets lines whole = if fault then whole else record { octets =
 
 -- ---- a tick
 
--- The machine is told whether the samples have sound before they are written, and after them whether a write of the
--- output or of the report has failed by now. If none has, the output has them all by then.
-pub record TicksKey (key : KeyWords) (octets : ℕ) (samples : List ℤ) (keyed new : List KeyEvent) (whole told : Whole)
-    (before after : Hosts) : Type 0 where
+-- The machine is told whether the samples have sound before what goes out for them is written, and after that whether a
+-- write of the output or of the report has failed by now. If none has, the output has it all by then.
+pub record TicksKey (key : KeyWords) (octets : ℕ) (samples out : List ℤ) (keyed new : List KeyEvent)
+    (whole told : Whole) (before after : Hosts) : Type 0 where
   pub between : List KeyEvent
   pub reached : Hosts
   pub tick : CallsKey key octets (Tick (has_sound samples)) keyed between before reached
   pub fault : Bool
   pub had : ℕ
-  pub all : fault ≡ false → had ≡ octets + 2 * length samples
+  pub all : fault ≡ false → had ≡ octets + 2 * length out
   pub write : CallsKey key had (AfterWrite fault) between new reached after
-  pub tells : told ≡ told_whole fault (octets + 2 * length samples) (length reached.report) whole
+  pub tells : told ≡ told_whole fault (octets + 2 * length out) (length reached.report) whole
 
-abbrev pub TicksKeyIf : Option KeyWords → ℕ → List ℤ → List KeyEvent → List KeyEvent → Whole → Whole → Hosts → Hosts
-    → Type 0
-TicksKeyIf None octets samples keyed new whole told before after =
+abbrev pub TicksKeyIf : Option KeyWords → ℕ → List ℤ → List ℤ → List KeyEvent → List KeyEvent → Whole → Whole → Hosts
+    → Hosts → Type 0
+TicksKeyIf None octets samples out keyed new whole told before after =
     (new ≡ keyed) × (told ≡ whole) × (after ≡ before)
-TicksKeyIf (Some key) octets samples keyed new whole told before after =
-    TicksKey key octets samples keyed new whole told before after
+TicksKeyIf (Some key) octets samples out keyed new whole told before after =
+    TicksKey key octets samples out keyed new whole told before after

@@ -1,6 +1,7 @@
 pub mod OddOctet
 pub mod Inlet
 pub mod Pumped
+pub mod HeldPump
 pub mod PumpRun
 pub mod Starts
 pub mod StepShuts

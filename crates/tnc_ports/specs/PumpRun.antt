@@ -1,5 +1,6 @@
 -- What a pump makes of its input and of its ring.
 use Rattle.std.specs.Prelude.{◌≡◌, ℕ, List, Option, Some}
+use Rattle.sound_rate.specs.declared.rate.Rate.{Rate}
 use Rattle.tnc_base.specs.Faults.{HasRisen}
 use Rattle.sample_ring.specs.declared.ring.Ring.{Ring}
 use Rattle.sample_ring.specs.Ends.{ring_id, done_ring, all_published}
@@ -22,9 +23,9 @@ ReadFaults InputEnd before after = after.faults ≡ before.faults
 ReadFaults ReadFault before after = HasRisen before.faults after.faults
 ReadFaults TooLong before after = after.faults ≡ before.faults
 
--- the ring is ended, and has the samples of what was read
-pub record Pumps (ring : Ring) (pumped : Pumped) (input left : InputSide) : Type 0 where
+-- the ring is ended, and has the modem's samples of what was read
+pub record Pumps (rate : Rate) (ring : Ring) (pumped : Pumped) (input left : InputSide) : Type 0 where
   pub ended : done_ring pumped.done ≡ ring_id ring
   pub samples : (octets : List ℕ) → input.left ≡ Some octets
-      → IsPumped octets left.left (all_published pumped.done) pumped.end
+      → IsPumped rate octets left.left (all_published pumped.done) pumped.end
   pub faults : ReadFaults pumped.end input left

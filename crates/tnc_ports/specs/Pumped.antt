@@ -1,5 +1,7 @@
 -- What a pump has done when it stops: which octets it read, and what it published of them.
 use Rattle.std.specs.Prelude.{◌≡◌, ℕ, ℤ, ◌+◌, ◌^◌, ◌≤◌, List, [], ◌++◌, length, Option, Some}
+use Rattle.sound_rate.specs.declared.rate.Rate.{Rate}
+use Rattle.sound_rate.specs.Rates.{received}
 use Rattle.wav_file.specs.Samples.{samples}
 use Rattle.tnc_ports.specs.declared.pumping.PumpEnd.{PumpEnd}
 use Rattle.tnc_ports.specs.declared.pumping.PumpEnd.TheVariants.{InputEnd, ReadFault, TooLong}
@@ -14,11 +16,12 @@ StopsAt InputEnd read rest = (rest ≡ []) × (length read ≤ most_input)
 StopsAt ReadFault read rest = length read ≤ most_input
 StopsAt TooLong read rest = length read ≡ most_input + 1
 
--- Of these octets a first part was read and the rest is left, and the samples of what was read are published.
-pub record IsPumped (octets : List ℕ) (left : Option (List ℕ)) (published : List ℤ) (end : PumpEnd) : Type 0 where
+-- Of these octets a first part was read and the rest is left, and the modem's samples of what was read are published.
+pub record IsPumped (rate : Rate) (octets : List ℕ) (left : Option (List ℕ)) (published : List ℤ) (end : PumpEnd)
+    : Type 0 where
   pub read : List ℕ
   pub rest : List ℕ
   pub parts : octets ≡ read ++ rest
   pub left_over : left ≡ Some rest
-  pub samples_read : published ≡ samples read
+  pub samples_read : published ≡ received rate (samples read)
   pub stop : StopsAt end read rest

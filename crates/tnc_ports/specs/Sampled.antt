@@ -14,6 +14,7 @@ use Rattle.slicer_bank.specs.RingTurns.{MeetsEnd}
 use Rattle.live_receiver.specs.Listening.{AreDueBy, IsBusyBy, readers_wanted}
 use Rattle.ring_receiver.specs.Turns.{IsTurnOf}
 use Rattle.channel_access.specs.declared.air_tick.AirTick.{AirTick}
+use Rattle.sound_rate.specs.Rates.{written_at}
 use Rattle.host_ports.specs.declared.report_line.ReportLine.{ReportLine}
 use Rattle.host_ports.specs.declared.report_line.ReportLine.TheVariants.{GapLine}
 use Rattle.tnc_ports.specs.declared.serve_words.ServeWords.{ServeWords}
@@ -36,6 +37,8 @@ pub record Live : Type 0 where
   pub lanes : List (List Got)
   -- how many ticks were made, and their samples
   pub ticks : ℕ
+  pub samples : List ℤ
+  -- what the output was sent for these, at its rate
   pub sent : List ℤ
   -- what the ports were asked and gave, turn by turn
   pub asked : List Asked
@@ -54,6 +57,7 @@ new_live words = record {
   hosts = new_hosts words.config words.seed;
   lanes = replicate (readers_wanted words.listening) [];
   ticks = 0;
+  samples = [];
   sent = [];
   asked = [];
   keyed = [];
@@ -139,16 +143,20 @@ pub record IsTicked (words : ServeWords) (busy : Bool) (before after : Live) : T
   pub made : Hosts
   pub step : IsTickMade words.monitor (busy || is_held words.key before.keyed) air before.hosts made
   pub size : length air.samples ≡ tick_samples
+  -- what goes out for its samples, at the output's rate
+  pub out : List ℤ
+  pub at_rate : written_at words.rate (before.samples ++ air.samples) ≡ written_at words.rate before.samples ++ out
   pub keyed : List KeyEvent
   pub whole : Whole
   pub hosts : Hosts
-  pub key : TicksKeyIf words.key (octets_sent before) air.samples before.keyed keyed before.whole whole made hosts
+  pub key : TicksKeyIf words.key (octets_sent before) air.samples out before.keyed keyed before.whole whole made hosts
   pub is : after ≡ record before {
     hosts = with_lines (health_lines (notes_in_tick words busy reads air before hosts)) hosts;
     keyed = keyed;
     whole = whole;
     ticks = before.ticks + 1;
-    sent = before.sent ++ air.samples;
+    samples = before.samples ++ air.samples;
+    sent = before.sent ++ out;
     sound = before.sound ++ reads;
     health = health_after_tick words busy reads air before hosts;
   }

@@ -99,7 +99,7 @@ pub record StandsForLive (turning : Turning) (len : ℕ) (receiver : LiveReceive
   pub lanes : answers_in len receiver ≡ live.lanes
   pub hears : Hears len receiver
   pub passed : tick_samples * live.ticks ≤ least_position live.lanes
-  pub measures : Measures len turning.meter live
+  pub measures : Measures len turning.words.rate turning.meter live
 
 -- ---- frames
 
@@ -184,7 +184,7 @@ pub record TicksAll (from : From) (busy : Bool) (count len : ℕ) (before after 
   pub writes : WritesMore before.failed after.failed live next output output' report report'
   pub keeps : Keeps after.hosts next.hosts
   pub ticks : after.ticks ≡ next.ticks
-  pub measures : Measures len after.meter next
+  pub measures : Measures len before.words.rate after.meter next
 
 -- ---- hosts
 
@@ -228,7 +228,7 @@ pub record Makes (from : From) (ended : Bool) (before after : Turning) (len : �
   pub ends : ended ≡ true → HaveEnded made.lanes
   pub keeps : Keeps after.hosts made.hosts
   pub ticks : after.ticks ≡ made.ticks
-  pub measures : Measures len after.meter made
+  pub measures : Measures len before.words.rate after.meter made
   pub asked : made.asked ≡ live.asked
   pub key : KeyedSince from after made output' report' line'
   pub writes : WritesMore before.failed after.failed live made output output' report report'

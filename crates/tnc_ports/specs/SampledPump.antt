@@ -3,6 +3,7 @@ use Rattle.std.specs.Prelude.{◌≡◌, ℕ, ℤ, Bool, true, false, List, [], 
 use Rattle.sample_ring.specs.declared.got.Got.{Got}
 use Rattle.sample_ring.specs.declared.ring.Ring.{Ring}
 use Rattle.sample_ring.specs.Ends.{ring_id, writer_ring, published_by}
+use Rattle.sound_rate.specs.declared.rate.Rate.{Rate}
 use Rattle.tnc_ports.specs.declared.looping.LoopEnd.{LoopEnd}
 use Rattle.tnc_ports.specs.declared.pump_run.Pumping.{Pumping}
 use Rattle.tnc_ports.specs.declared.pump_run.Pumping.TheVariants.{Before, After, Nothing}
@@ -22,15 +23,16 @@ IsWriting ring (After pumped token) = ⊥
 IsWriting ring Nothing = ⊥
 
 -- the pump ran exactly if it was to begin
-abbrev pub IsPumpedIf : Bool → Ring → Option Pumped → InputSide → InputSide → Type 0
-IsPumpedIf begins ring (Some pumped) input left = (begins ≡ true) × Pumps ring pumped input left
-IsPumpedIf begins ring None input left = (begins ≡ false) × (left ≡ input)
+abbrev pub IsPumpedIf : Bool → Rate → Ring → Option Pumped → InputSide → InputSide → Type 0
+IsPumpedIf begins rate ring (Some pumped) input left = (begins ≡ true) × Pumps rate ring pumped input left
+IsPumpedIf begins rate ring None input left = (begins ≡ false) × (left ≡ input)
 
 -- and a lock says whether it was
-abbrev pub HasRun : ℕ → Ring → Pumping → InputSide → InputSide → Type 0
-HasRun lock ring (Before writer) input left = ⊥
-HasRun lock ring (After pumped token) input left = (token.of ≡ lock) × IsPumpedIf token.value ring pumped input left
-HasRun lock ring Nothing input left = ⊥
+abbrev pub HasRun : ℕ → Rate → Ring → Pumping → InputSide → InputSide → Type 0
+HasRun lock rate ring (Before writer) input left = ⊥
+HasRun lock rate ring (After pumped token) input left =
+    (token.of ≡ lock) × IsPumpedIf token.value rate ring pumped input left
+HasRun lock rate ring Nothing input left = ⊥
 
 -- the turns are made exactly if the pump begins
 abbrev pub IsLoopedIf : Bool → ServeWords → LoopEnd → List (List Got) → Outside → Outside → Type 0
@@ -38,10 +40,11 @@ IsLoopedIf true words end lanes before after = IsLooped words end lanes before a
 IsLoopedIf false words end lanes before after = after ≡ before
 
 -- the ring is closed after the loop and the pump
-pub record IsClosed (loop : LoopEnd) (end : ServeEnd) (lanes : List (List Got)) (input left : InputSide) : Type 0 where
+pub record IsClosed (rate : Rate) (loop : LoopEnd) (end : ServeEnd) (lanes : List (List Got)) (input left : InputSide)
+    : Type 0 where
   pub pump : PumpEnd
   pub published : List ℤ
-  pub pumped : (octets : List ℕ) → input.left ≡ Some octets → IsPumped octets left.left published pump
+  pub pumped : (octets : List ℕ) → input.left ≡ Some octets → IsPumped rate octets left.left published pump
   pub faults : ReadFaults pump input left
   pub stand : LanesStandIn published lanes
   pub ends : end ≡ end_of loop pump

@@ -13,6 +13,7 @@ use Rattle.key_port.specs.KeyEvents.{KeyEvent, marks_of, lines_of}
 use Rattle.key_port.specs.KeyFaults.{has_failed}
 use Rattle.key_port.specs.KeyLines.{KeyLine}
 use Rattle.key_port.specs.KeyTasks.{LineTold, line_told, CountsIf}
+use Rattle.sound_rate.specs.Rates.{written_at}
 use Rattle.tnc_base.specs.Faults.{HasRisen}
 use Rattle.tnc_base.specs.Streams.{WrotePart}
 use Rattle.host_ports.specs.declared.records.Listen.{Listen}
@@ -183,7 +184,12 @@ abbrev pub key_failed : Option KeyWords → Live → Bool
 key_failed None live = false
 key_failed (Some key) live = failed (marks_of key.words live.keyed)
 
--- The output is the samples of the ticks, the report is its lines, and no write failed.
+-- Each tick has its samples, and what was sent is what goes out for them, at the output's rate.
+pub record AreSamplesSent (words : ServeWords) (live : Live) : Type 0 where
+  pub size : length live.samples ≡ tick_samples * live.ticks
+  pub at_rate : live.sent ≡ written_at words.rate live.samples
+
+-- The output is what was sent for the ticks, the report is its lines, and no write failed.
 pub record AllIsWritten (live : Live) (before after : Outside) : Type 0 where
   pub output : GrowsBy (output_octets live.sent) before.output after.output
   pub report : GrowsBy (report_text live.hosts.report) before.report after.report
@@ -211,7 +217,7 @@ pub record IsWhole (words : ServeWords) (answers : List (List Got)) (live : Live
   pub shuts : AreShutInTurns live.asked live.hosts
   pub all_shut : live.hosts.to_shut ≡ []
   pub gaps : AreAllGaps words live
-  pub size : length live.sent ≡ tick_samples * live.ticks
+  pub samples : AreSamplesSent words live
 
 -- A turn that has made its ticks is cut short when it serves its hosts: the ports were asked so.
 pub record IsCutInServing (words : ServeWords) (before made : Live) (asked : Asked) (reached : Hosts) : Type 0 where
@@ -240,7 +246,7 @@ pub record IsCut (words : ServeWords) (answers : List (List Got)) (live : Live) 
   pub sends : AreSentInTurns turns reached
   pub shuts : AreShutInTurns turns reached
   pub gaps : AreFirstGaps words live
-  pub size : length live.sent ≡ tick_samples * live.ticks
+  pub samples : AreSamplesSent words live
 
 -- All is written, and the key was never told otherwise.
 pub record AllIsWrittenAsTold (key : Option KeyWords) (live : Live) (before after : Outside) : Type 0 where

@@ -72,8 +72,8 @@ pub record HasNoPort (before after : Outside) : Type 0 where
   pub only : OnlyListens before after
   pub failed : HasRisen before.port_faults after.port_faults
 
--- The ports are opened. The pump publishes the samples of what it reads of the input, and beside it the loop's readers
--- read what is published.
+-- The ports are opened. The pump publishes the modem's samples of what it reads of the input, and beside it the loop's
+-- readers read what is published.
 pub record HasServed (words : ServeWords) (end : ServeEnd) (input left : InputSide) (before after : Outside)
     : Type 0 where
   pub open_ports : Outside
@@ -83,7 +83,7 @@ pub record HasServed (words : ServeWords) (end : ServeEnd) (input left : InputSi
   pub looped : IsLooped words loop lanes open_ports after
   pub pump : PumpEnd
   pub published : List ℤ
-  pub pumped : (octets : List ℕ) → input.left ≡ Some octets → IsPumped octets left.left published pump
+  pub pumped : (octets : List ℕ) → input.left ≡ Some octets → IsPumped words.rate octets left.left published pump
   pub faults : ReadFaults pump input left
   pub stand : LanesStandIn published lanes
   pub ends : end ≡ end_of loop pump

@@ -1,7 +1,8 @@
 -- A tick of a live station that keys no transmitter.
-use Rattle.std.specs.Prelude.{◌≡◌, ◌+◌, ◌*◌, ◌++◌, Bool, List, length}
+use Rattle.std.specs.Prelude.{◌≡◌, ◌+◌, ◌*◌, ◌++◌, ℤ, Bool, List, length}
 use Rattle.sample_ring.specs.declared.got.Got.{Got}
 use Rattle.channel_access.specs.declared.air_tick.AirTick.{AirTick}
+use Rattle.sound_rate.specs.Rates.{written_at}
 use Rattle.tnc_ports.specs.declared.serve_words.ServeWords.{ServeWords}
 use Rattle.tnc_ports.specs.HealthNotes.{health_lines}
 use Rattle.tnc_ports.specs.Measured.{ReadsTo, place_after}
@@ -18,10 +19,13 @@ pub record IsPlainTick (words : ServeWords) (busy : Bool) (before after : Live) 
   pub hosts : Hosts
   pub step : IsTickMade words.monitor busy air before.hosts hosts
   pub size : length air.samples ≡ tick_samples
+  pub out : List ℤ
+  pub at_rate : written_at words.rate (before.samples ++ air.samples) ≡ written_at words.rate before.samples ++ out
   pub is : after ≡ record before {
     hosts = with_lines (health_lines (notes_in_tick words busy reads air before hosts)) hosts;
     ticks = before.ticks + 1;
-    sent = before.sent ++ air.samples;
+    samples = before.samples ++ air.samples;
+    sent = before.sent ++ out;
     sound = before.sound ++ reads;
     health = health_after_tick words busy reads air before hosts;
   }

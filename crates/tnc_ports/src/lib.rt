@@ -19,6 +19,7 @@ mod pumping;
 mod real_live;
 mod releasing;
 mod report_lines;
+mod samples_out;
 mod serve_words;
 mod serving;
 mod sound;

@@ -17,6 +17,7 @@ use host_ports::{Health, HostSide, Ports};
 use key_port::KeyPort;
 use live_receiver::LiveReceiver;
 use sample_ring::{Reader, Ring};
+use sound_rate::Outgoing;
 use std::alloc::Global;
 use std::net::Net;
 use std::sync::Wait;
@@ -79,6 +80,7 @@ pub fn station_loop<R: Threads + Wait + Net + Sync, O: Sink, E: Sink, N: Ports, 
         meter: Meter {
             reader,
             health: Health::new(),
+            out: Outgoing::new(words.rate),
         },
     };
     let end = run(rt, &mut turning, ring, receiver, output, report, ports, key);

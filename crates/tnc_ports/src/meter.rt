@@ -9,12 +9,15 @@ ghost use Rattle.tnc_ports.specs.Measured.{ReadsTo, place_after};
 
 use host_ports::Health;
 use sample_ring::{Got, Reader, Ring};
+use sound_rate::Outgoing;
 
-/// A reader of the ring, and what was counted. It reads all samples of a tick before the tick is made.
+/// A reader of the ring, what was counted, and what makes the samples that go out. It reads all samples of a tick before
+/// the tick is made.
 #[derive(Drop)]
 pub struct Meter {
     pub(crate) reader: Reader,
     pub(crate) health: Health,
+    pub(crate) out: Outgoing,
 }
 
 impl Meter {
@@ -27,6 +30,7 @@ impl Meter {
             ≡ answers_of (ring_len ring.now) self.old.reader ++ reads)
             × (position_of self.new.reader ≡ place_after (position_of self.old.reader) reads)
             × (self.new.health ≡ after_answers reads self.old.health) }
+        ensures out { self.new.out ≡ self.old.out }
     {
         for _ in self.reader.at()..to {
             if self.reader.at() >= to {

@@ -3,6 +3,7 @@ ghost use Rattle.std.specs.Prelude.{◌≡◌, Bool, List, [], ◌≤◌, Some, 
 ghost use Rattle.std.specs.Thread.{IsSync};
 ghost use Rattle.sample_ring.specs.Ends.{ring_id, writer_ring, published_by};
 ghost use Rattle.sample_ring.specs.declared.ring.Ring.{Ring};
+ghost use Rattle.sound_rate.specs.declared.rate.Rate.{Rate};
 ghost use Rattle.tnc_ports.specs.PumpRun.{InputSide, input_by, Pumps};
 ghost use Rattle.tnc_ports.specs.SampledPump.{IsWriting, IsPumpedIf, HasRun};
 ghost use Rattle.tnc_ports.specs.Starts.{CountsUnless, lock_of};
@@ -11,6 +12,7 @@ use crate::pumping::{Pumped, pump};
 use crate::spawner::{Spawner, beside};
 use crate::starting::Start;
 use sample_ring::{Ring, Writer};
+use sound_rate::Rate;
 use std::mem;
 use std::sync::{OnceToken, Wait};
 use std::thread::Threads;
@@ -30,6 +32,7 @@ pub fn pump_beside<R: Threads + Wait + Sync, I: Source + Send, W: Spawner, J: Fn
     rt: &R,
     ring: &Ring,
     writer: Writer,
+    rate: Rate,
     input: &mut I,
     spawner: &mut W,
     job: &mut J,
@@ -37,7 +40,7 @@ pub fn pump_beside<R: Threads + Wait + Sync, I: Source + Send, W: Spawner, J: Fn
     requires ring { writer_ring writer ≡ ring_id ring.now }
     requires new { published_by writer ≡ [] }
     requires job { (begins : Bool) → J.pre job.old begins }
-    ensures pumped { IfSome result (λ pumped. Pumps ring.now pumped (input_by I.left I.faults input.old)
+    ensures pumped { IfSome result (λ pumped. Pumps rate ring.now pumped (input_by I.left I.faults input.old)
         (input_by I.left I.faults input.new)) }
     ensures unread { IsNone result → input_by I.left I.faults input.new ≡ input_by I.left I.faults input.old }
     ensures told { J.step job.old (is_some result) tt job.new }
@@ -49,6 +52,7 @@ pub fn pump_beside<R: Threads + Wait + Sync, I: Source + Send, W: Spawner, J: Fn
     run(
         rt,
         ring,
+        rate,
         &start,
         &mut pumping,
         &mut told,
@@ -63,6 +67,7 @@ pub fn pump_beside<R: Threads + Wait + Sync, I: Source + Send, W: Spawner, J: Fn
 fn run<'a, R: Threads + Wait + Sync, I: Source + Send, W: Spawner, J: FnMut(bool)>(
     rt: &R,
     ring: &Ring,
+    rate: Rate,
     start: &'a Start,
     pumping: &mut Pumping<'a>,
     told: &mut Option<OnceToken<'a, bool>>,
@@ -72,7 +77,7 @@ fn run<'a, R: Threads + Wait + Sync, I: Source + Send, W: Spawner, J: FnMut(bool
 )
     requires writing { IsWriting ring.now pumping.old }
     requires job { (begins : Bool) → J.pre job.old begins }
-    ensures pumped { HasRun (lock_of start.now) ring.now pumping.new (input_by I.left I.faults input.old)
+    ensures pumped { HasRun (lock_of start.now) rate ring.now pumping.new (input_by I.left I.faults input.old)
         (input_by I.left I.faults input.new) }
     ensures told { IfSome told.new (λ token. (token.of ≡ lock_of start.now)
         × J.step job.old token.value tt job.new
@@ -85,9 +90,9 @@ fn run<'a, R: Threads + Wait + Sync, I: Source + Send, W: Spawner, J: FnMut(bool
         order,
         &mut ||
             requires { IsSync R.row × IsWriting ring.now pumping.now }
-            ensures { HasRun (lock_of start.entry.now) ring.entry.now pumping.exit.now
+            ensures { HasRun (lock_of start.entry.now) rate ring.entry.now pumping.exit.now
                 (input_by I.left I.faults input.entry.now) (input_by I.left I.faults input.exit.now) }
-        { pump_once(rt, ring, start, pumping, input) },
+        { pump_once(rt, ring, rate, start, pumping, input) },
         &mut ||
             requires { IsSync R.row × ((begins : Bool) → J.pre job.now begins) }
             ensures { IsSome told.exit.now × IfSome told.exit.now (λ token. (token.of ≡ lock_of start.entry.now)
@@ -117,18 +122,19 @@ fn tell<'a, R: Wait, W: Spawner, J: FnMut(bool)>(
 fn pump_once<'a, R: Wait, I: Source>(
     rt: &R,
     ring: &Ring,
+    rate: Rate,
     start: &'a Start,
     pumping: &mut Pumping<'a>,
     input: &mut I,
 )
     requires { IsWriting ring.now pumping.old }
-    ensures { HasRun (lock_of start.now) ring.now pumping.new (input_by I.left I.faults input.old)
+    ensures { HasRun (lock_of start.now) rate ring.now pumping.new (input_by I.left I.faults input.old)
         (input_by I.left I.faults input.new) }
 {
     match mem::replace(pumping, Pumping::Nothing) {
         Pumping::Before(writer) => {
             let token = start.begin(rt);
-            let pumped = pump_if(start.begins(&token), ring, writer, input);
+            let pumped = pump_if(start.begins(&token), ring, writer, rate, input);
             *pumping = Pumping::After(pumped, token);
         }
         Pumping::After(_pumped, _token) => {}
@@ -137,14 +143,20 @@ fn pump_once<'a, R: Wait, I: Source>(
 }
 
 /// Pumps if the pump begins.
-fn pump_if<I: Source>(begins: bool, ring: &Ring, writer: Writer, input: &mut I) -> Option<Pumped>
+fn pump_if<I: Source>(
+    begins: bool,
+    ring: &Ring,
+    writer: Writer,
+    rate: Rate,
+    input: &mut I,
+) -> Option<Pumped>
     requires ring { writer_ring writer ≡ ring_id ring.now }
     requires new { published_by writer ≡ [] }
-    ensures { IsPumpedIf begins ring.now result (input_by I.left I.faults input.old)
+    ensures { IsPumpedIf begins rate ring.now result (input_by I.left I.faults input.old)
         (input_by I.left I.faults input.new) }
 {
     if begins {
-        Some(pump(input, ring, writer))
+        Some(pump(input, ring, writer, rate))
     } else {
         None
     }
@@ -156,11 +168,12 @@ fn settle<'a>(
     pumping: Pumping<'a>,
     told: Option<OnceToken<'a, bool>>,
 ) -> Option<Pumped>
-    requires ran { (ring : Ring) × (input : InputSide) × (left : InputSide)
-        × HasRun (lock_of start.now) ring pumping input left }
+    requires ran { (rate : Rate) × (ring : Ring) × (input : InputSide) × (left : InputSide)
+        × HasRun (lock_of start.now) rate ring pumping input left }
     requires told { IsSome told × IfSome told (λ token. token.of ≡ lock_of start.now) }
-    ensures pumped { (ring : Ring) (input left : InputSide) → HasRun (lock_of start.now) ring pumping.entry input left
-        → IsPumpedIf (is_some result) ring result input left }
+    ensures pumped { (rate : Rate) (ring : Ring) (input left : InputSide)
+        → HasRun (lock_of start.now) rate ring pumping.entry input left
+        → IsPumpedIf (is_some result) rate ring result input left }
     ensures told { IfSome told.entry (λ token. token.value ≡ is_some result) }
 {
     match (pumping, told) {

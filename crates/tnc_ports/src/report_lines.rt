@@ -1,10 +1,9 @@
 //! The text of the report's lines.
-ghost use Rattle.std.specs.Prelude.{◌≡◌, ◌++◌, [], ◌∷◌, IfOk, OnOk, length, map, string_bytes};
+ghost use Rattle.std.specs.Prelude.{◌≡◌, ◌++◌, [], ◌∷◌, IfOk, OnOk, map, string_bytes};
 ghost use Rattle.tnc_ports.specs.HealthNotes.{dead_note, dropped_note, health_line, health_lines, stats_note};
-ghost use Rattle.tnc_ports.specs.ReportText.{counts_text, ended_line, frames_text, note_text, output_octets, report_text};
+ghost use Rattle.tnc_ports.specs.ReportText.{counts_text, ended_line, frames_text, note_text, report_text};
 ghost use Rattle.tnc_ports.specs.ReportText.{sound_text};
 
-use byteorder::{ByteOrder, LittleEndian};
 use host_ports::{Counts, HealthNote, HealthNotes, ReportLine};
 use std::alloc::Global;
 use tnc_base::{Octets, OutOfMemory};
@@ -171,14 +170,4 @@ fn shown(alloc: Global, word: &[u8], text: &Octets) -> Result<Vec<u8>, OutOfMemo
     line.extend_from_slice(text.as_slice())?;
     line.push(b'\n')?;
     Ok(line)
-}
-
-/// The octets of the samples of a tick, which are 96, each with its low octet first.
-pub(crate) fn octets_of_samples(samples: &[i16; 96]) -> [u8; 192]
-    ensures octets { result ≡ output_octets samples.now }
-    ensures size { length samples.now ≡ 96 }
-{
-    let mut octets = [0; 192];
-    LittleEndian::write_i16_into(samples, &mut octets);
-    octets
 }

@@ -4,6 +4,7 @@ use host_ports::Listen;
 use keying::Words;
 use live_receiver::Listening;
 use slicer_bank::Detection;
+use sound_rate::Rate;
 use station::Config;
 
 /// How the transmitter is keyed.
@@ -30,6 +31,8 @@ pub struct ServeWords {
     pub monitor: bool,
     /// How the station listens: by which lanes, and for which modem.
     pub listening: Listening,
+    /// How many samples a second its input and its output have.
+    pub rate: Rate,
     /// How the transmitter is keyed, if it is.
     pub key: Option<KeyWords>,
     /// After how many seconds each the report has a line of counts, if it has.

@@ -5,6 +5,7 @@ ghost use Rattle.std.specs.Thread.{IsSync};
 ghost use Rattle.link_machine.specs.Params.{IsRefusedWindow};
 ghost use Rattle.sample_ring.specs.Ends.{ring_id, ring_len, reader_ring, writer_ring, published_by};
 ghost use Rattle.live_receiver.specs.Listening.{CanBeAskedBy};
+ghost use Rattle.sound_rate.specs.declared.rate.Rate.{Rate};
 ghost use Rattle.tnc_base.specs.Faults.{HasRisen};
 ghost use Rattle.live_receiver.specs.LiveReceivers.{readers_in};
 ghost use Rattle.tnc_ports.specs.FreshReceiver.{IsFresh};
@@ -161,7 +162,7 @@ fn run_beside<
     requires new { published_by writer ≡ [] }
     requires fresh { IsFresh words.now ring.now receiver.old }
     requires sound { IsFreshSound ring.now sound.old }
-    ensures pumped { IfSome result (λ pumped. Pumps ring.now pumped (input_by I.left I.faults input.old)
+    ensures pumped { IfSome result (λ pumped. Pumps words.now.rate ring.now pumped (input_by I.left I.faults input.old)
         (input_by I.left I.faults input.new)) }
     ensures unread { IsNone result → input_by I.left I.faults input.new ≡ input_by I.left I.faults input.old }
     ensures readers { All (λ reader. reader_ring reader ≡ ring_id ring.now) (readers_in receiver.new) }
@@ -179,6 +180,7 @@ fn run_beside<
         rt,
         ring,
         writer,
+        words.rate,
         input,
         spawner,
         &mut |begins: bool|
@@ -250,9 +252,9 @@ fn close(
     requires sound { IsSoundOf ring sound }
     requires empty { room.items ≡ [] }
     requires room { 10 ≤ vec_capacity room }
-    requires pumped { (input : InputSide) × (left : InputSide) × Pumps ring pumped input left }
-    ensures closed { (input left : InputSide) → Pumps ring pumped input left
-        → IsClosed end result (answers_if CELLS receiver sound) input left }
+    requires pumped { (rate : Rate) × (input : InputSide) × (left : InputSide) × Pumps rate ring pumped input left }
+    ensures closed { (rate : Rate) (input left : InputSide) → Pumps rate ring pumped input left
+        → IsClosed rate end result (answers_if CELLS receiver sound) input left }
     ensures thread { result ≢ ServeEnd.NoThread }
 {
     let Some(last) = sound else { unreachable!() };

@@ -36,7 +36,8 @@ use crate::key_lines::put_reports;
 use crate::meter::Meter;
 use crate::monitor::frame_text;
 use crate::releasing::release_key;
-use crate::report_lines::{octets_of_samples, text_of_both, text_of_lines, text_of_notes};
+use crate::report_lines::{text_of_both, text_of_lines, text_of_notes};
+use crate::samples_out::put_samples;
 use crate::serve_words::ServeWords;
 use crate::sound::has_sound;
 use crate::writing::put;
@@ -71,7 +72,7 @@ pub(crate) struct Turning {
     pub(crate) failed: bool,
     /// The key of the transmitter, if it has one.
     pub(crate) key: Option<KeySide>,
-    /// The reader of the sound, and what was counted.
+    /// The reader of the sound, what was counted, and what makes the sound that goes out.
     pub(crate) meter: Meter,
 }
 
@@ -273,14 +274,14 @@ impl Turning {
     ) -> Result<(), OutOfMemory>
         requires meter { reader_ring self.old.meter.reader ≡ ring_id ring.now }
         ensures ticked { (from : From) (live : Live) → Keeps self.old.hosts live.hosts → self.old.ticks ≡ live.ticks
-            → Measures (ring_len ring.now) self.old.meter live → KeyedSince from self.old live (stream_of O.written O.faults output.old)
+            → Measures (ring_len ring.now) self.old.words.rate self.old.meter live → KeyedSince from self.old live (stream_of O.written O.faults output.old)
             (stream_of E.written E.faults report.old) (line_told K.lines K.faults key.old)
             → OnOk result (TicksAll from busy (least / 96 - live.ticks) (ring_len ring.now) self.old self.new live
             (stream_of O.written O.faults output.old) (stream_of O.written O.faults output.new)
             (stream_of E.written E.faults report.old) (stream_of E.written E.faults report.new)
             (line_told K.lines K.faults key.new)) }
         ensures cut { (from : From) (live : Live) → Keeps self.old.hosts live.hosts → self.old.ticks ≡ live.ticks
-            → Measures (ring_len ring.now) self.old.meter live → KeyedSince from self.old live (stream_of O.written O.faults output.old)
+            → Measures (ring_len ring.now) self.old.words.rate self.old.meter live → KeyedSince from self.old live (stream_of O.written O.faults output.old)
             (stream_of E.written E.faults report.old) (line_told K.lines K.faults key.old)
             → OnErr result ((count : ℕ) × (live.ticks + count ≤ least / 96) × Ticks from busy count (ring_len ring.now) self.old
             self.new live
@@ -310,7 +311,7 @@ impl Turning {
         requires tick { 96 * (tick + 1) < 2 ^ 64 }
         requires meter { reader_ring self.old.meter.reader ≡ ring_id ring.now }
         ensures ticked { (from : From) (live : Live) → Keeps self.old.hosts live.hosts → tick ≡ live.ticks
-            → Measures (ring_len ring.now) self.old.meter live → KeyedSince from self.old live (stream_of O.written O.faults output.old)
+            → Measures (ring_len ring.now) self.old.words.rate self.old.meter live → KeyedSince from self.old live (stream_of O.written O.faults output.old)
             (stream_of E.written E.faults report.old) (line_told K.lines K.faults key.old)
             → OnOk result (TicksAll from busy 1 (ring_len ring.now) self.old self.new live
             (stream_of O.written O.faults output.old) (stream_of O.written O.faults output.new)
@@ -342,7 +343,7 @@ impl Turning {
         );
         let told = text_of_notes(self.alloc, notes)?;
         let keyed = self.key_tick(&air.samples, output, key);
-        put(output, &mut self.failed, &octets_of_samples(&air.samples));
+        put_samples(&mut self.meter.out, output, &mut self.failed, &air.samples);
         put(report, &mut self.failed, &text);
         put_reports(report, &mut self.failed, keyed);
         let lost = self.key_written(output, key);

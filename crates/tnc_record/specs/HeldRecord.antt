@@ -2,6 +2,7 @@
 use Rattle.std.specs.Prelude.{◌≡◌, ℕ, ℤ, Bool, true, false, List, Some}
 use Rattle.tnc_ports.specs.declared.looping.LoopEnd.{LoopEnd}
 use Rattle.tnc_ports.specs.declared.pumping.PumpEnd.{PumpEnd}
+use Rattle.sound_rate.specs.declared.rate.Rate.TheVariants.{Narrow}
 use Rattle.tnc_ports.specs.Pumped.{IsPumped}
 use Rattle.tnc_ports.specs.PumpRun.{InputSide, ReadFaults}
 use Rattle.tnc_ports.specs.SampledWrites.{Stream}
@@ -25,7 +26,7 @@ LoopsIf false words end len listening output output' report report' = (output' �
 pub record IsClosed (loop : LoopEnd) (end : RecordEnd) (recording : Recording) (input left : InputSide) : Type 0 where
   pub pump : PumpEnd
   pub published : List ℤ
-  pub pumped : (octets : List ℕ) → input.left ≡ Some octets → IsPumped octets left.left published pump
+  pub pumped : (octets : List ℕ) → input.left ≡ Some octets → IsPumped Narrow octets left.left published pump
   pub faults : ReadFaults pump input left
   pub lanes : LanesStandIn published recording.lanes
   pub recorded : IsRecordedFrom published recording.recorded

@@ -12,6 +12,7 @@ use Rattle.tnc_ports.specs.declared.looping.LoopEnd.TheVariants.{WriteFault as L
 use Rattle.tnc_ports.specs.declared.pumping.PumpEnd.{PumpEnd}
 use Rattle.tnc_ports.specs.declared.pumping.PumpEnd.TheVariants.{InputEnd, ReadFault as PumpFailed}
 use Rattle.tnc_ports.specs.declared.pumping.PumpEnd.TheVariants.{TooLong as InputTooLong}
+use Rattle.sound_rate.specs.declared.rate.Rate.TheVariants.{Narrow}
 use Rattle.tnc_ports.specs.Pumped.{IsPumped}
 use Rattle.tnc_ports.specs.SampledWrites.{Stream}
 use Rattle.tnc_ports.specs.PumpRun.{InputSide, ReadFaults}
@@ -53,7 +54,7 @@ pub record HasRecorded (words : RecordWords) (end : RecordEnd) (input left : Inp
   pub looped : IsLooped words loop recording output output' report report'
   pub pump : PumpEnd
   pub published : List ℤ
-  pub pumped : (octets : List ℕ) → input.left ≡ Some octets → IsPumped octets left.left published pump
+  pub pumped : (octets : List ℕ) → input.left ≡ Some octets → IsPumped Narrow octets left.left published pump
   pub faults : ReadFaults pump input left
   pub lanes : LanesStandIn published recording.lanes
   pub recorded : IsRecordedFrom published recording.recorded

@@ -3,6 +3,7 @@ ghost use Rattle.std.specs.Prelude.{◌≡◌, ◌≤◌, ℕ, [], false, vec_ca
 ghost use Rattle.std.specs.Prelude.{IfSome, IsNone, is_some};
 ghost use Rattle.std.specs.Thread.{IsSync};
 ghost use Rattle.sample_ring.specs.Ends.{ring_id, ring_len, writer_ring, published_by};
+ghost use Rattle.sound_rate.specs.declared.rate.Rate.{Rate};
 ghost use Rattle.tnc_ports.specs.PumpRun.{InputSide, Pumps, input_by};
 ghost use Rattle.tnc_ports.specs.SampledWrites.{stream_of};
 ghost use Rattle.tnc_record.specs.HeldListening.{ReadsRing, StandsForRecording, IsAnswered};
@@ -14,6 +15,7 @@ use crate::listening::Listening;
 use crate::looping::record_loop;
 use ring_receiver::readers_wanted;
 use sample_ring::{Reader, Ring, Writer};
+use sound_rate::Rate;
 use std::alloc::Global;
 use std::sync::Wait;
 use std::thread::Threads;
@@ -120,7 +122,7 @@ fn run_beside<R: Threads + Wait + Sync, I: Source + Send, O: Sink, E: Sink, W: S
     requires ring { ReadsRing ring.now listening.old }
     requires new { StandsForRecording words.now (ring_len ring.now) listening.old (new_recording words.now.sensitive) }
     requires unfailed { listening.old.failed ≡ false }
-    ensures pumped { IfSome result (λ pumped. Pumps ring.now pumped (input_by I.left I.faults input.old)
+    ensures pumped { IfSome result (λ pumped. Pumps Rate.Narrow ring.now pumped (input_by I.left I.faults input.old)
         (input_by I.left I.faults input.new)) }
     ensures unread { IsNone result → input_by I.left I.faults input.new ≡ input_by I.left I.faults input.old }
     ensures ring { ReadsRing ring.now listening.new }
@@ -132,6 +134,7 @@ fn run_beside<R: Threads + Wait + Sync, I: Source + Send, O: Sink, E: Sink, W: S
         rt,
         ring,
         writer,
+        Rate::Narrow,
         input,
         spawner,
         &mut |begins: bool|
@@ -187,8 +190,8 @@ fn close(
     requires readers { ReadsRing ring listening }
     requires empty { room.items ≡ [] }
     requires room { 10 ≤ vec_capacity room }
-    requires pumped { (input : InputSide) × (left : InputSide) × Pumps ring pumped input left }
-    ensures { (input left : InputSide) (recording : Recording) → Pumps ring pumped input left
+    requires pumped { (input : InputSide) × (left : InputSide) × Pumps Rate.Narrow ring pumped input left }
+    ensures { (input left : InputSide) (recording : Recording) → Pumps Rate.Narrow ring pumped input left
         → IsAnswered CELLS listening recording → IsClosed end result recording input left }
 {
     let Listening {

@@ -52,7 +52,7 @@ fn keyed_words() -> ServeWords
 }
 
 /// P of 255, no slot time and a TXDELAY of one tick, and then a frame from N7LEM to NJ7P.
-const FRAME: &[u8] = b"\xc0\x02\xff\xc0\xc0\x03\x00\xc0\xc0\x01\x01\xc0\xc0\x00\
+pub(super) const FRAME: &[u8] = b"\xc0\x02\xff\xc0\xc0\x03\x00\xc0\xc0\x01\x01\xc0\xc0\x00\
     \x9c\x94\x6e\xa0\x40\x40\xe0\x9c\x6e\x98\x8a\x9a\x40\x61\x03\xf0\xc0";
 
 /// A host brings the frame at the first poll, and the line goes as the script says, 10 ms from look to look.

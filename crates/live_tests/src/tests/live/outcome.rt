@@ -8,6 +8,7 @@ use key_port::MemKeyPort;
 use link_machine::Params;
 use live_receiver::Listening;
 use slicer_bank::Detection;
+use sound_rate::Rate;
 use station::Config;
 use std::alloc::Global;
 use std::marker::Model;
@@ -39,6 +40,7 @@ pub(super) fn words(monitor: bool, listening: Listening) -> ServeWords
         monitor,
         stats: None,
         listening,
+        rate: Rate::Narrow,
         key: None,
     }
 }
@@ -91,7 +93,7 @@ impl Streams {
     ) -> Result<Box<Streams>, OutOfMemory> {
         let streams = Streams {
             source: MemSource::new(input, 4096, reads.to_vec(alloc)?),
-            output: MemSink::new(alloc, 200_000, writes.to_vec(alloc)?)?,
+            output: MemSink::new(alloc, 300_000, writes.to_vec(alloc)?)?,
             report: MemSink::new(alloc, 1_000_000, reports.to_vec(alloc)?)?,
         };
         Ok(Box::new(alloc, streams)?)

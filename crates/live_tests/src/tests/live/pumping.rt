@@ -4,6 +4,7 @@ ghost use Rattle.sample_ring.specs.Ends.{ring_id, writer_ring, reader_ring, publ
 
 use crate::assertions::assert_equal;
 use sample_ring::{Got, Reader, Ring, RingFault, Writer};
+use sound_rate::Rate;
 use std::alloc::Global;
 use std::test::Fail;
 use tnc_base::MemSource;
@@ -53,7 +54,7 @@ fn pumped(
         return Err(RingFault::Memory);
     };
     let mut source = MemSource::new(input, piece.max(1), failing);
-    let end = pump(&mut source, &ring, writer).end;
+    let end = pump(&mut source, &ring, writer, Rate::Narrow).end;
     Ok((end, gives(&ring, &mut reader, samples)))
 }
 

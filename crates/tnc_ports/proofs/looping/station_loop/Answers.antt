@@ -27,7 +27,7 @@ returns-in_default-clause-looped g c =
 pub run-end-requires-clause-stands : goal.run-end-requires-clause-stands
 run-end-requires-clause-stands g c = λ κs within.
     first_stands c.args.words.now _ (ring_len c.args.ring.now) c.args.receiver.now c.in-Ok.ensures.stands_for
-    refl refl c.new-2.ensures
+    refl refl c.new-2.ensures c.new-3.ensures
     (subst (IsFreshSound c.args.ring.now) (sym c.take.ensures.value ∙ c.in-Some.is) c.requires.sound).1 c.requires.fresh.listening c.requires.fresh.new c.requires.fresh.hears
 
 pub run-end-requires-clause-readers : goal.run-end-requires-clause-readers

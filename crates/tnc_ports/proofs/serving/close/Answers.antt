@@ -15,7 +15,7 @@ close-history-requires-clause-readers c =
     c.requires.readers (subst (IsSoundOf c.args.ring) c.in-Some.is c.requires.sound))
 
 pub returns-clause-closed : goal.returns-clause-closed
-returns-clause-closed c = λ input left pumps.
+returns-clause-closed c = λ rate input left pumps.
     let published = all_published c.args.pumped.done in
     let all : List Reader = readers_in c.args.receiver ++ c.in-Some.last ∷ [] in
     record {

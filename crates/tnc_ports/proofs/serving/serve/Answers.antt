@@ -122,4 +122,4 @@ returns-clause-served g c =
       report = refl;
       report_faults = refl;
     }))
-    c.in-Some.ensures.looped (c.close.ensures.closed _ _ c.in-Some.ensures.pumped) c.in-Ok.ensures.len
+    c.in-Some.ensures.looped (c.close.ensures.closed _ _ _ c.in-Some.ensures.pumped) c.in-Ok.ensures.len

@@ -1,4 +1,4 @@
-use Rattle.tnc_ports.proofs.Common.{◌≡◌, ap, rules, sym, ◌∙◌, ring_len}
+use Rattle.tnc_ports.proofs.Common.{◌≡◌, ap, refl, rules, sym, ◌∙◌, ring_len}
 use Rattle.slicer_bank.specs.RingTurns.{reads_on}
 use Rattle.std.proofs.Common.{of_z, to_z}
 use Rattle.std.proofs.lemmas.Int.{to_z-of_z}
@@ -19,6 +19,7 @@ returns-in-Item-clause-read c =
       forward = c.read-got.ensures.forward;
       health = c.take_sample.ensures ∙ ap (λ sample. after_sample sample c.args.self.now.health) stored
           ∙ sym (ap (after_answer c.args.self.now.health) c.in-Item.is);
+      out = refl;
       goes_on = sym (ap reads_on c.in-Item.is);
     }
 
@@ -30,6 +31,7 @@ returns-in-Gap-clause-read c = record {
   place = c.read-got.ensures.moves;
   forward = c.read-got.ensures.forward;
   health = c.miss_samples.ensures ∙ sym (ap (after_answer c.args.self.now.health) c.in-Gap.is);
+  out = refl;
   goes_on = sym (ap reads_on c.in-Gap.is);
 }
 
@@ -41,5 +43,6 @@ returns-in-Empty-clause-read c = record {
   place = c.read-got.ensures.moves;
   forward = c.read-got.ensures.forward;
   health = (stays_so c.args.self.now.health c.read-got.result c.in-Empty.is).1;
+  out = refl;
   goes_on = (stays_so c.args.self.now.health c.read-got.result c.in-Empty.is).0;
 }

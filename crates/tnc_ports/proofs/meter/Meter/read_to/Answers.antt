@@ -1,4 +1,4 @@
-use Rattle.tnc_ports.proofs.Common.{arith, ring_len}
+use Rattle.tnc_ports.proofs.Common.{arith, ring_len, ◌∙◌}
 use Rattle.tnc_ports.proofs.LiveMeter.{reads_none, reads_next, reads_there, reads_over}
 use Rattle.tnc_ports.proofs.meter.Meter.read_to.Goals as goal
 
@@ -27,3 +27,6 @@ pub returns-clause-read : goal.returns-clause-read
 returns-clause-read c =
     reads_there (ring_len c.args.ring.now) c.args.to c.loop.counter c.args.self.now c.loop.self c.loop.invariant
     (let past = c.loop-test.false in let reached = c.loop.invariant.reached in omega (arith, past, reached))
+
+pub returns-then-not-read_once-clause-out : goal.returns-then-not-read_once-clause-out
+returns-then-not-read_once-clause-out c = c.read_once.ensures.read.out ∙ c.loop.invariant.out

@@ -8,7 +8,7 @@ use Rattle.tnc_ports.proofs.turning.Turning.tick_up_to.Given as goal
 abbrev pub invariant-loop-tick : goal.invariant-loop-tick
 invariant-loop-tick g l =
     ((from : From) (live : Live) → Keeps l.initial.self.hosts live.hosts → l.initial.self.ticks ≡ live.ticks
-    → Measures (ring_len l.ring) l.initial.self.meter live → KeyedSince from l.initial.self live (stream_of g.O.Sink.written g.O.Sink.faults l.initial.output)
+    → Measures (ring_len l.ring) l.initial.self.words.rate l.initial.self.meter live → KeyedSince from l.initial.self live (stream_of g.O.Sink.written g.O.Sink.faults l.initial.output)
     (stream_of g.E.Sink.written g.E.Sink.faults l.initial.report)
     (line_told g.K.KeyPort.lines g.K.KeyPort.faults l.initial.key)
     → (count : ℕ) × (l.tick ≡ live.ticks + count) × (0 < count → l.tick ≤ l.tick-end)
