@@ -3,3 +3,4 @@ pub mod Values
 pub mod Told
 pub mod Agreement
 pub mod Written
+pub mod Reading

@@ -16,5 +16,5 @@ mod writing;
 pub use agreement::agreed;
 pub use laws::{agreements_are_alike, what_is_written_is_read};
 pub use parameters::{Duplex, LinkParameters, ToldParameters};
-pub use reading::read_xid;
+pub use reading::{read_xid, told_in_xid};
 pub use writing::write_xid;

@@ -3,6 +3,7 @@ ghost use Rattle.std.specs.Prelude.{◌≡◌, ℕ, ◌+◌, ◌<◌, ◌≤◌,
 ghost use Rattle.std.specs.Prelude.{slice_index};
 ghost use Rattle.xid_parameters.specs.XidField.{Parameter, group_octets, IsXidField};
 ghost use Rattle.xid_parameters.specs.Told.{told_by};
+ghost use Rattle.xid_parameters.specs.Reading.{told_in_xid};
 
 use crate::parameters::ToldParameters;
 use crate::values::{
@@ -43,6 +44,16 @@ pub fn read_xid(octets: &[u8]) -> Option<ToldParameters>
         return None;
     }
     read_group(group)
+}
+
+/// What the information of an XID frame tells, which is nothing if it spells no parameters.
+pub fn told_in_xid(octets: &[u8]) -> ToldParameters
+    ensures { result ≡ told_in_xid octets.now }
+{
+    match read_xid(octets) {
+        Some(told) => told,
+        None => ToldParameters::nothing(),
+    }
 }
 
 /// Reads parameters one after another.
