@@ -14,7 +14,8 @@ use Rattle.wav_file.specs.Reading.{given, verdict_of}
 use Rattle.wav_file.specs.Samples.{samples}
 use Rattle.tnc_forms.specs.declared.fault.InputFault.TheVariants.{Wav as BadWav}
 use Rattle.tnc_words.specs.declared.command.Receiving.{Receiving}
-use Rattle.tnc_words.specs.declared.command.Receiving.TheVariants.{Standard, Sensitive, ShortWave, Fx25}
+use Rattle.tnc_words.specs.declared.command.Receiving.TheVariants.{Standard, Sensitive, ShortWave}
+use Rattle.tnc_words.specs.declared.command.Receiving.TheVariants.{SensitiveShortWave, Fx25, SensitiveFx25}
 use Rattle.tnc_decode.specs.declared.audio.Audio.{Audio}
 use Rattle.tnc_decode.specs.declared.audio.Audio.TheVariants.{Pcm}
 use Rattle.tnc_decode.specs.Audio.{fault_in_verdict}
@@ -327,4 +328,6 @@ modem_stays words octets more = by_words words.receiving words.audio
       | inr none ↦ inr none
     ]
     by_words ShortWave form = inl refl
+    by_words SensitiveShortWave form = inl refl
     by_words Fx25 form = inl refl
+    by_words SensitiveFx25 form = inl refl

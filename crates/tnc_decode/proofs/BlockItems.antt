@@ -28,7 +28,7 @@ some_with_blocks x = let found = some_merged x in
 some_item : Candidate → Heard
 some_item item = record { end = item.end; lane = item.offset; tag = 0; octets = item.octets; at = item.end }
 
-map_rises : (heard : List Heard) → IsNonDecreasingBy (λ item. item.end) heard
+pub map_rises : (heard : List Heard) → IsNonDecreasingBy (λ item. item.end) heard
     → IsNonDecreasingBy (λ item. item.end) (map candidate_of heard)
 map_rises heard rises i j d below within =
     let size = length-map heard candidate_of in

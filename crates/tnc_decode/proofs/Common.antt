@@ -29,7 +29,8 @@ pub use Rattle.tnc_decode.specs.Written.{WroteMost}
 pub use Rattle.tnc_decode.specs.declared.audio.Audio.TheVariants.{File}
 pub use Rattle.tnc_decode.specs.declared.decoders.Decoders.{Decoders}
 pub use Rattle.tnc_decode.specs.declared.modem.Modem.{Modem}
-pub use Rattle.tnc_decode.specs.declared.modem.Modem.TheVariants.{Fx25, Plain, Sensitive, ShortWave, Wide, WideSensitive}
+pub use Rattle.tnc_decode.specs.declared.modem.Modem.TheVariants.{Fx25, Plain, Sensitive, SensitiveShortWave}
+pub use Rattle.tnc_decode.specs.declared.modem.Modem.TheVariants.{ShortWave, Wide, WideSensitive, SensitiveFx25}
 pub use Rattle.tnc_decode.specs.declared.receiver.Receiver.{Receiver}
 pub use Rattle.tnc_forms.specs.Reading.{input_limit}
 pub use Rattle.tnc_forms.specs.Taken.{WereRead}

@@ -1,7 +1,8 @@
 -- What a decoder of plain frames and blocks gives: all that ends with the samples that it took.
 use Rattle.tnc_decode.proofs.Common.{◌≡◌, ℕ, ◌+◌, ◌<◌, ◌≤◌, ℤ, List, [], ◌++◌, length, refl, ap, sym, subst, ◌∙◌, arith}
 use Rattle.tnc_decode.proofs.Common.{append_cancel_left, append-nil, length-append, ◌∷◌, Candidate, below, between, not_below, Modem, Plain}
-use Rattle.tnc_decode.proofs.Common.{Wide, Sensitive, WideSensitive, ShortWave, Fx25, HasDecoded, settled_count}
+use Rattle.tnc_decode.proofs.Common.{Wide, Sensitive, WideSensitive, ShortWave, SensitiveShortWave, Fx25, HasDecoded}
+use Rattle.tnc_decode.proofs.Common.{settled_count, SensitiveFx25}
 use Rattle.tnc_decode.proofs.Common.{AreGivenBetween, AreGivenRest, below_between, below_then_rest}
 use Rattle.std.specs.Prelude.{map}
 use Rattle.std.specs.List.{All}
@@ -60,6 +61,8 @@ fx25_block old new block items given Wide x h = absurd h
 fx25_block old new block items given Sensitive x h = absurd h
 fx25_block old new block items given WideSensitive x h = absurd h
 fx25_block old new block items given ShortWave x h = absurd h
+fx25_block old new block items given SensitiveShortWave x h = absurd h
+fx25_block old new block items given SensitiveFx25 x h = absurd h
 fx25_block old new block items given Fx25 x (before, stands) =
     let g = given x before stands in
     let n : ℕ = length x + 1 in
@@ -92,6 +95,8 @@ fx25_finish old items none Wide x h = absurd h
 fx25_finish old items none Sensitive x h = absurd h
 fx25_finish old items none WideSensitive x h = absurd h
 fx25_finish old items none ShortWave x h = absurd h
+fx25_finish old items none SensitiveShortWave x h = absurd h
+fx25_finish old items none SensitiveFx25 x h = absurd h
 fx25_finish old items none Fx25 x (given, stands) =
     let are : AreMerged x given = given_are old x given stands in
     record {

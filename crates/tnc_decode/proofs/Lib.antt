@@ -3,6 +3,7 @@ pub mod WavFaults
 pub mod AudioLemmas
 pub mod ModemLemmas
 pub mod SensitiveLemmas
+pub mod SensitiveHfLemmas
 pub mod SettledLemmas
 pub mod ReceiverLemmas
 pub mod DecodedLemmas
@@ -10,4 +11,6 @@ pub mod DecodingLemmas
 pub mod EndedLemmas
 pub mod PrintingLemmas
 pub mod BlockItems
+pub mod AllItems
 pub mod Fx25Lemmas
+pub mod SensitiveFx25Lemmas

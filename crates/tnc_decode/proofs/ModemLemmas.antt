@@ -2,7 +2,9 @@
 use Rattle.tnc_decode.proofs.Common.{◌≡◌, ℕ, ◌+◌, ◌/◌, ◌^◌, ◌<◌, ◌≤◌, ℤ, List, [], ◌++◌, length, refl, ap, sym, ◌∙◌}
 use Rattle.tnc_decode.proofs.Common.{arith, length-append, IsNonDecreasingBy, append_cancel_left, Candidate, merged}
 use Rattle.tnc_decode.proofs.Common.{below, between, not_below, below_between, below_then_rest, AreMergedBetween}
-use Rattle.tnc_decode.proofs.Common.{filtered, settled_ends, AreWideMergedBetween, Modem, Plain, Wide, Sensitive, WideSensitive, ShortWave, Fx25, decimated, remaining}
+use Rattle.tnc_decode.proofs.Common.{filtered, settled_ends, AreWideMergedBetween, Modem, Plain, Wide, Sensitive}
+use Rattle.tnc_decode.proofs.Common.{WideSensitive, ShortWave, Fx25, decimated, remaining, SensitiveShortWave}
+use Rattle.tnc_decode.proofs.Common.{SensitiveFx25}
 use Rattle.tnc_decode.proofs.Common.{HasDecoded, AreHeard, settled_count, AreGivenBetween, AreGivenBelow, AreGivenRest}
 use Rattle.frame_merge.proofs.Ordering.{rising_ends}
 use Rattle.frame_merge.proofs.Merging.{merged-rising, between_all}
@@ -17,6 +19,10 @@ use Rattle.hf_modem.proofs.CandidateLemmas.{candidates_none as no_hf}
 use Rattle.hf_modem.proofs.MergedLemmas.{is_in_order as hf_in_order, given_still as hf_still, all as hf_all}
 use Rattle.hf_modem.proofs.OneList.{one_list as one_hf}
 use Rattle.hf_modem.proofs.SomeList.{some_list as some_hf}
+use Rattle.hf_sensitive.proofs.HeardLemmas.{none_heard as no_sensitive_hf}
+use Rattle.hf_sensitive.proofs.MergedLemmas.{one_list as one_sensitive_hf, rising_heard as rising_sensitive_hf}
+use Rattle.hf_sensitive.proofs.MergedLemmas.{below_still as sensitive_hf_still}
+use Rattle.hf_sensitive.proofs.SomeList.{some_list as some_sensitive_hf}
 use Rattle.sensitive_receiver.proofs.HeardLemmas.{none_heard as no_sensitive}
 use Rattle.sensitive_receiver.proofs.MergedLemmas.{one_list as one_sensitive, rising_heard as rising_sensitive}
 use Rattle.sensitive_receiver.proofs.MergedLemmas.{below_still as sensitive_still}
@@ -27,6 +33,7 @@ use Rattle.wide_input.proofs.FilteredLemmas.{filtered_still}
 use Rattle.wide_input.proofs.DecimatedLemmas.{decimated_still}
 use Rattle.wide_input.specs.MergedItems.{AreWideRest}
 use Rattle.tnc_decode.proofs.BlockItems.{none_with_blocks, one_with_blocks, some_with_blocks, blocks_rise, still_with_blocks}
+use Rattle.tnc_decode.proofs.AllItems.{all_rise, none_by_all, one_by_all, some_by_all, still_by_all}
 use Rattle.slicer_bank.specs.HeldDecoder.{HeldDecoder, StandsFor as DecoderStandsFor}
 use Rattle.hf_modem.specs.HeldDecoder.{HeldDecoder as HeldHf, StandsFor as HfStandsFor}
 use Rattle.wide_input.specs.HeldDecoder.{HeldDecoder as HeldWide, StandsFor as WideStandsFor}
@@ -42,7 +49,9 @@ none_heard Wide = no_wide
 none_heard Sensitive = no_sensitive
 none_heard WideSensitive = no_sensitive
 none_heard ShortWave = no_hf []
+none_heard SensitiveShortWave = no_sensitive_hf
 none_heard Fx25 = none_with_blocks
+none_heard SensitiveFx25 = none_by_all
 
 pub none_remaining : (modem : Modem) → [] ≡ remaining modem []
 none_remaining Plain = refl
@@ -50,7 +59,9 @@ none_remaining Wide = refl
 none_remaining Sensitive = refl
 none_remaining WideSensitive = refl
 none_remaining ShortWave = refl
+none_remaining SensitiveShortWave = refl
 none_remaining Fx25 = refl
+none_remaining SensitiveFx25 = refl
 
 pub one_heard : (modem : Modem) (x : List ℤ) (items others : List Candidate) → AreHeard modem x items
     → AreHeard modem x others → items ≡ others
@@ -59,7 +70,9 @@ one_heard Wide x items others a b = one_wide (filtered x) items others a b
 one_heard Sensitive x items others a b = one_sensitive x items others a b
 one_heard WideSensitive x items others a b = one_sensitive (decimated x) items others a b
 one_heard ShortWave x items others a b = one_hf x items others a b
+one_heard SensitiveShortWave x items others a b = one_sensitive_hf x items others a b
 one_heard Fx25 x items others a b = one_with_blocks x items others a b
+one_heard SensitiveFx25 x items others a b = one_by_all x items others a b
 
 pub some_heard : (modem : Modem) (x : List ℤ) → (items : List Candidate) × AreHeard modem x items
 some_heard Plain x = some_list x
@@ -67,7 +80,9 @@ some_heard Wide x = some_wide (filtered x)
 some_heard Sensitive x = some_sensitive x
 some_heard WideSensitive x = some_sensitive (decimated x)
 some_heard ShortWave x = some_hf x
+some_heard SensitiveShortWave x = some_sensitive_hf x
 some_heard Fx25 x = some_with_blocks x
+some_heard SensitiveFx25 x = some_by_all x
 
 -- what remains does not fall in their ends
 pub rising_heard : (modem : Modem) (x : List ℤ) (items : List Candidate) → AreHeard modem x items
@@ -77,7 +92,9 @@ rising_heard Wide x items are = rising_wide (filtered x) items are
 rising_heard Sensitive x items are = rising_sensitive x items are
 rising_heard WideSensitive x items are = rising_sensitive (decimated x) items are
 rising_heard ShortWave x items are = merged-rising (λ y. y.end) [] items (rising_ends items (hf_in_order x items are))
+rising_heard SensitiveShortWave x items are = rising_sensitive_hf x items are
 rising_heard Fx25 x items are = blocks_rise x items are
+rising_heard SensitiveFx25 x items are = all_rise x items are
 
 -- more samples settle no less, and no more than they are
 pub settled_rises : (modem : Modem) (x y : List ℤ) → (settled_count modem x ≤ settled_count modem (x ++ y))
@@ -87,7 +104,9 @@ settled_rises Wide x y = let size = length-append x y in (omega arith, omega ari
 settled_rises Sensitive x y = let size = length-append x y in (omega arith, omega arith)
 settled_rises WideSensitive x y = let size = length-append x y in (omega arith, omega arith)
 settled_rises ShortWave x y = let size = length-append x y in (omega arith, omega arith)
+settled_rises SensitiveShortWave x y = let size = length-append x y in (omega arith, omega arith)
 settled_rises Fx25 x y = let size = length-append x y in (omega arith, omega arith)
+settled_rises SensitiveFx25 x y = let size = length-append x y in (omega arith, omega arith)
 
 -- if all end at or after 0, the part from 0 is the part below
 pub from_zero : (to : ℕ) (items : List Candidate) → between 0 to items ≡ below to items
@@ -110,7 +129,10 @@ still_heard ShortWave to x y items whole within are all_are =
     ∙ hf_still 0 to x y (between 0 to (merged items)) whole within (record { candidates = items; are = are; is = refl })
     all_are
     ∙ from_zero to (merged whole)
+still_heard SensitiveShortWave to x y items whole within are all_are =
+    sensitive_hf_still x y items whole are all_are to within
 still_heard Fx25 to x y items whole within are all_are = still_with_blocks to x y items whole within are all_are
+still_heard SensitiveFx25 to x y items whole within are all_are = still_by_all to x y items whole within are all_are
 
 -- what a block gives, and what the end gives, as each decoder tells it
 pub given_plain : (from to : ℕ) (x : List ℤ) (items : List Candidate) → AreMergedBetween from to x items
@@ -151,7 +173,9 @@ plain_block old new block items given Wide x h = absurd h
 plain_block old new block items given Sensitive x h = absurd h
 plain_block old new block items given WideSensitive x h = absurd h
 plain_block old new block items given Fx25 x h = absurd h
+plain_block old new block items given SensitiveFx25 x h = absurd h
 plain_block old new block items given ShortWave x h = absurd h
+plain_block old new block items given SensitiveShortWave x h = absurd h
 
 pub wide_block : (old new : HeldWide) (block : List ℤ) (items : List Candidate)
     → ((x : List ℤ) → WideStandsFor old x → WideStandsFor new (x ++ block)
@@ -163,7 +187,9 @@ wide_block old new block items given Plain x h = absurd h
 wide_block old new block items given Sensitive x h = absurd h
 wide_block old new block items given WideSensitive x h = absurd h
 wide_block old new block items given Fx25 x h = absurd h
+wide_block old new block items given SensitiveFx25 x h = absurd h
 wide_block old new block items given ShortWave x h = absurd h
+wide_block old new block items given SensitiveShortWave x h = absurd h
 wide_block old new block items given Wide x h = let g = given x h in
     (g.0, given_wide (settled_ends (length x)) (settled_ends (length (x ++ block))) (x ++ block) items g.1)
 
@@ -175,7 +201,9 @@ wide_finish old items rest Plain x h = absurd h
 wide_finish old items rest Sensitive x h = absurd h
 wide_finish old items rest WideSensitive x h = absurd h
 wide_finish old items rest Fx25 x h = absurd h
+wide_finish old items rest SensitiveFx25 x h = absurd h
 wide_finish old items rest ShortWave x h = absurd h
+wide_finish old items rest SensitiveShortWave x h = absurd h
 wide_finish old items rest Wide x h =
     let r = rest x h in record { candidates = r.candidates; are = r.are; is = r.is }
 
@@ -188,7 +216,9 @@ plain_finish old items room rest Wide x h = absurd h
 plain_finish old items room rest Sensitive x h = absurd h
 plain_finish old items room rest WideSensitive x h = absurd h
 plain_finish old items room rest Fx25 x h = absurd h
+plain_finish old items room rest SensitiveFx25 x h = absurd h
 plain_finish old items room rest ShortWave x h = absurd h
+plain_finish old items room rest SensitiveShortWave x h = absurd h
 
 pub given_short_wave : (from to : ℕ) (x : List ℤ) (items : List Candidate) → AreHfMergedBetween from to x items
     → AreGivenBetween ShortWave from to x items
@@ -222,6 +252,8 @@ short_wave_block old new block items given Wide x h = absurd h
 short_wave_block old new block items given Sensitive x h = absurd h
 short_wave_block old new block items given WideSensitive x h = absurd h
 short_wave_block old new block items given Fx25 x h = absurd h
+short_wave_block old new block items given SensitiveShortWave x h = absurd h
+short_wave_block old new block items given SensitiveFx25 x h = absurd h
 short_wave_block old new block items given ShortWave x h =
     let g = given x h in (g.0, given_short_wave (length x / 4) (length (x ++ block) / 4) (x ++ block) items g.1)
 
@@ -235,6 +267,8 @@ short_wave_finish old items room rest Wide x h = absurd h
 short_wave_finish old items room rest Sensitive x h = absurd h
 short_wave_finish old items room rest WideSensitive x h = absurd h
 short_wave_finish old items room rest Fx25 x h = absurd h
+short_wave_finish old items room rest SensitiveShortWave x h = absurd h
+short_wave_finish old items room rest SensitiveFx25 x h = absurd h
 short_wave_finish old items room rest ShortWave x h =
     rest_short_wave x items (rest x (let count = h.count in omega arith) h)
 

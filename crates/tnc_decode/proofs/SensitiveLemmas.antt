@@ -3,7 +3,7 @@ use Rattle.tnc_decode.proofs.Common.{◌≡◌, ℕ, ◌+◌, ◌^◌, ◌<◌, 
 use Rattle.tnc_decode.proofs.Common.{IsNonDecreasingBy, append_cancel_left, Candidate, merged, below, between}
 use Rattle.tnc_decode.proofs.Common.{not_below, below_between, below_then_rest, settled, Modem, Plain, Wide, Sensitive}
 use Rattle.tnc_decode.proofs.Common.{ShortWave, Fx25, HasDecoded, settled_count, AreGivenBetween, AreGivenRest, ◌≤◌}
-use Rattle.tnc_decode.proofs.Common.{WideSensitive, decimated, settled_by_all}
+use Rattle.tnc_decode.proofs.Common.{SensitiveShortWave, WideSensitive, decimated, settled_by_all, SensitiveFx25}
 use Rattle.resampler.proofs.FilterLemmas.{length-decimated}
 use Rattle.wide_input.specs.HeldSensitive.{HeldSensitive, StandsFor as WideStandsFor}
 use Rattle.tnc_decode.specs.declared.decoders.Decoders.TheVariants.{WideSensitive as WideSensitiveDecoder}
@@ -42,7 +42,9 @@ sensitive_block old new block items given Plain x h = absurd h
 sensitive_block old new block items given Wide x h = absurd h
 sensitive_block old new block items given WideSensitive x h = absurd h
 sensitive_block old new block items given Fx25 x h = absurd h
+sensitive_block old new block items given SensitiveFx25 x h = absurd h
 sensitive_block old new block items given ShortWave x h = absurd h
+sensitive_block old new block items given SensitiveShortWave x h = absurd h
 sensitive_block old new block items given Sensitive x h =
     let g = given x h in
     (g.0, given_sensitive (settled (length x)) (settled (length (x ++ block))) (x ++ block) items g.1)
@@ -56,7 +58,9 @@ sensitive_finish old items room rest Plain x h = absurd h
 sensitive_finish old items room rest Wide x h = absurd h
 sensitive_finish old items room rest WideSensitive x h = absurd h
 sensitive_finish old items room rest Fx25 x h = absurd h
+sensitive_finish old items room rest SensitiveFx25 x h = absurd h
 sensitive_finish old items room rest ShortWave x h = absurd h
+sensitive_finish old items room rest SensitiveShortWave x h = absurd h
 sensitive_finish old items room rest Sensitive x h =
     let r = rest x (let count = h.count in omega arith) h in
     record { candidates = r.candidates; are = r.are; is = rest_from (settled (length x)) x items (omega arith) r }
@@ -74,7 +78,9 @@ wide_sensitive_block old new block items given Plain x h = absurd h
 wide_sensitive_block old new block items given Wide x h = absurd h
 wide_sensitive_block old new block items given Sensitive x h = absurd h
 wide_sensitive_block old new block items given ShortWave x h = absurd h
+wide_sensitive_block old new block items given SensitiveShortWave x h = absurd h
 wide_sensitive_block old new block items given Fx25 x h = absurd h
+wide_sensitive_block old new block items given SensitiveFx25 x h = absurd h
 wide_sensitive_block old new block items given WideSensitive x h =
     let g = given x h in
     (g.0, record { candidates = g.1.candidates; are = g.1.are; is = g.1.is })
@@ -88,7 +94,9 @@ wide_sensitive_finish old items rest Plain x h = absurd h
 wide_sensitive_finish old items rest Wide x h = absurd h
 wide_sensitive_finish old items rest Sensitive x h = absurd h
 wide_sensitive_finish old items rest ShortWave x h = absurd h
+wide_sensitive_finish old items rest SensitiveShortWave x h = absurd h
 wide_sensitive_finish old items rest Fx25 x h = absurd h
+wide_sensitive_finish old items rest SensitiveFx25 x h = absurd h
 wide_sensitive_finish old items rest WideSensitive x h =
     let r = rest x h in
     let size = length-decimated x in

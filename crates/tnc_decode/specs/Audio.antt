@@ -14,7 +14,8 @@ use Rattle.tnc_words.specs.declared.command.AudioForm.{AudioForm}
 use Rattle.tnc_words.specs.declared.command.AudioForm.TheVariants.{Raw, Wav}
 use Rattle.tnc_words.specs.declared.command.DecodeWords.{DecodeWords}
 use Rattle.tnc_words.specs.declared.command.Receiving.{Receiving}
-use Rattle.tnc_words.specs.declared.command.Receiving.TheVariants.{Standard, Sensitive, ShortWave, Fx25}
+use Rattle.tnc_words.specs.declared.command.Receiving.TheVariants.{Standard, Sensitive, ShortWave}
+use Rattle.tnc_words.specs.declared.command.Receiving.TheVariants.{SensitiveShortWave, Fx25, SensitiveFx25}
 
 -- ---- of a form, if a WAV file may have some rates
 
@@ -52,7 +53,9 @@ abbrev pub rates_of : Receiving → Rates
 rates_of (Standard rate) = NarrowOrWide
 rates_of (Sensitive rate) = NarrowOrWide
 rates_of ShortWave = Narrow
+rates_of SensitiveShortWave = Narrow
 rates_of Fx25 = Narrow
+rates_of SensitiveFx25 = Narrow
 
 -- the samples of the input of words
 abbrev pub samples_read : DecodeWords → List ℕ → List ℤ

@@ -5,9 +5,11 @@ use Rattle.slicer_bank.specs.HeldDecoder.{StandsFor as DecoderStandsFor}
 use Rattle.wide_input.specs.HeldDecoder.{StandsFor as WideStandsFor}
 use Rattle.wide_input.specs.HeldSensitive.{StandsFor as WideSensitiveStandsFor}
 use Rattle.hf_modem.specs.HeldDecoder.{StandsFor as HfStandsFor}
+use Rattle.hf_sensitive.specs.HeldDecoder.{StandsFor as HfSensitiveStandsFor}
 use Rattle.sensitive_receiver.specs.HeldDecoder.{StandsFor as SensitiveStandsFor}
 use Rattle.fx25_receiver.specs.declared.heard.Heard.{Heard}
 use Rattle.fx25_receiver.specs.Held.{StandsFor as Fx25StandsFor}
+use Rattle.sensitive_blocks.specs.Held.{StandsFor as BlocksStandFor}
 use Rattle.wav_file.specs.declared.rates.Rates.{Rates}
 use Rattle.wav_file.specs.Held.{StandsFor as FileStandsFor}
 use Rattle.wav_file.specs.Reading.{fault_in}
@@ -18,11 +20,14 @@ use Rattle.tnc_decode.specs.declared.audio.Audio.{Audio}
 use Rattle.tnc_decode.specs.declared.audio.Audio.TheVariants.{Pcm, File}
 use Rattle.tnc_decode.specs.declared.decoders.Decoders.{Decoders}
 use Rattle.tnc_decode.specs.declared.decoders.Decoders.TheVariants.{Plain, Wide, Sensitive, WideSensitive, ShortWave, Fx25}
+use Rattle.tnc_decode.specs.declared.decoders.Decoders.TheVariants.{SensitiveShortWave, SensitiveFx25}
 use Rattle.tnc_decode.specs.declared.modem.Modem.{Modem}
 use Rattle.tnc_decode.specs.declared.modem.Modem.TheVariants.{Plain as PlainModem, Wide as WideModem}
 use Rattle.tnc_decode.specs.declared.modem.Modem.TheVariants.{Sensitive as SensitiveModem}
 use Rattle.tnc_decode.specs.declared.modem.Modem.TheVariants.{WideSensitive as WideSensitiveModem}
 use Rattle.tnc_decode.specs.declared.modem.Modem.TheVariants.{ShortWave as ShortWaveModem, Fx25 as Fx25Modem}
+use Rattle.tnc_decode.specs.declared.modem.Modem.TheVariants.{SensitiveShortWave as SensitiveShortWaveModem}
+use Rattle.tnc_decode.specs.declared.modem.Modem.TheVariants.{SensitiveFx25 as SensitiveFx25Modem}
 use Rattle.tnc_decode.specs.declared.receiver.Receiver.{Receiver}
 use Rattle.tnc_decode.specs.Audio.{rates_of, samples_read}
 use Rattle.tnc_decode.specs.Modem.{modem_of}
@@ -50,7 +55,9 @@ HasDecoded WideModem (Wide decoder) x = WideStandsFor decoder x
 HasDecoded SensitiveModem (Sensitive decoder) x = SensitiveStandsFor decoder x
 HasDecoded WideSensitiveModem (WideSensitive decoder) x = WideSensitiveStandsFor decoder x
 HasDecoded ShortWaveModem (ShortWave decoder) x = HfStandsFor decoder x
+HasDecoded SensitiveShortWaveModem (SensitiveShortWave decoder) x = HfSensitiveStandsFor decoder x
 HasDecoded Fx25Modem (Fx25 decoder) x = (given : List Heard) × Fx25StandsFor decoder x given
+HasDecoded SensitiveFx25Modem (SensitiveFx25 decoder) x = (given : List Heard) × BlocksStandFor decoder x given
 HasDecoded modem decoder x = ⊥
 
 -- how many samples a decoder has taken, past the filter if it has one, and whether it is finished
@@ -60,7 +67,9 @@ position_of (Wide decoder) = decoder.bank.position
 position_of (Sensitive decoder) = decoder.position
 position_of (WideSensitive decoder) = decoder.decoder.position
 position_of (ShortWave decoder) = decoder.position
+position_of (SensitiveShortWave decoder) = decoder.position
 position_of (Fx25 decoder) = decoder.position
+position_of (SensitiveFx25 decoder) = decoder.follower.position
 
 abbrev pub finished_of : Decoders → Bool
 finished_of (Plain decoder) = decoder.finished
@@ -68,7 +77,9 @@ finished_of (Wide decoder) = decoder.bank.finished
 finished_of (Sensitive decoder) = decoder.finished
 finished_of (WideSensitive decoder) = decoder.decoder.finished
 finished_of (ShortWave decoder) = decoder.finished
+finished_of (SensitiveShortWave decoder) = decoder.finished
 finished_of (Fx25 decoder) = false
+finished_of (SensitiveFx25 decoder) = false
 
 -- the receiver was given these octets, and has written this text
 pub record HasHeard (receiver : Receiver) (words : DecodeWords) (octets text : List ℕ) : Type 0 where

@@ -5,6 +5,8 @@ use Rattle.frame_merge.specs.declared.candidate.Candidate.{Candidate}
 use Rattle.frame_merge.specs.Merged.{merged, below, between, not_below}
 use Rattle.slicer_bank.specs.Candidates.{AreCandidates}
 use Rattle.hf_modem.specs.Candidates.{AreCandidates as AreHfCandidates}
+use Rattle.hf_sensitive.specs.Candidates.{AreHeard as AreSensitiveHfCandidates}
+use Rattle.hf_sensitive.specs.MergedItems.{settled as hf_settled}
 use Rattle.sensitive_receiver.specs.Candidates.{AreHeard as AreSensitiveCandidates}
 use Rattle.sensitive_receiver.specs.MergedItems.{settled}
 use Rattle.resampler.specs.Filtered.{filtered, decimated}
@@ -14,6 +16,7 @@ use Rattle.wide_input.specs.Candidates.{AreWideCandidates}
 use Rattle.fx25_receiver.specs.declared.heard.Heard.{Heard}
 use Rattle.fx25_receiver.specs.Merged.{AreMerged}
 use Rattle.fx25_receiver.specs.WithoutBlocks.{candidate_of}
+use Rattle.sensitive_blocks.specs.Heard.{AreMerged as AreMergedOfAll}
 use Rattle.wav_file.specs.declared.rates.Rates.TheVariants.{NarrowOrWide}
 use Rattle.wav_file.specs.Reading.{rate_in}
 use Rattle.tnc_words.specs.declared.command.AudioForm.{AudioForm}
@@ -22,10 +25,13 @@ use Rattle.tnc_words.specs.declared.command.DecodeWords.{DecodeWords}
 use Rattle.tnc_words.specs.declared.command.Receiving.{Receiving}
 use Rattle.tnc_words.specs.declared.command.Receiving.TheVariants.{Standard, Sensitive as AskedSensitive}
 use Rattle.tnc_words.specs.declared.command.Receiving.TheVariants.{ShortWave as OnShortWave, Fx25 as AskedFx25}
+use Rattle.tnc_words.specs.declared.command.Receiving.TheVariants.{SensitiveShortWave as AskedSensitiveShortWave}
+use Rattle.tnc_words.specs.declared.command.Receiving.TheVariants.{SensitiveFx25 as AskedSensitiveFx25}
 use Rattle.tnc_words.specs.declared.command.SampleRate.{SampleRate}
 use Rattle.tnc_words.specs.declared.command.SampleRate.TheVariants.{Narrow, Wide as WideRate}
 use Rattle.tnc_decode.specs.declared.modem.Modem.{Modem}
 use Rattle.tnc_decode.specs.declared.modem.Modem.TheVariants.{Plain, Wide, Sensitive, WideSensitive, ShortWave, Fx25}
+use Rattle.tnc_decode.specs.declared.modem.Modem.TheVariants.{SensitiveShortWave, SensitiveFx25}
 
 -- ---- which one hears
 
@@ -53,7 +59,9 @@ abbrev pub modem_for : Receiving → AudioForm → List ℕ → Modem
 modem_for (Standard rate) form octets = plain_at (rate_for rate form octets)
 modem_for (AskedSensitive rate) form octets = sensitive_at (rate_for rate form octets)
 modem_for OnShortWave form octets = ShortWave
+modem_for AskedSensitiveShortWave form octets = SensitiveShortWave
 modem_for AskedFx25 form octets = Fx25
+modem_for AskedSensitiveFx25 form octets = SensitiveFx25
 
 -- the modem that hears the input of words
 abbrev pub modem_of : DecodeWords → List ℕ → Modem
@@ -67,6 +75,12 @@ pub record AreMergedWithBlocks (x : List ℤ) (items : List Candidate) : Type 0 
   pub are : AreMerged x heard
   pub is : items ≡ map candidate_of heard
 
+-- and by all lanes
+pub record AreMergedByAll (x : List ℤ) (items : List Candidate) : Type 0 where
+  pub heard : List Heard
+  pub are : AreMergedOfAll x heard
+  pub is : items ≡ map candidate_of heard
+
 -- The items are all candidates of the samples, or if blocks are heard too what is merged of all. Samples at 48,000 a second
 -- are filtered; eight lanes hear each of their five streams, and all lanes together the first one.
 abbrev pub AreHeard : Modem → List ℤ → List Candidate → Type 0
@@ -75,7 +89,9 @@ AreHeard Wide x items = AreWideCandidates (filtered x) items
 AreHeard Sensitive x items = AreSensitiveCandidates x items
 AreHeard WideSensitive x items = AreSensitiveCandidates (decimated x) items
 AreHeard ShortWave x items = AreHfCandidates x items
+AreHeard SensitiveShortWave x items = AreSensitiveHfCandidates x items
 AreHeard Fx25 x items = AreMergedWithBlocks x items
+AreHeard SensitiveFx25 x items = AreMergedByAll x items
 
 -- What remains of it, each frame once. Frames that also come in blocks are merged by a rule of their own.
 abbrev pub remaining : Modem → List Candidate → List Candidate
@@ -84,7 +100,9 @@ remaining Wide items = merged items
 remaining Sensitive items = merged items
 remaining WideSensitive items = merged items
 remaining ShortWave items = merged items
+remaining SensitiveShortWave items = merged items
 remaining Fx25 items = items
+remaining SensitiveFx25 items = items
 
 -- what ends below this position is settled by the samples, whatever follows
 abbrev pub settled_count : Modem → List ℤ → ℕ
@@ -93,7 +111,9 @@ settled_count Wide x = settled_ends (length x)
 settled_count Sensitive x = settled (length x)
 settled_count WideSensitive x = settled_by_all (length x)
 settled_count ShortWave x = length x / 4
+settled_count SensitiveShortWave x = hf_settled (length x)
 settled_count Fx25 x = length x + 1
+settled_count SensitiveFx25 x = settled (length x)
 
 -- the items are those of what remains that end from one position to below another
 pub record AreGivenBetween (modem : Modem) (from to : ℕ) (x : List ℤ) (items : List Candidate) : Type 0 where

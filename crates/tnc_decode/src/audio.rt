@@ -50,7 +50,9 @@ impl Audio {
             Receiving::Standard { rate } => Modem::plain_at(self.rate(rate)),
             Receiving::Sensitive { rate } => Modem::sensitive_at(self.rate(rate)),
             Receiving::ShortWave => Modem::ShortWave,
+            Receiving::SensitiveShortWave => Modem::SensitiveShortWave,
             Receiving::Fx25 => Modem::Fx25,
+            Receiving::SensitiveFx25 => Modem::SensitiveFx25,
         }
     }
 
@@ -112,7 +114,10 @@ fn new_file(receiving: Receiving) -> WavIn
 {
     match receiving {
         Receiving::Standard { .. } | Receiving::Sensitive { .. } => WavIn::any_rate(),
-        Receiving::ShortWave | Receiving::Fx25 => WavIn::new(),
+        Receiving::ShortWave
+        | Receiving::SensitiveShortWave
+        | Receiving::Fx25
+        | Receiving::SensitiveFx25 => WavIn::new(),
     }
 }
 

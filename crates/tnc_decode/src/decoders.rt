@@ -6,8 +6,10 @@ ghost use Rattle.tnc_decode.specs.Held.{HasDecoded, position_of, finished_of};
 
 use crate::fx25_decoder::Fx25Decoder;
 use crate::modem::Modem;
+use crate::sensitive_fx25_decoder::SensitiveFx25Decoder;
 use frame_merge::Candidate;
 use hf_modem::HfDecoder;
+use hf_sensitive::HfSensitiveDecoder;
 use sensitive_receiver::SensitiveDecoder;
 use slicer_bank::{Decoder, OpenGate};
 use std::alloc::Global;
@@ -23,7 +25,9 @@ pub(crate) enum Decoders {
     Sensitive(SensitiveDecoder),
     WideSensitive(WideSensitiveDecoder),
     ShortWave(HfDecoder),
+    SensitiveShortWave(HfSensitiveDecoder),
     Fx25(Fx25Decoder),
+    SensitiveFx25(SensitiveFx25Decoder),
 }
 
 impl Decoders {
@@ -41,7 +45,13 @@ impl Decoders {
                 Ok(Decoders::WideSensitive(WideSensitiveDecoder::new(alloc)?))
             }
             Modem::ShortWave => Ok(Decoders::ShortWave(HfDecoder::new(alloc)?)),
+            Modem::SensitiveShortWave => {
+                Ok(Decoders::SensitiveShortWave(HfSensitiveDecoder::new(alloc)?))
+            }
             Modem::Fx25 => Ok(Decoders::Fx25(Fx25Decoder::new(alloc)?)),
+            Modem::SensitiveFx25 => {
+                Ok(Decoders::SensitiveFx25(SensitiveFx25Decoder::new(alloc)?))
+            }
         }
     }
 
@@ -55,7 +65,9 @@ impl Decoders {
             Decoders::Sensitive(_) => Modem::Sensitive,
             Decoders::WideSensitive(_) => Modem::WideSensitive,
             Decoders::ShortWave(_) => Modem::ShortWave,
+            Decoders::SensitiveShortWave(_) => Modem::SensitiveShortWave,
             Decoders::Fx25(_) => Modem::Fx25,
+            Decoders::SensitiveFx25(_) => Modem::SensitiveFx25,
         }
     }
 
@@ -89,7 +101,9 @@ impl Decoders {
             }
             Decoders::WideSensitive(decoder) => decoder.block(block),
             Decoders::ShortWave(decoder) => decoder.block(block),
+            Decoders::SensitiveShortWave(decoder) => decoder.block(block),
             Decoders::Fx25(decoder) => decoder.block(block),
+            Decoders::SensitiveFx25(decoder) => decoder.block(block),
         }
     }
 
@@ -105,7 +119,9 @@ impl Decoders {
             Decoders::Sensitive(decoder) => decoder.finish(),
             Decoders::WideSensitive(decoder) => decoder.finish(),
             Decoders::ShortWave(decoder) => decoder.finish(),
+            Decoders::SensitiveShortWave(decoder) => decoder.finish(),
             Decoders::Fx25(decoder) => Ok(decoder.finish()),
+            Decoders::SensitiveFx25(decoder) => decoder.finish(),
         }
     }
 }

@@ -59,7 +59,7 @@ impl Fx25Decoder {
 }
 
 /// Items as candidates.
-fn candidates(alloc: Global, heard: &[Heard]) -> Result<Vec<Candidate>, OutOfMemory>
+pub(crate) fn candidates(alloc: Global, heard: &[Heard]) -> Result<Vec<Candidate>, OutOfMemory>
     ensures { IfOk result (λ items. items.items ≡ map candidate_of heard.now) }
 {
     let mut items = Vec::new(alloc);

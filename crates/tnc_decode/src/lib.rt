@@ -10,6 +10,7 @@ mod fx25_decoder;
 mod modem;
 mod printing;
 mod receiver;
+mod sensitive_fx25_decoder;
 
 pub use decoding::decode;
 pub use printing::print;

@@ -17,8 +17,12 @@ pub enum Modem {
     WideSensitive,
     /// 300 bits a second on short wave, at 9600 samples a second.
     ShortWave,
+    /// 300 bits a second on short wave, at 9600 samples a second, by all lanes.
+    SensitiveShortWave,
     /// 1200 bits a second, at 9600 samples a second, frames that come plainly and in blocks of FX.25.
     Fx25,
+    /// The same by all lanes.
+    SensitiveFx25,
 }
 
 impl Modem {

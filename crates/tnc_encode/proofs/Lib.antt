@@ -9,3 +9,4 @@ pub mod EndedLemmas
 pub mod ModemLemmas
 pub mod WritingLemmas
 pub mod WindowLemmas
+pub mod LengthLemmas

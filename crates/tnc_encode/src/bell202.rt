@@ -1,5 +1,5 @@
 //! A transmission of Bell 202: the samples of the modulator, by windows that are made once.
-ghost use Rattle.std.specs.Prelude.{◌≡◌, IfOk};
+ghost use Rattle.std.specs.Prelude.{◌≡◌, ◌+◌, ℕ, IfOk, length};
 ghost use Rattle.nrzi_bits.specs.Line.{line};
 ghost use Rattle.afsk_modulator.specs.Modulation.{IsLevel, wave_of};
 ghost use Rattle.afsk_modulator.specs.Transmission.{transmission_at};
@@ -43,4 +43,25 @@ fn modulated(alloc: Global, level: u16, bits: &[bool]) -> Result<Vec<i16>, OutOf
         phase = advance(phase, tone);
     }
     Ok(samples)
+}
+
+/// How many samples one transmission has after so many silent ones: eight a bit. Refuses more than fit into memory.
+pub(crate) fn bell202_count(
+    alloc: Global,
+    silence: u32,
+    frames: &[Octets],
+    opening: u16,
+    closing: u16,
+) -> Result<usize, OutOfMemory>
+    ensures { (level : ℕ) → IfOk result (λ count. count
+        ≡ silence + length (transmission_at 0 level frames.now opening closing)) }
+{
+    let bits = stuff(alloc, frames, opening, closing)?;
+    let Some(samples) = bits.len().checked_mul(8) else {
+        return Err(OutOfMemory);
+    };
+    let Some(count) = samples.checked_add(silence as usize) else {
+        return Err(OutOfMemory);
+    };
+    Ok(count)
 }

@@ -2,18 +2,19 @@
 ghost use Rattle.std.specs.Prelude.{◌≡◌, ◌≤◌, ◌<◌, ◌+◌, ◌*◌, ◌^◌, IfOk, IfErr, OnOk, length, true};
 ghost use Rattle.wav_file.specs.Head.{head_of};
 ghost use Rattle.tnc_forms.specs.declared.fault.InputFault.{InputFault};
-ghost use Rattle.tnc_encode.specs.Encoded.{most_samples, signal_of, transmissions};
+ghost use Rattle.tnc_encode.specs.Encoded.{most_samples, samples_at_once, signal_of, transmissions};
 ghost use Rattle.tnc_encode.specs.Writing.{CanBeSent, CanSend};
 
+use crate::bell202::bell202_count;
 use crate::sending::samples_at_once;
 use std::alloc::Global;
 use std::slice;
 use tnc_base::{Octets, OutOfMemory};
 use tnc_forms::InputFault;
-use tnc_words::EncodeWords;
+use tnc_words::{EncodeWords, Modem};
 use wav_file::wav_head;
 
-/// The count of the samples of all transmissions, which are made one at a time.
+/// The count of the samples of all transmissions, one at a time.
 pub(crate) fn count_samples(
     alloc: Global,
     words: EncodeWords,
@@ -29,7 +30,7 @@ pub(crate) fn count_samples(
     // No sum of so few lengths passes 128 bits.
     let mut count = 0;
     for frame in frames {
-        count += samples_at_once(alloc, words, slice::from_ref(frame))?.len() as u128;
+        count += count_at_once(alloc, words, slice::from_ref(frame))? as u128;
     }
     Ok(count)
 }
@@ -44,7 +45,26 @@ fn count_joined(alloc: Global, words: EncodeWords, frames: &[Octets]) -> Result<
     if frames.is_empty() {
         return Ok(0);
     }
-    Ok(samples_at_once(alloc, words, frames)?.len() as u128)
+    Ok(count_at_once(alloc, words, frames)? as u128)
+}
+
+/// The count of samples of frames that are sent at one go. Of Bell 202 the bits are counted, and no samples are made.
+fn count_at_once(alloc: Global, words: EncodeWords, frames: &[Octets]) -> Result<usize, OutOfMemory>
+    requires words { CanSend words }
+    requires frames { CanBeSent frames.now }
+    ensures count { IfOk result (λ count. count ≡ length (samples_at_once words frames.now)) }
+    ensures bound { IfOk result (λ count. count < 2 ^ 64) }
+{
+    match words.modem {
+        Modem::Bell202 => {
+            let count = bell202_count(alloc, words.silence, frames, words.opening, words.closing)?;
+            Ok(count)
+        }
+        Modem::ShortWave | Modem::Fx25(_) => {
+            let samples = samples_at_once(alloc, words, frames)?;
+            Ok(samples.len())
+        }
+    }
 }
 
 /// The head of a WAV file of so many samples.

@@ -5,6 +5,7 @@ use Rattle.tnc_main.proofs.Common.{IsPumped, Stream, Status, BadInput, IsEndTold
 use Rattle.tnc_ports.specs.declared.looping.LoopEnd.TheVariants.{Done as LoopDone, Memory as LoopMemory}
 use Rattle.tnc_ports.specs.declared.looping.LoopEnd.TheVariants.{WriteFault as LoopFault}
 use Rattle.tnc_ports.specs.declared.pumping.PumpEnd.TheVariants.{ReadFault as PumpFailed, TooLong as InputTooLong}
+use Rattle.sound_rate.specs.declared.rate.Rate.TheVariants.{Narrow}
 use Rattle.tnc_ports.specs.PumpRun.{InputSide, ReadFaults}
 use Rattle.tnc_record.specs.declared.recording.RecordEnd.{RecordEnd}
 use Rattle.tnc_record.specs.declared.recording.RecordEnd.TheVariants.{Done, TooLong, Memory, NoThread, ReadFault}
@@ -81,7 +82,7 @@ module _ (words : RecordWords) (input left : InputSide) (output output' report r
   not_too_long : (octets : List ℕ) → input.left ≡ Some octets → length octets ≤ input_limit
       → HasRecorded words TooLong input left output output' report report' → ⊥
   not_too_long octets is few h =
-      let pumped = subst (IsPumped octets left.left h.published) (too_long h).0 (h.pumped octets is) in
+      let pumped = subst (IsPumped Narrow octets left.left h.published) (too_long h).0 (h.pumped octets is) in
       let size = ap length pumped.parts ∙ length-append pumped.read pumped.rest in
       let over = pumped.stop in
       omega arith

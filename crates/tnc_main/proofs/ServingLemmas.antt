@@ -94,7 +94,7 @@ module _ (words : ServeWords) (input left : InputSide) (before after : Outside) 
   not_too_long : (octets : List ℕ) → input.left ≡ Some octets → length octets ≤ input_limit
       → HasServed words TooLong input left before after → ⊥
   not_too_long octets is few h =
-      let pumped = subst (IsPumped octets left.left h.published) (too_long h).0 (h.pumped octets is) in
+      let pumped = subst (IsPumped words.rate octets left.left h.published) (too_long h).0 (h.pumped octets is) in
       let size = ap length pumped.parts ∙ length-append pumped.read pumped.rest in
       let over = pumped.stop in
       omega arith

@@ -24,10 +24,14 @@ use Rattle.resampler.specs.Filtered.{filtered, decimated}
 use Rattle.wide_input.proofs.WideLaw.{near_stream_law}
 use Rattle.hf_signal.proofs.Law.{near_law as hf_near_law}
 use Rattle.tnc_decode.specs.declared.modem.Modem.TheVariants.{Wide, Sensitive, WideSensitive, ShortWave, Fx25}
+use Rattle.tnc_decode.specs.declared.modem.Modem.TheVariants.{SensitiveShortWave, SensitiveFx25}
+use Rattle.hf_sensitive.proofs.SignalLaw.{near_law as all_hf_lanes_law}
 use Rattle.tnc_encode.specs.Frames.{form_fault as frames_fault}
 use Rattle.tnc_decode.specs.Modem.{modem_for}
 use Rattle.tnc_words.specs.declared.command.Receiving.TheVariants.{Fx25 as AskedFx25}
 use Rattle.tnc_main.specs.Clean.{CarriesUnits, IsNearButForStretches, IsNearlyClean}
+use Rattle.sensitive_receiver.proofs.SomeList.{some_list as some_on_all_lanes}
+use Rattle.sensitive_blocks.proofs.WithoutBlocks.{merged_plain as merged_plain_on_all_lanes}
 use Rattle.sensitive_receiver.proofs.SignalLaw.{near_law as all_lanes_law}
 
 -- an input with too many octets is refused for that by a command that reads all of it first
@@ -78,10 +82,16 @@ near_merges Wide x received clean = near_stream_law clean.number received (filte
 near_merges Sensitive x received clean = all_lanes_law received x clean.each clean.near clean.none_stray
 near_merges WideSensitive x received clean = all_lanes_law received (decimated x) clean.each clean.near clean.none_stray
 near_merges ShortWave x received clean = hf_near_law received x clean.each clean.near clean.no_stray
+near_merges SensitiveShortWave x received clean = all_hf_lanes_law received x clean.each clean.near clean.none_stray
 near_merges Fx25 x received clean = λ items are.
     let plain = some_list x in
     ap (map (λ item. item.octets)) (are.is ∙ merged_plain x are.heard plain.0 clean.no_block are.are plain.1)
     ∙ near_law received x clean.plain.each clean.plain.near clean.plain.no_stray plain.0 plain.1
+near_merges SensitiveFx25 x received clean = λ items are.
+    let plain = some_on_all_lanes x in
+    ap (map (λ item. item.octets)) (are.is
+    ∙ merged_plain_on_all_lanes x are.heard plain.0 clean.no_block are.are plain.1)
+    ∙ all_lanes_law received x clean.plain.each clean.plain.near clean.plain.none_stray plain.0 plain.1
 
 pub near_text : (words : DecodeWords) (received : List Received) (octets text : List ℕ)
     → IsNearlyClean (modem_of words octets) (samples_read words octets) received

@@ -5,11 +5,13 @@ use Rattle.clean_signal.specs.NearSignal.{Received, IsReceived, IsNearAll, trans
 use Rattle.clean_signal.specs.Stray.{NoStray}
 use Rattle.hf_signal.specs.NearSignal.{IsReceived as IsHfReceived, IsNearAll as IsHfNearAll}
 use Rattle.hf_signal.specs.Stray.{NoStray as NoHfStray}
+use Rattle.hf_sensitive.specs.Stray.{NoneStray as NoneHfStray}
 use Rattle.sensitive_receiver.specs.Stray.{NoneStray}
 use Rattle.resampler.specs.Filtered.{filtered, decimated}
 use Rattle.wide_input.specs.Streams.{stream}
 use Rattle.wide_input.specs.Stray.{NoWideStray}
 use Rattle.fx25_receiver.specs.WithoutBlocks.{HasNoBlock}
+use Rattle.sensitive_blocks.specs.WithoutBlocks.{HasNoBlock as HasNoBlockOnAllLanes}
 use Rattle.fx25_signal.specs.Damage.{AreLost, DifferInStretches, Stretch}
 use Rattle.fx25_signal.specs.Merging.{NoneStray as NoneStrayOfUnits}
 use Rattle.fx25_signal.specs.NearSignal.{IsNearAll as IsNearAllBlocks, IsReceived as IsReceivedInBlocks}
@@ -17,6 +19,7 @@ use Rattle.fx25_signal.specs.NearSignal.{ReceivedBlocks, sent_units}
 use Rattle.fx25_signal.specs.Units.{AreApart, Comes, SentUnit}
 use Rattle.tnc_decode.specs.declared.modem.Modem.{Modem}
 use Rattle.tnc_decode.specs.declared.modem.Modem.TheVariants.{Plain, Wide, Sensitive, WideSensitive, ShortWave, Fx25}
+use Rattle.tnc_decode.specs.declared.modem.Modem.TheVariants.{SensitiveShortWave, SensitiveFx25}
 
 -- the samples are near what these transmissions give, each from a phase and at a level of its own, and none of their
 -- candidates is stray
@@ -45,10 +48,21 @@ pub record IsCleanOnShortWave (x : List ℤ) (received : List Received) : Type 0
   pub near : IsHfNearAll received x
   pub no_stray : NoHfStray (transmissions_of received) x
 
+-- and by all lanes
+pub record IsCleanOnAllHfLanes (x : List ℤ) (received : List Received) : Type 0 where
+  pub each : All IsHfReceived received
+  pub near : IsHfNearAll received x
+  pub none_stray : NoneHfStray (transmissions_of received) x
+
 -- the same as by the eight lanes, and no block ends with any bit of theirs
 pub record IsCleanWithoutBlock (x : List ℤ) (received : List Received) : Type 0 where
   pub plain : IsClean x received
   pub no_block : HasNoBlock x
+
+-- the same as by all lanes, and no block ends with any bit of theirs
+pub record IsCleanOnAllWithoutBlock (x : List ℤ) (received : List Received) : Type 0 where
+  pub plain : IsCleanOnAllLanes x received
+  pub no_block : HasNoBlockOnAllLanes x
 
 -- as the modem hears them: samples at 48,000 a second filtered, and by all lanes each fifth of these
 abbrev pub IsNearlyClean : Modem → List ℤ → List Received → Type 0
@@ -57,7 +71,9 @@ IsNearlyClean Wide x received = IsCleanInStream (filtered x) received
 IsNearlyClean Sensitive x received = IsCleanOnAllLanes x received
 IsNearlyClean WideSensitive x received = IsCleanOnAllLanes (decimated x) received
 IsNearlyClean ShortWave x received = IsCleanOnShortWave x received
+IsNearlyClean SensitiveShortWave x received = IsCleanOnAllHfLanes x received
 IsNearlyClean Fx25 x received = IsCleanWithoutBlock x received
+IsNearlyClean SensitiveFx25 x received = IsCleanOnAllWithoutBlock x received
 
 -- ---- frames in blocks
 

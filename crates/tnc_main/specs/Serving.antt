@@ -13,10 +13,14 @@ use Rattle.tnc_words.specs.declared.command.ChannelOptions.{ChannelOptions}
 use Rattle.tnc_words.specs.declared.command.Dcd.{Dcd}
 use Rattle.tnc_words.specs.declared.command.Dcd.TheVariants.{Tones as ByTones, Flags as ByFlags}
 use Rattle.tnc_words.specs.declared.command.PttOptions.{PttOptions}
+use Rattle.tnc_words.specs.declared.command.SampleRate.{SampleRate}
+use Rattle.tnc_words.specs.declared.command.SampleRate.TheVariants.{Narrow as NarrowWords, Wide as WideWords}
 use Rattle.tnc_words.specs.declared.command.ServeOptions.{ServeOptions}
 use Rattle.tnc_words.specs.declared.command.StationModem.{StationModem}
 use Rattle.tnc_words.specs.declared.command.StationModem.TheVariants.{Bell202 as OfBell202, ShortWave as OfShortWave}
 use Rattle.tnc_forms.specs.declared.fault.InputFault.TheVariants.{TooLong as InputTooLong}
+use Rattle.sound_rate.specs.declared.rate.Rate.{Rate}
+use Rattle.sound_rate.specs.declared.rate.Rate.TheVariants.{Narrow, Wide}
 use Rattle.tnc_ports.specs.declared.serve_words.KeyWords.{KeyWords}
 use Rattle.tnc_ports.specs.declared.serve_words.ServeWords.{ServeWords}
 use Rattle.tnc_ports.specs.declared.serving.ServeEnd.{ServeEnd}
@@ -43,6 +47,11 @@ listening_of OfShortWave = ShortWave
 abbrev pub sending_of : StationModem → Modem
 sending_of (OfBell202 sensitive) = SendsBell202
 sending_of OfShortWave = SendsShortWave
+
+-- how many samples a second come and go
+abbrev pub rate_of : SampleRate → Rate
+rate_of NarrowWords = Narrow
+rate_of WideWords = Wide
 
 -- how the transmitter is keyed
 abbrev pub key_of : PttOptions → KeyWords
@@ -80,6 +89,7 @@ words_of options outer = record {
   monitor = options.monitor;
   stats = options.stats;
   listening = listening_of options.modem;
+  rate = rate_of options.rate;
   key = option_map key_of options.ptt;
 }
 

@@ -8,7 +8,7 @@ ghost use Rattle.tnc_ports.specs.ServeRun.{input_by};
 ghost use Rattle.tnc_main.specs.declared.status.Status.{Status};
 ghost use Rattle.live_receiver.specs.Listening.{CanBeAskedBy};
 ghost use Rattle.tnc_main.specs.Serving.{IsServedInWant, IsToldAs, Serves, detection_of, last_line, status_of_end};
-ghost use Rattle.tnc_main.specs.Serving.{channel_of, key_of, listening_of, seed_of, sending_of, words_of};
+ghost use Rattle.tnc_main.specs.Serving.{channel_of, key_of, listening_of, rate_of, seed_of, sending_of, words_of};
 ghost use Rattle.tnc_main.specs.Status.{code_of, IsLiveCode};
 
 use crate::report::{NO_PORT, TOO_LONG, told};
@@ -19,6 +19,7 @@ use key_port::KeyPort;
 use keying::Words;
 use live_receiver::Listening;
 use slicer_bank::Detection;
+use sound_rate::Rate;
 use station::Config;
 use std::alloc::Global;
 use std::net::Net;
@@ -26,7 +27,7 @@ use std::sync::Wait;
 use std::thread::Threads;
 use tnc_base::{Sink, Source};
 use tnc_ports::{KeyWords, Live, ServeEnd, ServeWords, Spawner};
-use tnc_words::{ChannelOptions, Dcd, PttOptions, ServeOptions, StationModem};
+use tnc_words::{ChannelOptions, Dcd, PttOptions, SampleRate, ServeOptions, StationModem};
 
 /// Serves hosts until the input ends, tells how that ended, and answers the exit status. It may wait for the input.
 pub(crate) fn serve<
@@ -118,6 +119,7 @@ pub(crate) fn serve_words(options: ServeOptions, outer: u64) -> ServeWords
         monitor: options.monitor,
         stats: options.stats,
         listening: listening(options.modem),
+        rate: rate(options.rate),
         key: key_words(options.ptt),
     }
 }
@@ -168,6 +170,16 @@ fn listening(modem: StationModem) -> Listening
     match modem {
         StationModem::Bell202 { sensitive } => Listening::Bell202 { sensitive },
         StationModem::ShortWave => Listening::ShortWave,
+    }
+}
+
+/// How many samples a second come and go.
+fn rate(rate: SampleRate) -> Rate
+    ensures { result ≡ rate_of rate }
+{
+    match rate {
+        SampleRate::Narrow => Rate::Narrow,
+        SampleRate::Wide => Rate::Wide,
     }
 }
 

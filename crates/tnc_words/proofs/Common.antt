@@ -22,7 +22,8 @@ pub use Rattle.tnc_words.specs.Stations.{IsCallList}
 pub use Rattle.tnc_words.specs.declared.command.Command.{Command}
 pub use Rattle.tnc_words.specs.declared.command.Command.TheVariants.{Help, Version}
 pub use Rattle.tnc_words.specs.declared.command.Receiving.{Receiving}
-pub use Rattle.tnc_words.specs.declared.command.Receiving.TheVariants.{Fx25, Sensitive, ShortWave, Standard}
+pub use Rattle.tnc_words.specs.declared.command.Receiving.TheVariants.{Fx25, Sensitive, SensitiveShortWave}
+pub use Rattle.tnc_words.specs.declared.command.Receiving.TheVariants.{ShortWave, Standard, SensitiveFx25}
 pub use Rattle.tnc_words.specs.declared.command.SampleRate.{SampleRate}
 pub use Rattle.tnc_words.specs.declared.command.SampleRate.TheVariants.{Narrow}
 pub use Rattle.tnc_words.specs.declared.topic.Topic.{Topic}

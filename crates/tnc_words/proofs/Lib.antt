@@ -6,6 +6,7 @@ pub mod OneCarrier
 pub mod OneKey
 pub mod OnePort
 pub mod OneChannel
+pub mod OneRate
 pub mod OneServe
 pub mod CallLists
 pub mod AskedHelp

@@ -1,10 +1,11 @@
 -- Words ask for one command.
 use Rattle.tnc_words.proofs.Common.{◌≡◌, ℕ, ◌+◌, false, Option, Some, List, ◌∷◌, codes, refl, sym, ap, ◌∙◌, arith}
 use Rattle.tnc_words.proofs.Common.{eqb-false, eqb, Row, Text, Command, Help, Version, Receiving, Standard, Sensitive}
-use Rattle.tnc_words.proofs.Common.{ShortWave, Fx25, SampleRate, Narrow, Topic, Asks, IsDecode, IsEncode, IsShow, IsLoop}
+use Rattle.tnc_words.proofs.Common.{ShortWave, SensitiveShortWave, Fx25, Topic, Asks, IsDecode, IsEncode, IsShow}
+use Rattle.tnc_words.proofs.Common.{IsLoop, SensitiveFx25}
 use Rattle.tnc_words.proofs.Common.{IsBench, first_word, HasDecodeOptions, HasEncodeOptions, HasShowOptions}
 use Rattle.tnc_words.proofs.Common.{HasLoopOptions, HasBenchOptions, HasRecordOptions, HasCallOptions}
-use Rattle.tnc_words.proofs.Common.{IsRecord, IsHelp, IsVersion, HasReceiving, samples_a_second}
+use Rattle.tnc_words.proofs.Common.{IsRecord, IsHelp, IsVersion, HasReceiving}
 use Rattle.std.proofs.Common.{◌*◌}
 use Rattle.std.proofs.lemmas.Bool.{true≢false}
 use Rattle.ax25_frames.specs.ControlField.{numbers}
@@ -12,7 +13,6 @@ use Rattle.ax25_frames.specs.declared.frame.Modulus.{Modulus}
 use Rattle.ax25_frames.specs.declared.frame.Modulus.TheVariants.{Eight, OneTwentyEight}
 use Rattle.tnc_words.specs.declared.command.Command.TheVariants.{Decode, Encode, Show, Loop, Bench, Serve, Record, Call}
 use Rattle.tnc_words.specs.declared.command.DecodeWords.{DecodeWords}
-use Rattle.tnc_words.specs.declared.command.SampleRate.TheVariants.{Wide}
 use Rattle.tnc_words.specs.declared.command.EncodeWords.{EncodeWords}
 use Rattle.tnc_words.specs.declared.command.ShowWords.{ShowWords}
 use Rattle.tnc_words.specs.declared.command.LoopWords.{LoopWords}
@@ -25,6 +25,7 @@ use Rattle.tnc_words.proofs.AskedHelp.{help_alone, help_is_no_version, one_topic
 use Rattle.tnc_words.proofs.CallLists.{one_given_call, one_repeaters}
 use Rattle.tnc_words.proofs.OneModem.{one_modem}
 use Rattle.tnc_words.proofs.OneNumber.{given_number, one_number}
+use Rattle.tnc_words.proofs.OneRate.{one_rate}
 use Rattle.tnc_words.proofs.OneServe.{one_serve_options}
 
 eight_is_not : (n : ℕ) → n ≡ 128 → 8 ≡ n → ⊥
@@ -37,36 +38,46 @@ one_modulus Eight OneTwentyEight h = absurd (eight_is_not 128 refl h)
 one_modulus OneTwentyEight Eight h = absurd (eight_is_not 128 refl (sym h))
 one_modulus OneTwentyEight OneTwentyEight h = refl
 
-narrow_is_not : (n : ℕ) → n ≡ 48000 → 9600 ≡ n → ⊥
-narrow_is_not n is same = omega arith
-
--- a rate is known by its number
-one_rate : (rate other : SampleRate) → samples_a_second rate ≡ samples_a_second other → rate ≡ other
-one_rate Narrow Narrow h = refl
-one_rate Narrow Wide h = absurd (narrow_is_not 48000 refl h)
-one_rate Wide Narrow h = absurd (narrow_is_not 48000 refl (sym h))
-one_rate Wide Wide h = refl
-
 one_receiving : (found : List Row) (receiving other : Receiving) → HasReceiving found receiving
     → HasReceiving found other → receiving ≡ other
 one_receiving found (Standard rate) (Standard other) h k =
-    ap Standard (one_rate rate other (one_number _ _ _ _ _ _ h.3 k.3))
+    ap Standard (one_rate found rate other h.3 k.3)
 one_receiving found (Standard rate) (Sensitive other) h k = absurd (true≢false (sym k.1 ∙ h.1))
 one_receiving found (Standard rate) ShortWave h k = absurd (true≢false (sym k.0 ∙ h.0))
+one_receiving found (Standard rate) SensitiveShortWave h k = absurd (true≢false (sym k.0 ∙ h.0))
 one_receiving found (Standard rate) Fx25 h k = absurd (true≢false (sym k.2 ∙ h.2))
+one_receiving found (Standard rate) SensitiveFx25 h k = absurd (true≢false (sym k.2 ∙ h.2))
 one_receiving found (Sensitive rate) (Standard other) h k = absurd (true≢false (sym h.1 ∙ k.1))
 one_receiving found (Sensitive rate) (Sensitive other) h k =
-    ap Sensitive (one_rate rate other (one_number _ _ _ _ _ _ h.3 k.3))
+    ap Sensitive (one_rate found rate other h.3 k.3)
 one_receiving found (Sensitive rate) ShortWave h k = absurd (true≢false (sym k.0 ∙ h.0))
+one_receiving found (Sensitive rate) SensitiveShortWave h k = absurd (true≢false (sym k.0 ∙ h.0))
 one_receiving found (Sensitive rate) Fx25 h k = absurd (true≢false (sym h.1 ∙ k.1))
+one_receiving found (Sensitive rate) SensitiveFx25 h k = absurd (true≢false (sym k.2 ∙ h.2))
 one_receiving found ShortWave (Standard other) h k = absurd (true≢false (sym h.0 ∙ k.0))
 one_receiving found ShortWave (Sensitive other) h k = absurd (true≢false (sym h.0 ∙ k.0))
 one_receiving found ShortWave ShortWave h k = refl
+one_receiving found ShortWave SensitiveShortWave h k = absurd (true≢false (sym k.1 ∙ h.1))
 one_receiving found ShortWave Fx25 h k = absurd (true≢false (sym h.0 ∙ k.0))
+one_receiving found ShortWave SensitiveFx25 h k = absurd (true≢false (sym h.0 ∙ k.0))
+one_receiving found SensitiveShortWave (Standard other) h k = absurd (true≢false (sym h.0 ∙ k.0))
+one_receiving found SensitiveShortWave (Sensitive other) h k = absurd (true≢false (sym h.0 ∙ k.0))
+one_receiving found SensitiveShortWave ShortWave h k = absurd (true≢false (sym h.1 ∙ k.1))
+one_receiving found SensitiveShortWave SensitiveShortWave h k = refl
+one_receiving found SensitiveShortWave Fx25 h k = absurd (true≢false (sym h.0 ∙ k.0))
+one_receiving found SensitiveShortWave SensitiveFx25 h k = absurd (true≢false (sym h.0 ∙ k.0))
 one_receiving found Fx25 (Standard other) h k = absurd (true≢false (sym h.2 ∙ k.2))
 one_receiving found Fx25 (Sensitive other) h k = absurd (true≢false (sym k.1 ∙ h.1))
 one_receiving found Fx25 ShortWave h k = absurd (true≢false (sym k.0 ∙ h.0))
+one_receiving found Fx25 SensitiveShortWave h k = absurd (true≢false (sym k.0 ∙ h.0))
 one_receiving found Fx25 Fx25 h k = refl
+one_receiving found Fx25 SensitiveFx25 h k = absurd (true≢false (sym k.1 ∙ h.1))
+one_receiving found SensitiveFx25 (Standard other) h k = absurd (true≢false (sym h.2 ∙ k.2))
+one_receiving found SensitiveFx25 (Sensitive other) h k = absurd (true≢false (sym h.2 ∙ k.2))
+one_receiving found SensitiveFx25 ShortWave h k = absurd (true≢false (sym k.0 ∙ h.0))
+one_receiving found SensitiveFx25 SensitiveShortWave h k = absurd (true≢false (sym k.0 ∙ h.0))
+one_receiving found SensitiveFx25 Fx25 h k = absurd (true≢false (sym h.1 ∙ k.1))
+one_receiving found SensitiveFx25 SensitiveFx25 h k = refl
 
 -- ---- what was found gives one set of options
 

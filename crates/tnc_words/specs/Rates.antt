@@ -4,7 +4,8 @@ use Rattle.clap.specs.Words.{Row, first_of}
 use Rattle.tnc_words.specs.declared.command.SampleRate.{SampleRate}
 use Rattle.tnc_words.specs.declared.command.SampleRate.TheVariants.{Narrow, Wide}
 use Rattle.tnc_words.specs.declared.command.Receiving.{Receiving}
-use Rattle.tnc_words.specs.declared.command.Receiving.TheVariants.{Standard, Sensitive, ShortWave, Fx25}
+use Rattle.tnc_words.specs.declared.command.Receiving.TheVariants.{Standard, Sensitive, ShortWave}
+use Rattle.tnc_words.specs.declared.command.Receiving.TheVariants.{SensitiveShortWave, Fx25, SensitiveFx25}
 use Rattle.tnc_words.specs.Numbers.{HasNumber}
 use Rattle.tnc_words.specs.Options.{is_used}
 
@@ -17,7 +18,8 @@ samples_a_second Wide = 48000
 abbrev pub HasRate : List Row → SampleRate → Type 0
 HasRate found rate = HasNumber (first_of (codes "rate") found) 9600 9600 48000 (samples_a_second rate)
 
--- [--sensitive] at either rate, or at 9600 samples a second and without threads one of [--hf] and [--fx25]
+-- [--sensitive] at either rate, or at 9600 samples a second and without threads [--hf] or [--fx25], each with [--sensitive]
+-- or without
 abbrev pub HasReceiving : List Row → Receiving → Type 0
 HasReceiving found (Standard rate) =
     (is_used (codes "hf") found ≡ false) × (is_used (codes "sensitive") found ≡ false)
@@ -28,6 +30,12 @@ HasReceiving found (Sensitive rate) =
 HasReceiving found ShortWave =
     (is_used (codes "hf") found ≡ true) × (is_used (codes "sensitive") found ≡ false)
     × (is_used (codes "fx25") found ≡ false) × (is_used (codes "threads") found ≡ false) × HasRate found Narrow
+HasReceiving found SensitiveShortWave =
+    (is_used (codes "hf") found ≡ true) × (is_used (codes "sensitive") found ≡ true)
+    × (is_used (codes "fx25") found ≡ false) × (is_used (codes "threads") found ≡ false) × HasRate found Narrow
 HasReceiving found Fx25 =
     (is_used (codes "hf") found ≡ false) × (is_used (codes "sensitive") found ≡ false)
+    × (is_used (codes "fx25") found ≡ true) × (is_used (codes "threads") found ≡ false) × HasRate found Narrow
+HasReceiving found SensitiveFx25 =
+    (is_used (codes "hf") found ≡ false) × (is_used (codes "sensitive") found ≡ true)
     × (is_used (codes "fx25") found ≡ true) × (is_used (codes "threads") found ≡ false) × HasRate found Narrow

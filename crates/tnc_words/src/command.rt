@@ -24,7 +24,7 @@ pub enum FrameForm {
     Kiss,
 }
 
-/// How many samples a second come in.
+/// How many samples a second come in, and with `serve` go out.
 #[derive(Clone, Copy, Debug, PartialEq, Eq)]
 pub enum SampleRate {
     /// 9600.
@@ -42,8 +42,12 @@ pub enum Receiving {
     Sensitive { rate: SampleRate },
     /// 300 bits a second and a shift of 200 Hz, on short wave, at 9600 samples a second.
     ShortWave,
+    /// So by more lanes.
+    SensitiveShortWave,
     /// Bell 202 at 9600 samples a second, frames that come plainly and in blocks of FX.25.
     Fx25,
+    /// So by more lanes.
+    SensitiveFx25,
 }
 
 /// A command with its options.
@@ -205,6 +209,8 @@ pub struct ServeOptions {
     pub dcd: Dcd,
     /// The modem, and how it listens.
     pub modem: StationModem,
+    /// How many samples a second come in and go out.
+    pub rate: SampleRate,
     /// Each frame that is heard or sent is reported in a line.
     pub monitor: bool,
     /// After how many seconds each the report has a line of counts, 1 to 86,400, if it has.

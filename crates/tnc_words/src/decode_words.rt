@@ -1,27 +1,19 @@
 //! `decode` and its options.
-ghost use Rattle.std.specs.Prelude.{◌≡◌, Some, IfOk, IfSome, IsErrOf, IsNone, codes, map, option_map, string_bytes};
+ghost use Rattle.std.specs.Prelude.{◌≡◌, Some, IfOk, IfSome, IsErrOf, IsNone, codes, map, string_bytes};
 ghost use Rattle.clap.specs.Words.{found_of, rows_of};
 ghost use Rattle.tnc_words.specs.declared.command.DecodeWords.{DecodeWords};
 ghost use Rattle.tnc_words.specs.declared.command.Receiving.{Receiving};
-ghost use Rattle.tnc_words.specs.declared.command.SampleRate.{SampleRate};
 ghost use Rattle.tnc_words.specs.Commands.{HasDecodeOptions, IsDecode, first_word};
-ghost use Rattle.tnc_words.specs.Numbers.{HasNumber};
-ghost use Rattle.tnc_words.specs.Rates.{HasReceiving, samples_a_second};
+ghost use Rattle.tnc_words.specs.Rates.{HasReceiving};
 
 use crate::command::{DecodeWords, Receiving, SampleRate};
 use crate::fault::WordsFault;
 use crate::forms::{audio_form, frame_form};
-use crate::number::{Bounds, number_or_default};
 use crate::options::DECODE;
 use crate::parsing::{has_flag, parsed, text_of};
+use crate::rate_words::sample_rate;
 use clap::ArgMatches;
 use std::alloc::Global;
-
-/// The number of a rate, which is the least or the greatest of these.
-const RATES: Bounds = Bounds {
-    least: 9600,
-    greatest: 48_000,
-};
 
 /// `decode` and its options, after its own word.
 pub(crate) fn read_decode(alloc: Global, words: &[String]) -> Result<DecodeWords, WordsFault>
@@ -63,21 +55,11 @@ fn receiving(found: &ArgMatches) -> Option<Receiving>
         ((false, false, false), rate) => Some(Receiving::Standard { rate }),
         ((false, true, false), rate) => Some(Receiving::Sensitive { rate }),
         ((true, false, false), SampleRate::Narrow) if !threads => Some(Receiving::ShortWave),
+        ((true, true, false), SampleRate::Narrow) if !threads => {
+            Some(Receiving::SensitiveShortWave)
+        }
         ((false, false, true), SampleRate::Narrow) if !threads => Some(Receiving::Fx25),
-        _ => None,
-    }
-}
-
-/// The rate with the number of a text, or 9600 samples a second if there is no text.
-fn sample_rate(text: Option<&str>) -> Option<SampleRate>
-    ensures rate { IfSome result (λ rate.
-        HasNumber (option_map (λ t. t.now) text.entry) 9600 9600 48000 (samples_a_second rate)) }
-    ensures none { IsNone result → (rate : SampleRate)
-        → ¬ HasNumber (option_map (λ t. t.now) text.entry) 9600 9600 48000 (samples_a_second rate) }
-{
-    match number_or_default(text, 9600, RATES)? {
-        9600 => Some(SampleRate::Narrow),
-        48_000 => Some(SampleRate::Wide),
+        ((false, true, true), SampleRate::Narrow) if !threads => Some(Receiving::SensitiveFx25),
         _ => None,
     }
 }

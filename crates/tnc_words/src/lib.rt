@@ -21,6 +21,7 @@ mod modem_words;
 mod number;
 mod options;
 mod parsing;
+mod rate_words;
 mod reading;
 mod record_words;
 mod serve_words;

@@ -20,6 +20,7 @@ use crate::link_words::{call_said, link_params};
 use crate::number::{Bounds, number_found, number_if_given, number_or_default, number_within};
 use crate::options::SERVE;
 use crate::parsing::{has_flag, parsed, text_of};
+use crate::rate_words::sample_rate;
 use clap::ArgMatches;
 use std::alloc::Global;
 use std::net::Ipv4Addr;
@@ -96,6 +97,7 @@ fn serve_options(found: &ArgMatches) -> Option<ServeOptions>
         digi: call_said(text_of(found, "digi"))?,
         dcd: dcd(has_flag(found, "hf"), text_of(found, "dcd"))?,
         modem: station_modem(has_flag(found, "hf"), has_flag(found, "sensitive"))?,
+        rate: sample_rate(text_of(found, "rate"))?,
         monitor: has_flag(found, "monitor"),
         stats: seconds(text_of(found, "stats"))?,
         ptt: ptt(

@@ -22,7 +22,7 @@ A software terminal node controller for packet radio: AX.25 over the tones of Be
   tnc serve [--kiss port] [--agw port] [--bind A.B.C.D] [--seed n] [--mode name]
             [--window n] [--wide] [--wide-window n] [--t1 n] [--retries n] [--txdelay n]
             [--txtail n] [--persist n] [--slot n] [--duplex] [--paclen n] [--digi call]
-            [--dcd how] [--hf] [--sensitive] [--monitor] [--stats n]
+            [--dcd how] [--hf] [--sensitive] [--rate n] [--monitor] [--stats n]
             [--ptt n] [--ptt-tail n] [--ptt-data]
   tnc record [--keep n] [--sensitive]
   tnc call --agw n --from call --to call [--via calls] [--expect n] [--polls n]
@@ -51,9 +51,9 @@ Prints the frames that are heard in sound, a line of hexadecimal digits each, as
   --kiss       the output is KISS frames, and not lines
   --threads    the receiver works on two threads
   --hf         the sound is of short wave, 300 bits a second, and not Bell 202; without --threads
-  --sensitive  hears in more noise and where the sender's clock is off, and takes longer; without --hf
+  --sensitive  hears in more noise and where the sender's clock is off, and takes longer
   --fx25       hears frames in blocks of FX.25 too, and repairs them; at 9600 samples a second,
-               without --hf, --sensitive and --threads
+               without --hf and --threads
   --rate n     samples a second of raw PCM, 9600 or 48000 (9600); a WAV file tells its own
 ";
 
@@ -109,7 +109,7 @@ const SERVE: &str = "\
 Usage: tnc serve [--kiss port] [--agw port] [--bind A.B.C.D] [--seed n] [--mode name]
                  [--window n] [--wide] [--wide-window n] [--t1 n] [--retries n] [--txdelay n]
                  [--txtail n] [--persist n] [--slot n] [--duplex] [--paclen n] [--digi call]
-                 [--dcd how] [--hf] [--sensitive] [--monitor] [--stats n]
+                 [--dcd how] [--hf] [--sensitive] [--rate n] [--monitor] [--stats n]
                  [--ptt n] [--ptt-tail n] [--ptt-data]
 
 Runs a station until its sound ends: it hears standard input, sends standard output, and serves host programs.
@@ -134,6 +134,7 @@ Runs a station until its sound ends: it hears standard input, sends standard out
   --dcd how        by what the channel is busy: tones, or so many flags in a row, 1 to 8 (tones), with --hf 2 to 8 (3)
   --hf             short wave: 300 bits a second at 1600 and 1800 Hz; --t1 is 600 if not given
   --sensitive      hears in more noise and where the sender's clock is off, and takes longer; without --hf
+  --rate n         samples a second, in and out, 9600 or 48000 (9600)
   --monitor        tells each frame that is heard or sent on standard error
   --stats n        tells each n seconds what the station counted, on standard error, 1 to 86400
   --ptt n          keys the transmitter by rigctld, the daemon of hamlib, at this port of 127.0.0.1, 1 to 65535

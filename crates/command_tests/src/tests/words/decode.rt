@@ -40,6 +40,11 @@ const FX25: DecodeWords = DecodeWords {
     ..DECODE
 };
 
+const SENSITIVE_FX25: DecodeWords = DecodeWords {
+    receiving: Receiving::SensitiveFx25,
+    ..DECODE
+};
+
 const KISS: FrameForm = FrameForm::Kiss;
 
 const WAV: AudioForm = AudioForm::Wav;
@@ -95,7 +100,15 @@ const HEARING: &[(&str, DecodeWords)] = &[
     ("--wav --rate=048000", DecodeWords { audio: WAV, ..WIDE }),
     ("--hf --rate 9600", SHORT_WAVE),
     ("--sensitive", SENSITIVE),
+    (
+        "--sensitive --hf",
+        DecodeWords {
+            receiving: Receiving::SensitiveShortWave,
+            ..DECODE
+        },
+    ),
     ("--fx25", FX25),
+    ("--sensitive --fx25", SENSITIVE_FX25),
     (
         "--wav --rate 9600 --fx25 --kiss",
         DecodeWords {

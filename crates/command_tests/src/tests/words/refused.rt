@@ -18,7 +18,9 @@ x
 --level 10
 --hf --threads
 --hf --rate 48000
---sensitive --hf
+--sensitive --hf --threads
+--sensitive --hf --rate 48000
+--sensitive --hf --fx25
 --sensitive --sensitive
 --sensitive=true
 --rate 44100
@@ -28,7 +30,8 @@ x
 --threads --threads
 --threads=2
 --fx25 --hf
---fx25 --sensitive
+--fx25 --sensitive --threads
+--fx25 --sensitive --rate 48000
 --fx25 --threads
 --fx25 --rate 48000
 --fx25 --fx25
@@ -173,6 +176,11 @@ x
 --retries 21
 --retries +3
 --retries 3x
+--rate
+--rate 44100
+--rate 96000
+--rate 48k
+--rate 9600 --rate 9600
 --stats
 --stats=
 --stats 0

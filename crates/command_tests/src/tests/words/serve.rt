@@ -7,7 +7,7 @@ use std::alloc::Global;
 use std::net::Ipv4Addr;
 use std::process::Abort;
 use std::test::Fail;
-use tnc_words::{ChannelOptions, Command, Dcd, PttOptions, ServeOptions, StationModem};
+use tnc_words::{ChannelOptions, Command, Dcd, PttOptions, SampleRate, ServeOptions, StationModem};
 
 /// The word that is enough.
 const LEAST: &str = "serve";
@@ -42,6 +42,7 @@ const SERVE: ServeOptions = ServeOptions {
     digi: None,
     dcd: Dcd::Tones,
     modem: StationModem::Bell202 { sensitive: false },
+    rate: SampleRate::Narrow,
     monitor: false,
     stats: None,
     ptt: None,
@@ -199,9 +200,11 @@ fn serve_takes_what_its_station_does(rt: HostRuntime) -> Result<(), Fail> {
         ),
         ("--dcd tones", SERVE),
         ("--dcd=tones", SERVE),
+        ("--rate 9600", SERVE),
         (
-            "--stats 1",
+            "--rate=048000 --stats 1",
             ServeOptions {
+                rate: SampleRate::Wide,
                 stats: Some(1),
                 ..SERVE
             },

@@ -9,6 +9,6 @@ returns-then-is_empty c =
 
 pub returns : goal.returns
 returns c =
-    c.len.ensures ∙ c.in_ok-samples_at_once.field-0.ok.0
-    ∙ ap length (c.in_ok-samples_at_once.ensures ∙ joined_samples c.args.words c.args.frames.now c.requires.join
+    c.in_ok-count_at_once.ensures.count
+    ∙ ap length (joined_samples c.args.words c.args.frames.now c.requires.join
     (some_of (length c.args.frames.now) (sym c.if-is_empty.ensures)))

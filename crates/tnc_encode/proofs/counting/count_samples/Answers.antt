@@ -14,13 +14,12 @@ returns c =
 
 pub loop-frame-preserved : goal.loop-frame-preserved
 loop-frame-preserved c =
-    let len : c.len.result ≡ length (samples_at_once c.args.words (c.frame-item.result ∷ [])) =
-    c.len.ensures ∙ c.in_ok-samples_at_once.field-0.ok.0
-    ∙ ap length (c.in_ok-samples_at_once.ensures ∙ ap (λ fs. samples_at_once c.args.words fs) c.from_ref.ensures.value)
-    in
+    let told = c.in_ok-count.ensures in
+    let len : c.in_ok-count.field-0 ≡ length (samples_at_once c.args.words (c.frame-item.result ∷ [])) =
+    told.count ∙ ap (λ fs. length (samples_at_once c.args.words fs)) c.from_ref.ensures.value in
     let more = own_samples-more c.args.words c.args.frames.now c.loop-frame.frame-index c.frame-item.result
     c.loop-frame-test.true c.frame-item.is in
     let counted = c.loop-frame.invariant.counted in
     let bound = c.loop-frame.invariant.bound in
-    let small : c.len.result < 2 ^ 64 = omega (arith, c.in_ok-samples_at_once.field-0.ok.0) in
+    let small : c.in_ok-count.field-0 < 2 ^ 64 = told.bound in
     record { counted = omega arith; bound = omega arith }

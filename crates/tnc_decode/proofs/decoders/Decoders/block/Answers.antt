@@ -8,14 +8,20 @@ use Rattle.sensitive_receiver.specs.MergedItems.{AreMergedBetween as AreSensitiv
 use Rattle.wide_input.specs.HeldDecoder.{StandsFor as WideStandsFor}
 use Rattle.wide_input.specs.HeldSensitive.{StandsFor as WideSensitiveStandsFor}
 use Rattle.tnc_decode.specs.declared.decoders.Decoders.TheVariants.{Plain, Wide, Sensitive, WideSensitive, ShortWave, Fx25}
+use Rattle.tnc_decode.specs.declared.decoders.Decoders.TheVariants.{SensitiveShortWave, SensitiveFx25}
+use Rattle.hf_sensitive.specs.HeldDecoder.{StandsFor as HfSensitiveStandsFor}
+use Rattle.hf_sensitive.specs.MergedItems.{AreMergedBetween as AreSensitiveHfBetween, settled as hf_settled}
+use Rattle.tnc_decode.proofs.SensitiveHfLemmas.{sensitive_hf_block}
 use Rattle.tnc_decode.proofs.ModemLemmas.{plain_block, wide_block, short_wave_block}
 use Rattle.tnc_decode.proofs.SensitiveLemmas.{sensitive_block, wide_sensitive_block}
 use Rattle.std.specs.Prelude.{map}
 use Rattle.tnc_decode.proofs.Common.{◌≡◌}
 use Rattle.fx25_receiver.specs.declared.heard.Heard.{Heard}
 use Rattle.fx25_receiver.specs.Held.{StandsFor as Fx25StandsFor}
+use Rattle.sensitive_blocks.specs.Held.{StandsFor as BlocksStandFor}
 use Rattle.fx25_receiver.specs.WithoutBlocks.{candidate_of}
 use Rattle.tnc_decode.proofs.Fx25Lemmas.{fx25_block}
+use Rattle.tnc_decode.proofs.SensitiveFx25Lemmas.{sensitive_fx25_block}
 use Rattle.tnc_decode.proofs.decoders.Decoders.block.Goals as goal
 
 pub returns-in-Plain-clause-given : goal.returns-in-Plain-clause-given
@@ -205,3 +211,39 @@ returns-in-Fx25-clause-given g c =
     (settled_count modem (x ++ block)) (x ++ block) items.items)
     (λ items given. fx25_block old new block items.items given)
     c.block-in-Fx25.ensures.given)
+
+pub returns-in-SensitiveShortWave-clause-given : goal.returns-in-SensitiveShortWave-clause-given
+returns-in-SensitiveShortWave-clause-given g c =
+    let block : List ℤ = c.args.block.now in
+    let old = c.in-SensitiveShortWave.decoder in
+    let new = c.block-in-SensitiveShortWave.new.self in
+    let P : Decoders → Type 0 = λ self. IfOk c.block-in-SensitiveShortWave.result (λ items. (modem : Modem) (x : List ℤ)
+    → HasDecoded modem self x
+    → HasDecoded modem (SensitiveShortWave new) (x ++ block) × AreGivenBetween modem (settled_count modem x)
+    (settled_count modem (x ++ block)) (x ++ block) items.items) in
+    subst P (sym c.in-SensitiveShortWave.is) (IfOk-weaker c.block-in-SensitiveShortWave.result
+    (λ items. (x : List ℤ) → HfSensitiveStandsFor old x → HfSensitiveStandsFor new (x ++ block)
+    × AreSensitiveHfBetween (hf_settled (length x)) (hf_settled (length (x ++ block))) (x ++ block) items.items)
+    (λ items. (modem : Modem) (x : List ℤ) → HasDecoded modem (SensitiveShortWave old) x
+    → HasDecoded modem (SensitiveShortWave new) (x ++ block) × AreGivenBetween modem (settled_count modem x)
+    (settled_count modem (x ++ block)) (x ++ block) items.items)
+    (λ items given. sensitive_hf_block old new block items.items given)
+    c.block-in-SensitiveShortWave.ensures.given)
+
+pub returns-in-SensitiveFx25-clause-given : goal.returns-in-SensitiveFx25-clause-given
+returns-in-SensitiveFx25-clause-given g c =
+    let block : List ℤ = c.args.block.now in
+    let old = c.in-SensitiveFx25.decoder in
+    let new = c.block-in-SensitiveFx25.new.self in
+    let P : Decoders → Type 0 = λ self. IfOk c.block-in-SensitiveFx25.result (λ items. (modem : Modem) (x : List ℤ)
+    → HasDecoded modem self x
+    → HasDecoded modem (SensitiveFx25 new) (x ++ block) × AreGivenBetween modem (settled_count modem x)
+    (settled_count modem (x ++ block)) (x ++ block) items.items) in
+    subst P (sym c.in-SensitiveFx25.is) (IfOk-weaker c.block-in-SensitiveFx25.result
+    (λ items. (x : List ℤ) (given : List Heard) → BlocksStandFor old x given
+    → (heard : List Heard) × BlocksStandFor new (x ++ block) (given ++ heard) × (items.items ≡ map candidate_of heard))
+    (λ items. (modem : Modem) (x : List ℤ) → HasDecoded modem (SensitiveFx25 old) x
+    → HasDecoded modem (SensitiveFx25 new) (x ++ block) × AreGivenBetween modem (settled_count modem x)
+    (settled_count modem (x ++ block)) (x ++ block) items.items)
+    (λ items given. sensitive_fx25_block old new block items.items given)
+    c.block-in-SensitiveFx25.ensures.given)

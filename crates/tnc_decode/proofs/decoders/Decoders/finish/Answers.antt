@@ -1,4 +1,4 @@
-use Rattle.tnc_decode.proofs.Common.{arith, ◌<◌, ◌+◌, ◌/◌, ◌^◌, ℤ, List, length, sym, subst, IfOk, IfOk-weaker, StandsFor}
+use Rattle.tnc_decode.proofs.Common.{◌≡◌, arith, ◌<◌, ◌+◌, ◌++◌, ◌/◌, ◌^◌, ℤ, List, length, sym, subst, IfOk, IfOk-weaker, StandsFor}
 use Rattle.tnc_decode.proofs.Common.{AreMergedBetween, settled, Decoders, Modem, HasDecoded, position_of, settled_count}
 use Rattle.tnc_decode.proofs.Common.{AreGivenRest, decimated, settled_by_all}
 use Rattle.hf_modem.specs.HeldDecoder.{StandsFor as HfStandsFor}
@@ -6,13 +6,23 @@ use Rattle.hf_modem.specs.MergedItems.{AreMergedBetween as AreHfMergedBetween}
 use Rattle.sensitive_receiver.specs.HeldDecoder.{StandsFor as SensitiveStandsFor}
 use Rattle.sensitive_receiver.specs.MergedItems.{AreMergedBetween as AreSensitiveMergedBetween}
 use Rattle.tnc_decode.specs.declared.decoders.Decoders.TheVariants.{Plain, Wide, Sensitive, WideSensitive, ShortWave, Fx25}
+use Rattle.tnc_decode.specs.declared.decoders.Decoders.TheVariants.{SensitiveShortWave, SensitiveFx25}
+use Rattle.hf_sensitive.specs.HeldDecoder.{StandsFor as HfSensitiveStandsFor}
+use Rattle.hf_sensitive.specs.MergedItems.{AreMergedBetween as AreSensitiveHfBetween, settled as hf_settled}
+use Rattle.tnc_decode.proofs.SensitiveHfLemmas.{sensitive_hf_finish}
 use Rattle.wide_input.specs.HeldDecoder.{StandsFor as WideStandsFor}
 use Rattle.wide_input.specs.HeldSensitive.{StandsFor as WideSensitiveStandsFor}
 use Rattle.wide_input.specs.MergedItems.{AreWideRest, settled_ends}
 use Rattle.resampler.specs.Filtered.{filtered}
 use Rattle.tnc_decode.proofs.ModemLemmas.{plain_finish, short_wave_finish, wide_finish}
 use Rattle.tnc_decode.proofs.SensitiveLemmas.{sensitive_finish, wide_sensitive_finish}
+use Rattle.fx25_receiver.specs.declared.heard.Heard.{Heard}
+use Rattle.fx25_receiver.specs.WithoutBlocks.{candidate_of}
+use Rattle.sensitive_blocks.specs.Heard.{AreMerged as AreMergedOfAll}
+use Rattle.sensitive_blocks.specs.Held.{StandsFor as BlocksStandFor}
+use Rattle.std.specs.Prelude.{map}
 use Rattle.tnc_decode.proofs.Fx25Lemmas.{fx25_finish}
+use Rattle.tnc_decode.proofs.SensitiveFx25Lemmas.{sensitive_fx25_finish}
 use Rattle.tnc_decode.proofs.decoders.Decoders.finish.Goals as goal
 
 pub returns-in-Plain : goal.returns-in-Plain
@@ -104,3 +114,36 @@ returns-in-Fx25 c =
     let P : Decoders → Type 0 = λ self. (modem : Modem) (x : List ℤ) → HasDecoded modem self x
     → AreGivenRest modem (settled_count modem x) x items in
     record { rest = subst P (sym c.in-Fx25.is) (fx25_finish decoder items c.finish-in-Fx25.ensures) }
+
+pub returns-in-SensitiveShortWave : goal.returns-in-SensitiveShortWave
+returns-in-SensitiveShortWave c =
+    let decoder = c.in-SensitiveShortWave.decoder in
+    let result = c.finish-in-SensitiveShortWave.result in
+    let P : Decoders → Type 0 = λ self. position_of self + 15 < 2 ^ 48
+    → IfOk result (λ items. (modem : Modem) (x : List ℤ) → HasDecoded modem self x
+    → AreGivenRest modem (settled_count modem x) x items.items) in
+    record {
+      rest = subst P (sym c.in-SensitiveShortWave.is) (λ room. IfOk-weaker result
+          (λ items. (x : List ℤ) → length x < 2 ^ 48 → HfSensitiveStandsFor decoder x
+          → AreSensitiveHfBetween (hf_settled (length x)) (length x / 4 + 1) x items.items)
+          (λ items. (modem : Modem) (x : List ℤ) → HasDecoded modem (SensitiveShortWave decoder) x
+          → AreGivenRest modem (settled_count modem x) x items.items)
+          (λ items rest. sensitive_hf_finish decoder items.items (omega arith) rest)
+          c.finish-in-SensitiveShortWave.ensures.rest) c.requires.room;
+    }
+
+pub returns-in-SensitiveFx25 : goal.returns-in-SensitiveFx25
+returns-in-SensitiveFx25 c =
+    let decoder = c.in-SensitiveFx25.decoder in
+    let result = c.finish-in-SensitiveFx25.result in
+    let P : Decoders → Type 0 = λ self. IfOk result (λ items. (modem : Modem) (x : List ℤ) → HasDecoded modem self x
+    → AreGivenRest modem (settled_count modem x) x items.items) in
+    record {
+      rest = subst P (sym c.in-SensitiveFx25.is) (IfOk-weaker result
+          (λ items. (x : List ℤ) (given : List Heard) → BlocksStandFor decoder x given
+          → (heard : List Heard) × AreMergedOfAll x (given ++ heard) × (items.items ≡ map candidate_of heard))
+          (λ items. (modem : Modem) (x : List ℤ) → HasDecoded modem (SensitiveFx25 decoder) x
+          → AreGivenRest modem (settled_count modem x) x items.items)
+          (λ items rest. sensitive_fx25_finish decoder items.items rest)
+          c.finish-in-SensitiveFx25.ensures.rest);
+    }
