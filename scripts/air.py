@@ -32,6 +32,11 @@ def free_port(kept=[]):
             name.close()
 
 
+def tick_octets(rate):
+    """The octets of a tick at so many samples a second."""
+    return TICK * rate // 9600
+
+
 def connect(port, program=None):
     """A socket to a port of a program that opens it as it starts."""
     for _ in range(5000):
@@ -97,22 +102,22 @@ def read_all(pipe, count):
 class Loss:
     """What reaches the other side: each transmission whole, or silence in its place."""
 
-    def __init__(self, percent, draws):
-        self.percent, self.draws = percent, draws
+    def __init__(self, percent, draws, tick=TICK):
+        self.percent, self.draws, self.tick = percent, draws, tick
         self.sending, self.lost, self.sent_count, self.lost_count = False, False, 0, 0
 
     def heard(self, ticks):
         """Each transmission begins with a tick that is not silent, and ends with one that is."""
         out = []
-        for at in range(0, len(ticks), TICK):
-            tick = ticks[at : at + TICK]
+        for at in range(0, len(ticks), self.tick):
+            tick = ticks[at : at + self.tick]
             silent = not any(tick)
             if not silent and not self.sending:
                 self.lost = self.draws.randrange(100) < self.percent
                 self.sent_count += 1
                 self.lost_count += self.lost
             self.sending = not silent
-            out.append(bytes(TICK) if self.lost else tick)
+            out.append(bytes(self.tick) if self.lost else tick)
         return b"".join(out)
 
 

@@ -150,6 +150,7 @@ decodes_sensitively() {
 comes_back_on_short_wave() {
     "$tnc" encode --hf "${@:2}" <"$1" >"$room/hf.raw" \
         && "$tnc" decode --hf <"$room/hf.raw" | cmp -s - "$1" \
+        && "$tnc" decode --hf --sensitive <"$room/hf.raw" | cmp -s - "$1" \
         && [ -z "$("$tnc" decode <"$room/hf.raw")" ]
 }
 
@@ -491,7 +492,7 @@ fi
 # Words that are refused, and streams that fail.
 check "a word that is no command" is_refused decod
 check "no word" is_refused
-for words in "decode --rate 44100" "decode --hf --threads" "decode --hf --rate 48000" "decode --hf --sensitive" "decode --wav=yes" \
+for words in "decode --rate 44100" "decode --hf --threads" "decode --hf --rate 48000" "decode --hf --sensitive --threads" "decode --wav=yes" \
     "decode recording.raw" "help nothing" "version 1" "bench" "bench --seed 7 --loss 91" "encode --opening 1" "encode --silence 1000001" "encode --level 9" "encode --level 32768" "show --modulo 16" "loop --seed 7" "loop --seed 7 --frames 1001" \
     "record --keep 0" "record --keep 17280001" "call --agw 8000 --from N7LEM" "call --agw 8000 --from N7LEM --to NJ7P --via N7LEM," \
     "call --agw 8000 --from N7LEM --to NJ7P --polls 0"; do

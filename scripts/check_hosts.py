@@ -193,7 +193,7 @@ def little(number, octets=4):
 
 
 def answers(tnc):
-    """R, G, g, y and Y are answered, also for port 255; P and kinds that are none are passed over."""
+    """R, G, g, y and Y are answered, also for port 255; P, H while nobody was heard, and kinds that are none are not."""
     world = World(tnc)
     host = world.client(0)
     for port in (0, 1, 255):
@@ -333,6 +333,28 @@ def monitors(tnc):
     ):
         same(shown.count((kind, source, to, f" 1:Fm {source} To {to} ".encode() + what, text)), 1)
     world.quiet(far)
+    world.end()
+
+
+def lists_stations(tnc):
+    """H: the last 20 stations that were heard, the last one first, each in a message of its own."""
+    world = World(tnc)
+    near, far, kiss = world.client(0), world.client(1), world.kiss(0)
+    near.send("H")
+    world.quiet(near)
+    calls = [f"N{it}C-{it % 15 + 1}" for it in range(22)] + ["N5C-6"]
+    for call in calls:
+        far.send("M", "APRS", b"x", source=call)
+    world.frames(kiss, len(calls))
+    near.send("H")
+    world.until("20 stations", lambda: len(near.messages) == 20)
+    told = near.take()
+    world.quiet(near)
+    wanted = ["N5C-6", *(it for it in reversed(calls[:-1]) if it != "N5C-6")][:20]
+    for message, call in zip(told, wanted, strict=True):
+        same((message.kind, message.source, message.to), ("H", "", ""))
+        found = re.fullmatch(rb"([^ ]+) (\d\d:\d\d:\d\d)  (\d\d:\d\d:\d\d)\0", message.body)
+        same((found[1].decode(), found[2] < found[3]), (call, call == "N5C-6"))
     world.end()
 
 
@@ -577,7 +599,7 @@ def repeats(tnc):
 OWN = [
     answers, settings, registers, sends_unproto, raw_frames, monitors, carries, connects_with_pid, connects_by_repeater,
     refuses_calls, has_links_for_64, is_refused_by_nobody, takes_pieces, closes, has_room_for_64, is_flooded, speaks_kiss,
-    tells_of_sent_frames, repeats,
+    tells_of_sent_frames, lists_stations, repeats,
 ]
 
 

@@ -21,6 +21,7 @@ check() {
 
 if command -v direwolf >/dev/null; then
     check "sessions with Dire Wolf" scripts/check_peers.py --tnc "$tnc"
+    check "sessions with Dire Wolf at 48,000 samples a second" scripts/check_peers.py --tnc "$tnc" --rate 48000
     check "a call to a station that is a Dire Wolf" scripts/check_call.py --tnc "$tnc" --appserver
     check "a call by a station that is a Dire Wolf" scripts/check_call.py --tnc "$tnc" --appserver --direwolf
 else

@@ -3,11 +3,13 @@
 called by either end, all at once and at the pace of sound, while parts of long transmissions are lost.
 
   scripts/check_peers.py [--tnc PROGRAM] [--packets N] [--seed N] [--only N] [--times] [--log FOLDER] [--ptt] [--hf]
+                         [--rate N]
 
 In a session the host of each station gives so many packets, and the host of the other one has to get just these; then the
 end that called disconnects. With --ptt the station keys the dummy rig of a rigctld, and its sound goes out only while that is
-keyed; none may be cut off. With --hf both are on short wave, at 300 bits a second. It prints a line for each session that
-failed, or for all, and ends with status 0 where all is well, and 77 if there is to be a rigctld and none is installed."""
+keyed; none may be cut off. With --hf both are on short wave, at 300 bits a second. With --rate 48000, and without --ptt, the
+sound between them has so many samples a second, in place of 9600. It prints a line for each session that failed, or for all,
+and ends with status 0 where all is well, and 77 if there is to be a rigctld and none is installed."""
 import argparse
 import collections
 import itertools
@@ -38,7 +40,11 @@ def wanted(words):
     reader.add_argument("--log")
     reader.add_argument("--ptt", action="store_true")
     reader.add_argument("--hf", action="store_true")
-    return reader.parse_args(words)
+    reader.add_argument("--rate", type=int, choices=[9600, 48000], default=9600)
+    given = reader.parse_args(words)
+    if given.rate == 48000 and given.ptt:
+        reader.error("--ptt is at 9600 samples a second")
+    return given
 
 
 class Session:
@@ -48,6 +54,7 @@ class Session:
         self.calls, self.mode, self.wide = SESSIONS[number]
         draws = random.Random(given.seed * 100 + number)
         options = ["--mode", self.mode, *(["--wide"] if self.wide else []), "--monitor", "--seed", given.seed + number]
+        options += ["--rate", given.rate]
         settings = ["NOXID TTTT", "FRACK 3"] if self.wide else ["MAXV22 0", "FRACK 3"]
         if given.hf:
             options += ["--hf"]
@@ -55,8 +62,8 @@ class Session:
         self.longer = 4 if given.hf else 1  # how many times as long as at 1200 bits a second a bit lasts
         transmitter = Transmitter(Rig().start()) if given.ptt else None
         self.station = Station(given.tnc, *options, transmitter=transmitter)
-        self.wolf = DireWolf("DDDD", *settings)
-        self.air = PacedAir(self.station, self.wolf, draws, longer=self.longer)
+        self.wolf = DireWolf("DDDD", *settings, rate=given.rate)
+        self.air = PacedAir(self.station, self.wolf, draws, longer=self.longer, rate=given.rate)
         self.kiss = Kiss(self.station)
         self.kiss.send(b"\x14", command=1)
         self.hosts = [Agw(self.station, "TTTT"), Agw(self.wolf, "DDDD")]

@@ -7,11 +7,11 @@ import subprocess
 import tempfile
 import time
 
-from air import TICK, connect, free_port
+from air import TICK, connect, free_port, tick_octets
 
 CARD = 'pcm.air {{ type file slave.pcm null file "{}" format raw }}\n'
 SETTINGS = """ADEVICE stdin air
-ARATE 9600
+ARATE {rate}
 CHANNEL 0
 MODEM 1200
 TXDELAY 20
@@ -23,15 +23,15 @@ KISSPORT {kiss}
 
 
 class DireWolf:
-    """A running `direwolf` in a fresh folder."""
+    """A running `direwolf` in a fresh folder, with so many samples a second."""
 
-    def __init__(self, call, *settings):
+    def __init__(self, call, *settings, rate=9600):
         self.kiss, self.agw = free_port(), free_port()
         self.home = tempfile.TemporaryDirectory(prefix="direwolf-", ignore_cleanup_errors=True)
         pipe = f"{self.home.name}/sent"
         os.mkfifo(pipe)
         self.write(".asoundrc", CARD.format(pipe))
-        self.write("direwolf.conf", SETTINGS.format(call=call, agw=self.agw, kiss=self.kiss) + "\n".join(settings) + "\n")
+        self.write("direwolf.conf", SETTINGS.format(rate=rate, call=call, agw=self.agw, kiss=self.kiss) + "\n".join(settings) + "\n")
         self.sent = os.open(pipe, os.O_RDONLY | os.O_NONBLOCK)
         self.queue = b""
         self.log = open(f"{self.home.name}/log", "w+b")
@@ -83,15 +83,15 @@ class Damage:
     """What reaches the other side: of each long transmission a tenth of a second is missing, at a drawn place. Where bits last
     so many times as long as at 1200 a second, so do the places."""
 
-    def __init__(self, draws, wanted=True, longer=1):
-        self.draws, self.wanted, self.since, self.count = draws, wanted, 0, 0
+    def __init__(self, draws, wanted=True, longer=1, tick=TICK):
+        self.draws, self.wanted, self.tick, self.since, self.count = draws, wanted, tick, 0, 0
         self.places = (80 * longer, 300 * longer)
         self.at = self.places[0]
 
     def heard(self, ticks):
         out = []
-        for at in range(0, len(ticks), TICK):
-            tick = ticks[at : at + TICK]
+        for at in range(0, len(ticks), self.tick):
+            tick = ticks[at : at + self.tick]
             if not any(tick):
                 self.since = 0
             elif self.since == 0:
@@ -99,23 +99,24 @@ class Damage:
             self.since += any(tick)
             gone = self.wanted and self.at <= self.since < self.at + 10
             self.count += gone and self.since == self.at
-            out.append(bytes(TICK) if gone else tick)
+            out.append(bytes(self.tick) if gone else tick)
         return b"".join(out)
 
 
 class PacedAir:
     """Carries the samples of a station and a Dire Wolf to each other at the pace of sound."""
 
-    def __init__(self, station, wolf, draws, damage=True, ticks=2, longer=1):
-        self.station, self.wolf, self.count = station, wolf, ticks * TICK
-        self.to_wolf, self.to_station = Damage(draws, damage, longer), Damage(draws, damage, longer)
+    def __init__(self, station, wolf, draws, damage=True, ticks=2, longer=1, rate=9600):
+        self.tick = tick_octets(rate)
+        self.station, self.wolf, self.count = station, wolf, ticks * self.tick
+        self.to_wolf, self.to_station = (Damage(draws, damage, longer, self.tick) for _ in range(2))
         self.ticks, self.began = 0, time.monotonic()
 
     def step(self):
         """A few ticks, and the time that they take."""
         self.station.program.stdin.write(self.to_station.heard(self.wolf.take(self.count)))
         self.wolf.program.stdin.write(self.to_wolf.heard(self.station.sound(self.count)))
-        self.ticks += self.count // TICK
+        self.ticks += self.count // self.tick
         ahead = self.ticks / 100 - (time.monotonic() - self.began)
         if ahead > 0:
             time.sleep(ahead)

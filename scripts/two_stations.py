@@ -1,12 +1,13 @@
 #!/usr/bin/env python3
 """Two stations on one machine whose sound reaches each other, at the pace of sound: to try host programs without a radio.
 
-  scripts/two_stations.py [--tnc PROGRAM] [--kiss N N] [--agw N N] [--loss PERCENT] [--seed N] [--seconds N] [--times] [WORD..]
+  scripts/two_stations.py [--tnc PROGRAM] [--kiss N N] [--agw N N] [--loss PERCENT] [--seed N] [--seconds N] [--times]
+                          [--rate N] [WORD..]
 
 The first station has the first port of each pair, the second one the second. WORDS after `--` go to both, as `-- --mode srej`.
 Of so many percent of the transmissions nothing arrives; the seed says of which. A line tells the ports, and each frame that a
-station hears or has sent is one more, with --times after the seconds of sound that have gone by. It runs until it is stopped, or
-for so many seconds."""
+station hears or has sent is one more, with --times after the seconds of sound that have gone by. With --rate 48000 the
+sound between them has so many samples a second, in place of 9600. It runs until it is stopped, or for so many seconds."""
 import argparse
 import random
 import subprocess
@@ -14,7 +15,7 @@ import sys
 import threading
 import time
 
-from air import TICK, Loss, connect, read_all
+from air import Loss, connect, read_all, tick_octets
 
 STEP = 2  # ticks at a time
 
@@ -28,6 +29,7 @@ class Clock:
 def started(given, at, clock):
     """One of the stations, with its lines as lines of this program's output."""
     words = [given.tnc, "serve", "--kiss", str(given.kiss[at]), "--agw", str(given.agw[at]), "--seed", str(at + 1)]
+    words += ["--rate", str(given.rate)]
     pipe = subprocess.PIPE
     program = subprocess.Popen([*words, "--monitor", *given.words], stdin=pipe, stdout=pipe, stderr=pipe, bufsize=0)
 
@@ -41,14 +43,14 @@ def started(given, at, clock):
     return program, teller
 
 
-def carry(stations, losses, seconds, clock):
-    """Lets each hear what the other one sends."""
-    heard = [bytes(STEP * TICK)] * 2
+def carry(stations, losses, seconds, clock, tick):
+    """Lets each hear what the other one sends, in ticks of so many octets."""
+    heard = [bytes(STEP * tick)] * 2
     began, steps = time.monotonic(), 0
     while not seconds or steps * STEP < 100 * seconds:
         for (program, _), sound in zip(stations, heard):
             program.stdin.write(sound)
-        sent = [read_all(program.stdout, STEP * TICK) for program, _ in stations]
+        sent = [read_all(program.stdout, STEP * tick) for program, _ in stations]
         heard = [losses[1].heard(sent[1]), losses[0].heard(sent[0])]
         steps += 1
         clock.seconds = steps * STEP / 100
@@ -66,6 +68,7 @@ def main():
     reader.add_argument("--seed", type=int)
     reader.add_argument("--seconds", type=float, default=0)
     reader.add_argument("--times", action="store_true")
+    reader.add_argument("--rate", type=int, choices=[9600, 48000], default=9600)
     reader.add_argument("words", nargs="*")
     given = reader.parse_args()
     clock = Clock()
@@ -76,7 +79,8 @@ def main():
             connect(given.agw[at]).close()
             print(f"{at + 1} kiss {given.kiss[at]} agw {given.agw[at]}", flush=True)
     try:
-        carry(stations, [Loss(given.loss, draws) for _ in range(2)], given.seconds, clock)
+        tick = tick_octets(given.rate)
+        carry(stations, [Loss(given.loss, draws, tick) for _ in range(2)], given.seconds, clock, tick)
     except (KeyboardInterrupt, RuntimeError, OSError) as fault:
         if str(fault):
             print(fault, flush=True)
