@@ -5,7 +5,7 @@ use Rattle.station_laws.proofs.Common.{Up, Releasing, Event, Machine, step, begi
 use Rattle.station_laws.proofs.Common.{step_is, is_refused, as_timed, agrees, calls_again, connects, declines}
 use Rattle.station_laws.proofs.Common.{ends_by_disc, ends_by_dm, ends_call, gives_up, is_answered, is_called}
 use Rattle.station_laws.proofs.Common.{is_called_again, narrows, falls_narrow, releases_again, resets, rests, takes}
-use Rattle.station_laws.proofs.Common.{withdraws, wishes, abandons, works}
+use Rattle.station_laws.proofs.Common.{tells_own, withdraws, wishes, abandons, works}
 use Rattle.station_laws.proofs.Common.{goes_on, is_down, releases}
 use Rattle.link_machine.specs.Turn.{Turn}
 use Rattle.link_steps.proofs.Rows.Stepped.{makes}
@@ -46,6 +46,7 @@ row_apart m event t runs h (rests (as_timed c mode)) = tt
 row_apart m event t runs h (works up run) = gives_apart runs m t (traffic_gives run)
 row_apart m event t runs h (declines flag down heard) = tt
 row_apart m event t runs h (agrees flag down heard) = tt
+row_apart m event t runs h (tells_own flag idle heard) = tt
 row_apart m event t runs h (calls_again (as_timed c mode) calling tick) = tt
 row_apart m event t runs h (releases_again (as_timed c mode) releasing tick) = tt
 row_apart m event t runs h (ends_call why (as_timed c mode) down) = tt

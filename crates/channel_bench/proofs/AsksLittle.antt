@@ -7,14 +7,14 @@ use Rattle.channel_bench.proofs.Common.{refusal_of, step, IsDown, RefusesWide, R
 use Rattle.channel_bench.proofs.Common.{agrees, calls_again, connects, declines, ends_by_disc, ends_by_dm, ends_call}
 use Rattle.channel_bench.proofs.Common.{gives_up, is_answered, is_called, is_called_again, narrows, falls_narrow}
 use Rattle.channel_bench.proofs.Common.{releases_again}
-use Rattle.channel_bench.proofs.Common.{resets, rests, takes, withdraws, wishes, abandons, works}
+use Rattle.channel_bench.proofs.Common.{resets, rests, takes, tells_own, withdraws, wishes, abandons, works}
 use Rattle.channel_bench.proofs.Common.{goes_on, is_down, releases, is_refused, ◌||◌}
 use Rattle.channel_bench.proofs.Common.{makes, LinkStep, AsksInRoom, DropsNoAsk, asks_when_sent}
 use Rattle.link_machine.specs.Event.{Event}
 use Rattle.link_machine.specs.Event.Event.{Connect, Send, Disconnect, Seize, Tick}
 use Rattle.link_machine.specs.Step.{row, settled}
 use Rattle.link_machine.specs.Turn.{Turn, begin}
-use Rattle.link_steps.proofs.Rows.{Hears, IsAsking, IsDeclined, IsConnect, IsDisconnect, IsT1Tick, IsUa}
+use Rattle.link_steps.proofs.Rows.{Hears, IsAsking, IsDeclined, IsConnect, IsDisconnect, IsT1Tick, IsUa, IsXid}
 use Rattle.station_laws.specs.MatchedLaw.{FindsRoom}
 
 -- an event in which a frame may be sent: a connect, a disconnect, or a tick if no frame of the link waits
@@ -98,6 +98,7 @@ row_few m event t asked down (rests (as_timed c mode)) = sends_not refl (subst I
 row_few m event t asked down (works up run) = absurd (subst IsDown up down)
 row_few m event t asked down (declines flag is heard) = absurd (nothing_heard (IsDeclined m) event asked heard)
 row_few m event t asked down (agrees flag is heard) = absurd (nothing_heard IsAsking event asked heard)
+row_few m event t asked down (tells_own flag idle heard) = absurd (nothing_heard IsXid event asked heard)
 row_few m event t asked down (calls_again (as_timed c mode) calling tick) =
     sends_once _ refl (subst IsDown (sym mode.0) down) (timer_may event tick)
     (λ is. absurd (timer_is_no_disconnect event tick is))

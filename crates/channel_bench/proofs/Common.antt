@@ -71,7 +71,7 @@ pub use Rattle.link_steps.proofs.Rows.Rests.{as_timed}
 pub use Rattle.link_steps.proofs.Rows.Row.{agrees, calls_again, connects, declines, ends_by_disc, ends_by_dm, ends_call}
 pub use Rattle.link_steps.proofs.Rows.Row.{gives_up, is_answered, is_called, is_called_again, narrows, falls_narrow}
 pub use Rattle.link_steps.proofs.Rows.Row.{releases_again}
-pub use Rattle.link_steps.proofs.Rows.Row.{abandons, resets, rests, takes, wishes, withdraws, works}
+pub use Rattle.link_steps.proofs.Rows.Row.{abandons, resets, rests, takes, tells_own, wishes, withdraws, works}
 pub use Rattle.link_steps.proofs.Rows.Settles.{goes_on, is_down, releases}
 pub use Rattle.link_steps.proofs.Rows.Stepped.{is_refused, makes}
 pub use Rattle.link_world.proofs.law.ChangesLaw.{changes_law_holds}

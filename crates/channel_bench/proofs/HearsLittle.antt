@@ -5,7 +5,7 @@ use Rattle.channel_bench.proofs.Common.{Calling, Up, Releasing, Hear, Machine, s
 use Rattle.channel_bench.proofs.Common.{Stepped, step_is, as_timed, agrees, calls_again, connects, declines}
 use Rattle.channel_bench.proofs.Common.{ends_by_disc, ends_by_dm, ends_call, gives_up, is_answered, is_called}
 use Rattle.channel_bench.proofs.Common.{is_called_again, narrows, falls_narrow, releases_again, resets, rests, takes}
-use Rattle.channel_bench.proofs.Common.{withdraws, wishes, abandons, works}
+use Rattle.channel_bench.proofs.Common.{tells_own, withdraws, wishes, abandons, works}
 use Rattle.channel_bench.proofs.Common.{goes_on, is_down, releases, is_refused, makes, asks_when_sent, StandsAsked}
 use Rattle.link_machine.specs.Turn.{Turn}
 use Rattle.channel_bench.proofs.WideCalls.{IsWideCall}
@@ -56,6 +56,7 @@ row_quiet m frame t down calm (rests (as_timed c mode)) = stays (subst IsDown (s
 row_quiet m frame t down calm (works up run) = absurd (subst IsDown up down)
 row_quiet m frame t down calm (declines flag is heard) = stays down refl
 row_quiet m frame t down calm (agrees flag is heard) = stays down refl
+row_quiet m frame t down calm (tells_own flag idle heard) = stays down refl
 row_quiet m frame t down calm (calls_again run calling tick) = absurd tick
 row_quiet m frame t down calm (releases_again run releasing tick) = absurd tick
 row_quiet m frame t down calm (ends_call why (as_timed c mode) is) = stays tt refl

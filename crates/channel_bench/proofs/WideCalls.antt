@@ -6,7 +6,7 @@ use Rattle.channel_bench.proofs.Common.{Stepped}
 use Rattle.channel_bench.proofs.Common.{step_is, as_timed, agrees, calls_again, connects, declines, ends_by_disc}
 use Rattle.channel_bench.proofs.Common.{ends_by_dm, ends_call, gives_up, is_answered, is_called, is_called_again}
 use Rattle.channel_bench.proofs.Common.{narrows, falls_narrow, releases_again, resets, rests, takes, works}
-use Rattle.channel_bench.proofs.Common.{withdraws, wishes, abandons}
+use Rattle.channel_bench.proofs.Common.{tells_own, withdraws, wishes, abandons}
 use Rattle.channel_bench.proofs.Common.{goes_on, is_down, releases, is_refused, makes}
 use Rattle.std.specs.Prelude.{List, ◌∷◌}
 use Rattle.link_machine.specs.Event.{Event}
@@ -51,6 +51,8 @@ row_wide m event t plain (works up run) h =
 row_wide m event t plain (declines flag down heard) h =
     absurd (plain.unasked h.state (ask_is event (declined_asks m event h.state heard)))
 row_wide m event t plain (agrees flag down heard) h = absurd (plain.unasked h.state (ask_is event heard))
+row_wide m event t plain (tells_own flag idle heard) h =
+    let clash : Idle ≡ Calling = sym idle ∙ h.state in absurd (cc)
 row_wide m event t plain (calls_again (as_timed c mode) calling tick) h =
     record { before = record { state = calling; wide = h.wide }; sends = inr (refl, tick) }
 row_wide m event t plain (releases_again (as_timed c mode) releasing tick) h =

@@ -26,7 +26,10 @@ pub use Rattle.link_machine.specs.Machine.{falls_back, is_wide, named, narrowed}
 pub use Rattle.link_machine.specs.Requests.{disconnect, disconnect_in, give_up, quit_up, quitting, refusal, withdraw}
 pub use Rattle.link_machine.specs.Room.{frames_left, told_left}
 pub use Rattle.link_machine.specs.Sent.{Sent, SentIn, all_sent_in, sent_frame, sent_frames, sent_in}
-pub use Rattle.link_machine.specs.Sent.Sent.{InfoSent, SetupSent, SuperSent}
+pub use Rattle.link_machine.specs.Negotiation.{agreed, answer_xid, ask_xid, asked_once, asks_xid, concluding, hear_answering}
+pub use Rattle.link_machine.specs.Negotiation.{hear_asking, hear_xid, hear_xid_idle, is_heard_as_command, tm201_ticked}
+pub use Rattle.link_machine.specs.Negotiation.{awaits_xid, has_done, own_parameters, to_ask, using, widest_parameters}
+pub use Rattle.link_machine.specs.Sent.Sent.{InfoSent, SetupSent, SuperSent, XidSent}
 pub use Rattle.link_machine.specs.StandsFor.{StandsFor}
 unfoldable pub use Rattle.link_machine.specs.Step.{step}
 pub use Rattle.link_machine.specs.Step.{done_of, refusal_of, row, settle_in, settled}
@@ -35,9 +38,9 @@ pub use Rattle.link_machine.specs.Seizing.{poll_frame, polled_packet, polls, rej
 pub use Rattle.link_machine.specs.Seizing.{send_answer, send_due, send_frame, send_info, send_info_with, send_next}
 pub use Rattle.link_machine.specs.Seizing.{send_poll, send_rej, send_srej}
 pub use Rattle.link_machine.specs.Ticks.{fall_back, is_spent, lowered, retried, runs_out, silent, t1_out, t3_out, tick_in}
-pub use Rattle.link_machine.specs.Ticks.{tick_t1, tick_t1_of, tick_t3_of, to_poll, with_t1, with_t3}
+pub use Rattle.link_machine.specs.Ticks.{tick_t1, tick_t1_of, tick_t3_of, tick_up, to_poll, with_t1, with_t3}
 pub use Rattle.link_machine.specs.Wants.{can_send_info, has_more, is_asked_again, is_missing_some}
-pub use Rattle.link_machine.specs.Wants.{may_send_info, owes, wants}
+pub use Rattle.link_machine.specs.Wants.{may_send_info, owes, sending_window, wants}
 pub use Rattle.link_machine.specs.Turn.{Act, Turn, begin, changing, in_order, sending, setting, telling}
 pub use Rattle.link_machine.specs.declared.acts.SentFrame.{SentFrame}
 pub use Rattle.link_machine.specs.declared.acts.Told.{Told}

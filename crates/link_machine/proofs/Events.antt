@@ -4,7 +4,8 @@ use Rattle.link_machine.proofs.Common.{sym, ◌∙◌, ap, subst, arith, inl, fa
 use Rattle.link_machine.proofs.Common.{acknowledgement, Control, Room, LinkState, Idle, Calling, Up, Releasing, Done}
 use Rattle.link_machine.proofs.Common.{Machine, is_valid, named, Turn, Act, begin, reset, close, Asked, hear_in, hear}
 use Rattle.link_machine.proofs.Common.{hear_idle, hear_releasing, open_called, end_call, Kind, Info, Super, Setup, Ui}
-use Rattle.link_machine.proofs.Common.{Other, Sabm, Sabme, Disc, Dm, Ua, OutOfMemory, ◌==◌, nat_lt, inr, lt-ltb}
+use Rattle.link_machine.proofs.Common.{Other, Frmr, Xid, Test, Sabm, Sabme, Disc, Dm, Ua, OutOfMemory, ◌==◌, nat_lt, inr}
+use Rattle.link_machine.proofs.Common.{lt-ltb}
 use Rattle.link_machine.proofs.Common.{ltb-true, ltb-false, eqb-true, not, cond-true, cond-false, settle_in, settled}
 use Rattle.link_machine.proofs.Common.{IsWhole, Holds, Shows, Made, Makes, hear_numbered, IsOutgoing}
 use Rattle.std.proofs.Common.{Result}
@@ -98,6 +99,16 @@ pub made_unsettled :
 made_unsettled held room t done h off frames told =
     let P : Turn → Type 0 = λ x. Made x held done in
     subst P (sym (unsettled t off)) (made held room t done h frames told)
+
+-- the same of another act that does the same
+pub makes_same :
+    (act other : Act) (before behind : Held) (result : Result Done OutOfMemory)
+    → ((m : Machine) → Holds before m → act (begin m) ≡ other (begin m)) → Makes act before behind result
+    → Makes other before behind result
+makes_same act other before behind (Ok done) same makes = λ m h.
+    let P : Turn → Type 0 = λ t. Made (settled t) behind done in
+    subst P (same m h) (makes m h)
+makes_same act other before behind (Err fault) same makes = makes
 
 -- what a valid N(R) says
 is_named_if_counted : (b : Bool) (d count : ℕ) (bad : BadNr)
@@ -256,7 +267,10 @@ settled_idle true (Super which nr true) t e = unsettled _ (idle_is t e)
 settled_idle true (Super which nr false) t e = unsettled _ (idle_is t e)
 settled_idle false (Super which nr flag) t e = unsettled _ (idle_is t e)
 settled_idle command (Ui flag pid octets) t e = unsettled _ (idle_is t e)
-settled_idle command (Other which flag octets) t e = unsettled _ (idle_is t e)
+settled_idle command (Other Frmr flag octets) t e = unsettled _ (idle_is t e)
+settled_idle true (Other Xid flag octets) t e = unsettled _ (idle_is t e)
+settled_idle false (Other Xid flag octets) t e = unsettled _ (idle_is t e)
+settled_idle command (Other Test flag octets) t e = unsettled _ (idle_is t e)
 
 releasing_is : (t : Turn) → t.now.control.state ≡ Releasing → is_up t.now.control.state ≡ false
 releasing_is t e = ap is_up e

@@ -3,7 +3,7 @@ use Rattle.link_machine.proofs.Common.{◌≡◌, ℕ, ◌-◌, Bool, true, fals
 use Rattle.link_machine.proofs.Common.{None, is_some, slice_get, false≢true, cond-true, cond-false, Machine, Turn}
 use Rattle.link_machine.proofs.Common.{is_missing_some, is_asked_again, may_send_info, next_missing, polled_packet}
 use Rattle.link_machine.proofs.Common.{send_frame, send_rej, send_srej, send_answer, send_poll, send_again, send_next}
-use Rattle.link_machine.proofs.Common.{send_due, carried}
+use Rattle.link_machine.proofs.Common.{send_due, carried, sending_window}
 use Rattle.link_machine.proofs.Common.{◌+◌, ◌<◌, ◌&&◌, not, nat_lt, min, length, arith, inl, inr, lt-ltb}
 use Rattle.std.specs.Prelude.{◌||◌}
 use Rattle.std.proofs.lemmas.Bool.{cases_lt, le-ltb}
@@ -97,11 +97,11 @@ carries_nothing m h again e = info_of m h.owes ∙ cond-false _ _ _ h.ask ∙ co
 -- the packet so far ahead of V(A), if nothing goes before it and the window allows it
 pub carries_at :
     (m : Machine) (sent : ℕ) → AsksNone m → is_asked_again m ≡ false → m.control.busy ≡ false
-    → m.control.poll ≡ false → m.outgoing.vs ≡ m.outgoing.va + sent → sent < m.incoming.window
+    → m.control.poll ≡ false → m.outgoing.vs ≡ m.outgoing.va + sent → sent < sending_window m
     → carried m ≡ slice_get m.outgoing.packets sent
 carries_at m sent asks again busy poll vs within =
     let o = m.outgoing in
-    let reach : ℕ = o.va + min m.incoming.window (length o.packets) in
+    let reach : ℕ = o.va + min (sending_window m) (length o.packets) in
     let free : not (m.control.busy || m.control.poll) ≡ true =
     ap (λ b. not (b || m.control.poll)) busy ∙ ap not poll in
     let place : o.vs - o.va ≡ sent = omega (arith, vs) in

@@ -3,7 +3,7 @@ use Rattle.link_machine.proofs.Common.{◌≡◌, ℕ, ◌+◌, ◌++◌, ◌∙
 use Rattle.link_machine.proofs.Common.{option_to_list, all_sent_in, InfoSent, info_sent, left_with, send_info_with, sending}
 use Rattle.link_machine.proofs.Common.{setting, changing, slice_get, StandsForOutgoing}
 use Rattle.link_machine.proofs.Common.{None, true, false, false≢true, not, ◌&&◌, Machine, may_send_info}
-use Rattle.link_machine.proofs.Common.{List, SentIn}
+use Rattle.link_machine.proofs.Common.{List, SentIn, sending_window, arith, length, lt-ltb, ltb-true, min}
 use Rattle.std.proofs.Common.{append-nil}
 use Rattle.std.specs.Prelude.{drop, ◌||◌}
 use Rattle.selective_reject.specs.Outgoing.{after_again, may_send}
@@ -53,7 +53,11 @@ number_of None = 0
 number_of (Some number) = number
 
 pub may_by_window : (m : Machine) → may_send_info m ≡ true → may_send m.incoming.window m.outgoing ≡ true
-may_by_window m e = second (not (m.control.busy || m.control.poll)) (may_send m.incoming.window m.outgoing) e
+may_by_window m e =
+    let o = m.outgoing in
+    let less = ltb-true o.vs (o.va + min (sending_window m) (length o.packets))
+    (second (not (m.control.busy || m.control.poll)) (may_send (sending_window m) o) e) in
+    lt-ltb o.vs (o.va + min m.incoming.window (length o.packets)) (omega (arith, less))
   where
     second : (a b : Bool) → (a && b) ≡ true → b ≡ true
     second true b e = e

@@ -24,7 +24,9 @@ use Rattle.link_machine.proofs.Common.{behind_poll, heard_busy, is_asked_again, 
 use Rattle.link_machine.proofs.Common.{max, may_send_info, next_missing, none_again, not_passed, nothing_asked}
 use Rattle.link_machine.proofs.Common.{notice_passed, out_of_sequence, picked_out, poll_frame, polled, polled_packet}
 use Rattle.link_machine.proofs.Common.{polls, recover_with, rejected, seize_in, send_due, send_frame, send_info}
-use Rattle.link_machine.proofs.Common.{send_next, send_poll, send_srej, silent, to_poll, wants}
+use Rattle.link_machine.proofs.Common.{send_next, send_poll, send_srej, silent, to_poll, wants, XidSent, agreed, asked_once}
+use Rattle.link_machine.proofs.Common.{asks_xid, awaits_xid, concluding, has_done, hear_xid, own_parameters, tick_up, widest_parameters}
+use Rattle.link_machine.proofs.Common.{tm201_ticked, to_ask, using}
 use Rattle.std.proofs.Common.{◌&&◌, ◌||◌, not, nat_le}
 use Rattle.std.specs.Prelude.{All, ⊤}
 use Rattle.std.proofs.lemmas.List.Elements.{All-nil, All-cons, All-head, All-tail, All-same, All-append, All-push}
@@ -59,6 +61,7 @@ abbrev pub HasShort : Sent → Type 0
 HasShort (InfoSent number nr poll packet) = IsShort packet
 HasShort (SuperSent which command nr flag) = ⊤
 HasShort (SetupSent which flag) = ⊤
+HasShort (XidSent command flag own) = ⊤
 
 abbrev pub CanSend : SentIn → Type 0
 CanSend s = IsModulus s.modulus × HasShort s.frame
@@ -224,8 +227,8 @@ keeps_open_called modulus known flag t h =
     keeps_telling (Opened false) _ (keeps_ua flag _ (keeps_setting (in_state Up) _ counted))
 
 keeps_open_answered : Keeps open_answered
-keeps_open_answered t h = keeps_telling (Opened true) _
-    (keeps_setting (in_state Up) _ (keeps_changing fresh sound_fresh t h))
+keeps_open_answered t h = keeps_telling (Opened true) _ (keeps_setting (to_ask (is_wide t.now)) _
+    (keeps_setting (in_state Up) _ (keeps_changing fresh sound_fresh t h)))
 
 keeps_call_narrow : Keeps call_narrow
 keeps_call_narrow t h =
@@ -254,7 +257,10 @@ keeps_idle true (Super which nr true) t h = keeps_dm true t h
 keeps_idle true (Super which nr false) t h = h
 keeps_idle false (Super which nr flag) t h = h
 keeps_idle command (Ui flag pid octets) t h = h
-keeps_idle command (Other which flag octets) t h = h
+keeps_idle command (Other Frmr flag octets) t h = h
+keeps_idle true (Other Xid flag octets) t h = keeps_sending (XidSent false flag (widest_parameters t.now)) tt t h
+keeps_idle false (Other Xid flag octets) t h = h
+keeps_idle command (Other Test flag octets) t h = h
 
 keeps_calling : (wide : Bool) (kind : Kind) → Keeps (hear_calling_in wide kind)
 keeps_calling true (Setup Sabm flag) t h = h
@@ -445,6 +451,13 @@ keeps_seize_in Calling last full t h = h
 keeps_seize_in Up last full t h = keeps_send_frame last full _ (keeps_notice full t h)
 keeps_seize_in Releasing last full t h = h
 
+keeps_xid : (command flag : Bool) (octets : List ℕ) → Keeps (hear_xid command flag octets)
+keeps_xid true flag octets t h =
+    let own = agreed octets t.now in
+    sound_if (has_done t.now) _ _ h (keeps_sending (XidSent false flag own) tt _ (keeps_setting (using own) t h))
+keeps_xid false flag octets t h =
+    sound_if (flag && awaits_xid t.now.control) _ _ (keeps_setting (concluding (agreed octets t.now)) t h) h
+
 keeps_up : (command : Bool) (kind : Kind) → Keeps (hear_up command kind)
 keeps_up command (Setup Sabm flag) t h = keeps_open_again 8 (inl refl) flag t h
 keeps_up command (Setup Sabme flag) t h = keeps_open_again 128 (inr refl) flag t h
@@ -458,7 +471,7 @@ keeps_up command (Super which nr flag) t h =
     sound_if (is_valid nr t.now) _ _ (keeps_supervisory which (named nr t.now) command flag t h) (keeps_reset t h)
 keeps_up command (Ui flag pid octets) t h = h
 keeps_up command (Other Frmr flag octets) t h = keeps_reset t h
-keeps_up command (Other Xid flag octets) t h = h
+keeps_up command (Other Xid flag octets) t h = keeps_xid command flag octets t h
 keeps_up command (Other Test flag octets) t h = h
 
 keeps_hear_in : (s : LinkState) (command : Bool) (kind : Kind) → Keeps (hear_in s command kind)
@@ -509,10 +522,16 @@ keeps_t1 (Some left) false t h =
 keeps_timers : (still : Bool) → Keeps (tick_t1 still)
 keeps_timers still t h = keeps_t1 t.now.control.t1 (still || wants t.now) t h
 
+keeps_tick_up : (still : Bool) → Keeps (tick_up still)
+keeps_tick_up still t h = sound_if (asks_xid still t.now) _ _
+    (keeps_setting asked_once _
+    (keeps_sending (XidSent true true (own_parameters t.now)) tt t h))
+    (keeps_timers still _ (keeps_setting (tm201_ticked still) t h))
+
 keeps_tick_in : (s : LinkState) (still : Bool) → Keeps (tick_in s still)
 keeps_tick_in Idle still t h = h
 keeps_tick_in Calling still t h = keeps_timers still t h
-keeps_tick_in Up still t h = keeps_timers still t h
+keeps_tick_in Up still t h = keeps_tick_up still t h
 keeps_tick_in Releasing still t h = keeps_timers still t h
 
 -- the step
@@ -591,6 +610,10 @@ written_narrow path (SetupSent which flag) short = record {
   kind = record { numbered = tt; fits = tt };
   room = omega arith;
 }
+written_narrow path (XidSent command flag own) short = record {
+  kind = record { numbered = tt; fits = tt };
+  room = omega arith;
+}
 
 written_wide : (path : Path) (x : Sent) → HasShort x → CanWrite OneTwentyEight (frame_of 128 path x)
 written_wide path (InfoSent number nr poll packet) short = record {
@@ -602,6 +625,10 @@ written_wide path (SuperSent which command nr flag) short = record {
   room = omega arith;
 }
 written_wide path (SetupSent which flag) short = record {
+  kind = record { numbered = tt; fits = tt };
+  room = omega arith;
+}
+written_wide path (XidSent command flag own) short = record {
   kind = record { numbered = tt; fits = tt };
   room = omega arith;
 }

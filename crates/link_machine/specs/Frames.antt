@@ -22,6 +22,7 @@ use Rattle.link_machine.specs.Machine.{t3_ticks, in_state}
 use Rattle.link_machine.specs.Machine.{is_valid, named, ahead_of_vr}
 use Rattle.link_machine.specs.Sent.Sent.{SetupSent}
 use Rattle.link_machine.specs.Turn.{Act, changing, setting, sending, telling, nothing, in_order}
+use Rattle.link_machine.specs.Negotiation.{hear_xid, hear_xid_idle, to_ask}
 use Rattle.link_machine.specs.Acts.{anew, acknowledged, polled, recover, gone_back, reset, owing, with_rej, run_with, give}
 use Rattle.link_machine.specs.Acts.{stored, watching, picked_out, none_again}
 
@@ -53,10 +54,11 @@ open_called modulus flag = in_order (
 
 -- this side's set-up: all begins anew; what was given while calling stays, and so does the modulus
 abbrev pub open_answered : Act
-open_answered = in_order (changing fresh ∷ setting (in_state Up) ∷ telling (Opened true) ∷ [])
+open_answered turn = in_order (
+    changing fresh ∷ setting (in_state Up) ∷ setting (to_ask (is_wide turn.now)) ∷ telling (Opened true) ∷ []) turn
 
 -- Idle: SABM opens in modulus 8, SABME in 128; DISC is answered by DM with F = P, and a numbered command only if P = 1,
--- so that a transmission of such frames has one answer
+-- so that a transmission of such frames has one answer. An XID command is answered by what this end can do.
 abbrev pub hear_idle : Bool → Kind → Act
 hear_idle command (Setup Sabm flag) = open_called 8 flag
 hear_idle command (Setup Sabme flag) = open_called 128 flag
@@ -66,7 +68,9 @@ hear_idle command (Setup Ua flag) = nothing
 hear_idle command (Info ns nr flag pid octets) = if flag then answer_dm true else nothing
 hear_idle command (Super which nr flag) = if command && flag then answer_dm true else nothing
 hear_idle command (Ui flag pid octets) = nothing
-hear_idle command (Other which flag octets) = nothing
+hear_idle command (Other Frmr flag octets) = nothing
+hear_idle command (Other Xid flag octets) = hear_xid_idle command flag
+hear_idle command (Other Test flag octets) = nothing
 
 -- FRMR or DM answers a SABME that the other side does not know: the call goes on in modulus 8, with all its retries
 abbrev pub unretried_call : Control → Control
@@ -207,7 +211,7 @@ hear_up command (Super which nr flag) turn =
     if is_valid nr turn.now then hear_supervisory which (named nr turn.now) command flag turn else reset turn
 hear_up command (Ui flag pid octets) turn = turn
 hear_up command (Other Frmr flag octets) turn = reset turn
-hear_up command (Other Xid flag octets) turn = turn
+hear_up command (Other Xid flag octets) turn = hear_xid command flag octets turn
 hear_up command (Other Test flag octets) turn = turn
 
 abbrev pub hear_in : LinkState → Bool → Kind → Act

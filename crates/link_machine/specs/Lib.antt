@@ -4,6 +4,7 @@ pub mod Machine
 pub mod Sent
 pub mod Turn
 pub mod Acts
+pub mod Negotiation
 pub mod Wants
 pub mod Event
 pub mod Requests

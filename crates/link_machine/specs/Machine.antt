@@ -70,11 +70,24 @@ nothing_owed c = record c {
   passed = false;
   picked = false;
   busy = false;
+  tm201 = None;
 }
 
--- The conditions and the timers of a set-up that begins. A wish to disconnect stays.
-abbrev pub fresh_control : Control → Control
-fresh_control c = record (nothing_owed c) { rc = 0; t1 = None; t3 = Some t3_ticks }
+-- the most I frames under way that an end takes which has not told it: no window is greater
+abbrev pub most_under_way : ℕ
+most_under_way = 127
+
+-- The conditions and the timers of a set-up that begins, and T1, N2 and k, which the two ends have yet to agree on. A
+-- wish to disconnect stays.
+abbrev pub fresh_control : Params → Control → Control
+fresh_control params c = record (nothing_owed c) {
+  rc = 0;
+  t1 = None;
+  t3 = Some t3_ticks;
+  t1_base = params.t1;
+  most_retries = params.retries;
+  most_sent = most_under_way;
+}
 
 -- nothing is stored or asked for, and V(R) is 0
 abbrev pub cleared : Incoming → Incoming
@@ -85,7 +98,7 @@ abbrev pub fresh : Machine → Machine
 fresh m = record {
   path = m.path;
   params = m.params;
-  control = fresh_control m.control;
+  control = fresh_control m.params m.control;
   outgoing = restarted m.outgoing;
   incoming = cleared m.incoming;
 }
@@ -145,6 +158,7 @@ idle_control hops params = record {
   hops = hops;
   t1_base = params.t1;
   most_retries = params.retries;
+  most_sent = most_under_way;
   state = Idle;
   rej = false;
   answer = false;
@@ -159,6 +173,8 @@ idle_control hops params = record {
   rc = 0;
   t1 = None;
   t3 = None;
+  tm201 = None;
+  asked = 0;
 }
 
 abbrev pub new_machine : Path → Params → Machine

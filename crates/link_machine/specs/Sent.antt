@@ -6,12 +6,16 @@ use Rattle.ax25_address.specs.declared.path.Role.{Role}
 use Rattle.ax25_address.specs.declared.path.Role.TheVariants.{Command, Response}
 use Rattle.ax25_frames.specs.declared.frame.Frame.{Frame}
 use Rattle.ax25_frames.specs.declared.frame.Kind.{Kind}
-use Rattle.ax25_frames.specs.declared.frame.Kind.TheVariants.{Info, Super, Setup}
+use Rattle.ax25_frames.specs.declared.frame.Kind.TheVariants.{Info, Super, Setup, Other}
 use Rattle.ax25_frames.specs.declared.frame.S.{S}
 use Rattle.ax25_frames.specs.declared.frame.U.{U}
+use Rattle.ax25_frames.specs.declared.frame.W.TheVariants.{Xid}
 use Rattle.ax25_frames.specs.FrameOctets.{CanWrite}
 use Rattle.ax25_frames.specs.FrameText.{sets_up_or_ends}
 use Rattle.selective_reject.specs.declared.packet.Packet.{Packet}
+use Rattle.xid_parameters.specs.declared.parameters.LinkParameters.{LinkParameters}
+use Rattle.xid_parameters.specs.Told.{parameters_of}
+use Rattle.xid_parameters.specs.XidField.{group_octets, with_head}
 use Rattle.link_machine.specs.declared.acts.SentFrame.{SentFrame}
 use Rattle.link_machine.specs.Machine.{modulus_named}
 
@@ -22,6 +26,8 @@ pub data Sent : Type 0 where
   SuperSent : (which : S) → (command : Bool) → (nr : ℕ) → (flag : Bool) → Sent
   -- SABM, SABME, DISC, UA or DM, and P or F
   SetupSent : (which : U) → (flag : Bool) → Sent
+  -- XID: whether it is a command, P or F, and the parameters that it tells
+  XidSent : (command flag : Bool) → (own : LinkParameters) → Sent
 
 -- a frame, and the modulus in which it is sent: that of the link when it sends it
 pub record SentIn : Type 0 where
@@ -42,11 +48,17 @@ abbrev pub sent_role : Sent → Role
 sent_role (InfoSent number nr poll packet) = Command
 sent_role (SuperSent which command nr flag) = role_of command
 sent_role (SetupSent which flag) = role_of (sets_up_or_ends which)
+sent_role (XidSent command flag own) = role_of command
+
+-- the information of an XID frame
+abbrev pub xid_octets : LinkParameters → List ℕ
+xid_octets own = with_head (group_octets (parameters_of own))
 
 abbrev pub sent_kind : ℕ → Sent → Kind
 sent_kind modulus (InfoSent number nr poll packet) = Info (number % modulus) (nr % modulus) poll packet.pid packet.octets
 sent_kind modulus (SuperSent which command nr flag) = Super which (nr % modulus) flag
 sent_kind modulus (SetupSent which flag) = Setup which flag
+sent_kind modulus (XidSent command flag own) = Other Xid flag (xid_octets own)
 
 -- the frame as it is written
 abbrev pub frame_of : ℕ → Path → Sent → Frame

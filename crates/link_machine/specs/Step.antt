@@ -1,7 +1,6 @@
 -- The step of a link: its state and an event give one next state, the frames that are sent, and what the layer above
 -- is told. It is a function, so there is exactly one of each.
 use Rattle.std.specs.Prelude.{length, if◌then◌else◌, Option, is_some}
-use Rattle.ax25_frames.specs.FrameText.{is_command_of}
 use Rattle.link_machine.specs.declared.state.LinkState.{LinkState}
 use Rattle.link_machine.specs.declared.state.LinkState.TheVariants.{Idle, Calling, Up, Releasing}
 use Rattle.link_machine.specs.declared.fault.LinkFault.{LinkFault}
@@ -10,6 +9,7 @@ use Rattle.link_machine.specs.Machine.{Machine}
 use Rattle.link_machine.specs.Sent.{sent_frames}
 use Rattle.link_machine.specs.Turn.{Turn, Act, begin, changing, nothing}
 use Rattle.link_machine.specs.Acts.{close}
+use Rattle.link_machine.specs.Negotiation.{is_heard_as_command}
 use Rattle.link_machine.specs.Event.{Event}
 use Rattle.link_machine.specs.Event.Event.{Connect, Send, Disconnect, Hear, Tick, Seize}
 use Rattle.link_machine.specs.Requests.{refusal, connect, joined, disconnect}
@@ -26,7 +26,7 @@ abbrev pub row : Event → Act
 row Connect = connect
 row (Send packet) = changing (joined packet)
 row Disconnect = disconnect
-row (Hear frame) = hear (is_command_of frame.path.role frame.kind) frame.kind
+row (Hear frame) = hear (is_heard_as_command frame.path.role frame.kind) frame.kind
 row (Tick still) = tick still
 row (Seize last full) = seize last full
 

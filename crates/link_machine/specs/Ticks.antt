@@ -13,6 +13,7 @@ use Rattle.link_machine.specs.Sent.Sent.{SetupSent}
 use Rattle.link_machine.specs.Turn.{Act, changing, setting, sending, telling, nothing, in_order}
 use Rattle.link_machine.specs.Acts.{send_call}
 use Rattle.link_machine.specs.Frames.{answer_dm, leave, end_call}
+use Rattle.link_machine.specs.Negotiation.{ask_xid, asks_xid, tm201_ticked}
 
 -- a tick of a timer with so many ticks left: one that comes to 0 has run out and is off
 abbrev pub runs_out : ℕ → Bool
@@ -99,11 +100,16 @@ tick_t1_of (Some left) false turn =
 abbrev pub tick_t1 : Bool → Act
 tick_t1 still turn = tick_t1_of turn.now.control.t1 (still || wants turn.now) turn
 
+-- a link that is up perhaps asks by XID; T1 does not count in that tick, since the frame then waits
+abbrev pub tick_up : Bool → Act
+tick_up still turn =
+    if asks_xid still turn.now then ask_xid turn else tick_t1 still (setting (tm201_ticked still) turn)
+
 -- an idle link has no timers
 abbrev pub tick_in : LinkState → Bool → Act
 tick_in Idle still = nothing
 tick_in Calling still = tick_t1 still
-tick_in Up still = tick_t1 still
+tick_in Up still = tick_up still
 tick_in Releasing still = tick_t1 still
 
 abbrev pub tick : Bool → Act

@@ -1,5 +1,5 @@
 -- What a link owes the other side: it keeps it, and sends it when the channel takes a frame (AX.25 2.2 section 6.4).
-use Rattle.std.specs.Prelude.{Bool, false, not, ◌&&◌, ◌||◌, nat_lt, ◌+◌, length, is_some}
+use Rattle.std.specs.Prelude.{ℕ, Bool, false, not, ◌&&◌, ◌||◌, nat_lt, ◌+◌, min, length, is_some}
 use Rattle.selective_reject.specs.Outgoing.{may_send, first_again}
 use Rattle.selective_reject.specs.Incoming.{next_missing}
 use Rattle.link_machine.specs.declared.state.LinkState.{LinkState}
@@ -7,9 +7,13 @@ use Rattle.link_machine.specs.declared.state.LinkState.TheVariants.{Idle, Callin
 use Rattle.link_machine.specs.declared.control.Control.{Control}
 use Rattle.link_machine.specs.Machine.{Machine}
 
+-- k of what this side sends: its own, or what the other side takes if that is less
+abbrev pub sending_window : Machine → ℕ
+sending_window m = min m.incoming.window m.control.most_sent
+
 -- a further I frame may go: the other side is not busy, no poll awaits its answer, and a packet waits in the window
 abbrev pub may_send_info : Machine → Bool
-may_send_info m = not (m.control.busy || m.control.poll) && may_send m.incoming.window m.outgoing
+may_send_info m = not (m.control.busy || m.control.poll) && may_send (sending_window m) m.outgoing
 
 -- SREJ asked for a number that is still to be sent again
 abbrev pub is_asked_again : Machine → Bool

@@ -11,7 +11,7 @@ ghost use Rattle.link_machine.specs.Frames.{stopped_t1, stopped, unretried_call,
 ghost use Rattle.link_machine.specs.Requests.{has_link, takes_none, is_closed};
 ghost use Rattle.link_machine.specs.Ticks.{retried, is_spent, to_poll, silent};
 
-use crate::params::Params;
+use crate::params::{FittingParams, Params};
 use crate::state::LinkState;
 
 /// The inactive link timer T3, in ticks of 10 ms: five minutes.
@@ -19,6 +19,9 @@ const T3: u32 = 30_000;
 
 /// How many retries a call modulo 128 has, if the link has more.
 const WIDE_RETRIES: u8 = 3;
+
+/// The greatest window.
+const MOST_UNDER_WAY: u8 = 127;
 
 /// The state of a link, its conditions, its retry count and its timers (AX.25 2.2 section 6.7.1). A timer is off, or
 /// has so many ticks left.
@@ -30,6 +33,8 @@ pub struct Control {
     pub t1_base: u16,
     /// The most retries, N2.
     pub most_retries: u8,
+    /// The most I frames under way that the other side takes, as far as it told.
+    pub most_sent: u8,
     /// The state.
     pub state: LinkState,
     /// REJ is to be sent.
@@ -58,6 +63,10 @@ pub struct Control {
     pub t1: Option<u32>,
     /// The inactive link timer.
     pub t3: Option<u32>,
+    /// The timer of the negotiation, TM201: it runs until the next XID command goes out.
+    pub tm201: Option<u32>,
+    /// How many XID commands were sent.
+    pub asked: u8,
 }
 
 impl Control {
@@ -69,6 +78,7 @@ impl Control {
             hops,
             t1_base: params.t1,
             most_retries: params.retries,
+            most_sent: MOST_UNDER_WAY,
             state: LinkState::Idle,
             rej: false,
             answer: false,
@@ -83,11 +93,13 @@ impl Control {
             rc: 0,
             t1: None,
             t3: None,
+            tm201: None,
+            asked: 0,
         }
     }
 
     /// The acknowledgement timer T1 after so many retries.
-    fn t1_after(&self, retries: u8) -> u32
+    pub(crate) fn t1_after(&self, retries: u8) -> u32
         ensures { result ≡ t1_after retries self.now }
     {
         let way = 2 * u32::from(self.hops) + 1;
@@ -129,16 +141,20 @@ impl Control {
         self.passed = false;
         self.picked = false;
         self.busy = false;
+        self.tm201 = None;
     }
 
-    /// A set-up begins. A wish to disconnect stays.
-    pub(crate) fn begin(&mut self)
-        ensures { self.new ≡ fresh_control self.old }
+    /// A set-up begins, with the link's own T1, N2 and k. A wish to disconnect stays.
+    pub(crate) fn begin(&mut self, params: &FittingParams)
+        ensures { self.new ≡ fresh_control params.now self.old }
     {
         self.owe_nothing();
         self.rc = 0;
         self.t1 = None;
         self.t3 = Some(T3);
+        self.t1_base = params.t1();
+        self.most_retries = params.retries();
+        self.most_sent = MOST_UNDER_WAY;
     }
 
     /// SABM or SABME was sent.

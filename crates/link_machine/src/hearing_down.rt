@@ -1,8 +1,10 @@
 //! The frames that a link hears while it is not up.
-ghost use Rattle.std.specs.Prelude.{◌≡◌, ℕ, ◌+◌, ◌≤◌, ◌<◌, Bool};
+ghost use Rattle.std.specs.Prelude.{◌≡◌, ◌≢◌, ℕ, List, ◌+◌, ◌≤◌, ◌<◌, Bool};
+ghost use Rattle.ax25_frames.specs.declared.frame.Kind.TheVariants.{Other};
+ghost use Rattle.ax25_frames.specs.declared.frame.W.TheVariants.{Xid};
 ghost use Rattle.ax25_frames.specs.ControlField.{IsNumbered};
 ghost use Rattle.ax25_frames.specs.FrameOctets.{control_of};
-ghost use Rattle.ax25_frames.specs.FrameText.{is_command_of};
+ghost use Rattle.link_machine.specs.Negotiation.{is_heard_as_command};
 ghost use Rattle.link_machine.specs.Machine.{modulus_named};
 ghost use Rattle.link_machine.specs.declared.state.LinkState.TheVariants.{Idle, Calling, Up, Releasing};
 ghost use Rattle.link_machine.specs.Turn.{Turn};
@@ -12,9 +14,10 @@ ghost use Rattle.link_machine.specs.Held.{IsWhole, Shows, Makes};
 
 use crate::acts::{Acts, Why};
 use crate::machine::Machine;
+use crate::negotiating::is_heard_as_command;
 use crate::room::Room;
 use crate::state::LinkState;
-use ax25_frames::{Frame, Kind, Modulus, U, W, is_command};
+use ax25_frames::{Frame, Kind, Modulus, U, W};
 use std::alloc::Global;
 use tnc_base::OutOfMemory;
 
@@ -24,9 +27,9 @@ impl Machine {
         requires formed { IsWhole self.old }
         requires numbers { IsNumbered (modulus_named self.old.incoming.modulus) (control_of frame.now.kind) }
         ensures { Makes (hear
-            (is_command_of frame.now.path.role frame.now.kind) frame.now.kind) self.old self.new result }
+            (is_heard_as_command frame.now.path.role frame.now.kind) frame.now.kind) self.old self.new result }
     {
-        let command = is_command(frame);
+        let command = is_heard_as_command(frame);
         match self.control.state {
             LinkState::Idle => self.hear_idle(alloc, command, &frame.kind),
             LinkState::Calling => self.hear_calling(alloc, &frame.kind),
@@ -41,14 +44,24 @@ impl Machine {
         requires state { self.old.control.state ≡ Idle }
         ensures { Makes (hear_idle command kind.now) self.old self.new result }
     {
+        if let Kind::Other {
+            which: W::Xid,
+            flag,
+            ..
+        } = kind
+        {
+            return self.hear_xid_idle(alloc, command, *flag);
+        }
         let mut room = Room::new(alloc, 1, 1)?;
         self.take_idle(&mut room, command, kind);
         Ok(room.finish())
     }
 
+    /// Hears any frame but XID.
     fn take_idle(&mut self, room: &mut Room, command: bool, kind: &Kind)
         requires frames { 1 ≤ frames_left room.old }
         requires told { 1 ≤ told_left room.old }
+        requires no_xid { (flag : Bool) (octets : List ℕ) → kind.now ≢ Other Xid flag octets }
         ensures { (t : Turn) → Shows self.old room.old t → Shows self.new room.new (hear_idle command kind.now t) }
     {
         match kind {

@@ -66,6 +66,11 @@ impl Machine {
                 self.hear_super(alloc, *which, *nr, command, *flag)
             }
             Kind::Other { which: W::Frmr, .. } => self.hear_error(alloc),
+            Kind::Other {
+                which: W::Xid,
+                flag,
+                octets,
+            } => self.hear_xid(alloc, command, *flag, octets),
             Kind::Ui { .. } | Kind::Other { .. } => self.hear_nothing(alloc),
         }
     }

@@ -31,6 +31,9 @@
 //!                               | -- I ns=6 P=1 --------> |  stored
 //!                               | <--- SREJ nr=5, RR F=1  |  seize, seize
 //!                               | -- I ns=5 ------------> |  told: given, given
+//! XID, by the side that called modulo 128
+//!   the next tick               | -- XID P=1 -----------> |  uses what is agreed on
+//!   uses what is agreed on      | <---------- XID F=1 --- |
 //! A poll
 //!   T1 runs out, seize          | -- I P=1, or RR P=1 --> |
 //!   goes back to V(A)           | <--------- RR nr F=1 -- |  seize
@@ -72,6 +75,9 @@
 //! - A poll is the I frame V(A), if that is short, since its repeat may save the answer (section 6.4.11).
 //! - A frame that is no answer shows no state of rejection: by REJ each frame ahead of V(R) has REJ sent, one a
 //!   transmission; by SREJ a poll has all that is missing asked for anew.
+//! - XID agrees on the smaller window for what is sent, the longer T1 and the more retries, and on nothing else. The side
+//!   that called modulo 128 asks, four times at most, in its first set-up; a set-up begins with the link's own parameters.
+//!   A link that is not there answers by what it can do modulo 128; one that calls or is released does not answer.
 //! - T3 begins anew with every I and S frame that is heard, so that a link on which something comes is not polled
 //!   (section 6.7.1.3).
 #![tactic(auto)]
@@ -84,6 +90,7 @@ mod hearing_down;
 mod hearing_up;
 mod link;
 mod machine;
+mod negotiating;
 mod params;
 mod receiving;
 mod requests;

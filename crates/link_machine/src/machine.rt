@@ -145,7 +145,7 @@ impl Machine {
     pub(crate) fn begin(&mut self)
         ensures { (m : State) → Holds self.old m → Holds self.new (fresh m) }
     {
-        self.control.begin();
+        self.control.begin(&self.params);
         self.outgoing.restart();
         self.incoming.clear();
     }

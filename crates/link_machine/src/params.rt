@@ -87,6 +87,20 @@ impl FittingParams {
         }
     }
 
+    /// T1 on a path without repeaters, in ticks of 10 ms.
+    pub(crate) fn t1(&self) -> u16
+        ensures { result ≡ self.now.t1 }
+    {
+        self.params.t1
+    }
+
+    /// The most retries, N2.
+    pub(crate) fn retries(&self) -> u8
+        ensures { result ≡ self.now.retries }
+    {
+        self.params.retries
+    }
+
     /// REJ or SREJ, in a modulus.
     pub(crate) fn mode_in(&self, modulus: Modulus) -> Mode
         ensures { result ≡ mode_in (numbers modulus) self.now }

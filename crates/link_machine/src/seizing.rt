@@ -1,13 +1,13 @@
 //! The frame that a link gives when the channel takes one.
 ghost use Rattle.std.specs.Option.{option_copied};
-ghost use Rattle.std.specs.Prelude.{◌≡◌, ℕ, true, slice_get, ◌+◌, ◌-◌, ◌%◌, ◌<◌, ◌≤◌, Some, if◌then◌else◌, IfOk};
+ghost use Rattle.std.specs.Prelude.{◌≡◌, ℕ, min, true, slice_get, ◌+◌, ◌-◌, ◌%◌, ◌<◌, ◌≤◌, Some, if◌then◌else◌, IfOk};
 ghost use Rattle.selective_reject.specs.Incoming.{next_missing};
 ghost use Rattle.selective_reject.specs.Outgoing.{Outgoing, back, first_again};
 ghost use Rattle.link_machine.specs.declared.state.LinkState.TheVariants.{Up};
 ghost use Rattle.link_machine.specs.Machine.{Machine as State, with_control};
 ghost use Rattle.link_machine.specs.Sent.Sent.{InfoSent};
 ghost use Rattle.link_machine.specs.Turn.{Turn, changing, sending};
-ghost use Rattle.link_machine.specs.Wants.{wants, may_send_info, can_send_info, has_more};
+ghost use Rattle.link_machine.specs.Wants.{wants, sending_window, may_send_info, can_send_info, has_more};
 ghost use Rattle.link_machine.specs.Seizing.{send_rej, send_srej, send_answer, send_poll, send_again, send_next};
 ghost use Rattle.link_machine.specs.Seizing.{send_info, send_frame, seize, polls, polled_packet, short_packet, left_with};
 ghost use Rattle.link_machine.specs.Room.{frames_left, Uses};
@@ -57,12 +57,26 @@ impl Machine {
         matches!(self.control.state, LinkState::Up) && owes
     }
 
+    /// k of what this side sends.
+    fn sending_window(&self) -> u8
+        ensures { (m : State) → Holds self.now m → result ≡ sending_window m }
+    {
+        self.window_with(&self.control)
+    }
+
+    /// The same, with these conditions.
+    fn window_with(&self, control: &Control) -> u8
+        ensures { (m : State) → Holds self.now m → result ≡ min m.incoming.window control.now.most_sent }
+    {
+        self.incoming.window().min(control.most_sent)
+    }
+
     /// Whether a further I frame may go.
     fn may_send_info(&self) -> bool
         ensures { (m : State) → Holds self.now m → result ≡ may_send_info m }
     {
         let free = !self.control.busy && !self.control.poll;
-        free && self.outgoing.may_send(self.incoming.window())
+        free && self.outgoing.may_send(self.sending_window())
     }
 
     /// Whether an I frame can go.
@@ -156,7 +170,7 @@ impl Machine {
         if let Some(place) = again {
             return copy_of(alloc, self.outgoing.packet(usize::from(place)));
         }
-        if !control.busy && !control.poll && sent < self.incoming.window() {
+        if !control.busy && !control.poll && sent < self.window_with(control) {
             return copy_of(alloc, self.outgoing.packet(usize::from(sent)));
         }
         Ok(None)

@@ -1,7 +1,8 @@
 //! The frames that a link sends.
 ghost use Rattle.std.specs.Prelude.{◌≡◌, ℕ, ◌+◌, ◌%◌, ◌≤◌, ◌++◌, ◌∷◌, [], Bool};
-ghost use Rattle.link_machine.specs.Sent.{role_of};
-ghost use Rattle.link_machine.specs.Sent.Sent.{SuperSent, SetupSent};
+ghost use Rattle.link_machine.specs.Sent.{role_of, xid_octets};
+ghost use Rattle.link_machine.specs.Sent.Sent.{SuperSent, SetupSent, XidSent};
+ghost use Rattle.xid_parameters.specs.declared.parameters.LinkParameters.{LinkParameters};
 ghost use Rattle.link_machine.specs.Turn.{Turn, sending, telling};
 ghost use Rattle.link_machine.specs.Room.{frames_left, told_left, Uses};
 ghost use Rattle.link_machine.specs.Held.{Shows, frame_from};
@@ -11,7 +12,8 @@ use crate::acts::{SentFrame, Told};
 use crate::machine::Machine;
 use crate::room::Room;
 use ax25_address::Role;
-use ax25_frames::{Frame, Kind, S, U};
+use ax25_frames::{Frame, Kind, S, U, W};
+use tnc_base::Octets;
 
 /// The role of a command, or of a response.
 fn role_of(command: bool) -> Role
@@ -67,6 +69,25 @@ impl Machine {
         ensures uses { Uses room.old room.new 1 0 }
     {
         self.send(room, role_of(command), Kind::Super { which, nr, flag });
+    }
+
+    /// Sends XID, which tells these parameters.
+    pub(crate) fn send_xid(&self, room: &mut Room, command: bool, flag: bool, octets: Octets)
+        requires { 1 ≤ frames_left room.old }
+        ensures shows { (t : Turn) (own : LinkParameters) → Shows self.now room.old t → octets ≡ xid_octets own
+            → Shows self.now room.new (sending (XidSent command flag own) t) }
+        ensures uses { Uses room.old room.new 1 0 }
+    {
+        let which = W::Xid;
+        self.send(
+            room,
+            role_of(command),
+            Kind::Other {
+                which,
+                flag,
+                octets,
+            },
+        );
     }
 
     /// Tells the layer above.

@@ -136,8 +136,10 @@ impl Machine {
         ensures shows { (t : Turn) → Shows self.old room.old t → Shows self.new room.new (open_answered t) }
         ensures uses { Uses room.old room.new 0 1 }
     {
+        let wide = self.is_wide();
         self.begin();
         self.control.state = LinkState::Up;
+        self.control.to_ask(wide);
         self.tell(room, Told::Opened { ours: true });
     }
 

@@ -1,7 +1,8 @@
 //! A tick of 10 ms, and the timers that run out with it.
-ghost use Rattle.std.specs.Prelude.{◌≡◌, ℕ, ◌+◌, ◌≤◌, ◌<◌, Bool, IsTrue};
+ghost use Rattle.std.specs.Prelude.{◌≡◌, ℕ, false, ◌+◌, ◌≤◌, ◌<◌, Bool, IsTrue};
 ghost use Rattle.link_machine.specs.declared.state.LinkState.TheVariants.{Idle};
 ghost use Rattle.link_machine.specs.Machine.{Machine as State, falls_back};
+ghost use Rattle.link_machine.specs.Negotiation.{asks_in};
 ghost use Rattle.link_machine.specs.Turn.{Turn};
 ghost use Rattle.link_machine.specs.Ticks.{fall_back, call_again, poll_again, release_again, t1_out, t3_out, tick_t3};
 ghost use Rattle.link_machine.specs.Ticks.{tick_t1, tick};
@@ -35,6 +36,9 @@ impl Machine {
         requires { IsWhole self.old }
         ensures { Makes (tick still) self.old self.new result }
     {
+        if self.asks_xid(still) {
+            return self.ask_xid(alloc);
+        }
         let outs = out_of(self.control.t1);
         let mut room = Room::new(alloc, outs + usize::from(self.control.quit), outs)?;
         self.tick_timers(&mut room, still);
@@ -42,8 +46,10 @@ impl Machine {
         Ok(room.finish())
     }
 
+    /// Ticks the timers of a link that does not ask by XID in this tick.
     fn tick_timers(&mut self, room: &mut Room, still: bool)
         requires formed { IsWhole self.old }
+        requires asks_none { (m : State) → Holds self.old m → asks_in m.control.state still m ≡ false }
         requires frames { outs self.old.control ≤ frames_left room.old }
         requires told { outs self.old.control ≤ told_left room.old }
         ensures shows { (t : Turn) → Shows self.old room.old t → Shows self.new room.new (tick still t) }
@@ -52,6 +58,10 @@ impl Machine {
     {
         match self.control.state {
             LinkState::Idle => {}
+            LinkState::Up => {
+                self.control.tick_tm201(still);
+                self.tick_t1(room, still);
+            }
             _ => self.tick_t1(room, still),
         }
     }

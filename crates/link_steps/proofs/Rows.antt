@@ -5,7 +5,7 @@ use Rattle.std.proofs.Common.{is_some, refl, sym, ap, ◌∙◌, subst, inl, inr
 use Rattle.std.specs.Bool.{⊤}
 use Rattle.std.proofs.lemmas.Bool.{and_parts, false≢true, ltb-false}
 use Rattle.std.specs.Prelude.{nat_le, nat_lt}
-use Rattle.ax25_frames.specs.FrameText.{is_command_of, sets_up_or_ends}
+use Rattle.ax25_frames.specs.FrameText.{sets_up_or_ends}
 use Rattle.ax25_frames.specs.declared.frame.Kind.{Kind}
 use Rattle.ax25_frames.specs.declared.frame.Kind.TheVariants.{Info, Super, Setup, Ui, Other}
 use Rattle.ax25_frames.specs.declared.frame.U.{U}
@@ -32,19 +32,21 @@ use Rattle.link_machine.specs.Frames.{hear_idle, hear_in, hear_releasing, hear_u
 use Rattle.link_machine.specs.Frames.{open_again, open_answered, open_called}
 use Rattle.link_machine.specs.Held.{IsShort}
 use Rattle.link_machine.specs.Machine.{Machine, falls_back, is_valid, is_wide, most_packets, named, wide_retries}
+use Rattle.link_machine.specs.Negotiation.{answer_xid, ask_xid, asks_xid, is_heard_as_command, tm201_ticked}
 use Rattle.link_machine.specs.Requests.{connect, disconnect_in, give_up, has_link, is_closed, joined, quitting}
 use Rattle.link_machine.specs.Requests.{withdraw}
 use Rattle.link_machine.specs.Sent.Sent.{SetupSent}
 use Rattle.link_machine.specs.Step.{refusal_of, row, settle_in, settled, step}
 use Rattle.link_machine.specs.Ticks.{fall_back, is_spent, lowered, retried, runs_out, t1_out}
-use Rattle.link_machine.specs.Ticks.{t3_out, tick_in, tick_t1, tick_t1_of, tick_t3_of, to_poll, with_t1, with_t3}
+use Rattle.link_machine.specs.Ticks.{t3_out, tick_in, tick_t1, tick_t1_of, tick_t3_of, tick_up, to_poll, with_t1, with_t3}
 use Rattle.link_machine.specs.Seizing.{seize_in}
 use Rattle.link_machine.specs.Wants.{wants}
 use Rattle.link_machine.specs.Turn.{Turn, begin, changing, in_order, sending, setting, telling}
 use Rattle.step_laws.proofs.Choices.{either}
 use Rattle.step_laws.proofs.Runs.{run_on}
 use Rattle.step_laws.proofs.Runs.Run.{none, more}
-use Rattle.link_steps.proofs.Traffic.{KeepsMode, Traffic, info, seizes, supervisory, ticks_t3, timed, to_poll_mode}
+use Rattle.link_steps.proofs.Traffic.{KeepsMode, Traffic, exchange, exchange_asked, info, seizes, supervisory, ticks_t3}
+use Rattle.link_steps.proofs.Traffic.{timed, to_poll_mode}
 use Rattle.link_steps.proofs.Traffic.Single.{times}
 
 -- ---- what an event is
@@ -91,6 +93,18 @@ IsDmSetup Sabme = ⊥
 IsDmSetup Disc = ⊥
 IsDmSetup Dm = ⊤
 IsDmSetup Ua = ⊥
+
+abbrev pub IsXidOther : W → Type 0
+IsXidOther Frmr = ⊥
+IsXidOther Xid = ⊤
+IsXidOther Test = ⊥
+
+abbrev pub IsXid : Kind → Type 0
+IsXid (Info ns nr flag pid octets) = ⊥
+IsXid (Super which nr flag) = ⊥
+IsXid (Setup which flag) = ⊥
+IsXid (Ui flag pid octets) = ⊥
+IsXid (Other which flag octets) = IsXidOther which
 
 -- DM with F = 1, or FRMR, by which a side refuses SABME
 abbrev pub RefusesWide : Kind → Type 0
@@ -168,6 +182,8 @@ pub data Row (m : Machine) (event : Event) : Turn → Type 0 where
   declines : (flag : Bool) → IsDown m.control.state → Hears (IsDeclined m) event
       → Row m event (answer_dm flag (begin m))
   agrees : (flag : Bool) → IsDown m.control.state → Hears IsAsking event → Row m event (answer_ua flag (begin m))
+  -- it is idle, and answers by XID
+  tells_own : (flag : Bool) → m.control.state ≡ Idle → Hears IsXid event → Row m event (answer_xid flag (begin m))
   -- SABM, SABME or DISC goes out again
   calls_again : {t : Turn} → Rests (begin m) t → m.control.state ≡ Calling → IsT1Tick event
       → Row m event (send_call t)
@@ -263,7 +279,10 @@ idle_row true (Super which nr true) m event is at = idle_declines true (Super wh
 idle_row true (Super which nr false) m event is at = stays
 idle_row false (Super which nr flag) m event is at = stays
 idle_row command (Ui flag pid octets) m event is at = stays
-idle_row command (Other which flag octets) m event is at = stays
+idle_row command (Other Frmr flag octets) m event is at = stays
+idle_row true (Other Xid flag octets) m event is at = tells_own flag is (at IsXid tt)
+idle_row false (Other Xid flag octets) m event is at = stays
+idle_row command (Other Test flag octets) m event is at = stays
 
 calling_row :
     (wide : Bool) (kind : Kind) (m : Machine) (event : Event) → m.control.state ≡ Calling → is_wide m ≡ wide
@@ -335,7 +354,7 @@ up_row command (Super which nr flag) m event is at =
     by_number nr m event _ is (supervisory which (named nr m) command flag (begin m)) (at (IsWrong m))
 up_row command (Ui flag pid octets) m event is at = stays
 up_row command (Other Frmr flag octets) m event is at = resets is (at (IsWrong m) tt)
-up_row command (Other Xid flag octets) m event is at = stays
+up_row command (Other Xid flag octets) m event is at = works is (exchange command flag octets (begin m))
 up_row command (Other Test flag octets) m event is at = stays
 
 heard_row :
@@ -428,31 +447,44 @@ t1_row Releasing m event t is counts h =
 
 -- if T1 stands still, the tick counts for T3 at most
 tick_t1_row :
-    (timer : Option ℕ) (stands : Bool) (m : Machine) (event : Event) → (stands ≡ false → IsT1Tick event)
-    → Row m event (tick_t1_of timer stands (begin m))
-tick_t1_row None stands m event counts =
-    only_row (λ down. tick_t3_rests m.control.t3 (begin m) down) (ticks_t3 m.control.t3 (begin m))
-tick_t1_row (Some left) true m event counts = stays
-tick_t1_row (Some left) false m event counts =
-    let off = setting (with_t1 None) (begin m) in
-    either (Row m event) (runs_out left) (t1_out m.control.state off) (setting (with_t1 (lowered left)) (begin m))
-    (t1_row m.control.state m event off refl (counts refl)
-    (begun_timed (with_t1 None m.control) (begun_none m) (refl, refl)))
-    (begun_row (begun_timed (with_t1 (lowered left) m.control) (begun_none m) (refl, refl)))
+    (timer : Option ℕ) (stands : Bool) (m : Machine) (event : Event) (t : Turn) → t.now.control.state ≡ m.control.state
+    → Begun m t → (stands ≡ false → IsT1Tick event) → Row m event (tick_t1_of timer stands t)
+tick_t1_row None stands m event t same h counts =
+    only_row (λ down. rests_on (h.only down) (tick_t3_rests t.now.control.t3 t (subst IsDown (sym same) down)))
+    (run_on h.run (ticks_t3 t.now.control.t3 t))
+tick_t1_row (Some left) true m event t same h counts = begun_row h
+tick_t1_row (Some left) false m event t same h counts =
+    let off = setting (with_t1 None) t in
+    either (Row m event) (runs_out left) (t1_out t.now.control.state off) (setting (with_t1 (lowered left)) t)
+    (subst (λ s. Row m event (t1_out s off)) (sym same) (t1_row m.control.state m event off refl (counts refl)
+    (begun_timed (with_t1 None t.now.control) h (refl, refl))))
+    (begun_row (begun_timed (with_t1 (lowered left) t.now.control) h (refl, refl)))
 
 either_false : (a b : Bool) → (a || b) ≡ false → a ≡ false
 either_false true b is = is
 either_false false b is = refl
 
 timers_row : (still : Bool) (m : Machine) → Row m (Tick still) (tick_t1 still (begin m))
-timers_row still m =
-    tick_t1_row m.control.t1 (still || wants m) m (Tick still) (λ is. either_false still (wants m) is)
+timers_row still m = tick_t1_row m.control.t1 (still || wants m) m (Tick still) (begin m) refl (begun_none m)
+    (λ is. either_false still (wants m) is)
 
-tick_row : (state : LinkState) (still : Bool) (m : Machine) → Row m (Tick still) (tick_in state still (begin m))
-tick_row Idle still m = stays
-tick_row Calling still m = timers_row still m
-tick_row Up still m = timers_row still m
-tick_row Releasing still m = timers_row still m
+-- a link that is up perhaps asks by XID
+up_timers_row : (still : Bool) (m : Machine) → m.control.state ≡ Up → Row m (Tick still) (tick_up still (begin m))
+up_timers_row still m is =
+    let ticked = setting (tm201_ticked still) (begin m) in
+    either (Row m (Tick still)) (asks_xid still m) (ask_xid (begin m)) (tick_t1 still ticked)
+    (works is (exchange_asked (begin m)))
+    (tick_t1_row m.control.t1 (still || wants ticked.now) m (Tick still) ticked refl
+    (begun_timed (tm201_ticked still m.control) (begun_none m) (refl, refl))
+    (λ e. either_false still (wants ticked.now) e))
+
+tick_row :
+    (state : LinkState) (still : Bool) (m : Machine) → m.control.state ≡ state
+    → Row m (Tick still) (tick_in state still (begin m))
+tick_row Idle still m is = stays
+tick_row Calling still m is = timers_row still m
+tick_row Up still m is = up_timers_row still m is
+tick_row Releasing still m is = timers_row still m
 
 -- ---- the channel takes a frame
 
@@ -507,8 +539,8 @@ row_is m (Send packet) free =
     free)
 row_is m Disconnect free = disconnect_row m.control.state m refl
 row_is m (Hear frame) free =
-    heard_row m.control.state (is_command_of frame.path.role frame.kind) frame.kind m (Hear frame) refl (λ P p. p)
-row_is m (Tick still) free = tick_row m.control.state still m
+    heard_row m.control.state (is_heard_as_command frame.path.role frame.kind) frame.kind m (Hear frame) refl (λ P p. p)
+row_is m (Tick still) free = tick_row m.control.state still m refl
 row_is m (Seize last full) free = seize_row m.control.state last full m refl
 
 settle_is : (state : LinkState) (t : Turn) → t.now.control.state ≡ state → Settles t (settle_in state t)

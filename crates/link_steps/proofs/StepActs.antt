@@ -16,6 +16,7 @@ use Rattle.link_machine.specs.Frames.{end_call, leave}
 use Rattle.link_machine.specs.Frames.{open_called, stopped, stopped_t1, unretried_call}
 use Rattle.link_machine.specs.Held.{IsShort}
 use Rattle.link_machine.specs.Machine.{Machine, emptied, fresh, in_modulus, in_state, is_wide}
+use Rattle.link_machine.specs.Negotiation.{to_ask, widest_parameters}
 use Rattle.link_machine.specs.Params.{called_modulus}
 use Rattle.link_machine.specs.Requests.{joined, quitting}
 use Rattle.link_machine.specs.Sent.Sent.{SetupSent}
@@ -25,7 +26,7 @@ use Rattle.link_machine.specs.Turn.{Turn, begin, changing, sending, telling}
 use Rattle.step_laws.proofs.Runs.{GoesOn, Run, along_run, run_each, run_on, run_one}
 use Rattle.step_laws.proofs.Runs.Run.{none, more}
 use Rattle.link_steps.proofs.Rows.{Row, Settles, Stepped, rests_traffic, step_is}
-use Rattle.link_steps.proofs.Rows.Row.{rests, works, declines, agrees, calls_again, releases_again, ends_call}
+use Rattle.link_steps.proofs.Rows.Row.{rests, works, declines, agrees, tells_own, calls_again, releases_again, ends_call}
 use Rattle.link_steps.proofs.Rows.Row.{ends_by_dm}
 use Rattle.link_steps.proofs.Rows.Row.{ends_by_disc, gives_up, is_called, is_called_again, is_answered, narrows}
 use Rattle.link_steps.proofs.Rows.Row.{falls_narrow}
@@ -34,6 +35,7 @@ use Rattle.link_steps.proofs.Rows.Row.{connects, takes, withdraws, wishes, aband
 use Rattle.link_steps.proofs.Rows.Settles.{is_down, goes_on, releases}
 use Rattle.link_steps.proofs.Rows.Stepped.{is_refused, makes}
 use Rattle.link_steps.proofs.Traffic.{Single, Traffic, timed}
+use Rattle.link_steps.proofs.Traffic.Single.{exchanges}
 
 pub data OneAct : Turn → Turn → Type 0 where
   -- one of a link that goes on
@@ -82,6 +84,7 @@ row_acts m event t (rests run) = going (rests_traffic run)
 row_acts m event t (works up run) = going run
 row_acts m event t (declines flag down heard) = run_one (sets_up Dm flag)
 row_acts m event t (agrees flag down heard) = run_one (sets_up Ua flag)
+row_acts m event t (tells_own flag idle heard) = run_one (goes (exchanges false flag (widest_parameters m)))
 row_acts m event t (calls_again {t = u} run calling tick) =
     more (going (rests_traffic run)) (sets_up (calling_frame (is_wide u.now)) true)
 row_acts m event t (releases_again run releasing tick) = more (going (rests_traffic run)) (sets_up Disc true)
@@ -94,7 +97,8 @@ row_acts m event t (is_called modulus flag idle known heard) = opened modulus fl
 row_acts m event t (is_called_again modulus flag up known heard) =
     opened modulus flag known (run_one (tells (Ended Reset)))
 row_acts m event t (is_answered calling heard) =
-    more (more (run_one begins) (controls (in_state Up (fresh m).control))) (tells (Opened true))
+    let up = in_state Up (fresh m).control in
+    more (more (more (run_one begins) (controls up)) (controls (to_ask (is_wide m) up))) (tells (Opened true))
 row_acts m event t (narrows calling wide heard) =
     more (more (run_one (counts 8 (inl refl))) (controls (unretried_call m.control))) (sets_up Sabm true)
 row_acts m event t (falls_narrow {t = u} run calling wide tick) =

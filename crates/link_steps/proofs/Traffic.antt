@@ -1,5 +1,5 @@
--- The single acts of a link that goes on as it is. Its state and a wish to disconnect stay; it may send I and S frames,
--- and tell of data.
+-- The single acts of a link that goes on as it is. Its state and a wish to disconnect stay; it may send I, S and XID
+-- frames, and tell of data.
 use Rattle.std.proofs.Common.{◌≡◌, ℕ, ◌+◌, ◌-◌, ◌==◌, ◌&&◌, nat_lt, not, Bool, true, false, List, [], ◌∷◌, ◌++◌}
 use Rattle.std.proofs.Common.{length, max, map, Option, Some, None, is_some, slice_get, refl, ap, subst, arith, nat_le}
 use Rattle.std.proofs.Common.{if◌then◌else◌, ◌∙◌}
@@ -14,6 +14,7 @@ use Rattle.selective_reject.specs.Places.{is_full}
 use Rattle.selective_reject.specs.declared.packet.Packet.{Packet}
 use Rattle.selective_reject.specs.declared.window.Mode.{Mode}
 use Rattle.selective_reject.specs.declared.window.Mode.TheVariants.{Rej as RejMode, Srej as SrejMode}
+use Rattle.xid_parameters.specs.declared.parameters.LinkParameters.{LinkParameters}
 use Rattle.link_machine.specs.declared.control.Control.{Control}
 use Rattle.link_machine.specs.declared.state.LinkState.{LinkState}
 use Rattle.link_machine.specs.declared.state.LinkState.TheVariants.{Idle, Calling, Up, Releasing}
@@ -25,6 +26,8 @@ use Rattle.link_machine.specs.Frames.{hear_rnr}
 use Rattle.link_machine.specs.Frames.{hear_rr, hear_srej, hear_supervisory, lies_ahead, out_of_sequence}
 use Rattle.link_machine.specs.Frames.{take_in_sequence, take_selected}
 use Rattle.link_machine.specs.Machine.{ahead_of_vr, with_control}
+use Rattle.link_machine.specs.Negotiation.{agreed, asked_once, awaits_xid, concluding, has_done, hear_xid, using}
+use Rattle.link_machine.specs.Negotiation.{ask_xid, own_parameters}
 use Rattle.link_machine.specs.Seizing.{after_passing, answered, asking, info_at, info_sent, left_with, missing_asked}
 use Rattle.link_machine.specs.Seizing.{not_passed, notice_passed, poll_anew, poll_frame, polled_packet, polling, polls}
 use Rattle.link_machine.specs.Seizing.{most_polled}
@@ -32,7 +35,7 @@ use Rattle.link_machine.specs.Seizing.{short_packet}
 use Rattle.link_machine.specs.Seizing.{rejected, seize_in, send_again, send_frame, send_info, send_next}
 use Rattle.link_machine.specs.Seizing.{send_poll, send_srej}
 use Rattle.link_machine.specs.Sent.{all_sent_in}
-use Rattle.link_machine.specs.Sent.Sent.{InfoSent, SuperSent}
+use Rattle.link_machine.specs.Sent.Sent.{InfoSent, SuperSent, XidSent}
 use Rattle.link_machine.specs.Ticks.{lowered, runs_out, silent, t3_out, tick_t3_of, to_poll, with_t3}
 use Rattle.link_machine.specs.Turn.{Turn, Act, changing, setting, sending}
 use Rattle.link_machine.specs.Wants.{is_asked_again, is_missing_some, may_send_info}
@@ -89,6 +92,8 @@ pub data Single : Turn → Turn → Type 0 where
   stores : {t : Turn} (ahead : ℕ) (packet : Packet) → Single t (changing (stored ahead packet) t)
   selects : {t : Turn} (ahead : ℕ) → next_missing t.now.incoming ≡ Some ahead → Single t (selecting ahead t)
   forgets : {t : Turn} → Single t (changing nothing_asked t)
+  -- XID goes out
+  exchanges : {t : Turn} (command flag : Bool) (own : LinkParameters) → Single t (sending (XidSent command flag own) t)
 
 abbrev pub Traffic : Turn → Turn → Type 0
 Traffic = Run Single
@@ -117,6 +122,7 @@ single_mode t u (gives packets) = (refl, refl)
 single_mode t u (stores ahead packet) = (refl, refl)
 single_mode t u (selects ahead is) = (refl, refl)
 single_mode t u forgets = (refl, refl)
+single_mode t u (exchanges command flag own) = (refl, refl)
 
 pub traffic_mode : {t u : Turn} → Traffic t u → KeepsMode t.now.control u.now.control
 traffic_mode = along_run (record {
@@ -342,3 +348,21 @@ ticks_t3 (Some left) t =
     (setting (with_t3 (lowered left)) t)
     (run_on (sets (with_t3 None t.now.control) none (refl, refl)) (t3_is_out t.now.control.state _))
     (sets (with_t3 (lowered left) t.now.control) none (refl, refl))
+
+-- ---- XID
+
+-- XID is heard
+pub exchange : (command flag : Bool) (octets : List ℕ) (t : Turn) → Traffic t (hear_xid command flag octets t)
+exchange true flag octets t =
+    let own = agreed octets t.now in
+    either (Traffic t) (has_done t.now) t _ none
+    (more (sets (using own t.now.control) none (refl, refl)) (exchanges false flag own))
+exchange false flag octets t =
+    either (Traffic t) (flag && awaits_xid t.now.control) _ t
+    (sets (concluding (agreed octets t.now) t.now.control) none (refl, refl)) none
+
+-- XID asks
+pub exchange_asked : (t : Turn) → Traffic t (ask_xid t)
+exchange_asked t =
+    sets (asked_once t.now.control)
+    (run_one (exchanges true true (own_parameters t.now))) (refl, refl)

@@ -6,7 +6,7 @@ use Rattle.link_world.proofs.Common.{Rr, Rnr, Packet, Mode, LinkState, Machine, 
 use Rattle.link_world.proofs.Common.{all_sent_in, InfoSent, SetupSent, Turn, begin, changing}
 use Rattle.link_world.proofs.Common.{setting, acknowledged, gone_back, none_again, polled, recover}
 use Rattle.link_world.proofs.Common.{recover_with, stored, give, run_with, settled, settle_in, refusal_of, step}
-use Rattle.link_world.proofs.Common.{is_command_of, hear_up, connect, joined, quitting, seize_in, tick_in, tick_t1_of}
+use Rattle.link_world.proofs.Common.{is_heard_as_command, hear_up, connect, joined, quitting, seize_in, tick_in, tick_t1_of}
 use Rattle.link_world.proofs.Common.{tick_t3_of, t1_out, t3_out, runs_out, lowered, with_t1, with_t3, is_spent}
 use Rattle.link_world.proofs.Common.{retried, answer_dm, end_call, Ended, Failed}
 use Rattle.std.specs.Option.{option_to_list}
@@ -41,7 +41,14 @@ use Rattle.link_steps.proofs.Rows.{IsDown}
 use Rattle.link_steps.proofs.Traffic.{KeepsMode, Single, Traffic, info, seizes, supervisory, ticks_t3}
 use Rattle.link_steps.proofs.Traffic.{traffic_mode}
 use Rattle.link_steps.proofs.Traffic.Single.{times, acknowledges, goes_back, picks, reports, informs, gives, stores}
-use Rattle.link_steps.proofs.Traffic.Single.{selects, forgets}
+use Rattle.link_steps.proofs.Traffic.Single.{selects, forgets, exchanges}
+use Rattle.link_steps.proofs.Traffic.{exchange, exchange_asked}
+use Rattle.link_machine.specs.Negotiation.{agreed, asks_xid, awaits_xid, concluding, has_done, hear_xid, is_due}
+use Rattle.link_machine.specs.Negotiation.{ask_xid, tm201_ticked}
+use Rattle.link_machine.specs.Ticks.{tick_t1, tick_up}
+use Rattle.std.proofs.Common.{sym}
+use Rattle.std.proofs.lemmas.Bool.{and_parts}
+use Rattle.link_machine.specs.Wants.{wants_in}
 use Rattle.link_machine.specs.Asks.{asks, asks_by, hear_asks, hear_asks_calling, hear_asks_up, is_leaving}
 use Rattle.link_machine.specs.Asks.{is_leaving_behind, leaves_in, quit_asks, super_leaves, t1_ends, tick_asks}
 use Rattle.link_world.proofs.law.invariant.Exchanges.{asks_append}
@@ -83,6 +90,7 @@ single_silent t u (gives packets) = refl
 single_silent t u (stores ahead packet) = refl
 single_silent t u (selects ahead is) = sent_silent t.sent _ refl
 single_silent t u forgets = refl
+single_silent t u (exchanges command flag own) = sent_silent t.sent _ refl
 
 traffic_silent : {t u : Turn} → Traffic t u → sent_asks u.sent ≡ sent_asks t.sent
 traffic_silent = along_run (record { same = λ t. refl; on = λ t u v h k. k ∙ h }) single_silent
@@ -272,6 +280,20 @@ number_asks nr m t b h = go (is_valid nr m)
     go true = h
     go false = reset_asks m
 
+-- XID is heard
+xid_packets : (command flag : Bool) (octets : List ℕ) (t : Turn)
+    → (hear_xid command flag octets t).now.outgoing.packets ≡ t.now.outgoing.packets
+xid_packets true flag octets t =
+    either (λ (u : Turn). u.now.outgoing.packets ≡ t.now.outgoing.packets) (has_done t.now) t _ refl refl
+xid_packets false flag octets t =
+    either (λ (u : Turn). u.now.outgoing.packets ≡ t.now.outgoing.packets) (flag && awaits_xid t.now.control)
+    (setting (concluding (agreed octets t.now)) t) t refl refl
+
+xid_asks : (command flag : Bool) (octets : List ℕ) (m : Machine) → m.control.state ≡ Up
+    → sent_asks (settled (hear_xid command flag octets (begin m))).sent ≡ one (is_leaving m)
+xid_asks command flag octets m up =
+    close_asks up (goes (exchange command flag octets (begin m)) (xid_packets command flag octets (begin m)))
+
 up_asks :
     (command : Bool) (kind : Kind) (m : Machine) → m.control.state ≡ Up
     → sent_asks (settled (hear_up command kind (begin m))).sent ≡ one (hear_asks_up kind m)
@@ -289,7 +311,7 @@ up_asks command (Setup Dm flag) m up = refl
 up_asks command (Setup Ua flag) m up = stays_asks m up
 up_asks command (Ui flag pid octets) m up = stays_asks m up
 up_asks command (Other Frmr flag octets) m up = reset_asks m
-up_asks command (Other Xid flag octets) m up = stays_asks m up
+up_asks command (Other Xid flag octets) m up = xid_asks command flag octets m up
 up_asks command (Other Test flag octets) m up = stays_asks m up
 
 idle_asks :
@@ -306,7 +328,10 @@ idle_asks command (Setup Disc flag) m is = down_asks _ is tt
 idle_asks command (Setup Dm flag) m is = down_asks _ is tt
 idle_asks command (Setup Ua flag) m is = down_asks _ is tt
 idle_asks command (Ui flag pid octets) m is = down_asks _ is tt
-idle_asks command (Other which flag octets) m is = down_asks _ is tt
+idle_asks command (Other Frmr flag octets) m is = down_asks _ is tt
+idle_asks true (Other Xid flag octets) m is = down_asks _ is tt
+idle_asks false (Other Xid flag octets) m is = down_asks _ is tt
+idle_asks command (Other Test flag octets) m is = down_asks _ is tt
 
 releasing_asks :
     (command : Bool) (kind : Kind) (m : Machine) → m.control.state ≡ Releasing
@@ -441,6 +466,46 @@ t1_asks_up m (Some left) false up = go (runs_out left)
     go true = ap (λ s. sent_asks (settled (t1_out s off)).sent) up ∙ by_retries (is_spent m.control)
     go false = close_asks {m = m} up (goes {m = m} (more none (times (with_t1 (lowered left) m.control) (refl, refl))) refl)
 
+-- a tick of TM201 leaves what the link wants
+wants_ticked : (still : Bool) (m : Machine) → wants (record m { control = tm201_ticked still m.control }) ≡ wants m
+wants_ticked still m = go m.control.state
+  where
+    go : (state : LinkState)
+        → wants_in state (record m { control = tm201_ticked still m.control }) ≡ wants_in state m
+    go Idle = refl
+    go Calling = refl
+    go Up = refl
+    go Releasing = refl
+
+-- a link that is up perhaps asks by XID
+up_ticked_asks : (still : Bool) (m : Machine) → m.control.state ≡ Up
+    → sent_asks (settled (tick_up still (begin m))).sent
+    ≡ one (tick_asks Up (t1_ends m.control.t1 (still || wants m)) m)
+up_ticked_asks still m up = go (asks_xid still m) refl
+  where
+    spent : Bool
+    spent = t1_ends m.control.t1 (still || wants m) && is_spent m.control
+
+    not_done : asks_xid still m ≡ true → is_leaving m ≡ false
+    not_done asks = by (has_done m) (and_parts (is_due still m.control) (not (has_done m)) asks).1
+      where
+        by : (b : Bool) → not b ≡ true → b ≡ false
+        by true e = sym e
+        by false e = refl
+
+    either_way : (b : Bool) → is_leaving m ≡ false → one (is_leaving m) ≡ one (if b then false else is_leaving m)
+    either_way true rests = ap one rests
+    either_way false rests = refl
+
+    go : (b : Bool) → asks_xid still m ≡ b
+        → sent_asks (settled (if b then ask_xid (begin m) else tick_t1 still (setting (tm201_ticked still) (begin m)))).sent
+        ≡ one (tick_asks Up (t1_ends m.control.t1 (still || wants m)) m)
+    go true asks = close_asks up (goes (exchange_asked (begin m)) refl) ∙ either_way spent (not_done asks)
+    go false silent =
+        let ticked : Machine = record m { control = tm201_ticked still m.control } in
+        t1_asks_up ticked m.control.t1 (still || wants ticked) up
+        ∙ ap (λ w. one (tick_asks Up (t1_ends m.control.t1 (still || w)) m)) (wants_ticked still m)
+
 ticked_asks :
     (state : LinkState) (still : Bool) (m : Machine) → m.control.state ≡ state
     → sent_asks (settled (tick_in state still (begin m))).sent
@@ -448,7 +513,7 @@ ticked_asks :
 ticked_asks Idle still m is = down_asks _ is tt
 ticked_asks Calling still m is = t1_asks_down Calling m m.control.t1 (still || wants m) tt is
     (ap (λ s. sent_asks (settled (t1_out s (setting (with_t1 None) (begin m)))).sent) is ∙ calls_again_asks m is)
-ticked_asks Up still m is = t1_asks_up m m.control.t1 (still || wants m) is
+ticked_asks Up still m is = up_ticked_asks still m is
 ticked_asks Releasing still m is = t1_asks_down Releasing m m.control.t1 (still || wants m) tt is
     (ap (λ s. sent_asks (settled (t1_out s (setting (with_t1 None) (begin m)))).sent) is ∙ releases_again_asks m is)
 
@@ -497,7 +562,7 @@ row_asks m Connect = connect_asks m
 row_asks m (Send packet) = given_asks m.control.state packet m refl
 row_asks m Disconnect = quits_asks m.control.state m refl
 row_asks m (Hear frame) =
-    heard_asks m.control.state (is_command_of frame.path.role frame.kind) frame.kind m refl
+    heard_asks m.control.state (is_heard_as_command frame.path.role frame.kind) frame.kind m refl
 row_asks m (Tick still) = ticked_asks m.control.state still m refl
 row_asks m (Seize last full) = seize_asks m.control.state last full m refl
 

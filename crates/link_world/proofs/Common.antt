@@ -1,7 +1,6 @@
 -- The names that most proofs of this crate cite, passed on from one place.
 pub use Rattle.ax25_address.specs.declared.path.Path.{Path}
 pub use Rattle.ax25_frames.specs.FrameOctets.{IsFrame}
-pub use Rattle.ax25_frames.specs.FrameText.{is_command_of}
 pub use Rattle.ax25_frames.specs.declared.frame.Frame.{Frame}
 pub use Rattle.ax25_frames.specs.declared.frame.Kind.{Kind}
 pub use Rattle.ax25_frames.specs.declared.frame.Kind.TheVariants.{Info, Other, Setup, Super, Ui}
@@ -19,7 +18,9 @@ pub use Rattle.link_machine.specs.Machine.{Machine, is_valid, modulus_named, nam
 pub use Rattle.link_machine.specs.Params.{HasWindows, called_modulus, mode_in, window_in}
 pub use Rattle.link_machine.specs.Requests.{connect, joined, quitting}
 pub use Rattle.link_machine.specs.Sent.{Sent, SentIn, all_sent_in, sent_frames, sent_in, sent_kind}
-pub use Rattle.link_machine.specs.Sent.Sent.{InfoSent, SetupSent, SuperSent}
+pub use Rattle.link_machine.specs.Negotiation.{is_heard_as_command}
+pub use Rattle.link_machine.specs.Sent.Sent.{InfoSent, SetupSent, SuperSent, XidSent}
+pub use Rattle.xid_parameters.specs.declared.parameters.LinkParameters.{LinkParameters}
 unfoldable pub use Rattle.link_machine.specs.Step.{step}
 pub use Rattle.link_machine.specs.Step.{done_of, refusal_of, settle_in, settled}
 pub use Rattle.link_machine.specs.Seizing.{seize, seize_in}

@@ -13,6 +13,8 @@ use Rattle.ax25_frames.specs.declared.frame.Kind.{Kind}
 use Rattle.ax25_frames.specs.declared.frame.Kind.TheVariants.{Info, Super, Setup, Ui, Other}
 use Rattle.ax25_frames.specs.declared.frame.U.{U}
 use Rattle.ax25_frames.specs.declared.frame.U.TheVariants.{Sabm, Sabme, Disc, Dm, Ua}
+use Rattle.ax25_frames.specs.declared.frame.W.{W}
+use Rattle.ax25_frames.specs.declared.frame.W.TheVariants.{Frmr, Xid, Test}
 use Rattle.ax25_frames.specs.declared.frame.Modulus.{Modulus}
 use Rattle.ax25_frames.specs.declared.frame.Modulus.TheVariants.{Eight}
 use Rattle.ax25_frames.specs.FrameOctets.{IsFrame}
@@ -88,13 +90,19 @@ is_command_to_set_up Disc = true
 is_command_to_set_up Dm = false
 is_command_to_set_up Ua = false
 
--- a frame that makes a link if there is none: no UI, XID, TEST, UA, DM or FRMR
+-- XID, which a link answers
+abbrev pub exchanges : W → Bool
+exchanges Frmr = false
+exchanges Xid = true
+exchanges Test = false
+
+-- a frame that makes a link if there is none: no UI, TEST, UA, DM or FRMR
 abbrev pub makes_link : Kind → Bool
 makes_link (Info ns nr poll pid octets) = true
 makes_link (Super which nr flag) = true
 makes_link (Setup which flag) = is_command_to_set_up which
 makes_link (Ui flag pid octets) = false
-makes_link (Other which flag octets) = false
+makes_link (Other which flag octets) = exchanges which
 
 -- a link is made for the frame: it is one that makes a link, and there is room
 abbrev pub may_make : Kind → Links → Bool

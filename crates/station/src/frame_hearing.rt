@@ -25,7 +25,7 @@ use crate::new_links::NO_LAYER_3;
 use crate::parts::Parts;
 use agwpe_port::call_text;
 use ax25_address::{Call, Path, Role, read_path, reversed};
-use ax25_frames::{Frame, FrameFault, Kind, Modulus, U, read_frame};
+use ax25_frames::{Frame, FrameFault, Kind, Modulus, U, W, read_frame};
 use digipeater::repeat;
 use frame_monitor::{HeardStation, hear_station};
 use tnc_base::{Octets, OutOfMemory};
@@ -300,7 +300,8 @@ fn makes_link(frame: &Frame) -> bool
     match &frame.kind {
         Kind::Info { .. } | Kind::Super { .. } => true,
         Kind::Setup { which, .. } => is_command_to_set_up(*which),
-        Kind::Ui { .. } | Kind::Other { .. } => false,
+        Kind::Other { which, .. } => matches!(which, W::Xid),
+        Kind::Ui { .. } => false,
     }
 }
 

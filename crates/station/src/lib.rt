@@ -29,7 +29,7 @@
 //!   no path                    nothing more
 //!   a repeater has H clear     queued with H set, if that is this station; nothing more
 //!   a link (dest, source)      read in its modulus, and its event
-//!   dest is registered         read modulo 8; a link is made if the frame is no UI, XID, TEST, UA, DM or FRMR
+//!   dest is registered         read modulo 8; a link is made if the frame is no UI, TEST, UA, DM or FRMR
 //!   source                     among the 20 stations that were heard last, in each of these cases but the second
 //! The channel takes a frame     where the opening flags or a frame end, and none of a link waits
 //!   a link that wants to send  is asked, the next one by key, round and round

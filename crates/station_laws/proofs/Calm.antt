@@ -6,7 +6,7 @@ use Rattle.station_laws.proofs.Common.{SetupSent, step, begin, names_valid, IsCo
 use Rattle.station_laws.proofs.Common.{Stepped, rests_traffic, step_is, agrees, calls_again, connects}
 use Rattle.station_laws.proofs.Common.{declines, ends_by_disc, ends_by_dm, ends_call, gives_up, is_answered, is_called}
 use Rattle.station_laws.proofs.Common.{is_called_again, narrows, falls_narrow, releases_again, resets, rests, takes}
-use Rattle.station_laws.proofs.Common.{withdraws, wishes, abandons, works}
+use Rattle.station_laws.proofs.Common.{tells_own, withdraws, wishes, abandons, works}
 use Rattle.station_laws.proofs.Common.{goes_on, is_down, releases, is_refused, Traffic, IsOfNoHost}
 use Rattle.link_machine.specs.Event.{Event as LinkEvent}
 use Rattle.link_machine.specs.Event.Event.{Connect as LinkConnect, Send as LinkSend, Disconnect as LinkDisconnect}
@@ -95,6 +95,7 @@ row_calm m event t host valid calm (rests run) = after_traffic m t calm (rests_t
 row_calm m event t host valid calm (works up run) = after_traffic m t calm run
 row_calm m event t host valid calm (declines flag down heard) = record { control = calm; asked = refl }
 row_calm m event t host valid calm (agrees flag down heard) = record { control = calm; asked = refl }
+row_calm m event t host valid calm (tells_own flag idle heard) = record { control = calm; asked = refl }
 row_calm m event t host valid calm (calls_again run calling tick) = absurd (subst IsCalmState calling calm.state)
 row_calm m event t host valid calm (releases_again run releasing tick) =
     absurd (subst IsCalmState releasing calm.state)

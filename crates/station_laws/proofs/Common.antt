@@ -28,7 +28,8 @@ pub use Rattle.link_machine.specs.Event.Event.{Connect, Disconnect, Hear, Seize,
 pub use Rattle.link_machine.specs.Machine.{Machine, modulus_named, new_machine}
 pub use Rattle.link_machine.specs.Params.{default_params}
 pub use Rattle.link_machine.specs.Sent.{Sent, SentIn, sent_frame, sent_in, sent_kind}
-pub use Rattle.link_machine.specs.Sent.Sent.{InfoSent, SetupSent, SuperSent}
+pub use Rattle.link_machine.specs.Negotiation.{widest_parameters}
+pub use Rattle.link_machine.specs.Sent.Sent.{InfoSent, SetupSent, SuperSent, XidSent}
 unfoldable pub use Rattle.link_machine.specs.Step.{step}
 pub use Rattle.link_machine.specs.Step.{done_of}
 pub use Rattle.link_machine.specs.Turn.{begin}
@@ -47,11 +48,12 @@ pub use Rattle.link_steps.proofs.Rows.Rests.{as_timed}
 pub use Rattle.link_steps.proofs.Rows.Row.{agrees, calls_again, connects, declines, ends_by_disc, ends_by_dm, ends_call}
 pub use Rattle.link_steps.proofs.Rows.Row.{gives_up, is_answered, is_called, is_called_again, narrows, falls_narrow}
 pub use Rattle.link_steps.proofs.Rows.Row.{releases_again}
-pub use Rattle.link_steps.proofs.Rows.Row.{abandons, resets, rests, takes, wishes, withdraws, works}
+pub use Rattle.link_steps.proofs.Rows.Row.{abandons, resets, rests, takes, tells_own, wishes, withdraws, works}
 pub use Rattle.link_steps.proofs.Rows.Settles.{goes_on, is_down, releases}
 pub use Rattle.link_steps.proofs.Rows.Stepped.{is_refused}
 pub use Rattle.link_steps.proofs.Traffic.{Single, Traffic, traffic_mode}
-pub use Rattle.link_steps.proofs.Traffic.Single.{acknowledges, forgets, gives, goes_back, informs, picks, reports}
+pub use Rattle.link_steps.proofs.Traffic.Single.{acknowledges, exchanges, forgets, gives, goes_back, informs, picks}
+pub use Rattle.link_steps.proofs.Traffic.Single.{reports}
 pub use Rattle.link_steps.proofs.Traffic.Single.{selects, stores, times}
 pub use Rattle.link_world.proofs.StepGrowth.{step_keeps}
 pub use Rattle.link_world.proofs.law.ChangesLaw.{changes_law_holds}

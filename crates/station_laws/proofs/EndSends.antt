@@ -3,6 +3,7 @@
 use Rattle.station_laws.proofs.Common.{◌≡◌, ℕ, ◌+◌, ◌≤◌, Bool, true, false, ◌&&◌, List, [], ◌∷◌, map, Option, Some}
 use Rattle.station_laws.proofs.Common.{None, refl, sym, ap, ◌∙◌, subst, arith, count_by, list_any, or_parts, Frame}
 use Rattle.station_laws.proofs.Common.{Kind, Info, Super, Setup, Ui, Other, Sabm, Sabme, Disc, Dm, Ua, Up}
+use Rattle.station_laws.proofs.Common.{XidSent}
 use Rattle.station_laws.proofs.Common.{modulus_named, Sent, SentIn, sent_kind, InfoSent, SetupSent, SuperSent, step}
 use Rattle.station_laws.proofs.Common.{End, Tagged, answers_in, asks, asks_in, is_answer, Happening, RecordedEnd}
 use Rattle.station_laws.proofs.Common.{behind, seen, tagged, Connects, Sends, Disconnects, Seizes, Ticks, Hears}
@@ -129,6 +130,7 @@ asks_unnumbered s = go s.frame
     go (InfoSent number nr poll packet) is = absurd (cc)
     go (SuperSent which command nr flag) is = absurd (cc)
     go (SetupSent which flag) is = refl
+    go (XidSent command flag own) is = absurd (cc)
 
 answers_unnumbered :
     (on : Bool) (s : SentIn) → (on && is_answer (sent_kind s.modulus s.frame)) ≡ true → is_unnumbered s ≡ true
@@ -139,6 +141,7 @@ answers_unnumbered true s is = go s.frame is
     go (InfoSent number nr poll packet) never = absurd (cc)
     go (SuperSent which command nr flag) never = absurd (cc)
     go (SetupSent which flag) answer = refl
+    go (XidSent command flag own) never = absurd (cc)
 
 -- what asks as it is written, asks as it is sent
 asks_sent :

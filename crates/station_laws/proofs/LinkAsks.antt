@@ -7,6 +7,7 @@ use Rattle.station_laws.proofs.Common.{Settles, Stepped, rests_traffic, step_is,
 use Rattle.station_laws.proofs.Common.{connects, declines, ends_by_disc, ends_by_dm, ends_call, gives_up, is_answered}
 use Rattle.station_laws.proofs.Common.{is_called, is_called_again, narrows, falls_narrow, releases_again, resets, rests}
 use Rattle.station_laws.proofs.Common.{takes}
+use Rattle.station_laws.proofs.Common.{tells_own, XidSent, widest_parameters, [], ◌∷◌}
 use Rattle.station_laws.proofs.Common.{withdraws, wishes, abandons, works, goes_on, is_down, releases, is_refused}
 use Rattle.link_machine.specs.Acts.{calling_frame}
 use Rattle.link_machine.specs.Frames.{open_answered}
@@ -18,7 +19,7 @@ use Rattle.link_steps.proofs.Rows.Stepped.{makes}
 use Rattle.station_laws.proofs.LinkDid.{asks_is}
 use Rattle.station_laws.proofs.Sends.{Sends, ends, hears_asking, hears_ua, is_ua, is_ua_frame, numbers, opened}
 use Rattle.station_laws.proofs.Sends.{released, sends_one, stands}
-use Rattle.station_laws.proofs.StillActs.{still_none, still_same, traffic_still}
+use Rattle.station_laws.proofs.StillActs.{still_more, still_none, still_same, traffic_still}
 
 not_up : (state : LinkState) → IsDown state → state ≡ Up → ⊥
 not_up state down up = subst IsDown up down
@@ -82,6 +83,10 @@ row_sends m event u (agrees flag down heard) =
     if_asked m event _ heard
     (sends_one m true (hears_ua event) (begin m) _ (sent_in m.incoming.modulus (SetupSent Ua flag))
     (still_same (begin m)) refl (not_up m.control.state down) (λ never. absurd (cc)))
+row_sends m event u (tells_own flag idle heard) =
+    stands m (hears_asking event) (hears_ua event) _
+    (still_more (begin m) _ (sent_in m.incoming.modulus (XidSent false flag (widest_parameters m)) ∷ []) refl refl
+    refl refl)
 row_sends m event u (calls_again {t = t} run calling tick) =
     let call = sent_in t.now.incoming.modulus (SetupSent (calling_frame (is_wide t.now)) true) in
     sends_one m (hears_asking event) (hears_ua event) t _ call (traffic_still (rests_traffic run)) refl

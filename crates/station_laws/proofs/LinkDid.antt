@@ -13,6 +13,8 @@ use Rattle.link_machine.specs.Machine.{is_valid}
 use Rattle.link_machine.specs.Turn.{Turn}
 use Rattle.link_machine.specs.declared.acts.Why.TheVariants.{Asked}
 use Rattle.link_steps.proofs.Rows.{Hears, IsWrong as IsWrongKind}
+use Rattle.ax25_frames.specs.declared.frame.W.TheVariants.{Frmr, Xid, Test}
+use Rattle.link_steps.proofs.Rows.Row.{tells_own}
 use Rattle.link_steps.proofs.Rows.Row.{abandons as gives_all, is_called as opens_called, resets as calls_anew}
 use Rattle.link_steps.proofs.Rows.Row.{wishes as quits, withdraws}
 use Rattle.link_steps.proofs.Rows.Settles.{releases as is_released}
@@ -141,7 +143,9 @@ wrong_kind m (Info ns nr flag pid octets) up bad = λ right. not_both (is_valid 
 wrong_kind m (Super which nr flag) up bad = λ right. not_both (is_valid nr m) (right.1 up) bad
 wrong_kind m (Setup which flag) up bad = absurd bad
 wrong_kind m (Ui flag pid octets) up bad = absurd bad
-wrong_kind m (Other which flag octets) up bad = λ right. right.0
+wrong_kind m (Other Frmr flag octets) up bad = λ right. right.0
+wrong_kind m (Other Xid flag octets) up bad = absurd bad
+wrong_kind m (Other Test flag octets) up bad = absurd bad
 
 pub wrong_is : (m : Machine) (event : Event) → m.control.state ≡ Up → Hears (IsWrongKind m) event → HearsWrong m event
 wrong_is m Connect up h = absurd h
@@ -156,6 +160,7 @@ row_did m event t (rests (as_timed c mode)) = gives (gives_none (begin m) _ refl
 row_did m event t (works up run) = gives (traffic_gives run)
 row_did m event t (declines flag down heard) = gives (gives_none (begin m) _ refl refl refl)
 row_did m event t (agrees flag down heard) = gives (gives_none (begin m) _ refl refl refl)
+row_did m event t (tells_own flag idle heard) = gives (gives_none (begin m) _ refl refl refl)
 row_did m event t (calls_again (as_timed c mode) calling tick) =
     gives (gives_none (begin m) _ refl mode.0 mode.1)
 row_did m event t (releases_again (as_timed c mode) releasing tick) =

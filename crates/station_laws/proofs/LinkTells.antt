@@ -6,10 +6,10 @@ use Rattle.station_laws.proofs.Common.{step, begin, along_run, Row, Settles, Ste
 use Rattle.station_laws.proofs.Common.{agrees, calls_again, connects, declines, ends_by_disc, ends_by_dm, ends_call}
 use Rattle.station_laws.proofs.Common.{gives_up, is_answered, is_called, is_called_again, narrows, falls_narrow}
 use Rattle.station_laws.proofs.Common.{releases_again}
-use Rattle.station_laws.proofs.Common.{resets, rests, takes, withdraws, wishes, abandons, works}
+use Rattle.station_laws.proofs.Common.{resets, rests, takes, tells_own, withdraws, wishes, abandons, works}
 use Rattle.station_laws.proofs.Common.{goes_on, is_down, releases, is_refused}
 use Rattle.station_laws.proofs.Common.{Single, Traffic, acknowledges, forgets, goes_back, informs, picks, reports}
-use Rattle.station_laws.proofs.Common.{selects, stores, times, RunsIn, runs_after}
+use Rattle.station_laws.proofs.Common.{exchanges, selects, stores, times, RunsIn, runs_after}
 use Rattle.link_machine.specs.Acts.{reset}
 use Rattle.link_machine.specs.Frames.{open_again}
 use Rattle.link_machine.specs.Requests.{connect}
@@ -150,6 +150,7 @@ single_gives t u (give_packets packets) = record { packets = packets; told = ref
 single_gives t u (stores ahead packet) = gives_none t _ refl refl refl
 single_gives t u (selects ahead is) = gives_none t _ refl refl refl
 single_gives t u forgets = gives_none t _ refl refl refl
+single_gives t u (exchanges command flag own) = gives_none t _ refl refl refl
 
 pub traffic_gives : {t u : Turn} → Traffic t u → Gives t u
 traffic_gives = along_run (record { same = gives_same; on = gives_on }) single_gives
@@ -203,6 +204,7 @@ row_tells m event t (rests (as_timed c mode)) = tells_none (begin m) _ refl mode
 row_tells m event t (works up run) = given_up (begin m) t up (traffic_gives run)
 row_tells m event t (declines flag down heard) = tells_none (begin m) _ refl refl
 row_tells m event t (agrees flag down heard) = tells_none (begin m) _ refl refl
+row_tells m event t (tells_own flag idle heard) = tells_none (begin m) _ refl refl
 row_tells m event t (calls_again (as_timed c mode) calling tick) = tells_none (begin m) _ refl mode.0
 row_tells m event t (releases_again (as_timed c mode) releasing tick) = tells_none (begin m) _ refl mode.0
 row_tells m event t (ends_call why (as_timed c mode) down) = tells_end (begin m) _ why refl refl

@@ -1,6 +1,6 @@
 -- Whatever happens to a link, it stays on its path, and keeps what it was made with.
 use Rattle.station_laws.proofs.Common.{◌≡◌, refl, ◌∙◌, Event, Machine, step, begin, Single, acknowledges, forgets}
-use Rattle.station_laws.proofs.Common.{gives, goes_back, informs, picks, reports, selects, stores, times}
+use Rattle.station_laws.proofs.Common.{exchanges, gives, goes_back, informs, picks, reports, selects, stores, times}
 use Rattle.link_machine.specs.Turn.{Turn}
 use Rattle.link_steps.proofs.StepActs.{OneAct, along_step}
 use Rattle.link_steps.proofs.StepActs.OneAct.{begins, controls, counts, empties, goes, joins, sets_up, tells}
@@ -20,6 +20,7 @@ single_stays t u (gives packets) = record { path = refl; params = refl }
 single_stays t u (stores ahead packet) = record { path = refl; params = refl }
 single_stays t u (selects ahead is) = record { path = refl; params = refl }
 single_stays t u forgets = record { path = refl; params = refl }
+single_stays t u (exchanges command flag own) = record { path = refl; params = refl }
 
 act_stays : (t u : Turn) → OneAct t u → Stays t u
 act_stays t u (goes act) = single_stays t u act

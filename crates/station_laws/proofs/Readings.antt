@@ -6,7 +6,7 @@ use Rattle.station_laws.proofs.Common.{Machine, modulus_named, step, begin, Tagg
 use Rattle.station_laws.proofs.Common.{AreAlikeButForH, LinkFrame}
 use Rattle.std.specs.Prelude.{Result, Ok}
 use Rattle.ax25_frames.specs.declared.fault.FrameFault.{FrameFault}
-use Rattle.ax25_frames.specs.FrameText.{is_command_of}
+use Rattle.link_machine.specs.Negotiation.{is_heard_as_command}
 use Rattle.ax25_frames.proofs.Outcomes.{IsOutcome-same}
 use Rattle.link_machine.specs.Frames.{hear}
 use Rattle.link_machine.specs.Step.{settled}
@@ -82,5 +82,5 @@ pub hears_same :
     → step m (Hear g) ≡ step m (Hear frame)
 unfolding step
 hears_same m g frame kind role =
-    ap (λ (r : Role). settled (hear (is_command_of r g.kind) g.kind (begin m))) role
-    ∙ ap (λ (k : Kind). settled (hear (is_command_of frame.path.role k) k (begin m))) kind
+    ap (λ (r : Role). settled (hear (is_heard_as_command r g.kind) g.kind (begin m))) role
+    ∙ ap (λ (k : Kind). settled (hear (is_heard_as_command frame.path.role k) k (begin m))) kind

@@ -4,6 +4,7 @@ use Rattle.station_laws.proofs.Common.{◌≡◌, ◌≤◌, ◌||◌, Bool, tru
 use Rattle.station_laws.proofs.Common.{◌∙◌, subst, arith, ℕ, count_by, list_any, Kind, Info, Super, Setup, Ui, Other, U}
 use Rattle.station_laws.proofs.Common.{Sabm, Sabme, Disc, Dm, Ua, release, Event, Connect, Send, Disconnect, Hear}
 use Rattle.station_laws.proofs.Common.{Seize, Tick}
+use Rattle.station_laws.proofs.Common.{XidSent}
 use Rattle.station_laws.proofs.Common.{Machine, Sent, SentIn, sent_in, sent_kind, InfoSent, SetupSent, SuperSent, begin}
 use Rattle.station_laws.proofs.Common.{Up, asks}
 use Rattle.link_machine.specs.Turn.{Turn}
@@ -37,6 +38,7 @@ numbered_asks s = go s.frame
     go (InfoSent number nr poll packet) is = refl
     go (SuperSent which command nr flag) is = refl
     go (SetupSent which flag) is = absurd (cc)
+    go (XidSent command flag own) is = refl
 
 numbered_ua : (s : SentIn) → is_unnumbered s ≡ false → ua_when_sent s ≡ false
 numbered_ua s = go s.frame
@@ -45,6 +47,7 @@ numbered_ua s = go s.frame
     go (InfoSent number nr poll packet) is = refl
     go (SuperSent which command nr flag) is = refl
     go (SetupSent which flag) is = absurd (cc)
+    go (XidSent command flag own) is = refl
 
 pub none_ask : (sent : List SentIn) → list_any is_unnumbered sent ≡ false → list_any asks_when_sent sent ≡ false
 none_ask sent none = none_more asks_when_sent is_unnumbered numbered_asks sent none

@@ -1,11 +1,10 @@
--- A link that goes on leaves its state and a wish to disconnect as they are, and sends I and S frames alone.
+-- A link that goes on leaves its state and a wish to disconnect as they are, and sends I, S and XID frames alone.
 use Rattle.station_laws.proofs.Common.{◌≡◌, ℕ, ◌+◌, Bool, Option, Some, None, true, false, List, [], ◌∷◌, ◌++◌, map}
 use Rattle.station_laws.proofs.Common.{refl, sym, ap, ◌∙◌}
 use Rattle.station_laws.proofs.Common.{list_any, or_from, or_parts, append-nil, append_assoc, Packet, Sent}
 use Rattle.station_laws.proofs.Common.{SentIn, sent_in, InfoSent, SetupSent, SuperSent, along_run, Single, Traffic}
 use Rattle.station_laws.proofs.Common.{acknowledges, forgets, gives, goes_back, informs, picks, reports, selects}
-use Rattle.station_laws.proofs.Common.{stores}
-use Rattle.station_laws.proofs.Common.{times}
+use Rattle.station_laws.proofs.Common.{stores, exchanges, times, XidSent}
 use Rattle.std.specs.Option.{option_to_list}
 use Rattle.std.specs.Prelude.{slice_get}
 use Rattle.ax25_frames.specs.declared.frame.S.TheVariants.{Srej}
@@ -19,6 +18,7 @@ abbrev pub is_unnumbered_frame : Sent → Bool
 is_unnumbered_frame (InfoSent number nr poll packet) = false
 is_unnumbered_frame (SuperSent which command nr flag) = false
 is_unnumbered_frame (SetupSent which flag) = true
+is_unnumbered_frame (XidSent command flag own) = false
 
 abbrev pub is_unnumbered : SentIn → Bool
 is_unnumbered sent = is_unnumbered_frame sent.frame
@@ -63,7 +63,7 @@ still_none t u sent state quit =
     record { state = state; quit = quit; more = []; sent = sent ∙ sym (append-nil t.sent); numbered = refl }
 
 -- these frames are
-still_more :
+pub still_more :
     (t u : Turn) (more : List SentIn) → list_any is_unnumbered more ≡ false → u.sent ≡ t.sent ++ more
     → u.now.control.state ≡ t.now.control.state → u.now.control.quit ≡ t.now.control.quit → Still t u
 still_more t u more numbered sent state quit =
@@ -103,6 +103,8 @@ single_still t u (selects ahead is) =
     still_more t _
     (sent_in t.now.incoming.modulus (SuperSent Srej false (t.now.incoming.vr + ahead) false) ∷ []) refl refl refl refl
 single_still t u forgets = still_none t _ refl refl refl
+single_still t u (exchanges command flag own) =
+    still_more t _ (sent_in t.now.incoming.modulus (XidSent command flag own) ∷ []) refl refl refl refl
 
 pub traffic_still : {t u : Turn} → Traffic t u → Still t u
 traffic_still = along_run (record { same = still_same; on = still_on }) single_still

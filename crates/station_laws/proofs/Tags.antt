@@ -3,6 +3,7 @@
 use Rattle.station_laws.proofs.Common.{◌≡◌, ℕ, suc, Bool, true, List, [], ◌∷◌, ◌++◌, length, map, Option, Some, None}
 use Rattle.station_laws.proofs.Common.{refl, sym, ap, ◌∙◌, subst, arith, inl, inr, ⊤, and_parts, Callsign}
 use Rattle.station_laws.proofs.Common.{BeginsWithPath, Path, BeginsWithPath-same, SentFrame, modulus_named, Sent}
+use Rattle.station_laws.proofs.Common.{XidSent}
 use Rattle.station_laws.proofs.Common.{SentIn, sent_kind, sent_frame, InfoSent, SuperSent, SetupSent, Tagged, is_answer}
 use Rattle.station_laws.proofs.Common.{RecordedEnd, tagged, frame_octets, path_octets, LinkFrame}
 use Rattle.std.specs.List.{AllByRecursion as Each}
@@ -63,11 +64,13 @@ narrow_kind : (sent : Sent) → HasShort sent → IsKind (modulus_named 8) (sent
 narrow_kind (InfoSent number nr poll packet) short = record { numbered = (omega arith, omega arith); fits = short }
 narrow_kind (SuperSent which command nr flag) short = record { numbered = omega arith; fits = tt }
 narrow_kind (SetupSent which flag) short = record { numbered = tt; fits = tt }
+narrow_kind (XidSent command flag own) short = record { numbered = tt; fits = tt }
 
 wide_kind : (sent : Sent) → HasShort sent → IsKind (modulus_named 128) (sent_kind 128 sent)
 wide_kind (InfoSent number nr poll packet) short = record { numbered = (omega arith, omega arith); fits = short }
 wide_kind (SuperSent which command nr flag) short = record { numbered = omega arith; fits = tt }
 wide_kind (SetupSent which flag) short = record { numbered = tt; fits = tt }
+wide_kind (XidSent command flag own) short = record { numbered = tt; fits = tt }
 
 kind_by : (modulus : ℕ) (sent : Sent) → IsModulus modulus → HasShort sent
     → IsKind (modulus_named modulus) (sent_kind modulus sent)

@@ -11,7 +11,8 @@
 //! - `RR/0/1` is a response with N(R) 0 and F = 1, `RRc/0/1` the command, and so RNR, REJ, SREJ.
 //! - `I/2/0/1` is an I frame of the octet 2 with N(S) 2, N(R) 0 and P = 1, and `hears/3` is I/0/0/0, I/1/0/0 and
 //!   I/2/0/0.
-//! - `UI`, `FRMR`, `XID`.
+//! - `UI`, `FRMR`.
+//! - `XID/1/2` is a response with F = 1 that tells a window of 2, `XIDc/1/2` the command; 0 tells nothing.
 //! - `look` shows the state and the modulus, `wants` whether the link wants to send, and `asks` which events would make
 //!   it send SABM, SABME or DISC: a call, a disconnect, a tick, a turn, an FRMR, and an I frame with N(R) 1.
 //!

@@ -10,3 +10,4 @@ pub mod Ticks
 pub mod Progress
 pub mod Accepting
 pub mod Keeping
+pub mod Exchanging

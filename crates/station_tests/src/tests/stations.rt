@@ -13,6 +13,7 @@ use std::test::Fail;
 mod absurd_frames;
 mod calls_and_data;
 mod desk;
+mod exchanging;
 mod monitoring;
 mod passing;
 mod random_octets;

@@ -40,6 +40,14 @@ fn super_named(name: &str) -> Option<S> {
     }
 }
 
+/// The information of an XID frame that tells k alone, or nothing.
+fn window_told(alloc: Global, window: u8) -> Result<Octets, Fail> {
+    if window == 0 {
+        return Ok(Octets::from_slice(alloc, &[])?);
+    }
+    Ok(Octets::from_slice(alloc, &[0x82, 0x80, 0, 3, 8, 1, window])?)
+}
+
 /// What a frame from the other side says, in the modulus of the link that hears it.
 pub(super) fn kind_of(alloc: Global, word: &str, modulus: Modulus) -> Result<Kind, Fail>
     ensures { IfOk result (λ kind. IsNumbered modulus (control_of kind)) }
@@ -67,6 +75,13 @@ pub(super) fn kind_of(alloc: Global, word: &str, modulus: Modulus) -> Result<Kin
             octets: Octets::from_slice(alloc, &[octet(first)])?,
         });
     }
+    if name == "XID" || name == "XIDc" {
+        return Ok(Kind::Other {
+            which: W::Xid,
+            flag: first != 0,
+            octets: window_told(alloc, octet(second))?,
+        });
+    }
     let octets = Octets::from_slice(alloc, &[])?;
     Ok(match name {
         "UI" => Kind::Ui {
@@ -74,13 +89,8 @@ pub(super) fn kind_of(alloc: Global, word: &str, modulus: Modulus) -> Result<Kin
             pid: 0xf0,
             octets,
         },
-        "FRMR" => Kind::Other {
-            which: W::Frmr,
-            flag: false,
-            octets,
-        },
         _ => Kind::Other {
-            which: W::Xid,
+            which: W::Frmr,
             flag: false,
             octets,
         },

@@ -22,6 +22,9 @@ RR/0/1 |
 UA/1 |
 FRMR |
 UI |
+XIDc/1/0 | A>B XID cmd f=1 len=27 8280001702022100030386880206020800080120090207d00a010a,
+XIDc/0/2 look | Idle Eight
+XID/1/2 |
 ticks/4000 |
 look | Idle Eight";
 
@@ -114,7 +117,7 @@ FRMR FRMR |
 FRMR UA/1 | opened by us,
 FRMR UA/1 look | Up Eight
 send/7 FRMR UA/1 turns/1 | A>B I cmd ns=0 nr=0 p=0 pid=f0 len=1 07,
-XID |
+XID/1/0 |
 I/0/0/1 |
 ticks/200 | A>B SABME cmd f=1/128,
 ticks/400 ticks/200 | A>B SABME cmd f=1/128,
@@ -127,6 +130,27 @@ ticks/600 FRMR ticks/199 |
 ticks/600 FRMR ticks/4400 ticks/1000 | ended Failed,
 ticks/600 DM/1 ticks/4400 ticks/999 |
 ticks/600 DM/1 ticks/4400 ticks/1000 | ended Failed,";
+
+/// A call modulo 128 that is answered asks by XID, four times at most, and takes one answer.
+const ASKING_BY_XID: &str =
+    "ticks/1 | A>B XID cmd f=1 len=27 8280001702022100030386880206020800080120090207d00a010a/128,
+ticks/1 ticks/199 |
+ticks/200 ticks/1 | A>B XID cmd f=1 len=27 8280001702022100030386880206020800080120090207d00a010a/128,
+ticks/1 waits/400 |
+ticks/600 ticks/1 | A>B XID cmd f=1 len=27 8280001702022100030386880206020800080120090207d00a010a/128,
+ticks/601 ticks/400 |
+ticks/1 XID/1/2 ticks/400 |
+ticks/1 XID/0/2 ticks/200 | A>B XID cmd f=1 len=27 8280001702022100030386880206020800080120090207d00a010a/128,
+ticks/1 XID/1/2 sends/4 turns/4 | A>B I cmd ns=0 nr=0 p=0 pid=f0 len=1 00/128,A>B I cmd ns=1 nr=0 p=1 pid=f0 len=1 01/128,
+ticks/1 XID/1/2 XID/1/1 sends/4 turns/4 | A>B I cmd ns=0 nr=0 p=0 pid=f0 len=1 00/128,\
+A>B I cmd ns=1 nr=0 p=1 pid=f0 len=1 01/128,
+XID/1/1 sends/2 turns/2 | A>B I cmd ns=0 nr=0 p=0 pid=f0 len=1 00/128,A>B I cmd ns=1 nr=0 p=0 pid=f0 len=1 01/128,
+ticks/1 FRMR UA/1 ticks/400 |";
+
+#[test]
+fn rows_of_a_link_that_asks_by_xid(rt: HostRuntime) -> Result<(), Fail> {
+    assert_rows(&rt, rt.alloc(), wide(), "connect UA/1", ASKING_BY_XID)
+}
 
 #[test]
 fn rows_of_a_wide_call(rt: HostRuntime) -> Result<(), Fail> {

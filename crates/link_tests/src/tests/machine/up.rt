@@ -22,7 +22,12 @@ DM/0 | ended Peer,
 FRMR | A>B SABM cmd f=1,ended Reset,
 UA/1 |
 UI |
-XID |
+XID/0/2 |
+XID/1/2 sends/2 turns/2 | A>B I cmd ns=0 nr=0 p=0 pid=f0 len=1 00,A>B I cmd ns=1 nr=0 p=0 pid=f0 len=1 01,
+XIDc/1/0 | A>B XID cmd f=1 len=27 8280001702022100030382840206020800080104090207d00a010a,
+XIDc/0/2 | A>B XID cmd f=0 len=27 8280001702022100030382840206020800080102090207d00a010a,
+XIDc/1/9 | A>B XID cmd f=1 len=27 8280001702022100030382840206020800080104090207d00a010a,
+XIDc/1/2 sends/4 turns/4 | A>B I cmd ns=0 nr=0 p=0 pid=f0 len=1 00,A>B I cmd ns=1 nr=0 p=1 pid=f0 len=1 01,
 turns/1 |
 RRc/0/1 |
 RRc/0/1 turns/2 | A>B RR rsp nr=0 f=1,

@@ -5,7 +5,7 @@ use Rattle.link_world.proofs.Common.{Setup, Ui, Other, U, Packet, Control, Opene
 use Rattle.link_world.proofs.Common.{SuperSent, SetupSent, begin, changing, setting, joined, tick, tick_in}
 use Rattle.link_world.proofs.Common.{is_spent, retried, end_call, settled, settle_in, refusal_of, SetUp, Tagged}
 use Rattle.link_world.proofs.Common.{is_numbered, RecordedEnd, noting, taking, hears_ask, told_of, Sends, Disconnects}
-use Rattle.link_world.proofs.Common.{Ticks, Hears, Happening, inl, length, arith}
+use Rattle.link_world.proofs.Common.{Ticks, Hears, Happening, inl, length, arith, XidSent}
 use Rattle.ax25_frames.specs.declared.frame.Kind.{Kind as FrameKind}
 use Rattle.ax25_frames.specs.declared.frame.U.TheVariants.{Sabm as SabmFrame, Sabme as SabmeFrame, Disc as DiscFrame}
 use Rattle.ax25_frames.specs.declared.frame.U.TheVariants.{Dm as DmFrame, Ua as UaFrame}
@@ -235,3 +235,6 @@ calling_hears {r} a kind (SetupSent which flag) {y} {rest} {to_y} d read =
     subst (λ k. Keeps (Hears (heard_as a k (SetupSent which flag))) r y rest to_y
     (settled (hear_calling k (begin r.machine)))) (sym read)
     (calling_hears_setup a which flag (r.machine.incoming.modulus == 128) d refl)
+calling_hears {r} a kind (XidSent c flag own) {y} {rest} {to_y} d read =
+    subst (λ k. Keeps (Hears (heard_as a k (XidSent c flag own))) r y rest to_y
+    (settled (hear_calling k (begin r.machine)))) (sym read) (down_passes d)

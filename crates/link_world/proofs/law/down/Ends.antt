@@ -3,7 +3,7 @@ use Rattle.link_world.proofs.Common.{◌≡◌, ℕ, Bool, true, false, ◌&&◌
 use Rattle.link_world.proofs.Common.{◌∙◌, subst, append-nil, fold, ⊤, U, Packet, Control, LinkState, Machine, SentIn}
 use Rattle.link_world.proofs.Common.{sent_in, sent_kind, SetupSent, Turn, begin, answer_dm, end_call, settled}
 use Rattle.link_world.proofs.Common.{settle_in, SetUp, Tagged, is_answer, RecordedEnd, Happening, waiting_in, told_of}
-use Rattle.link_world.proofs.Common.{opening, noting, hearing, hears_ask, Hears}
+use Rattle.link_world.proofs.Common.{opening, noting, hearing, hears_ask, Hears, LinkParameters, XidSent}
 use Rattle.ax25_frames.specs.declared.frame.U.TheVariants.{Dm as DmFrame}
 use Rattle.link_machine.specs.declared.state.LinkState.TheVariants.{Idle as IdleState, Calling as CallingState}
 use Rattle.link_machine.specs.declared.state.LinkState.TheVariants.{Up as UpState, Releasing as ReleasingState}
@@ -75,6 +75,21 @@ setup_sent on_ask r modulus which flag down answers =
           ∙ ap (λ k. record { tag = length (core_set_ups r.set_ups); kind = k } ∷ [])
           (kind_by on_ask modulus (SetupSent which flag));
       written = (record { kind = refl; answers = answers }, tt);
+    }
+
+-- XID, which says nothing here
+pub xid_sent :
+    (r : RecordedEnd) (modulus : ℕ) (command flag : Bool) (own : LinkParameters)
+    → IsDown r.machine.control.state r.machine.outgoing.packets
+    → IsSentAs false r (sent_in modulus (XidSent command flag own) ∷ [])
+    (record { tag = length (core_set_ups r.set_ups); kind = Dm false } ∷ [])
+xid_sent r modulus command flag own down =
+    let state = r.machine.control.state in
+    let tag : set_up_now state (length r.set_ups) ≡ length (core_set_ups r.set_ups) =
+    down_tag state r.machine.outgoing.packets (length r.set_ups) down ∙ sym (length_core r.set_ups) in
+    record {
+      flight = ap (λ t. record { tag = t; kind = Dm false } ∷ []) tag;
+      written = (record { kind = refl; answers = refl }, tt);
     }
 
 -- An event after which an end is not up: its state and set-ups then, and the frames that it sends.
@@ -227,6 +242,22 @@ pub down_dm :
     → Keeps (Hears f) r y rest to_y (settled (answer_dm flag (begin r.machine)))
 down_dm {f} {rest} flag d no_ask =
     down_answers DmFrame flag d tt (ap Dm no_ask) (send_dm_keeps (lose_keeps [] (core_tagged f) rest d.holds))
+
+-- a frame that asks nothing is passed over, and XID goes out
+pub down_tells :
+    {state : LinkState} {r : RecordedEnd} {y : End} {f : Tagged} {rest to_y : List CoreTagged} (command flag : Bool)
+    (own : LinkParameters) → DownEnd state r y (core_tagged f ∷ rest) to_y → hears_ask (Hears f) ≡ false
+    → Keeps (Hears f) r y rest to_y (settled (goes_on r.machine r.machine.control
+    (sent_in r.machine.incoming.modulus (XidSent command flag own) ∷ [])))
+down_tells {state} {r} {y} {f} {rest} {to_y} command flag own d no_ask =
+    let modulus = r.machine.incoming.modulus in
+    let x = down_end state r.machine r.set_ups in
+    let e = end_with r.machine r.set_ups r.machine.outgoing.packets in
+    let down = subst (λ s. IsDown s r.machine.outgoing.packets) (sym d.state_is) d.down in
+    let sent = sent_in modulus (XidSent command flag own) ∷ [] in
+    down_stays r.machine.control sent d d.state_is (down_noted f d)
+    (subst (λ b. IsSentAs b e sent (of_end x (Dm false) ∷ [])) (sym no_ask) (xid_sent e modulus command flag own down))
+    (λ alone. send_dm_keeps (lose_keeps [] (core_tagged f) rest d.holds))
 
 -- a SABM, SABME or DISC is declined
 pub down_declines :

@@ -3,11 +3,13 @@ use Rattle.link_world.proofs.Common.{◌≡◌, ℕ, ◌+◌, Bool, true, false,
 use Rattle.link_world.proofs.Common.{arith, false≢true, Info, Super, Setup, Ui, Other, U, called_modulus, Sent}
 use Rattle.link_world.proofs.Common.{InfoSent, SuperSent, SetupSent, begin, connect, open_called, settled, Tagged}
 use Rattle.link_world.proofs.Common.{is_numbered, is_sabm_frame, RecordedEnd, hears_ask, Connects, Hears}
+use Rattle.link_world.proofs.Common.{LinkParameters, XidSent}
 use Rattle.ax25_frames.specs.declared.frame.Kind.{Kind as FrameKind}
 use Rattle.ax25_frames.specs.declared.frame.U.TheVariants.{Sabm as SabmFrame, Sabme as SabmeFrame, Disc as DiscFrame}
 use Rattle.ax25_frames.specs.declared.frame.U.TheVariants.{Dm as DmFrame, Ua as UaFrame}
 use Rattle.link_machine.specs.declared.state.LinkState.TheVariants.{Idle as IdleState, Calling as CallingState}
 use Rattle.link_machine.specs.Frames.{hear_idle}
+use Rattle.link_machine.specs.Negotiation.{widest_parameters}
 use Rattle.link_world.proofs.law.reduced.Core.{End, Tagged as CoreTagged}
 use Rattle.link_world.proofs.law.reduced.Core.Kind.{Sabm}
 use Rattle.link_world.proofs.law.reduced.CoreMoves.{setup_to, in_modulus, of_end, asks, answers, sabms}
@@ -24,7 +26,7 @@ use Rattle.link_world.proofs.law.down.Called.{open_called_outcome}
 use Rattle.link_world.proofs.law.showing.Outcome.{Keeps, end_with}
 use Rattle.link_world.proofs.law.showing.Heard.{Arrival, heard_as, heard_frame}
 use Rattle.link_world.proofs.law.down.Ends.{DownEnd, EndsDown, down_keeps, down_passes, down_noted, down_dm}
-use Rattle.link_world.proofs.law.down.Ends.{down_declines}
+use Rattle.link_world.proofs.law.down.Ends.{down_declines, down_tells}
 
 -- it calls, in its own modulus
 pub idle_connects :
@@ -83,6 +85,15 @@ idle_hears_setup a DiscFrame flag command d quiet = down_declines flag d refl re
 idle_hears_setup a DmFrame flag command d quiet = down_passes d
 idle_hears_setup a UaFrame flag command d quiet = down_passes d
 
+-- XID: a command is answered
+idle_hears_xid :
+    {r : RecordedEnd} (a : Arrival) (command flag : Bool) (own : LinkParameters) (heard : Bool) {y : End}
+    {rest to_y : List CoreTagged} → let f = heard_frame a (XidSent command flag own) in
+    DownEnd IdleState r y (core_tagged f ∷ rest) to_y
+    → Keeps (Hears f) r y rest to_y (settled (hear_idle heard f.frame.kind (begin r.machine)))
+idle_hears_xid {r} a command flag own true d = down_tells false flag (widest_parameters r.machine) d refl
+idle_hears_xid a command flag own false d = down_passes d
+
 -- what it hears, as it is read
 pub idle_hears :
     {r : RecordedEnd} (a : Arrival) (kind : FrameKind) (sent : Sent) (command : Bool) {y : End}
@@ -96,3 +107,6 @@ idle_hears {r} a kind (SetupSent which flag) command {y} {rest} {to_y} d read qu
     subst (λ k. Keeps (Hears (heard_as a k (SetupSent which flag))) r y rest to_y
     (settled (hear_idle command k (begin r.machine)))) (sym read)
     (idle_hears_setup a which flag command d (quiet which flag refl))
+idle_hears {r} a kind (XidSent c flag own) command {y} {rest} {to_y} d read quiet =
+    subst (λ k. Keeps (Hears (heard_as a k (XidSent c flag own))) r y rest to_y
+    (settled (hear_idle command k (begin r.machine)))) (sym read) (idle_hears_xid a c flag own command d)

@@ -1,4 +1,5 @@
 -- Events of an end that releases the link.
+use Rattle.link_world.proofs.Common.{XidSent}
 use Rattle.link_world.proofs.Common.{◌≡◌, ◌+◌, Bool, true, false, ◌&&◌, if◌then◌else◌, List, [], ◌∷◌, inl, inr, refl}
 use Rattle.link_world.proofs.Common.{sym, ap, subst, arith, false≢true, Info, Super, Setup, Ui, Other, U, Control}
 use Rattle.link_world.proofs.Common.{Failed, Sent, InfoSent, SuperSent, SetupSent, begin, tick, tick_in, is_spent}
@@ -112,3 +113,6 @@ releasing_hears a kind (SuperSent which c nr flag) command d read = releasing_he
 releasing_hears {r} a kind (SetupSent which flag) command {y} {rest} {to_y} d read =
     subst (λ k. Keeps (Hears (heard_as a k (SetupSent which flag))) r y rest to_y
     (settled (hear_releasing command k (begin r.machine)))) (sym read) (releasing_hears_setup a which flag command d)
+releasing_hears {r} a kind (XidSent c flag own) command {y} {rest} {to_y} d read =
+    subst (λ k. Keeps (Hears (heard_as a k (XidSent c flag own))) r y rest to_y
+    (settled (hear_releasing command k (begin r.machine)))) (sym read) (down_passes d)

@@ -1,6 +1,6 @@
 -- A link, and what it sends, as the law of two links reads them.
 use Rattle.link_world.proofs.Common.{S, Rr, Rnr, U, Packet, Place, Machine, window_in, Sent, SentIn, InfoSent}
-use Rattle.link_world.proofs.Common.{SuperSent, SetupSent}
+use Rattle.link_world.proofs.Common.{SuperSent, SetupSent, XidSent}
 use Rattle.std.specs.Prelude.{ℕ, ◌+◌, Bool, true, false, List, [], ◌∷◌, map, Option, Some, None}
 use Rattle.ax25_frames.specs.declared.frame.S.TheVariants.{Rej, Srej as SrejFrame}
 use Rattle.ax25_frames.specs.declared.frame.U.TheVariants.{Sabm as SabmFrame, Sabme as SabmeFrame, Disc as DiscFrame}
@@ -38,11 +38,13 @@ setup_of answers DiscFrame = Disc
 setup_of answers DmFrame = Dm answers
 setup_of answers UaFrame = Ua
 
--- what a link sends in a modulus; its UA and DM answer a SABM, SABME or DISC, or not
+-- What a link sends in a modulus; its UA and DM answer a SABM, SABME or DISC, or not. XID says nothing here, as a DM that
+-- answers none of them does.
 abbrev pub kind_of : Bool → ℕ → Sent → Kind
 kind_of answers modulus (InfoSent number nr poll packet) = IsNumbered modulus (Info number nr packet)
 kind_of answers modulus (SuperSent which command nr flag) = IsNumbered modulus (super_of which nr flag)
 kind_of answers modulus (SetupSent which flag) = setup_of answers which
+kind_of answers modulus (XidSent command flag own) = Dm false
 
 abbrev pub core_sent : Bool → ℕ → SentIn → Tagged
 core_sent answers tag sent = record { tag = tag; kind = kind_of answers sent.modulus sent.frame }

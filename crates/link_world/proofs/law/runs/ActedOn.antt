@@ -4,7 +4,7 @@ use Rattle.link_world.proofs.Common.{sym, ap, ◌∙◌, subst, fold, All-from_r
 use Rattle.link_world.proofs.Common.{Opened, Given, Ended, Sent, sent_kind, InfoSent, SuperSent, SetupSent, refusal_of}
 use Rattle.link_world.proofs.Common.{Turn, SetUp, change_last, last_changed, giving, getting, acting, Tagged}
 use Rattle.link_world.proofs.Common.{is_numbered, RecordedEnd, Happening, told_of, opening, taking, hearing, noting}
-use Rattle.link_world.proofs.Common.{accepts, behind, Sends, Hears, read_in}
+use Rattle.link_world.proofs.Common.{accepts, behind, Sends, Hears, read_in, XidSent}
 use Rattle.std.proofs.Common.{All}
 use Rattle.std.specs.List.{AllByRecursion as Each}
 use Rattle.link_machine.specs.declared.state.LinkState.TheVariants.{Idle as IdleState, Calling as CallingState}
@@ -93,6 +93,8 @@ mate_of_front r ended last f (InfoSent ns nr poll packet) is inv =
 mate_of_front r ended last f (SuperSent which command nr flag) is inv =
     front_of_mate (end_behind r.machine (core_set_ups ended)) inv
 mate_of_front r ended last f (SetupSent which flag) is inv = absurd (Rattle.std.proofs.lemmas.Bool.false≢true is)
+mate_of_front r ended last f (XidSent command flag own) is inv =
+    absurd (Rattle.std.proofs.lemmas.Bool.false≢true is)
 
 pub acted_hears :
     {r : RecordedEnd} {x y : End} {f : Tagged} (frame : Frame) {rest to_y : List CoreTagged} → Shown r x → IsWritten f

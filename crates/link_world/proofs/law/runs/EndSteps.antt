@@ -1,7 +1,12 @@
 -- Whatever happens to an end, what holds still holds.
+use Rattle.ax25_frames.specs.declared.frame.Kind.TheVariants.{Other}
+use Rattle.ax25_frames.specs.declared.frame.W.TheVariants.{Xid}
+use Rattle.link_machine.specs.Sent.{xid_octets}
+use Rattle.link_world.proofs.Common.{XidSent}
+use Rattle.link_world.proofs.law.up.Exchanging.{up_hears_xid}
 use Rattle.link_world.proofs.Common.{◌≡◌, ℕ, Bool, true, false, ◌||◌, if◌then◌else◌, nat_lt, List, [], ◌∷◌, length}
 use Rattle.link_world.proofs.Common.{Option, Some, None, is_some, IfSome, inl, inr, refl, sym, ap, ◌∙◌, subst, ⊤}
-use Rattle.link_world.proofs.Common.{cond-true, false≢true, Frame, Kind, U, is_command_of, Packet, LinkState, LinkFault}
+use Rattle.link_world.proofs.Common.{cond-true, false≢true, Frame, Kind, U, is_heard_as_command, Packet, LinkState, LinkFault}
 use Rattle.link_world.proofs.Common.{Machine, modulus_named, Sent, sent_kind, InfoSent, SuperSent, SetupSent, begin}
 use Rattle.link_world.proofs.Common.{changing, connect, joined, tick, tick_in, hear_up, step}
 use Rattle.link_world.proofs.Common.{settled, refusal_of, frame_read, read_in, is_sabm_frame, SetUp, Tagged}
@@ -164,7 +169,7 @@ up_hears :
     {r : RecordedEnd} {ended : List SetUp} {last : SetUp} (a : Arrival) (sent : Sent) {y : End}
     {rest to_y : List CoreTagged} → WindowsOf r.machine.incoming y → let e = heard_frame a sent in
     UpEnd r ended last y (core_tagged e ∷ rest) to_y
-    → Keeps (Hears e) r y rest to_y (settled (hear_up (is_command_of a.path.role e.frame.kind) e.frame.kind
+    → Keeps (Hears e) r y rest to_y (settled (hear_up (is_heard_as_command a.path.role e.frame.kind) e.frame.kind
     (begin r.machine)))
 up_hears {r} {ended} a (InfoSent ns nr poll packet) windows u =
     up_hears_info a ns nr poll packet (front_modulus (end_behind r.machine (core_set_ups ended)) u.holds) windows u
@@ -178,6 +183,8 @@ up_hears a (SetupSent SabmeFrame flag) windows u =
 up_hears a (SetupSent DiscFrame flag) windows u = up_hears_disc a flag u
 up_hears a (SetupSent DmFrame flag) windows u = up_hears_dm a flag u
 up_hears a (SetupSent UaFrame flag) windows u = up_hears_ua a flag u
+up_hears a (XidSent command flag own) windows u =
+    up_hears_xid a command flag own (is_heard_as_command a.path.role (Other Xid flag (xid_octets own))) u
 
 -- an end that is up reads a frame as it was written
 pub kind_of_up :
@@ -191,6 +198,7 @@ kind_of_up m ended last kind a (InfoSent ns nr poll packet) read same inv =
 kind_of_up m ended last kind a (SuperSent which command nr flag) read same inv =
     same (front_modulus (end_behind m (core_set_ups ended)) inv)
 kind_of_up m ended last kind a (SetupSent which flag) read same inv = read
+kind_of_up m ended last kind a (XidSent command flag own) read same inv = read
 
 -- an idle end hears a SABM or SABME only while none of its own is under way
 abbrev pub CalledAlone : RecordedEnd → Sent → List CoreTagged → Type 0
@@ -203,11 +211,11 @@ hear_read :
     → let e = heard_as a kind sent in
     Stands r y (core_tagged e ∷ rest) to_y → WindowsOf r.machine.incoming y → IsReadAs sent kind
     → (a.modulus ≡ r.machine.incoming.modulus → kind ≡ sent_kind a.modulus sent) → CalledAlone r sent to_y
-    → Keeps (Hears e) r y rest to_y (settled (hear (is_command_of a.path.role kind) kind (begin r.machine)))
+    → Keeps (Hears e) r y rest to_y (settled (hear (is_heard_as_command a.path.role kind) kind (begin r.machine)))
 hear_read {r} a kind sent {y} {rest} {to_y} s windows read same quiet = by_state s
   where
     command : Bool
-    command = is_command_of a.path.role kind
+    command = is_heard_as_command a.path.role kind
 
     P : LinkState → Type 0
     P state = Keeps (Hears (heard_as a kind sent)) r y rest to_y
@@ -218,7 +226,7 @@ hear_read {r} a kind sent {y} {rest} {to_y} s windows read same quiet = by_state
     by_state (StandsCalling d) = subst P (sym d.state_is) (calling_hears a kind sent d read)
     by_state (StandsUp ended last u) = subst P (sym u.state)
         (subst (λ k. Keeps (Hears (heard_as a k sent)) r y rest to_y
-        (settled (hear_up (is_command_of a.path.role k) k (begin r.machine))))
+        (settled (hear_up (is_heard_as_command a.path.role k) k (begin r.machine))))
         (sym (kind_of_up r.machine ended last kind a sent read same u.holds)) (up_hears a sent windows u))
     by_state (StandsReleasing d) = subst P (sym d.state_is) (releasing_hears a kind sent command d read)
 

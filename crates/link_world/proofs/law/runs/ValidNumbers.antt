@@ -3,7 +3,7 @@ use Rattle.link_world.proofs.Common.{◌≡◌, ℕ, ◌%◌, ◌<◌, true, Lis
 use Rattle.link_world.proofs.Common.{subst, le-leb, Frame, Params, Machine, is_valid, Sent, sent_kind, InfoSent}
 use Rattle.link_world.proofs.Common.{SuperSent, SetupSent, SetUp, Tagged, RecordedEnd, Side, World, read_in}
 use Rattle.link_world.proofs.Common.{hears_valid, WindowsFit, Event, Connect, Send, Disconnect, Tick, Seize}
-use Rattle.link_world.proofs.Common.{Hear, Lose}
+use Rattle.link_world.proofs.Common.{Hear, Lose, XidSent}
 use Rattle.std.specs.List.{AllByRecursion as Each}
 use Rattle.link_world.proofs.law.reduced.Core.{End, Tagged as CoreTagged, Numbered, between}
 use Rattle.link_world.proofs.law.reduced.CoreMoves.{numbered_to}
@@ -37,6 +37,7 @@ names_by m ended last f (InfoSent ns nr poll packet) fits inv = valid_by m ended
 names_by m ended last f (SuperSent which command nr flag) fits inv =
     valid_by m ended last (nr_of_super which nr flag) fits inv
 names_by m ended last f (SetupSent which flag) fits inv = refl
+names_by m ended last f (XidSent command flag own) fits inv = refl
 
 reads_by :
     {a b : Params} {r : RecordedEnd} {towards : List Tagged} {far : Side} → WindowsFit a b

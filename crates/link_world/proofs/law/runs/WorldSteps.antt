@@ -5,7 +5,7 @@ use Rattle.link_world.proofs.Common.{map-append, Frame, Mode, IsWindow, Params, 
 use Rattle.link_world.proofs.Common.{SentIn}
 use Rattle.link_world.proofs.Common.{sent_kind, InfoSent, SuperSent, SetupSent, Tagged, asks, asks_in, answers_in}
 use Rattle.link_world.proofs.Common.{RecordedEnd, Happening, seen, hears_ask, behind, tagged, Hears, World, read_in}
-use Rattle.link_world.proofs.Common.{is_alone, WindowsFit, AreHalves, IsHalf}
+use Rattle.link_world.proofs.Common.{is_alone, WindowsFit, AreHalves, IsHalf, XidSent}
 use Rattle.std.proofs.Common.{cond}
 use Rattle.std.specs.List.{AllByRecursion as Each, remove}
 use Rattle.std.proofs.lemmas.Bool.{or_cases}
@@ -140,6 +140,7 @@ ask_same modulus answers (SetupSent SabmeFrame flag) = refl
 ask_same modulus answers (SetupSent DiscFrame flag) = refl
 ask_same modulus answers (SetupSent DmFrame flag) = refl
 ask_same modulus answers (SetupSent UaFrame flag) = refl
+ask_same modulus answers (XidSent command flag own) = refl
 
 pub asks_sent :
     (on_ask : Bool) (r : RecordedEnd) (sent : List SentIn)
@@ -168,6 +169,7 @@ answer_same answers modulus (SetupSent DiscFrame flag) h = ap (λ b. cond b 1 0)
 answer_same true modulus (SetupSent DmFrame flag) h = refl
 answer_same false modulus (SetupSent DmFrame flag) h = refl
 answer_same answers modulus (SetupSent UaFrame flag) h = ap (λ b. cond b 1 0) h
+answer_same answers modulus (XidSent command flag own) h = ap (λ b. cond b 1 0) h
 
 answers_flying : (fs : List Tagged) → Each IsWritten fs → answers_in fs ≡ core_answers (core_flight fs)
 answers_flying [] h = refl

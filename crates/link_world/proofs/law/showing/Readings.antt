@@ -3,18 +3,22 @@
 use Rattle.link_world.proofs.Common.{◌≡◌, ℕ, ◌%◌, Bool, true, false, if◌then◌else◌, nat_lt, List, [], ◌∷◌, length}
 use Rattle.link_world.proofs.Common.{Option, Some, None, IfSome, refl, subst, Kind, Info, Setup, Frame, Modulus, Eight}
 use Rattle.link_world.proofs.Common.{OneTwentyEight, Sent, sent_kind, InfoSent, SuperSent, SetupSent, is_numbered}
-use Rattle.link_world.proofs.Common.{kind_read, frame_read, read_narrow, with_kind}
+use Rattle.link_world.proofs.Common.{kind_read, frame_read, read_narrow, with_kind, Other, XidSent}
+use Rattle.ax25_frames.specs.declared.frame.W.TheVariants.{Xid}
+use Rattle.link_machine.specs.Sent.{xid_octets}
 use Rattle.link_world.specs.Reading.{read_wide}
 
 abbrev pub IsReadAs : Sent → Kind → Type 0
 IsReadAs (InfoSent number nr poll packet) kind = is_numbered kind ≡ true
 IsReadAs (SuperSent which command nr flag) kind = is_numbered kind ≡ true
 IsReadAs (SetupSent which flag) kind = kind ≡ Setup which flag
+IsReadAs (XidSent command flag own) kind = kind ≡ Other Xid flag (xid_octets own)
 
 read_self : (modulus : ℕ) (s : Sent) → IsReadAs s (sent_kind modulus s)
 read_self modulus (InfoSent number nr poll packet) = refl
 read_self modulus (SuperSent which command nr flag) = refl
 read_self modulus (SetupSent which flag) = refl
+read_self modulus (XidSent command flag own) = refl
 
 reads_wide : (modulus : ℕ) (s : Sent) → IfSome (read_wide (sent_kind modulus s)) (IsReadAs s)
 reads_wide modulus (InfoSent number nr poll packet) = go packet.octets
@@ -25,6 +29,7 @@ reads_wide modulus (InfoSent number nr poll packet) = go packet.octets
     go (pid ∷ octets) = refl
 reads_wide modulus (SuperSent which command nr flag) = tt
 reads_wide modulus (SetupSent which flag) = refl
+reads_wide modulus (XidSent command flag own) = refl
 
 reads_narrow : (modulus : ℕ) (s : Sent) → IfSome (read_narrow (sent_kind modulus s)) (IsReadAs s)
 reads_narrow modulus (InfoSent number nr poll packet) = go (nat_lt (length packet.octets) 256) _ refl
@@ -35,6 +40,7 @@ reads_narrow modulus (InfoSent number nr poll packet) = go (nat_lt (length packe
     go false kind is = tt
 reads_narrow modulus (SuperSent which command nr flag) = tt
 reads_narrow modulus (SetupSent which flag) = refl
+reads_narrow modulus (XidSent command flag own) = refl
 
 reads_by :
     (written read : Modulus) (modulus : ℕ) (s : Sent)

@@ -1,6 +1,7 @@
 -- How an end of the world, with its record, shows an end as the law of two links reads it.
 use Rattle.link_world.proofs.Common.{◌≡◌, ℕ, suc, ◌+◌, Bool, true, false, ◌&&◌, List, [], ◌∷◌, ◌++◌, length, map, refl}
 use Rattle.link_world.proofs.Common.{sym, ap, ◌∙◌, arith, fold, ⊤, Packet, Given, Sent, SentIn, sent_in, sent_kind}
+use Rattle.link_world.proofs.Common.{XidSent}
 use Rattle.link_world.proofs.Common.{InfoSent, SuperSent, SetupSent, SetUp, change_last, last_changed, getting, Tagged}
 use Rattle.link_world.proofs.Common.{is_answer, set_up_of, RecordedEnd, told_of, tagged}
 use Rattle.std.proofs.lemmas.List.{append-nil, append_assoc}
@@ -49,6 +50,7 @@ AnswersAsSent answers (SetupSent SabmeFrame flag) = answers ≡ false
 AnswersAsSent answers (SetupSent DiscFrame flag) = answers ≡ false
 AnswersAsSent answers (SetupSent DmFrame flag) = ⊤
 AnswersAsSent answers (SetupSent UaFrame flag) = answers ≡ true
+AnswersAsSent answers (XidSent command flag own) = answers ≡ false
 
 -- a frame is written as it was sent
 pub record IsWritten (f : Tagged) : Type 0 where
@@ -95,12 +97,14 @@ kind_by false modulus (SetupSent SabmeFrame flag) = refl
 kind_by false modulus (SetupSent DiscFrame flag) = refl
 kind_by false modulus (SetupSent DmFrame flag) = refl
 kind_by false modulus (SetupSent UaFrame flag) = refl
+kind_by on_ask modulus (XidSent command flag own) = refl
 
 -- the tag of a frame of an end that is up is the number of its last set-up
 up_tag : (modulus n : ℕ) (s : Sent) → set_up_of (sent_kind modulus s) UpState (n + 1) ≡ n
 up_tag modulus n (InfoSent number nr poll packet) = omega arith
 up_tag modulus n (SuperSent which command nr flag) = omega arith
 up_tag modulus n (SetupSent which flag) = omega arith
+up_tag modulus n (XidSent command flag own) = omega arith
 
 -- what an end that is up has sent, with its tags
 pub flight_of_up :

@@ -1,6 +1,6 @@
 -- An end that is up hears a frame without numbers.
 use Rattle.link_world.proofs.Common.{◌≡◌, Bool, true, List, [], ◌∷◌, inl, refl, sym, ap, ◌∙◌, subst, append-nil}
-use Rattle.link_world.proofs.Common.{is_command_of, U, SetupSent, begin, hear_up, settled, SetUp, RecordedEnd, noting}
+use Rattle.link_world.proofs.Common.{is_heard_as_command, U, SetupSent, begin, hear_up, settled, SetUp, RecordedEnd, noting}
 use Rattle.link_world.proofs.Common.{hearing, Hears}
 use Rattle.ax25_frames.specs.declared.frame.U.TheVariants.{Disc as DiscFrame, Dm as DmFrame, Ua as UaFrame}
 use Rattle.link_machine.specs.declared.state.LinkState.TheVariants.{Idle as IdleState}
@@ -36,7 +36,7 @@ pub up_hears_ua :
     {r : RecordedEnd} {ended : List SetUp} {last : SetUp} (a : Arrival) (flag : Bool) {y : End}
     {rest to_y : List CoreTagged} → let f = heard_frame a (SetupSent UaFrame flag) in
     UpEnd r ended last y (core_tagged f ∷ rest) to_y
-    → Keeps (Hears f) r y rest to_y (settled (hear_up (is_command_of a.path.role f.frame.kind) f.frame.kind
+    → Keeps (Hears f) r y rest to_y (settled (hear_up (is_heard_as_command a.path.role f.frame.kind) f.frame.kind
     (begin r.machine)))
 up_hears_ua a flag u = up_goes_on u refl (ap (λ (e : RecordedEnd). e.set_ups) (noted_nothing a UaFrame flag u))
     (passed_over (up_begins u))
@@ -56,7 +56,7 @@ pub up_hears_dm :
     {r : RecordedEnd} {ended : List SetUp} {last : SetUp} (a : Arrival) (flag : Bool) {y : End}
     {rest to_y : List CoreTagged} → let f = heard_frame a (SetupSent DmFrame flag) in
     UpEnd r ended last y (core_tagged f ∷ rest) to_y
-    → Keeps (Hears f) r y rest to_y (settled (hear_up (is_command_of a.path.role f.frame.kind) f.frame.kind
+    → Keeps (Hears f) r y rest to_y (settled (hear_up (is_heard_as_command a.path.role f.frame.kind) f.frame.kind
     (begin r.machine)))
 up_hears_dm {r} a flag {y} {rest} {to_y} u =
     let f = heard_frame a (SetupSent DmFrame flag) in
@@ -78,7 +78,7 @@ pub up_hears_disc :
     {r : RecordedEnd} {ended : List SetUp} {last : SetUp} (a : Arrival) (flag : Bool) {y : End}
     {rest to_y : List CoreTagged} → let f = heard_frame a (SetupSent DiscFrame flag) in
     UpEnd r ended last y (core_tagged f ∷ rest) to_y
-    → Keeps (Hears f) r y rest to_y (settled (hear_up (is_command_of a.path.role f.frame.kind) f.frame.kind
+    → Keeps (Hears f) r y rest to_y (settled (hear_up (is_heard_as_command a.path.role f.frame.kind) f.frame.kind
     (begin r.machine)))
 up_hears_disc {r} a flag u =
     let f = heard_frame a (SetupSent DiscFrame flag) in

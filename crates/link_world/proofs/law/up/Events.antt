@@ -1,7 +1,7 @@
 -- Events of an end that is up: what the layer above asks for, and I and S frames.
 use Rattle.link_world.proofs.Common.{◌≡◌, ℕ, ◌%◌, ◌<◌, Bool, true, false, ◌&&◌, if◌then◌else◌, List, [], ◌∷◌, ◌++◌, map}
 use Rattle.link_world.proofs.Common.{Option, Some, None, is_some, refl, sym, ap, ◌∙◌, subst, append-nil, fold}
-use Rattle.link_world.proofs.Common.{cond-false, is_command_of, Given, S, Packet, keeps, took, InfoSent, SuperSent}
+use Rattle.link_world.proofs.Common.{cond-false, is_heard_as_command, Given, S, Packet, keeps, took, InfoSent, SuperSent}
 use Rattle.link_world.proofs.Common.{Turn, begin, changing, setting, joined, quitting, hear_up, settled, refusal_of}
 use Rattle.link_world.proofs.Common.{SetUp, opened, change_last, giving, acting, RecordedEnd, Happening, accepts}
 use Rattle.link_world.proofs.Common.{told_of, noting, hearing, hears_ask, Sends, Disconnects, Seizes, Hears, seize}
@@ -118,11 +118,11 @@ pub up_hears_super :
     → r.machine.incoming.window < r.machine.incoming.modulus
     → let f = heard_frame a (SuperSent which command nr flag) in
     UpEnd r ended last y (core_tagged f ∷ rest) to_y
-    → Keeps (Hears f) r y rest to_y (settled (hear_up (is_command_of a.path.role f.frame.kind) f.frame.kind
+    → Keeps (Hears f) r y rest to_y (settled (hear_up (is_heard_as_command a.path.role f.frame.kind) f.frame.kind
     (begin r.machine)))
 up_hears_super {r} {ended} {last} a which command nr flag {y} {rest} {to_y} own fits u =
     let f = heard_frame a (SuperSent which command nr flag) in
-    let turn = hear_up (is_command_of a.path.role f.frame.kind) f.frame.kind (begin r.machine) in
+    let turn = hear_up (is_heard_as_command a.path.role f.frame.kind) f.frame.kind (begin r.machine) in
     let acted = acting a.set_up false last in
     let noted : (noting (Hears f) r).set_ups ≡ ended ++ acted ∷ [] =
     ap (λ s. (hearing s f r).set_ups) u.state ∙ ap (change_last (acting a.set_up false)) u.set_ups
@@ -130,8 +130,8 @@ up_hears_super {r} {ended} {last} a which command nr flag {y} {rest} {to_y} own 
     let ends : EndsUp (Hears f) r ended acted [] r.machine.incoming.modulus =
     record { no_ask = refl; set_ups = noted } in
     let up : IsUp rest (progress_of r y to_y ended acted) turn = subst (λ m. IsUp rest (progress_of r y to_y ended last)
-    (hear_up (is_command_of a.path.role f.frame.kind) (SuperKind which (nr % m) flag) (begin r.machine))) (sym own)
-    (hear_super_keeps nr which (is_command_of a.path.role f.frame.kind) flag fits (up_begins u)) in
+    (hear_up (is_heard_as_command a.path.role f.frame.kind) (SuperKind which (nr % m) flag) (begin r.machine))) (sym own)
+    (hear_super_keeps nr which (is_heard_as_command a.path.role f.frame.kind) flag fits (up_begins u)) in
     up_ends ends up
 
 first_same : (o : Option ℕ) (tag : ℕ) → first_of o tag ≡ first_origin o tag
@@ -149,7 +149,7 @@ pub up_hears_info :
     {y : End} {rest to_y : List CoreTagged} → a.modulus ≡ r.machine.incoming.modulus → WindowsOf r.machine.incoming y
     → let f = heard_frame a (InfoSent ns nr poll packet) in
     UpEnd r ended last y (core_tagged f ∷ rest) to_y
-    → Keeps (Hears f) r y rest to_y (settled (hear_up (is_command_of a.path.role f.frame.kind) f.frame.kind
+    → Keeps (Hears f) r y rest to_y (settled (hear_up (is_heard_as_command a.path.role f.frame.kind) f.frame.kind
     (begin r.machine)))
 up_hears_info {r} {ended} {last} a ns nr poll packet {y} {rest} {to_y} own windows u =
     let m = r.machine in
@@ -160,7 +160,7 @@ up_hears_info {r} {ended} {last} a ns nr poll packet {y} {rest} {to_y} own windo
     let up = up_begins u in
     let read : IsRead m nr = nr_is_read refl windows.own up in
     let acted = acting tag takes last in
-    let command = is_command_of a.path.role
+    let command = is_heard_as_command a.path.role
     (InfoKind (ns % i.modulus) (nr % i.modulus) poll packet.pid packet.octets) in
     let kind = InfoKind (ns % i.modulus) (nr % i.modulus) poll packet.pid packet.octets in
     let heard : HasHeard rest tag takes g (hear_up command kind (begin m)) =
@@ -184,4 +184,4 @@ up_hears_info {r} {ended} {last} a ns nr poll packet {y} {rest} {to_y} own windo
     }) (hear_up command kind (begin m))) (origin_same takes last.accepted tag) heard.up in
     subst (λ n. let k = InfoKind (ns % n) (nr % n) poll packet.pid packet.octets in
     Keeps (Hears (heard_as a k (InfoSent ns nr poll packet))) r y rest to_y
-    (settled (hear_up (is_command_of a.path.role k) k (begin m)))) (sym own) (up_ends ends got)
+    (settled (hear_up (is_heard_as_command a.path.role k) k (begin m)))) (sym own) (up_ends ends got)

@@ -1,7 +1,7 @@
 -- A link that is up, in the middle of an event.
 use Rattle.link_world.proofs.Common.{◌≡◌, ℕ, Bool, List, [], ◌∷◌, ◌++◌, length, sym, ap, ◌∙◌, append_assoc, ⊤}
 use Rattle.link_world.proofs.Common.{map-append, Told, Incoming, Params, Sent, SentIn, InfoSent, SuperSent, SetupSent}
-use Rattle.link_world.proofs.Common.{Turn}
+use Rattle.link_world.proofs.Common.{Turn, XidSent}
 use Rattle.link_world.proofs.law.showing.PlacesFit.{IsSound}
 use Rattle.std.specs.List.{AllByRecursion as Each}
 use Rattle.link_machine.specs.declared.state.LinkState.TheVariants.{Up as UpState}
@@ -9,11 +9,12 @@ use Rattle.link_world.proofs.law.reduced.Core.{End, SetUp, Tagged, between}
 use Rattle.link_world.proofs.law.reduced.CoreOf.{core_sent, cores_sent, up_end}
 use Rattle.link_world.proofs.law.invariant.Invariant.{Invariant}
 
--- a link that is up sends I and S frames, up to the DISC that ends it
+-- a link that is up sends I and S frames, up to the DISC that ends it, or XID alone
 abbrev pub IsNumberedSent : Sent → Type 0
 IsNumberedSent (InfoSent number nr poll packet) = ⊤
 IsNumberedSent (SuperSent which command nr flag) = ⊤
 IsNumberedSent (SetupSent which flag) = ⊥
+IsNumberedSent (XidSent command flag own) = ⊥
 
 abbrev pub SentFits : Bool → SentIn → Type 0
 SentFits answers s = IsNumberedSent s.frame

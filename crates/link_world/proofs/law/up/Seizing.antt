@@ -2,6 +2,7 @@
 use Rattle.link_world.proofs.Common.{◌≡◌, ℕ, ◌+◌, ◌-◌, ◌<◌, max, min, Bool, true, false, ◌&&◌, not, nat_lt, List, []}
 use Rattle.link_world.proofs.Common.{◌∷◌, ◌++◌, length, map, slice_get, Option, Some, None, is_some, IfSome}
 use Rattle.link_world.proofs.Common.{if◌then◌else◌, refl, sym, ap, ◌∙◌, subst, arith, append-nil, cond-true, ltb-true}
+use Rattle.std.proofs.lemmas.Bool.{lt-ltb}
 use Rattle.link_world.proofs.Common.{and_parts, Rr, Packet, Control, sent_in, all_sent_in, InfoSent, SuperSent, Turn}
 use Rattle.link_world.proofs.Common.{nothing_due, seize_in}
 use Rattle.std.proofs.Common.{◌||◌, nat_le}
@@ -15,7 +16,7 @@ use Rattle.link_machine.specs.Seizing.{not_passed, notice_passed, poll_frame, po
 use Rattle.link_machine.specs.Seizing.{rejected, send_again, send_due, send_frame, send_info, send_next, send_poll}
 use Rattle.link_machine.specs.Seizing.{send_srej, short_packet}
 use Rattle.link_machine.specs.Turn.{sending}
-use Rattle.link_machine.specs.Wants.{is_asked_again, is_missing_some, may_send_info}
+use Rattle.link_machine.specs.Wants.{is_asked_again, is_missing_some, may_send_info, sending_window}
 use Rattle.link_machine.specs.declared.state.LinkState.TheVariants.{Up}
 use Rattle.link_world.proofs.law.Each.{each_append, each_pushed}
 use Rattle.link_world.proofs.law.reduced.Core.{Tagged}
@@ -151,10 +152,12 @@ new_goes_out {to_x} {g} {turn} last full may h =
     let m = turn.now in
     let q = m.outgoing in
     let window = m.incoming.window in
-    let parts = and_parts (not (m.control.busy || m.control.poll)) (may_send window q) may in
-    let low = ltb-true q.vs (q.va + min window (length q.packets)) parts.1 in
+    let parts = and_parts (not (m.control.busy || m.control.poll)) (may_send (sending_window m) q) may in
+    let less = ltb-true q.vs (q.va + min (sending_window m) (length q.packets)) parts.1 in
+    let low : q.vs < q.va + min window (length q.packets) = omega (arith, less) in
     let left : Outgoing = record q { vs = q.vs + 1; top = max q.top (q.vs + 1) } in
-    let is : after_next window q ≡ left = cond-true (may_send window q) left q parts.1 in
+    let is : after_next window q ≡ left =
+    cond-true (may_send window q) left q (lt-ltb q.vs (q.va + min window (length q.packets)) low) in
     let poll = polls last full (left_with left m) in
     subst (λ o. IsUp to_x g (send_info last full (q.vs - q.va) o turn)) (sym is)
     (setting_keeps (info_sent poll) (info_state poll)

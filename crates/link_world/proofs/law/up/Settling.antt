@@ -4,7 +4,7 @@ use Rattle.link_world.proofs.Common.{length, map, inl, inr, refl, sym, ap, â—Œâˆ
 use Rattle.link_world.proofs.Common.{and_parts, eqb-true, map-append, LinkState, Machine, Sent, SentIn}
 use Rattle.link_world.proofs.Common.{sent_in, sent_kind, InfoSent, SuperSent, SetupSent, Turn, close, SetUp, opened}
 use Rattle.link_world.proofs.Common.{is_answer, set_up_of, RecordedEnd, tagged, waiting_in, Happening, told_of, mate_of}
-use Rattle.link_world.proofs.Common.{opening, noting, hears_ask, Told, settled, settle_in}
+use Rattle.link_world.proofs.Common.{opening, noting, hears_ask, Told, settled, settle_in, XidSent}
 use Rattle.std.specs.List.{AllByRecursion as Each}
 use Rattle.std.proofs.lemmas.Bool.{and_right}
 use Rattle.std.proofs.lemmas.List.{nil_from_length}
@@ -36,6 +36,7 @@ answers_by :
 answers_by on_ask modulus (InfoSent number nr poll packet) fits = and_right on_ask false refl
 answers_by on_ask modulus (SuperSent which command nr flag) fits = and_right on_ask false refl
 answers_by on_ask modulus (SetupSent which flag) fits = absurd fits
+answers_by on_ask modulus (XidSent command flag own) fits = absurd fits
 
 -- I and S frames are written as they are sent
 pub numbered_written :
@@ -55,6 +56,7 @@ numbered_tag :
 numbered_tag modulus n state (InfoSent number nr poll packet) fits = omega arith
 numbered_tag modulus n state (SuperSent which command nr flag) fits = omega arith
 numbered_tag modulus n state (SetupSent which flag) fits = absurd fits
+numbered_tag modulus n state (XidSent command flag own) fits = absurd fits
 
 -- they have the tag of the last set-up, whether it has ended or not
 pub flight_of_numbered :
@@ -77,6 +79,7 @@ numbered_ask : (on_ask : Bool) (modulus : â„•) (s : Sent) â†’ IsNumberedSent s â
 numbered_ask on_ask modulus (InfoSent number nr poll packet) fits = refl
 numbered_ask on_ask modulus (SuperSent which command nr flag) fits = refl
 numbered_ask on_ask modulus (SetupSent which flag) fits = absurd fits
+numbered_ask on_ask modulus (XidSent command flag own) fits = absurd fits
 
 -- they ask nothing
 pub numbered_asks :

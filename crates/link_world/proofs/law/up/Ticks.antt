@@ -5,10 +5,13 @@ use Rattle.link_world.proofs.Common.{LinkState, Ended, mode_in, window_in, empty
 use Rattle.link_world.proofs.Common.{begin}
 use Rattle.link_world.proofs.Common.{setting, runs_out, lowered, with_t1, with_t3, t1_out, t3_out, tick_t1_of}
 use Rattle.link_world.proofs.Common.{tick_t3_of, tick, tick_in, is_spent, settled, SetUp, opened, RecordedEnd, told_of}
-use Rattle.link_world.proofs.Common.{Ticks, ◌||◌}
+use Rattle.link_world.proofs.Common.{Ticks, ◌||◌, and_parts}
+use Rattle.std.proofs.Common.{not}
+use Rattle.link_machine.specs.Negotiation.{ask_xid, asked_once, asks_xid, has_done, is_due, own_parameters, tm201_ticked}
+use Rattle.link_world.proofs.law.up.Exchanging.{up_exchanges}
 use Rattle.ax25_frames.specs.declared.frame.U.TheVariants.{Dm as DmFrame}
 use Rattle.link_machine.specs.declared.state.LinkState.TheVariants.{Idle as IdleState, Up as UpState}
-use Rattle.link_machine.specs.Ticks.{poll_again, silent, to_poll}
+use Rattle.link_machine.specs.Ticks.{poll_again, silent, tick_t1, to_poll}
 use Rattle.link_machine.specs.Wants.{wants}
 use Rattle.link_world.proofs.law.reduced.Core.{End, Tagged as CoreTagged, between}
 use Rattle.link_world.proofs.law.reduced.Core.Kind.{Dm}
@@ -69,6 +72,7 @@ spent_outcome {r} {ended} {last} waiting {y} {was} {to_x} {to_y} {turn} u h spen
           passed = false;
           picked = false;
           busy = false;
+          tm201 = None;
           quit = false;
           t1 = None;
           t3 = None;
@@ -151,4 +155,21 @@ pub up_ticks :
     → UpEnd r ended last y to_x to_y → Keeps (Ticks waiting) r y to_x to_y (settled (tick waiting (begin r.machine)))
 up_ticks {r} waiting {y} {to_x} {to_y} u =
     subst (λ s. Keeps (Ticks waiting) r y to_x to_y (settled (tick_in s waiting (begin r.machine)))) (sym u.state)
-    (t1_ends r.machine.control.t1 (waiting || wants r.machine) waiting u (up_begins u))
+    (go (asks_xid waiting r.machine) refl)
+  where
+    rests : (b : Bool) → not b ≡ true → b ≡ false
+    rests true e = sym e
+    rests false e = refl
+
+    go : (b : Bool) → asks_xid waiting r.machine ≡ b
+        → Keeps (Ticks waiting) r y to_x to_y (settled (if b then ask_xid (begin r.machine)
+        else tick_t1 waiting (setting (tm201_ticked waiting) (begin r.machine))))
+    go true asks =
+        let parts = and_parts (is_due waiting r.machine.control) (not (has_done r.machine)) asks in
+        up_exchanges (asked_once r.machine.control) true true
+        (own_parameters r.machine) u refl refl u.state (rests (has_done r.machine) parts.1)
+        u.holds
+    go false silent =
+        let ticked = setting (tm201_ticked waiting) (begin r.machine) in
+        t1_ends r.machine.control.t1 (waiting || wants ticked.now) waiting u
+        (setting_keeps (tm201_ticked waiting) (λ c. refl) (up_begins u))

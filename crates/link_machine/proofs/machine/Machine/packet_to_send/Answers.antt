@@ -1,6 +1,6 @@
 use Rattle.link_machine.proofs.Common.{◌≡◌, ℕ, ◌+◌, ◌<◌, Bool, true, false, if◌then◌else◌, is_some, refl, sym, ◌∙◌, ap, subst}
 use Rattle.link_machine.proofs.Common.{arith, false≢true, Option, Packet, Machine, Holds, back, left_with, carried, slice_get}
-use Rattle.link_machine.proofs.Common.{is_asked_again}
+use Rattle.link_machine.proofs.Common.{is_asked_again, min}
 use Rattle.std.specs.Option.{option_copied}
 use Rattle.std.proofs.lemmas.Result.{IfOk-weaker}
 use Rattle.link_machine.specs.Machine.{with_control}
@@ -9,8 +9,8 @@ use Rattle.link_machine.proofs.machine.Machine.packet_to_send.Goals.{then-goes_b
 use Rattle.link_machine.proofs.machine.Machine.packet_to_send.Goals.{then-goes_back-2, else-goes_back-2}
 use Rattle.link_machine.proofs.machine.Machine.packet_to_send.Goals as goal
 
-pub returns-then-sent-window : goal.returns-then-sent-window
-returns-then-sent-window c =
+pub returns-then-sent-window_with : goal.returns-then-sent-window_with
+returns-then-sent-window_with c =
     let held = c.args.self.now in
     let sent = c.if-goes_back.sent in
     let at : Bool → Machine → Machine =
@@ -23,9 +23,9 @@ returns-then-sent-window c =
       };
       ask = c.if-control-3.false;
     } in
-    let within : (m : Machine) → Holds held m → sent < m.incoming.window = λ m h.
+    let within : (m : Machine) → Holds held m → sent < min m.incoming.window c.args.control.now.most_sent = λ m h.
     let L : ℕ → Type 0 = λ k. sent < k in
-    subst L (c.window.ensures.value ∙ h.stands.incoming.window) c.if-sent-window.true in
+    subst L (c.window_with.ensures m h) c.if-sent-window_with.true in
     let carries : (m : Machine) → Holds held m → carried (at c.args.goes_back m) ≡ slice_get m.outgoing.packets sent =
     λ m h.
     let P : Bool → Type 0 = λ b. carried (at b m) ≡ slice_get m.outgoing.packets sent in
@@ -47,7 +47,7 @@ returns-then-sent-window c =
           subst P (sym w.if-goes_back.false) (carries_at (at false m) sent (asks false m h) again
           c.if-not-control.true c.if-not-control-2.true count (within m h))
     ] in
-    let R : Option Packet → Type 0 = λ packet. packet ≡ option_copied c.packet-then-sent-window.result in
-    IfOk-weaker c.copy_of-then-sent-window.result R _ (λ packet copied m h.
-    copied ∙ c.packet-then-sent-window.ensures ∙ ap (slice_get held.outgoing.packets) c.from-then-sent-window.ensures
-    ∙ ap (λ ps. slice_get ps sent) h.stands.outgoing.packets ∙ sym (carries m h)) c.copy_of-then-sent-window.ensures
+    let R : Option Packet → Type 0 = λ packet. packet ≡ option_copied c.packet-then-sent-window_with.result in
+    IfOk-weaker c.copy_of-then-sent-window_with.result R _ (λ packet copied m h.
+    copied ∙ c.packet-then-sent-window_with.ensures ∙ ap (slice_get held.outgoing.packets) c.from-then-sent-window_with.ensures
+    ∙ ap (λ ps. slice_get ps sent) h.stands.outgoing.packets ∙ sym (carries m h)) c.copy_of-then-sent-window_with.ensures
