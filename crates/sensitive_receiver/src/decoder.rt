@@ -3,11 +3,15 @@
 ghost use Rattle.std.specs.Prelude.{◌≡◌, ◌+◌, ◌<◌, ◌≤◌, ◌^◌, ℤ, List, [], ◌++◌, length, replicate, true, false, IfOk};
 ghost use Rattle.std.specs.Prelude.{OnOk, OnErr};
 ghost use Rattle.std.specs.List.{All};
+ghost use Rattle.std.specs.Thread.{IsSync};
 ghost use Rattle.slicer_bank.specs.Candidates.{AreCandidatesBehind};
 ghost use Rattle.slicer_bank.specs.Held.{HeldBank, StandsFor as BankStandsFor};
 ghost use Rattle.slicer_bank.specs.Merging.{CanBePut as CanBePutOfEight, AllPast};
 ghost use Rattle.slicer_bank.specs.Progress.{Finishes, TakesBlock};
+ghost use Rattle.sensitive_receiver.specs.Found.{AreAddedBetween, HasRoom, IsAddedFrom};
 ghost use Rattle.sensitive_receiver.specs.HeldDecoder.{HaveTaken, StandsFor, progress};
+ghost use Rattle.sensitive_receiver.specs.HeldLanes.{HeldBank as HeldAdded, StandsFor as AddedStandsFor};
+ghost use Rattle.sensitive_receiver.specs.Lanes.{added_places};
 ghost use Rattle.sensitive_receiver.specs.MergedItems.{AreMergedBetween, settled};
 
 use crate::added_bank::AddedBank;
@@ -17,7 +21,7 @@ use frame_merge::{Candidate, Merger};
 use slicer_bank::{Bank, Gate, Progress};
 use std::alloc::Global;
 use std::marker::Model;
-use std::thread::Threads;
+use std::thread::{Threads, join_mut};
 use tnc_base::OutOfMemory;
 
 /// The eight lanes of a [`Bank`], those of an [`AddedBank`], and a [`Merger`]: `new`, then `block` for each block of
@@ -72,7 +76,6 @@ impl SensitiveDecoder {
     /// Takes a block of samples, and gives the items not given before that end more than 32 samples before the end of
     /// what was taken so far.
     pub fn block(&mut self, block: &[i16]) -> Result<Vec<Candidate>, OutOfMemory>
-        requires few { length block.now ≤ 2048 }
         requires room { self.old.position + length block.now < 2 ^ 48 }
         requires unfinished { self.old.finished ≡ false }
         ensures given { IfOk result (λ items. (x : List ℤ) → StandsFor self.old x → StandsFor self.new (x ++ block.now)
@@ -81,18 +84,18 @@ impl SensitiveDecoder {
     {
         self.progress.begin()?;
         let found = self.bank.feed(block)?;
-        self.settle(found, block)
+        let added = self.added.feed(block)?;
+        self.settle(found, added, block.len())
     }
 
-    /// Does what [`SensitiveDecoder::block`] does, with the eight lanes on two threads, as [`Bank::feed_threads`] has
-    /// them.
+    /// Does what [`SensitiveDecoder::block`] does, with the added lanes on a thread of their own beside the eight lanes,
+    /// which are on threads as [`Bank::feed_threads`] has them.
     pub fn block_threads<R: Threads + Sync, G: Gate>(
         &mut self,
         rt: &R,
         block: &[i16],
         gate: &G,
     ) -> Result<Vec<Candidate>, OutOfMemory>
-        requires few { length block.now ≤ 2048 }
         requires room { self.old.position + length block.now < 2 ^ 48 }
         requires unfinished { self.old.finished ≡ false }
         ensures given { IfOk result (λ items. (x : List ℤ) → StandsFor self.old x → StandsFor self.new (x ++ block.now)
@@ -100,45 +103,51 @@ impl SensitiveDecoder {
         ensures progress { TakesBlock (progress self.old) (progress self.new) (length block.now) result }
     {
         self.progress.begin()?;
-        let found = self.bank.feed_threads(rt, block, gate)?;
-        self.settle(found, block)
+        let (heard, heard_beside) = hear_beside(rt, &mut self.bank, &mut self.added, block, gate);
+        let found = heard?;
+        let added = heard_beside?;
+        self.settle(found, added, block.len())
     }
 
-    /// Has the added lanes hear a block in which the eight lanes found these candidates, and gives the items that it
-    /// settles. The decoder is spent until then.
+    /// Gives the items that a block of `count` samples settles, in which the eight lanes and the added ones found these
+    /// candidates. The decoder is spent until then.
     fn settle(
         &mut self,
         found: Vec<Candidate>,
-        block: &[i16],
+        added: Vec<Candidate>,
+        count: usize,
     ) -> Result<Vec<Candidate>, OutOfMemory>
-        requires room { self.old.position + length block.now < 2 ^ 48 }
+        requires room { self.old.position + count < 2 ^ 48 }
         requires items { All CanBePutOfEight found.items }
         requires past { AllPast self.old.position found.items }
+        requires added_items { All HasRoom added.items }
+        requires late { All (IsAddedFrom (settled self.old.position)) added.items }
         requires spent { self.old.spent ≡ true }
         requires marks { self.old.merger.marks ≡ replicate 26 (settled self.old.position) }
-        requires bank { self.old.bank.position ≡ self.old.position + length block.now }
-        requires added { self.old.added.position ≡ self.old.position }
-        ensures given { IfOk result (λ items. (before : HeldBank) (x : List ℤ) → self.old.finished ≡ false
-            → length x ≡ self.old.position
-            → (BankStandsFor before x → BankStandsFor self.old.bank (x ++ block.now)
-            × AreCandidatesBehind (length x) (x ++ block.now) found.items)
-            → HaveTaken before self.old.added self.old.merger x
-            → StandsFor self.new (x ++ block.now)
-            × AreMergedBetween (settled (length x)) (settled (length (x ++ block.now))) (x ++ block.now) items.items) }
-        ensures position { OnOk result (self.new.position ≡ self.old.position + length block.now) }
+        requires bank { self.old.bank.position ≡ self.old.position + count }
+        requires added { self.old.added.position ≡ self.old.position + count }
+        ensures given { IfOk result (λ items. (before : HeldBank) (other : HeldAdded) (x y : List ℤ)
+            → self.old.finished ≡ false → length x ≡ self.old.position → length y ≡ count
+            → (BankStandsFor before x → BankStandsFor self.old.bank (x ++ y)
+            × AreCandidatesBehind (length x) (x ++ y) found.items)
+            → (AddedStandsFor other x → AddedStandsFor self.old.added (x ++ y)
+            × AreAddedBetween (added_places (length x)) (added_places (length (x ++ y))) (x ++ y) added.items)
+            → HaveTaken before other self.old.merger x
+            → StandsFor self.new (x ++ y)
+            × AreMergedBetween (settled (length x)) (settled (length (x ++ y))) (x ++ y) items.items) }
+        ensures position { OnOk result (self.new.position ≡ self.old.position + count) }
         ensures stays { OnErr result (self.new.position ≡ self.old.position) }
         ensures finished { self.new.finished ≡ self.old.finished }
         ensures spent { OnErr result (self.new.spent ≡ true) }
     {
-        let added = self.added.feed(block)?;
         let items = merge_block(
             &mut self.merger,
             self.progress.position,
-            block.len(),
+            count,
             found,
             added,
         )?;
-        self.progress.take(block.len());
+        self.progress.take(count);
         Ok(items)
     }
 
@@ -160,4 +169,40 @@ impl SensitiveDecoder {
     {
         self.merger.held()
     }
+}
+
+/// What the eight lanes and the added ones hear in a block, the added ones on a thread of their own.
+fn hear_beside<R: Threads + Sync, G: Gate>(
+    rt: &R,
+    bank: &mut Bank,
+    added: &mut AddedBank,
+    block: &[i16],
+    gate: &G,
+) -> (
+    Result<Vec<Candidate>, OutOfMemory>,
+    Result<Vec<Candidate>, OutOfMemory>,
+)
+    requires bank { bank.old.position + length block.now < 2 ^ 48 }
+    requires added { added.old.position + length block.now < 2 ^ 48 }
+    ensures found { IfOk result.0 (λ found. (x : List ℤ) → BankStandsFor bank.old x
+        → BankStandsFor bank.new (x ++ block.now) × AreCandidatesBehind (length x) (x ++ block.now) found.items) }
+    ensures bounds { IfOk result.0 (λ found. All CanBePutOfEight found.items) }
+    ensures past { IfOk result.0 (λ found. AllPast bank.old.position found.items) }
+    ensures position { OnOk result.0 (bank.new.position ≡ bank.old.position + length block.now) }
+    ensures added { IfOk result.1 (λ found. (x : List ℤ) → AddedStandsFor added.old x
+        → AddedStandsFor added.new (x ++ block.now)
+        × AreAddedBetween (added_places (length x)) (added_places (length (x ++ block.now)))
+        (x ++ block.now) found.items) }
+    ensures added_bounds { IfOk result.1 (λ found. All HasRoom found.items) }
+    ensures late { IfOk result.1 (λ found. All (IsAddedFrom (settled added.old.position)) found.items) }
+    ensures added_position { OnOk result.1 (added.new.position ≡ added.old.position + length block.now) }
+{
+    let (heard_beside, heard) = join_mut(
+        rt,
+        &mut || added.feed(block),
+        &mut ||
+            requires { IsSync R.row × (bank.now.position + length block.now < 2 ^ 48) }
+        { bank.feed_threads(rt, block, gate) },
+    );
+    (heard, heard_beside)
 }

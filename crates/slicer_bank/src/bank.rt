@@ -97,9 +97,8 @@ impl Bank {
         self.settle(heard, block.len())
     }
 
-    /// Does what [`Bank::feed`] does, with the lanes on two threads: one is started beside the caller's. The gate is
-    /// told once as the job of each lane starts. Each call starts a thread, so blocks of some thousand samples pay
-    /// best.
+    /// Does what [`Bank::feed`] does, with the lanes on two threads, or on four if the block is long. The gate is told
+    /// once as the job of each lane starts. Each call starts threads, which pays if a block has some thousand samples.
     pub fn feed_threads<R: Threads + Sync, G: Gate>(
         &mut self,
         rt: &R,

@@ -66,7 +66,6 @@ impl Decoder {
 
     /// Takes a block of samples, and gives the items not given before that end below the number of samples so far.
     pub fn block(&mut self, block: &[i16]) -> Result<Vec<Candidate>, OutOfMemory>
-        requires few { length block.now ≤ 2048 }
         requires room { self.old.position + length block.now < 2 ^ 48 }
         requires unfinished { self.old.finished ≡ false }
         ensures given { IfOk result (λ items. (x : List ℤ) → StandsFor self.old x → StandsFor self.new (x ++ block.now)
@@ -78,14 +77,13 @@ impl Decoder {
         self.settle(found, block.len())
     }
 
-    /// Does what [`Decoder::block`] does, with the lanes on two threads, as [`Bank::feed_threads`] has them.
+    /// Does what [`Decoder::block`] does, with the lanes on threads, as [`Bank::feed_threads`] has them.
     pub fn block_threads<R: Threads + Sync, G: Gate>(
         &mut self,
         rt: &R,
         block: &[i16],
         gate: &G,
     ) -> Result<Vec<Candidate>, OutOfMemory>
-        requires few { length block.now ≤ 2048 }
         requires room { self.old.position + length block.now < 2 ^ 48 }
         requires unfinished { self.old.finished ≡ false }
         ensures given { IfOk result (λ items. (x : List ℤ) → StandsFor self.old x → StandsFor self.new (x ++ block.now)

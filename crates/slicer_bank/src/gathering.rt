@@ -1,7 +1,7 @@
 //! The lanes over a block: each hears it by itself, and what they heard becomes one list. So they can work one after
 //! another, or on threads.
 
-ghost use Rattle.std.specs.Prelude.{◌≡◌, ℕ, ◌+◌, ◌<◌, ◌^◌, ℤ, List, ◌++◌, length, IfOk, OnOk, Some, slice_index_or};
+ghost use Rattle.std.specs.Prelude.{◌≡◌, ℕ, ◌+◌, ◌<◌, ◌≤◌, ◌^◌, ℤ, List, ◌++◌, length, IfOk, OnOk, Some, slice_index_or};
 ghost use Rattle.std.specs.List.{All};
 ghost use Rattle.frame_merge.specs.declared.candidate.Candidate.{Candidate};
 ghost use Rattle.hdlc_framer.specs.Held.{flags_asked};
@@ -20,8 +20,15 @@ use std::thread;
 use std::thread::Threads;
 use tnc_base::OutOfMemory;
 
-/// One thread is started beside the caller's, so that four lanes run on each. More threads cost more than they give.
-const JOBS: usize = 2;
+/// The fewest samples of a block of which each thread of four still has more to do than it takes to start one.
+const LONG: usize = 16384;
+
+/// How many threads share the lanes over a block of so many samples: two, and four if it is long.
+fn threads_for(samples: usize) -> usize
+    ensures { (2 ≤ result) × (result ≤ 4) }
+{
+    if samples < LONG { 2 } else { 4 }
+}
 
 /// Gives the lanes, which have taken `position` samples with `recent` as the last seven, a block, and tells what they
 /// hear in it.
@@ -47,7 +54,7 @@ pub(crate) fn hear_block(
     gather(alloc, lanes)
 }
 
-/// Does what [`hear_block`] does, with the lanes on two threads. The gate is told as each lane starts.
+/// Does what [`hear_block`] does, with the lanes on threads. The gate is told as each lane starts.
 pub(crate) fn hear_block_threads<R: Threads + Sync, G: Gate>(
     rt: &R,
     alloc: Global,
@@ -91,7 +98,7 @@ fn hear_in_turn(alloc: Global, lanes: &mut [Lane], recent: &[i16; 7], position: 
     }
 }
 
-/// Runs the job of each lane, those of four lanes on a thread of their own.
+/// Runs the job of each lane, the lanes shared out over two threads, or over four if the block is long.
 fn hear_on_threads<R: Threads + Sync, G: Gate>(
     rt: &R,
     alloc: Global,
@@ -115,7 +122,7 @@ fn hear_on_threads<R: Threads + Sync, G: Gate>(
     thread::for_each_mut(
         rt,
         lanes,
-        JOBS,
+        threads_for(block.len()),
         &|index, lane: &mut Lane|
             requires { (index < 8) × (position + length block.now < 2 ^ 48) }
             ensures heard { HearsAlone index position recent.entry.now block.entry.now lane.old lane.new }

@@ -25,7 +25,7 @@ pub use Rattle.tnc_decode.specs.Modem.{AreGivenBelow, AreGivenBetween, AreGivenR
 unfoldable pub use Rattle.tnc_decode.specs.Printing.{print}
 pub use Rattle.tnc_decode.specs.Printing.{printed}
 pub use Rattle.tnc_decode.specs.Settled.{IsSettled, sample_count}
-pub use Rattle.tnc_decode.specs.Written.{WroteMost}
+pub use Rattle.tnc_decode.specs.Written.{WroteMost, most_at_once}
 pub use Rattle.tnc_decode.specs.declared.audio.Audio.TheVariants.{File}
 pub use Rattle.tnc_decode.specs.declared.decoders.Decoders.{Decoders}
 pub use Rattle.tnc_decode.specs.declared.modem.Modem.{Modem}

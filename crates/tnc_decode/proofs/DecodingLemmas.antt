@@ -1,9 +1,10 @@
 -- An input that is decoded in blocks: how far it is, and what was written where it stops.
 use Rattle.tnc_decode.proofs.Common.{◌≡◌, ℕ, ◌+◌, ◌<◌, ◌≤◌, ℤ, List, [], ◌++◌, length, take, drop, refl, ap, sym, subst}
-use Rattle.tnc_decode.proofs.Common.{◌∙◌, arith, append_assoc, length-append, Option, Some, append-nil, Gives}
+use Rattle.tnc_decode.proofs.Common.{◌∙◌, ◌-◌, arith, append_assoc, length-append, length-drop, Option, Some, append-nil}
+use Rattle.tnc_decode.proofs.Common.{Gives}
 use Rattle.tnc_decode.proofs.Common.{WrotePart, InputFault, TooLong, input_limit, DecodeWords, Receiver, rates_of}
 use Rattle.tnc_decode.proofs.Common.{samples_read, form_fault, stopping_fault, audio_fault, IsDecoded, HasHeard}
-use Rattle.tnc_decode.proofs.Common.{HasTaken, CutShort, IsSettled, WereRead, WroteMost}
+use Rattle.tnc_decode.proofs.Common.{HasTaken, CutShort, IsSettled, WereRead, WroteMost, most_at_once}
 use Rattle.std.proofs.lemmas.List.{nil_from_length, length-take-le}
 use Rattle.tnc_forms.proofs.Lists.{drop-parts}
 use Rattle.tnc_forms.proofs.ReadingLemmas.{read_on}
@@ -42,6 +43,27 @@ first_of_whole : (words : DecodeWords) (receiver : Receiver) (whole read rest te
 first_of_whole words receiver whole read rest text all is taken settled decoded =
     let y = begins_with (rates_of words.receiving) words.audio receiver.audio read rest taken in
     settled_first words read whole rest text all y.0 is (ap (samples_read words) is ∙ y.1) settled decoded
+
+-- ---- a buffer of which the first places were filled
+
+pub kept_size : (room : ℕ) (old filled : List ℕ) → length filled ≡ length (take room old) → room ≤ length old
+    → length (filled ++ drop room old) ≡ length old
+kept_size room old filled same within = omega (
+  arith,
+  length-append filled (drop room old),
+  length-drop room old,
+  length-take-le room old within,
+)
+
+pub piece_fits : (room count most : ℕ) (old filled : List ℕ) → length filled ≡ length (take room old)
+    → room ≤ length old → length old ≡ most → count ≤ length filled
+    → length (take count (filled ++ drop room old)) ≤ most
+piece_fits room count most old filled same within whole few =
+    let size = kept_size room old filled same within in
+    let all : length filled ≤ length (filled ++ drop room old) = omega (arith, length-append filled (drop room old)) in
+    let inside : count ≤ length (filled ++ drop room old) = omega (arith, few, all) in
+    let taken = length-take-le count (filled ++ drop room old) inside in
+    omega (arith, taken, inside, size, whole)
 
 module _ (words : DecodeWords) (whole : List ℕ) (left : Option (List ℕ)) (receiver : Receiver)
     (was mid : Option (List ℕ)) (total : ℕ)
@@ -128,7 +150,7 @@ module _ (words : DecodeWords) (whole : List ℕ) (left : Option (List ℕ)) (re
         piece_most before w =
             let y = begins_with (rates_of words.receiving) words.audio receiver.audio p.read piece p.heard.audio in
             let rest = decoded_behind words (p.read ++ piece) (p.text ++ cut.more) cut.settled in
-            let few : length y.0 ≤ 2048 = (let a = cut.few in let b = ap length y.1 in
+            let few : length y.0 ≤ most_at_once words = (let a = cut.few in let b = ap length y.1 in
             omega (arith, length-append (samples_read words p.read) y.0)) in
             wrote_most words p.read (p.read ++ piece) piece p.text cut.more rest.0 before y.0 now refl y.1 few
             p.heard.settled rest.1 (cut.written (before ++ p.text) (p.written before w))

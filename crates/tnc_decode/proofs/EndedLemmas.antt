@@ -82,7 +82,7 @@ module _ (words : DecodeWords) (whole : List ℕ) (left : Option (List ℕ)) (re
         → ((fault : InputFault) (words : DecodeWords) (before text : List ℕ) → failed e ≡ Err (Input fault)
         → HasHeard receiver words before text
         → stopping_fault words (before ++ piece) ≡ Some fault)
-        → ((words : DecodeWords) (before text : List ℕ) → failed e ≡ Err Write → HasHeard receiver words before text
+        → ((before text : List ℕ) → failed e ≡ Err Write → HasHeard receiver words before text
         → CutShort receiver' words before piece text mid now)
         → ((failed e ≡ Err Memory) ⊎ ((fault : InputFault) × (failed e ≡ Err (Input fault))) → now ≡ mid)
         → (failed e ≡ Err Read → ⊥)
@@ -127,7 +127,7 @@ module _ (words : DecodeWords) (whole : List ℕ) (left : Option (List ℕ)) (re
         )
     ended_piece Read stops cut kept never = absurd (never refl)
     ended_piece Write stops cut kept never =
-        let short = cut words p.read p.text refl p.heard in (
+        let short = cut p.read p.text refl p.heard in (
           record {
             read = p.read ++ piece;
             taken = taken_now;

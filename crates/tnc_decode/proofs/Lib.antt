@@ -1,6 +1,7 @@
 pub mod Common
 pub mod WavFaults
 pub mod AudioLemmas
+pub mod BlockLemmas
 pub mod ModemLemmas
 pub mod SensitiveLemmas
 pub mod SensitiveHfLemmas

@@ -1,6 +1,7 @@
 -- What every modem has: samples have one list of candidates, and more samples change nothing of what is settled.
 use Rattle.tnc_decode.proofs.Common.{◌≡◌, ℕ, ◌+◌, ◌/◌, ◌^◌, ◌<◌, ◌≤◌, ℤ, List, [], ◌++◌, length, refl, ap, sym, ◌∙◌}
-use Rattle.tnc_decode.proofs.Common.{arith, length-append, IsNonDecreasingBy, append_cancel_left, Candidate, merged}
+use Rattle.tnc_decode.proofs.Common.{arith, length-append, append_assoc, append-nil, IsNonDecreasingBy}
+use Rattle.tnc_decode.proofs.Common.{append_cancel_left, Candidate, merged}
 use Rattle.tnc_decode.proofs.Common.{below, between, not_below, below_between, below_then_rest, AreMergedBetween}
 use Rattle.tnc_decode.proofs.Common.{filtered, settled_ends, AreWideMergedBetween, Modem, Plain, Wide, Sensitive}
 use Rattle.tnc_decode.proofs.Common.{WideSensitive, ShortWave, Fx25, decimated, remaining, SensitiveShortWave}
@@ -289,6 +290,57 @@ given_join modem x y items more h k =
       is = ap (λ t. t ++ more) (h.is ∙ still_heard modem n x y h.candidates k.candidates (omega arith) h.are k.are)
           ∙ ap (λ t. below n (remaining modem k.candidates) ++ t) k.is
           ∙ below_between n m (remaining modem k.candidates) (settled_rises modem x y).0 rises;
+    }
+
+-- what no samples give
+pub given_none : (modem : Modem) (x : List ℤ)
+    → AreGivenBetween modem (settled_count modem x) (settled_count modem (x ++ [])) (x ++ []) []
+given_none modem x =
+    let some = some_heard modem (x ++ []) in
+    let n : ℕ = settled_count modem (x ++ []) in
+    let zs : List Candidate = remaining modem some.0 in
+    let rises = rising_heard modem (x ++ []) some.0 some.1 in
+    record {
+      candidates = some.0;
+      are = some.1;
+      is = sym (append_cancel_left (below n zs) (between n n zs) []
+          (below_between n n zs (omega arith) rises ∙ sym (append-nil (below n zs))))
+          ∙ ap (λ k. between k n zs) (ap (settled_count modem) (append-nil x));
+    }
+
+-- what two blocks give, one after the other, is what they give as one
+pub given_blocks : (modem : Modem) (x y z : List ℤ) (items more : List Candidate)
+    → AreGivenBetween modem (settled_count modem x) (settled_count modem (x ++ y)) (x ++ y) items
+    → AreGivenBetween modem (settled_count modem (x ++ y)) (settled_count modem ((x ++ y) ++ z)) ((x ++ y) ++ z) more
+    → AreGivenBetween modem (settled_count modem x) (settled_count modem ((x ++ y) ++ z)) ((x ++ y) ++ z)
+    (items ++ more)
+given_blocks modem x y z items more h k =
+    let from : ℕ = settled_count modem x in
+    let middle : ℕ = settled_count modem (x ++ y) in
+    let to : ℕ = settled_count modem ((x ++ y) ++ z) in
+    let was : List Candidate = remaining modem h.candidates in
+    let now : List Candidate = remaining modem k.candidates in
+    let up : from ≤ middle = (settled_rises modem x y).0 in
+    let on : middle ≤ to = (settled_rises modem (x ++ y) z).0 in
+    let rose = rising_heard modem (x ++ y) h.candidates h.are in
+    let rises = rising_heard modem ((x ++ y) ++ z) k.candidates k.are in
+    let low : below from was ≡ below from now
+    = still_heard modem from (x ++ y) z h.candidates k.candidates up h.are k.are in
+    let high : below middle was ≡ below middle now
+    = still_heard modem middle (x ++ y) z h.candidates k.candidates (omega arith) h.are k.are in
+    let first : between from middle was ≡ between from middle now
+    = append_cancel_left (below from now) (between from middle was) (between from middle now)
+    (ap (λ t. t ++ between from middle was) (sym low) ∙ below_between from middle was up rose ∙ high
+    ∙ sym (below_between from middle now up rises)) in
+    record {
+      candidates = k.candidates;
+      are = k.are;
+      is = (λ i. (h.is ∙ first) i ++ k.is i)
+          ∙ append_cancel_left (below from now) (between from middle now ++ between middle to now) (between from to now)
+          (sym (append_assoc (below from now) (between from middle now) (between middle to now))
+          ∙ ap (λ t. t ++ between middle to now) (below_between from middle now up rises)
+          ∙ below_between middle to now on rises
+          ∙ sym (below_between from to now (omega (arith, up, on)) rises));
     }
 
 -- with the rest they are all

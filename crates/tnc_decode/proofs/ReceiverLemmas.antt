@@ -63,9 +63,9 @@ module _ (old new : Receiver) (words : DecodeWords) (before octets text : List �
     settled = settles;
   }
 
-  pub few_more : length found ≤ 2048 → length (samples_read words (before ++ octets))
-      ≤ length (samples_read words before) + 2048
-  few_more few = (let size = ap length took.1 ∙ length-append (samples_read words before) found in omega arith)
+  pub few_more : (most : ℕ) → length found ≤ most → length (samples_read words (before ++ octets))
+      ≤ length (samples_read words before) + most
+  few_more most few = (let size = ap length took.1 ∙ length-append (samples_read words before) found in omega arith)
 
 -- the end of the input
 pub heard_all : (receiver : Receiver) (words : DecodeWords) (octets text : List ℕ) (items shown : List Candidate)

@@ -5,7 +5,7 @@ use Rattle.tnc_decode.proofs.Common.{append_assoc, inl, inr, Option, Some, appen
 use Rattle.tnc_decode.proofs.Common.{below, candidate_frames, Rates, chunks, reading, AudioForm, Raw, Wav, DecodeWords}
 use Rattle.tnc_decode.proofs.Common.{FrameForm, Modem, rates_of, samples_at, samples_read, IsDecoded, modem_of}
 use Rattle.tnc_decode.proofs.Common.{AreHeard, settled_count, AreGivenBelow, AreGivenBetween, AreGivenRest, print}
-use Rattle.tnc_decode.proofs.Common.{printed, IsSettled, sample_count, WroteMost}
+use Rattle.tnc_decode.proofs.Common.{printed, IsSettled, sample_count, WroteMost, most_at_once}
 use Rattle.std.proofs.lemmas.List.{map-append}
 use Rattle.std.proofs.lemmas.Grind.{flat_map-append}
 use Rattle.tnc_decode.specs.Settled.{IsPrintBelow}
@@ -171,15 +171,15 @@ decoded_behind words octets text h =
 
 -- of what first octets settle, the first part ends long before the end of all
 pub early_part : (words : DecodeWords) (front octets rest text all_text : List ℕ) (y : List ℤ) → octets ≡ front ++ rest
-    → samples_read words octets ≡ samples_read words front ++ y → length y ≤ 2048
+    → samples_read words octets ≡ samples_read words front ++ y → length y ≤ most_at_once words
     → IsSettled words front text → IsDecoded words octets all_text
-    → (early : List ℕ) × (more : List ℕ) × IsPrintBelow (sample_count words octets - 2048) words octets early
+    → (early : List ℕ) × (more : List ℕ) × IsPrintBelow (sample_count words octets - most_at_once words) words octets early
     × (text ≡ early ++ more)
 early_part words front octets rest text all_text y parts longer few h d =
     let modem : Modem = modem_of words (front ++ rest) in
     let same : modem_of words octets ≡ modem = ap (modem_of words) parts in
     let x : List ℤ = samples_read words front in
-    let m : ℕ = sample_count words octets - 2048 in
+    let m : ℕ = sample_count words octets - most_at_once words in
     let count : sample_count words octets ≡ settled_count modem (x ++ y)
     = ap (λ t. settled_count t (samples_read words octets)) same ∙ ap (settled_count modem) longer in
     let most = (settled_rises modem x y).1 in
@@ -200,7 +200,7 @@ early_part words front octets rest text all_text y parts longer few h d =
 -- if the output failed at what followed
 pub wrote_most : (words : DecodeWords) (front read piece text next rest before : List ℕ) (y : List ℤ)
     (now : Option (List ℕ)) → read ≡ front ++ piece
-    → samples_read words read ≡ samples_read words front ++ y → length y ≤ 2048
+    → samples_read words read ≡ samples_read words front ++ y → length y ≤ most_at_once words
     → IsSettled words front text → IsDecoded words read ((text ++ next) ++ rest)
     → WrotePart (before ++ text) next now
     → WroteMost words read before now

@@ -1,5 +1,5 @@
 -- What the code keeps of an input, and what that stands for. No public clause cites it.
-use Rattle.std.specs.Prelude.{◌≡◌, ℕ, ◌+◌, ◌≤◌, List, [], ◌∷◌, ◌++◌, length, ℤ, Bool, false, Option, Some, None}
+use Rattle.std.specs.Prelude.{◌≡◌, ℕ, ◌+◌, ◌≤◌, List, [], ◌∷◌, ◌++◌, length, ℤ, Bool, false, if◌then◌else◌, Option, Some, None, ⊤}
 use Rattle.tnc_base.specs.Streams.{WrotePart}
 use Rattle.slicer_bank.specs.HeldDecoder.{StandsFor as DecoderStandsFor}
 use Rattle.wide_input.specs.HeldDecoder.{StandsFor as WideStandsFor}
@@ -32,6 +32,7 @@ use Rattle.tnc_decode.specs.declared.receiver.Receiver.{Receiver}
 use Rattle.tnc_decode.specs.Audio.{rates_of, samples_read}
 use Rattle.tnc_decode.specs.Modem.{modem_of}
 use Rattle.tnc_decode.specs.Settled.{IsSettled}
+use Rattle.tnc_decode.specs.Written.{most_at_once}
 
 -- the octet of raw PCM that waits for its other half
 abbrev pub odd_octet : List ℕ → Option ℕ
@@ -81,6 +82,14 @@ finished_of (SensitiveShortWave decoder) = decoder.finished
 finished_of (Fx25 decoder) = false
 finished_of (SensitiveFx25 decoder) = false
 
+-- a block of so many samples is not too long for a decoder, with threads or without
+abbrev pub TakesAtOnce : Bool → Decoders → ℕ → Type 0
+TakesAtOnce threads (Plain decoder) count = ⊤
+TakesAtOnce threads (Sensitive decoder) count = ⊤
+TakesAtOnce threads (Wide decoder) count = count ≤ (if threads then 32768 else 2048)
+TakesAtOnce threads (WideSensitive decoder) count = count ≤ (if threads then 32768 else 2048)
+TakesAtOnce threads decoder count = count ≤ 2048
+
 -- the receiver was given these octets, and has written this text
 pub record HasHeard (receiver : Receiver) (words : DecodeWords) (octets text : List ℕ) : Type 0 where
   pub frames : receiver.frames ≡ words.frames
@@ -94,6 +103,6 @@ pub record CutShort (receiver : Receiver) (words : DecodeWords) (before octets t
     (was now : Option (List ℕ)) : Type 0 where
   pub more : List ℕ
   pub audio : HasTaken words receiver.audio (before ++ octets)
-  pub few : length (samples_read words (before ++ octets)) ≤ length (samples_read words before) + 2048
+  pub few : length (samples_read words (before ++ octets)) ≤ length (samples_read words before) + most_at_once words
   pub settled : IsSettled words (before ++ octets) (text ++ more)
   pub written : (written : List ℕ) → was ≡ Some written → WrotePart written more now

@@ -1,8 +1,8 @@
 //! The decoder of each modem.
-ghost use Rattle.std.specs.Prelude.{◌≡◌, ◌≤◌, ◌<◌, ◌+◌, ◌^◌, ◌++◌, List, ℕ, ℤ, [], false, length, IfOk};
+ghost use Rattle.std.specs.Prelude.{◌≡◌, ◌≤◌, ◌<◌, ◌+◌, ◌^◌, ◌++◌, List, ℕ, ℤ, [], true, false, length, IfOk};
 ghost use Rattle.tnc_decode.specs.declared.modem.Modem.{Modem};
 ghost use Rattle.tnc_decode.specs.Modem.{settled_count, AreGivenBetween, AreGivenRest};
-ghost use Rattle.tnc_decode.specs.Held.{HasDecoded, position_of, finished_of};
+ghost use Rattle.tnc_decode.specs.Held.{HasDecoded, TakesAtOnce, position_of, finished_of};
 
 use crate::fx25_decoder::Fx25Decoder;
 use crate::modem::Modem;
@@ -16,6 +16,13 @@ use std::alloc::Global;
 use std::thread::Threads;
 use tnc_base::OutOfMemory;
 use wide_input::{WideDecoder, WideSensitiveDecoder};
+
+/// The most samples of a short block. Some decoders take no longer one, and a thread takes about as long to start as it
+/// saves over one.
+const SHORT_BLOCK: usize = 2048;
+
+/// The most samples of a block at 48,000 a second that threads share.
+const LONG_WIDE_BLOCK: usize = 32768;
 
 /// Samples in, frames out: a decoder for each modem.
 #[derive(Drop)]
@@ -71,15 +78,58 @@ impl Decoders {
         }
     }
 
-    /// The items that a block of samples settles. With threads the lanes work on two, if the modem
-    /// has that.
-    pub(crate) fn block<R: Threads + Sync>(
+    /// The items that samples settle, heard in blocks that are as long as the decoder takes them.
+    pub(crate) fn hear<R: Threads + Sync>(
+        &mut self,
+        rt: &R,
+        alloc: Global,
+        threads: bool,
+        samples: &[i16],
+    ) -> Result<Vec<Candidate>, OutOfMemory>
+        requires room { position_of self.old + length samples.now < 2 ^ 48 }
+        requires unfinished { finished_of self.old ≡ false }
+        ensures given { IfOk result (λ items. (modem : Modem) (x : List ℤ) → HasDecoded modem self.old x
+            → HasDecoded modem self.new (x ++ samples.now)
+            × AreGivenBetween modem (settled_count modem x) (settled_count modem (x ++ samples.now)) (x
+            ++ samples.now) items.items) }
+        ensures position { IfOk result (λ items. position_of self.new ≤ position_of self.old + length samples.now) }
+        ensures unfinished { finished_of self.new ≡ false }
+    {
+        let mut items = Vec::new(alloc);
+        let mut done = 0;
+        while done < samples.len() {
+            let count = (samples.len() - done).min(self.most_at_once(threads));
+            let block = &samples[done..done + count];
+            let mut more = self.block(rt, threads, block)?;
+            items.append(&mut more)?;
+            done += count;
+        }
+        Ok(items)
+    }
+
+    /// How many samples a block of it may have.
+    fn most_at_once(&self, threads: bool) -> usize
+        ensures some { 0 < result }
+        ensures takes { (count : ℕ) → count ≤ result → TakesAtOnce threads self.now count }
+    {
+        match self {
+            Decoders::Plain(_) | Decoders::Sensitive(_) => usize::MAX,
+            Decoders::Wide(_) | Decoders::WideSensitive(_) if threads => LONG_WIDE_BLOCK,
+            Decoders::Wide(_) | Decoders::WideSensitive(_) => SHORT_BLOCK,
+            Decoders::ShortWave(_) | Decoders::SensitiveShortWave(_) => SHORT_BLOCK,
+            Decoders::Fx25(_) | Decoders::SensitiveFx25(_) => SHORT_BLOCK,
+        }
+    }
+
+    /// The items that a block of samples settles. With threads the lanes work on several, if the modem has that and the
+    /// block is long enough for threads to pay.
+    fn block<R: Threads + Sync>(
         &mut self,
         rt: &R,
         threads: bool,
         block: &[i16],
     ) -> Result<Vec<Candidate>, OutOfMemory>
-        requires few { length block.now ≤ 2048 }
+        requires few { TakesAtOnce threads self.old (length block.now) }
         requires room { position_of self.old + length block.now < 2 ^ 48 }
         requires unfinished { finished_of self.old ≡ false }
         ensures given { IfOk result (λ items. (modem : Modem) (x : List ℤ) → HasDecoded modem self.old x
@@ -89,6 +139,7 @@ impl Decoders {
         ensures position { IfOk result (λ items. position_of self.new ≤ position_of self.old + length block.now) }
         ensures unfinished { finished_of self.new ≡ false }
     {
+        let threads = is_shared(threads, block);
         match self {
             Decoders::Plain(decoder) if threads => decoder.block_threads(rt, block, &OpenGate),
             Decoders::Plain(decoder) => decoder.block(block),
@@ -124,4 +175,11 @@ impl Decoders {
             Decoders::SensitiveFx25(decoder) => decoder.finish(),
         }
     }
+}
+
+/// Whether threads share a block: they are asked for, and it is not short.
+fn is_shared(threads: bool, block: &[i16]) -> bool
+    ensures { result ≡ false → threads ≡ true → length block.now ≤ 2048 }
+{
+    threads && block.len() > SHORT_BLOCK
 }

@@ -1,6 +1,6 @@
 //! The word decode: from audio to the frames that are heard in it, block after block.
 ghost use Rattle.std.specs.Prelude.{◌≡◌, ◌≤◌, ◌<◌, ◌+◌, ◌++◌, List, ℕ, Some, None, Err, [], length, drop, OnOk, OnErr};
-ghost use Rattle.std.specs.Prelude.{IsErrOf, ◌⊎◌, false};
+ghost use Rattle.std.specs.Prelude.{IfOk, IsErrOf, ◌⊎◌, false};
 ghost use Rattle.tnc_base.specs.Faults.{HasRisen};
 ghost use Rattle.tnc_base.specs.Streams.{WrotePart};
 ghost use Rattle.tnc_forms.specs.declared.fault.InputFault.{InputFault};
@@ -11,12 +11,12 @@ ghost use Rattle.tnc_decode.specs.Ended.{IsEnded};
 ghost use Rattle.tnc_decode.specs.Held.{HasHeard, finished_of, position_of};
 ghost use Rattle.tnc_decode.specs.Settled.{IsSettled};
 ghost use Rattle.tnc_forms.specs.Taken.{WereRead};
-ghost use Rattle.tnc_decode.specs.Written.{WroteMost};
+ghost use Rattle.tnc_decode.specs.Written.{WroteMost, most_at_once};
 
-use crate::receiver::{BLOCK, Receiver};
+use crate::receiver::{Receiver, most_at_once};
 use std::alloc::Global;
 use std::thread::Threads;
-use tnc_base::{Sink, Source};
+use tnc_base::{OutOfMemory, Sink, Source};
 use tnc_forms::{Fault, InputFault};
 use tnc_words::DecodeWords;
 
@@ -25,7 +25,8 @@ const INPUT_LIMIT: u64 = 1 << 40;
 
 /// Reads the input in blocks, and writes the frames that each block settles. Keeps one block and the decoder, however
 /// long the input is. A fault of a WAV file's head ends the reading; a file that is cut short is heard to its end. If
-/// the words ask for threads, the lanes of the decoder work on two, and all that is written is the same.
+/// the words ask for threads, longer blocks are read, over which threads share the lanes of the decoder, and all that is
+/// written is the same.
 pub fn decode<R: Threads + Sync, I: Source, O: Sink>(
     rt: &R,
     alloc: Global,
@@ -93,7 +94,17 @@ fn decode_blocks<R: Threads + Sync, I: Source, O: Sink>(
     ensures write { IsErrOf result Fault.Write → HasRisen (O.faults output.old) (O.faults output.new) }
 {
     let mut receiver = Receiver::new(alloc, words)?;
-    hear_blocks(rt, &mut receiver, words, input, output)
+    let mut buffer = buffer_for(alloc, words)?;
+    hear_blocks(rt, &mut receiver, words, &mut buffer, input, output)
+}
+
+/// Room for the octets that are read at once.
+fn buffer_for(alloc: Global, words: DecodeWords) -> Result<Vec<u8>, OutOfMemory>
+    ensures { IfOk result (λ buffer. length buffer.items ≡ most_at_once words) }
+{
+    let mut buffer = Vec::new(alloc);
+    buffer.resize(most_at_once(words), 0)?;
+    Ok(buffer)
 }
 
 /// The same by a receiver to which no octet has come. It is lent, since a loop that owned it would be proved several times
@@ -102,12 +113,14 @@ fn hear_blocks<R: Threads + Sync, I: Source, O: Sink>(
     rt: &R,
     receiver: &mut Receiver,
     words: DecodeWords,
+    buffer: &mut [u8],
     input: &mut I,
     output: &mut O,
 ) -> Result<(), Fault>
     requires heard { HasHeard receiver.old words [] [] }
     requires position { position_of receiver.old.decoder ≡ 0 }
     requires unfinished { finished_of receiver.old.decoder ≡ false }
+    requires buffer { length buffer.old ≡ most_at_once words }
     ensures ended { (octets : List ℕ) → I.left input.old ≡ Some octets
         → IsEnded words octets (I.left input.new) (O.written output.old) (O.written output.new) result }
     ensures faultless { OnOk result ((I.faults input.new ≡ I.faults input.old)
@@ -115,10 +128,9 @@ fn hear_blocks<R: Threads + Sync, I: Source, O: Sink>(
     ensures read { IsErrOf result Fault.Read → HasRisen (I.faults input.old) (I.faults input.new) }
     ensures write { IsErrOf result Fault.Write → HasRisen (O.faults output.old) (O.faults output.new) }
 {
-    let mut buffer = [0; BLOCK];
     let mut total: u64 = 0;
     'reading: while total <= INPUT_LIMIT {
-        let room = (BLOCK as u64).min(INPUT_LIMIT + 1 - total) as usize;
+        let room = (buffer.len() as u64).min(INPUT_LIMIT + 1 - total) as usize;
         let Ok(count) = input.read(&mut buffer[..room]) else {
             return Err(Fault::Read);
         };

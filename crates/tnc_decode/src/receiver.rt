@@ -11,6 +11,7 @@ ghost use Rattle.tnc_decode.specs.declared.modem.Modem.{Modem};
 ghost use Rattle.tnc_decode.specs.Decoded.{IsDecoded};
 ghost use Rattle.tnc_decode.specs.Held.{CutShort, HasDecoded, HasHeard, finished_of, position_of};
 ghost use Rattle.tnc_decode.specs.Printing.{print};
+ghost use Rattle.tnc_decode.specs.Written.{most_at_once};
 
 use crate::audio::Audio;
 use crate::decoders::Decoders;
@@ -23,8 +24,19 @@ use tnc_base::{OutOfMemory, Sink};
 use tnc_forms::{Fault, InputFault};
 use tnc_words::{DecodeWords, FrameForm, Receiving};
 
-/// The most octets that are heard at once. So many octets have no more samples than the decoder takes at once.
-pub(crate) const BLOCK: usize = 2048;
+/// The most octets that are read at once, so that a frame is written soon.
+const BLOCK: usize = 2048;
+
+/// The most octets that are read at once if threads share their samples. A thread that is started for the lanes of so many
+/// has far more to do than to start.
+const LONG_BLOCK: usize = 262_144;
+
+/// The most octets that are read at once.
+pub(crate) fn most_at_once(words: DecodeWords) -> usize
+    ensures { result ≡ most_at_once words }
+{
+    if words.threads { LONG_BLOCK } else { BLOCK }
+}
 
 /// Audio, a decoder of its samples, and the form of the frames that are written.
 #[derive(Drop)]
@@ -53,7 +65,7 @@ impl Receiver {
             threads: words.threads,
             audio,
             receiving: words.receiving,
-            samples: Vec::with_capacity(alloc, BLOCK)?,
+            samples: Vec::with_capacity(alloc, most_at_once(words) / 2 + 1)?,
             decoder: Decoders::new(alloc, modem)?,
         })
     }
@@ -65,7 +77,6 @@ impl Receiver {
         octets: &[u8],
         output: &mut O,
     ) -> Result<(), Fault>
-        requires few { length octets.now ≤ 2048 }
         requires room { position_of self.old.decoder + length octets.now < 2 ^ 48 }
         requires unfinished { finished_of self.old.decoder ≡ false }
         ensures heard { OnOk result ((words : DecodeWords) (before text : List ℕ) → HasHeard self.old words before text
@@ -82,6 +93,7 @@ impl Receiver {
             → HasHeard self.old words before text → stopping_fault words (before ++ octets.now) ≡ Some fault }
         ensures cut { (words : DecodeWords) (before text : List ℕ) → IsErrOf result Fault.Write
             → HasHeard self.old words before text
+            → length octets.now ≤ most_at_once words
             → CutShort self.new words before octets.now text (O.written output.old) (O.written output.new) }
         ensures write { IsErrOf result Fault.Write → HasRisen (O.faults output.old) (O.faults output.new) }
         ensures unwritten { (result ≡ Err Fault.Memory) ⊎ ((fault : InputFault) × (result ≡ Err (Fault.Input fault)))
@@ -91,7 +103,9 @@ impl Receiver {
         self.audio.take(octets, &mut self.samples)?;
         let modem = self.audio.modem(self.receiving);
         tune(self.alloc, modem, &mut self.decoder)?;
-        let items = self.decoder.block(rt, self.threads, &self.samples)?;
+        let items = self
+            .decoder
+            .hear(rt, self.alloc, self.threads, &self.samples)?;
         write_items(self.alloc, self.frames, &items, output)?;
         Ok(())
     }

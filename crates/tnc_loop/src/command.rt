@@ -18,7 +18,7 @@ use tnc_words::LoopWords;
 /// Draws frames from the seed, sends each as a transmission of its own, hears the samples, and writes the summary. If a
 /// candidate of the samples is no frame that was made, the first such is told after the summary. With `rough` each
 /// transmission has a start phase and a level of its own, noise before it, and errors within a tenth of its level. With
-/// `threads` the lanes that hear work on two threads, and all that is told is the same.
+/// `threads` the lanes that hear work on threads, and all that is told is the same.
 pub fn loop_back<R: Threads + Sync, O: Sink>(
     rt: &R,
     alloc: Global,

@@ -15,6 +15,7 @@ use Rattle.tnc_words.specs.Help.{text_about, version_text}
 use Rattle.tnc_decode.specs.Audio.{audio_fault}
 use Rattle.tnc_decode.specs.Decoded.{IsDecoded}
 use Rattle.tnc_decode.specs.Settled.{IsPrintBelow, IsSettled, sample_count}
+use Rattle.tnc_decode.specs.Written.{most_at_once}
 use Rattle.tnc_encode.specs.Encoded.{encoded, encoded_so_far, keeps_frames}
 use Rattle.tnc_encode.specs.Frames.{form_fault_so_far}
 use Rattle.tnc_loop.specs.Summary.{IsSummary}
@@ -112,14 +113,14 @@ pub record SettledByPart (words : DecodeWords) (octets : List ℕ) (left : Optio
   pub decoded : IsDecoded words read whole
   pub part : Begins text whole
 
--- The text of decode is a first part of what the octets read are decoded to. Each frame that ends more than 2048
--- samples before the number of their samples is whole in it.
+-- The text of decode is a first part of what the octets read are decoded to. Each frame that ends more samples before the
+-- number of their samples than octets are read at once is whole in it.
 pub record MostOfRead (words : DecodeWords) (octets : List ℕ) (left : Option (List ℕ)) (text : List ℕ) : Type 0 where
   pub read : List ℕ
   pub early : List ℕ
   pub whole : List ℕ
   pub taken : WereRead octets left read
-  pub settled : IsPrintBelow (sample_count words read - 2048) words read early
+  pub settled : IsPrintBelow (sample_count words read - most_at_once words) words read early
   pub decoded : IsDecoded words read whole
   pub has_early : Begins early text
   pub part : Begins text whole

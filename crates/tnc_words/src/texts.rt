@@ -49,7 +49,7 @@ Prints the frames that are heard in sound, a line of hexadecimal digits each, as
 
   --wav        the input is a WAV file, and not raw PCM
   --kiss       the output is KISS frames, and not lines
-  --threads    the receiver works on two threads
+  --threads    threads share the work, and a recording is read in long blocks
   --hf         the sound is of short wave, 300 bits a second, and not Bell 202; without --threads
   --sensitive  hears in more noise and where the sender's clock is off, and takes longer
   --fx25       hears frames in blocks of FX.25 too, and repairs them; at 9600 samples a second,
@@ -89,7 +89,7 @@ Sends random frames to itself, and prints how many were heard.
   --seed n     what the frames are drawn from, 0 to 18446744073709551615
   --frames n   how many there are, 0 to 1000
   --rough      each transmission has a phase, a level and noise of its own
-  --threads    the receiver works on two threads
+  --threads    the receiver works on threads
 ";
 
 const BENCH: &str = "\

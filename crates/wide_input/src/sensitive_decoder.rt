@@ -8,7 +8,7 @@ ghost use Rattle.sensitive_receiver.specs.MergedItems.{AreMergedBetween};
 ghost use Rattle.wide_input.specs.SettledByAll.{settled_by_all};
 ghost use Rattle.wide_input.specs.HeldSensitive.{StandsFor};
 
-use crate::wide_decoder::{BLOCK, join};
+use crate::wide_decoder::{BLOCK, LONG, join};
 use frame_merge::Candidate;
 use resampler::Decimator;
 use sensitive_receiver::SensitiveDecoder;
@@ -74,7 +74,7 @@ impl WideSensitiveDecoder {
         self.decoder.block(&part[..count])
     }
 
-    /// Does what [`WideSensitiveDecoder::block`] does, with the lanes on two threads, as
+    /// Does what [`WideSensitiveDecoder::block`] does, with the lanes on threads, as
     /// [`SensitiveDecoder::block_threads`] has them.
     pub fn block_threads<R: Threads + Sync, G: Gate>(
         &mut self,
@@ -82,7 +82,7 @@ impl WideSensitiveDecoder {
         block: &[i16],
         gate: &G,
     ) -> Result<Vec<Candidate>, OutOfMemory>
-        requires few { length block.now ≤ 2048 }
+        requires few { length block.now ≤ 32768 }
         requires room { self.old.decoder.position + length block.now < 2 ^ 48 }
         requires unfinished { self.old.decoder.finished ≡ false }
         ensures given { IfOk result (λ items. (x : List ℤ) → StandsFor self.old x → StandsFor self.new (x ++ block.now)
@@ -93,7 +93,7 @@ impl WideSensitiveDecoder {
         ensures fails { self.old.decoder.spent ≡ true → IsErr result }
         ensures spent { OnErr result (self.new.decoder.spent ≡ true) }
     {
-        let mut part = [0; BLOCK];
+        let mut part = [0; LONG];
         let count = self.filter.feed(block, &mut part);
         self.decoder.block_threads(rt, &part[..count], gate)
     }

@@ -20,14 +20,21 @@ use std::thread;
 use std::thread::Threads;
 use tnc_base::OutOfMemory;
 
-/// One thread is started beside the caller's.
-const JOBS: usize = 2;
+/// The fewest samples of a block of which each thread of four still has more to do than it takes to start one.
+const LONG: usize = 16384;
 
 /// The lanes of a stream, one for each offset of a bit.
 pub(crate) const OFFSETS: u8 = 8;
 
 /// The lanes of all streams.
 pub(crate) const LANES: u8 = 40;
+
+/// How many threads share the streams over a block of so many samples: two, and four if it is long.
+fn threads_for(samples: usize) -> usize
+    ensures { (2 ≤ result) × (result ≤ 4) }
+{
+    if samples < LONG { 2 } else { 4 }
+}
 
 /// The five streams, which have taken nothing.
 pub(crate) fn new_streams(alloc: Global) -> Result<Vec<Stream>, OutOfMemory>
@@ -61,7 +68,8 @@ pub(crate) fn hear_in_turn(streams: &mut [Stream], position: u64, block: &[i16])
     }
 }
 
-/// Runs the job of each stream, on two threads. The gate is told of each lane of a stream as the stream's job starts.
+/// Runs the job of each stream, on two threads, or on four if the block is long. The gate is told of each lane of a
+/// stream as the stream's job starts.
 pub(crate) fn hear_on_threads<R: Threads + Sync, G: Gate>(
     rt: &R,
     streams: &mut [Stream],
@@ -83,7 +91,7 @@ pub(crate) fn hear_on_threads<R: Threads + Sync, G: Gate>(
     thread::for_each_mut(
         rt,
         streams,
-        JOBS,
+        threads_for(block.len()),
         &|index, stream: &mut Stream|
             requires { (index < 5) × (stream.old.bank.position + length block.now < 2 ^ 48) }
             ensures heard { HearsBlock block.entry.now stream.old stream.new }

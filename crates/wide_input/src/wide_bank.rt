@@ -70,7 +70,6 @@ impl WideBank {
     /// Takes a block of samples, and gives the items not given before that end below the number of samples that the
     /// least stream has so far.
     pub fn block(&mut self, block: &[i16]) -> Result<Vec<Candidate>, OutOfMemory>
-        requires few { length block.now ≤ 2048 }
         requires room { self.old.position + length block.now < 2 ^ 48 }
         requires unfinished { self.old.finished ≡ false }
         ensures given { IfOk result (λ items. (x : List ℤ) → StandsFor self.old x → StandsFor self.new (x ++ block.now)
@@ -82,15 +81,14 @@ impl WideBank {
         self.settle(block.len())
     }
 
-    /// Does what [`WideBank::block`] does, with the streams on two threads: one is started beside the caller's. The
-    /// gate is told once of each of the forty lanes, those of a stream as the job of the stream starts.
+    /// Does what [`WideBank::block`] does, with the streams on two threads, or on four if the block is long. The gate is
+    /// told once of each of the forty lanes, those of a stream as the job of the stream starts.
     pub fn block_threads<R: Threads + Sync, G: Gate>(
         &mut self,
         rt: &R,
         block: &[i16],
         gate: &G,
     ) -> Result<Vec<Candidate>, OutOfMemory>
-        requires few { length block.now ≤ 2048 }
         requires room { self.old.position + length block.now < 2 ^ 48 }
         requires unfinished { self.old.finished ≡ false }
         ensures given { IfOk result (λ items. (x : List ℤ) → StandsFor self.old x → StandsFor self.new (x ++ block.now)

@@ -18,6 +18,9 @@ use tnc_base::OutOfMemory;
 /// The most samples of a block.
 pub(crate) const BLOCK: usize = 2048;
 
+/// The most samples of a block that threads share.
+pub(crate) const LONG: usize = 32768;
+
 /// A [`LowPass`] filter before a [`WideBank`]: `new`, then `block` for each block of samples, then `finish`. The filter
 /// asks for fifteen samples past a place, so a block settles so much less. After want of memory it is spent: no later
 /// call gives items.
@@ -69,14 +72,14 @@ impl WideDecoder {
         self.bank.block(&part[..count])
     }
 
-    /// Does what [`WideDecoder::block`] does, with the streams on two threads, as [`WideBank::block_threads`] has them.
+    /// Does what [`WideDecoder::block`] does, with the streams on threads, as [`WideBank::block_threads`] has them.
     pub fn block_threads<R: Threads + Sync, G: Gate>(
         &mut self,
         rt: &R,
         block: &[i16],
         gate: &G,
     ) -> Result<Vec<Candidate>, OutOfMemory>
-        requires few { length block.now ≤ 2048 }
+        requires few { length block.now ≤ 32768 }
         requires room { self.old.bank.position + length block.now < 2 ^ 48 }
         requires unfinished { self.old.bank.finished ≡ false }
         ensures given { IfOk result (λ items. (x : List ℤ) → StandsFor self.old x → StandsFor self.new (x ++ block.now)
@@ -87,7 +90,7 @@ impl WideDecoder {
         ensures fails { self.old.bank.spent ≡ true → IsErr result }
         ensures spent { OnErr result (self.new.bank.spent ≡ true) }
     {
-        let mut part = [0; BLOCK];
+        let mut part = [0; LONG];
         let count = self.filter.feed(block, &mut part);
         self.bank.block_threads(rt, &part[..count], gate)
     }

@@ -9,3 +9,11 @@ returns-in_err-receiver-clause-ended g c = λ octets left.
     (g.O.Sink.written c.args.output.now))
     (sym (told.1 ∙ ap Err told.2)) (ended_first c.args.words octets (g.I.Source.left c.args.input.now)
     (g.O.Sink.written c.args.output.now) left)
+
+pub returns-in_err-buffer-clause-ended : goal.returns-in_err-buffer-clause-ended
+returns-in_err-buffer-clause-ended g c = λ octets left.
+    let told = err_from_is_err_and c.from_residual-in_err-buffer.result c.from_residual-in_err-buffer.ensures.1 in
+    subst (IsEnded c.args.words octets (g.I.Source.left c.args.input.now) (g.O.Sink.written c.args.output.now)
+    (g.O.Sink.written c.args.output.now))
+    (sym (told.1 ∙ ap Err told.2)) (ended_first c.args.words octets (g.I.Source.left c.args.input.now)
+    (g.O.Sink.written c.args.output.now) left)

@@ -1,7 +1,8 @@
 use Rattle.tnc_decode.proofs.Common.{◌+◌, ◌<◌, ◌≤◌, true, Err, ap, sym, subst, refl, inl, ◌∙◌, arith, length}
 use Rattle.tnc_decode.proofs.Common.{err_from_is_err_and, common_steps, input_limit, IsEnded}
 use Rattle.tnc_decode.proofs.EndedLemmas.{ended_read, ended_long, ended_piece, ended_ok, ended_end}
-use Rattle.tnc_decode.proofs.DecodingLemmas.{progress_none, progress_more, nothing_left}
+use Rattle.tnc_decode.specs.Written.{most_at_once}
+use Rattle.tnc_decode.proofs.DecodingLemmas.{progress_none, progress_more, nothing_left, kept_size, piece_fits}
 use Rattle.tnc_decode.proofs.decoding.hear_blocks.Goals as goal
 
 pub reading-init : goal.reading-init
@@ -9,6 +10,7 @@ reading-init g c = record {
   so_far = λ whole left. progress_none c.args.words whole (g.I.Source.left c.args.input.now) c.args.receiver.now
       (g.O.Sink.written c.args.output.now) left c.requires.heard;
   bound = omega arith;
+  size = c.requires.buffer;
   position = (let p = c.requires.position in omega arith);
   unfinished = c.requires.unfinished;
   read_later = omega arith;
@@ -76,11 +78,15 @@ returns-in_err-hear-clause-ended g c = λ octets left.
     let e = c.read.auto.buffer in
     let below = c.reading-test.true in
     let few : c.reading.total + c.in-Ok.count ≤ input_limit + 1 = grind (arith, common_steps) in
+    let within : c.min-room.result ≤ length c.reading.buffer = grind (arith, common_steps) in
     subst (IsEnded c.args.words octets next was now) (sym (told.1 ∙ ap Err told.2))
     (ended_piece c.args.words octets (g.I.Source.left c.reading.input)
     c.reading.receiver was mid c.reading.total p c.read.new.buffer _ _ next now c.in-Ok.count d
     (c.in-Ok.ensures.gives p.taken.rest p.taken.left_over) refl few c.hear.new.self
-    c.in_err-hear.field-0.0 c.in_err-hear.ensures.stops c.in_err-hear.ensures.cut
+    c.in_err-hear.field-0.0 c.in_err-hear.ensures.stops
+    (λ before text is h. c.in_err-hear.ensures.cut c.args.words before text is h
+    (piece_fits c.min-room.result c.in-Ok.count (most_at_once c.args.words) c.reading.buffer c.read.new.buffer e within
+    c.reading.invariant.size d))
     (λ is. ap g.O.Sink.written (c.in_err-hear.ensures.unwritten is)) c.in_err-hear.ensures.read)
 
 pub reading-preserved : goal.reading-preserved
@@ -89,6 +95,7 @@ reading-preserved g c =
     let d = c.in-Ok.ensures.bound in
     let e = c.read.auto.buffer in
     let below = c.reading-test.true in
+    let within : c.min-room.result ≤ length c.reading.buffer = grind (arith, common_steps) in
     record {
       so_far = λ whole left.
           let p = c.reading.invariant.so_far whole left in
@@ -98,6 +105,7 @@ reading-preserved g c =
           (c.in-Ok.ensures.gives p.taken.rest p.taken.left_over) refl
           c.hear.new.self (g.O.Sink.written c.hear.new.output) c.in_ok-hear.ensures.heard;
       bound = grind (arith, common_steps);
+      size = kept_size c.min-room.result c.reading.buffer c.read.new.buffer e within ∙ c.reading.invariant.size;
       position = (let was = c.reading.invariant.position in let now = c.in_ok-hear.ensures.position in
           grind (arith, common_steps));
       unfinished = c.in_ok-hear.ensures.unfinished;

@@ -22,6 +22,8 @@ use Rattle.sensitive_blocks.specs.Held.{StandsFor as BlocksStandFor}
 use Rattle.fx25_receiver.specs.WithoutBlocks.{candidate_of}
 use Rattle.tnc_decode.proofs.Fx25Lemmas.{fx25_block}
 use Rattle.tnc_decode.proofs.SensitiveFx25Lemmas.{sensitive_fx25_block}
+use Rattle.tnc_decode.specs.Held.{TakesAtOnce}
+use Rattle.tnc_decode.proofs.BlockLemmas.{few_shared, few_alone}
 use Rattle.tnc_decode.proofs.decoders.Decoders.block.Goals as goal
 
 pub returns-in-Plain-clause-given : goal.returns-in-Plain-clause-given
@@ -247,3 +249,25 @@ returns-in-SensitiveFx25-clause-given g c =
     (settled_count modem (x ++ block)) (x ++ block) items.items)
     (λ items given. sensitive_fx25_block old new block items.items given)
     c.block-in-SensitiveFx25.ensures.given)
+
+pub block_threads-requires-in-Wide-clause-few : goal.block_threads-requires-in-Wide-clause-few
+block_threads-requires-in-Wide-clause-few g c κs within =
+    few_shared c.args.threads (length c.args.block.now)
+    (subst (λ d. TakesAtOnce c.args.threads d (length c.args.block.now)) c.in-Wide.is c.requires.few)
+
+pub block-requires-in-Wide-2-clause-few : goal.block-requires-in-Wide-2-clause-few
+block-requires-in-Wide-2-clause-few g c =
+    few_alone c.args.threads (length c.args.block.now)
+    (subst (λ d. TakesAtOnce c.args.threads d (length c.args.block.now)) c.in-Wide.is c.requires.few)
+    (c.is_shared-threads.ensures c.if-threads-2.false)
+
+pub block_threads-requires-in-WideSensitive-clause-few : goal.block_threads-requires-in-WideSensitive-clause-few
+block_threads-requires-in-WideSensitive-clause-few g c κs within =
+    few_shared c.args.threads (length c.args.block.now)
+    (subst (λ d. TakesAtOnce c.args.threads d (length c.args.block.now)) c.in-WideSensitive.is c.requires.few)
+
+pub block-requires-in-WideSensitive-2-clause-few : goal.block-requires-in-WideSensitive-2-clause-few
+block-requires-in-WideSensitive-2-clause-few g c =
+    few_alone c.args.threads (length c.args.block.now)
+    (subst (λ d. TakesAtOnce c.args.threads d (length c.args.block.now)) c.in-WideSensitive.is c.requires.few)
+    (c.is_shared-threads.ensures c.if-threads-4.false)

@@ -1,5 +1,5 @@
 use Rattle.tnc_decode.proofs.Common.{◌≡◌, ◌++◌, ℕ, List, Err, ap, sym, subst, refl, ◌∙◌, arith, err_from_is_err_and}
-use Rattle.tnc_decode.proofs.Common.{WrotePart, candidate_frames, Candidate, Receiver, rates_of, samples_read, modem_of}
+use Rattle.tnc_decode.proofs.Common.{WrotePart, most_at_once, candidate_frames, Candidate, Receiver, rates_of, samples_read, modem_of}
 use Rattle.tnc_decode.proofs.Common.{print}
 use Rattle.std.proofs.Common.{Some}
 use Rattle.tnc_decode.proofs.ReceiverLemmas.{tuned, heard_more, settles, few_more}
@@ -17,7 +17,7 @@ returns-clause-heard g c = λ words before text h.
       audio = c.take.new.self;
       receiving = old.receiving;
       samples = c.take.new.samples;
-      decoder = c.block.new.self;
+      decoder = c.hear.new.self;
     } in
     let items : List Candidate = c.in_ok-items.items.items in
     let took = c.in_ok-take.ensures.takes (rates_of words.receiving) words.audio before h.audio in
@@ -34,7 +34,7 @@ returns-clause-heard g c = λ words before text h.
     )
 
 pub returns-in_err-write_items-clause-cut : goal.returns-in_err-write_items-clause-cut
-returns-in_err-write_items-clause-cut g c = λ words before text is h.
+returns-in_err-write_items-clause-cut g c = λ words before text is h most.
     let old : Receiver = c.args.self.now in
     let octets : List ℕ = c.args.octets.now in
     let new : Receiver
@@ -45,7 +45,7 @@ returns-in_err-write_items-clause-cut g c = λ words before text is h.
       audio = c.take.new.self;
       receiving = old.receiving;
       samples = c.take.new.samples;
-      decoder = c.block.new.self;
+      decoder = c.hear.new.self;
     } in
     let items : List Candidate = c.in_ok-items.items.items in
     let took = c.in_ok-take.ensures.takes (rates_of words.receiving) words.audio before h.audio in
@@ -58,12 +58,11 @@ returns-in_err-write_items-clause-cut g c = λ words before text is h.
     c.from_residual-in_err-write_items.ensures.1 in
     let same = ap Err (sym told.2) ∙ sym told.1 ∙ is in
     let few = c.in_ok-take.ensures.count in
-    let most = c.requires.few in
     record {
       more = print old.frames (candidate_frames items);
       audio = took.0;
       few = few_more old new words before octets text c.take.new.samples.items c.deref.result.now items h took
-          c.deref.ensures.value gave (omega arith);
+          c.deref.ensures.value gave (most_at_once words) (omega arith);
       settled = settles old new words before octets text c.take.new.samples.items c.deref.result.now items h took
           c.deref.ensures.value gave;
       written = λ was w. subst (λ (t : List Candidate). WrotePart was (print old.frames (candidate_frames t))
