@@ -6,10 +6,11 @@ called by either end, all at once and at the pace of sound, while parts of long 
                          [--rate N]
 
 In a session the host of each station gives so many packets, and the host of the other one has to get just these; then the
-end that called disconnects. With --ptt the station keys the dummy rig of a rigctld, and its sound goes out only while that is
-keyed; none may be cut off. With --hf both are on short wave, at 300 bits a second. With --rate 48000, and without --ptt, the
-sound between them has so many samples a second, in place of 9600. It prints a line for each session that failed, or for all,
-and ends with status 0 where all is well, and 77 if there is to be a rigctld and none is installed."""
+end that called disconnects. Modulo 128 the end that called asks by XID once, and is answered once. With --ptt the station keys
+the dummy rig of a rigctld, and its sound goes out only while that is keyed; none may be cut off. With --hf both are on short
+wave, at 300 bits a second. With --rate 48000, and without --ptt, the sound between them has so many samples a second, in place
+of 9600. It prints a line for each session that failed, or for all, and ends with status 0 where all is well, and 77 if there
+is to be a rigctld and none is installed."""
 import argparse
 import collections
 import itertools
@@ -55,7 +56,7 @@ class Session:
         draws = random.Random(given.seed * 100 + number)
         options = ["--mode", self.mode, *(["--wide"] if self.wide else []), "--monitor", "--seed", given.seed + number]
         options += ["--rate", given.rate]
-        settings = ["NOXID TTTT", "FRACK 3"] if self.wide else ["MAXV22 0", "FRACK 3"]
+        settings = ["FRACK 3"] if self.wide else ["MAXV22 0", "FRACK 3"]
         if given.hf:
             options += ["--hf"]
             settings += ["FRACK 10", "MODEM 300 1600:1800"]
@@ -139,6 +140,8 @@ def told(session, number):
     others = [line for line in lines if line[0] not in ("rx", "tx")]
     if status or others:
         wrong.append(f"status {status}, report {others[:3]}")
+    if session.wide and (frames["rx XID"], frames["tx XID"]) != (1, 1):
+        wrong.append(f"{frames['rx XID']} XID heard and {frames['tx XID']} sent")
     kinds = ", ".join(f"{count} {kind}" for kind, count in sorted(frames.items()))
     line = (
         f"{number} {session.calls} calls, {session.mode}, modulo {128 if session.wide else 8}: {session.air.ticks / 100:.0f} s,"

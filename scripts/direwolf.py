@@ -110,6 +110,9 @@ class PacedAir:
         self.tick = tick_octets(rate)
         self.station, self.wolf, self.count = station, wolf, ticks * self.tick
         self.to_wolf, self.to_station = (Damage(draws, damage, longer, self.tick) for _ in range(2))
+        if rate == 48000:
+            # the filter hears a sample once fifteen more have come, so without a tick ahead the station would be one behind
+            station.program.stdin.write(bytes(self.tick))
         self.ticks, self.began = 0, time.monotonic()
 
     def step(self):

@@ -6,7 +6,8 @@ that it takes itself: frames heard against noise, and against the sender's clock
 
 The sound is that of scripts/scores.py, a hundred frames a point. The counts are kept in FOLDER/heard.txt (docs/pictures where no
 folder is named), a line for each sound. Those that are there already are not taken again, so remove the file for another program;
-with --draw none is taken. The pictures are FOLDER/heard-in-noise.svg and FOLDER/heard-by-clock.svg."""
+with --draw none is taken. The pictures are FOLDER/heard-in-noise.svg and FOLDER/heard-by-clock.svg. A third one, heard-on-short-wave.svg,
+is of what `scores.py --hf --sensitive --beside` printed, which is kept as FOLDER/short-wave.txt."""
 import argparse
 import functools
 import html
@@ -29,6 +30,9 @@ COLOURS = {
     "tnc": "#1f5fbf", "sensitive": "#8e44ad", "atest": "#c0392b", "atest-repairing": "#e08e0b", "soundmodem": "#555555",
     "multimon-ng": "#2e8540"
 }
+# The columns of the table of short wave.
+ON_SHORT_WAVE = {"--hf": ("tnc decode --hf", "#1f5fbf"), "--sensitive too": ("tnc decode --hf --sensitive", "#8e44ad")}
+ON_SHORT_WAVE["atest -B 300"] = ("atest -B 300", "#c0392b")
 # The programs of the second graph.
 BY_CLOCK = ("tnc", "sensitive", "atest", "multimon-ng")
 INK, FAINT = "#1b1f24", "#c9ced4"
@@ -169,6 +173,23 @@ def draw(programs, graphs, folder):
     clock.write(f"{folder}/heard-by-clock.svg")
 
 
+def cells_of(line):
+    return [cell.strip() for cell in line.strip().strip("|").split("|")]
+
+
+def draw_short_wave(table, folder):
+    """The picture of short wave: of a table the rows of noise."""
+    with open(table) as file:
+        _, *columns = cells_of(next(file))
+        rows = [cells_of(line) for line in file if line.startswith("| noise, ")]
+    noise = Graph("Frames heard on short wave in white noise", "power of the tones to that of the noise in 4800 Hz, in dB", -8, 2, 1)
+    for at, column in enumerate(columns):
+        points = [(float(row[0].split()[1]), float(row[1 + at].split()[0])) for row in rows]
+        noise.curve(sorted(points), ON_SHORT_WAVE[column][1])
+    noise.key([(*ON_SHORT_WAVE[column], False) for column in columns])
+    noise.write(f"{folder}/heard-on-short-wave.svg")
+
+
 def main():
     reader = argparse.ArgumentParser()
     reader.add_argument("--tnc", default=f"{scores.TOP}/bin/tnc")
@@ -181,6 +202,9 @@ def main():
     if not given.draw:
         counted(given.tnc, given.frames, counts)
     draw(*read(counts), given.folder)
+    table = f"{given.folder}/short-wave.txt"
+    if os.path.exists(table):
+        draw_short_wave(table, given.folder)
 
 
 if __name__ == "__main__":

@@ -6,6 +6,8 @@
   scripts/scores.py --sensitive     and what `tnc decode --sensitive` hears
   scripts/scores.py --more          rows of its own: noise by half decibels, clocks that are far off, offset and hum, phases
                                     that begin anew, an FM receiver's sound
+  scripts/scores.py --hf            short wave, 300 bits a second: noise, receivers off their frequency, clocks that are off, two paths.
+                                    What `decode --hf` hears, and with --sensitive, atest as `atest -B 300` with --beside
   scripts/scores.py --wide          sound at 48,000 samples a second, with noise up to 24,000 Hz: what `decode --rate 48000` hears, and
                                     `decode` of what sox brings to 9600
   scripts/scores.py --beside        and what atest (as it is, and as `atest -P E+ -F 1`), soundmodem and multimon-ng hear of
@@ -21,6 +23,7 @@ in steps of a sample; a signal-to-noise ratio is that of the power of a tone to 
 band of 4800 Hz."""
 import argparse
 import array
+import cmath
 import math
 import os
 import random
@@ -84,22 +87,23 @@ def line_bits(frame, opening):
         yield level
 
 
-def tones(frame, start, clock=0.0, mark=LEVEL, space=LEVEL, opening=30, anew=False):
+def tones(frame, start, clock=0.0, mark=LEVEL, space=LEVEL, opening=30, anew=False, off=0, turning=False):
     """The samples of a transmission that begins `start` samples (a fraction of one) after the first. The sender's clock
-    is fast by so many parts per million, its tones as well as its bits. If `anew`, the phase begins anew at each change of
-    tone."""
+    is fast by so many parts per million, its tones as well as its bits, and its tones are so many hertz off. If `anew`, the
+    phase begins anew at each change of tone. If `turning`, the samples are complex."""
     rate = 1 + clock / 1e6
     samples_a_bit = RATE / (BAUD * rate)
     begin, phase, at, before = start, 0.0, math.ceil(start), None
     made = [0.0] * at
     for level in line_bits(frame, opening):
-        step = 2 * math.pi * (MARK if level else SPACE) * rate / RATE
+        step = 2 * math.pi * ((MARK if level else SPACE) * rate + off) / RATE
         loud = mark if level else space
         if anew and level != before:
             phase, before = 0.0, level
         end = begin + samples_a_bit
         while at < end:
-            made.append(loud * math.sin(phase + step * (at - begin)))
+            angle = phase + step * (at - begin)
+            made.append(loud * cmath.exp(1j * angle) if turning else loud * math.sin(angle))
             at += 1
         phase = (phase + step * samples_a_bit) % (2 * math.pi)
         begin = end
@@ -271,6 +275,40 @@ SENSITIVE = {
 SECOND_AT_ONCE = [(20, 12, 12), (10, 11, 12), (6, 10, 12), (3, 8, 12)]
 
 
+def faded(samples, draw, delay, spread):
+    """What comes over two paths, the second so many samples later: each turns and fades by itself, by a spread in hertz. The
+    samples are complex."""
+    made = [0.0] * (len(samples) + delay)
+    for later in (0, delay):
+        waves = [(draw.gauss(0, spread / 2) * 2 * math.pi / RATE, draw.random() * 2 * math.pi) for _ in range(8)]
+        for at in range(0, len(samples), 96):
+            gain = sum(cmath.exp(1j * (step * at + phase)) for step, phase in waves) / 4
+            for place, sample in enumerate(samples[at:at + 96], at + later):
+                made[place] += (gain * sample).real
+    return made
+
+
+def hf_rows(count):
+    """Short wave: frames of 20 to 80 octets, each with 30 flags before it."""
+    sent = [frames(1, 3000 + number, 5 + number % 60)[0] for number in range(count)]
+    clean = sound(sent, 21, gap=1600)
+    yield "clean", 0, count, sent, clean, []
+    for ratio in range(2, -9, -1):
+        yield f"noise, {ratio} dB", 0, count, sent, noisy(clean, ratio), []
+    for off in (10, 25, 50, 100):
+        made = sound(sent, 22, gap=1600, off=off)
+        for ratio in (3, -3):
+            yield f"{off} Hz off, noise, {ratio} dB", 0, count, sent, noisy(made, ratio), []
+    for clock in (-10000, -3000, 3000, 10000):
+        yield f"clock {clock:+} ppm, noise, 3 dB", 0, count, sent, noisy(sound(sent, 23, gap=1600, clock=clock), 3), []
+    for delay, spread in ((1, 0.5), (1, 1), (2, 0.5), (2, 1)):
+        draw, made = random.Random(24), []
+        for frame in sent:
+            made += [0.0] * 1600
+            made += faded(tones(frame, draw.random(), turning=True), draw, delay * RATE // 1000, spread)
+        yield f"two paths, {delay} ms apart, spread {spread} Hz, noise, 9 dB", 0, count, sent, noisy(made, 9), []
+
+
 def wide_rows(count):
     """Sound at 48,000 samples a second. The ratio is that to the noise below 4800 Hz, of which there is as much in each of
     the four bands above."""
@@ -290,6 +328,14 @@ def heard_by_tnc(tnc, samples, _, *options):
 
 def heard_by_sensitive(tnc, samples, room):
     return heard_by_tnc(tnc, samples, room, "--sensitive")
+
+
+def heard_on_short_wave(tnc, samples, room):
+    return heard_by_tnc(tnc, samples, room, "--hf")
+
+
+def heard_on_short_wave_by_all(tnc, samples, room):
+    return heard_by_tnc(tnc, samples, room, "--hf", "--sensitive")
 
 
 def resampled(samples, rate, kind, to):
@@ -315,7 +361,7 @@ def heard_through_sox(tnc, samples, room):
 def heard_by_atest(_, samples, room, *options):
     """The frames in the hexadecimal dumps of Dire Wolf's atest."""
     resampled(samples, 48000, "wav", f"{room}/48000.wav")
-    run = subprocess.run(["atest", "-B", "1200", *options, "-h", f"{room}/48000.wav"], capture_output=True)
+    run = subprocess.run(["atest", "-B", str(BAUD), *options, "-h", f"{room}/48000.wav"], capture_output=True)
     made, part = [], ""
     for line in run.stdout.decode(errors="replace").splitlines() + [""]:
         if line.startswith("  ") and line[5:8] == ":  ":
@@ -411,6 +457,7 @@ def main():
     words.add_argument("--check", action="store_true")
     words.add_argument("--sensitive", action="store_true")
     words.add_argument("--more", action="store_true")
+    words.add_argument("--hf", action="store_true")
     words.add_argument("--wide", action="store_true")
     words.add_argument("--beside", action="store_true")
     words.add_argument("--tnc", default=f"{TOP}/bin/tnc")
@@ -424,8 +471,15 @@ def main():
     if given.sensitive or given.check:
         columns.append(("--sensitive", heard_by_sensitive, bytes.hex))
     made_by = more_rows if given.more else rows
-    if given.wide:
-        global RATE
+    global RATE, BAUD, MARK, SPACE
+    if given.hf:
+        BAUD, MARK, SPACE, made_by = 300, 1600, 1800, hf_rows
+        columns = [("--hf", heard_on_short_wave, bytes.hex)]
+        if given.sensitive:
+            columns.append(("--sensitive too", heard_on_short_wave_by_all, bytes.hex))
+        if given.beside:
+            columns.append(("atest -B 300", heard_by_atest, bytes.hex))
+    elif given.wide:
         RATE, made_by = 48000, wide_rows
         columns = [("--rate 48000", heard_at_48000, bytes.hex), ("through sox", heard_through_sox, bytes.hex)]
         if given.sensitive:
