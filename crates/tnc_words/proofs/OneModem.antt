@@ -47,6 +47,7 @@ one_modem found modem other = one_modem_by (is_used (codes "hf") found) (first_o
 pub one_station_modem : (hf sensitive : Bool) (modem other : StationModem) → IsStationModem hf sensitive modem
     → IsStationModem hf sensitive other → modem ≡ other
 one_station_modem hf sensitive (StationBell202 more) (StationBell202 less) h k = ap StationBell202 (h.1 ∙ sym k.1)
-one_station_modem hf sensitive (StationBell202 more) StationShortWave h k = absurd (true≢false (sym k.0 ∙ h.0))
-one_station_modem hf sensitive StationShortWave (StationBell202 less) h k = absurd (true≢false (sym h.0 ∙ k.0))
-one_station_modem hf sensitive StationShortWave StationShortWave h k = refl
+one_station_modem hf sensitive (StationBell202 more) (StationShortWave less) h k = absurd (true≢false (sym k.0 ∙ h.0))
+one_station_modem hf sensitive (StationShortWave more) (StationBell202 less) h k = absurd (true≢false (sym h.0 ∙ k.0))
+one_station_modem hf sensitive (StationShortWave more) (StationShortWave less) h k =
+    ap StationShortWave (h.1 ∙ sym k.1)

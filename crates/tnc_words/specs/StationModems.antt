@@ -5,11 +5,11 @@ use Rattle.tnc_words.specs.declared.command.StationModem.{StationModem}
 use Rattle.tnc_words.specs.declared.command.StationModem.TheVariants.{Bell202, ShortWave}
 use Rattle.tnc_words.specs.Options.{is_used}
 
--- the modem by whether --hf was given, and whether --sensitive was, which is not for short wave
+-- the modem by whether --hf was given, and whether --sensitive was
 abbrev pub IsStationModem : Bool → Bool → StationModem → Type 0
 IsStationModem hf sensitive (Bell202 more) = (hf ≡ false) × (more ≡ sensitive)
-IsStationModem hf sensitive ShortWave = (hf ≡ true) × (sensitive ≡ false)
+IsStationModem hf sensitive (ShortWave more) = (hf ≡ true) × (more ≡ sensitive)
 
--- [--hf] or [--sensitive]
+-- [--hf] [--sensitive]
 abbrev pub HasStationModem : List Row → StationModem → Type 0
 HasStationModem found modem = IsStationModem (is_used (codes "hf") found) (is_used (codes "sensitive") found) modem

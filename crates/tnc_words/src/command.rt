@@ -182,8 +182,8 @@ pub enum Dcd {
 pub enum StationModem {
     /// Bell 202 at 1200 bits a second. If it is sensitive, more lanes hear, which take weaker and less exact signals.
     Bell202 { sensitive: bool },
-    /// Short wave at 300 bits a second.
-    ShortWave,
+    /// Short wave at 300 bits a second. If it is sensitive, more lanes hear there, too.
+    ShortWave { sensitive: bool },
 }
 
 /// The options of `serve`.

@@ -5,7 +5,6 @@ ghost use Rattle.clap.specs.Words.{found_of, rows_of};
 ghost use Rattle.tnc_words.specs.declared.command.Dcd.{Dcd};
 ghost use Rattle.tnc_words.specs.declared.command.PttOptions.{PttOptions};
 ghost use Rattle.tnc_words.specs.declared.command.ServeOptions.{ServeOptions};
-ghost use Rattle.tnc_words.specs.declared.command.StationModem.{StationModem};
 ghost use Rattle.tnc_words.specs.Carriers.{HasDcd};
 ghost use Rattle.tnc_words.specs.Keys.{HasPtt};
 ghost use Rattle.tnc_words.specs.Numbers.{NamesNumber};
@@ -96,7 +95,7 @@ fn serve_options(found: &ArgMatches) -> Option<ServeOptions>
         paclen: number_found(found, "paclen", 256, PACLEN)? as u16,
         digi: call_said(text_of(found, "digi"))?,
         dcd: dcd(has_flag(found, "hf"), text_of(found, "dcd"))?,
-        modem: station_modem(has_flag(found, "hf"), has_flag(found, "sensitive"))?,
+        modem: station_modem(has_flag(found, "hf"), has_flag(found, "sensitive")),
         rate: sample_rate(text_of(found, "rate"))?,
         monitor: has_flag(found, "monitor"),
         stats: seconds(text_of(found, "stats"))?,
@@ -174,14 +173,13 @@ fn ptt_by(port: &str, tail: Option<&str>, socket: bool) -> Option<PttOptions>
 }
 
 /// The modem, by whether it is for short wave and whether it is sensitive.
-fn station_modem(hf: bool, sensitive: bool) -> Option<StationModem>
-    ensures modem { IfSome result (IsStationModem hf sensitive) }
-    ensures none { IsNone result → (modem : StationModem) → ¬ IsStationModem hf sensitive modem }
+fn station_modem(hf: bool, sensitive: bool) -> StationModem
+    ensures { IsStationModem hf sensitive result }
 {
-    match (hf, sensitive) {
-        (false, sensitive) => Some(StationModem::Bell202 { sensitive }),
-        (true, false) => Some(StationModem::ShortWave),
-        (true, true) => None,
+    if hf {
+        StationModem::ShortWave { sensitive }
+    } else {
+        StationModem::Bell202 { sensitive }
     }
 }
 

@@ -133,7 +133,7 @@ Runs a station until its sound ends: it hears standard input, sends standard out
   --digi call      repeats frames for this call
   --dcd how        by what the channel is busy: tones, or so many flags in a row, 1 to 8 (tones), with --hf 2 to 8 (3)
   --hf             short wave: 300 bits a second at 1600 and 1800 Hz; --t1 is 600 if not given
-  --sensitive      hears in more noise and where the sender's clock is off, and takes longer; without --hf
+  --sensitive      hears in more noise and where the sender's clock is off, and takes longer
   --rate n         samples a second, in and out, 9600 or 48000 (9600)
   --monitor        tells each frame that is heard or sent on standard error
   --stats n        tells each n seconds what the station counted, on standard error, 1 to 86400
