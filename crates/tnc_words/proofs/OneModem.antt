@@ -58,16 +58,17 @@ one_count_sent (Some checks) (Some other) e = ap Some (one_count checks other e)
 pub one_station_modem : (hf sensitive : Bool) (text : Option Text) (modem other : StationModem)
     → IsStationModem hf sensitive text modem → IsStationModem hf sensitive text other → modem ≡ other
 one_station_modem hf sensitive None (StationBell202 more) (StationBell202 less) h k = ap StationBell202 (h.1 ∙ sym k.1)
-one_station_modem hf sensitive None (StationBell202 more) StationShortWave h k = absurd (true≢false (sym k.0 ∙ h.0))
+one_station_modem hf sensitive None (StationBell202 more) (StationShortWave less) h k = absurd (true≢false (sym k.0 ∙ h.0))
 one_station_modem hf sensitive None (StationBell202 more) (StationFx25 other) h k = absurd k
-one_station_modem hf sensitive None StationShortWave (StationBell202 less) h k = absurd (true≢false (sym h.0 ∙ k.0))
-one_station_modem hf sensitive None StationShortWave StationShortWave h k = refl
-one_station_modem hf sensitive None StationShortWave (StationFx25 other) h k = absurd k
+one_station_modem hf sensitive None (StationShortWave more) (StationBell202 less) h k = absurd (true≢false (sym h.0 ∙ k.0))
+one_station_modem hf sensitive None (StationShortWave more) (StationShortWave less) h k =
+    ap StationShortWave (h.1 ∙ sym k.1)
+one_station_modem hf sensitive None (StationShortWave more) (StationFx25 other) h k = absurd k
 one_station_modem hf sensitive None (StationFx25 checks) other h k = absurd h
 one_station_modem hf sensitive (Some text) (StationBell202 more) other h k = absurd h
-one_station_modem hf sensitive (Some text) StationShortWave other h k = absurd h
+one_station_modem hf sensitive (Some text) (StationShortWave more) other h k = absurd h
 one_station_modem hf sensitive (Some text) (StationFx25 checks) (StationBell202 less) h k = absurd k
-one_station_modem hf sensitive (Some text) (StationFx25 checks) StationShortWave h k = absurd k
+one_station_modem hf sensitive (Some text) (StationFx25 checks) (StationShortWave less) h k = absurd k
 one_station_modem hf sensitive (Some text) (StationFx25 checks) (StationFx25 other) h k =
     ap StationFx25
     (one_count_sent checks other (given_number (Some text) 0 64 (count_sent checks) (count_sent other) h.2 k.2))

@@ -5,7 +5,6 @@ ghost use Rattle.clap.specs.Words.{found_of, rows_of};
 ghost use Rattle.tnc_words.specs.declared.command.Dcd.{Dcd};
 ghost use Rattle.tnc_words.specs.declared.command.PttOptions.{PttOptions};
 ghost use Rattle.tnc_words.specs.declared.command.ServeOptions.{ServeOptions};
-ghost use Rattle.tnc_words.specs.declared.command.StationModem.{StationModem};
 ghost use Rattle.tnc_words.specs.Carriers.{HasDcd};
 ghost use Rattle.tnc_words.specs.Keys.{HasPtt};
 ghost use Rattle.tnc_words.specs.Numbers.{NamesNumber};
@@ -189,9 +188,9 @@ fn station_modem(hf: bool, sensitive: bool, checks: Option<&str>) -> Option<Stat
 {
     match (hf, sensitive, checks) {
         (false, sensitive, None) => Some(StationModem::Bell202 { sensitive }),
-        (true, false, None) => Some(StationModem::ShortWave),
+        (true, sensitive, None) => Some(StationModem::ShortWave { sensitive }),
         (false, false, Some(text)) => block_modem(text),
-        (true, true, None) | (true, _, Some(_)) | (false, true, Some(_)) => None,
+        (true, _, Some(_)) | (false, true, Some(_)) => None,
     }
 }
 

@@ -134,7 +134,7 @@ Runs a station until its sound ends: it hears standard input, sends standard out
   --dcd how        by what the channel is busy: tones, or so many flags in a row, 1 to 8 (tones); with --hf or --fx25
                    by flags alone, 2 to 8 (3)
   --hf             short wave: 300 bits a second at 1600 and 1800 Hz; --t1 is 600 if not given
-  --sensitive      hears in more noise and where the sender's clock is off, and takes longer; without --hf
+  --sensitive      hears in more noise and where the sender's clock is off, and takes longer
   --fx25 n         hears frames in blocks of FX.25 too, and repairs them; sends each with 16, 32 or 64 check octets
                    around it, or with 0 plainly; the channel is busy while a block comes in; without --hf and
                    --sensitive, at 9600 samples a second
