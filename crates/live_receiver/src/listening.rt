@@ -8,8 +8,8 @@ ghost use Rattle.live_receiver.specs.Listening.{readers_wanted};
 pub enum Listening {
     /// For Bell 202 at 1200 bits a second, with eight lanes or, if it is sensitive, with the added ones, too.
     Bell202 { sensitive: bool },
-    /// For short wave at 300 bits a second.
-    ShortWave,
+    /// For short wave at 300 bits a second, with 32 lanes or, if it is sensitive, with the added ones, too.
+    ShortWave { sensitive: bool },
 }
 
 /// The readers that a receiver wants: one for each of the eight lanes of Bell 202 and one more if the added lanes listen,
@@ -19,6 +19,6 @@ pub fn readers_wanted(listening: Listening) -> u8
 {
     match listening {
         Listening::Bell202 { sensitive } => ring_receiver::readers_wanted(sensitive),
-        Listening::ShortWave => 1,
+        Listening::ShortWave { .. } => 1,
     }
 }

@@ -52,10 +52,10 @@ impl LiveReceiver {
             (Listening::Bell202 { sensitive }, _) => Ok(LiveReceiver::Bell202(RingReceiver::new(
                 alloc, readers, detection, sensitive,
             )?)),
-            (Listening::ShortWave, Detection::Flags(flags)) => {
-                Ok(LiveReceiver::ShortWave(HfReceiver::new(alloc, readers, flags)?))
+            (Listening::ShortWave { sensitive }, Detection::Flags(flags)) => {
+                Ok(LiveReceiver::ShortWave(HfReceiver::new(alloc, readers, flags, sensitive)?))
             }
-            (Listening::ShortWave, Detection::Tones) => unreachable!(),
+            (Listening::ShortWave { .. }, Detection::Tones) => unreachable!(),
         }
     }
 
@@ -96,7 +96,7 @@ impl LiveReceiver {
         }
     }
 
-    /// Whether another station is heard: one of the eight lanes of Bell 202, or a lane of short wave, hears it since its
+    /// Whether another station is heard: one of the eight lanes of Bell 202, or of the 32 of short wave, hears it since its
     /// last gap.
     pub fn busy(&self) -> bool
         ensures { (len : ℕ) → LanesListen len self.now

@@ -117,17 +117,19 @@ asked_plainly text ByTones h = tt
 asked_plainly None (ByFlags count) h = absurd (flags_are_no_tones count h)
 asked_plainly (Some text) (ByFlags count) h = (h.1, h.2)
 
-asked_on_wave : (text : Option (List ℕ)) (dcd : Dcd) → HasDcd true text dcd → CanBeAskedBy ShortWave (detection_of dcd)
-asked_on_wave None dcd h =
-    subst (λ d. CanBeAskedBy ShortWave (detection_of d)) (sym h) (omega arith, omega arith)
-asked_on_wave (Some text) ByTones h = absurd h
-asked_on_wave (Some text) (ByFlags count) h = (let least = h.1 in omega arith, h.2)
+asked_on_wave : (sensitive : Bool) (text : Option (List ℕ)) (dcd : Dcd) → HasDcd true text dcd
+    → CanBeAskedBy (ShortWave sensitive) (detection_of dcd)
+asked_on_wave sensitive None dcd h =
+    subst (λ d. CanBeAskedBy (ShortWave sensitive) (detection_of d)) (sym h) (omega arith, omega arith)
+asked_on_wave sensitive (Some text) ByTones h = absurd h
+asked_on_wave sensitive (Some text) (ByFlags count) h = (let least = h.1 in omega arith, h.2)
 
 can_be_asked : (hf sensitive : Bool) (text : Option (List ℕ)) (dcd : Dcd) (modem : StationModem) → HasDcd hf text dcd
     → IsStationModem hf sensitive modem → CanBeAskedBy (listening_of modem) (detection_of dcd)
 can_be_asked hf sensitive text dcd (OfBell202 more) h is =
     asked_plainly text dcd (subst (λ b. HasDcd b text dcd) is.0 h)
-can_be_asked hf sensitive text dcd OfShortWave h is = asked_on_wave text dcd (subst (λ b. HasDcd b text dcd) is.0 h)
+can_be_asked hf sensitive text dcd (OfShortWave more) h is =
+    asked_on_wave more text dcd (subst (λ b. HasDcd b text dcd) is.0 h)
 
 -- the options of a live command that words ask for are within their ranges
 pub can_run_live : (words : List (List ℕ)) (live : LiveCommand) → Asks words (command_of live) → CanRunLive live

@@ -42,11 +42,11 @@ detection_of (ByFlags count) = Flags count
 -- how a station of a modem listens, and by what it sends
 abbrev pub listening_of : StationModem → Listening
 listening_of (OfBell202 sensitive) = Bell202 sensitive
-listening_of OfShortWave = ShortWave
+listening_of (OfShortWave sensitive) = ShortWave sensitive
 
 abbrev pub sending_of : StationModem → Modem
 sending_of (OfBell202 sensitive) = SendsBell202
-sending_of OfShortWave = SendsShortWave
+sending_of (OfShortWave sensitive) = SendsShortWave
 
 -- how many samples a second come and go
 abbrev pub rate_of : SampleRate → Rate

@@ -169,7 +169,7 @@ fn listening(modem: StationModem) -> Listening
 {
     match modem {
         StationModem::Bell202 { sensitive } => Listening::Bell202 { sensitive },
-        StationModem::ShortWave => Listening::ShortWave,
+        StationModem::ShortWave { sensitive } => Listening::ShortWave { sensitive },
     }
 }
 
@@ -189,7 +189,7 @@ fn sending(modem: StationModem) -> Modem
 {
     match modem {
         StationModem::Bell202 { .. } => Modem::Bell202,
-        StationModem::ShortWave => Modem::ShortWave,
+        StationModem::ShortWave { .. } => Modem::ShortWave,
     }
 }
 

@@ -149,8 +149,12 @@ fn serve_takes_what_its_station_does(rt: HostRuntime) -> Result<(), Fail> {
     let hf = ServeOptions {
         params: Params { t1: 600, ..PARAMS },
         dcd: Dcd::Flags(3),
-        modem: StationModem::ShortWave,
+        modem: StationModem::ShortWave { sensitive: false },
         ..SERVE
+    };
+    let sensitive_hf = ServeOptions {
+        modem: StationModem::ShortWave { sensitive: true },
+        ..hf
     };
     let table = [
         (
@@ -217,6 +221,7 @@ fn serve_takes_what_its_station_does(rt: HostRuntime) -> Result<(), Fail> {
             },
         ),
         ("--hf", hf),
+        ("--hf --sensitive", sensitive_hf),
         (
             "--t1 200 --hf --dcd=2",
             ServeOptions {
