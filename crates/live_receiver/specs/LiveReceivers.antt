@@ -13,12 +13,12 @@ use Rattle.live_receiver.specs.declared.listening.Listening.{Listening}
 use Rattle.live_receiver.specs.declared.listening.Listening.TheVariants.{Bell202, ShortWave, Fx25}
 use Rattle.live_receiver.specs.declared.receiver.LiveReceiver.{LiveReceiver}
 use Rattle.live_receiver.specs.declared.receiver.LiveReceiver.TheVariants.{Bell202 as OfBell202, ShortWave as OfShortWave, Fx25 as OfFx25}
-use Rattle.live_receiver.specs.HeldHf.{HfHears, HfLanesListen, flags_of_hf}
+use Rattle.live_receiver.specs.HeldHf.{HfHears, HfLanesListen, flags_of_hf, sensitive_of_hf}
 
 -- how it listens
 abbrev pub listening_of : LiveReceiver → Listening
 listening_of (OfBell202 receiver) = Bell202 receiver.sensitive
-listening_of (OfShortWave receiver) = ShortWave
+listening_of (OfShortWave receiver) = ShortWave (sensitive_of_hf receiver)
 listening_of (OfFx25 receiver) = Fx25
 
 -- by what it hears other stations

@@ -8,8 +8,8 @@ ghost use Rattle.live_receiver.specs.Listening.{readers_wanted};
 pub enum Listening {
     /// For Bell 202 at 1200 bits a second, with eight lanes or, if it is sensitive, with the added ones, too.
     Bell202 { sensitive: bool },
-    /// For short wave at 300 bits a second.
-    ShortWave,
+    /// For short wave at 300 bits a second, with 32 lanes or, if it is sensitive, with the added ones, too.
+    ShortWave { sensitive: bool },
     /// For Bell 202 with eight lanes that read blocks of FX.25, too.
     Fx25,
 }
@@ -21,6 +21,6 @@ pub fn readers_wanted(listening: Listening) -> u8
 {
     match listening {
         Listening::Bell202 { sensitive } => ring_receiver::readers_wanted(sensitive),
-        Listening::ShortWave | Listening::Fx25 => 1,
+        Listening::ShortWave { .. } | Listening::Fx25 => 1,
     }
 }

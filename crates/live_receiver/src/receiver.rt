@@ -55,13 +55,13 @@ impl LiveReceiver {
             (Listening::Bell202 { sensitive }, _) => Ok(LiveReceiver::Bell202(RingReceiver::new(
                 alloc, readers, detection, sensitive,
             )?)),
-            (Listening::ShortWave, Detection::Flags(flags)) => {
-                Ok(LiveReceiver::ShortWave(HfReceiver::new(alloc, readers, flags)?))
+            (Listening::ShortWave { sensitive }, Detection::Flags(flags)) => {
+                Ok(LiveReceiver::ShortWave(HfReceiver::new(alloc, readers, flags, sensitive)?))
             }
             (Listening::Fx25, Detection::Flags(flags)) => {
                 Ok(LiveReceiver::Fx25(Fx25RingReceiver::new(alloc, readers, flags)?))
             }
-            (Listening::ShortWave | Listening::Fx25, Detection::Tones) => unreachable!(),
+            (Listening::ShortWave { .. } | Listening::Fx25, Detection::Tones) => unreachable!(),
         }
     }
 
@@ -103,7 +103,7 @@ impl LiveReceiver {
         }
     }
 
-    /// Whether another station is heard: one of the eight lanes of Bell 202, or a lane of short wave, hears it since its
+    /// Whether another station is heard: one of the eight lanes of Bell 202, or of the 32 of short wave, hears it since its
     /// last gap. Where blocks are read, the channel is busy while one comes in, too.
     pub fn busy(&self) -> bool
         ensures { (len : ℕ) → LanesListen len self.now

@@ -125,10 +125,11 @@ asked_by_flags None dcd h = (3, h, omega arith, omega arith)
 asked_by_flags (Some text) ByTones h = absurd h
 asked_by_flags (Some text) (ByFlags count) h = (count, refl, (let least = h.1 in omega arith), h.2)
 
-asked_on_wave : (text : Option (List ℕ)) (dcd : Dcd) → HasDcd true text dcd → CanBeAskedBy ShortWave (detection_of dcd)
-asked_on_wave text dcd h =
+asked_on_wave : (sensitive : Bool) (text : Option (List ℕ)) (dcd : Dcd) → HasDcd true text dcd
+    → CanBeAskedBy (ShortWave sensitive) (detection_of dcd)
+asked_on_wave sensitive text dcd h =
     let by = asked_by_flags text dcd h in
-    subst (λ d. CanBeAskedBy ShortWave (detection_of d)) (sym by.1) (by.2, by.3)
+    subst (λ d. CanBeAskedBy (ShortWave sensitive) (detection_of d)) (sym by.1) (by.2, by.3)
 
 asked_of_blocks : (text : Option (List ℕ)) (dcd : Dcd) → HasDcd true text dcd → CanBeAskedBy Fx25 (detection_of dcd)
 asked_of_blocks text dcd h =
@@ -140,11 +141,11 @@ can_be_asked : (hf sensitive : Bool) (checks text : Option (List ℕ)) (dcd : Dc
     → CanBeAskedBy (listening_of modem) (detection_of dcd)
 can_be_asked hf sensitive None text dcd (OfBell202 more) h is =
     asked_plainly text dcd (subst (λ b. HasDcd (b || false) text dcd) is.0 h)
-can_be_asked hf sensitive None text dcd OfShortWave h is =
-    asked_on_wave text dcd (subst (λ b. HasDcd (b || false) text dcd) is.0 h)
+can_be_asked hf sensitive None text dcd (OfShortWave more) h is =
+    asked_on_wave more text dcd (subst (λ b. HasDcd (b || false) text dcd) is.0 h)
 can_be_asked hf sensitive None text dcd (OfFx25 more) h is = absurd is
 can_be_asked hf sensitive (Some checks) text dcd (OfBell202 more) h is = absurd is
-can_be_asked hf sensitive (Some checks) text dcd OfShortWave h is = absurd is
+can_be_asked hf sensitive (Some checks) text dcd (OfShortWave more) h is = absurd is
 can_be_asked hf sensitive (Some checks) text dcd (OfFx25 more) h is =
     asked_of_blocks text dcd (subst (λ b. HasDcd (b || true) text dcd) is.0 h)
 

@@ -46,7 +46,7 @@ detection_of (ByFlags count) = Flags count
 -- how a station of a modem listens, and by what it sends
 abbrev pub listening_of : StationModem → Listening
 listening_of (OfBell202 sensitive) = Bell202 sensitive
-listening_of OfShortWave = ShortWave
+listening_of (OfShortWave sensitive) = ShortWave sensitive
 listening_of (OfFx25 checks) = Fx25
 
 abbrev pub octets_sent : CheckOctets → ChannelOctets
@@ -56,7 +56,7 @@ octets_sent SixtyFour = ChannelSixtyFour
 
 abbrev pub sending_of : StationModem → Modem
 sending_of (OfBell202 sensitive) = SendsBell202
-sending_of OfShortWave = SendsShortWave
+sending_of (OfShortWave sensitive) = SendsShortWave
 sending_of (OfFx25 None) = SendsBell202
 sending_of (OfFx25 (Some checks)) = SendsFx25 (octets_sent checks)
 

@@ -171,7 +171,7 @@ fn listening(modem: StationModem) -> Listening
 {
     match modem {
         StationModem::Bell202 { sensitive } => Listening::Bell202 { sensitive },
-        StationModem::ShortWave => Listening::ShortWave,
+        StationModem::ShortWave { sensitive } => Listening::ShortWave { sensitive },
         StationModem::Fx25 { .. } => Listening::Fx25,
     }
 }
@@ -195,7 +195,7 @@ fn sending(modem: StationModem) -> Modem
         StationModem::Fx25 {
             checks: Some(checks),
         } => Modem::Fx25(octets_sent(checks)),
-        StationModem::ShortWave => Modem::ShortWave,
+        StationModem::ShortWave { .. } => Modem::ShortWave,
     }
 }
 

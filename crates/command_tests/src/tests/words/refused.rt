@@ -233,7 +233,6 @@ x
 --ptt 4532 --ptt-data=true
 --hf=true
 --hf --hf
---hf --sensitive
 --hf --dcd tones
 --hf --dcd 1
 --hf --dcd 9

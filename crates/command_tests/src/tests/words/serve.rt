@@ -151,8 +151,12 @@ fn serve_takes_what_its_station_does(rt: HostRuntime) -> Result<(), Fail> {
     let hf = ServeOptions {
         params: Params { t1: 600, ..PARAMS },
         dcd: Dcd::Flags(3),
-        modem: StationModem::ShortWave,
+        modem: StationModem::ShortWave { sensitive: false },
         ..SERVE
+    };
+    let sensitive_hf = ServeOptions {
+        modem: StationModem::ShortWave { sensitive: true },
+        ..hf
     };
     let fx25 = ServeOptions {
         dcd: Dcd::Flags(3),
@@ -224,6 +228,7 @@ fn serve_takes_what_its_station_does(rt: HostRuntime) -> Result<(), Fail> {
             },
         ),
         ("--hf", hf),
+        ("--hf --sensitive", sensitive_hf),
         (
             "--t1 200 --hf --dcd=2",
             ServeOptions {
