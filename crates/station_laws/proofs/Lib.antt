@@ -32,6 +32,8 @@ pub mod OwnerLemmas
 pub mod HostsStand
 mod Pieces
 mod Beside
+mod OwnCounts
+mod OwnRoom
 mod Answering
 mod Waits
 mod AnswerRuns

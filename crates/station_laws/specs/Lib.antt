@@ -13,6 +13,7 @@ pub mod StationsLaw
 pub mod Owners
 pub mod ProgramsTold
 pub mod FramesTold
+pub mod OwnRoom
 pub mod AnswersOverRuns
 pub mod LinksTell
 pub mod RunsTell
