@@ -110,7 +110,7 @@ pub use Rattle.station.specs.Routes.{Route, behind_repeaters, path_along, repeat
 pub use Rattle.station.specs.State.{StationState, new_station, usual_config}
 unfoldable pub use Rattle.station.specs.Ticks.{ticking_links}
 pub use Rattle.station.specs.Ticks.{asked_links, t1_stands, ticking, ticking_at, waits}
-pub use Rattle.station.specs.Turn.{Act, Out, Turn, changing, closing, dropping, entering, entering_for}
+pub use Rattle.station.specs.Turn.{Act, Out, Turn, capacity, changing, closing, dropping, entering, entering_for}
 pub use Rattle.station.specs.Turn.{in_order, queueing, queueing_for, queueing_own, may_enter}
 pub use Rattle.station.specs.declared.asker.Asker.{Asker}
 pub use Rattle.station.specs.declared.config.Config.{Config}

@@ -34,6 +34,7 @@ mod Pieces
 mod Beside
 mod OwnCounts
 mod OwnRoom
+mod OneFrameEnds
 mod Answering
 mod Waits
 mod AnswerRuns
