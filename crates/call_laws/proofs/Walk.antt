@@ -23,7 +23,7 @@ use Rattle.station_laws.proofs.Common.{new_items, taking, ending, AreTaken, AreT
 use Rattle.station_laws.proofs.Common.{with_param, heeding, heeding_all, leaving, is_between, key_between, making}
 use Rattle.station_laws.proofs.Common.{idle_link, no_layer_3, registrar, may_register, is_number, Route, route_in}
 use Rattle.station_laws.proofs.Common.{repeaters_in, behind_repeaters, path_along, asked_links, Out, Turn, Act}
-use Rattle.station_laws.proofs.Common.{in_order, changing, closing, queueing, dropping, may_enter, Input}
+use Rattle.station_laws.proofs.Common.{in_order, changing, closing, dropping, may_enter, Input}
 use Rattle.station_laws.proofs.Common.{IsTurn, FromHost, OffAir, OfClock, LinkStep, tick_steps, leaving_steps}
 use Rattle.station_laws.proofs.Common.{made_steps, call_steps, data_steps, disconnect_steps, else_steps, answer_steps}
 use Rattle.station_laws.proofs.Common.{message_steps, ending_steps, octet_steps_by, octet_steps, host_steps, hears_at}

@@ -1,7 +1,7 @@
 -- Each step of A's station in a bench keeps one key for all frames that wait there, and few wait while its link calls
 -- modulo 128. Each SABM, SABME and DISC of the link that is not up finds room, if it does not wish to disconnect while
 -- it is idle or calls.
-use Rattle.channel_bench.proofs.Common.{◌≡◌, ℕ, ◌<◌, Bool, true, false, nat_lt, List, [], ◌∷◌, length, drop, cond}
+use Rattle.channel_bench.proofs.Common.{◌≡◌, ℕ, ◌<◌, Bool, true, false, List, [], ◌∷◌, length, drop, cond}
 use Rattle.channel_bench.proofs.Common.{Option, Some, None, refl, sym, ap, ◌∙◌, subst, arith, inl, inr, ⊤}
 use Rattle.channel_bench.proofs.Common.{range_with_len, list_any, call_field, spelling, AgwMessage, after_rules}
 use Rattle.channel_bench.proofs.Common.{air_waiting, OnAir, bits_then, decided, names_next, WaitingFrame, A}

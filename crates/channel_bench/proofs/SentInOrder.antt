@@ -1,6 +1,6 @@
 -- In a run of the bench nothing but the frames of links joins a transmit queue, and a station sends them in the order
 -- in which they joined it.
-use Rattle.channel_bench.proofs.Common.{◌≡◌, ℕ, ◌≤◌, Bool, true, false, List, [], ◌∷◌, ◌++◌, length, map, cond, nat_lt}
+use Rattle.channel_bench.proofs.Common.{◌≡◌, ℕ, ◌≤◌, Bool, true, false, List, [], ◌∷◌, ◌++◌, length, map, cond}
 use Rattle.channel_bench.proofs.Common.{Option, Some, None, refl, sym, ap, ◌∙◌, subst, arith, append-nil, append_assoc}
 use Rattle.channel_bench.proofs.Common.{map-append, call_field, spelling, AgwMessage, Sent, End, A, B, PortKind, Kiss}
 use Rattle.channel_bench.proofs.Common.{Agw, register_kind, connect_kind, data_kind, disconnect_kind, IsAnswered}

@@ -1,6 +1,6 @@
 -- What holds of each connection that joins, by its id and its kind, holds of all connections of a station: nothing else
 -- makes one. And a step closes none but such.
-use Rattle.station_laws.proofs.Common.{◌≡◌, ℕ, ◌==◌, ◌&&◌, Bool, true, false, not, nat_lt, nat_le, List, [], ◌∷◌, ◌++◌, length}
+use Rattle.station_laws.proofs.Common.{◌≡◌, ℕ, ◌==◌, ◌&&◌, Bool, true, false, not, nat_le, List, [], ◌∷◌, ◌++◌, length}
 use Rattle.station_laws.proofs.Common.{if◌then◌else◌, map, cond, drop, Option, Some, None, is_some, refl, sym, subst, MatchBool, each_append}
 use Rattle.station_laws.proofs.Common.{range_with_len, Command, way_back, Eight, repeated, has_frame_length, bad_length_in}
 use Rattle.station_laws.proofs.Common.{AgwMessage, Callsign, KissItem, Hardware, Return, Set, TooLong, Connect, Disconnect}

@@ -1,6 +1,6 @@
 -- The answers for the frames of a connection over a whole run: step by step, what asks, what is named as sent, what is
 -- told, and what still waits.
-use Rattle.station_laws.proofs.Common.{◌≡◌, ◌≢◌, ℕ, ◌==◌, ◌&&◌, Bool, true, false, nat_lt, List, [], ◌∷◌, ◌++◌, length}
+use Rattle.station_laws.proofs.Common.{◌≡◌, ◌≢◌, ℕ, ◌==◌, ◌&&◌, Bool, true, false, List, [], ◌∷◌, ◌++◌, length}
 use Rattle.station_laws.proofs.Common.{cond, if◌then◌else◌, Option, Some, None, is_some, refl, sym, ap, ◌∙◌, subst, ⊤}
 use Rattle.station_laws.proofs.Common.{append-nil, append_assoc, eqb-true, eq-eqb, false≢true, inl, inr}
 use Rattle.station_laws.proofs.Common.{way_back, Command, KissItem, Set, Hardware, Return, TooLong, repeated}

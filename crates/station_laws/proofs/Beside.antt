@@ -1,5 +1,5 @@
 -- Beside each frame that waits stands who wants to be told of it, and whose it is, act by act and over whole runs.
-use Rattle.station_laws.proofs.Common.{◌≡◌, ℕ, ◌+◌, ◌-◌, ◌*◌, Bool, true, false, nat_lt, List, [], ◌∷◌, length}
+use Rattle.station_laws.proofs.Common.{◌≡◌, ℕ, ◌+◌, ◌-◌, ◌*◌, Bool, true, false, List, [], ◌∷◌, length}
 use Rattle.station_laws.proofs.Common.{drop, cond, Option, Some, None, is_none, is_some, refl, sym, ap, ◌∙◌, subst}
 use Rattle.station_laws.proofs.Common.{arith, length-append, Callsign, way_back, Command, Frame, SentFrame, Told}
 use Rattle.station_laws.proofs.Common.{Event, step, done_of, End, A, B, settled_link, with_links, telling_one}

@@ -1,5 +1,5 @@
 -- The connections that a step closes: links close none, one that is shut is closed, and those that were closed stay so.
-use Rattle.station_laws.proofs.Common.{◌≡◌, ℕ, Bool, true, false, nat_lt, List, [], ◌∷◌, ◌++◌, length, map, cond, Option}
+use Rattle.station_laws.proofs.Common.{◌≡◌, ℕ, Bool, true, false, List, [], ◌∷◌, ◌++◌, length, map, cond, Option}
 use Rattle.station_laws.proofs.Common.{Some, None, refl, sym, ap, ◌∙◌, append-nil, append_assoc, Callsign, SentFrame}
 use Rattle.station_laws.proofs.Common.{Told, Event, Connect, step, done_of, settled_link, with_links, telling_one}
 use Rattle.station_laws.proofs.Common.{telling_to, queueing_frame, queueing_frames, event_at, event_of, Link, link_at}

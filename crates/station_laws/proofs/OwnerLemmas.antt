@@ -1,5 +1,5 @@
 -- What an event of a link sends to hosts.
-use Rattle.station_laws.proofs.Common.{◌≡◌, ℕ, Bool, true, false, nat_lt, List, [], ◌∷◌, ◌++◌, length, cond, Option}
+use Rattle.station_laws.proofs.Common.{◌≡◌, ℕ, Bool, true, false, List, [], ◌∷◌, ◌++◌, length, cond, Option}
 use Rattle.station_laws.proofs.Common.{Some, None, refl, sym, ap, ◌∙◌, append-nil, append_assoc, Callsign, SentFrame}
 use Rattle.station_laws.proofs.Common.{Told, step, done_of, settled_link, with_links, telling_one, telling_to}
 use Rattle.station_laws.proofs.Common.{queueing_frame, queueing_frames, event_of, Turn, changing, queueing, queueing_for}

@@ -1,6 +1,6 @@
 -- A station's step as its single acts, and the events of links among them: what holds along each act holds along all
 -- that comes from a host program, and along a tick of the links, one of which is then perhaps asked for a frame.
-use Rattle.station_laws.proofs.Common.{◌≡◌, ℕ, ◌==◌, ◌||◌, Bool, true, false, nat_le, nat_lt, List, [], ◌∷◌, ◌++◌}
+use Rattle.station_laws.proofs.Common.{◌≡◌, ℕ, ◌==◌, ◌||◌, Bool, true, false, nat_le, List, [], ◌∷◌, ◌++◌}
 use Rattle.station_laws.proofs.Common.{length, map, drop, cond, if◌then◌else◌, Option, Some, None, is_some, refl, sym}
 use Rattle.station_laws.proofs.Common.{ap, ◌∙◌, subst, ⊤, MatchBool, range_with_len, cond-false, eqb-true, Callsign}
 use Rattle.station_laws.proofs.Common.{append-nil, loser, loser_steps, passing, passing_steps, shut_steps, shutting}

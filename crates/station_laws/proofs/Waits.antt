@@ -1,11 +1,11 @@
 -- The answers for the frames of a connection that wait: what host programs, links and heard frames leave of them.
-use Rattle.station_laws.proofs.Common.{◌≡◌, ◌≢◌, ℕ, ◌==◌, Bool, true, false, not, nat_lt, List, [], ◌∷◌, ◌++◌}
+use Rattle.station_laws.proofs.Common.{◌≡◌, ◌≢◌, ℕ, ◌==◌, Bool, true, false, not, List, [], ◌∷◌, ◌++◌}
 use Rattle.station_laws.proofs.Common.{length, cond, Option, Some, None, is_some, refl, sym, ap, ◌∙◌}
 use Rattle.station_laws.proofs.Common.{append-nil, append_assoc, eqb-true, false≢true, cases_eq, inl, inr}
 use Rattle.station_laws.proofs.Common.{Callsign, SentFrame, Told, frame_octets, Event, step, done_of, settled_link, with_links}
 use Rattle.station_laws.proofs.Common.{telling_one, telling_to, queueing_frame, queueing_frames, event_at, event_of}
 use Rattle.station_laws.proofs.Common.{Link, link_at, making, path_along, called_pid, Turn, changing, closing}
-use Rattle.station_laws.proofs.Common.{queueing, queueing_for, queueing_own, entering_for, dropping, may_enter, Asker, StationState}
+use Rattle.station_laws.proofs.Common.{queueing_for, queueing_own, entering_for, dropping, may_enter, Asker, StationState}
 use Rattle.station_laws.proofs.Common.{Connection, connection_of, LinkStep}
 use Rattle.std.proofs.lemmas.Bool.{false_from_ne_true}
 use Rattle.link_machine.specs.Event.Event.{Connect as LinkConnect}

@@ -1,5 +1,5 @@
 -- What a KISS host is told of its frames over a whole run (command 12, ACKMODE), from when it joins.
-use Rattle.std.specs.Prelude.{◌≡◌, ℕ, ◌==◌, nat_lt, ◌&&◌, if◌then◌else◌, List, [], ◌∷◌, ◌++◌, length, Option, Some, None}
+use Rattle.std.specs.Prelude.{◌≡◌, ℕ, ◌==◌, ◌&&◌, if◌then◌else◌, List, [], ◌∷◌, ◌++◌, length, Option, Some, None}
 use Rattle.std.specs.List.{flat_map}
 use Rattle.hdlc_framer.specs.FrameLength.{has_frame_length}
 use Rattle.kiss_port.specs.declared.item.KissItem.{KissItem}

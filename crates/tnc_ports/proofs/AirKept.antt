@@ -1,6 +1,6 @@
 -- Nothing but a tick begins or ends a transmission: no event of a host program, and no frame that is heard.
 use Rattle.std.proofs.Common.{◌≡◌, ℕ, List, [], ◌∷◌, refl, ap, inl, inr, ◌∙◌}
-use Rattle.std.specs.Prelude.{◌==◌, ◌++◌, length, nat_le, nat_lt, Bool, true, false, if◌then◌else◌, is_some, map}
+use Rattle.std.specs.Prelude.{◌==◌, ◌++◌, length, nat_le, Bool, true, false, if◌then◌else◌, is_some, map}
 use Rattle.std.specs.Prelude.{Option, Some, None, MatchBool, drop}
 use Rattle.std.specs.List.{range_with_len}
 use Rattle.ax25_address.specs.Callsign.{Callsign}
@@ -48,7 +48,7 @@ use Rattle.station.specs.Passing.{loser, passing, shutting_loser}
 use Rattle.station.specs.Registrations.{is_number, may_register, registrar}
 use Rattle.station.specs.Routes.{Route, behind_repeaters, path_along, repeaters_in, route_in}
 use Rattle.station.specs.State.{StationState}
-use Rattle.station.specs.Turn.{Turn, Act, changing, closing, in_order, nothing, queueing_for, queueing_own}
+use Rattle.station.specs.Turn.{Turn, Act, changing, closing, in_order, nothing, queueing, queueing_for, queueing_own}
 use Rattle.station.specs.declared.asker.Asker.{Asker}
 use Rattle.station.specs.declared.host_event.HostEvent.{HostEvent}
 use Rattle.station.specs.declared.host_event.HostEvent.TheVariants.{Joined, Bytes, Left}
@@ -284,7 +284,8 @@ repeated_keeps : (digi : Option Callsign) (octets : List ℕ) (before after : Tu
     → IsRepeatedFor digi octets before after → Same before after
 repeated_keeps None octets before after is = ap air_in is
 repeated_keeps (Some call) octets before after (inl (k, turn, is)) =
-    same_as before after (queueing None (repeated octets k) before) is (queue_keeps None (repeated octets k) before)
+    same_as before after (queueing None (repeated octets k) before) is
+    (queue_keeps None None (repeated octets k) before)
 repeated_keeps (Some call) octets before after (inr (none, is)) = ap air_in is
 
 anew_keeps : (owner : Option ℕ) (frame : Frame) (before after : Turn) → IsHeardAnew owner frame before after

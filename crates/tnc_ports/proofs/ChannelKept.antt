@@ -1,7 +1,7 @@
 -- The links' part of a tick leaves of the channel as it was what frames that join its queue leave so, such as its
 -- parameters and the transmission under way.
 use Rattle.std.proofs.Common.{◌≡◌, ℕ, List, [], ◌∷◌, length, refl, ◌∙◌}
-use Rattle.std.specs.Prelude.{Bool, true, false, if◌then◌else◌, nat_lt, map, Option, Some, None}
+use Rattle.std.specs.Prelude.{Bool, true, false, if◌then◌else◌, map, Option, Some, None}
 use Rattle.std.specs.List.{range_with_len}
 use Rattle.ax25_address.specs.Callsign.{Callsign}
 use Rattle.channel_access.specs.Channel.{Channel, with_frame}
