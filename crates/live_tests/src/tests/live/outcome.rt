@@ -51,13 +51,13 @@ pub(super) fn words(monitor: bool, listening: Listening) -> ServeWords
     }
 }
 
-/// By what the channel is busy: by tones, or on short wave by three flags in a row.
+/// By what the channel is busy: by tones, or on short wave, and where blocks are read, by three flags in a row.
 fn dcd(listening: Listening) -> Detection
     ensures { CanBeAskedBy listening result }
 {
     match listening {
         Listening::Bell202 { .. } => Detection::Tones,
-        Listening::ShortWave { .. } => Detection::Flags(3),
+        Listening::ShortWave { .. } | Listening::Fx25 => Detection::Flags(3),
     }
 }
 

@@ -1,10 +1,12 @@
 //! A live station over memory, from its first poll to the end of its input.
 
-use super::outcome::{ALL, ALL_SHORT_WAVE, EIGHT, Failing, NONE, Outcome, SHORT_WAVE};
-use super::outcome::{served, served_by, silence};
+use super::outcome::{
+    ALL, ALL_SHORT_WAVE, EIGHT, Failing, NONE, Outcome, SHORT_WAVE, served, served_by, silence,
+};
 use super::script::Script;
 use crate::assertions::assert_equal;
 use afsk_modulator::transmission;
+use fx25_sender::fx25_transmission;
 use hf_sender::hf_transmission;
 use host_ports::MemPorts;
 use key_port::MemKeyPort;
@@ -106,7 +108,7 @@ const MISSED: &[(Listening, usize, &[u8])] = &[
     (EIGHT, 8 * 4464, b"gap 7 4463 4464\n"),
     (ALL, 9 * 4464, b"gap 8 4463 4464\n"),
     (SHORT_WAVE, 4464, b"gap 0 4463 4464\n"),
-    (ALL_SHORT_WAVE, 4464, b"gap 0 4463 4464\n"),
+    (Listening::Fx25, 4464, b"gap 0 4463 4464\n"),
 ];
 
 /// Ends the test unless the report has a line for each missed sample, and all of the rest comes out.
@@ -119,7 +121,7 @@ fn assert_gaps<R: Abort>(rt: &R, served: &Outcome, gaps: usize, last: &[u8]) {
 }
 
 // The ring keeps 65,536 samples, so each reader misses the first 4464 one by one. The added lanes share the ninth; the
-// lanes of short wave have one.
+// lanes of short wave have one, and so have those that read blocks.
 #[test]
 fn overwritten_samples_are_reported(rt: HostRuntime) -> Result<(), Fail> {
     let alloc = rt.alloc();
@@ -135,11 +137,18 @@ fn overwritten_samples_are_reported(rt: HostRuntime) -> Result<(), Fail> {
 /// SABM with P from N7LEM to NJ7P.
 const SABM: &[u8] = b"\x9c\x94\x6e\xa0\x40\x40\xe0\x9c\x6e\x98\x8a\x9a\x40\x61\x3f";
 
-/// The sound of frames, for a station that listens so.
+/// The sound of frames, for a station that listens so. Of frames in blocks 400 samples are lost.
 fn sound(alloc: Global, listening: Listening, frames: &[Octets]) -> Result<Vec<i16>, Fail> {
     match listening {
         Listening::Bell202 { .. } => Ok(transmission(alloc, frames, 2, 1)?),
         Listening::ShortWave { .. } => Ok(hf_transmission(alloc, 10_000, frames, 2, 1)?),
+        Listening::Fx25 => {
+            let mut samples = fx25_transmission(alloc, 16, 10_000, frames, 2, 1)?;
+            for sample in samples.iter_mut().skip(960).take(400) {
+                *sample = 0;
+            }
+            Ok(samples)
+        }
     }
 }
 
@@ -200,12 +209,14 @@ fn assert_told<R: Abort>(rt: &R, alloc: Global, live: &MemLive) -> Result<(), Fa
     Ok(())
 }
 
-/// Each row: how it listens, and how many ticks are made: a bit lasts 8 samples, or 32 on short wave.
+/// Each row: how it listens, and how many ticks are made: a bit lasts 8 samples, or 32 on short wave, and a block with its
+/// tag has 448 bits.
 const CALLED: &[(Listening, usize)] = &[
     (EIGHT, 213),
     (ALL, 213),
     (SHORT_WAVE, 254),
     (ALL_SHORT_WAVE, 254),
+    (Listening::Fx25, 239),
 ];
 
 // Whichever lanes listen, they hear the call, and it is told once.
@@ -224,37 +235,6 @@ fn a_call_is_heard_and_told(rt: HostRuntime) -> Result<(), Fail> {
         let report = b"rx N7LEM>NJ7P SABM cmd f=1\n".as_slice();
         assert_equal(&rt, &served.report.as_slice(), &report);
         assert_told(&rt, alloc, &live)?;
-    }
-    Ok(())
-}
-
-/// 70,000 samples of silence, and then SABM on short wave from a sender whose clock is fast by a hundredth.
-fn a_hurried_call(alloc: Global) -> Result<Vec<u8>, Fail> {
-    let mut input = silence(alloc, 70_000)?;
-    let mut frames = Vec::new(alloc);
-    frames.push(Octets::from_slice(alloc, SABM)?)?;
-    let sound = hf_transmission(alloc, 10_000, &frames, 8, 3)?;
-    for (place, sample) in sound.into_iter().enumerate() {
-        if place % 100 != 99 {
-            input.extend_from_slice(&sample.to_le_bytes())?;
-        }
-    }
-    Ok(input)
-}
-
-/// Each row: how it listens, and whether it hears such a call.
-const HURRIED: &[(Listening, bool)] = &[(SHORT_WAVE, false), (ALL_SHORT_WAVE, true)];
-
-// The readers miss the first samples, and hear the call in the stretch after these.
-#[test]
-fn all_lanes_of_short_wave_hear_a_hurried_call_after_a_gap(rt: HostRuntime) -> Result<(), Fail> {
-    let alloc = rt.alloc();
-    for (listening, heard) in HURRIED {
-        let input = a_hurried_call(alloc)?;
-        let mut live = no_hosts(alloc)?;
-        let served = served_by(&rt, alloc, *listening, input, NONE, &mut live)?;
-        let hears = served.report.ends_with(b"\nrx N7LEM>NJ7P SABM cmd f=1\n");
-        assert_equal(&rt, &(*listening, hears), &(*listening, *heard));
     }
     Ok(())
 }
