@@ -4,7 +4,7 @@ use Rattle.station_laws.proofs.Common.{Some, None, is_some, refl, sym, ap, ◌�
 use Rattle.station_laws.proofs.Common.{Callsign, way_back, Command, Frame, Told, AgwMessage, repeated, PortKind, Kiss}
 use Rattle.station_laws.proofs.Common.{Agw, called_pid, Connection, with_shown, shown_to_hosts, showing_to}
 use Rattle.station_laws.proofs.Common.{source_field, destination_field, event_of, event_at, Link, link_at, making}
-use Rattle.station_laws.proofs.Common.{asked_links, no_layer_3, path_along, Out, Turn, in_order, queueing_for, Asker}
+use Rattle.station_laws.proofs.Common.{asked_links, no_layer_3, path_along, Out, Turn, in_order, queueing_own, Asker}
 use Rattle.station_laws.proofs.Common.{Input, IsTurn, FromHost, OffAir, OfClock, LinkStep, Choice, heard_steps}
 use Rattle.station_laws.proofs.Common.{pieces_to}
 use Rattle.std.specs.Prelude.{filter}
@@ -78,9 +78,9 @@ event_silent id key event turn = go (link_at key turn.now.links) refl
         ∙ silent_more id turn.out.pieces (pieces_to link.owner link.local link.remote told)
         (told_silent id link.owner link.local link.remote told)
 
-queued_silent : (id : ℕ) (asker : Option Asker) (octets : List ℕ) (turn : Turn)
-    → Silent id turn [] (queueing_for asker None octets turn)
-queued_silent id asker octets turn = ap (answers_to id) (queued_pieces_for asker None octets turn)
+queued_silent : (id host : ℕ) (asker : Option Asker) (octets : List ℕ) (turn : Turn)
+    → Silent id turn [] (queueing_own host asker octets turn)
+queued_silent id host asker octets turn = ap (answers_to id) (queued_pieces_for (Some host) asker None octets turn)
 
 -- ---- what comes from host programs
 

@@ -6,7 +6,7 @@ use Rattle.station_laws.proofs.Common.{Info, Super, Setup, Ui, AgwMessage, repea
 use Rattle.station_laws.proofs.Common.{replying, called_pid, Connection, with_shown, shown_to_hosts, showing_to}
 use Rattle.station_laws.proofs.Common.{source_field, destination_field, event_of, event_at, Link, link_at, making}
 use Rattle.station_laws.proofs.Common.{asked_links, changing, no_layer_3, path_along, with_asked, Out, Turn, in_order}
-use Rattle.station_laws.proofs.Common.{queueing_for, Asker, Input}
+use Rattle.station_laws.proofs.Common.{queueing_own, Asker, Input}
 use Rattle.station_laws.proofs.Common.{IsTurn, FromHost, OffAir, OfClock, LinkStep, steps_for, steps_at, tick_steps}
 use Rattle.station_laws.proofs.Common.{heard_steps, turn_steps, pieces_to, Choice}
 use Rattle.std.specs.Prelude.{filter, flat_map}
@@ -121,11 +121,11 @@ reply_told id host message turn other =
     (and_right (host == id) (is_data (spelling message))
     (ap (λ k. (k == connect_kind) || (k == data_kind)) (reply_kind message) ∙ other)))
 
-queueing_tells : (id : ℕ) (asker : Option Asker) (octets : List ℕ) (turn : Turn)
-    → Tells id turn [] (queueing_for asker None octets turn)
-queueing_tells id asker octets turn =
-    nothing_told id turn (queueing_for asker None octets turn)
-    (ap (of_links id) (queued_pieces_for asker None octets turn))
+queueing_tells : (id host : ℕ) (asker : Option Asker) (octets : List ℕ) (turn : Turn)
+    → Tells id turn [] (queueing_own host asker octets turn)
+queueing_tells id host asker octets turn =
+    nothing_told id turn (queueing_own host asker octets turn)
+    (ap (of_links id) (queued_pieces_for (Some host) asker None octets turn))
 
 -- ---- what comes from host programs
 

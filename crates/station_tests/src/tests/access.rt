@@ -130,11 +130,11 @@ fn a_frame_goes_out_in_a_block(rt: HostRuntime) -> Result<(), Fail> {
 }
 
 #[test]
-fn the_257th_frame_is_handed_back(rt: HostRuntime) -> Result<(), Fail> {
-    let mut access = access(rt.alloc(), 1, 256)?;
+fn the_513th_frame_is_handed_back(rt: HostRuntime) -> Result<(), Fail> {
+    let mut access = access(rt.alloc(), 1, 512)?;
     let back = access.queue(None, shortest(rt.alloc())?).err();
     let len = back.map(|octets| octets.len());
-    assert_equal(&rt, &(len, access.len()), &(Some(15), 256));
+    assert_equal(&rt, &(len, access.len()), &(Some(15), 512));
     Ok(())
 }
 
