@@ -541,6 +541,22 @@ def is_flooded(tnc):
     world.end(closed=1)
 
 
+def keeps_nobody_waiting(tnc):
+    """A host that sends raw frames without end waits alone: another one that asks 20 times a second is answered at once."""
+    world = World(tnc)
+    good, bad = world.client(0), world.kiss(0)
+    frames = (b"\xc0\0" + ui_frame("NOISE", "ALL", b"without end") + b"\xc0") * 100
+    for _ in range(100):
+        try:
+            bad.socket.send(frames)
+        except BlockingIOError:
+            pass
+        good.send("R")
+        world.go(3)
+        same([it.body for it in good.take("R")], [little(1, 8)])
+    world.end()
+
+
 def speaks_kiss(tnc):
     """KISS: frames both ways, each once, with the octets that are written as two; other ports and commands are passed over."""
     world = World(tnc)
@@ -598,7 +614,8 @@ def repeats(tnc):
 
 OWN = [
     answers, settings, registers, sends_unproto, raw_frames, monitors, carries, connects_with_pid, connects_by_repeater,
-    refuses_calls, has_links_for_64, is_refused_by_nobody, takes_pieces, closes, has_room_for_64, is_flooded, speaks_kiss,
+    refuses_calls, has_links_for_64, is_refused_by_nobody, takes_pieces, closes, has_room_for_64, is_flooded,
+    keeps_nobody_waiting, speaks_kiss,
     tells_of_sent_frames, lists_stations, repeats,
 ]
 

@@ -13,9 +13,9 @@ end both stations must end with status 0, and must have reported nothing but con
 one line and ends with status 0 if all is well. The seed tells what is said; how fast the sockets are tells in which
 tick.
 
-A KISS host sets the channel for all: with a persistence near 0 the station hardly ever sends, and while a hundred frames wait it
-hears no host, so none can overrule that one. If a wait is given up in which the station sent next to nothing, and a random
-host had asked for such a persistence since the last calm, that is counted as a stilled channel, and two new stations begin.
+A KISS host sets the channel for all: with a persistence of 0 the station hardly ever sends. Each storm ends with a host that asks
+for that and then floods the station with frames. The calm must hold all the same: each host waits for frames of its own
+alone, so a sane one can set the channel back.
 """
 import argparse
 import random
@@ -26,8 +26,8 @@ import time
 from air import Agw, Air, Kiss, Station
 
 PATIENCE = 300  # seconds: the longest wait for one thing
-STILL = 8  # a persistence below this stills the channel: fewer than one draw in 32 begins a transmission
-FEW = 5  # transmissions in a wait that is given up, if the channel is stilled
+SETTLED = 200  # steps after which the channel is set back again
+FLOOD = 20  # frames of the host that stills the channel
 MOST = 4000  # octets of a host in a storm: what a host sends while the station takes nothing waits in its socket
 CALLS = ["AAAA", "BBBB", "CCCC-7", "RAND", "RAND-15", "NOCALL-16", "a b", "", "ABCDEFGHIJ"]
 KINDS = b"RGgXxkKMVCvcDdYyPmHz\x00\xff"
@@ -123,23 +123,10 @@ class Words:
         return self.draws.choice([*WEB, HANDSHAKE]) + (b"\xc0\0" + frame + b"\xc0") * 3
 
 
-class Stilled(Exception):
-    """A host has stilled the channel."""
-
-
-def persistences(octets):
-    """What a KISS stream sets the persistence to, one value after another."""
-    for part in octets.split(b"\xc0"):
-        plain = part.replace(b"\xdb\xdc", b"\xc0").replace(b"\xdb\xdd", b"\xdb")
-        if len(plain) > 1 and plain[0] & 15 == 2:
-            yield plain[1]
-
-
 class RandomHost:
     """A connection that says anything, and reads what it is sent, or does not."""
 
     def __init__(self, station, is_kiss, words, draws):
-        self.is_kiss, self.said = is_kiss, b""
         self.socket = station.connect(station.kiss if is_kiss else station.agw)
         self.socket.setblocking(False)
         self.words, self.draws = (words.kiss if is_kiss else words.agw), draws
@@ -147,8 +134,8 @@ class RandomHost:
         self.waiting, self.sent, self.most = b"", 0, MOST
         self.is_web = draws.randrange(10) == 0
         if self.is_web:
-            # it stays until it is closed, and nothing that it says counts
-            self.waiting, self.reads, self.is_kiss = words.web(is_kiss), True, False
+            # it stays until it is closed
+            self.waiting, self.reads = words.web(is_kiss), True
 
     def turn(self):
         """Says something and reads something. Tells whether the connection is still there."""
@@ -157,7 +144,6 @@ class RandomHost:
         piece = self.waiting[: min(self.draws.choice([1, 7, 36, 500, 2000]), self.most)]
         try:
             count = self.socket.send(piece)
-            self.said += self.waiting[:count] if self.is_kiss else b""
             self.waiting = self.waiting[count:]
             self.sent += count
             self.most -= count
@@ -181,7 +167,7 @@ class Storms:
     def __init__(self, given):
         self.given, self.draws = given, random.Random(given.seed)
         self.words = Words(self.draws)
-        self.joined = self.said = self.calms = self.stilled = self.closed = self.ticks = self.shut = 0
+        self.joined = self.said = self.calms = self.closed = self.ticks = self.shut = 0
         self.begin()
 
     def begin(self):
@@ -193,7 +179,7 @@ class Storms:
         self.air = Air(self.a, self.b, seed=given.seed)
         self.kiss_a, self.kiss_b = Kiss(self.a), Kiss(self.b)
         self.agw_a, self.agw_b = Agw(self.a, "SANEA"), Agw(self.b, "SANEB")
-        self.random_hosts, self.least = [], 255
+        self.random_hosts, self.still = [], None
 
     def end(self):
         """Ends both stations, and tells what was wrong with how they ended."""
@@ -229,7 +215,6 @@ class Storms:
                 if host.turn():
                     still.append(host)
                 else:
-                    self.note(host)
                     host.socket.close()
                     self.shut += host.is_web
                 self.said += host.sent - before
@@ -242,23 +227,34 @@ class Storms:
         if any(it[7:13] == FROM_WEB for it in self.kiss_b.frames()):
             raise RuntimeError("a frame of a program of the web was sent")
         self.kiss_a.input = self.kiss_b.input = b""
+        self.stills()
 
-    def note(self, host):
-        """Notes the least persistence that a host has asked for."""
-        self.least = min([self.least, *persistences(host.said)])
+    def stills(self):
+        """A host stills the channel and floods it."""
+        if self.still:
+            self.still.socket.close()
+        self.still = Kiss(self.a)
+        frame = bytes(ord(it) << 1 for it in "FLOOD0NOISE ") + b"\x61\x03\xf0without end"
+        try:
+            self.still.send(b"\0", 2)
+            for _ in range(FLOOD):
+                self.still.send(frame)
+        except OSError:
+            pass  # it is closed at once if hosts that have left leave no room for it
+        for _ in range(10):
+            self.step()
 
     def until(self, what, holds):
         """Lets the air go on until something holds."""
-        patience, sent = time.monotonic() + PATIENCE, self.air.from_a.sent_count
+        patience, steps = time.monotonic() + PATIENCE, 0
         while not holds():
             if time.monotonic() > patience:
-                for host in self.random_hosts:
-                    self.note(host)
-                sent = self.air.from_a.sent_count - sent
-                if self.least < STILL and sent < FEW:
-                    raise Stilled
-                raise RuntimeError(f"gave up waiting: {what}; {sent} transmissions, least persistence {self.least}")
+                raise RuntimeError(f"gave up waiting: {what}")
             self.step()
+            # what a random host had said before it was held back is heard later
+            steps += 1
+            if steps % SETTLED == 0:
+                self.settle()
 
     def answered(self, host, kind, to="", body=b"", pid=0):
         """The answer to a question."""
@@ -300,9 +296,6 @@ class Storms:
         self.tells_of_frames()
         self.until("each program of the web is closed", self.has_shut_the_web)
         self.calms += 1
-        self.least = 255
-        for host in self.random_hosts:
-            host.said = b""
 
     def tells_of_frames(self):
         """A KISS host is told of each of its frames once it has been sent, in order, and of no frame of another host."""
@@ -367,13 +360,8 @@ def main(words):
     fault = ""
     try:
         while not fault and time.monotonic() - began < given.seconds:
-            try:
-                storms.storm()
-                storms.calm()
-            except Stilled:
-                storms.stilled += 1
-                fault = storms.end()
-                storms.begin()
+            storms.storm()
+            storms.calm()
     except (RuntimeError, OSError) as error:
         fault = str(error) or repr(error)
     fault = fault or storms.end()
@@ -381,8 +369,8 @@ def main(words):
     print(
         f"{storms.said} octets of {storms.joined} random hosts, {storms.closed} of them closed by the station"
         f" ({storms.shut} programs of the web),"
-        f" in {took:.0f} s here and {storms.ticks / 100:.0f} s on the air; {storms.calms} calms,"
-        f" {storms.stilled} stilled channels; {fault or 'well'}"
+        f" in {took:.0f} s here and {storms.ticks / 100:.0f} s on the air; {storms.calms} calms;"
+        f" {fault or 'well'}"
     )
     return 1 if fault else 0
 

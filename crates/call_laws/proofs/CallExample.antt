@@ -25,11 +25,11 @@ use Rattle.ax25_address.specs.Callsign.{IsCall}
 use Rattle.ax25_address.specs.declared.path.Role.TheVariants.{Response}
 use Rattle.agwpe_port.specs.Messages.{message_of, spelling}
 use Rattle.agwpe_client.specs.CallRun.{CallPlan, call_run, printed_after}
+use Rattle.channel_access.specs.Modem.{body_by, piece}
 use Rattle.channel_access.specs.OnAir.{bits_of, flag_end, frames_end}
 use Rattle.channel_access.specs.declared.air_tick.Sent.{Sent}
 use Rattle.channel_access.specs.declared.parameters.Param.TheVariants.{FullDuplex, TxDelay}
 use Rattle.hdlc_framer.specs.BitOrder.{octet_bits}
-use Rattle.hdlc_framer.specs.Body.{body}
 use Rattle.hdlc_framer.specs.CheckSequence.{fcs_of}
 use Rattle.hdlc_framer.specs.Frames.{frame_bits, with_fcs}
 use Rattle.kiss_port.specs.Items.{items_in}
@@ -392,7 +392,7 @@ ticks_of (suc count) s silent = tick s silent.0 ∷ ticks_of count (next s) sile
 
 -- the UA goes on the air, and names no frame for thirteen ticks
 pub names_none : NameNone 13 b_gives.after.now
-unfolding reading call_of_text link_turn ticking_links first_wanting frames_end flag_end bits_of body frame_bits
+unfolding reading call_of_text link_turn ticking_links first_wanting frames_end flag_end bits_of body_by piece frame_bits
     with_fcs fcs_of octet_bits frame_octets missing
 names_none =
     (refl, (refl, (refl, (refl, (refl, (refl, (refl, (refl, (refl, (refl, (refl, (refl, (refl, tt)))))))))))))
@@ -449,7 +449,7 @@ pairs = record {
 
 -- the SABM entered a quiet channel
 is_quiet_run : IsQuietLink calls pairs default_params default_params steps
-unfolding reading call_of_text link_turn ahead is_web_request has_web_beginning ticking_links first_wanting frames_end flag_end bits_of body frame_bits
+unfolding reading call_of_text link_turn ahead is_web_request has_web_beginning ticking_links first_wanting frames_end flag_end bits_of body_by piece frame_bits
     with_fcs fcs_of octet_bits frame_octets missing
 is_quiet_run = (
   refl,
@@ -689,7 +689,7 @@ first_answer = record {
 }
 
 data_pair : IsHeardPair A steps (record { heard = 23; sent = 1 })
-unfolding reading call_of_text link_turn ahead ticking_links first_wanting frames_end flag_end bits_of body frame_bits
+unfolding reading call_of_text link_turn ahead ticking_links first_wanting frames_end flag_end bits_of body_by piece frame_bits
     with_fcs fcs_of octet_bits frame_octets missing
 data_pair = record {
   step = a_hears_info;

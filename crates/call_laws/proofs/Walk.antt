@@ -15,7 +15,7 @@ use Rattle.station_laws.proofs.Common.{registering, unregistering, queueing_raw,
 use Rattle.station_laws.proofs.Common.{sending_unnumbered, refused_reply, may_call, calls, called_route, called_pid}
 use Rattle.station_laws.proofs.Common.{IsCall, IsCallMade, own_key, giving, disconnecting, pending_in, pending_reply}
 use Rattle.station_laws.proofs.Common.{waiting_reply, answering_else, AreAnswered, has_frame_length, call_in}
-use Rattle.station_laws.proofs.Common.{Connection, connection_of, most_connections, frame_octets, IsHeard, IsHeardBy}
+use Rattle.station_laws.proofs.Common.{Connection, connection_of, frame_octets, has_place, IsHeard, IsHeardBy}
 use Rattle.station_laws.proofs.Common.{IsHeardAnew, IsHeardMaking, IsReadingHeardAnew, IsRepeatedFor, AreHeardAt}
 use Rattle.station_laws.proofs.Common.{AreOctetsHeard, may_make, with_shown, shown_to_hosts, showing_to, source_field}
 use Rattle.station_laws.proofs.Common.{destination_field, waits_for_repeater, joining, with_host, new_messages}
@@ -23,7 +23,7 @@ use Rattle.station_laws.proofs.Common.{new_items, taking, ending, AreTaken, AreT
 use Rattle.station_laws.proofs.Common.{with_param, heeding, heeding_all, leaving, is_between, key_between, making}
 use Rattle.station_laws.proofs.Common.{idle_link, no_layer_3, registrar, may_register, is_number, Route, route_in}
 use Rattle.station_laws.proofs.Common.{repeaters_in, behind_repeaters, path_along, asked_links, Out, Turn, Act}
-use Rattle.station_laws.proofs.Common.{in_order, changing, closing, queueing, capacity, entering, dropping, Input}
+use Rattle.station_laws.proofs.Common.{in_order, changing, closing, dropping, may_enter, Input}
 use Rattle.station_laws.proofs.Common.{IsTurn, FromHost, OffAir, OfClock, LinkStep, tick_steps, leaving_steps}
 use Rattle.station_laws.proofs.Common.{made_steps, call_steps, data_steps, disconnect_steps, else_steps, answer_steps}
 use Rattle.station_laws.proofs.Common.{message_steps, ending_steps, octet_steps_by, octet_steps, host_steps, hears_at}
@@ -50,7 +50,7 @@ use Rattle.station.specs.Kiss.{queueing_asked}
 use Rattle.station.specs.Links.{IsNewKey, Links, count_of_links}
 use Rattle.station.specs.Monitoring.{monitor_message, monitor_pieces, monitoring, piece_for, to_monitors}
 use Rattle.station.specs.Ticks.{IsSentFrame, air_in, telling_sent, ticking}
-use Rattle.station.specs.Turn.{begin, entering_for, queueing_for}
+use Rattle.station.specs.Turn.{begin, entering_for, queueing_for, queueing_own}
 use Rattle.station.specs.declared.asker.Asker.{Asker}
 use Rattle.station.specs.declared.host_out.Piece.{Piece}
 use Rattle.channel_access.specs.declared.air_tick.Sent.{Sent}
@@ -58,7 +58,7 @@ use Rattle.station_laws.proofs.Closings.{IsOpen, ending_closes, messages_close, 
 use Rattle.station_laws.proofs.Common.{◌≢◌, cond-false, loser, loser_steps, passing, passing_steps, shut_steps, shutting}
 use Rattle.station_laws.proofs.Common.{shutting_loser}
 use Rattle.station_laws.proofs.HostsStand.{asked_hosts, no_kiss, told_is_other}
-use Rattle.station_laws.proofs.OwnerLemmas.{queued_pieces}
+use Rattle.station_laws.proofs.OwnerLemmas.{queued_pieces_for}
 use Rattle.station_laws.proofs.Standing.{chosen_calls}
 use Rattle.station_laws.proofs.Tables.{none_chosen}
 use Rattle.station_laws.proofs.ValidCalls.{none_by_position, no_or_few, route_valid}
@@ -117,24 +117,25 @@ module _ (id : ℕ) (plan : CallPlan) (called : IsBetweenCalls plan) where
 
   -- ---- what is only queued
 
-  queued_links : (link : Option ℕ) (octets : List ℕ) (turn : Turn)
-      → (queueing link octets turn).now.links ≡ turn.now.links
-  queued_links link octets turn = go (nat_lt (length turn.now.channel.waiting) capacity)
+  queued_links : (owner : Option ℕ) (asker : Option Asker) (octets : List ℕ) (turn : Turn)
+      → (queueing_for owner asker None octets turn).now.links ≡ turn.now.links
+  queued_links owner asker octets turn = go (may_enter owner turn.now)
     where
-      go : (b : Bool) → (cond b (entering link octets turn) (dropping turn)).now.links ≡ turn.now.links
+      go : (b : Bool) → (cond b (entering_for owner asker None octets turn) (dropping turn)).now.links ≡ turn.now.links
       go true = refl
       go false = refl
 
-  queueing_does : (octets : List ℕ) (turn : Turn) → Does id plan turn [] (queueing None octets turn)
-  queueing_does octets turn =
-      silent_does id plan turn (queueing None octets turn) (queued_pieces None octets turn)
-      (queued_links None octets turn)
+  queueing_does : (owner : Option ℕ) (asker : Option Asker) (octets : List ℕ) (turn : Turn)
+      → Does id plan turn [] (queueing_for owner asker None octets turn)
+  queueing_does owner asker octets turn =
+      silent_does id plan turn (queueing_for owner asker None octets turn)
+      (queued_pieces_for owner asker None octets turn) (queued_links owner asker octets turn)
 
-  raw_does : (octets : List ℕ) (turn : Turn) → Does id plan turn [] (queueing_raw octets turn)
-  raw_does octets turn = go (has_frame_length octets)
+  raw_does : (host : ℕ) (octets : List ℕ) (turn : Turn) → Does id plan turn [] (queueing_raw host octets turn)
+  raw_does host octets turn = go (has_frame_length octets)
     where
-      go : (b : Bool) → Does id plan turn [] ((if b then queueing None octets else (λ t. t)) turn)
-      go true = queueing_does octets turn
+      go : (b : Bool) → Does id plan turn [] ((if b then queueing_own host None octets else (λ t. t)) turn)
+      go true = queueing_does (Some host) None octets turn
       go false = same_does id plan turn
 
   -- a frame whose sending a host is told
@@ -145,30 +146,20 @@ module _ (id : ℕ) (plan : CallPlan) (called : IsBetweenCalls plan) where
       asker : Option Asker
       asker = Some (record { id = host; mark = mark })
 
-      pieces : (b : Bool) → (cond b (entering_for asker None octets turn) (dropping turn)).out.pieces ≡ turn.out.pieces
-      pieces true = refl
-      pieces false = refl
-
-      links : (b : Bool) → (cond b (entering_for asker None octets turn) (dropping turn)).now.links ≡ turn.now.links
-      links true = refl
-      links false = refl
-
-      go : (b : Bool) → Does id plan turn [] ((if b then queueing_for asker None octets else (λ t. t)) turn)
-      go true =
-          silent_does id plan turn (queueing_for asker None octets turn)
-          (pieces (nat_lt (length turn.now.channel.waiting) capacity))
-          (links (nat_lt (length turn.now.channel.waiting) capacity))
+      go : (b : Bool) → Does id plan turn [] ((if b then queueing_own host asker octets else (λ t. t)) turn)
+      go true = queueing_does (Some host) asker octets turn
       go false = same_does id plan turn
 
-  unnumbered_does : (pid : ℕ) (information : List ℕ) (route : Option Route) (turn : Turn)
-      → Does id plan turn [] (sending_unnumbered pid information route turn)
-  unnumbered_does pid information None turn = same_does id plan turn
-  unnumbered_does pid information (Some route) turn = go (nat_le (length information) most_information)
+  unnumbered_does : (host pid : ℕ) (information : List ℕ) (route : Option Route) (turn : Turn)
+      → Does id plan turn [] (sending_unnumbered host pid information route turn)
+  unnumbered_does host pid information None turn = same_does id plan turn
+  unnumbered_does host pid information (Some route) turn = go (nat_le (length information) most_information)
     where
       go : (b : Bool)
-          → Does id plan turn [] ((if b then queueing None (frame_octets Eight (unnumbered_frame route pid information))
+          → Does id plan turn []
+          ((if b then queueing_own host None (frame_octets Eight (unnumbered_frame route pid information))
           else (λ t. t)) turn)
-      go true = queueing_does (frame_octets Eight (unnumbered_frame route pid information)) turn
+      go true = queueing_does (Some host) None (frame_octets Eight (unnumbered_frame route pid information)) turn
       go false = same_does id plan turn
 
   -- ---- a message that makes no link
@@ -269,17 +260,17 @@ module _ (id : ℕ) (plan : CallPlan) (called : IsBetweenCalls plan) where
       (by_kind P k monitor_kind (changing (monitor_toggled host) turn) _ all
       (calm monitor_kind (changing (monitor_toggled host) turn) refl
       (silent_does id plan turn (changing (monitor_toggled host) turn) refl refl))
-      (by_kind P k raw_kind (queueing_raw (drop 1 message.body) turn) _ all
-      (calm raw_kind (queueing_raw (drop 1 message.body) turn) refl (raw_does (drop 1 message.body) turn))
+      (by_kind P k raw_kind (queueing_raw host (drop 1 message.body) turn) _ all
+      (calm raw_kind (queueing_raw host (drop 1 message.body) turn) refl (raw_does host (drop 1 message.body) turn))
       (by_kind P k unproto_kind
-      (sending_unnumbered message.pid message.body (route_in message.from message.to (Some [])) turn) _ all
-      (calm unproto_kind (sending_unnumbered message.pid message.body (route_in message.from message.to (Some [])) turn)
-      refl (unnumbered_does message.pid message.body (route_in message.from message.to (Some [])) turn))
-      (by_kind P k unproto_via_kind (sending_unnumbered message.pid (behind_repeaters message.body)
+      (sending_unnumbered host message.pid message.body (route_in message.from message.to (Some [])) turn) _ all
+      (calm unproto_kind (sending_unnumbered host message.pid message.body (route_in message.from message.to (Some [])) turn)
+      refl (unnumbered_does host message.pid message.body (route_in message.from message.to (Some [])) turn))
+      (by_kind P k unproto_via_kind (sending_unnumbered host message.pid (behind_repeaters message.body)
       (route_in message.from message.to (repeaters_in message.body)) turn) _ all
-      (calm unproto_via_kind (sending_unnumbered message.pid (behind_repeaters message.body)
+      (calm unproto_via_kind (sending_unnumbered host message.pid (behind_repeaters message.body)
       (route_in message.from message.to (repeaters_in message.body)) turn) refl
-      (unnumbered_does message.pid (behind_repeaters message.body)
+      (unnumbered_does host message.pid (behind_repeaters message.body)
       (route_in message.from message.to (repeaters_in message.body)) turn))
       (λ stays. without_register no_register))))))))))
     where
@@ -436,7 +427,8 @@ module _ (id : ℕ) (plan : CallPlan) (called : IsBetweenCalls plan) where
       go false = same_does id plan turn
 
   heeding_does : (host : ℕ) (item : KissItem) (turn : Turn) → Does id plan turn [] (heeding host item turn)
-  heeding_does host (KissFrame port octets) turn = on_port_does port (queueing_raw octets) turn (raw_does octets turn)
+  heeding_does host (KissFrame port octets) turn = on_port_does port (queueing_raw host octets) turn
+      (raw_does host octets turn)
   heeding_does host (AckFrame port mark octets) turn =
       on_port_does port (queueing_asked host mark octets) turn (asked_does host mark octets turn)
   heeding_does host (Set port command value) turn =
@@ -497,7 +489,7 @@ module _ (id : ℕ) (plan : CallPlan) (called : IsBetweenCalls plan) where
       octets_do_by connection.kind connection octets before after stays h
 
   joining_does : (host : ℕ) (kind : PortKind) (turn : Turn) → Does id plan turn [] (joining host kind turn)
-  joining_does host kind turn = go (nat_lt (length turn.now.connections) most_connections)
+  joining_does host kind turn = go (has_place turn.now)
     where
       go : (b : Bool) → Does id plan turn [] (cond b (changing (with_host host kind) turn) (closing host turn))
       go true = silent_does id plan turn (changing (with_host host kind) turn) refl refl
@@ -662,7 +654,7 @@ module _ (id : ℕ) (plan : CallPlan) (called : IsBetweenCalls plan) where
       → Does id plan before [] after
   repeated_does None octets before after h = subst (Does id plan before []) (sym h) (same_does id plan before)
   repeated_does (Some call) octets before after (inl is) =
-      subst (Does id plan before []) (sym is.2) (queueing_does (repeated octets is.0) before)
+      subst (Does id plan before []) (sym is.2) (queueing_does None None (repeated octets is.0) before)
   repeated_does (Some call) octets before after (inr is) =
       subst (Does id plan before []) (sym is.1) (same_does id plan before)
 

@@ -1,10 +1,10 @@
 -- A tick of a transmission: its samples, and what is left of it.
-use Rattle.channel_access.proofs.Common.{◌≡◌, ℕ, ◌+◌, ◌-◌, ◌*◌, ◌/◌, ◌≤◌, ◌⊎◌, Bool, true, false, cond, leb, ltb}
+use Rattle.channel_access.proofs.Common.{◌≡◌, ℕ, ◌+◌, ◌-◌, ◌*◌, ◌≤◌, ◌⊎◌, Bool, true, false, cond, leb, ltb}
 use Rattle.channel_access.proofs.Common.{Option, Some, None, ℤ, pos, List, [], ◌∷◌, ◌++◌, length, take, drop, replicate}
 use Rattle.channel_access.proofs.Common.{refl, ap, ◌∙◌, sym, subst, inl, inr, arith, length-append, append_assoc}
 use Rattle.channel_access.proofs.Common.{append-nil, All, le-max_left, cases_Bool, cond-true, cond-false, le-leb}
 use Rattle.channel_access.proofs.Common.{lt-leb, replicate-append-replicate, line, tick_bits, bits_of_ticks, samples_of_bits, with_bits}
-use Rattle.channel_access.proofs.Common.{Modem, flags_in, Mark, flags, body, frame_bits, Sending, Stage, Opening, Frame}
+use Rattle.channel_access.proofs.Common.{Modem, flags_in, Mark, flags, body_by, piece, Sending, Stage, Opening, Frame}
 use Rattle.channel_access.proofs.Common.{Following, Closing, Over, WaitingFrame, HasFrameLength, OnAir, bits_then}
 use Rattle.channel_access.proofs.Common.{bits_of, samples_on_air, decided, followed_by, has_sent_frames, names_next}
 use Rattle.channel_access.proofs.Common.{with_named, frame_named, tick_samples, with_tick, most_frames, Run, tick_start}
@@ -33,13 +33,13 @@ pub record IsLeft (stage : Stage) (t : OnAir) (sent rest : List Bool) : Type 0 w
   pub some : stage_over stage ≡ false → 1 ≤ length rest
   pub none : stage_over stage ≡ true → rest ≡ []
 
-pub open_bits : (t : OnAir) → t.ends ≡ false → body t.frames t.opening 0 ≡ bits_of t
+pub open_bits : (t : OnAir) → t.ends ≡ false → body_by t.modem t.frames t.opening 0 ≡ bits_of t
 unfolding bits_of
-open_bits t goes = ap (λ b. body t.frames t.opening (cond b t.closing 0)) (sym goes)
+open_bits t goes = ap (λ b. body_by t.modem t.frames t.opening (cond b t.closing 0)) (sym goes)
 
-pub closed_bits : (t : OnAir) → t.ends ≡ true → body t.frames t.opening t.closing ≡ bits_of t
+pub closed_bits : (t : OnAir) → t.ends ≡ true → body_by t.modem t.frames t.opening t.closing ≡ bits_of t
 unfolding bits_of
-closed_bits t ends = ap (λ b. body t.frames t.opening (cond b t.closing 0)) (sym ends)
+closed_bits t ends = ap (λ b. body_by t.modem t.frames t.opening (cond b t.closing 0)) (sym ends)
 
 -- more than the bits of some flags
 flags_left : (left : ℕ) (rest : List Bool) → 1 ≤ left → 1 ≤ length (flag_rest left ++ rest)
@@ -71,12 +71,12 @@ is_left (Frame f) (front ∷ others) t sent h fit closes =
 is_left (Following left true) [] t sent h fit closes = absurd h
 is_left (Following left true) (front ∷ []) t sent h fit closes = absurd h
 is_left (Following left true) (front ∷ next ∷ others) t sent h fit closes = (
-  flag_rest left ++ frame_bits next.octets,
+  flag_rest left ++ piece t.modem next.octets,
   record {
-    whole = sym (append_assoc sent (flag_rest left) (frame_bits next.octets))
-        ∙ ap (λ xs. xs ++ frame_bits next.octets) h.bits ∙ sym (body-push h.past front.octets next.octets t.opening)
-        ∙ ap (λ xs. body xs t.opening 0) (sym h.frames) ∙ open_bits t h.ends;
-    some = λ _. flags_left left (frame_bits next.octets) h.some;
+    whole = sym (append_assoc sent (flag_rest left) (piece t.modem next.octets))
+        ∙ ap (λ xs. xs ++ piece t.modem next.octets) h.bits ∙ sym (body-push t.modem h.past front.octets next.octets t.opening)
+        ∙ ap (λ xs. body_by t.modem xs t.opening 0) (sym h.frames) ∙ open_bits t h.ends;
+    some = λ _. flags_left left (piece t.modem next.octets) h.some;
     none = λ is. never (sym is);
   },
 )
@@ -88,8 +88,8 @@ is_left (Following left false) (front ∷ others) t sent h fit closes =
       flag_rest left ++ flags (t.closing - 1),
       record {
         whole = sym (append_assoc sent (flag_rest left) (flags (t.closing - 1)))
-            ∙ ap (λ xs. xs ++ flags (t.closing - 1)) h.bits ∙ sym (body-more_closing frames t.opening (t.closing - 1))
-            ∙ ap (body frames t.opening) all ∙ ap (λ xs. body xs t.opening t.closing) whole ∙ closed_bits t h.ends;
+            ∙ ap (λ xs. xs ++ flags (t.closing - 1)) h.bits ∙ sym (body-more_closing t.modem frames t.opening (t.closing - 1))
+            ∙ ap (body_by t.modem frames t.opening) all ∙ ap (λ xs. body_by t.modem xs t.opening t.closing) whole ∙ closed_bits t h.ends;
         some = λ _. flags_left left (flags (t.closing - 1)) h.some;
         none = λ is. never (sym is);
       },

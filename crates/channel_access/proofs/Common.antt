@@ -1,6 +1,6 @@
 -- The names that most proofs of this crate cite, passed on from one place.
-unfoldable pub use Rattle.channel_access.specs.Modem.{transmission_by}
-pub use Rattle.channel_access.specs.Modem.{bits_of_ticks, samples_of_bits, tick_bits}
+unfoldable pub use Rattle.channel_access.specs.Modem.{body_by, piece, transmission_by}
+pub use Rattle.channel_access.specs.Modem.{bits_of_ticks, count_of, joined_by, samples_of_bits, tagged, tick_bits}
 pub use Rattle.channel_access.specs.HeldWave.{after_tone, modem_of, wave_behind, wave_start, wave_window}
 pub use Rattle.channel_access.specs.Channel.{Channel, Takes, after_tick, air_after, air_samples, air_sent, air_tick}
 pub use Rattle.channel_access.specs.Channel.{air_waiting, begun, decision, new_channel, new_channel_by, with_frame, with_setting}
@@ -13,7 +13,8 @@ pub use Rattle.channel_access.specs.OnAir.{OnAir, bits_then, decided, followed_b
 pub use Rattle.channel_access.specs.OnAir.{most_frames, names_next, waiting_after, waiting_with_named, with_named}
 pub use Rattle.channel_access.specs.OnAir.{with_tick}
 pub use Rattle.channel_access.specs.Parameters.{closing_flags, flags_in, opening_flags}
-unfoldable pub use Rattle.channel_access.specs.StandsFor.{frame_rest}
+unfoldable pub use Rattle.channel_access.specs.StandsFor.{block_rest, stuffed_rest}
+pub use Rattle.channel_access.specs.StandsFor.{frame_rest}
 pub use Rattle.channel_access.specs.StandsFor.{Counts, Goes, InFrame, IsSent, Sends, Stands, StandsFor, StandsForAir}
 pub use Rattle.channel_access.specs.StandsFor.{StandsForSome, flag_rest}
 pub use Rattle.channel_access.specs.Waiting.{WaitingFrame}
@@ -21,16 +22,19 @@ pub use Rattle.channel_access.specs.WholeTransmission.{GoesToItsEnd, octets_of}
 pub use Rattle.channel_access.specs.WholeTransmission.Call.{Ticks}
 pub use Rattle.channel_access.specs.declared.air_tick.AirTick.{AirTick}
 pub use Rattle.channel_access.specs.declared.air_tick.Sent.{Sent}
+pub use Rattle.channel_access.specs.declared.block_bits.BlockBits.{BlockBits}
 pub use Rattle.channel_access.specs.declared.frame_bits.FrameBits.{FrameBits}
+pub use Rattle.channel_access.specs.declared.frame_bits.FrameBits.TheVariants.{Block, Stuffed}
+pub use Rattle.channel_access.specs.declared.stuffed_bits.StuffedBits.{StuffedBits}
 pub use Rattle.channel_access.specs.declared.modem.Modem.{Modem}
-pub use Rattle.channel_access.specs.declared.modem.Modem.TheVariants.{Bell202, ShortWave}
+pub use Rattle.channel_access.specs.declared.modem.CheckOctets.{CheckOctets}
+pub use Rattle.channel_access.specs.declared.modem.Modem.TheVariants.{Bell202, Fx25, ShortWave}
 pub use Rattle.channel_access.specs.declared.wave.Wave.{Wave}
 pub use Rattle.channel_access.specs.declared.parameters.Parameters.{Parameters}
 pub use Rattle.channel_access.specs.declared.sending.Sending.{Sending}
 pub use Rattle.channel_access.specs.declared.stage.Stage.{Stage}
 pub use Rattle.channel_access.specs.declared.stage.Stage.TheVariants.{Closing, Following, Frame, Opening, Over}
 pub use Rattle.hdlc_framer.proofs.BitLemmas.{length-sent_bits}
-pub use Rattle.hdlc_framer.proofs.StuffLemmas.{joined-push}
 pub use Rattle.hdlc_framer.proofs.StuffingLemmas.{stuffed_is}
 unfoldable pub use Rattle.hdlc_framer.specs.BitOrder.{octet_bits}
 pub use Rattle.hdlc_framer.specs.BitOrder.{sent_bits}

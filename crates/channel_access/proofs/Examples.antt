@@ -1,7 +1,7 @@
 -- Worked examples, computed on the definitions.
 use Rattle.channel_access.proofs.Common.{◌≡◌, ℕ, true, false, Some, None, List, [], ◌∷◌, ◌++◌, ◌+◌, length, replicate}
 use Rattle.channel_access.proofs.Common.{refl}
-use Rattle.channel_access.proofs.Common.{octet_bits, body, fcs_of, with_fcs, frame_bits, OnAir, bits_of, flag_end}
+use Rattle.channel_access.proofs.Common.{octet_bits, fcs_of, with_fcs, frame_bits, body_by, piece, OnAir, bits_of, flag_end}
 use Rattle.channel_access.proofs.Common.{followed_by, frame_named, frames_end, GoesToItsEnd, Ticks, Channel}
 use Rattle.channel_access.proofs.Common.{new_channel, with_frame, with_setting, decision, begun, air_tick, after_tick}
 use Rattle.channel_access.specs.Channel.{takes_frame, takes_last}
@@ -34,20 +34,20 @@ flags_round_it : whole.closing + whole.opening ≡ 48
 flags_round_it = refl
 
 whole_length : length (bits_of whole) ≡ 522
-unfolding fcs_of octet_bits with_fcs frame_bits body bits_of
+unfolding fcs_of octet_bits with_fcs frame_bits piece body_by bits_of
 whole_length = refl
 
 -- the flag after the frame ends with bit 506, the second of tick 43
 flag_place : flag_end 1 whole ≡ 506
-unfolding fcs_of octet_bits with_fcs frame_bits body flag_end
+unfolding fcs_of octet_bits with_fcs frame_bits piece body_by flag_end
 flag_place = refl
 
 named_in_tick_43 : frame_named 516 (record whole { ticks = 42 }) ≡ Some (record { octets = shortest; after = 16 })
-unfolding fcs_of octet_bits with_fcs frame_bits body flag_end
+unfolding fcs_of octet_bits with_fcs frame_bits piece body_by flag_end
 named_in_tick_43 = refl
 
 not_before : frame_named 504 (record whole { ticks = 41 }) ≡ None
-unfolding fcs_of octet_bits with_fcs frame_bits body flag_end
+unfolding fcs_of octet_bits with_fcs frame_bits piece body_by flag_end
 not_before = refl
 
 -- the draws of seed 2 begin with 102 and 40
@@ -77,7 +77,7 @@ unfolding short_one
 short_begins = refl
 
 short_ends : GoesToItsEnd (replicate 13 (Ticks true false)) (after_tick true false short_one)
-unfolding short_one fcs_of octet_bits with_fcs frame_bits body bits_of frames_end flag_end
+unfolding short_one fcs_of octet_bits with_fcs frame_bits piece body_by bits_of frames_end flag_end
 short_ends = (
   refl,
   (
@@ -112,25 +112,25 @@ no_frame_at_first : takes_frame wanted ≡ false
 no_frame_at_first = refl
 
 a_frame_then : takes_frame in_flags ≡ true
-unfolding frames_end body bits_of
+unfolding frames_end piece body_by bits_of
 a_frame_then = refl
 
 not_the_last : takes_last in_flags ≡ false
-unfolding frames_end body bits_of
+unfolding frames_end piece body_by bits_of
 not_the_last = refl
 
 -- no other one is taken while a frame of a link waits to follow, but beside a frame of a host it is
 one_is_enough : takes_frame (with_frame (Some 3) shortest in_flags) ≡ false
-unfolding frames_end body bits_of
+unfolding frames_end piece body_by bits_of
 one_is_enough = refl
 
 beside_a_host : takes_frame (with_frame None shortest in_flags) ≡ true
-unfolding frames_end body bits_of
+unfolding frames_end piece body_by bits_of
 beside_a_host = refl
 
 -- If none comes, one closing flag follows, and all is sent with that tick.
 none_comes : (after_tick true true in_flags).air ≡ None
-unfolding frames_end body bits_of flag_end
+unfolding frames_end piece body_by bits_of flag_end
 none_comes = refl
 
 -- ---- whose turn it is

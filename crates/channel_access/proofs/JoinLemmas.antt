@@ -3,12 +3,12 @@
 use Rattle.channel_access.proofs.Common.{◌≡◌, ℕ, ◌+◌, ◌<◌, ◌≤◌, ◌⊎◌, Bool, true, false, not, ◌&&◌, leb, ltb, List, []}
 use Rattle.channel_access.proofs.Common.{◌∷◌, ◌++◌, length, refl, ap, ◌∙◌, sym, subst, inl, inr, arith}
 use Rattle.channel_access.proofs.Common.{length-append, append-nil, All, cases_Bool, cond-true, cond-false, leb-true}
-use Rattle.channel_access.proofs.Common.{leb-false, All-head, All-tail, body, FrameBits, Stage, Opening, Frame}
+use Rattle.channel_access.proofs.Common.{leb-false, All-head, All-tail, body_by, FrameBits, Stage, Opening, Frame}
 use Rattle.channel_access.proofs.Common.{Following, Closing, Over, WaitingFrame, HasFrameLength, OnAir, most_frames}
 use Rattle.channel_access.proofs.Common.{has_sent_frames, followed_by, decided, names_next, frames_end, flag_end}
 use Rattle.channel_access.proofs.Common.{Stands, Counts, InFrame, waiting_after}
 use Rattle.channel_access.specs.StandsFor.{InOpening}
-use Rattle.channel_access.proofs.BodyLemmas.{frame_bits-long}
+use Rattle.channel_access.proofs.BodyLemmas.{piece-long}
 use Rattle.channel_access.proofs.FrameLemmas.{next_given}
 use Rattle.channel_access.proofs.StageLemmas.{frames_go_on, frames_ended, frames_end_here, flag_goes_on, all_named}
 use Rattle.channel_access.proofs.StageLemmas.{flag_end-at, flag_end-last, frames_end-next, length-frames_flag}
@@ -73,7 +73,7 @@ next_is_long : (limit : ℕ) (t : OnAir) (past : List (List ℕ)) (octets next :
 unfolding frames_end
 next_is_long limit t past octets next frames named least near =
     let end = frames_end-next t past octets next frames named in
-    let long = frame_bits-long next least in
+    let long = piece-long t.modem next least in
     record {
       quiet = record { none = λ bits below. frames_go_on bits t (omega arith) };
       then_settled = settled_before_end limit (next_named t) (past ++ octets ∷ []) next frames
@@ -112,7 +112,7 @@ module _ (f : FrameBits) (front : WaitingFrame) (t : OnAir) (total : ℕ) (sent 
       let all : now.frames ≡ (h.past ++ front.octets ∷ []) ++ octets ∷ [] = ap (λ xs. xs ++ octets ∷ []) h.frames in
       let flag : flag_end (t.named + 1) now ≡ frames_end t + 8 =
       flag_end-at now h.past front.octets (octets ∷ []) all h.named
-      ∙ ap (λ xs. length (body xs t.opening 1)) (sym h.frames) ∙ length-frames_flag t in
+      ∙ ap (λ xs. length (body_by t.modem xs t.opening 1)) (sym h.frames) ∙ length-frames_flag t in
       let later = end_later in
       next_is_long limit now h.past front.octets octets all h.named least (omega arith)
 
@@ -151,9 +151,9 @@ module _ (left : ℕ) (t : OnAir) (total : ℕ) (sent : List Bool) (h : InOpenin
   opening_then_joined octets least =
       let now : OnAir = record t { frames = t.frames ++ octets ∷ [] } in
       let all : now.frames ≡ octets ∷ [] = ap (λ xs. xs ++ octets ∷ []) h.frames in
-      let end = first_end left t total sent h count now octets refl all in
-      let end_then = first_end left t total sent h count (next_named now) octets refl all in
-      let long = frame_bits-long octets least in
+      let end = first_end left t total sent h count now octets refl refl all in
+      let end_then = first_end left t total sent h count (next_named now) octets refl refl all in
+      let long = piece-long t.modem octets least in
       let one : t.named + 1 ≡ length now.frames = omega (arith, h.named, ap length all) in
       record {
         quiet = record { none = λ bits below. frames_go_on bits now (omega arith) };

@@ -1,6 +1,7 @@
 pub mod Common
 pub mod ModemLemmas
 pub mod FrameLemmas
+pub mod BlockLemmas
 pub mod RunLemmas
 pub mod BodyLemmas
 pub mod StageLemmas

@@ -1,5 +1,5 @@
 -- Frames are sent in the order of the queue: the frame that a tick names is the front one of those that wait.
-use Rattle.channel_access.proofs.Common.{◌≡◌, ℕ, ◌+◌, ◌-◌, ◌*◌, ◌≤◌, Bool, true, false, ltb, Option, Some, None, List}
+use Rattle.channel_access.proofs.Common.{◌≡◌, ℕ, ◌+◌, ◌-◌, ◌≤◌, Bool, true, false, ltb, Option, Some, None, List}
 use Rattle.channel_access.proofs.Common.{[], ◌∷◌, ◌++◌, length, get_or, drop, refl, ap, ◌∙◌, sym, subst, inl, inr}
 use Rattle.channel_access.proofs.Common.{arith, append_assoc, append-nil, get_or-append_seam, cases_Bool, cond-true}
 use Rattle.channel_access.proofs.Common.{cond-false, ltb-true, Sent, Sending, Stage, Opening, Frame, Following, Closing}

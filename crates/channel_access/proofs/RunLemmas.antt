@@ -1,7 +1,7 @@
 -- Bits of a tick, one more at a time.
 use Rattle.channel_access.proofs.Common.{◌≡◌, ℕ, ◌+◌, Bool, Option, List, ◌++◌, ℤ, ap, add-one, Sent, Sending}
 use Rattle.channel_access.proofs.Common.{WaitingFrame, Run, step_of, with_step, behind_bit, window_of, sent_with}
-use Rattle.channel_access.proofs.Common.{with_bit, with_bits, tick_start, Step, Modem, Wave, Some, None, refl, zero, suc, ◌∙◌, modem_of}
+use Rattle.channel_access.proofs.Common.{with_bit, with_bits, Step, Modem, Some, None, refl, zero, suc, ◌∙◌, modem_of}
 use Rattle.channel_access.proofs.ModemLemmas.{modem_of-after}
 
 pub with_bits-more : (modem : Modem) (count : ℕ) (run : Run)

@@ -1,5 +1,5 @@
 -- One bit of a sender, with its samples.
-use Rattle.channel_access.proofs.Common.{◌≡◌, ℕ, ◌+◌, ◌-◌, ◌*◌, ◌≤◌, Bool, true, Option, ℤ, pos, List, [], ◌∷◌, ◌++◌}
+use Rattle.channel_access.proofs.Common.{◌≡◌, ℕ, ◌+◌, ◌-◌, ◌≤◌, Bool, true, Option, ℤ, pos, List, [], ◌∷◌, ◌++◌}
 use Rattle.channel_access.proofs.Common.{length, replicate, refl, ap, ◌∙◌, sym, subst, inl, inr, arith, length-append}
 use Rattle.channel_access.proofs.Common.{append_assoc, append-nil, All, replicate-append-replicate, Mark, line}
 use Rattle.channel_access.proofs.Common.{length-line_from, Sending, Stage, Opening, Frame, Following, Closing, Over}
@@ -150,8 +150,8 @@ unfolding step_of
 sends_more s waiting t total sent h fit =
     let closes : t.closing ≡ closing_flags (modem_of s.wave) s.tail =
     h.closing ∙ ap (λ m. closing_flags m s.tail) (sym (sends_by s waiting t total sent h)) in
-    elim (stage_cases s.stage waiting t total sent (modem_of s.wave) s.tail s.frames h.stands h.count fit h.frames
-    closes) [
+    elim (stage_cases s.stage waiting t total sent (modem_of s.wave) s.tail s.frames h.stands h.count fit
+    (sends_by s waiting t total sent h) h.frames closes) [
       | inl given ↦ with_one s waiting t total sent h _ given.steps given.count
       | inr over ↦ with_none s waiting t total sent h _ over
     ]

@@ -10,9 +10,9 @@ use Rattle.afsk_modulator.specs.Transmission.{transmission}
 use Rattle.hf_sender.specs.Transmission.{hf_transmission}
 use Rattle.hf_sender.specs.Wave.{pure_window as hf_pure_window}
 use Rattle.channel_access.specs.declared.modem.Modem.{Modem}
-use Rattle.channel_access.specs.declared.modem.Modem.TheVariants.{Bell202, ShortWave}
-use Rattle.channel_access.specs.Modem.{transmission_by}
-use Rattle.channel_access.specs.Channel.{Channel, Decision, decision, begun, with_decision, air_samples}
+use Rattle.channel_access.specs.declared.modem.Modem.TheVariants.{Bell202, ShortWave, Fx25}
+use Rattle.channel_access.specs.Modem.{body_by, transmission_by}
+use Rattle.channel_access.specs.Channel.{Channel, decision, begun, with_decision, air_samples}
 use Rattle.channel_access.specs.Channel.{air_tick}
 use Rattle.channel_access.specs.OnAir.{OnAir, most_frames, bits_then, flags_behind, samples_on_air, has_sent_frames}
 use Rattle.channel_access.specs.OnAir.{followed_by, decided, waiting_after, tick_samples}
@@ -22,9 +22,10 @@ use Rattle.channel_access.specs.Waiting.{WaitingFrame}
 
 sounds_first : (modem : Modem) (frames : List (List ℕ)) (opening closing : ℕ) (after : List ℤ)
     → has_sound (take 96 (transmission_by modem frames (suc opening) closing ++ after)) ≡ true
-unfolding transmission_by transmission hf_transmission at_level sample_at body pure_window hf_pure_window wave_sample cycle_sample half_wave quarter
+unfolding transmission_by transmission hf_transmission at_level sample_at body body_by pure_window hf_pure_window wave_sample cycle_sample half_wave quarter
 sounds_first Bell202 frames opening closing after = refl
 sounds_first ShortWave frames opening closing after = refl
+sounds_first (Fx25 checks) frames opening closing after = refl
 
 first_tick : (t : OnAir) (opening : ℕ) → t.ticks ≡ 0 → t.opening ≡ suc opening → has_sound (tick_samples t) ≡ true
 unfolding tick_samples samples_on_air

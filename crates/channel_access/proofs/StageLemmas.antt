@@ -1,10 +1,10 @@
 -- One bit of a sender, as the definitions see it: what it decides and names, and where the sender stands then.
-use Rattle.channel_access.proofs.Common.{◌≡◌, ℕ, zero, suc, ◌+◌, ◌-◌, ◌*◌, ◌/◌, ◌<◌, ◌≤◌, ◌⊎◌, Bool, true, false, not}
+use Rattle.channel_access.proofs.Common.{◌≡◌, ℕ, zero, suc, ◌+◌, ◌-◌, ◌*◌, ◌<◌, ◌≤◌, ◌⊎◌, Bool, true, false, not}
 use Rattle.channel_access.proofs.Common.{◌&&◌, cond, leb, ltb, Option, Some, None, List, [], ◌∷◌, ◌++◌, length, take}
 use Rattle.channel_access.proofs.Common.{drop, get_or, refl, ap, ◌∙◌, sym, subst, inl, inr, arith, length-append}
 use Rattle.channel_access.proofs.Common.{append_assoc, append-nil, get_or-append_seam, cases_Bool, cond-true}
 use Rattle.channel_access.proofs.Common.{cond-false, le-leb, lt-leb, lt-ltb, ltb-true, All, All-head, All-tail}
-use Rattle.channel_access.proofs.Common.{le-max_left, flags, body, frame_bits, FrameBits, Stage, Opening, Frame}
+use Rattle.channel_access.proofs.Common.{le-max_left, flags, body_by, piece, FrameBits, Stage, Opening, Frame}
 use Rattle.channel_access.proofs.Common.{Modem, flags_in}
 use Rattle.channel_access.proofs.Common.{Following, Closing, Over, closing_flags, WaitingFrame, HasFrameLength, OnAir}
 use Rattle.channel_access.proofs.Common.{most_frames, waiting_after, has_sent_frames, followed_by, decided, names_next, with_named}
@@ -16,8 +16,8 @@ use Rattle.std.proofs.lemmas.Bool.{le-ltb, ltb-false}
 use Rattle.channel_access.specs.Held.{stage_step, frame_step, after_opening, frames_opened, joins, other_closing}
 use Rattle.channel_access.specs.StandsFor.{InOpening, InFlag, InClosing}
 use Rattle.channel_access.proofs.BodyLemmas.{flags-is, length-flag_rest, body-closing, body-more_closing, body-none, body-single}
-use Rattle.channel_access.proofs.BodyLemmas.{body-push, frame_bits-long}
-use Rattle.channel_access.proofs.FrameLemmas.{NextInFrame, next_given, frame_rest-start, frame_rest-over}
+use Rattle.channel_access.proofs.BodyLemmas.{body-push, piece-long}
+use Rattle.channel_access.proofs.FrameLemmas.{NextInFrame, next_given, frame_rest-start, frame_rest-over, some_left}
 
 -- the transmission, the frames that wait and the frame that is named, with so many bits sent
 abbrev pub now_at : ℕ → List WaitingFrame → OnAir → OnAir
@@ -156,22 +156,22 @@ after_front t past octets front others frames named =
 -- the flag after the frame that is named next, if these frames are named and those follow
 pub flag_end-at : (t : OnAir) (past : List (List ℕ)) (octets : List ℕ) (next : List (List ℕ))
     → t.frames ≡ (past ++ octets ∷ []) ++ next → t.named ≡ length past
-    → flag_end (t.named + 1) t ≡ length (body (past ++ octets ∷ []) t.opening 1)
+    → flag_end (t.named + 1) t ≡ length (body_by t.modem (past ++ octets ∷ []) t.opening 1)
 unfolding flag_end
 flag_end-at t past octets next frames named =
     let all : (past ++ octets ∷ []) ++ next ≡ past ++ octets ∷ next = append_assoc past (octets ∷ []) next in
-    ap (λ n. length (body (take (n + 1) t.frames) t.opening 1)) named
-    ∙ ap (λ xs. length (body (take (length past + 1) xs) t.opening 1)) (frames ∙ all)
-    ∙ ap (λ xs. length (body xs t.opening 1)) (take-append-add past (octets ∷ next) 1)
+    ap (λ n. length (body_by t.modem (take (n + 1) t.frames) t.opening 1)) named
+    ∙ ap (λ xs. length (body_by t.modem (take (length past + 1) xs) t.opening 1)) (frames ∙ all)
+    ∙ ap (λ xs. length (body_by t.modem xs t.opening 1)) (take-append-add past (octets ∷ next) 1)
 
-pub length-body_flag : (frames : List (List ℕ)) (opening : ℕ)
-    → length (body frames opening 1) ≡ length (body frames opening 0) + 8
-length-body_flag frames opening =
-    ap length (body-closing frames opening 1) ∙ length-append (body frames opening 0) (flags 1)
+pub length-body_flag : (modem : Modem) (frames : List (List ℕ)) (opening : ℕ)
+    → length (body_by modem frames opening 1) ≡ length (body_by modem frames opening 0) + 8
+length-body_flag modem frames opening =
+    ap length (body-closing modem frames opening 1) ∙ length-append (body_by modem frames opening 0) (flags 1)
 
-pub length-frames_flag : (t : OnAir) → length (body t.frames t.opening 1) ≡ frames_end t + 8
+pub length-frames_flag : (t : OnAir) → length (body_by t.modem t.frames t.opening 1) ≡ frames_end t + 8
 unfolding frames_end
-length-frames_flag t = length-body_flag t.frames t.opening
+length-frames_flag t = length-body_flag t.modem t.frames t.opening
 
 -- after the last frame
 pub flag_end-last : (t : OnAir) (past : List (List ℕ)) (octets : List ℕ) → t.frames ≡ past ++ octets ∷ []
@@ -180,18 +180,18 @@ pub flag_end-last : (t : OnAir) (past : List (List ℕ)) (octets : List ℕ) →
 unfolding frames_end
 flag_end-last t past octets frames named =
     flag_end-at t past octets [] (frames ∙ sym (append-nil (past ++ octets ∷ []))) named
-    ∙ ap (λ xs. length (body xs t.opening 1)) (sym frames) ∙ length-body_flag t.frames t.opening
+    ∙ ap (λ xs. length (body_by t.modem xs t.opening 1)) (sym frames) ∙ length-body_flag t.modem t.frames t.opening
 
 -- before another frame
 pub frames_end-next : (t : OnAir) (past : List (List ℕ)) (octets next : List ℕ)
     → t.frames ≡ (past ++ octets ∷ []) ++ next ∷ [] → t.named ≡ length past
-    → frames_end t ≡ flag_end (t.named + 1) t + length (frame_bits next)
+    → frames_end t ≡ flag_end (t.named + 1) t + length (piece t.modem next)
 unfolding frames_end
 frames_end-next t past octets next frames named = omega (
   arith,
-  ap (λ xs. length (body xs t.opening 0)) frames,
-  ap length (body-push past octets next t.opening),
-  length-append (body (past ++ octets ∷ []) t.opening 1) (frame_bits next),
+  ap (λ xs. length (body_by t.modem xs t.opening 0)) frames,
+  ap length (body-push t.modem past octets next t.opening),
+  length-append (body_by t.modem (past ++ octets ∷ []) t.opening 1) (piece t.modem next),
   flag_end-at t past octets (next ∷ []) frames named,
 )
 
@@ -222,23 +222,27 @@ by_test P true x y where_true where_false = where_true refl
 by_test P false x y where_true where_false = where_false refl
 
 -- a frame has begun
-pub started : (octets : List ℕ) → frame_over (frame_start octets) octets ≡ false
-started octets = lt-leb (8 * (length octets + 2)) 0 (omega arith)
+pub started : (modem : Modem) (octets : List ℕ) → 15 ≤ length octets
+    → frame_over (frame_start modem octets) octets ≡ false
+started modem octets least =
+    some_left (frame_start modem octets) octets
+    ∙ lt-leb (length (frame_rest (frame_start modem octets) octets)) 0
+    (omega (arith, ap length (frame_rest-start modem octets), piece-long modem octets least))
 
-pub frame_begins : (sent before all : List Bool) (octets : List ℕ) → sent ≡ before → before ++ frame_bits octets ≡ all
-    → sent ++ frame_rest (frame_start octets) octets ≡ all
-frame_begins sent before all octets is whole =
-    ap (λ xs. xs ++ frame_rest (frame_start octets) octets) is ∙ ap (λ xs. before ++ xs) (frame_rest-start octets)
-    ∙ whole
+pub frame_begins : (modem : Modem) (sent before all : List Bool) (octets : List ℕ) → sent ≡ before
+    → before ++ piece modem octets ≡ all → sent ++ frame_rest (frame_start modem octets) octets ≡ all
+frame_begins modem sent before all octets is whole =
+    ap (λ xs. xs ++ frame_rest (frame_start modem octets) octets) is
+    ∙ ap (λ xs. before ++ xs) (frame_rest-start modem octets) ∙ whole
 
 -- ---- a bit of the opening flags
 
 module _ (left : ℕ) (t : OnAir) (total : ℕ) (sent : List Bool) (h : InOpening left t sent)
     (count : length sent ≡ total) where
   -- they are all that is decided
-  pub opening_bits : flags t.opening ≡ body t.frames t.opening 0
+  pub opening_bits : flags t.opening ≡ body_by t.modem t.frames t.opening 0
   opening_bits =
-      sym (ap (λ xs. body xs t.opening 0) h.frames ∙ body-none t.opening 0 ∙ append-nil (flags t.opening))
+      sym (ap (λ xs. body_by t.modem xs t.opening 0) h.frames ∙ body-none t.modem t.opening 0 ∙ append-nil (flags t.opening))
 
   pub opening_end : frames_end t ≡ total + left
   unfolding frames_end
@@ -250,15 +254,16 @@ module _ (left : ℕ) (t : OnAir) (total : ℕ) (sent : List Bool) (h : InOpenin
   )
 
   -- the end of the first frame, if that is decided
-  pub first_end : (now : OnAir) (octets : List ℕ) → now.opening ≡ t.opening → now.frames ≡ octets ∷ []
-      → frames_end now ≡ (total + left) + length (frame_bits octets)
+  pub first_end : (now : OnAir) (octets : List ℕ) → now.modem ≡ t.modem → now.opening ≡ t.opening
+      → now.frames ≡ octets ∷ [] → frames_end now ≡ (total + left) + length (piece t.modem octets)
   unfolding frames_end
-  first_end now octets opening frames = omega (
+  first_end now octets by opening frames = omega (
     arith,
-    ap (λ xs. length (body xs now.opening 0)) frames,
-    ap (λ n. length (body (octets ∷ []) n 0)) opening,
-    ap length (body-single octets t.opening),
-    length-append (flags t.opening) (frame_bits octets),
+    ap (λ m. length (body_by m now.frames now.opening 0)) by,
+    ap (λ xs. length (body_by t.modem xs now.opening 0)) frames,
+    ap (λ n. length (body_by t.modem (octets ∷ []) n 0)) opening,
+    ap length (body-single t.modem octets t.opening),
+    length-append (flags t.opening) (piece t.modem octets),
     ap length h.bits,
     length-with_flags sent left,
   )
@@ -335,9 +340,9 @@ module _ (left : ℕ) (t : OnAir) (total : ℕ) (sent : List Bool) (h : InOpenin
             some = omega arith;
             bits = ap (λ xs. xs ++ flag_rest (8 * closing_flags modem tail)) all_open
                 ∙ ap (λ xs. flags t.opening ++ xs) (sym (flags-is (closing_flags modem tail)))
-                ∙ sym (body-none t.opening (closing_flags modem tail))
-                ∙ ap (λ n. body [] t.opening n) (sym is_closing)
-                ∙ ap (λ xs. body xs t.opening t.closing) (sym h.frames);
+                ∙ sym (body-none t.modem t.opening (closing_flags modem tail))
+                ∙ ap (λ n. body_by t.modem [] t.opening n) (sym is_closing)
+                ∙ ap (λ xs. body_by t.modem xs t.opening t.closing) (sym h.frames);
             ends = refl;
             named = opening_named;
           };
@@ -347,15 +352,15 @@ module _ (left : ℕ) (t : OnAir) (total : ℕ) (sent : List Bool) (h : InOpenin
         }
 
     -- the front frame follows
-    opening_begins : (front : WaitingFrame) (others : List WaitingFrame)
+    opening_begins : (front : WaitingFrame) (others : List WaitingFrame) → HasFrameLength front.octets
         → Steps (front ∷ others) t total sent (record {
           bit = Some (flag_bit left);
           named = None;
-          stage = Frame (frame_start front.octets);
+          stage = Frame (frame_start t.modem front.octets);
           frames = 1;
           waiting = front ∷ others;
         })
-    opening_begins front others =
+    opening_begins front others fits =
         let waiting : List WaitingFrame = front ∷ others in
         let now : OnAir = record t { frames = t.frames ++ front.octets ∷ [] } in
         let all : now.frames ≡ front.octets ∷ [] = ap (λ xs. xs ++ front.octets ∷ []) h.frames in
@@ -364,9 +369,9 @@ module _ (left : ℕ) (t : OnAir) (total : ℕ) (sent : List Bool) (h : InOpenin
         let follows : followed_by (waiting_after t waiting) t ≡ now =
         ap (λ w. followed_by w t) (after_none t waiting h.frames)
         ∙ cond-true (ltb (length t.frames) most_frames) _ _ few in
-        let single : body now.frames t.opening 0 ≡ flags t.opening ++ frame_bits front.octets =
-        ap (λ xs. body xs t.opening 0) all ∙ body-single front.octets t.opening in
-        let behind = first_end now front.octets refl all in
+        let single : body_by t.modem now.frames t.opening 0 ≡ flags t.opening ++ piece t.modem front.octets =
+        ap (λ xs. body_by t.modem xs t.opening 0) all ∙ body-single t.modem front.octets t.opening in
+        let behind = first_end now front.octets refl refl all in
         let there = flag_end-last now [] front.octets all h.named in
         let flag : names_next (total + 1) now ≡ false = flag_goes_on (total + 1) now (omega arith) in
         record {
@@ -379,8 +384,8 @@ module _ (left : ℕ) (t : OnAir) (total : ℕ) (sent : List Bool) (h : InOpenin
           place = decided_place (total + 1) waiting t open_ended now follows flag;
           stands = record {
             past = [];
-            some = started front.octets;
-            bits = frame_begins (sent ++ flag_bit left ∷ []) (flags t.opening) (body now.frames t.opening 0)
+            some = started t.modem front.octets fits.least;
+            bits = frame_begins t.modem (sent ++ flag_bit left ∷ []) (flags t.opening) (body_by t.modem now.frames t.opening 0)
                 front.octets all_open (sym single);
             frames = all;
             ends = h.ends;
@@ -391,19 +396,21 @@ module _ (left : ℕ) (t : OnAir) (total : ℕ) (sent : List Bool) (h : InOpenin
           modem = refl;
         }
 
-  pub opening_steps : (waiting : List WaitingFrame) (modem : Modem) (tail frames : ℕ) → frames ≡ length t.frames
+  pub opening_steps : (waiting : List WaitingFrame) → All (λ frame. HasFrameLength frame.octets) waiting
+      → (modem : Modem) (tail frames : ℕ) → modem ≡ t.modem → frames ≡ length t.frames
       → t.closing ≡ closing_flags modem tail
       → Steps waiting t total sent (stage_step (Opening left) modem tail frames waiting)
-  opening_steps waiting modem tail frames is_frames is_closing =
+  opening_steps waiting fit modem tail frames by is_frames is_closing =
       by_test (λ step. Steps waiting t total sent step) (ltb 1 left) _ _
       (λ several. opening_goes_on waiting frames (ltb-true 1 left several) is_frames)
       (λ last.
       let few : left ≤ 1 = ltb-false 1 left last in
       let some : 1 ≤ left = h.some in
       let one : left ≡ 1 = omega arith in
-      opened_steps waiting modem tail frames one is_frames is_closing)
+      opened_steps waiting fit modem tail frames by one is_frames is_closing)
     where
-      opened_steps : (waiting : List WaitingFrame) (modem : Modem) (tail frames : ℕ) → left ≡ 1 → frames ≡ length t.frames
+      opened_steps : (waiting : List WaitingFrame) → All (λ frame. HasFrameLength frame.octets) waiting
+          → (modem : Modem) (tail frames : ℕ) → modem ≡ t.modem → left ≡ 1 → frames ≡ length t.frames
           → t.closing ≡ closing_flags modem tail
           → Steps waiting t total sent (record {
             bit = Some (flag_bit left);
@@ -412,15 +419,25 @@ module _ (left : ℕ) (t : OnAir) (total : ℕ) (sent : List Bool) (h : InOpenin
             frames = frames_opened frames waiting;
             waiting = waiting;
           })
-      opened_steps [] modem tail frames one is_frames is_closing = opening_closes one modem tail frames is_frames is_closing
-      opened_steps (front ∷ others) modem tail frames one is_frames is_closing = opening_begins one front others
+      opened_steps [] fit modem tail frames by one is_frames is_closing =
+          opening_closes one modem tail frames is_frames is_closing
+      opened_steps (front ∷ others) fit modem tail frames by one is_frames is_closing =
+          subst (λ m. Steps (front ∷ others) t total sent (record {
+            bit = Some (flag_bit left);
+            named = None;
+            stage = Frame (frame_start m front.octets);
+            frames = 1;
+            waiting = front ∷ others;
+          })) (sym by)
+          (opening_begins one front others
+          (All-head (λ (frame : WaitingFrame). HasFrameLength frame.octets) front others fit))
 
 -- ---- a bit of a frame
 
 module _ (f : FrameBits) (front : WaitingFrame) (others : List WaitingFrame) (t : OnAir) (total : ℕ) (sent : List Bool)
     (h : InFrame f front t sent) (count : length sent ≡ total) (next : NextInFrame f front.octets) where
   -- the bits with the next one
-  more_sent : (sent ++ next.bit ∷ []) ++ frame_rest next.behind front.octets ≡ body t.frames t.opening 0
+  more_sent : (sent ++ next.bit ∷ []) ++ frame_rest next.behind front.octets ≡ body_by t.modem t.frames t.opening 0
   more_sent =
       append_assoc sent (next.bit ∷ []) (frame_rest next.behind front.octets)
       ∙ ap (λ xs. sent ++ xs) (sym next.rest) ∙ h.bits
@@ -483,14 +500,14 @@ module _ (f : FrameBits) (front : WaitingFrame) (others : List WaitingFrame) (t 
     ended = frames_end_here (total + 1) t h.ends (omega (arith, end_here))
 
     -- the flag after the frame is to come
-    flag_comes : (sent ++ next.bit ∷ []) ++ flag_rest 8 ≡ body (h.past ++ front.octets ∷ []) t.opening 1
+    flag_comes : (sent ++ next.bit ∷ []) ++ flag_rest 8 ≡ body_by t.modem (h.past ++ front.octets ∷ []) t.opening 1
     flag_comes =
         ap (λ xs. xs ++ flag_rest 8) (
         sym (append-nil (sent ++ next.bit ∷ []))
         ∙ ap (λ xs. (sent ++ next.bit ∷ []) ++ xs) (sym (frame_rest-over next.behind front.octets over))
         ∙ more_sent
         )
-        ∙ sym (body-closing t.frames t.opening 1) ∙ ap (λ xs. body xs t.opening 1) h.frames
+        ∙ sym (body-closing t.modem t.frames t.opening 1) ∙ ap (λ xs. body_by t.modem xs t.opening 1) h.frames
 
     -- no frame follows
     pub closes : followed_by others t ≡ record t { ends = true } → joins frames (front ∷ others) ≡ false
@@ -507,7 +524,7 @@ module _ (f : FrameBits) (front : WaitingFrame) (others : List WaitingFrame) (t 
         ap (λ w. followed_by w t) (after_front t h.past front.octets front others h.frames h.named) ∙ is in
         let behind_there : flag_end (t.named + 1) now ≡ frames_end t + 8 =
         flag_end-at now h.past front.octets [] (h.frames ∙ sym (append-nil (h.past ++ front.octets ∷ []))) h.named
-        ∙ ap (λ xs. length (body xs t.opening 1)) (sym h.frames) ∙ length-frames_flag t in
+        ∙ ap (λ xs. length (body_by t.modem xs t.opening 1)) (sym h.frames) ∙ length-frames_flag t in
         let there = end_here in
         let flag : names_next (total + 1) now ≡ false = flag_goes_on (total + 1) now (omega arith) in
         record {
@@ -549,7 +566,7 @@ module _ (f : FrameBits) (front : WaitingFrame) (others : List WaitingFrame) (t 
         ap (λ xs. xs ++ follower.octets ∷ []) h.frames in
         let behind_there : flag_end (t.named + 1) now ≡ frames_end t + 8 =
         flag_end-at now h.past front.octets (follower.octets ∷ []) all h.named
-        ∙ ap (λ xs. length (body xs t.opening 1)) (sym h.frames) ∙ length-frames_flag t in
+        ∙ ap (λ xs. length (body_by t.modem xs t.opening 1)) (sym h.frames) ∙ length-frames_flag t in
         let there = end_here in
         let flag : names_next (total + 1) now ≡ false = flag_goes_on (total + 1) now (omega arith) in
         let P : List WaitingFrame → Type 0 = λ w. Stands (Following 8 true) (front ∷ w) now (sent ++ next.bit ∷ []) in
@@ -697,7 +714,7 @@ module _ (left : ℕ) (front : WaitingFrame) (next : List (List ℕ)) (last : Bo
   }
 
   -- with its last bit
-  pub flag_whole : left ≡ 1 → sent ++ flag_bit left ∷ [] ≡ body (h.past ++ front.octets ∷ []) t.opening 1
+  pub flag_whole : left ≡ 1 → sent ++ flag_bit left ∷ [] ≡ body_by t.modem (h.past ++ front.octets ∷ []) t.opening 1
   flag_whole one = flag_last sent left one ∙ h.bits
 
   pub flag_ends : (others : List WaitingFrame) (frames : ℕ) (stage : Stage) → left ≡ 1 → frames ≡ length t.frames
@@ -730,15 +747,15 @@ module _ (left : ℕ) (front : WaitingFrame) (next : List (List ℕ)) (last : Bo
 
 pub following_next : (left : ℕ) (front follower : WaitingFrame) (more : List WaitingFrame) (t : OnAir) (total : ℕ)
     (sent : List Bool) → InFlag left front (follower.octets ∷ []) false t sent → length sent ≡ total
-    → HasFrameLength follower.octets → (modem : Modem) (tail frames : ℕ) → frames ≡ length t.frames
+    → HasFrameLength follower.octets → (modem : Modem) (tail frames : ℕ) → modem ≡ t.modem → frames ≡ length t.frames
     → Steps (front ∷ follower ∷ more) t total sent (stage_step (Following left true) modem tail frames
     (front ∷ follower ∷ more))
-following_next left front follower more t total sent h count fits modem tail frames is_frames =
+following_next left front follower more t total sent h count fits modem tail frames by is_frames =
     let next : List (List ℕ) = follower.octets ∷ [] in
     let waiting : List WaitingFrame = front ∷ follower ∷ more in
     let there = flag_there_at left front next false t total sent h count in
     let behind = frames_end-next t h.past front.octets follower.octets h.frames h.named in
-    let long : 136 ≤ length (frame_bits follower.octets) = frame_bits-long follower.octets fits.least in
+    let long : 136 ≤ length (piece t.modem follower.octets) = piece-long t.modem follower.octets fits.least in
     let some : 1 ≤ left = h.some in
     let goes : has_sent_frames (total + 1) t ≡ false = frames_go_on (total + 1) t (omega arith) in
     by_test (λ step. Steps waiting t total sent step) (ltb 1 left) _ _
@@ -750,27 +767,28 @@ following_next left front follower more t total sent h count fits modem tail fra
     let below : left ≤ 1 = ltb-false 1 left last in
     let one : left ≡ 1 = omega arith in
     flag_ends left front next false t total sent h count (follower ∷ more) frames (Frame
-    (frame_start follower.octets)) one
-    is_frames goes (record {
+    (frame_start modem follower.octets)) one
+    is_frames goes (subst (λ m. Stands (Frame (frame_start m follower.octets)) (follower ∷ more)
+    (record t { named = t.named + 1 }) (sent ++ flag_bit left ∷ [])) (sym by) (record {
       past = h.past ++ front.octets ∷ [];
-      some = started follower.octets;
-      bits = frame_begins (sent ++ flag_bit left ∷ []) (body (h.past ++ front.octets ∷ []) t.opening 1)
-          (body t.frames t.opening 0) follower.octets (flag_whole left front next false t total sent h count one)
-          (sym (ap (λ xs. body xs t.opening 0) h.frames ∙ body-push h.past front.octets follower.octets t.opening));
+      some = started t.modem follower.octets fits.least;
+      bits = frame_begins t.modem (sent ++ flag_bit left ∷ []) (body_by t.modem (h.past ++ front.octets ∷ []) t.opening 1)
+          (body_by t.modem t.frames t.opening 0) follower.octets (flag_whole left front next false t total sent h count one)
+          (sym (ap (λ xs. body_by t.modem xs t.opening 0) h.frames ∙ body-push t.modem h.past front.octets follower.octets t.opening));
       frames = h.frames;
       ends = h.ends;
       named = omega (arith, h.named, length-append h.past (front.octets ∷ []));
-    }))
+    })))
 
 -- the closing flags after the first one
-closing_follows : (frames : List (List ℕ)) (opening : ℕ) (modem : Modem) (tail : ℕ) (now : List Bool) → 1 < closing_flags modem tail
-    → now ≡ body frames opening 1
-    → now ++ flag_rest (8 * (closing_flags modem tail - 1)) ≡ body frames opening (closing_flags modem tail)
-closing_follows frames opening modem tail now several is =
+closing_follows : (by : Modem) (frames : List (List ℕ)) (opening : ℕ) (modem : Modem) (tail : ℕ) (now : List Bool)
+    → 1 < closing_flags modem tail → now ≡ body_by by frames opening 1
+    → now ++ flag_rest (8 * (closing_flags modem tail - 1)) ≡ body_by by frames opening (closing_flags modem tail)
+closing_follows by frames opening modem tail now several is =
     let others : ℕ = closing_flags modem tail - 1 in
     let all : 1 + others ≡ closing_flags modem tail = omega arith in
-    ap (λ xs. xs ++ flag_rest (8 * others)) is ∙ ap (λ xs. body frames opening 1 ++ xs) (sym (flags-is others))
-    ∙ sym (body-more_closing frames opening others) ∙ ap (body frames opening) all
+    ap (λ xs. xs ++ flag_rest (8 * others)) is ∙ ap (λ xs. body_by by frames opening 1 ++ xs) (sym (flags-is others))
+    ∙ sym (body-more_closing by frames opening others) ∙ ap (body_by by frames opening) all
 
 pub following_last : (left : ℕ) (front : WaitingFrame) (others : List WaitingFrame) (t : OnAir) (total : ℕ)
     (sent : List Bool) → InFlag left front [] true t sent → length sent ≡ total → (modem : Modem) (tail frames : ℕ)
@@ -791,15 +809,15 @@ following_last left front others t total sent h count modem tail frames is_frame
     let below : left ≤ 1 = ltb-false 1 left last in
     let one : left ≡ 1 = omega arith in
     let now : List Bool = sent ++ flag_bit left ∷ [] in
-    let is_now : now ≡ body t.frames t.opening 1 =
-    flag_whole left front [] true t total sent h count one ∙ ap (λ xs. body xs t.opening 1) (sym whole) in
+    let is_now : now ≡ body_by t.modem t.frames t.opening 1 =
+    flag_whole left front [] true t total sent h count one ∙ ap (λ xs. body_by t.modem xs t.opening 1) (sym whole) in
     flag_ends left front [] true t total sent h count others frames (other_closing modem tail) one is_frames goes
     (by_test (λ stage. Stands stage others (record t { named = t.named + 1 }) now) (ltb 1 (closing_flags modem tail)) _ _
     (λ several.
     let above : 1 < closing_flags modem tail = ltb-true 1 (closing_flags modem tail) several in
     record {
       some = omega arith;
-      bits = closing_follows t.frames t.opening modem tail now above is_now ∙ ap (body t.frames t.opening) (sym is_closing);
+      bits = closing_follows t.modem t.frames t.opening modem tail now above is_now ∙ ap (body_by t.modem t.frames t.opening) (sym is_closing);
       ends = h.ends;
       named = all;
     })
@@ -807,7 +825,7 @@ following_last left front others t total sent h count modem tail frames is_frame
     let few : closing_flags modem tail ≤ 1 = ltb-false 1 (closing_flags modem tail) single in
     let least : 1 ≤ closing_flags modem tail = le-max_left 1 (flags_in modem tail) in
     let is_one : 1 ≡ t.closing = omega arith in
-    record { bits = is_now ∙ ap (body t.frames t.opening) is_one; ends = h.ends; named = all })))
+    record { bits = is_now ∙ ap (body_by t.modem t.frames t.opening) is_one; ends = h.ends; named = all })))
 
 -- ---- a bit of the closing flags
 
@@ -862,36 +880,36 @@ pub record SendsBit (waiting : List WaitingFrame) (t : OnAir) (total : ℕ) (sen
 pub stage_cases : (stage : Stage) (waiting : List WaitingFrame) (t : OnAir) (total : ℕ) (sent : List Bool)
     (modem : Modem) (tail frames : ℕ)
     → Stands stage waiting t sent → Counts stage total sent → All (λ frame. HasFrameLength frame.octets) waiting
-    → frames ≡ length t.frames → t.closing ≡ closing_flags modem tail
+    → modem ≡ t.modem → frames ≡ length t.frames → t.closing ≡ closing_flags modem tail
     → SendsBit waiting t total sent (stage_step stage modem tail frames waiting)
     ⊎ IsOver waiting t total sent frames (stage_step stage modem tail frames waiting)
-stage_cases (Opening left) waiting t total sent modem tail frames h count fit is_frames is_closing =
+stage_cases (Opening left) waiting t total sent modem tail frames h count fit by is_frames is_closing =
     inl (record {
-      steps = opening_steps left t total sent h count waiting modem tail frames is_frames is_closing;
+      steps = opening_steps left t total sent h count waiting fit modem tail frames by is_frames is_closing;
       count = count;
     })
-stage_cases (Frame f) [] t total sent modem tail frames h count fit is_frames is_closing = absurd h
-stage_cases (Frame f) (front ∷ others) t total sent modem tail frames h count fit is_frames is_closing =
+stage_cases (Frame f) [] t total sent modem tail frames h count fit by is_frames is_closing = absurd h
+stage_cases (Frame f) (front ∷ others) t total sent modem tail frames h count fit by is_frames is_closing =
     inl (record { steps = frame_steps f front others t total sent h count modem tail frames is_frames; count = count })
-stage_cases (Following left true) [] t total sent modem tail frames h count fit is_frames is_closing = absurd h
-stage_cases (Following left true) (front ∷ []) t total sent modem tail frames h count fit is_frames is_closing = absurd h
-stage_cases (Following left true) (front ∷ next ∷ others) t total sent modem tail frames h count fit is_frames is_closing =
+stage_cases (Following left true) [] t total sent modem tail frames h count fit by is_frames is_closing = absurd h
+stage_cases (Following left true) (front ∷ []) t total sent modem tail frames h count fit by is_frames is_closing = absurd h
+stage_cases (Following left true) (front ∷ next ∷ others) t total sent modem tail frames h count fit by is_frames is_closing =
     let behind = All-tail (λ (frame : WaitingFrame). HasFrameLength frame.octets) front (next ∷ others) fit in
     let fits = All-head (λ (frame : WaitingFrame). HasFrameLength frame.octets) next others behind in
     inl (record {
       steps =
-          following_next left front next others t total sent h count fits modem tail frames is_frames;
+          following_next left front next others t total sent h count fits modem tail frames by is_frames;
       count = count;
     })
-stage_cases (Following left false) [] t total sent modem tail frames h count fit is_frames is_closing = absurd h
-stage_cases (Following left false) (front ∷ others) t total sent modem tail frames h count fit is_frames is_closing =
+stage_cases (Following left false) [] t total sent modem tail frames h count fit by is_frames is_closing = absurd h
+stage_cases (Following left false) (front ∷ others) t total sent modem tail frames h count fit by is_frames is_closing =
     inl (record {
       steps = following_last left front others t total sent h count modem tail frames is_frames is_closing;
       count = count;
     })
-stage_cases (Closing left) waiting t total sent modem tail frames h count fit is_frames is_closing =
+stage_cases (Closing left) waiting t total sent modem tail frames h count fit by is_frames is_closing =
     inl (record { steps = closing_step left waiting t total sent h modem tail frames is_frames; count = count })
-stage_cases Over waiting t total sent modem tail frames h count fit is_frames is_closing =
+stage_cases Over waiting t total sent modem tail frames h count fit by is_frames is_closing =
     let goes : has_sent_frames (total + 1) t ≡ false = frames_ended (total + 1) t h.ends in
     let flag : names_next (total + 1) t ≡ false = all_named (total + 1) t h.named in
     inr (record {

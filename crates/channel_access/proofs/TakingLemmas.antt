@@ -1,5 +1,5 @@
 -- Whether the channel takes a frame of a link in the next tick.
-use Rattle.channel_access.proofs.Common.{◌≡◌, ℕ, ◌+◌, ◌*◌, ◌≤◌, ◌<◌, Bool, true, false, not, ◌&&◌, leb, ltb, eqb, Option}
+use Rattle.channel_access.proofs.Common.{◌≡◌, ℕ, ◌+◌, ◌≤◌, ◌<◌, Bool, true, false, not, ◌&&◌, leb, ltb, eqb, Option}
 use Rattle.channel_access.proofs.Common.{Some, None, List, [], ◌∷◌, length, drop, refl, ap, ◌∙◌, sym, arith}
 use Rattle.channel_access.proofs.Common.{length-append, All, All-head, All-tail, cases_Bool, leb-true, leb-false, inl, inr}
 use Rattle.channel_access.proofs.Common.{Sending, Stage, Opening, Frame, Following, Closing, Over, WaitingFrame}
@@ -11,7 +11,7 @@ use Rattle.channel_access.proofs.SendingLemmas.{sends_by}
 use Rattle.std.specs.List.{list_any}
 use Rattle.channel_access.specs.Channel.{is_of_link, takes_on_air, takes_frame, is_last_on_air, takes_last}
 use Rattle.channel_access.specs.HeldTaking.{ends_in_tick, on_air_in, sender_takes, held_takes, held_takes_last}
-use Rattle.channel_access.proofs.BodyLemmas.{frame_bits-long}
+use Rattle.channel_access.proofs.BodyLemmas.{piece-long}
 use Rattle.channel_access.proofs.StageLemmas.{frames_go_on, frames_ended, frames_end_here, after_none, after_front, opening_end}
 use Rattle.channel_access.proofs.StageLemmas.{frames_end-next, flag_there_at}
 
@@ -66,7 +66,7 @@ tells_tick (Following left true) (front ∷ []) t sent h count fit = absurd h
 tells_tick (Following left true) (front ∷ next ∷ others) t sent h count fit =
     let behind = All-tail (λ (frame : WaitingFrame). HasFrameLength frame.octets) front (next ∷ others) fit in
     let fits = All-head (λ (frame : WaitingFrame). HasFrameLength frame.octets) next others behind in
-    let long = frame_bits-long next.octets fits.least in
+    let long = piece-long t.modem next.octets fits.least in
     let there = flag_there_at left front (next.octets ∷ []) false t (bits_of_ticks t.modem t.ticks) sent h count in
     let more_bits = bits_of_ticks-more t.modem t.ticks in
     let most = tick_bits-most t.modem in

@@ -1,5 +1,5 @@
 -- The bits of a tick, from its first one on.
-use Rattle.channel_access.proofs.Common.{◌≡◌, ℕ, zero, suc, ◌+◌, ◌-◌, ◌*◌, ◌≤◌, Bool, true, cond, Option, Some, None, ℤ}
+use Rattle.channel_access.proofs.Common.{◌≡◌, ℕ, zero, suc, ◌+◌, ◌-◌, ◌≤◌, Bool, true, cond, Option, Some, None, ℤ}
 use Rattle.channel_access.proofs.Common.{List, [], ◌∷◌, ◌++◌, length, get_or, drop, refl, ap, ◌∙◌, sym, subst, inl, inr}
 use Rattle.channel_access.proofs.Common.{arith, append_assoc, All, cases_Bool, cond-true, cond-false, nat_tests}
 use Rattle.channel_access.proofs.Common.{All-tail, Sent, Sending, WaitingFrame, HasFrameLength, OnAir, decided}

@@ -2,12 +2,12 @@
 use Rattle.channel_access.proofs.Common.{◌≡◌, ℕ, ◌+◌, ◌*◌, ◌≤◌, Bool, true, false, not, ◌&&◌, cond, eqb, leb, ltb, ℤ}
 use Rattle.channel_access.proofs.Common.{pos, List, [], ◌∷◌, ◌++◌, length, take, drop, replicate, refl, ap, ◌∙◌, sym}
 use Rattle.channel_access.proofs.Common.{inl, inr, arith, append_assoc, append-nil, cases_Bool, take-append-le}
-use Rattle.channel_access.proofs.Common.{transmission_by, samples_of_bits, flags, body, frame_bits, flag, joined-push, line}
+use Rattle.channel_access.proofs.Common.{transmission_by, samples_of_bits, flags, body_by, piece, flag, line}
 use Rattle.channel_access.proofs.Common.{length-line_from, Mark, WaitingFrame, OnAir, bits_then, bits_of}
-use Rattle.channel_access.proofs.Common.{samples_on_air, frames_end, has_sent_frames, followed_by, decided}
+use Rattle.channel_access.proofs.Common.{Modem, samples_on_air, frames_end, has_sent_frames, followed_by, decided}
 use Rattle.channel_access.proofs.Common.{tick_samples, most_frames, waiting_after}
 use Rattle.std.proofs.lemmas.List.{drop-append-le, length-drop}
-use Rattle.channel_access.proofs.BodyLemmas.{body-closing}
+use Rattle.channel_access.proofs.BodyLemmas.{body-closing, joined-more}
 use Rattle.channel_access.proofs.StageLemmas.{by_test}
 use Rattle.channel_access.proofs.ModemLemmas.{samples_of_bits-ticks, samples_of_bits-fewer, modem_wave}
 use Rattle.channel_access.proofs.ModemLemmas.{length-modem_wave}
@@ -18,7 +18,7 @@ closes_adds : (t : OnAir) → t.ends ≡ false
     → (rest : List Bool) × (bits_of (record t { ends = true }) ≡ bits_of t ++ rest)
 closes_adds t goes = (
   flags t.closing,
-  sym (closed_bits (record t { ends = true }) refl) ∙ body-closing t.frames t.opening t.closing
+  sym (closed_bits (record t { ends = true }) refl) ∙ body-closing t.modem t.frames t.opening t.closing
       ∙ ap (λ xs. xs ++ flags t.closing) (open_bits t goes),
 )
 
@@ -34,13 +34,14 @@ open_when_ended bits t ended =
     ]
 
 -- another frame comes after all frames
-body-one_more : (frames : List (List ℕ)) (octets : List ℕ) (opening : ℕ)
-    → (rest : List Bool) × (body (frames ++ octets ∷ []) opening 0 ≡ body frames opening 0 ++ rest)
-unfolding body
-body-one_more frames octets opening =
-    let last : List Bool = cond (eqb (length frames) 0) (frame_bits octets) (flag ++ frame_bits octets) in (
+body-one_more : (modem : Modem) (frames : List (List ℕ)) (octets : List ℕ) (opening : ℕ)
+    → (rest : List Bool)
+    × (body_by modem (frames ++ octets ∷ []) opening 0 ≡ body_by modem frames opening 0 ++ rest)
+unfolding body_by
+body-one_more modem frames octets opening =
+    let last : List Bool = cond (eqb (length frames) 0) (piece modem octets) (flag ++ piece modem octets) in (
       last,
-      ap (λ xs. flags opening ++ (xs ++ [])) (joined-push frames octets) ∙ simp (append_assoc, append-nil),
+      ap (λ xs. flags opening ++ (xs ++ [])) (joined-more modem frames octets) ∙ simp (append_assoc, append-nil),
     )
 
 followed_adds : (others : List WaitingFrame) (t : OnAir) → t.ends ≡ false
@@ -50,7 +51,7 @@ followed_adds (next ∷ others) t goes =
     by_test (λ (u : OnAir). (rest : List Bool) × (bits_of u ≡ bits_of t ++ rest)) (ltb
     (length t.frames) most_frames) _ _
     (λ few.
-    let more = body-one_more t.frames next.octets t.opening in (
+    let more = body-one_more t.modem t.frames next.octets t.opening in (
       more.0,
       sym (open_bits (record t { frames = t.frames ++ next.octets ∷ [] }) goes) ∙ more.1
           ∙ ap (λ xs. xs ++ more.0) (open_bits t goes),
@@ -75,10 +76,10 @@ length-samples_on_air t =
     ap length (samples_on_air-is t) ∙ length-modem_wave t.modem (line (bits_of t))
     ∙ ap (samples_of_bits t.modem) (length-line_from Mark (bits_of t))
 
--- a piece of a list is there with anything after the list
-piece : (xs ys : List ℤ) (start size : ℕ) → start + size ≤ length xs
+-- a part of a list is there with anything after the list
+part_still : (xs ys : List ℤ) (start size : ℕ) → start + size ≤ length xs
     → take size (drop start (xs ++ ys)) ≡ take size (drop start xs)
-piece xs ys start size within =
+part_still xs ys start size within =
     ap (take size) (drop-append-le start xs ys (omega arith))
     ∙ take-append-le size (drop start xs) ys (omega (arith, length-drop start xs))
 
@@ -95,5 +96,5 @@ tick_in_whole t whole rest same_modem adds within =
     let ticks = samples_of_bits-ticks t.modem (t.ticks + 1) in
     let fewer = samples_of_bits-fewer t.modem (bits_then t) (length (bits_of t)) within in
     let long : 96 * t.ticks + 96 ≤ length (samples_on_air t) = omega (arith, ticks, fewer, length-samples_on_air t) in
-    piece (samples_on_air t) (replicate 96 (pos 0)) (96 * t.ticks) 96 long
-    ∙ sym (ap (λ xs. take 96 (drop (96 * t.ticks) xs)) all ∙ piece (samples_on_air t) later.0 (96 * t.ticks) 96 long)
+    part_still (samples_on_air t) (replicate 96 (pos 0)) (96 * t.ticks) 96 long
+    ∙ sym (ap (λ xs. take 96 (drop (96 * t.ticks) xs)) all ∙ part_still (samples_on_air t) later.0 (96 * t.ticks) 96 long)

@@ -1,9 +1,9 @@
 -- The ticks of a transmission from its first one on are one transmission.
-use Rattle.channel_access.proofs.Common.{◌≡◌, ℕ, ◌+◌, ◌-◌, ◌*◌, ◌/◌, ◌<◌, ◌≤◌, ◌⊎◌, Bool, true, false, cond, leb}
+use Rattle.channel_access.proofs.Common.{◌≡◌, ℕ, ◌+◌, ◌-◌, ◌<◌, ◌≤◌, ◌⊎◌, Bool, true, false, cond, leb}
 use Rattle.channel_access.proofs.Common.{Option, Some, None, is_some, pos, List, [], ◌∷◌, ◌++◌, length, get_or}
 use Rattle.channel_access.proofs.Common.{replicate, refl, ap, ◌∙◌, sym, subst, inl, inr, arith, append_assoc}
 use Rattle.channel_access.proofs.Common.{append-nil, length-append, cases_Bool, take_all, flat_map-append, All-nil}
-use Rattle.channel_access.proofs.Common.{All-head, All-tail, All-push, le-max_left, line, body, HasFrameLength}
+use Rattle.channel_access.proofs.Common.{All-head, All-tail, All-push, le-max_left, line, body_by, HasFrameLength}
 use Rattle.channel_access.proofs.Common.{AirTick, Sending, Stage, Opening, Frame, Following, Closing}
 use Rattle.channel_access.proofs.Common.{Over, opening_flags, closing_flags, WaitingFrame, OnAir}
 use Rattle.channel_access.proofs.Common.{bits_of, bits_then, decided, names_next, flag_end, frame_named, tick_samples}
@@ -21,10 +21,10 @@ use Rattle.channel_access.specs.Happenings.Happening.{Ticked}
 use Rattle.channel_access.proofs.OrderLemmas.{decided_frames, air_takes}
 use Rattle.channel_access.proofs.StageLemmas.{now_at, waiting_at}
 use Rattle.channel_access.proofs.SendingLemmas.{padded}
-use Rattle.channel_access.proofs.TickLemmas.{all_waiting}
+use Rattle.channel_access.proofs.TickLemmas.{all_waiting, modem-now_at}
 use Rattle.channel_access.proofs.AirLemmas.{at_end, run_samples, run_air, goes_on, same_bits, same_modem, full_before, is_left}
 use Rattle.channel_access.proofs.AirLemmas.{closed_bits, bits_of-with_named}
-use Rattle.channel_access.proofs.Common.{Modem, Bell202, ShortWave, flags_in, tick_bits, bits_of_ticks, samples_of_bits}
+use Rattle.channel_access.proofs.Common.{Modem, Bell202, ShortWave, Fx25, flags_in, tick_bits, bits_of_ticks, samples_of_bits}
 use Rattle.channel_access.proofs.ModemLemmas.{bits_of_ticks-more, tick_bits-least, modem_wave, transmission_by-is}
 use Rattle.channel_access.proofs.AccessLemmas.{begins}
 use Rattle.channel_access.proofs.QueueLemmas.{GoesWith, goes_joined}
@@ -97,6 +97,7 @@ over_sent Over waiting t sent over h = h
 fewer_samples : (modem : Modem) (bits : ℕ) → bits + 1 ≤ tick_bits modem → samples_of_bits modem bits < 96
 fewer_samples Bell202 bits fewer = omega arith
 fewer_samples ShortWave bits fewer = omega arith
+fewer_samples (Fx25 checks) bits fewer = omega arith
 
 module _ (s : Sending) (waiting : List WaitingFrame) (t : OnAir) (g : Goes s waiting t) (fit : AreFrames waiting) where
   abbrev decided_then : OnAir
@@ -131,7 +132,7 @@ module _ (s : Sending) (waiting : List WaitingFrame) (t : OnAir) (g : Goes s wai
 
   -- some bit is sent
   bit_sent : then_on_air.ends ≡ true
-      → (at_end s waiting t g fit).more ≡ body then_on_air.frames then_on_air.opening then_on_air.closing
+      → (at_end s waiting t g fit).more ≡ body_by then_on_air.modem then_on_air.frames then_on_air.opening then_on_air.closing
       → bits_of_ticks t.modem t.ticks < length (at_end s waiting t g fit).more
   bit_sent ends is =
       let one : 1 ≤ t.closing = subst (λ n. 1 ≤ n) (sym g.sends.closing) (le-max_left 1 (flags_in t.modem s.tail)) in
@@ -194,11 +195,13 @@ module _ (s : Sending) (waiting : List WaitingFrame) (t : OnAir) (g : Goes s wai
         let same : tick_bits t.modem ≡ tick_bits modem = ap tick_bits by in
         let few_zeros : zeros < 96 =
         fewer_samples modem left (subst (λ n. left + 1 ≤ n) same fewer) in
-        let bits : b.more ≡ body (octets_of so.gone) opening closing =
+        let by_now : then_on_air.modem ≡ modem = modem-now_at (bits_then t) waiting t ∙ by in
+        let bits : b.more ≡ body_by modem (octets_of so.gone) opening closing =
         done.bits
-        ∙ ap (λ xs. body xs then_on_air.opening then_on_air.closing) (sym all)
-        ∙ ap (λ n. body (octets_of so.gone) n then_on_air.closing) so.opening
-        ∙ ap (body (octets_of so.gone) opening) so.closing in
+        ∙ ap (λ m. body_by m then_on_air.frames then_on_air.opening then_on_air.closing) by_now
+        ∙ ap (λ xs. body_by modem xs then_on_air.opening then_on_air.closing) (sym all)
+        ∙ ap (λ n. body_by modem (octets_of so.gone) n then_on_air.closing) so.opening
+        ∙ ap (body_by modem (octets_of so.gone) opening) so.closing in
         record {
           frames = so.gone;
           front = so.queue;
@@ -368,6 +371,7 @@ nothing_sent : (modem : Modem) → padded modem (bits_of_ticks modem 0) [] ≡ [
 unfolding padded at_level
 nothing_sent Bell202 = refl
 nothing_sent ShortWave = refl
+nothing_sent (Fx25 checks) = refl
 
 module _ (busy wants : Bool) (channel : Channel) (fit : AreFrames channel.waiting) (rest : channel.air ≡ None) where
   -- with the decision of the tick

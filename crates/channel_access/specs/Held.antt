@@ -1,14 +1,21 @@
 -- What the code keeps of a transmission under way, bit by bit. No public clause cites it.
 use Rattle.std.specs.Prelude.{ℕ, zero, suc, ◌+◌, ◌-◌, ◌*◌, ◌/◌, ◌%◌, nat_lt, nat_le, Bool, true, false, ◌&&◌}
-use Rattle.std.specs.Prelude.{if◌then◌else◌, ℤ, pos, List, [], ◌∷◌, ◌++◌, length, drop, replicate, slice_index_or}
-use Rattle.std.specs.Prelude.{Option, Some, None}
+use Rattle.std.specs.Prelude.{if◌then◌else◌, ℤ, pos, List, [], ◌∷◌, ◌++◌, length, take, drop, replicate, slice_index_or}
+use Rattle.std.specs.Prelude.{Option, Some, None, option_map}
+use Rattle.std.specs.Int.{w64, to_le_bytes}
 use Rattle.rand_pcg.specs.Lcg.{Lcg}
 use Rattle.tone_table.specs.declared.tone.Tone.TheVariants.{Mark}
 use Rattle.nrzi_bits.specs.Line.{sent_tone}
 use Rattle.hdlc_framer.specs.BitOrder.{sent_bits}
 use Rattle.hdlc_framer.specs.CheckSequence.{fcs_of}
 use Rattle.channel_access.specs.declared.air_tick.Sent.{Sent}
+use Rattle.fx25_blocks.specs.Blocks.{bits_needed}
+use Rattle.fx25_blocks.specs.Tags.{block_length, tag_value}
+use Rattle.fx25_sender.specs.Units.{last_tag, block_octets}
+use Rattle.channel_access.specs.declared.block_bits.BlockBits.{BlockBits}
 use Rattle.channel_access.specs.declared.frame_bits.FrameBits.{FrameBits}
+use Rattle.channel_access.specs.declared.frame_bits.FrameBits.TheVariants.{Stuffed, Block}
+use Rattle.channel_access.specs.declared.stuffed_bits.StuffedBits.{StuffedBits}
 use Rattle.channel_access.specs.declared.listening.Listening.{Listening}
 use Rattle.channel_access.specs.declared.stage.Stage.{Stage}
 use Rattle.channel_access.specs.declared.stage.Stage.TheVariants.{Opening, Frame, Following, Closing, Over}
@@ -18,14 +25,15 @@ use Rattle.channel_access.specs.declared.parameters.Parameters.{Parameters}
 use Rattle.channel_access.specs.declared.parameters.Param.{Param}
 use Rattle.channel_access.specs.Parameters.{default_parameters, with_param, opening_flags, closing_flags}
 use Rattle.channel_access.specs.Words.{generator_of, draw_stream}
-use Rattle.channel_access.specs.Modem.{samples_of_bits}
+use Rattle.channel_access.specs.declared.modem.Modem.TheVariants.{Bell202, ShortWave, Fx25}
+use Rattle.channel_access.specs.Modem.{count_of, samples_of_bits}
 use Rattle.channel_access.specs.HeldWave.{modem_of, wave_start, wave_window, after_tone}
 use Rattle.channel_access.specs.HeldTurns.{listening_of}
 use Rattle.channel_access.specs.Happenings.{Happening}
 use Rattle.channel_access.specs.Waiting.{WaitingFrame}
 use Rattle.channel_access.specs.OnAir.{most_frames}
 
--- ---- the bits of one frame
+-- ---- the bits of one frame, plainly
 
 -- octets and their check sequence, the low octet first
 abbrev pub checked : List ℕ → ℕ → List ℕ
@@ -40,24 +48,79 @@ abbrev pub bit_count : List ℕ → ℕ
 bit_count octets = 8 * (length octets + 2)
 
 -- at the first bit of a frame
-abbrev pub frame_start : List ℕ → FrameBits
-frame_start octets = record { place = 0; ones = 0; check = fcs_of octets }
+abbrev pub stuffed_start : List ℕ → StuffedBits
+stuffed_start octets = record { place = 0; ones = 0; check = fcs_of octets }
 
 -- the next bit, and where the frame stands after it: a zero is inserted after five 1s, and else the bit at the place
 -- comes
-abbrev pub behind_place : FrameBits → Bool → FrameBits
+abbrev pub behind_place : StuffedBits → Bool → StuffedBits
 behind_place f bit = record f { place = f.place + 1; ones = if bit then f.ones + 1 else 0 }
 
-abbrev pub next_in_frame : FrameBits → List ℕ → Option (Bool × FrameBits)
-next_in_frame f octets =
+abbrev pub next_stuffed : StuffedBits → List ℕ → Option (Bool × StuffedBits)
+next_stuffed f octets =
     if nat_le 5 f.ones then Some (false, record f { ones = 0 })
     else if nat_lt f.place (bit_count octets)
     then (let bit = slice_index_or (bits_in octets f.check) f.place false in Some (bit, behind_place f bit))
     else None
 
 -- no bit is left, and no zero is to be inserted
+abbrev pub stuffed_over : StuffedBits → List ℕ → Bool
+stuffed_over f octets = nat_lt f.ones 5 && nat_le (bit_count octets) f.place
+
+-- ---- the bits of a tag and a block
+
+-- the eight octets of a tag, the lowest first
+abbrev pub tag_octets : ℕ → List ℕ
+tag_octets tag = to_le_bytes w64 (tag_value tag)
+
+-- the octets of a tag and of the block of a frame
+unfoldable pub unit_octets : ℕ → List ℕ → List ℕ
+unit_octets tag octets = tag_octets tag ++ block_octets tag octets
+
+-- at the first bit of a tag, in front of the block of a frame
+abbrev pub block_start : ℕ → List ℕ → BlockBits
+block_start tag octets = record {
+  octets = unit_octets tag octets ++ replicate (263 - length (unit_octets tag octets)) 0;
+  length = block_length tag;
+  place = 0;
+}
+
+-- the bits of a tag, which has eight octets, and of its block
+unfoldable pub block_bits : BlockBits → List Bool
+block_bits b = take (8 * (8 + b.length)) (sent_bits b.octets)
+
+-- the next one, and where the sender stands after it
+abbrev pub next_in_block : BlockBits → Option (Bool × BlockBits)
+next_in_block b =
+    if nat_lt b.place (length (block_bits b))
+    then Some (slice_index_or (block_bits b) b.place false, record b { place = b.place + 1 })
+    else None
+
+-- none is left
+abbrev pub block_over : BlockBits → Bool
+block_over b = nat_le (length (block_bits b)) b.place
+
+-- ---- the bits that stand for one frame
+
+-- at the first of them
+abbrev pub tagged_start : Option ℕ → List ℕ → FrameBits
+tagged_start None octets = Stuffed (stuffed_start octets)
+tagged_start (Some tag) octets = Block (block_start tag octets)
+
+abbrev pub frame_start : Modem → List ℕ → FrameBits
+frame_start Bell202 octets = Stuffed (stuffed_start octets)
+frame_start ShortWave octets = Stuffed (stuffed_start octets)
+frame_start (Fx25 checks) octets = tagged_start (last_tag (count_of checks) (bits_needed octets) 11) octets
+
+-- the next one, and where the sender stands after it
+abbrev pub next_in_frame : FrameBits → List ℕ → Option (Bool × FrameBits)
+next_in_frame (Stuffed f) octets = option_map (λ given. (given.0, Stuffed given.1)) (next_stuffed f octets)
+next_in_frame (Block b) octets = option_map (λ given. (given.0, Block given.1)) (next_in_block b)
+
+-- none is left
 abbrev pub frame_over : FrameBits → List ℕ → Bool
-frame_over f octets = nat_lt f.ones 5 && nat_le (bit_count octets) f.place
+frame_over (Stuffed f) octets = stuffed_over f octets
+frame_over (Block b) octets = block_over b
 
 -- ---- flags
 
@@ -76,14 +139,14 @@ pub record Step : Type 0 where
   pub waiting : List WaitingFrame
 
 -- the frame at the front begins
-abbrev pub front_begins : List WaitingFrame → Stage
-front_begins [] = Over
-front_begins (front ∷ others) = Frame (frame_start front.octets)
+abbrev pub front_begins : Modem → List WaitingFrame → Stage
+front_begins modem [] = Over
+front_begins modem (front ∷ others) = Frame (frame_start modem front.octets)
 
 -- With the last bit of the opening flags it is decided what follows: the front frame, or the closing flags if none waits.
 abbrev pub after_opening : Modem → ℕ → List WaitingFrame → Stage
 after_opening modem tail [] = Closing (8 * closing_flags modem tail)
-after_opening modem tail (front ∷ others) = Frame (frame_start front.octets)
+after_opening modem tail (front ∷ others) = Frame (frame_start modem front.octets)
 
 abbrev pub frames_opened : ℕ → List WaitingFrame → ℕ
 frames_opened frames [] = frames
@@ -117,7 +180,7 @@ abbrev pub other_closing : Modem → ℕ → Stage
 other_closing modem tail = if nat_lt 1 (closing_flags modem tail) then Closing (8 * (closing_flags modem tail - 1)) else Over
 
 abbrev pub behind_flag : Bool → Modem → ℕ → List WaitingFrame → Stage
-behind_flag true modem tail waiting = front_begins waiting
+behind_flag true modem tail waiting = front_begins modem waiting
 behind_flag false modem tail waiting = other_closing modem tail
 
 abbrev pub behind_closing : ℕ → Stage

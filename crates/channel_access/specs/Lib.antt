@@ -14,3 +14,4 @@ pub mod StandsFor
 pub mod HeldTaking
 pub mod WholeTransmission
 pub mod Sound
+pub mod DataLine

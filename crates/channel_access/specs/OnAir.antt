@@ -2,10 +2,9 @@
 -- flags. It is sent tick by tick, and frames may join it while it runs.
 use Rattle.std.specs.Prelude.{ℕ, ◌+◌, ◌-◌, ◌*◌, nat_lt, nat_le, Bool, true, not, ◌&&◌, if◌then◌else◌, ℤ, pos, List, []}
 use Rattle.std.specs.Prelude.{◌∷◌, ◌++◌, length, take, drop, replicate, slice_index_or, Option, Some, None}
-use Rattle.hdlc_framer.specs.Body.{body}
 use Rattle.channel_access.specs.declared.air_tick.Sent.{Sent}
 use Rattle.channel_access.specs.declared.modem.Modem.{Modem}
-use Rattle.channel_access.specs.Modem.{bits_of_ticks, samples_of_bits, transmission_by}
+use Rattle.channel_access.specs.Modem.{bits_of_ticks, samples_of_bits, body_by, transmission_by}
 use Rattle.channel_access.specs.Waiting.{WaitingFrame}
 
 -- A transmission begins with its opening flags alone. Its first frame is decided where they end, and each other one where
@@ -35,18 +34,18 @@ flags_behind t = if t.ends then t.closing else 0
 
 -- its bits, and its samples, as far as they are decided
 unfoldable pub bits_of : OnAir → List Bool
-bits_of t = body t.frames t.opening (flags_behind t)
+bits_of t = body_by t.modem t.frames t.opening (flags_behind t)
 
 unfoldable pub samples_on_air : OnAir → List ℤ
 samples_on_air t = transmission_by t.modem t.frames t.opening (flags_behind t)
 
 -- how many bits are sent when the last bit of its last frame is sent, or of its opening flags if it has no frame yet
 unfoldable pub frames_end : OnAir → ℕ
-frames_end t = length (body t.frames t.opening 0)
+frames_end t = length (body_by t.modem t.frames t.opening 0)
 
 -- how many are sent when the flag after its first frames, so many of them, is sent
 unfoldable pub flag_end : ℕ → OnAir → ℕ
-flag_end count t = length (body (take count t.frames) t.opening 1)
+flag_end count t = length (body_by t.modem (take count t.frames) t.opening 1)
 
 -- With so many bits sent, the opening flags and the frames so far are sent, and it is open what follows them.
 abbrev pub has_sent_frames : ℕ → OnAir → Bool

@@ -2,7 +2,7 @@
 -- units of 10 ms, which is a tick.
 use Rattle.std.specs.Prelude.{ℕ, ◌+◌, ◌*◌, ◌/◌, max, false}
 use Rattle.channel_access.specs.declared.modem.Modem.{Modem}
-use Rattle.channel_access.specs.declared.modem.Modem.TheVariants.{Bell202, ShortWave}
+use Rattle.channel_access.specs.declared.modem.Modem.TheVariants.{Bell202, ShortWave, Fx25}
 use Rattle.channel_access.specs.declared.parameters.Param.{Param}
 use Rattle.channel_access.specs.declared.parameters.Param.TheVariants.{TxDelay, Persist, SlotTime, TxTail, FullDuplex}
 use Rattle.channel_access.specs.declared.parameters.Parameters.{Parameters}
@@ -24,6 +24,7 @@ with_param (FullDuplex on) parameters = record parameters { full_duplex = on }
 abbrev pub flags_in : Modem → ℕ → ℕ
 flags_in Bell202 ticks = 3 * ticks / 2
 flags_in ShortWave ticks = (3 * ticks + 7) / 8
+flags_in (Fx25 checks) ticks = 3 * ticks / 2
 
 -- the flags that open a transmission: those of TXDELAY, and at least two
 abbrev pub opening_flags : Modem → ℕ → ℕ

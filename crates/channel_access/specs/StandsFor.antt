@@ -1,16 +1,19 @@
 -- What an access stands for: the channel of the definitions, if the transmission under way is known from its first bit.
 -- Public clauses cite `StandsFor` and its field `waiting` alone.
-use Rattle.std.specs.Prelude.{◌≡◌, ℕ, zero, suc, ◌-◌, ◌*◌, ◌≤◌, Bool, true, false, List, [], ◌∷◌, ◌++◌, length, drop}
+use Rattle.std.specs.Prelude.{◌≡◌, ℕ, zero, suc, ◌-◌, ◌≤◌, Bool, true, false, List, [], ◌∷◌, ◌++◌, length, drop}
 use Rattle.std.specs.Prelude.{nat_le, Option, Some, None, if◌then◌else◌}
 use Rattle.std.specs.List.{All}
 use Rattle.nrzi_bits.specs.Line.{line, last_tone}
-use Rattle.hdlc_framer.specs.Body.{flags, body}
+use Rattle.hdlc_framer.specs.Body.{flags}
 use Rattle.hdlc_framer.specs.Counted.{stuffed_from}
+use Rattle.channel_access.specs.declared.block_bits.BlockBits.{BlockBits}
 use Rattle.channel_access.specs.declared.frame_bits.FrameBits.{FrameBits}
+use Rattle.channel_access.specs.declared.frame_bits.FrameBits.TheVariants.{Stuffed, Block}
+use Rattle.channel_access.specs.declared.stuffed_bits.StuffedBits.{StuffedBits}
 use Rattle.channel_access.specs.declared.stage.Stage.{Stage}
 use Rattle.channel_access.specs.declared.stage.Stage.TheVariants.{Opening, Frame, Following, Closing, Over}
 use Rattle.channel_access.specs.declared.sending.Sending.{Sending}
-use Rattle.channel_access.specs.Modem.{bits_of_ticks}
+use Rattle.channel_access.specs.Modem.{bits_of_ticks, body_by}
 use Rattle.channel_access.specs.HeldWave.{wave_behind}
 use Rattle.channel_access.specs.Parameters.{closing_flags}
 use Rattle.channel_access.specs.Waiting.{WaitingFrame}
@@ -18,15 +21,24 @@ use Rattle.hdlc_framer.specs.FrameLength.{HasFrameLength}
 use Rattle.channel_access.specs.OnAir.{OnAir}
 use Rattle.channel_access.specs.Channel.{Channel}
 use Rattle.channel_access.specs.HeldTurns.{listening_of}
-use Rattle.channel_access.specs.Held.{Held, bits_in, frame_over, flag_bit, stage_over}
+use Rattle.channel_access.specs.Held.{Held, bits_in, block_bits, frame_over, flag_bit, stage_over}
 
 -- bits with inserted zeros, after so many 1s
 abbrev pub rest_behind : ℕ → List Bool → List Bool
 rest_behind ones bits = if nat_le 5 ones then false ∷ stuffed_from bits 4 else stuffed_from bits (4 - ones)
 
--- the bits of a frame that are left
-unfoldable pub frame_rest : FrameBits → List ℕ → List Bool
-frame_rest f octets = rest_behind f.ones (drop f.place (bits_in octets f.check))
+-- the bits of a frame that are left, plainly
+unfoldable pub stuffed_rest : StuffedBits → List ℕ → List Bool
+stuffed_rest f octets = rest_behind f.ones (drop f.place (bits_in octets f.check))
+
+-- those of a tag and a block
+unfoldable pub block_rest : BlockBits → List Bool
+block_rest b = drop b.place (block_bits b)
+
+-- the bits that are left of what stands for a frame
+abbrev pub frame_rest : FrameBits → List ℕ → List Bool
+frame_rest (Stuffed f) octets = stuffed_rest f octets
+frame_rest (Block b) octets = block_rest b
 
 -- the last bits of some flags, so many
 abbrev pub flag_rest : ℕ → List Bool
@@ -44,7 +56,7 @@ pub record InOpening (left : ℕ) (t : OnAir) (sent : List Bool) : Type 0 where
 pub record InFrame (f : FrameBits) (front : WaitingFrame) (t : OnAir) (sent : List Bool) : Type 0 where
   pub past : List (List ℕ)
   pub some : frame_over f front.octets ≡ false
-  pub bits : sent ++ frame_rest f front.octets ≡ body t.frames t.opening 0
+  pub bits : sent ++ frame_rest f front.octets ≡ body_by t.modem t.frames t.opening 0
   pub frames : t.frames ≡ past ++ front.octets ∷ []
   pub ends : t.ends ≡ false
   pub named : t.named ≡ length past
@@ -54,19 +66,19 @@ pub record InFlag (left : ℕ) (front : WaitingFrame) (next : List (List ℕ)) (
     : Type 0 where
   pub past : List (List ℕ)
   pub some : 1 ≤ left
-  pub bits : sent ++ flag_rest left ≡ body (past ++ front.octets ∷ []) t.opening 1
+  pub bits : sent ++ flag_rest left ≡ body_by t.modem (past ++ front.octets ∷ []) t.opening 1
   pub frames : t.frames ≡ (past ++ front.octets ∷ []) ++ next
   pub ends : t.ends ≡ last
   pub named : t.named ≡ length past
 
 pub record InClosing (left : ℕ) (t : OnAir) (sent : List Bool) : Type 0 where
   pub some : 1 ≤ left
-  pub bits : sent ++ flag_rest left ≡ body t.frames t.opening t.closing
+  pub bits : sent ++ flag_rest left ≡ body_by t.modem t.frames t.opening t.closing
   pub ends : t.ends ≡ true
   pub named : t.named ≡ length t.frames
 
 pub record IsSent (t : OnAir) (sent : List Bool) : Type 0 where
-  pub bits : sent ≡ body t.frames t.opening t.closing
+  pub bits : sent ≡ body_by t.modem t.frames t.opening t.closing
   pub ends : t.ends ≡ true
   pub named : t.named ≡ length t.frames
 

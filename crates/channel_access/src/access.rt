@@ -11,7 +11,7 @@ use std::alloc::Global;
 use std::marker::Model;
 use tnc_base::{Octets, OutOfMemory};
 
-/// A transmit queue of at most 256 frames and the rules by which it is sent. It stands for the channel that the calls
+/// A transmit queue of at most 512 frames and the rules by which it is sent. It stands for the channel that the calls
 /// so far have made, and after [`Access::new`] takes no memory.
 #[derive(Drop)]
 pub struct Access {
@@ -35,7 +35,7 @@ impl Access {
     ghost use Rattle.channel_access.specs.StandsFor.{StandsFor, StandsForSome};
 
     /// No frame waits, and the parameters are the defaults: TXDELAY 30, P 63, slot time 10, TXtail 2, half duplex. The
-    /// draws are those of the seed. All is sent by the modem. The 256 places are taken here; fails only for want of
+    /// draws are those of the seed. All is sent by the modem. The 512 places are taken here; fails only for want of
     /// memory.
     pub fn new(alloc: Global, modem: Modem, seed: u64) -> Result<Access, OutOfMemory>
         ensures { IfOk result (λ access. StandsFor access (new_channel_by modem seed)) }
@@ -46,11 +46,11 @@ impl Access {
     }
 
     /// Puts a frame of 15 to 1024 octets, without its check sequence, after all others. Hands it back exactly when
-    /// 256 wait. `link` is the key of the link that it belongs to.
+    /// 512 wait. `link` is the key of the link that it belongs to.
     pub fn queue(&mut self, link: Option<u32>, octets: Octets) -> Result<(), Octets>
         requires { HasFrameLength octets }
         ensures stood { StandsForSome self.old }
-        ensures full { IsErr result ↔ (length self.old.waiting ≡ 256) }
+        ensures full { IsErr result ↔ (length self.old.waiting ≡ 512) }
         ensures handed_back { IfErr result (λ back. (back ≡ octets) × (self.new ≡ self.old)) }
         ensures stands_for { (channel : Channel) → StandsFor self.old channel
             → OnOk result (StandsFor self.new (with_frame link octets channel)) }
@@ -120,7 +120,7 @@ impl Access {
     /// How many frames wait.
     pub fn len(&self) -> usize
         ensures count { result ≡ length self.now.waiting }
-        ensures most { result ≤ 256 }
+        ensures most { result ≤ 512 }
     {
         self.transmitter.len()
     }

@@ -1,34 +1,35 @@
-//! A frame bit by bit, as it is sent (AX.25 2.2 sections 3.6 to 3.8).
-ghost use Rattle.std.specs.Prelude.{◌≡◌, ◌+◌, ◌*◌, ◌<◌, ◌≤◌, nat_le, false, length, slice_index, slice_index_or};
+//! The bits that stand for a frame between two flags, one by one: the frame itself, or a tag and a block that carry it.
+ghost use Rattle.std.specs.Prelude.{◌≡◌, ◌≤◌, nat_le, length};
 ghost use Rattle.hdlc_framer.specs.FrameLength.{most_frame_length};
-ghost use Rattle.channel_access.specs.Held.{checked, bits_in, bit_count, frame_start, next_in_frame, frame_over};
+ghost use Rattle.channel_access.specs.Held.{frame_start, next_in_frame, frame_over};
 ghost use Rattle.channel_access.specs.StandsFor.{frame_rest};
 
-use hdlc_framer::fcs;
-
-/// How many 1s stand before an inserted zero.
-const ONES: u8 = 5;
+use crate::block_bits::BlockBits;
+use crate::modem::Modem;
+use crate::stuffed_bits::StuffedBits;
 
 /// Where a sender stands in a frame.
 #[derive(Clone, Copy, Debug)]
-pub(crate) struct FrameBits {
-    /// The place of the next bit among those of the octets and their check sequence.
-    place: u16,
-    /// How many 1s came just before.
-    ones: u8,
-    /// The check sequence.
-    check: u16,
+pub(crate) enum FrameBits {
+    /// The frame comes plainly.
+    Stuffed(StuffedBits),
+    /// It comes in a block.
+    Block(BlockBits),
 }
 
 impl FrameBits {
-    /// At the first bit.
-    pub(crate) fn new(octets: &[u8]) -> FrameBits
-        ensures { result ≡ frame_start octets.now }
+    /// At the first bit of what a modem sends for a frame.
+    pub(crate) fn new(modem: Modem, octets: &[u8]) -> FrameBits
+        requires { length octets.now ≤ most_frame_length }
+        ensures { result ≡ frame_start modem octets.now }
     {
-        FrameBits {
-            place: 0,
-            ones: 0,
-            check: fcs(octets),
+        let block = match modem {
+            Modem::Bell202 | Modem::ShortWave => None,
+            Modem::Fx25(checks) => BlockBits::new(checks, octets),
+        };
+        match block {
+            Some(block) => FrameBits::Block(block),
+            None => FrameBits::Stuffed(StuffedBits::new(octets)),
         }
     }
 
@@ -37,22 +38,16 @@ impl FrameBits {
         requires { length octets.now ≤ most_frame_length }
         ensures { result ≡ next_in_frame self octets.now }
     {
-        if self.ones >= ONES {
-            return Some((false, FrameBits { ones: 0, ..self }));
+        match self {
+            FrameBits::Stuffed(bits) => {
+                let (bit, after) = bits.next(octets)?;
+                Some((bit, FrameBits::Stuffed(after)))
+            }
+            FrameBits::Block(bits) => {
+                let (bit, after) = bits.next()?;
+                Some((bit, FrameBits::Block(after)))
+            }
         }
-        if self.place >= bit_count(octets) {
-            return None;
-        }
-        let bit = bit_at(octets, self.check, self.place);
-        let ones = if bit { self.ones + 1 } else { 0 };
-        Some((
-            bit,
-            FrameBits {
-                place: self.place + 1,
-                ones,
-                ..self
-            },
-        ))
     }
 
     /// Whether at most so many bits are left.
@@ -75,36 +70,9 @@ impl FrameBits {
         requires { length octets.now ≤ most_frame_length }
         ensures { result ≡ frame_over self octets.now }
     {
-        self.ones < ONES && self.place >= bit_count(octets)
+        match self {
+            FrameBits::Stuffed(bits) => bits.is_over(octets),
+            FrameBits::Block(bits) => bits.is_over(),
+        }
     }
-}
-
-/// The bits of the octets and of their check sequence, without inserted zeros.
-fn bit_count(octets: &[u8]) -> u16
-    requires { length octets.now ≤ most_frame_length }
-    ensures count { result ≡ bit_count octets.now }
-    ensures most { result ≤ 8208 }
-{
-    8 * (octets.len() as u16 + 2)
-}
-
-/// The bit at a place of them.
-fn bit_at(octets: &[u8], check: u16, place: u16) -> bool
-    requires { place < bit_count octets.now }
-    ensures { result ≡ slice_index_or (bits_in octets.now check) place false }
-{
-    let octet = octet_at(octets, check, usize::from(place / 8));
-    (octet >> (place % 8)) & 1 == 1
-}
-
-/// The octet at a place among the octets and their check sequence.
-fn octet_at(octets: &[u8], check: u16, place: usize) -> u8
-    requires { place < length octets.now + 2 }
-    ensures { result ≡ slice_index (checked octets.now check) place }
-{
-    if place < octets.len() {
-        return octets[place];
-    }
-    let [low, high] = check.to_le_bytes();
-    if place == octets.len() { low } else { high }
 }

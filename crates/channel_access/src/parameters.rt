@@ -89,7 +89,7 @@ fn flags_in(modem: Modem, ticks: u8) -> u16
 {
     let thrice = 3 * u16::from(ticks);
     match modem {
-        Modem::Bell202 => thrice / 2,
+        Modem::Bell202 | Modem::Fx25(_) => thrice / 2,
         Modem::ShortWave => (thrice + 7) / 8,
     }
 }

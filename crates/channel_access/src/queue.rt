@@ -13,7 +13,7 @@ use std::marker::Model;
 use tnc_base::{Octets, OutOfMemory};
 
 /// How many frames may wait.
-const CAPACITY: usize = 256;
+const CAPACITY: usize = 512;
 
 /// A frame that waits.
 #[derive(Drop)]
@@ -61,7 +61,7 @@ impl Waiting {
     }
 }
 
-/// At most 256 frames, the first to be sent at the front.
+/// At most 512 frames, the first to be sent at the front.
 #[derive(Drop)]
 pub(crate) struct Queue {
     frames: HeapCircularBuffer<Waiting>,
@@ -75,7 +75,7 @@ impl Model for Queue {
 
     ghost view = { λ queue. queue.frames.items };
 
-    ghost invariant = { λ queue. (queue.frames.capacity ≡ 256) × (length queue.frames.items ≤ 256) };
+    ghost invariant = { λ queue. (queue.frames.capacity ≡ 512) × (length queue.frames.items ≤ 512) };
 }
 
 impl Queue {
@@ -88,10 +88,10 @@ impl Queue {
         })
     }
 
-    /// Puts a frame at the back, or hands it back if 256 wait.
+    /// Puts a frame at the back, or hands it back if 512 wait.
     pub(crate) fn push(&mut self, link: Option<u32>, octets: Octets) -> Result<(), Octets>
         requires { HasFrameLength octets }
-        ensures full { IsErr result ↔ (length self.old ≡ 256) }
+        ensures full { IsErr result ↔ (length self.old ≡ 512) }
         ensures handed_back { IfErr result (λ back. (back ≡ octets) × (self.new ≡ self.old)) }
         ensures pushed { OnOk result (self.new ≡ self.old ++ (record { link = link; octets = octets }) ∷ []) }
     {
@@ -121,7 +121,7 @@ impl Queue {
 
     pub(crate) fn len(&self) -> usize
         ensures count { result ≡ length self.now }
-        ensures most { result ≤ 256 }
+        ensures most { result ≤ 512 }
     {
         self.frames.len()
     }

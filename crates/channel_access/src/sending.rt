@@ -218,7 +218,7 @@ impl Sending {
             Some(octets) => {
                 self.frames = 1;
                 self.stage = Stage::Frame {
-                    bits: FrameBits::new(octets),
+                    bits: FrameBits::new(self.wave.modem(), octets),
                 };
             }
             None => {
@@ -261,7 +261,7 @@ impl Sending {
         }
         let named = queue.pop();
         self.stage = if another {
-            front_begins(queue)
+            front_begins(self.wave.modem(), queue)
         } else {
             other_closing(self.wave.modem(), self.tail)
         };
@@ -302,12 +302,12 @@ fn behind_closing(left: u16) -> Stage
     }
 }
 
-fn front_begins(queue: &Queue) -> Stage
-    ensures { result ≡ front_begins queue.now }
+fn front_begins(modem: Modem, queue: &Queue) -> Stage
+    ensures { result ≡ front_begins modem queue.now }
 {
     match queue.front() {
         Some(octets) => Stage::Frame {
-            bits: FrameBits::new(octets),
+            bits: FrameBits::new(modem, octets),
         },
         None => Stage::Over,
     }

@@ -72,10 +72,10 @@ impl Transmitter {
         })
     }
 
-    /// Puts a frame after all others, or hands it back if 256 wait.
+    /// Puts a frame after all others, or hands it back if 512 wait.
     pub(crate) fn queue(&mut self, link: Option<u32>, octets: Octets) -> Result<(), Octets>
         requires { HasFrameLength octets }
-        ensures full { IsErr result ↔ (length self.old.waiting ≡ 256) }
+        ensures full { IsErr result ↔ (length self.old.waiting ≡ 512) }
         ensures handed_back { IfErr result (λ back. (back ≡ octets) × (self.new ≡ self.old)) }
         ensures queued { OnOk result (self.new ≡ held_with_frame link octets self.old) }
     {
@@ -103,7 +103,7 @@ impl Transmitter {
 
     pub(crate) fn len(&self) -> usize
         ensures count { result ≡ length self.now.waiting }
-        ensures most { result ≤ 256 }
+        ensures most { result ≤ 512 }
     {
         self.queue.len()
     }

@@ -4,7 +4,7 @@ ghost use Rattle.channel_access.specs.Modem.{samples_of_bits};
 ghost use Rattle.channel_access.specs.HeldWave.{modem_of, wave_start, wave_window, after_tone};
 
 use crate::air_tick::SAMPLES;
-use crate::modem::Modem;
+use crate::modem::{CheckOctets, Modem};
 use afsk_modulator::Modulator;
 use hf_sender::HfModulator;
 use tone_table::Tone;
@@ -17,6 +17,7 @@ const FULL_LEVEL: u16 = 10000;
 pub(crate) enum Wave {
     Bell202(Modulator),
     ShortWave(HfModulator),
+    Fx25(CheckOctets, Modulator),
 }
 
 impl Wave {
@@ -27,6 +28,7 @@ impl Wave {
         match modem {
             Modem::Bell202 => Wave::Bell202(Modulator::new()),
             Modem::ShortWave => Wave::ShortWave(HfModulator::new(FULL_LEVEL)),
+            Modem::Fx25(checks) => Wave::Fx25(checks, Modulator::new()),
         }
     }
 
@@ -37,6 +39,7 @@ impl Wave {
         match self {
             Wave::Bell202(_) => Modem::Bell202,
             Wave::ShortWave(_) => Modem::ShortWave,
+            Wave::Fx25(checks, _) => Modem::Fx25(*checks),
         }
     }
 
@@ -50,6 +53,7 @@ impl Wave {
         match self {
             Wave::Bell202(modulator) => put(samples, start, modulator.next(tone).as_slice()),
             Wave::ShortWave(modulator) => put(samples, start, modulator.next(tone).as_slice()),
+            Wave::Fx25(_, modulator) => put(samples, start, modulator.next(tone).as_slice()),
         }
     }
 }

@@ -424,7 +424,7 @@ asks_or_calls_holds w before after part calm holds = go part.accepts refl part.s
     go : (b : Bool) → part.accepts ≡ b → MatchBool b (MatchBool (is_complete w before) (IsAsked before after)
         (MatchBool before.a.program.calls (IsCalled before after) (after ≡ before))) (after ≡ before) → Holds w after
     go true is h = asked_holds w (is_complete w before) before.a.program.calls before after refl refl
-        (part.exactly.0 is).1.queue h calm holds
+        (part.exactly.0 is).2 h calm holds
     go false is h = subst (Holds w) (sym h) holds
 
 -- what both send reaches them

@@ -11,25 +11,20 @@ use Rattle.channel_bench.proofs.Common.{tick_samples, WaitingFrame, line}
 use Rattle.std.proofs.Common.{slice_index_or, append_assoc, append-nil}
 use Rattle.std.proofs.Math.Seq.{get_or-append_seam}
 use Rattle.std.proofs.lemmas.Bool.{and_right, le-leb, lt-leb, le-ltb}
-use Rattle.hdlc_framer.specs.BitOrder.{sent_bits}
-use Rattle.hdlc_framer.specs.Body.{body, flags}
-use Rattle.hdlc_framer.specs.CheckSequence.{fcs_of}
-use Rattle.hdlc_framer.specs.Counted.{stuffed_from}
-use Rattle.hdlc_framer.specs.Frames.{frame_bits, with_fcs}
-use Rattle.hdlc_framer.proofs.BitLemmas.{length-sent_bits}
-use Rattle.hdlc_framer.proofs.StuffingLemmas.{stuffed_is}
+use Rattle.hdlc_framer.specs.Body.{flags}
 use Rattle.channel_access.specs.Channel.{air_after, air_sent, after_tick, air_tick, begun}
 use Rattle.channel_access.specs.OnAir.{bits_of, flag_end, followed_by, frame_named, frames_end, has_sent_frames}
 use Rattle.channel_access.specs.OnAir.{most_frames, waiting_after, waiting_with_named, with_named, with_tick}
 use Rattle.tone_table.specs.declared.tone.Tone.TheVariants.{Mark}
 use Rattle.nrzi_bits.proofs.LineLemmas.{length-line_from}
-use Rattle.channel_access.specs.Modem.{bits_of_ticks, samples_of_bits, tick_bits}
+use Rattle.channel_access.specs.Modem.{bits_of_ticks, body_by, piece, samples_of_bits, tick_bits}
+use Rattle.channel_access.specs.declared.modem.Modem.{Modem}
 use Rattle.channel_access.proofs.ModemLemmas.{bits_of_ticks-more, bits_of_ticks-none, tick_bits-most}
 use Rattle.channel_access.proofs.ModemLemmas.{samples_of_bits-fewer, samples_of_bits-tick, samples_of_bits-ticks}
 use Rattle.channel_access.proofs.ModemLemmas.{length-modem_wave}
 use Rattle.channel_access.proofs.TickLemmas.{modem-decided}
 use Rattle.channel_access.proofs.AirLemmas.{samples_on_air-is, ticks-decided}
-use Rattle.channel_access.proofs.BodyLemmas.{body-single}
+use Rattle.channel_access.proofs.BodyLemmas.{body-single, piece-some}
 use Rattle.channel_access.proofs.WholeLemmas.{decided_adds}
 use Rattle.channel_access.proofs.StageLemmas.{flag_end-last, frames_end-next}
 
@@ -40,24 +35,6 @@ octets_of frame = frame.octets
 abbrev pub sent_octets : Option Sent → List (List ℕ)
 sent_octets None = []
 sent_octets (Some sent) = sent.octets ∷ []
-
--- ---- how long a frame is
-
-stuffed_longer : (bits : List Bool) (left : ℕ) → length bits ≤ length (stuffed_from bits left)
-stuffed_longer [] left = omega arith
-stuffed_longer (false ∷ bits) left = omega (arith, stuffed_longer bits 4)
-stuffed_longer (true ∷ bits) zero = omega (arith, stuffed_longer bits 4)
-stuffed_longer (true ∷ bits) (suc left) = omega (arith, stuffed_longer bits left)
-
-frame_longer : (octets : List ℕ) → 16 ≤ length (frame_bits octets)
-unfolding frame_bits with_fcs
-frame_longer octets = omega (
-  arith,
-  ap length (stuffed_is (sent_bits (with_fcs octets))),
-  stuffed_longer (sent_bits (with_fcs octets)) 4,
-  length-sent_bits (with_fcs octets),
-  length-append octets ((fcs_of octets % 256) ∷ (fcs_of octets / 256) ∷ []),
-)
 
 -- ---- a transmission, and the frames that wait
 
@@ -279,18 +256,20 @@ followed_sends t waiting (v ∷ vs) past rest front same frames named waits = go
     go false = last_sends (record t { ends = true }) waiting past rest front frames named waits (λ ended. refl)
 
 -- the first frame comes after the opening flags
-opening_alone : (opening : ℕ) → length (body [] opening 0) ≡ length (flags opening)
-unfolding body
-opening_alone opening = ap length (append-nil (flags opening))
+opening_alone : (modem : Modem) (opening : ℕ) → length (body_by modem [] opening 0) ≡ length (flags opening)
+unfolding body_by
+opening_alone modem opening = ap length (append-nil (flags opening))
 
 first_end : (t : OnAir) (octets : List ℕ) → t.frames ≡ []
-    → frames_end (record t { frames = t.frames ++ octets ∷ [] }) ≡ frames_end t + length (frame_bits octets)
+    → frames_end (record t { frames = t.frames ++ octets ∷ [] }) ≡ frames_end t + length (piece t.modem octets)
 unfolding frames_end
 first_end t octets none =
-    let opening : length (body t.frames t.opening 0) ≡ length (flags t.opening) =
-    ap (λ fs. length (body fs t.opening 0)) none ∙ opening_alone t.opening in
-    ap (λ fs. length (body (fs ++ octets ∷ []) t.opening 0)) none ∙ ap length (body-single octets t.opening)
-    ∙ length-append (flags t.opening) (frame_bits octets) ∙ ap (λ n. n + length (frame_bits octets)) (sym opening)
+    let opening : length (body_by t.modem t.frames t.opening 0) ≡ length (flags t.opening) =
+    ap (λ fs. length (body_by t.modem fs t.opening 0)) none ∙ opening_alone t.modem t.opening in
+    ap (λ fs. length (body_by t.modem (fs ++ octets ∷ []) t.opening 0)) none
+    ∙ ap length (body-single t.modem octets t.opening)
+    ∙ length-append (flags t.opening) (piece t.modem octets)
+    ∙ ap (λ n. n + length (piece t.modem octets)) (sym opening)
 
 open_if : (ends sent : Bool) → (not ends && sent) ≡ true → ends ≡ false
 open_if true sent is = absurd (cc)
@@ -299,7 +278,7 @@ open_if false sent is = refl
 -- while nothing ends it, what is decided of it are its frames
 open_long : (t : OnAir) → t.ends ≡ false → length (bits_of t) ≡ frames_end t
 unfolding bits_of frames_end
-open_long t goes = ap (λ b. length (body t.frames t.opening (cond b t.closing 0))) goes
+open_long t goes = ap (λ b. length (body_by t.modem t.frames t.opening (cond b t.closing 0))) goes
 
 -- no frame is decided yet, and the opening flags are sent: these wait
 opened_sends :
@@ -333,7 +312,7 @@ opened_sends t waiting others same none named long = by_others others same
             last_sends (record t { frames = t.frames ++ v.octets ∷ [] }) waiting [] (map octets_of vs) v.octets
             (ap (λ fs. fs ++ v.octets ∷ []) none) named (ap (map octets_of) is)
             (λ sent. let end = first_end t v.octets none in
-            let longer = frame_longer v.octets in
+            let longer = piece-some t.modem v.octets in
             let more = bits_of_ticks-more t.modem t.ticks in
             let most = tick_bits-most t.modem in
             absurd (omega (arith, end, longer, long, sent, more, most)))
@@ -412,7 +391,7 @@ decided_sends t waiting fits = by_unsent h.unsent h.frames h.waits h.may_be
         let pushed : t.frames ≡ (h.past ++ front ∷ []) ++ next ∷ [] = frames
         ∙ sym (append_assoc h.past (front ∷ []) (next ∷ [])) in
         let end = frames_end-next t h.past front next pushed h.named in
-        let long = frame_longer next in
+        let long = piece-some t.modem next in
         let goes : has_sent_frames (bits_then t) t ≡ false =
         and_right (not t.ends) (nat_le (frames_end t) (bits_then t))
         (lt-leb (frames_end t) (bits_then t)

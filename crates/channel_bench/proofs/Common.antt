@@ -22,7 +22,7 @@ pub use Rattle.channel_bench.specs.BenchRun.{AreTicks, IsEndedBy, IsOver}
 pub use Rattle.channel_bench.specs.BenchState.{AtEnd, BenchState, Common, Near, SideState, config_of, near, new_bench}
 pub use Rattle.channel_bench.specs.BenchState.{params_of, side_at, ways_of, with_near}
 pub use Rattle.channel_bench.specs.BenchSteps.{AreHeardAt, GoesOn, IsHeardAs, IsHeardAt, IsStep, IsTicking, IsTold}
-pub use Rattle.channel_bench.specs.BenchSteps.{MayCome, count_of, distance, first_unquiet, is_match, match_of}
+pub use Rattle.channel_bench.specs.BenchSteps.{MayCome, count_of, distance, first_unquiet, is_match, match_of, most_waiting}
 pub use Rattle.channel_bench.specs.BenchSteps.{program_id, there_after, told_octets, told_piece, told_pieces}
 pub use Rattle.channel_bench.specs.BenchSteps.{trouble_of, with_matched, with_stray}
 unfoldable pub use Rattle.channel_bench.specs.BenchTick.{IsTick, beginning, each_tick, joins, sets_duplex}
@@ -93,12 +93,12 @@ pub use Rattle.station.specs.AgwRequests.{packets_of}
 pub use Rattle.station.specs.AgwRequests.{refused_reply, register_reply, registering, replying, with_registration}
 pub use Rattle.station.specs.Asking.{asked_key, asking, asking_at, seizing, some_wants, with_asked}
 pub use Rattle.station.specs.CallFields.{call_in}
-pub use Rattle.station.specs.Connections.{Connection, connection_of, most_connections, new_connection, with_connection}
+pub use Rattle.station.specs.Connections.{Connection, connection_of, new_connection, with_connection}
 pub use Rattle.station.specs.Heard.{AreOctetsHeard, IsHeard, IsHeardAnew, IsHeardBy, IsHeardMaking, IsReadingHeardAnew}
 pub use Rattle.station.specs.Heard.{IsRepeatedFor, destination_field, kiss_data, may_make, showing, showing_to}
 pub use Rattle.station.specs.Heard.{shown_to_hosts, source_field, waits_for_repeater, with_shown}
 pub use Rattle.station.specs.Held.{ids_behind, ids_of, without_ids}
-pub use Rattle.station.specs.Host.{AreTaken, AreTakenBy, IsHostTurn, ending, joining, new_messages, taking, with_host}
+pub use Rattle.station.specs.Host.{AreTaken, AreTakenBy, IsHostTurn, ending, has_place, joining, new_messages, taking, with_host}
 pub use Rattle.station.specs.Host.{with_octets}
 pub use Rattle.station.specs.HostMessages.{message_of_told, no_call}
 pub use Rattle.station.specs.LinkEvents.{event_at, event_of, is_idle, link_event, queueing_frame, queueing_frames}
@@ -108,7 +108,7 @@ pub use Rattle.station.specs.Monitoring.{monitor_pieces}
 pub use Rattle.station.specs.NewLinks.{idle_link, making, no_layer_3}
 pub use Rattle.station.specs.Registrations.{is_number, may_register, registrar}
 pub use Rattle.station.specs.Routes.{Route, path_along}
-pub use Rattle.station.specs.State.{StationState, most_held, most_waiting}
+pub use Rattle.station.specs.State.{StationState, most_held}
 unfoldable pub use Rattle.station.specs.Ticks.{ticking_links}
 pub use Rattle.station.specs.Ticks.{air_of, asked_links, t1_stands, ticking_at, waits}
 pub use Rattle.station.specs.Turn.{Act, Out, Turn, begin, capacity, changing, closing, dropping, entering, in_order}

@@ -1,12 +1,12 @@
 -- Each step of A's station in a bench keeps one key for all frames that wait there, and few wait while its link calls
 -- modulo 128. Each SABM, SABME and DISC of the link that is not up finds room, if it does not wish to disconnect while
 -- it is idle or calls.
-use Rattle.channel_bench.proofs.Common.{◌≡◌, ℕ, ◌<◌, Bool, true, false, nat_lt, List, [], ◌∷◌, length, drop, cond}
+use Rattle.channel_bench.proofs.Common.{◌≡◌, ℕ, ◌<◌, Bool, true, false, List, [], ◌∷◌, length, drop, cond}
 use Rattle.channel_bench.proofs.Common.{Option, Some, None, refl, sym, ap, ◌∙◌, subst, arith, inl, inr, ⊤}
 use Rattle.channel_bench.proofs.Common.{range_with_len, list_any, call_field, spelling, AgwMessage, after_rules}
 use Rattle.channel_bench.proofs.Common.{air_waiting, OnAir, bits_then, decided, names_next, WaitingFrame, A}
 use Rattle.channel_bench.proofs.Common.{each_weaker, PortKind, Kiss, Agw, connect_kind, data_kind, disconnect_kind}
-use Rattle.channel_bench.proofs.Common.{register_kind, IsAnswered, called_route, own_key, call_in, most_connections}
+use Rattle.channel_bench.proofs.Common.{register_kind, IsAnswered, called_route, own_key, call_in, has_place}
 use Rattle.channel_bench.proofs.Common.{joining, taking, with_host, no_call, Links, most_links, StationState}
 use Rattle.channel_bench.proofs.Common.{asked_links, asking_steps, each_append, steps_along, ticking_at, ticks_at}
 use Rattle.channel_bench.proofs.Common.{some_wants}
@@ -109,7 +109,7 @@ TakesCall (hears octets) s = ⊤
 TakesCall (ticks busy) s = ⊤
 
 joining_keyed : (id : ℕ) (kind : PortKind) (s : StationState) → Keyed s → Keyed (joining id kind (begin s)).now
-joining_keyed id kind s h = go (nat_lt (length s.connections) most_connections)
+joining_keyed id kind s h = go (has_place s)
   where
     go : (b : Bool) → Keyed (cond b (changing (with_host id kind) (begin s)) (closing id (begin s))).now
     go true = h

@@ -45,7 +45,7 @@ takes_told joins_program e event side is may = tt
 takes_told registers e event side is may = tt
 takes_told connects e event side is may =
     let same : event ≡ Bytes program_id (connect_octets e) = cc in
-    (subst (λ ev. MayCome ev side) same may).1.queue
+    (subst (λ ev. MayCome ev side) same may).2
 takes_told (gives piece) e event side is may = tt
 takes_told disconnects e event side is may = tt
 takes_told (hears octets) e event side is may = tt

@@ -1,9 +1,9 @@
 -- The host programs of a bench: which connections they have, what has come from each, and that a step of a station
 -- changes no more of that than what comes in it.
-use Rattle.channel_bench.proofs.Common.{◌≡◌, ℕ, ◌==◌, Bool, true, false, List, [], ◌∷◌, length, cond, nat_lt, Option}
+use Rattle.channel_bench.proofs.Common.{◌≡◌, ℕ, ◌==◌, Bool, true, false, List, [], ◌∷◌, length, cond, Option}
 use Rattle.channel_bench.proofs.Common.{is_some, Some, None, refl, sym, ap, ◌∙◌, subst, eqb-true, spelling, AgwMessage}
 use Rattle.channel_bench.proofs.Common.{IsWritten, each_append, PortKind, Kiss, Agw, AreAnswered, IsAnswered}
-use Rattle.channel_bench.proofs.Common.{Connection, connection_of, most_connections, new_connection, with_connection}
+use Rattle.channel_bench.proofs.Common.{Connection, connection_of, has_place, new_connection, with_connection}
 use Rattle.channel_bench.proofs.Common.{AreTaken, AreTakenBy, ending, joining, taking, with_host, with_octets}
 use Rattle.channel_bench.proofs.Common.{StationState, Turn, begin, changing, closing, program_id, kiss_id}
 use Rattle.channel_bench.proofs.Common.{full_duplex_octets, Callsign, Choice, eq-eqb, not, ◌&&◌}
@@ -131,7 +131,7 @@ still_has before after same h =
 
 pub joins_hosts : (id : ℕ) (kind : PortKind) (s : StationState) → IsHosts (new_connection id kind) → HasHosts s
     → HasHosts (joining id kind (begin s)).now
-joins_hosts id kind s new h = go (nat_lt (length s.connections) most_connections)
+joins_hosts id kind s new h = go (has_place s)
   where
     go : (b : Bool) → HasHosts (cond b (changing (with_host id kind) (begin s)) (closing id (begin s))).now
     go true = record {

@@ -14,10 +14,10 @@ use Rattle.tone_table.proofs.SineLemmas.{unsigned_abs-wave_sample}
 use Rattle.hdlc_framer.specs.Body.{body}
 use Rattle.afsk_modulator.specs.Transmission.{transmission}
 use Rattle.hf_sender.proofs.LoudnessLemmas.{within-hf_transmission}
-use Rattle.channel_access.specs.Modem.{transmission_by}
+use Rattle.channel_access.specs.Modem.{body_by, transmission_by}
 use Rattle.channel_access.specs.OnAir.{flags_behind}
 use Rattle.channel_access.specs.declared.modem.Modem.{Modem}
-use Rattle.channel_access.specs.declared.modem.Modem.TheVariants.{Bell202, ShortWave}
+use Rattle.channel_access.specs.declared.modem.Modem.TheVariants.{Bell202, ShortWave, Fx25}
 
 abbrev pub IsLoudAtMost : ℤ → Type 0
 IsLoudAtMost sample = unsigned_abs sample ≤ 10000
@@ -44,6 +44,8 @@ within-by : (modem : Modem) (frames : List (List ℕ)) (opening closing : ℕ)
 unfolding transmission_by
 within-by Bell202 frames opening closing = within-transmission frames opening closing
 within-by ShortWave frames opening closing = within-hf_transmission 10000 frames opening closing
+within-by (Fx25 checks) frames opening closing =
+    within-wave_from 0 (line (body_by (Fx25 checks) frames opening closing))
 
 within-samples : (t : OnAir) → All IsLoudAtMost (samples_on_air t)
 unfolding samples_on_air

@@ -1,5 +1,5 @@
 -- The messages of a host program of the bench, each as what it makes of its station and of what the program is sent.
-use Rattle.channel_bench.proofs.Common.{◌≡◌, ℕ, ◌==◌, nat_lt, Bool, true, false, List, [], ◌∷◌, ◌++◌, length, map, cond}
+use Rattle.channel_bench.proofs.Common.{◌≡◌, ℕ, ◌==◌, Bool, true, false, List, [], ◌∷◌, ◌++◌, length, map, cond}
 use Rattle.channel_bench.proofs.Common.{Option, Some, None, is_some, refl, sym, ap, ◌∙◌, subst, arith, ⊤, MatchBool}
 use Rattle.channel_bench.proofs.Common.{append-nil}
 use Rattle.channel_bench.proofs.Common.{filter-append, each_append, Callsign, call_field, bad_length_in, spelling}
@@ -7,7 +7,7 @@ use Rattle.channel_bench.proofs.Common.{AgwMessage, IsWritten, End, A, B, other,
 use Rattle.channel_bench.proofs.Common.{connect_kind, data_kind, disconnect_kind, register_kind, AreAnswered}
 use Rattle.channel_bench.proofs.Common.{IsAnswered, IsCall, IsCallMade, called_pid, called_route, giving, may_call}
 use Rattle.channel_bench.proofs.Common.{own_key, refused_reply, register_reply, registering, replying}
-use Rattle.channel_bench.proofs.Common.{with_registration, call_in, Connection, connection_of, most_connections}
+use Rattle.channel_bench.proofs.Common.{with_registration, call_in, Connection, connection_of, has_place}
 use Rattle.channel_bench.proofs.Common.{AreTaken, AreTakenBy, ending, joining, new_messages, taking, with_host, no_call}
 use Rattle.channel_bench.proofs.Common.{monitor_pieces, may_register, registrar, Route, path_along, StationState}
 use Rattle.channel_bench.proofs.Common.{asked_links, Out, Turn, begin, changing, closing, program_id, kiss_id}
@@ -292,7 +292,7 @@ joins_come :
     (id : ℕ) (kind : PortKind) (e : End) (s : StationState) (after : Turn) → OwnsAll e s
     → after ≡ joining id kind (begin s) → Comes nothing ⊥ e (begin s) [] after
 joins_come id kind e s after owns is =
-    subst (Comes nothing ⊥ e (begin s) []) (sym is) (go (nat_lt (length s.connections) most_connections))
+    subst (Comes nothing ⊥ e (begin s) []) (sym is) (go (has_place s))
   where
     go : (b : Bool) → Comes nothing ⊥ e (begin s) [] (cond b (changing (with_host id kind) (begin s))
         (closing id (begin s)))

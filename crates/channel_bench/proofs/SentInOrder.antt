@@ -1,10 +1,10 @@
 -- In a run of the bench nothing but the frames of links joins a transmit queue, and a station sends them in the order
 -- in which they joined it.
-use Rattle.channel_bench.proofs.Common.{◌≡◌, ℕ, ◌≤◌, Bool, true, false, List, [], ◌∷◌, ◌++◌, length, map, cond, nat_lt}
+use Rattle.channel_bench.proofs.Common.{◌≡◌, ℕ, ◌≤◌, Bool, true, false, List, [], ◌∷◌, ◌++◌, length, map, cond}
 use Rattle.channel_bench.proofs.Common.{Option, Some, None, refl, sym, ap, ◌∙◌, subst, arith, append-nil, append_assoc}
 use Rattle.channel_bench.proofs.Common.{map-append, call_field, spelling, AgwMessage, Sent, End, A, B, PortKind, Kiss}
 use Rattle.channel_bench.proofs.Common.{Agw, register_kind, connect_kind, data_kind, disconnect_kind, IsAnswered}
-use Rattle.channel_bench.proofs.Common.{most_connections, joining, taking, with_host, no_call, StationState, air_of}
+use Rattle.channel_bench.proofs.Common.{has_place, joining, taking, with_host, no_call, StationState, air_of}
 use Rattle.channel_bench.proofs.Common.{asked_links, some_wants, Turn, begin, changing, closing, BenchWords, Near}
 use Rattle.channel_bench.proofs.Common.{IsStep}
 use Rattle.channel_bench.proofs.Common.{program_id, kiss_id, call_at, request, request_between, Moment, steps_in, Input}
@@ -113,7 +113,7 @@ clock_sends busy s fits =
     }
 
 joining_fed : (id : ℕ) (kind : PortKind) (s : StationState) → Fed (begin s) (joining id kind (begin s))
-joining_fed id kind s = go (nat_lt (length s.connections) most_connections)
+joining_fed id kind s = go (has_place s)
   where
     go : (b : Bool) → Fed (begin s) (cond b (changing (with_host id kind) (begin s)) (closing id (begin s)))
     go true = fed_none (begin s) _ refl refl refl

@@ -1,10 +1,10 @@
 -- The connection of a host program of the bench: if the program is there, its station has the connection, which speaks
 -- for it.
-use Rattle.channel_bench.proofs.Common.{◌≡◌, ℕ, ◌==◌, ◌||◌, not, nat_lt, Bool, true, false, List, [], ◌∷◌, ◌++◌, length}
+use Rattle.channel_bench.proofs.Common.{◌≡◌, ℕ, ◌==◌, ◌||◌, not, Bool, true, false, List, [], ◌∷◌, ◌++◌, length}
 use Rattle.channel_bench.proofs.Common.{cond, Option, Some, is_some, refl, sym, ap, ◌∙◌, subst, arith, inl, inr, filter}
 use Rattle.channel_bench.proofs.Common.{list_any, or_cases, call_field, spelling, AgwMessage, End, Joined, PortKind}
 use Rattle.channel_bench.proofs.Common.{Kiss, Agw, connect_kind, data_kind, disconnect_kind, register_kind, IsAnswered}
-use Rattle.channel_bench.proofs.Common.{Connection, connection_of, most_connections, new_connection, with_connection}
+use Rattle.channel_bench.proofs.Common.{Connection, connection_of, has_place, new_connection, with_connection}
 use Rattle.channel_bench.proofs.Common.{joining, taking, with_host, with_octets, without_ids, no_call, StationState}
 use Rattle.channel_bench.proofs.Common.{Turn, begin, changing, closing, program_id, there_after, kiss_id, call_at}
 use Rattle.channel_bench.proofs.Common.{full_duplex_octets, request, request_between, Input, IsTurn, FromHost, not_both}
@@ -198,7 +198,7 @@ joined_kiss :
     → Grows there s (there_after input_of_kiss after.out.closed there) after.now
 joined_kiss s after there is before later =
     subst (λ (t : Turn). is_there (there_after input_of_kiss t.out.closed there) ≡ true → HasProgram t.now) (sym is)
-    (go (nat_lt (length s.connections) most_connections)) later
+    (go (has_place s)) later
   where
     go : (b : Bool)
         → let t = cond b (changing (with_host kiss_id Kiss) (begin s)) (closing kiss_id (begin s)) in
@@ -211,7 +211,7 @@ joined_program :
     → Grows there s (there_after input_of_program after.out.closed there) after.now
 joined_program s after there is before later =
     subst (λ (t : Turn). is_there (there_after input_of_program t.out.closed there) ≡ true → HasProgram t.now) (sym is)
-    (go (nat_lt (length s.connections) most_connections)) later
+    (go (has_place s)) later
   where
     go : (b : Bool)
         → let t = cond b (changing (with_host program_id Agw) (begin s)) (closing program_id (begin s)) in

@@ -1,7 +1,7 @@
 -- The steps of a station of the bench, and what its host program and the channel make of each: the program is told what
 -- it is sent, and each frame that a link queues is in flight. A SABM, SABME or DISC that finds no quiet channel ends
 -- the run.
-use Rattle.std.specs.Prelude.{◌≡◌, ◌≢◌, ℕ, ◌+◌, ◌-◌, ◌==◌, nat_lt, ◌&&◌, Bool, IsTrue, ◌↔◌, MatchBool, if◌then◌else◌}
+use Rattle.std.specs.Prelude.{◌≡◌, ◌≢◌, ℕ, ◌<◌, ◌+◌, ◌-◌, ◌==◌, nat_lt, ◌&&◌, Bool, IsTrue, ◌↔◌, MatchBool, if◌then◌else◌}
 use Rattle.std.specs.Prelude.{List, [], ◌∷◌, ◌++◌, length, All, Any, drop, position, Option, Some, None, option_map}
 use Rattle.std.specs.Str.{bytes_eq}
 use Rattle.frame_merge.specs.declared.candidate.Candidate.{Candidate}
@@ -103,11 +103,16 @@ pub record IsStep (end : End) (input : Input) (matched : Option ℕ) (before aft
 
 -- ---- what comes from hosts
 
--- A connection joins under an id that none has, and its octets are taken only while it is there and the station accepts
--- them.
+-- a connection waits while so many frames wait to be sent, so that a frame by which its link calls finds room
+abbrev pub most_waiting : ℕ
+most_waiting = 100
+
+-- A connection joins under an id that none has, and its octets are taken only while it is there, the station accepts
+-- them, and few frames wait.
 abbrev pub MayCome : HostEvent → SideState → Type 0
 MayCome (Joined id kind) side = All (λ other. other ≢ id) side.there
 MayCome (Bytes id octets) side = Any (λ other. other ≡ id) side.there × Accepts id side.station
+    × (length side.station.channel.waiting < most_waiting)
 MayCome (Left id) side = Any (λ other. other ≡ id) side.there
 
 -- an event of a connection, which is passed over if it may not come

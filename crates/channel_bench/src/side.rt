@@ -39,6 +39,9 @@ pub(crate) const PROGRAM: u32 = 1;
 /// The samples of a tick.
 const TICK: u64 = 96;
 
+/// A connection waits while so many frames wait to be sent.
+const MOST_WAITING: usize = 100;
+
 /// One of the two stations.
 #[derive(Drop)]
 pub struct Side {
@@ -102,7 +105,7 @@ impl Side {
         })
     }
 
-    /// The connection is there, and the station takes octets of it.
+    /// The connection is there, the station takes octets of it, and few frames wait.
     pub(crate) fn accepts(&self, id: u32) -> bool
         ensures accepts { (end : End) (side : SideState) (octets : List ℕ) → StandsForSide end self.now side
             → (IsTrue result ↔ MayCome (HostEvent.Bytes id octets) side) }
@@ -110,7 +113,9 @@ impl Side {
             → (end : End) (side : SideState) → StandsForSide end self.now side
             → IsAdmitted (HostEvent.Bytes id octets) self.now.station }
     {
-        is_among(&self.there, id) && self.station.accepts(id)
+        is_among(&self.there, id)
+            && self.station.accepts(id)
+            && self.station.waiting() < MOST_WAITING
     }
 
     /// No connection of the id is there.

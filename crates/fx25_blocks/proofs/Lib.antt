@@ -9,6 +9,7 @@ pub mod TagDistance
 pub mod RegisterLemmas
 pub mod OptionLemmas
 pub mod ReaderLemmas
+pub mod ComingLemmas
 pub mod BlockLaws
 pub mod DamageLemmas
 pub mod CoarseLemmas

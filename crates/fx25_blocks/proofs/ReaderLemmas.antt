@@ -25,7 +25,7 @@ same_octet_list xs ys fit also e =
 -- ---- tags that end with a bit
 
 -- the last 64 bits
-last_64 : (bits : List Bool) → 64 ≤ length bits → drop (length bits) (after_zeros bits) ≡ drop (length bits - 64) bits
+pub last_64 : (bits : List Bool) → 64 ≤ length bits → drop (length bits) (after_zeros bits) ≡ drop (length bits - 64) bits
 unfolding after_zeros
 last_64 bits least =
     let n : ℕ = length bits - 64 in

@@ -1,6 +1,7 @@
 -- What a reader keeps of the bits that it took. Public clauses cite `StandsFor` alone.
 use Rattle.std.specs.Prelude.{◌≡◌, ℕ, ◌+◌, ◌-◌, ◌%◌, ◌<◌, ◌≤◌, ◌↔◌, min, Bool, true, false, List, ◌++◌, length, take, drop}
 use Rattle.std.specs.Prelude.{◌*◌, replicate, slice_index, slice_index_or}
+use Rattle.fx25_blocks.specs.Coming.{IsComingFor}
 use Rattle.fx25_blocks.specs.NearTag.{EndsTag}
 use Rattle.fx25_blocks.specs.Tags.{IsTag, bits_of_64, block_length}
 use Rattle.fx25_blocks.specs.declared.block_reader.BlockReader.{BlockReader}
@@ -36,6 +37,11 @@ pub record Kept (ring : List Bool) (tags : List ℕ) (due : List Bool) (register
   pub due_kept : (i : ℕ) → length bits ≤ i → i < length bits + 2048
       → (tag : ℕ) → MayEnd tag i bits → slice_index_or due (i % 2048) false ≡ true
 
+-- for so many bits, the last one among them, a block is coming in
+abbrev pub ComesFor : ℕ → List Bool → Type 0
+ComesFor count bits = (more : ℕ) → (more < count) ↔ IsComingFor more bits
+
 -- the reader has taken these bits
-abbrev pub StandsFor : BlockReader → List Bool → Type 0
-StandsFor reader bits = Kept reader.bits reader.tags reader.due reader.register reader.next reader.taken bits
+pub record StandsFor (reader : BlockReader) (bits : List Bool) : Type 0 where
+  pub kept : Kept reader.bits reader.tags reader.due reader.register reader.next reader.taken bits
+  pub comes : ComesFor reader.coming bits

@@ -1,10 +1,12 @@
 pub mod Tags
 pub mod NearTag
+pub mod Coming
 pub mod Blocks
 pub mod Units
 pub mod BlockEnds
 pub mod Written
 pub mod Opening
 pub mod Held
+pub mod Began
 pub mod Damage
 pub mod CoarseCounts

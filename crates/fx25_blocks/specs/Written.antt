@@ -1,4 +1,4 @@
--- What the writer of blocks makes. No public clause cites it.
+-- What the writer of blocks makes of bits.
 use Rattle.std.specs.Prelude.{◌≡◌, ℕ, ◌<◌, Bool, List, ◌++◌, length, take, All}
 use Rattle.hdlc_framer.specs.BitOrder.{sent_bits}
 use Rattle.fx25_blocks.specs.Blocks.{IsBlockCodeword}

@@ -82,8 +82,8 @@ fn tagged(alloc: Global, tag: u8, line: &[bool]) -> Result<Vec<bool>, OutOfMemor
     Ok(bits)
 }
 
-// The block that carries some bits.
-fn block_of(tag: u8, line: &[bool]) -> Word
+/// The data and check octets of a tag that carry some bits, as many as the tag's data octets have. It takes no memory.
+pub fn block_of(tag: u8, line: &[bool]) -> Word
     requires tag { IsTag tag }
     requires size { length line.now ≡ 8 * data_count tag }
     ensures { Carries tag line.now result.items }

@@ -1,10 +1,12 @@
 // Blocks in a line of bits.
 
 ghost use Rattle.std.specs.Prelude.{◌≡◌, ◌≢◌, ℕ, ◌+◌, ◌*◌, ◌%◌, ◌<◌, ◌≤◌, min, set, Bool, true, List, [], ◌∷◌, ◌++◌, IfSome};
+ghost use Rattle.std.specs.Prelude.{◌-◌, ◌↔◌, IsTrue, max};
 ghost use Rattle.std.specs.Option.{IfNone};
 ghost use Rattle.fx25_blocks.specs.BlockEnds.{EndsBlock};
 ghost use Rattle.fx25_blocks.specs.Tags.{IsTag, block_length};
 
+use crate::block_coming::coming_from;
 use crate::block_reading::read_block;
 use crate::opening::BlockFrame;
 use crate::recent::{RING, recent};
@@ -25,11 +27,14 @@ pub struct BlockReader {
     register: u64,
     next: usize,
     taken: usize,
+    coming: u16,
     ghost place: { next < 2048 },
     ghost most: { taken ≤ 2104 },
+    ghost coming_most: { coming ≤ 2105 },
 }
 
 impl BlockReader {
+    ghost use Rattle.fx25_blocks.specs.Coming.{IsBlockComing};
     ghost use Rattle.fx25_blocks.specs.Held.{StandsFor};
 
     /// A reader that has taken no bit.
@@ -43,6 +48,7 @@ impl BlockReader {
             register: 0,
             next: 0,
             taken: 0,
+            coming: 0,
         }
     }
 
@@ -58,6 +64,16 @@ impl BlockReader {
         self.tags[self.next] = tag;
         expect(&mut self.due, self.next, tag);
         self.taken = one_more(self.taken);
+        let begun = coming_from(self.register, tag, self.taken);
+        self.coming = longest(begun, self.coming);
+    }
+
+    /// True if a block is coming in with the last bit, or was over at most 64 bits ago: a tag of which at most 8 bits are
+    /// wrong has told so.
+    pub fn is_block_coming(&self) -> bool
+        ensures { (b : List Bool) → StandsFor self.now b → (IsTrue result ↔ IsBlockComing b) }
+    {
+        self.coming > 0
     }
 
     /// True if no tag stands where a block that ends with the last bit has one. Then no block ends with it.
@@ -98,6 +114,16 @@ fn one_more(taken: usize) -> usize
     ensures most { result ≤ 2104 }
 {
     if taken < MOST_TAKEN { taken + 1 } else { taken }
+}
+
+// For how many bits a block is coming in after one bit more, if it was for so many and one begins to come for as many.
+fn longest(begun: u16, coming: u16) -> u16
+    requires begun { begun ≤ 2105 }
+    requires coming { coming ≤ 2105 }
+    ensures value { result ≡ max begun (coming - 1) }
+    ensures most { result ≤ 2105 }
+{
+    begun.max(coming.saturating_sub(1))
 }
 
 // Keeps with which bit to come the block ends of a tag that ended in front of a place. No tag is 0.

@@ -7,6 +7,7 @@
 
 mod block;
 mod block_code;
+mod block_coming;
 mod block_reader;
 mod block_reading;
 mod coarse_counts;
@@ -21,7 +22,7 @@ mod tags;
 #[cfg(test)]
 mod tests;
 
-pub use block::{write_block, write_unit};
+pub use block::{block_of, write_block, write_unit};
 pub use block_reader::BlockReader;
 pub use laws::{block_is_heard, one_block_ends, one_stretch_is_repaired, tags_are_apart};
 pub use opening::BlockFrame;

@@ -30,7 +30,7 @@ pub fn near_tag(register: u64) -> u8
 }
 
 // In how many bits two numbers differ.
-fn wrong_bits(register: u64, value: u64) -> u32
+pub fn wrong_bits(register: u64, value: u64) -> u32
     ensures { result ≡ differing (bits_of_64 register) (bits_of_64 value) }
 {
     (register ^ value).count_ones()

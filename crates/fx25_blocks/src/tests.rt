@@ -117,3 +117,33 @@ fn damaged_units_are_heard(rt: HostRuntime) {
         assert_eq!(rt; heard(&rt, wrong, wrong_tag_bits), over);
     }
 }
+
+// Whether a block is coming in after so many bits past its tag, of which so many are sent wrong.
+fn is_coming(wrong_tag_bits: usize, past: usize) -> bool {
+    let mut reader = BlockReader::new();
+    for (place, octet) in UNIT_16[..8].iter().enumerate() {
+        for bit in 0..8_u8 {
+            let sent = (*octet >> bit) & 1 == 1;
+            reader.push(sent != is_wrong(place, bit, 0, wrong_tag_bits));
+        }
+    }
+    for _ in 0..past {
+        reader.push(false);
+    }
+    reader.is_block_coming()
+}
+
+// The block has 384 bits, and counts up to 64 past its end.
+#[test]
+fn a_block_comes_in_from_its_tag_on(rt: HostRuntime) {
+    for (wrong_tag_bits, past, coming) in [
+        (0, 0, true),
+        (8, 0, true),
+        (9, 0, false),
+        (8, 384, true),
+        (8, 448, true),
+        (8, 449, false),
+    ] {
+        assert_eq!(rt; is_coming(wrong_tag_bits, past), coming);
+    }
+}

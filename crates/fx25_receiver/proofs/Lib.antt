@@ -2,6 +2,7 @@ pub mod Common
 pub mod MergingLemmas
 pub mod HeardLemmas
 pub mod LaneLemmas
+pub mod ComingLemmas
 pub mod TakenLemmas
 pub mod OneItem
 pub mod HearingLemmas

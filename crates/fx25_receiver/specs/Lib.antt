@@ -1,6 +1,7 @@
 pub mod Heard
 pub mod Merged
 pub mod Held
+pub mod Coming
 pub mod Hearing
 pub mod WithoutBlocks
 pub mod Damage

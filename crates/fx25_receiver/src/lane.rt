@@ -1,5 +1,5 @@
 //! One lane: its plain frames, and its blocks.
-ghost use Rattle.std.specs.Prelude.{◌≡◌, ℕ, List, [], ◌∷◌, ◌++◌, length, true, IfOk, IfSome};
+ghost use Rattle.std.specs.Prelude.{◌≡◌, ◌↔◌, ℕ, ℤ, List, [], ◌∷◌, ◌++◌, length, true, IfOk, IfSome, IsTrue};
 ghost use Rattle.std.specs.List.{All};
 ghost use Rattle.std.specs.Option.{IfNone};
 ghost use Rattle.tone_table.specs.declared.tone.Tone.{Tone};
@@ -8,7 +8,9 @@ ghost use Rattle.hdlc_framer.specs.Frames.{IsFrame, EndsFrame};
 ghost use Rattle.hdlc_framer.specs.Held.{HoldsFrame};
 ghost use Rattle.fx25_blocks.specs.BlockEnds.{EndsBlock};
 ghost use Rattle.fx25_blocks.specs.Tags.{IsTag};
-ghost use Rattle.fx25_receiver.specs.Held.{LaneStandsFor};
+ghost use Rattle.fx25_blocks.specs.Coming.{IsBlockComing};
+ghost use Rattle.fx25_receiver.specs.Coming.{HearsBlock};
+ghost use Rattle.fx25_receiver.specs.Held.{LaneStandsFor, LanesStandFor};
 
 use fx25_blocks::{BlockFrame, BlockReader};
 use hdlc_framer::{Deframer, Event};
@@ -93,6 +95,14 @@ impl Lane {
     {
         self.reader.is_idle()
     }
+
+    /// True if a block is coming in with the last tone, or was over at most 64 bits ago.
+    pub(crate) fn is_block_coming(&self) -> bool
+        ensures { (tones : List Tone) → LaneStandsFor self.now tones
+            → (IsTrue result ↔ IsBlockComing (bits_of tones)) }
+    {
+        self.reader.is_block_coming()
+    }
 }
 
 /// The eight lanes, which have taken nothing.
@@ -105,4 +115,17 @@ pub fn new_lanes(alloc: Global) -> Result<Vec<Lane>, OutOfMemory>
         lanes.push(Lane::new())?;
     }
     Ok(lanes)
+}
+
+/// Whether a block is coming in with the last bit of some lane, or was over at most 64 bits ago.
+pub(crate) fn is_some_block_coming(lanes: &[Lane]) -> bool
+    requires { length lanes.now ≡ 8 }
+    ensures { (x : List ℤ) → LanesStandFor lanes.now x → (IsTrue result ↔ HearsBlock x) }
+{
+    for lane in lanes {
+        if lane.is_block_coming() {
+            return true;
+        }
+    }
+    false
 }

@@ -1,12 +1,14 @@
 //! The receiver: samples in blocks in, each frame once and in order out.
 ghost use Rattle.std.specs.Prelude.{◌≡◌, ◌<◌, ◌≤◌, ◌+◌, ◌^◌, ℤ, List, [], ◌++◌, length, take, drop, true, IfOk, IsErr, OnErr, OnOk};
+ghost use Rattle.std.specs.Prelude.{◌↔◌, IsTrue};
 ghost use Rattle.slicer_bank.specs.Held.{last_seven};
 ghost use Rattle.fx25_receiver.specs.declared.heard.Heard.{Heard};
+ghost use Rattle.fx25_receiver.specs.Coming.{HearsBlock};
 ghost use Rattle.fx25_receiver.specs.Held.{HasTaken, StandsFor};
 
 use crate::heard::Heard;
 use crate::hearing::{Place, hear_blocks, hear_frame};
-use crate::lane::{Lane, new_lanes};
+use crate::lane::{Lane, is_some_block_coming, new_lanes};
 use crate::merging::forget;
 use crate::seven::{bridge, keep_last};
 use offset_slicers::decide;
@@ -77,6 +79,14 @@ impl Fx25Receiver {
         forget(&mut self.kept, self.position);
         self.spent = false;
         Ok(given)
+    }
+
+    /// Whether a block is coming in: a tag of which at most 8 bits are wrong has come in some lane, and its block is not
+    /// over or was over at most 64 bits ago.
+    pub fn is_block_coming(&self) -> bool
+        ensures { (x : List ℤ) (given : List Heard) → StandsFor self.now x given → (IsTrue result ↔ HearsBlock x) }
+    {
+        is_some_block_coming(&self.lanes)
     }
 
     /// Takes the samples of a block, and adds the items that end with them.

@@ -26,7 +26,7 @@ length-data_bits tag frame = omega (
 )
 
 -- the octets after a tag are its block
-block_is : (checks tag : ℕ) (frame : List ℕ) → IsTagFor checks (bits_needed frame) tag
+pub block_is : (checks tag : ℕ) (frame : List ℕ) → IsTagFor checks (bits_needed frame) tag
     → IsBlockOf tag frame (block_octets tag frame)
 block_is checks tag frame tag_for =
     let octets = octets_of (data_bits tag frame) in
@@ -61,7 +61,7 @@ unit_is checks frame = by_tag (last_tag checks (bits_needed frame) 11) (last_tag
         })
 
 -- a frame has one block with a tag
-one_block_of : (tag : ℕ) (frame block other : List ℕ) → IsTag tag → IsBlockOf tag frame block
+pub one_block_of : (tag : ℕ) (frame block other : List ℕ) → IsTag tag → IsBlockOf tag frame block
     → IsBlockOf tag frame other → block ≡ other
 unfolding code_of
 one_block_of tag frame block other is_tag first second =

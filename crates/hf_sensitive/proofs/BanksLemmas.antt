@@ -2,7 +2,7 @@
 use Rattle.hf_sensitive.proofs.Common.{◌≡◌, ◌≢◌, ℕ, ◌+◌, ◌*◌, ◌<◌, ◌≤◌, ℤ, List, [], ◌++◌, ◌∷◌, length, get_or, set, refl}
 use Rattle.hf_sensitive.proofs.Common.{ap, sym, subst, ◌∙◌, arith, inl, inr, cases_eq, cases_lt, length_push, length-set, All}
 use Rattle.hf_sensitive.proofs.Common.{Candidate, HeldBank, StandsFor, AllStandFor, AreAt, first_lane, places_in}
-use Rattle.hf_sensitive.proofs.Common.{AddsAmong, AreAddedAmong, CanBePutFrom, settled, EndsAtPlace}
+use Rattle.hf_sensitive.proofs.Common.{AddsAmong, AreAddedAmong, CanBePutFrom, least_end, EndsAtPlace}
 use Rattle.std.proofs.Common.{get_or-set_same, get_or-set_other, get_or-append-add}
 use Rattle.std.proofs.lemmas.List.{get_or_append_left}
 use Rattle.hf_sensitive.proofs.FoundLemmas.{adds_by_no_lane, adds_lanes}
@@ -56,10 +56,10 @@ pub record HaveFed (position n : ℕ) (old now : List HeldBank) (block : List �
   pub stand : (x : List ℤ) → AllStandFor old x → (k : ℕ) (d : HeldBank) → k < n → StandsFor (get_or now k d) (x ++ block)
   pub heard : (x : List ℤ) → AllStandFor old x
       → AddsAmong (places_in (length x)) (places_in (length (x ++ block))) 32 (first_lane n) (x ++ block) [] found
-  pub bounds : All (CanBePutFrom (settled position)) found
+  pub bounds : All (CanBePutFrom (least_end position)) found
 
 pub fed_none : (position : ℕ) (old : List HeldBank) (block : List ℤ) (found : List Candidate) → length old ≡ 9
-    → found ≡ [] → All (CanBePutFrom (settled position)) found → HaveFed position 0 old old block found
+    → found ≡ [] → All (CanBePutFrom (least_end position)) found → HaveFed position 0 old old block found
 fed_none position old block found size none bounds = record {
   size = size;
   fed = λ k d l. absurd (omega arith);
@@ -77,7 +77,7 @@ module _ (position n : ℕ) (old now : List HeldBank) (block : List ℤ) (found 
     (adds : (x : List ℤ) → StandsFor was x
     → AddsAmong (places_in (length x)) (places_in (length (x ++ block))) (first_lane was.tones.bank)
     (first_lane was.tones.bank + 3) (x ++ block) found after)
-    (bounds : All (CanBePutFrom (settled position)) found → All (CanBePutFrom (settled position)) after) where
+    (bounds : All (CanBePutFrom (least_end position)) found → All (CanBePutFrom (least_end position)) after) where
   -- the bank as it stood at first
   here : was ≡ get_or old n was
   here = there ∙ h.rest n was (omega arith)

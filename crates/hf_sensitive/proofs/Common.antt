@@ -8,7 +8,7 @@ pub use Rattle.hf_modem.specs.Candidates.{AreCandidatesAfter, IsCandidate, end_s
 pub use Rattle.hf_modem.specs.Held.{BankStandsFor, HeldBank as HeldHfBank}
 pub use Rattle.hf_sensitive.specs.AddedCandidates.{EndsAtPlace, is_in_time}
 pub use Rattle.hf_sensitive.specs.Candidates.{AreHeard, IsHeard}
-pub use Rattle.hf_sensitive.specs.Found.{AddsAmong, AreAddedAmong, CanBePut, CanBePutFrom, IsAmong}
+pub use Rattle.hf_sensitive.specs.Found.{AddsAmong, AreAddedAmong, CanBePut, CanBePutFrom, IsAmong, least_end}
 pub use Rattle.hf_sensitive.specs.HeldBanks.{AllStandFor, AreAt, HasTaken, HaveRead, HeldBank, HeldLane, HoldsFrameOf}
 pub use Rattle.hf_sensitive.specs.HeldBanks.{IsLastPlace, LaneStandsFor, StandsFor}
 unfoldable pub use Rattle.hf_sensitive.specs.Lanes.{is_read_at, lane_tones}

@@ -1,10 +1,10 @@
 -- What the 32 lanes hear in a block, sample by sample.
 use Rattle.hf_sensitive.proofs.Common.{◌≡◌, ℕ, ◌+◌, ◌/◌, ◌<◌, ◌≤◌, ◌^◌, ℤ, List, [], ◌∷◌, ◌++◌, length, ap, sym, subst, ◌∙◌, arith, append-nil}
 use Rattle.hf_sensitive.proofs.Common.{append_assoc, length-append, Candidate, AreCandidatesAfter, BankStandsFor, HeldHfBank}
-use Rattle.hf_sensitive.proofs.Common.{All, All-append, All-cons, All-nil, CanBePutFrom, ◌-◌}
+use Rattle.hf_sensitive.proofs.Common.{All, All-append, All-cons, All-nil, CanBePutFrom, ◌*◌, ◌%◌}
 use Rattle.std.specs.Prelude.{IfSome, None, Option, Some}
 use Rattle.std.specs.Option.{option_to_list}
-use Rattle.hf_modem.specs.HeldDecoder.{CanBePut as HfCanBePut}
+use Rattle.hf_modem.specs.Candidates.{end_sample}
 use Rattle.hf_modem.proofs.CandidateLemmas.{candidates_none, candidates_join}
 
 -- the bank has taken a part of a block after any samples that it stood for, and these are what it heard in it
@@ -38,13 +38,14 @@ heard_more initial bank next part longer sample found more after h is found_is s
 
 -- what was heard can be put, and so can what is heard with a sample
 pub bounds_more : (low position : ℕ) (found after : List Candidate) (heard : Option Candidate)
-    → after ≡ found ++ option_to_list heard → low ≤ position / 4 → IfSome heard HfCanBePut
-    → IfSome heard (λ item. position / 4 ≤ item.end) → All (CanBePutFrom low) found → All (CanBePutFrom low) after
-bounds_more low position found after None is le can late all =
+    → after ≡ found ++ option_to_list heard → low ≤ position / 4 → position < 2 ^ 48
+    → IfSome heard (λ item. (end_sample item ≡ position + 1) × (item.offset ≡ (position + 1) % 32))
+    → All (CanBePutFrom low) found → All (CanBePutFrom low) after
+bounds_more low position found after None is le room told all =
     subst (All (CanBePutFrom low)) (sym (is ∙ append-nil found)) all
-bounds_more low position found after (Some item) is le can late all =
+bounds_more low position found after (Some item) is le room told all =
     let P : Candidate → Type 0 = CanBePutFrom low in
-    let lane = can.lane in
-    let end = can.end in
+    let at = told.0 in
+    let lane = told.1 in
     subst (All P) (sym is) (All-append P found (item ∷ []) all
-    (All-cons P item [] (record { can = record { lane = omega arith; end = end }; from = omega arith }) (All-nil P)))
+    (All-cons P item [] (record { can = record { lane = omega arith; end = omega arith }; from = omega arith }) (All-nil P)))

@@ -1,14 +1,18 @@
 -- What the added lanes find at some places.
-use Rattle.std.specs.Prelude.{◌≡◌, ◌≢◌, ℕ, ◌-◌, ◌^◌, ◌<◌, ◌≤◌, ℤ, List, ◌++◌}
+use Rattle.std.specs.Prelude.{◌≡◌, ◌≢◌, ℕ, ◌-◌, ◌/◌, ◌^◌, ◌<◌, ◌≤◌, ℤ, List, ◌++◌}
 use Rattle.std.specs.List.{All, AllPairs, Contains}
 use Rattle.frame_merge.specs.declared.candidate.Candidate.{Candidate}
 use Rattle.frame_merge.specs.Order.{standing}
 use Rattle.hf_sensitive.specs.AddedCandidates.{EndsAtPlace}
 
--- what may be put into a merger of 59 lanes
+-- what may be put into a merger of 59 lanes, with its end counted from wherever the samples begin
 pub record CanBePut (item : Candidate) : Type 0 where
   pub lane : item.offset < 59
-  pub end : item.end < 2 ^ 64 - 1
+  pub end : item.end < 2 ^ 49
+
+-- what the added lanes hear after so many samples ends at this four of samples at the earliest
+abbrev pub least_end : ℕ → ℕ
+least_end count = count / 4 - 16
 
 -- the candidate may be put into a merger, and does not end below a number
 pub record CanBePutFrom (low : ℕ) (item : Candidate) : Type 0 where

@@ -23,7 +23,7 @@ use tone_table::Tone;
 pub(crate) const FIRST: u8 = 32;
 
 /// One past the last lane.
-pub(crate) const LANES: u8 = 59;
+pub const LANES: u8 = 59;
 
 /// A place, and which lane reads it, if it does.
 #[derive(Clone, Copy)]

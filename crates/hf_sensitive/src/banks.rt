@@ -3,9 +3,8 @@
 ghost use Rattle.std.specs.Prelude.{◌≡◌, ◌+◌, ◌<◌, ◌^◌, ℤ, List, [], ◌++◌, length, IfOk, OnOk};
 ghost use Rattle.std.specs.List.{All};
 ghost use Rattle.hf_tracking.specs.Heard.{places_in};
-ghost use Rattle.hf_sensitive.specs.Found.{AreAddedAmong, CanBePutFrom};
+ghost use Rattle.hf_sensitive.specs.Found.{AreAddedAmong, CanBePutFrom, least_end};
 ghost use Rattle.hf_sensitive.specs.HeldBanks.{AllStandFor, AreAt};
-ghost use Rattle.hf_sensitive.specs.MergedItems.{settled};
 
 use crate::tracking_bank::TrackingBank;
 use frame_merge::Candidate;
@@ -14,7 +13,7 @@ use std::alloc::Global;
 use tnc_base::OutOfMemory;
 
 /// The banks, which have taken nothing.
-pub(crate) fn new_banks(alloc: Global) -> Result<Vec<TrackingBank>, OutOfMemory>
+pub fn new_banks(alloc: Global) -> Result<Vec<TrackingBank>, OutOfMemory>
     ensures at { IfOk result (λ banks. AreAt 0 banks.items) }
     ensures stand_for { IfOk result (λ banks. AllStandFor banks.items []) }
 {
@@ -26,7 +25,7 @@ pub(crate) fn new_banks(alloc: Global) -> Result<Vec<TrackingBank>, OutOfMemory>
 }
 
 /// Gives each bank a block of samples after so many, and tells what their lanes hear in it.
-pub(crate) fn feed_banks(
+pub fn feed_banks(
     alloc: Global,
     banks: &mut Vec<TrackingBank>,
     position: u64,
@@ -39,7 +38,7 @@ pub(crate) fn feed_banks(
         → AllStandFor banks.new.items (x ++ block.now)) }
     ensures found { IfOk result (λ found. (x : List ℤ) → AllStandFor banks.old.items x
         → AreAddedAmong (places_in (length x)) (places_in (length (x ++ block.now))) 32 59 (x ++ block.now) found.items) }
-    ensures bounds { IfOk result (λ found. All (CanBePutFrom (settled position)) found.items) }
+    ensures bounds { IfOk result (λ found. All (CanBePutFrom (least_end position)) found.items) }
 {
     let mut found = Vec::new(alloc);
     for index in 0..BANKS {

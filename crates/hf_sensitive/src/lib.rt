@@ -20,8 +20,12 @@ mod laws;
 mod merging;
 mod tracking_bank;
 
+pub use added_frame::LANES;
+pub use banks::{feed_banks, new_banks};
 pub use decoder::HfSensitiveDecoder;
 pub use laws::{
     hf_sensitive_carried_frames, hf_sensitive_items_are_all, hf_sensitive_items_join,
     hf_sensitive_near_frames, one_list_of_all_hf_lanes, some_list_of_all_hf_lanes,
 };
+pub use merging::BEHIND;
+pub use tracking_bank::TrackingBank;

@@ -8,7 +8,7 @@ ghost use Rattle.hf_modem.specs.Candidates.{AreCandidatesAfter};
 ghost use Rattle.hf_modem.specs.Held.{HeldBank, BankStandsFor};
 ghost use Rattle.hf_tracking.specs.Heard.{places_in};
 ghost use Rattle.slicer_bank.specs.Merging.{AreInTime};
-ghost use Rattle.hf_sensitive.specs.Found.{AreAddedAmong, CanBePut, CanBePutFrom};
+ghost use Rattle.hf_sensitive.specs.Found.{AreAddedAmong, CanBePut, CanBePutFrom, least_end};
 ghost use Rattle.hf_sensitive.specs.HeldBanks.{HeldBank as HeldTracking, AllStandFor};
 ghost use Rattle.hf_sensitive.specs.HeldDecoder.{HaveTaken};
 ghost use Rattle.hf_sensitive.specs.MergedItems.{AreMergedBetween, settled};
@@ -18,7 +18,7 @@ use hf_modem::SAMPLES_AN_END;
 use tnc_base::OutOfMemory;
 
 /// How far behind the last sample the added lanes hear, in fours of samples: no candidate to come ends lower.
-const BEHIND: u64 = 17;
+pub const BEHIND: u64 = 17;
 
 /// Gives what the 32 lanes and the added ones heard in a block of `count` samples to a merger of all of them, which had
 /// taken `position` samples. Tells the items that the block settles.
@@ -31,7 +31,7 @@ pub(crate) fn merge_block(
 ) -> Result<Vec<Candidate>, OutOfMemory>
     requires room { position + count < 2 ^ 48 }
     requires found { All (CanBePutFrom (position / 4)) found.items }
-    requires added { All (CanBePutFrom (settled position)) added.items }
+    requires added { All (CanBePutFrom (least_end position)) added.items }
     requires marks { merger.old.marks ≡ replicate 59 (settled position) }
     ensures given { IfOk result (λ ready. (old new : HeldBank) (before after : List HeldTracking) (x y : List ℤ)
         → length x ≡ position → length y ≡ count

@@ -3,10 +3,9 @@
 ghost use Rattle.std.specs.Prelude.{◌≡◌, ◌+◌, ◌<◌, ◌≤◌, ◌^◌, ℕ, ℤ, pos, List, [], ◌++◌, length, OnOk, slice_index_or};
 ghost use Rattle.std.specs.List.{All};
 ghost use Rattle.hf_tracking.specs.Heard.{places_in};
-ghost use Rattle.hf_sensitive.specs.Found.{AddsAmong, CanBePutFrom};
+ghost use Rattle.hf_sensitive.specs.Found.{AddsAmong, CanBePutFrom, least_end};
 ghost use Rattle.hf_sensitive.specs.HeldBanks.{HasTaken, StandsFor};
 ghost use Rattle.hf_sensitive.specs.Lanes.{first_lane};
-ghost use Rattle.hf_sensitive.specs.MergedItems.{settled};
 
 use crate::added_frame::{FIRST, Reading, hear};
 use frame_merge::Candidate;
@@ -19,7 +18,7 @@ use tone_tracking::{BitClock, Pull};
 
 /// Takes samples, and gives what the lanes of one bank hear. After want of memory no clause says what it gives.
 #[derive(Drop)]
-pub(crate) struct TrackingBank {
+pub struct TrackingBank {
     alloc: Global,
     number: u8,
     tones: HfTones,
@@ -82,8 +81,8 @@ impl TrackingBank {
             → AddsAmong (places_in (length x)) (places_in (length (x ++ block.now)))
             (first_lane self.old.tones.bank) (first_lane self.old.tones.bank + 3) (x ++ block.now)
             found.old.items found.new.items) }
-        ensures bounds { OnOk result (All (CanBePutFrom (settled self.old.tones.count)) found.old.items
-            → All (CanBePutFrom (settled self.old.tones.count)) found.new.items) }
+        ensures bounds { OnOk result (All (CanBePutFrom (least_end self.old.tones.count)) found.old.items
+            → All (CanBePutFrom (least_end self.old.tones.count)) found.new.items) }
         ensures count { OnOk result (self.new.tones.count ≡ self.old.tones.count + length block.now) }
         ensures number { self.new.tones.bank ≡ self.old.tones.bank }
     {
@@ -103,7 +102,7 @@ impl TrackingBank {
             → AddsAmong (places_in self.old.tones.count) (places_in (self.old.tones.count + 1))
             (first_lane self.old.tones.bank) (first_lane self.old.tones.bank + 3) x
             found.old.items found.new.items) }
-        ensures bounds { (low : ℕ) → low ≤ settled self.old.tones.count
+        ensures bounds { (low : ℕ) → low ≤ least_end self.old.tones.count
             → OnOk result (All (CanBePutFrom low) found.old.items → All (CanBePutFrom low) found.new.items) }
         ensures count { self.new.tones.count ≡ self.old.tones.count + 1 }
         ensures number { self.new.tones.bank ≡ self.old.tones.bank }

@@ -63,7 +63,7 @@ waits_narrows id waiting a b s = record {
       sym (ap (λ lines. list_any (is_line_of other) lines || is_among other b.leaving.items) s.lines
       ∙ ap (λ t. t || is_among other b.leaving.items) (waiting_names id other waiting a.lines.items)
       ∙ ap (λ ids. list_any (is_line_of other) a.lines.items || is_among other ids.items) s.leaving) ∙ named;
-  pieces = λ pieces. subst (λ all. All (λ one. length one.octets ≤ 4096) all.items) (sym s.untaken) pieces;
+  pieces = λ pieces. subst (λ all. All (λ one. length one.octets ≤ 17) all.items) (sym s.untaken) pieces;
   lighter =
       let lines = ap length s.lines ∙ waiting_length id waiting a.lines.items in
       let leaving = ap (λ ids. length ids.items) s.leaving in

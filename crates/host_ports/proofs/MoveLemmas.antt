@@ -117,7 +117,7 @@ known_after event closed a b c before came lines leaving untaken ids narrows gon
           ap (λ ranges. is_within id ranges.items) (narrows.came ∙ came)
           ∙ elim (or_cases (is_among id (ids_of a.station)) (joins id event) was)
           [ inl holds ↦ before.came id holds | inr holds ↦ before.joined id holds ];
-      pieces = narrows.pieces (subst (λ u. All (λ one. length one.octets ≤ 4096) u.items) (sym untaken) before.pieces);
+      pieces = narrows.pieces (subst (λ u. All (λ one. length one.octets ≤ 17) u.items) (sym untaken) before.pieces);
     }
 
 -- ---- the connections that were shut

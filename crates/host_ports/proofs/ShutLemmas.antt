@@ -26,8 +26,8 @@ forget_narrows id a b f = record {
   came = f.came;
   named = λ other named. (and_parts (not (other == id)) (is_named other a)
       (sym (named_without a b id other f.lines f.leaving) ∙ named)).1;
-  pieces = λ pieces. subst (All (λ one. length one.octets ≤ 4096)) (sym f.untaken)
-      (All-filter (λ (one : Untaken). not (one.id == id)) (λ one. length one.octets ≤ 4096) a.untaken.items pieces);
+  pieces = λ pieces. subst (All (λ one. length one.octets ≤ 17)) (sym f.untaken)
+      (All-filter (λ (one : Untaken). not (one.id == id)) (λ one. length one.octets ≤ 17) a.untaken.items pieces);
   lighter =
       let lines = length_without_lines id a.lines.items in
       let leaving = length_without_ids id a.leaving.items in

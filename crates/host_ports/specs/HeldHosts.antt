@@ -46,7 +46,7 @@ is_known id parts = is_among id (ids_of parts.station)
 pub record IsKnown (parts : HostParts) : Type 0 where
   pub known : (id : ℕ) → is_named id parts ≡ true → is_known id parts ≡ true
   pub came : (id : ℕ) → is_known id parts ≡ true → is_within id parts.came.items ≡ true
-  pub pieces : All (λ one. length one.octets ≤ 4096) parts.untaken.items
+  pub pieces : All (λ one. length one.octets ≤ 17) parts.untaken.items
 
 -- and it knows of all connections that were shut
 pub record IsAtRest (parts : HostParts) : Type 0 where
@@ -75,8 +75,8 @@ pub record Narrows (before after : HostParts) : Type 0 where
   pub station : after.station ≡ before.station
   pub came : after.came ≡ before.came
   pub named : (id : ℕ) → is_named id after ≡ true → is_named id before ≡ true
-  pub pieces : All (λ one. length one.octets ≤ 4096) before.untaken.items
-      → All (λ one. length one.octets ≤ 4096) after.untaken.items
+  pub pieces : All (λ one. length one.octets ≤ 17) before.untaken.items
+      → All (λ one. length one.octets ≤ 17) after.untaken.items
   pub lighter : weight after ≤ weight before
 
 -- the connection joins with this event
@@ -97,7 +97,7 @@ pub record IsKnownBefore (event : HostEvent) (parts : HostParts) : Type 0 where
   pub came : (id : ℕ) → is_known id parts ≡ true → is_within id parts.came.items ≡ true
   pub joined : (id : ℕ) → joins id event ≡ true → is_within id parts.came.items ≡ true
   pub left : (id : ℕ) → leaves id event ≡ true → is_named id parts ≡ false
-  pub pieces : All (λ one. length one.octets ≤ 4096) parts.untaken.items
+  pub pieces : All (λ one. length one.octets ≤ 17) parts.untaken.items
 
 -- these are the connections whose octets have to wait
 abbrev pub AreWaiting : List ℕ → Hosts → Type 0

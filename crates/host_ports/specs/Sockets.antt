@@ -38,10 +38,10 @@ is_joining_of id (Joined other kind) = other == id
 is_joining_of id (Bytes other octets) = false
 is_joining_of id (Left other) = false
 
--- a piece of octets is not empty, and at most 4096 octets come at once
+-- a piece of octets is not empty, and has at most 17, so that no more than one frame of a host ends in it
 abbrev pub IsWholePiece : HostEvent → Type 0
 IsWholePiece (Joined id kind) = ⊤
-IsWholePiece (Bytes id octets) = (0 < length octets) × (length octets ≤ 4096)
+IsWholePiece (Bytes id octets) = (0 < length octets) × (length octets ≤ 17)
 IsWholePiece (Left id) = ⊤
 
 -- what a poll that pauses these ids may give: whole pieces, and no octets of a paused id

@@ -2,7 +2,7 @@
 //!
 //! `mio` reports a change once. So a connection keeps whether it may have more octets, from the event that says so
 //! until a read would block, also while it is paused.
-ghost use Rattle.std.specs.Prelude.{◌≡◌, ◌≢◌, ℕ, List, ◌≤◌, All, length, IfSome, OnOk};
+ghost use Rattle.std.specs.Prelude.{◌≡◌, ◌≢◌, ℕ, List, ◌<◌, ◌≤◌, All, length, IfSome, OnOk};
 ghost use Rattle.host_ports.specs.RealSockets.{joined_ids};
 ghost use Rattle.host_ports.specs.Sockets.{MayCome};
 
@@ -12,8 +12,12 @@ use std::alloc::Global;
 use std::io::{ErrorKind, Read, Write};
 use tnc_base::{Octets, OutOfMemory};
 
-/// The most octets of a piece.
-const PIECE: usize = 4096;
+/// The most octets of a piece. No more than one frame of a host ends in so many.
+const PIECE: usize = 17;
+
+/// The most octets of a read. What a paused connection has given waits in pieces, and each is tried at each turn, so a
+/// read gives few of them.
+const READ: usize = 16 * PIECE;
 
 /// A connection.
 #[derive(Drop)]
@@ -27,7 +31,7 @@ pub(crate) struct Socket {
 }
 
 impl Socket {
-    /// Reads once. The end of a connection, or a fault of it, is that the host has left.
+    /// Reads once, and gives what came in pieces. The end of a connection, or a fault of it, is that the host has left.
     pub(crate) fn take_piece(
         &mut self,
         alloc: Global,
@@ -39,11 +43,10 @@ impl Socket {
         ensures id { self.new.id ≡ self.old.id }
     {
         let id = self.id;
-        let mut buffer = [0; PIECE];
+        let mut buffer = [0; READ];
         match self.stream.read(&mut buffer) {
             Ok(count) if count > 0 => {
-                let octets = Octets::from_slice(alloc, &buffer[..count])?;
-                events.push(HostEvent::Bytes { id, octets })?;
+                push_pieces(alloc, events, id, &buffer[..count])?;
             }
             Err(fault) if fault.kind() == ErrorKind::WouldBlock => self.ready = false,
             _ => {
@@ -66,4 +69,41 @@ impl Socket {
             Err(_) => None,
         }
     }
+}
+
+/// Octets of a connection, in pieces.
+fn push_pieces(
+    alloc: Global,
+    events: &mut Vec<HostEvent>,
+    id: u32,
+    octets: &[u8],
+) -> Result<(), OutOfMemory>
+    ensures kept { (paused : List ℕ) → All (MayCome paused) events.old.items
+        → All (λ other. other ≢ id) paused → OnOk result (All (MayCome paused) events.new.items) }
+    ensures joined { OnOk result (joined_ids events.new.items ≡ joined_ids events.old.items) }
+{
+    for at in 0..octets.len().div_ceil(PIECE) {
+        let begin = at * PIECE;
+        let end = octets.len().min(begin + PIECE);
+        push_piece(alloc, events, id, &octets[begin..end])?;
+    }
+    Ok(())
+}
+
+/// One piece of them.
+fn push_piece(
+    alloc: Global,
+    events: &mut Vec<HostEvent>,
+    id: u32,
+    octets: &[u8],
+) -> Result<(), OutOfMemory>
+    requires some { 0 < length octets.now }
+    requires few { length octets.now ≤ 17 }
+    ensures kept { (paused : List ℕ) → All (MayCome paused) events.old.items
+        → All (λ other. other ≢ id) paused → OnOk result (All (MayCome paused) events.new.items) }
+    ensures joined { OnOk result (joined_ids events.new.items ≡ joined_ids events.old.items) }
+{
+    let octets = Octets::from_slice(alloc, octets)?;
+    events.push(HostEvent::Bytes { id, octets })?;
+    Ok(())
 }

@@ -79,7 +79,7 @@ impl HostParts {
     /// Octets of a connection that is there are taken, or wait.
     fn take_octets(&mut self, id: u32, octets: Octets) -> Result<(), OutOfMemory>
         requires rest { IsAtRest self.old }
-        requires piece { length octets ≤ 4096 }
+        requires piece { length octets ≤ 17 }
         ensures moves { OnOk result (MovesBy (AreTaken id octets) self.old self.new) }
         ensures rest { OnOk result (IsAtRest self.new) }
     {

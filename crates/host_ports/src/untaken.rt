@@ -7,6 +7,6 @@ use tnc_base::Octets;
 pub struct Untaken {
     /// The connection.
     pub id: u32,
-    /// At most 4096 octets.
+    /// At most 17 octets.
     pub octets: Octets,
 }

@@ -1,6 +1,6 @@
 -- What holds of each connection that joins, by its id and its kind, holds of all connections of a station: nothing else
 -- makes one. And a step closes none but such.
-use Rattle.station_laws.proofs.Common.{◌≡◌, ℕ, ◌==◌, ◌&&◌, Bool, true, false, not, nat_lt, nat_le, List, [], ◌∷◌, ◌++◌, length}
+use Rattle.station_laws.proofs.Common.{◌≡◌, ℕ, ◌==◌, ◌&&◌, Bool, true, false, not, nat_le, List, [], ◌∷◌, ◌++◌, length}
 use Rattle.station_laws.proofs.Common.{if◌then◌else◌, map, cond, drop, Option, Some, None, is_some, refl, sym, subst, MatchBool, each_append}
 use Rattle.station_laws.proofs.Common.{range_with_len, Command, way_back, Eight, repeated, has_frame_length, bad_length_in}
 use Rattle.station_laws.proofs.Common.{AgwMessage, Callsign, KissItem, Hardware, Return, Set, TooLong, Connect, Disconnect}
@@ -13,13 +13,13 @@ use Rattle.station_laws.proofs.Common.{called_pid, called_route, call_in, calls,
 use Rattle.station_laws.proofs.Common.{may_call, most_information, own_key, packet_length, packets_of, queueing_raw}
 use Rattle.station_laws.proofs.Common.{refused_reply, register_reply, registering, replying, sending_unnumbered}
 use Rattle.station_laws.proofs.Common.{unnumbered_frame, unregistering, with_registration, may_register, registrar}
-use Rattle.station_laws.proofs.Common.{Connection, connection_of, most_connections, frame_octets, shown_to_hosts, AreTaken}
+use Rattle.station_laws.proofs.Common.{Connection, connection_of, frame_octets, has_place, shown_to_hosts, AreTaken}
 use Rattle.station_laws.proofs.Common.{AreTakenBy, IsHostTurn, ending, joining, new_items, new_messages, taking, with_host}
 use Rattle.station_laws.proofs.Common.{heeding, heeding_all, param_of, with_param, giving_up, giving_up_all, giving_up_link}
 use Rattle.station_laws.proofs.Common.{leaving, without_host, without_owner, event_at, with_links, Link, link_at}
 use Rattle.station_laws.proofs.Common.{most_links, with_link, making, no_layer_3, is_number, Route, path_along}
-use Rattle.station_laws.proofs.Common.{behind_repeaters, repeaters_in, route_in, StationState, ticking, Act, Turn, capacity}
-use Rattle.station_laws.proofs.Common.{changing, closing, dropping, entering_for, in_order, queueing_for, Asker}
+use Rattle.station_laws.proofs.Common.{behind_repeaters, repeaters_in, route_in, StationState, ticking, Act, Turn, may_enter}
+use Rattle.station_laws.proofs.Common.{changing, closing, dropping, entering_for, in_order, queueing_for, queueing_own, Asker}
 use Rattle.station_laws.proofs.Common.{Input, IsTurn, FromHost, OfClock, OffAir, Choice, LinkStep, heard_steps, ap}
 use Rattle.station_laws.proofs.Common.{ticking_at, ticking_links, asked_links, asking_at, asked_key, seizing}
 use Rattle.station_laws.proofs.Common.{with_asked, t1_stands, Tick}
@@ -86,10 +86,11 @@ module _ (IsSo : ℕ → PortKind → Type 0) (IsNamed : ℕ → Type 0)
   event_so : (key : ℕ) (event : Event) (t : Turn) → Has t → Has (event_at key event t)
   event_so key event t h = by_same t (event_at key event t) (event_hosts key event t) (event_closed key event t) h
 
-  queued_so : (asker : Option Asker) (octets : List ℕ) (t : Turn) → Has t → Has (queueing_for asker None octets t)
-  queued_so asker octets t h =
-      either (nat_lt (length t.now.channel.waiting) capacity) (entering_for asker None octets t) (dropping t)
-      (still t (entering_for asker None octets t) h refl refl) (still t (dropping t) h refl refl)
+  queued_so : (owner : Option ℕ) (asker : Option Asker) (octets : List ℕ) (t : Turn) → Has t
+      → Has (queueing_for owner asker None octets t)
+  queued_so owner asker octets t h =
+      either (may_enter owner t.now) (entering_for owner asker None octets t) (dropping t)
+      (still t (entering_for owner asker None octets t) h refl refl) (still t (dropping t) h refl refl)
 
   along_so : {X : Type 0} (act : X → Act) → ((x : X) (t : Turn) → Has t → Has (act x t)) → (xs : List X) (t : Turn)
       → Has t → Has (in_order (map act xs) t)
@@ -137,26 +138,26 @@ module _ (IsSo : ℕ → PortKind → Type 0) (IsNamed : ℕ → Type 0)
 
   -- ---- KISS
 
-  raw_so : (octets : List ℕ) (t : Turn) → Has t → Has (queueing_raw octets t)
-  raw_so octets t h = go (has_frame_length octets)
+  raw_so : (host : ℕ) (octets : List ℕ) (t : Turn) → Has t → Has (queueing_raw host octets t)
+  raw_so host octets t h = go (has_frame_length octets)
     where
-      go : (b : Bool) → Has ((if b then queueing_for None None octets else (λ u. u)) t)
-      go true = queued_so None octets t h
+      go : (b : Bool) → Has ((if b then queueing_own host None octets else (λ u. u)) t)
+      go true = queued_so (Some host) None octets t h
       go false = h
 
   asked_so : (host : ℕ) (mark octets : List ℕ) (t : Turn) → Has t → Has (queueing_asked host mark octets t)
   asked_so host mark octets t h = go (has_frame_length octets)
     where
       go : (b : Bool)
-          → Has ((if b then queueing_for (Some (record { id = host; mark = mark })) None octets else (λ u. u)) t)
-      go true = queued_so (Some (record { id = host; mark = mark })) octets t h
+          → Has ((if b then queueing_own host (Some (record { id = host; mark = mark })) octets else (λ u. u)) t)
+      go true = queued_so (Some host) (Some (record { id = host; mark = mark })) octets t h
       go false = h
 
   on_port_so : (port : ℕ) (act : Act) (t : Turn) → Has (act t) → Has t → Has (on_port_0 port act t)
   on_port_so port act t h k = either (port == 0) (act t) t h k
 
   heeding_so : (host : ℕ) (item : KissItem) (t : Turn) → Has t → Has (heeding host item t)
-  heeding_so host (KissFrame port octets) t h = on_port_so port (queueing_raw octets) t (raw_so octets t h) h
+  heeding_so host (KissFrame port octets) t h = on_port_so port (queueing_raw host octets) t (raw_so host octets t h) h
   heeding_so host (AckFrame port mark octets) t h =
       on_port_so port (queueing_asked host mark octets) t (asked_so host mark octets t h) h
   heeding_so host (Set port command value) t h =
@@ -208,16 +209,16 @@ module _ (IsSo : ℕ → PortKind → Type 0) (IsNamed : ℕ → Type 0)
   unregisters_so host None t h = h
   unregisters_so host (Some call) t h = still t (unregistering host (Some call) t) h refl refl
 
-  unnumbered_so : (pid : ℕ) (information : List ℕ) (route : Option Route) (t : Turn) → Has t
-      → Has (sending_unnumbered pid information route t)
-  unnumbered_so pid information None t h = h
-  unnumbered_so pid information (Some route) t h = go (nat_le (length information) most_information)
+  unnumbered_so : (host pid : ℕ) (information : List ℕ) (route : Option Route) (t : Turn) → Has t
+      → Has (sending_unnumbered host pid information route t)
+  unnumbered_so host pid information None t h = h
+  unnumbered_so host pid information (Some route) t h = go (nat_le (length information) most_information)
     where
       frame : List ℕ
       frame = frame_octets Eight (unnumbered_frame route pid information)
 
-      go : (b : Bool) → Has ((if b then queueing_for None None frame else (λ u. u)) t)
-      go true = queued_so None frame t h
+      go : (b : Bool) → Has ((if b then queueing_own host None frame else (λ u. u)) t)
+      go true = queued_so (Some host) None frame t h
       go false = h
 
   data_so : (message : AgwMessage) (key : Option ℕ) (t : Turn) → Has t → Has (giving message key t)
@@ -256,11 +257,11 @@ module _ (IsSo : ℕ → PortKind → Type 0) (IsNamed : ℕ → Type 0)
       (either (n == unregister_kind) _ _ (unregisters_so host (call_in message.from) t h)
       (either (n == toggle_kind) _ _ (turns_so host turned_raw (λ c. refl) (λ c. refl) t _ refl refl h)
       (either (n == monitor_kind) _ _ (turns_so host turned_monitor (λ c. refl) (λ c. refl) t _ refl refl h)
-      (either (n == raw_kind) _ _ (raw_so (drop 1 message.body) t h)
+      (either (n == raw_kind) _ _ (raw_so host (drop 1 message.body) t h)
       (either (n == unproto_kind) _ _
-      (unnumbered_so message.pid message.body (route_in message.from message.to (Some [])) t h)
+      (unnumbered_so host message.pid message.body (route_in message.from message.to (Some [])) t h)
       (either (n == unproto_via_kind) _ _
-      (unnumbered_so message.pid (behind_repeaters message.body)
+      (unnumbered_so host message.pid (behind_repeaters message.body)
       (route_in message.from message.to (repeaters_in message.body)) t h)
       (either (n == data_kind) _ _ (data_so message (own_key host message t.now.links) t h)
       (either (n == disconnect_kind) _ _ (ends_so (own_key host message t.now.links) t h)
@@ -322,7 +323,7 @@ module _ (IsSo : ℕ → PortKind → Type 0) (IsNamed : ℕ → Type 0)
 
   joins_so : (other : ℕ) (kind : PortKind) (t : Turn) → IsSo other kind → Has t → Has (joining other kind t)
   joins_so other kind t joins h =
-      either (nat_lt (length t.now.connections) most_connections) (changing (with_host other kind) t) (closing other t)
+      either (has_place t.now) (changing (with_host other kind) t) (closing other t)
       (record {
         connections = each_append So t.now.connections (new_connection other kind ∷ []) h.connections (joins, tt);
         closed = h.closed;
@@ -347,7 +348,7 @@ module _ (IsSo : ℕ → PortKind → Type 0) (IsNamed : ℕ → Type 0)
       (octets : List ℕ) (t : Turn) (steps : Choice → List LinkStep) (u : Turn) → Heard octets t steps u → Has t
       → Has u
   heard_so octets t steps u passes h = h
-  heard_so octets t steps u (repeats call k is) h = queued_so None (repeated octets k) t h
+  heard_so octets t steps u (repeats call k is) h = queued_so None None (repeated octets k) t h
   heard_so octets t steps u (hears key len path frame begins found_key is) h = event_so key (Hear frame) t h
   heard_so octets t steps u (hears_new key host frame is vacant known new) h =
       let with_new =

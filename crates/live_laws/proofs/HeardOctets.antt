@@ -7,11 +7,14 @@ use Rattle.std.proofs.lemmas.List.Elements.{recursion_from_All}
 use Rattle.link_world.proofs.law.Each.{each_weaker}
 use Rattle.frame_merge.specs.Merged.{merged, merged_after, repeats}
 use Rattle.slicer_bank.specs.HeardOnRing.{lane_of}
+use Rattle.slicer_bank.specs.Stretches.{Stretch, stretches}
+use Rattle.fx25_ring.specs.HeardInBlocks.{AreDueInBlocks}
+use Rattle.fx25_ring.proofs.HeardLemmas.{heard_each}
 use Rattle.ring_receiver.specs.HeardByAll.{AreDueBy as AreDueByTones, IsHeardBy}
 use Rattle.live_receiver.specs.declared.listening.Listening.{Listening}
-use Rattle.live_receiver.specs.declared.listening.Listening.TheVariants.{Bell202, ShortWave}
+use Rattle.live_receiver.specs.declared.listening.Listening.TheVariants.{Bell202, ShortWave, Fx25}
 use Rattle.live_receiver.specs.Listening.{AreDueBy}
-use Rattle.live_receiver.specs.HeardOnShortWave.{AreDue, AreHeard, IsHeardIn}
+use Rattle.live_receiver.specs.HeardOnShortWave.{AreDue, AreHeard, IsHeardIn, IsHeardByOne, IsHeardInOne}
 
 abbrev pub HasFrame : Candidate → Type 0
 HasFrame item = All (λ octet. octet < 256) item.octets
@@ -60,28 +63,49 @@ due_of_tones sensitive true before now items due =
     (merged_frames [] due.candidates (all_frames sensitive now due.candidates due.are.each)))
 
 -- on short wave
-wave_frame : (answers : List Got) (item : Candidate) → IsHeardIn answers item → HasFrame item
-wave_frame answers item h = subst (λ (i : Candidate). HasFrame i) (sym h.item_is) h.candidate.ends.frame.2.octets_fit
+frame_by_one : (stretch : Stretch) (item : Candidate) → IsHeardByOne stretch item → HasFrame item
+frame_by_one stretch item h = subst (λ (i : Candidate). HasFrame i) (sym h.item_is) h.candidate.ends.frame.2.octets_fit
 
-wave_frames : (answers : List Got) (items : List Candidate) → AreHeard answers items
+frame_in_one : (sensitive : Bool) (stretch : Stretch) (item : Candidate) → IsHeardInOne sensitive stretch item
+    → HasFrame item
+frame_in_one false stretch item h = frame_by_one stretch item h
+frame_in_one true stretch item (inl h) = frame_by_one stretch item h
+frame_in_one true stretch item (inr h) =
+    subst (λ (i : Candidate). HasFrame i) (sym h.item_is) h.added.ends.frame.2.octets_fit
+
+wave_frames : (sensitive : Bool) (answers : List Got) (items : List Candidate) → AreHeard sensitive answers items
     → Each HasFrame (merged items)
-wave_frames answers items are =
-    merged_frames [] items (each_weaker (IsHeardIn answers) HasFrame (wave_frame answers) items
-    (recursion_from_All (IsHeardIn answers) items are.each))
+wave_frames sensitive answers items are =
+    merged_frames [] items (each_weaker (IsHeardIn sensitive answers) HasFrame
+    (λ item h. frame_in_one sensitive h.stretch item h.heard) items
+    (recursion_from_All (IsHeardIn sensitive answers) items are.each))
 
-due_of_wave : (ended : Bool) (before now : List Got) (items : List Candidate) → AreDue ended before now items
+due_of_wave : (sensitive ended : Bool) (before now : List Got) (items : List Candidate)
+    → AreDue sensitive ended before now items → Each HasFrame items
+due_of_wave sensitive false before now items due =
+    subst (Each HasFrame) (sym due.is)
+    (filter_frames _ (merged due.candidates) (wave_frames sensitive now due.candidates due.are))
+due_of_wave sensitive true before now items due =
+    subst (Each HasFrame) (sym due.is)
+    (filter_frames _ (merged due.candidates) (wave_frames sensitive now due.candidates due.are))
+
+-- where blocks are read
+each_last : (P : Candidate → Type 0) (first second : List Candidate) → Each P (first ++ second) → Each P second
+each_last P [] second h = h
+each_last P (item ∷ first) second h = each_last P first second h.1
+
+due_of_blocks : (before now : List Got) (items : List Candidate) → AreDueInBlocks before now items
     → Each HasFrame items
-due_of_wave false before now items due =
-    subst (Each HasFrame) (sym due.is)
-    (filter_frames _ (merged due.candidates) (wave_frames now due.candidates due.are))
-due_of_wave true before now items due =
-    subst (Each HasFrame) (sym due.is)
-    (filter_frames _ (merged due.candidates) (wave_frames now due.candidates due.are))
+due_of_blocks before now items due =
+    each_last HasFrame due.given items (recursion_from_All HasFrame (due.given ++ items)
+    (heard_each HasFrame (λ item frame. frame.octets_fit) (stretches now) (due.given ++ items) due.are))
 
 pub due_frames : (listening : Listening) (ended : Bool) (before now : List (List Got)) (items : List Candidate)
     → AreDueBy listening ended before now items → Each HasFrame items
 due_frames (Bell202 sensitive) ended before now items due = due_of_tones sensitive ended before now items due
-due_frames ShortWave ended before now items due = due_of_wave ended (lane_of before 0) (lane_of now 0) items due
+due_frames (ShortWave sensitive) ended before now items due =
+    due_of_wave sensitive ended (lane_of before 0) (lane_of now 0) items due
+due_frames Fx25 ended before now items due = due_of_blocks (lane_of before 0) (lane_of now 0) items due
 
 pub each_first : (P : Candidate → Type 0) (first second : List Candidate) → Each P (first ++ second) → Each P first
 each_first P [] second h = tt

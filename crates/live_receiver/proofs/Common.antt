@@ -1,15 +1,20 @@
 -- The names that most proofs of this crate cite, passed on from one place.
 pub use Rattle.frame_merge.specs.Held.{least}
 pub use Rattle.frame_merge.specs.Merged.{below, merged, not_below}
-pub use Rattle.frame_merge.specs.Order.{in_order, standing}
+pub use Rattle.frame_merge.specs.Order.{in_order, place, standing}
 pub use Rattle.frame_merge.specs.declared.candidate.Candidate.{Candidate}
 pub use Rattle.hf_modem.specs.Candidates.{AreCandidatesAfter, IsCandidate, end_sample}
-pub use Rattle.live_receiver.specs.HeardOnShortWave.{AreDue, AreHeard, AreMerged, AreRest, IsHeardIn, moved, placed}
-pub use Rattle.live_receiver.specs.HeardOnShortWave.{settled_end}
-pub use Rattle.live_receiver.specs.HeldHf.{AreInStep, HasMergedHf, HeldHf, HfHears, HfListens, StandsForStretch}
-pub use Rattle.live_receiver.specs.HeldHf.{hf_answers, hf_of}
-pub use Rattle.live_receiver.specs.HfTurns.{AreHeardWith, HaveRoom, HearsMore, MadeHfTurn, MakesHfTurn, PutsMore}
-pub use Rattle.live_receiver.specs.HfTurns.{TookHf, WentOnHf}
+pub use Rattle.hf_sensitive.specs.AddedCandidates.{EndsAtPlace, IsAdded}
+pub use Rattle.hf_sensitive.specs.Found.{AreAddedAmong, IsAmong}
+pub use Rattle.hf_sensitive.specs.HeldBanks.{AllStandFor, AreAt}
+pub use Rattle.hf_tracking.specs.Heard.{places_in}
+pub use Rattle.live_receiver.specs.HeardOnShortWave.{AreDue, AreHeard, AreMerged, AreRest, IsAddedInOne, IsHeardByOne}
+pub use Rattle.live_receiver.specs.HeardOnShortWave.{IsHeardIn, IsHeardInOne, behind, lanes_in, moved, moved_added}
+pub use Rattle.live_receiver.specs.HeardOnShortWave.{placed, settled_end}
+pub use Rattle.live_receiver.specs.HeldHf.{AreAtReader, AreInStep, BanksFollow, HasMergedHf, HeldHf, HfHears, HfListens}
+pub use Rattle.live_receiver.specs.HeldHf.{StandsForStretch, hf_answers, hf_of, sensitive_of_hf}
+pub use Rattle.live_receiver.specs.HfTurns.{AreAddedIf, AreHeardInStretch, AreHeardWith, HaveRoom, HearsMore}
+pub use Rattle.live_receiver.specs.HfTurns.{ListenAlike, MadeHfTurn, MakesHfTurn, PutsMore, TookHf, WentOnHf}
 pub use Rattle.live_receiver.specs.declared.hf_ring.HfRing.{HfRing}
 pub use Rattle.live_receiver.specs.declared.hf_turn.HfTurn.{HfTurn}
 pub use Rattle.ring_receiver.specs.declared.heard.Heard.{Heard}
@@ -29,11 +34,11 @@ pub use Rattle.slicer_bank.specs.Stretches.{stretches, with_sample}
 pub use Rattle.slicer_bank.specs.declared.advance.LaneGap.{LaneGap}
 pub use Rattle.std.proofs.Common.{Bool, List, [], ap, append_assoc, arith, false, get_or, inl, inr, length, map, refl}
 pub use Rattle.std.proofs.Common.{replicate, subst, suc, sym, true, zero, ℕ, ℤ, ⊎_elim, ◌%◌, ◌*◌, ◌++◌, ◌+◌, ◌-◌, ◌/◌, ◌<◌}
-pub use Rattle.std.proofs.Common.{◌^◌, ◌↔◌, ◌∙◌, ◌∷◌, ◌≡◌, ◌≤◌, ◌⊎◌}
+pub use Rattle.std.proofs.Common.{◌^◌, ◌↔◌, ◌∙◌, ◌∷◌, ◌≡◌, ◌≢◌, ◌≤◌, ◌⊎◌}
 pub use Rattle.std.proofs.lemmas.Bool.{cases_lt, true≢false}
 pub use Rattle.std.proofs.lemmas.List.{append-nil, get_or-map, length-map, length_push, map-append}
 pub use Rattle.std.proofs.lemmas.List.Elements.{All-append, All-map, All-nil, All-push, Contains-append_left}
 pub use Rattle.std.proofs.lemmas.List.Elements.{Contains-append_right}
 pub use Rattle.std.specs.List.{All, AllPairs, Contains}
 pub use Rattle.std.specs.Option.{option_to_list}
-pub use Rattle.std.specs.Prelude.{IfSome, None, Option, Some, option_map}
+pub use Rattle.std.specs.Prelude.{IfSome, None, Option, Some, fold, option_map}

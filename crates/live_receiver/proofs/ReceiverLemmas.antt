@@ -1,19 +1,18 @@
 -- What a turn makes of a receiver of short wave.
-use Rattle.live_receiver.proofs.Common.{◌≡◌, ℕ, zero, suc, ◌+◌, ◌-◌, ◌/◌, ◌^◌, ◌<◌, ◌≤◌, ◌↔◌, Bool, true, false, List, []}
-use Rattle.live_receiver.proofs.Common.{◌∷◌, ◌++◌, get_or, length, map, refl, ap, sym, subst, ◌∙◌, arith, All, All-nil}
+use Rattle.live_receiver.proofs.Common.{◌≡◌, ℕ, zero, suc, ◌-◌, ◌/◌, ◌^◌, ◌<◌, ◌≤◌, ◌↔◌, Bool, true, false, List, []}
+use Rattle.live_receiver.proofs.Common.{◌∷◌, ◌++◌, length, map, refl, ap, sym, subst, ◌∙◌, arith, All, All-nil}
 use Rattle.live_receiver.proofs.Common.{append-nil, map-append, replicate, Got, Candidate, LaneGap, position_of, reads_of}
 use Rattle.live_receiver.proofs.Common.{answer, lane_of, least_position, answers_of, MeetsEnd, IsReading, position_after}
 use Rattle.live_receiver.proofs.Common.{leads_position, leads_up, in_order, merged, below, settled_end, AreDue, HfRing}
 use Rattle.live_receiver.proofs.Common.{HfTurn, Heard, HfListens, HfHears, AreInStep, HaveRoom, MadeHfTurn, MakesHfTurn}
-use Rattle.live_receiver.proofs.Common.{hf_of, HearsMore}
+use Rattle.live_receiver.proofs.Common.{hf_of, HasMergedHf, HearsMore, AreAtReader, ListenAlike, behind, lanes_in}
 use Rattle.std.specs.Prelude.{Result, Ok, Err, IfOk, min}
 use Rattle.std.specs.Result.{IsErrAnd}
 use Rattle.std.proofs.lemmas.List.Elements.{All-cons, All-head}
 use Rattle.frame_merge.specs.Held.{Held as HeldMerger, StandsFor as MergerStandsFor}
-use Rattle.hf_modem.proofs.HearingLemmas.{marks_rise}
 use Rattle.slicer_bank.specs.RingTurns.{gaps_from}
 use Rattle.ring_receiver.specs.Turns.{IsTurnOf}
-use Rattle.live_receiver.proofs.MergeLemmas.{due_lengths, due_of, merges, merges_rest}
+use Rattle.live_receiver.proofs.MergeLemmas.{due_lengths, due_of, many_of, marks_rise, merges, merges_rest}
 
 -- a turn that wanted memory brings nothing
 pub none_made : {T E : Type 0} (Q : E → Type 0) (result : Result T E) (P : T → Type 0) → IsErrAnd result Q
@@ -26,7 +25,7 @@ pub room_of : (lanes : HfRing) (merger : HeldMerger) → AreInStep lanes merger 
 room_of lanes merger h = record {
   mark = position_of lanes.reader;
   marks = h.marks;
-  low = (let at = h.at in omega arith);
+  low = (let at = h.read.at in omega arith);
 }
 
 -- the turn of one reader
@@ -57,15 +56,16 @@ least_one answers position is small =
 
 module _ (len : ℕ) (before after : HfRing) (was put now : HeldMerger) (turn : HfTurn) (heard : Heard) (position : ℕ)
     (made : MadeHfTurn len before after was put turn)
-    (at : after.begin + after.bank.position ≡ position_of after.reader) (here : position ≡ position_of after.reader)
+    (at : AreAtReader after) (alike : ListenAlike before after) (here : position ≡ position_of after.reader)
     (small : position < 2 ^ 64) (lowest : heard.least ≡ position) (over : heard.ended ≡ turn.ended)
     (told : heard.gaps.items ≡ turn.gaps.items)
     (settles : turn.ended ≡ false → (puts given : List Candidate) → MergerStandsFor put puts given
     → MergerStandsFor now puts (given ++ heard.items.items)
-    × (given ++ heard.items.items ≡ below (position / 4) (merged (in_order puts))))
+    × (given ++ heard.items.items ≡ below (position / 4 - behind after.sensitive) (merged (in_order puts))))
     (rests : turn.ended ≡ true → (puts given : List Candidate) → MergerStandsFor put puts given
     → given ++ heard.items.items ≡ merged (in_order puts))
-    (marks : turn.ended ≡ false → now.marks ≡ replicate 32 (position / 4)) where
+    (marks : turn.ended ≡ false
+    → now.marks ≡ replicate (lanes_in after.sensitive) (position / 4 - behind after.sensitive)) where
   b : List Got
   b = answers_of len before.reader
 
@@ -87,13 +87,25 @@ module _ (len : ℕ) (before after : HfRing) (was put now : HeldMerger) (turn : 
     listens : HfListens len after
     listens = (made.on.heard h.listens).0
 
-    more : HearsMore b n made.on.items
+    more : HearsMore before.sensitive b n made.on.items
     unfolding b n
     more = (made.on.heard h.listens).1
 
     there : position ≡ position_after n
     unfolding n
     there = here ∙ sym (leads_position (answers_of len after.reader) (position_of after.reader) listens.lead)
+
+    settles_there : heard.ended ≡ false → (puts given : List Candidate) → MergerStandsFor put puts given
+        → MergerStandsFor now puts (given ++ heard.items.items)
+        × (given ++ heard.items.items ≡ below (settled_end before.sensitive n) (merged (in_order puts)))
+    settles_there e =
+        subst (λ (s : Bool). (puts given : List Candidate) → MergerStandsFor put puts given
+        → MergerStandsFor now puts (given ++ heard.items.items)
+        × (given ++ heard.items.items ≡ below (settled_end s n) (merged (in_order puts)))) alike.sensitive
+        (subst (λ p. (puts given : List Candidate) → MergerStandsFor put puts given
+        → MergerStandsFor now puts (given ++ heard.items.items)
+        × (given ++ heard.items.items ≡ below (p / 4 - behind after.sensitive) (merged (in_order puts)))) there
+        (settles (sym over ∙ e)))
 
     up : position_after b ≤ position_after n
     unfolding b
@@ -104,15 +116,12 @@ module _ (len : ℕ) (before after : HfRing) (was put now : HeldMerger) (turn : 
         let last = there in
         omega arith
 
-    due : AreDue heard.ended b n heard.items.items
+    due : AreDue before.sensitive heard.ended b n heard.items.items
     unfolding b
-    due = due_of heard.ended (answers_of len before.reader) n heard.items.items
-        (λ e. (merges (answers_of len before.reader) n made.on.items heard.items.items was put now h.merged more
-        made.on.put up (subst (λ p. (puts given : List Candidate) → MergerStandsFor put puts given
-        → MergerStandsFor now puts (given ++ heard.items.items)
-        × (given ++ heard.items.items ≡ below (p / 4) (merged (in_order puts)))) there
-        (settles (sym over ∙ e)))).1)
-        (λ e. merges_rest (answers_of len before.reader) n made.on.items heard.items.items was put now h.merged more
+    due = due_of before.sensitive heard.ended (answers_of len before.reader) n heard.items.items
+        (λ e. (merges before.sensitive (answers_of len before.reader) n made.on.items heard.items.items was put now
+        h.merged more made.on.put up (settles_there e)).1)
+        (λ e. merges_rest before.sensitive (answers_of len before.reader) n made.on.items heard.items.items was put now h.merged more
         made.on.put up (rests (sym over ∙ e)))
 
     hears : heard.ended ≡ false → HfHears len (hf_of after now false)
@@ -120,12 +129,9 @@ module _ (len : ℕ) (before after : HfRing) (was put now : HeldMerger) (turn : 
     hears e = record {
       spent = refl;
       listens = listens;
-      merged = (merges (answers_of len before.reader) (answers_of len after.reader) made.on.items heard.items.items was
-          put now h.merged more made.on.put up
-          (subst (λ p. (puts given : List Candidate) → MergerStandsFor put puts given
-          → MergerStandsFor now puts (given ++ heard.items.items)
-          × (given ++ heard.items.items ≡ below (p / 4) (merged (in_order puts)))) there
-          (settles (sym over ∙ e)))).0;
+      merged = subst (λ (s : Bool). HasMergedHf s now (answers_of len after.reader)) (sym alike.sensitive)
+          (merges before.sensitive (answers_of len before.reader) (answers_of len after.reader) made.on.items
+          heard.items.items was put now h.merged more made.on.put up (settles_there e)).0;
     }
 
     lowest_now : heard.least ≡ least_position (n ∷ [])
@@ -145,25 +151,31 @@ module _ (len : ℕ) (before after : HfRing) (was put now : HeldMerger) (turn : 
     turn = turned;
     listens = λ h. (made.on.heard h).0;
     due = λ h. due h;
-    lengths = λ h. due_lengths heard.ended (answers_of len before.reader) (answers_of len after.reader)
+    lengths = λ h. due_lengths before.sensitive heard.ended (answers_of len before.reader) (answers_of len after.reader)
         heard.items.items (due h);
     hears = λ e h. hears h e;
     least = λ h. lowest_now h;
     forward = λ h. rises h;
     step = λ e. record {
-      at = at;
-      marks = marks (sym over ∙ e) ∙ ap (λ p. replicate 32 (p / 4)) here;
+      read = at;
+      marks = marks (sym over ∙ e)
+          ∙ ap (λ p. replicate (lanes_in after.sensitive) (p / 4 - behind after.sensitive)) here;
     };
   }
 
 -- the marks before a turn
 pub marks_low : (len : ℕ) (before after : HfRing) (was put : HeldMerger) (turn : HfTurn) (position : ℕ)
     → AreInStep before was → put.marks ≡ was.marks → MadeHfTurn len before after was put turn
-    → position ≡ position_of after.reader → All (λ mark. mark ≤ position / 4) put.marks
-marks_low len before after was put turn position step same made here =
+    → ListenAlike before after → position ≡ position_of after.reader
+    → All (λ mark. mark ≤ position / 4 - behind after.sensitive) put.marks
+marks_low len before after was put turn position step same made alike here =
     let up = leads_up (position_of before.reader) made.answers (position_of after.reader) made.on.forward in
-    marks_rise put.marks (position_of before.reader / 4) (position / 4) (same ∙ step.marks) (omega arith)
+    marks_rise put.marks (lanes_in after.sensitive) (position_of before.reader / 4 - behind after.sensitive)
+    (position / 4 - behind after.sensitive) (same ∙ step.marks
+    ∙ ap (λ (s : Bool). replicate (lanes_in s) (position_of before.reader / 4 - behind s)) (sym alike.sensitive))
+    (omega arith)
 
-pub marks_many : (lanes : HfRing) (was put : HeldMerger) → AreInStep lanes was → put.marks ≡ was.marks
-    → length put.marks ≡ 32
-marks_many lanes was put step same = ap length (same ∙ step.marks)
+pub marks_many : (before after : HfRing) (was put : HeldMerger) → AreInStep before was → put.marks ≡ was.marks
+    → ListenAlike before after → length put.marks ≡ lanes_in after.sensitive
+marks_many before after was put step same alike =
+    many_of put.marks (lanes_in before.sensitive) _ (same ∙ step.marks) ∙ ap lanes_in (sym alike.sensitive)

@@ -4,7 +4,7 @@ ghost use Rattle.std.specs.Prelude.{◌≡◌, ◌++◌, List, false, IfOk};
 ghost use Rattle.sample_ring.specs.declared.view.Entry.{Entry};
 ghost use Rattle.sample_ring.specs.Ends.{ring_id, ring_len, reader_ring, reads_of};
 ghost use Rattle.live_receiver.specs.HeldHf.{AreInStep, hf_of};
-ghost use Rattle.live_receiver.specs.HfTurns.{MakesHfTurn};
+ghost use Rattle.live_receiver.specs.HfTurns.{ListenAlike, MakesHfTurn};
 
 use crate::hf_merging::settle;
 use crate::hf_ring::HfRing;
@@ -25,11 +25,11 @@ pub(crate) fn hear(
     ensures grown { (entries : List Entry) × (reads_of lanes.new.reader ≡ reads_of lanes.old.reader ++ entries) }
     ensures made { IfOk result (MakesHfTurn (ring_len ring.now) (hf_of lanes.old merger.old false)
         (hf_of lanes.new merger.new false)) }
-    ensures flags { lanes.new.bank.flags ≡ lanes.old.bank.flags }
+    ensures alike { ListenAlike lanes.old lanes.new }
 {
     let turn = lanes.advance(ring, merger)?;
     let position = lanes.reader.at();
-    let items = settle(merger, position, turn.ended)?;
+    let items = settle(merger, lanes.sensitive, position, turn.ended)?;
     Ok(Heard {
         items,
         gaps: turn.gaps,

@@ -1,30 +1,46 @@
 //! From what the lanes of short wave hear to the items that are due.
 
-ghost use Rattle.std.specs.Prelude.{◌≡◌, ◌-◌, ◌/◌, ◌^◌, ◌≤◌, ◌++◌, List, length, replicate, true, false, IfOk, OnOk};
-ghost use Rattle.std.specs.Prelude.{option_map};
+ghost use Rattle.std.specs.Prelude.{◌≡◌, ◌+◌, ◌-◌, ◌/◌, ◌^◌, ◌<◌, ◌≤◌, ◌++◌, List, length, map, replicate, true, false};
+ghost use Rattle.std.specs.Prelude.{IfOk, OnOk, IfSome, option_map};
 ghost use Rattle.std.specs.List.{All};
 ghost use Rattle.std.specs.Option.{option_to_list};
 ghost use Rattle.frame_merge.specs.declared.candidate.Candidate.{Candidate};
 ghost use Rattle.frame_merge.specs.Held.{StandsFor, least};
 ghost use Rattle.frame_merge.specs.Merged.{merged, below};
 ghost use Rattle.frame_merge.specs.Order.{in_order};
-ghost use Rattle.live_receiver.specs.HeardOnShortWave.{placed};
+ghost use Rattle.hf_sensitive.specs.Found.{CanBePutFrom, least_end};
+ghost use Rattle.live_receiver.specs.HeardOnShortWave.{behind, lanes_in, moved_added, placed};
 ghost use Rattle.live_receiver.specs.HfTurns.{PutsMore};
 
 use frame_merge::{Candidate, Merger};
 use hf_modem::{OFFSETS, SAMPLES_AN_END};
+use hf_sensitive::{BEHIND, LANES as ALL_LANES};
 use tnc_base::OutOfMemory;
 
-/// The lanes, of which a place names one.
+/// The lanes of one reader of samples, of which a place names one.
 const LANES: u64 = OFFSETS as u64;
 
-/// Puts what was heard into a merger, as ending at a place of the whole input.
+/// How many lanes listen.
+pub(crate) fn lanes_in(sensitive: bool) -> u8
+    ensures { result ≡ lanes_in sensitive }
+{
+    if sensitive { ALL_LANES } else { OFFSETS }
+}
+
+/// How many fours of samples after its end a frame can still be heard.
+fn behind(sensitive: bool) -> u64
+    ensures { result ≡ behind sensitive }
+{
+    if sensitive { BEHIND } else { 0 }
+}
+
+/// Puts what one of the 32 lanes heard into a merger, as ending at a place of the whole input.
 pub(crate) fn put(
     merger: &mut Merger,
     heard: Option<Candidate>,
     place: u64,
 ) -> Result<(), OutOfMemory>
-    requires lanes { length merger.old.marks ≡ 32 }
+    requires lanes { 32 ≤ length merger.old.marks }
     requires marks { All (λ mark. mark ≤ place / 4) merger.old.marks }
     ensures put { OnOk result (PutsMore merger.old merger.new (option_to_list (option_map (placed place) heard))) }
     ensures marks { merger.new.marks ≡ merger.old.marks }
@@ -39,31 +55,59 @@ pub(crate) fn put(
     })
 }
 
-/// Marks all lanes at a position and takes the items that are settled, or all that are left if the ring has ended.
+/// Puts what the added lanes heard after so many samples of a stretch, which begins at a place of the whole input.
+pub(crate) fn put_added(
+    merger: &mut Merger,
+    heard: Vec<Candidate>,
+    begin: u64,
+    position: u64,
+) -> Result<(), OutOfMemory>
+    requires lanes { length merger.old.marks ≡ 59 }
+    requires place { begin + position < 2 ^ 48 }
+    requires heard { All (CanBePutFrom (least_end position)) heard.items }
+    requires marks { All (λ mark. mark ≤ (begin + position) / 4 - 17) merger.old.marks }
+    ensures put { OnOk result (PutsMore merger.old merger.new (map (moved_added begin) heard.items)) }
+    ensures marks { merger.new.marks ≡ merger.old.marks }
+{
+    for item in heard {
+        merger.put_in_time(Candidate {
+            end: (begin + SAMPLES_AN_END * item.end) / SAMPLES_AN_END,
+            offset: item.offset,
+            octets: item.octets,
+        })?;
+    }
+    Ok(())
+}
+
+/// Marks all lanes where they have heard up to a position, and takes the items that are settled, or all that are left if
+/// the ring has ended.
 pub(crate) fn settle(
     merger: &mut Merger,
+    sensitive: bool,
     position: u64,
     ended: bool,
 ) -> Result<Vec<Candidate>, OutOfMemory>
-    requires lanes { length merger.old.marks ≡ 32 }
-    requires marks { All (λ mark. mark ≤ position / 4) merger.old.marks }
+    requires lanes { length merger.old.marks ≡ lanes_in sensitive }
+    requires marks { All (λ mark. mark ≤ position / 4 - behind sensitive) merger.old.marks }
     ensures settled { IfOk result (λ items. ended ≡ false → (puts given : List Candidate)
         → StandsFor merger.old puts given → StandsFor merger.new puts (given ++ items.items)
-        × (given ++ items.items ≡ below (position / 4) (merged (in_order puts)))) }
+        × (given ++ items.items ≡ below (position / 4 - behind sensitive) (merged (in_order puts)))) }
     ensures rest { IfOk result (λ items. ended ≡ true → (puts given : List Candidate)
         → StandsFor merger.old puts given → given ++ items.items ≡ merged (in_order puts)) }
-    ensures marks { OnOk result (ended ≡ false → merger.new.marks ≡ replicate 32 (position / 4)) }
+    ensures marks { OnOk result (ended ≡ false
+        → merger.new.marks ≡ replicate (lanes_in sensitive) (position / 4 - behind sensitive)) }
 {
-    mark_all(merger, position, ended);
+    mark_all(merger, sensitive, position, ended);
     let ready = merger.take_ready()?;
     Ok(ready)
 }
 
-/// Marks all lanes at a position, or says that none brings another candidate.
-fn mark_all(merger: &mut Merger, position: u64, ended: bool)
-    requires lanes { length merger.old.marks ≡ 32 }
-    requires marks { All (λ mark. mark ≤ position / 4) merger.old.marks }
-    ensures marks { ended ≡ false → merger.new.marks ≡ replicate 32 (position / 4) }
+/// Marks all lanes where they have heard up to a position, or says that none brings another candidate.
+fn mark_all(merger: &mut Merger, sensitive: bool, position: u64, ended: bool)
+    requires lanes { length merger.old.marks ≡ lanes_in sensitive }
+    requires marks { All (λ mark. mark ≤ position / 4 - behind sensitive) merger.old.marks }
+    ensures marks { ended ≡ false
+        → merger.new.marks ≡ replicate (lanes_in sensitive) (position / 4 - behind sensitive) }
     ensures least { ended ≡ true → least merger.new.marks ≡ 2 ^ 64 - 1 }
     ensures stands_for { (puts given : List Candidate) → StandsFor merger.old puts given
         → StandsFor merger.new puts given }
@@ -72,5 +116,5 @@ fn mark_all(merger: &mut Merger, position: u64, ended: bool)
         merger.finish();
         return;
     }
-    merger.mark_all(position / SAMPLES_AN_END);
+    merger.mark_all((position / SAMPLES_AN_END).saturating_sub(behind(sensitive)));
 }

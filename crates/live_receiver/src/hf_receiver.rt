@@ -1,16 +1,16 @@
 //! The receiver of short wave: one reader of a ring in, the frames that are due out, turn by turn.
 
 use crate::hf_hearing::hear;
+use crate::hf_merging::lanes_in;
 use crate::hf_ring::HfRing;
 use frame_merge::Merger;
-use hf_modem::OFFSETS;
 use ring_receiver::Heard;
 use sample_ring::{Reader, Ring};
 use std::alloc::Global;
 use std::marker::Model;
 use tnc_base::OutOfMemory;
 
-/// The 32 lanes of short wave, which share one reader of a ring: `new`, then `advance` turn by turn, then `finish`. After
+/// The 32 lanes of short wave, or all 59, which share one reader of a ring: `new`, then `advance` turn by turn, then `finish`. After
 /// want of memory, and after the turn in which the reader has met the end of the ring, it is spent: no later turn reads,
 /// and each wants memory.
 #[derive(Drop)]
@@ -46,13 +46,15 @@ impl HfReceiver {
     ghost use Rattle.hf_modem.specs.Busy.{HearsCarrier};
     ghost use Rattle.ring_receiver.specs.Turns.{IsTurnOf};
     ghost use Rattle.live_receiver.specs.HeardOnShortWave.{AreDue};
-    ghost use Rattle.live_receiver.specs.HeldHf.{hf_answers, flags_of_hf, HfHears, HfLanesListen};
+    ghost use Rattle.live_receiver.specs.HeldHf.{hf_answers, flags_of_hf, sensitive_of_hf, HfHears, HfLanesListen};
 
-    /// A receiver that has read nothing. It hears other stations from so many flags in a row on, 1 to 8.
+    /// A receiver that has read nothing, with the added lanes if it is to be sensitive. It hears other stations from so
+    /// many flags in a row on, 1 to 8.
     pub fn new(
         alloc: Global,
         mut readers: Vec<Reader>,
         flags: u8,
+        sensitive: bool,
     ) -> Result<HfReceiver, OutOfMemory>
         requires one { length readers.items ≡ 1 }
         requires fresh { All IsNew readers.items }
@@ -61,13 +63,14 @@ impl HfReceiver {
         ensures hears { IfOk result (λ receiver. (len : ℕ) → HfHears len receiver) }
         ensures nothing { IfOk result (λ receiver. (len : ℕ) → hf_answers len receiver ≡ []) }
         ensures flags { IfOk result (λ receiver. flags_of_hf receiver ≡ flags) }
+        ensures sensitive { IfOk result (λ receiver. sensitive_of_hf receiver ≡ sensitive) }
     {
         let Some(reader) = readers.pop() else {
             unreachable!()
         };
         Ok(HfReceiver {
-            lanes: HfRing::new(alloc, reader, flags)?,
-            merger: Merger::new(alloc, OFFSETS)?,
+            lanes: HfRing::new(alloc, reader, flags, sensitive)?,
+            merger: Merger::new(alloc, lanes_in(sensitive))?,
             room: readers,
             spent: false,
         })
@@ -82,8 +85,8 @@ impl HfReceiver {
         ensures turn { IfOk result (λ heard. IsTurnOf 1 (hf_answers (ring_len ring.now) self.old ∷ [])
             (hf_answers (ring_len ring.now) self.new ∷ []) heard.gaps.items heard.ended) }
         ensures due { IfOk result (λ heard. HfHears (ring_len ring.now) self.old
-            → AreDue heard.ended (hf_answers (ring_len ring.now) self.old) (hf_answers (ring_len ring.now) self.new)
-            heard.items.items) }
+            → AreDue (sensitive_of_hf self.old) heard.ended (hf_answers (ring_len ring.now) self.old)
+            (hf_answers (ring_len ring.now) self.new) heard.items.items) }
         ensures lengths { IfOk result (λ heard. HfHears (ring_len ring.now) self.old
             → All (λ item. HasFrameLength item.octets) heard.items.items) }
         ensures hears { IfOk result (λ heard. heard.ended ≡ false → HfHears (ring_len ring.now) self.old
@@ -95,6 +98,7 @@ impl HfReceiver {
         ensures forward { IfOk result (λ heard. HfHears (ring_len ring.now) self.old
             → least_position (hf_answers (ring_len ring.now) self.old ∷ []) ≤ heard.least) }
         ensures flags { flags_of_hf self.new ≡ flags_of_hf self.old }
+        ensures sensitive { sensitive_of_hf self.new ≡ sensitive_of_hf self.old }
         ensures fails { self.old.spent ≡ true → IsErr result }
         ensures spent { OnErr result (self.new.spent ≡ true) }
     {
@@ -107,7 +111,7 @@ impl HfReceiver {
         Ok(heard)
     }
 
-    /// Whether another station is heard: in some lane so many flags in a row have come since the last gap as it listens
+    /// Whether another station is heard: in one of the 32 lanes so many flags in a row have come since the last gap as it listens
     /// for, and since then neither seven 1s in a row nor 10,000 bits without a flag.
     pub fn busy(&self) -> bool
         ensures { (len : ℕ) → HfLanesListen len self.now

@@ -1,8 +1,8 @@
-//! A receiver of a live station: it reads a ring of samples and hears Bell 202, with eight lanes or with all 26, or short
-//! wave at 300 bits a second.
+//! A receiver of a live station: it reads a ring of samples and hears Bell 202, with eight lanes or with all 26 or also
+//! in blocks of FX.25, or short wave at 300 bits a second, with 32 lanes or with all 59.
 //!
-//! On short wave the 32 lanes of an `HfBank` share one reader, and a gap starts them anew. What they hear is merged, so
-//! each frame comes once. One type, [`LiveReceiver`], hides how a station listens.
+//! On short wave the 32 lanes of an `HfBank`, and the 27 of nine banks if these listen, share one reader, and a gap starts
+//! them anew. What they hear is merged, so each frame comes once. One type, [`LiveReceiver`], hides how a station listens.
 //!
 //! What is promised: the items that come are exactly those of what the lanes hear of their readers' answers, merged,
 //! each as soon as no lane can hear anything that ends before it.

@@ -2,6 +2,7 @@
 
 use crate::hf_receiver::HfReceiver;
 use crate::listening::Listening;
+use fx25_ring::Fx25RingReceiver;
 use ring_receiver::{Heard, RingReceiver};
 use sample_ring::{Reader, Ring};
 use slicer_bank::{Detection, Gate};
@@ -17,6 +18,8 @@ pub enum LiveReceiver {
     Bell202(RingReceiver),
     /// It hears short wave.
     ShortWave(HfReceiver),
+    /// It hears Bell 202, also in blocks of FX.25.
+    Fx25(Fx25RingReceiver),
 }
 
 impl LiveReceiver {
@@ -31,7 +34,7 @@ impl LiveReceiver {
     ghost use Rattle.live_receiver.specs.LiveReceivers.{answers_in, LanesListen, Hears};
 
     /// A receiver that has read nothing. It hears other stations as it is asked to: from so many flags in a row on, 1 to
-    /// 8, or by their tones, which are known for Bell 202 alone.
+    /// 8, or by their tones, which are known for Bell 202 alone where no blocks are read.
     pub fn new(
         alloc: Global,
         readers: Vec<Reader>,
@@ -52,10 +55,13 @@ impl LiveReceiver {
             (Listening::Bell202 { sensitive }, _) => Ok(LiveReceiver::Bell202(RingReceiver::new(
                 alloc, readers, detection, sensitive,
             )?)),
-            (Listening::ShortWave, Detection::Flags(flags)) => {
-                Ok(LiveReceiver::ShortWave(HfReceiver::new(alloc, readers, flags)?))
+            (Listening::ShortWave { sensitive }, Detection::Flags(flags)) => {
+                Ok(LiveReceiver::ShortWave(HfReceiver::new(alloc, readers, flags, sensitive)?))
             }
-            (Listening::ShortWave, Detection::Tones) => unreachable!(),
+            (Listening::Fx25, Detection::Flags(flags)) => {
+                Ok(LiveReceiver::Fx25(Fx25RingReceiver::new(alloc, readers, flags)?))
+            }
+            (Listening::ShortWave { .. } | Listening::Fx25, Detection::Tones) => unreachable!(),
         }
     }
 
@@ -93,11 +99,12 @@ impl LiveReceiver {
         match self {
             LiveReceiver::Bell202(receiver) => receiver.advance(rt, ring, gate),
             LiveReceiver::ShortWave(receiver) => receiver.advance(ring),
+            LiveReceiver::Fx25(receiver) => receiver.advance(ring),
         }
     }
 
-    /// Whether another station is heard: one of the eight lanes of Bell 202, or a lane of short wave, hears it since its
-    /// last gap.
+    /// Whether another station is heard: one of the eight lanes of Bell 202, or of the 32 of short wave, hears it since its
+    /// last gap. Where blocks are read, the channel is busy while one comes in, too.
     pub fn busy(&self) -> bool
         ensures { (len : ℕ) → LanesListen len self.now
             → IsTrue result ↔ IsBusyBy (listening_of self.now) (detection_of self.now) (answers_in len self.now) }
@@ -105,6 +112,7 @@ impl LiveReceiver {
         match self {
             LiveReceiver::Bell202(receiver) => receiver.busy(),
             LiveReceiver::ShortWave(receiver) => receiver.busy(),
+            LiveReceiver::Fx25(receiver) => receiver.busy(),
         }
     }
 
@@ -116,6 +124,7 @@ impl LiveReceiver {
         match self {
             LiveReceiver::Bell202(receiver) => receiver.finish(),
             LiveReceiver::ShortWave(receiver) => receiver.finish(),
+            LiveReceiver::Fx25(receiver) => receiver.finish(),
         }
     }
 }

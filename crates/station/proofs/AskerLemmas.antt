@@ -39,15 +39,16 @@ pub front_of : {A : Type 0} (xs : List A) (front : A) → 0 < length xs → fron
 front_of [] front some is = absurd (omega (arith, some))
 front_of (x ∷ xs) front some is = ap (λ y. y ∷ xs) (sym is)
 
--- a station without the front asker
+-- a station without what stands beside the front frame
 abbrev pub without_front : Turn → Turn
-without_front turn = record turn { now = record turn.now { askers = drop 1 turn.now.askers } }
+without_front turn = record turn { now = record turn.now { askers = drop 1 turn.now.askers; owners = drop 1 turn.now.owners } }
 
 pub shows_removed :
     (parts new : Parts) (out : Out) (turn : Turn) (front : Option Asker) (others : List (Option Asker))
     → Shows parts out turn → parts.askers.items ≡ front ∷ others → new.askers.items ≡ others
-    → new ≡ record parts { askers = new.askers } → Shows new out (without_front turn)
-shows_removed parts new out turn front others shows is left same =
+    → new.owners.items ≡ drop 1 parts.owners.items
+    → new ≡ record parts { askers = new.askers; owners = new.owners } → Shows new out (without_front turn)
+shows_removed parts new out turn front others shows is left of same =
     let h = shows.holds in
     subst (λ (p : Parts). Shows p out (without_front turn)) (sym same) (record {
       holds = record {
@@ -60,6 +61,7 @@ shows_removed parts new out turn front others shows is left same =
         links = h.links;
         channel = h.channel;
         askers = left ∙ ap (drop 1) (sym is ∙ h.askers);
+        owners = of ∙ ap (drop 1) h.owners;
         heard = h.heard;
         dropped = h.dropped;
         ticks = h.ticks;

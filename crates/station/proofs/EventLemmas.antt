@@ -124,6 +124,7 @@ shows-settled parts out turn set_links settled key link machine shows at is same
             h.links at is);
         channel = h.channel;
         askers = h.askers;
+        owners = h.owners;
         heard = h.heard;
         dropped = h.dropped;
         ticks = h.ticks;

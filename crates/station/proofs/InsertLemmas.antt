@@ -64,6 +64,7 @@ shows_made parts out turn key id pid local remote path held links shows next bel
           };
           channel = h.channel;
           askers = h.askers;
+          owners = h.owners;
           heard = h.heard;
           dropped = h.dropped;
           ticks = h.ticks;

@@ -46,6 +46,7 @@ shows_set parts out turn links key link next shows at is =
         };
         channel = h.channel;
         askers = h.askers;
+        owners = h.owners;
         heard = h.heard;
         dropped = h.dropped;
         ticks = h.ticks;
@@ -120,9 +121,9 @@ pub shows_forgotten : (parts new : Parts) (out : Out) (turn : Turn) (id : ℕ) �
     → new.registrations.items ≡ without_registrations id parts.registrations.items
     → new.askers.items ≡ without_askers id parts.askers.items
     → new.parameters ≡ parts.parameters → new.digi ≡ parts.digi → new.links ≡ parts.links → new.channel ≡ parts.channel
-    → new.heard ≡ parts.heard → new.dropped ≡ parts.dropped → new.ticks ≡ parts.ticks → new.asked ≡ parts.asked
+    → new.owners ≡ parts.owners → new.heard ≡ parts.heard → new.dropped ≡ parts.dropped → new.ticks ≡ parts.ticks → new.asked ≡ parts.asked
     → new.paclen ≡ parts.paclen → Shows new out (changing (without_host id) turn)
-shows_forgotten parts new out turn id shows kept left told parameters digi links channel heard dropped ticks asked
+shows_forgotten parts new out turn id shows kept left told parameters digi links channel owners heard dropped ticks asked
     paclen =
     let h = shows.holds in
     record {
@@ -140,6 +141,7 @@ shows_forgotten parts new out turn id shows kept left told parameters digi links
         links = subst (λ (held : HeldLinks). StandsForLinks held turn.now.links) (sym links) h.links;
         channel = subst (λ held. StandsForChannel held turn.now.channel) (sym channel) h.channel;
         askers = told ∙ ap (without_askers id) h.askers;
+        owners = ap (λ held. held.items) owners ∙ h.owners;
         heard = ap (λ held. held.items) heard ∙ h.heard;
         dropped = dropped ∙ h.dropped;
         ticks = ticks ∙ h.ticks;

@@ -191,12 +191,12 @@ pub shows_connections : (parts new : Parts) (out : Out) (turn : Turn) (id : ℕ)
     → Shows parts out turn → KeepsId change → AllZip StandsForConnection new.connections.items
     (with_connection id change turn.now.connections)
     → new.parameters ≡ parts.parameters → new.digi ≡ parts.digi → new.registrations ≡ parts.registrations
-    → new.links ≡ parts.links → new.channel ≡ parts.channel → new.askers ≡ parts.askers → new.heard ≡ parts.heard
-    → new.dropped ≡ parts.dropped → new.ticks ≡ parts.ticks
+    → new.links ≡ parts.links → new.channel ≡ parts.channel → new.askers ≡ parts.askers → new.owners ≡ parts.owners
+    → new.heard ≡ parts.heard → new.dropped ≡ parts.dropped → new.ticks ≡ parts.ticks
     → new.asked ≡ parts.asked → new.paclen ≡ parts.paclen
     → Shows new out (changing (with_connections (with_connection id change)) turn)
 shows_connections parts new out turn id change shows keeps each parameters digi registrations links channel askers
-    heard dropped ticks asked paclen =
+    owners heard dropped ticks asked paclen =
     let h = shows.holds in
     record {
       holds = record {
@@ -209,6 +209,7 @@ shows_connections parts new out turn id change shows keeps each parameters digi 
         links = subst (λ (held : HeldLinks). StandsForLinks held turn.now.links) (sym links) h.links;
         channel = subst (λ held. StandsForChannel held turn.now.channel) (sym channel) h.channel;
         askers = ap (λ held. held.items) askers ∙ h.askers;
+        owners = ap (λ held. held.items) owners ∙ h.owners;
         heard = ap (λ held. held.items) heard ∙ h.heard;
         dropped = dropped ∙ h.dropped;
         ticks = ticks ∙ h.ticks;

@@ -31,7 +31,7 @@ use Rattle.station.specs.Passing.{passing}
 use Rattle.station.specs.Registrations.{registrar, is_number, may_register, registered, unregistered}
 use Rattle.station.specs.Routes.{Route, route_in, repeaters_in, behind_repeaters, path_along}
 use Rattle.station.specs.State.{StationState}
-use Rattle.station.specs.Turn.{Turn, Act, nothing, in_order, changing, sending, queueing}
+use Rattle.station.specs.Turn.{Turn, Act, nothing, in_order, changing, sending, queueing_own}
 
 abbrev pub replying : ℕ → AgwMessage → Act
 replying id message = sending id (spelling message)
@@ -87,8 +87,8 @@ monitor_toggled id s = record s { connections = with_connection id turned_monito
 -- ---- K, M, V
 
 -- what is no frame is passed over
-abbrev pub queueing_raw : List ℕ → Act
-queueing_raw octets = if has_frame_length octets then queueing None octets else nothing
+abbrev pub queueing_raw : ℕ → List ℕ → Act
+queueing_raw id octets = if has_frame_length octets then queueing_own id None octets else nothing
 
 -- the most octets that an unnumbered frame carries
 abbrev pub most_information : ℕ
@@ -100,11 +100,11 @@ unnumbered_frame route pid information = record {
   kind = Ui false (pid_or no_layer_3 pid) information;
 }
 
-abbrev pub sending_unnumbered : ℕ → List ℕ → Option Route → Act
-sending_unnumbered pid information None = nothing
-sending_unnumbered pid information (Some route) =
+abbrev pub sending_unnumbered : ℕ → ℕ → List ℕ → Option Route → Act
+sending_unnumbered id pid information None = nothing
+sending_unnumbered id pid information (Some route) =
     if nat_le (length information) most_information
-    then queueing None (frame_octets Eight (unnumbered_frame route pid information)) else nothing
+    then queueing_own id None (frame_octets Eight (unnumbered_frame route pid information)) else nothing
 
 -- ---- C, v, c
 
@@ -240,11 +240,11 @@ answering_else id message turn =
     if message.kind == unregister_kind then unregistering id (call_in message.from) turn else
     if message.kind == toggle_kind then changing (toggled id) turn else
     if message.kind == monitor_kind then changing (monitor_toggled id) turn else
-    if message.kind == raw_kind then queueing_raw (drop 1 message.body) turn else
+    if message.kind == raw_kind then queueing_raw id (drop 1 message.body) turn else
     if message.kind == unproto_kind
-    then sending_unnumbered message.pid message.body (route_in message.from message.to (Some [])) turn else
+    then sending_unnumbered id message.pid message.body (route_in message.from message.to (Some [])) turn else
     if message.kind == unproto_via_kind
-    then sending_unnumbered message.pid (behind_repeaters message.body)
+    then sending_unnumbered id message.pid (behind_repeaters message.body)
     (route_in message.from message.to (repeaters_in message.body)) turn else
     if message.kind == data_kind
     then giving message (own_key id message turn.now.links) turn else

@@ -5,7 +5,7 @@ use Rattle.station.specs.declared.host_event.HostEvent.{HostEvent}
 use Rattle.station.specs.declared.host_event.HostEvent.TheVariants.{Joined, Bytes, Left}
 use Rattle.station.specs.declared.parts.Parts.{Parts}
 use Rattle.station.specs.HasFew.{HasFew}
-use Rattle.station.specs.State.{most_waiting}
+use Rattle.station.specs.Owners.{own_waiting, most_own}
 use Rattle.station.specs.Turn.{Out}
 
 pub record Held : Type 0 where
@@ -22,7 +22,7 @@ ids_of held = ids_in held.parts
 
 -- the station takes octets of the connection
 pub record Takes (id : ℕ) (held : Held) : Type 0 where
-  pub queue : length held.parts.channel.waiting < most_waiting
+  pub frames : own_waiting id held.parts.owners.items < most_own
   pub links : All (λ place. IfSome place (HasFew id)) held.parts.links.places
 
 -- the connection is there

@@ -10,9 +10,10 @@ use Rattle.station.specs.declared.host_event.HostEvent.TheVariants.{Joined, Byte
 use Rattle.station.specs.declared.host_event.PortKind.{PortKind}
 use Rattle.station.specs.declared.host_event.PortKind.TheVariants.{Kiss, Agw}
 use Rattle.station.specs.AgwRequests.{AreAnswered}
-use Rattle.station.specs.Connections.{Connection, most_connections, new_connection, connection_of, with_connection}
+use Rattle.station.specs.Connections.{Connection, new_connection, connection_of, with_connection}
 use Rattle.station.specs.Kiss.{heeding_all}
 use Rattle.station.specs.Leaving.{leaving, shutting}
+use Rattle.station.specs.Owners.{has_room, left_waiting}
 use Rattle.station.specs.State.{StationState}
 use Rattle.station.specs.Turn.{Turn, Act, changing, closing}
 
@@ -21,10 +22,14 @@ use Rattle.station.specs.Turn.{Turn, Act, changing, closing}
 abbrev pub with_host : ℕ → PortKind → StationState → StationState
 with_host id kind s = record s { connections = s.connections ++ new_connection id kind ∷ [] }
 
--- one that would be the 65th is closed
+-- there is room for one connection more
+abbrev pub has_place : StationState → Bool
+has_place s = has_room (length s.connections) (left_waiting s.connections s.owners)
+
+-- one that would be the 65th is closed, and so is one for whose frames those of connections that have left leave no room
 abbrev pub joining : ℕ → PortKind → Act
 joining id kind turn =
-    if nat_lt (length turn.now.connections) most_connections then changing (with_host id kind) turn else closing id turn
+    if has_place turn.now then changing (with_host id kind) turn else closing id turn
 
 -- ---- its octets
 

@@ -8,7 +8,7 @@ use Rattle.kiss_port.specs.declared.item.KissItem.TheVariants.{Frame, AckFrame, 
 use Rattle.hdlc_framer.specs.FrameLength.{has_frame_length}
 use Rattle.station.specs.AgwRequests.{queueing_raw}
 use Rattle.station.specs.State.{StationState}
-use Rattle.station.specs.Turn.{Act, nothing, in_order, changing, queueing_for}
+use Rattle.station.specs.Turn.{Act, nothing, in_order, changing, queueing_own}
 
 -- the parameter that a command from 1 to 5 sets
 abbrev pub param_of : ℕ → ℕ → Param
@@ -27,10 +27,10 @@ on_port_0 port act turn = if port == 0 then act turn else turn
 -- A frame whose sending the connection is told. What is no frame is passed over, and is told of never.
 abbrev pub queueing_asked : ℕ → List ℕ → List ℕ → Act
 queueing_asked id mark octets =
-    if has_frame_length octets then queueing_for (Some (record { id = id; mark = mark })) None octets else nothing
+    if has_frame_length octets then queueing_own id (Some (record { id = id; mark = mark })) octets else nothing
 
 abbrev pub heeding : ℕ → KissItem → Act
-heeding id (Frame port octets) = on_port_0 port (queueing_raw octets)
+heeding id (Frame port octets) = on_port_0 port (queueing_raw id octets)
 heeding id (AckFrame port mark octets) = on_port_0 port (queueing_asked id mark octets)
 heeding id (Set port command value) = on_port_0 port (changing (with_param (param_of command value)))
 heeding id (Hardware port octets) = nothing

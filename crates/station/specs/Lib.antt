@@ -1,6 +1,7 @@
 pub mod Connections
 pub mod Registrations
 pub mod Askers
+pub mod Owners
 pub mod Links
 pub mod State
 pub mod Turn

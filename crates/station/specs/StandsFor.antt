@@ -74,6 +74,7 @@ pub record AreParts (parts : Parts) (s : StationState) : Type 0 where
   pub links : StandsForLinks parts.links s.links
   pub channel : StandsForChannel parts.channel s.channel
   pub askers : parts.askers.items ≡ s.askers
+  pub owners : parts.owners.items ≡ s.owners
   pub heard : parts.heard.items ≡ s.heard
   pub dropped : parts.dropped ≡ s.dropped
   pub ticks : parts.ticks ≡ s.ticks

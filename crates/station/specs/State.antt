@@ -13,6 +13,7 @@ use Rattle.station.specs.declared.asker.Asker.{Asker}
 use Rattle.station.specs.declared.registration.Registration.{Registration}
 use Rattle.station.specs.Connections.{Connection}
 use Rattle.station.specs.Links.{Link, Links, no_links}
+use Rattle.station.specs.Owners.{own_waiting, most_own}
 
 pub record StationState : Type 0 where
   -- of each link: REJ or SREJ, and the window
@@ -27,6 +28,8 @@ pub record StationState : Type 0 where
   pub channel : Channel
   -- for each frame that waits to be sent, the host that is told when it has been sent, if one is
   pub askers : List (Option Asker)
+  -- for each frame that waits, the connection that gave it as it stands, if one did
+  pub owners : List (Option ℕ)
   -- the stations that were heard last, the last one first
   pub heard : List HeardStation
   -- how many frames found the transmit queue full
@@ -55,6 +58,7 @@ new_station config seed = record {
   links = no_links;
   channel = channel_with config.modem config.channel seed;
   askers = [];
+  owners = [];
   heard = [];
   dropped = 0;
   ticks = 0;
@@ -69,15 +73,11 @@ one_more count = if nat_lt count 0xffffffffffffffff then count + 1 else count
 abbrev pub most_held : ℕ
 most_held = 512
 
--- and while fewer frames than this wait to be sent
-abbrev pub most_waiting : ℕ
-most_waiting = 100
-
 -- a link that is of the connection holds few packets
 abbrev pub HoldsFew : ℕ → Link → Type 0
 HoldsFew id link = link.owner ≡ Some id → length link.machine.outgoing.packets ≤ most_held
 
--- the station takes octets of the connection
+-- The station takes octets of the connection. Nothing of other connections stands in this.
 pub record Accepts (id : ℕ) (s : StationState) : Type 0 where
-  pub queue : length s.channel.waiting < most_waiting
+  pub frames : own_waiting id s.owners < most_own
   pub links : All (λ place. IfSome place (HoldsFew id)) s.links.places

@@ -17,6 +17,7 @@ use Rattle.station.specs.LinkEvents.{event_at}
 use Rattle.station.specs.Links.{Links, most_links}
 use Rattle.station.specs.Monitored.{sent_modulus}
 use Rattle.station.specs.Monitoring.{monitoring}
+use Rattle.station.specs.Owners.{owners_after}
 use Rattle.station.specs.Registrations.{is_number}
 use Rattle.station.specs.State.{StationState, one_more}
 use Rattle.station.specs.Turn.{Turn, Act, begin, in_order, changing}
@@ -60,7 +61,7 @@ shown_sent frame turn = monitoring true turn.now.ticks frame turn
 -- the host that asked for the frame that was sent, which is the front one, is told of it
 abbrev pub telling_sent : Option Sent → Act
 telling_sent sent turn = record {
-  now = record turn.now { askers = askers_after sent turn.now.askers };
+  now = record turn.now { askers = askers_after sent turn.now.askers; owners = owners_after sent turn.now.owners };
   out = record turn.out { pieces = turn.out.pieces ++ sent_pieces sent turn.now.askers turn.now.connections };
 }
 

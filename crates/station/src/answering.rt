@@ -80,9 +80,9 @@ impl Parts {
                 self.toggle_monitor(id);
                 Ok(())
             }
-            b'K' => self.send_raw(memory, out, message),
-            b'M' => self.send_unproto(memory, out, message),
-            b'V' => self.send_unproto_via(memory, out, message),
+            b'K' => self.send_raw(memory, out, id, message),
+            b'M' => self.send_unproto(memory, out, id, message),
+            b'V' => self.send_unproto_via(memory, out, id, message),
             b'D' => self.give(memory, out, id, message),
             b'd' => self.disconnect(memory, out, id, message),
             b'Y' => self.reply_pending(memory, out, id, message),

@@ -58,7 +58,7 @@ impl Parts {
                 if *port != 0 {
                     return Ok(());
                 }
-                self.queue_raw(memory, out, octets.as_slice())
+                self.queue_raw(memory, out, id, octets.as_slice())
             }
             KissItem::AckFrame { port, mark, octets } => {
                 if *port != 0 {
@@ -88,10 +88,11 @@ impl Parts {
         &mut self,
         memory: &mut Memory,
         out: &mut HostOut,
+        id: u32,
         octets: &[u8],
     ) -> Result<(), OutOfMemory>
         ensures shows { (turn : Turn) → Shows self.old out.old turn
-            → OnOk result (Shows self.new out.new (queueing_raw octets.now turn)) }
+            → OnOk result (Shows self.new out.new (queueing_raw id octets.now turn)) }
         ensures ids { OnOk result (ids_in self.new ≡ ids_in self.old) }
         ensures closed { OnOk result (out.new.closed ≡ out.old.closed) }
         ensures wanted { OnErr result (memory.new.refused ≡ true) }
@@ -100,7 +101,7 @@ impl Parts {
             return Ok(());
         }
         let frame = memory.copy(octets)?;
-        self.queue(memory, out, None, frame)
+        self.queue_for(memory, out, Some(id), None, None, frame)
     }
 
     /// Queues octets of a host, which is told when they have been sent, if they have the length of a frame.
@@ -121,7 +122,7 @@ impl Parts {
             return Ok(());
         }
         let frame = memory.copy(octets)?;
-        self.queue_for(memory, out, Some(asker), None, frame)
+        self.queue_for(memory, out, Some(asker.id), Some(asker), None, frame)
     }
 
     /// Sets a parameter of the channel.

@@ -3,6 +3,7 @@ ghost use Rattle.std.specs.Prelude.{◌≡◌, ◌≢◌, [], ◌∷◌, ◌++�
 ghost use Rattle.station.specs.Held.{ids_in, without_ids};
 ghost use Rattle.station.specs.Host.{joining};
 ghost use Rattle.station.specs.HeldConnections.{kind_of};
+ghost use Rattle.station.specs.Owners.{has_room};
 ghost use Rattle.station.specs.StandsFor.{Reads, Shows};
 ghost use Rattle.station.specs.Turn.{Turn};
 
@@ -16,11 +17,11 @@ use kiss_port::KissHostIn;
 use std::alloc::Global;
 use tnc_base::OutOfMemory;
 
-/// The most connections at a time.
-const MOST_CONNECTIONS: usize = 64;
+/// The most frames of connections that wait, four for each of 64.
+const MOST_OWNED: usize = 256;
 
 impl Parts {
-    /// A connection joins under a new id, or is closed at once if 64 are there.
+    /// A connection joins under a new id, or is closed at once if there is no room for four frames of it.
     pub(crate) fn join(
         &mut self,
         memory: &mut Memory,
@@ -35,7 +36,7 @@ impl Parts {
             → ids_in self.new ≡ without_ids out.new.closed (ids_in self.old ++ id ∷ [])) }
         ensures wanted { OnErr result (memory.new.refused ≡ true) }
     {
-        if self.connections.len() >= MOST_CONNECTIONS {
+        if !has_room(self.connections.len(), self.left_waiting()) {
             return out.close(memory, id);
         }
         let connection = Connection {
@@ -47,6 +48,13 @@ impl Parts {
         };
         memory.push(&mut self.connections, connection)
     }
+}
+
+/// Whether there is room for one connection more, when so many are there and so many frames wait of those that left.
+fn has_room(there: usize, left: usize) -> bool
+    ensures { result ≡ has_room there left }
+{
+    left <= MOST_OWNED && there < (MOST_OWNED - left) / 4
 }
 
 /// What reads a connection that speaks so.

@@ -19,7 +19,7 @@
 //!   KISS, port 0               a frame is queued, a parameter is set
 //!   R, G, g, Y, y, H           answered at once
 //!   X, x, k, m                 a call is registered or freed; raw frames or monitoring on, or off again
-//!   K, M, V                    a frame is queued
+//!   K, M, V                    a frame is queued; the connection waits while four of its own do
 //!   C, v, c                    a link is made and calls, or d is answered
 //!   D, d                       for the connection's own link between the two calls
 //!   a body over 4096 octets    closed, and has left
@@ -67,6 +67,7 @@ mod monitoring;
 mod new_links;
 mod own_links;
 mod owned_link;
+mod owners;
 mod parts;
 mod passing;
 mod reading;

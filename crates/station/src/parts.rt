@@ -19,9 +19,6 @@ use frame_monitor::HeardStation;
 use std::alloc::Global;
 use tnc_base::{Octets, OutOfMemory};
 
-/// How many frames may wait to be sent.
-const CAPACITY: usize = 256;
-
 /// What a station keeps.
 #[derive(Drop)]
 pub struct Parts {
@@ -41,6 +38,8 @@ pub struct Parts {
     pub channel: Access,
     /// For each frame that waits to be sent, the host that is told when it has been sent, if one is.
     pub askers: Vec<Option<Asker>>,
+    /// For each frame that waits to be sent, the connection that gave it as it stands, if one did.
+    pub owners: Vec<Option<u32>>,
     /// The stations that were heard last, the last one first.
     pub heard: Vec<HeardStation>,
     /// How many frames found the queue full.
@@ -53,7 +52,7 @@ pub struct Parts {
 
 impl Parts {
     ghost use Rattle.station.specs.State.{StationState, new_station};
-    ghost use Rattle.station.specs.Turn.{Turn, queueing, queueing_for};
+    ghost use Rattle.station.specs.Turn.{Out, Turn, dropping, entering_for, queueing, queueing_for};
     ghost use Rattle.station.specs.Held.{ids_in};
     ghost use Rattle.station.specs.StandsFor.{AreParts, Shows};
 
@@ -77,6 +76,7 @@ impl Parts {
             links: LinkTable::new(alloc)?,
             channel: channel_with(alloc, config.modem, config.channel, seed)?,
             askers: Vec::new(alloc),
+            owners: Vec::new(alloc),
             heard: Vec::new(alloc),
             dropped: 0,
             ticks: 0,
@@ -84,7 +84,7 @@ impl Parts {
         })
     }
 
-    /// Puts a frame into the transmit queue, for the link of a key or for none, or drops it if the queue is full.
+    /// Puts a frame of the link of a key, or one that is repeated, into the transmit queue, or drops it if 256 wait.
     pub(crate) fn queue(
         &mut self,
         memory: &mut Memory,
@@ -99,30 +99,62 @@ impl Parts {
         ensures closed { OnOk result (out.new.closed ≡ out.old.closed) }
         ensures wanted { OnErr result (memory.new.refused ≡ true) }
     {
-        self.queue_for(memory, out, None, link, octets)
+        self.queue_for(memory, out, None, None, link, octets)
     }
 
-    /// The same for a frame whose sending a host is told, if one is named.
+    /// The same for a frame that a connection gave, if one did: it is dropped only if four of that connection wait. A host
+    /// is told when it has been sent, if one is named.
     pub(crate) fn queue_for(
         &mut self,
         memory: &mut Memory,
         out: &mut HostOut,
+        owner: Option<u32>,
         asker: Option<Asker>,
         link: Option<u32>,
         octets: Octets,
     ) -> Result<(), OutOfMemory>
         requires { HasFrameLength octets }
         ensures shows { (turn : Turn) → Shows self.old out.old turn
-            → OnOk result (Shows self.new out.new (queueing_for asker link octets turn)) }
+            → OnOk result (Shows self.new out.new (queueing_for owner asker link octets turn)) }
         ensures ids { OnOk result (ids_in self.new ≡ ids_in self.old) }
         ensures closed { OnOk result (out.new.closed ≡ out.old.closed) }
         ensures wanted { OnErr result (memory.new.refused ≡ true) }
     {
-        if self.channel.len() >= CAPACITY {
-            self.dropped = self.dropped.saturating_add(1);
+        if !self.may_enter(owner) {
+            self.drop_frame();
             return Ok(());
         }
+        self.enter_for(memory, out, owner, asker, link, octets)
+    }
+
+    /// Counts a frame that finds no room.
+    fn drop_frame(&mut self)
+        ensures shows { (out : Out) (turn : Turn) → Shows self.old out turn → Shows self.new out (dropping turn) }
+        ensures ids { ids_in self.new ≡ ids_in self.old }
+    {
+        self.dropped = self.dropped.saturating_add(1);
+    }
+
+    /// Puts a frame that finds room into the transmit queue.
+    fn enter_for(
+        &mut self,
+        memory: &mut Memory,
+        out: &mut HostOut,
+        owner: Option<u32>,
+        asker: Option<Asker>,
+        link: Option<u32>,
+        octets: Octets,
+    ) -> Result<(), OutOfMemory>
+        requires length { HasFrameLength octets }
+        requires room { length self.old.channel.waiting < 512 }
+        ensures shows { (turn : Turn) → Shows self.old out.old turn
+            → OnOk result (Shows self.new out.new (entering_for owner asker link octets turn)) }
+        ensures ids { OnOk result (ids_in self.new ≡ ids_in self.old) }
+        ensures closed { OnOk result (out.new.closed ≡ out.old.closed) }
+        ensures wanted { OnErr result (memory.new.refused ≡ true) }
+    {
         memory.push(&mut self.askers, asker)?;
+        memory.push(&mut self.owners, owner)?;
         out.tell_queued(memory, link, &octets)?;
         enter(&mut self.channel, link, octets);
         Ok(())
@@ -150,7 +182,7 @@ fn channel_with(
 /// Puts a frame after all others, if there is room.
 fn enter(channel: &mut Access, link: Option<u32>, octets: Octets)
     requires length { HasFrameLength octets }
-    requires room { length channel.old.waiting < 256 }
+    requires room { length channel.old.waiting < 512 }
     ensures { (before : Channel) → StandsForChannel channel.old before
         → StandsForChannel channel.new (with_frame link octets before) }
 {

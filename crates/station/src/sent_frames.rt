@@ -1,5 +1,5 @@
 //! Frames that have been sent, as the hosts are told that asked for it.
-ghost use Rattle.std.specs.Prelude.{◌≡◌, ◌++◌, OnOk, true, OnErr};
+ghost use Rattle.std.specs.Prelude.{◌≡◌, ◌++◌, OnOk, drop, true, OnErr};
 ghost use Rattle.station.specs.Askers.{pieces_for, speaks_kiss};
 ghost use Rattle.station.specs.Held.{ids_in};
 ghost use Rattle.station.specs.State.{StationState};
@@ -35,6 +35,7 @@ impl Parts {
         let Some(_) = sent else {
             return Ok(());
         };
+        drop_front(&mut self.owners);
         if self.askers.is_empty() {
             return Ok(());
         }
@@ -72,5 +73,14 @@ impl Parts {
             Some(place) => matches!(self.connections[place].reader, Reader::KissReader(_)),
             None => false,
         }
+    }
+}
+
+/// The front frame is of nobody any more.
+fn drop_front(owners: &mut Vec<Option<u32>>)
+    ensures { owners.new.items ≡ drop 1 owners.old.items }
+{
+    if !owners.is_empty() {
+        owners.remove(0);
     }
 }

@@ -9,6 +9,7 @@ use crate::config::{Config, LinkParams};
 use crate::host_event::HostEvent;
 use crate::host_out::{HostOut, TickOut};
 use crate::memory::Memory;
+use crate::owners::{MOST_OWN, own_waiting};
 use crate::parts::Parts;
 use ax25_address::Call;
 use ax25_frames::Modulus;
@@ -17,9 +18,6 @@ use selective_reject::BadWindow;
 use std::alloc::Global;
 use std::marker::Model;
 use tnc_base::OutOfMemory;
-
-/// A connection gives octets only while fewer frames than this wait to be sent.
-const MOST_WAITING: usize = 100;
 
 /// The links, hosts and channel of one station. It always stands for the state that the calls so far have made, until
 /// one of them answers want of memory: from then on it is spent, and each call that may answer that does.
@@ -73,17 +71,25 @@ impl Station {
         })
     }
 
-    /// Whether octets of the connection are taken: not while a link of it holds over 512 packets, or at least 100
-    /// frames wait to be sent.
+    /// How many frames wait to be sent.
+    pub fn waiting(&self) -> usize
+        ensures { (s : StationState) → StandsFor self.now s → result ≡ length s.channel.waiting }
+    {
+        self.parts.channel.len()
+    }
+
+    /// Whether octets of the connection are taken: not while a link of it holds over 512 packets, or four frames that it
+    /// gave as they stand wait to be sent. Other connections do not matter.
     pub fn accepts(&self, id: u32) -> bool
         ensures takes { IsTrue result ↔ Takes id self.now }
         ensures accepts { (s : StationState) → StandsFor self.now s → IsTrue result ↔ Accepts id s }
     {
-        self.parts.channel.len() < MOST_WAITING && self.parts.links.hold_few(id)
+        own_waiting(&self.parts.owners, id) < MOST_OWN && self.parts.links.hold_few(id)
     }
 
     /// What comes from a host: it joins under a new id, or one that is there gives octets, at most 4096 and only if
-    /// [`accepts`](Station::accepts) holds, or leaves. A 65th connection is closed at once. One whose octets tell an
+    /// [`accepts`](Station::accepts) holds, or leaves. A 65th connection is closed at once, and so is one
+    /// for which frames of those that have left leave no room. One whose octets tell an
     /// AGWPE body over 4096 octets, or begin by KISS as those of a program of the web, is closed and has left. Fails
     /// only for want of memory, and is then spent.
     pub fn host(&mut self, event: HostEvent) -> Result<HostOut, OutOfMemory>

@@ -27,10 +27,11 @@ impl Parts {
         &mut self,
         memory: &mut Memory,
         out: &mut HostOut,
+        id: u32,
         message: &AgwMessage,
     ) -> Result<(), OutOfMemory>
         ensures shows { (turn : Turn) → Shows self.old out.old turn
-            → OnOk result (Shows self.new out.new (queueing_raw (drop 1 message.now.body) turn)) }
+            → OnOk result (Shows self.new out.new (queueing_raw id (drop 1 message.now.body) turn)) }
         ensures ids { OnOk result (ids_in self.new ≡ ids_in self.old) }
         ensures closed { OnOk result (out.new.closed ≡ out.old.closed) }
         ensures wanted { OnErr result (memory.new.refused ≡ true) }
@@ -39,7 +40,7 @@ impl Parts {
         if body.is_empty() {
             return Ok(());
         }
-        self.queue_raw(memory, out, &body[1..])
+        self.queue_raw(memory, out, id, &body[1..])
     }
 
     /// M: an unnumbered frame between the calls of a message.
@@ -47,17 +48,18 @@ impl Parts {
         &mut self,
         memory: &mut Memory,
         out: &mut HostOut,
+        id: u32,
         message: &AgwMessage,
     ) -> Result<(), OutOfMemory>
         ensures shows { (turn : Turn) → Shows self.old out.old turn → OnOk result (Shows self.new out.new
-            (sending_unnumbered message.now.pid message.now.body
+            (sending_unnumbered id message.now.pid message.now.body
             (route_in message.now.from message.now.to (Some [])) turn)) }
         ensures ids { OnOk result (ids_in self.new ≡ ids_in self.old) }
         ensures closed { OnOk result (out.new.closed ≡ out.old.closed) }
         ensures wanted { OnErr result (memory.new.refused ≡ true) }
     {
         let route = route_in(&message.from, &message.to, Some(ArrayVec::new()));
-        self.send_unnumbered(memory, out, message.pid, message.body.as_slice(), route)
+        self.send_unnumbered(memory, out, id, message.pid, message.body.as_slice(), route)
     }
 
     /// V: the same by way of the repeaters that the body begins with.
@@ -65,10 +67,11 @@ impl Parts {
         &mut self,
         memory: &mut Memory,
         out: &mut HostOut,
+        id: u32,
         message: &AgwMessage,
     ) -> Result<(), OutOfMemory>
         ensures shows { (turn : Turn) → Shows self.old out.old turn → OnOk result (Shows self.new out.new
-            (sending_unnumbered message.now.pid (behind_repeaters message.now.body)
+            (sending_unnumbered id message.now.pid (behind_repeaters message.now.body)
             (route_in message.now.from message.now.to (repeaters_in message.now.body)) turn)) }
         ensures ids { OnOk result (ids_in self.new ≡ ids_in self.old) }
         ensures closed { OnOk result (out.new.closed ≡ out.old.closed) }
@@ -76,7 +79,7 @@ impl Parts {
     {
         let body = message.body.as_slice();
         let route = route_in(&message.from, &message.to, repeaters_in(body));
-        self.send_unnumbered(memory, out, message.pid, behind_repeaters(body), route)
+        self.send_unnumbered(memory, out, id, message.pid, behind_repeaters(body), route)
     }
 
     /// Queues an unnumbered frame of information along a route. Ignored if there is none, or the information is
@@ -85,12 +88,13 @@ impl Parts {
         &mut self,
         memory: &mut Memory,
         out: &mut HostOut,
+        id: u32,
         pid: u8,
         information: &[u8],
         route: Option<Route>,
     ) -> Result<(), OutOfMemory>
         ensures shows { (turn : Turn) → Shows self.old out.old turn → OnOk result (Shows self.new out.new
-            (sending_unnumbered pid information.now (route_held route) turn)) }
+            (sending_unnumbered id pid information.now (route_held route) turn)) }
         ensures ids { OnOk result (ids_in self.new ≡ ids_in self.old) }
         ensures closed { OnOk result (out.new.closed ≡ out.old.closed) }
         ensures wanted { OnErr result (memory.new.refused ≡ true) }
@@ -110,6 +114,6 @@ impl Parts {
             },
         };
         let octets = written(memory, &frame, Modulus::Eight)?;
-        self.queue(memory, out, None, octets)
+        self.queue_for(memory, out, Some(id), None, None, octets)
     }
 }

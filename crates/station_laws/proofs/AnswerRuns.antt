@@ -1,15 +1,15 @@
 -- The answers for the frames of a connection over a whole run: step by step, what asks, what is named as sent, what is
 -- told, and what still waits.
-use Rattle.station_laws.proofs.Common.{◌≡◌, ◌≢◌, ℕ, ◌==◌, ◌&&◌, Bool, true, false, nat_lt, List, [], ◌∷◌, ◌++◌, length}
+use Rattle.station_laws.proofs.Common.{◌≡◌, ◌≢◌, ℕ, ◌==◌, ◌&&◌, Bool, true, false, List, [], ◌∷◌, ◌++◌, length}
 use Rattle.station_laws.proofs.Common.{cond, if◌then◌else◌, Option, Some, None, is_some, refl, sym, ap, ◌∙◌, subst, ⊤}
 use Rattle.station_laws.proofs.Common.{append-nil, append_assoc, eqb-true, eq-eqb, false≢true, inl, inr}
 use Rattle.station_laws.proofs.Common.{way_back, Command, KissItem, Set, Hardware, Return, TooLong, repeated}
 use Rattle.station_laws.proofs.Common.{HostEvent, Joined, Bytes, Left, PortKind, Kiss, Agw, queueing_raw}
-use Rattle.station_laws.proofs.Common.{has_frame_length, Connection, connection_of, most_connections, shown_to_hosts}
+use Rattle.station_laws.proofs.Common.{has_frame_length, Connection, connection_of, shown_to_hosts}
 use Rattle.station_laws.proofs.Common.{joining, with_host, new_items, new_messages, taking, ending, AreTaken, AreTakenBy}
 use Rattle.station_laws.proofs.Common.{IsHostTurn, param_of, with_param, heeding, heeding_all, making}
 use Rattle.station_laws.proofs.Common.{no_layer_3, asked_links, StationState, Turn, changing, closing}
-use Rattle.station_laws.proofs.Common.{queueing, queueing_for, capacity, Asker, Input, IsTurn, FromHost, OffAir, OfClock}
+use Rattle.station_laws.proofs.Common.{queueing_own, has_place, may_enter, Asker, Input, IsTurn, FromHost, OffAir, OfClock}
 use Rattle.station_laws.proofs.Common.{Step, Stations, IsJointRun, all_stepped, new_stations, state_of, with_state}
 use Rattle.station_laws.proofs.Common.{stepped, End, A, B, LinkStep, Choice, heard_steps}
 use Rattle.std.proofs.lemmas.Bool.{false_from_ne_true}
@@ -54,11 +54,11 @@ adds_none id t u h = record {
 stays : (id : ℕ) (t : Turn) → Stand id t t
 stays id t = record { connections = refl; waits = refl }
 
-raw_stands : (id : ℕ) (octets : List ℕ) (t : Turn) → Stand id t (queueing_raw octets t)
+raw_stands : (id : ℕ) (octets : List ℕ) (t : Turn) → Stand id t (queueing_raw id octets t)
 raw_stands id octets t = go (has_frame_length octets)
   where
-    go : (b : Bool) → Stand id t ((if b then queueing None octets else (λ u. u)) t)
-    go true = queued_stand id None None octets t refl
+    go : (b : Bool) → Stand id t ((if b then queueing_own id None octets else (λ u. u)) t)
+    go true = queued_stand id (Some id) None None octets t refl
     go false = stays id t
 
 on_port_stands : (id port : ℕ) (t u : Turn) → Stand id t u → Stand id t (cond (port == 0) u t)
@@ -85,7 +85,7 @@ asked_adds id port mark octets t = by_port (port == 0)
     answers = answer_of asker ∷ []
 
     by_room : (room : Bool)
-        → Adds id t (cond room (entering_for (Some asker) None octets t) (dropping t)) (cond room answers [])
+        → Adds id t (cond room (entering_for (Some id) (Some asker) None octets t) (dropping t)) (cond room answers [])
     by_room true = record {
       connections = refl;
       waits = waiting_append id t.now.askers (Some asker ∷ [])
@@ -95,20 +95,20 @@ asked_adds id port mark octets t = by_port (port == 0)
     by_room false = adds_none id t (dropping t) (record { connections = refl; waits = refl })
 
     by_length : (long : Bool)
-        → Adds id t ((if long then queueing_for (Some asker) None octets else (λ u. u)) t)
-        (cond (long && nat_lt (length t.now.channel.waiting) capacity) answers [])
-    by_length true = by_room (nat_lt (length t.now.channel.waiting) capacity)
+        → Adds id t ((if long then queueing_own id (Some asker) octets else (λ u. u)) t)
+        (cond (long && may_enter (Some id) t.now) answers [])
+    by_length true = by_room (may_enter (Some id) t.now)
     by_length false = adds_none id t t (stays id t)
 
     by_port : (own : Bool)
-        → Adds id t (cond own ((if has_frame_length octets then queueing_for (Some asker) None octets else (λ u. u)) t) t)
-        (cond (own && (has_frame_length octets && nat_lt (length t.now.channel.waiting) capacity)) answers [])
+        → Adds id t (cond own ((if has_frame_length octets then queueing_own id (Some asker) octets else (λ u. u)) t) t)
+        (cond (own && (has_frame_length octets && may_enter (Some id) t.now)) answers [])
     by_port true = by_length (has_frame_length octets)
     by_port false = adds_none id t t (stays id t)
 
 item_adds : (id : ℕ) (item : KissItem) (t : Turn) → Adds id t (heeding id item t) (asks_item id item t)
 item_adds id (KissFrame port octets) t =
-    adds_none id t _ (on_port_stands id port t (queueing_raw octets t) (raw_stands id octets t))
+    adds_none id t _ (on_port_stands id port t (queueing_raw id octets t) (raw_stands id octets t))
 item_adds id (AckFrame port mark octets) t = asked_adds id port mark octets t
 item_adds id (Set port command value) t =
     adds_none id t _
@@ -178,8 +178,8 @@ other_octets id (Some c) octets t u other h =
     by_leaves id t u _
     (octets_kept is_some NotHeard (λ host. host ≢ id) (Leaves id) (leaves_kept id)
     (shut_kept is_some NotHeard (Leaves id) (leaves_kept id) tt)
-    (λ host mark frame v differs. by_stand id v (queueing_for (Some (record { id = host; mark = mark })) None frame v) []
-    (queued_stand id (Some (record { id = host; mark = mark })) None frame v
+    (λ host mark frame v differs. by_stand id v (queueing_own host (Some (record { id = host; mark = mark })) frame v) []
+    (queued_stand id (Some host) (Some (record { id = host; mark = mark })) None frame v
     (ap (λ b. cond b (answer_of (record { id = host; mark = mark }) ∷ []) [])
     (false_from_ne_true (host == id) (λ e. differs (eqb-true host id e))))))
     (Some c) octets t u (may c.kind refl) h)
@@ -285,7 +285,7 @@ host_counts id (Bytes host octets) before after h = inr (go (host == id) refl)
 heard_stands : (id : ℕ) (octets : List ℕ) (turn : Turn) (steps : Choice → List LinkStep) (after : Turn)
     → Heard octets turn steps after → Stand id turn after
 heard_stands id octets turn steps after passes = stays id turn
-heard_stands id octets turn steps after (repeats call k is) = queued_stand id None None (repeated octets k) turn refl
+heard_stands id octets turn steps after (repeats call k is) = queued_stand id None None None (repeated octets k) turn refl
 heard_stands id octets turn steps after (hears key len path frame begins found is) =
     event_stand id key (LinkHear frame) turn
 heard_stands id octets turn steps after (hears_new key host frame is vacant known new) =
@@ -371,7 +371,7 @@ joined_waits :
     (id host : ℕ) (kind : PortKind) (s : StationState) (after : Turn) → after ≡ joining host kind (begin s)
     → waiting_answers id after.now.askers ≡ waiting_answers id s.askers
 joined_waits id host kind s after is =
-    ap (λ (t : Turn). waiting_answers id t.now.askers) is ∙ go (nat_lt (length s.connections) most_connections)
+    ap (λ (t : Turn). waiting_answers id t.now.askers) is ∙ go (has_place s)
   where
     go : (b : Bool) → waiting_answers id
         (cond b (changing (with_host host kind) (begin s)) (closing host (begin s))).now.askers
@@ -395,7 +395,7 @@ joining_speaks :
     (id host : ℕ) (kind : PortKind) (s : StationState) (after : Turn) → after ≡ joining host kind (begin s)
     → speaks_kiss id s.connections ≡ true → speaks_kiss id after.now.connections ≡ true
 joining_speaks id host kind s after is speaks =
-    ap (λ (t : Turn). speaks_kiss id t.now.connections) is ∙ go (nat_lt (length s.connections) most_connections)
+    ap (λ (t : Turn). speaks_kiss id t.now.connections) is ∙ go (has_place s)
   where
     go : (b : Bool) → speaks_kiss id
         (cond b (changing (with_host host kind) (begin s)) (closing host (begin s))).now.connections ≡ true
@@ -406,7 +406,7 @@ joining_gives :
     (host : ℕ) (kind : PortKind) (s : StationState) (after : Turn) → after ≡ joining host kind (begin s)
     → after.out.pieces ≡ []
 joining_gives host kind s after is =
-    ap (λ (t : Turn). t.out.pieces) is ∙ go (nat_lt (length s.connections) most_connections)
+    ap (λ (t : Turn). t.out.pieces) is ∙ go (has_place s)
   where
     go : (b : Bool) → (cond b (changing (with_host host kind) (begin s)) (closing host (begin s))).out.pieces ≡ []
     go true = refl

@@ -78,9 +78,9 @@ event_silent id key event turn = go (link_at key turn.now.links) refl
         ∙ silent_more id turn.out.pieces (pieces_to link.owner link.local link.remote told)
         (told_silent id link.owner link.local link.remote told)
 
-queued_silent : (id : ℕ) (asker : Option Asker) (octets : List ℕ) (turn : Turn)
-    → Silent id turn [] (queueing_for asker None octets turn)
-queued_silent id asker octets turn = ap (answers_to id) (queued_pieces_for asker None octets turn)
+queued_silent : (id : ℕ) (owner : Option ℕ) (asker : Option Asker) (octets : List ℕ) (turn : Turn)
+    → Silent id turn [] (queueing_for owner asker None octets turn)
+queued_silent id owner asker octets turn = ap (answers_to id) (queued_pieces_for owner asker None octets turn)
 
 -- ---- what comes from host programs
 
@@ -103,7 +103,7 @@ silent_kept id = record {
   };
   changes = λ now t h. refl;
   closes = λ host t. refl;
-  queues = queued_silent id;
+  queues = λ host. queued_silent id (Some host);
   disowns = λ key link t at. refl;
 }
 
@@ -151,7 +151,7 @@ monitors_silent id sent ticks (Some frame) turn =
 heard_silent : (id : ℕ) (octets : List ℕ) (turn : Turn) (steps : Choice → List LinkStep) (after : Turn)
     → Heard octets turn steps after → Silent id turn [] after
 heard_silent id octets turn steps after passes = refl
-heard_silent id octets turn steps after (repeats call k is) = queued_silent id None (repeated octets k) turn
+heard_silent id octets turn steps after (repeats call k is) = queued_silent id None None (repeated octets k) turn
 heard_silent id octets turn steps after (hears key len path frame begins found is) =
     event_silent id key (LinkHear frame) turn
 heard_silent id octets turn steps after (hears_new key host frame is vacant known new) =

@@ -85,7 +85,7 @@ asks_kept chosen = record {
   };
   changes = λ now t h is. (tt, is);
   closes = λ id t is. absurd (closes_one t.out.closed id is);
-  queues = λ asker octets t is. (tt, sym (queued_closed asker None octets t) ∙ is);
+  queues = λ id asker octets t is. (tt, sym (queued_closed (Some id) asker None octets t) ∙ is);
   disowns = λ key link t at is. (tt, is);
 }
 
@@ -119,7 +119,7 @@ host_asks chosen (Joined id kind) before after turn none = tt
 host_asks chosen (Bytes id octets) before after turn none =
     let kept = asks_kept chosen in
     (octets_kept chosen OfNone AnyHost Asks (hosts_of kept) (asks_shut chosen)
-    (λ n mark frame t may. kept.queues (Some (record { id = n; mark = mark })) frame t)
+    (λ n mark frame t may. kept.queues n (Some (record { id = n; mark = mark })) frame t)
     (connection_of id before.now.connections) octets before after
     (taken_asks (connection_of id before.now.connections) octets none.0) turn none.1).0
 host_asks chosen (Left id) before after turn none = absurd none

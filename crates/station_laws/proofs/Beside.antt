@@ -1,11 +1,11 @@
--- Beside each frame that waits stands who wants to be told of it, act by act and over whole runs.
-use Rattle.station_laws.proofs.Common.{◌≡◌, ℕ, ◌+◌, ◌-◌, ◌*◌, Bool, true, false, nat_lt, List, [], ◌∷◌, length}
+-- Beside each frame that waits stands who wants to be told of it, and whose it is, act by act and over whole runs.
+use Rattle.station_laws.proofs.Common.{◌≡◌, ℕ, ◌+◌, ◌-◌, ◌*◌, Bool, true, false, List, [], ◌∷◌, length}
 use Rattle.station_laws.proofs.Common.{drop, cond, Option, Some, None, is_none, is_some, refl, sym, ap, ◌∙◌, subst}
 use Rattle.station_laws.proofs.Common.{arith, length-append, Callsign, way_back, Command, Frame, SentFrame, Told}
 use Rattle.station_laws.proofs.Common.{Event, step, done_of, End, A, B, settled_link, with_links, telling_one}
 use Rattle.station_laws.proofs.Common.{telling_to, queueing_frame, queueing_frames, event_at, event_of, Link, link_at}
 use Rattle.station_laws.proofs.Common.{making, no_layer_3, path_along, called_pid, repeated, shown_to_hosts, Turn}
-use Rattle.station_laws.proofs.Common.{changing, queueing_for, entering_for, dropping, capacity, Asker, asked_links}
+use Rattle.station_laws.proofs.Common.{changing, queueing_for, entering_for, dropping, may_enter, Asker, asked_links}
 use Rattle.station_laws.proofs.Common.{ticking, StationState, Input, IsTurn, FromHost, OffAir, OfClock, Step, Stations}
 use Rattle.station_laws.proofs.Common.{IsJointRun, all_stepped, new_stations, state_of, with_state, LinkStep, Choice}
 use Rattle.station_laws.proofs.Common.{heard_steps}
@@ -18,6 +18,7 @@ use Rattle.channel_access.specs.declared.air_tick.Sent.{Sent}
 use Rattle.link_machine.specs.Event.Event.{Connect as LinkConnect, Hear as LinkHear}
 use Rattle.station.specs.Askers.{askers_after}
 use Rattle.station.specs.Asking.{some_wants}
+use Rattle.station.specs.Owners.{owners_after}
 use Rattle.station.specs.Turn.{begin}
 use Rattle.station_laws.specs.FramesTold.{StandBeside, AskersStandBeside}
 use Rattle.station_laws.proofs.Causes.{NotHeard}
@@ -29,21 +30,23 @@ abbrev Beside : Turn → List LinkStep → Turn → Type 0
 Beside turn steps after = StandBeside turn.now → StandBeside after.now
 
 -- a frame that joins the queue
-queued_beside : (asker : Option Asker) (link : Option ℕ) (octets : List ℕ) (turn : Turn)
-    → Beside turn [] (queueing_for asker link octets turn)
-queued_beside asker link octets turn h = go (nat_lt (length turn.now.channel.waiting) capacity)
+queued_beside : (owner : Option ℕ) (asker : Option Asker) (link : Option ℕ) (octets : List ℕ) (turn : Turn)
+    → Beside turn [] (queueing_for owner asker link octets turn)
+queued_beside owner asker link octets turn h = go (may_enter owner turn.now)
   where
-    go : (b : Bool) → StandBeside (cond b (entering_for asker link octets turn) (dropping turn)).now
+    go : (b : Bool) → StandBeside (cond b (entering_for owner asker link octets turn) (dropping turn)).now
     go true =
-        length-append turn.now.askers (asker ∷ []) ∙ ap (λ n. n + 1) h
-        ∙ sym (length-append turn.now.channel.waiting ((record { link = link; octets = octets }) ∷ []))
+        let more = sym (length-append turn.now.channel.waiting ((record { link = link; octets = octets }) ∷ [])) in (
+          length-append turn.now.askers (asker ∷ []) ∙ ap (λ n. n + 1) h.0 ∙ more,
+          length-append turn.now.owners (owner ∷ []) ∙ ap (λ n. n + 1) h.1 ∙ more,
+        )
     go false = h
 
 frames_beside : (key : ℕ) (frames : List SentFrame) (turn : Turn)
     → StandBeside turn.now → StandBeside (queueing_frames key frames turn).now
 frames_beside key [] turn h = h
 frames_beside key (f ∷ frames) turn h =
-    frames_beside key frames (queueing_frame key f turn) (queued_beside None (Some key) _ turn h)
+    frames_beside key frames (queueing_frame key f turn) (queued_beside None None (Some key) _ turn h)
 
 told_beside :
     (owner : Option ℕ) (local remote : Callsign) (told : List Told) (turn : Turn)
@@ -81,20 +84,25 @@ beside_kept = record {
     replies = λ id message t other h. h;
     registers = λ call host t h. h;
   };
-  changes = λ now t same h. same.askers ∙ h ∙ ap length (sym same.waiting);
+  changes = λ now t same h. (
+    same.askers ∙ h.0 ∙ ap length (sym same.waiting),
+    ap length same.owners ∙ h.1 ∙ ap length (sym same.waiting),
+  );
   closes = λ host t h. h;
-  queues = λ asker octets t. queued_beside asker None octets t;
+  queues = λ id asker octets t. queued_beside (Some id) asker None octets t;
   disowns = λ key link t at h. h;
 }
 
 -- ---- a tick of the channel
 
--- it takes the front frame that waits and the front asker, or none
+-- it takes the front frame that waits and what stands beside it, or none
 named_beside :
-    (askers : List (Option Asker)) (waiting : List WaitingFrame) (air : Option OnAir) → length askers ≡ length waiting
-    → length (askers_after (air_sent waiting air) askers) ≡ length (air_waiting waiting air)
-named_beside askers waiting None h = h
-named_beside askers waiting (Some t) h =
+    {T : Type 0} (after : Option Sent → List T → List T) → ((items : List T) → after None items ≡ items)
+    → ((named : Sent) (items : List T) → after (Some named) items ≡ drop 1 items)
+    → (items : List T) (waiting : List WaitingFrame) (air : Option OnAir) → length items ≡ length waiting
+    → length (after (air_sent waiting air) items) ≡ length (air_waiting waiting air)
+named_beside after stays drops items waiting None h = ap length (stays items) ∙ h
+named_beside {T} after stays drops items waiting (Some t) h =
     let next = decided (bits_then t) waiting t in
     let named : Sent = record {
       octets = slice_index_or next.frames next.named [];
@@ -102,17 +110,17 @@ named_beside askers waiting (Some t) h =
     } in
     go (names_next (bits_then t) next) named
   where
-    dropped : (first : List (Option Asker)) (second : List WaitingFrame) → length first ≡ length second
+    dropped : (first : List T) (second : List WaitingFrame) → length first ≡ length second
         → length (drop 1 first) ≡ length (drop 1 second)
     dropped [] [] is = refl
     dropped [] (frame ∷ second) is = absurd (omega (arith, is))
-    dropped (asker ∷ first) [] is = absurd (omega (arith, is))
-    dropped (asker ∷ first) (frame ∷ second) is = omega (arith, is)
+    dropped (item ∷ first) [] is = absurd (omega (arith, is))
+    dropped (item ∷ first) (frame ∷ second) is = omega (arith, is)
 
     go : (b : Bool) (named : Sent)
-        → length (askers_after (cond b (Some named) None) askers) ≡ length (cond b (drop 1 waiting) waiting)
-    go true named = dropped askers waiting h
-    go false named = h
+        → length (after (cond b (Some named) None) items) ≡ length (cond b (drop 1 waiting) waiting)
+    go true named = ap length (drops named items) ∙ dropped items waiting h
+    go false named = ap length (stays items) ∙ h
 
 rules_wait : (busy wants : Bool) (channel : Channel) → (after_rules busy wants channel).waiting ≡ channel.waiting
 rules_wait busy wants channel = go (is_none channel.air)
@@ -126,9 +134,13 @@ tick_beside : (busy : Bool) (frame : Option Frame) (turn : Turn) → StandBeside
 tick_beside busy frame turn h =
     let s : StationState = (asked_links busy turn).now in
     let channel = after_rules busy (some_wants s.links) s.channel in
-    named_beside s.askers channel.waiting channel.air
-    (ticks_kept is_some NotHeard Beside beside_kept.kept.by_events tt busy turn h
-    ∙ ap length (sym (rules_wait busy (some_wants s.links) s.channel)))
+    let asked = ticks_kept is_some NotHeard Beside beside_kept.kept.by_events tt busy turn h in
+    let same = ap length (sym (rules_wait busy (some_wants s.links) s.channel)) in (
+      named_beside askers_after (λ items. refl) (λ named items. refl) s.askers channel.waiting channel.air
+          (asked.0 ∙ same),
+      named_beside owners_after (λ items. refl) (λ named items. refl) s.owners channel.waiting channel.air
+          (asked.1 ∙ same),
+    )
 
 -- ---- each step
 
@@ -136,7 +148,7 @@ heard_beside :
     (octets : List ℕ) (turn : Turn) (steps : Choice → List LinkStep) (after : Turn) → Heard octets turn steps after
     → StandBeside turn.now → StandBeside after.now
 heard_beside octets turn steps after passes h = h
-heard_beside octets turn steps after (repeats call k is) h = queued_beside None None (repeated octets k) turn h
+heard_beside octets turn steps after (repeats call k is) h = queued_beside None None None (repeated octets k) turn h
 heard_beside octets turn steps after (hears key len path frame begins found is) h =
     event_beside key (LinkHear frame) turn h
 heard_beside octets turn steps after (hears_new key host frame is vacant known new) h =
@@ -156,7 +168,7 @@ turn_beside (OffAir octets) before after turn h =
 turn_beside (OfClock busy) before after turn h =
     subst (λ (t : Turn). StandBeside t.now) (sym turn.effect) (tick_beside busy turn.monitored before h)
 
-step_beside : (step : Step) → StandBeside step.before → StandBeside step.after.now
+pub step_beside : (step : Step) → StandBeside step.before → StandBeside step.after.now
 step_beside step h = turn_beside step.input (begin step.before) step.after step.turn h
 
 -- ---- runs
@@ -180,4 +192,5 @@ run_beside s (step ∷ steps) run a b end =
 
 pub askers_stand_beside : AskersStandBeside
 askers_stand_beside a b seed_a seed_b steps run end =
-    run_beside (new_stations a seed_a b seed_b) steps run refl refl end
+    run_beside (new_stations a seed_a b seed_b) steps run (refl, refl)
+    (refl, refl) end

@@ -1,11 +1,11 @@
 -- The connections that a step closes: links close none, one that is shut is closed, and those that were closed stay so.
-use Rattle.station_laws.proofs.Common.{◌≡◌, ℕ, Bool, true, false, nat_lt, List, [], ◌∷◌, ◌++◌, length, map, cond, Option}
+use Rattle.station_laws.proofs.Common.{◌≡◌, ℕ, Bool, true, false, List, [], ◌∷◌, ◌++◌, length, map, cond, Option}
 use Rattle.station_laws.proofs.Common.{Some, None, refl, sym, ap, ◌∙◌, append-nil, append_assoc, Callsign, SentFrame}
 use Rattle.station_laws.proofs.Common.{Told, Event, Connect, step, done_of, settled_link, with_links, telling_one}
 use Rattle.station_laws.proofs.Common.{telling_to, queueing_frame, queueing_frames, event_at, event_of, Link, link_at}
 use Rattle.station_laws.proofs.Common.{most_links, with_link, without_host, without_owner, giving_up, giving_up_all}
 use Rattle.station_laws.proofs.Common.{giving_up_link, is_number, leaving, shutting, Turn, in_order, changing, closing}
-use Rattle.station_laws.proofs.Common.{queueing_for, entering_for, dropping, capacity, range_with_len, Asker, Disconnect}
+use Rattle.station_laws.proofs.Common.{queueing_for, queueing_own, entering_for, dropping, may_enter, range_with_len, Asker, Disconnect}
 use Rattle.station_laws.proofs.Common.{called_pid, making, path_along, LinkStep, is_some, AgwMessage, AreAnswered}
 use Rattle.station_laws.proofs.Common.{ending, may_register, registrar, registering, register_reply, replying}
 use Rattle.station_laws.proofs.Common.{with_registration, subst, ◌≢◌}
@@ -13,11 +13,11 @@ use Rattle.std.specs.List.{AllByRecursion as Each}
 use Rattle.station_laws.proofs.Causes.{NotHeard}
 use Rattle.station_laws.proofs.StationActs.{KeptByAll, any_may_ask, hosts_of, messages_kept}
 
-pub queued_closed : (asker : Option Asker) (link : Option ℕ) (octets : List ℕ) (turn : Turn)
-    → (queueing_for asker link octets turn).out.closed ≡ turn.out.closed
-queued_closed asker link octets turn = go (nat_lt (length turn.now.channel.waiting) capacity)
+pub queued_closed : (owner : Option ℕ) (asker : Option Asker) (link : Option ℕ) (octets : List ℕ) (turn : Turn)
+    → (queueing_for owner asker link octets turn).out.closed ≡ turn.out.closed
+queued_closed owner asker link octets turn = go (may_enter owner turn.now)
   where
-    go : (b : Bool) → (cond b (entering_for asker link octets turn) (dropping turn)).out.closed ≡ turn.out.closed
+    go : (b : Bool) → (cond b (entering_for owner asker link octets turn) (dropping turn)).out.closed ≡ turn.out.closed
     go true = refl
     go false = refl
 
@@ -25,7 +25,7 @@ frames_closed : (key : ℕ) (frames : List SentFrame) (turn : Turn)
     → (queueing_frames key frames turn).out.closed ≡ turn.out.closed
 frames_closed key [] turn = refl
 frames_closed key (f ∷ frames) turn =
-    frames_closed key frames (queueing_frame key f turn) ∙ queued_closed None (Some key) _ turn
+    frames_closed key frames (queueing_frame key f turn) ∙ queued_closed None None (Some key) _ turn
 
 told_closed :
     (owner : Option ℕ) (local remote : Callsign) (told : List Told) (turn : Turn)
@@ -103,7 +103,8 @@ closes_kept = record {
   };
   changes = λ now t h. closes_none t t refl;
   closes = λ host t. (host ∷ [], refl);
-  queues = λ asker octets t. closes_none t (queueing_for asker None octets t) (queued_closed asker None octets t);
+  queues = λ id asker octets t.
+      closes_none t (queueing_own id asker octets t) (queued_closed (Some id) asker None octets t);
   disowns = λ key link t at. closes_none t t refl;
 }
 

@@ -88,13 +88,13 @@ pub use Rattle.frame_monitor.specs.declared.heard_station.HeardStation.{HeardSta
 pub use Rattle.station.specs.Asking.{asked_key, asking, asking_at, seizing, with_asked}
 unfoldable pub use Rattle.station.specs.CallFields.{call_of_text}
 pub use Rattle.station.specs.CallFields.{call_in}
-pub use Rattle.station.specs.Connections.{Connection, connection_of, most_connections}
+pub use Rattle.station.specs.Connections.{Connection, connection_of}
 unfoldable pub use Rattle.station.specs.FrameSpelling.{frame_octets}
 pub use Rattle.station.specs.FrameSpelling.{path_octets}
 pub use Rattle.station.specs.Heard.{AreHeardAt, AreOctetsHeard, IsHeard, IsHeardAnew, IsHeardBy, IsHeardMaking}
 pub use Rattle.station.specs.Heard.{IsPathOf, IsReadingHeardAnew, IsRepeatedFor, destination_field, may_make}
 pub use Rattle.station.specs.Heard.{showing_to, shown_to_hosts, source_field, waits_for_repeater, with_shown}
-pub use Rattle.station.specs.Host.{AreTaken, AreTakenBy, IsHostTurn, ending, joining, new_items, new_messages, taking}
+pub use Rattle.station.specs.Host.{AreTaken, AreTakenBy, IsHostTurn, ending, has_place, joining, new_items, new_messages, taking}
 pub use Rattle.station.specs.Host.{with_host}
 pub use Rattle.station.specs.Kiss.{heeding, heeding_all, param_of, with_param}
 unfoldable pub use Rattle.station.specs.Leaving.{giving_up_all}
@@ -111,7 +111,7 @@ pub use Rattle.station.specs.State.{StationState, new_station, usual_config}
 unfoldable pub use Rattle.station.specs.Ticks.{ticking_links}
 pub use Rattle.station.specs.Ticks.{asked_links, t1_stands, ticking, ticking_at, waits}
 pub use Rattle.station.specs.Turn.{Act, Out, Turn, capacity, changing, closing, dropping, entering, entering_for}
-pub use Rattle.station.specs.Turn.{in_order, queueing, queueing_for}
+pub use Rattle.station.specs.Turn.{in_order, queueing, queueing_for, queueing_own, may_enter}
 pub use Rattle.station.specs.declared.asker.Asker.{Asker}
 pub use Rattle.station.specs.declared.config.Config.{Config}
 pub use Rattle.station.specs.declared.host_event.HostEvent.{HostEvent}

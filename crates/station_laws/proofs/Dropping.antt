@@ -7,7 +7,7 @@ use Rattle.station_laws.proofs.Common.{called_pid, shown_to_hosts, without_owner
 use Rattle.station_laws.proofs.Common.{queueing_frame, queueing_frames, link_event, event_of, event_at, with_links}
 use Rattle.station_laws.proofs.Common.{Link, link_at, with_link, making, no_layer_3, path_along, ticking, with_asked}
 use Rattle.station_laws.proofs.Common.{Turn}
-use Rattle.station_laws.proofs.Common.{changing, closing, queueing, queueing_for, entering, entering_for, dropping, capacity}
+use Rattle.station_laws.proofs.Common.{changing, closing, queueing, queueing_for, entering, entering_for, dropping, may_enter}
 use Rattle.station_laws.proofs.Common.{Asker, Input, IsTurn, Step}
 use Rattle.station_laws.proofs.Common.{FromHost, OffAir, OfClock, LinkStep, Choice, link_step, steps_for, steps_at}
 use Rattle.station_laws.proofs.Common.{turn_steps, steps_of, DropsNoAsk, StationState, heard_steps}
@@ -64,7 +64,7 @@ record Entered (turn after : Turn) : Type 0 where
 
 entered : (key : ℕ) (octets : List ℕ) (turn : Turn) → (queueing (Some key) octets turn).now.dropped ≡ 0
     → Entered turn (queueing (Some key) octets turn)
-entered key octets turn nothing_lost = go (nat_lt (length turn.now.channel.waiting) capacity) nothing_lost
+entered key octets turn nothing_lost = go (may_enter None turn.now) nothing_lost
   where
     go : (b : Bool) → (cond b (entering (Some key) octets turn) (dropping turn)).now.dropped ≡ 0
         → Entered turn (cond b (entering (Some key) octets turn) (dropping turn))
@@ -146,12 +146,12 @@ made_joins chosen path key host pid local remote event turn nothing_lost =
     record { before = done.before; joined = done.joined }
 
 -- a frame of no link
-queueing_joins : (asker : Option Asker) (octets : List ℕ) (turn : Turn)
-    → Joins turn [] (queueing_for asker None octets turn)
-queueing_joins asker octets turn = go (nat_lt (length turn.now.channel.waiting) capacity)
+queueing_joins : (owner : Option ℕ) (asker : Option Asker) (octets : List ℕ) (turn : Turn)
+    → Joins turn [] (queueing_for owner asker None octets turn)
+queueing_joins owner asker octets turn = go (may_enter owner turn.now)
   where
-    go : (b : Bool) → Joins turn [] (cond b (entering_for asker None octets turn) (dropping turn))
-    go true = same_joins turn (entering_for asker None octets turn) refl
+    go : (b : Bool) → Joins turn [] (cond b (entering_for owner asker None octets turn) (dropping turn))
+    go true = same_joins turn (entering_for owner asker None octets turn) refl
     go false = λ nothing_lost. absurd (never_zero turn.now.dropped nothing_lost)
 
 -- ---- what comes from host programs
@@ -172,7 +172,7 @@ joins_kept chosen = record {
   };
   changes = λ now turn h. same_joins turn (record turn { now = now }) h.dropped;
   closes = λ host turn. same_joins turn (closing host turn) refl;
-  queues = queueing_joins;
+  queues = λ id. queueing_joins (Some id);
   disowns = λ key link turn at. same_joins turn
       (changing (with_links (with_link key (without_owner link))) turn) refl;
 }
@@ -183,7 +183,7 @@ heard_joins :
     (chosen : Choice) (octets : List ℕ) (turn : Turn) (steps : Choice → List LinkStep) (after : Turn)
     → Heard octets turn steps after → Joins turn (steps chosen) after
 heard_joins chosen octets turn steps after passes = same_joins turn turn refl
-heard_joins chosen octets turn steps after (repeats call k is) = queueing_joins None (repeated octets k) turn
+heard_joins chosen octets turn steps after (repeats call k is) = queueing_joins None None (repeated octets k) turn
 heard_joins chosen octets turn steps after (hears key len path frame begins found is) =
     event_joins chosen None key (LinkHear frame) turn
 heard_joins chosen octets turn steps after (hears_new key host frame is vacant known new) =

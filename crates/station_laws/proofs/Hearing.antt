@@ -307,7 +307,7 @@ outcome_of :
     → Heard octets turn steps after → Outcome s e octets turn after (steps (meant s)) (steps is_some)
 outcome_of s e octets turn steps after low params size passes = Passed (still turn) refl refl
 outcome_of s e octets turn steps after low params size (repeats call k is) =
-    Passed (raw_still None (repeated octets k) turn) refl refl
+    Passed (raw_still None None (repeated octets k) turn) refl refl
 outcome_of s e octets turn steps after low params size (hears key len path frame begins found is) =
     there_outcome s e octets path len key frame turn low begins found is
 outcome_of s e octets turn steps after low params size (hears_new key id frame is vacant known new) =

@@ -32,6 +32,9 @@ pub mod OwnerLemmas
 pub mod HostsStand
 mod Pieces
 mod Beside
+mod OwnCounts
+mod OwnRoom
+mod OneFrameEnds
 mod Answering
 mod Waits
 mod AnswerRuns

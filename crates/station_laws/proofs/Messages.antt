@@ -5,8 +5,8 @@ use Rattle.station_laws.proofs.Common.{append-nil, Callsign, AgwMessage, new_mac
 use Rattle.station_laws.proofs.Common.{with_registration, may_call, called_route, called_pid, IsHostTurn}
 use Rattle.station_laws.proofs.Common.{IsNewKey, is_between, key_between, most_links, making, idle_link, registrar}
 use Rattle.station_laws.proofs.Common.{is_number, Route, repeaters_in, path_along, Turn, changing, closing}
-use Rattle.station_laws.proofs.Common.{Asker, queueing_for}
-use Rattle.station_laws.proofs.Common.{entering_for, dropping, capacity, host_steps, first_chosen, event_at, steps_at}
+use Rattle.station_laws.proofs.Common.{Asker, queueing_for, queueing_own}
+use Rattle.station_laws.proofs.Common.{entering_for, dropping, may_enter, host_steps, first_chosen, event_at, steps_at}
 use Rattle.station_laws.proofs.Common.{asked_links, tick_steps, with_asked}
 use Rattle.link_machine.specs.Event.Event.{Connect as LinkConnect}
 use Rattle.station.specs.AgwKinds.{connect_via_kind}
@@ -36,11 +36,11 @@ pub still_goes : (s : Setting) (e : End) (back : List Tagged) (turn after : Turn
 still_goes s e back turn after h w H = (still_holds s back turn after w H h.links h.parameters h.queued, tt)
 
 -- a frame of no link
-pub raw_still : (asker : Option Asker) (octets : List ℕ) (turn : Turn)
-    → IsStill turn (queueing_for asker None octets turn)
-raw_still asker octets turn = go (nat_lt (length turn.now.channel.waiting) capacity)
+pub raw_still : (owner : Option ℕ) (asker : Option Asker) (octets : List ℕ) (turn : Turn)
+    → IsStill turn (queueing_for owner asker None octets turn)
+raw_still owner asker octets turn = go (may_enter owner turn.now)
   where
-    go : (b : Bool) → IsStill turn (cond b (entering_for asker None octets turn) (dropping turn))
+    go : (b : Bool) → IsStill turn (cond b (entering_for owner asker None octets turn) (dropping turn))
     go true = record { links = refl; parameters = refl; queued = append-nil turn.out.queued }
     go false = record { links = refl; parameters = refl; queued = refl }
 
@@ -116,8 +116,8 @@ goes_kept s e back = record {
       (record { links = h.links; parameters = h.parameters; queued = refl });
   closes = λ id t. still_goes s e back t (closing id t)
       (record { links = refl; parameters = refl; queued = refl });
-  queues = λ asker octets t. still_goes s e back t (queueing_for asker None octets t)
-      (raw_still asker octets t);
+  queues = λ id asker octets t. still_goes s e back t (queueing_own id asker octets t)
+      (raw_still (Some id) asker octets t);
   disowns = disowned_goes s e back;
 }
 

@@ -1,24 +1,24 @@
 -- What an event of a link sends to hosts.
-use Rattle.station_laws.proofs.Common.{◌≡◌, ℕ, Bool, true, false, nat_lt, List, [], ◌∷◌, ◌++◌, length, cond, Option}
+use Rattle.station_laws.proofs.Common.{◌≡◌, ℕ, Bool, true, false, List, [], ◌∷◌, ◌++◌, length, cond, Option}
 use Rattle.station_laws.proofs.Common.{Some, None, refl, sym, ap, ◌∙◌, append-nil, append_assoc, Callsign, SentFrame}
 use Rattle.station_laws.proofs.Common.{Told, step, done_of, settled_link, with_links, telling_one, telling_to}
 use Rattle.station_laws.proofs.Common.{queueing_frame, queueing_frames, event_of, Turn, changing, queueing, queueing_for}
 use Rattle.station_laws.proofs.Common.{entering_for}
-use Rattle.station_laws.proofs.Common.{Asker, dropping, capacity, pieces_to}
+use Rattle.station_laws.proofs.Common.{Asker, dropping, may_enter, pieces_to}
 use Rattle.station_laws.specs.Owners.{piece_of, OwnersAreTold}
 
 -- a frame that is queued is nothing to a host
-pub queued_pieces_for : (asker : Option Asker) (link : Option ℕ) (octets : List ℕ) (turn : Turn)
-    → (queueing_for asker link octets turn).out.pieces ≡ turn.out.pieces
-queued_pieces_for asker link octets turn = go (nat_lt (length turn.now.channel.waiting) capacity)
+pub queued_pieces_for : (owner : Option ℕ) (asker : Option Asker) (link : Option ℕ) (octets : List ℕ) (turn : Turn)
+    → (queueing_for owner asker link octets turn).out.pieces ≡ turn.out.pieces
+queued_pieces_for owner asker link octets turn = go (may_enter owner turn.now)
   where
-    go : (b : Bool) → (cond b (entering_for asker link octets turn) (dropping turn)).out.pieces ≡ turn.out.pieces
+    go : (b : Bool) → (cond b (entering_for owner asker link octets turn) (dropping turn)).out.pieces ≡ turn.out.pieces
     go true = refl
     go false = refl
 
 pub queued_pieces : (link : Option ℕ) (octets : List ℕ) (turn : Turn)
     → (queueing link octets turn).out.pieces ≡ turn.out.pieces
-queued_pieces link octets turn = queued_pieces_for None link octets turn
+queued_pieces link octets turn = queued_pieces_for None None link octets turn
 
 frames_pieces : (key : ℕ) (frames : List SentFrame) (turn : Turn)
     → (queueing_frames key frames turn).out.pieces ≡ turn.out.pieces

@@ -1,6 +1,6 @@
 -- A station's step as its single acts, and the events of links among them: what holds along each act holds along all
 -- that comes from a host program, and along a tick of the links, one of which is then perhaps asked for a frame.
-use Rattle.station_laws.proofs.Common.{◌≡◌, ℕ, ◌==◌, ◌||◌, Bool, true, false, nat_le, nat_lt, List, [], ◌∷◌, ◌++◌}
+use Rattle.station_laws.proofs.Common.{◌≡◌, ℕ, ◌==◌, ◌||◌, Bool, true, false, nat_le, List, [], ◌∷◌, ◌++◌}
 use Rattle.station_laws.proofs.Common.{length, map, drop, cond, if◌then◌else◌, Option, Some, None, is_some, refl, sym}
 use Rattle.station_laws.proofs.Common.{ap, ◌∙◌, subst, ⊤, MatchBool, range_with_len, cond-false, eqb-true, Callsign}
 use Rattle.station_laws.proofs.Common.{append-nil, loser, loser_steps, passing, passing_steps, shut_steps, shutting}
@@ -17,7 +17,7 @@ use Rattle.station_laws.proofs.Common.{queueing_raw, most_information, unnumbere
 use Rattle.station_laws.proofs.Common.{refused_reply, may_call, calls, called_route, called_pid, IsCall, IsCallMade}
 use Rattle.station_laws.proofs.Common.{own_key, giving, giving_packet, packet_length, packets_of, data_pid, pending_in}
 use Rattle.station_laws.proofs.Common.{pending_reply, waiting_reply, answering_else, AreAnswered, has_frame_length}
-use Rattle.station_laws.proofs.Common.{call_in, Connection, connection_of, most_connections, frame_octets, joining}
+use Rattle.station_laws.proofs.Common.{call_in, Connection, connection_of, has_place, frame_octets, joining}
 use Rattle.station_laws.proofs.Common.{with_host, new_messages, new_items, taking, ending, AreTaken, AreTakenBy}
 use Rattle.station_laws.proofs.Common.{IsHostTurn, param_of, with_param, heeding, heeding_all, giving_up}
 use Rattle.station_laws.proofs.Common.{giving_up_all, giving_up_link, leaving, without_host, without_owner, event_at}
@@ -25,11 +25,11 @@ use Rattle.station_laws.proofs.Common.{with_links, Link, IsNewKey, link_at, most
 use Rattle.station_laws.proofs.Common.{registrar, may_register, Route, route_in, repeaters_in, behind_repeaters}
 use Rattle.station_laws.proofs.Common.{path_along, StationState, asked_key, asked_links, asking, asking_at, seizing}
 use Rattle.station_laws.proofs.Common.{ticking_at, ticking_links, t1_stands, with_asked, Turn, Act}
-use Rattle.station_laws.proofs.Common.{in_order, length-map, Asker, queueing_for}
+use Rattle.station_laws.proofs.Common.{in_order, length-map, Asker, queueing_own}
 use Rattle.station.specs.Askers.{without_asker, without_askers}
 use Rattle.station.specs.Connections.{turned_monitor, turned_raw, with_connection, without_connection}
 use Rattle.station.specs.Host.{with_octets}
-use Rattle.station_laws.proofs.Common.{changing, closing, queueing, LinkStep, Choice, asked_at, asking_steps, steps_at}
+use Rattle.station_laws.proofs.Common.{changing, closing, LinkStep, Choice, asked_at, asking_steps, steps_at}
 use Rattle.station_laws.proofs.Common.{steps_along, ticks_at}
 use Rattle.station_laws.proofs.Common.{tick_steps, given_up, gives_up_at, leaving_steps, made_steps, call_steps}
 use Rattle.station_laws.proofs.Common.{sends_at, data_steps, disconnect_steps, else_steps, answer_steps, message_steps}
@@ -76,7 +76,7 @@ any_may_ask messages =
     each_of_all (MayAsk NotHeard) (λ message. record { call = λ e. tt; give = tt; end = λ e. tt }) messages
 
 -- whatever comes
-any_may_come : (event : HostEvent) (s : StationState) → MayCome NotHeard AnyHost event s
+pub any_may_come : (event : HostEvent) (s : StationState) → MayCome NotHeard AnyHost event s
 any_may_come (Joined id kind) s = tt
 any_may_come (Bytes id octets) s = by_place (connection_of id s.connections)
   where
@@ -138,6 +138,7 @@ pub record KeepsLinks (s now : StationState) : Type 0 where
   pub dropped : now.dropped ≡ s.dropped
   pub waiting : now.channel.waiting ≡ s.channel.waiting
   pub askers : length now.askers ≡ length s.askers
+  pub owners : now.owners ≡ s.owners
 
 -- What becomes of the connections and of who stands beside frames: nothing; a connection changes, and keeps its id and
 -- its protocol; or one leaves.
@@ -156,8 +157,8 @@ pub record KeptByHosts (chosen : Choice) (P : Cause → Type 0) (R : Turn → Li
   pub changes : (now : StationState) (t : Turn) → KeepsLinks t.now now → ChangesHosts t.now now
       → R t [] (record t { now = now })
   pub closes : (id : ℕ) (t : Turn) → R t [] (closing id t)
-  -- a frame of no link, beside which nobody stands
-  pub queues : (octets : List ℕ) (t : Turn) → R t [] (queueing None octets t)
+  -- a frame of a connection, of which nobody wants to be told
+  pub queues : (id : ℕ) (octets : List ℕ) (t : Turn) → R t [] (queueing_own id None octets t)
   -- a link whose connection has left
   pub disowns : (key : ℕ) (link : Link) (t : Turn) → link_at key t.now.links ≡ Some link
       → R t [] (changing (with_links (with_link key (without_owner link))) t)
@@ -167,8 +168,8 @@ pub record KeptByAll (chosen : Choice) (P : Cause → Type 0) (R : Turn → List
   pub kept : Kept chosen P R
   pub changes : (now : StationState) (t : Turn) → KeepsLinks t.now now → R t [] (record t { now = now })
   pub closes : (id : ℕ) (t : Turn) → R t [] (closing id t)
-  -- a frame of no link
-  pub queues : (asker : Option Asker) (octets : List ℕ) (t : Turn) → R t [] (queueing_for asker None octets t)
+  -- a frame of a connection
+  pub queues : (id : ℕ) (asker : Option Asker) (octets : List ℕ) (t : Turn) → R t [] (queueing_own id asker octets t)
   -- a link whose connection has left
   pub disowns : (key : ℕ) (link : Link) (t : Turn) → link_at key t.now.links ≡ Some link
       → R t [] (changing (with_links (with_link key (without_owner link))) t)
@@ -180,7 +181,7 @@ hosts_of a = record {
   kept = a.kept;
   changes = λ now t links hosts. a.changes now t links;
   closes = a.closes;
-  queues = λ octets t. a.queues None octets t;
+  queues = λ id octets t. a.queues id None octets t;
   disowns = a.disowns;
 }
 
@@ -328,6 +329,7 @@ module _ (chosen : Choice) (P : Cause → Type 0) (R : Turn → List LinkStep �
           dropped = refl;
           waiting = refl;
           askers = length-map t.now.askers (without_asker id);
+          owners = refl;
         }) (leaves_host id refl refl))
         (along chosen P R a.kept.by_events (giving_up id) (gives_up_at chosen id) (gives_up_kept by id)
         (range_with_len 0 most_links) left)
@@ -349,23 +351,23 @@ module _ (chosen : Choice) (P : Cause → Type 0) (R : Turn → List LinkStep �
 
     -- ---- other messages
 
-    raw_kept : (octets : List ℕ) (t : Turn) → R t [] (queueing_raw octets t)
-    raw_kept octets t = go (has_frame_length octets)
+    raw_kept : (id : ℕ) (octets : List ℕ) (t : Turn) → R t [] (queueing_raw id octets t)
+    raw_kept id octets t = go (has_frame_length octets)
       where
-        go : (b : Bool) → R t [] ((if b then queueing None octets else (λ u. u)) t)
-        go true = a.queues octets t
+        go : (b : Bool) → R t [] ((if b then queueing_own id None octets else (λ u. u)) t)
+        go true = a.queues id octets t
         go false = a.kept.by_events.same t
 
-    unnumbered_kept : (pid : ℕ) (information : List ℕ) (route : Option Route) (t : Turn)
-        → R t [] (sending_unnumbered pid information route t)
-    unnumbered_kept pid information None t = a.kept.by_events.same t
-    unnumbered_kept pid information (Some route) t = go (nat_le (length information) most_information)
+    unnumbered_kept : (id pid : ℕ) (information : List ℕ) (route : Option Route) (t : Turn)
+        → R t [] (sending_unnumbered id pid information route t)
+    unnumbered_kept id pid information None t = a.kept.by_events.same t
+    unnumbered_kept id pid information (Some route) t = go (nat_le (length information) most_information)
       where
         frame : List ℕ
         frame = frame_octets Eight (unnumbered_frame route pid information)
 
-        go : (b : Bool) → R t [] ((if b then queueing None frame else (λ u. u)) t)
-        go true = a.queues frame t
+        go : (b : Bool) → R t [] ((if b then queueing_own id None frame else (λ u. u)) t)
+        go true = a.queues id frame t
         go false = a.kept.by_events.same t
 
     -- a message of each station that was heard
@@ -380,7 +382,7 @@ module _ (chosen : Choice) (P : Cause → Type 0) (R : Turn → List LinkStep �
     unregistering_kept id None t = a.kept.by_events.same t
     unregistering_kept id (Some call) t =
         a.changes (unregistering id (Some call) t).now t
-        (record { links = refl; parameters = refl; dropped = refl; waiting = refl; askers = refl }) (keeps_hosts refl refl)
+        (record { links = refl; parameters = refl; dropped = refl; waiting = refl; askers = refl; owners = refl }) (keeps_hosts refl refl)
 
     -- a call passes
     loser_kept : (other : Option ℕ) (t : Turn) → R t (loser_steps chosen other t) (shutting_loser other t)
@@ -424,17 +426,17 @@ module _ (chosen : Choice) (P : Cause → Type 0) (R : Turn → List LinkStep �
         (unregistering_kept id (call_in message.from) t)) (λ n4.
         by_kind Q n toggle_kind _ _ (chosen_as toggle_kind _
         (a.changes (toggled id t.now) t
-        (record { links = refl; parameters = refl; dropped = refl; waiting = refl; askers = refl })
+        (record { links = refl; parameters = refl; dropped = refl; waiting = refl; askers = refl; owners = refl })
         (turns_host id turned_raw (λ c. refl) (λ c. refl) refl refl))) (λ n5.
         by_kind Q n monitor_kind _ _ (chosen_as monitor_kind _
         (a.changes (monitor_toggled id t.now) t
-        (record { links = refl; parameters = refl; dropped = refl; waiting = refl; askers = refl })
+        (record { links = refl; parameters = refl; dropped = refl; waiting = refl; askers = refl; owners = refl })
         (turns_host id turned_monitor (λ c. refl) (λ c. refl) refl refl))) (λ n6.
-        by_kind Q n raw_kind _ _ (chosen_as raw_kind _ (raw_kept (drop 1 message.body) t)) (λ n7.
+        by_kind Q n raw_kind _ _ (chosen_as raw_kind _ (raw_kept id (drop 1 message.body) t)) (λ n7.
         by_kind Q n unproto_kind _ _ (chosen_as unproto_kind _
-        (unnumbered_kept message.pid message.body (route_in message.from message.to (Some [])) t)) (λ n8.
+        (unnumbered_kept id message.pid message.body (route_in message.from message.to (Some [])) t)) (λ n8.
         by_kind Q n unproto_via_kind _ _ (chosen_as unproto_via_kind _
-        (unnumbered_kept message.pid (behind_repeaters message.body)
+        (unnumbered_kept id message.pid (behind_repeaters message.body)
         (route_in message.from message.to (repeaters_in message.body)) t)) (λ n9.
         by_kind Q n data_kind _ _ (chosen_as data_kind _ (data_kept chosen P R a.kept.by_events may.give message key t))
         (λ no_data.
@@ -476,7 +478,7 @@ module _ (chosen : Choice) (P : Cause → Type 0) (R : Turn → List LinkStep �
 module _ (chosen : Choice) (P : Cause → Type 0) (Q : ℕ → Type 0) (R : Turn → List LinkStep → Turn → Type 0)
     (a : KeptByHosts chosen P R) (shuts : (id : ℕ) (t : Turn) → R t (shut_steps chosen id t) (shutting id t))
     (asks : (id : ℕ) (mark octets : List ℕ) (t : Turn) → Q id
-    → R t [] (queueing_for (Some (record { id = id; mark = mark })) None octets t))
+    → R t [] (queueing_own id (Some (record { id = id; mark = mark })) octets t))
   where
     next_kept : (t u v : Turn) (steps : List LinkStep) → R t [] u → R u steps v → R t steps v
     next_kept t u v steps one two = a.kept.by_events.on t u v [] steps one two
@@ -490,7 +492,7 @@ module _ (chosen : Choice) (P : Cause → Type 0) (Q : ℕ → Type 0) (R : Turn
         asker : Option Asker
         asker = Some (record { id = id; mark = mark })
 
-        go : (b : Bool) → R t [] ((if b then queueing_for asker None octets else (λ u. u)) t)
+        go : (b : Bool) → R t [] ((if b then queueing_own id asker octets else (λ u. u)) t)
         go true = asks id mark octets t may
         go false = a.kept.by_events.same t
 
@@ -502,13 +504,14 @@ module _ (chosen : Choice) (P : Cause → Type 0) (Q : ℕ → Type 0) (R : Turn
         go false = a.kept.by_events.same t
 
     heeding_kept : (id : ℕ) (item : KissItem) (t : Turn) → Q id → R t [] (heeding id item t)
-    heeding_kept id (KissFrame port octets) t may = on_port_kept port (queueing_raw octets) t (raw_kept chosen P R a shuts octets t)
+    heeding_kept id (KissFrame port octets) t may = on_port_kept port (queueing_raw id octets) t
+        (raw_kept chosen P R a shuts id octets t)
     heeding_kept id (AckFrame port mark octets) t may =
         on_port_kept port (queueing_asked id mark octets) t (asked_kept id mark octets t may)
     heeding_kept id (Set port command value) t may =
         on_port_kept port (changing (with_param (param_of command value))) t
         (a.changes (with_param (param_of command value) t.now) t
-        (record { links = refl; parameters = refl; dropped = refl; waiting = refl; askers = refl }) (keeps_hosts refl refl))
+        (record { links = refl; parameters = refl; dropped = refl; waiting = refl; askers = refl; owners = refl }) (keeps_hosts refl refl))
     heeding_kept id (Hardware port octets) t may = a.kept.by_events.same t
     heeding_kept id Return t may = a.kept.by_events.same t
     heeding_kept id (TooLong port) t may = a.kept.by_events.same t
@@ -525,7 +528,7 @@ module _ (chosen : Choice) (P : Cause → Type 0) (Q : ℕ → Type 0) (R : Turn
     taking_kept : (id : ℕ) (octets : List ℕ) (t : Turn) → R t [] (taking id octets t)
     taking_kept id octets t =
         a.changes (taking id octets t).now t
-        (record { links = refl; parameters = refl; dropped = refl; waiting = refl; askers = refl })
+        (record { links = refl; parameters = refl; dropped = refl; waiting = refl; askers = refl; owners = refl })
         (turns_host id (with_octets t.now.ticks octets) (λ c. refl) (λ c. refl) refl refl)
 
     octets_kept_by :
@@ -562,11 +565,11 @@ module _ (chosen : Choice) (P : Cause → Type 0) (Q : ℕ → Type 0) (R : Turn
 module _ (chosen : Choice) (P : Cause → Type 0) (Q : ℕ → Type 0) (R : Turn → List LinkStep → Turn → Type 0)
     (a : KeptByHosts chosen P R) (shuts : (id : ℕ) (t : Turn) → R t (shut_steps chosen id t) (shutting id t))
     (asks : (id : ℕ) (mark octets : List ℕ) (t : Turn) → Q id
-    → R t [] (queueing_for (Some (record { id = id; mark = mark })) None octets t))
+    → R t [] (queueing_own id (Some (record { id = id; mark = mark })) octets t))
     (joins : (id : ℕ) (kind : PortKind) (t : Turn) → R t [] (changing (with_host id kind) t))
   where
     joining_kept : (id : ℕ) (kind : PortKind) (t : Turn) → R t [] (joining id kind t)
-    joining_kept id kind t = go (nat_lt (length t.now.connections) most_connections)
+    joining_kept id kind t = go (has_place t.now)
       where
         go : (b : Bool) → R t [] (cond b (changing (with_host id kind) t) (closing id t))
         go true =
@@ -588,7 +591,7 @@ pub any_kept :
     → (event : HostEvent) (t u : Turn) (h : IsHostTurn event t u) → R t (host_steps chosen event t u h) u
 any_kept chosen R a event t u h =
     host_kept chosen NotHeard AnyHost R (hosts_of a) (shut_kept chosen NotHeard R (hosts_of a) tt)
-    (λ id mark octets v may. a.queues (Some (record { id = id; mark = mark })) octets v)
+    (λ id mark octets v may. a.queues id (Some (record { id = id; mark = mark })) octets v)
     (λ id kind v. a.changes (with_host id kind v.now) v
-    (record { links = refl; parameters = refl; dropped = refl; waiting = refl; askers = refl }))
+    (record { links = refl; parameters = refl; dropped = refl; waiting = refl; askers = refl; owners = refl }))
     event t u (any_may_come event t.now) h

@@ -1,11 +1,11 @@
 -- The answers for the frames of a connection that wait: what host programs, links and heard frames leave of them.
-use Rattle.station_laws.proofs.Common.{◌≡◌, ◌≢◌, ℕ, ◌==◌, Bool, true, false, not, nat_lt, List, [], ◌∷◌, ◌++◌}
+use Rattle.station_laws.proofs.Common.{◌≡◌, ◌≢◌, ℕ, ◌==◌, Bool, true, false, not, List, [], ◌∷◌, ◌++◌}
 use Rattle.station_laws.proofs.Common.{length, cond, Option, Some, None, is_some, refl, sym, ap, ◌∙◌}
 use Rattle.station_laws.proofs.Common.{append-nil, append_assoc, eqb-true, false≢true, cases_eq, inl, inr}
 use Rattle.station_laws.proofs.Common.{Callsign, SentFrame, Told, frame_octets, Event, step, done_of, settled_link, with_links}
 use Rattle.station_laws.proofs.Common.{telling_one, telling_to, queueing_frame, queueing_frames, event_at, event_of}
 use Rattle.station_laws.proofs.Common.{Link, link_at, making, path_along, called_pid, Turn, changing, closing}
-use Rattle.station_laws.proofs.Common.{queueing, queueing_for, entering_for, dropping, capacity, Asker, StationState}
+use Rattle.station_laws.proofs.Common.{queueing_for, queueing_own, entering_for, dropping, may_enter, Asker, StationState}
 use Rattle.station_laws.proofs.Common.{Connection, connection_of, LinkStep}
 use Rattle.std.proofs.lemmas.Bool.{false_from_ne_true}
 use Rattle.link_machine.specs.Event.Event.{Connect as LinkConnect}
@@ -147,11 +147,11 @@ stand_on id t u v one two = record {
   waits = two.waits ∙ one.waits;
 }
 
-pub queued_stand : (id : ℕ) (asker : Option Asker) (link : Option ℕ) (octets : List ℕ) (turn : Turn)
-    → answer_for id asker ≡ [] → Stand id turn (queueing_for asker link octets turn)
-queued_stand id asker link octets turn none = go (nat_lt (length turn.now.channel.waiting) capacity)
+pub queued_stand : (id : ℕ) (owner : Option ℕ) (asker : Option Asker) (link : Option ℕ) (octets : List ℕ) (turn : Turn)
+    → answer_for id asker ≡ [] → Stand id turn (queueing_for owner asker link octets turn)
+queued_stand id owner asker link octets turn none = go (may_enter owner turn.now)
   where
-    go : (b : Bool) → Stand id turn (cond b (entering_for asker link octets turn) (dropping turn))
+    go : (b : Bool) → Stand id turn (cond b (entering_for owner asker link octets turn) (dropping turn))
     go true = record { connections = refl; waits = waiting_other id turn.now.askers asker none }
     go false = record { connections = refl; waits = refl }
 
@@ -159,7 +159,7 @@ frames_wait : (id key : ℕ) (frames : List SentFrame) (turn : Turn)
     → waiting_answers id (queueing_frames key frames turn).now.askers ≡ waiting_answers id turn.now.askers
 frames_wait id key [] turn = refl
 frames_wait id key (f ∷ frames) turn =
-    frames_wait id key frames (queueing_frame key f turn) ∙ (queued_stand id None (Some key) (frame_octets f.modulus f.frame) turn refl).waits
+    frames_wait id key frames (queueing_frame key f turn) ∙ (queued_stand id None None (Some key) (frame_octets f.modulus f.frame) turn refl).waits
 
 told_wait :
     (id : ℕ) (owner : Option ℕ) (local remote : Callsign) (told : List Told) (turn : Turn)
@@ -269,6 +269,7 @@ leaves_kept id = record {
   };
   changes = λ now t links hosts. changed_leaves id now t hosts;
   closes = λ host t. alike id t (closing host t) [] refl refl;
-  queues = λ octets t. by_stand id t (queueing None octets t) [] (queued_stand id None None octets t refl);
+  queues = λ host octets t.
+      by_stand id t (queueing_own host None octets t) [] (queued_stand id (Some host) None None octets t refl);
   disowns = λ key link t at. alike id t _ [] refl refl;
 }

@@ -1,5 +1,5 @@
 -- What a KISS host is told of its frames over a whole run (command 12, ACKMODE), from when it joins.
-use Rattle.std.specs.Prelude.{◌≡◌, ℕ, ◌==◌, nat_lt, ◌&&◌, if◌then◌else◌, List, [], ◌∷◌, ◌++◌, length, Option, Some, None}
+use Rattle.std.specs.Prelude.{◌≡◌, ℕ, ◌==◌, ◌&&◌, if◌then◌else◌, List, [], ◌∷◌, ◌++◌, length, Option, Some, None}
 use Rattle.std.specs.List.{flat_map}
 use Rattle.hdlc_framer.specs.FrameLength.{has_frame_length}
 use Rattle.kiss_port.specs.declared.item.KissItem.{KissItem}
@@ -17,7 +17,7 @@ use Rattle.station.specs.Connections.{Connection, connection_of}
 use Rattle.station.specs.Host.{new_items, taking}
 use Rattle.station.specs.Kiss.{heeding}
 use Rattle.station.specs.State.{StationState}
-use Rattle.station.specs.Turn.{Turn, begin, capacity}
+use Rattle.station.specs.Turn.{Turn, begin, may_enter}
 use Rattle.station_laws.specs.FramesTold.{answer_for, answers_to, asker_in}
 use Rattle.station_laws.specs.JointRun.{Input, IsJointRun, Step, all_stepped, new_stations, state_of}
 use Rattle.station_laws.specs.JointRun.Input.{FromHost, OffAir, OfClock}
@@ -28,7 +28,7 @@ use Rattle.station_laws.specs.JointRun.Input.{FromHost, OffAir, OfClock}
 abbrev pub asks_item : ℕ → KissItem → Turn → List Piece
 asks_item id (Frame port octets) turn = []
 asks_item id (AckFrame port mark octets) turn =
-    if (port == 0) && (has_frame_length octets && nat_lt (length turn.now.channel.waiting) capacity)
+    if (port == 0) && (has_frame_length octets && may_enter (Some id) turn.now)
     then answer_of (record { id = id; mark = mark }) ∷ [] else []
 asks_item id (Set port command value) turn = []
 asks_item id (Hardware port octets) turn = []

@@ -48,9 +48,9 @@ AnswersAreOfSent =
     (step : Step) (id : ℕ) → speaks_kiss id step.before.connections ≡ true
     → answers_to id step.after.out.pieces ≡ answer_for id (asker_in step.input (begin step.before))
 
--- who wants to be told stands beside each frame that waits
+-- who wants to be told, and whose it is, stands beside each frame that waits
 abbrev pub StandBeside : StationState → Type 0
-StandBeside s = length s.askers ≡ length s.channel.waiting
+StandBeside s = (length s.askers ≡ length s.channel.waiting) × (length s.owners ≡ length s.channel.waiting)
 
 abbrev pub AskersStandBeside : Type 0
 AskersStandBeside =

@@ -13,6 +13,8 @@ pub mod StationsLaw
 pub mod Owners
 pub mod ProgramsTold
 pub mod FramesTold
+pub mod OwnRoom
+pub mod OneFrameEnds
 pub mod AnswersOverRuns
 pub mod LinksTell
 pub mod RunsTell

@@ -7,7 +7,9 @@ ghost use Rattle.station_laws.specs.HostsAsk.{HostsAskNothing};
 ghost use Rattle.station_laws.specs.LinksTell.{LinksTellInOne};
 ghost use Rattle.station_laws.specs.MatchedLaw.{MatchedInOrder, MatchedLaw};
 ghost use Rattle.station_laws.specs.OneSpelling.{CallTextsAgree, WrittenFramesAgree};
+ghost use Rattle.station_laws.specs.OneFrameEnds.{OneFrameEnds};
 ghost use Rattle.station_laws.specs.OneTurn.{OneTurn};
+ghost use Rattle.station_laws.specs.OwnRoom.{OwnRoom};
 ghost use Rattle.station_laws.specs.Owners.{OwnersAreTold};
 ghost use Rattle.station_laws.specs.ProgramsTold.{ProgramsAreTold};
 ghost use Rattle.station_laws.specs.RunsTell.{RunsTellInOne};
@@ -91,6 +93,20 @@ pub fn programs_are_told()
 /// and the answer has the two octets by which it knows that frame. No other act sends one.
 pub fn answers_are_of_sent()
     ensures { AnswersAreOfSent }
+{}
+
+/// In each state of a run no more than four frames of a connection wait that it gave as they stand, and one more of it finds
+/// room in the transmit queue exactly if fewer than four of its own wait, if the connection is there. What other
+/// connections and the links send does not matter.
+pub fn own_room()
+    ensures { OwnRoom }
+{}
+
+/// In a piece of 17 octets of a connection no more than one frame ends that it gives as it stands: no more than one item of
+/// KISS is as long as a frame, and no more than one message of AGWPE ends. So with [`own_room`] a connection whose octets
+/// come in such pieces, each while fewer than four frames of its own wait, has none of them dropped.
+pub fn one_frame_ends()
+    ensures { OneFrameEnds }
 {}
 
 /// In each state of a run one stands beside each frame that waits to be sent, or nobody does. A step names the front

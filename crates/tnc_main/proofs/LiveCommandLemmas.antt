@@ -3,17 +3,18 @@ use Rattle.tnc_main.proofs.Common.{◌≡◌, ℕ, ◌≤◌, List, Option, Some
 use Rattle.tnc_main.proofs.Common.{BenchOptions, Command, Bench, Loop, Serve, Record, Call, LoopWords, RecordOptions}
 use Rattle.tnc_main.proofs.Common.{Asks, one_command, Reads, ReadsNothing, CanRunLive, command_of, WritesAtEnd, Job}
 use Rattle.tnc_main.proofs.Common.{CanRun}
-use Rattle.std.proofs.Common.{Bool, true, false}
+use Rattle.std.proofs.Common.{Bool, true, false, ◌||◌}
+use Rattle.std.specs.Prelude.{is_some}
 use Rattle.link_world.proofs.WindowLemmas.{none_refused}
 use Rattle.tnc_words.specs.Commands.{IsBench, IsLoop}
 use Rattle.slicer_bank.specs.Detection.{CanBeAsked}
-use Rattle.live_receiver.specs.declared.listening.Listening.TheVariants.{ShortWave}
+use Rattle.live_receiver.specs.declared.listening.Listening.TheVariants.{ShortWave, Fx25}
 use Rattle.live_receiver.specs.Listening.{CanBeAskedBy}
 use Rattle.tnc_words.specs.Carriers.{HasDcd}
 use Rattle.tnc_words.specs.Numbers.{HasNumber}
 use Rattle.tnc_words.specs.StationModems.{IsStationModem}
 use Rattle.tnc_words.specs.declared.command.StationModem.{StationModem}
-use Rattle.tnc_words.specs.declared.command.StationModem.TheVariants.{Bell202 as OfBell202, ShortWave as OfShortWave}
+use Rattle.tnc_words.specs.declared.command.StationModem.TheVariants.{Bell202 as OfBell202, ShortWave as OfShortWave, Fx25 as OfFx25}
 use Rattle.tnc_words.specs.declared.command.Dcd.{Dcd}
 use Rattle.tnc_words.specs.declared.command.Dcd.TheVariants.{Tones as ByTones, Flags as ByFlags}
 use Rattle.tnc_main.specs.Serving.{detection_of, listening_of}
@@ -117,23 +118,42 @@ asked_plainly text ByTones h = tt
 asked_plainly None (ByFlags count) h = absurd (flags_are_no_tones count h)
 asked_plainly (Some text) (ByFlags count) h = (h.1, h.2)
 
-asked_on_wave : (text : Option (List ℕ)) (dcd : Dcd) → HasDcd true text dcd → CanBeAskedBy ShortWave (detection_of dcd)
-asked_on_wave None dcd h =
-    subst (λ d. CanBeAskedBy ShortWave (detection_of d)) (sym h) (omega arith, omega arith)
-asked_on_wave (Some text) ByTones h = absurd h
-asked_on_wave (Some text) (ByFlags count) h = (let least = h.1 in omega arith, h.2)
+-- flags in a row can be
+asked_by_flags : (text : Option (List ℕ)) (dcd : Dcd) → HasDcd true text dcd
+    → (count : ℕ) × (dcd ≡ ByFlags count) × (1 ≤ count) × (count ≤ 8)
+asked_by_flags None dcd h = (3, h, omega arith, omega arith)
+asked_by_flags (Some text) ByTones h = absurd h
+asked_by_flags (Some text) (ByFlags count) h = (count, refl, (let least = h.1 in omega arith), h.2)
 
-can_be_asked : (hf sensitive : Bool) (text : Option (List ℕ)) (dcd : Dcd) (modem : StationModem) → HasDcd hf text dcd
-    → IsStationModem hf sensitive modem → CanBeAskedBy (listening_of modem) (detection_of dcd)
-can_be_asked hf sensitive text dcd (OfBell202 more) h is =
-    asked_plainly text dcd (subst (λ b. HasDcd b text dcd) is.0 h)
-can_be_asked hf sensitive text dcd OfShortWave h is = asked_on_wave text dcd (subst (λ b. HasDcd b text dcd) is.0 h)
+asked_on_wave : (sensitive : Bool) (text : Option (List ℕ)) (dcd : Dcd) → HasDcd true text dcd
+    → CanBeAskedBy (ShortWave sensitive) (detection_of dcd)
+asked_on_wave sensitive text dcd h =
+    let by = asked_by_flags text dcd h in
+    subst (λ d. CanBeAskedBy (ShortWave sensitive) (detection_of d)) (sym by.1) (by.2, by.3)
+
+asked_of_blocks : (text : Option (List ℕ)) (dcd : Dcd) → HasDcd true text dcd → CanBeAskedBy Fx25 (detection_of dcd)
+asked_of_blocks text dcd h =
+    let by = asked_by_flags text dcd h in
+    subst (λ d. CanBeAskedBy Fx25 (detection_of d)) (sym by.1) (by.2, by.3)
+
+can_be_asked : (hf sensitive : Bool) (checks text : Option (List ℕ)) (dcd : Dcd) (modem : StationModem)
+    → HasDcd (hf || is_some checks) text dcd → IsStationModem hf sensitive checks modem
+    → CanBeAskedBy (listening_of modem) (detection_of dcd)
+can_be_asked hf sensitive None text dcd (OfBell202 more) h is =
+    asked_plainly text dcd (subst (λ b. HasDcd (b || false) text dcd) is.0 h)
+can_be_asked hf sensitive None text dcd (OfShortWave more) h is =
+    asked_on_wave more text dcd (subst (λ b. HasDcd (b || false) text dcd) is.0 h)
+can_be_asked hf sensitive None text dcd (OfFx25 more) h is = absurd is
+can_be_asked hf sensitive (Some checks) text dcd (OfBell202 more) h is = absurd is
+can_be_asked hf sensitive (Some checks) text dcd (OfShortWave more) h is = absurd is
+can_be_asked hf sensitive (Some checks) text dcd (OfFx25 more) h is =
+    asked_of_blocks text dcd (subst (λ b. HasDcd (b || true) text dcd) is.0 h)
 
 -- the options of a live command that words ask for are within their ranges
 pub can_run_live : (words : List (List ℕ)) (live : LiveCommand) → Asks words (command_of live) → CanRunLive live
 can_run_live words (LiveServe options) h = (
   λ window. none_refused options.params window h.options.params.fit,
-  can_be_asked _ _ _ options.dcd options.modem h.options.dcd
+  can_be_asked _ _ _ _ options.dcd options.modem h.options.dcd
       h.options.modem,
 )
 can_run_live words (LiveRecord options) h =

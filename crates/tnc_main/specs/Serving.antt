@@ -4,10 +4,14 @@ use Rattle.tnc_base.specs.Faults.{HasRisen}
 use Rattle.tnc_base.specs.Streams.{WrotePart}
 use Rattle.slicer_bank.specs.declared.detection.Detection.{Detection}
 use Rattle.slicer_bank.specs.declared.detection.Detection.TheVariants.{Tones, Flags}
+use Rattle.channel_access.specs.declared.modem.CheckOctets.{CheckOctets as ChannelOctets}
+use Rattle.channel_access.specs.declared.modem.CheckOctets.TheVariants.{Sixteen as ChannelSixteen, ThirtyTwo as ChannelThirtyTwo, SixtyFour as ChannelSixtyFour}
+use Rattle.tnc_words.specs.declared.command.CheckOctets.{CheckOctets}
+use Rattle.tnc_words.specs.declared.command.CheckOctets.TheVariants.{Sixteen, ThirtyTwo, SixtyFour}
 use Rattle.channel_access.specs.declared.modem.Modem.{Modem}
-use Rattle.channel_access.specs.declared.modem.Modem.TheVariants.{Bell202 as SendsBell202, ShortWave as SendsShortWave}
+use Rattle.channel_access.specs.declared.modem.Modem.TheVariants.{Bell202 as SendsBell202, ShortWave as SendsShortWave, Fx25 as SendsFx25}
 use Rattle.live_receiver.specs.declared.listening.Listening.{Listening}
-use Rattle.live_receiver.specs.declared.listening.Listening.TheVariants.{Bell202, ShortWave}
+use Rattle.live_receiver.specs.declared.listening.Listening.TheVariants.{Bell202, ShortWave, Fx25}
 use Rattle.channel_access.specs.declared.parameters.Parameters.{Parameters}
 use Rattle.tnc_words.specs.declared.command.ChannelOptions.{ChannelOptions}
 use Rattle.tnc_words.specs.declared.command.Dcd.{Dcd}
@@ -17,7 +21,7 @@ use Rattle.tnc_words.specs.declared.command.SampleRate.{SampleRate}
 use Rattle.tnc_words.specs.declared.command.SampleRate.TheVariants.{Narrow as NarrowWords, Wide as WideWords}
 use Rattle.tnc_words.specs.declared.command.ServeOptions.{ServeOptions}
 use Rattle.tnc_words.specs.declared.command.StationModem.{StationModem}
-use Rattle.tnc_words.specs.declared.command.StationModem.TheVariants.{Bell202 as OfBell202, ShortWave as OfShortWave}
+use Rattle.tnc_words.specs.declared.command.StationModem.TheVariants.{Bell202 as OfBell202, ShortWave as OfShortWave, Fx25 as OfFx25}
 use Rattle.tnc_forms.specs.declared.fault.InputFault.TheVariants.{TooLong as InputTooLong}
 use Rattle.sound_rate.specs.declared.rate.Rate.{Rate}
 use Rattle.sound_rate.specs.declared.rate.Rate.TheVariants.{Narrow, Wide}
@@ -42,11 +46,19 @@ detection_of (ByFlags count) = Flags count
 -- how a station of a modem listens, and by what it sends
 abbrev pub listening_of : StationModem → Listening
 listening_of (OfBell202 sensitive) = Bell202 sensitive
-listening_of OfShortWave = ShortWave
+listening_of (OfShortWave sensitive) = ShortWave sensitive
+listening_of (OfFx25 checks) = Fx25
+
+abbrev pub octets_sent : CheckOctets → ChannelOctets
+octets_sent Sixteen = ChannelSixteen
+octets_sent ThirtyTwo = ChannelThirtyTwo
+octets_sent SixtyFour = ChannelSixtyFour
 
 abbrev pub sending_of : StationModem → Modem
 sending_of (OfBell202 sensitive) = SendsBell202
-sending_of OfShortWave = SendsShortWave
+sending_of (OfShortWave sensitive) = SendsShortWave
+sending_of (OfFx25 None) = SendsBell202
+sending_of (OfFx25 (Some checks)) = SendsFx25 (octets_sent checks)
 
 -- how many samples a second come and go
 abbrev pub rate_of : SampleRate → Rate

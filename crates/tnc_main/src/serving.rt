@@ -8,12 +8,12 @@ ghost use Rattle.tnc_ports.specs.ServeRun.{input_by};
 ghost use Rattle.tnc_main.specs.declared.status.Status.{Status};
 ghost use Rattle.live_receiver.specs.Listening.{CanBeAskedBy};
 ghost use Rattle.tnc_main.specs.Serving.{IsServedInWant, IsToldAs, Serves, detection_of, last_line, status_of_end};
-ghost use Rattle.tnc_main.specs.Serving.{channel_of, key_of, listening_of, rate_of, seed_of, sending_of, words_of};
+ghost use Rattle.tnc_main.specs.Serving.{channel_of, key_of, listening_of, octets_sent, rate_of, seed_of, sending_of, words_of};
 ghost use Rattle.tnc_main.specs.Status.{code_of, IsLiveCode};
 
 use crate::report::{NO_PORT, TOO_LONG, told};
 use crate::status::Status;
-use channel_access::{Modem, Parameters};
+use channel_access::{CheckOctets as ChannelOctets, Modem, Parameters};
 use host_ports::{Listen, Ports};
 use key_port::KeyPort;
 use keying::Words;
@@ -27,7 +27,9 @@ use std::sync::Wait;
 use std::thread::Threads;
 use tnc_base::{Sink, Source};
 use tnc_ports::{KeyWords, Live, ServeEnd, ServeWords, Spawner};
-use tnc_words::{ChannelOptions, Dcd, PttOptions, SampleRate, ServeOptions, StationModem};
+use tnc_words::{
+    ChannelOptions, CheckOctets, Dcd, PttOptions, SampleRate, ServeOptions, StationModem,
+};
 
 /// Serves hosts until the input ends, tells how that ended, and answers the exit status. It may wait for the input.
 pub(crate) fn serve<
@@ -169,7 +171,8 @@ fn listening(modem: StationModem) -> Listening
 {
     match modem {
         StationModem::Bell202 { sensitive } => Listening::Bell202 { sensitive },
-        StationModem::ShortWave => Listening::ShortWave,
+        StationModem::ShortWave { sensitive } => Listening::ShortWave { sensitive },
+        StationModem::Fx25 { .. } => Listening::Fx25,
     }
 }
 
@@ -188,8 +191,22 @@ fn sending(modem: StationModem) -> Modem
     ensures { result ≡ sending_of modem }
 {
     match modem {
-        StationModem::Bell202 { .. } => Modem::Bell202,
-        StationModem::ShortWave => Modem::ShortWave,
+        StationModem::Bell202 { .. } | StationModem::Fx25 { checks: None } => Modem::Bell202,
+        StationModem::Fx25 {
+            checks: Some(checks),
+        } => Modem::Fx25(octets_sent(checks)),
+        StationModem::ShortWave { .. } => Modem::ShortWave,
+    }
+}
+
+/// The check octets that it sends.
+fn octets_sent(checks: CheckOctets) -> ChannelOctets
+    ensures { result ≡ octets_sent checks }
+{
+    match checks {
+        CheckOctets::Sixteen => ChannelOctets::Sixteen,
+        CheckOctets::ThirtyTwo => ChannelOctets::ThirtyTwo,
+        CheckOctets::SixtyFour => ChannelOctets::SixtyFour,
     }
 }
 

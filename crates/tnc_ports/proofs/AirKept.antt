@@ -1,6 +1,6 @@
 -- Nothing but a tick begins or ends a transmission: no event of a host program, and no frame that is heard.
 use Rattle.std.proofs.Common.{◌≡◌, ℕ, List, [], ◌∷◌, refl, ap, inl, inr, ◌∙◌}
-use Rattle.std.specs.Prelude.{◌==◌, ◌++◌, length, nat_le, nat_lt, Bool, true, false, if◌then◌else◌, is_some, map}
+use Rattle.std.specs.Prelude.{◌==◌, ◌++◌, length, nat_le, Bool, true, false, if◌then◌else◌, is_some, map}
 use Rattle.std.specs.Prelude.{Option, Some, None, MatchBool, drop}
 use Rattle.std.specs.List.{range_with_len}
 use Rattle.ax25_address.specs.Callsign.{Callsign}
@@ -32,12 +32,12 @@ use Rattle.station.specs.AgwRequests.{registering, replying, sending_unnumbered,
 use Rattle.station.specs.AgwRequests.{unregistering, version_reply, waiting_reply, with_registration}
 use Rattle.station.specs.AgwRequests.{capabilities_reply, ports_reply}
 use Rattle.station.specs.CallFields.{call_in}
-use Rattle.station.specs.Connections.{Connection, connection_of, most_connections}
+use Rattle.station.specs.Connections.{Connection, connection_of}
 use Rattle.station.specs.FrameSpelling.{frame_octets}
 use Rattle.station.specs.Heard.{AreHeardAt, IsHeard, IsHeardAnew, IsHeardBy, IsHeardMaking, IsReadingHeardAnew}
 use Rattle.station.specs.Heard.{IsRepeatedFor, destination_field, hearing_at, may_make, showing, showing_to}
 use Rattle.station.specs.Heard.{shown_to_hosts, source_field, waits_for_repeater}
-use Rattle.station.specs.Host.{AreTaken, AreTakenBy, IsHostTurn, ending, joining, new_items, new_messages, taking}
+use Rattle.station.specs.Host.{AreTaken, AreTakenBy, IsHostTurn, ending, has_place, joining, new_items, new_messages, taking}
 use Rattle.station.specs.Host.{with_host}
 use Rattle.station.specs.Kiss.{heeding, heeding_all, param_of, queueing_asked, with_param}
 use Rattle.station.specs.Leaving.{giving_up, giving_up_all, giving_up_link, leaving, without_host, without_owner}
@@ -48,7 +48,7 @@ use Rattle.station.specs.Passing.{loser, passing, shutting_loser}
 use Rattle.station.specs.Registrations.{is_number, may_register, registrar}
 use Rattle.station.specs.Routes.{Route, behind_repeaters, path_along, repeaters_in, route_in}
 use Rattle.station.specs.State.{StationState}
-use Rattle.station.specs.Turn.{Turn, Act, changing, closing, in_order, nothing, queueing, queueing_for}
+use Rattle.station.specs.Turn.{Turn, Act, changing, closing, in_order, nothing, queueing, queueing_for, queueing_own}
 use Rattle.station.specs.declared.asker.Asker.{Asker}
 use Rattle.station.specs.declared.host_event.HostEvent.{HostEvent}
 use Rattle.station.specs.declared.host_event.HostEvent.TheVariants.{Joined, Bytes, Left}
@@ -92,9 +92,9 @@ in_turn f each xs turn =
 event_keeps : (key : ℕ) (event : Event) → Keeps (event_at key event)
 event_keeps key event turn = at_keeps (Option OnAir) (λ (c : Channel). c.air) (λ link octets c. refl) key event turn
 
-queue_keeps : (link : Option ℕ) (octets : List ℕ) → Keeps (queueing link octets)
-queue_keeps link octets turn =
-    queueing_keeps (Option OnAir) (λ (c : Channel). c.air) (λ link octets c. refl) None link octets turn
+queue_keeps : (owner : Option ℕ) (asker : Option Asker) (octets : List ℕ) → Keeps (queueing_for owner asker None octets)
+queue_keeps owner asker octets turn =
+    queueing_keeps (Option OnAir) (λ (c : Channel). c.air) (λ link octets c. refl) owner asker None octets turn
 
 -- ---- a host program leaves
 
@@ -116,15 +116,17 @@ ending_keeps id true turn = leaving_keeps id (closing id turn)
 
 -- ---- AGWPE messages
 
-raw_keeps : (octets : List ℕ) → Keeps (queueing_raw octets)
-raw_keeps octets turn = by_test (has_frame_length octets) (queueing None octets) (queue_keeps None octets) turn
+raw_keeps : (id : ℕ) (octets : List ℕ) → Keeps (queueing_raw id octets)
+raw_keeps id octets turn =
+    by_test (has_frame_length octets) (queueing_own id None octets) (queue_keeps (Some id) None octets) turn
 
-unnumbered_keeps : (pid : ℕ) (information : List ℕ) (route : Option Route)
-    → Keeps (sending_unnumbered pid information route)
-unnumbered_keeps pid information None turn = refl
-unnumbered_keeps pid information (Some route) turn =
+unnumbered_keeps : (id pid : ℕ) (information : List ℕ) (route : Option Route)
+    → Keeps (sending_unnumbered id pid information route)
+unnumbered_keeps id pid information None turn = refl
+unnumbered_keeps id pid information (Some route) turn =
     let octets : List ℕ = frame_octets Eight (unnumbered_frame route pid information) in
-    by_test (nat_le (length information) most_information) (queueing None octets) (queue_keeps None octets) turn
+    by_test (nat_le (length information) most_information) (queueing_own id None octets)
+    (queue_keeps (Some id) None octets) turn
 
 registering_keeps : (id : ℕ) (from : List ℕ) (call : Option Callsign) → Keeps (registering id from call)
 registering_keeps id from None turn = refl
@@ -176,11 +178,11 @@ else_keeps id message turn =
     (chosen (n == unregister_kind) _ _ turn (unregistering_keeps id (call_in message.from) turn)
     (chosen (n == toggle_kind) _ _ turn refl
     (chosen (n == monitor_kind) _ _ turn refl
-    (chosen (n == raw_kind) _ _ turn (raw_keeps (drop 1 message.body) turn)
+    (chosen (n == raw_kind) _ _ turn (raw_keeps id (drop 1 message.body) turn)
     (chosen (n == unproto_kind) _ _ turn
-    (unnumbered_keeps message.pid message.body (route_in message.from message.to (Some [])) turn)
+    (unnumbered_keeps id message.pid message.body (route_in message.from message.to (Some [])) turn)
     (chosen (n == unproto_via_kind) _ _ turn
-    (unnumbered_keeps message.pid (behind_repeaters message.body)
+    (unnumbered_keeps id message.pid (behind_repeaters message.body)
     (route_in message.from message.to (repeaters_in message.body)) turn)
     (chosen (n == data_kind) _ _ turn (data_keeps message key turn)
     (chosen (n == disconnect_kind) _ _ turn (disconnecting_keeps key turn)
@@ -221,12 +223,11 @@ answers_keep id (message ∷ messages) before after (between, first, others) =
 asked_keeps : (id : ℕ) (mark octets : List ℕ) → Keeps (queueing_asked id mark octets)
 asked_keeps id mark octets turn =
     let asker : Option Asker = Some (record { id = id; mark = mark }) in
-    by_test (has_frame_length octets) (queueing_for asker None octets)
-    (queueing_keeps (Option OnAir) (λ (c : Channel). c.air) (λ link octets c. refl) asker None octets) turn
+    by_test (has_frame_length octets) (queueing_own id asker octets) (queue_keeps (Some id) asker octets) turn
 
 heeding_keeps : (id : ℕ) (item : KissItem) → Keeps (heeding id item)
 heeding_keeps id (KissFrame port octets) turn =
-    chosen (port == 0) (queueing_raw octets turn) turn turn (raw_keeps octets turn) refl
+    chosen (port == 0) (queueing_raw id octets turn) turn turn (raw_keeps id octets turn) refl
 heeding_keeps id (AckFrame port mark octets) turn =
     chosen (port == 0) (queueing_asked id mark octets turn) turn turn (asked_keeps id mark octets turn) refl
 heeding_keeps id (Set port command value) turn =
@@ -263,7 +264,7 @@ pub host_keeps : (event : HostEvent) (before after : Turn) → IsHostTurn event 
     → after.now.channel.air ≡ before.now.channel.air
 host_keeps (Joined id kind) before after is =
     same_as before after (joining id kind before) is
-    (chosen (nat_lt (length before.now.connections) most_connections) (changing (with_host id kind) before)
+    (chosen (has_place before.now) (changing (with_host id kind) before)
     (closing id before) before refl refl)
 host_keeps (Bytes id octets) before after is = taken (connection_of id before.now.connections) octets before after is
 host_keeps (Left id) before after is = same_as before after (leaving id before) is (leaving_keeps id before)
@@ -283,7 +284,8 @@ repeated_keeps : (digi : Option Callsign) (octets : List ℕ) (before after : Tu
     → IsRepeatedFor digi octets before after → Same before after
 repeated_keeps None octets before after is = ap air_in is
 repeated_keeps (Some call) octets before after (inl (k, turn, is)) =
-    same_as before after (queueing None (repeated octets k) before) is (queue_keeps None (repeated octets k) before)
+    same_as before after (queueing None (repeated octets k) before) is
+    (queue_keeps None None (repeated octets k) before)
 repeated_keeps (Some call) octets before after (inr (none, is)) = ap air_in is
 
 anew_keeps : (owner : Option ℕ) (frame : Frame) (before after : Turn) → IsHeardAnew owner frame before after

@@ -1,7 +1,7 @@
 -- The links' part of a tick leaves of the channel as it was what frames that join its queue leave so, such as its
 -- parameters and the transmission under way.
 use Rattle.std.proofs.Common.{◌≡◌, ℕ, List, [], ◌∷◌, length, refl, ◌∙◌}
-use Rattle.std.specs.Prelude.{Bool, true, false, if◌then◌else◌, nat_lt, map, Option, Some, None}
+use Rattle.std.specs.Prelude.{Bool, true, false, if◌then◌else◌, map, Option, Some, None}
 use Rattle.std.specs.List.{range_with_len}
 use Rattle.ax25_address.specs.Callsign.{Callsign}
 use Rattle.channel_access.specs.Channel.{Channel, with_frame}
@@ -17,7 +17,7 @@ use Rattle.station.specs.LinkEvents.{event_at, event_of, giving, queueing_frame,
 use Rattle.station.specs.LinkEvents.{settled_link, telling_one, telling_to, with_links}
 use Rattle.station.specs.Links.{Link, link_at, most_links}
 use Rattle.station.specs.Ticks.{asked_links, t1_stands, ticking_at, ticking_links}
-use Rattle.station.specs.Turn.{Turn, Act, capacity, changing, dropping, entering_for, in_order, queueing_for}
+use Rattle.station.specs.Turn.{Turn, Act, changing, dropping, entering_for, in_order, queueing_for, may_enter}
 use Rattle.station.specs.declared.asker.Asker.{Asker}
 
 -- one of two by a test, both of which are the same in some part
@@ -39,14 +39,15 @@ module _ (A : Type 0) (part : Channel → A)
     order_keeps f each [] turn = refl
     order_keeps f each (x ∷ xs) turn = order_keeps f each xs (f x turn) ∙ each x turn
 
-    pub queueing_keeps : (asker : Option Asker) (link : Option ℕ) (octets : List ℕ)
-        → Keeps (queueing_for asker link octets)
-    queueing_keeps asker link octets turn = either part_of (nat_lt (length turn.now.channel.waiting) capacity)
-        (entering_for asker link octets turn) (dropping turn) (part_of turn) (queued link octets turn.now.channel) refl
+    pub queueing_keeps : (owner : Option ℕ) (asker : Option Asker) (link : Option ℕ) (octets : List ℕ)
+        → Keeps (queueing_for owner asker link octets)
+    queueing_keeps owner asker link octets turn =
+        either part_of (may_enter owner turn.now)
+        (entering_for owner asker link octets turn) (dropping turn) (part_of turn) (queued link octets turn.now.channel) refl
 
     frames_keep : (key : ℕ) (frames : List SentFrame) → Keeps (queueing_frames key frames)
     frames_keep key frames = order_keeps (queueing_frame key)
-        (λ (sent : SentFrame). queueing_keeps None (Some key) (frame_octets sent.modulus sent.frame)) frames
+        (λ (sent : SentFrame). queueing_keeps None None (Some key) (frame_octets sent.modulus sent.frame)) frames
 
     telling_keeps : (owner : Option ℕ) (local remote : Callsign) (told : List Told)
         → Keeps (telling_to owner local remote told)

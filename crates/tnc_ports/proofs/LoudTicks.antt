@@ -19,7 +19,7 @@ use Rattle.hf_sender.specs.Wave.{pure_window as hf_pure_window, wave as hf_wave,
 use Rattle.afsk_modulator.proofs.LevelLemmas.{at_level-full}
 use Rattle.channel_access.specs.Modem.{bits_of_ticks, samples_of_bits}
 use Rattle.channel_access.specs.declared.modem.Modem.{Modem}
-use Rattle.channel_access.specs.declared.modem.Modem.TheVariants.{Bell202, ShortWave}
+use Rattle.channel_access.specs.declared.modem.Modem.TheVariants.{Bell202, ShortWave, Fx25}
 use Rattle.channel_access.proofs.ModemLemmas.{modem_wave, samples_of_bits-ticks}
 use Rattle.channel_access.proofs.TickLemmas.{modem-decided}
 use Rattle.nrzi_bits.specs.Line.{line}
@@ -116,6 +116,7 @@ loud_hf_from (suc n) phase (tone ∷ tones) rest within below =
 loud_by : (modem : Modem) (n : ℕ) (tones : List Tone) (rest : List ℤ) → n < length tones
     → has_sound (take 96 (drop (samples_of_bits modem n) (modem_wave modem tones ++ rest))) ≡ true
 loud_by Bell202 n tones rest below = loud_from n 0 tones rest (omega arith) below
+loud_by (Fx25 checks) n tones rest below = loud_from n 0 tones rest (omega arith) below
 loud_by ShortWave n tones rest below =
     ap (λ (xs : List ℤ). has_sound (take 96 (drop (32 * n) (xs ++ rest)))) (at_level-full (hf_wave tones))
     ∙ loud_hf_from n 0 tones rest (omega arith) below

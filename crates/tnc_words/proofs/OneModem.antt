@@ -8,8 +8,8 @@ use Rattle.tnc_words.specs.declared.command.Modem.{Modem}
 use Rattle.tnc_words.specs.declared.command.Modem.TheVariants.{Bell202, ShortWave as OnShortWave, Fx25}
 use Rattle.tnc_words.specs.declared.command.StationModem.{StationModem}
 use Rattle.tnc_words.specs.declared.command.StationModem.TheVariants.{Bell202 as StationBell202}
-use Rattle.tnc_words.specs.declared.command.StationModem.TheVariants.{ShortWave as StationShortWave}
-use Rattle.tnc_words.specs.StationModems.{IsStationModem}
+use Rattle.tnc_words.specs.declared.command.StationModem.TheVariants.{ShortWave as StationShortWave, Fx25 as StationFx25}
+use Rattle.tnc_words.specs.StationModems.{IsStationModem, count_sent}
 use Rattle.tnc_words.specs.Options.{is_used}
 use Rattle.tnc_words.specs.Sending.{HasModem, IsModem, count_of}
 use Rattle.tnc_words.proofs.OneNumber.{given_number}
@@ -44,9 +44,31 @@ one_modem_by hf (Some text) (Fx25 checks) (Fx25 other) h k =
 pub one_modem : (found : List Row) (modem other : Modem) → HasModem found modem → HasModem found other → modem ≡ other
 one_modem found modem other = one_modem_by (is_used (codes "hf") found) (first_of (codes "fx25") found) modem other
 
-pub one_station_modem : (hf sensitive : Bool) (modem other : StationModem) → IsStationModem hf sensitive modem
-    → IsStationModem hf sensitive other → modem ≡ other
-one_station_modem hf sensitive (StationBell202 more) (StationBell202 less) h k = ap StationBell202 (h.1 ∙ sym k.1)
-one_station_modem hf sensitive (StationBell202 more) StationShortWave h k = absurd (true≢false (sym k.0 ∙ h.0))
-one_station_modem hf sensitive StationShortWave (StationBell202 less) h k = absurd (true≢false (sym h.0 ∙ k.0))
-one_station_modem hf sensitive StationShortWave StationShortWave h k = refl
+no_count : (checks : CheckOctets) → count_of checks ≡ 0 → ⊥
+no_count Sixteen e = omega arith
+no_count ThirtyTwo e = omega arith
+no_count SixtyFour e = omega arith
+
+one_count_sent : (checks other : Option CheckOctets) → count_sent checks ≡ count_sent other → checks ≡ other
+one_count_sent None None e = refl
+one_count_sent None (Some other) e = absurd (no_count other (sym e))
+one_count_sent (Some checks) None e = absurd (no_count checks e)
+one_count_sent (Some checks) (Some other) e = ap Some (one_count checks other e)
+
+pub one_station_modem : (hf sensitive : Bool) (text : Option Text) (modem other : StationModem)
+    → IsStationModem hf sensitive text modem → IsStationModem hf sensitive text other → modem ≡ other
+one_station_modem hf sensitive None (StationBell202 more) (StationBell202 less) h k = ap StationBell202 (h.1 ∙ sym k.1)
+one_station_modem hf sensitive None (StationBell202 more) (StationShortWave less) h k = absurd (true≢false (sym k.0 ∙ h.0))
+one_station_modem hf sensitive None (StationBell202 more) (StationFx25 other) h k = absurd k
+one_station_modem hf sensitive None (StationShortWave more) (StationBell202 less) h k = absurd (true≢false (sym h.0 ∙ k.0))
+one_station_modem hf sensitive None (StationShortWave more) (StationShortWave less) h k =
+    ap StationShortWave (h.1 ∙ sym k.1)
+one_station_modem hf sensitive None (StationShortWave more) (StationFx25 other) h k = absurd k
+one_station_modem hf sensitive None (StationFx25 checks) other h k = absurd h
+one_station_modem hf sensitive (Some text) (StationBell202 more) other h k = absurd h
+one_station_modem hf sensitive (Some text) (StationShortWave more) other h k = absurd h
+one_station_modem hf sensitive (Some text) (StationFx25 checks) (StationBell202 less) h k = absurd k
+one_station_modem hf sensitive (Some text) (StationFx25 checks) (StationShortWave less) h k = absurd k
+one_station_modem hf sensitive (Some text) (StationFx25 checks) (StationFx25 other) h k =
+    ap StationFx25
+    (one_count_sent checks other (given_number (Some text) 0 64 (count_sent checks) (count_sent other) h.2 k.2))

@@ -1,7 +1,8 @@
 -- Words ask for one rate.
-use Rattle.tnc_words.proofs.Common.{◌≡◌, ℕ, List, refl, sym, arith, Row, SampleRate, Narrow, samples_a_second}
+use Rattle.tnc_words.proofs.Common.{◌≡◌, ℕ, List, Option, Some, None, refl, sym, ◌∙◌, arith, Row, Text}
+use Rattle.tnc_words.proofs.Common.{SampleRate, Narrow, samples_a_second}
 use Rattle.tnc_words.specs.declared.command.SampleRate.TheVariants.{Wide}
-use Rattle.tnc_words.specs.Rates.{HasRate}
+use Rattle.tnc_words.specs.Rates.{HasRate, HasStationRate}
 use Rattle.tnc_words.proofs.OneNumber.{one_number}
 
 narrow_is_not : (n : ℕ) → n ≡ 48000 → 9600 ≡ n → ⊥
@@ -16,3 +17,8 @@ by_number Wide Wide h = refl
 
 pub one_rate : (found : List Row) (rate other : SampleRate) → HasRate found rate → HasRate found other → rate ≡ other
 one_rate found rate other h k = by_number rate other (one_number _ _ _ _ _ _ h k)
+
+pub one_station_rate : (text checks : Option Text) (rate other : SampleRate) → HasStationRate text checks rate
+    → HasStationRate text checks other → rate ≡ other
+one_station_rate text None rate other h k = by_number rate other (one_number _ _ _ _ _ _ h k)
+one_station_rate text (Some checks) rate other h k = h.0 ∙ sym k.0

@@ -8,7 +8,7 @@ use Rattle.tnc_words.proofs.OneLink.{one_call as one_digi, one_params}
 use Rattle.tnc_words.proofs.OneNumber.{named_number, one_number}
 use Rattle.tnc_words.proofs.OneModem.{one_station_modem}
 use Rattle.tnc_words.proofs.OnePort.{one_address, one_port}
-use Rattle.tnc_words.proofs.OneRate.{one_rate}
+use Rattle.tnc_words.proofs.OneRate.{one_station_rate}
 
 pub one_serve_options : (found : List Row) (serve other : ServeOptions) → HasServeOptions found serve
     → HasServeOptions found other → serve ≡ other
@@ -64,9 +64,9 @@ one_serve_options found serve other h k =
       stats = serve.stats;
       ptt = serve.ptt;
     })
-    (one_station_modem _ _ serve.modem other.modem h.modem k.modem)
+    (one_station_modem _ _ _ serve.modem other.modem h.modem k.modem)
     ∙ ap (λ v. record other { rate = v; monitor = serve.monitor; stats = serve.stats; ptt = serve.ptt })
-    (one_rate found serve.rate other.rate h.rate k.rate)
+    (one_station_rate _ _ serve.rate other.rate h.rate k.rate)
     ∙ ap (λ v. record other { monitor = v; stats = serve.stats; ptt = serve.ptt }) (h.monitor ∙ sym k.monitor)
     ∙ ap (λ v. record other { stats = v; ptt = serve.ptt }) (named_number _ _ _ serve.stats other.stats h.stats k.stats)
     ∙ ap (λ v. record other { ptt = v }) (one_ptt _ _ _ serve.ptt other.ptt h.ptt k.ptt)

@@ -18,9 +18,9 @@ use Rattle.tnc_words.specs.Options.{record_faults, record_rows, call_faults, cal
 use Rattle.tnc_words.specs.Options.{decode_rows, encode_rows, show_rows, loop_rows, bench_rows, serve_rows, is_used}
 use Rattle.tnc_words.specs.Help.{IsHelp, IsVersion}
 use Rattle.tnc_words.specs.Forms.{audio_form, frame_form}
-use Rattle.tnc_words.specs.Rates.{HasRate, HasReceiving}
+use Rattle.tnc_words.specs.Rates.{HasStationRate, HasReceiving}
 use Rattle.tnc_words.specs.Links.{HasCall, HasParams}
-use Rattle.tnc_words.specs.Carriers.{HasDcd}
+use Rattle.tnc_words.specs.Carriers.{HasDcd, is_by_flags}
 use Rattle.tnc_words.specs.Keys.{HasPtt}
 use Rattle.tnc_words.specs.Numbers.{GivesNumber, HasNumber, NamesNumber}
 use Rattle.tnc_words.specs.Ports.{HasAddress, HasPort}
@@ -103,8 +103,9 @@ pub record IsBench (words : List Text) (bench : BenchOptions) : Type 0 where
   pub options : HasBenchOptions (bench_rows words) bench
 
 -- The options of serve. If no others were given, the ports are 8001 for KISS and 8000 for AGWPE at 127.0.0.1, the seed is
--- not named, a packet of a host's data has 256 octets, a channel is busy by the tones of another station, or on short wave
--- by three flags in a row, there are 9600 samples a second, and the report has no lines of counts. Nothing is keyed if no port of rigctld was given.
+-- not named, a packet of a host's data has 256 octets, a channel is busy by the tones of another station, or with --hf or
+-- --fx25 by three flags in a row, there are 9600 samples a second, and the report has no lines of counts. Nothing is keyed
+-- if no port of rigctld was given.
 pub record HasServeOptions (found : List Row) (serve : ServeOptions) : Type 0 where
   pub kiss : HasPort (first_of (codes "kiss") found) 8001 serve.kiss
   pub agw : HasPort (first_of (codes "agw") found) 8000 serve.agw
@@ -114,9 +115,9 @@ pub record HasServeOptions (found : List Row) (serve : ServeOptions) : Type 0 wh
   pub channel : HasChannel found serve.channel
   pub paclen : HasNumber (first_of (codes "paclen") found) 256 16 256 serve.paclen
   pub digi : HasCall (first_of (codes "digi") found) serve.digi
-  pub dcd : HasDcd (is_used (codes "hf") found) (first_of (codes "dcd") found) serve.dcd
+  pub dcd : HasDcd (is_by_flags found) (first_of (codes "dcd") found) serve.dcd
   pub modem : HasStationModem found serve.modem
-  pub rate : HasRate found serve.rate
+  pub rate : HasStationRate (first_of (codes "rate") found) (first_of (codes "fx25") found) serve.rate
   pub monitor : serve.monitor ≡ is_used (codes "monitor") found
   pub stats : NamesNumber (first_of (codes "stats") found) 1 86400 serve.stats
   pub ptt : HasPtt (first_of (codes "ptt") found) (first_of (codes "ptt-tail") found) (is_used (codes "ptt-data") found)

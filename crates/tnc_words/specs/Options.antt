@@ -82,11 +82,12 @@ with_channel app = with_rule (with_rule (with_rule (with_rule (with_rule app
     (option_rule (codes "txdelay"))) (option_rule (codes "txtail"))) (option_rule (codes "persist")))
     (option_rule (codes "slot"))) (flag_rule (codes "duplex"))
 
--- [--digi call] [--dcd how] [--hf] [--sensitive] [--rate n] [--monitor] [--stats n]
+-- [--digi call] [--dcd how] [--hf] [--sensitive] [--fx25 n] [--rate n] [--monitor] [--stats n]
 abbrev pub with_station : App → App
-with_station app = with_rule (with_rule (with_rule (with_rule (with_rule (with_rule (with_rule app
+with_station app = with_rule (with_rule (with_rule (with_rule (with_rule (with_rule (with_rule (with_rule app
     (option_rule (codes "digi"))) (option_rule (codes "dcd"))) (flag_rule (codes "hf")))
-    (flag_rule (codes "sensitive"))) (option_rule (codes "rate"))) (flag_rule (codes "monitor")))
+    (flag_rule (codes "sensitive"))) (option_rule (codes "fx25"))) (option_rule (codes "rate")))
+    (flag_rule (codes "monitor")))
     (option_rule (codes "stats"))
 
 -- [--ptt n] [--ptt-tail n] [--ptt-data]
@@ -95,7 +96,7 @@ with_key app = with_rule (with_rule (with_rule app
     (option_rule (codes "ptt"))) (option_rule (codes "ptt-tail"))) (flag_rule (codes "ptt-data"))
 
 -- serve [--kiss port] [--agw port] [--bind A.B.C.D] [--seed n] [--mode rej or srej] [--window n] [--wide] [--wide-window n]
--- [--t1 n] [--retries n] [--txdelay n] [--txtail n] [--persist n] [--slot n] [--duplex] [--paclen n] [--digi call] [--dcd how] [--hf] [--sensitive] [--rate n] [--monitor] [--stats n] [--ptt n] [--ptt-tail n] [--ptt-data]
+-- [--t1 n] [--retries n] [--txdelay n] [--txtail n] [--persist n] [--slot n] [--duplex] [--paclen n] [--digi call] [--dcd how] [--hf] [--sensitive] [--fx25 n] [--rate n] [--monitor] [--stats n] [--ptt n] [--ptt-tail n] [--ptt-data]
 abbrev pub serve_app : App
 serve_app = with_key (with_station (with_rule (with_channel (with_retries (with_wide_window
     (with_window (with_rule (with_ports (new_app (codes "serve"))) (option_rule (codes "seed")))))))

@@ -1,6 +1,6 @@
 -- How samples are heard, and their rate: 9600 a second if no option says otherwise.
-use Rattle.std.specs.Prelude.{◌≡◌, ℕ, List, codes, true, false}
-use Rattle.clap.specs.Words.{Row, first_of}
+use Rattle.std.specs.Prelude.{◌≡◌, ℕ, List, Option, Some, None, codes, true, false}
+use Rattle.clap.specs.Words.{Row, Text, first_of}
 use Rattle.tnc_words.specs.declared.command.SampleRate.{SampleRate}
 use Rattle.tnc_words.specs.declared.command.SampleRate.TheVariants.{Narrow, Wide}
 use Rattle.tnc_words.specs.declared.command.Receiving.{Receiving}
@@ -17,6 +17,11 @@ samples_a_second Wide = 48000
 -- [--rate n], of the two rates
 abbrev pub HasRate : List Row → SampleRate → Type 0
 HasRate found rate = HasNumber (first_of (codes "rate") found) 9600 9600 48000 (samples_a_second rate)
+
+-- That of a station, by the texts of --rate and --fx25: blocks are read at 9600 samples a second alone.
+abbrev pub HasStationRate : Option Text → Option Text → SampleRate → Type 0
+HasStationRate text None rate = HasNumber text 9600 9600 48000 (samples_a_second rate)
+HasStationRate text (Some checks) rate = (rate ≡ Narrow) × HasNumber text 9600 9600 48000 9600
 
 -- [--sensitive] at either rate, or at 9600 samples a second and without threads [--hf] or [--fx25], each with [--sensitive]
 -- or without

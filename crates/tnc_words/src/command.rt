@@ -182,8 +182,11 @@ pub enum Dcd {
 pub enum StationModem {
     /// Bell 202 at 1200 bits a second. If it is sensitive, more lanes hear, which take weaker and less exact signals.
     Bell202 { sensitive: bool },
-    /// Short wave at 300 bits a second.
-    ShortWave,
+    /// Short wave at 300 bits a second. If it is sensitive, more lanes hear there, too.
+    ShortWave { sensitive: bool },
+    /// Bell 202 at 1200 bits a second, heard in blocks of FX.25, too, and sent with so many check octets around each frame,
+    /// or plainly.
+    Fx25 { checks: Option<CheckOctets> },
 }
 
 /// The options of `serve`.

@@ -1,10 +1,11 @@
 //! How bits are sent, among what was found.
-ghost use Rattle.std.specs.Prelude.{◌≡◌, Bool, IfSome, IsNone, Some, option_map};
+ghost use Rattle.std.specs.Prelude.{◌≡◌, Bool, IfSome, IsNone, Option, Some, option_map};
 ghost use Rattle.clap.specs.Words.{found_of, rows_of};
 ghost use Rattle.tnc_words.specs.declared.command.CheckOctets.{CheckOctets};
 ghost use Rattle.tnc_words.specs.declared.command.Modem.{Modem};
 ghost use Rattle.tnc_words.specs.Numbers.{GivesNumber};
 ghost use Rattle.tnc_words.specs.Sending.{HasModem, IsModem, count_of};
+ghost use Rattle.tnc_words.specs.StationModems.{count_sent};
 
 use crate::command::{CheckOctets, Modem};
 use crate::number::{Bounds, number_within};
@@ -48,6 +49,27 @@ fn modem_by(hf: bool, checks: Option<&str>) -> Option<Modem>
         (true, None) => Some(Modem::ShortWave),
         (false, Some(text)) => Some(Modem::Fx25(check_octets(text)?)),
         (true, Some(_)) => None,
+    }
+}
+
+/// The check octets around a frame of a station, of which there may be none.
+const CHECKS_SENT: Bounds = Bounds {
+    least: 0,
+    greatest: 64,
+};
+
+/// The check octets that a station sends whose number a text is, or none for 0.
+pub(crate) fn checks_sent(text: &str) -> Option<Option<CheckOctets>>
+    ensures checks { IfSome result (λ checks. GivesNumber (Some text.now) 0 64 (count_sent checks)) }
+    ensures none { IsNone result → (checks : Option CheckOctets)
+        → ¬ GivesNumber (Some text.now) 0 64 (count_sent checks) }
+{
+    match number_within(text, CHECKS_SENT)? {
+        0 => Some(None),
+        16 => Some(Some(CheckOctets::Sixteen)),
+        32 => Some(Some(CheckOctets::ThirtyTwo)),
+        64 => Some(Some(CheckOctets::SixtyFour)),
+        _ => None,
     }
 }
 

@@ -63,7 +63,7 @@ pub(crate) const BENCH: [Entry; 6] = [
 ];
 
 /// The options of `serve`.
-pub(crate) const SERVE: [Entry; 26] = [
+pub(crate) const SERVE: [Entry; 27] = [
     Entry::Value("kiss"),
     Entry::Value("agw"),
     Entry::Value("bind"),
@@ -84,6 +84,7 @@ pub(crate) const SERVE: [Entry; 26] = [
     Entry::Value("dcd"),
     Entry::Flag("hf"),
     Entry::Flag("sensitive"),
+    Entry::Value("fx25"),
     Entry::Value("rate"),
     Entry::Flag("monitor"),
     Entry::Value("stats"),

@@ -1,11 +1,10 @@
 //! `serve` and its options.
-ghost use Rattle.std.specs.Prelude.{◌≡◌, ℕ, Option, Some, IfOk, IfSome, IsErrOf, IsNone, true, false, codes, map, option_map, string_bytes};
+ghost use Rattle.std.specs.Prelude.{◌≡◌, ℕ, Option, Some, IfOk, IfSome, IsErrOf, IsNone, is_some, ◌||◌, true, false, codes, map, option_map, string_bytes};
 ghost use Rattle.std.specs.declared.net.ipv4_addr.Ipv4Addr.{Ipv4Addr};
 ghost use Rattle.clap.specs.Words.{found_of, rows_of};
 ghost use Rattle.tnc_words.specs.declared.command.Dcd.{Dcd};
 ghost use Rattle.tnc_words.specs.declared.command.PttOptions.{PttOptions};
 ghost use Rattle.tnc_words.specs.declared.command.ServeOptions.{ServeOptions};
-ghost use Rattle.tnc_words.specs.declared.command.StationModem.{StationModem};
 ghost use Rattle.tnc_words.specs.Carriers.{HasDcd};
 ghost use Rattle.tnc_words.specs.Keys.{HasPtt};
 ghost use Rattle.tnc_words.specs.Numbers.{NamesNumber};
@@ -17,10 +16,11 @@ use crate::channel_words::channel;
 use crate::command::{Dcd, PttOptions, ServeOptions, StationModem};
 use crate::fault::WordsFault;
 use crate::link_words::{call_said, link_params};
+use crate::modem_words::checks_sent;
 use crate::number::{Bounds, number_found, number_if_given, number_or_default, number_within};
 use crate::options::SERVE;
 use crate::parsing::{has_flag, parsed, text_of};
-use crate::rate_words::sample_rate;
+use crate::rate_words::station_rate;
 use clap::ArgMatches;
 use std::alloc::Global;
 use std::net::Ipv4Addr;
@@ -61,8 +61,8 @@ const FLAGS: Bounds = Bounds {
     greatest: 8,
 };
 
-/// And on short wave, where noise has single flags too often.
-const HF_FLAGS: Bounds = Bounds {
+/// And on short wave, and where blocks are read, since noise has single flags too often.
+const ROW: Bounds = Bounds {
     least: 2,
     greatest: 8,
 };
@@ -95,9 +95,16 @@ fn serve_options(found: &ArgMatches) -> Option<ServeOptions>
         channel: channel(found)?,
         paclen: number_found(found, "paclen", 256, PACLEN)? as u16,
         digi: call_said(text_of(found, "digi"))?,
-        dcd: dcd(has_flag(found, "hf"), text_of(found, "dcd"))?,
-        modem: station_modem(has_flag(found, "hf"), has_flag(found, "sensitive"))?,
-        rate: sample_rate(text_of(found, "rate"))?,
+        dcd: dcd(
+            is_by_flags(has_flag(found, "hf"), text_of(found, "fx25")),
+            text_of(found, "dcd"),
+        )?,
+        modem: station_modem(
+            has_flag(found, "hf"),
+            has_flag(found, "sensitive"),
+            text_of(found, "fx25"),
+        )?,
+        rate: station_rate(text_of(found, "rate"), text_of(found, "fx25"))?,
         monitor: has_flag(found, "monitor"),
         stats: seconds(text_of(found, "stats"))?,
         ptt: ptt(
@@ -173,39 +180,57 @@ fn ptt_by(port: &str, tail: Option<&str>, socket: bool) -> Option<PttOptions>
     })
 }
 
-/// The modem, by whether it is for short wave and whether it is sensitive.
-fn station_modem(hf: bool, sensitive: bool) -> Option<StationModem>
-    ensures modem { IfSome result (IsStationModem hf sensitive) }
-    ensures none { IsNone result → (modem : StationModem) → ¬ IsStationModem hf sensitive modem }
+/// The modem, by whether it is for short wave, whether it is sensitive, and by the text of how many check octets it sends.
+fn station_modem(hf: bool, sensitive: bool, checks: Option<&str>) -> Option<StationModem>
+    ensures modem { IfSome result (IsStationModem hf sensitive (option_map (λ t. t.now) checks.entry)) }
+    ensures none { IsNone result → (modem : StationModem)
+        → ¬ IsStationModem hf sensitive (option_map (λ t. t.now) checks.entry) modem }
 {
-    match (hf, sensitive) {
-        (false, sensitive) => Some(StationModem::Bell202 { sensitive }),
-        (true, false) => Some(StationModem::ShortWave),
-        (true, true) => None,
+    match (hf, sensitive, checks) {
+        (false, sensitive, None) => Some(StationModem::Bell202 { sensitive }),
+        (true, sensitive, None) => Some(StationModem::ShortWave { sensitive }),
+        (false, false, Some(text)) => block_modem(text),
+        (true, _, Some(_)) | (false, true, Some(_)) => None,
     }
 }
 
-/// By what the channel is busy, as a text says.
-fn dcd(hf: bool, text: Option<&str>) -> Option<Dcd>
-    ensures dcd { IfSome result (HasDcd hf (option_map (λ t. t.now) text.entry)) }
-    ensures none { IsNone result → (dcd : Dcd) → ¬ HasDcd hf (option_map (λ t. t.now) text.entry) dcd }
+/// The modem that reads blocks, by the text of how many check octets it sends.
+fn block_modem(text: &str) -> Option<StationModem>
+    ensures modem { IfSome result (IsStationModem false false (Some text.now)) }
+    ensures none { IsNone result → (modem : StationModem) → ¬ IsStationModem false false (Some text.now) modem }
 {
-    if hf {
-        hf_dcd(text)
+    let checks = checks_sent(text)?;
+    Some(StationModem::Fx25 { checks })
+}
+
+/// Whether other stations are heard by flags in a row alone.
+fn is_by_flags(hf: bool, checks: Option<&str>) -> bool
+    ensures { result ≡ (hf || is_some (option_map (λ t. t.now) checks.entry)) }
+{
+    hf || checks.is_some()
+}
+
+/// By what the channel is busy, as a text says.
+fn dcd(by_flags: bool, text: Option<&str>) -> Option<Dcd>
+    ensures dcd { IfSome result (HasDcd by_flags (option_map (λ t. t.now) text.entry)) }
+    ensures none { IsNone result → (dcd : Dcd) → ¬ HasDcd by_flags (option_map (λ t. t.now) text.entry) dcd }
+{
+    if by_flags {
+        row_of_flags(text)
     } else {
         tones_or_flags(text)
     }
 }
 
-/// By what it is on short wave: by so many flags in a row, or by three if there is no text.
-fn hf_dcd(text: Option<&str>) -> Option<Dcd>
+/// By what it is on short wave, and where blocks are read: by so many flags in a row, or by three if there is no text.
+fn row_of_flags(text: Option<&str>) -> Option<Dcd>
     ensures dcd { IfSome result (HasDcd true (option_map (λ t. t.now) text.entry)) }
     ensures none { IsNone result → (dcd : Dcd) → ¬ HasDcd true (option_map (λ t. t.now) text.entry) dcd }
 {
     let Some(text) = text else {
         return Some(Dcd::Flags(3));
     };
-    Some(Dcd::Flags(number_within(text, HF_FLAGS)? as u8))
+    Some(Dcd::Flags(number_within(text, ROW)? as u8))
 }
 
 /// By what it is with Bell 202: by tones or so many flags in a row, or by tones if there is no text.

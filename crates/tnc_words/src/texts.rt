@@ -22,7 +22,7 @@ A software terminal node controller for packet radio: AX.25 over the tones of Be
   tnc serve [--kiss port] [--agw port] [--bind A.B.C.D] [--seed n] [--mode name]
             [--window n] [--wide] [--wide-window n] [--t1 n] [--retries n] [--txdelay n]
             [--txtail n] [--persist n] [--slot n] [--duplex] [--paclen n] [--digi call]
-            [--dcd how] [--hf] [--sensitive] [--rate n] [--monitor] [--stats n]
+            [--dcd how] [--hf] [--sensitive] [--fx25 n] [--rate n] [--monitor] [--stats n]
             [--ptt n] [--ptt-tail n] [--ptt-data]
   tnc record [--keep n] [--sensitive]
   tnc call --agw n --from call --to call [--via calls] [--expect n] [--polls n]
@@ -109,7 +109,7 @@ const SERVE: &str = "\
 Usage: tnc serve [--kiss port] [--agw port] [--bind A.B.C.D] [--seed n] [--mode name]
                  [--window n] [--wide] [--wide-window n] [--t1 n] [--retries n] [--txdelay n]
                  [--txtail n] [--persist n] [--slot n] [--duplex] [--paclen n] [--digi call]
-                 [--dcd how] [--hf] [--sensitive] [--rate n] [--monitor] [--stats n]
+                 [--dcd how] [--hf] [--sensitive] [--fx25 n] [--rate n] [--monitor] [--stats n]
                  [--ptt n] [--ptt-tail n] [--ptt-data]
 
 Runs a station until its sound ends: it hears standard input, sends standard output, and serves host programs.
@@ -131,9 +131,13 @@ Runs a station until its sound ends: it hears standard input, sends standard out
   --duplex         sends whether or not the channel is busy
   --paclen n       octets of a packet that is made of a host's data, 16 to 256 (256)
   --digi call      repeats frames for this call
-  --dcd how        by what the channel is busy: tones, or so many flags in a row, 1 to 8 (tones), with --hf 2 to 8 (3)
+  --dcd how        by what the channel is busy: tones, or so many flags in a row, 1 to 8 (tones); with --hf or --fx25
+                   by flags alone, 2 to 8 (3)
   --hf             short wave: 300 bits a second at 1600 and 1800 Hz; --t1 is 600 if not given
-  --sensitive      hears in more noise and where the sender's clock is off, and takes longer; without --hf
+  --sensitive      hears in more noise and where the sender's clock is off, and takes longer
+  --fx25 n         hears frames in blocks of FX.25 too, and repairs them; sends each with 16, 32 or 64 check octets
+                   around it, or with 0 plainly; the channel is busy while a block comes in; without --hf and
+                   --sensitive, at 9600 samples a second
   --rate n         samples a second, in and out, 9600 or 48000 (9600)
   --monitor        tells each frame that is heard or sent on standard error
   --stats n        tells each n seconds what the station counted, on standard error, 1 to 86400

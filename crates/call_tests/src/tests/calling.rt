@@ -16,7 +16,7 @@ use tnc_call::{CallEnd, call};
 use tnc_ports::MemLive;
 
 /// The most octets of an event.
-const MOST: usize = 4096;
+const MOST: usize = 17;
 
 /// A script that grows event by event.
 #[derive(Drop)]
@@ -38,8 +38,15 @@ impl Model for Script {
 }
 
 impl Script {
-    /// At the poll of a number the host brings 1 to 4096 octets.
+    /// At the poll of a number the host brings octets, in pieces.
     fn brings(&mut self, poll: u64, octets: &[u8]) -> Result<(), OutOfMemory> {
+        for piece in octets.chunks(MOST) {
+            self.brings_piece(poll, piece)?;
+        }
+        Ok(())
+    }
+
+    fn brings_piece(&mut self, poll: u64, octets: &[u8]) -> Result<(), OutOfMemory> {
         if octets.is_empty() || octets.len() > MOST {
             return Err(OutOfMemory);
         }

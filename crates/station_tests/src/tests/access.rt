@@ -5,9 +5,10 @@ ghost use Rattle.hdlc_framer.specs.FrameLength.{HasFrameLength};
 use crate::assert_equal;
 use afsk_modulator::transmission;
 use channel_access::{
-    Access, Modem, Param, a_tick_is_a_part_of_the_whole, decisions_add_bits,
+    Access, CheckOctets, Modem, Param, a_tick_is_a_part_of_the_whole, decisions_add_bits,
     the_end_is_a_transmission,
 };
+use fx25_sender::fx25_transmission;
 use hf_sender::hf_transmission;
 use std::alloc::Global;
 use std::test::Fail;
@@ -108,12 +109,32 @@ fn on_short_wave_a_tick_has_three_bits(rt: HostRuntime) -> Result<(), Fail> {
     Ok(())
 }
 
+// 45 flags, 448 bits of a tag and its block, and 3 flags are 832 bits, in 70 ticks of 12. The flag after the block ends
+// with bit 816, the last of tick 68.
 #[test]
-fn the_257th_frame_is_handed_back(rt: HostRuntime) -> Result<(), Fail> {
-    let mut access = access(rt.alloc(), 1, 256)?;
+fn a_frame_goes_out_in_a_block(rt: HostRuntime) -> Result<(), Fail> {
+    let mut access = access_by(rt.alloc(), Modem::Fx25(CheckOctets::Sixteen), 1, 1)?;
+    access.set(Param::FullDuplex(true));
+    let mut samples = Vec::new(rt.alloc());
+    for tick in 1..72_u32 {
+        let got = tick_into(&mut samples, &mut access)?;
+        let last = if tick == 68 { Some(96) } else { None };
+        let want = (tick == 1, last, tick < 68);
+        assert_equal(&rt, &(tick, got), &(tick, want));
+    }
+    let mut expected = fx25_transmission(rt.alloc(), 16, 10000, &one_frame(rt.alloc())?, 45, 3)?;
+    assert_equal(&rt, &expected.len(), &(8 * 832));
+    expected.resize(71 * 96, 0)?;
+    assert_equal(&rt, &samples, &expected);
+    Ok(())
+}
+
+#[test]
+fn the_513th_frame_is_handed_back(rt: HostRuntime) -> Result<(), Fail> {
+    let mut access = access(rt.alloc(), 1, 512)?;
     let back = access.queue(None, shortest(rt.alloc())?).err();
     let len = back.map(|octets| octets.len());
-    assert_equal(&rt, &(len, access.len()), &(Some(15), 256));
+    assert_equal(&rt, &(len, access.len()), &(Some(15), 512));
     Ok(())
 }
 

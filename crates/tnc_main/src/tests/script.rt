@@ -10,13 +10,14 @@ use tnc_ports::MemLive;
 const ID: u32 = 1;
 
 /// The most octets of an event.
-const MOST: usize = 4096;
+const MOST: usize = 17;
 
-/// A script that grows by an event a poll.
+/// A script that grows poll by poll.
 #[derive(Drop)]
 pub(super) struct Script {
     alloc: Global,
     events: Vec<(u64, HostEvent)>,
+    polls: u64,
 }
 
 // No test needs a fact about a script, so its value shows none. Each test is then proved faster.
@@ -36,25 +37,32 @@ impl Script {
         Script {
             alloc,
             events: Vec::new(alloc),
+            polls: 0,
         }
     }
 
-    /// The station brings 1 to 4096 octets at the next poll.
+    /// The station brings octets at the next poll, in pieces.
     pub(super) fn brings(&mut self, octets: &[u8]) -> Result<(), OutOfMemory> {
+        for piece in octets.chunks(MOST) {
+            self.brings_piece(piece)?;
+        }
+        self.polls = self.polls.saturating_add(1);
+        Ok(())
+    }
+
+    fn brings_piece(&mut self, octets: &[u8]) -> Result<(), OutOfMemory> {
         if octets.is_empty() || octets.len() > MOST {
             return Err(OutOfMemory);
         }
         let octets = Octets::from_slice(self.alloc, octets)?;
-        let poll = self.events.len() as u64;
         self.events
-            .push((poll, HostEvent::Bytes { id: ID, octets }))?;
+            .push((self.polls, HostEvent::Bytes { id: ID, octets }))?;
         Ok(())
     }
 
     /// It closes the connection at the next poll.
     pub(super) fn leaves(&mut self) -> Result<(), OutOfMemory> {
-        let poll = self.events.len() as u64;
-        self.events.push((poll, HostEvent::Left { id: ID }))?;
+        self.events.push((self.polls, HostEvent::Left { id: ID }))?;
         Ok(())
     }
 

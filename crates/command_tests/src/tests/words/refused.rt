@@ -233,10 +233,19 @@ x
 --ptt 4532 --ptt-data=true
 --hf=true
 --hf --hf
---hf --sensitive
 --hf --dcd tones
 --hf --dcd 1
 --hf --dcd 9
+--fx25
+--fx25 1
+--fx25 8
+--fx25 none
+--fx25 0 --fx25 0
+--fx25 0 --hf
+--fx25 0 --sensitive
+--fx25 0 --rate 48000
+--fx25 0 --dcd tones
+--fx25 0 --dcd 1
 --threads
 --sensitive=true
 --sensitive --sensitive

@@ -7,7 +7,9 @@ use std::alloc::Global;
 use std::net::Ipv4Addr;
 use std::process::Abort;
 use std::test::Fail;
-use tnc_words::{ChannelOptions, Command, Dcd, PttOptions, SampleRate, ServeOptions, StationModem};
+use tnc_words::{
+    ChannelOptions, CheckOctets, Command, Dcd, PttOptions, SampleRate, ServeOptions, StationModem,
+};
 
 /// The word that is enough.
 const LEAST: &str = "serve";
@@ -149,7 +151,16 @@ fn serve_takes_what_its_station_does(rt: HostRuntime) -> Result<(), Fail> {
     let hf = ServeOptions {
         params: Params { t1: 600, ..PARAMS },
         dcd: Dcd::Flags(3),
-        modem: StationModem::ShortWave,
+        modem: StationModem::ShortWave { sensitive: false },
+        ..SERVE
+    };
+    let sensitive_hf = ServeOptions {
+        modem: StationModem::ShortWave { sensitive: true },
+        ..hf
+    };
+    let fx25 = ServeOptions {
+        dcd: Dcd::Flags(3),
+        modem: StationModem::Fx25 { checks: None },
         ..SERVE
     };
     let table = [
@@ -217,12 +228,30 @@ fn serve_takes_what_its_station_does(rt: HostRuntime) -> Result<(), Fail> {
             },
         ),
         ("--hf", hf),
+        ("--hf --sensitive", sensitive_hf),
         (
             "--t1 200 --hf --dcd=2",
             ServeOptions {
                 params: PARAMS,
                 dcd: Dcd::Flags(2),
                 ..hf
+            },
+        ),
+        ("--fx25 0", fx25),
+        (
+            "--fx25 64",
+            ServeOptions {
+                modem: StationModem::Fx25 {
+                    checks: Some(CheckOctets::SixtyFour),
+                },
+                ..fx25
+            },
+        ),
+        (
+            "--fx25=0 --dcd 8",
+            ServeOptions {
+                dcd: Dcd::Flags(8),
+                ..fx25
             },
         ),
         ("--sensitive", sensitive),

@@ -35,8 +35,8 @@ loop-sample-preserved c =
           c.loop-sample.found.items heard c.keep.new.found.items inv.heard (take_more block i (pos 0) (omega arith))
           c.in_ok-keep.ensures step;
       bounds = bounds_more (c.args.bank.now.position / 4) c.loop-sample.bank.position c.loop-sample.found.items
-          c.keep.new.found.items c.in_ok-heard.heard c.in_ok-keep.ensures (omega arith) c.in_ok-heard.ensures.bounds
-          c.in_ok-heard.ensures.late inv.bounds;
+          c.keep.new.found.items c.in_ok-heard.heard c.in_ok-keep.ensures (omega arith) (omega arith)
+          c.in_ok-heard.ensures.place inv.bounds;
     }
 
 pub returns-clause-heard : goal.returns-clause-heard

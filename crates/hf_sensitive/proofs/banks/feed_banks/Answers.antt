@@ -1,12 +1,12 @@
 use Rattle.hf_sensitive.proofs.Common.{◌≡◌, ◌+◌, ◌<◌, ◌++◌, ◌∙◌, ℤ, List, [], get_or, set, length, ap, sym, subst, arith, All-nil}
 use Rattle.hf_sensitive.proofs.Common.{All, Candidate, CanBePutFrom, HeldBank, StandsFor, AddsAmong, places_in, first_lane}
-use Rattle.hf_sensitive.proofs.Common.{settled, AreAt}
+use Rattle.hf_sensitive.proofs.Common.{least_end, AreAt}
 use Rattle.hf_sensitive.proofs.BanksLemmas.{HaveFed, counts, fed_none, fed_more, all_at, all_stand, all_found}
 use Rattle.hf_sensitive.proofs.banks.feed_banks.Goals as goal
 
 pub loop-index-init : goal.loop-index-init
 loop-index-init c =
-    let P : Candidate → Type 0 = CanBePutFrom (settled c.args.position) in
+    let P : Candidate → Type 0 = CanBePutFrom (least_end c.args.position) in
     fed_none c.args.position c.args.banks.now.items c.args.block.now c.new-found.result.items c.requires.at.count
     c.new-found.ensures.items (subst (All P) (sym c.new-found.ensures.items) (All-nil P))
 
@@ -39,7 +39,7 @@ loop-index-preserved c =
     (fed_more c.args.position n c.args.banks.now.items now c.args.block.now found after was bank c.loop-index.invariant
     c.requires.at (omega arith) there c.feed.ensures.number c.in_ok-feed.ensures.count c.in_ok-feed.ensures.stands_for
     c.in_ok-feed.ensures.found
-    (subst (λ m. All (CanBePutFrom (settled m)) found → All (CanBePutFrom (settled m)) after) count
+    (subst (λ m. All (CanBePutFrom (least_end m)) found → All (CanBePutFrom (least_end m)) after) count
     c.in_ok-feed.ensures.bounds))
 
 pub returns-clause-at : goal.returns-clause-at

@@ -5,6 +5,7 @@ use super::script::Script;
 use super::serving::{a_call, with_registration};
 use crate::assertions::assert_equal;
 use station::PortKind;
+use station_tests::message;
 use std::alloc::Global;
 use std::net::Net;
 use std::sync::Wait;
@@ -78,33 +79,38 @@ fn samples_are_counted_from_line_to_line(rt: HostRuntime) -> Result<(), Fail> {
     Ok(())
 }
 
-// Seven frames of 17 octets a piece, each a KISS frame of 15 octets.
-const FRAME: &[u8] = b"\x00\x9c\x94\x6e\xa0\x40\x40\xe0\x9c\x6e\x98\x8a\x9a\x40\x61\x3f\xc0";
+/// A KISS frame of 15 octets.
+const FRAME: &[u8] = b"\xc0\x00\x9c\x94\x6e\xa0\x40\x40\xe0\x9c\x6e\x98\x8a\x9a\x40\x61\x3f\xc0";
 
-/// So many frames for the transmit queue, in pieces.
-fn gives(script: &mut Script, alloc: Global, frames: usize) -> Result<(), Fail> {
-    let mut octets = Vec::new(alloc);
-    octets.push(0xc0)?;
-    for _ in 0..frames {
-        octets.extend_from_slice(FRAME)?;
+/// The stations that a host calls.
+const CALLED: [&str; 5] = ["K1A", "K1B", "K1C", "K1D", "K1E"];
+
+/// 63 hosts give four frames each, and one calls five stations.
+fn full(alloc: Global) -> Result<Script, Fail> {
+    let mut script = Script::new(alloc);
+    for id in 2..65 {
+        script.joins(0, id, PortKind::Kiss)?;
+        for _ in 0..4 {
+            script.brings(0, id, FRAME)?;
+        }
     }
-    script.brings(0, 1, &octets)?;
-    Ok(())
+    script.joins(0, 1, PortKind::Agw)?;
+    script.brings(0, 1, &message(alloc, b'X', ["N7LEM", ""], b"")?)?;
+    for call in CALLED {
+        script.brings(0, 1, &message(alloc, b'C', ["N7LEM", call], b"")?)?;
+    }
+    Ok(script)
 }
 
-// The first piece leaves room for one more, and of the second 256 frames find none.
+// With 252 frames of hosts four of links have room.
 #[test]
 fn dropped_frames_are_told_once(rt: HostRuntime) -> Result<(), Fail> {
     let alloc = rt.alloc();
-    let mut script = Script::new(alloc);
-    script.joins(0, 1, PortKind::Kiss)?;
-    gives(&mut script, alloc, 99)?;
-    gives(&mut script, alloc, 227)?;
-    let mut live = script.failing(&[])?;
+    let mut live = full(alloc)?.failing(&[])?;
     let input = silence(alloc, 28_800)?;
     let told = told(&rt, alloc, None, input, &mut live)?;
     let got = (told.end, told.report.as_slice());
-    assert_equal(&rt, &got, &(ServeEnd::Done, b"dropped 70\n".as_slice()));
+    assert_equal(&rt, &got, &(ServeEnd::Done, b"dropped 1\n".as_slice()));
     Ok(())
 }
 

@@ -169,6 +169,56 @@ fn a_line_is_noted(rt: HostRuntime) -> Result<(), Fail> {
     assert_closed(&rt, &mut desk, "9 ")
 }
 
+/// The same frame as a host sends it.
+const RAW: &[u8] = b"\xc0\x00\x9c\x94\x6e\xa0\x40\x40\xe0\x9c\x6e\x98\x8a\x9a\x40\x61\x03\xf0\xc0";
+
+/// In so many turns a host brings two frames each, and another one asks for the version in each fifth.
+const TURNS: u32 = 200;
+
+fn one_floods(alloc: Global) -> Result<Script, Fail> {
+    let request = message(alloc, b'R', ["", ""], b"")?;
+    let mut script = Script::new(alloc);
+    script.joins(0, 5, PortKind::Kiss)?;
+    script.joins(0, 2, PortKind::Agw)?;
+    for poll in 0..TURNS {
+        script.brings(u64::from(poll), 5, RAW)?;
+        script.brings(u64::from(poll), 5, RAW)?;
+        if poll % 5 == 0 {
+            script.brings(u64::from(poll), 2, &request)?;
+        }
+    }
+    Ok(script)
+}
+
+/// What host 2 is offered: an answer of 44 octets in the turn of each request.
+fn answers(alloc: Global) -> Result<String, OutOfMemory> {
+    let mut text = String::new(alloc);
+    for poll in 0..TURNS {
+        if poll % 5 == 0 {
+            write!(text, "{}:2:44 ", poll + 1)?;
+        }
+    }
+    Ok(text)
+}
+
+// A turn has a tick.
+#[test]
+fn a_host_that_floods_waits_alone(rt: HostRuntime) -> Result<(), Fail> {
+    let live = one_floods(rt.alloc())?.failing(&[])?;
+    let mut desk = Desk::new(rt.alloc(), live)?;
+    for _ in 0..TURNS {
+        desk.ticks(1)?;
+        desk.turns(&rt, &[0])?;
+    }
+    let want = answers(rt.alloc())?;
+    assert_sends(&rt, &desk, &want)?;
+    let polls = desk.polls()?;
+    let standing = desk.side.standing();
+    let got = (polls.ends_with("10:1 10:1 "), standing.dropped);
+    assert_equal(&rt, &got, &(true, 0));
+    Ok(())
+}
+
 /// Hosts 5 and 2 join, and 5 registers N7LEM; later 2 asks for it.
 fn a_call_for_two(alloc: Global) -> Result<Script, Fail> {
     let call = message(alloc, b'X', ["N7LEM", ""], b"")?;

@@ -24,6 +24,12 @@ pub(super) const EIGHT: Listening = Listening::Bell202 { sensitive: false };
 /// All 26 lanes listen.
 pub(super) const ALL: Listening = Listening::Bell202 { sensitive: true };
 
+/// The 32 lanes of short wave listen.
+pub(super) const SHORT_WAVE: Listening = Listening::ShortWave { sensitive: false };
+
+/// All 59 of short wave listen.
+pub(super) const ALL_SHORT_WAVE: Listening = Listening::ShortWave { sensitive: true };
+
 pub(super) fn words(monitor: bool, listening: Listening) -> ServeWords
     ensures window { (window : ℕ) → ¬ IsRefusedWindow result.config.params window }
     ensures dcd { CanBeAskedBy result.listening result.dcd }
@@ -45,13 +51,13 @@ pub(super) fn words(monitor: bool, listening: Listening) -> ServeWords
     }
 }
 
-/// By what the channel is busy: by tones, or on short wave by three flags in a row.
+/// By what the channel is busy: by tones, or on short wave, and where blocks are read, by three flags in a row.
 fn dcd(listening: Listening) -> Detection
     ensures { CanBeAskedBy listening result }
 {
     match listening {
         Listening::Bell202 { .. } => Detection::Tones,
-        Listening::ShortWave => Detection::Flags(3),
+        Listening::ShortWave { .. } | Listening::Fx25 => Detection::Flags(3),
     }
 }
 

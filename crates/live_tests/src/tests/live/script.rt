@@ -12,7 +12,7 @@ use tnc_base::{Octets, OutOfMemory};
 use tnc_ports::MemLive;
 
 /// The most octets of an event.
-const MOST: usize = 4096;
+const MOST: usize = 17;
 
 /// A script that grows event by event.
 #[derive(Drop)]
@@ -47,8 +47,15 @@ impl Script {
         Ok(())
     }
 
-    /// A host brings 1 to 4096 octets.
+    /// A host brings octets, in pieces.
     pub(super) fn brings(&mut self, poll: u64, id: u32, octets: &[u8]) -> Result<(), OutOfMemory> {
+        for piece in octets.chunks(MOST) {
+            self.brings_piece(poll, id, piece)?;
+        }
+        Ok(())
+    }
+
+    fn brings_piece(&mut self, poll: u64, id: u32, octets: &[u8]) -> Result<(), OutOfMemory> {
         if octets.is_empty() || octets.len() > MOST {
             return Err(OutOfMemory);
         }

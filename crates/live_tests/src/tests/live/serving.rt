@@ -1,9 +1,12 @@
 //! A live station over memory, from its first poll to the end of its input.
 
-use super::outcome::{ALL, EIGHT, Failing, NONE, Outcome, served, served_by, silence};
+use super::outcome::{
+    ALL, ALL_SHORT_WAVE, EIGHT, Failing, NONE, Outcome, SHORT_WAVE, served, served_by, silence,
+};
 use super::script::Script;
 use crate::assertions::assert_equal;
 use afsk_modulator::transmission;
+use fx25_sender::fx25_transmission;
 use hf_sender::hf_transmission;
 use host_ports::MemPorts;
 use key_port::MemKeyPort;
@@ -104,7 +107,8 @@ fn line_count(text: &[u8]) -> usize {
 const MISSED: &[(Listening, usize, &[u8])] = &[
     (EIGHT, 8 * 4464, b"gap 7 4463 4464\n"),
     (ALL, 9 * 4464, b"gap 8 4463 4464\n"),
-    (Listening::ShortWave, 4464, b"gap 0 4463 4464\n"),
+    (SHORT_WAVE, 4464, b"gap 0 4463 4464\n"),
+    (Listening::Fx25, 4464, b"gap 0 4463 4464\n"),
 ];
 
 /// Ends the test unless the report has a line for each missed sample, and all of the rest comes out.
@@ -117,7 +121,7 @@ fn assert_gaps<R: Abort>(rt: &R, served: &Outcome, gaps: usize, last: &[u8]) {
 }
 
 // The ring keeps 65,536 samples, so each reader misses the first 4464 one by one. The added lanes share the ninth; the
-// lanes of short wave have one.
+// lanes of short wave have one, and so have those that read blocks.
 #[test]
 fn overwritten_samples_are_reported(rt: HostRuntime) -> Result<(), Fail> {
     let alloc = rt.alloc();
@@ -133,11 +137,18 @@ fn overwritten_samples_are_reported(rt: HostRuntime) -> Result<(), Fail> {
 /// SABM with P from N7LEM to NJ7P.
 const SABM: &[u8] = b"\x9c\x94\x6e\xa0\x40\x40\xe0\x9c\x6e\x98\x8a\x9a\x40\x61\x3f";
 
-/// The sound of frames, for a station that listens so.
+/// The sound of frames, for a station that listens so. Of frames in blocks 400 samples are lost.
 fn sound(alloc: Global, listening: Listening, frames: &[Octets]) -> Result<Vec<i16>, Fail> {
     match listening {
         Listening::Bell202 { .. } => Ok(transmission(alloc, frames, 2, 1)?),
-        Listening::ShortWave => Ok(hf_transmission(alloc, 10_000, frames, 2, 1)?),
+        Listening::ShortWave { .. } => Ok(hf_transmission(alloc, 10_000, frames, 2, 1)?),
+        Listening::Fx25 => {
+            let mut samples = fx25_transmission(alloc, 16, 10_000, frames, 2, 1)?;
+            for sample in samples.iter_mut().skip(960).take(400) {
+                *sample = 0;
+            }
+            Ok(samples)
+        }
     }
 }
 
@@ -198,8 +209,15 @@ fn assert_told<R: Abort>(rt: &R, alloc: Global, live: &MemLive) -> Result<(), Fa
     Ok(())
 }
 
-/// Each row: how it listens, and how many ticks are made: a bit lasts 8 samples, or 32 on short wave.
-const CALLED: &[(Listening, usize)] = &[(EIGHT, 213), (ALL, 213), (Listening::ShortWave, 254)];
+/// Each row: how it listens, and how many ticks are made: a bit lasts 8 samples, or 32 on short wave, and a block with its
+/// tag has 448 bits.
+const CALLED: &[(Listening, usize)] = &[
+    (EIGHT, 213),
+    (ALL, 213),
+    (SHORT_WAVE, 254),
+    (ALL_SHORT_WAVE, 254),
+    (Listening::Fx25, 239),
+];
 
 // Whichever lanes listen, they hear the call, and it is told once.
 #[test]

@@ -8,7 +8,8 @@ use Rattle.fx25_blocks.proofs.TagFacts.{most_octets}
 use Rattle.fx25_blocks.proofs.block_reader.BlockReader.frame.Goals as goal
 
 pub returns-then-taken-needed-clause-none : goal.returns-then-taken-needed-clause-none
-returns-then-taken-needed-clause-none c = λ b kept frame over ends.
+returns-then-taken-needed-clause-none c = λ b stands frame over ends.
+    let kept = stands.kept in
     let r = c.args.self.now in
     let told = block_told r.bits r.tags r.due r.register r.next r.taken b kept c.args.tag c.requires frame over ends in
     omega (
@@ -21,7 +22,8 @@ returns-then-taken-needed-clause-none c = λ b kept frame over ends.
     )
 
 pub returns-then-kept-tag-clause-none : goal.returns-then-kept-tag-clause-none
-returns-then-kept-tag-clause-none c = λ b kept frame over ends.
+returns-then-kept-tag-clause-none c = λ b stands frame over ends.
+    let kept = stands.kept in
     let r = c.args.self.now in
     let told = block_told r.bits r.tags r.due r.register r.next r.taken b kept c.args.tag c.requires frame over ends in
     c.if-kept-tag.true
@@ -30,7 +32,8 @@ returns-then-kept-tag-clause-none c = λ b kept frame over ends.
 -- the bits that were read are the last ones
 bits_are : (c : goal.After-read_block) (b : List Bool) → StandsFor c.args.self.now b
     → c.as_slice.result.now ≡ drop (length b - 8 * block_length c.args.tag) b
-bits_are c b kept =
+bits_are c b stands =
+    let kept = stands.kept in
     let r = c.args.self.now in
     let count = c.block_length-count.result in
     let is = c.block_length-count.ensures.value in
@@ -42,7 +45,8 @@ bits_are c b kept =
     ∙ ap (λ n. drop (length b - 8 * n) b) is
 
 pub returns-clause-frame : goal.returns-clause-frame
-returns-clause-frame c = λ b kept.
+returns-clause-frame c = λ b stands.
+    let kept = stands.kept in
     let r = c.args.self.now in
     let tag = c.args.tag in
     let line = c.as_slice.result.now in
@@ -56,16 +60,17 @@ returns-clause-frame c = λ b kept.
     (λ found. EndsBlock b tag found.octets.items found.over)
     (λ found carries. block_from r.bits r.tags r.due r.register r.next r.taken b kept tag c.requires
     found.octets.items found.over
-    least same (subst (λ xs. CarriesFrame tag xs found.octets.items found.over) (bits_are c b kept) carries))
+    least same (subst (λ xs. CarriesFrame tag xs found.octets.items found.over) (bits_are c b stands) carries))
     c.read_block.ensures.frame
 
 pub returns-clause-none : goal.returns-clause-none
-returns-clause-none c = λ b kept.
+returns-clause-none c = λ b stands.
+    let kept = stands.kept in
     let r = c.args.self.now in
     let tag = c.args.tag in
     let line = c.as_slice.result.now in
     none_from c.read_block.result ((frame : List ℕ) → (over : ℕ) → ¬ CarriesFrame tag line frame over)
     ((frame : List ℕ) → (over : ℕ) → ¬ EndsBlock b tag frame over)
-    (λ none frame over ends. none frame over (subst (λ xs. CarriesFrame tag xs frame over) (sym (bits_are c b kept))
+    (λ none frame over ends. none frame over (subst (λ xs. CarriesFrame tag xs frame over) (sym (bits_are c b stands))
     (block_told r.bits r.tags r.due r.register r.next r.taken b kept tag c.requires frame over ends).2))
     c.read_block.ensures.none

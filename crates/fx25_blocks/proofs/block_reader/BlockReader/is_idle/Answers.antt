@@ -8,6 +8,6 @@ is_false false is = refl
 is_false true is = absurd (false≢true is)
 
 pub returns : goal.returns
-returns c = λ b kept idle tag frame over ends.
+returns c = λ b stands idle tag frame over ends.
     let r = c.args.self.now in
-    idle_told r.bits r.tags r.due r.register r.next r.taken b kept tag ends.is_tag (is_false _ idle) frame over ends
+    idle_told r.bits r.tags r.due r.register r.next r.taken b stands.kept tag ends.is_tag (is_false _ idle) frame over ends

@@ -1,4 +1,4 @@
-use Rattle.hf_sensitive.proofs.Common.{◌∙◌, ◌-◌, ◌/◌, ◌+◌, ◌≤◌, ℤ, pos, List, get_or, refl, arith, to_z-of_z, w16, settled}
+use Rattle.hf_sensitive.proofs.Common.{◌∙◌, ◌-◌, ◌/◌, ◌+◌, ◌≤◌, ℤ, pos, List, get_or, refl, arith, to_z-of_z, w16, least_end}
 use Rattle.std.proofs.Common.{FitsSigned, rules}
 use Rattle.hf_sensitive.proofs.BankLemmas.{HasFed, fed_none, fed_more, stands_all, found_all}
 use Rattle.hf_sensitive.proofs.tracking_bank.TrackingBank.feed.Goals as goal
@@ -23,7 +23,7 @@ loop-sample-preserved c =
           (λ x taken inside is. c.in_ok-take.ensures.found x taken inside (to_z-of_z w16 sample fits ∙ is));
       bounds = λ all.
           let at = c.loop-sample.invariant.fed.count in
-          c.in_ok-take.ensures.bounds (settled c.args.self.now.tones.count) (omega arith)
+          c.in_ok-take.ensures.bounds (least_end c.args.self.now.tones.count) (omega arith)
           (c.loop-sample.invariant.bounds all);
     }
 

@@ -1,5 +1,5 @@
 use Rattle.hf_sensitive.proofs.Common.{◌≡◌, ◌+◌, ◌-◌, ◌*◌, ◌/◌, ◌<◌, ◌≤◌, ◌∙◌, ℕ, ℤ, pos, List, get_or, length, ap, sym, subst}
-use Rattle.hf_sensitive.proofs.Common.{arith, on_ok_weaker, to_z-of_z, w16, places_in, first_lane, settled, HasTaken, HeldBank}
+use Rattle.hf_sensitive.proofs.Common.{arith, on_ok_weaker, to_z-of_z, w16, places_in, first_lane, least_end, HasTaken, HeldBank}
 use Rattle.hf_sensitive.proofs.Common.{AddsAmong, CanBePutFrom, All, TonesHaveTaken}
 use Rattle.std.proofs.Common.{rules, to_z, of_z}
 use Rattle.hf_sensitive.proofs.BankLemmas.{bank_with, taken_few, adds_few}
@@ -157,8 +157,8 @@ pub returns-clause-bounds : goal.returns-clause-bounds
 returns-clause-bounds c = λ low under.
     let here = c.in-Some.ensures.decided.0 in
     let there = c.in-Some.ensures.decided.1 in
-    let view : (n : ℕ) → n ≤ settled c.self.inside.tones.count → n ≤ c.in-Some.place + 7 = λ n le. omega arith in
-    let P : HeldBank → Type 0 = λ old. low ≤ settled old.tones.count → low ≤ c.in-Some.place + 7 in
+    let view : (n : ℕ) → n ≤ least_end c.self.inside.tones.count → n ≤ c.in-Some.place + 7 = λ n le. omega arith in
+    let P : HeldBank → Type 0 = λ old. low ≤ least_end old.tones.count → low ≤ c.in-Some.place + 7 in
     let late = subst P c.self.view_is (view low) under in
     on_ok_weaker c.hear-3.result (λ bounds all.
     bounds (c.in_ok-hear-2.ensures.bounds low late (c.in_ok-hear.ensures.bounds low late all)))

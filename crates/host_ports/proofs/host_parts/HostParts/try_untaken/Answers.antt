@@ -8,8 +8,8 @@ pub loop-one-preserved : goal.loop-one-preserved
 loop-one-preserved c =
     let begun : HostParts = record c.args.self.now { untaken = c.replace-untaken.new.dest } in
     let left = c.next.new.self.rest.items in
-    let few : All (λ (one : Untaken). length one.octets ≤ 4096) (c.in-Some.one ∷ left) =
-    subst (All (λ (one : Untaken). length one.octets ≤ 4096))
+    let few : All (λ (one : Untaken). length one.octets ≤ 17) (c.in-Some.one ∷ left) =
+    subst (All (λ (one : Untaken). length one.octets ≤ 17))
     c.in-Some.ensures.steps.0 c.loop-one.invariant.pieces in
     record {
       moves = runs_more IsTried c.loop-one.yielded c.in-Some.one begun c.loop-one.self c.take_octets.new.self

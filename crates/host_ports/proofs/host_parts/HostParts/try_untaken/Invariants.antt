@@ -8,5 +8,5 @@ invariant-loop-one l = record {
   moves : MovesBy (InOrder IsTried l.yielded) l.initial.self l.self;
   rest : IsAtRest l.self;
   parts : l.initial.one-iterator.rest.items ≡ l.yielded ++ l.one-iterator.rest.items;
-  pieces : All (λ one. length one.octets ≤ 4096) l.one-iterator.rest.items;
+  pieces : All (λ one. length one.octets ≤ 17) l.one-iterator.rest.items;
 }

@@ -1,5 +1,6 @@
 use Rattle.live_receiver.proofs.Common.{refl, sym, ap, ◌∙◌, inl, inr, arith, ring_len, is_end, reads_on}
-use Rattle.live_receiver.proofs.TurnLemmas.{reads_none, reads_more, room_still, turn_over, turn_full, grown_more}
+use Rattle.live_receiver.proofs.TurnLemmas.{alike_more, grown_more, reads_more, reads_none, room_still, turn_full}
+use Rattle.live_receiver.proofs.TurnLemmas.{turn_over}
 use Rattle.live_receiver.proofs.hf_ring.HfRing.advance.Goals as goal
 
 pub loop-init : goal.loop-init
@@ -15,7 +16,7 @@ pub loop-preserved : goal.loop-preserved
 loop-preserved c =
     reads_more (ring_len c.args.ring.now) c.args.self.now c.loop.self c.take.new.self c.args.merger.now c.loop.merger
     c.take.new.merger c.loop.turn _ c.loop.counter c.in_ok-take.field-0 c.loop.invariant c.take.ensures.ring
-    c.in_ok-take.ensures.at refl c.take.ensures.marks c.take.ensures.flags
+    c.in_ok-take.ensures.at refl c.take.ensures.marks c.take.ensures.alike
     (elim c.in-Item.is [ inl item ↦ ap reads_on item.2 | inr gap ↦ ap reads_on gap.2 ]) c.in_ok-take.ensures.took
 
 pub returns-in-Empty-clause-made : goal.returns-in-Empty-clause-made
@@ -82,23 +83,26 @@ returns-clause-at c = c.loop.invariant.at
 pub returns-clause-marks : goal.returns-clause-marks
 returns-clause-marks c = c.loop.invariant.marks
 
-pub returns-clause-flags : goal.returns-clause-flags
-returns-clause-flags c = c.loop.invariant.flags
+pub returns-clause-alike : goal.returns-clause-alike
+returns-clause-alike c = c.loop.invariant.alike
 
 pub returns-in_err-take-clause-marks : goal.returns-in_err-take-clause-marks
 returns-in_err-take-clause-marks c = c.take.ensures.marks ∙ c.loop.invariant.marks
 
-pub returns-in_err-take-clause-flags : goal.returns-in_err-take-clause-flags
-returns-in_err-take-clause-flags c = c.take.ensures.flags ∙ c.loop.invariant.flags
+pub returns-in_err-take-clause-alike : goal.returns-in_err-take-clause-alike
+returns-in_err-take-clause-alike c =
+    alike_more c.args.self.now c.loop.self c.take.new.self c.loop.invariant.alike c.take.ensures.alike
 
 pub returns-in-Empty-clause-marks : goal.returns-in-Empty-clause-marks
 returns-in-Empty-clause-marks c = c.take.ensures.marks ∙ c.loop.invariant.marks
 
-pub returns-in-Empty-clause-flags : goal.returns-in-Empty-clause-flags
-returns-in-Empty-clause-flags c = c.take.ensures.flags ∙ c.loop.invariant.flags
+pub returns-in-Empty-clause-alike : goal.returns-in-Empty-clause-alike
+returns-in-Empty-clause-alike c =
+    alike_more c.args.self.now c.loop.self c.take.new.self c.loop.invariant.alike c.take.ensures.alike
 
 pub returns-in-End-clause-marks : goal.returns-in-End-clause-marks
 returns-in-End-clause-marks c = c.take.ensures.marks ∙ c.loop.invariant.marks
 
-pub returns-in-End-clause-flags : goal.returns-in-End-clause-flags
-returns-in-End-clause-flags c = c.take.ensures.flags ∙ c.loop.invariant.flags
+pub returns-in-End-clause-alike : goal.returns-in-End-clause-alike
+returns-in-End-clause-alike c =
+    alike_more c.args.self.now c.loop.self c.take.new.self c.loop.invariant.alike c.take.ensures.alike

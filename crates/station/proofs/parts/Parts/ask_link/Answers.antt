@@ -42,6 +42,7 @@ returns-clause-shows c = λ turn shows.
         links = h.links;
         channel = h.channel;
         askers = h.askers;
+        owners = h.owners;
         heard = h.heard;
         dropped = h.dropped;
         ticks = h.ticks;

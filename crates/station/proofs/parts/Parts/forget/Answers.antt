@@ -10,7 +10,7 @@ returns-clause-shows c = λ out turn shows.
       registrations = c.remove_registrations.new.registrations;
       askers = c.remove_askers.new.askers;
     }) out turn c.args.id shows
-    c.remove_connection.ensures c.remove_registrations.ensures c.remove_askers.ensures refl refl refl refl refl refl refl refl refl
+    c.remove_connection.ensures c.remove_registrations.ensures c.remove_askers.ensures refl refl refl refl refl refl refl refl refl refl
 
 pub returns-clause-ids : goal.returns-clause-ids
 returns-clause-ids c =

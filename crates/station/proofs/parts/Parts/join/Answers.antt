@@ -2,19 +2,25 @@ use Rattle.station.proofs.Common.{◌≡◌, ℕ, nat_lt, length, List, [], ◌�
 use Rattle.station.proofs.Common.{subst, arith, cond-true, cond-false, nat_tests, map-append, on_ok_weaker, ids_in}
 use Rattle.station.proofs.Common.{without_ids, with_host, StandsForConnection, Shows, Out, Turn, changing, closing}
 use Rattle.station.specs.declared.connection.Connection.{Connection as HeldConnection}
+use Rattle.station.specs.Host.{has_place}
+use Rattle.station.specs.Owners.{has_room}
 use Rattle.station.proofs.JoinLemmas.{shows_joined, ids_closed}
 use Rattle.station.proofs.Standing.{AllZip-length}
 use Rattle.station.proofs.parts.Parts.join.Goals as goal
 
-pub returns-then-len-ge-MOST_CONNECTIONS-clause-shows : goal.returns-then-len-ge-MOST_CONNECTIONS-clause-shows
-returns-then-len-ge-MOST_CONNECTIONS-clause-shows c = λ turn shows.
+pub returns-then-not-has_room-clause-shows : goal.returns-then-not-has_room-clause-shows
+returns-then-not-has_room-clause-shows c = λ turn shows.
     let id = c.args.id in
     let same = AllZip-length StandsForConnection c.args.self.now.connections.items turn.now.connections
     shows.holds.connections in
-    let full : nat_lt (length turn.now.connections) 64 ≡ false =
-    grind (arith, nat_tests, c.len.ensures, c.args.self.now.connections.ok) in
+    let count : c.len.result ≡ length turn.now.connections =
+    grind (arith, c.len.ensures, c.args.self.now.connections.ok) in
+    let full : has_place turn.now ≡ false =
+    sym (c.has_room.ensures ∙ ap (λ (n : ℕ). has_room n c.left_waiting.result) count
+    ∙ ap (has_room (length turn.now.connections)) (c.left_waiting.ensures turn.now shows.holds))
+    ∙ c.if-not-has_room.true in
     on_ok_weaker c.close.result (λ e. subst (λ (behind : Turn). Shows c.args.self.now c.close.new.self behind)
-    (sym (cond-false (nat_lt (length turn.now.connections) 64) (changing (with_host id c.args.kind) turn)
+    (sym (cond-false (has_place turn.now) (changing (with_host id c.args.kind) turn)
     (closing id turn) full))
     (record {
       holds = shows.holds;
@@ -22,8 +28,8 @@ returns-then-len-ge-MOST_CONNECTIONS-clause-shows c = λ turn shows.
           shows.gave;
     })) c.close.ensures.closed
 
-pub returns-then-len-ge-MOST_CONNECTIONS-clause-ids : goal.returns-then-len-ge-MOST_CONNECTIONS-clause-ids
-returns-then-len-ge-MOST_CONNECTIONS-clause-ids c =
+pub returns-then-not-has_room-clause-ids : goal.returns-then-not-has_room-clause-ids
+returns-then-not-has_room-clause-ids c =
     let id = c.args.id in
     on_ok_weaker c.close.result (λ e none. ids_closed id (ids_in c.args.self.now) c.close.new.self.closed c.requires
     (ap (λ (out : Out). out.closed) e ∙ ap (λ (gone : List ℕ). gone ++ id ∷ []) none)) c.close.ensures.closed
@@ -33,14 +39,18 @@ returns-clause-shows c = λ turn shows.
     let id = c.args.id in
     let parts = c.args.self.now in
     let same = AllZip-length StandsForConnection parts.connections.items turn.now.connections shows.holds.connections in
-    let room : nat_lt (length turn.now.connections) 64 ≡ true =
-    grind (arith, nat_tests, c.len.ensures, parts.connections.ok) in
+    let count : c.len.result ≡ length turn.now.connections =
+    grind (arith, c.len.ensures, parts.connections.ok) in
+    let room : has_place turn.now ≡ true =
+    sym (c.has_room.ensures ∙ ap (λ (n : ℕ). has_room n c.left_waiting.result) count
+    ∙ ap (has_room (length turn.now.connections)) (c.left_waiting.ensures turn.now shows.holds))
+    ∙ c.if-not-has_room.false in
     let held : HeldConnection = record { id = id; raw = false; monitors = false; came = 0; reader = c.new_reader.result } in
     on_ok_weaker c.push.result (λ items.
     let joined = shows_joined parts c.args.out.now turn c.push.new.items.items held c.args.kind shows c.requires refl
     refl refl c.new_reader.ensures items in
     subst (λ (behind : Turn). Shows (record parts { connections = c.push.new.items }) c.args.out.now behind)
-    (sym (cond-true (nat_lt (length turn.now.connections) 64) (changing (with_host id c.args.kind) turn)
+    (sym (cond-true (has_place turn.now) (changing (with_host id c.args.kind) turn)
     (closing id turn) room))
     (record {
       holds = record {
@@ -53,6 +63,7 @@ returns-clause-shows c = λ turn shows.
         links = shows.holds.links;
         channel = shows.holds.channel;
         askers = shows.holds.askers;
+        owners = shows.holds.owners;
         heard = shows.holds.heard;
         dropped = shows.holds.dropped;
         ticks = shows.holds.ticks;

@@ -11,8 +11,8 @@ returns-clause-shows c = λ turn shows.
     let octets = c.args.octets.now in
     let long : has_frame_length octets ≡ true = sym c.has_frame_length.ensures ∙ c.if-not-has_frame_length.false in
     let same : queueing_asked c.args.asker.id c.args.asker.mark octets turn
-    ≡ queueing_for asker None c.in_ok-frame.frame turn =
-    ap (λ (b : Bool). (cond b (queueing_for asker None octets) nothing) turn) long
-    ∙ ap (λ (copied : List ℕ). queueing_for asker None copied turn) (sym c.in_ok-frame.ensures.copy) in
+    ≡ queueing_for (Some c.args.asker.id) asker None c.in_ok-frame.frame turn =
+    ap (λ (b : Bool). (cond b (queueing_for (Some c.args.asker.id) asker None octets) nothing) turn) long
+    ∙ ap (λ (copied : List ℕ). queueing_for (Some c.args.asker.id) asker None copied turn) (sym c.in_ok-frame.ensures.copy) in
     subst (λ (behind : Turn). OnOk c.queue_for.result (Shows c.queue_for.new.self c.queue_for.new.out behind)) (sym same)
     (c.queue_for.ensures.shows turn shows)

@@ -33,7 +33,7 @@ returns-clause-shows c = λ out turn shows.
     (zip_changed id k (with_octets turn.now.ticks octets) next held places (new_connection 0 Kiss) shows.holds.connections
     (place_is id k held places shows.holds.connections shows.holds.ids c.requires)
     (record { id = stands.id; came = shows.holds.ticks; raw = stands.raw; monitors = stands.monitors; reader = reads }))
-    refl refl refl refl refl refl refl refl refl refl refl)
+    refl refl refl refl refl refl refl refl refl refl refl refl)
     (c.read.ensures.stands_for connection.kind connection.stream stands.reader)
 
 pub returns-clause-said : goal.returns-clause-said

@@ -12,9 +12,9 @@ returns-clause-shows c = λ turn shows.
     let others = remove items 0 in
     let is : items ≡ front ∷ others =
     front_of items front (omega (arith, c.is_empty.ensures, c.if-is_empty.false)) c.remove-asker.ensures.value in
-    let new : Parts = record parts { askers = c.remove-asker.new.self } in
+    let new : Parts = record parts { askers = c.remove-asker.new.self; owners = c.drop_front.new.owners } in
     let removed : Shows new out (without_front turn) =
-    shows_removed parts new out turn front others shows is c.remove-asker.ensures.items refl in
+    shows_removed parts new out turn front others shows is c.remove-asker.ensures.items c.drop_front.ensures refl in
     on_ok_weaker c.tell_asker.result
     (shows_told parts new out c.tell_asker.new.out turn c.args.sent.now c.in-Some.field-0 front others shows removed
     c.in-Some.is is)

@@ -34,6 +34,7 @@ returns-clause-step c = λ turn shows.
         channel = subst (λ b. StandsForChannel c.tick-air.new.self (after_tick busy b asked.now.channel)) told
             (c.tick-air.ensures.stands_for asked.now.channel first.holds.channel);
         askers = first.holds.askers;
+        owners = first.holds.owners;
         heard = first.holds.heard;
         dropped = first.holds.dropped;
         ticks = first.holds.ticks;
@@ -64,6 +65,7 @@ returns-clause-step c = λ turn shows.
           links = all.links;
           channel = all.channel;
           askers = all.askers;
+          owners = all.owners;
           heard = all.heard;
           dropped = all.dropped;
           ticks = c.one_more-self.ensures ∙ ap one_more all.ticks;

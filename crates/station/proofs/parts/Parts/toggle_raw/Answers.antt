@@ -8,7 +8,7 @@ pub returns-in_default-clause-shows : goal.returns-in_default-clause-shows
 returns-in_default-clause-shows c = λ out turn shows.
     shows_connections c.args.self.now c.args.self.now out turn c.args.id turned_raw shows (λ connection. refl)
     (none_changed c.args.id turned_raw c.args.self.now.connections.items turn.now.connections shows.holds.connections
-    (c.in_default.ensures.none refl)) refl refl refl refl refl refl refl refl refl refl refl
+    (c.in_default.ensures.none refl)) refl refl refl refl refl refl refl refl refl refl refl refl
 
 pub returns-clause-shows : goal.returns-clause-shows
 returns-clause-shows c = λ out turn shows.
@@ -26,7 +26,7 @@ returns-clause-shows c = λ out turn shows.
     (stands_turned c.index_mut.result.now c.toggle_raw.new.connection _
     (stands_here held places k c.index_mut.result.now d shows.holds.connections at.within c.index_mut.ensures.value)
     c.toggle_raw.ensures))
-    refl refl refl refl refl refl refl refl refl refl refl
+    refl refl refl refl refl refl refl refl refl refl refl refl
 
 pub returns-clause-ids : goal.returns-clause-ids
 returns-clause-ids c =

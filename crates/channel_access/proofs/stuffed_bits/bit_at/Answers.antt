@@ -1,7 +1,7 @@
 use Rattle.channel_access.proofs.Common.{sym, ap, ◌∙◌, eqb, bit_and, ◌/◌, ◌%◌, ◌^◌, checked}
 use Rattle.std.specs.List.{slice_index}
 use Rattle.channel_access.proofs.FrameLemmas.{bits_in-at}
-use Rattle.channel_access.proofs.frame_bits.bit_at.Goals as goal
+use Rattle.channel_access.proofs.stuffed_bits.bit_at.Goals as goal
 
 pub returns : goal.returns
 returns c =

@@ -1,0 +1,3 @@
+pub mod HeardInBlocks
+pub mod Held
+pub mod Turns
