@@ -1,6 +1,6 @@
 -- What all lanes hear plainly and in blocks, merged, as candidates: samples have one list of it, and what is settled of it stays.
-use Rattle.tnc_decode.proofs.Common.{◌≡◌, ℕ, ◌+◌, ◌<◌, ◌≤◌, ℤ, List, [], ◌++◌, length, get_or, refl, ap, sym, subst}
-use Rattle.tnc_decode.proofs.Common.{◌∙◌, arith, append-nil, IsNonDecreasingBy, Candidate, below, settled, ◌∷◌}
+use Rattle.tnc_decode.proofs.Common.{◌≡◌, ℕ, ◌<◌, ◌≤◌, ℤ, List, [], ◌++◌, length, refl, ap, sym, subst}
+use Rattle.tnc_decode.proofs.Common.{◌∙◌, append-nil, IsNonDecreasingBy, Candidate, below, settled, ◌∷◌}
 use Rattle.std.specs.Prelude.{map}
 use Rattle.std.specs.List.{All}
 use Rattle.std.proofs.Common.{cond}
@@ -10,7 +10,6 @@ use Rattle.std.proofs.lemmas.List.Elements.{All-head, All-map, All-tail, filter-
 use Rattle.frame_merge.proofs.Merging.{below_none}
 use Rattle.fx25_receiver.specs.declared.heard.Heard.{Heard}
 use Rattle.fx25_receiver.specs.WithoutBlocks.{candidate_of}
-use Rattle.sensitive_blocks.specs.Heard.{AreMerged}
 use Rattle.sensitive_blocks.proofs.MergedLists.{Begins, merged_rises, none_merged, one_merged, settled_stays, some_merged}
 use Rattle.tnc_decode.specs.Modem.{AreMergedByAll}
 use Rattle.tnc_decode.proofs.BlockItems.{map_rises}

@@ -5,7 +5,8 @@ use Rattle.tnc_decode.proofs.Common.{Result, Ok, ◌⊎◌, WavFault, Rates, chu
 use Rattle.tnc_decode.proofs.Common.{rate_in, sample_of, InputFault, AudioForm, Raw, Wav, DecodeWords, File, rates_of}
 use Rattle.tnc_decode.proofs.Common.{samples_at, samples_read, stopping_fault_at, form_fault_at, modem_of, HasTakenAt}
 use Rattle.std.proofs.Math.Seq.{take-add}
-use Rattle.std.proofs.lemmas.List.{take_more, take-append-drop}
+use Rattle.std.proofs.Common.{zero, suc, ◌*◌, ◌-◌, length-drop}
+use Rattle.std.proofs.lemmas.List.{drop-drop, drop_all, get_or-drop, length-take-le, take_more, take-append-drop}
 use Rattle.std.specs.Prelude.{Err, option_map}
 use Rattle.std.specs.Result.{result_err}
 use Rattle.wav_file.specs.declared.rates.Rates.TheVariants.{NarrowOrWide}
@@ -78,6 +79,69 @@ pub record PairsOn (octets rest : List ℕ) (was found : List ℤ) : Type 0 wher
   pub samples : found ++ samples rest ≡ was ++ samples octets
   pub odd : odd_octet rest ≡ odd_octet octets
   pub few : length found + length rest ≤ length was + length octets
+
+-- samples of octets that are a whole number of them
+even_append : (n : ℕ) (xs ys : List ℕ) → length xs ≡ 2 * n → samples (xs ++ ys) ≡ samples xs ++ samples ys
+even_append zero [] ys even = refl
+even_append zero (a ∷ xs) ys even = absurd (omega arith)
+even_append (suc n) [] ys even = absurd (omega arith)
+even_append (suc n) (a ∷ []) ys even = absurd (omega arith)
+even_append (suc n) (a ∷ b ∷ xs) ys even = ap (λ t. sample_of a b ∷ t) (even_append n xs ys (omega arith))
+
+odd_append : (n : ℕ) (xs ys : List ℕ) → length xs ≡ 2 * n → odd_octet (xs ++ ys) ≡ odd_octet ys
+odd_append zero [] ys even = refl
+odd_append zero (a ∷ xs) ys even = absurd (omega arith)
+odd_append (suc n) [] ys even = absurd (omega arith)
+odd_append (suc n) (a ∷ []) ys even = absurd (omega arith)
+odd_append (suc n) (a ∷ b ∷ xs) ys even = odd_append n xs ys (omega arith)
+
+-- eight samples more
+pub pairs_on_eight : (octets rest front later : List ℕ) (was found more : List ℤ) → PairsOn octets rest was found
+    → 16 ≤ length rest → front ≡ take 16 rest → later ≡ drop 16 rest → more ≡ found ++ samples front
+    → length more ≡ length found + 8 → PairsOn octets later was more
+pairs_on_eight octets rest front later was found more h enough front_is later_is more_is eight =
+    let whole : front ++ later ≡ rest = (λ i. front_is i ++ later_is i) ∙ take-append-drop 16 rest in
+    let size : length front ≡ 2 * 8 = ap length front_is ∙ length-take-le 16 rest enough in
+    let left : length later ≡ length rest - 16 = ap length later_is ∙ length-drop 16 rest in
+    let few = h.few in
+    record {
+      samples = ap (λ t. t ++ samples later) more_is ∙ append_assoc found (samples front) (samples later)
+          ∙ ap (λ t. found ++ t) (sym (even_append 8 front later size) ∙ ap samples whole) ∙ h.samples;
+      odd = sym (odd_append 8 front later size) ∙ ap odd_octet whole ∙ h.odd;
+      few = omega arith;
+    }
+
+two_samples : (xs : List ℕ) → 2 ≤ length xs → samples xs ≡ sample_of (get_or xs 0 0) (get_or xs 1 0) ∷ samples (drop 2 xs)
+two_samples (a ∷ b ∷ xs) enough = refl
+two_samples [] enough = absurd (omega arith)
+two_samples (a ∷ []) enough = absurd (omega arith)
+
+from_place : (xs : List ℕ) (n : ℕ) → n + 2 ≤ length xs
+    → samples (drop n xs) ≡ sample_of (get_or xs n 0) (get_or xs (n + 1) 0) ∷ samples (drop (n + 2) xs)
+from_place xs n inside =
+    let low : get_or (drop n xs) 0 0 ≡ get_or xs n 0 = get_or-drop n xs 0 0 ∙ ap (λ k. get_or xs k 0) (omega arith) in
+    let high : get_or (drop n xs) 1 0 ≡ get_or xs (n + 1) 0 = get_or-drop n xs 1 0 in
+    two_samples (drop n xs) (omega (arith, length-drop n xs))
+    ∙ (λ i. sample_of (low i) (high i) ∷ samples (drop-drop 2 n xs i))
+
+-- the samples of sixteen octets
+pub sixteen_octets : (xs : List ℕ) → length xs ≡ 16
+    → samples xs ≡ sample_of (get_or xs 0 0) (get_or xs 1 0) ∷ sample_of (get_or xs 2 0) (get_or xs 3 0)
+    ∷ sample_of (get_or xs 4 0) (get_or xs 5 0) ∷ sample_of (get_or xs 6 0) (get_or xs 7 0)
+    ∷ sample_of (get_or xs 8 0) (get_or xs 9 0) ∷ sample_of (get_or xs 10 0) (get_or xs 11 0)
+    ∷ sample_of (get_or xs 12 0) (get_or xs 13 0) ∷ sample_of (get_or xs 14 0) (get_or xs 15 0) ∷ []
+sixteen_octets xs size =
+    let s : ℕ → ℤ = λ n. sample_of (get_or xs n 0) (get_or xs (n + 1) 0) in
+    let none : drop 16 xs ≡ [] = drop_all 16 xs (omega arith) in
+    from_place xs 0 (omega arith)
+    ∙ ap (λ t. s 0 ∷ t) (from_place xs 2 (omega arith)
+    ∙ ap (λ t. s 2 ∷ t) (from_place xs 4 (omega arith)
+    ∙ ap (λ t. s 4 ∷ t) (from_place xs 6 (omega arith)
+    ∙ ap (λ t. s 6 ∷ t) (from_place xs 8 (omega arith)
+    ∙ ap (λ t. s 8 ∷ t) (from_place xs 10 (omega arith)
+    ∙ ap (λ t. s 10 ∷ t) (from_place xs 12 (omega arith)
+    ∙ ap (λ t. s 12 ∷ t) (from_place xs 14 (omega arith)
+    ∙ ap (λ t. s 14 ∷ t) (ap samples none))))))))
 
 -- ---- a WAV file
 

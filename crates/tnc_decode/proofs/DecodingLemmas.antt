@@ -1,6 +1,6 @@
 -- An input that is decoded in blocks: how far it is, and what was written where it stops.
 use Rattle.tnc_decode.proofs.Common.{◌≡◌, ℕ, ◌+◌, ◌<◌, ◌≤◌, ℤ, List, [], ◌++◌, length, take, drop, refl, ap, sym, subst}
-use Rattle.tnc_decode.proofs.Common.{◌∙◌, ◌-◌, arith, append_assoc, length-append, length-drop, Option, Some, append-nil}
+use Rattle.tnc_decode.proofs.Common.{◌∙◌, arith, append_assoc, length-append, length-drop, Option, Some, append-nil}
 use Rattle.tnc_decode.proofs.Common.{Gives}
 use Rattle.tnc_decode.proofs.Common.{WrotePart, InputFault, TooLong, input_limit, DecodeWords, Receiver, rates_of}
 use Rattle.tnc_decode.proofs.Common.{samples_read, form_fault, stopping_fault, audio_fault, IsDecoded, HasHeard}

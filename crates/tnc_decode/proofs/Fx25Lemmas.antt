@@ -1,5 +1,5 @@
 -- What a decoder of plain frames and blocks gives: all that ends with the samples that it took.
-use Rattle.tnc_decode.proofs.Common.{◌≡◌, ℕ, ◌+◌, ◌<◌, ◌≤◌, ℤ, List, [], ◌++◌, length, refl, ap, sym, subst, ◌∙◌, arith}
+use Rattle.tnc_decode.proofs.Common.{◌≡◌, ℕ, ◌+◌, ◌<◌, ◌≤◌, ℤ, List, [], ◌++◌, length, refl, ap, sym, ◌∙◌, arith}
 use Rattle.tnc_decode.proofs.Common.{append_cancel_left, append-nil, length-append, ◌∷◌, Candidate, below, between, not_below, Modem, Plain}
 use Rattle.tnc_decode.proofs.Common.{Wide, Sensitive, WideSensitive, ShortWave, SensitiveShortWave, Fx25, HasDecoded}
 use Rattle.tnc_decode.proofs.Common.{settled_count, SensitiveFx25}

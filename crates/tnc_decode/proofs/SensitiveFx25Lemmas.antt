@@ -1,5 +1,5 @@
 -- What the decoder of all lanes gives that also reads blocks, as what its modem gives.
-use Rattle.tnc_decode.proofs.Common.{◌≡◌, ℕ, ◌+◌, ◌<◌, ◌≤◌, ℤ, List, [], ◌++◌, length, refl, ap, sym, subst, ◌∙◌, arith}
+use Rattle.tnc_decode.proofs.Common.{◌≡◌, ℕ, ℤ, List, ◌++◌, length, refl, ap, sym, ◌∙◌, arith}
 use Rattle.tnc_decode.proofs.Common.{append_cancel_left, length-append, Candidate, below, between, not_below, Modem, Plain}
 use Rattle.tnc_decode.proofs.Common.{Wide, Sensitive, WideSensitive, ShortWave, SensitiveShortWave, Fx25, SensitiveFx25, HasDecoded, settled}
 use Rattle.tnc_decode.proofs.Common.{settled_count, AreGivenBetween, AreGivenRest, below_between, below_then_rest}
@@ -12,7 +12,7 @@ use Rattle.sensitive_blocks.specs.Held.{HeldReceiver, StandsFor}
 use Rattle.sensitive_blocks.proofs.MergedLists.{given_begins, some_merged}
 use Rattle.tnc_decode.specs.Modem.{AreMergedByAll}
 use Rattle.tnc_decode.specs.declared.decoders.Decoders.TheVariants.{SensitiveFx25 as SensitiveFx25Decoder}
-use Rattle.tnc_decode.proofs.AllItems.{all_rise, below_begins, one_by_all, still_by_all}
+use Rattle.tnc_decode.proofs.AllItems.{all_rise, below_begins, still_by_all}
 
 -- what was given is what is settled
 given_below : (held : HeldReceiver) (x : List ℤ) (given all : List Heard) → StandsFor held x given → AreMerged x all

@@ -1,6 +1,7 @@
 //! Audio in its two forms, as its octets come.
 ghost use Rattle.std.specs.Prelude.{◌≡◌, ◌≤◌, ◌+◌, ◌++◌, List, ℕ, ℤ, [], ◌∷◌, Some, IfOk, OnOk, IsErrOf, length, take};
-ghost use Rattle.wav_file.specs.Samples.{samples as samples_in_pairs};
+ghost use Rattle.std.specs.Prelude.{◌<◌, slice_index_or};
+ghost use Rattle.wav_file.specs.Samples.{sample_of, samples as samples_in_pairs};
 ghost use Rattle.tnc_forms.specs.declared.fault.InputFault.{InputFault};
 ghost use Rattle.tnc_words.specs.declared.command.AudioForm.{AudioForm};
 ghost use Rattle.wav_file.specs.declared.rates.Rates.{Rates};
@@ -149,8 +150,13 @@ fn take_pairs(octets: &[u8], samples: &mut Vec<i16>) -> Result<Option<u8>, OutOf
 {
     let mut rest = octets;
     while let [low, high, after @ ..] = rest {
-        append(samples, i16::from_le_bytes([*low, *high]))?;
-        rest = after;
+        if let Some((front, later)) = rest.split_first_chunk::<16>() {
+            append_eight(samples, front)?;
+            rest = later;
+        } else {
+            append(samples, i16::from_le_bytes([*low, *high]))?;
+            rest = after;
+        }
     }
     Ok(rest.first().copied())
 }
@@ -222,6 +228,34 @@ fn take_one(file: &mut WavIn, octet: u8, samples: &mut Vec<i16>) -> Result<(), F
         }
         Err(fault) => Err(Fault::Input(InputFault::Wav(fault))),
     }
+}
+
+/// Appends the samples of sixteen octets, which is several times as quick as to append each.
+fn append_eight(samples: &mut Vec<i16>, octets: &[u8; 16]) -> Result<(), OutOfMemory>
+    ensures appended { OnOk result (samples.new.items ≡ samples.old.items ++ samples_in_pairs octets.now) }
+    ensures count { OnOk result (length samples.new.items ≡ length samples.old.items + 8) }
+{
+    let eight = [
+        sample_at(octets, 0),
+        sample_at(octets, 2),
+        sample_at(octets, 4),
+        sample_at(octets, 6),
+        sample_at(octets, 8),
+        sample_at(octets, 10),
+        sample_at(octets, 12),
+        sample_at(octets, 14),
+    ];
+    samples.extend_from_slice(&eight)?;
+    Ok(())
+}
+
+/// The sample that begins at a place.
+#[tactic(auto, unfolding(wav_file::specs::Samples::sample_of))]
+fn sample_at(octets: &[u8; 16], place: usize) -> i16
+    requires { place < 15 }
+    ensures { result ≡ sample_of (slice_index_or octets.now place 0) (slice_index_or octets.now (place + 1) 0) }
+{
+    i16::from_le_bytes([octets[place], octets[place + 1]])
 }
 
 /// Appends a sample.

@@ -1,4 +1,4 @@
-use Rattle.tnc_decode.proofs.Common.{◌≡◌, ◌++◌, ◌∙◌, ℕ, List, ap, append_assoc, arith, sym, take}
+use Rattle.tnc_decode.proofs.Common.{◌++◌, ◌∙◌, ℕ, List, ap, append_assoc, arith, sym, take}
 use Rattle.wav_file.specs.Samples.{samples}
 use Rattle.std.proofs.lemmas.List.{length-take}
 use Rattle.tnc_decode.proofs.AudioLemmas.{data_takes}
