@@ -8,18 +8,24 @@ For 16, 32 and 64 check octets gen_packets sends N7LEM>APRS:hello, its sound is 
 have to be those of the constants UNIT_16, UNIT_32 and UNIT_64. gen_packets keeps the line of a block apart from that of
 the flags before it, so the first bit of the tag may differ, and no other. Then a stretch of the data and check octets is
 silenced, as long as is promised to be repaired: `decode --fx25` has to print the frame once, and `decode` nothing. With the
-sound as it is both have to print it once. It ends with status 0 where all is well. What is not installed is left out."""
+sound as it is both have to print it once. Then `serve --fx25` hears such sound live, and sends the frame that its host gives:
+the host has to get the repaired frame once, `atest` has to hear what was sent, and `decode --fx25` also with a stretch of it
+silenced. It takes about half a minute, and ends with status 0 where all is well. What is not installed is left out."""
 import argparse
 import cmath
 import pathlib
 import re
 import shutil
+import socket
 import subprocess
 import sys
 import tempfile
+import threading
+import time
 import wave
 
 RATE, BAUD, MARK, SPACE = 9600, 1200, 1200, 2200
+PORT = 18067
 PER_BIT = RATE // BAUD
 FRAME = b"82a0a4a64040e09c6e988a9a40e103f068656c6c6f"
 HERE = pathlib.Path(__file__).resolve().parent.parent
@@ -97,6 +103,69 @@ def repaired(program, samples, start, count):
     return good and printed(program, plainly) == [] and printed(program, samples) == printed(program, samples, "--fx25") == [FRAME]
 
 
+def raw(samples):
+    """Samples as a station reads them."""
+    return b"".join(s.to_bytes(2, "little", signed=True) for s in samples)
+
+
+def paced(sink, sound):
+    """Gives sound at its pace."""
+    for at in range(0, len(sound), RATE // 5):
+        sink.write(sound[at : at + RATE // 5])
+        sink.flush()
+        time.sleep(0.1)
+
+
+def lived(program, samples, count):
+    """What a host of a live station gets while it hears samples, and the samples that it sends for the frame of its host."""
+    words = ["serve", "--kiss", str(PORT), "--agw", "none", "--fx25", str(count), "--duplex", "--txdelay", "20"]
+    with subprocess.Popen([program, *words], stdin=subprocess.PIPE, stdout=subprocess.PIPE, stderr=subprocess.DEVNULL) as station:
+        sent = []
+        reading = threading.Thread(target=lambda: sent.append(station.stdout.read()))
+        reading.start()
+        silence = bytes(2 * RATE)
+        paced(station.stdin, silence)
+        with socket.create_connection(("127.0.0.1", PORT)) as host:
+            host.sendall(b"\xc0\x00" + bytes.fromhex(FRAME.decode()) + b"\xc0")
+            paced(station.stdin, silence + raw(samples) + 3 * silence)
+            host.settimeout(2)
+            got = host.recv(4096)
+        station.stdin.close()
+        reading.join()
+    return got, [int.from_bytes(sent[0][k : k + 2], "little", signed=True) for k in range(0, len(sent[0]), 2)]
+
+
+def told_by_atest(samples):
+    """How many frames atest hears."""
+    with tempfile.TemporaryDirectory() as folder:
+        path = pathlib.Path(folder, "sound.wav")
+        with wave.open(str(path), "wb") as file:
+            file.setnchannels(1)
+            file.setsampwidth(2)
+            file.setframerate(RATE)
+            file.writeframes(raw(samples))
+        told = subprocess.run(["atest", str(path)], capture_output=True, check=False, text=True).stdout
+    return int(re.search(r"(\d+) packets decoded", told)[1])
+
+
+def serves(program, samples, start, count, unit):
+    """Whether a station hears a block of which a stretch is lost, and sends one that stands the same."""
+    lost = 32 * count - 71
+    first = start + 64 * PER_BIT
+    got, sent = lived(program, samples[:first] + [0] * lost + samples[first + lost :], count)
+    good = got == b"\xc0\x00" + bytes.fromhex(FRAME.decode()) + b"\xc0"
+    wrong, there = differences(trimmed(sent), unit)
+    sound = trimmed(sent)
+    return (good and wrong == [] and told_by_atest([0] * RATE + sound + [0] * RATE) == 1
+            and repaired(program, sound, there, count))
+
+
+def trimmed(samples):
+    """Samples without the zeros before and after them."""
+    loud = [k for k, sample in enumerate(samples) if sample]
+    return samples[loud[0] : loud[-1] + 1]
+
+
 def main():
     reader = argparse.ArgumentParser()
     reader.add_argument("--tests", default=HERE / "crates/fx25_blocks/src/tests.rt")
@@ -121,6 +190,10 @@ def main():
             well = repaired(program, samples, start, count)
             good = good and well
             print(f"{count} check octets, {32 * count - 71} samples lost: {'repaired' if well else 'NOT as promised'}")
+            if shutil.which("atest"):
+                well = serves(program, samples, start, count, unit)
+                good = good and well
+                print(f"{count} check octets, live: {'heard and sent' if well else 'NOT as promised'}")
     sys.exit(0 if good else 1)
 
 

@@ -37,7 +37,7 @@ first_window phase tone rest i below =
     ∙ get_or-map-range_with_len (λ n. wave_sample (phase + n * phase_step tone)) 0 8 i i (pos 0) below (omega arith)
 
 -- the samples of a wave from a phase on
-wave_from-place : (tones : List Tone) (phase j i : ℕ) → j < length tones → i < 8
+pub wave_from-place : (tones : List Tone) (phase j i : ℕ) → j < length tones → i < 8
     → get_or (wave_from phase tones) (8 * j + i) (pos 0) ≡ wave_sample (phase + phase_at tones j i)
 wave_from-place [] phase j i within below = absurd (omega arith)
 wave_from-place (tone ∷ tones) phase zero i within below =

@@ -4,7 +4,7 @@ use Rattle.std.specs.Prelude.{IfOk}
 use Rattle.fx25_ring.specs.Held.{BlocksHeard}
 use Rattle.ring_receiver.specs.Turns.{AreGrownBy}
 use Rattle.live_receiver.specs.declared.receiver.LiveReceiver.{LiveReceiver}
-use Rattle.live_receiver.specs.declared.receiver.LiveReceiver.TheVariants.{Bell202, Fx25}
+use Rattle.live_receiver.specs.declared.receiver.LiveReceiver.TheVariants.{Bell202}
 use Rattle.live_receiver.specs.Listening.{readers_wanted}
 use Rattle.live_receiver.specs.LiveReceivers.{Hears, listening_of, records_in}
 use Rattle.live_receiver.proofs.receiver.LiveReceiver.advance.Goals as goal

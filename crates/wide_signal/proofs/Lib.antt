@@ -1,0 +1,5 @@
+pub mod Common
+pub mod FineLemmas
+pub mod FilteredWaves
+pub mod Windows
+pub mod NearWide

@@ -1,0 +1,2 @@
+pub mod FineWave
+pub mod WideSignal
