@@ -33,6 +33,7 @@ COLOURS = {
 # The columns of the table of short wave.
 ON_SHORT_WAVE = {"--hf": ("tnc decode --hf", "#1f5fbf"), "--sensitive too": ("tnc decode --hf --sensitive", "#8e44ad")}
 ON_SHORT_WAVE["atest -B 300"] = ("atest -B 300", "#c0392b")
+ON_SHORT_WAVE["-P E+ -F 1 too"] = ("atest -B 300 -P E+ -F 1", "#e08e0b")
 # The programs of the second graph.
 BY_CLOCK = ("tnc", "sensitive", "atest", "multimon-ng")
 INK, FAINT = "#1b1f24", "#c9ced4"

@@ -7,7 +7,8 @@
   scripts/scores.py --more          rows of its own: noise by half decibels, clocks that are far off, offset and hum, phases
                                     that begin anew, an FM receiver's sound
   scripts/scores.py --hf            short wave, 300 bits a second: noise, receivers off their frequency, clocks that are off, two paths.
-                                    What `decode --hf` hears, and with --sensitive, atest as `atest -B 300` with --beside
+                                    What `decode --hf` hears, and with --sensitive, atest as `atest -B 300` with --beside,
+                                    also with two demodulators and repair of single bits
   scripts/scores.py --wide          sound at 48,000 samples a second, with noise up to 24,000 Hz: what `decode --rate 48000` hears, and
                                     `decode` of what sox brings to 9600
   scripts/scores.py --beside        and what atest (as it is, and as `atest -P E+ -F 1`), soundmodem and multimon-ng hear of
@@ -373,8 +374,9 @@ def heard_by_atest(_, samples, room, *options):
 
 
 def heard_by_atest_repairing(tnc, samples, room):
-    """With two demodulators, and with frames repaired by one bit."""
-    return heard_by_atest(tnc, samples, room, "-P", "E+", "-F", "1")
+    """With two demodulators, and with frames repaired by one bit. On short wave it hears each third sample: for more its filter
+    is too long."""
+    return heard_by_atest(tnc, samples, room, "-P", "E+", "-F", "1", *(["-D", "3"] if BAUD == 300 else []))
 
 
 SOUNDMODEM = """<?xml version="1.0"?>
@@ -478,7 +480,7 @@ def main():
         if given.sensitive:
             columns.append(("--sensitive too", heard_on_short_wave_by_all, bytes.hex))
         if given.beside:
-            columns.append(("atest -B 300", heard_by_atest, bytes.hex))
+            columns += [("atest -B 300", heard_by_atest, bytes.hex), ("-P E+ -F 1 too", heard_by_atest_repairing, bytes.hex)]
     elif given.wide:
         RATE, made_by = 48000, wide_rows
         columns = [("--rate 48000", heard_at_48000, bytes.hex), ("through sox", heard_through_sox, bytes.hex)]

@@ -1,7 +1,8 @@
 //! A live station over memory, from its first poll to the end of its input.
 
-use super::outcome::{ALL, ALL_SHORT_WAVE, EIGHT, Failing, NONE, Outcome, SHORT_WAVE};
-use super::outcome::{served, served_by, silence};
+use super::outcome::{
+    ALL, ALL_SHORT_WAVE, EIGHT, Failing, NONE, Outcome, SHORT_WAVE, served, served_by, silence,
+};
 use super::script::Script;
 use crate::assertions::assert_equal;
 use afsk_modulator::transmission;
@@ -107,7 +108,6 @@ const MISSED: &[(Listening, usize, &[u8])] = &[
     (EIGHT, 8 * 4464, b"gap 7 4463 4464\n"),
     (ALL, 9 * 4464, b"gap 8 4463 4464\n"),
     (SHORT_WAVE, 4464, b"gap 0 4463 4464\n"),
-    (ALL_SHORT_WAVE, 4464, b"gap 0 4463 4464\n"),
     (Listening::Fx25, 4464, b"gap 0 4463 4464\n"),
 ];
 
@@ -235,37 +235,6 @@ fn a_call_is_heard_and_told(rt: HostRuntime) -> Result<(), Fail> {
         let report = b"rx N7LEM>NJ7P SABM cmd f=1\n".as_slice();
         assert_equal(&rt, &served.report.as_slice(), &report);
         assert_told(&rt, alloc, &live)?;
-    }
-    Ok(())
-}
-
-/// 70,000 samples of silence, and then SABM on short wave from a sender whose clock is fast by a hundredth.
-fn a_hurried_call(alloc: Global) -> Result<Vec<u8>, Fail> {
-    let mut input = silence(alloc, 70_000)?;
-    let mut frames = Vec::new(alloc);
-    frames.push(Octets::from_slice(alloc, SABM)?)?;
-    let sound = hf_transmission(alloc, 10_000, &frames, 8, 3)?;
-    for (place, sample) in sound.into_iter().enumerate() {
-        if place % 100 != 99 {
-            input.extend_from_slice(&sample.to_le_bytes())?;
-        }
-    }
-    Ok(input)
-}
-
-/// Each row: how it listens, and whether it hears such a call.
-const HURRIED: &[(Listening, bool)] = &[(SHORT_WAVE, false), (ALL_SHORT_WAVE, true)];
-
-// The readers miss the first samples, and hear the call in the stretch after these.
-#[test]
-fn all_lanes_of_short_wave_hear_a_hurried_call_after_a_gap(rt: HostRuntime) -> Result<(), Fail> {
-    let alloc = rt.alloc();
-    for (listening, heard) in HURRIED {
-        let input = a_hurried_call(alloc)?;
-        let mut live = no_hosts(alloc)?;
-        let served = served_by(&rt, alloc, *listening, input, NONE, &mut live)?;
-        let hears = served.report.ends_with(b"\nrx N7LEM>NJ7P SABM cmd f=1\n");
-        assert_equal(&rt, &(*listening, hears), &(*listening, *heard));
     }
     Ok(())
 }
