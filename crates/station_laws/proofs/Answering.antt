@@ -4,7 +4,7 @@ use Rattle.station_laws.proofs.Common.{Some, None, is_some, refl, sym, ap, ◌�
 use Rattle.station_laws.proofs.Common.{Callsign, way_back, Command, Frame, Told, AgwMessage, repeated, PortKind, Kiss}
 use Rattle.station_laws.proofs.Common.{Agw, called_pid, Connection, with_shown, shown_to_hosts, showing_to}
 use Rattle.station_laws.proofs.Common.{source_field, destination_field, event_of, event_at, Link, link_at, making}
-use Rattle.station_laws.proofs.Common.{asked_links, no_layer_3, path_along, Out, Turn, in_order, queueing_own, Asker}
+use Rattle.station_laws.proofs.Common.{asked_links, no_layer_3, path_along, Out, Turn, in_order, queueing_for, Asker}
 use Rattle.station_laws.proofs.Common.{Input, IsTurn, FromHost, OffAir, OfClock, LinkStep, Choice, heard_steps}
 use Rattle.station_laws.proofs.Common.{pieces_to}
 use Rattle.std.specs.Prelude.{filter}
@@ -78,9 +78,9 @@ event_silent id key event turn = go (link_at key turn.now.links) refl
         ∙ silent_more id turn.out.pieces (pieces_to link.owner link.local link.remote told)
         (told_silent id link.owner link.local link.remote told)
 
-queued_silent : (id host : ℕ) (asker : Option Asker) (octets : List ℕ) (turn : Turn)
-    → Silent id turn [] (queueing_own host asker octets turn)
-queued_silent id host asker octets turn = ap (answers_to id) (queued_pieces_for (Some host) asker None octets turn)
+queued_silent : (id : ℕ) (owner : Option ℕ) (asker : Option Asker) (octets : List ℕ) (turn : Turn)
+    → Silent id turn [] (queueing_for owner asker None octets turn)
+queued_silent id owner asker octets turn = ap (answers_to id) (queued_pieces_for owner asker None octets turn)
 
 -- ---- what comes from host programs
 
@@ -103,7 +103,7 @@ silent_kept id = record {
   };
   changes = λ now t h. refl;
   closes = λ host t. refl;
-  queues = queued_silent id;
+  queues = λ host. queued_silent id (Some host);
   disowns = λ key link t at. refl;
 }
 
@@ -151,7 +151,7 @@ monitors_silent id sent ticks (Some frame) turn =
 heard_silent : (id : ℕ) (octets : List ℕ) (turn : Turn) (steps : Choice → List LinkStep) (after : Turn)
     → Heard octets turn steps after → Silent id turn [] after
 heard_silent id octets turn steps after passes = refl
-heard_silent id octets turn steps after (repeats call k is) = queued_silent id None (repeated octets k) turn
+heard_silent id octets turn steps after (repeats call k is) = queued_silent id None None (repeated octets k) turn
 heard_silent id octets turn steps after (hears key len path frame begins found is) =
     event_silent id key (LinkHear frame) turn
 heard_silent id octets turn steps after (hears_new key host frame is vacant known new) =

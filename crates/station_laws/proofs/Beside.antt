@@ -36,11 +36,10 @@ queued_beside owner asker link octets turn h = go (may_enter owner turn.now)
   where
     go : (b : Bool) → StandBeside (cond b (entering_for owner asker link octets turn) (dropping turn)).now
     go true =
-        let more = sym (length-append turn.now.channel.waiting ((record { link = link; octets = octets }) ∷ [])) in
-        record {
-          askers = length-append turn.now.askers (asker ∷ []) ∙ ap (λ n. n + 1) h.askers ∙ more;
-          owners = length-append turn.now.owners (owner ∷ []) ∙ ap (λ n. n + 1) h.owners ∙ more;
-        }
+        let more = sym (length-append turn.now.channel.waiting ((record { link = link; octets = octets }) ∷ [])) in (
+          length-append turn.now.askers (asker ∷ []) ∙ ap (λ n. n + 1) h.0 ∙ more,
+          length-append turn.now.owners (owner ∷ []) ∙ ap (λ n. n + 1) h.1 ∙ more,
+        )
     go false = h
 
 frames_beside : (key : ℕ) (frames : List SentFrame) (turn : Turn)
@@ -85,10 +84,10 @@ beside_kept = record {
     replies = λ id message t other h. h;
     registers = λ call host t h. h;
   };
-  changes = λ now t same h. record {
-    askers = same.askers ∙ h.askers ∙ ap length (sym same.waiting);
-    owners = ap length same.owners ∙ h.owners ∙ ap length (sym same.waiting);
-  };
+  changes = λ now t same h. (
+    same.askers ∙ h.0 ∙ ap length (sym same.waiting),
+    ap length same.owners ∙ h.1 ∙ ap length (sym same.waiting),
+  );
   closes = λ host t h. h;
   queues = λ id asker octets t. queued_beside (Some id) asker None octets t;
   disowns = λ key link t at h. h;
@@ -136,13 +135,12 @@ tick_beside busy frame turn h =
     let s : StationState = (asked_links busy turn).now in
     let channel = after_rules busy (some_wants s.links) s.channel in
     let asked = ticks_kept is_some NotHeard Beside beside_kept.kept.by_events tt busy turn h in
-    let same = ap length (sym (rules_wait busy (some_wants s.links) s.channel)) in
-    record {
-      askers = named_beside askers_after (λ items. refl) (λ named items. refl) s.askers channel.waiting channel.air
-          (asked.askers ∙ same);
-      owners = named_beside owners_after (λ items. refl) (λ named items. refl) s.owners channel.waiting channel.air
-          (asked.owners ∙ same);
-    }
+    let same = ap length (sym (rules_wait busy (some_wants s.links) s.channel)) in (
+      named_beside askers_after (λ items. refl) (λ named items. refl) s.askers channel.waiting channel.air
+          (asked.0 ∙ same),
+      named_beside owners_after (λ items. refl) (λ named items. refl) s.owners channel.waiting channel.air
+          (asked.1 ∙ same),
+    )
 
 -- ---- each step
 
@@ -194,5 +192,5 @@ run_beside s (step ∷ steps) run a b end =
 
 pub askers_stand_beside : AskersStandBeside
 askers_stand_beside a b seed_a seed_b steps run end =
-    run_beside (new_stations a seed_a b seed_b) steps run (record { askers = refl; owners = refl })
-    (record { askers = refl; owners = refl }) end
+    run_beside (new_stations a seed_a b seed_b) steps run (refl, refl)
+    (refl, refl) end

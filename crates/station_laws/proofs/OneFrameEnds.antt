@@ -12,7 +12,7 @@ use Rattle.std.proofs.lemmas.Bool.{cases_lt, lt-leb}
 use Rattle.std.proofs.lemmas.Grind.{flat_map-append}
 use Rattle.std.proofs.lemmas.List.{length-drop, length-take-le, take-append-drop}
 use Rattle.std.proofs.lemmas.List.Concat.{flat_map-cons}
-use Rattle.std.proofs.lemmas.List.Sums.{sum_by-append}
+use Rattle.std.proofs.lemmas.List.Sums.{sum_by-append, sum_by-cons}
 use Rattle.agwpe_port.proofs.ReadingLemmas.{reading_bad, reading_open, reading_short, reading_whole}
 use Rattle.agwpe_port.specs.Messages.{Reading, messages_in, told_length}
 use Rattle.kiss_port.proofs.WebLemmas.{kiss_items, no_web_before, web_items}
@@ -41,16 +41,18 @@ unescaped_fewer (octet ∷ []) = go (octet == fesc)
     go : (b : Bool) → length (cond b [] (octet ∷ [])) ≤ 1
     go true = omega arith
     go false = omega arith
-unescaped_fewer (octet ∷ next ∷ octets) = go (octet == fesc)
+unescaped_fewer (octet ∷ next ∷ octets) =
+    go (octet == fesc) (unescaped_fewer octets) (unescaped_fewer (next ∷ octets))
   where
-    go : (b : Bool) → length (cond b (meant next ++ unescaped octets) (octet ∷ unescaped (next ∷ octets)))
+    go : (b : Bool) → length (unescaped octets) ≤ length octets
+        → length (unescaped (next ∷ octets)) ≤ length (next ∷ octets)
+        → length (cond b (meant next ++ unescaped octets) (octet ∷ unescaped (next ∷ octets)))
         ≤ length (octet ∷ next ∷ octets)
-    go true =
+    go true c d =
         let a = length-append (meant next) (unescaped octets) in
         let b = few_meant next in
-        let c = unescaped_fewer octets in
         omega arith
-    go false = let a = unescaped_fewer (next ∷ octets) in omega arith
+    go false c d = omega arith
 
 short_is_none : (octets : List ℕ) → length octets < 15 → has_frame_length octets ≡ false
 short_is_none octets short =
@@ -88,23 +90,30 @@ short_type kind octets short = by_length (nat_lt (most_octets kind) (length octe
 abbrev said : List ℕ → List KissItem
 said piece = option_to_list (item_of (unescaped piece))
 
-raw_in : List KissItem → ℕ
+abbrev pub raw_in : List KissItem → ℕ
 raw_in items = count_by is_raw items
 
 one_raw : (item : Option KissItem) → raw_in (option_to_list item) ≤ 1
 one_raw None = omega arith
-one_raw (Some item) = go (is_raw item) refl
+one_raw (Some item) =
+    let is = sum_by-cons (λ (one : KissItem). cond (is_raw one) 1 0) item [] in
+    let few = most (is_raw item) in
+    omega arith
   where
-    go : (b : Bool) → is_raw item ≡ b → raw_in (item ∷ []) ≤ 1
-    go true is = subst (λ c. cond c 1 0 ≤ 1) (sym is) (omega arith)
-    go false is = subst (λ c. cond c 1 0 ≤ 1) (sym is) (omega arith)
+    most : (b : Bool) → cond b 1 0 ≤ 1
+    most true = omega arith
+    most false = omega arith
 
 short_says_none : (piece : List ℕ) → length piece ≤ 15 → raw_in (said piece) ≡ 0
 short_says_none piece short = go (unescaped piece) (unescaped_fewer piece)
   where
     go : (octets : List ℕ) → length octets ≤ length piece → raw_in (option_to_list (item_of octets)) ≡ 0
     go [] fewer = refl
-    go (kind ∷ octets) fewer = ap (λ b. cond b 1 0) (short_type kind octets (omega arith))
+    go (kind ∷ octets) fewer =
+        let is = sum_by-cons (λ (one : KissItem). cond (is_raw one) 1 0) (item_by_type kind octets) [] in
+        let none : ◌≡◌ {A = ℕ} (cond (is_raw (item_by_type kind octets)) 1 0) 0 =
+        ap (λ (b : Bool). cond b 1 0) (short_type kind octets (omega arith)) in
+        omega (arith, is, none)
 
 -- ---- the pieces that end
 
@@ -121,7 +130,7 @@ longer m n le (other ∷ others) each = (let a = each.0 in omega arith, longer m
 -- each is shorter than the stream
 all_short : (stream : List ℕ) → Each (λ piece. length piece + 1 ≤ length stream) (pieces stream)
 all_short [] = tt
-all_short (octet ∷ stream) = go (octet == fend)
+all_short (octet ∷ stream) = go (octet == fend) (all_short stream)
   where
     weaker : (some : List (List ℕ)) → Each (λ piece. length piece + 1 ≤ length stream) some
         → Each (λ piece. length piece + 1 ≤ length (octet ∷ stream)) some
@@ -133,14 +142,15 @@ all_short (octet ∷ stream) = go (octet == fend)
     onto [] each = tt
     onto (piece ∷ some) each = (let a = each.0 in omega arith, weaker some each.1)
 
-    go : (b : Bool) → Each (λ piece. length piece + 1 ≤ length (octet ∷ stream))
+    go : (b : Bool) → Each (λ piece. length piece + 1 ≤ length stream) (pieces stream)
+        → Each (λ piece. length piece + 1 ≤ length (octet ∷ stream))
         (cond b ([] ∷ pieces stream) (onto_first octet (pieces stream)))
-    go true = (omega arith, weaker (pieces stream) (all_short stream))
-    go false = onto (pieces stream) (all_short stream)
+    go true each = (omega arith, weaker (pieces stream) each)
+    go false each = onto (pieces stream) each
 
 later_short : (stream : List ℕ) → AreShortPast (length stream) (pieces stream)
 later_short [] = tt
-later_short (octet ∷ stream) = go (octet == fend)
+later_short (octet ∷ stream) = go (octet == fend) (later_short stream)
   where
     ended : (some : List (List ℕ)) → Each (λ piece. length piece + 1 ≤ length stream) some
         → Each (λ piece. length piece + 2 ≤ length (octet ∷ stream)) some
@@ -152,10 +162,10 @@ later_short (octet ∷ stream) = go (octet == fend)
     onto [] each = tt
     onto (piece ∷ others) each = longer (length stream) (length (octet ∷ stream)) (omega arith) others each
 
-    go : (b : Bool) → AreShortPast (length (octet ∷ stream))
+    go : (b : Bool) → AreShortPast (length stream) (pieces stream) → AreShortPast (length (octet ∷ stream))
         (cond b ([] ∷ pieces stream) (onto_first octet (pieces stream)))
-    go true = ended (pieces stream) (all_short stream)
-    go false = onto (pieces stream) (later_short stream)
+    go true short = ended (pieces stream) (all_short stream)
+    go false short = onto (pieces stream) short
 
 -- the same but for the first ones
 abbrev AreSamePast : List (List ℕ) → List (List ℕ) → Type 0
@@ -186,17 +196,15 @@ onto_both octet [] (x ∷ xs) (y ∷ ys) same = ((octet ∷ x) ∷ xs, refl, sam
 cut : (stream octets : List ℕ) → Cut stream octets
 cut [] octets = record { more = pieces octets; parts = refl; same = same_self (pieces octets) }
 cut (octet ∷ stream) octets =
-    let found = go (octet == fend) in record { more = found.0; parts = found.1; same = found.2 }
+    let found = go (octet == fend) (cut stream octets) in
+    record { more = found.0; parts = found.1; same = found.2 }
   where
-    rest : Cut stream octets
-    rest = cut stream octets
-
-    go : (b : Bool) → (more : List (List ℕ))
+    go : (b : Bool) → Cut stream octets → (more : List (List ℕ))
         × (cond b ([] ∷ pieces (stream ++ octets)) (onto_first octet (pieces (stream ++ octets)))
         ≡ cond b ([] ∷ pieces stream) (onto_first octet (pieces stream)) ++ more)
         × AreSamePast more (pieces octets)
-    go true = (rest.more, ap (λ some. [] ∷ some) rest.parts, rest.same)
-    go false =
+    go true rest = (rest.more, ap (λ some. [] ∷ some) rest.parts, rest.same)
+    go false rest =
         let both = onto_both octet (pieces stream) rest.more (pieces octets) rest.same in
         (both.0, ap (onto_first octet) rest.parts ∙ both.1, both.2)
 

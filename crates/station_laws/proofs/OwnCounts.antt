@@ -72,7 +72,7 @@ left_of_more c cs (Some n) h = go (c.id == n) refl
 -- all frames of connections are of those that are there, or of those that have left
 pub all_own : (cs : List Connection) (owners : List (Option ℕ)) → ((id : ℕ) → own_waiting id owners ≤ 4)
     → count_by is_some owners ≤ left_waiting cs owners + 4 * length cs
-all_own [] owners own = count_one is_some (has_left []) each owners
+all_own [] owners own = let a = count_one is_some (has_left []) each owners in omega arith
   where
     each : (owner : Option ℕ) → is_some owner ≡ true → has_left [] owner ≡ true
     each None e = e
@@ -88,21 +88,23 @@ pub all_but_one : (id : ℕ) (cs : List Connection) (owners : List (Option ℕ))
     → there id cs ≡ true → own_waiting id owners < 4
     → count_by is_some owners < left_waiting cs owners + 4 * length cs
 all_but_one id [] owners own is few = absurd (false≢true is)
-all_but_one id (c ∷ cs) owners own is few = go (c.id == id) refl
+all_but_one id (c ∷ cs) owners own is few =
+    go (c.id == id) refl (λ here. all_but_one id cs owners own here few)
   where
     more : left_waiting cs owners ≤ left_waiting (c ∷ cs) owners + own_waiting c.id owners
     more = count_two (has_left cs) (has_left (c ∷ cs)) (is_of c.id) (left_of_more c cs) owners
 
     go : (b : Bool) → (c.id == id) ≡ b
+        → (there id cs ≡ true → count_by is_some owners < left_waiting cs owners + 4 * length cs)
         → count_by is_some owners < left_waiting (c ∷ cs) owners + 4 * length (c ∷ cs)
-    go true same =
+    go true same next =
         let rest = all_own cs owners own in
         let one_less : own_waiting c.id owners ≡ own_waiting id owners =
         ap (λ n. own_waiting n owners) (eqb-true c.id id same) in
         let up = more in
         omega arith
-    go false other =
-        let rest = all_but_one id cs owners own (ap (λ b. has_one b c id cs) (sym other) ∙ is) few in
+    go false other next =
+        let rest = next (ap (λ b. has_one b c id cs) (sym other) ∙ is) in
         let up = more in
         let four = own c.id in
         omega arith
@@ -111,11 +113,12 @@ all_but_one id (c ∷ cs) owners own is few = go (c.id == id) refl
 
 there_still : (n : ℕ) (more cs : List Connection) → there n cs ≡ true → there n (cs ++ more) ≡ true
 there_still n more [] is = absurd (false≢true is)
-there_still n more (c ∷ cs) is = go (c.id == n) is
+there_still n more (c ∷ cs) is = go (c.id == n) is (there_still n more cs)
   where
-    go : (b : Bool) → has_one b c n cs ≡ true → has_one b c n (cs ++ more) ≡ true
-    go true e = refl
-    go false e = there_still n more cs e
+    go : (b : Bool) → has_one b c n cs ≡ true → (there n cs ≡ true → there n (cs ++ more) ≡ true)
+        → has_one b c n (cs ++ more) ≡ true
+    go true e rest = refl
+    go false e rest = rest e
 
 pub left_joined : (more cs : List Connection) (owners : List (Option ℕ))
     → left_waiting (cs ++ more) owners ≤ left_waiting cs owners
@@ -137,15 +140,16 @@ turned_there n id change ids [] = refl
 turned_there n id change ids (c ∷ cs) =
     let turned = cond (c.id == id) (change c) c in
     ap (λ i. has_one (i == n) turned n (with_connection id change cs)) (same_id (c.id == id))
-    ∙ go (c.id == n)
+    ∙ go (c.id == n) (turned_there n id change ids cs)
   where
     same_id : (b : Bool) → (cond b (change c) c).id ≡ c.id
     same_id true = ids c
     same_id false = refl
 
-    go : (b : Bool) → has_one b (cond (c.id == id) (change c) c) n (with_connection id change cs) ≡ has_one b c n cs
-    go true = refl
-    go false = turned_there n id change ids cs
+    go : (b : Bool) → there n (with_connection id change cs) ≡ there n cs
+        → has_one b (cond (c.id == id) (change c) c) n (with_connection id change cs) ≡ has_one b c n cs
+    go true rest = refl
+    go false rest = rest
 
 pub left_turned : (id : ℕ) (change : Connection → Connection) → ((c : Connection) → (change c).id ≡ c.id)
     → (cs : List Connection) (owners : List (Option ℕ))
@@ -163,20 +167,21 @@ left_turned id change ids cs owners =
 others_stay : (n id : ℕ) → (n == id) ≡ false → (cs : List Connection)
     → there n (without_connection id cs) ≡ there n cs
 others_stay n id differs [] = refl
-others_stay n id differs (c ∷ cs) = go (c.id == id) refl
+others_stay n id differs (c ∷ cs) = go (c.id == id) refl (others_stay n id differs cs)
   where
-    kept : (b : Bool) → has_one b c n (without_connection id cs) ≡ has_one b c n cs
-    kept true = refl
-    kept false = others_stay n id differs cs
+    kept : (b : Bool) → there n (without_connection id cs) ≡ there n cs
+        → has_one b c n (without_connection id cs) ≡ has_one b c n cs
+    kept true rest = refl
+    kept false rest = rest
 
     gone : (b : Bool) → (c.id == n) ≡ b → c.id ≡ id → there n cs ≡ has_one b c n cs
     gone true is same = absurd (false≢true (sym differs ∙ eq-eqb n id (sym (eqb-true c.id n is) ∙ same)))
     gone false is same = refl
 
-    go : (b : Bool) → (c.id == id) ≡ b
+    go : (b : Bool) → (c.id == id) ≡ b → there n (without_connection id cs) ≡ there n cs
         → there n (cond (not b) (c ∷ without_connection id cs) (without_connection id cs)) ≡ there n (c ∷ cs)
-    go true is = others_stay n id differs cs ∙ gone (c.id == n) refl (eqb-true c.id id is)
-    go false is = kept (c.id == n)
+    go true is rest = rest ∙ gone (c.id == n) refl (eqb-true c.id id is)
+    go false is rest = kept (c.id == n) rest
 
 pub left_left : (id : ℕ) (cs : List Connection) (owners : List (Option ℕ))
     → left_waiting (without_connection id cs) owners ≤ left_waiting cs owners + own_waiting id owners
@@ -208,21 +213,22 @@ none_left id cs owners none = count_one (has_left (without_connection id cs)) (h
 
 pub no_more_left : (id : ℕ) (cs : List Connection) → length (without_connection id cs) ≤ length cs
 no_more_left id [] = omega arith
-no_more_left id (c ∷ cs) = go (c.id == id)
+no_more_left id (c ∷ cs) = go (c.id == id) (no_more_left id cs)
   where
-    go : (b : Bool)
+    go : (b : Bool) → length (without_connection id cs) ≤ length cs
         → length (cond (not b) (c ∷ without_connection id cs) (without_connection id cs)) ≤ length (c ∷ cs)
-    go true = let rest = no_more_left id cs in omega arith
-    go false = let rest = no_more_left id cs in omega arith
+    go true rest = omega arith
+    go false rest = omega arith
 
 pub one_less : (id : ℕ) (cs : List Connection) → there id cs ≡ true
     → length (without_connection id cs) < length cs
 one_less id [] is = absurd (false≢true is)
-one_less id (c ∷ cs) is = go (c.id == id) refl
+one_less id (c ∷ cs) is = go (c.id == id) refl (one_less id cs)
   where
     go : (b : Bool) → (c.id == id) ≡ b
+        → (there id cs ≡ true → length (without_connection id cs) < length cs)
         → length (cond (not b) (c ∷ without_connection id cs) (without_connection id cs)) < length (c ∷ cs)
-    go true same = let rest = no_more_left id cs in omega arith
-    go false other =
-        let rest = one_less id cs (ap (λ b. has_one b c id cs) (sym other) ∙ is) in
+    go true same next = let rest = no_more_left id cs in omega arith
+    go false other next =
+        let rest = next (ap (λ b. has_one b c id cs) (sym other) ∙ is) in
         omega arith

@@ -13,6 +13,7 @@ use Rattle.station_laws.proofs.Common.{telling_to, Callsign}
 use Rattle.std.specs.Prelude.{count_by, is_none, nat_le}
 use Rattle.std.proofs.lemmas.Bool.{eqb-true, false≢true, leb-true, lt-ltb, ltb-true}
 use Rattle.std.proofs.lemmas.List.Sums.{count_by-le-length}
+use Rattle.channel_access.specs.Waiting.{WaitingFrame}
 use Rattle.channel_access.specs.declared.air_tick.Sent.{Sent}
 use Rattle.link_machine.specs.Event.Event.{Connect as LinkConnect, Hear as LinkHear}
 use Rattle.station.specs.Connections.{new_connection, with_connection, without_connection}
@@ -33,15 +34,21 @@ use Rattle.station_laws.proofs.StationActs.ChangesHosts.{keeps_hosts, leaves_hos
 
 -- ---- what is kept
 
-record Room (s : StationState) : Type 0 where
-  own : (id : ℕ) → own_waiting id s.owners ≤ 4
-  rest : left_waiting s.connections s.owners + 4 * length s.connections ≤ 256
-  others : count_by is_none s.owners ≤ 256
+record IsRoom (connections : List Connection) (owners : List (Option ℕ)) : Type 0 where
+  own : (id : ℕ) → own_waiting id owners ≤ 4
+  rest : left_waiting connections owners + 4 * length connections ≤ 256
+  others : count_by is_none owners ≤ 256
+
+abbrev Room : StationState → Type 0
+Room s = IsRoom s.connections s.owners
 
 -- and no more stand beside frames than frames wait
-record Held (s : StationState) : Type 0 where
-  room : Room s
-  few : length s.owners ≤ length s.channel.waiting
+record IsHeld (connections : List Connection) (owners : List (Option ℕ)) (waiting : List WaitingFrame) : Type 0 where
+  room : IsRoom connections owners
+  few : length owners ≤ length waiting
+
+abbrev Held : StationState → Type 0
+Held s = IsHeld s.connections s.owners s.channel.waiting
 
 abbrev Keeps : Turn → List LinkStep → Turn → Type 0
 Keeps t steps u = Held t.now → Held u.now
@@ -101,7 +108,7 @@ queued_keeps owner asker link octets turn h = go (may_enter owner turn.now) refl
           λ n. by_id n (id == n) refl fewer,
           let a = count_push (has_left turn.now.connections) owners (Some id) in
               let b = h.room.rest in
-              let c : cond (not (there id turn.now.connections)) 1 0 ≡ 0 = ap (λ b. cond (not b) 1 0) parts.0 in
+              let c : ◌≡◌ {A = ℕ} (cond (has_left turn.now.connections (Some id)) 1 0) 0 = ap (λ b. cond (not b) 1 0) parts.0 in
               omega arith,
           let a = count_push (λ (o : Option ℕ). is_none o) owners (Some id) in let b = h.room.others in omega arith,
         )
@@ -110,22 +117,22 @@ queued_keeps owner asker link octets turn h = go (may_enter owner turn.now) refl
             → own_waiting n (owners ++ Some id ∷ []) ≤ 4
         by_id n true is fewer =
             let a = count_push (is_of n) owners (Some id) in
-            let b : cond (id == n) 1 0 ≡ 1 = ap (λ b. cond b 1 0) is in
+            let b : ◌≡◌ {A = ℕ} (cond (is_of n (Some id)) 1 0) 1 = ap (λ b. cond b 1 0) is in
             let c : own_waiting n owners ≡ own_waiting id owners =
             ap (λ i. own_waiting i owners) (sym (eqb-true id n is)) in
-            omega arith
+            omega (arith, a, b, c)
         by_id n false is fewer =
             let a = count_push (is_of n) owners (Some id) in
-            let b : cond (id == n) 1 0 ≡ 0 = ap (λ b. cond b 1 0) is in
+            let b : ◌≡◌ {A = ℕ} (cond (is_of n (Some id)) 1 0) 0 = ap (λ b. cond b 1 0) is in
             let c = h.room.own n in
-            omega arith
+            omega (arith, a, b, c)
 
     go : (b : Bool) → may_enter owner turn.now ≡ b
         → Held (cond b (entering_for owner asker link octets turn) (dropping turn)).now
     go true may =
         let e = enters owner may in
         record { room = record { own = e.0; rest = e.1; others = e.2 }; few = grown }
-    go false may = record { room = record { own = h.room.own; rest = h.room.rest; others = h.room.others }; few = h.few }
+    go false may = h
 
 frames_keep : (key : ℕ) (frames : List SentFrame) (turn : Turn)
     → Held turn.now → Held (queueing_frames key frames turn).now
@@ -152,10 +159,7 @@ event_keeps key event turn h = by_place (link_at key turn.now.links)
         let placed = changing (with_links (settled_link key link stepped.now)) turn in
         let done = done_of stepped in
         told_keeps link.owner link.local link.remote done.told (queueing_frames key done.frames placed)
-        (frames_keep key done.frames placed (record {
-          room = record { own = h.room.own; rest = h.room.rest; others = h.room.others };
-          few = h.few;
-        }))
+        (frames_keep key done.frames placed h)
 
 -- ---- what comes from host programs
 
@@ -219,19 +223,19 @@ keeps_all = record {
       same = λ t h. h;
       on = λ t u v first second one two h. two (one h);
       events = λ key event t may. event_keeps key event t;
-      asked = λ key t h. alike t.now _ refl refl refl h;
+      asked = λ key t h. h;
     };
     called = λ host key message route t may is room new h.
         event_keeps key LinkConnect
         (making key host (called_pid message) route.local route.remote (path_along route) t)
-        (alike t.now _ refl refl refl h);
+        h;
     replies = λ id message t other h. h;
-    registers = λ call host t h. alike t.now _ refl refl refl h;
+    registers = λ call host t h. h;
   };
   changes = λ now t links hosts h. changed_keeps now t links hosts h;
   closes = λ host t h. h;
   queues = λ id octets t. queued_keeps (Some id) None None octets t;
-  disowns = λ key link t at h. alike t.now _ refl refl refl h;
+  disowns = λ key link t at h. h;
 }
 
 joined_keeps : (id : ℕ) (kind : PortKind) (t : Turn) → Held t.now → Held (joining id kind t).now
@@ -274,7 +278,7 @@ heard_keeps octets turn steps after (hears key len path frame begins found is) h
 heard_keeps octets turn steps after (hears_new key host frame is vacant known new) h =
     event_keeps key (LinkHear frame)
     (making key host no_layer_3 frame.path.dest frame.path.source (way_back frame.path Command) turn)
-    (alike turn.now _ refl refl refl h)
+    h
 
 sent_keeps : (sent : Option Sent) (s u : StationState) → u.connections ≡ s.connections
     → u.owners ≡ owners_after sent s.owners → Room s → Room u
@@ -310,7 +314,7 @@ turn_keeps (OfClock busy) before after turn h =
 step_keeps_room : (step : Step) → StandBeside step.before → Room step.before → Room step.after.now
 step_keeps_room step beside room =
     turn_keeps step.input (begin step.before) step.after step.turn
-    (record { room = room; few = let e = beside.owners in omega arith })
+    (record { room = room; few = let e = beside.1 in omega arith })
 
 -- ---- runs
 
@@ -341,7 +345,7 @@ run_stands s (step ∷ steps) run a b end =
 
 new_stands : (s : StationState) → s.connections ≡ [] → s.owners ≡ [] → s.askers ≡ [] → s.channel.waiting ≡ [] → Stands s
 new_stands s connections owners askers waiting = record {
-  beside = record { askers = ap length askers ∙ sym (ap length waiting); owners = ap length owners ∙ sym (ap length waiting) };
+  beside = (ap length askers ∙ sym (ap length waiting), ap length owners ∙ sym (ap length waiting));
   room = record {
     own = λ id. subst (λ os. own_waiting id os ≤ 4) (sym owners) (omega arith);
     rest = subst (λ cs. left_waiting cs s.owners + 4 * length cs ≤ 256) (sym connections)
@@ -377,7 +381,7 @@ has_own_room id s h = record {
       let b = all_own s.connections s.owners h.room.own in
       let c = h.room.rest in
       let d = h.room.others in
-      let e = h.beside.owners in
+      let e = h.beside.1 in
       omega arith;
   room = go (there id s.connections) refl (nat_lt (own_waiting id s.owners) 4) refl;
 }
@@ -391,7 +395,7 @@ has_own_room id s h = record {
         let b = all_but_one id s.connections s.owners h.room.own here (ltb-true (own_waiting id s.owners) 4 less) in
         let c = h.room.rest in
         let d = h.room.others in
-        let e = h.beside.owners in
+        let e = h.beside.1 in
         lt-ltb (length s.channel.waiting) 512 (omega arith)
 
 pub own_room : OwnRoom

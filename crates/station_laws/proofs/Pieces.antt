@@ -6,7 +6,7 @@ use Rattle.station_laws.proofs.Common.{Info, Super, Setup, Ui, AgwMessage, repea
 use Rattle.station_laws.proofs.Common.{replying, called_pid, Connection, with_shown, shown_to_hosts, showing_to}
 use Rattle.station_laws.proofs.Common.{source_field, destination_field, event_of, event_at, Link, link_at, making}
 use Rattle.station_laws.proofs.Common.{asked_links, changing, no_layer_3, path_along, with_asked, Out, Turn, in_order}
-use Rattle.station_laws.proofs.Common.{queueing_own, Asker, Input}
+use Rattle.station_laws.proofs.Common.{queueing_for, Asker, Input}
 use Rattle.station_laws.proofs.Common.{IsTurn, FromHost, OffAir, OfClock, LinkStep, steps_for, steps_at, tick_steps}
 use Rattle.station_laws.proofs.Common.{heard_steps, turn_steps, pieces_to, Choice}
 use Rattle.std.specs.Prelude.{filter, flat_map}
@@ -121,11 +121,11 @@ reply_told id host message turn other =
     (and_right (host == id) (is_data (spelling message))
     (ap (λ k. (k == connect_kind) || (k == data_kind)) (reply_kind message) ∙ other)))
 
-queueing_tells : (id host : ℕ) (asker : Option Asker) (octets : List ℕ) (turn : Turn)
-    → Tells id turn [] (queueing_own host asker octets turn)
-queueing_tells id host asker octets turn =
-    nothing_told id turn (queueing_own host asker octets turn)
-    (ap (of_links id) (queued_pieces_for (Some host) asker None octets turn))
+queueing_tells : (id : ℕ) (owner : Option ℕ) (asker : Option Asker) (octets : List ℕ) (turn : Turn)
+    → Tells id turn [] (queueing_for owner asker None octets turn)
+queueing_tells id owner asker octets turn =
+    nothing_told id turn (queueing_for owner asker None octets turn)
+    (ap (of_links id) (queued_pieces_for owner asker None octets turn))
 
 -- ---- what comes from host programs
 
@@ -145,7 +145,7 @@ tells_kept id = record {
   };
   changes = λ now t h. same_told id t;
   closes = λ host t. same_told id t;
-  queues = queueing_tells id;
+  queues = λ host. queueing_tells id (Some host);
   disowns = λ key link t at. same_told id t;
 }
 
@@ -247,7 +247,7 @@ heard_tells :
     (id : ℕ) (octets : List ℕ) (turn : Turn) (steps : Choice → List LinkStep) (after : Turn)
     → Heard octets turn steps after → Tells id turn (steps is_some) after
 heard_tells id octets turn steps after passes = same_told id turn
-heard_tells id octets turn steps after (repeats call k is) = queueing_tells id None (repeated octets k) turn
+heard_tells id octets turn steps after (repeats call k is) = queueing_tells id None None (repeated octets k) turn
 heard_tells id octets turn steps after (hears key len path frame begins found is) =
     event_tells id None key (LinkHear frame) turn
 heard_tells id octets turn steps after (hears_new key host frame is vacant known new) =

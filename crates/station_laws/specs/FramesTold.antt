@@ -49,9 +49,8 @@ AnswersAreOfSent =
     → answers_to id step.after.out.pieces ≡ answer_for id (asker_in step.input (begin step.before))
 
 -- who wants to be told, and whose it is, stands beside each frame that waits
-pub record StandBeside (s : StationState) : Type 0 where
-  pub askers : length s.askers ≡ length s.channel.waiting
-  pub owners : length s.owners ≡ length s.channel.waiting
+abbrev pub StandBeside : StationState → Type 0
+StandBeside s = (length s.askers ≡ length s.channel.waiting) × (length s.owners ≡ length s.channel.waiting)
 
 abbrev pub AskersStandBeside : Type 0
 AskersStandBeside =
