@@ -10,3 +10,4 @@ pub mod DeframerLemmas
 pub mod StuffLemmas
 pub mod BusyLemmas
 mod Examples
+pub mod OctetLemmas

@@ -1,5 +1,5 @@
 -- What a carrier detector keeps of the bits. No public clause looks inside: they cite `CarrierStandsFor` alone.
-use Rattle.std.specs.Prelude.{◌≡◌, ◌↔◌, ℕ, suc, ◌+◌, ◌-◌, ◌==◌, ◌||◌, ◌<◌, ◌≤◌, min, if◌then◌else◌, Bool, true, false}
+use Rattle.std.specs.Prelude.{◌≡◌, ◌↔◌, ℕ, zero, suc, ◌+◌, ◌-◌, ◌==◌, ◌||◌, ◌<◌, ◌≤◌, min, if◌then◌else◌, Bool, true, false}
 use Rattle.std.specs.Prelude.{List, length, take}
 use Rattle.hdlc_framer.specs.declared.event.Event.{Event}
 use Rattle.hdlc_framer.specs.declared.event.Event.TheVariants.{None as NoEvent, Flag, Abort, Frame}
@@ -24,6 +24,11 @@ bit_later c =
       since_flag = min (c.since_flag + 1) 10000;
       held = if min (c.since_flag + 1) 10000 == 10000 then false else c.held;
     }
+
+-- so many bits more
+abbrev pub bits_later : ℕ → HeldCarrier → HeldCarrier
+bits_later zero c = c
+bits_later (suc count) c = bits_later count (bit_later c)
 
 -- the flags in a row that end with a flag
 abbrev pub row_with : HeldCarrier → ℕ

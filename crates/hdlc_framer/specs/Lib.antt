@@ -13,3 +13,4 @@ pub mod Packed
 pub mod Counted
 pub mod Body
 pub mod Division
+pub mod OctetSteps

@@ -1,7 +1,7 @@
 // Whether another station is heard: flags show its carrier, an abort or a long stretch without a flag its end.
 
 ghost use Rattle.std.specs.Prelude.{◌≡◌, ◌≤◌};
-ghost use Rattle.hdlc_framer.specs.HeldCarrier.{new_carrier, bit_later, flag_later, next_carrier, row_with};
+ghost use Rattle.hdlc_framer.specs.HeldCarrier.{new_carrier, bit_later, bits_later, flag_later, next_carrier, row_with};
 
 use crate::event::Event;
 use std::marker::Model;
@@ -70,6 +70,16 @@ impl Carrier {
         ensures { self.new ≡ bit_later self.old }
     {
         self.since_flag = (self.since_flag + 1).min(MOST_QUIET);
+        if self.since_flag == MOST_QUIET {
+            self.held = false;
+        }
+    }
+
+    // Takes eight bits that end nothing.
+    pub fn take_octet(&mut self)
+        ensures { self.new ≡ bits_later 8 self.old }
+    {
+        self.since_flag = (self.since_flag + 8).min(MOST_QUIET);
         if self.since_flag == MOST_QUIET {
             self.held = false;
         }

@@ -1,7 +1,8 @@
 // The bits since a flag without inserted zeros, packed into octets as they come.
 
-ghost use Rattle.std.specs.Prelude.{◌≡◌, ℕ, ◌+◌, ◌^◌, ◌<◌, ◌≤◌, ◌↔◌, List, [], ◌∷◌, ◌++◌, length, nat_lt, IsTrue};
-ghost use Rattle.hdlc_framer.specs.BitOrder.{sent_bits, low_bits};
+ghost use Rattle.std.specs.Prelude.{◌≡◌, ℕ, ◌+◌, ◌^◌, ◌<◌, ◌≤◌, ◌↔◌, List, [], ◌∷◌, ◌++◌, length, nat_lt, true, IsTrue};
+ghost use Rattle.std.specs.Prelude.{◌*◌};
+ghost use Rattle.hdlc_framer.specs.BitOrder.{sent_bits, low_bits, octet_bits};
 ghost use Rattle.hdlc_framer.specs.Frames.{IsFrame, with_fcs};
 ghost use Rattle.hdlc_framer.specs.Held.{flag_start};
 
@@ -81,6 +82,23 @@ impl Content {
         }
     }
 
+    // Is there room for eight more bits?
+    pub fn has_room_for_octet(&self) -> bool
+        ensures { result ≡ true → length self.now + 8 ≤ 8215 }
+    {
+        !self.octets.is_full()
+    }
+
+    // Keeps eight bits more, the lowest of an octet first.
+    pub fn push_octet(&mut self, octet: u8)
+        requires { length self.old + 8 ≤ 8215 }
+        ensures { self.new ≡ self.old ++ octet_bits octet }
+    {
+        let bits = joined(self.part, self.filled, octet);
+        self.octets.push((bits % 256) as u8);
+        self.part = (bits / 256) as u8;
+    }
+
     // Are these the bits of a frame with its check sequence, and the first six of a flag?
     pub fn is_frame(&self) -> bool
         ensures { IsTrue result ↔ ((octets : List ℕ)
@@ -111,6 +129,16 @@ fn with_bit(part: u8, filled: u8, bit: bool) -> u8
     ensures below { result < 2 ^ (filled + 1) }
 {
     if bit { part | (1 << filled) } else { part }
+}
+
+// A part of an octet with an octet above it.
+fn joined(part: u8, filled: u8, octet: u8) -> u16
+    requires room { filled < 8 }
+    requires part { part < 2 ^ filled }
+    ensures bits { result ≡ part + 2 ^ filled * octet }
+    ensures below { result < 256 * 2 ^ filled }
+{
+    u16::from(part) + (u16::from(octet) << filled)
 }
 
 // Are these the octets of a frame and its check sequence?

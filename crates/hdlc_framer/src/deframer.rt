@@ -1,6 +1,7 @@
 // Frames out of a line of bits.
 
-ghost use Rattle.std.specs.Prelude.{◌≡◌, ◌↔◌, ℕ, ◌≤◌, Bool, false, List, [], ◌∷◌, ◌++◌, length, IsTrue};
+ghost use Rattle.std.specs.Prelude.{◌≡◌, ◌↔◌, ℕ, ◌+◌, ◌<◌, ◌≤◌, Bool, true, false, List, [], ◌∷◌, ◌++◌, length, take, IsTrue};
+ghost use Rattle.hdlc_framer.specs.BitOrder.{octet_bits};
 ghost use Rattle.hdlc_framer.specs.Carrier.{HoldsCarrier};
 ghost use Rattle.hdlc_framer.specs.FrameLength.{least_frame_length, most_frame_length};
 ghost use Rattle.hdlc_framer.specs.Frames.{IsFrame, EndsFrame};
@@ -81,6 +82,24 @@ impl Deframer {
             self.line.next(bit);
         }
         event
+    }
+
+    /// Takes eight bits at once, the lowest of an octet first, if none of them ends anything, as is so of most. Otherwise
+    /// it takes none of them, and they have to be pushed one by one.
+    pub fn push_octet(&mut self, octet: u8) -> bool
+        ensures taken { (b : List Bool) → StandsFor self.old b → result ≡ true
+            → StandsFor self.new (b ++ octet_bits octet) }
+        ensures quiet { (b : List Bool) → (k : ℕ) → (octets : List ℕ) → StandsFor self.old b → result ≡ true → k < 8
+            → ¬ EndsFrame (b ++ take (k + 1) (octet_bits octet)) octets }
+        ensures left { (b : List Bool) → StandsFor self.old b → result ≡ false → StandsFor self.new b }
+        ensures flags { flags_asked self.new ≡ flags_asked self.old }
+    {
+        self.settle();
+        if !self.line.take_octet(octet) {
+            return false;
+        }
+        self.carrier.take_octet();
+        true
     }
 
     // Goes on after the flag that ended the frame, if one is held.

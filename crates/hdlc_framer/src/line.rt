@@ -1,13 +1,21 @@
 // The line of bits, seen bit by bit: where zeros were inserted, where flags and aborts are, and what came since a flag.
 
-ghost use Rattle.std.specs.Prelude.{◌≡◌, ℕ, true, false, List, ◌++◌, Some};
-ghost use Rattle.hdlc_framer.specs.BitOrder.{sent_bits};
+ghost use Rattle.std.specs.Prelude.{◌≡◌, ℕ, Bool, true, false, List, ◌++◌, Some, None, ◌≤◌, ◌||◌};
+ghost use Rattle.std.specs.List.{fold};
+ghost use Rattle.hdlc_framer.specs.BitOrder.{octet_bits, sent_bits};
 ghost use Rattle.hdlc_framer.specs.Frames.{IsFrame, with_fcs};
 ghost use Rattle.hdlc_framer.specs.Held.{new_line, open_line, next_line, longer, flag_start};
 
 use crate::content::Content;
 use crate::event::Event;
+use crate::octet_step::octet_step;
 use std::marker::Model;
+
+// Steps below this one have plain bits alone.
+const PLAIN: u8 = 8;
+
+// Steps below this one end no flag and no abort.
+const QUIET: u8 = 16;
 
 #[derive(Drop)]
 pub struct LineState {
@@ -35,6 +43,7 @@ impl Model for LineState {
 
 impl LineState {
     ghost use Rattle.hdlc_framer.specs.LineEvents.{LineEvent};
+    ghost use Rattle.hdlc_framer.specs.OctetSteps.{are_quiet, has_zero, octet_step};
 
     pub fn new() -> Self
         ensures { result ≡ new_line }
@@ -82,6 +91,64 @@ impl LineState {
         ensures { self.new ≡ next_line self.old bit }
     {
         if bit { self.one() } else { self.zero() }
+    }
+
+    // Takes eight bits at once, the lowest of an octet first, if none of them ends anything or is to be left out.
+    pub fn take_octet(&mut self, octet: u8) -> bool
+        ensures taken { result ≡ true → self.new ≡ fold next_line self.old (octet_bits octet) }
+        ensures quiet { result ≡ true → are_quiet self.old.ones (octet_bits octet) ≡ true }
+        ensures left { result ≡ false → self.new ≡ self.old }
+    {
+        let step = octet_step(self.ones, octet);
+        if self.active {
+            self.take_plain(step, octet)
+        } else {
+            self.pass(step, octet)
+        }
+    }
+
+    // Takes plain bits as content.
+    fn take_plain(&mut self, step: u8, octet: u8) -> bool
+        requires step { step ≡ octet_step self.old.ones octet }
+        requires active { (content : List Bool) × (self.old.content ≡ Some content) }
+        ensures taken { result ≡ true → self.new ≡ fold next_line self.old (octet_bits octet) }
+        ensures quiet { result ≡ true → are_quiet self.old.ones (octet_bits octet) ≡ true }
+        ensures left { result ≡ false → self.new ≡ self.old }
+    {
+        if step >= PLAIN || !self.content.has_room_for_octet() {
+            return false;
+        }
+        self.content.push_octet(octet);
+        self.go_on(step, octet);
+        true
+    }
+
+    // Takes bits of no content.
+    fn pass(&mut self, step: u8, octet: u8) -> bool
+        requires step { step ≡ octet_step self.old.ones octet }
+        requires idle { self.old.content ≡ None }
+        requires ones { self.old.ones ≤ 7 }
+        ensures taken { result ≡ true → self.new ≡ fold next_line self.old (octet_bits octet) }
+        ensures quiet { result ≡ true → are_quiet self.old.ones (octet_bits octet) ≡ true }
+        ensures left { result ≡ false → self.new ≡ self.old }
+    {
+        if step >= QUIET {
+            return false;
+        }
+        self.go_on(step % PLAIN, octet);
+        true
+    }
+
+    // Goes on after the bits of an octet, which end with so many 1s.
+    fn go_on(&mut self, ones: u8, octet: u8)
+        requires { ones ≤ 7 }
+        ensures { self.new
+            ≡ record self.old { ones = ones; after_zero = has_zero (octet_bits octet) || self.old.after_zero } }
+    {
+        self.ones = ones;
+        if octet != 0xff {
+            self.after_zero = true;
+        }
     }
 
     fn one(&mut self)

@@ -28,6 +28,13 @@ impl NrziIn {
         NrziIn { before: Tone::Mark }
     }
 
+    /// The last of the tones, or mark before the first.
+    pub fn tone(&self) -> Tone
+        ensures { result ≡ self.now }
+    {
+        self.before
+    }
+
     /// Takes the next tone. The bit is 1 exactly when it equals the tone before.
     pub fn step(&mut self, tone: Tone) -> bool
         ensures bit { IsTrue result ↔ (self.old ≡ tone) }

@@ -9,3 +9,4 @@ pub mod WindowLemmas
 pub mod SlicerLemmas
 pub mod WaveLemmas
 pub mod NearWaves
+pub mod LaneLemmas

@@ -28,3 +28,4 @@ pub mod TurnLemmas
 pub mod MarkLemmas
 pub mod RingMergingLemmas
 pub mod RingBankLemmas
+pub mod EightLemmas

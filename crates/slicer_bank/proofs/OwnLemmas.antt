@@ -15,7 +15,10 @@ use Rattle.std.proofs.lemmas.List.FromFn.{get_or-map-range_with_len}
 use Rattle.tone_table.specs.declared.tone.Tone.TheVariants.{Mark}
 use Rattle.nrzi_bits.proofs.LineLemmas.{bits_from-take}
 use Rattle.offset_slicers.proofs.WindowLemmas.{tones_at-append}
-use Rattle.slicer_bank.specs.Heard.{LaneHearsMore}
+use Rattle.slicer_bank.specs.Heard.{AddsAll, LaneHearsMore}
+unfoldable use Rattle.slicer_bank.specs.Heard.{tones_in}
+use Rattle.std.proofs.Common.{zero, suc}
+use Rattle.std.proofs.lemmas.List.{drop-take, take-take}
 use Rattle.slicer_bank.proofs.CandidateLemmas.{candidate_more, candidate_less, AllPairs-append}
 use Rattle.slicer_bank.proofs.SevenLemmas.{seven_behind_first}
 
@@ -261,6 +264,125 @@ own_more offset position end next piece rest window left initial old new before 
               done.0 ++ heard.0,
               heard.1 ∙ ap (λ t. t ++ heard.0) done.1 ∙ append_assoc before done.0 heard.0,
               windows_join offset (windows_in offset position) n (n + 1) z done.0 heard.0 order (omega arith)
+                  done.2 heard.2,
+            ),
+          );
+    }
+
+-- ---- eight windows at once
+
+-- the tones of windows are those of the samples that they are
+pub tones_in-take : (count : ℕ) (x : List ℤ) → tones_in count (take (8 * count) x) ≡ tones_in count x
+unfolding tones_in
+tones_in-take zero x = refl
+tones_in-take (suc count) x =
+    let size : 8 * suc count ≡ 8 + 8 * count = omega arith in
+    ap (λ n. tones_in (suc count) (take n x)) size
+    ∙ (λ i. tone_of (first i) ∷ tones_in count (rest i)) ∙ ap (λ ts. tone_of (take 8 x) ∷ ts) (tones_in-take count (drop 8 x))
+  where
+    first : take 8 (take (8 + 8 * count) x) ≡ take 8 x
+    first = take-take 8 (8 + 8 * count) x (omega arith)
+
+    rest : drop 8 (take (8 + 8 * count) x) ≡ take (8 * count) (drop 8 x)
+    rest = drop-take 8 (8 * count) x
+
+-- what the next windows add
+windows_heard : (count offset n end : ℕ) (z samples : List ℤ) (middle after : List Candidate) → offset < 8
+    → n + count ≤ windows_in offset (length z) → end ≡ offset + 8 * (n + 1) → samples ≡ drop (offset + 8 * n) z
+    → AddsAll offset end (take n (tones_at offset z)) (tones_in count samples) middle after
+    → (heard : List Candidate) × (after ≡ middle ++ heard) × AreOfWindows offset n (n + count) z heard
+unfolding tones_in
+windows_heard zero offset n end z samples middle after small within at is adds =
+    let same : n ≡ n + 0 = omega arith in (
+      [],
+      sym (append-nil middle ∙ adds),
+      subst (λ m. AreOfWindows offset n m z []) same (windows_none offset n z),
+    )
+windows_heard (suc count) offset n end z samples middle after small within at is adds =
+    let one : n < windows_in offset (length z) = omega arith in
+    let tones : take n (tones_at offset z) ++ tone_of (take 8 samples) ∷ [] ≡ take (n + 1) (tones_at offset z)
+    = next_tone offset n z (take 8 samples) one (ap (take 8) is) in
+    let added : Adds offset end (take (n + 1) (bits offset z)) middle adds.0
+    = subst (λ b. Adds offset end b middle adds.0) (ap bits_of tones ∙ bits_first offset (n + 1) z) adds.1 in
+    let heard = window_heard offset n end z small one at middle adds.0 added in
+    let next : drop 8 samples ≡ drop (offset + 8 * (n + 1)) z
+    = ap (drop 8) is ∙ drop-drop 8 (offset + 8 * n) z ∙ ap (λ m. drop m z) (omega arith) in
+    let more = windows_heard count offset (n + 1) (end + 8) z (drop 8 samples) adds.0 after small (omega arith)
+    (omega arith) next
+    (subst (λ t. AddsAll offset (end + 8) t (tones_in count (drop 8 samples)) adds.0 after) tones adds.2) in
+    let count_is : (n + 1) + count ≡ n + suc count = omega arith in (
+      heard.0 ++ more.0,
+      more.1 ∙ ap (λ t. t ++ more.0) heard.1 ∙ append_assoc middle heard.0 more.0,
+      subst (λ m. AreOfWindows offset n m z (heard.0 ++ more.0)) count_is
+          (windows_join offset n (n + 1) ((n + 1) + count) z heard.0 more.0 (omega arith) (omega arith) heard.2 more.2),
+    )
+
+next_tones : (count offset n : ℕ) (z samples : List ℤ) → n + count ≤ windows_in offset (length z)
+    → samples ≡ drop (offset + 8 * n) z
+    → take n (tones_at offset z) ++ tones_in count samples ≡ take (n + count) (tones_at offset z)
+unfolding tones_in
+next_tones zero offset n z samples within is =
+    let same : n ≡ n + 0 = omega arith in
+    append-nil (take n (tones_at offset z)) ∙ ap (λ m. take m (tones_at offset z)) same
+next_tones (suc count) offset n z samples within is =
+    let tones = next_tone offset n z (take 8 samples) (omega arith) (ap (take 8) is) in
+    let next : drop 8 samples ≡ drop (offset + 8 * (n + 1)) z
+    = ap (drop 8) is ∙ drop-drop 8 (offset + 8 * n) z ∙ ap (λ m. drop m z) (omega arith) in
+    let count_is : (n + 1) + count ≡ n + suc count = omega arith in
+    sym (append_assoc (take n (tones_at offset z)) (tone_of (take 8 samples) ∷ []) (tones_in count (drop 8 samples)))
+    ∙ ap (λ t. t ++ tones_in count (drop 8 samples)) tones
+    ∙ next_tones count offset (n + 1) z (drop 8 samples) (omega arith) next
+    ∙ ap (λ m. take m (tones_at offset z)) count_is
+
+pub own_eight : (offset position end next : ℕ) (piece rest windows left : List ℤ) (initial old new : HeldLane)
+    (before found after : List Candidate)
+    → offset < 8 → 7 ≤ length piece → next ≡ end + 64 → 64 ≤ length rest → windows ≡ take 64 rest
+    → left ≡ drop 64 rest
+    → OwnHeard offset position end piece rest initial old before found
+    → ((low : ℕ) → low < end → All (CanBePutPast low) found → All (CanBePutPast low) after)
+    → flags_asked new.deframer ≡ flags_asked old.deframer
+    → ((tones : List Tone) → LaneStandsFor old tones
+    → LaneStandsFor new (tones ++ tones_in 8 windows) × AddsAll offset end tones (tones_in 8 windows) found after)
+    → OwnHeard offset position next piece left initial new before after
+own_eight offset position end next piece rest windows left initial old new before found after small seven_more up enough
+    is left_is h bounds same takes =
+    let n : ℕ = h.taken in
+    let at = h.at in
+    let begun = h.begun in
+    let index : ℕ = end - 1 - position in
+    let size_rest : length rest ≡ length piece - index = ap length h.rest_is ∙ length-drop index piece in
+    let inside : end + 56 ≤ position + (length piece - 7) = omega arith in
+    record {
+      taken = n + 8;
+      at = omega arith;
+      few = omega arith;
+      begun = omega arith;
+      rest_is = left_is ∙ ap (drop 64) h.rest_is ∙ drop-drop 64 index piece
+          ∙ ap (λ m. drop m piece) (let e : index + 64 ≡ next - 1 - position = omega arith in e);
+      bounds = λ low under each. bounds low (omega arith) (h.bounds low under each);
+      asks = same ∙ h.asks;
+      heard = λ x size seven s.
+          let more : List ℤ = drop 7 piece in
+          let z : List ℤ = x ++ more in
+          let so_far = h.heard x size seven s in
+          let done = so_far.1 in
+          let len : length z ≡ position + (length piece - 7) =
+          omega (arith, length-append x more, length-drop 7 piece) in
+          let within : n + 8 ≤ windows_in offset (length z) = omega arith in
+          let whole : piece ≡ last_seven x ++ more = sym (take-append-drop 7 piece) ∙ ap (λ t. t ++ more) seven in
+          let there : rest ≡ drop (offset + 8 * n) z
+          = h.rest_is ∙ stream x more piece (offset + 8 * n) index whole (omega arith) in
+          let tones : tones_in 8 windows ≡ tones_in 8 rest = ap (tones_in 8) is ∙ tones_in-take 8 rest in
+          let taken = takes (take n (tones_at offset z)) so_far.0 in
+          let heard = windows_heard 8 offset n end z rest found after small within at there
+          (subst (λ t. AddsAll offset end (take n (tones_at offset z)) t found after) tones taken.1) in
+          let order : windows_in offset position ≤ n = omega arith in (
+            subst (LaneStandsFor new) (ap (λ t. take n (tones_at offset z) ++ t) tones
+                ∙ next_tones 8 offset n z rest within there) taken.0,
+            (
+              done.0 ++ heard.0,
+              heard.1 ∙ ap (λ t. t ++ heard.0) done.1 ∙ append_assoc before done.0 heard.0,
+              windows_join offset (windows_in offset position) n (n + 8) z done.0 heard.0 order (omega arith)
                   done.2 heard.2,
             ),
           );

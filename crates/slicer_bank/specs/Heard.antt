@@ -1,8 +1,12 @@
 -- What is heard of one window and of some samples.
-use Rattle.std.specs.Prelude.{◌≡◌, ℕ, ◌+◌, ◌*◌, ◌<◌, ◌≤◌, ℤ, List, [], ◌∷◌, ◌++◌, length, map, Bool, Some}
+use Rattle.std.specs.Prelude.{◌≡◌, ℕ, zero, suc, ◌+◌, ◌*◌, ◌<◌, ◌≤◌, ℤ, List, [], ◌∷◌, ◌++◌, length, map, take, drop, Bool}
+use Rattle.std.specs.Prelude.{Some}
 use Rattle.std.specs.Prelude.{slice_index_or}
 use Rattle.std.specs.List.{All, AllPairs, Contains}
+use Rattle.tone_table.specs.declared.tone.Tone.{Tone}
+use Rattle.nrzi_bits.specs.Line.{bits_of}
 use Rattle.hdlc_framer.specs.Frames.{EndsFrame}
+use Rattle.offset_slicers.specs.Decision.{tone_of}
 use Rattle.frame_merge.specs.declared.candidate.Candidate.{Candidate}
 use Rattle.offset_slicers.specs.Windows.{windows_in, tones_at}
 use Rattle.slicer_bank.specs.Candidates.{IsCandidate}
@@ -19,6 +23,18 @@ pub record Adds (offset end : ℕ) (bits : List Bool) (before after : List Candi
   pub found : after ≡ before ++ map (candidate_at end offset) octets
   pub each : All (λ o. EndsFrame bits o) octets
   pub whole : (o : List ℕ) → EndsFrame bits o → octets ≡ o ∷ []
+
+-- the tones of so many windows in a row
+unfoldable pub tones_in : ℕ → List ℤ → List Tone
+tones_in zero samples = []
+tones_in (suc count) samples = tone_of (take 8 samples) ∷ tones_in count (drop 8 samples)
+
+-- what a lane that has taken tones adds with more of them, the window of the first of which ends at a place
+abbrev pub AddsAll : ℕ → ℕ → List Tone → List Tone → List Candidate → List Candidate → Type 0
+AddsAll offset end tones [] before after = before ≡ after
+AddsAll offset end tones (tone ∷ more) before after = (middle : List Candidate)
+    × Adds offset end (bits_of (tones ++ tone ∷ [])) before middle
+    × AddsAll offset (end + 8) (tones ++ tone ∷ []) more middle after
 
 -- the items are the candidates of one offset that end with one of its windows, from a window's number to below
 -- another's, each once and in order

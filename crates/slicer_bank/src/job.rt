@@ -10,7 +10,7 @@ ghost use Rattle.slicer_bank.specs.Heard.{AreOfWindows, HearsAlone, LaneHears};
 ghost use Rattle.slicer_bank.specs.Merging.{CanBePutPast};
 
 use crate::lane::{LANES, Lane};
-use crate::window_hearing::{bridge, hear};
+use crate::window_hearing::{bridge, hear, hear_eight};
 use frame_merge::Candidate;
 use std::alloc::Global;
 use tnc_base::OutOfMemory;
@@ -96,9 +96,15 @@ fn hear_own(
     let before = piece.len().min((end - 1 - position) as usize);
     let mut rest = &piece[before..];
     while let Some((window, after)) = rest.split_first_chunk::<8>() {
-        hear(alloc, lane, offset, end, window, found)?;
-        end += LANES;
-        rest = after;
+        if let Some((windows, later)) = rest.split_first_chunk::<64>() {
+            hear_eight(alloc, lane, offset, end, windows, found)?;
+            end += 8 * LANES;
+            rest = later;
+        } else {
+            hear(alloc, lane, offset, end, window, found)?;
+            end += LANES;
+            rest = after;
+        }
     }
     Ok(())
 }

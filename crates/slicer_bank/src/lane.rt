@@ -1,10 +1,10 @@
 //! One lane of the bank: a lane of tones that takes windows.
 
-ghost use Rattle.std.specs.Prelude.{◌≡◌, ◌↔◌, ℕ, ◌≤◌, ℤ, List, [], ◌∷◌, ◌++◌, length, true, Some, IfOk, OnOk, IsTrue};
+ghost use Rattle.std.specs.Prelude.{◌≡◌, ◌↔◌, ℕ, ◌+◌, ◌<◌, ◌≤◌, ℤ, List, [], ◌∷◌, ◌++◌, length, take, true, false, Some};
+ghost use Rattle.std.specs.Prelude.{IfOk, OnOk, IsTrue};
 ghost use Rattle.std.specs.List.{All};
 ghost use Rattle.tone_table.specs.declared.tone.Tone.{Tone};
 ghost use Rattle.nrzi_bits.specs.Line.{bits_of};
-ghost use Rattle.offset_slicers.specs.Decision.{tone_of};
 ghost use Rattle.hdlc_framer.specs.Frames.{IsFrame, EndsFrame};
 ghost use Rattle.hdlc_framer.specs.Carrier.{HoldsCarrier};
 ghost use Rattle.hdlc_framer.specs.Held.{HoldsFrame, flags_asked};
@@ -14,10 +14,10 @@ ghost use Rattle.slicer_bank.specs.Held.{AsksFor, LaneStandsFor, LanesStandFor};
 
 use crate::tone_lane::ToneLane;
 use frame_merge::Candidate;
-use offset_slicers::decide;
 use std::alloc::Global;
 use std::marker::Model;
 use tnc_base::OutOfMemory;
+use tone_table::Tone;
 
 /// One lane for each offset of a bit.
 pub(crate) const LANES: u64 = 8;
@@ -57,19 +57,33 @@ impl Lane {
         }
     }
 
-    /// Takes the next window, and says whether a frame ends with it.
-    pub(crate) fn push(&mut self, window: &[i16; 8]) -> bool
+    /// Takes the tone of the next window, and says whether a frame ends with it.
+    pub(crate) fn push(&mut self, tone: Tone) -> bool
         ensures stands_for { (tones : List Tone) → LaneStandsFor self.old tones
-            → LaneStandsFor self.new (tones ++ tone_of window.now ∷ []) }
+            → LaneStandsFor self.new (tones ++ tone ∷ []) }
         ensures holds { result ≡ true → (octets : List ℕ) × IsFrame octets × HoldsFrame self.new.deframer octets }
         ensures heard { (tones : List Tone) → LaneStandsFor self.old tones → result ≡ true
-            → (octets : List ℕ) × EndsFrame (bits_of (tones ++ tone_of window.now ∷ [])) octets }
+            → (octets : List ℕ) × EndsFrame (bits_of (tones ++ tone ∷ [])) octets }
         ensures frame { (tones : List Tone) (octets : List ℕ) → LaneStandsFor self.old tones
-            → EndsFrame (bits_of (tones ++ tone_of window.now ∷ [])) octets
+            → EndsFrame (bits_of (tones ++ tone ∷ [])) octets
             → (result ≡ true) × HoldsFrame self.new.deframer octets }
         ensures asks { flags_asked self.new.deframer ≡ flags_asked self.old.deframer }
     {
-        self.tones.push(decide(window))
+        self.tones.push(tone)
+    }
+
+    /// Takes the tones of the next eight windows at once, if no flag and no abort ends with any of them and no bit is an
+    /// inserted 0. Otherwise it takes none.
+    pub(crate) fn push_eight(&mut self, eight: &[Tone; 8]) -> bool
+        ensures taken { (tones : List Tone) → LaneStandsFor self.old tones → result ≡ true
+            → LaneStandsFor self.new (tones ++ eight.now) }
+        ensures quiet { (tones : List Tone) (k : ℕ) (octets : List ℕ) → LaneStandsFor self.old tones → result ≡ true
+            → k < 8 → ¬ EndsFrame (bits_of (tones ++ take (k + 1) eight.now)) octets }
+        ensures left { (tones : List Tone) → LaneStandsFor self.old tones → result ≡ false
+            → LaneStandsFor self.new tones }
+        ensures asks { flags_asked self.new.deframer ≡ flags_asked self.old.deframer }
+    {
+        self.tones.push_eight(eight)
     }
 
     /// The octets of the frame that the last window ended, without its check sequence.

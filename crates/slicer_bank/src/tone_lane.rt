@@ -1,9 +1,11 @@
 //! A lane that takes tones: the rule of the line and the deframer of its bits.
 
-ghost use Rattle.std.specs.Prelude.{◌≡◌, ◌≤◌, ◌↔◌, ℕ, List, [], ◌∷◌, ◌++◌, length, true, IfOk, IsTrue};
+ghost use Rattle.std.specs.Prelude.{◌≡◌, ◌<◌, ◌≤◌, ◌↔◌, ℕ, ◌+◌, ◌*◌, List, [], ◌∷◌, ◌++◌, length, take, true, false, IfOk};
+ghost use Rattle.std.specs.Prelude.{IsTrue, if◌then◌else◌};
 ghost use Rattle.std.specs.List.{All};
 ghost use Rattle.tone_table.specs.declared.tone.Tone.{Tone};
-ghost use Rattle.nrzi_bits.specs.Line.{bits_of};
+ghost use Rattle.nrzi_bits.specs.Line.{bits_from, bits_of, same_tone};
+ghost use Rattle.hdlc_framer.specs.BitOrder.{octet_bits};
 ghost use Rattle.hdlc_framer.specs.Carrier.{HoldsCarrier};
 ghost use Rattle.hdlc_framer.specs.Frames.{IsFrame, EndsFrame};
 ghost use Rattle.hdlc_framer.specs.Held.{HoldsFrame, flags_asked};
@@ -67,6 +69,25 @@ impl ToneLane {
         self.deframer.push(bit) == Event::Frame
     }
 
+    /// Takes the next eight tones at once, if no flag and no abort ends with any of their bits and none is an inserted 0,
+    /// as is so of most. Otherwise it takes none of them, and they have to be pushed one by one.
+    pub fn push_eight(&mut self, eight: &[Tone; 8]) -> bool
+        ensures taken { (tones : List Tone) → ToneLaneStandsFor self.old tones → result ≡ true
+            → ToneLaneStandsFor self.new (tones ++ eight.now) }
+        ensures quiet { (tones : List Tone) (k : ℕ) (octets : List ℕ) → ToneLaneStandsFor self.old tones → result ≡ true
+            → k < 8 → ¬ EndsFrame (bits_of (tones ++ take (k + 1) eight.now)) octets }
+        ensures left { (tones : List Tone) → ToneLaneStandsFor self.old tones → result ≡ false
+            → ToneLaneStandsFor self.new tones }
+        ensures asks { flags_asked self.new.deframer ≡ flags_asked self.old.deframer }
+    {
+        let octet = octet_of(self.line.tone(), eight);
+        if !self.deframer.push_octet(octet) {
+            return false;
+        }
+        self.line.step(eight[7]);
+        true
+    }
+
     /// The octets of the frame that the last tone ended, without its check sequence.
     pub fn octets(&self) -> &[u8]
         requires { (octets : List ℕ) × IsFrame octets × HoldsFrame self.now.deframer octets }
@@ -81,6 +102,35 @@ impl ToneLane {
             → (IsTrue result ↔ HoldsCarrier (flags_asked self.now.deframer) (bits_of tones)) }
     {
         self.deframer.busy()
+    }
+}
+
+/// The bits of eight tones, the first one in the lowest place, if they come after a tone.
+fn octet_of(before: Tone, eight: &[Tone; 8]) -> u8
+    ensures { octet_bits result ≡ bits_from before eight.now }
+{
+    let [a, b, c, d, e, f, g, h] = *eight;
+    let last = with_bit(agree(f, g), with_bit(agree(g, h), 0));
+    let later = with_bit(agree(d, e), with_bit(agree(e, f), last));
+    let early = with_bit(agree(b, c), with_bit(agree(c, d), later));
+    with_bit(agree(before, a), with_bit(agree(a, b), early))
+}
+
+/// A bit, and bits in the places above it.
+fn with_bit(bit: bool, above: u8) -> u8
+    requires { above < 128 }
+    ensures value { result ≡ 2 * above + (if bit then 1 else 0) }
+{
+    2 * above + u8::from(bit)
+}
+
+/// Whether two tones agree.
+fn agree(before: Tone, tone: Tone) -> bool
+    ensures { result ≡ same_tone before tone }
+{
+    match (before, tone) {
+        (Tone::Mark, Tone::Mark) | (Tone::Space, Tone::Space) => true,
+        (Tone::Mark, Tone::Space) | (Tone::Space, Tone::Mark) => false,
     }
 }
 

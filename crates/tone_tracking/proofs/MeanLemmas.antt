@@ -1,11 +1,11 @@
 -- Samples without their mean: those that the samples settle, and those with a sample more.
-use Rattle.tone_tracking.proofs.Common.{◌≡◌, ℕ, ◌+◌, ◌-◌, ◌<◌, ◌≤◌, ℤ, pos, ◌-ℤ◌, ◌*ℤ◌, List, [], ◌∷◌, length, map}
+use Rattle.tone_tracking.proofs.Common.{◌≡◌, ℕ, ◌+◌, ◌-◌, ◌<◌, ◌≤◌, ℤ, pos, ◌-ℤ◌, ◌*ℤ◌, List, [], ◌∷◌, length}
 use Rattle.tone_tracking.proofs.Common.{get_or, set, replicate, refl, ap, sym, ◌∙◌, arith, sum_below, inl, inr, cases_lt}
 use Rattle.std.proofs.Common.{◌++◌, append_assoc, append-nil, drop, take, length-append, length-drop}
 use Rattle.std.proofs.Common.{get_or-append-add}
 use Rattle.std.specs.Int.{int_div_euclid}
-use Rattle.std.specs.List.{copy_within, range_with_len}
-use Rattle.std.proofs.lemmas.List.{drop-append-le, drop-drop, get_or-drop, get_or_append_left, length-replicate, length_push, length-set, take-append-drop}
+use Rattle.std.specs.List.{copy_within}
+use Rattle.std.proofs.lemmas.List.{drop-append-le, drop-drop, get_or-drop, get_or_append_left, length-replicate, length_push, length-set}
 use Rattle.std.proofs.lemmas.List.{take_all, take_more_set}
 use Rattle.std.proofs.lemmas.List.Edits.{take-paste}
 use Rattle.std.proofs.lemmas.List.FromFn.{fill_by_all, get_or-map-range_with_len, length-map-range_with_len}
@@ -13,7 +13,9 @@ use Rattle.std.proofs.lemmas.List.FromFn.{map-range_with_len_more}
 use Rattle.offset_slicers.proofs.DecisionLemmas.{sum_below-agree}
 unfoldable use Rattle.tone_tracking.specs.WithoutMean.{sum_around}
 use Rattle.tone_tracking.specs.WithoutMean.{without_mean, without_mean_at, without_mean_first}
-use Rattle.tone_tracking.specs.HeldMean.{last_samples}
+use Rattle.tone_tracking.specs.HeldMean.{IsSumOf, last_samples}
+use Rattle.std.proofs.lemmas.List.Elements.{All-append, All-cons, All-drop, All-nil, All-replicate}
+use Rattle.tone_tracking.proofs.Common.{All, unsigned_abs, ints, zero, suc, ◌+ℤ◌, ◌*◌}
 
 abbrev zeros : ℕ → List ℤ
 zeros n = replicate n (pos 0)
@@ -54,6 +56,63 @@ slid samples moved sample whole same is =
     ∙ ap (λ w. take 31 w ++ sample ∷ []) is
     ∙ ap (λ w. w ++ sample ∷ []) (take-paste samples 0 (drop 1 samples) 31 (omega arith) (omega arith))
     ∙ ap (λ w. w ++ sample ∷ []) (take_all 31 (drop 1 samples) (omega arith))
+
+-- ---- their sum
+
+-- a sum with its first number apart
+sum_first : (f : ℕ → ℤ) (n : ℕ) → sum_below f (suc n) ≡ f 0 +ℤ sum_below (λ j. f (suc j)) n
+unfolding sum_below
+sum_first f zero = omega (arith, ints)
+sum_first f (suc n) = omega (arith, ints, sum_first f n)
+
+-- the sum of the last 32 with one more and the first one less
+slid_sum : (xs : List ℤ) (sample : ℤ) → length xs ≡ 32 → sum_of_first (drop 1 xs ++ sample ∷ []) 32
+    ≡ (sum_of_first xs 32 -ℤ get_or xs 0 (pos 0)) +ℤ sample
+unfolding sum_below
+slid_sum xs sample whole =
+    let rest : length (drop 1 xs) ≡ 31 = omega (arith, length-drop 1 xs) in
+    let front : sum_of_first (drop 1 xs ++ sample ∷ []) 31 ≡ sum_below (λ j. get_or xs (suc j) (pos 0)) 31
+    = sum_below-agree (λ j. get_or (drop 1 xs ++ sample ∷ []) j (pos 0)) (λ j. get_or xs (suc j) (pos 0)) 31
+    (λ j below. get_or_append_left (drop 1 xs) (sample ∷ []) (pos 0) j (omega arith) ∙ get_or-drop 1 xs j (pos 0)
+    ∙ ap (λ k. get_or xs k (pos 0)) (let e : 1 + j ≡ suc j = omega arith in e)) in
+    let last : get_or (drop 1 xs ++ sample ∷ []) 31 (pos 0) ≡ sample
+    = ap (λ k. get_or (drop 1 xs ++ sample ∷ []) k (pos 0)) (let e : 31 ≡ length (drop 1 xs) + 0 = omega arith in e)
+    ∙ get_or-append-add (drop 1 xs) (sample ∷ []) 0 (pos 0) in
+    let before = sum_first (λ j. get_or xs j (pos 0)) 31 in
+    omega (arith, ints, front, last, before)
+
+-- none of the sums is large
+sum_small : (xs : List ℤ) → All (λ sample. unsigned_abs sample ≤ 32768) xs → (n : ℕ) → n ≤ length xs
+    → unsigned_abs (sum_of_first xs n) ≤ 32768 * n
+unfolding sum_below
+sum_small xs small zero le = omega (arith, ints)
+sum_small xs small (suc n) le =
+    let before = sum_small xs small n (omega arith) in
+    let one = small n (pos 0) (omega arith) in
+    omega (arith, ints, before, one)
+
+module _ (xs : List ℤ) (sum : ℤ) (whole : length xs ≡ 32) (h : IsSumOf xs sum) where
+  pub held_sum_small : unsigned_abs sum ≤ 1048576
+  held_sum_small =
+      let most = sum_small xs h.small 32 (omega arith) in
+      let is = h.sum_is in
+      omega (arith, ints)
+
+  pub held_sum_slid : (sample more : ℤ) → unsigned_abs sample ≤ 32768
+      → more ≡ (sum -ℤ get_or xs 0 (pos 0)) +ℤ sample → IsSumOf (drop 1 xs ++ sample ∷ []) more
+  held_sum_slid sample more small is =
+      let P : ℤ → Type 0 = λ z. unsigned_abs z ≤ 32768 in
+      record {
+        small = All-append P (drop 1 xs) (sample ∷ []) (All-drop P 1 xs h.small) (All-cons P sample [] small (All-nil P));
+        sum_is = is ∙ ap (λ z. (z -ℤ get_or xs 0 (pos 0)) +ℤ sample) h.sum_is ∙ sym (slid_sum xs sample whole);
+      }
+
+pub no_sum : IsSumOf (replicate 32 (pos 0)) (pos 0)
+unfolding sum_below
+no_sum = record {
+  small = All-replicate (λ z. unsigned_abs z ≤ 32768) 32 (pos 0) (omega arith);
+  sum_is = refl;
+}
 
 -- a place of what is kept
 kept_place : (u : List ℤ) (n i : ℕ) → length u ≡ n + 16 → get_or (last_samples u) i (pos 0)

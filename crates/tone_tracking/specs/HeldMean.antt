@@ -1,5 +1,7 @@
 -- What a mean remover keeps, and what that stands for.
-use Rattle.std.specs.Prelude.{◌≡◌, ℕ, ◌-◌, ℤ, pos, List, ◌++◌, length, drop, replicate}
+use Rattle.std.specs.Prelude.{◌≡◌, ◌≤◌, ℕ, ◌-◌, ℤ, pos, List, ◌++◌, length, drop, replicate, slice_index_or, unsigned_abs}
+use Rattle.std.specs.List.{All}
+use Rattle.offset_slicers.specs.Decision.{sum_below}
 
 -- the last 32 of the samples, with zeros before the first
 abbrev pub last_samples : List ℤ → List ℤ
@@ -14,3 +16,8 @@ pub record HeldMean : Type 0 where
 pub record StandsFor (held : HeldMean) (x : List ℤ) : Type 0 where
   pub samples : held.samples ≡ last_samples x
   pub left : held.left ≡ 15 - length x
+
+-- the sum of 32 samples of sixteen bits
+pub record IsSumOf (samples : List ℤ) (sum : ℤ) : Type 0 where
+  pub small : All (λ sample. unsigned_abs sample ≤ 32768) samples
+  pub sum_is : sum ≡ sum_below (λ j. slice_index_or samples j (pos 0)) 32

@@ -4,11 +4,10 @@
 //! of it as space: if it is louder than the tones, every window is space. A mean over 32 samples, four bits, takes out
 //! constants and what changes slowly, and of both tones so little that it is not missed.
 
-ghost use Rattle.std.specs.Prelude.{◌≡◌, ◌≤◌, ℤ, pos, ◌-ℤ◌, ◌*ℤ◌, List, [], ◌∷◌, ◌++◌, IfSome, drop, slice_index_or};
-ghost use Rattle.std.specs.Prelude.{◌-◌, ◌<◌, IsNone, IsSome, unsigned_abs};
+ghost use Rattle.std.specs.Prelude.{◌≡◌, ◌≤◌, ℤ, pos, ◌-ℤ◌, ◌*ℤ◌, List, [], ◌∷◌, ◌++◌, IfSome, drop};
+ghost use Rattle.std.specs.Prelude.{◌-◌, ◌<◌, ◌+ℤ◌, IsNone, IsSome, unsigned_abs};
 ghost use Rattle.std.specs.Int.{int_div_euclid};
 ghost use Rattle.std.specs.Option.{option_to_list};
-ghost use Rattle.offset_slicers.specs.Decision.{sum_below};
 ghost use Rattle.tone_tracking.specs.WithoutMean.{without_mean};
 ghost use Rattle.tone_tracking.specs.HeldMean.{StandsFor};
 
@@ -18,19 +17,22 @@ use std::marker::Model;
 const AHEAD: u8 = 15;
 
 /// Takes samples one by one, and gives each without its mean, in quarters, as soon as fifteen more have come. It keeps
-/// the last 32.
+/// the last 32, and their sum.
 #[derive(Debug, Drop)]
 pub struct MeanRemover {
     samples: [i16; 32],
+    sum: i32,
     left: u8,
 }
 
 impl Model for MeanRemover {
-    ghost use Rattle.tone_tracking.specs.HeldMean.{HeldMean};
+    ghost use Rattle.tone_tracking.specs.HeldMean.{HeldMean, IsSumOf};
 
     ghost Value = { HeldMean };
 
     ghost view = { λ s. record { samples = s.samples; left = s.left } };
+
+    ghost invariant = { λ s. IsSumOf s.samples s.sum };
 }
 
 impl MeanRemover {
@@ -40,6 +42,7 @@ impl MeanRemover {
     {
         MeanRemover {
             samples: [0; 32],
+            sum: 0,
             left: AHEAD,
         }
     }
@@ -59,7 +62,7 @@ impl MeanRemover {
             self.left -= 1;
             return None;
         }
-        Some(less_mean(self.samples[16], sum(&self.samples)))
+        Some(less_mean(self.samples[16], self.sum))
     }
 
     /// Takes a sample in place of the first of the last 32.
@@ -67,21 +70,18 @@ impl MeanRemover {
         ensures samples { self.new.samples ≡ drop 1 self.old.samples ++ sample ∷ [] }
         ensures left { self.new.left ≡ self.old.left }
     {
+        self.sum = slid_sum(self.sum, self.samples[0], sample);
         self.samples.copy_within(1..32, 0);
         self.samples[31] = sample;
     }
 }
 
-/// The sum of 32 samples.
-fn sum(samples: &[i16; 32]) -> i32
-    ensures sum { result ≡ sum_below (λ j. slice_index_or samples.now j (pos 0)) 32 }
-    ensures bound { unsigned_abs result ≤ 1048576 }
+/// A sum with a sample more and the first one less.
+fn slid_sum(sum: i32, first: i16, more: i16) -> i32
+    requires { unsigned_abs sum ≤ 1048576 }
+    ensures { result ≡ (sum -ℤ first) +ℤ more }
 {
-    let mut sum = 0;
-    for i in 0..32 {
-        sum += i32::from(samples[i]);
-    }
-    sum
+    sum - i32::from(first) + i32::from(more)
 }
 
 /// Four times a sample, less four times the mean of 32 that have a sum.

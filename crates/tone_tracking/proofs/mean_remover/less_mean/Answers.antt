@@ -1,5 +1,5 @@
 use Rattle.tone_tracking.proofs.Common.{◌≡◌, ◌≤◌, ℤ, pos, ◌-ℤ◌, ◌*ℤ◌, unsigned_abs, FitsSigned, to_z, of_z, w16, w32, ◌∙◌, ap}
-use Rattle.tone_tracking.proofs.Common.{arith, ints, rules, to_z-of_z, negsuc, ◌/◌, ◌+◌}
+use Rattle.tone_tracking.proofs.Common.{arith, ints, to_z-of_z, negsuc, ◌/◌, ◌+◌}
 use Rattle.std.specs.Int.{int_div_euclid}
 use Rattle.tone_tracking.proofs.mean_remover.less_mean.Goals as goal
 

@@ -1,11 +1,15 @@
-use Rattle.tone_tracking.proofs.Common.{◌≡◌, ◌≤◌, ◌-◌, ◌<◌, ◌∙◌, ◌∷◌, [], ◌-ℤ◌, ◌*ℤ◌, ℤ, pos, List, length, ap, sym, arith}
+use Rattle.tone_tracking.proofs.Common.{◌≡◌, ◌≤◌, ◌∙◌, ◌∷◌, [], ◌-ℤ◌, ◌*ℤ◌, ℤ, pos, List, ap, sym, subst, arith, ints, unsigned_abs}
 use Rattle.tone_tracking.proofs.Common.{rules, get_or, to_z, of_z, FitsSigned, to_z-of_z, w16, w32, sum_below}
 use Rattle.std.proofs.Common.{◌++◌, drop}
 use Rattle.std.proofs.lemmas.List.{length_push}
 use Rattle.std.specs.Int.{int_div_euclid}
 use Rattle.tone_tracking.specs.HeldMean.{HeldMean, StandsFor, last_samples}
-use Rattle.tone_tracking.proofs.MeanLemmas.{last_samples-push, without_mean-more}
+use Rattle.tone_tracking.proofs.MeanLemmas.{held_sum_small, last_samples-push, without_mean-more}
 use Rattle.tone_tracking.proofs.mean_remover.MeanRemover.push.Goals as goal
+
+-- a sum as it is passed
+sum_passed : (sum : ℤ) → unsigned_abs sum ≤ 1048576 → to_z w32 (of_z w32 sum) ≡ sum
+sum_passed sum small = omega (arith, ints)
 
 -- the last samples, with one more as it is passed
 moved : (was now : HeldMean) (x : List ℤ) (sample given : ℤ) → now.samples ≡ drop 1 was.samples ++ given ∷ []
@@ -51,11 +55,17 @@ returns-clause-settled c = λ x h.
     ∙ moved c.args.self.now c.take.new.self x c.args.sample (to_z w16 (of_z w16 c.args.sample))
     c.take.ensures.samples (to_z-of_z w16 c.args.sample c.ranges.sample) h in
     let middle_fits : FitsSigned w16 (get_or c.self.inside.samples 16 (pos 0)) = search rules in
-    let sum_fits : FitsSigned w32 c.sum.result = search rules in
+    let small = held_sum_small c.self.inside.samples c.self.inside.sum c.self.told c.self.invariant in
     let fits : FitsSigned w32 c.less_mean.result = search rules in
     let middle = to_z-of_z w16 (get_or c.self.inside.samples 16 (pos 0)) middle_fits ∙ ap (λ l. get_or l 16 (pos 0)) w in
-    let sum = to_z-of_z w32 c.sum.result sum_fits ∙ c.sum.ensures.sum
+    let sum = sum_passed c.self.inside.sum small ∙ c.self.invariant.sum_is
     ∙ ap (λ l. sum_below (λ j. get_or l j (pos 0)) 32) w in
     without_mean-more x c.args.sample (to_z w32 (of_z w32 c.less_mean.result)) (omega arith)
     (to_z-of_z w32 c.less_mean.result fits ∙ c.less_mean.ensures.value
     ∙ (λ i. pos 4 *ℤ middle i -ℤ int_div_euclid (sum i) (pos 8)))
+
+pub less_mean-requires : goal.less_mean-requires
+less_mean-requires c =
+    let s = c.self.inside in
+    let small = held_sum_small s.samples s.sum c.self.told c.self.invariant in
+    subst (λ z. unsigned_abs z ≤ 1048576) (sym (sum_passed s.sum small)) small
