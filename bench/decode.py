@@ -5,8 +5,9 @@
 
 The audio is the shipped recordings without noise, one after another. Each program runs five times on it, and the best
 run counts. Printed are seconds of audio a second of processor time, the peak memory, and the time against that of tnc.
-Then come ten minutes of white noise, and what each receiver of tnc takes of a sample: of the audio at 9600 and at 48,000
-samples a second, and of the same frames at 300 bits a second. Last comes what threads give, in seconds on the wall: of all
+Then come ten minutes of white noise, and what each receiver of tnc takes of a sample, beside what the sums and the bits of
+the eight lanes alone would take: of the audio at 9600 and at 48,000 samples a second, and of the same frames at 300 bits a
+second. Last comes what threads give, in seconds on the wall: of all
 processors, and of one.
 A peer that is not installed is left out, and said so. The plain decoder is bench/plain_decoder.c, built here with
 cc -O2; it reads its input whole, of which tnc keeps nothing. The audio of multimon-ng is resampled for it beforehand. At
@@ -82,6 +83,10 @@ def beside_others(room, measure):
         base = base or rate
 
 
+# What the eight lanes cannot do without, in cycles a sample: about ten for the four sums of a window, and five for its bit.
+LIMIT = 15
+
+
 def cycles(room, measure):
     """What each receiver takes of a sample."""
     raw = written(f"{room}/audio.raw", audio(600))
@@ -94,7 +99,8 @@ def cycles(room, measure):
     for words, given in receivers:
         run = best(measure, [tnc(), *words], given)
         taken = run.seconds * clock_rate() / (os.path.getsize(given) / 2)
-        print(f"{' '.join(['tnc', *words]):37} {taken:7.1f} cycles a sample  {run.peak / 1024:6.1f} MiB")
+        print(f"{' '.join(['tnc', *words]):37} {taken:7.1f} cycles a sample, {taken / LIMIT:6.1f} times the limit of the"
+              f" eight lanes  {run.peak / 1024:6.1f} MiB")
 
 
 def threads(room, measure):

@@ -15,5 +15,6 @@ fn a_flag_and_a_letter_keep_the_tone_for_one_and_change_it_for_zero(rt: HostRunt
         let tone = sender.step(*bit == b'1');
         let heard = if receiver.step(tone) { b'1' } else { b'0' };
         assert_equal(&rt, &(at, letter(tone), heard), &(at, *wanted, *bit));
+        assert_equal(&rt, &letter(receiver.tone()), wanted);
     }
 }

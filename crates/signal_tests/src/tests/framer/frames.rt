@@ -44,6 +44,25 @@ fn shortest_frame(rt: HostRuntime) -> Result<(), Fail> {
     Ok(())
 }
 
+#[test]
+fn eight_bits_at_once(rt: HostRuntime) {
+    let mut deframer = Deframer::new();
+    for bit in [false, true, true, true, true, true, true, false] {
+        deframer.push(bit);
+    }
+    // A flag, an abort and an inserted 0 are not taken.
+    for (octet, wanted) in [
+        (0x4a, true),
+        (0x7e, false),
+        (0xff, false),
+        (0x1f, false),
+        (0x0f, true),
+    ] {
+        let taken = deframer.push_octet(octet);
+        assert_equal(&rt, &(octet, taken), &(octet, wanted));
+    }
+}
+
 /// How many frames a new deframer finds, and how many of them are this one.
 fn found(bits: &[bool], frame: &[u8]) -> (u8, u8) {
     let mut deframer = Deframer::new();
