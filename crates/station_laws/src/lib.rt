@@ -12,7 +12,7 @@ mod laws;
 
 pub use laws::{
     answers_are_of_sent, answers_over_runs, askers_stand_beside, call_texts_agree, caller_law,
-    ends_follow, hosts_ask_nothing, links_tell_in_one, matched_in_order, matched_law, one_turn,
-    owners_are_told, programs_are_told, runs_tell_in_one, set_ups_law, stations_law,
-    written_frames_agree,
+    ends_follow, hosts_ask_nothing, links_tell_in_one, matched_in_order, matched_law,
+    one_frame_ends, one_turn, own_room, owners_are_told, programs_are_told, runs_tell_in_one,
+    set_ups_law, stations_law, written_frames_agree,
 };

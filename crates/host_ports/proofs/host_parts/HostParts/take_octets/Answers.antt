@@ -1,6 +1,6 @@
 use Rattle.host_ports.proofs.Common.{◌≡◌, refl, sym, ap, ◌∙◌, list_any, true≢false, on_ok_weaker, ids_of, HostParts}
 use Rattle.host_ports.proofs.Common.{is_line_of}
-use Rattle.std.proofs.Common.{true}
+use Rattle.std.proofs.Common.{arith, true}
 use Rattle.host_ports.proofs.NamedLemmas.{among_there}
 use Rattle.host_ports.proofs.TakeLemmas.{Holds, holds_on, takes_now, there_known}
 use Rattle.host_ports.proofs.host_parts.HostParts.take_octets.Goals as goal
@@ -31,7 +31,7 @@ step-requires-clause-admitted c =
     ∙ c.if-not-is_there.false in (
       among_there c.args.id (ids_of c.args.self.now.station)
           (there_known c.args.id c.args.self.now c.requires.rest.known there),
-      c.requires.piece,
+      (let few = c.requires.piece in omega arith),
       c.has_to_wait.ensures.takes c.if-has_to_wait.false,
     )
 
