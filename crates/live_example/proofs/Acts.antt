@@ -11,7 +11,7 @@ use Rattle.agwpe_port.specs.Messages.{message_of}
 use Rattle.channel_access.specs.OnAir.{bits_of, flag_end, frames_end}
 use Rattle.channel_access.specs.declared.air_tick.Sent.{Sent}
 use Rattle.hdlc_framer.specs.BitOrder.{octet_bits}
-use Rattle.hdlc_framer.specs.Body.{body}
+use Rattle.channel_access.specs.Modem.{body_by, piece}
 use Rattle.hdlc_framer.specs.CheckSequence.{fcs_of}
 use Rattle.hdlc_framer.specs.Frames.{frame_bits, with_fcs}
 use Rattle.link_machine.specs.Event.Event.{Connect as LinkConnect, Hear as LinkHear}
@@ -242,7 +242,7 @@ a_gives =
 -- ---- B's UA goes on the air, and names no frame for thirteen ticks. With the last of them the I frame is queued.
 
 pub b_all_silent : all_silent 13 b_gives.after.now ≡ true
-unfolding reading call_of_text link_turn ticking_links first_wanting frames_end flag_end bits_of body frame_bits
+unfolding reading call_of_text link_turn ticking_links first_wanting frames_end flag_end bits_of body_by piece frame_bits
     with_fcs fcs_of octet_bits frame_octets missing
 b_all_silent = refl
 

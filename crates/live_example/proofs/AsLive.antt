@@ -13,7 +13,7 @@ use Rattle.std.proofs.lemmas.List.{append-nil}
 use Rattle.agwpe_port.specs.Messages.{spelling}
 use Rattle.channel_access.specs.OnAir.{bits_of, flag_end, frames_end}
 use Rattle.hdlc_framer.specs.BitOrder.{octet_bits}
-use Rattle.hdlc_framer.specs.Body.{body}
+use Rattle.channel_access.specs.Modem.{body_by, piece}
 use Rattle.hdlc_framer.specs.CheckSequence.{fcs_of}
 use Rattle.hdlc_framer.specs.Frames.{frame_bits, with_fcs}
 use Rattle.host_ports.specs.HostTurns.{Asked}
@@ -88,7 +88,7 @@ ticks_each P at end (suc count) s silent h =
 -- all steps of the run, if it holds of the first, of the frames that are heard again, and of the last
 each_of_run : (P : OwnStep → Type 0) (end : End) → HoldsOfClock P → Each (OfEnd end P) first_steps
     → OfEnd end P a_hears_info → Each (OfEnd end P) last_steps → Each (OfEnd end P) steps
-unfolding reading call_of_text link_turn ahead ticking_links first_wanting frames_end flag_end bits_of body frame_bits
+unfolding reading call_of_text link_turn ahead ticking_links first_wanting frames_end flag_end bits_of body_by piece frame_bits
     with_fcs fcs_of octet_bits frame_octets missing
 each_of_run P end clock first info last =
     each_append (OfEnd end P) first_steps (b_ticks ++ (a_ticks ++ steps_of_loss)) first
@@ -128,7 +128,7 @@ nobody_closed : All (λ (n : ℕ). n ≢ 1) []
 nobody_closed = All-from_recursion (λ (n : ℕ). n ≢ 1) [] tt
 
 a_stays : Each (StaysIn 1) (steps_at A steps)
-unfolding reading call_of_text link_turn ahead ticking_links first_wanting frames_end flag_end bits_of body frame_bits
+unfolding reading call_of_text link_turn ahead ticking_links first_wanting frames_end flag_end bits_of body_by piece frame_bits
     with_fcs fcs_of octet_bits frame_octets missing
 a_stays =
     each_at (StaysIn 1) A steps (each_of_run (StaysIn 1) A stays_of_clock (
@@ -168,7 +168,7 @@ a_stays =
     ))
 
 b_stays : Each (StaysIn 1) (steps_at B steps)
-unfolding reading call_of_text link_turn ahead ticking_links first_wanting frames_end flag_end bits_of body frame_bits
+unfolding reading call_of_text link_turn ahead ticking_links first_wanting frames_end flag_end bits_of body_by piece frame_bits
     with_fcs fcs_of octet_bits frame_octets missing
 b_stays =
     each_at (StaysIn 1) B steps (each_of_run (StaysIn 1) B stays_of_clock (
@@ -200,7 +200,7 @@ b_stays =
     (λ same. tt, (λ same. tt, (λ same. nobody_closed, (λ same. absurd (a_is_not_b same), (λ same. tt, tt))))))
 
 a_joins_so : Each (JoinsInAgwpe 1) (steps_at A steps)
-unfolding reading call_of_text link_turn ahead ticking_links first_wanting frames_end flag_end bits_of body frame_bits
+unfolding reading call_of_text link_turn ahead ticking_links first_wanting frames_end flag_end bits_of body_by piece frame_bits
     with_fcs fcs_of octet_bits frame_octets missing
 a_joins_so =
     each_at (JoinsInAgwpe 1) A steps (each_of_run (JoinsInAgwpe 1) A joins_of_clock (
@@ -240,7 +240,7 @@ a_joins_so =
     ))
 
 b_joins_so : Each (JoinsInAgwpe 1) (steps_at B steps)
-unfolding reading call_of_text link_turn ahead ticking_links first_wanting frames_end flag_end bits_of body frame_bits
+unfolding reading call_of_text link_turn ahead ticking_links first_wanting frames_end flag_end bits_of body_by piece frame_bits
     with_fcs fcs_of octet_bits frame_octets missing
 b_joins_so =
     each_at (JoinsInAgwpe 1) B steps (each_of_run (JoinsInAgwpe 1) B joins_of_clock (
@@ -352,13 +352,13 @@ takes_all steps all id =
 
 a_short : list_all (λ (piece : Piece). nat_le (length piece.octets) most_octets) (pieces_for 1 (said (steps_at A steps)))
     ≡ true
-unfolding reading call_of_text link_turn ahead ticking_links first_wanting frames_end flag_end bits_of body frame_bits
+unfolding reading call_of_text link_turn ahead ticking_links first_wanting frames_end flag_end bits_of body_by piece frame_bits
     with_fcs fcs_of octet_bits frame_octets missing spelling
 a_short = refl
 
 b_short : list_all (λ (piece : Piece). nat_le (length piece.octets) most_octets) (pieces_for 1 (said (steps_at B steps)))
     ≡ true
-unfolding reading call_of_text link_turn ahead ticking_links first_wanting frames_end flag_end bits_of body frame_bits
+unfolding reading call_of_text link_turn ahead ticking_links first_wanting frames_end flag_end bits_of body_by piece frame_bits
     with_fcs fcs_of octet_bits frame_octets missing spelling
 b_short = refl
 

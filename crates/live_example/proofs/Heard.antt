@@ -11,7 +11,7 @@ use Rattle.std.specs.List.{AllByRecursion as Each}
 use Rattle.std.proofs.lemmas.List.Kept.{AllPairs-cons}
 use Rattle.channel_access.specs.OnAir.{bits_of, flag_end, frames_end}
 use Rattle.hdlc_framer.specs.BitOrder.{octet_bits}
-use Rattle.hdlc_framer.specs.Body.{body}
+use Rattle.channel_access.specs.Modem.{body_by, piece}
 use Rattle.hdlc_framer.specs.CheckSequence.{fcs_of}
 use Rattle.hdlc_framer.specs.Frames.{frame_bits, with_fcs}
 use Rattle.link_machine.specs.Step.{step as link_turn}
@@ -188,12 +188,12 @@ alike_last_ua = record {
 -- ---- at B
 
 b_hears_sabm_frame : HearsLinkFrame B b_hears_sabm sabm
-unfolding reading call_of_text link_turn ahead ticking_links first_wanting frames_end flag_end bits_of body frame_bits
+unfolding reading call_of_text link_turn ahead ticking_links first_wanting frames_end flag_end bits_of body_by piece frame_bits
     with_fcs fcs_of octet_bits frame_octets missing
 b_hears_sabm_frame = record { station = refl; input = refl; event = λ e. cc }
 
 sabm_pair : IsHeardPair B steps (record { heard = 5; sent = 0 })
-unfolding reading call_of_text link_turn ahead ticking_links first_wanting frames_end flag_end bits_of body frame_bits
+unfolding reading call_of_text link_turn ahead ticking_links first_wanting frames_end flag_end bits_of body_by piece frame_bits
     with_fcs fcs_of octet_bits frame_octets missing
 sabm_pair = record {
   step = b_hears_sabm;
@@ -206,12 +206,12 @@ sabm_pair = record {
 }
 
 b_hears_again_frame : HearsLinkFrame B b_hears_again info_again
-unfolding reading call_of_text link_turn ahead ticking_links first_wanting frames_end flag_end bits_of body frame_bits
+unfolding reading call_of_text link_turn ahead ticking_links first_wanting frames_end flag_end bits_of body_by piece frame_bits
     with_fcs fcs_of octet_bits frame_octets missing
 b_hears_again_frame = record { station = refl; input = refl; event = λ e. cc }
 
 again_pair : IsHeardPair B steps (record { heard = 52; sent = 2 })
-unfolding reading call_of_text link_turn ahead ticking_links first_wanting frames_end flag_end bits_of body frame_bits
+unfolding reading call_of_text link_turn ahead ticking_links first_wanting frames_end flag_end bits_of body_by piece frame_bits
     with_fcs fcs_of octet_bits frame_octets missing
 again_pair = record {
   step = b_hears_again;
@@ -224,12 +224,12 @@ again_pair = record {
 }
 
 b_hears_last_ua_frame : HearsLinkFrame B b_hears_last_ua last_ua
-unfolding reading call_of_text link_turn ahead ticking_links first_wanting frames_end flag_end bits_of body frame_bits
+unfolding reading call_of_text link_turn ahead ticking_links first_wanting frames_end flag_end bits_of body_by piece frame_bits
     with_fcs fcs_of octet_bits frame_octets missing
 b_hears_last_ua_frame = record { station = refl; input = refl; event = λ e. cc }
 
 last_pair : IsHeardPair B steps (record { heard = 56; sent = 3 })
-unfolding reading call_of_text link_turn ahead ticking_links first_wanting frames_end flag_end bits_of body frame_bits
+unfolding reading call_of_text link_turn ahead ticking_links first_wanting frames_end flag_end bits_of body_by piece frame_bits
     with_fcs fcs_of octet_bits frame_octets missing
 last_pair = record {
   step = b_hears_last_ua;
@@ -242,13 +242,13 @@ last_pair = record {
 }
 
 pub third_heard : HearsLinkFrame B b_hears_third third
-unfolding reading call_of_text link_turn ahead ticking_links first_wanting frames_end flag_end bits_of body frame_bits
+unfolding reading call_of_text link_turn ahead ticking_links first_wanting frames_end flag_end bits_of body_by piece frame_bits
     with_fcs fcs_of octet_bits frame_octets missing
 third_heard = record { station = refl; input = refl; event = λ e. cc }
 
 -- the third station's frame is one between other calls
 other_calls : (octets : List ℕ) → HearsFrameOf bbbb aaaa B b_hears_third octets → ⊥
-unfolding reading call_of_text link_turn ahead ticking_links first_wanting frames_end flag_end bits_of body frame_bits
+unfolding reading call_of_text link_turn ahead ticking_links first_wanting frames_end flag_end bits_of body_by piece frame_bits
     with_fcs fcs_of octet_bits frame_octets missing
 other_calls octets hears =
     let same : third ≡ octets = hears.link.input in
@@ -256,17 +256,17 @@ other_calls octets hears =
     false≢true (sym none ∙ ap (is_from_to aaaa bbbb) same ∙ hears.calls)
 
 have_first_b : HaveTheirPairs bbbb aaaa B pairs.at_b 0 first_steps
-unfolding reading call_of_text link_turn ahead ticking_links first_wanting frames_end flag_end bits_of body frame_bits
+unfolding reading call_of_text link_turn ahead ticking_links first_wanting frames_end flag_end bits_of body_by piece frame_bits
     with_fcs fcs_of octet_bits frame_octets missing
 have_first_b = (λ octets hears. absurd (a_is_not_b hears.link.station), (λ octets hears. absurd hears.link.input, (λ octets hears. absurd (a_is_not_b hears.link.station), (λ octets hears. absurd hears.link.input, (λ octets hears. absurd (a_is_not_b hears.link.station), (λ octets hears. has_itself pairs.at_b 0 (record { heard = 5; sent = 0 }) (record { heard = 0; sent = 0 }) (All-contains_itself pairs.at_b) (omega arith) refl, (λ octets hears. absurd (a_is_not_b hears.link.station), (λ octets hears. absurd hears.link.input, (λ octets hears. absurd (a_is_not_b hears.link.station), tt)))))))))
 
 have_last_b : HaveTheirPairs bbbb aaaa B pairs.at_b 52 last_steps
-unfolding reading call_of_text link_turn ahead ticking_links first_wanting frames_end flag_end bits_of body frame_bits
+unfolding reading call_of_text link_turn ahead ticking_links first_wanting frames_end flag_end bits_of body_by piece frame_bits
     with_fcs fcs_of octet_bits frame_octets missing
 have_last_b = (λ octets hears. has_itself pairs.at_b 1 (record { heard = 52; sent = 2 }) (record { heard = 0; sent = 0 }) (All-contains_itself pairs.at_b) (omega arith) refl, (λ octets hears. absurd (other_calls octets hears), (λ octets hears. absurd hears.link.input, (λ octets hears. absurd (a_is_not_b hears.link.station), (λ octets hears. has_itself pairs.at_b 2 (record { heard = 56; sent = 3 }) (record { heard = 0; sent = 0 }) (All-contains_itself pairs.at_b) (omega arith) refl, tt)))))
 
 have_again_b : HaveTheirPairs bbbb aaaa B pairs.at_b 50 steps_again
-unfolding reading call_of_text link_turn ahead ticking_links first_wanting frames_end flag_end bits_of body frame_bits
+unfolding reading call_of_text link_turn ahead ticking_links first_wanting frames_end flag_end bits_of body_by piece frame_bits
     with_fcs fcs_of octet_bits frame_octets missing
 have_again_b = (
   λ octets hears. absurd (a_is_not_b hears.link.station),
@@ -274,7 +274,7 @@ have_again_b = (
 )
 
 have_loss_b : HaveTheirPairs bbbb aaaa B pairs.at_b 35 steps_of_loss
-unfolding reading call_of_text link_turn ahead ticking_links first_wanting frames_end flag_end bits_of body frame_bits
+unfolding reading call_of_text link_turn ahead ticking_links first_wanting frames_end flag_end bits_of body_by piece frame_bits
     with_fcs fcs_of octet_bits frame_octets missing
 have_loss_b = (
   λ octets hears. absurd hears.link.input,
@@ -304,12 +304,12 @@ heard_at_b = record {
 -- ---- at A
 
 a_hears_ua_frame : HearsLinkFrame A a_hears_ua ua
-unfolding reading call_of_text link_turn ahead ticking_links first_wanting frames_end flag_end bits_of body frame_bits
+unfolding reading call_of_text link_turn ahead ticking_links first_wanting frames_end flag_end bits_of body_by piece frame_bits
     with_fcs fcs_of octet_bits frame_octets missing
 a_hears_ua_frame = record { station = refl; input = refl; event = λ e. cc }
 
 ua_pair : IsHeardPair A steps (record { heard = 6; sent = 0 })
-unfolding reading call_of_text link_turn ahead ticking_links first_wanting frames_end flag_end bits_of body frame_bits
+unfolding reading call_of_text link_turn ahead ticking_links first_wanting frames_end flag_end bits_of body_by piece frame_bits
     with_fcs fcs_of octet_bits frame_octets missing
 ua_pair = record {
   step = a_hears_ua;
@@ -322,12 +322,12 @@ ua_pair = record {
 }
 
 a_hears_info_frame : HearsLinkFrame A a_hears_info info_b
-unfolding reading call_of_text link_turn ahead ticking_links first_wanting frames_end flag_end bits_of body frame_bits
+unfolding reading call_of_text link_turn ahead ticking_links first_wanting frames_end flag_end bits_of body_by piece frame_bits
     with_fcs fcs_of octet_bits frame_octets missing
 a_hears_info_frame = record { station = refl; input = refl; event = λ e. cc }
 
 info_pair : IsHeardPair A steps (record { heard = 50; sent = 1 })
-unfolding reading call_of_text link_turn ahead ticking_links first_wanting frames_end flag_end bits_of body frame_bits
+unfolding reading call_of_text link_turn ahead ticking_links first_wanting frames_end flag_end bits_of body_by piece frame_bits
     with_fcs fcs_of octet_bits frame_octets missing
 info_pair = record {
   step = a_hears_info;
@@ -340,12 +340,12 @@ info_pair = record {
 }
 
 a_hears_disc_frame : HearsLinkFrame A a_hears_disc disc
-unfolding reading call_of_text link_turn ahead ticking_links first_wanting frames_end flag_end bits_of body frame_bits
+unfolding reading call_of_text link_turn ahead ticking_links first_wanting frames_end flag_end bits_of body_by piece frame_bits
     with_fcs fcs_of octet_bits frame_octets missing
 a_hears_disc_frame = record { station = refl; input = refl; event = λ e. cc }
 
 disc_pair : IsHeardPair A steps (record { heard = 55; sent = 3 })
-unfolding reading call_of_text link_turn ahead ticking_links first_wanting frames_end flag_end bits_of body frame_bits
+unfolding reading call_of_text link_turn ahead ticking_links first_wanting frames_end flag_end bits_of body_by piece frame_bits
     with_fcs fcs_of octet_bits frame_octets missing
 disc_pair = record {
   step = a_hears_disc;
@@ -358,17 +358,17 @@ disc_pair = record {
 }
 
 have_first_a : HaveTheirPairs aaaa bbbb A pairs.at_a 0 first_steps
-unfolding reading call_of_text link_turn ahead ticking_links first_wanting frames_end flag_end bits_of body frame_bits
+unfolding reading call_of_text link_turn ahead ticking_links first_wanting frames_end flag_end bits_of body_by piece frame_bits
     with_fcs fcs_of octet_bits frame_octets missing
 have_first_a = (λ octets hears. absurd hears.link.input, (λ octets hears. absurd (b_is_not_a hears.link.station), (λ octets hears. absurd hears.link.input, (λ octets hears. absurd (b_is_not_a hears.link.station), (λ octets hears. absurd hears.link.input, (λ octets hears. absurd (b_is_not_a hears.link.station), (λ octets hears. has_itself pairs.at_a 0 (record { heard = 6; sent = 0 }) (record { heard = 0; sent = 0 }) (All-contains_itself pairs.at_a) (omega arith) refl, (λ octets hears. absurd (b_is_not_a hears.link.station), (λ octets hears. absurd hears.link.input, tt)))))))))
 
 have_last_a : HaveTheirPairs aaaa bbbb A pairs.at_a 52 last_steps
-unfolding reading call_of_text link_turn ahead ticking_links first_wanting frames_end flag_end bits_of body frame_bits
+unfolding reading call_of_text link_turn ahead ticking_links first_wanting frames_end flag_end bits_of body_by piece frame_bits
     with_fcs fcs_of octet_bits frame_octets missing
 have_last_a = (λ octets hears. absurd (b_is_not_a hears.link.station), (λ octets hears. absurd (b_is_not_a hears.link.station), (λ octets hears. absurd (b_is_not_a hears.link.station), (λ octets hears. has_itself pairs.at_a 2 (record { heard = 55; sent = 3 }) (record { heard = 0; sent = 0 }) (All-contains_itself pairs.at_a) (omega arith) refl, (λ octets hears. absurd (b_is_not_a hears.link.station), tt)))))
 
 have_again_a : HaveTheirPairs aaaa bbbb A pairs.at_a 50 steps_again
-unfolding reading call_of_text link_turn ahead ticking_links first_wanting frames_end flag_end bits_of body frame_bits
+unfolding reading call_of_text link_turn ahead ticking_links first_wanting frames_end flag_end bits_of body_by piece frame_bits
     with_fcs fcs_of octet_bits frame_octets missing
 have_again_a = (
   λ octets hears. has_itself pairs.at_a 1 (record { heard = 50; sent = 1 }) (record { heard = 0; sent = 0 }) (All-contains_itself pairs.at_a) (omega arith) refl,
@@ -376,7 +376,7 @@ have_again_a = (
 )
 
 have_loss_a : HaveTheirPairs aaaa bbbb A pairs.at_a 35 steps_of_loss
-unfolding reading call_of_text link_turn ahead ticking_links first_wanting frames_end flag_end bits_of body frame_bits
+unfolding reading call_of_text link_turn ahead ticking_links first_wanting frames_end flag_end bits_of body_by piece frame_bits
     with_fcs fcs_of octet_bits frame_octets missing
 have_loss_a = (
   λ octets hears. absurd hears.link.input,

@@ -8,7 +8,7 @@ use Rattle.std.specs.Prelude.{◌≡◌, ℕ, true, false, List, [], ◌∷◌, 
 use Rattle.channel_access.specs.OnAir.{bits_of, flag_end, frames_end}
 use Rattle.channel_access.specs.declared.air_tick.Sent.{Sent}
 use Rattle.hdlc_framer.specs.BitOrder.{octet_bits}
-use Rattle.hdlc_framer.specs.Body.{body}
+use Rattle.channel_access.specs.Modem.{body_by, piece}
 use Rattle.hdlc_framer.specs.CheckSequence.{fcs_of}
 use Rattle.hdlc_framer.specs.Frames.{frame_bits, with_fcs}
 use Rattle.link_machine.specs.Event.Event.{Hear as LinkHear}
@@ -48,7 +48,7 @@ tick_sent end s sent frame same read = record {
 -- ---- A's SABM, and its I frame, which is queued in the thirteenth tick
 
 pub first_silent : all_silent 13 a_gives.after.now ≡ true
-unfolding reading call_of_text link_turn ticking_links first_wanting frames_end flag_end bits_of body frame_bits
+unfolding reading call_of_text link_turn ticking_links first_wanting frames_end flag_end bits_of body_by piece frame_bits
     with_fcs fcs_of octet_bits frame_octets missing ahead
 first_silent = refl
 
@@ -59,19 +59,19 @@ abbrev pub sabm_sent : Sent
 sabm_sent = record { octets = sabm; after = 40 }
 
 pub names_sabm : (air_of false (after_ticks 13 a_gives.after.now)).sent ≡ Some sabm_sent
-unfolding reading call_of_text link_turn ticking_links first_wanting frames_end flag_end bits_of body frame_bits
+unfolding reading call_of_text link_turn ticking_links first_wanting frames_end flag_end bits_of body_by piece frame_bits
     with_fcs fcs_of octet_bits frame_octets missing ahead
 names_sabm = refl
 
 abbrev pub a_names_sabm : Step
-unfolding reading call_of_text link_turn ticking_links first_wanting frames_end flag_end bits_of body frame_bits
+unfolding reading call_of_text link_turn ticking_links first_wanting frames_end flag_end bits_of body_by piece frame_bits
     with_fcs fcs_of octet_bits frame_octets missing ahead
 a_names_sabm =
     tick_sent A (after_ticks 13 a_gives.after.now) sabm_sent sabm_frame names_sabm
     (Some to_b, (14, begins_to_b (63 ∷ [])), sabm_is)
 
 pub second_silent : all_silent 12 a_names_sabm.after.now ≡ true
-unfolding reading call_of_text link_turn ticking_links first_wanting frames_end flag_end bits_of body frame_bits
+unfolding reading call_of_text link_turn ticking_links first_wanting frames_end flag_end bits_of body_by piece frame_bits
     with_fcs fcs_of octet_bits frame_octets missing ahead
 second_silent = refl
 
@@ -82,12 +82,12 @@ abbrev pub info_sent : Sent
 info_sent = record { octets = info_a; after = 72 }
 
 pub names_info : (air_of false (after_ticks 12 a_names_sabm.after.now)).sent ≡ Some info_sent
-unfolding reading call_of_text link_turn ticking_links first_wanting frames_end flag_end bits_of body frame_bits
+unfolding reading call_of_text link_turn ticking_links first_wanting frames_end flag_end bits_of body_by piece frame_bits
     with_fcs fcs_of octet_bits frame_octets missing ahead
 names_info = refl
 
 abbrev pub a_names_info : Step
-unfolding reading call_of_text link_turn ticking_links first_wanting frames_end flag_end bits_of body frame_bits
+unfolding reading call_of_text link_turn ticking_links first_wanting frames_end flag_end bits_of body_by piece frame_bits
     with_fcs fcs_of octet_bits frame_octets missing ahead
 a_names_info =
     tick_sent A (after_ticks 12 a_names_sabm.after.now) info_sent info_a_frame names_info
@@ -96,7 +96,7 @@ a_names_info =
 -- ---- T1 runs out, and the I frame is queued again
 
 pub t1_silent : all_silent 1 a_names_info.after.now ≡ true
-unfolding reading call_of_text link_turn ticking_links first_wanting frames_end flag_end bits_of body frame_bits
+unfolding reading call_of_text link_turn ticking_links first_wanting frames_end flag_end bits_of body_by piece frame_bits
     with_fcs fcs_of octet_bits frame_octets missing ahead
 t1_silent = refl
 
@@ -104,7 +104,7 @@ abbrev pub t1_tick : List Step
 t1_tick = ticks_of A 1 a_names_info.after.now (silent_by 1 a_names_info.after.now t1_silent)
 
 abbrev pub a_hears_info : Step
-unfolding reading call_of_text link_turn ahead ticking_links first_wanting frames_end flag_end bits_of body frame_bits
+unfolding reading call_of_text link_turn ahead ticking_links first_wanting frames_end flag_end bits_of body_by piece frame_bits
     with_fcs fcs_of octet_bits frame_octets missing
 a_hears_info =
     let before = after_ticks 1 a_names_info.after.now in
@@ -114,7 +114,7 @@ a_hears_info =
     (low info_b refl)
 
 pub again_silent : all_silent 1 a_hears_info.after.now ≡ true
-unfolding reading call_of_text link_turn ticking_links first_wanting frames_end flag_end bits_of body frame_bits
+unfolding reading call_of_text link_turn ticking_links first_wanting frames_end flag_end bits_of body_by piece frame_bits
     with_fcs fcs_of octet_bits frame_octets missing ahead
 again_silent = refl
 
@@ -122,7 +122,7 @@ abbrev pub again_tick : List Step
 again_tick = ticks_of A 1 a_hears_info.after.now (silent_by 1 a_hears_info.after.now again_silent)
 
 abbrev pub b_hears_again : Step
-unfolding reading call_of_text link_turn ahead ticking_links first_wanting frames_end flag_end bits_of body frame_bits
+unfolding reading call_of_text link_turn ahead ticking_links first_wanting frames_end flag_end bits_of body_by piece frame_bits
     with_fcs fcs_of octet_bits frame_octets missing
 b_hears_again =
     let before = after_ticks 13 b_gives.after.now in
@@ -134,7 +134,7 @@ b_hears_again =
 -- ---- a third station, and the end
 
 abbrev pub b_hears_third : Step
-unfolding reading call_of_text link_turn ahead ticking_links first_wanting frames_end flag_end bits_of body frame_bits
+unfolding reading call_of_text link_turn ahead ticking_links first_wanting frames_end flag_end bits_of body_by piece frame_bits
     with_fcs fcs_of octet_bits frame_octets missing
 b_hears_third =
     let before = b_hears_again.after.now in
@@ -145,7 +145,7 @@ b_hears_third =
     (Some third_frame, third_is, refl) (low third refl)
 
 abbrev pub b_disconnects : Step
-unfolding reading call_of_text link_turn ahead ticking_links first_wanting frames_end flag_end bits_of body frame_bits
+unfolding reading call_of_text link_turn ahead ticking_links first_wanting frames_end flag_end bits_of body_by piece frame_bits
     with_fcs fcs_of octet_bits frame_octets missing
 b_disconnects =
     let octets = header 100 0 (field 66) (field 65) 0 in
@@ -160,7 +160,7 @@ b_disconnects =
     }
 
 abbrev pub a_hears_disc : Step
-unfolding reading call_of_text link_turn ahead ticking_links first_wanting frames_end flag_end bits_of body frame_bits
+unfolding reading call_of_text link_turn ahead ticking_links first_wanting frames_end flag_end bits_of body_by piece frame_bits
     with_fcs fcs_of octet_bits frame_octets missing
 a_hears_disc =
     let before = after_ticks 1 a_hears_info.after.now in
@@ -168,7 +168,7 @@ a_hears_disc =
     (begins_to_a (83 ∷ [])) disc_is (Some disc_frame, disc_is, refl) (Some disc_frame, disc_is, refl) (low disc refl)
 
 abbrev pub b_hears_last_ua : Step
-unfolding reading call_of_text link_turn ahead ticking_links first_wanting frames_end flag_end bits_of body frame_bits
+unfolding reading call_of_text link_turn ahead ticking_links first_wanting frames_end flag_end bits_of body_by piece frame_bits
     with_fcs fcs_of octet_bits frame_octets missing
 b_hears_last_ua =
     let before = b_disconnects.after.now in

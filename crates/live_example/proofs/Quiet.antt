@@ -4,7 +4,7 @@ use Rattle.station_laws.proofs.Common.{AreQuiet, Change, changed, World, changes
 use Rattle.std.specs.Prelude.{◌≡◌, Bool, true, ◌&&◌, IsTrue, List, [], ◌∷◌, refl}
 use Rattle.channel_access.specs.OnAir.{bits_of, flag_end, frames_end}
 use Rattle.hdlc_framer.specs.BitOrder.{octet_bits}
-use Rattle.hdlc_framer.specs.Body.{body}
+use Rattle.channel_access.specs.Modem.{body_by, piece}
 use Rattle.hdlc_framer.specs.CheckSequence.{fcs_of}
 use Rattle.hdlc_framer.specs.Frames.{frame_bits, with_fcs}
 use Rattle.link_machine.specs.Step.{step as link_turn}
@@ -27,7 +27,7 @@ quiet_by w (change ∷ changes) h =
     (both.0, quiet_by (changed w change) changes both.1)
 
 computed : all_quiet (first_world calls params params) (changes_of calls pairs steps) ≡ true
-unfolding reading call_of_text link_turn ahead ticking_links first_wanting frames_end flag_end bits_of body frame_bits
+unfolding reading call_of_text link_turn ahead ticking_links first_wanting frames_end flag_end bits_of body_by piece frame_bits
     with_fcs fcs_of octet_bits frame_octets missing
 computed = refl
 

@@ -6,7 +6,7 @@ use Rattle.station_laws.proofs.Common.{new_stations, IsJointRun, all_stepped, st
 use Rattle.std.specs.Prelude.{◌≡◌, ℕ, zero, suc, ◌+◌, true, List, [], ◌∷◌, ◌++◌, refl}
 use Rattle.channel_access.specs.OnAir.{bits_of, flag_end, frames_end}
 use Rattle.hdlc_framer.specs.BitOrder.{octet_bits}
-use Rattle.hdlc_framer.specs.Body.{body}
+use Rattle.channel_access.specs.Modem.{body_by, piece}
 use Rattle.hdlc_framer.specs.CheckSequence.{fcs_of}
 use Rattle.hdlc_framer.specs.Frames.{frame_bits, with_fcs}
 use Rattle.link_machine.specs.Step.{step as link_turn}
@@ -61,12 +61,12 @@ abbrev b_after : StationState
 b_after = after_ticks 13 b_gives.after.now
 
 last_run : IsJointRun (record { a = after_ticks 1 a_hears_info.after.now; b = b_after }) last_steps
-unfolding reading call_of_text link_turn ahead ticking_links first_wanting frames_end flag_end bits_of body frame_bits
+unfolding reading call_of_text link_turn ahead ticking_links first_wanting frames_end flag_end bits_of body_by piece frame_bits
     with_fcs fcs_of octet_bits frame_octets missing
 last_run = (refl, (refl, (refl, (refl, (refl, tt)))))
 
 again_run : IsJointRun (record { a = after_ticks 1 a_names_info.after.now; b = b_after }) steps_again
-unfolding reading call_of_text link_turn ahead ticking_links first_wanting frames_end flag_end bits_of body frame_bits
+unfolding reading call_of_text link_turn ahead ticking_links first_wanting frames_end flag_end bits_of body_by piece frame_bits
     with_fcs fcs_of octet_bits frame_octets missing
 again_run = (
   refl,
@@ -76,7 +76,7 @@ again_run = (
 
 info_run : IsJointRun (record { a = after_ticks 12 a_names_sabm.after.now; b = b_after })
     (a_names_info ∷ t1_tick ++ steps_again)
-unfolding reading call_of_text link_turn ahead ticking_links first_wanting frames_end flag_end bits_of body frame_bits
+unfolding reading call_of_text link_turn ahead ticking_links first_wanting frames_end flag_end bits_of body_by piece frame_bits
     with_fcs fcs_of octet_bits frame_octets missing
 info_run = (
   refl,
@@ -85,7 +85,7 @@ info_run = (
 )
 
 loss_run : IsJointRun (record { a = after_ticks 13 a_gives.after.now; b = b_after }) steps_of_loss
-unfolding reading call_of_text link_turn ahead ticking_links first_wanting frames_end flag_end bits_of body frame_bits
+unfolding reading call_of_text link_turn ahead ticking_links first_wanting frames_end flag_end bits_of body_by piece frame_bits
     with_fcs fcs_of octet_bits frame_octets missing
 loss_run = (
   refl,
@@ -95,7 +95,7 @@ loss_run = (
 )
 
 pub is_run : IsJointRun (new_stations config 1 config 2) steps
-unfolding reading call_of_text link_turn ahead ticking_links first_wanting frames_end flag_end bits_of body frame_bits
+unfolding reading call_of_text link_turn ahead ticking_links first_wanting frames_end flag_end bits_of body_by piece frame_bits
     with_fcs fcs_of octet_bits frame_octets missing
 is_run =
     run_append first_steps (b_ticks ++ (a_ticks ++ steps_of_loss)) (new_stations config 1 config 2)

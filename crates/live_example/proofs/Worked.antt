@@ -6,7 +6,7 @@ use Rattle.std.specs.Prelude.{◌≡◌, false, [], ◌∷◌, refl}
 use Rattle.agwpe_port.specs.Messages.{spelling}
 use Rattle.channel_access.specs.OnAir.{bits_of, flag_end, frames_end}
 use Rattle.hdlc_framer.specs.BitOrder.{octet_bits}
-use Rattle.hdlc_framer.specs.Body.{body}
+use Rattle.channel_access.specs.Modem.{body_by, piece}
 use Rattle.hdlc_framer.specs.CheckSequence.{fcs_of}
 use Rattle.hdlc_framer.specs.Frames.{frame_bits, with_fcs}
 use Rattle.link_machine.specs.Params.{HasWindows}
@@ -53,23 +53,23 @@ all_hold = record {
 }
 
 a_gets : GetsAll worked A run_a
-unfolding reading call_of_text link_turn ahead ticking_links first_wanting frames_end flag_end bits_of body frame_bits
+unfolding reading call_of_text link_turn ahead ticking_links first_wanting frames_end flag_end bits_of body_by piece frame_bits
     with_fcs fcs_of octet_bits frame_octets missing spelling
 a_gets = record { octet = 105; octets = []; got = refl; given = refl }
 
 b_gets : GetsAll worked B run_b
-unfolding reading call_of_text link_turn ahead ticking_links first_wanting frames_end flag_end bits_of body frame_bits
+unfolding reading call_of_text link_turn ahead ticking_links first_wanting frames_end flag_end bits_of body_by piece frame_bits
     with_fcs fcs_of octet_bits frame_octets missing spelling
 b_gets = record { octet = 104; octets = []; got = refl; given = refl }
 
 -- the I frame that A queued first
 one_is_lost : LosesOne worked
-unfolding reading call_of_text link_turn ahead ticking_links first_wanting frames_end flag_end bits_of body frame_bits
+unfolding reading call_of_text link_turn ahead ticking_links first_wanting frames_end flag_end bits_of body_by piece frame_bits
     with_fcs fcs_of octet_bits frame_octets missing
 one_is_lost = record { number = 1; octets = info_a; queued = refl; lost = refl }
 
 third_is_heard : HearsThird worked
-unfolding reading call_of_text link_turn ahead ticking_links first_wanting frames_end flag_end bits_of body frame_bits
+unfolding reading call_of_text link_turn ahead ticking_links first_wanting frames_end flag_end bits_of body_by piece frame_bits
     with_fcs fcs_of octet_bits frame_octets missing
 third_is_heard = record {
   number = 53;
@@ -81,7 +81,7 @@ third_is_heard = record {
 }
 
 is_over : IsOver worked
-unfolding reading call_of_text link_turn ahead ticking_links first_wanting frames_end flag_end bits_of body frame_bits
+unfolding reading call_of_text link_turn ahead ticking_links first_wanting frames_end flag_end bits_of body_by piece frame_bits
     with_fcs fcs_of octet_bits frame_octets missing
 is_over = (refl, refl)
 
