@@ -23,7 +23,7 @@ import time
 
 from measuring import RATE, TOP, compiled, installed
 
-sys.path.insert(0, f"{TOP}/scripts")
+sys.path.insert(0, f"{TOP}/scripts/shared")
 from agwpe import Message, written  # noqa: E402
 from air import TICK, Agw, Kiss, Station  # noqa: E402
 

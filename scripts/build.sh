@@ -21,7 +21,7 @@ case "${1:-}" in
         ;;
 esac
 command -v rt >/dev/null || { echo "build.sh: there is no rt: Rattle's kit is wanted" >&2; exit 1; }
-scripts/prove_program.py
+scripts/shared/prove_program.py
 install -D -m 755 crates/tnc_main/out/tnc_main "$target/tnc"
 if [ -n "$prefix" ]; then
     install -D -m 644 man/tnc.1 "$prefix/share/man/man1/tnc.1"

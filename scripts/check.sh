@@ -95,7 +95,7 @@ records() {
 
 # OPTION..: what two stations carry to each other's hosts is what these gave.
 stations_agree() {
-    scripts/check_serve.py --tnc "$tnc" --octets 1500 "$@" >"$room/told" || { cat "$room/told"; return 1; }
+    scripts/checks/check_serve.py --tnc "$tnc" --octets 1500 "$@" >"$room/told" || { cat "$room/told"; return 1; }
 }
 
 # The raw PCM in a file, as sox is told of it.
@@ -226,7 +226,7 @@ keeps_no_sound() {
 
 # Recordings out of pipes that are cut at random, with threads and without, give their frames.
 hears_alike_however_cut() {
-    scripts/check_cuts.py --tnc "$tnc" >"$room/told" || { cat "$room/told"; return 1; }
+    scripts/checks/check_cuts.py --tnc "$tnc" >"$room/told" || { cat "$room/told"; return 1; }
 }
 
 # FRAMES WORDS..: lines of frames come back from the sound that encode makes of them.
@@ -461,11 +461,11 @@ if has python3; then
     check "two stations" stations_agree
     check "two stations by SREJ, a fifth of the transmissions lost" stations_agree --mode srej --loss 20
     check "two stations modulo 128, half duplex, some lost" stations_agree --wide --half --loss 10
-    check "hosts that send each message" scripts/check_hosts.py --tnc "$tnc"
-    check "programs of the web at the ports" scripts/check_web.py --tnc "$tnc"
-    check "the ports are those of 127.0.0.1 alone" scripts/check_sockets.py --tnc "$tnc"
-    check "a recording at twenty times the pace of sound" quietly scripts/check_record.py --tnc "$tnc"
-    check "calls over two stations" quietly scripts/check_call.py --tnc "$tnc"
+    check "hosts that send each message" scripts/checks/check_hosts.py --tnc "$tnc"
+    check "programs of the web at the ports" scripts/checks/check_web.py --tnc "$tnc"
+    check "the ports are those of 127.0.0.1 alone" scripts/checks/check_sockets.py --tnc "$tnc"
+    check "a recording at twenty times the pace of sound" quietly scripts/checks/check_record.py --tnc "$tnc"
+    check "calls over two stations" quietly scripts/checks/check_call.py --tnc "$tnc"
 else
     skip "two stations" python3
     skip "hosts that send each message" python3
@@ -477,14 +477,14 @@ fi
 
 # The page to look at. It needs aiohttp, which Debian has for its own Python.
 if /usr/bin/python3 -c 'import aiohttp' 2>/dev/null; then
-    check "the console" quietly scripts/check_console.py --tnc "$tnc"
+    check "the console" quietly scripts/checks/check_console.py --tnc "$tnc"
 else
     skip "the console" aiohttp
 fi
 
 # What the build tells of itself.
 if has python3; then
-    check "what scripts/build.sh tells" scripts/check_build.py
+    check "what scripts/build.sh tells" scripts/checks/check_build.py
 else
     skip "what scripts/build.sh tells" python3
 fi
@@ -507,14 +507,14 @@ for command in decode encode show; do
 done
 
 # The manual page, what the documents show, and the scores of sound that is not clean.
-check "the manual page and the program agree" scripts/check_manual.sh "$tnc"
+check "the manual page and the program agree" scripts/checks/check_manual.sh "$tnc"
 if has python3; then
-    check "the documents show what the program prints" scripts/check_readme.py "$tnc"
-    check "the files to believe are those that the contracts name" scripts/trust_table.py --check
-    check "what the documents name is there" scripts/check_docs.py "$tnc"
-    check "the pages on clauses and definitions say what the sources have" scripts/check_clauses.py
-    check "the table of coarse counts is that of the tags" scripts/coarse_rows.py --check
-    check "scores within their bounds" scripts/scores.py --check --tnc "$tnc"
+    check "the documents show what the program prints" scripts/checks/check_readme.py "$tnc"
+    check "the files to believe are those that the contracts name" scripts/checks/trust_table.py --check
+    check "what the documents name is there" scripts/checks/check_docs.py "$tnc"
+    check "the pages on clauses and definitions say what the sources have" scripts/checks/check_clauses.py
+    check "the table of coarse counts is that of the tags" scripts/checks/coarse_rows.py --check
+    check "scores within their bounds" scripts/trials/scores.py --check --tnc "$tnc"
 else
     skip "the documents show what the program prints" python3
     skip "the files to believe are those that the contracts name" python3

@@ -20,26 +20,26 @@ check() {
 }
 
 if command -v direwolf >/dev/null; then
-    check "sessions with Dire Wolf" scripts/check_peers.py --tnc "$tnc"
-    check "sessions with Dire Wolf at 48,000 samples a second" scripts/check_peers.py --tnc "$tnc" --rate 48000
-    check "a call to a station that is a Dire Wolf" scripts/check_call.py --tnc "$tnc" --appserver
-    check "a call by a station that is a Dire Wolf" scripts/check_call.py --tnc "$tnc" --appserver --direwolf
+    check "sessions with Dire Wolf" scripts/checks/check_peers.py --tnc "$tnc"
+    check "sessions with Dire Wolf at 48,000 samples a second" scripts/checks/check_peers.py --tnc "$tnc" --rate 48000
+    check "a call to a station that is a Dire Wolf" scripts/checks/check_call.py --tnc "$tnc" --appserver
+    check "a call by a station that is a Dire Wolf" scripts/checks/check_call.py --tnc "$tnc" --appserver --direwolf
 else
     echo "skipped: sessions with Dire Wolf (direwolf is not installed)"
 fi
-check "other people's programs as hosts" scripts/check_hosts.py --programs --tnc "$tnc"
+check "other people's programs as hosts" scripts/checks/check_hosts.py --programs --tnc "$tnc"
 if command -v rigctld >/dev/null; then
-    check "a transmitter keyed by rigctld" scripts/check_ptt.py --tnc "$tnc" --long
-    check "mail by pat, keyed by rigctld" scripts/check_pat.py --tnc "$tnc" --ptt
+    check "a transmitter keyed by rigctld" scripts/checks/check_ptt.py --tnc "$tnc" --long
+    check "mail by pat, keyed by rigctld" scripts/checks/check_pat.py --tnc "$tnc" --ptt
     if command -v direwolf >/dev/null; then
-        check "sessions with Dire Wolf, keyed by rigctld" scripts/check_peers.py --tnc "$tnc" --ptt
+        check "sessions with Dire Wolf, keyed by rigctld" scripts/checks/check_peers.py --tnc "$tnc" --ptt
     fi
 else
     echo "skipped: a transmitter keyed by rigctld (rigctld is not installed)"
 fi
 # It says itself where pat is missing or too old.
-check "mail by pat" scripts/check_pat.py --tnc "$tnc"
-check "the commands of docs/OPERATING.md and docs/HOSTS.md" scripts/check_operating.py "$tnc"
+check "mail by pat" scripts/checks/check_pat.py --tnc "$tnc"
+check "the commands of docs/OPERATING.md and docs/HOSTS.md" scripts/checks/check_operating.py "$tnc"
 if command -v systemd-analyze >/dev/null; then
     check "the services of systemd" systemd-analyze verify --man=no systemd/tnc.service systemd/rigctld.service
 else
