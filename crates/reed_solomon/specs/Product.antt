@@ -1,4 +1,4 @@
--- The product of two octets by logarithms. No public clause cites it.
+-- The product of two octets by logarithms.
 use Rattle.std.specs.Prelude.{ℕ, zero, suc, List, [], ◌∷◌, slice_index}
 use Rattle.reed_solomon.specs.Field.{times_power}
 

@@ -1,4 +1,4 @@
--- The register of the check octets. No public clause cites it.
+-- The register of the check octets, by which they are made octet by octet. They are the only ones that make a codeword of the data.
 use Rattle.std.specs.Prelude.{ℕ, zero, suc, ◌+◌, List, [], ◌∷◌, ◌++◌, map, drop, slice_index, bit_xor}
 use Rattle.reed_solomon.specs.declared.code.Code.{Code}
 use Rattle.reed_solomon.specs.declared.code.Zeros.{Zeros}
