@@ -131,7 +131,7 @@ def unknown_options(facts, _, text):
             for option in re.findall(r"(?<!\S)\[?(--[a-z][a-z0-9-]*)", rest):
                 if option not in facts.options[command] | {"--help"}:
                     yield number, f"gives {command} the option {option}, which it does not have"
-        for script, rest in re.findall(r"\b((?:scripts|bench)/[\w.]+)([^|>&;)]*)", span):
+        for script, rest in re.findall(r"\b((?:scripts(?:/\w+)?|bench)/[\w.]+)([^|>&;)]*)", span):
             for option in re.findall(r"(?<!\S)\[?(--[a-z][a-z0-9-]*)", rest.partition(" -- ")[0]):
                 if option not in facts.scripts.get(script, option):
                     yield number, f"gives {script} the option {option}, which it does not have"

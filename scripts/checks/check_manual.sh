@@ -3,7 +3,7 @@
 # takes, each option that the program knows is on the page, each report line too, and the examples of the page run.
 #   scripts/checks/check_manual.sh [PROGRAM]      bin/tnc, if no other is named
 set -euo pipefail
-cd "$(dirname "$0")/.."
+cd "$(dirname "$0")/../.."
 tnc=$(realpath "${1:-bin/tnc}")
 page=$PWD/man/tnc.1
 room=$(mktemp -d)
