@@ -3,7 +3,7 @@
 called by either end, all at once and at the pace of sound, while parts of long transmissions are lost.
 
   scripts/checks/check_peers.py [--tnc PROGRAM] [--packets N] [--seed N] [--only N] [--times] [--log FOLDER] [--ptt] [--hf]
-                         [--rate N]
+                                [--rate N]
 
 In a session the host of each station gives so many packets, and the host of the other one has to get just these; then the
 end that called disconnects. Modulo 128 the end that called asks by XID once, and is answered once. With --ptt the station keys

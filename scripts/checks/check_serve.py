@@ -2,7 +2,7 @@
 """Checks `tnc serve` as a whole: two stations joined by an air of pipes, with host programs on their ports.
 
   scripts/checks/check_serve.py [--tnc PROGRAM] [--octets N] [--loss PERCENT] [--mode rej|srej] [--wide] [--wide-window N]
-                         [--half] [--seed N] [--ticks N]
+                                [--half] [--seed N] [--ticks N]
 
 A connected session: A calls B, both send so many octets, and A disconnects once both have got all. What each host gets has
 to be what the other one gave. It prints one line and ends with status 0 where all is well.

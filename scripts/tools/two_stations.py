@@ -2,7 +2,7 @@
 """Two stations on one machine whose sound reaches each other, at the pace of sound: to try host programs without a radio.
 
   scripts/tools/two_stations.py [--tnc PROGRAM] [--kiss N N] [--agw N N] [--loss PERCENT] [--seed N] [--seconds N] [--times]
-                          [--rate N] [WORD..]
+                                [--rate N] [WORD..]
 
 The first station has the first port of each pair, the second one the second. WORDS after `--` go to both, as `-- --mode srej`.
 Of so many percent of the transmissions nothing arrives; the seed says of which. A line tells the ports, and each frame that a

@@ -2,7 +2,7 @@
 """How often two stations of this program send at once, if the sound between them has holes. By hand.
 
   scripts/trials/both_at_once.py [--tnc PROGRAM] [--dcd HOW ..] [--octets N] [--holes PER THOUSAND] [--runs N] [--seed N]
-                          [--mode rej|srej]
+                                 [--mode rej|srej]
 
 Each gives the other so many octets over one link; a hole takes a tick, 10 milliseconds, of what one of them hears. A line a
 `--dcd` tells, over all runs: for how much of the time both sent, for how much at least one of them did, octets a second from

@@ -2,7 +2,7 @@
 """Many running stations on one channel, in step: what a crowd of links carries. By hand.
 
   scripts/trials/many_stations.py [--tnc PROGRAM] [--pairs N] [--kind one|ask] [--seconds N] [--runs N] [--persist N]
-                           [--late N] [--table]
+                                  [--late N] [--table]
 
 Each pair of stations has a link of its own, and all stations hear the sum of all others, but none while it sends. `one`: a
 host gives its link packets of 256 octets without end. `ask`: a host asks 40 octets, the other answers 200, again and again.

@@ -5,17 +5,17 @@
   scripts/trials/scores.py --frames 20     with another number
   scripts/trials/scores.py --sensitive     and what `tnc decode --sensitive` hears
   scripts/trials/scores.py --more          rows of its own: noise by half decibels, clocks that are far off, offset and hum, phases
-                                    that begin anew, an FM receiver's sound
+                                           that begin anew, an FM receiver's sound
   scripts/trials/scores.py --hf            short wave, 300 bits a second: noise, receivers off their frequency, clocks that are off, two paths.
-                                    What `decode --hf` hears, and with --sensitive, atest as `atest -B 300` with --beside,
-                                    also with two demodulators and repair of single bits
+                                           What `decode --hf` hears, and with --sensitive, atest as `atest -B 300` with --beside,
+                                           also with two demodulators and repair of single bits
   scripts/trials/scores.py --wide          sound at 48,000 samples a second, with noise up to 24,000 Hz: what `decode --rate 48000` hears, and
-                                    `decode` of what sox brings to 9600
+                                           `decode` of what sox brings to 9600
   scripts/trials/scores.py --beside        and what atest (as it is, and as `atest -P E+ -F 1`), soundmodem and multimon-ng hear of
-                                    the same sound, if they are installed
+                                           the same sound, if they are installed
   scripts/trials/scores.py --check         12 frames a row, each count held against its bounds; status 1 outside
   scripts/trials/scores.py --noise 40      how many lines come of 40 hours of white noise, which holds no frame; with --sensitive
-                                    too, of that decoder
+                                           too, of that decoder
   scripts/trials/scores.py --tnc PROGRAM   of another program than bin/tnc
 
 The sound is made here and shares nothing with the program: frames with random text, inserted zeros, tones of continuous
