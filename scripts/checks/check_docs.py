@@ -51,6 +51,7 @@ def gathered(tnc):
 def script_text(path):
     """Returns the text of a script, or of the files of one that is a folder."""
     files = [path] if path.is_file() else [it for it in path.rglob("*") if it.is_file()]
+    files = [it for it in files if it.suffix != ".pyc"]
     return "".join(it.read_text(errors="replace") for it in files)
 
 
