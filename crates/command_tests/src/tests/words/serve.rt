@@ -154,15 +154,6 @@ fn serve_takes_what_its_station_does(rt: HostRuntime) -> Result<(), Fail> {
         modem: StationModem::ShortWave { sensitive: false },
         ..SERVE
     };
-    let sensitive_hf = ServeOptions {
-        modem: StationModem::ShortWave { sensitive: true },
-        ..hf
-    };
-    let fx25 = ServeOptions {
-        dcd: Dcd::Flags(3),
-        modem: StationModem::Fx25 { checks: None },
-        ..SERVE
-    };
     let table = [
         (
             "--seed 0",
@@ -228,30 +219,12 @@ fn serve_takes_what_its_station_does(rt: HostRuntime) -> Result<(), Fail> {
             },
         ),
         ("--hf", hf),
-        ("--hf --sensitive", sensitive_hf),
         (
             "--t1 200 --hf --dcd=2",
             ServeOptions {
                 params: PARAMS,
                 dcd: Dcd::Flags(2),
                 ..hf
-            },
-        ),
-        ("--fx25 0", fx25),
-        (
-            "--fx25 64",
-            ServeOptions {
-                modem: StationModem::Fx25 {
-                    checks: Some(CheckOctets::SixtyFour),
-                },
-                ..fx25
-            },
-        ),
-        (
-            "--fx25=0 --dcd 8",
-            ServeOptions {
-                dcd: Dcd::Flags(8),
-                ..fx25
             },
         ),
         ("--sensitive", sensitive),
@@ -292,6 +265,32 @@ fn assert_serve<R: Abort>(
     want: ServeOptions,
 ) -> Result<(), Fail> {
     assert_asked(rt, alloc, LEAST, line, Command::Serve(want))
+}
+
+#[test]
+fn serve_takes_how_it_hears_and_sends(rt: HostRuntime) -> Result<(), Fail> {
+    let by_flags = ServeOptions {
+        dcd: Dcd::Flags(3),
+        ..SERVE
+    };
+    let modems = [
+        (
+            "--hf --sensitive",
+            StationModem::ShortWave { sensitive: true },
+        ),
+        ("--fx25 0", StationModem::Fx25 { checks: None }),
+        (
+            "--fx25=64",
+            StationModem::Fx25 {
+                checks: Some(CheckOctets::SixtyFour),
+            },
+        ),
+    ];
+    for (line, modem) in modems {
+        let want = ServeOptions { modem, ..by_flags };
+        assert_serve(&rt, rt.alloc(), line, want)?;
+    }
+    Ok(())
 }
 
 #[test]
