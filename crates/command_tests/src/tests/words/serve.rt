@@ -273,21 +273,30 @@ fn serve_takes_how_it_hears_and_sends(rt: HostRuntime) -> Result<(), Fail> {
         dcd: Dcd::Flags(3),
         ..SERVE
     };
-    let modems = [
-        (
-            "--hf --sensitive",
-            StationModem::ShortWave { sensitive: true },
-        ),
-        ("--fx25 0", StationModem::Fx25 { checks: None }),
+    let fx25 = ServeOptions {
+        modem: StationModem::Fx25 { checks: None },
+        ..by_flags
+    };
+    // A station for short wave, with T1 three times as long.
+    let hf = ServeOptions {
+        params: Params { t1: 600, ..PARAMS },
+        modem: StationModem::ShortWave { sensitive: true },
+        ..by_flags
+    };
+    let table = [
+        ("--hf --sensitive", hf),
+        ("--fx25 0", fx25),
         (
             "--fx25=64",
-            StationModem::Fx25 {
-                checks: Some(CheckOctets::SixtyFour),
+            ServeOptions {
+                modem: StationModem::Fx25 {
+                    checks: Some(CheckOctets::SixtyFour),
+                },
+                ..by_flags
             },
         ),
     ];
-    for (line, modem) in modems {
-        let want = ServeOptions { modem, ..by_flags };
+    for (line, want) in table {
         assert_serve(&rt, rt.alloc(), line, want)?;
     }
     Ok(())
