@@ -1,6 +1,6 @@
 -- Correlations by the samples of their windows.
 use Rattle.hf_tracking.proofs.Common.{◌≡◌, ℕ, ◌+◌, ◌*◌, ◌/◌, ◌%◌, ◌<◌, ◌≤◌, ℤ, pos, ◌+ℤ◌, ◌*ℤ◌, neg_ℤ, List, get_or, ap}
-use Rattle.hf_tracking.proofs.Common.{◌∙◌, arith, unsigned_abs, Tone, Mark, Space, Phasor, Correlations, sum_below}
+use Rattle.hf_tracking.proofs.Common.{◌∙◌, arith, unsigned_abs, Tone, Mark, Space, sum_below}
 use Rattle.hf_tracking.proofs.Common.{correlation, correlations, fine_weight, phase_at, phase_step}
 use Rattle.hf_tracking.proofs.Common.{FitsSigned, to_z, of_z, to_z-of_z, w32, w64, ints, map, ◌-ℤ◌}
 use Rattle.std.proofs.Common.{nat_le, true, refl}
@@ -35,19 +35,19 @@ pub begins_at : (bank number place k : ℕ) → number ≡ bank
 begins_at bank number place k same =
     fine_weight-turn (4 * (place * (64 + number))) k ∙ ap (λ b. fine_weight (4 * (place * (64 + b)) + k)) same
 
--- one cycle of the weights
-unfoldable pub cycle : List ℤ
-cycle = map weight (range_with_len 0 48)
+-- the weights of as many cycles as a window can reach
+unfoldable pub wave : List ℤ
+wave = map weight (range_with_len 0 352)
 
 -- what is read at a phase is the weight there, and a weight fits
-pub read : (phase : ℕ) → to_z w32 (of_z w32 (get_or cycle (phase / 8 % 48) (pos 0))) ≡ fine_weight phase
-unfolding cycle
-read phase =
-    let n : ℕ = phase / 8 % 48 in
+pub read : (phase : ℕ) → phase < 2816 → to_z w32 (of_z w32 (get_or wave (phase / 8) (pos 0))) ≡ fine_weight phase
+unfolding wave
+read phase below =
+    let n : ℕ = phase / 8 in
     let small : unsigned_abs (weight n) ≤ 100 = weight_small n in
     let fits : FitsSigned w32 (weight n) = search (arith, ints) in
-    ap (λ z. to_z w32 (of_z w32 z)) (get_or-map-range_with_len weight 0 48 n n (pos 0) (omega arith) (omega arith))
-    ∙ to_z-of_z w32 (weight n) fits ∙ weight-cycle n (phase / 8) (omega arith)
+    ap (λ z. to_z w32 (of_z w32 z)) (get_or-map-range_with_len weight 0 352 n n (pos 0) (omega arith) (omega arith))
+    ∙ to_z-of_z w32 (weight n) fits
 
 -- what a window's sums are, the phase at which it begins being known within a turn
 pub sum-product_at : (bank shift begin from step place : ℕ) (tone : Tone) (window x : List ℤ)

@@ -1,6 +1,6 @@
 -- What is decided of samples stays as it is when more samples follow.
 use Rattle.hf_tracking.proofs.Common.{◌≡◌, ℕ, zero, suc, ◌+◌, ◌-◌, ◌*◌, ◌/◌, ◌%◌, ◌<◌, ◌≤◌, ℤ, pos, List, ◌++◌, length}
-use Rattle.hf_tracking.proofs.Common.{refl, sym, ap, ◌∙◌, arith, inl, inr, cases_lt, Tone, Correlations, correlations}
+use Rattle.hf_tracking.proofs.Common.{refl, sym, ◌∙◌, arith, inl, inr, cases_lt, Tone, Correlations, correlations}
 use Rattle.hf_tracking.proofs.Common.{tone_before, decided, next_track, track_at, tone_at, heard, places_in, windows_in}
 use Rattle.hf_tracking.proofs.Common.{HeldTones, HasTaken}
 use Rattle.std.proofs.Common.{length-append}

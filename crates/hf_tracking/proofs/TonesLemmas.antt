@@ -1,12 +1,11 @@
 -- What a bank's tones keep, with one sample more.
-use Rattle.hf_tracking.proofs.Common.{◌≡◌, ◌≢◌, ℕ, ◌+◌, ◌-◌, ◌*◌, ◌/◌, ◌%◌, ◌<◌, ◌≤◌, ℤ, pos, List, [], ◌∷◌, ◌++◌}
+use Rattle.hf_tracking.proofs.Common.{◌≡◌, ◌≢◌, ℕ, ◌+◌, ◌-◌, ◌*◌, ◌%◌, ◌<◌, ◌≤◌, ℤ, pos, List, [], ◌∷◌, ◌++◌}
 use Rattle.hf_tracking.proofs.Common.{length, drop, get_or, set, replicate, sym, ap, subst, ◌∙◌, arith, inl, inr}
 use Rattle.hf_tracking.proofs.Common.{get_or-set_same, get_or-set_other, get_or-replicate, length-set, cases_eq, cases_lt}
-use Rattle.hf_tracking.proofs.Common.{All, AreSmall, Correlations, correlations, none, windows_in, places_in, HeldTracker}
+use Rattle.hf_tracking.proofs.Common.{All, AreSmall, Correlations, correlations, none, windows_in, HeldTracker}
 use Rattle.hf_tracking.proofs.Common.{HeldTones, HasSamples, HasTaken, TrackerStandsFor}
 use Rattle.std.proofs.Common.{get_or-append-add}
 use Rattle.std.proofs.lemmas.List.{length-replicate, length-drop, get_or-drop, get_or_append_left}
-use Rattle.hf_tracking.proofs.CorrelationLemmas.{correlations-agree}
 
 abbrev pub held : ℕ → ℕ → List ℤ → List Correlations → HeldTracker → HeldTones
 held bank count samples recent tracker = record {

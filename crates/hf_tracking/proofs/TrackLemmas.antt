@@ -1,5 +1,5 @@
 -- Tracks, and lists of tracks, within bounds.
-use Rattle.hf_tracking.proofs.Common.{ℕ, List, length, get_or, set, replicate, sym, ap, subst, ◌∙◌, arith, inl, inr}
+use Rattle.hf_tracking.proofs.Common.{ℕ, List, get_or, set, replicate, sym, ap, subst, ◌∙◌, arith, inl, inr}
 use Rattle.hf_tracking.proofs.Common.{get_or-set_same, get_or-set_other, get_or-replicate, length-set, cases_eq, All}
 use Rattle.hf_tracking.proofs.Common.{Track, no_track, IsBounded}
 use Rattle.std.proofs.lemmas.List.{length-replicate}

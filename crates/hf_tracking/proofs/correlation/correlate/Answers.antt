@@ -1,4 +1,4 @@
-use Rattle.hf_tracking.proofs.Common.{◌+◌, ◌≤◌, ℕ, ℤ, List, unsigned_abs, refl, sym, subst, ◌∙◌, Mark, Space, correlation}
+use Rattle.hf_tracking.proofs.Common.{◌+◌, ◌≤◌, ℤ, List, unsigned_abs, refl, sym, subst, ◌∙◌, Mark, Space, correlation}
 use Rattle.hf_tracking.proofs.CorrelationLemmas.{sum-product_at, given_is, negated_is, negated_small}
 use Rattle.std.proofs.Common.{neg_ℤ, ap, arith}
 use Rattle.hf_tracking.proofs.correlation.correlate.Goals as goal

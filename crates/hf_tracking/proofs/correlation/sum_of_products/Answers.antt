@@ -1,4 +1,4 @@
-use Rattle.hf_tracking.proofs.Common.{◌≡◌, ◌≤◌, ◌+◌, ◌*◌, ℕ, ℤ, pos, ◌+ℤ◌, ◌*ℤ◌, List, unsigned_abs, get_or, FitsSigned}
+use Rattle.hf_tracking.proofs.Common.{◌≡◌, ◌+◌, ◌*◌, ℕ, ℤ, pos, ◌+ℤ◌, ◌*ℤ◌, List, get_or, FitsSigned}
 use Rattle.hf_tracking.proofs.Common.{to_z, of_z, refl, sym, ap, ◌∙◌, arith, ints, rules, to_z-of_z, sum_below, w16, w32}
 use Rattle.hf_tracking.proofs.Common.{fine_weight}
 use Rattle.offset_slicers.proofs.DecisionLemmas.{sum_below-more, sum_is}

@@ -1,4 +1,4 @@
-use Rattle.hf_tracking.proofs.Common.{◌≡◌, ◌∙◌, FitsSigned, w64, rules, to_z-of_z, Mark, Space, decided, if◌then◌else◌, int_le}
+use Rattle.hf_tracking.proofs.Common.{◌∙◌, FitsSigned, w64, rules, to_z-of_z, Mark, Space, decided, if◌then◌else◌, int_le}
 use Rattle.hf_tracking.proofs.decision.decide.Goals as goal
 
 pub returns : goal.returns

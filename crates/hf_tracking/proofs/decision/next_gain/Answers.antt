@@ -1,7 +1,6 @@
-use Rattle.hf_tracking.proofs.Common.{◌≡◌, ◌≤◌, ◌+ℤ◌, ℤ, unsigned_abs, ap, subst, sym, ◌∙◌, arith, ints, int_max, Mark, Space}
-use Rattle.tone_tracking.specs.Correlation.{of_tone}
-use Rattle.hf_tracking.specs.Heard.{gain, last_gain, next_gain}
-use Rattle.hf_tracking.specs.Tracks.{expected, moved_on, turned}
+use Rattle.hf_tracking.proofs.Common.{◌≤◌, ◌+ℤ◌, unsigned_abs, ap, subst, sym, ◌∙◌, arith, ints, int_max, Mark, Space}
+use Rattle.hf_tracking.specs.Heard.{gain, last_gain}
+use Rattle.hf_tracking.specs.Tracks.{turned}
 use Rattle.hf_tracking.proofs.PhasorLemmas.{larger_is, larger_small, sum_is, sum_small}
 use Rattle.hf_tracking.proofs.decision.next_gain.Goals as goal
 

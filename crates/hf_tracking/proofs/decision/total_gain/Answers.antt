@@ -1,4 +1,4 @@
-use Rattle.hf_tracking.proofs.Common.{◌≡◌, ◌≤◌, ◌+ℤ◌, ℤ, unsigned_abs, ap, ◌∙◌, arith, ints, int_max, Mark, Space}
+use Rattle.hf_tracking.proofs.Common.{◌+ℤ◌, ap, ◌∙◌, arith, ints, int_max, Mark, Space}
 use Rattle.hf_tracking.specs.Heard.{gain, next_gain}
 use Rattle.hf_tracking.proofs.PhasorLemmas.{larger_is, larger_small, sum_is}
 use Rattle.hf_tracking.proofs.decision.total_gain.Goals as goal

@@ -1,4 +1,4 @@
-use Rattle.hf_tracking.proofs.Common.{◌≡◌, ◌≤◌, ◌-ℤ◌, unsigned_abs, ◌∙◌, arith}
+use Rattle.hf_tracking.proofs.Common.{◌-ℤ◌, ◌∙◌, arith}
 use Rattle.hf_tracking.proofs.PhasorLemmas.{less_is, less_fits, passed_product}
 use Rattle.hf_tracking.proofs.phasors.cross.Goals as goal
 

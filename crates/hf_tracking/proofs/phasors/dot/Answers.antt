@@ -1,4 +1,4 @@
-use Rattle.hf_tracking.proofs.Common.{◌≡◌, ◌≤◌, ◌+◌, ◌*◌, ℤ, ◌+ℤ◌, ◌*ℤ◌, unsigned_abs, subst, sym, ◌∙◌, arith, ints, Phasor}
+use Rattle.hf_tracking.proofs.Common.{◌≡◌, ◌≤◌, ℤ, ◌+ℤ◌, ◌*ℤ◌, unsigned_abs, subst, sym, ◌∙◌, arith, ints, Phasor}
 use Rattle.hf_tracking.proofs.Common.{IsWithin, IsSmall}
 use Rattle.hf_tracking.proofs.PhasorLemmas.{passed_product, product_size, sum_is, sum_fits, three_fits, three_is, three_small}
 use Rattle.hf_tracking.proofs.phasors.dot.Goals as goal

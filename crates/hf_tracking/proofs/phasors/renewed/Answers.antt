@@ -1,4 +1,4 @@
-use Rattle.hf_tracking.proofs.Common.{◌≡◌, ◌≤◌, ◌+ℤ◌, unsigned_abs, ap, ◌∙◌, arith}
+use Rattle.hf_tracking.proofs.Common.{◌+ℤ◌, ap, ◌∙◌, arith}
 use Rattle.hf_tracking.specs.Tracks.{five_eighths_of}
 use Rattle.hf_tracking.proofs.PhasorLemmas.{part_is, sum_is}
 use Rattle.hf_tracking.proofs.phasors.renewed.Goals as goal

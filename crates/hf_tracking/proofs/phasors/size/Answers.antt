@@ -1,4 +1,4 @@
-use Rattle.hf_tracking.proofs.Common.{◌≡◌, ◌≤◌, ℤ, ◌+ℤ◌, ◌-ℤ◌, ◌*ℤ◌, unsigned_abs, size, ◌∙◌, arith, ints}
+use Rattle.hf_tracking.proofs.Common.{◌≡◌, ℤ, ◌+ℤ◌, ◌-ℤ◌, ◌*ℤ◌, size, ◌∙◌, arith, ints}
 use Rattle.tone_tracking.proofs.PhasorLemmas.{size-sum}
 use Rattle.hf_tracking.proofs.PhasorLemmas.{less_is, passed_product, sum_is}
 use Rattle.hf_tracking.proofs.phasors.size.Goals as goal

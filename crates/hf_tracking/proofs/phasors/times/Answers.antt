@@ -1,4 +1,4 @@
-use Rattle.hf_tracking.proofs.Common.{◌≡◌, ◌≤◌, ℤ, ◌+ℤ◌, ◌-ℤ◌, unsigned_abs, ap, subst, sym, ◌∙◌, arith}
+use Rattle.hf_tracking.proofs.Common.{◌≤◌, ℤ, ◌+ℤ◌, ◌-ℤ◌, unsigned_abs, ap, subst, sym, ◌∙◌, arith}
 use Rattle.hf_tracking.specs.Tracks.{scaled}
 use Rattle.hf_tracking.proofs.PhasorLemmas.{part_is, passed_product, sum_fits, less_fits, less_is, less_small, three_fits}
 use Rattle.hf_tracking.proofs.PhasorLemmas.{three_is, three_small}

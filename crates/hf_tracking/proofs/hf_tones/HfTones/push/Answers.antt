@@ -1,6 +1,6 @@
 use Rattle.hf_tracking.proofs.Common.{◌≡◌, ◌+◌, ◌-◌, ◌*◌, ◌/◌, ◌%◌, ◌<◌, ◌≤◌, ℕ, ℤ, pos, List, length, get_or, set, sym}
 use Rattle.hf_tracking.proofs.Common.{subst, ap, ◌∙◌, get_or-set_same, to_z, of_z, arith, rules, length-set, to_z-of_z}
-use Rattle.hf_tracking.proofs.Common.{w16, All, AreSmall, Correlations, correlations, none, HeldTones, HeldTracker}
+use Rattle.hf_tracking.proofs.Common.{w16, Correlations, correlations, none, HeldTones, HeldTracker}
 use Rattle.hf_tracking.proofs.Common.{HasSamples, HasTaken, windows_in, places_in}
 use Rattle.hf_tracking.proofs.TonesLemmas.{held, shifted, samples_few, samples_more, kept_at, all_small-set}
 use Rattle.hf_tracking.proofs.hf_tones.HfTones.push.Goals as goal

@@ -1,5 +1,5 @@
-use Rattle.hf_tracking.proofs.Common.{◌≡◌, ℕ, ◌+◌, ◌%◌, length, get_or, set, ap, sym, subst, ◌∙◌, arith, rules}
-use Rattle.hf_tracking.proofs.Common.{Correlations, no_track, decided, next_track, track_at, tone_at, HeldTracker}
+use Rattle.hf_tracking.proofs.Common.{◌≡◌, ℕ, ◌+◌, ◌%◌, length, set, sym, subst, ◌∙◌, arith, rules}
+use Rattle.hf_tracking.proofs.Common.{Correlations, no_track, next_track, track_at, HeldTracker}
 use Rattle.hf_tracking.proofs.Common.{TrackerStandsFor}
 use Rattle.hf_tracking.proofs.TrackLemmas.{bounded_set}
 use Rattle.hf_tracking.proofs.TrackerLemmas.{held, track_at-next, stands_next, tone_is_decided, track_here}
