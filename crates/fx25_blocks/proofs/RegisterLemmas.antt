@@ -63,7 +63,7 @@ unfolding bits_of_64
 wrong_bits_are a b below also = ones_differing 64 a b below also
 
 -- a 1 above the lowest bits
-push_one : (count n : ℕ) → n < 2 ^ count → low_bits (suc count) (n + 2 ^ count) ≡ low_bits count n ++ true ∷ []
+pub push_one : (count n : ℕ) → n < 2 ^ count → low_bits (suc count) (n + 2 ^ count) ≡ low_bits count n ++ true ∷ []
 push_one zero n below = ap (λ b. b ∷ []) (eq-eqb ((n + 2 ^ 0) % 2) 1 (omega arith))
 push_one (suc count) n below =
     let double = pow-suc 2 count in
