@@ -22,7 +22,6 @@ unfoldable pub use Rattle.tone_tracking.specs.Heard.{decided, past_at, tone_at}
 pub use Rattle.tone_tracking.specs.Heard.{ahead, largest, open_of, passed, places_in}
 pub use Rattle.tone_tracking.specs.HeldLists.{HasSamples, HasTaken, HeldLists}
 pub use Rattle.tone_tracking.specs.HeldTracker.{HeldTracker, StandsFor, tone_before}
-pub use Rattle.tone_tracking.specs.PairSums.{AreSmall, in_pairs, pairs_of_products}
 pub use Rattle.tone_tracking.specs.Phasors.{IsWithin, none, plus, size, turn, turn_back}
 pub use Rattle.tone_tracking.specs.declared.bit_clock.Pull.{Pull}
 pub use Rattle.tone_tracking.specs.declared.correlation.Correlations.{Correlations}

@@ -1,6 +1,9 @@
 -- Correlations by the samples of their windows.
 use Rattle.tone_tracking.proofs.Common.{◌≡◌, ℕ, ◌+◌, ◌*◌, ◌<◌, ℤ, pos, ◌*ℤ◌, neg_ℤ, List, map, get_or, ap, ◌∙◌, arith}
+use Rattle.tone_tracking.proofs.Common.{◌≤◌, unsigned_abs}
 use Rattle.tone_tracking.proofs.Common.{Tone, Mark, Space, sum_below, product_of, weight, correlation, correlations}
+use Rattle.std.proofs.Math.Nat.{mul-le-mul_right}
+use Rattle.std.proofs.lemmas.Int.{unsigned_abs-mul}
 use Rattle.std.proofs.lemmas.List.FromFn.{get_or-map-range_with_len}
 use Rattle.std.specs.List.{range_with_len}
 use Rattle.tone_table.specs.Tones.{phase_step}
@@ -40,3 +43,9 @@ correlations-agree x y p q same =
     let mark = correlation-agree Mark x y p q same in
     let space = correlation-agree Space x y p q same in
     λ i. record { mark = mark i; space = space i }
+
+-- a product of a number of at most a size
+pub product_size : (most : ℕ) (x w : ℤ) → unsigned_abs x ≤ most → unsigned_abs (x *ℤ w) ≤ most * unsigned_abs w
+product_size most x w small =
+    let least : unsigned_abs x * unsigned_abs w ≤ most * unsigned_abs w = mul-le-mul_right (unsigned_abs w) small in
+    omega (arith, unsigned_abs-mul x w)

@@ -6,4 +6,3 @@ pub mod CorrelationLemmas
 pub mod DecisionLemmas
 pub mod TrackerLemmas
 pub mod ListsLemmas
-pub mod LaneLemmas

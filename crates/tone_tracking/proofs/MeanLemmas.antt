@@ -1,19 +1,17 @@
 -- Samples without their mean: those that the samples settle, and those with a sample more.
-use Rattle.tone_tracking.proofs.Common.{◌≡◌, ℕ, ◌+◌, ◌-◌, ◌<◌, ◌≤◌, ℤ, pos, ◌-ℤ◌, ◌*ℤ◌, List, [], ◌∷◌, length}
+use Rattle.tone_tracking.proofs.Common.{◌≡◌, ℕ, ◌+◌, ◌-◌, ◌%◌, ◌<◌, ◌≤◌, ℤ, pos, ◌-ℤ◌, ◌*ℤ◌, List, [], ◌∷◌, length}
 use Rattle.tone_tracking.proofs.Common.{get_or, set, replicate, refl, ap, sym, ◌∙◌, arith, sum_below, inl, inr, cases_lt}
-use Rattle.std.proofs.Common.{◌++◌, append_assoc, append-nil, drop, take, length-append, length-drop}
+use Rattle.std.proofs.Common.{◌++◌, append_assoc, append-nil, drop, take, length-append, length-drop, length-take}
 use Rattle.std.proofs.Common.{get_or-append-add}
 use Rattle.std.specs.Int.{int_div_euclid}
-use Rattle.std.specs.List.{copy_within}
-use Rattle.std.proofs.lemmas.List.{drop-append-le, drop-drop, get_or-drop, get_or_append_left, length-replicate, length_push, length-set}
+use Rattle.std.proofs.lemmas.List.{drop-append-le, drop-drop, drop_all, drop-set-lt, get_or-drop, get_or-take, get_or_append_left, length-replicate, length_push, length-set}
 use Rattle.std.proofs.lemmas.List.{take_all, take_more_set}
-use Rattle.std.proofs.lemmas.List.Edits.{take-paste}
 use Rattle.std.proofs.lemmas.List.FromFn.{fill_by_all, get_or-map-range_with_len, length-map-range_with_len}
 use Rattle.std.proofs.lemmas.List.FromFn.{map-range_with_len_more}
 use Rattle.offset_slicers.proofs.DecisionLemmas.{sum_below-agree}
 unfoldable use Rattle.tone_tracking.specs.WithoutMean.{sum_around}
 use Rattle.tone_tracking.specs.WithoutMean.{without_mean, without_mean_at, without_mean_first}
-use Rattle.tone_tracking.specs.HeldMean.{IsSumOf, last_samples}
+use Rattle.tone_tracking.specs.HeldMean.{IsSumOf, from_oldest, last_samples}
 use Rattle.std.proofs.lemmas.List.Elements.{All-append, All-cons, All-drop, All-nil, All-replicate}
 use Rattle.tone_tracking.proofs.Common.{All, unsigned_abs, ints, zero, suc, ◌+ℤ◌, ◌*◌}
 
@@ -45,17 +43,72 @@ last_samples-push x sample =
     ∙ ap (drop 1) (drop-append-le (length x) (zeros 32 ++ x) (sample ∷ []) inside)
     ∙ drop-append-le 1 (last_samples x) (sample ∷ []) some
 
--- the last 31 moved to the front, and a new one after them
-pub slid : (samples moved : List ℤ) (sample : ℤ) → length samples ≡ 32 → length moved ≡ length samples
-    → moved ≡ copy_within samples 1 32 0 → set moved 31 sample ≡ drop 1 samples ++ sample ∷ []
-slid samples moved sample whole same is =
-    let size = length-set moved 31 sample in
-    let rest : length (drop 1 samples) ≡ 31 = omega (arith, length-drop 1 samples) in
-    sym (take_all 32 (set moved 31 sample) (omega arith))
-    ∙ take_more_set moved 31 sample (omega arith)
-    ∙ ap (λ w. take 31 w ++ sample ∷ []) is
-    ∙ ap (λ w. w ++ sample ∷ []) (take-paste samples 0 (drop 1 samples) 31 (omega arith) (omega arith))
-    ∙ ap (λ w. w ++ sample ∷ []) (take_all 31 (drop 1 samples) (omega arith))
+-- ---- the ring
+
+pub length-from_oldest : (ring : List ℤ) (oldest : ℕ) → length ring ≡ 32 → oldest < 32
+    → length (from_oldest oldest ring) ≡ 32
+length-from_oldest ring oldest whole inside = omega (
+  arith,
+  length-append (drop oldest ring) (take oldest ring),
+  length-drop oldest ring,
+  length-take oldest ring,
+)
+
+-- a sample of a ring that is read from its oldest one
+pub ring_at : (ring : List ℤ) (oldest i : ℕ) → length ring ≡ 32 → oldest < 32 → i < 32
+    → get_or ring ((oldest + i) % 32) (pos 0) ≡ get_or (from_oldest oldest ring) i (pos 0)
+ring_at ring oldest i whole inside below =
+    let late = length-drop oldest ring in
+    elim (cases_lt (oldest + i) 32) [
+      | inl straight ↦
+          let same : (oldest + i) % 32 ≡ oldest + i = omega arith in
+          ap (λ k. get_or ring k (pos 0)) same ∙ sym (get_or-drop oldest ring i (pos 0))
+          ∙ sym (get_or_append_left (drop oldest ring) (take oldest ring) (pos 0) i (omega arith))
+      | inr round ↦
+          let k : ℕ = oldest + i - 32 in
+          let same : (oldest + i) % 32 ≡ k = omega arith in
+          let at : i ≡ length (drop oldest ring) + k = omega arith in
+          ap (λ j. get_or ring j (pos 0)) same ∙ sym (get_or-take oldest ring k (pos 0) (omega arith))
+          ∙ sym (get_or-append-add (drop oldest ring) (take oldest ring) k (pos 0))
+          ∙ ap (λ j. get_or (from_oldest oldest ring) j (pos 0)) (sym at)
+    ]
+
+-- its oldest one
+pub ring_first : (ring : List ℤ) (oldest : ℕ) → length ring ≡ 32 → oldest < 32
+    → get_or ring oldest (pos 0) ≡ get_or (from_oldest oldest ring) 0 (pos 0)
+ring_first ring oldest whole inside =
+    let same : oldest ≡ (oldest + 0) % 32 = omega arith in
+    ap (λ k. get_or ring k (pos 0)) same ∙ ring_at ring oldest 0 whole inside (omega arith)
+
+-- a ring that is read from its end is read from its beginning
+from_end : (ring : List ℤ) → length ring ≡ 32 → from_oldest 32 ring ≡ from_oldest 0 ring
+from_end ring whole =
+    let none : drop 32 ring ≡ [] = drop_all 32 ring (omega arith) in
+    let all : take 32 ring ≡ ring = take_all 32 ring (omega arith) in
+    (λ i. none i ++ all i) ∙ sym (append-nil ring)
+
+-- a ring in which a new sample has taken the place of the oldest one
+pub ring_next : (ring : List ℤ) (oldest : ℕ) (sample : ℤ) → length ring ≡ 32 → oldest < 32
+    → from_oldest ((oldest + 1) % 32) (set ring oldest sample) ≡ drop 1 (from_oldest oldest ring) ++ sample ∷ []
+ring_next ring oldest sample whole inside =
+    let now : List ℤ = set ring oldest sample in
+    let size : length now ≡ 32 = length-set ring oldest sample ∙ whole in
+    let some : 1 ≤ length (drop oldest ring) = omega (arith, length-drop oldest ring) in
+    let turned : from_oldest ((oldest + 1) % 32) now ≡ from_oldest (oldest + 1) now = elim (cases_lt (oldest + 1) 32) [
+      | inl straight ↦
+          let same : (oldest + 1) % 32 ≡ oldest + 1 = omega arith in
+          ap (λ k. from_oldest k now) same
+      | inr round ↦
+          let first : (oldest + 1) % 32 ≡ 0 = omega arith in
+          let last : oldest + 1 ≡ 32 = omega arith in
+          ap (λ k. from_oldest k now) first ∙ sym (from_end now size) ∙ ap (λ k. from_oldest k now) (sym last)
+    ] in
+    let late = drop-set-lt (oldest + 1) ring oldest sample (omega arith) in
+    let early = take_more_set ring oldest sample (omega arith) in
+    turned ∙ (λ i. late i ++ early i)
+    ∙ sym (append_assoc (drop (oldest + 1) ring) (take oldest ring) (sample ∷ []))
+    ∙ ap (λ l. (l ++ take oldest ring) ++ sample ∷ []) (sym (drop-drop 1 oldest ring))
+    ∙ ap (λ l. l ++ sample ∷ []) (sym (drop-append-le 1 (drop oldest ring) (take oldest ring) some))
 
 -- ---- their sum
 

@@ -1,11 +1,15 @@
 -- What a mean remover keeps, and what that stands for.
-use Rattle.std.specs.Prelude.{◌≡◌, ◌≤◌, ℕ, ◌-◌, ℤ, pos, List, ◌++◌, length, drop, replicate, slice_index_or, unsigned_abs}
+use Rattle.std.specs.Prelude.{◌≡◌, ◌≤◌, ℕ, ◌-◌, ℤ, pos, List, ◌++◌, length, drop, take, replicate, slice_index_or, unsigned_abs}
 use Rattle.std.specs.List.{All}
 use Rattle.offset_slicers.specs.Decision.{sum_below}
 
 -- the last 32 of the samples, with zeros before the first
 abbrev pub last_samples : List ℤ → List ℤ
 last_samples x = drop (length x) (replicate 32 (pos 0) ++ x)
+
+-- a ring of samples, read from where the oldest of them stands
+abbrev pub from_oldest : ℕ → List ℤ → List ℤ
+from_oldest oldest ring = drop oldest ring ++ take oldest ring
 
 -- these, and how many are to come until a sample without its mean is given
 pub record HeldMean : Type 0 where

@@ -4,6 +4,5 @@ pub mod Heard
 pub mod Clock
 pub mod HeldTracker
 pub mod HeldLists
-pub mod PairSums
 pub mod WithoutMean
 pub mod HeldMean

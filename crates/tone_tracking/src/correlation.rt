@@ -1,21 +1,16 @@
 //! The correlations of a window with the two tones, as phasors.
 //!
-//! Four sums of eight products each are made side by side, by vectors: products are added in pairs, and what is left in
-//! pairs again, until each lane of one vector holds a sum.
+//! Each sum is made sample by sample and without vectors. The last sample of a window has just been written, so a load of
+//! several samples at once would have to wait until that write is done.
 
-ghost use Rattle.std.specs.Prelude.{◌≡◌, ◌≤◌, sum_by, unsigned_abs, length};
+ghost use Rattle.std.specs.Prelude.{◌≡◌, ◌+◌, ◌<◌, ◌≤◌, pos, ◌-ℤ◌, ◌*ℤ◌, slice_index_or, sum_by, unsigned_abs};
 ghost use Rattle.std.specs.List.{All};
-ghost use Rattle.tone_tracking.specs.Correlation.{AreWithin, correlations};
-ghost use Rattle.tone_tracking.specs.PairSums.{AreSmall, in_pairs, pairs_of_products};
+ghost use Rattle.offset_slicers.specs.Decision.{sum_below, product_of};
+ghost use Rattle.tone_table.specs.declared.tone.Tone.TheVariants.{Mark, Space};
+ghost use Rattle.tone_tracking.specs.Correlation.{AreWithin, correlation, correlations};
+ghost use Rattle.tone_tracking.specs.Phasors.{IsWithin};
 
 use crate::phasor::Phasor;
-use std::simd::prelude::*;
-
-/// The weights of mark a sixth of a turn on.
-static MARK_ON: [i32; 8] = [87, 97, 50, -26, -87, -97, -50, 26];
-
-/// The weights of mark.
-static MARK: [i32; 8] = [0, 71, 100, 71, 0, -71, -100, -71];
 
 /// The weights of space a sixth of a turn on.
 static SPACE_ON: [i32; 8] = [87, 61, -71, -79, 50, 92, -26, -99];
@@ -46,68 +41,70 @@ pub fn correlate(window: &[i32; 8]) -> Correlations
     ensures sums { result ≡ correlations window.now 0 }
     ensures bound { AreWithin result }
 {
-    let samples = vector_of(window);
-    let mark = half_sums(samples, &MARK_ON, &MARK);
-    let space = half_sums(samples, &SPACE_ON, &SPACE);
-    let sums = in_pairs(mark, space).to_array();
     Correlations {
-        mark: Phasor {
-            a: i64::from(sums[0]),
-            b: i64::from(-sums[1]),
-        },
-        space: Phasor {
-            a: i64::from(sums[2]),
-            b: i64::from(-sums[3]),
-        },
+        mark: correlate_mark(window),
+        space: correlate_space(window),
     }
 }
 
-/// The samples of a window, a lane each.
-fn vector_of(window: &[i32; 8]) -> i32x8
+/// The correlation with mark. Half a cycle of mark takes four samples, so its weights turn round there, and differences
+/// of samples four places apart are weighted.
+fn correlate_mark(window: &[i32; 8]) -> Phasor
     requires { All (λ sample. unsigned_abs sample ≤ 262144) window.now }
-    ensures lanes { result ≡ window.now }
-    ensures length { length result ≡ 8 }
-    ensures bound { All (λ sample. unsigned_abs sample ≤ 262144) result }
+    ensures sum { result ≡ correlation Mark window.now 0 }
+    ensures bound { IsWithin 297000000 result }
 {
-    i32x8::from_array(*window)
+    let first = difference(window, 0);
+    let second = difference(window, 1);
+    let third = difference(window, 2);
+    let fourth = difference(window, 3);
+    Phasor {
+        a: i64::from(87 * first + 97 * second + 50 * third - 26 * fourth),
+        b: i64::from(-(71 * second + 100 * third + 71 * fourth)),
+    }
 }
 
-/// The sums of the products of samples and a tone's weights, a sixth of a turn on and as they are, each as two lanes.
-fn half_sums(samples: i32x8, on: &[i32; 8], at: &[i32; 8]) -> i32x4
-    requires length { length samples ≡ 8 }
-    requires samples { All (λ sample. unsigned_abs sample ≤ 262144) samples }
-    requires on { sum_by unsigned_abs on.now ≤ 600 }
-    requires at { sum_by unsigned_abs at.now ≤ 600 }
-    ensures sums { result ≡ in_pairs (pairs_of_products samples on.now) (pairs_of_products samples at.now) }
-    ensures bound { AreSmall 640000000 result }
+/// A sample of a window, less the one four places on.
+fn difference(window: &[i32; 8], place: usize) -> i32
+    requires place { place < 4 }
+    requires samples { All (λ sample. unsigned_abs sample ≤ 262144) window.now }
+    ensures value { result ≡ slice_index_or window.now place (pos 0) -ℤ slice_index_or window.now (place + 4) (pos 0) }
+    ensures bound { unsigned_abs result ≤ 524288 }
 {
-    in_pairs(
-        pairs_of_products(samples, on),
-        pairs_of_products(samples, at),
-    )
+    window[place] - window[place + 4]
 }
 
-/// The products of samples and weights, place by place, each added to the one next to it.
-fn pairs_of_products(samples: i32x8, weights: &[i32; 8]) -> i32x4
-    requires length { length samples ≡ 8 }
-    requires samples { All (λ sample. unsigned_abs sample ≤ 262144) samples }
-    requires weights { sum_by unsigned_abs weights.now ≤ 600 }
-    ensures pairs { result ≡ pairs_of_products samples weights.now }
-    ensures bound { AreSmall 320000000 result }
+/// The correlation with space.
+fn correlate_space(window: &[i32; 8]) -> Phasor
+    requires { All (λ sample. unsigned_abs sample ≤ 262144) window.now }
+    ensures sum { result ≡ correlation Space window.now 0 }
+    ensures bound { IsWithin 297000000 result }
 {
-    let products = samples.strict_mul(i32x8::from_array(*weights));
-    products
-        .swizzle([0, 2, 4, 6])
-        .strict_add(products.swizzle([1, 3, 5, 7]))
+    Phasor {
+        a: i64::from(sum_of_products(window, &SPACE_ON)),
+        b: i64::from(-sum_of_products(window, &SPACE)),
+    }
 }
 
-/// The lanes of two vectors, each added to the one next to it.
-fn in_pairs(first: i32x4, second: i32x4) -> i32x4
-    requires first { AreSmall 640000000 first }
-    requires second { AreSmall 640000000 second }
-    ensures { result ≡ in_pairs first second }
+/// The sum of the products of samples and weights, place by place.
+fn sum_of_products(window: &[i32; 8], weights: &[i32; 8]) -> i32
+    requires samples { All (λ sample. unsigned_abs sample ≤ 262144) window.now }
+    requires weights { sum_by unsigned_abs weights.now ≤ 566 }
+    ensures sum { result ≡ sum_below (product_of window.now weights.now) 8 }
+    ensures bound { unsigned_abs result ≤ 148373504 }
 {
-    first
-        .shuffle(second, [0, 2, 4, 6])
-        .strict_add(first.shuffle(second, [1, 3, 5, 7]))
+    let mut sum = 0;
+    for i in 0..8 {
+        sum += product(window[i], weights[i]);
+    }
+    sum
+}
+
+/// The product of a sample and a weight.
+fn product(sample: i32, weight: i32) -> i32
+    requires sample { unsigned_abs sample ≤ 262144 }
+    requires weight { unsigned_abs weight ≤ 566 }
+    ensures { result ≡ sample *ℤ weight }
+{
+    sample * weight
 }

@@ -17,22 +17,24 @@ use std::marker::Model;
 const AHEAD: u8 = 15;
 
 /// Takes samples one by one, and gives each without its mean, in quarters, as soon as fifteen more have come. It keeps
-/// the last 32, and their sum.
+/// the last 32 in a ring, where the oldest of them stands, and their sum.
 #[derive(Debug, Drop)]
 pub struct MeanRemover {
     samples: [i16; 32],
+    oldest: u8,
     sum: i32,
     left: u8,
 }
 
 impl Model for MeanRemover {
-    ghost use Rattle.tone_tracking.specs.HeldMean.{HeldMean, IsSumOf};
+    ghost use Rattle.std.specs.Prelude.{◌<◌};
+    ghost use Rattle.tone_tracking.specs.HeldMean.{HeldMean, IsSumOf, from_oldest};
 
     ghost Value = { HeldMean };
 
-    ghost view = { λ s. record { samples = s.samples; left = s.left } };
+    ghost view = { λ s. record { samples = from_oldest s.oldest s.samples; left = s.left } };
 
-    ghost invariant = { λ s. IsSumOf s.samples s.sum };
+    ghost invariant = { λ s. (s.oldest < 32) × IsSumOf (from_oldest s.oldest s.samples) s.sum };
 }
 
 impl MeanRemover {
@@ -42,6 +44,7 @@ impl MeanRemover {
     {
         MeanRemover {
             samples: [0; 32],
+            oldest: 0,
             sum: 0,
             left: AHEAD,
         }
@@ -62,17 +65,19 @@ impl MeanRemover {
             self.left -= 1;
             return None;
         }
-        Some(less_mean(self.samples[16], self.sum))
+        let middle = usize::from((self.oldest + 16) % 32);
+        Some(less_mean(self.samples[middle], self.sum))
     }
 
-    /// Takes a sample in place of the first of the last 32.
+    /// Takes a sample in place of the oldest of the last 32.
     fn take(&mut self, sample: i16)
         ensures samples { self.new.samples ≡ drop 1 self.old.samples ++ sample ∷ [] }
         ensures left { self.new.left ≡ self.old.left }
     {
-        self.sum = slid_sum(self.sum, self.samples[0], sample);
-        self.samples.copy_within(1..32, 0);
-        self.samples[31] = sample;
+        let oldest = usize::from(self.oldest);
+        self.sum = slid_sum(self.sum, self.samples[oldest], sample);
+        self.samples[oldest] = sample;
+        self.oldest = (self.oldest + 1) % 32;
     }
 }
 

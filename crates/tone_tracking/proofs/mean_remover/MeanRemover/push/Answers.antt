@@ -3,8 +3,9 @@ use Rattle.tone_tracking.proofs.Common.{rules, get_or, to_z, of_z, FitsSigned, t
 use Rattle.std.proofs.Common.{◌++◌, drop}
 use Rattle.std.proofs.lemmas.List.{length_push}
 use Rattle.std.specs.Int.{int_div_euclid}
-use Rattle.tone_tracking.specs.HeldMean.{HeldMean, StandsFor, last_samples}
-use Rattle.tone_tracking.proofs.MeanLemmas.{held_sum_small, last_samples-push, without_mean-more}
+use Rattle.tone_tracking.specs.HeldMean.{HeldMean, StandsFor, from_oldest, last_samples}
+use Rattle.tone_tracking.proofs.MeanLemmas.{held_sum_small, last_samples-push, length-from_oldest, ring_at}
+use Rattle.tone_tracking.proofs.MeanLemmas.{without_mean-more}
 use Rattle.tone_tracking.proofs.mean_remover.MeanRemover.push.Goals as goal
 
 -- a sum as it is passed
@@ -46,19 +47,25 @@ returns-clause-stands_for c = λ x h.
 
 pub returns-clause-settled : goal.returns-clause-settled
 returns-clause-settled c = λ x h.
+    let s = c.self.inside in
+    let ring : List ℤ = from_oldest s.oldest s.samples in
     let none = c.if-self-gt0.false in
-    let same : c.self.inside.left ≡ c.take.new.self.left = ap (λ (held : HeldMean). held.left) c.self.view_is in
+    let same : s.left ≡ c.take.new.self.left = ap (λ (held : HeldMean). held.left) c.self.view_is in
     let left = h.left in
     let kept = c.take.ensures.left in
-    let w : c.self.inside.samples ≡ last_samples (x ++ c.args.sample ∷ [])
+    let w : ring ≡ last_samples (x ++ c.args.sample ∷ [])
     = ap (λ (held : HeldMean). held.samples) c.self.view_is
     ∙ moved c.args.self.now c.take.new.self x c.args.sample (to_z w16 (of_z w16 c.args.sample))
     c.take.ensures.samples (to_z-of_z w16 c.args.sample c.ranges.sample) h in
-    let middle_fits : FitsSigned w16 (get_or c.self.inside.samples 16 (pos 0)) = search rules in
-    let small = held_sum_small c.self.inside.samples c.self.inside.sum c.self.told c.self.invariant in
+    let whole = length-from_oldest s.samples s.oldest c.self.told c.self.invariant.0 in
+    let middle_fits : FitsSigned w16 (get_or s.samples c.from-middle.result (pos 0)) = search rules in
+    let small = held_sum_small ring s.sum whole c.self.invariant.1 in
     let fits : FitsSigned w32 c.less_mean.result = search rules in
-    let middle = to_z-of_z w16 (get_or c.self.inside.samples 16 (pos 0)) middle_fits ∙ ap (λ l. get_or l 16 (pos 0)) w in
-    let sum = sum_passed c.self.inside.sum small ∙ c.self.invariant.sum_is
+    let middle = to_z-of_z w16 (get_or s.samples c.from-middle.result (pos 0)) middle_fits
+    ∙ ap (λ k. get_or s.samples k (pos 0)) c.from-middle.ensures
+    ∙ ring_at s.samples s.oldest 16 c.self.told c.self.invariant.0 (omega arith)
+    ∙ ap (λ l. get_or l 16 (pos 0)) w in
+    let sum = sum_passed s.sum small ∙ c.self.invariant.1.sum_is
     ∙ ap (λ l. sum_below (λ j. get_or l j (pos 0)) 32) w in
     without_mean-more x c.args.sample (to_z w32 (of_z w32 c.less_mean.result)) (omega arith)
     (to_z-of_z w32 c.less_mean.result fits ∙ c.less_mean.ensures.value
@@ -67,5 +74,6 @@ returns-clause-settled c = λ x h.
 pub less_mean-requires : goal.less_mean-requires
 less_mean-requires c =
     let s = c.self.inside in
-    let small = held_sum_small s.samples s.sum c.self.told c.self.invariant in
+    let whole = length-from_oldest s.samples s.oldest c.self.told c.self.invariant.0 in
+    let small = held_sum_small (from_oldest s.oldest s.samples) s.sum whole c.self.invariant.1 in
     subst (λ z. unsigned_abs z ≤ 1048576) (sym (sum_passed s.sum small)) small
