@@ -1,4 +1,6 @@
 pub mod Common
+pub mod RestingLemmas
+pub mod LateLemmas
 pub mod MergingLemmas
 pub mod HeardLemmas
 pub mod LaneLemmas

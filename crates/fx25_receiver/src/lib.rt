@@ -9,9 +9,11 @@
 mod heard;
 mod hearing;
 mod lane;
+mod late_deframer;
 mod laws;
 mod merging;
 mod receiver;
+mod resting_reader;
 mod seven;
 #[cfg(test)]
 mod tests;
