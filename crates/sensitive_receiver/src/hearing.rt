@@ -1,6 +1,6 @@
 //! What the added lanes hear when a place is decided.
 
-ghost use Rattle.std.specs.Prelude.{◌≡◌, true, ◌+◌, ◌<◌, ◌≤◌, ◌^◌, ℕ, ℤ, List, length, OnOk};
+ghost use Rattle.std.specs.Prelude.{◌≡◌, true, ◌+◌, ◌-◌, ◌<◌, ◌≤◌, ◌^◌, ℕ, ℤ, List, length, OnOk};
 ghost use Rattle.std.specs.List.{All};
 ghost use Rattle.hdlc_framer.specs.Frames.{IsFrame};
 ghost use Rattle.hdlc_framer.specs.Held.{HoldsFrame};
@@ -13,7 +13,7 @@ ghost use Rattle.sensitive_receiver.specs.Found.{AddsAt, AddsBelow, HasRoomFrom}
 ghost use Rattle.sensitive_receiver.specs.HeldLanes.{HoldsFrameOf, IsLastPlace};
 ghost use Rattle.sensitive_receiver.specs.HeldLanes.{LaneStandsFor, LanesHaveRead};
 ghost use Rattle.sensitive_receiver.specs.Hearing.{LanesHear};
-ghost use Rattle.sensitive_receiver.specs.Lanes.{is_read_by, lane_bits, lane_tones};
+ghost use Rattle.sensitive_receiver.specs.Lanes.{delay_of, is_read_by, lane_bits, lane_tones, list_of};
 
 use crate::added_lane::has_path;
 use crate::readings::{FIRST, Readings, delay_of, list_of};
@@ -22,7 +22,7 @@ use slicer_bank::ToneLane;
 use std::alloc::Global;
 use tnc_base::{Octets, OutOfMemory};
 use tone_table::Tone;
-use tone_tracking::ToneLists;
+use tone_tracking::{Reach, ToneLists};
 
 /// Has each lane read its bit, if it reads one at the place that was decided last, and adds what they hear to `found`.
 pub(crate) fn hear_place(
@@ -46,10 +46,20 @@ pub(crate) fn hear_place(
 {
     hear_fixed(alloc, lists, lanes, readings, found)?;
     // Lanes 16 to 18 follow one clock, lanes 19 to 21 another, lane 22 a third, and lanes 23 to 25 a fourth.
-    hear_clocked(alloc, lists, lanes, 8, 11, readings, found)?;
-    hear_clocked(alloc, lists, lanes, 11, 14, readings, found)?;
-    hear_clocked(alloc, lists, lanes, 14, 15, readings, found)?;
-    hear_clocked(alloc, lists, lanes, 15, 18, readings, found)
+    hear_clocked(alloc, lists, lanes, 8, 11, Reach::Near, 0, readings, found)?;
+    hear_clocked(alloc, lists, lanes, 11, 14, Reach::Far, 0, readings, found)?;
+    hear_clocked(alloc, lists, lanes, 14, 15, Reach::Near, 1, readings, found)?;
+    hear_clocked(
+        alloc,
+        lists,
+        lanes,
+        15,
+        18,
+        Reach::Alone,
+        0,
+        readings,
+        found,
+    )
 }
 
 /// Has one of lanes 8 to 15 read its bit: the one whose turn it is at the place.
@@ -71,17 +81,28 @@ fn hear_fixed(
 {
     let index = (readings.place % 8) as u8;
     let lane = &mut lanes[usize::from(index)];
-    hear(alloc, lists, lane, FIRST + index, readings, found)
+    hear(
+        alloc,
+        lists,
+        lane,
+        FIRST + index,
+        Reach::Far,
+        0,
+        readings,
+        found,
+    )
 }
 
-/// Has the lanes from one to below another, counted from lane 8 on, read their bits if the clock that they share says
-/// so.
+/// Has the lanes from one to below another, counted from lane 8 on, read their bits of a list if the clock that they share
+/// says so: the first of them some places before the last one, and each one a place before the one before it.
 fn hear_clocked(
     alloc: Global,
     lists: &ToneLists,
     lanes: &mut [ToneLane],
     first: u8,
     end: u8,
+    list: Reach,
+    delay: u8,
     readings: &Readings,
     found: &mut Vec<Candidate>,
 ) -> Result<(), OutOfMemory>
@@ -89,6 +110,9 @@ fn hear_clocked(
     requires range { (first < end) × (end ≤ 18) }
     requires clock { (k : ℕ) → first ≤ k → k < end
         → is_read_by (8 + k) readings.now ≡ is_read_by (8 + first) readings.now }
+    requires list { (k : ℕ) → first ≤ k → k < end → list ≡ list_of (8 + k) }
+    requires delay { (k : ℕ) → first ≤ k → k < end → delay + (k - first) ≡ delay_of (8 + k) }
+    requires few { delay + (end - first) ≤ 3 }
     requires room { lists.now.count < 2 ^ 49 }
     requires place { readings.now.place < 2 ^ 48 }
     ensures lanes { length lanes.new ≡ 18 }
@@ -102,21 +126,38 @@ fn hear_clocked(
     }
     for index in first..end {
         let lane = &mut lanes[usize::from(index)];
-        hear(alloc, lists, lane, FIRST + index, readings, found)?;
+        let delay = delay + (index - first);
+        hear(
+            alloc,
+            lists,
+            lane,
+            FIRST + index,
+            list,
+            delay,
+            readings,
+            found,
+        )?;
     }
     Ok(())
 }
 
-/// Has a lane read its bit at the place that was decided last, and adds the frame that ends with it.
+/// Has a lane read its bit at the place that was decided last, and adds the frame that ends with it. Its list and delay
+/// are handed in, since most callers know them when the program is built.
+#[inline(always)]
 fn hear(
     alloc: Global,
     lists: &ToneLists,
     lane: &mut ToneLane,
     number: u8,
+    list: Reach,
+    delay: u8,
     readings: &Readings,
     found: &mut Vec<Candidate>,
 ) -> Result<(), OutOfMemory>
     requires number { (8 ≤ number) × (number < 26) }
+    requires list { list ≡ list_of number }
+    requires delay { delay ≡ delay_of number }
+    requires few { delay ≤ 2 }
     requires reads { is_read_by number readings.now ≡ true }
     requires room { lists.now.count < 2 ^ 49 }
     requires place { readings.now.place < 2 ^ 48 }
@@ -129,7 +170,7 @@ fn hear(
     ensures bounds { (low : ℕ) → low ≤ readings.now.place + 6
         → OnOk result (All (HasRoomFrom low) found.old.items → All (HasRoomFrom low) found.new.items) }
 {
-    let tone = lists.tone_before(list_of(number), delay_of(number));
+    let tone = lists.tone_before(list, delay);
     if !lane.push(tone) {
         return Ok(());
     }
@@ -139,6 +180,7 @@ fn hear(
 /// Adds the frame that ends with the bit that a lane read last, if it begins with a path and its flag is in time. Few
 /// bits end a frame, so this stays apart from what each bit costs.
 #[cold]
+#[inline(never)]
 fn add_frame(
     alloc: Global,
     lists: &ToneLists,

@@ -1,4 +1,4 @@
-use Rattle.tone_tracking.proofs.Common.{◌≡◌, ◌≤◌, ◌*◌, ◌*ℤ◌, ℤ, unsigned_abs, FitsSigned, to_z, of_z, w32, arith, ints, to_z-of_z}
+use Rattle.tone_tracking.proofs.Common.{◌≡◌, ◌≤◌, ◌*ℤ◌, ℤ, unsigned_abs, FitsSigned, to_z, of_z, w32, arith, ints, to_z-of_z}
 use Rattle.tone_tracking.proofs.CorrelationLemmas.{product_size}
 use Rattle.tone_tracking.proofs.correlation.product.Goals as goal
 
