@@ -1,6 +1,6 @@
 //! A reader of blocks that rests while no block comes.
 //!
-//! Noise and plain frames come near a tag once in hours. So a lane mostly keeps the last 64 bits alone, and asks of each
+//! In noise a lane comes near a tag about once in five minutes. So it mostly keeps the last 64 bits alone, and asks of each
 //! bit whether a tag ends with it. Only then does it wake a whole reader, which takes the bits of the tag and those to
 //! come until no block can end and none holds the channel.
 ghost use Rattle.std.specs.Prelude.{◌≡◌, ◌≢◌, ◌↔◌, ◌≤◌, ℕ, Bool, List, [], ◌∷◌, ◌++◌, true, IfSome, IsTrue};
