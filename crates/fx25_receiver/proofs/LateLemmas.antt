@@ -2,10 +2,10 @@
 use Rattle.fx25_receiver.proofs.Common.{◌≡◌, ℕ, ◌+◌, ◌<◌, ◌≤◌, Bool, false, true, List, [], ◌∷◌, ◌++◌, length, drop, ap}
 use Rattle.fx25_receiver.proofs.Common.{refl, sym, subst, ◌∙◌, arith, append_assoc, append-nil, length-append, length_push}
 use Rattle.fx25_receiver.proofs.Common.{replicate, EndsFrame}
-use Rattle.std.proofs.Common.{◌-◌, ◌/◌, ◌^◌}
+use Rattle.std.proofs.Common.{◌-◌, ◌/◌}
 use Rattle.std.proofs.lemmas.List.{drop-append-le, drop-drop, drop_all, drop_at, length-drop}
 use Rattle.fx25_blocks.proofs.RegisterLemmas.{push_one}
-use Rattle.hdlc_framer.proofs.BitLemmas.{length-low_bits, length-octet_bits, low_bits-more, low_bits-with_zero}
+use Rattle.hdlc_framer.proofs.BitLemmas.{length-low_bits, length-octet_bits, low_bits-with_zero}
 use Rattle.hdlc_framer.proofs.BitLemmas.{number_of-octet_bits}
 use Rattle.hdlc_framer.specs.BitOrder.{low_bits, number_of}
 unfoldable use Rattle.hdlc_framer.specs.BitOrder.{octet_bits}

@@ -14,7 +14,7 @@ use Rattle.fx25_blocks.specs.Tags.{differing, tag_bits}
 unfoldable use Rattle.fx25_blocks.specs.Tags.{bits_of_64}
 use Rattle.fx25_blocks.specs.declared.block_reader.BlockReader.{BlockReader}
 use Rattle.hdlc_framer.proofs.BitLemmas.{length-sent_bits}
-use Rattle.fx25_receiver.specs.Resting.{AreOver, HasRead, ReadsFrom, StandsButForTag, StandsFor, over_after}
+use Rattle.fx25_receiver.specs.Resting.{AreOver, ReadsFrom, StandsButForTag, StandsFor, over_after}
 use Rattle.fx25_receiver.specs.declared.resting_reader.RestingReader.{RestingReader}
 
 -- ---- one bit more

@@ -1,4 +1,4 @@
-use Rattle.fx25_receiver.proofs.Common.{◌≡◌, [], ◌∷◌, ◌++◌, ◌∙◌, drop, ap, sym, arith}
+use Rattle.fx25_receiver.proofs.Common.{[], ◌∷◌, ◌++◌, ◌∙◌, drop, ap, sym, arith}
 use Rattle.hdlc_framer.specs.BitOrder.{octet_bits}
 use Rattle.fx25_receiver.proofs.LateLemmas.{later_one, later_zero}
 use Rattle.fx25_receiver.proofs.late_deframer.later.Goals as goal

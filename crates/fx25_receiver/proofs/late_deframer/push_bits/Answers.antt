@@ -1,4 +1,4 @@
-use Rattle.fx25_receiver.proofs.Common.{◌≡◌, ◌≤◌, ◌+◌, ◌++◌, ◌∷◌, [], ◌∙◌, ℕ, Bool, List, length, drop, ap, sym, subst, arith}
+use Rattle.fx25_receiver.proofs.Common.{◌≡◌, ◌+◌, ◌++◌, ◌∷◌, [], ◌∙◌, Bool, List, drop, ap, sym, subst, arith}
 use Rattle.fx25_receiver.proofs.Common.{append-nil, append_assoc}
 use Rattle.std.proofs.lemmas.List.{drop-append-le, drop_all}
 use Rattle.hdlc_framer.proofs.BitLemmas.{length-low_bits, low_bits-more}

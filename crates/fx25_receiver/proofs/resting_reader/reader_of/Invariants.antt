@@ -1,4 +1,3 @@
-use Rattle.fx25_receiver.proofs.Common.{◌≡◌}
 use Rattle.fx25_blocks.specs.Held.{StandsFor}
 use Rattle.hdlc_framer.specs.BitOrder.{low_bits}
 use Rattle.fx25_receiver.proofs.resting_reader.reader_of.Given as goal

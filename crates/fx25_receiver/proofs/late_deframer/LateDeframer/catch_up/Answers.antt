@@ -1,4 +1,4 @@
-use Rattle.fx25_receiver.proofs.Common.{◌≡◌, ◌+◌, ◌≤◌, refl, [], ◌∷◌, ◌++◌, ◌∙◌, Bool, List, EndsFrame, false, drop, subst, sym, arith}
+use Rattle.fx25_receiver.proofs.Common.{◌≡◌, refl, [], ◌∷◌, ◌++◌, ◌∙◌, Bool, List, EndsFrame, false, drop, subst, sym, arith}
 use Rattle.std.proofs.Common.{◌-◌}
 use Rattle.hdlc_framer.proofs.DeframerLemmas.{frame_by_test}
 use Rattle.hdlc_framer.specs.BitOrder.{low_bits}

@@ -1,4 +1,3 @@
-use Rattle.fx25_receiver.proofs.Common.{◌≡◌, ◌++◌, ◌≤◌, ◌<◌, arith}
 use Rattle.fx25_receiver.proofs.LateLemmas.{late_eight}
 use Rattle.fx25_receiver.proofs.late_deframer.LateDeframer.make_room.Goals as goal
 

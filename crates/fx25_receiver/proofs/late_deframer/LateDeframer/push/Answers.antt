@@ -1,4 +1,4 @@
-use Rattle.fx25_receiver.proofs.Common.{[], ◌∷◌, ◌++◌, ◌<◌, arith}
+use Rattle.fx25_receiver.proofs.Common.{[], ◌∷◌, ◌++◌, arith}
 use Rattle.fx25_receiver.proofs.LateLemmas.{flag_last}
 use Rattle.fx25_receiver.proofs.late_deframer.LateDeframer.push.Goals as goal
 

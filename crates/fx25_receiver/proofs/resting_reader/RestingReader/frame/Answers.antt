@@ -1,4 +1,4 @@
-use Rattle.fx25_receiver.proofs.Common.{◌≡◌, ◌<◌, ℕ, List, arith, drop, EndsBlock}
+use Rattle.fx25_receiver.proofs.Common.{ℕ, List, arith, drop, EndsBlock}
 use Rattle.fx25_blocks.proofs.OptionLemmas.{none_from, some_from}
 use Rattle.fx25_receiver.proofs.RestingLemmas.{awake_for_block, block_inside, block_outside}
 use Rattle.fx25_receiver.proofs.resting_reader.RestingReader.frame.Goals as goal

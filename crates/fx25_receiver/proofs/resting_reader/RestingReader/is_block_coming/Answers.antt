@@ -1,4 +1,4 @@
-use Rattle.fx25_receiver.proofs.Common.{◌≡◌, ◌<◌, arith, drop}
+use Rattle.fx25_receiver.proofs.Common.{arith, drop}
 use Rattle.std.proofs.lemmas.Bool.{ltb-true}
 use Rattle.fx25_receiver.proofs.RestingLemmas.{awake_for_coming, coming_inside, coming_outside}
 use Rattle.fx25_receiver.proofs.resting_reader.RestingReader.is_block_coming.Goals as goal

@@ -1,4 +1,4 @@
-use Rattle.fx25_receiver.proofs.Common.{◌≡◌, ◌<◌, arith, drop}
+use Rattle.fx25_receiver.proofs.Common.{arith, drop}
 use Rattle.fx25_receiver.proofs.RestingLemmas.{awake_for_block, block_inside}
 use Rattle.fx25_receiver.proofs.resting_reader.RestingReader.is_idle.Goals as goal
 

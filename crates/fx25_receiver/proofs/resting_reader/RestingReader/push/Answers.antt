@@ -1,4 +1,4 @@
-use Rattle.fx25_receiver.proofs.Common.{◌≡◌, [], ◌∷◌, ◌++◌, arith}
+use Rattle.fx25_receiver.proofs.Common.{[], ◌∷◌, ◌++◌}
 use Rattle.fx25_receiver.proofs.RestingLemmas.{no_tag}
 use Rattle.fx25_receiver.proofs.resting_reader.RestingReader.push.Goals as goal
 

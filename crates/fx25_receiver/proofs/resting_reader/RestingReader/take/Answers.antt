@@ -1,4 +1,4 @@
-use Rattle.fx25_receiver.proofs.Common.{◌<◌, ◌≡◌, arith}
+use Rattle.fx25_receiver.proofs.Common.{arith}
 use Rattle.fx25_receiver.proofs.RestingLemmas.{taken_awake, taken_resting}
 use Rattle.fx25_receiver.proofs.resting_reader.RestingReader.take.Goals as goal
 

@@ -1,4 +1,4 @@
-use Rattle.fx25_receiver.proofs.Common.{◌<◌, ◌≡◌, subst, sym, arith}
+use Rattle.fx25_receiver.proofs.Common.{subst, sym, arith}
 use Rattle.fx25_receiver.specs.Resting.{StandsFor, over_after}
 use Rattle.fx25_receiver.specs.declared.resting_reader.RestingReader.{RestingReader}
 use Rattle.fx25_receiver.proofs.RestingLemmas.{stays_awake, wakes}
