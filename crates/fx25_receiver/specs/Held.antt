@@ -8,7 +8,7 @@ use Rattle.hdlc_framer.specs.Held.{Held as HeldDeframer}
 use Rattle.fx25_receiver.specs.declared.heard.Heard.{Heard}
 use Rattle.fx25_receiver.specs.declared.resting_reader.RestingReader.{RestingReader}
 use Rattle.fx25_receiver.specs.Heard.{AreHeard}
-use Rattle.fx25_receiver.specs.Late.{StandsFor as LateStandsFor}
+use Rattle.hdlc_framer.specs.Late.{StandsFor as LateStandsFor}
 use Rattle.fx25_receiver.specs.Merged.{merged, reach}
 use Rattle.fx25_receiver.specs.Resting.{StandsFor as ReaderStandsFor}
 

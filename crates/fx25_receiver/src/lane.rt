@@ -12,9 +12,9 @@ ghost use Rattle.fx25_blocks.specs.Coming.{IsBlockComing};
 ghost use Rattle.fx25_receiver.specs.Coming.{HearsBlock};
 ghost use Rattle.fx25_receiver.specs.Held.{LaneStandsFor, LanesStandFor};
 
-use crate::late_deframer::LateDeframer;
 use crate::resting_reader::RestingReader;
 use fx25_blocks::BlockFrame;
+use hdlc_framer::LateDeframer;
 use nrzi_bits::NrziIn;
 use std::alloc::Global;
 use std::marker::Model;

@@ -9,7 +9,6 @@
 mod heard;
 mod hearing;
 mod lane;
-mod late_deframer;
 mod laws;
 mod merging;
 mod receiver;

@@ -1,7 +1,7 @@
 use Rattle.fx25_receiver.proofs.Common.{◌≡◌, ℕ, List, Bool, [], ◌∷◌, ◌++◌, true, subst, sym, Tone, bits_of, EndsFrame}
 use Rattle.fx25_receiver.proofs.Common.{HeldLane, LaneStandsFor}
 use Rattle.hdlc_framer.specs.Held.{HoldsFrame}
-use Rattle.fx25_receiver.specs.Late.{StandsFor as LateStandsFor}
+use Rattle.hdlc_framer.specs.Late.{StandsFor as LateStandsFor}
 use Rattle.fx25_receiver.specs.Resting.{StandsFor as ReaderStandsFor}
 use Rattle.fx25_receiver.proofs.lane.Lane.push.Goals as goal
 

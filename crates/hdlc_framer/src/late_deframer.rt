@@ -7,7 +7,9 @@ ghost use Rattle.hdlc_framer.specs.BitOrder.{low_bits, octet_bits};
 ghost use Rattle.hdlc_framer.specs.Frames.{IsFrame, EndsFrame};
 ghost use Rattle.hdlc_framer.specs.Held.{HoldsFrame, StandsFor as DeframerStandsFor};
 
-use hdlc_framer::{Deframer, Event};
+use crate::deframer::Deframer;
+use crate::event::Event;
+use std::marker::Model;
 
 /// The flag as an octet.
 const FLAG: u8 = 0x7E;
@@ -24,14 +26,24 @@ pub struct LateDeframer {
     deframer: Deframer,
     last: u8,
     waiting: u8,
-    ghost most: { waiting ≤ 8 },
+}
+
+impl Model for LateDeframer {
+    ghost use Rattle.std.specs.Prelude.{◌≤◌};
+    ghost use Rattle.hdlc_framer.specs.Late.{HeldLate};
+
+    ghost Value = { HeldLate };
+
+    ghost view = { λ s. record { deframer = s.deframer; last = s.last; waiting = s.waiting } };
+
+    ghost invariant = { λ s. s.waiting ≤ 8 };
 }
 
 impl LateDeframer {
-    ghost use Rattle.fx25_receiver.specs.Late.{StandsFor};
+    ghost use Rattle.hdlc_framer.specs.Late.{StandsFor};
 
     /// A deframer that has taken no bit.
-    pub(crate) fn new() -> LateDeframer
+    pub fn new() -> LateDeframer
         ensures { StandsFor result.deframer result.last result.waiting [] }
     {
         LateDeframer {
@@ -42,7 +54,7 @@ impl LateDeframer {
     }
 
     /// Takes the next bit, and says whether a frame ends with it.
-    pub(crate) fn push(&mut self, bit: bool) -> bool
+    pub fn push(&mut self, bit: bool) -> bool
         ensures stands_for { (b : List Bool) → StandsFor self.old.deframer self.old.last self.old.waiting b
             → StandsFor self.new.deframer self.new.last self.new.waiting (b ++ bit ∷ []) }
         ensures holds { result ≡ true
@@ -106,7 +118,7 @@ impl LateDeframer {
     }
 
     /// The octets of the frame that the last bit ended.
-    pub(crate) fn octets(&self) -> &[u8]
+    pub fn octets(&self) -> &[u8]
         requires { (octets : List ℕ) × IsFrame octets × HoldsFrame self.now.deframer octets }
         ensures { (octets : List ℕ) → IsFrame octets → HoldsFrame self.now.deframer octets
             → result.now ≡ octets }

@@ -3,6 +3,12 @@ use Rattle.std.specs.Prelude.{◌≡◌, ℕ, ◌-◌, Bool, false, List, ◌++�
 use Rattle.hdlc_framer.specs.BitOrder.{octet_bits}
 use Rattle.hdlc_framer.specs.Held.{Held as HeldDeframer, StandsFor as DeframerStandsFor}
 
+-- the deframer, the last eight bits as an octet, and how many of them wait
+pub record HeldLate : Type 0 where
+  pub deframer : HeldDeframer
+  pub last : ℕ
+  pub waiting : ℕ
+
 -- the last eight of eight zeros and these bits
 abbrev pub last_eight : List Bool → List Bool
 last_eight bits = drop (length bits) (replicate 8 false ++ bits)

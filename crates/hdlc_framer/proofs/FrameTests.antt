@@ -1,11 +1,12 @@
 -- What a bit that ends a frame is told as.
-use Rattle.slicer_bank.proofs.Common.{◌≡◌, ℕ, Bool, true, false, List, [], ◌∷◌, ◌++◌, ap, sym, ◌∙◌, arith, append_assoc}
-use Rattle.slicer_bank.proofs.Common.{refl, sameb, the_type, Event, Frame, flag, EndsFrame, frame_bits, EventAt}
-use Rattle.slicer_bank.proofs.Common.{frame_told}
+use Rattle.hdlc_framer.proofs.Common.{◌≡◌, ℕ, Bool, true, false, List, [], ◌∷◌, ◌++◌, ap, sym, ◌∙◌, arith, append_assoc}
+use Rattle.hdlc_framer.proofs.Common.{refl, Event, Frame, Flag, Abort, flag, EndsFrame, frame_bits, EventAt, run_of_ones}
 use Rattle.hdlc_framer.proofs.DeframerLemmas.{test_by_frame}
-use Rattle.hdlc_framer.specs.declared.event.Event.TheVariants.{None as NoEvent, Flag, Abort}
-use Rattle.hdlc_framer.specs.Frames.{run_of_ones}
+use Rattle.hdlc_framer.proofs.FrameEnds.{frame_told}
 use Rattle.hdlc_framer.proofs.Lines.{run-push_zero}
+use Rattle.hdlc_framer.specs.contracts.event.Event.{the_type}
+use denote.Enum.Bare.{sameb}
+use Rattle.hdlc_framer.specs.declared.event.Event.TheVariants.{None as NoEvent}
 
 -- if a frame ends with a bit, its event says so
 frame_is_told : (bits : List Bool) (bit : Bool) (event : Event) (octets : List ℕ)

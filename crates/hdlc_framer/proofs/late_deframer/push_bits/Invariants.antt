@@ -1,8 +1,8 @@
-use Rattle.fx25_receiver.proofs.Common.{Bool, List, ◌++◌, ◌≤◌}
+use Rattle.hdlc_framer.proofs.Common.{Bool, List, ◌++◌, ◌≤◌}
 use Rattle.std.specs.Prelude.{drop}
 use Rattle.hdlc_framer.specs.BitOrder.{low_bits}
 use Rattle.hdlc_framer.specs.Held.{StandsFor}
-use Rattle.fx25_receiver.proofs.late_deframer.push_bits.Given as goal
+use Rattle.hdlc_framer.proofs.late_deframer.push_bits.Given as goal
 
 abbrev pub invariant-loop-place : goal.invariant-loop-place
 invariant-loop-place l = record {

@@ -1,10 +1,10 @@
-use Rattle.fx25_receiver.proofs.Common.{◌≡◌, ◌+◌, ◌++◌, ◌∷◌, [], ◌∙◌, Bool, List, drop, ap, sym, subst, arith}
-use Rattle.fx25_receiver.proofs.Common.{append-nil, append_assoc}
+use Rattle.hdlc_framer.proofs.Common.{◌≡◌, ◌+◌, ◌++◌, ◌∷◌, [], ◌∙◌, Bool, List, drop, ap, sym, subst, arith}
+use Rattle.hdlc_framer.proofs.Common.{append-nil, append_assoc}
 use Rattle.std.proofs.lemmas.List.{drop-append-le, drop_all}
 use Rattle.hdlc_framer.proofs.BitLemmas.{length-low_bits, low_bits-more}
 use Rattle.hdlc_framer.specs.BitOrder.{low_bits}
 use Rattle.hdlc_framer.specs.Held.{StandsFor}
-use Rattle.fx25_receiver.proofs.late_deframer.push_bits.Goals as goal
+use Rattle.hdlc_framer.proofs.late_deframer.push_bits.Goals as goal
 
 pub loop-place-init : goal.loop-place-init
 loop-place-init c = record {

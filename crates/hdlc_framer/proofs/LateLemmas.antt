@@ -1,24 +1,23 @@
 -- The bits that wait for a deframer.
-use Rattle.fx25_receiver.proofs.Common.{◌≡◌, ℕ, ◌+◌, ◌<◌, ◌≤◌, Bool, false, true, List, [], ◌∷◌, ◌++◌, length, drop, ap}
-use Rattle.fx25_receiver.proofs.Common.{refl, sym, subst, ◌∙◌, arith, append_assoc, append-nil, length-append, length_push}
-use Rattle.fx25_receiver.proofs.Common.{replicate, EndsFrame}
+use Rattle.hdlc_framer.proofs.Common.{◌≡◌, ℕ, ◌+◌, ◌<◌, ◌≤◌, Bool, false, true, List, [], ◌∷◌, ◌++◌, length, drop, ap}
+use Rattle.hdlc_framer.proofs.Common.{refl, sym, subst, ◌∙◌, arith, append_assoc, append-nil, length-append, length_push}
+use Rattle.hdlc_framer.proofs.Common.{replicate, EndsFrame}
 use Rattle.std.proofs.Common.{◌-◌, ◌/◌}
 use Rattle.std.proofs.lemmas.List.{drop-append-le, drop-drop, drop_all, drop_at, length-drop}
-use Rattle.fx25_blocks.proofs.RegisterLemmas.{push_one}
 use Rattle.hdlc_framer.proofs.BitLemmas.{length-low_bits, length-octet_bits, low_bits-with_zero}
-use Rattle.hdlc_framer.proofs.BitLemmas.{number_of-octet_bits}
+use Rattle.hdlc_framer.proofs.BitLemmas.{low_bits-push_one, number_of-octet_bits}
 use Rattle.hdlc_framer.specs.BitOrder.{low_bits, number_of}
 unfoldable use Rattle.hdlc_framer.specs.BitOrder.{octet_bits}
 use Rattle.hdlc_framer.specs.Frames.{frame_bits}
 use Rattle.hdlc_framer.specs.Held.{Held as HeldDeframer, StandsFor as DeframerStandsFor}
 use Rattle.hdlc_framer.specs.Stuffing.{flag}
-use Rattle.fx25_receiver.specs.Late.{StandsFor, last_eight}
+use Rattle.hdlc_framer.specs.Late.{StandsFor, last_eight}
 
 -- ---- the last eight bits
 
 pub later_one : (last : ℕ) → last < 256 → octet_bits (last / 2 + 128) ≡ drop 1 (octet_bits last) ++ true ∷ []
 unfolding octet_bits
-later_one last below = push_one 7 (last / 2) (omega arith)
+later_one last below = low_bits-push_one 7 (last / 2) (omega arith)
 
 pub later_zero : (last : ℕ) → last < 256 → octet_bits (last / 2) ≡ drop 1 (octet_bits last) ++ false ∷ []
 unfolding octet_bits

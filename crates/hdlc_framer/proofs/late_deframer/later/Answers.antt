@@ -1,7 +1,7 @@
-use Rattle.fx25_receiver.proofs.Common.{[], ◌∷◌, ◌++◌, ◌∙◌, drop, ap, sym, arith}
+use Rattle.hdlc_framer.proofs.Common.{[], ◌∷◌, ◌++◌, ◌∙◌, drop, ap, sym, arith}
 use Rattle.hdlc_framer.specs.BitOrder.{octet_bits}
-use Rattle.fx25_receiver.proofs.LateLemmas.{later_one, later_zero}
-use Rattle.fx25_receiver.proofs.late_deframer.later.Goals as goal
+use Rattle.hdlc_framer.proofs.LateLemmas.{later_one, later_zero}
+use Rattle.hdlc_framer.proofs.late_deframer.later.Goals as goal
 
 pub returns-then-bit : goal.returns-then-bit
 returns-then-bit c = later_one c.args.last (omega arith)
