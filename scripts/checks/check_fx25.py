@@ -8,7 +8,8 @@ For 16, 32 and 64 check octets gen_packets sends N7LEM>APRS:hello, its sound is 
 have to be those of the constants UNIT_16, UNIT_32 and UNIT_64. gen_packets keeps the line of a block apart from that of
 the flags before it, so the first bit of the tag may differ, and no other. Then a stretch of the data and check octets is
 silenced, as long as is promised to be repaired: `decode --fx25` has to print the frame once, and `decode` nothing. With the
-sound as it is both have to print it once. Then `serve --fx25` hears such sound live, and sends the frame that its host gives:
+sound as it is both have to print it once. Then `serve --fx25` hears such sound live, of 64 check octets with `--sensitive`, and
+sends the frame that its host gives:
 the host has to get the repaired frame once, `atest` has to hear what was sent, and `decode --fx25` also with a stretch of it
 silenced. It takes about half a minute, and ends with status 0 where all is well. What is not installed is left out."""
 import argparse
@@ -119,6 +120,7 @@ def paced(sink, sound):
 def lived(program, samples, count):
     """What a host of a live station gets while it hears samples, and the samples that it sends for the frame of its host."""
     words = ["serve", "--kiss", str(PORT), "--agw", "none", "--fx25", str(count), "--duplex", "--txdelay", "20"]
+    words += ["--sensitive"] if count == 64 else []
     with subprocess.Popen([program, *words], stdin=subprocess.PIPE, stdout=subprocess.PIPE, stderr=subprocess.DEVNULL) as station:
         sent = []
         reading = threading.Thread(target=lambda: sent.append(station.stdout.read()))
