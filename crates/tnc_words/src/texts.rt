@@ -136,8 +136,8 @@ Runs a station until its sound ends: it hears standard input, sends standard out
   --hf             short wave: 300 bits a second at 1600 and 1800 Hz; --t1 is 600 if not given
   --sensitive      hears in more noise and where the sender's clock is off, and takes longer
   --fx25 n         hears frames in blocks of FX.25 too, and repairs them; sends each with 16, 32 or 64 check octets
-                   around it, or with 0 plainly; the channel is busy while a block comes in; without --hf and
-                   --sensitive, at 9600 samples a second
+                   around it, or with 0 plainly; the channel is busy while a block comes in; without --hf, at
+                   9600 samples a second
   --rate n         samples a second, in and out, 9600 or 48000 (9600)
   --monitor        tells each frame that is heard or sent on standard error
   --stats n        tells each n seconds what the station counted, on standard error, 1 to 86400
