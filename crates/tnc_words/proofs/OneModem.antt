@@ -49,7 +49,7 @@ no_count Sixteen e = omega arith
 no_count ThirtyTwo e = omega arith
 no_count SixtyFour e = omega arith
 
-one_count_sent : (checks other : Option CheckOctets) → count_sent checks ≡ count_sent other → checks ≡ other
+pub one_count_sent : (checks other : Option CheckOctets) → count_sent checks ≡ count_sent other → checks ≡ other
 one_count_sent None None e = refl
 one_count_sent None (Some other) e = absurd (no_count other (sym e))
 one_count_sent (Some checks) None e = absurd (no_count checks e)

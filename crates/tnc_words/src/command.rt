@@ -166,6 +166,8 @@ pub struct BenchOptions {
     pub full: bool,
     /// Both stations call modulo 128.
     pub wide: bool,
+    /// So many check octets stand around each frame, and both stations read blocks of FX.25; or all is plain.
+    pub checks: Option<CheckOctets>,
 }
 
 /// By what `serve` takes the channel as busy.

@@ -1,7 +1,7 @@
 -- Nothing is heard.
 use Rattle.channel_bench.proofs.Common.{refl}
-use Rattle.channel_bench.proofs.EarLemmas.{ear_none}
-use Rattle.channel_bench.proofs.ear.Ear.new.Goals as goal
+use Rattle.channel_bench.proofs.PlainEarLemmas.{ear_none}
+use Rattle.channel_bench.proofs.plain_ear.PlainEar.new.Goals as goal
 
 pub returns : goal.returns
 returns c =

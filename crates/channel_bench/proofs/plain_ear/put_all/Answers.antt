@@ -2,7 +2,7 @@ use Rattle.channel_bench.proofs.Common.{subst, ◌++◌}
 use Rattle.frame_merge.specs.Held.{StandsFor}
 use Rattle.slicer_bank.proofs.MergingLemmas.{has_put_more, has_put_all}
 use Rattle.station.proofs.MemoryLemmas.{on_took}
-use Rattle.channel_bench.proofs.ear.put_all.Goals as goal
+use Rattle.channel_bench.proofs.plain_ear.put_all.Goals as goal
 
 pub loop-item-preserved : goal.loop-item-preserved
 loop-item-preserved c =
