@@ -1,6 +1,6 @@
 -- Samples without their mean, and what is decided of them, with more samples after them.
 use Rattle.sensitive_receiver.proofs.Common.{◌≡◌, ℕ, ◌+◌, ◌-◌, ◌<◌, ◌≤◌, ℤ, pos, List, [], ◌∷◌, ◌++◌, length, get_or}
-use Rattle.sensitive_receiver.proofs.Common.{take, drop, ap, sym, subst, ◌∙◌, arith, append_assoc, length-append, Tone}
+use Rattle.sensitive_receiver.proofs.Common.{take, drop, ap, sym, subst, ◌∙◌, arith, append_assoc}
 use Rattle.sensitive_receiver.proofs.Common.{Pull, Reach, clock_after, heard, tones, added_places, tone_before}
 use Rattle.sensitive_receiver.proofs.Common.{HeldLists, without_mean, length_push, length-take-le}
 use Rattle.std.proofs.Common.{get_or-append-add}

@@ -17,3 +17,4 @@ pub mod NameDecided
 pub mod PathDecided
 pub mod SomeList
 pub mod SignalLaw
+pub mod LateLemmas

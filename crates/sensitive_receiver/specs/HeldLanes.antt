@@ -3,7 +3,7 @@ use Rattle.std.specs.Prelude.{◌≡◌, ℕ, ◌+◌, ◌-◌, ◌<◌, ◌≤�
 use Rattle.std.specs.Prelude.{take}
 use Rattle.hdlc_framer.specs.Frames.{EndsFrame}
 use Rattle.hdlc_framer.specs.Held.{HoldsFrame}
-pub use Rattle.slicer_bank.specs.ToneLanes.{HeldToneLane as HeldLane, ToneLaneStandsFor as LaneStandsFor}
+pub use Rattle.sensitive_receiver.specs.LateLanes.{HeldLane, LaneStandsFor}
 use Rattle.tone_tracking.specs.declared.bit_clock.Pull.{Pull}
 use Rattle.tone_tracking.specs.declared.bit_clock.Pull.TheVariants.{Slow, Fast}
 use Rattle.tone_tracking.specs.declared.reach.Reach.TheVariants.{Alone, Near, Far}

@@ -7,3 +7,5 @@ pub mod Found
 pub mod Hearing
 pub mod HeldDecoder
 pub mod Stray
+pub mod Late
+pub mod LateLanes

@@ -8,9 +8,9 @@ ghost use Rattle.sensitive_receiver.specs.HeldLanes.{HasTaken, LanesHaveRead, St
 ghost use Rattle.sensitive_receiver.specs.Lanes.{added_places};
 
 use crate::hearing::hear_place;
+use crate::late_lane::{LateLane, new_lanes};
 use crate::readings::{FIRST, LANES, Readings};
 use frame_merge::Candidate;
-use slicer_bank::{ToneLane, new_tone_lanes};
 use std::alloc::Global;
 use std::marker::Model;
 use tnc_base::OutOfMemory;
@@ -28,7 +28,7 @@ pub struct AddedBank {
     slow_far: BitClock,
     fast_near: BitClock,
     slow_alone: BitClock,
-    lanes: Vec<ToneLane>,
+    lanes: Vec<LateLane>,
 }
 
 impl Model for AddedBank {
@@ -69,7 +69,7 @@ impl AddedBank {
             slow_far: BitClock::new(Pull::Slow),
             fast_near: BitClock::new(Pull::Fast),
             slow_alone: BitClock::new(Pull::Slow),
-            lanes: new_tone_lanes(alloc, u64::from(LANES - FIRST))?,
+            lanes: new_lanes(alloc, u64::from(LANES - FIRST))?,
         })
     }
 

@@ -16,9 +16,9 @@ ghost use Rattle.sensitive_receiver.specs.Hearing.{LanesHear};
 ghost use Rattle.sensitive_receiver.specs.Lanes.{delay_of, is_read_by, lane_bits, lane_tones, list_of};
 
 use crate::added_lane::has_path;
+use crate::late_lane::LateLane;
 use crate::readings::{FIRST, Readings, delay_of, list_of};
 use frame_merge::Candidate;
-use slicer_bank::ToneLane;
 use std::alloc::Global;
 use tnc_base::{Octets, OutOfMemory};
 use tone_table::Tone;
@@ -28,7 +28,7 @@ use tone_tracking::{Reach, ToneLists};
 pub(crate) fn hear_place(
     alloc: Global,
     lists: &ToneLists,
-    lanes: &mut [ToneLane],
+    lanes: &mut [LateLane],
     readings: &Readings,
     found: &mut Vec<Candidate>,
 ) -> Result<(), OutOfMemory>
@@ -66,7 +66,7 @@ pub(crate) fn hear_place(
 fn hear_fixed(
     alloc: Global,
     lists: &ToneLists,
-    lanes: &mut [ToneLane],
+    lanes: &mut [LateLane],
     readings: &Readings,
     found: &mut Vec<Candidate>,
 ) -> Result<(), OutOfMemory>
@@ -98,7 +98,7 @@ fn hear_fixed(
 fn hear_clocked(
     alloc: Global,
     lists: &ToneLists,
-    lanes: &mut [ToneLane],
+    lanes: &mut [LateLane],
     first: u8,
     end: u8,
     list: Reach,
@@ -147,7 +147,7 @@ fn hear_clocked(
 fn hear(
     alloc: Global,
     lists: &ToneLists,
-    lane: &mut ToneLane,
+    lane: &mut LateLane,
     number: u8,
     list: Reach,
     delay: u8,
@@ -184,7 +184,7 @@ fn hear(
 fn add_frame(
     alloc: Global,
     lists: &ToneLists,
-    lane: &ToneLane,
+    lane: &LateLane,
     number: u8,
     readings: &Readings,
     found: &mut Vec<Candidate>,

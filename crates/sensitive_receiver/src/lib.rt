@@ -17,6 +17,8 @@ mod added_bank;
 mod added_lane;
 mod decoder;
 mod hearing;
+mod late_deframer;
+mod late_lane;
 mod laws;
 mod merging;
 mod readings;

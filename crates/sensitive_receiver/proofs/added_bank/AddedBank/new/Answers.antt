@@ -16,7 +16,7 @@ returns-clause-stands_for c = record {
       fast_near = c.new-5.ensures.stands_for (tones Near []);
       slow_alone = c.new-6.ensures.stands_for (tones Alone []);
     };
-    lanes = (let made = c.in_ok-new_tone_lanes.ensures in
+    lanes = (let made = c.in_ok-new_lanes.ensures in
         let count = made.count ∙ c.from.ensures in
         read_none 18 _ [] refl (record { count = count; each = λ k d l. made.fresh k d (omega (arith, count)) }));
   };

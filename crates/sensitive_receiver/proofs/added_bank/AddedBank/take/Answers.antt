@@ -1,12 +1,8 @@
-use Rattle.sensitive_receiver.proofs.Common.{◌≡◌, ◌+◌, ◌-◌, ◌<◌, ◌≤◌, ◌++◌, ◌∷◌, [], ◌∙◌, ℕ, ℤ, pos, List, get_or, length}
+use Rattle.sensitive_receiver.proofs.Common.{◌≡◌, ◌+◌, ◌-◌, ◌<◌, ◌++◌, ◌∷◌, [], ◌∙◌, ℕ, ℤ, pos, List, get_or, length}
 use Rattle.sensitive_receiver.proofs.Common.{take, drop, ap, sym, subst, arith, on_ok_weaker, to_z-of_z, w16}
 use Rattle.sensitive_receiver.proofs.Common.{added_places, without_mean, HeldLane, HasTaken, LanesHaveRead, AddsBetween}
-use Rattle.sensitive_receiver.proofs.Common.{HasRoomFrom, All}
 use Rattle.std.proofs.Common.{FitsSigned, rules, to_z, of_z, w32}
 use Rattle.sensitive_receiver.specs.HeldLanes.{HeldBank}
-use Rattle.std.specs.Result.{OnOk}
-use Rattle.tone_tracking.specs.HeldLists.{HasTaken as ListsHaveTaken}
-use Rattle.tone_tracking.specs.HeldMean.{StandsFor as MeanStandsFor}
 use Rattle.sensitive_receiver.proofs.LevelLemmas.{level_is}
 use Rattle.sensitive_receiver.proofs.BankLemmas.{bank_of, given_back, taken_few, adds_few, not_yet, already}
 use Rattle.sensitive_receiver.proofs.BankLemmas.{taken_place, found_place}

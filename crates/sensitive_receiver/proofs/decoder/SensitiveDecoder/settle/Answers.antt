@@ -1,4 +1,4 @@
-use Rattle.sensitive_receiver.proofs.Common.{◌≡◌, ◌+◌, ◌∙◌, ap, sym, subst, length, length-append, ◌++◌, ℤ, List}
+use Rattle.sensitive_receiver.proofs.Common.{◌≡◌, ◌+◌, ◌∙◌, sym, subst, length, length-append, ◌++◌, ℤ, List}
 use Rattle.sensitive_receiver.proofs.Common.{false, AreCandidatesBehind, HeldBank, HeldDecoder, HaveTaken, StandsFor}
 use Rattle.sensitive_receiver.proofs.Common.{AreMergedBetween, settled}
 use Rattle.slicer_bank.specs.Held.{StandsFor as BankStandsFor}
