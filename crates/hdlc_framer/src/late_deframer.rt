@@ -20,7 +20,8 @@ const LAST_BIT: u8 = 0x80;
 /// So many bits wait at most.
 const MOST_WAITING: u8 = 8;
 
-/// The deframer, the last eight bits, the first of them in the lowest place, and how many of them it has not taken.
+/// Finds the frames in a line of bits, as a [`Deframer`] does, where bits come one by one. It keeps the deframer, the last eight
+/// bits, the first of them in the lowest place, and how many of them the deframer has not taken.
 #[derive(Drop)]
 pub struct LateDeframer {
     deframer: Deframer,
