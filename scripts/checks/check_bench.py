@@ -4,7 +4,7 @@
   scripts/checks/check_bench.py [--tnc PROGRAM] [--runs N] [--octets N] [--at-once N]
   scripts/checks/check_bench.py --table [--seeds N]
 
-The runs draw their seeds, losses of 0 to 60 %, both kinds of duplex and both moduli. Without noise each ends with status 0, 7 or 8:
+The runs draw their seeds, losses of 0 to 60 %, both kinds of duplex, both moduli and check octets. Without noise each ends with status 0, 7 or 8:
 a frame that nobody sent is not heard. At status 0 the counts are those of the run: as many octets as were given, the last set-up
 of each side whole with the hash that the other side gave, and in every set-up no more got than the other side gave. A run again
 gives the same. It prints one line, and ends with status 0 where all is well.
@@ -83,6 +83,7 @@ def drawn(count, octets):
         words = ["--seed", str(draws.choice([seed, draws.getrandbits(64)])), "--octets", str(given)]
         loss = draws.randrange(61)
         words += ["--loss", str(loss)] if loss else []
+        words += draws.choice([[], [], ["--fx25", draws.choice(["16", "32", "64"])]])
         yield words + draws.choice([[], ["--full"]]) + draws.choice([[], [], ["--wide"]]), given
 
 

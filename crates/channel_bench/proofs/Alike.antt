@@ -3,10 +3,11 @@
 use Rattle.channel_bench.proofs.Common.{◌≡◌, ◌↔◌, ℕ, Bool, true, false, IsTrue, MatchBool, List, [], ◌∷◌, Option}
 use Rattle.channel_bench.proofs.Common.{Some, None, refl, sym, ap, ◌∙◌, subst, End, A, B, AtEnd, BenchState, Common}
 use Rattle.channel_bench.proofs.Common.{Near, near, ways_of, with_near, AreHeardAt, GoesOn, IsHeardAs}
-use Rattle.channel_bench.proofs.Common.{IsHeardAt, IsStep, first_unquiet, match_of, there_after, told_pieces, trouble_of}
+use Rattle.channel_bench.proofs.Common.{IsHeardAt, IsStep, first_unquiet, is_frame_of, match_of, number_of, or_coming}
+use Rattle.channel_bench.proofs.Common.{there_after, told_pieces, trouble_of}
 use Rattle.channel_bench.proofs.Common.{with_matched, with_stray, BothWays, Input, IsTurn, Steps, hearing_at, hears_ask}
 use Rattle.channel_bench.proofs.Common.{nothing_sent, queueing_all, Candidate, StationState, Turn, begin, Trouble}
-use Rattle.channel_bench.proofs.Common.{OffAir}
+use Rattle.channel_bench.proofs.Common.{OffAir, SideState, ◌&&◌, length, nat_le, other, sent_by, slice_get}
 use Rattle.station_laws.proofs.OneTurn.{one_turn_holds}
 use Rattle.channel_bench.proofs.FlightLemmas.{moments_more}
 
@@ -172,10 +173,19 @@ one_heard_as end (Some number) octets n m p q alike h g =
     one_step end (OffAir octets) (Some number) (with_matched number n) (with_matched number m) p q
     (near_changed (with_matched number) (λ x. refl) (λ x. refl) n m alike) h g
 
+-- the number of the frame that a heard one is, by the side and by what both stations have queued
+abbrev numbered : End → Candidate → SideState → BothWays → Option ℕ
+numbered end item side ways =
+    or_coming (side.blocks && (nat_le side.matched (length side.towards)
+    && is_frame_of item.octets (slice_get (sent_by (other end) ways).queued (length side.towards))))
+    (length side.towards) (match_of item side)
+
 one_heard_at : (end : End) (item : Candidate) → HasOneOutcome (IsHeardAt end item)
 one_heard_at end item n m p q alike h g =
-    let same : match_of item n.side ≡ match_of item m.side = ap (λ (x : Near). match_of item x.side) alike.states in
-    one_heard_as end (match_of item m.side) item.octets n m p q alike
+    let same : number_of end item n ≡ number_of end item m =
+    ap (λ (x : Near). numbered end item x.side (ways_of n.common)) alike.states
+    ∙ ap (λ (ways : BothWays). numbered end item m.side ways) alike.ways in
+    one_heard_as end (number_of end item m) item.octets n m p q alike
     (subst (λ (matched : Option ℕ). IsHeardAs end matched item.octets n p) same h) g
 
 pub one_hearing : (end : End) (items : List Candidate) → HasOneOutcome (AreHeardAt end items)

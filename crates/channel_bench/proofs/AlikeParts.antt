@@ -2,7 +2,7 @@
 use Rattle.channel_bench.proofs.Common.{◌≡◌, ℕ, ◌+◌, ◌-◌, Bool, true, false, IsTrue, ◌↔◌, MatchBool, cond, List, [], ◌∷◌, length}
 use Rattle.channel_bench.proofs.Common.{Option, Some, None, refl, sym, ap, ◌∙◌, subst, ℤ, End, A, B, AtEnd, BenchState}
 use Rattle.channel_bench.proofs.Common.{BenchWords, Near, SideState, near, ways_of, with_near, AreHeardAt, IsStep}
-use Rattle.channel_bench.proofs.Common.{IsTicking, IsTold, MayCome, IsTick, AcceptsProgram, ArePartsMade, AreReady}
+use Rattle.channel_bench.proofs.Common.{IsTicking, IsTold, MayCome, IsTick, AcceptsProgram, ArePartsMade, AreReady, HearsStation}
 use Rattle.channel_bench.proofs.Common.{IsAsked, IsAskedOrCalled, IsCalled, IsGiven, IsGivenPiece, IsListening, IsPart}
 use Rattle.channel_bench.proofs.Common.{Part, Says, is_complete, parts_of, with_asking, with_calling, with_giving}
 use Rattle.channel_bench.proofs.Common.{AsksOrCalls, Closes, Gives, Listens, Sounds, Tells, Ticks, connect_octets}
@@ -13,7 +13,7 @@ use Rattle.channel_bench.proofs.Common.{FromHost, OfClock, air_of, HostEvent, ma
 use Rattle.channel_bench.specs.Sounding.{tick_samples}
 use Rattle.channel_access.specs.declared.air_tick.AirTick.{AirTick}
 use Rattle.frame_merge.specs.Merged.{between, merged}
-use Rattle.slicer_bank.specs.Busy.{HearsCarrier}
+use Rattle.channel_bench.proofs.BlockEarLemmas.{one_ready_in_blocks}
 use Rattle.slicer_bank.proofs.OneList.{one_list}
 use Rattle.station.specs.declared.host_event.HostEvent.TheVariants.{Bytes}
 use Rattle.channel_bench.proofs.Alike.{AreAlike, AreNearAlike, HasOneOutcome, alike_as, bare, bare_near, by_test}
@@ -98,8 +98,8 @@ with_air air n = record n { side = record n.side { air = air } }
 one_ticking : (end : End) → HasOneOutcome (IsTicking end)
 one_ticking end n m p q alike h g =
     let same = side_same n m alike in
-    let busy : h.busy ≡ g.busy = one_test (HearsCarrier 1 m.side.samples) h.busy g.busy
-    (subst (λ (side : SideState). IsTrue h.busy ↔ HearsCarrier 1 side.samples) same h.carrier) g.carrier in
+    let busy : h.busy ≡ g.busy = one_test (HearsStation m.side.blocks m.side.samples) h.busy g.busy
+    (subst (λ (side : SideState). IsTrue h.busy ↔ HearsStation side.blocks side.samples) same h.carrier) g.carrier in
     let air : air_of h.busy n.side.station ≡ air_of g.busy m.side.station =
     ap (λ (b : Bool). air_of b n.side.station) busy ∙ ap (λ (side : SideState). air_of g.busy side.station) same in
     let next : AreNearAlike h.next g.next = one_step end (OfClock g.busy) None n m h.next g.next alike
@@ -109,17 +109,18 @@ one_ticking end n m p q alike h g =
     (near_changed (with_air (air_of g.busy m.side.station)) (λ x. refl) (λ x. refl) h.next g.next next)
 
 -- the frames that are ready are one list
-one_ready : (samples : List ℤ) (items others : List Candidate) → AreReady samples items → AreReady samples others
-    → items ≡ others
-one_ready samples items others h g =
+one_ready : (blocks : Bool) (samples : List ℤ) (items others : List Candidate) → AreReady blocks samples items
+    → AreReady blocks samples others → items ≡ others
+one_ready true samples items others h g = one_ready_in_blocks samples items others h g
+one_ready false samples items others h g =
     h.is
     ∙ ap (λ (found : List Candidate). between (length samples - (tick_samples + 7)) (mark_of samples) (merged found))
     (one_list samples h.candidates g.candidates h.are g.are) ∙ sym g.is
 
 one_listening : (end : End) → HasOneOutcome (IsListening end)
 one_listening end n m p q alike h g =
-    let items : h.items ≡ g.items = one_ready m.side.samples h.items g.items
-    (subst (λ (side : SideState). AreReady side.samples h.items) (side_same n m alike) h.ready) g.ready in
+    let items : h.items ≡ g.items = one_ready m.side.blocks m.side.samples h.items g.items
+    (subst (λ (side : SideState). AreReady side.blocks side.samples h.items) (side_same n m alike) h.ready) g.ready in
     one_hearing end g.items n m p q alike
     (subst (λ (all : List Candidate). AreHeardAt end all n p) items h.heard) g.heard
 

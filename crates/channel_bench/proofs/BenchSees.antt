@@ -7,7 +7,7 @@ use Rattle.channel_bench.proofs.Common.{MatchBool, option_to_list, and_parts, eq
 use Rattle.channel_bench.proofs.Common.{B, other, most_links, StationState, SetUp, BenchWords, IsNoted, stations_of}
 use Rattle.channel_bench.proofs.Common.{the_calls, AtEnd, BenchState, Near, SideState, near, new_bench, side_at}
 use Rattle.channel_bench.proofs.Common.{with_near, AreHeardAt, GoesOn, IsHeardAs, IsHeardAt, IsStep, IsTicking}
-use Rattle.channel_bench.proofs.Common.{match_of, with_matched, with_stray, AcceptsProgram, IsAsked, IsAskedOrCalled}
+use Rattle.channel_bench.proofs.Common.{number_of, with_matched, with_stray, AcceptsProgram, IsAsked, IsAskedOrCalled}
 use Rattle.channel_bench.proofs.Common.{IsCalled, IsGiven, IsGivenPiece, IsListening, is_complete, with_asking}
 use Rattle.channel_bench.proofs.Common.{with_calling, with_giving, ProgramState, next_piece, AreMatched, BothWays}
 use Rattle.channel_bench.proofs.Common.{LinkFrame, Moment, after_moments, nothing_sent, sent_by, steps_in, Passes}
@@ -318,7 +318,7 @@ heard_holds w bench e (item ∷ items) n next h calm holds =
     subst (λ t. GoesOn t ((between : Near) × IsHeardAt e item n between × AreHeardAt e items between next) (next ≡ n))
     (heard_calm e (item ∷ items) n next h calm) h in
     heard_holds w bench e items on.0 next on.2 calm
-    (item_holds w bench e (match_of item n.side) item.octets n on.0 on.1 (heard_calm e items on.0 next on.2 calm) holds)
+    (item_holds w bench e (number_of e item n) item.octets n on.0 on.1 (heard_calm e items on.0 next on.2 calm) holds)
 
 -- ---- the other parts of a tick
 

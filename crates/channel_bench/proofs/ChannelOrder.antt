@@ -1,6 +1,6 @@
 -- A channel sends the frames that wait in their order: a tick that names a frame as sent takes the front one. This
 -- holds of frames of any length, since the check sequence of a frame alone is longer than a tick.
-use Rattle.channel_bench.proofs.Common.{◌≡◌, ℕ, zero, suc, ◌+◌, ◌-◌, ◌*◌, ◌/◌, ◌%◌, ◌<◌, ◌≤◌, ◌⊎◌, ◌&&◌, nat_lt, nat_le}
+use Rattle.channel_bench.proofs.Common.{◌≡◌, ℕ, suc, ◌+◌, ◌-◌, ◌*◌, ◌<◌, ◌≤◌, ◌⊎◌, ◌&&◌, nat_lt, nat_le}
 use Rattle.channel_bench.proofs.Common.{not, inl, inr}
 use Rattle.channel_bench.proofs.Common.{Bool, true, false, ℤ, pos, List, [], ◌∷◌, ◌++◌, length, map, replicate}
 use Rattle.channel_bench.proofs.Common.{drop, cond, Option, Some, None, is_none, refl, sym, ap, ◌∙◌, subst, arith}

@@ -22,16 +22,19 @@ pub use Rattle.channel_bench.specs.BenchRun.{AreTicks, IsEndedBy, IsOver}
 pub use Rattle.channel_bench.specs.BenchState.{AtEnd, BenchState, Common, Near, SideState, config_of, near, new_bench}
 pub use Rattle.channel_bench.specs.BenchState.{params_of, side_at, ways_of, with_near}
 pub use Rattle.channel_bench.specs.BenchSteps.{AreHeardAt, GoesOn, IsHeardAs, IsHeardAt, IsStep, IsTicking, IsTold}
-pub use Rattle.channel_bench.specs.BenchSteps.{MayCome, count_of, distance, first_unquiet, is_match, match_of, most_waiting}
+pub use Rattle.channel_bench.specs.BenchSteps.{MayCome, count_of, distance, first_unquiet, fits, is_coming, is_frame_of, is_match, match_of}
+pub use Rattle.channel_bench.specs.BenchSteps.{most_waiting, number_of, or_coming}
 pub use Rattle.channel_bench.specs.BenchSteps.{program_id, there_after, told_octets, told_piece, told_pieces}
 pub use Rattle.channel_bench.specs.BenchSteps.{trouble_of, with_matched, with_stray}
 unfoldable pub use Rattle.channel_bench.specs.BenchTick.{IsTick, beginning, each_tick, joins, sets_duplex}
 unfoldable pub use Rattle.channel_bench.specs.BenchTick.{sets_full_duplex}
-pub use Rattle.channel_bench.specs.BenchTick.{AcceptsProgram, ArePartsMade, AreReady, IsAsked, IsAskedOrCalled}
+pub use Rattle.channel_bench.specs.BenchTick.{AcceptsProgram, ArePartsMade, IsAsked, IsAskedOrCalled}
 pub use Rattle.channel_bench.specs.BenchTick.{IsCalled, IsGiven, IsGivenPiece, IsListening, IsPart, Part, Says}
 pub use Rattle.channel_bench.specs.BenchTick.{is_complete, kiss_id, parts_of, with_asking, with_calling, with_giving}
 pub use Rattle.channel_bench.specs.BenchTick.Part.{AsksOrCalls, Closes, Gives, Listens, Sounds, Tells, Ticks}
-pub use Rattle.channel_bench.specs.HeldBench.{EarStandsFor, HasMade, IsGoing, StandsForCommon, StandsForNear}
+pub use Rattle.channel_bench.specs.Hearing.{ArePlainlyReady, AreReady, AreReadyInBlocks, HearsStation}
+pub use Rattle.channel_bench.specs.HeldBench.{BlockEarStandsFor, EarStandsFor, PlainEarStandsFor, heard_by}
+pub use Rattle.channel_bench.specs.HeldBench.{HasMade, IsGoing, StandsForCommon, StandsForNear}
 pub use Rattle.channel_bench.specs.HeldBench.{StandsForRun, StandsForSide, StandsForWays, Unless, acts, hears, sounds}
 pub use Rattle.channel_bench.specs.HeldBench.{with_noise_drawn}
 pub use Rattle.channel_bench.specs.HostProgram.{ProgramState, call_at, connect_octets, data_octets, disconnect_octets}
@@ -43,9 +46,12 @@ pub use Rattle.channel_bench.specs.Sounding.{after_noise, is_lost, mark_of, pass
 pub use Rattle.channel_bench.specs.Sounding.{with_samples, with_transmission, with_words}
 unfoldable pub use Rattle.channel_bench.specs.Words.{text_of}
 pub use Rattle.channel_bench.specs.Words.{seed_at, text_at}
+pub use Rattle.channel_bench.specs.declared.block_ear.BlockEar.{BlockEar}
 pub use Rattle.channel_bench.specs.declared.ear.Ear.{Ear}
-pub use Rattle.channel_bench.specs.declared.flight.Flags.{Flags}
+pub use Rattle.channel_bench.specs.declared.ear.Ear.TheVariants.{Blocks, Plain}
+pub use Rattle.channel_bench.specs.declared.flight.HeldFrame.{HeldFrame}
 pub use Rattle.channel_bench.specs.declared.matching.SentAt.{SentAt}
+pub use Rattle.channel_bench.specs.declared.plain_ear.PlainEar.{PlainEar}
 pub use Rattle.channel_bench.specs.declared.report.SetUp.{SetUp}
 pub use Rattle.channel_bench.specs.declared.run.Run.{Run}
 pub use Rattle.channel_bench.specs.declared.shared.Shared.{Shared}

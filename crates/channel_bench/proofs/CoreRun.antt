@@ -5,7 +5,7 @@ use Rattle.channel_bench.proofs.Common.{cond, nat_lt, Option, Some, None, refl, 
 use Rattle.channel_bench.proofs.Common.{append_assoc, length-take, Candidate, End, A, B, each_append, HostEvent, Joined}
 use Rattle.channel_bench.proofs.Common.{Bytes, Kiss, Agw, Piece, StationState, Trouble, BenchWords, first_stations}
 use Rattle.channel_bench.proofs.Common.{stations_of, BenchState, SideState, Near, AtEnd, near, IsStep, IsTold}
-use Rattle.channel_bench.proofs.Common.{IsTicking, IsHeardAs, IsHeardAt, AreHeardAt, GoesOn, match_of, program_id}
+use Rattle.channel_bench.proofs.Common.{IsTicking, IsHeardAs, IsHeardAt, AreHeardAt, GoesOn, number_of, program_id}
 use Rattle.channel_bench.proofs.Common.{told_piece, told_pieces, told_octets, with_matched, with_stray, Part, IsGiven}
 use Rattle.channel_bench.proofs.Common.{IsGivenPiece, IsAsked, IsCalled, IsListening, beginning, each_tick, is_complete}
 use Rattle.channel_bench.proofs.Common.{joins, kiss_id, sets_duplex, sets_full_duplex, with_asking, with_calling}
@@ -234,7 +234,7 @@ module _ (w : BenchWords) (Q : List Moment → Stations → Type 0) (k : KeptByC
       subst (λ t. GoesOn t ((between : Near) × IsHeardAt end item n between × AreHeardAt end items between next)
       (next ≡ n))
       (heard_calm end (item ∷ items) n next h calm) h in
-      let one = item_holds end (match_of item n.side) item.octets n on.0 s on.1
+      let one = item_holds end (number_of end item n) item.octets n on.0 s on.1
       (heard_calm end items on.0 next on.2 calm) at holds in
       subst (Q next.common.moments) (state_twice end on.0.side.station next.side.station s)
       (heard_holds end items on.0 next (with_state end on.0.side.station s) on.2 calm

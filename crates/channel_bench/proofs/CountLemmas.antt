@@ -1,11 +1,11 @@
 -- What is counted in a run grows with its ticks: 96 samples reach a station in each, and at most two transmissions
 -- begin.
-use Rattle.channel_bench.proofs.Common.{◌≡◌, ℕ, zero, suc, ◌+◌, ◌*◌, ◌≤◌, ◌==◌, Bool, true, false, ℤ, List, [], ◌∷◌}
+use Rattle.channel_bench.proofs.Common.{◌≡◌, ℕ, zero, suc, ◌+◌, ◌*◌, ◌≤◌, ◌==◌, Bool, true, false, List, [], ◌∷◌}
 use Rattle.channel_bench.proofs.Common.{◌++◌, length, cond, Option, Some, None, refl, sym, ap, ◌∙◌, subst, arith}
 use Rattle.channel_bench.proofs.Common.{MatchBool, Candidate, End, A, B, each_append, Trouble, BenchWords, AreTicks}
-use Rattle.channel_bench.proofs.Common.{AtEnd, BenchState, Near, near, new_bench, with_near, AreHeardAt, GoesOn}
-use Rattle.channel_bench.proofs.Common.{IsHeardAs, IsHeardAt, IsStep, IsTicking, IsTold, match_of, with_matched}
-use Rattle.channel_bench.proofs.Common.{ArePartsMade, IsAsked, IsAskedOrCalled, IsCalled, IsGiven, IsGivenPiece}
+use Rattle.channel_bench.proofs.Common.{AtEnd, BenchState, Near, near, with_near, AreHeardAt, GoesOn}
+use Rattle.channel_bench.proofs.Common.{IsHeardAs, IsHeardAt, IsStep, IsTicking, IsTold, number_of, with_matched}
+use Rattle.channel_bench.proofs.Common.{ArePartsMade, IsAsked, IsCalled, IsGiven, IsGivenPiece}
 use Rattle.channel_bench.proofs.Common.{IsListening, IsPart, IsTick, Part, beginning, each_tick, is_complete, joins}
 use Rattle.channel_bench.proofs.Common.{sets_duplex, sets_full_duplex, with_asking, with_calling, with_giving}
 use Rattle.channel_bench.proofs.Common.{AsksOrCalls, Closes, Gives, Listens, Sounds, Tells, Ticks, acts, carried}
@@ -81,7 +81,7 @@ heard_keep end (item ∷ items) before after h =
         (after ≡ before) → NearKeeps before after
     go None others on =
         near_twice before on.0 after
-        (heard_as_keeps end (match_of item before.side) item.octets before on.0 on.1)
+        (heard_as_keeps end (number_of end item before) item.octets before on.0 on.1)
         (others on.0 on.2)
     go (Some trouble) others over = same_near before after over
 

@@ -1,12 +1,14 @@
 -- What is kept of the frames in flight, and moments one after another.
 use Rattle.channel_bench.proofs.Common.{◌≡◌, ℕ, ◌+◌, Bool, true, false, ◌||◌, List, [], ◌∷◌, ◌++◌, map, drop, cond}
-use Rattle.channel_bench.proofs.Common.{Option, Some, None, refl, sym, ap, ◌∙◌, list_any, map-append, End, Flags}
+use Rattle.channel_bench.proofs.Common.{Option, Some, None, refl, sym, ap, ◌∙◌, list_any, End, HeldFrame}
 use Rattle.channel_bench.proofs.Common.{count_of, first_unquiet, OneWay, BothWays, Moment, is_quiet_at, queueing_at}
 use Rattle.channel_bench.proofs.Common.{queueing_all, after_moment, after_moments}
+use Rattle.channel_bench.proofs.Common.{LinkFrame, is_frame_of, option_map, slice_get, slice_get-map}
 use Rattle.std.specs.Prelude.{is_some}
+use Rattle.std.specs.Str.{bytes_eq}
 use Rattle.std.proofs.lemmas.List.{drop-map}
 use Rattle.channel_bench.specs.declared.flight.OneWay.{OneWay as HeldOneWay}
-use Rattle.channel_bench.specs.HeldBench.{flags_of, StandsForWay}
+use Rattle.channel_bench.specs.HeldBench.{held_frame, StandsForWay}
 use Rattle.station_laws.specs.InFlight.{in_flight}
 
 list_any-map : {X Y : Type 0} (p : Y → Bool) (f : X → Y) (xs : List X)
@@ -15,13 +17,48 @@ list_any-map p f [] = refl
 list_any-map p f (x ∷ xs) = ap (λ b. p (f x) || b) (list_any-map p f xs)
 
 -- a test of the flags in flight is that of the frames
-pub in_flight_any : (p : Flags → Bool) (held : HeldOneWay) (way : OneWay) → StandsForWay held way
-    → list_any p (drop held.front held.queued.items) ≡ list_any (λ f. p (flags_of f)) (in_flight way)
+pub in_flight_any : (p : HeldFrame → Bool) (held : HeldOneWay) (way : OneWay) → StandsForWay held way
+    → list_any p (drop held.front held.queued.items) ≡ list_any (λ f. p (held_frame f)) (in_flight way)
 in_flight_any p held way h =
     ap (λ n. list_any p (drop n held.queued.items)) h.front
     ∙ ap (λ xs. list_any p (drop way.front xs)) h.queued
-    ∙ ap (list_any p) (drop-map flags_of way.front way.queued)
-    ∙ list_any-map p flags_of (drop way.front way.queued)
+    ∙ ap (list_any p) (drop-map held_frame way.front way.queued)
+    ∙ list_any-map p held_frame (drop way.front way.queued)
+
+-- ---- the frame of a number
+
+-- it has octets exactly if what is kept of it has them
+pub has_frame : (octets : List ℕ) (held : HeldOneWay) (way : OneWay) (number : ℕ) (frame : HeldFrame)
+    → StandsForWay held way → slice_get held.queued.items number ≡ Some frame
+    → is_frame_of octets (slice_get way.queued number) ≡ bytes_eq frame.octets octets
+has_frame octets held way number frame h is = go (slice_get way.queued number) refl
+  where
+    found : option_map held_frame (slice_get way.queued number) ≡ Some frame
+    found = sym (slice_get-map held_frame way.queued number) ∙ ap (λ xs. slice_get xs number) (sym h.queued) ∙ is
+
+    go : (o : Option LinkFrame) → slice_get way.queued number ≡ o
+        → is_frame_of octets (slice_get way.queued number) ≡ bytes_eq frame.octets octets
+    go None at =
+        let e : None ≡ Some frame = sym (ap (option_map held_frame) at) ∙ found in
+        absurd (cc)
+    go (Some f) at =
+        let e : Some (held_frame f) ≡ Some frame = sym (ap (option_map held_frame) at) ∙ found in
+        let same : held_frame f ≡ frame = cc in
+        ap (is_frame_of octets) at ∙ ap (λ (x : HeldFrame). bytes_eq x.octets octets) same
+
+pub has_no_frame : (octets : List ℕ) (held : HeldOneWay) (way : OneWay) (number : ℕ) → StandsForWay held way
+    → slice_get held.queued.items number ≡ None → is_frame_of octets (slice_get way.queued number) ≡ false
+has_no_frame octets held way number h is = go (slice_get way.queued number) refl
+  where
+    found : option_map held_frame (slice_get way.queued number) ≡ None
+    found = sym (slice_get-map held_frame way.queued number) ∙ ap (λ xs. slice_get xs number) (sym h.queued) ∙ is
+
+    go : (o : Option LinkFrame) → slice_get way.queued number ≡ o
+        → is_frame_of octets (slice_get way.queued number) ≡ false
+    go None at = ap (is_frame_of octets) at
+    go (Some f) at =
+        let e : Some (held_frame f) ≡ None = sym (ap (option_map held_frame) at) ∙ found in
+        absurd (cc)
 
 -- ---- moments
 

@@ -1,5 +1,5 @@
 -- A piece that a host program gives while its link is up is one packet, and the link takes it.
-use Rattle.channel_bench.proofs.Common.{◌≡◌, ℕ, ◌+◌, ◌/◌, ◌<◌, ◌≤◌, ◌||◌, nat_le, nat_lt, true, false, List, [], ◌∷◌}
+use Rattle.channel_bench.proofs.Common.{◌≡◌, ℕ, ◌<◌, ◌≤◌, ◌||◌, nat_le, nat_lt, true, false, List, [], ◌∷◌}
 use Rattle.channel_bench.proofs.Common.{length, map, cond, get_or, Option, Some, None, is_some, is_none, refl, sym, ap}
 use Rattle.channel_bench.proofs.Common.{◌∙◌, subst, arith, position, range_with_len, append-nil, take_all}
 use Rattle.channel_bench.proofs.Common.{recursion_from_All, Packet, Up, Machine, refusal_of, End, A, B, other, spelling}

@@ -3,7 +3,9 @@ use Rattle.channel_bench.proofs.Common.{◌≡◌, ℕ, ◌+◌, ◌<◌, List, 
 use Rattle.channel_bench.proofs.Common.{None, refl, sym, ap, ◌∙◌, subst, true, position, option_map, false≢true}
 use Rattle.channel_bench.proofs.Common.{take_more, AgwMessage, Candidate, End, Piece, SentAt, Shared, Side, Trouble}
 use Rattle.channel_bench.proofs.Common.{Stray, SideState, Near, GoesOn, IsStep, IsHeardAs, IsHeardAt, AreHeardAt}
-use Rattle.channel_bench.proofs.Common.{is_match, match_of, told_piece, told_pieces, with_matched, with_stray}
+use Rattle.channel_bench.proofs.Common.{is_coming, is_frame_of, is_match, match_of, number_of, told_piece, told_pieces}
+use Rattle.channel_bench.proofs.Common.{with_matched, with_stray, ◌&&◌, Bool, false, nat_le, other, sent_by, slice_get}
+use Rattle.channel_bench.proofs.Common.{ways_of}
 use Rattle.channel_bench.proofs.Common.{StandsForCommon, StandsForNear, OffAir, ProgramState, told, told_all}
 use Rattle.std.specs.Prelude.{is_some}
 
@@ -76,22 +78,44 @@ heard_more end items i item d n between next within is h made =
 
 -- ---- one frame
 
-pub stray_made : (end : End) (item : Candidate) (n : Near) → match_of item n.side ≡ None
+pub stray_made : (end : End) (item : Candidate) (n : Near) → number_of end item n ≡ None
     → IsHeardAt end item n (with_stray item.octets n)
 stray_made end item n is = subst (λ m. IsHeardAs end m item.octets n (with_stray item.octets n)) (sym is) refl
 
-pub match_made : (end : End) (item : Candidate) (number : ℕ) (n next : Near) → match_of item n.side ≡ Some number
+pub match_made : (end : End) (item : Candidate) (number : ℕ) (n next : Near) → number_of end item n ≡ Some number
     → IsStep end (OffAir item.octets) (Some number) (with_matched number n) next → IsHeardAt end item n next
 match_made end item number n next is step = subst (λ m. IsHeardAs end m item.octets n next) (sym is) step
 
 -- the number of the first match among those that come after the last one, by what the code keeps
 pub match_at : (item : Candidate) (side : SideState) (place : Option ℕ) (matched : ℕ) (towards : List SentAt)
     → matched ≡ side.matched
-    → towards ≡ side.towards → place ≡ position (is_match item) (drop matched towards)
+    → towards ≡ side.towards → place ≡ position (is_match side.blocks item) (drop matched towards)
     → match_of item side ≡ option_map (λ k. matched + k) place
 match_at item side place matched towards number sent found =
     sym (ap (option_map (λ k. matched + k)) found
-    ∙ (λ i. option_map (λ k. number i + k) (position (is_match item) (drop (number i) (sent i)))))
+    ∙ (λ i. option_map (λ k. number i + k) (position (is_match side.blocks item) (drop (number i) (sent i)))))
+
+-- the frame that is on its way has the octets of a heard one
+abbrev pub has_coming : End → Candidate → Near → Bool
+has_coming end item n =
+    is_frame_of item.octets (slice_get (sent_by (other end) (ways_of n.common)).queued (length n.side.towards))
+
+-- a heard frame is the one that is on its way, by what the code keeps
+pub coming_is : (end : End) (item : Candidate) (n : Near) (blocks : Bool) (matched : ℕ) (towards : List SentAt)
+    → blocks ≡ n.side.blocks → matched ≡ n.side.matched → towards ≡ n.side.towards
+    → (blocks && (nat_le matched (length towards) && has_coming end item n)) ≡ is_coming end item n
+coming_is end item n blocks matched towards reads number sent =
+    λ i. reads i && (nat_le (number i) (length (sent i)) && has_coming end item n)
+
+-- three tests, one after another
+pub third_decides : (a b c : Bool) → a ≡ true → b ≡ true → c ≡ (a && (b && c))
+third_decides a b c first second = sym (ap (λ x. x && (b && c)) first ∙ ap (λ x. x && c) second)
+
+pub second_fails : (a b c : Bool) → a ≡ true → b ≡ false → b ≡ (a && (b && c))
+second_fails a b c first second = second ∙ sym (ap (λ x. x && (b && c)) first ∙ ap (λ x. x && c) second)
+
+pub first_fails : (a b : Bool) → a ≡ false → a ≡ (a && b)
+first_fails a b first = first ∙ sym (ap (λ x. x && b) first)
 
 -- once the run has ended, nothing more comes to pass
 pub heard_ended : (end : End) (item : Candidate) (n : Near) → is_some n.common.trouble ≡ true

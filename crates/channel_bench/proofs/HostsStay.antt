@@ -1,6 +1,6 @@
 -- The host programs of a bench: which connections they have, what has come from each, and that a step of a station
 -- changes no more of that than what comes in it.
-use Rattle.channel_bench.proofs.Common.{◌≡◌, ℕ, ◌==◌, Bool, true, false, List, [], ◌∷◌, length, cond, Option}
+use Rattle.channel_bench.proofs.Common.{◌≡◌, ℕ, ◌==◌, Bool, true, false, List, [], ◌∷◌, cond, Option}
 use Rattle.channel_bench.proofs.Common.{is_some, Some, None, refl, sym, ap, ◌∙◌, subst, eqb-true, spelling, AgwMessage}
 use Rattle.channel_bench.proofs.Common.{IsWritten, each_append, PortKind, Kiss, Agw, AreAnswered, IsAnswered}
 use Rattle.channel_bench.proofs.Common.{Connection, connection_of, has_place, new_connection, with_connection}

@@ -5,19 +5,21 @@ use Rattle.channel_bench.proofs.Common.{[], ◌∷◌, ◌++◌, length, map, dr
 use Rattle.channel_bench.proofs.Common.{◌∙◌, subst, inl, inr, arith, length-append, count_by, option_map, slice_get}
 use Rattle.channel_bench.proofs.Common.{cases_lt, append-nil, append_assoc, map-append, slice_get-get_or, slice_get-map}
 use Rattle.channel_bench.proofs.Common.{Sent, Candidate, End, A, B, other, Piece, StationState, air_of, SentAt, Near}
-use Rattle.channel_bench.proofs.Common.{SideState, IsStep, distance, program_id, told_octets, told_piece, told_pieces}
+use Rattle.channel_bench.proofs.Common.{SideState, IsStep, is_frame_of, program_id, told_octets, told_piece, told_pieces}
 use Rattle.channel_bench.proofs.Common.{Moment, AreMatched, BothWays, IsMatched, IsMatchedIn, LinkFrame, OneWay}
 use Rattle.channel_bench.proofs.Common.{after_moment, after_moments, hears_ask, hearing_at, nothing_sent, sent_by}
 use Rattle.channel_bench.proofs.Common.{steps_in, Steps, Passes, Input, Step, at_end, queued_at, OffAir, OfClock}
 use Rattle.channel_bench.proofs.Common.{sent_in, framed, queued_by, queued_passed}
-use Rattle.std.proofs.Math.Nat.{max-le}
-use Rattle.std.proofs.lemmas.Option.{slice_get_within}
+use Rattle.std.proofs.Math.Nat.{le-max_left, le-max_right, max-le}
+use Rattle.std.proofs.lemmas.Bool.{false≢true}
+use Rattle.std.proofs.lemmas.Slice.Eq.{bytes_eq-Decides}
 use Rattle.station_laws.specs.InFlight.{IsInFlight}
 use Rattle.channel_bench.proofs.ChannelOrder.{octets_of, sent_octets}
 use Rattle.station_laws.proofs.Framed.{octets_in, at_end_octets}
 use Rattle.channel_bench.proofs.NotedRun.{steps_more}
 use Rattle.channel_bench.proofs.SentInOrder.{InOrder, sent_at, sent_in_step, sent_more}
-use Rattle.channel_bench.proofs.TowardsLemmas.{IsMatchAt, Rising, counted_within, has_passed, octets_at, passed_counted}
+use Rattle.channel_bench.proofs.TowardsLemmas.{IsMatchAt, Rising, counted_within, has_passed, none_counted, octets_at}
+use Rattle.channel_bench.proofs.TowardsLemmas.{passed_counted}
 use Rattle.channel_bench.proofs.TowardsLemmas.{rising_later, rising_more, still_there}
 use Rattle.station_laws.proofs.Ways.{hearing_one, hearing_none, stepped_other, stepped_own}
 use Rattle.channel_bench.proofs.FlightLemmas.{moments_more}
@@ -68,15 +70,17 @@ matched_more (first ∷ moments) moment ways matched next =
 -- ---- one direction
 
 -- The frames that a station has sent are those whose sending has ended and one that is still to be told of. Those that
--- are no longer in flight were matched, or a mark has passed them.
+-- are no longer in flight were matched, or a mark has passed them. One frame more may be matched: the one that is on its
+-- way.
 pub record WayHolds (pending : Option Sent) (sent : List (List ℕ)) (front ticks : ℕ) (towards : List SentAt)
     (matched samples : ℕ)
     : Type 0 where
   pub sent_is : sent ≡ map octets_at towards ++ sent_octets pending
   pub soon : (s : Sent) → pending ≡ Some s → s.after ≤ 96
   pub rising : Rising 0 towards samples
-  pub matched_within : matched ≤ length towards
-  pub front_within : front ≤ length towards
+  pub matched_within : matched ≤ length towards + 1
+  pub front_within : (front ≤ length towards) ⊎ (front ≤ matched)
+  pub past_matched : matched ≤ front
   pub passed : (k : ℕ) → k < front → (k < matched) ⊎
       ((s : SentAt) → slice_get towards k ≡ Some s → s.end + 23 ≤ 96 * ticks)
 
@@ -233,6 +237,7 @@ clock_step end busy far_pending ticks before after far h soon both =
             rising = old.rising;
             matched_within = old.matched_within;
             front_within = old.front_within;
+            past_matched = old.past_matched;
             passed = old.passed;
           });
       matched = f.keeps both.matched refl;
@@ -271,7 +276,7 @@ queued_there sender moments s pending towards number sent order is there =
     ap (λ xs. slice_get xs number) (queued_is sender moments ∙ order.order ∙ ap (λ xs. xs ++ waiting) is) ∙ all
 
 -- it is in flight
-in_flight_there :
+pub in_flight_there :
     (sender : End) (moments : List Moment) (s : StationState) (pending : Option Sent) (ticks : ℕ)
     (towards : List SentAt)
     (matched samples number : ℕ) (item : Candidate) → InOrder sender (steps_in moments) s
@@ -289,10 +294,10 @@ in_flight_there sender moments s pending ticks towards matched samples number it
     not_passed : ((x : SentAt) → slice_get towards number ≡ Some x → x.end + 23 ≤ 96 * ticks) → ⊥
     not_passed passed =
         let before = passed m.sent m.is_there in
-        far_off m.sent.end item.end (96 * ticks) before late m.near
+        far_off m.sent.end item.end (96 * ticks) before late m.late
       where
-        far_off : (a b c : ℕ) → a + 23 ≤ c → c ≤ b + 7 → distance a b < 8 → ⊥
-        far_off a b c before late near = omega (arith, before, late, near)
+        far_off : (a b c : ℕ) → a + 23 ≤ c → c ≤ b + 7 → b < a + 8 → ⊥
+        far_off a b c before late soon = omega (arith, before, late, soon)
 
     ahead : (number < (sent_by sender (ways_after moments)).front) ⊎
         ((sent_by sender (ways_after moments)).front ≤ number)
@@ -305,24 +310,39 @@ in_flight_there sender moments s pending ticks towards matched samples number it
         by_passing (inl early) = let from = m.from in absurd (omega (arith, early, from))
         by_passing (inr passed) = absurd (not_passed passed)
 
+-- So is the one that is on its way.
+frame_by : (octets : List ℕ) (o : Option LinkFrame) → is_frame_of octets o ≡ true
+    → (frame : LinkFrame) × (o ≡ Some frame) × (frame.octets ≡ octets)
+frame_by octets None is = absurd (false≢true is)
+frame_by octets (Some frame) is = (frame, refl, (bytes_eq-Decides frame.octets octets).0 is)
+
+pub coming_there :
+    (pending : Option Sent) (sent : List (List ℕ)) (way : OneWay) (ticks : ℕ) (towards : List SentAt)
+    (matched samples : ℕ) (octets : List ℕ) → WayHolds pending sent way.front ticks towards matched samples
+    → matched ≤ length towards → is_frame_of octets (slice_get way.queued (length towards)) ≡ true
+    → IsInFlight octets (length towards) way
+coming_there pending sent way ticks towards matched samples octets h few is =
+    let frame = frame_by octets (slice_get way.queued (length towards)) is in
+    record { ahead = ahead h.front_within; frame = frame.0; is_there = frame.1; same = frame.2 }
+  where
+    ahead : (way.front ≤ length towards) ⊎ (way.front ≤ matched) → way.front ≤ length towards
+    ahead (inl within) = within
+    ahead (inr past) = omega (arith, past, few)
+
 pub heard_step :
     (end : End) (own far_pending : Option Sent) (ticks number : ℕ) (item : Candidate) (before after : Near)
-    (far : SideState) (s : StationState)
+    (far : SideState)
     → IsStep end (OffAir item.octets) (Some number)
     (record before { side = record before.side { matched = number + 1 } }) after
-    → InOrder (other end) (steps_in before.common.moments) s → 96 * ticks ≤ item.end + 7
-    → IsMatchAt item before.side.matched before.side.towards number
+    → number ≤ length before.side.towards
+    → IsInFlight item.octets number (sent_by (other end) (ways_after before.common.moments))
     → Both end own far_pending ticks before.common.moments before.side far
     → Both end own far_pending ticks after.common.moments after.side far
-heard_step end own far_pending ticks number item before after far s h order late m both =
+heard_step end own far_pending ticks number item before after far h within flies both =
     let f = step_facts end (OffAir item.octets) (Some number)
     (record before { side = record before.side { matched = number + 1 } }) after h in
     let old = both.here in
     let way = sent_by (other end) (ways_after before.common.moments) in
-    let flies = in_flight_there
-    (other end) before.common.moments s far_pending ticks before.side.towards before.side.matched
-    (length before.side.samples) number item order old late m in
-    let within : number < length before.side.towards = slice_get_within before.side.towards number m.sent m.is_there in
     let top : max way.front (number + 1) ≤ number + 1 = max-le (let ahead = flies.ahead in omega (arith, ahead))
     (omega arith) in
     record {
@@ -334,7 +354,8 @@ heard_step end own far_pending ticks number item before after far s h order late
             soon = old.soon;
             rising = old.rising;
             matched_within = omega (arith, within);
-            front_within = omega (arith, within, top);
+            front_within = inr top;
+            past_matched = le-max_right way.front (number + 1);
             passed = λ k below. inl (omega (arith, below, top));
           });
       there = way_same own ticks _ _ _ _ _ _ _ _ _ _
@@ -362,8 +383,9 @@ way_sounded pending sent front ticks towards matched samples ended more now late
       soon = λ s same. absurd (cc);
       rising = subst (λ t. Rising 0 t more) (sym (append-nil towards))
           (rising_later 0 towards samples more h.rising (omega (arith, later)));
-      matched_within = subst (λ t. matched ≤ length t) (sym (append-nil towards)) h.matched_within;
-      front_within = subst (λ t. front ≤ length t) (sym (append-nil towards)) h.front_within;
+      matched_within = subst (λ t. matched ≤ length t + 1) (sym (append-nil towards)) h.matched_within;
+      front_within = subst (λ t. (front ≤ length t) ⊎ (front ≤ matched)) (sym (append-nil towards)) h.front_within;
+      past_matched = h.past_matched;
       passed = subst (λ t. (k : ℕ) → k < front
           → (k < matched) ⊎ ((s : SentAt) → slice_get t k ≡ Some s → s.end + 23 ≤ 96 * ticks))
           (sym (append-nil towards)) h.passed;
@@ -378,8 +400,9 @@ way_sounded pending sent front ticks towards matched samples ended more now late
           soon = λ s same. absurd (cc);
           rising = rising_more 0 towards samples at more h.rising (omega (arith, now)) (omega (arith, now, later, few));
           matched_within = let within = h.matched_within in omega (arith, size, within);
-          front_within = let within = h.front_within in omega (arith, size, within);
-          passed = λ k below. old k below (h.passed k below);
+          front_within = longer size h.front_within;
+          past_matched = h.past_matched;
+          passed = λ k below. old k below h.front_within (h.passed k below);
         }
       where
         at_end_of : SentAt
@@ -392,13 +415,19 @@ way_sounded pending sent front ticks towards matched samples ended more now late
             let there : slice_get towards k ≡ Some d = slice_get-get_or towards k at_end_of within in
             there ∙ sym (still_there towards (at_end_of ∷ []) k d there) ∙ is
 
-        old : (k : ℕ) → k < front → (k < matched) ⊎
-            ((s : SentAt) → slice_get towards k ≡ Some s → s.end + 23 ≤ 96 * ticks)
+        longer : length (towards ++ at_end_of ∷ []) ≡ length towards + 1
+            → (front ≤ length towards) ⊎ (front ≤ matched)
+            → (front ≤ length (towards ++ at_end_of ∷ [])) ⊎ (front ≤ matched)
+        longer size (inl within) = inl (omega (arith, size, within))
+        longer size (inr past) = inr past
+
+        old : (k : ℕ) → k < front → (front ≤ length towards) ⊎ (front ≤ matched)
+            → (k < matched) ⊎ ((s : SentAt) → slice_get towards k ≡ Some s → s.end + 23 ≤ 96 * ticks)
             → (k < matched) ⊎ ((s : SentAt) → slice_get (towards ++ at_end_of ∷ []) k ≡ Some s
             → s.end + 23 ≤ 96 * ticks)
-        old k below (inl early) = inl early
-        old k below (inr passed) = inr (λ s is. passed s
-            (earlier k s (let within = h.front_within in omega (arith, below, within)) is))
+        old k below at (inl early) = inl early
+        old k below (inr past) (inr passed) = inl (omega (arith, below, past))
+        old k below (inl within) (inr passed) = inr (λ s is. passed s (earlier k s (omega (arith, below, within)) is))
 
 -- the end of a tick: what the marks have passed is in flight no longer
 pub way_closed :
@@ -412,13 +441,27 @@ way_closed sent front front' ticks towards matched samples now is h = record {
   soon = h.soon;
   rising = h.rising;
   matched_within = h.matched_within;
-  front_within = subst (λ f. f ≤ length towards) (sym is)
-      (max-le h.front_within (counted_within (samples - 7) matched towards h.matched_within));
+  front_within = subst (λ f. (f ≤ length towards) ⊎ (f ≤ matched)) (sym is)
+      (by_matched (cases_lt (length towards) matched) h.front_within);
+  past_matched = subst (λ f. matched ≤ f) (sym is)
+      (further matched front (max front count) h.past_matched (le-max_left front count));
   passed = λ k below. by_front k (cases_lt k front) (cases_lt k matched) (subst (λ f. k < f) is below);
 }
   where
     count : ℕ
     count = matched + count_by (has_passed (samples - 7)) (drop matched towards)
+
+    further : (a b c : ℕ) → a ≤ b → b ≤ c → a ≤ c
+    further a b c first second = omega (arith, first, second)
+
+    by_matched : (length towards < matched) ⊎ (matched ≤ length towards) → (front ≤ length towards) ⊎ (front ≤ matched)
+        → (max front count ≤ length towards) ⊎ (max front count ≤ matched)
+    by_matched (inr few) (inl within) = inl (max-le within (counted_within (samples - 7) matched towards few))
+    by_matched (inr few) (inr past) =
+        inl (max-le (omega (arith, past, few)) (counted_within (samples - 7) matched towards few))
+    by_matched (inl more) (inl within) =
+        inr (max-le (omega (arith, within, more)) (none_counted (samples - 7) matched towards more))
+    by_matched (inl more) (inr past) = inr (max-le past (none_counted (samples - 7) matched towards more))
 
     longer : (k : ℕ) → (k < matched) ⊎ ((s : SentAt) → slice_get towards k ≡ Some s → s.end + 23 ≤ 96 * ticks)
         → (k < matched) ⊎ ((s : SentAt) → slice_get towards k ≡ Some s → s.end + 23 ≤ 96 * (ticks + 1))

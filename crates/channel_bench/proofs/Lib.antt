@@ -1,4 +1,6 @@
 mod Common
+mod PlainEarLemmas
+mod BlockEarLemmas
 mod EarLemmas
 mod WordLemmas
 mod Loudness
@@ -33,6 +35,7 @@ mod ProgramsAsk
 mod ChannelOrder
 mod SentInOrder
 mod TowardsLemmas
+mod FrontLemmas
 mod InTime
 mod TimedSteps
 mod TimedRun

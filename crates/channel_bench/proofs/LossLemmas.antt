@@ -64,7 +64,7 @@ loss_drawn end loss n before after shared then lost h began same ear towards mat
     subst (λ m. StandsForNear end after then m) (sym (loss_yes loss n (ap (λ a. a.began) (sym h.side_is.air) ∙ began)))
     (subst (λ b. StandsForNear end after then (with_transmission b n)) is (record {
       side_is = stands_kept end before after n.side h.side_is same n.side.samples n.side.towards n.side.matched lost
-          (subst (λ e. EarStandsFor e n.side.samples) (sym ear) h.side_is.ear)
+          (subst (λ e. EarStandsFor e n.side.blocks n.side.samples) (sym ear) h.side_is.ear)
           (ap (λ t. t.items) towards ∙ h.side_is.towards)
           (matched ∙ h.side_is.matched) silenced;
       shared_is = counts shared then n.common lost h.shared_is counted;

@@ -1,5 +1,5 @@
 -- The messages of a host program of the bench, each as what it makes of its station and of what the program is sent.
-use Rattle.channel_bench.proofs.Common.{◌≡◌, ℕ, ◌==◌, Bool, true, false, List, [], ◌∷◌, ◌++◌, length, map, cond}
+use Rattle.channel_bench.proofs.Common.{◌≡◌, ℕ, ◌==◌, Bool, true, false, List, [], ◌∷◌, ◌++◌, map, cond}
 use Rattle.channel_bench.proofs.Common.{Option, Some, None, is_some, refl, sym, ap, ◌∙◌, subst, arith, ⊤, MatchBool}
 use Rattle.channel_bench.proofs.Common.{append-nil}
 use Rattle.channel_bench.proofs.Common.{filter-append, each_append, Callsign, call_field, bad_length_in, spelling}

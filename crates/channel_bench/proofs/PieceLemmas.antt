@@ -42,7 +42,7 @@ told_messages end before after side piece messages h same own reader read told =
       reader = reader;
       program = told ∙ ap (λ ms. told_all ms before.program) new
           ∙ ap (told_all (new_messages side.stream piece.octets)) h.program;
-      ear = subst (λ e. EarStandsFor e side.samples) (sym same.ear) h.ear;
+      ear = subst (λ e. EarStandsFor e side.blocks side.samples) (sym same.ear) h.ear;
       towards = ap (λ t. t.items) same.towards ∙ h.towards;
       matched = same.matched ∙ h.matched;
       air = same.air ∙ h.air;

@@ -2,7 +2,7 @@
 -- of the bench.
 use Rattle.channel_bench.proofs.Common.{◌≡◌, ℕ, ◌≤◌, List, [], ◌∷◌, ◌++◌, length, Option, Some, None, refl, sym, ap}
 use Rattle.channel_bench.proofs.Common.{◌∙◌, subst, arith, All, All-from_recursion, call_field, spelling, AgwMessage}
-use Rattle.channel_bench.proofs.Common.{IsWritten, End, A, B, other, PortKind, Kiss, Agw, register_kind, connect_kind}
+use Rattle.channel_bench.proofs.Common.{IsWritten, End, A, B, other, Kiss, Agw, register_kind, connect_kind}
 use Rattle.channel_bench.proofs.Common.{data_kind, disconnect_kind, IsAnswered, Connection, connection_of}
 use Rattle.channel_bench.proofs.Common.{new_connection, taking, no_call, StationState, asked_links, Turn, begin}
 use Rattle.channel_bench.proofs.Common.{BenchWords, Near, IsStep, program_id, kiss_id, BAsksNothing, call_at}
@@ -12,7 +12,7 @@ use Rattle.station_laws.specs.HostsAsk.{AsksNothing, InputAsksNothing, OctetsAsk
 use Rattle.channel_bench.proofs.CoreRun.{KeptByCore, Occurs, Usual, input_of, told_station}
 use Rattle.channel_bench.proofs.CoreRun.Usual.{joins_kiss, sets_full, joins_program, registers, connects, gives}
 use Rattle.channel_bench.proofs.CoreRun.Usual.{disconnects, hears, ticks}
-use Rattle.channel_bench.proofs.HostStreams.{IsWhole, new_setting, new_stream, no_web, none_bad, one_new}
+use Rattle.channel_bench.proofs.HostStreams.{IsWhole, new_setting, new_stream, one_new}
 use Rattle.channel_bench.proofs.HostsStay.{HasHosts, IsHosts, IsOfProgram, IsSaid, IsSet, SameHosts, found}
 use Rattle.channel_bench.proofs.HostsStay.{joins_hosts, kiss_taken, none_passes}
 use Rattle.channel_bench.proofs.HostsStay.{said_by, set_by, same_hosts, still_has, taken_hosts}

@@ -3,11 +3,10 @@ use Rattle.channel_bench.proofs.Common.{◌≡◌, ℕ, ◌<◌, Bool, true, fal
 use Rattle.channel_bench.proofs.Common.{All, MatchBool, ◌↔◌, IsTrue, End, A, B, HostEvent, IsHeard, ids_of, ids_behind}
 use Rattle.channel_bench.proofs.Common.{IsHostTurn, StationState, air_of, Out, Turn, begin, SentAt, Shared, Side}
 use Rattle.channel_bench.proofs.Common.{SideState, Near, ways_of, MayCome, IsStep, IsTicking, IsTold, told_pieces}
-use Rattle.channel_bench.proofs.Common.{first_unquiet, trouble_of, EarStandsFor, StandsForSide, StandsForCommon}
+use Rattle.channel_bench.proofs.Common.{first_unquiet, trouble_of, EarStandsFor, HearsStation, StandsForSide, StandsForCommon}
 use Rattle.channel_bench.proofs.Common.{StandsForNear, StandsForWays, ProgramState, BothWays, is_ask, hearing_at}
 use Rattle.channel_bench.proofs.Common.{queueing_all, FromHost, OffAir, OfClock}
 use Rattle.agwpe_port.specs.Held.{StandsFor as AgwStandsFor}
-use Rattle.slicer_bank.specs.Busy.{HearsCarrier}
 use Rattle.station.specs.StandsFor.{StandsFor as StationStandsFor}
 use Rattle.station.specs.Ticks.{IsTick}
 use Rattle.channel_bench.proofs.Loudness.{air_within}
@@ -35,7 +34,7 @@ stands_with end before after side next there h same station ids is = record {
   there = is;
   reader = subst (λ r. AgwStandsFor r side.stream) (sym same.reader) h.reader;
   program = same.program ∙ h.program;
-  ear = subst (λ e. EarStandsFor e side.samples) (sym same.ear) h.ear;
+  ear = subst (λ e. EarStandsFor e side.blocks side.samples) (sym same.ear) h.ear;
   towards = ap (λ t. t.items) same.towards ∙ h.towards;
   matched = same.matched ∙ h.matched;
   air = same.air ∙ h.air;
@@ -66,7 +65,7 @@ remembers end before after side h same = record {
   there = ap (λ t. t.items) same.there ∙ h.there;
   reader = subst (λ r. AgwStandsFor r side.stream) (sym same.reader) h.reader;
   program = same.program ∙ h.program;
-  ear = subst (λ e. EarStandsFor e side.samples) (sym same.ear) h.ear;
+  ear = subst (λ e. EarStandsFor e side.blocks side.samples) (sym same.ear) h.ear;
   towards = ap (λ t. t.items) same.towards ∙ h.towards;
   matched = same.matched ∙ h.matched;
   air = same.air ∙ h.air;
@@ -90,7 +89,7 @@ pub record KeepsStation (before after : Side) : Type 0 where
 
 pub stands_kept : (end : End) (before after : Side) (side : SideState) → StandsForSide end before side
     → KeepsStation before after
-    → (samples : List ℤ) (towards : List SentAt) (matched : ℕ) (silenced : Bool) → EarStandsFor after.ear samples
+    → (samples : List ℤ) (towards : List SentAt) (matched : ℕ) (silenced : Bool) → EarStandsFor after.ear side.blocks samples
     → after.towards.items ≡ towards → after.matched ≡ matched → after.silenced ≡ silenced
     → StandsForSide end after (record side {
       samples = samples;
@@ -136,7 +135,7 @@ stands_program end before after side program h same is = record {
   there = ap (λ t. t.items) same.there ∙ h.there;
   reader = subst (λ r. AgwStandsFor r side.stream) (sym same.reader) h.reader;
   program = is;
-  ear = subst (λ e. EarStandsFor e side.samples) (sym same.ear) h.ear;
+  ear = subst (λ e. EarStandsFor e side.blocks side.samples) (sym same.ear) h.ear;
   towards = ap (λ t. t.items) same.towards ∙ h.towards;
   matched = same.matched ∙ h.matched;
   air = same.air ∙ h.air;
@@ -211,7 +210,7 @@ pub record KeepsBesidesAir (before after : Side) : Type 0 where
 
 -- with what is sent in the tick
 pub ticks : (end : End) (busy : Bool) (n : Near) (after side : Side) (shared : Shared)
-    → (IsTrue busy ↔ HearsCarrier 1 n.side.samples) → after.air ≡ air_of busy n.side.station
+    → (IsTrue busy ↔ HearsStation n.side.blocks n.side.samples) → after.air ≡ air_of busy n.side.station
     → KeepsBesidesAir side after
     → (next : Near) × IsStep end (OfClock busy) None n next × StandsForNear end side shared next
     → (next : Near) × IsTicking end n next × StandsForNear end after shared next
@@ -228,7 +227,7 @@ ticks end busy n after side shared carrier air same made =
           there = ap (λ t. t.items) same.there ∙ h.there;
           reader = subst (λ r. AgwStandsFor r made.0.side.stream) (sym same.reader) h.reader;
           program = same.program ∙ h.program;
-          ear = subst (λ e. EarStandsFor e made.0.side.samples) (sym same.ear) h.ear;
+          ear = subst (λ e. EarStandsFor e made.0.side.blocks made.0.side.samples) (sym same.ear) h.ear;
           towards = ap (λ t. t.items) same.towards ∙ h.towards;
           matched = same.matched ∙ h.matched;
           air = air;

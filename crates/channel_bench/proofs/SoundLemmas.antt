@@ -2,7 +2,7 @@
 use Rattle.channel_bench.proofs.Common.{◌≡◌, ◌-◌, Bool, true, false, ◌||◌, ◌&&◌, ℤ, pos, List, ◌++◌, length, replicate}
 use Rattle.channel_bench.proofs.Common.{not, cond, sym, ap, ◌∙◌, subst, arith, length-append, All, Candidate}
 use Rattle.channel_bench.proofs.Common.{AreMergedBetween, Lcg, Shared, SideState, Common, ways_of, StandsForCommon}
-use Rattle.channel_bench.proofs.Common.{StandsForWays, AreReady, mark_of, reaching, sends}
+use Rattle.channel_bench.proofs.Common.{StandsForWays, ArePlainlyReady, mark_of, reaching, sends}
 use Rattle.channel_access.specs.declared.air_tick.AirTick.{AirTick}
 use Rattle.channel_bench.proofs.Loudness.{IsLoudAtMost, silence_within}
 
@@ -29,9 +29,9 @@ reaching_is full sender hearer silenced mine theirs silent samples own air other
     is ∙ ap (λ b. cond b (replicate 96 (pos 0)) mine.samples) silent_is
     ∙ ap (λ a. cond (sender.silenced || (not full && sends hearer.air)) (replicate 96 (pos 0)) a.samples) air
 
--- the frames that are ready with 96 samples more
+-- the frames that are ready with 96 samples more, where no blocks are read
 pub ready_with : (x y : List ℤ) (items : List Candidate) → length y ≡ 96
-    → AreMergedBetween (mark_of x) (mark_of (x ++ y)) (x ++ y) items → AreReady (x ++ y) items
+    → AreMergedBetween (mark_of x) (mark_of (x ++ y)) (x ++ y) items → ArePlainlyReady (x ++ y) items
 ready_with x y items size h =
     let all = length-append x y in
     let from : mark_of x ≡ length (x ++ y) - 103 = omega arith in

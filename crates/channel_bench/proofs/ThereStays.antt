@@ -1,6 +1,6 @@
 -- The connection of a host program of the bench: if the program is there, its station has the connection, which speaks
 -- for it.
-use Rattle.channel_bench.proofs.Common.{◌≡◌, ℕ, ◌==◌, ◌||◌, not, Bool, true, false, List, [], ◌∷◌, ◌++◌, length}
+use Rattle.channel_bench.proofs.Common.{◌≡◌, ℕ, ◌==◌, ◌||◌, not, Bool, true, false, List, [], ◌∷◌, ◌++◌}
 use Rattle.channel_bench.proofs.Common.{cond, Option, Some, is_some, refl, sym, ap, ◌∙◌, subst, arith, inl, inr, filter}
 use Rattle.channel_bench.proofs.Common.{list_any, or_cases, call_field, spelling, AgwMessage, End, Joined, PortKind}
 use Rattle.channel_bench.proofs.Common.{Kiss, Agw, connect_kind, data_kind, disconnect_kind, register_kind, IsAnswered}

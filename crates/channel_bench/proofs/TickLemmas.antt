@@ -29,7 +29,7 @@ same_near B bench = refl
 
 -- a station listens
 listens : (end : End) (items : List Candidate) (bench next : BenchState)
-    → AreReady (side_at end bench).samples items
+    → AreReady (side_at end bench).blocks (side_at end bench).samples items
     → AtEnd end (AreHeardAt end items) bench next → Unless (AtEnd end (IsListening end)) bench next
 listens end items bench next ready h = go bench.common.trouble refl
   where
@@ -46,12 +46,12 @@ keeps_b part bench next h = ap (λ (b : BenchState). b.b) h.is
 
 -- what is ready is heard, and the tick ends
 pub hears_made : (w : BenchWords) (bench i j k : BenchState) (at_a at_b : List Candidate)
-    → AreReady bench.a.samples at_a → AreReady bench.b.samples at_b
+    → AreReady bench.a.blocks bench.a.samples at_a → AreReady bench.b.blocks bench.b.samples at_b
     → AtEnd A (AreHeardAt A at_a) bench i → AtEnd B (AreHeardAt B at_b) i j
     → Unless (λ before after. after ≡ ticked before) j k
     → ArePartsMade w hears bench k
 hears_made w bench i j k at_a at_b ready_a ready_b a b closes =
-    let ready : AreReady i.b.samples at_b = subst (λ (s : SideState). AreReady s.samples at_b)
+    let ready : AreReady i.b.blocks i.b.samples at_b = subst (λ (s : SideState). AreReady s.blocks s.samples at_b)
     (sym (keeps_b (AreHeardAt A at_a) bench i a)) ready_b in
     parts_cons w (Listens A) (Listens B ∷ Closes ∷ []) bench i k (listens A at_a bench i ready_a a)
     (parts_cons w (Listens B) (Closes ∷ []) i j k (listens B at_b i j ready b) (parts_one w Closes j k closes))

@@ -5,12 +5,13 @@ use Rattle.channel_bench.proofs.Common.{ap, ◌∙◌, subst, arith, length-appe
 use Rattle.channel_bench.proofs.Common.{length-map, Sent, Candidate, merged, End, A, B, each_append, each_weaker}
 use Rattle.channel_bench.proofs.Common.{HostEvent, StationState, air_of, SentAt, BenchWords, stations_of, AreTicks}
 use Rattle.channel_bench.proofs.Common.{AtEnd, BenchState, Near, SideState, near, new_bench, with_near, IsTicking}
-use Rattle.channel_bench.proofs.Common.{IsTold, ArePartsMade, AreReady, IsAsked, IsAskedOrCalled, IsCalled, IsGiven}
+use Rattle.channel_bench.proofs.Common.{IsTold, ArePartsMade, IsAsked, IsAskedOrCalled, IsCalled, IsGiven}
 use Rattle.channel_bench.proofs.Common.{IsListening, IsPart, IsTick, Part, beginning, each_tick, is_complete, joins}
 use Rattle.channel_bench.proofs.Common.{sets_duplex, sets_full_duplex, with_asking, with_calling, Tells, Gives}
 use Rattle.channel_bench.proofs.Common.{AsksOrCalls, Ticks, Sounds, Listens, Closes, next_piece, AreMatched, BothWays}
 use Rattle.channel_bench.proofs.Common.{IsMatchedIn, LinkFrame, Moment, after_moment, nothing_sent, sent_by, steps_in}
-use Rattle.channel_bench.proofs.Common.{Passes, passed_below, sent_in, sounding, ticked, text_at}
+use Rattle.channel_bench.proofs.Common.{Passes, passed_below, sent_in, sounding, ticked, text_at, AreReady}
+use Rattle.channel_bench.proofs.Common.{◌<◌, ◌⊎◌, inl, inr, cases_lt}
 use Rattle.std.specs.List.{AllByRecursion as Each, filter}
 use Rattle.channel_bench.proofs.ChannelOrder.{octets_of}
 use Rattle.channel_bench.proofs.CoreRun.{IsToldUsual, piece_short, told_as}
@@ -23,8 +24,10 @@ use Rattle.channel_bench.proofs.SentInOrder.{InOrder, SentInTurn, order_kept, se
 use Rattle.channel_bench.proofs.Sounded.{sounded}
 use Rattle.channel_bench.proofs.TimedSteps.{AtBench, from_a, from_b, near_a, near_b, near_clock, near_given, near_heard}
 use Rattle.channel_bench.proofs.TimedSteps.{near_host, near_told, part_at, HoldsThen}
-use Rattle.channel_bench.proofs.TowardsLemmas.{counted_within, each_passes, octets_at}
+use Rattle.channel_bench.proofs.TowardsLemmas.{counted_within, each_passes, none_counted, octets_at}
+use Rattle.channel_bench.proofs.BlockEarLemmas.{ready_late}
 use Rattle.channel_bench.proofs.FlightLemmas.{moments_more}
+use Rattle.channel_bench.proofs.FrontLemmas.{front_of, fronts_within}
 
 -- nothing is pending, and the samples of this tick are not there yet
 abbrev pub AtRest : BenchState → Type 0
@@ -198,9 +201,10 @@ sounds_kept w before h =
 -- ---- what is heard
 
 late_items :
-    (samples : List ℤ) (ticks : ℕ) (items : List Candidate) → length samples ≡ 96 * ticks + 96 → AreReady samples items
-    → Each (λ (item : Candidate). 96 * ticks ≤ item.end + 7) items
-late_items samples ticks items size ready =
+    (blocks : Bool) (samples : List ℤ) (ticks : ℕ) (items : List Candidate) → length samples ≡ 96 * ticks + 96
+    → AreReady blocks samples items → Each (λ (item : Candidate). 96 * ticks ≤ item.end + 7) items
+late_items true samples ticks items size ready = ready_late samples ticks items size ready
+late_items false samples ticks items size ready =
     let from = length samples - (96 + 7) in
     let to = length samples - 7 in
     let test : Candidate → Bool = λ item. nat_le from item.end && nat_lt item.end to in
@@ -226,7 +230,7 @@ listens_kept w end before after h calm holds =
     part_at end 96 None None (IsListening end) before after
     (λ own far_pending size n next far s part samples c at.
     near_heard w end before.ticks size far far_pending own part.items n next s
-    (late_items n.side.samples before.ticks part.items
+    (late_items n.side.blocks n.side.samples before.ticks part.items
     (ap length samples ∙ size_at end before holds) part.ready) part.heard c at) h calm holds
 
 -- ---- the tick ends
@@ -245,6 +249,7 @@ closes_kept w before holds =
     let pass_b = Passes B below_a in
     let ways = ways_after moments in
     let both = holds.both in
+    let fronts = fronts_within moments both.matched in
     let split : (moments ++ pass_a ∷ []) ++ pass_b ∷ [] ≡ moments ++ pass_a ∷ pass_b ∷ [] = append_assoc moments
     (pass_a ∷ []) (pass_b ∷ []) in
     let steps_are : steps_in (moments ++ pass_a ∷ pass_b ∷ []) ≡ steps_in moments =
@@ -254,9 +259,10 @@ closes_kept w before holds =
     ∙ ap (after_moment pass_b) (moments_more moments pass_a nothing_sent) in
     let within_a : IsMatchedIn pass_a ways =
     queued_below A moments s.a before.b.towards below_b holds.turn.a both.there
-    (below_within before.b both.there) in
+    (front_of A ways fronts) (below_within ways.from_a.front before.b both.there) in
     let within_b : IsMatchedIn pass_b (after_moment pass_a ways) =
-    queued_below B moments s.b before.a.towards below_a holds.turn.b both.here (below_within before.a both.here) in
+    queued_below B moments s.b before.a.towards below_a holds.turn.b both.here
+    (front_of B ways fronts) (below_within ways.from_b.front before.a both.here) in
     let turn = (order_kept w).passes B below_a (moments ++ pass_a ∷ []) s
     ((order_kept w).passes A below_b moments s holds.turn) in
     record {
@@ -286,19 +292,32 @@ closes_kept w before holds =
     zero_more : (n : ℕ) → n + 0 ≡ n
     zero_more n = omega arith
 
+    -- what has passed a side was matched there, or is among those that were sent
     below_within :
-        {pending : Option Sent} {sent : List (List ℕ)} {front count : ℕ} (side : SideState)
+        {pending : Option Sent} {sent : List (List ℕ)} {count : ℕ} (front : ℕ) (side : SideState)
         → WayHolds pending sent front count side.towards side.matched (length side.samples)
-        → passed_below side ≤ length side.towards
-    below_within side h = counted_within (length side.samples - 7) side.matched side.towards h.matched_within
+        → (passed_below side ≤ length side.towards) ⊎ (passed_below side ≤ front)
+    below_within front side h = go (cases_lt (length side.towards) side.matched)
+      where
+        mark : ℕ
+        mark = length side.samples - 7
+
+        go : (length side.towards < side.matched) ⊎ (side.matched ≤ length side.towards)
+            → (passed_below side ≤ length side.towards) ⊎ (passed_below side ≤ front)
+        go (inl more) =
+            let few = none_counted mark side.matched side.towards more in
+            let past = h.past_matched in inr (omega (arith, few, past))
+        go (inr few) = inl (counted_within mark side.matched side.towards few)
 
     queued_below :
         {front count matched samples : ℕ} (sender : End) (moments : List Moment) (state : StationState)
         (towards : List SentAt) (below : ℕ)
         → InOrder sender (steps_in moments) state
         → WayHolds None (sent_at sender (steps_in moments)) front count towards matched samples
-        → below ≤ length towards → below ≤ length (sent_by sender (ways_after moments)).queued
-    queued_below sender moments state towards below order way within =
+        → front ≤ length (sent_by sender (ways_after moments)).queued
+        → (below ≤ length towards) ⊎ (below ≤ front) → below ≤ length (sent_by sender (ways_after moments)).queued
+    queued_below sender moments state towards below order way all (inr past) = omega (arith, past, all)
+    queued_below sender moments state towards below order way all (inl within) =
         let waiting = map octets_of state.channel.waiting in
         let size = sym (length-map (sent_by sender (ways_after moments)).queued (λ (f : LinkFrame). f.octets))
         ∙ ap length (queued_is sender moments ∙ order.order ∙ ap (λ xs. xs ++ waiting) way.sent_is) in
@@ -412,7 +431,8 @@ new_way = record {
   soon = λ s same. absurd (cc);
   rising = omega arith;
   matched_within = omega arith;
-  front_within = omega arith;
+  front_within = inl (omega arith);
+  past_matched = omega arith;
   passed = λ k below. absurd (omega arith);
 }
 

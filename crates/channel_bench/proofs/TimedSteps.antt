@@ -3,17 +3,29 @@ use Rattle.channel_bench.proofs.Common.{◌≡◌, ℕ, ◌+◌, ◌*◌, ◌≤
 use Rattle.channel_bench.proofs.Common.{None, refl, sym, ap, ◌∙◌, subst, MatchBool, Sent, Candidate, End, A, B, other}
 use Rattle.channel_bench.proofs.Common.{HostEvent, StationState, air_of, BenchWords, stations_of, AtEnd, BenchState}
 use Rattle.channel_bench.proofs.Common.{Near, SideState, near, with_near, AreHeardAt, GoesOn, IsHeardAs, IsHeardAt}
-use Rattle.channel_bench.proofs.Common.{IsStep, match_of, with_matched, with_stray, IsGivenPiece, with_giving}
+use Rattle.channel_bench.proofs.Common.{IsStep, is_coming, is_frame_of, match_of, number_of, or_coming, with_matched}
+use Rattle.channel_bench.proofs.Common.{with_stray, IsGivenPiece, with_giving}
 use Rattle.channel_bench.proofs.Common.{most_octets, IsMatched, sent_by, steps_in, Stations, state_of, with_state}
 use Rattle.channel_bench.proofs.Common.{FromHost, OffAir, OfClock}
+use Rattle.channel_bench.proofs.Common.{◌&&◌, ◌⊎◌, inl, inr, nat_le, slice_get, arith, and_parts, leb-true}
 use Rattle.std.specs.List.{AllByRecursion as Each}
+use Rattle.std.proofs.lemmas.Option.{slice_get_within}
+use Rattle.station_laws.specs.InFlight.{IsInFlight}
 use Rattle.channel_bench.proofs.ChannelOrder.{Fits}
 use Rattle.channel_bench.proofs.CoreRun.{IsToldUsual, Occurs, Usual, heard_calm, input_of, state_there, state_twice}
 use Rattle.channel_bench.proofs.CoreRun.Usual.{gives, hears, ticks}
-use Rattle.channel_bench.proofs.InTime.{Both, clock_step, heard_step, host_step, step_facts, ways_after}
+use Rattle.channel_bench.proofs.InTime.{Both, clock_step, coming_there, heard_step, host_step, in_flight_there}
+use Rattle.channel_bench.proofs.InTime.{step_facts, ways_after}
 use Rattle.channel_bench.proofs.RunOfParts.{IsCalm}
 use Rattle.channel_bench.proofs.SentInOrder.{InOrder, SentInTurn, clock_sends, fits_at, order_kept, sent_in_step}
 use Rattle.channel_bench.proofs.TowardsLemmas.{match_is}
+
+-- a number is that of a match, or of the frame that is on its way
+number_cases : (coming : Bool) (last number : ℕ) (found : Option ℕ) → or_coming coming last found ≡ Some number
+    → (found ≡ Some number) ⊎ ((coming ≡ true) × (number ≡ last))
+number_cases coming last number (Some k) is = inl is
+number_cases true last number None is = inr (refl, (let same : number ≡ last = cc in same))
+number_cases false last number None is = absurd (cc)
 
 -- ---- at one station
 
@@ -113,8 +125,33 @@ module _ (w : BenchWords) (end : End) (ticks_made size : ℕ) (far : SideState) 
   order_there A n s turn = turn.b
   order_there B n s turn = turn.a
 
+  -- the frame of the number is in flight, and is one of those that were sent, or the one that is on its way
+  is_taken :
+      (own : Option Sent) (item : Candidate) (number : ℕ) (n : Near) (s : Stations)
+      → 96 * ticks_made ≤ item.end + 7 → NearHolds end own far_pending ticks_made size n far s
+      → (match_of item n.side ≡ Some number) ⊎ ((is_coming end item n ≡ true) × (number ≡ length n.side.towards))
+      → (number ≤ length n.side.towards)
+      × IsInFlight item.octets number (sent_by (other end) (ways_after n.common.moments))
+  is_taken own item number n s late holds (inl found) =
+      let m = match_is n.side.blocks item n.side.matched n.side.towards number found in
+      let within = slice_get_within n.side.towards number m.sent m.is_there in (
+        omega (arith, within),
+        in_flight_there (other end) n.common.moments (state_of (other end) s) far_pending ticks_made n.side.towards
+            n.side.matched (length n.side.samples) number item (order_there end n s holds.turn) holds.both.here late m,
+      )
+  is_taken own item number n s late holds (inr coming) =
+      let way = sent_by (other end) (ways_after n.common.moments) in
+      let few = nat_le n.side.matched (length n.side.towards) in
+      let there = is_frame_of item.octets (slice_get way.queued (length n.side.towards)) in
+      let tests = and_parts few there (and_parts n.side.blocks (few && there) coming.0).1 in
+      let flies = coming_there far_pending _ way ticks_made n.side.towards n.side.matched (length n.side.samples)
+      item.octets holds.both.here (leb-true n.side.matched (length n.side.towards) tests.0) tests.1 in (
+        omega (arith, coming.1),
+        subst (λ k. IsInFlight item.octets k way) (sym coming.1) flies,
+      )
+
   near_item :
-      (own : Option Sent) (item : Candidate) (o : Option ℕ) (n next : Near) (s : Stations) → match_of item n.side ≡ o
+      (own : Option Sent) (item : Candidate) (o : Option ℕ) (n next : Near) (s : Stations) → number_of end item n ≡ o
       → 96 * ticks_made ≤ item.end + 7 → IsHeardAs end o item.octets n next → next.common.trouble ≡ None
       → NearHolds end own far_pending ticks_made size n far s → HoldsThen end own far_pending ticks_made size next far s
   near_item own item None n next s is late h calm holds =
@@ -122,9 +159,10 @@ module _ (w : BenchWords) (end : End) (ticks_made size : ℕ) (far : SideState) 
       (λ (x : Near). x.common.trouble) h in
       absurd (cc)
   near_item own item (Some number) n next s is late h calm holds = record {
-    both = heard_step end own far_pending ticks_made number item n next far (state_of (other end) s) h
-        (order_there end n s holds.turn) late
-        (match_is item n.side.matched n.side.towards number is) holds.both;
+    both =
+        let taken = is_taken own item number n s late holds
+        (number_cases (is_coming end item n) (length n.side.towards) number (match_of item n.side) is) in
+        heard_step end own far_pending ticks_made number item n next far h taken.0 taken.1 holds.both;
     turn = (order_kept w).steps end (hears item.octets) (Some number)
         (with_matched number n) next s tt h calm holds.at holds.turn;
     at = state_there end next.side.station s;
@@ -143,7 +181,7 @@ module _ (w : BenchWords) (end : End) (ticks_made size : ℕ) (far : SideState) 
       subst (λ t. GoesOn t ((between : Near) × IsHeardAt end item n between × AreHeardAt end items between next)
       (next ≡ n))
       (heard_calm end (item ∷ items) n next h calm) h in
-      let one = near_item own item (match_of item n.side) n on.0 s refl late.0 on.1
+      let one = near_item own item (number_of end item n) n on.0 s refl late.0 on.1
       (heard_calm end items on.0 next on.2 calm) holds in
       subst (NearHolds end own far_pending ticks_made size next far)
       (state_twice end on.0.side.station next.side.station s)

@@ -1,8 +1,8 @@
 -- The frames towards a station, in time: which of them have passed, and which one a heard frame is matched with.
-use Rattle.channel_bench.proofs.Common.{◌≡◌, get_or, ℕ, zero, suc, ◌+◌, ◌-◌, ◌<◌, ◌≤◌, ◌&&◌, nat_lt, nat_le, Bool, true}
+use Rattle.channel_bench.proofs.Common.{◌≡◌, get_or, ℕ, zero, suc, ◌+◌, ◌-◌, ◌<◌, ◌≤◌, ◌&&◌, nat_le, Bool, true}
 use Rattle.channel_bench.proofs.Common.{false, List, [], ◌∷◌, ◌++◌, length, drop, cond, Option, Some, None, refl, sym}
 use Rattle.channel_bench.proofs.Common.{ap, ◌∙◌, subst, arith, count_by, option_map, position, slice_get, leb-true}
-use Rattle.channel_bench.proofs.Common.{leb-false, ltb-true, slice_get-get_or, Candidate, SentAt, distance, is_match}
+use Rattle.channel_bench.proofs.Common.{leb-false, ltb-true, slice_get-get_or, drop_all, Candidate, SentAt, distance, fits, is_match}
 use Rattle.std.specs.Str.{bytes_eq}
 use Rattle.std.specs.List.{AllByRecursion as Each, filter}
 use Rattle.std.proofs.lemmas.List.Sums.{count_by-le-length, sum_by-cons}
@@ -114,46 +114,60 @@ counted_within mark m towards within =
     let size = length_dropped m towards within in
     omega (arith, few, size)
 
+-- past all of them none is counted
+pub none_counted : (mark m : ℕ) (towards : List SentAt) → length towards < m
+    → m + count_by (has_passed mark) (drop m towards) ≤ m
+none_counted mark m towards more =
+    let none : drop m towards ≡ [] = drop_all m towards (omega arith) in
+    let few = count_by-le-length (has_passed mark) (drop m towards) in
+    let size = ap length none in
+    omega (arith, few, size)
+
 -- ---- the match of a heard frame
 
--- a frame that was sent and has its octets, and ends less than eight samples away
+-- a frame that was sent and has its octets, and a true end at most seven samples lower
 pub record IsMatchAt (item : Candidate) (matched : ℕ) (towards : List SentAt) (number : ℕ) : Type 0 where
   pub from : matched ≤ number
   pub sent : SentAt
   pub is_there : slice_get towards number ≡ Some sent
   pub octets : sent.octets ≡ item.octets
-  pub near : distance sent.end item.end < 8
+  pub late : item.end < sent.end + 8
 
 both : (a b : Bool) → (a && b) ≡ true → (a ≡ true) × (b ≡ true)
 both true true is = (refl, refl)
 both true false is = absurd (cc)
 both false b is = absurd (cc)
 
+fits_late : (blocks : Bool) (sent heard : ℕ) → fits blocks sent heard ≡ true → heard < sent + 8
+fits_late false sent heard is = let near = ltb-true (distance sent heard) 8 is in omega (arith, near)
+fits_late true sent heard is = ltb-true heard (sent + 8) is
+
 pub match_is :
-    (item : Candidate) (matched : ℕ) (towards : List SentAt) (number : ℕ)
-    → option_map (λ k. matched + k) (position (is_match item) (drop matched towards)) ≡ Some number
+    (blocks : Bool) (item : Candidate) (matched : ℕ) (towards : List SentAt) (number : ℕ)
+    → option_map (λ k. matched + k) (position (is_match blocks item) (drop matched towards)) ≡ Some number
     → IsMatchAt item matched towards number
-match_is item matched towards number is = go (position (is_match item) (drop matched towards)) refl is
+match_is blocks item matched towards number is =
+    go (position (is_match blocks item) (drop matched towards)) refl is
   where
     none : SentAt
     none = record { octets = []; end = 0 }
 
-    go : (o : Option ℕ) → position (is_match item) (drop matched towards) ≡ o
+    go : (o : Option ℕ) → position (is_match blocks item) (drop matched towards) ≡ o
         → option_map (λ k. matched + k) o ≡ Some number
         → IsMatchAt item matched towards number
     go None at same = absurd (cc)
     go (Some k) at same =
         let place : matched + k ≡ number = cc in
-        let found = position-Some (is_match item) (drop matched towards) k none at in
+        let found = position-Some (is_match blocks item) (drop matched towards) k none at in
         let sent = get_or (drop matched towards) k none in
         let there = slice_get-get_or (drop matched towards) k none found.0 in
-        let tests = both (bytes_eq sent.octets item.octets) (nat_lt (distance sent.end item.end) 8) found.1 in
+        let tests = both (bytes_eq sent.octets item.octets) (fits blocks sent.end item.end) found.1 in
         record {
           from = omega arith;
           sent = sent;
           is_there = sym (ap (slice_get towards) place) ∙ sym (slice_get-drop matched k towards) ∙ there;
           octets = (bytes_eq-Decides sent.octets item.octets).0 tests.0;
-          near = ltb-true (distance sent.end item.end) 8 tests.1;
+          late = fits_late blocks sent.end item.end tests.1;
         }
 
 -- an element stands where it stood if more come after

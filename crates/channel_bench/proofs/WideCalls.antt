@@ -1,6 +1,6 @@
 -- A link that calls modulo 128: by an event that neither connects nor makes it call anew it comes to call so only if it
 -- did before, and then it sends nothing, or one frame in a tick that T1 counts.
-use Rattle.channel_bench.proofs.Common.{◌≡◌, ◌⊎◌, Bool, true, false, [], length, refl, sym, ◌∙◌, inl, inr, ⊤, Kind}
+use Rattle.channel_bench.proofs.Common.{◌≡◌, ◌⊎◌, true, false, [], length, refl, sym, ◌∙◌, inl, inr}
 use Rattle.channel_bench.proofs.Common.{Idle, Calling, Up, Releasing, Hear, Machine, SentIn, step, Row, Settles}
 use Rattle.channel_bench.proofs.Common.{Stepped}
 use Rattle.channel_bench.proofs.Common.{step_is, as_timed, agrees, calls_again, connects, declines, ends_by_disc}
@@ -8,7 +8,7 @@ use Rattle.channel_bench.proofs.Common.{ends_by_dm, ends_call, gives_up, is_answ
 use Rattle.channel_bench.proofs.Common.{narrows, falls_narrow, releases_again, resets, rests, takes, works}
 use Rattle.channel_bench.proofs.Common.{tells_own, withdraws, wishes, abandons}
 use Rattle.channel_bench.proofs.Common.{goes_on, is_down, releases, is_refused, makes}
-use Rattle.std.specs.Prelude.{List, ◌∷◌}
+use Rattle.std.specs.Prelude.{List}
 use Rattle.link_machine.specs.Event.{Event}
 use Rattle.link_machine.specs.Event.Event.{Connect, Send, Disconnect, Seize, Tick}
 use Rattle.link_machine.specs.Machine.{is_wide}

@@ -1,8 +1,11 @@
 -- The state of the bench: two stations, A and B, each with its host program and the samples that reached it so far, and
 -- what came to pass between them.
-use Rattle.std.specs.Prelude.{◌≡◌, ℕ, Bool, false, ℤ, pos, List, [], replicate, Option, None}
+use Rattle.std.specs.Prelude.{◌≡◌, ℕ, Bool, false, ℤ, pos, List, [], replicate, is_some, Option, Some, None}
 use Rattle.rand_pcg.specs.Lcg.{Lcg}
 use Rattle.channel_access.specs.declared.air_tick.AirTick.{AirTick}
+use Rattle.channel_access.specs.declared.modem.CheckOctets.{CheckOctets}
+use Rattle.channel_access.specs.declared.modem.Modem.{Modem}
+use Rattle.channel_access.specs.declared.modem.Modem.TheVariants.{Bell202, Fx25}
 use Rattle.link_machine.specs.declared.params.Params.{Params}
 use Rattle.link_world.specs.declared.end.End.{End}
 use Rattle.link_world.specs.declared.end.End.TheVariants.{A, B}
@@ -20,6 +23,8 @@ use Rattle.channel_access.specs.Words.{generator_of}
 -- a station
 pub record SideState : Type 0 where
   pub station : StationState
+  -- it hears frames in blocks of FX.25, too
+  pub blocks : Bool
   -- the connections of hosts that are there
   pub there : List ℕ
   -- all octets that the host program was sent, and what it knows
@@ -77,8 +82,13 @@ params_of w = record {
   retries = 10;
 }
 
+-- Frames are sent plainly, or with so many check octets around each that fits into a block.
+abbrev pub modem_of : Option CheckOctets → Modem
+modem_of None = Bell202
+modem_of (Some checks) = Fx25 checks
+
 abbrev pub config_of : BenchWords → Config
-config_of w = usual_config (params_of w) None
+config_of w = record (usual_config (params_of w) None) { modem = modem_of w.checks }
 
 abbrev pub no_air : AirTick
 no_air = record { samples = replicate 96 (pos 0); began = false; sent = None }
@@ -86,6 +96,7 @@ no_air = record { samples = replicate 96 (pos 0); began = false; sent = None }
 abbrev pub new_side : BenchWords → End → SideState
 new_side w end = record {
   station = new_station (config_of w) (seed_at w end);
+  blocks = is_some w.checks;
   there = [];
   stream = [];
   program = new_program;

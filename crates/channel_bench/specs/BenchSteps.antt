@@ -2,11 +2,12 @@
 -- it is sent, and each frame that a link queues is in flight. A SABM, SABME or DISC that finds no quiet channel ends
 -- the run.
 use Rattle.std.specs.Prelude.{◌≡◌, ◌≢◌, ℕ, ◌<◌, ◌+◌, ◌-◌, ◌==◌, nat_lt, ◌&&◌, Bool, IsTrue, ◌↔◌, MatchBool, if◌then◌else◌}
-use Rattle.std.specs.Prelude.{List, [], ◌∷◌, ◌++◌, length, All, Any, drop, position, Option, Some, None, option_map}
+use Rattle.std.specs.Prelude.{List, [], ◌∷◌, ◌++◌, length, All, Any, drop, position, nat_le, slice_get, true, false}
+use Rattle.std.specs.Prelude.{Option, Some, None, option_map}
 use Rattle.std.specs.Str.{bytes_eq}
 use Rattle.frame_merge.specs.declared.candidate.Candidate.{Candidate}
 use Rattle.link_world.specs.declared.end.End.{End}
-use Rattle.slicer_bank.specs.Busy.{HearsCarrier}
+use Rattle.link_world.specs.World.{other}
 use Rattle.station.specs.declared.host_event.HostEvent.{HostEvent}
 use Rattle.station.specs.declared.host_event.HostEvent.TheVariants.{Joined, Bytes, Left}
 use Rattle.station.specs.declared.host_out.Piece.{Piece}
@@ -19,8 +20,9 @@ use Rattle.channel_bench.specs.declared.matching.SentAt.{SentAt}
 use Rattle.channel_bench.specs.declared.trouble.Trouble.{Trouble}
 use Rattle.channel_bench.specs.declared.trouble.Trouble.TheVariants.{Stray, Unquiet}
 use Rattle.channel_bench.specs.BenchState.{SideState, Common, Near, ways_of}
+use Rattle.channel_bench.specs.Hearing.{HearsStation}
 use Rattle.channel_bench.specs.HostProgram.{told_all}
-use Rattle.station_laws.specs.InFlight.{BothWays, hears_ask, hearing_at, is_quiet_at, queueing_at}
+use Rattle.station_laws.specs.InFlight.{BothWays, LinkFrame, hears_ask, hearing_at, is_quiet_at, queueing_at, sent_by}
 use Rattle.station_laws.specs.InFlight.Moment.{Steps}
 use Rattle.station_laws.specs.JointRun.{Input, IsTurn, HasOctets, Step}
 use Rattle.station_laws.specs.JointRun.Input.{FromHost, OffAir, OfClock}
@@ -123,10 +125,10 @@ pub record IsTold (end : End) (event : HostEvent) (before after : Near) : Type 0
 
 -- ---- a tick of the station
 
--- It is busy if its bank held a carrier at the end of the tick before, by one flag.
+-- It is busy if it heard another station at the end of the tick before.
 pub record IsTicking (end : End) (before after : Near) : Type 0 where
   pub busy : Bool
-  pub carrier : IsTrue busy ↔ HearsCarrier 1 before.side.samples
+  pub carrier : IsTrue busy ↔ HearsStation before.side.blocks before.side.samples
   pub next : Near
   pub step : IsStep end (OfClock busy) None before next
   pub is : after ≡ record next { side = record next.side { air = air_of busy before.side.station } }
@@ -137,13 +139,40 @@ pub record IsTicking (end : End) (before after : Near) : Type 0 where
 abbrev pub distance : ℕ → ℕ → ℕ
 distance m n = (m - n) + (n - m)
 
--- A frame that was sent has the octets of a heard one, and a true end less than eight samples away.
-abbrev pub is_match : Candidate → SentAt → Bool
-is_match item sent = bytes_eq sent.octets item.octets && nat_lt (distance sent.end item.end) 8
+-- A true end fits that of a heard frame if it is less than eight samples away. Where blocks are read it may be later:
+-- a frame whose octets all come right is heard before its block has ended.
+abbrev pub fits : (blocks : Bool) → ℕ → ℕ → Bool
+fits false sent heard = nat_lt (distance sent heard) 8
+fits true sent heard = nat_lt heard (sent + 8)
+
+-- A frame that was sent has the octets of a heard one, and a true end that fits.
+abbrev pub is_match : (blocks : Bool) → Candidate → SentAt → Bool
+is_match blocks item sent = bytes_eq sent.octets item.octets && fits blocks sent.end item.end
 
 -- the number of the first that comes after the one matched last
 abbrev pub match_of : Candidate → SideState → Option ℕ
-match_of item side = option_map (λ k. side.matched + k) (position (is_match item) (drop side.matched side.towards))
+match_of item side =
+    option_map (λ k. side.matched + k) (position (is_match side.blocks item) (drop side.matched side.towards))
+
+abbrev pub is_frame_of : List ℕ → Option LinkFrame → Bool
+is_frame_of octets None = false
+is_frame_of octets (Some frame) = bytes_eq frame.octets octets
+
+-- Where blocks are read, a heard frame can be the one whose sending has not ended yet: of the frames that the other
+-- station has queued, the first that is not among those that it has sent.
+abbrev pub is_coming : End → Candidate → Near → Bool
+is_coming end item n =
+    n.side.blocks && (nat_le n.side.matched (length n.side.towards)
+    && is_frame_of item.octets
+    (slice_get (sent_by (other end) (ways_of n.common)).queued (length n.side.towards)))
+
+abbrev pub or_coming : Bool → ℕ → Option ℕ → Option ℕ
+or_coming coming number (Some found) = Some found
+or_coming coming number None = if coming then Some number else None
+
+-- the number of the frame that a heard one is
+abbrev pub number_of : End → Candidate → Near → Option ℕ
+number_of end item n = or_coming (is_coming end item n) (length n.side.towards) (match_of item n.side)
 
 abbrev pub with_stray : List ℕ → Near → Near
 with_stray octets n = record n { common = record n.common { trouble = Some (Stray octets) } }
@@ -158,7 +187,7 @@ IsHeardAs end (Some number) octets before after =
     IsStep end (OffAir octets) (Some number) (with_matched number before) after
 
 abbrev pub IsHeardAt : End → Candidate → Near → Near → Type 0
-IsHeardAt end item before after = IsHeardAs end (match_of item before.side) item.octets before after
+IsHeardAt end item before after = IsHeardAs end (number_of end item before) item.octets before after
 
 -- once something has ended the run, nothing more comes to pass
 abbrev pub GoesOn : Option Trouble → Type 0 → Type 0 → Type 0

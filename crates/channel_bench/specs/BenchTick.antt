@@ -1,20 +1,20 @@
 -- One tick of the bench, part by part: the hosts, the two stations, the channel, and what is heard.
-use Rattle.std.specs.Prelude.{◌≡◌, ℕ, ◌+◌, ◌==◌, ◌&&◌, not, Bool, true, IsTrue, ◌↔◌, MatchBool, if◌then◌else◌, List, []}
-use Rattle.std.specs.Prelude.{◌∷◌, ◌++◌, length, ℤ, ◌-◌, Option, Some, None}
+use Rattle.std.specs.Prelude.{◌≡◌, ℕ, ◌==◌, ◌&&◌, not, Bool, true, IsTrue, ◌↔◌, MatchBool, if◌then◌else◌, List, []}
+use Rattle.std.specs.Prelude.{◌∷◌, ◌++◌, Option, Some, None}
 use Rattle.frame_merge.specs.declared.candidate.Candidate.{Candidate}
 use Rattle.link_world.specs.declared.end.End.{End}
 use Rattle.link_world.specs.declared.end.End.TheVariants.{A, B}
-use Rattle.slicer_bank.specs.MergedItems.{AreMergedBetween}
 use Rattle.station.specs.declared.host_event.HostEvent.{HostEvent}
 use Rattle.station.specs.declared.host_event.HostEvent.TheVariants.{Joined, Bytes}
 use Rattle.station.specs.declared.host_event.PortKind.TheVariants.{Kiss, Agw}
 use Rattle.channel_bench.specs.declared.words.BenchWords.{BenchWords}
 use Rattle.channel_bench.specs.BenchState.{SideState, BenchState, Near, AtEnd}
 use Rattle.channel_bench.specs.BenchSteps.{program_id, MayCome, IsStep, IsTold, IsTicking, AreHeardAt, GoesOn}
+use Rattle.channel_bench.specs.Hearing.{AreReady}
 use Rattle.channel_bench.specs.HostProgram.{next_piece, giving, has_all, asking, waiting, calling, register_octets}
 use Rattle.channel_bench.specs.HostProgram.{connect_octets, data_octets, disconnect_octets, full_duplex_octets}
 use Rattle.station_laws.specs.JointRun.Input.{FromHost}
-use Rattle.channel_bench.specs.Sounding.{mark_of, tick_samples, sounding, ticked}
+use Rattle.channel_bench.specs.Sounding.{sounding, ticked}
 use Rattle.channel_bench.specs.Words.{text_at}
 
 -- ---- hosts
@@ -75,14 +75,9 @@ pub record IsAskedOrCalled (w : BenchWords) (before after : BenchState) : Type 0
 
 -- ---- what is heard
 
--- The frames that are heard with the samples of a tick: those of the merged candidates of all samples so far that end
--- below the marks, and did not before.
-abbrev pub AreReady : List ℤ → List Candidate → Type 0
-AreReady samples items = AreMergedBetween (length samples - (tick_samples + 7)) (mark_of samples) samples items
-
 pub record IsListening (end : End) (before after : Near) : Type 0 where
   pub items : List Candidate
-  pub ready : AreReady before.side.samples items
+  pub ready : AreReady before.side.blocks before.side.samples items
   pub heard : AreHeardAt end items before after
 
 -- ---- the parts of a tick

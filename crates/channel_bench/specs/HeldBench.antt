@@ -1,10 +1,12 @@
 -- What the code keeps of the bench, and what that stands for. Public clauses cite none of this.
 use Rattle.std.specs.Prelude.{◌≡◌, ℕ, ◌*◌, ◌≤◌, ℤ, List, [], ◌∷◌, length, map, replicate, unsigned_abs, All, false}
-use Rattle.std.specs.Prelude.{◌⊎◌, true, None}
+use Rattle.std.specs.Prelude.{◌⊎◌, Bool, true, None}
 use Rattle.agwpe_port.specs.Held.{StandsFor as AgwStandsFor}
 use Rattle.frame_merge.specs.declared.candidate.Candidate.{Candidate}
 use Rattle.frame_merge.specs.Held.{StandsFor as MergerStandsFor}
 use Rattle.frame_merge.specs.Merged.{merged, below}
+use Rattle.fx25_receiver.specs.Held.{StandsFor as ReceiverStandsFor}
+use Rattle.fx25_receiver.specs.declared.heard.Heard.{Heard}
 use Rattle.rand_pcg.specs.Lcg.{Lcg}
 use Rattle.link_world.specs.declared.end.End.{End}
 use Rattle.link_world.specs.declared.end.End.TheVariants.{A, B}
@@ -12,9 +14,12 @@ use Rattle.slicer_bank.specs.Candidates.{AreCandidates}
 use Rattle.slicer_bank.specs.Held.{StandsFor as BankStandsFor}
 use Rattle.station.specs.Held.{ids_of}
 use Rattle.station.specs.StandsFor.{StandsFor as StationStandsFor}
+use Rattle.channel_bench.specs.declared.block_ear.BlockEar.{BlockEar}
 use Rattle.channel_bench.specs.declared.ear.Ear.{Ear}
+use Rattle.channel_bench.specs.declared.ear.Ear.TheVariants.{Plain, Blocks}
+use Rattle.channel_bench.specs.declared.plain_ear.PlainEar.{PlainEar}
 use Rattle.channel_bench.specs.declared.flight.OneWay.{OneWay as HeldOneWay}
-use Rattle.channel_bench.specs.declared.flight.Flags.{Flags}
+use Rattle.channel_bench.specs.declared.flight.HeldFrame.{HeldFrame}
 use Rattle.channel_bench.specs.declared.flight.Flight.{Flight}
 use Rattle.channel_bench.specs.declared.shared.Shared.{Shared}
 use Rattle.channel_bench.specs.declared.side.Side.{Side}
@@ -30,7 +35,7 @@ use Rattle.channel_bench.specs.Sounding.{mark_of, after_noise, reaching, sent_in
 use Rattle.channel_bench.specs.Words.{text_at}
 
 -- the bank heard these samples, and the merger gave all frames that end below the marks
-pub record EarStandsFor (held : Ear) (x : List ℤ) : Type 0 where
+pub record PlainEarStandsFor (held : PlainEar) (x : List ℤ) : Type 0 where
   pub bank : BankStandsFor held.bank x
   pub flags : held.bank.flags ≡ 1
   pub count : held.count ≡ length x
@@ -39,12 +44,32 @@ pub record EarStandsFor (held : Ear) (x : List ℤ) : Type 0 where
   pub are : AreCandidates x candidates
   pub so_far : MergerStandsFor held.merger candidates (below (mark_of x) (merged candidates))
 
+-- the bank heard these samples, and the receiver gave all frames that ended with them
+pub record BlockEarStandsFor (held : BlockEar) (x : List ℤ) : Type 0 where
+  pub bank : BankStandsFor held.bank x
+  pub flags : held.bank.flags ≡ 1
+  pub count : held.count ≡ length x
+  pub given : List Heard
+  pub so_far : ReceiverStandsFor held.receiver x given
+
+-- an ear that reads blocks, or one that does not, heard these samples
+abbrev pub EarStandsFor : Ear → (blocks : Bool) → List ℤ → Type 0
+EarStandsFor (Plain ear) false x = PlainEarStandsFor ear x
+EarStandsFor (Plain ear) true x = ⊥
+EarStandsFor (Blocks ear) false x = ⊥
+EarStandsFor (Blocks ear) true x = BlockEarStandsFor ear x
+
+-- how many samples an ear has heard
+abbrev pub heard_by : Ear → ℕ
+heard_by (Plain ear) = ear.count
+heard_by (Blocks ear) = ear.count
+
 -- what is kept of a frame that a link queued
-abbrev pub flags_of : LinkFrame → Flags
-flags_of frame = record { asks = asks frame; answers = answers frame }
+abbrev pub held_frame : LinkFrame → HeldFrame
+held_frame frame = record { octets = frame.octets; asks = asks frame; answers = answers frame }
 
 pub record StandsForWay (held : HeldOneWay) (way : OneWay) : Type 0 where
-  pub queued : held.queued.items ≡ map flags_of way.queued
+  pub queued : held.queued.items ≡ map held_frame way.queued
   pub front : held.front ≡ way.front
 
 pub record StandsForWays (held : Flight) (ways : BothWays) : Type 0 where
@@ -65,7 +90,7 @@ pub record StandsForSide (end : End) (held : Side) (side : SideState) : Type 0 w
   pub there : held.there.items ≡ side.there
   pub reader : AgwStandsFor held.reader side.stream
   pub program : held.program ≡ side.program
-  pub ear : EarStandsFor held.ear side.samples
+  pub ear : EarStandsFor held.ear side.blocks side.samples
   pub towards : held.towards.items ≡ side.towards
   pub matched : held.matched ≡ side.matched
   pub air : held.air ≡ side.air

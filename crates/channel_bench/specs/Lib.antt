@@ -2,8 +2,9 @@ pub mod Words
 pub mod Report
 pub mod HostProgram
 pub mod BenchState
-pub mod BenchSteps
 pub mod Sounding
+pub mod Hearing
+pub mod BenchSteps
 pub mod BenchTick
 pub mod BenchRun
 pub mod HeldBench

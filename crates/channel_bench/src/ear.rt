@@ -1,64 +1,69 @@
 //! What a station hears of the samples that reach it.
-ghost use Rattle.std.specs.Prelude.{◌≡◌, ◌+◌, ◌-◌, ◌<◌, ◌≤◌, ◌^◌, ◌↔◌, ℕ, ℤ, List, [], ◌++◌, length, IfOk, OnOk};
-ghost use Rattle.std.specs.Prelude.{IsTrue, OnErr, true};
+ghost use Rattle.std.specs.Prelude.{◌≡◌, ◌<◌, ◌^◌, ◌↔◌, Bool, ℤ, List, [], ◌++◌, length, IfOk, IsTrue, OnErr, true};
 ghost use Rattle.std.specs.List.{All};
 ghost use Rattle.hdlc_framer.specs.FrameLength.{HasFrameLength};
-ghost use Rattle.frame_merge.specs.declared.candidate.Candidate.{Candidate};
-ghost use Rattle.frame_merge.specs.Held.{StandsFor as MergerStandsFor};
-ghost use Rattle.slicer_bank.specs.Busy.{HearsCarrier};
-ghost use Rattle.slicer_bank.specs.MergedItems.{AreMergedBetween};
-ghost use Rattle.slicer_bank.specs.Merging.{CanBePut, AreInTime};
+ghost use Rattle.channel_bench.specs.Hearing.{AreReady, HearsStation};
 ghost use Rattle.channel_bench.specs.Sounding.{mark_of};
 
-use frame_merge::{Candidate, Merger};
-use slicer_bank::Bank;
+use crate::block_ear::BlockEar;
+use crate::plain_ear::PlainEar;
+use frame_merge::Candidate;
 use station::Memory;
 use std::alloc::Global;
 use tnc_base::OutOfMemory;
 
-/// The lanes of a bank.
-const LANES: u8 = 8;
-
-/// How far behind the samples the marks of the lanes stand.
-const BEHIND: u64 = 7;
-
-/// A bank of slicers, and a merger of what they hear.
+/// An ear that hears frames plainly, or in blocks of FX.25, too.
 #[derive(Drop)]
-pub(crate) struct Ear {
-    bank: Bank,
-    merger: Merger,
-    /// How many samples it has heard.
-    count: u64,
+pub(crate) enum Ear {
+    /// It reads no blocks.
+    Plain(PlainEar),
+    /// It reads blocks.
+    Blocks(BlockEar),
 }
 
 impl Ear {
-    ghost use Rattle.channel_bench.specs.HeldBench.{EarStandsFor};
+    ghost use Rattle.channel_bench.specs.HeldBench.{EarStandsFor, heard_by};
 
     /// Nothing is heard.
-    pub(crate) fn new(alloc: Global) -> Result<Ear, OutOfMemory>
-        ensures { IfOk result (λ ear. EarStandsFor ear []) }
+    pub(crate) fn new(alloc: Global, blocks: bool) -> Result<Ear, OutOfMemory>
+        ensures { IfOk result (λ ear. EarStandsFor ear blocks []) }
     {
-        let bank = Bank::new(alloc)?;
-        let merger = Merger::new(alloc, LANES)?;
-        Ok(Ear {
-            bank,
-            merger,
-            count: 0,
-        })
+        if blocks {
+            Ok(Ear::Blocks(BlockEar::new(alloc)?))
+        } else {
+            Ok(Ear::Plain(PlainEar::new(alloc)?))
+        }
+    }
+
+    /// It reads blocks.
+    pub(crate) fn reads_blocks(&self) -> bool
+        ensures { (blocks : Bool) (x : List ℤ) → EarStandsFor self.now blocks x → result ≡ blocks }
+    {
+        match self {
+            Ear::Plain(_) => false,
+            Ear::Blocks(_) => true,
+        }
     }
 
     /// Another station is heard.
     pub(crate) fn busy(&self) -> bool
-        ensures { (x : List ℤ) → EarStandsFor self.now x → (IsTrue result ↔ HearsCarrier 1 x) }
+        ensures { (blocks : Bool) (x : List ℤ) → EarStandsFor self.now blocks x
+            → (IsTrue result ↔ HearsStation blocks x) }
     {
-        self.bank.busy()
+        match self {
+            Ear::Plain(ear) => ear.busy(),
+            Ear::Blocks(ear) => ear.busy(),
+        }
     }
 
     /// Where the marks of the lanes stand.
     pub(crate) fn mark(&self) -> u64
-        ensures { (x : List ℤ) → EarStandsFor self.now x → result ≡ mark_of x }
+        ensures { (blocks : Bool) (x : List ℤ) → EarStandsFor self.now blocks x → result ≡ mark_of x }
     {
-        mark_after(self.count)
+        match self {
+            Ear::Plain(ear) => ear.mark(),
+            Ear::Blocks(ear) => ear.mark(),
+        }
     }
 
     /// Hears samples, and gives the frames that are ready with them.
@@ -67,48 +72,17 @@ impl Ear {
         memory: &mut Memory,
         samples: &[i16],
     ) -> Result<Vec<Candidate>, OutOfMemory>
-        requires stands { (x : List ℤ) × EarStandsFor self.old x }
-        requires few { self.old.count < 2 ^ 47 }
+        requires stands { (blocks : Bool) × (x : List ℤ) × EarStandsFor self.old blocks x }
+        requires few { heard_by self.old < 2 ^ 47 }
         requires samples { length samples.now ≡ 96 }
-        ensures heard { (x : List ℤ) → EarStandsFor self.old x → IfOk result (λ items.
-            EarStandsFor self.new (x ++ samples.now)
-            × AreMergedBetween (mark_of x) (mark_of (x ++ samples.now)) (x ++ samples.now) items.items) }
+        ensures heard { (blocks : Bool) (x : List ℤ) → EarStandsFor self.old blocks x → IfOk result (λ items.
+            EarStandsFor self.new blocks (x ++ samples.now) × AreReady blocks (x ++ samples.now) items.items) }
         ensures lengths { IfOk result (λ items. All (λ item. HasFrameLength item.octets) items.items) }
         ensures wanted { OnErr result (memory.new.refused ≡ true) }
     {
-        let found = memory.took(self.bank.feed(samples))?;
-        put_all(memory, &mut self.merger, found)?;
-        self.count += samples.len() as u64;
-        let mark = mark_after(self.count);
-        self.merger.mark_all(mark);
-        let ready = memory.took(self.merger.take_ready())?;
-        Ok(ready)
+        match self {
+            Ear::Plain(ear) => ear.listen(memory, samples),
+            Ear::Blocks(ear) => ear.listen(memory, samples),
+        }
     }
-}
-
-/// Where the marks stand after so many samples.
-fn mark_after(count: u64) -> u64
-    ensures { result ≡ count - 7 }
-{
-    count.saturating_sub(BEHIND)
-}
-
-/// Puts candidates into a merger, in their order.
-fn put_all(
-    memory: &mut Memory,
-    merger: &mut Merger,
-    items: Vec<Candidate>,
-) -> Result<(), OutOfMemory>
-    requires marks { length merger.old.marks ≡ 8 }
-    requires items { All CanBePut items.items }
-    requires in_time { AreInTime merger.old.marks items.items }
-    ensures stands_for { OnOk result ((puts given : List Candidate) → MergerStandsFor merger.old puts given
-        → MergerStandsFor merger.new (puts ++ items.items) given) }
-    ensures marks { merger.new.marks ≡ merger.old.marks }
-    ensures wanted { OnErr result (memory.new.refused ≡ true) }
-{
-    for item in items {
-        memory.took(merger.put_in_time(item))?;
-    }
-    Ok(())
 }

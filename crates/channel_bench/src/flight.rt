@@ -1,5 +1,5 @@
 //! What is in flight between the two stations, as far as one can see who does not know what will be heard.
-ghost use Rattle.std.specs.Prelude.{◌≡◌, ◌+◌, ◌-◌, ◌<◌, ◌^◌, ◌||◌, if◌then◌else◌, drop, IfOk, OnOk, OnErr, Some};
+ghost use Rattle.std.specs.Prelude.{◌≡◌, ◌+◌, ◌-◌, ◌<◌, ◌^◌, ◌||◌, if◌then◌else◌, drop, slice_get, IfOk, OnOk, OnErr, Some};
 ghost use Rattle.std.specs.Prelude.{is_some};
 ghost use Rattle.std.specs.Prelude.{true};
 ghost use Rattle.std.specs.List.{list_any};
@@ -7,7 +7,8 @@ ghost use Rattle.station_laws.specs.InFlight.{OneWay as WayState, BothWays, asks
 ghost use Rattle.station_laws.specs.InFlight.{in_flight, is_ask, is_control_of, is_quiet_at, is_quiet_for, is_ua_or_dm};
 ghost use Rattle.station_laws.specs.InFlight.{nothing_sent, queueing_all, queueing_at, sent_by, with_front};
 ghost use Rattle.station_laws.specs.InFlight.{with_queued, with_sent_by};
-ghost use Rattle.channel_bench.specs.BenchSteps.{first_unquiet, count_of};
+ghost use Rattle.channel_bench.specs.BenchSteps.{first_unquiet, count_of, is_frame_of};
+ghost use Rattle.link_world.specs.World.{other};
 
 use link_world::End;
 use station::Memory;
@@ -29,9 +30,10 @@ const UA: u8 = 0x63;
 
 const DM: u8 = 0x0f;
 
-/// What is asked of a frame that a link queued.
-#[derive(Clone, Copy, Debug)]
-pub struct Flags {
+/// What is kept of a frame that a link queued.
+#[derive(Drop)]
+pub struct HeldFrame {
+    octets: Octets,
     /// It is SABM, SABME or DISC.
     pub asks: bool,
     /// It is a UA or DM that was sent on hearing one.
@@ -41,7 +43,7 @@ pub struct Flags {
 /// One direction: the frames that links of a station have queued, and the number from which on they are in flight.
 #[derive(Drop)]
 pub struct OneWay {
-    queued: Vec<Flags>,
+    queued: Vec<HeldFrame>,
     front: usize,
 }
 
@@ -63,11 +65,12 @@ impl OneWay {
             (StandsForWay self.new (with_queued (record { octets = octets.now; on_ask = on_ask }) way)) }
         ensures wanted { OnErr result (memory.new.refused ≡ true) }
     {
-        let flags = Flags {
+        let frame = HeldFrame {
+            octets: memory.copy(octets)?,
             asks: is_ask(octets),
             answers: on_ask && is_ua_or_dm(octets),
         };
-        memory.push(&mut self.queued, flags)?;
+        memory.push(&mut self.queued, frame)?;
         Ok(())
     }
 
@@ -76,6 +79,17 @@ impl OneWay {
         ensures { (way : WayState) → StandsForWay self.old way → StandsForWay self.new (with_front number way) }
     {
         self.front = self.front.max(number);
+    }
+
+    /// The frame of a number has these octets.
+    fn has(&self, number: usize, octets: &[u8]) -> bool
+        ensures { (way : WayState) → StandsForWay self.now way
+            → result ≡ is_frame_of octets.now (slice_get way.queued number) }
+    {
+        match self.queued.get(number) {
+            Some(frame) => frame.octets.as_slice() == octets,
+            None => false,
+        }
     }
 
     /// SABM, SABME or DISC is in flight.
@@ -191,6 +205,17 @@ impl Flight {
         }
     }
 
+    /// The frame of a number that links of the other station queued has these octets.
+    pub(crate) fn has_queued(&self, hearer: End, number: usize, octets: &[u8]) -> bool
+        ensures { (ways : BothWays) → StandsForWays self.now ways
+            → result ≡ is_frame_of octets.now (slice_get (sent_by (other hearer) ways).queued number) }
+    {
+        match hearer {
+            End::A => self.from_b.has(number, octets),
+            End::B => self.from_a.has(number, octets),
+        }
+    }
+
     /// A station hears the frame of a number.
     pub(crate) fn hear(&mut self, hearer: End, number: usize)
         requires { number < 2 ^ 64 - 1 }
@@ -216,14 +241,14 @@ impl Flight {
 }
 
 /// One of the frames from a number on asks.
-fn some_asks(frames: &[Flags], from: usize) -> bool
+fn some_asks(frames: &[HeldFrame], from: usize) -> bool
     ensures { result ≡ list_any (λ frame. frame.asks) (drop from frames.now) }
 {
     frames.iter().skip(from).any(|frame| frame.asks)
 }
 
 /// One of them answers.
-fn some_answers(frames: &[Flags], from: usize) -> bool
+fn some_answers(frames: &[HeldFrame], from: usize) -> bool
     ensures { result ≡ list_any (λ frame. frame.answers) (drop from frames.now) }
 {
     frames.iter().skip(from).any(|frame| frame.answers)

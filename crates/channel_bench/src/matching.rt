@@ -15,13 +15,25 @@ pub struct SentAt {
 }
 
 impl SentAt {
-    ghost use Rattle.channel_bench.specs.BenchSteps.{is_match};
+    ghost use Rattle.channel_bench.specs.BenchSteps.{fits, is_match};
 
-    /// The heard one has the same octets, and ends less than eight samples away.
-    fn is_match(&self, item: &Candidate) -> bool
-        ensures { result ≡ is_match item.now self.now }
+    /// The heard one has the same octets, and an end that fits.
+    fn is_match(&self, blocks: bool, item: &Candidate) -> bool
+        ensures { result ≡ is_match blocks item.now self.now }
     {
-        self.octets.as_slice() == item.octets.as_slice() && self.end.abs_diff(item.end) < 8
+        self.octets.as_slice() == item.octets.as_slice() && self.fits(blocks, item.end)
+    }
+
+    /// A heard end is less than eight samples away. Where blocks are read it may be lower: a frame can be heard before its
+    /// block has ended.
+    fn fits(&self, blocks: bool, heard: u64) -> bool
+        ensures { result ≡ fits blocks self.now.end heard }
+    {
+        if blocks {
+            heard.saturating_sub(7) <= self.end
+        } else {
+            self.end.abs_diff(heard) < 8
+        }
     }
 
     /// It has ended 16 samples before a mark.
@@ -32,11 +44,11 @@ impl SentAt {
     }
 
     /// The first of these that a heard one matches.
-    pub(crate) fn first_match(sent: &[SentAt], item: &Candidate) -> Option<usize>
-        ensures place { result ≡ position (is_match item.now) sent.now }
+    pub(crate) fn first_match(sent: &[SentAt], blocks: bool, item: &Candidate) -> Option<usize>
+        ensures place { result ≡ position (is_match blocks item.now) sent.now }
         ensures within { IfSome result (λ place. place < length sent.now) }
     {
-        sent.iter().position(|sent| sent.is_match(item))
+        sent.iter().position(|sent| sent.is_match(blocks, item))
     }
 
     /// How many of these have ended 16 samples before a mark.

@@ -5,9 +5,10 @@ ghost use Rattle.channel_bench.specs.BenchRun.{is_over, report_of};
 ghost use Rattle.hdlc_framer.specs.FrameLength.{HasFrameLength};
 ghost use Rattle.station.specs.Held.{IsAdmitted};
 ghost use Rattle.station.specs.declared.host_event.HostEvent.{HostEvent};
-ghost use Rattle.channel_bench.specs.BenchState.{BenchState, SideState, AtEnd, config_of, new_bench};
+ghost use Rattle.channel_bench.specs.BenchState.{BenchState, SideState, AtEnd, config_of, modem_of, new_bench};
 ghost use Rattle.channel_bench.specs.BenchSteps.{AreHeardAt, IsTold, IsTicking};
-ghost use Rattle.channel_bench.specs.BenchTick.{AreReady, ArePartsMade, IsAsked, IsAskedOrCalled, IsCalled, IsGiven};
+ghost use Rattle.channel_bench.specs.BenchTick.{ArePartsMade, IsAsked, IsAskedOrCalled, IsCalled, IsGiven};
+ghost use Rattle.channel_bench.specs.Hearing.{AreReady};
 ghost use Rattle.channel_bench.specs.BenchTick.{IsTick, beginning, each_tick, is_complete, joins, sets_duplex};
 ghost use Rattle.channel_bench.specs.BenchTick.{sets_full_duplex};
 ghost use Rattle.channel_bench.specs.Sounding.{reaching, sounding, ticked, with_losses};
@@ -19,7 +20,7 @@ use crate::requests::{connect, disconnect, full_duplex, register};
 use crate::shared::Shared;
 use crate::side::{PROGRAM, Side};
 use crate::words::{BenchWords, text};
-use channel_access::AirTick;
+use channel_access::{AirTick, CheckOctets, Modem};
 use frame_merge::Candidate;
 use link_machine::Params;
 use link_world::End;
@@ -68,7 +69,7 @@ struct Ready {
 
 impl Run {
     ghost use Rattle.channel_bench.specs.HeldBench.{StandsForRun, MovesRun, Unless, acts, hears, sounds, reaching_a};
-    ghost use Rattle.channel_bench.specs.HeldBench.{IsCounted, RunWants};
+    ghost use Rattle.channel_bench.specs.HeldBench.{IsCounted, RunWants, heard_by};
     ghost use Rattle.channel_bench.specs.HeldBench.{reaching_b, with_both, with_noise_drawn};
 
     /// Before the first tick.
@@ -78,9 +79,10 @@ impl Run {
     {
         let text_of_a = text(alloc, words.seed, TEXT_OF_A, words.octets)?;
         let text_of_b = text(alloc, words.seed, TEXT_OF_B, words.octets)?;
-        let a = Side::new(alloc, End::A, config_of(&words), words.seed)?;
+        let blocks = words.checks.is_some();
+        let a = Side::new(alloc, End::A, config_of(&words), blocks, words.seed)?;
         let seed = words.seed.wrapping_add(1);
-        let b = Side::new(alloc, End::B, config_of(&words), seed)?;
+        let b = Side::new(alloc, End::B, config_of(&words), blocks, seed)?;
         Ok(Run {
             alloc,
             words,
@@ -283,8 +285,8 @@ impl Run {
         ensures carried { (w : BenchWords) (bench : BenchState) → StandsForRun self.old w bench
             → OnOk result (StandsForRun self.new w (sounding w bench)) }
         ensures ready { (w : BenchWords) (bench : BenchState) → StandsForRun self.old w bench → IfOk result (λ ready.
-            AreReady (sounding w bench).a.samples ready.at_a.items
-            × AreReady (sounding w bench).b.samples ready.at_b.items) }
+            AreReady (sounding w bench).a.blocks (sounding w bench).a.samples ready.at_a.items
+            × AreReady (sounding w bench).b.blocks (sounding w bench).b.samples ready.at_b.items) }
         ensures lengths { IfOk result (λ ready. All (λ item. HasFrameLength item.octets) ready.at_a.items
             × All (λ item. HasFrameLength item.octets) ready.at_b.items) }
         ensures ticks { self.new.ticks ≡ self.old.ticks }
@@ -302,7 +304,8 @@ impl Run {
             × All (λ item. HasFrameLength item.octets) ready.now.at_b.items }
         requires few { self.old.ticks < 2 ^ 32 }
         ensures heard { (w : BenchWords) (bench : BenchState) → StandsForRun self.old w bench
-            → AreReady bench.a.samples ready.now.at_a.items → AreReady bench.b.samples ready.now.at_b.items
+            → AreReady bench.a.blocks bench.a.samples ready.now.at_a.items
+            → AreReady bench.b.blocks bench.b.samples ready.now.at_b.items
             → OnOk result ((next : BenchState) × ArePartsMade w hears bench next × StandsForRun self.new w next) }
         ensures count { OnOk result (self.new.ticks ≤ self.old.ticks + 1) }
         ensures wanted { OnErr result (RunWants self.new) }
@@ -460,13 +463,13 @@ impl Run {
     fn take_in(&mut self, both: &Both) -> Result<Ready, OutOfMemory>
         requires stands { (w : BenchWords) × (bench : BenchState) × StandsForRun self.old w bench }
         requires few { self.old.ticks < 2 ^ 32 }
-        requires ears { (self.old.a.ear.count < 2 ^ 47) × (self.old.b.ear.count < 2 ^ 47) }
+        requires ears { (heard_by self.old.a.ear < 2 ^ 47) × (heard_by self.old.b.ear < 2 ^ 47) }
         requires lengths { (length both.now.to_a.items ≡ 96) × (length both.now.to_b.items ≡ 96) }
         ensures taken { (w : BenchWords) (bench : BenchState) → StandsForRun self.old w bench
             → OnOk result (StandsForRun self.new w (with_both both.now.to_a.items both.now.to_b.items bench)) }
         ensures ready { (w : BenchWords) (bench : BenchState) → StandsForRun self.old w bench → IfOk result (λ ready.
-            AreReady (bench.a.samples ++ both.now.to_a.items) ready.at_a.items
-            × AreReady (bench.b.samples ++ both.now.to_b.items) ready.at_b.items) }
+            AreReady bench.a.blocks (bench.a.samples ++ both.now.to_a.items) ready.at_a.items
+            × AreReady bench.b.blocks (bench.b.samples ++ both.now.to_b.items) ready.at_b.items) }
         ensures lengths { IfOk result (λ ready. All (λ item. HasFrameLength item.octets) ready.at_a.items
             × All (λ item. HasFrameLength item.octets) ready.at_b.items) }
         ensures ticks { self.new.ticks ≡ self.old.ticks }
@@ -544,5 +547,17 @@ fn config_of(words: &BenchWords) -> Config
         t1: 200,
         retries: 10,
     };
-    Config::new(params, None)
+    let mut config = Config::new(params, None);
+    config.modem = modem_of(words.checks);
+    config
+}
+
+/// The modem that both stations send by.
+fn modem_of(checks: Option<CheckOctets>) -> Modem
+    ensures { result ≡ modem_of checks }
+{
+    match checks {
+        Some(checks) => Modem::Fx25(checks),
+        None => Modem::Bell202,
+    }
 }

@@ -1,6 +1,7 @@
 //! A station of the bench, with its host program and what it hears.
-ghost use Rattle.std.specs.Prelude.{◌≡◌, ◌≢◌, ◌==◌, not, filter, ◌+◌, ◌*◌, ◌<◌, ◌≤◌, ◌^◌, ◌↔◌, ℕ, IsTrue, List, []};
-ghost use Rattle.std.specs.Prelude.{◌++◌, length, All, Any, Some, None, Ok, IfOk, OnOk, OnErr, true};
+ghost use Rattle.std.specs.Prelude.{◌≡◌, ◌≢◌, ◌==◌, not, filter, ◌+◌, ◌-◌, ◌*◌, ◌<◌, ◌≤◌, ◌^◌, ◌↔◌, ℕ, IsTrue, List, []};
+ghost use Rattle.std.specs.Prelude.{◌++◌, length, drop, All, Any, Some, None, Ok, IfOk, IfSome, OnOk, OnErr, is_some};
+ghost use Rattle.std.specs.Prelude.{true};
 ghost use Rattle.std.specs.Result.{IsErrOf};
 ghost use Rattle.link_machine.specs.Params.{HasWindows};
 ghost use Rattle.link_machine.specs.declared.fault.NewFault.{NewFault};
@@ -13,8 +14,10 @@ ghost use Rattle.channel_bench.specs.declared.words.BenchWords.{BenchWords};
 ghost use Rattle.station_laws.specs.JointRun.Input.{FromHost, OffAir};
 ghost use Rattle.channel_bench.specs.BenchState.{SideState, Near, new_side, config_of};
 ghost use Rattle.channel_bench.specs.BenchSteps.{GoesOn, MayCome, IsStep, IsTold, IsTicking, IsHeardAt, AreHeardAt};
+ghost use Rattle.channel_bench.specs.BenchSteps.{is_coming, number_of, or_coming};
 ghost use Rattle.channel_bench.specs.BenchSteps.{told_piece, told_pieces, first_unquiet, trouble_of, with_matched};
-ghost use Rattle.channel_bench.specs.BenchTick.{AreReady, IsGiven};
+ghost use Rattle.channel_bench.specs.BenchTick.{IsGiven};
+ghost use Rattle.channel_bench.specs.Hearing.{AreReady};
 ghost use Rattle.channel_bench.specs.Sounding.{passed_below, sent_in, with_loss, with_samples};
 ghost use Rattle.channel_bench.specs.Words.{seed_at, text_at};
 
@@ -63,13 +66,13 @@ pub struct Side {
     pub(crate) silenced: bool,
     /// Whether memory was refused, but to the station.
     pub(crate) memory: Memory,
-    ghost within: { matched ≤ length towards.items },
+    ghost within: { matched ≤ length towards.items + 1 },
 }
 
 impl Side {
     ghost use Rattle.station.specs.Held.{IsAdmitted};
     ghost use Rattle.channel_bench.specs.HeldBench.{StandsForSide, StandsForWays, StandsForNear, MovesNear};
-    ghost use Rattle.channel_bench.specs.HeldBench.{WantsMemory};
+    ghost use Rattle.channel_bench.specs.HeldBench.{WantsMemory, heard_by};
     ghost use Rattle.station_laws.specs.InFlight.{BothWays, queueing_all};
 
     /// A station to which nothing came yet.
@@ -77,14 +80,15 @@ impl Side {
         alloc: Global,
         end: End,
         config: Config,
+        blocks: bool,
         seed: u64,
     ) -> Result<Side, OutOfMemory>
         requires { HasWindows config.params }
-        ensures { (w : BenchWords) → config ≡ config_of w → seed ≡ seed_at w end
+        ensures { (w : BenchWords) → config ≡ config_of w → blocks ≡ is_some w.checks → seed ≡ seed_at w end
             → IfOk result (λ side. StandsForSide end side (new_side w end)) }
     {
         let station = of_fitting_windows(Station::new(alloc, config, seed))?;
-        let ear = Ear::new(alloc)?;
+        let ear = Ear::new(alloc, blocks)?;
         Ok(Side {
             alloc,
             end,
@@ -257,12 +261,12 @@ impl Side {
         samples: &[i16],
     ) -> Result<Vec<Candidate>, OutOfMemory>
         requires stands { (end : End) × (side : SideState) × StandsForSide end self.old side }
-        requires few { self.old.ear.count < 2 ^ 47 }
+        requires few { heard_by self.old.ear < 2 ^ 47 }
         requires tick { tick < 2 ^ 32 }
         requires samples { length samples.now ≡ 96 }
         ensures heard { (end : End) (side : SideState) → StandsForSide end self.old side → IfOk result (λ items.
             StandsForSide end self.new (with_samples samples.now (sent_in tick sender.now.air.sent) side)
-            × AreReady (side.samples ++ samples.now) items.items) }
+            × AreReady side.blocks (side.samples ++ samples.now) items.items) }
         ensures lengths { IfOk result (λ items. All (λ item. HasFrameLength item.octets) items.items) }
         ensures wanted { OnErr result (self.new.memory.refused ≡ true) }
     {
@@ -300,13 +304,55 @@ impl Side {
         if shared.has_ended() {
             return Ok(());
         }
-        let Some(place) = SentAt::first_match(&self.towards[self.matched..], item) else {
+        let Some(number) = self.number_of(shared, item) else {
             shared.end_by_stray(&mut self.memory, item.octets.as_slice())?;
             return Ok(());
         };
-        let number = self.matched + place;
         self.hear_sent(shared, number, item.octets.as_slice())?;
         Ok(())
+    }
+
+    /// The number of the frame that a heard one is: that of the first match among those that were sent, or, where blocks
+    /// are read, that of the frame whose sending has not ended yet.
+    fn number_of(&self, shared: &Shared, item: &Candidate) -> Option<usize>
+        ensures number { (end : End) (n : Near) → StandsForNear end self.now shared.now n
+            → result ≡ number_of end item.now n }
+        ensures within { IfSome result (λ number. number ≤ length self.now.towards.items) }
+    {
+        match SentAt::first_match(self.unmatched(), self.ear.reads_blocks(), item) {
+            Some(place) => Some(self.matched + place),
+            None => self.coming_number(shared, item),
+        }
+    }
+
+    /// The number of the frame whose sending has not ended yet, if a heard one can be that.
+    fn coming_number(&self, shared: &Shared, item: &Candidate) -> Option<usize>
+        ensures number { (end : End) (n : Near) → StandsForNear end self.now shared.now n
+            → result ≡ or_coming (is_coming end item.now n) (length n.side.towards) None }
+        ensures within { IfSome result (λ number. number ≡ length self.now.towards.items) }
+    {
+        if self.is_coming(shared, item) {
+            return Some(self.towards.len());
+        }
+        None
+    }
+
+    /// Blocks are read, and a heard frame has the octets of the one whose sending has not ended yet.
+    fn is_coming(&self, shared: &Shared, item: &Candidate) -> bool
+        ensures { (end : End) (n : Near) → StandsForNear end self.now shared.now n → result ≡ is_coming end item.now n }
+    {
+        let number = self.towards.len();
+        let octets = item.octets.as_slice();
+        self.ear.reads_blocks()
+            && (self.matched <= number && shared.flight.has_queued(self.end, number, octets))
+    }
+
+    /// The frames that were sent after the one that was matched last.
+    fn unmatched(&self) -> &[SentAt]
+        ensures frames { result.now ≡ drop self.now.matched self.now.towards.items }
+        ensures count { length result.now ≡ length self.now.towards.items - self.now.matched }
+    {
+        &self.towards[self.matched.min(self.towards.len())..]
     }
 
     /// The station hears the frame of a number.
@@ -317,7 +363,7 @@ impl Side {
         octets: &[u8],
     ) -> Result<(), OutOfMemory>
         requires length { HasFrameLength octets.now }
-        requires number { number < length self.old.towards.items }
+        requires number { number ≤ length self.old.towards.items }
         ensures step { (end : End) (n : Near) → StandsForNear end self.old shared.old n → n.common.trouble ≡ None
             → OnOk result ((next : Near) × IsStep end (OffAir octets.now) (Some number) (with_matched number n) next
             × StandsForNear end self.new shared.new next) }
@@ -334,7 +380,7 @@ impl Side {
     pub(crate) fn passed_below(&self) -> usize
         ensures { (end : End) (side : SideState) → StandsForSide end self.now side → result ≡ passed_below side }
     {
-        self.matched + SentAt::count_passed(&self.towards[self.matched..], self.ear.mark())
+        self.matched + SentAt::count_passed(self.unmatched(), self.ear.mark())
     }
 
     /// What a step of the station gave: the host program is told, and frames of links join the queue.

@@ -3,6 +3,7 @@ ghost use Rattle.std.specs.Prelude.{◌≡◌, IfOk};
 ghost use Rattle.channel_bench.specs.Words.{text_of};
 ghost use Rattle.channel_access.specs.Words.{generator_of};
 
+use channel_access::CheckOctets;
 use rand_core::utils::NextWord;
 use rand_pcg::Lcg64Xsh32;
 use std::alloc::Global;
@@ -23,6 +24,9 @@ pub struct BenchWords {
     pub full: bool,
     /// Both stations call modulo 128.
     pub wide: bool,
+    /// So many check octets are sent around each frame that fits into a block of FX.25, and both stations read blocks; or
+    /// all is sent and heard plainly.
+    pub checks: Option<CheckOctets>,
 }
 
 /// The text of a host program: so many octets, each the low eight bits of a word.

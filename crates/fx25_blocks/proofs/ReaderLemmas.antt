@@ -32,7 +32,7 @@ last_64 bits least =
     let is : length bits ≡ 64 + n = omega arith in
     ap (λ k. drop k (after_zeros bits)) is ∙ drop-append-add (replicate 64 false) bits n
 
-tag_told : (bits : List Bool) (tag : ℕ) → EndsTag bits tag
+pub tag_told : (bits : List Bool) (tag : ℕ) → EndsTag bits tag
     → (64 ≤ length bits) × (differing (drop (length bits - 64) bits) (tag_bits tag) ≤ 12)
 tag_told bits tag ends =
     let size : length bits ≡ length ends.0 + 64 = ap length ends.2 ∙ length-append ends.0 ends.1
@@ -41,7 +41,7 @@ tag_told bits tag ends =
     ∙ drop_at ends.0 ends.1 (length bits - 64) (omega arith) in
     (omega arith, subst (λ xs. differing xs (tag_bits tag) ≤ 12) (sym heard) ends.3.near)
 
-tag_from : (bits : List Bool) (tag : ℕ) → 64 ≤ length bits
+pub tag_from : (bits : List Bool) (tag : ℕ) → 64 ≤ length bits
     → differing (drop (length bits - 64) bits) (tag_bits tag) ≤ 12 → EndsTag bits tag
 tag_from bits tag least near =
     let n : ℕ = length bits - 64 in (
@@ -53,7 +53,7 @@ tag_from bits tag least near =
 
 -- ---- one bit more
 
-length-after_zeros : (bits : List Bool) → length (after_zeros bits) ≡ 64 + length bits
+pub length-after_zeros : (bits : List Bool) → length (after_zeros bits) ≡ 64 + length bits
 unfolding after_zeros
 length-after_zeros bits = length-append (replicate 64 false) bits
 
@@ -62,7 +62,7 @@ unfolding after_zeros
 after_zeros-push bits bit = sym (append_assoc (replicate 64 false) bits (bit ∷ []))
 
 -- the last 64 bits after one more
-register_push : (bits : List Bool) (bit : Bool)
+pub register_push : (bits : List Bool) (bit : Bool)
     → drop (length bits + 1) (after_zeros (bits ++ bit ∷ []))
     ≡ drop 1 (drop (length bits) (after_zeros bits)) ++ bit ∷ []
 register_push bits bit =
@@ -74,7 +74,7 @@ register_push bits bit =
     ∙ ap (drop 1) (drop-append-le n zeros (bit ∷ []) (omega arith))
     ∙ drop-append-le 1 (drop n zeros) (bit ∷ []) some
 
-no_tag_of_none : (n tag : ℕ) → ¬ EndsTag (take n []) tag
+pub no_tag_of_none : (n tag : ℕ) → ¬ EndsTag (take n []) tag
 no_tag_of_none n tag ends =
     let none : List Bool = [] in
     let told = tag_told (take n none) tag ends in

@@ -12,7 +12,7 @@ use Rattle.std.specs.Int.{bit_at}
 use Rattle.std.specs.Int.Bits.{xor_zero_l}
 use Rattle.std.specs.Int.RustNames.{count_ones}
 use lib.Count.{ones_step}
-use Rattle.hdlc_framer.proofs.BitLemmas.{low_bits-with_zero}
+use Rattle.hdlc_framer.proofs.BitLemmas.{low_bits-push_one, low_bits-with_zero}
 
 -- the lowest bit of a sum
 xor_lowest : (a b : ℕ) → bit_xor a b % 2 ≡ (a % 2 + b % 2) % 2
@@ -62,21 +62,10 @@ pub wrong_bits_are : (a b : ℕ) → a < 2 ^ 64 → b < 2 ^ 64
 unfolding bits_of_64
 wrong_bits_are a b below also = ones_differing 64 a b below also
 
--- a 1 above the lowest bits
-push_one : (count n : ℕ) → n < 2 ^ count → low_bits (suc count) (n + 2 ^ count) ≡ low_bits count n ++ true ∷ []
-push_one zero n below = ap (λ b. b ∷ []) (eq-eqb ((n + 2 ^ 0) % 2) 1 (omega arith))
-push_one (suc count) n below =
-    let double = pow-suc 2 count in
-    let odd : (n + 2 ^ suc count) % 2 ≡ n % 2 = omega arith in
-    let half : (n + 2 ^ suc count) / 2 ≡ n / 2 + 2 ^ count = omega arith in
-    ap (λ m. eqb m 1 ∷ low_bits (suc count) ((n + 2 ^ suc count) / 2)) odd
-    ∙ ap (λ m. eqb (n % 2) 1 ∷ low_bits (suc count) m) half
-    ∙ ap (λ xs. eqb (n % 2) 1 ∷ xs) (push_one count (n / 2) (omega arith))
-
 pub shift_one : (register : ℕ) → register < 2 ^ 64
     → bits_of_64 (register / 2 + 2 ^ 63) ≡ drop 1 (bits_of_64 register) ++ true ∷ []
 unfolding bits_of_64
-shift_one register below = push_one 63 (register / 2) (omega arith)
+shift_one register below = low_bits-push_one 63 (register / 2) (omega arith)
 
 pub shift_zero : (register : ℕ) → register < 2 ^ 64
     → bits_of_64 (register / 2) ≡ drop 1 (bits_of_64 register) ++ false ∷ []

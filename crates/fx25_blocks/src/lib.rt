@@ -27,4 +27,5 @@ pub use block_reader::BlockReader;
 pub use laws::{block_is_heard, one_block_ends, one_stretch_is_repaired, tags_are_apart};
 pub use opening::BlockFrame;
 pub use tag_choice::tag_for;
+pub use tag_search::{near_tag, shifted};
 pub use tags::{TAGS, block_length, check_count, data_count, tag_value};

@@ -12,7 +12,8 @@ const MOST_WRONG_BITS: u32 = 12;
 // The place of the last bit that came.
 const LAST_BIT: u64 = 0x8000_0000_0000_0000;
 
-// The number of the tag from which 64 bits differ in at most 12, or 0 if there is none.
+/// The number of the tag from which 64 bits differ in at most 12, or 0 if there is none. The least significant bit came
+/// first.
 pub fn near_tag(register: u64) -> u8
     ensures near { (tag : ℕ) → IsTag tag → ((result ≡ tag) ↔ (differing (bits_of_64 register) (tag_bits tag) ≤ 12)) }
     ensures number { result ≤ 11 }
@@ -36,7 +37,7 @@ pub fn wrong_bits(register: u64, value: u64) -> u32
     (register ^ value).count_ones()
 }
 
-// The last 64 bits after one bit more.
+/// The last 64 bits after one bit more.
 pub fn shifted(register: u64, bit: bool) -> u64
     ensures { bits_of_64 result ≡ drop 1 (bits_of_64 register) ++ bit ∷ [] }
 {

@@ -1,4 +1,5 @@
 pub mod Common
+pub mod RestingLemmas
 pub mod MergingLemmas
 pub mod HeardLemmas
 pub mod LaneLemmas

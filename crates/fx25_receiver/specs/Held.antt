@@ -4,23 +4,27 @@ use Rattle.tone_table.specs.declared.tone.Tone.{Tone}
 use Rattle.nrzi_bits.specs.Line.{bits_of, last_tone}
 use Rattle.offset_slicers.specs.Windows.{tones_at}
 use Rattle.slicer_bank.specs.Held.{last_seven}
-use Rattle.hdlc_framer.specs.Held.{Held as HeldDeframer, StandsFor as DeframerStandsFor}
-use Rattle.fx25_blocks.specs.Held.{StandsFor as ReaderStandsFor}
-use Rattle.fx25_blocks.specs.declared.block_reader.BlockReader.{BlockReader}
+use Rattle.hdlc_framer.specs.Held.{Held as HeldDeframer}
 use Rattle.fx25_receiver.specs.declared.heard.Heard.{Heard}
+use Rattle.fx25_receiver.specs.declared.resting_reader.RestingReader.{RestingReader}
 use Rattle.fx25_receiver.specs.Heard.{AreHeard}
+use Rattle.hdlc_framer.specs.Late.{StandsFor as LateStandsFor}
 use Rattle.fx25_receiver.specs.Merged.{merged, reach}
+use Rattle.fx25_receiver.specs.Resting.{StandsFor as ReaderStandsFor}
 
--- the tone of the last window, the deframer of plain frames, and the reader of blocks
+-- the tone of the last window, the deframer of plain frames with the last eight bits and how many of them wait for it,
+-- and the reader of blocks
 pub record HeldLane : Type 0 where
   pub line : Tone
   pub deframer : HeldDeframer
-  pub reader : BlockReader
+  pub last : ℕ
+  pub waiting : ℕ
+  pub reader : RestingReader
 
 -- the lane has taken windows of these tones
 pub record LaneStandsFor (held : HeldLane) (tones : List Tone) : Type 0 where
   pub line : held.line ≡ last_tone tones
-  pub deframer : DeframerStandsFor held.deframer (bits_of tones)
+  pub plain : LateStandsFor held.deframer held.last held.waiting (bits_of tones)
   pub reader : ReaderStandsFor held.reader (bits_of tones)
 
 -- each lane has taken the windows at its offset that lie in these samples

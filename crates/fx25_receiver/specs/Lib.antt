@@ -1,5 +1,6 @@
 pub mod Heard
 pub mod Merged
+pub mod Resting
 pub mod Held
 pub mod Coming
 pub mod Hearing

@@ -12,8 +12,9 @@ ghost use Rattle.fx25_blocks.specs.Coming.{IsBlockComing};
 ghost use Rattle.fx25_receiver.specs.Coming.{HearsBlock};
 ghost use Rattle.fx25_receiver.specs.Held.{LaneStandsFor, LanesStandFor};
 
-use fx25_blocks::{BlockFrame, BlockReader};
-use hdlc_framer::{Deframer, Event};
+use crate::resting_reader::RestingReader;
+use fx25_blocks::BlockFrame;
+use hdlc_framer::LateDeframer;
 use nrzi_bits::NrziIn;
 use std::alloc::Global;
 use std::marker::Model;
@@ -27,8 +28,8 @@ const LANES: u64 = 8;
 #[derive(Drop)]
 pub struct Lane {
     line: NrziIn,
-    deframer: Deframer,
-    reader: BlockReader,
+    plain: LateDeframer,
+    reader: RestingReader,
 }
 
 impl Model for Lane {
@@ -36,7 +37,13 @@ impl Model for Lane {
 
     ghost Value = { HeldLane };
 
-    ghost view = { λ s. record { line = s.line; deframer = s.deframer; reader = s.reader } };
+    ghost view = { λ s. record {
+      line = s.line;
+      deframer = s.plain.deframer;
+      last = s.plain.last;
+      waiting = s.plain.waiting;
+      reader = s.reader;
+    } };
 }
 
 impl Lane {
@@ -46,8 +53,8 @@ impl Lane {
     {
         Lane {
             line: NrziIn::new(),
-            deframer: Deframer::new(),
-            reader: BlockReader::new(),
+            plain: LateDeframer::new(),
+            reader: RestingReader::new(),
         }
     }
 
@@ -65,7 +72,7 @@ impl Lane {
     {
         let bit = self.line.step(tone);
         self.reader.push(bit);
-        self.deframer.push(bit) == Event::Frame
+        self.plain.push(bit)
     }
 
     /// The octets of the plain frame that the last tone ended.
@@ -74,7 +81,7 @@ impl Lane {
         ensures { (octets : List ℕ) → IsFrame octets → HoldsFrame self.now.deframer octets
             → result.now ≡ octets }
     {
-        self.deframer.octets()
+        self.plain.octets()
     }
 
     /// The frame of the block of a tag that the last tone ended.

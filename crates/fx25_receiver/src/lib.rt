@@ -12,6 +12,7 @@ mod lane;
 mod laws;
 mod merging;
 mod receiver;
+mod resting_reader;
 mod seven;
 #[cfg(test)]
 mod tests;

@@ -1,118 +1,214 @@
--- What is heard in answers, stretch by stretch: there is one list, and it grows with the answers.
-use Rattle.fx25_ring.proofs.Common.{◌≡◌, ℕ, ◌+◌, ◌<◌, ◌≤◌, ◌^◌, ℤ, List, [], ◌∷◌, ◌++◌, length, map, arith, refl, ap, sym, subst, ◌∙◌, inl, inr}
-use Rattle.fx25_ring.proofs.Common.{append_assoc, append-nil, fold, get_or, All, All-append, All-map, All-nil, Got, Item, Gap, Empty}
-use Rattle.fx25_ring.proofs.Common.{End, Candidate, HeardItem, AreMerged, HasFrameLength, Stretch, stretch_at, with_sample}
-use Rattle.fx25_ring.proofs.Common.{stretch_after, stretches_from, last_stretch, placed, AreHeardOf}
-use Rattle.fx25_ring.proofs.Common.{AreHeardInBlocks, ended_from, ended_stretches}
-use Rattle.std.proofs.lemmas.List.Elements.{All-tail}
+-- What is heard of a stretch, by the eight lanes or by all: there is one list of it, within the samples, and of frames.
+use Rattle.fx25_ring.proofs.Common.{◌≡◌, ℕ, ◌<◌, ◌≤◌, Bool, true, false, ℤ, List, [], ◌∷◌, ◌++◌, length, map, refl, ap, sym, subst}
+use Rattle.fx25_ring.proofs.Common.{◌∙◌, inl, inr, get_or, append-nil, All, All-head, All-map, All-tail, Got, Candidate}
+use Rattle.fx25_ring.proofs.Common.{HeardItem, HeldEight, HeldAll, HasFrameLength, Stretch, placed, AreHeardInOne, AreMergedBy}
+use Rattle.fx25_ring.proofs.Common.{AreDueInBlocks, AreHeardInBlocks, AreSettledInOne, settled_of, Tells, AreDueBy}
+use Rattle.fx25_ring.proofs.Common.{AreSettledIn, Option, None, Some, is_some}
+use Rattle.fx25_ring.proofs.Common.{last_stretch, stretches, ended_stretches}
+use Rattle.std.specs.Prelude.{filter, if◌then◌else◌, nat_lt}
+use Rattle.std.proofs.lemmas.Bool.{le-ltb, lt-ltb}
+use Rattle.std.proofs.lemmas.List.{append_cancel_left}
+use Rattle.std.proofs.lemmas.List.Elements.{All-filter, All-weaker, filter-append}
 use Rattle.hdlc_framer.specs.Frames.{IsFrame}
-use Rattle.fx25_receiver.specs.Heard.{IsHeard}
-use Rattle.fx25_receiver.proofs.MergedLists.{All-merged, merged_within, one_merged, some_merged}
+use Rattle.fx25_receiver.specs.Heard.{IsHeard as IsHeardByEight}
+use Rattle.fx25_receiver.proofs.MergedLists.{All-merged, merged_within as within_eight, none_merged as none_of_eight}
+use Rattle.fx25_receiver.proofs.MergedLists.{one_merged as one_of_eight, some_merged as some_of_eight}
+use Rattle.sensitive_blocks.specs.Heard.{IsHeard as IsHeardByAll, settled}
+use Rattle.sensitive_blocks.proofs.MergedLists.{given_begins, merged_within as within_all, none_merged as none_of_all}
+use Rattle.sensitive_blocks.proofs.MergedLists.{one_merged as one_of_all, some_merged as some_of_all}
+pub use Rattle.stretch_reader.proofs.HeardLemmas.{all_right}
+use Rattle.stretch_reader.proofs.HeardLemmas.{due_each, heard_all, one_heard, some_heard}
 
--- ---- the stretches of answers, and the last of them
+-- ---- of samples
 
-pub stretches_are : (s : Stretch) (a : List Got) → stretches_from s a ≡ ended_from s a ++ fold stretch_after s a ∷ []
-stretches_are s [] = refl
-stretches_are s (Item at x ∷ a) = stretches_are (with_sample s x) a
-stretches_are s (Gap from to ∷ a) = ap (λ l. s ∷ l) (stretches_are (stretch_at to) a)
-stretches_are s (Empty at ∷ a) = stretches_are s a
-stretches_are s (End total ∷ a) = stretches_are s a
+pub none_merged : (sensitive : Bool) → AreMergedBy sensitive [] []
+none_merged false = none_of_eight
+none_merged true = none_of_all
 
--- the stretch that an answer ends
-abbrev pub ended_by : Stretch → Got → List Stretch
-ended_by s (Item at x) = []
-ended_by s (Gap from to) = s ∷ []
-ended_by s (Empty at) = []
-ended_by s (End total) = []
+some_merged : (sensitive : Bool) (x : List ℤ) → (own : List HeardItem) × AreMergedBy sensitive x own
+some_merged false x = some_of_eight x
+some_merged true x = some_of_all x
 
-pub ended_more : (s : Stretch) (a : List Got) (got : Got)
-    → ended_from s (a ++ got ∷ []) ≡ ended_from s a ++ ended_by (fold stretch_after s a) got
-ended_more s [] (Item at x) = refl
-ended_more s [] (Gap from to) = refl
-ended_more s [] (Empty at) = refl
-ended_more s [] (End total) = refl
-ended_more s (Item at x ∷ a) got = ended_more (with_sample s x) a got
-ended_more s (Gap from to ∷ a) got = ap (λ l. s ∷ l) (ended_more (stretch_at to) a got)
-ended_more s (Empty at ∷ a) got = ended_more s a got
-ended_more s (End total ∷ a) got = ended_more s a got
+one_merged : (sensitive : Bool) (x : List ℤ) (items others : List HeardItem) → AreMergedBy sensitive x items
+    → AreMergedBy sensitive x others → items ≡ others
+one_merged false x items others h k = one_of_eight x items others h k
+one_merged true x items others h k = one_of_all x items others h k
 
--- ---- what is heard of stretches
+pub merged_within : (sensitive : Bool) (x : List ℤ) (items : List HeardItem) → AreMergedBy sensitive x items
+    → All (λ item. item.end ≤ length x) items
+merged_within false x items h = within_eight x items h
+merged_within true x items h = within_all x items h
 
-pub heard_append : (ss ts : List Stretch) (xs ys : List Candidate) → AreHeardOf ss xs → AreHeardOf ts ys
-    → AreHeardOf (ss ++ ts) (xs ++ ys)
-heard_append [] ts xs ys h k = subst (λ l. AreHeardOf ts (l ++ ys)) (sym h) k
-heard_append (s ∷ ss) ts xs ys h k = (
-  h.0,
-  h.1 ++ ys,
-  h.2,
-  heard_append ss ts h.1 ys h.3 k,
-  ap (λ l. l ++ ys) h.4 ∙ append_assoc (map (placed s.begin) h.0) h.1 ys,
-)
-
-pub heard_one : (s : Stretch) (own : List HeardItem) → AreMerged s.samples own
-    → AreHeardOf (s ∷ []) (map (placed s.begin) own)
-heard_one s own h = (own, [], h, refl, sym (append-nil (map (placed s.begin) own)))
-
--- what the ended stretches and the last one bring
-pub heard_all : (a : List Got) (earlier : List Candidate) (own : List HeardItem)
-    → AreHeardOf (ended_stretches a) earlier → AreMerged (last_stretch a).samples own
-    → AreHeardInBlocks a (earlier ++ map (placed (last_stretch a).begin) own)
-heard_all a earlier own h m =
-    let items : List Candidate = earlier ++ map (placed (last_stretch a).begin) own in
-    subst (λ l. AreHeardOf l items) (sym (stretches_are (stretch_at 0) a))
-    (heard_append (ended_stretches a) (last_stretch a ∷ []) earlier (map (placed (last_stretch a).begin) own) h
-    (heard_one (last_stretch a) own m))
-
--- ---- there is one list
-
-pub some_heard : (ss : List Stretch) → (items : List Candidate) × AreHeardOf ss items
-some_heard [] = ([], refl)
-some_heard (s ∷ ss) =
-    let own = some_merged s.samples in
-    let rest = some_heard ss in
-    (map (placed s.begin) own.0 ++ rest.0, (own.0, rest.0, own.1, rest.1, refl))
-
-pub one_heard : (ss : List Stretch) (items others : List Candidate) → AreHeardOf ss items → AreHeardOf ss others
-    → items ≡ others
-one_heard [] items others h k = h ∙ sym k
-one_heard (s ∷ ss) items others h k =
-    h.4 ∙ ap (λ l. map (placed s.begin) l ++ h.1) (one_merged s.samples h.0 k.0 h.2 k.2)
-    ∙ ap (λ l. map (placed s.begin) k.0 ++ l) (one_heard ss h.1 k.1 h.3 k.3) ∙ sym k.4
-
--- ---- what is heard is a frame, and ends within the samples
-
-pub all_right : {X : Type 0} (P : X → Type 0) (xs ys : List X) → All P (xs ++ ys) → All P ys
-all_right P [] ys h = h
-all_right P (x ∷ xs) ys h = all_right P xs ys (All-tail P x (xs ++ ys) h)
-
-pub ends_fit : (begin : ℕ) (x : List ℤ) (own more : List HeardItem) → AreMerged x (own ++ more)
-    → begin + length x < 2 ^ 64 → All (λ item. begin + item.end < 2 ^ 64) more
-ends_fit begin x own more h small k d l =
-    let within = all_right (λ item. item.end ≤ length x) own more (merged_within x (own ++ more) h) k d l in
-    omega arith
-
-frame_of : (x : List ℤ) (item : HeardItem) → IsHeard x item → IsFrame item.octets
-frame_of x item h = elim h.ends.ends [
+eight_frame : (x : List ℤ) (item : HeardItem) → IsHeardByEight x item → IsFrame item.octets
+eight_frame x item h = elim h.ends.ends [
   | inl plain ↦ plain.2.2
   | inr block ↦ block.1.carries.opens.is_frame
 ]
 
-module _ (P : Candidate → Type 0) (frames : (item : Candidate) → IsFrame item.octets → P item) where
-  own_each : (s : Stretch) (own : List HeardItem) → AreMerged s.samples own → All P (map (placed s.begin) own)
+all_frame : (x : List ℤ) (item : HeardItem) → IsHeardByAll x item → IsFrame item.octets
+all_frame x item h = elim h.ends [
+  | inl plain ↦ plain.frame.2
+  | inr block ↦ block.block.carries.opens.is_frame
+]
+
+merged_frames : (sensitive : Bool) (x : List ℤ) (items : List HeardItem) → AreMergedBy sensitive x items
+    → All (λ item. IsFrame item.octets) items
+merged_frames false x items h =
+    let P : HeardItem → Type 0 = λ item. IsFrame item.octets in
+    subst (All P) (sym h.is)
+    (All-merged P [] h.heard (All-weaker (IsHeardByEight x) P (eight_frame x) h.heard h.are.each))
+merged_frames true x items h =
+    let P : HeardItem → Type 0 = λ item. IsFrame item.octets in
+    subst (All P) (sym h.is)
+    (All-merged P [] h.heard (All-weaker (IsHeardByAll x) P (all_frame x) h.heard h.are.each))
+
+-- ---- of what is settled
+
+-- what passes a test is the front of a list
+filter-all : {X : Type 0} (p : X → Bool) (xs : List X) → All (λ x. p x ≡ true) xs → filter p xs ≡ xs
+filter-all p [] h = refl
+filter-all p (x ∷ xs) h =
+    ap (λ b. if b then x ∷ filter p xs else filter p xs) (All-head (λ y. p y ≡ true) x xs h)
+    ∙ ap (λ l. x ∷ l) (filter-all p xs (All-tail (λ y. p y ≡ true) x xs h))
+
+filter-none : {X : Type 0} (p : X → Bool) (xs : List X) → All (λ x. p x ≡ false) xs → filter p xs ≡ []
+filter-none p [] h = refl
+filter-none p (x ∷ xs) h =
+    ap (λ b. if b then x ∷ filter p xs else filter p xs) (All-head (λ y. p y ≡ false) x xs h)
+    ∙ filter-none p xs (All-tail (λ y. p y ≡ false) x xs h)
+
+front_kept : (end : ℕ) (own more : List HeardItem) → All (λ item. item.end < end) own → All (λ item. end ≤ item.end) more
+    → filter (λ item. nat_lt item.end end) (own ++ more) ≡ own
+front_kept end own more early late =
+    let p : HeardItem → Bool = λ item. nat_lt item.end end in
+    filter-append p own more
+    ∙ ap (λ l. l ++ filter p more) (filter-all p own (λ k d l. below (get_or own k d) (early k d l)))
+    ∙ ap (λ l. own ++ l) (filter-none p more (λ k d l. above (get_or more k d) (late k d l)))
+    ∙ append-nil own
+  where
+    below : (item : HeardItem) → item.end < end → nat_lt item.end end ≡ true
+    below item h = lt-ltb item.end end h
+
+    above : (item : HeardItem) → end ≤ item.end → nat_lt item.end end ≡ false
+    above item h = le-ltb item.end end h
+
+-- what lanes gave is what is settled of what they hear
+pub tells_settled : (eight : HeldEight) (all : Option HeldAll) (x : List ℤ) (own : List HeardItem) → Tells eight all x own
+    → (whole : List HeardItem) × AreMergedBy (is_some all) x whole × (own ≡ settled_of (is_some all) x whole)
+tells_settled eight None x own h = (
+  own,
+  record { heard = h.taken.has_heard.heard; are = h.taken.has_heard.are; is = h.taken.has_heard.given_is },
+  refl,
+)
+tells_settled eight (Some all) x own h =
+    let whole = some_of_all x in
+    let begins = given_begins all x own whole.0 h whole.1 in (
+      whole.0,
+      whole.1,
+      sym (ap (filter (λ item. nat_lt item.end (settled (length x)))) begins.is
+          ∙ front_kept (settled (length x)) own begins.more begins.early begins.late),
+    )
+
+settled_all : (P : HeardItem → Type 0) (sensitive : Bool) (x : List ℤ) (items : List HeardItem) → All P items
+    → All P (settled_of sensitive x items)
+settled_all P false x items h = h
+settled_all P true x items h = All-filter (λ item. nat_lt item.end (settled (length x))) P items h
+
+pub tells_within : (eight : HeldEight) (all : Option HeldAll) (x : List ℤ) (own : List HeardItem) → Tells eight all x own
+    → All (λ item. item.end ≤ length x) own
+tells_within eight all x own h =
+    let whole = tells_settled eight all x own h in
+    subst (All (λ item. item.end ≤ length x)) (sym whole.2)
+    (settled_all (λ item. item.end ≤ length x) (is_some all) x whole.0 (merged_within (is_some all) x whole.0 whole.1))
+
+-- ---- of a stretch
+
+one_in_one : (sensitive : Bool) (s : Stretch) (items others : List Candidate) → AreHeardInOne sensitive s items
+    → AreHeardInOne sensitive s others → items ≡ others
+one_in_one sensitive s items others h k =
+    h.2 ∙ ap (map (placed s.begin)) (one_merged sensitive s.samples h.0 k.0 h.1 k.1) ∙ sym k.2
+
+one_settled : (sensitive : Bool) (s : Stretch) (items others : List Candidate) → AreSettledInOne sensitive s items
+    → AreSettledInOne sensitive s others → items ≡ others
+one_settled sensitive s items others h k =
+    h.2 ∙ ap (λ l. map (placed s.begin) (settled_of sensitive s.samples l)) (one_merged sensitive s.samples h.0 k.0 h.1 k.1)
+    ∙ sym k.2
+
+-- ---- of answers
+
+pub some_in_answers : (sensitive : Bool) (answers : List Got)
+    → (items : List Candidate) × AreHeardInBlocks sensitive answers items
+some_in_answers sensitive answers =
+    some_heard (AreHeardInOne sensitive)
+    (λ (s : Stretch). let own = some_merged sensitive s.samples in (map (placed s.begin) own.0, (own.0, own.1, refl)))
+    (stretches answers)
+
+pub one_in_answers : (sensitive : Bool) (answers : List Got) (items others : List Candidate)
+    → AreHeardInBlocks sensitive answers items → AreHeardInBlocks sensitive answers others → items ≡ others
+one_in_answers sensitive answers =
+    one_heard (AreHeardInOne sensitive) (one_in_one sensitive) (stretches answers)
+
+one_by_answers : (sensitive : Bool) (answers : List Got) (items others : List Candidate)
+    → AreSettledIn (AreHeardInOne sensitive) (AreSettledInOne sensitive) answers items
+    → AreSettledIn (AreHeardInOne sensitive) (AreSettledInOne sensitive) answers others → items ≡ others
+one_by_answers sensitive answers items others h k =
+    h.are
+    ∙ ap (λ l. l ++ h.own)
+    (one_heard (AreHeardInOne sensitive) (one_in_one sensitive) (ended_stretches answers) h.earlier k.earlier h.ended k.ended)
+    ∙ ap (λ l. k.earlier ++ l) (one_settled sensitive (last_stretch answers) h.own k.own h.settled k.settled) ∙ sym k.are
+
+one_by_now : (sensitive ended : Bool) (answers : List Got) (items others : List Candidate)
+    → AreDueBy (AreHeardInOne sensitive) (AreSettledInOne sensitive) ended answers items
+    → AreDueBy (AreHeardInOne sensitive) (AreSettledInOne sensitive) ended answers others → items ≡ others
+one_by_now sensitive false answers items others h k = one_by_answers sensitive answers items others h k
+one_by_now sensitive true answers items others h k = one_in_answers sensitive answers items others h k
+
+pub one_due : (sensitive ended : Bool) (before now : List Got) (items others : List Candidate)
+    → AreDueInBlocks sensitive ended before now items → AreDueInBlocks sensitive ended before now others
+    → items ≡ others
+one_due sensitive ended before now items others h k =
+    let same = one_by_answers sensitive before h.given k.given h.were k.were in
+    append_cancel_left k.given items others
+    (ap (λ l. l ++ items) (sym same)
+    ∙ one_by_now sensitive ended now (h.given ++ items) (k.given ++ others) h.are k.are)
+
+-- what the eight lanes hear is due at once
+at_once : (answers : List Got) (items : List Candidate)
+    → AreSettledIn (AreHeardInOne false) (AreSettledInOne false) answers items → AreHeardInBlocks false answers items
+at_once answers items h =
+    subst (AreHeardInBlocks false answers) (sym h.are)
+    (heard_all (AreHeardInOne false) answers h.earlier h.own h.ended h.settled)
+
+pub due_at_once : (before now : List Got) (items all : List Candidate) → AreDueInBlocks false false before now items
+    → AreHeardInBlocks false before all → AreHeardInBlocks false now (all ++ items)
+due_at_once before now items all h k =
+    let same = one_in_answers false before h.given all (at_once before h.given h.were) k in
+    subst (λ l. AreHeardInBlocks false now (l ++ items)) same (at_once now (h.given ++ items) h.are)
+
+-- ---- what is due is a frame
+
+module _ (P : Candidate → Type 0) (frames : (item : Candidate) → IsFrame item.octets → P item) (sensitive : Bool) where
+  own_each : (s : Stretch) (own : List HeardItem) → All (λ item. IsFrame item.octets) own
+      → All P (map (placed s.begin) own)
   own_each s own h =
-      let Q : HeardItem → Type 0 = λ item. P (placed s.begin item) in
-      All-map P (placed s.begin) own
-      (subst (All Q) (sym h.is)
-      (All-merged Q [] h.heard
-      (λ k d l. frames (placed s.begin (get_or h.heard k d)) (frame_of s.samples (get_or h.heard k d) (h.are.each k d l)))))
+      All-map P (placed s.begin) own (λ k d l. frames (placed s.begin (get_or own k d)) (h k d l))
 
-  pub heard_each : (ss : List Stretch) (items : List Candidate) → AreHeardOf ss items → All P items
-  heard_each [] items h = subst (All P) (sym h) (All-nil P)
-  heard_each (s ∷ ss) items h =
-      subst (All P) (sym h.4)
-      (All-append P (map (placed s.begin) h.0) h.1 (own_each s h.0 h.2) (heard_each ss h.1 h.3))
+  heard_frames : (s : Stretch) (items : List Candidate) → AreHeardInOne sensitive s items → All P items
+  heard_frames s items h =
+      subst (All P) (sym h.2) (own_each s h.0 (merged_frames sensitive s.samples h.0 h.1))
 
-pub heard_lengths : (ss : List Stretch) (items : List Candidate) → AreHeardOf ss items
-    → All (λ item. HasFrameLength item.octets) items
-heard_lengths = heard_each (λ item. HasFrameLength item.octets)
+  settled_frames : (s : Stretch) (items : List Candidate) → AreSettledInOne sensitive s items → All P items
+  settled_frames s items h =
+      subst (All P) (sym h.2)
+      (own_each s (settled_of sensitive s.samples h.0)
+      (settled_all (λ item. IsFrame item.octets) sensitive s.samples h.0 (merged_frames sensitive s.samples h.0 h.1)))
+
+  pub due_frames : (ended : Bool) (before now : List Got) (items : List Candidate)
+      → AreDueInBlocks sensitive ended before now items → All P items
+  due_frames ended before now items h =
+      due_each (AreHeardInOne sensitive) (AreSettledInOne sensitive) P heard_frames settled_frames ended before now items h
+
+pub due_lengths : (sensitive ended : Bool) (before now : List Got) (items : List Candidate)
+    → AreDueInBlocks sensitive ended before now items → All (λ item. HasFrameLength item.octets) items
+due_lengths = due_frames (λ item. HasFrameLength item.octets)
     (λ item frame. record { least = frame.least; most = frame.most })

@@ -1,6 +1,5 @@
 pub mod Common
 pub mod HeardLemmas
 pub mod PlacingLemmas
-pub mod GoingOn
-pub mod TurnLemmas
+pub mod LanesLemmas
 pub mod ReceiverLemmas

@@ -1,75 +1,96 @@
 -- What a receiver keeps that reads a ring, and what it stands for.
-use Rattle.std.specs.Prelude.{◌≡◌, ℕ, ◌+◌, Bool, false, List, [], ◌∷◌, ◌++◌, map}
+use Rattle.std.specs.Prelude.{◌≡◌, ℕ, ◌+◌, ◌<◌, ◌^◌, Bool, false, ℤ, List, map, Option, None, Some, IfSome, is_some}
 use Rattle.sample_ring.specs.declared.got.Got.{Got}
-use Rattle.sample_ring.specs.declared.got.Got.TheVariants.{Item, Gap, Empty, End}
+use Rattle.sample_ring.specs.declared.reader.Reader.{Reader}
 use Rattle.sample_ring.specs.Ends.{position_of}
 use Rattle.frame_merge.specs.declared.candidate.Candidate.{Candidate}
 use Rattle.slicer_bank.specs.Held.{StandsFor as BankStandsFor}
 use Rattle.slicer_bank.specs.RingLanes.{answers_of}
 use Rattle.slicer_bank.specs.RingTurns.{Leads}
-use Rattle.slicer_bank.specs.Stretches.{Stretch, stretch_at, with_sample, last_stretch}
-use Rattle.fx25_receiver.specs.Held.{StandsFor as ReceiverStandsFor}
+use Rattle.slicer_bank.specs.Stretches.{Stretch, last_stretch}
+use Rattle.fx25_receiver.specs.Held.{Held as HeldEight, StandsFor as EightStandFor}
 use Rattle.fx25_receiver.specs.declared.heard.Heard.{Heard}
+use Rattle.sensitive_blocks.specs.Held.{HeldReceiver as HeldAll, StandsFor as AllStandFor}
+use Rattle.stretch_reader.specs.Turns.{HaveHeard}
 use Rattle.fx25_ring.specs.declared.lanes.Lanes.{Lanes}
-use Rattle.fx25_ring.specs.HeardInBlocks.{placed, AreHeardOf}
+use Rattle.fx25_ring.specs.HeardInBlocks.{placed, AreHeardInOne, AreSettledInOne}
 
 -- the lanes and their reader, and whether memory was wanted or the ring has ended
 pub record HeldReceiver : Type 0 where
+  pub reader : Reader
   pub lanes : Lanes
   pub spent : Bool
 
 -- a receiver of these parts
-abbrev pub receiver_of : Lanes → Bool → HeldReceiver
-receiver_of lanes spent = record { lanes = lanes; spent = spent }
+abbrev pub receiver_of : Reader → Lanes → Bool → HeldReceiver
+receiver_of reader lanes spent = record { reader = reader; lanes = lanes; spent = spent }
 
 -- all that the reader of a receiver was answered
 abbrev pub block_answers : ℕ → HeldReceiver → List Got
-block_answers len receiver = answers_of len receiver.lanes.reader
+block_answers len receiver = answers_of len receiver.reader
+
+-- whether all lanes listen
+abbrev pub are_sensitive : Lanes → Bool
+are_sensitive lanes = is_some lanes.all
+
+abbrev pub sensitive_of_blocks : HeldReceiver → Bool
+sensitive_of_blocks receiver = are_sensitive receiver.lanes
 
 -- for how many flags in a row it listens
 abbrev pub flags_of_blocks : HeldReceiver → ℕ
 flags_of_blocks receiver = receiver.lanes.flags
 
+-- what tells the items has heard samples, and gave these of them
+abbrev pub Tells : HeldEight → Option HeldAll → List ℤ → List Heard → Type 0
+Tells eight None x own = EightStandFor eight x own
+Tells eight (Some all) x own = AllStandFor all x own
+
 -- the lanes have heard a stretch, and gave these items of it
-pub record StandsForStretch (lanes : Lanes) (stretch : Stretch) (own : List Heard) : Type 0 where
+pub record StandForStretch (lanes : Lanes) (stretch : Stretch) (items : List Candidate) : Type 0 where
   pub begin : lanes.begin ≡ stretch.begin
-  pub heard : ReceiverStandsFor lanes.receiver stretch.samples own
-  pub carrier : BankStandsFor lanes.bank stretch.samples
-
--- what listens for carriers is where what hears frames is, and the reader has come as far
-pub record AreInStep (lanes : Lanes) : Type 0 where
-  pub at : lanes.begin + lanes.receiver.position ≡ position_of lanes.reader
-  pub same : lanes.bank.position ≡ lanes.receiver.position
-
--- the stretches of answers that a gap has ended, the first of which is under way
-abbrev pub ended_from : Stretch → List Got → List Stretch
-ended_from stretch [] = []
-ended_from stretch (Item at x ∷ answers) = ended_from (with_sample stretch x) answers
-ended_from stretch (Gap from to ∷ answers) = stretch ∷ ended_from (stretch_at to) answers
-ended_from stretch (Empty at ∷ answers) = ended_from stretch answers
-ended_from stretch (End total ∷ answers) = ended_from stretch answers
-
-abbrev pub ended_stretches : List Got → List Stretch
-ended_stretches answers = ended_from (stretch_at 0) answers
-
--- the lanes have heard the last stretch of these answers, and gave these items of all of them
-pub record HaveHeard (answers : List Got) (lanes : Lanes) (given : List Candidate) : Type 0 where
-  pub earlier : List Candidate
   pub own : List Heard
-  pub ended : AreHeardOf (ended_stretches answers) earlier
-  pub stands : StandsForStretch lanes (last_stretch answers) own
-  pub given_is : given ≡ earlier ++ map (placed (last_stretch answers).begin) own
+  pub tells : Tells lanes.receiver lanes.all stretch.samples own
+  pub items_are : items ≡ map (placed stretch.begin) own
 
--- they have heard all that their reader was answered, which leads to its position
-pub record Listens (len : ℕ) (lanes : Lanes) (given : List Candidate) : Type 0 where
-  pub lead : Leads 0 (answers_of len lanes.reader) (position_of lanes.reader)
-  pub heard : HaveHeard (answers_of len lanes.reader) lanes given
+-- what listens for flags and for blocks that come in has heard a stretch
+pub record ListenTo (lanes : Lanes) (stretch : Stretch) : Type 0 where
+  pub flags : BankStandsFor lanes.bank stretch.samples
+  pub own : List Heard
+  pub blocks : EightStandFor lanes.receiver stretch.samples own
 
--- The lanes have heard all that their reader was answered. This is so after the end of the ring, too.
+-- the position of the next sample
+abbrev pub place_of : Lanes → ℕ
+place_of lanes = lanes.begin + lanes.receiver.position
+
+-- all lanes have come as far
+pub record AreTogether (lanes : Lanes) : Type 0 where
+  pub bank : lanes.bank.position ≡ lanes.receiver.position
+  pub all : IfSome lanes.all (λ all. all.follower.position ≡ lanes.receiver.position)
+
+-- so they have, and the reader, too
+pub record AreInStep (reader : Reader) (lanes : Lanes) : Type 0 where
+  pub at : place_of lanes ≡ position_of reader
+  pub room : position_of reader < 2 ^ 48
+  pub together : AreTogether lanes
+
+-- The lanes by which other stations are heard have heard all that their reader was answered, which leads to its position.
+-- This is so after the end of the ring, too.
+pub record ListenToReader (len : ℕ) (reader : Reader) (lanes : Lanes) : Type 0 where
+  pub lead : Leads 0 (answers_of len reader) (position_of reader)
+  pub listen : ListenTo lanes (last_stretch (answers_of len reader))
+
 abbrev pub BlockLanesListen : ℕ → HeldReceiver → Type 0
-BlockLanesListen len receiver = (given : List Candidate) × Listens len receiver.lanes given
+BlockLanesListen len receiver = ListenToReader len receiver.reader receiver.lanes
+
+-- the lanes have heard all that their reader was answered, and gave these items of it
+abbrev pub HaveHeardAll : ℕ → HeldReceiver → List Candidate → Type 0
+HaveHeardAll len receiver given =
+    HaveHeard (AreHeardInOne (sensitive_of_blocks receiver)) (AreSettledInOne (sensitive_of_blocks receiver))
+    (StandForStretch receiver.lanes) (block_answers len receiver) given
 
 -- so they have, the ring has not ended, and all memory that was wanted was given
 pub record BlocksHeard (len : ℕ) (receiver : HeldReceiver) : Type 0 where
   pub spent : receiver.spent ≡ false
   pub listens : BlockLanesListen len receiver
+  pub given : List Candidate
+  pub heard : HaveHeardAll len receiver given

@@ -92,7 +92,7 @@ low_bits-push_zero zero n below = ap (λ b. b ∷ []) (ne_eqb (n % 2) 1 (omega a
 low_bits-push_zero (suc count) n below =
     ap (λ xs. eqb (n % 2) 1 ∷ xs) (low_bits-push_zero count (n / 2) (omega (arith, pow-suc 2 count)))
 
-low_bits-push_one : (count n : ℕ) → n < 2 ^ count → low_bits (suc count) (n + 2 ^ count) ≡ low_bits count n ++ true ∷ []
+pub low_bits-push_one : (count n : ℕ) → n < 2 ^ count → low_bits (suc count) (n + 2 ^ count) ≡ low_bits count n ++ true ∷ []
 low_bits-push_one zero n below = ap (λ b. b ∷ []) (eq-eqb ((n + 2 ^ 0) % 2) 1 (omega arith))
 low_bits-push_one (suc count) n below =
     let double = pow-suc 2 count in

@@ -11,3 +11,5 @@ pub mod StuffLemmas
 pub mod BusyLemmas
 mod Examples
 pub mod OctetLemmas
+pub mod FrameTests
+pub mod LateLemmas

@@ -4,6 +4,7 @@ pub mod Stuffing
 pub mod FrameLength
 pub mod Frames
 pub mod Held
+pub mod Late
 pub mod Events
 pub mod Carrier
 pub mod HeldCarrier

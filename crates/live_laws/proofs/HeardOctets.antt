@@ -7,9 +7,9 @@ use Rattle.std.proofs.lemmas.List.Elements.{recursion_from_All}
 use Rattle.link_world.proofs.law.Each.{each_weaker}
 use Rattle.frame_merge.specs.Merged.{merged, merged_after, repeats}
 use Rattle.slicer_bank.specs.HeardOnRing.{lane_of}
-use Rattle.slicer_bank.specs.Stretches.{Stretch, stretches}
+use Rattle.slicer_bank.specs.Stretches.{Stretch}
 use Rattle.fx25_ring.specs.HeardInBlocks.{AreDueInBlocks}
-use Rattle.fx25_ring.proofs.HeardLemmas.{heard_each}
+use Rattle.fx25_ring.proofs.HeardLemmas.{due_frames as due_of_frames}
 use Rattle.ring_receiver.specs.HeardByAll.{AreDueBy as AreDueByTones, IsHeardBy}
 use Rattle.live_receiver.specs.declared.listening.Listening.{Listening}
 use Rattle.live_receiver.specs.declared.listening.Listening.TheVariants.{Bell202, ShortWave, Fx25}
@@ -90,22 +90,19 @@ due_of_wave sensitive true before now items due =
     (filter_frames _ (merged due.candidates) (wave_frames sensitive now due.candidates due.are))
 
 -- where blocks are read
-each_last : (P : Candidate → Type 0) (first second : List Candidate) → Each P (first ++ second) → Each P second
-each_last P [] second h = h
-each_last P (item ∷ first) second h = each_last P first second h.1
-
-due_of_blocks : (before now : List Got) (items : List Candidate) → AreDueInBlocks before now items
-    → Each HasFrame items
-due_of_blocks before now items due =
-    each_last HasFrame due.given items (recursion_from_All HasFrame (due.given ++ items)
-    (heard_each HasFrame (λ item frame. frame.octets_fit) (stretches now) (due.given ++ items) due.are))
+due_of_blocks : (sensitive ended : Bool) (before now : List Got) (items : List Candidate)
+    → AreDueInBlocks sensitive ended before now items → Each HasFrame items
+due_of_blocks sensitive ended before now items due =
+    recursion_from_All HasFrame items
+    (due_of_frames HasFrame (λ item frame. frame.octets_fit) sensitive ended before now items due)
 
 pub due_frames : (listening : Listening) (ended : Bool) (before now : List (List Got)) (items : List Candidate)
     → AreDueBy listening ended before now items → Each HasFrame items
 due_frames (Bell202 sensitive) ended before now items due = due_of_tones sensitive ended before now items due
 due_frames (ShortWave sensitive) ended before now items due =
     due_of_wave sensitive ended (lane_of before 0) (lane_of now 0) items due
-due_frames Fx25 ended before now items due = due_of_blocks (lane_of before 0) (lane_of now 0) items due
+due_frames (Fx25 sensitive) ended before now items due =
+    due_of_blocks sensitive ended (lane_of before 0) (lane_of now 0) items due
 
 pub each_first : (P : Candidate → Type 0) (first second : List Candidate) → Each P (first ++ second) → Each P first
 each_first P [] second h = tt

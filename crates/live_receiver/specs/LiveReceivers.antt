@@ -8,7 +8,7 @@ use Rattle.slicer_bank.specs.declared.detection.Detection.{Detection}
 use Rattle.slicer_bank.specs.declared.detection.Detection.TheVariants.{Flags}
 use Rattle.slicer_bank.specs.RingLanes.{answers_of}
 use Rattle.ring_receiver.specs.HeldReceiver.{EightListen, Hears as HearsTones, readers_in as readers_of_tones}
-use Rattle.fx25_ring.specs.Held.{BlocksHeard, BlockLanesListen, flags_of_blocks}
+use Rattle.fx25_ring.specs.Held.{BlocksHeard, BlockLanesListen, flags_of_blocks, sensitive_of_blocks}
 use Rattle.live_receiver.specs.declared.listening.Listening.{Listening}
 use Rattle.live_receiver.specs.declared.listening.Listening.TheVariants.{Bell202, ShortWave, Fx25}
 use Rattle.live_receiver.specs.declared.receiver.LiveReceiver.{LiveReceiver}
@@ -19,7 +19,7 @@ use Rattle.live_receiver.specs.HeldHf.{HfHears, HfLanesListen, flags_of_hf, sens
 abbrev pub listening_of : LiveReceiver → Listening
 listening_of (OfBell202 receiver) = Bell202 receiver.sensitive
 listening_of (OfShortWave receiver) = ShortWave (sensitive_of_hf receiver)
-listening_of (OfFx25 receiver) = Fx25
+listening_of (OfFx25 receiver) = Fx25 (sensitive_of_blocks receiver)
 
 -- by what it hears other stations
 abbrev pub detection_of : LiveReceiver → Detection
@@ -31,7 +31,7 @@ detection_of (OfFx25 receiver) = Flags (flags_of_blocks receiver)
 abbrev pub readers_in : LiveReceiver → List Reader
 readers_in (OfBell202 receiver) = readers_of_tones receiver
 readers_in (OfShortWave receiver) = receiver.lanes.reader ∷ []
-readers_in (OfFx25 receiver) = receiver.lanes.reader ∷ []
+readers_in (OfFx25 receiver) = receiver.reader ∷ []
 
 -- their records
 abbrev pub records_in : LiveReceiver → List Track

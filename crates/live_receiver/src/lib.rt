@@ -1,4 +1,4 @@
-//! A receiver of a live station: it reads a ring of samples and hears Bell 202, with eight lanes or with all 26 or also
+//! A receiver of a live station: it reads a ring of samples and hears Bell 202, with eight lanes or with all 26, plainly or also
 //! in blocks of FX.25, or short wave at 300 bits a second, with 32 lanes or with all 59.
 //!
 //! On short wave the 32 lanes of an `HfBank`, and the 27 of nine banks if these listen, share one reader, and a gap starts

@@ -10,8 +10,8 @@ pub enum Listening {
     Bell202 { sensitive: bool },
     /// For short wave at 300 bits a second, with 32 lanes or, if it is sensitive, with the added ones, too.
     ShortWave { sensitive: bool },
-    /// For Bell 202 with eight lanes that read blocks of FX.25, too.
-    Fx25,
+    /// For Bell 202 with eight lanes or, if it is sensitive, with all 26, which read blocks of FX.25, too.
+    Fx25 { sensitive: bool },
 }
 
 /// The readers that a receiver wants: one for each of the eight lanes of Bell 202 and one more if the added lanes listen,
@@ -21,6 +21,6 @@ pub fn readers_wanted(listening: Listening) -> u8
 {
     match listening {
         Listening::Bell202 { sensitive } => ring_receiver::readers_wanted(sensitive),
-        Listening::ShortWave { .. } | Listening::Fx25 => 1,
+        Listening::ShortWave { .. } | Listening::Fx25 { .. } => 1,
     }
 }

@@ -58,10 +58,12 @@ impl LiveReceiver {
             (Listening::ShortWave { sensitive }, Detection::Flags(flags)) => {
                 Ok(LiveReceiver::ShortWave(HfReceiver::new(alloc, readers, flags, sensitive)?))
             }
-            (Listening::Fx25, Detection::Flags(flags)) => {
-                Ok(LiveReceiver::Fx25(Fx25RingReceiver::new(alloc, readers, flags)?))
+            (Listening::Fx25 { sensitive }, Detection::Flags(flags)) => Ok(LiveReceiver::Fx25(
+                Fx25RingReceiver::new(alloc, readers, flags, sensitive)?,
+            )),
+            (Listening::ShortWave { .. } | Listening::Fx25 { .. }, Detection::Tones) => {
+                unreachable!()
             }
-            (Listening::ShortWave { .. } | Listening::Fx25, Detection::Tones) => unreachable!(),
         }
     }
 

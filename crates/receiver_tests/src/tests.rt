@@ -3,6 +3,7 @@ mod bank;
 mod block_decoder;
 mod blocks;
 mod blocks_by_all_lanes;
+mod blocks_on_ring;
 mod decoder;
 mod hf_decoder;
 mod hf_receiver;

@@ -116,7 +116,7 @@ decimated_ends x =
     ∙ map_agree (λ k. filtered_at (x ++ zeros 15) (5 * k)) (λ k. filtered_at x (5 * k)) ((length x + 4) / 5)
     (λ k below. at_end x 15 (5 * k))
 
-fifths_stay : (count : ℕ) (x y : List ℤ) → count ≤ (length x - 15 + 4) / 5
+pub fifths_stay : (count : ℕ) (x y : List ℤ) → count ≤ (length x - 15 + 4) / 5
     → decimated_first count (x ++ y) ≡ decimated_first count x
 fifths_stay count x y few = map_agree (λ k. filtered_at (x ++ y) (5 * k)) (λ k. filtered_at x (5 * k)) count
     (λ k below. at_stays x y (5 * k) (omega arith))

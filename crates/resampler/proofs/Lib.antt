@@ -5,3 +5,4 @@ pub mod FilterLemmas
 pub mod StuffedLemmas
 pub mod FeedLemmas
 pub mod ConstantLemmas
+pub mod LineLemmas

@@ -1,3 +1,4 @@
 pub mod Taps
 pub mod Filtered
 pub mod Held
+pub mod Line

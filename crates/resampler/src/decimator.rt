@@ -6,8 +6,9 @@ ghost use Rattle.resampler.specs.Filtered.{decimated, decimated_settled};
 ghost use Rattle.resampler.specs.Held.{HasDecimated};
 
 use crate::feeding::feed_decimator;
+use crate::line::{filter_each_fifth, line_of};
 use crate::low_pass::AHEAD;
-use crate::window::{Window, sample_of_sum};
+use crate::window::{Window, sample_of_sum, window_at};
 use std::marker::Model;
 
 /// The samples between two that are given.
@@ -66,6 +67,24 @@ impl Decimator {
         ensures room { length out.new ≡ length out.old }
     {
         feed_decimator(self, block, out)
+    }
+
+    /// Takes a part of a block, as `feed` takes a block. No sample of it is moved more than once.
+    pub(crate) fn feed_part(&mut self, part: &[i16], out: &mut [i16]) -> usize
+        requires part { length part.now ≤ 480 }
+        requires room { length part.now ≤ length out.old }
+        ensures fed { (x : List ℤ) → HasDecimated self.old x → HasDecimated self.new (x ++ part.now)
+            × (decimated_settled (x ++ part.now) ≡ decimated_settled x ++ take result out.new) }
+        ensures count { result ≤ length part.now }
+        ensures room { length out.new ≡ length out.old }
+    {
+        let line = line_of(self.window.samples(), part);
+        let left = usize::from(self.left);
+        let count = (part.len() + 4).saturating_sub(left) / 5;
+        filter_each_fifth(&line, left + 1, &mut out[..count]);
+        self.window.replace(window_at(&line, part.len()));
+        self.left = (left + 5 * count - part.len()) as u8;
+        count
     }
 
     /// Puts the rest of the samples at 9600 a second at the front of `out`, as if zeros followed, and tells how many

@@ -1,4 +1,4 @@
-//! Blocks through a filter, sample by sample.
+//! Blocks through a filter.
 
 ghost use Rattle.std.specs.Prelude.{◌≡◌, ◌+◌, ◌<◌, ◌≤◌, ℤ, List, ◌++◌, length, take};
 ghost use Rattle.std.specs.Option.{option_to_list};
@@ -6,6 +6,7 @@ ghost use Rattle.resampler.specs.Filtered.{settled, decimated_settled};
 ghost use Rattle.resampler.specs.Held.{StandsFor, HasDecimated};
 
 use crate::decimator::Decimator;
+use crate::line::PART;
 use crate::low_pass::LowPass;
 
 /// Puts what a low-pass filter gives of a block at the front of `out`, and tells how many samples that is.
@@ -23,7 +24,7 @@ pub(crate) fn feed_low_pass(filter: &mut LowPass, block: &[i16], out: &mut [i16]
     count
 }
 
-/// So of a decimator.
+/// So of a decimator, part by part.
 pub(crate) fn feed_decimator(filter: &mut Decimator, block: &[i16], out: &mut [i16]) -> usize
     requires { length block.now ≤ length out.old }
     ensures fed { (x : List ℤ) → HasDecimated filter.old x → HasDecimated filter.new (x ++ block.now)
@@ -32,8 +33,8 @@ pub(crate) fn feed_decimator(filter: &mut Decimator, block: &[i16], out: &mut [i
     ensures room { length out.new ≡ length out.old }
 {
     let mut count = 0;
-    for sample in block {
-        count = put(out, count, filter.push(*sample));
+    for part in block.chunks(PART) {
+        count += filter.feed_part(part, &mut out[count..]);
     }
     count
 }

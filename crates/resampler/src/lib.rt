@@ -10,6 +10,7 @@ mod decimator;
 mod feeding;
 mod interpolator;
 mod laws;
+mod line;
 mod low_pass;
 mod window;
 

@@ -1,9 +1,11 @@
 //! The last 31 samples, and their sum with the taps of the filter.
 
-ghost use Rattle.std.specs.Prelude.{◌≡◌, ◌<◌, ◌≤◌, ◌*◌, ◌*ℤ◌, ℤ, List, [], ◌∷◌, ◌++◌, length, sum_by, unsigned_abs};
+ghost use Rattle.std.specs.Prelude.{◌≡◌, ◌+◌, ◌<◌, ◌≤◌, ◌*◌, ◌*ℤ◌, ℤ, List, [], ◌∷◌, ◌++◌, length, take, drop, sum_by};
+ghost use Rattle.std.specs.Prelude.{unsigned_abs};
 ghost use Rattle.offset_slicers.specs.Decision.{sum_below, product_of};
 ghost use Rattle.resampler.specs.Taps.{taps, sample_of_sum};
 ghost use Rattle.resampler.specs.Held.{last_window};
+ghost use Rattle.resampler.specs.Line.{sample_of_window};
 
 use std::marker::Model;
 
@@ -61,19 +63,48 @@ impl Window {
         }
     }
 
+    /// The samples in a row.
+    pub(crate) fn samples(&self) -> &[i16; 31]
+        ensures { result.now ≡ self.now }
+    {
+        window_at(&self.samples, self.begin)
+    }
+
+    /// Keeps these samples and none of those before.
+    pub(crate) fn replace(&mut self, samples: &[i16; 31])
+        ensures { self.new ≡ samples.now }
+    {
+        self.samples[..31].copy_from_slice(samples);
+        self.begin = 0;
+    }
+
     /// The sum of the samples, each times its tap. It is at most 45,744,128 in size.
     pub(crate) fn sum(&self) -> i32
         ensures sum { result ≡ sum_below (product_of self.now taps) 31 }
         ensures bound { unsigned_abs result ≤ 45744128 }
     {
-        sum_of_products(&self.samples[self.begin..self.begin + 31], &TAPS)
+        sum_of_products(self.samples(), &TAPS)
     }
+}
+
+/// The 31 samples from one of them on.
+pub(crate) fn window_at(samples: &[i16], begin: usize) -> &[i16; 31]
+    requires { begin + 31 ≤ length samples.now }
+    ensures { result.now ≡ take 31 (drop begin samples.now) }
+{
+    samples[begin..].first_chunk().unwrap()
+}
+
+/// The filtered sample of a window.
+pub(crate) fn sample_of_window(window: &[i16; 31]) -> i16
+    ensures { result ≡ sample_of_window window.now }
+{
+    sample_of_sum(sum_of_products(window, &TAPS))
 }
 
 /// The sum of the products of samples and weights, place by place. The sizes of the weights add up to so little that
 /// the sum fits into 32 bits, in which it is quick.
-fn sum_of_products(window: &[i16], weights: &[i16; 31]) -> i32
-    requires window { length window.now ≡ 31 }
+fn sum_of_products(window: &[i16; 31], weights: &[i16; 31]) -> i32
     requires weights { sum_by unsigned_abs weights.now ≤ 1396 }
     ensures sum { result ≡ sum_below (product_of window.now weights.now) 31 }
     ensures bound { unsigned_abs result ≤ 45744128 }

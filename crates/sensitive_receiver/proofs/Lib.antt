@@ -17,4 +17,3 @@ pub mod NameDecided
 pub mod PathDecided
 pub mod SomeList
 pub mod SignalLaw
-pub mod LateLemmas

@@ -3,7 +3,7 @@ use Rattle.std.specs.Prelude.{◌≡◌, ℕ, List}
 use Rattle.tone_table.specs.declared.tone.Tone.{Tone}
 use Rattle.nrzi_bits.specs.Line.{bits_of, last_tone}
 use Rattle.hdlc_framer.specs.Held.{Held as HeldDeframer}
-use Rattle.sensitive_receiver.specs.Late.{StandsFor as LateStandsFor}
+use Rattle.hdlc_framer.specs.Late.{StandsFor as LateStandsFor}
 
 -- the tone taken last, the deframer, the last eight bits, and how many of them it has not taken
 pub record HeldLane : Type 0 where

@@ -7,5 +7,4 @@ pub mod Found
 pub mod Hearing
 pub mod HeldDecoder
 pub mod Stray
-pub mod Late
 pub mod LateLanes

@@ -8,7 +8,7 @@ ghost use Rattle.hdlc_framer.specs.Frames.{IsFrame, EndsFrame};
 ghost use Rattle.hdlc_framer.specs.Held.{HoldsFrame};
 ghost use Rattle.sensitive_receiver.specs.LateLanes.{LaneStandsFor};
 
-use crate::late_deframer::LateDeframer;
+use hdlc_framer::LateDeframer;
 use nrzi_bits::NrziIn;
 use std::alloc::Global;
 use std::marker::Model;

@@ -17,7 +17,6 @@ mod added_bank;
 mod added_lane;
 mod decoder;
 mod hearing;
-mod late_deframer;
 mod late_lane;
 mod laws;
 mod merging;

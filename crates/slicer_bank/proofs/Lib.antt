@@ -1,5 +1,4 @@
 pub mod Common
-pub mod LaneLemmas
 pub mod CandidateLemmas
 pub mod SevenLemmas
 pub mod HeardLemmas

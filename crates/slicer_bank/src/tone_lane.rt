@@ -128,10 +128,7 @@ fn with_bit(bit: bool, above: u8) -> u8
 fn agree(before: Tone, tone: Tone) -> bool
     ensures { result ≡ same_tone before tone }
 {
-    match (before, tone) {
-        (Tone::Mark, Tone::Mark) | (Tone::Space, Tone::Space) => true,
-        (Tone::Mark, Tone::Space) | (Tone::Space, Tone::Mark) => false,
-    }
+    before == tone
 }
 
 /// So many lanes that have taken nothing.

@@ -5,9 +5,10 @@ ghost use Rattle.std.specs.List.{All};
 ghost use Rattle.tone_table.specs.declared.tone.Tone.{Tone};
 ghost use Rattle.nrzi_bits.specs.Line.{bits_of};
 ghost use Rattle.offset_slicers.specs.Decision.{tone_of};
-ghost use Rattle.hdlc_framer.specs.Held.{flags_asked};
+ghost use Rattle.hdlc_framer.specs.Frames.{IsFrame};
+ghost use Rattle.hdlc_framer.specs.Held.{HoldsFrame, flags_asked};
 ghost use Rattle.slicer_bank.specs.Held.{LaneStandsFor, last_seven};
-ghost use Rattle.slicer_bank.specs.Heard.{Adds, AddsAll, tones_in};
+ghost use Rattle.slicer_bank.specs.Heard.{Adds, AddsAll, candidate_at, tones_in};
 ghost use Rattle.slicer_bank.specs.Merging.{CanBePutPast};
 
 use crate::lane::Lane;
@@ -159,6 +160,28 @@ fn hear_tone(
     if !lane.push(tone) {
         return Ok(());
     }
+    add_frame(alloc, lane, offset, end, found)
+}
+
+/// Adds to `found` the frame that the last tone of a lane ended. Few tones end a frame, so this stays apart from what
+/// each tone costs.
+#[cold]
+fn add_frame(
+    alloc: Global,
+    lane: &Lane,
+    offset: u8,
+    end: u64,
+    found: &mut Vec<Candidate>,
+) -> Result<(), OutOfMemory>
+    requires lane { offset < 8 }
+    requires room { end < 2 ^ 64 - 1 }
+    requires holds { (octets : List ℕ) × IsFrame octets × HoldsFrame lane.now.deframer octets }
+    ensures found { OnOk result ((octets : List ℕ)
+        × (found.new.items ≡ found.old.items ++ candidate_at end offset octets ∷ [])
+        × ((other : List ℕ) → IsFrame other → HoldsFrame lane.now.deframer other → octets ≡ other)) }
+    ensures bounds { (position : ℕ) → position < end
+        → OnOk result (All (CanBePutPast position) found.old.items → All (CanBePutPast position) found.new.items) }
+{
     let octets = Octets::from_slice(alloc, lane.octets())?;
     found.push(Candidate {
         end,

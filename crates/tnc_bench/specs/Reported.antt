@@ -1,15 +1,27 @@
 -- What bench tells of a run that is over: its ticks, how many transmissions began and how many of them were lost, and
 -- for each set-up of A, and then of B, what its host gave and got.
-use Rattle.std.specs.Prelude.{◌≡◌, ℕ, ◌+◌, List, [], ◌∷◌, ◌++◌, length, codes, decimal}
+use Rattle.std.specs.Prelude.{◌≡◌, ℕ, ◌+◌, List, [], ◌∷◌, ◌++◌, length, codes, decimal, option_map}
 use Rattle.std.specs.Int.{to_be_bytes, w64}
 use Rattle.hex.specs.Hex.{encode_lower}
 use Rattle.tnc_base.specs.Hash.{fnv_1a}
+use Rattle.channel_access.specs.declared.modem.CheckOctets.{CheckOctets as ChannelOctets}
+use Rattle.channel_access.specs.declared.modem.CheckOctets.TheVariants.{Sixteen as ChannelSixteen}
+use Rattle.channel_access.specs.declared.modem.CheckOctets.TheVariants.{ThirtyTwo as ChannelThirtyTwo}
+use Rattle.channel_access.specs.declared.modem.CheckOctets.TheVariants.{SixtyFour as ChannelSixtyFour}
 use Rattle.channel_bench.specs.declared.report.SetUp.{SetUp}
 use Rattle.channel_bench.specs.declared.words.BenchWords.{BenchWords}
 use Rattle.channel_bench.specs.BenchRun.{IsOver}
 use Rattle.channel_bench.specs.KeepsOrder.{KeepsOrder}
 use Rattle.channel_bench.specs.Report.{Report}
 use Rattle.tnc_words.specs.declared.command.BenchOptions.{BenchOptions}
+use Rattle.tnc_words.specs.declared.command.CheckOctets.{CheckOctets}
+use Rattle.tnc_words.specs.declared.command.CheckOctets.TheVariants.{Sixteen, ThirtyTwo, SixtyFour}
+
+-- how many check octets the channel sends, as the options say it
+abbrev pub octets_sent : CheckOctets → ChannelOctets
+octets_sent Sixteen = ChannelSixteen
+octets_sent ThirtyTwo = ChannelThirtyTwo
+octets_sent SixtyFour = ChannelSixtyFour
 
 -- the run that the options ask for
 abbrev pub words_of : BenchOptions → BenchWords
@@ -20,6 +32,7 @@ words_of options = record {
   noise = options.noise;
   full = options.full;
   wide = options.wide;
+  checks = option_map octets_sent options.checks;
 }
 
 -- the FNV-1a hash of octets, in 16 lower-case hexadecimal digits

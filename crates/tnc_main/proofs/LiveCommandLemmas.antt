@@ -131,10 +131,11 @@ asked_on_wave sensitive text dcd h =
     let by = asked_by_flags text dcd h in
     subst (λ d. CanBeAskedBy (ShortWave sensitive) (detection_of d)) (sym by.1) (by.2, by.3)
 
-asked_of_blocks : (text : Option (List ℕ)) (dcd : Dcd) → HasDcd true text dcd → CanBeAskedBy Fx25 (detection_of dcd)
-asked_of_blocks text dcd h =
+asked_of_blocks : (sensitive : Bool) (text : Option (List ℕ)) (dcd : Dcd) → HasDcd true text dcd
+    → CanBeAskedBy (Fx25 sensitive) (detection_of dcd)
+asked_of_blocks sensitive text dcd h =
     let by = asked_by_flags text dcd h in
-    subst (λ d. CanBeAskedBy Fx25 (detection_of d)) (sym by.1) (by.2, by.3)
+    subst (λ d. CanBeAskedBy (Fx25 sensitive) (detection_of d)) (sym by.1) (by.2, by.3)
 
 can_be_asked : (hf sensitive : Bool) (checks text : Option (List ℕ)) (dcd : Dcd) (modem : StationModem)
     → HasDcd (hf || is_some checks) text dcd → IsStationModem hf sensitive checks modem
@@ -143,11 +144,11 @@ can_be_asked hf sensitive None text dcd (OfBell202 more) h is =
     asked_plainly text dcd (subst (λ b. HasDcd (b || false) text dcd) is.0 h)
 can_be_asked hf sensitive None text dcd (OfShortWave more) h is =
     asked_on_wave more text dcd (subst (λ b. HasDcd (b || false) text dcd) is.0 h)
-can_be_asked hf sensitive None text dcd (OfFx25 more) h is = absurd is
+can_be_asked hf sensitive None text dcd (OfFx25 sent more) h is = absurd is
 can_be_asked hf sensitive (Some checks) text dcd (OfBell202 more) h is = absurd is
 can_be_asked hf sensitive (Some checks) text dcd (OfShortWave more) h is = absurd is
-can_be_asked hf sensitive (Some checks) text dcd (OfFx25 more) h is =
-    asked_of_blocks text dcd (subst (λ b. HasDcd (b || true) text dcd) is.0 h)
+can_be_asked hf sensitive (Some checks) text dcd (OfFx25 sent more) h is =
+    asked_of_blocks more text dcd (subst (λ b. HasDcd (b || true) text dcd) is.0 h)
 
 -- the options of a live command that words ask for are within their ranges
 pub can_run_live : (words : List (List ℕ)) (live : LiveCommand) → Asks words (command_of live) → CanRunLive live

@@ -47,7 +47,7 @@ detection_of (ByFlags count) = Flags count
 abbrev pub listening_of : StationModem → Listening
 listening_of (OfBell202 sensitive) = Bell202 sensitive
 listening_of (OfShortWave sensitive) = ShortWave sensitive
-listening_of (OfFx25 checks) = Fx25
+listening_of (OfFx25 checks sensitive) = Fx25 sensitive
 
 abbrev pub octets_sent : CheckOctets → ChannelOctets
 octets_sent Sixteen = ChannelSixteen
@@ -57,8 +57,8 @@ octets_sent SixtyFour = ChannelSixtyFour
 abbrev pub sending_of : StationModem → Modem
 sending_of (OfBell202 sensitive) = SendsBell202
 sending_of (OfShortWave sensitive) = SendsShortWave
-sending_of (OfFx25 None) = SendsBell202
-sending_of (OfFx25 (Some checks)) = SendsFx25 (octets_sent checks)
+sending_of (OfFx25 None sensitive) = SendsBell202
+sending_of (OfFx25 (Some checks) sensitive) = SendsFx25 (octets_sent checks)
 
 -- how many samples a second come and go
 abbrev pub rate_of : SampleRate → Rate

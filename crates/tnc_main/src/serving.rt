@@ -172,7 +172,7 @@ fn listening(modem: StationModem) -> Listening
     match modem {
         StationModem::Bell202 { sensitive } => Listening::Bell202 { sensitive },
         StationModem::ShortWave { sensitive } => Listening::ShortWave { sensitive },
-        StationModem::Fx25 { .. } => Listening::Fx25,
+        StationModem::Fx25 { sensitive, .. } => Listening::Fx25 { sensitive },
     }
 }
 
@@ -191,9 +191,10 @@ fn sending(modem: StationModem) -> Modem
     ensures { result ≡ sending_of modem }
 {
     match modem {
-        StationModem::Bell202 { .. } | StationModem::Fx25 { checks: None } => Modem::Bell202,
+        StationModem::Bell202 { .. } | StationModem::Fx25 { checks: None, .. } => Modem::Bell202,
         StationModem::Fx25 {
             checks: Some(checks),
+            ..
         } => Modem::Fx25(octets_sent(checks)),
         StationModem::ShortWave { .. } => Modem::ShortWave,
     }

@@ -23,7 +23,7 @@ use Rattle.tnc_words.specs.declared.command.CallOptions.{CallOptions}
 use Rattle.tnc_words.specs.Commands.{IsServe, IsCall}
 use Rattle.tnc_words.proofs.AskedHelp.{help_alone, help_is_no_version, one_topic, version_alone}
 use Rattle.tnc_words.proofs.CallLists.{one_given_call, one_repeaters}
-use Rattle.tnc_words.proofs.OneModem.{one_modem}
+use Rattle.tnc_words.proofs.OneModem.{one_count_sent, one_modem}
 use Rattle.tnc_words.proofs.OneNumber.{given_number, one_number}
 use Rattle.tnc_words.proofs.OneRate.{one_rate}
 use Rattle.tnc_words.proofs.OneServe.{one_serve_options}
@@ -146,7 +146,9 @@ one_bench_options found bench other h k =
     (one_number _ _ _ _ _ _ h.noise k.noise)
     ∙ ap (λ v. record bench { seed = seed; octets = octets; loss = loss; noise = noise; full = v }) (h.full
     ∙ sym k.full)
-    ∙ ap (λ v. record other { wide = v }) (h.wide ∙ sym k.wide)
+    ∙ ap (λ v. record other { wide = v; checks = bench.checks }) (h.wide ∙ sym k.wide)
+    ∙ ap (λ v. record other { checks = v })
+    (one_count_sent bench.checks other.checks (one_number _ _ _ _ _ _ h.checks k.checks))
 
 one_record_options : (found : List Row) (recorder other : RecordOptions) → HasRecordOptions found recorder
     → HasRecordOptions found other → recorder ≡ other

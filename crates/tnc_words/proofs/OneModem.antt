@@ -49,7 +49,7 @@ no_count Sixteen e = omega arith
 no_count ThirtyTwo e = omega arith
 no_count SixtyFour e = omega arith
 
-one_count_sent : (checks other : Option CheckOctets) → count_sent checks ≡ count_sent other → checks ≡ other
+pub one_count_sent : (checks other : Option CheckOctets) → count_sent checks ≡ count_sent other → checks ≡ other
 one_count_sent None None e = refl
 one_count_sent None (Some other) e = absurd (no_count other (sym e))
 one_count_sent (Some checks) None e = absurd (no_count checks e)
@@ -59,16 +59,17 @@ pub one_station_modem : (hf sensitive : Bool) (text : Option Text) (modem other 
     → IsStationModem hf sensitive text modem → IsStationModem hf sensitive text other → modem ≡ other
 one_station_modem hf sensitive None (StationBell202 more) (StationBell202 less) h k = ap StationBell202 (h.1 ∙ sym k.1)
 one_station_modem hf sensitive None (StationBell202 more) (StationShortWave less) h k = absurd (true≢false (sym k.0 ∙ h.0))
-one_station_modem hf sensitive None (StationBell202 more) (StationFx25 other) h k = absurd k
+one_station_modem hf sensitive None (StationBell202 more) (StationFx25 other less) h k = absurd k
 one_station_modem hf sensitive None (StationShortWave more) (StationBell202 less) h k = absurd (true≢false (sym h.0 ∙ k.0))
 one_station_modem hf sensitive None (StationShortWave more) (StationShortWave less) h k =
     ap StationShortWave (h.1 ∙ sym k.1)
-one_station_modem hf sensitive None (StationShortWave more) (StationFx25 other) h k = absurd k
-one_station_modem hf sensitive None (StationFx25 checks) other h k = absurd h
+one_station_modem hf sensitive None (StationShortWave more) (StationFx25 other less) h k = absurd k
+one_station_modem hf sensitive None (StationFx25 checks more) other h k = absurd h
 one_station_modem hf sensitive (Some text) (StationBell202 more) other h k = absurd h
 one_station_modem hf sensitive (Some text) (StationShortWave more) other h k = absurd h
-one_station_modem hf sensitive (Some text) (StationFx25 checks) (StationBell202 less) h k = absurd k
-one_station_modem hf sensitive (Some text) (StationFx25 checks) (StationShortWave less) h k = absurd k
-one_station_modem hf sensitive (Some text) (StationFx25 checks) (StationFx25 other) h k =
-    ap StationFx25
+one_station_modem hf sensitive (Some text) (StationFx25 checks more) (StationBell202 less) h k = absurd k
+one_station_modem hf sensitive (Some text) (StationFx25 checks more) (StationShortWave less) h k = absurd k
+one_station_modem hf sensitive (Some text) (StationFx25 checks more) (StationFx25 other less) h k =
+    ap (λ c. StationFx25 c more)
     (one_count_sent checks other (given_number (Some text) 0 64 (count_sent checks) (count_sent other) h.2 k.2))
+    ∙ ap (StationFx25 other) (h.1 ∙ sym k.1)

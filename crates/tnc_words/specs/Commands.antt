@@ -25,7 +25,7 @@ use Rattle.tnc_words.specs.Keys.{HasPtt}
 use Rattle.tnc_words.specs.Numbers.{GivesNumber, HasNumber, NamesNumber}
 use Rattle.tnc_words.specs.Ports.{HasAddress, HasPort}
 use Rattle.tnc_words.specs.Channels.{HasChannel}
-use Rattle.tnc_words.specs.StationModems.{HasStationModem}
+use Rattle.tnc_words.specs.StationModems.{HasStationModem, count_sent}
 use Rattle.tnc_words.specs.Stations.{GivesCall, HasRepeaters}
 use Rattle.tnc_words.specs.Sending.{HasModem}
 
@@ -87,7 +87,7 @@ pub record IsLoop (words : List Text) (loop : LoopWords) : Type 0 where
   pub options : HasLoopOptions (loop_rows words) loop
 
 -- The options of bench. Its seed has no default. If no other number was given, each host gives 2000 octets, no
--- transmission is lost, and there is no noise.
+-- transmission is lost, there is no noise, and no check octets are sent.
 pub record HasBenchOptions (found : List Row) (bench : BenchOptions) : Type 0 where
   pub seed : GivesNumber (first_of (codes "seed") found) 0 (2 ^ 64 - 1) bench.seed
   pub octets : HasNumber (first_of (codes "octets") found) 2000 0 100000 bench.octets
@@ -95,6 +95,7 @@ pub record HasBenchOptions (found : List Row) (bench : BenchOptions) : Type 0 wh
   pub noise : HasNumber (first_of (codes "noise") found) 0 0 2000 bench.noise
   pub full : bench.full ≡ is_used (codes "full") found
   pub wide : bench.wide ≡ is_used (codes "wide") found
+  pub checks : HasNumber (first_of (codes "fx25") found) 0 0 64 (count_sent bench.checks)
 
 -- bench with these options
 pub record IsBench (words : List Text) (bench : BenchOptions) : Type 0 where

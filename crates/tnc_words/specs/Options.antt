@@ -49,12 +49,13 @@ loop_app = with_rule (with_rule (with_rule (with_rule (new_app (codes "loop"))
     (needed_rule (codes "seed"))) (needed_rule (codes "frames"))) (flag_rule (codes "rough")))
     (flag_rule (codes "threads"))
 
--- [--octets n] [--loss n] [--noise n]
+-- [--octets n] [--loss n] [--noise n] [--fx25 n]
 abbrev pub with_run : App → App
-with_run app = with_rule (with_rule (with_rule app
-    (option_rule (codes "octets"))) (option_rule (codes "loss"))) (option_rule (codes "noise"))
+with_run app = with_rule (with_rule (with_rule (with_rule app
+    (option_rule (codes "octets"))) (option_rule (codes "loss"))) (option_rule (codes "noise")))
+    (option_rule (codes "fx25"))
 
--- bench --seed n [--octets n] [--loss n] [--noise n] [--full] [--wide]
+-- bench --seed n [--octets n] [--loss n] [--noise n] [--fx25 n] [--full] [--wide]
 abbrev pub bench_app : App
 bench_app = with_rule (with_rule (with_run (with_rule (new_app (codes "bench"))
     (needed_rule (codes "seed")))) (flag_rule (codes "full"))) (flag_rule (codes "wide"))

@@ -13,17 +13,17 @@ abbrev pub count_sent : Option CheckOctets → ℕ
 count_sent None = 0
 count_sent (Some checks) = count_of checks
 
--- the modem by whether --hf was given, whether --sensitive was, and by the text of --fx25, which goes with neither
+-- the modem by whether --hf was given, whether --sensitive was, and by the text of --fx25, which goes without --hf
 abbrev pub IsStationModem : Bool → Bool → Option Text → StationModem → Type 0
 IsStationModem hf sensitive None (Bell202 more) = (hf ≡ false) × (more ≡ sensitive)
 IsStationModem hf sensitive None (ShortWave more) = (hf ≡ true) × (more ≡ sensitive)
-IsStationModem hf sensitive None (Fx25 checks) = ⊥
+IsStationModem hf sensitive None (Fx25 checks more) = ⊥
 IsStationModem hf sensitive (Some text) (Bell202 more) = ⊥
 IsStationModem hf sensitive (Some text) (ShortWave more) = ⊥
-IsStationModem hf sensitive (Some text) (Fx25 checks) =
-    (hf ≡ false) × (sensitive ≡ false) × GivesNumber (Some text) 0 64 (count_sent checks)
+IsStationModem hf sensitive (Some text) (Fx25 checks more) =
+    (hf ≡ false) × (more ≡ sensitive) × GivesNumber (Some text) 0 64 (count_sent checks)
 
--- [--hf] and [--sensitive], or [--fx25 n], n being 0, 16, 32 or 64
+-- [--sensitive], and [--hf] or [--fx25 n], n being 0, 16, 32 or 64
 abbrev pub HasStationModem : List Row → StationModem → Type 0
 HasStationModem found modem =
     IsStationModem (is_used (codes "hf") found) (is_used (codes "sensitive") found) (first_of (codes "fx25") found) modem

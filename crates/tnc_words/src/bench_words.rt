@@ -6,9 +6,10 @@ ghost use Rattle.tnc_words.specs.Commands.{HasBenchOptions, IsBench, first_word}
 
 use crate::command::BenchOptions;
 use crate::fault::WordsFault;
+use crate::modem_words::checks_or_none;
 use crate::number::{Bounds, number_found, number_given};
 use crate::options::BENCH;
-use crate::parsing::{has_flag, parsed};
+use crate::parsing::{has_flag, parsed, text_of};
 use clap::ArgMatches;
 use std::alloc::Global;
 
@@ -59,5 +60,6 @@ fn bench_options(found: &ArgMatches) -> Option<BenchOptions>
         noise: number_found(found, "noise", 0, NOISE)? as u16,
         full: has_flag(found, "full"),
         wide: has_flag(found, "wide"),
+        checks: checks_or_none(text_of(found, "fx25"))?,
     })
 }

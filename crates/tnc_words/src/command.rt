@@ -166,6 +166,8 @@ pub struct BenchOptions {
     pub full: bool,
     /// Both stations call modulo 128.
     pub wide: bool,
+    /// So many check octets stand around each frame, and both stations read blocks of FX.25; or all is plain.
+    pub checks: Option<CheckOctets>,
 }
 
 /// By what `serve` takes the channel as busy.
@@ -181,12 +183,19 @@ pub enum Dcd {
 #[derive(Clone, Copy, Debug, PartialEq, Eq)]
 pub enum StationModem {
     /// Bell 202 at 1200 bits a second. If it is sensitive, more lanes hear, which take weaker and less exact signals.
-    Bell202 { sensitive: bool },
+    Bell202 {
+        sensitive: bool,
+    },
     /// Short wave at 300 bits a second. If it is sensitive, more lanes hear there, too.
-    ShortWave { sensitive: bool },
+    ShortWave {
+        sensitive: bool,
+    },
     /// Bell 202 at 1200 bits a second, heard in blocks of FX.25, too, and sent with so many check octets around each frame,
-    /// or plainly.
-    Fx25 { checks: Option<CheckOctets> },
+    /// or plainly. If it is sensitive, more lanes hear here, too.
+    Fx25 {
+        checks: Option<CheckOctets>,
+        sensitive: bool,
+    },
 }
 
 /// The options of `serve`.

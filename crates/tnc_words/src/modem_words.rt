@@ -3,7 +3,7 @@ ghost use Rattle.std.specs.Prelude.{◌≡◌, Bool, IfSome, IsNone, Option, Som
 ghost use Rattle.clap.specs.Words.{found_of, rows_of};
 ghost use Rattle.tnc_words.specs.declared.command.CheckOctets.{CheckOctets};
 ghost use Rattle.tnc_words.specs.declared.command.Modem.{Modem};
-ghost use Rattle.tnc_words.specs.Numbers.{GivesNumber};
+ghost use Rattle.tnc_words.specs.Numbers.{GivesNumber, HasNumber};
 ghost use Rattle.tnc_words.specs.Sending.{HasModem, IsModem, count_of};
 ghost use Rattle.tnc_words.specs.StationModems.{count_sent};
 
@@ -70,6 +70,19 @@ pub(crate) fn checks_sent(text: &str) -> Option<Option<CheckOctets>>
         32 => Some(Some(CheckOctets::ThirtyTwo)),
         64 => Some(Some(CheckOctets::SixtyFour)),
         _ => None,
+    }
+}
+
+/// The check octets that stations send whose number a text is, or none for 0 or without a text.
+pub(crate) fn checks_or_none(text: Option<&str>) -> Option<Option<CheckOctets>>
+    ensures checks { IfSome result (λ checks.
+        HasNumber (option_map (λ t. t.now) text.entry) 0 0 64 (count_sent checks)) }
+    ensures none { IsNone result → (checks : Option CheckOctets)
+        → ¬ HasNumber (option_map (λ t. t.now) text.entry) 0 0 64 (count_sent checks) }
+{
+    match text {
+        Some(text) => checks_sent(text),
+        None => Some(None),
     }
 }
 

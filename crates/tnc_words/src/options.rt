@@ -53,11 +53,12 @@ pub(crate) const LOOP: [Entry; 4] = [
 ];
 
 /// The options of `bench`.
-pub(crate) const BENCH: [Entry; 6] = [
+pub(crate) const BENCH: [Entry; 7] = [
     Entry::Needed("seed"),
     Entry::Value("octets"),
     Entry::Value("loss"),
     Entry::Value("noise"),
+    Entry::Value("fx25"),
     Entry::Flag("full"),
     Entry::Flag("wide"),
 ];

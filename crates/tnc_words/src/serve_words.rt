@@ -189,18 +189,18 @@ fn station_modem(hf: bool, sensitive: bool, checks: Option<&str>) -> Option<Stat
     match (hf, sensitive, checks) {
         (false, sensitive, None) => Some(StationModem::Bell202 { sensitive }),
         (true, sensitive, None) => Some(StationModem::ShortWave { sensitive }),
-        (false, false, Some(text)) => block_modem(text),
-        (true, _, Some(_)) | (false, true, Some(_)) => None,
+        (false, sensitive, Some(text)) => block_modem(text, sensitive),
+        (true, _, Some(_)) => None,
     }
 }
 
-/// The modem that reads blocks, by the text of how many check octets it sends.
-fn block_modem(text: &str) -> Option<StationModem>
-    ensures modem { IfSome result (IsStationModem false false (Some text.now)) }
-    ensures none { IsNone result → (modem : StationModem) → ¬ IsStationModem false false (Some text.now) modem }
+/// The modem that reads blocks, by the text of how many check octets it sends and whether it is sensitive.
+fn block_modem(text: &str, sensitive: bool) -> Option<StationModem>
+    ensures modem { IfSome result (IsStationModem false sensitive (Some text.now)) }
+    ensures none { IsNone result → (modem : StationModem) → ¬ IsStationModem false sensitive (Some text.now) modem }
 {
     let checks = checks_sent(text)?;
-    Some(StationModem::Fx25 { checks })
+    Some(StationModem::Fx25 { checks, sensitive })
 }
 
 /// Whether other stations are heard by flags in a row alone.

@@ -18,7 +18,7 @@ A software terminal node controller for packet radio: AX.25 over the tones of Be
              [--level n]
   tnc show [--modulo n]
   tnc loop --seed n --frames n [--rough] [--threads]
-  tnc bench --seed n [--octets n] [--loss n] [--noise n] [--full] [--wide]
+  tnc bench --seed n [--octets n] [--loss n] [--noise n] [--fx25 n] [--full] [--wide]
   tnc serve [--kiss port] [--agw port] [--bind A.B.C.D] [--seed n] [--mode name]
             [--window n] [--wide] [--wide-window n] [--t1 n] [--retries n] [--txdelay n]
             [--txtail n] [--persist n] [--slot n] [--duplex] [--paclen n] [--digi call]
@@ -93,7 +93,7 @@ Sends random frames to itself, and prints how many were heard.
 ";
 
 const BENCH: &str = "\
-Usage: tnc bench --seed n [--octets n] [--loss n] [--noise n] [--full] [--wide]
+Usage: tnc bench --seed n [--octets n] [--loss n] [--noise n] [--fx25 n] [--full] [--wide]
 
 Runs two stations that are joined by sound, whose hosts give each other a text, and prints what each host got.
 
@@ -101,6 +101,7 @@ Runs two stations that are joined by sound, whose hosts give each other a text, 
   --octets n   octets that each host gives, 0 to 100000 (2000)
   --loss n     transmissions of a hundred that are lost, 0 to 90 (0)
   --noise n    the most noise of a sample, 0 to 2000 (0)
+  --fx25 n     each frame with 16, 32 or 64 check octets around it (FX.25), and blocks are read; or 0 (0)
   --full       both stations send in full duplex
   --wide       links are called modulo 128
 ";
@@ -136,8 +137,8 @@ Runs a station until its sound ends: it hears standard input, sends standard out
   --hf             short wave: 300 bits a second at 1600 and 1800 Hz; --t1 is 600 if not given
   --sensitive      hears in more noise and where the sender's clock is off, and takes longer
   --fx25 n         hears frames in blocks of FX.25 too, and repairs them; sends each with 16, 32 or 64 check octets
-                   around it, or with 0 plainly; the channel is busy while a block comes in; without --hf and
-                   --sensitive, at 9600 samples a second
+                   around it, or with 0 plainly; the channel is busy while a block comes in; without --hf, at
+                   9600 samples a second
   --rate n         samples a second, in and out, 9600 or 48000 (9600)
   --monitor        tells each frame that is heard or sent on standard error
   --stats n        tells each n seconds what the station counted, on standard error, 1 to 86400

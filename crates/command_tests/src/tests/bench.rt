@@ -16,6 +16,7 @@ const OPTIONS: BenchOptions = BenchOptions {
     noise: 0,
     full: true,
     wide: false,
+    checks: None,
 };
 
 /// What is told of a run with so many octets of each host, in which so many of a hundred transmissions are lost.

@@ -3,6 +3,7 @@ ghost use Rattle.std.specs.Prelude.{◌≤◌};
 ghost use Rattle.channel_bench.specs.Words.{AreInRange};
 
 use crate::assertions::assert_equal;
+use channel_access::CheckOctets;
 use channel_bench::{BenchReport, BenchWords, bench};
 use std::test::Fail;
 
@@ -17,6 +18,7 @@ fn words(seed: u64, octets: u32) -> BenchWords
         noise: 0,
         full: true,
         wide: false,
+        checks: None,
     }
 }
 
@@ -62,6 +64,18 @@ fn texts_of_5000_octets_take_3952_ticks(rt: HostRuntime) -> Result<(), Fail> {
     let report = bench(rt.alloc(), words(85, 5000))?;
     assert_equal(&rt, &report.ticks, &3952);
     assert!(rt; is_exchanged(&report, 5000));
+    Ok(())
+}
+
+// Each frame is sent with 16 check octets around it: the same link takes longer.
+#[test]
+fn texts_are_exchanged_in_blocks(rt: HostRuntime) -> Result<(), Fail> {
+    let blocks = BenchWords {
+        checks: Some(CheckOctets::Sixteen),
+        ..words(7, 300)
+    };
+    let report = bench(rt.alloc(), blocks)?;
+    assert!(rt; is_exchanged(&report, 300));
     Ok(())
 }
 

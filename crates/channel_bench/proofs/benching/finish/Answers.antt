@@ -1,5 +1,5 @@
 -- The run goes on until it is over, or something ends it, or it has taken too long.
-use Rattle.channel_bench.proofs.Common.{◌≡◌, ◌+◌, ◌<◌, ◌^◌, refl, sym, ◌∙◌, subst, arith, AreTicks, HasMade}
+use Rattle.channel_bench.proofs.Common.{◌≡◌, ◌+◌, ◌<◌, ◌^◌, sym, ◌∙◌, subst, arith, AreTicks, HasMade}
 use Rattle.std.proofs.lemmas.Result.{err_from_is_err_and}
 use Rattle.channel_bench.specs.Words.{most_ticks}
 use Rattle.channel_bench.proofs.benching.finish.Goals as goal

@@ -1,7 +1,7 @@
 //! `bench`.
 use super::{assert_asked, assert_none_taken};
 use std::test::Fail;
-use tnc_words::{BenchOptions, Command};
+use tnc_words::{BenchOptions, CheckOctets, Command};
 
 /// Words that are refused, a line each.
 const REFUSED: &str = "\
@@ -11,6 +11,7 @@ const REFUSED: &str = "\
 --seed 7 --noise 2001
 --seed 7 --full=true
 --seed 7 --window 4
+--seed 7 --fx25 48
 ";
 
 /// What stands after `bench`, and what it asks for.
@@ -24,10 +25,11 @@ const BENCH: &[(&str, BenchOptions)] = &[
             noise: 0,
             full: false,
             wide: false,
+            checks: None,
         },
     ),
     (
-        "--wide --noise 2000 --loss=90 --full --octets 100000 --seed 18446744073709551615 --",
+        "--wide --noise 2000 --fx25 32 --loss=90 --full --octets 100000 --seed 18446744073709551615 --",
         BenchOptions {
             seed: u64::MAX,
             octets: 100_000,
@@ -35,6 +37,7 @@ const BENCH: &[(&str, BenchOptions)] = &[
             noise: 2000,
             full: true,
             wide: true,
+            checks: Some(CheckOctets::ThirtyTwo),
         },
     ),
 ];

@@ -242,7 +242,6 @@ x
 --fx25 none
 --fx25 0 --fx25 0
 --fx25 0 --hf
---fx25 0 --sensitive
 --fx25 0 --rate 48000
 --fx25 0 --dcd tones
 --fx25 0 --dcd 1

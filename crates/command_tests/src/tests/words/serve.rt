@@ -274,7 +274,10 @@ fn serve_takes_how_it_hears_and_sends(rt: HostRuntime) -> Result<(), Fail> {
         ..SERVE
     };
     let fx25 = ServeOptions {
-        modem: StationModem::Fx25 { checks: None },
+        modem: StationModem::Fx25 {
+            checks: None,
+            sensitive: false,
+        },
         ..by_flags
     };
     // A station for short wave, with T1 three times as long.
@@ -287,10 +290,11 @@ fn serve_takes_how_it_hears_and_sends(rt: HostRuntime) -> Result<(), Fail> {
         ("--hf --sensitive", hf),
         ("--fx25 0", fx25),
         (
-            "--fx25=64",
+            "--fx25=64 --sensitive",
             ServeOptions {
                 modem: StationModem::Fx25 {
                     checks: Some(CheckOctets::SixtyFour),
+                    sensitive: true,
                 },
                 ..by_flags
             },

@@ -4,8 +4,11 @@ use Rattle.fx25_ring.proofs.hearing.hear.Goals as goal
 
 pub returns-clause-made : goal.returns-clause-made
 returns-clause-made c =
-    makes (ring_len c.args.ring.now) c.args.lanes.now c.advance.new.self c.in_ok-turn.turn _ c.in_ok-turn.ensures.made
-    c.in_ok-turn.ensures.step c.at.ensures c.at.type_inv refl refl refl
+    let told = c.in_ok-turn.ensures in
+    makes (ring_len c.args.ring.now) c.args.reader.now c.read_on.new.reader c.args.lanes.now c.read_on.new.lanes
+    c.in_ok-turn.turn _ told.made
+    (λ e. record { at = told.place e; room = told.room; together = told.step e }) c.read_on.ensures.sensitive
+    c.at.ensures c.at.type_inv refl refl refl
 
 pub returns-in_err-turn-clause-made : goal.returns-in_err-turn-clause-made
 returns-in_err-turn-clause-made c = none_made _ c.from_residual.result _ c.from_residual.ensures.1

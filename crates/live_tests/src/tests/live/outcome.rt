@@ -30,6 +30,11 @@ pub(super) const SHORT_WAVE: Listening = Listening::ShortWave { sensitive: false
 /// All 59 of short wave listen.
 pub(super) const ALL_SHORT_WAVE: Listening = Listening::ShortWave { sensitive: true };
 
+/// Also in blocks, with eight lanes and with all 26.
+pub(super) const FX25: Listening = Listening::Fx25 { sensitive: false };
+
+pub(super) const ALL_FX25: Listening = Listening::Fx25 { sensitive: true };
+
 pub(super) fn words(monitor: bool, listening: Listening) -> ServeWords
     ensures window { (window : ℕ) → ¬ IsRefusedWindow result.config.params window }
     ensures dcd { CanBeAskedBy result.listening result.dcd }
@@ -57,7 +62,7 @@ fn dcd(listening: Listening) -> Detection
 {
     match listening {
         Listening::Bell202 { .. } => Detection::Tones,
-        Listening::ShortWave { .. } | Listening::Fx25 => Detection::Flags(3),
+        Listening::ShortWave { .. } | Listening::Fx25 { .. } => Detection::Flags(3),
     }
 }
 

@@ -1,7 +1,8 @@
 //! A live station over memory, from its first poll to the end of its input.
 
 use super::outcome::{
-    ALL, ALL_SHORT_WAVE, EIGHT, Failing, NONE, Outcome, SHORT_WAVE, served, served_by, silence,
+    ALL, ALL_FX25, ALL_SHORT_WAVE, EIGHT, FX25, Failing, NONE, Outcome, SHORT_WAVE, served,
+    served_by, silence,
 };
 use super::script::Script;
 use crate::assertions::assert_equal;
@@ -108,7 +109,7 @@ const MISSED: &[(Listening, usize, &[u8])] = &[
     (EIGHT, 8 * 4464, b"gap 7 4463 4464\n"),
     (ALL, 9 * 4464, b"gap 8 4463 4464\n"),
     (SHORT_WAVE, 4464, b"gap 0 4463 4464\n"),
-    (Listening::Fx25, 4464, b"gap 0 4463 4464\n"),
+    (FX25, 4464, b"gap 0 4463 4464\n"),
 ];
 
 /// Ends the test unless the report has a line for each missed sample, and all of the rest comes out.
@@ -142,7 +143,7 @@ fn sound(alloc: Global, listening: Listening, frames: &[Octets]) -> Result<Vec<i
     match listening {
         Listening::Bell202 { .. } => Ok(transmission(alloc, frames, 2, 1)?),
         Listening::ShortWave { .. } => Ok(hf_transmission(alloc, 10_000, frames, 2, 1)?),
-        Listening::Fx25 => {
+        Listening::Fx25 { .. } => {
             let mut samples = fx25_transmission(alloc, 16, 10_000, frames, 2, 1)?;
             for sample in samples.iter_mut().skip(960).take(400) {
                 *sample = 0;
@@ -216,7 +217,8 @@ const CALLED: &[(Listening, usize)] = &[
     (ALL, 213),
     (SHORT_WAVE, 254),
     (ALL_SHORT_WAVE, 254),
-    (Listening::Fx25, 239),
+    (FX25, 239),
+    (ALL_FX25, 239),
 ];
 
 // Whichever lanes listen, they hear the call, and it is told once.

@@ -1,45 +1,40 @@
-use Rattle.resampler.proofs.Common.{rules, ◌≡◌, ◌≤◌, ◌+◌, ◌∙◌, ℤ, pos, List, [], ◌∷◌, ◌++◌, get_or, length, take, arith}
-use Rattle.resampler.proofs.Common.{refl, subst, FitsSigned, w16, to_z-of_z, take_all, decimated_settled, HasDecimated}
-use Rattle.std.specs.Option.{option_to_list}
-use Rattle.std.proofs.lemmas.List.{take_more}
-use Rattle.resampler.proofs.FeedLemmas.{fed_none, fed_more}
+use Rattle.resampler.proofs.Common.{rules, ◌≡◌, ◌≤◌, ◌+◌, ◌-◌, ◌∙◌, ℤ, List, ◌++◌, length, take, drop, ap, sym, arith}
+use Rattle.resampler.proofs.Common.{append_assoc, length-append, length-drop, decimated_settled, HasDecimated}
+use Rattle.std.specs.Slice.Iter.{chunks_rest}
+use Rattle.std.proofs.lemmas.List.{length-take-le}
+use Rattle.std.proofs.lemmas.Slice.{overwrites}
+use Rattle.resampler.proofs.FeedLemmas.{fed_part, put_after}
 use Rattle.resampler.proofs.feeding.feed_decimator.Goals as goal
 
-pub loop-sample-init : goal.loop-sample-init
-loop-sample-init c = record {
-  so_far = λ x h. fed_none HasDecimated decimated_settled c.args.filter.now x h;
-  few = omega arith;
-  room = refl;
-}
-
-pub loop-sample-preserved : goal.loop-sample-preserved
-loop-sample-preserved c =
-    let block : List ℤ = c.args.block.now in
-    let i = c.loop-sample.sample-index in
-    let sample : ℤ = get_or block i (pos 0) in
-    let fits : FitsSigned w16 sample = search rules in
-    let before = c.loop-sample.invariant in
-    let few = before.few in
-    let most = c.put-count.ensures.most in
-    let stands = subst (λ (z : ℤ). (y : List ℤ) → HasDecimated c.loop-sample.filter y
-    → HasDecimated c.push.new.self (y ++ z ∷ [])) (to_z-of_z w16 sample fits) c.push.ensures.stands_for in
-    let gives = subst (λ (z : ℤ). (y : List ℤ) → HasDecimated c.loop-sample.filter y
-    → decimated_settled (y ++ z ∷ []) ≡ decimated_settled y ++ option_to_list c.push.result) (to_z-of_z w16 sample fits)
-    c.push.ensures.settled in
-    record {
-      so_far = λ x h. fed_more HasDecimated decimated_settled c.loop-sample.filter c.push.new.self x (take i block)
-          (take (i + 1) block) sample (take c.loop-sample.count c.loop-sample.out)
-          (take c.put-count.result c.put-count.new.out) (option_to_list c.push.result)
-          (take_more block i (pos 0) c.loop-sample-test.true) c.put-count.ensures.put stands gives
-          (before.so_far x h);
-      few = omega arith;
-      room = c.put-count.ensures.room ∙ before.room;
-    }
-
-pub returns-clause-fed : goal.returns-clause-fed
-returns-clause-fed c = λ x h.
-    let past = c.loop-sample-test.false in
-    subst (λ (y : List ℤ). HasDecimated c.loop-sample.filter (x ++ y)
-    × (decimated_settled (x ++ y) ≡ decimated_settled x ++ take c.loop-sample.count c.loop-sample.out))
-    (take_all c.loop-sample.sample-index c.args.block.now (omega arith))
-    (c.loop-sample.invariant.so_far x h)
+pub loop-part-preserved : goal.loop-part-preserved
+loop-part-preserved c =
+    let part : List ℤ = c.in-Some.part.now in
+    let rest : List ℤ = chunks_rest c.next.new.self in
+    let out : List ℤ = c.loop-part.out in
+    let count = c.loop-part.count in
+    let new : List ℤ = c.feed_part-count.new.out in
+    let more = c.feed_part-count.result in
+    let before = c.loop-part.invariant in
+    let room = before.3 in
+    let done : List ℤ = before.4 in
+    let few = before.6 in
+    let steps = c.in-Some.ensures.steps in
+    let whole : done ++ (part ++ rest) ≡ c.args.block.now = ap (λ t. done ++ t) (sym steps.1.0) ∙ before.5 in
+    let size : length (done ++ (part ++ rest)) ≡ length c.args.block.now = ap length whole in
+    let enough = c.requires in
+    let inside : count ≤ length out = omega (arith, length-append done (part ++ rest)) in
+    let settled = c.feed_part-count.ensures.count in
+    let left : length new ≡ length out - count = c.feed_part-count.ensures.room
+    ∙ length-take-le (length out - count) (drop count out) (omega (arith, length-drop count out)) in
+    let fits : more ≤ length new = omega (arith, length-append done (part ++ rest), length-append part rest) in (
+      search rules,
+      tt,
+      steps.0 ∙ before.2,
+      search (rules, overwrites),
+      done ++ part,
+      append_assoc done part rest ∙ whole,
+      omega (arith, length-append done part),
+      λ x h. fed_part HasDecimated decimated_settled c.loop-part.filter c.feed_part-count.new.self x done part
+          (take count out) (take (count + more) _) (take more new)
+          (put_after out new count more (length out - count) inside fits) c.feed_part-count.ensures.fed (before.7 x h),
+    )

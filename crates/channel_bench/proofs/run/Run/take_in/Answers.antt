@@ -26,6 +26,6 @@ pub returns-clause-ready : goal.returns-clause-ready
 returns-clause-ready c = λ w bench h.
     let at_a = c.in_ok-at_a.ensures.heard A bench.a h.a in
     let at_b = c.in_ok-at_b.ensures.heard B bench.b h.b in (
-      subst (λ y. AreReady (bench.a.samples ++ y) c.in_ok-at_a.at_a.items) c.deref.ensures.value at_a.1,
-      subst (λ y. AreReady (bench.b.samples ++ y) c.in_ok-at_b.at_b.items) c.deref-2.ensures.value at_b.1,
+      subst (λ y. AreReady bench.a.blocks (bench.a.samples ++ y) c.in_ok-at_a.at_a.items) c.deref.ensures.value at_a.1,
+      subst (λ y. AreReady bench.b.blocks (bench.b.samples ++ y) c.in_ok-at_b.at_b.items) c.deref-2.ensures.value at_b.1,
     )

@@ -1,9 +1,8 @@
 -- Nothing comes to pass if the run has ended; a frame without a match ends it; one with a match is heard.
-use Rattle.channel_bench.proofs.Common.{◌≡◌, ◌+◌, Some, None, refl, sym, ap, ◌∙◌, subst, drop, position, take_rest}
-use Rattle.channel_bench.proofs.Common.{Stray}
-use Rattle.channel_bench.proofs.Common.{IsStep, is_match, match_of, with_matched, with_stray, OffAir}
+use Rattle.channel_bench.proofs.Common.{◌≡◌, Some, None, refl, sym, ap, ◌∙◌, subst, Stray}
+use Rattle.channel_bench.proofs.Common.{IsStep, number_of, with_matched, with_stray, OffAir}
 use Rattle.std.specs.Prelude.{is_some}
-use Rattle.channel_bench.proofs.HearLemmas.{heard_ended, heard_goes_on, match_at, match_made, stray_made, stray_stands}
+use Rattle.channel_bench.proofs.HearLemmas.{heard_ended, heard_goes_on, match_made, stray_made, stray_stands}
 use Rattle.channel_bench.proofs.RunLemmas.{none_from}
 use Rattle.channel_bench.proofs.SideLemmas.{near_remembers}
 use Rattle.channel_bench.proofs.side.Side.hear.Goals as goal
@@ -21,11 +20,7 @@ returns-in_default-clause-heard c = λ end n h.
     let item = c.args.item.now in
     let none = none_from n.common.trouble
     (ap is_some (sym h.shared_is.trouble) ∙ sym c.has_ended.ensures ∙ c.if-has_ended.false) in
-    let rest = ap (position (is_match item))
-    (take_rest c.deref.result.now c.args.self.now.matched ∙ ap (drop c.args.self.now.matched) c.deref.ensures.value) in
-    let missed : match_of item n.side ≡ None =
-    match_at item n.side None c.args.self.now.matched
-    c.args.self.now.towards.items h.side_is.matched h.side_is.towards (c.in_default.ensures.place ∙ rest) in (
+    let missed : number_of end item n ≡ None = sym (c.in_default.ensures.number end n h) in (
       with_stray item.octets n,
       heard_goes_on end item n (with_stray item.octets n) none (stray_made end item n missed),
       stray_stands end _ c.args.shared.now c.end_by_stray.new.self n item.octets
@@ -48,15 +43,10 @@ returns-in_default-clause-heard c = λ end n h.
 pub returns-clause-heard : goal.returns-clause-heard
 returns-clause-heard c = λ end n h.
     let item = c.args.item.now in
-    let matched = c.args.self.now.matched in
+    let number = c.in-Some.number in
     let none = none_from n.common.trouble
     (ap is_some (sym h.shared_is.trouble) ∙ sym c.has_ended.ensures ∙ c.if-has_ended.false) in
-    let rest = ap (position (is_match item))
-    (take_rest c.deref.result.now c.args.self.now.matched ∙ ap (drop c.args.self.now.matched) c.deref.ensures.value) in
-    let found : match_of item n.side ≡ Some (matched + c.in-Some.place) =
-    match_at item n.side (Some c.in-Some.place) matched
-    c.args.self.now.towards.items h.side_is.matched h.side_is.towards (c.in-Some.ensures.place ∙ rest) in
-    let number = matched + c.in-Some.place in
+    let found : number_of end item n ≡ Some number = sym (c.in-Some.ensures.number end n h) in
     let made = c.in_ok-hear_sent.ensures.step end n h none in
     let step = subst (λ o. IsStep end (OffAir o) (Some number) (with_matched number n) made.0)
     c.as_slice-2.ensures.list made.1 in (

@@ -1,5 +1,5 @@
 -- Nothing came yet.
-use Rattle.channel_bench.proofs.Common.{◌≡◌, [], refl, subst, ids_of, config_of, if_took}
+use Rattle.channel_bench.proofs.Common.{◌≡◌, [], refl, subst, ids_of, config_of, if_took, EarStandsFor}
 use Rattle.station.specs.Held.{Held}
 use Rattle.station.specs.State.{new_station}
 use Rattle.station.specs.StandsFor.{StandsFor}
@@ -12,7 +12,7 @@ of_fitting_windows-requires c = λ window is.
     none_refused c.args.config.params window c.requires ((c.new.ensures.bad_window window).0 is)
 
 pub returns : goal.returns
-returns c = λ w config seed. record {
+returns c = λ w config blocks seed. record {
   end_is = refl;
   station = subst (λ s. StandsFor c.in_ok-station.station (new_station (config_of w) s)) seed
       (subst (λ k. StandsFor c.in_ok-station.station (new_station k c.args.seed)) config
@@ -23,7 +23,7 @@ returns c = λ w config seed. record {
   there = c.new-3.ensures.items;
   reader = c.new-4.ensures.stands_for;
   program = c.new-5.ensures;
-  ear = c.in_ok-ear.ensures;
+  ear = subst (λ b. EarStandsFor c.in_ok-ear.ear b []) blocks c.in_ok-ear.ensures;
   towards = c.new-6.ensures.items;
   matched = refl;
   air = refl;

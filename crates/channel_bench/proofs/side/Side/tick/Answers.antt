@@ -23,7 +23,7 @@ returns-clause-ticked c = λ end n h none.
     c.in_ok-air.ensures.ids (c.in_ok-air.ensures.step s h.side_is.station)
     c.in_ok-settle.ensures.side c.in_ok-settle.ensures.flight c.in_ok-settle.ensures.trouble
     c.in_ok-settle.ensures.rest in
-    ticks end busy n _ c.settle.new.self c.settle.new.shared (c.busy-busy.ensures n.side.samples h.side_is.ear)
+    ticks end busy n _ c.settle.new.self c.settle.new.shared (c.busy-busy.ensures n.side.blocks n.side.samples h.side_is.ear)
     (c.in_ok-air.ensures.air s h.side_is.station)
     (record {
       end = refl;

@@ -1,7 +1,7 @@
 use Rattle.sensitive_receiver.proofs.Common.{◌≡◌, ℕ, List, Bool, [], ◌∷◌, ◌++◌, true, subst, sym, Tone, bits_of, EndsFrame}
 use Rattle.sensitive_receiver.proofs.Common.{HeldLane, LaneStandsFor}
 use Rattle.hdlc_framer.specs.Held.{HoldsFrame}
-use Rattle.sensitive_receiver.specs.Late.{StandsFor as LateStandsFor}
+use Rattle.hdlc_framer.specs.Late.{StandsFor as LateStandsFor}
 use Rattle.sensitive_receiver.proofs.late_lane.LateLane.push.Goals as goal
 
 pub returns-clause-stands_for : goal.returns-clause-stands_for

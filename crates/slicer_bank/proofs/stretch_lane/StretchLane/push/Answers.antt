@@ -2,7 +2,7 @@ use Rattle.slicer_bank.proofs.Common.{◌≡◌, ℤ, Bool, None, Some, List, []
 use Rattle.slicer_bank.proofs.Common.{false≢true, to_z-of_z, w16, EndsFrame, frame_by_test, stretch_bits}
 use Rattle.hdlc_framer.specs.Held.{StandsFor as DeframerStandsFor}
 use Rattle.offset_slicers.specs.Held.{StandsFor as SlicerStandsFor}
-use Rattle.slicer_bank.proofs.LaneLemmas.{test_of_frame}
+use Rattle.hdlc_framer.proofs.FrameTests.{test_of_frame}
 use Rattle.slicer_bank.proofs.SampleLemmas.{bits_more, bits_stay, window_more, ends_last}
 use Rattle.slicer_bank.specs.Detection.{stretch_windows}
 use Rattle.slicer_bank.proofs.ToneLemmas.{tones_stay, tones_more, next_told}

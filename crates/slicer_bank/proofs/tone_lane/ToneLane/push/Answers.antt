@@ -1,6 +1,6 @@
 use Rattle.slicer_bank.proofs.Common.{◌≡◌, ℕ, List, Bool, [], ◌∷◌, ◌++◌, true, ◌∙◌, subst, Tone, bits_of, EndsFrame}
 use Rattle.slicer_bank.proofs.Common.{HoldsFrame, HeldToneLane, ToneLaneStandsFor}
-use Rattle.slicer_bank.proofs.LaneLemmas.{test_of_frame}
+use Rattle.hdlc_framer.proofs.FrameTests.{test_of_frame}
 use Rattle.slicer_bank.proofs.tone_lane.ToneLane.push.Goals as goal
 
 pub returns-clause-frame : goal.returns-clause-frame

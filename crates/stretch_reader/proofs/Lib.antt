@@ -1,0 +1,4 @@
+pub mod Common
+pub mod HeardLemmas
+pub mod GoingOn
+pub mod TurnLemmas

@@ -1,0 +1,2 @@
+pub mod HeardInStretches
+pub mod Turns
