@@ -54,7 +54,8 @@ impl LateDeframer {
         }
     }
 
-    /// Takes the next bit, and says whether a frame ends with it.
+    /// Takes the next bit, and says whether a frame ends with it. Most bits only wait, so a lane does this much itself.
+    #[inline(always)]
     pub fn push(&mut self, bit: bool) -> bool
         ensures stands_for { (b : List Bool) → StandsFor self.old.deframer self.old.last self.old.waiting b
             → StandsFor self.new.deframer self.new.last self.new.waiting (b ++ bit ∷ []) }
