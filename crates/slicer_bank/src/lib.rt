@@ -42,4 +42,4 @@ pub use merging::merge;
 pub use progress::Progress;
 pub use ring_bank::RingBank;
 pub use ring_merging::{merge_advance, nothing_is_merged};
-pub use tone_lane::{ToneLane, new_tone_lanes};
+pub use tone_lane::ToneLane;

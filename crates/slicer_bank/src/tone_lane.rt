@@ -1,8 +1,7 @@
 //! A lane that takes tones: the rule of the line and the deframer of its bits.
 
-ghost use Rattle.std.specs.Prelude.{◌≡◌, ◌<◌, ◌≤◌, ◌↔◌, ℕ, ◌+◌, ◌*◌, List, [], ◌∷◌, ◌++◌, length, take, true, false, IfOk};
+ghost use Rattle.std.specs.Prelude.{◌≡◌, ◌<◌, ◌≤◌, ◌↔◌, ℕ, ◌+◌, ◌*◌, List, [], ◌∷◌, ◌++◌, length, take, true, false};
 ghost use Rattle.std.specs.Prelude.{IsTrue, if◌then◌else◌};
-ghost use Rattle.std.specs.List.{All};
 ghost use Rattle.tone_table.specs.declared.tone.Tone.{Tone};
 ghost use Rattle.nrzi_bits.specs.Line.{bits_from, bits_of, same_tone};
 ghost use Rattle.hdlc_framer.specs.BitOrder.{octet_bits};
@@ -13,9 +12,7 @@ ghost use Rattle.slicer_bank.specs.ToneLanes.{ToneLaneStandsFor};
 
 use hdlc_framer::{Deframer, Event};
 use nrzi_bits::NrziIn;
-use std::alloc::Global;
 use std::marker::Model;
-use tnc_base::OutOfMemory;
 use tone_table::Tone;
 
 /// The rule of inverted NRZ for the tones of one lane, and the deframer of the bits that it gives.
@@ -129,16 +126,4 @@ fn agree(before: Tone, tone: Tone) -> bool
     ensures { result ≡ same_tone before tone }
 {
     before == tone
-}
-
-/// So many lanes that have taken nothing.
-pub fn new_tone_lanes(alloc: Global, count: u64) -> Result<Vec<ToneLane>, OutOfMemory>
-    ensures count { IfOk result (λ lanes. length lanes.items ≡ count) }
-    ensures fresh { IfOk result (λ lanes. All (λ lane. ToneLaneStandsFor lane []) lanes.items) }
-{
-    let mut lanes = Vec::new(alloc);
-    for _ in 0..count {
-        lanes.push(ToneLane::new())?;
-    }
-    Ok(lanes)
 }
