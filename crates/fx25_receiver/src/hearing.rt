@@ -46,6 +46,7 @@ pub(crate) fn hear_blocks(
 }
 
 /// Takes the frame in the block of each tag, if one ends with the last bit of a lane.
+#[cold]
 fn hear_tags(
     alloc: Global,
     lane: &Lane,
@@ -90,6 +91,7 @@ pub(crate) fn hear_frame(
 }
 
 /// Takes the frame that ended plainly with a bit.
+#[cold]
 fn hear_plainly(
     alloc: Global,
     octets: &[u8],

@@ -59,6 +59,7 @@ impl Lane {
     }
 
     /// Takes the next tone, and says whether a frame ends plainly with it.
+    #[inline(always)]
     pub fn push(&mut self, tone: Tone) -> bool
         ensures stands_for { (tones : List Tone) → LaneStandsFor self.old tones
             → LaneStandsFor self.new (tones ++ tone ∷ []) }

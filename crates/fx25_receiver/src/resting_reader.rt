@@ -41,6 +41,7 @@ impl RestingReader {
     }
 
     /// Takes the next bit.
+    #[inline(always)]
     pub(crate) fn push(&mut self, bit: bool)
         ensures { (b : List Bool) → StandsFor self.old b → StandsFor self.new (b ++ bit ∷ []) }
     {

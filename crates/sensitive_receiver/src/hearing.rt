@@ -95,6 +95,7 @@ fn hear_fixed(
 
 /// Has the lanes from one to below another, counted from lane 8 on, read their bits of a list if the clock that they share
 /// says so: the first of them some places before the last one, and each one a place before the one before it.
+#[inline(always)]
 fn hear_clocked(
     alloc: Global,
     lists: &ToneLists,
