@@ -134,7 +134,7 @@ fetch("http://127.0.0.1:%d/", { method: "DANCE", body: new Uint8Array(%s) }).cat
 
 def browse(world, page, closed, *words):
     """Lets chromium load a page until so many connections are closed. It may ask again after one that closed."""
-    with tempfile.TemporaryDirectory() as home:
+    with tempfile.TemporaryDirectory(ignore_cleanup_errors=True) as home:
         with open(os.path.join(home, "page.html"), "w") as file:
             file.write(page)
         words = ["chromium", "--headless", "--no-sandbox", "--disable-gpu", f"--user-data-dir={home}/data", *words]
