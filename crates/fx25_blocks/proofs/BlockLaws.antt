@@ -26,7 +26,7 @@ code_of tag is_tag = record {
   even = even_checks tag is_tag;
 }
 
-reach_of : (tag : ℕ) (is_tag : IsTag tag) (word codeword : List ℕ) → IsRepairOf tag word codeword
+pub reach_of : (tag : ℕ) (is_tag : IsTag tag) (word codeword : List ℕ) → IsRepairOf tag word codeword
     → IsWithinReach (code_of tag is_tag) word codeword
 unfolding code_of
 reach_of tag is_tag word codeword repair =

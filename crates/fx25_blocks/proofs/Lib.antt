@@ -11,6 +11,7 @@ pub mod OptionLemmas
 pub mod ReaderLemmas
 pub mod ComingLemmas
 pub mod BlockLaws
+pub mod UnknownLaws
 pub mod DamageLemmas
 pub mod CoarseLemmas
 mod Examples

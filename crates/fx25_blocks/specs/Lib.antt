@@ -10,3 +10,5 @@ pub mod Held
 pub mod Began
 pub mod Damage
 pub mod CoarseCounts
+pub mod LeastSure
+pub mod UnknownOctets

@@ -4,11 +4,12 @@ ghost use Rattle.std.specs.Prelude.{◌≡◌, ◌≢◌, ◌+◌, ◌*◌, ◌<
 ghost use Rattle.hdlc_framer.specs.BitOrder.{sent_bits};
 ghost use Rattle.hdlc_framer.specs.Frames.{IsFrame};
 ghost use Rattle.reed_solomon.specs.Distance.{distance};
-ghost use Rattle.fx25_blocks.specs.BlockEnds.{EndsBlock};
+ghost use Rattle.fx25_blocks.specs.BlockEnds.{CarriesFrame, EndsBlock};
 ghost use Rattle.fx25_blocks.specs.Blocks.{IsBlockOf, bits_needed};
 ghost use Rattle.fx25_blocks.specs.Damage.{DifferWithin};
 ghost use Rattle.fx25_blocks.specs.NearTag.{IsNearTag};
-ghost use Rattle.fx25_blocks.specs.Tags.{IsTag, check_count, differing, tag_bits};
+ghost use Rattle.fx25_blocks.specs.Tags.{IsTag, block_length, check_count, differing, tag_bits};
+ghost use Rattle.fx25_blocks.specs.UnknownOctets.{ReadsFrame};
 
 /// Any two tags differ in at least 32 bits.
 pub fn tags_are_apart()
@@ -33,6 +34,21 @@ pub fn block_is_heard()
         → EndsBlock (before ++ (heard ++ sent_bits word)) tag frame (bits_needed frame)
         × ((other : List ℕ) → (over : ℕ) → EndsBlock (before ++ (heard ++ sent_bits word)) tag other over
         → (other ≡ frame) × (over ≡ bits_needed frame)) }
+{}
+
+/// A block that is near enough to a codeword as it came, and carries a frame, is read as that frame, however sure its
+/// octets are.
+pub fn near_block_is_read()
+    ensures { (tag : ℕ) → (word : List ℕ) → (certainty : List ℕ) → (frame : List ℕ) → (over : ℕ) → IsTag tag
+        → All (λ octet. octet < 256) word → CarriesFrame tag (sent_bits word) frame over → ReadsFrame tag word certainty frame over }
+{}
+
+/// A block with octets of any certainty is read as one frame at most, which is over at one place.
+pub fn one_frame_is_read()
+    ensures { (tag : ℕ) → (word : List ℕ) → (certainty : List ℕ) → (frame : List ℕ) → (other : List ℕ) → (over : ℕ)
+        → (other_over : ℕ) → IsTag tag → length word ≡ block_length tag
+        → ReadsFrame tag word certainty frame over → ReadsFrame tag word certainty other other_over
+        → (frame ≡ other) × (over ≡ other_over) }
 {}
 
 /// If the bits of a block came right but for one stretch of at most 4c - 7 bits, c being the number of its check

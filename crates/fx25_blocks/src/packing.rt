@@ -56,6 +56,18 @@ pub fn pack(bits: &[bool], count: usize) -> Word
     word
 }
 
+// The same octets as a word.
+pub fn word_of(octets: &[u8]) -> Word
+    requires { length octets.now ≤ 255 }
+    ensures { result.items ≡ octets.now }
+{
+    let mut word = ArrayVec::new();
+    for octet in octets {
+        word.push(*octet);
+    }
+    word
+}
+
 // The bits of octets.
 pub fn unpack(octets: &[u8]) -> WordBits
     requires { length octets.now ≤ 255 }

@@ -1,7 +1,7 @@
 // The worked example of FX.25 from outside: N7LEM>APRS:hello as Dire Wolf's gen_packets sends it with 16, 32 and 64
 // check octets.
 
-use crate::{BlockReader, write_block, write_unit};
+use crate::{BlockReader, block_length, block_with_unknown, write_block, write_unit};
 use std::alloc::Global;
 use std::process::Abort;
 use tnc_base::Octets;
@@ -115,6 +115,44 @@ fn damaged_units_are_heard(rt: HostRuntime) {
         (0, 13, 0),
     ] {
         assert_eq!(rt; heard(&rt, wrong, wrong_tag_bits), over);
+    }
+}
+
+// Is the frame of the block read with each third octet sent wrong, so many in all, of which so many are told to be less
+// sure than all other octets?
+fn is_read(rt: &impl Abort, wrong: usize, unsure: usize) -> bool {
+    let mut octets = [0; 48];
+    let mut certainty = [5; 48];
+    octets.copy_from_slice(&UNIT_16[8..]);
+    for k in 0..16 {
+        if k < wrong {
+            octets[3 * k] ^= 0xFF;
+        }
+        if k < unsure {
+            certainty[3 * k] = 1;
+        }
+    }
+    let (octets, certainty) = (octets.as_slice(), certainty.as_slice());
+    assert!(*rt; octets.len() == block_length(4) && certainty.len() == block_length(4));
+    match block_with_unknown(4, octets, certainty) {
+        None => false,
+        Some(found) => {
+            assert_eq!(*rt; found.octets.as_slice(), FRAME.as_slice());
+            true
+        }
+    }
+}
+
+#[test]
+fn unsure_octets_are_taken_as_unknown(rt: HostRuntime) {
+    for (wrong, unsure, read) in [
+        (8, 0, true),
+        (9, 2, true),
+        (12, 12, true),
+        (13, 13, false),
+        (12, 0, false),
+    ] {
+        assert_eq!(rt; is_read(&rt, wrong, unsure), read);
     }
 }
 

@@ -231,7 +231,7 @@ nothing = 0
 abbrev single : ℕ
 single = 1
 
-distance-comm : (xs ys : List ℕ) → distance xs ys ≡ distance ys xs
+pub distance-comm : (xs ys : List ℕ) → distance xs ys ≡ distance ys xs
 unfolding distance
 distance-comm [] [] = refl
 distance-comm [] (y ∷ ys) = refl

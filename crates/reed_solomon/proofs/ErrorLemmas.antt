@@ -2,15 +2,16 @@
 use Rattle.reed_solomon.proofs.Common.{◌≡◌, ◌≢◌, ℕ, zero, suc, ◌+◌, ◌-◌, ◌*◌, ◌<◌, ◌≤◌, Bool, true, false, cond, eqb}
 use Rattle.reed_solomon.proofs.Common.{bit_xor, List, [], ◌∷◌, length, get_or, take, drop, refl, ap, subst, ◌∙◌, sym}
 use Rattle.reed_solomon.proofs.Common.{inl, inr, arith, xor_zero_r, cases_eq, eq-eqb, ne_eqb, length-take, times_power}
-use Rattle.reed_solomon.proofs.Common.{value_at, Vanishes, product, added, dot, values_down, octet_before, IsWrong}
+use Rattle.reed_solomon.proofs.Common.{value_at, Vanishes, product, added, dot, values_down, octet_before, IsWrong, scaled}
+use Rattle.reed_solomon.proofs.Common.{weight_outside}
 use Rattle.reed_solomon.proofs.FieldLemmas.{times_power-add, times_power_rounds, product-lt, zero-product, product-zero}
-use Rattle.reed_solomon.proofs.FieldLemmas.{power_of_zero, product_comm, product_assoc, product-one}
+use Rattle.reed_solomon.proofs.FieldLemmas.{power_of_zero, product_comm, product_assoc, product-one, zero_from_product}
 use Rattle.reed_solomon.proofs.ValueLemmas.{Octets, Octets-added, length-added, get_or-added, value_at-lt}
 use Rattle.reed_solomon.proofs.ValueLemmas.{value_at-added, weight}
 use Rattle.reed_solomon.proofs.Vandermonde.{few_zeros}
 use Rattle.reed_solomon.proofs.DistanceLemmas.{weight-added, octets_of_all}
-use Rattle.reed_solomon.proofs.ScaledLemmas.{scaled, length-scaled, Octets-scaled, dot-values_down, weight-scaled}
-use Rattle.reed_solomon.proofs.ScaledLemmas.{zero_at_octet, IsAloneAt, value_at-alone}
+use Rattle.reed_solomon.proofs.ScaledLemmas.{length-scaled, Octets-scaled, dot-values_down, weight-scaled, octet_before-scaled}
+use Rattle.reed_solomon.proofs.ScaledLemmas.{weight-scaled_outside, zero_at_octet, IsAloneAt, value_at-alone}
 use Rattle.reed_solomon.proofs.KernelLemmas.{dot-take}
 
 -- ---- lists of values
@@ -19,6 +20,15 @@ pub length-values_down : (w : List ℕ) (first n : ℕ) → length (values_down 
 unfolding values_down
 length-values_down w first zero = refl
 length-values_down w first (suc n) = ap suc (length-values_down w first n)
+
+pub values_down-suc : (w : List ℕ) (first n : ℕ)
+    → values_down w first (suc n) ≡ value_at (first + n) w ∷ values_down w first n
+unfolding values_down
+values_down-suc w first n = refl
+
+pub values_down-zero : (w : List ℕ) (first n : ℕ) → n ≡ 0 → values_down w first n ≡ []
+unfolding values_down
+values_down-zero w first n none = ap (values_down w first) none
 
 drop-values_down : (w : List ℕ) (first k n : ℕ) → drop k (values_down w first (k + n)) ≡ values_down w first n
 unfolding values_down
@@ -157,42 +167,64 @@ error_value first p count inverted all errors low few all_octets octets fits one
     ∙ ap (product inverted) (product_comm e v e_fits v_fits) ∙ sym (product_assoc inverted v e v_fits e_fits)
     ∙ ap (λ m. product m e) one ∙ product_comm 1 e (omega arith) e_fits ∙ product-one e e_fits
 
--- ---- the errors of a word beside a codeword
+-- ---- where the errors of a word are told
 
-pub errors_near : (first count : ℕ) (word v : List ℕ) → IsWrong first count word v → 2 * weight (added word v) ≤ count
-errors_near first count word v wrong = omega (arith, wrong.near, weight-added word v)
-
-pub errors_values : (first count : ℕ) (word v : List ℕ) → IsWrong first count word v → Octets word → Octets v
-    → values_down word first count ≡ values_down (added word v) first count
-errors_values first count word v wrong octets v_octets =
-    same_values word (added word v) first count (λ j from below.
-    sym (value_at-added j word v (sym wrong.size) octets v_octets
-    ∙ ap (bit_xor (value_at j word)) (wrong.vanishes j from below) ∙ xor_zero_r (value_at j word)))
-
--- The kernel of a word's syndromes is 0 wherever the word is wrong.
-pub errors_at_roots : (first most : ℕ) (syndromes word v k : List ℕ) (roots : List Bool) → length k ≡ 33
-    → Octets (take (most + 1) k) → Octets word → length word ≡ 255 → length syndromes ≡ 2 * most → most < 33
-    → syndromes ≡ values_down word first (length syndromes)
+-- The kernel of the values of errors is 0 wherever there is an error.
+errors_at_roots : (first most : ℕ) (syndromes errors k : List ℕ) (roots : List Bool) → length k ≡ 33
+    → Octets (take (most + 1) k) → Octets errors → length errors ≡ 255 → most < 33
+    → syndromes ≡ values_down errors first (2 * most)
     → ((i : ℕ) → i < most → dot k (take (most + 1) (drop i syndromes)) ≡ 0)
     → ((p : ℕ) → p < 255 → get_or roots p false ≡ eqb (value_at p (take (most + 1) k)) 0)
-    → IsWrong first (length syndromes) word v
-    → (q : ℕ) → q < 255 → octet_before q (added word v) ≢ 0 → get_or roots q false ≡ true
-errors_at_roots first most syndromes word v k roots k_size l_octets octets size even low is met are_roots wrong q below
-    some =
-    let v_octets = octets_of_all v wrong.octets in
-    let errors = added word v in
+    → weight errors ≤ most
+    → (q : ℕ) → q < 255 → octet_before q errors ≢ 0 → get_or roots q false ≡ true
+errors_at_roots first most syndromes errors k roots k_size l_octets octets size low same met are_roots light q below some =
     let l = take (most + 1) k in
-    let same : syndromes ≡ values_down errors first (2 * most) =
-    is ∙ errors_values first (length syndromes) word v wrong octets v_octets ∙ ap (values_down errors first) even in
-    let errors_size = length-added word v (sym wrong.size) in
     let met_l : (i : ℕ) → i < most → dot l (take (most + 1) (drop i (values_down errors first (2 * most)))) ≡ 0 =
     λ i inside. dot-take (most + 1) k (take (most + 1) (drop i (values_down errors first (2 * most))))
     (omega (arith, length-take (most + 1) (drop i (values_down errors first (2 * most)))))
     ∙ ap (λ xs. dot k (take (most + 1) (drop i xs))) (sym same) ∙ met i inside in
     are_roots q below
     ∙ eq-eqb (value_at q l) 0 (zero_at_errors first most l errors (omega (arith, length-take (most + 1) k)) l_octets
-    (Octets-added word v octets v_octets) (omega (arith, errors_size))
-    (omega (arith, errors_near first (length syndromes) word v wrong)) met_l q (omega (arith, errors_size)) some)
+    octets (omega arith) light met_l q (omega arith) some)
+
+-- a sum of the values of errors as a value of the errors scaled
+pub scaled_value : (first j i count : ℕ) (factors syndromes errors : List ℕ)
+    → i + length factors + j ≡ first + count → first ≤ j → Octets factors → Octets errors
+    → syndromes ≡ values_down errors first count
+    → dot factors (take (length factors) (drop i syndromes)) ≡ value_at j (scaled factors errors)
+scaled_value first j i count factors syndromes errors sum from factors_octets octets is =
+    ap (λ xs. dot factors (take (length factors) (drop i xs))) is
+    ∙ ap (dot factors) (values_window errors first j i (length factors) count sum from)
+    ∙ dot-values_down j factors errors factors_octets octets
+
+-- The kernel of the values of errors that are scaled is 0 wherever there is an error, if the scale is not.
+pub scaled_errors_at_roots : (first most : ℕ) (syndromes factors errors k : List ℕ) (unknown roots : List Bool)
+    → length k ≡ 33 → Octets (take (most + 1) k) → Octets factors → Octets errors → length errors ≡ 255 → most < 33
+    → syndromes ≡ values_down (scaled factors errors) first (2 * most)
+    → ((i : ℕ) → i < most → dot k (take (most + 1) (drop i syndromes)) ≡ 0)
+    → ((p : ℕ) → p < 255 → get_or roots p false ≡ eqb (value_at p (take (most + 1) k)) 0)
+    → ((q : ℕ) → q < 255 → get_or unknown q false ≡ true → value_at q factors ≡ 0)
+    → weight_outside unknown errors ≤ most
+    → (q : ℕ) → q < 255 → value_at q factors ≢ 0 → octet_before q errors ≢ 0 → get_or roots q false ≡ true
+scaled_errors_at_roots first most syndromes factors errors k unknown roots k_size l_octets factors_octets octets size low
+    same met are_roots zeros light q below apart some =
+    let e = octet_before q errors in
+    let e_some : 0 < e = omega (arith, some) in
+    let v_fits = value_at-lt q factors factors_octets in
+    errors_at_roots first most syndromes (scaled factors errors) k roots k_size l_octets
+    (Octets-scaled factors errors factors_octets) (length-scaled factors errors ∙ size) low same met are_roots
+    (omega (arith, light, weight-scaled_outside unknown factors errors (λ p inside. zeros p (omega arith)))) q below
+    (λ none. apart (zero_from_product e (value_at q factors) e_some v_fits
+    (sym (octet_before-scaled factors errors q (omega arith)) ∙ none)))
+
+-- ---- the errors of a word beside a codeword
+
+pub errors_values : (first count : ℕ) (unknown : List Bool) (word v : List ℕ) → IsWrong first count unknown word v
+    → Octets word → Octets v → values_down word first count ≡ values_down (added word v) first count
+errors_values first count unknown word v wrong octets v_octets =
+    same_values word (added word v) first count (λ j from below.
+    sym (value_at-added j word v (sym wrong.size) octets v_octets
+    ∙ ap (bit_xor (value_at j word)) (wrong.vanishes j from below) ∙ xor_zero_r (value_at j word)))
 
 -- the octet by which a word is wrong
 pub error_is : (word v : List ℕ) (k p : ℕ) → k + p + 1 ≡ length word → length v ≡ length word

@@ -11,4 +11,5 @@ pub mod KernelLemmas
 pub mod RootLemmas
 pub mod ErrorLemmas
 pub mod WordLemmas
+pub mod UnknownLemmas
 mod Examples

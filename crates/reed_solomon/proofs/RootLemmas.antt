@@ -1,6 +1,6 @@
 -- The polynomial with all roots but one, and how many roots there are.
 use Rattle.reed_solomon.proofs.Common.{◌≡◌, ◌≢◌, ℕ, zero, suc, ◌+◌, ◌<◌, ◌≤◌, Bool, true, false, cond, eqb, bit_xor}
-use Rattle.reed_solomon.proofs.Common.{List, [], ◌∷◌, ◌++◌, length, get_or, take, refl, ap, ◌∙◌, sym, inl, inr, arith}
+use Rattle.reed_solomon.proofs.Common.{List, [], ◌∷◌, ◌++◌, length, get_or, set, take, refl, ap, ◌∙◌, sym, inl, inr, arith}
 use Rattle.reed_solomon.proofs.Common.{take_all, xor_self, cases_lt, take_more, length-take, times_power, power}
 use Rattle.reed_solomon.proofs.Common.{value_at, with_root, count_true}
 use Rattle.std.proofs.lemmas.List.{get_or-take}
@@ -64,6 +64,37 @@ count_true_root xs i below root =
 
 pub count_true_step : (xs : List Bool) (i : ℕ) → i < length xs → count_true (take i xs) ≤ count_true (take (i + 1) xs)
 count_true_step xs i below = omega (arith, count_true_more xs i below)
+
+-- another place counts nothing
+pub count_true_none : (xs : List Bool) (i : ℕ) → i < length xs → get_or xs i false ≡ false
+    → count_true (take (i + 1) xs) ≡ count_true (take i xs)
+count_true_none xs i below none =
+    count_true_more xs i below ∙ ap (λ b. count_true (take i xs) + cond b 1 0) none ∙ omega arith
+
+pub count_true_nil : count_true [] ≡ 0
+unfolding count_true
+count_true_nil = refl
+
+-- one place changed
+pub count_true-set : (xs : List Bool) (k : ℕ) (b : Bool) → k < length xs
+    → count_true (set xs k b) + cond (get_or xs k false) 1 0 ≡ count_true xs + cond b 1 0
+unfolding count_true
+count_true-set [] k b below = absurd (omega arith)
+count_true-set (x ∷ xs) zero b below = omega arith
+count_true-set (x ∷ xs) (suc k) b below = omega (arith, count_true-set xs k b (omega arith))
+
+pub count_true_raised : (xs : List Bool) (k : ℕ) → k < length xs → count_true (set xs k true) ≤ count_true xs + 1
+count_true_raised xs k below =
+    let step : count_true (set xs k true) + cond (get_or xs k false) 1 0 ≡ count_true xs + 1 =
+    count_true-set xs k true below in
+    omega (arith, step)
+
+pub count_true_cleared : (xs : List Bool) (k : ℕ) → k < length xs → get_or xs k false ≡ true
+    → count_true (set xs k false) + 1 ≡ count_true xs
+count_true_cleared xs k below root =
+    let step : count_true (set xs k false) + 1 ≡ count_true xs + 0 =
+    sym (ap (λ b. count_true (set xs k false) + cond b 1 0) root) ∙ count_true-set xs k false below in
+    omega (arith, step)
 
 count_true-roots : (l : List ℕ) (xs : List Bool) (n : ℕ) → n ≤ length xs
     → ((p : ℕ) → p < length xs → get_or xs p false ≡ eqb (value_at p l) 0) → count_true (take n xs) ≡ roots_below l n

@@ -1,9 +1,11 @@
 -- The sum of a list's coefficients times the values of a word is a value of the word scaled: each octet times the
 -- list's
 -- value at the octet's own point. Two sums change places, and nothing else happens.
-use Rattle.reed_solomon.proofs.Common.{◌≡◌, ℕ, zero, suc, ◌+◌, ◌*◌, ◌<◌, ◌≤◌, ◌≢◌, cond, bit_xor, List, [], ◌∷◌, length}
-use Rattle.reed_solomon.proofs.Common.{refl, ap, ◌∙◌, sym, inl, inr, arith, xor_zero_l, xor_zero_r, cases_eq, eq-eqb}
-use Rattle.reed_solomon.proofs.Common.{ne_eqb, times_power, value_at, product, added, dot, values_down, octet_before}
+use Rattle.reed_solomon.proofs.Common.{◌≡◌, ℕ, zero, suc, ◌+◌, ◌*◌, ◌<◌, ◌≤◌, ◌≢◌, Bool, true, false, cond, eqb}
+use Rattle.reed_solomon.proofs.Common.{bit_xor, List, [], ◌∷◌, length, get_or, refl, ap, ◌∙◌, sym, inl, inr, arith}
+use Rattle.reed_solomon.proofs.Common.{xor_zero_l, xor_zero_r, cases_Bool, cases_eq, eq-eqb, ne_eqb, times_power}
+use Rattle.reed_solomon.proofs.Common.{value_at, product, added, dot, values_down, octet_before, scaled}
+use Rattle.reed_solomon.proofs.Common.{weight_outside}
 use Rattle.reed_solomon.proofs.FieldLemmas.{times_power-lt, times_power-zero, times_power-add, product-lt, product-zero}
 use Rattle.reed_solomon.proofs.FieldLemmas.{zero-product, product-xor, product-times_power, product_comm}
 use Rattle.reed_solomon.proofs.FieldLemmas.{zero_from_product}
@@ -11,12 +13,7 @@ use Rattle.reed_solomon.proofs.ValueLemmas.{Octets, value_at-lt, value_at-added,
 use Rattle.reed_solomon.proofs.GeneratorLemmas.{value_at-cons}
 use Rattle.reed_solomon.proofs.DistanceLemmas.{weight-zero, weight-some}
 
--- each octet times the value of l at the octet's own point
-abbrev pub scaled : List ℕ → List ℕ → List ℕ
-scaled l [] = []
-scaled l (x ∷ xs) = product x (value_at (length xs) l) ∷ scaled l xs
-
--- the same for the one coefficient a of the n-th power
+-- a word scaled by the one coefficient a of the n-th power
 abbrev scaled_by_power : ℕ → ℕ → List ℕ → List ℕ
 scaled_by_power a n [] = []
 scaled_by_power a n (x ∷ xs) = product x (times_power (length xs * n) a) ∷ scaled_by_power a n xs
@@ -117,6 +114,79 @@ weight-scaled l (suc x ∷ xs) =
           let rest = ap (λ n. weight (n ∷ scaled l xs)) none ∙ weight-zero (scaled l xs) in
           omega (arith, rest, one, weight-scaled l xs)
       | inr some ↦ omega (arith, weight-some y (scaled l xs) some, one, weight-scaled l xs)
+    ]
+
+-- the octets of a scaled word
+pub octet_before-scaled : (l w : List ℕ) (k : ℕ) → k < length w
+    → octet_before k (scaled l w) ≡ product (octet_before k w) (value_at k l)
+unfolding octet_before
+octet_before-scaled l [] k below = absurd (omega arith)
+octet_before-scaled l (x ∷ xs) k below =
+    let n = length xs in
+    let y = product x (value_at n l) in
+    let size = length-scaled l xs in
+    elim (cases_eq k n) [
+      | inl here ↦
+          ap (λ t. cond t y (octet_before k (scaled l xs))) (eq-eqb k (length (scaled l xs)) (here ∙ sym size))
+          ∙ ap (λ m. product x (value_at m l)) (sym here)
+          ∙ ap (λ m. product m (value_at k l)) (sym (ap (λ t. cond t x (octet_before k xs)) (eq-eqb k n here)))
+      | inr other ↦
+          ap (λ t. cond t y (octet_before k (scaled l xs))) (ne_eqb k (length (scaled l xs)) (λ e. other (e ∙ size)))
+          ∙ octet_before-scaled l xs k (omega arith)
+          ∙ ap (λ m. product m (value_at k l)) (sym (ap (λ t. cond t x (octet_before k xs)) (ne_eqb k n other)))
+    ]
+
+-- ---- how many octets a scaled word keeps
+
+weight_more : (y : ℕ) (ys : List ℕ) → weight (y ∷ ys) ≤ suc (weight ys)
+weight_more y ys =
+    elim (cases_eq y 0) [
+      | inl none ↦ omega (arith, ap (λ n. weight (n ∷ ys)) none ∙ weight-zero ys)
+      | inr some ↦ omega (arith, weight-some y ys some)
+    ]
+
+pub weight_outside-cons : (flags : List Bool) (x : ℕ) (xs : List ℕ) → weight_outside flags (x ∷ xs)
+    ≡ cond (get_or flags (length xs) false) 0 (cond (eqb x 0) 0 1) + weight_outside flags xs
+unfolding weight_outside
+weight_outside-cons flags x xs = refl
+
+nil_weight : (flags : List Bool) (l : List ℕ) → weight (scaled l []) ≡ weight_outside flags []
+unfolding weight weight_outside
+nil_weight flags l = refl
+
+abbrev nothing : ℕ
+nothing = 0
+
+abbrev single : ℕ
+single = 1
+
+-- A list that is 0 at the flagged places leaves no more than the octets outside them.
+pub weight-scaled_outside : (flags : List Bool) (l w : List ℕ)
+    → ((q : ℕ) → q < length w → get_or flags q false ≡ true → value_at q l ≡ 0)
+    → weight (scaled l w) ≤ weight_outside flags w
+weight-scaled_outside flags l [] zeros = omega (arith, nil_weight flags l)
+weight-scaled_outside flags l (x ∷ xs) zeros =
+    let n = length xs in
+    let y = product x (value_at n l) in
+    let rest = weight-scaled_outside flags l xs (λ q below. zeros q (omega arith)) in
+    let counted = weight_outside-cons flags x xs in
+    let lighter : y ≡ 0 → weight (y ∷ scaled l xs) ≡ weight (scaled l xs) =
+    λ none. ap (λ m. weight (m ∷ scaled l xs)) none ∙ weight-zero (scaled l xs) in
+    elim (cases_Bool (get_or flags n false)) [
+      | inl flagged ↦
+          let less = lighter (ap (product x) (zeros n (omega arith) flagged) ∙ product-zero x) in
+          omega (arith, less, rest, counted)
+      | inr known ↦
+          elim (cases_eq x 0) [
+            | inl x_zero ↦
+                let less = lighter (ap (λ m. product m (value_at n l)) x_zero ∙ zero-product (value_at n l)) in
+                omega (arith, less, rest, counted)
+            | inr x_some ↦
+                let one : cond (get_or flags n false) nothing (cond (eqb x 0) nothing single) ≡ single =
+                ap (λ b. cond b nothing (cond (eqb x 0) nothing single)) known
+                ∙ ap (λ t. cond t nothing single) (ne_eqb x 0 x_some) in
+                omega (arith, one, rest, counted, weight_more y (scaled l xs))
+          ]
     ]
 
 -- A word that the list scales to 0 has octets only at zeros of the list.

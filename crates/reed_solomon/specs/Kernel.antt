@@ -1,9 +1,10 @@
 -- What the decoder works with. No public clause cites it.
-use Rattle.std.specs.Prelude.{◌≡◌, ℕ, zero, suc, ◌+◌, ◌*◌, ◌==◌, ◌<◌, ◌≤◌, ◌≢◌, Bool, List, [], ◌∷◌, length}
+use Rattle.std.specs.Prelude.{◌≡◌, ℕ, zero, suc, ◌+◌, ◌*◌, ◌==◌, ◌<◌, ◌≤◌, ◌≢◌, Bool, false, List, [], ◌∷◌, length, map}
 use Rattle.std.specs.Prelude.{if◌then◌else◌, slice_index, slice_index_or, bit_xor, All}
 use Rattle.reed_solomon.specs.Values.{value_at, Vanishes}
-use Rattle.reed_solomon.specs.Distance.{distance}
+use Rattle.reed_solomon.specs.Erasures.{count_true}
 use Rattle.reed_solomon.specs.Product.{product}
+use Rattle.reed_solomon.specs.Register.{added}
 
 -- the sum of the products of two lists, place by place, as far as both go
 unfoldable pub dot : List ℕ → List ℕ → ℕ
@@ -44,14 +45,26 @@ pub record AddsMultiple (pivot old new : List ℕ) : Type 0 where
   pub at : (u : ℕ) → slice_index pivot u ≡ 0 → slice_index new u ≡ slice_index old u
   pub in_equation : (other : List ℕ) → All (λ x. x < 256) other → dot pivot other ≡ 0 → dot new other ≡ dot old other
 
--- how many tests hold
-unfoldable pub count_true : List Bool → ℕ
-count_true [] = 0
-count_true (b ∷ bs) = (if b then 1 else 0) + count_true bs
+-- each octet of a word times the value of a list at the octet's own point, power(k) if k others follow it
+abbrev pub scaled : List ℕ → List ℕ → List ℕ
+scaled l [] = []
+scaled l (x ∷ xs) = product x (value_at (length xs) l) ∷ scaled l xs
 
--- A word that is wrong in at most half as many octets as there are roots: v is the right one.
-pub record IsWrong (first count : ℕ) (word v : List ℕ) : Type 0 where
+-- How many octets of a list are not 0 and not flagged. The flag of an octet stands at the place that counts the octets
+-- after it.
+unfoldable pub weight_outside : List Bool → List ℕ → ℕ
+weight_outside flags [] = 0
+weight_outside flags (x ∷ xs) =
+    (if slice_index_or flags (length xs) false then 0 else (if x == 0 then 0 else 1)) + weight_outside flags xs
+
+-- 1 for each unknown octet of a word, and 0 for each known one
+abbrev pub marks : List Bool → List ℕ
+marks unknown = map (λ flag. if flag then 1 else 0) unknown
+
+-- A word with unknown octets that is wrong, elsewhere, in at most half as many octets as roots are left if one is spent
+-- on each unknown octet: v is the right one.
+pub record IsWrong (first count : ℕ) (unknown : List Bool) (word v : List ℕ) : Type 0 where
   pub octets : All (λ x. x < 256) v
   pub size : length v ≡ length word
   pub vanishes : Vanishes first count v
-  pub near : 2 * distance word v ≤ count
+  pub near : count_true unknown + 2 * weight_outside unknown (added word v) ≤ count

@@ -1,6 +1,6 @@
 // Check octets and repairs from outside: blocks of FX.25 as Dire Wolf sends them, and words of an independent program.
 
-use crate::{Code, NoCodeword, Zeros, check_octets, is_codeword, repair};
+use crate::{Code, NoCodeword, Zeros, check_octets, is_codeword, repair, repair_with_unknown};
 use std::process::Abort;
 
 // N7LEM>APRS:hello in a block of FX.25: a flag, the frame's bits and flags.
@@ -87,6 +87,39 @@ fn blocks_are_repaired(rt: HostRuntime) {
     ] {
         let mut heard = block(wrong);
         let repaired = repair(&code, &mut heard);
+        let kept = if repaired.is_ok() {
+            block(0)
+        } else {
+            block(wrong)
+        };
+        assert_eq!(rt; repaired, expected);
+        assert_eq!(rt; heard.as_slice(), kept.as_slice());
+    }
+}
+
+// The wrong octets and the unknown ones of a block, each of them the first so many of every third octet.
+const UNKNOWN: [(usize, usize, Result<usize, NoCodeword>); 6] = [
+    (16, 16, Ok(16)),
+    (12, 8, Ok(12)),
+    (11, 7, Ok(11)),
+    (2, 16, Ok(2)),
+    (13, 8, Err(NoCodeword)),
+    (12, 7, Err(NoCodeword)),
+];
+
+#[test]
+fn blocks_with_unknown_octets_are_repaired(rt: HostRuntime) {
+    let code = code(&rt, 1, 16, Zeros::Between);
+    assert_eq!(rt; code.check_count(), 16);
+    for (wrong, unknown, expected) in UNKNOWN {
+        let mut heard = block(wrong);
+        let mut flags = [false; 48];
+        for k in 0..unknown.min(16) {
+            flags[3 * k] = true;
+        }
+        let flags = flags.as_slice();
+        assert_eq!(rt; flags.len(), 48);
+        let repaired = repair_with_unknown(&code, &mut heard, flags);
         let kept = if repaired.is_ok() {
             block(0)
         } else {

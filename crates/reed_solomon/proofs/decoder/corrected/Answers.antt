@@ -1,7 +1,8 @@
 use Rattle.reed_solomon.proofs.Common.{◌≡◌, ℕ, ◌%◌, ◌<◌, List, All, length, ap, subst, sym, ◌∙◌, arith, values_down}
 use Rattle.reed_solomon.proofs.ErrorLemmas.{length-values_down}
 use Rattle.reed_solomon.proofs.RegisterLemmas.{refill_all}
-use Rattle.reed_solomon.proofs.WordLemmas.{long, length-long, repaired_is, same_wrong}
+use Rattle.reed_solomon.proofs.UnknownLemmas.{repaired_is, same_wrong, count_whole}
+use Rattle.reed_solomon.proofs.WordLemmas.{long, length-long}
 use Rattle.reed_solomon.proofs.decoder.corrected.Goals as goal
 
 -- the syndromes, however the word and its numbers are read
@@ -24,12 +25,18 @@ correct-requires c =
     let size : length c.as_slice-2.result.now ≡ code.check_count =
     ap length syndromes ∙ length-values_down c.as_slice.result.now c.first_root.result c.check_count.result
     ∙ c.check_count.ensures in
-    let same_count = ap (λ n. n % 2) size in
     let P : List ℕ → Type 0 = λ xs. All (λ x. x < 256) xs in
     record {
       first_root = omega (arith, c.first_root-2.ensures, code.root);
       count = omega (arith, size, code.most);
-      even = same_count ∙ code.even;
+      few = omega (
+        arith,
+        c.requires.few,
+        size,
+        count_whole code c.args.unknown.now c.whole_flags-flags.result
+            (omega (arith, c.requires.least, c.requires.flags)) (omega (arith, c.requires.most, c.requires.flags))
+            c.whole_flags-flags.ensures.size c.whole_flags-flags.ensures.flags,
+      );
       size = ap length now ∙ length-long code word c.requires.least c.requires.most;
       octets = subst P (sym c.as_mut_slice.ensures.value) c.whole_word-whole.ensures.octets;
       syndromes = syndromes_same c.as_slice-2.result.now c.as_slice.result.now c.as_mut_slice.result.now
@@ -63,7 +70,9 @@ returns-clause-found c = λ v within.
     let is = c.as_slice-3.ensures.value
     ∙ refill_all _ c.whole_word-whole.result.items c.correct.new.word
     (c.correct.auto.word ∙ ap length c.as_mut_slice.ensures.value) in
-    repaired_is code word v c.as_slice-3.result.now c.sent_word.result.items c.requires.least c.requires.most within
+    repaired_is code c.args.unknown.now c.whole_flags-flags.result word v c.as_slice-3.result.now
+    c.sent_word.result.items c.requires.least c.requires.most c.requires.flags c.whole_flags-flags.ensures.size
+    c.whole_flags-flags.ensures.flags within
     (λ u wrong. is ∙ c.correct.ensures u (same_wrong code.first_root c.first_root-2.result code.check_count
-    (length c.as_slice-2.result.now) (long code word) c.as_mut_slice.result.now u (sym c.first_root-2.ensures) size
+    (length c.as_slice-2.result.now) c.whole_flags-flags.result (long code word) c.as_mut_slice.result.now u (sym c.first_root-2.ensures) size
     whole_is wrong)) c.sent_word.ensures.sent

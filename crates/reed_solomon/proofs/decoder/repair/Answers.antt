@@ -1,36 +1,45 @@
--- If a codeword is within reach, the word that is taken is that one.
-use Rattle.reed_solomon.proofs.Common.{◌≡◌, ℕ, List, ap, subst, sym, ◌∙◌, refl, arith, false≢true, IsCodeword, distance}
-use Rattle.reed_solomon.proofs.DistanceLemmas.{distance-refl, one_within_reach}
-use Rattle.reed_solomon.proofs.WordLemmas.{within_own_reach}
+-- No octet is unknown.
+use Rattle.reed_solomon.proofs.Common.{◌≡◌, ℕ, Bool, List, false, replicate, length, sym, ◌∙◌, subst, IsWithinReach}
+use Rattle.reed_solomon.proofs.Common.{IsWithinReachOutside}
+use Rattle.std.proofs.lemmas.Result.{IfOk-weaker, on_err_weaker}
+use Rattle.reed_solomon.proofs.UnknownLemmas.{reach_of_known}
 use Rattle.reed_solomon.proofs.decoder.repair.Goals as goal
 
-pub returns-then-vanishes-clause-repaired : goal.returns-then-vanishes-clause-repaired
-returns-then-vanishes-clause-repaired c =
-    within_own_reach c.args.code.now c.args.word.now c.if-vanishes.ensures.octets
-    (c.if-vanishes.ensures.value.0 refl)
-
-pub returns-then-vanishes-clause-count : goal.returns-then-vanishes-clause-count
-returns-then-vanishes-clause-count c = sym (distance-refl c.args.word.now)
-
-pub returns-then-not-vanishes-clause-refused : goal.returns-then-not-vanishes-clause-refused
-returns-then-not-vanishes-clause-refused c = λ v within.
-    let code = c.args.code.now in
-    let taken : c.as_slice.result.now ≡ v = c.as_slice.ensures.value ∙ c.corrected-repaired.ensures.found v within in
-    let P : List ℕ → Type 0 = λ xs. IsCodeword code xs in
-    let yes = c.if-not-vanishes.ensures.value.1 (subst P (sym taken) within.codeword) in
-    absurd (false≢true yes)
-
-pub returns-then-count-check_count-clause-refused : goal.returns-then-count-check_count-clause-refused
-returns-then-count-check_count-clause-refused c = λ v within.
-    let word = c.args.word.now in
-    let taken : c.as_slice-2.result.now ≡ v = c.as_slice-2.ensures.value
-    ∙ c.corrected-repaired.ensures.found v within in
-    let count = c.distance-count.ensures.value ∙ ap (distance word) taken in
-    absurd (omega (arith, within.near, count, c.check_count.ensures, c.if-count-check_count.true))
-
-pub returns-then-vanishes-clause-only : goal.returns-then-vanishes-clause-only
-returns-then-vanishes-clause-only c = λ v within.
+pub returns-clause-repaired : goal.returns-clause-repaired
+returns-clause-repaired c =
     let code = c.args.code.now in
     let word = c.args.word.now in
-    one_within_reach code word v word c.requires.least c.requires.most within
-    (within_own_reach code word c.if-vanishes.ensures.octets (c.if-vanishes.ensures.value.0 refl))
+    let v = c.repair_with_unknown.new.word in
+    let flags = c.as_slice.result.now in
+    let none : flags ≡ replicate (length word) false = c.as_slice.ensures.value ∙ c.none_unknown-unknown.ensures in
+    let P : List Bool → Type 0 = λ fs. IsWithinReachOutside code fs word v in
+    IfOk-weaker c.repair_with_unknown.result (λ _. IsWithinReachOutside code flags word v)
+    (λ _. IsWithinReach code word v) (λ _ within. (reach_of_known code (length word) word v).0 (subst P none within))
+    c.repair_with_unknown.ensures.repaired
+
+pub returns-clause-only : goal.returns-clause-only
+returns-clause-only c =
+    let code = c.args.code.now in
+    let word = c.args.word.now in
+    let new = c.repair_with_unknown.new.word in
+    let flags = c.as_slice.result.now in
+    let none : flags ≡ replicate (length word) false = c.as_slice.ensures.value ∙ c.none_unknown-unknown.ensures in
+    IfOk-weaker c.repair_with_unknown.result
+    (λ _. (v : List ℕ) → IsWithinReachOutside code flags word v → v ≡ new)
+    (λ _. (v : List ℕ) → IsWithinReach code word v → v ≡ new)
+    (λ _ only v within.
+    let P : List Bool → Type 0 = λ fs. IsWithinReachOutside code fs word v in
+    only v (subst P (sym none) ((reach_of_known code (length word) word v).1 within)))
+    c.repair_with_unknown.ensures.only
+
+pub returns-clause-refused : goal.returns-clause-refused
+returns-clause-refused c =
+    let code = c.args.code.now in
+    let word = c.args.word.now in
+    let flags = c.as_slice.result.now in
+    let none : flags ≡ replicate (length word) false = c.as_slice.ensures.value ∙ c.none_unknown-unknown.ensures in
+    on_err_weaker c.repair_with_unknown.result
+    (λ refused v within.
+    let P : List Bool → Type 0 = λ fs. IsWithinReachOutside code fs word v in
+    refused v (subst P (sym none) ((reach_of_known code (length word) word v).1 within)))
+    c.repair_with_unknown.ensures.refused

@@ -1,15 +1,7 @@
 use Rattle.reed_solomon.proofs.Common.{◌≡◌, ℕ, suc, ◌+◌, ◌-◌, List, ◌++◌, [], ◌∷◌, ap, sym, ◌∙◌, refl, arith}
 use Rattle.reed_solomon.proofs.Common.{append_assoc, append-nil, values_down, value_at}
+use Rattle.reed_solomon.proofs.ErrorLemmas.{values_down-suc, values_down-zero}
 use Rattle.reed_solomon.proofs.values.syndromes.Goals as goal
-
-values_down-suc : (w : List ℕ) (first n : ℕ) → values_down w first (suc n) ≡ value_at
-    (first + n) w ∷ values_down w first n
-unfolding values_down
-values_down-suc w first n = refl
-
-values_down-zero : (w : List ℕ) (first n : ℕ) → n ≡ 0 → values_down w first n ≡ []
-unfolding values_down
-values_down-zero w first n none = ap (values_down w first) none
 
 pub loop-k-preserved : goal.loop-k-preserved
 loop-k-preserved c =

@@ -2,23 +2,11 @@ use Rattle.reed_solomon.proofs.Common.{◌≡◌, ◌≢◌, ℕ, ◌+◌, ◌-�
 use Rattle.reed_solomon.proofs.Common.{bit_xor, ap, sym, ◌∙◌, inl, inr, arith, cases_eq, false≢true, get_or-set_same}
 use Rattle.reed_solomon.proofs.Common.{get_or-set_other, ext_get_or, IsWrong, octet_before, added}
 use Rattle.reed_solomon.proofs.DistanceLemmas.{octets_of_all, all_of_octets}
-use Rattle.reed_solomon.proofs.ErrorLemmas.{errors_at_roots, errors_values, error_is}
+use Rattle.reed_solomon.proofs.ErrorLemmas.{errors_values, error_is}
 use Rattle.reed_solomon.proofs.FieldLemmas.{same_from_xor, xor_twice}
-use Rattle.reed_solomon.proofs.RootLemmas.{few_kernel_roots}
 use Rattle.reed_solomon.proofs.ValueLemmas.{Octets-added, length-added}
-use Rattle.reed_solomon.proofs.wrong_octets.correct.Goals.{then-roots-p, else-roots-p}
+use Rattle.reed_solomon.proofs.wrong_octets.correct.Goals.{then-places-p, else-places-p}
 use Rattle.reed_solomon.proofs.wrong_octets.correct.Goals as goal
-
-pub error_at-requires-clause-few : goal.error_at-requires-clause-few
-error_at-requires-clause-few c =
-    let most = length c.args.syndromes.now / 2 in
-    let one = c.kernel-coefficients.ensures.some in
-    let few = few_kernel_roots most one.0 c.kernel-coefficients.result c.roots-roots.result c.roots-roots.ensures.size
-    c.kernel-coefficients.ensures.size (omega arith)
-    (octets_of_all (take (most + 1) c.kernel-coefficients.result) c.roots-roots.ensures.octets)
-    c.roots-roots.ensures.roots
-    one.1 one.2 in
-    omega (arith, few)
 
 pub loop-p-preserved : goal.loop-p-preserved
 loop-p-preserved c =
@@ -27,33 +15,35 @@ loop-p-preserved c =
     let first = c.args.first_root in
     let now = c.loop-p.word in
     let p = c.loop-p.p in
-    let roots = c.roots-roots.result in
-    let most = length syndromes / 2 in
-    let k = c.kernel-coefficients.result in
+    let unknown = c.args.unknown.now in
+    let places = c.wrong_places-places.result in
     let octets = octets_of_all word c.requires.octets in
     let here = 254 - p in
     let place : here + p + 1 ≡ length word = omega (arith, c.requires.size) in
-    let at_roots : (v : List ℕ) → IsWrong first (length syndromes) word v → (q : ℕ) → q < 255
-    → octet_before q (added word v) ≢ 0 → get_or roots q false ≡ true =
-    λ v. errors_at_roots first most syndromes word v k roots c.kernel-coefficients.ensures.size
-    (octets_of_all (take (most + 1) k) c.roots-roots.ensures.octets) octets c.requires.size (omega arith) (omega arith)
-    c.requires.syndromes c.kernel-coefficients.ensures.meets c.roots-roots.ensures.roots in
-    elim c.if-roots-p.branch [
-      | then-roots-p w ↦
+    let error_octets = λ (v : List ℕ) (wrong : IsWrong first (length syndromes) unknown word v).
+    all_of_octets (added word v) (Octets-added word v octets (octets_of_all v wrong.octets)) in
+    let error_size = λ (v : List ℕ) (wrong : IsWrong first (length syndromes) unknown word v).
+    length-added word v (sym wrong.size) ∙ c.requires.size in
+    let values = λ (v : List ℕ) (wrong : IsWrong first (length syndromes) unknown word v).
+    c.requires.syndromes
+    ∙ errors_values first (length syndromes) unknown word v wrong octets (octets_of_all v wrong.octets) in
+    let flagged : (v : List ℕ) → IsWrong first (length syndromes) unknown word v → (q : ℕ) → q < 255
+    → octet_before q (added word v) ≢ 0 → get_or places q false ≡ true =
+    λ v wrong. c.wrong_places-places.ensures.wrong first (added word v) (error_octets v wrong) (error_size v wrong)
+    (values v wrong) wrong.near in
+    elim c.if-places-p.branch [
+      | then-places-p w ↦
           let error = w.error_at.result in
-          let wrong_by : (v : List ℕ) → IsWrong first (length syndromes) word v
+          let wrong_by : (v : List ℕ) → IsWrong first (length syndromes) unknown word v
           → error ≡ bit_xor (get_or word here 0) (get_or v here 0) = λ v wrong.
-          let v_octets = octets_of_all v wrong.octets in
-          w.error_at.ensures (added word v) (all_of_octets (added word v) (Octets-added word v octets v_octets))
-          (length-added word v (sym wrong.size) ∙ c.requires.size)
-          (c.requires.syndromes ∙ errors_values first (length syndromes) word v wrong octets v_octets)
-          (at_roots v wrong)
+          w.error_at.ensures (added word v) (error_octets v wrong) (error_size v wrong) (values v wrong)
+          (flagged v wrong)
           ∙ error_is word v here p place wrong.size in
           record {
             done = λ v wrong n inside past.
                 elim (cases_eq n here) [
                   | inl same ↦
-                      ap (λ m. get_or c.if-roots-p.word m 0) same ∙ ap (λ xs. get_or xs here 0) w.word-is
+                      ap (λ m. get_or c.if-places-p.word m 0) same ∙ ap (λ xs. get_or xs here 0) w.word-is
                       ∙ get_or-set_same now here (bit_xor (get_or now here 0) error) 0 (omega arith)
                       ∙ ap (λ m. bit_xor m error) (c.loop-p.invariant.rest here (omega arith))
                       ∙ ap (bit_xor (get_or word here 0)) (wrong_by v wrong)
@@ -68,7 +58,7 @@ loop-p-preserved c =
                 ∙ get_or-set_other now here n (bit_xor (get_or now here 0) error) 0 (λ e. absurd (omega arith))
                 ∙ c.loop-p.invariant.rest n (omega arith);
           }
-      | else-roots-p w ↦
+      | else-places-p w ↦
           record {
             done = λ v wrong n inside past.
                 elim (cases_eq n here) [
@@ -76,10 +66,10 @@ loop-p-preserved c =
                       let right : octet_before p (added word v) ≡ 0 =
                       elim (cases_eq (octet_before p (added word v)) 0) [
                         | inl none ↦ none
-                        | inr some ↦ absurd (false≢true (sym w.if-roots-p.false
-                            ∙ at_roots v wrong p (omega arith) some))
+                        | inr some ↦ absurd (false≢true (sym w.if-places-p.false
+                            ∙ flagged v wrong p (omega arith) some))
                       ] in
-                      ap (λ m. get_or c.if-roots-p.word m 0) same ∙ ap (λ xs. get_or xs here 0) w.word-is
+                      ap (λ m. get_or c.if-places-p.word m 0) same ∙ ap (λ xs. get_or xs here 0) w.word-is
                       ∙ c.loop-p.invariant.rest here (omega arith)
                       ∙ same_from_xor (get_or word here 0) (get_or v here 0)
                       (sym (error_is word v here p place wrong.size) ∙ right) ∙ ap (λ m. get_or v m 0) (sym same)

@@ -1,5 +1,5 @@
 use Rattle.reed_solomon.proofs.Common.{◌≡◌, ℕ, ◌<◌, false, eqb, get_or, length, value_at}
-use Rattle.reed_solomon.proofs.wrong_octets.roots.Given as goal
+use Rattle.reed_solomon.proofs.roots.roots.Given as goal
 
 abbrev pub invariant-loop-p : goal.invariant-loop-p
 invariant-loop-p l = record {
