@@ -1,4 +1,4 @@
--- Window after window of a piece, and a block as two pieces.
+-- Stretch after stretch of a piece, window after window, and a block as two pieces.
 use Rattle.fx25_receiver.proofs.Common.{◌≡◌, ℕ, ◌+◌, ◌-◌, ◌<◌, ◌≤◌, ℤ, List, [], ◌++◌, length, take, drop, ap, sym}
 use Rattle.fx25_receiver.proofs.Common.{◌∙◌, subst, arith, append-nil, append_assoc, take_all, refl, Heard, HasTaken}
 use Rattle.std.proofs.Common.{length-drop}
@@ -6,9 +6,12 @@ use Rattle.std.proofs.Math.Seq.{take-add}
 use Rattle.std.proofs.lemmas.List.{drop-drop, drop-take, drop_at, length-take-le, take-append-drop, take-take, take_at}
 use Rattle.slicer_bank.proofs.SevenLemmas.{last_seven-append, length-last_seven, seven_behind_first}
 use Rattle.fx25_receiver.proofs.Common.{HeldLane, Keeps, last_seven}
+use Rattle.fx25_receiver.proofs.Common.{Bool}
+use Rattle.fx25_receiver.proofs.AheadLemmas.{all_caught_up}
+use Rattle.fx25_receiver.specs.Ahead.{IsAhead}
 use Rattle.fx25_receiver.specs.Held.{AreAfter, Held}
 
--- Windows of a piece were taken, each one sample further than the one before it. What is left of the piece begins with
+-- Stretches of a piece were taken, each 64 samples further than the one before it. What is left of the piece begins with
 -- the seven samples before the next one.
 pub record HasSlid (initial now : Held) (piece rest : List ℤ) (earlier given : List Heard) : Type 0 where
   pub count : ℕ
@@ -43,56 +46,154 @@ seven_on x piece count within last =
     ∙ ap (λ seven. drop count (seven ++ more)) last ∙ ap (drop count) (sym (take-add 7 count piece))
     ∙ ap (λ n. drop count (take n piece)) sum ∙ drop-take count 7 piece
 
-pub slid_more : (initial was now : Held) (piece rest window left : List ℤ) (earlier given more : List Heard)
-    → HasSlid initial was piece rest earlier given → 8 ≤ length rest → window ≡ take 8 rest → left ≡ drop 1 rest
-    → ((x : List ℤ) (before : List Heard) → last_seven x ≡ take 7 window → HasTaken was x (before ++ given)
-    → HasTaken now (x ++ drop 7 window) (before ++ more))
-    → now.position ≡ was.position + 1 → now.recent ≡ was.recent → now.spent ≡ was.spent
+-- the first seven of what is taken next
+seven_of : (piece stretch : List ℤ) (count n : ℕ) → stretch ≡ take (7 + n) (drop count piece)
+    → take 7 stretch ≡ take 7 (drop count piece)
+seven_of piece stretch count n is = ap (take 7) is ∙ take-take 7 (7 + n) (drop count piece) (omega arith)
+
+-- so many samples further
+one_further : (x piece stretch : List ℤ) (count n : ℕ) → stretch ≡ take (7 + n) (drop count piece)
+    → (x ++ take count (drop 7 piece)) ++ drop 7 stretch ≡ x ++ take (count + n) (drop 7 piece)
+one_further x piece stretch count n is =
+    let sum : count + 7 ≡ 7 + count = omega arith in
+    let last : drop 7 stretch ≡ take n (drop count (drop 7 piece)) = ap (drop 7) is
+    ∙ drop-take 7 n (drop count piece) ∙ ap (take n) (drop-drop 7 count piece)
+    ∙ ap (λ m. take n (drop m piece)) sum ∙ ap (take n) (sym (drop-drop count 7 piece)) in
+    append_assoc x (take count (drop 7 piece)) (drop 7 stretch)
+    ∙ ap (λ xs. x ++ (take count (drop 7 piece) ++ xs)) last
+    ∙ ap (λ xs. x ++ xs) (sym (take-add count n (drop 7 piece)))
+
+pub slid_more : (initial was now : Held) (piece rest stretch left : List ℤ) (earlier given more : List Heard)
+    → HasSlid initial was piece rest earlier given → 71 ≤ length rest → stretch ≡ take 71 rest → left ≡ drop 64 rest
+    → ((x : List ℤ) (before : List Heard) → last_seven x ≡ take 7 stretch → HasTaken was x (before ++ given)
+    → HasTaken now (x ++ drop 7 stretch) (before ++ more))
+    → now.position ≡ was.position + 64 → now.recent ≡ was.recent → now.spent ≡ was.spent
     → HasSlid initial now piece left earlier more
-slid_more initial was now piece rest window left earlier given more h enough window_is left_is step position recent
+slid_more initial was now piece rest stretch left earlier given more h enough stretch_is left_is stride position recent
     spent =
     let count = h.count in
     let so_far = h.position in
     let size : length rest ≡ length piece - count = ap length h.rest_is ∙ length-drop count piece in
-    let there : window ≡ take 8 (drop count piece) = window_is ∙ ap (take 8) h.rest_is in
-    let seven : take 7 (drop count piece) ≡ take 7 window = sym (ap (take 7) there
-    ∙ take-take 7 8 (drop count piece) (omega arith)) in
+    let there : stretch ≡ take 71 (drop count piece) = stretch_is ∙ ap (take 71) h.rest_is in
+    record {
+      count = count + 64;
+      within = omega arith;
+      rest_is = left_is ∙ ap (drop 64) h.rest_is ∙ drop-drop 64 count piece;
+      taken = λ x before first taken.
+          let y : List ℤ = x ++ take count (drop 7 piece) in
+          subst (λ z. HasTaken now z (before ++ more)) (one_further x piece stretch count 64 there)
+          (stride y before (seven_on x piece count h.within first ∙ sym (seven_of piece stretch count 64 there))
+          (h.taken x before first taken));
+      position = omega arith;
+      recent = recent ∙ h.recent;
+      spent = spent ∙ h.spent;
+    }
+
+-- what is left of the piece is taken, too
+pub slid_all : (initial was now : Held) (piece rest : List ℤ) (earlier given more : List Heard)
+    → HasSlid initial was piece rest earlier given
+    → ((y : List ℤ) (others : List Heard) → last_seven y ≡ take 7 rest → HasTaken was y (others ++ given)
+    → HasTaken now (y ++ drop 7 rest) (others ++ more))
+    → (x : List ℤ) (before : List Heard) → last_seven x ≡ take 7 piece → HasTaken initial x (before ++ earlier)
+    → HasTaken now (x ++ drop 7 piece) (before ++ more)
+slid_all initial was now piece rest earlier given more h last x before first taken =
+    let count = h.count in
+    let front : List ℤ = take count (drop 7 piece) in
     let sum : count + 7 ≡ 7 + count = omega arith in
-    let last : drop 7 window ≡ take 1 (drop count (drop 7 piece)) = ap (drop 7) there
-    ∙ drop-take 7 1 (drop count piece) ∙ ap (take 1) (drop-drop 7 count piece)
-    ∙ ap (λ n. take 1 (drop n piece)) sum ∙ ap (take 1) (sym (drop-drop count 7 piece)) in
+    let back : drop 7 rest ≡ drop count (drop 7 piece) = ap (drop 7) h.rest_is ∙ drop-drop 7 count piece
+    ∙ ap (λ n. drop n piece) sum ∙ sym (drop-drop count 7 piece) in
+    let whole : (x ++ front) ++ drop 7 rest ≡ x ++ drop 7 piece = append_assoc x front (drop 7 rest)
+    ∙ ap (λ ys. x ++ (front ++ ys)) back ∙ ap (λ ys. x ++ ys) (take-append-drop count (drop 7 piece)) in
+    subst (λ z. HasTaken now z (before ++ more)) whole
+    (last (x ++ front) before (seven_on x piece count h.within first ∙ ap (take 7) (sym h.rest_is))
+    (h.taken x before first taken))
+
+pub slid_position : (initial was now : Held) (piece rest : List ℤ) (earlier given : List Heard)
+    → HasSlid initial was piece rest earlier given → now.position + 7 ≡ was.position + length rest
+    → now.position + 7 ≡ initial.position + length piece
+slid_position initial was now piece rest earlier given h last =
+    let within = h.within in
+    let position = h.position in
+    let size : length rest ≡ length piece - h.count = ap length h.rest_is ∙ length-drop h.count piece in
+    omega arith
+
+-- ---- the samples of a piece one by one, while some lanes are ahead
+
+pub record HasFollowed (initial now : Held) (waiting : List Bool) (piece rest : List ℤ) (earlier given : List Heard)
+    : Type 0 where
+  pub count : ℕ
+  pub within : count + 7 ≤ length piece
+  pub rest_is : rest ≡ drop count piece
+  pub taken : (x : List ℤ) (before : List Heard) → last_seven x ≡ take 7 piece
+      → IsAhead initial waiting x (x ++ drop 7 piece) (before ++ earlier)
+      → IsAhead now waiting (x ++ take count (drop 7 piece)) (x ++ drop 7 piece) (before ++ given)
+  pub position : now.position ≡ initial.position + count
+  pub recent : now.recent ≡ initial.recent
+  pub spent : now.spent ≡ initial.spent
+
+pub followed_none : (initial : Held) (waiting : List Bool) (piece : List ℤ) (given : List Heard) → 7 ≤ length piece
+    → HasFollowed initial initial waiting piece piece given given
+followed_none initial waiting piece given seven = record {
+  count = 0;
+  within = omega arith;
+  rest_is = refl;
+  taken = λ x before last h.
+      subst (λ y. IsAhead initial waiting y (x ++ drop 7 piece) (before ++ given)) (sym (append-nil x)) h;
+  position = omega arith;
+  recent = refl;
+  spent = refl;
+}
+
+pub followed_more : (initial was now : Held) (waiting : List Bool) (piece rest window left : List ℤ)
+    (earlier given more : List Heard) → HasFollowed initial was waiting piece rest earlier given → 8 ≤ length rest
+    → window ≡ take 8 rest → left ≡ drop 1 rest
+    → ((x after : List ℤ) (before : List Heard) → last_seven x ≡ take 7 window
+    → IsAhead was waiting x ((x ++ drop 7 window) ++ after) (before ++ given)
+    → IsAhead now waiting (x ++ drop 7 window) ((x ++ drop 7 window) ++ after) (before ++ more))
+    → now.position ≡ was.position + 1 → now.recent ≡ was.recent → now.spent ≡ was.spent
+    → HasFollowed initial now waiting piece left earlier more
+followed_more initial was now waiting piece rest window left earlier given more h enough window_is left_is step position
+    recent spent =
+    let count = h.count in
+    let so_far = h.position in
+    let size : length rest ≡ length piece - count = ap length h.rest_is ∙ length-drop count piece in
+    let there : window ≡ take 8 (drop count piece) = window_is ∙ ap (take 8) h.rest_is in
     record {
       count = count + 1;
       within = omega arith;
       rest_is = left_is ∙ ap (drop 1) h.rest_is ∙ drop-drop 1 count piece;
       taken = λ x before first taken.
           let y : List ℤ = x ++ take count (drop 7 piece) in
-          let whole : y ++ drop 7 window ≡ x ++ take (count + 1) (drop 7 piece) =
-          append_assoc x (take count (drop 7 piece)) (drop 7 window)
-          ∙ ap (λ xs. x ++ (take count (drop 7 piece) ++ xs)) last
-          ∙ ap (λ xs. x ++ xs) (sym (take-add count 1 (drop 7 piece))) in
-          subst (λ z. HasTaken now z (before ++ more)) whole
-          (step y before (seven_on x piece count h.within first ∙ seven) (h.taken x before first taken));
+          let after : List ℤ = drop (count + 1) (drop 7 piece) in
+          let next = one_further x piece window count 1 there in
+          let whole : x ++ drop 7 piece ≡ (y ++ drop 7 window) ++ after =
+          sym (ap (λ z. z ++ after) next ∙ append_assoc x (take (count + 1) (drop 7 piece)) after
+          ∙ ap (λ ys. x ++ ys) (take-append-drop (count + 1) (drop 7 piece))) in
+          subst (λ z. IsAhead now waiting z (x ++ drop 7 piece) (before ++ more)) next
+          (subst (λ z. IsAhead now waiting (y ++ drop 7 window) z (before ++ more)) (sym whole)
+          (step y after before (seven_on x piece count h.within first ∙ sym (seven_of piece window count 1 there))
+          (subst (λ z. IsAhead was waiting y z (before ++ given)) whole (h.taken x before first taken))));
       position = omega arith;
       recent = recent ∙ h.recent;
       spent = spent ∙ h.spent;
     }
 
-pub slid_all : (initial now : Held) (piece rest : List ℤ) (earlier given : List Heard)
-    → HasSlid initial now piece rest earlier given → length rest < 8 → (x : List ℤ) (before : List Heard)
-    → last_seven x ≡ take 7 piece → HasTaken initial x (before ++ earlier)
+pub followed_all : (initial now : Held) (waiting : List Bool) (piece rest : List ℤ) (earlier given : List Heard)
+    → HasFollowed initial now waiting piece rest earlier given → length rest < 8 → (x : List ℤ) (before : List Heard)
+    → last_seven x ≡ take 7 piece → IsAhead initial waiting x (x ++ drop 7 piece) (before ++ earlier)
     → HasTaken now (x ++ drop 7 piece) (before ++ given)
-slid_all initial now piece rest earlier given h few x before first taken =
+followed_all initial now waiting piece rest earlier given h few x before first ahead =
     let within = h.within in
     let size : length rest ≡ length piece - h.count = ap length h.rest_is ∙ length-drop h.count piece in
     let all : take h.count (drop 7 piece) ≡ drop 7 piece =
     take_all h.count (drop 7 piece) (omega (arith, length-drop 7 piece)) in
-    subst (λ ys. HasTaken now (x ++ ys) (before ++ given)) all (h.taken x before first taken)
+    all_caught_up now.lanes now.position now.kept waiting (x ++ drop 7 piece) (before ++ given)
+    (subst (λ ys. IsAhead now waiting (x ++ ys) (x ++ drop 7 piece) (before ++ given)) all (h.taken x before first ahead))
 
-pub slid_position : (initial now : Held) (piece rest : List ℤ) (earlier given : List Heard)
-    → HasSlid initial now piece rest earlier given → length rest < 8
+pub followed_position : (initial now : Held) (waiting : List Bool) (piece rest : List ℤ) (earlier given : List Heard)
+    → HasFollowed initial now waiting piece rest earlier given → length rest < 8
     → now.position + 7 ≡ initial.position + length piece
-slid_position initial now piece rest earlier given h few =
+followed_position initial now waiting piece rest earlier given h few =
     let within = h.within in
     let position = h.position in
     let size : length rest ≡ length piece - h.count = ap length h.rest_is ∙ length-drop h.count piece in

@@ -26,7 +26,7 @@ first_bits lane x y index =
     first_of (bits lane x) (bits lane (x ++ y)) (windows_in lane (length x)) index (bits-append lane x y)
 
 -- an item of the first samples is one of them all
-heard_more : (x y : List ℤ) (item : Heard) → IsHeard x item → IsHeard (x ++ y) item
+pub heard_more : (x y : List ℤ) (item : Heard) → IsHeard x item → IsHeard (x ++ y) item
 heard_more x y item h =
     let first = first_bits item.lane x y h.index h.ends.within in
     record {
@@ -225,6 +225,18 @@ pub heard_finish : (x : List ℤ) (items : List Heard) → AreHeardBelow 12 x it
 heard_finish x items are = record {
   each = λ k d l. (are.each k d l).0;
   whole = λ item h. are.whole item h (inr (tag_below x item h));
+  order = are.order;
+}
+
+-- more samples of which nothing is heard
+pub heard_no_more : (x y : List ℤ) (items : List Heard) → AreHeard x items
+    → ((item : Heard) → IsHeard (x ++ y) item → length x < item.end → ⊥) → AreHeard (x ++ y) items
+heard_no_more x y items are none = record {
+  each = λ k d l. heard_more x y (get_or items k d) (are.each k d l);
+  whole = λ item h. elim (cases_lt (length x) item.end) [
+    | inl past ↦ absurd (none item h past)
+    | inr within ↦ are.whole item (heard_less x y item h within)
+  ];
   order = are.order;
 }
 

@@ -7,6 +7,8 @@ use Rattle.offset_slicers.proofs.WindowLemmas.{length-tones_at}
 use Rattle.fx25_receiver.proofs.Common.{All-append, All-cons, All-nil, refl, EndsWindow, HeldLane, LaneStandsFor}
 use Rattle.fx25_receiver.proofs.Common.{LanesStandFor, length_push, Tone}
 use Rattle.std.proofs.Common.{set, get_or-set_other, get_or-set_same, ◌-◌}
+use Rattle.fx25_receiver.proofs.Common.{Bool, cases_eq, cond, false, false≢true, true, if◌then◌else◌}
+use Rattle.fx25_receiver.specs.Ahead.{LanesStandAhead, taken_by}
 use Rattle.offset_slicers.specs.Decision.{tone_of}
 use Rattle.offset_slicers.proofs.SlicerLemmas.{tones_at-push_none}
 use Rattle.slicer_bank.proofs.SevenLemmas.{tones_at-seven}
@@ -18,11 +20,31 @@ same_tones : (offset : ℕ) (x : List ℤ) (sample : ℤ) (lane : HeldLane)
 same_tones offset x sample lane same stands =
     subst (λ tones. LaneStandsFor lane tones) (sym (tones_at-push_none offset x sample same)) stands
 
+-- what a lane has taken, of which one sample more is taken, or all
+taken_more : (waits : Bool) (offset : ℕ) (x whole : List ℤ) (sample : ℤ) (lane : HeldLane)
+    → (waits ≡ true → LaneStandsFor lane (tones_at offset x) → LaneStandsFor lane (tones_at offset (x ++ sample ∷ [])))
+    → LaneStandsFor lane (tones_at offset (if waits then x else whole))
+    → LaneStandsFor lane (tones_at offset (if waits then x ++ sample ∷ [] else whole))
+taken_more true offset x whole sample lane on stands = on refl stands
+taken_more false offset x whole sample lane on stands = stands
+
 -- before the eighth sample no window ends
-pub lanes_early : (lanes : List HeldLane) (x : List ℤ) (sample : ℤ) → length x + 1 < 8 → LanesStandFor lanes x
-    → LanesStandFor lanes (x ++ sample ∷ [])
-lanes_early lanes x sample few stand offset d small =
-    same_tones offset x sample (get_or lanes offset d) (omega arith) (stand offset d small)
+pub lanes_early : (lanes : List HeldLane) (waiting : List Bool) (x whole : List ℤ) (sample : ℤ) → length x + 1 < 8
+    → LanesStandAhead lanes waiting x whole → LanesStandAhead lanes waiting (x ++ sample ∷ []) whole
+lanes_early lanes waiting x whole sample few stand offset d small =
+    taken_more (get_or waiting offset true) offset x whole sample (get_or lanes offset d)
+    (λ waits. same_tones offset x sample (get_or lanes offset d) (omega arith)) (stand offset d small)
+
+-- a sample that ends a window of a lane that is ahead
+pub lanes_skip : (lanes : List HeldLane) (waiting : List Bool) (x whole : List ℤ) (sample : ℤ) (place : ℕ)
+    → place ≡ (length x + 1) % 8 → 8 ≤ length x + 1 → get_or waiting place true ≡ false
+    → LanesStandAhead lanes waiting x whole → LanesStandAhead lanes waiting (x ++ sample ∷ []) whole
+lanes_skip lanes waiting x whole sample place is enough ahead stand offset d small =
+    taken_more (get_or waiting offset true) offset x whole sample (get_or lanes offset d)
+    (λ waits. elim (cases_eq offset place) [
+      | inl here ↦ absurd (false≢true (sym ahead ∙ ap (λ o. get_or waiting o true) (sym here) ∙ waits))
+      | inr apart ↦ same_tones offset x sample (get_or lanes offset d) (omega arith)
+    ]) (stand offset d small)
 
 -- the lane whose window the sample ends takes its tone
 pub tones_on : (x : List ℤ) (sample : ℤ) (place : ℕ) (tone : Tone) → place ≡ (length x + 1) % 8 → 8 ≤ length x + 1
@@ -39,29 +61,26 @@ pub bits_on : (x : List ℤ) (sample : ℤ) (place : ℕ) (tone : Tone)
 unfolding bits
 bits_on x sample place tone is = ap bits_of is
 
-pub lanes_on : (lanes : List HeldLane) (x : List ℤ) (sample : ℤ) (place : ℕ) (now : HeldLane)
-    → place ≡ (length x + 1) % 8 → 8 ≤ length x + 1 → length lanes ≡ 8 → LanesStandFor lanes x
-    → LaneStandsFor now (tones_at place (x ++ sample ∷ []))
-    → LanesStandFor (set lanes place now) (x ++ sample ∷ [])
-lanes_on lanes x sample place now is enough size stand stands offset d small =
-    elim (cases_lt offset place) [
-      | inl before ↦ other (omega arith)
-      | inr not_before ↦ elim (cases_lt place offset) [
-        | inl after ↦ other (omega arith)
-        | inr not_after ↦
-            let same : place ≡ offset = omega arith in
-            subst (λ o. LaneStandsFor (get_or (set lanes place now) o d) (tones_at o (x ++ sample ∷ []))) same
-            (subst (λ l. LaneStandsFor l (tones_at place (x ++ sample ∷ [])))
-            (sym (get_or-set_same lanes place now d (omega arith))) stands)
-      ]
+pub lanes_on : (lanes : List HeldLane) (waiting : List Bool) (x whole : List ℤ) (sample : ℤ) (place : ℕ) (now : HeldLane)
+    → place ≡ (length x + 1) % 8 → 8 ≤ length x + 1 → length lanes ≡ 8 → get_or waiting place true ≡ true
+    → LanesStandAhead lanes waiting x whole → LaneStandsFor now (tones_at place (x ++ sample ∷ []))
+    → LanesStandAhead (set lanes place now) waiting (x ++ sample ∷ []) whole
+lanes_on lanes waiting x whole sample place now is enough size waits stand stands offset d small =
+    elim (cases_eq place offset) [
+      | inl same ↦
+          subst (λ o. LaneStandsFor (get_or (set lanes place now) o d) (tones_at o (taken_by waiting o all whole))) same
+          (subst (λ l. LaneStandsFor l (tones_at place (taken_by waiting place all whole)))
+          (sym (get_or-set_same lanes place now d (omega arith)))
+          (subst (λ w. LaneStandsFor now (tones_at place (if w then all else whole))) (sym waits) stands))
+      | inr apart ↦
+          subst (λ l. LaneStandsFor l (tones_at offset (taken_by waiting offset all whole)))
+          (sym (get_or-set_other lanes place offset now d (λ e. apart (sym e))))
+          (taken_more (get_or waiting offset true) offset x whole sample (get_or lanes offset d)
+          (λ waits. same_tones offset x sample (get_or lanes offset d) (omega arith)) (stand offset d small))
     ]
   where
-    other : (offset ≡ place → ⊥) → LaneStandsFor (get_or (set lanes place now) offset d)
-        (tones_at offset (x ++ sample ∷ []))
-    other apart =
-        subst (λ l. LaneStandsFor l (tones_at offset (x ++ sample ∷ [])))
-        (sym (get_or-set_other lanes place offset now d apart))
-        (same_tones offset x sample (get_or lanes offset d) (omega arith) (stand offset d small))
+    all : List ℤ
+    all = x ++ sample ∷ []
 
 -- a sample that ends a window of a place
 pub window_there : (x : List ℤ) (sample : ℤ) (place : ℕ) → place ≡ (length x + 1) % 8 → 8 ≤ length x + 1

@@ -1,5 +1,7 @@
 pub mod Common
 pub mod RestingLemmas
+pub mod QuietLemmas
+pub mod AheadLemmas
 pub mod MergingLemmas
 pub mod HeardLemmas
 pub mod LaneLemmas

@@ -2,10 +2,10 @@
 use Rattle.fx25_receiver.proofs.Common.{◌≡◌, ℕ, zero, suc, ◌+◌, ◌*◌, ◌<◌, ◌≤◌, ℤ, Bool, List, [], ◌∷◌, ◌++◌, length}
 use Rattle.fx25_receiver.proofs.Common.{take}
 use Rattle.fx25_receiver.proofs.Common.{ap, sym, ◌∙◌, subst, refl, arith, inl, inr, length-append, length_push, bits}
-use Rattle.fx25_receiver.proofs.Common.{length-bits, sent_bits, EndsBlock, EndsFrame, EndsWithBits, HasHeard}
+use Rattle.fx25_receiver.proofs.Common.{length-bits, sent_bits, EndsBlock, EndsFrame, EndsWithBits, HasHeard, IsHeard}
 use Rattle.fx25_receiver.proofs.Common.{HasTakenBelow, Heard, IsAt, IsTag, Keeps, Place, block_length, data_count}
 use Rattle.fx25_receiver.proofs.Common.{merged}
-use Rattle.fx25_receiver.proofs.HeardLemmas.{heard_early, heard_finish, heard_start, none_there, one_there}
+use Rattle.fx25_receiver.proofs.HeardLemmas.{heard_early, heard_finish, heard_no_more, heard_start, none_there, one_there}
 use Rattle.fx25_receiver.proofs.MergingLemmas.{keeps_on}
 use Rattle.hdlc_framer.proofs.BitLemmas.{length-sent_bits}
 use Rattle.hdlc_framer.proofs.FrameEnds.{one_frame}
@@ -160,3 +160,13 @@ taken_early kept given x sample few h =
       keeps = start.keeps;
       given_is = start.given_is;
     }
+
+-- more samples of which nothing is heard
+pub taken_no_more : (kept given : List Heard) (x y : List ℤ) → HasHeard kept x given
+    → ((item : Heard) → IsHeard (x ++ y) item → length x < item.end → ⊥) → HasHeard kept (x ++ y) given
+taken_no_more kept given x y h none = record {
+  heard = h.heard;
+  are = heard_no_more x y h.heard h.are none;
+  keeps = keeps_on kept (length x) (length (x ++ y)) h.heard (omega (arith, length-append x y)) h.keeps;
+  given_is = h.given_is;
+}

@@ -1,5 +1,5 @@
 -- What a receiver keeps, and what that stands for. Public clauses cite `StandsFor` alone.
-use Rattle.std.specs.Prelude.{◌≡◌, ℕ, ◌+◌, ◌<◌, ◌≤◌, ℤ, List, Bool, false, filter, length, nat_le, slice_index_or}
+use Rattle.std.specs.Prelude.{◌≡◌, ℕ, ◌+◌, ◌/◌, ◌^◌, ◌<◌, ◌≤◌, ℤ, List, Bool, false, filter, length, nat_le, slice_index_or}
 use Rattle.tone_table.specs.declared.tone.Tone.{Tone}
 use Rattle.nrzi_bits.specs.Line.{bits_of, last_tone}
 use Rattle.offset_slicers.specs.Windows.{tones_at}
@@ -12,19 +12,23 @@ use Rattle.hdlc_framer.specs.Late.{StandsFor as LateStandsFor}
 use Rattle.fx25_receiver.specs.Merged.{merged, reach}
 use Rattle.fx25_receiver.specs.Resting.{StandsFor as ReaderStandsFor}
 
--- the tone of the last window, the deframer of plain frames with the last eight bits and how many of them wait for it,
--- and the reader of blocks
+-- the deframer of plain frames, and how many of the last bits wait for it
+pub record HeldFrames : Type 0 where
+  pub deframer : HeldDeframer
+  pub waiting : ℕ
+
+-- the tone of the last window, the deframer of plain frames and how many of the last bits wait for it, and the reader of
+-- blocks with the last 64 bits
 pub record HeldLane : Type 0 where
   pub line : Tone
   pub deframer : HeldDeframer
-  pub last : ℕ
   pub waiting : ℕ
   pub reader : RestingReader
 
 -- the lane has taken windows of these tones
 pub record LaneStandsFor (held : HeldLane) (tones : List Tone) : Type 0 where
   pub line : held.line ≡ last_tone tones
-  pub plain : LateStandsFor held.deframer held.last held.waiting (bits_of tones)
+  pub plain : LateStandsFor held.deframer (held.reader.register / 2 ^ 56) held.waiting (bits_of tones)
   pub reader : ReaderStandsFor held.reader (bits_of tones)
 
 -- each lane has taken the windows at its offset that lie in these samples

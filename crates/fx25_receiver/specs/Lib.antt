@@ -4,5 +4,6 @@ pub mod Resting
 pub mod Held
 pub mod Coming
 pub mod Hearing
+pub mod Ahead
 pub mod WithoutBlocks
 pub mod Damage

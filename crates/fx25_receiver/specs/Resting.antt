@@ -38,3 +38,11 @@ StandsFor held bits = HasRead (length bits + 1) held bits
 -- every tag but one that ends with the last bit
 abbrev pub StandsButForTag : RestingReader → List Bool → Type 0
 StandsButForTag held bits = HasRead (length bits) held bits
+
+-- a reader that rests, with these last 64 bits, has taken these bits
+abbrev pub RestsAt : ℕ → BlockReader → List Bool → Type 0
+RestsAt register reader bits = StandsFor (record { reader = reader; register = register; awake = 0 }) bits
+
+-- these are the last 64 bits, with zeros before the first
+abbrev pub IsLast64 : ℕ → List Bool → Type 0
+IsLast64 register bits = bits_of_64 register ≡ drop (length bits) (after_zeros bits)

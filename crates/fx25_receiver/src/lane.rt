@@ -1,20 +1,24 @@
 //! One lane: its plain frames, and its blocks.
-ghost use Rattle.std.specs.Prelude.{◌≡◌, ◌↔◌, ℕ, ℤ, List, [], ◌∷◌, ◌++◌, length, true, IfOk, IfSome, IsTrue};
+ghost use Rattle.std.specs.Prelude.{◌≡◌, ◌↔◌, ℕ, ℤ, List, [], ◌∷◌, ◌++◌, length, true, false, IfOk, IfSome};
+ghost use Rattle.std.specs.Prelude.{IsTrue};
 ghost use Rattle.std.specs.List.{All};
 ghost use Rattle.std.specs.Option.{IfNone};
 ghost use Rattle.tone_table.specs.declared.tone.Tone.{Tone};
 ghost use Rattle.nrzi_bits.specs.Line.{bits_of};
 ghost use Rattle.hdlc_framer.specs.Frames.{IsFrame, EndsFrame};
 ghost use Rattle.hdlc_framer.specs.Held.{HoldsFrame};
+ghost use Rattle.slicer_bank.specs.Heard.{tones_in};
+ghost use Rattle.fx25_receiver.specs.Ahead.{NothingEndsInTones};
 ghost use Rattle.fx25_blocks.specs.BlockEnds.{EndsBlock};
 ghost use Rattle.fx25_blocks.specs.Tags.{IsTag};
 ghost use Rattle.fx25_blocks.specs.Coming.{IsBlockComing};
 ghost use Rattle.fx25_receiver.specs.Coming.{HearsBlock};
 ghost use Rattle.fx25_receiver.specs.Held.{LaneStandsFor, LanesStandFor};
 
+use crate::eight::{octet_of, tones_of};
+use crate::plain_frames::PlainFrames;
 use crate::resting_reader::RestingReader;
 use fx25_blocks::BlockFrame;
-use hdlc_framer::LateDeframer;
 use nrzi_bits::NrziIn;
 use std::alloc::Global;
 use std::marker::Model;
@@ -28,7 +32,7 @@ const LANES: u64 = 8;
 #[derive(Drop)]
 pub struct Lane {
     line: NrziIn,
-    plain: LateDeframer,
+    plain: PlainFrames,
     reader: RestingReader,
 }
 
@@ -40,7 +44,6 @@ impl Model for Lane {
     ghost view = { λ s. record {
       line = s.line;
       deframer = s.plain.deframer;
-      last = s.plain.last;
       waiting = s.plain.waiting;
       reader = s.reader;
     } };
@@ -53,7 +56,7 @@ impl Lane {
     {
         Lane {
             line: NrziIn::new(),
-            plain: LateDeframer::new(),
+            plain: PlainFrames::new(),
             reader: RestingReader::new(),
         }
     }
@@ -71,9 +74,49 @@ impl Lane {
             → EndsFrame (bits_of (tones ++ tone ∷ [])) octets
             → (result ≡ true) × HoldsFrame self.new.deframer octets }
     {
+        let last = self.reader.last_octet();
         let bit = self.line.step(tone);
         self.reader.push(bit);
-        self.plain.push(bit)
+        self.plain.push(last, self.reader.last_octet())
+    }
+
+    /// Takes the next eight windows at once if it reads no block and nothing can end with any of their bits, as is so of
+    /// most. Otherwise it takes none of them, and they have to be pushed one by one.
+    pub(crate) fn push_windows(&mut self, windows: &[i16; 64]) -> bool
+        ensures taken { (tones : List Tone) → LaneStandsFor self.old tones → result ≡ true
+            → LaneStandsFor self.new (tones ++ tones_in 8 windows.now) }
+        ensures quiet { (tones : List Tone) → LaneStandsFor self.old tones → result ≡ true
+            → NothingEndsInTones tones (tones_in 8 windows.now) }
+        ensures left { (tones : List Tone) → LaneStandsFor self.old tones → result ≡ false
+            → LaneStandsFor self.new tones }
+    {
+        if !self.reader.is_resting() {
+            return false;
+        }
+        self.push_eight(&tones_of(windows))
+    }
+
+    /// The same of windows that are decided.
+    fn push_eight(&mut self, tones: &[Tone; 8]) -> bool
+        ensures taken { (before : List Tone) → LaneStandsFor self.old before → result ≡ true
+            → LaneStandsFor self.new (before ++ tones.now) }
+        ensures quiet { (before : List Tone) → LaneStandsFor self.old before → result ≡ true
+            → NothingEndsInTones before tones.now }
+        ensures left { (before : List Tone) → LaneStandsFor self.old before → result ≡ false
+            → LaneStandsFor self.new before }
+    {
+        let octet = octet_of(self.line.tone(), tones);
+        match self.reader.quietly_after(octet) {
+            None => false,
+            Some(register) => {
+                if !self.plain.push_eight(self.reader.register(), octet) {
+                    return false;
+                }
+                self.reader.rest_at(register);
+                self.line.step(tones[7]);
+                true
+            }
+        }
     }
 
     /// The octets of the plain frame that the last tone ended.

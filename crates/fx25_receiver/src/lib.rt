@@ -6,11 +6,14 @@
 //! definitions of heard and merged items say of their whole list.
 #![tactic(auto)]
 
+mod ahead;
+mod eight;
 mod heard;
 mod hearing;
 mod lane;
 mod laws;
 mod merging;
+mod plain_frames;
 mod receiver;
 mod resting_reader;
 mod seven;

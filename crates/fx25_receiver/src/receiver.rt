@@ -3,9 +3,11 @@ ghost use Rattle.std.specs.Prelude.{◌≡◌, ◌<◌, ◌≤◌, ◌+◌, ◌^
 ghost use Rattle.std.specs.Prelude.{◌↔◌, IsTrue};
 ghost use Rattle.slicer_bank.specs.Held.{last_seven};
 ghost use Rattle.fx25_receiver.specs.declared.heard.Heard.{Heard};
+ghost use Rattle.fx25_receiver.specs.Ahead.{IsAhead};
 ghost use Rattle.fx25_receiver.specs.Coming.{HearsBlock};
 ghost use Rattle.fx25_receiver.specs.Held.{HasTaken, StandsFor};
 
+use crate::ahead::{is_some_waiting, run_ahead};
 use crate::heard::Heard;
 use crate::hearing::{Place, hear_blocks, hear_frame};
 use crate::lane::{Lane, is_some_block_coming, new_lanes};
@@ -105,11 +107,50 @@ impl Fx25Receiver {
         if block.len() <= 7 {
             return Ok(());
         }
-        self.slide(block, given)
+        self.run(block, given)
     }
 
     /// Takes the samples of a piece past its first seven, which are the last seven that were taken, and adds the items
-    /// that end with them.
+    /// that end with them: 64 samples at once while there are as many.
+    fn run(&mut self, piece: &[i16], given: &mut Vec<Heard>) -> Result<(), OutOfMemory>
+        requires seven { 7 ≤ length piece.now }
+        requires begun { 7 ≤ self.old.position }
+        requires room { self.old.position + length piece.now < 2 ^ 48 + 7 }
+        ensures taken { OnOk result ((x : List ℤ) (before : List Heard) → last_seven x ≡ take 7 piece.now
+            → HasTaken self.old x (before ++ given.old.items)
+            → HasTaken self.new (x ++ drop 7 piece.now) (before ++ given.new.items)) }
+        ensures position { OnOk result (self.new.position + 7 ≡ self.old.position + length piece.now) }
+        ensures recent { self.new.recent ≡ self.old.recent }
+        ensures spent { self.new.spent ≡ self.old.spent }
+    {
+        let mut rest = piece;
+        while let Some((stretch, _)) = rest.split_first_chunk::<71>() {
+            self.stride(stretch, given)?;
+            rest = &rest[64..];
+        }
+        self.slide(rest, given)
+    }
+
+    /// Takes 64 samples that follow the last seven that were taken, and adds the items that end with them.
+    fn stride(&mut self, stretch: &[i16; 71], given: &mut Vec<Heard>) -> Result<(), OutOfMemory>
+        requires begun { 7 ≤ self.old.position }
+        requires room { self.old.position + 64 < 2 ^ 48 }
+        ensures taken { OnOk result ((x : List ℤ) (before : List Heard) → last_seven x ≡ take 7 stretch.now
+            → HasTaken self.old x (before ++ given.old.items)
+            → HasTaken self.new (x ++ drop 7 stretch.now) (before ++ given.new.items)) }
+        ensures position { OnOk result (self.new.position ≡ self.old.position + 64) }
+        ensures recent { self.new.recent ≡ self.old.recent }
+        ensures spent { self.new.spent ≡ self.old.spent }
+    {
+        let waiting = run_ahead(&mut self.lanes, self.position, stretch);
+        if is_some_waiting(&waiting) {
+            return self.follow(stretch, &waiting, given);
+        }
+        self.position += 64;
+        Ok(())
+    }
+
+    /// Takes the samples of a piece past its first seven one by one, and adds the items that end with them.
     fn slide(&mut self, piece: &[i16], given: &mut Vec<Heard>) -> Result<(), OutOfMemory>
         requires seven { 7 ≤ length piece.now }
         requires room { self.old.position + length piece.now < 2 ^ 48 + 7 }
@@ -120,21 +161,47 @@ impl Fx25Receiver {
         ensures recent { self.new.recent ≡ self.old.recent }
         ensures spent { self.new.spent ≡ self.old.spent }
     {
+        self.follow(piece, &[true; 8], given)
+    }
+
+    /// Takes the samples of a piece past its first seven one by one, and adds the items that end with them. Lanes that do
+    /// not wait have taken their windows.
+    fn follow(
+        &mut self,
+        piece: &[i16],
+        waiting: &[bool; 8],
+        given: &mut Vec<Heard>,
+    ) -> Result<(), OutOfMemory>
+        requires seven { 7 ≤ length piece.now }
+        requires room { self.old.position + length piece.now < 2 ^ 48 + 7 }
+        ensures taken { OnOk result ((x : List ℤ) (before : List Heard) → last_seven x ≡ take 7 piece.now
+            → IsAhead self.old waiting.now x (x ++ drop 7 piece.now) (before ++ given.old.items)
+            → HasTaken self.new (x ++ drop 7 piece.now) (before ++ given.new.items)) }
+        ensures position { OnOk result (self.new.position + 7 ≡ self.old.position + length piece.now) }
+        ensures recent { self.new.recent ≡ self.old.recent }
+        ensures spent { self.new.spent ≡ self.old.spent }
+    {
         let mut rest = piece;
         while let Some((window, _)) = rest.split_first_chunk::<8>() {
-            self.step(window, given)?;
+            self.step(window, waiting, given)?;
             rest = &rest[1..];
         }
         Ok(())
     }
 
     /// Takes the last sample of a window, whose others are the last seven that were taken, and adds the items that end
-    /// with it.
-    fn step(&mut self, window: &[i16; 8], given: &mut Vec<Heard>) -> Result<(), OutOfMemory>
+    /// with it, unless its lane is ahead.
+    fn step(
+        &mut self,
+        window: &[i16; 8],
+        waiting: &[bool; 8],
+        given: &mut Vec<Heard>,
+    ) -> Result<(), OutOfMemory>
         requires room { self.old.position + 1 < 2 ^ 48 }
-        ensures taken { OnOk result ((x : List ℤ) (before : List Heard) → last_seven x ≡ take 7 window.now
-            → HasTaken self.old x (before ++ given.old.items)
-            → HasTaken self.new (x ++ drop 7 window.now) (before ++ given.new.items)) }
+        ensures taken { OnOk result ((x more : List ℤ) (before : List Heard) → last_seven x ≡ take 7 window.now
+            → IsAhead self.old waiting.now x ((x ++ drop 7 window.now) ++ more) (before ++ given.old.items)
+            → IsAhead self.new waiting.now (x ++ drop 7 window.now) ((x ++ drop 7 window.now) ++ more)
+            (before ++ given.new.items)) }
         ensures position { OnOk result (self.new.position ≡ self.old.position + 1) }
         ensures recent { self.new.recent ≡ self.old.recent }
         ensures spent { self.new.spent ≡ self.old.spent }
@@ -147,6 +214,9 @@ impl Fx25Receiver {
             offset: (self.position % 8) as u8,
             end: self.position,
         };
+        if !waiting[place.offset as usize] {
+            return Ok(());
+        }
         let lane = &mut self.lanes[place.offset as usize];
         let plain = lane.push(decide(window));
         hear_frame(self.alloc, lane, plain, place, &mut self.kept, given)?;

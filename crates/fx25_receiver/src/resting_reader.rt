@@ -3,17 +3,28 @@
 //! In noise a lane comes near a tag about once in five minutes. So it mostly keeps the last 64 bits alone, and asks of each
 //! bit whether a tag ends with it. Only then does it wake a whole reader, which takes the bits of the tag and those to
 //! come until no block can end and none holds the channel.
-ghost use Rattle.std.specs.Prelude.{◌≡◌, ◌≢◌, ◌↔◌, ◌≤◌, ℕ, Bool, List, [], ◌∷◌, ◌++◌, true, IfSome, IsTrue};
+ghost use Rattle.std.specs.Prelude.{◌≡◌, ◌↔◌, ◌≤◌, ◌<◌, ◌+◌, ◌/◌, ◌^◌, drop, take, ℕ, Bool, List, [], ◌∷◌, ◌++◌, true, false, IfSome, IsTrue};
 ghost use Rattle.std.specs.Option.{IfNone};
 ghost use Rattle.fx25_blocks.specs.BlockEnds.{EndsBlock};
 ghost use Rattle.fx25_blocks.specs.Coming.{IsBlockComing};
 ghost use Rattle.fx25_blocks.specs.Held.{StandsFor as ReaderStandsFor};
 ghost use Rattle.fx25_blocks.specs.Tags.{IsTag, bits_of_64};
+ghost use Rattle.fx25_blocks.specs.declared.block_reader.BlockReader.{BlockReader};
+ghost use Rattle.hdlc_framer.specs.BitOrder.{octet_bits};
+ghost use Rattle.hdlc_framer.specs.Frames.{EndsFrame};
+ghost use Rattle.fx25_receiver.specs.Ahead.{NoBlockEnds};
+ghost use Rattle.fx25_receiver.specs.Resting.{IsLast64, RestsAt};
 
 use fx25_blocks::{BlockFrame, BlockReader, near_tag, shifted};
 
 /// For so many bits after a tag the reader stays awake: the longest block has 2040, and holds a channel for 64 more.
 const AWAKE: u16 = 2105;
+
+/// The flag as an octet.
+const FLAG: u64 = 0x7E;
+
+/// Two flags in a row.
+const TWO_FLAGS: u64 = 0x7E7E;
 
 /// The bits of a tag.
 const TAG_BITS: u16 = 64;
@@ -31,7 +42,8 @@ impl RestingReader {
 
     /// A reader that has taken no bit.
     pub(crate) fn new() -> RestingReader
-        ensures { StandsFor result [] }
+        ensures stands_for { StandsFor result [] }
+        ensures register { result.register ≡ 0 }
     {
         RestingReader {
             reader: BlockReader::new(),
@@ -43,7 +55,8 @@ impl RestingReader {
     /// Takes the next bit.
     #[inline(always)]
     pub(crate) fn push(&mut self, bit: bool)
-        ensures { (b : List Bool) → StandsFor self.old b → StandsFor self.new (b ++ bit ∷ []) }
+        ensures stands_for { (b : List Bool) → StandsFor self.old b → StandsFor self.new (b ++ bit ∷ []) }
+        ensures register { bits_of_64 self.new.register ≡ drop 1 (bits_of_64 self.old.register) ++ bit ∷ [] }
     {
         self.take(bit);
         if near_tag(self.register) != 0 {
@@ -51,9 +64,50 @@ impl RestingReader {
         }
     }
 
+    /// The last 64 bits after eight more, if it rests and no tag ends with any of these, as is so of most.
+    pub(crate) fn quietly_after(&self, octet: u8) -> Option<u64>
+        ensures stands_for { (b : List Bool) → StandsFor self.now b → IfSome result (λ last.
+            StandsFor (record { reader = self.now.reader; register = last; awake = self.now.awake })
+            (b ++ octet_bits octet)) }
+        ensures quiet { (b : List Bool) → StandsFor self.now b → IfSome result (λ last. NoBlockEnds 8 b octet) }
+    {
+        if self.awake > 0 {
+            return None;
+        }
+        far_after(self.register, octet)
+    }
+
+    /// Goes on with these last 64 bits.
+    pub(crate) fn rest_at(&mut self, register: u64)
+        ensures { self.new ≡ record { reader = self.old.reader; register = register; awake = self.old.awake } }
+    {
+        self.register = register;
+    }
+
+    /// The last 64 bits.
+    pub(crate) fn register(&self) -> u64
+        ensures { result ≡ self.now.register }
+    {
+        self.register
+    }
+
+    /// The last eight bits.
+    #[inline(always)]
+    pub(crate) fn last_octet(&self) -> u8
+        ensures { result ≡ self.now.register / 2 ^ 56 }
+    {
+        (self.register >> 56) as u8
+    }
+
+    /// True if it rests.
+    pub(crate) fn is_resting(&self) -> bool {
+        self.awake == 0
+    }
+
     /// Takes the next bit, and does not look for a tag that ends with it.
     fn take(&mut self, bit: bool)
-        ensures { (b : List Bool) → StandsFor self.old b → StandsButForTag self.new (b ++ bit ∷ []) }
+        ensures stands_for { (b : List Bool) → StandsFor self.old b → StandsButForTag self.new (b ++ bit ∷ []) }
+        ensures register { bits_of_64 self.new.register ≡ drop 1 (bits_of_64 self.old.register) ++ bit ∷ [] }
     {
         self.register = shifted(self.register, bit);
         if self.awake > 0 {
@@ -66,7 +120,8 @@ impl RestingReader {
     /// bit costs.
     #[cold]
     fn wake(&mut self)
-        ensures { (b : List Bool) → StandsButForTag self.old b → StandsFor self.new b }
+        ensures stands_for { (b : List Bool) → StandsButForTag self.old b → StandsFor self.new b }
+        ensures register { self.new.register ≡ self.old.register }
     {
         if self.awake == 0 {
             self.reader = reader_of(self.register);
@@ -102,6 +157,44 @@ impl RestingReader {
         }
         self.reader.frame(tag)
     }
+}
+
+/// The last 64 bits after eight more, or nothing if a tag ends with one of these.
+fn far_after(register: u64, octet: u8) -> Option<u64>
+    ensures { IfSome result (λ last. (reader : BlockReader) (b : List Bool) → RestsAt register reader b
+        → RestsAt last reader (b ++ octet_bits octet) × NoBlockEnds 8 b octet) }
+{
+    let mut last = register;
+    for place in 0..8_u8 {
+        last = shifted(last, (octet >> place) & 1 == 1);
+        if near_tag(last) != 0 {
+            return None;
+        }
+    }
+    Some(last)
+}
+
+/// True if a frame can end with one of the eight bits that follow 64.
+pub(crate) fn may_end_frame_in(register: u64, octet: u8) -> bool
+    ensures { result ≡ false → (b : List Bool) (k : ℕ) (octets : List ℕ) → IsLast64 register b → k < 8
+        → ¬ EndsFrame (b ++ take (k + 1) (octet_bits octet)) octets }
+{
+    let mut last = register;
+    for place in 0..8_u8 {
+        last = shifted(last, (octet >> place) & 1 == 1);
+        if may_end_frame(last) {
+            return true;
+        }
+    }
+    false
+}
+
+/// True if the last of 64 bits can end a frame: they end with a flag, and no other flag comes right before it. Flags in a
+/// row are what a station sends before its frames.
+fn may_end_frame(register: u64) -> bool
+    ensures { result ≡ false → register / 2 ^ 56 ≡ 126 → register / 2 ^ 48 ≡ 32382 }
+{
+    register >> 56 == FLAG && register >> 48 != TWO_FLAGS
 }
 
 /// A reader that has taken 64 bits.

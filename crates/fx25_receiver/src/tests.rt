@@ -72,7 +72,7 @@ fn eight_wrong_octets_are_repaired_and_nine_are_not(rt: HostRuntime) -> Result<(
             octets[11 + 5 * place] ^= 0x91;
         }
         let samples = sound(&rt, rt.alloc(), &octets);
-        for &cut in &[0, 1, 2250, 3711] {
+        for &cut in &[0, 1, 71, 2250, 3711] {
             assert!(rt; cut <= samples.len());
             let items = given(&rt, rt.alloc(), &samples[..cut], &samples[cut..]);
             match heard {

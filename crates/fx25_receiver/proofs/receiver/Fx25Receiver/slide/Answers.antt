@@ -1,28 +1,12 @@
-use Rattle.fx25_receiver.proofs.Common.{◌≡◌, ◌-◌, ℤ, List, length, take, drop, arith, take_all}
-use Rattle.std.proofs.Common.{length-drop}
-use Rattle.fx25_receiver.proofs.BlockLemmas.{slid_all, slid_more, slid_none, slid_position}
+use Rattle.fx25_receiver.proofs.Common.{◌++◌, drop}
+use Rattle.std.proofs.lemmas.Result.{on_ok_weaker}
+use Rattle.fx25_receiver.proofs.AheadLemmas.{all_wait}
 use Rattle.fx25_receiver.proofs.receiver.Fx25Receiver.slide.Goals as goal
-
-pub loop-window-init : goal.loop-window-init
-loop-window-init c = slid_none c.args.self.now c.args.piece.now c.args.given.now.items c.requires.seven
-
-pub loop-window-preserved : goal.loop-window-preserved
-loop-window-preserved c =
-    let cases = c.in-Some.ensures.cases in
-    let rest : List ℤ = c.loop-window.rest.now in
-    let left : List ℤ = take (length rest - 1) (drop 1 rest) in
-    let left_is : left ≡ drop 1 rest = take_all (length rest - 1) (drop 1 rest) (omega (arith, length-drop 1 rest)) in
-    slid_more c.args.self.now c.loop-window.self c.step.new.self c.args.piece.now rest
-    c.in-Some.window.now left c.args.given.now.items c.loop-window.given.items c.step.new.given.items
-    c.loop-window.invariant (let l = cases.2 in omega arith) cases.0 left_is c.in_ok-step.ensures.taken
-    c.in_ok-step.ensures.position c.step.ensures.recent c.step.ensures.spent
 
 pub returns-clause-taken : goal.returns-clause-taken
 returns-clause-taken c =
-    slid_all c.args.self.now c.loop-window.self c.args.piece.now c.loop-window.rest.now c.args.given.now.items
-    c.loop-window.given.items c.loop-window.invariant c.in_default.ensures.cases
-
-pub returns-clause-position : goal.returns-clause-position
-returns-clause-position c =
-    slid_position c.args.self.now c.loop-window.self c.args.piece.now c.loop-window.rest.now c.args.given.now.items
-    c.loop-window.given.items c.loop-window.invariant c.in_default.ensures.cases
+    on_ok_weaker c.follow.result (λ followed x before last taken.
+    followed x before last
+    (all_wait c.args.self.now.lanes c.args.self.now.position c.args.self.now.kept x (x ++ drop 7 c.args.piece.now)
+    (before ++ c.args.given.now.items) taken))
+    c.follow.ensures.taken

@@ -21,12 +21,12 @@ returns-clause-taken c =
     let long = c.if-block-le7.false in
     let block : List ℤ = c.args.block.now in
     let seven : c.min.result ≡ 7 = omega arith in
-    on_ok_weaker c.slide-2.result (λ more x before last taken.
-    second_piece c.slide.new.self c.slide-2.new.self x block before c.slide.new.given.items c.slide-2.new.given.items
+    on_ok_weaker c.run.result (λ more x before last taken.
+    second_piece c.slide.new.self c.run.new.self x block before c.slide.new.given.items c.run.new.given.items
     (omega arith) more
     (subst (λ (first : List ℤ). HasTaken c.slide.new.self (x ++ first) (before ++ c.slide.new.given.items))
     (c.split_at.ensures.front ∙ ap (λ m. take m block) seven)
     (first_piece c.args.self.now c.slide.new.self x c.self.inside.recent _ _ before c.args.given.now.items
     c.slide.new.given.items (ap (λ (held : Held). held.recent) c.self.view_is ∙ last) c.bridge-bridge.ensures
     c.in_ok-slide.ensures.taken taken)))
-    c.slide-2.ensures.taken
+    c.run.ensures.taken
