@@ -2,10 +2,12 @@
 use Rattle.sensitive_blocks.proofs.Common.{◌≡◌, ℕ, ◌+◌, ◌-◌, ◌<◌, ◌≤◌, Bool, true, false, ℤ, pos, List, [], ◌∷◌, ◌++◌}
 use Rattle.sensitive_blocks.proofs.Common.{length, get_or, take, ap, sym, subst, ◌∙◌, arith, inl, inr, length-append, Tone}
 use Rattle.sensitive_blocks.proofs.Common.{added_places, tones, if◌then◌else◌, nat_le, nat_lt, ◌&&◌}
-use Rattle.sensitive_blocks.proofs.Common.{lt-leb, le-leb, lt-ltb, le-ltb, refl}
+use Rattle.sensitive_blocks.proofs.Common.{cases_lt, true≢false, lt-leb, le-leb, lt-ltb, le-ltb, refl}
+use Rattle.std.specs.Prelude.{IsTrue, ◌↔◌}
 use Rattle.std.proofs.lemmas.List.{take_more, take-append-le}
 use Rattle.tone_tracking.specs.declared.bit_clock.Pull.{Pull}
 use Rattle.tone_tracking.specs.declared.bit_clock.Pull.TheVariants.{Slow, Fast}
+use Rattle.tone_tracking.specs.declared.reach.Reach.{Reach}
 use Rattle.tone_tracking.specs.declared.reach.Reach.TheVariants.{Alone, Near, Far}
 use Rattle.tone_tracking.specs.Clock.{Clock, reads as clock_reads}
 unfoldable use Rattle.tone_tracking.specs.Clock.{clock_after}
@@ -14,11 +16,10 @@ use Rattle.tone_tracking.specs.HeldTracker.{tone_before}
 use Rattle.tone_tracking.specs.WithoutMean.{without_mean}
 use Rattle.tone_tracking.specs.HeldMean.{HeldMean, StandsFor as MeanStandsFor}
 use Rattle.tone_tracking.specs.HeldLists.{HeldLists, HasTaken as ListsHaveTaken}
-use Rattle.sensitive_receiver.specs.HeldLanes.{ClocksHaveTaken}
-use Rattle.sensitive_receiver.proofs.BankLemmas.{last_tone_is}
 use Rattle.sensitive_receiver.proofs.LevelLemmas.{clock-append, level_is, lists-append}
+use Rattle.tone_tracking.proofs.TrackerLemmas.{tone_before-last}
 use Rattle.sensitive_blocks.specs.declared.readings.Readings.{Readings}
-use Rattle.sensitive_blocks.specs.Held.{FollowerHasTaken, HeldFollower, none_known}
+use Rattle.sensitive_blocks.specs.Held.{ClocksHaveTaken, FollowerHasTaken, HeldFollower, none_known}
 unfoldable use Rattle.sensitive_blocks.specs.Held.{known_at, known_of}
 
 -- ---- what is known
@@ -92,6 +93,25 @@ pub given_level : (x : List ℤ) (position : ℕ) (sample given level passed : �
 given_level x position sample given level passed same same_level inside is settles =
     let next = level_is x position given level inside (same ∙ is) settles in
     (next.0, same_level ∙ next.1)
+
+-- the tone at the place that was decided last
+last_tone_is : (x : List ℤ) (reach : Reach) (count place : ℕ) (tone : Tone)
+    → tone ≡ tone_before (tones reach x) (places_in count) 0 → places_in count ≡ place + 1
+    → tone ≡ tones reach x place
+last_tone_is x reach count place tone is last = is ∙ ap (λ n. tone_before (tones reach x) n 0) last
+    ∙ tone_before-last (tones reach x) place
+
+-- whether a place is decided, as the lists tell it
+pub not_yet : (told : Bool) (count position : ℕ) → IsTrue told ↔ (23 ≤ count) → told ≡ false → count ≡ position - 15
+    → position + 1 < 39
+not_yet told count position both is same = elim (cases_lt position 38) [
+  | inl few ↦ omega arith
+  | inr enough ↦ absurd (true≢false (sym (both.1 (omega arith)) ∙ is))
+]
+
+pub already : (told : Bool) (count position : ℕ) → IsTrue told ↔ (23 ≤ count) → told ≡ true → count ≡ position - 15
+    → 38 ≤ position
+already told count position both is same = let enough = both.0 is in omega arith
 
 -- a sample more of which no place is decided
 pub taken_few : (position : ℕ) (remover next : HeldMean) (was lists : HeldLists) (a b c d : Pull × Clock) (x : List ℤ)

@@ -4,12 +4,11 @@ use Rattle.std.specs.Prelude.{List, ◌++◌, length, take, drop, replicate, sli
 use Rattle.tone_tracking.specs.declared.bit_clock.Pull.{Pull}
 use Rattle.tone_tracking.specs.declared.bit_clock.Pull.TheVariants.{Slow, Fast}
 use Rattle.tone_tracking.specs.declared.reach.Reach.TheVariants.{Alone, Near, Far}
-use Rattle.tone_tracking.specs.Clock.{Clock, is_reading}
+use Rattle.tone_tracking.specs.Clock.{Clock, clock_after, is_reading}
 use Rattle.tone_tracking.specs.WithoutMean.{without_mean}
 use Rattle.tone_tracking.specs.HeldMean.{HeldMean, StandsFor as MeanStandsFor}
 use Rattle.tone_tracking.specs.HeldLists.{HeldLists, HasTaken as ListsHaveTaken}
 use Rattle.fx25_receiver.specs.declared.heard.Heard.{Heard}
-use Rattle.sensitive_receiver.specs.HeldLanes.{ClocksHaveTaken}
 use Rattle.sensitive_receiver.specs.Lanes.{added_places, tones}
 use Rattle.sensitive_blocks.specs.declared.readings.Readings.{Readings}
 use Rattle.sensitive_blocks.specs.Bits.{ends, lane_tones}
@@ -54,6 +53,13 @@ pub record HeldFollower : Type 0 where
   pub slow_far : Pull × Clock
   pub fast_near : Pull × Clock
   pub slow_alone : Pull × Clock
+
+-- the clocks have taken the tones of so many places of the samples
+pub record ClocksHaveTaken (first second third fourth : Clock) (count : ℕ) (x : List ℤ) : Type 0 where
+  pub slow_near : first ≡ clock_after Slow (tones Near x) count
+  pub slow_far : second ≡ clock_after Slow (tones Far x) count
+  pub fast_near : third ≡ clock_after Fast (tones Near x) count
+  pub slow_alone : fourth ≡ clock_after Slow (tones Alone x) count
 
 -- it has taken so many of these samples as it has counted, and decided all places of them
 pub record FollowerHasTaken (held : HeldFollower) (x : List ℤ) : Type 0 where

@@ -1,268 +1,283 @@
--- A bank of added lanes with one sample more.
-use Rattle.sensitive_receiver.proofs.Common.{◌≡◌, ℕ, ◌+◌, ◌-◌, ◌<◌, ◌≤◌, Bool, ℤ, pos, List, [], ◌++◌, length, get_or}
-use Rattle.sensitive_receiver.proofs.Common.{take, drop, true, false, ap, sym, subst, ◌∙◌, arith, inl, inr}
-use Rattle.sensitive_receiver.proofs.Common.{length-append, cases_lt, true≢false, Tone, Candidate, Pull, Slow, Fast}
-use Rattle.sensitive_receiver.proofs.Common.{Reach, Near, Far, Alone, clock_after, reads, tones, places_in, HeldLists, added_places, without_mean}
-use Rattle.sensitive_receiver.proofs.Common.{tone_before, Readings, AddsBelow, AddsBetween, AreAddedBetween, HeldLane}
-use Rattle.sensitive_receiver.proofs.Common.{LanesHaveRead, IsLastPlace, HasTaken, readings_at}
-use Rattle.std.proofs.Common.{get_or-append-add}
-use Rattle.std.specs.Prelude.{IsTrue, ◌↔◌}
-use Rattle.std.proofs.Math.Seq.{take-append_seam}
-use Rattle.std.proofs.lemmas.List.{take_more}
-use Rattle.std.specs.Prelude.{◌∷◌}
-use Rattle.tone_tracking.specs.Clock.{Clock}
-use Rattle.tone_tracking.specs.HeldMean.{HeldMean, StandsFor as MeanStandsFor}
-use Rattle.tone_tracking.specs.HeldLists.{HasTaken as ListsHaveTaken}
-use Rattle.tone_tracking.proofs.TrackerLemmas.{tone_before-last}
-use Rattle.sensitive_receiver.specs.HeldLanes.{HeldBank, ClocksHaveTaken, StandsFor}
-use Rattle.sensitive_receiver.proofs.FoundLemmas.{adds_none, adds_next_places}
-use Rattle.sensitive_receiver.proofs.PrefixLanes.{bank_taken-append}
+-- A bank of added lanes with a piece of samples more.
+use Rattle.sensitive_receiver.proofs.Common.{◌≡◌, ℕ, ◌+◌, ◌-◌, ◌<◌, ◌≤◌, Bool, ℤ, List, [], ◌∷◌, ◌++◌, length, get_or, refl}
+use Rattle.sensitive_receiver.proofs.Common.{true, false, ap, sym, subst, ◌∙◌, arith, inl, inr, ◌⊎◌, append_assoc, append-nil}
+use Rattle.sensitive_receiver.proofs.Common.{length-append, cases_lt, true≢false, Candidate, All, All-append, All-nil, All-weaker}
+use Rattle.sensitive_receiver.proofs.Common.{Reach, Near, Far, Alone, added_places, HeldList, AreAddedBetween, AreAddedIn}
+use Rattle.sensitive_receiver.proofs.Common.{HasRead, HasRoomFrom, list_of}
+use Rattle.tone_tracking.specs.declared.correlation.Correlations.{Correlations}
+use Rattle.tone_tracking.specs.HeldLine.{AreCorrelationsFrom, HeldLine, HasTaken as LineHasTaken, decided_in, windows_in}
+use Rattle.sensitive_receiver.specs.Found.{HasRoom, IsAddedFrom}
+use Rattle.sensitive_receiver.specs.Hearing.{AllReadLine, ReadsLine}
+use Rattle.sensitive_receiver.specs.HeldLanes.{HeldBank, StandsFor, bank_of}
+use Rattle.sensitive_receiver.specs.HeldList.{AreAt, HaveRead}
+use Rattle.sensitive_receiver.proofs.FoundLemmas.{where_join, where_none}
+use Rattle.sensitive_receiver.proofs.PrefixLanes.{ends-append, ends-take, list_read-append}
 
-abbrev pub bank_of : ℕ → HeldMean → HeldLists → Pull × Clock → Pull × Clock → Pull × Clock → Pull × Clock
-    → List HeldLane → HeldBank
-bank_of position remover lists slow_near slow_far fast_near slow_alone lanes =
-    record {
-      position = position;
-      remover = remover;
-      lists = lists;
-      slow_near = slow_near;
-      slow_far = slow_far;
-      fast_near = fast_near;
-      slow_alone = slow_alone;
-      lanes = lanes;
-    }
+-- ---- what the lists find, joined
 
--- the tone at the place that was decided last
-pub last_tone_is : (x : List ℤ) (reach : Reach) (count place : ℕ) (tone : Tone)
-    → tone ≡ tone_before (tones reach x) (places_in count) 0 → places_in count ≡ place + 1
-    → tone ≡ tones reach x place
-last_tone_is x reach count place tone is last = is ∙ ap (λ n. tone_before (tones reach x) n 0) last
-    ∙ tone_before-last (tones reach x) place
+abbrev is_alone : Reach → Bool
+is_alone Alone = true
+is_alone Near = false
+is_alone Far = false
 
--- what the clocks say of a place
-pub readings_are : (x : List ℤ) (place : ℕ) (a b c d : Clock) (p q r t : Bool) → ClocksHaveTaken a b c d place x
-    → p ≡ reads a → q ≡ reads b → r ≡ reads c → t ≡ reads d
-    → record { place = place; slow_near = p; slow_far = q; fast_near = r; slow_alone = t } ≡ readings_at x place
-unfolding readings_at
-readings_are x place a b c d p q r t h p_is q_is r_is t_is =
-    let one = p_is ∙ ap reads h.slow_near in
-    let two = q_is ∙ ap reads h.slow_far in
-    let three = r_is ∙ ap reads h.fast_near in
-    let four = t_is ∙ ap reads h.slow_alone in
-    λ i. record { place = place; slow_near = one i; slow_far = two i; fast_near = three i; slow_alone = four i }
+abbrev is_far : Reach → Bool
+is_far Alone = false
+is_far Near = false
+is_far Far = true
 
--- the remover has taken the sample at a position
-remover_more : (remover next : HeldMean) (x : List ℤ) (position : ℕ) (sample : ℤ) → position < length x
-    → sample ≡ get_or x position (pos 0)
-    → ((y : List ℤ) → MeanStandsFor remover y → MeanStandsFor next (y ++ sample ∷ []))
-    → MeanStandsFor remover (take position x) → MeanStandsFor next (take (position + 1) x)
-remover_more remover next x position sample inside is step h =
-    subst (MeanStandsFor next)
-    (ap (λ z. take position x ++ z ∷ []) is ∙ sym (take_more x position (pos 0) inside)) (step (take position x) h)
+some_list : (reach : Reach) → ((reach ≡ Alone) ⊎ (reach ≡ Near)) ⊎ (reach ≡ Far)
+some_list Alone = inl (inl refl)
+some_list Near = inl (inr refl)
+some_list Far = inr refl
 
--- a sample more of which no place is decided: of these samples the lists have taken those that it settles
-pub taken_few : (position : ℕ) (remover next : HeldMean) (was lists : HeldLists) (a b c d : Pull × Clock)
-    (lanes : List HeldLane) (x : List ℤ) (sample : ℤ) → position + 1 < 39
-    → position < length x → sample ≡ get_or x position (pos 0)
-    → ((y : List ℤ) → MeanStandsFor remover y → MeanStandsFor next (y ++ sample ∷ []))
-    → ListsHaveTaken lists (without_mean x) → lists.count ≡ position + 1 - 15
-    → HasTaken (bank_of position remover was a b c d lanes) x
-    → HasTaken (bank_of (position + 1) next lists a b c d lanes) x
-taken_few position remover next was lists a b c d lanes x sample few inside is step taken count h =
-    let same : added_places position ≡ added_places (position + 1) = omega arith in
-    record {
-      within = omega arith;
-      remover = remover_more remover next x position sample inside is step h.remover;
-      lists = taken;
-      count = count;
-      clocks = subst (λ n. ClocksHaveTaken a.1 b.1 c.1 d.1 n x) same h.clocks;
-      lanes = subst (λ n. LanesHaveRead lanes n x) same h.lanes;
-    }
+pub lists_join : (from to : ℕ) (x : List ℤ) (alone near far : List Candidate) → AreAddedIn Alone from to x alone
+    → AreAddedIn Near from to x near → AreAddedIn Far from to x far
+    → AreAddedBetween from to x ((alone ++ near) ++ far)
+lists_join from to x alone near far a n f =
+    let Here : ℕ → Type 0 = λ p. (from ≤ p) × (p < to) in
+    where_join (λ p l. Here p × ((list_of l ≡ Alone) ⊎ (list_of l ≡ Near))) (λ p l. Here p × (list_of l ≡ Far))
+    (λ p l. Here p) x (alone ++ near) far
+    (where_join (λ p l. Here p × (list_of l ≡ Alone)) (λ p l. Here p × (list_of l ≡ Near))
+    (λ p l. Here p × ((list_of l ≡ Alone) ⊎ (list_of l ≡ Near))) x alone near a n
+    (λ p l h. (h.0, inl h.1)) (λ p l h. (h.0, inr h.1))
+    (λ p l h. elim h.1 [ inl is ↦ inl (h.0, is) | inr is ↦ inr (h.0, is) ])
+    (λ p l h k. true≢false (ap is_alone (sym h.1 ∙ k.1))))
+    f
+    (λ p l h. h.0) (λ p l h. h.0)
+    (λ p l h. elim (some_list (list_of l)) [ inl is ↦ inl (h, is) | inr is ↦ inr (h, is) ])
+    (λ p l h k. elim h.1 [
+      | inl is ↦ true≢false (sym (ap is_far (sym is ∙ k.1)))
+      | inr is ↦ true≢false (sym (ap is_far (sym is ∙ k.1)))
+    ])
 
--- and so nothing is found
-pub adds_few : (position : ℕ) (x : List ℤ) (found : List Candidate) → position + 1 < 39
-    → AddsBetween (added_places position) (added_places (position + 1)) x found found
-adds_few position x found few =
-    adds_none (λ p l. (added_places position ≤ p) × (p < added_places (position + 1))) x found
-    (λ item place of ends. let a = of.0 in let b = of.1 in absurd (omega arith))
-
--- what the lanes below lane 26 add at a place is all that is added there
-pub adds_place : (place from to : ℕ) (x : List ℤ) (before after : List Candidate) → from ≡ place → to ≡ place + 1
-    → AddsBelow place 26 x before after → AddsBetween from to x before after
-adds_place place from to x before after from_is to_is a = record {
-  heard = a.heard;
-  found = a.found;
-  are = record {
-    each = λ k d l. let e = a.are.each k d l in (e.0, (let p = e.1.0 in (omega arith, omega arith)), e.2);
-    whole = λ item p of ends. let low = of.0 in let high = of.1 in
-        a.are.whole item p ((let e : p ≡ place = omega arith in e), ends.most) ends;
-    apart = a.are.apart;
-  };
+-- what is found of the first samples is found of all
+found-append : (x y : List ℤ) (from to : ℕ) (items : List Candidate) → to ≤ added_places (length x)
+    → AreAddedBetween from to x items → AreAddedBetween from to (x ++ y) items
+found-append x y from to items inside a = record {
+  each = λ k d l.
+      let e = a.each k d l in
+      let below = e.1.1 in
+      (e.0, e.1, ends-append x y (get_or items k d) e.0 (omega arith) e.2);
+  whole = λ item place of ends.
+      let below = of.1 in
+      a.whole item place of (ends-take x y item place (omega arith) ends);
+  apart = a.apart;
 }
 
--- what was lent comes back as it was left
-pub given_back : (n : ℕ) (lanes before : List HeldLane) → n ≡ length lanes
-    → take n (lanes ++ drop (length lanes) before) ≡ lanes
-given_back n lanes before full = ap (λ m. take m (lanes ++ drop (length lanes) before)) full
-    ∙ take-append_seam lanes (drop (length lanes) before)
+-- and what follows it is joined to it
+found_more : (x y : List ℤ) (from middle to : ℕ) (items more : List Candidate) → from ≤ middle → middle ≤ to
+    → middle ≤ added_places (length x) → AreAddedBetween from middle x items
+    → AreAddedBetween middle to (x ++ y) more → AreAddedBetween from to (x ++ y) (items ++ more)
+found_more x y from middle to items more le le' inside a b =
+    where_join (λ p l. (from ≤ p) × (p < middle)) (λ p l. (middle ≤ p) × (p < to)) (λ p l. (from ≤ p) × (p < to)) (x ++ y)
+    items more (found-append x y from middle items inside a) b
+    (λ p l h. (h.0, (let high = h.1 in omega arith))) (λ p l h. ((let low = h.0 in omega arith), h.1))
+    (λ p l h. elim (cases_lt p middle) [ inl lt ↦ inl (h.0, lt) | inr ge ↦ inr (ge, h.1) ])
+    (λ p l h k. let high = h.1 in let low = k.0 in omega arith)
 
--- whether a place is decided, as the lists tell it
-pub not_yet : (told : Bool) (count position : ℕ) → IsTrue told ↔ (23 ≤ count) → told ≡ false → count ≡ position - 15
-    → position + 1 < 39
-not_yet told count position both is same = elim (cases_lt position 38) [
-  | inl few ↦ omega arith
-  | inr enough ↦ absurd (true≢false (sym (both.1 (omega arith)) ∙ is))
-]
+-- ---- one piece
 
-pub already : (told : Bool) (count position : ℕ) → IsTrue told ↔ (23 ≤ count) → told ≡ true → count ≡ position - 15
-    → 38 ≤ position
-already told count position both is same = let enough = both.0 is in omega arith
+-- what all lists hear has room
+pub all_bounds : (place low : ℕ) (a n f a' n' f' : HeldList) (row : List Correlations) (items : List Candidate)
+    → AreAt place a n f → low ≤ place + 6 → AllReadLine a n f a' n' f' row items → All (HasRoomFrom low) items
+all_bounds place low a n f a' n' f' row items at le reads =
+    let P : Candidate → Type 0 = HasRoomFrom low in
+    let weaker : (from : ℕ) (some : List Candidate) → from ≡ place → All (HasRoomFrom (from + 6)) some → All P some
+    = λ from some is all k d l.
+    let one = all k d l in
+    let end = one.from.end in
+    record { room = one.room; from = record { lane = one.from.lane; end = omega arith } } in
+    subst (All P) (sym (reads.joined ∙ ap (λ t. t ++ reads.far_heard) reads.both_read.joined))
+    (All-append P (reads.both_read.alone_heard ++ reads.both_read.near_heard) reads.far_heard
+    (All-append P reads.both_read.alone_heard reads.both_read.near_heard
+    (weaker a.tracker.place reads.both_read.alone_heard at.alone_place reads.both_read.alone_reads.bounds)
+    (weaker n.tracker.place reads.both_read.near_heard at.near_place reads.both_read.near_reads.bounds))
+    (weaker f.tracker.place reads.far_heard at.far_place reads.far_reads.bounds))
 
--- a place is decided by the sample
-module _ (position : ℕ) (remover next_remover : HeldMean) (was lists : HeldLists) (a b c d a' b' c' d' : Pull × Clock)
-    (lanes now : List HeldLane) (near far alone : Tone) (p q r t : Bool) (x : List ℤ) (sample : ℤ)
-    (enough : 38 ≤ position) (inside : position < length x) (is : sample ≡ get_or x position (pos 0))
-    (step : (y : List ℤ) → MeanStandsFor remover y → MeanStandsFor next_remover (y ++ sample ∷ []))
-    (taken : ListsHaveTaken lists (without_mean x)) (count : lists.count ≡ position - 15 + 1)
-    (h : HasTaken (bank_of position remover was a b c d lanes) x)
-    (near_is : near ≡ tone_before (tones Near x) (places_in lists.count) 0)
-    (far_is : far ≡ tone_before (tones Far x) (places_in lists.count) 0)
-    (alone_is : alone ≡ tone_before (tones Alone x) (places_in lists.count) 0)
-    (p_is : p ≡ reads a.1) (q_is : q ≡ reads b.1) (r_is : r ≡ reads c.1) (t_is : t ≡ reads d.1)
-    (a_pull : a.0 ≡ Slow) (b_pull : b.0 ≡ Slow) (c_pull : c.0 ≡ Fast) (d_pull : d.0 ≡ Slow)
-    (a_step : (tones : ℕ → Tone) (k : ℕ) → a.1 ≡ clock_after a.0 tones k → near ≡ tones k
-    → a'.1 ≡ clock_after a.0 tones (k + 1))
-    (b_step : (tones : ℕ → Tone) (k : ℕ) → b.1 ≡ clock_after b.0 tones k → far ≡ tones k
-    → b'.1 ≡ clock_after b.0 tones (k + 1))
-    (c_step : (tones : ℕ → Tone) (k : ℕ) → c.1 ≡ clock_after c.0 tones k → near ≡ tones k
-    → c'.1 ≡ clock_after c.0 tones (k + 1))
-    (d_step : (tones : ℕ → Tone) (k : ℕ) → d.1 ≡ clock_after d.0 tones k → alone ≡ tones k
-    → d'.1 ≡ clock_after d.0 tones (k + 1)) where
-  abbrev pub place : ℕ
-  place = position + 1 - 39
+-- where the lists are when they have read a line
+pub all_at : (place count : ℕ) (a n f a' n' f' : HeldList) (row : List Correlations) (items : List Candidate)
+    → AreAt place a n f → count ≡ place + (length row - 16) → AllReadLine a n f a' n' f' row items → AreAt count a' n' f'
+all_at place count a n f a' n' f' row items at is reads =
+    let one = at.alone_place in
+    let two = at.near_place in
+    let three = at.far_place in
+    let first = reads.both_read.alone_reads.place in
+    let second = reads.both_read.near_reads.place in
+    let third = reads.far_reads.place in
+    record {
+      alone_list = reads.both_read.alone_reads.list ∙ at.alone_list;
+      near_list = reads.both_read.near_reads.list ∙ at.near_list;
+      far_list = reads.far_reads.list ∙ at.far_list;
+      alone_place = omega arith;
+      near_place = omega arith;
+      far_place = omega arith;
+    }
 
-  abbrev pub told : Readings
-  told = record { place = place; slow_near = p; slow_far = q; fast_near = r; slow_alone = t }
+-- the lists read the line of a piece, by the samples with it
+module _ (line : HeldLine) (alone near far a n f : HeldList) (row : List Correlations) (piece : List ℤ)
+    (items : List Candidate) (x : List ℤ)
+    (first : line.first ≡ added_places (length x))
+    (taken : LineHasTaken line (x ++ piece))
+    (are : AreCorrelationsFrom line.first row (x ++ piece))
+    (size : line.first + length row ≡ windows_in line.count)
+    (reads : AllReadLine alone near far a n f row items)
+    (at : AreAt (added_places (length x)) alone near far)
+    (read : HaveRead alone near far x) where
+  abbrev now : List ℤ
+  now = x ++ piece
 
-  here : added_places position ≡ place
-  here = omega arith
+  abbrev from : ℕ
+  from = added_places (length x)
 
-  next : places_in lists.count ≡ place + 1
-  next = omega arith
+  abbrev to : ℕ
+  to = added_places (length now)
 
-  before : ClocksHaveTaken a.1 b.1 c.1 d.1 place x
-  before = subst (λ n. ClocksHaveTaken a.1 b.1 c.1 d.1 n x) here h.clocks
+  row_at : (place : ℕ) → place ≡ from → AreCorrelationsFrom place row now
+  row_at place is = subst (λ p. AreCorrelationsFrom p row now) (first ∙ sym is) are
 
-  last : IsLastPlace lists told x
-  last = record {
-    taken = taken;
-    last = next;
-    readings = readings_are x place a.1 b.1 c.1 d.1 p q r t before p_is q_is r_is t_is;
+  reach_to : to ≡ from + (length row - 16)
+  reach_to =
+      let count = taken.count in
+      let more = length-append x piece in
+      omega arith
+
+  pub row_at_end : AreAt to a n f
+  row_at_end = all_at from to alone near far a n f row items at reach_to reads
+
+  were : (held : HeldList) → held.tracker.place ≡ from → HasRead held x → HasRead held now
+  were held is old = list_read-append x piece held is old
+
+  pub row_read : HaveRead a n f now
+  row_read = record {
+    alone_read = reads.both_read.alone_reads.read now (row_at alone.tracker.place at.alone_place)
+        (were alone at.alone_place read.alone_read);
+    near_read = reads.both_read.near_reads.read now (row_at near.tracker.place at.near_place)
+        (were near at.near_place read.near_read);
+    far_read = reads.far_reads.read now (row_at far.tracker.place at.far_place) (were far at.far_place read.far_read);
   }
 
-  -- a clock one place on, its pull being known
-  stepped : (pull : Pull) (tones : ℕ → Tone) (old new : Pull × Clock) (tone : Tone) → old.0 ≡ pull
-      → old.1 ≡ clock_after pull tones place → tone ≡ tones place
-      → ((t : ℕ → Tone) (k : ℕ) → old.1 ≡ clock_after old.0 t k → tone ≡ t k → new.1 ≡ clock_after old.0 t (k + 1))
-      → new.1 ≡ clock_after pull tones (place + 1)
-  stepped pull tones old new tone pull_is is tone_is step =
-      step tones place (is ∙ ap (λ w. clock_after w tones place) (sym pull_is)) tone_is
-      ∙ ap (λ w. clock_after w tones (place + 1)) pull_is
+  list_found : (reach : Reach) (was held : HeldList) (heard : List Candidate) → ReadsLine was held row heard
+      → was.tracker.place ≡ from → was.tracker.reach ≡ reach → held.tracker.place ≡ to → HasRead was x
+      → AreAddedIn reach from to now heard
+  list_found reach was held heard line_read place_is list_is end_is old =
+      subst (λ r. AreAddedIn r from to now heard) list_is
+      (subst (λ p. AreAddedIn was.tracker.reach p to now heard) place_is
+      (subst (λ p. AreAddedIn was.tracker.reach was.tracker.place p now heard) end_is
+      (line_read.found now (row_at was.tracker.place place_is) (were was place_is old))))
 
-  clocks : ClocksHaveTaken a'.1 b'.1 c'.1 d'.1 (place + 1) x
-  clocks =
-      let near_here = last_tone_is x Near lists.count place near near_is next in
-      let far_here = last_tone_is x Far lists.count place far far_is next in
-      let alone_here = last_tone_is x Alone lists.count place alone alone_is next in
+  pub row_found : AreAddedBetween from to now items
+  row_found =
+      let end = row_at_end in
+      subst (AreAddedBetween from to now) (sym (reads.joined ∙ ap (λ t. t ++ reads.far_heard) reads.both_read.joined))
+      (lists_join from to now reads.both_read.alone_heard reads.both_read.near_heard reads.far_heard
+      (list_found Alone alone a reads.both_read.alone_heard reads.both_read.alone_reads at.alone_place at.alone_list
+      end.alone_place read.alone_read)
+      (list_found Near near n reads.both_read.near_heard reads.both_read.near_reads at.near_place at.near_list
+      end.near_place read.near_read)
+      (list_found Far far f reads.far_heard reads.far_reads at.far_place at.far_list end.far_place read.far_read))
+
+-- the line that a piece makes is read
+pub piece_fed : (old line : HeldLine) (alone near far a n f : HeldList) (row : List Correlations) (piece : List ℤ)
+    (items : List Candidate) (x : List ℤ)
+    → ((y : List ℤ) → LineHasTaken old y → LineHasTaken line (y ++ piece))
+    → line.first ≡ decided_in old.count
+    → ((y : List ℤ) → LineHasTaken line y → AreCorrelationsFrom line.first row y)
+    → line.first + length row ≡ windows_in line.count
+    → AllReadLine alone near far a n f row items
+    → StandsFor (bank_of old alone near far) x
+    → StandsFor (bank_of line a n f) (x ++ piece)
+    × AreAddedBetween (added_places (length x)) (added_places (length (x ++ piece))) (x ++ piece) items
+piece_fed old line alone near far a n f row piece items x stands first are size reads h =
+    let taken = stands x h.line in
+    let count = h.line.count in
+    let here : line.first ≡ added_places (length x) = omega arith in
+    let row_are = are (x ++ piece) taken in (
       record {
-        slow_near = stepped Slow (tones Near x) a a' near a_pull before.slow_near near_here a_step;
-        slow_far = stepped Slow (tones Far x) b b' far b_pull before.slow_far far_here b_step;
-        fast_near = stepped Fast (tones Near x) c c' near c_pull before.fast_near near_here c_step;
-        slow_alone = stepped Slow (tones Alone x) d d' alone d_pull before.slow_alone alone_here d_step;
-      }
+        position = taken.count;
+        line = taken;
+        at = row_at_end line alone near far a n f row piece items x here taken row_are size reads h.at h.read;
+        read = row_read line alone near far a n f row piece items x here taken row_are size reads h.at h.read;
+      },
+      row_found line alone near far a n f row piece items x here taken row_are size reads h.at h.read,
+    )
 
-  read_before : LanesHaveRead lanes place x
-  read_before = subst (λ n. LanesHaveRead lanes n x) here h.lanes
+-- where the lists are then
+pub piece_at : (old line : HeldLine) (alone near far a n f : HeldList) (row : List Correlations) (piece : List ℤ)
+    (items : List Candidate)
+    → line.count ≡ old.count + length piece → line.first ≡ decided_in old.count
+    → line.first + length row ≡ windows_in line.count → AllReadLine alone near far a n f row items
+    → AreAt (decided_in old.count) alone near far → AreAt (decided_in line.count) a n f
+piece_at old line alone near far a n f row piece items count first size reads at =
+    all_at (decided_in old.count) (decided_in line.count) alone near far a n f row items at (omega arith) reads
 
-  pub taken_place : (IsLastPlace lists told x → LanesHaveRead lanes place x → LanesHaveRead now (place + 1) x)
-      → HasTaken (bank_of (position + 1) next_remover lists a' b' c' d' now) x
-  taken_place read =
-      let further : place + 1 ≡ added_places (position + 1) = omega arith in
-      record {
-        within = omega arith;
-        remover = remover_more remover next_remover x position sample inside is step h.remover;
-        lists = taken;
-        count = omega arith;
-        clocks = subst (λ n. ClocksHaveTaken a'.1 b'.1 c'.1 d'.1 n x) further clocks;
-        lanes = subst (λ n. LanesHaveRead now n x) further (read last read_before);
-      }
+-- ---- piece after piece
 
-  pub found_place : (found after : List Candidate)
-      → (IsLastPlace lists told x → LanesHaveRead lanes place x → AddsBelow place 26 x found after)
-      → AddsBetween (added_places position) (added_places (position + 1)) x found after
-  found_place found after adds = adds_place place (added_places position) (added_places (position + 1)) x found after here
-      (omega arith) (adds last read_before)
+-- what was found so far of a block
+pub record HasFed (initial later : HeldBank) (done : List ℤ) (items : List Candidate) : Type 0 where
+  pub position : later.position ≡ initial.position + length done
+  pub fed : (x : List ℤ) → StandsFor initial x
+      → StandsFor later (x ++ done)
+      × AreAddedBetween (added_places (length x)) (added_places (length (x ++ done))) (x ++ done) items
+  pub bounds : All (HasRoomFrom (initial.position - 32)) items
+  pub at : AreAt (decided_in later.line.count) later.alone later.near later.far
 
--- what was found so far at the places of a block, with the samples of which more are known than are taken
-pub record HasFed (initial now : HeldBank) (block : List ℤ) (items : List Candidate) (n : ℕ) : Type 0 where
-  pub position : now.position ≡ initial.position + n
-  pub taken : (x : List ℤ) → HasTaken initial x → initial.position + length block ≤ length x
-      → ((i : ℕ) → i < length block → get_or block i (pos 0) ≡ get_or x (initial.position + i) (pos 0)) → HasTaken now x
-  pub found : (x : List ℤ) → HasTaken initial x → initial.position + length block ≤ length x
-      → ((i : ℕ) → i < length block → get_or block i (pos 0) ≡ get_or x (initial.position + i) (pos 0))
-      → AddsBetween (added_places initial.position) (added_places now.position) x [] items
-
-pub fed_none : (initial : HeldBank) (block : List ℤ) → HasFed initial initial block [] 0
-fed_none initial block = record {
+pub fed_none : (initial : HeldBank) → AreAt (decided_in initial.line.count) initial.alone initial.near initial.far
+    → HasFed initial initial [] []
+fed_none initial at = record {
   position = omega arith;
-  taken = λ x h room same. h;
-  found = λ x h room same. adds_none (λ p l. (added_places initial.position ≤ p) × (p < added_places initial.position)) x []
-      (λ item place of ends. let a = of.0 in let b = of.1 in absurd (omega arith));
+  fed = λ x h.
+      let from = added_places (length x) in
+      subst (λ y. StandsFor initial y × AreAddedBetween from (added_places (length y)) y []) (sym (append-nil x)) (
+        h,
+        where_none (λ p l. (from ≤ p) × (p < from)) x
+            (λ item place of ends. let low = of.0 in let high = of.1 in absurd (omega arith)),
+      );
+  bounds = All-nil (HasRoomFrom (initial.position - 32));
+  at = at;
 }
 
-pub fed_more : (initial was now : HeldBank) (block : List ℤ) (found after : List Candidate) (n : ℕ) (sample : ℤ)
-    → HasFed initial was block found n → n < length block
-    → sample ≡ get_or block n (pos 0) → now.position ≡ was.position + 1
-    → ((x : List ℤ) → HasTaken was x → was.position < length x → sample ≡ get_or x was.position (pos 0)
-    → HasTaken now x)
-    → ((x : List ℤ) → HasTaken was x → was.position < length x → sample ≡ get_or x was.position (pos 0)
-    → AddsBetween (added_places was.position) (added_places (was.position + 1)) x found after)
-    → HasFed initial now block after (n + 1)
-fed_more initial was now block found after n sample h inside is more take add =
-    let position = h.position in
+pub fed_more : (initial was later : HeldBank) (done piece : List ℤ) (items more : List Candidate)
+    → HasFed initial was done items
+    → later.position ≡ was.position + length piece
+    → ((x : List ℤ) → StandsFor was x → StandsFor later (x ++ piece)
+    × AreAddedBetween (added_places (length x)) (added_places (length (x ++ piece))) (x ++ piece) more)
+    → All (HasRoomFrom (was.position - 32)) more
+    → AreAt (decided_in later.line.count) later.alone later.near later.far
+    → HasFed initial later (done ++ piece) (items ++ more)
+fed_more initial was later done piece items more h position feed bounds end =
+    let at = h.position in
+    let size = length-append done piece in
+    let P : Candidate → Type 0 = HasRoomFrom (initial.position - 32) in
     record {
       position = omega arith;
-      taken = λ x t room same. take x (h.taken x t room same) (omega arith)
-          (is ∙ same n inside ∙ ap (λ k. get_or x k (pos 0)) (sym position));
-      found = λ x t room same.
-          let added = add x (h.taken x t room same) (omega arith)
-          (is ∙ same n inside ∙ ap (λ k. get_or x k (pos 0)) (sym position)) in
-          subst (λ m. AddsBetween (added_places initial.position) m x [] after)
-          (let next : added_places (was.position + 1) ≡ added_places now.position = omega arith in next)
-          (adds_next_places (added_places initial.position) (added_places was.position)
-          (added_places (was.position + 1)) x [] found after (omega arith) (omega arith)
-          (h.found x t room same) added);
+      fed = λ x start.
+          let from = added_places (length x) in
+          let middle = h.fed x start in
+          let last = feed (x ++ done) middle.0 in
+          let first = length-append x done in
+          let second = length-append (x ++ done) piece in
+          subst (λ y. StandsFor later y × AreAddedBetween from (added_places (length y)) y (items ++ more))
+          (append_assoc x done piece) (
+            last.0,
+            found_more (x ++ done) piece from (added_places (length (x ++ done)))
+                (added_places (length ((x ++ done) ++ piece))) items more (omega arith) (omega arith) (omega arith)
+                middle.1 last.1,
+          );
+      bounds = All-append P items more h.bounds (λ k d l.
+          let one = bounds k d l in
+          let end = one.from.end in
+          record { room = one.room; from = record { lane = one.from.lane; end = omega arith } });
+      at = end;
     }
 
--- the whole block
-pub fed_all : (initial now : HeldBank) (block : List ℤ) (items : List Candidate) (n : ℕ)
-    → HasFed initial now block items n → n ≡ length block
-    → (x : List ℤ) → StandsFor initial x
-    → StandsFor now (x ++ block) × AreAddedBetween (added_places (length x)) (added_places (length (x ++ block)))
-    (x ++ block) items
-fed_all initial now block items n fed whole x h =
-    let y : List ℤ = x ++ block in
-    let size : length y ≡ length x + length block = length-append x block in
-    let first = h.position in
-    let further = fed.position in
-    let start : HasTaken initial y = bank_taken-append x block initial (omega arith) h.taken in
-    let same : (i : ℕ) → i < length block → get_or block i (pos 0) ≡ get_or y (initial.position + i) (pos 0)
-    = λ i small. sym (ap (λ k. get_or y (k + i) (pos 0)) first ∙ get_or-append-add x block i (pos 0)) in
-    let added = fed.found y start (omega arith) same in
-    let end : now.position ≡ length y = omega arith in (
-      record { position = end; taken = fed.taken y start (omega arith) same },
-      subst (λ m. AreAddedBetween (added_places (length x)) (added_places m) y items) end
-          (subst (λ m. AreAddedBetween (added_places m) (added_places now.position) y items) first
-          (subst (AreAddedBetween (added_places initial.position) (added_places now.position) y)
-          (sym added.found) added.are)),
-    )
+-- nothing is left, so all is done
+pub all_done : (done rest block : List ℤ) → done ++ rest ≡ block → length rest ≡ 0 → done ≡ block
+all_done done [] block is none = sym (append-nil done) ∙ is
+all_done done (x ∷ rest) block is none = absurd (omega arith)
+
+-- items that have room, and are late enough
+pub have_room : (low : ℕ) (items : List Candidate) → All (HasRoomFrom low) items → All HasRoom items
+have_room low items all = All-weaker (HasRoomFrom low) HasRoom (λ item one. one.room) items all
+
+pub are_late : (low : ℕ) (items : List Candidate) → All (HasRoomFrom low) items → All (IsAddedFrom low) items
+are_late low items all = All-weaker (HasRoomFrom low) (IsAddedFrom low) (λ item one. one.from) items all

@@ -10,16 +10,17 @@ pub use Rattle.hdlc_framer.specs.Frames.{EndsFrame}
 pub use Rattle.nrzi_bits.specs.Line.{bits_of}
 pub use Rattle.sensitive_receiver.specs.AddedCandidates.{EndsAtPlace, HasPath, is_in_time}
 pub use Rattle.sensitive_receiver.specs.Candidates.{AreHeard, IsHeard}
-pub use Rattle.sensitive_receiver.specs.Found.{AddsAt, AddsBelow, AddsBetween, AreAddedBetween, HasRoomFrom}
+pub use Rattle.sensitive_receiver.specs.Found.{AddsAmong, AddsAt, AddsIn, AreAddedBetween, AreAddedIn, HasRoomFrom}
 pub use Rattle.sensitive_receiver.specs.Hearing.{LanesHear}
 pub use Rattle.sensitive_receiver.specs.HeldDecoder.{HaveTaken, HeldDecoder, StandsFor}
-pub use Rattle.sensitive_receiver.specs.HeldLanes.{HasTaken, HeldLane, IsLastPlace, LaneStandsFor, LanesAreAt}
-pub use Rattle.sensitive_receiver.specs.HeldLanes.{LanesHaveRead}
+pub use Rattle.sensitive_receiver.specs.HeldLanes.{HeldLane, LaneStandsFor}
+pub use Rattle.sensitive_receiver.specs.HeldList.{HasDecided, HasRead, HeldList, IsLastPlace, LanesAreAt, LanesHaveRead}
 unfoldable pub use Rattle.sensitive_receiver.specs.Lanes.{lane_tones, readings_at}
 pub use Rattle.sensitive_receiver.specs.Lanes.{delay_of, is_read_at, is_read_by, lane_bits, list_of, tone_back}
-pub use Rattle.sensitive_receiver.specs.Lanes.{added_places, tone_read, tones}
+pub use Rattle.sensitive_receiver.specs.Lanes.{Readings, added_places, tone_read, tones}
+pub use Rattle.sensitive_receiver.specs.ListLanes.{is_told, lane_of, lanes_in}
 pub use Rattle.sensitive_receiver.specs.MergedItems.{AreMergedBetween, settled}
-pub use Rattle.sensitive_receiver.specs.declared.readings.Readings.{Readings}
+pub use Rattle.sensitive_receiver.specs.declared.decided_place.DecidedPlace.{DecidedPlace}
 pub use Rattle.slicer_bank.proofs.CandidateLemmas.{AllPairs-append, end_within}
 pub use Rattle.slicer_bank.proofs.MergedLemmas.{next_is}
 pub use Rattle.slicer_bank.proofs.OrderingLemmas.{below_more}
@@ -43,7 +44,7 @@ unfoldable pub use Rattle.tone_tracking.specs.Clock.{clock_after}
 pub use Rattle.tone_tracking.specs.Clock.{changes, reads}
 pub use Rattle.tone_tracking.specs.Heard.{heard, places_in}
 pub use Rattle.tone_tracking.specs.HeldLists.{HeldLists}
-pub use Rattle.tone_tracking.specs.HeldTracker.{tone_before}
+pub use Rattle.tone_tracking.specs.HeldTracker.{HeldTracker, tone_before}
 pub use Rattle.tone_tracking.specs.WithoutMean.{without_mean}
 pub use Rattle.tone_tracking.specs.declared.bit_clock.Pull.{Pull}
 pub use Rattle.tone_tracking.specs.declared.bit_clock.Pull.TheVariants.{Fast, Slow}

@@ -3,7 +3,7 @@ use Rattle.sensitive_receiver.proofs.Common.{◌≡◌, ◌≢◌, ℕ, ◌+◌,
 use Rattle.sensitive_receiver.proofs.Common.{ap, sym, subst, ◌∙◌, arith, append_assoc, inl, inr, ◌⊎◌, All, cases_lt}
 use Rattle.sensitive_receiver.proofs.Common.{append-nil, All-nil, All-cons, All-append, Contains-append_left}
 use Rattle.sensitive_receiver.proofs.Common.{Contains-append_right, Candidate, standing, EndsFrame, AllPairs-append}
-use Rattle.sensitive_receiver.proofs.Common.{delay_of, lane_bits, EndsAtPlace, AddsAt, AddsBelow, AddsBetween}
+use Rattle.sensitive_receiver.proofs.Common.{delay_of, lane_bits, EndsAtPlace, AddsAt, AddsIn, Reach, list_of}
 use Rattle.sensitive_receiver.proofs.Common.{HasRoomFrom}
 use Rattle.sensitive_receiver.specs.Found.{AreAddedWhere, AddsWhere}
 
@@ -117,24 +117,19 @@ bounds_more low found after item is can all =
     let P : Candidate → Type 0 = HasRoomFrom low in
     subst (All P) (sym is) (All-append P found (item ∷ []) all (All-cons P item [] can (All-nil P)))
 
--- what the lanes below one find at a place, and what that one finds there
-pub adds_next_lane : (place lane : ℕ) (x : List ℤ) (before found after : List Candidate)
-    → AddsBelow place lane x before found → AddsAt place lane x found after
-    → AddsBelow place (lane + 1) x before after
-adds_next_lane place lane x before found after a b =
-    adds_join (λ p q. (p ≡ place) × (q < lane)) (λ p q. (p ≡ place) × (q ≡ lane))
-    (λ p q. (p ≡ place) × (q < lane + 1)) x before found after a b
-    (λ p q h. (h.0, (let small = h.1 in omega arith))) (λ p q h. (h.0, (let same = h.1 in omega arith)))
-    (λ p q h. elim (cases_lt q lane) [ inl lt ↦ inl (h.0, lt) | inr ge ↦ inr (h.0, (let small = h.1 in omega arith)) ])
-    (λ p q h k. let small = h.1 in let same = k.1 in omega arith)
-
--- what is found at places, and at the places that follow them
-pub adds_next_places : (from middle to : ℕ) (x : List ℤ) (before found after : List Candidate) → from ≤ middle
-    → middle ≤ to
-    → AddsBetween from middle x before found → AddsBetween middle to x found after → AddsBetween from to x before after
-adds_next_places from middle to x before found after le le' a b =
-    adds_join (λ p l. (from ≤ p) × (p < middle)) (λ p l. (middle ≤ p) × (p < to))
-    (λ p l. (from ≤ p) × (p < to)) x before found after a b
-    (λ p l h. (h.0, (let high = h.1 in omega arith))) (λ p l h. ((let low = h.0 in omega arith), h.1))
-    (λ p l h. elim (cases_lt p middle) [ inl lt ↦ inl (h.0, lt) | inr ge ↦ inr (ge, h.1) ])
-    (λ p l h k. let high = h.1 in let low = k.0 in omega arith)
+-- what the lanes of a list find at places, and at the places that follow them
+pub adds_next_places : (reach : Reach) (from middle to : ℕ) (x : List ℤ) (before found after : List Candidate)
+    → from ≤ middle → middle ≤ to
+    → AddsIn reach from middle x before found → AddsIn reach middle to x found after
+    → AddsIn reach from to x before after
+adds_next_places reach from middle to x before found after le le' a b =
+    adds_join (λ p l. ((from ≤ p) × (p < middle)) × (list_of l ≡ reach))
+    (λ p l. ((middle ≤ p) × (p < to)) × (list_of l ≡ reach))
+    (λ p l. ((from ≤ p) × (p < to)) × (list_of l ≡ reach)) x before found after a b
+    (λ p l h. ((h.0.0, (let high = h.0.1 in omega arith)), h.1))
+    (λ p l h. (((let low = h.0.0 in omega arith), h.0.1), h.1))
+    (λ p l h. elim (cases_lt p middle) [
+      | inl lt ↦ inl ((h.0.0, lt), h.1)
+      | inr ge ↦ inr ((ge, h.0.1), h.1)
+    ])
+    (λ p l h k. let high = h.0.1 in let low = k.0.0 in omega arith)

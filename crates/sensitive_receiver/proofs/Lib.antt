@@ -1,8 +1,10 @@
 pub mod Common
 pub mod LaneLemmas
+pub mod ListNumbers
 pub mod FoundLemmas
 pub mod PlaceLanes
 pub mod VisitedLanes
+pub mod ListLemmas
 pub mod BankLemmas
 pub mod PrefixLemmas
 pub mod LevelLemmas

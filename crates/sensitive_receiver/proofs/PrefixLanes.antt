@@ -1,15 +1,16 @@
 -- What the added lanes hear in samples stays as it is when more samples follow.
 use Rattle.sensitive_receiver.proofs.Common.{◌≡◌, ℕ, zero, suc, ◌+◌, ◌<◌, ◌≤◌, Bool, true, false, ℤ, List, [], ◌∷◌}
 use Rattle.sensitive_receiver.proofs.Common.{◌++◌, length, get_or, refl, ap, sym, subst, ◌∙◌, arith, not, ◌&&◌, bits_of}
-use Rattle.sensitive_receiver.proofs.Common.{EndsFrame, Candidate, Slow, Fast, Alone, Near, Far, changes, length-append}
+use Rattle.sensitive_receiver.proofs.Common.{EndsFrame, Candidate, Slow, Fast, Alone, Near, Far, changes}
 use Rattle.sensitive_receiver.proofs.Common.{reads, added_places, delay_of, list_of, is_read_by}
 use Rattle.sensitive_receiver.proofs.Common.{is_read_at, readings_at, tone_back, lane_tones, EndsAtPlace, is_in_time}
-use Rattle.sensitive_receiver.proofs.Common.{LaneStandsFor, HasTaken}
+use Rattle.sensitive_receiver.proofs.Common.{HasRead, HeldList, LaneStandsFor, lane_of, places_in, without_mean}
 use Rattle.std.proofs.Common.{add-one}
-use Rattle.std.proofs.lemmas.List.{take-append-le}
-use Rattle.tone_tracking.specs.HeldMean.{StandsFor as MeanStandsFor}
-use Rattle.sensitive_receiver.proofs.LevelLemmas.{tones_before-append, clock-append, lists-append}
-use Rattle.sensitive_receiver.specs.HeldLanes.{HeldBank}
+use Rattle.tone_tracking.specs.Correlation.{correlations}
+use Rattle.tone_tracking.specs.HeldTracker.{StandsFor as TrackerStandsFor}
+use Rattle.tone_tracking.proofs.MeanLemmas.{length-without_mean, without_mean_begins}
+use Rattle.sensitive_receiver.proofs.PrefixLemmas.{tracker-append}
+use Rattle.sensitive_receiver.proofs.LevelLemmas.{tones_before-append, clock-append}
 use Rattle.sensitive_receiver.proofs.LaneLemmas.{lane_tones-read, lane_tones-not}
 use Rattle.sensitive_receiver.proofs.VisitedLanes.{tones_of_none}
 
@@ -90,19 +91,19 @@ module _ (x y : List ℤ) where
     in_time = in_time-append item.offset place inside ∙ h.in_time;
   }
 
-  -- the bank has taken the first of more samples
-  pub bank_taken-append : (held : HeldBank) → held.position ≤ length x → HasTaken held x → HasTaken held (x ++ y)
-  bank_taken-append held inside h = record {
-    within = (let size = length-append x y in omega arith);
-    remover = subst (MeanStandsFor held.remover) (sym (take-append-le held.position x y inside)) h.remover;
-    lists = lists-append held.lists x y h.lists;
-    count = h.count;
-    clocks = record {
-      slow_near = h.clocks.slow_near ∙ clock-append x y Slow Near (added_places held.position) (omega arith);
-      slow_far = h.clocks.slow_far ∙ clock-append x y Slow Far (added_places held.position) (omega arith);
-      fast_near = h.clocks.fast_near ∙ clock-append x y Fast Near (added_places held.position) (omega arith);
-      slow_alone = h.clocks.slow_alone ∙ clock-append x y Slow Alone (added_places held.position) (omega arith);
-    };
-    lanes = λ k d l. subst (λ tones. LaneStandsFor (get_or held.lanes k d) tones)
-        (lane_tones-append (8 + k) (added_places held.position) (omega arith)) (h.lanes k d l);
-  }
+  -- the lanes of a list have read all places of the first of more samples
+  pub list_read-append : (held : HeldList) → held.tracker.place ≡ added_places (length x) → HasRead held x
+      → HasRead held (x ++ y)
+  list_read-append held all h =
+      let place = held.tracker.place in
+      let begins = without_mean_begins x y in
+      let size = length-without_mean x in
+      let whole : place ≡ places_in (length (without_mean x)) = omega arith in
+      record {
+        decided = subst (λ levels. TrackerStandsFor held.tracker (correlations levels)) (sym begins.1)
+            (tracker-append held.tracker (without_mean x) begins.0 whole h.decided);
+        slow = h.slow ∙ clock-append x y Slow held.tracker.reach place (omega arith);
+        fast = λ near. h.fast near ∙ clock-append x y Fast Near place (omega arith);
+        lanes = λ k d l. subst (λ tones. LaneStandsFor (get_or held.lanes k d) tones)
+            (lane_tones-append (lane_of held.tracker.reach k) place (omega arith)) (h.lanes k d l);
+      }

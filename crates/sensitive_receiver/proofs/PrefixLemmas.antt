@@ -7,7 +7,7 @@ use Rattle.tone_tracking.specs.declared.correlation.Correlations.{Correlations}
 use Rattle.tone_tracking.specs.Clock.{next_clock}
 use Rattle.tone_tracking.specs.Correlation.{correlations}
 use Rattle.tone_tracking.specs.Heard.{decided, open_of, passed, past_of, past_at, tone_at}
-use Rattle.tone_tracking.specs.HeldTracker.{HeldTracker}
+use Rattle.tone_tracking.specs.HeldTracker.{HeldTracker, StandsFor as TrackerStandsFor}
 use Rattle.tone_tracking.specs.HeldLists.{HasDecided, HasTaken}
 use Rattle.tone_tracking.proofs.CorrelationLemmas.{correlations-agree}
 use Rattle.tone_tracking.proofs.TrackerLemmas.{past_at-first, tone_before-within, tone_before-outside}
@@ -107,6 +107,12 @@ decided-append tracker count x y inside h =
             (λ q l. heard-append tracker.reach x y q (omega arith));
       };
     }
+
+-- a tracker that has decided all places of the first of more samples
+pub tracker-append : (tracker : HeldTracker) (x y : List ℤ) → tracker.place ≡ places_in (length x)
+    → TrackerStandsFor tracker (correlations x) → TrackerStandsFor tracker (correlations (x ++ y))
+tracker-append tracker x y all h =
+    (decided-append tracker (length x) x y (omega arith) (record { place = all; stands_for = h })).stands_for
 
 -- the lists have taken the first of more samples
 pub taken-append : (held : HeldLists) (x y : List ℤ) → HasTaken held x → HasTaken held (x ++ y)

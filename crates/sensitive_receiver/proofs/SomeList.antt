@@ -2,12 +2,12 @@
 use Rattle.sensitive_receiver.proofs.Common.{◌≡◌, ℕ, zero, suc, ◌+◌, ◌-◌, ◌<◌, ◌≤◌, Bool, true, false, ℤ, List, [], ◌∷◌}
 use Rattle.sensitive_receiver.proofs.Common.{◌++◌, length, refl, sym, subst, ◌∙◌, arith, inl, inr, true≢false}
 use Rattle.sensitive_receiver.proofs.Common.{EndsFrame, Candidate, added_places, delay_of, is_read_at, lane_bits}
-use Rattle.sensitive_receiver.proofs.Common.{EndsAtPlace, HasPath, is_in_time, AreHeard, AddsAt, AddsBelow, AddsBetween}
+use Rattle.sensitive_receiver.proofs.Common.{EndsAtPlace, HasPath, is_in_time, AreHeard, AddsAt, cases_lt}
 use Rattle.hdlc_framer.proofs.FrameEnds.{one_frame}
 use Rattle.slicer_bank.proofs.FrameDecided.{frame_or_none}
 use Rattle.slicer_bank.proofs.SomeList.{some_list as some_of_eight}
-use Rattle.sensitive_receiver.proofs.FoundLemmas.{adds_none, adds_one, adds_next_lane, adds_next_places}
-use Rattle.sensitive_receiver.proofs.BankLemmas.{adds_place}
+use Rattle.sensitive_receiver.specs.Found.{AddsWhere}
+use Rattle.sensitive_receiver.proofs.FoundLemmas.{adds_join, adds_none, adds_one}
 use Rattle.sensitive_receiver.proofs.HeardLemmas.{all_of, heard_join, none_heard}
 use Rattle.sensitive_receiver.proofs.PathDecided.{path_or_none}
 
@@ -66,6 +66,50 @@ module _ (x : List ℤ) (place lane : ℕ) (least : 8 ≤ lane) (most : lane < 2
   pub add_at : Adds
   add_at = add_read (is_read_at x lane place) refl
 
+-- what is added at one place by the lanes below one
+abbrev AddsBelow : ℕ → ℕ → List ℤ → List Candidate → List Candidate → Type 0
+AddsBelow place lane x before after = AddsWhere (λ p l. (p ≡ place) × (l < lane)) x before after
+
+-- at the places from one to below another
+abbrev AddsBetween : ℕ → ℕ → List ℤ → List Candidate → List Candidate → Type 0
+AddsBetween from to x before after = AddsWhere (λ p l. (from ≤ p) × (p < to)) x before after
+
+adds_next_lane : (place lane : ℕ) (x : List ℤ) (before found after : List Candidate)
+    → AddsBelow place lane x before found → AddsAt place lane x found after
+    → AddsBelow place (lane + 1) x before after
+adds_next_lane place lane x before found after a b =
+    adds_join (λ p q. (p ≡ place) × (q < lane)) (λ p q. (p ≡ place) × (q ≡ lane))
+    (λ p q. (p ≡ place) × (q < lane + 1)) x before found after a b
+    (λ p q h. (h.0, (let small = h.1 in omega arith))) (λ p q h. (h.0, (let same = h.1 in omega arith)))
+    (λ p q h. elim (cases_lt q lane) [ inl lt ↦ inl (h.0, lt) | inr ge ↦ inr (h.0, (let small = h.1 in omega arith)) ])
+    (λ p q h k. let small = h.1 in let same = k.1 in omega arith)
+
+-- what the lanes below lane 26 add at a place is all that is added there
+adds_place : (place : ℕ) (x : List ℤ) (before after : List Candidate)
+    → AddsBelow place 26 x before after → AddsBetween place (suc place) x before after
+adds_place place x before after a = record {
+  heard = a.heard;
+  found = a.found;
+  are = record {
+    each = λ k d l. let e = a.are.each k d l in (e.0, (let p = e.1.0 in (omega arith, omega arith)), e.2);
+    whole = λ item p of ends. let low = of.0 in let high = of.1 in
+        a.are.whole item p ((let e : p ≡ place = omega arith in e), ends.most) ends;
+    apart = a.are.apart;
+  };
+}
+
+-- what is added at the first places, and at the one after them
+adds_next_place : (n : ℕ) (x : List ℤ) (before found after : List Candidate)
+    → AddsBetween 0 n x before found → AddsBetween n (suc n) x found after
+    → AddsBetween 0 (suc n) x before after
+adds_next_place n x before found after a b =
+    adds_join (λ p l. (0 ≤ p) × (p < n)) (λ p l. (n ≤ p) × (p < suc n)) (λ p l. (0 ≤ p) × (p < suc n)) x before found
+    after a b
+    (λ p l h. (h.0, (let high = h.1 in omega arith)))
+    (λ p l h. ((let least : 0 ≤ p = omega arith in least), h.1))
+    (λ p l h. elim (cases_lt p n) [ inl lt ↦ inl (h.0, lt) | inr ge ↦ inr (ge, h.1) ])
+    (λ p l h k. let high = h.1 in let low = k.0 in omega arith)
+
 -- what the first of the added lanes hear at a place
 add_below : (x : List ℤ) (place n : ℕ) → n ≤ 18 → (before : List Candidate) → (after : List Candidate) × AddsBelow place
     (8 + n) x before after
@@ -93,8 +137,7 @@ add_first x zero = (
 add_first x (suc n) =
     let rest = add_first x n in
     let here = add_below x n 18 (omega arith) rest.0 in
-    let at : AddsBetween n (suc n) x rest.0 here.0 = adds_place n n (suc n) x rest.0 here.0 refl (omega arith) here.1 in
-    (here.0, adds_next_places 0 n (suc n) x [] rest.0 here.0 (omega arith) (omega arith) rest.1 at)
+    (here.0, adds_next_place n x [] rest.0 here.0 rest.1 (adds_place n x rest.0 here.0 here.1))
 
 pub some_list : (x : List ℤ) → (items : List Candidate) × AreHeard x items
 some_list x =

@@ -1,7 +1,8 @@
--- The added lanes as they are made, and visited one after another.
+-- The lanes of a list as they are made, and visited one after another.
 use Rattle.sensitive_receiver.proofs.Common.{◌≡◌, ℕ, ◌+◌, ◌<◌, ◌≤◌, ℤ, List, [], length, get_or, set, refl, sym, subst}
-use Rattle.sensitive_receiver.proofs.Common.{◌∙◌, arith, All, Candidate, HeldLists, Readings, AddsAt, HasRoomFrom}
-use Rattle.sensitive_receiver.proofs.Common.{LanesHear, HeldLane, LaneStandsFor, LanesHaveRead, IsLastPlace, lane_tones}
+use Rattle.sensitive_receiver.proofs.Common.{◌∙◌, arith, All, Candidate, DecidedPlace, AddsAt, HasRoomFrom, HeldTracker}
+use Rattle.sensitive_receiver.proofs.Common.{IsLastPlace, LanesHear, HeldLane, LaneStandsFor, LanesHaveRead, Reach}
+use Rattle.sensitive_receiver.proofs.Common.{lane_of, lane_tones, lanes_in}
 use Rattle.std.proofs.lemmas.List.{length-set}
 use Rattle.sensitive_receiver.proofs.PlaceLanes.{adds_next_among, adds_nobody, lane_before, lane_read}
 
@@ -15,56 +16,70 @@ pub tones_of_none : (x : List ℤ) (lane : ℕ) → lane_tones x lane 0 ≡ []
 unfolding lane_tones
 tones_of_none x lane = refl
 
-pub read_none : (n : ℕ) (lanes : List HeldLane) (x : List ℤ) → n ≡ 18 → AreFresh n lanes → LanesHaveRead lanes 0 x
-read_none n lanes x all h k d l = subst (LaneStandsFor (get_or lanes k d)) (sym (tones_of_none x (8 + k)))
+pub read_none : (reach : Reach) (n : ℕ) (lanes : List HeldLane) (x : List ℤ) → n ≡ lanes_in reach → AreFresh n lanes
+    → LanesHaveRead reach lanes 0 x
+read_none reach n lanes x all h k d l = subst (LaneStandsFor (get_or lanes k d)) (sym (tones_of_none x (lane_of reach k)))
     (h.each k d (omega arith))
 
 -- ---- one lane after another
 
 -- the lanes from one on to below another were visited at the last place
-pub record Visited (lists : HeldLists) (readings : Readings) (old now : List HeldLane) (before after : List Candidate)
+pub record Visited (tracker : HeldTracker) (at : DecidedPlace) (old now : List HeldLane) (before after : List Candidate)
     (first n : ℕ) : Type 0 where
   pub least : first ≤ n
-  pub size : length now ≡ 18
-  pub hear : LanesHear first n lists readings old now before after
-  pub bounds : (low : ℕ) → low ≤ readings.place + 6 → All (HasRoomFrom low) before → All (HasRoomFrom low) after
+  pub size : length now ≡ lanes_in tracker.reach
+  pub hear : LanesHear first n tracker at old now before after
+  pub bounds : (low : ℕ) → low ≤ at.place + 6 → All (HasRoomFrom low) before → All (HasRoomFrom low) after
 
-pub visited_none : (lists : HeldLists) (readings : Readings) (lanes : List HeldLane) (found : List Candidate)
+pub visited_none : (tracker : HeldTracker) (at : DecidedPlace) (lanes : List HeldLane) (found : List Candidate)
     (first : ℕ)
-    → length lanes ≡ 18
-    → Visited lists readings lanes lanes found found first first
-visited_none lists readings lanes found first size = record {
+    → length lanes ≡ lanes_in tracker.reach
+    → Visited tracker at lanes lanes found found first first
+visited_none tracker at lanes found first size = record {
   least = omega arith;
   size = size;
   hear = record {
     read = λ x last h. h;
-    found = λ x last h. adds_nobody readings.place first x found;
+    found = λ x last h. adds_nobody tracker.reach at.place x first found;
   };
   bounds = λ low under h. h;
 }
 
-module _ (lists : HeldLists) (readings : Readings) (old now : List HeldLane) (before found after : List Candidate)
-    (first n : ℕ) (was lane : HeldLane)
-    (h : Visited lists readings old now before found first n) (l : n < 18)
-    (reads : (x : List ℤ) → IsLastPlace lists readings x
-    → LaneStandsFor (get_or now n was) (lane_tones x (8 + n) readings.place)
-    → LaneStandsFor lane (lane_tones x (8 + n) (readings.place + 1)))
-    (adds : (x : List ℤ) → IsLastPlace lists readings x
-    → LaneStandsFor (get_or now n was) (lane_tones x (8 + n) readings.place)
-    → AddsAt readings.place (8 + n) x found after)
-    (bound : (low : ℕ) → low ≤ readings.place + 6 → All (HasRoomFrom low) found → All (HasRoomFrom low) after) where
-  pub visited_more : Visited lists readings old (set now n lane) before after first (n + 1)
+module _ (tracker : HeldTracker) (at : DecidedPlace) (old now : List HeldLane) (before found after : List Candidate)
+    (first n number : ℕ) (was lane : HeldLane)
+    (h : Visited tracker at old now before found first n) (l : n < lanes_in tracker.reach)
+    (number_is : lane_of tracker.reach n ≡ number)
+    (reads : (x : List ℤ) → IsLastPlace tracker at x
+    → LaneStandsFor (get_or now n was) (lane_tones x number at.place)
+    → LaneStandsFor lane (lane_tones x number (at.place + 1)))
+    (adds : (x : List ℤ) → IsLastPlace tracker at x
+    → LaneStandsFor (get_or now n was) (lane_tones x number at.place)
+    → AddsAt at.place number x found after)
+    (bound : (low : ℕ) → low ≤ at.place + 6 → All (HasRoomFrom low) found → All (HasRoomFrom low) after) where
+  reads_here : (x : List ℤ) → IsLastPlace tracker at x
+      → LaneStandsFor (get_or now n was) (lane_tones x (lane_of tracker.reach n) at.place)
+      → LaneStandsFor lane (lane_tones x (lane_of tracker.reach n) (at.place + 1))
+  reads_here x last = subst (λ m. LaneStandsFor (get_or now n was) (lane_tones x m at.place)
+      → LaneStandsFor lane (lane_tones x m (at.place + 1))) (sym number_is) (reads x last)
+
+  adds_here : (x : List ℤ) → IsLastPlace tracker at x
+      → LaneStandsFor (get_or now n was) (lane_tones x (lane_of tracker.reach n) at.place)
+      → AddsAt at.place (lane_of tracker.reach n) x found after
+  adds_here x last = subst (λ m. LaneStandsFor (get_or now n was) (lane_tones x m at.place)
+      → AddsAt at.place m x found after) (sym number_is) (adds x last)
+
+  pub visited_more : Visited tracker at old (set now n lane) before after first (n + 1)
   visited_more =
       let least = h.least in
       record {
         least = omega arith;
         size = length-set now n lane ∙ h.size;
         hear = record {
-          read = λ x last start. lane_read readings.place n now was lane x h.size l (reads x last)
+          read = λ x last start. lane_read tracker.reach x at.place n now was lane h.size l (reads_here x last)
               (h.hear.read x last start);
-          found = λ x last start. adds_next_among readings.place first n x before found after h.least
+          found = λ x last start. adds_next_among tracker.reach at.place x first n before found after h.least l
               (h.hear.found x last start)
-              (adds x last (lane_before readings.place n now was x l (h.hear.read x last start)));
+              (adds_here x last (lane_before tracker.reach x at.place n now was l (h.hear.read x last start)));
         };
         bounds = λ low under all. bound low under (h.bounds low under all);
       }

@@ -15,7 +15,6 @@ use Rattle.tone_tracking.specs.Clock.{is_reading}
 use Rattle.tone_tracking.specs.Heard.{heard, places_in}
 use Rattle.tone_tracking.specs.HeldTracker.{tone_before}
 use Rattle.tone_tracking.specs.WithoutMean.{without_mean}
-use Rattle.sensitive_receiver.specs.declared.readings.Readings.{Readings}
 
 -- the tone at a place of samples, which is decided without their mean
 abbrev pub tones : Reach → List ℤ → ℕ → Tone
@@ -42,6 +41,14 @@ delay_of lane =
     else if nat_lt lane 22 then lane - 19
     else if nat_lt lane 23 then 1
     else lane - 23
+
+-- a place, and at which clocks a bit is read there
+pub record Readings : Type 0 where
+  pub place : ℕ
+  pub slow_near : Bool
+  pub slow_far : Bool
+  pub fast_near : Bool
+  pub slow_alone : Bool
 
 -- a lane reads a bit when a place is decided
 abbrev pub is_read_by : ℕ → Readings → Bool

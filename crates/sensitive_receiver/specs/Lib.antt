@@ -1,8 +1,10 @@
 pub mod Lanes
+pub mod ListLanes
 pub mod AddedCandidates
 pub mod Candidates
 pub mod MergedItems
 pub mod HeldLanes
+pub mod HeldList
 pub mod Found
 pub mod Hearing
 pub mod HeldDecoder

@@ -15,8 +15,8 @@ ghost use Rattle.sensitive_receiver.specs.Lanes.{added_places};
 ghost use Rattle.sensitive_receiver.specs.MergedItems.{AreMergedBetween, settled};
 
 use crate::added_bank::AddedBank;
+use crate::lanes::LANES;
 use crate::merging::merge_block;
-use crate::readings::LANES;
 use frame_merge::{Candidate, Merger};
 use slicer_bank::{Bank, Gate, Progress};
 use std::alloc::Global;

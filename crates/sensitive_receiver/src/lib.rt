@@ -15,18 +15,22 @@
 
 mod added_bank;
 mod added_lane;
+mod all_lists;
+mod decided_place;
 mod decoder;
 mod hearing;
+mod lanes;
 mod late_lane;
 mod laws;
+mod list_bank;
 mod merging;
-mod readings;
+mod pieces;
 
 pub use added_bank::AddedBank;
 pub use decoder::SensitiveDecoder;
+pub use lanes::LANES;
 pub use laws::{
     one_list_of_all_lanes, sensitive_carried_frames, sensitive_items_are_all, sensitive_items_join,
     sensitive_level_frames, sensitive_near_frames, sensitive_none_stray, some_list_of_all_lanes,
 };
 pub use merging::put_all;
-pub use readings::LANES;

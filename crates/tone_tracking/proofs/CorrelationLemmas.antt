@@ -1,6 +1,6 @@
 -- Correlations by the samples of their windows.
 use Rattle.tone_tracking.proofs.Common.{◌≡◌, ℕ, ◌+◌, ◌*◌, ◌<◌, ℤ, pos, ◌*ℤ◌, neg_ℤ, List, map, get_or, ap, ◌∙◌, arith}
-use Rattle.tone_tracking.proofs.Common.{◌≤◌, unsigned_abs}
+use Rattle.tone_tracking.proofs.Common.{◌≤◌, ◌∷◌, [], zero, suc, unsigned_abs}
 use Rattle.tone_tracking.proofs.Common.{Tone, Mark, Space, sum_below, product_of, weight, correlation, correlations}
 use Rattle.std.proofs.Math.Nat.{mul-le-mul_right}
 use Rattle.std.proofs.lemmas.Int.{unsigned_abs-mul}
@@ -43,6 +43,30 @@ correlations-agree x y p q same =
     let mark = correlation-agree Mark x y p q same in
     let space = correlation-agree Space x y p q same in
     λ i. record { mark = mark i; space = space i }
+
+-- what holds of each of the first eight numbers
+each_of_eight : (P : ℕ → Type 0) → P 0 → P 1 → P 2 → P 3 → P 4 → P 5 → P 6 → P 7 → (i : ℕ) → i < 8 → P i
+each_of_eight P a b c d e f g h zero small = a
+each_of_eight P a b c d e f g h (suc zero) small = b
+each_of_eight P a b c d e f g h (suc (suc zero)) small = c
+each_of_eight P a b c d e f g h (suc (suc (suc zero))) small = d
+each_of_eight P a b c d e f g h (suc (suc (suc (suc zero)))) small = e
+each_of_eight P a b c d e f g h (suc (suc (suc (suc (suc zero))))) small = f
+each_of_eight P a b c d e f g h (suc (suc (suc (suc (suc (suc zero)))))) small = g
+each_of_eight P a b c d e f g h (suc (suc (suc (suc (suc (suc (suc zero))))))) small = h
+each_of_eight P a b c d e f g h (suc (suc (suc (suc (suc (suc (suc (suc i)))))))) small = absurd (omega arith)
+
+-- a window of eight samples that begin at a place of others
+pub correlations-eight : (x : List ℤ) (place : ℕ) (a b c d e f g h : ℤ) → a ≡ get_or x place (pos 0)
+    → b ≡ get_or x (place + 1) (pos 0) → c ≡ get_or x (place + 2) (pos 0) → d ≡ get_or x (place + 3) (pos 0)
+    → e ≡ get_or x (place + 4) (pos 0) → f ≡ get_or x (place + 5) (pos 0) → g ≡ get_or x (place + 6) (pos 0)
+    → h ≡ get_or x (place + 7) (pos 0)
+    → correlations (a ∷ b ∷ c ∷ d ∷ e ∷ f ∷ g ∷ h ∷ []) 0 ≡ correlations x place
+correlations-eight x place a b c d e f g h a_is b_is c_is d_is e_is f_is g_is h_is =
+    let first : place ≡ place + 0 = omega arith in
+    correlations-agree (a ∷ b ∷ c ∷ d ∷ e ∷ f ∷ g ∷ h ∷ []) x 0 place
+    (each_of_eight (λ i. get_or (a ∷ b ∷ c ∷ d ∷ e ∷ f ∷ g ∷ h ∷ []) (0 + i) (pos 0) ≡ get_or x (place + i) (pos 0))
+    (a_is ∙ ap (λ k. get_or x k (pos 0)) first) b_is c_is d_is e_is f_is g_is h_is)
 
 -- a product of a number of at most a size
 pub product_size : (most : ℕ) (x w : ℤ) → unsigned_abs x ≤ most → unsigned_abs (x *ℤ w) ≤ most * unsigned_abs w

@@ -6,3 +6,5 @@ pub mod CorrelationLemmas
 pub mod DecisionLemmas
 pub mod TrackerLemmas
 pub mod ListsLemmas
+pub mod LineLemmas
+pub mod LevelLemmas

@@ -113,7 +113,7 @@ ring_next ring oldest sample whole inside =
 -- ---- their sum
 
 -- a sum with its first number apart
-sum_first : (f : ℕ → ℤ) (n : ℕ) → sum_below f (suc n) ≡ f 0 +ℤ sum_below (λ j. f (suc j)) n
+pub sum_first : (f : ℕ → ℤ) (n : ℕ) → sum_below f (suc n) ≡ f 0 +ℤ sum_below (λ j. f (suc j)) n
 unfolding sum_below
 sum_first f zero = omega (arith, ints)
 sum_first f (suc n) = omega (arith, ints, sum_first f n)

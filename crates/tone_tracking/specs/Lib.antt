@@ -6,3 +6,5 @@ pub mod HeldTracker
 pub mod HeldLists
 pub mod WithoutMean
 pub mod HeldMean
+pub mod HeldLine
+pub mod BlockLevels

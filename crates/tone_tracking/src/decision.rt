@@ -16,6 +16,7 @@ use crate::reach::Reach;
 use tone_table::Tone;
 
 /// The tone of a window, by the past there, its correlations, and those of the next two windows.
+#[inline(always)]
 pub(crate) fn decide(
     reach: Reach,
     past: Phasor,
@@ -37,6 +38,7 @@ pub(crate) fn decide(
 }
 
 /// With no window open.
+#[inline(always)]
 fn decide_alone(past: Phasor, now: &Correlations) -> Tone
     requires past { IsWithin 1190000000 past }
     requires now { AreWithin now.now }
@@ -48,6 +50,7 @@ fn decide_alone(past: Phasor, now: &Correlations) -> Tone
 }
 
 /// With one window open.
+#[inline(always)]
 fn decide_near(past: Phasor, now: &Correlations, next: &Correlations) -> Tone
     requires past { IsWithin 1190000000 past }
     requires now { AreWithin now.now }
@@ -60,6 +63,7 @@ fn decide_near(past: Phasor, now: &Correlations, next: &Correlations) -> Tone
 }
 
 /// With two windows open.
+#[inline(always)]
 fn decide_far(past: Phasor, now: &Correlations, next: &Correlations, later: &Correlations) -> Tone
     requires past { IsWithin 1190000000 past }
     requires now { AreWithin now.now }
@@ -73,6 +77,7 @@ fn decide_far(past: Phasor, now: &Correlations, next: &Correlations, later: &Cor
 }
 
 /// The largest size of a phasor, as it stands in phase at the next window, with that window as either tone.
+#[inline(always)]
 fn loudest_near(from: Phasor, next: &Correlations) -> i64
     requires from { IsWithin 1790000000 from }
     requires next { AreWithin next.now }
@@ -84,6 +89,7 @@ fn loudest_near(from: Phasor, next: &Correlations) -> i64
 }
 
 /// The same with the next two windows. A turn changes no size, so what was summed is turned, and not what is added.
+#[inline(always)]
 fn loudest_far(from: Phasor, next: &Correlations, later: &Correlations) -> i64
     requires from { IsWithin 1490000000 from }
     requires next { AreWithin next.now }
@@ -108,6 +114,7 @@ fn louder(mark: i64, space: i64) -> Tone
 
 /// The past one window on: what was decided at a window, and what is kept of the past there, as they stand in phase at
 /// the next one.
+#[inline(always)]
 pub(crate) fn pass(reach: Reach, tone: Tone, now: &Correlations, past: Phasor) -> Phasor
     requires past { IsWithin 1190000000 past }
     requires now { AreWithin now.now }

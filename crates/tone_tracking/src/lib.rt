@@ -11,7 +11,9 @@
 #![tactic(auto)]
 
 mod bit_clock;
+mod block_mean;
 mod correlation;
+mod correlation_line;
 mod decision;
 mod mean_remover;
 mod phasor;
@@ -21,6 +23,7 @@ mod tone_tracker;
 
 pub use bit_clock::{BitClock, Pull};
 pub use correlation::{Correlations, correlate};
+pub use correlation_line::CorrelationLine;
 pub use mean_remover::MeanRemover;
 pub use phasor::Phasor;
 pub use reach::Reach;

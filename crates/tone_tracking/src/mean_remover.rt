@@ -14,7 +14,7 @@ ghost use Rattle.tone_tracking.specs.HeldMean.{StandsFor};
 use std::marker::Model;
 
 /// How many samples past its own place the mean of a sample asks for.
-const AHEAD: u8 = 15;
+pub(crate) const AHEAD: u8 = 15;
 
 /// Takes samples one by one, and gives each without its mean, in quarters, as soon as fifteen more have come. It keeps
 /// the last 32 in a ring, where the oldest of them stands, and their sum.
@@ -82,18 +82,18 @@ impl MeanRemover {
 }
 
 /// A sum with a sample more and the first one less.
-fn slid_sum(sum: i32, first: i16, more: i16) -> i32
+pub(crate) fn slid_sum(sum: i32, first: i16, more: i16) -> i32
     requires { unsigned_abs sum ≤ 1048576 }
     ensures { result ≡ (sum -ℤ first) +ℤ more }
 {
     sum - i32::from(first) + i32::from(more)
 }
 
-/// Four times a sample, less four times the mean of 32 that have a sum.
-fn less_mean(sample: i16, sum: i32) -> i32
+/// Four times a sample, less four times the mean of 32 that have a sum, rounded down as a shift does.
+pub(crate) fn less_mean(sample: i16, sum: i32) -> i32
     requires { unsigned_abs sum ≤ 1048576 }
     ensures value { result ≡ pos 4 *ℤ sample -ℤ int_div_euclid sum (pos 8) }
     ensures bound { unsigned_abs result ≤ 262144 }
 {
-    4 * i32::from(sample) - sum.div_euclid(8)
+    4 * i32::from(sample) - (sum >> 3)
 }

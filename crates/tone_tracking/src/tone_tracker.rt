@@ -53,6 +53,7 @@ impl ToneTracker {
     /// Decides the window at the next place, by its correlations and those of the windows eight and sixteen samples
     /// later. The reach is the tracker's own: one that is known when the program is built makes the decision about a
     /// quarter faster.
+    #[inline(always)]
     pub fn decide(
         &mut self,
         reach: Reach,

@@ -1,4 +1,5 @@
-use Rattle.sensitive_receiver.proofs.Common.{◌≡◌, ◌∙◌, sym, true, false, not, ◌&&◌, changes, places_in, without_mean}
+use Rattle.sensitive_receiver.proofs.Common.{◌≡◌, ◌∙◌, sym, true, false, not, ◌&&◌, changes, without_mean}
+use Rattle.tone_tracking.specs.Correlation.{correlations}
 use Rattle.sensitive_receiver.proofs.LaneLemmas.{in_time_told}
 use Rattle.sensitive_receiver.proofs.hearing.ends_in_time.Goals as goal
 
@@ -8,11 +9,12 @@ returns-then-has_changed c = λ x place taken last.
     ∙ c.has_changed.ensures in
     (λ i. changed i && not (c.has_changed-then-has_changed.ensures i))
     ∙ in_time_told x c.args.number place
-    (places_in c.args.lists.now.count) c.delay_of-delay.result c.list_of-list.result
+    c.args.tracker.now.place c.delay_of-delay.result c.args.tracker.now.reach
     c.tone_before-tone.result c.tone_before-one_before.result c.tone_before-two_before.result
-    (c.tone_before-tone.ensures (without_mean x) taken) (c.tone_before-one_before.ensures (without_mean x) taken)
-    (c.tone_before-two_before.ensures (without_mean x) taken)
-    c.list_of-list.ensures last c.delay_of-delay.ensures.delay
+    (c.tone_before-tone.ensures (correlations (without_mean x)) taken)
+    (c.tone_before-one_before.ensures (correlations (without_mean x)) taken)
+    (c.tone_before-two_before.ensures (correlations (without_mean x)) taken)
+    (sym c.requires.list) last c.delay_of-delay.ensures.delay
 
 pub returns-else-has_changed : goal.returns-else-has_changed
 returns-else-has_changed c = λ x place taken last.
@@ -21,8 +23,9 @@ returns-else-has_changed c = λ x place taken last.
     c.if-has_changed.false
     ∙ (λ i. stays i && not (changes c.tone_before-two_before.result c.tone_before-one_before.result))
     ∙ in_time_told x c.args.number place
-    (places_in c.args.lists.now.count) c.delay_of-delay.result c.list_of-list.result
+    c.args.tracker.now.place c.delay_of-delay.result c.args.tracker.now.reach
     c.tone_before-tone.result c.tone_before-one_before.result c.tone_before-two_before.result
-    (c.tone_before-tone.ensures (without_mean x) taken) (c.tone_before-one_before.ensures (without_mean x) taken)
-    (c.tone_before-two_before.ensures (without_mean x) taken)
-    c.list_of-list.ensures last c.delay_of-delay.ensures.delay
+    (c.tone_before-tone.ensures (correlations (without_mean x)) taken)
+    (c.tone_before-one_before.ensures (correlations (without_mean x)) taken)
+    (c.tone_before-two_before.ensures (correlations (without_mean x)) taken)
+    (sym c.requires.list) last c.delay_of-delay.ensures.delay

@@ -4,10 +4,9 @@ use Rattle.std.proofs.Common.{FitsSigned, rules, to_z, of_z, w32}
 use Rattle.std.proofs.lemmas.Int.{to_z-of_z}
 use mir.Syntax.{w16}
 use Rattle.tone_tracking.specs.WithoutMean.{without_mean}
-use Rattle.sensitive_receiver.proofs.BankLemmas.{already, not_yet}
 use Rattle.sensitive_blocks.specs.declared.readings.Readings.{Readings}
 use Rattle.sensitive_blocks.specs.Held.{FollowerHasTaken, HeldFollower, known_at, none_known}
-use Rattle.sensitive_blocks.proofs.FollowerLemmas.{follower_of, given_level, known_early, known_place, taken_few, taken_place}
+use Rattle.sensitive_blocks.proofs.FollowerLemmas.{already, not_yet, follower_of, given_level, known_early, known_place, taken_few, taken_place}
 use Rattle.sensitive_blocks.proofs.follower.Follower.push.Goals as goal
 
 -- no sample is settled by the sample

@@ -1,0 +1,43 @@
+//! The numbers of the lanes, and what each reads.
+
+ghost use Rattle.std.specs.Prelude.{◌≡◌, ◌<◌, ◌≤◌};
+ghost use Rattle.sensitive_receiver.specs.Lanes.{delay_of};
+ghost use Rattle.sensitive_receiver.specs.ListLanes.{lanes_in};
+
+use tone_tracking::Reach;
+
+/// The first of the lanes that are added to one for each offset of a bit.
+pub(crate) const FIRST: u8 = 8;
+
+/// One past the last lane.
+pub const LANES: u8 = 26;
+
+/// How many places before the last one a lane reads.
+pub(crate) fn delay_of(lane: u8) -> u8
+    requires { lane < 26 }
+    ensures delay { result ≡ delay_of lane }
+    ensures bound { result ≤ 2 }
+{
+    if lane < 16 {
+        0
+    } else if lane < 19 {
+        lane - 16
+    } else if lane < 22 {
+        lane - 19
+    } else if lane < 23 {
+        1
+    } else {
+        lane - 23
+    }
+}
+
+/// How many lanes read a list.
+pub(crate) fn lanes_in(reach: Reach) -> u64
+    ensures { result ≡ lanes_in reach }
+{
+    match reach {
+        Reach::Alone => 3,
+        Reach::Near => 4,
+        Reach::Far => 11,
+    }
+}

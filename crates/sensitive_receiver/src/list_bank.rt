@@ -1,0 +1,174 @@
+//! The added lanes that read one list of tones.
+
+ghost use Rattle.std.specs.Prelude.{◌≡◌, ◌+◌, ◌-◌, ◌<◌, ◌≤◌, ◌^◌, ℕ, ℤ, List, [], length, IfOk, OnOk};
+ghost use Rattle.std.specs.List.{All};
+ghost use Rattle.tone_table.specs.declared.tone.Tone.{Tone};
+ghost use Rattle.tone_tracking.specs.declared.reach.Reach.TheVariants.{Near};
+ghost use Rattle.tone_tracking.specs.Clock.{next_clock, reads};
+ghost use Rattle.tone_tracking.specs.Correlation.{AreWithin, correlations};
+ghost use Rattle.tone_tracking.specs.WithoutMean.{without_mean};
+ghost use Rattle.sensitive_receiver.specs.Found.{AddsIn, HasRoomFrom};
+ghost use Rattle.sensitive_receiver.specs.Hearing.{ReadsLine};
+ghost use Rattle.sensitive_receiver.specs.HeldList.{HasRead};
+
+use crate::decided_place::DecidedPlace;
+use crate::hearing::hear_place;
+use crate::lanes::lanes_in;
+use crate::late_lane::{LateLane, new_lanes};
+use frame_merge::Candidate;
+use std::alloc::Global;
+use std::marker::Model;
+use tnc_base::OutOfMemory;
+use tone_table::Tone;
+use tone_tracking::{BitClock, Correlations, Pull, Reach, ToneTracker};
+
+/// A tracker that decides a list of tones by the correlations of windows, the clocks that follow these, and the lanes that
+/// read them: `new`, then `feed` for each line of correlations. Only the near list has a lane on the fast clock. After
+/// want of memory no clause says what it gives.
+#[derive(Drop)]
+pub struct ListBank {
+    alloc: Global,
+    reach: Reach,
+    place: u64,
+    tracker: ToneTracker,
+    slow: BitClock,
+    fast: BitClock,
+    lanes: Vec<LateLane>,
+}
+
+impl Model for ListBank {
+    ghost use Rattle.std.specs.Prelude.{◌≡◌, length};
+    ghost use Rattle.tone_tracking.specs.declared.bit_clock.Pull.TheVariants.{Slow, Fast};
+    ghost use Rattle.sensitive_receiver.specs.HeldList.{HeldList};
+    ghost use Rattle.sensitive_receiver.specs.ListLanes.{lanes_in};
+
+    ghost Value = { HeldList };
+
+    ghost view = { λ s. record {
+      tracker = s.tracker;
+      slow = s.slow;
+      fast = s.fast;
+      lanes = s.lanes.items;
+    } };
+
+    ghost invariant = { λ s. (s.tracker.reach ≡ s.reach) × (s.tracker.place ≡ s.place)
+        × (length s.lanes.items ≡ lanes_in s.reach) × (s.slow.0 ≡ Slow) × (s.fast.0 ≡ Fast) };
+}
+
+impl ListBank {
+    /// The lanes of a list, which have read nothing.
+    pub(crate) fn new(alloc: Global, reach: Reach) -> Result<ListBank, OutOfMemory>
+        ensures read { IfOk result (λ bank. (x : List ℤ) → HasRead bank x) }
+        ensures reach { IfOk result (λ bank. bank.tracker.reach ≡ reach) }
+        ensures place { IfOk result (λ bank. bank.tracker.place ≡ 0) }
+    {
+        Ok(ListBank {
+            alloc,
+            reach,
+            place: 0,
+            tracker: ToneTracker::new(reach),
+            slow: BitClock::new(Pull::Slow),
+            fast: BitClock::new(Pull::Fast),
+            lanes: new_lanes(alloc, lanes_in(reach))?,
+        })
+    }
+
+    /// Decides the places of a line of correlations, which begins at the next place: all but the last sixteen, since a
+    /// place asks for the windows eight and sixteen places on. Gives what the lanes hear there, place by place.
+    pub(crate) fn feed(&mut self, line: &[Correlations]) -> Result<Vec<Candidate>, OutOfMemory>
+        requires line { All AreWithin line.now }
+        requires room { self.old.tracker.place + length line.now < 2 ^ 48 }
+        ensures reads { IfOk result (λ found. ReadsLine self.old self.new line.now found.items) }
+    {
+        // Each list has a loop of its own, since a reach that is known when the program is built makes its loop faster.
+        match self.reach {
+            Reach::Alone => self.feed_reach(Reach::Alone, line),
+            Reach::Near => self.feed_reach(Reach::Near, line),
+            Reach::Far => self.feed_reach(Reach::Far, line),
+        }
+    }
+
+    /// Does what [`ListBank::feed`] does, with the reach handed in.
+    #[inline(always)]
+    fn feed_reach(
+        &mut self,
+        reach: Reach,
+        line: &[Correlations],
+    ) -> Result<Vec<Candidate>, OutOfMemory>
+        requires reach { reach ≡ self.old.tracker.reach }
+        requires line { All AreWithin line.now }
+        requires room { self.old.tracker.place + length line.now < 2 ^ 48 }
+        ensures reads { IfOk result (λ found. ReadsLine self.old self.new line.now found.items) }
+    {
+        let mut found = Vec::new(self.alloc);
+        for index in 0..line.len().saturating_sub(16) {
+            self.take(
+                reach,
+                &line[index],
+                &line[index + 8],
+                &line[index + 16],
+                &mut found,
+            )?;
+        }
+        Ok(found)
+    }
+
+    /// Decides the next place, by its correlations and those eight and sixteen places on, and has the lanes read it.
+    #[inline(always)]
+    fn take(
+        &mut self,
+        reach: Reach,
+        now: &Correlations,
+        next: &Correlations,
+        later: &Correlations,
+        found: &mut Vec<Candidate>,
+    ) -> Result<(), OutOfMemory>
+        requires reach { reach ≡ self.old.tracker.reach }
+        requires now { AreWithin now.now }
+        requires next { AreWithin next.now }
+        requires later { AreWithin later.now }
+        requires room { self.old.tracker.place < 2 ^ 48 - 16 }
+        ensures read { OnOk result ((x : List ℤ) → now.now ≡ correlations (without_mean x) self.old.tracker.place
+            → next.now ≡ correlations (without_mean x) (self.old.tracker.place + 8)
+            → later.now ≡ correlations (without_mean x) (self.old.tracker.place + 16)
+            → HasRead self.old x → HasRead self.new x) }
+        ensures found { OnOk result ((x : List ℤ) → now.now ≡ correlations (without_mean x) self.old.tracker.place
+            → next.now ≡ correlations (without_mean x) (self.old.tracker.place + 8)
+            → later.now ≡ correlations (without_mean x) (self.old.tracker.place + 16)
+            → HasRead self.old x
+            → AddsIn self.old.tracker.reach self.old.tracker.place (self.old.tracker.place + 1) x
+            found.old.items found.new.items) }
+        ensures bounds { (low : ℕ) → low ≤ self.old.tracker.place + 6
+            → OnOk result (All (HasRoomFrom low) found.old.items → All (HasRoomFrom low) found.new.items) }
+        ensures place { self.new.tracker.place ≡ self.old.tracker.place + 1 }
+        ensures reach { self.new.tracker.reach ≡ self.old.tracker.reach }
+    {
+        let tone = self.tracker.decide(reach, now, next, later);
+        let at = DecidedPlace {
+            place: self.place,
+            slow: self.slow.step(tone),
+            fast: step_fast(reach, &mut self.fast, tone),
+        };
+        self.place += 1;
+        hear_place(
+            self.alloc,
+            reach,
+            &self.tracker,
+            &mut self.lanes,
+            &at,
+            found,
+        )
+    }
+}
+
+/// Has the fast clock take a tone of the near list, and says whether a bit is read. No lane of the other lists follows it.
+#[inline(always)]
+fn step_fast(reach: Reach, clock: &mut BitClock, tone: Tone) -> bool
+    ensures near { reach ≡ Near → (clock.new.1 ≡ next_clock clock.old.0 clock.old.1 tone) × (result ≡ reads clock.old.1) }
+    ensures pull { clock.new.0 ≡ clock.old.0 }
+{
+    if reach == Reach::Near {
+        return clock.step(tone);
+    }
+    false
+}
