@@ -19,7 +19,7 @@ pub use Rattle.slicer_bank.proofs.StretchLemmas.{leads_join, leads_position, lea
 pub use Rattle.slicer_bank.specs.HeardOnRing.{lane_of, least_position}
 pub use Rattle.slicer_bank.specs.RingLanes.{answers_of}
 pub use Rattle.slicer_bank.specs.RingTurns.{IsReading, Leads, MeetsEnd}
-pub use Rattle.slicer_bank.specs.Stretches.{Stretch, last_stretch, position_after, stretch_at, stretches, with_sample}
+pub use Rattle.slicer_bank.specs.Stretches.{Stretch, last_stretch, position_after, stretch_at, stretches}
 pub use Rattle.slicer_bank.specs.declared.advance.LaneGap.{LaneGap}
 pub use Rattle.std.proofs.Common.{Bool, List, [], ap, append_assoc, arith, false, get_or, inl, inr, length, map, refl}
 pub use Rattle.std.proofs.Common.{subst, suc, sym, true, zero, ℕ, ℤ, ⊎_elim, ◌++◌, ◌+◌, ◌-◌, ◌<◌, ◌^◌, ◌↔◌, ◌∙◌}
@@ -30,5 +30,5 @@ pub use Rattle.std.proofs.lemmas.List.Elements.{All-append, All-head, All-map, A
 pub use Rattle.std.specs.List.{All}
 pub use Rattle.std.specs.Prelude.{Option, None, Some, is_some}
 pub use Rattle.stretch_reader.specs.HeardInStretches.{AreDue, AreDueBy, AreSettledIn, ended_stretches}
-pub use Rattle.stretch_reader.specs.Turns.{Brings, Finishes, HaveGiven, HaveHeard, MadeTurn}
+pub use Rattle.stretch_reader.specs.Turns.{Brings, Finishes, HaveHeard, MadeTurn, with_samples}
 pub use Rattle.stretch_reader.specs.declared.turn.Turn.{Turn}

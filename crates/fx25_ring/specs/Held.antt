@@ -13,7 +13,7 @@ use Rattle.fx25_receiver.specs.declared.heard.Heard.{Heard}
 use Rattle.sensitive_blocks.specs.Held.{HeldReceiver as HeldAll, StandsFor as AllStandFor}
 use Rattle.stretch_reader.specs.Turns.{HaveHeard}
 use Rattle.fx25_ring.specs.declared.lanes.Lanes.{Lanes}
-use Rattle.fx25_ring.specs.HeardInBlocks.{placed, AreHeardInOne, AreSettledInOne}
+use Rattle.fx25_ring.specs.HeardInBlocks.{placed, AreHeardInOne}
 
 -- the lanes and their reader, and whether memory was wanted or the ring has ended
 pub record HeldReceiver : Type 0 where
@@ -85,8 +85,8 @@ BlockLanesListen len receiver = ListenToReader len receiver.reader receiver.lane
 -- the lanes have heard all that their reader was answered, and gave these items of it
 abbrev pub HaveHeardAll : ℕ → HeldReceiver → List Candidate → Type 0
 HaveHeardAll len receiver given =
-    HaveHeard (AreHeardInOne (sensitive_of_blocks receiver)) (AreSettledInOne (sensitive_of_blocks receiver))
-    (StandForStretch receiver.lanes) (block_answers len receiver) given
+    HaveHeard (AreHeardInOne (sensitive_of_blocks receiver)) (StandForStretch receiver.lanes) (block_answers len receiver)
+    given
 
 -- so they have, the ring has not ended, and all memory that was wanted was given
 pub record BlocksHeard (len : ℕ) (receiver : HeldReceiver) : Type 0 where

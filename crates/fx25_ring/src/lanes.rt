@@ -9,7 +9,6 @@ use fx25_receiver::Fx25Receiver;
 use sensitive_blocks::SensitiveBlocksReceiver;
 use slicer_bank::Bank;
 use std::alloc::Global;
-use std::slice::from_ref;
 use stretch_reader::StretchLanes;
 use tnc_base::OutOfMemory;
 
@@ -71,16 +70,16 @@ impl Lanes {
 }
 
 impl StretchLanes for Lanes {
-    ghost use Rattle.fx25_ring.specs.HeardInBlocks.{AreHeardInOne, AreSettledInOne};
+    ghost use Rattle.fx25_ring.specs.HeardInBlocks.{AreHeardInOne};
     ghost use Rattle.fx25_ring.specs.Held.{are_sensitive, AreTogether, ListenTo, place_of, StandForStretch};
 
     ghost heard = { AreHeardInOne };
 
-    ghost settled = { AreSettledInOne };
-
     ghost holds = { StandForStretch };
 
     ghost listens = { ListenTo };
+
+    ghost comes = { λ sensitive from item. Unit {0} };
 
     ghost place = { place_of };
 
@@ -98,10 +97,10 @@ impl StretchLanes for Lanes {
         Ok(())
     }
 
-    fn hear(&mut self, sample: i16, items: &mut Vec<Candidate>) -> Result<(), OutOfMemory> {
-        let heard = self.receiver.block(from_ref(&sample))?;
-        self.bank.feed(from_ref(&sample))?;
-        let told = tell(&mut self.all, sample, heard)?;
+    fn hear(&mut self, samples: &[i16], items: &mut Vec<Candidate>) -> Result<(), OutOfMemory> {
+        let heard = self.receiver.block(samples)?;
+        self.bank.feed(samples)?;
+        let told = tell(&mut self.all, samples, heard)?;
         place_all(self.alloc, self.begin, &told, items)
     }
 

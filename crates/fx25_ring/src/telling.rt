@@ -1,6 +1,6 @@
 //! What all 26 lanes tell in place of the eight, if they listen.
 
-ghost use Rattle.std.specs.Prelude.{◌≡◌, ◌+◌, ◌<◌, ◌^◌, ℕ, ℤ, List, [], ◌∷◌, ◌++◌, IfOk, OnOk, IfSome, is_some};
+ghost use Rattle.std.specs.Prelude.{◌≡◌, ◌+◌, ◌<◌, ◌^◌, ℕ, ℤ, List, [], ◌++◌, length, IfOk, OnOk, IfSome, is_some};
 ghost use Rattle.fx25_receiver.specs.Held.{Held as HeldEight, StandsFor as EightStandFor};
 ghost use Rattle.fx25_receiver.specs.declared.heard.Heard.{Heard};
 ghost use Rattle.sensitive_blocks.specs.Held.{StandsFor as AllStandFor};
@@ -10,7 +10,6 @@ ghost use Rattle.fx25_ring.specs.Held.{Tells};
 use fx25_receiver::Heard;
 use sensitive_blocks::SensitiveBlocksReceiver;
 use std::alloc::Global;
-use std::slice::from_ref;
 use tnc_base::OutOfMemory;
 
 /// All lanes, which have heard nothing, or none if these are not to listen.
@@ -28,22 +27,22 @@ pub(crate) fn all_of(
     Ok(None)
 }
 
-/// What is told of a sample, of which the eight lanes heard these items: that, or what it settles of what all lanes hear.
+/// What is told of samples, of which the eight lanes heard these items: that, or what they settle of what all lanes hear.
 pub(crate) fn tell(
     all: &mut Option<SensitiveBlocksReceiver>,
-    sample: i16,
+    samples: &[i16],
     heard: Vec<Heard>,
 ) -> Result<Vec<Heard>, OutOfMemory>
-    requires room { IfSome all.old (λ lanes. lanes.follower.position + 1 < 2 ^ 48) }
+    requires room { IfSome all.old (λ lanes. lanes.follower.position + length samples.now < 2 ^ 48) }
     ensures told { IfOk result (λ told. (before after : HeldEight) (x : List ℤ) (given : List Heard)
-        → (EightStandFor before x given → EightStandFor after (x ++ sample ∷ []) (given ++ heard.items))
-        → Tells before all.old x given → Tells after all.new (x ++ sample ∷ []) (given ++ told.items)) }
+        → (EightStandFor before x given → EightStandFor after (x ++ samples.now) (given ++ heard.items))
+        → Tells before all.old x given → Tells after all.new (x ++ samples.now) (given ++ told.items)) }
     ensures position { (position : ℕ) → IfSome all.old (λ lanes. lanes.follower.position ≡ position)
-        → OnOk result (IfSome all.new (λ lanes. lanes.follower.position ≡ position + 1)) }
+        → OnOk result (IfSome all.new (λ lanes. lanes.follower.position ≡ position + length samples.now)) }
     ensures asked { is_some all.new ≡ is_some all.old }
 {
     match all {
-        Some(lanes) => lanes.block(from_ref(&sample)),
+        Some(lanes) => lanes.block(samples),
         None => Ok(heard),
     }
 }

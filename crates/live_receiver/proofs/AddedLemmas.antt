@@ -1,43 +1,43 @@
--- What an added lane of short wave hears in one stretch, with one sample more.
-use Rattle.live_receiver.proofs.Common.{◌≡◌, ◌≢◌, ℕ, ◌+◌, ◌-◌, ◌*◌, ◌/◌, ◌<◌, ◌≤◌, ◌⊎◌, inl, inr, ℤ, List, [], ◌∷◌, ◌++◌}
+-- What an added lane of short wave hears in one stretch, with more samples.
+use Rattle.live_receiver.proofs.Common.{◌≡◌, ◌≢◌, ℕ, ◌+◌, ◌*◌, ◌/◌, ◌<◌, ◌≤◌, ◌⊎◌, inl, inr, ℤ, List, ◌++◌}
 use Rattle.live_receiver.proofs.Common.{length, map, get_or, refl, ap, sym, subst, ◌∙◌, arith, All, AllPairs, Contains}
-use Rattle.live_receiver.proofs.Common.{cases_lt, length_push, length-map, get_or-map, All-map, Candidate, standing}
-use Rattle.live_receiver.proofs.Common.{Stretch, with_sample, end_of, IsAddedInOne, moved_added, places_in, IsAmong}
+use Rattle.live_receiver.proofs.Common.{cases_lt, length-append, length-map, get_or-map, All-map, Candidate, standing}
+use Rattle.live_receiver.proofs.Common.{Stretch, with_samples, end_of, IsAddedInOne, moved_added, places_in, IsAmong}
 use Rattle.live_receiver.proofs.Common.{AreAddedAmong, EndsAtPlace}
 use Rattle.hf_sensitive.proofs.FoundLemmas.{delay_small, one_place}
 use Rattle.hf_sensitive.proofs.PrefixLanes.{ends-append, ends-take}
 
--- the item is new of the stretch with one sample more
-pub record IsAddedWith (item : Candidate) (s : Stretch) (x : ℤ) : Type 0 where
+-- the item is new of the stretch with more samples
+pub record IsAddedWith (item : Candidate) (s : Stretch) (xs : List ℤ) : Type 0 where
   pub heard : Candidate
   pub place : ℕ
-  pub among : IsAmong (places_in (length s.samples)) (places_in (length (s.samples ++ x ∷ []))) 32 59 place heard.offset
-  pub ends : EndsAtPlace (s.samples ++ x ∷ []) heard place
+  pub among : IsAmong (places_in (length s.samples)) (places_in (length (s.samples ++ xs))) 32 59 place heard.offset
+  pub ends : EndsAtPlace (s.samples ++ xs) heard place
   pub item_is : item ≡ moved_added s.begin heard
 
-pub added_grow : (item : Candidate) (s : Stretch) (x : ℤ) → IsAddedInOne s item → IsAddedInOne (with_sample s x) item
-added_grow item s x h =
-    let n = length_push s.samples x in
+pub added_grow : (item : Candidate) (s : Stretch) (xs : List ℤ) → IsAddedInOne s item → IsAddedInOne (with_samples s xs) item
+added_grow item s xs h =
+    let n = length-append s.samples xs in
     let inside = h.added.decided in
     record {
       heard = h.heard;
       added = record {
         place = h.added.place;
         decided = omega arith;
-        ends = ends-append s.samples (x ∷ []) h.heard h.added.place h.added.decided h.added.ends;
+        ends = ends-append s.samples xs h.heard h.added.place h.added.decided h.added.ends;
       };
       item_is = h.item_is;
     }
 
-pub added_shrink : (item : Candidate) (s : Stretch) (x : ℤ) → IsAddedInOne (with_sample s x) item
-    → IsAddedInOne s item ⊎ IsAddedWith item s x
-added_shrink item s x h = elim (cases_lt h.added.place (places_in (length s.samples))) [
+pub added_shrink : (item : Candidate) (s : Stretch) (xs : List ℤ) → IsAddedInOne (with_samples s xs) item
+    → IsAddedInOne s item ⊎ IsAddedWith item s xs
+added_shrink item s xs h = elim (cases_lt h.added.place (places_in (length s.samples))) [
   | inl lt ↦ inl (record {
     heard = h.heard;
     added = record {
       place = h.added.place;
       decided = lt;
-      ends = ends-take s.samples (x ∷ []) h.heard h.added.place lt h.added.ends;
+      ends = ends-take s.samples xs h.heard h.added.place lt h.added.ends;
     };
     item_is = h.item_is;
   })
@@ -55,8 +55,8 @@ added_shrink item s x h = elim (cases_lt h.added.place (places_in (length s.samp
   })
 ]
 
-pub added_now : (item : Candidate) (s : Stretch) (x : ℤ) → IsAddedWith item s x → IsAddedInOne (with_sample s x) item
-added_now item s x n = record {
+pub added_now : (item : Candidate) (s : Stretch) (xs : List ℤ) → IsAddedWith item s xs → IsAddedInOne (with_samples s xs) item
+added_now item s xs n = record {
   heard = n.heard;
   added = record { place = n.place; decided = n.among.to_place; ends = n.ends };
   item_is = n.item_is;
@@ -75,19 +75,10 @@ added_lane item s h =
     let most = h.added.ends.most in
     (omega arith, omega arith)
 
--- nothing new ends below what is settled
-pub added_late : (item : Candidate) (s : Stretch) (x : ℤ) → IsAddedWith item s x → end_of s / 4 - 17 ≤ item.end
-added_late item s x n =
-    let moved_end : item.end ≡ (s.begin + 4 * n.heard.end) / 4 = ap (λ c. c.end) n.item_is in
-    let from = n.among.from_place in
-    let end = n.ends.end_of in
-    let delay = delay_small n.heard.offset in
-    omega arith
-
 -- what is heard in one stretch, and what is new of it, do not stand alike
-pub added_apart : (old item : Candidate) (s : Stretch) (x : ℤ) → IsAddedInOne s old → IsAddedWith item s x
+pub added_apart : (old item : Candidate) (s : Stretch) (xs : List ℤ) → IsAddedInOne s old → IsAddedWith item s xs
     → standing old ≢ standing item
-added_apart old item s x h n same =
+added_apart old item s xs h n same =
     let old_end : old.end ≡ (s.begin + 4 * h.heard.end) / 4 = ap (λ c. c.end) h.item_is in
     let old_lane : old.offset ≡ h.heard.offset = ap (λ c. c.offset) h.item_is in
     let new_end : item.end ≡ (s.begin + 4 * n.heard.end) / 4 = ap (λ c. c.end) n.item_is in
@@ -95,17 +86,17 @@ added_apart old item s x h n same =
     let most = h.added.ends.most in
     let most_new = n.ends.most in
     let alike : standing h.heard ≡ standing n.heard = omega arith in
-    let one = one_place (s.samples ++ x ∷ []) h.heard n.heard h.added.place n.place
-    (ends-append s.samples (x ∷ []) h.heard h.added.place h.added.decided h.added.ends) n.ends alike in
+    let one = one_place (s.samples ++ xs) h.heard n.heard h.added.place n.place
+    (ends-append s.samples xs h.heard h.added.place h.added.decided h.added.ends) n.ends alike in
     let p = one.0 in
     let inside = h.added.decided in
     let from = n.among.from_place in
     omega arith
 
--- nor do what is heard in a stretch that ended before, and what is new
-pub added_later : (old item : Candidate) (t s : Stretch) (x : ℤ) → IsAddedInOne t old → IsAddedWith item s x
-    → end_of t ≤ s.begin → standing old ≢ standing item
-added_later old item t s x h n before same =
+-- nor do what is heard in a stretch and in one after it
+pub added_later : (old item : Candidate) (t s : Stretch) → end_of t ≤ s.begin → IsAddedInOne t old → IsAddedInOne s item
+    → standing old ≢ standing item
+added_later old item t s before h n same =
     let old_end : old.end ≡ (t.begin + 4 * h.heard.end) / 4 = ap (λ c. c.end) h.item_is in
     let new_end : item.end ≡ (s.begin + 4 * n.heard.end) / 4 = ap (λ c. c.end) n.item_is in
     let old_lane : old.offset ≡ h.heard.offset = ap (λ c. c.offset) h.item_is in
@@ -113,12 +104,12 @@ added_later old item t s x h n before same =
     let end = h.added.ends.end_of in
     let most = h.added.ends.most in
     let inside = h.added.decided in
-    let later = n.ends.end_of in
-    let most_later = n.ends.most in
+    let later = n.added.ends.end_of in
+    let most_later = n.added.ends.most in
     let delay = delay_small n.heard.offset in
     omega arith
 
--- ---- all that is new with one sample
+-- ---- all that is new
 
 pub contains_added : (begin : ℕ) (heard : List Candidate) (item : Candidate) → Contains heard item
     → Contains (map (moved_added begin) heard) (moved_added begin item)
@@ -130,18 +121,18 @@ contains_added begin heard item c =
       get_or-map (moved_added begin) heard c.0 item (moved_added begin item) c.1 ∙ ap (moved_added begin) c.2,
     )
 
-module _ (s : Stretch) (x : ℤ) (heard : List Candidate)
-    (are : AreAddedAmong (places_in (length s.samples)) (places_in (length (s.samples ++ x ∷ []))) 32 59
-    (s.samples ++ x ∷ []) heard) where
+module _ (s : Stretch) (xs : List ℤ) (heard : List Candidate)
+    (are : AreAddedAmong (places_in (length s.samples)) (places_in (length (s.samples ++ xs))) 32 59
+    (s.samples ++ xs) heard) where
   abbrev pub added : List Candidate
   added = map (moved_added s.begin) heard
 
-  pub added_each : All (λ item. IsAddedWith item s x) added
-  added_each = All-map (λ item. IsAddedWith item s x) (moved_added s.begin) heard
+  pub added_each : All (λ item. IsAddedWith item s xs) added
+  added_each = All-map (λ item. IsAddedWith item s xs) (moved_added s.begin) heard
       (λ k d l. let e = are.each k d l in
       record { heard = get_or heard k d; place = e.0; among = e.1; ends = e.2; item_is = refl })
 
-  pub added_whole : (item : Candidate) → IsAddedWith item s x → Contains added item
+  pub added_whole : (item : Candidate) → IsAddedWith item s xs → Contains added item
   added_whole item n =
       subst (Contains added) (sym n.item_is)
       (contains_added s.begin heard n.heard (are.whole n.heard n.place n.among n.ends))

@@ -1,7 +1,6 @@
 pub mod Common
 pub mod AddedLemmas
 pub mod HeardLemmas
-pub mod TurnLemmas
 pub mod MergeLemmas
 pub mod PutLemmas
 pub mod ReceiverLemmas

@@ -4,7 +4,7 @@ use Rattle.live_receiver.proofs.Common.{◌++◌, length, get_or, refl, ap, sym,
 use Rattle.live_receiver.proofs.Common.{Contains-append_left, Contains-append_right, Got, Candidate, Stretch}
 use Rattle.live_receiver.proofs.Common.{position_after, in_order, merged, below, not_below, place, lanes_in}
 use Rattle.live_receiver.proofs.Common.{AreHeard, AreMerged, AreRest, AreDue, IsHeardIn, IsHeardByOne, IsHeardInOne}
-use Rattle.live_receiver.proofs.Common.{settled_end, HearsMore, HasMergedHf, PutsMore, least, replicate, ◌^◌}
+use Rattle.live_receiver.proofs.Common.{settled_end, AreMore, HasMergedHf, PutsMore, least, replicate, ◌^◌}
 use Rattle.std.specs.List.Sorted.{IsNonDecreasingBy}
 use Rattle.std.proofs.lemmas.List.{append_cancel_left, get_or-replicate, length-replicate}
 use Rattle.std.proofs.lemmas.List.Sums.{fold-append}
@@ -45,8 +45,8 @@ rising sensitive answers items are =
 
 -- a turn in which these items are heard and put, and what the merger then gives
 module _ (sensitive : Bool) (before now : List Got) (items ready : List Candidate) (was put after : HeldMerger)
-    (h : HasMergedHf sensitive was before) (more : HearsMore sensitive before now items)
-    (puts_more : PutsMore was put items) (up : position_after before ≤ position_after now) where
+    (h : HasMergedHf sensitive was before) (more : AreMore (IsHeardInOne sensitive) before now items)
+    (late : All (λ item. settled_end sensitive before ≤ item.end) items) (puts_more : PutsMore was put items) (up : position_after before ≤ position_after now) where
   abbrev all : List Candidate
   all = fold (λ ordered item. place item ordered) h.candidates items
 
@@ -79,7 +79,7 @@ module _ (sensitive : Bool) (before now : List Got) (items ready : List Candidat
   given_is : given ≡ below (settled_end sensitive before) (merged all)
   given_is = sym (below_more (settled_end sensitive before) h.candidates items
       (in_order_heard sensitive before h.candidates h.are)
-      (λ k d l. lane_below sensitive now (get_or items k d) (more.each k d l)) more.late)
+      (λ k d l. lane_below sensitive now (get_or items k d) (more.each k d l)) late)
 
   pub merges : ((puts given : List Candidate) → MergerStandsFor put puts given
       → MergerStandsFor after puts (given ++ ready)

@@ -1,181 +1,180 @@
 -- What a turn makes of a receiver of short wave.
-use Rattle.live_receiver.proofs.Common.{◌≡◌, ℕ, zero, suc, ◌-◌, ◌/◌, ◌^◌, ◌<◌, ◌≤◌, ◌↔◌, Bool, true, false, List, []}
-use Rattle.live_receiver.proofs.Common.{◌∷◌, ◌++◌, length, map, refl, ap, sym, subst, ◌∙◌, arith, All, All-nil}
-use Rattle.live_receiver.proofs.Common.{append-nil, map-append, replicate, Got, Candidate, LaneGap, position_of, reads_of}
-use Rattle.live_receiver.proofs.Common.{answer, lane_of, least_position, answers_of, MeetsEnd, IsReading, position_after}
-use Rattle.live_receiver.proofs.Common.{leads_position, leads_up, in_order, merged, below, settled_end, AreDue, HfRing}
-use Rattle.live_receiver.proofs.Common.{HfTurn, Heard, HfListens, HfHears, AreInStep, HaveRoom, MadeHfTurn, MakesHfTurn}
-use Rattle.live_receiver.proofs.Common.{hf_of, HasMergedHf, HearsMore, AreAtReader, ListenAlike, behind, lanes_in}
-use Rattle.std.specs.Prelude.{Result, Ok, Err, IfOk, min}
-use Rattle.std.specs.Result.{IsErrAnd}
-use Rattle.std.proofs.lemmas.List.Elements.{All-cons, All-head}
+use Rattle.live_receiver.proofs.Common.{◌≡◌, ℕ, ◌-◌, ◌/◌, ◌^◌, ◌<◌, ◌≤◌, Bool, true, false, List, [], ◌++◌, length}
+use Rattle.live_receiver.proofs.Common.{get_or, refl, ap, sym, subst, ◌∙◌, arith, All, replicate, Candidate, Reader}
+use Rattle.live_receiver.proofs.Common.{position_of, answers_of, Leads, leads_position, position_after}
+use Rattle.live_receiver.proofs.Common.{last_stretch, stretch_at, in_order, merged, below, settled_end, AreDue, HfLanes}
+use Rattle.live_receiver.proofs.Common.{Heard, Turn, HfListens, HfHears, AreInStep, MadeTurn, MakesHfTurn, hf_of, IsNew}
+use Rattle.live_receiver.proofs.Common.{HasMergedHf, AreAllIn, AreMore, CanCome, HaveHeard, HoldStretch}
+use Rattle.live_receiver.proofs.Common.{IsHeardInOne, PutsMore, StandsForStretch, Stretch, behind, lanes_in}
+use Rattle.std.proofs.lemmas.List.{get_or-replicate}
 use Rattle.frame_merge.specs.Held.{Held as HeldMerger, StandsFor as MergerStandsFor}
-use Rattle.slicer_bank.specs.RingTurns.{gaps_from}
-use Rattle.ring_receiver.specs.Turns.{IsTurnOf}
-use Rattle.live_receiver.proofs.MergeLemmas.{due_lengths, due_of, many_of, marks_rise, merges, merges_rest}
+use Rattle.slicer_bank.specs.Merging.{AreInTime}
+use Rattle.stretch_reader.proofs.EachHeardLemmas.{gave_all, more_of}
+use Rattle.fx25_ring.proofs.OneReader.{leads, lowest, no_lower, nothing_answered, rises, there, turned}
+use Rattle.live_receiver.proofs.HeardLemmas.{apart_later}
+use Rattle.live_receiver.proofs.MergeLemmas.{due_lengths, due_of, marks_rise, many_of, merges, merges_rest, nothing_merged}
 
--- a turn that wanted memory brings nothing
-pub none_made : {T E : Type 0} (Q : E → Type 0) (result : Result T E) (P : T → Type 0) → IsErrAnd result Q
-    → IfOk result P
-none_made Q (Ok v) P e = absurd e
-none_made Q (Err e) P is = tt
+-- a receiver that has read nothing
+pub none_heard : (len : ℕ) (reader : Reader) (lanes : HfLanes) (merger : HeldMerger) → IsNew reader
+    → HoldStretch lanes (stretch_at 0) [] → MergerStandsFor merger [] [] → HfHears len (hf_of reader lanes merger false)
+none_heard len reader lanes merger new hold empty =
+    let none = nothing_answered len reader new in
+    record {
+      spent = refl;
+      listens = record {
+        lead = subst (λ a. Leads 0 a (position_of reader)) (sym none) (sym new.at_start);
+        stands = subst (λ a. StandsForStretch lanes (last_stretch a)) (sym none) hold.stands;
+      };
+      given = [];
+      heard = subst (λ a. HaveHeard (AreAllIn (IsHeardInOne lanes.sensitive)) (HoldStretch lanes) a []) (sym none)
+          (record { earlier = []; own = []; ended = refl; holds = hold; given_is = refl });
+      merged = subst (HasMergedHf lanes.sensitive merger) (sym none) (nothing_merged lanes.sensitive merger empty);
+    }
 
--- lanes that are in step with the merger can take more
-pub room_of : (lanes : HfRing) (merger : HeldMerger) → AreInStep lanes merger → HaveRoom lanes merger
-room_of lanes merger h = record {
-  mark = position_of lanes.reader;
-  marks = h.marks;
-  low = (let at = h.read.at in omega arith);
-}
-
--- the turn of one reader
-one_turn : (before now reads : List Got) (gaps told : List LaneGap) (ended : Bool) → now ≡ before ++ reads
-    → IsReading reads → gaps ≡ told → told ≡ gaps_from 0 (reads ∷ []) → (ended ≡ true) ↔ MeetsEnd reads
-    → IsTurnOf 1 (before ∷ []) (now ∷ []) gaps ended
-one_turn before now reads gaps told ended more reading same is met = record {
-  reads = reads ∷ [];
-  longer = record { count_before = refl; count_reads = refl; count_now = refl; each = each };
-  readings = All-cons IsReading reads [] reading (All-nil IsReading);
-  told = same ∙ is;
-  over = (
-    λ e. All-cons MeetsEnd reads [] (met.0 e) (All-nil MeetsEnd),
-    λ h. met.1 (All-head MeetsEnd reads [] h),
-  );
-}
-  where
-    each : (reader : ℕ) → reader < 1
-        → lane_of (now ∷ []) reader ≡ lane_of (before ∷ []) reader ++ lane_of (reads ∷ []) reader
-    each zero l = more
-    each (suc k) l = absurd (omega arith)
-
-least_one : (answers : List Got) (position : ℕ) → position ≡ position_after answers → position < 2 ^ 64
-    → position ≡ least_position (answers ∷ [])
-least_one answers position is small =
-    let e : position ≡ min (2 ^ 64 - 1) position = omega arith in
-    e ∙ ap (min (2 ^ 64 - 1)) is
-
-module _ (len : ℕ) (before after : HfRing) (was put now : HeldMerger) (turn : HfTurn) (heard : Heard) (position : ℕ)
-    (made : MadeHfTurn len before after was put turn)
-    (at : AreAtReader after) (alike : ListenAlike before after) (here : position ≡ position_of after.reader)
-    (small : position < 2 ^ 64) (lowest : heard.least ≡ position) (over : heard.ended ≡ turn.ended)
-    (told : heard.gaps.items ≡ turn.gaps.items)
+module _ (len : ℕ) (before after : Reader) (lanes lanes' : HfLanes) (was put now : HeldMerger) (turn : Turn)
+    (heard : Heard) (position : ℕ)
+    (made : MadeTurn (AreAllIn (IsHeardInOne lanes.sensitive)) (HoldStretch lanes) (HoldStretch lanes')
+    (StandsForStretch lanes) (StandsForStretch lanes') len 0 before after turn)
+    (comes : All (CanCome lanes.sensitive (position_of before)) turn.items.items)
+    (step : now.marks ≡ replicate (lanes_in lanes'.sensitive) (position_of after / 4 - behind lanes'.sensitive)
+    → AreInStep after lanes' now)
+    (same : lanes'.sensitive ≡ lanes.sensitive) (puts_more : PutsMore was put turn.items.items)
+    (here : position ≡ position_of after) (small : position < 2 ^ 64) (least_is : heard.least ≡ position)
+    (over : heard.ended ≡ turn.ended) (told : heard.gaps.items ≡ turn.gaps.items)
     (settles : turn.ended ≡ false → (puts given : List Candidate) → MergerStandsFor put puts given
     → MergerStandsFor now puts (given ++ heard.items.items)
-    × (given ++ heard.items.items ≡ below (position / 4 - behind after.sensitive) (merged (in_order puts))))
+    × (given ++ heard.items.items ≡ below (position / 4 - behind lanes'.sensitive) (merged (in_order puts))))
     (rests : turn.ended ≡ true → (puts given : List Candidate) → MergerStandsFor put puts given
     → given ++ heard.items.items ≡ merged (in_order puts))
     (marks : turn.ended ≡ false
-    → now.marks ≡ replicate (lanes_in after.sensitive) (position / 4 - behind after.sensitive)) where
-  b : List Got
-  b = answers_of len before.reader
+    → now.marks ≡ replicate (lanes_in lanes'.sensitive) (position / 4 - behind lanes'.sensitive)) where
+  abbrev In : Stretch → Candidate → Type 0
+  In = IsHeardInOne lanes.sensitive
 
-  n : List Got
-  n = answers_of len after.reader
+  module _ (l : HfListens len before lanes) where
+    listens : HfListens len after lanes'
+    listens = record {
+      lead = leads (AreAllIn In) (HoldStretch lanes) (HoldStretch lanes') (StandsForStretch lanes)
+          (StandsForStretch lanes') len before after turn heard made l.lead;
+      stands = made.on.listens l.stands;
+    }
 
-  longer : n ≡ b ++ made.answers
-  unfolding b n
-  longer =
-      ap (map (answer len)) made.on.read ∙ map-append (answer len) (reads_of before.reader) made.on.entries
-      ∙ ap (λ t. answers_of len before.reader ++ t) (sym made.on.are)
+    at_end : position ≡ position_after (answers_of len after)
+    at_end = sym least_is
+        ∙ there (AreAllIn In) (HoldStretch lanes) (HoldStretch lanes') (StandsForStretch lanes) (StandsForStretch lanes')
+        len before after turn heard made l.lead (least_is ∙ here) (let e = least_is in omega arith)
 
-  turned : IsTurnOf 1 (b ∷ []) (n ∷ []) heard.gaps.items heard.ended
-  turned = one_turn b n made.answers heard.gaps.items turn.gaps.items heard.ended longer made.reading told
-      (made.on.gaps ∙ sym (append-nil _))
-      (λ e. made.met.0 (sym over ∙ e), λ m. over ∙ made.met.1 m)
+    up : position_after (answers_of len before) ≤ position_after (answers_of len after)
+    up = no_lower (AreAllIn In) (HoldStretch lanes) (HoldStretch lanes') (StandsForStretch lanes)
+        (StandsForStretch lanes') len before after turn heard made l.lead
 
-  module _ (h : HfHears len (hf_of before was false)) where
-    listens : HfListens len after
-    listens = (made.on.heard h.listens).0
+    late : All (λ item. settled_end lanes.sensitive (answers_of len before) ≤ item.end) turn.items.items
+    late k d l' =
+        let c = (comes k d l').late in
+        let p = leads_position (answers_of len before) (position_of before) l.lead in
+        omega (arith, c, p)
 
-    more : HearsMore before.sensitive b n made.on.items
-    unfolding b n
-    more = (made.on.heard h.listens).1
+  module _ (h : HfHears len (hf_of before lanes was false)) where
+    gave : HaveHeard (AreAllIn In) (HoldStretch lanes') (answers_of len after) (h.given ++ turn.items.items)
+    gave = made.on.heard h.given h.heard
 
-    there : position ≡ position_after n
-    unfolding n
-    there = here ∙ sym (leads_position (answers_of len after.reader) (position_of after.reader) listens.lead)
+    more : AreMore In (answers_of len before) (answers_of len after) turn.items.items
+    more = more_of In (apart_later lanes.sensitive) (answers_of len before) (answers_of len after) (position_of after)
+        h.given turn.items.items (listens h.listens).lead
+        (gave_all In (HoldStretch lanes) (λ s own k. k.are) (answers_of len before) h.given h.heard)
+        (gave_all In (HoldStretch lanes')
+        (λ s own k. subst (λ b. AreAllIn (IsHeardInOne b) s own) same k.are) (answers_of len after)
+        (h.given ++ turn.items.items) gave)
 
     settles_there : heard.ended ≡ false → (puts given : List Candidate) → MergerStandsFor put puts given
         → MergerStandsFor now puts (given ++ heard.items.items)
-        × (given ++ heard.items.items ≡ below (settled_end before.sensitive n) (merged (in_order puts)))
+        × (given ++ heard.items.items
+        ≡ below (settled_end lanes.sensitive (answers_of len after)) (merged (in_order puts)))
     settles_there e =
         subst (λ (s : Bool). (puts given : List Candidate) → MergerStandsFor put puts given
         → MergerStandsFor now puts (given ++ heard.items.items)
-        × (given ++ heard.items.items ≡ below (settled_end s n) (merged (in_order puts)))) alike.sensitive
+        × (given ++ heard.items.items ≡ below (settled_end s (answers_of len after)) (merged (in_order puts)))) same
         (subst (λ p. (puts given : List Candidate) → MergerStandsFor put puts given
         → MergerStandsFor now puts (given ++ heard.items.items)
-        × (given ++ heard.items.items ≡ below (p / 4 - behind after.sensitive) (merged (in_order puts)))) there
-        (settles (sym over ∙ e)))
+        × (given ++ heard.items.items ≡ below (p / 4 - behind lanes'.sensitive) (merged (in_order puts))))
+        (at_end h.listens) (settles (sym over ∙ e)))
 
-    up : position_after b ≤ position_after n
-    unfolding b
-    up =
-        let first : position_after (answers_of len before.reader) ≡ position_of before.reader
-        = leads_position (answers_of len before.reader) (position_of before.reader) h.listens.lead in
-        let goes = leads_up (position_of before.reader) made.answers (position_of after.reader) made.on.forward in
-        let last = there in
-        omega arith
+    merged_now : heard.ended ≡ false → HasMergedHf lanes.sensitive now (answers_of len after)
+        × AreDue lanes.sensitive false (answers_of len before) (answers_of len after) heard.items.items
+    merged_now e =
+        merges lanes.sensitive (answers_of len before) (answers_of len after) turn.items.items heard.items.items was put now
+        h.merged more (late h.listens) puts_more (up h.listens) (settles_there e)
 
-    due : AreDue before.sensitive heard.ended b n heard.items.items
-    unfolding b
-    due = due_of before.sensitive heard.ended (answers_of len before.reader) n heard.items.items
-        (λ e. (merges before.sensitive (answers_of len before.reader) n made.on.items heard.items.items was put now
-        h.merged more made.on.put up (settles_there e)).1)
-        (λ e. merges_rest before.sensitive (answers_of len before.reader) n made.on.items heard.items.items was put now h.merged more
-        made.on.put up (rests (sym over ∙ e)))
+    due : AreDue lanes.sensitive heard.ended (answers_of len before) (answers_of len after) heard.items.items
+    due = due_of lanes.sensitive heard.ended (answers_of len before) (answers_of len after) heard.items.items
+        (λ e. (merged_now e).1)
+        (λ e. merges_rest lanes.sensitive (answers_of len before) (answers_of len after) turn.items.items
+        heard.items.items was put now h.merged more (late h.listens) puts_more (up h.listens) (rests (sym over ∙ e)))
 
-    hears : heard.ended ≡ false → HfHears len (hf_of after now false)
-    unfolding b n
+    hears : heard.ended ≡ false → HfHears len (hf_of after lanes' now false)
     hears e = record {
       spent = refl;
-      listens = listens;
-      merged = subst (λ (s : Bool). HasMergedHf s now (answers_of len after.reader)) (sym alike.sensitive)
-          (merges before.sensitive (answers_of len before.reader) (answers_of len after.reader) made.on.items
-          heard.items.items was put now h.merged more made.on.put up (settles_there e)).0;
+      listens = listens h.listens;
+      given = h.given ++ turn.items.items;
+      heard = subst (λ b. HaveHeard (AreAllIn (IsHeardInOne b)) (HoldStretch lanes') (answers_of len after)
+          (h.given ++ turn.items.items)) (sym same) gave;
+      merged = subst (λ (b : Bool). HasMergedHf b now (answers_of len after)) (sym same) (merged_now e).0;
     }
 
-    lowest_now : heard.least ≡ least_position (n ∷ [])
-    lowest_now = lowest ∙ least_one n position there small
-
-    rises : least_position (b ∷ []) ≤ heard.least
-    rises =
-        let last = there in
-        let first = up in
-        let low = lowest in
-        let one : least_position (b ∷ []) ≡ min (2 ^ 64 - 1) (position_after b) = refl in
-        omega arith
-
-  pub makes : MakesHfTurn len (hf_of before was false) (hf_of after now false) heard
-  unfolding b n
+  pub makes : MakesHfTurn len (hf_of before lanes was false) (hf_of after lanes' now false) heard
   makes = record {
-    turn = turned;
-    listens = λ h. (made.on.heard h).0;
-    due = λ h. due h;
-    lengths = λ h. due_lengths before.sensitive heard.ended (answers_of len before.reader) (answers_of len after.reader)
+    turn = turned (AreAllIn In) (HoldStretch lanes) (HoldStretch lanes') (StandsForStretch lanes)
+        (StandsForStretch lanes') len before after turn heard made over told;
+    listens = listens;
+    due = due;
+    lengths = λ h. due_lengths lanes.sensitive heard.ended (answers_of len before) (answers_of len after)
         heard.items.items (due h);
     hears = λ e h. hears h e;
-    least = λ h. lowest_now h;
-    forward = λ h. rises h;
-    step = λ e. record {
-      read = at;
-      marks = marks (sym over ∙ e)
-          ∙ ap (λ p. replicate (lanes_in after.sensitive) (p / 4 - behind after.sensitive)) here;
-    };
+    least = λ h. lowest (AreAllIn In) (HoldStretch lanes) (HoldStretch lanes') (StandsForStretch lanes)
+        (StandsForStretch lanes') len before after turn heard made h.listens.lead (least_is ∙ here)
+        (let e = least_is in omega arith);
+    forward = λ h. rises (AreAllIn In) (HoldStretch lanes) (HoldStretch lanes') (StandsForStretch lanes)
+        (StandsForStretch lanes') len before after turn heard made h.listens.lead (least_is ∙ here)
+        (let e = least_is in omega arith);
+    step = λ e. step (marks (sym over ∙ e)
+        ∙ ap (λ p. replicate (lanes_in lanes'.sensitive) (p / 4 - behind lanes'.sensitive)) here);
   }
 
--- the marks before a turn
-pub marks_low : (len : ℕ) (before after : HfRing) (was put : HeldMerger) (turn : HfTurn) (position : ℕ)
-    → AreInStep before was → put.marks ≡ was.marks → MadeHfTurn len before after was put turn
-    → ListenAlike before after → position ≡ position_of after.reader
-    → All (λ mark. mark ≤ position / 4 - behind after.sensitive) put.marks
-marks_low len before after was put turn position step same made alike here =
-    let up = leads_up (position_of before.reader) made.answers (position_of after.reader) made.on.forward in
-    marks_rise put.marks (lanes_in after.sensitive) (position_of before.reader / 4 - behind after.sensitive)
-    (position / 4 - behind after.sensitive) (same ∙ step.marks
-    ∙ ap (λ (s : Bool). replicate (lanes_in s) (position_of before.reader / 4 - behind s)) (sym alike.sensitive))
-    (omega arith)
+-- ---- what a turn brings can be put into the merger
 
-pub marks_many : (before after : HfRing) (was put : HeldMerger) → AreInStep before was → put.marks ≡ was.marks
-    → ListenAlike before after → length put.marks ≡ lanes_in after.sensitive
-marks_many before after was put step same alike =
-    many_of put.marks (lanes_in before.sensitive) _ (same ∙ step.marks) ∙ ap lanes_in (sym alike.sensitive)
+pub fits : (reader : Reader) (lanes : HfLanes) (was : HeldMerger) (items : List Candidate) → AreInStep reader lanes was
+    → All (CanCome lanes.sensitive (position_of reader)) items
+    → All (λ item. (item.offset < length was.marks) × (item.end < 2 ^ 64 - 1)) items
+fits reader lanes was items step comes k d l =
+    let c = comes k d l in
+    let lane = c.lane in
+    let many = many_of was.marks (lanes_in lanes.sensitive)
+    (position_of reader / 4 - behind lanes.sensitive) step.marks in
+    (omega (arith, lane, many), c.end)
+
+pub in_time : (reader : Reader) (lanes : HfLanes) (was : HeldMerger) (items : List Candidate) → AreInStep reader lanes was
+    → All (CanCome lanes.sensitive (position_of reader)) items → AreInTime was.marks items
+in_time reader lanes was items step comes k d l =
+    let c = comes k d l in
+    let item : Candidate = get_or items k d in
+    let mark : ℕ = position_of reader / 4 - behind lanes.sensitive in
+    let late = c.late in
+    let at : get_or was.marks item.offset 0 ≡ mark = ap (λ ms. get_or ms item.offset 0) step.marks
+    ∙ get_or-replicate (lanes_in lanes.sensitive) item.offset mark 0 c.lane in
+    omega (arith, late, at)
+
+-- the marks before a turn
+pub marks_low : (before after : Reader) (lanes lanes' : HfLanes) (was put : HeldMerger) (position : ℕ)
+    → AreInStep before lanes was → put.marks ≡ was.marks → position_of before ≤ position_of after
+    → lanes'.sensitive ≡ lanes.sensitive → position ≡ position_of after
+    → All (λ mark. mark ≤ position / 4 - behind lanes'.sensitive) put.marks
+marks_low before after lanes lanes' was put position step kept up same here =
+    marks_rise put.marks (lanes_in lanes'.sensitive) (position_of before / 4 - behind lanes'.sensitive)
+    (position / 4 - behind lanes'.sensitive) (kept ∙ step.marks
+    ∙ ap (λ (s : Bool). replicate (lanes_in s) (position_of before / 4 - behind s)) (sym same)) (omega arith)
+
+pub marks_many : (reader : Reader) (lanes lanes' : HfLanes) (was put : HeldMerger) → AreInStep reader lanes was
+    → put.marks ≡ was.marks → lanes'.sensitive ≡ lanes.sensitive → length put.marks ≡ lanes_in lanes'.sensitive
+marks_many reader lanes lanes' was put step kept same =
+    many_of put.marks (lanes_in lanes'.sensitive) (position_of reader / 4 - behind lanes'.sensitive)
+    (kept ∙ step.marks ∙ ap (λ (s : Bool). replicate (lanes_in s) (position_of reader / 4 - behind s)) (sym same))

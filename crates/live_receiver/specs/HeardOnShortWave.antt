@@ -9,7 +9,8 @@ use Rattle.sample_ring.specs.declared.got.Got.{Got}
 use Rattle.frame_merge.specs.declared.candidate.Candidate.{Candidate}
 use Rattle.frame_merge.specs.Merged.{merged, between, not_below}
 use Rattle.frame_merge.specs.Order.{standing}
-use Rattle.slicer_bank.specs.Stretches.{Stretch, stretches, position_after}
+use Rattle.slicer_bank.specs.Stretches.{Stretch, position_after}
+use Rattle.stretch_reader.specs.EachHeard.{IsIn}
 use Rattle.hf_modem.specs.Candidates.{IsCandidate, end_sample}
 use Rattle.hf_sensitive.specs.AddedCandidates.{IsAdded}
 
@@ -53,10 +54,8 @@ IsHeardInOne false stretch item = IsHeardByOne stretch item
 IsHeardInOne true stretch item = IsHeardByOne stretch item ⊎ IsAddedInOne stretch item
 
 -- the item is what a lane hears in the samples of some stretch of these answers
-pub record IsHeardIn (sensitive : Bool) (answers : List Got) (item : Candidate) : Type 0 where
-  pub stretch : Stretch
-  pub is : Contains (stretches answers) stretch
-  pub heard : IsHeardInOne sensitive stretch item
+abbrev pub IsHeardIn : Bool → List Got → Candidate → Type 0
+IsHeardIn sensitive answers item = IsIn (IsHeardInOne sensitive) answers item
 
 -- the items are all that the lanes hear, each once, by end and then lane
 pub record AreHeard (sensitive : Bool) (answers : List Got) (items : List Candidate) : Type 0 where

@@ -30,7 +30,7 @@ detection_of (OfFx25 receiver) = Flags (flags_of_blocks receiver)
 -- its readers
 abbrev pub readers_in : LiveReceiver → List Reader
 readers_in (OfBell202 receiver) = readers_of_tones receiver
-readers_in (OfShortWave receiver) = receiver.lanes.reader ∷ []
+readers_in (OfShortWave receiver) = receiver.reader ∷ []
 readers_in (OfFx25 receiver) = receiver.reader ∷ []
 
 -- their records

@@ -1,24 +1,19 @@
 //! From what the lanes of short wave hear to the items that are due.
 
-ghost use Rattle.std.specs.Prelude.{◌≡◌, ◌+◌, ◌-◌, ◌/◌, ◌^◌, ◌<◌, ◌≤◌, ◌++◌, List, length, map, replicate, true, false};
-ghost use Rattle.std.specs.Prelude.{IfOk, OnOk, IfSome, option_map};
+ghost use Rattle.std.specs.Prelude.{◌≡◌, ◌-◌, ◌/◌, ◌^◌, ◌<◌, ◌≤◌, ◌++◌, List, length, replicate, true, false, IfOk, OnOk};
 ghost use Rattle.std.specs.List.{All};
-ghost use Rattle.std.specs.Option.{option_to_list};
 ghost use Rattle.frame_merge.specs.declared.candidate.Candidate.{Candidate};
 ghost use Rattle.frame_merge.specs.Held.{StandsFor, least};
 ghost use Rattle.frame_merge.specs.Merged.{merged, below};
 ghost use Rattle.frame_merge.specs.Order.{in_order};
-ghost use Rattle.hf_sensitive.specs.Found.{CanBePutFrom, least_end};
-ghost use Rattle.live_receiver.specs.HeardOnShortWave.{behind, lanes_in, moved_added, placed};
+ghost use Rattle.slicer_bank.specs.Merging.{AreInTime};
+ghost use Rattle.live_receiver.specs.HeardOnShortWave.{behind, lanes_in};
 ghost use Rattle.live_receiver.specs.HfTurns.{PutsMore};
 
 use frame_merge::{Candidate, Merger};
 use hf_modem::{OFFSETS, SAMPLES_AN_END};
 use hf_sensitive::{BEHIND, LANES as ALL_LANES};
 use tnc_base::OutOfMemory;
-
-/// The lanes of one reader of samples, of which a place names one.
-const LANES: u64 = OFFSETS as u64;
 
 /// How many lanes listen.
 pub(crate) fn lanes_in(sensitive: bool) -> u8
@@ -34,47 +29,15 @@ fn behind(sensitive: bool) -> u64
     if sensitive { BEHIND } else { 0 }
 }
 
-/// Puts what one of the 32 lanes heard into a merger, as ending at a place of the whole input.
-pub(crate) fn put(
-    merger: &mut Merger,
-    heard: Option<Candidate>,
-    place: u64,
-) -> Result<(), OutOfMemory>
-    requires lanes { 32 ≤ length merger.old.marks }
-    requires marks { All (λ mark. mark ≤ place / 4) merger.old.marks }
-    ensures put { OnOk result (PutsMore merger.old merger.new (option_to_list (option_map (placed place) heard))) }
+/// Puts what the lanes heard into a merger, in its order.
+pub(crate) fn put_all(merger: &mut Merger, items: Vec<Candidate>) -> Result<(), OutOfMemory>
+    requires items { All (λ item. (item.offset < length merger.old.marks) × (item.end < 2 ^ 64 - 1)) items.items }
+    requires in_time { AreInTime merger.old.marks items.items }
+    ensures put { OnOk result (PutsMore merger.old merger.new items.items) }
     ensures marks { merger.new.marks ≡ merger.old.marks }
 {
-    let Some(heard) = heard else {
-        return Ok(());
-    };
-    merger.put_in_time(Candidate {
-        end: place / SAMPLES_AN_END,
-        offset: (place % LANES) as u8,
-        octets: heard.octets,
-    })
-}
-
-/// Puts what the added lanes heard after so many samples of a stretch, which begins at a place of the whole input.
-pub(crate) fn put_added(
-    merger: &mut Merger,
-    heard: Vec<Candidate>,
-    begin: u64,
-    position: u64,
-) -> Result<(), OutOfMemory>
-    requires lanes { length merger.old.marks ≡ 59 }
-    requires place { begin + position < 2 ^ 48 }
-    requires heard { All (CanBePutFrom (least_end position)) heard.items }
-    requires marks { All (λ mark. mark ≤ (begin + position) / 4 - 17) merger.old.marks }
-    ensures put { OnOk result (PutsMore merger.old merger.new (map (moved_added begin) heard.items)) }
-    ensures marks { merger.new.marks ≡ merger.old.marks }
-{
-    for item in heard {
-        merger.put_in_time(Candidate {
-            end: (begin + SAMPLES_AN_END * item.end) / SAMPLES_AN_END,
-            offset: item.offset,
-            octets: item.octets,
-        })?;
+    for item in items {
+        merger.put_in_time(item)?;
     }
     Ok(())
 }

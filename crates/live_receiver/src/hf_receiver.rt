@@ -1,8 +1,8 @@
 //! The receiver of short wave: one reader of a ring in, the frames that are due out, turn by turn.
 
 use crate::hf_hearing::hear;
+use crate::hf_lanes::HfLanes;
 use crate::hf_merging::lanes_in;
-use crate::hf_ring::HfRing;
 use frame_merge::Merger;
 use ring_receiver::Heard;
 use sample_ring::{Reader, Ring};
@@ -15,7 +15,9 @@ use tnc_base::OutOfMemory;
 /// and each wants memory.
 #[derive(Drop)]
 pub struct HfReceiver {
-    lanes: HfRing,
+    alloc: Global,
+    reader: Reader,
+    lanes: HfLanes,
     merger: Merger,
     // The Vec that the reader came in. It has room for it and is empty until it goes back.
     room: Vec<Reader>,
@@ -24,19 +26,19 @@ pub struct HfReceiver {
 
 impl Model for HfReceiver {
     ghost use Rattle.std.specs.Prelude.{◌≡◌, ◌≤◌, [], false, vec_capacity};
-    ghost use Rattle.live_receiver.specs.HeldHf.{HeldHf, AreInStep};
+    ghost use Rattle.live_receiver.specs.HeldHf.{HeldHf, AreInStep, hf_of};
 
     ghost Value = { HeldHf };
 
-    ghost view = { λ s. record { lanes = s.lanes; merger = s.merger; spent = s.spent } };
+    ghost view = { λ s. hf_of s.reader s.lanes s.merger s.spent };
 
     ghost invariant = { λ s. (s.room.items ≡ []) × (1 ≤ vec_capacity s.room)
-        × (s.spent ≡ false → AreInStep s.lanes s.merger) };
+        × (s.spent ≡ false → AreInStep s.reader s.lanes s.merger) };
 }
 
 impl HfReceiver {
     ghost use Rattle.std.specs.Prelude.{◌≡◌, ℕ, ◌≤◌, ◌↔◌, List, [], ◌∷◌, ◌++◌, length, true, false, IfOk, OnOk, OnErr};
-    ghost use Rattle.std.specs.Prelude.{IsErr, IsTrue};
+    ghost use Rattle.std.specs.Prelude.{IsErr, IsTrue, vec_capacity};
     ghost use Rattle.std.specs.List.{All};
     ghost use Rattle.hdlc_framer.specs.FrameLength.{HasFrameLength};
     ghost use Rattle.sample_ring.specs.declared.view.Entry.{Entry};
@@ -59,7 +61,7 @@ impl HfReceiver {
         requires one { length readers.items ≡ 1 }
         requires fresh { All IsNew readers.items }
         requires flags { (1 ≤ flags) × (flags ≤ 8) }
-        ensures readers { IfOk result (λ receiver. receiver.lanes.reader ∷ [] ≡ readers.items) }
+        ensures readers { IfOk result (λ receiver. receiver.reader ∷ [] ≡ readers.items) }
         ensures hears { IfOk result (λ receiver. (len : ℕ) → HfHears len receiver) }
         ensures nothing { IfOk result (λ receiver. (len : ℕ) → hf_answers len receiver ≡ []) }
         ensures flags { IfOk result (λ receiver. flags_of_hf receiver ≡ flags) }
@@ -68,20 +70,41 @@ impl HfReceiver {
         let Some(reader) = readers.pop() else {
             unreachable!()
         };
+        HfReceiver::of_reader(alloc, reader, readers, flags, sensitive)
+    }
+
+    /// A receiver of this reader, and the Vec that the reader goes back to.
+    fn of_reader(
+        alloc: Global,
+        reader: Reader,
+        room: Vec<Reader>,
+        flags: u8,
+        sensitive: bool,
+    ) -> Result<HfReceiver, OutOfMemory>
+        requires fresh { IsNew reader }
+        requires room { (room.items ≡ []) × (1 ≤ vec_capacity room) }
+        requires flags { (1 ≤ flags) × (flags ≤ 8) }
+        ensures reader { IfOk result (λ receiver. receiver.reader ≡ reader) }
+        ensures hears { IfOk result (λ receiver. (len : ℕ) → HfHears len receiver) }
+        ensures nothing { IfOk result (λ receiver. (len : ℕ) → hf_answers len receiver ≡ []) }
+        ensures flags { IfOk result (λ receiver. flags_of_hf receiver ≡ flags) }
+        ensures sensitive { IfOk result (λ receiver. sensitive_of_hf receiver ≡ sensitive) }
+    {
         Ok(HfReceiver {
-            lanes: HfRing::new(alloc, reader, flags, sensitive)?,
+            alloc,
+            reader,
+            lanes: HfLanes::new(alloc, flags, sensitive)?,
             merger: Merger::new(alloc, lanes_in(sensitive))?,
-            room: readers,
+            room,
             spent: false,
         })
     }
 
     /// The reader reads until the ring is empty or has ended, or 9600 times.
     pub fn advance(&mut self, ring: &Ring) -> Result<Heard, OutOfMemory>
-        requires { reader_ring self.old.lanes.reader ≡ ring_id ring.now }
-        ensures ring { reader_ring self.new.lanes.reader ≡ ring_id ring.now }
-        ensures grown { (entries : List Entry)
-            × (reads_of self.new.lanes.reader ≡ reads_of self.old.lanes.reader ++ entries) }
+        requires { reader_ring self.old.reader ≡ ring_id ring.now }
+        ensures ring { reader_ring self.new.reader ≡ ring_id ring.now }
+        ensures grown { (entries : List Entry) × (reads_of self.new.reader ≡ reads_of self.old.reader ++ entries) }
         ensures turn { IfOk result (λ heard. IsTurnOf 1 (hf_answers (ring_len ring.now) self.old ∷ [])
             (hf_answers (ring_len ring.now) self.new ∷ []) heard.gaps.items heard.ended) }
         ensures due { IfOk result (λ heard. HfHears (ring_len ring.now) self.old
@@ -106,7 +129,13 @@ impl HfReceiver {
             return Err(OutOfMemory);
         }
         self.spent = true;
-        let heard = hear(ring, &mut self.lanes, &mut self.merger)?;
+        let heard = hear(
+            self.alloc,
+            ring,
+            &mut self.reader,
+            &mut self.lanes,
+            &mut self.merger,
+        )?;
         self.spent = heard.ended;
         Ok(heard)
     }
@@ -122,14 +151,14 @@ impl HfReceiver {
 
     /// Its reader, in the Vec that it was made of. It takes no memory.
     pub fn finish(self) -> Vec<Reader>
-        ensures { result.items ≡ self.lanes.reader ∷ [] }
+        ensures { result.items ≡ self.reader ∷ [] }
     {
         let HfReceiver {
-            lanes,
+            reader,
             mut room,
             ..
         } = self;
-        room.push_reserved(lanes.reader);
+        room.push_reserved(reader);
         room
     }
 }

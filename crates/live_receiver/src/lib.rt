@@ -9,10 +9,10 @@
 #![tactic(auto)]
 
 mod hf_hearing;
+mod hf_lanes;
 mod hf_merging;
+mod hf_placing;
 mod hf_receiver;
-mod hf_ring;
-mod hf_turn;
 mod laws;
 mod listening;
 mod receiver;

@@ -1,9 +1,7 @@
 pub mod Common
 pub mod ReaderLemmas
 pub mod AnswerLemmas
-pub mod StretchWalks
 pub mod AddedLemmas
-pub mod AddedTurnLemmas
 pub mod MergeLemmas
 pub mod MovedLemmas
 pub mod TurnLemmas

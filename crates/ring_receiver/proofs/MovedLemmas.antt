@@ -5,37 +5,39 @@ use Rattle.ring_receiver.proofs.Common.{nil_from_length, map-append, All-append,
 use Rattle.ring_receiver.proofs.Common.{CanBePutFrom, IsAddedFrom, moved}
 use Rattle.sensitive_receiver.specs.Found.{HasRoom}
 
--- so many of the candidates that were heard are moved and found, and so many others are left
-pub record HasMoved (begin : ℕ) (before found all items left : List Candidate) (count : ℕ) : Type 0 where
-  pub is : found ≡ before ++ map (moved begin) items
+-- so many of the candidates that were heard are moved to their place and added, and so many others are left
+pub record HasMoved (to_place : Candidate → Candidate) (before added all items left : List Candidate) (count : ℕ)
+    : Type 0 where
+  pub is : added ≡ before ++ map to_place items
   pub parts : items ++ left ≡ all
   pub counted : length left ≡ count
 
-pub moved_more : (begin : ℕ) (before found found' all items left rest : List Candidate) (count less : ℕ)
-    (item : Candidate) → HasMoved begin before found all items left count → left ≡ item ∷ rest → less + 1 ≡ count
-    → found' ≡ found ++ moved begin item ∷ [] → HasMoved begin before found' all (items ++ item ∷ []) rest less
-moved_more begin before found found' all items left rest count less item h is fewer put = record {
-  is = put ∙ ap (λ f. f ++ moved begin item ∷ []) h.is
-      ∙ append_assoc before (map (moved begin) items) (moved begin item ∷ [])
-      ∙ ap (λ m. before ++ m) (sym (map-append (moved begin) items (item ∷ [])));
+pub moved_more : (to_place : Candidate → Candidate) (before added after all items left rest : List Candidate)
+    (count less : ℕ) (item : Candidate) → HasMoved to_place before added all items left count → left ≡ item ∷ rest
+    → less + 1 ≡ count → after ≡ added ++ to_place item ∷ []
+    → HasMoved to_place before after all (items ++ item ∷ []) rest less
+moved_more to_place before added after all items left rest count less item h is fewer put = record {
+  is = put ∙ ap (λ f. f ++ to_place item ∷ []) h.is ∙ append_assoc before (map to_place items) (to_place item ∷ [])
+      ∙ ap (λ m. before ++ m) (sym (map-append to_place items (item ∷ [])));
   parts = append_assoc items (item ∷ []) rest ∙ ap (λ t. items ++ t) (sym is) ∙ h.parts;
   counted = (let c = h.counted in let l : length left ≡ length (item ∷ rest) = ap length is in omega arith);
 }
 
-pub moved_all : (begin : ℕ) (before found all items left : List Candidate) (count : ℕ)
-    → HasMoved begin before found all items left count → count ≡ 0 → found ≡ before ++ map (moved begin) all
-moved_all begin before found all items left count h none =
+pub moved_all : (to_place : Candidate → Candidate) (before added all items left : List Candidate) (count : ℕ)
+    → HasMoved to_place before added all items left count → count ≡ 0 → added ≡ before ++ map to_place all
+moved_all to_place before added all items left count h none =
     let empty : left ≡ [] = nil_from_length left (h.counted ∙ none) in
-    h.is ∙ ap (λ l. before ++ map (moved begin) l) (sym (append-nil items) ∙ ap (λ t. items ++ t) (sym empty) ∙ h.parts)
+    h.is ∙ ap (λ l. before ++ map to_place l) (sym (append-nil items) ∙ ap (λ t. items ++ t) (sym empty) ∙ h.parts)
 
--- the next of them has room to be moved
-pub next_has_room : (begin : ℕ) (before found all items left rest : List Candidate) (count : ℕ) (item : Candidate)
-    → HasMoved begin before found all items left count → left ≡ item ∷ rest → All HasRoom all → HasRoom item
-next_has_room begin before found all items left rest count item h is each =
+-- the next of them is one of all
+pub next_is_one : (P : Candidate → Type 0) (to_place : Candidate → Candidate)
+    (before added all items left rest : List Candidate) (count : ℕ) (item : Candidate)
+    → HasMoved to_place before added all items left count → left ≡ item ∷ rest → All P all → P item
+next_is_one P to_place before added all items left rest count item h is each =
     let whole : items ++ item ∷ rest ≡ all = ap (λ t. items ++ t) (sym is) ∙ h.parts in
     let within : length items < length all = (let l : length (items ++ item ∷ rest) ≡ length all = ap length whole in
     let m = length-append items (item ∷ rest) in omega arith) in
-    subst HasRoom (ap (λ t. get_or t (length items) item) (sym whole) ∙ get_or-append_seam items item rest item)
+    subst P (ap (λ t. get_or t (length items) item) (sym whole) ∙ get_or-append_seam items item rest item)
     (each (length items) item within)
 
 -- what is moved can be put into a merger, and does not end below where it was heard, moved too

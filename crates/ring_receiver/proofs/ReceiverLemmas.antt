@@ -1,12 +1,12 @@
 -- What a turn makes of a receiver: with the eight lanes alone, and with the added ones.
-use Rattle.ring_receiver.proofs.Common.{Some, None, min, ◌≡◌, ℕ, ◌+◌, ◌-◌, ◌<◌, ◌≤◌, Bool, true, false, ◌&&◌, List, []}
+use Rattle.ring_receiver.proofs.Common.{Some, None, min, ◌≡◌, ℕ, ◌+◌, ◌-◌, ◌^◌, ◌<◌, ◌≤◌, Bool, true, false, ◌&&◌, List, []}
 use Rattle.ring_receiver.proofs.Common.{◌∷◌, ◌++◌, length, map, replicate, get_or, refl, ap, sym, subst, ◌∙◌, arith}
 use Rattle.ring_receiver.proofs.Common.{length-append, get_or-append-add, All, length-map, map-append}
 use Rattle.ring_receiver.proofs.Common.{get_or_append_left, get_or-replicate, All-push, Got, Reader, Entry, Track}
-use Rattle.ring_receiver.proofs.Common.{position_of, reads_of, reader_ring, answer, Candidate, least, LaneGap}
+use Rattle.ring_receiver.proofs.Common.{position_of, reads_of, reader_ring, Candidate, least, LaneGap}
 use Rattle.ring_receiver.proofs.Common.{least_position, answers_of, Listens, HasMerged, AreGrown, IsTurn, BringsOnRing}
-use Rattle.ring_receiver.proofs.Common.{CanBePut, IsAddedFrom, position_after, least_rises, leads_position, leads_up}
-use Rattle.ring_receiver.proofs.Common.{AddedRing, AddedTurn, MadeAddedTurn, AreAddedSince, BringsByAll, AreHeardBy}
+use Rattle.ring_receiver.proofs.Common.{CanBePut, CanBePutFrom, position_after, least_rises, leads_position}
+use Rattle.ring_receiver.proofs.Common.{AddedRing, Turn, MadeAddedTurn, AreAddedSince, BringsByAll, AreHeardBy}
 use Rattle.ring_receiver.proofs.Common.{AreMergedBy, AreRestBy, AreDueBy, settled_position, HasMergedBy, AddedListens}
 use Rattle.ring_receiver.proofs.Common.{held_of, IsTurnOf, AreGrownBy}
 use Rattle.std.specs.Prelude.{Result, Ok, Err, IfOk}
@@ -20,8 +20,9 @@ use Rattle.slicer_bank.specs.RingLanes.{positions_in as positions_of_bank, answe
 use Rattle.slicer_bank.specs.RingTurns.{ArePast}
 use Rattle.slicer_bank.specs.Merging.{CanBePut as CanBePutOfEight, AreInTime}
 use Rattle.ring_receiver.specs.declared.heard.Heard.{Heard}
-use Rattle.ring_receiver.specs.HeldReceiver.{Hears}
+use Rattle.ring_receiver.specs.HeldReceiver.{Hears, place_of}
 use Rattle.ring_receiver.specs.ReceiverTurns.{AreInStep, MakesTurn, ReadersStay}
+use Rattle.ring_receiver.proofs.AddedLemmas.{answers_more, listens_more, since}
 use Rattle.ring_receiver.proofs.LengthLemmas.{due_lengths}
 use Rattle.ring_receiver.proofs.TurnLemmas.{grown_nine, turn_eight, turn_nine, brings_nine, least_nine}
 
@@ -87,7 +88,7 @@ module _ (len : ℕ) (old new : HeldRingBank) (was now : HeldMerger) (heard : He
     least = lowest_now;
     forward = λ h. subst (λ p. least_position (answers_of_bank len old) ≤ p) (sym (lowest_now h))
         (least_rises (answers_of_bank len old) (answers_of_bank len new) positions candidates (brings h.eight));
-    step = λ e. record { read = refl; marks = marks e ∙ stand };
+    step = λ e. record { read = refl; room = omega arith; marks = marks e ∙ stand };
   }
 
 pub eight_stay : (ring : TableId) (old new : HeldRingBank) (was now : HeldMerger)
@@ -121,19 +122,9 @@ all_stay ring old new added added' was now entries many_old many rings own grown
       sensitive = refl;
     }
 
--- the added lanes have read more
-module _ (len : ℕ) (added added' : AddedRing) (turn : AddedTurn) (made : MadeAddedTurn len added added' turn) where
-  answers_more : answers_of len added'.reader ≡ answers_of len added.reader ++ made.answers
-  answers_more =
-      ap (map (answer len)) made.on.read ∙ map-append (answer len) (reads_of added.reader) made.on.entries
-      ∙ ap (λ t. answers_of len added.reader ++ t) (sym made.on.are)
-
-  pub goes_forward : position_of added.reader ≤ position_of added'.reader
-  goes_forward = leads_up (position_of added.reader) made.answers (position_of added'.reader) made.on.forward
-
 module _ (len : ℕ) (old new : HeldRingBank) (added added' : AddedRing) (was now : HeldMerger) (heard : Heard)
     (positions : List ℕ) (position : ℕ) (candidates : List Candidate) (gaps : List LaneGap) (ended : Bool)
-    (turn : AddedTurn)
+    (turn : Turn)
     (many_old : length (readers_of_bank old) ≡ 8) (many : length (readers_of_bank new) ≡ 8)
     (first : IsTurn (answers_of_bank len old) (answers_of_bank len new) gaps ended)
     (listens : Listens len old → Listens len new)
@@ -141,14 +132,15 @@ module _ (len : ℕ) (old new : HeldRingBank) (added added' : AddedRing) (was no
     → BringsOnRing (answers_of_bank len old) (answers_of_bank len new) positions candidates)
     (stand : positions ≡ positions_of_bank new)
     (made : MadeAddedTurn len added added' turn) (here : position ≡ position_of added'.reader)
-    (at : added'.begin + added'.bank.position ≡ position_of added'.reader)
+    (comes : All (CanBePutFrom (position_of added.reader - 32)) turn.items.items)
+    (at : place_of added'.lanes ≡ position_of added'.reader) (room : position_of added'.reader < 2 ^ 48)
     (over : heard.ended ≡ (ended && turn.ended)) (told : heard.gaps.items ≡ gaps ++ turn.gaps.items)
     (merges : heard.ended ≡ false → (b n : List (List Got)) → HasMergedBy true was b
-    → BringsByAll b n positions position candidates turn.candidates.items
+    → BringsByAll b n positions position candidates turn.items.items
     → HasMergedBy true now n
     × AreMergedBy true (settled_position true b) (settled_position true n) n heard.items.items)
     (rests : heard.ended ≡ true → (b n : List (List Got)) → HasMergedBy true was b
-    → BringsByAll b n positions position candidates turn.candidates.items
+    → BringsByAll b n positions position candidates turn.items.items
     → AreRestBy true (settled_position true b) n heard.items.items)
     (marks : heard.ended ≡ false → now.marks ≡ positions ++ replicate 18 (position - 32))
     (lowest : heard.least ≡ min (least positions) position) where
@@ -181,10 +173,10 @@ module _ (len : ℕ) (old new : HeldRingBank) (added added' : AddedRing) (was no
 
   module _ (h : Hears len (held_of old (Some added) was false)) where
     others : AddedListens len added'
-    others = (made.on.heard h.added).0
+    others = listens_more len added added' turn made h.added
 
-    since : AreAddedSince (answers_of len added.reader) (answers_of len added'.reader) turn.candidates.items
-    since = (made.on.heard h.added).1
+    adds : AreAddedSince (answers_of len added.reader) (answers_of len added'.reader) turn.items.items
+    adds = since len added added' turn made h.added comes
 
     there : position ≡ position_after (answers_of len added'.reader)
     there = here ∙ sym (leads_position (answers_of len added'.reader) (position_of added'.reader) others.lead)
@@ -195,14 +187,14 @@ module _ (len : ℕ) (old new : HeldRingBank) (added added' : AddedRing) (was no
     many_now : length (answers_of_bank len new) ≡ 8
     many_now = length-map (readers_of_bank new) (answers_of len) ∙ many
 
-    brought : BringsByAll b n positions position candidates turn.candidates.items
+    brought : BringsByAll b n positions position candidates turn.items.items
     brought =
-        subst (λ t. BringsByAll t n positions position candidates turn.candidates.items) b_is
+        subst (λ t. BringsByAll t n positions position candidates turn.items.items) b_is
         (subst (λ t. BringsByAll (answers_of_bank len old ++ answers_of len added.reader ∷ []) t positions position
-        candidates turn.candidates.items) n_is
+        candidates turn.items.items) n_is
         (brings_nine (answers_of_bank len old) (answers_of_bank len new) (answers_of len added.reader)
-        (answers_of len added'.reader) positions position candidates turn.candidates.items
-        many_before many_now (brings h.eight) since there))
+        (answers_of len added'.reader) positions position candidates turn.items.items
+        many_before many_now (brings h.eight) adds there))
 
     merged : HasMergedBy true was b
     unfolding b
@@ -222,7 +214,7 @@ module _ (len : ℕ) (old new : HeldRingBank) (added added' : AddedRing) (was no
     rises =
         let eight = least_rises (answers_of_bank len old) (answers_of_bank len new) positions candidates
         (brings h.eight) in
-        let one = since.forward in
+        let one = adds.forward in
         let before : least_position b
         ≡ min (least_position (answers_of_bank len old)) (position_after (answers_of len added.reader))
         = ap least_position (sym b_is) ∙ least_nine (answers_of_bank len old) (answers_of len added.reader) in
@@ -253,6 +245,7 @@ module _ (len : ℕ) (old new : HeldRingBank) (added added' : AddedRing) (was no
         subst (λ p. least_position b ≤ p) (sym low) up;
     step = λ e. record {
       read = at;
+      room = room;
       marks = marks e ∙ ap (λ p. p ++ replicate 18 (position - 32)) stand
           ∙ ap (λ p. positions_of_bank new ++ replicate 18 (p - 32)) here;
     };
@@ -315,15 +308,18 @@ eight_in_time_of_all old added was items many step can past = λ k d l.
     (omega arith) in
     omega arith
 
+pub added_can : (low : ℕ) (items : List Candidate) → All (CanBePutFrom low) items → All CanBePut items
+added_can low items h k d l = (h k d l).can
+
 pub added_in_time : (old : HeldRingBank) (added : AddedRing) (was : HeldMerger) (items : List Candidate)
-    → length (readers_of_bank old) ≡ 8 → AreInStep old (Some added) was → All CanBePut items
-    → All (IsAddedFrom (position_of added.reader - 32)) items → AreInTime was.marks items
-added_in_time old added was items many step can late = λ k d l.
+    → length (readers_of_bank old) ≡ 8 → AreInStep old (Some added) was
+    → All (CanBePutFrom (position_of added.reader - 32)) items → AreInTime was.marks items
+added_in_time old added was items many step comes = λ k d l.
     let item : Candidate = get_or items k d in
-    let end = (late k d l).end in
+    let end = (comes k d l).from.end in
     let size = length-map (readers_of_bank old) position_of in
-    let low = (late k d l).lane in
-    let most = (can k d l).lane in
+    let low = (comes k d l).from.lane in
+    let most = (comes k d l).can.lane in
     let mark : ℕ = position_of added.reader - 32 in
     let at : item.offset ≡ length (positions_of_bank old) + (item.offset - 8) = omega arith in
     let is : get_or was.marks item.offset 0 ≡ mark

@@ -11,6 +11,12 @@ use Rattle.sensitive_receiver.specs.AddedCandidates.{IsAdded}
 abbrev pub moved : ℕ → Candidate → Candidate
 moved begin heard = record heard { end = begin + heard.end }
 
+-- the item is what an added lane hears in a stretch
+pub record IsAddedInOne (stretch : Stretch) (item : Candidate) : Type 0 where
+  pub heard : Candidate
+  pub added : IsAdded stretch.samples heard
+  pub item_is : item ≡ moved stretch.begin heard
+
 -- the item is what an added lane hears in the samples of some stretch of these answers
 pub record IsAddedIn (answers : List Got) (item : Candidate) : Type 0 where
   pub stretch : Stretch

@@ -15,9 +15,13 @@ use Rattle.slicer_bank.specs.RingLanes.{positions_in as positions_of_bank}
 use Rattle.slicer_bank.specs.HeardOnRing.{lane_of, lane_positions}
 use Rattle.slicer_bank.specs.RingMerging.{HasMerged}
 use Rattle.slicer_bank.specs.RingTurns.{Leads}
-use Rattle.slicer_bank.specs.Stretches.{Stretch, last_stretch, position_after}
+use Rattle.slicer_bank.specs.Stretches.{Stretch, position_after}
 use Rattle.sensitive_receiver.specs.HeldLanes.{StandsFor as AddedStandsFor}
+use Rattle.stretch_reader.specs.EachHeard.{AreAllIn}
+use Rattle.stretch_reader.specs.Turns.{HaveHeard}
+use Rattle.ring_receiver.specs.declared.added_lanes.AddedLanes.{AddedLanes}
 use Rattle.ring_receiver.specs.declared.added_ring.AddedRing.{AddedRing}
+use Rattle.ring_receiver.specs.AddedOnRing.{IsAddedInOne}
 use Rattle.ring_receiver.specs.HeardByAll.{AreHeardBy, settled_position}
 
 -- the eight lanes, the added ones if they listen, and the merger of what all of them hear; and whether memory was
@@ -48,14 +52,24 @@ abbrev pub answers_in : ℕ → HeldReceiver → List (List Got)
 answers_in len receiver = map (answers_of len) (readers_in receiver)
 
 -- the added lanes have heard a stretch
-pub record StandsForStretch (added : AddedRing) (stretch : Stretch) : Type 0 where
-  pub begin : added.begin ≡ stretch.begin
-  pub lanes : AddedStandsFor added.bank stretch.samples
+pub record StandsForStretch (lanes : AddedLanes) (stretch : Stretch) : Type 0 where
+  pub begin : lanes.begin ≡ stretch.begin
+  pub samples : AddedStandsFor lanes.bank stretch.samples
 
--- the added lanes have heard the last stretch of their reader's answers, which lead to its position
+-- and gave these items of it, which are all that they hear in it
+pub record HoldStretch (lanes : AddedLanes) (stretch : Stretch) (items : List Candidate) : Type 0 where
+  pub stands : StandsForStretch lanes stretch
+  pub are : AreAllIn IsAddedInOne stretch items
+
+-- the position of their next sample
+abbrev pub place_of : AddedLanes → ℕ
+place_of lanes = lanes.begin + lanes.bank.position
+
+-- the added lanes have heard all that their reader was answered, which leads to its position
 pub record AddedListens (len : ℕ) (added : AddedRing) : Type 0 where
   pub lead : Leads 0 (answers_of len added.reader) (position_of added.reader)
-  pub stands : StandsForStretch added (last_stretch (answers_of len added.reader))
+  pub given : List Candidate
+  pub heard : HaveHeard (AreAllIn IsAddedInOne) (HoldStretch added.lanes) (answers_of len added.reader) given
 
 -- so they have, if they listen
 abbrev pub AddedListenIf : ℕ → Option AddedRing → Type 0
@@ -70,7 +84,7 @@ marks_of bank (Some added) = positions_of_bank bank ++ replicate 18 (position_of
 -- how far the added lanes have heard, and how far their reader has read
 abbrev pub heard_to : Option AddedRing → ℕ
 heard_to None = 0
-heard_to (Some added) = added.begin + added.bank.position
+heard_to (Some added) = place_of added.lanes
 
 abbrev pub read_to : Option AddedRing → ℕ
 read_to None = 0

@@ -1,5 +1,5 @@
 -- What a turn makes of a receiver.
-use Rattle.std.specs.Prelude.{◌≡◌, ℕ, ◌≤◌, Bool, false, Option, length, is_some}
+use Rattle.std.specs.Prelude.{◌≡◌, ℕ, ◌<◌, ◌≤◌, ◌^◌, Bool, false, Option, length, is_some}
 use Rattle.std.specs.List.{All}
 use Rattle.atomic_table.specs.Seated.{TableId}
 use Rattle.hdlc_framer.specs.FrameLength.{HasFrameLength}
@@ -30,6 +30,7 @@ held_of bank added merger spent = record {
 -- marks are in place
 pub record AreInStep (bank : HeldRingBank) (added : Option AddedRing) (merger : HeldMerger) : Type 0 where
   pub read : heard_to added ≡ read_to added
+  pub room : read_to added < 2 ^ 48
   pub marks : merger.marks ≡ marks_of bank added
 
 -- the readers are still those of a ring, and have only read more

@@ -8,8 +8,8 @@
 //! each as soon as no lane can hear anything that ends before it.
 #![tactic(auto)]
 
+mod added_lanes;
 mod added_ring;
-mod added_turn;
 mod heard;
 mod laws;
 mod merging;

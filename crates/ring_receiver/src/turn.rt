@@ -77,7 +77,7 @@ pub(crate) fn hear_all<R: Threads + Sync, G: Gate>(
     let items = merge_all(
         merger,
         advance.candidates,
-        turn.candidates,
+        turn.items,
         &advance.positions,
         position,
         ended,

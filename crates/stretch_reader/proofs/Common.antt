@@ -13,14 +13,16 @@ pub use Rattle.slicer_bank.specs.RingTurns.{IsReading, Leads, MeetsEnd, gaps_of,
 pub use Rattle.slicer_bank.specs.Stretches.{Stretch, last_stretch, stretch_after, stretch_at, stretches}
 pub use Rattle.slicer_bank.specs.Stretches.{stretches_from, with_sample}
 pub use Rattle.slicer_bank.specs.declared.advance.LaneGap.{LaneGap}
-pub use Rattle.std.proofs.Common.{Bool, List, [], ap, append_assoc, arith, false, fold, inl, inr, length, map, refl}
-pub use Rattle.std.proofs.Common.{subst, suc, sym, true, zero, ℕ, ◌++◌, ◌+◌, ◌<◌, ◌^◌, ◌↔◌, ◌∙◌, ◌∷◌, ◌≡◌, ◌≤◌}
+pub use Rattle.std.proofs.Common.{Bool, List, [], ap, append_assoc, arith, false, fold, get_or, inl, inr, length, map, refl}
+pub use Rattle.std.proofs.Common.{subst, suc, sym, true, zero, ℕ, ℤ, ⊎_elim, ◌++◌, ◌+◌, ◌<◌, ◌^◌, ◌↔◌, ◌∙◌}
+pub use Rattle.std.proofs.Common.{◌∷◌, ◌≡◌, ◌≢◌, ◌≤◌, ◌⊎◌}
 pub use Rattle.std.proofs.lemmas.Bool.{true≢false}
 pub use Rattle.std.proofs.lemmas.List.{append-nil, length_push, map-append}
 pub use Rattle.std.proofs.lemmas.List.Elements.{All-append, All-nil, All-push, All-tail}
 pub use Rattle.std.specs.List.{All}
+pub use Rattle.stretch_reader.specs.EachHeard.{AreAllIn, AreApart, AreMore, IsIn}
 pub use Rattle.stretch_reader.specs.HeardInStretches.{AreDue, AreDueBy, AreHeardIn, AreHeardOf, AreSettledIn}
 pub use Rattle.stretch_reader.specs.HeardInStretches.{ended_from, ended_stretches}
-pub use Rattle.stretch_reader.specs.Turns.{BeginsAnew, Brings, Finishes, HaveGiven, HaveHeard, HearsWith, MadeTurn, Took}
-pub use Rattle.stretch_reader.specs.Turns.{WentOn}
+pub use Rattle.stretch_reader.specs.Turns.{Brings, Finishes, HaveHeard, HearsWith, HoldBut, ListenBut}
+pub use Rattle.stretch_reader.specs.Turns.{MadeTurn, Took, WentOn, with_samples}
 pub use Rattle.stretch_reader.specs.declared.turn.Turn.{Turn}

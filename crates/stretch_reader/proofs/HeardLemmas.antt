@@ -2,7 +2,7 @@
 use Rattle.stretch_reader.proofs.Common.{◌≡◌, Bool, true, false, List, [], ◌∷◌, ◌++◌, refl, ap, sym, subst, ◌∙◌}
 use Rattle.stretch_reader.proofs.Common.{append_assoc, append-nil, fold, All, All-append, All-nil, All-tail, Got, Item, Gap}
 use Rattle.stretch_reader.proofs.Common.{Empty, End, Candidate, Stretch, stretch_at, with_sample, stretch_after}
-use Rattle.stretch_reader.proofs.Common.{stretches_from, last_stretch, AreDueBy, AreHeardIn, AreHeardOf, AreSettledIn}
+use Rattle.stretch_reader.proofs.Common.{stretches_from, last_stretch, AreDueBy, AreHeardIn, AreHeardOf}
 use Rattle.stretch_reader.proofs.Common.{AreDue, ended_from, ended_stretches}
 
 -- ---- the stretches of answers, and the last of them

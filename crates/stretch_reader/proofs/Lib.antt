@@ -2,3 +2,4 @@ pub mod Common
 pub mod HeardLemmas
 pub mod GoingOn
 pub mod TurnLemmas
+pub mod EachHeardLemmas

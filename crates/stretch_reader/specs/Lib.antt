@@ -1,2 +1,3 @@
 pub mod HeardInStretches
+pub mod EachHeard
 pub mod Turns

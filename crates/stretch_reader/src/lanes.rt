@@ -1,27 +1,28 @@
 //! Lanes that hear samples stretch by stretch.
 
-ghost use Rattle.std.specs.Prelude.{◌≡◌, ◌+◌, ◌-◌, ◌<◌, ◌^◌, ℕ, Bool, List, [], OnOk};
+ghost use Rattle.std.specs.Prelude.{◌≡◌, ◌+◌, ◌<◌, ◌≤◌, ◌^◌, ℕ, Bool, List, [], length, OnOk};
+ghost use Rattle.std.specs.List.{All};
 ghost use Rattle.frame_merge.specs.declared.candidate.Candidate.{Candidate};
-ghost use Rattle.slicer_bank.specs.Stretches.{Stretch, stretch_at, with_sample};
-ghost use Rattle.stretch_reader.specs.Turns.{Brings, Finishes};
+ghost use Rattle.slicer_bank.specs.Stretches.{Stretch, stretch_at};
+ghost use Rattle.stretch_reader.specs.Turns.{Brings, Finishes, with_samples};
 
 use frame_merge::Candidate;
 use tnc_base::OutOfMemory;
 
-/// Lanes that hear samples stretch by stretch: `begin_at`, then `hear` for each sample, then `finish`, and `begin_at` again.
-/// They are sensitive or not, and listen for so many flags in a row, from first to last.
+/// Lanes that hear samples stretch by stretch: `begin_at`, then `hear` for each block of samples, then `finish`, and
+/// `begin_at` again. They are sensitive or not, and listen for so many flags in a row, from first to last.
 pub trait StretchLanes {
     /// What is heard of a stretch that has ended, by whether the lanes are sensitive.
     ghost heard: { Bool → Stretch → List Candidate → Type 0 };
-
-    /// What is due of a stretch that goes on: no sample to come can change it.
-    ghost settled: { Bool → Stretch → List Candidate → Type 0 };
 
     /// The lanes have heard a stretch and gave these items of it.
     ghost holds: { Self → Stretch → List Candidate → Type 0 };
 
     /// The lanes by which other stations are heard have heard a stretch. This outlasts its end.
     ghost listens: { Self → Stretch → Type 0 };
+
+    /// What lanes can give that have come to a position, by whether they are sensitive.
+    ghost comes: { Bool → ℕ → Candidate → Type 0 };
 
     /// The position of the next sample.
     ghost place: { Self → ℕ };
@@ -38,22 +39,24 @@ pub trait StretchLanes {
     /// Begins anew, with the sample at a position as the first.
     fn begin_at(&mut self, position: u64) -> Result<(), OutOfMemory>
         ensures holds { OnOk result (holds self.new (stretch_at position) []) }
-        ensures settled { OnOk result (settled (sensitive self.old) (stretch_at position) []) }
         ensures listens { OnOk result (listens self.new (stretch_at position)) }
         ensures place { OnOk result (place self.new ≡ position) }
         ensures step { OnOk result (in_step self.new) }
         ensures sensitive { sensitive self.new ≡ sensitive self.old }
         ensures flags { flags self.new ≡ flags self.old };
 
-    /// Hears a sample, and adds the items that it settles.
-    fn hear(&mut self, sample: i16, items: &mut Vec<Candidate>) -> Result<(), OutOfMemory>
-        requires room { place self.old < 2 ^ 48 - 1 }
+    /// Hears samples, and adds the items that they settle.
+    fn hear(&mut self, samples: &[i16], items: &mut Vec<Candidate>) -> Result<(), OutOfMemory>
+        requires room { place self.old + length samples.now < 2 ^ 48 }
         requires step { in_step self.old }
         ensures heard { OnOk result ((s : Stretch) (own : List Candidate) → holds self.old s own
-            → Brings (holds self.new) (settled (sensitive self.old)) (with_sample s sample) own items.old.items
-            items.new.items) }
-        ensures listens { OnOk result ((s : Stretch) → listens self.old s → listens self.new (with_sample s sample)) }
-        ensures place { OnOk result (place self.new ≡ place self.old + 1) }
+            → Brings (holds self.new) (with_samples s samples.now) own items.old.items items.new.items) }
+        ensures listens { OnOk result ((s : Stretch) → listens self.old s
+            → listens self.new (with_samples s samples.now)) }
+        ensures comes { (from : ℕ) → from ≤ place self.old
+            → OnOk result (All (comes (sensitive self.old) from) items.old.items
+            → All (comes (sensitive self.old) from) items.new.items) }
+        ensures place { OnOk result (place self.new ≡ place self.old + length samples.now) }
         ensures step { OnOk result (in_step self.new) }
         ensures sensitive { sensitive self.new ≡ sensitive self.old }
         ensures flags { flags self.new ≡ flags self.old };
@@ -65,6 +68,9 @@ pub trait StretchLanes {
         ensures rest { OnOk result ((s : Stretch) (own : List Candidate) → holds self.old s own
             → Finishes (heard (sensitive self.old)) s own items.old.items items.new.items) }
         ensures listens { OnOk result ((s : Stretch) → listens self.old s → listens self.new s) }
+        ensures comes { (from : ℕ) → from ≤ place self.old
+            → OnOk result (All (comes (sensitive self.old) from) items.old.items
+            → All (comes (sensitive self.old) from) items.new.items) }
         ensures sensitive { sensitive self.new ≡ sensitive self.old }
         ensures flags { flags self.new ≡ flags self.old };
 }

@@ -2,8 +2,9 @@ use Rattle.ring_receiver.proofs.Common.{◌≡◌, ◌≤◌, ℕ, List, Bool, �
 use Rattle.ring_receiver.proofs.Common.{ring_id, ring_len, position_of, reads_of}
 use Rattle.slicer_bank.specs.RingLanes.{positions_in as positions_of_bank}
 use Rattle.slicer_bank.specs.RingTurns.{AreForward}
-use Rattle.ring_receiver.proofs.ReceiverLemmas.{all_stay, all_turn, goes_forward, marks_added, marks_many, marks_eight}
-use Rattle.ring_receiver.proofs.ReceiverLemmas.{none_made, eight_in_time_of_all, added_in_time}
+use Rattle.ring_receiver.proofs.ReceiverLemmas.{all_stay, all_turn, marks_added, marks_many, marks_eight}
+use Rattle.ring_receiver.proofs.ReceiverLemmas.{added_can, added_in_time, eight_in_time_of_all, none_made}
+use Rattle.ring_receiver.proofs.AddedLemmas.{goes_forward}
 use Rattle.ring_receiver.proofs.turn.hear_all.Goals.{then-advance, else-advance}
 use Rattle.ring_receiver.proofs.turn.hear_all.Goals as goal
 
@@ -63,7 +64,7 @@ returns-clause-made g c =
     c.in_ok-advance.advance.candidates.items c.in_ok-advance.advance.gaps.items first c.in_ok-turn.turn
     c.requires.eight c.advance.ensures.eight c.in_ok-advance.ensures.turn c.in_ok-advance.ensures.listens
     c.in_ok-advance.ensures.heard c.in_ok-advance.ensures.positions c.in_ok-turn.ensures.made c.at-position.ensures
-    c.in_ok-turn.ensures.at over c.in_ok-append.ensures.items c.in_ok-items.ensures.heard c.in_ok-items.ensures.rest
+    c.in_ok-turn.ensures.comes c.in_ok-turn.ensures.at c.in_ok-turn.ensures.room over c.in_ok-append.ensures.items c.in_ok-items.ensures.heard c.in_ok-items.ensures.rest
     c.in_ok-items.ensures.marks
     (c.min-least.ensures ∙ ap (λ p. min p c.at-position.result) c.least_of.ensures)
 
@@ -97,7 +98,7 @@ pub merge_all-requires-clause-eight : goal.merge_all-requires-clause-eight
 merge_all-requires-clause-eight g c = c.in_ok-advance.ensures.bounds
 
 pub merge_all-requires-clause-added : goal.merge_all-requires-clause-added
-merge_all-requires-clause-added g c = c.in_ok-turn.ensures.bounds
+merge_all-requires-clause-added g c = added_can _ c.in_ok-turn.turn.items.items c.in_ok-turn.ensures.comes
 
 pub merge_all-requires-clause-eight_in_time : goal.merge_all-requires-clause-eight_in_time
 merge_all-requires-clause-eight_in_time g c =
@@ -106,5 +107,5 @@ merge_all-requires-clause-eight_in_time g c =
 
 pub merge_all-requires-clause-added_in_time : goal.merge_all-requires-clause-added_in_time
 merge_all-requires-clause-added_in_time g c =
-    added_in_time c.args.bank.now c.args.added.now c.args.merger.now c.in_ok-turn.turn.candidates.items
-    c.requires.eight c.requires.step c.in_ok-turn.ensures.bounds c.in_ok-turn.ensures.late
+    added_in_time c.args.bank.now c.args.added.now c.args.merger.now c.in_ok-turn.turn.items.items
+    c.requires.eight c.requires.step c.in_ok-turn.ensures.comes

@@ -1,5 +1,5 @@
-use Rattle.fx25_ring.proofs.Common.{[], refl, are_sensitive}
-use Rattle.fx25_ring.proofs.LanesLemmas.{none_settled, tells_none}
+use Rattle.fx25_ring.proofs.Common.{[], refl}
+use Rattle.fx25_ring.proofs.LanesLemmas.{tells_none}
 use Rattle.fx25_ring.proofs.lanes.LanesStretchLanes.begin_at.Goals as goal
 
 pub returns-clause-holds : goal.returns-clause-holds
@@ -9,9 +9,6 @@ returns-clause-holds c = record {
   tells = tells_none _ _ c.in_ok-self.ensures.stands_for c.in_ok-self-2.ensures.stand;
   items_are = refl;
 }
-
-pub returns-clause-settled : goal.returns-clause-settled
-returns-clause-settled c = none_settled (are_sensitive c.args.self.now) c.args.position
 
 pub returns-clause-listens : goal.returns-clause-listens
 returns-clause-listens c = record {

@@ -1,4 +1,5 @@
-use Rattle.fx25_ring.proofs.ReceiverLemmas.{none_heard, nothing_answered}
+use Rattle.fx25_ring.proofs.OneReader.{nothing_answered}
+use Rattle.fx25_ring.proofs.ReceiverLemmas.{none_heard}
 use Rattle.fx25_ring.proofs.receiver.Fx25RingReceiver.of_reader.Goals as goal
 
 pub returns-clause-hears : goal.returns-clause-hears
