@@ -1,6 +1,6 @@
 -- Audio, one octet more at a time.
 use Rattle.tnc_decode.proofs.Common.{◌≡◌, ℕ, ◌+◌, ◌<◌, ◌≤◌, ℤ, List, [], ◌∷◌, ◌++◌, length, take, drop, get_or, refl}
-use Rattle.tnc_decode.proofs.Common.{ap, sym, subst, ◌∙◌, arith, append_assoc, inl, inr, append-nil, Option, Some, None}
+use Rattle.tnc_decode.proofs.Common.{ap, sym, subst, ◌∙◌, arith, append_assoc, length-append, inl, inr, append-nil, Option, Some, None}
 use Rattle.tnc_decode.proofs.Common.{Result, Ok, ◌⊎◌, WavFault, Rates, chunks, Reading, reading, samples_in, fault_in}
 use Rattle.tnc_decode.proofs.Common.{rate_in, sample_of, InputFault, AudioForm, Raw, Wav, DecodeWords, File, rates_of}
 use Rattle.tnc_decode.proofs.Common.{samples_at, samples_read, stopping_fault_at, form_fault_at, modem_of, HasTakenAt}
@@ -24,6 +24,7 @@ use Rattle.tnc_words.specs.declared.command.SampleRate.{SampleRate}
 use Rattle.tnc_decode.specs.Modem.{modem_for, plain_at, sensitive_at, rate_for, rate_of_file}
 use Rattle.tnc_decode.specs.Held.{odd_octet}
 use Rattle.tnc_decode.proofs.WavFaults.{fault_stays, rate_stays, silent_before, quiet_before}
+use Rattle.tnc_decode.proofs.WavReaders.{read_on, reader_of}
 
 -- ---- raw PCM
 
@@ -238,23 +239,40 @@ stops_form rates Wav octets fault e = by_fault (fault_in rates octets) refl e
 
 -- ---- samples of a first part
 
-samples_begin : (octets more : List ℕ) → (rest : List ℤ) × (samples (octets ++ more) ≡ samples octets ++ rest)
-samples_begin [] more = (samples more, refl)
-samples_begin (low ∷ []) [] = ([], refl)
-samples_begin (low ∷ []) (high ∷ more) = (samples (low ∷ high ∷ more), refl)
-samples_begin (low ∷ high ∷ octets) more = let h = samples_begin octets more in
-    (h.0, ap (λ t. sample_of low high ∷ t) h.1)
+-- octets have no more samples than octets
+samples_few : (octets : List ℕ) → length (samples octets) ≤ length octets
+samples_few [] = omega arith
+samples_few (low ∷ []) = omega arith
+samples_few (low ∷ high ∷ octets) = let few = samples_few octets in omega (arith, few)
 
--- the samples of what was taken are the first of those with more after it
-pub begins_with : (rates : Rates) (form : AudioForm) (audio : Audio) (octets more : List ℕ)
-    → HasTakenAt rates form audio octets
+samples_begin : (octets more : List ℕ) → (rest : List ℤ) × (samples (octets ++ more) ≡ samples octets ++ rest)
+    × (length rest ≤ length more)
+samples_begin [] more = (samples more, refl, samples_few more)
+samples_begin (low ∷ []) [] = ([], refl, omega arith)
+samples_begin (low ∷ []) (high ∷ more) =
+    (samples (low ∷ high ∷ more), refl, (let few = samples_few more in omega (arith, few)))
+samples_begin (low ∷ high ∷ octets) more = let h = samples_begin octets more in
+    (h.0, ap (λ t. sample_of low high ∷ t) h.1, h.2)
+
+-- the samples of more octets begin with those of the first, and no more come than octets
+pub begins_with : (rates : Rates) (form : AudioForm) (octets more : List ℕ)
     → (rest : List ℤ) × (samples_at rates form (octets ++ more) ≡ samples_at rates form octets ++ rest)
-begins_with rates Raw audio octets more h = samples_begin octets more
-begins_with rates Wav (Pcm low) octets more h = absurd h
-begins_with rates Wav (File file) octets more h = (
-  (rest_reading rates (length octets) file.part file.unit more).heard,
-  ap (λ (r : Reading). r.heard) (h.0.rest more),
-)
+    × (length rest ≤ length more)
+begins_with rates Raw octets more = samples_begin octets more
+begins_with rates Wav octets more =
+    let reader = reader_of rates octets in
+    let rest : List ℤ = (rest_reading rates (length octets) reader.held.part reader.held.unit more).heard in
+    let is : samples_in rates (octets ++ more) ≡ samples_in rates octets ++ rest =
+    ap (λ (r : Reading). r.heard) (reader.stands.rest more) in
+    let size = ap length is ∙ length-append (samples_in rates octets) rest in
+    let few = (read_on rates octets more reader).1 in
+    (rest, is, omega (arith, size, few))
+
+-- no fault shows before an octet has come
+pub none_at_first : (rates : Rates) (form : AudioForm) → stopping_fault_at rates form [] ≡ None
+unfolding reading chunks
+none_at_first rates Raw = refl
+none_at_first rates Wav = refl
 
 -- of a new file nothing has come
 pub new_file : (rates : Rates) (file : HeldFile) → FileStandsFor rates file [] → HasTakenAt rates Wav (File file) []

@@ -19,13 +19,12 @@ pub use Rattle.tnc_base.specs.Streams.{Gives, WrotePart}
 pub use Rattle.tnc_decode.specs.Audio.{audio_fault, form_fault, form_fault_at, rates_of, samples_at, samples_read}
 pub use Rattle.tnc_decode.specs.Audio.{stopping_fault, stopping_fault_at}
 pub use Rattle.tnc_decode.specs.Decoded.{IsDecoded}
-pub use Rattle.tnc_decode.specs.Ended.{IsEnded}
-pub use Rattle.tnc_decode.specs.Held.{CutShort, HasDecoded, HasHeard, HasTaken, HasTakenAt, position_of}
+pub use Rattle.tnc_decode.specs.Held.{HasDecoded, HasHeard, HasTaken, HasTakenAt, position_of}
 pub use Rattle.tnc_decode.specs.Modem.{AreGivenBelow, AreGivenBetween, AreGivenRest, AreHeard, modem_of, remaining, settled_count}
 unfoldable pub use Rattle.tnc_decode.specs.Printing.{print}
 pub use Rattle.tnc_decode.specs.Printing.{printed}
 pub use Rattle.tnc_decode.specs.Settled.{IsSettled, sample_count}
-pub use Rattle.tnc_decode.specs.Written.{WroteMost, most_at_once}
+pub use Rattle.tnc_decode.specs.Written.{most_at_once}
 pub use Rattle.tnc_decode.specs.declared.audio.Audio.TheVariants.{File}
 pub use Rattle.tnc_decode.specs.declared.decoders.Decoders.{Decoders}
 pub use Rattle.tnc_decode.specs.declared.modem.Modem.{Modem}

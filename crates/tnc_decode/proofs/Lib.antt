@@ -1,5 +1,6 @@
 pub mod Common
 pub mod WavFaults
+pub mod WavReaders
 pub mod AudioLemmas
 pub mod BlockLemmas
 pub mod ModemLemmas
@@ -8,8 +9,7 @@ pub mod SensitiveHfLemmas
 pub mod SettledLemmas
 pub mod ReceiverLemmas
 pub mod DecodedLemmas
-pub mod DecodingLemmas
-pub mod EndedLemmas
+pub mod MakingLemmas
 pub mod PrintingLemmas
 pub mod BlockItems
 pub mod AllItems

@@ -1,11 +1,11 @@
 -- What octets settle: with more octets after them, at the end of the input, and as a first part of what the whole input
 -- gives.
 use Rattle.tnc_decode.proofs.Common.{◌≡◌, ℕ, ◌-◌, ◌≤◌, ℤ, List, [], ◌++◌, length, refl, ap, sym, subst, ◌∙◌, arith}
-use Rattle.tnc_decode.proofs.Common.{append_assoc, inl, inr, Option, Some, append-nil, WrotePart, Candidate, remaining}
+use Rattle.tnc_decode.proofs.Common.{inl, inr, Candidate, remaining}
 use Rattle.tnc_decode.proofs.Common.{below, candidate_frames, Rates, chunks, reading, AudioForm, Raw, Wav, DecodeWords}
 use Rattle.tnc_decode.proofs.Common.{FrameForm, Modem, rates_of, samples_at, samples_read, IsDecoded, modem_of}
 use Rattle.tnc_decode.proofs.Common.{AreHeard, settled_count, AreGivenBelow, AreGivenBetween, AreGivenRest, print}
-use Rattle.tnc_decode.proofs.Common.{printed, IsSettled, sample_count, WroteMost, most_at_once}
+use Rattle.tnc_decode.proofs.Common.{printed, IsSettled, sample_count, most_at_once}
 use Rattle.std.proofs.lemmas.List.{map-append}
 use Rattle.std.proofs.lemmas.Grind.{flat_map-append}
 use Rattle.tnc_decode.specs.Settled.{IsPrintBelow}
@@ -61,7 +61,7 @@ silent_text words octets none =
     }
 
 -- what octets without a sample settled is nothing
-silent_nothing : (words : DecodeWords) (octets text : List ℕ) → samples_read words octets ≡ []
+pub silent_nothing : (words : DecodeWords) (octets text : List ℕ) → samples_read words octets ≡ []
     → IsSettled words octets text → text ≡ []
 silent_nothing words octets text none h =
     let modem : Modem = modem_of words octets in
@@ -152,23 +152,6 @@ settled_first words front octets rest text whole y parts longer h d =
           ∙ ap (λ t. t ++ print words.frames (candidate_frames first.0)) (sym s.2),
     )
 
--- what some octets give follows from what they settle
-pub decoded_behind : (words : DecodeWords) (octets text : List ℕ) → IsSettled words octets text
-    → (rest : List ℕ) × IsDecoded words octets (text ++ rest)
-decoded_behind words octets text h =
-    let modem : Modem = modem_of words octets in
-    let x : List ℤ = samples_read words octets in
-    let P : List ℤ → Type 0 = λ z. AreHeard modem z h.are.candidates in
-    let parts = given_first modem x [] h.items h.are.candidates h.are (subst P (sym (append-nil x)) h.are.are) in (
-      print words.frames (candidate_frames parts.0),
-      record {
-        candidates = h.are.candidates;
-        are = h.are.are;
-        is = sym (ap (λ t. print words.frames (candidate_frames t)) parts.1 ∙ print-append words.frames h.items parts.0
-            ∙ ap (λ t. t ++ print words.frames (candidate_frames parts.0)) (sym h.is));
-      },
-    )
-
 -- of what first octets settle, the first part ends long before the end of all
 pub early_part : (words : DecodeWords) (front octets rest text all_text : List ℕ) (y : List ℤ) → octets ≡ front ++ rest
     → samples_read words octets ≡ samples_read words front ++ y → length y ≤ most_at_once words
@@ -196,27 +179,3 @@ early_part words front octets rest text all_text y parts longer few h d =
       record { items = early; are = record { candidates = d.candidates; are = d.are; is = early_is }; is = refl },
       s.2 ∙ ap (λ t. print words.frames (candidate_frames t)) halves.1 ∙ print-append words.frames early halves.0,
     )
-
--- if the output failed at what followed
-pub wrote_most : (words : DecodeWords) (front read piece text next rest before : List ℕ) (y : List ℤ)
-    (now : Option (List ℕ)) → read ≡ front ++ piece
-    → samples_read words read ≡ samples_read words front ++ y → length y ≤ most_at_once words
-    → IsSettled words front text → IsDecoded words read ((text ++ next) ++ rest)
-    → WrotePart (before ++ text) next now
-    → WroteMost words read before now
-wrote_most words front read piece text next rest before y now behind longer few h d (part, left, parts, is) =
-    let e = early_part words front read piece text ((text ++ next) ++ rest) y behind longer few h d in
-    let early : List ℕ = e.0 in
-    let more : List ℕ = e.1 in
-    let so_far : text ++ part ≡ early ++ (more ++ part) = ap (λ t. t ++ part) e.3 ∙ append_assoc early more part in
-    record {
-      text = (text ++ next) ++ rest;
-      decoded = d;
-      early = early;
-      settled = e.2;
-      more = more ++ part;
-      rest = left ++ rest;
-      parts = ap (λ t. (text ++ t) ++ rest) parts ∙ ap (λ t. t ++ rest) (sym (append_assoc text part left))
-          ∙ append_assoc (text ++ part) left rest ∙ ap (λ t. t ++ (left ++ rest)) so_far;
-      written = is ∙ ap Some (append_assoc before text part) ∙ ap (λ t. Some (before ++ t)) so_far;
-    }

@@ -1,14 +1,14 @@
 -- Audio in its two forms: raw PCM, which is signed 16-bit samples with the low octet first, and a WAV file of them.
-use Rattle.std.specs.Prelude.{ℕ, ◌+◌, nat_lt, if◌then◌else◌, ℤ, List, length, take, Option, Some, None, option_map}
+use Rattle.std.specs.Prelude.{ℕ, ℤ, List, take, Option, Some, None, option_map}
 use Rattle.std.specs.Prelude.{Result, Ok, Err}
-use Rattle.std.specs.Option.{option_or}
 use Rattle.wav_file.specs.declared.fault.WavFault.{WavFault}
 use Rattle.wav_file.specs.declared.rates.Rates.{Rates}
 use Rattle.wav_file.specs.declared.rates.Rates.TheVariants.{Narrow, NarrowOrWide}
 use Rattle.wav_file.specs.Reading.{fault_in, samples_in, verdict_of}
 use Rattle.wav_file.specs.Samples.{samples}
 use Rattle.tnc_forms.specs.declared.fault.InputFault.{InputFault}
-use Rattle.tnc_forms.specs.declared.fault.InputFault.TheVariants.{TooLong, Wav as BadWav}
+use Rattle.tnc_forms.specs.declared.fault.InputFault.TheVariants.{Wav as BadWav}
+use Rattle.tnc_forms.specs.LinesSoFar.{fault_as_read}
 use Rattle.tnc_forms.specs.Reading.{input_limit}
 use Rattle.tnc_words.specs.declared.command.AudioForm.{AudioForm}
 use Rattle.tnc_words.specs.declared.command.AudioForm.TheVariants.{Raw, Wav}
@@ -38,13 +38,11 @@ abbrev pub stopping_fault_at : Rates → AudioForm → List ℕ → Option Input
 stopping_fault_at rates Raw octets = None
 stopping_fault_at rates Wav octets = option_map BadWav (fault_in rates octets)
 
--- Why an input is refused: for the first fault that reading it meets. Of an input that is too long, one octet more than
--- an input may have is read.
+-- Why an input is refused: for the first fault that reading it meets. Of an input that is too long the first 2^40 octets
+-- are read.
 abbrev pub audio_fault_at : Rates → AudioForm → List ℕ → Option InputFault
 audio_fault_at rates form octets =
-    if nat_lt input_limit (length octets)
-    then option_or (stopping_fault_at rates form (take (input_limit + 1) octets)) (Some TooLong)
-    else form_fault_at rates form octets
+    fault_as_read (stopping_fault_at rates form (take input_limit octets)) (form_fault_at rates form octets) octets
 
 -- ---- of words
 

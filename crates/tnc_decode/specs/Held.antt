@@ -1,6 +1,5 @@
 -- What the code keeps of an input, and what that stands for. No public clause cites it.
-use Rattle.std.specs.Prelude.{◌≡◌, ℕ, ◌+◌, ◌≤◌, List, [], ◌∷◌, ◌++◌, length, ℤ, Bool, false, if◌then◌else◌, Option, Some, None, ⊤}
-use Rattle.tnc_base.specs.Streams.{WrotePart}
+use Rattle.std.specs.Prelude.{◌≡◌, ℕ, ◌≤◌, List, [], ◌∷◌, length, ℤ, Bool, false, if◌then◌else◌, Option, Some, None, ⊤}
 use Rattle.slicer_bank.specs.HeldDecoder.{StandsFor as DecoderStandsFor}
 use Rattle.wide_input.specs.HeldDecoder.{StandsFor as WideStandsFor}
 use Rattle.wide_input.specs.HeldSensitive.{StandsFor as WideSensitiveStandsFor}
@@ -31,8 +30,6 @@ use Rattle.tnc_decode.specs.declared.modem.Modem.TheVariants.{SensitiveFx25 as S
 use Rattle.tnc_decode.specs.declared.receiver.Receiver.{Receiver}
 use Rattle.tnc_decode.specs.Audio.{rates_of, samples_read}
 use Rattle.tnc_decode.specs.Modem.{modem_of}
-use Rattle.tnc_decode.specs.Settled.{IsSettled}
-use Rattle.tnc_decode.specs.Written.{most_at_once}
 
 -- the octet of raw PCM that waits for its other half
 abbrev pub odd_octet : List ℕ → Option ℕ
@@ -90,19 +87,11 @@ TakesAtOnce threads (Wide decoder) count = count ≤ (if threads then 32768 else
 TakesAtOnce threads (WideSensitive decoder) count = count ≤ (if threads then 32768 else 2048)
 TakesAtOnce threads decoder count = count ≤ 2048
 
--- the receiver was given these octets, and has written this text
-pub record HasHeard (receiver : Receiver) (words : DecodeWords) (octets text : List ℕ) : Type 0 where
+-- by these words the receiver was given these octets
+pub record HasHeard (receiver : Receiver) (words : DecodeWords) (octets : List ℕ) : Type 0 where
   pub frames : receiver.frames ≡ words.frames
   pub receiving : receiver.receiving ≡ words.receiving
   pub audio : HasTaken words receiver.audio octets
   pub decoder : HasDecoded (modem_of words octets) receiver.decoder (samples_read words octets)
-  pub settled : IsSettled words octets text
-
--- the receiver was given octets more, of which not all that they settled was written
-pub record CutShort (receiver : Receiver) (words : DecodeWords) (before octets text : List ℕ)
-    (was now : Option (List ℕ)) : Type 0 where
-  pub more : List ℕ
-  pub audio : HasTaken words receiver.audio (before ++ octets)
-  pub few : length (samples_read words (before ++ octets)) ≤ length (samples_read words before) + most_at_once words
-  pub settled : IsSettled words (before ++ octets) (text ++ more)
-  pub written : (written : List ℕ) → was ≡ Some written → WrotePart written more now
+  pub position : position_of receiver.decoder ≤ length octets
+  pub unfinished : finished_of receiver.decoder ≡ false

@@ -5,4 +5,4 @@ pub mod Decoded
 pub mod Settled
 pub mod Written
 pub mod Held
-pub mod Ended
+pub mod Making

@@ -7,6 +7,7 @@ mod audio;
 mod decoders;
 mod decoding;
 mod fx25_decoder;
+mod hearing;
 mod modem;
 mod printing;
 mod receiver;

@@ -1,26 +1,21 @@
 //! The receiver: octets of an input in, the frames that are heard in them out.
-ghost use Rattle.std.specs.Prelude.{◌≡◌, ◌≤◌, ◌<◌, ◌+◌, ◌^◌, ◌++◌, ◌⊎◌, List, ℕ, ℤ, [], Some, Err, false, length, IsOk};
-ghost use Rattle.std.specs.Prelude.{IfOk, OnOk, IsErrOf};
-ghost use Rattle.tnc_base.specs.Faults.{HasRisen};
-ghost use Rattle.tnc_base.specs.Streams.{WrotePart};
-ghost use Rattle.frame_merge.specs.Merged.{candidate_frames};
+ghost use Rattle.std.specs.Prelude.{◌≡◌, ◌≤◌, ◌<◌, ◌+◌, ◌^◌, ◌++◌, List, ℕ, ℤ, [], Some, false, length, IfOk, OnOk, IsErrOf};
+ghost use Rattle.tnc_engine.specs.Making.{Adds, Finishes};
 ghost use Rattle.tnc_forms.specs.declared.fault.InputFault.{InputFault};
 ghost use Rattle.tnc_words.specs.declared.command.DecodeWords.{DecodeWords};
-ghost use Rattle.tnc_decode.specs.Audio.{form_fault, stopping_fault};
+ghost use Rattle.tnc_decode.specs.Audio.{stopping_fault};
 ghost use Rattle.tnc_decode.specs.declared.modem.Modem.{Modem};
-ghost use Rattle.tnc_decode.specs.Decoded.{IsDecoded};
-ghost use Rattle.tnc_decode.specs.Held.{CutShort, HasDecoded, HasHeard, finished_of, position_of};
-ghost use Rattle.tnc_decode.specs.Printing.{print};
+ghost use Rattle.tnc_decode.specs.Held.{HasDecoded, HasHeard, finished_of, position_of};
+ghost use Rattle.tnc_decode.specs.Making.{decode_making};
 ghost use Rattle.tnc_decode.specs.Written.{most_at_once};
 
 use crate::audio::Audio;
 use crate::decoders::Decoders;
 use crate::modem::Modem;
 use crate::printing::print;
-use frame_merge::Candidate;
 use std::alloc::Global;
 use std::thread::Threads;
-use tnc_base::{OutOfMemory, Sink};
+use tnc_base::OutOfMemory;
 use tnc_forms::{Fault, InputFault};
 use tnc_words::{DecodeWords, FrameForm, Receiving};
 
@@ -53,9 +48,7 @@ pub(crate) struct Receiver {
 impl Receiver {
     /// A receiver to which no octet has come.
     pub(crate) fn new(alloc: Global, words: DecodeWords) -> Result<Receiver, OutOfMemory>
-        ensures heard { IfOk result (λ receiver. HasHeard receiver words [] []) }
-        ensures position { IfOk result (λ receiver. position_of receiver.decoder ≡ 0) }
-        ensures unfinished { IfOk result (λ receiver. finished_of receiver.decoder ≡ false) }
+        ensures { IfOk result (λ receiver. HasHeard receiver words []) }
     {
         let audio = Audio::new(words);
         let modem = audio.modem(words.receiving);
@@ -70,35 +63,19 @@ impl Receiver {
         })
     }
 
-    /// Hears the next octets, and writes the frames that they settle.
-    pub(crate) fn hear<R: Threads + Sync, O: Sink>(
+    /// Hears the next octets, and gives the text of the frames that they settle.
+    pub(crate) fn hear<R: Threads + Sync>(
         &mut self,
         rt: &R,
         octets: &[u8],
-        output: &mut O,
-    ) -> Result<(), Fault>
+    ) -> Result<Vec<u8>, Fault>
         requires room { position_of self.old.decoder + length octets.now < 2 ^ 48 }
         requires unfinished { finished_of self.old.decoder ≡ false }
-        ensures heard { OnOk result ((words : DecodeWords) (before text : List ℕ) → HasHeard self.old words before text
-            → (more : List ℕ) × HasHeard self.new words (before ++ octets.now) (text ++ more)
-            × ((was : List ℕ) → O.written output.old ≡ Some was → O.written output.new ≡ Some (was ++ more))) }
-        ensures position { OnOk result (position_of self.new.decoder ≤ position_of self.old.decoder
-            + length octets.now) }
-        ensures unfinished { OnOk result (finished_of self.new.decoder ≡ false) }
-        ensures later { O.faults output.old ≤ O.faults output.new }
-        ensures faultless { OnOk result (O.faults output.new ≡ O.faults output.old) }
-
-        ensures stops { (fault : InputFault) (words : DecodeWords) (before text : List ℕ)
-            → IsErrOf result (Fault.Input fault)
-            → HasHeard self.old words before text → stopping_fault words (before ++ octets.now) ≡ Some fault }
-        ensures cut { (words : DecodeWords) (before text : List ℕ) → IsErrOf result Fault.Write
-            → HasHeard self.old words before text
-            → length octets.now ≤ most_at_once words
-            → CutShort self.new words before octets.now text (O.written output.old) (O.written output.new) }
-        ensures write { IsErrOf result Fault.Write → HasRisen (O.faults output.old) (O.faults output.new) }
-        ensures unwritten { (result ≡ Err Fault.Memory) ⊎ ((fault : InputFault) × (result ≡ Err (Fault.Input fault)))
-            → output.new ≡ output.old }
-        ensures read { ¬ IsErrOf result Fault.Read }
+        ensures heard { (words : DecodeWords) (before : List ℕ) → HasHeard self.old words before
+            → IfOk result (λ text. HasHeard self.new words (before ++ octets.now)
+            × Adds (decode_making words) before octets.now text.items) }
+        ensures stops { (words : DecodeWords) (before : List ℕ) (fault : InputFault) → HasHeard self.old words before
+            → IsErrOf result (Fault.Input fault) → stopping_fault words (before ++ octets.now) ≡ Some fault }
     {
         self.audio.take(octets, &mut self.samples)?;
         let modem = self.audio.modem(self.receiving);
@@ -106,39 +83,19 @@ impl Receiver {
         let items = self
             .decoder
             .hear(rt, self.alloc, self.threads, &self.samples)?;
-        write_items(self.alloc, self.frames, &items, output)?;
-        Ok(())
+        let text = print(self.alloc, self.frames, &items)?;
+        Ok(text)
     }
 
-    /// Writes the rest of the frames: the input has ended. Then tells what is wrong with it.
-    pub(crate) fn end<O: Sink>(&mut self, output: &mut O) -> Result<(), Fault>
+    /// The text of the rest of the frames, since the input has ended, and what is wrong with the input.
+    pub(crate) fn end(&mut self) -> Result<(Vec<u8>, Option<InputFault>), OutOfMemory>
         requires room { position_of self.old.decoder + 15 < 2 ^ 48 }
-        ensures heard { (words : DecodeWords) (octets text : List ℕ) → HasHeard self.old words octets text
-            → OnOk result (form_fault words octets ≡ None) }
-        ensures wrote { (words : DecodeWords) (octets text : List ℕ) → HasHeard self.old words octets text
-            → (IsOk result ⊎ ((fault : InputFault) × (result ≡ Err (Fault.Input fault))))
-            → (more : List ℕ) × IsDecoded words octets (text ++ more)
-            × ((was : List ℕ) → O.written output.old ≡ Some was → O.written output.new ≡ Some (was ++ more)) }
-        ensures later { O.faults output.old ≤ O.faults output.new }
-        ensures faultless { OnOk result (O.faults output.new ≡ O.faults output.old) }
-
-        ensures bad { (fault : InputFault) (words : DecodeWords) (octets text : List ℕ)
-            → IsErrOf result (Fault.Input fault)
-            → HasHeard self.old words octets text → form_fault words octets ≡ Some fault }
-        ensures cut { (words : DecodeWords) (octets text : List ℕ) → IsErrOf result Fault.Write
-            → HasHeard self.old words octets text
-            → (more : List ℕ) × IsDecoded words octets (text ++ more)
-            × ((was : List ℕ) → O.written output.old ≡ Some was → WrotePart was more (O.written output.new)) }
-        ensures write { IsErrOf result Fault.Write → HasRisen (O.faults output.old) (O.faults output.new) }
-        ensures unwritten { result ≡ Err Fault.Memory → output.new ≡ output.old }
-        ensures read { ¬ IsErrOf result Fault.Read }
+        ensures { (words : DecodeWords) (octets : List ℕ) → HasHeard self.old words octets
+            → IfOk result (λ end. Finishes (decode_making words) octets end.0.items end.1) }
     {
         let items = self.decoder.finish()?;
-        write_items(self.alloc, self.frames, &items, output)?;
-        match self.audio.verdict() {
-            None => Ok(()),
-            Some(fault) => Err(Fault::Input(fault)),
-        }
+        let text = print(self.alloc, self.frames, &items)?;
+        Ok((text, self.audio.verdict()))
     }
 }
 
@@ -154,29 +111,4 @@ fn tune(alloc: Global, modem: Modem, decoder: &mut Decoders) -> Result<(), OutOf
         *decoder = Decoders::new(alloc, modem)?;
     }
     Ok(())
-}
-
-/// Writes the frames of candidates.
-fn write_items<O: Sink>(
-    alloc: Global,
-    form: FrameForm,
-    items: &[Candidate],
-    output: &mut O,
-) -> Result<(), Fault>
-    ensures written { (was : List ℕ) → O.written output.old ≡ Some was
-        → OnOk result (O.written output.new ≡ Some (was ++ print form (candidate_frames items.now))) }
-    ensures cut { (was : List ℕ) → O.written output.old ≡ Some was
-        → IsErrOf result Fault.Write → WrotePart was (print form (candidate_frames items.now)) (O.written output.new) }
-    ensures later { O.faults output.old ≤ O.faults output.new }
-    ensures faultless { OnOk result (O.faults output.new ≡ O.faults output.old) }
-    ensures write { IsErrOf result Fault.Write → HasRisen (O.faults output.old) (O.faults output.new) }
-    ensures unwritten { result ≡ Err Fault.Memory → output.new ≡ output.old }
-    ensures read { ¬ IsErrOf result Fault.Read }
-    ensures input { (fault : InputFault) → ¬ IsErrOf result (Fault.Input fault) }
-{
-    let text = print(alloc, form, items)?;
-    match output.write(&text) {
-        Ok(()) => Ok(()),
-        Err(_) => Err(Fault::Write),
-    }
 }

@@ -19,15 +19,13 @@ pub use Rattle.tnc_encode.specs.Encoded.{first_of, joined, length_fault, samples
 pub use Rattle.tnc_encode.specs.Encoded.{signal_of, written_as, written_before}
 unfoldable pub use Rattle.tnc_encode.specs.Frames.{kiss_frames}
 pub use Rattle.tnc_encode.specs.Frames.{form_fault, form_fault_so_far, frame_of, frames_of_input, frames_so_far}
-pub use Rattle.tnc_encode.specs.HeldFrames.{HasTaken, IsReader, IsSignal, SentFront, form_of, position}
+pub use Rattle.tnc_encode.specs.HeldFrames.{HasSent, HasTaken, IsReader, form_of, position}
 unfoldable pub use Rattle.tnc_encode.specs.Sending.{signal_by, transmission_by}
 pub use Rattle.tnc_encode.specs.Writing.{EncodesWhole}
 pub use Rattle.tnc_forms.proofs.Ends.{map_ok, on_err}
-pub use Rattle.tnc_forms.proofs.StreamingLemmas.{Progress}
 pub use Rattle.tnc_forms.proofs.WrittenParts.{wrote_behind, wrote_front, wrote_nothing}
 unfoldable pub use Rattle.tnc_forms.specs.Pcm.{pcm}
 pub use Rattle.tnc_forms.specs.Reading.{input_limit}
-pub use Rattle.tnc_forms.specs.Streaming.{IsEnded, IsTaken, WroteFrames}
 pub use Rattle.tnc_forms.specs.declared.fault.Fault.{Fault}
 pub use Rattle.tnc_forms.specs.declared.fault.Fault.TheVariants.{Input, Memory, Read, Write}
 pub use Rattle.tnc_forms.specs.declared.fault.InputFault.{InputFault}

@@ -1,18 +1,15 @@
--- What is known of frames in either form stays so, and their signals follow one another.
-use Rattle.tnc_encode.proofs.Common.{◌≡◌, ℕ, ◌==◌, Bool, true, false, List, [], ◌∷◌, ◌++◌, Some, None, refl, sym, ap}
+-- What is known of frames in either form stays so.
+use Rattle.tnc_encode.proofs.Common.{◌≡◌, ℕ, ◌==◌, Bool, true, false, List, [], ◌∷◌, ◌++◌, Some, None, refl, ap}
 use Rattle.tnc_encode.proofs.Common.{◌∙◌, if◌then◌else◌, filter_map, option_to_list, filter_map-append, KissItem}
-use Rattle.tnc_encode.proofs.Common.{items_in, InputFault, pcm, EncodeWords, FrameForm, Hex, Kiss, samples_at_once}
-use Rattle.tnc_encode.proofs.Common.{frame_of, kiss_frames, IsSignal, form_of}
+use Rattle.tnc_encode.proofs.Common.{items_in, InputFault, FrameForm, Hex, Kiss, frame_of, kiss_frames, form_of}
 use Rattle.std.specs.List.{flat_map}
 use Rattle.std.proofs.lemmas.Grind.{flat_map-append}
 use Rattle.kiss_port.specs.Escapes.{fend, unescaped}
 use Rattle.kiss_port.specs.Items.{item_of}
 use Rattle.kiss_port.specs.Pieces.{onto_first, pieces}
 use Rattle.tnc_forms.proofs.LinesForm.{lines_are_form}
-use Rattle.tnc_forms.proofs.StreamingLemmas.{IsForm, IsJoined}
+use Rattle.tnc_forms.specs.Form.{IsForm}
 use Rattle.tnc_encode.proofs.FrameLemmas.{kiss_frames-none}
-use Rattle.tnc_encode.proofs.SendingLemmas.{own_octets, own_octets-all, own_octets-append, own_octets-none}
-use Rattle.tnc_encode.proofs.SendingLemmas.{own_octets-one}
 
 -- ---- KISS
 
@@ -61,7 +58,6 @@ forms_stay Hex =
       none = lines.none;
       good = lines.good;
       whole = lines.whole;
-      more = lines.more;
       bad = lines.bad;
       not_long = lines.not_long;
       not_long_whole = lines.not_long_whole;
@@ -70,26 +66,7 @@ forms_stay Kiss = record {
   none = kiss_frames-none;
   good = refl;
   whole = λ octets more none. first_frames octets more;
-  more = λ octets more none. first_frames octets more;
   bad = λ octets more fault is. absurd (none_is_some fault is);
   not_long = λ octets fault is long. none_is_some fault is;
   not_long_whole = λ octets fault is long. none_is_some fault is;
 }
-
--- ---- signals
-
-module _ (words : EncodeWords) (apart : words.join ≡ false) where
-  pub signals_join : IsJoined (IsSignal words)
-  signals_join = record {
-    none = sym own_none ∙ own_octets-all words [] apart;
-    more = λ frames others text next h g.
-        ap (λ t. t ++ next) (h ∙ sym (own_octets-all words frames apart))
-        ∙ ap (λ t. own_octets words frames ++ t) (g ∙ sym (own_octets-all words others apart))
-        ∙ sym (own_octets-append words frames others) ∙ own_octets-all words (frames ++ others) apart;
-  }
-    where
-      own_none : own_octets words [] ≡ []
-      own_none = own_octets-none words
-
-  pub signal_one : (frame : List ℕ) → IsSignal words (frame ∷ []) (pcm (samples_at_once words (frame ∷ [])))
-  signal_one frame = sym (own_octets-one words frame) ∙ own_octets-all words (frame ∷ []) apart

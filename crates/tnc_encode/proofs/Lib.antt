@@ -4,7 +4,7 @@ pub mod CountingLemmas
 pub mod SendingLemmas
 pub mod EncodedLemmas
 pub mod FormLemmas
-pub mod PieceLemmas
+pub mod MakingLemmas
 pub mod EndedLemmas
 pub mod ModemLemmas
 pub mod WritingLemmas

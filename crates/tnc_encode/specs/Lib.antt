@@ -4,3 +4,4 @@ pub mod Encoded
 pub mod HeldFrames
 pub mod Writing
 pub mod Windows
+pub mod Making

@@ -1,5 +1,4 @@
--- What the functions of this crate ask of the words and of the frames, and what they promise of the output. No public
--- clause cites it.
+-- What the functions of this crate ask of the words and of the frames, and what they promise of the output.
 use Rattle.std.specs.Prelude.{◌≡◌, ℕ, ◌≤◌, ◌+◌, ◌⊎◌, All, List, [], ◌++◌, length, drop, Option, Some, None}
 use Rattle.std.specs.Prelude.{Result, OnOk, OnErr, IfErr, IsErrOf}
 use Rattle.tnc_base.specs.Faults.{HasRisen}

@@ -1,34 +1,31 @@
 //! The word encode: from frames to audio.
-ghost use Rattle.std.specs.Prelude.{◌≡◌, ◌≢◌, ◌≤◌, ◌<◌, ◌+◌, ◌++◌, ◌⊎◌, List, ℕ, Some, None, [], true, false, length};
-ghost use Rattle.std.specs.Prelude.{take, drop, OnOk, OnErr, IsErrOf};
+ghost use Rattle.std.specs.Prelude.{◌≡◌, ◌≢◌, ◌≤◌, ◌++◌, ◌⊎◌, List, ℕ, Some, None, Err, true, false, length, OnOk, IsErrOf};
 ghost use Rattle.tnc_base.specs.Faults.{HasRisen};
-ghost use Rattle.tnc_base.specs.Streams.{WrotePart};
 ghost use Rattle.afsk_modulator.specs.Modulation.{IsLevel};
+ghost use Rattle.tnc_engine.specs.Ended.{IsEnded};
 ghost use Rattle.tnc_forms.specs.declared.fault.InputFault.{InputFault};
 ghost use Rattle.tnc_forms.specs.Pcm.{pcm};
 ghost use Rattle.tnc_forms.specs.Reading.{input_limit, piece_limit};
-ghost use Rattle.tnc_forms.specs.Taken.{WereRead};
-ghost use Rattle.tnc_encode.specs.Encoded.{encode_fault, encoded, encoded_before, encoded_so_far, fault_of_whole};
-ghost use Rattle.tnc_encode.specs.Encoded.{keeps_frames, length_fault, samples_at_once, signal_of, written_as};
-ghost use Rattle.tnc_encode.specs.Encoded.{written_before};
-ghost use Rattle.tnc_encode.specs.Frames.{form_fault_so_far};
+ghost use Rattle.tnc_encode.specs.Encoded.{encoded, encoded_before, fault_of_whole, keeps_frames, length_fault};
+ghost use Rattle.tnc_encode.specs.Encoded.{samples_at_once, signal_of, written_as, written_before};
+ghost use Rattle.tnc_encode.specs.Making.{encode_making};
 ghost use Rattle.tnc_encode.specs.Writing.{CanBeSent, CanSend, CountsFaults, CountsWrites, EncodesWhole};
 ghost use Rattle.tnc_encode.specs.Writing.{FailsInWriting, Writes};
 
 use crate::counting::{count_samples, head};
 use crate::frames::read_frames;
-use crate::pieces::encode_pieces;
+use crate::sender::Sender;
 use crate::sending::samples_at_once;
 use std::alloc::Global;
 use std::slice;
 use tnc_base::{Octets, Sink, Source};
-use tnc_forms::{Fault, InputFault, read_all, write_pcm};
+use tnc_engine::make;
+use tnc_forms::{Fault, InputFault, PIECE, read_all, write_pcm};
 use tnc_words::{AudioForm, EncodeWords};
 
 /// Sends the frames of the input. Each frame is sent as it comes, in bounded memory, but for one transmission of all
 /// frames and for a WAV file: then the input is read to its end first. If a line is bad, the frames before it are sent
 /// as raw PCM, or no WAV file is written.
-#[tactic(auto, unfolding(crate::specs::Encoded::encode_fault))]
 pub fn encode<I: Source, O: Sink>(
     alloc: Global,
     words: EncodeWords,
@@ -39,59 +36,24 @@ pub fn encode<I: Source, O: Sink>(
     requires closing { 1 ≤ words.closing }
     requires level { IsLevel words.level }
 
-    // what is read, and what is written of it
-    ensures end { (octets : List ℕ) → I.left input.old ≡ Some octets
-        → OnOk result (I.left input.new ≡ Some []) }
-    ensures good { (octets : List ℕ) → I.left input.old ≡ Some octets
-        → OnOk result (encode_fault words octets ≡ None) }
-    ensures encoded { (octets before : List ℕ) → I.left input.old ≡ Some octets
-        → O.written output.old ≡ Some before
-        → OnOk result (O.written output.new ≡ Some (before ++ encoded words octets)) }
-    ensures faultless { OnOk result ((I.faults input.new ≡ I.faults input.old)
-        × (O.faults output.new ≡ O.faults output.old)) }
-
-    // what is wrong with the input, and what was written before that is told
-    ensures bad { (octets : List ℕ) → (fault : InputFault) → I.left input.old ≡ Some octets
-        → IsErrOf result (Fault.Input fault) → encode_fault words octets ≡ Some fault }
-    ensures encoded_before { (octets before : List ℕ) → (fault : InputFault) → I.left input.old ≡ Some octets
-        → O.written output.old ≡ Some before → length octets ≤ input_limit
-        → IsErrOf result (Fault.Input fault) → O.written output.new ≡ Some (before ++ encoded_before words octets) }
-    ensures encoded_of_many { (octets before : List ℕ) → (fault : InputFault) → I.left input.old ≡ Some octets
-        → O.written output.old ≡ Some before → input_limit < length octets
-        → IsErrOf result (Fault.Input fault)
-        → O.written output.new ≡ Some (before ++ encoded_so_far words (take input_limit octets)) }
-    ensures stops { (octets : List ℕ) → I.left input.old ≡ Some octets
-        → IsErrOf result (Fault.Input InputFault.TooLong) → I.left input.new ≡ Some (drop (input_limit + 1) octets) }
-
-    // each other fault, and what was written before it of the octets read
-    ensures so_far { (octets before : List ℕ) → I.left input.old ≡ Some octets → O.written output.old ≡ Some before
-        → keeps_frames words.audio words.join ≡ false → IsErrOf result Fault.Read
-        → (read : List ℕ) × WereRead octets (I.left input.new) read × (form_fault_so_far words.frames read ≡ None)
-        × (O.written output.new ≡ Some (before ++ encoded_so_far words read)) }
-    ensures part { (octets before : List ℕ) → I.left input.old ≡ Some octets → O.written output.old ≡ Some before
-        → keeps_frames words.audio words.join ≡ false → IsErrOf result Fault.Memory
-        → (read front rest : List ℕ) × WereRead octets (I.left input.new) read × (read ≡ front ++ rest)
-        × (length rest ≤ piece_limit) × (form_fault_so_far words.frames front ≡ None)
-        × (O.written output.new ≡ Some (before ++ encoded_so_far words front)) }
-    ensures most { (octets before : List ℕ) → I.left input.old ≡ Some octets → O.written output.old ≡ Some before
-        → keeps_frames words.audio words.join ≡ false → IsErrOf result Fault.Write
-        → (read front rest more left_out : List ℕ) × WereRead octets (I.left input.new) read × (read ≡ front ++ rest)
-        × (length rest ≤ piece_limit) × (form_fault_so_far words.frames front ≡ None)
-        × (encoded words read ≡ (encoded_so_far words front ++ more) ++ left_out)
-        × (O.written output.new ≡ Some (before ++ (encoded_so_far words front ++ more))) }
+    ensures ended { (octets : List ℕ) → keeps_frames words.audio words.join ≡ false → I.left input.old ≡ Some octets
+        → IsEnded (encode_making words) piece_limit octets
+        (I.left input.new) (O.written output.old) (O.written output.new) result }
+    ensures whole { (octets : List ℕ) → keeps_frames words.audio words.join ≡ true → I.left input.old ≡ Some octets
+        → EncodesWhole words octets (I.left input.new) (O.written output.old) (O.written output.new) result }
     ensures unwritten { keeps_frames words.audio words.join ≡ true
         → (result ≡ Err (Fault.Input InputFault.TooLong)) ⊎ (result ≡ Err Fault.Read) → output.new ≡ output.old }
-    ensures cut { (octets before : List ℕ) → I.left input.old ≡ Some octets
-        → O.written output.old ≡ Some before
-        → OnErr result (WrotePart before (encoded words octets) (O.written output.new)) }
+    ensures faultless { OnOk result ((I.faults input.new ≡ I.faults input.old)
+        × (O.faults output.new ≡ O.faults output.old)) }
     ensures read { IsErrOf result Fault.Read → HasRisen (I.faults input.old) (I.faults input.new) }
     ensures write { IsErrOf result Fault.Write → HasRisen (O.faults output.old) (O.faults output.new) }
 {
     if keeps_frames(words) {
-        encode_whole(alloc, words, input, output)
-    } else {
-        encode_pieces(alloc, words, input, output)
+        return encode_whole(alloc, words, input, output);
     }
+    let mut sender = Sender::new(alloc, words);
+    let mut buffer = [0; PIECE];
+    make(alloc, &mut sender, &mut buffer, input, output)
 }
 
 /// True if frames are kept until the input has ended.
@@ -252,7 +214,7 @@ fn send_all<O: Sink>(
 }
 
 /// Writes the frames of one transmission.
-pub(crate) fn send<O: Sink>(
+fn send<O: Sink>(
     alloc: Global,
     words: EncodeWords,
     frames: &[Octets],

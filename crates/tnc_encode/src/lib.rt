@@ -8,7 +8,7 @@ mod counting;
 mod encoding;
 mod frame_in;
 mod frames;
-mod pieces;
+mod sender;
 mod sending;
 mod windows;
 

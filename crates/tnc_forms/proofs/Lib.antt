@@ -8,7 +8,6 @@ pub mod HexFrameLemmas
 pub mod CutLemmas
 pub mod SoFarLemmas
 pub mod HeldLineLemmas
-pub mod StreamingLemmas
 pub mod LinesForm
 pub mod PcmLemmas
 pub mod ReadingLemmas

@@ -203,20 +203,6 @@ module _ (least : ℕ) (octets : List ℕ) where
               ∙ ap (λ fs. fs ++ frames_of_lines least rest) (sym frames_here),
         )
 
-    pub frames_more : fault_so_far least octets ≡ None → (frames : List (List ℕ))
-        × (frames_so_far least (octets ++ more) ≡ frames_so_far least octets ++ frames)
-    unfolding frames_so_far
-    frames_more none =
-        let next = first_line the_cut.place the_cut.part more the_cut.inside in
-        let rest = ended_of (next.first ∷ next.rest) in
-        let ended : ended_of (lines_of (octets ++ more)) ≡ the_cut.ended ++ rest =
-        ap ended_of (lines_more more ∙ ap (λ ls. the_cut.ended ++ ls) next.cut)
-        ∙ ended_of_more the_cut.ended next.first next.rest in (
-          frames_of_lines least rest,
-          ap (frames_of_lines least) ended ∙ frames_join least the_cut.ended rest (good_ended none)
-              ∙ ap (λ fs. fs ++ frames_of_lines least rest) (sym frames_here),
-        )
-
     -- one is: nothing more comes
     abbrev StaysBad : InputFault → Type 0
     StaysBad fault =

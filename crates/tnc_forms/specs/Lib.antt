@@ -4,7 +4,7 @@ pub mod HexLines
 pub mod HexPrint
 pub mod LinesSoFar
 pub mod HeldLine
-pub mod Streaming
+pub mod Form
 pub mod Taken
 pub mod Pcm
 pub mod Reading

@@ -3,8 +3,7 @@ pub mod Ends
 pub mod Statuses
 pub mod Jobs
 pub mod Writing
-pub mod LinesWriting
-pub mod DecodeWriting
+pub mod MakerWriting
 pub mod Telling
 pub mod CommandLemmas
 pub mod TextLemmas

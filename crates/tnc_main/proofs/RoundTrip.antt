@@ -1,5 +1,5 @@
 -- What encode writes is heard by decode.
-use Rattle.tnc_main.proofs.Common.{◌≡◌, ℕ, ◌+◌, ◌≤◌, Bool, true, false, true≢false, ℤ, List, All, length, map, take}
+use Rattle.tnc_main.proofs.Common.{◌≡◌, ℕ, ◌≤◌, Bool, true, false, true≢false, ℤ, List, All, length, map, take}
 use Rattle.tnc_main.proofs.Common.{nat_lt, Option, Some, None, refl, sym, subst, ap, ◌∙◌, is_some, if◌then◌else◌}
 use Rattle.tnc_main.proofs.Common.{Transmission, IsTransmission, Candidate, DecodeWords, EncodeWords, Rates}
 use Rattle.tnc_main.proofs.Common.{InputFault, LongWav, TooLong, input_limit, audio_fault, samples_read, Modem, Plain}
@@ -114,7 +114,7 @@ module _ (encode : EncodeWords) (decode : DecodeWords) (octets : List ℕ) (none
   pub taken : length (encoded encode octets) ≤ input_limit → audio_fault decode (encoded encode octets) ≡ None
   unfolding encoded
   taken short =
-      ap (λ b. if b then option_or (stopping_fault decode (take (input_limit + 1) (encoded encode octets)))
+      ap (λ b. if b then option_or (stopping_fault decode (take input_limit (encoded encode octets)))
       (Some TooLong) else form_fault decode (encoded encode octets))
       (le-ltb input_limit (length (encoded encode octets)) short)
       ∙ ap (λ form. form_fault_at (rates_of decode.receiving) form (encoded encode octets)) same

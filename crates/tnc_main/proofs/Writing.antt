@@ -1,17 +1,14 @@
 -- What commands write, by how they end.
-use Rattle.tnc_main.proofs.Common.{◌≡◌, ℕ, ◌<◌, ◌≤◌, List, [], ◌++◌, length, Option, Some, Result, Ok, Err, IfErr, inl}
-use Rattle.tnc_main.proofs.Common.{inr, append-nil, refl, sym, subst, ap, ◌∙◌, arith, ◌⊎◌, OnOk, OnErr}
-use Rattle.tnc_main.proofs.Common.{append_cancel_left, WrotePart, Command, Decode, Encode, Show, Loop, Bench, Serve}
-use Rattle.tnc_main.proofs.Common.{Help, Record, Call, Version, LoopWords, BenchOptions, Fault, InputFault, input_limit}
+use Rattle.tnc_main.proofs.Common.{◌≡◌, ℕ, List, [], ◌++◌, Option, Some, Result, Ok, Err, IfErr, inl}
+use Rattle.tnc_main.proofs.Common.{inr, append-nil, refl, sym, subst, ap, ◌∙◌, ◌⊎◌, OnOk, OnErr}
+use Rattle.tnc_main.proofs.Common.{WrotePart, Command, Decode, Encode, Show, Loop, Bench, Serve}
+use Rattle.tnc_main.proofs.Common.{Help, Record, Call, Version, LoopWords, BenchOptions, InputFault}
 use Rattle.tnc_main.proofs.Common.{encoded, encoded_before, LoopFault, BenchFault, CommandFault, IsReportOf, Status}
-use Rattle.tnc_main.proofs.Common.{BadInput, ReadFault, WriteFault, Stop, Input, Stray, NotQuiet, Spent, Memory, Read}
+use Rattle.tnc_main.proofs.Common.{ReadFault, WriteFault, Stop, Input, Stray, NotQuiet, Spent, Memory, Read}
 use Rattle.tnc_main.proofs.Common.{Write, Makes, fault_of, HasAtMemory, MakesPart, WritesAtEnd, Writes, EndsAs}
-use Rattle.tnc_main.proofs.Common.{IsStopOfRun, end_of, end_of_bench, end_of_loop, status_of}
-use Rattle.std.proofs.lemmas.Bool.{cases_lt}
+use Rattle.tnc_main.proofs.Common.{IsStopOfRun, end_of_bench, end_of_loop, status_of}
 use Rattle.slicer_bank.proofs.SomeList.{some_list}
 use Rattle.clean_signal.specs.TrueEnds.{true_ends}
-use Rattle.tnc_forms.specs.declared.fault.Fault.TheVariants.{Input as OfInput, Memory as OfMemory, Read as OfRead}
-use Rattle.tnc_forms.specs.declared.fault.Fault.TheVariants.{Write as OfWrite}
 use Rattle.tnc_forms.specs.HexFrames.{frames_in_lines}
 use Rattle.tnc_forms.proofs.WrittenParts.{wrote_all}
 use Rattle.tnc_encode.proofs.EncodedLemmas.{part_before}
@@ -52,17 +49,8 @@ makes_first (Call options) octets text h = absurd h
 makes_first (Help topic) octets text h = h
 makes_first Version octets text h = h
 
--- a first part of that which was written is what was written
-pub part_made : (command : Command) (octets whole before text : List ℕ) (now : Option (List ℕ))
-    → MakesFirst command octets whole → WrotePart before whole now
-    → now ≡ Some (before ++ text) → MakesPart command octets text
-part_made command octets whole before text now makes part is =
-    let both : Some (before ++ part.0) ≡ Some (before ++ text) = sym part.3 ∙ is in
-    let same : before ++ part.0 ≡ before ++ text = cc both in
-    inr (whole, makes, (part.1, part.2 ∙ ap (λ p. p ++ part.1) (append_cancel_left before part.0 text same)))
-
 -- what is written before a fault is a first part of what would be written without it
-up_to_fault : (command : Command) (octets text : List ℕ) → MakesUpToFault command octets text
+pub up_to_fault : (command : Command) (octets text : List ℕ) → MakesUpToFault command octets text
     → MakesPart command octets text
 up_to_fault (Decode words) octets text h = inr (text, h, begins_all text)
 up_to_fault (Encode words) octets text h =
@@ -82,7 +70,7 @@ up_to_fault Version octets text h = absurd h
 -- ---- an end whose line could not be told
 
 module _ (octets : List ℕ) (left : Option (List ℕ)) (text : List ℕ) where
-  refused_memory : (command : Command) → IsRefused command octets left text → HasAtMemory command octets left text
+  refused_memory : (command : Command) → IsRefused command octets text → HasAtMemory command octets left text
   refused_memory (Decode words) h = inr h
   refused_memory (Encode words) h = inr (inr h)
   refused_memory (Show words) h = inr h
@@ -94,7 +82,7 @@ module _ (octets : List ℕ) (left : Option (List ℕ)) (text : List ℕ) where
   refused_memory (Help topic) h = tt
   refused_memory Version h = tt
 
-  refused_write : (command : Command) → IsRefused command octets left text → HasAtWriteFault command octets left text
+  refused_write : (command : Command) → IsRefused command octets text → HasAtWriteFault command octets left text
   refused_write (Decode words) h = inr h
   refused_write (Encode words) h = inr (inr h)
   refused_write (Show words) h = inr h
@@ -239,34 +227,6 @@ module _ (command : Command) (octets : List ℕ) (left : Option (List ℕ)) (tex
 module _ (command : Command) (octets before : List ℕ) (left now : Option (List ℕ)) where
   abbrev pub Written : Status → Type 0
   Written status = (text : List ℕ) × Writes command octets left status text × (now ≡ Some (before ++ text))
-
-  -- of a command that reads its input
-  pub reader_writes : (end : Result (Unit {0}) Fault)
-      → OnOk end ((text : List ℕ) × Makes command octets text × (now ≡ Some (before ++ text)))
-      → ((fault : InputFault) → length octets ≤ input_limit → end ≡ Err (OfInput fault)
-      → (text : List ℕ) × MakesUpToFault command octets text × (now ≡ Some (before ++ text)))
-      → ((fault : InputFault) → input_limit < length octets → end ≡ Err (OfInput fault) → Written BadInput)
-      → (end ≡ Err OfMemory → Written NoMemory)
-      → (end ≡ Err OfRead → Written ReadFault)
-      → (end ≡ Err OfWrite → Written WriteFault)
-      → Written (status_of (end_of end))
-  reader_writes (Ok x) made told long memory read write = made
-  reader_writes (Err OfMemory) made told long memory read write = memory refl
-  reader_writes (Err OfRead) made told long memory read write = read refl
-  reader_writes (Err OfWrite) made told long memory read write = write refl
-  reader_writes (Err (OfInput fault)) made told long memory read write = elim (cases_lt input_limit (length octets)) [
-    | inl over ↦ long fault over refl
-    | inr few ↦
-        let h = told fault few refl in (
-          h.0,
-          record {
-            part = up_to_fault command octets h.0 h.1;
-            too_many = λ over. absurd (omega arith);
-            up_to_fault = λ fits. h.1;
-          },
-          h.2,
-        )
-  ]
 
   -- of a loop
   pub loop_writes : (end : Result (Unit {0}) LoopFault)

@@ -3,7 +3,6 @@
 use Rattle.std.specs.Prelude.{◌≡◌, ℕ, ⊤, ◌≤◌, ◌<◌, ◌-◌, ◌⊎◌, true, List, [], ◌++◌, length, take, Option, Some}
 use Rattle.std.specs.Prelude.{None}
 use Rattle.tnc_forms.specs.declared.fault.InputFault.{InputFault}
-use Rattle.tnc_forms.specs.declared.fault.InputFault.TheVariants.{TooLong}
 use Rattle.tnc_forms.specs.HexFrames.{frames_in_lines}
 use Rattle.tnc_forms.specs.Reading.{input_limit, piece_limit}
 use Rattle.tnc_forms.specs.Taken.{WereRead}
@@ -12,7 +11,6 @@ use Rattle.tnc_words.specs.declared.command.Command.TheVariants.{Decode, Encode,
 use Rattle.tnc_words.specs.declared.command.Command.TheVariants.{Record, Call, Version}
 use Rattle.tnc_words.specs.declared.command.DecodeWords.{DecodeWords}
 use Rattle.tnc_words.specs.Help.{text_about, version_text}
-use Rattle.tnc_decode.specs.Audio.{audio_fault}
 use Rattle.tnc_decode.specs.Decoded.{IsDecoded}
 use Rattle.tnc_decode.specs.Settled.{IsPrintBelow, IsSettled, sample_count}
 use Rattle.tnc_decode.specs.Written.{most_at_once}
@@ -127,31 +125,29 @@ pub record MostOfRead (words : DecodeWords) (octets : List ℕ) (left : Option (
 
 -- ---- each command
 
--- The text is what a command writes of too many octets: of lines, what the first 2^40 octets settle. A WAV file can be
--- refused for its head before it is too long.
-abbrev pub MakesOfTooMany : Command → List ℕ → Option (List ℕ) → List ℕ → Type 0
-MakesOfTooMany (Decode words) octets left text = audio_fault words octets ≡ Some TooLong
-    → SettledByRead (Decode words) octets left text
-MakesOfTooMany (Encode words) octets left text = text ≡ encoded_so_far words (take input_limit octets)
-MakesOfTooMany (Show words) octets left text = IsShownOfMany words octets text
-MakesOfTooMany (Loop words) octets left text = text ≡ []
-MakesOfTooMany (Bench options) octets left text = text ≡ []
-MakesOfTooMany (Serve options) octets left text = ⊥
-MakesOfTooMany (Record options) octets left text = ⊥
-MakesOfTooMany (Call options) octets left text = ⊥
-MakesOfTooMany (Help topic) octets left text = text ≡ []
-MakesOfTooMany Version octets left text = text ≡ []
+-- the text is what a command writes of too many octets: one that writes while it reads, what the first 2^40 settle
+abbrev pub MakesOfTooMany : Command → List ℕ → List ℕ → Type 0
+MakesOfTooMany (Decode words) octets text = IsSettled words (take input_limit octets) text
+MakesOfTooMany (Encode words) octets text = text ≡ encoded_so_far words (take input_limit octets)
+MakesOfTooMany (Show words) octets text = IsShownOfMany words octets text
+MakesOfTooMany (Loop words) octets text = text ≡ []
+MakesOfTooMany (Bench options) octets text = text ≡ []
+MakesOfTooMany (Serve options) octets text = ⊥
+MakesOfTooMany (Record options) octets text = ⊥
+MakesOfTooMany (Call options) octets text = ⊥
+MakesOfTooMany (Help topic) octets text = text ≡ []
+MakesOfTooMany Version octets text = text ≡ []
 
 -- the text is what a command writes of octets before it refuses them
-pub record MakesBefore (command : Command) (octets : List ℕ) (left : Option (List ℕ)) (text : List ℕ) : Type 0 where
+pub record MakesBefore (command : Command) (octets text : List ℕ) : Type 0 where
   pub part : MakesPart command octets text
-  pub too_many : input_limit < length octets → MakesOfTooMany command octets left text
+  pub too_many : input_limit < length octets → MakesOfTooMany command octets text
   pub up_to_fault : length octets ≤ input_limit → MakesUpToFault command octets text
 
 -- a command refuses the octets, and has written this text before
-abbrev pub IsRefused : Command → List ℕ → Option (List ℕ) → List ℕ → Type 0
-IsRefused command octets left text = (fault : InputFault) × (fault_of command octets ≡ Some fault)
-    × MakesBefore command octets left text
+abbrev pub IsRefused : Command → List ℕ → List ℕ → Type 0
+IsRefused command octets text = (fault : InputFault) × (fault_of command octets ≡ Some fault)
+    × MakesBefore command octets text
 
 -- the text is what a command has written when its input fails
 abbrev pub MakesAtReadFault : Command → List ℕ → Option (List ℕ) → List ℕ → Type 0
@@ -184,12 +180,12 @@ MakesAtStray Version octets text = ⊥
 -- How much a first part has at least when memory runs out. It can also run out when a refusal is to be told.
 abbrev pub HasAtMemory : Command → List ℕ → Option (List ℕ) → List ℕ → Type 0
 HasAtMemory (Decode words) octets left text = SettledByPart words octets left text
-    ⊎ IsRefused (Decode words) octets left text
+    ⊎ IsRefused (Decode words) octets text
 HasAtMemory (Encode words) octets left text =
     SettledByMost (Encode words) octets left text ⊎ (WritesAtEnd (Encode words)
-    ⊎ IsRefused (Encode words) octets left text)
+    ⊎ IsRefused (Encode words) octets text)
 HasAtMemory (Show words) octets left text = SettledByMost (Show words) octets left text
-    ⊎ IsRefused (Show words) octets left text
+    ⊎ IsRefused (Show words) octets text
 HasAtMemory (Loop words) octets left text = ⊤
 HasAtMemory (Bench options) octets left text = ⊤
 HasAtMemory (Serve options) octets left text = ⊥
@@ -201,12 +197,12 @@ HasAtMemory Version octets left text = ⊤
 -- How much a first part has at least when the output fails. The report can also fail when a refusal is to be told.
 abbrev pub HasAtWriteFault : Command → List ℕ → Option (List ℕ) → List ℕ → Type 0
 HasAtWriteFault (Decode words) octets left text = MostOfRead words octets left text
-    ⊎ IsRefused (Decode words) octets left text
+    ⊎ IsRefused (Decode words) octets text
 HasAtWriteFault (Encode words) octets left text =
     MostOfLines (Encode words) octets left text ⊎ (WritesAtEnd (Encode words)
-    ⊎ IsRefused (Encode words) octets left text)
+    ⊎ IsRefused (Encode words) octets text)
 HasAtWriteFault (Show words) octets left text = MostOfLines (Show words) octets left text
-    ⊎ IsRefused (Show words) octets left text
+    ⊎ IsRefused (Show words) octets text
 HasAtWriteFault (Loop words) octets left text = ⊤
 HasAtWriteFault (Bench options) octets left text = ⊤
 HasAtWriteFault (Serve options) octets left text = ⊥

@@ -55,7 +55,7 @@ Leaves command octets GaveUp left = ⊥
 abbrev pub Writes : Command → List ℕ → Option (List ℕ) → Status → List ℕ → Type 0
 Writes command octets left Done text = Makes command octets text
 Writes command octets left BadWords text = ⊥
-Writes command octets left BadInput text = MakesBefore command octets left text
+Writes command octets left BadInput text = MakesBefore command octets text
 Writes command octets left Memory text = MakesPart command octets text × HasAtMemory command octets left text
 Writes command octets left ReadFault text = MakesPart command octets text × MakesAtReadFault command octets left text
 Writes command octets left WriteFault text = MakesPart command octets text × HasAtWriteFault command octets left text

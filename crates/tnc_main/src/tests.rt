@@ -169,7 +169,7 @@ static STATUSES: [Row<'static>; 15] = [
     ("decode", "12345678", [1, 1, 0], (4, 0, "")),
     ("encode", SHORTEST, [2, NEVER, NEVER], (4, 0, "")),
     ("show", SHORTEST, [2, NEVER, NEVER], (4, 0, "")),
-    ("decode", "", [NEVER, 0, NEVER], (5, 0, "")),
+    ("decode", "", [NEVER, 0, NEVER], (0, 0, "")),
     ("encode", SHORTEST, [NEVER, 0, NEVER], (5, 0, "")),
     ("encode --wav", SHORTEST, [NEVER, 1, NEVER], (5, 44, "")),
     ("show", SHORTEST, [NEVER, 0, NEVER], (5, 0, "")),

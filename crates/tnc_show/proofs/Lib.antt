@@ -1,3 +1,3 @@
 pub mod LineLemmas
 pub mod TakingLemmas
-pub mod EndedLemmas
+pub mod MakingLemmas

@@ -15,7 +15,6 @@ use Rattle.ax25_frames.specs.FrameFault.{FollowsPath, ShowsFrameFault}
 use Rattle.ax25_frames.specs.FrameText.{text_of_frame, text_of_frame_fault}
 use Rattle.ax25_frames.proofs.FrameLemmas.{Reading, IsOneFrame, IsOneFrame-address, IsOneFrame-kind, IsOneFrame-fault}
 use Rattle.ax25_frames.proofs.Outcomes.{IsOneKind-outcome}
-use Rattle.tnc_forms.proofs.StreamingLemmas.{IsJoined}
 use Rattle.tnc_show.specs.Shown.{IsLineOf, IsTextOf, ended}
 
 -- a frame is the only reading of its octets
@@ -99,6 +98,11 @@ zipped_both R (x ∷ xs) others [] more h g = absurd h
 zipped_both R (x ∷ xs) others (y ∷ ys) more h g = (h.0, zipped_both R xs others ys more h.1 g)
 
 -- texts of frames make a text of all of them
+pub record IsJoined (Text : List (List ℕ) → List ℕ → Type 0) : Type 0 where
+  pub none : Text [] []
+  pub more : (frames others : List (List ℕ)) (text next : List ℕ) → Text frames text → Text others next
+      → Text (frames ++ others) (text ++ next)
+
 pub texts_join : (modulus : Modulus) → IsJoined (IsTextOf modulus)
 texts_join modulus = record {
   none = record { lines = []; each = tt; is = refl };

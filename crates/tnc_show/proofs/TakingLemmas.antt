@@ -1,18 +1,21 @@
 -- A piece of an input, taken line by line.
-use Rattle.std.proofs.Common.{◌≡◌, ℕ, List, [], ◌++◌, length, take, drop, append_assoc, Option, Some, None, refl, sym}
-use Rattle.std.proofs.Common.{subst, ap, ◌∙◌}
+use Rattle.std.proofs.Common.{◌≡◌, ℕ, List, [], ◌++◌, length, take, drop, append_assoc, Option, Some, None, sym}
+use Rattle.std.proofs.Common.{subst, ap, ◌∙◌, arith}
 use Rattle.std.specs.Option.{option_to_list}
-use Rattle.std.proofs.lemmas.List.{append-nil, nil_from_length, take-append-drop}
+use Rattle.std.proofs.lemmas.List.{append-nil, nil_from_length, take-append-drop, take_all}
 use Rattle.ax25_frames.specs.declared.frame.Modulus.{Modulus}
 use Rattle.tnc_forms.specs.declared.fault.InputFault.{InputFault}
+use Rattle.tnc_forms.specs.Faults.{hex_fault}
 use Rattle.tnc_forms.specs.HeldLine.{HeldLine, StandsFor}
+use Rattle.tnc_forms.specs.HexFrames.{frames_in_lines}
 use Rattle.tnc_forms.specs.LinesSoFar.{fault_so_far, frames_so_far}
-use Rattle.tnc_base.specs.Streams.{WrotePart}
-use Rattle.tnc_forms.specs.Streaming.{WroteCut, WroteFront, WroteMore, lines_form}
 use Rattle.tnc_forms.proofs.HeldLineLemmas.{fault_held}
-use Rattle.tnc_forms.proofs.LinesForm.{lines_are_form}
-use Rattle.tnc_forms.proofs.StreamingLemmas.{wrote_no_more}
-use Rattle.tnc_show.specs.HeldShow.{HasTaken, IsTextOfMore, TookFront}
+use Rattle.tnc_engine.specs.Making.{Adds, Finishes, Takes}
+use Rattle.tnc_engine.specs.declared.maker.Taken.TheVariants.{Front, Bad}
+use Rattle.tnc_words.specs.declared.command.ShowWords.{ShowWords}
+use Rattle.tnc_show.specs.declared.shower.Shower.{Shower}
+use Rattle.tnc_show.specs.HeldShow.{HasShown, HasTaken, IsTextOfMore, TookFront}
+use Rattle.tnc_show.specs.Making.{show_making}
 use Rattle.tnc_show.specs.Shown.{IsTextOf}
 use Rattle.tnc_show.proofs.LineLemmas.{texts_join}
 
@@ -72,50 +75,56 @@ module _ (modulus : Modulus) (was now : HeldLine) (octets rest text : List ℕ)
         record { frames = e.1.frames; known = ap (frames_so_far 0) whole ∙ b.1 ∙ e.1.known; is = e.1.is },
       )
 
--- ---- what was written of it
+-- ---- as the engine asks for it
 
--- the text, with a bad line or without
-pub text_more : (modulus : Modulus) (before octets text : List ℕ) (lines : HeldLine) (fault : Option InputFault)
-    → HasTaken modulus before octets text lines fault
-    → IsTextOfMore modulus before octets text
-text_more modulus before octets text lines None h = h.1
-text_more modulus before octets text lines (Some fault) h = h.1
-
-module _ (modulus : Modulus) (before octets text : List ℕ) (t : IsTextOfMore modulus before octets text)
-    (was now : Option (List ℕ)) where
-  pub wrote_more : ((b : List ℕ) → was ≡ Some b → now ≡ Some (b ++ text))
-      → WroteMore (IsTextOf modulus) (lines_form 0) before octets was now
-  wrote_more wrote = record {
-    frames = t.frames;
-    known = t.known;
-    wrote = record { text = text; is = t.is; written = wrote };
-  }
-
-pub good_lines : (lines : HeldLine) (octets : List ℕ) → lines.least ≡ 0 → StandsFor lines octets
+-- nothing is wrong with what lines have taken
+good_lines : (lines : HeldLine) (octets : List ℕ) → lines.least ≡ 0 → StandsFor lines octets
     → fault_so_far 0 octets ≡ None
 good_lines lines octets least h = subst (λ n. fault_so_far n octets ≡ None) least (fault_held lines octets h)
 
-module _ (modulus : Modulus) (lines : HeldLine) (before octets : List ℕ) (least : lines.least ≡ 0)
-    (h : StandsFor lines before) (was : Option (List ℕ)) where
-  pub nothing_taken : WroteFront (IsTextOf modulus) (lines_form 0) before octets was was
-  nothing_taken = record {
-    front = [];
-    rest = octets;
-    parts = refl;
-    good = ap (fault_so_far 0) (append-nil before) ∙ good_lines lines before least h;
-    wrote = wrote_no_more (IsTextOf modulus) (texts_join modulus) (lines_form 0) (lines_are_form 0) before was;
-  }
+-- the text is what the octets settle beside those before
+adds_text : (words : ShowWords) (before octets text : List ℕ) → IsTextOfMore words.modulus before octets text
+    → Adds (show_making words) before octets text
+adds_text words before octets text more first settled =
+    subst (λ fs. IsTextOf words.modulus fs (first ++ text)) (sym more.known)
+    ((texts_join words.modulus).more (frames_so_far 0 before) more.frames first text settled more.is)
 
-  pub cut_more : (text : List ℕ) → IsTextOfMore modulus before octets text → (now : Option (List ℕ))
-      → ((b : List ℕ) → was ≡ Some b → WrotePart b text now)
-      → WroteCut (IsTextOf modulus) (lines_form 0) before octets was now
-  unfolding nothing_taken
-  cut_more text t now wrote = record {
-    mid = was;
-    front = nothing_taken;
-    frames = t.frames;
-    others = [];
-    known = t.known ∙ ap (λ o. frames_so_far 0 o ++ t.frames) (sym (append-nil before))
-        ∙ sym (append-nil (frames_so_far 0 (before ++ []) ++ t.frames));
-    wrote = record { text = text; is = t.is; written = wrote };
-  }
+pub takes_all : (words : ShowWords) (now : Shower) (before octets text : List ℕ) → now.modulus ≡ words.modulus
+    → now.lines.least ≡ 0 → HasTaken words.modulus before octets text now.lines None
+    → Takes (show_making words) (HasShown now words) before octets text (Front (length octets))
+takes_all words now before octets text modulus least (stands, more) =
+    subst (λ o. HasShown now words (before ++ o) × (fault_so_far 0 (before ++ o) ≡ None)
+    × Adds (show_making words) before o text) (sym (take_all (length octets) octets (omega arith))) (
+      record { modulus = modulus; least = least; stands = stands },
+      good_lines now.lines (before ++ octets) least stands,
+      adds_text words before octets text more,
+    )
+
+pub takes_bad : (words : ShowWords) (now : Shower) (before octets text : List ℕ) (lines : HeldLine) (fault : InputFault)
+    → HasTaken words.modulus before octets text lines (Some fault)
+    → Takes (show_making words) (HasShown now words) before octets text (Bad fault)
+takes_bad words now before octets text lines fault (bad, more) = (bad, adds_text words before octets text more)
+
+-- ---- the end of the input
+
+-- the frame that ends with it
+pub finishes_frame : (words : ShowWords) (octets text more : List ℕ) (frame : Option (List ℕ)) → hex_fault 0 octets ≡ None
+    → frames_in_lines 0 octets ≡ frames_so_far 0 octets ++ option_to_list frame
+    → IsTextOf words.modulus (option_to_list frame) more → text ≡ more → Finishes (show_making words) octets text None
+finishes_frame words octets text more frame good known is same = record {
+  known = good;
+  closes = λ first settled. subst (λ t. IsTextOf words.modulus (frames_in_lines 0 octets) (first ++ t)) (sym same)
+      (subst (λ fs. IsTextOf words.modulus fs (first ++ more)) (sym known)
+      ((texts_join words.modulus).more (frames_so_far 0 octets) (option_to_list frame) first more settled is));
+}
+
+-- a last line that is bad
+pub finishes_bad : (words : ShowWords) (octets text : List ℕ) (fault : InputFault) → hex_fault 0 octets ≡ Some fault
+    → frames_in_lines 0 octets ≡ frames_so_far 0 octets → text ≡ []
+    → Finishes (show_making words) octets text (Some fault)
+finishes_bad words octets text fault bad known empty = record {
+  known = bad;
+  closes = λ first settled. subst (λ t. IsTextOf words.modulus (frames_in_lines 0 octets) t)
+      (sym (append-nil first) ∙ ap (λ t. first ++ t) (sym empty))
+      (subst (λ fs. IsTextOf words.modulus fs first) (sym known) settled);
+}

@@ -4,6 +4,8 @@ use Rattle.ax25_frames.specs.declared.frame.Modulus.{Modulus}
 use Rattle.tnc_forms.specs.declared.fault.InputFault.{InputFault}
 use Rattle.tnc_forms.specs.HeldLine.{HeldLine, StandsFor}
 use Rattle.tnc_forms.specs.LinesSoFar.{fault_so_far, frames_so_far}
+use Rattle.tnc_words.specs.declared.command.ShowWords.{ShowWords}
+use Rattle.tnc_show.specs.declared.shower.Shower.{Shower}
 use Rattle.tnc_show.specs.Shown.{IsTextOf}
 
 -- the text is that of the frames that octets more have brought
@@ -25,3 +27,9 @@ pub record TookFront (modulus : Modulus) (was : HeldLine) (octets rest text : Li
   pub parts : octets ≡ front ++ rest
   pub each : (before : List ℕ) → StandsFor was before → StandsFor now (before ++ front)
       × IsTextOfMore modulus before front text
+
+-- by these words the shower has taken these octets
+pub record HasShown (shower : Shower) (words : ShowWords) (octets : List ℕ) : Type 0 where
+  pub modulus : shower.modulus ≡ words.modulus
+  pub least : shower.lines.least ≡ 0
+  pub stands : StandsFor shower.lines octets

@@ -6,6 +6,7 @@
 
 mod laws;
 mod lines;
+mod shower;
 mod showing;
 
 pub use laws::one_text;

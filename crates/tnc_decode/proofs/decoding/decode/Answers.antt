@@ -1,44 +1,33 @@
-use Rattle.tnc_decode.proofs.EndedLemmas.{to_end, to_good, to_decoded, to_bad, to_decoded_before, to_stops, to_settled}
-use Rattle.tnc_decode.proofs.EndedLemmas.{to_most, to_part, to_cut}
+use Rattle.tnc_decode.proofs.Common.{sym, subst, ap, length, Err, ◌∙◌, err_from_is_err_and, most_at_once}
+use Rattle.tnc_engine.specs.Ended.{IsEnded}
+use Rattle.tnc_engine.proofs.EndedLemmas.{ended_first}
+use Rattle.tnc_decode.specs.Making.{decode_making}
+use Rattle.tnc_decode.proofs.MakingLemmas.{decodes}
 use Rattle.tnc_decode.proofs.decoding.decode.Goals as goal
 
-pub returns-clause-end : goal.returns-clause-end
-returns-clause-end g c = λ octets left. to_end c.args.words octets _ _ _ c.decode_blocks.result
-    (c.decode_blocks.ensures.ended octets left)
+pub returns-in_err-receiver-clause-ended : goal.returns-in_err-receiver-clause-ended
+returns-in_err-receiver-clause-ended g c = λ octets left.
+    let told = err_from_is_err_and c.from_residual.result c.from_residual.ensures.1 in
+    subst (IsEnded (decode_making c.args.words) (most_at_once c.args.words) octets (g.I.Source.left c.args.input.now)
+    (g.O.Sink.written c.args.output.now) (g.O.Sink.written c.args.output.now)) (sym (told.1 ∙ ap Err told.2))
+    (ended_first (decode_making c.args.words) (decodes c.args.words) (most_at_once c.args.words) octets _ _ left)
 
-pub returns-clause-good : goal.returns-clause-good
-returns-clause-good g c = λ octets left. to_good c.args.words octets _ _ _ c.decode_blocks.result
-    (c.decode_blocks.ensures.ended octets left)
+pub returns-in_err-buffer-clause-ended : goal.returns-in_err-buffer-clause-ended
+returns-in_err-buffer-clause-ended g c = λ octets left.
+    let told = err_from_is_err_and c.from_residual-in_err-buffer.result c.from_residual-in_err-buffer.ensures.1 in
+    subst (IsEnded (decode_making c.args.words) (most_at_once c.args.words) octets (g.I.Source.left c.args.input.now)
+    (g.O.Sink.written c.args.output.now) (g.O.Sink.written c.args.output.now)) (sym (told.1 ∙ ap Err told.2))
+    (ended_first (decode_making c.args.words) (decodes c.args.words) (most_at_once c.args.words) octets _ _ left)
 
-pub returns-clause-decoded : goal.returns-clause-decoded
-returns-clause-decoded g c = λ octets before left was. to_decoded c.args.words octets _ _ _ c.decode_blocks.result
-    (c.decode_blocks.ensures.ended octets left) before was
+pub returns-clause-ended : goal.returns-clause-ended
+returns-clause-ended g c = λ octets left.
+    subst (λ most. IsEnded (decode_making c.args.words) most octets (g.I.Source.left c.make.new.input)
+    (g.O.Sink.written c.args.output.now) (g.O.Sink.written c.make.new.output) c.make.result)
+    (ap length c.deref_mut.ensures.value ∙ c.in_ok-buffer.ensures)
+    (c.make.ensures.ended c.args.words octets (c.in_ok-receiver.ensures, record { shared = c.type_bounds.sync-R.shared }) left)
 
-pub returns-clause-bad : goal.returns-clause-bad
-returns-clause-bad g c = λ octets fault left is. to_bad c.args.words octets _ _ _ c.decode_blocks.result
-    (c.decode_blocks.ensures.ended octets left) fault is
+pub make-requires-clause-new : goal.make-requires-clause-new
+make-requires-clause-new g c = (c.args.words, (c.in_ok-receiver.ensures, record { shared = c.type_bounds.sync-R.shared }))
 
-pub returns-clause-decoded_before : goal.returns-clause-decoded_before
-returns-clause-decoded_before g c = λ octets before fault left was short is.
-    to_decoded_before c.args.words octets _ _ _ c.decode_blocks.result (c.decode_blocks.ensures.ended octets left)
-    before fault was short is
-
-pub returns-clause-stops : goal.returns-clause-stops
-returns-clause-stops g c = λ octets left is. to_stops c.args.words octets _ _ _ c.decode_blocks.result
-    (c.decode_blocks.ensures.ended octets left) is
-
-pub returns-clause-settled : goal.returns-clause-settled
-returns-clause-settled g c = λ octets before left was is. to_settled c.args.words octets _ _ _ c.decode_blocks.result
-    (c.decode_blocks.ensures.ended octets left) before was is
-
-pub returns-clause-most : goal.returns-clause-most
-returns-clause-most g c = λ octets before left was is. to_most c.args.words octets _ _ _ c.decode_blocks.result
-    (c.decode_blocks.ensures.ended octets left) before was is
-
-pub returns-clause-part : goal.returns-clause-part
-returns-clause-part g c = λ octets before left was is. to_part c.args.words octets _ _ _ c.decode_blocks.result
-    (c.decode_blocks.ensures.ended octets left) before was is
-
-pub returns-clause-cut : goal.returns-clause-cut
-returns-clause-cut g c = λ octets before text left was d. to_cut c.args.words octets _ _ _ c.decode_blocks.result
-    (c.decode_blocks.ensures.ended octets left) before text was d
+pub make-requires-clause-laws : goal.make-requires-clause-laws
+make-requires-clause-laws g c = decodes

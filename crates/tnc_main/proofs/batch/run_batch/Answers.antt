@@ -12,7 +12,7 @@ use Rattle.tnc_main.proofs.CommandLemmas.{last as last_of}
 use Rattle.tnc_main.proofs.Jobs.{same_command, reads, for_job}
 use Rattle.tnc_main.proofs.TextLemmas.{done_text, long_fault, near_text, repaired_text, units_text}
 use Rattle.tnc_main.proofs.Writing.{told_writes}
-use Rattle.tnc_main.proofs.DecodeWriting.{unread}
+use Rattle.tnc_main.proofs.MakerWriting.{unread}
 use Rattle.tnc_main.proofs.Telling.{caused, ends_well, leaves, tells}
 use Rattle.tnc_main.proofs.LiveCommandLemmas.{not_live}
 use Rattle.tnc_main.proofs.batch.run_batch.Goals as goal

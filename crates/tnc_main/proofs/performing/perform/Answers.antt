@@ -1,36 +1,32 @@
-use Rattle.tnc_main.proofs.Common.{◌≡◌, ◌++◌, ℕ, List, [], Some, Err, inl, inr, refl, sym, subst, ap, ◌∙◌, OnOk, OnErr}
-use Rattle.tnc_main.proofs.Common.{WrotePart, Decode, Encode, Show, Loop, Bench, Help, Version, TooLong, encoded}
-use Rattle.tnc_main.proofs.Common.{encoded_before, ReadFault, WriteFault, ReadsNothing, end_of, end_of_bench}
+use Rattle.tnc_main.proofs.Common.{◌≡◌, ◌++◌, ℕ, List, [], Some, inl, inr, refl, sym, subst, ap, ◌∙◌, OnOk, OnErr}
+use Rattle.tnc_main.proofs.Common.{WrotePart, Decode, Encode, Show, Loop, Bench, Help, Version, TooLong}
+use Rattle.tnc_main.proofs.Common.{ReadsNothing, end_of, end_of_bench}
 use Rattle.tnc_main.proofs.Common.{end_of_loop}
 use Rattle.tnc_words.specs.Help.{text_about, version_text}
-use Rattle.tnc_forms.specs.declared.fault.Fault.TheVariants.{Input as OfInput}
-use Rattle.tnc_main.specs.declared.status.Status.TheVariants.{Memory as NoMemory}
 use Rattle.tnc_main.specs.Commands.{HeardAsMade}
 use Rattle.tnc_main.proofs.Ends.{if_ok, if_input, if_read, reader_sent, loop_ok, loop_no_input, loop_sent}
 use Rattle.tnc_main.proofs.Ends.{bench_no_input, bench_no_read, bench_ok, bench_sent, bench_write, on_ok, both_ok}
 use Rattle.tnc_main.proofs.Ends.{on_fault, text_no_input, text_no_read, text_sent}
-use Rattle.tnc_forms.proofs.Ends.{map_ok}
 use Rattle.tnc_main.proofs.CommandLemmas.{reads, reads_back, same_fault, no_fault, last as last_of, written}
-use Rattle.tnc_main.proofs.LinesWriting.{by_keeping, encode_at_memory, encode_at_read, encode_at_write, encode_of_many}
-use Rattle.tnc_main.proofs.LinesWriting.{show_at_memory, show_at_read, show_at_write, show_of_many}
-use Rattle.tnc_main.proofs.Writing.{Written, some_summary, nothing_written, part_written, at_memory, at_read, at_write}
-use Rattle.tnc_main.proofs.Writing.{reader_writes, loop_writes, text_writes, bench_writes}
-use Rattle.tnc_main.proofs.DecodeWriting.{at_memory as memory_decoded, at_read as read_decoded}
-use Rattle.tnc_main.proofs.DecodeWriting.{at_write as write_decoded, of_many as of_many_decoded}
+use Rattle.tnc_main.proofs.MakerWriting.{decode_reads, encode_reads, show_reads}
+use Rattle.tnc_main.proofs.Writing.{some_summary, nothing_written, part_written, at_memory, at_write}
+use Rattle.tnc_main.proofs.Writing.{loop_writes, text_writes, bench_writes}
 use Rattle.tnc_main.proofs.performing.perform.Goals as goal
 
 -- ---- decode
 
 pub returns-in-Decode-clause-end : goal.returns-in-Decode-clause-end
 returns-in-Decode-clause-end g c = λ octets read.
+    let left = reads c.args.command (Decode c.in-Decode.words) c.in-Decode.is _ octets read in
     if_ok c.ended.result c.decode.result c.ended.ensures
     (reads_back c.args.command (Decode c.in-Decode.words) c.in-Decode.is _ [])
-    (c.decode.ensures.end octets (reads c.args.command (Decode c.in-Decode.words) c.in-Decode.is _ octets read))
+    (decode_reads c.in-Decode.words octets _ _ _ c.decode.result (c.decode.ensures.ended octets left)).end
 
 pub returns-in-Decode-clause-stops : goal.returns-in-Decode-clause-stops
 returns-in-Decode-clause-stops g c = λ octets read is.
+    let left = reads c.args.command (Decode c.in-Decode.words) c.in-Decode.is _ octets read in
     reads_back c.args.command (Decode c.in-Decode.words) c.in-Decode.is _ _
-    (c.decode.ensures.stops octets (reads c.args.command (Decode c.in-Decode.words) c.in-Decode.is _ octets read)
+    ((decode_reads c.in-Decode.words octets _ _ _ c.decode.result (c.decode.ensures.ended octets left)).stops
     (if_input c.ended.result c.decode.result c.ended.ensures TooLong is))
 
 pub returns-in-Decode-clause-unread : goal.returns-in-Decode-clause-unread
@@ -42,45 +38,27 @@ returns-in-Decode-clause-heard_as_made g c = λ words same. let both : Decode c.
 
 pub returns-in-Decode-clause-good : goal.returns-in-Decode-clause-good
 returns-in-Decode-clause-good g c = λ octets read.
-    no_fault c.args.command (Decode c.in-Decode.words)
-    c.in-Decode.is octets c.ended.result c.decode.result c.ended.ensures
-    (c.decode.ensures.good octets (reads c.args.command (Decode c.in-Decode.words) c.in-Decode.is _ octets read))
+    let left = reads c.args.command (Decode c.in-Decode.words) c.in-Decode.is _ octets read in
+    no_fault c.args.command (Decode c.in-Decode.words) c.in-Decode.is octets c.ended.result c.decode.result c.ended.ensures
+    (decode_reads c.in-Decode.words octets _ _ _ c.decode.result (c.decode.ensures.ended octets left)).good
 
 pub returns-in-Decode-clause-bad : goal.returns-in-Decode-clause-bad
 returns-in-Decode-clause-bad g c = λ octets fault read is.
+    let left = reads c.args.command (Decode c.in-Decode.words) c.in-Decode.is _ octets read in
     same_fault c.args.command (Decode c.in-Decode.words) c.in-Decode.is octets
-    ∙ c.decode.ensures.bad octets fault (reads c.args.command (Decode c.in-Decode.words)
-    c.in-Decode.is _ octets read) (if_input c.ended.result c.decode.result c.ended.ensures fault is)
+    ∙ (decode_reads c.in-Decode.words octets _ _ _ c.decode.result (c.decode.ensures.ended octets left)).bad fault
+    (if_input c.ended.result c.decode.result c.ended.ensures fault is)
+
+pub returns-in-Decode-clause-written : goal.returns-in-Decode-clause-written
+returns-in-Decode-clause-written g c = λ octets before read was.
+    let left = reads c.args.command (Decode c.in-Decode.words) c.in-Decode.is _ octets read in
+    written c.args.command (Decode c.in-Decode.words) c.in-Decode.is octets before (g.I.Source.left c.decode.new.input)
+    (g.O.Sink.written c.decode.new.output) c.ended.result (end_of c.decode.result) c.ended.ensures
+    ((decode_reads c.in-Decode.words octets _ _ _ c.decode.result (c.decode.ensures.ended octets left)).written before was)
 
 pub returns-in-Decode-clause-unwritten : goal.returns-in-Decode-clause-unwritten
 returns-in-Decode-clause-unwritten g c = λ last. absurd
     (last_of c.args.command (Decode c.in-Decode.words) c.in-Decode.is last)
-
-pub returns-in-Decode-clause-written : goal.returns-in-Decode-clause-written
-returns-in-Decode-clause-written g c = λ octets before read was.
-    let words = c.in-Decode.words in
-    let end = c.decode.result in
-    let left_now = g.I.Source.left c.decode.new.input in
-    let now = g.O.Sink.written c.decode.new.output in
-    let left = reads c.args.command (Decode words) c.in-Decode.is _ octets read in
-    written c.args.command (Decode words) c.in-Decode.is octets before left_now now c.ended.result (end_of end)
-    c.ended.ensures
-    (reader_writes (Decode words) octets before left_now now end
-    (c.decode.ensures.decoded octets before left was)
-    (λ fault few. c.decode.ensures.decoded_before octets before fault left was few)
-    (λ fault over is.
-    of_many_decoded words octets before left_now now (λ text d. on_fault end is
-    (c.decode.ensures.cut octets before text left was d)) fault over (c.decode.ensures.bad octets fault left is)
-    (λ long. c.decode.ensures.settled octets before left was (inl (is ∙ ap (λ f. Err (OfInput f)) long))))
-    (λ is. memory_decoded words octets before left_now now
-    (λ text d. on_fault end is (c.decode.ensures.cut octets before text left was d))
-    (c.decode.ensures.part octets before left was is))
-    (λ is. read_decoded words octets before left_now now
-    (λ text d. on_fault end is (c.decode.ensures.cut octets before text left was d))
-    (c.decode.ensures.settled octets before left was (inr is)))
-    (λ is. write_decoded words octets before left_now now
-    (λ text d. on_fault end is (c.decode.ensures.cut octets before text left was d))
-    (c.decode.ensures.most octets before left was is)))
 
 pub returns-in-Decode-clause-sent : goal.returns-in-Decode-clause-sent
 returns-in-Decode-clause-sent g c = reader_sent c.ended.result c.decode.result c.ended.ensures c.args.command
@@ -89,14 +67,20 @@ returns-in-Decode-clause-sent g c = reader_sent c.ended.result c.decode.result c
 
 pub returns-in-Encode-clause-end : goal.returns-in-Encode-clause-end
 returns-in-Encode-clause-end g c = λ octets read.
+    let left = reads c.args.command (Encode c.in-Encode.words) c.in-Encode.is _ octets read in
     if_ok c.ended-in-Encode.result c.encode.result c.ended-in-Encode.ensures
     (reads_back c.args.command (Encode c.in-Encode.words) c.in-Encode.is _ [])
-    (c.encode.ensures.end octets (reads c.args.command (Encode c.in-Encode.words) c.in-Encode.is _ octets read))
+    (encode_reads c.in-Encode.words octets _ _ _ c.encode.result (λ kept. c.encode.ensures.whole octets kept left)
+    (λ kept which. ap g.O.Sink.written (c.encode.ensures.unwritten kept which))
+    (λ sent. c.encode.ensures.ended octets sent left)).end
 
 pub returns-in-Encode-clause-stops : goal.returns-in-Encode-clause-stops
 returns-in-Encode-clause-stops g c = λ octets read is.
+    let left = reads c.args.command (Encode c.in-Encode.words) c.in-Encode.is _ octets read in
     reads_back c.args.command (Encode c.in-Encode.words) c.in-Encode.is _ _
-    (c.encode.ensures.stops octets (reads c.args.command (Encode c.in-Encode.words) c.in-Encode.is _ octets read)
+    ((encode_reads c.in-Encode.words octets _ _ _ c.encode.result (λ kept. c.encode.ensures.whole octets kept left)
+    (λ kept which. ap g.O.Sink.written (c.encode.ensures.unwritten kept which))
+    (λ sent. c.encode.ensures.ended octets sent left)).stops
     (if_input c.ended-in-Encode.result c.encode.result c.ended-in-Encode.ensures TooLong is))
 
 pub returns-in-Encode-clause-unread : goal.returns-in-Encode-clause-unread
@@ -108,56 +92,29 @@ returns-in-Encode-clause-heard_as_made g c = λ words same. let both : Encode c.
 
 pub returns-in-Encode-clause-good : goal.returns-in-Encode-clause-good
 returns-in-Encode-clause-good g c = λ octets read.
-    no_fault c.args.command (Encode c.in-Encode.words)
-    c.in-Encode.is octets c.ended-in-Encode.result c.encode.result c.ended-in-Encode.ensures
-    (c.encode.ensures.good octets (reads c.args.command (Encode c.in-Encode.words) c.in-Encode.is _ octets read))
+    let left = reads c.args.command (Encode c.in-Encode.words) c.in-Encode.is _ octets read in
+    no_fault c.args.command (Encode c.in-Encode.words) c.in-Encode.is octets c.ended-in-Encode.result c.encode.result c.ended-in-Encode.ensures
+    (encode_reads c.in-Encode.words octets _ _ _ c.encode.result (λ kept. c.encode.ensures.whole octets kept left)
+    (λ kept which. ap g.O.Sink.written (c.encode.ensures.unwritten kept which))
+    (λ sent. c.encode.ensures.ended octets sent left)).good
 
 pub returns-in-Encode-clause-bad : goal.returns-in-Encode-clause-bad
 returns-in-Encode-clause-bad g c = λ octets fault read is.
+    let left = reads c.args.command (Encode c.in-Encode.words) c.in-Encode.is _ octets read in
     same_fault c.args.command (Encode c.in-Encode.words) c.in-Encode.is octets
-    ∙ c.encode.ensures.bad octets fault (reads c.args.command (Encode c.in-Encode.words)
-    c.in-Encode.is _ octets read) (if_input c.ended-in-Encode.result c.encode.result c.ended-in-Encode.ensures fault
-    is)
+    ∙ (encode_reads c.in-Encode.words octets _ _ _ c.encode.result (λ kept. c.encode.ensures.whole octets kept left)
+    (λ kept which. ap g.O.Sink.written (c.encode.ensures.unwritten kept which))
+    (λ sent. c.encode.ensures.ended octets sent left)).bad fault
+    (if_input c.ended-in-Encode.result c.encode.result c.ended-in-Encode.ensures fault is)
 
 pub returns-in-Encode-clause-written : goal.returns-in-Encode-clause-written
 returns-in-Encode-clause-written g c = λ octets before read was.
-    let command = Encode c.in-Encode.words in
-    let left_now = g.I.Source.left c.encode.new.input in
-    let now = g.O.Sink.written c.encode.new.output in
-    let left = reads c.args.command command c.in-Encode.is _ octets read in
-    written c.args.command command c.in-Encode.is octets before left_now now c.ended-in-Encode.result
-    (end_of c.encode.result) c.ended-in-Encode.ensures
-    (reader_writes command octets before left_now now c.encode.result
-    (map_ok c.encode.result (λ h. (encoded c.in-Encode.words octets, refl, h))
-    (c.encode.ensures.encoded octets before left was))
-    (λ fault few is. (
-      encoded_before c.in-Encode.words octets,
-      refl,
-      c.encode.ensures.encoded_before octets before fault left was few is,
-    ))
-    (λ fault over is. encode_of_many c.in-Encode.words octets before left_now now
-    (on_fault c.encode.result is (c.encode.ensures.cut octets before left was)) over
-    (c.encode.ensures.encoded_of_many octets before fault left was over is))
-    (λ memory. by_keeping c.in-Encode.words (Written command octets before left_now now NoMemory)
-    (λ kept. at_memory command kept octets before left_now now
-    (part_written command kept octets before left_now now (encoded c.in-Encode.words octets) refl
-    (on_fault c.encode.result memory (c.encode.ensures.cut octets before left was))))
-    (λ sent. encode_at_memory c.in-Encode.words octets before left_now now
-    (on_fault c.encode.result memory (c.encode.ensures.cut octets before left was))
-    (c.encode.ensures.part octets before left was sent memory)))
-    (λ is. by_keeping c.in-Encode.words (Written command octets before left_now now ReadFault)
-    (λ kept. at_read command kept octets before left_now now
-    (ap g.O.Sink.written (c.encode.ensures.unwritten kept (inr is)) ∙ was))
-    (λ sent. encode_at_read c.in-Encode.words octets before left_now now
-    (on_fault c.encode.result is (c.encode.ensures.cut octets before left was))
-    (c.encode.ensures.so_far octets before left was sent is)))
-    (λ write. by_keeping c.in-Encode.words (Written command octets before left_now now WriteFault)
-    (λ kept. at_write command kept octets before left_now now
-    (part_written command kept octets before left_now now (encoded c.in-Encode.words octets) refl
-    (on_fault c.encode.result write (c.encode.ensures.cut octets before left was))))
-    (λ sent. encode_at_write c.in-Encode.words octets before left_now now
-    (on_fault c.encode.result write (c.encode.ensures.cut octets before left was))
-    (c.encode.ensures.most octets before left was sent write))))
+    let left = reads c.args.command (Encode c.in-Encode.words) c.in-Encode.is _ octets read in
+    written c.args.command (Encode c.in-Encode.words) c.in-Encode.is octets before (g.I.Source.left c.encode.new.input)
+    (g.O.Sink.written c.encode.new.output) c.ended-in-Encode.result (end_of c.encode.result) c.ended-in-Encode.ensures
+    ((encode_reads c.in-Encode.words octets _ _ _ c.encode.result (λ kept. c.encode.ensures.whole octets kept left)
+    (λ kept which. ap g.O.Sink.written (c.encode.ensures.unwritten kept which))
+    (λ sent. c.encode.ensures.ended octets sent left)).written before was)
 
 pub returns-in-Encode-clause-unwritten : goal.returns-in-Encode-clause-unwritten
 returns-in-Encode-clause-unwritten g c = λ last which.
@@ -175,58 +132,44 @@ returns-in-Encode-clause-sent g c = reader_sent c.ended-in-Encode.result c.encod
 
 pub returns-in-Show-clause-end : goal.returns-in-Show-clause-end
 returns-in-Show-clause-end g c = λ octets read.
+    let left = reads c.args.command (Show c.in-Show.words) c.in-Show.is _ octets read in
     if_ok c.ended-in-Show.result c.show.result c.ended-in-Show.ensures
     (reads_back c.args.command (Show c.in-Show.words) c.in-Show.is _ [])
-    (c.show.ensures.end octets (reads c.args.command (Show c.in-Show.words) c.in-Show.is _ octets read))
+    (show_reads c.in-Show.words octets _ _ _ c.show.result (c.show.ensures.ended octets left)).end
 
 pub returns-in-Show-clause-stops : goal.returns-in-Show-clause-stops
 returns-in-Show-clause-stops g c = λ octets read is.
+    let left = reads c.args.command (Show c.in-Show.words) c.in-Show.is _ octets read in
     reads_back c.args.command (Show c.in-Show.words) c.in-Show.is _ _
-    (c.show.ensures.stops octets (reads c.args.command (Show c.in-Show.words) c.in-Show.is _ octets read)
+    ((show_reads c.in-Show.words octets _ _ _ c.show.result (c.show.ensures.ended octets left)).stops
     (if_input c.ended-in-Show.result c.show.result c.ended-in-Show.ensures TooLong is))
 
 pub returns-in-Show-clause-unread : goal.returns-in-Show-clause-unread
 returns-in-Show-clause-unread g c = λ none. absurd (subst ReadsNothing c.in-Show.is none)
 
 pub returns-in-Show-clause-heard_as_made : goal.returns-in-Show-clause-heard_as_made
-returns-in-Show-clause-heard_as_made g c = λ words same. let both : Show c.in-Show.words ≡ Loop words = sym c.in-Show.is
-    ∙ same in cc both
+returns-in-Show-clause-heard_as_made g c = λ words same. let both : Show c.in-Show.words ≡ Loop words =
+    sym c.in-Show.is ∙ same in cc both
 
 pub returns-in-Show-clause-good : goal.returns-in-Show-clause-good
 returns-in-Show-clause-good g c = λ octets read.
-    no_fault c.args.command (Show c.in-Show.words) c.in-Show.is octets c.ended-in-Show.result c.show.result
-    c.ended-in-Show.ensures
-    (c.show.ensures.good octets (reads c.args.command (Show c.in-Show.words) c.in-Show.is _ octets read))
+    let left = reads c.args.command (Show c.in-Show.words) c.in-Show.is _ octets read in
+    no_fault c.args.command (Show c.in-Show.words) c.in-Show.is octets c.ended-in-Show.result c.show.result c.ended-in-Show.ensures
+    (show_reads c.in-Show.words octets _ _ _ c.show.result (c.show.ensures.ended octets left)).good
 
 pub returns-in-Show-clause-bad : goal.returns-in-Show-clause-bad
 returns-in-Show-clause-bad g c = λ octets fault read is.
+    let left = reads c.args.command (Show c.in-Show.words) c.in-Show.is _ octets read in
     same_fault c.args.command (Show c.in-Show.words) c.in-Show.is octets
-    ∙ c.show.ensures.bad octets fault (reads c.args.command (Show c.in-Show.words) c.in-Show.is _ octets read)
+    ∙ (show_reads c.in-Show.words octets _ _ _ c.show.result (c.show.ensures.ended octets left)).bad fault
     (if_input c.ended-in-Show.result c.show.result c.ended-in-Show.ensures fault is)
 
 pub returns-in-Show-clause-written : goal.returns-in-Show-clause-written
 returns-in-Show-clause-written g c = λ octets before read was.
-    let command = Show c.in-Show.words in
-    let left_now = g.I.Source.left c.show.new.input in
-    let now = g.O.Sink.written c.show.new.output in
-    let left = reads c.args.command command c.in-Show.is _ octets read in
-    written c.args.command command c.in-Show.is octets before left_now now c.ended-in-Show.result (end_of c.show.result)
-    c.ended-in-Show.ensures
-    (reader_writes command octets before left_now now c.show.result
-    (c.show.ensures.shown octets before left was)
-    (λ fault few. c.show.ensures.shown_before octets before fault left was few)
-    (λ fault over is. show_of_many c.in-Show.words octets before left_now now
-    (on_fault c.show.result is (c.show.ensures.cut octets before left was)) over
-    (c.show.ensures.shown_of_many octets before fault left was over is))
-    (λ memory. show_at_memory c.in-Show.words octets before left_now now
-    (on_fault c.show.result memory (c.show.ensures.cut octets before left was))
-    (c.show.ensures.part octets before left was memory))
-    (λ is. show_at_read c.in-Show.words octets before left_now now
-    (on_fault c.show.result is (c.show.ensures.cut octets before left was))
-    (c.show.ensures.so_far octets before left was is))
-    (λ write. show_at_write c.in-Show.words octets before left_now now
-    (on_fault c.show.result write (c.show.ensures.cut octets before left was))
-    (c.show.ensures.most octets before left was write)))
+    let left = reads c.args.command (Show c.in-Show.words) c.in-Show.is _ octets read in
+    written c.args.command (Show c.in-Show.words) c.in-Show.is octets before (g.I.Source.left c.show.new.input)
+    (g.O.Sink.written c.show.new.output) c.ended-in-Show.result (end_of c.show.result) c.ended-in-Show.ensures
+    ((show_reads c.in-Show.words octets _ _ _ c.show.result (c.show.ensures.ended octets left)).written before was)
 
 pub returns-in-Show-clause-unwritten : goal.returns-in-Show-clause-unwritten
 returns-in-Show-clause-unwritten g c = λ last. absurd (last_of c.args.command (Show c.in-Show.words) c.in-Show.is last)

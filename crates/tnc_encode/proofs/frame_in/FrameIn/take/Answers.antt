@@ -1,5 +1,5 @@
 use Rattle.tnc_encode.proofs.Common.{subst, HasTaken, IsReader}
-use Rattle.tnc_encode.proofs.PieceLemmas.{bad_lines}
+use Rattle.tnc_encode.proofs.MakingLemmas.{bad_lines}
 use Rattle.tnc_encode.proofs.frame_in.FrameIn.take.Goals as goal
 
 pub returns-in-Lines-clause-bad : goal.returns-in-Lines-clause-bad

@@ -1,0 +1,4 @@
+pub mod Common
+pub mod MakingLemmas
+pub mod PieceLemmas
+pub mod EndedLemmas

@@ -1,0 +1,19 @@
+-- The octets of the piece so far.
+use Rattle.std.proofs.Common.{◌≡◌, ◌≤◌, ◌+◌, List, ℕ, None, length}
+use Rattle.tnc_forms.specs.Reading.{input_limit}
+use Rattle.tnc_engine.proofs.PieceLemmas.{TookFront}
+use Rattle.tnc_engine.proofs.making.make_piece.Given as goal
+
+abbrev pub invariant-taking : goal.invariant-taking
+invariant-taking g l = record {
+  took : (words : g.row.M-Words.Denot) → (before : List ℕ) → g.M.Maker.holds l.initial.maker words before
+      → (g.M.Maker.making words).fault_so_far before ≡ None
+      → TookFront (g.M.Maker.making words) (g.M.Maker.holds l.maker words) before l.initial.octets l.rest
+      (g.O.Sink.written l.initial.output) (g.O.Sink.written l.output);
+  held : (words : g.row.M-Words.Denot) × (before : List ℕ) × g.M.Maker.holds l.maker words before
+      × (length before + length l.rest ≤ input_limit);
+  faultless : g.O.Sink.faults l.output ≡ g.O.Sink.faults l.initial.output;
+}
+
+abbrev pub decreases-taking : goal.decreases-taking
+decreases-taking g l = length l.rest
