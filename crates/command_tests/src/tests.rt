@@ -3,6 +3,7 @@ mod base;
 mod bench;
 mod decode;
 mod encode;
+mod example;
 mod forms;
 mod loop_back;
 mod show;

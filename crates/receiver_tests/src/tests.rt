@@ -5,6 +5,7 @@ mod blocks;
 mod blocks_by_all_lanes;
 mod blocks_on_ring;
 mod decoder;
+mod example;
 mod hf_decoder;
 mod hf_receiver;
 mod hf_sent;

@@ -1,4 +1,5 @@
 mod access;
 mod agwpe;
+mod example;
 mod kiss;
 mod stations;

@@ -30,7 +30,7 @@ impl Model for HfOnRing {
     ghost view = { λ _. tt };
 
     ghost invariant = { λ s. (writer_ring s.writer ≡ ring_id s.ring)
-        × (reader_ring s.receiver.lanes.reader ≡ ring_id s.ring) };
+        × (reader_ring s.receiver.reader ≡ ring_id s.ring) };
 }
 
 impl HfOnRing {

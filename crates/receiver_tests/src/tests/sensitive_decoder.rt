@@ -15,28 +15,28 @@ use std::test::Fail;
 use std::thread::Threads;
 use tnc_base::OutOfMemory;
 
-/// The ends and lanes of what the added lanes hear among noise, in the order in which they hear it.
+/// The ends and lanes of what the added lanes hear among noise, in their order.
 const IN_NOISE: [(u64, u8); 7] = [
-    (1296, 8),
-    (1297, 9),
-    (1296, 17),
     (1295, 18),
-    (1296, 22),
-    (1297, 20),
+    (1296, 8),
+    (1296, 17),
     (1296, 21),
+    (1296, 22),
+    (1297, 9),
+    (1297, 20),
 ];
 
 /// The same of a sender whose clock is a hundredth slow.
 const SLOW: [(u64, u8); 6] = [
-    (1308, 16),
-    (1307, 17),
     (1306, 18),
+    (1307, 17),
+    (1307, 25),
+    (1308, 16),
     (1308, 20),
     (1308, 22),
-    (1307, 25),
 ];
 
-/// What the added lanes hear of samples in which the eight lanes hear nothing.
+/// What the added lanes hear of samples in which the eight lanes hear nothing, by end and lane. They give it list by list.
 fn heard_by_added<R: Abort>(
     rt: &R,
     alloc: Global,
@@ -47,6 +47,7 @@ fn heard_by_added<R: Abort>(
     assert_equal(rt, &Bank::new(alloc)?.feed(samples)?.len(), &0);
     let mut places = Vec::new(alloc);
     note(rt, &mut places, AddedBank::new(alloc)?.feed(samples)?)?;
+    places.sort_unstable();
     Ok(places)
 }
 

@@ -1,8 +1,14 @@
 //! Tones and readings of a transmission in strong noise, as a second program computed them from the definition.
 
+ghost use Rattle.std.specs.Prelude.{◌≡◌, ◌+◌, ◌<◌, ◌^◌, OnOk, length};
+
 use crate::tests::assertions::assert_equal;
 use crate::tests::letters::letter;
-use tone_tracking::{BitClock, MeanRemover, Pull, Reach, ToneLists};
+use std::alloc::AllocError;
+use std::test::Fail;
+use tone_tracking::{
+    BitClock, CorrelationLine, Correlations, MeanRemover, Phasor, Pull, Reach, ToneLists,
+};
 
 /// The first fourteen bits of a transmission, and noise as loud as it.
 const SAMPLES: [i16; 112] = [
@@ -100,4 +106,48 @@ fn samples_without_their_mean_are_those_of_a_second_program(rt: HostRuntime) {
         };
         assert_equal(&rt, &(index, remover.push(*sample)), &(index, want));
     }
+}
+
+/// Correlations by their parts.
+fn correlations(mark: (i64, i64), space: (i64, i64)) -> Correlations {
+    Correlations {
+        mark: Phasor {
+            a: mark.0,
+            b: mark.1,
+        },
+        space: Phasor {
+            a: space.0,
+            b: space.1,
+        },
+    }
+}
+
+/// How many correlations a line has past a block, and the last of them.
+fn last_past(
+    line: &mut CorrelationLine,
+    block: &[i16],
+) -> Result<(usize, Option<Correlations>), AllocError>
+    requires { line.old.count + length block.now < 2 ^ 48 }
+    ensures { OnOk result (line.new.count ≡ line.old.count + length block.now) }
+{
+    line.feed(block)?;
+    let made = line.line();
+    Ok((made.len(), made.last().copied()))
+}
+
+#[test]
+fn correlations_of_blocks_are_those_of_a_second_program(rt: HostRuntime) -> Result<(), Fail> {
+    let mut line = CorrelationLine::new(rt.alloc());
+    let none = last_past(&mut line, &SAMPLES[..22])?;
+    let first = last_past(&mut line, &SAMPLES[22..23])?;
+    let more = last_past(&mut line, &SAMPLES[23..42])?;
+    let rest = last_past(&mut line, &SAMPLES[42..])?;
+    assert_equal(&rt, &none, &(0, None));
+    let wanted = correlations((4224493, -2567576), (-1702191, -6151071));
+    assert_equal(&rt, &first, &(1, Some(wanted)));
+    let wanted = correlations((-6634006, -8762500), (1717452, 11959407));
+    assert_equal(&rt, &more, &(20, Some(wanted)));
+    let wanted = correlations((-8385958, 1502834), (-6784247, 15770517));
+    assert_equal(&rt, &rest, &(86, Some(wanted)));
+    Ok(())
 }

@@ -9,7 +9,7 @@ pub invariant_of-result : goal.invariant_of-result
 invariant_of-result c = (
   c.in_ok-ring.ensures.writer.0,
   (All-head (λ (reader : Reader). (reader_ring reader ≡ ring_id c.in_ok-ring.ring) × IsNew reader)
-      c.in-Ok.receiver.lanes.reader []
+      c.in-Ok.receiver.reader []
       (subst (All (λ (reader : Reader). (reader_ring reader ≡ ring_id c.in_ok-ring.ring) × IsNew reader))
       (sym c.in-Ok.ensures.readers) c.in_ok-ring.ensures.readers.1)).0,
 )
