@@ -1,5 +1,7 @@
 pub mod Common
 pub mod RestingLemmas
+pub mod KnownLemmas
+pub mod CertaintyLemmas
 pub mod QuietLemmas
 pub mod AheadLemmas
 pub mod MergingLemmas

@@ -12,8 +12,10 @@ unfoldable use Rattle.fx25_blocks.specs.Held.{after_zeros}
 use Rattle.fx25_blocks.specs.NearTag.{EndsTag, IsNearTag}
 use Rattle.fx25_blocks.specs.Tags.{differing, tag_bits}
 unfoldable use Rattle.fx25_blocks.specs.Tags.{bits_of_64}
+use Rattle.fx25_blocks.specs.UnsureBlocks.{AreOctetCertainties, EndsUnsureBlock, block_numbers}
 use Rattle.fx25_blocks.specs.declared.block_reader.BlockReader.{BlockReader}
 use Rattle.hdlc_framer.proofs.BitLemmas.{length-sent_bits}
+use Rattle.hdlc_framer.specs.BitOrder.{sent_bits}
 use Rattle.fx25_receiver.specs.Resting.{AreOver, ReadsFrom, StandsButForTag, StandsFor, over_after}
 use Rattle.fx25_receiver.specs.declared.resting_reader.RestingReader.{RestingReader}
 
@@ -235,6 +237,45 @@ module _ (held : RestingReader) (bits : List Bool) (s : StandsFor held bits) whe
     carries = ends.carries;
   }
 
+  few_in_unsure : (numbers : List ℕ) (tag : ℕ) (frame : List ℕ) (over : ℕ)
+      (ends : EndsUnsureBlock bits numbers tag frame over) → length (sent_bits ends.word) < over_after
+  few_in_unsure numbers tag frame over ends =
+      let most = most_octets tag ends.is_tag in
+      let size : length (sent_bits ends.word) ≡ 8 * block_length tag =
+      length-sent_bits ends.word ∙ ap (λ n. 8 * n) ends.size in
+      omega arith
+
+  pub awake_for_unsure : (numbers : List ℕ) (tag : ℕ) (frame : List ℕ) (over : ℕ)
+      → EndsUnsureBlock bits numbers tag frame over → 0 < held.awake
+  awake_for_unsure numbers tag frame over ends =
+      awake_for ends.before ends.heard (sent_bits ends.word) tag ends.is_tag ends.bits_are ends.near_tag
+      (few_in_unsure numbers tag frame over ends)
+
+  -- the bits that the whole reader has taken end with the tag and the block
+  pub unsure_rest : (numbers : List ℕ) (start tag : ℕ) (frame : List ℕ) (over : ℕ) → ReadsFrom start held.reader bits
+      → (ends : EndsUnsureBlock bits numbers tag frame over)
+      → drop start bits ≡ drop start ends.before ++ (ends.heard ++ sent_bits ends.word)
+  unsure_rest numbers start tag frame over reads ends =
+      rest_of ends.before ends.heard (sent_bits ends.word) tag ends.is_tag ends.bits_are ends.near_tag
+      (few_in_unsure numbers tag frame over ends) start reads
+
+  pub unsure_inside : (numbers known : List ℕ) (start tag : ℕ) (frame : List ℕ) (over : ℕ)
+      → ReadsFrom start held.reader bits → block_numbers tag numbers ≡ block_numbers tag known
+      → EndsUnsureBlock bits numbers tag frame over → EndsUnsureBlock (drop start bits) known tag frame over
+  unsure_inside numbers known start tag frame over reads same ends = record {
+    before = drop start ends.before;
+    heard = ends.heard;
+    word = ends.word;
+    certainty = ends.certainty;
+    is_tag = ends.is_tag;
+    bits_are = unsure_rest numbers start tag frame over reads ends;
+    near_tag = ends.near_tag;
+    octets = ends.octets;
+    size = ends.size;
+    certainties = subst (λ (ns : List ℕ). AreOctetCertainties ns ends.certainty) same ends.certainties;
+    reads = ends.reads;
+  }
+
   sure_is_near : (tag : ℕ) (heard : List Bool) → IsSureTag tag heard → IsNearTag tag heard
   sure_is_near tag heard sure = let near = sure.near in record { size = sure.size; near = omega arith }
 
@@ -280,6 +321,23 @@ block_outside start bits tag frame over ends = record {
   bits_are = whole_of start bits ends.before (ends.heard ++ ends.block) ends.bits_are;
   near_tag = ends.near_tag;
   carries = ends.carries;
+}
+
+pub unsure_outside : (numbers known : List ℕ) (start : ℕ) (bits : List Bool) (tag : ℕ) (frame : List ℕ) (over : ℕ)
+    → block_numbers tag known ≡ block_numbers tag numbers
+    → EndsUnsureBlock (drop start bits) known tag frame over → EndsUnsureBlock bits numbers tag frame over
+unsure_outside numbers known start bits tag frame over same ends = record {
+  before = take start bits ++ ends.before;
+  heard = ends.heard;
+  word = ends.word;
+  certainty = ends.certainty;
+  is_tag = ends.is_tag;
+  bits_are = whole_of start bits ends.before (ends.heard ++ sent_bits ends.word) ends.bits_are;
+  near_tag = ends.near_tag;
+  octets = ends.octets;
+  size = ends.size;
+  certainties = subst (λ (ns : List ℕ). AreOctetCertainties ns ends.certainty) same ends.certainties;
+  reads = ends.reads;
 }
 
 pub coming_outside : (start : ℕ) (bits : List Bool) → IsBlockComing (drop start bits) → IsBlockComing bits

@@ -17,6 +17,7 @@ mod plain_frames;
 mod receiver;
 mod resting_reader;
 mod seven;
+mod window_certainty;
 #[cfg(test)]
 mod tests;
 
@@ -28,3 +29,4 @@ pub use laws::{
 };
 pub use merging::{forget, put};
 pub use receiver::Fx25Receiver;
+pub use window_certainty::certainty;
