@@ -13,10 +13,9 @@ use Rattle.hdlc_framer.proofs.FrameEnds.{one_frame}
 use Rattle.reed_solomon.specs.Codeword.{whole_of}
 use Rattle.reed_solomon.specs.declared.code.Zeros.TheVariants.{Between}
 use Rattle.reed_solomon.specs.Distance.{distance}
-use Rattle.reed_solomon.specs.Values.{Vanishes, value_at}
-use Rattle.fx25_blocks.specs.BlockEnds.{CarriesFrame, IsRepairOf, OpensWithFrame}
+use Rattle.reed_solomon.specs.Values.{value_at}
+use Rattle.fx25_blocks.specs.BlockEnds.{CarriesFrame, OpensWithFrame}
 use Rattle.fx25_blocks.specs.Blocks.{IsBlockCodeword}
-use Rattle.fx25_blocks.specs.NearTag.{IsNearTag}
 use Rattle.fx25_blocks.specs.Tags.{differing, tag_bits}
 use Rattle.slicer_bank.proofs.FrameDecided.{frame_or_none}
 
