@@ -2,12 +2,12 @@
 use Rattle.fx25_receiver.proofs.Common.{◌≡◌, ℕ, zero, suc, ◌+◌, ◌-◌, ◌*◌, ◌%◌, ◌<◌, ◌≤◌, ℤ, Bool, true, false, List, []}
 use Rattle.fx25_receiver.proofs.Common.{◌∷◌, ◌++◌, length, take, drop, replicate, get_or, ap, refl, sym, subst, ◌∙◌, arith}
 use Rattle.fx25_receiver.proofs.Common.{inl, inr, cases_eq, append-nil, append_assoc, length-append, take_all, false≢true}
-use Rattle.fx25_receiver.proofs.Common.{if◌then◌else◌, bits, bits_of, length-bits, last_tone, tones_at, windows_in, last_seven}
+use Rattle.fx25_receiver.proofs.Common.{if◌then◌else◌, bits, bits_of, last_tone, tones_at, windows_in, last_seven}
 use Rattle.fx25_receiver.proofs.Common.{certainties, EndsWithBits, Heard, HeldLane, IsHeard, KnowsNumbers, LaneHasTaken}
 use Rattle.fx25_receiver.proofs.Common.{LaneStandsFor, Tone}
 use Rattle.std.proofs.Common.{set, get_or-set_other, get_or-set_same, length-drop, not}
 use Rattle.std.proofs.Math.Seq.{take-append-add}
-use Rattle.std.proofs.lemmas.List.{drop-append-le, drop-drop, length-take-le, take-append-drop}
+use Rattle.std.proofs.lemmas.List.{drop-append-le, drop-drop, take-append-drop}
 use Rattle.nrzi_bits.specs.Line.{bits_from}
 use Rattle.offset_slicers.proofs.WindowLemmas.{length-tones_at, tones_at-append}
 use Rattle.offset_slicers.specs.Decision.{tone_of}

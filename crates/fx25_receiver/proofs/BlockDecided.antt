@@ -13,10 +13,9 @@ use Rattle.hdlc_framer.proofs.FrameEnds.{one_frame}
 use Rattle.reed_solomon.specs.Codeword.{whole_of}
 use Rattle.reed_solomon.specs.declared.code.Zeros.TheVariants.{Between}
 use Rattle.reed_solomon.specs.Distance.{distance}
-use Rattle.reed_solomon.specs.Values.{Vanishes, value_at}
-use Rattle.fx25_blocks.specs.BlockEnds.{CarriesFrame, IsRepairOf, OpensWithFrame}
+use Rattle.reed_solomon.specs.Values.{value_at}
+use Rattle.fx25_blocks.specs.BlockEnds.{CarriesFrame, OpensWithFrame}
 use Rattle.fx25_blocks.specs.Blocks.{IsBlockCodeword}
-use Rattle.fx25_blocks.specs.NearTag.{IsNearTag}
 use Rattle.fx25_blocks.specs.Tags.{differing, tag_bits}
 use Rattle.slicer_bank.proofs.FrameDecided.{frame_or_none}
 
@@ -26,13 +25,13 @@ use Rattle.slicer_bank.proofs.FrameDecided.{frame_or_none}
 abbrev pub Decided : Type 0 → Type 0
 Decided P = P ⊎ (P → ⊥)
 
-both : {P Q : Type 0} → Decided P → Decided Q → Decided (P × Q)
+pub both : {P Q : Type 0} → Decided P → Decided Q → Decided (P × Q)
 both (inl p) (inl q) = inl (p, q)
 both (inl p) (inr q) = inr (λ h. q h.1)
 both (inr p) q = inr (λ h. p h.0)
 
 -- the same in other words
-told : {P Q : Type 0} → (P → Q) → (Q → P) → Decided P → Decided Q
+pub told : {P Q : Type 0} → (P → Q) → (Q → P) → Decided P → Decided Q
 told to from (inl p) = inl (to p)
 told to from (inr p) = inr (λ q. p (from q))
 
@@ -63,10 +62,10 @@ all_below (suc n) P each = elim (each n) [
 ]
 
 -- so many octets with a property
-abbrev SomeOctets : ℕ → (List ℕ → Type 0) → Type 0
+abbrev pub SomeOctets : ℕ → (List ℕ → Type 0) → Type 0
 SomeOctets n P = (octets : List ℕ) × (length octets ≡ n) × All (λ octet. octet < 256) octets × P octets
 
-some_octets : (n : ℕ) (P : List ℕ → Type 0) → ((octets : List ℕ) → Decided (P octets)) → Decided (SomeOctets n P)
+pub some_octets : (n : ℕ) (P : List ℕ → Type 0) → ((octets : List ℕ) → Decided (P octets)) → Decided (SomeOctets n P)
 some_octets zero P each = elim (each []) [
   | inl here ↦ inl ([], refl, All-nil (λ octet. octet < 256), here)
   | inr none ↦ inr (λ h. none (subst P (no_octets h.0 h.1) h.3))
@@ -97,7 +96,7 @@ some_octets (suc n) P each =
 
 -- ---- what a block asks
 
-same_bits : (a b : List Bool) → Decided (a ≡ b)
+pub same_bits : (a b : List Bool) → Decided (a ≡ b)
 same_bits [] [] = inl refl
 same_bits [] (y ∷ b) = inr (λ e. cc e)
 same_bits (x ∷ a) [] = inr (λ e. cc e)
@@ -107,7 +106,7 @@ same_bits (true ∷ a) (true ∷ b) = told (λ e. ap (λ t. true ∷ t) e) (λ e
 same_bits (false ∷ a) (false ∷ b) =
     told (λ e. ap (λ t. false ∷ t) e) (λ e. let same : a ≡ b = cc e in same) (same_bits a b)
 
-at_most : (n m : ℕ) → Decided (n ≤ m)
+pub at_most : (n m : ℕ) → Decided (n ≤ m)
 at_most n m = elim (cases_lt m n) [
   | inl more ↦ inr (λ h. omega arith)
   | inr most ↦ inl most
@@ -115,7 +114,7 @@ at_most n m = elim (cases_lt m n) [
 
 -- bits open with a frame
 module _ (bits : List Bool) where
-  abbrev Opens : Type 0
+  abbrev pub Opens : Type 0
   Opens = (frame : List ℕ) × (over : ℕ) × OpensWithFrame bits frame over
 
   -- after so many flags, and with the flag behind the frame over after so many bits
@@ -137,7 +136,7 @@ module _ (bits : List Bool) where
   length-flags zero = refl
   length-flags (suc count) = omega (arith, length-append flag (flags count), length-flags count)
 
-  opens : Decided Opens
+  pub opens : Decided Opens
   opens =
       told to from (some_below (length bits + 1) (λ over. (count : ℕ) × (count < length bits + 1) × OpensAt over count)
       (λ over. some_below (length bits + 1) (OpensAt over) (opens_at over)))
@@ -190,7 +189,7 @@ module _ (bits : List Bool) where
           )
 
 -- a word is a codeword of a tag
-codeword : (tag : ℕ) (word : List ℕ) → Decided (IsBlockCodeword tag word)
+pub codeword : (tag : ℕ) (word : List ℕ) → Decided (IsBlockCodeword tag word)
 codeword tag word =
     told (λ h j least most. h j most least) (λ h j most least. h j least most)
     (all_below (1 + check_count tag) (λ j. 1 ≤ j → value_at j whole ≡ 0) at)

@@ -1,5 +1,5 @@
 -- The numbers of bits with more samples.
-use Rattle.fx25_receiver.proofs.Common.{◌≡◌, ℕ, ◌+◌, ◌-◌, ◌*◌, ◌/◌, ◌<◌, ◌≤◌, ℤ, List, [], ◌∷◌, ◌++◌, length, take, drop}
+use Rattle.fx25_receiver.proofs.Common.{◌≡◌, ℕ, ◌+◌, ◌-◌, ◌*◌, ◌<◌, ◌≤◌, ℤ, List, [], ◌∷◌, ◌++◌, length, take, drop}
 use Rattle.fx25_receiver.proofs.Common.{map, ap, sym, ◌∙◌, arith, length-append, length_push, take_all, windows_in, last_seven}
 use Rattle.std.specs.List.{range_with_len}
 use Rattle.std.proofs.lemmas.List.{drop-append-le, length-drop, take-append-le}

@@ -1,10 +1,10 @@
 -- What is heard of samples, with one sample more.
 use Rattle.fx25_receiver.proofs.Common.{Bool}
-use Rattle.fx25_receiver.proofs.Common.{◌≡◌, ℕ, ◌+◌, ◌*◌, ◌<◌, ◌≤◌, ◌⊎◌, ℤ, List, [], ◌∷◌, ◌++◌, length, get_or, take}
+use Rattle.fx25_receiver.proofs.Common.{◌≡◌, ℕ, ◌+◌, ◌<◌, ◌≤◌, ℤ, List, [], ◌∷◌, ◌++◌, length, get_or, take}
 use Rattle.fx25_receiver.proofs.Common.{ap}
-use Rattle.fx25_receiver.proofs.Common.{sym, ◌∙◌, subst, arith, inl, inr, All, AllPairs, Contains, All-append, All-cons}
-use Rattle.fx25_receiver.proofs.Common.{All-nil, All-weaker, cases_lt, Contains-append_left, Contains-append_right}
-use Rattle.fx25_receiver.proofs.Common.{get_or-append-add, get_or_append_left, length-append, length_push, take_all}
+use Rattle.fx25_receiver.proofs.Common.{sym, ◌∙◌, subst, arith, inl, inr, AllPairs, All-append, All-cons}
+use Rattle.fx25_receiver.proofs.Common.{All-nil, cases_lt, Contains-append_left, Contains-append_right}
+use Rattle.fx25_receiver.proofs.Common.{get_or-append-add, get_or_append_left, length_push, take_all}
 use Rattle.fx25_receiver.proofs.Common.{bits, bits-append, length-bits, windows_in, Heard, AreHeard, AreHeardBelow}
 use Rattle.fx25_receiver.proofs.Common.{certainties, EndsLast, EndsWithBits, IsAt, IsBelow, IsHeard, Place, standing}
 use Rattle.fx25_receiver.proofs.CertaintyLemmas.{certainties-append, length-certainties}

@@ -1,11 +1,11 @@
 -- Samples have one list of what is heard of them: it strictly rises, and it is found sample by sample and tag by tag.
-use Rattle.fx25_receiver.proofs.Common.{◌≡◌, ℕ, zero, suc, ◌+◌, ◌-◌, ◌*◌, ◌/◌, ◌%◌, ◌<◌, ◌≤◌, ℤ, Bool, List, [], ◌∷◌}
+use Rattle.fx25_receiver.proofs.Common.{◌≡◌, ℕ, zero, suc, ◌+◌, ◌-◌, ◌*◌, ◌%◌, ◌<◌, ◌≤◌, ℤ, Bool, List, [], ◌∷◌}
 use Rattle.fx25_receiver.proofs.Common.{◌++◌, length, get_or, ap, sym, ◌∙◌, subst, refl, arith, inl, inr, cases_lt}
 use Rattle.fx25_receiver.proofs.Common.{append-nil, append_assoc, length_push, length-bits, bits, AllPairs, Contains}
 use Rattle.fx25_receiver.proofs.Common.{All, All-append, All-cons, All-nil, All-weaker}
 use Rattle.fx25_receiver.proofs.Common.{certainties, AreHeard, AreHeardBelow, EndsUnsureBlock, Heard, IsAt, IsTag, Place, block_length, standing}
 use Rattle.slicer_bank.proofs.FrameDecided.{frame_or_none}
-use Rattle.fx25_receiver.proofs.BlockDecided.{unsure_block_or_none}
+use Rattle.fx25_receiver.proofs.UnsureDecided.{unsure_block_or_none}
 use Rattle.fx25_receiver.proofs.HeardLemmas.{heard_early, heard_finish, heard_start, none_there, nothing_heard, one_there}
 use Rattle.fx25_receiver.proofs.LaneLemmas.{window_there}
 use Rattle.fx25_receiver.proofs.TakenLemmas.{only_in_block, only_plain, unsure_block_bounds}
@@ -120,8 +120,12 @@ module _ (place : Place) (x : List ℤ) (at : IsAt place x) (items : List Heard)
       more,
       none_there place x at tag (items ++ more) are (λ item ends same. elim ends [
         | inl plain ↦ let zero_of = plain.0 in let least = is_tag.0 in absurd (omega arith)
-        | inr block ↦ none (item.octets, block.0, subst (λ t. EndsUnsureBlock there numbers t item.octets block.0)
-            same block.1)
+        | inr block ↦ none (
+          item.octets,
+          block.0,
+          subst (λ t. EndsUnsureBlock there numbers t item.octets block.0)
+              same block.1,
+        )
       ]),
       ends_all,
     )

@@ -1,5 +1,5 @@
 -- Tag after tag of a bit.
-use Rattle.fx25_receiver.proofs.Common.{◌≡◌, ℕ, ◌+◌, ℤ, List, ◌++◌, HasTakenBelow, Heard, HeldLane, IsAt, LaneHasTaken}
+use Rattle.fx25_receiver.proofs.Common.{ℕ, ◌+◌, ℤ, List, ◌++◌, HasTakenBelow, Heard, HeldLane, IsAt, LaneHasTaken}
 use Rattle.fx25_receiver.proofs.Common.{Place}
 
 -- what has been taken of the blocks of so many tags

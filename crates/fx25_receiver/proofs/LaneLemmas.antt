@@ -1,7 +1,7 @@
 -- The lanes after one sample more.
 use Rattle.fx25_receiver.proofs.Common.{◌≡◌, ℕ, ◌+◌, ◌*◌, ◌/◌, ◌%◌, ◌<◌, ◌≤◌, ℤ, List, [], ◌∷◌, ◌++◌, length, get_or}
 use Rattle.fx25_receiver.proofs.Common.{ap}
-use Rattle.fx25_receiver.proofs.Common.{sym, ◌∙◌, subst, arith, inl, inr, cases_lt, All, bits, bits_of, tones_at}
+use Rattle.fx25_receiver.proofs.Common.{sym, ◌∙◌, subst, arith, inl, inr, All, bits, bits_of, tones_at}
 use Rattle.fx25_receiver.proofs.Common.{windows_in, last_seven}
 use Rattle.offset_slicers.proofs.WindowLemmas.{length-tones_at}
 use Rattle.fx25_receiver.proofs.Common.{All-append, All-cons, All-nil, certainties, refl, EndsWindow, HeldLane, IsFresh}
@@ -10,7 +10,7 @@ use Rattle.fx25_receiver.proofs.CertaintyLemmas.{certainties-push_none, certaint
 use Rattle.fx25_receiver.specs.Certainty.{certainty}
 use Rattle.fx25_receiver.proofs.Common.{LanesStandFor, length_push, Tone}
 use Rattle.std.proofs.Common.{set, get_or-set_other, get_or-set_same, ◌-◌}
-use Rattle.fx25_receiver.proofs.Common.{Bool, cases_eq, cond, false, false≢true, true, if◌then◌else◌}
+use Rattle.fx25_receiver.proofs.Common.{Bool, cases_eq, false, false≢true, true, if◌then◌else◌}
 use Rattle.fx25_receiver.specs.Ahead.{LanesStandAhead, taken_by}
 use Rattle.offset_slicers.specs.Decision.{tone_of}
 use Rattle.offset_slicers.proofs.SlicerLemmas.{tones_at-push_none}

@@ -14,6 +14,7 @@ pub mod HearingLemmas
 pub mod BlockLemmas
 pub mod StepLemmas
 pub mod BlockDecided
+pub mod UnsureDecided
 pub mod HeardLists
 pub mod MergedLists
 pub mod WithoutBlocks

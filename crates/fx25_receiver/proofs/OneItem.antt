@@ -1,5 +1,5 @@
 -- With a bit of a lane, at most one item of each tag ends.
-use Rattle.fx25_receiver.proofs.Common.{◌+◌, ◌*◌, ℤ, Bool, List, length, take, ap, sym, ◌∙◌, subst, arith, inl}
+use Rattle.fx25_receiver.proofs.Common.{◌+◌, ℤ, Bool, List, take, ap, sym, ◌∙◌, subst, arith, inl}
 use Rattle.fx25_receiver.proofs.Common.{inr}
 use Rattle.fx25_receiver.proofs.Common.{◌≡◌, ℕ, bits, certainties, EndsUnsureBlock, EndsWithBits, Heard, IsHeard}
 use Rattle.fx25_receiver.proofs.Common.{block_length}

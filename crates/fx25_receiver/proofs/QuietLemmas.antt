@@ -1,7 +1,7 @@
 -- Bits with which nothing ends, while a reader of blocks rests.
 use Rattle.fx25_receiver.proofs.Common.{◌≡◌, ℕ, zero, suc, ◌+◌, ◌*◌, ◌/◌, ◌<◌, ◌≤◌, Bool, false, List, [], ◌∷◌, ◌++◌}
 use Rattle.fx25_receiver.proofs.Common.{length, take, drop, replicate, ap, refl, sym, subst, ◌∙◌, arith, inl, inr}
-use Rattle.fx25_receiver.proofs.Common.{append_assoc, cases_lt, get_or, IsTag, EndsWithBits, Heard}
+use Rattle.fx25_receiver.proofs.Common.{append_assoc, cases_lt, IsTag}
 use Rattle.fx25_receiver.proofs.Common.{◌-◌, true, sent_bits, length-append, EndsFrame}
 use Rattle.fx25_receiver.proofs.Common.{◌%◌, length_push, EndsUnsureBlock}
 use Rattle.std.proofs.Common.{◌^◌, ◌↔◌, bit_and, eqb, fold, None, Option, Some, pow-suc}

@@ -3,7 +3,7 @@ use Rattle.fx25_receiver.proofs.Common.{◌≡◌, ℕ, zero, suc, refl, ◌+◌
 use Rattle.fx25_receiver.proofs.Common.{ap, sym, ◌∙◌}
 use Rattle.fx25_receiver.proofs.Common.{subst, arith, length_push, bits, bits_of, tones_at, last_seven, HasTakenBelow}
 use Rattle.fx25_receiver.proofs.Common.{Heard, HeldLane}
-use Rattle.fx25_receiver.proofs.Common.{certainties, KnowsNumbers, LaneHasTaken}
+use Rattle.fx25_receiver.proofs.Common.{certainties, LaneHasTaken}
 use Rattle.fx25_receiver.specs.Certainty.{certainty}
 use Rattle.fx25_receiver.proofs.AheadLemmas.{LaneKnows}
 use Rattle.fx25_receiver.proofs.Common.{IsAt, IsHeard, LaneStandsFor, Place, Tone, Bool, true, false, false≢true}

@@ -4,7 +4,7 @@ use Rattle.fx25_receiver.proofs.Common.{take}
 use Rattle.fx25_receiver.proofs.Common.{ap, sym, ◌∙◌, subst, refl, arith, inl, inr, length-append, length_push, bits}
 use Rattle.fx25_receiver.proofs.Common.{certainties, length-bits, sent_bits, EndsBlock, EndsFrame, EndsLast, EndsUnsureBlock}
 use Rattle.fx25_receiver.proofs.Common.{◌⊎◌, EndsPlainly, EndsWithBits, HasHeard, IsHeard}
-use Rattle.fx25_receiver.proofs.Common.{HasTakenBelow, Heard, IsAt, IsTag, Keeps, Place, block_length, data_count}
+use Rattle.fx25_receiver.proofs.Common.{HasTakenBelow, Heard, IsAt, Keeps, Place, block_length, data_count}
 use Rattle.fx25_receiver.proofs.Common.{merged}
 use Rattle.fx25_receiver.proofs.HeardLemmas.{heard_early, heard_finish, heard_no_more, heard_start, none_there, one_there}
 use Rattle.fx25_receiver.proofs.MergingLemmas.{keeps_on}

@@ -1,6 +1,6 @@
 -- What is kept of the numbers of bits, while a reader of blocks is awake. Each bit that a lane takes has one: the higher,
 -- the surer is the bit.
-use Rattle.std.specs.Prelude.{◌≡◌, ℕ, ◌+◌, ◌-◌, ◌<◌, ◌≤◌, List, ◌++◌, length, drop}
+use Rattle.std.specs.Prelude.{ℕ, ◌+◌, ◌-◌, ◌<◌, ◌≤◌, List, ◌++◌, length, drop}
 use Rattle.fx25_blocks.specs.HeldCertainties.{StandsFor as AreKept}
 use Rattle.fx25_blocks.specs.declared.certainties.Certainties.{Certainties}
 use Rattle.fx25_receiver.specs.declared.resting_reader.RestingReader.{RestingReader}

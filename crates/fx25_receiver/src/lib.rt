@@ -17,9 +17,9 @@ mod plain_frames;
 mod receiver;
 mod resting_reader;
 mod seven;
-mod window_certainty;
 #[cfg(test)]
 mod tests;
+mod window_certainty;
 
 pub use heard::Heard;
 pub use lane::Lane;

@@ -89,3 +89,26 @@ fn eight_wrong_octets_are_repaired_and_nine_are_not(rt: HostRuntime) -> Result<(
     }
     Ok(())
 }
+
+#[test]
+fn a_silence_of_ten_octets_is_repaired(rt: HostRuntime) -> Result<(), Fail> {
+    // How many octets of the data are silent, and whether the frame is heard. Eight octets are repaired as they came. Of
+    // ten the eight that are unknown cost half as much as the others: 8 + 2 * 3 are at most the 16 check octets, if the
+    // octet after the silence is wrong too. Of thirteen they would be at least 8 + 2 * 5.
+    for &(silent, heard) in &[(7, true), (10, true), (13, false)] {
+        let mut samples = sound(&rt, rt.alloc(), &SENT);
+        assert!(rt; samples.len() == 3840 && silent <= 13);
+        for sample in samples[768..768 + 64 * silent].iter_mut() {
+            *sample = 0;
+        }
+        let items = given(&rt, rt.alloc(), &samples[..1000], &samples[1000..]);
+        if heard {
+            assert_eq!(rt; items.len(), 1);
+            assert_eq!(rt; items[0].octets.as_slice(), FRAME.as_slice());
+            assert!(rt; items[0].tag == 4 && items[0].at.abs_diff(AT) <= 7);
+        } else {
+            assert!(rt; items.is_empty());
+        }
+    }
+    Ok(())
+}

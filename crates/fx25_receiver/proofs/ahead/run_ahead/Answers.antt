@@ -1,6 +1,6 @@
-use Rattle.fx25_receiver.proofs.Common.{◌≡◌, ◌+◌, ◌%◌, ◌++◌, ℕ, ℤ, List, Tone, true, false, refl, ap, sym, subst, ◌∙◌, arith}
-use Rattle.fx25_receiver.proofs.Common.{length, drop, get_or, HeldLane, KnowsNumbers, LaneStandsFor}
-use Rattle.std.proofs.Common.{set, not, get_or-set_other}
+use Rattle.fx25_receiver.proofs.Common.{◌+◌, ◌%◌, ◌++◌, ℤ, List, true, refl, ap, sym, subst, ◌∙◌, arith}
+use Rattle.fx25_receiver.proofs.Common.{drop, HeldLane, KnowsNumbers, LaneStandsFor}
+use Rattle.std.proofs.Common.{not, get_or-set_other}
 use Rattle.std.proofs.lemmas.List.{length-set}
 unfoldable use Rattle.slicer_bank.specs.Heard.{tones_in}
 use Rattle.fx25_receiver.proofs.AheadLemmas.{all_wait, eight_more, eight_tones_in, one_tried, waits_all}

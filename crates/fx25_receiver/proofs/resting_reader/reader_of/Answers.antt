@@ -1,4 +1,4 @@
-use Rattle.fx25_receiver.proofs.Common.{◌≡◌, ◌≤◌, sym, subst, arith}
+use Rattle.fx25_receiver.proofs.Common.{◌≡◌, sym, subst, arith}
 use Rattle.fx25_blocks.specs.Held.{StandsFor}
 unfoldable use Rattle.fx25_blocks.specs.Tags.{bits_of_64}
 use Rattle.hdlc_framer.proofs.BitLemmas.{low_bits-more}

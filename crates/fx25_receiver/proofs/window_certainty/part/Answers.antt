@@ -1,7 +1,6 @@
 use Rattle.fx25_receiver.proofs.Common.{◌+◌, ◌*◌, ◌/◌, ◌<◌, ℕ, arith}
 use Rattle.std.proofs.Common.{◌-◌}
 use Rattle.std.proofs.Math.Nat.{div-lt_iff_lt-mul}
-use Rattle.fx25_receiver.proofs.window_certainty.part.Goals as goal
 
 -- a part of a number, in 65536ths, is less than 65536
 part_small : (louder quieter : ℕ) → (louder - quieter) / (louder / 65536 + 1) < 65536

@@ -1,5 +1,5 @@
 use Rattle.fx25_receiver.proofs.Common.{◌≡◌, ◌/◌, ℕ, List, Bool, [], ◌∷◌, ◌++◌, true, drop, subst, sym, Tone, bits_of, EndsFrame}
-use Rattle.fx25_receiver.proofs.Common.{ap, ◌<◌, ◌≤◌, ◌∙◌, HeldLane, KnowsNumbers, LaneStandsFor}
+use Rattle.fx25_receiver.proofs.Common.{ap, ◌∙◌, HeldLane, KnowsNumbers, LaneStandsFor}
 use Rattle.fx25_receiver.proofs.KnownLemmas.{known_at_rest}
 use Rattle.std.proofs.Common.{◌^◌}
 use Rattle.hdlc_framer.specs.BitOrder.{octet_bits}

@@ -1,5 +1,5 @@
-use Rattle.fx25_receiver.proofs.Common.{◌≡◌, ◌∙◌, ◌+◌, ◌<◌, ◌/◌, ◌++◌, ℕ, List, Bool, Tone, take, ap, sym, subst, true, false}
-use Rattle.fx25_receiver.proofs.Common.{bits_of, last_tone, refl, inl, inr, EndsFrame, EndsUnsureBlock, EndsWithBits, Heard}
+use Rattle.fx25_receiver.proofs.Common.{◌≡◌, ◌∙◌, ◌+◌, ◌/◌, ◌++◌, ℕ, List, Bool, Tone, take, ap, sym, subst, true, false}
+use Rattle.fx25_receiver.proofs.Common.{bits_of, last_tone, refl, inl, inr, EndsFrame, EndsUnsureBlock}
 use Rattle.fx25_receiver.proofs.Common.{HeldLane, LaneStandsFor}
 use Rattle.std.proofs.Common.{◌^◌}
 use Rattle.tone_table.specs.declared.tone.Tone.TheVariants.{Mark}

@@ -1,4 +1,4 @@
-use Rattle.fx25_receiver.proofs.Common.{◌≡◌, ◌++◌, ◌<◌, ◌∙◌, ℕ, List, Tone, ap, arith, subst, sym, HeldLane, KnowsNumbers, LaneStandsFor}
+use Rattle.fx25_receiver.proofs.Common.{◌++◌, ◌<◌, ◌∙◌, List, Tone, subst, sym, HeldLane, KnowsNumbers, LaneStandsFor}
 use Rattle.fx25_receiver.proofs.Common.{false≢true}
 use Rattle.fx25_receiver.proofs.KnownLemmas.{known_at_rest}
 use Rattle.fx25_receiver.specs.Ahead.{NothingEndsInTones}

@@ -1,5 +1,5 @@
-use Rattle.fx25_receiver.proofs.Common.{◌≡◌, ℕ, ◌+◌, ◌%◌, List, ℤ, [], ◌∷◌, ◌++◌, drop, get_or, ap, sym, ◌∙◌, subst, refl}
-use Rattle.fx25_receiver.proofs.Common.{arith, Heard, last_seven}
+use Rattle.fx25_receiver.proofs.Common.{ℕ, ◌+◌, ◌%◌, List, ℤ, [], ◌∷◌, ◌++◌, drop, get_or, ap, sym, ◌∙◌, subst, refl}
+use Rattle.fx25_receiver.proofs.Common.{arith, last_seven}
 use Rattle.fx25_receiver.proofs.Common.{Bool, false, EndsFrame, HeldLane, KnowsNumbers, LaneStandsFor, Place, tones_at}
 use Rattle.fx25_receiver.specs.Certainty.{certainty}
 use Rattle.std.proofs.Common.{pos, set}

@@ -1,4 +1,4 @@
-use Rattle.fx25_receiver.proofs.Common.{[], ◌∷◌, ◌++◌, ◌<◌, inl, inr, arith, cases_eq}
+use Rattle.fx25_receiver.proofs.Common.{[], ◌∷◌, ◌++◌, inl, inr, arith, cases_eq}
 use Rattle.fx25_receiver.proofs.RestingLemmas.{no_tag}
 use Rattle.fx25_receiver.proofs.resting_reader.RestingReader.push.Goals as goal
 

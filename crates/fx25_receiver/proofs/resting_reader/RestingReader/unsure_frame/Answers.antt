@@ -1,4 +1,4 @@
-use Rattle.fx25_receiver.proofs.Common.{◌≡◌, ℕ, ◌+◌, ◌*◌, ◌≤◌, List, ◌++◌, ◌<◌, length, ap, sym, ◌∙◌, arith, drop, block_length}
+use Rattle.fx25_receiver.proofs.Common.{ℕ, ◌+◌, ◌*◌, ◌≤◌, List, ◌++◌, ◌<◌, length, ap, sym, arith, drop, block_length}
 use Rattle.fx25_receiver.proofs.Common.{length-append}
 use Rattle.fx25_blocks.proofs.OptionLemmas.{none_from, some_from}
 use Rattle.fx25_blocks.proofs.ReaderLemmas.{tag_and_block_within}
