@@ -1,4 +1,4 @@
-// Blocks in a line of bits.
+//! Blocks in a line of bits.
 
 ghost use Rattle.std.specs.Prelude.{◌≡◌, ◌≢◌, ℕ, ◌+◌, ◌*◌, ◌%◌, ◌<◌, ◌≤◌, min, set, Bool, true, List, [], ◌∷◌, ◌++◌, IfSome, length};
 ghost use Rattle.std.specs.Prelude.{◌-◌, ◌↔◌, IsTrue, max};

@@ -1,4 +1,4 @@
-// How sure the bits of a line are.
+//! How sure the bits of a line are.
 
 ghost use Rattle.std.specs.Prelude.{◌≡◌, ◌+◌, ◌*◌, ◌-◌, ◌%◌, ◌<◌, ◌≤◌, ℕ, List, [], ◌∷◌, ◌++◌, length, drop, slice_index};
 ghost use Rattle.fx25_blocks.specs.UnsureBlocks.{AreOctetCertainties, least_of};

@@ -1,5 +1,5 @@
-// The worked example of FX.25 from outside: N7LEM>APRS:hello as Dire Wolf's gen_packets sends it with 16, 32 and 64
-// check octets.
+//! The worked example of FX.25 from outside: N7LEM>APRS:hello as Dire Wolf's gen_packets sends it with 16, 32 and 64
+//! check octets.
 
 use crate::{BlockReader, Certainties, block_with_unknown, write_block, write_unit};
 use std::alloc::Global;

@@ -1,4 +1,4 @@
-// N7LEM>APRS:hello in a block of 16 check octets, as Dire Wolf's gen_packets sends it, with and without damage.
+//! N7LEM>APRS:hello in a block of 16 check octets, as Dire Wolf's gen_packets sends it, with and without damage.
 
 use crate::{Fx25Receiver, Heard};
 use nrzi_bits::NrziOut;
