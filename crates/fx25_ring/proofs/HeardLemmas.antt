@@ -48,7 +48,7 @@ eight_frame x item h = elim h.ends.ends [
 all_frame : (x : List ℤ) (item : HeardItem) → IsHeardByAll x item → IsFrame item.octets
 all_frame x item h = elim h.ends [
   | inl plain ↦ plain.frame.2
-  | inr block ↦ block.block.carries.opens.is_frame
+  | inr block ↦ block.block.reads.carries.opens.is_frame
 ]
 
 merged_frames : (sensitive : Bool) (x : List ℤ) (items : List HeardItem) → AreMergedBy sensitive x items
