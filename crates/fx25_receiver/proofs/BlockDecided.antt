@@ -1,22 +1,19 @@
--- Whether a block ends with the last of some bits can be decided: all that it asks can be searched for.
+-- What a block asks can be decided: all of it can be searched for.
 use Rattle.fx25_receiver.proofs.Common.{◌≡◌, ℕ, zero, suc, ◌+◌, ◌-◌, ◌*◌, ◌<◌, ◌≤◌, ◌⊎◌, Bool, true, false, List, [], ◌∷◌, ◌++◌}
 use Rattle.fx25_receiver.proofs.Common.{length, take, drop, refl, ap, sym, ◌∙◌, subst, arith, inl, inr, cases_eq, cases_lt}
-use Rattle.fx25_receiver.proofs.Common.{All, All-cons, All-head, All-nil, All-tail, EndsBlock, IsTag, block_length}
-use Rattle.fx25_receiver.proofs.Common.{check_count, data_count, sent_bits, length-append, EndsFrame}
-use Rattle.std.proofs.lemmas.List.{length-drop, length-take, take-append-drop, take_at, drop_at}
+use Rattle.fx25_receiver.proofs.Common.{All, All-cons, All-head, All-nil, All-tail}
+use Rattle.fx25_receiver.proofs.Common.{check_count, length-append, EndsFrame}
+use Rattle.std.proofs.lemmas.List.{length-take, take-append-drop, take_at}
 use Rattle.std.proofs.Common.{append_assoc}
 use Rattle.hdlc_framer.specs.Body.{flags}
 use Rattle.hdlc_framer.specs.Frames.{frame_bits}
 use Rattle.hdlc_framer.specs.Stuffing.{flag}
-use Rattle.hdlc_framer.proofs.BitLemmas.{length-sent_bits}
 use Rattle.hdlc_framer.proofs.FrameEnds.{one_frame}
 use Rattle.reed_solomon.specs.Codeword.{whole_of}
 use Rattle.reed_solomon.specs.declared.code.Zeros.TheVariants.{Between}
-use Rattle.reed_solomon.specs.Distance.{distance}
 use Rattle.reed_solomon.specs.Values.{value_at}
-use Rattle.fx25_blocks.specs.BlockEnds.{CarriesFrame, OpensWithFrame}
+use Rattle.fx25_blocks.specs.BlockEnds.{OpensWithFrame}
 use Rattle.fx25_blocks.specs.Blocks.{IsBlockCodeword}
-use Rattle.fx25_blocks.specs.Tags.{differing, tag_bits}
 use Rattle.slicer_bank.proofs.FrameDecided.{frame_or_none}
 
 -- ---- searches
@@ -208,128 +205,3 @@ codeword tag word =
         | inr below ↦ inl (λ least. absurd (omega arith))
       ]
     ]
-
--- bits carry a frame
-module _ (tag : ℕ) (bits : List Bool) where
-  abbrev Carries : Type 0
-  Carries = (frame : List ℕ) × (over : ℕ) × CarriesFrame tag bits frame over
-
-  -- a word near enough to a codeword that opens with a frame
-  abbrev Repairs : List ℕ → Type 0
-  Repairs word = SomeOctets (block_length tag) (λ right. IsBlockCodeword tag right
-      × ((2 * distance word right ≤ check_count tag) × Opens (sent_bits (take (data_count tag) right))))
-
-  carries : Decided Carries
-  carries =
-      told to from (some_octets (block_length tag) (λ word. (bits ≡ sent_bits word) × Repairs word)
-      (λ word. both (same_bits bits (sent_bits word)) (some_octets (block_length tag)
-      (λ right. IsBlockCodeword tag right
-      × ((2 * distance word right ≤ check_count tag) × Opens (sent_bits (take (data_count tag) right))))
-      (λ right. both (codeword tag right) (both (at_most (2 * distance word right) (check_count tag))
-      (opens (sent_bits (take (data_count tag) right))))))))
-    where
-      to : SomeOctets (block_length tag) (λ word. (bits ≡ sent_bits word) × Repairs word) → Carries
-      to (word, size, fit, (is, (right, right_size, right_fit, (is_right, (near, (frame, over, opening)))))) = (
-        frame,
-        over,
-        record {
-          word = word;
-          codeword = right;
-          bits_are = is;
-          octets = fit;
-          size = size;
-          repair = record {
-            size = right_size ∙ sym size;
-            octets = right_fit;
-            is_codeword = is_right;
-            near = near;
-          };
-          opens = opening;
-        },
-      )
-
-      from : Carries → SomeOctets (block_length tag) (λ word. (bits ≡ sent_bits word) × Repairs word)
-      from (frame, over, c) =
-          let r = c.repair in (
-            c.word,
-            c.size,
-            c.octets,
-            (
-              c.bits_are,
-              (
-                c.codeword,
-                r.size ∙ c.size,
-                r.octets,
-                (
-                  r.is_codeword,
-                  (
-                    r.near,
-                    (frame, over, c.opens),
-                  ),
-                ),
-              ),
-            ),
-          )
-
--- A block of a tag ends with the last bit, or none does.
-module _ (tag : ℕ) (is_tag : IsTag tag) (bits : List Bool) where
-  abbrev start : ℕ
-  start = length bits - 8 * block_length tag
-
-  abbrev heard : List Bool
-  heard = drop (start - 64) (take start bits)
-
-  abbrev Ends : Type 0
-  Ends = (frame : List ℕ) × (over : ℕ) × EndsBlock bits tag frame over
-
-  abbrev Parts : Type 0
-  Parts = (64 + 8 * block_length tag ≤ length bits)
-      × ((differing heard (tag_bits tag) ≤ 12) × Carries tag (drop start bits))
-
-  pub block_or_none : Ends ⊎ (Ends → ⊥)
-  block_or_none =
-      told to from (both (at_most (64 + 8 * block_length tag) (length bits))
-      (both (at_most (differing heard (tag_bits tag)) 12) (carries tag (drop start bits))))
-    where
-      to : Parts → Ends
-      to (least, (near, (frame, over, carried))) =
-          let i : ℕ = length bits - 8 * block_length tag in
-          let front = take i bits in
-          let taken = length-take i bits in
-          let dropped = length-drop (i - 64) front in (
-            frame,
-            over,
-            record {
-              before = take (i - 64) front;
-              heard = drop (i - 64) front;
-              block = drop i bits;
-              is_tag = is_tag;
-              bits_are = sym (take-append-drop i bits)
-                  ∙ ap (λ xs. xs ++ drop i bits) (sym (take-append-drop (i - 64) front))
-                  ∙ append_assoc (take (i - 64) front) (drop (i - 64) front) (drop i bits);
-              near_tag = record { size = omega arith; near = near };
-              carries = carried;
-            },
-          )
-
-      from : Ends → Parts
-      from (frame, over, ends) =
-          let i : ℕ = length bits - 8 * block_length tag in
-          let front = ends.before ++ ends.heard in
-          let block_size : length ends.block ≡ 8 * block_length tag = ap length ends.carries.bits_are
-          ∙ length-sent_bits ends.carries.word ∙ ap (λ n. 8 * n) ends.carries.size in
-          let whole : bits ≡ front ++ ends.block = ends.bits_are
-          ∙ sym (append_assoc ends.before ends.heard ends.block) in
-          let all = ap length whole ∙ length-append front ends.block in
-          let parts = length-append ends.before ends.heard in
-          let tag_size = ends.near_tag.size in
-          let first : take i bits ≡ front = ap (take i) whole ∙ take_at front ends.block i (omega arith) in
-          let last : drop i bits ≡ ends.block = ap (drop i) whole ∙ drop_at front ends.block i (omega arith) in
-          let tag_is : drop (i - 64) (take i bits) ≡ ends.heard = ap (drop (i - 64)) first
-          ∙ drop_at ends.before ends.heard (i - 64) (omega arith) in (
-            omega arith,
-            (
-              subst (λ xs. differing xs (tag_bits tag) ≤ 12) (sym tag_is) ends.near_tag.near,
-              (frame, over, subst (λ xs. CarriesFrame tag xs frame over) (sym last) ends.carries),
-            ),
-          )

@@ -1,7 +1,7 @@
 -- What a reader that rests has read after one bit more, and that it misses no block.
 use Rattle.fx25_receiver.proofs.Common.{◌≡◌, ℕ, ◌+◌, ◌*◌, ◌<◌, ◌≤◌, Bool, List, [], ◌∷◌, ◌++◌, length, take, drop, ap}
 use Rattle.fx25_receiver.proofs.Common.{refl, sym, subst, ◌∙◌, arith, inl, inr, cases_eq, cases_lt, append_assoc}
-use Rattle.fx25_receiver.proofs.Common.{length-append, length_push, take_all, IsTag, block_length, EndsBlock}
+use Rattle.fx25_receiver.proofs.Common.{length-append, length_push, take_all, IsTag, block_length}
 use Rattle.std.proofs.Common.{◌-◌, ◌↔◌}
 use Rattle.std.proofs.lemmas.List.{drop-append-le, length-take, take-append-drop, take-append-le, take_at}
 use Rattle.fx25_blocks.proofs.ReaderLemmas.{last_64, register_push, tag_told}
@@ -211,32 +211,6 @@ module _ (held : RestingReader) (bits : List Bool) (s : StandsFor held bits) whe
           | inr within ↦ ap (drop start) are ∙ drop-append-le start before (heard ++ rest) (omega arith)
         ]
 
-  few_in_block : (tag : ℕ) (frame : List ℕ) (over : ℕ) (ends : EndsBlock bits tag frame over)
-      → length ends.block < over_after
-  few_in_block tag frame over ends =
-      let most = most_octets tag ends.is_tag in
-      let size : length ends.block ≡ 8 * block_length tag = ap length ends.carries.bits_are
-      ∙ length-sent_bits ends.carries.word ∙ ap (λ n. 8 * n) ends.carries.size in
-      omega arith
-
-  pub awake_for_block : (tag : ℕ) (frame : List ℕ) (over : ℕ) → EndsBlock bits tag frame over → 0 < held.awake
-  awake_for_block tag frame over ends =
-      awake_for ends.before ends.heard ends.block tag ends.is_tag ends.bits_are ends.near_tag
-      (few_in_block tag frame over ends)
-
-  pub block_inside : (start tag : ℕ) (frame : List ℕ) (over : ℕ) → ReadsFrom start held.reader bits
-      → EndsBlock bits tag frame over → EndsBlock (drop start bits) tag frame over
-  block_inside start tag frame over reads ends = record {
-    before = drop start ends.before;
-    heard = ends.heard;
-    block = ends.block;
-    is_tag = ends.is_tag;
-    bits_are = rest_of ends.before ends.heard ends.block tag ends.is_tag ends.bits_are ends.near_tag
-        (few_in_block tag frame over ends) start reads;
-    near_tag = ends.near_tag;
-    carries = ends.carries;
-  }
-
   few_in_unsure : (numbers : List ℕ) (tag : ℕ) (frame : List ℕ) (over : ℕ)
       (ends : EndsUnsureBlock bits numbers tag frame over) → length (sent_bits ends.word) < over_after
   few_in_unsure numbers tag frame over ends =
@@ -310,18 +284,6 @@ whole_of : (start : ℕ) (bits before rest : List Bool) → drop start bits ≡ 
 whole_of start bits before rest are =
     sym (take-append-drop start bits) ∙ ap (λ xs. take start bits ++ xs) are
     ∙ sym (append_assoc (take start bits) before rest)
-
-pub block_outside : (start : ℕ) (bits : List Bool) (tag : ℕ) (frame : List ℕ) (over : ℕ)
-    → EndsBlock (drop start bits) tag frame over → EndsBlock bits tag frame over
-block_outside start bits tag frame over ends = record {
-  before = take start bits ++ ends.before;
-  heard = ends.heard;
-  block = ends.block;
-  is_tag = ends.is_tag;
-  bits_are = whole_of start bits ends.before (ends.heard ++ ends.block) ends.bits_are;
-  near_tag = ends.near_tag;
-  carries = ends.carries;
-}
 
 pub unsure_outside : (numbers known : List ℕ) (start : ℕ) (bits : List Bool) (tag : ℕ) (frame : List ℕ) (over : ℕ)
     → block_numbers tag known ≡ block_numbers tag numbers

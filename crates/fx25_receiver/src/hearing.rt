@@ -62,7 +62,7 @@ fn hear_tags(
 {
     for below in 0..TAGS {
         let tag = below + 1;
-        hear_block(alloc, lane.unsure_block(tag), tag, place, kept, given)?;
+        hear_block(alloc, lane.block(tag), tag, place, kept, given)?;
     }
     Ok(())
 }

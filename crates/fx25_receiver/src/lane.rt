@@ -9,7 +9,6 @@ ghost use Rattle.hdlc_framer.specs.Frames.{IsFrame, EndsFrame};
 ghost use Rattle.hdlc_framer.specs.Held.{HoldsFrame};
 ghost use Rattle.slicer_bank.specs.Heard.{tones_in};
 ghost use Rattle.fx25_receiver.specs.Ahead.{NothingEndsInTones};
-ghost use Rattle.fx25_blocks.specs.BlockEnds.{EndsBlock};
 ghost use Rattle.fx25_blocks.specs.HeldCertainties.{StandsFor as AreKept};
 ghost use Rattle.fx25_blocks.specs.Tags.{IsTag};
 ghost use Rattle.fx25_blocks.specs.UnsureBlocks.{EndsUnsureBlock};
@@ -209,20 +208,9 @@ impl Lane {
         self.plain.octets()
     }
 
-    /// The frame of the block of a tag that the last tone ended.
+    /// The frame of the block of a tag that the last tone ended. A block that is too far from a codeword as it came is read
+    /// with its least sure octets unknown.
     pub fn block(&self, tag: u8) -> Option<BlockFrame>
-        requires { IsTag tag }
-        ensures frame { (tones : List Tone) → LaneStandsFor self.now tones
-            → IfSome result (λ found. EndsBlock (bits_of tones) tag found.octets.items found.over) }
-        ensures none { (tones : List Tone) → LaneStandsFor self.now tones
-            → IfNone result ((frame : List ℕ) → (over : ℕ) → ¬ EndsBlock (bits_of tones) tag frame over) }
-    {
-        self.reader.frame(tag)
-    }
-
-    /// The same, if the windows of the tones are known: a block that is too far from a codeword as it came is read with
-    /// its least sure octets unknown.
-    pub fn unsure_block(&self, tag: u8) -> Option<BlockFrame>
         requires { IsTag tag }
         ensures frame { (tones : List Tone) → (numbers : List ℕ) → LaneStandsFor self.now tones
             → KnowsNumbers self.now.reader self.now.certainties numbers
@@ -232,14 +220,12 @@ impl Lane {
             → IfNone result ((frame : List ℕ) → (over : ℕ)
             → ¬ EndsUnsureBlock (bits_of tones) numbers tag frame over) }
     {
-        self.reader.unsure_frame(tag, &self.certainties)
+        self.reader.frame(tag, &self.certainties)
     }
 
     /// True only if the last tone ended no block.
     pub fn is_idle(&self) -> bool
-        ensures block { (tones : List Tone) → LaneStandsFor self.now tones → result ≡ true
-            → (tag : ℕ) → (frame : List ℕ) → (over : ℕ) → ¬ EndsBlock (bits_of tones) tag frame over }
-        ensures unsure { (tones : List Tone) → (numbers : List ℕ) → LaneStandsFor self.now tones → result ≡ true
+        ensures { (tones : List Tone) → (numbers : List ℕ) → LaneStandsFor self.now tones → result ≡ true
             → (tag : ℕ) → (frame : List ℕ) → (over : ℕ)
             → ¬ EndsUnsureBlock (bits_of tones) numbers tag frame over }
     {

@@ -5,7 +5,6 @@
 //! come until no block can end and none holds the channel.
 ghost use Rattle.std.specs.Prelude.{max, ◌≡◌, ◌↔◌, ◌≤◌, ◌<◌, ◌+◌, ◌/◌, ◌^◌, drop, take, ℕ, Bool, List, [], ◌∷◌, ◌++◌, true, false, IfSome, IsTrue};
 ghost use Rattle.std.specs.Option.{IfNone};
-ghost use Rattle.fx25_blocks.specs.BlockEnds.{EndsBlock};
 ghost use Rattle.fx25_blocks.specs.Coming.{IsBlockComing};
 ghost use Rattle.fx25_blocks.specs.Held.{StandsFor as ReaderStandsFor};
 ghost use Rattle.fx25_blocks.specs.UnsureBlocks.{EndsUnsureBlock};
@@ -150,31 +149,16 @@ impl RestingReader {
 
     /// True only if the last bit ends no block.
     pub(crate) fn is_idle(&self) -> bool
-        ensures block { (b : List Bool) → StandsFor self.now b → result ≡ true
-            → (tag : ℕ) → (frame : List ℕ) → (over : ℕ) → ¬ EndsBlock b tag frame over }
-        ensures unsure { (b : List Bool) → (numbers : List ℕ) → StandsFor self.now b → result ≡ true
+        ensures { (b : List Bool) → (numbers : List ℕ) → StandsFor self.now b → result ≡ true
             → (tag : ℕ) → (frame : List ℕ) → (over : ℕ) → ¬ EndsUnsureBlock b numbers tag frame over }
     {
         self.awake == 0 || self.reader.is_idle()
     }
 
-    /// The frame of the block of a tag that the last bit ends.
-    pub(crate) fn frame(&self, tag: u8) -> Option<BlockFrame>
-        requires { IsTag tag }
-        ensures frame { (b : List Bool) → StandsFor self.now b
-            → IfSome result (λ found. EndsBlock b tag found.octets.items found.over) }
-        ensures none { (b : List Bool) → StandsFor self.now b
-            → IfNone result ((frame : List ℕ) → (over : ℕ) → ¬ EndsBlock b tag frame over) }
-    {
-        if self.awake == 0 {
-            return None;
-        }
-        self.reader.frame(tag)
-    }
-
-    /// The same, if it is told how sure the bits are that it took while it was awake.
+    /// The frame of the block of a tag that the last bit ends, if it is told how sure the bits are that it took while it was
+    /// awake.
     #[cold]
-    pub(crate) fn unsure_frame(&self, tag: u8, certainties: &Certainties) -> Option<BlockFrame>
+    pub(crate) fn frame(&self, tag: u8, certainties: &Certainties) -> Option<BlockFrame>
         requires { IsTag tag }
         ensures frame { (b : List Bool) → (numbers : List ℕ) → StandsFor self.now b
             → KnowsNumbers self.now certainties.now numbers

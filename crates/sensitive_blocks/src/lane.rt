@@ -90,7 +90,7 @@ impl TimedLane {
         ensures none { (tones : List Tone) (numbers ends : List ℕ) → LaneHasRead self.now tones numbers ends
             → IfNone result ((frame : List ℕ) → (over : ℕ) → ¬ EndsUnsureBlock (bits_of tones) numbers tag frame over) }
     {
-        self.lane.unsure_block(tag)
+        self.lane.block(tag)
     }
 
     /// True only if the last tone ended no block.

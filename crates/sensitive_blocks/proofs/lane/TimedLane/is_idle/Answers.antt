@@ -6,4 +6,4 @@ returns c =
     let P : HeldLane → Type 0 = λ now. (tones : List Tone) (numbers ends : List ℕ) → LaneHasRead now tones numbers ends
     → c.is_idle.result ≡ true → (tag : ℕ) → (frame : List ℕ) → (over : ℕ)
     → ¬ EndsUnsureBlock (bits_of tones) numbers tag frame over in
-    subst P c.self.view_is (λ tones numbers ends h idle. c.is_idle.ensures.unsure tones numbers h.tones_stand idle)
+    subst P c.self.view_is (λ tones numbers ends h idle. c.is_idle.ensures tones numbers h.tones_stand idle)
