@@ -1,7 +1,7 @@
 //! The worked example of FX.25 from outside: N7LEM>APRS:hello as Dire Wolf's gen_packets sends it with 16, 32 and 64
 //! check octets.
 
-use crate::{BlockReader, Certainties, block_with_unknown, write_block, write_unit};
+use crate::{BlockReader, Certainties, block_length, block_with_unknown, write_block, write_unit};
 use std::alloc::Global;
 use std::process::Abort;
 use tnc_base::Octets;
@@ -132,7 +132,9 @@ fn is_read(rt: &impl Abort, wrong: usize, unsure: usize) -> bool {
             certainty[3 * k] = 1;
         }
     }
-    match block_with_unknown(4, &octets, &certainty) {
+    let (octets, certainty) = (octets.as_slice(), certainty.as_slice());
+    assert!(*rt; octets.len() == block_length(4) && certainty.len() == block_length(4));
+    match block_with_unknown(4, octets, certainty) {
         None => false,
         Some(found) => {
             assert_eq!(*rt; found.octets.as_slice(), FRAME.as_slice());

@@ -90,18 +90,27 @@ fn eight_wrong_octets_are_repaired_and_nine_are_not(rt: HostRuntime) -> Result<(
     Ok(())
 }
 
-#[test]
-fn a_silence_of_ten_octets_is_repaired(rt: HostRuntime) -> Result<(), Fail> {
-    // How many octets of the data are silent, and whether the frame is heard. Eight octets are repaired as they came. Of
-    // ten the eight that are unknown cost half as much as the others: 8 + 2 * 3 are at most the 16 check octets, if the
-    // octet after the silence is wrong too. Of thirteen they would be at least 8 + 2 * 5.
-    for &(silent, heard) in &[(7, true), (10, true), (13, false)] {
-        let mut samples = sound(&rt, rt.alloc(), &SENT);
-        assert!(rt; samples.len() == 3840 && silent <= 13);
-        for sample in samples[768..768 + 64 * silent].iter_mut() {
+// The samples of what is sent, of which so many octets past the first twelve are silent.
+fn silenced(rt: &impl Abort, alloc: Global, silent: usize) -> Vec<i16> {
+    assert!(rt; silent <= 13);
+    let mut samples = sound(rt, alloc, &SENT);
+    for (place, sample) in samples.iter_mut().enumerate() {
+        if place >= 768 && place < 768 + 64 * silent {
             *sample = 0;
         }
-        let items = given(&rt, rt.alloc(), &samples[..1000], &samples[1000..]);
+    }
+    samples
+}
+
+#[test]
+fn a_silence_of_ten_octets_is_repaired(rt: HostRuntime) -> Result<(), Fail> {
+    // How many octets of the data are silent, where the samples are cut, and whether the frame is heard. Eight octets are
+    // repaired as they came. Of ten the eight that are unknown cost half as much as the others: 8 + 2 * 3 are at most the
+    // 16 check octets, if the octet after the silence is wrong too. Of thirteen they would be at least 8 + 2 * 5.
+    for &(silent, cut, heard) in &[(7, 0, true), (10, 1000, true), (13, 3000, false)] {
+        let samples = silenced(&rt, rt.alloc(), silent);
+        assert!(rt; cut <= samples.len());
+        let items = given(&rt, rt.alloc(), &samples[..cut], &samples[cut..]);
         if heard {
             assert_eq!(rt; items.len(), 1);
             assert_eq!(rt; items[0].octets.as_slice(), FRAME.as_slice());
