@@ -4,10 +4,10 @@ use Rattle.sensitive_receiver.proofs.Common.{true, false, ap, sym, subst, ◌∙
 use Rattle.sensitive_receiver.proofs.Common.{length-append, cases_lt, true≢false, Candidate, All, All-append, All-nil, All-weaker}
 use Rattle.sensitive_receiver.proofs.Common.{Reach, Near, Far, Alone, added_places, HeldList, AreAddedBetween, AreAddedIn}
 use Rattle.sensitive_receiver.proofs.Common.{HasRead, HasRoomFrom, list_of}
-use Rattle.tone_tracking.specs.declared.correlation.Correlations.{Correlations}
-use Rattle.tone_tracking.specs.HeldLine.{AreCorrelationsFrom, HeldLine, HasTaken as LineHasTaken, decided_in, windows_in}
+use Rattle.tone_tracking.specs.declared.place_tones.PlaceTones.{PlaceTones}
+use Rattle.tone_tracking.specs.HeldLine.{HeldLine, HasTaken as LineHasTaken, decided_in}
 use Rattle.sensitive_receiver.specs.Found.{HasRoom, IsAddedFrom}
-use Rattle.sensitive_receiver.specs.Hearing.{AllReadLine, ReadsLine}
+use Rattle.sensitive_receiver.specs.Hearing.{AllReadLine, AreTonesOf, ReadsLine}
 use Rattle.sensitive_receiver.specs.HeldLanes.{HeldBank, StandsFor, bank_of}
 use Rattle.sensitive_receiver.specs.HeldList.{AreAt, HaveRead}
 use Rattle.sensitive_receiver.proofs.FoundLemmas.{where_join, where_none}
@@ -78,7 +78,7 @@ found_more x y from middle to items more le le' inside a b =
 -- ---- one piece
 
 -- what all lists hear has room
-pub all_bounds : (place low : ℕ) (a n f a' n' f' : HeldList) (row : List Correlations) (items : List Candidate)
+pub all_bounds : (place low : ℕ) (a n f a' n' f' : HeldList) (row : List PlaceTones) (items : List Candidate)
     → AreAt place a n f → low ≤ place + 6 → AllReadLine a n f a' n' f' row items → All (HasRoomFrom low) items
 all_bounds place low a n f a' n' f' row items at le reads =
     let P : Candidate → Type 0 = HasRoomFrom low in
@@ -90,13 +90,13 @@ all_bounds place low a n f a' n' f' row items at le reads =
     subst (All P) (sym (reads.joined ∙ ap (λ t. t ++ reads.far_heard) reads.both_read.joined))
     (All-append P (reads.both_read.alone_heard ++ reads.both_read.near_heard) reads.far_heard
     (All-append P reads.both_read.alone_heard reads.both_read.near_heard
-    (weaker a.tracker.place reads.both_read.alone_heard at.alone_place reads.both_read.alone_reads.bounds)
-    (weaker n.tracker.place reads.both_read.near_heard at.near_place reads.both_read.near_reads.bounds))
-    (weaker f.tracker.place reads.far_heard at.far_place reads.far_reads.bounds))
+    (weaker a.ring.place reads.both_read.alone_heard at.alone_place reads.both_read.alone_reads.bounds)
+    (weaker n.ring.place reads.both_read.near_heard at.near_place reads.both_read.near_reads.bounds))
+    (weaker f.ring.place reads.far_heard at.far_place reads.far_reads.bounds))
 
 -- where the lists are when they have read a line
-pub all_at : (place count : ℕ) (a n f a' n' f' : HeldList) (row : List Correlations) (items : List Candidate)
-    → AreAt place a n f → count ≡ place + (length row - 16) → AllReadLine a n f a' n' f' row items → AreAt count a' n' f'
+pub all_at : (place count : ℕ) (a n f a' n' f' : HeldList) (row : List PlaceTones) (items : List Candidate)
+    → AreAt place a n f → count ≡ place + length row → AllReadLine a n f a' n' f' row items → AreAt count a' n' f'
 all_at place count a n f a' n' f' row items at is reads =
     let one = at.alone_place in
     let two = at.near_place in
@@ -114,12 +114,12 @@ all_at place count a n f a' n' f' row items at is reads =
     }
 
 -- the lists read the line of a piece, by the samples with it
-module _ (line : HeldLine) (alone near far a n f : HeldList) (row : List Correlations) (piece : List ℤ)
+module _ (line : HeldLine) (alone near far a n f : HeldList) (row : List PlaceTones) (piece : List ℤ)
     (items : List Candidate) (x : List ℤ)
     (first : line.first ≡ added_places (length x))
     (taken : LineHasTaken line (x ++ piece))
-    (are : AreCorrelationsFrom line.first row (x ++ piece))
-    (size : line.first + length row ≡ windows_in line.count)
+    (are : AreTonesOf line.first row (x ++ piece))
+    (size : line.first + length row ≡ decided_in line.count)
     (reads : AllReadLine alone near far a n f row items)
     (at : AreAt (added_places (length x)) alone near far)
     (read : HaveRead alone near far x) where
@@ -132,10 +132,10 @@ module _ (line : HeldLine) (alone near far a n f : HeldList) (row : List Correla
   abbrev to : ℕ
   to = added_places (length now)
 
-  row_at : (place : ℕ) → place ≡ from → AreCorrelationsFrom place row now
-  row_at place is = subst (λ p. AreCorrelationsFrom p row now) (first ∙ sym is) are
+  row_at : (place : ℕ) → place ≡ from → AreTonesOf place row now
+  row_at place is = subst (λ p. AreTonesOf p row now) (first ∙ sym is) are
 
-  reach_to : to ≡ from + (length row - 16)
+  reach_to : to ≡ from + length row
   reach_to =
       let count = taken.count in
       let more = length-append x piece in
@@ -144,26 +144,26 @@ module _ (line : HeldLine) (alone near far a n f : HeldList) (row : List Correla
   pub row_at_end : AreAt to a n f
   row_at_end = all_at from to alone near far a n f row items at reach_to reads
 
-  were : (held : HeldList) → held.tracker.place ≡ from → HasRead held x → HasRead held now
+  were : (held : HeldList) → held.ring.place ≡ from → HasRead held x → HasRead held now
   were held is old = list_read-append x piece held is old
 
   pub row_read : HaveRead a n f now
   row_read = record {
-    alone_read = reads.both_read.alone_reads.read now (row_at alone.tracker.place at.alone_place)
+    alone_read = reads.both_read.alone_reads.read now (row_at alone.ring.place at.alone_place)
         (were alone at.alone_place read.alone_read);
-    near_read = reads.both_read.near_reads.read now (row_at near.tracker.place at.near_place)
+    near_read = reads.both_read.near_reads.read now (row_at near.ring.place at.near_place)
         (were near at.near_place read.near_read);
-    far_read = reads.far_reads.read now (row_at far.tracker.place at.far_place) (were far at.far_place read.far_read);
+    far_read = reads.far_reads.read now (row_at far.ring.place at.far_place) (were far at.far_place read.far_read);
   }
 
   list_found : (reach : Reach) (was held : HeldList) (heard : List Candidate) → ReadsLine was held row heard
-      → was.tracker.place ≡ from → was.tracker.reach ≡ reach → held.tracker.place ≡ to → HasRead was x
+      → was.ring.place ≡ from → was.ring.reach ≡ reach → held.ring.place ≡ to → HasRead was x
       → AreAddedIn reach from to now heard
   list_found reach was held heard line_read place_is list_is end_is old =
       subst (λ r. AreAddedIn r from to now heard) list_is
-      (subst (λ p. AreAddedIn was.tracker.reach p to now heard) place_is
-      (subst (λ p. AreAddedIn was.tracker.reach was.tracker.place p now heard) end_is
-      (line_read.found now (row_at was.tracker.place place_is) (were was place_is old))))
+      (subst (λ p. AreAddedIn was.ring.reach p to now heard) place_is
+      (subst (λ p. AreAddedIn was.ring.reach was.ring.place p now heard) end_is
+      (line_read.found now (row_at was.ring.place place_is) (were was place_is old))))
 
   pub row_found : AreAddedBetween from to now items
   row_found =
@@ -177,12 +177,12 @@ module _ (line : HeldLine) (alone near far a n f : HeldList) (row : List Correla
       (list_found Far far f reads.far_heard reads.far_reads at.far_place at.far_list end.far_place read.far_read))
 
 -- the line that a piece makes is read
-pub piece_fed : (old line : HeldLine) (alone near far a n f : HeldList) (row : List Correlations) (piece : List ℤ)
+pub piece_fed : (old line : HeldLine) (alone near far a n f : HeldList) (row : List PlaceTones) (piece : List ℤ)
     (items : List Candidate) (x : List ℤ)
     → ((y : List ℤ) → LineHasTaken old y → LineHasTaken line (y ++ piece))
     → line.first ≡ decided_in old.count
-    → ((y : List ℤ) → LineHasTaken line y → AreCorrelationsFrom line.first row y)
-    → line.first + length row ≡ windows_in line.count
+    → ((y : List ℤ) → LineHasTaken line y → AreTonesOf line.first row y)
+    → line.first + length row ≡ decided_in line.count
     → AllReadLine alone near far a n f row items
     → StandsFor (bank_of old alone near far) x
     → StandsFor (bank_of line a n f) (x ++ piece)
@@ -202,10 +202,10 @@ piece_fed old line alone near far a n f row piece items x stands first are size 
     )
 
 -- where the lists are then
-pub piece_at : (old line : HeldLine) (alone near far a n f : HeldList) (row : List Correlations) (piece : List ℤ)
+pub piece_at : (old line : HeldLine) (alone near far a n f : HeldList) (row : List PlaceTones) (piece : List ℤ)
     (items : List Candidate)
     → line.count ≡ old.count + length piece → line.first ≡ decided_in old.count
-    → line.first + length row ≡ windows_in line.count → AllReadLine alone near far a n f row items
+    → line.first + length row ≡ decided_in line.count → AllReadLine alone near far a n f row items
     → AreAt (decided_in old.count) alone near far → AreAt (decided_in line.count) a n f
 piece_at old line alone near far a n f row piece items count first size reads at =
     all_at (decided_in old.count) (decided_in line.count) alone near far a n f row items at (omega arith) reads

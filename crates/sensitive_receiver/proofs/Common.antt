@@ -44,7 +44,8 @@ unfoldable pub use Rattle.tone_tracking.specs.Clock.{clock_after}
 pub use Rattle.tone_tracking.specs.Clock.{changes, reads}
 pub use Rattle.tone_tracking.specs.Heard.{heard, places_in}
 pub use Rattle.tone_tracking.specs.HeldLists.{HeldLists}
-pub use Rattle.tone_tracking.specs.HeldTracker.{HeldTracker, tone_before}
+pub use Rattle.tone_tracking.specs.HeldRing.{HeldRing}
+pub use Rattle.tone_tracking.specs.HeldTracker.{tone_before}
 pub use Rattle.tone_tracking.specs.WithoutMean.{without_mean}
 pub use Rattle.tone_tracking.specs.declared.bit_clock.Pull.{Pull}
 pub use Rattle.tone_tracking.specs.declared.bit_clock.Pull.TheVariants.{Fast, Slow}

@@ -1,7 +1,7 @@
 -- What one lane hears at the place that was decided last.
 use Rattle.sensitive_receiver.proofs.Common.{◌≡◌, ℕ, ◌+◌, ◌-◌, ◌<◌, ◌≤◌, true, false, ℤ, List, [], ◌∷◌, ◌++◌, refl}
 use Rattle.sensitive_receiver.proofs.Common.{sym, subst, ◌∙◌, arith, true≢false, Tone, bits_of, EndsFrame, Candidate}
-use Rattle.sensitive_receiver.proofs.Common.{DecidedPlace, HeldTracker, tone_before, delay_of, is_told}
+use Rattle.sensitive_receiver.proofs.Common.{DecidedPlace, HeldRing, tone_before, delay_of, is_told}
 use Rattle.sensitive_receiver.proofs.Common.{list_of, is_read_at, tone_read, lane_tones, lane_bits}
 use Rattle.sensitive_receiver.proofs.Common.{EndsAtPlace, HasPath, is_in_time, AddsAt, HeldLane, LaneStandsFor}
 use Rattle.sensitive_receiver.proofs.Common.{IsLastPlace, without_mean}
@@ -10,34 +10,34 @@ use Rattle.hdlc_framer.specs.Held.{HoldsFrame}
 use Rattle.tone_tracking.specs.declared.correlation.Correlations.{Correlations}
 use Rattle.tone_tracking.specs.Correlation.{correlations}
 use Rattle.tone_tracking.specs.Heard.{tone_at}
-use Rattle.tone_tracking.specs.HeldTracker.{StandsFor as TrackerStandsFor}
+use Rattle.tone_tracking.specs.HeldRing.{StandsFor as RingStandsFor}
 use Rattle.sensitive_receiver.specs.HeldLanes.{HoldsFrameOf}
 use Rattle.sensitive_receiver.proofs.LaneLemmas.{tone_is_back, tones-pushed}
 use Rattle.sensitive_receiver.proofs.FoundLemmas.{adds_none, adds_one}
 
 -- a lane of the list reads at the place, as it is told
-is_reading : (tracker : HeldTracker) (at : DecidedPlace) (x : List ℤ) (number : ℕ) → IsLastPlace tracker at x
-    → list_of number ≡ tracker.reach → is_told number at ≡ true → is_read_at x number at.place ≡ true
-is_reading tracker at x number last list reads = sym (last.told number list) ∙ reads
+is_reading : (ring : HeldRing) (at : DecidedPlace) (x : List ℤ) (number : ℕ) → IsLastPlace ring at x
+    → list_of number ≡ ring.reach → is_told number at ≡ true → is_read_at x number at.place ≡ true
+is_reading ring at x number last list reads = sym (last.told number list) ∙ reads
 
 -- ---- the tone that it reads
 
-module _ (tracker : HeldTracker) (at : DecidedPlace) (x : List ℤ) (number : ℕ) (old new : HeldLane)
+module _ (ring : HeldRing) (at : DecidedPlace) (x : List ℤ) (number : ℕ) (old new : HeldLane)
     (tone : Tone) (delay : ℕ)
-    (last : IsLastPlace tracker at x) (list : list_of number ≡ tracker.reach) (reads : is_told number at ≡ true)
-    (tone_is : (windows : ℕ → Correlations) → TrackerStandsFor tracker windows
-    → tone ≡ tone_before (tone_at tracker.reach windows) tracker.place delay)
+    (last : IsLastPlace ring at x) (list : list_of number ≡ ring.reach) (reads : is_told number at ≡ true)
+    (tone_is : (windows : ℕ → Correlations) → RingStandsFor ring windows
+    → tone ≡ tone_before (tone_at ring.reach windows) ring.place delay)
     (delay_is : delay ≡ delay_of number)
     (stood : LaneStandsFor old (lane_tones x number at.place)) where
   abbrev place : ℕ
   place = at.place
 
   tone_there : tone ≡ tone_read x number place
-  tone_there = tone_is_back x number place tracker.place 0 delay tracker.reach tone
+  tone_there = tone_is_back x number place ring.place 0 delay ring.reach tone
       (tone_is (correlations (without_mean x)) last.decided) (sym list) last.last (delay_is ∙ omega arith)
 
   pushed : lane_tones x number (place + 1) ≡ lane_tones x number place ++ tone ∷ []
-  pushed = tones-pushed x number place tone (is_reading tracker at x number last list reads) tone_there
+  pushed = tones-pushed x number place tone (is_reading ring at x number last list reads) tone_there
 
   pub reads_tone : ((tones : List Tone) → LaneStandsFor old tones → LaneStandsFor new (tones ++ tone ∷ []))
       → LaneStandsFor new (lane_tones x number (place + 1))
@@ -66,8 +66,8 @@ module _ (tracker : HeldTracker) (at : DecidedPlace) (x : List ℤ) (number : �
 
 -- ---- the frame that ends with it
 
-module _ (tracker : HeldTracker) (at : DecidedPlace) (x : List ℤ) (number : ℕ) (lane : HeldLane)
-    (last : IsLastPlace tracker at x) (list : list_of number ≡ tracker.reach) (reads : is_told number at ≡ true)
+module _ (ring : HeldRing) (at : DecidedPlace) (x : List ℤ) (number : ℕ) (lane : HeldLane)
+    (last : IsLastPlace ring at x) (list : list_of number ≡ ring.reach) (reads : is_told number at ≡ true)
     (frame : HoldsFrameOf lane (lane_bits x number (at.place + 1))) where
   abbrev here : ℕ
   here = at.place
@@ -110,7 +110,7 @@ module _ (tracker : HeldTracker) (at : DecidedPlace) (x : List ℤ) (number : �
       (record {
         least = least;
         most = most;
-        reads = is_reading tracker at x number last list reads;
+        reads = is_reading ring at x number last list reads;
         end_of = end_is;
         frame = subst (EndsFrame (lane_bits x number (here + 1))) (sym (unique frame.octets frame.ends)) frame.ends;
         path = path;

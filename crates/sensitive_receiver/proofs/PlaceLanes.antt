@@ -2,7 +2,7 @@
 use Rattle.sensitive_receiver.proofs.Common.{◌≡◌, ◌≢◌, ℕ, ◌+◌, ◌-◌, ◌%◌, ◌<◌, ◌≤◌, true, false, ℤ, List, length, get_or}
 use Rattle.sensitive_receiver.proofs.Common.{set, ap, sym, subst, ◌∙◌, arith, inl, inr, nat_lt, if◌then◌else◌, ◌==◌}
 use Rattle.sensitive_receiver.proofs.Common.{cases_lt, cases_eq, lt-ltb, eqb-true, true≢false, Candidate, DecidedPlace}
-use Rattle.sensitive_receiver.proofs.Common.{EndsAtPlace, AddsAmong, AddsAt, AddsIn, HeldLane, HeldTracker, IsLastPlace}
+use Rattle.sensitive_receiver.proofs.Common.{EndsAtPlace, AddsAmong, AddsAt, AddsIn, HeldLane, HeldRing, IsLastPlace}
 use Rattle.sensitive_receiver.proofs.Common.{LaneStandsFor, LanesAreAt, LanesHaveRead, Reach, Far, is_read_at, is_told}
 use Rattle.sensitive_receiver.proofs.Common.{lane_of, lane_tones, lanes_in, list_of}
 use Rattle.std.proofs.Common.{get_or-set_same, get_or-set_other}
@@ -69,11 +69,11 @@ module _ (reach : Reach) (x : List ℤ) where
   ]
 
 -- lanes that do not read at the place
-module _ (tracker : HeldTracker) (at : DecidedPlace) (first end : ℕ) (lanes : List HeldLane) (x : List ℤ)
-    (le : first ≤ end) (few : end ≤ lanes_in tracker.reach) (last : IsLastPlace tracker at x)
-    (not_read : (k : ℕ) → first ≤ k → k < end → is_told (lane_of tracker.reach k) at ≡ false) where
+module _ (ring : HeldRing) (at : DecidedPlace) (first end : ℕ) (lanes : List HeldLane) (x : List ℤ)
+    (le : first ≤ end) (few : end ≤ lanes_in ring.reach) (last : IsLastPlace ring at x)
+    (not_read : (k : ℕ) → first ≤ k → k < end → is_told (lane_of ring.reach k) at ≡ false) where
   abbrev reach : Reach
-  reach = tracker.reach
+  reach = ring.reach
 
   silent : (k : ℕ) → first ≤ k → k < end → is_read_at x (lane_of reach k) at.place ≡ false
   silent k least small = sym (last.told (lane_of reach k) (list_of-lane reach k (omega arith))) ∙ not_read k least small
@@ -195,18 +195,18 @@ fixed_not at k small other =
     ∙ ne_eqb (at.place % 8) (8 + k - 8) (λ e. other (let same : k ≡ at.place % 8 = omega arith in same))
 
 -- what the lane whose turn it is adds is what all of them add
-module _ (tracker : HeldTracker) (at : DecidedPlace) (k : ℕ) (x : List ℤ) (k_is : k ≡ at.place % 8)
-    (reach_is : tracker.reach ≡ Far) (last : IsLastPlace tracker at x) where
-  far_of : (j : ℕ) → j < 8 → lane_of tracker.reach j ≡ 8 + j
+module _ (ring : HeldRing) (at : DecidedPlace) (k : ℕ) (x : List ℤ) (k_is : k ≡ at.place % 8)
+    (reach_is : ring.reach ≡ Far) (last : IsLastPlace ring at x) where
+  far_of : (j : ℕ) → j < 8 → lane_of ring.reach j ≡ 8 + j
   far_of j small = ap (λ r. lane_of r j) reach_is ∙ ap (λ b. if b then 8 + j else 11 + j) (lt-ltb j 8 small)
 
   told : (j : ℕ) → j < 8 → is_told (8 + j) at ≡ is_read_at x (8 + j) at.place
   told j small = last.told (8 + j)
-      (sym (ap list_of (far_of j small)) ∙ list_of-lane tracker.reach j
+      (sym (ap list_of (far_of j small)) ∙ list_of-lane ring.reach j
       (subst (λ r. j < lanes_in r) (sym reach_is) (let few : j < 11 = omega arith in few)))
 
   -- an item of one of these lanes is one of that lane
-  turn : (item : Candidate) (p j : ℕ) → p ≡ at.place → j < 8 → item.offset ≡ lane_of tracker.reach j
+  turn : (item : Candidate) (p j : ℕ) → p ≡ at.place → j < 8 → item.offset ≡ lane_of ring.reach j
       → EndsAtPlace x item p → item.offset ≡ 8 + k
   turn item p j here small lane ends =
       let number = lane ∙ far_of j small in
@@ -216,7 +216,7 @@ module _ (tracker : HeldTracker) (at : DecidedPlace) (k : ℕ) (x : List ℤ) (k
       omega arith
 
   pub adds_fixed : (before after : List Candidate) → AddsAt at.place (8 + k) x before after
-      → AddsAmong tracker.reach at.place 0 8 x before after
+      → AddsAmong ring.reach at.place 0 8 x before after
   adds_fixed before after a =
       let few : k < 8 = omega arith in
       record {
@@ -231,32 +231,32 @@ module _ (tracker : HeldTracker) (at : DecidedPlace) (k : ℕ) (x : List ℤ) (k
       }
 
   -- it has not read yet
-  pub fixed_before : (lanes : List HeldLane) (was : HeldLane) → LanesAreAt tracker.reach 0 lanes at.place x
+  pub fixed_before : (lanes : List HeldLane) (was : HeldLane) → LanesAreAt ring.reach 0 lanes at.place x
       → LaneStandsFor (get_or lanes k was) (lane_tones x (8 + k) at.place)
   fixed_before lanes was h =
       let few : k < 8 = omega arith in
-      let inside : k < lanes_in tracker.reach = subst (λ r. k < lanes_in r) (sym reach_is)
+      let inside : k < lanes_in ring.reach = subst (λ r. k < lanes_in r) (sym reach_is)
       (let e : k < 11 = omega arith in e) in
       subst (λ n. LaneStandsFor (get_or lanes k was) (lane_tones x n at.place)) (far_of k few)
-      (before_lanes tracker.reach x at.place lanes h k was inside)
+      (before_lanes ring.reach x at.place lanes h k was inside)
 
   -- and that lane alone reads
   pub lanes_fixed : (lanes : List HeldLane) (was lane : HeldLane) → length lanes ≡ 11
       → (LaneStandsFor (get_or lanes k was) (lane_tones x (8 + k) at.place)
       → LaneStandsFor lane (lane_tones x (8 + k) (at.place + 1)))
-      → LanesAreAt tracker.reach 0 lanes at.place x → LanesAreAt tracker.reach 8 (set lanes k lane) at.place x
+      → LanesAreAt ring.reach 0 lanes at.place x → LanesAreAt ring.reach 8 (set lanes k lane) at.place x
   lanes_fixed lanes was lane size reads h i d m =
-      let before = before_lanes tracker.reach x at.place lanes h in
+      let before = before_lanes ring.reach x at.place lanes h in
       let few : k < 8 = omega arith in
       let number = far_of k few in
       elim (cases_eq i k) [
-        | inl e ↦ subst (λ j. At tracker.reach x j (get_or (set lanes k lane) j d) (places_read 8 at.place j)) (sym e)
-            (subst (λ t. At tracker.reach x k t (places_read 8 at.place k))
+        | inl e ↦ subst (λ j. At ring.reach x j (get_or (set lanes k lane) j d) (places_read 8 at.place j)) (sym e)
+            (subst (λ t. At ring.reach x k t (places_read 8 at.place k))
             (sym (get_or-set_same lanes k lane d (omega arith)))
-            (subst (At tracker.reach x k lane) (sym (places_read-below 8 at.place k few))
+            (subst (At ring.reach x k lane) (sym (places_read-below 8 at.place k few))
             (subst (λ n. LaneStandsFor lane (lane_tones x n (at.place + 1))) (sym number)
             (reads (fixed_before lanes was h)))))
-        | inr ne ↦ subst (λ t. At tracker.reach x i t (places_read 8 at.place i))
+        | inr ne ↦ subst (λ t. At ring.reach x i t (places_read 8 at.place i))
             (sym (get_or-set_other lanes k i lane d ne))
             (elim (cases_lt i 8) [
               | inl lt ↦ subst (LaneStandsFor (get_or lanes i d))
@@ -264,9 +264,9 @@ module _ (tracker : HeldTracker) (at : DecidedPlace) (k : ℕ) (x : List ℤ) (k
                   ∙ sym (lane_tones-not x (8 + i) at.place
                   (sym (told i lt) ∙ fixed_not at i lt (λ e. ne (e ∙ sym k_is))))
                   ∙ ap (λ n. lane_tones x n (at.place + 1)) (sym (far_of i lt))
-                  ∙ ap (lane_tones x (lane_of tracker.reach i)) (sym (places_read-below 8 at.place i lt)))
+                  ∙ ap (lane_tones x (lane_of ring.reach i)) (sym (places_read-below 8 at.place i lt)))
                   (before i d m)
-              | inr ge ↦ subst (At tracker.reach x i (get_or lanes i d))
+              | inr ge ↦ subst (At ring.reach x i (get_or lanes i d))
                   (sym (places_read-from 8 at.place i ge)) (before i d m)
             ])
       ]

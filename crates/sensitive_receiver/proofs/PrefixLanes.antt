@@ -7,9 +7,9 @@ use Rattle.sensitive_receiver.proofs.Common.{is_read_at, readings_at, tone_back,
 use Rattle.sensitive_receiver.proofs.Common.{HasRead, HeldList, LaneStandsFor, lane_of, places_in, without_mean}
 use Rattle.std.proofs.Common.{add-one}
 use Rattle.tone_tracking.specs.Correlation.{correlations}
-use Rattle.tone_tracking.specs.HeldTracker.{StandsFor as TrackerStandsFor}
+use Rattle.tone_tracking.specs.HeldRing.{StandsFor as RingStandsFor}
 use Rattle.tone_tracking.proofs.MeanLemmas.{length-without_mean, without_mean_begins}
-use Rattle.sensitive_receiver.proofs.PrefixLemmas.{tracker-append}
+use Rattle.sensitive_receiver.proofs.PrefixLemmas.{ring-append}
 use Rattle.sensitive_receiver.proofs.LevelLemmas.{tones_before-append, clock-append}
 use Rattle.sensitive_receiver.proofs.LaneLemmas.{lane_tones-read, lane_tones-not}
 use Rattle.sensitive_receiver.proofs.VisitedLanes.{tones_of_none}
@@ -92,18 +92,18 @@ module _ (x y : List ℤ) where
   }
 
   -- the lanes of a list have read all places of the first of more samples
-  pub list_read-append : (held : HeldList) → held.tracker.place ≡ added_places (length x) → HasRead held x
+  pub list_read-append : (held : HeldList) → held.ring.place ≡ added_places (length x) → HasRead held x
       → HasRead held (x ++ y)
   list_read-append held all h =
-      let place = held.tracker.place in
+      let place = held.ring.place in
       let begins = without_mean_begins x y in
       let size = length-without_mean x in
       let whole : place ≡ places_in (length (without_mean x)) = omega arith in
       record {
-        decided = subst (λ levels. TrackerStandsFor held.tracker (correlations levels)) (sym begins.1)
-            (tracker-append held.tracker (without_mean x) begins.0 whole h.decided);
-        slow = h.slow ∙ clock-append x y Slow held.tracker.reach place (omega arith);
+        decided = subst (λ levels. RingStandsFor held.ring (correlations levels)) (sym begins.1)
+            (ring-append held.ring (without_mean x) begins.0 whole h.decided);
+        slow = h.slow ∙ clock-append x y Slow held.ring.reach place (omega arith);
         fast = λ near. h.fast near ∙ clock-append x y Fast Near place (omega arith);
         lanes = λ k d l. subst (λ tones. LaneStandsFor (get_or held.lanes k d) tones)
-            (lane_tones-append (lane_of held.tracker.reach k) place (omega arith)) (h.lanes k d l);
+            (lane_tones-append (lane_of held.ring.reach k) place (omega arith)) (h.lanes k d l);
       }

@@ -1,55 +1,15 @@
 -- What is decided of samples stays as it is when more samples follow.
-use Rattle.sensitive_receiver.proofs.Common.{◌≡◌, ℕ, zero, suc, ◌+◌, ◌-◌, ◌*◌, ◌/◌, ◌%◌, ◌<◌, ◌≤◌, ℤ, pos, List, ◌++◌}
+use Rattle.sensitive_receiver.proofs.Common.{◌≡◌, ℕ, zero, suc, ◌+◌, ◌-◌, ◌<◌, ◌≤◌, ℤ, pos, List, ◌++◌}
 use Rattle.sensitive_receiver.proofs.Common.{length, refl, sym, ◌∙◌, arith, inl, inr, length-append, cases_lt}
 use Rattle.sensitive_receiver.proofs.Common.{get_or_append_left, Tone, Pull, Reach, clock_after, heard, places_in}
 use Rattle.sensitive_receiver.proofs.Common.{tone_before, HeldLists}
-use Rattle.tone_tracking.specs.declared.correlation.Correlations.{Correlations}
 use Rattle.tone_tracking.specs.Clock.{next_clock}
 use Rattle.tone_tracking.specs.Correlation.{correlations}
-use Rattle.tone_tracking.specs.Heard.{decided, open_of, passed, past_of, past_at, tone_at}
-use Rattle.tone_tracking.specs.HeldTracker.{HeldTracker, StandsFor as TrackerStandsFor}
+use Rattle.tone_tracking.specs.HeldRing.{HeldRing, StandsFor as RingStandsFor}
+use Rattle.tone_tracking.specs.HeldTracker.{HeldTracker}
 use Rattle.tone_tracking.specs.HeldLists.{HasDecided, HasTaken}
-use Rattle.tone_tracking.proofs.CorrelationLemmas.{correlations-agree}
-use Rattle.tone_tracking.proofs.TrackerLemmas.{past_at-first, tone_before-within, tone_before-outside}
-
--- windows that agree up to a place give the same past
-past_of-agree : (reach : Reach) (v w : ℕ → Correlations) (first count limit : ℕ) → ((p : ℕ) → p ≤ limit → v p ≡ w p)
-    → first + 8 * count + 8 ≤ limit
-    → past_of reach v first count ≡ past_of reach w first count
-unfolding past_of
-past_of-agree reach v w first zero limit agree inside = refl
-past_of-agree reach v w first (suc count) limit agree inside =
-    let place : ℕ = first + 8 * count in
-    let past = past_of-agree reach v w first count limit agree (omega arith) in
-    let now = agree place (omega arith) in
-    let next = agree (place + 8) (omega arith) in
-    let later = agree (place + 16) (omega arith) in
-    λ i. passed reach (decided (past i) (now i) (open_of reach (next i) (later i))) (now i) (past i)
-
-pub past_at-agree : (reach : Reach) (v w : ℕ → Correlations) (place limit : ℕ) → ((p : ℕ) → p ≤ limit → v p ≡ w p)
-    → place + 8 ≤ limit
-    → past_at reach v place ≡ past_at reach w place
-unfolding past_at
-past_at-agree reach v w place limit agree inside = past_of-agree reach v w (place % 8) (place / 8) limit agree
-    (omega arith)
-
-pub tone_at-agree : (reach : Reach) (v w : ℕ → Correlations) (place limit : ℕ) → ((p : ℕ) → p ≤ limit → v p ≡ w p)
-    → place + 16 ≤ limit
-    → tone_at reach v place ≡ tone_at reach w place
-unfolding tone_at
-tone_at-agree reach v w place limit agree inside =
-    let past = past_at-agree reach v w place limit agree (omega arith) in
-    let now = agree place (omega arith) in
-    let next = agree (place + 8) (omega arith) in
-    let later = agree (place + 16) (omega arith) in
-    λ i. decided (past i) (now i) (open_of reach (next i) (later i))
-
--- the correlations of a window that lies in the first samples
-pub correlations-append : (x y : List ℤ) (place : ℕ) → place + 8 ≤ length x
-    → correlations x place ≡ correlations (x ++ y) place
-correlations-append x y place inside =
-    correlations-agree x (x ++ y) place place
-    (λ i small. sym (get_or_append_left x y (pos 0) (place + i) (omega arith)))
+use Rattle.tone_tracking.proofs.PastLemmas.{correlations-append, past-append, tone_at-agree}
+use Rattle.tone_tracking.proofs.TrackerLemmas.{tone_before-within, tone_before-outside}
 
 -- and the tone of a place of the first samples
 pub heard-append : (reach : Reach) (x y : List ℤ) (place : ℕ) → place < places_in (length x)
@@ -84,15 +44,6 @@ clock_after-agree pull t u (suc count) agree =
 
 -- ---- what is kept
 
-past-append : (reach : Reach) (x y : List ℤ) (count place : ℕ) → count ≤ length x → place < places_in count + 8
-    → past_at reach (correlations x) place ≡ past_at reach (correlations (x ++ y)) place
-past-append reach x y count place inside near = elim (cases_lt place 8) [
-  | inl small ↦ past_at-first reach (correlations x) place small
-      ∙ sym (past_at-first reach (correlations (x ++ y)) place small)
-  | inr large ↦ past_at-agree reach (correlations x) (correlations (x ++ y)) place (length x - 8)
-      (λ p le. correlations-append x y p (omega arith)) (omega arith)
-]
-
 decided-append : (tracker : HeldTracker) (count : ℕ) (x y : List ℤ) → count ≤ length x → HasDecided tracker count x
     → HasDecided tracker count (x ++ y)
 decided-append tracker count x y inside h =
@@ -108,11 +59,14 @@ decided-append tracker count x y inside h =
       };
     }
 
--- a tracker that has decided all places of the first of more samples
-pub tracker-append : (tracker : HeldTracker) (x y : List ℤ) → tracker.place ≡ places_in (length x)
-    → TrackerStandsFor tracker (correlations x) → TrackerStandsFor tracker (correlations (x ++ y))
-tracker-append tracker x y all h =
-    (decided-append tracker (length x) x y (omega arith) (record { place = all; stands_for = h })).stands_for
+-- a ring that has taken the tones of all places of the first of more samples
+pub ring-append : (ring : HeldRing) (x y : List ℤ) → ring.place ≡ places_in (length x)
+    → RingStandsFor ring (correlations x) → RingStandsFor ring (correlations (x ++ y))
+ring-append ring x y all h = record {
+  recent = λ back d small. h.recent back d small
+      ∙ tone_before-agree (heard ring.reach x) (heard ring.reach (x ++ y)) ring.place back
+      (λ q l. heard-append ring.reach x y q (omega arith));
+}
 
 -- the lists have taken the first of more samples
 pub taken-append : (held : HeldLists) (x y : List ℤ) → HasTaken held x → HasTaken held (x ++ y)

@@ -1,6 +1,6 @@
 -- The lanes of a list as they are made, and visited one after another.
 use Rattle.sensitive_receiver.proofs.Common.{◌≡◌, ℕ, ◌+◌, ◌<◌, ◌≤◌, ℤ, List, [], length, get_or, set, refl, sym, subst}
-use Rattle.sensitive_receiver.proofs.Common.{◌∙◌, arith, All, Candidate, DecidedPlace, AddsAt, HasRoomFrom, HeldTracker}
+use Rattle.sensitive_receiver.proofs.Common.{◌∙◌, arith, All, Candidate, DecidedPlace, AddsAt, HasRoomFrom, HeldRing}
 use Rattle.sensitive_receiver.proofs.Common.{IsLastPlace, LanesHear, HeldLane, LaneStandsFor, LanesHaveRead, Reach}
 use Rattle.sensitive_receiver.proofs.Common.{lane_of, lane_tones, lanes_in}
 use Rattle.std.proofs.lemmas.List.{length-set}
@@ -24,62 +24,62 @@ read_none reach n lanes x all h k d l = subst (LaneStandsFor (get_or lanes k d))
 -- ---- one lane after another
 
 -- the lanes from one on to below another were visited at the last place
-pub record Visited (tracker : HeldTracker) (at : DecidedPlace) (old now : List HeldLane) (before after : List Candidate)
+pub record Visited (ring : HeldRing) (at : DecidedPlace) (old now : List HeldLane) (before after : List Candidate)
     (first n : ℕ) : Type 0 where
   pub least : first ≤ n
-  pub size : length now ≡ lanes_in tracker.reach
-  pub hear : LanesHear first n tracker at old now before after
+  pub size : length now ≡ lanes_in ring.reach
+  pub hear : LanesHear first n ring at old now before after
   pub bounds : (low : ℕ) → low ≤ at.place + 6 → All (HasRoomFrom low) before → All (HasRoomFrom low) after
 
-pub visited_none : (tracker : HeldTracker) (at : DecidedPlace) (lanes : List HeldLane) (found : List Candidate)
+pub visited_none : (ring : HeldRing) (at : DecidedPlace) (lanes : List HeldLane) (found : List Candidate)
     (first : ℕ)
-    → length lanes ≡ lanes_in tracker.reach
-    → Visited tracker at lanes lanes found found first first
-visited_none tracker at lanes found first size = record {
+    → length lanes ≡ lanes_in ring.reach
+    → Visited ring at lanes lanes found found first first
+visited_none ring at lanes found first size = record {
   least = omega arith;
   size = size;
   hear = record {
     read = λ x last h. h;
-    found = λ x last h. adds_nobody tracker.reach at.place x first found;
+    found = λ x last h. adds_nobody ring.reach at.place x first found;
   };
   bounds = λ low under h. h;
 }
 
-module _ (tracker : HeldTracker) (at : DecidedPlace) (old now : List HeldLane) (before found after : List Candidate)
+module _ (ring : HeldRing) (at : DecidedPlace) (old now : List HeldLane) (before found after : List Candidate)
     (first n number : ℕ) (was lane : HeldLane)
-    (h : Visited tracker at old now before found first n) (l : n < lanes_in tracker.reach)
-    (number_is : lane_of tracker.reach n ≡ number)
-    (reads : (x : List ℤ) → IsLastPlace tracker at x
+    (h : Visited ring at old now before found first n) (l : n < lanes_in ring.reach)
+    (number_is : lane_of ring.reach n ≡ number)
+    (reads : (x : List ℤ) → IsLastPlace ring at x
     → LaneStandsFor (get_or now n was) (lane_tones x number at.place)
     → LaneStandsFor lane (lane_tones x number (at.place + 1)))
-    (adds : (x : List ℤ) → IsLastPlace tracker at x
+    (adds : (x : List ℤ) → IsLastPlace ring at x
     → LaneStandsFor (get_or now n was) (lane_tones x number at.place)
     → AddsAt at.place number x found after)
     (bound : (low : ℕ) → low ≤ at.place + 6 → All (HasRoomFrom low) found → All (HasRoomFrom low) after) where
-  reads_here : (x : List ℤ) → IsLastPlace tracker at x
-      → LaneStandsFor (get_or now n was) (lane_tones x (lane_of tracker.reach n) at.place)
-      → LaneStandsFor lane (lane_tones x (lane_of tracker.reach n) (at.place + 1))
+  reads_here : (x : List ℤ) → IsLastPlace ring at x
+      → LaneStandsFor (get_or now n was) (lane_tones x (lane_of ring.reach n) at.place)
+      → LaneStandsFor lane (lane_tones x (lane_of ring.reach n) (at.place + 1))
   reads_here x last = subst (λ m. LaneStandsFor (get_or now n was) (lane_tones x m at.place)
       → LaneStandsFor lane (lane_tones x m (at.place + 1))) (sym number_is) (reads x last)
 
-  adds_here : (x : List ℤ) → IsLastPlace tracker at x
-      → LaneStandsFor (get_or now n was) (lane_tones x (lane_of tracker.reach n) at.place)
-      → AddsAt at.place (lane_of tracker.reach n) x found after
+  adds_here : (x : List ℤ) → IsLastPlace ring at x
+      → LaneStandsFor (get_or now n was) (lane_tones x (lane_of ring.reach n) at.place)
+      → AddsAt at.place (lane_of ring.reach n) x found after
   adds_here x last = subst (λ m. LaneStandsFor (get_or now n was) (lane_tones x m at.place)
       → AddsAt at.place m x found after) (sym number_is) (adds x last)
 
-  pub visited_more : Visited tracker at old (set now n lane) before after first (n + 1)
+  pub visited_more : Visited ring at old (set now n lane) before after first (n + 1)
   visited_more =
       let least = h.least in
       record {
         least = omega arith;
         size = length-set now n lane ∙ h.size;
         hear = record {
-          read = λ x last start. lane_read tracker.reach x at.place n now was lane h.size l (reads_here x last)
+          read = λ x last start. lane_read ring.reach x at.place n now was lane h.size l (reads_here x last)
               (h.hear.read x last start);
-          found = λ x last start. adds_next_among tracker.reach at.place x first n before found after h.least l
+          found = λ x last start. adds_next_among ring.reach at.place x first n before found after h.least l
               (h.hear.found x last start)
-              (adds_here x last (lane_before tracker.reach x at.place n now was l (h.hear.read x last start)));
+              (adds_here x last (lane_before ring.reach x at.place n now was l (h.hear.read x last start)));
         };
         bounds = λ low under all. bound low under (h.bounds low under all);
       }

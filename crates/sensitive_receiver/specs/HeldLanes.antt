@@ -13,7 +13,7 @@ pub record HoldsFrameOf (held : HeldLane) (bits : List Bool) : Type 0 where
   pub ends : EndsFrame bits octets
   pub holds : (frame : List ℕ) → EndsFrame bits frame → HoldsFrame held.deframer frame
 
--- how many samples were taken, the line of correlations, and the lanes of each list
+-- how many samples were taken, the line of tones, and the lanes of each list
 pub record HeldBank : Type 0 where
   pub position : ℕ
   pub line : HeldLine

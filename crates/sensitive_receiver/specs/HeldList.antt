@@ -6,23 +6,23 @@ use Rattle.tone_tracking.specs.declared.reach.Reach.{Reach}
 use Rattle.tone_tracking.specs.declared.reach.Reach.TheVariants.{Alone, Near, Far}
 use Rattle.tone_tracking.specs.Clock.{Clock, clock_after}
 use Rattle.tone_tracking.specs.Correlation.{correlations}
-use Rattle.tone_tracking.specs.HeldTracker.{HeldTracker, StandsFor as TrackerStandsFor}
+use Rattle.tone_tracking.specs.HeldRing.{HeldRing, StandsFor as RingStandsFor}
 use Rattle.tone_tracking.specs.WithoutMean.{without_mean}
 use Rattle.sensitive_receiver.specs.declared.decided_place.DecidedPlace.{DecidedPlace}
 use Rattle.sensitive_receiver.specs.LateLanes.{HeldLane, LaneStandsFor}
 use Rattle.sensitive_receiver.specs.Lanes.{is_read_at, lane_tones, list_of, tones}
 use Rattle.sensitive_receiver.specs.ListLanes.{is_told, lane_of, lanes_in}
 
--- the tracker that decides the list, the clocks on its tones, and its lanes
+-- the last tones of the list, the clocks on them, and its lanes
 pub record HeldList : Type 0 where
-  pub tracker : HeldTracker
+  pub ring : HeldRing
   pub slow : Pull × Clock
   pub fast : Pull × Clock
   pub lanes : List HeldLane
 
--- the tracker has decided all places before its own, by samples without their mean
-abbrev pub HasDecided : HeldTracker → List ℤ → Type 0
-HasDecided tracker x = TrackerStandsFor tracker (correlations (without_mean x))
+-- the ring has taken the tones of all places before its own, as samples without their mean give them
+abbrev pub HasDecided : HeldRing → List ℤ → Type 0
+HasDecided ring x = RingStandsFor ring (correlations (without_mean x))
 
 -- each lane has read the tones of so many places of the samples
 abbrev pub LanesHaveRead : Reach → List HeldLane → ℕ → List ℤ → Type 0
@@ -30,13 +30,13 @@ LanesHaveRead reach lanes count x =
     (k : ℕ) (d : HeldLane) → k < lanes_in reach
     → LaneStandsFor (slice_index_or lanes k d) (lane_tones x (lane_of reach k) count)
 
--- The tracker has decided all places before its own, and the clocks and the lanes have taken their tones. Only the near
+-- The ring, the clocks and the lanes have taken the tones of all places before the next one. Only the near
 -- list has a lane that follows the fast clock.
 pub record HasRead (held : HeldList) (x : List ℤ) : Type 0 where
-  pub decided : HasDecided held.tracker x
-  pub slow : held.slow.1 ≡ clock_after Slow (tones held.tracker.reach x) held.tracker.place
-  pub fast : held.tracker.reach ≡ Near → held.fast.1 ≡ clock_after Fast (tones Near x) held.tracker.place
-  pub lanes : LanesHaveRead held.tracker.reach held.lanes held.tracker.place x
+  pub decided : HasDecided held.ring x
+  pub slow : held.slow.1 ≡ clock_after Slow (tones held.ring.reach x) held.ring.place
+  pub fast : held.ring.reach ≡ Near → held.fast.1 ≡ clock_after Fast (tones Near x) held.ring.place
+  pub lanes : LanesHaveRead held.ring.reach held.lanes held.ring.place x
 
 -- ---- while the lanes read a place, one after another
 
@@ -50,22 +50,22 @@ LanesAreAt reach first lanes place x =
     (k : ℕ) (d : HeldLane) → k < lanes_in reach
     → LaneStandsFor (slice_index_or lanes k d) (lane_tones x (lane_of reach k) (places_read first place k))
 
--- the tracker decided the place last, and the clocks tell of it what they say of these samples
-pub record IsLastPlace (tracker : HeldTracker) (at : DecidedPlace) (x : List ℤ) : Type 0 where
-  pub decided : HasDecided tracker x
-  pub last : tracker.place ≡ at.place + 1
-  pub told : (lane : ℕ) → list_of lane ≡ tracker.reach → is_told lane at ≡ is_read_at x lane at.place
+-- the ring took the place last, and the clocks tell of it what they say of these samples
+pub record IsLastPlace (ring : HeldRing) (at : DecidedPlace) (x : List ℤ) : Type 0 where
+  pub decided : HasDecided ring x
+  pub last : ring.place ≡ at.place + 1
+  pub told : (lane : ℕ) → list_of lane ≡ ring.reach → is_told lane at ≡ is_read_at x lane at.place
 
 -- ---- the three lists
 
 -- the banks of the three lists are at a place
 pub record AreAt (place : ℕ) (alone near far : HeldList) : Type 0 where
-  pub alone_list : alone.tracker.reach ≡ Alone
-  pub near_list : near.tracker.reach ≡ Near
-  pub far_list : far.tracker.reach ≡ Far
-  pub alone_place : alone.tracker.place ≡ place
-  pub near_place : near.tracker.place ≡ place
-  pub far_place : far.tracker.place ≡ place
+  pub alone_list : alone.ring.reach ≡ Alone
+  pub near_list : near.ring.reach ≡ Near
+  pub far_list : far.ring.reach ≡ Far
+  pub alone_place : alone.ring.place ≡ place
+  pub near_place : near.ring.place ≡ place
+  pub far_place : far.ring.place ≡ place
 
 -- each of them has read all places before its own
 pub record HaveRead (alone near far : HeldList) (x : List ℤ) : Type 0 where

@@ -7,20 +7,21 @@ ghost use Rattle.sensitive_receiver.specs.HeldLanes.{StandsFor};
 ghost use Rattle.sensitive_receiver.specs.Lanes.{added_places};
 
 use crate::list_bank::ListBank;
-use crate::pieces::feed_block;
+use crate::pieces::{feed_block, feed_block_threads};
 use frame_merge::Candidate;
 use std::alloc::Global;
 use std::marker::Model;
+use std::thread::Threads;
 use tnc_base::OutOfMemory;
-use tone_tracking::{CorrelationLine, Reach};
+use tone_tracking::{Reach, ToneLine};
 
-/// The correlations of samples without their mean, and the lanes of three lists that read them: `new`, then `feed` for
+/// The tones of samples without their mean, and the lanes of three lists that read them: `new`, then `feed` for
 /// each block of samples. After want of memory it is spent: each later `feed` wants memory, too.
 #[derive(Drop)]
 pub struct AddedBank {
     alloc: Global,
     spent: bool,
-    line: CorrelationLine,
+    line: ToneLine,
     alone: ListBank,
     near: ListBank,
     far: ListBank,
@@ -54,7 +55,7 @@ impl AddedBank {
         Ok(AddedBank {
             alloc,
             spent: false,
-            line: CorrelationLine::new(alloc),
+            line: ToneLine::new(alloc)?,
             alone: ListBank::new(alloc, Reach::Alone)?,
             near: ListBank::new(alloc, Reach::Near)?,
             far: ListBank::new(alloc, Reach::Far)?,
@@ -77,6 +78,38 @@ impl AddedBank {
         }
         self.spent = true;
         let found = feed_block(
+            self.alloc,
+            &mut self.line,
+            &mut self.alone,
+            &mut self.near,
+            &mut self.far,
+            block,
+        )?;
+        self.spent = false;
+        Ok(found)
+    }
+
+    /// Does what [`AddedBank::feed`] does, the tones decided and the lists read on threads.
+    pub fn feed_threads<R: Threads + Sync>(
+        &mut self,
+        rt: &R,
+        block: &[i16],
+    ) -> Result<Vec<Candidate>, OutOfMemory>
+        requires { self.old.position + length block.now < 2 ^ 48 }
+        ensures found { IfOk result (λ found. (x : List ℤ) → StandsFor self.old x
+            → StandsFor self.new (x ++ block.now)
+            × AreAddedBetween (added_places (length x)) (added_places (length (x ++ block.now)))
+            (x ++ block.now) found.items) }
+        ensures bounds { IfOk result (λ found. All HasRoom found.items) }
+        ensures late { IfOk result (λ found. All (IsAddedFrom (self.old.position - 32)) found.items) }
+        ensures position { OnOk result (self.new.position ≡ self.old.position + length block.now) }
+    {
+        if self.spent {
+            return Err(OutOfMemory);
+        }
+        self.spent = true;
+        let found = feed_block_threads(
+            rt,
             self.alloc,
             &mut self.line,
             &mut self.alone,

@@ -24,7 +24,7 @@ use frame_merge::Candidate;
 use std::alloc::Global;
 use tnc_base::{Octets, OutOfMemory};
 use tone_table::Tone;
-use tone_tracking::{Reach, ToneTracker};
+use tone_tracking::{Reach, ToneRing};
 
 /// Has each lane of a list read its bit, if it reads one at the place that was decided last, and adds what they hear to
 /// `found`.
@@ -32,34 +32,34 @@ use tone_tracking::{Reach, ToneTracker};
 pub(crate) fn hear_place(
     alloc: Global,
     reach: Reach,
-    tracker: &ToneTracker,
+    ring: &ToneRing,
     lanes: &mut [LateLane],
     at: &DecidedPlace,
     found: &mut Vec<Candidate>,
 ) -> Result<(), OutOfMemory>
-    requires reach { reach ≡ tracker.now.reach }
-    requires lanes { length lanes.old ≡ lanes_in tracker.now.reach }
-    requires room { tracker.now.place < 2 ^ 49 }
+    requires reach { reach ≡ ring.now.reach }
+    requires lanes { length lanes.old ≡ lanes_in ring.now.reach }
+    requires room { ring.now.place < 2 ^ 49 }
     requires place { at.now.place < 2 ^ 48 }
-    ensures lanes { length lanes.new ≡ lanes_in tracker.now.reach }
-    ensures read { OnOk result ((x : List ℤ) → IsLastPlace tracker.now at.now x
-        → LanesHaveRead tracker.now.reach lanes.old at.now.place x
-        → LanesHaveRead tracker.now.reach lanes.new (at.now.place + 1) x) }
-    ensures found { OnOk result ((x : List ℤ) → IsLastPlace tracker.now at.now x
-        → LanesHaveRead tracker.now.reach lanes.old at.now.place x
-        → AddsIn tracker.now.reach at.now.place (at.now.place + 1) x found.old.items found.new.items) }
+    ensures lanes { length lanes.new ≡ lanes_in ring.now.reach }
+    ensures read { OnOk result ((x : List ℤ) → IsLastPlace ring.now at.now x
+        → LanesHaveRead ring.now.reach lanes.old at.now.place x
+        → LanesHaveRead ring.now.reach lanes.new (at.now.place + 1) x) }
+    ensures found { OnOk result ((x : List ℤ) → IsLastPlace ring.now at.now x
+        → LanesHaveRead ring.now.reach lanes.old at.now.place x
+        → AddsIn ring.now.reach at.now.place (at.now.place + 1) x found.old.items found.new.items) }
     ensures bounds { (low : ℕ) → low ≤ at.now.place + 6
         → OnOk result (All (HasRoomFrom low) found.old.items → All (HasRoomFrom low) found.new.items) }
 {
     match reach {
-        Reach::Alone => hear_clocked(alloc, tracker, lanes, 0, 3, 23, 0, at, found),
+        Reach::Alone => hear_clocked(alloc, ring, lanes, 0, 3, 23, 0, at, found),
         Reach::Near => {
-            hear_clocked(alloc, tracker, lanes, 0, 3, 16, 0, at, found)?;
-            hear_clocked(alloc, tracker, lanes, 3, 4, 22, 1, at, found)
+            hear_clocked(alloc, ring, lanes, 0, 3, 16, 0, at, found)?;
+            hear_clocked(alloc, ring, lanes, 3, 4, 22, 1, at, found)
         }
         Reach::Far => {
-            hear_fixed(alloc, tracker, lanes, at, found)?;
-            hear_clocked(alloc, tracker, lanes, 8, 11, 19, 0, at, found)
+            hear_fixed(alloc, ring, lanes, at, found)?;
+            hear_clocked(alloc, ring, lanes, 8, 11, 19, 0, at, found)
         }
     }
 }
@@ -68,23 +68,23 @@ pub(crate) fn hear_place(
 #[inline(always)]
 fn hear_fixed(
     alloc: Global,
-    tracker: &ToneTracker,
+    ring: &ToneRing,
     lanes: &mut [LateLane],
     at: &DecidedPlace,
     found: &mut Vec<Candidate>,
 ) -> Result<(), OutOfMemory>
-    requires reach { tracker.now.reach ≡ Far }
+    requires reach { ring.now.reach ≡ Far }
     requires lanes { length lanes.old ≡ 11 }
-    requires room { tracker.now.place < 2 ^ 49 }
+    requires room { ring.now.place < 2 ^ 49 }
     requires place { at.now.place < 2 ^ 48 }
     ensures lanes { length lanes.new ≡ 11 }
-    ensures hear { OnOk result (LanesHear 0 8 tracker.now at.now lanes.old lanes.new found.old.items found.new.items) }
+    ensures hear { OnOk result (LanesHear 0 8 ring.now at.now lanes.old lanes.new found.old.items found.new.items) }
     ensures bounds { (low : ℕ) → low ≤ at.now.place + 6
         → OnOk result (All (HasRoomFrom low) found.old.items → All (HasRoomFrom low) found.new.items) }
 {
     let index = (at.place % 8) as u8;
     let lane = &mut lanes[usize::from(index)];
-    hear(alloc, tracker, lane, FIRST + index, 0, at, found)
+    hear(alloc, ring, lane, FIRST + index, 0, at, found)
 }
 
 /// Has some lanes of a list, from one to below another in their order, read their bits if the clock that they share says
@@ -93,7 +93,7 @@ fn hear_fixed(
 #[inline(always)]
 fn hear_clocked(
     alloc: Global,
-    tracker: &ToneTracker,
+    ring: &ToneRing,
     lanes: &mut [LateLane],
     first: u8,
     end: u8,
@@ -102,18 +102,18 @@ fn hear_clocked(
     at: &DecidedPlace,
     found: &mut Vec<Candidate>,
 ) -> Result<(), OutOfMemory>
-    requires lanes { length lanes.old ≡ lanes_in tracker.now.reach }
-    requires range { (first < end) × (end ≤ lanes_in tracker.now.reach) }
+    requires lanes { length lanes.old ≡ lanes_in ring.now.reach }
+    requires range { (first < end) × (end ≤ lanes_in ring.now.reach) }
     requires number { (16 ≤ number) × (number + (end - first) ≤ 26) }
     requires few { delay + (end - first) ≤ 3 }
-    requires numbers { (k : ℕ) → first ≤ k → k < end → lane_of tracker.now.reach k ≡ number + (k - first) }
+    requires numbers { (k : ℕ) → first ≤ k → k < end → lane_of ring.now.reach k ≡ number + (k - first) }
     requires clock { (j : ℕ) → j < end - first → is_told (number + j) at.now ≡ is_told number at.now }
-    requires list { (j : ℕ) → j < end - first → list_of (number + j) ≡ tracker.now.reach }
+    requires list { (j : ℕ) → j < end - first → list_of (number + j) ≡ ring.now.reach }
     requires delay { (j : ℕ) → j < end - first → delay_of (number + j) ≡ delay + j }
-    requires room { tracker.now.place < 2 ^ 49 }
+    requires room { ring.now.place < 2 ^ 49 }
     requires place { at.now.place < 2 ^ 48 }
-    ensures lanes { length lanes.new ≡ lanes_in tracker.now.reach }
-    ensures hear { OnOk result (LanesHear first end tracker.now at.now
+    ensures lanes { length lanes.new ≡ lanes_in ring.now.reach }
+    ensures hear { OnOk result (LanesHear first end ring.now at.now
         lanes.old lanes.new found.old.items found.new.items) }
     ensures bounds { (low : ℕ) → low ≤ at.now.place + 6
         → OnOk result (All (HasRoomFrom low) found.old.items → All (HasRoomFrom low) found.new.items) }
@@ -126,7 +126,7 @@ fn hear_clocked(
         let further = index - first;
         hear(
             alloc,
-            tracker,
+            ring,
             lane,
             number + further,
             delay + further,
@@ -142,7 +142,7 @@ fn hear_clocked(
 #[inline(always)]
 fn hear(
     alloc: Global,
-    tracker: &ToneTracker,
+    ring: &ToneRing,
     lane: &mut LateLane,
     number: u8,
     delay: u8,
@@ -150,26 +150,26 @@ fn hear(
     found: &mut Vec<Candidate>,
 ) -> Result<(), OutOfMemory>
     requires number { (8 ≤ number) × (number < 26) }
-    requires list { list_of number ≡ tracker.now.reach }
+    requires list { list_of number ≡ ring.now.reach }
     requires delay { delay ≡ delay_of number }
     requires few { delay ≤ 2 }
     requires reads { is_told number at.now ≡ true }
-    requires room { tracker.now.place < 2 ^ 49 }
+    requires room { ring.now.place < 2 ^ 49 }
     requires place { at.now.place < 2 ^ 48 }
-    ensures read { (x : List ℤ) → IsLastPlace tracker.now at.now x
+    ensures read { (x : List ℤ) → IsLastPlace ring.now at.now x
         → LaneStandsFor lane.old (lane_tones x number at.now.place)
         → LaneStandsFor lane.new (lane_tones x number (at.now.place + 1)) }
-    ensures found { OnOk result ((x : List ℤ) → IsLastPlace tracker.now at.now x
+    ensures found { OnOk result ((x : List ℤ) → IsLastPlace ring.now at.now x
         → LaneStandsFor lane.old (lane_tones x number at.now.place)
         → AddsAt at.now.place number x found.old.items found.new.items) }
     ensures bounds { (low : ℕ) → low ≤ at.now.place + 6
         → OnOk result (All (HasRoomFrom low) found.old.items → All (HasRoomFrom low) found.new.items) }
 {
-    let tone = tracker.tone_before(delay);
+    let tone = ring.tone_before(delay);
     if !lane.push(tone) {
         return Ok(());
     }
-    add_frame(alloc, tracker, lane, number, at, found)
+    add_frame(alloc, ring, lane, number, at, found)
 }
 
 /// Adds the frame that ends with the bit that a lane read last, if it begins with a path and its flag is in time. Few
@@ -178,25 +178,25 @@ fn hear(
 #[inline(never)]
 fn add_frame(
     alloc: Global,
-    tracker: &ToneTracker,
+    ring: &ToneRing,
     lane: &LateLane,
     number: u8,
     at: &DecidedPlace,
     found: &mut Vec<Candidate>,
 ) -> Result<(), OutOfMemory>
     requires number { (8 ≤ number) × (number < 26) }
-    requires list { list_of number ≡ tracker.now.reach }
+    requires list { list_of number ≡ ring.now.reach }
     requires reads { is_told number at.now ≡ true }
     requires holds { (octets : List ℕ) × IsFrame octets × HoldsFrame lane.now.deframer octets }
-    requires room { tracker.now.place < 2 ^ 49 }
+    requires room { ring.now.place < 2 ^ 49 }
     requires place { at.now.place < 2 ^ 48 }
-    ensures found { OnOk result ((x : List ℤ) → IsLastPlace tracker.now at.now x
+    ensures found { OnOk result ((x : List ℤ) → IsLastPlace ring.now at.now x
         → HoldsFrameOf lane.now (lane_bits x number (at.now.place + 1))
         → AddsAt at.now.place number x found.old.items found.new.items) }
     ensures bounds { (low : ℕ) → low ≤ at.now.place + 6
         → OnOk result (All (HasRoomFrom low) found.old.items → All (HasRoomFrom low) found.new.items) }
 {
-    if !ends_in_time(tracker, number) {
+    if !ends_in_time(ring, number) {
         return Ok(());
     }
     if !has_path(lane.octets()) {
@@ -213,17 +213,17 @@ fn add_frame(
 
 /// Whether the bit that a lane reads is the last 0 of a flag, also by the plain count of samples: the tones two bits
 /// and one bit before agree, and the tone of the bit is another.
-fn ends_in_time(tracker: &ToneTracker, number: u8) -> bool
+fn ends_in_time(ring: &ToneRing, number: u8) -> bool
     requires number { number < 26 }
-    requires list { list_of number ≡ tracker.now.reach }
-    requires room { tracker.now.place < 2 ^ 49 }
-    ensures { (x : List ℤ) (place : ℕ) → HasDecided tracker.now x → tracker.now.place ≡ place + 1
+    requires list { list_of number ≡ ring.now.reach }
+    requires room { ring.now.place < 2 ^ 49 }
+    ensures { (x : List ℤ) (place : ℕ) → HasDecided ring.now x → ring.now.place ≡ place + 1
         → result ≡ is_in_time x number place }
 {
     let delay = delay_of(number);
-    let tone = tracker.tone_before(delay);
-    let one_before = tracker.tone_before(delay + 8);
-    let two_before = tracker.tone_before(delay + 16);
+    let tone = ring.tone_before(delay);
+    let one_before = ring.tone_before(delay + 8);
+    let two_before = ring.tone_before(delay + 16);
     has_changed(one_before, tone) && !has_changed(two_before, one_before)
 }
 

@@ -5,11 +5,10 @@ ghost use Rattle.std.specs.List.{All};
 ghost use Rattle.tone_table.specs.declared.tone.Tone.{Tone};
 ghost use Rattle.tone_tracking.specs.declared.reach.Reach.TheVariants.{Near};
 ghost use Rattle.tone_tracking.specs.Clock.{next_clock, reads};
-ghost use Rattle.tone_tracking.specs.Correlation.{AreWithin, correlations};
-ghost use Rattle.tone_tracking.specs.WithoutMean.{without_mean};
 ghost use Rattle.sensitive_receiver.specs.Found.{AddsIn, HasRoomFrom};
 ghost use Rattle.sensitive_receiver.specs.Hearing.{ReadsLine};
 ghost use Rattle.sensitive_receiver.specs.HeldList.{HasRead};
+ghost use Rattle.sensitive_receiver.specs.Lanes.{tones};
 
 use crate::decided_place::DecidedPlace;
 use crate::hearing::hear_place;
@@ -20,17 +19,17 @@ use std::alloc::Global;
 use std::marker::Model;
 use tnc_base::OutOfMemory;
 use tone_table::Tone;
-use tone_tracking::{BitClock, Correlations, Pull, Reach, ToneTracker};
+use tone_tracking::{BitClock, PlaceTones, Pull, Reach, ToneRing};
 
-/// A tracker that decides a list of tones by the correlations of windows, the clocks that follow these, and the lanes that
-/// read them: `new`, then `feed` for each line of correlations. Only the near list has a lane on the fast clock. After
+/// The last tones of a list, the clocks that follow them, and the lanes that read them: `new`, then `feed` for each line of
+/// tones. Only the near list has a lane on the fast clock. After
 /// want of memory no clause says what it gives.
 #[derive(Drop)]
 pub struct ListBank {
     alloc: Global,
     reach: Reach,
     place: u64,
-    tracker: ToneTracker,
+    ring: ToneRing,
     slow: BitClock,
     fast: BitClock,
     lanes: Vec<LateLane>,
@@ -45,13 +44,13 @@ impl Model for ListBank {
     ghost Value = { HeldList };
 
     ghost view = { λ s. record {
-      tracker = s.tracker;
+      ring = s.ring;
       slow = s.slow;
       fast = s.fast;
       lanes = s.lanes.items;
     } };
 
-    ghost invariant = { λ s. (s.tracker.reach ≡ s.reach) × (s.tracker.place ≡ s.place)
+    ghost invariant = { λ s. (s.ring.reach ≡ s.reach) × (s.ring.place ≡ s.place)
         × (length s.lanes.items ≡ lanes_in s.reach) × (s.slow.0 ≡ Slow) × (s.fast.0 ≡ Fast) };
 }
 
@@ -59,25 +58,23 @@ impl ListBank {
     /// The lanes of a list, which have read nothing.
     pub(crate) fn new(alloc: Global, reach: Reach) -> Result<ListBank, OutOfMemory>
         ensures read { IfOk result (λ bank. (x : List ℤ) → HasRead bank x) }
-        ensures reach { IfOk result (λ bank. bank.tracker.reach ≡ reach) }
-        ensures place { IfOk result (λ bank. bank.tracker.place ≡ 0) }
+        ensures reach { IfOk result (λ bank. bank.ring.reach ≡ reach) }
+        ensures place { IfOk result (λ bank. bank.ring.place ≡ 0) }
     {
         Ok(ListBank {
             alloc,
             reach,
             place: 0,
-            tracker: ToneTracker::new(reach),
+            ring: ToneRing::new(reach),
             slow: BitClock::new(Pull::Slow),
             fast: BitClock::new(Pull::Fast),
             lanes: new_lanes(alloc, lanes_in(reach))?,
         })
     }
 
-    /// Decides the places of a line of correlations, which begins at the next place: all but the last sixteen, since a
-    /// place asks for the windows eight and sixteen places on. Gives what the lanes hear there, place by place.
-    pub(crate) fn feed(&mut self, line: &[Correlations]) -> Result<Vec<Candidate>, OutOfMemory>
-        requires line { All AreWithin line.now }
-        requires room { self.old.tracker.place + length line.now < 2 ^ 48 }
+    /// Reads a line of tones, which begins at the next place, and gives what the lanes hear there, place by place.
+    pub(crate) fn feed(&mut self, line: &[PlaceTones]) -> Result<Vec<Candidate>, OutOfMemory>
+        requires room { self.old.ring.place + length line.now < 2 ^ 48 }
         ensures reads { IfOk result (λ found. ReadsLine self.old self.new line.now found.items) }
     {
         // Each list has a loop of its own, since a reach that is known when the program is built makes its loop faster.
@@ -93,71 +90,48 @@ impl ListBank {
     fn feed_reach(
         &mut self,
         reach: Reach,
-        line: &[Correlations],
+        line: &[PlaceTones],
     ) -> Result<Vec<Candidate>, OutOfMemory>
-        requires reach { reach ≡ self.old.tracker.reach }
-        requires line { All AreWithin line.now }
-        requires room { self.old.tracker.place + length line.now < 2 ^ 48 }
+        requires reach { reach ≡ self.old.ring.reach }
+        requires room { self.old.ring.place + length line.now < 2 ^ 48 }
         ensures reads { IfOk result (λ found. ReadsLine self.old self.new line.now found.items) }
     {
         let mut found = Vec::new(self.alloc);
-        for index in 0..line.len().saturating_sub(16) {
-            self.take(
-                reach,
-                &line[index],
-                &line[index + 8],
-                &line[index + 16],
-                &mut found,
-            )?;
+        for index in 0..line.len() {
+            self.take(reach, line[index].of(reach), &mut found)?;
         }
         Ok(found)
     }
 
-    /// Decides the next place, by its correlations and those eight and sixteen places on, and has the lanes read it.
+    /// Takes the tone of the next place, and has the lanes read it.
     #[inline(always)]
     fn take(
         &mut self,
         reach: Reach,
-        now: &Correlations,
-        next: &Correlations,
-        later: &Correlations,
+        tone: Tone,
         found: &mut Vec<Candidate>,
     ) -> Result<(), OutOfMemory>
-        requires reach { reach ≡ self.old.tracker.reach }
-        requires now { AreWithin now.now }
-        requires next { AreWithin next.now }
-        requires later { AreWithin later.now }
-        requires room { self.old.tracker.place < 2 ^ 48 - 16 }
-        ensures read { OnOk result ((x : List ℤ) → now.now ≡ correlations (without_mean x) self.old.tracker.place
-            → next.now ≡ correlations (without_mean x) (self.old.tracker.place + 8)
-            → later.now ≡ correlations (without_mean x) (self.old.tracker.place + 16)
+        requires reach { reach ≡ self.old.ring.reach }
+        requires room { self.old.ring.place < 2 ^ 48 }
+        ensures read { OnOk result ((x : List ℤ) → tone ≡ tones self.old.ring.reach x self.old.ring.place
             → HasRead self.old x → HasRead self.new x) }
-        ensures found { OnOk result ((x : List ℤ) → now.now ≡ correlations (without_mean x) self.old.tracker.place
-            → next.now ≡ correlations (without_mean x) (self.old.tracker.place + 8)
-            → later.now ≡ correlations (without_mean x) (self.old.tracker.place + 16)
+        ensures found { OnOk result ((x : List ℤ) → tone ≡ tones self.old.ring.reach x self.old.ring.place
             → HasRead self.old x
-            → AddsIn self.old.tracker.reach self.old.tracker.place (self.old.tracker.place + 1) x
+            → AddsIn self.old.ring.reach self.old.ring.place (self.old.ring.place + 1) x
             found.old.items found.new.items) }
-        ensures bounds { (low : ℕ) → low ≤ self.old.tracker.place + 6
+        ensures bounds { (low : ℕ) → low ≤ self.old.ring.place + 6
             → OnOk result (All (HasRoomFrom low) found.old.items → All (HasRoomFrom low) found.new.items) }
-        ensures place { self.new.tracker.place ≡ self.old.tracker.place + 1 }
-        ensures reach { self.new.tracker.reach ≡ self.old.tracker.reach }
+        ensures place { self.new.ring.place ≡ self.old.ring.place + 1 }
+        ensures reach { self.new.ring.reach ≡ self.old.ring.reach }
     {
-        let tone = self.tracker.decide(reach, now, next, later);
+        self.ring.push(tone);
         let at = DecidedPlace {
             place: self.place,
             slow: self.slow.step(tone),
             fast: step_fast(reach, &mut self.fast, tone),
         };
         self.place += 1;
-        hear_place(
-            self.alloc,
-            reach,
-            &self.tracker,
-            &mut self.lanes,
-            &at,
-            found,
-        )
+        hear_place(self.alloc, reach, &self.ring, &mut self.lanes, &at, found)
     }
 }
 

@@ -5,6 +5,9 @@ pub mod ClockLemmas
 pub mod CorrelationLemmas
 pub mod DecisionLemmas
 pub mod TrackerLemmas
-pub mod ListsLemmas
+pub mod RingLemmas
+pub mod PastLemmas
+pub mod SlotLemmas
 pub mod LineLemmas
+pub mod ListsLemmas
 pub mod LevelLemmas

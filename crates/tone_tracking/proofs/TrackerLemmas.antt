@@ -53,6 +53,26 @@ pub tone_before-last : (tones : ℕ → Tone) (count : ℕ) → tone_before tone
 tone_before-last tones count = tone_before-within tones (count + 1) 0 (omega arith)
     ∙ ap tones (let e : count + 1 - 1 - 0 ≡ count = omega arith in e)
 
+-- the last 32 tones with that of a place more
+pub recent_more : (tones : ℕ → Tone) (place : ℕ) (recent : List Tone) (tone : Tone) → length recent ≡ 32
+    → ((back : ℕ) (d : Tone) → back < 32
+    → get_or recent ((place + 31 - back) % 32) d ≡ tone_before tones place back)
+    → tone ≡ tones place → (back : ℕ) (d : Tone) → back < 32
+    → get_or (set recent (place % 32) tone) ((place + 1 + 31 - back) % 32) d ≡ tone_before tones (place + 1) back
+recent_more tones place recent tone enough h tone_is zero d small =
+    let slot : (place + 1 + 31 - 0) % 32 ≡ place % 32 = omega arith in
+    ap (λ k. get_or (set recent (place % 32) tone) k d) slot
+    ∙ get_or-set_same recent (place % 32) tone d (omega arith)
+    ∙ tone_is ∙ sym (tone_before-last tones place)
+recent_more tones place recent tone enough h tone_is (suc back) d small =
+    let slot : (place + 1 + 31 - suc back) % 32 ≡ (place + 31 - back) % 32 = omega arith in
+    let other : (place + 31 - back) % 32 ≢ place % 32 = omega arith in
+    let one : back + 1 ≡ suc back = omega arith in
+    ap (λ k. get_or (set recent (place % 32) tone) k d) slot
+    ∙ get_or-set_other recent (place % 32) ((place + 31 - back) % 32) tone d other
+    ∙ h back d (omega arith) ∙ sym (tone_before-more tones place back)
+    ∙ ap (tone_before tones (place + 1)) one
+
 abbrev pub held : Reach → ℕ → List Phasor → List Tone → HeldTracker
 held reach place pasts recent = record { reach = reach; place = place; pasts = pasts; recent = recent }
 
@@ -88,19 +108,7 @@ module _ (reach : Reach) (place : ℕ) (pasts : List Phasor) (recent : List Tone
   next_recent : (back : ℕ) (d : Tone) → back < 32
       → get_or (set recent (place % 32) tone) ((place + 1 + 31 - back) % 32) d
       ≡ tone_before (tone_at reach windows) (place + 1) back
-  next_recent zero d small =
-      let slot : (place + 1 + 31 - 0) % 32 ≡ place % 32 = omega arith in
-      ap (λ k. get_or (set recent (place % 32) tone) k d) slot
-      ∙ get_or-set_same recent (place % 32) tone d (omega arith)
-      ∙ tone_is ∙ sym (tone_before-last (tone_at reach windows) place)
-  next_recent (suc back) d small =
-      let slot : (place + 1 + 31 - suc back) % 32 ≡ (place + 31 - back) % 32 = omega arith in
-      let other : (place + 31 - back) % 32 ≢ place % 32 = omega arith in
-      let one : back + 1 ≡ suc back = omega arith in
-      ap (λ k. get_or (set recent (place % 32) tone) k d) slot
-      ∙ get_or-set_other recent (place % 32) ((place + 31 - back) % 32) tone d other
-      ∙ h.recent back d (omega arith) ∙ sym (tone_before-more (tone_at reach windows) place back)
-      ∙ ap (tone_before (tone_at reach windows) (place + 1)) one
+  next_recent = recent_more (tone_at reach windows) place recent tone enough h.recent tone_is
 
   -- a place more is decided
   pub stands_next : StandsFor (held reach (place + 1) (set pasts (place % 8) past) (set recent (place % 32) tone))

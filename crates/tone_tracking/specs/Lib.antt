@@ -3,8 +3,10 @@ pub mod Correlation
 pub mod Heard
 pub mod Clock
 pub mod HeldTracker
+pub mod HeldRing
 pub mod HeldLists
 pub mod WithoutMean
 pub mod HeldMean
+pub mod Slots
 pub mod HeldLine
 pub mod BlockLevels

@@ -6,9 +6,8 @@ use crate::tests::assertions::assert_equal;
 use crate::tests::letters::letter;
 use std::alloc::AllocError;
 use std::test::Fail;
-use tone_tracking::{
-    BitClock, CorrelationLine, Correlations, MeanRemover, Phasor, Pull, Reach, ToneLists,
-};
+use tone_table::Tone;
+use tone_tracking::{BitClock, MeanRemover, PlaceTones, Pull, Reach, ToneLine, ToneLists};
 
 /// The first fourteen bits of a transmission, and noise as loud as it.
 const SAMPLES: [i16; 112] = [
@@ -108,25 +107,13 @@ fn samples_without_their_mean_are_those_of_a_second_program(rt: HostRuntime) {
     }
 }
 
-/// Correlations by their parts.
-fn correlations(mark: (i64, i64), space: (i64, i64)) -> Correlations {
-    Correlations {
-        mark: Phasor {
-            a: mark.0,
-            b: mark.1,
-        },
-        space: Phasor {
-            a: space.0,
-            b: space.1,
-        },
-    }
+/// The tones of a place.
+fn tones(near: Tone, far: Tone, alone: Tone) -> Option<PlaceTones> {
+    Some(PlaceTones { alone, near, far })
 }
 
-/// How many correlations a line has past a block, and the last of them.
-fn last_past(
-    line: &mut CorrelationLine,
-    block: &[i16],
-) -> Result<(usize, Option<Correlations>), AllocError>
+/// How many tones a line has past a block, and the last of them.
+fn last_past(line: &mut ToneLine, block: &[i16]) -> Result<(usize, Option<PlaceTones>), AllocError>
     requires { line.old.count + length block.now < 2 ^ 48 }
     ensures { OnOk result (line.new.count ≡ line.old.count + length block.now) }
 {
@@ -136,18 +123,32 @@ fn last_past(
 }
 
 #[test]
-fn correlations_of_blocks_are_those_of_a_second_program(rt: HostRuntime) -> Result<(), Fail> {
-    let mut line = CorrelationLine::new(rt.alloc());
-    let none = last_past(&mut line, &SAMPLES[..22])?;
-    let first = last_past(&mut line, &SAMPLES[22..23])?;
-    let more = last_past(&mut line, &SAMPLES[23..42])?;
-    let rest = last_past(&mut line, &SAMPLES[42..])?;
+fn tones_of_blocks_are_those_of_a_second_program(rt: HostRuntime) -> Result<(), Fail> {
+    let mut line = ToneLine::new(rt.alloc())?;
+    let none = last_past(&mut line, &SAMPLES[..38])?;
+    let first = last_past(&mut line, &SAMPLES[38..39])?;
+    let more = last_past(&mut line, &SAMPLES[39..59])?;
+    let loud = last_past(&mut line, &SAMPLES[59..96])?;
+    line.feed_threads(&rt, &SAMPLES[96..])?;
+    let rest = line.line();
     assert_equal(&rt, &none, &(0, None));
-    let wanted = correlations((4224493, -2567576), (-1702191, -6151071));
-    assert_equal(&rt, &first, &(1, Some(wanted)));
-    let wanted = correlations((-6634006, -8762500), (1717452, 11959407));
-    assert_equal(&rt, &more, &(20, Some(wanted)));
-    let wanted = correlations((-8385958, 1502834), (-6784247, 15770517));
-    assert_equal(&rt, &rest, &(86, Some(wanted)));
+    assert_equal(
+        &rt,
+        &first,
+        &(1, tones(Tone::Space, Tone::Space, Tone::Space)),
+    );
+    assert_equal(
+        &rt,
+        &more,
+        &(20, tones(Tone::Space, Tone::Space, Tone::Mark)),
+    );
+    assert_equal(
+        &rt,
+        &loud,
+        &(37, tones(Tone::Mark, Tone::Mark, Tone::Space)),
+    );
+    assert_equal(&rt, &rest.len(), &16);
+    let last = tones(Tone::Space, Tone::Space, Tone::Mark);
+    assert_equal(&rt, &rest.last().copied(), &last);
     Ok(())
 }

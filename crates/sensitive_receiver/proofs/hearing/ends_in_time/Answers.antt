@@ -9,7 +9,7 @@ returns-then-has_changed c = λ x place taken last.
     ∙ c.has_changed.ensures in
     (λ i. changed i && not (c.has_changed-then-has_changed.ensures i))
     ∙ in_time_told x c.args.number place
-    c.args.tracker.now.place c.delay_of-delay.result c.args.tracker.now.reach
+    c.args.ring.now.place c.delay_of-delay.result c.args.ring.now.reach
     c.tone_before-tone.result c.tone_before-one_before.result c.tone_before-two_before.result
     (c.tone_before-tone.ensures (correlations (without_mean x)) taken)
     (c.tone_before-one_before.ensures (correlations (without_mean x)) taken)
@@ -23,7 +23,7 @@ returns-else-has_changed c = λ x place taken last.
     c.if-has_changed.false
     ∙ (λ i. stays i && not (changes c.tone_before-two_before.result c.tone_before-one_before.result))
     ∙ in_time_told x c.args.number place
-    c.args.tracker.now.place c.delay_of-delay.result c.args.tracker.now.reach
+    c.args.ring.now.place c.delay_of-delay.result c.args.ring.now.reach
     c.tone_before-tone.result c.tone_before-one_before.result c.tone_before-two_before.result
     (c.tone_before-tone.ensures (correlations (without_mean x)) taken)
     (c.tone_before-one_before.ensures (correlations (without_mean x)) taken)

@@ -8,20 +8,20 @@ use Rattle.sensitive_receiver.proofs.hearing.hear_clocked.Goals as goal
 pub returns-then-not-is_read_by-clause-hear : goal.returns-then-not-is_read_by-clause-hear
 returns-then-not-is_read_by-clause-hear c =
     let range = c.requires.range in
-    let tracker = c.args.tracker.now in
+    let ring = c.args.ring.now in
     let at = c.args.at.now in
-    let silent : (k : ℕ) → c.args.first ≤ k → k < c.args.end → is_told (lane_of tracker.reach k) at ≡ false
+    let silent : (k : ℕ) → c.args.first ≤ k → k < c.args.end → is_told (lane_of ring.reach k) at ≡ false
     = λ k le l. ap (λ n. is_told n at) (c.requires.numbers k le l) ∙ c.requires.clock (k - c.args.first) (omega arith)
     ∙ sym c.is_read_by.ensures ∙ c.if-not-is_read_by.true in
     record {
-      read = λ x last. lanes_silent tracker at c.args.first c.args.end c.args.lanes.now x (omega arith) range.1 last
+      read = λ x last. lanes_silent ring at c.args.first c.args.end c.args.lanes.now x (omega arith) range.1 last
           silent;
-      found = λ x last h. adds_silent tracker at c.args.first c.args.end c.args.lanes.now x (omega arith) range.1 last
+      found = λ x last h. adds_silent ring at c.args.first c.args.end c.args.lanes.now x (omega arith) range.1 last
           silent c.args.found.now.items;
     }
 
 pub loop-index-init : goal.loop-index-init
-loop-index-init c = visited_none c.args.tracker.now c.args.at.now c.args.lanes.now c.args.found.now.items
+loop-index-init c = visited_none c.args.ring.now c.args.at.now c.args.lanes.now c.args.found.now.items
     c.args.first
     c.requires.lanes
 
@@ -34,7 +34,7 @@ hear-requires-clause-reads c =
 
 pub loop-index-preserved : goal.loop-index-preserved
 loop-index-preserved c =
-    let tracker = c.args.tracker.now in
+    let ring = c.args.ring.now in
     let at = c.args.at.now in
     let n = c.loop-index.index in
     let lanes : List HeldLane = c.loop-index.lanes in
@@ -46,15 +46,15 @@ loop-index-preserved c =
     let range = c.requires.range in
     let least = c.loop-index.invariant.least in
     let number = c.args.number + (n - c.args.first) in
-    subst (λ i. Visited tracker at c.args.lanes.now (set lanes i lane) c.args.found.now.items after c.args.first
+    subst (λ i. Visited ring at c.args.lanes.now (set lanes i lane) c.args.found.now.items after c.args.first
     (n + 1))
     (sym c.from.ensures)
-    (visited_more tracker at c.args.lanes.now lanes c.args.found.now.items found after c.args.first n number was lane
+    (visited_more ring at c.args.lanes.now lanes c.args.found.now.items found after c.args.first n number was lane
     c.loop-index.invariant (omega arith) (c.requires.numbers n least (omega arith))
-    (subst (λ i. (x : List ℤ) → IsLastPlace tracker at x
+    (subst (λ i. (x : List ℤ) → IsLastPlace ring at x
     → LaneStandsFor (get_or lanes i was) (lane_tones x number at.place)
     → LaneStandsFor lane (lane_tones x number (at.place + 1))) c.from.ensures c.hear.ensures.read)
-    (subst (λ i. (x : List ℤ) → IsLastPlace tracker at x
+    (subst (λ i. (x : List ℤ) → IsLastPlace ring at x
     → LaneStandsFor (get_or lanes i was) (lane_tones x number at.place)
     → AddsAt at.place number x found after) c.from.ensures c.in_ok-hear.ensures.found)
     c.in_ok-hear.ensures.bounds)
@@ -64,5 +64,5 @@ returns-clause-hear c =
     let past = c.loop-index-test.false in
     let most = c.loop-index.auto.index-end in
     let all : c.loop-index.index ≡ c.args.end = omega arith in
-    subst (λ n. LanesHear c.args.first n c.args.tracker.now c.args.at.now c.args.lanes.now c.loop-index.lanes
+    subst (λ n. LanesHear c.args.first n c.args.ring.now c.args.at.now c.args.lanes.now c.loop-index.lanes
     c.args.found.now.items c.loop-index.found.items) all c.loop-index.invariant.hear

@@ -4,7 +4,7 @@ use Rattle.sensitive_receiver.proofs.hearing.hear_place.Goals as goal
 
 pub returns-in-Alone-clause-read : goal.returns-in-Alone-clause-read
 returns-in-Alone-clause-read c =
-    let reach = c.args.tracker.now.reach in
+    let reach = c.args.ring.now.reach in
     let place = c.args.at.now.place in
     let all : 3 ≡ lanes_in reach = subst (λ r. 3 ≡ lanes_in r) (sym c.in-Alone.is ∙ c.requires.reach) refl in
     on_ok_weaker c.hear_clocked.result (λ hear x last h.
@@ -14,7 +14,7 @@ returns-in-Alone-clause-read c =
 
 pub returns-in-Alone-clause-found : goal.returns-in-Alone-clause-found
 returns-in-Alone-clause-found c =
-    let reach = c.args.tracker.now.reach in
+    let reach = c.args.ring.now.reach in
     let place = c.args.at.now.place in
     let all : 3 ≡ lanes_in reach = subst (λ r. 3 ≡ lanes_in r) (sym c.in-Alone.is ∙ c.requires.reach) refl in
     on_ok_weaker c.hear_clocked.result (λ hear x last h.
@@ -23,7 +23,7 @@ returns-in-Alone-clause-found c =
 
 pub returns-in_ok-hear_clocked-in-Near-clause-read : goal.returns-in_ok-hear_clocked-in-Near-clause-read
 returns-in_ok-hear_clocked-in-Near-clause-read c =
-    let reach = c.args.tracker.now.reach in
+    let reach = c.args.ring.now.reach in
     let place = c.args.at.now.place in
     let all : 4 ≡ lanes_in reach = subst (λ r. 4 ≡ lanes_in r) (sym c.in-Near.is ∙ c.requires.reach) refl in
     on_ok_weaker c.hear_clocked-in-Near-2.result (λ hear x last h.
@@ -34,7 +34,7 @@ returns-in_ok-hear_clocked-in-Near-clause-read c =
 
 pub returns-in_ok-hear_clocked-in-Near-clause-found : goal.returns-in_ok-hear_clocked-in-Near-clause-found
 returns-in_ok-hear_clocked-in-Near-clause-found c =
-    let reach = c.args.tracker.now.reach in
+    let reach = c.args.ring.now.reach in
     let place = c.args.at.now.place in
     let all : 4 ≡ lanes_in reach = subst (λ r. 4 ≡ lanes_in r) (sym c.in-Near.is ∙ c.requires.reach) refl in
     on_ok_weaker c.hear_clocked-in-Near-2.result (λ hear x last h.
@@ -53,7 +53,7 @@ returns-in_ok-hear_clocked-in-Near-clause-bounds c = λ low under.
 
 pub returns-in_ok-hear_fixed-in-Far-clause-read : goal.returns-in_ok-hear_fixed-in-Far-clause-read
 returns-in_ok-hear_fixed-in-Far-clause-read c =
-    let reach = c.args.tracker.now.reach in
+    let reach = c.args.ring.now.reach in
     let place = c.args.at.now.place in
     let all : 11 ≡ lanes_in reach = subst (λ r. 11 ≡ lanes_in r) (sym c.in-Far.is ∙ c.requires.reach) refl in
     on_ok_weaker c.hear_clocked-in-Far.result (λ hear x last h.
@@ -64,7 +64,7 @@ returns-in_ok-hear_fixed-in-Far-clause-read c =
 
 pub returns-in_ok-hear_fixed-in-Far-clause-found : goal.returns-in_ok-hear_fixed-in-Far-clause-found
 returns-in_ok-hear_fixed-in-Far-clause-found c =
-    let reach = c.args.tracker.now.reach in
+    let reach = c.args.ring.now.reach in
     let place = c.args.at.now.place in
     let all : 11 ≡ lanes_in reach = subst (λ r. 11 ≡ lanes_in r) (sym c.in-Far.is ∙ c.requires.reach) refl in
     on_ok_weaker c.hear_clocked-in-Far.result (λ hear x last h.

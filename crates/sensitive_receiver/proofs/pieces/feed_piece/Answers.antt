@@ -8,7 +8,7 @@ returns-clause-found c = λ x h.
     piece_fed c.args.line.now c.feed.new.self c.args.alone.now c.args.near.now c.args.far.now
     c.feed_lists.new.alone c.feed_lists.new.near c.feed_lists.new.far c.line.result.now c.args.piece.now
     c.in_ok-found.found.items x c.in_ok-feed.ensures.has_taken c.in_ok-feed.ensures.first
-    c.line.ensures.correlations c.line.ensures.length c.in_ok-found.ensures h
+    c.line.ensures.tones c.line.ensures.length c.in_ok-found.ensures h
 
 pub returns-clause-bounds : goal.returns-clause-bounds
 returns-clause-bounds c =

@@ -6,14 +6,14 @@ use Rattle.sensitive_receiver.proofs.list_bank.ListBank.new.Goals as goal
 
 pub returns-clause-read : goal.returns-clause-read
 returns-clause-read c = λ x.
-    let tracker = c.new.result in
+    let ring = c.new.result in
     let start = sym c.new.ensures.place in
     let made = c.in_ok-new_lanes.ensures in
     record {
       decided = c.new.ensures.stands_for (correlations (without_mean x));
-      slow = c.new-2.ensures.stands_for (tones tracker.reach x) ∙ ap (clock_after Slow (tones tracker.reach x)) start;
+      slow = c.new-2.ensures.stands_for (tones ring.reach x) ∙ ap (clock_after Slow (tones ring.reach x)) start;
       fast = λ near. c.new-3.ensures.stands_for (tones Near x) ∙ ap (clock_after Fast (tones Near x)) start;
-      lanes = subst (λ n. LanesHaveRead tracker.reach c.in_ok-new_lanes.field-0.items n x) start
-          (read_none tracker.reach _ c.in_ok-new_lanes.field-0.items x (made.count ∙ c.lanes_in.ensures ∙ ap lanes_in (sym c.new.ensures.reach))
+      lanes = subst (λ n. LanesHaveRead ring.reach c.in_ok-new_lanes.field-0.items n x) start
+          (read_none ring.reach _ c.in_ok-new_lanes.field-0.items x (made.count ∙ c.lanes_in.ensures ∙ ap lanes_in (sym c.new.ensures.reach))
           (record { count = refl; each = made.fresh }));
     }

@@ -1,7 +1,7 @@
 use Rattle.tone_tracking.proofs.Common.{◌≡◌, ◌+◌, ◌<◌, ◌≤◌, ◌∙◌, ℕ, ℤ, List, pos, get_or, length, All, unsigned_abs}
 use Rattle.tone_tracking.proofs.Common.{arith, ints, to_z, of_z, FitsSigned, w32, to_z-of_z}
 use Rattle.tone_tracking.proofs.CorrelationLemmas.{correlations-eight}
-use Rattle.tone_tracking.proofs.correlation_line.correlate_at.Goals as goal
+use Rattle.tone_tracking.proofs.slot_tracker.correlate_at.Goals as goal
 
 -- a level as it is copied
 copied : (levels : List ℤ) (k : ℕ) → All (λ level. unsigned_abs level ≤ 262144) levels → k < length levels

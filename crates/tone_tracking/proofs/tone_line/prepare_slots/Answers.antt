@@ -1,0 +1,27 @@
+use Rattle.tone_tracking.proofs.Common.{◌<◌, List, length, arith, ap, ◌∙◌, length-set}
+use Rattle.std.proofs.lemmas.List.{get_or_default}
+use Rattle.tone_tracking.specs.Slots.{HeldSlot, IsPrepared}
+use Rattle.tone_tracking.proofs.SlotLemmas.{slots_more, slots_rest}
+use Rattle.tone_tracking.proofs.tone_line.prepare_slots.Goals as goal
+
+pub loop-index-preserved : goal.loop-index-preserved
+loop-index-preserved c =
+    let olds : List HeldSlot = c.args.slots.now in
+    let slots : List HeldSlot = c.loop-index.slots in
+    let n = c.loop-index.index in
+    let before = c.loop-index.invariant in
+    let test = c.loop-index-test.true in
+    let size = before.length in
+    let inside : n < length slots = omega arith in
+    let new : HeldSlot = c.prepare.new.self in
+    let was : HeldSlot = c.index-slots-index.result in
+    let made = c.in_ok-prepare.ensures in
+    record {
+      length = omega (arith, length-set slots n new);
+      done = slots_more olds slots n new inside (IsPrepared c.args.place c.args.count) before.done (λ d. record {
+        first = made.first;
+        count_of = made.count;
+        pasts = made.pasts ∙ ap (λ (s : HeldSlot). s.pasts) (get_or_default slots n was d inside ∙ before.rest n d (omega arith));
+      });
+      rest = slots_rest olds slots n new inside before.rest;
+    }

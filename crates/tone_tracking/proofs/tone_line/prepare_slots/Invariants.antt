@@ -1,0 +1,11 @@
+use Rattle.tone_tracking.proofs.Common.{◌≡◌, ℕ, ◌<◌, ◌≤◌, length, get_or}
+use Rattle.tone_tracking.specs.Slots.{HeldSlot, IsPrepared}
+use Rattle.tone_tracking.proofs.tone_line.prepare_slots.Given as goal
+
+abbrev pub invariant-loop-index : goal.invariant-loop-index
+invariant-loop-index l = record {
+  length : length l.slots ≡ 8;
+  done : (k : ℕ) (d : HeldSlot) → k < l.index
+      → IsPrepared l.place l.count k (get_or l.initial.slots k d) (get_or l.slots k d);
+  rest : (k : ℕ) (d : HeldSlot) → l.index ≤ k → get_or l.slots k d ≡ get_or l.initial.slots k d;
+}
