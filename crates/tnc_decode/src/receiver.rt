@@ -7,7 +7,7 @@ ghost use Rattle.tnc_decode.specs.Audio.{stopping_fault};
 ghost use Rattle.tnc_decode.specs.declared.modem.Modem.{Modem};
 ghost use Rattle.tnc_decode.specs.Held.{HasDecoded, HasHeard, finished_of, position_of};
 ghost use Rattle.tnc_decode.specs.Making.{decode_making};
-ghost use Rattle.tnc_decode.specs.Written.{most_at_once};
+ghost use Rattle.tnc_decode.specs.Written.{most_at_once, most_shared};
 
 use crate::audio::Audio;
 use crate::decoders::Decoders;
@@ -22,15 +22,37 @@ use tnc_words::{DecodeWords, FrameForm, Receiving};
 /// The most octets that are read at once, so that a frame is written soon.
 const BLOCK: usize = 2048;
 
-/// The most octets that are read at once if threads share their samples. A thread that is started for the lanes of so many
-/// has far more to do than to start.
+/// The most octets whose samples threads share. A thread that is started for the lanes of so many has far more to do than
+/// to start.
 const LONG_BLOCK: usize = 262_144;
+
+/// The most octets whose samples the threads of a sensitive receiver share. They do seven times as much with each sample,
+/// and keep twelve octets of it beside the sample, so that a shorter block pays and takes less memory.
+const SENSITIVE_BLOCK: usize = 65_536;
+
+/// The most octets whose samples threads share.
+fn most_shared(receiving: Receiving) -> usize
+    ensures { result ≡ most_shared receiving }
+{
+    match receiving {
+        Receiving::Sensitive { .. } => SENSITIVE_BLOCK,
+        Receiving::Standard { .. }
+        | Receiving::ShortWave
+        | Receiving::SensitiveShortWave
+        | Receiving::Fx25
+        | Receiving::SensitiveFx25 => LONG_BLOCK,
+    }
+}
 
 /// The most octets that are read at once.
 pub(crate) fn most_at_once(words: DecodeWords) -> usize
     ensures { result ≡ most_at_once words }
 {
-    if words.threads { LONG_BLOCK } else { BLOCK }
+    if words.threads {
+        most_shared(words.receiving)
+    } else {
+        BLOCK
+    }
 }
 
 /// Audio, a decoder of its samples, and the form of the frames that are written.
