@@ -146,6 +146,15 @@ decodes_sensitively() {
         && [ -z "$("$tnc" decode <"$1.raw" | sort | comm -23 - <(sort "$room/more.lines"))" ]
 }
 
+# FRAMES CHECKS: what encode sends in blocks of FX.25 is heard by eight lanes and by all, with threads as without.
+comes_back_in_blocks() {
+    local words
+    "$tnc" encode --fx25 "$2" <"$1" >"$room/blocks.raw" || return
+    for words in "" --threads --sensitive "--sensitive --threads"; do
+        "$tnc" decode --fx25 $words <"$room/blocks.raw" | cmp -s - "$1" || return
+    done
+}
+
 # FRAMES WORDS..: what encode sends at 300 bits a second is heard there, in order, and no frame of it at 1200.
 comes_back_on_short_wave() {
     "$tnc" encode --hf "${@:2}" <"$1" >"$room/hf.raw" \
@@ -390,6 +399,9 @@ for raw in samples/*.raw; do
     check "record of $raw" records "$of"
     check "the lengths of what encode makes of $of.frames" has_lengths "$of.frames"
     check "encode --hf of $of.frames, and back" comes_back_on_short_wave "$of.frames" --silence 77
+    for checks in 16 32 64; do
+        check "encode --fx25 $checks of $of.frames, and back" comes_back_in_blocks "$of.frames" "$checks"
+    done
 done
 check "C0 and DB in KISS" escapes
 check "decode and show of samples/direwolf-clean.raw" shows_stored_text
@@ -413,6 +425,7 @@ for frames in samples/*.frames; do
         check "encode of $frames, heard by atest" is_heard_by_atest "$frames"
         check "encode --join of $frames, heard by atest" is_heard_by_atest "$frames" --join
         check "encode --level 10 of $frames, heard by atest" is_heard_by_atest "$frames" --level 10
+        check "encode --fx25 32 of $frames, heard by atest" is_heard_by_atest "$frames" --fx25 32
     else
         skip "encode of $frames, heard by atest" "sox or atest"
     fi

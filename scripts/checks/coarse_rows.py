@@ -16,8 +16,8 @@ PIECES = 6
 MOST = 4
 FIELD = 5
 
-HEAD = """// The table of the coarse count: in how many of eight bits each tag is wrong, but at most four, in a field of five bits
-// for each tag.
+HEAD = """//! The table of the coarse count: in how many of eight bits each tag is wrong, but at most four, in a field of five bits
+//! for each tag.
 
 // The rows of the first eight bits begin at 0, those of the next eight at 256.
 """

@@ -5,6 +5,7 @@ plainly and in blocks of FX.25 with 16, 32 and 64 check octets.
   scripts/trials/fx25_scores.py                 a table with 100 frames a row
   scripts/trials/fx25_scores.py --frames 20     with another number
   scripts/trials/fx25_scores.py --sensitive     by all 26 lanes, and not by eight
+  scripts/trials/fx25_scores.py --fading        a table of sound that fades, in more and less noise
   scripts/trials/fx25_scores.py --tnc PROGRAM   of another program than bin/tnc
 
 Each cell is what `tnc decode --fx25` hears, and after a stroke what atest of Dire Wolf hears of the same sound, if it is
@@ -68,10 +69,17 @@ def rows():
         yield f"{ratio} dB, fading at {hertz} Hz", lambda samples, h=hertz, r=ratio: scores.noisy(fading(samples, h), r)
 
 
+def fading_rows():
+    """The same of sound that fades five times a second, in more and less noise."""
+    for ratio in range(4, 23, 2):
+        yield f"{ratio} dB", lambda samples, ratio=ratio: scores.noisy(fading(samples, 5), ratio)
+
+
 def main():
     reader = argparse.ArgumentParser()
     reader.add_argument("--frames", type=int, default=100)
     reader.add_argument("--sensitive", action="store_true")
+    reader.add_argument("--fading", action="store_true")
     reader.add_argument("--tnc", default=os.path.join(scores.TOP, "bin/tnc"))
     words = reader.parse_args()
     options = ["--fx25"] + (["--sensitive"] if words.sensitive else [])
@@ -82,7 +90,7 @@ def main():
     print(f"| Of {words.frames} frames | plainly | 16 | 32 | 64 |\n|---|--:|--:|--:|--:|")
     strays = 0
     with tempfile.TemporaryDirectory() as room:
-        for name, damaged in rows():
+        for name, damaged in fading_rows() if words.fading else rows():
             cells = []
             for samples in sounds:
                 made = damaged(samples)

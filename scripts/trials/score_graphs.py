@@ -7,7 +7,8 @@ that it takes itself: frames heard against noise, and against the sender's clock
 The sound is that of scripts/trials/scores.py, a hundred frames a point. The counts are kept in FOLDER/heard.txt (docs/pictures where no
 folder is named), a line for each sound. Those that are there already are not taken again, so remove the file for another program;
 with --draw none is taken. The pictures are FOLDER/heard-in-noise.svg and FOLDER/heard-by-clock.svg. A third one, heard-on-short-wave.svg,
-is of what `scores.py --hf --sensitive --beside` printed, which is kept as FOLDER/short-wave.txt."""
+is of what `scores.py --hf --sensitive --beside` printed, which is kept as FOLDER/short-wave.txt; and a fourth one, heard-in-blocks.svg,
+of what `fx25_scores.py --sensitive --fading` printed, which is FOLDER/blocks.txt."""
 import argparse
 import functools
 import html
@@ -34,6 +35,8 @@ COLOURS = {
 ON_SHORT_WAVE = {"--hf": ("tnc decode --hf", "#1f5fbf"), "--sensitive too": ("tnc decode --hf --sensitive", "#8e44ad")}
 ON_SHORT_WAVE["atest -B 300"] = ("atest -B 300", "#c0392b")
 ON_SHORT_WAVE["-P E+ -F 1 too"] = ("atest -B 300 -P E+ -F 1", "#e08e0b")
+# The columns of the table of blocks: what is sent, and its colour.
+IN_BLOCKS = {"plainly": "#555555", "16": "#e08e0b", "32": "#1f5fbf", "64": "#8e44ad"}
 # The programs of the second graph.
 BY_CLOCK = ("tnc", "sensitive", "atest", "multimon-ng")
 INK, FAINT = "#1b1f24", "#c9ced4"
@@ -191,6 +194,24 @@ def draw_short_wave(table, folder):
     noise.write(f"{folder}/heard-on-short-wave.svg")
 
 
+def draw_blocks(table, folder):
+    """The picture of blocks: each cell of the table has what tnc heard and, after a stroke, what atest did."""
+    with open(table) as file:
+        _, *columns = cells_of(next(file))
+        rows = [cells_of(line) for line in file if " dB" in line]
+    fading = Graph("Frames heard of a sender that fades five times a second",
+                   "power of the tones to that of the noise in 4800 Hz, in dB", 4, 22, 2)
+    key = []
+    for at, column in enumerate(columns):
+        name = column if column == "plainly" else f"{column} check octets"
+        for place, program in enumerate(("tnc", "atest")):
+            points = [(float(row[0].split()[0]), float(row[1 + at].split(" / ")[place])) for row in rows]
+            fading.curve(points, IN_BLOCKS[column], program == "atest")
+            key.append((f"{program}, {name}", IN_BLOCKS[column], program == "atest"))
+    fading.key(key)
+    fading.write(f"{folder}/heard-in-blocks.svg")
+
+
 def main():
     reader = argparse.ArgumentParser()
     reader.add_argument("--tnc", default=f"{scores.TOP}/bin/tnc")
@@ -206,6 +227,9 @@ def main():
     table = f"{given.folder}/short-wave.txt"
     if os.path.exists(table):
         draw_short_wave(table, given.folder)
+    table = f"{given.folder}/blocks.txt"
+    if os.path.exists(table):
+        draw_blocks(table, given.folder)
 
 
 if __name__ == "__main__":

@@ -1,4 +1,4 @@
-// A call in a field of a header.
+//! A call in a field of a header.
 
 ghost use Rattle.std.specs.Prelude.{◌≡◌};
 ghost use Rattle.agwpe_port.specs.CallField.{call_field};

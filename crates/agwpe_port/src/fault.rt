@@ -1,4 +1,4 @@
-// Why a stream of messages is not read further.
+//! Why a stream of messages is not read further.
 
 use thiserror::Error;
 use tnc_base::OutOfMemory;

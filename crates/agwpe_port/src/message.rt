@@ -1,4 +1,4 @@
-// A message, and how a header and a body make one.
+//! A message, and how a header and a body make one.
 
 ghost use Rattle.std.specs.Prelude.{◌≡◌, length, drop, IfOk};
 ghost use Rattle.byteorder.specs.Endian.{little_number};

@@ -1,4 +1,4 @@
-// A stream of messages as its octets come.
+//! A stream of messages as its octets come.
 
 ghost use Rattle.std.specs.Prelude.{◌≡◌, ◌≢◌, ℕ, List, [], ◌∷◌, ◌++◌, Err, MatchResult, None, Some};
 ghost use Rattle.agwpe_port.specs.Answer.{answer_of};

@@ -1,4 +1,4 @@
-// The message under way: its header and body as far as they have come, or the length that was too long.
+//! The message under way: its header and body as far as they have come, or the length that was too long.
 
 ghost use Rattle.std.specs.Prelude.{◌≡◌, ◌<◌, [], length, OnOk, OnErr, IfOk};
 

@@ -1,4 +1,4 @@
-// A message as octets.
+//! A message as octets.
 
 ghost use Rattle.std.specs.Prelude.{◌≡◌, ◌≤◌, ℕ, List, ◌∷◌, ◌++◌, length, IfOk};
 ghost use Rattle.byteorder.specs.Endian.{little_bytes};

@@ -110,7 +110,7 @@ all_right P (x ∷ xs) ys h = all_right P xs ys (All-tail P x (xs ++ ys) h)
 frame_of : (x : List ℤ) (item : Heard) → IsHeard x item → IsFrame item.octets
 frame_of x item h = elim h.ends.ends [
   | inl plain ↦ plain.2.2
-  | inr block ↦ block.1.carries.opens.is_frame
+  | inr block ↦ block.1.reads.carries.opens.is_frame
 ]
 
 -- what is heard has the length of a frame

@@ -20,7 +20,7 @@ pub use Rattle.hdlc_framer.specs.Stuffing.{flag, stuffed}
 unfoldable pub use Rattle.reed_solomon.specs.Distance.{distance}
 pub use Rattle.std.proofs.Common.{Bool, List, [], add-one, ap, append-nil, append_assoc, arith, bit_and, bit_xor, cond}
 pub use Rattle.std.proofs.Common.{drop, eqb, false, get_or, inl, inr, leb, length, length-append, min, refl}
-pub use Rattle.std.proofs.Common.{replicate, subst, suc}
+pub use Rattle.std.proofs.Common.{map, replicate, subst, suc}
 pub use Rattle.std.proofs.Common.{sym}
 pub use Rattle.std.proofs.Common.{take, true, zero, ℕ, ◌%◌, ◌*◌, ◌++◌, ◌+◌, ◌-◌, ◌/◌, ◌<◌, ◌^◌, ◌↔◌, ◌∙◌, ◌∷◌, ◌≡◌, ◌≤◌}
 pub use Rattle.std.proofs.lemmas.Bool.{agree_below_at, cases_eq, cases_lt, eqb-true, false≢true, leb-true, true≢false}

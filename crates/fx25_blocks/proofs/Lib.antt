@@ -14,4 +14,6 @@ pub mod BlockLaws
 pub mod UnknownLaws
 pub mod DamageLemmas
 pub mod CoarseLemmas
+pub mod CertaintyLemmas
+pub mod UnsureLaws
 mod Examples

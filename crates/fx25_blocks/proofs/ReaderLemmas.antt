@@ -13,7 +13,7 @@ use Rattle.std.proofs.lemmas.List.{take-append-drop, drop-drop, drop-append-le, 
 use Rattle.std.proofs.lemmas.List.{get_or-set_other}
 use Rattle.std.proofs.lemmas.List.{get_or-set_same, get_or_append_left, get_or_push}
 use Rattle.hdlc_framer.proofs.BitLemmas.{length-sent_bits, same_octets}
-use Rattle.fx25_blocks.specs.Held.{IsTagAt, Kept, MayEnd, after_zeros}
+use Rattle.fx25_blocks.specs.Held.{HasTag, IsTagAt, Kept, MayEnd, after_zeros}
 use Rattle.fx25_blocks.proofs.TagFacts.{most_octets}
 
 pub same_octet_list : (xs ys : List ℕ) → All (λ octet. octet < 256) xs → All (λ octet. octet < 256) ys
@@ -97,6 +97,59 @@ kept_none ring tags due ring_size tags_size due_size = record {
 
 other_place : (i n : ℕ) → i < n → n < i + 2048 → i % 2048 ≡ n % 2048 → ⊥
 other_place i n below near same = omega arith
+
+-- ---- a tag in front of a block
+
+-- bits that end with a tag and so many others
+pub tag_and_block : (tag : ℕ) (b before heard block : List Bool) → b ≡ before ++ (heard ++ block)
+    → IsNearTag tag heard → length block ≡ 8 * block_length tag
+    → HasTag tag b × (drop (length b - 8 * block_length tag) b ≡ block)
+tag_and_block tag b before heard block bits_are near_tag block_size =
+    let i : ℕ = length b - 8 * block_length tag in
+    let whole : b ≡ (before ++ heard) ++ block = bits_are ∙ sym (append_assoc before heard block) in
+    let front_size : length (before ++ heard) ≡ length before + 64 =
+    length-append before heard ∙ ap (λ n. length before + n) near_tag.size in
+    let size : length b ≡ length before + 64 + 8 * block_length tag =
+    omega (arith, ap length whole, length-append (before ++ heard) block) in
+    let front : take i b ≡ before ++ heard = ap (take i) whole
+    ∙ take_at (before ++ heard) block i (omega arith) in
+    let back : drop i b ≡ block = ap (drop i) whole ∙ drop_at (before ++ heard) block i (omega arith) in
+    (record { within = omega arith; ends = (before, heard, front, near_tag) }, back)
+
+pub tag_and_block_within : (tag : ℕ) (b : List Bool) → HasTag tag b → 64 + 8 * block_length tag ≤ length b
+tag_and_block_within tag b has =
+    let i : ℕ = length b - 8 * block_length tag in
+    let within = has.within in
+    let least : 64 ≤ i = omega (arith, (tag_told (take i b) tag has.ends).0, length-take i b) in
+    omega arith
+
+-- and the other way
+pub block_after_tag : (tag : ℕ) (b : List Bool) (has : HasTag tag b)
+    → b ≡ has.ends.0 ++ (has.ends.1 ++ drop (length b - 8 * block_length tag) b)
+block_after_tag tag b has =
+    let i : ℕ = length b - 8 * block_length tag in
+    sym (take-append-drop i b) ∙ ap (λ xs. xs ++ drop i b) has.ends.2
+    ∙ append_assoc has.ends.0 has.ends.1 (drop i b)
+
+pub ends_from : (tag : ℕ) → IsTag tag → (b : List Bool) (frame : List ℕ) (over : ℕ) → HasTag tag b
+    → CarriesFrame tag (drop (length b - 8 * block_length tag) b) frame over → EndsBlock b tag frame over
+ends_from tag is_tag b frame over has carries = record {
+  before = has.ends.0;
+  heard = has.ends.1;
+  block = drop (length b - 8 * block_length tag) b;
+  is_tag = is_tag;
+  bits_are = block_after_tag tag b has;
+  near_tag = has.ends.3;
+  carries = carries;
+}
+
+pub ends_told : (tag : ℕ) → IsTag tag → (b : List Bool) (frame : List ℕ) (over : ℕ) → EndsBlock b tag frame over
+    → HasTag tag b × CarriesFrame tag (drop (length b - 8 * block_length tag) b) frame over
+ends_told tag is_tag b frame over ends =
+    let block_size : length ends.block ≡ 8 * block_length tag = ap length ends.carries.bits_are
+    ∙ length-sent_bits ends.carries.word ∙ ap (λ n. 8 * n) ends.carries.size in
+    let told = tag_and_block tag b ends.before ends.heard ends.block ends.bits_are ends.near_tag block_size in
+    (told.0, subst (λ xs. CarriesFrame tag xs frame over) (sym told.1) ends.carries)
 
 module _ (ring : List Bool) (tags : List ℕ) (due : List Bool) (register next taken : ℕ) (b : List Bool)
     (kept : Kept ring tags due register next taken b) where
@@ -281,61 +334,34 @@ module _ (ring : List Bool) (tags : List ℕ) (due : List Bool) (register next t
         place_at : (n m : ℕ) → m ≤ 2040 → m ≤ n → (n % 2048 + 2048 - m) % 2048 ≡ (n - m) % 2048
         place_at n m most within = omega arith
 
-    pub block_from : (frame : List ℕ) (over : ℕ) → 64 + 8 * block_length tag ≤ length b
-        → get_or tags ((next + 2048 - 8 * block_length tag) % 2048) 0 ≡ tag
-        → CarriesFrame tag (drop (length b - 8 * block_length tag) b) frame over → EndsBlock b tag frame over
-    block_from frame over least same carries =
+    pub has_tag_from : 64 + 8 * block_length tag ≤ length b
+        → get_or tags ((next + 2048 - 8 * block_length tag) % 2048) 0 ≡ tag → HasTag tag b
+    has_tag_from least same =
         let i : ℕ = length b - 8 * block_length tag in
         let most = most_octets tag is_tag in
         let here : get_or tags (i % 2048) 0 ≡ tag = ap (λ n. get_or tags n 0) (sym (tag_place (omega arith))) ∙ same in
-        let ends = (kept.tags_kept i (omega arith) (omega arith) (omega arith) tag is_tag).0 here in
         record {
-          before = ends.0;
-          heard = ends.1;
-          block = drop i b;
-          is_tag = is_tag;
-          bits_are = sym (take-append-drop i b) ∙ ap (λ xs. xs ++ drop i b) ends.2
-              ∙ append_assoc ends.0 ends.1 (drop i b);
-          near_tag = ends.3;
-          carries = carries;
+          within = omega arith;
+          ends = (kept.tags_kept i (omega arith) (omega arith) (omega arith) tag is_tag).0 here;
         }
 
-    pub block_told : (frame : List ℕ) (over : ℕ) → EndsBlock b tag frame over
+    pub has_tag_told : HasTag tag b
         → (64 + 8 * block_length tag ≤ length b)
         × (get_or tags ((next + 2048 - 8 * block_length tag) % 2048) 0 ≡ tag)
-        × CarriesFrame tag (drop (length b - 8 * block_length tag) b) frame over
-    block_told frame over ends =
+    has_tag_told has =
         let i : ℕ = length b - 8 * block_length tag in
         let most = most_octets tag is_tag in
-        let block_size : length ends.block ≡ 8 * block_length tag = ap length ends.carries.bits_are
-        ∙ length-sent_bits ends.carries.word ∙ ap (λ n. 8 * n) ends.carries.size in
-        let whole : b ≡ (ends.before ++ ends.heard) ++ ends.block = ends.bits_are
-        ∙ sym (append_assoc ends.before ends.heard ends.block) in
-        let front_size : length (ends.before ++ ends.heard) ≡ length ends.before + 64 =
-        length-append ends.before ends.heard ∙ ap (λ n. length ends.before + n) ends.near_tag.size in
-        let size : length b ≡ length ends.before + 64 + 8 * block_length tag = omega (
-          arith,
-          ap length whole,
-          length-append (ends.before ++ ends.heard) ends.block,
-        ) in
-        let front : take i b ≡ ends.before ++ ends.heard = ap (take i) whole
-        ∙ take_at (ends.before ++ ends.heard) ends.block i (omega arith) in
-        let back : drop i b ≡ ends.block = ap (drop i) whole
-        ∙ drop_at (ends.before ++ ends.heard) ends.block i (omega arith) in
-        let tag_ends : EndsTag (take i b) tag = (ends.before, ends.heard, front, ends.near_tag) in
-        let here = (kept.tags_kept i (omega arith) (omega arith) (omega arith) tag is_tag).1 tag_ends in (
-          omega arith,
-          ap (λ n. get_or tags n 0) (tag_place (omega arith)) ∙ here,
-          subst (λ xs. CarriesFrame tag xs frame over) (sym back) ends.carries,
-        )
+        let within = has.within in
+        let least : 64 ≤ i = omega (arith, (tag_told (take i b) tag has.ends).0, length-take i b) in
+        let here = (kept.tags_kept i least (omega arith) (omega arith) tag is_tag).1 has.ends in
+        (omega arith, ap (λ n. get_or tags n 0) (tag_place within) ∙ here)
 
-    pub idle_told : get_or due next false ≡ false → (frame : List ℕ) (over : ℕ) → ¬ EndsBlock b tag frame over
-    idle_told idle frame over ends =
+    pub idle_told : get_or due next false ≡ false → HasTag tag b → ⊥
+    idle_told idle has =
         let i : ℕ = length b - 8 * block_length tag in
         let most = most_octets tag is_tag in
-        let told = block_told frame over ends in
-        let same = (kept.tags_kept i (omega (arith, told.0)) (omega arith) (omega arith) tag is_tag).0
-        (ap (λ n. get_or tags n 0) (sym (tag_place (omega (arith, told.0)))) ∙ told.1) in
+        let told = has_tag_told has in
+        let same = has.ends in
         let may : MayEnd tag (length b) b = record { is_tag = is_tag; within = omega arith; ends = same } in
         false≢true (sym idle ∙ ap (λ n. get_or due n false) kept.next_is
         ∙ kept.due_kept (length b) (omega arith) (omega arith) tag may)

@@ -45,3 +45,8 @@ ComesFor count bits = (more : ℕ) → (more < count) ↔ IsComingFor more bits
 pub record StandsFor (reader : BlockReader) (bits : List Bool) : Type 0 where
   pub kept : Kept reader.bits reader.tags reader.due reader.register reader.next reader.taken bits
   pub comes : ComesFor reader.coming bits
+
+-- the tag ends in front of the last bits, as many as its block has
+pub record HasTag (tag : ℕ) (bits : List Bool) : Type 0 where
+  pub within : 8 * block_length tag ≤ length bits
+  pub ends : EndsTag (take (length bits - 8 * block_length tag) bits) tag

@@ -12,3 +12,5 @@ pub mod Damage
 pub mod CoarseCounts
 pub mod LeastSure
 pub mod UnknownOctets
+pub mod UnsureBlocks
+pub mod HeldCertainties

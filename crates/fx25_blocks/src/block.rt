@@ -1,4 +1,4 @@
-// The block of a frame, as it is sent.
+//! The block of a frame, as it is sent.
 
 ghost use Rattle.std.specs.Prelude.{◌≡◌, ◌+◌, ◌*◌, ◌≤◌, ◌++◌, length, take, IfOk, IfSome, OnOk};
 ghost use Rattle.std.specs.Option.{IfNone};

@@ -1,4 +1,4 @@
-// The code of the blocks of a tag.
+//! The code of the blocks of a tag.
 
 ghost use Rattle.std.specs.Prelude.{◌≡◌};
 ghost use Rattle.fx25_blocks.specs.Tags.{IsTag, check_count};

@@ -1,4 +1,4 @@
-// How long a block keeps coming in.
+//! How long a block keeps coming in.
 
 ghost use Rattle.std.specs.Prelude.{◌≡◌, ℕ, ◌<◌, ◌≤◌, ◌↔◌};
 ghost use Rattle.fx25_blocks.specs.Tags.{IsTag, bits_of_64, differing, tag_bits};

@@ -1,6 +1,6 @@
-// Blocks in a line of bits.
+//! Blocks in a line of bits.
 
-ghost use Rattle.std.specs.Prelude.{◌≡◌, ◌≢◌, ℕ, ◌+◌, ◌*◌, ◌%◌, ◌<◌, ◌≤◌, min, set, Bool, true, List, [], ◌∷◌, ◌++◌, IfSome};
+ghost use Rattle.std.specs.Prelude.{◌≡◌, ◌≢◌, ℕ, ◌+◌, ◌*◌, ◌%◌, ◌<◌, ◌≤◌, min, set, Bool, true, List, [], ◌∷◌, ◌++◌, IfSome, length};
 ghost use Rattle.std.specs.Prelude.{◌-◌, ◌↔◌, IsTrue, max};
 ghost use Rattle.std.specs.Option.{IfNone};
 ghost use Rattle.fx25_blocks.specs.BlockEnds.{EndsBlock};
@@ -8,10 +8,13 @@ ghost use Rattle.fx25_blocks.specs.Tags.{IsTag, block_length};
 
 use crate::block_coming::coming_from;
 use crate::block_reading::read_block;
+use crate::certainties::Certainties;
 use crate::opening::BlockFrame;
+use crate::packing::{are_octets, pack};
 use crate::recent::{RING, recent};
 use crate::tag_search::{near_tag, shifted};
 use crate::tags::block_length;
+use crate::unknown_octets::block_with_unknown;
 
 // A block of 255 octets and its tag are so many bits.
 const MOST_TAKEN: usize = 2104;
@@ -35,11 +38,14 @@ pub struct BlockReader {
 
 impl BlockReader {
     ghost use Rattle.fx25_blocks.specs.Coming.{IsBlockComing};
-    ghost use Rattle.fx25_blocks.specs.Held.{StandsFor};
+    ghost use Rattle.fx25_blocks.specs.Held.{HasTag, StandsFor};
+    ghost use Rattle.fx25_blocks.specs.HeldCertainties.{StandsFor as AreKept};
+    ghost use Rattle.fx25_blocks.specs.UnsureBlocks.{EndsUnsureBlock};
 
     /// A reader that has taken no bit.
     pub fn new() -> BlockReader
-        ensures { StandsFor result [] }
+        ensures stands_for { StandsFor result [] }
+        ensures taken { result.taken ≡ 0 }
     {
         BlockReader {
             bits: [false; RING],
@@ -54,7 +60,8 @@ impl BlockReader {
 
     /// Takes the next bit, `true` for a 1.
     pub fn push(&mut self, bit: bool)
-        ensures { (b : List Bool) → StandsFor self.old b → StandsFor self.new (b ++ bit ∷ []) }
+        ensures stands_for { (b : List Bool) → StandsFor self.old b → StandsFor self.new (b ++ bit ∷ []) }
+        ensures taken { self.new.taken ≡ min 2104 (self.old.taken + 1) }
     {
         self.register = shifted(self.register, bit);
         self.bits[self.next] = bit;
@@ -78,8 +85,10 @@ impl BlockReader {
 
     /// True if no tag stands where a block that ends with the last bit has one. Then no block ends with it.
     pub fn is_idle(&self) -> bool
-        ensures { (b : List Bool) → StandsFor self.now b → result ≡ true
+        ensures block { (b : List Bool) → StandsFor self.now b → result ≡ true
             → (tag : ℕ) → (frame : List ℕ) → (over : ℕ) → ¬ EndsBlock b tag frame over }
+        ensures unsure { (b : List Bool) → (numbers : List ℕ) → StandsFor self.now b → result ≡ true
+            → (tag : ℕ) → (frame : List ℕ) → (over : ℕ) → ¬ EndsUnsureBlock b numbers tag frame over }
     {
         !self.due[self.next]
     }
@@ -92,18 +101,48 @@ impl BlockReader {
         ensures none { (b : List Bool) → StandsFor self.now b
             → IfNone result ((frame : List ℕ) → (over : ℕ) → ¬ EndsBlock b tag frame over) }
     {
-        let count = 8 * block_length(tag);
-        let needed = 64 + count;
-        let taken = self.taken;
-        if taken < needed {
+        if !self.has_tag(tag) {
             return None;
         }
-        let kept = self.tags[(self.next + RING - count) % RING];
-        if kept != tag {
-            return None;
-        }
-        let bits = recent(&self.bits, self.next, count);
+        let bits = recent(&self.bits, self.next, 8 * block_length(tag));
         read_block(tag, bits.as_slice())
+    }
+
+    /// The same, if it is told how sure the bits are, those of the block at least: a block that is too far from a codeword
+    /// as it came is read with its least sure octets unknown.
+    #[cold]
+    pub fn unsure_frame(&self, tag: u8, certainties: &Certainties) -> Option<BlockFrame>
+        requires { IsTag tag }
+        ensures frame { (b : List Bool) → (numbers : List ℕ) → StandsFor self.now b
+            → AreKept certainties.now numbers
+            → (64 + 8 * block_length tag ≤ length b → 8 * block_length tag ≤ length numbers)
+            → IfSome result (λ found. EndsUnsureBlock b numbers tag found.octets.items found.over) }
+        ensures none { (b : List Bool) → (numbers : List ℕ) → StandsFor self.now b
+            → AreKept certainties.now numbers
+            → (64 + 8 * block_length tag ≤ length b → 8 * block_length tag ≤ length numbers)
+            → IfNone result ((frame : List ℕ) → (over : ℕ) → ¬ EndsUnsureBlock b numbers tag frame over) }
+    {
+        if !self.has_tag(tag) {
+            return None;
+        }
+        let count = block_length(tag);
+        let bits = recent(&self.bits, self.next, 8 * count);
+        let octets = pack(bits.as_slice(), count);
+        are_octets(octets.as_slice());
+        let certainty = certainties.of_octets(count);
+        block_with_unknown(tag, octets.as_slice(), certainty.as_slice())
+    }
+
+    /// Does the tag end where a block has it that ends with the last bit?
+    fn has_tag(&self, tag: u8) -> bool
+        requires { IsTag tag }
+        ensures { (b : List Bool) → StandsFor self.now b → (IsTrue result ↔ HasTag tag b) }
+    {
+        let count = 8 * block_length(tag);
+        if self.taken < 64 + count {
+            return false;
+        }
+        self.tags[(self.next + RING - count) % RING] == tag
     }
 }
 

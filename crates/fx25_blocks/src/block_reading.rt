@@ -1,4 +1,4 @@
-// The frame that a block carries.
+//! The frame that a block carries.
 
 ghost use Rattle.std.specs.Prelude.{◌≡◌, ℕ, ◌*◌, List, length, IfSome};
 ghost use Rattle.std.specs.Option.{IfNone};

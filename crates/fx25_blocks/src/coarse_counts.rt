@@ -1,8 +1,8 @@
-// A coarse count of wrong bits, of all tags at once.
-//
-// Noise comes near a tag once in hours, so nearly all bits need no exact count. A number holds a field of five bits for
-// each tag. Of the 48 bits that came first, eight at a time, a field counts those that differ from its tag, but at most
-// four of each eight. It begins at 3, so its highest bit is a 1 once 13 are counted, and it never passes 27.
+//! A coarse count of wrong bits, of all tags at once.
+//!
+//! Noise comes near a tag once in hours, so nearly all bits need no exact count. A number holds a field of five bits for
+//! each tag. Of the 48 bits that came first, eight at a time, a field counts those that differ from its tag, but at most
+//! four of each eight. It begins at 3, so its highest bit is a 1 once 13 are counted, and it never passes 27.
 
 ghost use Rattle.std.specs.Prelude.{◌≡◌, ℕ, ◌<◌, ◌≤◌, ◌^◌, true};
 ghost use Rattle.fx25_blocks.specs.CoarseCounts.{row_at};

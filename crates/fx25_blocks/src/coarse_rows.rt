@@ -1,5 +1,5 @@
-// The table of the coarse count: in how many of eight bits each tag is wrong, but at most four, in a field of five bits
-// for each tag.
+//! The table of the coarse count: in how many of eight bits each tag is wrong, but at most four, in a field of five bits
+//! for each tag.
 
 // The rows of the first eight bits begin at 0, those of the next eight at 256.
 pub static ROWS: [u64; 1536] = [

@@ -1,4 +1,4 @@
-// Laws on the definitions. A law is the contract of a function that does nothing.
+//! Laws on the definitions. A law is the contract of a function that does nothing.
 
 ghost use Rattle.std.specs.Prelude.{◌≡◌, ◌≢◌, ◌+◌, ◌*◌, ◌<◌, ◌≤◌, ◌++◌, ℕ, Bool, List, All, length};
 ghost use Rattle.hdlc_framer.specs.BitOrder.{sent_bits};
@@ -10,6 +10,7 @@ ghost use Rattle.fx25_blocks.specs.Damage.{DifferWithin};
 ghost use Rattle.fx25_blocks.specs.NearTag.{IsNearTag};
 ghost use Rattle.fx25_blocks.specs.Tags.{IsTag, block_length, check_count, differing, tag_bits};
 ghost use Rattle.fx25_blocks.specs.UnknownOctets.{ReadsFrame};
+ghost use Rattle.fx25_blocks.specs.UnsureBlocks.{EndsUnsureBlock};
 
 /// Any two tags differ in at least 32 bits.
 pub fn tags_are_apart()
@@ -41,6 +42,21 @@ pub fn block_is_heard()
 pub fn near_block_is_read()
     ensures { (tag : ℕ) → (word : List ℕ) → (certainty : List ℕ) → (frame : List ℕ) → (over : ℕ) → IsTag tag
         → All (λ octet. octet < 256) word → CarriesFrame tag (sent_bits word) frame over → ReadsFrame tag word certainty frame over }
+{}
+
+/// A block that ends, near enough to a codeword as it came, ends also if its bits have numbers, whatever these are.
+pub fn near_block_ends_too()
+    ensures { (bits : List Bool) → (numbers : List ℕ) → (tag : ℕ) → (frame : List ℕ) → (over : ℕ)
+        → 8 * block_length tag ≤ length numbers → EndsBlock bits tag frame over
+        → EndsUnsureBlock bits numbers tag frame over }
+{}
+
+/// With a bit at most one block of a tag ends whose bits have numbers, and it carries one frame, which is over at one
+/// place.
+pub fn one_unsure_block_ends()
+    ensures { (bits : List Bool) → (numbers : List ℕ) → (tag : ℕ) → (frame : List ℕ) → (other : List ℕ)
+        → (over : ℕ) → (other_over : ℕ) → EndsUnsureBlock bits numbers tag frame over
+        → EndsUnsureBlock bits numbers tag other other_over → (frame ≡ other) × (over ≡ other_over) }
 {}
 
 /// A block with octets of any certainty is read as one frame at most, which is over at one place.

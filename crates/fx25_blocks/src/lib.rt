@@ -11,6 +11,7 @@ mod block_code;
 mod block_coming;
 mod block_reader;
 mod block_reading;
+mod certainties;
 mod coarse_counts;
 mod coarse_rows;
 mod laws;
@@ -27,9 +28,10 @@ mod unknown_octets;
 
 pub use block::{block_of, write_block, write_unit};
 pub use block_reader::BlockReader;
+pub use certainties::Certainties;
 pub use laws::{
-    block_is_heard, near_block_is_read, one_block_ends, one_frame_is_read, one_stretch_is_repaired,
-    tags_are_apart,
+    block_is_heard, near_block_ends_too, near_block_is_read, one_block_ends, one_frame_is_read,
+    one_stretch_is_repaired, one_unsure_block_ends, tags_are_apart,
 };
 pub use opening::BlockFrame;
 pub use tag_choice::tag_for;

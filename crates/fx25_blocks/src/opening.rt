@@ -1,7 +1,7 @@
-// The frame that the data of a block open with.
-//
-// The data begin with a flag or more, octet by octet. What follows them is a frame only if no flag and no abort ends
-// before the frame does, so the first event after them decides.
+//! The frame that the data of a block open with.
+//!
+//! The data begin with a flag or more, octet by octet. What follows them is a frame only if no flag and no abort ends
+//! before the frame does, so the first event after them decides.
 
 ghost use Rattle.std.specs.Prelude.{◌≡◌, ℕ, ◌<◌, ◌≤◌, List, All, length, IfSome};
 ghost use Rattle.std.specs.Option.{IfNone};

@@ -1,4 +1,4 @@
-// Octets and their bits, the least significant bit of each octet first.
+//! Octets and their bits, the least significant bit of each octet first.
 
 ghost use Rattle.std.specs.Prelude.{◌≡◌, ◌+◌, ◌*◌, ◌^◌, ◌<◌, ◌≤◌, [], ◌∷◌, ◌++◌, All, drop, length, take};
 ghost use Rattle.arrayvec.specs.ArrayVec.{array_vec_len};

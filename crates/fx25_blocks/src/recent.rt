@@ -1,4 +1,4 @@
-// The last bits of a ring.
+//! The last bits of a ring.
 
 ghost use Rattle.std.specs.Prelude.{◌≡◌, ℕ, ◌+◌, ◌-◌, ◌%◌, ◌<◌, ◌≤◌, false, length, slice_index_or};
 

@@ -1,4 +1,4 @@
-// Which tag a frame is sent with.
+//! Which tag a frame is sent with.
 
 ghost use Rattle.std.specs.Prelude.{◌≡◌, IfSome};
 ghost use Rattle.std.specs.Option.{IfNone};

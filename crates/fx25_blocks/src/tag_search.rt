@@ -1,4 +1,4 @@
-// The tag that 64 bits are near to.
+//! The tag that 64 bits are near to.
 
 ghost use Rattle.std.specs.Prelude.{◌≡◌, ℕ, ◌≤◌, ◌↔◌, ◌∷◌, [], ◌++◌, drop};
 ghost use Rattle.fx25_blocks.specs.Tags.{IsTag, bits_of_64, differing, tag_bits};

@@ -1,4 +1,4 @@
-// The correlation tags, by their numbers from 1 to 11.
+//! The correlation tags, by their numbers from 1 to 11.
 
 ghost use Rattle.std.specs.Prelude.{◌≡◌, ◌≤◌};
 ghost use Rattle.fx25_blocks.specs.Tags.{IsTag, block_length, check_count, data_count, tag_value};

@@ -1,7 +1,7 @@
-// The worked example of FX.25 from outside: N7LEM>APRS:hello as Dire Wolf's gen_packets sends it with 16, 32 and 64
-// check octets.
+//! The worked example of FX.25 from outside: N7LEM>APRS:hello as Dire Wolf's gen_packets sends it with 16, 32 and 64
+//! check octets.
 
-use crate::{BlockReader, block_length, block_with_unknown, write_block, write_unit};
+use crate::{BlockReader, Certainties, block_length, block_with_unknown, write_block, write_unit};
 use std::alloc::Global;
 use std::process::Abort;
 use tnc_base::Octets;
@@ -153,6 +153,35 @@ fn unsure_octets_are_taken_as_unknown(rt: HostRuntime) {
         (12, 0, false),
     ] {
         assert_eq!(rt; is_read(&rt, wrong, unsure), read);
+    }
+}
+
+// After how many bits of its block the frame is over that a reader hears which is told that the bits of each third octet
+// of the block, of which so many are sent wrong, are less sure than the others.
+fn heard_unsure(rt: &impl Abort, wrong: usize) -> usize {
+    let mut reader = BlockReader::new();
+    let mut certainties = Certainties::new();
+    for (place, octet) in UNIT_16.iter().enumerate() {
+        for bit in 0..8_u8 {
+            let sent = (*octet >> bit) & 1 == 1;
+            let is_wrong = is_wrong(place, bit, wrong, 0);
+            reader.push(sent != is_wrong);
+            certainties.push(if is_wrong { 1 } else { 5 });
+        }
+    }
+    match reader.unsure_frame(4, &certainties) {
+        None => 0,
+        Some(found) => {
+            assert_eq!(*rt; found.octets.as_slice(), FRAME.as_slice());
+            found.over
+        }
+    }
+}
+
+#[test]
+fn unsure_units_are_heard(rt: HostRuntime) {
+    for (wrong, over) in [(8, 201), (12, 201), (13, 0)] {
+        assert_eq!(rt; heard_unsure(&rt, wrong), over);
     }
 }
 

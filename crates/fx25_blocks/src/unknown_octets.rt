@@ -1,4 +1,4 @@
-// The frame that a block carries if its octets are not all as sure.
+//! The frame that a block carries if its octets are not all as sure.
 
 ghost use Rattle.std.specs.Prelude.{◌≡◌, ℕ, ◌*◌, ◌/◌, ◌≤◌, Bool, List, length, IfSome};
 ghost use Rattle.std.specs.Option.{IfNone};

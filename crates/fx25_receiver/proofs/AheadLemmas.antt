@@ -2,11 +2,12 @@
 use Rattle.fx25_receiver.proofs.Common.{◌≡◌, ℕ, zero, suc, ◌+◌, ◌-◌, ◌*◌, ◌%◌, ◌<◌, ◌≤◌, ℤ, Bool, true, false, List, []}
 use Rattle.fx25_receiver.proofs.Common.{◌∷◌, ◌++◌, length, take, drop, replicate, get_or, ap, refl, sym, subst, ◌∙◌, arith}
 use Rattle.fx25_receiver.proofs.Common.{inl, inr, cases_eq, append-nil, append_assoc, length-append, take_all, false≢true}
-use Rattle.fx25_receiver.proofs.Common.{if◌then◌else◌, bits, bits_of, length-bits, last_tone, tones_at, windows_in, last_seven}
-use Rattle.fx25_receiver.proofs.Common.{EndsWithBits, Heard, HeldLane, IsHeard, LaneStandsFor, Tone}
+use Rattle.fx25_receiver.proofs.Common.{if◌then◌else◌, bits, bits_of, last_tone, tones_at, windows_in, last_seven}
+use Rattle.fx25_receiver.proofs.Common.{certainties, EndsWithBits, Heard, HeldLane, IsHeard, KnowsNumbers, LaneHasTaken}
+use Rattle.fx25_receiver.proofs.Common.{LaneStandsFor, Tone}
 use Rattle.std.proofs.Common.{set, get_or-set_other, get_or-set_same, length-drop, not}
 use Rattle.std.proofs.Math.Seq.{take-append-add}
-use Rattle.std.proofs.lemmas.List.{drop-append-le, drop-drop, length-take-le, take-append-drop}
+use Rattle.std.proofs.lemmas.List.{drop-append-le, drop-drop, take-append-drop}
 use Rattle.nrzi_bits.specs.Line.{bits_from}
 use Rattle.offset_slicers.proofs.WindowLemmas.{length-tones_at, tones_at-append}
 use Rattle.offset_slicers.specs.Decision.{tone_of}
@@ -31,7 +32,7 @@ pub all_wait : (lanes : List HeldLane) (position : ℕ) (kept : List Heard) (x w
 all_wait lanes position kept x whole given after = record {
   count = after.count;
   lanes_stand = λ offset d small.
-      subst (λ w. LaneStandsFor (get_or lanes offset d) (tones_at offset (if w then x else whole)))
+      subst (λ w. LaneHasTaken (get_or lanes offset d) offset (if w then x else whole))
       (sym (waits_all 8 offset)) (after.lanes_stand offset d small);
   quiet = λ item h past. waits_all 8 item.lane;
   has_heard = after.has_heard;
@@ -46,7 +47,7 @@ pub all_caught_up : (lanes : List HeldLane) (position : ℕ) (kept : List Heard)
     (given : List Heard) → AreAhead lanes position kept waiting x x given → AreAfter lanes position kept x given
 all_caught_up lanes position kept waiting x given after = record {
   count = after.count;
-  lanes_stand = λ offset d small. subst (λ y. LaneStandsFor (get_or lanes offset d) (tones_at offset y))
+  lanes_stand = λ offset d small. subst (λ y. LaneHasTaken (get_or lanes offset d) offset y)
       (same_either (get_or waiting offset true) x) (after.lanes_stand offset d small);
   has_heard = after.has_heard;
 }
@@ -61,13 +62,17 @@ none_waits lanes position kept waiting x more given ahead after =
     record {
       count = omega (arith, length-append x more);
       lanes_stand = λ offset d small.
-          subst (λ w. LaneStandsFor (get_or lanes offset d) (tones_at offset (if w then x else x ++ more)))
+          subst (λ w. LaneHasTaken (get_or lanes offset d) offset (if w then x else x ++ more))
           (ahead offset small) (after.lanes_stand offset d small);
       has_heard = taken_no_more kept given x more after.has_heard
           (λ item h past. false≢true (sym (ahead item.lane h.lane) ∙ after.quiet item h past));
     }
 
 -- ---- one lane takes its eight windows
+
+-- a lane knows the numbers of its bits
+abbrev pub LaneKnows : HeldLane → List ℕ → Type 0
+LaneKnows held numbers = KnowsNumbers held.reader held.certainties numbers
 
 -- the tones of the next windows
 next_tones : (count offset n : ℕ) (z samples : List ℤ) → n + count ≤ windows_in offset (length z)
@@ -144,8 +149,9 @@ eight_quiet x more eight offset small tones size quiet item lane h past =
     ∙ ap length (sym tones) ∙ length-append (tones_at offset x) eight ∙ ap (λ m. n + m) size in
     let k : ℕ = h.index - n in
     let place : h.index + 1 ≡ n + (k + 1) = omega arith in
-    quiet k item (omega arith)
-    (subst (λ b. EndsWithBits b item)
+    let numbers : List ℕ = take (h.index + 1) (certainties item.lane (x ++ more)) in
+    quiet k numbers item (omega arith)
+    (subst (λ b. EndsWithBits b numbers item)
     (ap (λ o. take (h.index + 1) (bits o (x ++ more))) lane
     ∙ ap (λ t. take (h.index + 1) (bits_of t)) (sym tones)
     ∙ ap (λ m. take m (bits_of (tones_at offset x ++ eight))) place ∙ bits_then (tones_at offset x) eight (k + 1))
@@ -155,21 +161,21 @@ module _ (lanes : List HeldLane) (position : ℕ) (kept : List Heard) (waiting :
     (given : List Heard) (after : AreAhead lanes position kept waiting x (x ++ more) given) where
   -- the other lanes after one of them has tried
   lanes_after : (waits : Bool) (offset : ℕ) (d now : HeldLane) → length lanes ≡ 8 → length waiting ≡ 8 → offset < 8
-      → LaneStandsFor now (tones_at offset (if waits then x else x ++ more))
+      → LaneHasTaken now offset (if waits then x else x ++ more)
       → (o : ℕ) (e : HeldLane) → o < 8
-      → LaneStandsFor (get_or (set lanes offset now) o e) (tones_at o (taken_by (set waiting offset waits) o x (x ++ more)))
+      → LaneHasTaken (get_or (set lanes offset now) o e) o (taken_by (set waiting offset waits) o x (x ++ more))
   lanes_after waits offset d now size waiting_size small stands o e below = elim (cases_eq offset o) [
     | inl same ↦
-        subst (λ p. LaneStandsFor (get_or (set lanes offset now) p e)
-        (tones_at p (taken_by (set waiting offset waits) p x (x ++ more)))) same
-        (subst (λ l. LaneStandsFor l (tones_at offset (taken_by (set waiting offset waits) offset x (x ++ more))))
+        subst (λ p. LaneHasTaken (get_or (set lanes offset now) p e) p
+        (taken_by (set waiting offset waits) p x (x ++ more))) same
+        (subst (λ l. LaneHasTaken l offset (taken_by (set waiting offset waits) offset x (x ++ more)))
         (sym (get_or-set_same lanes offset now e (omega arith)))
-        (subst (λ w. LaneStandsFor now (tones_at offset (if w then x else x ++ more)))
+        (subst (λ w. LaneHasTaken now offset (if w then x else x ++ more))
         (sym (get_or-set_same waiting offset waits true (omega arith))) stands))
     | inr apart ↦
-        subst (λ l. LaneStandsFor l (tones_at o (taken_by (set waiting offset waits) o x (x ++ more))))
+        subst (λ l. LaneHasTaken l o (taken_by (set waiting offset waits) o x (x ++ more)))
         (sym (get_or-set_other lanes offset o now e (λ e. apart (sym e))))
-        (subst (λ w. LaneStandsFor (get_or lanes o e) (tones_at o (if w then x else x ++ more)))
+        (subst (λ w. LaneHasTaken (get_or lanes o e) o (if w then x else x ++ more))
         (sym (get_or-set_other waiting offset o waits true (λ e. apart (sym e)))) (after.lanes_stand o e below))
   ]
 
@@ -182,10 +188,12 @@ module _ (lanes : List HeldLane) (position : ℕ) (kept : List Heard) (waiting :
       → ((tones : List Tone) → LaneStandsFor (get_or lanes offset d) tones → took ≡ true
       → NothingEndsInTones tones eight)
       → ((tones : List Tone) → LaneStandsFor (get_or lanes offset d) tones → took ≡ false → LaneStandsFor now tones)
+      → ((numbers after : List ℕ) → LaneKnows (get_or lanes offset d) numbers → took ≡ true → LaneKnows now after)
+      → ((numbers : List ℕ) → LaneKnows (get_or lanes offset d) numbers → took ≡ false → LaneKnows now numbers)
       → AreAhead (set lanes offset now) position kept (set waiting offset (not took)) x (x ++ more) given
-  one_tried took offset d now eight size waiting_size small waits tones eight_size taken quiet left =
-      let was : LaneStandsFor (get_or lanes offset d) (tones_at offset x) =
-      subst (λ w. LaneStandsFor (get_or lanes offset d) (tones_at offset (if w then x else x ++ more))) waits
+  one_tried took offset d now eight size waiting_size small waits tones eight_size taken quiet left knows knows_left =
+      let was : LaneHasTaken (get_or lanes offset d) offset x =
+      subst (λ w. LaneHasTaken (get_or lanes offset d) offset (if w then x else x ++ more)) waits
       (after.lanes_stand offset d small) in
       record {
         count = after.count;
@@ -200,14 +208,21 @@ module _ (lanes : List HeldLane) (position : ℕ) (kept : List Heard) (waiting :
         has_heard = after.has_heard;
       }
     where
-      stands : (t : Bool) → took ≡ t → LaneStandsFor (get_or lanes offset d) (tones_at offset x)
-          → LaneStandsFor now (tones_at offset (if not t then x else x ++ more))
-      stands true is was = subst (LaneStandsFor now) tones (taken (tones_at offset x) was is)
-      stands false is was = left (tones_at offset x) was is
+      stands : (t : Bool) → took ≡ t → LaneHasTaken (get_or lanes offset d) offset x
+          → LaneHasTaken now offset (if not t then x else x ++ more)
+      stands true is was = record {
+        stands = subst (LaneStandsFor now) tones (taken (tones_at offset x) was.stands is);
+        knows = knows (certainties offset x) (certainties offset (x ++ more)) was.knows is;
+      }
+      stands false is was = record {
+        stands = left (tones_at offset x) was.stands is;
+        knows = knows_left (certainties offset x) was.knows is;
+      }
 
-      silent : (t : Bool) → took ≡ t → LaneStandsFor (get_or lanes offset d) (tones_at offset x) → (item : Heard)
+      silent : (t : Bool) → took ≡ t → LaneHasTaken (get_or lanes offset d) offset x → (item : Heard)
           → offset ≡ item.lane → IsHeard (x ++ more) item → length x < item.end → not t ≡ true
       silent true is was item same h past =
-          absurd (eight_quiet x more eight offset small tones eight_size (quiet (tones_at offset x) was is) item (sym same)
+          absurd (eight_quiet x more eight offset small tones eight_size (quiet (tones_at offset x) was.stands is) item
+          (sym same)
           h past)
       silent false is was item same h past = refl

@@ -1,23 +1,19 @@
--- Whether a block ends with the last of some bits can be decided: all that it asks can be searched for.
+-- What a block asks can be decided: all of it can be searched for.
 use Rattle.fx25_receiver.proofs.Common.{◌≡◌, ℕ, zero, suc, ◌+◌, ◌-◌, ◌*◌, ◌<◌, ◌≤◌, ◌⊎◌, Bool, true, false, List, [], ◌∷◌, ◌++◌}
 use Rattle.fx25_receiver.proofs.Common.{length, take, drop, refl, ap, sym, ◌∙◌, subst, arith, inl, inr, cases_eq, cases_lt}
-use Rattle.fx25_receiver.proofs.Common.{All, All-cons, All-head, All-nil, All-tail, EndsBlock, IsTag, block_length}
-use Rattle.fx25_receiver.proofs.Common.{check_count, data_count, sent_bits, length-append, EndsFrame}
-use Rattle.std.proofs.lemmas.List.{length-drop, length-take, take-append-drop, take_at, drop_at}
+use Rattle.fx25_receiver.proofs.Common.{All, All-cons, All-head, All-nil, All-tail}
+use Rattle.fx25_receiver.proofs.Common.{check_count, length-append, EndsFrame}
+use Rattle.std.proofs.lemmas.List.{length-take, take-append-drop, take_at}
 use Rattle.std.proofs.Common.{append_assoc}
 use Rattle.hdlc_framer.specs.Body.{flags}
 use Rattle.hdlc_framer.specs.Frames.{frame_bits}
 use Rattle.hdlc_framer.specs.Stuffing.{flag}
-use Rattle.hdlc_framer.proofs.BitLemmas.{length-sent_bits}
 use Rattle.hdlc_framer.proofs.FrameEnds.{one_frame}
 use Rattle.reed_solomon.specs.Codeword.{whole_of}
 use Rattle.reed_solomon.specs.declared.code.Zeros.TheVariants.{Between}
-use Rattle.reed_solomon.specs.Distance.{distance}
-use Rattle.reed_solomon.specs.Values.{Vanishes, value_at}
-use Rattle.fx25_blocks.specs.BlockEnds.{CarriesFrame, IsRepairOf, OpensWithFrame}
+use Rattle.reed_solomon.specs.Values.{value_at}
+use Rattle.fx25_blocks.specs.BlockEnds.{OpensWithFrame}
 use Rattle.fx25_blocks.specs.Blocks.{IsBlockCodeword}
-use Rattle.fx25_blocks.specs.NearTag.{IsNearTag}
-use Rattle.fx25_blocks.specs.Tags.{differing, tag_bits}
 use Rattle.slicer_bank.proofs.FrameDecided.{frame_or_none}
 
 -- ---- searches
@@ -26,13 +22,13 @@ use Rattle.slicer_bank.proofs.FrameDecided.{frame_or_none}
 abbrev pub Decided : Type 0 → Type 0
 Decided P = P ⊎ (P → ⊥)
 
-both : {P Q : Type 0} → Decided P → Decided Q → Decided (P × Q)
+pub both : {P Q : Type 0} → Decided P → Decided Q → Decided (P × Q)
 both (inl p) (inl q) = inl (p, q)
 both (inl p) (inr q) = inr (λ h. q h.1)
 both (inr p) q = inr (λ h. p h.0)
 
 -- the same in other words
-told : {P Q : Type 0} → (P → Q) → (Q → P) → Decided P → Decided Q
+pub told : {P Q : Type 0} → (P → Q) → (Q → P) → Decided P → Decided Q
 told to from (inl p) = inl (to p)
 told to from (inr p) = inr (λ q. p (from q))
 
@@ -63,10 +59,10 @@ all_below (suc n) P each = elim (each n) [
 ]
 
 -- so many octets with a property
-abbrev SomeOctets : ℕ → (List ℕ → Type 0) → Type 0
+abbrev pub SomeOctets : ℕ → (List ℕ → Type 0) → Type 0
 SomeOctets n P = (octets : List ℕ) × (length octets ≡ n) × All (λ octet. octet < 256) octets × P octets
 
-some_octets : (n : ℕ) (P : List ℕ → Type 0) → ((octets : List ℕ) → Decided (P octets)) → Decided (SomeOctets n P)
+pub some_octets : (n : ℕ) (P : List ℕ → Type 0) → ((octets : List ℕ) → Decided (P octets)) → Decided (SomeOctets n P)
 some_octets zero P each = elim (each []) [
   | inl here ↦ inl ([], refl, All-nil (λ octet. octet < 256), here)
   | inr none ↦ inr (λ h. none (subst P (no_octets h.0 h.1) h.3))
@@ -97,7 +93,7 @@ some_octets (suc n) P each =
 
 -- ---- what a block asks
 
-same_bits : (a b : List Bool) → Decided (a ≡ b)
+pub same_bits : (a b : List Bool) → Decided (a ≡ b)
 same_bits [] [] = inl refl
 same_bits [] (y ∷ b) = inr (λ e. cc e)
 same_bits (x ∷ a) [] = inr (λ e. cc e)
@@ -107,7 +103,7 @@ same_bits (true ∷ a) (true ∷ b) = told (λ e. ap (λ t. true ∷ t) e) (λ e
 same_bits (false ∷ a) (false ∷ b) =
     told (λ e. ap (λ t. false ∷ t) e) (λ e. let same : a ≡ b = cc e in same) (same_bits a b)
 
-at_most : (n m : ℕ) → Decided (n ≤ m)
+pub at_most : (n m : ℕ) → Decided (n ≤ m)
 at_most n m = elim (cases_lt m n) [
   | inl more ↦ inr (λ h. omega arith)
   | inr most ↦ inl most
@@ -115,7 +111,7 @@ at_most n m = elim (cases_lt m n) [
 
 -- bits open with a frame
 module _ (bits : List Bool) where
-  abbrev Opens : Type 0
+  abbrev pub Opens : Type 0
   Opens = (frame : List ℕ) × (over : ℕ) × OpensWithFrame bits frame over
 
   -- after so many flags, and with the flag behind the frame over after so many bits
@@ -137,7 +133,7 @@ module _ (bits : List Bool) where
   length-flags zero = refl
   length-flags (suc count) = omega (arith, length-append flag (flags count), length-flags count)
 
-  opens : Decided Opens
+  pub opens : Decided Opens
   opens =
       told to from (some_below (length bits + 1) (λ over. (count : ℕ) × (count < length bits + 1) × OpensAt over count)
       (λ over. some_below (length bits + 1) (OpensAt over) (opens_at over)))
@@ -190,7 +186,7 @@ module _ (bits : List Bool) where
           )
 
 -- a word is a codeword of a tag
-codeword : (tag : ℕ) (word : List ℕ) → Decided (IsBlockCodeword tag word)
+pub codeword : (tag : ℕ) (word : List ℕ) → Decided (IsBlockCodeword tag word)
 codeword tag word =
     told (λ h j least most. h j most least) (λ h j most least. h j least most)
     (all_below (1 + check_count tag) (λ j. 1 ≤ j → value_at j whole ≡ 0) at)
@@ -209,128 +205,3 @@ codeword tag word =
         | inr below ↦ inl (λ least. absurd (omega arith))
       ]
     ]
-
--- bits carry a frame
-module _ (tag : ℕ) (bits : List Bool) where
-  abbrev Carries : Type 0
-  Carries = (frame : List ℕ) × (over : ℕ) × CarriesFrame tag bits frame over
-
-  -- a word near enough to a codeword that opens with a frame
-  abbrev Repairs : List ℕ → Type 0
-  Repairs word = SomeOctets (block_length tag) (λ right. IsBlockCodeword tag right
-      × ((2 * distance word right ≤ check_count tag) × Opens (sent_bits (take (data_count tag) right))))
-
-  carries : Decided Carries
-  carries =
-      told to from (some_octets (block_length tag) (λ word. (bits ≡ sent_bits word) × Repairs word)
-      (λ word. both (same_bits bits (sent_bits word)) (some_octets (block_length tag)
-      (λ right. IsBlockCodeword tag right
-      × ((2 * distance word right ≤ check_count tag) × Opens (sent_bits (take (data_count tag) right))))
-      (λ right. both (codeword tag right) (both (at_most (2 * distance word right) (check_count tag))
-      (opens (sent_bits (take (data_count tag) right))))))))
-    where
-      to : SomeOctets (block_length tag) (λ word. (bits ≡ sent_bits word) × Repairs word) → Carries
-      to (word, size, fit, (is, (right, right_size, right_fit, (is_right, (near, (frame, over, opening)))))) = (
-        frame,
-        over,
-        record {
-          word = word;
-          codeword = right;
-          bits_are = is;
-          octets = fit;
-          size = size;
-          repair = record {
-            size = right_size ∙ sym size;
-            octets = right_fit;
-            is_codeword = is_right;
-            near = near;
-          };
-          opens = opening;
-        },
-      )
-
-      from : Carries → SomeOctets (block_length tag) (λ word. (bits ≡ sent_bits word) × Repairs word)
-      from (frame, over, c) =
-          let r = c.repair in (
-            c.word,
-            c.size,
-            c.octets,
-            (
-              c.bits_are,
-              (
-                c.codeword,
-                r.size ∙ c.size,
-                r.octets,
-                (
-                  r.is_codeword,
-                  (
-                    r.near,
-                    (frame, over, c.opens),
-                  ),
-                ),
-              ),
-            ),
-          )
-
--- A block of a tag ends with the last bit, or none does.
-module _ (tag : ℕ) (is_tag : IsTag tag) (bits : List Bool) where
-  abbrev start : ℕ
-  start = length bits - 8 * block_length tag
-
-  abbrev heard : List Bool
-  heard = drop (start - 64) (take start bits)
-
-  abbrev Ends : Type 0
-  Ends = (frame : List ℕ) × (over : ℕ) × EndsBlock bits tag frame over
-
-  abbrev Parts : Type 0
-  Parts = (64 + 8 * block_length tag ≤ length bits)
-      × ((differing heard (tag_bits tag) ≤ 12) × Carries tag (drop start bits))
-
-  pub block_or_none : Ends ⊎ (Ends → ⊥)
-  block_or_none =
-      told to from (both (at_most (64 + 8 * block_length tag) (length bits))
-      (both (at_most (differing heard (tag_bits tag)) 12) (carries tag (drop start bits))))
-    where
-      to : Parts → Ends
-      to (least, (near, (frame, over, carried))) =
-          let i : ℕ = length bits - 8 * block_length tag in
-          let front = take i bits in
-          let taken = length-take i bits in
-          let dropped = length-drop (i - 64) front in (
-            frame,
-            over,
-            record {
-              before = take (i - 64) front;
-              heard = drop (i - 64) front;
-              block = drop i bits;
-              is_tag = is_tag;
-              bits_are = sym (take-append-drop i bits)
-                  ∙ ap (λ xs. xs ++ drop i bits) (sym (take-append-drop (i - 64) front))
-                  ∙ append_assoc (take (i - 64) front) (drop (i - 64) front) (drop i bits);
-              near_tag = record { size = omega arith; near = near };
-              carries = carried;
-            },
-          )
-
-      from : Ends → Parts
-      from (frame, over, ends) =
-          let i : ℕ = length bits - 8 * block_length tag in
-          let front = ends.before ++ ends.heard in
-          let block_size : length ends.block ≡ 8 * block_length tag = ap length ends.carries.bits_are
-          ∙ length-sent_bits ends.carries.word ∙ ap (λ n. 8 * n) ends.carries.size in
-          let whole : bits ≡ front ++ ends.block = ends.bits_are
-          ∙ sym (append_assoc ends.before ends.heard ends.block) in
-          let all = ap length whole ∙ length-append front ends.block in
-          let parts = length-append ends.before ends.heard in
-          let tag_size = ends.near_tag.size in
-          let first : take i bits ≡ front = ap (take i) whole ∙ take_at front ends.block i (omega arith) in
-          let last : drop i bits ≡ ends.block = ap (drop i) whole ∙ drop_at front ends.block i (omega arith) in
-          let tag_is : drop (i - 64) (take i bits) ≡ ends.heard = ap (drop (i - 64)) first
-          ∙ drop_at ends.before ends.heard (i - 64) (omega arith) in (
-            omega arith,
-            (
-              subst (λ xs. differing xs (tag_bits tag) ≤ 12) (sym tag_is) ends.near_tag.near,
-              (frame, over, subst (λ xs. CarriesFrame tag xs frame over) (sym last) ends.carries),
-            ),
-          )

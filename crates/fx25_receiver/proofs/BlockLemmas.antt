@@ -1,5 +1,5 @@
 -- Stretch after stretch of a piece, window after window, and a block as two pieces.
-use Rattle.fx25_receiver.proofs.Common.{◌≡◌, ℕ, ◌+◌, ◌-◌, ◌<◌, ◌≤◌, ℤ, List, [], ◌++◌, length, take, drop, ap, sym}
+use Rattle.fx25_receiver.proofs.Common.{◌≡◌, ℕ, ◌+◌, ◌-◌, ◌<◌, ◌≤◌, ℤ, List, ◌++◌, length, take, drop, ap, sym}
 use Rattle.fx25_receiver.proofs.Common.{◌∙◌, subst, arith, append-nil, append_assoc, take_all, refl, Heard, HasTaken}
 use Rattle.std.proofs.Common.{length-drop}
 use Rattle.std.proofs.Math.Seq.{take-add}

@@ -1,7 +1,7 @@
 -- When a block is coming in, by the lanes one after another.
 use Rattle.fx25_receiver.proofs.Common.{◌≡◌, ℕ, ◌+◌, ◌<◌, ℤ, List, Bool, true, false, length, get_or, sym, ◌∙◌, arith}
 use Rattle.fx25_receiver.proofs.Common.{subst, inl, inr, refl, cases_lt, true≢false, Tone, bits_of, bits, tones_at}
-use Rattle.fx25_receiver.proofs.Common.{HeldLane, LaneStandsFor, LanesStandFor}
+use Rattle.fx25_receiver.proofs.Common.{HeldLane, LaneHasTaken, LaneStandsFor, LanesStandFor}
 use Rattle.std.proofs.Common.{◌↔◌, IsTrue}
 use Rattle.fx25_blocks.specs.Coming.{IsBlockComing}
 use Rattle.fx25_receiver.specs.Coming.{HearsBlock}
@@ -13,7 +13,7 @@ module _ (lanes : List HeldLane) (index : ℕ) (lane : HeldLane) (coming : Bool)
   lane_tells : IsTrue coming ↔ IsBlockComing (bits index x)
   unfolding bits
   lane_tells = tells (tones_at index x)
-      (subst (λ t. LaneStandsFor t (tones_at index x)) (sym is) (stand index lane within))
+      (subst (λ t. LaneHasTaken t index x) (sym is) (stand index lane within)).stands
 
   -- a lane in which one comes
   pub comes_there : coming ≡ true → IsTrue true ↔ HearsBlock x

@@ -1,10 +1,13 @@
 -- The names that most proofs of this crate cite, passed on from one place.
 pub use Rattle.fx25_blocks.specs.BlockEnds.{EndsBlock}
+pub use Rattle.fx25_blocks.specs.UnsureBlocks.{EndsUnsureBlock}
 pub use Rattle.fx25_blocks.specs.Tags.{IsTag, block_length}
 unfoldable pub use Rattle.fx25_blocks.specs.Tags.{check_count, data_count}
 pub use Rattle.fx25_receiver.specs.Heard.{AreHeard, EndsInBlock, EndsPlainly, EndsWithBits, IsHeard, standing}
-pub use Rattle.fx25_receiver.specs.Hearing.{AreHeardBelow, HasTakenBelow, IsAt, IsBelow}
-pub use Rattle.fx25_receiver.specs.Held.{HasHeard, HasTaken, HeldLane, Keeps, LaneStandsFor, LanesStandFor, not_past}
+unfoldable pub use Rattle.fx25_receiver.specs.Certainty.{certainties}
+pub use Rattle.fx25_receiver.specs.Hearing.{AreHeardBelow, EndsLast, HasTakenBelow, IsAt, IsBelow}
+pub use Rattle.fx25_receiver.specs.Held.{HasHeard, HasTaken, HeldLane, IsFresh, Keeps, LaneHasTaken, LaneStandsFor, LanesStandFor, not_past}
+pub use Rattle.fx25_receiver.specs.Known.{KnowsNumbers}
 pub use Rattle.fx25_receiver.specs.Merged.{AreMerged, merged, merged_after, reach, repeats}
 pub use Rattle.fx25_receiver.specs.declared.heard.Heard.{Heard}
 pub use Rattle.fx25_receiver.specs.declared.hearing.Place.{Place}

@@ -3,15 +3,14 @@ use Rattle.fx25_receiver.proofs.Common.{◌≡◌, ℕ, zero, suc, ◌+◌, ◌-
 use Rattle.fx25_receiver.proofs.Common.{List, [], ◌∷◌, ◌++◌, length, get_or, take, drop, refl, ap, sym, ◌∙◌, subst, arith}
 use Rattle.fx25_receiver.proofs.Common.{check_count, ◌≢◌, get_or-append-add, get_or_append_left}
 use Rattle.fx25_receiver.proofs.Common.{inl, inr, cases_lt, All, All-cons, All-nil, append_assoc, length-append, Tone}
-use Rattle.fx25_receiver.proofs.Common.{bits, bits_of, tones_at, length-bits, windows_in, sent_bits, IsTag, block_length}
-use Rattle.std.specs.List.{range_with_len}
-use Rattle.std.proofs.Common.{map, ◌^◌, pos}
+use Rattle.fx25_receiver.proofs.Common.{bits, tones_at, length-bits, windows_in, sent_bits, IsTag, block_length}
+use Rattle.std.proofs.Common.{◌^◌, pos}
 use Rattle.std.proofs.lemmas.Bool.{eq-eqb, ne_eqb}
 use Rattle.reed_solomon.specs.Distance.{distance}
 use Rattle.fx25_blocks.proofs.DamageLemmas.{few_octets}
 use Rattle.fx25_blocks.proofs.TagFacts.{even_checks}
-use Rattle.std.proofs.lemmas.List.{drop_at, ext_get_or, get_or-drop, get_or-take, length-drop, length-take}
-use Rattle.std.proofs.lemmas.List.{take-append-drop, take_at}
+use Rattle.std.proofs.lemmas.List.{ext_get_or, get_or-drop, get_or-take, length-drop, length-take}
+use Rattle.std.proofs.lemmas.List.{take-append-drop}
 use Rattle.std.proofs.lemmas.List.FromFn.{get_or-map-range_with_len}
 use Rattle.nrzi_bits.specs.Line.{bits_from, same_tone}
 use Rattle.tone_table.specs.declared.tone.Tone.TheVariants.{Mark}

@@ -1,11 +1,13 @@
 -- What is heard of samples, with one sample more.
-use Rattle.fx25_receiver.proofs.Common.{◌≡◌, ℕ, ◌+◌, ◌*◌, ◌<◌, ◌≤◌, ◌⊎◌, ℤ, List, [], ◌∷◌, ◌++◌, length, get_or, take}
+use Rattle.fx25_receiver.proofs.Common.{Bool}
+use Rattle.fx25_receiver.proofs.Common.{◌≡◌, ℕ, ◌+◌, ◌<◌, ◌≤◌, ℤ, List, [], ◌∷◌, ◌++◌, length, get_or, take}
 use Rattle.fx25_receiver.proofs.Common.{ap}
-use Rattle.fx25_receiver.proofs.Common.{sym, ◌∙◌, subst, arith, inl, inr, All, AllPairs, Contains, All-append, All-cons}
-use Rattle.fx25_receiver.proofs.Common.{All-nil, All-weaker, cases_lt, Contains-append_left, Contains-append_right}
-use Rattle.fx25_receiver.proofs.Common.{get_or-append-add, get_or_append_left, length-append, length_push, take_all}
+use Rattle.fx25_receiver.proofs.Common.{sym, ◌∙◌, subst, arith, inl, inr, AllPairs, All-append, All-cons}
+use Rattle.fx25_receiver.proofs.Common.{All-nil, cases_lt, Contains-append_left, Contains-append_right}
+use Rattle.fx25_receiver.proofs.Common.{get_or-append-add, get_or_append_left, length_push, take_all}
 use Rattle.fx25_receiver.proofs.Common.{bits, bits-append, length-bits, windows_in, Heard, AreHeard, AreHeardBelow}
-use Rattle.fx25_receiver.proofs.Common.{EndsWithBits, IsAt, IsBelow, IsHeard, Place, standing}
+use Rattle.fx25_receiver.proofs.Common.{certainties, EndsLast, EndsWithBits, IsAt, IsBelow, IsHeard, Place, standing}
+use Rattle.fx25_receiver.proofs.CertaintyLemmas.{certainties-append, length-certainties}
 use Rattle.offset_slicers.proofs.TonesOfWindows.{first_of}
 
 -- an item ends within the samples
@@ -25,6 +27,20 @@ first_bits : (lane : ℕ) (x y : List ℤ) (index : ℕ) → index < length (bit
 first_bits lane x y index =
     first_of (bits lane x) (bits lane (x ++ y)) (windows_in lane (length x)) index (bits-append lane x y)
 
+-- and their numbers
+first_numbers : (lane : ℕ) (x y : List ℤ) (index : ℕ) → index < length (bits lane x)
+    → take (index + 1) (certainties lane (x ++ y)) ≡ take (index + 1) (certainties lane x)
+first_numbers lane x y index within =
+    let as_many = length-bits lane x ∙ sym (length-certainties lane x) in
+    (first_of (certainties lane x) (certainties lane (x ++ y)) (windows_in lane (length x)) index
+    (certainties-append lane x y) (omega arith)).1
+
+-- what ends with some bits and numbers ends with those that are the same
+pub ends_alike : (a b : List Bool) (m n : List ℕ) (item : Heard) → a ≡ b → m ≡ n → EndsWithBits a m item
+    → EndsWithBits b n item
+ends_alike a b m n item bits_same numbers_same ends =
+    subst (λ bs. EndsWithBits bs n item) bits_same (subst (λ ns. EndsWithBits a ns item) numbers_same ends)
+
 -- an item of the first samples is one of them all
 pub heard_more : (x y : List ℤ) (item : Heard) → IsHeard x item → IsHeard (x ++ y) item
 heard_more x y item h =
@@ -35,7 +51,8 @@ heard_more x y item h =
       ends = record {
         within = first.0;
         end_of = h.ends.end_of;
-        ends = subst (λ b. EndsWithBits b item) (sym first.1) h.ends.ends;
+        ends = ends_alike _ _ _ _ item (sym first.1) (sym (first_numbers item.lane x y h.index h.ends.within))
+            h.ends.ends;
       };
     }
 
@@ -51,19 +68,22 @@ heard_less x y item h e =
       ends = record {
         within = within;
         end_of = h.ends.end_of;
-        ends = subst (λ b. EndsWithBits b item) (first_bits item.lane x y h.index within).1 h.ends.ends;
+        ends = ends_alike _ _ _ _ item (first_bits item.lane x y h.index within).1
+            (first_numbers item.lane x y h.index within) h.ends.ends;
       };
     }
 
 -- what ends with the last of the samples ends with the last of its lane's bits
 ends_with_last : (x : List ℤ) (item : Heard) → IsHeard x item → item.end ≡ length x
-    → EndsWithBits (bits item.lane x) item
+    → EndsLast item.lane x item
 ends_with_last x item h e =
     let n = length-bits item.lane x in
     let end = h.ends.end_of in
     let all : take (h.index + 1) (bits item.lane x) ≡ bits item.lane x =
     take_all (h.index + 1) (bits item.lane x) (omega arith) in
-    subst (λ b. EndsWithBits b item) all h.ends.ends
+    let numbers : take (h.index + 1) (certainties item.lane x) ≡ certainties item.lane x =
+    take_all (h.index + 1) (certainties item.lane x) (omega (arith, length-certainties item.lane x)) in
+    ends_alike _ _ _ _ item all numbers h.ends.ends
 
 module _ (place : Place) (x : List ℤ) (at : IsAt place x) where
   -- only one lane has a bit that ends with the last of the samples
@@ -75,13 +95,12 @@ module _ (place : Place) (x : List ℤ) (at : IsAt place x) where
       let window = at.window.1 in
       omega arith
 
-  pub ends_there : (item : Heard) → IsHeard x item → item.end ≡ length x → EndsWithBits (bits place.offset x) item
-  ends_there item h e =
-      subst (λ lane. EndsWithBits (bits lane x) item) (same_lane item h e) (ends_with_last x item h e)
+  pub ends_there : (item : Heard) → IsHeard x item → item.end ≡ length x → EndsLast place.offset x item
+  ends_there item h e = subst (λ lane. EndsLast lane x item) (same_lane item h e) (ends_with_last x item h e)
 
   -- and what ends with that bit is heard
   pub heard_there : (item : Heard) → item.lane ≡ place.offset → item.end ≡ place.end
-      → EndsWithBits (bits place.offset x) item → IsHeard x item
+      → EndsLast place.offset x item → IsHeard x item
   heard_there item lane end ends =
       let n = length-bits item.lane x in
       let small = at.offset in
@@ -89,19 +108,22 @@ module _ (place : Place) (x : List ℤ) (at : IsAt place x) where
       let size = at.end_is in
       let all : take (at.window.0 + 1) (bits item.lane x) ≡ bits item.lane x =
       take_all (at.window.0 + 1) (bits item.lane x) (omega arith) in
+      let numbers : take (at.window.0 + 1) (certainties item.lane x) ≡ certainties item.lane x =
+      take_all (at.window.0 + 1) (certainties item.lane x) (omega (arith, length-certainties item.lane x)) in
       record {
         lane = omega arith;
         index = at.window.0;
         ends = record {
           within = omega arith;
           end_of = omega arith;
-          ends = subst (λ b. EndsWithBits b item) (ap (λ lane. bits lane x) (sym lane) ∙ sym all) ends;
+          ends = ends_alike _ _ _ _ item (sym all) (sym numbers)
+              (subst (λ l. EndsLast l x item) (sym lane) ends);
         };
       }
 
   -- nothing with the next tag ends there
   pub none_there : (tag : ℕ) (items : List Heard) → AreHeardBelow tag x items
-      → ((item : Heard) → EndsWithBits (bits place.offset x) item → item.tag ≡ tag → ⊥)
+      → ((item : Heard) → EndsLast place.offset x item → item.tag ≡ tag → ⊥)
       → AreHeardBelow (tag + 1) x items
   none_there tag items are none = record {
     each = λ k d l. let each = are.each k d l in (each.0, wider (get_or items k d) each.1);
@@ -126,9 +148,9 @@ module _ (place : Place) (x : List ℤ) (at : IsAt place x) where
 
   -- one does
   pub one_there : (items : List Heard) (item : Heard) → AreHeardBelow item.tag x items → item.lane ≡ place.offset
-      → item.end ≡ place.end → EndsWithBits (bits place.offset x) item
+      → item.end ≡ place.end → EndsLast place.offset x item
       → ((other : Heard) → other.lane ≡ item.lane → other.end ≡ item.end → other.tag ≡ item.tag
-      → EndsWithBits (bits place.offset x) other → item ≡ other)
+      → EndsLast place.offset x other → item ≡ other)
       → AreHeardBelow (item.tag + 1) x (items ++ item ∷ [])
   one_there items item are lane end ends only =
       let P : Heard → Type 0 = λ i. IsHeard x i × IsBelow (item.tag + 1) x i in

@@ -1,14 +1,14 @@
 -- Samples have one list of what is heard of them: it strictly rises, and it is found sample by sample and tag by tag.
-use Rattle.fx25_receiver.proofs.Common.{◌≡◌, ℕ, zero, suc, ◌+◌, ◌-◌, ◌*◌, ◌/◌, ◌%◌, ◌<◌, ◌≤◌, ℤ, Bool, List, [], ◌∷◌}
+use Rattle.fx25_receiver.proofs.Common.{◌≡◌, ℕ, zero, suc, ◌+◌, ◌-◌, ◌*◌, ◌%◌, ◌<◌, ◌≤◌, ℤ, Bool, List, [], ◌∷◌}
 use Rattle.fx25_receiver.proofs.Common.{◌++◌, length, get_or, ap, sym, ◌∙◌, subst, refl, arith, inl, inr, cases_lt}
 use Rattle.fx25_receiver.proofs.Common.{append-nil, append_assoc, length_push, length-bits, bits, AllPairs, Contains}
 use Rattle.fx25_receiver.proofs.Common.{All, All-append, All-cons, All-nil, All-weaker}
-use Rattle.fx25_receiver.proofs.Common.{AreHeard, AreHeardBelow, EndsBlock, Heard, IsAt, IsTag, Place, block_length, standing}
+use Rattle.fx25_receiver.proofs.Common.{certainties, AreHeard, AreHeardBelow, EndsUnsureBlock, Heard, IsAt, IsTag, Place, block_length, standing}
 use Rattle.slicer_bank.proofs.FrameDecided.{frame_or_none}
-use Rattle.fx25_receiver.proofs.BlockDecided.{block_or_none}
+use Rattle.fx25_receiver.proofs.UnsureDecided.{unsure_block_or_none}
 use Rattle.fx25_receiver.proofs.HeardLemmas.{heard_early, heard_finish, heard_start, none_there, nothing_heard, one_there}
 use Rattle.fx25_receiver.proofs.LaneLemmas.{window_there}
-use Rattle.fx25_receiver.proofs.TakenLemmas.{block_bounds, only_in_block, only_plain}
+use Rattle.fx25_receiver.proofs.TakenLemmas.{only_in_block, only_plain, unsure_block_bounds}
 
 -- ---- one list
 
@@ -77,6 +77,9 @@ module _ (place : Place) (x : List ℤ) (at : IsAt place x) (items : List Heard)
   there : List Bool
   there = bits place.offset x
 
+  numbers : List ℕ
+  numbers = certainties place.offset x
+
   add_one : (tag : ℕ) (more : List Heard) (item : Heard) → item.end ≡ length x → EndAt (length x) more
       → AreHeardBelow tag x ((items ++ more) ++ item ∷ []) → Taken tag
   add_one tag more item end ends are = (
@@ -87,7 +90,7 @@ module _ (place : Place) (x : List ℤ) (at : IsAt place x) (items : List Heard)
   )
 
   with_plain : AreHeardBelow 0 x (items ++ []) → Taken 1
-  unfolding there
+  unfolding there numbers
   with_plain are = elim (frame_or_none there) [
     | inr none ↦ (
       [],
@@ -111,19 +114,24 @@ module _ (place : Place) (x : List ℤ) (at : IsAt place x) (items : List Heard)
   ]
 
   with_block : (tag : ℕ) → IsTag tag → Taken tag → Taken (tag + 1)
-  unfolding there
-  with_block tag is_tag (more, are, ends_all) = elim (block_or_none tag is_tag there) [
+  unfolding there numbers
+  with_block tag is_tag (more, are, ends_all) = elim (unsure_block_or_none tag is_tag there numbers) [
     | inr none ↦ (
       more,
       none_there place x at tag (items ++ more) are (λ item ends same. elim ends [
         | inl plain ↦ let zero_of = plain.0 in let least = is_tag.0 in absurd (omega arith)
-        | inr block ↦ none (item.octets, block.0, subst (λ t. EndsBlock there t item.octets block.0) same block.1)
+        | inr block ↦ none (
+          item.octets,
+          block.0,
+          subst (λ t. EndsUnsureBlock there numbers t item.octets block.0)
+              same block.1,
+        )
       ]),
       ends_all,
     )
     | inl block ↦
         let over = block.1 in
-        let bounds = block_bounds there tag block.0 over block.2 in
+        let bounds = unsure_block_bounds there numbers tag block.0 over block.2 in
         let count = length-bits place.offset x in
         let size = at.end_is in
         let least = bounds.0 in

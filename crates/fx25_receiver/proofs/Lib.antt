@@ -1,5 +1,7 @@
 pub mod Common
 pub mod RestingLemmas
+pub mod KnownLemmas
+pub mod CertaintyLemmas
 pub mod QuietLemmas
 pub mod AheadLemmas
 pub mod MergingLemmas
@@ -12,6 +14,7 @@ pub mod HearingLemmas
 pub mod BlockLemmas
 pub mod StepLemmas
 pub mod BlockDecided
+pub mod UnsureDecided
 pub mod HeardLists
 pub mod MergedLists
 pub mod WithoutBlocks

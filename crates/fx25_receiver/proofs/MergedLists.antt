@@ -1,8 +1,8 @@
 -- What is merged of samples: there is one list of it, its ends do not fall, and more samples only add to it.
-use Rattle.fx25_receiver.proofs.Common.{◌≡◌, ℕ, ◌+◌, ◌<◌, ◌≤◌, ℤ, List, [], ◌∷◌, ◌++◌, true, false, length, get_or, ap}
-use Rattle.fx25_receiver.proofs.Common.{sym, ◌∙◌, subst, refl, arith, inl, inr, cases_eq, All, All-append, All-cons}
+use Rattle.fx25_receiver.proofs.Common.{◌≡◌, ℕ, ◌<◌, ◌≤◌, ℤ, List, [], ◌∷◌, ◌++◌, true, false, length, get_or, ap}
+use Rattle.fx25_receiver.proofs.Common.{sym, ◌∙◌, subst, refl, arith, inl, inr, cases_eq, All, All-cons}
 use Rattle.fx25_receiver.proofs.Common.{All-head, All-nil, All-tail, All-weaker, AreHeard, AreMerged, Heard, IsHeard}
-use Rattle.fx25_receiver.proofs.Common.{list_any, if◌then◌else◌, merged, merged_after, repeats, standing}
+use Rattle.fx25_receiver.proofs.Common.{list_any, if◌then◌else◌, merged, merged_after, repeats}
 use Rattle.std.specs.List.Sorted.{IsNonDecreasingBy}
 use Rattle.frame_merge.proofs.Ordering.{rising_cons, rising_head, rising_tail}
 use Rattle.fx25_receiver.proofs.HeardLemmas.{end_within, nothing_heard, tag_below}

@@ -3,7 +3,7 @@ use Rattle.fx25_receiver.proofs.Common.{◌≡◌, ℕ, ◌+◌, ◌<◌, ◌≤
 use Rattle.std.specs.Str.{bytes_eq}
 use Rattle.fx25_receiver.proofs.Common.{arith, cond, ◌&&◌, ◌||◌, refl, and-false, append-nil, append_snoc, le-leb}
 use Rattle.fx25_receiver.proofs.Common.{lt-leb}
-use Rattle.fx25_receiver.proofs.Common.{cases_lt, inl, inr, filter, filter-append, list_any, nat_le, if◌then◌else◌}
+use Rattle.fx25_receiver.proofs.Common.{cases_lt, inl, inr, filter-append, list_any, nat_le, if◌then◌else◌}
 use Rattle.fx25_receiver.proofs.Common.{Heard, Keeps, not_past, merged, merged_after, reach, repeats}
 
 -- merging goes along a list: what comes later is compared with all that came before

@@ -1,9 +1,9 @@
 -- Bits with which nothing ends, while a reader of blocks rests.
 use Rattle.fx25_receiver.proofs.Common.{◌≡◌, ℕ, zero, suc, ◌+◌, ◌*◌, ◌/◌, ◌<◌, ◌≤◌, Bool, false, List, [], ◌∷◌, ◌++◌}
 use Rattle.fx25_receiver.proofs.Common.{length, take, drop, replicate, ap, refl, sym, subst, ◌∙◌, arith, inl, inr}
-use Rattle.fx25_receiver.proofs.Common.{append_assoc, cases_lt, get_or, IsTag, EndsWithBits, Heard}
+use Rattle.fx25_receiver.proofs.Common.{append_assoc, cases_lt, IsTag}
 use Rattle.fx25_receiver.proofs.Common.{◌-◌, true, sent_bits, length-append, EndsFrame}
-use Rattle.fx25_receiver.proofs.Common.{◌%◌, length_push, EndsBlock}
+use Rattle.fx25_receiver.proofs.Common.{◌%◌, length_push, EndsUnsureBlock}
 use Rattle.std.proofs.Common.{◌^◌, ◌↔◌, bit_and, eqb, fold, None, Option, Some, pow-suc}
 use Rattle.std.proofs.Math.Nat.{div-div-eq-div-mul}
 use Rattle.std.proofs.lemmas.List.{drop-append-le, drop-drop, length-drop, take-append-drop}
@@ -26,7 +26,7 @@ use Rattle.fx25_blocks.proofs.ReaderLemmas.{register_push}
 use Rattle.fx25_receiver.specs.Ahead.{NoBlockEnds}
 use Rattle.fx25_receiver.specs.Resting.{IsLast64, RestsAt}
 use Rattle.fx25_receiver.specs.declared.resting_reader.RestingReader.{RestingReader}
-use Rattle.fx25_receiver.proofs.RestingLemmas.{awake_for_block, no_tag, taken_resting}
+use Rattle.fx25_receiver.proofs.RestingLemmas.{awake_for_unsure, no_tag, taken_resting}
 
 -- the bits of a number past so many
 drop-low_bits : (k m total n : ℕ) → total ≡ k + m → drop k (low_bits total n) ≡ low_bits m (n / 2 ^ k)
@@ -167,14 +167,14 @@ far_more reader register next near place octet b below shifted none near_is so_f
     subst (RestsAt next reader) (one_bit_on b octet place)
     (no_tag now (bits ++ bit ∷ []) near none near_is (taken_resting was next bits bit refl shifted so_far.0)) in (
       stands,
-      λ k tag frame over within ends. elim (cases_lt k place) [
-        | inl before ↦ so_far.1 k tag frame over before ends
+      λ k tag numbers frame over within ends. elim (cases_lt k place) [
+        | inl before ↦ so_far.1 k tag numbers frame over before ends
         | inr past ↦
             let same : k ≡ place = omega arith in
             let first : take (k + 1) (octet_bits octet) ≡ low_bits (place + 1) octet =
             ap (λ n. take (n + 1) (octet_bits octet)) same ∙ sym (first_of_octet octet place below) in
-            let awake : 0 < 0 = awake_for_block now (b ++ low_bits (place + 1) octet) stands tag frame over
-            (subst (λ xs. EndsBlock (b ++ xs) tag frame over) first ends) in
+            let awake : 0 < 0 = awake_for_unsure now (b ++ low_bits (place + 1) octet) stands numbers tag frame over
+            (subst (λ xs. EndsUnsureBlock (b ++ xs) numbers tag frame over) first ends) in
             absurd (omega arith)
       ],
     )

@@ -1,7 +1,7 @@
 -- What a reader that rests has read after one bit more, and that it misses no block.
 use Rattle.fx25_receiver.proofs.Common.{◌≡◌, ℕ, ◌+◌, ◌*◌, ◌<◌, ◌≤◌, Bool, List, [], ◌∷◌, ◌++◌, length, take, drop, ap}
 use Rattle.fx25_receiver.proofs.Common.{refl, sym, subst, ◌∙◌, arith, inl, inr, cases_eq, cases_lt, append_assoc}
-use Rattle.fx25_receiver.proofs.Common.{length-append, length_push, take_all, IsTag, block_length, EndsBlock}
+use Rattle.fx25_receiver.proofs.Common.{length-append, length_push, take_all, IsTag, block_length}
 use Rattle.std.proofs.Common.{◌-◌, ◌↔◌}
 use Rattle.std.proofs.lemmas.List.{drop-append-le, length-take, take-append-drop, take-append-le, take_at}
 use Rattle.fx25_blocks.proofs.ReaderLemmas.{last_64, register_push, tag_told}
@@ -12,8 +12,10 @@ unfoldable use Rattle.fx25_blocks.specs.Held.{after_zeros}
 use Rattle.fx25_blocks.specs.NearTag.{EndsTag, IsNearTag}
 use Rattle.fx25_blocks.specs.Tags.{differing, tag_bits}
 unfoldable use Rattle.fx25_blocks.specs.Tags.{bits_of_64}
+use Rattle.fx25_blocks.specs.UnsureBlocks.{AreOctetCertainties, EndsUnsureBlock, block_numbers}
 use Rattle.fx25_blocks.specs.declared.block_reader.BlockReader.{BlockReader}
 use Rattle.hdlc_framer.proofs.BitLemmas.{length-sent_bits}
+use Rattle.hdlc_framer.specs.BitOrder.{sent_bits}
 use Rattle.fx25_receiver.specs.Resting.{AreOver, ReadsFrom, StandsButForTag, StandsFor, over_after}
 use Rattle.fx25_receiver.specs.declared.resting_reader.RestingReader.{RestingReader}
 
@@ -209,30 +211,43 @@ module _ (held : RestingReader) (bits : List Bool) (s : StandsFor held bits) whe
           | inr within ↦ ap (drop start) are ∙ drop-append-le start before (heard ++ rest) (omega arith)
         ]
 
-  few_in_block : (tag : ℕ) (frame : List ℕ) (over : ℕ) (ends : EndsBlock bits tag frame over)
-      → length ends.block < over_after
-  few_in_block tag frame over ends =
+  few_in_unsure : (numbers : List ℕ) (tag : ℕ) (frame : List ℕ) (over : ℕ)
+      (ends : EndsUnsureBlock bits numbers tag frame over) → length (sent_bits ends.word) < over_after
+  few_in_unsure numbers tag frame over ends =
       let most = most_octets tag ends.is_tag in
-      let size : length ends.block ≡ 8 * block_length tag = ap length ends.carries.bits_are
-      ∙ length-sent_bits ends.carries.word ∙ ap (λ n. 8 * n) ends.carries.size in
+      let size : length (sent_bits ends.word) ≡ 8 * block_length tag =
+      length-sent_bits ends.word ∙ ap (λ n. 8 * n) ends.size in
       omega arith
 
-  pub awake_for_block : (tag : ℕ) (frame : List ℕ) (over : ℕ) → EndsBlock bits tag frame over → 0 < held.awake
-  awake_for_block tag frame over ends =
-      awake_for ends.before ends.heard ends.block tag ends.is_tag ends.bits_are ends.near_tag
-      (few_in_block tag frame over ends)
+  pub awake_for_unsure : (numbers : List ℕ) (tag : ℕ) (frame : List ℕ) (over : ℕ)
+      → EndsUnsureBlock bits numbers tag frame over → 0 < held.awake
+  awake_for_unsure numbers tag frame over ends =
+      awake_for ends.before ends.heard (sent_bits ends.word) tag ends.is_tag ends.bits_are ends.near_tag
+      (few_in_unsure numbers tag frame over ends)
 
-  pub block_inside : (start tag : ℕ) (frame : List ℕ) (over : ℕ) → ReadsFrom start held.reader bits
-      → EndsBlock bits tag frame over → EndsBlock (drop start bits) tag frame over
-  block_inside start tag frame over reads ends = record {
+  -- the bits that the whole reader has taken end with the tag and the block
+  pub unsure_rest : (numbers : List ℕ) (start tag : ℕ) (frame : List ℕ) (over : ℕ) → ReadsFrom start held.reader bits
+      → (ends : EndsUnsureBlock bits numbers tag frame over)
+      → drop start bits ≡ drop start ends.before ++ (ends.heard ++ sent_bits ends.word)
+  unsure_rest numbers start tag frame over reads ends =
+      rest_of ends.before ends.heard (sent_bits ends.word) tag ends.is_tag ends.bits_are ends.near_tag
+      (few_in_unsure numbers tag frame over ends) start reads
+
+  pub unsure_inside : (numbers known : List ℕ) (start tag : ℕ) (frame : List ℕ) (over : ℕ)
+      → ReadsFrom start held.reader bits → block_numbers tag numbers ≡ block_numbers tag known
+      → EndsUnsureBlock bits numbers tag frame over → EndsUnsureBlock (drop start bits) known tag frame over
+  unsure_inside numbers known start tag frame over reads same ends = record {
     before = drop start ends.before;
     heard = ends.heard;
-    block = ends.block;
+    word = ends.word;
+    certainty = ends.certainty;
     is_tag = ends.is_tag;
-    bits_are = rest_of ends.before ends.heard ends.block tag ends.is_tag ends.bits_are ends.near_tag
-        (few_in_block tag frame over ends) start reads;
+    bits_are = unsure_rest numbers start tag frame over reads ends;
     near_tag = ends.near_tag;
-    carries = ends.carries;
+    octets = ends.octets;
+    size = ends.size;
+    certainties = subst (λ (ns : List ℕ). AreOctetCertainties ns ends.certainty) same ends.certainties;
+    reads = ends.reads;
   }
 
   sure_is_near : (tag : ℕ) (heard : List Bool) → IsSureTag tag heard → IsNearTag tag heard
@@ -270,16 +285,21 @@ whole_of start bits before rest are =
     sym (take-append-drop start bits) ∙ ap (λ xs. take start bits ++ xs) are
     ∙ sym (append_assoc (take start bits) before rest)
 
-pub block_outside : (start : ℕ) (bits : List Bool) (tag : ℕ) (frame : List ℕ) (over : ℕ)
-    → EndsBlock (drop start bits) tag frame over → EndsBlock bits tag frame over
-block_outside start bits tag frame over ends = record {
+pub unsure_outside : (numbers known : List ℕ) (start : ℕ) (bits : List Bool) (tag : ℕ) (frame : List ℕ) (over : ℕ)
+    → block_numbers tag known ≡ block_numbers tag numbers
+    → EndsUnsureBlock (drop start bits) known tag frame over → EndsUnsureBlock bits numbers tag frame over
+unsure_outside numbers known start bits tag frame over same ends = record {
   before = take start bits ++ ends.before;
   heard = ends.heard;
-  block = ends.block;
+  word = ends.word;
+  certainty = ends.certainty;
   is_tag = ends.is_tag;
-  bits_are = whole_of start bits ends.before (ends.heard ++ ends.block) ends.bits_are;
+  bits_are = whole_of start bits ends.before (ends.heard ++ sent_bits ends.word) ends.bits_are;
   near_tag = ends.near_tag;
-  carries = ends.carries;
+  octets = ends.octets;
+  size = ends.size;
+  certainties = subst (λ (ns : List ℕ). AreOctetCertainties ns ends.certainty) same ends.certainties;
+  reads = ends.reads;
 }
 
 pub coming_outside : (start : ℕ) (bits : List Bool) → IsBlockComing (drop start bits) → IsBlockComing bits

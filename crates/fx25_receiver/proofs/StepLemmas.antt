@@ -3,6 +3,9 @@ use Rattle.fx25_receiver.proofs.Common.{◌≡◌, ℕ, zero, suc, refl, ◌+◌
 use Rattle.fx25_receiver.proofs.Common.{ap, sym, ◌∙◌}
 use Rattle.fx25_receiver.proofs.Common.{subst, arith, length_push, bits, bits_of, tones_at, last_seven, HasTakenBelow}
 use Rattle.fx25_receiver.proofs.Common.{Heard, HeldLane}
+use Rattle.fx25_receiver.proofs.Common.{certainties, LaneHasTaken}
+use Rattle.fx25_receiver.specs.Certainty.{certainty}
+use Rattle.fx25_receiver.proofs.AheadLemmas.{LaneKnows}
 use Rattle.fx25_receiver.proofs.Common.{IsAt, IsHeard, LaneStandsFor, Place, Tone, Bool, true, false, false≢true}
 use Rattle.fx25_receiver.proofs.Common.{if◌then◌else◌}
 use Rattle.fx25_receiver.proofs.HeardLemmas.{end_within, heard_more, same_lane}
@@ -10,7 +13,7 @@ use Rattle.std.proofs.Common.{set}
 use Rattle.std.proofs.lemmas.List.{drop_all, drop_more, take-append-drop}
 use Rattle.offset_slicers.specs.Decision.{tone_of}
 use Rattle.fx25_receiver.specs.Ahead.{AreAhead}
-use Rattle.fx25_receiver.proofs.LaneLemmas.{bits_on, lanes_early, lanes_on, lanes_skip, tones_on, window_there}
+use Rattle.fx25_receiver.proofs.LaneLemmas.{bits_on, lanes_early, lanes_on, lanes_skip, numbers_on, tones_on, window_there}
 use Rattle.fx25_receiver.proofs.TakenLemmas.{taken_all, taken_early, taken_no_more, taken_start}
 
 -- the last of eight samples
@@ -81,18 +84,20 @@ module _ (lanes : List HeldLane) (position : ℕ) (kept : List Heard) (waiting :
       }
 
   -- and if it waits, it takes its tone
-  pub later_step : (place : Place) (tone : Tone) (d now : HeldLane) (now_kept now_given : List Heard) → 8 ≤ position + 1
+  pub later_step : (place : Place) (tone : Tone) (number : ℕ) (d now : HeldLane) (now_kept now_given : List Heard) → 8 ≤ position + 1
       → place.offset ≡ (position + 1) % 8 → place.end ≡ position + 1 → length lanes ≡ 8
       → get_or waiting place.offset true ≡ true
       → tone ≡ tone_of (last_seven x ++ sample ∷ [])
+      → number ≡ certainty (last_seven x ++ sample ∷ [])
       → ((tones : List Tone) → LaneStandsFor (get_or lanes place.offset d) tones → LaneStandsFor now
       (tones ++ tone ∷ []))
+      → ((numbers : List ℕ) → LaneKnows (get_or lanes place.offset d) numbers → LaneKnows now (numbers ++ number ∷ []))
       → (IsAt place all → LaneStandsFor (get_or lanes place.offset d) (tones_at place.offset x)
-      → LaneStandsFor now (tones_at place.offset all)
+      → LaneHasTaken now place.offset all
       → bits_of (tones_at place.offset x ++ tone ∷ []) ≡ bits place.offset all
       → HasTakenBelow 0 kept all given → HasTakenBelow 12 now_kept all now_given)
       → AreAhead (set lanes place.offset now) (position + 1) now_kept waiting all whole now_given
-  later_step place tone d now now_kept now_given enough offset end size waits decided pushed heard =
+  later_step place tone number d now now_kept now_given enough offset end size waits decided sure pushed noted heard =
       let count = after.count in
       let there : place.offset ≡ (length x + 1) % 8 = offset ∙ ap (λ n. (n + 1) % 8) count in
       let at : IsAt place all = record {
@@ -101,17 +106,20 @@ module _ (lanes : List HeldLane) (position : ℕ) (kept : List Heard) (waiting :
         end_is = omega (arith, length_push x sample);
       } in
       let tones = tones_on x sample place.offset tone there (omega arith) decided in
-      let was : LaneStandsFor (get_or lanes place.offset d) (tones_at place.offset x) =
-      subst (λ w. LaneStandsFor (get_or lanes place.offset d) (tones_at place.offset (if w then x else whole))) waits
+      let numbers = numbers_on x sample place.offset number there (omega arith) sure in
+      let was : LaneHasTaken (get_or lanes place.offset d) place.offset x =
+      subst (λ w. LaneHasTaken (get_or lanes place.offset d) place.offset (if w then x else whole)) waits
       (after.lanes_stand place.offset d at.offset) in
-      let stands : LaneStandsFor now (tones_at place.offset all) =
-      subst (LaneStandsFor now) tones (pushed (tones_at place.offset x) was) in
+      let taken : LaneHasTaken now place.offset all = record {
+        stands = subst (LaneStandsFor now) tones (pushed (tones_at place.offset x) was.stands);
+        knows = subst (LaneKnows now) numbers (noted (certainties place.offset x) was.knows);
+      } in
       record {
         count = omega (arith, length_push x sample);
         lanes_stand = lanes_on lanes waiting x whole sample place.offset now there (omega arith) size waits
-            after.lanes_stand stands;
+            after.lanes_stand taken;
         quiet = still_quiet;
         has_heard = taken_all now_kept now_given all
-            (heard at was stands (bits_on x sample place.offset tone tones)
+            (heard at was.stands taken (bits_on x sample place.offset tone tones)
             (taken_start kept given x sample after.has_heard));
       }

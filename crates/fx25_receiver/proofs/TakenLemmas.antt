@@ -2,8 +2,9 @@
 use Rattle.fx25_receiver.proofs.Common.{◌≡◌, ℕ, zero, suc, ◌+◌, ◌*◌, ◌<◌, ◌≤◌, ℤ, Bool, List, [], ◌∷◌, ◌++◌, length}
 use Rattle.fx25_receiver.proofs.Common.{take}
 use Rattle.fx25_receiver.proofs.Common.{ap, sym, ◌∙◌, subst, refl, arith, inl, inr, length-append, length_push, bits}
-use Rattle.fx25_receiver.proofs.Common.{length-bits, sent_bits, EndsBlock, EndsFrame, EndsWithBits, HasHeard, IsHeard}
-use Rattle.fx25_receiver.proofs.Common.{HasTakenBelow, Heard, IsAt, IsTag, Keeps, Place, block_length, data_count}
+use Rattle.fx25_receiver.proofs.Common.{certainties, length-bits, sent_bits, EndsBlock, EndsFrame, EndsLast, EndsUnsureBlock}
+use Rattle.fx25_receiver.proofs.Common.{◌⊎◌, EndsPlainly, EndsWithBits, HasHeard, IsHeard}
+use Rattle.fx25_receiver.proofs.Common.{HasTakenBelow, Heard, IsAt, Keeps, Place, block_length, data_count}
 use Rattle.fx25_receiver.proofs.Common.{merged}
 use Rattle.fx25_receiver.proofs.HeardLemmas.{heard_early, heard_finish, heard_no_more, heard_start, none_there, one_there}
 use Rattle.fx25_receiver.proofs.MergingLemmas.{keeps_on}
@@ -12,46 +13,62 @@ use Rattle.hdlc_framer.proofs.FrameEnds.{one_frame}
 use Rattle.hdlc_framer.specs.Body.{flags}
 use Rattle.hdlc_framer.specs.Frames.{frame_bits}
 use Rattle.hdlc_framer.specs.Stuffing.{flag}
-use Rattle.fx25_blocks.proofs.BlockLaws.{one_block}
+use Rattle.fx25_blocks.proofs.UnsureLaws.{near_unsure, one_unsure}
+use Rattle.fx25_receiver.proofs.CertaintyLemmas.{length-certainties}
+use Rattle.fx25_blocks.specs.BlockEnds.{OpensWithFrame}
 use Rattle.std.proofs.lemmas.List.{length-take}
 
 length-flags : (count : ℕ) → length (flags count) ≡ 8 * count
 length-flags zero = refl
 length-flags (suc count) = omega (arith, length-append flag (flags count), length-flags count)
 
--- a tag and its block are as many bits as they are, and the frame is over within the data
+-- a frame is over within the octets that it opens
+over_within : (octets : List ℕ) (frame : List ℕ) (over : ℕ) → OpensWithFrame (sent_bits octets) frame over
+    → over ≤ 8 * length octets
+over_within octets frame over o = omega (
+  arith,
+  o.over_is,
+  ap length o.bits_are,
+  length-append (flags o.flags_before) (flag ++ (frame_bits frame ++ (flag ++ o.rest))),
+  length-append flag (frame_bits frame ++ (flag ++ o.rest)),
+  length-append (frame_bits frame) (flag ++ o.rest),
+  length-append flag o.rest,
+  length-flags o.flags_before,
+  length-sent_bits octets,
+)
+
+-- a tag and its block are as many bits as they are
+tag_and_block_size : (bits before heard block : List Bool) (tag : ℕ) → bits ≡ before ++ (heard ++ block)
+    → length heard ≡ 64 → length block ≡ 8 * block_length tag → 64 + 8 * block_length tag ≤ length bits
+tag_and_block_size bits before heard block tag are tag_size size = omega (
+  arith,
+  ap length are,
+  length-append before (heard ++ block),
+  length-append heard block,
+  tag_size,
+  size,
+)
+
+-- and the frame is over within the data
 pub block_bounds : (bits : List Bool) (tag : ℕ) (frame : List ℕ) (over : ℕ) → EndsBlock bits tag frame over
     → (64 + 8 * block_length tag ≤ length bits) × (over ≤ 8 * block_length tag)
 block_bounds bits tag frame over ends =
     let c = ends.carries in
-    let o = c.opens in
-    let octets = take (data_count tag) c.codeword in
-    let size : length ends.block ≡ 8 * block_length tag =
-    ap length c.bits_are ∙ length-sent_bits c.word ∙ ap (λ n. 8 * n) c.size in
-    let all : length bits ≡ length ends.before + (64 + 8 * block_length tag) = omega (
-      arith,
-      ap length ends.bits_are,
-      length-append ends.before (ends.heard ++ ends.block),
-      length-append ends.heard ends.block,
-      ends.near_tag.size,
-      size,
-    ) in
-    let within : over ≤ length (sent_bits octets) = omega (
-      arith,
-      o.over_is,
-      ap length o.bits_are,
-      length-append (flags o.flags_before) (flag ++ (frame_bits frame ++ (flag ++ o.rest))),
-      length-append flag (frame_bits frame ++ (flag ++ o.rest)),
-      length-append (frame_bits frame) (flag ++ o.rest),
-      length-append flag o.rest,
-      length-flags o.flags_before,
-    ) in (
-      omega arith,
-      omega (
-        arith,
-        length-sent_bits octets,
-        length-take (data_count tag) c.codeword,
-      ),
+    let octets = take (data_count tag) c.codeword in (
+      tag_and_block_size bits ends.before ends.heard ends.block tag ends.bits_are ends.near_tag.size
+          (ap length c.bits_are ∙ length-sent_bits c.word ∙ ap (λ n. 8 * n) c.size),
+      omega (arith, over_within octets frame over c.opens, length-take (data_count tag) c.codeword),
+    )
+
+pub unsure_block_bounds : (bits : List Bool) (numbers : List ℕ) (tag : ℕ) (frame : List ℕ) (over : ℕ)
+    → EndsUnsureBlock bits numbers tag frame over
+    → (64 + 8 * block_length tag ≤ length bits) × (over ≤ 8 * block_length tag)
+unsure_block_bounds bits numbers tag frame over ends =
+    let c = ends.reads.carries in
+    let octets = take (data_count tag) c.codeword in (
+      tag_and_block_size bits ends.before ends.heard (sent_bits ends.word) tag ends.bits_are ends.near_tag.size
+          (length-sent_bits ends.word ∙ ap (λ n. 8 * n) ends.size),
+      omega (arith, over_within octets frame over c.opens, length-take (data_count tag) c.codeword),
     )
 
 pub same_item : (item other : Heard) → item.end ≡ other.end → item.lane ≡ other.lane → item.tag ≡ other.tag
@@ -67,9 +84,9 @@ module _ (place : Place) (x : List ℤ) (at : IsAt place x) where
   -- one item more was taken
   pub taken_one : (item : Heard) (kept now : List Heard) (given more : List Heard)
       → (taken : HasTakenBelow item.tag kept x given) → item.lane ≡ place.offset → item.end ≡ place.end
-      → EndsWithBits (bits place.offset x) item
+      → EndsLast place.offset x item
       → ((other : Heard) → other.lane ≡ item.lane → other.end ≡ item.end → other.tag ≡ item.tag
-      → EndsWithBits (bits place.offset x) other → item ≡ other)
+      → EndsLast place.offset x other → item ≡ other)
       → Keeps now (length x) (taken.heard ++ item ∷ []) → more ≡ merged (taken.heard ++ item ∷ [])
       → HasTakenBelow (item.tag + 1) now x more
   taken_one item kept now given more taken lane end ends only keeps is = record {
@@ -80,7 +97,7 @@ module _ (place : Place) (x : List ℤ) (at : IsAt place x) where
   }
 
   pub taken_none : (tag : ℕ) (kept given : List Heard) → HasTakenBelow tag kept x given
-      → ((item : Heard) → EndsWithBits (bits place.offset x) item → item.tag ≡ tag → ⊥)
+      → ((item : Heard) → EndsLast place.offset x item → item.tag ≡ tag → ⊥)
       → HasTakenBelow (tag + 1) kept x given
   taken_none tag kept given taken none = record {
     heard = taken.heard;
@@ -91,7 +108,8 @@ module _ (place : Place) (x : List ℤ) (at : IsAt place x) where
 
   -- if no block ends there, no tag adds an item
   pub taken_idle : (kept given : List Heard)
-      → ((tag : ℕ) → (frame : List ℕ) → (over : ℕ) → ¬ EndsBlock (bits place.offset x) tag frame over)
+      → ((tag : ℕ) → (frame : List ℕ) → (over : ℕ)
+      → ¬ EndsUnsureBlock (bits place.offset x) (certainties place.offset x) tag frame over)
       → HasTakenBelow 1 kept x given → HasTakenBelow 12 kept x given
   taken_idle kept given idle taken = up_to 11
     where
@@ -108,7 +126,7 @@ module _ (place : Place) (x : List ℤ) (at : IsAt place x) where
   -- no other frame came plainly
   pub only_plain : (item : Heard) → item.tag ≡ 0 → item.at ≡ item.end → EndsFrame (bits place.offset x) item.octets
       → (other : Heard) → other.lane ≡ item.lane → other.end ≡ item.end → other.tag ≡ item.tag
-      → EndsWithBits (bits place.offset x) other → item ≡ other
+      → EndsLast place.offset x other → item ≡ other
   only_plain item tag at_end ends other lane end same (inl plain) =
       same_item item other (sym end) (sym lane) (sym same)
       (one_frame (bits place.offset x) item.octets other.octets ends plain.2).0
@@ -117,20 +135,55 @@ module _ (place : Place) (x : List ℤ) (at : IsAt place x) where
       let is_tag = block.1.is_tag.0 in absurd (omega arith)
 
   -- no other frame came in a block of a tag
-  pub only_in_block : (item : Heard) (over : ℕ) → EndsBlock (bits place.offset x) item.tag item.octets over
+  pub only_in_block : (item : Heard) (over : ℕ)
+      → EndsUnsureBlock (bits place.offset x) (certainties place.offset x) item.tag item.octets over
       → item.at + 8 * (8 * block_length item.tag) ≡ item.end + 8 * over
       → (other : Heard) → other.lane ≡ item.lane → other.end ≡ item.end → other.tag ≡ item.tag
-      → EndsWithBits (bits place.offset x) other → item ≡ other
+      → EndsLast place.offset x other → item ≡ other
   only_in_block item over ends at_end other lane end same (inl plain) =
       let is_tag = ends.is_tag.0 in let none = plain.0 in absurd (omega arith)
   only_in_block item over ends at_end other lane end same (inr block) =
-      let there : EndsBlock (bits place.offset x) item.tag other.octets block.0 =
-      subst (λ tag. EndsBlock (bits place.offset x) tag other.octets block.0) same block.1 in
-      let one = one_block (bits place.offset x) item.tag item.octets other.octets over block.0 ends there in
+      let there : EndsUnsureBlock (bits place.offset x) (certainties place.offset x) item.tag other.octets block.0 =
+      subst (λ tag. EndsUnsureBlock (bits place.offset x) (certainties place.offset x) tag other.octets block.0) same
+      block.1 in
+      let one = one_unsure (bits place.offset x) (certainties place.offset x) item.tag item.octets other.octets over block.0
+      ends there in
       let lengths : block_length other.tag ≡ block_length item.tag = ap block_length same in
       let over_same = one.1 in
       let at_other = block.2 in
       same_item item other (sym end) (sym lane) (sym same) one.0 (omega arith)
+
+-- an item that ends with bits plainly, or in a block that is near enough to a codeword as it came
+abbrev pub EndsAsItCame : List Bool → Heard → Type 0
+EndsAsItCame bits item = EndsPlainly bits item ⊎ ((over : ℕ) × EndsBlock bits item.tag item.octets over
+    × (item.at + 8 * (8 * block_length item.tag) ≡ item.end + 8 * over))
+
+ends_too : (bits : List Bool) (numbers : List ℕ) (item : Heard) → length numbers ≡ length bits
+    → EndsAsItCame bits item → EndsWithBits bits numbers item
+ends_too bits numbers item size (inl plain) = inl plain
+ends_too bits numbers item size (inr (over, ends, placed)) =
+    let bounds = block_bounds bits item.tag item.octets over ends in
+    let least = bounds.0 in
+    inr (over, near_unsure bits numbers item.tag item.octets over (omega arith) ends, placed)
+
+-- is heard
+pub heard_as_it_came : (x : List ℤ) (item : Heard) (index : ℕ) → item.lane < 8 → index < length (bits item.lane x)
+    → item.end ≡ item.lane + 8 * (index + 1) → EndsAsItCame (take (index + 1) (bits item.lane x)) item → IsHeard x item
+heard_as_it_came x item index lane within end ends =
+    let there : List Bool = take (index + 1) (bits item.lane x) in
+    let numbers : List ℕ = take (index + 1) (certainties item.lane x) in
+    let size : length numbers ≡ length there = omega (
+      arith,
+      length-take (index + 1) (bits item.lane x),
+      length-take (index + 1) (certainties item.lane x),
+      length-bits item.lane x,
+      length-certainties item.lane x,
+    ) in
+    record {
+      lane = lane;
+      index = index;
+      ends = record { within = within; end_of = end; ends = ends_too there numbers item size ends };
+    }
 
 -- a bit at which nothing can end, and one at which all that could was taken
 pub taken_start : (kept given : List Heard) (x : List ℤ) (sample : ℤ) → HasHeard kept x given

@@ -1,6 +1,6 @@
 -- Samples in which no block ends are heard as by lanes that read no blocks, and merged as those merge.
-use Rattle.fx25_receiver.proofs.Common.{◌≡◌, ℕ, ◌+◌, ◌*◌, ◌<◌, ◌≤◌, Bool, true, false, ◌&&◌, ℤ, List, [], ◌∷◌, ◌++◌}
-use Rattle.fx25_receiver.proofs.Common.{length, map, get_or, refl, ap, sym, ◌∙◌, subst, arith, inl, inr, All, All-append}
+use Rattle.fx25_receiver.proofs.Common.{◌≡◌, ℕ, ◌+◌, ◌<◌, ◌≤◌, Bool, true, false, ◌&&◌, ℤ, List, [], ◌∷◌, ◌++◌}
+use Rattle.fx25_receiver.proofs.Common.{length, map, get_or, refl, ap, ◌∙◌, arith, inl, inr, All, All-append}
 use Rattle.fx25_receiver.proofs.Common.{All-cons, All-head, All-nil, All-tail, All-weaker, AreHeard, AreMerged, Heard, IsHeard}
 use Rattle.fx25_receiver.proofs.Common.{list_any, nat_le, ◌||◌, if◌then◌else◌, merged_after, repeats, le-leb}
 use Rattle.std.specs.Str.{bytes_eq}

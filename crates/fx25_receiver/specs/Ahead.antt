@@ -2,22 +2,22 @@
 -- they took. No public clause cites it.
 use Rattle.std.specs.Prelude.{◌≡◌, ℕ, ◌+◌, ◌<◌, ℤ, List, ◌++◌, Bool, true, length, slice_index_or, take, if◌then◌else◌}
 use Rattle.hdlc_framer.specs.BitOrder.{octet_bits}
-use Rattle.fx25_blocks.specs.BlockEnds.{EndsBlock}
+use Rattle.fx25_blocks.specs.UnsureBlocks.{EndsUnsureBlock}
 use Rattle.nrzi_bits.specs.Line.{bits_of}
 use Rattle.tone_table.specs.declared.tone.Tone.{Tone}
-use Rattle.offset_slicers.specs.Windows.{tones_at}
 use Rattle.fx25_receiver.specs.declared.heard.Heard.{Heard}
 use Rattle.fx25_receiver.specs.Heard.{EndsWithBits, IsHeard}
-use Rattle.fx25_receiver.specs.Held.{HasHeard, Held, HeldLane, LaneStandsFor}
+use Rattle.fx25_receiver.specs.Held.{HasHeard, Held, HeldLane, LaneHasTaken}
 
--- no block ends with any of the first so many bits of an octet
+-- no block ends with any of the first so many bits of an octet, however sure the bits are
 abbrev pub NoBlockEnds : ℕ → List Bool → ℕ → Type 0
-NoBlockEnds count bits octet = (k tag : ℕ) (frame : List ℕ) (over : ℕ) → k < count
-    → ¬ EndsBlock (bits ++ take (k + 1) (octet_bits octet)) tag frame over
+NoBlockEnds count bits octet = (k tag : ℕ) (numbers frame : List ℕ) (over : ℕ) → k < count
+    → ¬ EndsUnsureBlock (bits ++ take (k + 1) (octet_bits octet)) numbers tag frame over
 
--- nothing ends with any of eight more tones
+-- nothing ends with any of eight more tones, however sure they are
 abbrev pub NothingEndsInTones : List Tone → List Tone → Type 0
-NothingEndsInTones tones more = (k : ℕ) (item : Heard) → k < 8 → ¬ EndsWithBits (bits_of (tones ++ take (k + 1) more)) item
+NothingEndsInTones tones more = (k : ℕ) (numbers : List ℕ) (item : Heard) → k < 8
+    → ¬ EndsWithBits (bits_of (tones ++ take (k + 1) more)) numbers item
 
 -- what the lane of an offset has taken: the first samples if it waits, and the whole of them if it is ahead
 abbrev pub taken_by : List Bool → ℕ → List ℤ → List ℤ → List ℤ
@@ -26,7 +26,7 @@ taken_by waiting offset x whole = if slice_index_or waiting offset true then x e
 -- each lane has taken the windows at its offset that lie in what it has taken
 abbrev pub LanesStandAhead : List HeldLane → List Bool → List ℤ → List ℤ → Type 0
 LanesStandAhead lanes waiting x whole = (offset : ℕ) (d : HeldLane) → offset < 8
-    → LaneStandsFor (slice_index_or lanes offset d) (tones_at offset (taken_by waiting offset x whole))
+    → LaneHasTaken (slice_index_or lanes offset d) offset (taken_by waiting offset x whole)
 
 -- lanes, a count and what is kept, after the first samples were taken and these items given, while some lanes are ahead
 pub record AreAhead (lanes : List HeldLane) (position : ℕ) (kept : List Heard) (waiting : List Bool) (x whole : List ℤ)

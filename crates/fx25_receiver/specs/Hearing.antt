@@ -1,10 +1,11 @@
 -- What has been taken of what ends with the last of some samples. No public clause cites it.
 use Rattle.std.specs.Prelude.{◌≡◌, ℕ, ◌<◌, ◌⊎◌, ℤ, List, length}
 use Rattle.std.specs.List.{All, AllPairs, Contains}
-use Rattle.offset_slicers.specs.Windows.{EndsWindow}
+use Rattle.offset_slicers.specs.Windows.{EndsWindow, bits}
 use Rattle.fx25_receiver.specs.declared.heard.Heard.{Heard}
 use Rattle.fx25_receiver.specs.declared.hearing.Place.{Place}
-use Rattle.fx25_receiver.specs.Heard.{IsHeard, standing}
+use Rattle.fx25_receiver.specs.Certainty.{certainties}
+use Rattle.fx25_receiver.specs.Heard.{EndsWithBits, IsHeard, standing}
 use Rattle.fx25_receiver.specs.Held.{Keeps}
 use Rattle.fx25_receiver.specs.Merged.{merged}
 
@@ -13,6 +14,10 @@ pub record IsAt (place : Place) (x : List ℤ) : Type 0 where
   pub offset : place.offset < 8
   pub window : EndsWindow place.offset x
   pub end_is : place.end ≡ length x
+
+-- an item ends with the last bit of an offset
+abbrev pub EndsLast : ℕ → List ℤ → Heard → Type 0
+EndsLast offset x item = EndsWithBits (bits offset x) (certainties offset x) item
 
 -- an item ends before the last of the samples, or has a lower tag
 abbrev pub IsBelow : ℕ → List ℤ → Heard → Type 0

@@ -1,13 +1,16 @@
 -- What a receiver keeps, and what that stands for. Public clauses cite `StandsFor` alone.
-use Rattle.std.specs.Prelude.{◌≡◌, ℕ, ◌+◌, ◌/◌, ◌^◌, ◌<◌, ◌≤◌, ℤ, List, Bool, false, filter, length, nat_le, slice_index_or}
+use Rattle.std.specs.Prelude.{◌≡◌, ℕ, ◌+◌, ◌/◌, ◌^◌, ◌<◌, ◌≤◌, ℤ, List, [], Bool, false, filter, length, nat_le, slice_index_or}
 use Rattle.tone_table.specs.declared.tone.Tone.{Tone}
 use Rattle.nrzi_bits.specs.Line.{bits_of, last_tone}
 use Rattle.offset_slicers.specs.Windows.{tones_at}
 use Rattle.slicer_bank.specs.Held.{last_seven}
 use Rattle.hdlc_framer.specs.Held.{Held as HeldDeframer}
+use Rattle.fx25_blocks.specs.declared.certainties.Certainties.{Certainties}
 use Rattle.fx25_receiver.specs.declared.heard.Heard.{Heard}
 use Rattle.fx25_receiver.specs.declared.resting_reader.RestingReader.{RestingReader}
+use Rattle.fx25_receiver.specs.Certainty.{certainties}
 use Rattle.fx25_receiver.specs.Heard.{AreHeard}
+use Rattle.fx25_receiver.specs.Known.{KnowsNumbers}
 use Rattle.hdlc_framer.specs.Late.{StandsFor as LateStandsFor}
 use Rattle.fx25_receiver.specs.Merged.{merged, reach}
 use Rattle.fx25_receiver.specs.Resting.{StandsFor as ReaderStandsFor}
@@ -17,13 +20,14 @@ pub record HeldFrames : Type 0 where
   pub deframer : HeldDeframer
   pub waiting : ℕ
 
--- the tone of the last window, the deframer of plain frames and how many of the last bits wait for it, and the reader of
--- blocks with the last 64 bits
+-- the tone of the last window, the deframer of plain frames and how many of the last bits wait for it, the reader of
+-- blocks with the last 64 bits, and how sure the bits are that it takes while it is awake
 pub record HeldLane : Type 0 where
   pub line : Tone
   pub deframer : HeldDeframer
   pub waiting : ℕ
   pub reader : RestingReader
+  pub certainties : Certainties
 
 -- the lane has taken windows of these tones
 pub record LaneStandsFor (held : HeldLane) (tones : List Tone) : Type 0 where
@@ -31,10 +35,20 @@ pub record LaneStandsFor (held : HeldLane) (tones : List Tone) : Type 0 where
   pub plain : LateStandsFor held.deframer (held.reader.register / 2 ^ 56) held.waiting (bits_of tones)
   pub reader : ReaderStandsFor held.reader (bits_of tones)
 
--- each lane has taken the windows at its offset that lie in these samples
+-- a lane that has taken nothing
+pub record IsFresh (held : HeldLane) : Type 0 where
+  pub stands : LaneStandsFor held []
+  pub knows : KnowsNumbers held.reader held.certainties []
+
+-- a lane has taken the windows at an offset that lie in these samples, and knows how sure they are
+pub record LaneHasTaken (held : HeldLane) (offset : ℕ) (x : List ℤ) : Type 0 where
+  pub stands : LaneStandsFor held (tones_at offset x)
+  pub knows : KnowsNumbers held.reader held.certainties (certainties offset x)
+
+-- each lane has taken the windows at its offset
 abbrev pub LanesStandFor : List HeldLane → List ℤ → Type 0
 LanesStandFor lanes x =
-    (offset : ℕ) (d : HeldLane) → offset < 8 → LaneStandsFor (slice_index_or lanes offset d) (tones_at offset x)
+    (offset : ℕ) (d : HeldLane) → offset < 8 → LaneHasTaken (slice_index_or lanes offset d) offset x
 
 -- what ends less than a reach before a number of samples, or after it
 abbrev pub not_past : ℕ → List Heard → List Heard

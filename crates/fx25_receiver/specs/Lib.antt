@@ -7,3 +7,5 @@ pub mod Hearing
 pub mod Ahead
 pub mod WithoutBlocks
 pub mod Damage
+pub mod Certainty
+pub mod Known

@@ -1,14 +1,15 @@
 //! What ends with a bit of a lane: a frame that came plainly, and for each tag a frame in a block.
 ghost use Rattle.std.specs.Prelude.{◌≡◌, ◌≤◌, ◌+◌, ◌*◌, ℕ, ℤ, List, ◌++◌, true, OnOk, IfSome};
 ghost use Rattle.std.specs.Option.{IfNone};
-ghost use Rattle.offset_slicers.specs.Windows.{bits, tones_at};
-ghost use Rattle.fx25_blocks.specs.BlockEnds.{EndsBlock};
+ghost use Rattle.offset_slicers.specs.Windows.{bits};
 ghost use Rattle.fx25_blocks.specs.Tags.{IsTag};
+ghost use Rattle.fx25_blocks.specs.UnsureBlocks.{EndsUnsureBlock};
 ghost use Rattle.hdlc_framer.specs.Frames.{IsFrame, EndsFrame};
 ghost use Rattle.hdlc_framer.specs.Held.{HoldsFrame};
 ghost use Rattle.fx25_receiver.specs.declared.heard.Heard.{Heard};
+ghost use Rattle.fx25_receiver.specs.Certainty.{certainties};
 ghost use Rattle.fx25_receiver.specs.Hearing.{HasTakenBelow, IsAt};
-ghost use Rattle.fx25_receiver.specs.Held.{LaneStandsFor};
+ghost use Rattle.fx25_receiver.specs.Held.{LaneHasTaken};
 
 use crate::heard::Heard;
 use crate::lane::Lane;
@@ -34,7 +35,7 @@ pub(crate) fn hear_blocks(
     given: &mut Vec<Heard>,
 ) -> Result<(), OutOfMemory>
     ensures { OnOk result ((x : List ℤ) (before : List Heard) → IsAt place x
-        → LaneStandsFor lane.now (tones_at place.offset x)
+        → LaneHasTaken lane.now place.offset x
         → HasTakenBelow 1 kept.old.items x (before ++ given.old.items)
         → HasTakenBelow 12 kept.new.items x (before ++ given.new.items)) }
 {
@@ -55,7 +56,7 @@ fn hear_tags(
     given: &mut Vec<Heard>,
 ) -> Result<(), OutOfMemory>
     ensures { OnOk result ((x : List ℤ) (before : List Heard) → IsAt place x
-        → LaneStandsFor lane.now (tones_at place.offset x)
+        → LaneHasTaken lane.now place.offset x
         → HasTakenBelow 1 kept.old.items x (before ++ given.old.items)
         → HasTakenBelow 12 kept.new.items x (before ++ given.new.items)) }
 {
@@ -127,8 +128,10 @@ fn hear_block(
 ) -> Result<(), OutOfMemory>
     requires { IsTag tag }
     ensures { OnOk result ((x : List ℤ) (before : List Heard) → IsAt place x
-        → IfSome found (λ found. EndsBlock (bits place.offset x) tag found.octets.items found.over)
-        → IfNone found ((frame : List ℕ) → (over : ℕ) → ¬ EndsBlock (bits place.offset x) tag frame over)
+        → IfSome found (λ found. EndsUnsureBlock (bits place.offset x) (certainties place.offset x) tag
+        found.octets.items found.over)
+        → IfNone found ((frame : List ℕ) → (over : ℕ)
+        → ¬ EndsUnsureBlock (bits place.offset x) (certainties place.offset x) tag frame over)
         → HasTakenBelow tag kept.old.items x (before ++ given.old.items)
         → HasTakenBelow (tag + 1) kept.new.items x (before ++ given.new.items)) }
 {

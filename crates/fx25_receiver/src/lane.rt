@@ -1,6 +1,6 @@
 //! One lane: its plain frames, and its blocks.
 ghost use Rattle.std.specs.Prelude.{◌≡◌, ◌↔◌, ℕ, ℤ, List, [], ◌∷◌, ◌++◌, length, true, false, IfOk, IfSome};
-ghost use Rattle.std.specs.Prelude.{IsTrue};
+ghost use Rattle.std.specs.Prelude.{IsTrue, ◌<◌, ◌≤◌, ◌+◌, max};
 ghost use Rattle.std.specs.List.{All};
 ghost use Rattle.std.specs.Option.{IfNone};
 ghost use Rattle.tone_table.specs.declared.tone.Tone.{Tone};
@@ -9,16 +9,20 @@ ghost use Rattle.hdlc_framer.specs.Frames.{IsFrame, EndsFrame};
 ghost use Rattle.hdlc_framer.specs.Held.{HoldsFrame};
 ghost use Rattle.slicer_bank.specs.Heard.{tones_in};
 ghost use Rattle.fx25_receiver.specs.Ahead.{NothingEndsInTones};
-ghost use Rattle.fx25_blocks.specs.BlockEnds.{EndsBlock};
+ghost use Rattle.fx25_blocks.specs.HeldCertainties.{StandsFor as AreKept};
 ghost use Rattle.fx25_blocks.specs.Tags.{IsTag};
+ghost use Rattle.fx25_blocks.specs.UnsureBlocks.{EndsUnsureBlock};
 ghost use Rattle.fx25_blocks.specs.Coming.{IsBlockComing};
+ghost use Rattle.fx25_receiver.specs.Certainty.{certainty};
 ghost use Rattle.fx25_receiver.specs.Coming.{HearsBlock};
-ghost use Rattle.fx25_receiver.specs.Held.{LaneStandsFor, LanesStandFor};
+ghost use Rattle.fx25_receiver.specs.Held.{IsFresh, LaneStandsFor, LanesStandFor};
+ghost use Rattle.fx25_receiver.specs.Known.{KnowsNumbers};
 
 use crate::eight::{octet_of, tones_of};
 use crate::plain_frames::PlainFrames;
 use crate::resting_reader::RestingReader;
-use fx25_blocks::BlockFrame;
+use crate::window_certainty::certainty;
+use fx25_blocks::{BlockFrame, Certainties};
 use nrzi_bits::NrziIn;
 use std::alloc::Global;
 use std::marker::Model;
@@ -34,6 +38,7 @@ pub struct Lane {
     line: NrziIn,
     plain: PlainFrames,
     reader: RestingReader,
+    certainties: Certainties,
 }
 
 impl Model for Lane {
@@ -46,26 +51,30 @@ impl Model for Lane {
       deframer = s.plain.deframer;
       waiting = s.plain.waiting;
       reader = s.reader;
+      certainties = s.certainties;
     } };
 }
 
 impl Lane {
     /// A lane that has taken nothing.
     pub fn new() -> Lane
-        ensures { LaneStandsFor result [] }
+        ensures { IsFresh result }
     {
         Lane {
             line: NrziIn::new(),
             plain: PlainFrames::new(),
             reader: RestingReader::new(),
+            certainties: Certainties::new(),
         }
     }
 
-    /// Takes the next tone, and says whether a frame ends plainly with it.
+    /// Takes the next tone, which is decided by a window, and says whether a frame ends plainly with it.
     #[inline(always)]
-    pub fn push(&mut self, tone: Tone) -> bool
+    pub(crate) fn push_window(&mut self, tone: Tone, window: &[i16; 8]) -> bool
         ensures stands_for { (tones : List Tone) → LaneStandsFor self.old tones
             → LaneStandsFor self.new (tones ++ tone ∷ []) }
+        ensures knows { (numbers : List ℕ) → KnowsNumbers self.old.reader self.old.certainties numbers
+            → KnowsNumbers self.new.reader self.new.certainties (numbers ++ certainty window.now ∷ []) }
         ensures holds { result ≡ true
             → (octets : List ℕ) × IsFrame octets × HoldsFrame self.new.deframer octets }
         ensures heard { (tones : List Tone) → LaneStandsFor self.old tones → result ≡ true
@@ -73,6 +82,70 @@ impl Lane {
         ensures frame { (tones : List Tone) (octets : List ℕ) → LaneStandsFor self.old tones
             → EndsFrame (bits_of (tones ++ tone ∷ [])) octets
             → (result ≡ true) × HoldsFrame self.new.deframer octets }
+    {
+        if self.is_awake() {
+            return self.push_sure(tone, certainty(window));
+        }
+        self.push(tone)
+    }
+
+    /// True if a block may be coming in. Only then is it asked how sure the next tone is: the tag that wakes the reader
+    /// comes before the block.
+    #[inline(always)]
+    pub fn is_awake(&self) -> bool
+        ensures { IsTrue result ↔ (0 < self.now.reader.awake) }
+    {
+        self.reader.is_awake()
+    }
+
+    /// Takes the next tone, and how sure it is.
+    pub fn push_sure(&mut self, tone: Tone, certainty: u32) -> bool
+        ensures stands_for { (tones : List Tone) → LaneStandsFor self.old tones
+            → LaneStandsFor self.new (tones ++ tone ∷ []) }
+        ensures knows { (numbers : List ℕ) → KnowsNumbers self.old.reader self.old.certainties numbers
+            → KnowsNumbers self.new.reader self.new.certainties (numbers ++ certainty ∷ []) }
+        ensures holds { result ≡ true
+            → (octets : List ℕ) × IsFrame octets × HoldsFrame self.new.deframer octets }
+        ensures heard { (tones : List Tone) → LaneStandsFor self.old tones → result ≡ true
+            → (octets : List ℕ) × EndsFrame (bits_of (tones ++ tone ∷ [])) octets }
+        ensures frame { (tones : List Tone) (octets : List ℕ) → LaneStandsFor self.old tones
+            → EndsFrame (bits_of (tones ++ tone ∷ [])) octets
+            → (result ≡ true) × HoldsFrame self.new.deframer octets }
+    {
+        self.note(certainty);
+        self.push(tone)
+    }
+
+    /// Keeps how sure the next tone is.
+    fn note(&mut self, certainty: u32)
+        ensures stands_for { (tones : List Tone) → LaneStandsFor self.old tones → LaneStandsFor self.new tones }
+        ensures reader { self.new.reader ≡ self.old.reader }
+        ensures kept { (numbers : List ℕ) → AreKept self.old.certainties numbers
+            → AreKept self.new.certainties (numbers ++ certainty ∷ []) }
+    {
+        self.certainties.push(certainty);
+    }
+
+    /// Takes the next tone, and says whether a frame ends plainly with it.
+    #[inline(always)]
+    pub fn push(&mut self, tone: Tone) -> bool
+        ensures stands_for { (tones : List Tone) → LaneStandsFor self.old tones
+            → LaneStandsFor self.new (tones ++ tone ∷ []) }
+        ensures knows { (numbers : List ℕ) (number : ℕ) → self.old.reader.awake ≡ 0
+            → KnowsNumbers self.old.reader self.old.certainties numbers
+            → KnowsNumbers self.new.reader self.new.certainties (numbers ++ number ∷ []) }
+        ensures holds { result ≡ true
+            → (octets : List ℕ) × IsFrame octets × HoldsFrame self.new.deframer octets }
+        ensures heard { (tones : List Tone) → LaneStandsFor self.old tones → result ≡ true
+            → (octets : List ℕ) × EndsFrame (bits_of (tones ++ tone ∷ [])) octets }
+        ensures frame { (tones : List Tone) (octets : List ℕ) → LaneStandsFor self.old tones
+            → EndsFrame (bits_of (tones ++ tone ∷ [])) octets
+            → (result ≡ true) × HoldsFrame self.new.deframer octets }
+        ensures certainties { self.new.certainties ≡ self.old.certainties }
+        ensures awake { 0 < self.old.reader.awake
+            → self.new.reader.reader.taken ≤ max 64 (self.old.reader.reader.taken + 1) }
+        ensures woken { self.old.reader.awake ≡ 0 → 0 < self.new.reader.awake
+            → self.new.reader.reader.taken ≤ 64 }
     {
         let last = self.reader.last_octet();
         let bit = self.line.step(tone);
@@ -89,8 +162,12 @@ impl Lane {
             → NothingEndsInTones tones (tones_in 8 windows.now) }
         ensures left { (tones : List Tone) → LaneStandsFor self.old tones → result ≡ false
             → LaneStandsFor self.new tones }
+        ensures knows { (numbers more : List ℕ) → KnowsNumbers self.old.reader self.old.certainties numbers
+            → result ≡ true → KnowsNumbers self.new.reader self.new.certainties more }
+        ensures knows_left { (numbers : List ℕ) → KnowsNumbers self.old.reader self.old.certainties numbers
+            → result ≡ false → KnowsNumbers self.new.reader self.new.certainties numbers }
     {
-        if !self.reader.is_resting() {
+        if self.reader.is_awake() {
             return false;
         }
         self.push_eight(&tones_of(windows))
@@ -104,6 +181,9 @@ impl Lane {
             → NothingEndsInTones before tones.now }
         ensures left { (before : List Tone) → LaneStandsFor self.old before → result ≡ false
             → LaneStandsFor self.new before }
+        ensures certainties { self.new.certainties ≡ self.old.certainties }
+        ensures awake { self.new.reader.awake ≡ self.old.reader.awake }
+        ensures reader { result ≡ false → self.new.reader ≡ self.old.reader }
     {
         let octet = octet_of(self.line.tone(), tones);
         match self.reader.quietly_after(octet) {
@@ -128,21 +208,26 @@ impl Lane {
         self.plain.octets()
     }
 
-    /// The frame of the block of a tag that the last tone ended.
+    /// The frame of the block of a tag that the last tone ended. A block that is too far from a codeword as it came is read
+    /// with its least sure octets unknown.
     pub fn block(&self, tag: u8) -> Option<BlockFrame>
         requires { IsTag tag }
-        ensures frame { (tones : List Tone) → LaneStandsFor self.now tones
-            → IfSome result (λ found. EndsBlock (bits_of tones) tag found.octets.items found.over) }
-        ensures none { (tones : List Tone) → LaneStandsFor self.now tones
-            → IfNone result ((frame : List ℕ) → (over : ℕ) → ¬ EndsBlock (bits_of tones) tag frame over) }
+        ensures frame { (tones : List Tone) → (numbers : List ℕ) → LaneStandsFor self.now tones
+            → KnowsNumbers self.now.reader self.now.certainties numbers
+            → IfSome result (λ found. EndsUnsureBlock (bits_of tones) numbers tag found.octets.items found.over) }
+        ensures none { (tones : List Tone) → (numbers : List ℕ) → LaneStandsFor self.now tones
+            → KnowsNumbers self.now.reader self.now.certainties numbers
+            → IfNone result ((frame : List ℕ) → (over : ℕ)
+            → ¬ EndsUnsureBlock (bits_of tones) numbers tag frame over) }
     {
-        self.reader.frame(tag)
+        self.reader.frame(tag, &self.certainties)
     }
 
     /// True only if the last tone ended no block.
     pub fn is_idle(&self) -> bool
-        ensures { (tones : List Tone) → LaneStandsFor self.now tones → result ≡ true
-            → (tag : ℕ) → (frame : List ℕ) → (over : ℕ) → ¬ EndsBlock (bits_of tones) tag frame over }
+        ensures { (tones : List Tone) → (numbers : List ℕ) → LaneStandsFor self.now tones → result ≡ true
+            → (tag : ℕ) → (frame : List ℕ) → (over : ℕ)
+            → ¬ EndsUnsureBlock (bits_of tones) numbers tag frame over }
     {
         self.reader.is_idle()
     }
@@ -159,7 +244,7 @@ impl Lane {
 /// The eight lanes, which have taken nothing.
 pub fn new_lanes(alloc: Global) -> Result<Vec<Lane>, OutOfMemory>
     ensures count { IfOk result (λ lanes. length lanes.items ≡ 8) }
-    ensures fresh { IfOk result (λ lanes. All (λ lane. LaneStandsFor lane []) lanes.items) }
+    ensures fresh { IfOk result (λ lanes. All IsFresh lanes.items) }
 {
     let mut lanes = Vec::new(alloc);
     for _ in 0..LANES {

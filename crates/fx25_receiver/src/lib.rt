@@ -19,6 +19,7 @@ mod resting_reader;
 mod seven;
 #[cfg(test)]
 mod tests;
+mod window_certainty;
 
 pub use heard::Heard;
 pub use lane::Lane;
@@ -28,3 +29,4 @@ pub use laws::{
 };
 pub use merging::{forget, put};
 pub use receiver::Fx25Receiver;
+pub use window_certainty::certainty;

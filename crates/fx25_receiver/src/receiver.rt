@@ -218,7 +218,7 @@ impl Fx25Receiver {
             return Ok(());
         }
         let lane = &mut self.lanes[place.offset as usize];
-        let plain = lane.push(decide(window));
+        let plain = lane.push_window(decide(window), window);
         hear_frame(self.alloc, lane, plain, place, &mut self.kept, given)?;
         hear_blocks(self.alloc, lane, place, &mut self.kept, given)?;
         Ok(())

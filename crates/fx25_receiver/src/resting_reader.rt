@@ -3,19 +3,20 @@
 //! In noise a lane comes near a tag about once in five minutes. So it mostly keeps the last 64 bits alone, and asks of each
 //! bit whether a tag ends with it. Only then does it wake a whole reader, which takes the bits of the tag and those to
 //! come until no block can end and none holds the channel.
-ghost use Rattle.std.specs.Prelude.{◌≡◌, ◌↔◌, ◌≤◌, ◌<◌, ◌+◌, ◌/◌, ◌^◌, drop, take, ℕ, Bool, List, [], ◌∷◌, ◌++◌, true, false, IfSome, IsTrue};
+ghost use Rattle.std.specs.Prelude.{max, ◌≡◌, ◌↔◌, ◌≤◌, ◌<◌, ◌+◌, ◌/◌, ◌^◌, drop, take, ℕ, Bool, List, [], ◌∷◌, ◌++◌, true, false, IfSome, IsTrue};
 ghost use Rattle.std.specs.Option.{IfNone};
-ghost use Rattle.fx25_blocks.specs.BlockEnds.{EndsBlock};
 ghost use Rattle.fx25_blocks.specs.Coming.{IsBlockComing};
 ghost use Rattle.fx25_blocks.specs.Held.{StandsFor as ReaderStandsFor};
+ghost use Rattle.fx25_blocks.specs.UnsureBlocks.{EndsUnsureBlock};
 ghost use Rattle.fx25_blocks.specs.Tags.{IsTag, bits_of_64};
 ghost use Rattle.fx25_blocks.specs.declared.block_reader.BlockReader.{BlockReader};
 ghost use Rattle.hdlc_framer.specs.BitOrder.{octet_bits};
 ghost use Rattle.hdlc_framer.specs.Frames.{EndsFrame};
 ghost use Rattle.fx25_receiver.specs.Ahead.{NoBlockEnds};
+ghost use Rattle.fx25_receiver.specs.Known.{KnowsNumbers};
 ghost use Rattle.fx25_receiver.specs.Resting.{IsLast64, RestsAt};
 
-use fx25_blocks::{BlockFrame, BlockReader, near_tag, shifted};
+use fx25_blocks::{BlockFrame, BlockReader, Certainties, near_tag, shifted};
 
 /// For so many bits after a tag the reader stays awake: the longest block has 2040, and holds a channel for 64 more.
 const AWAKE: u16 = 2105;
@@ -44,6 +45,7 @@ impl RestingReader {
     pub(crate) fn new() -> RestingReader
         ensures stands_for { StandsFor result [] }
         ensures register { result.register ≡ 0 }
+        ensures taken { result.reader.taken ≡ 0 }
     {
         RestingReader {
             reader: BlockReader::new(),
@@ -57,6 +59,8 @@ impl RestingReader {
     pub(crate) fn push(&mut self, bit: bool)
         ensures stands_for { (b : List Bool) → StandsFor self.old b → StandsFor self.new (b ++ bit ∷ []) }
         ensures register { bits_of_64 self.new.register ≡ drop 1 (bits_of_64 self.old.register) ++ bit ∷ [] }
+        ensures awake { 0 < self.old.awake → self.new.reader.taken ≤ max 64 (self.old.reader.taken + 1) }
+        ensures woken { self.old.awake ≡ 0 → 0 < self.new.awake → self.new.reader.taken ≤ 64 }
     {
         self.take(bit);
         if near_tag(self.register) != 0 {
@@ -99,15 +103,20 @@ impl RestingReader {
         (self.register >> 56) as u8
     }
 
-    /// True if it rests.
-    pub(crate) fn is_resting(&self) -> bool {
-        self.awake == 0
+    /// True if it is awake.
+    pub(crate) fn is_awake(&self) -> bool
+        ensures { IsTrue result ↔ (0 < self.now.awake) }
+    {
+        self.awake > 0
     }
 
     /// Takes the next bit, and does not look for a tag that ends with it.
     fn take(&mut self, bit: bool)
         ensures stands_for { (b : List Bool) → StandsFor self.old b → StandsButForTag self.new (b ++ bit ∷ []) }
         ensures register { bits_of_64 self.new.register ≡ drop 1 (bits_of_64 self.old.register) ++ bit ∷ [] }
+        ensures awake { 0 < self.old.awake → self.new.reader.taken ≤ self.old.reader.taken + 1 }
+        ensures rests { self.old.awake ≡ 0 → self.new.awake ≡ 0 }
+        ensures less { self.old.awake ≤ self.new.awake + 1 }
     {
         self.register = shifted(self.register, bit);
         if self.awake > 0 {
@@ -122,6 +131,8 @@ impl RestingReader {
     fn wake(&mut self)
         ensures stands_for { (b : List Bool) → StandsButForTag self.old b → StandsFor self.new b }
         ensures register { self.new.register ≡ self.old.register }
+        ensures awake { 0 < self.old.awake → self.new.reader.taken ≡ self.old.reader.taken }
+        ensures woken { self.old.awake ≡ 0 → self.new.reader.taken ≤ 64 }
     {
         if self.awake == 0 {
             self.reader = reader_of(self.register);
@@ -138,24 +149,28 @@ impl RestingReader {
 
     /// True only if the last bit ends no block.
     pub(crate) fn is_idle(&self) -> bool
-        ensures { (b : List Bool) → StandsFor self.now b → result ≡ true
-            → (tag : ℕ) → (frame : List ℕ) → (over : ℕ) → ¬ EndsBlock b tag frame over }
+        ensures { (b : List Bool) → (numbers : List ℕ) → StandsFor self.now b → result ≡ true
+            → (tag : ℕ) → (frame : List ℕ) → (over : ℕ) → ¬ EndsUnsureBlock b numbers tag frame over }
     {
         self.awake == 0 || self.reader.is_idle()
     }
 
-    /// The frame of the block of a tag that the last bit ends.
-    pub(crate) fn frame(&self, tag: u8) -> Option<BlockFrame>
+    /// The frame of the block of a tag that the last bit ends, if it is told how sure the bits are that it took while it was
+    /// awake.
+    #[cold]
+    pub(crate) fn frame(&self, tag: u8, certainties: &Certainties) -> Option<BlockFrame>
         requires { IsTag tag }
-        ensures frame { (b : List Bool) → StandsFor self.now b
-            → IfSome result (λ found. EndsBlock b tag found.octets.items found.over) }
-        ensures none { (b : List Bool) → StandsFor self.now b
-            → IfNone result ((frame : List ℕ) → (over : ℕ) → ¬ EndsBlock b tag frame over) }
+        ensures frame { (b : List Bool) → (numbers : List ℕ) → StandsFor self.now b
+            → KnowsNumbers self.now certainties.now numbers
+            → IfSome result (λ found. EndsUnsureBlock b numbers tag found.octets.items found.over) }
+        ensures none { (b : List Bool) → (numbers : List ℕ) → StandsFor self.now b
+            → KnowsNumbers self.now certainties.now numbers
+            → IfNone result ((frame : List ℕ) → (over : ℕ) → ¬ EndsUnsureBlock b numbers tag frame over) }
     {
         if self.awake == 0 {
             return None;
         }
-        self.reader.frame(tag)
+        self.reader.unsure_frame(tag, certainties)
     }
 }
 
@@ -199,7 +214,8 @@ fn may_end_frame(register: u64) -> bool
 
 /// A reader that has taken 64 bits.
 fn reader_of(register: u64) -> BlockReader
-    ensures { ReaderStandsFor result (bits_of_64 register) }
+    ensures stands_for { ReaderStandsFor result (bits_of_64 register) }
+    ensures taken { result.taken ≤ 64 }
 {
     let mut reader = BlockReader::new();
     for place in 0..64_u8 {

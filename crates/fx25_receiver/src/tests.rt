@@ -1,4 +1,4 @@
-// N7LEM>APRS:hello in a block of 16 check octets, as Dire Wolf's gen_packets sends it, with and without damage.
+//! N7LEM>APRS:hello in a block of 16 check octets, as Dire Wolf's gen_packets sends it, with and without damage.
 
 use crate::{Fx25Receiver, Heard};
 use nrzi_bits::NrziOut;
@@ -85,6 +85,38 @@ fn eight_wrong_octets_are_repaired_and_nine_are_not(rt: HostRuntime) -> Result<(
                     assert!(rt; item.at.abs_diff(AT) <= 7 && item.end.abs_diff(end) <= 7);
                 }
             }
+        }
+    }
+    Ok(())
+}
+
+// The samples of what is sent, of which so many octets past the first twelve are silent.
+fn silenced(rt: &impl Abort, alloc: Global, silent: usize) -> Vec<i16> {
+    assert!(rt; silent <= 13);
+    let mut samples = sound(rt, alloc, &SENT);
+    for (place, sample) in samples.iter_mut().enumerate() {
+        if place >= 768 && place < 768 + 64 * silent {
+            *sample = 0;
+        }
+    }
+    samples
+}
+
+#[test]
+fn a_silence_of_ten_octets_is_repaired(rt: HostRuntime) -> Result<(), Fail> {
+    // How many octets of the data are silent, where the samples are cut, and whether the frame is heard. Eight octets are
+    // repaired as they came. Of ten the eight that are unknown cost half as much as the others: 8 + 2 * 3 are at most the
+    // 16 check octets, if the octet after the silence is wrong too. Of thirteen they would be at least 8 + 2 * 5.
+    for &(silent, cut, heard) in &[(7, 0, true), (10, 1000, true), (13, 3000, false)] {
+        let samples = silenced(&rt, rt.alloc(), silent);
+        assert!(rt; cut <= samples.len());
+        let items = given(&rt, rt.alloc(), &samples[..cut], &samples[cut..]);
+        if heard {
+            assert_eq!(rt; items.len(), 1);
+            assert_eq!(rt; items[0].octets.as_slice(), FRAME.as_slice());
+            assert!(rt; items[0].tag == 4 && items[0].at.abs_diff(AT) <= 7);
+        } else {
+            assert!(rt; items.is_empty());
         }
     }
     Ok(())

@@ -42,13 +42,13 @@ merged_within true x items h = within_all x items h
 eight_frame : (x : List ℤ) (item : HeardItem) → IsHeardByEight x item → IsFrame item.octets
 eight_frame x item h = elim h.ends.ends [
   | inl plain ↦ plain.2.2
-  | inr block ↦ block.1.carries.opens.is_frame
+  | inr block ↦ block.1.reads.carries.opens.is_frame
 ]
 
 all_frame : (x : List ℤ) (item : HeardItem) → IsHeardByAll x item → IsFrame item.octets
 all_frame x item h = elim h.ends [
   | inl plain ↦ plain.frame.2
-  | inr block ↦ block.block.carries.opens.is_frame
+  | inr block ↦ block.block.reads.carries.opens.is_frame
 ]
 
 merged_frames : (sensitive : Bool) (x : List ℤ) (items : List HeardItem) → AreMergedBy sensitive x items

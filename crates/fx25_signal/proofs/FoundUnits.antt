@@ -14,7 +14,7 @@ use Rattle.fx25_blocks.specs.BlockEnds.{EndsBlock}
 use Rattle.fx25_blocks.specs.Blocks.{bits_needed}
 use Rattle.fx25_blocks.specs.Tags.{IsTag, block_length}
 use Rattle.fx25_blocks.proofs.BlockLaws.{heard_block}
-use Rattle.fx25_receiver.specs.Heard.{EndsWithBits}
+use Rattle.fx25_receiver.proofs.TakenLemmas.{EndsAsItCame, heard_as_it_came}
 use Rattle.fx25_signal.specs.Units.{ComesInBlock, ComesPlainly}
 
 -- an item that is heard of a unit, with its frame's octets and exactly at its ends
@@ -43,7 +43,7 @@ module _ (x : List ℤ) (unit : SentUnit) (n : ℕ) (some : 0 < n) (n_is : n ≡
   q = unit.begin / 8
 
   heard_at : (tag at : ℕ) (came : List Bool) → came ≡ bits_at x unit → length came ≡ n
-      → EndsWithBits (take q (bits lane x) ++ came)
+      → EndsAsItCame (take q (bits lane x) ++ came)
       (record { end = unit.begin + 8 * n; lane = lane; tag = tag; octets = unit.octets; at = at })
       → IsHeard x (record { end = unit.begin + 8 * n; lane = lane; tag = tag; octets = unit.octets; at = at })
   heard_at tag at came is size ends =
@@ -61,15 +61,8 @@ module _ (x : List ℤ) (unit : SentUnit) (n : ℕ) (some : 0 < n) (n_is : n ≡
         octets = unit.octets;
         at = at;
       } in
-      record {
-        lane = omega arith;
-        index = index;
-        ends = record {
-          within = omega arith;
-          end_of = omega arith;
-          ends = subst (λ b. EndsWithBits b item) (sym parts.1 ∙ ap (λ m. take m all) next) ends;
-        };
-      }
+      heard_as_it_came x item index (omega arith) (omega arith) (omega arith)
+      (subst (λ b. EndsAsItCame b item) (sym parts.1 ∙ ap (λ m. take m all) next) ends)
 
 plain_found : (x : List ℤ) (unit : SentUnit) → IsFrame unit.octets → ComesPlainly unit (bits_at x unit)
     → IsFound x unit

@@ -7,7 +7,8 @@ use Rattle.fx25_signal.proofs.Common.{IsOf, IsOfOne, MergesTo, NoneStray}
 use Rattle.fx25_blocks.specs.Blocks.{bits_needed}
 use Rattle.fx25_blocks.proofs.TagFacts.{most_octets}
 use Rattle.fx25_receiver.proofs.HeardLemmas.{tag_below}
-use Rattle.fx25_receiver.proofs.TakenLemmas.{block_bounds}
+use Rattle.fx25_receiver.specs.Certainty.{certainties}
+use Rattle.fx25_receiver.proofs.TakenLemmas.{unsure_block_bounds}
 use Rattle.offset_slicers.specs.Windows.{bits}
 use Rattle.std.proofs.Common.{take}
 use Rattle.fx25_signal.proofs.Clusters.{AreBehind, Cluster, HasOne, IsIn, IsInOne, Known, Rising, merge_keeps}
@@ -66,7 +67,8 @@ at_waits : (x : List ℤ) (item : Heard) → IsHeard x item → item.at ≤ item
 at_waits x item h = elim h.ends.ends [
   | inl plain ↦ let same = plain.1 in omega arith
   | inr block ↦
-      let bounds = block_bounds (take (h.index + 1) (bits item.lane x)) item.tag item.octets block.0 block.1 in
+      let bounds = unsure_block_bounds (take (h.index + 1) (bits item.lane x))
+      (take (h.index + 1) (certainties item.lane x)) item.tag item.octets block.0 block.1 in
       let within = bounds.1 in
       let placed = block.2 in
       omega arith

@@ -1,4 +1,4 @@
-// Whether another station is heard: flags show its carrier, an abort or a long stretch without a flag its end.
+//! Whether another station is heard: flags show its carrier, an abort or a long stretch without a flag its end.
 
 ghost use Rattle.std.specs.Prelude.{◌≡◌, ◌≤◌};
 ghost use Rattle.hdlc_framer.specs.HeldCarrier.{new_carrier, bit_later, bits_later, flag_later, next_carrier, row_with};

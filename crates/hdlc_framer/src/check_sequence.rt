@@ -1,8 +1,8 @@
-// The frame check sequence of ISO/IEC 3309, octet by octet.
-//
-// A register of 16 bits holds the remainder so far, the coefficient of the highest power in its lowest bit, so that the
-// division follows the order in which bits are sent. Eight steps of the division depend on the lowest eight bits alone,
-// and a table has their outcome.
+//! The frame check sequence of ISO/IEC 3309, octet by octet.
+//!
+//! A register of 16 bits holds the remainder so far, the coefficient of the highest power in its lowest bit, so that the
+//! division follows the order in which bits are sent. Eight steps of the division depend on the lowest eight bits alone,
+//! and a table has their outcome.
 
 ghost use Rattle.std.specs.Prelude.{◌≡◌};
 ghost use Rattle.hdlc_framer.specs.CheckSequence.{fcs_of};

@@ -1,4 +1,4 @@
-// The bits since a flag without inserted zeros, packed into octets as they come.
+//! The bits since a flag without inserted zeros, packed into octets as they come.
 
 ghost use Rattle.std.specs.Prelude.{◌≡◌, ℕ, ◌+◌, ◌^◌, ◌<◌, ◌≤◌, ◌↔◌, List, [], ◌∷◌, ◌++◌, length, nat_lt, true, IsTrue};
 ghost use Rattle.std.specs.Prelude.{◌*◌};

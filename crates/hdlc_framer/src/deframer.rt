@@ -1,4 +1,4 @@
-// Frames out of a line of bits.
+//! Frames out of a line of bits.
 
 ghost use Rattle.std.specs.Prelude.{◌≡◌, ◌↔◌, ℕ, ◌+◌, ◌<◌, ◌≤◌, Bool, true, false, List, [], ◌∷◌, ◌++◌, length, take, IsTrue};
 ghost use Rattle.hdlc_framer.specs.BitOrder.{octet_bits};

@@ -1,3 +1,5 @@
+//! What a bit of a line of frames ends.
+
 /// What a bit ends.
 #[derive(Clone, Copy, PartialEq, Eq, Debug, Drop)]
 pub enum Event {

@@ -1,4 +1,4 @@
-// Laws on the definitions. A law is the contract of a function that does nothing.
+//! Laws on the definitions. A law is the contract of a function that does nothing.
 
 ghost use Rattle.std.specs.Prelude.{◌≡◌, ◌≤◌, ◌↔◌, ℕ, Bool, List, length};
 ghost use Rattle.hdlc_framer.specs.Carrier.{HoldsCarrier, IsBusy};

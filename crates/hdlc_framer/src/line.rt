@@ -1,4 +1,4 @@
-// The line of bits, seen bit by bit: where zeros were inserted, where flags and aborts are, and what came since a flag.
+//! The line of bits, seen bit by bit: where zeros were inserted, where flags and aborts are, and what came since a flag.
 
 ghost use Rattle.std.specs.Prelude.{◌≡◌, ℕ, Bool, true, false, List, ◌++◌, Some, None, ◌≤◌, ◌||◌};
 ghost use Rattle.std.specs.List.{fold};

@@ -1,4 +1,4 @@
-// What eight bits at once do to the run of 1s at the end of a line: a table has it for each run and each octet.
+//! What eight bits at once do to the run of 1s at the end of a line: a table has it for each run and each octet.
 
 ghost use Rattle.std.specs.Prelude.{◌≡◌, ◌<◌};
 ghost use Rattle.hdlc_framer.specs.OctetSteps.{octet_step};

@@ -1,4 +1,4 @@
-// Frames as bits: with their check sequence, with inserted zeros, between flags.
+//! Frames as bits: with their check sequence, with inserted zeros, between flags.
 
 ghost use Rattle.std.specs.Prelude.{◌≡◌, ◌≤◌, [], ◌∷◌, ◌++◌, if◌then◌else◌, OnOk, IfOk};
 ghost use Rattle.hdlc_framer.specs.BitOrder.{octet_bits, sent_bits};

@@ -1,3 +1,5 @@
+//! The tone of a window.
+
 ghost use Rattle.std.specs.Prelude.{◌≡◌, ◌≤◌, unsigned_abs};
 ghost use Rattle.tone_table.specs.declared.tone.Tone.TheVariants.{Mark, Space};
 ghost use Rattle.offset_slicers.specs.Decision.{square};

@@ -1,3 +1,5 @@
+//! The bits that samples have at one offset of the windows.
+
 ghost use Rattle.std.specs.Prelude.{◌≡◌, ◌+◌, ◌<◌, ◌^◌, ◌↔◌, List, ℤ, [], ◌∷◌, ◌++◌, length, IsSome};
 ghost use Rattle.std.specs.Option.{option_to_list};
 ghost use Rattle.hf_modem.specs.Windows.{EndsWindow, bits};

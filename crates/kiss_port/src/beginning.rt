@@ -1,4 +1,4 @@
-// The first octets of a host's connection.
+//! The first octets of a host's connection.
 
 ghost use Rattle.std.specs.Prelude.{◌≡◌, []};
 ghost use Rattle.kiss_port.specs.HeldHost.{beginning_of, beginning_with, tells_web};

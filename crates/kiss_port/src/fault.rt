@@ -1,4 +1,4 @@
-// Why the octets of a host's connection are not read further.
+//! Why the octets of a host's connection are not read further.
 
 use thiserror::Error;
 use tnc_base::OutOfMemory;

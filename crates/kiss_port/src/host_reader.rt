@@ -1,4 +1,4 @@
-// The octets of a host's connection as they come.
+//! The octets of a host's connection as they come.
 
 ghost use Rattle.std.specs.Prelude.{◌≡◌, ◌≢◌, ℕ, List, [], ◌∷◌, ◌++◌, ◌↔◌, Err, true};
 

@@ -1,4 +1,4 @@
-// The octets that frame and escape.
+//! The octets that frame and escape.
 
 // Ends a piece of the stream.
 pub const FEND: u8 = 0xc0;

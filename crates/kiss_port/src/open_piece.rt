@@ -1,4 +1,4 @@
-// The piece under way: the first octets of what it stands for so far, and whether an escape has begun.
+//! The piece under way: the first octets of what it stands for so far, and whether an escape has begun.
 
 ghost use Rattle.std.specs.Prelude.{◌≡◌, OnOk, OnErr, IfOk};
 

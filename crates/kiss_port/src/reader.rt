@@ -1,4 +1,4 @@
-// A stream of KISS as its octets come.
+//! A stream of KISS as its octets come.
 
 ghost use Rattle.std.specs.Prelude.{◌≡◌, ℕ, List, [], ◌∷◌, ◌++◌, OnOk, OnErr, IfOk};
 ghost use Rattle.std.specs.Option.{option_to_list};

@@ -1,4 +1,4 @@
-// The first line of a request of HTTP, whose method may have any name.
+//! The first line of a request of HTTP, whose method may have any name.
 
 ghost use Rattle.std.specs.Prelude.{◌≡◌};
 ghost use Rattle.kiss_port.specs.HeldHost.{line_with, is_slash};

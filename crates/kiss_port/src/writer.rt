@@ -1,4 +1,4 @@
-// A piece of KISS as octets.
+//! A piece of KISS as octets.
 
 ghost use Rattle.std.specs.Prelude.{◌≡◌, ◌<◌, ℕ, List, [], ◌∷◌, ◌++◌, OnOk, IfOk};
 ghost use Rattle.std.specs.Option.{option_to_list};

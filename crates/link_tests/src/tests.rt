@@ -1,3 +1,5 @@
+//! Tests of frames and links, each in a file of its own.
+
 mod address;
 mod assertions;
 mod frames;

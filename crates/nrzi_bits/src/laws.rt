@@ -1,3 +1,5 @@
+//! Laws on the definitions. A law is the contract of a function that does nothing.
+
 ghost use Rattle.std.specs.Prelude.{◌≡◌, List, Bool};
 ghost use Rattle.tone_table.specs.declared.tone.Tone.{Tone};
 ghost use Rattle.nrzi_bits.specs.Line.{bits_of, line};

@@ -1,3 +1,5 @@
+//! Bits out of the tones of a line, by the rule of inverted NRZ.
+
 ghost use Rattle.std.specs.Prelude.{◌≡◌, ◌↔◌, List, [], ◌∷◌, ◌++◌, IsTrue};
 ghost use Rattle.tone_table.specs.declared.tone.Tone.{Tone};
 ghost use Rattle.tone_table.specs.declared.tone.Tone.TheVariants.{Mark};

@@ -1,3 +1,5 @@
+//! The energies of the two tones in a window, and the tone that it has.
+
 ghost use Rattle.std.specs.Prelude.{◌≡◌, ◌≤◌, unsigned_abs};
 ghost use Rattle.tone_table.specs.declared.tone.Tone.TheVariants.{Mark, Space};
 ghost use Rattle.offset_slicers.specs.Decision.{cosine_sum, energy, sine_sum, square, tone_of};

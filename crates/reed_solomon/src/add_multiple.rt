@@ -1,4 +1,4 @@
-// A multiple of one list of octets added to another.
+//! A multiple of one list of octets added to another.
 
 ghost use Rattle.std.specs.Prelude.{◌≡◌, map, length};
 ghost use Rattle.reed_solomon.specs.Product.{product};

@@ -1,4 +1,4 @@
-// Which code it is: its roots, its check octets, and where it is shortened.
+//! Which code it is: its roots, its check octets, and where it is shortened.
 
 ghost use Rattle.std.specs.Prelude.{◌≡◌, ◌<◌, ◌≤◌, ◌%◌, ◌↔◌, IsSome, IfSome};
 

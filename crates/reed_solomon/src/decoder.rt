@@ -1,4 +1,4 @@
-// Words repaired.
+//! Words repaired.
 
 ghost use Rattle.std.specs.Prelude.{◌≡◌, ◌<◌, ◌≤◌, ◌↔◌, ℕ, false, List, All, length, replicate, IsTrue, IfOk, OnErr};
 ghost use Rattle.reed_solomon.specs.Codeword.{IsCodeword, IsWithinReach};

@@ -1,4 +1,4 @@
-// The check octets of data, by a division: the register holds the remainder of what it has taken.
+//! The check octets of data, by a division: the register holds the remainder of what it has taken.
 
 ghost use Rattle.std.specs.Prelude.{◌≡◌, ◌+◌, ◌<◌, ◌≤◌, ◌++◌, ℕ, List, All, length, replicate};
 ghost use Rattle.arrayvec.specs.ArrayVec.{array_vec_len};

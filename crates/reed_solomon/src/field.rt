@@ -1,4 +1,4 @@
-// The field's products, by tables of powers and logarithms.
+//! The field's products, by tables of powers and logarithms.
 
 ghost use Rattle.std.specs.Prelude.{◌≡◌, ◌<◌};
 ghost use Rattle.reed_solomon.specs.Field.{power, times_power};

@@ -1,4 +1,4 @@
-// The generator of a code: the polynomial whose highest coefficient is 1 and whose roots are those of the code.
+//! The generator of a code: the polynomial whose highest coefficient is 1 and whose roots are those of the code.
 
 ghost use Rattle.std.specs.Prelude.{◌≡◌, ◌+◌, ◌<◌, ◌≤◌, ◌∷◌, length};
 ghost use Rattle.arrayvec.specs.ArrayVec.{array_vec_len};

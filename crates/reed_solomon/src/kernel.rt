@@ -1,9 +1,9 @@
-// A list that meets every equation of the decoder: the sum of its coefficients times so many syndromes in a row is 0.
-//
-// There are as many equations as wrong octets can be repaired, and one coefficient more, so one such list is not 0.
-// The rows begin as the unit lists. Each equation takes at most one row out: that row times the right factor is added
-// to each other one, so that all of them meet the equation. A row stays 1 at a place of its own, where the others
-// are 0, so the rows that are left at the end are not 0.
+//! A list that meets every equation of the decoder: the sum of its coefficients times so many syndromes in a row is 0.
+//!
+//! There are as many equations as wrong octets can be repaired, and one coefficient more, so one such list is not 0.
+//! The rows begin as the unit lists. Each equation takes at most one row out: that row times the right factor is added
+//! to each other one, so that all of them meet the equation. A row stays 1 at a place of its own, where the others
+//! are 0, so the rows that are left at the end are not 0.
 
 ghost use Rattle.std.specs.Prelude.{◌≡◌, ◌≢◌, ◌+◌, ◌*◌, ◌/◌, ◌<◌, ◌≤◌, ℕ, List, length, take, drop, slice_index, All};
 ghost use Rattle.std.specs.Prelude.{IfSome, IfNone};

@@ -1,4 +1,4 @@
-// Laws on the definitions. A law is the contract of a function that does nothing.
+//! Laws on the definitions. A law is the contract of a function that does nothing.
 
 ghost use Rattle.std.specs.Prelude.{◌≡◌, ◌+◌, ◌++◌, ◌<◌, ◌≤◌, ℕ, List, length, All};
 ghost use Rattle.reed_solomon.specs.declared.code.Code.{Code};

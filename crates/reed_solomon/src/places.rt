@@ -1,8 +1,8 @@
-// Where a word of 255 octets may be wrong: at its unknown octets, and wherever else the kernel of its syndromes tells.
-//
-// The polynomial that is 0 at the points of the unknown octets scales the word: each octet is multiplied by the value at
-// its point. The scaled word is right at the unknown places, whatever stands there, and its syndromes are sums of those
-// of the word. There are fewer of them, by one for each unknown octet.
+//! Where a word of 255 octets may be wrong: at its unknown octets, and wherever else the kernel of its syndromes tells.
+//!
+//! The polynomial that is 0 at the points of the unknown octets scales the word: each octet is multiplied by the value at
+//! its point. The scaled word is right at the unknown places, whatever stands there, and its syndromes are sums of those
+//! of the word. There are fewer of them, by one for each unknown octet.
 
 ghost use Rattle.std.specs.Prelude.{◌≡◌, ◌≢◌, ◌+◌, ◌-◌, ◌*◌, ◌/◌, ◌<◌, ◌≤◌, ℕ, true, false, List, length};
 ghost use Rattle.std.specs.Prelude.{slice_index_or, All};

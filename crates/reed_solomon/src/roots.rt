@@ -1,5 +1,5 @@
-// Where polynomials are 0 among the powers that octets of a word of 255 octets stand at, and polynomials by where they
-// are 0. The flag at place p is that of power(p).
+//! Where polynomials are 0 among the powers that octets of a word of 255 octets stand at, and polynomials by where they
+//! are 0. The flag at place p is that of power(p).
 
 ghost use Rattle.std.specs.Prelude.{◌≡◌, ◌≢◌, ◌<◌, ◌≤◌, ◌==◌, ℕ, true, false, ◌∷◌, length};
 ghost use Rattle.std.specs.Prelude.{slice_index_or, All};

@@ -1,4 +1,4 @@
-// Check octets and repairs from outside: blocks of FX.25 as Dire Wolf sends them, and words of an independent program.
+//! Check octets and repairs from outside: blocks of FX.25 as Dire Wolf sends them, and words of an independent program.
 
 use crate::{Code, NoCodeword, Zeros, check_octets, is_codeword, repair, repair_with_unknown};
 use std::process::Abort;

@@ -1,4 +1,4 @@
-// Unknown octets of words.
+//! Unknown octets of words.
 
 ghost use Rattle.std.specs.Prelude.{◌≡◌, ◌-◌, ◌<◌, ◌≤◌, ◌==◌, ℕ, false, if◌then◌else◌, length, take, drop, slice_index, slice_index_or};
 ghost use Rattle.reed_solomon.specs.Erasures.{blanked, count_true};

@@ -1,4 +1,4 @@
-// Values of words at powers.
+//! Values of words at powers.
 
 ghost use Rattle.std.specs.Prelude.{◌≡◌, ◌+◌, ◌≤◌};
 ghost use Rattle.reed_solomon.specs.Kernel.{values_down};

@@ -1,4 +1,4 @@
-// Words as they are sent, and as words of 255 octets with the zeros of a shortened code.
+//! Words as they are sent, and as words of 255 octets with the zeros of a shortened code.
 
 ghost use Rattle.std.specs.Prelude.{◌≡◌, ◌+◌, ◌-◌, ◌<◌, ◌≤◌, ◌++◌, ℕ, List, All, length, take, drop, replicate};
 ghost use Rattle.arrayvec.specs.ArrayVec.{array_vec_len};

@@ -1,7 +1,7 @@
-// The wrong octets of a word of 255 octets, by its syndromes and the places where it may be wrong.
-//
-// Each octet has a point: power(p) if p others follow it. The product of the differences to the points of all these
-// places but one is 0 at all of them but one, so its sum with the syndromes is the one wrong octet's share.
+//! The wrong octets of a word of 255 octets, by its syndromes and the places where it may be wrong.
+//!
+//! Each octet has a point: power(p) if p others follow it. The product of the differences to the points of all these
+//! places but one is 0 at all of them but one, so its sum with the syndromes is the one wrong octet's share.
 
 ghost use Rattle.std.specs.Prelude.{◌≡◌, ◌≢◌, ◌+◌, ◌<◌, ◌≤◌, ℕ, true, false, List, length};
 ghost use Rattle.std.specs.Prelude.{slice_index_or, All};

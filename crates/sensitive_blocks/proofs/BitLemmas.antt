@@ -3,8 +3,9 @@ use Rattle.sensitive_blocks.proofs.Common.{◌≡◌, ℕ, zero, suc, ◌+◌, �
 use Rattle.sensitive_blocks.proofs.Common.{◌++◌, length, map, filter, range_with_len, refl, ap, sym, ◌∙◌, arith, inl, inr}
 use Rattle.sensitive_blocks.proofs.Common.{append-nil, filter-append, map-append, length-map, if◌then◌else◌, nat_lt, nat_le}
 use Rattle.sensitive_blocks.proofs.Common.{cases_lt, lt-ltb, le-ltb, ltb-true, leb-true, eqb-true, ◌&&◌, ◌==◌, ◌%◌}
-use Rattle.sensitive_blocks.proofs.Common.{Tone, bits_of, ends, lane_tones, lane_bits, reads, reads_place, reads_window}
-use Rattle.sensitive_blocks.proofs.Common.{tone_for, place_for, added_places, delay_of, is_read_at}
+use Rattle.sensitive_blocks.proofs.Common.{Tone, ends, lane_tones, lane_bits, reads, reads_place, reads_window}
+use Rattle.sensitive_blocks.proofs.Common.{tone_for, place_for, added_places, delay_of, is_read_at, lane_certainties, window_to}
+use Rattle.fx25_receiver.specs.Certainty.{certainty}
 use Rattle.std.proofs.lemmas.Bool.{and_parts}
 use Rattle.nrzi_bits.specs.Line.{bits_from}
 use Rattle.tone_table.specs.declared.tone.Tone.TheVariants.{Mark}
@@ -37,6 +38,13 @@ unfolding lane_tones
 tones-read x lane end is =
     ap (map (tone_for x lane)) (ends-read x lane end is) ∙ map-append (tone_for x lane) (ends x lane end) (end ∷ [])
 
+pub certainties-read : (x : List ℤ) (lane end : ℕ) → reads x lane end ≡ true
+    → lane_certainties x lane (end + 1) ≡ lane_certainties x lane end ++ certainty (window_to x end) ∷ []
+unfolding lane_certainties
+certainties-read x lane end is =
+    let sure : ℕ → ℕ = λ e. certainty (window_to x e) in
+    ap (map sure) (ends-read x lane end is) ∙ map-append sure (ends x lane end) (end ∷ [])
+
 -- if it does not
 pub ends-not : (x : List ℤ) (lane end : ℕ) → reads x lane end ≡ false → ends x lane (end + 1) ≡ ends x lane end
 unfolding ends
@@ -46,6 +54,11 @@ pub tones-not : (x : List ℤ) (lane end : ℕ) → reads x lane end ≡ false �
 unfolding lane_tones
 tones-not x lane end is = ap (map (tone_for x lane)) (ends-not x lane end is)
 
+pub certainties-not : (x : List ℤ) (lane end : ℕ) → reads x lane end ≡ false
+    → lane_certainties x lane (end + 1) ≡ lane_certainties x lane end
+unfolding lane_certainties
+certainties-not x lane end is = ap (map (λ e. certainty (window_to x e))) (ends-not x lane end is)
+
 -- below 0 there is none
 pub ends-none : (x : List ℤ) (lane : ℕ) → ends x lane 0 ≡ []
 unfolding ends
@@ -54,6 +67,10 @@ ends-none x lane = refl
 pub tones-none : (x : List ℤ) (lane : ℕ) → lane_tones x lane 0 ≡ []
 unfolding lane_tones
 tones-none x lane = ap (map (tone_for x lane)) (ends-none x lane)
+
+pub certainties-none : (x : List ℤ) (lane : ℕ) → lane_certainties x lane 0 ≡ []
+unfolding lane_certainties
+certainties-none x lane = ap (map (λ e. certainty (window_to x e))) (ends-none x lane)
 
 -- a lane has as many tones as ends
 pub as_many : (x : List ℤ) (lane count : ℕ) → length (lane_tones x lane count) ≡ length (ends x lane count)

@@ -1,6 +1,6 @@
 -- The names that most proofs of this crate cite, passed on from one place.
-pub use Rattle.fx25_blocks.specs.BlockEnds.{EndsBlock}
 pub use Rattle.fx25_blocks.specs.Tags.{IsTag, block_length}
+pub use Rattle.fx25_blocks.specs.UnsureBlocks.{EndsUnsureBlock}
 pub use Rattle.fx25_receiver.specs.Heard.{standing}
 pub use Rattle.fx25_receiver.specs.Held.{Keeps, not_past}
 pub use Rattle.fx25_receiver.specs.Merged.{merged, merged_after}
@@ -8,7 +8,7 @@ pub use Rattle.fx25_receiver.specs.declared.heard.Heard.{Heard}
 pub use Rattle.hdlc_framer.specs.Frames.{EndsFrame}
 pub use Rattle.nrzi_bits.specs.Line.{bits_of}
 pub use Rattle.sensitive_blocks.specs.Heard.{AreHeard, AreMerged, EndsInBlock, EndsPlainly, IsHeard, IsTold, settled}
-unfoldable pub use Rattle.sensitive_blocks.specs.Bits.{ends, lane_tones, reads, tone_for}
+unfoldable pub use Rattle.sensitive_blocks.specs.Bits.{ends, lane_certainties, lane_tones, reads, tone_for, window_to}
 pub use Rattle.sensitive_blocks.specs.Bits.{lane_bits, place_for, reads_place, reads_window}
 pub use Rattle.sensitive_blocks.specs.HeldLane.{HeldLane, LaneHasRead}
 pub use Rattle.sensitive_blocks.specs.Taken.{AreHeardBelow, HasTakenBelow}

@@ -18,7 +18,6 @@ use Rattle.tone_tracking.specs.HeldMean.{HeldMean, StandsFor as MeanStandsFor}
 use Rattle.tone_tracking.specs.HeldLists.{HeldLists, HasTaken as ListsHaveTaken}
 use Rattle.sensitive_receiver.proofs.LevelLemmas.{clock-append, level_is, lists-append}
 use Rattle.tone_tracking.proofs.TrackerLemmas.{tone_before-last}
-use Rattle.sensitive_blocks.specs.declared.readings.Readings.{Readings}
 use Rattle.sensitive_blocks.specs.Held.{ClocksHaveTaken, FollowerHasTaken, HeldFollower, none_known}
 unfoldable use Rattle.sensitive_blocks.specs.Held.{known_at, known_of}
 

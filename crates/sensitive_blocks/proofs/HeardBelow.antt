@@ -1,7 +1,7 @@
 -- What is heard of samples below a number, with one number more.
 use Rattle.sensitive_blocks.proofs.Common.{◌≡◌, ℕ, ◌+◌, ◌-◌, ◌*◌, ◌<◌, ◌≤◌, ℤ, List, [], ◌∷◌, ◌++◌, length, get_or, ap, sym, ◌∙◌}
 use Rattle.sensitive_blocks.proofs.Common.{subst, arith, inl, inr, cases_lt, get_or-append-add, get_or_append_left, length_push}
-use Rattle.sensitive_blocks.proofs.Common.{All, AllPairs, Contains, All-append, All-cons, All-nil, All-weaker}
+use Rattle.sensitive_blocks.proofs.Common.{All-append, All-cons, All-nil}
 use Rattle.sensitive_blocks.proofs.Common.{Contains-append_left, Contains-append_right, Heard, standing, IsHeard, AreHeard, AreHeardBelow}
 use Rattle.sensitive_blocks.proofs.OneItem.{end_within, one_standing, tag_below}
 use Rattle.sensitive_blocks.proofs.PrefixLemmas.{heard-append, heard-take}

@@ -1,18 +1,18 @@
 -- Samples have one list of what is heard of them: it strictly rises, and it is found number by number.
 use Rattle.sensitive_blocks.proofs.Common.{◌≡◌, ℕ, zero, suc, ◌+◌, ◌-◌, ◌*◌, ◌/◌, ◌%◌, ◌<◌, ◌≤◌, ◌⊎◌, ℤ, Bool, true, false, List, []}
 use Rattle.sensitive_blocks.proofs.Common.{◌∷◌, ◌++◌, length, get_or, ap, sym, ◌∙◌, subst, refl, arith, inl, inr, cases_lt, cases_eq}
-use Rattle.sensitive_blocks.proofs.Common.{append-nil, append_assoc, All, All-append, All-cons, All-nil, All-weaker, Contains, true≢false}
-use Rattle.sensitive_blocks.proofs.Common.{AreHeard, AreHeardBelow, EndsBlock, EndsFrame, EndsInBlock, EndsPlainly, HasPath, Heard, IsHeard}
+use Rattle.sensitive_blocks.proofs.Common.{append-nil, append_assoc, All, All-append, All-cons, All-nil, All-weaker, true≢false}
+use Rattle.sensitive_blocks.proofs.Common.{AreHeard, AreHeardBelow, EndsUnsureBlock, EndsFrame, EndsInBlock, EndsPlainly, HasPath, Heard, IsHeard}
 use Rattle.sensitive_blocks.proofs.Common.{IsTag, IsTold, block_length, ends, is_in_time, lane_bits, place_for, reads, standing}
+use Rattle.sensitive_blocks.proofs.Common.{lane_certainties}
 use Rattle.slicer_bank.proofs.FrameDecided.{frame_or_none}
 use Rattle.hdlc_framer.proofs.FrameEnds.{one_frame}
-use Rattle.fx25_receiver.proofs.BlockDecided.{block_or_none}
+use Rattle.fx25_receiver.proofs.UnsureDecided.{unsure_block_or_none}
 use Rattle.fx25_receiver.proofs.HeardLists.{same_list}
-use Rattle.fx25_receiver.proofs.TakenLemmas.{block_bounds}
+use Rattle.fx25_receiver.proofs.TakenLemmas.{unsure_block_bounds}
 use Rattle.sensitive_receiver.proofs.PathDecided.{path_or_none}
-use Rattle.sensitive_blocks.proofs.BitLemmas.{length-lane_bits, place_read, window_read}
 use Rattle.sensitive_blocks.proofs.HeardBelow.{all_below, none_below, none_between, one_at}
-use Rattle.sensitive_blocks.proofs.OneItem.{end_within, tag_below}
+use Rattle.sensitive_blocks.proofs.OneItem.{tag_below}
 
 -- ---- one list
 
@@ -49,6 +49,9 @@ told_or_not x lane end octets = elim (cases_lt lane 8) [
 module _ (x : List ℤ) (lane end : ℕ) (small : lane < 26) (read : reads x lane end ≡ true) where
   there : List Bool
   there = lane_bits x lane (end + 1)
+
+  sure : List ℕ
+  sure = lane_certainties x lane (end + 1)
 
   plain_or_none : Found x (65536 * end + (256 * lane + 0)) ⊎ (Found x (65536 * end + (256 * lane + 0)) → ⊥)
   unfolding there
@@ -93,12 +96,12 @@ module _ (x : List ℤ) (lane end : ℕ) (small : lane < 26) (read : reads x lan
 
   in_block_or_none : (tag : ℕ) → IsTag tag
       → Found x (65536 * end + (256 * lane + tag)) ⊎ (Found x (65536 * end + (256 * lane + tag)) → ⊥)
-  unfolding there
-  in_block_or_none tag is_tag = elim (block_or_none tag is_tag there) [
+  unfolding there sure
+  in_block_or_none tag is_tag = elim (unsure_block_or_none tag is_tag there sure) [
     | inr none ↦ inr (λ found. named found none)
     | inl block ↦
         let over = block.1 in
-        let bounds = block_bounds there tag block.0 over block.2 in
+        let bounds = unsure_block_bounds there sure tag block.0 over block.2 in
         let least = bounds.0 in
         let index : ℕ = length there + over - (8 * block_length tag + 1) in
         let item : Heard = record {
@@ -119,7 +122,8 @@ module _ (x : List ℤ) (lane end : ℕ) (small : lane < 26) (read : reads x lan
   ]
     where
       named : Found x (65536 * end + (256 * lane + tag))
-          → (((frame : List ℕ) × (over : ℕ) × EndsBlock (lane_bits x lane (end + 1)) tag frame over) → ⊥) → ⊥
+          → (((frame : List ℕ) × (over : ℕ)
+          × EndsUnsureBlock (lane_bits x lane (end + 1)) (lane_certainties x lane (end + 1)) tag frame over) → ⊥) → ⊥
       named (item, h, at) none =
           let tag_small = tag_below x item h in
           let low = h.lane in
@@ -133,9 +137,11 @@ module _ (x : List ℤ) (lane end : ℕ) (small : lane < 26) (read : reads x lan
             | inr block ↦ none (
               item.octets,
               block.over,
-              subst (λ t. EndsBlock (lane_bits x lane (end + 1)) t item.octets block.over) tag_is
-                  (subst (λ k. EndsBlock (lane_bits x lane (k + 1)) item.tag item.octets block.over) end_is
-                  (subst (λ l. EndsBlock (lane_bits x l (item.end + 1)) item.tag item.octets block.over) lane_is block.block)),
+              subst (λ t. EndsUnsureBlock (lane_bits x lane (end + 1)) (lane_certainties x lane (end + 1)) t item.octets block.over)
+                  tag_is (subst (λ k. EndsUnsureBlock (lane_bits x lane (k + 1)) (lane_certainties x lane (k + 1)) item.tag
+                  item.octets block.over) end_is
+                  (subst (λ l. EndsUnsureBlock (lane_bits x l (item.end + 1)) (lane_certainties x l (item.end + 1)) item.tag
+                  item.octets block.over) lane_is block.block)),
             )
           ]
 

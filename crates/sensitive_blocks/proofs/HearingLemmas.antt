@@ -1,13 +1,12 @@
 -- Lane after lane of an end, and tag after tag of a bit.
-use Rattle.sensitive_blocks.proofs.Common.{◌≡◌, ℕ, ◌+◌, ◌*◌, ◌<◌, ◌≤◌, true, ℤ, List, ◌++◌, length, set, ◌∙◌, arith, subst}
-use Rattle.sensitive_blocks.proofs.Common.{Heard, HasTakenBelow, HeldLane, LaneHasRead, ends, get_or, lane_tones, reads}
+use Rattle.sensitive_blocks.proofs.Common.{◌≡◌, ℕ, ◌+◌, ◌*◌, ◌<◌, true, ℤ, List, ◌++◌, length, set, ◌∙◌}
+use Rattle.sensitive_blocks.proofs.Common.{Heard, HasTakenBelow, HeldLane, LaneHasRead, ends, get_or, lane_certainties, lane_tones, reads}
 use Rattle.std.proofs.lemmas.List.{length-set}
 use Rattle.sensitive_blocks.specs.declared.hearing.Bit.{Bit}
 use Rattle.sensitive_blocks.specs.declared.hearing.Moment.{Moment}
 use Rattle.sensitive_blocks.specs.Held.{HeldFollower, LanesAreAt, LanesHaveRead}
 use Rattle.sensitive_blocks.specs.Moments.{IsAt}
 use Rattle.sensitive_blocks.proofs.LaneLemmas.{lane_after, lane_before, lanes_before}
-use Rattle.sensitive_blocks.proofs.TakenLemmas.{taken_end}
 
 -- the first lanes have read their bits of an end, and what ends with them was taken
 pub record HaveHeard (moment : Moment) (follower : HeldFollower) (end : ℕ) (old now : List HeldLane)
@@ -29,10 +28,10 @@ pub heard_more : (moment : Moment) (follower : HeldFollower) (end : ℕ) (old no
     (kept given later more last all : List Heard) (n : ℕ) → n < 26
     → HaveHeard moment follower end old now kept given later more n
     → ((x : List ℤ) → IsAt moment follower end x
-    → LaneHasRead (get_or now n was) (lane_tones x n end) (ends x n end)
-    → LaneHasRead lane (lane_tones x n (end + 1)) (ends x n (end + 1)))
+    → LaneHasRead (get_or now n was) (lane_tones x n end) (lane_certainties x n end) (ends x n end)
+    → LaneHasRead lane (lane_tones x n (end + 1)) (lane_certainties x n (end + 1)) (ends x n (end + 1)))
     → ((x : List ℤ) (before : List Heard) → IsAt moment follower end x
-    → LaneHasRead (get_or now n was) (lane_tones x n end) (ends x n end)
+    → LaneHasRead (get_or now n was) (lane_tones x n end) (lane_certainties x n end) (ends x n end)
     → HasTakenBelow end (256 * n) later x (before ++ more)
     → HasTakenBelow end (256 * (n + 1)) last x (before ++ all))
     → HaveHeard moment follower end old (set now n lane) kept given last all (n + 1)
@@ -48,6 +47,7 @@ heard_more moment follower end old now was lane kept given later more last all n
 -- what has been taken of the blocks of so many tags
 abbrev pub HasHeardTags : HeldLane → Bit → List Heard → List Heard → List Heard → List Heard → ℕ → Type 0
 HasHeardTags lane bit kept given now more count = (x : List ℤ) (before : List Heard) → reads x bit.lane bit.end ≡ true
-    → LaneHasRead lane (lane_tones x bit.lane (bit.end + 1)) (ends x bit.lane (bit.end + 1))
+    → LaneHasRead lane (lane_tones x bit.lane (bit.end + 1)) (lane_certainties x bit.lane (bit.end + 1))
+    (ends x bit.lane (bit.end + 1))
     → HasTakenBelow bit.end (256 * bit.lane + 1) kept x (before ++ given)
     → HasTakenBelow bit.end (256 * bit.lane + (count + 1)) now x (before ++ more)

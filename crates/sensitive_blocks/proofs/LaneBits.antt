@@ -1,9 +1,9 @@
 -- The bits of a lane are those of the same lane where no blocks are read.
-use Rattle.sensitive_blocks.proofs.Common.{◌≡◌, ℕ, zero, suc, ◌+◌, ◌-◌, ◌*◌, ◌/◌, ◌%◌, ◌<◌, ◌≤◌, Bool, true, false, ℤ, List, []}
-use Rattle.sensitive_blocks.proofs.Common.{◌∷◌, ◌++◌, length, map, take, drop, refl, ap, sym, ◌∙◌, subst, arith, inl, inr, add-one, ◌⊎◌, ◌≢◌}
+use Rattle.sensitive_blocks.proofs.Common.{◌≡◌, ℕ, zero, suc, ◌+◌, ◌-◌, ◌*◌, ◌%◌, ◌<◌, ◌≤◌, Bool, true, false, ℤ, List, []}
+use Rattle.sensitive_blocks.proofs.Common.{◌∷◌, ◌++◌, length, map, take, drop, refl, ap, sym, ◌∙◌, arith, inl, inr, add-one, ◌⊎◌, ◌≢◌}
 use Rattle.sensitive_blocks.proofs.Common.{cases_lt, cases_eq, map-append, length-map, range_with_len, ◌==◌, ◌&&◌, nat_le, nat_lt}
-use Rattle.sensitive_blocks.proofs.Common.{Tone, added_places, bits_of, delay_of, ends, is_read_at, lane_bits, lane_tones, place_for}
-use Rattle.sensitive_blocks.proofs.Common.{reads, reads_place, reads_window, tone_for, tone_read, if◌then◌else◌, lt-ltb, le-ltb, lt-leb}
+use Rattle.sensitive_blocks.proofs.Common.{Tone, added_places, bits_of, delay_of, is_read_at, lane_bits, lane_tones, place_for}
+use Rattle.sensitive_blocks.proofs.Common.{reads, tone_for, tone_read, if◌then◌else◌, lt-ltb, le-ltb, lt-leb}
 use Rattle.sensitive_blocks.proofs.Common.{le-leb}
 use Rattle.std.proofs.lemmas.Bool.{eq-eqb, ne_eqb}
 use Rattle.std.proofs.Math.Bool.{and-false}
@@ -14,7 +14,6 @@ use Rattle.tone_table.specs.declared.tone.Tone.TheVariants.{Mark}
 use Rattle.offset_slicers.specs.Decision.{tone_of}
 use Rattle.offset_slicers.specs.Windows.{windows_in}
 unfoldable use Rattle.offset_slicers.specs.Windows.{bits, tones_at, window_at}
-use Rattle.sensitive_receiver.specs.Lanes.{lane_bits as place_bits}
 unfoldable use Rattle.sensitive_receiver.specs.Lanes.{lane_tones as place_tones}
 use Rattle.sensitive_receiver.proofs.LaneLemmas.{lane_tones-not as place_tones-not, lane_tones-read as place_tones-read}
 use Rattle.sensitive_receiver.proofs.VisitedLanes.{tones_of_none}

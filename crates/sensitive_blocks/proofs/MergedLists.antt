@@ -1,8 +1,8 @@
 -- What is merged of samples: there is one list of it, its ends do not fall, and what is settled of it stays.
-use Rattle.sensitive_blocks.proofs.Common.{◌≡◌, ℕ, ◌+◌, ◌-◌, ◌*◌, ◌<◌, ◌≤◌, ℤ, List, [], ◌∷◌, ◌++◌, length, get_or, ap}
-use Rattle.sensitive_blocks.proofs.Common.{sym, ◌∙◌, subst, refl, arith, inl, inr, cases_eq, cases_lt, All, All-append, All-nil}
+use Rattle.sensitive_blocks.proofs.Common.{◌≡◌, ℕ, ◌+◌, ◌*◌, ◌<◌, ◌≤◌, ℤ, List, [], ◌++◌, length, get_or, ap}
+use Rattle.sensitive_blocks.proofs.Common.{sym, ◌∙◌, subst, refl, arith, inl, inr, cases_eq, cases_lt, All, All-nil}
 use Rattle.sensitive_blocks.proofs.Common.{All-weaker, AreHeard, AreHeardBelow, AreMerged, Heard, IsHeard, merged, merged_after}
-use Rattle.sensitive_blocks.proofs.Common.{settled, standing, reads, true}
+use Rattle.sensitive_blocks.proofs.Common.{settled}
 use Rattle.std.proofs.Common.{length-append}
 use Rattle.std.specs.List.Sorted.{IsNonDecreasingBy}
 use Rattle.fx25_receiver.proofs.MergingLemmas.{merged_after-append}

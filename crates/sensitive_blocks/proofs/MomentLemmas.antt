@@ -1,10 +1,12 @@
 -- What a moment tells of the bits with an end: which lanes read one, its tone, and whether its flag is in time.
 use Rattle.sensitive_blocks.proofs.Common.{◌≡◌, ℕ, ◌+◌, ◌-◌, ◌%◌, ◌<◌, ◌≤◌, Bool, true, false, ℤ, List, length, take, drop}
-use Rattle.sensitive_blocks.proofs.Common.{refl, ap, sym, ◌∙◌, subst, arith, inl, inr, if◌then◌else◌, nat_lt, nat_le, ◌&&◌, not, ◌==◌}
-use Rattle.sensitive_blocks.proofs.Common.{cases_lt, lt-ltb, le-ltb, le-leb, lt-leb, leb-true, Tone, reads, tone_for, place_for}
-use Rattle.sensitive_blocks.proofs.Common.{added_places, delay_of, is_read_at, is_in_time, list_of, reads_place}
+use Rattle.sensitive_blocks.proofs.Common.{refl, ap, sym, ◌∙◌, arith, inl, inr, if◌then◌else◌, nat_lt, nat_le, ◌&&◌, not, ◌==◌}
+use Rattle.sensitive_blocks.proofs.Common.{cases_lt, lt-ltb, le-ltb, le-leb, leb-true, Tone, reads, tone_for, place_for}
+use Rattle.sensitive_blocks.proofs.Common.{added_places, delay_of, is_read_at, is_in_time, list_of}
 unfoldable use Rattle.sensitive_receiver.specs.Lanes.{readings_at}
-use Rattle.sensitive_blocks.proofs.Common.{reads_window, tone_back, tone_read, tones}
+use Rattle.sensitive_blocks.proofs.Common.{tone_back, tone_read, tones, pos, window_to, ◌++◌}
+use Rattle.std.specs.Prelude.{replicate}
+use Rattle.std.proofs.Math.Seq.{drop-append-add}
 use Rattle.std.proofs.lemmas.Bool.{and_parts}
 use Rattle.offset_slicers.specs.Decision.{tone_of}
 use Rattle.tone_tracking.specs.Clock.{changes, is_reading}
@@ -181,10 +183,13 @@ tone_told x lane end position back reach tone added is at enough reach_is tone_i
     ∙ sym (ap (λ b. if b then tone_of (take 8 (drop (end - 8) x)) else tone_read x lane (place_for lane end)) (le-ltb lane 8 added))
 
 pub window_tone : (x : List ℤ) (lane end : ℕ) (window : List ℤ) (tone : Tone) → lane < 8 → tone ≡ tone_of window
-    → window ≡ take 8 (drop (end - 8) x) → tone ≡ tone_for x lane end
-unfolding tone_for
-window_tone x lane end window tone small is window_is =
-    is ∙ ap tone_of window_is
+    → 8 ≤ end → window ≡ window_to x end → tone ≡ tone_for x lane end
+unfolding tone_for window_to
+window_tone x lane end window tone small is least window_is =
+    let silence = replicate 8 (pos 0) in
+    let place : end ≡ 8 + (end - 8) = omega arith in
+    is ∙ ap tone_of (window_is ∙ ap (λ n. take 8 (drop n (silence ++ x))) place
+    ∙ ap (take 8) (drop-append-add silence x (end - 8)))
     ∙ sym (ap (λ b. if b then tone_of (take 8 (drop (end - 8) x)) else tone_read x lane (place_for lane end)) (lt-ltb lane 8 small))
 
 -- whether a flag is in time

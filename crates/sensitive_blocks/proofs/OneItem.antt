@@ -1,8 +1,9 @@
 -- With a bit of a lane, at most one item of each tag ends; and what bounds an item.
-use Rattle.sensitive_blocks.proofs.Common.{◌≡◌, ℕ, ◌+◌, ◌*◌, ◌<◌, ◌≤◌, ℤ, Bool, List, length, ap, sym, ◌∙◌, subst, arith, inl, inr}
-use Rattle.sensitive_blocks.proofs.Common.{◌⊎◌, get_or, Heard, EndsBlock, EndsInBlock, EndsPlainly, IsHeard, block_length, ends, lane_bits, standing}
+use Rattle.sensitive_blocks.proofs.Common.{◌≡◌, ◌+◌, ◌<◌, ◌≤◌, ℤ, Bool, List, length, ap, sym, ◌∙◌, subst, arith, inl, inr}
+use Rattle.sensitive_blocks.proofs.Common.{◌⊎◌, get_or, Heard, EndsUnsureBlock, EndsInBlock, EndsPlainly, IsHeard, block_length, ends, lane_bits, standing}
+use Rattle.sensitive_blocks.proofs.Common.{lane_certainties}
 use Rattle.hdlc_framer.proofs.FrameEnds.{one_frame}
-use Rattle.fx25_blocks.proofs.BlockLaws.{one_block}
+use Rattle.fx25_blocks.proofs.UnsureLaws.{one_unsure}
 use Rattle.fx25_receiver.proofs.TakenLemmas.{same_item}
 use Rattle.sensitive_blocks.proofs.BitLemmas.{read_within}
 
@@ -27,6 +28,9 @@ one_item x item other first second end lane tag = go first.ends second.ends
     there : lane_bits x other.lane (other.end + 1) ≡ lane_bits x item.lane (item.end + 1)
     there = ap (λ l. lane_bits x l (other.end + 1)) lane ∙ ap (λ e. lane_bits x item.lane (e + 1)) end
 
+    as_sure : lane_certainties x other.lane (other.end + 1) ≡ lane_certainties x item.lane (item.end + 1)
+    as_sure = ap (λ l. lane_certainties x l (other.end + 1)) lane ∙ ap (λ e. lane_certainties x item.lane (e + 1)) end
+
     go : EndsPlainly x item ⊎ EndsInBlock x item → EndsPlainly x other ⊎ EndsInBlock x other → item ≡ other
     go (inl plain) (inl also) =
         same_item item other (sym end) (sym lane) (sym tag)
@@ -36,12 +40,16 @@ one_item x item other first second end lane tag = go first.ends second.ends
     go (inl plain) (inr block) = let none = plain.tag in let least = block.block.is_tag.0 in absurd (omega arith)
     go (inr block) (inl plain) = let none = plain.tag in let least = block.block.is_tag.0 in absurd (omega arith)
     go (inr block) (inr also) =
-        let at_bits : EndsBlock (lane_bits x item.lane (item.end + 1)) other.tag other.octets also.over =
-        subst (λ b. EndsBlock b other.tag other.octets also.over) there also.block in
-        let at_tag : EndsBlock (lane_bits x item.lane (item.end + 1)) item.tag other.octets also.over =
-        subst (λ t. EndsBlock (lane_bits x item.lane (item.end + 1)) t other.octets also.over) tag at_bits in
-        let one = one_block (lane_bits x item.lane (item.end + 1)) item.tag item.octets other.octets block.over also.over
-        block.block at_tag in
+        let bits = lane_bits x item.lane (item.end + 1) in
+        let numbers = lane_certainties x item.lane (item.end + 1) in
+        let at_bits : EndsUnsureBlock bits (lane_certainties x other.lane (other.end + 1)) other.tag other.octets also.over =
+        subst (λ b. EndsUnsureBlock b (lane_certainties x other.lane (other.end + 1)) other.tag other.octets also.over) there
+        also.block in
+        let at_numbers : EndsUnsureBlock bits numbers other.tag other.octets also.over =
+        subst (λ n. EndsUnsureBlock bits n other.tag other.octets also.over) as_sure at_bits in
+        let at_tag : EndsUnsureBlock bits numbers item.tag other.octets also.over =
+        subst (λ t. EndsUnsureBlock bits numbers t other.octets also.over) tag at_numbers in
+        let one = one_unsure bits numbers item.tag item.octets other.octets block.over also.over block.block at_tag in
         let lengths : block_length other.tag ≡ block_length item.tag = ap block_length tag in
         let sizes : length (lane_bits x other.lane (other.end + 1)) ≡ length (lane_bits x item.lane (item.end + 1)) =
         ap length there in

@@ -1,14 +1,14 @@
 -- A receiver with one end more, one sample more, and a block more.
-use Rattle.sensitive_blocks.proofs.Common.{◌≡◌, ℕ, zero, suc, ◌+◌, ◌-◌, ◌*◌, ◌<◌, ◌≤◌, Bool, true, false, ℤ, pos, List, [], ◌∷◌, ◌++◌}
-use Rattle.sensitive_blocks.proofs.Common.{length, get_or, take, drop, refl, ap, sym, ◌∙◌, subst, arith, inl, inr, cases_lt, cases_eq}
-use Rattle.sensitive_blocks.proofs.Common.{append-nil, append_assoc, length-append, added_places, reads, Heard, merged, AreMerged}
-use Rattle.sensitive_blocks.proofs.Common.{HasTakenBelow, AreHeardBelow, HeldLane, place_for, delay_of, ◌⊎◌}
+use Rattle.sensitive_blocks.proofs.Common.{◌≡◌, ℕ, zero, suc, ◌+◌, ◌-◌, ◌*◌, ◌<◌, ◌≤◌, Bool, true, ℤ, pos, List, [], ◌∷◌, ◌++◌}
+use Rattle.sensitive_blocks.proofs.Common.{length, get_or, take, drop, refl, ap, sym, ◌∙◌, subst, arith, inl, inr, cases_lt}
+use Rattle.sensitive_blocks.proofs.Common.{append-nil, append_assoc, length-append, added_places, reads, Heard, AreMerged}
+use Rattle.sensitive_blocks.proofs.Common.{AreHeardBelow, HeldLane, window_to, ◌⊎◌}
 use Rattle.std.proofs.Common.{length-drop, replicate, get_or-append-add}
 use Rattle.std.proofs.Math.Seq.{drop-append-add, take-append_seam}
 use Rattle.std.proofs.lemmas.List.{drop-append-le, drop-drop, length-replicate, take_all}
 use Rattle.sensitive_blocks.specs.declared.readings.Readings.{Readings}
-use Rattle.sensitive_blocks.specs.Held.{AreKept, AreKeptBefore, HasTaken, HeldFollower, HeldReceiver, IsLineOf, LanesHaveRead}
-use Rattle.sensitive_blocks.specs.Held.{StandsFor, none_known}
+use Rattle.sensitive_blocks.specs.Held.{AreKept, AreKeptBefore, HasTaken, HeldFollower, HeldReceiver, IsLineOf}
+use Rattle.sensitive_blocks.specs.Held.{none_known}
 unfoldable use Rattle.sensitive_blocks.specs.Held.{known_at, known_of, last_forty}
 use Rattle.tone_tracking.specs.Clock.{reads as clock_reads}
 use Rattle.tone_tracking.specs.declared.bit_clock.Pull.TheVariants.{Slow, Fast}
@@ -111,12 +111,16 @@ line_is x block =
     let inside : length x ≤ length (silence ++ x) = omega (arith, length-append silence x) in
     sym (drop-append-le (length x) (silence ++ x) block inside) ∙ ap (drop (length x)) (append_assoc silence x block)
 
-window_is : (y : List ℤ) (from i : ℕ) → 40 ≤ from + i
-    → drop i (drop from (replicate 40 (pos 0) ++ y)) ≡ drop (from + i - 40) y
+-- the eight samples of it that stand 32 places past an end
+window_is : (y : List ℤ) (from i : ℕ) → 32 ≤ from + i
+    → take 8 (drop i (drop from (replicate 40 (pos 0) ++ y))) ≡ window_to y (from + i - 32)
+unfolding window_to
 window_is y from i enough =
-    let silence = replicate 40 (pos 0) in
-    let at : from + i ≡ length silence + (from + i - 40) = omega (arith, length-replicate 40 (pos 0)) in
-    drop-drop i from (silence ++ y) ∙ ap (λ n. drop n (silence ++ y)) at ∙ drop-append-add silence y (from + i - 40)
+    let early = replicate 32 (pos 0) in
+    let late = replicate 8 (pos 0) ++ y in
+    let at : from + i ≡ 32 + (from + i - 32) = omega arith in
+    ap (take 8) (drop-drop i from (early ++ late) ∙ ap (λ n. drop n (early ++ late)) at
+    ∙ drop-append-add early late (from + i - 32))
 
 pub line_of : (x block line recent : List ℤ) (position : ℕ) → line ≡ recent ++ block → recent ≡ last_forty x
     → position ≡ length x → IsLineOf line block position (x ++ block)
@@ -127,9 +131,8 @@ line_of x block line recent position is recent_is at =
       size = omega (arith, length-append x block);
       samples = λ i inside. sym (ap (λ n. get_or (x ++ block) (n + i) (pos 0)) at ∙ get_or-append-add x block i (pos 0));
       windows = λ i inside enough.
-          ap (λ l. take 8 (drop i l)) whole
-          ∙ ap (take 8) (window_is (x ++ block) (length x) i (omega arith))
-          ∙ ap (λ n. take 8 (drop (n + i - 40) (x ++ block))) (sym at);
+          ap (λ l. take 8 (drop i l)) whole ∙ window_is (x ++ block) (length x) i (omega arith)
+          ∙ ap (λ n. window_to (x ++ block) (n + i - 32)) (sym at);
     }
 
 pub length-last_forty : (x : List ℤ) → length (last_forty x) ≡ 40
@@ -163,13 +166,11 @@ forty_behind x block line recent is recent_is =
     ∙ take_all 40 (drop (length (x ++ block)) all) (omega arith)
 
 -- the window of an end after all samples have come
-pub rest_window : (x recent : List ℤ) (i : ℕ) → recent ≡ last_forty x → 8 ≤ length x + i - 32
-    → take 8 (drop i recent) ≡ take 8 (drop (length x + i - 32 - 8) x)
+pub rest_window : (x recent : List ℤ) (i : ℕ) → recent ≡ last_forty x → 32 ≤ length x + i
+    → take 8 (drop i recent) ≡ window_to x (length x + i - 32)
 unfolding last_forty
 rest_window x recent i is enough =
-    let same : length x + i - 40 ≡ length x + i - 32 - 8 = omega arith in
-    ap (λ r. take 8 (drop i r)) is ∙ ap (take 8) (window_is x (length x) i (omega arith))
-    ∙ ap (λ n. take 8 (drop n x)) same
+    ap (λ r. take 8 (drop i r)) is ∙ window_is x (length x) i enough
 
 -- where the tones of the last ends lie
 pub rest_back : (x : List ℤ) (i back : ℕ) → back ≡ 2 - (i + 1) → 32 ≤ length x + i
@@ -220,7 +221,7 @@ pub fed_more : (initial was now : HeldReceiver) (line block : List ℤ) (earlier
     → window ≡ take 8 (drop n line)
     → ((x : List ℤ) (before : List Heard) → HasTaken was x (before ++ given) → was.follower.position < length x
     → sample ≡ get_or x was.follower.position (pos 0)
-    → (40 ≤ was.follower.position → window ≡ take 8 (drop (was.follower.position - 40) x))
+    → (32 ≤ was.follower.position → window ≡ window_to x (was.follower.position - 32))
     → HasTaken now x (before ++ more))
     → now.follower.position ≡ was.follower.position + 1 → now.next ≡ now.follower.position - 32 → now.recent ≡ was.recent
     → now.spent ≡ was.spent → HasFed initial now line block earlier more (n + 1)
@@ -233,7 +234,7 @@ fed_more initial was now line block earlier given more n sample window h inside 
           let size = is.size in
           step x before (h.taken x before taken is) (omega arith)
           (sample_is ∙ is.samples n inside ∙ ap (λ k. get_or x k (pos 0)) (sym at))
-          (λ enough. window_is ∙ is.windows n inside (omega arith) ∙ ap (λ k. take 8 (drop (k - 40) x)) (sym at));
+          (λ enough. window_is ∙ is.windows n inside (omega arith) ∙ ap (λ k. window_to x (k - 32)) (sym at));
       recent = recent ∙ h.recent;
       spent = spent ∙ h.spent;
     }
@@ -264,7 +265,7 @@ pub ended_more : (initial was now : HeldReceiver) (earlier given more : List Hea
     → known ≡ none_known → window ≡ take 8 (drop n initial.recent)
     → ((x : List ℤ) (before : List Heard) → HasTaken was x (before ++ given) → was.next ≤ length x
     → known ≡ known_at x (was.next + 2)
-    → (8 ≤ was.next → window ≡ take 8 (drop (was.next - 8) x))
+    → window ≡ window_to x was.next
     → ((lane : ℕ) → 8 ≤ lane → lane < 26 → reads x lane was.next ≡ true
     → (back + was.next + 31 ≡ was.follower.position) × (39 ≤ was.follower.position))
     → HasTaken now x (before ++ more))
@@ -279,7 +280,7 @@ ended_more initial was now earlier given more n back window known h few enough b
           let here : was.next ≡ length x + n - 32 = omega arith in
           step x before (h.taken x before taken at is) (omega arith)
           (known_is ∙ sym (known_late x (was.next + 2) (omega arith)))
-          (λ least. window_is ∙ rest_window x initial.recent n is (omega arith) ∙ ap (λ k. take 8 (drop (k - 8) x)) (sym here))
+          (window_is ∙ rest_window x initial.recent n is (omega arith) ∙ ap (window_to x) (sym here))
           (λ lane added small read.
           let told = rest_back x n back back_is (omega arith) lane added small
           (subst (λ e. reads x lane e ≡ true) here read) in

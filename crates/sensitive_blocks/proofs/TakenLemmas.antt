@@ -1,8 +1,9 @@
 -- What has been taken of what ends with a bit, with one item more or none.
-use Rattle.sensitive_blocks.proofs.Common.{◌≡◌, ℕ, zero, suc, ◌+◌, ◌-◌, ◌*◌, ◌<◌, ◌≤◌, ℤ, Bool, true, false, List, [], ◌∷◌, ◌++◌}
-use Rattle.sensitive_blocks.proofs.Common.{length, get_or, refl, ap, sym, ◌∙◌, subst, arith, inl, inr, true≢false, cases_lt}
-use Rattle.sensitive_blocks.proofs.Common.{Heard, Keeps, merged, standing, EndsBlock, EndsFrame, EndsInBlock, EndsPlainly, IsHeard}
+use Rattle.sensitive_blocks.proofs.Common.{◌≡◌, ℕ, ◌+◌, ◌-◌, ◌*◌, ◌<◌, ◌≤◌, ℤ, Bool, true, false, List, [], ◌∷◌, ◌++◌}
+use Rattle.sensitive_blocks.proofs.Common.{length, get_or, refl, ap, sym, ◌∙◌, subst, arith, inl, inr, true≢false}
+use Rattle.sensitive_blocks.proofs.Common.{Heard, Keeps, merged, EndsUnsureBlock, EndsFrame, EndsInBlock, EndsPlainly, IsHeard}
 use Rattle.sensitive_blocks.proofs.Common.{IsTag, IsTold, AreHeardBelow, HasTakenBelow, block_length, ends, lane_bits, reads}
+use Rattle.sensitive_blocks.proofs.Common.{lane_certainties}
 use Rattle.fx25_receiver.proofs.MergingLemmas.{keeps_on}
 use Rattle.sensitive_blocks.proofs.HeardBelow.{below-append, none_between, none_below, one_at}
 use Rattle.sensitive_blocks.proofs.OneItem.{tag_below}
@@ -66,10 +67,21 @@ module _ (x : List ℤ) (lane end : ℕ) (small : lane < 26) (is_read : reads x 
   abbrev there : List Bool
   there = lane_bits x lane (end + 1)
 
+  abbrev sure : List ℕ
+  sure = lane_certainties x lane (end + 1)
+
   -- an item of the bit, with its lane and its end named
   bits_of_item : (item : Heard) → item.lane ≡ lane → item.end ≡ end
       → lane_bits x item.lane (item.end + 1) ≡ lane_bits x lane (end + 1)
   bits_of_item item lane_is end_is = ap (λ l. lane_bits x l (item.end + 1)) lane_is ∙ ap (λ e. lane_bits x lane (e + 1)) end_is
+
+  block_of_item : (item : Heard) (over : ℕ) → item.lane ≡ lane → item.end ≡ end
+      → EndsUnsureBlock (lane_bits x item.lane (item.end + 1)) (lane_certainties x item.lane (item.end + 1)) item.tag item.octets over
+      → EndsUnsureBlock there sure item.tag item.octets over
+  block_of_item item over lane_is end_is block =
+      subst (λ e. EndsUnsureBlock (lane_bits x lane (e + 1)) (lane_certainties x lane (e + 1)) item.tag item.octets over) end_is
+      (subst (λ l. EndsUnsureBlock (lane_bits x l (item.end + 1)) (lane_certainties x l (item.end + 1)) item.tag item.octets over)
+      lane_is block)
 
   -- no frame that is told ends plainly
   pub taken_no_plain : ((octets : List ℕ) → EndsFrame there octets → IsTold x lane end octets → ⊥)
@@ -100,7 +112,7 @@ module _ (x : List ℤ) (lane end : ℕ) (small : lane < 26) (is_read : reads x 
       taken_one x end (256 * lane) kept given item now more taken here refl (omega arith) keeps is
 
   -- no frame ends in a block of a tag
-  pub taken_no_block : (tag : ℕ) → IsTag tag → ((frame : List ℕ) → (over : ℕ) → EndsBlock there tag frame over → ⊥)
+  pub taken_no_block : (tag : ℕ) → IsTag tag → ((frame : List ℕ) → (over : ℕ) → EndsUnsureBlock there sure tag frame over → ⊥)
       → HasTakenBelow end (256 * lane + tag) kept x given → HasTakenBelow end (256 * lane + (tag + 1)) kept x given
   taken_no_block tag is_tag none taken =
       taken_none x end (256 * lane + tag) kept given (256 * lane + (tag + 1)) (omega arith) taken (λ item h end_is least below.
@@ -112,13 +124,14 @@ module _ (x : List ℤ) (lane end : ℕ) (small : lane < 26) (is_read : reads x 
       elim h.ends [
         | inl plain ↦ let zero_of = plain.tag in absurd (omega arith)
         | inr block ↦ none item.octets block.over
-            (subst (λ t. EndsBlock there t item.octets block.over) tag_is
-            (subst (λ b. EndsBlock b item.tag item.octets block.over) (bits_of_item item lane_is end_is) block.block))
+            (subst (λ t. EndsUnsureBlock there sure t item.octets block.over) tag_is
+            (block_of_item item block.over lane_is end_is block.block))
       ])
       (let most = is_tag.1 in omega arith)
 
   -- one does
-  pub taken_block : (tag : ℕ) (octets : List ℕ) (over index at : ℕ) (now more : List Heard) → EndsBlock there tag octets over
+  pub taken_block : (tag : ℕ) (octets : List ℕ) (over index at : ℕ) (now more : List Heard)
+      → EndsUnsureBlock there sure tag octets over
       → index + 1 + 8 * block_length tag ≡ length there + over → at ≡ get_or (ends x lane (end + 1)) index 0
       → (taken : HasTakenBelow end (256 * lane + tag) kept x given)
       → Keeps now end (taken.heard ++ record { end = end; lane = lane; tag = tag; octets = octets; at = at } ∷ [])
@@ -147,7 +160,7 @@ module _ (x : List ℤ) (lane end : ℕ) (small : lane < 26) (is_read : reads x 
       (omega arith)
 
   -- if no block ends there, no tag adds an item
-  pub taken_idle : ((tag : ℕ) → (frame : List ℕ) → (over : ℕ) → ¬ EndsBlock there tag frame over)
+  pub taken_idle : ((tag : ℕ) → (frame : List ℕ) → (over : ℕ) → ¬ EndsUnsureBlock there sure tag frame over)
       → HasTakenBelow end (256 * lane + 1) kept x given → HasTakenBelow end (256 * (lane + 1)) kept x given
   taken_idle idle taken =
       taken_none x end (256 * lane + 1) kept given (256 * (lane + 1)) (omega arith) taken (λ item h end_is least below.
@@ -155,8 +168,7 @@ module _ (x : List ℤ) (lane end : ℕ) (small : lane < 26) (is_read : reads x 
       let lane_is : item.lane ≡ lane = omega arith in
       elim h.ends [
         | inl plain ↦ let zero_of = plain.tag in absurd (omega arith)
-        | inr block ↦ idle item.tag item.octets block.over
-            (subst (λ b. EndsBlock b item.tag item.octets block.over) (bits_of_item item lane_is end_is) block.block)
+        | inr block ↦ idle item.tag item.octets block.over (block_of_item item block.over lane_is end_is block.block)
       ])
       (omega arith)
 

@@ -1,8 +1,8 @@
 -- Samples in which no block ends are heard as by lanes that read no blocks, and merged as those merge.
-use Rattle.sensitive_blocks.proofs.Common.{◌≡◌, ℕ, ◌+◌, ◌-◌, ◌*◌, ◌/◌, ◌%◌, ◌<◌, ◌≤◌, ◌⊎◌, true, ℤ, List, [], length, map, get_or}
+use Rattle.sensitive_blocks.proofs.Common.{◌≡◌, ℕ, ◌+◌, ◌-◌, ◌*◌, ◌/◌, ◌<◌, ◌≤◌, true, ℤ, List, [], length, map, get_or}
 use Rattle.sensitive_blocks.proofs.Common.{refl, ap, sym, ◌∙◌, subst, arith, inl, inr, All, All-nil, All-weaker, cases_lt, length-map}
-use Rattle.sensitive_blocks.proofs.Common.{AreHeard, AreMerged, EndsFrame, EndsInBlock, EndsPlainly, HasPath, Heard, IsHeard, IsTold}
-use Rattle.sensitive_blocks.proofs.Common.{bits_of, delay_of, is_in_time, lane_bits, place_for, added_places, reads}
+use Rattle.sensitive_blocks.proofs.Common.{AreHeard, AreMerged, EndsFrame, EndsPlainly, HasPath, Heard, IsHeard}
+use Rattle.sensitive_blocks.proofs.Common.{bits_of, is_in_time, lane_bits, place_for, reads}
 use Rattle.std.proofs.lemmas.List.{get_or-map}
 use Rattle.std.proofs.lemmas.List.Elements.{All-map}
 use Rattle.frame_merge.specs.declared.candidate.Candidate.{Candidate}

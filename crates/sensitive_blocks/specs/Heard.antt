@@ -2,13 +2,13 @@
 use Rattle.std.specs.Prelude.{◌≡◌, ℕ, ◌+◌, ◌-◌, ◌*◌, ◌<◌, ◌⊎◌, true, ℤ, List, length, slice_index_or}
 use Rattle.std.specs.List.{All, AllPairs, Contains}
 use Rattle.hdlc_framer.specs.Frames.{EndsFrame}
-use Rattle.fx25_blocks.specs.BlockEnds.{EndsBlock}
 use Rattle.fx25_blocks.specs.Tags.{block_length}
+use Rattle.fx25_blocks.specs.UnsureBlocks.{EndsUnsureBlock}
 use Rattle.fx25_receiver.specs.declared.heard.Heard.{Heard}
 use Rattle.fx25_receiver.specs.Heard.{standing}
 use Rattle.fx25_receiver.specs.Merged.{merged}
 use Rattle.sensitive_receiver.specs.AddedCandidates.{HasPath, is_in_time}
-use Rattle.sensitive_blocks.specs.Bits.{ends, lane_bits, place_for, reads}
+use Rattle.sensitive_blocks.specs.Bits.{ends, lane_bits, lane_certainties, place_for, reads}
 
 -- A plain frame of one of the eight lanes is told. One of an added lane is told only if it begins with a path and its flag is
 -- in time.
@@ -22,11 +22,12 @@ pub record EndsPlainly (x : List ℤ) (item : Heard) : Type 0 where
   pub frame : EndsFrame (lane_bits x item.lane (item.end + 1)) item.octets
   pub told : IsTold x item.lane item.end item.octets
 
--- A block ends with the lane's bit. Had its frame come plainly, it would have ended with an earlier bit of the lane, after
--- which as many bits follow as the block has after the flag behind its frame.
+-- A block ends with the lane's bit, its octets being as sure as the lane's bits. Had its frame come plainly, it would have ended
+-- with an earlier bit of the lane, after which as many bits follow as the block has after the flag behind its frame.
 pub record EndsInBlock (x : List ℤ) (item : Heard) : Type 0 where
   pub over : ℕ
-  pub block : EndsBlock (lane_bits x item.lane (item.end + 1)) item.tag item.octets over
+  pub block : EndsUnsureBlock (lane_bits x item.lane (item.end + 1)) (lane_certainties x item.lane (item.end + 1)) item.tag
+      item.octets over
   pub index : ℕ
   pub index_is : index + 1 + 8 * block_length item.tag ≡ length (lane_bits x item.lane (item.end + 1)) + over
   pub at : item.at ≡ slice_index_or (ends x item.lane (item.end + 1)) index 0

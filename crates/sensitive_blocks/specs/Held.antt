@@ -11,7 +11,7 @@ use Rattle.tone_tracking.specs.HeldLists.{HeldLists, HasTaken as ListsHaveTaken}
 use Rattle.fx25_receiver.specs.declared.heard.Heard.{Heard}
 use Rattle.sensitive_receiver.specs.Lanes.{added_places, tones}
 use Rattle.sensitive_blocks.specs.declared.readings.Readings.{Readings}
-use Rattle.sensitive_blocks.specs.Bits.{ends, lane_tones}
+use Rattle.sensitive_blocks.specs.Bits.{ends, lane_certainties, lane_tones, window_to}
 use Rattle.sensitive_blocks.specs.HeldLane.{HeldLane, LaneHasRead}
 use Rattle.sensitive_blocks.specs.Taken.{HasTakenBelow}
 
@@ -80,12 +80,14 @@ ends_taken first end k = if nat_lt k first then end + 1 else end
 abbrev pub LanesAreAt : ℕ → List HeldLane → ℕ → List ℤ → Type 0
 LanesAreAt first lanes end x =
     (k : ℕ) (d : HeldLane) → k < 26
-    → LaneHasRead (slice_index_or lanes k d) (lane_tones x k (ends_taken first end k)) (ends x k (ends_taken first end k))
+    → LaneHasRead (slice_index_or lanes k d) (lane_tones x k (ends_taken first end k))
+    (lane_certainties x k (ends_taken first end k)) (ends x k (ends_taken first end k))
 
 -- each lane has read its bits whose ends are below a number
 abbrev pub LanesHaveRead : List HeldLane → ℕ → List ℤ → Type 0
 LanesHaveRead lanes next x =
-    (k : ℕ) (d : HeldLane) → k < 26 → LaneHasRead (slice_index_or lanes k d) (lane_tones x k next) (ends x k next)
+    (k : ℕ) (d : HeldLane) → k < 26
+    → LaneHasRead (slice_index_or lanes k d) (lane_tones x k next) (lane_certainties x k next) (ends x k next)
 
 -- ---- the receiver
 
@@ -115,8 +117,7 @@ last_forty x = drop (length x) (replicate 40 (pos 0) ++ x)
 pub record IsLineOf (line block : List ℤ) (position : ℕ) (x : List ℤ) : Type 0 where
   pub size : position + length block ≡ length x
   pub samples : (i : ℕ) → i < length block → slice_index_or block i (pos 0) ≡ slice_index_or x (position + i) (pos 0)
-  pub windows : (i : ℕ) → i < length block → 40 ≤ position + i
-      → take 8 (drop i line) ≡ take 8 (drop (position + i - 40) x)
+  pub windows : (i : ℕ) → i < length block → 32 ≤ position + i → take 8 (drop i line) ≡ window_to x (position + i - 32)
 
 -- the receiver has taken these samples and given these items, and every growth that it wanted was given
 pub record StandsFor (held : HeldReceiver) (x : List ℤ) (given : List Heard) : Type 0 where

@@ -4,12 +4,12 @@ ghost use Rattle.std.specs.Option.{IfNone};
 ghost use Rattle.tone_table.specs.declared.tone.Tone.{Tone};
 ghost use Rattle.hdlc_framer.specs.Frames.{IsFrame, EndsFrame};
 ghost use Rattle.hdlc_framer.specs.Held.{HoldsFrame};
-ghost use Rattle.fx25_blocks.specs.BlockEnds.{EndsBlock};
 ghost use Rattle.fx25_blocks.specs.Tags.{IsTag};
+ghost use Rattle.fx25_blocks.specs.UnsureBlocks.{EndsUnsureBlock};
 ghost use Rattle.fx25_receiver.specs.declared.heard.Heard.{Heard};
 ghost use Rattle.tone_tracking.specs.Clock.{changes};
 ghost use Rattle.sensitive_receiver.specs.AddedCandidates.{HasPath, is_in_time};
-ghost use Rattle.sensitive_blocks.specs.Bits.{ends, lane_bits, lane_tones, place_for, reads, tone_for};
+ghost use Rattle.sensitive_blocks.specs.Bits.{ends, lane_bits, lane_certainties, lane_tones, place_for, reads, tone_for};
 ghost use Rattle.sensitive_blocks.specs.Heard.{IsTold};
 ghost use Rattle.sensitive_blocks.specs.Held.{LanesHaveRead};
 ghost use Rattle.sensitive_blocks.specs.HeldLane.{LaneHasRead};
@@ -87,17 +87,20 @@ fn hear(
     requires back { moment.now.back ≤ 2 }
     requires room { follower.now.position < 2 ^ 49 }
     ensures read { (x : List ℤ) → IsAt moment.now follower.now bit.end x
-        → LaneHasRead lane.old (lane_tones x bit.lane bit.end) (ends x bit.lane bit.end)
-        → LaneHasRead lane.new (lane_tones x bit.lane (bit.end + 1)) (ends x bit.lane (bit.end + 1)) }
+        → LaneHasRead lane.old (lane_tones x bit.lane bit.end) (lane_certainties x bit.lane bit.end)
+        (ends x bit.lane bit.end)
+        → LaneHasRead lane.new (lane_tones x bit.lane (bit.end + 1)) (lane_certainties x bit.lane (bit.end + 1))
+        (ends x bit.lane (bit.end + 1)) }
     ensures heard { OnOk result ((x : List ℤ) (before : List Heard) → IsAt moment.now follower.now bit.end x
-        → LaneHasRead lane.old (lane_tones x bit.lane bit.end) (ends x bit.lane bit.end)
+        → LaneHasRead lane.old (lane_tones x bit.lane bit.end) (lane_certainties x bit.lane bit.end)
+        (ends x bit.lane bit.end)
         → HasTakenBelow bit.end (256 * bit.lane) kept.old.items x (before ++ given.old.items)
         → HasTakenBelow bit.end (256 * (bit.lane + 1)) kept.new.items x (before ++ given.new.items)) }
 {
     if !reads(&moment.readings, bit.lane, bit.end) {
         return Ok(());
     }
-    let plain = lane.push(tone(moment, follower, bit.lane), bit.end);
+    let plain = lane.push(tone(moment, follower, bit.lane), bit.end, &moment.window);
     hear_frame(alloc, moment, follower, lane, plain, bit, kept, given)?;
     hear_blocks(alloc, lane, bit, kept, given)
 }
@@ -242,7 +245,8 @@ fn hear_blocks(
 ) -> Result<(), OutOfMemory>
     requires lane { bit.lane < 26 }
     ensures { OnOk result ((x : List ℤ) (before : List Heard) → reads x bit.lane bit.end ≡ true
-        → LaneHasRead lane.now (lane_tones x bit.lane (bit.end + 1)) (ends x bit.lane (bit.end + 1))
+        → LaneHasRead lane.now (lane_tones x bit.lane (bit.end + 1)) (lane_certainties x bit.lane (bit.end + 1))
+        (ends x bit.lane (bit.end + 1))
         → HasTakenBelow bit.end (256 * bit.lane + 1) kept.old.items x (before ++ given.old.items)
         → HasTakenBelow bit.end (256 * (bit.lane + 1)) kept.new.items x (before ++ given.new.items)) }
 {
@@ -263,7 +267,8 @@ fn hear_tags(
 ) -> Result<(), OutOfMemory>
     requires lane { bit.lane < 26 }
     ensures { OnOk result ((x : List ℤ) (before : List Heard) → reads x bit.lane bit.end ≡ true
-        → LaneHasRead lane.now (lane_tones x bit.lane (bit.end + 1)) (ends x bit.lane (bit.end + 1))
+        → LaneHasRead lane.now (lane_tones x bit.lane (bit.end + 1)) (lane_certainties x bit.lane (bit.end + 1))
+        (ends x bit.lane (bit.end + 1))
         → HasTakenBelow bit.end (256 * bit.lane + 1) kept.old.items x (before ++ given.old.items)
         → HasTakenBelow bit.end (256 * (bit.lane + 1)) kept.new.items x (before ++ given.new.items)) }
 {
@@ -287,9 +292,12 @@ fn hear_block(
     requires lane { bit.lane < 26 }
     requires tag { IsTag tag }
     ensures { OnOk result ((x : List ℤ) (before : List Heard) → reads x bit.lane bit.end ≡ true
-        → LaneHasRead lane.now (lane_tones x bit.lane (bit.end + 1)) (ends x bit.lane (bit.end + 1))
-        → IfSome found (λ found. EndsBlock (lane_bits x bit.lane (bit.end + 1)) tag found.octets.items found.over)
-        → IfNone found ((frame : List ℕ) → (over : ℕ) → ¬ EndsBlock (lane_bits x bit.lane (bit.end + 1)) tag frame over)
+        → LaneHasRead lane.now (lane_tones x bit.lane (bit.end + 1)) (lane_certainties x bit.lane (bit.end + 1))
+        (ends x bit.lane (bit.end + 1))
+        → IfSome found (λ found. EndsUnsureBlock (lane_bits x bit.lane (bit.end + 1))
+        (lane_certainties x bit.lane (bit.end + 1)) tag found.octets.items found.over)
+        → IfNone found ((frame : List ℕ) → (over : ℕ) → ¬ EndsUnsureBlock (lane_bits x bit.lane (bit.end + 1))
+        (lane_certainties x bit.lane (bit.end + 1)) tag frame over)
         → HasTakenBelow bit.end (256 * bit.lane + tag) kept.old.items x (before ++ given.old.items)
         → HasTakenBelow bit.end (256 * bit.lane + (tag + 1)) kept.new.items x (before ++ given.new.items)) }
 {

@@ -3,7 +3,7 @@ ghost use Rattle.std.specs.Prelude.{◌≡◌, ◌+◌, ◌-◌, ◌<◌, ◌≤
 ghost use Rattle.std.specs.Prelude.{take, true, false, IfOk};
 ghost use Rattle.std.specs.Prelude.{IsErr, OnErr, OnOk, slice_index_or};
 ghost use Rattle.fx25_receiver.specs.declared.heard.Heard.{Heard};
-ghost use Rattle.sensitive_blocks.specs.Bits.{reads};
+ghost use Rattle.sensitive_blocks.specs.Bits.{reads, window_to};
 ghost use Rattle.sensitive_blocks.specs.Heard.{AreMerged};
 ghost use Rattle.sensitive_blocks.specs.Held.{HasTaken, IsLineOf, StandsFor, known_at, last_forty};
 
@@ -165,7 +165,7 @@ impl SensitiveBlocksReceiver {
             → HasTaken self.old x (before ++ given.old.items)
             → self.old.follower.position < length x
             → sample ≡ slice_index_or x self.old.follower.position (pos 0)
-            → (40 ≤ self.old.follower.position → window ≡ take 8 (drop (self.old.follower.position - 40) x))
+            → (32 ≤ self.old.follower.position → window ≡ window_to x (self.old.follower.position - 32))
             → HasTaken self.new x (before ++ given.new.items)) }
         ensures position { self.new.follower.position ≡ self.old.follower.position + 1 }
         ensures next { OnOk result (self.new.next ≡ self.new.follower.position - 32) }
@@ -219,7 +219,7 @@ impl SensitiveBlocksReceiver {
             → HasTaken self.old x (before ++ given.old.items)
             → self.old.next ≤ length x
             → known ≡ known_at x (self.old.next + 2)
-            → (8 ≤ self.old.next → window ≡ take 8 (drop (self.old.next - 8) x))
+            → window ≡ window_to x self.old.next
             → ((lane : ℕ) → 8 ≤ lane → lane < 26 → reads x lane self.old.next ≡ true
             → (back + self.old.next + 31 ≡ self.old.follower.position) × (39 ≤ self.old.follower.position))
             → HasTaken self.new x (before ++ given.new.items)) }

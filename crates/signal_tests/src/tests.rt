@@ -1,3 +1,5 @@
+//! Tests of frames as signals, each in a file of its own.
+
 mod assertions;
 mod bits;
 mod framer;

@@ -1,3 +1,5 @@
+//! Tests of a station, each in a file of its own.
+
 mod access;
 mod agwpe;
 mod example;

@@ -9,6 +9,7 @@
 mod inlet;
 mod key_lines;
 mod laws;
+mod line_texts;
 mod live;
 mod looping;
 mod mem_live;
@@ -18,7 +19,6 @@ mod pump_run;
 mod pumping;
 mod real_live;
 mod releasing;
-mod report_lines;
 mod samples_out;
 mod serve_words;
 mod serving;
@@ -33,6 +33,7 @@ pub use laws::{
     a_tick_without_a_key_is_plain, a_transmission_begins_keyed, steps_are_heard,
     the_key_is_kept_within_its_limit, the_key_is_released_at_every_end,
 };
+pub use line_texts::text_of_lines;
 pub use live::Live;
 pub use looping::{LoopEnd, station_loop};
 pub use mem_live::{MemLive, MemSpawner};
@@ -40,7 +41,6 @@ pub use meter::Meter;
 pub use pump_run::pump_beside;
 pub use pumping::{PumpEnd, Pumped, pump, pump_inlet};
 pub use real_live::{RealLive, RealSpawner};
-pub use report_lines::text_of_lines;
 pub use serve_words::{KeyWords, ServeWords};
 pub use serving::{ServeEnd, serve};
 pub use spawner::{Order, Spawner, beside};

@@ -33,10 +33,10 @@ ghost use Rattle.tnc_ports.specs.SampledRun.{IsCutInReading};
 ghost use Rattle.tnc_ports.specs.SampledWrites.{Stream, stream_of};
 
 use crate::key_lines::put_reports;
+use crate::line_texts::{text_of_both, text_of_lines, text_of_notes};
 use crate::meter::Meter;
 use crate::monitor::frame_text;
 use crate::releasing::release_key;
-use crate::report_lines::{text_of_both, text_of_lines, text_of_notes};
 use crate::samples_out::put_samples;
 use crate::serve_words::ServeWords;
 use crate::sound::has_sound;

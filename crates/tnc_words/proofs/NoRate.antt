@@ -10,8 +10,8 @@ no_rate found none (Standard rate) h = none rate h.3
 no_rate found none (Sensitive rate) h = none rate h.3
 no_rate found none ShortWave h = none Narrow h.4
 no_rate found none SensitiveShortWave h = none Narrow h.4
-no_rate found none Fx25 h = none Narrow h.4
-no_rate found none SensitiveFx25 h = none Narrow h.4
+no_rate found none Fx25 h = none Narrow h.3
+no_rate found none SensitiveFx25 h = none Narrow h.3
 
 pub no_station_rate : (text checks : Option Text)
     → ((rate : SampleRate) → HasNumber text 9600 9600 48000 (samples_a_second rate) → ⊥) → (rate : SampleRate)

@@ -23,8 +23,8 @@ abbrev pub HasStationRate : Option Text → Option Text → SampleRate → Type 
 HasStationRate text None rate = HasNumber text 9600 9600 48000 (samples_a_second rate)
 HasStationRate text (Some checks) rate = (rate ≡ Narrow) × HasNumber text 9600 9600 48000 9600
 
--- [--sensitive] at either rate, or at 9600 samples a second and without threads [--hf] or [--fx25], each with [--sensitive]
--- or without
+-- [--sensitive] at either rate, or at 9600 samples a second [--fx25], or [--hf] without threads, each with [--sensitive] or
+-- without
 abbrev pub HasReceiving : List Row → Receiving → Type 0
 HasReceiving found (Standard rate) =
     (is_used (codes "hf") found ≡ false) × (is_used (codes "sensitive") found ≡ false)
@@ -40,7 +40,7 @@ HasReceiving found SensitiveShortWave =
     × (is_used (codes "fx25") found ≡ false) × (is_used (codes "threads") found ≡ false) × HasRate found Narrow
 HasReceiving found Fx25 =
     (is_used (codes "hf") found ≡ false) × (is_used (codes "sensitive") found ≡ false)
-    × (is_used (codes "fx25") found ≡ true) × (is_used (codes "threads") found ≡ false) × HasRate found Narrow
+    × (is_used (codes "fx25") found ≡ true) × HasRate found Narrow
 HasReceiving found SensitiveFx25 =
     (is_used (codes "hf") found ≡ false) × (is_used (codes "sensitive") found ≡ true)
-    × (is_used (codes "fx25") found ≡ true) × (is_used (codes "threads") found ≡ false) × HasRate found Narrow
+    × (is_used (codes "fx25") found ≡ true) × HasRate found Narrow

@@ -58,8 +58,8 @@ fn receiving(found: &ArgMatches) -> Option<Receiving>
         ((true, true, false), SampleRate::Narrow) if !threads => {
             Some(Receiving::SensitiveShortWave)
         }
-        ((false, false, true), SampleRate::Narrow) if !threads => Some(Receiving::Fx25),
-        ((false, true, true), SampleRate::Narrow) if !threads => Some(Receiving::SensitiveFx25),
+        ((false, false, true), SampleRate::Narrow) => Some(Receiving::Fx25),
+        ((false, true, true), SampleRate::Narrow) => Some(Receiving::SensitiveFx25),
         _ => None,
     }
 }

@@ -1,3 +1,5 @@
+//! Laws on the definitions. A law is the contract of a function that does nothing.
+
 ghost use Rattle.std.specs.Prelude.{◌≡◌, List};
 ghost use Rattle.clap.specs.Words.{Text};
 ghost use Rattle.tnc_words.specs.declared.command.Command.{Command};

@@ -53,7 +53,7 @@ Prints the frames that are heard in sound, a line of hexadecimal digits each, as
   --hf         the sound is of short wave, 300 bits a second, and not Bell 202; without --threads
   --sensitive  hears in more noise and where the sender's clock is off, and takes longer
   --fx25       hears frames in blocks of FX.25 too, and repairs them; at 9600 samples a second,
-               without --hf and --threads
+               without --hf
   --rate n     samples a second of raw PCM, 9600 or 48000 (9600); a WAV file tells its own
 ";
 

@@ -1,3 +1,5 @@
+//! Phases of a wave, and the sample at each.
+
 ghost use Rattle.std.specs.Prelude.{◌≡◌, ◌<◌, ◌≤◌, unsigned_abs};
 ghost use Rattle.tone_table.specs.Tones.{next_phase};
 ghost use Rattle.tone_table.specs.Sine.{wave_sample};

@@ -1,3 +1,5 @@
+//! The two tones, and how far each moves the phase.
+
 ghost use Rattle.std.specs.Prelude.{◌≡◌};
 ghost use Rattle.tone_table.specs.Tones.{phase_step};
 

@@ -1,3 +1,5 @@
+//! The lists of tones, by how far each sums windows in phase.
+
 /// How many windows are summed in phase to decide one.
 #[derive(Clone, Copy, PartialEq, Eq, Debug)]
 pub enum Reach {

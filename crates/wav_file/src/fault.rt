@@ -1,4 +1,4 @@
-// Why octets are no WAV file that this project reads, and why one can't be written.
+//! Why octets are no WAV file that this project reads, and why one can't be written.
 
 use thiserror::Error;
 

@@ -1,4 +1,4 @@
-// The fields of a format, in order.
+//! The fields of a format, in order.
 
 ghost use Rattle.std.specs.Prelude.{◌≡◌, ◌≤◌, length};
 ghost use Rattle.byteorder.specs.Endian.{little_number};

@@ -1,4 +1,4 @@
-// The head of a WAV file.
+//! The head of a WAV file.
 
 ghost use Rattle.std.specs.Prelude.{◌≡◌, ◌*◌, ◌≤◌, ◌↔◌, ◌++◌, ℕ, List, None, length, IsOk, IfOk, IfErr};
 ghost use Rattle.wav_file.specs.declared.rates.Rates.{Rates};

@@ -1,4 +1,4 @@
-// The parts of a file, and which one is under way after an octet.
+//! The parts of a file, and which one is under way after an octet.
 
 ghost use Rattle.std.specs.Prelude.{◌≡◌, ◌<◌, ◌≢◌, ◌≤◌, ℕ, length, take, drop, Some};
 ghost use Rattle.byteorder.specs.Endian.{little_number};

@@ -1,4 +1,4 @@
-// The rates of a file's samples.
+//! The rates of a file's samples.
 
 ghost use Rattle.std.specs.Prelude.{◌≡◌};
 

@@ -1,4 +1,4 @@
-// A WAV file as its octets come.
+//! A WAV file as its octets come.
 
 ghost use Rattle.std.specs.Prelude.{◌≡◌, ◌+◌, ◌≤◌, ℕ, List, [], ◌∷◌, ◌++◌, length, take, Some, Err};
 ghost use Rattle.std.specs.Result.{result_err};

@@ -1,4 +1,4 @@
-// XID as other stations send it, and what this one makes of it.
+//! XID as other stations send it, and what this one makes of it.
 use crate::{Duplex, LinkParameters, ToldParameters, agreed, read_xid, write_xid};
 use ax25_frames::Modulus;
 use selective_reject::Mode;

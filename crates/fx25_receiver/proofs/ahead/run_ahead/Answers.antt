@@ -1,6 +1,6 @@
-use Rattle.fx25_receiver.proofs.Common.{◌≡◌, ◌+◌, ◌%◌, ◌++◌, ℕ, ℤ, List, Tone, true, false, refl, ap, sym, subst, ◌∙◌, arith}
-use Rattle.fx25_receiver.proofs.Common.{length, drop, get_or, HeldLane, LaneStandsFor}
-use Rattle.std.proofs.Common.{set, not, get_or-set_other}
+use Rattle.fx25_receiver.proofs.Common.{◌+◌, ◌%◌, ◌++◌, ℤ, List, true, refl, ap, sym, subst, ◌∙◌, arith}
+use Rattle.fx25_receiver.proofs.Common.{drop, HeldLane, KnowsNumbers, LaneStandsFor}
+use Rattle.std.proofs.Common.{not, get_or-set_other}
 use Rattle.std.proofs.lemmas.List.{length-set}
 unfoldable use Rattle.slicer_bank.specs.Heard.{tones_in}
 use Rattle.fx25_receiver.proofs.AheadLemmas.{all_wait, eight_more, eight_tones_in, one_tried, waits_all}
@@ -42,5 +42,11 @@ loop-offset-preserved c =
           (λ tones stands. c.push_windows-ahead.ensures.quiet tones (subst (λ (lane : HeldLane). LaneStandsFor lane tones)
           (sym c.index_mut-lane.ensures.value) stands))
           (λ tones stands. c.push_windows-ahead.ensures.left tones (subst (λ (lane : HeldLane). LaneStandsFor lane tones)
-          (sym c.index_mut-lane.ensures.value) stands));
+          (sym c.index_mut-lane.ensures.value) stands))
+          (λ numbers more known. c.push_windows-ahead.ensures.knows numbers more
+          (subst (λ (lane : HeldLane). KnowsNumbers lane.reader lane.certainties numbers)
+          (sym c.index_mut-lane.ensures.value) known))
+          (λ numbers known. c.push_windows-ahead.ensures.knows_left numbers
+          (subst (λ (lane : HeldLane). KnowsNumbers lane.reader lane.certainties numbers)
+          (sym c.index_mut-lane.ensures.value) known));
     }

@@ -1,4 +1,4 @@
-use Rattle.fx25_receiver.proofs.Common.{◌≡◌, ◌∙◌, ◌-◌, ◌<◌, ℤ, List, length, take, drop, subst, arith}
+use Rattle.fx25_receiver.proofs.Common.{◌∙◌, ◌-◌, ◌<◌, ℤ, List, length, take, drop, subst, arith}
 use Rattle.std.specs.Array.{IsFirstChunk}
 use Rattle.std.specs.Option.{MatchOption}
 use Rattle.std.proofs.lemmas.List.{take-take}

@@ -7,7 +7,8 @@ loop-below-init c = λ x before at stands taken. taken
 pub loop-below-preserved : goal.loop-below-preserved
 unfolding bits
 loop-below-preserved c = λ x before at stands taken.
-    c.in_ok-hear_block.ensures x before at (c.block.ensures.frame _ stands) (c.block.ensures.none _ stands)
+    c.in_ok-hear_block.ensures x before at (c.block.ensures.frame _ _ stands.stands stands.knows)
+    (c.block.ensures.none _ _ stands.stands stands.knows)
     (c.loop-below.invariant x before at stands taken)
 
 pub returns : goal.returns

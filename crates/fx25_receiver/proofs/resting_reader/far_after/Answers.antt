@@ -8,7 +8,7 @@ use Rattle.fx25_receiver.proofs.resting_reader.far_after.Goals as goal
 
 pub loop-place-init : goal.loop-place-init
 loop-place-init c = λ reader b s.
-    (subst (RestsAt c.args.register reader) (sym (append-nil b)) s, λ k tag frame over below. absurd (omega arith))
+    (subst (RestsAt c.args.register reader) (sym (append-nil b)) s, λ k tag numbers frame over below. absurd (omega arith))
 
 pub loop-place-preserved : goal.loop-place-preserved
 loop-place-preserved c = λ reader b s.

@@ -1,4 +1,4 @@
-use Rattle.fx25_receiver.proofs.Common.{◌≡◌, ◌++◌, sym, subst, arith, append-nil}
+use Rattle.fx25_receiver.proofs.Common.{sym, subst, arith, append-nil}
 use Rattle.fx25_receiver.specs.Resting.{IsLast64}
 use Rattle.fx25_receiver.proofs.QuietLemmas.{frameless_more}
 use Rattle.fx25_receiver.proofs.resting_reader.may_end_frame_in.Goals as goal

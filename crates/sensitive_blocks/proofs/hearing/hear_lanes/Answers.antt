@@ -1,5 +1,5 @@
-use Rattle.sensitive_blocks.proofs.Common.{◌≡◌, ℕ, ℤ, ◌+◌, ◌*◌, ◌<◌, ◌≤◌, ◌++◌, List, get_or, set, sym, subst, arith, ◌∙◌}
-use Rattle.sensitive_blocks.proofs.Common.{Heard, HasTakenBelow, HeldLane, LaneHasRead, ends, lane_tones}
+use Rattle.sensitive_blocks.proofs.Common.{◌≡◌, ℤ, ◌+◌, ◌*◌, ◌++◌, List, get_or, set, sym, subst, arith}
+use Rattle.sensitive_blocks.proofs.Common.{Heard, HasTakenBelow, HeldLane, LaneHasRead, ends, lane_certainties, lane_tones}
 use Rattle.sensitive_blocks.specs.Held.{LanesAreAt}
 use Rattle.sensitive_blocks.specs.Moments.{IsAt}
 use Rattle.sensitive_blocks.proofs.HearingLemmas.{HaveHeard, heard_more, heard_none}
@@ -25,10 +25,11 @@ loop-lane-preserved c =
     c.args.given.now.items c.loop-lane.kept.items c.loop-lane.given.items c.hear.new.kept.items c.hear.new.given.items n
     (omega arith) c.loop-lane.invariant
     (subst (λ i. (x : List ℤ) → IsAt c.args.moment.now c.args.follower.now c.args.end x
-    → LaneHasRead (get_or lanes i was) (lane_tones x n c.args.end) (ends x n c.args.end)
-    → LaneHasRead lane (lane_tones x n (c.args.end + 1)) (ends x n (c.args.end + 1))) c.from.ensures c.hear.ensures.read)
+    → LaneHasRead (get_or lanes i was) (lane_tones x n c.args.end) (lane_certainties x n c.args.end) (ends x n c.args.end)
+    → LaneHasRead lane (lane_tones x n (c.args.end + 1)) (lane_certainties x n (c.args.end + 1)) (ends x n (c.args.end + 1)))
+    c.from.ensures c.hear.ensures.read)
     (subst (λ i. (x : List ℤ) (before : List Heard) → IsAt c.args.moment.now c.args.follower.now c.args.end x
-    → LaneHasRead (get_or lanes i was) (lane_tones x n c.args.end) (ends x n c.args.end)
+    → LaneHasRead (get_or lanes i was) (lane_tones x n c.args.end) (lane_certainties x n c.args.end) (ends x n c.args.end)
     → HasTakenBelow c.args.end (256 * n) c.loop-lane.kept.items x (before ++ c.loop-lane.given.items)
     → HasTakenBelow c.args.end (256 * (n + 1)) c.hear.new.kept.items x (before ++ c.hear.new.given.items)) c.from.ensures
     c.in_ok-hear.ensures.heard))

@@ -1,4 +1,4 @@
-use Rattle.sensitive_blocks.proofs.Common.{◌++◌, ◌+◌, sym, subst, ◌∙◌, ap, arith, true≢false, lane_bits, EndsFrame, IsTold}
+use Rattle.sensitive_blocks.proofs.Common.{◌++◌, ◌+◌, sym, subst, ◌∙◌, arith, true≢false, lane_bits, EndsFrame, IsTold}
 use Rattle.hdlc_framer.proofs.FrameEnds.{one_frame}
 use Rattle.sensitive_blocks.proofs.TakenLemmas.{taken_no_plain, taken_plain}
 use Rattle.sensitive_blocks.proofs.hearing.hear_plainly.Goals as goal

@@ -1,4 +1,4 @@
-use Rattle.sensitive_blocks.proofs.Common.{◌≡◌, ◌+◌, ◌*◌, ◌++◌, subst, arith, HasTakenBelow}
+use Rattle.sensitive_blocks.proofs.Common.{◌≡◌, ◌+◌, ◌++◌, arith}
 use Rattle.sensitive_blocks.proofs.TakenLemmas.{taken_tags}
 use Rattle.sensitive_blocks.proofs.hearing.hear_tags.Goals as goal
 
@@ -7,7 +7,7 @@ loop-below-init c = λ x before read stands taken. taken
 
 pub loop-below-preserved : goal.loop-below-preserved
 loop-below-preserved c = λ x before read stands taken.
-    c.in_ok-hear_block.ensures x before read stands (c.block.ensures.frame _ _ stands) (c.block.ensures.none _ _ stands)
+    c.in_ok-hear_block.ensures x before read stands (c.block.ensures.frame _ _ _ stands) (c.block.ensures.none _ _ _ stands)
     (c.loop-below.invariant x before read stands taken)
 
 pub returns : goal.returns

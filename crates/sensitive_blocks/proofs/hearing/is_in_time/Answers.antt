@@ -1,7 +1,6 @@
-use Rattle.sensitive_blocks.proofs.Common.{◌≡◌, ℕ, ◌+◌, ℤ, List, ◌∙◌, arith, sym, ap, true, false, not, ◌&&◌, reads, is_in_time, place_for, tone_back, added_places, tones}
+use Rattle.sensitive_blocks.proofs.Common.{◌≡◌, ◌+◌, ◌∙◌, arith, sym, ap, true, false, not, ◌&&◌, place_for, added_places, tones}
 use Rattle.tone_tracking.specs.Clock.{changes}
 use Rattle.tone_tracking.specs.HeldTracker.{tone_before}
-use Rattle.sensitive_blocks.specs.Moments.{IsAt}
 use Rattle.sensitive_blocks.proofs.MomentLemmas.{back_told, in_time_told}
 use Rattle.sensitive_blocks.proofs.hearing.is_in_time.Goals as goal
 

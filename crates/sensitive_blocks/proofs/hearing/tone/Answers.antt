@@ -1,4 +1,4 @@
-use Rattle.sensitive_blocks.proofs.Common.{◌∙◌, ap, sym, arith}
+use Rattle.sensitive_blocks.proofs.Common.{arith}
 use Rattle.sensitive_blocks.proofs.BitLemmas.{window_read}
 use Rattle.sensitive_blocks.proofs.MomentLemmas.{tone_told, window_tone}
 use Rattle.sensitive_blocks.proofs.hearing.tone.Goals as goal
@@ -6,7 +6,7 @@ use Rattle.sensitive_blocks.proofs.hearing.tone.Goals as goal
 pub returns-then-lane-lt-FIRST : goal.returns-then-lane-lt-FIRST
 returns-then-lane-lt-FIRST c = λ x end at read.
     window_tone x c.args.lane end c.args.moment.now.window c.decide.result c.if-lane-lt-FIRST.true c.decide.ensures
-    (at.window (window_read x c.args.lane end c.if-lane-lt-FIRST.true read).least)
+    (window_read x c.args.lane end c.if-lane-lt-FIRST.true read).least at.window
 
 pub returns-else-lane-lt-FIRST : goal.returns-else-lane-lt-FIRST
 returns-else-lane-lt-FIRST c = λ x end at read.

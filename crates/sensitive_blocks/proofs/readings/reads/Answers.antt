@@ -1,4 +1,4 @@
-use Rattle.sensitive_blocks.proofs.Common.{◌≡◌, ℕ, ℤ, List, ◌+◌, ◌-◌, ◌%◌, ◌<◌, ◌≤◌, ◌∙◌, ◌&&◌, ◌==◌, sym, ap, arith, get_or, delay_of, length}
+use Rattle.sensitive_blocks.proofs.Common.{◌≡◌, ℕ, ℤ, List, ◌+◌, ◌-◌, ◌%◌, ◌≤◌, ◌∙◌, ◌&&◌, ◌==◌, sym, ap, arith, get_or, delay_of}
 use Rattle.sensitive_blocks.proofs.Common.{le-leb, lt-leb}
 use Rattle.sensitive_blocks.specs.declared.readings.Readings.{Readings}
 use Rattle.sensitive_blocks.specs.Held.{AreKept, known_at, none_known}

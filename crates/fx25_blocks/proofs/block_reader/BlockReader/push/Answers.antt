@@ -4,8 +4,8 @@ use Rattle.fx25_blocks.proofs.ComingLemmas.{comes_push}
 use Rattle.fx25_blocks.proofs.ReaderLemmas.{kept_push}
 use Rattle.fx25_blocks.proofs.block_reader.BlockReader.push.Goals as goal
 
-pub returns : goal.returns
-returns c = λ b stands.
+pub returns-clause-stands_for : goal.returns-clause-stands_for
+returns-clause-stands_for c = λ b stands.
     let kept = kept_push c.args.self.now.bits c.args.self.now.tags c.args.self.now.due c.args.self.now.register
     c.args.self.now.next c.args.self.now.taken b stands.kept c.args.bit c.shifted-self.result c.near_tag-tag.result
     c.one_more-self.result c.expect.new.due c.shifted-self.ensures c.near_tag-tag.ensures.near

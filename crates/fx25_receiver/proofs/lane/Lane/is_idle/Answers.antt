@@ -2,6 +2,6 @@ use Rattle.fx25_receiver.proofs.Common.{subst, sym, HeldLane, LaneStandsFor, bit
 use Rattle.fx25_receiver.proofs.lane.Lane.is_idle.Goals as goal
 
 pub returns : goal.returns
-returns c = λ tones stands idle.
+returns c = λ tones numbers stands idle.
     let stood = subst (λ (held : HeldLane). LaneStandsFor held tones) (sym c.self.view_is) stands in
-    c.is_idle.ensures (bits_of tones) stood.reader idle
+    c.is_idle.ensures (bits_of tones) numbers stood.reader idle

@@ -1,5 +1,6 @@
 use Rattle.fx25_receiver.proofs.Common.{◌≡◌, ◌/◌, ℕ, List, Bool, [], ◌∷◌, ◌++◌, true, drop, subst, sym, Tone, bits_of, EndsFrame}
-use Rattle.fx25_receiver.proofs.Common.{ap, ◌∙◌, HeldLane, LaneStandsFor}
+use Rattle.fx25_receiver.proofs.Common.{ap, ◌∙◌, HeldLane, KnowsNumbers, LaneStandsFor}
+use Rattle.fx25_receiver.proofs.KnownLemmas.{known_at_rest}
 use Rattle.std.proofs.Common.{◌^◌}
 use Rattle.hdlc_framer.specs.BitOrder.{octet_bits}
 use Rattle.hdlc_framer.specs.Held.{HoldsFrame}
@@ -31,6 +32,7 @@ returns-clause-stands_for c =
       deframer = plain.deframer;
       waiting = plain.waiting;
       reader = reader;
+      certainties = c.self.inside.certainties;
     } in
     let P : HeldLane → Type 0 = λ old. (tones : List Tone) → LaneStandsFor old tones
     → LaneStandsFor now (tones ++ c.args.tone ∷ []) in
@@ -64,3 +66,13 @@ returns-clause-frame c =
     subst P c.self.view_is (λ tones octets h ends.
     c.push-2.ensures.frame (bits_of tones) c.step-bit.result octets (shifted c) (stood c (bits_of tones) h.plain)
     (subst (λ (b : List Bool). EndsFrame b octets) (c.step-bit.ensures.bits tones h.line) ends))
+
+pub returns-clause-knows : goal.returns-clause-knows
+returns-clause-knows c =
+    let now = c.push.new.self in
+    let P : HeldLane → Type 0 = λ old. (numbers : List ℕ) (number : ℕ) → old.reader.awake ≡ 0
+    → KnowsNumbers old.reader old.certainties numbers
+    → KnowsNumbers now c.self.inside.certainties (numbers ++ number ∷ []) in
+    subst P c.self.view_is (λ numbers number rests known.
+    known_at_rest c.self.inside.reader now c.self.inside.certainties numbers (numbers ++ number ∷ []) known
+    (c.push.ensures.woken rests))

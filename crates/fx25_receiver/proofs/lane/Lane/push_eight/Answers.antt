@@ -1,5 +1,5 @@
-use Rattle.fx25_receiver.proofs.Common.{◌≡◌, ◌∙◌, ◌+◌, ◌<◌, ◌/◌, ◌++◌, ℕ, List, Bool, Tone, take, ap, sym, subst, true, false}
-use Rattle.fx25_receiver.proofs.Common.{bits_of, last_tone, refl, inl, inr, EndsBlock, EndsFrame, EndsWithBits, Heard}
+use Rattle.fx25_receiver.proofs.Common.{◌≡◌, ◌∙◌, ◌+◌, ◌/◌, ◌++◌, ℕ, List, Bool, Tone, take, ap, sym, subst, true, false}
+use Rattle.fx25_receiver.proofs.Common.{bits_of, last_tone, refl, inl, inr, EndsFrame, EndsUnsureBlock}
 use Rattle.fx25_receiver.proofs.Common.{HeldLane, LaneStandsFor}
 use Rattle.std.proofs.Common.{◌^◌}
 use Rattle.tone_table.specs.declared.tone.Tone.TheVariants.{Mark}
@@ -41,6 +41,7 @@ returns-else-not-push_eight-clause-taken c =
       deframer = plain.deframer;
       waiting = plain.waiting;
       reader = reader;
+      certainties = inside.certainties;
     } in
     let P : HeldLane → Type 0 = λ old. (before : List Tone) → LaneStandsFor old before → true ≡ true
     → LaneStandsFor now (before ++ eight) in
@@ -70,7 +71,7 @@ returns-else-not-push_eight-clause-quiet c =
     let inside = c.self.inside in
     let P : HeldLane → Type 0 = λ old. (before : List Tone) → LaneStandsFor old before → true ≡ true
     → NothingEndsInTones before eight in
-    subst P c.self.view_is (λ before h same k item below ends.
+    subst P c.self.view_is (λ before h same k numbers item below ends.
     let bits : List Bool = bits_of before in
     let octet = c.octet_of-octet.result in
     let told = octet_told octet c.tone.result inside.line before eight c.octet_of-octet.ensures c.tone.ensures h.line in
@@ -84,8 +85,8 @@ returns-else-not-push_eight-clause-quiet c =
           h.plain)
           c.if-not-push_eight.false below (subst (λ b. EndsFrame b item.octets) begun plain.2)
       | inr block ↦
-          c.in-Some.ensures.quiet bits h.reader k item.tag item.octets block.0 below
-          (subst (λ b. EndsBlock b item.tag item.octets block.0) begun block.1)
+          c.in-Some.ensures.quiet bits h.reader k item.tag numbers item.octets block.0 below
+          (subst (λ b. EndsUnsureBlock b numbers item.tag item.octets block.0) begun block.1)
     ])
 
 pub returns-then-not-push_eight-clause-left : goal.returns-then-not-push_eight-clause-left
@@ -97,6 +98,7 @@ returns-then-not-push_eight-clause-left c =
       deframer = plain.deframer;
       waiting = plain.waiting;
       reader = inside.reader;
+      certainties = inside.certainties;
     } in
     let P : HeldLane → Type 0 = λ old. (before : List Tone) → LaneStandsFor old before → false ≡ false
     → LaneStandsFor now before in

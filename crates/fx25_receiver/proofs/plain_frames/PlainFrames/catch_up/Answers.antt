@@ -1,4 +1,4 @@
-use Rattle.fx25_receiver.proofs.Common.{◌≡◌, ◌≤◌, ℕ, [], ◌∷◌, ◌++◌, ◌∙◌, Bool, List, EndsFrame}
+use Rattle.fx25_receiver.proofs.Common.{◌≡◌, ℕ, [], ◌∷◌, ◌++◌, ◌∙◌, Bool, List, EndsFrame}
 use Rattle.fx25_receiver.proofs.Common.{false, true, drop, refl, subst, sym, ap, arith, ◌-◌}
 use Rattle.hdlc_framer.specs.BitOrder.{low_bits}
 use Rattle.hdlc_framer.specs.Events.{EventAt}

@@ -1,7 +1,6 @@
-use Rattle.fx25_receiver.proofs.Common.{◌≡◌, ◌++◌, ◌∙◌, ◌/◌, Bool, ℕ, List, drop, ap, refl, subst, sym}
+use Rattle.fx25_receiver.proofs.Common.{◌≡◌, ◌++◌, ◌∙◌, ◌/◌, ap, subst, sym}
 use Rattle.std.proofs.Common.{◌^◌}
-use Rattle.hdlc_framer.specs.BitOrder.{octet_bits}
-use Rattle.hdlc_framer.specs.Held.{Held as HeldDeframer, StandsFor as DeframerStandsFor}
+use Rattle.hdlc_framer.specs.Held.{StandsFor as DeframerStandsFor}
 use Rattle.hdlc_framer.specs.Late.{StandsFor}
 use Rattle.hdlc_framer.proofs.LateLemmas.{all_bits, late_all}
 use Rattle.fx25_receiver.specs.Held.{HeldFrames}

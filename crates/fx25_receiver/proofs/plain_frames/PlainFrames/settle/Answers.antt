@@ -1,4 +1,4 @@
-use Rattle.fx25_receiver.proofs.Common.{◌≡◌, Bool, List, subst, sym}
+use Rattle.fx25_receiver.proofs.Common.{Bool, List, subst, sym}
 unfoldable use Rattle.hdlc_framer.specs.BitOrder.{octet_bits}
 use Rattle.hdlc_framer.specs.Held.{StandsFor as DeframerStandsFor}
 use Rattle.hdlc_framer.specs.Late.{StandsFor}

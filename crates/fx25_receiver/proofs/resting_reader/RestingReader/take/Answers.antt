@@ -5,7 +5,7 @@ use Rattle.fx25_receiver.proofs.resting_reader.RestingReader.take.Goals as goal
 pub returns-then-self-gt0-clause-stands_for : goal.returns-then-self-gt0-clause-stands_for
 returns-then-self-gt0-clause-stands_for c = λ b s.
     taken_awake c.args.self.now c.shifted-self.result c.push.new.self b c.args.bit c.if-self-gt0.true
-    c.shifted-self.ensures c.push.ensures s
+    c.shifted-self.ensures c.push.ensures.stands_for s
 
 pub returns-else-self-gt0-clause-stands_for : goal.returns-else-self-gt0-clause-stands_for
 returns-else-self-gt0-clause-stands_for c = λ b s.

@@ -14,7 +14,7 @@ returns-clause-stands_for c = λ b s.
     }) b in
     elim c.if-self-eq0.branch [
       | then-self-eq0 w ↦ subst P (sym w.self-is)
-          (wakes c.args.self.now w.reader_of-self.result b w.if-self-eq0.true w.reader_of-self.ensures s)
+          (wakes c.args.self.now w.reader_of-self.result b w.if-self-eq0.true w.reader_of-self.ensures.stands_for s)
       | else-self-eq0 w ↦
           let awake = w.if-self-eq0.false in
           subst P (sym w.self-is) (stays_awake c.args.self.now b (omega arith) s)

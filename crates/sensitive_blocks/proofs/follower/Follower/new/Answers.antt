@@ -1,4 +1,4 @@
-use Rattle.sensitive_blocks.proofs.Common.{[], refl, ◌∙◌, arith, tones}
+use Rattle.sensitive_blocks.proofs.Common.{arith, tones}
 use Rattle.tone_tracking.specs.declared.reach.Reach.TheVariants.{Alone, Near, Far}
 use Rattle.tone_tracking.specs.WithoutMean.{without_mean}
 use Rattle.sensitive_blocks.proofs.follower.Follower.new.Goals as goal

@@ -1,5 +1,5 @@
-use Rattle.sensitive_blocks.proofs.Common.{◌≡◌, ◌+◌, ◌-◌, ◌<◌, ◌≤◌, ◌++◌, ◌∷◌, [], ◌∙◌, ℕ, ℤ, pos, List, get_or, length}
-use Rattle.sensitive_blocks.proofs.Common.{take, ap, sym, subst, arith, refl, true}
+use Rattle.sensitive_blocks.proofs.Common.{◌≡◌, ◌+◌, ◌-◌, ◌<◌, ◌∙◌, ℤ, pos, List, get_or, length}
+use Rattle.sensitive_blocks.proofs.Common.{take, ap, sym, subst, arith, true}
 use Rattle.std.proofs.Common.{FitsSigned, rules, to_z, of_z, w32}
 use Rattle.std.proofs.lemmas.Int.{to_z-of_z}
 use mir.Syntax.{w16}

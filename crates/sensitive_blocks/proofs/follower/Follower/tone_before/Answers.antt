@@ -1,4 +1,4 @@
-use Rattle.sensitive_blocks.proofs.Common.{◌≡◌, ℕ, ◌-◌, ℤ, List, ap, ◌∙◌, subst, added_places, tones}
+use Rattle.sensitive_blocks.proofs.Common.{◌≡◌, ℤ, List, ap, ◌∙◌, subst, added_places, tones}
 use Rattle.tone_tracking.specs.Heard.{places_in}
 use Rattle.tone_tracking.specs.HeldTracker.{tone_before}
 use Rattle.tone_tracking.specs.WithoutMean.{without_mean}

@@ -1,6 +1,6 @@
-use Rattle.sensitive_blocks.proofs.Common.{◌≡◌, ◌+◌, ◌-◌, ◌++◌, ◌∙◌, ◌≤◌, ℕ, ℤ, List, length, ap, sym, subst, refl, arith, append-nil, Heard, true}
+use Rattle.sensitive_blocks.proofs.Common.{◌≡◌, ◌+◌, ◌-◌, ◌++◌, ◌∙◌, ℤ, List, length, ap, sym, subst, refl, arith, append-nil, Heard, true}
 use Rattle.sensitive_blocks.proofs.Common.{length-append}
-use Rattle.sensitive_blocks.specs.Held.{HasTaken, HeldReceiver, IsLineOf, StandsFor}
+use Rattle.sensitive_blocks.specs.Held.{HasTaken, HeldReceiver, StandsFor}
 unfoldable use Rattle.sensitive_blocks.specs.Held.{last_forty}
 use Rattle.sensitive_blocks.proofs.ReceiverLemmas.{forty_behind, line_of, receiver_of, taken_more}
 use Rattle.sensitive_blocks.proofs.receiver.SensitiveBlocksReceiver.block.Goals as goal

@@ -1,4 +1,4 @@
-use Rattle.sensitive_blocks.proofs.Common.{◌≡◌, ◌+◌, ◌++◌, ◌∙◌, ℕ, ℤ, List, length, ap, sym, subst, append-nil, Heard, true}
+use Rattle.sensitive_blocks.proofs.Common.{◌≡◌, ◌+◌, ◌++◌, ◌∙◌, List, ap, sym, subst, append-nil, Heard, true}
 use Rattle.sensitive_blocks.specs.Held.{HasTaken, HeldReceiver, StandsFor}
 use Rattle.sensitive_blocks.proofs.ReceiverLemmas.{merged_all, receiver_of}
 use Rattle.sensitive_blocks.proofs.receiver.SensitiveBlocksReceiver.finish.Goals as goal

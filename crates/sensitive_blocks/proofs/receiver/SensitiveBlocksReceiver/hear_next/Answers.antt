@@ -1,8 +1,8 @@
-use Rattle.sensitive_blocks.proofs.Common.{◌≡◌, ◌+◌, ◌-◌, ◌++◌, ◌∙◌, ◌≤◌, ℕ, ℤ, List, length, take, drop, ap, sym, subst, arith}
-use Rattle.sensitive_blocks.proofs.Common.{Heard, HeldLane, reads, true, ◌<◌, ◌∷◌, [], get_or}
+use Rattle.sensitive_blocks.proofs.Common.{◌≡◌, ◌+◌, ◌++◌, ◌∙◌, ◌≤◌, ℕ, List, length, take, drop, sym, subst}
+use Rattle.sensitive_blocks.proofs.Common.{HeldLane, reads, true, ◌<◌, ◌∷◌, [], get_or, window_to}
 use Rattle.std.proofs.lemmas.Result.{on_ok_weaker}
 use Rattle.sensitive_blocks.specs.declared.hearing.Moment.{Moment}
-use Rattle.sensitive_blocks.specs.Held.{AreKept, HasTaken, HeldReceiver, LanesHaveRead, known_at, none_known}
+use Rattle.sensitive_blocks.specs.Held.{HasTaken, HeldReceiver, LanesHaveRead, known_at, none_known}
 use Rattle.sensitive_blocks.specs.Moments.{IsAt}
 use Rattle.sensitive_blocks.proofs.ReceiverLemmas.{kept_before, kept_next, lent_back}
 use Rattle.sensitive_blocks.proofs.receiver.SensitiveBlocksReceiver.hear_next.Goals as goal
@@ -28,8 +28,7 @@ returns-clause-taken c =
     let at : IsAt moment s.follower s.next x = record {
       within = inside;
       readings = kept;
-      window = subst (λ (held : HeldReceiver). 8 ≤ held.next → c.args.window ≡ take 8 (drop (held.next - 8) x))
-          (sym c.self.view_is) window;
+      window = subst (λ (held : HeldReceiver). c.args.window ≡ window_to x held.next) (sym c.self.view_is) window;
       taken = here.follower;
       back = subst (λ (held : HeldReceiver). (lane : ℕ) → 8 ≤ lane → lane < 26 → reads x lane held.next ≡ true
           → (c.args.back + held.next + 31 ≡ held.follower.position) × (39 ≤ held.follower.position)) (sym c.self.view_is) back;

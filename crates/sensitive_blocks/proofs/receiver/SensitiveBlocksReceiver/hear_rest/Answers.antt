@@ -1,4 +1,4 @@
-use Rattle.sensitive_blocks.proofs.Common.{◌≡◌, ◌+◌, ◌-◌, ◌≤◌, ◌<◌, ◌∙◌, ℕ, arith, refl, sym, ap, take, drop}
+use Rattle.sensitive_blocks.proofs.Common.{◌≡◌, ◌∙◌, arith, refl, sym, ap, take, drop}
 use Rattle.sensitive_blocks.specs.Held.{HeldReceiver}
 use Rattle.sensitive_blocks.proofs.ReceiverLemmas.{ended_more, ended_none}
 use Rattle.sensitive_blocks.proofs.receiver.SensitiveBlocksReceiver.hear_rest.Goals as goal

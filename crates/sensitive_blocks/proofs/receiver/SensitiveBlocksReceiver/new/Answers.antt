@@ -1,4 +1,4 @@
-use Rattle.sensitive_blocks.proofs.Common.{[], ◌∷◌, refl, ◌∙◌, ◌≡◌, ◌<◌, ℕ, zero, suc, arith, sym, get_or}
+use Rattle.sensitive_blocks.proofs.Common.{[], ◌∷◌, refl, ◌≡◌, ◌<◌, ℕ, zero, suc, arith, get_or}
 use Rattle.sensitive_blocks.specs.declared.readings.Readings.{Readings}
 use Rattle.sensitive_blocks.specs.Held.{none_known}
 use Rattle.sensitive_blocks.proofs.LaneLemmas.{fresh_read}

@@ -1,5 +1,5 @@
-use Rattle.sensitive_blocks.proofs.Common.{◌≡◌, ◌+◌, ◌-◌, ◌++◌, ◌∙◌, ◌<◌, ◌≤◌, ℕ, ℤ, pos, List, get_or, length, take, drop, ap, sym, subst}
-use Rattle.sensitive_blocks.proofs.Common.{arith, Heard}
+use Rattle.sensitive_blocks.proofs.Common.{◌≡◌, ◌+◌, ◌-◌, ◌++◌, ◌∙◌, ◌<◌, ◌≤◌, pos, get_or, length, ap, sym, subst}
+use Rattle.sensitive_blocks.proofs.Common.{arith, window_to}
 use Rattle.std.proofs.lemmas.Int.{to_z-of_z}
 use Rattle.std.proofs.lemmas.Result.{on_ok_weaker}
 use mir.Syntax.{w16}
@@ -37,8 +37,8 @@ returns-clause-taken c =
     let within = subst (λ (held : HeldReceiver). held.follower.position < length x) (sym c.self.view_is) inside in
     let sample_is = subst (λ (held : HeldReceiver). c.args.sample ≡ get_or x held.follower.position (pos 0))
     (sym c.self.view_is) is in
-    let window_is = subst (λ (held : HeldReceiver). 40 ≤ held.follower.position
-    → c.args.window ≡ take 8 (drop (held.follower.position - 40) x)) (sym c.self.view_is) window in
+    let window_is = subst (λ (held : HeldReceiver). 32 ≤ held.follower.position
+    → c.args.window ≡ window_to x (held.follower.position - 32)) (sym c.self.view_is) window in
     let same = to_z-of_z w16 c.args.sample c.ranges.sample ∙ sample_is in
     let sum : s.follower.position - 30 ≡ s.next + 2 = omega arith in
     taken x before
@@ -50,8 +50,7 @@ returns-clause-taken c =
     })
     (omega arith)
     (c.push-known.ensures.known x here.follower within same ∙ ap (known_at x) sum)
-    (λ least. window_is (omega arith)
-    ∙ ap (λ n. take 8 (drop n x)) (let e : s.follower.position - 40 ≡ s.next - 8 = omega arith in e))
+    (window_is enough ∙ ap (window_to x) (sym next))
     (λ lane added small read.
     let told = step_back x s.follower.position s.next next enough lane added small read in
     (told.0 ∙ sym pushed, subst (λ n. 39 ≤ n) (sym pushed) told.1)))

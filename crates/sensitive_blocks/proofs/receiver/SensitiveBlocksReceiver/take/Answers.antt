@@ -1,8 +1,8 @@
-use Rattle.sensitive_blocks.proofs.Common.{◌≡◌, ◌+◌, ◌∙◌, ℤ, List, pos, get_or, sym, subst, arith, refl, take, drop}
+use Rattle.sensitive_blocks.proofs.Common.{ℤ, List, pos, get_or}
 use Rattle.std.proofs.Common.{FitsSigned, rules, to_z, of_z}
 use Rattle.std.proofs.lemmas.Int.{to_z-of_z}
 use mir.Syntax.{w16}
-use Rattle.sensitive_blocks.proofs.ReceiverLemmas.{HasFed, fed_more, fed_none}
+use Rattle.sensitive_blocks.proofs.ReceiverLemmas.{fed_more, fed_none}
 use Rattle.sensitive_blocks.proofs.receiver.SensitiveBlocksReceiver.take.Goals as goal
 
 pub loop-i-init : goal.loop-i-init
