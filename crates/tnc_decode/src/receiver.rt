@@ -30,17 +30,17 @@ const LONG_BLOCK: usize = 262_144;
 /// and keep twelve octets of it beside the sample, so that a shorter block pays and takes less memory.
 const SENSITIVE_BLOCK: usize = 65_536;
 
-/// The most octets whose samples threads share.
+/// The most octets whose samples threads share, or that are read at once if they share none.
 fn most_shared(receiving: Receiving) -> usize
     ensures { result ≡ most_shared receiving }
 {
     match receiving {
+        Receiving::Standard { .. } => LONG_BLOCK,
         Receiving::Sensitive { .. } => SENSITIVE_BLOCK,
-        Receiving::Standard { .. }
-        | Receiving::ShortWave
+        Receiving::ShortWave
         | Receiving::SensitiveShortWave
         | Receiving::Fx25
-        | Receiving::SensitiveFx25 => LONG_BLOCK,
+        | Receiving::SensitiveFx25 => BLOCK,
     }
 }
 
