@@ -18,7 +18,7 @@ use crate::added_bank::AddedBank;
 use crate::lanes::LANES;
 use crate::merging::merge_block;
 use frame_merge::{Candidate, Merger};
-use slicer_bank::{Bank, Gate, Progress};
+use slicer_bank::{Bank, Progress};
 use std::alloc::Global;
 use std::marker::Model;
 use std::thread::{Threads, join_mut};
@@ -89,12 +89,11 @@ impl SensitiveDecoder {
     }
 
     /// Does what [`SensitiveDecoder::block`] does, with the added lanes on threads as [`AddedBank::feed_threads`] has them,
-    /// beside the eight lanes, which share one: they have a fifth of the work. So no lane waits at the gate.
-    pub fn block_threads<R: Threads + Sync, G: Gate>(
+    /// beside the eight lanes, which share one: they have a fifth of the work.
+    pub fn block_threads<R: Threads + Sync>(
         &mut self,
         rt: &R,
         block: &[i16],
-        _gate: &G,
     ) -> Result<Vec<Candidate>, OutOfMemory>
         requires room { self.old.position + length block.now < 2 ^ 48 }
         requires unfinished { self.old.finished ≡ false }

@@ -145,11 +145,9 @@ impl Decoders {
             Decoders::Plain(decoder) => decoder.block(block),
             Decoders::Wide(decoder) if threads => decoder.block_threads(rt, block, &OpenGate),
             Decoders::Wide(decoder) => decoder.block(block),
-            Decoders::Sensitive(decoder) if threads => decoder.block_threads(rt, block, &OpenGate),
+            Decoders::Sensitive(decoder) if threads => decoder.block_threads(rt, block),
             Decoders::Sensitive(decoder) => decoder.block(block),
-            Decoders::WideSensitive(decoder) if threads => {
-                decoder.block_threads(rt, block, &OpenGate)
-            }
+            Decoders::WideSensitive(decoder) if threads => decoder.block_threads(rt, block),
             Decoders::WideSensitive(decoder) => decoder.block(block),
             Decoders::ShortWave(decoder) => decoder.block(block),
             Decoders::SensitiveShortWave(decoder) => decoder.block(block),

@@ -12,7 +12,6 @@ use crate::wide_decoder::{BLOCK, LONG, join};
 use frame_merge::Candidate;
 use resampler::Decimator;
 use sensitive_receiver::SensitiveDecoder;
-use slicer_bank::Gate;
 use std::alloc::Global;
 use std::marker::Model;
 use std::thread::Threads;
@@ -76,11 +75,10 @@ impl WideSensitiveDecoder {
 
     /// Does what [`WideSensitiveDecoder::block`] does, with the lanes on threads, as
     /// [`SensitiveDecoder::block_threads`] has them.
-    pub fn block_threads<R: Threads + Sync, G: Gate>(
+    pub fn block_threads<R: Threads + Sync>(
         &mut self,
         rt: &R,
         block: &[i16],
-        gate: &G,
     ) -> Result<Vec<Candidate>, OutOfMemory>
         requires few { length block.now ≤ 32768 }
         requires room { self.old.decoder.position + length block.now < 2 ^ 48 }
@@ -95,7 +93,7 @@ impl WideSensitiveDecoder {
     {
         let mut part = [0; LONG];
         let count = self.filter.feed(block, &mut part);
-        self.decoder.block_threads(rt, &part[..count], gate)
+        self.decoder.block_threads(rt, &part[..count])
     }
 
     /// Gives the rest of the items: the samples have ended, and zeros follow for the filter.

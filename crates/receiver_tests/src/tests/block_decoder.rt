@@ -163,9 +163,9 @@ impl BlockDecoder for SensitiveDecoder {
         &mut self,
         rt: &R,
         block: &[i16],
-        gate: &Meeting,
+        _gate: &Meeting,
     ) -> Result<Vec<Candidate>, OutOfMemory> {
-        SensitiveDecoder::block_threads(self, rt, block, gate)
+        SensitiveDecoder::block_threads(self, rt, block)
     }
 
     fn end(&mut self) -> Result<Vec<Candidate>, OutOfMemory> {

@@ -8,7 +8,7 @@ use crate::tests::noisy_signal::{SILENCE, in_noise, slow};
 use crate::tests::places::note;
 use crate::tests::worked_signal::transmission;
 use sensitive_receiver::{AddedBank, SensitiveDecoder};
-use slicer_bank::{Bank, OpenGate};
+use slicer_bank::Bank;
 use std::alloc::Global;
 use std::process::Abort;
 use std::test::Fail;
@@ -97,7 +97,7 @@ fn they_are_one_item_in_blocks_of_any_length(rt: HostRuntime) -> Result<(), Fail
     Ok(())
 }
 
-/// How many items a block settles, with the eight lanes on two threads, and how many candidates are held then.
+/// How many items a block settles on threads, and how many candidates are held then.
 fn given_and_held<R: Threads + Sync>(
     rt: &R,
     decoder: &mut SensitiveDecoder,
@@ -109,7 +109,7 @@ fn given_and_held<R: Threads + Sync>(
     ensures position { OnOk result (decoder.new.position ≡ decoder.old.position + count block.now) }
     ensures unfinished { decoder.new.finished ≡ false }
 {
-    let given = decoder.block_threads(rt, block, &OpenGate)?.len();
+    let given = decoder.block_threads(rt, block)?.len();
     Ok((given, decoder.held()))
 }
 
