@@ -9,7 +9,7 @@ use Rattle.tnc_words.specs.declared.command.Receiving.TheVariants.{SensitiveShor
 -- have more to do with each sample, and keep more of it.
 abbrev pub most_shared : Receiving → ℕ
 most_shared (Standard rate) = 262144
-most_shared (Sensitive rate) = 98304
+most_shared (Sensitive rate) = 65536
 most_shared ShortWave = 2048
 most_shared SensitiveShortWave = 2048
 most_shared Fx25 = 2048
