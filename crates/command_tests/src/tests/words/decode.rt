@@ -110,10 +110,11 @@ const HEARING: &[(&str, DecodeWords)] = &[
     ("--fx25", FX25),
     ("--sensitive --fx25", SENSITIVE_FX25),
     (
-        "--wav --rate 9600 --fx25 --kiss",
+        "--wav --threads --rate 9600 --fx25 --kiss",
         DecodeWords {
             audio: WAV,
             frames: KISS,
+            threads: true,
             ..FX25
         },
     ),

@@ -30,9 +30,7 @@ x
 --threads --threads
 --threads=2
 --fx25 --hf
---fx25 --sensitive --threads
 --fx25 --sensitive --rate 48000
---fx25 --threads
 --fx25 --rate 48000
 --fx25 --fx25
 --fx25=true
