@@ -7,7 +7,7 @@ use crate::packing::{MOST_BITS, MOST_OCTETS};
 use crate::recent::RING;
 use arrayvec::ArrayVec;
 
-// A number for each octet of a block.
+/// A number for each octet of a block.
 pub type OctetCertainties = ArrayVec<u32, MOST_OCTETS>;
 
 /// How sure the last 2048 bits of a line are: a number for each, the higher the surer.
@@ -39,7 +39,7 @@ impl Certainties {
         self.next = (self.next + 1) % RING;
     }
 
-    // How sure the last octets are, so many: each is as sure as its least sure bit.
+    /// How sure the last octets are, so many: each is as sure as its least sure bit.
     pub(crate) fn of_octets(&self, count: usize) -> OctetCertainties
         requires { count ≤ 255 }
         ensures size { length result.items ≡ count }
@@ -51,7 +51,7 @@ impl Certainties {
     }
 }
 
-// The last numbers of a ring, so many, if the next one will stand at a place.
+/// The last numbers of a ring, so many, if the next one will stand at a place.
 fn last_numbers(ring: &[u32; 2048], next: usize, count: usize) -> ArrayVec<u32, MOST_BITS>
     requires next { next < 2048 }
     requires count { count ≤ 2040 }
@@ -66,7 +66,7 @@ fn last_numbers(ring: &[u32; 2048], next: usize, count: usize) -> ArrayVec<u32, 
     numbers
 }
 
-// The least number of each eight in turn.
+/// The least number of each eight in turn.
 fn least_of_octets(numbers: &[u32], count: usize) -> OctetCertainties
     requires size { length numbers.now ≡ 8 * count }
     requires most { count ≤ 255 }
