@@ -50,7 +50,7 @@ static void lane(const int16_t *x, size_t n, int offset) {
             if (ones <= 5 && open) part |= 1 << filled++;
             if (ones == 7) open = 0;
         } else if (ones == 6 && seen_zero) {
-            /* a flag: the first six of its bits, 011111, stand behind the frame */
+            /* a flag: the first six of its bits, 011111, stand after the frame */
             if (open && filled == 6 && part == 62 && length >= 17) {
                 uint16_t check = 0xffff;
                 for (int i = 0; i < length - 2; i++) check = check >> 8 ^ fcs_table[(check ^ octets[i]) & 255];

@@ -224,7 +224,7 @@ sound_of() {
     for ((turn = 0; turn < 4 * $1; turn++)); do cat samples/direwolf-clean.raw; done
 }
 
-# HEAD WORDS..: of an hour of sound behind a head decode takes the memory that it takes of a minute, to a few pages of the
+# HEAD WORDS..: of an hour of sound after a head decode takes the memory that it takes of a minute, to a few pages of the
 # system's, and less than 4 MiB.
 keeps_no_sound() {
     local minute hour
@@ -305,7 +305,7 @@ is_other_rate() {
     answers 2 "tnc: bad input: bad format 3 value 44100 at 27" decode --wav <"$room/other.wav" && [ ! -s "$room/output" ]
 }
 
-# PLACE FLAW LINE: a bad line behind a good one, told at its place, and the frame before it is sent.
+# PLACE FLAW LINE: a bad line after a good one, told at its place, and the frame before it is sent.
 is_bad_line() {
     local line=9c6e988a9a40e0ac9664848484e103f0
     printf '%s\n' "$line" | "$tnc" encode >"$room/sent.raw"

@@ -84,7 +84,7 @@ takes() {
         is_taken "$1" $beside "$2=00$number" || fault "$1 $2=00$number is refused"
     done
 }
-# COMMAND OPTION TAKEN..: the words that an option takes, and not in capitals with more behind them.
+# COMMAND OPTION TAKEN..: the words that an option takes, and not in capitals with more after them.
 takes_words() {
     local beside word
     beside=$(needed_beside "$1" "$2")

@@ -77,7 +77,7 @@ def shuts_the_web(tnc):
 
 
 def takes_texts(tnc):
-    """What only looks like a method is passed over, and the frames behind it are sent."""
+    """What only looks like a method is passed over, and the frames after it are sent."""
     world, far = begun(tnc), 0
     texts = [b"kiss on\r", b"KISS ON\r", b"INT KISS\r", b"GETTY\r", b"PO", b"\xc0POST / HTTP/1.1\r\n", b"\x16\x04"]
     for beginning in texts:

@@ -118,7 +118,7 @@ class Words:
 
 
     def web(self, is_kiss):
-        """What a program of the web says: to the KISS port with frames behind it."""
+        """What a program of the web says: to the KISS port with frames after it."""
         if not is_kiss:
             return self.draws.choice(WEB)
         frame = self.address(0)[:6] + b"\x60" + FROM_WEB + b"\x61\x03\xf0web"

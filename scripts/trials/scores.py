@@ -112,7 +112,7 @@ def tones(frame, start, clock=0.0, mark=LEVEL, space=LEVEL, opening=30, anew=Fal
 
 
 def sound(sent, seed, gap=400, **how):
-    """Transmissions one after another, each behind a silence of its own at a place of its own within a sample."""
+    """Transmissions one after another, each after a silence of its own at a place of its own within a sample."""
     draw = random.Random(seed)
     made = []
     for frame in sent:
@@ -184,7 +184,7 @@ def rows(count):
         sent = frames(count, 2, information)
         for clock, least, most in clocks:
             yield f"clock {clock:+} ppm, {information} octets", least, most, sent, sound(sent, 13, clock=clock), []
-    # a second sender of another level and clock, behind the first
+    # a second sender of another level and clock, after the first
     first, second = frames(count - count // 2, 3, None), frames(count // 2, 4, None)
     made = sound(first, 14, gap=300) + sound(second, 15, clock=-80, mark=LEVEL / 4, space=LEVEL / 4)
     yield "two senders, one after the other", *SECOND_AFTER, first + second, made, []

@@ -5,7 +5,7 @@ use Rattle.tone_table.specs.declared.tone.Tone.{Tone}
 use Rattle.tone_table.specs.Tones.{next_phase}
 use Rattle.tone_table.specs.Wave.{pure_window, wave_from, wave}
 use Rattle.afsk_modulator.specs.Level.{at_level}
-use Rattle.afsk_modulator.specs.Modulation.{Modulation, full, tone_window, wave_of, behind}
+use Rattle.afsk_modulator.specs.Modulation.{Modulation, full, tone_window, wave_of, following}
 use Rattle.afsk_modulator.specs.Phase.{phase_from}
 use Rattle.afsk_modulator.proofs.LevelLemmas.{at_level-full, at_level-append}
 
@@ -25,24 +25,24 @@ wave_from-append phase (t ∷ ts) us =
     (wave_from (phase_from (next_phase phase t) ts) us))
 
 -- where a wave goes on after one tone more
-pub behind-push : (start : Modulation) (tones : List Tone) (tone : Tone) (now : Modulation) → now ≡ behind start tones
-    → behind now (tone ∷ []) ≡ behind start (tones ++ tone ∷ [])
-behind-push start tones tone now at =
-    ap (λ m. behind m (tone ∷ [])) at
+pub following-push : (start : Modulation) (tones : List Tone) (tone : Tone) (now : Modulation) → now ≡ following start tones
+    → following now (tone ∷ []) ≡ following start (tones ++ tone ∷ [])
+following-push start tones tone now at =
+    ap (λ m. following m (tone ∷ [])) at
     ∙ ap (λ phase. record start { phase = phase }) (sym (phase_from-append start.phase tones (tone ∷ [])))
 
 -- the wave of one tone more
-pub wave_of-push : (start : Modulation) (tones : List Tone) (tone : Tone) (now : Modulation) → now ≡ behind start tones
+pub wave_of-push : (start : Modulation) (tones : List Tone) (tone : Tone) (now : Modulation) → now ≡ following start tones
     → wave_of start (tones ++ tone ∷ []) ≡ wave_of start tones ++ tone_window now tone
 wave_of-push start tones tone now at =
-    let there : Modulation = behind start tones in
+    let there : Modulation = following start tones in
     ap (at_level start.level) (wave_from-append start.phase tones (tone ∷ [])
     ∙ ap (λ w. wave_from start.phase tones ++ w) (append-nil (pure_window there.phase tone)))
     ∙ at_level-append start.level (wave_from start.phase tones) (pure_window there.phase tone)
     ∙ ap (λ m. wave_of start tones ++ tone_window m tone) (sym at)
 
 -- the same for a transmission at full amplitude
-pub wave-push : (tones : List Tone) (tone : Tone) (now : Modulation) → now ≡ behind full tones
+pub wave-push : (tones : List Tone) (tone : Tone) (now : Modulation) → now ≡ following full tones
     → wave (tones ++ tone ∷ []) ≡ wave tones ++ tone_window now tone
 wave-push tones tone now at =
     sym (at_level-full (wave (tones ++ tone ∷ [])))

@@ -23,8 +23,8 @@ abbrev pub wave_of : Modulation → List Tone → List ℤ
 wave_of m tones = at_level m.level (wave_from m.phase tones)
 
 -- how it goes on after some tones
-abbrev pub behind : Modulation → List Tone → Modulation
-behind m tones = record m { phase = phase_from m.phase tones }
+abbrev pub following : Modulation → List Tone → Modulation
+following m tones = record m { phase = phase_from m.phase tones }
 
 -- A bit begins at one of six phases, 0, 8, 16, 24, 32 or 40, since a window moves the phase by 48 or 88 steps.
 pub record IsBitPhase (phase : ℕ) : Type 0 where

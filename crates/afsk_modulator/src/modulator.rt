@@ -3,7 +3,7 @@ ghost use Rattle.std.specs.Prelude.{◌≡◌, ◌<◌, ◌≤◌, List, [], ◌
 ghost use Rattle.tone_table.specs.declared.tone.Tone.{Tone};
 ghost use Rattle.tone_table.specs.Wave.{pure_window};
 ghost use Rattle.afsk_modulator.specs.Level.{sample_at, at_level};
-ghost use Rattle.afsk_modulator.specs.Modulation.{Modulation, full, tone_window, wave_of, behind, IsBitPhase, IsLevel};
+ghost use Rattle.afsk_modulator.specs.Modulation.{Modulation, full, tone_window, wave_of, following, IsBitPhase, IsLevel};
 
 use std::marker::Model;
 use tone_table::{Tone, advance, sine, step};
@@ -50,10 +50,10 @@ impl Modulator {
     /// The window of the next tone, which begins at the phase where the window before ended.
     pub fn next(&mut self, tone: Tone) -> [i16; 8]
         ensures window { result ≡ tone_window self.old tone }
-        ensures phase { self.new ≡ behind self.old (tone ∷ []) }
-        ensures stands_for { (start : Modulation) (tones : List Tone) → self.old ≡ behind start tones
-            → self.new ≡ behind start (tones ++ tone ∷ []) }
-        ensures wave { (start : Modulation) (tones : List Tone) → self.old ≡ behind start tones
+        ensures phase { self.new ≡ following self.old (tone ∷ []) }
+        ensures stands_for { (start : Modulation) (tones : List Tone) → self.old ≡ following start tones
+            → self.new ≡ following start (tones ++ tone ∷ []) }
+        ensures wave { (start : Modulation) (tones : List Tone) → self.old ≡ following start tones
             → wave_of start (tones ++ tone ∷ []) ≡ wave_of start tones ++ result }
     {
         let window = window(self.phase, self.level, tone);

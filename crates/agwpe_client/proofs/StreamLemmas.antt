@@ -6,7 +6,7 @@ use Rattle.agwpe_client.proofs.Common.{Done, Refused, Broken, Ignore, step_of, C
 use Rattle.agwpe_client.proofs.Common.{stepped, with_message, is_over, with_bad_length, call_run, state_after}
 use Rattle.std.specs.Prelude.{fold}
 use Rattle.agwpe_port.specs.Messages.{Reading, reading}
-use Rattle.agwpe_port.specs.Held.{StandsFor as StandsForOctets, new_held, rest_reading, behind}
+use Rattle.agwpe_port.specs.Held.{StandsFor as StandsForOctets, new_held, rest_reading, following}
 use Rattle.agwpe_port.proofs.HeldLemmas.{bad_now, stands_new, stands_next, stands_failed}
 
 -- ---- a reader for each stream
@@ -79,8 +79,8 @@ module _ (plan : CallPlan) (stream more : List ℕ) (held : Held) (stands : Stan
   goes_on bad = rest_reading bad (held.header ++ held.body) more
 
   rest : (bad : Option ℕ) → held.bad ≡ bad
-      → reading (stream ++ more) ≡ behind (messages_in stream) (goes_on bad)
-  rest bad is = stands.rest more ∙ ap (λ b. behind (messages_in stream) (goes_on b)) is
+      → reading (stream ++ more) ≡ following (messages_in stream) (goes_on bad)
+  rest bad is = stands.rest more ∙ ap (λ b. following (messages_in stream) (goes_on b)) is
 
   now : (bad : Option ℕ) → held.bad ≡ bad → bad_length_in stream ≡ bad
   now bad is = bad_now held stream stands ∙ is

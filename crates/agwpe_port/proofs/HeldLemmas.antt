@@ -10,7 +10,7 @@ use Rattle.agwpe_port.specs.declared.message.AgwMessage.{AgwMessage}
 use Rattle.agwpe_port.specs.Messages.{Reading, told_length, message_of, reading, given, IsFault}
 use Rattle.agwpe_port.specs.Answer.{answer_of}
 use Rattle.agwpe_port.specs.Held.{Held, StandsFor, IsOpen, new_held, taken, told, taken_of_body, told_by_body}
-use Rattle.agwpe_port.specs.Held.{header_ended, told_by_header, with_body, rest_reading, behind}
+use Rattle.agwpe_port.specs.Held.{header_ended, told_by_header, with_body, rest_reading, following}
 use Rattle.agwpe_port.proofs.ReadingLemmas.{nothing, reading_short, reading_bad, reading_open, reading_whole}
 
 -- the message under way, and nothing else
@@ -23,7 +23,7 @@ rest_of held more = rest_reading held.bad (held.header ++ held.body) more
 
 -- after an octet, what is kept and the message tell how it goes on
 pub record Goes (octets : List ℕ) (next : Held) (message : Option AgwMessage) : Type 0 where
-  pub rest : (more : List ℕ) → reading (octets ++ more) ≡ behind (option_to_list message) (rest_of next more)
+  pub rest : (more : List ℕ) → reading (octets ++ more) ≡ following (option_to_list message) (rest_of next more)
   pub under_way : next.bad ≡ None → IsOpen next.header next.body
 
 -- a test by which both go
@@ -194,7 +194,7 @@ module _ (held : Held) (stream : List ℕ) (stands : StandsFor held stream) wher
         ≡ record { messages = (reading stream).messages; bad = Some len }
     failed_more more =
         stands.rest more
-        ∙ ap (λ bad. behind (reading stream).messages (rest_reading bad (held.header ++ held.body) more)) is_bad
+        ∙ ap (λ bad. following (reading stream).messages (rest_reading bad (held.header ++ held.body) more)) is_bad
         ∙ ap (λ ms. record { messages = ms; bad = Some len }) (append-nil (reading stream).messages)
 
     pub messages_failed : (reading (stream ++ octet ∷ [])).messages ≡ (reading stream).messages ++ []
@@ -207,11 +207,11 @@ module _ (held : Held) (stream : List ℕ) (stands : StandsFor held stream) wher
       rest = λ more.
           ap reading (append_assoc stream (octet ∷ []) more)
           ∙ stands.rest (octet ∷ more)
-          ∙ ap (λ bad. behind (reading stream).messages (rest_reading bad (held.header ++ held.body) (octet ∷ more)))
+          ∙ ap (λ bad. following (reading stream).messages (rest_reading bad (held.header ++ held.body) (octet ∷ more)))
           is_bad
-          ∙ ap (λ ms. behind ms (rest_reading (Some len) (held.header ++ held.body) more))
+          ∙ ap (λ ms. following ms (rest_reading (Some len) (held.header ++ held.body) more))
           (sym (messages_failed ∙ append-nil (reading stream).messages))
-          ∙ ap (λ bad. behind (reading (stream ++ octet ∷ [])).messages
+          ∙ ap (λ bad. following (reading (stream ++ octet ∷ [])).messages
           (rest_reading bad (held.header ++ held.body) more)) (sym is_bad);
     }
 
@@ -229,14 +229,14 @@ module _ (held : Held) (stream : List ℕ) (stands : StandsFor held stream) wher
         subst P (sym good) (octet_goes held.header held.body octet (stands.under_way good))
 
     stream_more : (more : List ℕ) → reading (stream ++ octet ∷ more)
-        ≡ behind ((reading stream).messages ++ option_to_list (told held octet)) (rest_of (taken held octet) more)
+        ≡ following ((reading stream).messages ++ option_to_list (told held octet)) (rest_of (taken held octet) more)
     unfolding octets
     stream_more more =
         stands.rest (octet ∷ more)
-        ∙ ap (λ bad. behind (reading stream).messages (rest_reading bad (held.header ++ held.body) (octet ∷ more))) good
-        ∙ ap (λ xs. behind (reading stream).messages (reading xs))
+        ∙ ap (λ bad. following (reading stream).messages (rest_reading bad (held.header ++ held.body) (octet ∷ more))) good
+        ∙ ap (λ xs. following (reading stream).messages (reading xs))
         (sym (append_assoc (held.header ++ held.body) (octet ∷ []) more))
-        ∙ ap (behind (reading stream).messages) (goes.rest more)
+        ∙ ap (following (reading stream).messages) (goes.rest more)
         ∙ ap (λ ms. record { messages = ms; bad = (rest_of (taken held octet) more).bad })
         (sym (append_assoc (reading stream).messages (option_to_list (told held octet))
         (rest_of (taken held octet) more).messages))
@@ -248,7 +248,7 @@ module _ (held : Held) (stream : List ℕ) (stands : StandsFor held stream) wher
     }
     now =
         stream_more []
-        ∙ ap (behind ((reading stream).messages ++ option_to_list (told held octet)))
+        ∙ ap (following ((reading stream).messages ++ option_to_list (told held octet)))
         (at_end (taken held octet) goes.under_way)
         ∙ ap (λ ms. record { messages = ms; bad = (taken held octet).bad })
         (append-nil ((reading stream).messages ++ option_to_list (told held octet)))
@@ -287,7 +287,7 @@ module _ (held : Held) (stream : List ℕ) (stands : StandsFor held stream) wher
       rest = λ more.
           ap reading (append_assoc stream (octet ∷ []) more)
           ∙ stream_more more
-          ∙ ap (λ ms. behind ms (rest_of (taken held octet) more)) (sym messages_next);
+          ∙ ap (λ ms. following ms (rest_of (taken held octet) more)) (sym messages_next);
     }
 
 -- a length that was too long stays, whatever comes
@@ -302,5 +302,5 @@ stands_new = record {
   under_way = λ good. inl (omega arith, refl);
   rest = λ more.
       let none : reading [] ≡ nothing = reading_short [] (omega arith) in
-      ap (λ (r : Reading). behind r.messages (reading more)) (sym none);
+      ap (λ (r : Reading). following r.messages (reading more)) (sym none);
 }

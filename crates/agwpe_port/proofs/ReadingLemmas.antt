@@ -10,32 +10,32 @@ abbrev pub nothing : Reading
 nothing = record { messages = []; bad = None }
 
 -- what a header and what stands after it are read as, if the next messages are read so
-abbrev pub behind_header : (List ℕ → Reading) → List ℕ → List ℕ → Reading
-behind_header next header behind =
+abbrev pub following_header : (List ℕ → Reading) → List ℕ → List ℕ → Reading
+following_header next header following =
     cond (ltb 4096 (told_length header)) (record { messages = []; bad = Some (told_length header) })
-    (cond (ltb (length behind) (told_length header)) nothing
-    (and_then (message_of header (take (told_length header) behind)) (next (drop (told_length header) behind))))
+    (cond (ltb (length following) (told_length header)) nothing
+    (and_then (message_of header (take (told_length header) following)) (next (drop (told_length header) following))))
 
 -- with one message more
 abbrev one_more : ℕ → List ℕ → Reading
 one_more most stream = cond (ltb (length stream) 36) nothing
-    (behind_header (reading_upto most) (take 36 stream) (drop 36 stream))
+    (following_header (reading_upto most) (take 36 stream) (drop 36 stream))
 
 short_more : (most : ℕ) (stream : List ℕ) → length stream < 36 → one_more most stream ≡ nothing
 short_more most stream short = cond-true _ _ _ (lt-ltb (length stream) 36 short)
 
 header_more : (most : ℕ) (stream : List ℕ) → 36 ≤ length stream
-    → one_more most stream ≡ behind_header (reading_upto most) (take 36 stream) (drop 36 stream)
+    → one_more most stream ≡ following_header (reading_upto most) (take 36 stream) (drop 36 stream)
 header_more most stream whole = cond-false _ _ _ (le-ltb (length stream) 36 whole)
 
 -- two ways to read what follows that agree there
-same_next : (first second : List ℕ → Reading) (header behind : List ℕ)
-    → first (drop (told_length header) behind) ≡ second (drop (told_length header) behind)
-    → behind_header first header behind ≡ behind_header second header behind
-same_next first second header behind same =
+same_next : (first second : List ℕ → Reading) (header following : List ℕ)
+    → first (drop (told_length header) following) ≡ second (drop (told_length header) following)
+    → following_header first header following ≡ following_header second header following
+same_next first second header following same =
     ap (λ r. cond (ltb 4096 (told_length header)) (record { messages = []; bad = Some (told_length header) })
-    (cond (ltb (length behind) (told_length header)) nothing
-    (and_then (message_of header (take (told_length header) behind)) r))) same
+    (cond (ltb (length following) (told_length header)) nothing
+    (and_then (message_of header (take (told_length header) following)) r))) same
 
 rest_le : (count most : ℕ) (stream : List ℕ) → 36 ≤ length stream → length stream ≤ suc most
     → length (drop count (drop 36 stream)) ≤ most
@@ -66,26 +66,26 @@ reading_short stream short = enough (length stream) (suc (length stream)) stream
     ∙ short_more (length stream) stream short
 
 -- a header, and what stands after it
-pub reading_header : (header behind : List ℕ) → length header ≡ 36
-    → reading (header ++ behind) ≡ behind_header reading header behind
+pub reading_header : (header following : List ℕ) → length header ≡ 36
+    → reading (header ++ following) ≡ following_header reading header following
 unfolding reading
-reading_header header behind size =
-    let stream : List ℕ = header ++ behind in
-    let count : length stream ≡ length header + length behind = length-append header behind in
-    let rest : List ℕ = drop (told_length header) behind in
-    let front : take 36 stream ≡ header = take_at header behind 36 size in
-    let back : drop 36 stream ≡ behind = drop_at header behind 36 size in
+reading_header header following size =
+    let stream : List ℕ = header ++ following in
+    let count : length stream ≡ length header + length following = length-append header following in
+    let rest : List ℕ = drop (told_length header) following in
+    let front : take 36 stream ≡ header = take_at header following 36 size in
+    let back : drop 36 stream ≡ following = drop_at header following 36 size in
     enough (length stream) (suc (length stream)) stream (omega arith) (omega arith)
     ∙ header_more (length stream) stream (omega arith)
-    ∙ ap (λ h. behind_header (reading_upto (length stream)) h (drop 36 stream)) front
-    ∙ ap (λ xs. behind_header (reading_upto (length stream)) header xs) back
-    ∙ same_next (reading_upto (length stream)) reading header behind
-    (enough (length stream) (length rest) rest (omega (arith, length-drop (told_length header) behind)) (omega arith))
+    ∙ ap (λ h. following_header (reading_upto (length stream)) h (drop 36 stream)) front
+    ∙ ap (λ xs. following_header (reading_upto (length stream)) header xs) back
+    ∙ same_next (reading_upto (length stream)) reading header following
+    (enough (length stream) (length rest) rest (omega (arith, length-drop (told_length header) following)) (omega arith))
 
 -- a header that tells too long a body
-pub reading_bad : (header behind : List ℕ) → length header ≡ 36 → 4096 < told_length header
-    → reading (header ++ behind) ≡ record { messages = []; bad = Some (told_length header) }
-reading_bad header behind size long = reading_header header behind size
+pub reading_bad : (header following : List ℕ) → length header ≡ 36 → 4096 < told_length header
+    → reading (header ++ following) ≡ record { messages = []; bad = Some (told_length header) }
+reading_bad header following size long = reading_header header following size
     ∙ cond-true _ _ _ (lt-ltb 4096 (told_length header) long)
 
 -- a header whose body is not there to its end

@@ -10,5 +10,5 @@ one_more stream octets i within = append_assoc stream (take i octets) (get_or oc
     ∙ ap (λ xs. stream ++ xs) (sym (take_more octets i 0 within))
 
 -- what stands after a list in a longer one
-pub behind : {A : Type 0} (whole before items : List A) → whole ≡ before ++ items → items ≡ drop (length before) whole
-behind whole before items is = sym (ap (λ xs. drop (length before) xs) is ∙ drop_at before items (length before) refl)
+pub following : {A : Type 0} (whole before items : List A) → whole ≡ before ++ items → items ≡ drop (length before) whole
+following whole before items is = sym (ap (λ xs. drop (length before) xs) is ∙ drop_at before items (length before) refl)

@@ -31,15 +31,15 @@ module _ (message : AgwMessage) (written : IsWritten message) where
       length-append message.to (tail_of message) in
       omega (arith, calls, later, written.from, written.to)
 
-  behind_from : drop 10 (calls_of message) ≡ message.to ++ tail_of message
-  behind_from = drop_at message.from (message.to ++ tail_of message) 10 written.from
+  after_from : drop 10 (calls_of message) ≡ message.to ++ tail_of message
+  after_from = drop_at message.from (message.to ++ tail_of message) 10 written.from
 
-  behind_calls : drop 20 (calls_of message) ≡ tail_of message
-  behind_calls = sym (drop-drop 10 10 (calls_of message)) ∙ ap (drop 10) behind_from
+  following_calls : drop 20 (calls_of message) ≡ tail_of message
+  following_calls = sym (drop-drop 10 10 (calls_of message)) ∙ ap (drop 10) after_from
       ∙ drop_at message.to (tail_of message) 10 written.to
 
   length_back : told_length (header_of message) ≡ length message.body
-  length_back = ap (little_number 4) behind_calls ∙ little_number-reads_back 4 (length message.body)
+  length_back = ap (little_number 4) following_calls ∙ little_number-reads_back 4 (length message.body)
       (0 ∷ 0 ∷ 0 ∷ 0 ∷ []) (omega (arith, written.body))
 
   message_back : message_of (header_of message) message.body ≡ message
@@ -61,7 +61,7 @@ module _ (message : AgwMessage) (written : IsWritten message) where
         to = to;
         body = message.body;
       })
-      (ap (take 10) behind_from ∙ take_at message.to (tail_of message) 10 written.to)
+      (ap (take 10) after_from ∙ take_at message.to (tail_of message) 10 written.to)
 
   -- The octets of a message are that message, whatever follows.
   pub written_reads : (more : List ℕ) → reading (spelling message ++ more) ≡ and_then message (reading more)

@@ -71,15 +71,15 @@ abbrev pub rest_reading : Option ℕ → List ℕ → List ℕ → Reading
 rest_reading None octets more = reading (octets ++ more)
 rest_reading (Some len) octets more = record { messages = []; bad = Some len }
 
-abbrev pub behind : List AgwMessage → Reading → Reading
-behind before r = record { messages = before ++ r.messages; bad = r.bad }
+abbrev pub following : List AgwMessage → Reading → Reading
+following before r = record { messages = before ++ r.messages; bad = r.bad }
 
 -- these octets of a stream have come
 pub record StandsFor (held : Held) (stream : List ℕ) : Type 0 where
   pub under_way : held.bad ≡ None → IsOpen held.header held.body
   -- whatever comes, the stream is the messages so far, and what is kept and comes
   pub rest : (more : List ℕ) → reading (stream ++ more)
-      ≡ behind (reading stream).messages (rest_reading held.bad (held.header ++ held.body) more)
+      ≡ following (reading stream).messages (rest_reading held.bad (held.header ++ held.body) more)
 
 -- Every reader is one to which the octets of some stream have come.
 abbrev pub StandsForSome : Held → Type 0

@@ -46,11 +46,11 @@ reading_upto zero stream = record { messages = []; bad = None }
 reading_upto (suc most) stream =
     if nat_lt (length stream) header_size then record { messages = []; bad = None } else
     let header = take header_size stream in
-    let behind = drop header_size stream in
+    let following = drop header_size stream in
     if nat_lt most_body (told_length header) then record { messages = []; bad = Some (told_length header) } else
-    if nat_lt (length behind) (told_length header) then record { messages = []; bad = None } else
-    and_then (message_of header (take (told_length header) behind))
-    (reading_upto most (drop (told_length header) behind))
+    if nat_lt (length following) (told_length header) then record { messages = []; bad = None } else
+    and_then (message_of header (take (told_length header) following))
+    (reading_upto most (drop (told_length header) following))
 
 -- The stream is cut into headers, each followed by its body; a header or a body that is cut short is no message yet. A
 -- message has 36 octets at least, so there are no more than octets.

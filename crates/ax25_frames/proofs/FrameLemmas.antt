@@ -58,22 +58,22 @@ IsOneFrame-address modulus octets fault h = record {
     only Memory g = absurd (no_fault octets g.path g.len fault g.begins h)
 
 -- a fault after the address is one of the frame
-shows_behind : (modulus : Modulus) (octets : List ℕ) (path : Path) (len : ℕ) (fault : FrameFault)
+shows_following : (modulus : Modulus) (octets : List ℕ) (path : Path) (len : ℕ) (fault : FrameFault)
     → BeginsWithPath octets path len → BodyFault modulus (drop len octets) len fault
     → ShowsFrameFault modulus octets fault
-shows_behind modulus octets path len (Address fault) b h = absurd h
-shows_behind modulus octets path len (NoControl at) b h = record { path = path; len = len; begins = b; shows = h }
-shows_behind modulus octets path len (NoPid at) b h = record { path = path; len = len; begins = b; shows = h }
-shows_behind modulus octets path len (UnknownControl octet) b h =
+shows_following modulus octets path len (Address fault) b h = absurd h
+shows_following modulus octets path len (NoControl at) b h = record { path = path; len = len; begins = b; shows = h }
+shows_following modulus octets path len (NoPid at) b h = record { path = path; len = len; begins = b; shows = h }
+shows_following modulus octets path len (UnknownControl octet) b h =
     record { path = path; len = len; begins = b; shows = h }
-shows_behind modulus octets path len (InfoTooLong n) b h = record { path = path; len = len; begins = b; shows = h }
-shows_behind modulus octets path len (StrayInfo at) b h = record { path = path; len = len; begins = b; shows = h }
-shows_behind modulus octets path len Memory b h = absurd h
+shows_following modulus octets path len (InfoTooLong n) b h = record { path = path; len = len; begins = b; shows = h }
+shows_following modulus octets path len (StrayInfo at) b h = record { path = path; len = len; begins = b; shows = h }
+shows_following modulus octets path len Memory b h = absurd h
 
 -- and the other way round, after the one address
-behind : (modulus : Modulus) (octets : List ℕ) (path : Path) (len : ℕ) (fault : FrameFault)
+following : (modulus : Modulus) (octets : List ℕ) (path : Path) (len : ℕ) (fault : FrameFault)
     → BeginsWithPath octets path len → FollowsPath modulus octets fault → BodyFault modulus (drop len octets) len fault
-behind modulus octets path len fault b g =
+following modulus octets path len fault b g =
     subst (λ (n : ℕ). BodyFault modulus (drop n octets) n fault)
     (BeginsWithPath-same octets g.path path g.len len g.begins b).1 g.shows
 
@@ -81,13 +81,13 @@ body_fault : (modulus : Modulus) (octets : List ℕ) (path : Path) (len : ℕ) (
     → BeginsWithPath octets path len → ShowsFrameFault modulus octets fault
     → BodyFault modulus (drop len octets) len fault
 body_fault modulus octets path len (Address fault) b h = absurd (no_fault octets path len fault b h)
-body_fault modulus octets path len (NoControl at) b h = behind modulus octets path len (NoControl at) b h
-body_fault modulus octets path len (NoPid at) b h = behind modulus octets path len (NoPid at) b h
+body_fault modulus octets path len (NoControl at) b h = following modulus octets path len (NoControl at) b h
+body_fault modulus octets path len (NoPid at) b h = following modulus octets path len (NoPid at) b h
 body_fault modulus octets path len (UnknownControl octet) b h =
-    behind modulus octets path len (UnknownControl octet) b h
-body_fault modulus octets path len (InfoTooLong n) b h = behind modulus octets path len (InfoTooLong n) b h
-body_fault modulus octets path len (StrayInfo at) b h = behind modulus octets path len (StrayInfo at) b h
-body_fault modulus octets path len Memory b h = behind modulus octets path len Memory b h
+    following modulus octets path len (UnknownControl octet) b h
+body_fault modulus octets path len (InfoTooLong n) b h = following modulus octets path len (InfoTooLong n) b h
+body_fault modulus octets path len (StrayInfo at) b h = following modulus octets path len (StrayInfo at) b h
+body_fault modulus octets path len Memory b h = following modulus octets path len Memory b h
 
 abbrev frame_of : Path → Kind → Frame
 frame_of path kind = record { path = path; kind = kind }
@@ -125,7 +125,7 @@ IsOneFrame-fault modulus octets path len fault b h = record {
   frame = tt;
   fault = elim h.fault [
     | inl memory ↦ inl memory
-    | inr shows ↦ inr (shows_behind modulus octets path len fault b shows)
+    | inr shows ↦ inr (shows_following modulus octets path len fault b shows)
   ];
   each_frame = λ frame g.
       let same = BeginsWithPath-same octets path frame.path len g.len b g.path in

@@ -22,7 +22,7 @@ use Rattle.station_laws.proofs.Common.{destination_field, waits_for_repeater, jo
 use Rattle.station_laws.proofs.Common.{new_items, taking, ending, AreTaken, AreTakenBy, IsHostTurn, IsPathOf, param_of}
 use Rattle.station_laws.proofs.Common.{with_param, heeding, heeding_all, leaving, is_between, key_between, making}
 use Rattle.station_laws.proofs.Common.{idle_link, no_layer_3, registrar, may_register, is_number, Route, route_in}
-use Rattle.station_laws.proofs.Common.{repeaters_in, behind_repeaters, path_along, asked_links, Out, Turn, Act}
+use Rattle.station_laws.proofs.Common.{repeaters_in, after_repeaters, path_along, asked_links, Out, Turn, Act}
 use Rattle.station_laws.proofs.Common.{in_order, changing, closing, dropping, may_enter, Input}
 use Rattle.station_laws.proofs.Common.{IsTurn, FromHost, OffAir, OfClock, LinkStep, tick_steps, leaving_steps}
 use Rattle.station_laws.proofs.Common.{made_steps, call_steps, data_steps, disconnect_steps, else_steps, answer_steps}
@@ -266,11 +266,11 @@ module _ (id : ℕ) (plan : CallPlan) (called : IsBetweenCalls plan) where
       (sending_unnumbered host message.pid message.body (route_in message.from message.to (Some [])) turn) _ all
       (calm unproto_kind (sending_unnumbered host message.pid message.body (route_in message.from message.to (Some [])) turn)
       refl (unnumbered_does host message.pid message.body (route_in message.from message.to (Some [])) turn))
-      (by_kind P k unproto_via_kind (sending_unnumbered host message.pid (behind_repeaters message.body)
+      (by_kind P k unproto_via_kind (sending_unnumbered host message.pid (after_repeaters message.body)
       (route_in message.from message.to (repeaters_in message.body)) turn) _ all
-      (calm unproto_via_kind (sending_unnumbered host message.pid (behind_repeaters message.body)
+      (calm unproto_via_kind (sending_unnumbered host message.pid (after_repeaters message.body)
       (route_in message.from message.to (repeaters_in message.body)) turn) refl
-      (unnumbered_does host message.pid (behind_repeaters message.body)
+      (unnumbered_does host message.pid (after_repeaters message.body)
       (route_in message.from message.to (repeaters_in message.body)) turn))
       (λ stays. without_register no_register))))))))))
     where

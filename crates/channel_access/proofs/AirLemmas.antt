@@ -216,7 +216,7 @@ starts_tick (Following left true) (front ∷ []) t total sent h count fit = absu
 starts_tick (Following left true) (front ∷ next ∷ others) t total sent h count fit =
     let some : 1 ≤ left = h.some in
     let there = flag_there_at left front (next.octets ∷ []) false t total sent h count in
-    let behind = frames_end-next t h.past front.octets next.octets h.frames h.named in
+    let following = frames_end-next t h.past front.octets next.octets h.frames h.named in
     record { goes = frames_go_on total t (omega arith); flag = flag_goes_on total t (omega arith) }
 starts_tick (Following left false) [] t total sent h count fit = absurd h
 starts_tick (Following left false) (front ∷ others) t total sent h count fit =

@@ -138,22 +138,22 @@ module _ (octets : List ℕ) (line : List Bool) (place : ℕ) (frame : StuffedBi
         whole = put_by octets line place bit _ _ within (ap (λ l. l ++ (rest frame ++ drop count (flags 239))) cut)
             h.whole;
         few = omega (arith, h.few);
-        over = λ some. let behind = (h.over some).0 in absurd (omega arith);
+        over = λ some. let following = (h.over some).0 in absurd (omega arith);
       }
 
   -- a bit of the frame
-  pub put_frame : 8 ≤ place → (bit : Bool) (behind : StuffedBits) → rest frame ≡ bit ∷ rest behind
-      → HasPut octets (set line place bit) (place + 1) behind count
-  put_frame later bit behind next =
+  pub put_frame : 8 ≤ place → (bit : Bool) (following : StuffedBits) → rest frame ≡ bit ∷ rest following
+      → HasPut octets (set line place bit) (place + 1) following count
+  put_frame later bit following next =
       let past : drop place flag ≡ [] = drop_all place flag later in
       let still : drop (place + 1) flag ≡ [] = drop_all (place + 1) flag (omega arith) in
       record {
         whole = put_by octets line place bit _ _ within
             (ap (λ l. l ++ (rest frame ++ drop count (flags 239))) past
             ∙ ap (λ l. l ++ drop count (flags 239)) next
-            ∙ ap (λ l. bit ∷ (l ++ (rest behind ++ drop count (flags 239)))) (sym still)) h.whole;
+            ∙ ap (λ l. bit ∷ (l ++ (rest following ++ drop count (flags 239)))) (sym still)) h.whole;
         few = omega (arith, h.few);
-        over = λ some. let clash : bit ∷ rest behind ≡ [] = sym next ∙ (h.over some).1 in absurd (cc);
+        over = λ some. let clash : bit ∷ rest following ≡ [] = sym next ∙ (h.over some).1 in absurd (cc);
       }
 
   -- a bit of the flags after it

@@ -88,15 +88,15 @@ pub joined-more : (modem : Modem) (frames : List (List ℕ)) (octets : List ℕ)
     ≡ joined_by modem frames ++ cond (eqb (length frames) 0) (piece modem octets) (flag ++ piece modem octets)
 joined-more modem [] octets = refl
 joined-more modem (first ∷ frames) octets =
-    behind first frames
+    following first frames
     ∙ ap (λ t. joined_by modem (first ∷ frames) ++ cond t (piece modem octets) (flag ++ piece modem octets))
     (sym (ne_eqb (length (first ∷ frames)) 0 (omega arith)))
   where
-    behind : (first : List ℕ) (frames : List (List ℕ)) → joined_by modem ((first ∷ frames) ++ octets ∷ [])
+    following : (first : List ℕ) (frames : List (List ℕ)) → joined_by modem ((first ∷ frames) ++ octets ∷ [])
         ≡ joined_by modem (first ∷ frames) ++ (flag ++ piece modem octets)
-    behind first [] = refl
-    behind first (next ∷ frames) =
-        ap (λ xs. piece modem first ++ (flag ++ xs)) (behind next frames)
+    following first [] = refl
+    following first (next ∷ frames) =
+        ap (λ xs. piece modem first ++ (flag ++ xs)) (following next frames)
         ∙ ap (λ xs. piece modem first ++ xs)
         (sym (append_assoc flag (joined_by modem (next ∷ frames)) (flag ++ piece modem octets)))
         ∙ sym (append_assoc (piece modem first) (flag ++ joined_by modem (next ∷ frames)) (flag ++ piece modem octets))

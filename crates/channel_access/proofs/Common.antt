@@ -1,11 +1,11 @@
 -- The names that most proofs of this crate cite, passed on from one place.
 unfoldable pub use Rattle.channel_access.specs.Modem.{body_by, piece, transmission_by}
 pub use Rattle.channel_access.specs.Modem.{bits_of_ticks, count_of, joined_by, samples_of_bits, tagged, tick_bits}
-pub use Rattle.channel_access.specs.HeldWave.{after_tone, modem_of, wave_behind, wave_start, wave_window}
+pub use Rattle.channel_access.specs.HeldWave.{after_tone, modem_of, wave_after, wave_start, wave_window}
 pub use Rattle.channel_access.specs.Channel.{Channel, Takes, after_tick, air_after, air_samples, air_sent, air_tick}
 pub use Rattle.channel_access.specs.Channel.{air_waiting, begun, decision, new_channel, new_channel_by, with_frame, with_setting}
 unfoldable pub use Rattle.channel_access.specs.Held.{new_sending, step_of, window_of, with_bit, with_bits}
-pub use Rattle.channel_access.specs.Held.{Held, Run, Step, behind_bit, checked, flag_bit, frame_over, frame_start}
+pub use Rattle.channel_access.specs.Held.{Held, Run, Step, following_bit, checked, flag_bit, frame_over, frame_start}
 pub use Rattle.channel_access.specs.Held.{held_with_frame, sent_with, stage_over, tick_start, with_step}
 pub use Rattle.channel_access.specs.HeldTick.{going_on, held_tick, run_of}
 unfoldable pub use Rattle.channel_access.specs.OnAir.{bits_of, flag_end, frames_end, samples_on_air, tick_samples}

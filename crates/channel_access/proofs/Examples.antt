@@ -171,7 +171,7 @@ taken_once = refl
 turns_alternate : is_its_turn 10 (Heard true ∷ (busy 60 ++ (quiet 3 ++ (Ticked false false true ∷ quiet 20)))) ≡ false
 turns_alternate = refl
 
--- With these behind it a channel in which one frame waits decides so. The draw of seed 2 is 102, and P is 63.
+-- With these after it a channel in which one frame waits decides so. The draw of seed 2 is 102, and P is 63.
 abbrev decides : List Happening → Decision
 decides past = decision false false (record one_waits { past = past })
 

@@ -21,9 +21,9 @@ use Rattle.std.proofs.lemmas.Bool.{agree_below_at, le-ltb, true≢false}
 use Rattle.std.proofs.lemmas.Nat.{and_mask, shr-shr}
 use Rattle.hdlc_framer.specs.BitOrder.{low_bits}
 use Rattle.hdlc_framer.proofs.BitLemmas.{length-octet_bits}
-use Rattle.channel_access.specs.Held.{bits_in, bit_count, behind_place, next_in_frame, next_stuffed, stuffed_over}
+use Rattle.channel_access.specs.Held.{bits_in, bit_count, after_place, next_in_frame, next_stuffed, stuffed_over}
 use Rattle.channel_access.specs.Held.{stuffed_start, next_in_block, block_bits, block_over, block_start, tagged_start, tag_octets, unit_octets}
-use Rattle.channel_access.specs.StandsFor.{rest_behind}
+use Rattle.channel_access.specs.StandsFor.{rest_after}
 
 low_bits-at : (count n k : ℕ) → k < count → get_or (low_bits count n) k false ≡ eqb (n / 2 ^ k % 2) 1
 low_bits-at zero n k below = absurd (omega arith)
@@ -45,8 +45,8 @@ sent_bits-at (octet ∷ octets) zero k below low =
     ap (λ m. get_or (sent_bits (octet ∷ octets)) m false) (omega arith)
     ∙ get_or_append_left (octet_bits octet) (sent_bits octets) false k within ∙ octet_bits-at octet k low
 sent_bits-at (octet ∷ octets) (suc i) k below low =
-    let behind : 8 ≤ 8 * suc i + k = omega arith in
-    get_or-append_right (octet_bits octet) (sent_bits octets) 8 (8 * suc i + k) false (length-octet_bits octet) behind
+    let following : 8 ≤ 8 * suc i + k = omega arith in
+    get_or-append_right (octet_bits octet) (sent_bits octets) 8 (8 * suc i + k) false (length-octet_bits octet) following
     ∙ ap (λ m. get_or (sent_bits octets) m false) (omega arith) ∙ sent_bits-at octets i k (omega arith) low
 
 -- the bit at a place of a frame
@@ -68,19 +68,19 @@ unfolding stuffed_rest bits_in frame_bits with_fcs
 stuffed_rest-start octets = sym (stuffed_is (sent_bits (with_fcs octets)))
 
 -- a bit that is no inserted zero
-rest_behind-cons : (ones : ℕ) (bit : Bool) (bits : List Bool) → ones < 5
-    → rest_behind ones (bit ∷ bits) ≡ bit ∷ rest_behind (cond bit (ones + 1) 0) bits
-rest_behind-cons zero true bits below = refl
-rest_behind-cons zero false bits below = refl
-rest_behind-cons (suc zero) true bits below = refl
-rest_behind-cons (suc zero) false bits below = refl
-rest_behind-cons (suc (suc zero)) true bits below = refl
-rest_behind-cons (suc (suc zero)) false bits below = refl
-rest_behind-cons (suc (suc (suc zero))) true bits below = refl
-rest_behind-cons (suc (suc (suc zero))) false bits below = refl
-rest_behind-cons (suc (suc (suc (suc zero)))) true bits below = refl
-rest_behind-cons (suc (suc (suc (suc zero)))) false bits below = refl
-rest_behind-cons (suc (suc (suc (suc (suc ones))))) bit bits below = absurd (omega arith)
+rest_after-cons : (ones : ℕ) (bit : Bool) (bits : List Bool) → ones < 5
+    → rest_after ones (bit ∷ bits) ≡ bit ∷ rest_after (cond bit (ones + 1) 0) bits
+rest_after-cons zero true bits below = refl
+rest_after-cons zero false bits below = refl
+rest_after-cons (suc zero) true bits below = refl
+rest_after-cons (suc zero) false bits below = refl
+rest_after-cons (suc (suc zero)) true bits below = refl
+rest_after-cons (suc (suc zero)) false bits below = refl
+rest_after-cons (suc (suc (suc zero))) true bits below = refl
+rest_after-cons (suc (suc (suc zero))) false bits below = refl
+rest_after-cons (suc (suc (suc (suc zero)))) true bits below = refl
+rest_after-cons (suc (suc (suc (suc zero)))) false bits below = refl
+rest_after-cons (suc (suc (suc (suc (suc ones))))) bit bits below = absurd (omega arith)
 
 length-bits_in : (octets : List ℕ) (check : ℕ) → length (bits_in octets check) ≡ 8 * (length octets + 2)
 unfolding bits_in
@@ -90,9 +90,9 @@ length-bits_in octets check =
 -- a frame that is not over gives its next bit
 pub record NextStuffed (f : StuffedBits) (octets : List ℕ) : Type 0 where
   pub bit : Bool
-  pub behind : StuffedBits
-  pub given : next_stuffed f octets ≡ Some (bit, behind)
-  pub rest : stuffed_rest f octets ≡ bit ∷ stuffed_rest behind octets
+  pub following : StuffedBits
+  pub given : next_stuffed f octets ≡ Some (bit, following)
+  pub rest : stuffed_rest f octets ≡ bit ∷ stuffed_rest following octets
 
 zero_next : (f : StuffedBits) (octets : List ℕ) → 5 ≤ f.ones → NextStuffed f octets
 unfolding stuffed_rest
@@ -100,7 +100,7 @@ zero_next f octets five =
     let test : leb 5 f.ones ≡ true = le-leb 5 f.ones five in
     record {
       bit = false;
-      behind = record f { ones = 0 };
+      following = record f { ones = 0 };
       given = cond-true (leb 5 f.ones) _ _ test;
       rest = cond-true (leb 5 f.ones) _ _ test;
     }
@@ -117,9 +117,9 @@ bit_next f octets few within =
     drop-cons bits f.place false below ∙ ap (λ n. bit ∷ drop n bits) (sym (add-one f.place)) in
     record {
       bit = bit;
-      behind = behind_place f bit;
+      following = after_place f bit;
       given = cond-false (leb 5 f.ones) _ _ test ∙ cond-true (ltb f.place (bit_count octets)) _ _ inside;
-      rest = ap (rest_behind f.ones) cut ∙ rest_behind-cons f.ones bit (drop (f.place + 1) bits) few;
+      rest = ap (rest_after f.ones) cut ∙ rest_after-cons f.ones bit (drop (f.place + 1) bits) few;
     }
 
 pub stuffed_given : (f : StuffedBits) (octets : List ℕ) → stuffed_over f octets ≡ false → NextStuffed f octets
@@ -137,28 +137,28 @@ pub stuffed_rest-over : (f : StuffedBits) (octets : List ℕ) → stuffed_over f
 unfolding stuffed_rest
 stuffed_rest-over f octets over =
     let few : f.ones < 5 = grind (arith, nat_tests) in
-    let behind : bit_count octets ≤ f.place = grind (arith, nat_tests) in
+    let following : bit_count octets ≤ f.place = grind (arith, nat_tests) in
     let none : drop f.place (bits_in octets f.check) ≡ [] =
     drop_all f.place (bits_in octets f.check) (omega (arith, length-bits_in octets f.check)) in
-    ap (rest_behind f.ones) none ∙ cond-false (leb 5 f.ones) _ _ (lt-leb 5 f.ones few)
+    ap (rest_after f.ones) none ∙ cond-false (leb 5 f.ones) _ _ (lt-leb 5 f.ones few)
 
 -- a frame that is over gives none
 stuffed_none : (f : StuffedBits) (octets : List ℕ) → stuffed_over f octets ≡ true → next_stuffed f octets ≡ None
 stuffed_none f octets over =
     let few : f.ones < 5 = grind (arith, nat_tests) in
-    let behind : bit_count octets ≤ f.place = grind (arith, nat_tests) in
+    let following : bit_count octets ≤ f.place = grind (arith, nat_tests) in
     cond-false (leb 5 f.ones) _ _ (lt-leb 5 f.ones few)
-    ∙ cond-false (ltb f.place (bit_count octets)) _ _ (le-ltb f.place (bit_count octets) behind)
+    ∙ cond-false (ltb f.place (bit_count octets)) _ _ (le-ltb f.place (bit_count octets) following)
 
 none_is_some : {A : Type 0} (given : Bool × StuffedBits) → None ≡ Some given → A
 none_is_some given e = absurd cc
 
 -- what comes next is the first of what is left
-pub stuffed_after : (f behind : StuffedBits) (octets : List ℕ) (bit : Bool) → next_stuffed f octets ≡ Some (bit, behind)
-    → stuffed_rest f octets ≡ bit ∷ stuffed_rest behind octets
-stuffed_after f behind octets bit is =
+pub stuffed_after : (f following : StuffedBits) (octets : List ℕ) (bit : Bool) → next_stuffed f octets ≡ Some (bit, following)
+    → stuffed_rest f octets ≡ bit ∷ stuffed_rest following octets
+stuffed_after f following octets bit is =
     elim (cases_Bool (stuffed_over f octets)) [
-      | inl over ↦ none_is_some (bit, behind) (sym (stuffed_none f octets over) ∙ is)
+      | inl over ↦ none_is_some (bit, following) (sym (stuffed_none f octets over) ∙ is)
       | inr going ↦
           let next = stuffed_given f octets going in
           let P : Option (Bool × StuffedBits) → Type 0 = λ o. is_given o in
@@ -175,7 +175,7 @@ stuffed_none_left f octets is =
       | inl over ↦ stuffed_rest-over f octets over
       | inr going ↦
           let next = stuffed_given f octets going in
-          none_is_some (next.bit, next.behind) (sym is ∙ next.given)
+          none_is_some (next.bit, next.following) (sym is ∙ next.given)
     ]
 
 -- ---- what is left of a tag and a block
@@ -183,9 +183,9 @@ stuffed_none_left f octets is =
 -- a block that is not over gives its next bit
 record NextInBlock (b : BlockBits) : Type 0 where
   pub bit : Bool
-  pub behind : BlockBits
-  pub given : next_in_block b ≡ Some (bit, behind)
-  pub rest : block_rest b ≡ bit ∷ block_rest behind
+  pub following : BlockBits
+  pub given : next_in_block b ≡ Some (bit, following)
+  pub rest : block_rest b ≡ bit ∷ block_rest following
 
 block_given : (b : BlockBits) → block_over b ≡ false → NextInBlock b
 unfolding block_rest block_bits
@@ -194,7 +194,7 @@ block_given b going =
     let bit = get_or (block_bits b) b.place false in
     record {
       bit = bit;
-      behind = record b { place = b.place + 1 };
+      following = record b { place = b.place + 1 };
       given = cond-true (ltb b.place (length (block_bits b))) _ _ (lt-ltb b.place (length (block_bits b)) within);
       rest = drop-cons (block_bits b) b.place false within
           ∙ ap (λ n. bit ∷ drop n (block_bits b)) (sym (add-one b.place));
@@ -281,16 +281,16 @@ frame_rest-start (Fx25 checks) octets =
 -- what is not over gives its next bit
 pub record NextInFrame (f : FrameBits) (octets : List ℕ) : Type 0 where
   pub bit : Bool
-  pub behind : FrameBits
-  pub given : next_in_frame f octets ≡ Some (bit, behind)
-  pub rest : frame_rest f octets ≡ bit ∷ frame_rest behind octets
+  pub following : FrameBits
+  pub given : next_in_frame f octets ≡ Some (bit, following)
+  pub rest : frame_rest f octets ≡ bit ∷ frame_rest following octets
 
 pub next_given : (f : FrameBits) (octets : List ℕ) → frame_over f octets ≡ false → NextInFrame f octets
 next_given (Stuffed s) octets going =
     let next = stuffed_given s octets going in
     record {
       bit = next.bit;
-      behind = Stuffed next.behind;
+      following = Stuffed next.following;
       given = ap (option_map (λ (given : Bool × StuffedBits). (given.0, Stuffed given.1))) next.given;
       rest = next.rest;
     }
@@ -298,7 +298,7 @@ next_given (Block b) octets going =
     let next = block_given b going in
     record {
       bit = next.bit;
-      behind = Block next.behind;
+      following = Block next.following;
       given = ap (option_map (λ (given : Bool × BlockBits). (given.0, Block given.1))) next.given;
       rest = next.rest;
     }
@@ -321,22 +321,22 @@ none_some None a none some = absurd cc
 none_some (Some b) a none some = absurd cc
 
 -- one fewer with each bit
-pub fewer_left : (f behind : FrameBits) (octets : List ℕ) (bit : Bool) → next_in_frame f octets ≡ Some (bit, behind)
-    → length (frame_rest f octets) ≡ length (frame_rest behind octets) + 1
-fewer_left f behind octets bit is =
+pub fewer_left : (f following : FrameBits) (octets : List ℕ) (bit : Bool) → next_in_frame f octets ≡ Some (bit, following)
+    → length (frame_rest f octets) ≡ length (frame_rest following octets) + 1
+fewer_left f following octets bit is =
     elim (cases_Bool (frame_over f octets)) [
-      | inl over ↦ none_some (next_in_frame f octets) (bit, behind) (over_none f octets over) is
+      | inl over ↦ none_some (next_in_frame f octets) (bit, following) (over_none f octets over) is
       | inr going ↦
           let next = next_given f octets going in
-          let P : Option (Bool × FrameBits) → Type 0 = λ o. is_behind o ≡ next.behind in
-          let same : behind ≡ next.behind = subst P (sym next.given ∙ is) refl in
+          let P : Option (Bool × FrameBits) → Type 0 = λ o. is_following o ≡ next.following in
+          let same : following ≡ next.following = subst P (sym next.given ∙ is) refl in
           omega (arith, ap length next.rest, ap (λ b. length (frame_rest b octets)) same)
     ]
   where
     -- where the frame stands after a bit
-    is_behind : Option (Bool × FrameBits) → FrameBits
-    is_behind None = f
-    is_behind (Some given) = given.1
+    is_following : Option (Bool × FrameBits) → FrameBits
+    is_following None = f
+    is_following (Some given) = given.1
 
 pub none_left : (f : FrameBits) (octets : List ℕ) → next_in_frame f octets ≡ None
     → length (frame_rest f octets) ≡ 0
@@ -345,7 +345,7 @@ none_left f octets is =
       | inl over ↦ ap length (frame_rest-over f octets over)
       | inr going ↦
           let next = next_given f octets going in
-          none_some (next_in_frame f octets) (next.bit, next.behind) is next.given
+          none_some (next_in_frame f octets) (next.bit, next.following) is next.given
     ]
 
 -- some are left exactly if it is not over

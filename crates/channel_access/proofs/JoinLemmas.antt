@@ -88,12 +88,12 @@ module _ (f : FrameBits) (front : WaitingFrame) (t : OnAir) (total : ℕ) (sent 
       let next = next_given f front.octets h.some in
       omega (arith, frame_end f front [] t total sent h count next)
 
-  flag_behind : flag_end (t.named + 1) t ≡ frames_end t + 8
-  flag_behind = flag_end-last t h.past front.octets h.frames h.named
+  flag_after : flag_end (t.named + 1) t ≡ frames_end t + 8
+  flag_after = flag_end-last t h.past front.octets h.frames h.named
 
   pub flag_not_yet : (bits : ℕ) → bits < frames_end t → names_next bits t ≡ false
   flag_not_yet bits before =
-      let flag = flag_behind in
+      let flag = flag_after in
       flag_goes_on bits t (omega arith)
 
   ends_then : (limit : ℕ) → MayName limit (record t { ends = true })
@@ -188,13 +188,13 @@ may_come (Opening left) waiting t total sent h count fit =
     frame_ends (opening_may_end left t total sent h count waiting fit)
 may_come (Frame f) [] t total sent h count fit = absurd h
 may_come (Frame f) (front ∷ others) t total sent h count fit =
-    let behind = All-tail (λ (frame : WaitingFrame). HasFrameLength frame.octets) front others fit in
-    frame_ends (frame_may_end f front others t total sent h count behind)
+    let following = All-tail (λ (frame : WaitingFrame). HasFrameLength frame.octets) front others fit in
+    frame_ends (frame_may_end f front others t total sent h count following)
 may_come (Following left true) [] t total sent h count fit = absurd h
 may_come (Following left true) (front ∷ []) t total sent h count fit = absurd h
 may_come (Following left true) (front ∷ next ∷ others) t total sent h count fit =
-    let behind = All-tail (λ (frame : WaitingFrame). HasFrameLength frame.octets) front (next ∷ others) fit in
-    let fits = All-head (λ (frame : WaitingFrame). HasFrameLength frame.octets) next others behind in
+    let following = All-tail (λ (frame : WaitingFrame). HasFrameLength frame.octets) front (next ∷ others) fit in
+    let fits = All-head (λ (frame : WaitingFrame). HasFrameLength frame.octets) next others following in
     let flag = flag_there_at left front (next.octets ∷ []) false t total sent h count in
     flag_ends (next_is_long (total + 12) t h.past front.octets next.octets h.frames h.named fits.least (omega arith))
 may_come (Following left false) [] t total sent h count fit = absurd h

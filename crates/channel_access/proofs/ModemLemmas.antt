@@ -1,20 +1,20 @@
 -- The modems of a channel: how many bits and samples ticks and bits have, and the wave of each, one tone more at a time.
 use Rattle.channel_access.proofs.Common.{◌≡◌, ℕ, ◌+◌, ◌*◌, ◌≤◌, ℤ, List, [], ◌∷◌, ◌++◌, length, refl, sym, ap, ◌∙◌}
 use Rattle.channel_access.proofs.Common.{arith, body_by, piece, line, Tone, Modem, Bell202, ShortWave, Fx25, Wave, tick_bits}
-use Rattle.channel_access.proofs.Common.{bits_of_ticks, samples_of_bits, transmission_by, modem_of, wave_behind}
+use Rattle.channel_access.proofs.Common.{bits_of_ticks, samples_of_bits, transmission_by, modem_of, wave_after}
 use Rattle.channel_access.proofs.Common.{wave_window, after_tone}
 use Rattle.std.proofs.lemmas.List.{length-map}
 use Rattle.tone_table.specs.Tones.{next_phase}
 use Rattle.tone_table.specs.Wave.{pure_window, wave, wave_from}
 use Rattle.afsk_modulator.specs.Level.{sample_at, at_level}
-use Rattle.afsk_modulator.specs.Modulation.{full, behind}
+use Rattle.afsk_modulator.specs.Modulation.{full, following}
 use Rattle.afsk_modulator.specs.Phase.{phase_from}
 use Rattle.afsk_modulator.specs.Transmission.{transmission}
-use Rattle.afsk_modulator.proofs.WaveLemmas.{behind-push, wave-push, wave_from-append}
-use Rattle.hf_sender.specs.Modulation.{hf_behind}
+use Rattle.afsk_modulator.proofs.WaveLemmas.{following-push, wave-push, wave_from-append}
+use Rattle.hf_sender.specs.Modulation.{hf_after}
 use Rattle.hf_sender.specs.Transmission.{hf_transmission}
 use Rattle.hf_sender.specs.Wave.{wave as hf_wave, wave_from as hf_wave_from, phase_from as hf_phase_from}
-use Rattle.hf_sender.proofs.WaveLemmas.{hf_behind-push, wave-append as hf_wave-append, wave-push as hf_wave-push}
+use Rattle.hf_sender.proofs.WaveLemmas.{hf_after-push, wave-append as hf_wave-append, wave-push as hf_wave-push}
 use Rattle.hf_sender.proofs.WaveLemmas.{length-wave_from as length-hf_wave_from}
 use Rattle.channel_access.specs.declared.wave.Wave.TheVariants.{Bell202 as OfBell202, ShortWave as OfShortWave, Fx25 as OfFx25}
 use Rattle.channel_access.proofs.BodyLemmas.{body-plain}
@@ -101,32 +101,32 @@ modem_wave-append (Fx25 checks) ts us = (wave_from (phase_from 0 ts) us, wave_fr
 
 -- the wave of one tone more
 next_window : (modem : Modem) (tones : List Tone) (tone : Tone)
-    → modem_wave modem (tones ++ tone ∷ []) ≡ modem_wave modem tones ++ wave_window (wave_behind modem tones) tone
-next_window Bell202 tones tone = wave-push tones tone (behind full tones) refl
-next_window ShortWave tones tone = hf_wave-push 10000 tones tone (hf_behind full tones) refl
-next_window (Fx25 checks) tones tone = wave-push tones tone (behind full tones) refl
+    → modem_wave modem (tones ++ tone ∷ []) ≡ modem_wave modem tones ++ wave_window (wave_after modem tones) tone
+next_window Bell202 tones tone = wave-push tones tone (following full tones) refl
+next_window ShortWave tones tone = hf_wave-push 10000 tones tone (hf_after full tones) refl
+next_window (Fx25 checks) tones tone = wave-push tones tone (following full tones) refl
 
-pub modem_wave-push : (modem : Modem) (tones : List Tone) (tone : Tone) (now : Wave) → now ≡ wave_behind modem tones
+pub modem_wave-push : (modem : Modem) (tones : List Tone) (tone : Tone) (now : Wave) → now ≡ wave_after modem tones
     → modem_wave modem (tones ++ tone ∷ []) ≡ modem_wave modem tones ++ wave_window now tone
 modem_wave-push modem tones tone now at =
     next_window modem tones tone ∙ ap (λ w. modem_wave modem tones ++ wave_window w tone) (sym at)
 
 -- where a wave goes on after one tone more
 goes_on : (modem : Modem) (tones : List Tone) (tone : Tone)
-    → after_tone (wave_behind modem tones) tone ≡ wave_behind modem (tones ++ tone ∷ [])
-goes_on Bell202 tones tone = ap OfBell202 (behind-push full tones tone (behind full tones) refl)
-goes_on ShortWave tones tone = ap OfShortWave (hf_behind-push full tones tone (hf_behind full tones) refl)
-goes_on (Fx25 checks) tones tone = ap (OfFx25 checks) (behind-push full tones tone (behind full tones) refl)
+    → after_tone (wave_after modem tones) tone ≡ wave_after modem (tones ++ tone ∷ [])
+goes_on Bell202 tones tone = ap OfBell202 (following-push full tones tone (following full tones) refl)
+goes_on ShortWave tones tone = ap OfShortWave (hf_after-push full tones tone (hf_after full tones) refl)
+goes_on (Fx25 checks) tones tone = ap (OfFx25 checks) (following-push full tones tone (following full tones) refl)
 
-pub wave_behind-push : (modem : Modem) (tones : List Tone) (tone : Tone) (now : Wave) → now ≡ wave_behind modem tones
-    → after_tone now tone ≡ wave_behind modem (tones ++ tone ∷ [])
-wave_behind-push modem tones tone now at = ap (λ w. after_tone w tone) at ∙ goes_on modem tones tone
+pub wave_after-push : (modem : Modem) (tones : List Tone) (tone : Tone) (now : Wave) → now ≡ wave_after modem tones
+    → after_tone now tone ≡ wave_after modem (tones ++ tone ∷ [])
+wave_after-push modem tones tone now at = ap (λ w. after_tone w tone) at ∙ goes_on modem tones tone
 
 -- the modem of a wave
-pub modem_of-behind : (modem : Modem) (tones : List Tone) → modem_of (wave_behind modem tones) ≡ modem
-modem_of-behind Bell202 tones = refl
-modem_of-behind ShortWave tones = refl
-modem_of-behind (Fx25 checks) tones = refl
+pub modem_of-following : (modem : Modem) (tones : List Tone) → modem_of (wave_after modem tones) ≡ modem
+modem_of-following Bell202 tones = refl
+modem_of-following ShortWave tones = refl
+modem_of-following (Fx25 checks) tones = refl
 
 pub modem_of-after : (now : Wave) (tone : Tone) → modem_of (after_tone now tone) ≡ modem_of now
 modem_of-after (OfBell202 m) tone = refl

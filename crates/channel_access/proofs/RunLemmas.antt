@@ -1,6 +1,6 @@
 -- Bits of a tick, one more at a time.
 use Rattle.channel_access.proofs.Common.{◌≡◌, ℕ, ◌+◌, Bool, Option, List, ◌++◌, ℤ, ap, add-one, Sent, Sending}
-use Rattle.channel_access.proofs.Common.{WaitingFrame, Run, step_of, with_step, behind_bit, window_of, sent_with}
+use Rattle.channel_access.proofs.Common.{WaitingFrame, Run, step_of, with_step, following_bit, window_of, sent_with}
 use Rattle.channel_access.proofs.Common.{with_bit, with_bits, Step, Modem, Some, None, refl, zero, suc, ◌∙◌, modem_of}
 use Rattle.channel_access.proofs.ModemLemmas.{modem_of-after}
 
@@ -13,7 +13,7 @@ with_bits-more modem count run = ap (λ n. with_bits modem n run) (add-one count
 module _ (modem : Modem) (start : Run) (count : ℕ) (self stepped : Sending) (waiting : List WaitingFrame) (value : Option Bool)
     (is_self : self ≡ (with_bits modem count start).sending) (is_waiting : waiting ≡ (with_bits modem count start).waiting)
     (is_stepped : stepped ≡ with_step self (step_of self waiting)) (is_value : value ≡ (step_of self waiting).bit) where
-  pub sending_more : (next : Sending) → next ≡ behind_bit stepped value → next ≡ (with_bits modem (count + 1) start).sending
+  pub sending_more : (next : Sending) → next ≡ following_bit stepped value → next ≡ (with_bits modem (count + 1) start).sending
   unfolding with_bit
   sending_more next is =
       let more = ap (λ (r : Run). r.sending) (with_bits-more modem count start) in
@@ -43,9 +43,9 @@ module _ (modem : Modem) (start : Run) (count : ℕ) (self stepped : Sending) (w
       cc
 
 -- no bit changes the modem of a sender
-modem-behind_bit : (s : Sending) (bit : Option Bool) → modem_of (behind_bit s bit).wave ≡ modem_of s.wave
-modem-behind_bit s None = refl
-modem-behind_bit s (Some bit) = modem_of-after s.wave _
+modem-following_bit : (s : Sending) (bit : Option Bool) → modem_of (following_bit s bit).wave ≡ modem_of s.wave
+modem-following_bit s None = refl
+modem-following_bit s (Some bit) = modem_of-after s.wave _
 
 pub modem-with_bits : (modem : Modem) (count : ℕ) (run : Run)
     → modem_of (with_bits modem count run).sending.wave ≡ modem_of run.sending.wave
@@ -54,4 +54,4 @@ modem-with_bits modem zero run = refl
 modem-with_bits modem (suc count) run =
     let before : Run = with_bits modem count run in
     let step : Step = step_of before.sending before.waiting in
-    modem-behind_bit (with_step before.sending step) step.bit ∙ modem-with_bits modem count run
+    modem-following_bit (with_step before.sending step) step.bit ∙ modem-with_bits modem count run

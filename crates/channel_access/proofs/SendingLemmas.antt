@@ -4,13 +4,13 @@ use Rattle.channel_access.proofs.Common.{length, replicate, refl, ap, ◌∙◌,
 use Rattle.channel_access.proofs.Common.{append_assoc, append-nil, All, replicate-append-replicate, Mark, line}
 use Rattle.channel_access.proofs.Common.{length-line_from, Sending, Stage, Opening, Frame, Following, Closing, Over}
 use Rattle.channel_access.proofs.Common.{WaitingFrame, HasFrameLength, OnAir, names_next, decided, flag_end, Step}
-use Rattle.channel_access.proofs.Common.{step_of, with_step, behind_bit, window_of, Sends, Counts, closing_flags}
-use Rattle.channel_access.proofs.Common.{Modem, Tone, samples_of_bits, modem_of, wave_behind, wave_window}
+use Rattle.channel_access.proofs.Common.{step_of, with_step, following_bit, window_of, Sends, Counts, closing_flags}
+use Rattle.channel_access.proofs.Common.{Modem, Tone, samples_of_bits, modem_of, wave_after, wave_window}
 use Rattle.std.proofs.lemmas.List.{length-replicate}
 use Rattle.nrzi_bits.specs.Line.{sent_tone, last_tone}
 use Rattle.nrzi_bits.proofs.LineLemmas.{line-push, last_tone-push}
 use Rattle.channel_access.proofs.ModemLemmas.{samples_of_bits-none, samples_of_bits-more, modem_wave, modem_wave-push}
-use Rattle.channel_access.proofs.ModemLemmas.{length-modem_wave, wave_behind-push, modem_of-behind}
+use Rattle.channel_access.proofs.ModemLemmas.{length-modem_wave, wave_after-push, modem_of-following}
 use Rattle.channel_access.proofs.StageLemmas.{Steps, IsOver, stage_cases, now_at, waiting_at, named_at}
 
 -- the samples of the bits sent so far, and zeros if there were none
@@ -44,7 +44,7 @@ length-padded modem total sent short =
 -- the modem of a sender
 pub sends_by : (s : Sending) (waiting : List WaitingFrame) (t : OnAir) (total : ℕ) (sent : List Bool)
     → Sends s waiting t total sent → modem_of s.wave ≡ t.modem
-sends_by s waiting t total sent h = ap modem_of h.wave ∙ modem_of-behind t.modem (line sent)
+sends_by s waiting t total sent h = ap modem_of h.wave ∙ modem_of-following t.modem (line sent)
 
 counts_all : (stage : Stage) (total : ℕ) (sent : List Bool) → length sent ≡ total → Counts stage total sent
 counts_all (Opening left) total sent is = is
@@ -64,7 +64,7 @@ pub record SendsMore (s : Sending) (waiting : List WaitingFrame) (t : OnAir) (to
   pub is_named : named_at (total + 1) waiting t ≡ step.named
   pub place : names_next (total + 1) (decided (total + 1) waiting t) ≡ true
       → flag_end ((decided (total + 1) waiting t).named + 1) (decided (total + 1) waiting t) ≡ total + 1
-  pub sends : Sends (behind_bit (with_step s step) step.bit) step.waiting now (total + 1) more
+  pub sends : Sends (following_bit (with_step s step) step.bit) step.waiting now (total + 1) more
   pub grows : length sent ≤ length more
   pub samples : padded t.modem (total + 1) more ≡ padded t.modem total sent ++ window_of (with_step s step) step.bit
   pub modem : now.modem ≡ t.modem
@@ -81,7 +81,7 @@ module _ (s : Sending) (waiting : List WaitingFrame) (t : OnAir) (total : ℕ) (
       let lined : line more ≡ line sent ++ tone ∷ [] = line-push s.line sent bit tone h.tone refl in
       let longer : length more ≡ total + 1 = omega (arith, length-append sent (bit ∷ [])) in
       let P : Option Bool → Type 0 =
-      λ o. Sends (behind_bit (with_step s step) o) step.waiting st.now (total + 1) more in
+      λ o. Sends (following_bit (with_step s step) o) step.waiting st.now (total + 1) more in
       record {
         now = st.now;
         more = more;
@@ -95,8 +95,8 @@ module _ (s : Sending) (waiting : List WaitingFrame) (t : OnAir) (total : ℕ) (
           frames = st.frames;
           closing = st.closing ∙ h.closing ∙ ap (λ m. closing_flags m s.tail) (sym st.modem);
           tone = sym (ap last_tone lined ∙ last_tone-push (line sent) tone);
-          wave = wave_behind-push t.modem (line sent) tone s.wave h.wave ∙ ap (wave_behind t.modem) (sym lined)
-              ∙ ap (λ m. wave_behind m (line more)) (sym st.modem);
+          wave = wave_after-push t.modem (line sent) tone s.wave h.wave ∙ ap (wave_after t.modem) (sym lined)
+              ∙ ap (λ m. wave_after m (line more)) (sym st.modem);
         });
         grows = omega (arith, length-append sent (bit ∷ []));
         samples =

@@ -14,7 +14,7 @@ use Rattle.channel_access.specs.declared.modem.Modem.TheVariants.{Bell202, Short
 use Rattle.channel_access.specs.Modem.{body_by, transmission_by}
 use Rattle.channel_access.specs.Channel.{Channel, decision, begun, with_decision, air_samples}
 use Rattle.channel_access.specs.Channel.{air_tick}
-use Rattle.channel_access.specs.OnAir.{OnAir, most_frames, bits_then, flags_behind, samples_on_air, has_sent_frames}
+use Rattle.channel_access.specs.OnAir.{OnAir, most_frames, bits_then, flags_after, samples_on_air, has_sent_frames}
 use Rattle.channel_access.specs.OnAir.{followed_by, decided, waiting_after, tick_samples}
 use Rattle.channel_access.specs.Parameters.{opening_flags}
 use Rattle.channel_access.specs.Sound.{has_sound}
@@ -30,10 +30,10 @@ sounds_first (Fx25 checks) frames opening closing after = refl
 first_tick : (t : OnAir) (opening : ℕ) → t.ticks ≡ 0 → t.opening ≡ suc opening → has_sound (tick_samples t) ≡ true
 unfolding tick_samples samples_on_air
 first_tick t opening none some =
-    ap (λ (n : ℕ). has_sound (take 96 (drop (96 * n) (transmission_by t.modem t.frames t.opening (flags_behind t)
+    ap (λ (n : ℕ). has_sound (take 96 (drop (96 * n) (transmission_by t.modem t.frames t.opening (flags_after t)
     ++ replicate 96 (pos 0))))) none
-    ∙ ap (λ (n : ℕ). has_sound (take 96 (transmission_by t.modem t.frames n (flags_behind t) ++ replicate 96 (pos 0)))) some
-    ∙ sounds_first t.modem t.frames opening (flags_behind t) (replicate 96 (pos 0))
+    ∙ ap (λ (n : ℕ). has_sound (take 96 (transmission_by t.modem t.frames n (flags_after t) ++ replicate 96 (pos 0)))) some
+    ∙ sounds_first t.modem t.frames opening (flags_after t) (replicate 96 (pos 0))
 
 -- ---- a decision keeps the opening and the ticks
 

@@ -371,7 +371,7 @@ module _ (left : ℕ) (t : OnAir) (total : ℕ) (sent : List Bool) (h : InOpenin
         ∙ cond-true (ltb (length t.frames) most_frames) _ _ few in
         let single : body_by t.modem now.frames t.opening 0 ≡ flags t.opening ++ piece t.modem front.octets =
         ap (λ xs. body_by t.modem xs t.opening 0) all ∙ body-single t.modem front.octets t.opening in
-        let behind = first_end now front.octets refl refl all in
+        let following = first_end now front.octets refl refl all in
         let there = flag_end-last now [] front.octets all h.named in
         let flag : names_next (total + 1) now ≡ false = flag_goes_on (total + 1) now (omega arith) in
         record {
@@ -437,38 +437,38 @@ module _ (left : ℕ) (t : OnAir) (total : ℕ) (sent : List Bool) (h : InOpenin
 module _ (f : FrameBits) (front : WaitingFrame) (others : List WaitingFrame) (t : OnAir) (total : ℕ) (sent : List Bool)
     (h : InFrame f front t sent) (count : length sent ≡ total) (next : NextInFrame f front.octets) where
   -- the bits with the next one
-  more_sent : (sent ++ next.bit ∷ []) ++ frame_rest next.behind front.octets ≡ body_by t.modem t.frames t.opening 0
+  more_sent : (sent ++ next.bit ∷ []) ++ frame_rest next.following front.octets ≡ body_by t.modem t.frames t.opening 0
   more_sent =
-      append_assoc sent (next.bit ∷ []) (frame_rest next.behind front.octets)
+      append_assoc sent (next.bit ∷ []) (frame_rest next.following front.octets)
       ∙ ap (λ xs. sent ++ xs) (sym next.rest) ∙ h.bits
 
-  pub frame_end : frames_end t ≡ (total + 1) + length (frame_rest next.behind front.octets)
+  pub frame_end : frames_end t ≡ (total + 1) + length (frame_rest next.following front.octets)
   unfolding frames_end
   frame_end = omega (
     arith,
     ap length more_sent,
-    length-append (sent ++ next.bit ∷ []) (frame_rest next.behind front.octets),
+    length-append (sent ++ next.bit ∷ []) (frame_rest next.following front.octets),
     length-append sent (next.bit ∷ []),
   )
 
   flag_there : flag_end (t.named + 1) t ≡ frames_end t + 8
   flag_there = flag_end-last t h.past front.octets h.frames h.named
 
-  module _ (goes_on : frame_over next.behind front.octets ≡ false) (frames : ℕ)
+  module _ (goes_on : frame_over next.following front.octets ≡ false) (frames : ℕ)
       (is_frames : frames ≡ length t.frames) where
     pub frame_goes_on : Steps (front ∷ others) t total sent
         (record {
           bit = Some next.bit;
           named = None;
-          stage = Frame next.behind;
+          stage = Frame next.following;
           frames = frames;
           waiting = front ∷ others;
         })
     frame_goes_on =
-        let again = next_given next.behind front.octets goes_on in
-        let longer : 1 ≤ length (frame_rest next.behind front.octets) = omega (arith, ap length again.rest) in
+        let again = next_given next.following front.octets goes_on in
+        let longer : 1 ≤ length (frame_rest next.following front.octets) = omega (arith, ap length again.rest) in
         let end_there = frame_end in
-        let behind_there = flag_there in
+        let after_there = flag_there in
         let goes : has_sent_frames (total + 1) t ≡ false = frames_go_on (total + 1) t (omega arith) in
         let flag : names_next (total + 1) t ≡ false = flag_goes_on (total + 1) t (omega arith) in
         record {
@@ -492,9 +492,9 @@ module _ (f : FrameBits) (front : WaitingFrame) (others : List WaitingFrame) (t 
           modem = refl;
         }
 
-  module _ (over : frame_over next.behind front.octets ≡ true) (frames : ℕ) (is_frames : frames ≡ length t.frames) where
+  module _ (over : frame_over next.following front.octets ≡ true) (frames : ℕ) (is_frames : frames ≡ length t.frames) where
     end_here : frames_end t ≡ total + 1
-    end_here = omega (arith, frame_end, ap length (frame_rest-over next.behind front.octets over))
+    end_here = omega (arith, frame_end, ap length (frame_rest-over next.following front.octets over))
 
     ended : has_sent_frames (total + 1) t ≡ true
     ended = frames_end_here (total + 1) t h.ends (omega (arith, end_here))
@@ -504,7 +504,7 @@ module _ (f : FrameBits) (front : WaitingFrame) (others : List WaitingFrame) (t 
     flag_comes =
         ap (λ xs. xs ++ flag_rest 8) (
         sym (append-nil (sent ++ next.bit ∷ []))
-        ∙ ap (λ xs. (sent ++ next.bit ∷ []) ++ xs) (sym (frame_rest-over next.behind front.octets over))
+        ∙ ap (λ xs. (sent ++ next.bit ∷ []) ++ xs) (sym (frame_rest-over next.following front.octets over))
         ∙ more_sent
         )
         ∙ sym (body-closing t.modem t.frames t.opening 1) ∙ ap (λ xs. body_by t.modem xs t.opening 1) h.frames
@@ -522,7 +522,7 @@ module _ (f : FrameBits) (front : WaitingFrame) (others : List WaitingFrame) (t 
         let now : OnAir = record t { ends = true } in
         let follows : followed_by (waiting_after t (front ∷ others)) t ≡ now =
         ap (λ w. followed_by w t) (after_front t h.past front.octets front others h.frames h.named) ∙ is in
-        let behind_there : flag_end (t.named + 1) now ≡ frames_end t + 8 =
+        let after_there : flag_end (t.named + 1) now ≡ frames_end t + 8 =
         flag_end-at now h.past front.octets [] (h.frames ∙ sym (append-nil (h.past ++ front.octets ∷ []))) h.named
         ∙ ap (λ xs. length (body_by t.modem xs t.opening 1)) (sym h.frames) ∙ length-frames_flag t in
         let there = end_here in
@@ -564,7 +564,7 @@ module _ (f : FrameBits) (front : WaitingFrame) (others : List WaitingFrame) (t 
         ap (λ w. followed_by w t) (after_front t h.past front.octets front others h.frames h.named) ∙ is in
         let all : now.frames ≡ (h.past ++ front.octets ∷ []) ++ follower.octets ∷ [] =
         ap (λ xs. xs ++ follower.octets ∷ []) h.frames in
-        let behind_there : flag_end (t.named + 1) now ≡ frames_end t + 8 =
+        let after_there : flag_end (t.named + 1) now ≡ frames_end t + 8 =
         flag_end-at now h.past front.octets (follower.octets ∷ []) all h.named
         ∙ ap (λ xs. length (body_by t.modem xs t.opening 1)) (sym h.frames) ∙ length-frames_flag t in
         let there = end_here in
@@ -595,7 +595,7 @@ module _ (f : FrameBits) (front : WaitingFrame) (others : List WaitingFrame) (t 
 ended_step : (f : FrameBits) (front : WaitingFrame) (others : List WaitingFrame) (t : OnAir) (total : ℕ)
     (sent : List Bool)
     (h : InFrame f front t sent) (count : length sent ≡ total) (next : NextInFrame f front.octets)
-    (over : frame_over next.behind front.octets ≡ true) (frames : ℕ) (is_frames : frames ≡ length t.frames)
+    (over : frame_over next.following front.octets ≡ true) (frames : ℕ) (is_frames : frames ≡ length t.frames)
     → Steps (front ∷ others) t total sent (record {
       bit = Some next.bit;
       named = None;
@@ -646,7 +646,7 @@ frame_steps f front others t total sent h count modem tail frames is_frames =
     let P : Option (Bool × FrameBits) → Type 0 =
     λ o. Steps (front ∷ others) t total sent (frame_step o front.octets frames (front ∷ others)) in
     subst P (sym next.given)
-    (by_test (λ step. Steps (front ∷ others) t total sent step) (frame_over next.behind front.octets) _ _
+    (by_test (λ step. Steps (front ∷ others) t total sent step) (frame_over next.following front.octets) _ _
     (λ over. ended_step f front others t total sent h count next over frames is_frames)
     (λ goes. frame_goes_on f front others t total sent h count next goes frames is_frames))
 
@@ -754,7 +754,7 @@ following_next left front follower more t total sent h count fits modem tail fra
     let next : List (List ℕ) = follower.octets ∷ [] in
     let waiting : List WaitingFrame = front ∷ follower ∷ more in
     let there = flag_there_at left front next false t total sent h count in
-    let behind = frames_end-next t h.past front.octets follower.octets h.frames h.named in
+    let following = frames_end-next t h.past front.octets follower.octets h.frames h.named in
     let long : 136 ≤ length (piece t.modem follower.octets) = piece-long t.modem follower.octets fits.least in
     let some : 1 ≤ left = h.some in
     let goes : has_sent_frames (total + 1) t ≡ false = frames_go_on (total + 1) t (omega arith) in
@@ -894,8 +894,8 @@ stage_cases (Frame f) (front ∷ others) t total sent modem tail frames h count 
 stage_cases (Following left true) [] t total sent modem tail frames h count fit by is_frames is_closing = absurd h
 stage_cases (Following left true) (front ∷ []) t total sent modem tail frames h count fit by is_frames is_closing = absurd h
 stage_cases (Following left true) (front ∷ next ∷ others) t total sent modem tail frames h count fit by is_frames is_closing =
-    let behind = All-tail (λ (frame : WaitingFrame). HasFrameLength frame.octets) front (next ∷ others) fit in
-    let fits = All-head (λ (frame : WaitingFrame). HasFrameLength frame.octets) next others behind in
+    let following = All-tail (λ (frame : WaitingFrame). HasFrameLength frame.octets) front (next ∷ others) fit in
+    let fits = All-head (λ (frame : WaitingFrame). HasFrameLength frame.octets) next others following in
     inl (record {
       steps =
           following_next left front next others t total sent h count fits modem tail frames by is_frames;

@@ -18,7 +18,7 @@ use Rattle.channel_access.proofs.StageLemmas.{frames_end-next, flag_there_at}
 -- what a sender says of its transmission
 record TellsTick (stage : Stage) (waiting : List WaitingFrame) (t : OnAir) : Type 0 where
   pub ends : ends_in_tick t.modem stage waiting ≡ has_sent_frames (bits_then t) t
-  pub behind : has_sent_frames (bits_then t) t ≡ true → drop (on_air_in stage) waiting ≡ waiting_after t waiting
+  pub following : has_sent_frames (bits_then t) t ≡ true → drop (on_air_in stage) waiting ≡ waiting_after t waiting
 
 -- the opening flags or the last frame end with the tick if so many bits are left of them
 within : (t : OnAir) (left : ℕ) → t.ends ≡ false → frames_end t ≡ bits_of_ticks t.modem t.ticks + left
@@ -39,7 +39,7 @@ none_ends : (stage : Stage) (waiting : List WaitingFrame) (t : OnAir) → ends_i
     → has_sent_frames (bits_then t) t ≡ false → TellsTick stage waiting t
 none_ends stage waiting t none goes = record {
   ends = none ∙ sym goes;
-  behind = λ is. let clash : true ≡ false = sym is ∙ goes in absurd (cc);
+  following = λ is. let clash : true ≡ false = sym is ∙ goes in absurd (cc);
 }
 
 tells_tick : (stage : Stage) (waiting : List WaitingFrame) (t : OnAir) (sent : List Bool)
@@ -48,7 +48,7 @@ tells_tick : (stage : Stage) (waiting : List WaitingFrame) (t : OnAir) (sent : L
 unfolding frames_end
 tells_tick (Opening left) waiting t sent h count fit = record {
   ends = within t left h.ends (opening_end left t (bits_of_ticks t.modem t.ticks) sent h count);
-  behind = λ _. sym (after_none t waiting h.frames);
+  following = λ _. sym (after_none t waiting h.frames);
 }
 tells_tick (Frame f) [] t sent h count fit = absurd h
 tells_tick (Frame f) (front ∷ others) t sent h count fit =
@@ -59,13 +59,13 @@ tells_tick (Frame f) (front ∷ others) t sent h count fit =
     ) in
     record {
       ends = within t (length (frame_rest f front.octets)) h.ends end;
-      behind = λ _. sym (after_front t h.past front.octets front others h.frames h.named);
+      following = λ _. sym (after_front t h.past front.octets front others h.frames h.named);
     }
 tells_tick (Following left true) [] t sent h count fit = absurd h
 tells_tick (Following left true) (front ∷ []) t sent h count fit = absurd h
 tells_tick (Following left true) (front ∷ next ∷ others) t sent h count fit =
-    let behind = All-tail (λ (frame : WaitingFrame). HasFrameLength frame.octets) front (next ∷ others) fit in
-    let fits = All-head (λ (frame : WaitingFrame). HasFrameLength frame.octets) next others behind in
+    let following = All-tail (λ (frame : WaitingFrame). HasFrameLength frame.octets) front (next ∷ others) fit in
+    let fits = All-head (λ (frame : WaitingFrame). HasFrameLength frame.octets) next others following in
     let long = piece-long t.modem next.octets fits.least in
     let there = flag_there_at left front (next.octets ∷ []) false t (bits_of_ticks t.modem t.ticks) sent h count in
     let more_bits = bits_of_ticks-more t.modem t.ticks in
@@ -92,7 +92,7 @@ sender_is s waiting t g fit =
       | inl ends ↦
           ap (λ b. b && ltb s.frames most_frames && not (list_any is_of_link others)) same
           ∙ ap (λ n. ended && ltb n most_frames && not (list_any is_of_link others)) g.sends.frames
-          ∙ ap (λ w. ended && ltb (length t.frames) most_frames && not (list_any is_of_link w)) (tells.behind ends)
+          ∙ ap (λ w. ended && ltb (length t.frames) most_frames && not (list_any is_of_link w)) (tells.following ends)
       | inr not_yet ↦
           ap (λ b. b && ltb s.frames most_frames && not (list_any is_of_link others)) (same ∙ not_yet)
           ∙ sym (ap (λ b. b && ltb (length t.frames) most_frames

@@ -4,7 +4,7 @@ use Rattle.channel_access.proofs.Common.{List, [], ◌∷◌, ◌++◌, length, 
 use Rattle.channel_access.proofs.Common.{arith, append_assoc, All, cases_Bool, cond-true, cond-false, nat_tests}
 use Rattle.channel_access.proofs.Common.{All-tail, Sent, Sending, WaitingFrame, HasFrameLength, OnAir, decided}
 use Rattle.channel_access.proofs.Common.{names_next, with_named, waiting_with_named, flag_end, Run, step_of, with_step}
-use Rattle.channel_access.proofs.Common.{behind_bit, window_of, sent_with, with_bit, with_bits, tick_start, Sends}
+use Rattle.channel_access.proofs.Common.{following_bit, window_of, sent_with, with_bit, with_bits, tick_start, Sends}
 use Rattle.channel_access.proofs.Common.{Modem, samples_of_bits, followed_by, has_sent_frames, waiting_after}
 use Rattle.channel_access.proofs.Common.{most_frames, ltb}
 use Rattle.channel_access.proofs.StageLemmas.{now_at, waiting_at, named_at, named_of, same_now, same_waiting}
@@ -20,10 +20,10 @@ sent_at modem total bits t =
       after = samples_of_bits modem (flag_end (t.named + 1) t - total);
     })) None
 
-all_behind : (waiting : List WaitingFrame) → All (λ frame. HasFrameLength frame.octets) waiting
+all_after : (waiting : List WaitingFrame) → All (λ frame. HasFrameLength frame.octets) waiting
     → All (λ frame. HasFrameLength frame.octets) (drop 1 waiting)
-all_behind [] fit = fit
-all_behind (front ∷ others) fit = All-tail (λ (frame : WaitingFrame). HasFrameLength frame.octets) front others fit
+all_after [] fit = fit
+all_after (front ∷ others) fit = All-tail (λ (frame : WaitingFrame). HasFrameLength frame.octets) front others fit
 
 pub all_waiting : (bits : ℕ) (t : OnAir) (waiting : List WaitingFrame)
     → All (λ frame. HasFrameLength frame.octets) waiting
@@ -31,7 +31,7 @@ pub all_waiting : (bits : ℕ) (t : OnAir) (waiting : List WaitingFrame)
 all_waiting bits t waiting fit =
     by_test (λ (w : List WaitingFrame). All (λ frame. HasFrameLength frame.octets) w) (names_next bits t)
     (drop 1 waiting) waiting
-    (λ _. all_behind waiting fit) (λ _. fit)
+    (λ _. all_after waiting fit) (λ _. fit)
 
 -- what is decided and named changes no modem
 modem-followed_by : (others : List WaitingFrame) (t : OnAir) → (followed_by others t).modem ≡ t.modem
@@ -81,7 +81,7 @@ module _ (total : ℕ) (waiting : List WaitingFrame) (t : OnAir) (first : List B
       let step = step_of run.sending run.waiting in
       let window : List ℤ = window_of (with_step run.sending step) step.bit in
       let P : OnAir → Type 0 =
-      λ u. Sends (behind_bit (with_step run.sending step) step.bit) step.waiting u (bits + 1) m.more in
+      λ u. Sends (following_bit (with_step run.sending step) step.bit) step.waiting u (bits + 1) m.more in
       let one_more : padded t.modem (bits + 1) m.more ≡ padded t.modem bits h.more ++ window =
       subst (λ modem. padded modem (bits + 1) m.more ≡ padded modem bits h.more ++ window)
       (modem-now_at bits waiting t) m.samples in

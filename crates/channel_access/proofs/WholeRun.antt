@@ -62,8 +62,8 @@ sends waiting t began =
     record { samples = tick_samples then; began = began; sent = frame_named (bits_then t) then }
 
 -- the channel after it
-abbrev behind : Bool → Bool → Channel → OnAir → Channel
-behind busy began channel t = record channel {
+abbrev following : Bool → Bool → Channel → OnAir → Channel
+following busy began channel t = record channel {
   waiting = waiting_at (bits_then t) channel.waiting t;
   air = with_tick (now_at (bits_then t) channel.waiting t);
   past = Ticked busy began true ∷ channel.past;
@@ -221,7 +221,7 @@ module _ (s : Sending) (waiting : List WaitingFrame) (t : OnAir) (g : Goes s wai
 under_way_more : (modem : Modem) (opening closing : ℕ) (first joined : List WaitingFrame) (ticks : List AirTick) (channel : Channel)
     (h : UnderWay modem opening closing first joined ticks channel) (busy began : Bool)
     → After modem opening closing first joined (ticks ++ sends channel.waiting h.t began ∷ [])
-    (behind busy began channel h.t)
+    (following busy began channel h.t)
 under_way_more modem opening closing first joined ticks channel h busy began =
     let s : Sending = h.sending in
     let waiting : List WaitingFrame = channel.waiting in
@@ -278,9 +278,9 @@ tick_is busy wants channel t is =
     (sym is) refl
 
 after_is : (busy wants : Bool) (channel : Channel) (t : OnAir) → channel.air ≡ Some t
-    → after_tick busy wants channel ≡ behind busy false channel t
+    → after_tick busy wants channel ≡ following busy false channel t
 after_is busy wants channel t is =
-    subst (λ (a : Option OnAir). after_tick busy wants (record channel { air = a }) ≡ behind busy false channel t) (sym is)
+    subst (λ (a : Option OnAir). after_tick busy wants (record channel { air = a }) ≡ following busy false channel t) (sym is)
     refl
 
 call_more : (modem : Modem) (opening closing : ℕ) (first joined : List WaitingFrame) (ticks : List AirTick) (channel : Channel)
@@ -406,10 +406,10 @@ module _ (busy wants : Bool) (channel : Channel) (fit : AreFrames channel.waitin
         } in
         subst P (sym rest) (ap (λ b. tick (cond b (Some (begun channel)) None)) begins)
 
-    after_first : after_tick busy wants channel ≡ behind busy true then (begun channel)
+    after_first : after_tick busy wants channel ≡ following busy true then (begun channel)
     after_first =
         let P : Option OnAir → Type 0 =
-        λ a. after_tick busy wants (record channel { air = a }) ≡ behind busy true then (begun channel) in
+        λ a. after_tick busy wants (record channel { air = a }) ≡ following busy true then (begun channel) in
         let next : Option OnAir → Channel = λ air. record then {
           waiting = air_waiting channel.waiting air;
           air = air_after channel.waiting air;

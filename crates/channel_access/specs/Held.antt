@@ -53,14 +53,14 @@ stuffed_start octets = record { place = 0; ones = 0; check = fcs_of octets }
 
 -- the next bit, and where the frame stands after it: a zero is inserted after five 1s, and else the bit at the place
 -- comes
-abbrev pub behind_place : StuffedBits → Bool → StuffedBits
-behind_place f bit = record f { place = f.place + 1; ones = if bit then f.ones + 1 else 0 }
+abbrev pub after_place : StuffedBits → Bool → StuffedBits
+after_place f bit = record f { place = f.place + 1; ones = if bit then f.ones + 1 else 0 }
 
 abbrev pub next_stuffed : StuffedBits → List ℕ → Option (Bool × StuffedBits)
 next_stuffed f octets =
     if nat_le 5 f.ones then Some (false, record f { ones = 0 })
     else if nat_lt f.place (bit_count octets)
-    then (let bit = slice_index_or (bits_in octets f.check) f.place false in Some (bit, behind_place f bit))
+    then (let bit = slice_index_or (bits_in octets f.check) f.place false in Some (bit, after_place f bit))
     else None
 
 -- no bit is left, and no zero is to be inserted
@@ -179,12 +179,12 @@ joins frames waiting = nat_lt frames most_frames && nat_lt 1 (length waiting)
 abbrev pub other_closing : Modem → ℕ → Stage
 other_closing modem tail = if nat_lt 1 (closing_flags modem tail) then Closing (8 * (closing_flags modem tail - 1)) else Over
 
-abbrev pub behind_flag : Bool → Modem → ℕ → List WaitingFrame → Stage
-behind_flag true modem tail waiting = front_begins modem waiting
-behind_flag false modem tail waiting = other_closing modem tail
+abbrev pub following_flag : Bool → Modem → ℕ → List WaitingFrame → Stage
+following_flag true modem tail waiting = front_begins modem waiting
+following_flag false modem tail waiting = other_closing modem tail
 
-abbrev pub behind_closing : ℕ → Stage
-behind_closing left = if nat_lt 1 left then Closing (left - 1) else Over
+abbrev pub after_closing : ℕ → Stage
+after_closing left = if nat_lt 1 left then Closing (left - 1) else Over
 
 -- the sender after the last bit of a frame, if so many frames wait
 abbrev pub followed : ℕ → Sending → Sending
@@ -234,7 +234,7 @@ flag_step left another modem tail frames waiting =
     else record {
       bit = Some (flag_bit left);
       named = front_octets waiting;
-      stage = behind_flag another modem tail (drop 1 waiting);
+      stage = following_flag another modem tail (drop 1 waiting);
       frames = frames;
       waiting = drop 1 waiting;
     }
@@ -244,7 +244,7 @@ stage_step (Opening left) modem tail frames waiting = opening_step left modem ta
 stage_step (Frame f) modem tail frames waiting = front_step f frames waiting
 stage_step (Following left another) modem tail frames waiting = flag_step left another modem tail frames waiting
 stage_step (Closing left) modem tail frames waiting =
-    record { bit = Some (flag_bit left); named = None; stage = behind_closing left; frames = frames; waiting = waiting }
+    record { bit = Some (flag_bit left); named = None; stage = after_closing left; frames = frames; waiting = waiting }
 stage_step Over modem tail frames waiting =
     record { bit = None; named = None; stage = Over; frames = frames; waiting = waiting }
 
@@ -267,9 +267,9 @@ window_of s None = replicate (samples_of_bits (modem_of s.wave) 1) (pos 0)
 window_of s (Some bit) = wave_window s.wave (sent_tone s.line bit)
 
 -- the sender after it
-abbrev pub behind_bit : Sending → Option Bool → Sending
-behind_bit s None = s
-behind_bit s (Some bit) =
+abbrev pub following_bit : Sending → Option Bool → Sending
+following_bit s None = s
+following_bit s (Some bit) =
     record s { line = sent_tone s.line bit; wave = after_tone s.wave (sent_tone s.line bit) }
 
 -- ---- some bits, one after another
@@ -292,7 +292,7 @@ with_bit modem count run =
     let step = step_of run.sending run.waiting in
     let stepped = with_step run.sending step in
     record {
-      sending = behind_bit stepped step.bit;
+      sending = following_bit stepped step.bit;
       waiting = step.waiting;
       samples = run.samples ++ window_of stepped step.bit;
       sent = sent_with modem step.named (count + 1) run.sent;

@@ -29,15 +29,15 @@ abbrev pub bits_then : OnAir → ℕ
 bits_then t = bits_of_ticks t.modem (t.ticks + 1)
 
 -- the flags after the last frame: none is decided before it is decided that no further frame follows
-abbrev pub flags_behind : OnAir → ℕ
-flags_behind t = if t.ends then t.closing else 0
+abbrev pub flags_after : OnAir → ℕ
+flags_after t = if t.ends then t.closing else 0
 
 -- its bits, and its samples, as far as they are decided
 unfoldable pub bits_of : OnAir → List Bool
-bits_of t = body_by t.modem t.frames t.opening (flags_behind t)
+bits_of t = body_by t.modem t.frames t.opening (flags_after t)
 
 unfoldable pub samples_on_air : OnAir → List ℤ
-samples_on_air t = transmission_by t.modem t.frames t.opening (flags_behind t)
+samples_on_air t = transmission_by t.modem t.frames t.opening (flags_after t)
 
 -- how many bits are sent when the last bit of its last frame is sent, or of its opening flags if it has no frame yet
 unfoldable pub frames_end : OnAir → ℕ

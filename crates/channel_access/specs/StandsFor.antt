@@ -14,7 +14,7 @@ use Rattle.channel_access.specs.declared.stage.Stage.{Stage}
 use Rattle.channel_access.specs.declared.stage.Stage.TheVariants.{Opening, Frame, Following, Closing, Over}
 use Rattle.channel_access.specs.declared.sending.Sending.{Sending}
 use Rattle.channel_access.specs.Modem.{bits_of_ticks, body_by}
-use Rattle.channel_access.specs.HeldWave.{wave_behind}
+use Rattle.channel_access.specs.HeldWave.{wave_after}
 use Rattle.channel_access.specs.Parameters.{closing_flags}
 use Rattle.channel_access.specs.Waiting.{WaitingFrame}
 use Rattle.hdlc_framer.specs.FrameLength.{HasFrameLength}
@@ -24,12 +24,12 @@ use Rattle.channel_access.specs.HeldTurns.{listening_of}
 use Rattle.channel_access.specs.Held.{Held, bits_in, block_bits, frame_over, flag_bit, stage_over}
 
 -- bits with inserted zeros, after so many 1s
-abbrev pub rest_behind : ℕ → List Bool → List Bool
-rest_behind ones bits = if nat_le 5 ones then false ∷ stuffed_from bits 4 else stuffed_from bits (4 - ones)
+abbrev pub rest_after : ℕ → List Bool → List Bool
+rest_after ones bits = if nat_le 5 ones then false ∷ stuffed_from bits 4 else stuffed_from bits (4 - ones)
 
 -- the bits of a frame that are left, plainly
 unfoldable pub stuffed_rest : StuffedBits → List ℕ → List Bool
-stuffed_rest f octets = rest_behind f.ones (drop f.place (bits_in octets f.check))
+stuffed_rest f octets = rest_after f.ones (drop f.place (bits_in octets f.check))
 
 -- those of a tag and a block
 unfoldable pub block_rest : BlockBits → List Bool
@@ -106,7 +106,7 @@ pub record Sends (s : Sending) (waiting : List WaitingFrame) (t : OnAir) (total 
   pub frames : s.frames ≡ length t.frames
   pub closing : t.closing ≡ closing_flags t.modem s.tail
   pub tone : s.line ≡ last_tone (line sent)
-  pub wave : s.wave ≡ wave_behind t.modem (line sent)
+  pub wave : s.wave ≡ wave_after t.modem (line sent)
 
 -- A transmission under way, between two ticks of it.
 pub record Goes (s : Sending) (waiting : List WaitingFrame) (t : OnAir) : Type 0 where

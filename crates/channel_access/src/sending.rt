@@ -2,7 +2,7 @@
 ghost use Rattle.std.specs.Prelude.{◌≡◌, ◌+◌, ◌<◌, ◌≤◌, ◌++◌, ◌==◌, Some, None, pos, replicate, take};
 ghost use Rattle.channel_access.specs.Modem.{tick_bits, samples_of_bits};
 ghost use Rattle.channel_access.specs.HeldWave.{modem_of};
-ghost use Rattle.channel_access.specs.Held.{step_of, with_step, behind_bit, opening_step, behind_closing};
+ghost use Rattle.channel_access.specs.Held.{step_of, with_step, following_bit, opening_step, after_closing};
 ghost use Rattle.channel_access.specs.Held.{front_begins, opened, front_step, flag_step, followed, other_closing, flag_bit};
 ghost use Rattle.channel_access.specs.HeldTaking.{ends_in_tick, on_air_in, sender_takes};
 ghost use Rattle.channel_access.specs.Held.{stage_over, window_of, sent_with, new_sending};
@@ -159,7 +159,7 @@ impl Sending {
             Stage::Frame { bits } => self.step_in_frame(bits, queue),
             Stage::Following { left, another } => self.step_in_flag(left, another, queue),
             Stage::Closing { left } => {
-                self.stage = behind_closing(left);
+                self.stage = after_closing(left);
                 Bit::of(flag_bit(left))
             }
             Stage::Over => Bit::silent(),
@@ -191,13 +191,13 @@ impl Sending {
         let Some(octets) = queue.front() else {
             return self.end();
         };
-        let Some((bit, behind)) = bits.next(octets) else {
+        let Some((bit, following)) = bits.next(octets) else {
             return self.end();
         };
-        if behind.is_over(octets) {
+        if following.is_over(octets) {
             self.follow(queue.len());
         } else {
-            self.stage = Stage::Frame { bits: behind };
+            self.stage = Stage::Frame { bits: following };
         }
         Bit::of(bit)
     }
@@ -273,7 +273,7 @@ impl Sending {
         requires { count < tick_bits (modem_of self.old.wave) }
         ensures samples { take (samples_of_bits (modem_of self.old.wave) (count + 1)) samples.new
             ≡ take (samples_of_bits (modem_of self.old.wave) count) samples.old ++ window_of self.old bit }
-        ensures sending { self.new ≡ behind_bit self.old bit }
+        ensures sending { self.new ≡ following_bit self.old bit }
     {
         let modem = self.wave.modem();
         let start = usize::from(modem.samples(count));
@@ -292,8 +292,8 @@ fn flag_bit(left: u16) -> bool
     left % 8 > 1
 }
 
-fn behind_closing(left: u16) -> Stage
-    ensures { result ≡ behind_closing left }
+fn after_closing(left: u16) -> Stage
+    ensures { result ≡ after_closing left }
 {
     if left > 1 {
         Stage::Closing { left: left - 1 }

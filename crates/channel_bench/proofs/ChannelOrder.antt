@@ -140,17 +140,17 @@ named_or_not t waiting past rest front others frames named waits if_named if_not
         let read : slice_index_or t.frames t.named [] ≡ front =
         ap (λ xs. slice_index_or xs t.named []) frames ∙ ap (λ n. slice_index_or (past ++ front ∷ others) n []) named
         ∙ get_or-append_seam past front others [] in
-        let behind : map octets_of (drop 1 waiting) ≡ others ++ rest = dropped waiting waits in
+        let following : map octets_of (drop 1 waiting) ≡ others ++ rest = dropped waiting waits in
         record {
           order = waits ∙ ap (λ x. x ∷ (others ++ rest)) (sym read)
-              ∙ ap (λ xs. slice_index_or t.frames t.named [] ∷ xs) (sym behind);
+              ∙ ap (λ xs. slice_index_or t.frames t.named [] ∷ xs) (sym following);
           fits = ticked_fits (record t { named = t.named + 1 }) (drop 1 waiting) (record {
             past = past ++ front ∷ [];
             unsent = others;
             rest = rest;
             frames = frames ∙ sym (append_assoc past (front ∷ []) others);
             named = ap (λ n. n + 1) named ∙ sym (length-append past (front ∷ []));
-            waits = behind;
+            waits = following;
             may_be = if_named ended;
           });
           soon = λ s same.
@@ -232,17 +232,17 @@ front_and_next :
     (waiting : List WaitingFrame) (v : WaitingFrame) (vs : List WaitingFrame) (front : List ℕ) (rest : List (List ℕ))
     → drop 1 waiting ≡ v ∷ vs → map octets_of waiting ≡ front ∷ rest
     → map octets_of waiting ≡ front ∷ v.octets ∷ map octets_of vs
-front_and_next [] v vs front rest behind is = absurd (cc)
-front_and_next (w ∷ ws) v vs front rest behind is =
+front_and_next [] v vs front rest following is = absurd (cc)
+front_and_next (w ∷ ws) v vs front rest following is =
     let first : w.octets ≡ front = cc in
-    ap (λ x. x ∷ map octets_of ws) first ∙ ap (λ xs. front ∷ map octets_of xs) behind
+    ap (λ x. x ∷ map octets_of ws) first ∙ ap (λ xs. front ∷ map octets_of xs) following
 
 -- the last frame is sent, and it is decided what follows it
 followed_sends :
-    (t : OnAir) (waiting behind : List WaitingFrame) (past rest : List (List ℕ)) (front : List ℕ)
-    → drop 1 waiting ≡ behind
+    (t : OnAir) (waiting following : List WaitingFrame) (past rest : List (List ℕ)) (front : List ℕ)
+    → drop 1 waiting ≡ following
     → t.frames ≡ past ++ front ∷ [] → t.named ≡ length past → map octets_of waiting ≡ (front ∷ []) ++ rest
-    → AirSends waiting (followed_by behind t)
+    → AirSends waiting (followed_by following t)
 followed_sends t waiting [] past rest front same frames named waits =
     last_sends (record t { ends = true }) waiting past rest front frames named waits (λ ended. refl)
 followed_sends t waiting (v ∷ vs) past rest front same frames named waits = go (nat_lt (length t.frames) most_frames)
@@ -403,7 +403,7 @@ decided_sends t waiting fits = by_unsent h.unsent h.frames h.waits h.may_be
 same_bits : (t : OnAir) (waiting : List WaitingFrame) → bits_then (decided (bits_then t) waiting t) ≡ bits_then t
 same_bits t waiting = go (has_sent_frames (bits_then t) t)
   where
-    by_next : (behind : List WaitingFrame) → bits_then (followed_by behind t) ≡ bits_then t
+    by_next : (following : List WaitingFrame) → bits_then (followed_by following t) ≡ bits_then t
     by_next [] = refl
     by_next (v ∷ vs) = by_room (nat_lt (length t.frames) most_frames)
       where

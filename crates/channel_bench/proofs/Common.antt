@@ -103,7 +103,7 @@ pub use Rattle.station.specs.Connections.{Connection, connection_of, new_connect
 pub use Rattle.station.specs.Heard.{AreOctetsHeard, IsHeard, IsHeardAnew, IsHeardBy, IsHeardMaking, IsReadingHeardAnew}
 pub use Rattle.station.specs.Heard.{IsRepeatedFor, destination_field, kiss_data, may_make, showing, showing_to}
 pub use Rattle.station.specs.Heard.{shown_to_hosts, source_field, waits_for_repeater, with_shown}
-pub use Rattle.station.specs.Held.{ids_behind, ids_of, without_ids}
+pub use Rattle.station.specs.Held.{ids_after, ids_of, without_ids}
 pub use Rattle.station.specs.Host.{AreTaken, AreTakenBy, IsHostTurn, ending, has_place, joining, new_messages, taking, with_host}
 pub use Rattle.station.specs.Host.{with_octets}
 pub use Rattle.station.specs.HostMessages.{message_of_told, no_call}
@@ -127,7 +127,7 @@ pub use Rattle.station.specs.declared.host_out.Piece.{Piece}
 pub use Rattle.station_laws.proofs.Acts.{asks_when_sent}
 pub use Rattle.station_laws.proofs.ChainRun.{RunChain, run_chained}
 pub use Rattle.station_laws.proofs.Chains.{AsksInSetUp, IsChain, StandsAsked, StandsCalled, asked_after, asked_append}
-pub use Rattle.station_laws.proofs.Chains.{asked_behind, behind_append, called_after, called_append, called_behind}
+pub use Rattle.station_laws.proofs.Chains.{asked_following, after_append, called_after, called_append, called_following}
 pub use Rattle.station_laws.proofs.Chains.{chain_asked, chain_parts, last_machine, made_by}
 pub use Rattle.station_laws.proofs.EachLink.{matched_for_each, quiet_for_each}
 pub use Rattle.station_laws.proofs.Framed.{framed}
@@ -157,7 +157,7 @@ pub use Rattle.station_laws.specs.LinkSteps.{new_steps, path_steps, reading_step
 pub use Rattle.station_laws.specs.LinkSteps.{steps_for, steps_of, tick_steps, ticks_at, turn_steps}
 pub use Rattle.station_laws.specs.LinksTell.{AreToldInOne, RunsIn, runs_after}
 pub use Rattle.station_laws.specs.MatchedLaw.{AsksInRoom, DropsNoAsk, pairs_in}
-pub use Rattle.station_laws.specs.RunsTell.{AllToldInOne, runs_behind, told_in}
+pub use Rattle.station_laws.specs.RunsTell.{AllToldInOne, runs_following, told_in}
 pub use Rattle.station_laws.specs.SetUpsSeen.{IsGivenWhileUp, Seen, as_seen, change_last_seen, link_steps_at, seen_by}
 pub use Rattle.station_laws.specs.SetUpsSeen.{seen_by_all, seen_giving, seen_told, set_ups_seen, with_given, with_got}
 pub use Rattle.station_laws.specs.StationsLaw.{IsMachineOf, first_chosen}

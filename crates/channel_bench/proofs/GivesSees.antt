@@ -6,10 +6,10 @@ use Rattle.channel_bench.proofs.Common.{length-take, LinkState, Idle, Calling, U
 use Rattle.channel_bench.proofs.Common.{each_append, Lcg, Link, StationState, most_held, Turn, begin, SetUp, BenchWords}
 use Rattle.channel_bench.proofs.Common.{Near, SideState, IsStep, program_id, there_after, AcceptsProgram, with_giving}
 use Rattle.channel_bench.proofs.Common.{most_octets, next_piece, told_all, Moment, hears_ask, Steps, Stations, state_of}
-use Rattle.channel_bench.proofs.Common.{with_state, LinkStep, steps_of, AreToldInOne, RunsIn, runs_behind, told_in}
+use Rattle.channel_bench.proofs.Common.{with_state, LinkStep, steps_of, AreToldInOne, RunsIn, runs_following, told_in}
 use Rattle.channel_bench.proofs.Common.{IsGivenWhileUp, seen_by_all, IsMachineOf, first_chosen, text_at, text_of, words}
-use Rattle.channel_bench.proofs.Common.{after_word, IsChain, StandsAsked, asked_append, asked_behind, behind_append}
-use Rattle.channel_bench.proofs.Common.{called_append, called_behind, chain_parts, last_machine, made_by, framed}
+use Rattle.channel_bench.proofs.Common.{after_word, IsChain, StandsAsked, asked_append, asked_following, after_append}
+use Rattle.channel_bench.proofs.Common.{called_append, called_following, chain_parts, last_machine, made_by, framed}
 use Rattle.channel_bench.proofs.Common.{is_connect, is_disconnect}
 use Rattle.std.specs.Prelude.{Any}
 use Rattle.std.proofs.lemmas.List.Folds.{list_any-from_Any}
@@ -99,7 +99,7 @@ gave :
     (there : List ℕ) (turn : Turn) (on : Bool) (step : LinkStep) (g : GivesOne e piece side.station (step ∷ []))
     → g.step ≡ step → SeesAt w e side moments → Known w next t → links_of e next ≡ links_of e moments ++ step ∷ []
     → SeesAt w (other e) far next → (is_there there ≡ true → HasProgram turn.now)
-    → runs_behind false (links_of e moments) ≡ true → (asked_behind false (links_of e moments) ≡ true → ⊥)
+    → runs_following false (links_of e moments) ≡ true → (asked_following false (links_of e moments) ≡ true → ⊥)
     → length piece ≤ most_octets
     → (last_machine (first_machine w e) (links_of e moments)).control.state ≡ Up
     → (last_machine (first_machine w e) (links_of e moments)).control.quit ≡ false
@@ -135,18 +135,18 @@ gave w e piece moments next t side far there turn on step g same own later links
     let in_one : AreToldInOne true (told_in step) = subst (λ r. AreToldInOne r (told_in step)) run laws.told.0 in
     let made = messages_of e (step ∷ []) in
     let one = send_sees e step g.packet piece p seen event g.octets in_one (subst (Sees p seen) run own.sees) in
-    let sees : Sees (told_all made q) (seen_by_all (events ++ step ∷ []) []) (runs_behind false (events ++ step ∷ [])) =
-    subst (λ xs. Sees (told_all made q) xs (runs_behind false (events ++ step ∷ [])))
+    let sees : Sees (told_all made q) (seen_by_all (events ++ step ∷ []) []) (runs_following false (events ++ step ∷ [])) =
+    subst (λ xs. Sees (told_all made q) xs (runs_following false (events ++ step ∷ [])))
     (sym (seen_append events (step ∷ []) []))
     (subst (Sees (told_all made q) (seen_by_all (step ∷ []) seen))
-    (sym (behind_append false events (step ∷ []) ∙ ap (λ r. runs_behind r (step ∷ [])) run)) one) in
+    (sym (after_append false events (step ∷ []) ∙ ap (λ r. runs_following r (step ∷ [])) run)) one) in
     linked w e sending side q events (step ∷ []) (queue_of e moments) there turn on own says
     (steps_written e (step ∷ []) laws.short) sees
-    (λ is. asked_kept w.octets e (step ∷ []) (asked_behind false events) q (no_disconnect, tt)
+    (λ is. asked_kept w.octets e (step ∷ []) (asked_following false events) q (no_disconnect, tt)
     (λ was. absurd (unasked was))
     (sym (asked_append false events (step ∷ [])) ∙ is))
     (λ is. called_append false events (step ∷ [])
-    ∙ called_kept e (step ∷ []) (called_behind false events) q (no_connect, tt) own.calls is)
+    ∙ called_kept e (step ∷ []) (called_following false events) q (no_connect, tt) own.calls is)
     (given_one, tt) (never_asks step no_disconnect, tt) (short_one, tt) has
 gave w e piece moments next t side far there turn on step g same own later links far_next has run unasked few up quit
     (replied reply none) =
@@ -182,10 +182,10 @@ gives_sees w e piece n next far s is accepts h at known later both =
     let one = subst (λ count. IsPiece count p.running piece) (text_long w e) (piece_is (text_at w e) p.running piece is)
     in
     let now : LinkNow w moments s e = link_now w moments s known e own.asks in
-    let run : runs_behind false events ≡ true = sym own.sees.runs_is ∙ one.runs in
-    let unasked : asked_behind false events ≡ true → ⊥ = λ was. one.left (own.asked was) in
+    let run : runs_following false events ≡ true = sym own.sees.runs_is ∙ one.runs in
+    let unasked : asked_following false events ≡ true → ⊥ = λ was. one.left (own.asked was) in
     let last = last_machine (first_machine w e) events in
-    let up = up_of (runs_behind false events) (asked_behind false events)
+    let up = up_of (runs_following false events) (asked_following false events)
     last.control.state last.control.quit now.runs run
     now.stands unasked in
     let found : is_some (first_chosen (chosen e) side.station.links.places) ≡ true =

@@ -1,6 +1,6 @@
 -- A step of a station of the bench with an event of a host, or a tick, from what its calls gave.
 use Rattle.channel_bench.proofs.Common.{◌≡◌, ℕ, Bool, false, List, None, ap, ◌∙◌, subst, End, HostEvent, ids_of}
-use Rattle.channel_bench.proofs.Common.{ids_behind, IsHostTurn, StationState, Out, Turn, begin, Shared, Side, SideState}
+use Rattle.channel_bench.proofs.Common.{ids_after, IsHostTurn, StationState, Out, Turn, begin, Shared, Side, SideState}
 use Rattle.channel_bench.proofs.Common.{Near, ways_of, IsStep, first_unquiet, told_pieces, trouble_of, StandsForSide}
 use Rattle.channel_bench.proofs.Common.{StandsForNear, StandsForWays, BothWays, queueing_all, FromHost, OfClock}
 use Rattle.station.specs.StandsFor.{StandsFor as StationStandsFor}
@@ -23,8 +23,8 @@ pub host_step : (end : End) (event : HostEvent) (n : Near) (out : Out) (before b
     → StandsForNear end before shared n → n.common.trouble ≡ None → IsSameBesides before between
     → (next : StationState) × IsHostTurn event (begin n.side.station)
     (record { now = next; out = out }) × StationStandsFor between.station next
-    → ids_of between.station ≡ ids_behind event out.closed (ids_of before.station)
-    → between.there.items ≡ ids_behind event out.closed n.side.there
+    → ids_of between.station ≡ ids_after event out.closed (ids_of before.station)
+    → between.there.items ≡ ids_after event out.closed n.side.there
     → ((end : End) (side : SideState) → StandsForSide end between side
     → StandsForSide end after (told_pieces out.pieces side))
     → ((ways : BothWays) → StandsForWays shared.flight ways
@@ -34,10 +34,10 @@ pub host_step : (end : End) (event : HostEvent) (n : Near) (out : Out) (before b
     → (then.draws ≡ shared.draws) × (then.transmissions ≡ shared.transmissions) × (then.lost ≡ shared.lost)
     → (next : Near) × IsStep end (FromHost event) None n next × StandsForNear end after then next
 host_step end event n out before between after shared then h none same host ids there told flight trouble rest =
-    let now : List ℕ = ids_behind event out.closed n.side.there in
+    let now : List ℕ = ids_after event out.closed n.side.there in
     let stands : StandsForSide end between (record n.side { station = host.0; there = now }) =
     stands_with end before between n.side host.0 now h.side_is same host.2
-    (ids ∙ ap (ids_behind event out.closed) h.side_is.ids) there in
+    (ids ∙ ap (ids_after event out.closed) h.side_is.ids) there in
     host_made end event n out after shared then (host.0, host.1)
     (told end (record n.side { station = host.0; there = now }) stands)
     (settles end false out.queued (ways_of n.common) between.end shared then (same.end ∙ h.side_is.end_is)

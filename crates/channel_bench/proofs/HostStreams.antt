@@ -14,13 +14,13 @@ use Rattle.kiss_port.proofs.WebLemmas.{kiss_items, no_web_before}
 use Rattle.station.specs.Host.{new_items}
 
 -- messages, and what is read after them
-abbrev pub read_behind : List AgwMessage → Reading → Reading
-read_behind messages reading = record { messages = messages ++ reading.messages; bad = reading.bad }
+abbrev pub read_after : List AgwMessage → Reading → Reading
+read_after messages reading = record { messages = messages ++ reading.messages; bad = reading.bad }
 
 -- what comes after the stream is read by itself
 pub record IsWhole (stream : List ℕ) : Type 0 where
   pub messages : List AgwMessage
-  pub read : (more : List ℕ) → reading (stream ++ more) ≡ read_behind messages (reading more)
+  pub read : (more : List ℕ) → reading (stream ++ more) ≡ read_after messages (reading more)
 
 pub new_stream : IsWhole []
 new_stream = record { messages = []; read = λ more. refl }
@@ -31,7 +31,7 @@ whole_more stream message written h = record {
   messages = h.messages ++ message ∷ [];
   read = λ more.
       ap reading (append_assoc stream (spelling message) more) ∙ h.read (spelling message ++ more)
-      ∙ ap (read_behind h.messages) (written_reads message written more)
+      ∙ ap (read_after h.messages) (written_reads message written more)
       ∙ ap (λ ms. let r : Reading = record { messages = ms; bad = (reading more).bad } in r)
       (sym (append_assoc h.messages (message ∷ []) (reading more).messages));
 }

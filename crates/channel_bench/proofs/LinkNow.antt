@@ -4,9 +4,9 @@ use Rattle.channel_bench.proofs.Common.{recursion_from_All, Machine, End, A, B, 
 use Rattle.channel_bench.proofs.Common.{first_stations, the_calls, config_of, params_of, BAsksNothing, AreMatched}
 use Rattle.channel_bench.proofs.Common.{Moment, nothing_sent, steps_in, Step, Stations, all_stepped, state_of}
 use Rattle.channel_bench.proofs.Common.{first_world, link_at_end, world_of, LinkStep, steps_of, RunsIn, pairs_in}
-use Rattle.channel_bench.proofs.Common.{AllToldInOne, runs_behind, IsGivenWhileUp, link_steps_at, set_ups_seen}
+use Rattle.channel_bench.proofs.Common.{AllToldInOne, runs_following, IsGivenWhileUp, link_steps_at, set_ups_seen}
 use Rattle.channel_bench.proofs.Common.{IsMachineOf, first_chosen, seed_at, RunChain, run_chained, AsksInSetUp, IsChain}
-use Rattle.channel_bench.proofs.Common.{StandsAsked, StandsCalled, asked_behind, called_behind, chain_asked}
+use Rattle.channel_bench.proofs.Common.{StandsAsked, StandsCalled, asked_following, called_following, chain_asked}
 use Rattle.channel_bench.proofs.Common.{last_machine, matched_law_holds, matched_in_order_holds, AsksFindRoom}
 use Rattle.channel_bench.proofs.Common.{AsksFindRoomAt, matched_for_each, quiet_for_each, set_ups_law_holds}
 use Rattle.std.specs.List.{AllByRecursion as Each}
@@ -112,15 +112,15 @@ link_told w moments s known B =
 -- how the link stands
 pub record LinkNow (w : BenchWords) (moments : List Moment) (s : Stations) (e : End) : Type 0 where
   pub chain : IsChain (first_machine w e) (links_of e moments)
-  pub runs : RunsIn (runs_behind false (links_of e moments))
+  pub runs : RunsIn (runs_following false (links_of e moments))
       (last_machine (first_machine w e) (links_of e moments)).control.state
   pub stands :
       let last = last_machine (first_machine w e) (links_of e moments) in
-      StandsAsked (asked_behind false (links_of e moments)) last.control.state last.control.quit
+      StandsAsked (asked_following false (links_of e moments)) last.control.state last.control.quit
   -- at A, which alone calls
   pub called :
       e ≡ A
-      → StandsCalled (called_behind false (links_of e moments))
+      → StandsCalled (called_following false (links_of e moments))
       (last_machine (first_machine w e) (links_of e moments)).control.state
   pub machine :
       IsMachineOf (first_chosen (chosen e) (state_of e s).links.places)

@@ -15,7 +15,7 @@ use Rattle.hdlc_framer.specs.Body.{body}
 use Rattle.afsk_modulator.specs.Transmission.{transmission}
 use Rattle.hf_sender.proofs.LoudnessLemmas.{within-hf_transmission}
 use Rattle.channel_access.specs.Modem.{body_by, transmission_by}
-use Rattle.channel_access.specs.OnAir.{flags_behind}
+use Rattle.channel_access.specs.OnAir.{flags_after}
 use Rattle.channel_access.specs.declared.modem.Modem.{Modem}
 use Rattle.channel_access.specs.declared.modem.Modem.TheVariants.{Bell202, ShortWave, Fx25}
 
@@ -49,7 +49,7 @@ within-by (Fx25 checks) frames opening closing =
 
 within-samples : (t : OnAir) → All IsLoudAtMost (samples_on_air t)
 unfolding samples_on_air
-within-samples t = within-by t.modem t.frames t.opening (flags_behind t)
+within-samples t = within-by t.modem t.frames t.opening (flags_after t)
 
 pub silence_within : (n : ℕ) → All IsLoudAtMost (replicate n (pos 0))
 silence_within n = All-replicate IsLoudAtMost n (pos 0) (omega arith)

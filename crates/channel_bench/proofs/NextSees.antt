@@ -4,7 +4,7 @@ use Rattle.channel_bench.proofs.Common.{◌∙◌, subst, Machine, End, A, B, ot
 use Rattle.channel_bench.proofs.Common.{BenchWords, Near, SideState, IsStep, there_after, ProgramState, told_all}
 use Rattle.channel_bench.proofs.Common.{Moment, after_moments, hears_ask, nothing_sent, sent_by, Steps, IsTurn, Step}
 use Rattle.channel_bench.proofs.Common.{Stations, at_end, state_of, with_state, LinkStep, steps_of, turn_steps, RunsIn}
-use Rattle.channel_bench.proofs.Common.{runs_behind, seen_by_all, IsChain, asked_behind, behind_append, called_behind}
+use Rattle.channel_bench.proofs.Common.{runs_following, seen_by_all, IsChain, asked_following, after_append, called_following}
 use Rattle.channel_bench.proofs.Common.{chain_parts, last_machine, framed, is_connect, is_disconnect}
 use Rattle.std.specs.List.{AllByRecursion as Each}
 use Rattle.channel_bench.proofs.CoreRun.{Occurs, Usual, input_of}
@@ -89,8 +89,8 @@ wishes_of :
     (events : List LinkStep) (last : Machine) → HasHosts s → (turn : IsTurn (input_of e usual) (begin s) after)
     → let made = turn_steps (chosen e) (input_of e usual) (begin s) after turn in
     IsReady w usual p events → Each (IsBy (cause_in usual)) made
-    → (asked_behind false events ≡ true → GaveAll w.octets p) → (p.calls ≡ true → called_behind false events ≡ false)
-    → RunsIn (runs_behind false events) last.control.state → is_some p.running ≡ runs_behind false events
+    → (asked_following false events ≡ true → GaveAll w.octets p) → (p.calls ≡ true → called_following false events ≡ false)
+    → RunsIn (runs_following false events) last.control.state → is_some p.running ≡ runs_following false events
     → IsChain last made → Wishes w e p events made
 wishes_of w e joins_kiss s after p events last hosts turn ready by asked calls runs is chain =
     let made = turn_steps (chosen e) (input_of e joins_kiss) (begin s) after turn in
@@ -118,7 +118,7 @@ wishes_of w e disconnects s after p events last hosts turn ready by asked calls 
     let made = turn_steps (chosen e) (input_of e disconnects) (begin s) after turn in
     disconnect_wishes w e p events made last (no_connects disconnecting (λ x. cc) made by)
     (disconnects_one e s after hosts turn) ready.0 calls
-    (runs_set_up (runs_behind false events) last.control.state runs (sym is ∙ ready.1)) chain
+    (runs_set_up (runs_following false events) last.control.state runs (sym is ∙ ready.1)) chain
 wishes_of w e (hears octets) s after p events last hosts turn ready by asked calls runs is chain =
     let made = turn_steps (chosen e) (input_of e (hears octets)) (begin s) after turn in
     plain_wishes w e p events made (no_disconnects hearing (λ x. cc) made by) (no_connects hearing (λ x. cc) made by)
@@ -133,7 +133,7 @@ refusal_rests :
     (w : BenchWords) (e : End) (usual : Usual) (moments : List Moment) (s : Stations) (p : ProgramState)
     → Occurs e usual
     → IsRefusable usual → IsReady w usual p (links_of e moments) → LinkNow w moments s e
-    → (runs_behind false (links_of e moments) ≡ false) × (called_behind false (links_of e moments) ≡ false)
+    → (runs_following false (links_of e moments) ≡ false) × (called_following false (links_of e moments) ≡ false)
 refusal_rests w e joins_kiss moments s p occurs may ready now = absurd may
 refusal_rests w e sets_full moments s p occurs may ready now = absurd may
 refusal_rests w e joins_program moments s p occurs may ready now = absurd may
@@ -141,7 +141,7 @@ refusal_rests w e registers moments s p occurs may ready now = absurd may
 refusal_rests w A connects moments s p occurs may ready now =
     let events = links_of A moments in
     let last = last_machine (first_machine w A) events in (
-      uncalled_rests (called_behind false events) (runs_behind false events) last.control.state (now.called refl)
+      uncalled_rests (called_following false events) (runs_following false events) last.control.state (now.called refl)
           now.runs
           ready.1,
       ready.1,
@@ -161,7 +161,7 @@ came :
     → links_of e next ≡ links_of e moments ++ made → SeesAt w (other e) far next → LinkNow w moments s e
     → (is_there there ≡ true → HasProgram turn.now)
     → (IsRefusable usual → IsReady w usual side.program (links_of e moments) → LinkNow w moments s e
-    → (runs_behind false (links_of e moments) ≡ false) × (called_behind false (links_of e moments) ≡ false))
+    → (runs_following false (links_of e moments) ≡ false) × (called_following false (links_of e moments) ≡ false))
     → (Each (IsBy (cause_in usual)) made → IsChain (last_machine (first_machine w e) (links_of e moments)) made
     → Wishes w e side.program (links_of e moments) made)
     → (cause_in usual ≡ sending → ⊥) → IsReady w usual side.program (links_of e moments)
@@ -185,11 +185,11 @@ came w e usual moments next s t side far there turn on made own later links far_
     let wish = wishes says.causes chain in
     let seen = seen_by_all events [] in
     let sees : Sees (told_all (messages_of e made) p) (seen_by_all (events ++ made) [])
-    (runs_behind false (events ++ made)) =
-    subst (λ xs. Sees (told_all (messages_of e made) p) xs (runs_behind false (events ++ made)))
+    (runs_following false (events ++ made)) =
+    subst (λ xs. Sees (told_all (messages_of e made) p) xs (runs_following false (events ++ made)))
     (sym (seen_append events made []))
-    (subst (Sees (told_all (messages_of e made) p) (seen_by_all made seen)) (sym (behind_append false events made))
-    (steps_see e made p seen (runs_behind false events) none laws.told own.sees)) in
+    (subst (Sees (told_all (messages_of e made) p) (seen_by_all made seen)) (sym (after_append false events made))
+    (steps_see e made p seen (runs_following false events) none laws.told own.sees)) in
     linked w e c side p events made (queue_of e moments) there turn on own says (steps_written e made laws.short) sees
     wish.asked wish.calls given wish.asks short has
 came w e usual moments next s t side far there turn on made own later links far_next now has rests wishes not_gives

@@ -4,7 +4,7 @@ use Rattle.channel_bench.proofs.Common.{messages_in, End, Piece, ids_of, new_mes
 use Rattle.channel_bench.proofs.Common.{told_piece, EarStandsFor, StandsForSide, told_all}
 use Rattle.agwpe_port.specs.Held.{StandsFor as AgwStandsFor}
 use Rattle.station.specs.StandsFor.{StandsFor as StationStandsFor}
-use Rattle.agwpe_port.proofs.StreamLemmas.{behind}
+use Rattle.agwpe_port.proofs.StreamLemmas.{following}
 
 -- it is another's, and is dropped
 pub told_other : (piece : Piece) (side : SideState) → piece.id ≢ 1 → told_piece piece side ≡ side
@@ -33,7 +33,7 @@ pub told_messages : (end : End) (before after : Side) (side : SideState) (piece 
     → StandsForSide end after (told_piece piece side)
 told_messages end before after side piece messages h same own reader read told =
     let new : messages ≡ new_messages side.stream piece.octets =
-    behind (messages_in (side.stream ++ piece.octets)) (messages_in side.stream) messages read in
+    following (messages_in (side.stream ++ piece.octets)) (messages_in side.stream) messages read in
     subst (StandsForSide end after) (sym (told_own piece side own)) (record {
       end_is = same.end ∙ h.end_is;
       station = subst (λ s. StationStandsFor s side.station) (sym same.station) h.station;

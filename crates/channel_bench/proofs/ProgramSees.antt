@@ -5,7 +5,7 @@ use Rattle.channel_bench.proofs.Common.{option_to_list, flat_map-append, append-
 use Rattle.channel_bench.proofs.Common.{IsWritten, Packet, Told, Opened, Given, Ended, End, Piece, SetUp, octets_in}
 use Rattle.channel_bench.proofs.Common.{set_up_of, SideState, program_id, told_octets, told_piece, told_pieces}
 use Rattle.channel_bench.proofs.Common.{ProgramState, getting, opening, set_ups_of, told_all, LinkStep, AreToldInOne}
-use Rattle.channel_bench.proofs.Common.{runs_after, AllToldInOne, runs_behind, told_in, Seen, change_last_seen, seen_by}
+use Rattle.channel_bench.proofs.Common.{runs_after, AllToldInOne, runs_following, told_in, Seen, change_last_seen, seen_by}
 use Rattle.channel_bench.proofs.Common.{seen_by_all, seen_giving, seen_told, with_given, with_got, asked_after}
 use Rattle.channel_bench.proofs.Common.{called_after}
 use Rattle.std.specs.List.{AllByRecursion as Each}
@@ -205,7 +205,7 @@ gives_nothing (LinkSeize last full) seen h = refl
 pub steps_see :
     (e : End) (steps : List LinkStep) (p : ProgramState) (seen : List Seen) (runs : Bool)
     → Each (λ (step : LinkStep). GivesNothing step.event) steps → AllToldInOne runs steps → Sees p seen runs
-    → Sees (told_all (messages_of e steps) p) (seen_by_all steps seen) (runs_behind runs steps)
+    → Sees (told_all (messages_of e steps) p) (seen_by_all steps seen) (runs_following runs steps)
 steps_see e [] p seen runs none in_one h = h
 steps_see e (step ∷ steps) p seen runs none in_one h =
     let told = told_in step in
@@ -217,7 +217,7 @@ steps_see e (step ∷ steps) p seen runs none in_one h =
     let program : told_all (messages_of e (step ∷ steps)) p ≡ told_all (messages_of e steps) next =
     told_all_append (messages_by e step) (messages_of e steps) p
     ∙ ap (told_all (messages_of e steps)) (items_are e told p) in
-    subst (λ x. Sees x (seen_by_all steps (seen_by step seen)) (runs_behind (runs_after runs told) steps)) (sym program)
+    subst (λ x. Sees x (seen_by_all steps (seen_by step seen)) (runs_following (runs_after runs told) steps)) (sym program)
     (steps_see e steps next (seen_by step seen) (runs_after runs told) none.1 in_one.1 one)
 
 -- the event by which a packet is given
@@ -225,7 +225,7 @@ pub send_sees :
     (e : End) (step : LinkStep) (packet : Packet) (piece : List ℕ) (p : ProgramState) (seen : List Seen)
     → step.event ≡ LinkSend packet → packet.octets ≡ piece → AreToldInOne true (told_in step) → Sees p seen true
     → Sees (told_all (messages_of e (step ∷ [])) (giving piece p)) (seen_by_all (step ∷ []) seen)
-    (runs_behind true (step ∷ []))
+    (runs_following true (step ∷ []))
 send_sees e step packet piece p seen event is in_one h =
     let told = told_in step in
     let given : Sees (giving packet.octets p) (change_last_seen (with_given packet) seen) true =

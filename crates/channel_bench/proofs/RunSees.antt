@@ -5,7 +5,7 @@ use Rattle.channel_bench.proofs.Common.{A, B, HostEvent, Bytes, Turn, begin, Ben
 use Rattle.channel_bench.proofs.Common.{SideState, near, new_bench, with_near, IsStep, IsTold, program_id, there_after}
 use Rattle.channel_bench.proofs.Common.{ArePartsMade, IsPart, IsTick, Part, beginning, each_tick, joins, parts_of}
 use Rattle.channel_bench.proofs.Common.{sets_duplex, sets_full_duplex, Closes, Tells, ProgramState, connect_octets}
-use Rattle.channel_bench.proofs.Common.{Steps, IsTurn, FromHost, LinkStep, steps_of, turn_steps, ticked, called_behind}
+use Rattle.channel_bench.proofs.Common.{Steps, IsTurn, FromHost, LinkStep, steps_of, turn_steps, ticked, called_following}
 use Rattle.std.specs.List.{AllByRecursion as Each}
 use Rattle.link_machine.specs.Event.{Event as LinkEvent}
 use Rattle.link_machine.specs.Event.Event.{Connect as LinkConnect, Send as LinkSend, Disconnect as LinkDisconnect}
@@ -37,7 +37,7 @@ use Rattle.channel_bench.proofs.FindsNear.{takes_told}
 abbrev pub Early : BenchWords → BenchState → Type 0
 Early w bench =
     Premises bench.common.moments
-    → (bench.a.program.calls ≡ false) × (called_behind false (links_of A bench.common.moments) ≡ false)
+    → (bench.a.program.calls ≡ false) × (called_following false (links_of A bench.common.moments) ≡ false)
 
 abbrev EarlyNear : BenchWords → BenchState → End → Near → Type 0
 EarlyNear w bench e n = Early w (with_near e n bench)
@@ -159,7 +159,7 @@ early_step w bench A usual before after f occurs h holds early = λ p.
     ap (links_of A) is ∙ own_events A moments step None refl ∙ ap (λ xs. links_of A moments ++ xs) quiet.0
     ∙ append-nil (links_of A moments) in (
       ap (λ (x : ProgramState). x.calls) quiet.1 ∙ (early old).0,
-      ap (called_behind false) links ∙ (early old).1,
+      ap (called_following false) links ∙ (early old).1,
     )
 early_step w bench B usual before after f occurs h holds early = λ p.
     let moments = before.common.moments in
@@ -169,7 +169,7 @@ early_step w bench B usual before after f occurs h holds early = λ p.
     let old = front moments step None (subst Premises is p) in
     let links : links_of A after.common.moments ≡ links_of A moments =
     ap (links_of A) is ∙ links_more A moments step None ∙ append-nil (links_of A moments) in
-    ((early old).0, ap (called_behind false) links ∙ (early old).1)
+    ((early old).0, ap (called_following false) links ∙ (early old).1)
 
 -- ---- the phases of a run
 
@@ -376,13 +376,13 @@ tick_stands w (suc count) before bench made_parts calm stands =
     parts_lead w goes made (parts_of w before.ticks) (later_parts w before.ticks stands.1) before bench made_parts calm
     stands.0
 
-pub behind_ticks : (w : BenchWords) (count : ℕ) (bench : BenchState) → AreTicks w count bench → IsCalm bench
+pub following_ticks : (w : BenchWords) (count : ℕ) (bench : BenchState) → AreTicks w count bench → IsCalm bench
     → Behind w count bench
 unfolding IsTick
-behind_ticks w zero bench h calm = h
-behind_ticks w (suc count) bench h calm =
-    tick_stands w count h.0 bench h.3 calm (behind_ticks w count h.0 h.1 h.2.no_trouble)
+following_ticks w zero bench h calm = h
+following_ticks w (suc count) bench h calm =
+    tick_stands w count h.0 bench h.3 calm (following_ticks w count h.0 h.1 h.2.no_trouble)
 
 pub run_sees : (w : BenchWords) (count : ℕ) (bench : BenchState) → AreTicks w count bench → IsCalm bench → Holds w bench
 run_sees w zero bench h calm = subst (Holds w) (sym h) (new_holds w)
-run_sees w (suc count) bench h calm = (behind_ticks w (suc count) bench h calm).0
+run_sees w (suc count) bench h calm = (following_ticks w (suc count) bench h calm).0

@@ -1,6 +1,6 @@
 -- What a station of the bench stands for after its calls.
 use Rattle.channel_bench.proofs.Common.{◌≡◌, ℕ, ◌<◌, Bool, true, false, ℤ, List, Some, None, refl, sym, ap, ◌∙◌, subst}
-use Rattle.channel_bench.proofs.Common.{All, MatchBool, ◌↔◌, IsTrue, End, A, B, HostEvent, IsHeard, ids_of, ids_behind}
+use Rattle.channel_bench.proofs.Common.{All, MatchBool, ◌↔◌, IsTrue, End, A, B, HostEvent, IsHeard, ids_of, ids_after}
 use Rattle.channel_bench.proofs.Common.{IsHostTurn, StationState, air_of, Out, Turn, begin, SentAt, Shared, Side}
 use Rattle.channel_bench.proofs.Common.{SideState, Near, ways_of, MayCome, IsStep, IsTicking, IsTold, told_pieces}
 use Rattle.channel_bench.proofs.Common.{first_unquiet, trouble_of, EarStandsFor, HearsStation, StandsForSide, StandsForCommon}
@@ -160,7 +160,7 @@ pub record HasSettled (sender : End) (on_ask : Bool) (frames : List (List ℕ)) 
 pub host_made : (end : End) (event : HostEvent) (n : Near) (out : Out) (side : Side) (before after : Shared)
     → (host : (next : StationState) × IsHostTurn event (begin n.side.station) (record { now = next; out = out }))
     → StandsForSide end side (told_pieces out.pieces
-    (record n.side { station = host.0; there = ids_behind event out.closed n.side.there }))
+    (record n.side { station = host.0; there = ids_after event out.closed n.side.there }))
     → HasSettled end false out.queued (ways_of n.common) before after → StandsForCommon before n.common
     → (next : Near) × IsStep end (FromHost event) None n next × StandsForNear end side after next
 host_made end event n out side before after host stands settled common =

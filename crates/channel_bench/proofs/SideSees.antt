@@ -5,9 +5,9 @@ use Rattle.channel_bench.proofs.Common.{Some, None, is_some, refl, sym, ap, ◌�
 use Rattle.channel_bench.proofs.Common.{or_cases, append-nil, AgwMessage, IsWritten, End, each_append, connect_kind}
 use Rattle.channel_bench.proofs.Common.{data_kind, disconnect_kind, register_kind, Turn, begin, SetUp, BenchWords}
 use Rattle.channel_bench.proofs.Common.{set_up_of, SideState, told_pieces, ProgramState, getting, opening, set_ups_of}
-use Rattle.channel_bench.proofs.Common.{told_all, LinkFrame, LinkStep, runs_behind, told_in, IsGivenWhileUp, Seen}
-use Rattle.channel_bench.proofs.Common.{seen_by_all, AsksInSetUp, asked_after, asked_behind, called_after}
-use Rattle.channel_bench.proofs.Common.{called_behind, framed, is_connect, is_disconnect, not_both}
+use Rattle.channel_bench.proofs.Common.{told_all, LinkFrame, LinkStep, runs_following, told_in, IsGivenWhileUp, Seen}
+use Rattle.channel_bench.proofs.Common.{seen_by_all, AsksInSetUp, asked_after, asked_following, called_after}
+use Rattle.channel_bench.proofs.Common.{called_following, framed, is_connect, is_disconnect, not_both}
 use Rattle.std.specs.List.{AllByRecursion as Each}
 use Rattle.link_machine.specs.Event.{Event as LinkEvent}
 use Rattle.link_machine.specs.Event.Event.{Connect as LinkConnect, Send as LinkSend, Disconnect as LinkDisconnect}
@@ -30,11 +30,11 @@ pub record SideSees (w : BenchWords) (e : End) (side : SideState) (events : List
   pub owns : OwnsAll e side.station
   pub there : is_there side.there ≡ true → HasProgram side.station
   pub whole : IsWhole side.stream
-  pub sees : Sees side.program (seen_by_all events []) (runs_behind false events)
+  pub sees : Sees side.program (seen_by_all events []) (runs_following false events)
   -- a disconnect is asked for once all is given
-  pub asked : asked_behind false events ≡ true → GaveAll w.octets side.program
+  pub asked : asked_following false events ≡ true → GaveAll w.octets side.program
   -- it is to send C again only after its link ended
-  pub calls : side.program.calls ≡ true → called_behind false events ≡ false
+  pub calls : side.program.calls ≡ true → called_following false events ≡ false
   pub given : Each GivenUp events
   pub asks : Each AsksInSetUp events
   pub short : Each ShortStep events
@@ -118,7 +118,7 @@ never_asks step none = λ is. absurd (not_both (is_disconnect step.event) is non
 pub asked_kept :
     (count : ℕ) (e : End) (steps : List LinkStep) (asked : Bool) (p : ProgramState)
     → Each (λ (s : LinkStep). is_disconnect s.event ≡ false) steps → (asked ≡ true → GaveAll count p)
-    → asked_behind asked steps ≡ true → GaveAll count (told_all (messages_of e steps) p)
+    → asked_following asked steps ≡ true → GaveAll count (told_all (messages_of e steps) p)
 asked_kept count e [] asked p none gave is = gave is
 asked_kept count e (step ∷ steps) asked p none gave is =
     let told = told_in step in
@@ -134,7 +134,7 @@ asked_kept count e (step ∷ steps) asked p none gave is =
 
 pub asked_one :
     (count : ℕ) (e : End) (step : LinkStep) (asked : Bool) (p : ProgramState) → GaveAll count p
-    → asked_behind asked (step ∷ []) ≡ true → GaveAll count (told_all (messages_of e (step ∷ [])) p)
+    → asked_following asked (step ∷ []) ≡ true → GaveAll count (told_all (messages_of e (step ∷ [])) p)
 asked_one count e step asked p gave is =
     subst (GaveAll count) (sym (items_of e [] step p))
     (items_asked count asked (is_disconnect step.event) (told_in step) p (λ some. gave) is)
@@ -142,7 +142,7 @@ asked_one count e step asked p gave is =
 pub called_kept :
     (e : End) (steps : List LinkStep) (called : Bool) (p : ProgramState)
     → Each (λ (s : LinkStep). is_connect s.event ≡ false) steps → (p.calls ≡ true → called ≡ false)
-    → (told_all (messages_of e steps) p).calls ≡ true → called_behind called steps ≡ false
+    → (told_all (messages_of e steps) p).calls ≡ true → called_following called steps ≡ false
 called_kept e [] called p none before is = before is
 called_kept e (step ∷ steps) called p none before is =
     let told = told_in step in
@@ -154,7 +154,7 @@ called_kept e (step ∷ steps) called p none before is =
 
 pub called_one :
     (e : End) (step : LinkStep) (called : Bool) (p : ProgramState) → p.calls ≡ false
-    → (told_all (messages_of e (step ∷ [])) p).calls ≡ true → called_behind called (step ∷ []) ≡ false
+    → (told_all (messages_of e (step ∷ [])) p).calls ≡ true → called_following called (step ∷ []) ≡ false
 called_one e step called p none is =
     items_called called (is_connect step.event) (told_in step) p (λ calls. absurd (not_both p.calls calls none))
     (sym (ap (λ (x : ProgramState). x.calls) (items_of e [] step p)) ∙ is)
@@ -171,9 +171,9 @@ pub linked :
     (w : BenchWords) (e : End) (c : Cause) (side : SideState) (p : ProgramState) (events made : List LinkStep)
     (queue : List LinkFrame) (there : List ℕ) (turn : Turn) (on : Bool) → SideSees w e side events queue
     → Says c e (begin side.station) made turn → Each IsWritten (messages_of e made)
-    → Sees (told_all (messages_of e made) p) (seen_by_all (events ++ made) []) (runs_behind false (events ++ made))
-    → (asked_behind false (events ++ made) ≡ true → GaveAll w.octets (told_all (messages_of e made) p))
-    → ((told_all (messages_of e made) p).calls ≡ true → called_behind false (events ++ made) ≡ false)
+    → Sees (told_all (messages_of e made) p) (seen_by_all (events ++ made) []) (runs_following false (events ++ made))
+    → (asked_following false (events ++ made) ≡ true → GaveAll w.octets (told_all (messages_of e made) p))
+    → ((told_all (messages_of e made) p).calls ≡ true → called_following false (events ++ made) ≡ false)
     → Each GivenUp made → Each AsksInSetUp made → Each ShortStep made → (is_there there ≡ true → HasProgram turn.now)
     → SideSees w e (side_after side p there turn) (events ++ made) (queue ++ framed on turn.out.queued)
 linked w e c side p events made queue there turn on own says written sees asked calls given asks short has =
@@ -183,7 +183,7 @@ linked w e c side p events made queue there turn on own says written sees asked 
       owns = subst (OwnsAll e) (sym told.station) says.owns;
       there = λ is. subst HasProgram (sym told.station) (has (sym (ap is_there told.there) ∙ is));
       whole = told.whole;
-      sees = subst (λ x. Sees x (seen_by_all (events ++ made) []) (runs_behind false (events ++ made)))
+      sees = subst (λ x. Sees x (seen_by_all (events ++ made) []) (runs_following false (events ++ made)))
           (sym told.program) sees;
       asked = λ is. subst (GaveAll w.octets) (sym told.program) (asked is);
       calls = λ is. calls (sym (ap (λ (x : ProgramState). x.calls) told.program) ∙ is);
@@ -199,9 +199,9 @@ nothing_made :
     (w : BenchWords) (e : End) (side after : SideState) (events : List LinkStep) (queue : List LinkFrame) (on : Bool)
     (queued : List (List ℕ)) → SideSees w e side events queue → queued ≡ [] → OwnsAll e after.station
     → (is_there after.there ≡ true → HasProgram after.station) → IsWhole after.stream
-    → Sees after.program (seen_by_all events []) (runs_behind false events)
-    → (asked_behind false events ≡ true → GaveAll w.octets after.program)
-    → (after.program.calls ≡ true → called_behind false events ≡ false)
+    → Sees after.program (seen_by_all events []) (runs_following false events)
+    → (asked_following false events ≡ true → GaveAll w.octets after.program)
+    → (after.program.calls ≡ true → called_following false events ≡ false)
     → SideSees w e after (events ++ []) (queue ++ framed on queued)
 nothing_made w e side after events queue on queued own none owns there whole sees asked calls =
     subst (SideSees w e after (events ++ [])) (sym (ap (λ xs. queue ++ framed on xs) none ∙ append-nil queue))
@@ -243,7 +243,7 @@ replied_sees w e side events queue there turn on own h has =
     nothing_made w e side (side_after side side.program there turn) events queue on turn.out.queued own h.queued
     (subst (OwnsAll e) (sym told.station) h.owns)
     (λ is. subst HasProgram (sym told.station) (has (sym (ap is_there told.there) ∙ is))) told.whole
-    (subst (λ x. Sees x (seen_by_all events []) (runs_behind false events)) (sym program) own.sees)
+    (subst (λ x. Sees x (seen_by_all events []) (runs_following false events)) (sym program) own.sees)
     (λ is. subst (GaveAll w.octets) (sym program) (own.asked is))
     (λ is. own.calls (sym (ap (λ (x : ProgramState). x.calls) program) ∙ is))
 
@@ -251,8 +251,8 @@ replied_sees w e side events queue there turn on own h has =
 pub refused_sees :
     (w : BenchWords) (e : End) (side : SideState) (events : List LinkStep) (queue : List LinkFrame) (there : List ℕ)
     (turn : Turn) (on : Bool) → SideSees w e side events queue → Replied disconnect_kind e (begin side.station) turn
-    → (is_there there ≡ true → HasProgram turn.now) → runs_behind false events ≡ false
-    → called_behind false events ≡ false
+    → (is_there there ≡ true → HasProgram turn.now) → runs_following false events ≡ false
+    → called_following false events ≡ false
     → SideSees w e (side_after side side.program there turn) (events ++ []) (queue ++ framed on turn.out.queued)
 refused_sees w e side events queue there turn on own h has rests uncalled =
     let mid : SideState = record side { station = turn.now; there = there } in
@@ -260,12 +260,12 @@ refused_sees w e side events queue there turn on own h has rests uncalled =
     let p = side.program in
     let program : (side_after side side.program there turn).program ≡ closing p =
     told.program ∙ told_end h.reply p h.kind_is in
-    let sees : Sees (closing p) (seen_by_all events []) (runs_behind false events) =
+    let sees : Sees (closing p) (seen_by_all events []) (runs_following false events) =
     record { set_ups = append-nil (set_ups_of p) ∙ own.sees.set_ups; runs_is = sym rests } in
     nothing_made w e side (side_after side side.program there turn) events queue on turn.out.queued own h.queued
     (subst (OwnsAll e) (sym told.station) h.owns)
     (λ is. subst HasProgram (sym told.station) (has (sym (ap is_there told.there) ∙ is))) told.whole
-    (subst (λ x. Sees x (seen_by_all events []) (runs_behind false events)) (sym program) sees)
+    (subst (λ x. Sees x (seen_by_all events []) (runs_following false events)) (sym program) sees)
     (λ is. subst (GaveAll w.octets) (sym program) tt) (λ is. uncalled)
 
 -- a connection joins
@@ -281,6 +281,6 @@ joined_sees w e side events queue there turn on own owns pieces queued has =
     nothing_made w e side (side_after side side.program there turn) events queue on turn.out.queued own queued
     (subst (OwnsAll e) (sym told.station) owns)
     (λ is. subst HasProgram (sym told.station) (has (sym (ap is_there told.there) ∙ is))) told.whole
-    (subst (λ x. Sees x (seen_by_all events []) (runs_behind false events)) (sym program) own.sees)
+    (subst (λ x. Sees x (seen_by_all events []) (runs_following false events)) (sym program) own.sees)
     (λ is. subst (GaveAll w.octets) (sym program) (own.asked is))
     (λ is. own.calls (sym (ap (λ (x : ProgramState). x.calls) program) ∙ is))

@@ -6,7 +6,7 @@ use Rattle.channel_bench.proofs.Common.{the_calls, Near, config_of, params_of, I
 use Rattle.channel_bench.proofs.Common.{after_moments, nothing_sent, sent_by, steps_in, Steps, IsTurn, Step, Stations}
 use Rattle.channel_bench.proofs.Common.{state_of, with_state, Calls, first_world, link_at_end, LinkStep, steps_of}
 use Rattle.channel_bench.proofs.Common.{turn_steps, pairs_in, seed_at, RunChain, run_chained, AsksInSetUp, IsChain}
-use Rattle.channel_bench.proofs.Common.{StandsAsked, asked_after, asked_behind, chain_asked, chain_parts, last_machine}
+use Rattle.channel_bench.proofs.Common.{StandsAsked, asked_after, asked_following, chain_asked, chain_parts, last_machine}
 use Rattle.channel_bench.proofs.Common.{is_disconnect, matched_in_order_holds, AsksFindRoom, AsksFindRoomAt, AsksInRoom}
 use Rattle.channel_bench.proofs.Common.{matched_for_each, not_both}
 use Rattle.channel_bench.proofs.Common.{after_moment, BothWays}
@@ -101,9 +101,9 @@ calm_events asked m (step ∷ steps) chain by stands =
       calm_events (asked_after asked (is_disconnect step.event) turn.told) turn.now steps chain.1 by.1 next,
     )
 
-each_behind : (P : LinkStep → Type 0) (first second : List LinkStep) → Each P (first ++ second) → Each P second
-each_behind P [] second h = h
-each_behind P (x ∷ first) second h = each_behind P first second h.1
+each_following : (P : LinkStep → Type 0) (first second : List LinkStep) → Each P (first ++ second) → Each P second
+each_following P [] second h = h
+each_following P (x ∷ first) second h = each_following P first second h.1
 
 -- those of a step by which a frame is heard
 heard_calm :
@@ -115,14 +115,14 @@ heard_calm w moments later t made noted matched links asks by =
     let run = run_chain_of w later t noted matched in
     let chain = chain_parts (first_machine w A) events made (subst (IsChain (first_machine w A)) links run.chain_a) in
     let stands = chain_asked false (first_machine w A) events chain.0 asks refl in
-    calm_events (asked_behind false events) (last_machine (first_machine w A) events) made chain.1 by stands
+    calm_events (asked_following false events) (last_machine (first_machine w A) events) made chain.1 by stands
 
 -- and those that it hears neither call nor reset the link
 heard_well :
     (w : BenchWords) (moments later : List Moment) (t : Stations) (made : List LinkStep) → Known w later t
     → links_of A later ≡ links_of A moments ++ made → Each HearsWell made
 heard_well w moments later t made known links =
-    each_behind HearsWell (links_of A moments) made (subst (Each HearsWell) links (well w later t known))
+    each_following HearsWell (links_of A moments) made (subst (Each HearsWell) links (well w later t known))
 
 -- ---- a step of A's station
 

@@ -10,9 +10,9 @@ use Rattle.channel_bench.proofs.Common.{told_all, AreMatched, BothWays, IsMatche
 use Rattle.channel_bench.proofs.Common.{OneWay, after_moment, after_moments, hears_ask, nothing_sent, sent_by, steps_in}
 use Rattle.channel_bench.proofs.Common.{Steps, IsTurn, Step, Stations, at_end, OffAir, Calls, link_at_end, Choice}
 use Rattle.channel_bench.proofs.Common.{LinkStep, call_steps, disconnect_steps, link_step, made_steps, steps_for}
-use Rattle.channel_bench.proofs.Common.{steps_of, turn_steps, RunsIn, AllToldInOne, runs_behind, told_in, link_steps_at}
-use Rattle.channel_bench.proofs.Common.{seen_by_all, AsksInSetUp, IsChain, StandsCalled, asked_append, asked_behind}
-use Rattle.channel_bench.proofs.Common.{called_append, called_behind, made_by, framed, is_connect, is_disconnect}
+use Rattle.channel_bench.proofs.Common.{steps_of, turn_steps, RunsIn, AllToldInOne, runs_following, told_in, link_steps_at}
+use Rattle.channel_bench.proofs.Common.{seen_by_all, AsksInSetUp, IsChain, StandsCalled, asked_append, asked_following}
+use Rattle.channel_bench.proofs.Common.{called_append, called_following, made_by, framed, is_connect, is_disconnect}
 use Rattle.channel_bench.proofs.Common.{not_both, queued_by}
 use Rattle.std.specs.List.{AllByRecursion as Each}
 use Rattle.ax25_address.proofs.OneReading.{BeginsWithPath-same}
@@ -192,8 +192,8 @@ disconnects_one e s after hosts turn =
 -- ---- wishes and calls in a step
 
 pub record Wishes (w : BenchWords) (e : End) (p : ProgramState) (events made : List LinkStep) : Type 0 where
-  pub asked : asked_behind false (events ++ made) ≡ true → GaveAll w.octets (told_all (messages_of e made) p)
-  pub calls : (told_all (messages_of e made) p).calls ≡ true → called_behind false (events ++ made) ≡ false
+  pub asked : asked_following false (events ++ made) ≡ true → GaveAll w.octets (told_all (messages_of e made) p)
+  pub calls : (told_all (messages_of e made) p).calls ≡ true → called_following false (events ++ made) ≡ false
   pub asks : Each AsksInSetUp made
 
 abbrev NoDisconnect : LinkStep → Type 0
@@ -204,50 +204,50 @@ NoConnect s = is_connect s.event ≡ false
 
 pub plain_wishes :
     (w : BenchWords) (e : End) (p : ProgramState) (events made : List LinkStep) → Each NoDisconnect made
-    → Each NoConnect made → (asked_behind false events ≡ true → GaveAll w.octets p)
-    → (p.calls ≡ true → called_behind false events ≡ false) → Wishes w e p events made
+    → Each NoConnect made → (asked_following false events ≡ true → GaveAll w.octets p)
+    → (p.calls ≡ true → called_following false events ≡ false) → Wishes w e p events made
 plain_wishes w e p events made no_disconnect no_connect asked calls = record {
   asked = λ is.
-      asked_kept w.octets e made (asked_behind false events) p no_disconnect asked
+      asked_kept w.octets e made (asked_following false events) p no_disconnect asked
       (sym (asked_append false events made) ∙ is);
   calls = λ is.
-      called_append false events made ∙ called_kept e made (called_behind false events) p no_connect calls is;
+      called_append false events made ∙ called_kept e made (called_following false events) p no_connect calls is;
   asks = each_weaker NoDisconnect AsksInSetUp never_asks made no_disconnect;
 }
 
 pub connect_wishes :
     (w : BenchWords) (e : End) (p : ProgramState) (events made : List LinkStep) → Each NoDisconnect made
-    → AtMostOne made → (asked_behind false events ≡ true → GaveAll w.octets p) → p.calls ≡ false
+    → AtMostOne made → (asked_following false events ≡ true → GaveAll w.octets p) → p.calls ≡ false
     → Wishes w e p events made
 connect_wishes w e p events made no_disconnect one asked none = record {
   asked = λ is.
-      asked_kept w.octets e made (asked_behind false events) p no_disconnect asked
+      asked_kept w.octets e made (asked_following false events) p no_disconnect asked
       (sym (asked_append false events made) ∙ is);
   calls = λ is. called_append false events made ∙ go made one is;
   asks = each_weaker NoDisconnect AsksInSetUp never_asks made no_disconnect;
 }
   where
     go : (xs : List LinkStep) → AtMostOne xs → (told_all (messages_of e xs) p).calls ≡ true
-        → called_behind (called_behind false events) xs ≡ false
+        → called_following (called_following false events) xs ≡ false
     go [] h is = absurd (not_both p.calls is none)
-    go (step ∷ []) h is = called_one e step (called_behind false events) p none is
+    go (step ∷ []) h is = called_one e step (called_following false events) p none is
     go (step ∷ next ∷ xs) h is = absurd h
 
 pub disconnect_wishes :
     (w : BenchWords) (e : End) (p : ProgramState) (events made : List LinkStep) (last : Machine) → Each NoConnect made
-    → AtMostOne made → GaveAll w.octets p → (p.calls ≡ true → called_behind false events ≡ false)
+    → AtMostOne made → GaveAll w.octets p → (p.calls ≡ true → called_following false events ≡ false)
     → HasSetUp last.control.state → IsChain last made → Wishes w e p events made
 disconnect_wishes w e p events made last no_connect one gave calls up chain = record {
   asked = λ is. go_asked made one (sym (asked_append false events made) ∙ is);
   calls = λ is.
-      called_append false events made ∙ called_kept e made (called_behind false events) p no_connect calls is;
+      called_append false events made ∙ called_kept e made (called_following false events) p no_connect calls is;
   asks = go_asks made one chain;
 }
   where
-    go_asked : (xs : List LinkStep) → AtMostOne xs → asked_behind (asked_behind false events) xs ≡ true
+    go_asked : (xs : List LinkStep) → AtMostOne xs → asked_following (asked_following false events) xs ≡ true
         → GaveAll w.octets (told_all (messages_of e xs) p)
     go_asked [] h is = gave
-    go_asked (step ∷ []) h is = asked_one w.octets e step (asked_behind false events) p gave is
+    go_asked (step ∷ []) h is = asked_one w.octets e step (asked_following false events) p gave is
     go_asked (step ∷ next ∷ xs) h is = absurd h
 
     made_up : (anew : Option Path) → HasSetUp (made_by anew last).control.state
@@ -294,7 +294,7 @@ IsReady w joins_kiss p events = ⊤
 IsReady w sets_full p events = ⊤
 IsReady w joins_program p events = ⊤
 IsReady w registers p events = ⊤
-IsReady w connects p events = (p.calls ≡ false) × (called_behind false events ≡ false)
+IsReady w connects p events = (p.calls ≡ false) × (called_following false events ≡ false)
 IsReady w (gives piece) p events = ⊥
 IsReady w disconnects p events = GaveAll w.octets p × (is_some p.running ≡ true)
 IsReady w (hears octets) p events = ⊤
@@ -322,7 +322,7 @@ both_ends P B moments own far B = own
 
 -- what the laws say of the events of a step
 pub record StepLaws (e : End) (events made : List LinkStep) : Type 0 where
-  pub told : AllToldInOne (runs_behind false events) made
+  pub told : AllToldInOne (runs_following false events) made
   pub short : Each (λ (s : LinkStep). Each TellsShort (told_in s)) made
 
 pub step_laws :
@@ -330,17 +330,17 @@ pub step_laws :
     (made : List LinkStep) → Known w later s → links_of e later ≡ links_of e moments ++ made
     → SeesAt w (other e) far later → Each GivenUp (links_of e moments ++ made)
     → Each ShortStep (links_of e moments ++ made)
-    → Sees p (seen_by_all (links_of e moments) []) (runs_behind false (links_of e moments))
+    → Sees p (seen_by_all (links_of e moments) []) (runs_following false (links_of e moments))
     → StepLaws e (links_of e moments) made
 step_laws w e moments later s side far p made known is far_sees given short sees =
     let events = links_of e moments in
-    let told : AllToldInOne (runs_behind false events) made =
+    let told : AllToldInOne (runs_following false events) made =
     told_append false events made (subst (AllToldInOne false) is (link_told w later s known e)) in
     let all = law_short w later s known (both_ends GivenUp e later (subst (Each GivenUp) (sym is) given) far_sees.given)
     (both_ends ShortStep e later (subst (Each ShortStep) (sym is) short) far_sees.short) e in
     record {
       told = told;
-      short = steps_short made (seen_by_all events []) (runs_behind false events) told
-          (some_seen p (seen_by_all events []) (runs_behind false events) sees)
+      short = steps_short made (seen_by_all events []) (runs_following false events) told
+          (some_seen p (seen_by_all events []) (runs_following false events) sees)
           (subst (Each GotShort) (ap (λ xs. seen_by_all xs []) is ∙ seen_append events made []) all);
     }

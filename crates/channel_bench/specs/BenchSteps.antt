@@ -11,7 +11,7 @@ use Rattle.link_world.specs.World.{other}
 use Rattle.station.specs.declared.host_event.HostEvent.{HostEvent}
 use Rattle.station.specs.declared.host_event.HostEvent.TheVariants.{Joined, Bytes, Left}
 use Rattle.station.specs.declared.host_out.Piece.{Piece}
-use Rattle.station.specs.Held.{ids_behind}
+use Rattle.station.specs.Held.{ids_after}
 use Rattle.station.specs.Host.{new_messages}
 use Rattle.station.specs.State.{Accepts}
 use Rattle.station.specs.Ticks.{air_of}
@@ -67,7 +67,7 @@ trouble_of index = option_map Unquiet index
 
 -- the connections that are there after a step
 abbrev pub there_after : Input → List ℕ → List ℕ → List ℕ
-there_after (FromHost event) closed there = ids_behind event closed there
+there_after (FromHost event) closed there = ids_after event closed there
 there_after (OffAir octets) closed there = there
 there_after (OfClock busy) closed there = there
 

@@ -111,7 +111,7 @@ sounding w bench = carried w (with_losses w.loss bench)
 
 -- ---- marks
 
--- how far behind the samples the marks of all lanes stand
+-- how far after the samples the marks of all lanes stand
 abbrev pub mark_of : List ℤ → ℕ
 mark_of samples = length samples - 7
 

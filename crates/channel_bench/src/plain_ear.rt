@@ -19,7 +19,7 @@ use tnc_base::OutOfMemory;
 /// The lanes of a bank.
 const LANES: u8 = 8;
 
-/// How far behind the samples the marks of the lanes stand.
+/// How far after the samples the marks of the lanes stand.
 const BEHIND: u64 = 7;
 
 /// A bank of slicers, and a merger of what they hear.

@@ -133,11 +133,11 @@ have_one_later item items place (c ∷ cs) early apart has =
     )
 
 -- no item that ends after a cluster is in it, nor any that follows
-none_behind : (items : List Candidate) (from : ℕ) (c : Cluster) → c.high < from → Rising from items → ¬ HasOne items c
-none_behind [] from c late rising has = has
-none_behind (item ∷ items) from c late rising (inl is) = omega (arith, rising.0, is.high)
-none_behind (item ∷ items) from c late rising (inr has) =
-    none_behind items item.end c (omega (arith, rising.0)) rising.1 has
+none_after : (items : List Candidate) (from : ℕ) (c : Cluster) → c.high < from → Rising from items → ¬ HasOne items c
+none_after [] from c late rising has = has
+none_after (item ∷ items) from c late rising (inl is) = omega (arith, rising.0, is.high)
+none_after (item ∷ items) from c late rising (inr has) =
+    none_after items item.end c (omega (arith, rising.0)) rising.1 has
 
 -- ---- what is known of the items that are left
 
@@ -154,13 +154,13 @@ known_kept before place cs item (next ∷ items) known = (kept known.0, known_ke
 known_next : (before : List Candidate) (place : ℕ) (c : Cluster) (cs : List Cluster) (item : Candidate)
     (items : List Candidate)
     → IsBehind place c → IsIn c item → Known before place (c ∷ cs) items → Known (before ++ item ∷ []) c.high cs items
-known_next before place c cs item [] behind is known = tt
-known_next before place c cs item (next ∷ items) behind is known =
-    (now known.0, known_next before place c cs item items behind is known.1)
+known_next before place c cs item [] following is known = tt
+known_next before place c cs item (next ∷ items) following is known =
+    (now known.0, known_next before place c cs item items following is known.1)
   where
     now : IsKnown before place (c ∷ cs) next → IsKnown (before ++ item ∷ []) c.high cs next
-    now (inl old) = inl (omega (arith, old.0, behind.far, behind.rising), repeats_more next before (item ∷ []) old.1)
-    now (inr (inl in_it)) = inl (in_it.high, repeats_last c next item before behind.narrow is in_it)
+    now (inl old) = inl (omega (arith, old.0, following.far, following.rising), repeats_more next before (item ∷ []) old.1)
+    now (inr (inl in_it)) = inl (in_it.high, repeats_last c next item before following.narrow is in_it)
     now (inr (inr later)) = inr later
 
 -- ---- the theorem
@@ -223,7 +223,7 @@ keeps_cons item items rest before place from (c ∷ cs) below rising known apart
         rising.1 (known_next before place c cs item items apart.0 is known.1) apart.1
         (have_one_later item items c.high cs is.high apart.1 has.1))
     by_first (inr (inr later)) =
-        absurd (none_behind (item ∷ items) item.end c (omega (arith, later_end c.high cs item apart.1 later))
+        absurd (none_after (item ∷ items) item.end c (omega (arith, later_end c.high cs item apart.1 later))
         (omega arith, rising.1) has.0)
 
 pub merge_keeps : (items : List Candidate) → Keeps items

@@ -79,21 +79,21 @@ all_have_one x items (e ∷ ends) are ((offset, is), others) =
 
 -- ---- candidates in order rise
 
-rising_behind : (item : Candidate) (items : List Candidate) → AllPairs (λ a b. standing a < standing b) (item ∷ items)
+rising_following : (item : Candidate) (items : List Candidate) → AllPairs (λ a b. standing a < standing b) (item ∷ items)
     → All (λ a. a.offset < 256) (item ∷ items) → Rising item.end items
-rising_behind item [] order small = tt
-rising_behind item (next ∷ items) order small =
+rising_following item [] order small = tt
+rising_following item (next ∷ items) order small =
     let less = order 0 1 item (omega arith) (omega arith) in
     let low = small 1 item (omega arith) in (
       omega arith,
-      rising_behind next items (λ i j d ij jl. order (suc i) (suc j) d (omega arith) (omega arith))
+      rising_following next items (λ i j d ij jl. order (suc i) (suc j) d (omega arith) (omega arith))
           (All-tail (λ a. a.offset < 256) item (next ∷ items) small),
     )
 
 pub rising : (items : List Candidate) → AllPairs (λ a b. standing a < standing b) items
     → All (λ a. a.offset < 256) items → Rising 0 items
 rising [] order small = tt
-rising (item ∷ items) order small = (omega arith, rising_behind item items order small)
+rising (item ∷ items) order small = (omega arith, rising_following item items order small)
 
 -- ---- the law
 

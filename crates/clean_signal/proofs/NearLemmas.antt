@@ -29,14 +29,14 @@ wave_carries level phase tones x some at near =
 pub near_carries : (received : List Received) (x : List ℤ) → AllByRecursion IsReceived received → IsNearAll received x
     → CarriesAll (transmissions_of received) x
 near_carries [] x good near = tt
-near_carries (r ∷ received) x (good, others) (gap, part, rest, whole, silence, here, behind) = (
+near_carries (r ∷ received) x (good, others) (gap, part, rest, whole, silence, here, following) = (
   gap,
   part,
   rest,
   whole,
   silence,
   wave_carries r.level r.phase (line (body_of r.transmission)) part good.least good.phase here,
-  near_carries received rest others behind,
+  near_carries received rest others following,
 )
 
 -- ---- signals at a level

@@ -9,7 +9,7 @@ use Rattle.std.proofs.Common.{append_assoc}
 use Rattle.std.proofs.lemmas.Bool.{ltb-true}
 use Rattle.std.proofs.lemmas.List.Elements.{All-filter}
 use Rattle.std.proofs.lemmas.List.Kept.{IsNonDecreasingBy-filter}
-use Rattle.frame_merge.proofs.Ordering.{place_here, place_behind, rising_tail, rising_head, rising_ends}
+use Rattle.frame_merge.proofs.Ordering.{place_here, place_following, rising_tail, rising_head, rising_ends}
 use Rattle.frame_merge.proofs.Merging.{merged_after-append, All-merged, below_none}
 
 -- a part of a list in order is in order
@@ -37,11 +37,11 @@ not_below-place position item (x ∷ xs) le small offsets =
           ∙ ap (λ t. place item (cond t (x ∷ not_below position xs) (not_below position xs))) (sym x_passes)
       | inr ge ↦
           let step = not_below-place position item xs le small (All-tail (λ y. y.offset < 256) x xs offsets) in
-          ap (not_below position) (place_behind item x xs ge)
+          ap (not_below position) (place_following item x xs ge)
           ∙ elim (nat_le position x.end)
           as (λ t. cond t (x ∷ not_below position (place item xs)) (not_below position (place item xs))
           ≡ place item (cond t (x ∷ not_below position xs) (not_below position xs)))
-          [ true ↦ ap (λ t. x ∷ t) step ∙ sym (place_behind item x (not_below position xs) ge) | false ↦ step ]
+          [ true ↦ ap (λ t. x ∷ t) step ∙ sym (place_following item x (not_below position xs) ge) | false ↦ step ]
     ]
 
 -- what is kept at a later position is what would be kept of all

@@ -5,7 +5,7 @@ use Rattle.frame_merge.proofs.Common.{IsNonDecreasingBy, append_snoc, cases_lt, 
 use Rattle.frame_merge.proofs.Common.{append-nil, All-cons, All-head, All-tail, All-nil, All-weaker, Candidate}
 use Rattle.frame_merge.proofs.Common.{standing, place, repeats, merged_after, below, between}
 use Rattle.std.proofs.Common.{◌*◌}
-use Rattle.frame_merge.proofs.Ordering.{place_here, place_behind, rising_tail, rising_head, rising_cons}
+use Rattle.frame_merge.proofs.Ordering.{place_here, place_following, rising_tail, rising_head, rising_cons}
 
 -- merging goes along a list: what comes later is compared with all that came before
 pub merged_after-append : (earlier xs ys : List Candidate)
@@ -95,7 +95,7 @@ below_place position item earlier (x ∷ xs) le h small =
     elim (cases_lt (standing item) (standing x)) [
       | inl lt ↦
           let x_small : x.offset < 256 = All-head (λ y. y.offset < 256) x xs small in
-          let later : All P xs = late_behind position x xs (omega arith) (rising_head standing x xs h)
+          let later : All P xs = late_after position x xs (omega arith) (rising_head standing x xs h)
           (All-tail (λ y. y.offset < 256) x xs small) in
           let all : All P (x ∷ xs) = All-cons P x xs (omega arith) later in
           ap (λ t. below position (merged_after earlier t)) (place_here item x xs lt)
@@ -106,7 +106,7 @@ below_place position item earlier (x ∷ xs) le h small =
           ≡ below position (merged_after (earlier ++ x ∷ []) xs)
           = below_place position item (earlier ++ x ∷ []) xs le (rising_tail standing x xs h)
           (All-tail (λ y. y.offset < 256) x xs small) in
-          ap (λ t. below position (merged_after earlier t)) (place_behind item x xs ge)
+          ap (λ t. below position (merged_after earlier t)) (place_following item x xs ge)
           ∙ elim (list_any (repeats x) earlier)
           as (λ t. below position (if t then merged_after (earlier ++ x ∷ []) (place item xs)
           else x ∷ merged_after (earlier ++ x ∷ []) (place item xs))
@@ -115,6 +115,6 @@ below_place position item earlier (x ∷ xs) le h small =
           [ true ↦ step | false ↦ ap (λ t. cond (nat_lt x.end position) (x ∷ t) t) step ]
     ]
   where
-    late_behind : (position : ℕ) (x : Candidate) (xs : List Candidate) → 256 * position ≤ standing x
+    late_after : (position : ℕ) (x : Candidate) (xs : List Candidate) → 256 * position ≤ standing x
         → All (λ y. standing x ≤ standing y) xs → All (λ y. y.offset < 256) xs → All (λ y. position ≤ y.end) xs
-    late_behind position x xs le h small k d kl = let a = h k d kl in let b = small k d kl in omega arith
+    late_after position x xs le h small k d kl = let a = h k d kl in let b = small k d kl in omega arith

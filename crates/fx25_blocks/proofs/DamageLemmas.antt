@@ -97,7 +97,7 @@ module _ (word block : List ℕ) (start count : ℕ) (fit : All (λ octet. octet
       place : (j k : ℕ) → (8 * j + 8 ≤ start) ⊎ (start + count ≤ 8 * j) → k < 8
           → (8 * j + k < start) ⊎ (start + count ≤ 8 * j + k)
       place j k (inl before) inside = inl (omega arith)
-      place j k (inr behind) inside = inr (omega arith)
+      place j k (inr following) inside = inr (omega arith)
 
       past_end : (xs : List ℕ) (j : ℕ) → length xs ≤ j → get_or xs j 0 ≡ 0
       past_end [] j most = refl
@@ -114,4 +114,4 @@ module _ (word block : List ℕ) (start count : ℕ) (fit : All (λ octet. octet
       octet_outside : (j : ℕ) → (j < start / 8) ⊎ ((start + count + 7) / 8 ≤ j)
           → (8 * j + 8 ≤ start) ⊎ (start + count ≤ 8 * j)
       octet_outside j (inl before) = inl (omega arith)
-      octet_outside j (inr behind) = inr (omega arith)
+      octet_outside j (inr following) = inr (omega arith)

@@ -57,7 +57,7 @@ run_flag (suc (suc (suc (suc (suc (suc (suc zero))))))) n few below = (omega ari
 run_flag (suc (suc (suc (suc (suc (suc (suc (suc j)))))))) n few below = absurd (omega arith)
 
 module _ (bits : List Bool) where
-  -- a run of six ends in front of the last bit of the flag behind stuffed bits, and nowhere before
+  -- a run of six ends in front of the last bit of the flag after stuffed bits, and nowhere before
   run_before : (k : ℕ) → k < length (stuffed bits) + 8
       → (run 0 (take k (stuffed bits ++ flag)) ≤ 6)
       × (run 0 (take k (stuffed bits ++ flag)) ≡ 6 → k ≡ length (stuffed bits) + 7)

@@ -57,29 +57,29 @@ module _ (frame : List ℕ) (rest : List Bool) (is_frame : IsFrame frame) where
   same_flags (x ∷ xs) (suc count) zero fit leading e =
       let first : x ≡ 126 = leading.are_flags 0 (omega arith) in
       let here : octet_bits x ≡ flag = ap octet_bits first ∙ flag_octet in
-      let behind : sent_bits xs ≡ frame_bits frame ++ (flag ++ rest) =
+      let following : sent_bits xs ≡ frame_bits frame ++ (flag ++ rest) =
       append_cancel_left flag _ _ (ap (λ ys. ys ++ sent_bits xs) (sym here) ∙ e) in
-      no_more count xs (leading_tail count x xs leading) behind
+      no_more count xs (leading_tail count x xs leading) following
     where
       no_more : (count : ℕ) (xs : List ℕ) → Leading count xs → sent_bits xs ≡ frame_bits frame ++ (flag ++ rest)
           → (suc count ≡ 1) × (sent_bits (drop count xs) ≡ frame_bits frame ++ (flag ++ rest))
-      no_more zero xs leading behind = (refl, behind)
-      no_more (suc n) xs leading behind =
+      no_more zero xs leading following = (refl, following)
+      no_more (suc n) xs leading following =
           absurd (frame_no_flag frame (flag ++ rest) (flags n ++ sent_bits (drop (suc n) xs)) is_frame
-          (sym behind ∙ leading_bits xs (suc n) leading ∙ append_assoc flag (flags n) (sent_bits (drop (suc n) xs))))
+          (sym following ∙ leading_bits xs (suc n) leading ∙ append_assoc flag (flags n) (sent_bits (drop (suc n) xs))))
   same_flags (x ∷ xs) (suc count) (suc more) fit leading e =
       let first : x ≡ 126 = leading.are_flags 0 (omega arith) in
       let here : octet_bits x ≡ flag = ap octet_bits first ∙ flag_octet in
-      let behind : sent_bits xs ≡ flags more ++ (flag ++ (frame_bits frame ++ (flag ++ rest))) =
+      let following : sent_bits xs ≡ flags more ++ (flag ++ (frame_bits frame ++ (flag ++ rest))) =
       append_cancel_left flag _ _ (ap (λ ys. ys ++ sent_bits xs) (sym here) ∙ e
       ∙ append_assoc flag (flags more) (flag ++ (frame_bits frame ++ (flag ++ rest)))) in
-      let same = same_flags xs count more (All-tail (λ y. y < 256) x xs fit) (leading_tail count x xs leading) behind in
+      let same = same_flags xs count more (All-tail (λ y. y < 256) x xs fit) (leading_tail count x xs leading) following in
       (ap suc same.0, same.1)
 
-pub begins_behind : (octets : List ℕ) (count : ℕ) (frame : List ℕ) (over : ℕ) → All (λ octet. octet < 256) octets
+pub begins_after : (octets : List ℕ) (count : ℕ) (frame : List ℕ) (over : ℕ) → All (λ octet. octet < 256) octets
     → Leading count octets → OpensWithFrame (sent_bits octets) frame over
     → (0 < count) × BeginsWithFrame (sent_bits (drop count octets)) frame (over - 8 * count)
-begins_behind octets count frame over fit leading opens =
+begins_after octets count frame over fit leading opens =
     let same = same_flags frame opens.rest opens.is_frame octets count opens.flags_before fit leading
     opens.bits_are in (
       omega (arith, same.0),

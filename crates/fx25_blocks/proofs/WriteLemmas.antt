@@ -23,7 +23,7 @@ length-padded frame count = omega (
   length-flags count,
 )
 
--- more flags behind the frame change none of the first bits
+-- more flags after the frame change none of the first bits
 pub padded_front : (frame : List ℕ) (count more : ℕ) → count ≤ more
     → take (8 * count) (padded frame more) ≡ take (8 * count) (padded frame count)
 unfolding padded

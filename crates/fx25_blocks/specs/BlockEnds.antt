@@ -24,7 +24,7 @@ pub record IsRepairOf (tag : ℕ) (word codeword : List ℕ) : Type 0 where
   pub is_codeword : IsBlockCodeword tag codeword
   pub near : 2 * distance word codeword ≤ check_count tag
 
--- Bits are those of a word near enough to a codeword whose data octets open with a frame. The flag behind the frame is
+-- Bits are those of a word near enough to a codeword whose data octets open with a frame. The flag after the frame is
 -- over after so many bits.
 pub record CarriesFrame (tag : ℕ) (bits : List Bool) (frame : List ℕ) (over : ℕ) : Type 0 where
   pub word : List ℕ

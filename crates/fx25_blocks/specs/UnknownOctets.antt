@@ -17,7 +17,7 @@ pub record IsRepairOutside (tag : ℕ) (unknown : List Bool) (word codeword : Li
   pub near : count_true unknown + 2 * distance_outside unknown word codeword ≤ check_count tag
 
 -- With its least sure octets taken as unknown, so many, a word is near enough to a codeword whose data octets open with
--- a frame. The flag behind the frame is over after so many bits.
+-- a frame. The flag after the frame is over after so many bits.
 pub record CarriesWithUnknown (tag count : ℕ) (word certainty frame : List ℕ) (over : ℕ) : Type 0 where
   pub unknown : List Bool
   pub codeword : List ℕ

@@ -22,7 +22,7 @@ use tnc_base::{Octets, OutOfMemory};
 // The most data octets that follow a tag.
 const MOST_DATA: u16 = 239;
 
-// How many bits of flags behind a frame are more than the one flag that it needs.
+// How many bits of flags after a frame are more than the one flag that it needs.
 const MORE_FLAG_BITS: usize = 1904;
 
 /// The tag and the block of a frame, bit by bit, with so many check octets: 16, 32 or 64, and the fewest data octets

@@ -23,7 +23,7 @@ const FLAG: u8 = 0x7E;
 pub struct BlockFrame {
     /// The octets of the frame, without its check sequence.
     pub octets: ArrayVec<u8, MOST_FRAME_LENGTH>,
-    /// After how many bits of the block the flag behind the frame is over.
+    /// After how many bits of the block the flag after the frame is over.
     pub over: usize,
 }
 

@@ -114,7 +114,7 @@ module _ (bits : List Bool) where
   abbrev pub Opens : Type 0
   Opens = (frame : List ℕ) × (over : ℕ) × OpensWithFrame bits frame over
 
-  -- after so many flags, and with the flag behind the frame over after so many bits
+  -- after so many flags, and with the flag after the frame over after so many bits
   abbrev OpensAt : ℕ → ℕ → Type 0
   OpensAt over count = (frame : List ℕ) × EndsFrame (take over bits) frame
       × (take over bits ≡ flags count ++ (flag ++ (frame_bits frame ++ flag)))

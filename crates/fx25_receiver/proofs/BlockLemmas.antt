@@ -4,7 +4,7 @@ use Rattle.fx25_receiver.proofs.Common.{◌∙◌, subst, arith, append-nil, app
 use Rattle.std.proofs.Common.{length-drop}
 use Rattle.std.proofs.Math.Seq.{take-add}
 use Rattle.std.proofs.lemmas.List.{drop-drop, drop-take, drop_at, length-take-le, take-append-drop, take-take, take_at}
-use Rattle.slicer_bank.proofs.SevenLemmas.{last_seven-append, length-last_seven, seven_behind_first}
+use Rattle.slicer_bank.proofs.SevenLemmas.{last_seven-append, length-last_seven, seven_after_first}
 use Rattle.fx25_receiver.proofs.Common.{HeldLane, Keeps, last_seven}
 use Rattle.fx25_receiver.proofs.Common.{Bool}
 use Rattle.fx25_receiver.proofs.AheadLemmas.{all_caught_up}
@@ -220,7 +220,7 @@ second_piece was now x block before given more long slid taken =
     let whole : (x ++ take 7 block) ++ drop 7 block ≡ x ++ block = append_assoc x (take 7 block) (drop 7 block)
     ∙ ap (λ ys. x ++ ys) (take-append-drop 7 block) in
     subst (λ z. HasTaken now z (before ++ more)) whole
-    (slid (x ++ take 7 block) before (sym (seven_behind_first x block long)) taken)
+    (slid (x ++ take 7 block) before (sym (seven_after_first x block long)) taken)
 
 -- what is past was forgotten
 pub fewer_kept : (lanes : List HeldLane) (position : ℕ) (kept fewer : List Heard) (x : List ℤ)

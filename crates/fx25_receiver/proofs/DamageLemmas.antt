@@ -148,7 +148,7 @@ module _ (start count : ℕ) (x sent : List ℤ) (differ : DifferInStretch start
       (within : index < length (bits lane sent))
       (is : take (index + 1) (bits lane sent) ≡ before ++ (heard ++ sent_bits block)) (tag_size : length heard ≡ 64)
       (size : length block ≡ block_length tag) (fit : All (λ octet. octet < 256) block)
-      (behind : lane + 8 * (length before + 64) ≤ start) (few : count + 71 ≤ 32 * check_count tag) where
+      (following : lane + 8 * (length before + 64) ≤ start) (few : count + 71 ≤ 32 * check_count tag) where
     front : List Bool
     front = before ++ heard
 
@@ -205,7 +205,7 @@ module _ (start count : ℕ) (x sent : List ℤ) (differ : DifferInStretch start
         ext_get_or false (take p line) front (omega (arith, n, length-line, length-front, count_is))
         (λ i below.
         let inside : i < p = omega (arith, n) in
-        get_or-take p line i false inside ∙ line_bit i (omega (arith, count_is, inside)) (inl (omega (arith, behind, inside)))
+        get_or-take p line i false inside ∙ line_bit i (omega (arith, count_is, inside)) (inl (omega (arith, following, inside)))
         ∙ get_or_append_left front (sent_bits block) false i (omega (arith, length-front)))
 
     length-tail : length tail ≡ 8 * length block
@@ -237,7 +237,7 @@ module _ (start count : ℕ) (x sent : List ℤ) (differ : DifferInStretch start
             ⊎ ((start - lane) / 8 - (length before + 64) + ((count + 6) / 8 + 2) ≤ i)
             → IsOutside (length before + 64 + i)
         placed (inl below) = inl (omega arith)
-        placed (inr above) = inr (omega (arith, behind, above))
+        placed (inr above) = inr (omega (arith, following, above))
 
     pub few_wrong : 2 * distance word.0 block ≤ check_count tag
     few_wrong = omega (

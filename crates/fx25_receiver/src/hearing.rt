@@ -157,7 +157,7 @@ fn hear_block(
 fn plain_end(end: u64, over: usize, octets: usize) -> u64
     ensures { over ≤ 8 * octets → 64 * octets ≤ end → result + 8 * (8 * octets) ≡ end + 8 * over }
 {
-    let behind = (octets as u64).saturating_mul(64);
+    let following = (octets as u64).saturating_mul(64);
     let before = (over as u64).saturating_mul(8);
-    end.saturating_sub(behind).saturating_add(before)
+    end.saturating_sub(following).saturating_add(before)
 }

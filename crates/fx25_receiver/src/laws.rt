@@ -58,7 +58,7 @@ pub fn near_blocks_are_heard()
         → other.lane ≡ item.lane → other.tag ≡ item.tag → item ≡ other }
 {}
 
-/// If a block comes in samples whose bits are those of a frame's block behind a tag of which at most 12 bits are wrong,
+/// If a block comes in samples whose bits are those of a frame's block after a tag of which at most 12 bits are wrong,
 /// then any one stretch of at most 32c - 71 samples among its data and check octets may be anything, c being the number
 /// of its check octets: the frame is heard all the same. So 441, 953 or 1977 samples may be lost, which are 46, 99 or
 /// 206 milliseconds.

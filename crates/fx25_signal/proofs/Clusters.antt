@@ -72,9 +72,9 @@ or_true false = refl
 -- two items of one cluster: the later one repeats the earlier
 repeats_last : (place : ℕ) (c : Cluster) (item earlier : Heard) (before : List Heard) → IsBehind place c
     → IsIn c earlier → IsIn c item → list_any (repeats item) (before ++ earlier ∷ []) ≡ true
-repeats_last place c item earlier before behind first second =
-    let narrow = behind.narrow in
-    let short = behind.short in
+repeats_last place c item earlier before following first second =
+    let narrow = following.narrow in
+    let short = following.short in
     let low_first = first.low in
     let high_first = first.high in
     let waits = first.waits in
@@ -148,11 +148,11 @@ have_one_later item items place (c ∷ cs) early apart has =
     )
 
 -- no item that ends after a cluster is in it, nor any that follows
-none_behind : (items : List Heard) (from : ℕ) (c : Cluster) → c.last < from → Rising from items → ¬ HasOne items c
-none_behind [] from c late rising has = has
-none_behind (item ∷ items) from c late rising (inl is) = omega (arith, rising.0, is.last)
-none_behind (item ∷ items) from c late rising (inr has) =
-    none_behind items item.end c (omega (arith, rising.0)) rising.1 has
+none_after : (items : List Heard) (from : ℕ) (c : Cluster) → c.last < from → Rising from items → ¬ HasOne items c
+none_after [] from c late rising has = has
+none_after (item ∷ items) from c late rising (inl is) = omega (arith, rising.0, is.last)
+none_after (item ∷ items) from c late rising (inr has) =
+    none_after items item.end c (omega (arith, rising.0)) rising.1 has
 
 -- ---- what is known of the items that are left
 
@@ -168,18 +168,18 @@ known_kept before place cs item (next ∷ items) known = (kept known.0, known_ke
 -- the first cluster to come becomes the one under way with its first item
 known_next : (before : List Heard) (place : ℕ) (c : Cluster) (cs : List Cluster) (item : Heard) (items : List Heard)
     → IsBehind place c → IsIn c item → Known before place (c ∷ cs) items → Known (before ++ item ∷ []) c.last cs items
-known_next before place c cs item [] behind is known = tt
-known_next before place c cs item (next ∷ items) behind is known =
-    (now known.0, known_next before place c cs item items behind is known.1)
+known_next before place c cs item [] following is known = tt
+known_next before place c cs item (next ∷ items) following is known =
+    (now known.0, known_next before place c cs item items following is known.1)
   where
     now : IsKnown before place (c ∷ cs) next → IsKnown (before ++ item ∷ []) c.last cs next
     now (inl old) =
         inl (
           old.0,
-          omega (arith, old.1, behind.far, behind.rising),
+          omega (arith, old.1, following.far, following.rising),
           repeats_more next before (item ∷ []) old.2,
         )
-    now (inr (inl in_it)) = inl (in_it.waits, in_it.last, repeats_last place c next item before behind is in_it)
+    now (inr (inl in_it)) = inl (in_it.waits, in_it.last, repeats_last place c next item before following is in_it)
     now (inr (inr later)) = inr later
 
 -- ---- the theorem
@@ -244,7 +244,7 @@ keeps_cons item items rest before place from (c ∷ cs) below rising known apart
         (have_one_later item items c.last cs is.last apart.1 has.1))
     by_first (inr (inr later)) =
         let far = later_end c.last cs item apart.1 later in
-        absurd (none_behind (item ∷ items) item.end c (omega (arith, far.0, far.1)) (omega arith, rising.1) has.0)
+        absurd (none_after (item ∷ items) item.end c (omega (arith, far.0, far.1)) (omega arith, rising.1) has.0)
 
 pub merge_keeps : (items : List Heard) → Keeps items
 merge_keeps [] = keeps_nil

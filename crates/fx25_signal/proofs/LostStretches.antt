@@ -68,8 +68,8 @@ module _ (low high : ℕ) (x sent : List ℤ) (size : length x ≡ length sent) 
       ∙ get_or-take (high - low) (drop low x) j d (omega arith) ∙ get_or-drop low x j d
       ∙ ap (λ k. get_or x k d) (sym at)
 
-  mixed_behind : (i : ℕ) (d : ℤ) → high ≤ i → get_or (mixed low high x sent) i d ≡ get_or sent i d
-  mixed_behind i d least =
+  mixed_after : (i : ℕ) (d : ℤ) → high ≤ i → get_or (mixed low high x sent) i d ≡ get_or sent i d
+  mixed_after i d least =
       let j : ℕ = i - high in
       let at : i ≡ low + ((high - low) + j) = omega arith in
       let there : high + j ≡ i = omega arith in
@@ -126,12 +126,12 @@ block_comes unit stretch y sent right block lost differ =
     let tag_size = length-tag_bits unit.tag in
     let octets = block.block_of.octets in
     let start = lost.after_tag in
-    let behind : lane + 8 * (length before + 64) ≤ stretch.start = omega arith in
+    let following : lane + 8 * (length before + 64) ≤ stretch.start = omega arith in
     let found = word stretch.start stretch.count y sent differ lane index unit.tag before heard block.block block.is_tag inside
-    is tag_size block.block_of.size octets behind lost.short in
+    is tag_size block.block_of.size octets following lost.short in
     let bits_y : take (index + 1) (bits lane y) ≡ before ++ (heard ++ sent_bits found.0) =
     bits_are stretch.start stretch.count y sent differ lane index unit.tag before heard block.block block.is_tag inside
-    is tag_size block.block_of.size octets behind lost.short in
+    is tag_size block.block_of.size octets following lost.short in
     let came : bits_at y unit ≡ heard ++ sent_bits found.0 =
     sym (drop-take q n (bits lane y)) ∙ ap (λ m. drop q (take m (bits lane y))) next ∙ ap (drop q) bits_y
     ∙ drop_at before (heard ++ sent_bits found.0) q count in
@@ -150,7 +150,7 @@ block_comes unit stretch y sent right block lost differ =
             block_of = block.block_of;
             size = found.1;
             few_wrong = few_wrong stretch.start stretch.count y sent differ lane index unit.tag before heard block.block
-                block.is_tag inside is tag_size block.block_of.size octets behind lost.short;
+                block.is_tag inside is tag_size block.block_of.size octets following lost.short;
           });
     }
 
@@ -200,7 +200,7 @@ unit_comes unit stretch x sent size right lost alone =
         | inr after ↦ elim (cases_lt i high) [
           | inl inside ↦ mixed_within low high x sent size rises within i d after inside
               ∙ alone i d after inside outside
-          | inr behind ↦ mixed_behind low high x sent size rises within i d behind
+          | inr following ↦ mixed_after low high x sent size rises within i d following
         ]
       ];
     } in

@@ -130,22 +130,22 @@ all_have_one x heard (unit ∷ units) are come =
 abbrev IsSmall : Heard → Type 0
 IsSmall item = (item.lane < 8) × (item.tag < 12)
 
-rising_behind : (item : Heard) (items : List Heard) → AllPairs (λ a b. standing a < standing b) (item ∷ items)
+rising_following : (item : Heard) (items : List Heard) → AllPairs (λ a b. standing a < standing b) (item ∷ items)
     → All IsSmall (item ∷ items) → Rising item.end items
-rising_behind item [] order small = tt
-rising_behind item (next ∷ items) order small =
+rising_following item [] order small = tt
+rising_following item (next ∷ items) order small =
     let less = order 0 1 item (omega arith) (omega arith) in
     let here = small 1 item (omega arith) in
     let lane = here.0 in
     let tag = here.1 in (
       omega arith,
-      rising_behind next items (λ i j d ij jl. order (suc i) (suc j) d (omega arith) (omega arith))
+      rising_following next items (λ i j d ij jl. order (suc i) (suc j) d (omega arith) (omega arith))
           (All-tail IsSmall item (next ∷ items) small),
     )
 
 rising : (items : List Heard) → AllPairs (λ a b. standing a < standing b) items → All IsSmall items → Rising 0 items
 rising [] order small = tt
-rising (item ∷ items) order small = (omega arith, rising_behind item items order small)
+rising (item ∷ items) order small = (omega arith, rising_following item items order small)
 
 -- ---- the law
 

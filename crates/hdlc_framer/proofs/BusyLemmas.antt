@@ -45,7 +45,7 @@ last_flag bits (suc place) within =
         end = suc place;
         within = omega arith;
         flag = subst EndsFlag (sym more) here;
-        last = λ later behind early. absurd (omega arith);
+        last = λ later following early. absurd (omega arith);
       })
       | inr none ↦
           let not_here : (end : ℕ) → end ≡ suc place → ¬ EndsFlag (take end bits)
@@ -59,18 +59,18 @@ last_flag bits (suc place) within =
               end = old.end;
               within = (let early = old.within in omega arith);
               flag = old.flag;
-              last = λ later behind early ends. elim (cases_lt place later) [
+              last = λ later following early ends. elim (cases_lt place later) [
                 | inl past ↦ not_here later (omega arith) ends
-                | inr before ↦ old.last later behind before ends
+                | inr before ↦ old.last later following before ends
               ];
             })
           ]
     ]
 
 -- 10,000 bits after the last flag a carrier is lost
-lost_behind : (bits : List Bool) (old : LastFlag bits (length bits)) → old.end + 10000 ≤ length bits
+lost_after : (bits : List Bool) (old : LastFlag bits (length bits)) → old.end + 10000 ≤ length bits
     → IsLost (take (length bits) bits)
-lost_behind bits old long =
+lost_after bits old long =
     let quiet : IsQuiet bits = λ k few ends. old.last (length bits - k) (omega arith) (omega arith) ends in
     subst IsLost (sym (take_all (length bits) bits (omega arith))) (inr quiet)
 
@@ -85,10 +85,10 @@ busy_of_held bits held =
             within = old.within;
             flag = old.flag;
             last = old.last;
-            no_abort = λ later behind early abort. held.kept later (omega arith) early (inl abort);
+            no_abort = λ later following early abort. held.kept later (omega arith) early (inl abort);
             fewer = elim (cases_lt (length bits) (old.end + 10000)) [
               | inl few ↦ few
-              | inr long ↦ absurd (held.kept (length bits) (omega arith) (omega arith) (lost_behind bits old long))
+              | inr long ↦ absurd (held.kept (length bits) (omega arith) (omega arith) (lost_after bits old long))
             ];
           }
     ]
@@ -104,12 +104,12 @@ held_of_busy bits busy = record {
   place = busy.place;
   within = busy.within;
   found = busy.flag;
-  kept = λ later behind early lost. not_lost later behind early lost;
+  kept = λ later following early lost. not_lost later following early lost;
 }
   where
     not_lost : (later : ℕ) → busy.place < later → later ≤ length bits → ¬ IsLost (take later bits)
-    not_lost later behind early (inl abort) = busy.no_abort later behind early abort
-    not_lost later behind early (inr quiet) =
+    not_lost later following early (inl abort) = busy.no_abort later following early abort
+    not_lost later following early (inr quiet) =
         let fewer = busy.fewer in
         let size : length (take later bits) ≡ later = length-take-le later bits early in
         let place : length (take later bits) - (later - busy.place) ≡ busy.place = omega arith in

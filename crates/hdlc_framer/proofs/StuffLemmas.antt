@@ -49,15 +49,15 @@ pub joined-push : (frames : List (List ℕ)) (octets : List ℕ)
     → joined (frames ++ octets ∷ []) ≡ joined frames
     ++ (cond (eqb (length frames) 0) (frame_bits octets) (flag ++ frame_bits octets))
 joined-push [] octets = refl
-joined-push (first ∷ frames) octets = behind first frames octets
+joined-push (first ∷ frames) octets = following first frames octets
     ∙ ap (λ t. joined (first ∷ frames) ++ cond t (frame_bits octets) (flag ++ frame_bits octets))
     (sym (ne_eqb (length (first ∷ frames)) 0 (omega arith)))
   where
-    behind : (first : List ℕ) (frames : List (List ℕ)) (octets : List ℕ)
+    following : (first : List ℕ) (frames : List (List ℕ)) (octets : List ℕ)
         → joined ((first ∷ frames) ++ octets ∷ []) ≡ joined (first ∷ frames) ++ (flag ++ frame_bits octets)
-    behind first [] octets = refl
-    behind first (next ∷ frames) octets =
-        ap (λ xs. frame_bits first ++ (flag ++ xs)) (behind next frames octets)
+    following first [] octets = refl
+    following first (next ∷ frames) octets =
+        ap (λ xs. frame_bits first ++ (flag ++ xs)) (following next frames octets)
         ∙ ap (λ xs. frame_bits first ++ xs)
         (sym (append_assoc flag (joined (next ∷ frames)) (flag ++ frame_bits octets)))
         ∙ sym (append_assoc (frame_bits first) (flag ++ joined (next ∷ frames)) (flag ++ frame_bits octets))

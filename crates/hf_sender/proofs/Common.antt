@@ -2,7 +2,7 @@
 pub use Rattle.afsk_modulator.proofs.LevelLemmas.{unsigned_abs-sample_at}
 unfoldable pub use Rattle.afsk_modulator.specs.Level.{at_level, sample_at}
 pub use Rattle.afsk_modulator.specs.Modulation.{Modulation}
-pub use Rattle.hf_sender.specs.Modulation.{hf_behind, hf_start, hf_window}
+pub use Rattle.hf_sender.specs.Modulation.{hf_after, hf_start, hf_window}
 pub use Rattle.hf_sender.specs.Tones.{next_phase, phase_step}
 unfoldable pub use Rattle.hf_sender.specs.Transmission.{hf_transmission}
 unfoldable pub use Rattle.hf_sender.specs.Wave.{pure_window}

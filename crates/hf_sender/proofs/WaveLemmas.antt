@@ -4,7 +4,7 @@ use Rattle.hf_sender.proofs.Common.{unsigned_abs, FitsSigned, to_z, of_z, append
 use Rattle.hf_sender.proofs.Common.{range_with_len, ints, to_z-of_z, append-nil, take_more_set, take_all, w16, Tone}
 use Rattle.hf_sender.proofs.Common.{cycle_sample, wave_sample, sample_at, at_level, phase_step, next_phase, pure_window}
 use Rattle.hf_sender.proofs.Common.{wave, wave_from, phase_from, length-append, Modulation, hf_start, hf_window}
-use Rattle.hf_sender.proofs.Common.{hf_behind}
+use Rattle.hf_sender.proofs.Common.{hf_after}
 use Rattle.std.proofs.Common.{map, zero-add}
 use Rattle.std.proofs.lemmas.List.FromFn.{map-range_with_len_more}
 use Rattle.std.proofs.Math.Nat.{mod-mod}
@@ -27,10 +27,10 @@ wave_from-append phase (t ∷ ts) us =
     (wave_from (phase_from (next_phase phase t) ts) us))
 
 -- where a wave goes on after one tone more
-pub hf_behind-push : (start : Modulation) (tones : List Tone) (tone : Tone) (now : Modulation)
-    → now ≡ hf_behind start tones → hf_behind now (tone ∷ []) ≡ hf_behind start (tones ++ tone ∷ [])
-hf_behind-push start tones tone now at =
-    ap (λ m. hf_behind m (tone ∷ [])) at
+pub hf_after-push : (start : Modulation) (tones : List Tone) (tone : Tone) (now : Modulation)
+    → now ≡ hf_after start tones → hf_after now (tone ∷ []) ≡ hf_after start (tones ++ tone ∷ [])
+hf_after-push start tones tone now at =
+    ap (λ m. hf_after m (tone ∷ [])) at
     ∙ ap (λ phase. record start { phase = phase }) (sym (phase_from-append start.phase tones (tone ∷ [])))
 
 -- the wave of two lists of tones, one after the other, at a level
@@ -40,7 +40,7 @@ wave-append level ts us =
     ap (at_level level) (wave_from-append 0 ts us) ∙ at_level-append level (wave ts) (wave_from (phase_from 0 ts) us)
 
 -- the wave of one tone more, at a level
-pub wave-push : (level : ℕ) (tones : List Tone) (tone : Tone) (now : Modulation) → now ≡ hf_behind (hf_start level) tones
+pub wave-push : (level : ℕ) (tones : List Tone) (tone : Tone) (now : Modulation) → now ≡ hf_after (hf_start level) tones
     → at_level level (wave (tones ++ tone ∷ [])) ≡ at_level level (wave tones) ++ hf_window now tone
 wave-push level tones tone now at =
     wave-append level tones (tone ∷ [])

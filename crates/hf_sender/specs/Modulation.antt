@@ -14,5 +14,5 @@ abbrev pub hf_window : Modulation → Tone → List ℤ
 hf_window m tone = at_level m.level (pure_window m.phase tone)
 
 -- how it goes on after some tones
-abbrev pub hf_behind : Modulation → List Tone → Modulation
-hf_behind m tones = record m { phase = phase_from m.phase tones }
+abbrev pub hf_after : Modulation → List Tone → Modulation
+hf_after m tones = record m { phase = phase_from m.phase tones }

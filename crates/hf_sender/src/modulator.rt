@@ -3,7 +3,7 @@ ghost use Rattle.std.specs.Prelude.{◌≡◌, ◌<◌, ◌≤◌, [], ◌∷◌
 ghost use Rattle.tone_table.specs.declared.tone.Tone.{Tone};
 ghost use Rattle.afsk_modulator.specs.Level.{sample_at, at_level};
 ghost use Rattle.afsk_modulator.specs.Modulation.{Modulation, IsLevel};
-ghost use Rattle.hf_sender.specs.Modulation.{hf_start, hf_window, hf_behind};
+ghost use Rattle.hf_sender.specs.Modulation.{hf_start, hf_window, hf_after};
 ghost use Rattle.hf_sender.specs.Tones.{phase_step};
 ghost use Rattle.hf_sender.specs.Wave.{pure_window};
 
@@ -44,7 +44,7 @@ impl HfModulator {
     /// The window of the next tone, which begins at the phase where the window before ended.
     pub fn next(&mut self, tone: Tone) -> [i16; 32]
         ensures window { result ≡ hf_window self.old tone }
-        ensures phase { self.new ≡ hf_behind self.old (tone ∷ []) }
+        ensures phase { self.new ≡ hf_after self.old (tone ∷ []) }
     {
         let window = window(self.phase, self.level, tone);
         self.phase = (self.phase + 32 * step(tone)) % 48;

@@ -66,12 +66,12 @@ module _ (x y : List ℤ) (candidates found added : List Candidate) (are : AreHe
   -- nothing new stands as what was heard before
   apart_before : (item old : Candidate) → IsHeard x old → IsCandidate (x ++ y) item → length x < end_sample item
       → standing old ≢ standing item
-  apart_before item old (inl h) new_one behind same =
+  apart_before item old (inl h) new_one following same =
       let within = end_within x old h in
       let a = h.offset in
       let b = new_one.offset in
       omega arith
-  apart_before item old (inr h) new_one behind same =
+  apart_before item old (inr h) new_one following same =
       let least = h.ends.least in
       let most = h.ends.most in
       let small = new_one.offset in
@@ -109,8 +109,8 @@ module _ (x y : List ℤ) (candidates found added : List Candidate) (are : AreHe
     where
       member : (item : Candidate) → IsHeard (x ++ y) item → Contains (candidates ++ (found ++ added)) item
       member item (inl h) = elim (cases_lt (length x) (end_sample item)) [
-        | inl behind ↦ Contains-append_right candidates (found ++ added) item
-            (Contains-append_left found added item (new.whole item h behind))
+        | inl following ↦ Contains-append_right candidates (found ++ added) item
+            (Contains-append_left found added item (new.whole item h following))
         | inr before ↦ Contains-append_left candidates (found ++ added) item
             (are.whole item (inl (candidate_less x y item h before)))
       ]
@@ -121,9 +121,9 @@ module _ (x y : List ℤ) (candidates found added : List Candidate) (are : AreHe
               decided = before;
               ends = ends-take x y item h.place before h.ends;
             })))
-        | inr behind ↦ Contains-append_right candidates (found ++ added) item
+        | inr following ↦ Contains-append_right candidates (found ++ added) item
             (Contains-append_right found added item (late.whole item h.place (record {
-              from_place = behind;
+              from_place = following;
               to_place = h.decided;
               from_lane = h.ends.least;
               to_lane = h.ends.most;
@@ -134,7 +134,7 @@ module _ (x y : List ℤ) (candidates found added : List Candidate) (are : AreHe
   pub rest_late : All (λ item. settled (length x) ≤ item.end) (found ++ added)
   rest_late =
       All-append (λ item. settled (length x) ≤ item.end) found added
-      (λ k d l. let n = new.each k d l in let behind = n.1 in omega arith)
+      (λ k d l. let n = new.each k d l in let following = n.1 in omega arith)
       (λ k d l. let n = late.each k d l in let from = n.1.from_place in let end = n.2.end_of in
       let delay = delay_small (get_or added k d).offset in omega arith)
 

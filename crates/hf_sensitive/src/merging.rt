@@ -17,7 +17,7 @@ use frame_merge::{Candidate, Merger};
 use hf_modem::SAMPLES_AN_END;
 use tnc_base::OutOfMemory;
 
-/// How far behind the last sample the added lanes hear, in fours of samples: no candidate to come ends lower.
+/// How far after the last sample the added lanes hear, in fours of samples: no candidate to come ends lower.
 pub const BEHIND: u64 = 17;
 
 /// Gives what the 32 lanes and the added ones heard in a block of `count` samples to a merger of all of them, which had

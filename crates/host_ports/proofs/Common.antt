@@ -1,5 +1,5 @@
 -- The names that most proofs of this crate cite, passed on from one place.
-pub use Rattle.station.specs.Held.{ids_behind, ids_of}
+pub use Rattle.station.specs.Held.{ids_after, ids_of}
 pub use Rattle.station.specs.Host.{IsHostTurn}
 pub use Rattle.station.specs.State.{StationState}
 pub use Rattle.station.specs.Turn.{Out, Turn}
@@ -47,7 +47,7 @@ pub use Rattle.host_ports.specs.Scripts.{shut_one, waiting_of, was_shut, with_sh
 pub use Rattle.host_ports.specs.SentSoFar.{IsOrderly, octets_for}
 pub use Rattle.host_ports.specs.Sockets.{IsWholePiece, MayCome, Poll, Send, has_come, has_dialed, is_joining_of}
 pub use Rattle.host_ports.specs.Sockets.{is_octets_of}
-pub use Rattle.host_ports.specs.Waiting.{after_sending, behind, cut, front_of, most_octets, octets_of, with_piece}
+pub use Rattle.host_ports.specs.Waiting.{after_sending, following, cut, front_of, most_octets, octets_of, with_piece}
 pub use Rattle.host_ports.specs.declared.host_parts.HostParts.{HostParts}
 pub use Rattle.host_ports.specs.declared.line.Line.{Line}
 pub use Rattle.host_ports.specs.declared.report_line.ReportLine.{ReportLine}

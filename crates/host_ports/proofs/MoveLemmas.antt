@@ -1,7 +1,7 @@
 -- What the parts stand for, step by step.
 use Rattle.host_ports.proofs.Common.{◌==◌, ◌&&◌, ◌||◌, Bool, true, false, not, List, filter, All, list_any, sym, ◌∙◌, ap}
 use Rattle.host_ports.proofs.Common.{subst, arith, inl, inr, or_cases, or_left, or_right, cases_Bool, true≢false}
-use Rattle.host_ports.proofs.Common.{HostEvent, ids_of, ids_behind, StationState, Out, Turn, HostParts, ReportLine}
+use Rattle.host_ports.proofs.Common.{HostEvent, ids_of, ids_after, StationState, Out, Turn, HostParts, ReportLine}
 use Rattle.host_ports.proofs.Common.{AreParts, Moves, MovesBy, Narrows, IsKnown, IsAtRest, is_named, joins, leaves}
 use Rattle.host_ports.proofs.Common.{Hosts, delivering, is_line_of, is_among, IsDelivered, IsStep, AllHaveLeft}
 use Rattle.host_ports.proofs.Common.{is_within}
@@ -86,10 +86,10 @@ with_station a station printed hosts next stands h = record {
 -- the station knows exactly who it should after an event
 pub known_after : (event : HostEvent) (closed : List ℕ) (a b c : HostParts) → IsKnownBefore event a → b.came ≡ a.came
     → b.lines ≡ a.lines → b.leaving ≡ a.leaving → b.untaken ≡ a.untaken
-    → ids_of b.station ≡ ids_behind event closed (ids_of a.station) → Narrows b c
+    → ids_of b.station ≡ ids_after event closed (ids_of a.station) → Narrows b c
     → ((id : ℕ) → is_among id closed ≡ true → is_named id c ≡ false) → IsKnown c
 known_after event closed a b c before came lines leaving untaken ids narrows gone =
-    let same_station : ids_of c.station ≡ ids_behind event closed (ids_of a.station) = ap ids_of narrows.station
+    let same_station : ids_of c.station ≡ ids_after event closed (ids_of a.station) = ap ids_of narrows.station
     ∙ ids in
     record {
       known = λ id named.

@@ -2,7 +2,7 @@
 use Rattle.host_ports.proofs.Common.{◌≢◌, zero, suc, ◌==◌, ◌&&◌, ◌||◌, Bool, true, false, not, List, ◌∷◌, filter, All}
 use Rattle.host_ports.proofs.Common.{cond, list_any, sym, ◌∙◌, ap, arith, inl, inr, eqb-true, eq-eqb, ne_eqb, and_parts}
 use Rattle.host_ports.proofs.Common.{or_parts, cases_Bool, false≢true, true≢false, list_any-append, HostEvent, Joined}
-use Rattle.host_ports.proofs.Common.{Bytes, Left, ids_behind, Line, joins, leaves, is_line_of, is_among}
+use Rattle.host_ports.proofs.Common.{Bytes, Left, ids_after, Line, joins, leaves, is_line_of, is_among}
 use Rattle.std.specs.Prelude.{◌≡◌, ℕ, ◌+◌, ◌≤◌, [], ◌++◌, length, Any, refl}
 use Rattle.std.proofs.lemmas.Bool.{and_from, not_from_false}
 use Rattle.std.proofs.lemmas.List.Folds.{Any-from_list_any}
@@ -122,7 +122,7 @@ among_joined id x ids =
 
 -- a connection that is neither closed nor leaves is still known
 pub still_known : (event : HostEvent) (closed ids : List ℕ) (x : ℕ) → is_among x closed ≡ false → leaves x event ≡ false
-    → (is_among x ids || joins x event) ≡ true → is_among x (ids_behind event closed ids) ≡ true
+    → (is_among x ids || joins x event) ≡ true → is_among x (ids_after event closed ids) ≡ true
 still_known (Joined id kind) closed ids x not_closed stays was =
     without_ids-among closed (ids ++ id ∷ []) x
     ∙ and_from (not (is_among x closed)) (is_among x (ids ++ id ∷ [])) (not_from_false (is_among x closed) not_closed)
@@ -140,7 +140,7 @@ and_second : (a b : Bool) → (a && b) ≡ true → b ≡ true
 and_second a b both = (and_parts a b both).1
 
 -- nobody else is
-pub was_known : (event : HostEvent) (closed ids : List ℕ) (x : ℕ) → is_among x (ids_behind event closed ids) ≡ true
+pub was_known : (event : HostEvent) (closed ids : List ℕ) (x : ℕ) → is_among x (ids_after event closed ids) ≡ true
     → (is_among x ids || joins x event) ≡ true
 was_known (Joined id kind) closed ids x now =
     sym (among_joined id x ids) ∙ and_second (not (is_among x closed)) (is_among x (ids ++ id ∷ []))

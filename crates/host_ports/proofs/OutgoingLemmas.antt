@@ -1,7 +1,7 @@
 -- Octets in a ring, cut into pieces.
 use Rattle.host_ports.proofs.Common.{◌≡◌, refl, ℕ, ◌+◌, ◌-◌, ◌<◌, ◌≤◌, [], ◌++◌, length, take, drop, set, sum, sym, ap}
 use Rattle.host_ports.proofs.Common.{◌∙◌, arith, subst, take-append-drop, take-append-le, length-drop, length-take-le}
-use Rattle.host_ports.proofs.Common.{take-length, cut, octets_of, with_piece, front_of, after_sending, behind}
+use Rattle.host_ports.proofs.Common.{take-length, cut, octets_of, with_piece, front_of, after_sending, following}
 use Rattle.std.proofs.Common.{List, ◌∷◌, All, suc}
 use Rattle.std.proofs.lemmas.List.{drop-append-le, drop-take, drop-drop}
 use Rattle.std.proofs.lemmas.List.Sums.{sum_by-cons}
@@ -57,12 +57,12 @@ cut-all_sent (len ∷ lens) octets all =
     let long : length (take len octets) ≡ len = length-take-le len octets within in
     let nothing : drop len (take len octets) ≡ [] = subst (λ n. drop n (take len octets) ≡ []) long
     (drop-length (take len octets)) in
-    ap (λ left. behind left (cut lens (drop len octets))) (sym nothing)
+    ap (λ left. following left (cut lens (drop len octets))) (sym nothing)
 
 -- a part of the front piece is sent
-pub behind_some : (left : List ℕ) (pieces : List (List ℕ)) → 0 < length left → behind left pieces ≡ left ∷ pieces
-behind_some [] pieces some = absurd (omega arith)
-behind_some (octet ∷ octets) pieces some = refl
+pub after_some : (left : List ℕ) (pieces : List (List ℕ)) → 0 < length left → following left pieces ≡ left ∷ pieces
+after_some [] pieces some = absurd (omega arith)
+after_some (octet ∷ octets) pieces some = refl
 
 pub cut-part_sent : (count len : ℕ) (lens octets : List ℕ) → count < len → sum (len ∷ lens) ≡ length octets
     → cut ((len - count) ∷ lens) (drop count octets) ≡ after_sending count (cut (len ∷ lens) octets)
@@ -79,8 +79,8 @@ cut-part_sent count len lens octets part all =
     length-take-le (len - count) (drop count octets) (let l : length (drop count octets) ≡ length octets - count =
     length-drop count octets in omega arith) in
     ap (λ o. take (len - count) (drop count octets) ∷ cut lens o) others
-    ∙ sym (behind_some (take (len - count) (drop count octets)) (cut lens (drop len octets)) (omega arith))
-    ∙ ap (λ l. behind l (cut lens (drop len octets))) (sym left)
+    ∙ sym (after_some (take (len - count) (drop count octets)) (cut lens (drop len octets)) (omega arith))
+    ∙ ap (λ l. following l (cut lens (drop len octets))) (sym left)
 
 pub whole_of : (lens octets : List ℕ) (pieces : List (List ℕ)) → sum lens ≡ length octets → cut lens octets ≡ pieces
     → octets_of pieces ≡ octets

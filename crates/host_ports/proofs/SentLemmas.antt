@@ -5,7 +5,7 @@ use Rattle.host_ports.proofs.Common.{cases_Bool, cases_eq, cond-true, cond-false
 use Rattle.host_ports.proofs.Common.{take-append-drop, list_any-append, Config, HostEvent, Piece, Turn, Line, Hosts}
 use Rattle.host_ports.proofs.Common.{new_hosts, waiting_too, with_waiting, line_of, is_among, was_there, IsStep, Asked}
 use Rattle.host_ports.proofs.Common.{IsHostPart, joining, octets_for, IsOrderly, octets_of, with_piece, front_of}
-use Rattle.host_ports.proofs.Common.{after_sending, behind}
+use Rattle.host_ports.proofs.Common.{after_sending, following}
 use Rattle.std.specs.Prelude.{◌≡◌, ℕ, [], ◌++◌, take, drop, refl}
 use Rattle.host_ports.specs.SentSoFar.{IsLeft, IsSentOf, AreSentInOrder}
 use Rattle.host_ports.proofs.KeptLemmas.{IsKeptByStep, IsKeptByPart, sending, kept_step, kept_part}
@@ -120,9 +120,9 @@ pub octets_of-with_piece : (piece : List ℕ) (pieces : List (List ℕ))
 octets_of-with_piece [] pieces = sym (append-nil (octets_of pieces))
 octets_of-with_piece (octet ∷ octets) pieces = octets_of-append pieces (octet ∷ octets)
 
-octets_of-behind : (left : List ℕ) (pieces : List (List ℕ)) → octets_of (behind left pieces) ≡ left ++ octets_of pieces
-octets_of-behind [] pieces = refl
-octets_of-behind (octet ∷ octets) pieces = refl
+octets_of-following : (left : List ℕ) (pieces : List (List ℕ)) → octets_of (following left pieces) ≡ left ++ octets_of pieces
+octets_of-following [] pieces = refl
+octets_of-following (octet ∷ octets) pieces = refl
 
 take_none : (count : ℕ) → take {A = ℕ} count [] ≡ []
 take_none zero = refl
@@ -134,7 +134,7 @@ octets_of-sent count [] = sym (ap (λ xs. xs ++ []) (take_none count))
 octets_of-sent count (piece ∷ pieces) =
     ap (λ p. p ++ octets_of pieces) (sym (take-append-drop count piece))
     ∙ append_assoc (take count piece) (drop count piece) (octets_of pieces)
-    ∙ ap (λ more. take count piece ++ more) (sym (octets_of-behind (drop count piece) pieces))
+    ∙ ap (λ more. take count piece ++ more) (sym (octets_of-following (drop count piece) pieces))
 
 -- ---- each change of hosts
 

@@ -22,14 +22,14 @@ front_of [] = []
 front_of (piece ∷ pieces) = piece
 
 -- what waits after a piece of which this rest is left
-abbrev pub behind : List ℕ → List (List ℕ) → List (List ℕ)
-behind [] pieces = pieces
-behind (octet ∷ octets) pieces = (octet ∷ octets) ∷ pieces
+abbrev pub following : List ℕ → List (List ℕ) → List (List ℕ)
+following [] pieces = pieces
+following (octet ∷ octets) pieces = (octet ∷ octets) ∷ pieces
 
 -- what waits after so many octets of the front piece are sent
 abbrev pub after_sending : ℕ → List (List ℕ) → List (List ℕ)
 after_sending count [] = []
-after_sending count (piece ∷ pieces) = behind (drop count piece) pieces
+after_sending count (piece ∷ pieces) = following (drop count piece) pieces
 
 -- ---- as the code keeps it
 

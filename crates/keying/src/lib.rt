@@ -1,4 +1,4 @@
-//! The key of a transmitter behind `rigctld`, the daemon of hamlib: when a keying command and a release are written
+//! The key of a transmitter after `rigctld`, the daemon of hamlib: when a keying command and a release are written
 //! on its line, what of the line is reported, and when a transmission may begin. The machine has no handle, takes no
 //! memory and cannot fail: the caller owns the connection and the clock. What is promised: over any list of calls each
 //! command and each report is exactly the one that the rules give on what has happened so far.

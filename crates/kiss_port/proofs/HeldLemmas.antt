@@ -11,7 +11,7 @@ use Rattle.kiss_port.specs.Escapes.{fend, fesc, tfend, tfesc, meant, unescaped, 
 use Rattle.kiss_port.specs.Pieces.{pieces}
 use Rattle.kiss_port.specs.Items.{ack_command, most_octets, item_of, items_in}
 use Rattle.kiss_port.specs.Held.{Held, StandsForPiece, StandsFor, rest_of_piece, new_held, kept_item, held_item}
-use Rattle.kiss_port.specs.Held.{StandsForSome, keeping, unmarked, behind_escape, with_octet}
+use Rattle.kiss_port.specs.Held.{StandsForSome, keeping, unmarked, after_escape, with_octet}
 use Rattle.kiss_port.proofs.PieceLemmas.{inside-append, pieces_inside, pieces_end}
 use Rattle.kiss_port.proofs.EscapeLemmas.{unescaped_plain, spelled_back, spelled_piece}
 
@@ -110,7 +110,7 @@ piece_octet held piece octet other = by_escape held.kept held.long held.escaped
 
     by_escape : (kept : List ℕ) (long escaped : Bool) → let h : Held =
         record { kept = kept; long = long; escaped = escaped } in StandsForPiece h piece → S (with_octet h octet)
-    by_escape kept long true stands = behind
+    by_escape kept long true stands = following
       where
         h : Held
         h = record { kept = kept; long = long; escaped = true }
@@ -134,8 +134,8 @@ piece_octet held piece octet other = by_escape held.kept held.long held.escaped
             (λ more. ap (λ ms. stands.meaning ++ (ms ++ unescaped more)) (cond-false _ _ _ (ne_eqb octet tfend no_tfend)
             ∙ cond-false _ _ _ (ne_eqb octet tfesc no_tfesc)))
 
-        behind : S (behind_escape h octet)
-        behind =
+        following : S (after_escape h octet)
+        following =
             elim (cases_eq octet tfend) [
               | inl is ↦ subst S (sym (cond-true _ _ _ (eq-eqb octet tfend is))) (as_other tfend fend is refl)
               | inr no_tfend ↦

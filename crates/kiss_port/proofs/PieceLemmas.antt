@@ -23,6 +23,6 @@ pieces_end [] more inside = refl
 pieces_end (octet ∷ piece) more inside = step octet (piece ++ fend ∷ more) inside.0
     ∙ ap (onto_first octet) (pieces_end piece more inside.1)
 
-pub inside-append : (before behind : List ℕ) → IsInside before → IsInside behind → IsInside (before ++ behind)
-inside-append [] behind first second = second
-inside-append (octet ∷ before) behind first second = (first.0, inside-append before behind first.1 second)
+pub inside-append : (before following : List ℕ) → IsInside before → IsInside following → IsInside (before ++ following)
+inside-append [] following first second = second
+inside-append (octet ∷ before) following first second = (first.0, inside-append before following first.1 second)

@@ -37,15 +37,15 @@ keeping held octet =
 abbrev pub unmarked : Held → Held
 unmarked held = record { kept = held.kept; long = held.long; escaped = false }
 
-abbrev pub behind_escape : Held → ℕ → Held
-behind_escape held octet =
+abbrev pub after_escape : Held → ℕ → Held
+after_escape held octet =
     if octet == tfend then unmarked (keeping held fend) else if octet == tfesc then unmarked (keeping held fesc)
     else unmarked held
 
 -- one octet more of the piece
 abbrev pub with_octet : Held → ℕ → Held
 with_octet held octet =
-    if held.escaped then behind_escape held octet else
+    if held.escaped then after_escape held octet else
     if octet == fesc then record { kept = held.kept; long = held.long; escaped = true } else keeping held octet
 
 -- how the rest of a piece is read

@@ -24,26 +24,26 @@ done_as held t done h =
     ap (λ fs. D fs done.told) h.frames ∙ ap (λ ts. D (sent_frames t.now.path t.sent) ts) h.told
 
 pub answers_right :
-    (behind : Held) (m : Machine) (event : Event) (done : Done) → is_some (refusal_of m event) ≡ false
-    → Made (settled (row event (begin m))) behind done
-    → (done ≡ done_of (step m event)) × StandsFor behind (step m event).now
-answers_right behind m event done free h =
+    (following : Held) (m : Machine) (event : Event) (done : Done) → is_some (refusal_of m event) ≡ false
+    → Made (settled (row event (begin m))) following done
+    → (done ≡ done_of (step m event)) × StandsFor following (step m event).now
+answers_right following m event done free h =
     let e = sym (stepped m event free) in
-    let P : Turn → Type 0 = λ t. (done ≡ done_of t) × StandsFor behind t.now in
-    subst P e (done_as behind (settled (row event (begin m))) done h, h.holds.stands)
+    let P : Turn → Type 0 = λ t. (done ≡ done_of t) × StandsFor following t.now in
+    subst P e (done_as following (settled (row event (begin m))) done h, h.holds.stands)
 
 pub holds_of : (held : Held) (m : Machine) → IsWhole held → StandsFor held m → Holds held m
 holds_of held m whole h = record { stands = h; formed = whole.link; next = whole.next }
 
 -- what a call answers, if its event is never refused
 pub answers_all :
-    (before behind : Held) (event : Event) (result : Result Done OutOfMemory)
+    (before following : Held) (event : Event) (result : Result Done OutOfMemory)
     → ((m : Machine) → is_some (refusal_of m event) ≡ false) → IsWhole before
-    → Makes (row event) before behind result → (m : Machine) → StandsFor before m
-    → IfOk result (λ acts. acts ≡ done_of (step m event)) × OnOk result (StandsFor behind (step m event).now)
-answers_all before behind event (Ok done) free whole makes m h =
-    answers_right behind m event done (free m) (makes m (holds_of before m whole h))
-answers_all before behind event (Err fault) free whole makes m h = (tt, tt)
+    → Makes (row event) before following result → (m : Machine) → StandsFor before m
+    → IfOk result (λ acts. acts ≡ done_of (step m event)) × OnOk result (StandsFor following (step m event).now)
+answers_all before following event (Ok done) free whole makes m h =
+    answers_right following m event done (free m) (makes m (holds_of before m whole h))
+answers_all before following event (Err fault) free whole makes m h = (tt, tt)
 
 -- requests that are not refused
 pub free_of : (held : Held) (m : Machine) (event : Event) (r : Option LinkFault)

@@ -8,7 +8,7 @@ pub use Rattle.ax25_frames.specs.declared.frame.S.{S}
 pub use Rattle.ax25_frames.specs.declared.frame.S.TheVariants.{Rej, Rnr, Rr, Srej}
 pub use Rattle.ax25_frames.specs.declared.frame.U.TheVariants.{Disc, Dm, Sabm, Sabme, Ua}
 pub use Rattle.ax25_frames.specs.declared.frame.W.TheVariants.{Frmr, Test, Xid}
-pub use Rattle.link_machine.specs.Acts.{acknowledged, answering, behind_poll, calling, close, give, gone_back, moved_on}
+pub use Rattle.link_machine.specs.Acts.{acknowledged, answering, after_poll, calling, close, give, gone_back, moved_on}
 pub use Rattle.link_machine.specs.Acts.{none_again, nothing_asked, nothing_due, owing, picked_out, polled, recover}
 pub use Rattle.link_machine.specs.Acts.{recover_with, releasing, reset, run, run_with, stored, timed_by, watching, with_rej}
 pub use Rattle.link_machine.specs.Done.{Done}

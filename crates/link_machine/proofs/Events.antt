@@ -102,13 +102,13 @@ made_unsettled held room t done h off frames told =
 
 -- the same of another act that does the same
 pub makes_same :
-    (act other : Act) (before behind : Held) (result : Result Done OutOfMemory)
-    → ((m : Machine) → Holds before m → act (begin m) ≡ other (begin m)) → Makes act before behind result
-    → Makes other before behind result
-makes_same act other before behind (Ok done) same makes = λ m h.
-    let P : Turn → Type 0 = λ t. Made (settled t) behind done in
+    (act other : Act) (before following : Held) (result : Result Done OutOfMemory)
+    → ((m : Machine) → Holds before m → act (begin m) ≡ other (begin m)) → Makes act before following result
+    → Makes other before following result
+makes_same act other before following (Ok done) same makes = λ m h.
+    let P : Turn → Type 0 = λ t. Made (settled t) following done in
     subst P (same m h) (makes m h)
-makes_same act other before behind (Err fault) same makes = makes
+makes_same act other before following (Err fault) same makes = makes
 
 -- what a valid N(R) says
 is_named_if_counted : (b : Bool) (d count : ℕ) (bad : BadNr)
@@ -217,34 +217,34 @@ invalid_number held m nr bad h e =
 
 -- a frame with a valid N(R)
 pub makes_numbered :
-    (act : ℕ → Act) (nr : ℕ) (before behind : Held) (result : Result Done OutOfMemory)
+    (act : ℕ → Act) (nr : ℕ) (before following : Held) (result : Result Done OutOfMemory)
     → ((m : Machine) → Holds before m → is_valid nr m ≡ true)
-    → Makes (λ t. act (named nr t.now) t) before behind result → Makes (hear_numbered nr act) before behind result
-makes_numbered act nr before behind (Ok done) valid makes = λ m h.
-    let P : Turn → Type 0 = λ x. Made (settled x) behind done in
+    → Makes (λ t. act (named nr t.now) t) before following result → Makes (hear_numbered nr act) before following result
+makes_numbered act nr before following (Ok done) valid makes = λ m h.
+    let P : Turn → Type 0 = λ x. Made (settled x) following done in
     subst P (sym (cond-true (is_valid nr m) _ (reset (begin m)) (valid m h))) (makes m h)
-makes_numbered act nr before behind (Err fault) valid makes = makes
+makes_numbered act nr before following (Err fault) valid makes = makes
 
 -- a frame with another
 pub makes_reset :
-    (act : ℕ → Act) (nr : ℕ) (before behind : Held) (result : Result Done OutOfMemory)
+    (act : ℕ → Act) (nr : ℕ) (before following : Held) (result : Result Done OutOfMemory)
     → ((m : Machine) → Holds before m → is_valid nr m ≡ false)
-    → Makes reset before behind result → Makes (hear_numbered nr act) before behind result
-makes_reset act nr before behind (Ok done) not_valid makes = λ m h.
-    let P : Turn → Type 0 = λ x. Made (settled x) behind done in
+    → Makes reset before following result → Makes (hear_numbered nr act) before following result
+makes_reset act nr before following (Ok done) not_valid makes = λ m h.
+    let P : Turn → Type 0 = λ x. Made (settled x) following done in
     subst P (sym (cond-false (is_valid nr m) (act (named nr m) (begin m)) _ (not_valid m h))) (makes m h)
-makes_reset act nr before behind (Err fault) not_valid makes = makes
+makes_reset act nr before following (Err fault) not_valid makes = makes
 
 -- what a frame does by the state
 pub makes_hear :
-    (s : LinkState) (command : Bool) (kind : Kind) (before behind : Held) (result : Result Done OutOfMemory)
+    (s : LinkState) (command : Bool) (kind : Kind) (before following : Held) (result : Result Done OutOfMemory)
     → before.control.state ≡ s
-    → Makes (hear_in s command kind) before behind result → Makes (hear command kind) before behind result
-makes_hear s command kind before behind (Ok done) is makes = λ m h.
+    → Makes (hear_in s command kind) before following result → Makes (hear command kind) before following result
+makes_hear s command kind before following (Ok done) is makes = λ m h.
     let state : s ≡ m.control.state = sym is ∙ ap (λ (c : Control). c.state) h.stands.control in
-    let P : LinkState → Type 0 = λ x. Made (settled (hear_in x command kind (begin m))) behind done in
+    let P : LinkState → Type 0 = λ x. Made (settled (hear_in x command kind (begin m))) following done in
     subst P state (makes m h)
-makes_hear s command kind before behind (Err fault) is makes = makes
+makes_hear s command kind before following (Err fault) is makes = makes
 
 -- Idle: a link that opens is not released
 pub settled_open : (modulus : ℕ) (flag : Bool) (t : Turn) → settled (open_called modulus flag t)
@@ -310,33 +310,33 @@ sent_number held m nr h =
 
 -- it is to be sent again if it was
 pub holds_picked :
-    (sent : Bool) (held : Held) (m : Machine) (behind : Outgoing) (nr : ℕ) → Holds held m
+    (sent : Bool) (held : Held) (m : Machine) (following : Outgoing) (nr : ℕ) → Holds held m
     → sent ≡ nat_lt (named nr m) m.outgoing.top
-    → StandsForOutgoing behind (after_ask_again m.incoming.modulus nr m.outgoing) → IsOutgoing behind
+    → StandsForOutgoing following (after_ask_again m.incoming.modulus nr m.outgoing) → IsOutgoing following
     → Holds (record held {
       control = if sent then picking held.control else held.control;
-      outgoing = behind;
+      outgoing = following;
     }) (picked_out (named nr m) m)
-holds_picked true held m behind nr h e stands formed =
+holds_picked true held m following nr h e stands formed =
     let n = named nr m in
     let sent : nat_lt n m.outgoing.top ≡ true = sym e in
     let o : Outgoing = asked_again n m.outgoing in
-    let S : Outgoing → Type 0 = λ x. StandsForOutgoing behind x in
-    let asked : StandsForOutgoing behind o = subst S (cond-true _ o m.outgoing (sent_near m nr ∙ sent)) stands in
+    let S : Outgoing → Type 0 = λ x. StandsForOutgoing following x in
+    let asked : StandsForOutgoing following o = subst S (cond-true _ o m.outgoing (sent_near m nr ∙ sent)) stands in
     let P : Machine → Type 0 = λ x. Holds (record held {
       control = picking held.control;
-      outgoing = behind;
+      outgoing = following;
     }) x in
     subst P (sym (cond-true (nat_lt n m.outgoing.top) _ m sent))
-    (holds_outgoing _ _ behind o (holds_setting picking held m h) formed asked)
-holds_picked false held m behind nr h e stands formed =
+    (holds_outgoing _ _ following o (holds_setting picking held m h) formed asked)
+holds_picked false held m following nr h e stands formed =
     let n = named nr m in
     let not_sent : nat_lt n m.outgoing.top ≡ false = sym e in
     let o : Outgoing = asked_again n m.outgoing in
-    let S : Outgoing → Type 0 = λ x. StandsForOutgoing behind x in
-    let same : StandsForOutgoing behind m.outgoing = subst S (cond-false _ o m.outgoing (sent_near m nr ∙ not_sent)) stands in
-    let P : Machine → Type 0 = λ x. Holds (record held { outgoing = behind }) x in
+    let S : Outgoing → Type 0 = λ x. StandsForOutgoing following x in
+    let same : StandsForOutgoing following m.outgoing = subst S (cond-false _ o m.outgoing (sent_near m nr ∙ not_sent)) stands in
+    let P : Machine → Type 0 = λ x. Holds (record held { outgoing = following }) x in
     subst P (sym (cond-false (nat_lt n m.outgoing.top) (record m {
       control = picking m.control;
       outgoing = o;
-    }) m not_sent)) (holds_outgoing held m behind m.outgoing h formed same)
+    }) m not_sent)) (holds_outgoing held m following m.outgoing h formed same)

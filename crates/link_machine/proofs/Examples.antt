@@ -19,7 +19,7 @@ run_on events turn = fold (λ t event. step t.now event) turn events
 
 -- what several events send and tell together
 abbrev followed : Turn → Turn → Turn
-followed before behind = record behind { sent = before.sent ++ behind.sent; told = before.told ++ behind.told }
+followed before following = record following { sent = before.sent ++ following.sent; told = before.told ++ following.told }
 
 abbrev along : List Event → Machine → Turn
 along events m = fold (λ t event. followed t (step t.now event)) (begin m) events

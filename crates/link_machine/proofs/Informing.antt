@@ -39,9 +39,9 @@ info_lost poll place left t e =
     ap with (sym (append-nil t.sent)) ∙ ap (λ o. with (t.sent ++ frames o)) (sym e)
 
 -- the lowest number that SREJ asked for has gone
-pub stands_again : (held o behind : Outgoing) → behind ≡ after_again held → StandsForOutgoing held o
-    → StandsForOutgoing behind (after_again o)
-stands_again held o behind e h =
+pub stands_again : (held o following : Outgoing) → following ≡ after_again held → StandsForOutgoing held o
+    → StandsForOutgoing following (after_again o)
+stands_again held o following e h =
     let same : StandsForOutgoing (after_again held) (after_again o) =
     record { va = h.va; vs = h.vs; top = h.top; packets = h.packets; again = ap (drop 1) h.again } in
     let P : Outgoing → Type 0 = λ x. StandsForOutgoing x (after_again o) in

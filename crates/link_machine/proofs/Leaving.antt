@@ -7,7 +7,7 @@ use Rattle.std.proofs.lemmas.Bool.{eq-eqb, eqb-false, ne_eqb}
 use Rattle.std.specs.Result.{is_ok}
 use Rattle.selective_reject.specs.declared.outgoing.BadNr.{BadNr}
 use Rattle.link_machine.specs.declared.machine.Machine.{Machine as Held}
-use Rattle.link_machine.specs.Asks.{is_leaving_behind, number_asks}
+use Rattle.link_machine.specs.Asks.{is_leaving_after, number_asks}
 use Rattle.link_machine.proofs.Events.{as_machine, ok_if, valid_number}
 
 none_left : (count n : ℕ) → count ≤ n → (count == n) ≡ (n - count == 0)
@@ -25,7 +25,7 @@ pub invalid_asks :
 invalid_asks held m nr fault h is =
     let invalid : is_valid nr m ≡ false = sym (ok_if (is_valid nr m) _ _)
     ∙ ap is_ok (sym (as_machine held m nr h) ∙ is) in
-    cond-false (is_valid nr m) (is_leaving_behind (named nr m) m) true invalid
+    cond-false (is_valid nr m) (is_leaving_after (named nr m) m) true invalid
 
 -- a valid one, which acknowledges so many
 pub valid_asks :
@@ -37,7 +37,7 @@ valid_asks held m nr count h is within =
     let ahead : named nr m - m.outgoing.va ≡ count = let sum = valid.1 in omega (arith, sum) in
     let same : length held.outgoing.packets ≡ length m.outgoing.packets = ap length h.stands.outgoing.packets in
     let left = length-drop count m.outgoing.packets in
-    cond-true (is_valid nr m) (is_leaving_behind (named nr m) m) true valid.0
+    cond-true (is_valid nr m) (is_leaving_after (named nr m) m) true valid.0
     ∙ ap (λ k. m.control.quit && length (drop k m.outgoing.packets) == 0) ahead
     ∙ ap (λ k. m.control.quit && k == 0) left
     ∙ ap (λ k. m.control.quit && k) (sym (none_left count (length m.outgoing.packets) (omega (arith, same, within))))

@@ -84,20 +84,20 @@ further_by i j false e h = absurd (false≢true e)
 
 -- one packet more is taken
 pub moved_one_more :
-    (before behind store : Incoming) (packet : Packet) → MovedSome before store
-    → ((s : Incoming) → StandsForIncoming before s → StandsForIncoming behind (after_take s))
-    → behind.places ≡ drop 1 before.places ++ empty_place ∷ []
-    → packet_at before.places 0 ≡ Some packet → MovedSome behind store
-moved_one_more before behind store packet so take places there =
+    (before following store : Incoming) (packet : Packet) → MovedSome before store
+    → ((s : Incoming) → StandsForIncoming before s → StandsForIncoming following (after_take s))
+    → following.places ≡ drop 1 before.places ++ empty_place ∷ []
+    → packet_at before.places 0 ≡ Some packet → MovedSome following store
+moved_one_more before following store packet so take places there =
     let one : run before.places ≡ packet ∷ run (drop 1 before.places) = run_of_full before.places packet there in
     let less : length (run before.places) ≡ length (run (drop 1 before.places)) + 1 = ap length one ∙ omega arith in
-    let same : run behind.places ≡ run (drop 1 before.places) = ap run places ∙ run-push (drop 1 before.places) in
+    let same : run following.places ≡ run (drop 1 before.places) = ap run places ∙ run-push (drop 1 before.places) in
     let left = so.left in
     let short : length (run store.places) ≤ length store.places = length-run store.places in
     let within : so.count < length store.places = omega arith in
     let full : is_full (moved_on so.count store).places 0 ≡ true = ap (λ ps. is_full ps 0) (sym so.stands.places)
     ∙ ap is_some there in
-    let P : Incoming → Type 0 = λ s. StandsForIncoming behind s in
+    let P : Incoming → Type 0 = λ s. StandsForIncoming following s in
     record {
       count = so.count + 1;
       stands = subst P (further_by store so.count (is_full (moved_on so.count store).places 0) full within)
@@ -113,6 +113,6 @@ places_by i false e = absurd (false≢true e)
 
 -- the places after a take
 pub places_taken :
-    (before behind : Incoming) → is_full before.places 0 ≡ true → behind ≡ reduced_incoming (after_take before)
-    → behind.places ≡ drop 1 before.places ++ empty_place ∷ []
-places_taken before behind full e = ap (λ (i : Incoming). i.places) e ∙ places_by before (is_full before.places 0) full
+    (before following : Incoming) → is_full before.places 0 ≡ true → following ≡ reduced_incoming (after_take before)
+    → following.places ≡ drop 1 before.places ++ empty_place ∷ []
+places_taken before following full e = ap (λ (i : Incoming). i.places) e ∙ places_by before (is_full before.places 0) full

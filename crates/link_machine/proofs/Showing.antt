@@ -44,10 +44,10 @@ shows_setting f held room t h = record {
 
 -- the machine changes and stays on its path
 pub shows_changing :
-    (f : Machine → Machine) (held behind : Held) (room : Room) (t : Turn) → (f t.now).path ≡ t.now.path
+    (f : Machine → Machine) (held following : Held) (room : Room) (t : Turn) → (f t.now).path ≡ t.now.path
     → Shows held room t
-    → Holds behind (f t.now) → Shows behind room (changing f t)
-shows_changing f held behind room t path h new = record {
+    → Holds following (f t.now) → Shows following room (changing f t)
+shows_changing f held following room t path h new = record {
   holds = new;
   frames = h.frames ∙ ap (λ p. sent_frames p t.sent) (sym path);
   told = h.told;
@@ -55,11 +55,11 @@ shows_changing f held behind room t path h new = record {
 
 -- a frame is sent
 pub shows_sending :
-    (x : Sent) (held : Held) (room behind : Room) (t : Turn) → Shows held room t
-    → behind.frames.items ≡ room.frames.items ++ sent_frame held.path (sent_in held.incoming.modulus x) ∷ []
-    → behind.told ≡ room.told
-    → Shows held behind (sending x t)
-shows_sending x held room behind t h frames told = record {
+    (x : Sent) (held : Held) (room following : Room) (t : Turn) → Shows held room t
+    → following.frames.items ≡ room.frames.items ++ sent_frame held.path (sent_in held.incoming.modulus x) ∷ []
+    → following.told ≡ room.told
+    → Shows held following (sending x t)
+shows_sending x held room following t h frames told = record {
   holds = h.holds;
   frames =
       frames
@@ -88,28 +88,28 @@ pub vr_as_sent :
 vr_as_sent held m nr h e = e ∙ ap (λ k. m.incoming.vr % k) (sym h.stands.incoming.modulus)
 
 -- a set-up begins
-pub shows_fresh : (held behind : Held) (room : Room) (t : Turn) → Shows held room t
-    → ((m : Machine) → Holds held m → Holds behind (fresh m)) → Shows behind room (changing fresh t)
-shows_fresh held behind room t h new = shows_changing fresh held behind room t refl h (new t.now h.holds)
+pub shows_fresh : (held following : Held) (room : Room) (t : Turn) → Shows held room t
+    → ((m : Machine) → Holds held m → Holds following (fresh m)) → Shows following room (changing fresh t)
+shows_fresh held following room t h new = shows_changing fresh held following room t refl h (new t.now h.holds)
 
 -- what waits is forgotten
-pub shows_emptied : (held behind : Held) (room : Room) (t : Turn) → Shows held room t
-    → ((m : Machine) → Holds held m → Holds behind (emptied m)) → Shows behind room (changing emptied t)
-shows_emptied held behind room t h new = shows_changing emptied held behind room t refl h (new t.now h.holds)
+pub shows_emptied : (held following : Held) (room : Room) (t : Turn) → Shows held room t
+    → ((m : Machine) → Holds held m → Holds following (emptied m)) → Shows following room (changing emptied t)
+shows_emptied held following room t h new = shows_changing emptied held following room t refl h (new t.now h.holds)
 
 -- numbers are modulo another modulus
 pub shows_in_modulus :
-    (modulus : ℕ) (held behind : Held) (room : Room) (t : Turn) → Shows held room t
-    → ((m : Machine) → Holds held m → Holds behind (in_modulus modulus m))
-    → Shows behind room (changing (in_modulus modulus) t)
-shows_in_modulus modulus held behind room t h new =
-    shows_changing (in_modulus modulus) held behind room t refl h (new t.now h.holds)
+    (modulus : ℕ) (held following : Held) (room : Room) (t : Turn) → Shows held room t
+    → ((m : Machine) → Holds held m → Holds following (in_modulus modulus m))
+    → Shows following room (changing (in_modulus modulus) t)
+shows_in_modulus modulus held following room t h new =
+    shows_changing (in_modulus modulus) held following room t refl h (new t.now h.holds)
 
 -- what waits to be acknowledged changes
 pub holds_outgoing :
-    (held : Held) (m : Machine) (behind o : Outgoing) → Holds held m → IsOutgoing behind → StandsForOutgoing behind o
-    → Holds (record held { outgoing = behind }) (record m { outgoing = o })
-holds_outgoing held m behind o h formed stands = record {
+    (held : Held) (m : Machine) (following o : Outgoing) → Holds held m → IsOutgoing following → StandsForOutgoing following o
+    → Holds (record held { outgoing = following }) (record m { outgoing = o })
+holds_outgoing held m following o h formed stands = record {
   stands = record {
     path = h.stands.path;
     params = h.stands.params;
@@ -126,10 +126,10 @@ holds_outgoing held m behind o h formed stands = record {
 
 -- packets are given, and V(R) has moved on
 pub holds_incoming :
-    (held : Held) (m : Machine) (behind i : Incoming) → Holds held m → StandsForIncoming behind i → IsIncoming behind
-    → IsReady behind
-    → Holds (record held { incoming = behind }) (record m { incoming = i })
-holds_incoming held m behind i h stands formed ready = record {
+    (held : Held) (m : Machine) (following i : Incoming) → Holds held m → StandsForIncoming following i → IsIncoming following
+    → IsReady following
+    → Holds (record held { incoming = following }) (record m { incoming = i })
+holds_incoming held m following i h stands formed ready = record {
   stands = record {
     path = h.stands.path;
     params = h.stands.params;
@@ -145,30 +145,30 @@ holds_incoming held m behind i h stands formed ready = record {
 }
 
 pub shows_incoming :
-    (held : Held) (behind : Incoming) (room after : Room) (t : Turn) (i : Incoming) (packets : List Packet)
+    (held : Held) (following : Incoming) (room after : Room) (t : Turn) (i : Incoming) (packets : List Packet)
     → Shows held room t
-    → StandsForIncoming behind (moved_on (length packets) t.now.incoming) → IsIncoming behind → IsReady behind
+    → StandsForIncoming following (moved_on (length packets) t.now.incoming) → IsIncoming following → IsReady following
     → after.told.items ≡ room.told.items ++ map Given packets → after.frames ≡ room.frames
-    → Shows (record held { incoming = behind }) after (give packets t)
-shows_incoming held behind room after t i packets h stands formed ready told frames = record {
-  holds = holds_incoming held t.now behind (moved_on (length packets) t.now.incoming) h.holds stands formed ready;
+    → Shows (record held { incoming = following }) after (give packets t)
+shows_incoming held following room after t i packets h stands formed ready told frames = record {
+  holds = holds_incoming held t.now following (moved_on (length packets) t.now.incoming) h.holds stands formed ready;
   frames = ap (λ v. v.items) frames ∙ h.frames;
   told = told ∙ ap (λ xs. xs ++ map Given packets) h.told;
 }
 
 pub same_incoming :
-    (held : Held) (behind : Incoming) (room : Room) (t : Turn) → Shows held room t
-    → StandsForIncoming behind t.now.incoming → IsIncoming behind
-    → IsReady behind → Shows (record held { incoming = behind }) room t
-same_incoming held behind room t h stands formed ready = record {
-  holds = holds_incoming held t.now behind t.now.incoming h.holds stands formed ready;
+    (held : Held) (following : Incoming) (room : Room) (t : Turn) → Shows held room t
+    → StandsForIncoming following t.now.incoming → IsIncoming following
+    → IsReady following → Shows (record held { incoming = following }) room t
+same_incoming held following room t h stands formed ready = record {
+  holds = holds_incoming held t.now following t.now.incoming h.holds stands formed ready;
   frames = h.frames;
   told = h.told;
 }
 
 pub shows_as :
-    (held : Held) (behind : Incoming) (room : Room) (t u : Turn) → t ≡ u
-    → Shows (record held { incoming = behind }) room t
-    → Shows (record held { incoming = behind }) room u
-shows_as held behind room t u e h = let P : Turn → Type 0 = λ x. Shows (record held { incoming = behind }) room x in
+    (held : Held) (following : Incoming) (room : Room) (t u : Turn) → t ≡ u
+    → Shows (record held { incoming = following }) room t
+    → Shows (record held { incoming = following }) room u
+shows_as held following room t u e h = let P : Turn → Type 0 = λ x. Shows (record held { incoming = following }) room x in
     subst P e h

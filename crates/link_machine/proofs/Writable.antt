@@ -20,7 +20,7 @@ use Rattle.link_machine.proofs.Common.{hear_in, runs_out, lowered, with_t1, with
 use Rattle.link_machine.proofs.Common.{tick_t3_of, tick_t1_of, tick_t1, tick_in, Event, Connect, Send, Disconnect, Hear}
 use Rattle.link_machine.proofs.Common.{Tick, refusal_of, row, settle_in, settled, step, done_of, Done, Made, Makes}
 use Rattle.link_machine.proofs.Common.{OutOfMemory, Result, IfOk, Ok, Err, Seize, after_next, answered, answering, back}
-use Rattle.link_machine.proofs.Common.{behind_poll, heard_busy, is_asked_again, is_missing_some, left_with, lies_ahead}
+use Rattle.link_machine.proofs.Common.{after_poll, heard_busy, is_asked_again, is_missing_some, left_with, lies_ahead}
 use Rattle.link_machine.proofs.Common.{max, may_send_info, next_missing, none_again, not_passed, nothing_asked}
 use Rattle.link_machine.proofs.Common.{notice_passed, out_of_sequence, picked_out, poll_frame, polled, polled_packet}
 use Rattle.link_machine.proofs.Common.{polls, recover_with, rejected, seize_in, send_due, send_frame, send_info}
@@ -178,7 +178,7 @@ keeps_polled asks t h =
 
 keeps_recover_with : (retries : ℕ) → Keeps (recover_with retries)
 keeps_recover_with retries t h =
-    keeps_changing gone_back sound_back _ (keeps_setting (behind_poll retries) t h)
+    keeps_changing gone_back sound_back _ (keeps_setting (after_poll retries) t h)
 
 keeps_recover : (answers : Bool) → Keeps (recover answers)
 keeps_recover answers t h = sound_if (t.now.control.poll && answers) _ t (keeps_recover_with 0 t h) h
@@ -656,28 +656,28 @@ writable_step m event h =
 sound_itself : (held : Held) → IsKept held → IsSound (itself held)
 sound_itself held h = record { modulus = h.whole.link.incoming.modulus; short = h.short }
 
-pub kept_behind :
-    (before behind : Held) (event : Event) (done : Done) → IsKept before
+pub kept_following :
+    (before following : Held) (event : Event) (done : Done) → IsKept before
     → is_some (refusal_of (itself before) event) ≡ false
-    → Made (settled (row event (begin (itself before)))) behind done → IsKept behind × All IsWritable done.frames
-kept_behind before behind event done h free makes =
+    → Made (settled (row event (begin (itself before)))) following done → IsKept following × All IsWritable done.frames
+kept_following before following event done h free makes =
     let m = itself before in
-    let right = answers_right behind m event done free makes in
+    let right = answers_right following m event done free makes in
     let short = (sound_step m event (sound_itself before h)).now.short in (
-      record { whole = whole_of behind _ makes.holds; short = All-same IsShort _ _ right.1.outgoing.packets short },
+      record { whole = whole_of following _ makes.holds; short = All-same IsShort _ _ right.1.outgoing.packets short },
       let P : Done → Type 0 = λ d. All IsWritable d.frames in
           subst P (sym right.0) (writable_step m event (sound_itself before h)),
     )
 
 -- the same of a call whose event is never refused
 abbrev pub IsKeptBy : Held → Held → Result Done OutOfMemory → Type 0
-IsKeptBy before behind result = IsKept behind × IfOk result (λ done. All IsWritable done.frames)
+IsKeptBy before following result = IsKept following × IfOk result (λ done. All IsWritable done.frames)
 
 pub kept_by :
-    (before behind : Held) (event : Event) (result : Result Done OutOfMemory) → IsKept before
+    (before following : Held) (event : Event) (result : Result Done OutOfMemory) → IsKept before
     → is_some (refusal_of (itself before) event) ≡ false
-    → Makes (row event) before behind result → IsKeptBy before behind result
-kept_by before behind event (Ok done) h free makes =
-    kept_behind before behind event done h free (makes (itself before) (holds_itself before h.whole))
-kept_by before behind event (Err fault) h free makes = let P : Held
+    → Makes (row event) before following result → IsKeptBy before following result
+kept_by before following event (Ok done) h free makes =
+    kept_following before following event done h free (makes (itself before) (holds_itself before h.whole))
+kept_by before following event (Err fault) h free makes = let P : Held
     → Type 0 = λ x. IsKept x in (subst P (sym makes) h, tt)

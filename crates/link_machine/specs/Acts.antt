@@ -78,8 +78,8 @@ gone_back m = record m {
 }
 
 -- The answer to a poll has come, and what is not acknowledged is sent again. The retries then are so many.
-abbrev pub behind_poll : ℕ → Control → Control
-behind_poll retries c = if c.busy then record c {
+abbrev pub after_poll : ℕ → Control → Control
+after_poll retries c = if c.busy then record c {
   poll = false;
   by_info = false;
   passed = false;
@@ -89,7 +89,7 @@ behind_poll retries c = if c.busy then record c {
 } else record c { poll = false; by_info = false; passed = false; rc = retries; t1 = None; t3 = Some t3_ticks }
 
 abbrev pub recover_with : ℕ → Act
-recover_with retries = in_order (setting (behind_poll retries) ∷ changing gone_back ∷ [])
+recover_with retries = in_order (setting (after_poll retries) ∷ changing gone_back ∷ [])
 
 abbrev pub recover : Bool → Act
 recover answers turn = if turn.now.control.poll && answers then recover_with 0 turn else turn

@@ -24,8 +24,8 @@ abbrev pub is_leaving : Machine → Bool
 is_leaving m = m.control.quit && length m.outgoing.packets == 0
 
 -- so it is once the packets below a number are acknowledged
-abbrev pub is_leaving_behind : ℕ → Machine → Bool
-is_leaving_behind n m = m.control.quit && length (drop (n - m.outgoing.va) m.outgoing.packets) == 0
+abbrev pub is_leaving_after : ℕ → Machine → Bool
+is_leaving_after n m = m.control.quit && length (drop (n - m.outgoing.va) m.outgoing.packets) == 0
 
 -- T1 runs out with a tick
 abbrev pub t1_ends : Option ℕ → Bool → Bool
@@ -41,14 +41,14 @@ tick_asks Releasing ends m = ends && not (is_spent m.control)
 
 -- with an invalid N(R) the link calls anew
 abbrev pub number_asks : ℕ → Machine → Bool
-number_asks nr m = if is_valid nr m then is_leaving_behind (named nr m) m else true
+number_asks nr m = if is_valid nr m then is_leaving_after (named nr m) m else true
 
 -- a valid N(R) acknowledges, but that of an SREJ with P/F = 0
 abbrev pub super_leaves : S → Bool → ℕ → Machine → Bool
-super_leaves Rr flag n m = is_leaving_behind n m
-super_leaves Rnr flag n m = is_leaving_behind n m
-super_leaves Rej flag n m = is_leaving_behind n m
-super_leaves Srej flag n m = if flag then is_leaving_behind n m else is_leaving m
+super_leaves Rr flag n m = is_leaving_after n m
+super_leaves Rnr flag n m = is_leaving_after n m
+super_leaves Rej flag n m = is_leaving_after n m
+super_leaves Srej flag n m = if flag then is_leaving_after n m else is_leaving m
 
 abbrev pub super_asks : S → ℕ → Bool → Machine → Bool
 super_asks which nr flag m = if is_valid nr m then super_leaves which flag (named nr m) m else true

@@ -91,12 +91,12 @@ abbrev pub hear_supervisory_of : S → Bool → Bool → ℕ → Act
 hear_supervisory_of which command flag n = hear_supervisory which n command flag
 
 -- the link has become and done what an event makes of it
-pub record Made (turn : Turn) (behind : Held) (done : Done) : Type 0 where
-  pub holds : Holds behind turn.now
+pub record Made (turn : Turn) (following : Held) (done : Done) : Type 0 where
+  pub holds : Holds following turn.now
   pub frames : done.frames ≡ sent_frames turn.now.path turn.sent
   pub told : done.told ≡ turn.told
 
 -- what an event makes of a link, an act being its row; nothing if memory was not given
 abbrev pub Makes : Act → Held → Held → Result Done OutOfMemory → Type 0
-Makes act before behind (Ok done) = (m : Machine) → Holds before m → Made (settled (act (begin m))) behind done
-Makes act before behind (Err fault) = behind ≡ before
+Makes act before following (Ok done) = (m : Machine) → Holds before m → Made (settled (act (begin m))) following done
+Makes act before following (Err fault) = following ≡ before

@@ -17,6 +17,6 @@ pub record HasRoom (frames told : ℕ) (room : Room) : Type 0 where
   pub for_told : told ≤ told_left room
 
 -- at most so much room is used
-pub record Uses (before behind : Room) (frames told : ℕ) : Type 0 where
-  pub of_frames : frames_left before ≤ frames_left behind + frames
-  pub of_told : told_left before ≤ told_left behind + told
+pub record Uses (before following : Room) (frames told : ℕ) : Type 0 where
+  pub of_frames : frames_left before ≤ frames_left following + frames
+  pub of_told : told_left before ≤ told_left following + told

@@ -4,7 +4,7 @@ ghost use Rattle.selective_reject.specs.Outgoing.{back};
 ghost use Rattle.link_machine.specs.Machine.{Machine as State, fresh_control, nothing_owed, idle_control, t1_after};
 ghost use Rattle.link_machine.specs.Machine.{wide_retries};
 ghost use Rattle.link_machine.specs.Turn.{begin};
-ghost use Rattle.link_machine.specs.Acts.{timed_by, behind_poll, releasing, calling, watching};
+ghost use Rattle.link_machine.specs.Acts.{timed_by, after_poll, releasing, calling, watching};
 ghost use Rattle.link_machine.specs.Wants.{owes, is_asked_again};
 ghost use Rattle.link_machine.specs.Seizing.{notice_passed, polling, info_sent};
 ghost use Rattle.link_machine.specs.Frames.{stopped_t1, stopped, unretried_call, heard, heard_busy, out_of_sequence};
@@ -277,7 +277,7 @@ impl Control {
 
     /// The answer to a poll has come, or comes no more; the retries then are so many.
     pub(crate) fn recover(&mut self, retries: u8)
-        ensures { self.new ≡ behind_poll retries self.old }
+        ensures { self.new ≡ after_poll retries self.old }
     {
         self.poll = false;
         self.by_info = false;

@@ -18,7 +18,7 @@ use Rattle.xid_parameters.specs.declared.parameters.LinkParameters.{LinkParamete
 use Rattle.link_machine.specs.declared.control.Control.{Control}
 use Rattle.link_machine.specs.declared.state.LinkState.{LinkState}
 use Rattle.link_machine.specs.declared.state.LinkState.TheVariants.{Idle, Calling, Up, Releasing}
-use Rattle.link_machine.specs.Acts.{acknowledged, answering, behind_poll, give, gone_back, nothing_asked}
+use Rattle.link_machine.specs.Acts.{acknowledged, answering, after_poll, give, gone_back, nothing_asked}
 use Rattle.link_machine.specs.Acts.{nothing_due, owing, picked_out, picking, polled, recover, recover_with, run_with}
 use Rattle.link_machine.specs.Acts.{stored, timed_anew, timed_by, unretried, watching, with_rej}
 use Rattle.link_machine.specs.Frames.{acknowledged_by_srej, heard, heard_busy, hear_info, hear_info_by, hear_rej}
@@ -100,7 +100,7 @@ Traffic = Run Single
 
 -- ---- what changes of the timers leaves
 
-pub poll_mode : (retries : ℕ) (c : Control) → KeepsMode c (behind_poll retries c)
+pub poll_mode : (retries : ℕ) (c : Control) → KeepsMode c (after_poll retries c)
 poll_mode retries c = either (KeepsMode c) c.busy _ _ (refl, refl) (refl, refl)
 
 pub timed_mode : (some all : Bool) (c : Control) → KeepsMode c (timed_by some all c)
@@ -142,7 +142,7 @@ polls_heard asked t =
 
 recovers_with : (retries : ℕ) (t : Turn) → Traffic t (recover_with retries t)
 recovers_with retries t =
-    more (sets (behind_poll retries t.now.control) none (poll_mode retries t.now.control)) goes_back
+    more (sets (after_poll retries t.now.control) none (poll_mode retries t.now.control)) goes_back
 
 recovers : (answered : Bool) (t : Turn) → Traffic t (recover answered t)
 recovers answered t =

@@ -19,7 +19,7 @@ use Rattle.selective_reject.specs.Incoming.{next_missing}
 use Rattle.selective_reject.specs.Places.{is_full}
 use Rattle.selective_reject.specs.declared.window.Mode.TheVariants.{Rej as RejMode, Srej as SrejMode}
 use Rattle.link_machine.specs.declared.state.LinkState.TheVariants.{Idle, Calling, Up, Releasing}
-use Rattle.link_machine.specs.Acts.{answering, behind_poll, calling_frame, nothing_asked, picked_out}
+use Rattle.link_machine.specs.Acts.{answering, after_poll, calling_frame, nothing_asked, picked_out}
 use Rattle.link_machine.specs.Acts.{release, reset, send_call}
 use Rattle.link_machine.specs.Event.{Event}
 use Rattle.link_machine.specs.Event.Event.{Connect, Send, Disconnect, Hear, Tick, Seize}
@@ -50,7 +50,7 @@ use Rattle.std.proofs.Common.{sym}
 use Rattle.std.proofs.lemmas.Bool.{and_parts}
 use Rattle.link_machine.specs.Wants.{wants_in}
 use Rattle.link_machine.specs.Asks.{asks, asks_by, hear_asks, hear_asks_calling, hear_asks_up, is_leaving}
-use Rattle.link_machine.specs.Asks.{is_leaving_behind, leaves_in, quit_asks, super_leaves, t1_ends, tick_asks}
+use Rattle.link_machine.specs.Asks.{is_leaving_after, leaves_in, quit_asks, super_leaves, t1_ends, tick_asks}
 use Rattle.link_world.proofs.law.invariant.Exchanges.{asks_append}
 use Rattle.link_world.proofs.law.reduced.CoreMoves.{ask_of, asks as asks_of}
 use Rattle.link_world.proofs.law.reduced.CoreOf.{core_sent, cores_sent, setup_of}
@@ -140,7 +140,7 @@ back_packets t = either (λ (o : Outgoing). o.packets ≡ t.now.outgoing.packets
 
 recover_packets : (answers : Bool) (t : Turn) → (recover answers t).now.outgoing.packets ≡ t.now.outgoing.packets
 recover_packets answers t = either (λ (u : Turn). u.now.outgoing.packets ≡ t.now.outgoing.packets)
-    (t.now.control.poll && answers) (recover_with 0 t) t (back_packets (setting (behind_poll 0) t)) refl
+    (t.now.control.poll && answers) (recover_with 0 t) t (back_packets (setting (after_poll 0) t)) refl
 
 polled_packets : (asked : Bool) (t : Turn) → (polled asked t).now.outgoing.packets ≡ t.now.outgoing.packets
 polled_packets asked t = either (λ (u : Turn). u.now.outgoing.packets ≡ t.now.outgoing.packets) asked
@@ -205,7 +205,7 @@ by_packets SrejMode ns packet t =
 
 info_asks :
     (n ns : ℕ) (flag : Bool) (packet : Packet) (m : Machine) → m.control.state ≡ Up
-    → sent_asks (settled (hear_info n ns flag packet (begin m))).sent ≡ one (is_leaving_behind n m)
+    → sent_asks (settled (hear_info n ns flag packet (begin m))).sent ≡ one (is_leaving_after n m)
 info_asks n ns flag packet m up =
     let t = changing (acknowledged n) (setting (heard false) (begin m)) in
     close_asks up (goes (info n ns flag packet (begin m))
@@ -218,7 +218,7 @@ notice_packets full t =
     either P t.now.control.passed (after_passing full off) t
     (either P (t.now.control.poll && not full) (poll_anew off) off
     (either P t.now.control.by_info (recover_with t.now.control.rc off) (setting asking off)
-    (back_packets (setting (behind_poll t.now.control.rc) off)) refl) refl) refl
+    (back_packets (setting (after_poll t.now.control.rc) off)) refl) refl) refl
 
 srej_packets : (o : Option ℕ) (t : Turn) → (send_srej o t).now.outgoing.packets ≡ t.now.outgoing.packets
 srej_packets None t = refl
@@ -299,7 +299,7 @@ up_asks :
     → sent_asks (settled (hear_up command kind (begin m))).sent ≡ one (hear_asks_up kind m)
 up_asks command (Info ns nr flag pid octets) m up =
     let packet : Packet = record { pid = pid; octets = octets } in
-    number_asks nr m (hear_info (named nr m) ns flag packet (begin m)) (is_leaving_behind (named nr m) m)
+    number_asks nr m (hear_info (named nr m) ns flag packet (begin m)) (is_leaving_after (named nr m) m)
     (info_asks (named nr m) ns flag packet m up)
 up_asks command (Super which nr flag) m up =
     number_asks nr m (hear_supervisory which (named nr m) command flag (begin m))

@@ -44,7 +44,7 @@ pub use Rattle.link_world.specs.Held.{flying, hearing_asks, is_quiet_between, se
 pub use Rattle.link_world.specs.Law.{hears_valid}
 pub use Rattle.link_world.specs.Quiet.{IsQuietRun, called_alone, is_alone, is_quiet, is_sabm_frame, sends_alone}
 pub use Rattle.link_world.specs.Reading.{frame_read, kind_read, read_narrow, with_kind}
-pub use Rattle.link_world.specs.Recorded.{EndTurn, Happening, RecordedEnd, accepts, behind, end_turn, hearing}
+pub use Rattle.link_world.specs.Recorded.{EndTurn, Happening, RecordedEnd, accepts, following, end_turn, hearing}
 pub use Rattle.link_world.specs.Recorded.{hears_ask, mate_of, noting, opening, seen, tagged, taking, told_of}
 pub use Rattle.link_world.specs.Recorded.{waiting_in}
 pub use Rattle.link_world.specs.Recorded.Happening.{Connects, Disconnects, Hears, Seizes, Sends, Ticks}

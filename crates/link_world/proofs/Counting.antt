@@ -16,9 +16,9 @@ pub record Steps (event : Event) (old new : HeldLink) (done : Done) : Type 0 whe
   pub stands : (m : Machine) → LinkStandsFor old m → LinkStandsFor new (step m event).now
 
 -- the link goes on running
-pub running_behind :
+pub running_after :
     (event : Event) (old new : HeldLink) (done : Done) → IsRunning old → Steps event old new done → IsRunning new
-running_behind event old new done h steps = record {
+running_after event old new done h steps = record {
   machine = (step h.machine event).now;
   stands = steps.stands h.machine h.stands;
   counts = (step_keeps h.machine event h.counts).counts;
@@ -39,7 +39,7 @@ pub near_formed :
     (event : Event) (old new : HeldSide) (done : Done) → IsSide old → Steps event old.link new.link done
     → All CanFly new.towards.items → IsSide new
 near_formed event old new done h steps frames =
-    record { link = running_behind event old.link new.link done h.link steps; frames = frames }
+    record { link = running_after event old.link new.link done h.link steps; frames = frames }
 
 -- so is its partner, with the frames that were sent after the others
 pub far_formed :

@@ -15,7 +15,7 @@ use Rattle.link_world.proofs.TagLemmas.{all_in_flight-tagged}
 pub record IsAsked (event : Event) (h : Happening) (w : World) (back : List InFlight) : Type 0 where
   pub turn : near_turn event w ≡ end_turn h w.a.end
   pub there : is_there event (length w.a.towards) ≡ true
-  pub behind : back ≡ all_in_flight (staying event w.a.towards)
+  pub following : back ≡ all_in_flight (staying event w.a.towards)
 
 -- the cause of a refusal, by its parts
 pub cause_is :
@@ -30,11 +30,11 @@ cause_is number event w refused quiet there r q =
     ∙ ap (λ x. cause_by refused x number) q
 
 -- the frames that were sent fly after the others
-sent_behind :
-    (event : Event) (h : Happening) (w : World) (ahead back behind : List InFlight) (done : Done) (told : List Told)
+sent_following :
+    (event : Event) (h : Happening) (w : World) (ahead back following : List InFlight) (done : Done) (told : List Told)
     → IsAsked event h w back → done ≡ done_of (step w.a.end.machine (seen h)) → ahead ≡ all_in_flight w.b.towards
-    → Flew done (hears_ask h) ahead behind told → behind ≡ all_in_flight (w.b.towards ++ (near_turn event w).sent)
-sent_behind event h w ahead back behind done told is does e flew =
+    → Flew done (hears_ask h) ahead following told → following ≡ all_in_flight (w.b.towards ++ (near_turn event w).sent)
+sent_following event h w ahead back following done told is does e flew =
     let turn = step w.a.end.machine (seen h) in
     flew.towards
     ∙ ap (λ x. x ++ map (flying (hears_ask h)) done.frames) e
@@ -56,11 +56,11 @@ made event h w near_old far_old near far back done told is does both link stays 
   stands = record {
     of_near = record {
       link = let P : EndTurn → Type 0 = λ t. LinkStandsFor near.link t.now.machine in subst P (sym is.turn) link;
-      towards = stays ∙ is.behind;
+      towards = stays ∙ is.following;
     };
     of_far = record {
       link = let P : HeldLink → Type 0 = λ l. LinkStandsFor l w.b.end.machine in subst P (sym same) both.of_far.link;
-      towards = sent_behind event h w far_old.towards.items back far.towards.items done told is does
+      towards = sent_following event h w far_old.towards.items back far.towards.items done told is does
           both.of_far.towards flew;
     };
   };

@@ -1,7 +1,7 @@
 -- Whether an event is quiet is known before it: by whether its link asks, and what is in flight.
 use Rattle.link_world.proofs.Common.{◌≡◌, ℕ, ◌+◌, Bool, true, false, ◌&&◌, not, ◌==◌, refl, ap, sym, ◌∙◌, arith, List}
 use Rattle.link_world.proofs.Common.{None, eqb-true, eqb-false, ne_eqb, Event, Happening, EndTurn, end_turn, seen}
-use Rattle.link_world.proofs.Common.{hears_ask, behind, RecordedEnd, World, near_turn, staying, is_alone, sends_alone}
+use Rattle.link_world.proofs.Common.{hears_ask, following, RecordedEnd, World, near_turn, staying, is_alone, sends_alone}
 use Rattle.link_world.proofs.Common.{asks_in, answers_in, step, InFlight, all_in_flight, asking, answering, near_cause}
 use Rattle.link_world.proofs.Common.{refused_by, is_quiet_between}
 use Rattle.std.proofs.lemmas.Bool.{eq-eqb}
@@ -16,7 +16,7 @@ use Rattle.link_world.proofs.law.runs.WorldSteps.{asks_sent}
 turn_asks : (h : Happening) (r : RecordedEnd) → asks_in (end_turn h r).sent ≡ one (asks r.machine (seen h))
 turn_asks h r =
     let turn = step r.machine (seen h) in
-    asks_sent (hears_ask h) (behind h r turn) turn.sent ∙ step_asks r.machine (seen h)
+    asks_sent (hears_ask h) (following h r turn) turn.sent ∙ step_asks r.machine (seen h)
 
 -- one is alone if nothing is ahead of it
 alone_by : (b : Bool) (ahead : ℕ) → is_alone (one b) ahead ≡ not (b && not (ahead == 0))
@@ -45,7 +45,7 @@ known_before :
 known_before event h w ahead back is e =
     let to_other : asks_in w.b.towards ≡ asking ahead = asks_in-flight w.b.towards ∙ ap asking (sym e) in
     let here : answers_in (staying event w.a.towards) ≡ answering back =
-    answers_in-flight (staying event w.a.towards) ∙ ap answering (sym is.behind) in
+    answers_in-flight (staying event w.a.towards) ∙ ap answering (sym is.following) in
     let b = asks w.a.end.machine (seen h) in
     alone_is event h w is.turn
     ∙ ap (λ n. not (b && not (n + answers_in (staying event w.a.towards) == 0))) to_other

@@ -26,11 +26,11 @@ use Rattle.link_world.proofs.Happens.{IsAsked, made}
 pub is_asked :
     (request : Request) (end : End) (w : World) (back : List InFlight) → back ≡ all_in_flight w.a.towards
     → IsAsked (event_of request end) (happening_of request) w back
-is_asked ConnectRequest end w back e = record { turn = refl; there = refl; behind = e }
-is_asked (SendRequest packet) end w back e = record { turn = refl; there = refl; behind = e }
-is_asked DisconnectRequest end w back e = record { turn = refl; there = refl; behind = e }
-is_asked (TickRequest waiting) end w back e = record { turn = refl; there = refl; behind = e }
-is_asked (SeizeRequest last full) end w back e = record { turn = refl; there = refl; behind = e }
+is_asked ConnectRequest end w back e = record { turn = refl; there = refl; following = e }
+is_asked (SendRequest packet) end w back e = record { turn = refl; there = refl; following = e }
+is_asked DisconnectRequest end w back e = record { turn = refl; there = refl; following = e }
+is_asked (TickRequest waiting) end w back e = record { turn = refl; there = refl; following = e }
+is_asked (SeizeRequest last full) end w back e = record { turn = refl; there = refl; following = e }
 
 -- the link refuses it as an event, if it does
 pub same_refusal :
@@ -111,7 +111,7 @@ heard_at end r (tag ∷ tags) b items heard named frame e some first same read =
       asked = record {
         turn = ap (λ o. turn_of (hearing_as tag o) r) reads;
         there = lt-ltb 0 (suc (length tags)) (omega arith);
-        behind = ap (drop 1) e;
+        following = ap (drop 1) e;
       };
     }
 

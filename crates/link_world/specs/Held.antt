@@ -145,8 +145,8 @@ pub record MadeStep (event : Event) (w : World) (near far : HeldSide) (told : Li
   pub tells : told ≡ (near_turn event w).told
 
 -- the frames of an event went after those in flight
-pub record Flew (done : Done) (on_ask : Bool) (ahead behind : List InFlight) (told : List Told) : Type 0 where
-  pub towards : behind ≡ ahead ++ map (flying on_ask) done.frames
+pub record Flew (done : Done) (on_ask : Bool) (ahead following : List InFlight) (told : List Told) : Type 0 where
+  pub towards : following ≡ ahead ++ map (flying on_ask) done.frames
   pub tells : told ≡ done.told
 
 -- at which event the world stops, by what that answered

@@ -69,7 +69,7 @@ hearing Up tagged r =
     else r
 hearing Releasing tagged r = r
 
--- what is recorded of what happens; a request that the link refuses leaves nothing behind
+-- what is recorded of what happens; a request that the link refuses leaves nothing after
 abbrev pub noting : Happening → RecordedEnd → RecordedEnd
 noting Connects r = r
 noting (Sends packet) r =
@@ -106,8 +106,8 @@ waiting_in Up waiting = []
 waiting_in Releasing waiting = []
 
 -- the end after what happened, if its link makes this turn
-abbrev pub behind : Happening → RecordedEnd → Turn → RecordedEnd
-behind h r turn =
+abbrev pub following : Happening → RecordedEnd → Turn → RecordedEnd
+following h r turn =
     let noted = noting h r in
     record {
       machine = turn.now;
@@ -145,7 +145,7 @@ pub record EndTurn : Type 0 where
 
 abbrev pub end_turn_of : Happening → RecordedEnd → Turn → EndTurn
 end_turn_of h r turn =
-    let now = behind h r turn in record { now = now; sent = map (tagged (hears_ask h) now) turn.sent; told = turn.told }
+    let now = following h r turn in record { now = now; sent = map (tagged (hears_ask h) now) turn.sent; told = turn.told }
 
 -- one step of its link, whatever the record says
 abbrev pub end_turn : Happening → RecordedEnd → EndTurn

@@ -38,8 +38,8 @@ pub record StandsFor (held : HeldWorld) (w : World) : Type 0 where
   pub towards_b : held.b.towards.items ≡ all_in_flight w.b.towards
 
 -- nothing has changed but how many calls there were, and at which the world stopped
-pub record IsAlike (before behind : HeldWorld) : Type 0 where
-  pub link_of_a : behind.a.link ≡ before.a.link
-  pub link_of_b : behind.b.link ≡ before.b.link
-  pub towards_a : behind.a.towards.items ≡ before.a.towards.items
-  pub towards_b : behind.b.towards.items ≡ before.b.towards.items
+pub record IsAlike (before following : HeldWorld) : Type 0 where
+  pub link_of_a : following.a.link ≡ before.a.link
+  pub link_of_b : following.b.link ≡ before.b.link
+  pub towards_a : following.a.towards.items ≡ before.a.towards.items
+  pub towards_b : following.b.towards.items ≡ before.b.towards.items

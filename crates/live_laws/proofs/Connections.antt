@@ -18,7 +18,7 @@ use Rattle.station_laws.proofs.Common.{AreTakenBy, IsHostTurn, ending, joining, 
 use Rattle.station_laws.proofs.Common.{heeding, heeding_all, param_of, with_param, giving_up, giving_up_all, giving_up_link}
 use Rattle.station_laws.proofs.Common.{leaving, without_host, without_owner, event_at, with_links, Link, link_at}
 use Rattle.station_laws.proofs.Common.{most_links, with_link, making, no_layer_3, is_number, Route, path_along}
-use Rattle.station_laws.proofs.Common.{behind_repeaters, repeaters_in, route_in, StationState, ticking, Act, Turn, may_enter}
+use Rattle.station_laws.proofs.Common.{after_repeaters, repeaters_in, route_in, StationState, ticking, Act, Turn, may_enter}
 use Rattle.station_laws.proofs.Common.{changing, closing, dropping, entering_for, in_order, queueing_for, queueing_own, Asker}
 use Rattle.station_laws.proofs.Common.{Input, IsTurn, FromHost, OfClock, OffAir, Choice, LinkStep, heard_steps, ap}
 use Rattle.station_laws.proofs.Common.{ticking_at, ticking_links, asked_links, asking_at, asked_key, seizing}
@@ -261,7 +261,7 @@ module _ (IsSo : ℕ → PortKind → Type 0) (IsNamed : ℕ → Type 0)
       (either (n == unproto_kind) _ _
       (unnumbered_so host message.pid message.body (route_in message.from message.to (Some [])) t h)
       (either (n == unproto_via_kind) _ _
-      (unnumbered_so host message.pid (behind_repeaters message.body)
+      (unnumbered_so host message.pid (after_repeaters message.body)
       (route_in message.from message.to (repeaters_in message.body)) t h)
       (either (n == data_kind) _ _ (data_so message (own_key host message t.now.links) t h)
       (either (n == disconnect_kind) _ _ (ends_so (own_key host message t.now.links) t h)

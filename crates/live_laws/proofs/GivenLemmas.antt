@@ -4,7 +4,7 @@ use Rattle.station_laws.proofs.Common.{None, is_some, refl, sym, ap, ◌∙◌, 
 use Rattle.station_laws.proofs.Common.{All-from_recursion, recursion_from_All}
 use Rattle.station_laws.proofs.Common.{Path, Frame, Packet, Told, Opened, Given, Ended, LinkState, Idle, Calling, Up}
 use Rattle.station_laws.proofs.Common.{Releasing, Machine, End, A, B, made_in, run_changes, Tagged, RecordedEnd}
-use Rattle.station_laws.proofs.Common.{Happening, behind, Connects, Disconnects, Hears, Seizes, Sends, Ticks, World}
+use Rattle.station_laws.proofs.Common.{Happening, following, Connects, Disconnects, Hears, Seizes, Sends, Ticks, World}
 use Rattle.station_laws.proofs.Common.{seen_from, near_turn, turn_of, hearing_as, hearing_first, read_in, Step}
 use Rattle.station_laws.proofs.Common.{at_end, Calls, Pairs, Counts, link_at_end, count_at, with_more, event_at_end, makes}
 use Rattle.station_laws.proofs.Common.{changes_by, all_changes_by, changes_from, FollowsAll, FollowsThrough}
@@ -142,11 +142,11 @@ still_waits Releasing packets waiting is = refl
 abbrev told_more : List ℕ → Gave → List Told → Gave
 told_more waiting gave told = record { set_ups = fold (opens_with waiting) gave.set_ups told; waiting = waiting }
 
-behind_gave :
+after_gave :
     (h : Happening) (r noted : RecordedEnd) (turn : LinkTurn) (gave : Gave) (waiting : List ℕ) → noting h r ≡ noted
     → octets_of noted.waiting ≡ waiting → all_given noted.set_ups ≡ gave.set_ups
-    → EndGave (behind h r turn) (told_more waiting gave turn.told)
-behind_gave h r noted turn gave waiting is waits gives =
+    → EndGave (following h r turn) (told_more waiting gave turn.told)
+after_gave h r noted turn gave waiting is waits gives =
     subst (λ (n : RecordedEnd). EndGave (record {
       machine = turn.now;
       set_ups = fold (told_of (opening h n turn)) n.set_ups turn.told;
@@ -206,7 +206,7 @@ heard_gave towards r gave told s is = by_front towards is
         let h : Happening = Hears (record f { frame = g }) in
         let same = noted_same (record f { frame = g }) r in
         by_told (end_turn h r).now waiting gave (end_turn h r).told told e
-        (behind_gave h r (noting h r) (link_turn r.machine (LinkHear g)) gave waiting refl
+        (after_gave h r (noting h r) (link_turn r.machine (LinkHear g)) gave waiting refl
         (ap octets_of same.0 ∙ s.waits) (same.1 ∙ s.gives))
 
     by_front : (flying : List Tagged) → (turn_of (hearing_first r.machine.incoming.modulus flying) r).told ≡ told
@@ -223,25 +223,25 @@ event_gave :
 event_gave e LinkConnect v gave told is none s =
     by_told (near_turn (event_at_end e LinkConnect) v).now (waits_in v.a.end.machine.control.state gave.waiting) gave
     (link_turn v.a.end.machine LinkConnect).told told is
-    (behind_gave Connects v.a.end v.a.end (link_turn v.a.end.machine LinkConnect) gave
+    (after_gave Connects v.a.end v.a.end (link_turn v.a.end.machine LinkConnect) gave
     (waits_in v.a.end.machine.control.state gave.waiting) refl s.waits s.gives)
 event_gave e (LinkSend packet) v gave told is none s = absurd none
 event_gave e LinkDisconnect v gave told is none s =
     by_told (near_turn (event_at_end e LinkDisconnect) v).now (waits_in v.a.end.machine.control.state gave.waiting) gave
     (link_turn v.a.end.machine LinkDisconnect).told told is
-    (behind_gave Disconnects v.a.end v.a.end (link_turn v.a.end.machine LinkDisconnect) gave
+    (after_gave Disconnects v.a.end v.a.end (link_turn v.a.end.machine LinkDisconnect) gave
     (waits_in v.a.end.machine.control.state gave.waiting) refl s.waits s.gives)
 event_gave e (LinkHear frame) v gave told is none s = heard_gave v.a.towards v.a.end gave told s is
 event_gave e (LinkTick still) v gave told is none s =
     by_told (near_turn (event_at_end e (LinkTick still)) v).now (waits_in v.a.end.machine.control.state gave.waiting)
     gave (link_turn v.a.end.machine (LinkTick still)).told told is
-    (behind_gave (Ticks still) v.a.end v.a.end (link_turn v.a.end.machine (LinkTick still)) gave
+    (after_gave (Ticks still) v.a.end v.a.end (link_turn v.a.end.machine (LinkTick still)) gave
     (waits_in v.a.end.machine.control.state gave.waiting) refl s.waits s.gives)
 event_gave e (LinkSeize last full) v gave told is none s =
     by_told (near_turn (event_at_end e (LinkSeize last full)) v).now
     (waits_in v.a.end.machine.control.state gave.waiting) gave
     (link_turn v.a.end.machine (LinkSeize last full)).told told is
-    (behind_gave (Seizes last full) v.a.end v.a.end (link_turn v.a.end.machine (LinkSeize last full)) gave
+    (after_gave (Seizes last full) v.a.end v.a.end (link_turn v.a.end.machine (LinkSeize last full)) gave
     (waits_in v.a.end.machine.control.state gave.waiting) refl s.waits s.gives)
 
 -- ---- a packet

@@ -9,7 +9,7 @@ pub use Rattle.hf_sensitive.specs.Found.{AreAddedAmong, IsAmong}
 pub use Rattle.hf_sensitive.specs.HeldBanks.{AllStandFor, AreAt}
 pub use Rattle.hf_tracking.specs.Heard.{places_in}
 pub use Rattle.live_receiver.specs.HeardOnShortWave.{AreDue, AreHeard, AreMerged, AreRest, IsAddedInOne, IsHeardByOne}
-pub use Rattle.live_receiver.specs.HeardOnShortWave.{IsHeardIn, IsHeardInOne, behind, lanes_in, moved, moved_added}
+pub use Rattle.live_receiver.specs.HeardOnShortWave.{IsHeardIn, IsHeardInOne, following, lanes_in, moved, moved_added}
 pub use Rattle.live_receiver.specs.HeardOnShortWave.{placed, settled_end}
 pub use Rattle.live_receiver.specs.HeldHf.{AreInStep, BanksFollow, CanCome, HasMergedHf, HeldHf, HfHears, HfListens}
 pub use Rattle.live_receiver.specs.HeldHf.{HoldStretch, StandsForStretch, hf_answers, hf_of, place_of, sensitive_of_hf}

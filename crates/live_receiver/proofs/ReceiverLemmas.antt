@@ -5,7 +5,7 @@ use Rattle.live_receiver.proofs.Common.{position_of, answers_of, Leads, leads_po
 use Rattle.live_receiver.proofs.Common.{last_stretch, stretch_at, in_order, merged, below, settled_end, AreDue, HfLanes}
 use Rattle.live_receiver.proofs.Common.{Heard, Turn, HfListens, HfHears, AreInStep, MadeTurn, MakesHfTurn, hf_of, IsNew}
 use Rattle.live_receiver.proofs.Common.{HasMergedHf, AreAllIn, AreMore, CanCome, HaveHeard, HoldStretch}
-use Rattle.live_receiver.proofs.Common.{IsHeardInOne, PutsMore, StandsForStretch, Stretch, behind, lanes_in}
+use Rattle.live_receiver.proofs.Common.{IsHeardInOne, PutsMore, StandsForStretch, Stretch, following, lanes_in}
 use Rattle.std.proofs.lemmas.List.{get_or-replicate}
 use Rattle.frame_merge.specs.Held.{Held as HeldMerger, StandsFor as MergerStandsFor}
 use Rattle.slicer_bank.specs.Merging.{AreInTime}
@@ -36,18 +36,18 @@ module _ (len : ℕ) (before after : Reader) (lanes lanes' : HfLanes) (was put n
     (made : MadeTurn (AreAllIn (IsHeardInOne lanes.sensitive)) (HoldStretch lanes) (HoldStretch lanes')
     (StandsForStretch lanes) (StandsForStretch lanes') len 0 before after turn)
     (comes : All (CanCome lanes.sensitive (position_of before)) turn.items.items)
-    (step : now.marks ≡ replicate (lanes_in lanes'.sensitive) (position_of after / 4 - behind lanes'.sensitive)
+    (step : now.marks ≡ replicate (lanes_in lanes'.sensitive) (position_of after / 4 - following lanes'.sensitive)
     → AreInStep after lanes' now)
     (same : lanes'.sensitive ≡ lanes.sensitive) (puts_more : PutsMore was put turn.items.items)
     (here : position ≡ position_of after) (small : position < 2 ^ 64) (least_is : heard.least ≡ position)
     (over : heard.ended ≡ turn.ended) (told : heard.gaps.items ≡ turn.gaps.items)
     (settles : turn.ended ≡ false → (puts given : List Candidate) → MergerStandsFor put puts given
     → MergerStandsFor now puts (given ++ heard.items.items)
-    × (given ++ heard.items.items ≡ below (position / 4 - behind lanes'.sensitive) (merged (in_order puts))))
+    × (given ++ heard.items.items ≡ below (position / 4 - following lanes'.sensitive) (merged (in_order puts))))
     (rests : turn.ended ≡ true → (puts given : List Candidate) → MergerStandsFor put puts given
     → given ++ heard.items.items ≡ merged (in_order puts))
     (marks : turn.ended ≡ false
-    → now.marks ≡ replicate (lanes_in lanes'.sensitive) (position / 4 - behind lanes'.sensitive)) where
+    → now.marks ≡ replicate (lanes_in lanes'.sensitive) (position / 4 - following lanes'.sensitive)) where
   abbrev In : Stretch → Candidate → Type 0
   In = IsHeardInOne lanes.sensitive
 
@@ -96,7 +96,7 @@ module _ (len : ℕ) (before after : Reader) (lanes lanes' : HfLanes) (was put n
         × (given ++ heard.items.items ≡ below (settled_end s (answers_of len after)) (merged (in_order puts)))) same
         (subst (λ p. (puts given : List Candidate) → MergerStandsFor put puts given
         → MergerStandsFor now puts (given ++ heard.items.items)
-        × (given ++ heard.items.items ≡ below (p / 4 - behind lanes'.sensitive) (merged (in_order puts))))
+        × (given ++ heard.items.items ≡ below (p / 4 - following lanes'.sensitive) (merged (in_order puts))))
         (at_end h.listens) (settles (sym over ∙ e)))
 
     merged_now : heard.ended ≡ false → HasMergedHf lanes.sensitive now (answers_of len after)
@@ -137,7 +137,7 @@ module _ (len : ℕ) (before after : Reader) (lanes lanes' : HfLanes) (was put n
         (StandsForStretch lanes') len before after turn heard made h.listens.lead (least_is ∙ here)
         (let e = least_is in omega arith);
     step = λ e. step (marks (sym over ∙ e)
-        ∙ ap (λ p. replicate (lanes_in lanes'.sensitive) (p / 4 - behind lanes'.sensitive)) here);
+        ∙ ap (λ p. replicate (lanes_in lanes'.sensitive) (p / 4 - following lanes'.sensitive)) here);
   }
 
 -- ---- what a turn brings can be put into the merger
@@ -149,7 +149,7 @@ fits reader lanes was items step comes k d l =
     let c = comes k d l in
     let lane = c.lane in
     let many = many_of was.marks (lanes_in lanes.sensitive)
-    (position_of reader / 4 - behind lanes.sensitive) step.marks in
+    (position_of reader / 4 - following lanes.sensitive) step.marks in
     (omega (arith, lane, many), c.end)
 
 pub in_time : (reader : Reader) (lanes : HfLanes) (was : HeldMerger) (items : List Candidate) → AreInStep reader lanes was
@@ -157,7 +157,7 @@ pub in_time : (reader : Reader) (lanes : HfLanes) (was : HeldMerger) (items : Li
 in_time reader lanes was items step comes k d l =
     let c = comes k d l in
     let item : Candidate = get_or items k d in
-    let mark : ℕ = position_of reader / 4 - behind lanes.sensitive in
+    let mark : ℕ = position_of reader / 4 - following lanes.sensitive in
     let late = c.late in
     let at : get_or was.marks item.offset 0 ≡ mark = ap (λ ms. get_or ms item.offset 0) step.marks
     ∙ get_or-replicate (lanes_in lanes.sensitive) item.offset mark 0 c.lane in
@@ -167,14 +167,14 @@ in_time reader lanes was items step comes k d l =
 pub marks_low : (before after : Reader) (lanes lanes' : HfLanes) (was put : HeldMerger) (position : ℕ)
     → AreInStep before lanes was → put.marks ≡ was.marks → position_of before ≤ position_of after
     → lanes'.sensitive ≡ lanes.sensitive → position ≡ position_of after
-    → All (λ mark. mark ≤ position / 4 - behind lanes'.sensitive) put.marks
+    → All (λ mark. mark ≤ position / 4 - following lanes'.sensitive) put.marks
 marks_low before after lanes lanes' was put position step kept up same here =
-    marks_rise put.marks (lanes_in lanes'.sensitive) (position_of before / 4 - behind lanes'.sensitive)
-    (position / 4 - behind lanes'.sensitive) (kept ∙ step.marks
-    ∙ ap (λ (s : Bool). replicate (lanes_in s) (position_of before / 4 - behind s)) (sym same)) (omega arith)
+    marks_rise put.marks (lanes_in lanes'.sensitive) (position_of before / 4 - following lanes'.sensitive)
+    (position / 4 - following lanes'.sensitive) (kept ∙ step.marks
+    ∙ ap (λ (s : Bool). replicate (lanes_in s) (position_of before / 4 - following s)) (sym same)) (omega arith)
 
 pub marks_many : (reader : Reader) (lanes lanes' : HfLanes) (was put : HeldMerger) → AreInStep reader lanes was
     → put.marks ≡ was.marks → lanes'.sensitive ≡ lanes.sensitive → length put.marks ≡ lanes_in lanes'.sensitive
 marks_many reader lanes lanes' was put step kept same =
-    many_of put.marks (lanes_in lanes'.sensitive) (position_of reader / 4 - behind lanes'.sensitive)
-    (kept ∙ step.marks ∙ ap (λ (s : Bool). replicate (lanes_in s) (position_of reader / 4 - behind s)) (sym same))
+    many_of put.marks (lanes_in lanes'.sensitive) (position_of reader / 4 - following lanes'.sensitive)
+    (kept ∙ step.marks ∙ ap (λ (s : Bool). replicate (lanes_in s) (position_of reader / 4 - following s)) (sym same))

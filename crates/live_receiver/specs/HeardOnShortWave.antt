@@ -20,9 +20,9 @@ lanes_in false = 32
 lanes_in true = 59
 
 -- how many fours of samples after its end a frame can still be heard
-abbrev pub behind : Bool → ℕ
-behind false = 0
-behind true = 17
+abbrev pub following : Bool → ℕ
+following false = 0
+following true = 17
 
 -- what is heard that ends at a place
 abbrev pub placed : ℕ → Candidate → Candidate
@@ -65,7 +65,7 @@ pub record AreHeard (sensitive : Bool) (answers : List Got) (items : List Candid
 
 -- the end below which the lanes hear nothing more
 abbrev pub settled_end : Bool → List Got → ℕ
-settled_end sensitive answers = position_after answers / 4 - behind sensitive
+settled_end sensitive answers = position_after answers / 4 - following sensitive
 
 -- the items are those of what the lanes hear, merged, that end from one end to below another
 pub record AreMerged (sensitive : Bool) (from to : ℕ) (answers : List Got) (items : List Candidate) : Type 0 where

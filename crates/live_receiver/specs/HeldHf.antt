@@ -15,7 +15,7 @@ use Rattle.stretch_reader.specs.Turns.{HaveHeard}
 use Rattle.hf_modem.specs.Held.{BankStandsFor}
 use Rattle.hf_sensitive.specs.HeldBanks.{AllStandFor, AreAt}
 use Rattle.live_receiver.specs.declared.hf_lanes.HfLanes.{HfLanes}
-use Rattle.live_receiver.specs.HeardOnShortWave.{AreHeard, IsHeardInOne, behind, lanes_in, settled_end}
+use Rattle.live_receiver.specs.HeardOnShortWave.{AreHeard, IsHeardInOne, following, lanes_in, settled_end}
 
 -- the lanes and their reader, and the merger of what they hear; and whether memory was wanted or the ring has ended
 pub record HeldHf : Type 0 where
@@ -55,7 +55,7 @@ pub record HoldStretch (lanes : HfLanes) (stretch : Stretch) (items : List Candi
 pub record CanCome (sensitive : Bool) (from : ℕ) (item : Candidate) : Type 0 where
   pub lane : item.offset < lanes_in sensitive
   pub end : item.end < 2 ^ 64 - 1
-  pub late : from / 4 - behind sensitive ≤ item.end
+  pub late : from / 4 - following sensitive ≤ item.end
 
 -- the position of the next sample
 abbrev pub place_of : HfLanes → ℕ
@@ -71,7 +71,7 @@ pub record AreInStep (reader : Reader) (lanes : HfLanes) (merger : HeldMerger) :
   pub room : position_of reader < 2 ^ 48
   pub banks : BanksFollow lanes
   pub marks : merger.marks
-      ≡ replicate (lanes_in lanes.sensitive) (position_of reader / 4 - behind lanes.sensitive)
+      ≡ replicate (lanes_in lanes.sensitive) (position_of reader / 4 - following lanes.sensitive)
 
 -- the merger took all that the lanes heard, in whatever order, and has given what ends below the settled end
 pub record HasMergedHf (sensitive : Bool) (merger : HeldMerger) (answers : List Got) : Type 0 where

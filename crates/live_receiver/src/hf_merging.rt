@@ -7,7 +7,7 @@ ghost use Rattle.frame_merge.specs.Held.{StandsFor, least};
 ghost use Rattle.frame_merge.specs.Merged.{merged, below};
 ghost use Rattle.frame_merge.specs.Order.{in_order};
 ghost use Rattle.slicer_bank.specs.Merging.{AreInTime};
-ghost use Rattle.live_receiver.specs.HeardOnShortWave.{behind, lanes_in};
+ghost use Rattle.live_receiver.specs.HeardOnShortWave.{following, lanes_in};
 ghost use Rattle.live_receiver.specs.HfTurns.{PutsMore};
 
 use frame_merge::{Candidate, Merger};
@@ -23,8 +23,8 @@ pub(crate) fn lanes_in(sensitive: bool) -> u8
 }
 
 /// How many fours of samples after its end a frame can still be heard.
-fn behind(sensitive: bool) -> u64
-    ensures { result ≡ behind sensitive }
+fn following(sensitive: bool) -> u64
+    ensures { result ≡ following sensitive }
 {
     if sensitive { BEHIND } else { 0 }
 }
@@ -51,14 +51,14 @@ pub(crate) fn settle(
     ended: bool,
 ) -> Result<Vec<Candidate>, OutOfMemory>
     requires lanes { length merger.old.marks ≡ lanes_in sensitive }
-    requires marks { All (λ mark. mark ≤ position / 4 - behind sensitive) merger.old.marks }
+    requires marks { All (λ mark. mark ≤ position / 4 - following sensitive) merger.old.marks }
     ensures settled { IfOk result (λ items. ended ≡ false → (puts given : List Candidate)
         → StandsFor merger.old puts given → StandsFor merger.new puts (given ++ items.items)
-        × (given ++ items.items ≡ below (position / 4 - behind sensitive) (merged (in_order puts)))) }
+        × (given ++ items.items ≡ below (position / 4 - following sensitive) (merged (in_order puts)))) }
     ensures rest { IfOk result (λ items. ended ≡ true → (puts given : List Candidate)
         → StandsFor merger.old puts given → given ++ items.items ≡ merged (in_order puts)) }
     ensures marks { OnOk result (ended ≡ false
-        → merger.new.marks ≡ replicate (lanes_in sensitive) (position / 4 - behind sensitive)) }
+        → merger.new.marks ≡ replicate (lanes_in sensitive) (position / 4 - following sensitive)) }
 {
     mark_all(merger, sensitive, position, ended);
     let ready = merger.take_ready()?;
@@ -68,9 +68,9 @@ pub(crate) fn settle(
 /// Marks all lanes where they have heard up to a position, or says that none brings another candidate.
 fn mark_all(merger: &mut Merger, sensitive: bool, position: u64, ended: bool)
     requires lanes { length merger.old.marks ≡ lanes_in sensitive }
-    requires marks { All (λ mark. mark ≤ position / 4 - behind sensitive) merger.old.marks }
+    requires marks { All (λ mark. mark ≤ position / 4 - following sensitive) merger.old.marks }
     ensures marks { ended ≡ false
-        → merger.new.marks ≡ replicate (lanes_in sensitive) (position / 4 - behind sensitive) }
+        → merger.new.marks ≡ replicate (lanes_in sensitive) (position / 4 - following sensitive) }
     ensures least { ended ≡ true → least merger.new.marks ≡ 2 ^ 64 - 1 }
     ensures stands_for { (puts given : List Candidate) → StandsFor merger.old puts given
         → StandsFor merger.new puts given }
@@ -79,5 +79,5 @@ fn mark_all(merger: &mut Merger, sensitive: bool, position: u64, ended: bool)
         merger.finish();
         return;
     }
-    merger.mark_all((position / SAMPLES_AN_END).saturating_sub(behind(sensitive)));
+    merger.mark_all((position / SAMPLES_AN_END).saturating_sub(following(sensitive)));
 }

@@ -6,7 +6,7 @@ use Rattle.offset_slicers.proofs.Common.{bits_of, last_tone, tone_of, windows_in
 use Rattle.offset_slicers.proofs.Common.{held_of, offset_from, StandsFor}
 use Rattle.std.proofs.lemmas.List.{drop_all, take_more_set, length-set}
 use Rattle.nrzi_bits.proofs.LineLemmas.{last_tone-push}
-use Rattle.offset_slicers.specs.Held.{part_behind}
+use Rattle.offset_slicers.specs.Held.{part_after}
 use Rattle.offset_slicers.specs.Windows.{next_window}
 use Rattle.offset_slicers.proofs.TonesOfWindows.{tones_of-push_none, tones_of-push_one}
 
@@ -28,7 +28,7 @@ tones_at-push_one = tones_of-push_one 8 (omega arith) tone_of
 -- the window that a sample ends
 pub window_at-push : (offset : ℕ) (x : List ℤ) (sample : ℤ) (window : List ℤ) → offset ≤ length x
     → (length x - offset) % 8 ≡ 7
-    → length window ≡ 8 → take 7 window ≡ part_behind offset x
+    → length window ≡ 8 → take 7 window ≡ part_after offset x
     → window_at offset (x ++ sample ∷ []) (windows_in offset (length x)) ≡ set window 7 sample
 unfolding window_at
 window_at-push offset x sample window begun last size part =
@@ -46,7 +46,7 @@ window_at-push offset x sample window begun last size part =
 -- what is kept of all samples, of so many, if the first window begins after `offset` of them
 record Keeps (offset position : ℕ) (window : List ℤ) (before : Tone) (x : List ℤ) : Type 0 where
   count : position ≡ length x
-  part : take ((position - offset) % 8) window ≡ part_behind offset x
+  part : take ((position - offset) % 8) window ≡ part_after offset x
   tone : before ≡ last_tone (tones_at offset x)
 
 -- a sample before the first window
@@ -92,7 +92,7 @@ tones_at-last : (offset position : ℕ) (window : List ℤ) (before : Tone) (x :
     → tones_at offset (x ++ sample ∷ []) ≡ tones_at offset x ++ tone_of (set window 7 sample) ∷ []
 tones_at-last offset position window before x sample h begun last whole =
     let count : position ≡ length x = h.count in
-    let part : take 7 window ≡ part_behind offset x = ap (λ n. take n window) (sym last) ∙ h.part in
+    let part : take 7 window ≡ part_after offset x = ap (λ n. take n window) (sym last) ∙ h.part in
     tones_at-push_one offset x sample (omega arith)
     ∙ ap (λ w. tones_at offset x ++ tone_of w ∷ []) (window_at-push offset x sample window (omega arith) (omega arith)
     whole part)
@@ -118,11 +118,11 @@ stands_of : (offset first position begin r n : ℕ) (window : List ℤ) (before 
     → r ≡ offset_from offset begin → position ≡ begin + n → first ≡ begin + r
     → Keeps r n window before x → StandsFor (held_of offset first position window before) begin x
 stands_of offset first position begin r n window before x is count begins keeps =
-    let behind : position - first ≡ n - r = omega arith in
+    let following : position - first ≡ n - r = omega arith in
     record {
       count = count ∙ ap (λ m. begin + m) keeps.count;
       first = begins ∙ ap (λ m. begin + m) is;
-      part = ap (λ m. take (m % 8) window) behind ∙ keeps.part ∙ ap (λ m. part_behind m x) is;
+      part = ap (λ m. take (m % 8) window) following ∙ keeps.part ∙ ap (λ m. part_after m x) is;
       before = keeps.tone ∙ ap (λ m. last_tone (tones_at m x)) is;
     }
 
@@ -150,13 +150,13 @@ module _ (offset first position begin : ℕ) (window : List ℤ) (before : Tone)
   begins = h.first ∙ ap (λ m. begin + m) (sym is)
 
   -- how far after the begin of the first window the stretch has come
-  behind : position - first ≡ length x - r
-  behind = let count = h.count in let first_at = begins in omega arith
+  following : position - first ≡ length x - r
+  following = let count = h.count in let first_at = begins in omega arith
 
   keeps : Keeps r (length x) window before x
   keeps = record {
     count = refl;
-    part = ap (λ m. take (m % 8) window) (sym behind) ∙ h.part ∙ ap (λ m. part_behind m x) (sym is);
+    part = ap (λ m. take (m % 8) window) (sym following) ∙ h.part ∙ ap (λ m. part_after m x) (sym is);
     tone = h.before ∙ ap (λ m. last_tone (tones_at m x)) (sym is);
   }
 
@@ -179,11 +179,11 @@ module _ (offset first position begin : ℕ) (window : List ℤ) (before : Tone)
   stands_within late within whole =
       let count = h.count in
       let first_at = begins in
-      let place : (length x - r) % 8 < 7 = subst (λ m. m % 8 < 7) behind within in
+      let place : (length x - r) % 8 < 7 = subst (λ m. m % 8 < 7) following within in
       let P : ℕ → Type 0 = λ m. Keeps r (length x + 1) (set window (m % 8) sample) before (x ++ sample ∷ []) in
       stands_of offset first (position + 1) begin r (length x + 1) (set window ((position - first) % 8) sample) before
       (x ++ sample ∷ []) is further begins
-      (subst P (sym behind) (keeps_within r (length x) window before x sample keeps (omega arith) place whole))
+      (subst P (sym following) (keeps_within r (length x) window before x sample keeps (omega arith) place whole))
 
   module _ (late : first ≤ position) (last : 7 ≤ (position - first) % 8) (whole : length window ≡ 8) (stored : ℤ)
       (after : Tone) (same : stored ≡ sample)
@@ -192,7 +192,7 @@ module _ (offset first position begin : ℕ) (window : List ℤ) (before : Tone)
     at_last = omega arith
 
     place_last : (length x - r) % 8 ≡ 7
-    place_last = ap (λ m. m % 8) (sym behind) ∙ at_last
+    place_last = ap (λ m. m % 8) (sym following) ∙ at_last
 
     tone_last : tone_of (set window 7 sample) ≡ after
     tone_last = ap (λ z. tone_of (set window 7 z)) (sym same) ∙ ap (λ m. tone_of (set window m stored)) (sym at_last)
@@ -227,7 +227,7 @@ module _ (offset first position begin : ℕ) (window : List ℤ) (before : Tone)
     window_next =
         let count = h.count in
         let first_at = begins in
-        let part : take 7 window ≡ part_behind r x = ap (λ n. take n window) (sym place_last) ∙ keeps.part in
+        let part : take 7 window ≡ part_after r x = ap (λ n. take n window) (sym place_last) ∙ keeps.part in
         sym (window_at-push r x sample window (omega arith) place_last whole part ∙ window_last)
 
   -- no window ends before the first one begins, and none within a window
@@ -239,7 +239,7 @@ module _ (offset first position begin : ℕ) (window : List ℤ) (before : Tone)
   same_windows late within =
       let count = h.count in
       let first_at = begins in
-      let place : (length x - r) % 8 < 7 = subst (λ m. m % 8 < 7) behind within in
+      let place : (length x - r) % 8 < 7 = subst (λ m. m % 8 < 7) following within in
       omega arith
 
   -- the window that ends is one more
@@ -248,7 +248,7 @@ module _ (offset first position begin : ℕ) (window : List ℤ) (before : Tone)
       let count = h.count in
       let first_at = begins in
       let size : length (x ++ sample ∷ []) ≡ length x + 1 = length_push x sample in
-      let place : 7 ≤ (length x - r) % 8 = subst (λ m. 7 ≤ m % 8) behind last in
+      let place : 7 ≤ (length x - r) % 8 = subst (λ m. 7 ≤ m % 8) following last in
       ((length x - r) / 8, omega arith)
 
   pub no_window : windows_in r (length x + 1) ≡ windows_in r (length x) → ¬ EndsWindow r (x ++ sample ∷ [])

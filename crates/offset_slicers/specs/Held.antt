@@ -30,13 +30,13 @@ abbrev pub offset_from : ℕ → ℕ → ℕ
 offset_from offset begin = (8 + offset - begin % 8) % 8
 
 -- the samples after the last whole window
-abbrev pub part_behind : ℕ → List ℤ → List ℤ
-part_behind offset x = drop (offset + 8 * windows_in offset (length x)) x
+abbrev pub part_after : ℕ → List ℤ → List ℤ
+part_after offset x = drop (offset + 8 * windows_in offset (length x)) x
 
 -- What is kept is that of the samples of a stretch: where they end, those after the last whole window, and the last
 -- window's tone.
 pub record StandsFor (held : Held) (begin : ℕ) (x : List ℤ) : Type 0 where
   pub count : held.position ≡ begin + length x
   pub first : held.first ≡ begin + offset_from held.offset begin
-  pub part : held.part ≡ part_behind (offset_from held.offset begin) x
+  pub part : held.part ≡ part_after (offset_from held.offset begin) x
   pub before : held.before ≡ last_tone (tones_at (offset_from held.offset begin) x)

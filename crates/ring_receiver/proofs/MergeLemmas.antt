@@ -195,10 +195,10 @@ fold_min_many a b zero = refl
 fold_min_many a b (suc n) = ap (λ m. fold min m (replicate n b)) (let e : min (min a b) b ≡ min a b = omega arith in e)
     ∙ fold_min_many a b n
 
-least_of_marks : (positions : List ℕ) (behind : ℕ) → least (positions ++ replicate 18 behind)
-    ≡ min (least positions) behind
-least_of_marks positions behind =
-    fold-append min (2 ^ 64 - 1) positions (replicate 18 behind) ∙ fold_min_many (least positions) behind 17
+least_of_marks : (positions : List ℕ) (following : ℕ) → least (positions ++ replicate 18 following)
+    ≡ min (least positions) following
+least_of_marks positions following =
+    fold-append min (2 ^ 64 - 1) positions (replicate 18 following) ∙ fold_min_many (least positions) following 17
 
 module _ (before now : List (List Got)) (positions : List ℕ) (position : ℕ) (eight added ready : List Candidate)
     (b : BringsByAll before now positions position eight added)

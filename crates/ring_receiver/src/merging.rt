@@ -16,7 +16,7 @@ use frame_merge::{Candidate, Merger};
 use sensitive_receiver::{LANES, put_all};
 use tnc_base::OutOfMemory;
 
-/// How far behind the last sample the added lanes hear: no candidate to come of them ends lower.
+/// How far after the last sample the added lanes hear: no candidate to come of them ends lower.
 const BEHIND: u64 = 32;
 
 /// Puts what the eight lanes and the added ones heard in a turn into a merger of all of them, marks each lane, and

@@ -17,7 +17,7 @@ pub record Finds (n : ℕ) (published : List ℤ) (at word : ℕ) : Type 0 where
   pub turn : at + 1 < lap_of word → (lap_of word - n) % n ≡ (at + 1) % n
   pub within : at + 1 < lap_of word → lap_of word ≤ length published
 
--- the oldest position of a full ring stands one behind the newest, a turn earlier
+-- the oldest position of a full ring stands one after the newest, a turn earlier
 oldest : (n at p : ℕ) → n ≤ p → p % n ≡ at % n → (p + 1 - n) % n ≡ (at + 1) % n
 oldest n at p le same =
     let r : ℕ = p + 1 - n in

@@ -35,9 +35,9 @@ ahead-at_or_ahead m a n low high =
     let sum : a / m * m + a % m + (n - a) ≡ n = omega arith in
     ap (λ t. ahead m t (n % m)) (sym split) ∙ ap (λ t. ahead m (a / m * m + a % m) (t % m)) (sym sum) ∙ from_start
 
--- less than once round behind
-pub ahead-behind : (m a n : ℕ) → n < a → a < n + m → ahead m a (n % m) ≡ n + m - a
-ahead-behind m a n low high =
+-- less than once round after
+pub ahead-following : (m a n : ℕ) → n < a → a < n + m → ahead m a (n % m) ≡ n + m - a
+ahead-following m a n low high =
     ap (ahead m a) (sym (add-mod_right n m)) ∙ ahead-at_or_ahead m a (n + m) (omega arith) (omega arith)
 
 -- whole rounds of the start do not count

@@ -14,7 +14,7 @@ use Rattle.selective_reject.specs.Places.{is_full, with_packet, missing, asked}
 use Rattle.selective_reject.specs.Incoming.{Incoming, StandsForIncoming, taking, taking_by, after_taking, keeps, took}
 use Rattle.selective_reject.specs.Incoming.{after_accept, before_number, numbers_to_ask, after_ask}
 use Rattle.selective_reject.specs.TrueNumbers.{IsInReach, old_packet, took_truly, after_accept_truly}
-use Rattle.selective_reject.proofs.Distances.{ahead-mod, ahead-at_or_ahead, ahead-behind}
+use Rattle.selective_reject.proofs.Distances.{ahead-mod, ahead-at_or_ahead, ahead-following}
 
 same_distance : (held store : Incoming) (ns : ℕ) → StandsForIncoming held store
     → ahead held.modulus held.vr ns ≡ ahead store.modulus store.vr ns
@@ -87,7 +87,7 @@ old_number store sender number fit reach old =
     let below : sender < m = window_below store.mode m sender fit.1 in
     let near : store.vr ≤ number + sender = reach.0 in
     let d = number + m - store.vr in
-    ap (taking store) (ahead-behind m store.vr number old (omega arith))
+    ap (taking store) (ahead-following m store.vr number old (omega arith))
     ∙ taking_by-old store.mode m store.window sender d (is_full store.places d) fit.0 fit.1 (omega arith)
 
 -- a packet from vr on

@@ -152,13 +152,13 @@ module _ (x : List ℤ) (lane end : ℕ) (added : 8 ≤ lane) (told : Readings) 
 -- ---- the tone
 
 -- tones that lie equally far before the same place
-same_back : (t : ℕ → Tone) (count back counted behind : ℕ) → count + behind ≡ counted + back
-    → tone_before t count back ≡ tone_before t counted behind
-same_back t count back counted behind same = elim (cases_lt back count) [
+same_back : (t : ℕ → Tone) (count back counted following : ℕ) → count + following ≡ counted + back
+    → tone_before t count back ≡ tone_before t counted following
+same_back t count back counted following same = elim (cases_lt back count) [
   | inl within ↦ tone_before-within t count back within
-      ∙ ap t (let e : count - 1 - back ≡ counted - 1 - behind = omega arith in e)
-      ∙ sym (tone_before-within t counted behind (omega arith))
-  | inr outside ↦ tone_before-outside t count back outside ∙ sym (tone_before-outside t counted behind (omega arith))
+      ∙ ap t (let e : count - 1 - back ≡ counted - 1 - following = omega arith in e)
+      ∙ sym (tone_before-within t counted following (omega arith))
+  | inr outside ↦ tone_before-outside t count back outside ∙ sym (tone_before-outside t counted following (omega arith))
 ]
 
 -- the tone of the place that a lane reads for a bit, and those a bit and two bits before

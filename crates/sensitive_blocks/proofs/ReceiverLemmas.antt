@@ -145,15 +145,15 @@ length-last_forty x = omega (
 )
 
 -- the last forty samples of the line are those of all samples
-pub forty_behind : (x block line recent : List ℤ) → line ≡ recent ++ block → recent ≡ last_forty x
+pub forty_after : (x block line recent : List ℤ) → line ≡ recent ++ block → recent ≡ last_forty x
     → take (length block + 40 - length block) (drop (length block) line) ≡ last_forty (x ++ block)
 unfolding last_forty
-forty_behind x block line recent is recent_is =
+forty_after x block line recent is recent_is =
     let silence = replicate 40 (pos 0) in
     let all = silence ++ (x ++ block) in
     let forty : length block + 40 - length block ≡ 40 = omega arith in
     let whole : line ≡ drop (length x) all = is ∙ ap (λ r. r ++ block) recent_is ∙ line_is x block in
-    let behind : drop (length block) line ≡ drop (length (x ++ block)) all =
+    let following : drop (length block) line ≡ drop (length (x ++ block)) all =
     ap (drop (length block)) whole ∙ drop-drop (length block) (length x) all
     ∙ ap (λ n. drop n all) (sym (length-append x block)) in
     let size : length (drop (length (x ++ block)) all) ≡ 40 = omega (
@@ -162,7 +162,7 @@ forty_behind x block line recent is recent_is =
       length-append silence (x ++ block),
       length-replicate 40 (pos 0),
     ) in
-    ap (λ n. take n (drop (length block) line)) forty ∙ ap (take 40) behind
+    ap (λ n. take n (drop (length block) line)) forty ∙ ap (take 40) following
     ∙ take_all 40 (drop (length (x ++ block)) all) (omega arith)
 
 -- the window of an end after all samples have come

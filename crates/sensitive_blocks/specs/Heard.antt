@@ -23,7 +23,7 @@ pub record EndsPlainly (x : List ℤ) (item : Heard) : Type 0 where
   pub told : IsTold x item.lane item.end item.octets
 
 -- A block ends with the lane's bit, its octets being as sure as the lane's bits. Had its frame come plainly, it would have ended
--- with an earlier bit of the lane, after which as many bits follow as the block has after the flag behind its frame.
+-- with an earlier bit of the lane, after which as many bits follow as the block has after the flag after its frame.
 pub record EndsInBlock (x : List ℤ) (item : Heard) : Type 0 where
   pub over : ℕ
   pub block : EndsUnsureBlock (lane_bits x item.lane (item.end + 1)) (lane_certainties x item.lane (item.end + 1)) item.tag

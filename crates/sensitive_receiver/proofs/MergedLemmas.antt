@@ -91,14 +91,14 @@ module _ (x y : List ℤ) (items all : List Candidate) (are : AreHeard x items) 
 
   late_passes : (item : Candidate) → IsCandidate (x ++ y) item → length x < item.end → is_late item ≡ true
   unfolding is_late
-  late_passes item h behind = (λ i. lt-ltb item.offset 8 h.offset i && lt-ltb (length x) item.end behind i)
+  late_passes item h following = (λ i. lt-ltb item.offset 8 h.offset i && lt-ltb (length x) item.end following i)
 
   late_are : AreCandidatesBehind (length x) (x ++ y) late
   unfolding late
   late_are = record {
     each = λ k d l. late_one (get_or late k d) (All-filter is_late (IsHeard (x ++ y)) all whole.each k d l)
         (filter_passes is_late all k d l);
-    whole = λ item h behind. contains_passing is_late all item (whole.whole item (inl h)) (late_passes item h behind);
+    whole = λ item h following. contains_passing is_late all item (whole.whole item (inl h)) (late_passes item h following);
     order = AllPairs-filter (λ item later. standing item < standing later) is_late all whole.order;
   }
 
@@ -126,7 +126,7 @@ module _ (x y : List ℤ) (items all : List Candidate) (are : AreHeard x items) 
       let small = h.offset in
       absurd (omega arith)
   added_one item (inr h) passes =
-      let behind = leb-true (added_places (length x)) (place_of item)
+      let following = leb-true (added_places (length x)) (place_of item)
       (and_parts (nat_le 8 item.offset) (nat_le (added_places (length x)) (place_of item)) passes).1 in
       let is = place_is item h.place h.ends in
       (h.place, (omega arith, h.decided), h.ends)
@@ -134,7 +134,7 @@ module _ (x y : List ℤ) (items all : List Candidate) (are : AreHeard x items) 
   added_passes : (item : Candidate) (place : ℕ) → added_places (length x) ≤ place → EndsAtPlace (x ++ y) item place
       → is_added item ≡ true
   unfolding is_added
-  added_passes item place behind h =
+  added_passes item place following h =
       let is = place_is item place h in
       (λ i. le-leb 8 item.offset h.least i && le-leb (added_places (length x)) (place_of item) (omega arith) i)
 

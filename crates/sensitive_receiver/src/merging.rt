@@ -16,7 +16,7 @@ ghost use Rattle.sensitive_receiver.specs.MergedItems.{AreMergedBetween, settled
 use frame_merge::{Candidate, Merger};
 use tnc_base::OutOfMemory;
 
-/// How far behind the last sample the added lanes hear: no candidate to come ends lower.
+/// How far after the last sample the added lanes hear: no candidate to come ends lower.
 const BEHIND: u64 = 32;
 
 /// Gives what the eight lanes and the added ones heard in a block of `count` samples to a merger of all of them, which

@@ -60,7 +60,7 @@ module _ (offset : ℕ) (x : List ℤ) (sample : ℤ) (small : offset < 8) (wind
             candidate_at_last all item small refl (record { window = window; frame = ends }),
             omega arith,
           ) (All-nil P);
-          whole = λ other c behind.
+          whole = λ other c following.
               let within = end_within all other c in
               let last : other.end ≡ length all = omega arith in
               let there : other.offset ≡ offset = same_offset other c last in
@@ -78,7 +78,7 @@ module _ (offset : ℕ) (x : List ℤ) (sample : ℤ) (small : offset < 8) (wind
         let more : length all ≡ length x + 1 = length_push x sample in
         record {
           each = All-nil (λ i. IsCandidate all i × (length x < i.end));
-          whole = λ other c behind.
+          whole = λ other c following.
               let within = end_within all other c in
               let last : other.end ≡ length all = omega arith in
               absurd (never other.octets (subst (λ t. EndsFrame (bits t all) other.octets) (same_offset other c last)
@@ -119,7 +119,7 @@ nothing_heard x sample found few =
       found = sym (append-nil found);
       are = record {
         each = All-nil (λ i. IsCandidate all i × (length x < i.end));
-        whole = λ item c behind. let within = end_within all item c in let end = c.ends.end_of in absurd (omega arith);
+        whole = λ item c following. let within = end_within all item c in let end = c.ends.end_of in absurd (omega arith);
         order = λ i j d ij jl. absurd (omega arith);
       };
     }

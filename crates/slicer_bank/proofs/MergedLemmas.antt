@@ -30,9 +30,9 @@ ends_within : (x : List ℤ) (items : List Candidate) → AreCandidates x items 
 ends_within x items are k d l = let e = are.each k d l in let within = end_within x (get_or items k d) e.0 in
     omega arith
 
-ends_behind : (x y : List ℤ) (found : List Candidate) → AreCandidatesBehind (length x) (x ++ y) found
+ends_following : (x y : List ℤ) (found : List Candidate) → AreCandidatesBehind (length x) (x ++ y) found
     → All (λ item. length x ≤ item.end) found
-ends_behind x y found are k d l = let e = are.each k d l in let behind = e.1 in omega arith
+ends_following x y found are k d l = let e = are.each k d l in let following = e.1 in omega arith
 
 -- candidates that end at or past a position change nothing of the merged part below it
 pub below_more : (position : ℕ) (items found : List Candidate) → All (λ y. position ≤ y.end) found
@@ -63,7 +63,7 @@ block_gives x y items found ready are new all total = record {
   is = next_is (length x) (length (x ++ y)) (below (length x) (merged items)) ready (merged (items ++ found))
       (omega (arith, length-append x y))
       (rising_merged (x ++ y) (items ++ found) all)
-      (sym (below_more (length x) items found (ends_behind x y found new))) total;
+      (sym (below_more (length x) items found (ends_following x y found new))) total;
 }
 
 -- all end below one past the number of samples
@@ -114,7 +114,7 @@ begins : (x y : List ℤ) (items all : List Candidate) → AreCandidates x items
 begins x y items all are whole =
     let late : List Candidate = filter (λ item. nat_lt (length x) item.end) all in
     let passes = filter_passes (λ item. nat_lt (length x) item.end) all in
-    let behind : AreCandidatesBehind (length x) (x ++ y) late = record {
+    let following : AreCandidatesBehind (length x) (x ++ y) late = record {
       each = λ k d l.
           let e = All-filter (λ item. nat_lt (length x) item.end) (λ item. IsCandidate (x ++ y) item × (0 < item.end))
           all whole.each k d l in
@@ -125,8 +125,8 @@ begins x y items all are whole =
           all whole.order;
     } in
     let same : all ≡ items ++ late = one_list (x ++ y) all (items ++ late) whole
-    (candidates_join 0 x y items late (omega arith) are behind) in
-    (late, same, ends_behind x y late behind)
+    (candidates_join 0 x y items late (omega arith) are following) in
+    (late, same, ends_following x y late following)
 
 -- one stretch and the next are one stretch
 pub between_between : (from middle to : ℕ) (zs : List Candidate) → from ≤ middle → middle ≤ to

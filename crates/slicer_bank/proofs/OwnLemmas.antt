@@ -20,7 +20,7 @@ unfoldable use Rattle.slicer_bank.specs.Heard.{tones_in}
 use Rattle.std.proofs.Common.{zero, suc}
 use Rattle.std.proofs.lemmas.List.{drop-take, take-take}
 use Rattle.slicer_bank.proofs.CandidateLemmas.{candidate_more, candidate_less, AllPairs-append}
-use Rattle.slicer_bank.proofs.SevenLemmas.{seven_behind_first}
+use Rattle.slicer_bank.proofs.SevenLemmas.{seven_after_first}
 
 -- no windows have no candidates
 pub windows_none : (offset n : ℕ) (z : List ℤ) → AreOfWindows offset n n z []
@@ -443,7 +443,7 @@ own_block offset position seven block initial middle lane before found after lon
     let len : length (x ++ take 7 block) ≡ position + 7 = omega (arith, length-append x (take 7 block)) in
     let whole : take 7 block ++ drop 7 block ≡ block = take-append-drop 7 block in
     let one = h x size is s in
-    let two = rest (x ++ take 7 block) len (seven_behind_first x block long) one.0 in (
+    let two = rest (x ++ take 7 block) len (seven_after_first x block long) one.0 in (
       subst (λ t. LaneStandsFor lane (tones_at offset t)) (append_assoc x (take 7 block) (drop 7 block)
           ∙ ap (λ t. x ++ t) whole) two.0,
       subst (λ t. LaneHearsMore offset x t before after) whole

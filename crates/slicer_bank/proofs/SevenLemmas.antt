@@ -56,9 +56,9 @@ tones_at-seven offset k x sample ends small =
     tones_at-push_one offset x sample (omega arith) ∙ ap (λ w. tones_at offset x ++ tone_of w ∷ []) window
 
 -- after a block of fewer than seven samples: the end of the seven before it and the block
-pub seven_behind_short : (x block bridge : List ℤ) → take (7 + length block) bridge ≡ last_seven x ++ block
+pub seven_after_short : (x block bridge : List ℤ) → take (7 + length block) bridge ≡ last_seven x ++ block
     → take (length block + 7 - length block) (drop (length block) bridge) ≡ last_seven (x ++ block)
-seven_behind_short x block bridge is =
+seven_after_short x block bridge is =
     let n : ℕ = length block in
     let seven : n + 7 - n ≡ 7 = omega arith in
     let sum : n + 7 ≡ 7 + n = omega arith in
@@ -67,24 +67,24 @@ seven_behind_short x block bridge is =
     ∙ sym (last_seven-append x block)
 
 -- after a longer block: its own last seven
-seven_behind : (x block : List ℤ) → 7 ≤ length block → drop (length block - 7) block ≡ last_seven (x ++ block)
-seven_behind x block long =
+seven_after : (x block : List ℤ) → 7 ≤ length block → drop (length block - 7) block ≡ last_seven (x ++ block)
+seven_after x block long =
     let at : length block ≡ length (last_seven x) + (length block - 7) = omega (arith, length-last_seven x) in
     sym (last_seven-append x block ∙ ap (λ n. drop n (last_seven x ++ block)) at
     ∙ drop-append-add (last_seven x) block (length block - 7))
 
-pub seven_behind_long : (x block : List ℤ) → 7 ≤ length block
+pub seven_after_long : (x block : List ℤ) → 7 ≤ length block
     → take (length block - (length block - 7)) (drop (length block - 7) block) ≡ last_seven (x ++ block)
-seven_behind_long x block long =
+seven_after_long x block long =
     take_all (length block - (length block - 7)) (drop (length block - 7) block)
-    (omega (arith, length-drop (length block - 7) block)) ∙ seven_behind x block long
+    (omega (arith, length-drop (length block - 7) block)) ∙ seven_after x block long
 
 -- after the first seven of a block: those
-pub seven_behind_first : (x block : List ℤ) → 7 ≤ length block → take 7 block ≡ last_seven (x ++ take 7 block)
-seven_behind_first x block long =
+pub seven_after_first : (x block : List ℤ) → 7 ≤ length block → take 7 block ≡ last_seven (x ++ take 7 block)
+seven_after_first x block long =
     let n : length (take 7 block) ≡ 7 = length-take-le 7 block long in
     let none : length (take 7 block) - 7 ≡ 0 = omega arith in
-    sym (ap (λ m. drop m (take 7 block)) none) ∙ seven_behind x (take 7 block) (omega arith)
+    sym (ap (λ m. drop m (take 7 block)) none) ∙ seven_after x (take 7 block) (omega arith)
 
 -- seven samples and more, written into a row of places: the first places are theirs
 pub two_writes : (seven first zeros front back : List ℤ) (k : ℕ) → length seven ≡ 7 → front ≡ seven → back ≡ first

@@ -66,7 +66,7 @@ pub other_kept : (parts : Parts) (out : Out) (turn : Turn) (id key : ℕ) (held 
     → Shows parts out (giving_up_link id key place turn)
 other_kept parts out turn id key held None h other shows = absurd h
 other_kept parts out turn id key held (Some link) h other shows =
-    subst (λ (behind : Turn). Shows parts out behind)
+    subst (λ (following : Turn). Shows parts out following)
     (sym (cond-false (is_number id link.owner) (event_at key Disconnect
     (changing (with_links (with_link key (without_owner link))) turn)) turn (ap (is_number id) (sym h.owner)
     ∙ other))) shows

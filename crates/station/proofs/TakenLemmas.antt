@@ -5,7 +5,7 @@ use Rattle.station.proofs.Common.{PortKind, Kiss, Agw, Said, Items, Messages, Ar
 use Rattle.station.proofs.Common.{AreSaidItems, AreSaidMessages, IsSaid, Says, taking, ending, heeding_all, Turn}
 use Rattle.station.proofs.Common.{host_items, Reads}
 use Rattle.agwpe_port.specs.Messages.{bad_length_in}
-use Rattle.agwpe_port.proofs.StreamLemmas.{behind}
+use Rattle.agwpe_port.proofs.StreamLemmas.{following}
 use Rattle.kiss_port.specs.HeldHost.{HeldHost, HostStandsFor}
 use Rattle.kiss_port.specs.WebRequests.{is_web_request}
 use Rattle.station.specs.declared.connection.Reader.{Reader}
@@ -60,7 +60,7 @@ kiss_says before reader after kind stream octets items web is reads stands new t
   where
     by_kind : (kind : PortKind) → Reads (KissReader reader) kind stream → SaysItems kind stream octets items web
     by_kind Kiss h = (
-      behind (host_items (stream ++ octets)) (host_items stream) items (new stream h),
+      following (host_items (stream ++ octets)) (host_items stream) items (new stream h),
       told (stream ++ octets) (stands stream h),
     )
     by_kind Agw h = absurd h

@@ -29,7 +29,7 @@ use Rattle.station.specs.Links.{Link, Links, IsNewKey, most_links, link_at, key_
 use Rattle.station.specs.NewLinks.{making, pid_or, no_layer_3}
 use Rattle.station.specs.Passing.{passing}
 use Rattle.station.specs.Registrations.{registrar, is_number, may_register, registered, unregistered}
-use Rattle.station.specs.Routes.{Route, route_in, repeaters_in, behind_repeaters, path_along}
+use Rattle.station.specs.Routes.{Route, route_in, repeaters_in, after_repeaters, path_along}
 use Rattle.station.specs.State.{StationState}
 use Rattle.station.specs.Turn.{Turn, Act, nothing, in_order, changing, sending, queueing_own}
 
@@ -244,7 +244,7 @@ answering_else id message turn =
     if message.kind == unproto_kind
     then sending_unnumbered id message.pid message.body (route_in message.from message.to (Some [])) turn else
     if message.kind == unproto_via_kind
-    then sending_unnumbered id message.pid (behind_repeaters message.body)
+    then sending_unnumbered id message.pid (after_repeaters message.body)
     (route_in message.from message.to (repeaters_in message.body)) turn else
     if message.kind == data_kind
     then giving message (own_key id message turn.now.links) turn else

@@ -45,10 +45,10 @@ abbrev pub ClosesIds : Parts → Out → Parts → Out → Type 0
 ClosesIds parts out now gave =
     (ids : List ℕ) → ids_in parts ≡ without_ids out.closed ids → ids_in now ≡ without_ids gave.closed ids
 
-abbrev pub ids_behind : HostEvent → List ℕ → List ℕ → List ℕ
-ids_behind (Joined id kind) closed ids = without_ids closed (ids ++ id ∷ [])
-ids_behind (Bytes id octets) closed ids = without_ids closed ids
-ids_behind (Left id) closed ids = without_ids (id ∷ []) ids
+abbrev pub ids_after : HostEvent → List ℕ → List ℕ → List ℕ
+ids_after (Joined id kind) closed ids = without_ids closed (ids ++ id ∷ [])
+ids_after (Bytes id octets) closed ids = without_ids closed ids
+ids_after (Left id) closed ids = without_ids (id ∷ []) ids
 
 -- the id of a connection that joins is new
 abbrev pub JoinsAnew : HostEvent → Parts → Type 0

@@ -29,9 +29,9 @@ repeaters_in (count ∷ octets) =
     if nat_le count 8 && nat_le (10 * count) (length octets) then calls_in count octets else None
 
 -- what stands after them
-abbrev pub behind_repeaters : List ℕ → List ℕ
-behind_repeaters [] = []
-behind_repeaters (count ∷ octets) = drop (10 * count) octets
+abbrev pub after_repeaters : List ℕ → List ℕ
+after_repeaters [] = []
+after_repeaters (count ∷ octets) = drop (10 * count) octets
 
 abbrev pub route_of : Option Callsign → Option Callsign → Option (List Callsign) → Option Route
 route_of None remote repeaters = None

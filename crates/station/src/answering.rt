@@ -20,8 +20,8 @@ impl Parts {
         id: u32,
         messages: &[AgwMessage],
     ) -> Result<(), OutOfMemory>
-        ensures step { (turn : Turn) → Shows self.old out.old turn → OnOk result ((behind : Turn)
-            × AreAnswered id messages.now turn behind × Shows self.new out.new behind) }
+        ensures step { (turn : Turn) → Shows self.old out.old turn → OnOk result ((following : Turn)
+            × AreAnswered id messages.now turn following × Shows self.new out.new following) }
         ensures ids { OnOk result (ClosesIds self.old out.old self.new out.new) }
         ensures wanted { OnErr result (memory.new.refused ≡ true) }
     {
@@ -39,8 +39,8 @@ impl Parts {
         id: u32,
         message: &AgwMessage,
     ) -> Result<(), OutOfMemory>
-        ensures step { (turn : Turn) → Shows self.old out.old turn → OnOk result ((behind : Turn)
-            × IsAnswered id message.now turn behind × Shows self.new out.new behind) }
+        ensures step { (turn : Turn) → Shows self.old out.old turn → OnOk result ((following : Turn)
+            × IsAnswered id message.now turn following × Shows self.new out.new following) }
         ensures ids { OnOk result (ClosesIds self.old out.old self.new out.new) }
         ensures wanted { OnErr result (memory.new.refused ≡ true) }
     {

@@ -35,8 +35,8 @@ impl Parts {
         id: u32,
         message: &AgwMessage,
     ) -> Result<(), OutOfMemory>
-        ensures step { (turn : Turn) → Shows self.old out.old turn → OnOk result ((behind : Turn)
-            × IsCall id message.now (called_route message.now) turn behind × Shows self.new out.new behind) }
+        ensures step { (turn : Turn) → Shows self.old out.old turn → OnOk result ((following : Turn)
+            × IsCall id message.now (called_route message.now) turn following × Shows self.new out.new following) }
         ensures ids { OnOk result (ids_in self.new ≡ ids_in self.old) }
         ensures closed { OnOk result (out.new.closed ≡ out.old.closed) }
         ensures wanted { OnErr result (memory.new.refused ≡ true) }
@@ -60,8 +60,8 @@ impl Parts {
         route: &Route,
     ) -> Result<(), OutOfMemory>
         requires { count_by is_some self.old.links.places < 64 }
-        ensures made { (turn : Turn) → Shows self.old out.old turn → OnOk result ((behind : Turn)
-            × IsCallMade id pid (as_route route.now) turn behind × Shows self.new out.new behind) }
+        ensures made { (turn : Turn) → Shows self.old out.old turn → OnOk result ((following : Turn)
+            × IsCallMade id pid (as_route route.now) turn following × Shows self.new out.new following) }
         ensures ids { OnOk result (ids_in self.new ≡ ids_in self.old) }
         ensures closed { OnOk result (out.new.closed ≡ out.old.closed) }
         ensures wanted { OnErr result (memory.new.refused ≡ true) }

@@ -39,8 +39,8 @@ impl Parts {
         octets: &[u8],
     ) -> Result<(), OutOfMemory>
         requires { HasFrameLength octets.now }
-        ensures heard { (turn : Turn) → Shows self.old out.old turn → OnOk result ((behind : Turn)
-            × IsHeard octets.now turn behind × Shows self.new out.new behind) }
+        ensures heard { (turn : Turn) → Shows self.old out.old turn → OnOk result ((following : Turn)
+            × IsHeard octets.now turn following × Shows self.new out.new following) }
         ensures ids { OnOk result (ids_in self.new ≡ ids_in self.old) }
         ensures wanted { OnErr result (memory.new.refused ≡ true) }
     {
@@ -64,7 +64,7 @@ impl Parts {
     ) -> Result<(), OutOfMemory>
         requires { HasFrameLength octets.now }
         ensures heard { (turn : Turn) (len : ℕ) → BeginsWithPath octets.now path.now len → Shows self.old out.old turn
-            → OnOk result ((behind : Turn) × IsHeard octets.now turn behind × Shows self.new out.new behind) }
+            → OnOk result ((following : Turn) × IsHeard octets.now turn following × Shows self.new out.new following) }
         ensures ids { OnOk result (ids_in self.new ≡ ids_in self.old) }
         ensures wanted { OnErr result (memory.new.refused ≡ true) }
     {
@@ -113,8 +113,8 @@ impl Parts {
         octets: &[u8],
     ) -> Result<(), OutOfMemory>
         requires { HasFrameLength octets.now }
-        ensures repeated { (turn : Turn) → Shows self.old out.old turn → OnOk result ((behind : Turn)
-            × IsRepeatedFor turn.now.digi octets.now turn behind × Shows self.new out.new behind) }
+        ensures repeated { (turn : Turn) → Shows self.old out.old turn → OnOk result ((following : Turn)
+            × IsRepeatedFor turn.now.digi octets.now turn following × Shows self.new out.new following) }
         ensures ids { OnOk result (ids_in self.new ≡ ids_in self.old) }
         ensures wanted { OnErr result (memory.new.refused ≡ true) }
     {
@@ -138,8 +138,8 @@ impl Parts {
         path: &Path,
         octets: &[u8],
     ) -> Result<bool, OutOfMemory>
-        ensures heard { (turn : Turn) → Shows self.old out.old turn → OnOk result ((behind : Turn)
-            × AreOctetsHeard path.now octets.now turn behind × Shows self.new out.new behind) }
+        ensures heard { (turn : Turn) → Shows self.old out.old turn → OnOk result ((following : Turn)
+            × AreOctetsHeard path.now octets.now turn following × Shows self.new out.new following) }
         ensures ours { (turn : Turn) → Shows self.old out.old turn → IfOk result
             (IsForLink (key_between path.now.dest path.now.source turn.now.links) octets.now turn.now) }
         ensures ids { OnOk result (ids_in self.new ≡ ids_in self.old) }
@@ -159,8 +159,8 @@ impl Parts {
         key: u32,
         octets: &[u8],
     ) -> Result<bool, OutOfMemory>
-        ensures heard { (turn : Turn) → Shows self.old out.old turn → OnOk result ((behind : Turn)
-            × AreHeardAt (Some key) octets.now turn behind × Shows self.new out.new behind) }
+        ensures heard { (turn : Turn) → Shows self.old out.old turn → OnOk result ((following : Turn)
+            × AreHeardAt (Some key) octets.now turn following × Shows self.new out.new following) }
         ensures ours { (turn : Turn) → Shows self.old out.old turn
             → IfOk result (IsForLink (Some key) octets.now turn.now) }
         ensures ids { OnOk result (ids_in self.new ≡ ids_in self.old) }
@@ -183,8 +183,8 @@ impl Parts {
         out: &mut HostOut,
         octets: &[u8],
     ) -> Result<bool, OutOfMemory>
-        ensures heard { (turn : Turn) → Shows self.old out.old turn → OnOk result ((behind : Turn)
-            × AreHeardAt None octets.now turn behind × Shows self.new out.new behind) }
+        ensures heard { (turn : Turn) → Shows self.old out.old turn → OnOk result ((following : Turn)
+            × AreHeardAt None octets.now turn following × Shows self.new out.new following) }
         ensures ours { (turn : Turn) → Shows self.old out.old turn
             → IfOk result (IsForLink None octets.now turn.now) }
         ensures ids { OnOk result (ids_in self.new ≡ ids_in self.old) }
@@ -204,9 +204,9 @@ impl Parts {
         frame: Frame,
     ) -> Result<bool, OutOfMemory>
         requires { IsNumbered Eight (control_of frame.kind) }
-        ensures heard { (turn : Turn) → Shows self.old out.old turn → OnOk result ((behind : Turn)
-            × IsHeardAnew (registrar frame.path.dest turn.now.registrations) frame turn behind
-            × Shows self.new out.new behind) }
+        ensures heard { (turn : Turn) → Shows self.old out.old turn → OnOk result ((following : Turn)
+            × IsHeardAnew (registrar frame.path.dest turn.now.registrations) frame turn following
+            × Shows self.new out.new following) }
         ensures ours { (turn : Turn) → Shows self.old out.old turn
             → IfOk result (λ ours. ours ≡ finds_link None frame turn.now) }
         ensures ids { OnOk result (ids_in self.new ≡ ids_in self.old) }

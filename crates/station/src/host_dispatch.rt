@@ -1,6 +1,6 @@
 //! What comes from host programs, event by event.
 ghost use Rattle.std.specs.Prelude.{◌≡◌, [], OnOk, true, OnErr};
-ghost use Rattle.station.specs.Held.{ids_in, ids_behind, JoinsAnew};
+ghost use Rattle.station.specs.Held.{ids_in, ids_after, JoinsAnew};
 ghost use Rattle.station.specs.Host.{IsHostTurn};
 ghost use Rattle.station.specs.StandsFor.{Shows};
 ghost use Rattle.station.specs.Turn.{Turn};
@@ -20,10 +20,10 @@ impl Parts {
         event: HostEvent,
     ) -> Result<(), OutOfMemory>
         requires { JoinsAnew event self.old }
-        ensures step { (turn : Turn) → Shows self.old out.old turn → OnOk result ((behind : Turn)
-            × IsHostTurn event turn behind × Shows self.new out.new behind) }
+        ensures step { (turn : Turn) → Shows self.old out.old turn → OnOk result ((following : Turn)
+            × IsHostTurn event turn following × Shows self.new out.new following) }
         ensures ids { OnOk result (out.old.closed ≡ []
-            → ids_in self.new ≡ ids_behind event out.new.closed (ids_in self.old)) }
+            → ids_in self.new ≡ ids_after event out.new.closed (ids_in self.old)) }
         ensures wanted { OnErr result (memory.new.refused ≡ true) }
     {
         match event {

@@ -2,7 +2,7 @@
 ghost use Rattle.std.specs.Prelude.{◌≡◌, ◌*◌, ◌≤◌, ◌≢◌, [], length, slice_index, drop, Some, None, option_map};
 ghost use Rattle.arrayvec.specs.ArrayVec.{array_vec_len};
 ghost use Rattle.station.specs.HeldRoutes.{as_route, route_held};
-ghost use Rattle.station.specs.Routes.{behind_repeaters, calls_in, path_along, repeaters_in, route_in};
+ghost use Rattle.station.specs.Routes.{after_repeaters, calls_in, path_along, repeaters_in, route_in};
 
 use crate::call_fields::call_in;
 use arrayvec::ArrayVec;
@@ -103,8 +103,8 @@ fn calls_in(count: u8, octets: &[u8]) -> Option<ArrayVec<Call, 8>>
 }
 
 /// What stands past the repeaters that a body begins with.
-pub(crate) fn behind_repeaters(body: &[u8]) -> &[u8]
-    ensures { result.now ≡ behind_repeaters body.now }
+pub(crate) fn after_repeaters(body: &[u8]) -> &[u8]
+    ensures { result.now ≡ after_repeaters body.now }
 {
     if body.is_empty() {
         return body;

@@ -47,7 +47,7 @@ impl Station {
     ghost use Rattle.station.specs.Heard.{IsHeard};
     ghost use Rattle.station.specs.Ticks.{IsTick, air_of};
     ghost use Rattle.station.specs.Monitored.{modulus_between};
-    ghost use Rattle.station.specs.Held.{IsAdmitted, Takes, ids_of, ids_behind};
+    ghost use Rattle.station.specs.Held.{IsAdmitted, Takes, ids_of, ids_after};
     ghost use Rattle.station.specs.StandsFor.{StandsFor, StandsForSome};
 
     /// A station without connections and links, whose channel draws from a seed. Refused if the window does not fit
@@ -97,7 +97,7 @@ impl Station {
         ensures stood { self.old.spent ≡ false → StandsForSome self.old }
         ensures step { (s : StationState) → StandsFor self.old s → IfOk result (λ out. (next : StationState)
             × IsHostTurn event (begin s) (record { now = next; out = out }) × StandsFor self.new next) }
-        ensures ids { IfOk result (λ out. ids_of self.new ≡ ids_behind event out.closed (ids_of self.old)) }
+        ensures ids { IfOk result (λ out. ids_of self.new ≡ ids_after event out.closed (ids_of self.old)) }
         ensures spent { OnErr result (self.new.spent ≡ true) }
         ensures stays_spent { self.old.spent ≡ true → IsErr result }
     {

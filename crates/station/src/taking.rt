@@ -24,8 +24,8 @@ impl Parts {
         id: u32,
         octets: &[u8],
     ) -> Result<(), OutOfMemory>
-        ensures step { (turn : Turn) → Shows self.old out.old turn → OnOk result ((behind : Turn)
-            × AreTaken (connection_of id turn.now.connections) octets.now turn behind × Shows self.new out.new behind) }
+        ensures step { (turn : Turn) → Shows self.old out.old turn → OnOk result ((following : Turn)
+            × AreTaken (connection_of id turn.now.connections) octets.now turn following × Shows self.new out.new following) }
         ensures ids { OnOk result (out.old.closed ≡ []
             → ids_in self.new ≡ without_ids out.new.closed (ids_in self.old)) }
         ensures wanted { OnErr result (memory.new.refused ≡ true) }

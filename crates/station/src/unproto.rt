@@ -3,7 +3,7 @@ ghost use Rattle.std.specs.Prelude.{◌≡◌, [], Some, drop, OnOk, true, OnErr
 ghost use Rattle.station.specs.AgwRequests.{queueing_raw, sending_unnumbered};
 ghost use Rattle.station.specs.Held.{ids_in};
 ghost use Rattle.station.specs.HeldRoutes.{route_held};
-ghost use Rattle.station.specs.Routes.{behind_repeaters, repeaters_in, route_in};
+ghost use Rattle.station.specs.Routes.{after_repeaters, repeaters_in, route_in};
 ghost use Rattle.station.specs.StandsFor.{Shows};
 ghost use Rattle.station.specs.Turn.{Turn};
 
@@ -12,7 +12,7 @@ use crate::host_out::HostOut;
 use crate::memory::Memory;
 use crate::new_links::{NO_LAYER_3, pid_or};
 use crate::parts::Parts;
-use crate::routes::{Route, behind_repeaters, repeaters_in, route_in};
+use crate::routes::{Route, after_repeaters, repeaters_in, route_in};
 use agwpe_port::AgwMessage;
 use arrayvec::ArrayVec;
 use ax25_frames::{Frame, Kind, Modulus};
@@ -71,7 +71,7 @@ impl Parts {
         message: &AgwMessage,
     ) -> Result<(), OutOfMemory>
         ensures shows { (turn : Turn) → Shows self.old out.old turn → OnOk result (Shows self.new out.new
-            (sending_unnumbered id message.now.pid (behind_repeaters message.now.body)
+            (sending_unnumbered id message.now.pid (after_repeaters message.now.body)
             (route_in message.now.from message.now.to (repeaters_in message.now.body)) turn)) }
         ensures ids { OnOk result (ids_in self.new ≡ ids_in self.old) }
         ensures closed { OnOk result (out.new.closed ≡ out.old.closed) }
@@ -79,7 +79,7 @@ impl Parts {
     {
         let body = message.body.as_slice();
         let route = route_in(&message.from, &message.to, repeaters_in(body));
-        self.send_unnumbered(memory, out, id, message.pid, behind_repeaters(body), route)
+        self.send_unnumbered(memory, out, id, message.pid, after_repeaters(body), route)
     }
 
     /// Queues an unnumbered frame of information along a route. Ignored if there is none, or the information is

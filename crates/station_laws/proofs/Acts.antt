@@ -3,7 +3,7 @@
 use Rattle.station_laws.proofs.Common.{◌≡◌, ℕ, ◌+◌, ◌-◌, ◌<◌, ◌≤◌, Bool, true, false, List, [], ◌∷◌, ◌++◌, length, map}
 use Rattle.station_laws.proofs.Common.{drop, Option, Some, refl, sym, ap, ◌∙◌, subst, arith, ⊤, append_assoc}
 use Rattle.station_laws.proofs.Common.{length-append, length-map, Callsign, Frame, Params, Machine, SentIn, sent_kind}
-use Rattle.station_laws.proofs.Common.{step, End, kept, near_kept, Tagged, asks, RecordedEnd, Happening, behind, seen}
+use Rattle.station_laws.proofs.Common.{step, End, kept, near_kept, Tagged, asks, RecordedEnd, Happening, following, seen}
 use Rattle.station_laws.proofs.Common.{tagged, Connects, Sends, Disconnects, Seizes, Ticks, Hears, World, near_turn}
 use Rattle.station_laws.proofs.Common.{staying}
 use Rattle.station_laws.proofs.Common.{read_in, hearing_as, hearing_first, turn_of, step_keeps, event_of, event_at}
@@ -113,7 +113,7 @@ own_by s back stays turn w key link event h caused H at is =
     let good : IsGoodLink s.params link = good_at s.params chosen turn.now.links w.a.end.machine key link H.table at in
     let next : IsGoodLink s.params (record link { machine = m.now }) = good_stepped s.params link event good in
     let calls = chosen_calls s.local s.remote link is in
-    let now : RecordedEnd = behind h w.a.end m in
+    let now : RecordedEnd = following h w.a.end m in
     let own : OwnTags s.local s.remote s.on_ask (map (tagged (hears_ask h) now) m.sent) stepped.first =
     own_tags s.local s.remote s.on_ask (hears_ask h) now m.sent stepped.first stepped.rest caused next.path (next.source
     ∙ calls.local_is)
@@ -280,7 +280,7 @@ tagged_asking on_ask now (s ∷ sent) = ap (λ bs. asks_when_sent s ∷ bs) (tag
 
 turn_asking : (h : Happening) (r : RecordedEnd) (t : LinkTurn)
     → map is_asking (end_turn_of h r t).sent ≡ map asks_when_sent t.sent
-turn_asking h r t = tagged_asking (hears_ask h) (behind h r t) t.sent
+turn_asking h r t = tagged_asking (hears_ask h) (following h r t) t.sent
 
 pub asked_asking :
     (e : End) (w : World) (machine : Machine) (event : LinkEvent) → IsAsked event → w.a.end.machine ≡ machine

@@ -4,7 +4,7 @@ use Rattle.station_laws.proofs.Common.{◌≡◌, ◌||◌, Bool, true, false, L
 use Rattle.station_laws.proofs.Common.{Option, Some, None, refl, sym, ap, ◌∙◌, subst, ⊤, or_left, or_right, Path}
 use Rattle.station_laws.proofs.Common.{Packet, Told, Opened, Given, Ended, Control, LinkState, Idle, Calling, Up}
 use Rattle.station_laws.proofs.Common.{Releasing, Event, Machine, new_machine, begin, LinkStep, RunsIn, runs_after}
-use Rattle.station_laws.proofs.Common.{runs_behind}
+use Rattle.station_laws.proofs.Common.{runs_following}
 use Rattle.std.specs.List.{AllByRecursion as Each}
 use Rattle.link_machine.specs.Step.{step as link_turn}
 use Rattle.link_machine.specs.Turn.{Turn}
@@ -89,7 +89,7 @@ made_runs runs (Some path) m h = go m.control.state refl
 
 pub record ChainTells (runs : Bool) (m : Machine) (steps : List LinkStep) : Type 0 where
   pub told : AllToldInOne runs steps
-  pub now : RunsIn (runs_behind runs steps) (last_machine m steps).control.state
+  pub now : RunsIn (runs_following runs steps) (last_machine m steps).control.state
 
 pub chain_tells : (runs : Bool) (m : Machine) (steps : List LinkStep) → IsChain m steps → RunsIn runs m.control.state
     → ChainTells runs m steps
@@ -104,15 +104,15 @@ chain_tells runs m (step ∷ steps) chain h =
 
 pub told_append :
     (runs : Bool) (first second : List LinkStep) → AllToldInOne runs (first ++ second)
-    → AllToldInOne (runs_behind runs first) second
+    → AllToldInOne (runs_following runs first) second
 told_append runs [] second h = h
 told_append runs (step ∷ first) second h = told_append (runs_after runs (told_in step)) first second h.1
 
-pub behind_append :
+pub after_append :
     (runs : Bool) (first second : List LinkStep)
-    → runs_behind runs (first ++ second) ≡ runs_behind (runs_behind runs first) second
-behind_append runs [] second = refl
-behind_append runs (step ∷ first) second = behind_append (runs_after runs (told_in step)) first second
+    → runs_following runs (first ++ second) ≡ runs_following (runs_following runs first) second
+after_append runs [] second = refl
+after_append runs (step ∷ first) second = after_append (runs_after runs (told_in step)) first second
 
 -- ---- what is told
 
@@ -276,13 +276,13 @@ asked_step m event asked up h = go (link_turn m event) (step_steps m event)
 abbrev pub AsksInSetUp : LinkStep → Type 0
 AsksInSetUp step = is_disconnect step.event ≡ true → HasSetUp step.link.machine.control.state
 
-abbrev pub asked_behind : Bool → List LinkStep → Bool
-asked_behind asked [] = asked
-asked_behind asked (step ∷ steps) = asked_behind (asked_after asked (is_disconnect step.event) (told_in step)) steps
+abbrev pub asked_following : Bool → List LinkStep → Bool
+asked_following asked [] = asked
+asked_following asked (step ∷ steps) = asked_following (asked_after asked (is_disconnect step.event) (told_in step)) steps
 
 pub asked_append :
     (asked : Bool) (first second : List LinkStep)
-    → asked_behind asked (first ++ second) ≡ asked_behind (asked_behind asked first) second
+    → asked_following asked (first ++ second) ≡ asked_following (asked_following asked first) second
 asked_append asked [] second = refl
 asked_append asked (step ∷ first) second =
     asked_append (asked_after asked (is_disconnect step.event) (told_in step)) first second
@@ -290,7 +290,7 @@ asked_append asked (step ∷ first) second =
 pub chain_asked :
     (asked : Bool) (m : Machine) (steps : List LinkStep) → IsChain m steps → Each AsksInSetUp steps
     → StandsAsked asked m.control.state m.control.quit
-    → let last = last_machine m steps in StandsAsked (asked_behind asked steps) last.control.state last.control.quit
+    → let last = last_machine m steps in StandsAsked (asked_following asked steps) last.control.state last.control.quit
 chain_asked asked m [] chain up h = h
 chain_asked asked m (step ∷ steps) chain up h =
     let there : StandsAsked asked step.link.machine.control.state step.link.machine.control.quit =
@@ -426,13 +426,13 @@ called_step m event called no_ask right h = go (link_turn m event) (step_steps m
     go u (made t did closes) =
         called_closes called (is_connect event) t u (called_did m event t called no_ask right h did) closes
 
-abbrev pub called_behind : Bool → List LinkStep → Bool
-called_behind called [] = called
-called_behind called (step ∷ steps) = called_behind (called_after called (is_connect step.event) (told_in step)) steps
+abbrev pub called_following : Bool → List LinkStep → Bool
+called_following called [] = called
+called_following called (step ∷ steps) = called_following (called_after called (is_connect step.event) (told_in step)) steps
 
 pub called_append :
     (called : Bool) (first second : List LinkStep)
-    → called_behind called (first ++ second) ≡ called_behind (called_behind called first) second
+    → called_following called (first ++ second) ≡ called_following (called_following called first) second
 called_append called [] second = refl
 called_append called (step ∷ first) second =
     called_append (called_after called (is_connect step.event) (told_in step)) first second
@@ -446,7 +446,7 @@ AllOpenCalled called (step ∷ steps) =
 
 pub record ChainCalled (called : Bool) (m : Machine) (steps : List LinkStep) : Type 0 where
   pub opens : AllOpenCalled called steps
-  pub now : StandsCalled (called_behind called steps) (last_machine m steps).control.state
+  pub now : StandsCalled (called_following called steps) (last_machine m steps).control.state
 
 pub chain_called :
     (called : Bool) (m : Machine) (steps : List LinkStep) → IsChain m steps → Each HearsWell steps

@@ -65,7 +65,7 @@ pub use Rattle.link_world.specs.Flight.{Tagged, answers_in, asks, asks_in, is_an
 pub use Rattle.link_world.specs.Law.{first_names_valid, hears_valid, names_valid, read_names_valid, reads_valid}
 pub use Rattle.link_world.specs.Quiet.{is_alone, sends_alone}
 pub use Rattle.link_world.specs.Reading.{frame_read, info_read_wide, kind_read, with_kind}
-pub use Rattle.link_world.specs.Recorded.{Happening, RecordedEnd, behind, seen, tagged}
+pub use Rattle.link_world.specs.Recorded.{Happening, RecordedEnd, following, seen, tagged}
 pub use Rattle.link_world.specs.Recorded.Happening.{Connects, Disconnects, Hears, Seizes, Sends, Ticks}
 pub use Rattle.link_world.specs.Windows.{WindowsFit}
 pub use Rattle.link_world.specs.World.{Side, World, happening, hearing_as, hearing_first, near_turn, other, read_in}
@@ -106,7 +106,7 @@ pub use Rattle.station.specs.Links.{with_new_link}
 pub use Rattle.station.specs.NewLinks.{idle_link, making, no_layer_3}
 pub use Rattle.station.specs.Passing.{loser, passing, shutting_loser}
 pub use Rattle.station.specs.Registrations.{is_number, may_register, registrar}
-pub use Rattle.station.specs.Routes.{Route, behind_repeaters, path_along, repeaters_in, route_in}
+pub use Rattle.station.specs.Routes.{Route, after_repeaters, path_along, repeaters_in, route_in}
 pub use Rattle.station.specs.State.{StationState, new_station, usual_config}
 unfoldable pub use Rattle.station.specs.Ticks.{ticking_links}
 pub use Rattle.station.specs.Ticks.{asked_links, t1_stands, ticking, ticking_at, waits}
@@ -147,7 +147,7 @@ pub use Rattle.station_laws.specs.LinksTell.{RunsIn, runs_after}
 pub use Rattle.station_laws.specs.MatchedLaw.{AsksInRoom, DropsNoAsk, FindsRoom, IsEventOfCaller, IsOfNoHost}
 pub use Rattle.station_laws.specs.MatchedLaw.{OnlyACalls, is_event, pair_of, pairs_from, pairs_in}
 pub use Rattle.station_laws.specs.Owners.{pieces_to}
-pub use Rattle.station_laws.specs.RunsTell.{runs_behind}
+pub use Rattle.station_laws.specs.RunsTell.{runs_following}
 pub use Rattle.station_laws.specs.SetUpsSeen.{link_steps_at}
 pub use Rattle.station_laws.specs.StationsLaw.{IsMachineOf, LinkKeepsOrder, first_chosen}
 pub use Rattle.std.proofs.Common.{Bool, List, None, Option, Some, [], ap, arith, cond, drop, false, get_or}

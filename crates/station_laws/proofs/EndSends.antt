@@ -6,7 +6,7 @@ use Rattle.station_laws.proofs.Common.{Kind, Info, Super, Setup, Ui, Other, Sabm
 use Rattle.station_laws.proofs.Common.{XidSent}
 use Rattle.station_laws.proofs.Common.{modulus_named, Sent, SentIn, sent_kind, InfoSent, SetupSent, SuperSent, step}
 use Rattle.station_laws.proofs.Common.{End, Tagged, answers_in, asks, asks_in, is_answer, Happening, RecordedEnd}
-use Rattle.station_laws.proofs.Common.{behind, seen, tagged, Connects, Sends, Disconnects, Seizes, Ticks, Hears}
+use Rattle.station_laws.proofs.Common.{following, seen, tagged, Connects, Sends, Disconnects, Seizes, Ticks, Hears}
 use Rattle.station_laws.proofs.Common.{happening}
 use Rattle.station_laws.proofs.Common.{hearing_as, read_in, staying, turn_of, event_at_end}
 use Rattle.std.specs.List.{AllByRecursion as Each}
@@ -225,7 +225,7 @@ end_makes None r =
 end_makes (Some h) r =
     let m = r.machine in
     let turn = step m (seen h) in
-    let now = behind h r turn in
+    let now = following h r turn in
     let on = hears_ask h in
     let s : LinkSends m (hears_asking (seen h)) (hears_ua (seen h)) turn = step_sends m (seen h) in
     let same = asks_sent on now turn.sent in

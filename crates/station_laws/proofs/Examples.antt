@@ -320,22 +320,22 @@ unfolding reading call_of_text link_turn
 changes_are = refl
 
 -- one set-up at each end, in which nothing was given; both ends are idle again, and nothing is in flight
-abbrev pub behind : World
-behind = world_of calls pairs default_params default_params steps
+abbrev pub following : World
+following = world_of calls pairs default_params default_params steps
 
-set_ups_of_a : behind.a.end.set_ups ≡ opened 0 8 [] ∷ []
+set_ups_of_a : following.a.end.set_ups ≡ opened 0 8 [] ∷ []
 unfolding reading call_of_text link_turn
 set_ups_of_a = refl
 
-set_ups_of_b : behind.b.end.set_ups ≡ opened 0 8 [] ∷ []
+set_ups_of_b : following.b.end.set_ups ≡ opened 0 8 [] ∷ []
 unfolding reading call_of_text link_turn
 set_ups_of_b = refl
 
-both_idle : (behind.a.end.machine.control.state ≡ Idle) × (behind.b.end.machine.control.state ≡ Idle)
+both_idle : (following.a.end.machine.control.state ≡ Idle) × (following.b.end.machine.control.state ≡ Idle)
 unfolding reading call_of_text link_turn
 both_idle = (refl, refl)
 
-nothing_flies : (behind.a.towards ≡ []) × (behind.b.towards ≡ [])
+nothing_flies : (following.a.towards ≡ []) × (following.b.towards ≡ [])
 unfolding reading call_of_text link_turn
 nothing_flies = (refl, refl)
 
@@ -357,11 +357,11 @@ lost_changes : changes_of calls no_pairs lost_steps ≡ Makes A (path_along rout
 unfolding reading call_of_text link_turn
 lost_changes = refl
 
-abbrev pub behind_loss : World
-behind_loss = world_of calls no_pairs default_params default_params lost_steps
+abbrev pub after_loss : World
+after_loss = world_of calls no_pairs default_params default_params lost_steps
 
 -- it is not in flight, and A goes on calling
-lost_sabm : (behind_loss.b.towards ≡ []) × (behind_loss.a.end.machine.control.state ≡ Calling)
+lost_sabm : (after_loss.b.towards ≡ []) × (after_loss.a.end.machine.control.state ≡ Calling)
 unfolding reading call_of_text link_turn
 lost_sabm = (refl, refl)
 

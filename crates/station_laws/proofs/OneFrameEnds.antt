@@ -280,51 +280,51 @@ count_open : (header body : List ℕ) → length header ≡ 36 → told_length h
 count_open header body size fits short =
     ap (λ (r : Reading). length r.messages) (reading_open header body size fits short)
 
-count_bad : (header behind : List ℕ) → length header ≡ 36 → 4096 < told_length header
-    → length (messages_in (header ++ behind)) ≡ 0
-count_bad header behind size long = ap (λ (r : Reading). length r.messages) (reading_bad header behind size long)
+count_bad : (header following : List ℕ) → length header ≡ 36 → 4096 < told_length header
+    → length (messages_in (header ++ following)) ≡ 0
+count_bad header following size long = ap (λ (r : Reading). length r.messages) (reading_bad header following size long)
 
 -- a header, what stands after it, and octets more
-record Behind (header behind octets : List ℕ) : Type 0 where
-  one : length (messages_in (header ++ (behind ++ octets))) ≤ length (messages_in (header ++ behind)) + 1
+record Behind (header following octets : List ℕ) : Type 0 where
+  one : length (messages_in (header ++ (following ++ octets))) ≤ length (messages_in (header ++ following)) + 1
 
-behind_one :
-    (header behind octets : List ℕ) → length header ≡ 36 → length octets ≤ 17
-    → ((more : List ℕ) → length more ≤ length behind
+after_one :
+    (header following octets : List ℕ) → length header ≡ 36 → length octets ≤ 17
+    → ((more : List ℕ) → length more ≤ length following
     → length (messages_in (more ++ octets)) ≤ length (messages_in more) + 1)
-    → Behind header behind octets
-behind_one header behind octets size few rest = elim (cases_lt 4096 told) [
-  | inl long ↦ record { one = let a = count_bad header (behind ++ octets) size long in omega arith }
-  | inr fits ↦ elim (cases_lt (length behind) told) [
-    | inl lacks ↦ elim (cases_lt (length (behind ++ octets)) told) [
-      | inl short ↦ record { one = let a = count_open header (behind ++ octets) size fits short in omega arith }
+    → Behind header following octets
+after_one header following octets size few rest = elim (cases_lt 4096 told) [
+  | inl long ↦ record { one = let a = count_bad header (following ++ octets) size long in omega arith }
+  | inr fits ↦ elim (cases_lt (length following) told) [
+    | inl lacks ↦ elim (cases_lt (length (following ++ octets)) told) [
+      | inl short ↦ record { one = let a = count_open header (following ++ octets) size fits short in omega arith }
       | inr whole ↦ record {
         one =
-            let body = take told (behind ++ octets) in
-            let more = drop told (behind ++ octets) in
-            let a = count_whole header body more size fits (length-take-le told (behind ++ octets) whole) in
+            let body = take told (following ++ octets) in
+            let more = drop told (following ++ octets) in
+            let a = count_whole header body more size fits (length-take-le told (following ++ octets) whole) in
             let b = none_short more
-            (omega (arith, length-drop told (behind ++ octets), length-append behind octets)) in
+            (omega (arith, length-drop told (following ++ octets), length-append following octets)) in
             let c : length (messages_in (header ++ (body ++ more)))
-            ≡ length (messages_in (header ++ (behind ++ octets))) =
-            ap (λ xs. length (messages_in (header ++ xs))) (take-append-drop told (behind ++ octets)) in
+            ≡ length (messages_in (header ++ (following ++ octets))) =
+            ap (λ xs. length (messages_in (header ++ xs))) (take-append-drop told (following ++ octets)) in
             omega arith;
       }
     ]
     | inr whole ↦ record {
       one =
-          let body = take told behind in
-          let more = drop told behind in
-          let size_of = length-take-le told behind whole in
+          let body = take told following in
+          let more = drop told following in
+          let size_of = length-take-le told following whole in
           let a = count_whole header body more size fits size_of in
           let b = count_whole header body (more ++ octets) size fits size_of in
-          let c : length (messages_in (header ++ (body ++ more))) ≡ length (messages_in (header ++ behind)) =
-          ap (λ xs. length (messages_in (header ++ xs))) (take-append-drop told behind) in
+          let c : length (messages_in (header ++ (body ++ more))) ≡ length (messages_in (header ++ following)) =
+          ap (λ xs. length (messages_in (header ++ xs))) (take-append-drop told following) in
           let d : length (messages_in (header ++ (body ++ (more ++ octets))))
-          ≡ length (messages_in (header ++ (behind ++ octets))) =
+          ≡ length (messages_in (header ++ (following ++ octets))) =
           ap (λ xs. length (messages_in (header ++ xs)))
-          (sym (append_assoc body more octets) ∙ ap (λ xs. xs ++ octets) (take-append-drop told behind)) in
-          let e = rest more (omega (arith, length-drop told behind)) in
+          (sym (append_assoc body more octets) ∙ ap (λ xs. xs ++ octets) (take-append-drop told following)) in
+          let e = rest more (omega (arith, length-drop told following)) in
           omega arith;
     }
   ]
@@ -343,27 +343,27 @@ short_one stream short = elim (cases_lt (length stream) 36) [
     header : List ℕ
     header = take 36 stream
 
-    behind : List ℕ
-    behind = drop 36 stream
+    following : List ℕ
+    following = drop 36 stream
 
     told : ℕ
     told = told_length header
 
-    by_told : 36 ≤ length stream → length (messages_in (header ++ behind)) ≤ 1
+    by_told : 36 ≤ length stream → length (messages_in (header ++ following)) ≤ 1
     by_told some =
         let size : length header ≡ 36 = length-take-le 36 stream some in
         elim (cases_lt 4096 told) [
-          | inl long ↦ let a = count_bad header behind size long in omega arith
-          | inr fits ↦ elim (cases_lt (length behind) told) [
-            | inl lacks ↦ let a = count_open header behind size fits lacks in omega arith
+          | inl long ↦ let a = count_bad header following size long in omega arith
+          | inr fits ↦ elim (cases_lt (length following) told) [
+            | inl lacks ↦ let a = count_open header following size fits lacks in omega arith
             | inr whole ↦
-                let a = count_whole header (take told behind) (drop told behind) size fits
-                (length-take-le told behind whole) in
-                let b = none_short (drop told behind)
-                (omega (arith, length-drop told behind, length-drop 36 stream)) in
-                let c : length (messages_in (header ++ (take told behind ++ drop told behind)))
-                ≡ length (messages_in (header ++ behind)) =
-                ap (λ xs. length (messages_in (header ++ xs))) (take-append-drop told behind) in
+                let a = count_whole header (take told following) (drop told following) size fits
+                (length-take-le told following whole) in
+                let b = none_short (drop told following)
+                (omega (arith, length-drop told following, length-drop 36 stream)) in
+                let c : length (messages_in (header ++ (take told following ++ drop told following)))
+                ≡ length (messages_in (header ++ following)) =
+                ap (λ xs. length (messages_in (header ++ xs))) (take-append-drop told following) in
                 omega arith
           ]
         ]
@@ -376,15 +376,15 @@ agw_more (suc most) stream octets fits few = elim (cases_lt (length stream) 36) 
   | inl short ↦ let a = short_one (stream ++ octets) (omega (arith, length-append stream octets)) in omega arith
   | inr long ↦
       let header = take 36 stream in
-      let behind = drop 36 stream in
-      let h = behind_one header behind octets (length-take-le 36 stream long) few
+      let following = drop 36 stream in
+      let h = after_one header following octets (length-take-le 36 stream long) few
       (λ more le. agw_more most more octets (omega (arith, length-drop 36 stream)) few) in
-      let parts : header ++ behind ≡ stream = take-append-drop 36 stream in
+      let parts : header ++ following ≡ stream = take-append-drop 36 stream in
       let one = h.one in
-      let a : length (messages_in (header ++ behind)) ≡ length (messages_in stream) =
+      let a : length (messages_in (header ++ following)) ≡ length (messages_in stream) =
       ap (λ xs. length (messages_in xs)) parts in
-      let b : length (messages_in (header ++ (behind ++ octets))) ≡ length (messages_in (stream ++ octets)) =
-      ap (λ xs. length (messages_in xs)) (sym (append_assoc header behind octets) ∙ ap (λ xs. xs ++ octets) parts) in
+      let b : length (messages_in (header ++ (following ++ octets))) ≡ length (messages_in (stream ++ octets)) =
+      ap (λ xs. length (messages_in xs)) (sym (append_assoc header following octets) ∙ ap (λ xs. xs ++ octets) parts) in
       omega arith
 ]
 

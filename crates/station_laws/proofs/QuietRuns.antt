@@ -101,11 +101,11 @@ send_step e l r pa pb n sb qa qb out_pairs back_pairs w full step own back h sta
     done.between.back in
     let back_rises : RiseFrom (n + 1) back.front later.rest =
     rise_ahead (n + 1) back.front back_pairs later.done later.rest later.split back_ahead later.rises in
-    let behind : answers_in (flight later.tags later.rest) ≤ count_by (answers_from_to r l) (drop back.front qb) =
+    let following : answers_in (flight later.tags later.rest) ≤ count_by (answers_from_to r l) (drop back.front qb) =
     flight_count r l (λ (f : Tagged). f.answers) (answers_from_to r l) (answers_told r l) later.tags qb later.tagged (n + 1)
     back.front later.rest
     back_rises in
-    let behind_is : answers_in done.stays ≡ answers_in (flight later.tags later.rest) =
+    let following_is : answers_in done.stays ≡ answers_in (flight later.tags later.rest) =
     ap answers_in (sym done.left ∙ later.ahead) in
     let back_flight : count_by (answers_from_to r l) (in_flight back) ≡ count_by (answers_from_to r l) (drop back.front qb) =
     ap (λ q. count_by (answers_from_to r l) (drop back.front q)) back_is in

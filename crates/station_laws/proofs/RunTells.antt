@@ -1,6 +1,6 @@
 -- A link tells of data only while a set-up runs: over a whole run of two stations.
 use Rattle.station_laws.proofs.Common.{◌≡◌, false, List, Option, Some, None, ap, ◌∙◌, subst, Machine, End, A, B, Link}
-use Rattle.station_laws.proofs.Common.{all_stepped, new_stations, state_of, first_world, RunsIn, runs_behind}
+use Rattle.station_laws.proofs.Common.{all_stepped, new_stations, state_of, first_world, RunsIn, runs_following}
 use Rattle.station_laws.proofs.Common.{link_steps_at, IsMachineOf}
 use Rattle.station_laws.specs.RunsTell.{RunsTellInOne, ToldInOneAt, state_of_link}
 use Rattle.station_laws.proofs.ChainRun.{run_chained}
@@ -24,10 +24,10 @@ runs_tell_holds a b seed_a seed_b steps calls pairs run heard_a heard_b end =
     let now_b = ap (λ (m : Machine). m.control.state) chain.last_b ∙ state_is _ _ follows.after.at_b in
     go end (record {
       told = tells_a.told;
-      now = subst (RunsIn (runs_behind false (link_steps_at calls A steps))) now_a tells_a.now;
+      now = subst (RunsIn (runs_following false (link_steps_at calls A steps))) now_a tells_a.now;
     }) (record {
       told = tells_b.told;
-      now = subst (RunsIn (runs_behind false (link_steps_at calls B steps))) now_b tells_b.now;
+      now = subst (RunsIn (runs_following false (link_steps_at calls B steps))) now_b tells_b.now;
     })
   where
     places : End → List (Option Link)

@@ -3,7 +3,7 @@ use Rattle.station_laws.proofs.Common.{◌≡◌, ℕ, Bool, true, false, List, 
 use Rattle.station_laws.proofs.Common.{None, is_some, refl, sym, ap, ◌∙◌, subst, map-append, recursion_from_All, Path}
 use Rattle.station_laws.proofs.Common.{Frame, Packet, Told, Opened, Given, Ended, LinkState, Idle, Calling, Up}
 use Rattle.station_laws.proofs.Common.{Releasing, Machine, End, A, B, made_in, run_changes, Tagged, RecordedEnd}
-use Rattle.station_laws.proofs.Common.{Happening, behind, Connects, Sends, Disconnects, Seizes, Ticks, Hears, World}
+use Rattle.station_laws.proofs.Common.{Happening, following, Connects, Sends, Disconnects, Seizes, Ticks, Hears, World}
 use Rattle.station_laws.proofs.Common.{seen_from}
 use Rattle.station_laws.proofs.Common.{other, near_turn, turn_of, hearing_as, hearing_first, read_in, Step, at_end}
 use Rattle.station_laws.proofs.Common.{Calls, Pairs, Counts, link_at_end, count_at, with_more, event_at_end, makes}
@@ -87,11 +87,11 @@ none_waits Calling waiting is = is
 none_waits Up waiting is = refl
 none_waits Releasing waiting is = refl
 
-behind_seen :
+after_seen :
     (h : Happening) (r noted : RecordedEnd) (turn : LinkTurn) (seen : List Seen) → noting h r ≡ noted
     → SeenEnd noted seen
-    → SeenEnd (behind h r turn) (fold seen_told seen turn.told)
-behind_seen h r noted turn seen is s =
+    → SeenEnd (following h r turn) (fold seen_told seen turn.told)
+after_seen h r noted turn seen is s =
     subst (λ (n : RecordedEnd). SeenEnd (record {
       machine = turn.now;
       set_ups = fold (told_of (opening h n turn)) n.set_ups turn.told;
@@ -153,7 +153,7 @@ heard_seen (f ∷ rest) r seen told s is = go (read_in r.machine.incoming.modulu
     go (Some g) e =
         let h : Happening = Hears (record f { frame = g }) in
         by_told (end_turn h r).now seen (end_turn h r).told told e
-        (behind_seen h r (noting h r) (link_turn r.machine (LinkHear g)) seen refl
+        (after_seen h r (noting h r) (link_turn r.machine (LinkHear g)) seen refl
         (heard_noted (record f { frame = g }) r seen s))
 
 event_seen :
@@ -165,30 +165,30 @@ event_seen :
 event_seen e LinkConnect v machine seen is told given s =
     by_told (near_turn (event_at_end e LinkConnect) v).now seen (link_turn v.a.end.machine LinkConnect).told
     (link_turn machine LinkConnect).told told
-    (behind_seen Connects v.a.end v.a.end (link_turn v.a.end.machine LinkConnect) seen refl s)
+    (after_seen Connects v.a.end v.a.end (link_turn v.a.end.machine LinkConnect) seen refl s)
 event_seen e (LinkSend packet) v machine seen is told given s =
     let up = ap (λ (m : Machine). m.control.state) is ∙ given.0 in
     let taken = ap (λ m. refusal_of m (LinkSend packet)) is ∙ given.1 in
     by_told (near_turn (event_at_end e (LinkSend packet)) v).now (change_last_seen (with_given packet) seen)
     (link_turn v.a.end.machine (LinkSend packet)).told (link_turn machine (LinkSend packet)).told told
-    (behind_seen (Sends packet) v.a.end (noting (Sends packet) v.a.end) (link_turn v.a.end.machine (LinkSend packet))
+    (after_seen (Sends packet) v.a.end (noting (Sends packet) v.a.end) (link_turn v.a.end.machine (LinkSend packet))
     (change_last_seen (with_given packet) seen) refl (send_noted packet v.a.end seen up taken s))
 event_seen e LinkDisconnect v machine seen is told given s =
     by_told (near_turn (event_at_end e LinkDisconnect) v).now seen (link_turn v.a.end.machine LinkDisconnect).told
     (link_turn machine LinkDisconnect).told told
-    (behind_seen Disconnects v.a.end v.a.end (link_turn v.a.end.machine LinkDisconnect) seen refl s)
+    (after_seen Disconnects v.a.end v.a.end (link_turn v.a.end.machine LinkDisconnect) seen refl s)
 event_seen e (LinkHear frame) v machine seen is told given s =
     heard_seen v.a.towards v.a.end seen (link_turn machine (LinkHear frame)).told s told
 event_seen e (LinkTick waiting) v machine seen is told given s =
     by_told (near_turn (event_at_end e (LinkTick waiting)) v).now seen
     (link_turn v.a.end.machine (LinkTick waiting)).told
     (link_turn machine (LinkTick waiting)).told told
-    (behind_seen (Ticks waiting) v.a.end v.a.end (link_turn v.a.end.machine (LinkTick waiting)) seen refl s)
+    (after_seen (Ticks waiting) v.a.end v.a.end (link_turn v.a.end.machine (LinkTick waiting)) seen refl s)
 event_seen e (LinkSeize last full) v machine seen is told given s =
     by_told (near_turn (event_at_end e (LinkSeize last full)) v).now seen
     (link_turn v.a.end.machine (LinkSeize last full)).told
     (link_turn machine (LinkSeize last full)).told told
-    (behind_seen (Seizes last full) v.a.end v.a.end (link_turn v.a.end.machine (LinkSeize last full)) seen refl s)
+    (after_seen (Seizes last full) v.a.end v.a.end (link_turn v.a.end.machine (LinkSeize last full)) seen refl s)
 
 -- ---- the events of a step
 

@@ -22,7 +22,7 @@ use Rattle.station_laws.proofs.Common.{with_host, new_messages, new_items, takin
 use Rattle.station_laws.proofs.Common.{IsHostTurn, param_of, with_param, heeding, heeding_all, giving_up}
 use Rattle.station_laws.proofs.Common.{giving_up_all, giving_up_link, leaving, without_host, without_owner, event_at}
 use Rattle.station_laws.proofs.Common.{with_links, Link, IsNewKey, link_at, most_links, with_link, making, is_number}
-use Rattle.station_laws.proofs.Common.{registrar, may_register, Route, route_in, repeaters_in, behind_repeaters}
+use Rattle.station_laws.proofs.Common.{registrar, may_register, Route, route_in, repeaters_in, after_repeaters}
 use Rattle.station_laws.proofs.Common.{path_along, StationState, asked_key, asked_links, asking, asking_at, seizing}
 use Rattle.station_laws.proofs.Common.{ticking_at, ticking_links, t1_stands, with_asked, Turn, Act}
 use Rattle.station_laws.proofs.Common.{in_order, length-map, Asker, queueing_own}
@@ -436,7 +436,7 @@ module _ (chosen : Choice) (P : Cause → Type 0) (R : Turn → List LinkStep �
         by_kind Q n unproto_kind _ _ (chosen_as unproto_kind _
         (unnumbered_kept id message.pid message.body (route_in message.from message.to (Some [])) t)) (λ n8.
         by_kind Q n unproto_via_kind _ _ (chosen_as unproto_via_kind _
-        (unnumbered_kept id message.pid (behind_repeaters message.body)
+        (unnumbered_kept id message.pid (after_repeaters message.body)
         (route_in message.from message.to (repeaters_in message.body)) t)) (λ n9.
         by_kind Q n data_kind _ _ (chosen_as data_kind _ (data_kept chosen P R a.kept.by_events may.give message key t))
         (λ no_data.

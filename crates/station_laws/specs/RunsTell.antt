@@ -22,9 +22,9 @@ abbrev pub told_in : LinkStep → List Told
 told_in step = (link_turn step.link.machine step.event).told
 
 -- whether a set-up runs after these events
-abbrev pub runs_behind : Bool → List LinkStep → Bool
-runs_behind runs [] = runs
-runs_behind runs (step ∷ steps) = runs_behind (runs_after runs (told_in step)) steps
+abbrev pub runs_following : Bool → List LinkStep → Bool
+runs_following runs [] = runs
+runs_following runs (step ∷ steps) = runs_following (runs_after runs (told_in step)) steps
 
 -- each event tells of data only while a set-up runs
 abbrev pub AllToldInOne : Bool → List LinkStep → Type 0
@@ -40,7 +40,7 @@ state_of_link (Some link) = link.machine.control.state
 -- at one of the stations, and how its link stands then
 pub record ToldInOneAt (calls : Calls) (end : End) (steps : List Step) (links : List (Option Link)) : Type 0 where
   pub told : AllToldInOne false (link_steps_at calls end steps)
-  pub now : RunsIn (runs_behind false (link_steps_at calls end steps))
+  pub now : RunsIn (runs_following false (link_steps_at calls end steps))
       (state_of_link (first_chosen (link_at_end calls end) links))
 
 -- Over every joint run of two new stations in which the frames of the link are heard in order, at both.

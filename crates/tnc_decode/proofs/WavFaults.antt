@@ -156,33 +156,33 @@ module _ (rates : Rates) where
   -- ---- what a reading tells: the fault or the rate
 
   module _ {X : Type 0} (tells : Reading → Option X) (nothing : tells unfinished ≡ None)
-      (behind_format : (place : ℕ) (behind more : List ℕ) (others others' : List Chunk) (shown : X)
-      → field_fault rates fields (place + 8) behind ≡ None
-      → tells (formatted (rate_at_front behind) others) ≡ Some shown
-      → tells (unless (field_fault rates fields (place + 8) (behind ++ more))
-      (formatted (rate_at_front (behind ++ more)) others')) ≡ Some shown) where
-    format_stays : (place size : ℕ) (name behind more : List ℕ) (others others' : List Chunk) (shown : X)
-        → tells (of_format rates (record { place = place; name = name; size = size; behind = behind }) others)
+      (after_format : (place : ℕ) (following more : List ℕ) (others others' : List Chunk) (shown : X)
+      → field_fault rates fields (place + 8) following ≡ None
+      → tells (formatted (rate_at_front following) others) ≡ Some shown
+      → tells (unless (field_fault rates fields (place + 8) (following ++ more))
+      (formatted (rate_at_front (following ++ more)) others')) ≡ Some shown) where
+    format_stays : (place size : ℕ) (name following more : List ℕ) (others others' : List Chunk) (shown : X)
+        → tells (of_format rates (record { place = place; name = name; size = size; following = following }) others)
         ≡ Some shown
-        → tells (of_format rates (record { place = place; name = name; size = size; behind = behind ++ more }) others')
+        → tells (of_format rates (record { place = place; name = name; size = size; following = following ++ more }) others')
         ≡ Some shown
-    format_stays place size name behind more others others' shown e =
+    format_stays place size name following more others others' shown e =
         (elim (nat_lt size 16)
         as (λ t. tells (if t then failed (NoFormat (told_place (place + 7)))
-        else unless (field_fault rates fields (place + 8) behind) (formatted (rate_at_front behind) others))
+        else unless (field_fault rates fields (place + 8) following) (formatted (rate_at_front following) others))
         ≡ Some shown
         → tells (if t then failed (NoFormat (told_place (place + 7)))
-        else unless (field_fault rates fields (place + 8) (behind ++ more))
-        (formatted (rate_at_front (behind ++ more)) others')) ≡ Some shown)
-        [ true ↦ λ k. k | false ↦ by_fields (field_fault rates fields (place + 8) behind) refl ]) e
+        else unless (field_fault rates fields (place + 8) (following ++ more))
+        (formatted (rate_at_front (following ++ more)) others')) ≡ Some shown)
+        [ true ↦ λ k. k | false ↦ by_fields (field_fault rates fields (place + 8) following) refl ]) e
       where
-        by_fields : (fault : Option WavFault) → field_fault rates fields (place + 8) behind ≡ fault
-            → tells (unless fault (formatted (rate_at_front behind) others)) ≡ Some shown
-            → tells (unless (field_fault rates fields (place + 8) (behind ++ more))
-            (formatted (rate_at_front (behind ++ more)) others')) ≡ Some shown
-        by_fields (Some fault) is k = ap (λ t. tells (unless t (formatted (rate_at_front (behind ++ more)) others')))
-            (fields_stay fields (place + 8) behind more fault is) ∙ k
-        by_fields None is k = behind_format place behind more others others' shown is k
+        by_fields : (fault : Option WavFault) → field_fault rates fields (place + 8) following ≡ fault
+            → tells (unless fault (formatted (rate_at_front following) others)) ≡ Some shown
+            → tells (unless (field_fault rates fields (place + 8) (following ++ more))
+            (formatted (rate_at_front (following ++ more)) others')) ≡ Some shown
+        by_fields (Some fault) is k = ap (λ t. tells (unless t (formatted (rate_at_front (following ++ more)) others')))
+            (fields_stay fields (place + 8) following more fault is) ∙ k
+        by_fields None is k = after_format place following more others others' shown is k
 
     no_chunk : (place : ℕ) (octets : List ℕ) (shown : X) → length octets < 8
         → tells (unformatted rates (chunks place octets)) ≡ Some shown → ⊥
@@ -201,54 +201,54 @@ module _ (rates : Rates) where
         → tells (unformatted rates (chunks place (octets ++ more))) ≡ Some shown
     chunk_stays place octets more shown again size told whole e =
         let name : List ℕ = take 4 octets in
-        let behind : List ℕ = drop 8 octets in
-        let with : List ℕ → ℕ → List ℕ → Chunk = λ name size behind. record {
+        let following : List ℕ = drop 8 octets in
+        let with : List ℕ → ℕ → List ℕ → Chunk = λ name size following. record {
           place = place;
           name = name;
           size = size;
-          behind = behind;
+          following = following;
         } in
-        let next : ℕ → List ℕ → List Chunk = λ size behind. chunks (place + 8 + padded size) (drop (padded size) behind)
+        let next : ℕ → List ℕ → List Chunk = λ size following. chunks (place + 8 + padded size) (drop (padded size) following)
         in
-        let first : chunks place octets ≡ with name size behind ∷ next size behind
-        = chunks_whole place octets whole ∙ ap (λ s. with name s behind ∷ next s behind) told in
+        let first : chunks place octets ≡ with name size following ∷ next size following
+        = chunks_whole place octets whole ∙ ap (λ s. with name s following ∷ next s following) told in
         let size_longer : little_number 4 (drop 4 (octets ++ more)) ≡ size
         = ap (little_number 4) (drop-append-le 4 octets more (omega arith))
         ∙ little_longer 0 4 (drop 4 octets) more (omega (arith, length-drop 4 octets)) ∙ told in
-        let second : chunks place (octets ++ more) ≡ with name size (behind ++ more) ∷ next size (behind ++ more)
+        let second : chunks place (octets ++ more) ≡ with name size (following ++ more) ∷ next size (following ++ more)
         = chunks_whole place (octets ++ more) (omega (arith, length-append octets more))
         ∙ ap (λ s. with (take 4 (octets ++ more)) s (drop 8 (octets ++ more)) ∷ next s (drop 8 (octets ++ more)))
         size_longer
         ∙ ap (λ l. with l size (drop 8 (octets ++ more)) ∷ next size (drop 8 (octets ++ more)))
         (take-append-le 4 octets more (omega arith))
         ∙ ap (λ l. with name size l ∷ next size l) (drop-append-le 8 octets more whole) in
-        let rest : tells (unformatted rates (next size behind)) ≡ Some shown
-        → tells (unformatted rates (next size (behind ++ more))) ≡ Some shown
-        = λ k. elim (cases_lt (length behind) (padded size)) [
-          | inl short ↦ absurd (no_chunk (place + 8 + padded size) (drop (padded size) behind) shown
-              (omega (arith, length-drop (padded size) behind)) k)
+        let rest : tells (unformatted rates (next size following)) ≡ Some shown
+        → tells (unformatted rates (next size (following ++ more))) ≡ Some shown
+        = λ k. elim (cases_lt (length following) (padded size)) [
+          | inl short ↦ absurd (no_chunk (place + 8 + padded size) (drop (padded size) following) shown
+              (omega (arith, length-drop (padded size) following)) k)
           | inr enough ↦
               ap (λ l. tells (unformatted rates (chunks (place + 8 + padded size) l)))
-              (drop-append-le (padded size) behind more enough)
-              ∙ again (place + 8 + padded size) (drop (padded size) behind)
-              (omega (arith, length-drop (padded size) behind, length-drop 8 octets)) k
+              (drop-append-le (padded size) following more enough)
+              ∙ again (place + 8 + padded size) (drop (padded size) following)
+              (omega (arith, length-drop (padded size) following, length-drop 8 octets)) k
         ] in
         ap (λ list. tells (unformatted rates list)) second
-        ∙ (elim (is_data (with name size behind))
+        ∙ (elim (is_data (with name size following))
         as (λ t. tells (if t then failed (NoFormat (told_place (place + 7)))
-        else (if is_format (with name size behind) then of_format rates (with name size behind) (next size behind)
-        else unformatted rates (next size behind))) ≡ Some shown
+        else (if is_format (with name size following) then of_format rates (with name size following) (next size following)
+        else unformatted rates (next size following))) ≡ Some shown
         → tells (if t then failed (NoFormat (told_place (place + 7)))
-        else (if is_format (with name size behind) then of_format rates (with name size (behind ++ more))
-        (next size (behind ++ more)) else unformatted rates (next size (behind ++ more)))) ≡ Some shown) [
+        else (if is_format (with name size following) then of_format rates (with name size (following ++ more))
+        (next size (following ++ more)) else unformatted rates (next size (following ++ more)))) ≡ Some shown) [
           | true ↦ λ k. k
           | false ↦
-              elim (is_format (with name size behind))
-              as (λ t. tells (if t then of_format rates (with name size behind) (next size behind)
-              else unformatted rates (next size behind)) ≡ Some shown
-              → tells (if t then of_format rates (with name size (behind ++ more)) (next size (behind ++ more))
-              else unformatted rates (next size (behind ++ more))) ≡ Some shown) [
-                | true ↦ format_stays place size name behind more (next size behind) (next size (behind ++ more))
+              elim (is_format (with name size following))
+              as (λ t. tells (if t then of_format rates (with name size following) (next size following)
+              else unformatted rates (next size following)) ≡ Some shown
+              → tells (if t then of_format rates (with name size (following ++ more)) (next size (following ++ more))
+              else unformatted rates (next size (following ++ more))) ≡ Some shown) [
+                | true ↦ format_stays place size name following more (next size following) (next size (following ++ more))
                     shown
                 | false ↦ rest
               ]
@@ -272,8 +272,8 @@ module _ (rates : Rates) where
     unfolding reading
     reading_stays octets more shown e = by_riff (difference NotRiff 0 (codes "RIFF") octets) refl e
       where
-        none_behind : length octets ≤ 11 → tells (unformatted rates (chunks 12 (drop 12 octets))) ≡ Some shown → ⊥
-        none_behind few k = no_chunk 12 (drop 12 octets) shown (omega (arith, length-drop 12 octets)) k
+        none_after : length octets ≤ 11 → tells (unformatted rates (chunks 12 (drop 12 octets))) ≡ Some shown → ⊥
+        none_after few k = no_chunk 12 (drop 12 octets) shown (omega (arith, length-drop 12 octets)) k
 
         by_wave : (fault : Option WavFault) → difference NotWave 8 (codes "WAVE") (drop 8 octets) ≡ fault
             → 8 ≤ length octets
@@ -287,7 +287,7 @@ module _ (rates : Rates) where
             (difference_stays NotWave 8 (codes "WAVE") (drop 8 octets) more fault is) ∙ k
         by_wave None is enough k =
             elim (cases_lt (length octets) 12) [
-              | inl few ↦ absurd (none_behind (omega arith) k)
+              | inl few ↦ absurd (none_after (omega arith) k)
               | inr whole ↦
                   ap (λ l. tells (unless (difference NotWave 8 (codes "WAVE") l)
                   (unformatted rates (chunks 12 (drop 12 (octets ++ more)))))) (drop-append-le 8 octets more enough)
@@ -301,7 +301,7 @@ module _ (rates : Rates) where
         short_wave : length octets < 8 → tells (unless (difference NotWave 8 (codes "WAVE") (drop 8 octets))
             (unformatted rates (chunks 12 (drop 12 octets)))) ≡ Some shown → ⊥
         short_wave few k =
-            none_behind (omega arith)
+            none_after (omega arith)
             (ap (λ l. tells (unless (difference NotWave 8 (codes "WAVE") l)
             (unformatted rates (chunks 12 (drop 12 octets))))) (sym (drop_all 8 octets (omega arith))) ∙ k)
 
@@ -330,32 +330,32 @@ module _ (rates : Rates) where
   pub fault_stays : (octets more : List ℕ) (shown : WavFault) → fault_in rates octets ≡ Some shown
       → fault_in rates (octets ++ more) ≡ Some shown
   fault_stays = reading_stays (λ r. r.fault) refl
-      (λ place behind more others others' shown is k. let both : None ≡ Some shown =
-      sym (faultless (rate_at_front behind) others) ∙ k in absurd cc)
+      (λ place following more others others' shown is k. let both : None ≡ Some shown =
+      sym (faultless (rate_at_front following) others) ∙ k in absurd cc)
 
   -- so does the rate
   pub rate_stays : (octets more : List ℕ) (rate : ℕ) → rate_in rates octets ≡ Some rate
       → rate_in rates (octets ++ more) ≡ Some rate
-  rate_stays = reading_stays (λ r. r.rate) refl (λ place behind more others others' rate is k.
-      let here : rate_at_front behind ≡ Some rate = sym (keeps_rate (rate_at_front behind) others) ∙ k in
-      elim (cases_lt (length behind) 16) [
+  rate_stays = reading_stays (λ r. r.rate) refl (λ place following more others others' rate is k.
+      let here : rate_at_front following ≡ Some rate = sym (keeps_rate (rate_at_front following) others) ∙ k in
+      elim (cases_lt (length following) 16) [
         | inl few ↦
-            let none : rate_at_front behind ≡ None = ap (λ t. if t then None
-            else Some (little_number 4 (drop 4 behind))) (lt-ltb (length behind) 16 few) in
+            let none : rate_at_front following ≡ None = ap (λ t. if t then None
+            else Some (little_number 4 (drop 4 following))) (lt-ltb (length following) 16 few) in
             let both : None ≡ Some rate = sym none ∙ here in
             absurd cc
         | inr enough ↦
-            let first : rate_at_front behind ≡ Some (little_number 4 (drop 4 behind))
-            = ap (λ t. if t then None else Some (little_number 4 (drop 4 behind))) (le-ltb (length behind) 16 enough) in
-            let second : rate_at_front (behind ++ more) ≡ Some (little_number 4 (drop 4 (behind ++ more)))
-            = ap (λ t. if t then None else Some (little_number 4 (drop 4 (behind ++ more))))
-            (le-ltb (length (behind ++ more)) 16 (omega (arith, length-append behind more))) in
-            let same : little_number 4 (drop 4 (behind ++ more)) ≡ little_number 4 (drop 4 behind)
-            = ap (little_number 4) (drop-append-le 4 behind more (omega arith))
-            ∙ little_longer 0 4 (drop 4 behind) more (omega (arith, length-drop 4 behind)) in
-            ap (λ t. (unless t (formatted (rate_at_front (behind ++ more)) others')).rate)
-            (fields_whole fields (place + 8) behind more enough ∙ is)
-            ∙ keeps_rate (rate_at_front (behind ++ more)) others' ∙ second ∙ ap Some same ∙ sym first ∙ here
+            let first : rate_at_front following ≡ Some (little_number 4 (drop 4 following))
+            = ap (λ t. if t then None else Some (little_number 4 (drop 4 following))) (le-ltb (length following) 16 enough) in
+            let second : rate_at_front (following ++ more) ≡ Some (little_number 4 (drop 4 (following ++ more)))
+            = ap (λ t. if t then None else Some (little_number 4 (drop 4 (following ++ more))))
+            (le-ltb (length (following ++ more)) 16 (omega (arith, length-append following more))) in
+            let same : little_number 4 (drop 4 (following ++ more)) ≡ little_number 4 (drop 4 following)
+            = ap (little_number 4) (drop-append-le 4 following more (omega arith))
+            ∙ little_longer 0 4 (drop 4 following) more (omega (arith, length-drop 4 following)) in
+            ap (λ t. (unless t (formatted (rate_at_front (following ++ more)) others')).rate)
+            (fields_whole fields (place + 8) following more enough ∙ is)
+            ∙ keeps_rate (rate_at_front (following ++ more)) others' ∙ second ∙ ap Some same ∙ sym first ∙ here
       ])
 
   -- ---- no sample before a fault
@@ -382,12 +382,12 @@ module _ (rates : Rates) where
               | true ↦
                   elim (nat_lt chunk.size 16) as (λ t. IsSilent (if t then failed
                   (NoFormat (told_place (chunk.place + 7))) else unless
-                  (field_fault rates fields (chunk.place + 8) chunk.behind)
-                  (formatted (rate_at_front chunk.behind) others))) [
+                  (field_fault rates fields (chunk.place + 8) chunk.following)
+                  (formatted (rate_at_front chunk.following) others))) [
                     | true ↦ λ shown e. refl
                     | false ↦ silent_unless (field_fault rates fields (chunk.place + 8)
-                        chunk.behind) (formatted (rate_at_front chunk.behind) others)
-                        (silent_formatted (rate_at_front chunk.behind) others)
+                        chunk.following) (formatted (rate_at_front chunk.following) others)
+                        (silent_formatted (rate_at_front chunk.following) others)
                   ]
               | false ↦ silent_unformatted others
             ]
@@ -411,28 +411,28 @@ module _ (rates : Rates) where
   quiet_unless None r h e = h e
 
   -- after a format that is not there to its end stands no chunk
-  quiet_formatted : (place size : ℕ) (behind : List ℕ) → 16 ≤ size
-      → IsQuiet (formatted (rate_at_front behind) (chunks place (drop (padded size) behind)))
-  quiet_formatted place size behind large e =
-      elim (cases_lt (length behind) 16) [
+  quiet_formatted : (place size : ℕ) (following : List ℕ) → 16 ≤ size
+      → IsQuiet (formatted (rate_at_front following) (chunks place (drop (padded size) following)))
+  quiet_formatted place size following large e =
+      elim (cases_lt (length following) 16) [
         | inl few ↦
-            ap (λ l. (formatted (rate_at_front behind) (chunks place l)).heard)
-            (drop_all (padded size) behind (omega arith))
-            ∙ ap (λ list. (formatted (rate_at_front behind) list).heard) (chunks_short place [] (omega arith))
+            ap (λ l. (formatted (rate_at_front following) (chunks place l)).heard)
+            (drop_all (padded size) following (omega arith))
+            ∙ ap (λ list. (formatted (rate_at_front following) list).heard) (chunks_short place [] (omega arith))
         | inr enough ↦
-            let value : ℕ = little_number 4 (drop 4 behind) in
-            let some : rate_at_front behind ≡ Some value = ap (λ t. if t then None else Some value)
-            (le-ltb (length behind) 16 enough) in
+            let value : ℕ = little_number 4 (drop 4 following) in
+            let some : rate_at_front following ≡ Some value = ap (λ t. if t then None else Some value)
+            (le-ltb (length following) 16 enough) in
             let both : Some value ≡ None = sym some
-            ∙ sym (keeps_rate (rate_at_front behind) (chunks place (drop (padded size) behind))) ∙ e in
+            ∙ sym (keeps_rate (rate_at_front following) (chunks place (drop (padded size) following))) ∙ e in
             absurd cc
       ]
 
   -- a chunk before those that tell no sample
   quiet_chunk : (place : ℕ) (chunk : Chunk) → chunk.place ≡ place
-      → IsQuiet (unformatted rates (chunks (place + 8 + padded chunk.size) (drop (padded chunk.size) chunk.behind)))
+      → IsQuiet (unformatted rates (chunks (place + 8 + padded chunk.size) (drop (padded chunk.size) chunk.following)))
       → IsQuiet (unformatted rates (chunk ∷ chunks (place + 8 + padded chunk.size)
-      (drop (padded chunk.size) chunk.behind)))
+      (drop (padded chunk.size) chunk.following)))
   quiet_chunk place chunk at again =
       elim (is_data chunk) as (λ t. IsQuiet (if t then failed (NoFormat (told_place (chunk.place + 7)))
       else (if is_format chunk then of_format rates chunk others else unformatted rates others))) [
@@ -445,17 +445,17 @@ module _ (rates : Rates) where
       ]
     where
       others : List Chunk
-      others = chunks (place + 8 + padded chunk.size) (drop (padded chunk.size) chunk.behind)
+      others = chunks (place + 8 + padded chunk.size) (drop (padded chunk.size) chunk.following)
 
       by_size : (b : Bool) → nat_lt chunk.size 16 ≡ b
           → IsQuiet (if b then failed (NoFormat (told_place (chunk.place + 7)))
-          else unless (field_fault rates fields (chunk.place + 8) chunk.behind)
-          (formatted (rate_at_front chunk.behind) others))
+          else unless (field_fault rates fields (chunk.place + 8) chunk.following)
+          (formatted (rate_at_front chunk.following) others))
       by_size true is = λ e. refl
       by_size false is =
-          quiet_unless (field_fault rates fields (chunk.place + 8) chunk.behind)
-          (formatted (rate_at_front chunk.behind) others)
-          (quiet_formatted (place + 8 + padded chunk.size) chunk.size chunk.behind (ltb-false chunk.size 16 is))
+          quiet_unless (field_fault rates fields (chunk.place + 8) chunk.following)
+          (formatted (rate_at_front chunk.following) others)
+          (quiet_formatted (place + 8 + padded chunk.size) chunk.size chunk.following (ltb-false chunk.size 16 is))
 
   quiet_chunks : (n place : ℕ) (octets : List ℕ) → length octets ≤ n → IsQuiet (unformatted rates (chunks place octets))
   quiet_chunks zero place octets fits = λ e. ap (λ list. (unformatted rates list).heard)
@@ -467,8 +467,8 @@ module _ (rates : Rates) where
             let chunk : Chunk = chunk_at place octets in
             subst (λ list. IsQuiet (unformatted rates list)) (sym (chunks_whole place octets whole))
             (quiet_chunk place chunk refl (quiet_chunks n (place + 8 + padded chunk.size)
-            (drop (padded chunk.size) chunk.behind)
-            (omega (arith, length-drop (padded chunk.size) chunk.behind, length-drop 8 octets))))
+            (drop (padded chunk.size) chunk.following)
+            (omega (arith, length-drop (padded chunk.size) chunk.following, length-drop 8 octets))))
       ]
 
   pub quiet_before : (octets : List ℕ) → rate_in rates octets ≡ None → samples_in rates octets ≡ []

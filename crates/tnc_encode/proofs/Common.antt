@@ -23,7 +23,7 @@ pub use Rattle.tnc_encode.specs.HeldFrames.{HasSent, HasTaken, IsReader, form_of
 unfoldable pub use Rattle.tnc_encode.specs.Sending.{signal_by, transmission_by}
 pub use Rattle.tnc_encode.specs.Writing.{EncodesWhole}
 pub use Rattle.tnc_forms.proofs.Ends.{map_ok, on_err}
-pub use Rattle.tnc_forms.proofs.WrittenParts.{wrote_behind, wrote_front, wrote_nothing}
+pub use Rattle.tnc_forms.proofs.WrittenParts.{wrote_after, wrote_front, wrote_nothing}
 unfoldable pub use Rattle.tnc_forms.specs.Pcm.{pcm}
 pub use Rattle.tnc_forms.specs.Reading.{input_limit}
 pub use Rattle.tnc_forms.specs.declared.fault.Fault.{Fault}

@@ -7,9 +7,9 @@ use Rattle.tone_table.specs.declared.tone.Tone.TheVariants.{Mark, Space}
 use Rattle.tone_table.specs.Tones.{next_phase}
 use Rattle.nrzi_bits.specs.Line.{line}
 use Rattle.afsk_modulator.specs.Level.{at_level}
-use Rattle.afsk_modulator.specs.Modulation.{IsBitPhase, Modulation, behind, tone_window, wave_of}
+use Rattle.afsk_modulator.specs.Modulation.{IsBitPhase, Modulation, following, tone_window, wave_of}
 use Rattle.tnc_encode.specs.Windows.{window_at, windows_of}
-use Rattle.afsk_modulator.proofs.WaveLemmas.{behind-push, wave_of-push}
+use Rattle.afsk_modulator.proofs.WaveLemmas.{following-push, wave_of-push}
 
 -- a wave at a phase and a level
 abbrev pub at : ℕ → ℕ → Modulation
@@ -23,7 +23,7 @@ bit_phase-next phase Space is = omega (arith, is.sixth)
 -- the wave of so many bits, and where it goes on
 pub record WaveSoFar (level now : ℕ) (bits : List Bool) (found : List ℤ) : Type 0 where
   pub samples : found ≡ wave_of (at 0 level) (line bits)
-  pub phase : at now level ≡ behind (at 0 level) (line bits)
+  pub phase : at now level ≡ following (at 0 level) (line bits)
 
 pub no_bits : (level : ℕ) → WaveSoFar level 0 [] []
 unfolding at_level
@@ -36,7 +36,7 @@ bit_more level now bits bit tone found h is = record {
   samples = ap (λ xs. xs ++ tone_window (at now level) tone) h.samples
       ∙ sym (wave_of-push (at 0 level) (line bits) tone (at now level) h.phase)
       ∙ ap (wave_of (at 0 level)) (sym is);
-  phase = behind-push (at 0 level) (line bits) tone (at now level) h.phase ∙ ap (behind (at 0 level)) (sym is);
+  phase = following-push (at 0 level) (line bits) tone (at now level) h.phase ∙ ap (following (at 0 level)) (sym is);
 }
 
 -- the same as the code has it
@@ -49,7 +49,7 @@ bit_taken level now after index bits bit tone found longer h taken is appended n
     let more = bit_more level now (take index bits) bit tone found h is in
     record {
       samples = appended ∙ more.samples ∙ ap (λ xs. wave_of (at 0 level) (line xs)) (sym taken);
-      phase = ap (λ p. at p level) next ∙ more.phase ∙ ap (λ xs. behind (at 0 level) (line xs)) (sym taken);
+      phase = ap (λ p. at p level) next ∙ more.phase ∙ ap (λ xs. following (at 0 level) (line xs)) (sym taken);
     }
 
 -- the window at a place of the six

@@ -102,14 +102,14 @@ module _ (making : Making) where
     module _ (laws : IsMaking making) (HoldsNext : List ℕ → Type 0) (text : List ℕ) (now : Option (List ℕ))
         (cut : (b : List ℕ) → mid ≡ Some b → WrotePart b text now) where
       -- the text is settled by octets with which the piece begins
-      cut_at : (front behind : List ℕ) → rest ≡ front ++ behind → Adds making (before ++ t.front) front text
+      cut_at : (front following : List ℕ) → rest ≡ front ++ following → Adds making (before ++ t.front) front text
           → WroteCut making before octets was now
       unfolding at_memory
-      cut_at front behind parts adds =
-          let all : (after : List ℕ) → ((before ++ t.front) ++ front) ++ (behind ++ after)
+      cut_at front following parts adds =
+          let all : (after : List ℕ) → ((before ++ t.front) ++ front) ++ (following ++ after)
           ≡ (before ++ octets) ++ after =
-          λ after. sym (append_assoc ((before ++ t.front) ++ front) behind after)
-          ∙ ap (λ o. o ++ after) (append_assoc (before ++ t.front) front behind
+          λ after. sym (append_assoc ((before ++ t.front) ++ front) following after)
+          ∙ ap (λ o. o ++ after) (append_assoc (before ++ t.front) front following
           ∙ ap (λ o. (before ++ t.front) ++ o) (sym parts) ∙ sym whole) in
           record {
             mid = mid;
@@ -118,7 +118,7 @@ module _ (making : Making) where
               text = text;
               is = λ first part more after settled is.
                   subst (λ o. making.Begins o (first ++ (t.wrote.text ++ part))) (all after)
-                  (settled_begins making laws ((before ++ t.front) ++ front) (behind ++ after)
+                  (settled_begins making laws ((before ++ t.front) ++ front) (following ++ after)
                   ((first ++ t.wrote.text) ++ text) (first ++ (t.wrote.text ++ part)) more
                   (adds (first ++ t.wrote.text) (t.wrote.is first settled))
                   (ap (λ o. (first ++ t.wrote.text) ++ o) is

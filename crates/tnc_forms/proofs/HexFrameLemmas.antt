@@ -7,7 +7,7 @@ use Rattle.tnc_forms.proofs.Common.{frame_of, frames_in_lines, frames_of_lines, 
 use Rattle.std.proofs.Common.{not, All, IfSome}
 use Rattle.std.specs.Prelude.{find, option_and_then, suc, take, take_while}
 use Rattle.std.specs.List.{cons_option, filter_map, prefix_len}
-use Rattle.tnc_forms.specs.HexLines.{lines_behind}
+use Rattle.tnc_forms.specs.HexLines.{lines_after}
 use Rattle.tnc_forms.specs.HexFrames.{is_bad}
 use Rattle.tnc_forms.proofs.LineTextLemmas.{IsWithin, text_of-within}
 
@@ -88,8 +88,8 @@ frames_in_lines-good least input = frames_of_lines-good least (lines_of input)
 
 -- the frames so far, the lines that are left, and nothing bad yet
 pub record HasReadLines (least : ℕ) (input : List ℕ) (frames : List (List ℕ)) (place : Option ℕ) : Type 0 where
-  pub frames_so_far : frames ++ frames_of_lines least (lines_behind input place) ≡ frames_in_lines least input
-  pub fault_so_far : fault_of_lines least (lines_behind input place) ≡ line_fault least input
+  pub frames_so_far : frames ++ frames_of_lines least (lines_after input place) ≡ frames_in_lines least input
+  pub fault_so_far : fault_of_lines least (lines_after input place) ≡ line_fault least input
   pub within : IfSome place (λ at. at ≤ length input)
 
 pub has_read_none : (least : ℕ) (input : List ℕ) (frames : List (List ℕ)) → frames ≡ []
@@ -107,18 +107,18 @@ if_within (Some n) at size h = h.1
 
 module _ (least : ℕ) (input : List ℕ) (frames : List (List ℕ)) (place next : Option ℕ) (at : ℕ) (text : List ℕ)
     (h : HasReadLines least input frames place) (here : place ≡ Some at)
-    (cut : lines_at input at ≡ record { place = at; text = text } ∷ lines_behind input next) where
-  cut_here : lines_behind input place ≡ record { place = at; text = text } ∷ lines_behind input next
-  cut_here = ap (lines_behind input) here ∙ cut
+    (cut : lines_at input at ≡ record { place = at; text = text } ∷ lines_after input next) where
+  cut_here : lines_after input place ≡ record { place = at; text = text } ∷ lines_after input next
+  cut_here = ap (lines_after input) here ∙ cut
 
   -- one line more that holds nothing
   pub read_nothing : IfSome next (λ n. (at < n) × (n ≤ length input)) → text_of least text ≡ Nothing
       → HasReadLines least input frames next
   read_nothing bound is = record {
     frames_so_far = ap (λ fs. frames ++ fs) (sym (ap (frames_of_lines least) cut_here
-        ∙ frames-nothing least (record { place = at; text = text }) (lines_behind input next) is)) ∙ h.frames_so_far;
+        ∙ frames-nothing least (record { place = at; text = text }) (lines_after input next) is)) ∙ h.frames_so_far;
     fault_so_far = sym (ap (fault_of_lines least) cut_here
-        ∙ fault-nothing least (record { place = at; text = text }) (lines_behind input next) is) ∙ h.fault_so_far;
+        ∙ fault-nothing least (record { place = at; text = text }) (lines_after input next) is) ∙ h.fault_so_far;
     within = if_within next at (length input) bound;
   }
 
@@ -127,12 +127,12 @@ module _ (least : ℕ) (input : List ℕ) (frames : List (List ℕ)) (place next
       → text_of least text ≡ Frame octets → HasReadLines least input (frames ++ octets ∷ []) next
   read_frame octets bound is = record {
     frames_so_far =
-        append_assoc frames (octets ∷ []) (frames_of_lines least (lines_behind input next))
+        append_assoc frames (octets ∷ []) (frames_of_lines least (lines_after input next))
         ∙ ap (λ fs. frames ++ fs) (sym (ap (frames_of_lines least) cut_here
-        ∙ frames-frame least (record { place = at; text = text }) (lines_behind input next) octets is))
+        ∙ frames-frame least (record { place = at; text = text }) (lines_after input next) octets is))
         ∙ h.frames_so_far;
     fault_so_far = sym (ap (fault_of_lines least) cut_here
-        ∙ fault-frame least (record { place = at; text = text }) (lines_behind input next) octets is) ∙ h.fault_so_far;
+        ∙ fault-frame least (record { place = at; text = text }) (lines_after input next) octets is) ∙ h.fault_so_far;
     within = if_within next at (length input) bound;
   }
 
@@ -143,9 +143,9 @@ module _ (least : ℕ) (input : List ℕ) (frames : List (List ℕ)) (place next
   read_bad flaw offset is = (
     sym (append-nil frames)
         ∙ ap (λ fs. frames ++ fs) (sym (ap (frames_of_lines least) cut_here
-        ∙ frames-bad least (record { place = at; text = text }) (lines_behind input next) flaw offset is))
+        ∙ frames-bad least (record { place = at; text = text }) (lines_after input next) flaw offset is))
         ∙ h.frames_so_far,
     sym (ap (fault_of_lines least) cut_here ∙ fault-bad least (record { place = at; text = text })
-        (lines_behind input next) flaw offset is) ∙ h.fault_so_far,
+        (lines_after input next) flaw offset is) ∙ h.fault_so_far,
     subst (IsWithin least text) is (text_of-within least text),
   )

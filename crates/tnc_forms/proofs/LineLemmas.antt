@@ -11,8 +11,8 @@ use Rattle.std.proofs.lemmas.List.Splits.{slice_split_first}
 some_is_not_none : (n : ℕ) → Some n ≡ None → ⊥
 some_is_not_none n e = true≢false (ap is_some e)
 
-place_behind : (place size : ℕ) → place + (size + 1) ≡ place + size + 1
-place_behind place size = omega arith
+place_following : (place size : ℕ) → place + (size + 1) ≡ place + size + 1
+place_following place size = omega arith
 
 -- one part, and more parts after it
 pub lines_from-cons : (place : ℕ) (part : List ℕ) (parts : List (List ℕ)) → 0 < length parts
@@ -58,15 +58,15 @@ line_before input place size found =
     let cut : parts_of rest ≡ take first rest ∷ parts_of (drop (first + 1) rest) =
     slice_split_first is_line_feed rest 0 (omega (arith, there.0, there.1)) in
     let sized : length (take size rest) ≡ size = length-take-le size rest (omega (arith, there.1)) in
-    let behind : drop (size + 1) rest ≡ drop (place + size + 1) input =
-    drop-drop (size + 1) place input ∙ ap (λ n. drop n input) (place_behind place size) in
+    let following : drop (size + 1) rest ≡ drop (place + size + 1) input =
+    drop-drop (size + 1) place input ∙ ap (λ n. drop n input) (place_following place size) in
     ap (lines_from place) (cut ∙ ap (λ n. take n rest ∷ parts_of (drop (n + 1) rest)) (sym there.0))
     ∙ lines_from-cons place (take size rest) (parts_of (drop (size + 1) rest))
     (omega (arith, length-slice_split is_line_feed (drop (size + 1) rest)))
     ∙ ap (λ n. record { place = place; text = strip_carriage_return (take size rest) }
     ∷ lines_from (place + n + 1) (parts_of (drop (size + 1) rest))) sized
     ∙ ap (λ octets. record { place = place; text = strip_carriage_return (take size rest) }
-    ∷ lines_from (place + size + 1) (parts_of octets)) behind
+    ∷ lines_from (place + size + 1) (parts_of octets)) following
 
 -- the line at the end
 pub line_at_end : (input : List ℕ) (place : ℕ) → None ≡ position is_line_feed (drop place input)

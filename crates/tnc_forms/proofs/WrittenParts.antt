@@ -17,9 +17,9 @@ wrote_front before front text now (part, rest, parts, is) =
     (part, rest ++ text, ap (λ xs. xs ++ text) parts ∙ append_assoc part rest text, is)
 
 -- and the front with a first part of what follows
-pub wrote_behind : (before front text : List ℕ) (now : Option (List ℕ)) → WrotePart (before ++ front) text now
+pub wrote_after : (before front text : List ℕ) (now : Option (List ℕ)) → WrotePart (before ++ front) text now
     → WrotePart before (front ++ text) now
-wrote_behind before front text now (part, rest, parts, is) = (
+wrote_after before front text now (part, rest, parts, is) = (
   front ++ part,
   rest,
   ap (λ xs. front ++ xs) parts ∙ sym (append_assoc front part rest),

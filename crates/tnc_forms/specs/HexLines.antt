@@ -28,8 +28,8 @@ parts_of octets = slice_split is_line_feed octets
 abbrev pub lines_at : List ℕ → ℕ → List Line
 lines_at input place = lines_from place (parts_of (drop place input))
 
-abbrev pub lines_behind : List ℕ → Option ℕ → List Line
-lines_behind input next = option_map_or (lines_at input) next []
+abbrev pub lines_after : List ℕ → Option ℕ → List Line
+lines_after input next = option_map_or (lines_at input) next []
 
 abbrev pub lines_of : List ℕ → List Line
 lines_of input = lines_at input 0

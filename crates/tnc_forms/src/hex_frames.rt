@@ -1,7 +1,7 @@
 //! Frames as lines of hexadecimal digits.
 ghost use Rattle.std.specs.Prelude.{◌≡◌, ◌≤◌, ◌<◌, ◌+◌, ◌∷◌, [], length, position, IfOk, IfSome};
 ghost use Rattle.std.specs.Str.Lines.{strip_carriage_return};
-ghost use Rattle.tnc_forms.specs.HexLines.{is_line_feed, lines_at, lines_behind};
+ghost use Rattle.tnc_forms.specs.HexLines.{is_line_feed, lines_at, lines_after};
 ghost use Rattle.tnc_forms.specs.Faults.{hex_fault};
 ghost use Rattle.tnc_forms.specs.HexFrames.{frames_in_lines};
 
@@ -52,7 +52,7 @@ pub fn read_hex_frames(alloc: Global, least: usize, input: &[u8]) -> Result<HexF
 fn line_at(input: &[u8], place: usize) -> (&[u8], Option<usize>)
     requires { place ≤ length input.now }
     ensures lines { lines_at input.now place
-        ≡ record { place = place; text = result.0.now } ∷ lines_behind input.now result.1 }
+        ≡ record { place = place; text = result.0.now } ∷ lines_after input.now result.1 }
     ensures within { place + length result.0.now ≤ length input.now }
     ensures next { IfSome result.1 (λ next. (place < next) × (next ≤ length input.now)) }
 {

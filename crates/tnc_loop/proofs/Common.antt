@@ -26,15 +26,15 @@ pub use Rattle.std.proofs.lemmas.List.Concat.{flat_map-cons}
 pub use Rattle.std.specs.List.{All, concat, flat_map}
 pub use Rattle.std.specs.Prelude.{not}
 pub use Rattle.tnc_base.specs.Streams.{WrotePart}
-unfoldable pub use Rattle.tnc_loop.specs.Drawn.{behind_heard, behind_transmission, drawn, heard_drawn, heard_of}
+unfoldable pub use Rattle.tnc_loop.specs.Drawn.{after_heard, after_transmission, drawn, heard_drawn, heard_of}
 unfoldable pub use Rattle.tnc_loop.specs.Drawn.{received_drawn, samples_drawn, transmission_drawn}
 pub use Rattle.tnc_loop.specs.Drawn.{Heard, all_heard, length_drawn, octets_drawn}
 pub use Rattle.tnc_loop.specs.Held.{HasFound, HasSent, drawn_as, sent_of}
-unfoldable pub use Rattle.tnc_loop.specs.Rough.{behind_rough, rough_samples}
+unfoldable pub use Rattle.tnc_loop.specs.Rough.{after_rough, rough_samples}
 pub use Rattle.tnc_loop.specs.Rough.{exact_samples, level_drawn, noise_of, rough_received, with_errors}
 pub use Rattle.tnc_loop.specs.Strays.{first_stray, strays}
 unfoldable pub use Rattle.tnc_loop.specs.Summary.{summary}
 pub use Rattle.tnc_loop.specs.Summary.{IsSummary}
-pub use Rattle.tnc_loop.specs.Words.{behind, loop_generator, word_at}
+pub use Rattle.tnc_loop.specs.Words.{following, loop_generator, word_at}
 pub use Rattle.tnc_loop.specs.declared.sending.Sent.{Sent}
 pub use Rattle.tnc_words.specs.declared.command.LoopWords.{LoopWords}

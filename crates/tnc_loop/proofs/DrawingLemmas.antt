@@ -1,9 +1,9 @@
 -- Octets and transmissions, one draw after another.
 use Rattle.tnc_loop.proofs.Common.{◌≡◌, Bool, true, false, ℕ, zero, suc, ◌+◌, ◌-◌, ◌%◌, ◌<◌, ◌≤◌, List, [], ◌∷◌, ◌++◌}
 use Rattle.tnc_loop.proofs.Common.{length, map, refl, ap, sym, ◌∙◌, arith, append_assoc, append-nil, length-append, Lcg}
-use Rattle.tnc_loop.proofs.Common.{pcg32, mod-lt, All, Transmission, LoopWords, loop_generator, behind, word_at, words}
-use Rattle.tnc_loop.proofs.Common.{length_drawn, octets_drawn, transmission_drawn, behind_transmission, heard_of}
-use Rattle.tnc_loop.proofs.Common.{behind_heard, all_heard, heard_drawn, received_drawn, drawn}
+use Rattle.tnc_loop.proofs.Common.{pcg32, mod-lt, All, Transmission, LoopWords, loop_generator, following, word_at, words}
+use Rattle.tnc_loop.proofs.Common.{length_drawn, octets_drawn, transmission_drawn, after_transmission, heard_of}
+use Rattle.tnc_loop.proofs.Common.{after_heard, all_heard, heard_drawn, received_drawn, drawn}
 use Rattle.std.proofs.lemmas.List.Elements.{recursion_from_All}
 use Rattle.hdlc_framer.specs.Frames.{IsFrame}
 use Rattle.clean_signal.specs.GoodTransmission.{IsTransmission}
@@ -18,7 +18,7 @@ module _ {X : Type 0} (f : ℕ → X) where
   -- these were drawn of so many, and what is left to draw completes them
   pub record HasDrawn (initial now : Lcg) (count place : ℕ) (items : List X) : Type 0 where
     pub parts : items ++ map f (words (count - place) now) ≡ map f (words count initial)
-    pub behind : behind (count - place) now ≡ behind count initial
+    pub following : following (count - place) now ≡ following count initial
     pub counted : length items ≡ place
 
   pub has_drawn_none : (initial : Lcg) (count : ℕ) (items : List X) → items ≡ []
@@ -27,7 +27,7 @@ module _ {X : Type 0} (f : ℕ → X) where
       let all : count - 0 ≡ count = omega arith in
       record {
         parts = ap (λ os. os ++ map f (words (count - 0) initial)) none ∙ ap (λ n. map f (words n initial)) all;
-        behind = ap (λ n. behind n initial) all;
+        following = ap (λ n. following n initial) all;
         counted = ap length none;
       }
 
@@ -43,7 +43,7 @@ module _ {X : Type 0} (f : ℕ → X) where
             ∙ ap (λ (p : ℕ × Lcg). items ++ (f p.0 ∷ map f (words left p.1))) drawn
             ∙ ap (λ n. items ++ map f (words n was)) (sym fewer)
             ∙ h.parts;
-        behind = ap (λ (p : ℕ × Lcg). behind left p.1) drawn ∙ ap (λ n. behind n was) (sym fewer) ∙ h.behind;
+        following = ap (λ (p : ℕ × Lcg). following left p.1) drawn ∙ ap (λ n. following n was) (sym fewer) ∙ h.following;
         counted =
             (let l : length more ≡ length (items ++ f word ∷ []) = ap length what in
             let m = length-append items (f word ∷ []) in
@@ -54,12 +54,12 @@ module _ {X : Type 0} (f : ℕ → X) where
   -- all are drawn
   pub has_drawn_all : (initial now : Lcg) (count place : ℕ) (items : List X) → HasDrawn initial now count place items
       → place ≡ count
-      → (items ≡ map f (words count initial)) × (length items ≡ count) × (now ≡ behind count initial)
+      → (items ≡ map f (words count initial)) × (length items ≡ count) × (now ≡ following count initial)
   has_drawn_all initial now count place items h end =
       let none : count - place ≡ 0 = omega arith in (
         sym (append-nil items) ∙ ap (λ n. items ++ map f (words n now)) (sym none) ∙ h.parts,
         h.counted ∙ end,
-        ap (λ n. behind n now) (sym none) ∙ h.behind,
+        ap (λ n. following n now) (sym none) ∙ h.following,
       )
 
 -- ---- a transmission
@@ -72,16 +72,16 @@ made silence opening closing octets = record {
   frames = octets ∷ [];
 }
 
-module _ (g0 g1 g2 g3 g4 : Lcg) (length : ℕ) (first : g1 ≡ behind 1 g0) (second : g2 ≡ behind 1 g1)
-    (third : g3 ≡ behind 1 g2) (fourth : g4 ≡ behind 1 g3)
+module _ (g0 g1 g2 g3 g4 : Lcg) (length : ℕ) (first : g1 ≡ following 1 g0) (second : g2 ≡ following 1 g1)
+    (third : g3 ≡ following 1 g2) (fourth : g4 ≡ following 1 g3)
     (count : length ≡ word_at 0 g3 % 986) where
-  at2 : g2 ≡ behind 2 g0
+  at2 : g2 ≡ following 2 g0
   at2 = second ∙ ap (λ g. (pcg32 g).1) first
 
-  at3 : g3 ≡ behind 3 g0
+  at3 : g3 ≡ following 3 g0
   at3 = third ∙ ap (λ g. (pcg32 g).1) at2
 
-  at4 : g4 ≡ behind 4 g0
+  at4 : g4 ≡ following 4 g0
   at4 = fourth ∙ ap (λ g. (pcg32 g).1) at3
 
   long : 15 + length ≡ length_drawn g0
@@ -102,9 +102,9 @@ module _ (g0 g1 g2 g3 g4 : Lcg) (length : ℕ) (first : g1 ≡ behind 1 g0) (sec
       (os ∙ ap (λ n. map octet_of (words n g4)) long ∙ ap (λ g. map octet_of (words (length_drawn g0) g)) at4)
 
   -- and the generator is after it
-  pub behind_is : (now : Lcg) → now ≡ behind (15 + length) g4 → now ≡ behind_transmission g0
-  unfolding behind_transmission
-  behind_is now is = is ∙ ap (λ n. behind n g4) long ∙ ap (λ g. behind (length_drawn g0) g) at4
+  pub following_is : (now : Lcg) → now ≡ following (15 + length) g4 → now ≡ after_transmission g0
+  unfolding after_transmission
+  following_is now is = is ∙ ap (λ n. following n g4) long ∙ ap (λ g. following (length_drawn g0) g) at4
 
 -- ---- all that is drawn can be sent
 
@@ -122,7 +122,7 @@ octets_fit (word ∷ words) zero d l = mod-lt word (omega arith)
 octets_fit (word ∷ words) (suc k) d l = octets_fit words k d (omega arith)
 
 pub length-octets_drawn : (g : Lcg) → length (octets_drawn g) ≡ length_drawn g
-length-octets_drawn g = length-octets (words (length_drawn g) (behind 4 g)) ∙ length-words (length_drawn g) (behind 4 g)
+length-octets_drawn g = length-octets (words (length_drawn g) (following 4 g)) ∙ length-words (length_drawn g) (following 4 g)
 
 pub length_drawn-most : (g : Lcg) → length_drawn g ≤ 1000
 length_drawn-most g = let below : word_at 3 g % 986 < 986 = mod-lt (word_at 3 g) (omega arith) in omega arith
@@ -131,7 +131,7 @@ frame_drawn : (g : Lcg) → IsFrame (octets_drawn g)
 frame_drawn g =
     let size : length (octets_drawn g) ≡ length_drawn g = length-octets_drawn g in
     let most : length_drawn g ≤ 1000 = length_drawn-most g in
-    record { octets_fit = octets_fit (words (length_drawn g) (behind 4 g)); least = omega arith; most = omega arith }
+    record { octets_fit = octets_fit (words (length_drawn g) (following 4 g)); least = omega arith; most = omega arith }
 
 one_frame : (octets : List ℕ) → IsFrame octets → All IsFrame (octets ∷ [])
 one_frame octets is zero d l = is
@@ -166,9 +166,9 @@ is_received false g h = record {
 
 all_received : (rough : Bool) (count : ℕ) (g : Lcg) → All IsReceived (map (λ h. h.received) (all_heard rough count g))
 all_received rough zero g k d l = absurd (omega arith)
-all_received rough (suc count) g zero d l = is_received rough g (behind_transmission g)
+all_received rough (suc count) g zero d l = is_received rough g (after_transmission g)
 all_received rough (suc count) g (suc k) d l =
-    all_received rough count (behind_heard rough (transmission_drawn g) (behind_transmission g)) k d (omega arith)
+    all_received rough count (after_heard rough (transmission_drawn g) (after_transmission g)) k d (omega arith)
 
 pub received_good : (words : LoopWords) → All IsReceived (received_drawn words)
 unfolding received_drawn heard_drawn

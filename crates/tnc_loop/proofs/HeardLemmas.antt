@@ -2,9 +2,9 @@
 use Rattle.tnc_loop.proofs.Common.{◌≡◌, ℕ, zero, suc, ℤ, pos, Bool, true, false, List, ◌++◌, length, map, refl, ap, sym}
 use Rattle.tnc_loop.proofs.Common.{◌∙◌, arith, append_assoc, length-append, flat_map, flat_map-cons, Lcg, IsNear}
 use Rattle.tnc_loop.proofs.Common.{transmission_at, Transmission, samples_of, sample_count, frames_of, Received}
-use Rattle.tnc_loop.proofs.Common.{NoStray, LoopWords, loop_generator, behind, words, level_drawn, noise_of}
-use Rattle.tnc_loop.proofs.Common.{rough_samples, rough_received, exact_samples, with_errors, behind_rough, Heard}
-use Rattle.tnc_loop.proofs.Common.{heard_of, behind_heard, all_heard, transmission_drawn, behind_transmission}
+use Rattle.tnc_loop.proofs.Common.{NoStray, LoopWords, loop_generator, following, words, level_drawn, noise_of}
+use Rattle.tnc_loop.proofs.Common.{rough_samples, rough_received, exact_samples, with_errors, after_rough, Heard}
+use Rattle.tnc_loop.proofs.Common.{heard_of, after_heard, all_heard, transmission_drawn, after_transmission}
 use Rattle.tnc_loop.proofs.Common.{heard_drawn, received_drawn, drawn, samples_drawn}
 use Rattle.std.proofs.Common.{replicate}
 use Rattle.std.proofs.lemmas.List.{length-map, length-replicate}
@@ -36,11 +36,11 @@ length-noise count g = length-map (words count g) noise_of ∙ length-words coun
 is_heard : (rough : Bool) (t : Transmission) (g : Lcg) → IsHeard (heard_of rough t g)
 unfolding heard_of rough_samples transmission_at
 is_heard true t g = record {
-  gap = map noise_of (words t.silence (behind 2 g));
-  part = with_errors (level_drawn g) (exact_samples (rough_received t g)) (behind t.silence (behind 2 g));
+  gap = map noise_of (words t.silence (following 2 g));
+  part = with_errors (level_drawn g) (exact_samples (rough_received t g)) (following t.silence (following 2 g));
   whole = refl;
-  silence = length-noise t.silence (behind 2 g);
-  near = with_errors-near (level_drawn g) _ (behind t.silence (behind 2 g)) (omega arith);
+  silence = length-noise t.silence (following 2 g);
+  near = with_errors-near (level_drawn g) _ (following t.silence (following 2 g)) (omega arith);
 }
 is_heard false t g = record {
   gap = replicate t.silence (pos 0);
@@ -77,9 +77,9 @@ all_near : (rough : Bool) (count : ℕ) (g : Lcg)
 all_near rough zero g = tt
 all_near rough (suc count) g =
     let t : Transmission = transmission_drawn g in
-    let first : Heard = heard_of rough t (behind_transmission g) in
-    let is = is_heard rough t (behind_transmission g) in
-    let others : List Heard = all_heard rough count (behind_heard rough t (behind_transmission g)) in
+    let first : Heard = heard_of rough t (after_transmission g) in
+    let is = is_heard rough t (after_transmission g) in
+    let others : List Heard = all_heard rough count (after_heard rough t (after_transmission g)) in
     let rest : List ℤ = flat_map (λ h. h.samples) others in (
       is.gap,
       is.part,
@@ -87,7 +87,7 @@ all_near rough (suc count) g =
       flat_map-cons (λ h. h.samples) first others ∙ ap (λ xs. xs ++ rest) is.whole ∙ append_assoc is.gap is.part rest,
       is.silence,
       is.near,
-      all_near rough count (behind_heard rough t (behind_transmission g)),
+      all_near rough count (after_heard rough t (after_transmission g)),
     )
 
 -- what is heard is near what was drawn
@@ -113,11 +113,11 @@ pub samples-clean : (rough : Bool) (t : Transmission) (g : Lcg) → rough ≡ fa
 unfolding heard_of
 samples-clean rough t g is = ap (λ b. (heard_of b t g).samples) (sym is)
 
-pub behind-rough : (rough : Bool) (t : Transmission) (g : Lcg) → rough ≡ true
-    → behind_rough t g ≡ behind_heard rough t g
-unfolding behind_heard
-behind-rough rough t g is = ap (λ b. behind_heard b t g) (sym is)
+pub following-rough : (rough : Bool) (t : Transmission) (g : Lcg) → rough ≡ true
+    → after_rough t g ≡ after_heard rough t g
+unfolding after_heard
+following-rough rough t g is = ap (λ b. after_heard b t g) (sym is)
 
-pub behind-clean : (rough : Bool) (t : Transmission) (g : Lcg) → rough ≡ false → g ≡ behind_heard rough t g
-unfolding behind_heard
-behind-clean rough t g is = ap (λ b. behind_heard b t g) (sym is)
+pub following-clean : (rough : Bool) (t : Transmission) (g : Lcg) → rough ≡ false → g ≡ after_heard rough t g
+unfolding after_heard
+following-clean rough t g is = ap (λ b. after_heard b t g) (sym is)

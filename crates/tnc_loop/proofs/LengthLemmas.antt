@@ -3,7 +3,7 @@ use Rattle.tnc_loop.proofs.Common.{◌≡◌, ℕ, zero, suc, ◌+◌, ◌*◌, 
 use Rattle.tnc_loop.proofs.Common.{◌++◌, length, ap, ◌∙◌, arith, length-append, mod-lt, flat_map-cons, Lcg}
 use Rattle.tnc_loop.proofs.Common.{Transmission, samples_of, signal, sample_count, length-samples_of, LoopWords}
 use Rattle.tnc_loop.proofs.Common.{loop_generator, word_at, length_drawn, octets_drawn, transmission_drawn}
-use Rattle.tnc_loop.proofs.Common.{behind_transmission, heard_of, behind_heard, all_heard, heard_drawn, sent_of}
+use Rattle.tnc_loop.proofs.Common.{after_transmission, heard_of, after_heard, all_heard, heard_drawn, sent_of}
 use Rattle.hdlc_framer.specs.BitOrder.{sent_bits}
 use Rattle.hdlc_framer.specs.Body.{flags, body}
 use Rattle.hdlc_framer.specs.Counted.{stuffed_from}
@@ -61,13 +61,13 @@ unfolding signal
 transmissions-most rough zero g = omega arith
 transmissions-most rough (suc count) g =
     let t : Transmission = transmission_drawn g in
-    let next : Lcg = behind_heard rough t (behind_transmission g) in
+    let next : Lcg = after_heard rough t (after_transmission g) in
     let others : List Transmission = sent_of (all_heard rough count next) in
-    let first : Transmission = (heard_of rough t (behind_transmission g)).received.transmission in
+    let first : Transmission = (heard_of rough t (after_transmission g)).received.transmission in
     let all : length (signal (first ∷ others)) ≡ sample_count t + length (signal others)
     = ap length (flat_map-cons samples_of first others)
     ∙ length-append (samples_of first) (signal others)
-    ∙ ap (λ u. length (samples_of u) + length (signal others)) (transmission-heard rough t (behind_transmission g))
+    ∙ ap (λ u. length (samples_of u) + length (signal others)) (transmission-heard rough t (after_transmission g))
     ∙ ap (λ n. n + length (signal others)) (length-samples_of t) in
     omega (arith, all, transmission-most g, transmissions-most rough count next)
 

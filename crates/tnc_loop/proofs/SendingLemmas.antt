@@ -3,7 +3,7 @@ use Rattle.tnc_loop.proofs.Common.{◌≡◌, ℕ, ℤ, suc, ◌+◌, ◌-◌, �
 use Rattle.tnc_loop.proofs.Common.{refl, ap, sym, subst, ◌∙◌, arith, append_assoc, append-nil, length-append, flat_map}
 use Rattle.tnc_loop.proofs.Common.{Lcg, Transmission, samples_of, signal, TrueEnd, sample_count, Received, true_ends}
 use Rattle.tnc_loop.proofs.Common.{length-samples_of, LoopWords, Sent, loop_generator, Heard, transmission_drawn}
-use Rattle.tnc_loop.proofs.Common.{behind_transmission, heard_of, behind_heard, all_heard, heard_drawn, drawn_as}
+use Rattle.tnc_loop.proofs.Common.{after_transmission, heard_of, after_heard, all_heard, heard_drawn, drawn_as}
 use Rattle.tnc_loop.proofs.Common.{sent_of, HasSent}
 use Rattle.std.proofs.Common.{inl, inr}
 use Rattle.std.proofs.lemmas.List.Concat.{flat_map-append}
@@ -106,12 +106,12 @@ sent_none words generator sent is samples ends = record {
 pub sent_next : (words : LoopWords) (place : ℕ) (was drew now : Lcg) (before after : Sent) (d : Drawn)
     (samples : List ℤ)
     → HasSentSome words place was before → place < words.frames
-    → drawn_as d ≡ transmission_drawn was → drew ≡ behind_transmission was
-    → samples ≡ (heard_of words.rough (drawn_as d) drew).samples → now ≡ behind_heard words.rough (drawn_as d) drew
+    → drawn_as d ≡ transmission_drawn was → drew ≡ after_transmission was
+    → samples ≡ (heard_of words.rough (drawn_as d) drew).samples → now ≡ after_heard words.rough (drawn_as d) drew
     → ((heard : List Heard) (received : Received) → received.transmission ≡ drawn_as d → HasSent before heard
     → HasSent after (heard ++ record { received = received; samples = samples } ∷ []))
     → HasSentSome words (place + 1) now after
-sent_next words place was drew now before after d samples h below is behind are next more =
+sent_next words place was drew now before after d samples h below is following are next more =
     let left : ℕ = words.frames - (place + 1) in
     let fewer : words.frames - place ≡ suc left = omega arith in
     let one : Heard = heard_of words.rough (drawn_as d) drew in
@@ -122,8 +122,8 @@ sent_next words place was drew now before after d samples h below is behind are 
       has = subst (λ x. HasSent after (h.done ++ x ∷ [])) same
           (more h.done one.received (transmission-heard words.rough (drawn_as d) drew) h.has);
       parts = append_assoc h.done (one ∷ []) (all_heard words.rough left now)
-          ∙ (λ i. h.done ++ (heard_of words.rough (is i) (behind i) ∷ all_heard words.rough left
-          ((next ∙ (λ j. behind_heard words.rough (is j) (behind j))) i)))
+          ∙ (λ i. h.done ++ (heard_of words.rough (is i) (following i) ∷ all_heard words.rough left
+          ((next ∙ (λ j. after_heard words.rough (is j) (following j))) i)))
           ∙ ap (λ n. h.done ++ all_heard words.rough n was) (sym fewer)
           ∙ h.parts;
     }

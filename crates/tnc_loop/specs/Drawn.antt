@@ -7,9 +7,9 @@ use Rattle.hdlc_framer.specs.FrameLength.{least_frame_length}
 use Rattle.afsk_modulator.specs.Signal.{Transmission, samples_of}
 use Rattle.clean_signal.specs.NearSignal.{Received, transmissions_of}
 use Rattle.tnc_words.specs.declared.command.LoopWords.{LoopWords}
-use Rattle.tnc_loop.specs.Words.{loop_generator, behind, word_at}
+use Rattle.tnc_loop.specs.Words.{loop_generator, following, word_at}
 use Rattle.channel_access.specs.Words.{words}
-use Rattle.tnc_loop.specs.Rough.{rough_received, rough_samples, behind_rough}
+use Rattle.tnc_loop.specs.Rough.{rough_received, rough_samples, after_rough}
 
 -- how many octets the next frame has
 abbrev pub length_drawn : Lcg → ℕ
@@ -17,7 +17,7 @@ length_drawn generator = least_frame_length + word_at 3 generator % 986
 
 -- its octets, each the low eight bits of a word
 abbrev pub octets_drawn : Lcg → List ℕ
-octets_drawn generator = map (λ word. word % 256) (words (length_drawn generator) (behind 4 generator))
+octets_drawn generator = map (λ word. word % 256) (words (length_drawn generator) (following 4 generator))
 
 -- the next transmission: its silence, its flags and the length of its frame take a word each, in this order
 unfoldable pub transmission_drawn : Lcg → Transmission
@@ -29,8 +29,8 @@ transmission_drawn generator = record {
 }
 
 -- the generator after it
-unfoldable pub behind_transmission : Lcg → Lcg
-behind_transmission generator = behind (length_drawn generator) (behind 4 generator)
+unfoldable pub after_transmission : Lcg → Lcg
+after_transmission generator = following (length_drawn generator) (following 4 generator)
 
 -- a transmission as it is received, with the samples that are heard of it
 pub record Heard : Type 0 where
@@ -47,15 +47,15 @@ heard_of rough t generator =
     }
 
 -- the generator after them
-unfoldable pub behind_heard : Bool → Transmission → Lcg → Lcg
-behind_heard rough t generator = if rough then behind_rough t generator else generator
+unfoldable pub after_heard : Bool → Transmission → Lcg → Lcg
+after_heard rough t generator = if rough then after_rough t generator else generator
 
 -- so many transmissions, one after another
 abbrev pub all_heard : Bool → ℕ → Lcg → List Heard
 all_heard rough zero generator = []
 all_heard rough (suc count) generator =
-    heard_of rough (transmission_drawn generator) (behind_transmission generator)
-    ∷ all_heard rough count (behind_heard rough (transmission_drawn generator) (behind_transmission generator))
+    heard_of rough (transmission_drawn generator) (after_transmission generator)
+    ∷ all_heard rough count (after_heard rough (transmission_drawn generator) (after_transmission generator))
 
 -- as many as the words ask for, from their seed
 unfoldable pub heard_drawn : LoopWords → List Heard

@@ -6,7 +6,7 @@ use Rattle.rand_pcg.specs.Lcg.{Lcg}
 use Rattle.afsk_modulator.specs.Signal.{Transmission}
 use Rattle.afsk_modulator.specs.Transmission.{transmission_at}
 use Rattle.clean_signal.specs.NearSignal.{Received}
-use Rattle.tnc_loop.specs.Words.{behind, word_at}
+use Rattle.tnc_loop.specs.Words.{following, word_at}
 use Rattle.channel_access.specs.Words.{words}
 
 -- one of the six phases at which a bit can begin
@@ -33,7 +33,7 @@ error_of level word = pos (word % (2 * most_error level + 1)) -ℤ pos (most_err
 abbrev pub with_errors : ℕ → List ℤ → Lcg → List ℤ
 with_errors level [] generator = []
 with_errors level (sample ∷ samples) generator =
-    (sample +ℤ error_of level (word_at 0 generator)) ∷ with_errors level samples (behind 1 generator)
+    (sample +ℤ error_of level (word_at 0 generator)) ∷ with_errors level samples (following 1 generator)
 
 -- a transmission, as it is received
 abbrev pub rough_received : Transmission → Lcg → Received
@@ -48,11 +48,11 @@ exact_samples r =
 -- its samples: the noise before it, and the others with their errors
 unfoldable pub rough_samples : Transmission → Lcg → List ℤ
 rough_samples t generator =
-    map noise_of (words t.silence (behind 2 generator))
+    map noise_of (words t.silence (following 2 generator))
     ++ with_errors (level_drawn generator) (exact_samples (rough_received t generator))
-    (behind t.silence (behind 2 generator))
+    (following t.silence (following 2 generator))
 
 -- the generator after them
-unfoldable pub behind_rough : Transmission → Lcg → Lcg
-behind_rough t generator =
-    behind (length (exact_samples (rough_received t generator))) (behind t.silence (behind 2 generator))
+unfoldable pub after_rough : Transmission → Lcg → Lcg
+after_rough t generator =
+    following (length (exact_samples (rough_received t generator))) (following t.silence (following 2 generator))

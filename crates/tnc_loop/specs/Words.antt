@@ -8,10 +8,10 @@ abbrev pub loop_generator : ℕ → Lcg
 loop_generator seed = generator_of seed 1
 
 -- the generator after so many of its words
-abbrev pub behind : ℕ → Lcg → Lcg
-behind zero generator = generator
-behind (suc count) generator = behind count (after_word generator)
+abbrev pub following : ℕ → Lcg → Lcg
+following zero generator = generator
+following (suc count) generator = following count (after_word generator)
 
 -- the word that stands after so many others, of 32 bits
 abbrev pub word_at : ℕ → Lcg → ℕ
-word_at place generator = next_word (behind place generator)
+word_at place generator = next_word (following place generator)

@@ -1,8 +1,8 @@
 //! Transmissions drawn from random words.
 ghost use Rattle.std.specs.Prelude.{◌≡◌, ◌<◌, ◌≤◌, ◌%◌, length, map, IfOk, OnOk};
-ghost use Rattle.tnc_loop.specs.Words.{loop_generator, behind, word_at};
+ghost use Rattle.tnc_loop.specs.Words.{loop_generator, following, word_at};
 ghost use Rattle.channel_access.specs.Words.{words};
-ghost use Rattle.tnc_loop.specs.Drawn.{transmission_drawn, behind_transmission};
+ghost use Rattle.tnc_loop.specs.Drawn.{transmission_drawn, after_transmission};
 ghost use Rattle.tnc_loop.specs.Held.{drawn_as, IsGood};
 
 use rand_core::utils::NextWord;
@@ -37,7 +37,7 @@ pub(crate) fn generator(seed: u64) -> Lcg64Xsh32
 pub(crate) fn draw(alloc: Global, generator: &mut Lcg64Xsh32) -> Result<Drawn, OutOfMemory>
     ensures drawn { IfOk result (λ drawn. drawn_as drawn ≡ transmission_drawn generator.old) }
     ensures good { IfOk result IsGood }
-    ensures behind { OnOk result (generator.new ≡ behind_transmission generator.old) }
+    ensures following { OnOk result (generator.new ≡ after_transmission generator.old) }
 {
     let silence = below(generator, 64);
     let opening = 2 + below(generator, 4);
@@ -56,7 +56,7 @@ pub(crate) fn below(generator: &mut Lcg64Xsh32, bound: u16) -> u16
     requires { 0 < bound }
     ensures value { result ≡ word_at 0 generator.old % bound }
     ensures bound { result < bound }
-    ensures behind { generator.new ≡ behind 1 generator.old }
+    ensures following { generator.new ≡ following 1 generator.old }
 {
     (generator.next_word() % u32::from(bound)) as u16
 }
@@ -65,7 +65,7 @@ pub(crate) fn below(generator: &mut Lcg64Xsh32, bound: u16) -> u16
 fn draw_octets(alloc: Global, generator: &mut Lcg64Xsh32, count: u16) -> Result<Octets, OutOfMemory>
     ensures octets { IfOk result (λ octets. octets ≡ map (λ word. word % 256) (words count generator.old)) }
     ensures count { IfOk result (λ octets. length octets ≡ count) }
-    ensures behind { OnOk result (generator.new ≡ behind count generator.old) }
+    ensures following { OnOk result (generator.new ≡ following count generator.old) }
 {
     let mut octets = Vec::new(alloc);
     for _ in 0..count {

@@ -2,9 +2,9 @@
 ghost use Rattle.std.specs.Prelude.{◌≡◌, ◌≤◌, ◌+◌, ◌%◌, length, map, unsigned_abs, All, IfOk, OnOk};
 ghost use Rattle.afsk_modulator.specs.Modulation.{IsBitPhase, IsLevel};
 ghost use Rattle.afsk_modulator.specs.Transmission.{transmission_at};
-ghost use Rattle.tnc_loop.specs.Words.{behind, word_at};
+ghost use Rattle.tnc_loop.specs.Words.{following, word_at};
 ghost use Rattle.channel_access.specs.Words.{words};
-ghost use Rattle.tnc_loop.specs.Rough.{behind_rough, error_of, level_drawn, most_error, noise_of, phase_drawn};
+ghost use Rattle.tnc_loop.specs.Rough.{after_rough, error_of, level_drawn, most_error, noise_of, phase_drawn};
 ghost use Rattle.tnc_loop.specs.Rough.{rough_samples, with_errors};
 ghost use Rattle.tnc_loop.specs.Held.{drawn_as, IsGood};
 
@@ -25,7 +25,7 @@ pub(crate) fn rough_samples(
 ) -> Result<Vec<i16>, OutOfMemory>
     requires { IsGood drawn.now }
     ensures samples { IfOk result (λ samples. samples.items ≡ rough_samples (drawn_as drawn.now) generator.old) }
-    ensures behind { OnOk result (generator.new ≡ behind_rough (drawn_as drawn.now) generator.old) }
+    ensures following { OnOk result (generator.new ≡ after_rough (drawn_as drawn.now) generator.old) }
 {
     let phase = draw_phase(generator);
     let level = draw_level(generator);
@@ -39,7 +39,7 @@ pub(crate) fn rough_samples(
 fn draw_phase(generator: &mut Lcg64Xsh32) -> u8
     ensures value { result ≡ phase_drawn generator.old }
     ensures phase { IsBitPhase result }
-    ensures behind { generator.new ≡ behind 1 generator.old }
+    ensures following { generator.new ≡ following 1 generator.old }
 {
     8 * below(generator, 6) as u8
 }
@@ -49,7 +49,7 @@ fn draw_level(generator: &mut Lcg64Xsh32) -> u16
     ensures value { result ≡ 10 + word_at 0 generator.old % 29000 }
     ensures bound { result ≤ 29009 }
     ensures level { IsLevel result }
-    ensures behind { generator.new ≡ behind 1 generator.old }
+    ensures following { generator.new ≡ following 1 generator.old }
 {
     10 + below(generator, 29000)
 }
@@ -61,7 +61,7 @@ fn draw_noise(
     count: u16,
 ) -> Result<Vec<i16>, OutOfMemory>
     ensures samples { IfOk result (λ samples. samples.items ≡ map noise_of (words count generator.old)) }
-    ensures behind { OnOk result (generator.new ≡ behind count generator.old) }
+    ensures following { OnOk result (generator.new ≡ following count generator.old) }
 {
     let mut samples = Vec::new(alloc);
     for _ in 0..count {
@@ -73,7 +73,7 @@ fn draw_noise(
 /// A sample of noise: the low sixteen bits of a word, with a sign.
 fn draw_noise_sample(generator: &mut Lcg64Xsh32) -> i16
     ensures value { result ≡ noise_of (word_at 0 generator.old) }
-    ensures behind { generator.new ≡ behind 1 generator.old }
+    ensures following { generator.new ≡ following 1 generator.old }
 {
     ((generator.next_word() % 65536) as u16).cast_signed()
 }
@@ -112,7 +112,7 @@ fn with_errors(
     requires bound { level ≤ 29009 }
     requires samples { All (λ sample. unsigned_abs sample ≤ level) exact.now }
     ensures samples { IfOk result (λ samples. samples.items ≡ with_errors level exact.now generator.old) }
-    ensures behind { OnOk result (generator.new ≡ behind (length exact.now) generator.old) }
+    ensures following { OnOk result (generator.new ≡ following (length exact.now) generator.old) }
 {
     let mut samples = Vec::new(alloc);
     for sample in exact {
@@ -127,7 +127,7 @@ fn draw_error(generator: &mut Lcg64Xsh32, level: u16) -> i16
     requires bound { level ≤ 29009 }
     ensures value { result ≡ error_of level (word_at 0 generator.old) }
     ensures bound { unsigned_abs result ≤ most_error level }
-    ensures behind { generator.new ≡ behind 1 generator.old }
+    ensures following { generator.new ≡ following 1 generator.old }
 {
     let most = level / 10 - 1;
     below(generator, 2 * most + 1) as i16 - most as i16

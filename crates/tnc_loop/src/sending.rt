@@ -3,7 +3,7 @@ ghost use Rattle.std.specs.Prelude.{◌≡◌, ◌<◌, ◌^◌, ◌∷◌, [], 
 ghost use Rattle.afsk_modulator.specs.Signal.{samples_of};
 ghost use Rattle.clean_signal.specs.GoodTransmission.{sample_count};
 ghost use Rattle.clean_signal.specs.NearSignal.{Received};
-ghost use Rattle.tnc_loop.specs.Drawn.{Heard, behind_heard, heard_drawn, heard_of};
+ghost use Rattle.tnc_loop.specs.Drawn.{Heard, after_heard, heard_drawn, heard_of};
 ghost use Rattle.tnc_loop.specs.Held.{drawn_as, HasSent, IsGood};
 
 use crate::drawing::{Drawn, draw, generator};
@@ -74,7 +74,7 @@ fn samples_heard(
     requires { IsGood drawn.now }
     ensures samples { IfOk result (λ samples. samples.items
         ≡ (heard_of rough (drawn_as drawn.now) generator.old).samples) }
-    ensures behind { OnOk result (generator.new ≡ behind_heard rough (drawn_as drawn.now) generator.old) }
+    ensures following { OnOk result (generator.new ≡ after_heard rough (drawn_as drawn.now) generator.old) }
 {
     if rough {
         rough_samples(alloc, drawn, generator)
@@ -92,7 +92,7 @@ fn samples_of(alloc: Global, drawn: &Drawn) -> Result<Vec<i16>, OutOfMemory>
     samples.resize(drawn.silence as usize, 0)?;
     let frames = slice::from_ref(&drawn.octets);
     match transmission(alloc, frames, drawn.opening, drawn.closing) {
-        Ok(behind) => samples.extend_from_slice(&behind)?,
+        Ok(following) => samples.extend_from_slice(&following)?,
         Err(ModFault::Memory) => return Err(OutOfMemory),
         Err(ModFault::FewFlags) => unreachable!(),
         Err(ModFault::BadLength { .. }) => unreachable!(),

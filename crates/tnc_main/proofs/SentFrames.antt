@@ -75,9 +75,9 @@ unescaped_fits (octet ∷ []) each = by_escape (octet == fesc)
     by_escape true = no_octets
     by_escape false = each
 unescaped_fits (octet ∷ next ∷ piece) each =
-    let behind : AreOctets (next ∷ piece) = later octet (next ∷ piece) each in
-    by_escape (octet == fesc) (first octet (next ∷ piece) each) (unescaped_fits piece (later next piece behind))
-    (unescaped_fits (next ∷ piece) behind)
+    let following : AreOctets (next ∷ piece) = later octet (next ∷ piece) each in
+    by_escape (octet == fesc) (first octet (next ∷ piece) each) (unescaped_fits piece (later next piece following))
+    (unescaped_fits (next ∷ piece) following)
   where
     by_escape : (b : Bool) → octet < 256 → AreOctets (unescaped piece) → AreOctets (unescaped (next ∷ piece))
         → AreOctets (if b then meant next ++ unescaped piece else octet ∷ unescaped (next ∷ piece))

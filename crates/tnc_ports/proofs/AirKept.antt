@@ -46,7 +46,7 @@ use Rattle.station.specs.Links.{Link, key_between, link_at, most_links, with_lin
 use Rattle.station.specs.NewLinks.{making, no_layer_3}
 use Rattle.station.specs.Passing.{loser, passing, shutting_loser}
 use Rattle.station.specs.Registrations.{is_number, may_register, registrar}
-use Rattle.station.specs.Routes.{Route, behind_repeaters, path_along, repeaters_in, route_in}
+use Rattle.station.specs.Routes.{Route, after_repeaters, path_along, repeaters_in, route_in}
 use Rattle.station.specs.State.{StationState}
 use Rattle.station.specs.Turn.{Turn, Act, changing, closing, in_order, nothing, queueing, queueing_for, queueing_own}
 use Rattle.station.specs.declared.asker.Asker.{Asker}
@@ -182,7 +182,7 @@ else_keeps id message turn =
     (chosen (n == unproto_kind) _ _ turn
     (unnumbered_keeps id message.pid message.body (route_in message.from message.to (Some [])) turn)
     (chosen (n == unproto_via_kind) _ _ turn
-    (unnumbered_keeps id message.pid (behind_repeaters message.body)
+    (unnumbered_keeps id message.pid (after_repeaters message.body)
     (route_in message.from message.to (repeaters_in message.body)) turn)
     (chosen (n == data_kind) _ _ turn (data_keeps message key turn)
     (chosen (n == disconnect_kind) _ _ turn (disconnecting_keeps key turn)

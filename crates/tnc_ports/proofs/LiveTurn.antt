@@ -80,13 +80,13 @@ heard_writes ended least items before a b len receiver live o r0 r1 r2 h g =
 
 -- ---- up to the ticks
 
-ticks_behind : (busy : Bool) (count least : ℕ) (before b : Turning) (len : ℕ) (receiver : LiveReceiver)
+ticks_after : (busy : Bool) (count least : ℕ) (before b : Turning) (len : ℕ) (receiver : LiveReceiver)
     (heard next : Live)
     → (answers_in len receiver ≡ heard.lanes) → (IsTrue busy ↔ IsBusyBy (listening_of receiver) (detection_of receiver) (answers_in len receiver))
     → listening_of receiver ≡ before.words.listening → detection_of receiver ≡ before.words.dcd
     → b.words ≡ before.words → AreTicked b.words busy count heard next → least ≡ least_position heard.lanes
     → heard.ticks + count ≤ least / 96 → MakesTicks before.words count heard next
-ticks_behind busy count least before b len receiver heard next lanes carrier listening detection words ticked is few =
+ticks_after busy count least before b len receiver heard next lanes carrier listening detection words ticked is few =
     let to = ticked_to b.words busy count heard next ticked in
     let same : least ≡ least_position next.lanes = is ∙ ap least_position (sym to.lanes) in
     record {
@@ -116,7 +116,7 @@ makes_all ended busy least before b len receiver live heard keyed next hears key
       keyed = keyed;
       keys = keys;
       count = least / 96 - keyed.ticks;
-      makes = ticks_behind busy (least / 96 - keyed.ticks)
+      makes = ticks_after busy (least / 96 - keyed.ticks)
           least before b len receiver keyed next lanes carrier listening detection words ticked is
           (omega (arith, passed));
       next = subst (λ n. n < 96 * (next.ticks + 1)) same (let t = to.ticks in omega (arith, t, passed));
@@ -422,7 +422,7 @@ cut_ticking from ended busy least items before a b k c len old receiver live o o
       keyed = up.next;
       keys = up.keys;
       count = t.0;
-      makes = ticks_behind busy t.0 least before k len receiver up.next t.2.next up.lanes (carrier len reads.listens)
+      makes = ticks_after busy t.0 least before k len receiver up.next t.2.next up.lanes (carrier len reads.listens)
           reads.listening detection (wk ∙ wb ∙ wa) t.2.ticked up.is_least t.1;
     } in
     record {

@@ -15,7 +15,7 @@ use Rattle.tnc_ports.proofs.PumpLemmas.{taken_none}
 
 -- ---- where a read stands
 
--- no read is behind the samples of the one before it
+-- no read is after the samples of the one before it
 read_before : (xs : List ℤ) (steps before after : List Step) (octets : List ℕ)
     → steps ++ map Publishes xs ≡ before ++ Reads octets ∷ after
     → (between : List Step) × (steps ≡ before ++ Reads octets ∷ between)

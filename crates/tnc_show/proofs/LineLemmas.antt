@@ -24,21 +24,21 @@ one_frame modulus octets frame h = IsOneFrame-kind modulus octets frame.path h.l
     (IsOneKind-outcome modulus _ h.len (Ok frame.kind) (h.kind, h.body))
 
 -- and so is a fault after the address
-one_behind : (modulus : Modulus) (octets : List ℕ) (fault : FrameFault) → FollowsPath modulus octets fault
+one_after : (modulus : Modulus) (octets : List ℕ) (fault : FrameFault) → FollowsPath modulus octets fault
     → IsOneFrame modulus octets (Err fault)
-one_behind modulus octets fault h = IsOneFrame-fault modulus octets h.path h.len fault h.begins
+one_after modulus octets fault h = IsOneFrame-fault modulus octets h.path h.len fault h.begins
     (IsOneKind-outcome modulus _ h.len (Err fault) h.shows)
 
 -- and any fault
 one_fault : (modulus : Modulus) (octets : List ℕ) (fault : FrameFault) → ShowsFrameFault modulus octets fault
     → IsOneFrame modulus octets (Err fault)
 one_fault modulus octets (Address fault) h = IsOneFrame-address modulus octets fault h
-one_fault modulus octets (NoControl at) h = one_behind modulus octets (NoControl at) h
-one_fault modulus octets (NoPid at) h = one_behind modulus octets (NoPid at) h
-one_fault modulus octets (UnknownControl octet) h = one_behind modulus octets (UnknownControl octet) h
-one_fault modulus octets (InfoTooLong len) h = one_behind modulus octets (InfoTooLong len) h
-one_fault modulus octets (StrayInfo at) h = one_behind modulus octets (StrayInfo at) h
-one_fault modulus octets Memory h = one_behind modulus octets Memory h
+one_fault modulus octets (NoControl at) h = one_after modulus octets (NoControl at) h
+one_fault modulus octets (NoPid at) h = one_after modulus octets (NoPid at) h
+one_fault modulus octets (UnknownControl octet) h = one_after modulus octets (UnknownControl octet) h
+one_fault modulus octets (InfoTooLong len) h = one_after modulus octets (InfoTooLong len) h
+one_fault modulus octets (StrayInfo at) h = one_after modulus octets (StrayInfo at) h
+one_fault modulus octets Memory h = one_after modulus octets Memory h
 
 same_frame : (a b : Frame) → ◌≡◌ {A = Reading} (Ok a) (Ok b) → a ≡ b
 same_frame a b e = cc

@@ -9,7 +9,7 @@ abbrev pub one_more : ℕ → ℕ → List ℕ → List Chunk
 one_more most place octets =
     cond (ltb (length octets) 8) [] (chunk_at place octets ∷ chunks_upto most
     (place + 8 + padded (chunk_at place octets).size)
-    (drop (padded (chunk_at place octets).size) (chunk_at place octets).behind))
+    (drop (padded (chunk_at place octets).size) (chunk_at place octets).trailing))
 
 short_more : (most place : ℕ) (octets : List ℕ) → length octets < 8 → one_more most place octets ≡ []
 short_more most place octets short = cond-true _ _ _ (lt-ltb (length octets) 8 short)
@@ -17,7 +17,7 @@ short_more most place octets short = cond-true _ _ _ (lt-ltb (length octets) 8 s
 whole_more : (most place : ℕ) (octets : List ℕ) → 8 ≤ length octets
     → one_more most place octets ≡ chunk_at place octets ∷ chunks_upto most
     (place + 8 + padded (chunk_at place octets).size)
-    (drop (padded (chunk_at place octets).size) (chunk_at place octets).behind)
+    (drop (padded (chunk_at place octets).size) (chunk_at place octets).trailing)
 whole_more most place octets whole = cond-false _ _ _ (le-ltb (length octets) 8 whole)
 
 -- after a chunk there are fewer octets
@@ -39,7 +39,7 @@ enough (suc m) (suc n) place octets first second =
           let skip : ℕ = padded chunk.size in
           whole_more m place octets whole
           ∙ ap (λ others. chunk ∷ others)
-          (enough m n (place + 8 + skip) (drop skip chunk.behind) (rest_le skip m octets whole first)
+          (enough m n (place + 8 + skip) (drop skip chunk.trailing) (rest_le skip m octets whole first)
           (rest_le skip n octets whole second))
           ∙ sym (whole_more n place octets whole)
     ]

@@ -49,7 +49,7 @@ rate_right more = cond-false _ _ _ (le-ltb (length (format_octets ++ more)) 16 (
 
 -- a data chunk that no more octets follow than its size tells
 data_heard : (rate : Option ℕ) (size : ℕ) (octets : List ℕ) → length octets ≤ size
-    → of_data rate (record { place = 36; name = 100 ∷ 97 ∷ 116 ∷ 97 ∷ []; size = size; behind = octets })
+    → of_data rate (record { place = 36; name = 100 ∷ 97 ∷ 116 ∷ 97 ∷ []; size = size; trailing = octets })
     ≡ record {
       fault = None;
       rate = rate;
@@ -91,17 +91,17 @@ pub head_reads : (rates : Rates) (size : ℕ) (octets : List ℕ) → size < 2 ^
 unfolding reading head_before
 head_reads rates size octets fits few =
     let data_part : List ℕ = 100 ∷ 97 ∷ 116 ∷ 97 ∷ (little_bytes 4 size ++ octets) in
-    let behind_riff : List ℕ = 102 ∷ 109 ∷ 116 ∷ 32 ∷ 16 ∷ 0 ∷ 0 ∷ 0 ∷ (format_octets ++ data_part) in
+    let after_riff : List ℕ = 102 ∷ 109 ∷ 116 ∷ 32 ∷ 16 ∷ 0 ∷ 0 ∷ 0 ∷ (format_octets ++ data_part) in
     let data_chunk : Chunk = chunk_at 36 data_part in
     let rest : List Chunk = chunks (36 + 8 + padded data_chunk.size) (drop (padded data_chunk.size) octets) in
-    let format_chunk : Chunk = chunk_at 12 behind_riff in
+    let format_chunk : Chunk = chunk_at 12 after_riff in
     let told : data_chunk.size ≡ size = little_number-reads_back 4 size octets fits in
-    ap (unformatted rates) (chunks_whole 12 behind_riff (omega arith))
+    ap (unformatted rates) (chunks_whole 12 after_riff (omega arith))
     ∙ ap (λ others. unformatted rates (format_chunk ∷ others)) (chunks_whole 36 data_part (omega arith))
     ∙ ap (λ rate. unless (field_fault rates fields 20 (format_octets ++ data_part)) (of_data rate data_chunk))
     (rate_right data_part)
     ∙ ap (λ fault. unless fault (of_data (Some 9600) data_chunk)) (format_right rates 20 data_part)
-    ∙ ap (λ n. of_data (Some 9600) (record { place = 36; name = 100 ∷ 97 ∷ 116 ∷ 97 ∷ []; size = n; behind = octets }))
+    ∙ ap (λ n. of_data (Some 9600) (record { place = 36; name = 100 ∷ 97 ∷ 116 ∷ 97 ∷ []; size = n; trailing = octets }))
     told
     ∙ data_heard (Some 9600) size octets few
 

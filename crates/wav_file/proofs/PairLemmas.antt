@@ -10,7 +10,7 @@ use Rattle.wav_file.specs.declared.rates.Rates.{Rates}
 use Rattle.wav_file.specs.Place.{told_place}
 use Rattle.wav_file.specs.Samples.{sample_of, samples}
 use Rattle.wav_file.specs.Reading.{Reading, reading}
-use Rattle.wav_file.specs.Held.{Held, Fits, StandsFor, after_pairs, behind, data_reading, fault_of_part, pairs_ahead}
+use Rattle.wav_file.specs.Held.{Held, Fits, StandsFor, after_pairs, trailing, data_reading, fault_of_part, pairs_ahead}
 use Rattle.wav_file.specs.Held.{rate_of_part, rest_reading, whole_of_part}
 use Rattle.wav_file.proofs.RestLemmas.{at_end, now_told}
 
@@ -25,7 +25,7 @@ samples-append (low ∷ high ∷ octets) more even =
 -- whole samples of data with an end, and those of the rest
 data_with_end : (rate left : ℕ) (octets more : List ℕ) → length octets % 2 ≡ 0 → length octets ≤ left
     → data_reading rate (Some left) [] (octets ++ more)
-    ≡ behind (samples octets) (data_reading rate (Some (left - length octets)) [] more)
+    ≡ trailing (samples octets) (data_reading rate (Some (left - length octets)) [] more)
 data_with_end rate left octets more even within =
     let rest : ℕ = left - length octets in
     let sum : left ≡ length octets + rest = omega (arith, within) in
@@ -57,18 +57,18 @@ module _ (rates : Rates) where
   -- no octet is passed
   none_passed : (n m : ℕ) (part : Part) (unit octets more : List ℕ) (count : ℕ) → count ≡ 0 → m ≡ n + count
       → rest_reading rates n part unit (take count octets ++ more)
-      ≡ behind (samples (take count octets)) (rest_reading rates m part unit more)
+      ≡ trailing (samples (take count octets)) (rest_reading rates m part unit more)
   none_passed n m part unit octets more count none sum =
       let same : n ≡ m = omega (arith, none, sum) in
       let K : ℕ → Type 0 = λ k. rest_reading rates n part unit (take k octets ++ more)
-      ≡ behind (samples (take k octets)) (rest_reading rates m part unit more) in
+      ≡ trailing (samples (take k octets)) (rest_reading rates m part unit more) in
       subst K (sym none) (ap (λ k. rest_reading rates k part unit more) same)
 
   -- The whole samples ahead keep the reading of the rest, but for themselves.
   pairs_keep : (n m : ℕ) (part : Part) (unit octets more : List ℕ) (count : ℕ)
       → count ≡ pairs_ahead part (length octets) → m ≡ n + count
       → rest_reading rates n part unit (take count octets ++ more)
-      ≡ behind (samples (take count octets)) (rest_reading rates m (after_pairs part count) unit more)
+      ≡ trailing (samples (take count octets)) (rest_reading rates m (after_pairs part count) unit more)
   pairs_keep n m Head unit octets more count is sum = none_passed n m Head unit octets more count is sum
   pairs_keep n m (AtChunk rate skip) unit octets more count is sum =
       none_passed n m (AtChunk rate skip) unit octets more count is sum
@@ -83,7 +83,7 @@ module _ (rates : Rates) where
   pairs_keep n m (Data rate (Some left) None) unit octets more count is sum =
       let size : length (take count octets) ≡ count = omega (arith, length-take count octets, is) in
       data_with_end rate left (take count octets) more (omega (arith, size, is)) (omega (arith, size, is))
-      ∙ ap (λ k. behind (samples (take count octets)) (data_reading rate (Some (left - k)) [] more)) size
+      ∙ ap (λ k. trailing (samples (take count octets)) (data_reading rate (Some (left - k)) [] more)) size
   pairs_keep n m (Failed fault) unit octets more count is sum =
       none_passed n m (Failed fault) unit octets more count is sum
 
@@ -112,20 +112,20 @@ module _ (rates : Rates) where
     size = omega (arith, length-append before (take count octets), length-take count octets, few held.part octets count is)
 
     -- the file with the samples, and more
-    behind_more : (more : List ℕ) → reading rates (before ++ (take count octets ++ more))
-        ≡ behind ((reading rates before).heard ++ samples (take count octets))
+    after_more : (more : List ℕ) → reading rates (before ++ (take count octets ++ more))
+        ≡ trailing ((reading rates before).heard ++ samples (take count octets))
         (rest_reading rates (length (before ++ take count octets)) next.part next.unit more)
-    behind_more more =
+    after_more more =
         let n : ℕ = length (before ++ take count octets) in
         let rest : Reading = rest_reading rates n (after_pairs held.part count) held.unit more in
         let found = samples (take count octets) in
         stands.rest (take count octets ++ more)
-        ∙ ap (behind (reading rates before).heard)
+        ∙ ap (trailing (reading rates before).heard)
         (pairs_keep (length before) n held.part held.unit octets more count is size)
         ∙ ap (λ xs. record { fault = rest.fault; rate = rest.rate; heard = xs; whole = rest.whole })
         (sym (append_assoc (reading rates before).heard found rest.heard))
-        ∙ ap (λ p. behind ((reading rates before).heard ++ found) (rest_reading rates n p held.unit more)) (sym part)
-        ∙ ap (λ u. behind ((reading rates before).heard ++ found) (rest_reading rates n next.part u more)) (sym unit)
+        ∙ ap (λ p. trailing ((reading rates before).heard ++ found) (rest_reading rates n p held.unit more)) (sym part)
+        ∙ ap (λ u. trailing ((reading rates before).heard ++ found) (rest_reading rates n next.part u more)) (sym unit)
 
     now : reading rates (before ++ take count octets) ≡ record {
       fault = fault_of_part next.part;
@@ -134,8 +134,8 @@ module _ (rates : Rates) where
       whole = whole_of_part next.part;
     }
     now = ap (λ xs. reading rates (before ++ xs)) (sym (append-nil (take count octets)))
-        ∙ behind_more []
-        ∙ ap (behind ((reading rates before).heard ++ samples (take count octets)))
+        ∙ after_more []
+        ∙ ap (trailing ((reading rates before).heard ++ samples (take count octets)))
         (at_end rates (length (before ++ take count octets)) next.position next.part next.unit fits)
 
     pub samples_after : (reading rates (before ++ take count octets)).heard
@@ -165,7 +165,7 @@ module _ (rates : Rates) where
           enough = omega (arith, short, stands.enough, size);
           rest = λ more.
               ap (reading rates) (append_assoc before (take count octets) more)
-              ∙ behind_more more
-              ∙ ap (λ xs. behind xs
+              ∙ after_more more
+              ∙ ap (λ xs. trailing xs
               (rest_reading rates (length (before ++ take count octets)) next.part next.unit more)) (sym samples_after);
         }

@@ -22,7 +22,7 @@ use Rattle.wav_file.specs.Reading.{Reading, unless, unfinished, formatted, unfor
 use Rattle.wav_file.specs.Reading.{verdict_on, verdict_of, rate_in}
 use Rattle.wav_file.specs.Held.{Held, Fits, Step, made, to_part, step_of, after_head, after_chunk_head, after_field}
 use Rattle.wav_file.specs.Held.{after_data_octet, fault_of_part, whole_of_part, rate_of_part, answer_of, fields_from}
-use Rattle.wav_file.specs.Held.{widths_from, rate_from, chunks_reading, head_reading, rest_reading, behind, StandsFor}
+use Rattle.wav_file.specs.Held.{widths_from, rate_from, chunks_reading, head_reading, rest_reading, trailing, StandsFor}
 use Rattle.wav_file.proofs.ChunkLemmas.{chunks_short}
 use Rattle.wav_file.proofs.StepLemmas.{step_keeps, unit_grows, width_le}
 
@@ -110,8 +110,8 @@ module _ (rates : Rates) where
   -- ---- one octet more
 
   -- how the rest is read after the step of an octet
-  abbrev pub rest_behind : ℕ → Step → List ℕ → Reading
-  rest_behind n step more = rest_reading rates (suc n) step.part step.unit more
+  abbrev pub rest_after : ℕ → Step → List ℕ → Reading
+  rest_after n step more = rest_reading rates (suc n) step.part step.unit more
 
   -- the samples that a step gives are those of its answer
   abbrev Tells : Step → Type 0
@@ -163,31 +163,31 @@ module _ (rates : Rates) where
       (fitted : Fits held.position held.part held.unit) where
     -- the file with one octet more
     one_more : (more : List ℕ) → reading rates (octets ++ octet ∷ more)
-        ≡ behind ((reading rates octets).heard ++ option_to_list
+        ≡ trailing ((reading rates octets).heard ++ option_to_list
         (step_of rates held.position held.part held.unit octet).sample)
-        (rest_behind (length octets) (step_of rates held.position held.part held.unit octet) more)
+        (rest_after (length octets) (step_of rates held.position held.part held.unit octet) more)
     one_more more =
         let step : Step = step_of rates held.position held.part held.unit octet in
         stands.rest (octet ∷ more)
-        ∙ ap (behind (reading rates octets).heard) (step_keeps rates (length octets)
+        ∙ ap (trailing (reading rates octets).heard) (step_keeps rates (length octets)
         held.position held.part held.unit octet more stands.place fitted stands.enough)
         ∙ ap (λ xs. record {
-          fault = (rest_behind (length octets) step more).fault;
-          rate = (rest_behind (length octets) step more).rate;
+          fault = (rest_after (length octets) step more).fault;
+          rate = (rest_after (length octets) step more).rate;
           heard = xs;
-          whole = (rest_behind (length octets) step more).whole;
+          whole = (rest_after (length octets) step more).whole;
         })
         (sym (append_assoc (reading rates octets).heard (option_to_list step.sample)
-        (rest_behind (length octets) step more).heard))
+        (rest_after (length octets) step more).heard))
 
     -- what is kept after the octet
     module _ (next : Held) (sample : Option ℤ) (made_is : made next sample
         ≡ step_of rates held.position held.part held.unit octet) (fits : Fits next.position next.part next.unit) where
-      behind_more : (more : List ℕ) → reading rates (octets ++ octet ∷ more)
-          ≡ behind ((reading rates octets).heard ++ option_to_list sample)
+      after_more : (more : List ℕ) → reading rates (octets ++ octet ∷ more)
+          ≡ trailing ((reading rates octets).heard ++ option_to_list sample)
           (rest_reading rates (suc (length octets)) next.part next.unit more)
-      behind_more more = subst (λ (step : Step). reading rates (octets ++ octet ∷ more)
-          ≡ behind ((reading rates octets).heard ++ option_to_list step.sample) (rest_behind (length octets) step more))
+      after_more more = subst (λ (step : Step). reading rates (octets ++ octet ∷ more)
+          ≡ trailing ((reading rates octets).heard ++ option_to_list step.sample) (rest_after (length octets) step more))
           (sym made_is) (one_more more)
 
       now : reading rates (octets ++ octet ∷ []) ≡ record {
@@ -196,8 +196,8 @@ module _ (rates : Rates) where
         heard = (reading rates octets).heard ++ option_to_list sample;
         whole = whole_of_part next.part;
       }
-      now = behind_more []
-          ∙ ap (behind ((reading rates octets).heard ++ option_to_list sample))
+      now = after_more []
+          ∙ ap (trailing ((reading rates octets).heard ++ option_to_list sample))
           (at_end (suc (length octets)) next.position next.part next.unit fits)
           ∙ ap (λ xs. record {
             fault = fault_of_part next.part;
@@ -238,10 +238,10 @@ module _ (rates : Rates) where
             enough = omega (arith, longer, stands.enough, length_push octets octet);
             rest = λ more.
                 ap (reading rates) (append_assoc octets (octet ∷ []) more)
-                ∙ behind_more more
-                ∙ ap (λ xs. behind xs (rest_reading rates (suc (length octets)) next.part next.unit more))
+                ∙ after_more more
+                ∙ ap (λ xs. trailing xs (rest_reading rates (suc (length octets)) next.part next.unit more))
                 (sym samples_next)
-                ∙ ap (λ n. behind (reading rates (octets ++ octet ∷ [])).heard
+                ∙ ap (λ n. trailing (reading rates (octets ++ octet ∷ [])).heard
                 (rest_reading rates n next.part next.unit more)) (sym count);
           }
 
@@ -256,7 +256,7 @@ module _ (rates : Rates) where
         takes = refl;
         place = refl;
         enough = omega arith;
-        rest = λ more. ap (λ (r : Reading). behind r.heard (head_reading rates 0 more)) (sym none);
+        rest = λ more. ap (λ (r : Reading). trailing r.heard (head_reading rates 0 more)) (sym none);
       }
 
   -- all that has come
@@ -265,7 +265,7 @@ module _ (rates : Rates) where
       × ((reading rates octets).whole ≡ whole_of_part held.part)
       × ((reading rates octets).rate ≡ rate_of_part held.part)
   now_told held octets stands fits =
-      let all : reading rates octets ≡ behind (reading rates octets).heard
+      let all : reading rates octets ≡ trailing (reading rates octets).heard
       (rest_reading rates (length octets) held.part held.unit []) = ap (reading rates) (sym (append-nil octets))
       ∙ stands.rest [] in
       let end = at_end (length octets) held.position held.part held.unit fits in (

@@ -24,7 +24,7 @@ use Rattle.wav_file.specs.Reading.{of_format}
 use Rattle.wav_file.specs.Held.{Fits, Step, to_part, step_of, after_head, after_chunk_head, after_field, after_data}
 use Rattle.wav_file.specs.Held.{after_data_octet, following, next_of, rate_after, rate_from, data_begun, format_begun}
 use Rattle.wav_file.specs.Held.{fields_from, widths_from, chunks_reading, head_reading, data_reading, rest_reading}
-use Rattle.wav_file.specs.Held.{behind}
+use Rattle.wav_file.specs.Held.{trailing}
 use Rattle.wav_file.proofs.ChunkLemmas.{chunks_whole}
 
 -- what is read by a reader of these rates
@@ -32,7 +32,7 @@ module _ (rates : Rates) where
   -- the step keeps the reading of the rest, but for the sample that it gives
   abbrev pub Keeps : ℕ → Part → List ℕ → ℕ → List ℕ → Step → Type 0
   Keeps n part unit octet more step =
-      rest_reading rates n part unit (octet ∷ more) ≡ behind (option_to_list step.sample)
+      rest_reading rates n part unit (octet ∷ more) ≡ trailing (option_to_list step.sample)
       (rest_reading rates (suc n) step.part step.unit more)
 
   -- ---- lists and numbers
@@ -118,7 +118,7 @@ module _ (rates : Rates) where
       ap (λ p. chunks_reading rates rate p (drop (padded size) more)) place
 
   data_begins : (rate start size : ℕ) (name more : List ℕ)
-      → of_data (Some rate) (record { place = start; name = name; size = size; behind = more })
+      → of_data (Some rate) (record { place = start; name = name; size = size; trailing = more })
       ≡ rest_reading rates (start + 8) (data_begun (told_place (start + 7)) (Some rate) size) [] more
   data_begins rate start size name more = by_size (ltb size 0x7fff0000)
     where
@@ -139,7 +139,7 @@ module _ (rates : Rates) where
       by_size false = refl
 
   format_begins : (start size : ℕ) (name more : List ℕ)
-      → of_format rates (record { place = start; name = name; size = size; behind = more })
+      → of_format rates (record { place = start; name = name; size = size; trailing = more })
       (chunks (start + 8 + padded size) (drop (padded size) more))
       ≡ rest_reading rates (start + 8) (format_begun (told_place (start + 7)) size) [] more
   format_begins start size name more =
@@ -312,9 +312,9 @@ module _ (rates : Rates) where
       count
 
   -- the rate that fields tell is told by those after the first, and the first
-  abbrev rate_behind : Option Field → ℕ → List ℕ → Option ℕ
-  rate_behind (Some field) rate more = rate_from field rate more
-  rate_behind None rate more = Some rate
+  abbrev rate_following : Option Field → ℕ → List ℕ → Option ℕ
+  rate_following (Some field) rate more = rate_from field rate more
+  rate_following None rate more = Some rate
 
   -- two tests whether octets are enough, with the same octets to spare
   same_told : (have want others rest first second : ℕ) → have + rest ≡ others + want → first ≡ second
@@ -327,7 +327,7 @@ module _ (rates : Rates) where
       ]
 
   rate_split : (field : Field) (rate : ℕ) (unit more : List ℕ) → length unit ≡ width_of field
-      → rate_from field rate (unit ++ more) ≡ rate_behind (next_of field)
+      → rate_from field rate (unit ++ more) ≡ rate_following (next_of field)
       (rate_after field rate (little_number (width_of field) unit)) more
   rate_split Format rate unit more whole =
       let gone : drop 2 (unit ++ more) ≡ more = drop_at unit more 2 whole in
@@ -348,7 +348,7 @@ module _ (rates : Rates) where
 
   -- after a field
   following_keeps : (field : Field) (rate start skip : ℕ) (more : List ℕ)
-      → from_fields (rate_behind (next_of field) rate more) (fields_after (next_of field)) (start + width_of field) more
+      → from_fields (rate_following (next_of field) rate more) (fields_after (next_of field)) (start + width_of field) more
       (start + widths_from field + skip) (widths_from field - width_of field + skip) more
       ≡ rest_reading rates (start + width_of field) (following (next_of field) rate skip) [] more
   following_keeps Format rate start skip more = to_field Channels rate (start + 2) (start + 16 + skip) skip more
@@ -377,7 +377,7 @@ module _ (rates : Rates) where
       let place : ℕ = start + widths_from field + skip in
       let count : ℕ = widths_from field - w + skip in
       let after : ℕ = rate_after field rate value in
-      let rest : Reading = formatted (rate_behind (next_of field) after more) (chunks place (drop count more)) in
+      let rest : Reading = formatted (rate_following (next_of field) after more) (chunks place (drop count more)) in
       ap (λ told. from_fields told (fields_from field) start (unit ++ more) place count more)
       (rate_split field rate unit more whole)
       ∙ ap (λ fs. unless (field_fault rates fs start (unit ++ more)) rest) (fields_split field)
@@ -468,7 +468,7 @@ module _ (rates : Rates) where
 
   data_octet_keeps : (rate n left : ℕ) (low : Option ℕ) (unit : List ℕ) (octet : ℕ) (more : List ℕ) → 0 < left
       → data_reading rate (Some left) (option_to_list low) (octet ∷ more)
-      ≡ behind (option_to_list (after_data_octet rate (Some (left - 1)) low octet).1)
+      ≡ trailing (option_to_list (after_data_octet rate (Some (left - 1)) low octet).1)
       (rest_reading rates (suc n) (after_data_octet rate (Some (left - 1)) low octet).0 unit more)
   data_octet_keeps rate n zero low unit octet more some = absurd (omega arith)
   data_octet_keeps rate n (suc left) None unit octet more some =
@@ -508,7 +508,7 @@ module _ (rates : Rates) where
 
   data_keeps : (rate n : ℕ) (left low : Option ℕ) (unit : List ℕ) (octet : ℕ) (more : List ℕ)
       → data_reading rate left (option_to_list low) (octet ∷ more)
-      ≡ behind (option_to_list (after_data rate left low octet).1)
+      ≡ trailing (option_to_list (after_data rate left low octet).1)
       (rest_reading rates (suc n) (after_data rate left low octet).0 unit more)
   data_keeps rate n None None unit octet more = refl
   data_keeps rate n None (Some low) unit octet more = refl
@@ -521,7 +521,7 @@ module _ (rates : Rates) where
     where
       K : Part × Option ℤ → Type 0
       K p = data_reading rate (Some left) (option_to_list low) (octet ∷ more)
-          ≡ behind (option_to_list p.1) (rest_reading rates (suc n) p.0 unit more)
+          ≡ trailing (option_to_list p.1) (rest_reading rates (suc n) p.0 unit more)
 
       ended : 0 ≡ left → K (Data rate (Some left) low, None)
       ended e =

@@ -11,7 +11,7 @@ pub record Chunk : Type 0 where
   -- how many octets its contents have
   pub size : ℕ
   -- all octets after its head, to the end of input
-  pub behind : List ℕ
+  pub trailing : List ℕ
 
 -- contents of so many octets, with their padding
 abbrev pub padded : ℕ → ℕ
@@ -23,7 +23,7 @@ chunk_at place octets = record {
   place = place;
   name = take 4 octets;
   size = little_number 4 (drop 4 octets);
-  behind = drop 8 octets;
+  trailing = drop 8 octets;
 }
 
 -- at most so many chunks, one after the other
@@ -32,7 +32,7 @@ chunks_upto zero place octets = []
 chunks_upto (suc most) place octets =
     if nat_lt (length octets) 8 then [] else
     let chunk = chunk_at place octets in
-    chunk ∷ chunks_upto most (place + 8 + padded chunk.size) (drop (padded chunk.size) chunk.behind)
+    chunk ∷ chunks_upto most (place + 8 + padded chunk.size) (drop (padded chunk.size) chunk.trailing)
 
 -- The chunks of these octets, the first of which stands at a place of the file. A head that is cut short is no chunk;
 -- the last chunk's contents may be cut short. A chunk has eight octets at least, so there are no more than octets.

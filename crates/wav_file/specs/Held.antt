@@ -247,8 +247,8 @@ rest_reading rates count (Data rate left low) unit octets = data_reading rate le
 rest_reading rates count (Failed fault) unit octets = failed fault
 
 -- a reading with samples before it
-abbrev pub behind : List ℤ → Reading → Reading
-behind before r = record { fault = r.fault; rate = r.rate; heard = before ++ r.heard; whole = r.whole }
+abbrev pub trailing : List ℤ → Reading → Reading
+trailing before r = record { fault = r.fault; rate = r.rate; heard = before ++ r.heard; whole = r.whole }
 
 -- these octets of a file have come to a reader of these rates
 pub record StandsFor (rates : Rates) (held : Held) (octets : List ℕ) : Type 0 where
@@ -257,4 +257,4 @@ pub record StandsFor (rates : Rates) (held : Held) (octets : List ℕ) : Type 0 
   pub enough : length held.unit ≤ length octets
   -- whatever comes, the file is read as the part reads the rest, after the samples so far
   pub rest : (more : List ℕ) → reading rates (octets ++ more)
-      ≡ behind (reading rates octets).heard (rest_reading rates (length octets) held.part held.unit more)
+      ≡ trailing (reading rates octets).heard (rest_reading rates (length octets) held.part held.unit more)

@@ -56,10 +56,10 @@ of_data rate chunk =
     then record {
       fault = None;
       rate = rate;
-      heard = samples (take chunk.size chunk.behind);
-      whole = nat_le chunk.size (length chunk.behind);
+      heard = samples (take chunk.size chunk.trailing);
+      whole = nat_le chunk.size (length chunk.trailing);
     }
-    else record { fault = None; rate = rate; heard = samples chunk.behind; whole = true }
+    else record { fault = None; rate = rate; heard = samples chunk.trailing; whole = true }
 
 -- chunks after the format, which names this rate
 abbrev pub formatted : Option ℕ → List Chunk → Reading
@@ -70,7 +70,7 @@ formatted rate (chunk ∷ others) = if is_data chunk then of_data rate chunk els
 abbrev pub of_format : Rates → Chunk → List Chunk → Reading
 of_format rates chunk others =
     if nat_lt chunk.size 16 then failed (NoFormat (told_place (chunk.place + 7))) else
-    unless (field_fault rates fields (chunk.place + 8) chunk.behind) (formatted (rate_at_front chunk.behind) others)
+    unless (field_fault rates fields (chunk.place + 8) chunk.trailing) (formatted (rate_at_front chunk.trailing) others)
 
 -- chunks before the format; a data chunk among them shows at the last octet of its size
 abbrev pub unformatted : Rates → List Chunk → Reading

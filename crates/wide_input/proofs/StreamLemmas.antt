@@ -128,7 +128,7 @@ pub part_ends : (inside outside now part whole : ℕ) → inside ≡ outside →
     → now ≤ outside + whole
 part_ends inside outside now part whole same few past = omega arith
 
--- ---- no stream falls behind the least one
+-- ---- no stream falls after the least one
 
 -- what a stream takes of a block, and what it skips past it
 pub taken-skipped : (skipped : ℕ) (x : List ℤ) → length x + next_skipped skipped x

@@ -23,8 +23,8 @@ one_wide x items others a b =
     (λ k d l. a.whole (get_or others k d) (b.each k d l))
 
 -- the candidates of a stream that end after a position
-behind_of : (position : ℕ) (x : List ℤ) → (found : List Candidate) × AreCandidatesBehind position x found
-behind_of position x =
+after_of : (position : ℕ) (x : List ℤ) → (found : List Candidate) × AreCandidatesBehind position x found
+after_of position x =
     let some = some_list x in
     let all : List Candidate = some.0 in
     let whole : AreCandidates x all = some.1 in
@@ -45,11 +45,11 @@ behind_of position x =
 
 module _ (x y : List ℤ) where
   found_in : ℕ → List Candidate
-  found_in number = (behind_of (length (stream number x)) (stream number (x ++ y))).0
+  found_in number = (after_of (length (stream number x)) (stream number (x ++ y))).0
 
   found_is : (number : ℕ) → AreCandidatesBehind (length (stream number x)) (stream number (x ++ y)) (found_in number)
   unfolding found_in
-  found_is number = (behind_of (length (stream number x)) (stream number (x ++ y))).1
+  found_is number = (after_of (length (stream number x)) (stream number (x ++ y))).1
 
   -- what five streams find after their parts of the first samples
   abbrev founds : List (List Candidate)

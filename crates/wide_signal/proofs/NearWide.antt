@@ -259,7 +259,7 @@ near_from : (offset : ℕ) (received : List Received) (x : List ℤ) (place more
     → place + 64 ≡ spot + more → AllByRecursion IsWideReceived received → IsNearWide offset place received x
     → IsNearAll (trimmed_after more received) (drop spot (stream offset (filtered x)))
 near_from offset [] x place more spot small at good near = tt
-near_from offset (r ∷ received) x place more spot small at (first, others) (room, here, behind) =
+near_from offset (r ∷ received) x place more spot small at (first, others) (room, here, following) =
     let y : List ℤ = stream offset (filtered x) in
     let silence : ℕ = r.transmission.silence + more in
     let m : ℕ = length (within_flags r) in
@@ -280,7 +280,7 @@ near_from offset (r ∷ received) x place more spot small at (first, others) (ro
           ∙ sym past) ∙ take-append-drop silence (drop spot y)),
       length-take-le silence (drop spot y) (omega (arith, length-drop spot y, y_long, bits)),
       part_near offset begin r x small first room here,
-      near_from offset received x (end_of place r) 128 (begin + 64 + 8 * m) small (omega (arith, bits)) others behind,
+      near_from offset received x (end_of place r) 128 (begin + 64 + 8 * m) small (omega (arith, bits)) others following,
     )
 
 pub near_inside : (offset : ℕ) (received : List Received) (x : List ℤ) → offset < 5 → All IsWideReceived received

@@ -16,7 +16,7 @@ use Rattle.link_world.proofs.law.reduced.Core.{End, SetUp as CoreSetUp, Tagged a
 use Rattle.link_world.proofs.law.reduced.Core.Kind.{Sabm, Disc, Ua, Dm, IsNumbered}
 use Rattle.link_world.proofs.law.reduced.Core.Standing.{Idle}
 use Rattle.link_world.proofs.law.reduced.CoreMoves.{now}
-use Rattle.link_world.proofs.law.reduced.CoreOf.{end_behind}
+use Rattle.link_world.proofs.law.reduced.CoreOf.{end_following}
 use Rattle.link_world.proofs.law.Each.{each_weaker, each_removed}
 use Rattle.link_world.proofs.law.invariant.Invariant.{Invariant, CallsIn}
 use Rattle.link_world.proofs.law.moves.Losing.{lose_keeps}
@@ -40,8 +40,8 @@ calls_of_idle own other (IsNumbered modulus n) h = tt
 
 renewed_holds :
     (m : Machine) (path : Path) (qs : List CoreSetUp) {y : End} {to_x to_y : List CoreTagged}
-    → Invariant (between (now Idle (end_behind m qs)) y to_x to_y)
-    → Invariant (between (now Idle (end_behind (new_machine path m.params) qs)) y to_x to_y)
+    → Invariant (between (now Idle (end_following m qs)) y to_x to_y)
+    → Invariant (between (now Idle (end_following (new_machine path m.params) qs)) y to_x to_y)
 renewed_holds m path qs {to_y} h = record {
   x_hears = record {
     tags = h.x_hears.tags;
@@ -89,7 +89,7 @@ renewed :
     {r : RecordedEnd} {path : Path} {x y : End} {to_x to_y : List CoreTagged} → r.machine.control.state ≡ IdleState
     → Shown r x → Invariant (between x y to_x to_y) → Renewed r path y to_x to_y
 renewed {r} {path} {x} idle (ShownIdle state packets waiting) inv = record {
-  x = now Idle (end_behind (new_machine path r.machine.params) (core_set_ups r.set_ups));
+  x = now Idle (end_following (new_machine path r.machine.params) (core_set_ups r.set_ups));
   shown = ShownIdle refl refl waiting;
   holds = renewed_holds r.machine path (core_set_ups r.set_ups) inv;
 }

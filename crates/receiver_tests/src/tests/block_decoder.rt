@@ -1,4 +1,4 @@
-//! The decoders of samples in blocks, behind one trait: what is tested of several of them is written once.
+//! The decoders of samples in blocks, after one trait: what is tested of several of them is written once.
 
 ghost use Rattle.std.specs.Prelude.{◌≡◌, ◌+◌, ◌<◌, ◌≤◌, ◌^◌, ℕ, Bool, length as count, false, IfOk, OnOk};
 ghost use Rattle.std.specs.Thread.{IsSync};

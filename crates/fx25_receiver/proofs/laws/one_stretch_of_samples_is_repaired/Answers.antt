@@ -6,16 +6,16 @@ use Rattle.fx25_receiver.proofs.TakenLemmas.{heard_as_it_came}
 use Rattle.fx25_receiver.proofs.laws.one_stretch_of_samples_is_repaired.Goals as goal
 
 pub returns : goal.returns
-returns c = λ x sent item index start count before heard block lane within is is_tag is_frame block_of near differ behind few
+returns c = λ x sent item index start count before heard block lane within is is_tag is_frame block_of near differ following few
     end at.
     let found = word start count x sent differ item.lane index item.tag before heard block is_tag within is near.size
-    block_of.size block_of.octets behind few in
+    block_of.size block_of.octets following few in
     let bits = bits_are start count x sent differ item.lane index item.tag before heard block is_tag within is near.size
-    block_of.size block_of.octets behind few in
+    block_of.size block_of.octets following few in
     let wrong = few_wrong start count x sent differ item.lane index item.tag before heard block is_tag within is near.size
-    block_of.size block_of.octets behind few in
+    block_of.size block_of.octets following few in
     let count_same = as_many start count x sent differ item.lane index item.tag before heard block is_tag within is near.size
-    block_of.size block_of.octets behind few in
+    block_of.size block_of.octets following few in
     heard_as_it_came x item index lane (omega (arith, count_same)) end (inr (
       bits_needed item.octets,
       subst (λ b. EndsBlock b item.tag item.octets (bits_needed item.octets)) (sym bits)

@@ -1,6 +1,6 @@
 use Rattle.hf_sender.proofs.Common.{◌≡◌, ◌+◌, ◌++◌, [], ◌∷◌, List, false, take, ap, sym, ◌∙◌, rules, arith, take_more}
-use Rattle.hf_sender.proofs.Common.{Tone, line, last_tone, at_level, wave, hf_start, hf_behind}
-use Rattle.hf_sender.proofs.WaveLemmas.{wave-push, hf_behind-push}
+use Rattle.hf_sender.proofs.Common.{Tone, line, last_tone, at_level, wave, hf_start, hf_after}
+use Rattle.hf_sender.proofs.WaveLemmas.{wave-push, hf_after-push}
 use Rattle.hf_sender.proofs.sending.modulated.Goals as goal
 
 pub loop-bit-init : goal.loop-bit-init
@@ -22,7 +22,7 @@ loop-bit-preserved c =
           ∙ ap (λ bits. last_tone (line bits))
           (sym (take_more c.args.bits.now c.loop-bit.bit-index false (omega arith)));
       modulator = c.next.ensures.phase
-          ∙ hf_behind-push (hf_start c.args.level) before c.step-tone.result c.loop-bit.modulator
+          ∙ hf_after-push (hf_start c.args.level) before c.step-tone.result c.loop-bit.modulator
           c.loop-bit.invariant.modulator
-          ∙ ap (hf_behind (hf_start c.args.level)) (sym more);
+          ∙ ap (hf_after (hf_start c.args.level)) (sym more);
     }

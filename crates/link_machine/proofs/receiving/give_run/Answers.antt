@@ -23,15 +23,15 @@ pub loop-packet-preserved : goal.loop-packet-preserved
 loop-packet-preserved c =
     let i = c.loop-packet.invariant in
     let before = c.loop-packet.incoming in
-    let behind = c.take.new.self in
+    let following = c.take.new.self in
     let packet = c.in-Some.packet in
     let there : packet_at before.places 0 ≡ Some packet = sym c.in-Some.ensures.packet in
     let full : is_full before.places 0 ≡ true = ap is_some there in
-    let places : behind.places ≡ drop 1 before.places ++ empty_place ∷ [] =
-    places_taken before behind full c.take.ensures.store in
+    let places : following.places ≡ drop 1 before.places ++ empty_place ∷ [] =
+    places_taken before following full c.take.ensures.store in
     let one : run before.places ≡ packet ∷ run (drop 1 before.places) = run_of_full before.places packet there in
-    let same : run behind.places ≡ run (drop 1 before.places) = ap run places ∙ run-push (drop 1 before.places) in
-    let less : length (run before.places) ≡ length (run behind.places) + 1 = ap length one
+    let same : run following.places ≡ run (drop 1 before.places) = ap run places ∙ run-push (drop 1 before.places) in
+    let less : length (run before.places) ≡ length (run following.places) + 1 = ap length one
     ∙ omega (arith, ap length same) in
     let uses = c.tell.ensures.uses in
     let room = i.room in
@@ -40,12 +40,12 @@ loop-packet-preserved c =
     record {
       formed = c.take.ensures.formed;
       told =
-          ap (λ xs. xs ++ map Given (run behind.places)) c.tell.ensures.told
-          ∙ append_assoc c.loop-packet.room.told.items (Given packet ∷ []) (map Given (run behind.places))
+          ap (λ xs. xs ++ map Given (run following.places)) c.tell.ensures.told
+          ∙ append_assoc c.loop-packet.room.told.items (Given packet ∷ []) (map Given (run following.places))
           ∙ ap (λ xs. c.loop-packet.room.told.items ++ map Given xs) (ap (λ xs. packet ∷ xs) same ∙ sym one)
           ∙ i.told;
       frames = c.tell.ensures.frames ∙ i.frames;
-      stands = λ store h. moved_one_more before behind store packet (i.stands store h)
+      stands = λ store h. moved_one_more before following store packet (i.stands store h)
           (λ s k. (c.take.ensures.stands_for s k).1) places there;
       room = omega (arith, uses.of_told);
       used = omega (arith, uses.of_told);
@@ -55,14 +55,14 @@ loop-packet-preserved c =
 pub loop-packet-smaller : goal.loop-packet-smaller
 loop-packet-smaller c =
     let before = c.loop-packet.incoming in
-    let behind = c.take.new.self in
+    let following = c.take.new.self in
     let packet = c.in-Some.packet in
     let there : packet_at before.places 0 ≡ Some packet = sym c.in-Some.ensures.packet in
     let full : is_full before.places 0 ≡ true = ap is_some there in
-    let places : behind.places ≡ drop 1 before.places ++ empty_place ∷ [] =
-    places_taken before behind full c.take.ensures.store in
+    let places : following.places ≡ drop 1 before.places ++ empty_place ∷ [] =
+    places_taken before following full c.take.ensures.store in
     let one : run before.places ≡ packet ∷ run (drop 1 before.places) = run_of_full before.places packet there in
-    let same : run behind.places ≡ run (drop 1 before.places) = ap run places ∙ run-push (drop 1 before.places) in
+    let same : run following.places ≡ run (drop 1 before.places) = ap run places ∙ run-push (drop 1 before.places) in
     omega (arith, ap length one, ap length same)
 
 pub returns-clause-uses : goal.returns-clause-uses

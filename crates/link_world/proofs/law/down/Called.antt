@@ -10,7 +10,7 @@ use Rattle.link_world.proofs.law.reduced.Core.{End, SetUp as CoreSetUp, Tagged a
 use Rattle.link_world.proofs.law.reduced.Core.Kind.{Sabm, Ua}
 use Rattle.link_world.proofs.law.reduced.Core.Standing.{Up}
 use Rattle.link_world.proofs.law.reduced.CoreMoves.{now, opened, called, in_modulus, of_end, setup_to}
-use Rattle.link_world.proofs.law.reduced.CoreOf.{stored_from, end_behind, up_end}
+use Rattle.link_world.proofs.law.reduced.CoreOf.{stored_from, end_following, up_end}
 use Rattle.link_world.specs.SetUps.{opened as opened_set_up}
 use Rattle.link_world.proofs.law.showing.PlacesFit.{IsSound, IsModulus, sound_new}
 use Rattle.link_world.proofs.law.showing.PlacesStored.{stored_empty}
@@ -18,13 +18,13 @@ use Rattle.link_world.proofs.law.moves.Opening.{open_called_keeps, no_call_of_up
 use Rattle.link_world.proofs.law.invariant.Invariant.{Invariant}
 use Rattle.link_world.proofs.law.showing.Shown.{core_set_up, core_set_ups, core_flight, flight_of_up}
 use Rattle.link_world.proofs.law.showing.Shown.Shown.{ShownUp}
-use Rattle.link_world.proofs.law.showing.Outcome.{Outcome, Keeps, end_with, outcome_behind}
+use Rattle.link_world.proofs.law.showing.Outcome.{Outcome, Keeps, end_with, outcome_after}
 use Rattle.link_world.proofs.law.up.Settling.{all_of_last, length_of_last}
 use Rattle.link_world.proofs.law.up.Events.{UpEnd}
 
 -- the set-up that has opened by a call in a modulus
 abbrev pub called_end : Machine → List SetUp → (mate modulus : ℕ) → End
-called_end m qs mate modulus = called mate modulus (end_behind m (core_set_ups qs))
+called_end m qs mate modulus = called mate modulus (end_following m (core_set_ups qs))
 
 -- a SABM or SABME opens a set-up, after what was told of the one before
 pub open_called_outcome :
@@ -72,7 +72,7 @@ open_called_outcome {h} {r} {y} {rest} {to_y} told modulus flag asks noted waiti
 
     outcome : Keeps h r y rest to_y turn
     outcome = record {
-      outcome = λ alone. outcome_behind h r turn set_ups_are refl
+      outcome = λ alone. outcome_after h r turn set_ups_are refl
           (subst (λ b. Outcome y rest to_y b r.machine.params e turn.sent) (sym asks) (record {
             end_is = up_end turn.now (core_set_ups r.set_ups) (core_set_up new);
             shown = ShownUp r.set_ups new refl refl refl;
@@ -81,7 +81,7 @@ open_called_outcome {h} {r} {y} {rest} {to_y} told modulus flag asks noted waiti
             holds = subst (λ fs. Invariant (between (up_end turn.now (core_set_ups r.set_ups) (core_set_up new)) y rest
                 (to_y ++ fs))) (sym frames) (subst (λ ss. Invariant (between
                 (now (Up (record (opened (mate_of h) modulus []) { stored = ss }))
-                (in_modulus modulus (end_behind r.machine (core_set_ups r.set_ups)))) y rest
+                (in_modulus modulus (end_following r.machine (core_set_ups r.set_ups)))) y rest
                 (to_y ++ of_end z Ua ∷ []))) stored inv);
             written = (record { kind = refl; answers = refl }, tt);
           }));
@@ -94,8 +94,8 @@ pub up_hears_call :
     → hears_ask (Hears f) ≡ true → noting (Hears f) r ≡ r → IsModulus modulus
     → Keeps (Hears f) r y rest to_y (settled (open_again modulus flag (begin r.machine)))
 up_hears_call {r} {ended} {last} {f} {modulus} flag {y} {rest} {to_y} u asks noted is =
-    let P : List CoreSetUp → Type 0 = λ qs. let z = called f.set_up modulus (end_behind r.machine qs) in
+    let P : List CoreSetUp → Type 0 = λ qs. let z = called f.set_up modulus (end_following r.machine qs) in
     Invariant (between z y rest (to_y ++ of_end z Ua ∷ [])) in
     open_called_outcome (Ended Reset ∷ []) modulus flag asks noted u.waiting u.sound is refl
     (subst P (sym (ap core_set_ups u.set_ups ∙ all_of_last ended last)) (open_called_keeps
-    (no_call_of_up (end_behind r.machine (core_set_ups ended)) u.holds) u.holds))
+    (no_call_of_up (end_following r.machine (core_set_ups ended)) u.holds) u.holds))

@@ -20,7 +20,7 @@ use Rattle.link_world.proofs.law.reduced.Core.{End, Tagged as CoreTagged, betwee
 use Rattle.link_world.proofs.law.reduced.Core.Kind.{Dm, Sabm, Ua}
 use Rattle.link_world.proofs.law.reduced.Core.Standing.{Calling, Up}
 use Rattle.link_world.proofs.law.reduced.CoreMoves.{now, of_end, setup_to, opened}
-use Rattle.link_world.proofs.law.reduced.CoreOf.{end_behind}
+use Rattle.link_world.proofs.law.reduced.CoreOf.{end_following}
 use Rattle.link_world.specs.SetUps.{opened as opened_set_up}
 use Rattle.link_world.proofs.law.down.Calls.{call_in, call_alone, wide_is, narrow_is, call_sent}
 use Rattle.link_world.proofs.law.showing.Readings.{IsReadAs}
@@ -49,7 +49,7 @@ pub calling_sends :
 calling_sends {r} packet {y} {to_x} {to_y} d taken =
     let turn = changing (joined packet) (begin r.machine) in
     let more = r.machine.outgoing.packets ++ packet ∷ [] in
-    let x = end_behind r.machine (core_set_ups r.set_ups) in
+    let x = end_following r.machine (core_set_ups r.set_ups) in
     let noted : noting (Sends packet) r ≡ record r { waiting = r.waiting ++ packet ∷ [] } =
     cond-false (is_some (refusal_of r.machine (Send packet))) r _ taken ∙ ap (λ s. taking s packet r) d.state_is in
     let ends : EndsDown (Sends packet) r turn CallingState r.set_ups [] = record {
@@ -94,7 +94,7 @@ goes_on_narrow :
 goes_on_narrow {h} {r} {y} {to_x} {to_y} c d state noted no_ask holds =
     let turn = sending (SetupSent SabmFrame true) (changing narrowed (goes_on r.machine c [])) in
     let packets = r.machine.outgoing.packets in
-    let x = end_behind turn.now (core_set_ups r.set_ups) in
+    let x = end_following turn.now (core_set_ups r.set_ups) in
     let frames : List CoreTagged = record { tag = length (core_set_ups r.set_ups); kind = Sabm 8 } ∷ [] in
     let down : IsDown turn.now.control.state packets = subst (λ s. IsDown s packets) (sym state) tt in
     let ends : EndsDown h r turn CallingState r.set_ups frames = record {
@@ -129,7 +129,7 @@ calls_again {r} c waiting {y} {to_x} {to_y} d state = go (is_spent c)
     narrow_or_not true = goes_on_narrow (retried c) d state refl refl d.holds
     narrow_or_not false = down_stays (retried c) (call_in own ∷ []) d state refl
         (call_sent e own d.sound.modulus (subst (λ s. IsDown s r.machine.outgoing.packets) (sym state) tt))
-        (λ alone. call_keeps (end_behind r.machine (core_set_ups r.set_ups)) (call_alone to_x to_y own alone) d.holds)
+        (λ alone. call_keeps (end_following r.machine (core_set_ups r.set_ups)) (call_alone to_x to_y own alone) d.holds)
 
     go : (b : Bool) → Keeps (Ticks waiting) r y to_x to_y
         (settled (if b then end_call Failed (goes_on r.machine c [])
@@ -157,7 +157,7 @@ calling_opens {r} {f} {y} {rest} {to_y} d no_ask =
     let turn = open_answered (begin m) in
     let given = m.outgoing.packets in
     let new : List Packet → SetUp = opened_set_up f.set_up i.modulus in
-    let x = end_behind m (core_set_ups r.set_ups) in
+    let x = end_following m (core_set_ups r.set_ups) in
     let noted = down_noted f d in
     let up : IsUp rest (progress_in r y to_y r.set_ups (new given) (Opened true ∷ []) i.modulus) turn = record {
       state = refl;
@@ -192,7 +192,7 @@ calling_agrees :
     → DownEnd CallingState r y (setup_to f.set_up (Sabm modulus) ∷ rest) to_y → hears_ask (Hears f) ≡ true
     → r.machine.incoming.modulus ≡ modulus → Keeps (Hears f) r y rest to_y (settled (answer_ua flag (begin r.machine)))
 calling_agrees {r} {f} flag {y} {rest} {to_y} d asks own =
-    let x = end_behind r.machine (core_set_ups r.set_ups) in
+    let x = end_following r.machine (core_set_ups r.set_ups) in
     let inv = subst (λ k. Invariant (between (down_end CallingState r.machine r.set_ups) y
     (setup_to f.set_up (Sabm k) ∷ rest) to_y)) (sym own) d.holds in
     down_answers UaFrame flag d (ap (λ b. b && true) asks) refl (agree_keeps x inv)

@@ -14,7 +14,7 @@ use Rattle.link_world.proofs.law.reduced.Core.{with_running}
 use Rattle.link_world.proofs.law.reduced.Core.Kind.{Dm}
 use Rattle.link_world.proofs.law.reduced.Core.Standing.{Idle, Calling, Releasing}
 use Rattle.link_world.proofs.law.reduced.CoreMoves.{now, of_end, setup_to, ask_of}
-use Rattle.link_world.proofs.law.reduced.CoreOf.{kind_of, setup_of, end_behind}
+use Rattle.link_world.proofs.law.reduced.CoreOf.{kind_of, setup_of, end_following}
 use Rattle.link_world.proofs.law.invariant.Invariant.{Invariant}
 use Rattle.link_world.proofs.law.moves.Losing.{lose_keeps}
 use Rattle.link_world.proofs.law.moves.Kept.{send_dm_keeps}
@@ -23,7 +23,7 @@ use Rattle.link_world.proofs.law.moves.Declining.{decline_by_dm_keeps}
 use Rattle.link_world.proofs.law.showing.PlacesFit.{IsSound, sound_new}
 use Rattle.link_world.proofs.law.showing.Shown.{core_set_ups, core_tagged, length_core, Shown, AnswersAsSent, kind_by}
 use Rattle.link_world.proofs.law.showing.Shown.Shown.{ShownIdle, ShownCalling, ShownReleasing}
-use Rattle.link_world.proofs.law.showing.Outcome.{IsAlone, Keeps, IsSentAs, end_with, none_sent, outcome_behind}
+use Rattle.link_world.proofs.law.showing.Outcome.{IsAlone, Keeps, IsSentAs, end_with, none_sent, outcome_after}
 
 abbrev pub standing_of : LinkState → List Packet → Standing
 standing_of IdleState packets = Idle
@@ -40,7 +40,7 @@ IsDown ReleasingState packets = packets ≡ []
 
 -- as the law reads it
 abbrev pub down_end : LinkState → Machine → List SetUp → End
-down_end state m qs = now (standing_of state m.outgoing.packets) (end_behind m (core_set_ups qs))
+down_end state m qs = now (standing_of state m.outgoing.packets) (end_following m (core_set_ups qs))
 
 -- such an end before an event, with its partner and what is under way to each
 pub record DownEnd (state : LinkState) (r : RecordedEnd) (y : End) (to_x to_y : List CoreTagged) : Type 0 where
@@ -118,7 +118,7 @@ pub down_keeps :
     → (IsAlone to_x to_y turn.sent → Invariant (between (down_end state turn.now qs) y to_x (to_y ++ frames)))
     → Keeps h r y to_x to_y turn
 down_keeps {h} {r} {turn} {state} {qs} {y} {to_x} {to_y} e inv = record {
-  outcome = λ alone. outcome_behind h r turn e.set_ups
+  outcome = λ alone. outcome_after h r turn e.set_ups
       (ap (λ s. waiting_in s (noting h r).waiting) e.state_is ∙ e.waiting) (record {
         end_is = down_end state turn.now qs;
         shown = down_shown state e.state_is e.down;
@@ -292,5 +292,5 @@ down_ends {h} {state} {r} {y} {to_x} {to_y} c why d noted inv =
       sent = none_sent;
     } in
     down_keeps ends (λ alone. subst (λ fs. Invariant (between (down_end IdleState turn.now r.set_ups) y to_x fs))
-    (sym (append-nil to_y)) (subst (λ qs. Invariant (between (now Idle (end_behind turn.now qs)) y to_x to_y))
+    (sym (append-nil to_y)) (subst (λ qs. Invariant (between (now Idle (end_following turn.now qs)) y to_x to_y))
     (set_ups_down state r.machine.outgoing.packets (core_set_ups r.set_ups)) (leave_to_idle_keeps 8 inv)))

@@ -13,7 +13,7 @@ use Rattle.link_machine.specs.Negotiation.{widest_parameters}
 use Rattle.link_world.proofs.law.reduced.Core.{End, Tagged as CoreTagged}
 use Rattle.link_world.proofs.law.reduced.Core.Kind.{Sabm}
 use Rattle.link_world.proofs.law.reduced.CoreMoves.{setup_to, in_modulus, of_end, asks, answers, sabms}
-use Rattle.link_world.proofs.law.reduced.CoreOf.{end_behind}
+use Rattle.link_world.proofs.law.reduced.CoreOf.{end_following}
 use Rattle.link_world.specs.Flight.{asks as asks_kind}
 use Rattle.link_world.proofs.law.down.Calls.{call_sent, call_alone, own_modulus_is}
 use Rattle.link_world.proofs.law.showing.Readings.{IsReadAs}
@@ -36,7 +36,7 @@ idle_connects {r} {y} {to_x} {to_y} d =
     let turn = connect (begin r.machine) in
     let modulus = called_modulus r.machine.params in
     let is = own_modulus_is r.machine.params in
-    let x = in_modulus modulus (end_behind r.machine (core_set_ups r.set_ups)) in
+    let x = in_modulus modulus (end_following r.machine (core_set_ups r.set_ups)) in
     let ends : EndsDown Connects r turn CallingState r.set_ups (of_end x (Sabm modulus) ∷ []) = record {
       state_is = refl;
       down = tt;

@@ -15,7 +15,7 @@ use Rattle.link_machine.specs.Ticks.{release_again}
 use Rattle.link_machine.specs.Frames.{hear_releasing}
 use Rattle.link_world.proofs.law.reduced.Core.{End, Tagged as CoreTagged}
 use Rattle.link_world.proofs.law.reduced.CoreMoves.{asks, answers}
-use Rattle.link_world.proofs.law.reduced.CoreOf.{end_behind}
+use Rattle.link_world.proofs.law.reduced.CoreOf.{end_following}
 use Rattle.link_world.specs.Flight.{asks as asks_kind}
 use Rattle.link_world.proofs.law.showing.Readings.{IsReadAs}
 use Rattle.link_world.proofs.law.moves.Losing.{lose_keeps}
@@ -96,7 +96,7 @@ releasing_hears_setup :
 releasing_hears_setup a SabmFrame flag command d = down_declines flag d refl refl
 releasing_hears_setup a SabmeFrame flag command d = down_declines flag d refl refl
 releasing_hears_setup {r} a DiscFrame flag command d = down_answers UaFrame flag d refl refl
-    (decline_releasing_keeps (end_behind r.machine (core_set_ups r.set_ups)) d.holds)
+    (decline_releasing_keeps (end_following r.machine (core_set_ups r.set_ups)) d.holds)
 releasing_hears_setup a DmFrame true command d = releasing_ends d
 releasing_hears_setup a DmFrame false command d = down_passes d
 releasing_hears_setup a UaFrame true command d = releasing_ends d

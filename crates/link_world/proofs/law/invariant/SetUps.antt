@@ -5,10 +5,10 @@ use Rattle.link_world.proofs.law.reduced.Core.{SetUp, IsPrefixOf, set_up_at, giv
 use Rattle.link_world.proofs.law.invariant.Prefixes.{prefix_same, prefix_none}
 
 -- no set-up is lost, and what was given stays, and so does the modulus
-pub record SetUpsGrow (before behind : List SetUp) : Type 0 where
-  pub count : length before ≤ length behind
-  pub given : (n : ℕ) → IsPrefixOf (given_in before n) (given_in behind n)
-  pub modulus : (n : ℕ) → n < length before → modulus_in behind n ≡ modulus_in before n
+pub record SetUpsGrow (before following : List SetUp) : Type 0 where
+  pub count : length before ≤ length following
+  pub given : (n : ℕ) → IsPrefixOf (given_in before n) (given_in following n)
+  pub modulus : (n : ℕ) → n < length before → modulus_in following n ≡ modulus_in before n
 
 given_last :
     (ended : List SetUp) (c d : SetUp) → IsPrefixOf c.given d.given → (n : ℕ)

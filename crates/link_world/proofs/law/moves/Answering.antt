@@ -96,10 +96,10 @@ sees_anew {v} {x} y {to_y} new h =
     }
 
 -- the UA itself says nothing of numbers
-new_behind_ua :
+new_after_ua :
     {v : Option View} {x y : End} {to_x to_y : List Tagged} → IsNewToMate v x y to_x to_y
     → IsNewToMate v x y to_x (to_y ++ of_end x Ua ∷ [])
-new_behind_ua {v} {x} {to_y} new =
+new_after_ua {v} {x} {to_y} new =
     let silent = each_pushed _ to_y (of_end x Ua) new.silent (of_mate_none (era x) (of_end x Ua) refl) in
     record {
       silent = silent;
@@ -136,11 +136,11 @@ sent_ua_by (Calling waiting) {v} {x} y {to_x} {to_y} none quiet new h =
     let z = now (Calling waiting) y in
     let to_z = to_y ++ of_end x Ua ∷ [] in
     let pushed = ua_pushed_both none quiet h in
-    let behind = new_behind_ua new in
+    let following = new_after_ua new in
     subst (λ t. BothHear v t x z to_x to_z)
     (ap (view_by y.modulus (Calling waiting)) (sym (ua_pushed_ua to_y (era x) none))) (record {
       x_hears = seen_anew (era x) new.mate (if_weaker v _ _ (λ a c. c.0) new.sent) new.modulus pushed.x_hears;
-      y_hears = sees_anew y behind pushed.y_hears;
+      y_hears = sees_anew y following pushed.y_hears;
     })
 sent_ua_by (Up r) y none quiet new h = ua_pushed_both none quiet h
 sent_ua_by Releasing y none quiet new h = ua_pushed_both none quiet h

@@ -20,9 +20,9 @@ pub decline_by_dm_keeps :
     → Invariant (between x y (setup_to tag k ∷ rest) to_y)
     → Invariant (between x y rest (to_y ++ of_end x (Dm true) ∷ []))
 decline_by_dm_keeps {tag} {k} {rest} asks_one h =
-    let behind = lose_keeps [] (setup_to tag k) rest h in
+    let following = lose_keeps [] (setup_to tag k) rest h in
     let one = h.x_hears.one_exchange in
-    let other = behind.y_hears.one_exchange in
+    let other = following.y_hears.one_exchange in
     sent_other_keeps (Dm true) refl refl (record {
       of_set_up = tt;
       current = tt;
@@ -31,7 +31,7 @@ decline_by_dm_keeps {tag} {k} {rest} asks_one h =
       carries = tt;
       modulus = tt;
       call_in = tt;
-    }) behind
+    }) following
 
 -- what y has got so far comes from set-ups that x has opened
 pub earlier_of :
@@ -47,19 +47,19 @@ decline_by_ua :
     → Invariant (between (now s x) y rest (to_y ++ of_end x Ua ∷ []))
 decline_by_ua {s} x {y} {tag} {rest} {to_y} down blind h =
     let z = now s x in
-    let behind = lose_keeps [] (setup_to tag Disc) rest h in
+    let following = lose_keeps [] (setup_to tag Disc) rest h in
     let one = h.x_hears.one_exchange in
     let same : count z ≡ length x.ended = ap length down in
     let le : count z ≤ length x.ended = omega arith in
     sent_ua_keeps (omega arith) (omega arith) (record {
-      silent = silent_of_unopened (count z) (era z) to_y le behind.y_hears.tags.of_set_up;
+      silent = silent_of_unopened (count z) (era z) to_y le following.y_hears.tags.of_set_up;
       got = ap (λ (q : SetUp). q.got) (at_none (set_ups z) (era z) le);
       mate = subst (λ v. IfSome v (λ a. a.mate ≡ era y)) (sym (blind (ua_tag rest))) tt;
       sent = rw (blind (ua_tag rest)) tt;
-      earlier = subst (λ n. Each (OriginUnder n) y.ended) same (earlier_of behind);
+      earlier = subst (λ n. Each (OriginUnder n) y.ended) same (earlier_of following);
       modulus = rw (blind (ua_tag rest)) tt;
       own = λ within. absurd (omega arith);
-    }) behind
+    }) following
 
 pub decline_idle_keeps :
     (x : End) {y : End} {tag : ℕ} {rest to_y : List Tagged}

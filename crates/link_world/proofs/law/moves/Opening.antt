@@ -30,10 +30,10 @@ use Rattle.link_world.proofs.law.invariant.Invariant.{CallsBy, OriginUnder, WasS
 use Rattle.link_world.proofs.law.moves.Declining.{earlier_of}
 
 -- after a SABM every tag is that of the set-up that its sender would open next
-behind_call :
+following_call :
     {tag : ℕ} (rest : List Tagged) (era : ℕ) {count : ℕ} → tag ≡ count → era ≤ count → TagsRise tag rest era
     → (tag ≡ era) × Each (λ f. f.tag ≡ era) rest
-behind_call {tag} rest era is le rise =
+following_call {tag} rest era is le rise =
     let start : tag ≤ era = chain_start (tags_rising era) tag rest rise in
     let same : tag ≡ era = omega arith in (
       same,
@@ -47,14 +47,14 @@ pub agree_keeps :
     → Invariant (between (now (Calling waiting) x) y rest (to_y ++ of_end x Ua ∷ []))
 agree_keeps x {y} {waiting} {tag} {rest} {to_y} h =
     let z = now (Calling waiting) x in
-    let behind = lose_keeps [] (setup_to tag (Sabm x.modulus)) rest h in
+    let following = lose_keeps [] (setup_to tag (Sabm x.modulus)) rest h in
     let one = h.x_hears.one_exchange in
     let current : tag ≡ count y = h.x_hears.tags.call_is_current.0 in
     let le = era_le_count y in
-    let tags = behind_call rest (era y) current le h.x_hears.tags.rise.1 in
+    let tags = following_call rest (era y) current le h.x_hears.tags.rise.1 in
     let same : tag ≡ era y = tags.0 in
     let silent : Each (IsSilent (era z)) to_y =
-    silent_of_unopened (count z) (era z) to_y (le_refl (count z)) behind.y_hears.tags.of_set_up in
+    silent_of_unopened (count z) (era z) to_y (le_refl (count z)) following.y_hears.tags.of_set_up in
     sent_ua_keeps (omega arith) (omega arith) (record {
       silent = silent;
       got = ap (λ (q : SetUp). q.got) (at_none x.ended (era z) (le_refl (era z)));
@@ -63,14 +63,14 @@ agree_keeps x {y} {waiting} {tag} {rest} {to_y} h =
       sent = if_calling (λ a. WasSent a rest 0 × Each (IsSilent (era z)) to_y) x.modulus waiting (ua_tag rest)
           (if_weaker (ua_tag rest) _ _ (λ t is. (
             sent_of_silent x.modulus t (silent_of_unopened (count y) t rest (omega arith)
-                behind.x_hears.tags.of_set_up),
+                following.x_hears.tags.of_set_up),
             silent,
           )) (ua_tag_of_each (λ t. t ≡ era y) rest tags.1));
-      earlier = earlier_of behind;
+      earlier = earlier_of following;
       modulus = if_calling (λ a. CallsBy y.standing y.modulus a.modulus) x.modulus waiting (ua_tag rest)
           (if_all (ua_tag rest) _ (λ t. h.x_hears.moduli.calls.0));
       own = λ within. absurd (omega arith);
-    }) behind
+    }) following
 
 -- a set-up without an origin is below and above all
 no_origin_above : (qs : List SetUp) (c : SetUp) → c.origin ≡ None → Each (λ q. OriginBelow q c) qs
@@ -165,18 +165,18 @@ open_called_keeps {x} {y} {tag} {modulus} {rest} {to_y} no_call h =
     let xs = set_ups x in
     let one = h.x_hears.one_exchange in
     let current : tag ≡ count y = h.x_hears.tags.call_is_current.0 in
-    let tags = behind_call rest (era y) current (era_le_count y) h.x_hears.tags.rise.1 in
+    let tags = following_call rest (era y) current (era_le_count y) h.x_hears.tags.rise.1 in
     let same : tag ≡ era y = tags.0 in
-    let behind = lose_keeps [] (setup_to tag (Sabm modulus)) rest h in
+    let following = lose_keeps [] (setup_to tag (Sabm modulus)) rest h in
     let blind : view y to_y ≡ None = blind_of_down y.modulus y.standing y.ended
     (omega arith) (no_ua to_y (omega arith)) in
     let silent : Each (IsSilent (era z)) to_y =
-    silent_of_unopened (count x) (era z) to_y (le_refl (count x)) behind.y_hears.tags.of_set_up in
+    silent_of_unopened (count x) (era z) to_y (le_refl (count x)) following.y_hears.tags.of_set_up in
     let call = h.x_hears.moduli.calls.0 in
     let last = ap (λ (q : SetUp). q.modulus) (at_last xs s.set_up) in
     let open_now : BothHear (Some (view_fresh modulus tag)) None z y rest to_y = record {
-      x_hears = opened_hears modulus h.x_hears.tags.rise.1 (sym current) behind.x_hears;
-      y_hears = hears_opened tag modulus no_call behind.y_hears;
+      x_hears = opened_hears modulus h.x_hears.tags.rise.1 (sym current) following.x_hears;
+      y_hears = hears_opened tag modulus no_call following.y_hears;
     } in
     sent_ua_keeps (omega arith) (omega arith) (record {
       silent = silent;
@@ -184,10 +184,10 @@ open_called_keeps {x} {y} {tag} {modulus} {rest} {to_y} no_call h =
       mate = same;
       sent = (
         sent_of_silent modulus tag (silent_of_unopened (count y) tag rest (omega arith)
-            behind.x_hears.tags.of_set_up),
+            following.x_hears.tags.of_set_up),
         silent,
       );
-      earlier = earlier_of behind;
+      earlier = earlier_of following;
       modulus = call;
       own = λ within. subst (CallsBy y.standing y.modulus) (sym last) call;
     }) (rw blind open_now)
@@ -256,43 +256,43 @@ open_answered_keeps x {y} {waiting} {tag} {rest} {to_y} h =
     let u = view y to_y in
     let ys = set_ups y in
     let other = h.y_hears.one_exchange in
-    let behind = both_lost [] (setup_to tag Ua) rest h in
+    let following = both_lost [] (setup_to tag Ua) rest h in
     let asked = sabms_are_asks to_y in
     let last = at_last x.ended s.set_up in
     record {
       x_hears = record {
         tags = record {
           rise = h.x_hears.tags.rise.1;
-          of_set_up = behind.x_hears.tags.of_set_up;
-          call_is_current = behind.x_hears.tags.call_is_current;
+          of_set_up = following.x_hears.tags.of_set_up;
+          call_is_current = following.x_hears.tags.call_is_current;
         };
-        one_exchange = behind.x_hears.one_exchange;
-        mates = behind.x_hears.mates;
+        one_exchange = following.x_hears.one_exchange;
+        mates = following.x_hears.mates;
         keeps = record { order = le_refl 0; window = omega arith; given = omega arith; kept = refl };
         numbers = record {
           counts = ap (λ (q : SetUp). length q.got) (sym last);
-          acks = behind.x_hears.numbers.acks;
-          infos = behind.x_hears.numbers.infos;
-          sent = behind.x_hears.numbers.sent;
+          acks = following.x_hears.numbers.acks;
+          infos = following.x_hears.numbers.infos;
+          sent = following.x_hears.numbers.sent;
         };
         packets = record {
-          carries = behind.x_hears.packets.carries;
-          stored = behind.x_hears.packets.stored;
-          prefixes = each_pushed _ x.ended s.set_up behind.x_hears.packets.prefixes refl;
+          carries = following.x_hears.packets.carries;
+          stored = following.x_hears.packets.stored;
+          prefixes = each_pushed _ x.ended s.set_up following.x_hears.packets.prefixes refl;
           origins = origins_pushed x.ended s.set_up (no_origin_above x.ended s.set_up refl)
-              behind.x_hears.packets.origins;
+              following.x_hears.packets.origins;
           own = subst (λ (q : SetUp). IfSome q.origin (λ o. o ≡ tag)) (sym last) tt;
-          earlier = behind.x_hears.packets.earlier;
+          earlier = following.x_hears.packets.earlier;
         };
         moduli = record {
-          window = behind.x_hears.moduli.window;
+          window = following.x_hears.moduli.window;
           own = refl;
-          frames = behind.x_hears.moduli.frames;
-          calls = behind.x_hears.moduli.calls;
-          same = behind.x_hears.moduli.same;
-          mate = behind.x_hears.moduli.mate;
-          origins = each_pushed _ x.ended s.set_up behind.x_hears.moduli.origins tt;
+          frames = following.x_hears.moduli.frames;
+          calls = following.x_hears.moduli.calls;
+          same = following.x_hears.moduli.same;
+          mate = following.x_hears.moduli.mate;
+          origins = each_pushed _ x.ended s.set_up following.x_hears.moduli.origins tt;
         };
       };
-      y_hears = hears_answered x tag (omega arith) behind.y_hears;
+      y_hears = hears_answered x tag (omega arith) following.y_hears;
     }

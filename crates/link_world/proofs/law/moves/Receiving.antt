@@ -53,7 +53,7 @@ acks_of_got x {y} {r} s {to_y} h more sent =
     (λ b. AcksRise b.mate b.va to_y (length (got_in zs b.mate)) b.top)
     (λ b c acks.
     let before : r.vr ≡ length (got_in xs b.mate) = got_as_mate x h c.0 in
-    let behind : length (got_in zs b.mate) ≡ r.vr + 1 =
+    let following : length (got_in zs b.mate) ≡ r.vr + 1 =
     ap (λ t. length (got_in zs t)) c.0 ∙ ap (λ (q : SetUp). length q.got) (at_last x.ended s.set_up) ∙ more in
     let high = c.1 in
     acks_higher b.mate b.va (length (got_in xs b.mate)) (length (got_in zs b.mate)) b.top b.top to_y (omega arith)
@@ -153,7 +153,7 @@ accept_front_keeps x {y} {r} {tag} {m} {nr} {packet} {rest} {to_y} h =
     let ys = set_ups y in
     let is : tag ≡ mate = front_of_mate x h in
     let of : of_mate mate f ≡ Some n = of_mate_same f is in
-    let behind : UpInvariant x y r rest to_y = lose_keeps [] f rest h in
+    let following : UpInvariant x y r rest to_y = lose_keeps [] f rest h in
     let next : IsNext x y r packet r.stored rest to_y = record {
       given = ap (λ t. slice_get (given_in ys t) r.vr) (sym is) ∙ h.x_hears.packets.carries.0;
       sent = if_weaker (view y to_y) _ _
@@ -164,7 +164,7 @@ accept_front_keeps x {y} {r} {tag} {m} {nr} {packet} {rest} {to_y} h =
           (omega arith) h.x_hears.numbers.infos.1;
       carried = h.x_hears.packets.stored;
     } in
-    rw (origin_is r.set_up.origin is (own_origin x behind)) (got_keeps next behind)
+    rw (origin_is r.set_up.origin is (own_origin x following)) (got_keeps next following)
 
 held_without :
     {vr : ℕ} (before : List Stored) (s : Stored) (after : List Stored) → s.number ≡ vr
@@ -284,11 +284,11 @@ store_front_keeps x {y} {r} {tag} {m} {ns} {nr} {packet} before after {rest} {to
     let with_it = held_with r.vr before s after in
     let reached = info_next_of reach ns nr packet of in
     let there = ap (λ t. slice_get (given_in ys t) ns) (sym is) ∙ h.x_hears.packets.carries.0 in
-    let behind : UpInvariant x y r rest to_y = lose_keeps [] f rest h in
-    rw (origin_is r.set_up.origin is (own_origin x behind))
+    let following : UpInvariant x y r rest to_y = lose_keeps [] f rest h in
+    rw (origin_is r.set_up.origin is (own_origin x following))
     (stored_keeps x stored (given_opened ys mate ns packet there)
     (if_weaker (view y to_y) _ _ (λ b w. each_inserted _ before s after
     (info_below_of b.top ns nr packet of w.under_way.0) (rw (← is_stored) w.stored)) h.x_hears.numbers.sent)
     (infos_higher mate (info_next reach (of_mate mate f)) (held r.vr stored) r.vr r.vr (y.windows x.modulus) rest
     (omega arith) (le_refl r.vr) h.x_hears.numbers.infos.1) (each_inserted _ before s after there
-    (rw (← is_stored) h.x_hears.packets.stored)) behind)
+    (rw (← is_stored) h.x_hears.packets.stored)) following)

@@ -191,12 +191,12 @@ send_info_keeps x {y} {r} n packet {to_y} low high there h =
           (λ b is. below_as r.top sent (of_mate_same f (sym is)) high) own;
     }) h
 
-pub get_behind : (a n : ℕ) (xs : List Packet) → slice_get (drop a xs) n ≡ slice_get xs (a + n)
-get_behind zero n xs = ap (λ k. slice_get xs k) (omega arith)
-get_behind (suc a) n [] = refl
-get_behind (suc a) n (x ∷ xs) =
+pub get_after : (a n : ℕ) (xs : List Packet) → slice_get (drop a xs) n ≡ slice_get xs (a + n)
+get_after zero n xs = ap (λ k. slice_get xs k) (omega arith)
+get_after (suc a) n [] = refl
+get_after (suc a) n (x ∷ xs) =
     let e : suc a + n ≡ suc (a + n) = omega arith in
-    get_behind a n xs ∙ ap (λ k. slice_get (x ∷ xs) k) (sym e)
+    get_after a n xs ∙ ap (λ k. slice_get (x ∷ xs) k) (sym e)
 
 -- An I frame goes out, the first time or again, with the packet that is kept for its number.
 pub send_kept_keeps :
@@ -208,7 +208,7 @@ send_kept_keeps x {r} n packet low high kept h =
     let window = k.window in
     let given = k.given in
     let place : r.va + (n - r.va) ≡ n = omega arith in
-    let there = ap (λ t. slice_get r.set_up.given t) (sym place) ∙ sym (get_behind r.va (n - r.va) r.set_up.given)
+    let there = ap (λ t. slice_get r.set_up.given t) (sym place) ∙ sym (get_after r.va (n - r.va) r.set_up.given)
     ∙ ap (λ t. slice_get t (n - r.va)) (sym k.kept) ∙ kept in
     let within : n < length r.set_up.given = slice_get_within r.set_up.given n packet there in
     send_info_keeps x n packet low (omega arith) there

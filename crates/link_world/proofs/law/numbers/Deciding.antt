@@ -2,7 +2,7 @@
 use Rattle.link_world.proofs.Common.{◌≡◌, ℕ, ◌+◌, ◌-◌, ◌%◌, ◌<◌, ◌≤◌, List, [], ◌∷◌, Option, Some, length, arith}
 use Rattle.link_world.proofs.Common.{le_trans, subst, inl, inr, cases_lt, ahead, Packet}
 use Rattle.std.proofs.Common.{◌↔◌}
-use Rattle.selective_reject.proofs.Distances.{ahead-at_or_ahead, ahead-behind}
+use Rattle.selective_reject.proofs.Distances.{ahead-at_or_ahead, ahead-following}
 use Rattle.link_world.proofs.law.reduced.Core.{End, Running, Stored, Tagged, Numbered, set_ups, got_in}
 use Rattle.link_world.proofs.law.reduced.Core.Numbered.{Info, Super, Srej}
 use Rattle.link_world.proofs.law.reduced.CoreMoves.{numbered_to}
@@ -95,8 +95,8 @@ ns_by_rej modulus x {y} {r} {ns} fits h =
     decided : (modulus k vr ns : ℕ) → k < modulus → vr ≤ ns + k → ns < vr + k
         → (ahead modulus vr (ns % modulus) ≡ 0) ↔ (ns ≡ vr)
     decided modulus k vr ns fits low high = elim (cases_lt ns vr) [
-      | inl behind ↦
-          let distance = ahead-behind modulus vr ns behind (omega arith) in
+      | inl following ↦
+          let distance = ahead-following modulus vr ns following (omega arith) in
           ((λ e. omega arith), (λ e. omega arith))
       | inr from ↦
           let distance = ahead-at_or_ahead modulus vr ns from (omega arith) in
@@ -120,7 +120,7 @@ ns_by_srej modulus x {y} {r} {ns} own other h =
         → (vr ≤ ns → ahead modulus vr (ns % modulus) ≡ ns - vr) × (ns < vr → own ≤ ahead modulus vr (ns % modulus))
     decided modulus own k vr ns o f low high = (
       (λ from. ahead-at_or_ahead modulus vr ns from (omega arith)),
-      (λ behind.
-          let distance = ahead-behind modulus vr ns behind (omega arith) in
+      (λ following.
+          let distance = ahead-following modulus vr ns following (omega arith) in
           omega arith),
     )

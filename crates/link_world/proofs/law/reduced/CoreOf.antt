@@ -65,8 +65,8 @@ running_of m q = record {
 }
 
 -- an end after some set-ups
-abbrev pub end_behind : Machine → List SetUp → End
-end_behind m ended = record {
+abbrev pub end_following : Machine → List SetUp → End
+end_following m ended = record {
   windows = λ modulus. window_in modulus m.params;
   modulus = m.incoming.modulus;
   window = m.incoming.window;
@@ -75,4 +75,4 @@ end_behind m ended = record {
 }
 
 abbrev pub up_end : Machine → List SetUp → SetUp → End
-up_end m ended q = now (Up (running_of m q)) (end_behind m ended)
+up_end m ended q = now (Up (running_of m q)) (end_following m ended)

@@ -4,14 +4,14 @@ use Rattle.link_world.proofs.Common.{sym, ap, ◌∙◌, subst, fold, All-from_r
 use Rattle.link_world.proofs.Common.{Opened, Given, Ended, Sent, sent_kind, InfoSent, SuperSent, SetupSent, refusal_of}
 use Rattle.link_world.proofs.Common.{Turn, SetUp, change_last, last_changed, giving, getting, acting, Tagged}
 use Rattle.link_world.proofs.Common.{is_numbered, RecordedEnd, Happening, told_of, opening, taking, hearing, noting}
-use Rattle.link_world.proofs.Common.{accepts, behind, Sends, Hears, read_in, XidSent}
+use Rattle.link_world.proofs.Common.{accepts, following, Sends, Hears, read_in, XidSent}
 use Rattle.std.proofs.Common.{All}
 use Rattle.std.specs.List.{AllByRecursion as Each}
 use Rattle.link_machine.specs.declared.state.LinkState.TheVariants.{Idle as IdleState, Calling as CallingState}
 use Rattle.link_machine.specs.declared.state.LinkState.TheVariants.{Up as UpState, Releasing as ReleasingState}
 use Rattle.link_machine.specs.Event.Event.{Send}
 use Rattle.link_world.proofs.law.reduced.Core.{End, Tagged as CoreTagged, between}
-use Rattle.link_world.proofs.law.reduced.CoreOf.{end_behind, up_end}
+use Rattle.link_world.proofs.law.reduced.CoreOf.{end_following, up_end}
 use Rattle.link_world.specs.Origin.{ActedOnOne}
 use Rattle.link_world.proofs.law.Each.{each_weaker, each_pushed, each_before, each_last}
 use Rattle.link_world.proofs.law.invariant.Upward.{front_of_mate}
@@ -49,10 +49,10 @@ told_keeps next qs (Given packet ∷ told) none h = told_keeps next (change_last
 told_keeps next qs (Ended why ∷ told) none h = told_keeps next qs told none h
 
 -- what is told changes nothing of it
-pub acted_behind :
+pub acted_after :
     (h : Happening) (r : RecordedEnd) (turn : Turn) → Each ActedOnMate (noting h r).set_ups
-    → Each ActedOnMate (behind h r turn).set_ups
-acted_behind h r turn acted = told_keeps (opening h (noting h r) turn) (noting h r).set_ups turn.told tt acted
+    → Each ActedOnMate (following h r turn).set_ups
+acted_after h r turn acted = told_keeps (opening h (noting h r) turn) (noting h r).set_ups turn.told tt acted
 
 taking_keeps :
     (state : LinkState) (packet : Packet) (r : RecordedEnd) → Each ActedOnMate r.set_ups
@@ -89,9 +89,9 @@ mate_of_front :
     → Invariant (between (up_end r.machine (core_set_ups ended) (core_set_up last)) y
     (core_tagged (record f { sent = sent }) ∷ rest) to_y) → f.set_up ≡ last.mate
 mate_of_front r ended last f (InfoSent ns nr poll packet) is inv =
-    front_of_mate (end_behind r.machine (core_set_ups ended)) inv
+    front_of_mate (end_following r.machine (core_set_ups ended)) inv
 mate_of_front r ended last f (SuperSent which command nr flag) is inv =
-    front_of_mate (end_behind r.machine (core_set_ups ended)) inv
+    front_of_mate (end_following r.machine (core_set_ups ended)) inv
 mate_of_front r ended last f (SetupSent which flag) is inv = absurd (Rattle.std.proofs.lemmas.Bool.false≢true is)
 mate_of_front r ended last f (XidSent command flag own) is inv =
     absurd (Rattle.std.proofs.lemmas.Bool.false≢true is)

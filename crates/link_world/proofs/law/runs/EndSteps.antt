@@ -24,7 +24,7 @@ use Rattle.link_machine.specs.Requests.{disconnect, disconnect_in, has_link, tak
 use Rattle.link_machine.specs.Frames.{hear, hear_in}
 use Rattle.link_world.proofs.law.reduced.Core.{End, Tagged as CoreTagged, between}
 use Rattle.link_world.proofs.law.reduced.CoreMoves.{sabms}
-use Rattle.link_world.proofs.law.reduced.CoreOf.{end_behind, up_end}
+use Rattle.link_world.proofs.law.reduced.CoreOf.{end_following, up_end}
 use Rattle.link_world.proofs.law.invariant.Upward.{front_modulus}
 use Rattle.link_world.proofs.law.showing.Readings.{IsReadAs, kind_same, read_as}
 use Rattle.link_world.proofs.law.showing.PlacesFit.{IsSound}
@@ -172,9 +172,9 @@ up_hears :
     → Keeps (Hears e) r y rest to_y (settled (hear_up (is_heard_as_command a.path.role e.frame.kind) e.frame.kind
     (begin r.machine)))
 up_hears {r} {ended} a (InfoSent ns nr poll packet) windows u =
-    up_hears_info a ns nr poll packet (front_modulus (end_behind r.machine (core_set_ups ended)) u.holds) windows u
+    up_hears_info a ns nr poll packet (front_modulus (end_following r.machine (core_set_ups ended)) u.holds) windows u
 up_hears {r} {ended} a (SuperSent which command nr flag) windows u =
-    up_hears_super a which command nr flag (front_modulus (end_behind r.machine (core_set_ups ended)) u.holds)
+    up_hears_super a which command nr flag (front_modulus (end_following r.machine (core_set_ups ended)) u.holds)
     windows.own u
 up_hears a (SetupSent SabmFrame flag) windows u = up_hears_call flag u refl (noted_nothing a SabmFrame flag u)
     (inl refl)
@@ -194,9 +194,9 @@ pub kind_of_up :
     → Invariant (between (up_end m (core_set_ups ended) (core_set_up last)) y
     (core_tagged (heard_as a kind sent) ∷ rest) to_y) → kind ≡ sent_kind a.modulus sent
 kind_of_up m ended last kind a (InfoSent ns nr poll packet) read same inv =
-    same (front_modulus (end_behind m (core_set_ups ended)) inv)
+    same (front_modulus (end_following m (core_set_ups ended)) inv)
 kind_of_up m ended last kind a (SuperSent which command nr flag) read same inv =
-    same (front_modulus (end_behind m (core_set_ups ended)) inv)
+    same (front_modulus (end_following m (core_set_ups ended)) inv)
 kind_of_up m ended last kind a (SetupSent which flag) read same inv = read
 kind_of_up m ended last kind a (XidSent command flag own) read same inv = read
 

@@ -7,7 +7,7 @@ use Rattle.link_world.proofs.Common.{Hear, Lose, XidSent}
 use Rattle.std.specs.List.{AllByRecursion as Each}
 use Rattle.link_world.proofs.law.reduced.Core.{End, Tagged as CoreTagged, Numbered, between}
 use Rattle.link_world.proofs.law.reduced.CoreMoves.{numbered_to}
-use Rattle.link_world.proofs.law.reduced.CoreOf.{end_behind, up_end}
+use Rattle.link_world.proofs.law.reduced.CoreOf.{end_following, up_end}
 use Rattle.link_world.specs.Law.{names_valid, read_names_valid, reads_valid}
 use Rattle.link_world.proofs.law.numbers.Deciding.{nr_of, nr_is_named}
 use Rattle.link_world.proofs.law.invariant.Upward.{front_modulus}
@@ -25,7 +25,7 @@ valid_by :
     → Invariant (between (up_end m (core_set_ups ended) (core_set_up last)) y (numbered_to tag k n ∷ rest) to_y)
     → is_valid (nr % k) m ≡ true
 valid_by m ended last {nr} is fits inv =
-    let x = end_behind m (core_set_ups ended) in
+    let x = end_following m (core_set_ups ended) in
     let named_by = nr_is_named m.incoming.modulus x fits inv in
     subst (λ c. is_valid (nr % c) m ≡ true) (sym (front_modulus x inv)) (le-leb _ _ (rw (← is) named_by.0))
 

@@ -16,7 +16,7 @@ use Rattle.link_world.specs.Law.{NumbersAreValid, PrefixLaw}
 use Rattle.link_world.specs.declared.end.End.{End as Name}
 use Rattle.link_world.proofs.law.runs.WorldSteps.{ShowsWorld, shows_mirror}
 use Rattle.link_world.proofs.law.runs.Runs.{run_shows, new_shows, step_shows, fit_mirror}
-use Rattle.link_world.proofs.law.runs.ActedOn.{ActedOnMate, acted_behind, acted_sends, acted_hears, one_source_holds}
+use Rattle.link_world.proofs.law.runs.ActedOn.{ActedOnMate, acted_after, acted_sends, acted_hears, one_source_holds}
 use Rattle.link_world.proofs.law.runs.ValidNumbers.{near_valid}
 use Rattle.link_world.proofs.law.runs.Conclusion.{GotPrefixes, near_got}
 
@@ -40,30 +40,30 @@ hear_acted r (f ∷ rest) far e s h = record { near = go (read_in r.machine.inco
     go None is = h.near
     go (Some frame) is =
         let heard = Hears (record f { frame = frame }) in
-        acted_behind heard r (link_step r.machine (seen heard))
+        acted_after heard r (link_step r.machine (seen heard))
         (acted_hears frame s.near s.near_written.0 is s.holds h.near)
 
 pub near_acted :
     {a b : Params} {w : World} (event : Event) → ShowsWorld a b w → ActedWorld w → ActedWorld (near_step event w)
 near_acted {w} (Connect e) s h = record {
-  near = acted_behind Connects w.a.end (link_step w.a.end.machine (seen Connects)) h.near;
+  near = acted_after Connects w.a.end (link_step w.a.end.machine (seen Connects)) h.near;
   far = h.far;
 }
 near_acted {w} (Send e packet) s h = record {
-  near = acted_behind (Sends packet) w.a.end (link_step w.a.end.machine (seen (Sends packet)))
+  near = acted_after (Sends packet) w.a.end (link_step w.a.end.machine (seen (Sends packet)))
       (acted_sends packet w.a.end h.near);
   far = h.far;
 }
 near_acted {w} (Disconnect e) s h = record {
-  near = acted_behind Disconnects w.a.end (link_step w.a.end.machine (seen Disconnects)) h.near;
+  near = acted_after Disconnects w.a.end (link_step w.a.end.machine (seen Disconnects)) h.near;
   far = h.far;
 }
 near_acted {w} (Tick e waiting) s h = record {
-  near = acted_behind (Ticks waiting) w.a.end (link_step w.a.end.machine (seen (Ticks waiting))) h.near;
+  near = acted_after (Ticks waiting) w.a.end (link_step w.a.end.machine (seen (Ticks waiting))) h.near;
   far = h.far;
 }
 near_acted {w} (Seize e last full) s h = record {
-  near = acted_behind (Seizes last full) w.a.end (link_step w.a.end.machine (seen (Seizes last full))) h.near;
+  near = acted_after (Seizes last full) w.a.end (link_step w.a.end.machine (seen (Seizes last full))) h.near;
   far = h.far;
 }
 near_acted {w} (Hear e) s h = hear_acted w.a.end w.a.towards w.b e s h

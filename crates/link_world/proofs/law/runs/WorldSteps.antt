@@ -4,7 +4,7 @@ use Rattle.link_world.proofs.Common.{◌++◌, map, ◌⊎◌, inl, inr, refl, s
 use Rattle.link_world.proofs.Common.{map-append, Frame, Mode, IsWindow, Params, mode_in, window_in, HasWindows, Sent}
 use Rattle.link_world.proofs.Common.{SentIn}
 use Rattle.link_world.proofs.Common.{sent_kind, InfoSent, SuperSent, SetupSent, Tagged, asks, asks_in, answers_in}
-use Rattle.link_world.proofs.Common.{RecordedEnd, Happening, seen, hears_ask, behind, tagged, Hears, World, read_in}
+use Rattle.link_world.proofs.Common.{RecordedEnd, Happening, seen, hears_ask, following, tagged, Hears, World, read_in}
 use Rattle.link_world.proofs.Common.{is_alone, WindowsFit, AreHalves, IsHalf, XidSent}
 use Rattle.std.proofs.Common.{cond}
 use Rattle.std.specs.List.{AllByRecursion as Each, remove}
@@ -181,7 +181,7 @@ answers_flying (f ∷ fs) h = sum_by-cons (λ (g : Tagged). cond g.answers 1 0) 
 abbrev pub world_after : World → Happening → List Tagged → World
 world_after w h stays =
     let turn = link_step w.a.end.machine (seen h) in
-    let now = behind h w.a.end turn in
+    let now = following h w.a.end turn in
     record {
       a = record { end = now; towards = stays };
       b = record w.b { towards = w.b.towards ++ map (tagged (hears_ask h) now) turn.sent };
@@ -191,7 +191,7 @@ world_after w h stays =
 abbrev pub sent_by : World → Happening → List Tagged
 sent_by w h =
     let turn = link_step w.a.end.machine (seen h) in
-    map (tagged (hears_ask h) (behind h w.a.end turn)) turn.sent
+    map (tagged (hears_ask h) (following h w.a.end turn)) turn.sent
 
 -- a SABM, SABME or DISC goes out alone
 abbrev pub GoesAlone : World → Happening → List Tagged → Type 0
@@ -205,7 +205,7 @@ shows_after :
     → ShowsWorld a b (world_after w h stays)
 shows_after {w} s h {stays} written alone keeps =
     let turn = link_step w.a.end.machine (seen h) in
-    let now = behind h w.a.end turn in
+    let now = following h w.a.end turn in
     let goes : IsAlone (core_flight stays) (core_flight w.b.towards) turn.sent =
     elim (alone_of (asks_in (sent_by w h)) (asks_in w.b.towards + answers_in stays) alone) [
       | inl none ↦ inl (sym (asks_sent (hears_ask h) now turn.sent) ∙ none)

@@ -1,7 +1,7 @@
 -- What an event leaves after.
 use Rattle.link_world.proofs.Common.{refl, [], ◌≡◌, ◌+◌, Bool, false, List, ◌++◌, map, ◌⊎◌, ap, ◌∙◌, sym, subst}
 use Rattle.link_world.proofs.Common.{map-append, fold, Packet, Params, Machine, SentIn, Turn, SetUp, RecordedEnd}
-use Rattle.link_world.proofs.Common.{Happening, tagged, waiting_in, told_of, opening, noting, behind, hears_ask}
+use Rattle.link_world.proofs.Common.{Happening, tagged, waiting_in, told_of, opening, noting, following, hears_ask}
 use Rattle.link_world.proofs.law.Each.{each_append}
 use Rattle.std.specs.List.{AllByRecursion as Each}
 use Rattle.link_world.proofs.law.reduced.Core.{End, Tagged as CoreTagged, between}
@@ -28,24 +28,24 @@ IsAlone to_x to_y sent = (asks (cores_sent false 0 sent) ≡ 0) ⊎ (asks to_y +
 -- What is to be shown of an event: if no SABM, SABME or DISC goes out but alone, what holds still holds.
 pub record Keeps (h : Happening) (r : RecordedEnd) (y : End) (to_x to_y : List CoreTagged) (turn : Turn) : Type 0 where
   pub outcome : IsAlone to_x to_y turn.sent
-      → Outcome y to_x to_y (hears_ask h) r.machine.params (behind h r turn) turn.sent
+      → Outcome y to_x to_y (hears_ask h) r.machine.params (following h r turn) turn.sent
 
 -- an end with its set-ups
 abbrev pub end_with : Machine → List SetUp → List Packet → RecordedEnd
 end_with m set_ups waiting = record { machine = m; set_ups = set_ups; waiting = waiting }
 
 -- the record after an event
-pub outcome_behind :
+pub outcome_after :
     (h : Happening) (r : RecordedEnd) {y : End} {to_x to_y : List CoreTagged} {on_ask : Bool} {p : Params}
     (turn : Turn) {qs : List SetUp} {waiting : List Packet}
     → fold (told_of (opening h (noting h r) turn)) (noting h r).set_ups turn.told ≡ qs
     → waiting_in turn.now.control.state (noting h r).waiting ≡ waiting
     → Outcome y to_x to_y on_ask p (end_with turn.now qs waiting) turn.sent
-    → Outcome y to_x to_y on_ask p (behind h r turn) turn.sent
-outcome_behind h r {y} {to_x} {to_y} {on_ask} {p} turn {qs} {waiting} told waits o =
+    → Outcome y to_x to_y on_ask p (following h r turn) turn.sent
+outcome_after h r {y} {to_x} {to_y} {on_ask} {p} turn {qs} {waiting} told waits o =
     subst (λ e. Outcome y to_x to_y on_ask p e turn.sent) (sym is) o
   where
-    is : behind h r turn ≡ end_with turn.now qs waiting
+    is : following h r turn ≡ end_with turn.now qs waiting
     is = ap (λ t. end_with turn.now t (waiting_in turn.now.control.state (noting h r).waiting)) told
         ∙ ap (end_with turn.now qs) waits
 

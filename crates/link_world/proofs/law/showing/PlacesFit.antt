@@ -22,7 +22,7 @@ first_of_empty : (count : ℕ) → packet_at (replicate count empty_place) 0 ≡
 first_of_empty zero = refl
 first_of_empty (suc count) = refl
 
--- places that are left behind make room for empty ones
+-- places that are left after make room for empty ones
 length_moved :
     (count : ℕ) (ps : List Place) → count ≤ length ps
     → length (drop count ps ++ replicate count empty_place) ≡ length ps
@@ -31,10 +31,10 @@ length_moved count ps le = length-append (drop count ps) (replicate count empty_
     ∙ ap (λ n. n + count) (length-drop count ps) ∙ omega arith
 
 -- after a run the first place is empty
-run_behind :
+run_after :
     (count : ℕ) (ps : List Place) → packet_at (drop (length (run ps)) ps ++ replicate count empty_place) 0 ≡ None
-run_behind count [] = first_of_empty count
-run_behind count (p ∷ ps) = go p.packet refl (run_behind count ps)
+run_after count [] = first_of_empty count
+run_after count (p ∷ ps) = go p.packet refl (run_after count ps)
   where
     go : (o : Option Packet) → p.packet ≡ o
         → packet_at (drop (length (run ps)) ps ++ replicate count empty_place) 0 ≡ None
@@ -54,10 +54,10 @@ rej≢srej : RejMode ≡ SrejMode → ⊥
 rej≢srej e = cc
 
 -- V(R) moves on past a run
-pub fit_behind_run :
+pub fit_after_run :
     {i : Incoming} (packet : Packet) → i.mode ≡ SrejMode → IsFit i
     → IsFit (moved_on (length (packet ∷ run (drop 1 i.places))) i)
-fit_behind_run {i} packet mode f =
+fit_after_run {i} packet mode f =
     let ps : List Place = drop 1 i.places in
     let count : ℕ = length (packet ∷ run ps) in
     let short = short_run ps in
@@ -67,18 +67,18 @@ fit_behind_run {i} packet mode f =
     let one : count ≡ suc (length (run ps)) = refl in
     record {
       places = length_moved count i.places (omega arith) ∙ f.places;
-      first = behind i.places (run_behind count ps);
+      first = following i.places (run_after count ps);
       positive = f.positive;
       in_order = λ rej. absurd (rej≢srej (sym rej ∙ mode));
     }
   where
-    behind : (qs : List Place)
+    following : (qs : List Place)
         → packet_at (drop (length (run (drop 1 qs))) (drop 1 qs) ++ replicate (suc (length (run (drop 1 qs))))
         empty_place) 0 ≡ None
         → packet_at (drop (suc (length (run (drop 1 qs)))) qs ++ replicate (suc (length (run (drop 1 qs))))
         empty_place) 0 ≡ None
-    behind [] h = refl
-    behind (p ∷ qs) h = h
+    following [] h = refl
+    following (p ∷ qs) h = h
 
 moved_empty : (w : ℕ) → 1 ≤ w → drop 1 (replicate w empty_place) ++ replicate 1 empty_place ≡ replicate w empty_place
 moved_empty w positive = ap (λ t. t ++ replicate 1 empty_place) (drop-replicate 1 w empty_place)
@@ -86,8 +86,8 @@ moved_empty w positive = ap (λ t. t ++ replicate 1 empty_place) (drop-replicate
     ∙ ap (λ n. replicate n empty_place) (omega arith)
 
 -- by REJ V(R) moves on by one
-pub fit_behind_one : {i : Incoming} → i.mode ≡ RejMode → IsFit i → IsFit (moved_on 1 i)
-fit_behind_one {i} mode f =
+pub fit_after_one : {i : Incoming} → i.mode ≡ RejMode → IsFit i → IsFit (moved_on 1 i)
+fit_after_one {i} mode f =
     let empty = f.in_order mode in
     let same = ap (λ ps. drop 1 ps ++ replicate 1 empty_place) empty ∙ moved_empty i.window f.positive in
     record {

@@ -1,4 +1,4 @@
--- The packets in places, by their numbers, when a place is filled, asked for or left behind.
+-- The packets in places, by their numbers, when a place is filled, asked for or left after.
 use Rattle.link_world.proofs.Common.{◌≡◌, ℕ, zero, suc, ◌+◌, ◌<◌, ◌≤◌, Bool, true, false, List, [], ◌∷◌, ◌++◌, length}
 use Rattle.link_world.proofs.Common.{drop, replicate, slice_get, Option, Some, None, IfSome, is_some, if◌then◌else◌}
 use Rattle.link_world.proofs.Common.{refl, sym, ap, ◌∙◌, subst, arith, false≢true, not, ◌||◌, Packet, Place}
@@ -16,10 +16,10 @@ pub stored_empty : (n count : ℕ) → stored_from n (replicate count empty_plac
 stored_empty n zero = refl
 stored_empty n (suc count) = stored_empty (n + 1) count
 
-pub stored_behind :
+pub stored_after :
     (n count : ℕ) (ps : List Place) → stored_from n (ps ++ replicate count empty_place) ≡ stored_from n ps
-stored_behind n count [] = stored_empty n count
-stored_behind n count (p ∷ ps) = ap (λ t. stored_before n p.packet t) (stored_behind (n + 1) count ps)
+stored_after n count [] = stored_empty n count
+stored_after n count (p ∷ ps) = ap (λ t. stored_before n p.packet t) (stored_after (n + 1) count ps)
 
 -- nothing is in the first place
 pub stored_first_empty :

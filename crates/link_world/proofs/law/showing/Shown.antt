@@ -12,7 +12,7 @@ use Rattle.link_machine.specs.declared.state.LinkState.TheVariants.{Up as UpStat
 use Rattle.link_world.proofs.law.reduced.Core.{End, SetUp as CoreSetUp, Tagged as CoreTagged}
 use Rattle.link_world.proofs.law.reduced.Core.Standing.{Idle, Calling, Releasing}
 use Rattle.link_world.proofs.law.reduced.CoreMoves.{now}
-use Rattle.link_world.proofs.law.reduced.CoreOf.{core_sent, cores_sent, kind_of, end_behind, up_end}
+use Rattle.link_world.proofs.law.reduced.CoreOf.{core_sent, cores_sent, kind_of, end_following, up_end}
 
 abbrev pub core_set_up : SetUp → CoreSetUp
 core_set_up q = record { given = q.given; got = q.got; modulus = q.modulus; mate = q.mate; origin = q.accepted }
@@ -33,13 +33,13 @@ core_flight fs = map core_tagged fs
 -- by its state
 pub data Shown (r : RecordedEnd) : End → Type 0 where
   ShownIdle : r.machine.control.state ≡ IdleState → r.machine.outgoing.packets ≡ [] → r.waiting ≡ []
-      → Shown r (now Idle (end_behind r.machine (core_set_ups r.set_ups)))
+      → Shown r (now Idle (end_following r.machine (core_set_ups r.set_ups)))
   ShownCalling : r.machine.control.state ≡ CallingState → r.waiting ≡ r.machine.outgoing.packets
-      → Shown r (now (Calling r.machine.outgoing.packets) (end_behind r.machine (core_set_ups r.set_ups)))
+      → Shown r (now (Calling r.machine.outgoing.packets) (end_following r.machine (core_set_ups r.set_ups)))
   ShownUp : (ended : List SetUp) (last : SetUp) → r.set_ups ≡ ended ++ last ∷ [] → r.machine.control.state ≡ UpState
       → r.waiting ≡ [] → Shown r (up_end r.machine (core_set_ups ended) (core_set_up last))
   ShownReleasing : r.machine.control.state ≡ ReleasingState → r.machine.outgoing.packets ≡ [] → r.waiting ≡ []
-      → Shown r (now Releasing (end_behind r.machine (core_set_ups r.set_ups)))
+      → Shown r (now Releasing (end_following r.machine (core_set_ups r.set_ups)))
 
 -- UA answers, DM may, and no other frame does
 abbrev pub AnswersAsSent : Bool → Sent → Type 0

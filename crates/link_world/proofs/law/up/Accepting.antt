@@ -6,57 +6,57 @@ use Rattle.selective_reject.specs.declared.window.Mode.TheVariants.{Rej as RejMo
 use Rattle.link_world.proofs.law.reduced.Core.{Stored, Tagged, between}
 use Rattle.link_world.proofs.law.reduced.Core.Numbered.{Info}
 use Rattle.link_world.proofs.law.reduced.CoreMoves.{numbered_to, first_origin, storing}
-use Rattle.link_world.proofs.law.reduced.CoreOf.{cores_sent, running_of, end_behind, up_end}
+use Rattle.link_world.proofs.law.reduced.CoreOf.{cores_sent, running_of, end_following, up_end}
 use Rattle.link_world.proofs.law.moves.UpSending.{UpInvariant}
 use Rattle.link_world.proofs.law.moves.Receiving.{store_front_keeps}
 use Rattle.link_world.proofs.law.showing.PlacesStored.{IsPlaced, place_filled}
-use Rattle.link_world.proofs.law.showing.PlacesFit.{IsFit, fit_behind_run, fit_behind_one, fit_with, sound_same}
+use Rattle.link_world.proofs.law.showing.PlacesFit.{IsFit, fit_after_run, fit_after_one, fit_with, sound_same}
 use Rattle.link_world.proofs.law.up.Taking.{got_by, one_taken, run_with_taken}
 use Rattle.link_world.proofs.law.invariant.Invariant.{Invariant}
 use Rattle.link_world.proofs.law.up.Acts.{passed_over}
 use Rattle.link_world.proofs.law.up.Progress.{IsUp, Progress}
 
 -- what has come of the progress once an I frame is heard: packets that were got, and perhaps an origin
-abbrev pub progress_behind : List Packet → Bool → ℕ → Progress → Progress
-progress_behind packets accepts tag g = record g {
+abbrev pub progress_after : List Packet → Bool → ℕ → Progress → Progress
+progress_after packets accepts tag g = record g {
   open_now = got_by packets (if accepts then first_origin g.open_now.origin tag else g.open_now.origin) g.open_now;
   told = g.told ++ map Given packets;
 }
 
 pub record HasHeard (rest : List Tagged) (tag : ℕ) (accepts : Bool) (g : Progress) (turn : Turn) : Type 0 where
   pub packets : List Packet
-  pub up : IsUp rest (progress_behind packets accepts tag g) turn
+  pub up : IsUp rest (progress_after packets accepts tag g) turn
 
 -- nothing is got
 pub heard_nothing :
     {f : Tagged} {rest : List Tagged} {tag : ℕ} {g : Progress} {turn : Turn} → IsUp (f ∷ rest) g turn
     → HasHeard rest tag false g turn
 heard_nothing {g} h =
-    let behind = passed_over h in
+    let following = passed_over h in
     let q = g.open_now in
     record {
       packets = [];
       up = record {
-        state = behind.state;
+        state = following.state;
         so_far = record {
-          told_is = behind.so_far.told_is ∙ sym (append-nil g.told);
-          params_are = behind.so_far.params_are;
-          sound = behind.so_far.sound;
-          modulus_is = behind.so_far.modulus_is;
+          told_is = following.so_far.told_is ∙ sym (append-nil g.told);
+          params_are = following.so_far.params_are;
+          sound = following.so_far.sound;
+          modulus_is = following.so_far.modulus_is;
         };
-        fits = behind.fits;
-        holds = rw (append-nil q.got) behind.holds;
+        fits = following.fits;
+        holds = rw (append-nil q.got) following.holds;
       };
     }
 
 -- what follows keeps it
 pub heard_then :
-    {rest : List Tagged} {tag : ℕ} {accepts : Bool} {g : Progress} {turn behind : Turn}
-    → ((p : Progress) → IsUp rest p turn → IsUp rest p behind)
-    → HasHeard rest tag accepts g turn → HasHeard rest tag accepts g behind
+    {rest : List Tagged} {tag : ℕ} {accepts : Bool} {g : Progress} {turn following : Turn}
+    → ((p : Progress) → IsUp rest p turn → IsUp rest p following)
+    → HasHeard rest tag accepts g turn → HasHeard rest tag accepts g following
 heard_then {tag} {accepts} {g} keeps h = record {
   packets = h.packets;
-  up = keeps (progress_behind h.packets accepts tag g) h.up;
+  up = keeps (progress_after h.packets accepts tag g) h.up;
 }
 
 -- V(R) moves on past packets that are given
@@ -90,7 +90,7 @@ sequence_heard {tag} {c} {nr} {packet} {rest} {g} {turn} mode fit is h =
     let front = subst (λ n. Invariant (between (up_end turn.now g.ended g.open_now) g.partner
     (numbered_to tag c (Info n nr packet) ∷ rest) (g.before ++ cores_sent g.answers (length g.ended) turn.sent))) is
     h.holds in
-    given_to (packet ∷ []) h (fit_behind_one mode fit) (one_taken turn.now g.ended g.open_now fit.first front)
+    given_to (packet ∷ []) h (fit_after_one mode fit) (one_taken turn.now g.ended g.open_now fit.first front)
 
 -- by SREJ: the next in sequence, and those stored that follow it
 pub run_heard :
@@ -102,7 +102,7 @@ run_heard {tag} {c} {nr} {packet} {rest} {g} {turn} mode fit is h =
     let front = subst (λ n. Invariant (between (up_end turn.now g.ended g.open_now) g.partner
     (numbered_to tag c (Info n nr packet) ∷ rest) (g.before ++ cores_sent g.answers (length g.ended) turn.sent))) is
     h.holds in
-    given_to (run_with packet turn.now) h (fit_behind_run packet mode fit)
+    given_to (run_with packet turn.now) h (fit_after_run packet mode fit)
     (run_with_taken turn.now g.ended g.open_now fit.first front)
 
 -- by SREJ: a packet that comes before its turn is stored
@@ -115,7 +115,7 @@ pub stored_heard :
 stored_heard {tag} {packet} {rest} {g} {turn} k mode fit is some within empty h =
     let m = turn.now in
     let i = m.incoming in
-    let x = end_behind m g.ended in
+    let x = end_following m g.ended in
     let q = g.open_now in
     let r = running_of m q in
     let under_way = g.before ++ cores_sent g.answers (length g.ended) turn.sent in

@@ -7,14 +7,14 @@ use Rattle.link_world.proofs.law.Each.{each_pushed}
 use Rattle.selective_reject.specs.Again.{with_number}
 use Rattle.selective_reject.specs.Outgoing.{asked_again, back, first_again}
 use Rattle.link_machine.specs.Turn.{sending}
-use Rattle.link_machine.specs.Acts.{answering, behind_poll, nothing_asked, picked_out, picking, timed_anew, timed_by}
+use Rattle.link_machine.specs.Acts.{answering, after_poll, nothing_asked, picked_out, picking, timed_anew, timed_by}
 use Rattle.link_machine.specs.Acts.{unretried}
 use Rattle.link_machine.specs.Acts.{unpicked}
 use Rattle.link_world.proofs.law.reduced.Core.{Tagged, Numbered}
 use Rattle.link_world.proofs.law.reduced.Core.Numbered.{Super}
 use Rattle.link_world.proofs.law.reduced.Core.Kind.{IsNumbered}
 use Rattle.link_world.proofs.law.reduced.CoreMoves.{of_end, numbered_to, Acknowledges}
-use Rattle.link_world.proofs.law.reduced.CoreOf.{super_of, cores_sent, running_of, end_behind}
+use Rattle.link_world.proofs.law.reduced.CoreOf.{super_of, cores_sent, running_of, end_following}
 use Rattle.link_world.proofs.law.moves.Losing.{lose_keeps}
 use Rattle.link_world.proofs.law.invariant.Upward.{set_vs_keeps, ack_front_keeps}
 use Rattle.link_world.proofs.law.moves.UpSending.{UpInvariant, send_super_keeps}
@@ -36,7 +36,7 @@ pub sending_super_keeps :
     → IsUp to_x g turn → IsUp to_x g (sending (SuperSent which command turn.now.incoming.vr flag) turn)
 sending_super_keeps which command flag is {to_x} {g} {turn} h =
     let m = turn.now in
-    let x = end_behind m g.ended in
+    let x = end_following m g.ended in
     let r = running_of m g.open_now in
     let tag : ℕ = length g.ended in
     let s : SentIn = sent_in m.incoming.modulus (SuperSent which command m.incoming.vr flag) in
@@ -86,7 +86,7 @@ back_by false {g} {turn} h = record {
   so_far = h.so_far;
   fits = h.fits;
   holds =
-      set_vs_keeps (end_behind turn.now g.ended) turn.now.outgoing.va (le_refl turn.now.outgoing.va) h.holds;
+      set_vs_keeps (end_following turn.now g.ended) turn.now.outgoing.va (le_refl turn.now.outgoing.va) h.holds;
 }
 
 pub gone_back_keeps :
@@ -109,7 +109,7 @@ nothing_asked_keeps {to_x} {g} {turn} h =
         modulus_is = h.so_far.modulus_is;
       };
       fits = h.fits;
-      holds = subst (λ ss. UpInvariant (end_behind m g.ended) g.partner
+      holds = subst (λ ss. UpInvariant (end_following m g.ended) g.partner
           (record (running_of m g.open_now) { stored = ss }) to_x
           (g.before ++ cores_sent g.answers (length g.ended) turn.sent)) (sym (stored_unasked i.vr i.places)) h.holds;
     }
@@ -126,8 +126,8 @@ pub state_by :
 state_by true c d e one other = one
 state_by false c d e one other = other
 
-behind_poll_state : (retries : ℕ) (c : Control) → (behind_poll retries c).state ≡ c.state
-behind_poll_state retries c = state_by c.busy c _ _ refl refl
+after_poll_state : (retries : ℕ) (c : Control) → (after_poll retries c).state ≡ c.state
+after_poll_state retries c = state_by c.busy c _ _ refl refl
 
 timed_anew_state : (all : Bool) (c : Control) → (timed_anew all c).state ≡ c.state
 timed_anew_state true c = refl
@@ -149,7 +149,7 @@ pub recover_with_keeps :
     (retries : ℕ) {to_x : List Tagged} {g : Progress} {turn : Turn} → IsUp to_x g turn
     → IsUp to_x g (recover_with retries turn)
 recover_with_keeps retries h =
-    gone_back_keeps (setting_keeps (behind_poll retries) (λ c. behind_poll_state retries c) h)
+    gone_back_keeps (setting_keeps (after_poll retries) (λ c. after_poll_state retries c) h)
 
 pub recover_keeps :
     (answers : Bool) {to_x : List Tagged} {g : Progress} {turn : Turn}
@@ -168,7 +168,7 @@ acknowledged_keeps nr is {g} {turn} h =
       state = timed_by_state (nat_lt m.outgoing.va nr) (nr == m.outgoing.top) m.control ∙ h.state;
       so_far = h.so_far;
       fits = h.fits;
-      holds = ack_front_keeps (end_behind m g.ended) nr is h.holds;
+      holds = ack_front_keeps (end_following m g.ended) nr is h.holds;
     }
 
 -- the front frame is passed over

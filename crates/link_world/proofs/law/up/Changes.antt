@@ -10,7 +10,7 @@ use Rattle.link_world.proofs.law.reduced.Core.{End, Tagged as CoreTagged, betwee
 use Rattle.link_world.proofs.law.reduced.Core.Kind.{Ua}
 use Rattle.link_world.proofs.law.reduced.Core.Standing.{Idle}
 use Rattle.link_world.proofs.law.reduced.CoreMoves.{now, of_end}
-use Rattle.link_world.proofs.law.reduced.CoreOf.{end_behind, up_end}
+use Rattle.link_world.proofs.law.reduced.CoreOf.{end_following, up_end}
 use Rattle.link_world.proofs.law.showing.PlacesFit.{sound_new}
 use Rattle.link_world.proofs.law.moves.Losing.{lose_keeps}
 use Rattle.link_world.proofs.law.moves.Standings.{leave_to_idle_keeps}
@@ -46,9 +46,9 @@ left_end :
     {r : RecordedEnd} {ended : List SetUp} {last : SetUp} {y : End} {was to_x to_y : List CoreTagged}
     → UpEnd r ended last y was to_y
     → Invariant (between (up_end r.machine (core_set_ups ended) (core_set_up last)) y to_x to_y)
-    → Invariant (between (now Idle (end_behind (narrowed r.machine) (core_set_ups r.set_ups))) y to_x to_y)
+    → Invariant (between (now Idle (end_following (narrowed r.machine) (core_set_ups r.set_ups))) y to_x to_y)
 left_end {r} {ended} {last} {y} {to_x} {to_y} u h =
-    subst (λ qs. Invariant (between (now Idle (end_behind (narrowed r.machine) qs)) y to_x to_y))
+    subst (λ qs. Invariant (between (now Idle (end_following (narrowed r.machine) qs)) y to_x to_y))
     (sym (ap core_set_ups u.set_ups ∙ all_of_last ended last)) (leave_to_idle_keeps 8 h)
 
 -- a DM ends the set-up
@@ -60,7 +60,7 @@ pub up_hears_dm :
     (begin r.machine)))
 up_hears_dm {r} a flag {y} {rest} {to_y} u =
     let f = heard_frame a (SetupSent DmFrame flag) in
-    let x = now Idle (end_behind (narrowed r.machine) (core_set_ups r.set_ups)) in
+    let x = now Idle (end_following (narrowed r.machine) (core_set_ups r.set_ups)) in
     let ends : EndsDown (Hears f) r (settled (end_by_dm (begin r.machine))) IdleState r.set_ups [] = record {
       state_is = refl;
       down = refl;
@@ -83,7 +83,7 @@ pub up_hears_disc :
 up_hears_disc {r} a flag u =
     let f = heard_frame a (SetupSent DiscFrame flag) in
     let turn = settled (end_by_disc flag (begin r.machine)) in
-    let x = end_behind (narrowed r.machine) (core_set_ups r.set_ups) in
+    let x = end_following (narrowed r.machine) (core_set_ups r.set_ups) in
     let ends : EndsDown (Hears f) r turn IdleState r.set_ups (of_end x Ua ∷ []) = record {
       state_is = refl;
       down = refl;

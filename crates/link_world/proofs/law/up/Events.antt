@@ -14,7 +14,7 @@ use Rattle.link_machine.specs.Machine.{unquit}
 use Rattle.link_machine.specs.Requests.{give_up, quit_up}
 use Rattle.link_world.proofs.law.reduced.Core.{End, Tagged as CoreTagged, between}
 use Rattle.link_world.proofs.law.reduced.CoreMoves.{first_origin}
-use Rattle.link_world.proofs.law.reduced.CoreOf.{end_behind, up_end}
+use Rattle.link_world.proofs.law.reduced.CoreOf.{end_following, up_end}
 use Rattle.link_world.specs.SetUps.{first_of}
 use Rattle.link_world.proofs.law.showing.PlacesFit.{IsSound}
 use Rattle.link_world.proofs.law.moves.Standings.{give_up_keeps}
@@ -74,7 +74,7 @@ up_sends {r} {ended} {last} packet {y} {to_x} {to_y} u taken =
       state = u.state;
       so_far = record { told_is = refl; params_are = refl; sound = u.sound; modulus_is = refl };
       fits = tt;
-      holds = give_up_keeps (end_behind r.machine (core_set_ups ended)) packet (up_begins u).holds;
+      holds = give_up_keeps (end_following r.machine (core_set_ups ended)) packet (up_begins u).holds;
     } in
     up_ends ends up
 

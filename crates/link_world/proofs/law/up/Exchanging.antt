@@ -17,7 +17,7 @@ use Rattle.link_world.proofs.law.moves.Losing.{lose_keeps}
 use Rattle.link_world.proofs.law.moves.Kept.{send_dm_keeps}
 use Rattle.link_world.proofs.law.showing.Shown.{core_flight, core_set_up, core_set_ups, core_tagged}
 use Rattle.link_world.proofs.law.showing.Shown.Shown.{ShownUp}
-use Rattle.link_world.proofs.law.showing.Outcome.{Keeps, Outcome, end_with, outcome_behind}
+use Rattle.link_world.proofs.law.showing.Outcome.{Keeps, Outcome, end_with, outcome_after}
 use Rattle.link_world.proofs.law.showing.Heard.{Arrival, heard_frame}
 use Rattle.link_world.proofs.law.down.Ends.{goes_on}
 use Rattle.link_world.proofs.law.up.Acts.{choice_keeps, passed_over, setting_keeps}
@@ -72,7 +72,7 @@ up_exchanges {h} {r} {ended} {last} {y} {was} {to_x} {to_y} c command flag own u
 
     kept : Keeps h r y to_x to_y turn
     kept = record {
-      outcome = λ alone. outcome_behind h r turn (ap (λ (e : RecordedEnd). e.set_ups) noted ∙ u.set_ups)
+      outcome = λ alone. outcome_after h r turn (ap (λ (e : RecordedEnd). e.set_ups) noted ∙ u.set_ups)
           (ap (λ s. waiting_in s (noting h r).waiting) state)
           (subst (λ b. Outcome y to_x to_y b r.machine.params after turn.sent) (sym no_ask) outcome);
     }

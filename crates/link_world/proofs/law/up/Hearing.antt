@@ -10,7 +10,7 @@ use Rattle.link_machine.specs.Frames.{hear_supervisory, heard_busy, acknowledged
 use Rattle.link_world.proofs.law.reduced.Core.{Tagged, Numbered}
 use Rattle.link_world.proofs.law.reduced.Core.Numbered.{Super}
 use Rattle.link_world.proofs.law.reduced.CoreMoves.{numbered_to}
-use Rattle.link_world.proofs.law.reduced.CoreOf.{super_of, end_behind}
+use Rattle.link_world.proofs.law.reduced.CoreOf.{super_of, end_following}
 use Rattle.link_world.proofs.law.numbers.Deciding.{nr_of, nr_is_named}
 use Rattle.link_world.proofs.law.up.Acts.{setting_keeps, again_keeps, picked_keeps, gone_back_keeps}
 use Rattle.link_world.proofs.law.up.Acts.{acknowledged_keeps, polled_keeps, recover_keeps, passed_over}
@@ -73,7 +73,7 @@ pub nr_is_read :
     → IsRead turn.now nr
 nr_is_read {g} {turn} is fits h =
     let m = turn.now in
-    let x = end_behind m g.ended in
+    let x = end_following m g.ended in
     let named_by = subst (λ t. (ahead m.incoming.modulus m.outgoing.va (t % m.incoming.modulus) ≤ m.outgoing.top -
     m.outgoing.va) × (m.outgoing.va + ahead m.incoming.modulus m.outgoing.va (t % m.incoming.modulus) ≡ t)) is
     (nr_is_named m.incoming.modulus x fits h.holds) in

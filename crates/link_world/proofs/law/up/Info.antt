@@ -14,7 +14,7 @@ use Rattle.link_machine.specs.Frames.{lies_ahead, out_of_sequence, take_in_seque
 use Rattle.link_world.proofs.law.reduced.Core.{End, Tagged}
 use Rattle.link_world.proofs.law.reduced.Core.Numbered.{Info}
 use Rattle.link_world.proofs.law.reduced.CoreMoves.{numbered_to}
-use Rattle.link_world.proofs.law.reduced.CoreOf.{end_behind}
+use Rattle.link_world.proofs.law.reduced.CoreOf.{end_following}
 use Rattle.link_world.proofs.law.numbers.Deciding.{ns_by_rej, ns_by_srej}
 use Rattle.link_world.proofs.law.showing.PlacesFit.{IsFit}
 use Rattle.link_world.proofs.law.up.Acts.{setting_keeps, acknowledged_keeps, polled_keeps, state_by}
@@ -58,7 +58,7 @@ by_rej_heard {tag} {c} {ns} {nr} {packet} {rest} {g} {turn} windows mode h = go 
     go : (b : Bool) → (distance == 0) ≡ b → HasHeard rest tag b g
         (if b then take_in_sequence packet turn else setting (out_of_sequence is_ahead) turn)
     go true is =
-        let named_by = ns_by_rej i.modulus (end_behind turn.now g.ended) windows.sender h.holds in
+        let named_by = ns_by_rej i.modulus (end_following turn.now g.ended) windows.sender h.holds in
         then_owing (heard_then (λ p up. setting_keeps (with_rej false) (λ c. refl) up)
         (sequence_heard mode h.so_far.sound.fit (named_by.0 (eqb-true distance 0 is)) h))
     go false is = heard_nothing (setting_keeps (out_of_sequence is_ahead) (λ c. state_by is_ahead c (with_rej true c)
@@ -87,7 +87,7 @@ by_srej_heard {tag} {c} {ns} {nr} {packet} {rest} {g} {turn} windows mode h = go
     fits = nat_lt k i.window && not (is_full i.places k)
 
     named_by : (i.vr ≤ ns → k ≡ ns - i.vr) × (ns < i.vr → i.window ≤ k)
-    named_by = ns_by_srej i.modulus (end_behind turn.now g.ended) (windows.halves mode).0 (windows.halves mode).1
+    named_by = ns_by_srej i.modulus (end_following turn.now g.ended) (windows.halves mode).0 (windows.halves mode).1
         h.holds
 
     in_window : k < i.window → ns ≡ i.vr + k

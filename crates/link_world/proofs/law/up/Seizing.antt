@@ -21,7 +21,7 @@ use Rattle.link_machine.specs.declared.state.LinkState.TheVariants.{Up}
 use Rattle.link_world.proofs.law.Each.{each_append, each_pushed}
 use Rattle.link_world.proofs.law.reduced.Core.{Tagged}
 use Rattle.link_world.proofs.law.reduced.CoreMoves.{sending_from, sent_number}
-use Rattle.link_world.proofs.law.reduced.CoreOf.{cores_sent, end_behind, running_of}
+use Rattle.link_world.proofs.law.reduced.CoreOf.{cores_sent, end_following, running_of}
 use Rattle.link_world.proofs.law.invariant.Invariant.{Keeps}
 use Rattle.link_world.proofs.law.invariant.Upward.{set_vs_keeps}
 use Rattle.link_world.proofs.law.moves.UpSending.{UpInvariant, send_kept_keeps, send_srej_keeps}
@@ -37,12 +37,12 @@ kept_goes_out :
     {to_x : List Tagged} {g : Progress} {turn : Turn} (poll : Bool) (ahead : ℕ) (p : Packet)
     → slice_get turn.now.outgoing.packets ahead ≡ Some p → ahead < turn.now.incoming.window → IsUp to_x g turn
     → let m = turn.now in let r = running_of m g.open_now in
-    UpInvariant (end_behind m g.ended) g.partner (sent_number (r.va + ahead) r) to_x
+    UpInvariant (end_following m g.ended) g.partner (sent_number (r.va + ahead) r) to_x
     (g.before ++ cores_sent g.answers (length g.ended)
     (turn.sent ++ sent_in m.incoming.modulus (InfoSent (r.va + ahead) r.vr poll p) ∷ []))
 kept_goes_out {to_x} {g} {turn} poll ahead p is below h =
     let m = turn.now in
-    let x = end_behind m g.ended in
+    let x = end_following m g.ended in
     let r = running_of m g.open_now in
     let n : ℕ = r.va + ahead in
     let place : n - r.va ≡ ahead = omega arith in
@@ -67,12 +67,12 @@ repeat_goes_out {to_x} {g} {turn} poll ahead again None is high h = record {
   state = h.state;
   so_far = h.so_far;
   fits = each_append _ turn.sent [] h.fits tt;
-  holds = subst (λ s. UpInvariant (end_behind turn.now g.ended) g.partner (running_of turn.now g.open_now) to_x
+  holds = subst (λ s. UpInvariant (end_following turn.now g.ended) g.partner (running_of turn.now g.open_now) to_x
       (g.before ++ cores_sent g.answers (length g.ended) s)) (sym (append-nil turn.sent)) h.holds;
 }
 repeat_goes_out {to_x} {g} {turn} poll ahead again (Some p) is high h =
     let m = turn.now in
-    let x = end_behind m g.ended in
+    let x = end_following m g.ended in
     let r = running_of m g.open_now in
     let k : Keeps r x.window = h.holds.x_hears.keeps in
     let window = k.window in
@@ -98,7 +98,7 @@ next_goes_out {turn} poll None is low h =
     absurd (none_next turn.now.outgoing.packets (turn.now.outgoing.vs - turn.now.outgoing.va) (omega (arith, low)) is)
 next_goes_out {to_x} {g} {turn} poll (Some p) is low h =
     let m = turn.now in
-    let x = end_behind m g.ended in
+    let x = end_following m g.ended in
     let r = running_of m g.open_now in
     let k : Keeps r x.window = h.holds.x_hears.keeps in
     let order = k.order in
@@ -173,7 +173,7 @@ srej_goes_out :
 srej_goes_out {to_x} {g} {turn} ahead is h =
     let m = turn.now in
     let i = m.incoming in
-    let x = end_behind m g.ended in
+    let x = end_following m g.ended in
     let r = running_of m g.open_now in
     let low : IsBelowOne i.vr ahead i.places = missing_before i.vr i.places is in
     let frame = sent_in i.modulus (SuperSent SrejFrame false (i.vr + ahead) false) in
@@ -203,7 +203,7 @@ asked_keeps {to_x} {g} {turn} ahead is h =
         modulus_is = h.so_far.modulus_is;
       };
       fits = h.fits;
-      holds = subst (λ ss. UpInvariant (end_behind m g.ended) g.partner
+      holds = subst (λ ss. UpInvariant (end_following m g.ended) g.partner
           (record (running_of m g.open_now) { stored = ss }) to_x
           (g.before ++ cores_sent g.answers (length g.ended) turn.sent))
           (sym (stored_with_asked i.vr ahead i.places)) h.holds;

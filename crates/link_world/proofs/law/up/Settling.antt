@@ -16,7 +16,7 @@ use Rattle.link_world.proofs.law.reduced.Core.{End, Tagged as CoreTagged, betwee
 use Rattle.link_world.proofs.law.reduced.Core.Kind.{Disc}
 use Rattle.link_world.proofs.law.reduced.Core.Standing.{Releasing}
 use Rattle.link_world.proofs.law.reduced.CoreMoves.{now, of_end, asks, answers, ask_of}
-use Rattle.link_world.proofs.law.reduced.CoreOf.{core_sent, cores_sent, kind_of, end_behind, up_end}
+use Rattle.link_world.proofs.law.reduced.CoreOf.{core_sent, cores_sent, kind_of, end_following, up_end}
 use Rattle.link_world.proofs.law.invariant.Exchanges.{asks_append}
 use Rattle.link_world.proofs.law.moves.Standings.{leave_to_releasing_keeps}
 use Rattle.link_world.proofs.law.moves.Kept.{release_keeps}
@@ -26,7 +26,7 @@ use Rattle.link_world.proofs.law.showing.Shown.{core_set_up, core_set_ups, core_
 use Rattle.link_world.proofs.law.showing.Shown.{kind_by}
 use Rattle.link_world.proofs.law.showing.Shown.Shown.{ShownUp}
 use Rattle.link_machine.specs.declared.state.LinkState.TheVariants.{Releasing as ReleasingState}
-use Rattle.link_world.proofs.law.showing.Outcome.{Outcome, IsAlone, Keeps, IsSentAs, end_with, outcome_behind}
+use Rattle.link_world.proofs.law.showing.Outcome.{Outcome, IsAlone, Keeps, IsSentAs, end_with, outcome_after}
 use Rattle.link_world.proofs.law.showing.Outcome.{sent_after}
 use Rattle.link_world.proofs.law.down.Ends.{EndsDown, down_end, down_keeps, setup_sent}
 
@@ -161,7 +161,7 @@ stays_up {h} {r} {y} {to_x} {to_y} {ended} {last} {turn} e up =
       written = sent.written;
     } in
     record {
-      outcome = λ alone. outcome_behind h r turn (set_ups_after e up)
+      outcome = λ alone. outcome_after h r turn (set_ups_after e up)
           (ap (λ s. waiting_in s (noting h r).waiting) up.state)
           (subst (λ b. Outcome y to_x to_y b r.machine.params after turn.sent) (sym e.no_ask) outcome);
     }
@@ -215,7 +215,7 @@ releases {h} {r} {y} {to_x} {to_y} {ended} {last} {turn} c o e none up =
     let asked : asks under_way ≡ asks to_y = asks_append to_y (cores_sent false n turn.sent)
     ∙ ap (λ a. asks to_y + a) (numbered_asks false n turn.sent up.fits) ∙ omega arith in
     let left : Invariant (between x y to_x under_way) =
-    subst (λ qs. Invariant (between (now Releasing (end_behind m qs)) y to_x under_way))
+    subst (λ qs. Invariant (between (now Releasing (end_following m qs)) y to_x under_way))
     (sym (all_of_last ended last)) (leave_to_releasing_keeps up.holds) in
     subst (λ fs. Invariant (between x y to_x fs))
     (append_assoc to_y (cores_sent false n turn.sent) (of_end x Disc ∷ [])) (release_keeps (omega arith) left))

@@ -6,8 +6,8 @@ use Rattle.link_machine.specs.Acts.{run}
 use Rattle.link_world.proofs.law.reduced.Core.{End, Running, SetUp, Stored, Tagged, between}
 use Rattle.link_world.proofs.law.reduced.Core.Numbered.{Info}
 use Rattle.link_world.proofs.law.reduced.CoreMoves.{numbered_to, first_origin}
-use Rattle.link_world.proofs.law.reduced.CoreOf.{stored_before, stored_from, running_of, end_behind, up_end}
-use Rattle.link_world.proofs.law.showing.PlacesStored.{stored_behind, stored_first_empty}
+use Rattle.link_world.proofs.law.reduced.CoreOf.{stored_before, stored_from, running_of, end_following, up_end}
+use Rattle.link_world.proofs.law.showing.PlacesStored.{stored_after, stored_first_empty}
 use Rattle.link_world.proofs.law.moves.UpSending.{UpInvariant}
 use Rattle.link_world.proofs.law.moves.Receiving.{accept_front_keeps, take_stored_keeps}
 use Rattle.link_world.proofs.law.invariant.Invariant.{Invariant}
@@ -70,11 +70,11 @@ pub next_taken :
     {y : End} (m : Machine) (ended : List SetUp) (q : SetUp) {tag k nr : ℕ} {packet : Packet} {rest to_y : List Tagged}
     → packet_at m.incoming.places 0 ≡ None
     → Invariant (between (up_end m ended q) y (numbered_to tag k (Info m.incoming.vr nr packet) ∷ rest) to_y)
-    → UpInvariant (end_behind m ended) y
+    → UpInvariant (end_following m ended) y
     (got_so_far (m.incoming.vr + 1) (stored_from (m.incoming.vr + 1) (drop 1 m.incoming.places))
     (got_by (packet ∷ []) (first_origin q.origin tag) q) (running_of m q)) rest to_y
 next_taken m ended q none h = rw (stored_first_empty m.incoming.vr m.incoming.places none)
-    (accept_front_keeps (end_behind m ended) h)
+    (accept_front_keeps (end_following m ended) h)
 
 -- so by REJ, if V(R) moves on by one
 pub one_taken :
@@ -85,7 +85,7 @@ pub one_taken :
     (got_by (packet ∷ []) (first_origin q.origin tag) q)) y rest to_y)
 one_taken m ended q none h =
     let i = m.incoming in
-    rw (stored_behind (i.vr + 1) 1 (drop 1 i.places)) (next_taken m ended q none h)
+    rw (stored_after (i.vr + 1) 1 (drop 1 i.places)) (next_taken m ended q none h)
 
 -- and by SREJ, if V(R) moves on past those stored that follow
 pub run_with_taken :
@@ -98,18 +98,18 @@ run_with_taken {y} m ended q {tag} {k} {packet} {rest} {to_y} none h =
     let i = m.incoming in
     let more : List Packet = run (drop 1 i.places) in
     let q1 = got_by (packet ∷ []) (first_origin q.origin tag) q in
-    let all = run_taken (end_behind m ended) (running_of m q) (i.vr + 1) q1 (drop 1 i.places)
+    let all = run_taken (end_following m ended) (running_of m q) (i.vr + 1) q1 (drop 1 i.places)
     (first_is_some q.origin tag) (next_taken m ended q none h) in
     let further : i.vr + 1 + length more ≡ i.vr + length (packet ∷ more) = omega arith in
-    let behind : 1 + length more ≡ length (packet ∷ more) = omega arith in
-    let places = drop-drop (length more) 1 i.places ∙ ap (λ n. drop n i.places) behind in
+    let following : 1 + length more ≡ length (packet ∷ more) = omega arith in
+    let places = drop-drop (length more) 1 i.places ∙ ap (λ n. drop n i.places) following in
     let got = append_assoc q.got (packet ∷ []) more in
-    let P : ℕ → List Stored → List Packet → Type 0 = λ n ss g. UpInvariant (end_behind m ended) y
+    let P : ℕ → List Stored → List Packet → Type 0 = λ n ss g. UpInvariant (end_following m ended) y
     (got_so_far n ss (record q { got = g; origin = first_origin q.origin tag }) (running_of m q)) rest to_y in
     let n = i.vr + length (packet ∷ more) in
     let last = subst (λ g. P n (stored_from n (drop (length more) (drop 1 i.places))) g) got
     (subst (λ k. P k (stored_from k (drop (length more) (drop 1 i.places))) ((q.got ++ packet ∷ []) ++ more))
     further all) in
     subst (λ ss. P n ss (q.got ++ packet ∷ more))
-    (ap (stored_from n) places ∙ sym (stored_behind n (length (packet ∷ more))
+    (ap (stored_from n) places ∙ sym (stored_after n (length (packet ∷ more))
     (drop (length (packet ∷ more)) i.places))) last

@@ -17,7 +17,7 @@ use Rattle.link_world.proofs.law.reduced.Core.{End, Tagged as CoreTagged, betwee
 use Rattle.link_world.proofs.law.reduced.Core.Kind.{Dm}
 use Rattle.link_world.proofs.law.reduced.Core.Standing.{Idle}
 use Rattle.link_world.proofs.law.reduced.CoreMoves.{now, of_end}
-use Rattle.link_world.proofs.law.reduced.CoreOf.{cores_sent, end_behind}
+use Rattle.link_world.proofs.law.reduced.CoreOf.{cores_sent, end_following}
 use Rattle.link_world.proofs.law.showing.PlacesFit.{IsSound, sound_new}
 use Rattle.link_world.proofs.law.moves.Standings.{leave_to_idle_keeps}
 use Rattle.link_world.proofs.law.moves.Kept.{send_dm_keeps}
@@ -100,7 +100,7 @@ spent_outcome {r} {ended} {last} waiting {y} {was} {to_x} {to_y} {turn} u h spen
     after = end_with gone.now all []
 
     left : Invariant (between idle y to_x (to_y ++ cores_sent false n turn.sent))
-    left = subst (λ qs. Invariant (between (now Idle (end_behind gone.now qs)) y to_x
+    left = subst (λ qs. Invariant (between (now Idle (end_following gone.now qs)) y to_x
         (to_y ++ cores_sent false n turn.sent))) (sym (all_of_last ended last)) (leave_to_idle_keeps 8 h.holds)
 
     ends : EndsDown (Ticks waiting) r gone IdleState all (cores_sent false n turn.sent ++ of_end idle (Dm false) ∷ [])

@@ -1,14 +1,14 @@
 use Rattle.tnc_encode.proofs.Common.{◌≡◌, ◌++◌, List, ℕ, Some, length, ap, subst, ◌∙◌, rules, WrotePart, pcm}
 use Rattle.tnc_encode.proofs.Common.{wrote_front, signal_of}
 use Rattle.wav_file.specs.Head.{head_of}
-use Rattle.tnc_encode.proofs.WritingLemmas.{writes_behind}
+use Rattle.tnc_encode.proofs.WritingLemmas.{writes_after}
 use Rattle.tnc_encode.proofs.encoding.send_wav.Goals as goal
 
 pub returns-in-Ok-write-clause-writes : goal.returns-in-Ok-write-clause-writes
 returns-in-Ok-write-clause-writes g c =
     let octets : List ℕ = head_of (length (signal_of c.args.words c.args.frames.now)) in
     let same : c.in-Ok.head ≡ octets = c.in-Ok.ensures.head ∙ ap head_of c.in_ok-count.ensures in
-    writes_behind octets (pcm (signal_of c.args.words c.args.frames.now)) (g.O.Sink.written c.args.output.now)
+    writes_after octets (pcm (signal_of c.args.words c.args.frames.now)) (g.O.Sink.written c.args.output.now)
     (g.O.Sink.written c.write.new.self) (g.O.Sink.written c.send_all.new.output) c.send_all.result
     (λ before was. c.in-Ok-write.ensures.appends before was ∙ ap (λ h. Some (before ++ h)) same)
     c.send_all.ensures.writes

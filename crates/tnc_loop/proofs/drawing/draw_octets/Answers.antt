@@ -24,7 +24,7 @@ returns-clause-count c =
     c.loop.octets.items c.loop.invariant (search rules) in
     ap length (c.in_ok-from_slice.ensures ∙ c.deref.ensures.value) ∙ all.1
 
-pub returns-clause-behind : goal.returns-clause-behind
-returns-clause-behind c =
+pub returns-clause-following : goal.returns-clause-following
+returns-clause-following c =
     (has_drawn_all octet_of c.args.generator.now c.loop.generator c.args.count c.loop.counter c.loop.octets.items
     c.loop.invariant (search rules)).2

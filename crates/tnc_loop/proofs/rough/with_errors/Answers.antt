@@ -17,7 +17,7 @@ loop-sample-preserved c =
     errors_more c.args.level exact c.args.generator.now c.loop-sample.generator c.draw_error.new.generator place sample
     c.draw_error.result
     c.loop-sample.samples.items c.push.new.self.items c.loop-sample.invariant below refl c.draw_error.ensures.value
-    c.draw_error.ensures.behind
+    c.draw_error.ensures.following
     (c.in_ok-push.ensures.items ∙ ap (λ z. c.loop-sample.samples.items ++ z ∷ [])
     (omega (arith, ints, small, c.draw_error.ensures.bound, c.requires.bound)))
 
@@ -26,7 +26,7 @@ returns-clause-samples c =
     (errors_all c.args.level c.args.exact.now c.args.generator.now c.loop-sample.generator c.loop-sample.sample-index
     c.loop-sample.samples.items c.loop-sample.invariant c.loop-sample-test.false).0
 
-pub returns-clause-behind : goal.returns-clause-behind
-returns-clause-behind c =
+pub returns-clause-following : goal.returns-clause-following
+returns-clause-following c =
     (errors_all c.args.level c.args.exact.now c.args.generator.now c.loop-sample.generator c.loop-sample.sample-index
     c.loop-sample.samples.items c.loop-sample.invariant c.loop-sample-test.false).1

@@ -15,8 +15,8 @@ loop-preserved c =
     = c.deref.ensures.value ∙ c.in_ok-samples.ensures.samples in
     sent_next c.args.words c.loop.counter c.loop.generator c.draw.new.generator c.samples_heard.new.generator
     c.loop.sent c.send.new.sent c.in_ok-drawn.drawn
-    c.deref.result.now c.loop.invariant c.loop-test.true c.in_ok-drawn.ensures.drawn c.in_ok-drawn.ensures.behind heard
-    c.in_ok-samples.ensures.behind c.in_ok-send.ensures
+    c.deref.result.now c.loop.invariant c.loop-test.true c.in_ok-drawn.ensures.drawn c.in_ok-drawn.ensures.following heard
+    c.in_ok-samples.ensures.following c.in_ok-send.ensures
 
 pub send-requires-clause-count : goal.send-requires-clause-count
 send-requires-clause-count c =

@@ -3,7 +3,7 @@ use Rattle.std.proofs.Common.{is_some}
 use Rattle.link_machine.specs.declared.machine.Machine.{Machine as Held}
 use Rattle.link_machine.proofs.Events.{itself, holds_itself}
 use Rattle.link_machine.proofs.Answered.{answers_right, free_of, holds_of}
-use Rattle.link_machine.proofs.Writable.{kept_behind, kept_by}
+use Rattle.link_machine.proofs.Writable.{kept_following, kept_by}
 use Rattle.link_machine.proofs.link.Link.connect.Goals as goal
 
 pub invariant_of-self-2 : goal.invariant_of-self-2
@@ -21,7 +21,7 @@ returns-clause-writable c =
     ap is_some (ap (λ (h : Held). refusal h.control (length h.outgoing.packets) Connect) c.self.view_is
     ∙ sym c.connect_refusal.ensures ∙ c.in_default.is) in
     let made = c.in_ok-acts.ensures (itself held) (holds_itself held c.self.invariant.whole) in
-    (kept_behind held c.take_connect.new.self Connect c.in_ok-acts.acts c.self.invariant free made).1
+    (kept_following held c.take_connect.new.self Connect c.in_ok-acts.acts c.self.invariant free made).1
 
 pub returns-clause-step : goal.returns-clause-step
 returns-clause-step c = λ m h.

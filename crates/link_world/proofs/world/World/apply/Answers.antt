@@ -43,17 +43,17 @@ world_of held w h = record {
 }
 
 -- what is refused changes neither side
-alike : (held behind : HeldWorld) → IsKept held.a held.b behind.a behind.b → IsAlike held behind
-alike held behind k = record {
+alike : (held following : HeldWorld) → IsKept held.a held.b following.a following.b → IsAlike held following
+alike held following k = record {
   link_of_a = k.near_link;
   link_of_b = k.far_link;
   towards_a = k.near_towards;
   towards_b = k.far_towards;
 }
 
-unchanged : (held behind : HeldWorld) (w : World) → StandsFor held w → IsKept held.a held.b behind.a behind.b
-    → StandsFor behind w
-unchanged held behind w h k = record {
+unchanged : (held following : HeldWorld) (w : World) → StandsFor held w → IsKept held.a held.b following.a following.b
+    → StandsFor following w
+unchanged held following w h k = record {
   links = record {
     a = subst (λ (l : HeldLink). LinkStandsFor l w.a.end.machine) (sym k.near_link) h.links.a;
     b = subst (λ (l : HeldLink). LinkStandsFor l w.b.end.machine) (sym k.far_link) h.links.b;

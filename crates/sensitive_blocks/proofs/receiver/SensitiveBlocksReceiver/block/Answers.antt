@@ -2,7 +2,7 @@ use Rattle.sensitive_blocks.proofs.Common.{◌≡◌, ◌+◌, ◌-◌, ◌++◌
 use Rattle.sensitive_blocks.proofs.Common.{length-append}
 use Rattle.sensitive_blocks.specs.Held.{HasTaken, HeldReceiver, StandsFor}
 unfoldable use Rattle.sensitive_blocks.specs.Held.{last_forty}
-use Rattle.sensitive_blocks.proofs.ReceiverLemmas.{forty_behind, line_of, receiver_of, taken_more}
+use Rattle.sensitive_blocks.proofs.ReceiverLemmas.{forty_after, line_of, receiver_of, taken_more}
 use Rattle.sensitive_blocks.proofs.receiver.SensitiveBlocksReceiver.block.Goals as goal
 
 pub returns-clause-given : goal.returns-clause-given
@@ -39,7 +39,7 @@ returns-clause-given c = λ x given stands.
       position = now_position;
       next = now_next;
       recent = c.copy_from_slice.ensures.after
-          ∙ forty_behind x block c.deref-2.result.now s.recent (c.deref-2.ensures.value ∙ c.in_ok-line.ensures) here.recent;
+          ∙ forty_after x block c.deref-2.result.now s.recent (c.deref-2.ensures.value ∙ c.in_ok-line.ensures) here.recent;
       taken = record {
         follower = taken.follower;
         readings = taken.readings;

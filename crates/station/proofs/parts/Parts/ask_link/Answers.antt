@@ -11,7 +11,7 @@ use Rattle.station.proofs.parts.Parts.ask_link.Goals as goal
 -- the channel takes no frame
 pub returns-then-not-takes_frame-clause-shows : goal.returns-then-not-takes_frame-clause-shows
 returns-then-not-takes_frame-clause-shows c = λ turn shows.
-    subst (λ (behind : Turn). Shows c.args.self.now c.args.out.now behind)
+    subst (λ (following : Turn). Shows c.args.self.now c.args.out.now following)
     (sym (none_taken turn
     (sym (c.takes_frame.ensures turn.now.channel shows.holds.channel) ∙ c.if-not-takes_frame.true)))
     shows
@@ -19,7 +19,7 @@ returns-then-not-takes_frame-clause-shows c = λ turn shows.
 -- no link wants to send
 pub returns-in_default-clause-shows : goal.returns-in_default-clause-shows
 returns-in_default-clause-shows c = λ turn shows.
-    subst (λ (behind : Turn). Shows c.args.self.now c.args.out.now behind)
+    subst (λ (following : Turn). Shows c.args.self.now c.args.out.now following)
     (sym (none_asked turn
     (sym (c.takes_frame.ensures turn.now.channel shows.holds.channel) ∙ c.if-not-takes_frame.false)
     (ap (λ last. next_wanting last turn.now.links) (sym shows.holds.asked)
@@ -60,5 +60,5 @@ returns-clause-shows c = λ turn shows.
     (sym (c.takes_frame.ensures turn.now.channel h.channel) ∙ c.if-not-takes_frame.false)
     (ap (λ last. next_wanting last turn.now.links) (sym h.asked)
     ∙ sym (c.next_wanting.ensures turn.now.links h.links) ∙ c.in-Some.is) in
-    subst (λ (behind : Turn). OnOk c.link_event.result (Shows c.link_event.new.self c.link_event.new.out behind))
+    subst (λ (following : Turn). OnOk c.link_event.result (Shows c.link_event.new.self c.link_event.new.out following))
     (ap (λ (e : Event). event_at key e before) event ∙ sym asked) (c.link_event.ensures.shows before here)

@@ -4,5 +4,5 @@ use Rattle.station.proofs.parts.Parts.end.Goals as goal
 
 pub returns-clause-shows : goal.returns-clause-shows
 returns-clause-shows c = λ turn shows.
-    subst (λ (behind : Turn). OnOk c.shut.result (Shows c.shut.new.self c.shut.new.out behind))
+    subst (λ (following : Turn). OnOk c.shut.result (Shows c.shut.new.self c.shut.new.out following))
     (sym (ending_shut c.args.id c.args.ends turn c.if-not-ends.false)) (c.shut.ensures.shows turn shows)

@@ -12,7 +12,7 @@ loop-place-preserved c = record {
       let k = c.loop-place.place in
       let len = c.packet_length-len.result in
       let before : Turn = giving_packets key (first_packets len c.args.pid octets k) turn in
-      subst (λ (behind : Turn). Shows c.link_event.new.self c.link_event.new.out behind)
+      subst (λ (following : Turn). Shows c.link_event.new.self c.link_event.new.out following)
       (sym (packets-more len key c.args.pid octets k turn ∙ ap (λ (packet : Packet). giving_packet key packet before)
       (sym c.in_ok-packet.ensures.packet)))
       (c.in_ok-link_event.ensures.shows before (c.loop-place.invariant.shows turn shows));

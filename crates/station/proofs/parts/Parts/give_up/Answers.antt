@@ -23,7 +23,7 @@ returns-then-not-is_of-clause-shows c = λ turn shows.
 pub returns-clause-shows : goal.returns-clause-shows
 returns-clause-shows c = λ turn shows.
     let key = c.args.key in
-    own_given_up (λ (behind : Turn). OnOk c.link_event.result (Shows c.link_event.new.self c.link_event.new.out behind))
+    own_given_up (λ (following : Turn). OnOk c.link_event.result (Shows c.link_event.new.self c.link_event.new.out following))
     turn c.args.id key c.in-Some.link.now (link_at key turn.now.links)
     (subst (λ (held : Option OwnedLink). StandsForPlace held (link_at key turn.now.links)) (sym c.in-Some.ensures)
     (places-at c.args.self.now.links.places turn.now.links.places key shows.holds.links.places))

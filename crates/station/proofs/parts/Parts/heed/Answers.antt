@@ -12,5 +12,5 @@ returns-then-port-eq0-clause-shows c = λ turn shows.
     let set : Shows new out act = subst (λ (param : Param). Shows new out (changing (with_param param) turn))
     c.param_of.ensures (c.set.ensures.shows out turn shows) in
     subst (λ (item : KissItem). Shows new out (heeding c.args.id item turn)) (sym c.in-Set.is)
-    (subst (λ (behind : Turn). Shows new out behind)
+    (subst (λ (following : Turn). Shows new out following)
     (sym (cond-true (port == 0) act turn (eq-eqb port 0 c.if-port-eq0.true))) set)

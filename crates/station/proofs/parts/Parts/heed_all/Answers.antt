@@ -12,7 +12,7 @@ loop-item-preserved c = record {
       let more : heeding_all id (take (i + 1) items) turn ≡ heeding id c.item-item.result before =
       in_order-more (heeding id) items i c.item-item.result turn c.loop-item-test.true
       ∙ ap (λ (item : KissItem). heeding id item before) (sym c.item-item.is) in
-      subst (λ (behind : Turn). Shows c.heed.new.self c.heed.new.out behind) (sym more)
+      subst (λ (following : Turn). Shows c.heed.new.self c.heed.new.out following) (sym more)
       (c.in_ok-heed.ensures.shows before (c.loop-item.invariant.shows turn shows));
   ids = c.in_ok-heed.ensures.ids ∙ c.loop-item.invariant.ids;
   closed = c.in_ok-heed.ensures.closed ∙ c.loop-item.invariant.closed;

@@ -19,7 +19,7 @@ returns-then-not-has_room-clause-shows c = λ turn shows.
     sym (c.has_room.ensures ∙ ap (λ (n : ℕ). has_room n c.left_waiting.result) count
     ∙ ap (has_room (length turn.now.connections)) (c.left_waiting.ensures turn.now shows.holds))
     ∙ c.if-not-has_room.true in
-    on_ok_weaker c.close.result (λ e. subst (λ (behind : Turn). Shows c.args.self.now c.close.new.self behind)
+    on_ok_weaker c.close.result (λ e. subst (λ (following : Turn). Shows c.args.self.now c.close.new.self following)
     (sym (cond-false (has_place turn.now) (changing (with_host id c.args.kind) turn)
     (closing id turn) full))
     (record {
@@ -49,7 +49,7 @@ returns-clause-shows c = λ turn shows.
     on_ok_weaker c.push.result (λ items.
     let joined = shows_joined parts c.args.out.now turn c.push.new.items.items held c.args.kind shows c.requires refl
     refl refl c.new_reader.ensures items in
-    subst (λ (behind : Turn). Shows (record parts { connections = c.push.new.items }) c.args.out.now behind)
+    subst (λ (following : Turn). Shows (record parts { connections = c.push.new.items }) c.args.out.now following)
     (sym (cond-true (has_place turn.now) (changing (with_host id c.args.kind) turn)
     (closing id turn) room))
     (record {

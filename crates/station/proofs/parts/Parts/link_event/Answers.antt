@@ -63,5 +63,5 @@ returns-clause-shows c = λ turn shows.
     ∙ ap (λ items. telling_to link.owner link.local link.remote items queued) told
     ∙ ap (λ sent. telling_to link.owner link.local link.remote (done_of stepped).told (queueing_frames key sent first))
     frames in
-    subst (λ (behind : Turn). Shows c.queue_frames.new.self c.tell.new.out behind) all
+    subst (λ (following : Turn). Shows c.queue_frames.new.self c.tell.new.out following) all
     (c.in_ok-tell.ensures.shows queued (c.in_ok-queue_frames.ensures.shows first shown)))

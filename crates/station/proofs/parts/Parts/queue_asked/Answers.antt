@@ -14,5 +14,5 @@ returns-clause-shows c = λ turn shows.
     ≡ queueing_for (Some c.args.asker.id) asker None c.in_ok-frame.frame turn =
     ap (λ (b : Bool). (cond b (queueing_for (Some c.args.asker.id) asker None octets) nothing) turn) long
     ∙ ap (λ (copied : List ℕ). queueing_for (Some c.args.asker.id) asker None copied turn) (sym c.in_ok-frame.ensures.copy) in
-    subst (λ (behind : Turn). OnOk c.queue_for.result (Shows c.queue_for.new.self c.queue_for.new.out behind)) (sym same)
+    subst (λ (following : Turn). OnOk c.queue_for.result (Shows c.queue_for.new.self c.queue_for.new.out following)) (sym same)
     (c.queue_for.ensures.shows turn shows)

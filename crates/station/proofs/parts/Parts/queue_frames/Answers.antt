@@ -18,7 +18,7 @@ loop-sent-preserved c = record {
       in_order-more (queueing_frame key) frames i c.sent-item.result turn c.loop-sent-test.true
       ∙ ap (λ (sent : SentFrame). queueing_frame key sent before) (sym c.sent-item.is)
       ∙ ap (λ (spelled : List ℕ). queueing (Some key) spelled before) (sym octets) in
-      subst (λ (behind : Turn). Shows c.queue.new.self c.queue.new.out behind) (sym more)
+      subst (λ (following : Turn). Shows c.queue.new.self c.queue.new.out following) (sym more)
       (c.in_ok-queue.ensures.shows before (c.loop-sent.invariant.shows turn shows));
   ids = c.in_ok-queue.ensures.ids ∙ c.loop-sent.invariant.ids;
   closed = c.in_ok-queue.ensures.closed ∙ c.loop-sent.invariant.closed;

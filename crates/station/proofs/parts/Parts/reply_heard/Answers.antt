@@ -22,7 +22,7 @@ loop-station-preserved c = record {
       let here : d ≡ get_or heard i d = c.station-item.is ∙ ap (λ (xs : List HeardStation). get_or xs i d) given in
       let before : Turn = in_order (map one (take i heard)) turn in
       let shown = c.loop-station.invariant.sent turn shows in
-      subst (λ (behind : Turn). Shows parts c.reply_station.new.out behind) (sym (in_order-more one heard i d turn within))
+      subst (λ (following : Turn). Shows parts c.reply_station.new.out following) (sym (in_order-more one heard i d turn within))
       (record {
         holds = shown.holds;
         gave = c.in_ok-reply_station.ensures.sent

@@ -25,7 +25,7 @@ loop-connection-preserved c = λ turn shows.
     subst (λ (item : HeldConnection). StandsForConnection item (get_or places i d)) (sym c.connection-item.is)
     (AllZip-at StandsForConnection held places i c.connection-item.result d each c.loop-connection-test.true) in
     let before : Turn = in_order (map one (take i places)) turn in
-    subst (λ (behind : Turn). Shows parts c.show_to.new.out behind) (sym (in_order-more one places i d turn within))
+    subst (λ (following : Turn). Shows parts c.show_to.new.out following) (sym (in_order-more one places i d turn within))
     (shows_shown parts c.loop-connection.out c.show_to.new.out before c.connection-item.result (get_or places i d)
     c.args.from c.args.to c.args.octets.now
     (c.loop-connection.invariant turn shows) stands c.in_ok-show_to.ensures.shown)

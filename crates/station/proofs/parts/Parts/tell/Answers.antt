@@ -14,7 +14,7 @@ loop-item-preserved c = record {
       ≡ one c.item-item.result before =
       in_order-more one told i c.item-item.result turn c.loop-item-test.true
       ∙ ap (λ item. one item before) (sym c.item-item.is) in
-      subst (λ (behind : Turn). Shows c.args.self.now c.tell_one.new.out behind) (sym more)
+      subst (λ (following : Turn). Shows c.args.self.now c.tell_one.new.out following) (sym more)
       (c.in_ok-tell_one.ensures.shows before (c.loop-item.invariant.shows turn shows));
   closed = c.in_ok-tell_one.ensures.closed ∙ c.loop-item.invariant.closed;
 }

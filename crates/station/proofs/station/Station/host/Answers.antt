@@ -1,6 +1,6 @@
 use Rattle.station.proofs.Common.{◌≡◌, true, false, sym, ◌∙◌, ap, subst, Held, JoinsAnew, AreParts, StandsFor}
 use Rattle.station.proofs.Common.{IsLive, Out, begin}
-use Rattle.station.specs.Held.{ids_behind, ids_of}
+use Rattle.station.specs.Held.{ids_after, ids_of}
 use Rattle.station.specs.Host.{IsHostTurn}
 use Rattle.station.proofs.HostLemmas.{admitted_anew}
 use Rattle.station.proofs.station.Station.host.Goals as goal
@@ -23,7 +23,7 @@ returns-clause-step c = λ s h.
 pub returns-clause-ids : goal.returns-clause-ids
 returns-clause-ids c =
     c.in_ok-host.ensures.ids (ap (λ (out : Out). out.closed) c.new-out.ensures)
-    ∙ ap (λ (held : Held). ids_behind c.args.event c.host.new.out.closed (ids_of held)) c.self.view_is
+    ∙ ap (λ (held : Held). ids_after c.args.event c.host.new.out.closed (ids_of held)) c.self.view_is
 
 pub invariant_of-self : goal.invariant_of-self
 invariant_of-self c = λ live.
