@@ -34,11 +34,11 @@ pub use Rattle.host_ports.specs.CutPart.{IsCutInSending}
 pub use Rattle.host_ports.specs.HeldHosts.{AreParts, IsAtRest, IsKnown, Moves, MovesBy, Narrows, StandsFor, is_known}
 pub use Rattle.host_ports.specs.HeldHosts.{is_named, joins, leaves, weight}
 pub use Rattle.host_ports.specs.HostTurns.{ArePaused, AreTaken, AreTried, Asked, HasToWait, InOrder, IsHostPart}
-pub use Rattle.host_ports.specs.HostTurns.{IsOffered, IsOfferedTo, IsTaken, IsTried, Offer, Offering, ids_of_lines}
+pub use Rattle.host_ports.specs.HostTurns.{IsOffered, IsOfferedTo, IsTaken, IsTried, Offer, Offering, ids_of_clients}
 pub use Rattle.host_ports.specs.HostTurns.{is_from, joining}
 pub use Rattle.host_ports.specs.Hosts.{AllHaveLeft, HaveLeft, Hosts, IsDelivered, IsStep, appending, appending_one}
 pub use Rattle.host_ports.specs.Hosts.{appending_to, closing, closing_all, closing_one, cutting, delivering, fits}
-pub use Rattle.host_ports.specs.Hosts.{is_among, is_line_of, is_there, line_of, new_hosts, waiting_too, was_there}
+pub use Rattle.host_ports.specs.Hosts.{is_among, is_client_of, is_there, client_of, new_hosts, waiting_too, was_there}
 pub use Rattle.host_ports.specs.Hosts.{with_waiting, without}
 pub use Rattle.host_ports.specs.IdRanges.{is_within}
 pub use Rattle.host_ports.specs.RealSockets.{Admits, OpenIds, Rise, ids_of_sockets, joined_ids}
@@ -49,7 +49,7 @@ pub use Rattle.host_ports.specs.Sockets.{IsWholePiece, MayCome, Poll, Send, has_
 pub use Rattle.host_ports.specs.Sockets.{is_octets_of}
 pub use Rattle.host_ports.specs.Waiting.{after_sending, following, cut, front_of, most_octets, octets_of, with_piece}
 pub use Rattle.host_ports.specs.declared.host_parts.HostParts.{HostParts}
-pub use Rattle.host_ports.specs.declared.line.Line.{Line}
+pub use Rattle.host_ports.specs.declared.client.Client.{Client}
 pub use Rattle.host_ports.specs.declared.report_line.ReportLine.{ReportLine}
 pub use Rattle.host_ports.specs.declared.report_line.ReportLine.TheVariants.{ClosedLine}
 pub use Rattle.host_ports.specs.declared.socket.Socket.{Socket}

@@ -1,15 +1,15 @@
 -- What a step says, piece by piece.
 use Rattle.host_ports.proofs.Common.{◌==◌, ◌||◌, Bool, true, false, List, ◌∷◌, All, Some, list_any, sym, ◌∙◌, ap, subst}
 use Rattle.host_ports.proofs.Common.{arith, inl, inr, get_or, set, eqb-true, cond-true, cond-false, or_cases, true≢false}
-use Rattle.host_ports.proofs.Common.{false_from_ne_true, le-leb, take_more, list_any-append, Piece, HostParts, Line}
+use Rattle.host_ports.proofs.Common.{false_from_ne_true, le-leb, take_more, list_any-append, Piece, HostParts, Client}
 use Rattle.host_ports.proofs.Common.{ReportLine, AreParts, Moves, Narrows, is_named, Hosts, cutting, appending}
 use Rattle.host_ports.proofs.Common.{appending_one, appending_to, closing_all, closing_one, waiting_too, with_waiting}
-use Rattle.host_ports.proofs.Common.{fits, line_of, is_line_of, is_among, is_within, most_octets, octets_of, with_piece}
+use Rattle.host_ports.proofs.Common.{fits, client_of, is_client_of, is_among, is_within, most_octets, octets_of, with_piece}
 use Rattle.std.specs.Prelude.{◌≡◌, ℕ, ◌+◌, ◌<◌, ◌≤◌, [], ◌++◌, length, take, refl}
 use Rattle.std.specs.Vec.{with_item}
 use Rattle.std.proofs.lemmas.Bool.{lt-leb}
 use Rattle.station.specs.StandsFor.{StandsFor as StandsForStation}
-use Rattle.host_ports.proofs.LineLemmas.{waiting_names, waiting_length, waiting_same}
+use Rattle.host_ports.proofs.ClientLemmas.{waiting_names, waiting_length, waiting_same}
 use Rattle.host_ports.proofs.MoveLemmas.{moves_then, moves_as}
 
 -- ---- all pieces
@@ -33,22 +33,22 @@ append_more closed pieces i d a b c within first second =
 
 -- ---- one piece
 
--- the lines are as they were but for what waits
+-- the clients are as they were but for what waits
 pub record Waits (id : ℕ) (waiting : List (List ℕ)) (a b : HostParts) : Type 0 where
   pub station : b.station ≡ a.station
   pub came : b.came ≡ a.came
-  pub lines : b.lines.items ≡ with_waiting id waiting a.lines.items
+  pub clients : b.clients.items ≡ with_waiting id waiting a.clients.items
   pub untaken : b.untaken ≡ a.untaken
   pub report : b.report ≡ a.report
   pub to_shut : b.to_shut ≡ a.to_shut
   pub leaving : b.leaving ≡ a.leaving
 
 pub waits_stands : (id : ℕ) (waiting : List (List ℕ)) (a b : HostParts) → Waits id waiting a b
-    → Moves (λ hosts. record hosts { lines = with_waiting id waiting hosts.lines }) a b
+    → Moves (λ hosts. record hosts { clients = with_waiting id waiting hosts.clients }) a b
 waits_stands id waiting a b s = λ printed hosts h. record {
   station = subst (λ t. StandsForStation t hosts.station) (sym s.station) h.station;
   came = λ other. ap (λ ranges. is_within other ranges.items) s.came ∙ h.came other;
-  lines = ap (with_waiting id waiting) h.lines ∙ sym s.lines;
+  clients = ap (with_waiting id waiting) h.clients ∙ sym s.clients;
   untaken = h.untaken ∙ ap (λ all. all.items) (sym s.untaken);
   report = h.report ∙ ap (λ report. printed ++ report.items) (sym s.report);
   to_shut = h.to_shut ∙ ap (λ ids. ids.items) (sym s.to_shut);
@@ -60,44 +60,44 @@ waits_narrows id waiting a b s = record {
   station = s.station;
   came = s.came;
   named = λ other named.
-      sym (ap (λ lines. list_any (is_line_of other) lines || is_among other b.leaving.items) s.lines
-      ∙ ap (λ t. t || is_among other b.leaving.items) (waiting_names id other waiting a.lines.items)
-      ∙ ap (λ ids. list_any (is_line_of other) a.lines.items || is_among other ids.items) s.leaving) ∙ named;
+      sym (ap (λ clients. list_any (is_client_of other) clients || is_among other b.leaving.items) s.clients
+      ∙ ap (λ t. t || is_among other b.leaving.items) (waiting_names id other waiting a.clients.items)
+      ∙ ap (λ ids. list_any (is_client_of other) a.clients.items || is_among other ids.items) s.leaving) ∙ named;
   pieces = λ pieces. subst (λ all. All (λ one. length one.octets ≤ 17) all.items) (sym s.untaken) pieces;
   lighter =
-      let lines = ap length s.lines ∙ waiting_length id waiting a.lines.items in
+      let clients = ap length s.clients ∙ waiting_length id waiting a.clients.items in
       let leaving = ap (λ ids. length ids.items) s.leaving in
       omega arith;
 }
 
--- the line of a connection stands at a place, so what is put there waits for that connection
-pub record IsLineAt (id at : ℕ) (line : Line) (lines : List Line) : Type 0 where
-  pub found : line_of id lines ≡ Some line
-  pub same : line.id ≡ id
-  pub written : (waiting : List (List ℕ)) → set lines at (record { id = line.id; waiting = waiting })
-      ≡ with_waiting id waiting lines
+-- the client of a connection stands at a place, so what is put there waits for that connection
+pub record IsClientAt (id at : ℕ) (client : Client) (clients : List Client) : Type 0 where
+  pub found : client_of id clients ≡ Some client
+  pub same : client.id ≡ id
+  pub written : (waiting : List (List ℕ)) → set clients at (record { id = client.id; waiting = waiting })
+      ≡ with_waiting id waiting clients
 
-pub stands_at : (id at : ℕ) (line : Line) (seen lines : List Line) → seen ≡ lines → line ≡ get_or lines at line
-    → line_of id seen ≡ Some (get_or seen at line) → (get_or seen at line).id ≡ id
+pub stands_at : (id at : ℕ) (client : Client) (seen clients : List Client) → seen ≡ clients → client ≡ get_or clients at client
+    → client_of id seen ≡ Some (get_or seen at client) → (get_or seen at client).id ≡ id
     → ((waiting : List (List ℕ)) → with_waiting id waiting seen
-    ≡ set seen at (record (get_or seen at line) { waiting = waiting }))
-    → IsLineAt id at line lines
-stands_at id at line seen lines is value found same written =
-    let one : line ≡ get_or seen at line = value ∙ ap (λ ls. get_or ls at line) (sym is) in
-    subst (IsLineAt id at line) is (record {
-      found = found ∙ ap (λ (l : Line). Some l) (sym one);
-      same = ap (λ (l : Line). l.id) one ∙ same;
-      written = λ waiting. ap (λ (l : Line). set seen at (record { id = l.id; waiting = waiting })) one
+    ≡ set seen at (record (get_or seen at client) { waiting = waiting }))
+    → IsClientAt id at client clients
+stands_at id at client seen clients is value found same written =
+    let one : client ≡ get_or seen at client = value ∙ ap (λ ls. get_or ls at client) (sym is) in
+    subst (IsClientAt id at client) is (record {
+      found = found ∙ ap (λ (l : Client). Some l) (sym one);
+      same = ap (λ (l : Client). l.id) one ∙ same;
+      written = λ waiting. ap (λ (l : Client). set seen at (record { id = l.id; waiting = waiting })) one
           ∙ sym (written waiting);
     })
 
-pub waits_at : (id at : ℕ) (line : Line) (now waiting : List (List ℕ)) (a : HostParts)
-    → IsLineAt id at line a.lines.items → now ≡ waiting
-    → Waits id waiting a (record a { lines = with_item a.lines at (record { id = line.id; waiting = now }) })
-waits_at id at line now waiting a there is = record {
+pub waits_at : (id at : ℕ) (client : Client) (now waiting : List (List ℕ)) (a : HostParts)
+    → IsClientAt id at client a.clients.items → now ≡ waiting
+    → Waits id waiting a (record a { clients = with_item a.clients at (record { id = client.id; waiting = now }) })
+waits_at id at client now waiting a there is = record {
   station = refl;
   came = refl;
-  lines = there.written now ∙ ap (λ ws. with_waiting id ws a.lines.items) is;
+  clients = there.written now ∙ ap (λ ws. with_waiting id ws a.clients.items) is;
   untaken = refl;
   report = refl;
   to_shut = refl;
@@ -105,48 +105,48 @@ waits_at id at line now waiting a there is = record {
 }
 
 -- it fits
-pub append_fits : (piece : Piece) (line : Line) (a b : HostParts) → line_of piece.id a.lines.items ≡ Some line
-    → line.id ≡ piece.id → length (octets_of line.waiting) + length piece.octets ≤ most_octets
-    → Waits piece.id (with_piece piece.octets line.waiting) a b
-    → Moves (λ hosts. appending_to (line_of piece.id hosts.lines) piece hosts) a b
-append_fits piece line a b found same room s = λ printed hosts h.
-    let stands = waits_stands piece.id (with_piece piece.octets line.waiting) a b s printed hosts h in
-    let now : AreParts b printed (waiting_too piece line hosts) = record {
+pub append_fits : (piece : Piece) (client : Client) (a b : HostParts) → client_of piece.id a.clients.items ≡ Some client
+    → client.id ≡ piece.id → length (octets_of client.waiting) + length piece.octets ≤ most_octets
+    → Waits piece.id (with_piece piece.octets client.waiting) a b
+    → Moves (λ hosts. appending_to (client_of piece.id hosts.clients) piece hosts) a b
+append_fits piece client a b found same room s = λ printed hosts h.
+    let stands = waits_stands piece.id (with_piece piece.octets client.waiting) a b s printed hosts h in
+    let now : AreParts b printed (waiting_too piece client hosts) = record {
       station = stands.station;
       came = stands.came;
-      lines = ap (λ id. with_waiting id (with_piece piece.octets line.waiting) hosts.lines) same ∙ stands.lines;
+      clients = ap (λ id. with_waiting id (with_piece piece.octets client.waiting) hosts.clients) same ∙ stands.clients;
       untaken = stands.untaken;
       report = stands.report;
       to_shut = stands.to_shut;
       leaving = stands.leaving;
     } in
     subst (AreParts b printed)
-    (sym (ap (λ one. appending_to one piece hosts) (ap (line_of piece.id) h.lines ∙ found)
-    ∙ cond-true (fits piece.octets line.waiting) (waiting_too piece line hosts) (cutting line.id hosts)
-    (le-leb (length (octets_of line.waiting) + length piece.octets) most_octets room)))
+    (sym (ap (λ one. appending_to one piece hosts) (ap (client_of piece.id) h.clients ∙ found)
+    ∙ cond-true (fits piece.octets client.waiting) (waiting_too piece client hosts) (cutting client.id hosts)
+    (le-leb (length (octets_of client.waiting) + length piece.octets) most_octets room)))
     now
 
 -- what waits is as it was
-pub stands_still : (id : ℕ) (line : Line) (a b : HostParts) (printed : List ReportLine) (hosts : Hosts)
-    → line_of id a.lines.items ≡ Some line → Waits id line.waiting a b → AreParts a printed hosts
+pub stands_still : (id : ℕ) (client : Client) (a b : HostParts) (printed : List ReportLine) (hosts : Hosts)
+    → client_of id a.clients.items ≡ Some client → Waits id client.waiting a b → AreParts a printed hosts
     → AreParts b printed hosts
-stands_still id line a b printed hosts found s h =
-    subst (λ lines. AreParts b printed (record hosts { lines = lines }))
-    (waiting_same id hosts.lines line (ap (line_of id) h.lines ∙ found))
-    (waits_stands id line.waiting a b s printed hosts h)
+stands_still id client a b printed hosts found s h =
+    subst (λ clients. AreParts b printed (record hosts { clients = clients }))
+    (waiting_same id hosts.clients client (ap (client_of id) h.clients ∙ found))
+    (waits_stands id client.waiting a b s printed hosts h)
 
 -- it does not
-pub append_cuts : (piece : Piece) (line : Line) (a b c : HostParts) → line_of piece.id a.lines.items ≡ Some line
-    → line.id ≡ piece.id → most_octets < length (octets_of line.waiting) + length piece.octets
-    → Waits piece.id line.waiting a b → Moves (cutting piece.id) b c
-    → Moves (λ hosts. appending_to (line_of piece.id hosts.lines) piece hosts) a c
-append_cuts piece line a b c found same full s moves = λ printed hosts h.
-    let found_too : line_of piece.id hosts.lines ≡ Some line = ap (line_of piece.id) h.lines ∙ found in
-    let stands : AreParts b printed hosts = stands_still piece.id line a b printed hosts found s h in
+pub append_cuts : (piece : Piece) (client : Client) (a b c : HostParts) → client_of piece.id a.clients.items ≡ Some client
+    → client.id ≡ piece.id → most_octets < length (octets_of client.waiting) + length piece.octets
+    → Waits piece.id client.waiting a b → Moves (cutting piece.id) b c
+    → Moves (λ hosts. appending_to (client_of piece.id hosts.clients) piece hosts) a c
+append_cuts piece client a b c found same full s moves = λ printed hosts h.
+    let found_too : client_of piece.id hosts.clients ≡ Some client = ap (client_of piece.id) h.clients ∙ found in
+    let stands : AreParts b printed hosts = stands_still piece.id client a b printed hosts found s h in
     subst (AreParts c printed)
     (sym (ap (λ one. appending_to one piece hosts) found_too
-    ∙ cond-false (fits piece.octets line.waiting) (waiting_too piece line hosts) (cutting line.id hosts)
-    (lt-leb (length (octets_of line.waiting) + length piece.octets) most_octets full)
+    ∙ cond-false (fits piece.octets client.waiting) (waiting_too piece client hosts) (cutting client.id hosts)
+    (lt-leb (length (octets_of client.waiting) + length piece.octets) most_octets full)
     ∙ ap (λ id. cutting id hosts) same))
     (moves printed hosts stands)
 

@@ -1,8 +1,8 @@
 -- What connections are sent is what they take of their offers: no other step sends anything.
 use Rattle.host_ports.proofs.Common.{◌==◌, if◌then◌else◌, List, ◌∷◌, Option, Some, None, sym, ◌∙◌, ap, subst, inl, inr}
-use Rattle.host_ports.proofs.Common.{append_assoc, flat_map-append, append-nil, HostEvent, Piece, Line, taken_of, Hosts}
-use Rattle.host_ports.proofs.Common.{cutting, line_of, AllHaveLeft, Asked, Offer, Offering, InOrder, AreTried, IsTaken}
-use Rattle.host_ports.proofs.Common.{IsOffered, IsOfferedTo, IsHostPart, ids_of_lines, octets_for, front_of}
+use Rattle.host_ports.proofs.Common.{append_assoc, flat_map-append, append-nil, HostEvent, Piece, Client, taken_of, Hosts}
+use Rattle.host_ports.proofs.Common.{cutting, client_of, AllHaveLeft, Asked, Offer, Offering, InOrder, AreTried, IsTaken}
+use Rattle.host_ports.proofs.Common.{IsOffered, IsOfferedTo, IsHostPart, ids_of_clients, octets_for, front_of}
 use Rattle.std.specs.Prelude.{◌≡◌, ℕ, [], ◌++◌, take, refl}
 use Rattle.host_ports.specs.HostTurns.{Takes}
 use Rattle.host_ports.proofs.KeptLemmas.{IsKeptByStep, IsKeptByTaking, kept_left, kept_tried, kept_takes}
@@ -13,7 +13,7 @@ sent_by_step sent = record {
   left = λ id hosts same. same;
   shut = λ id hosts there same. same;
   leaving = λ ids hosts same. same;
-  piece = λ piece line hosts found fit same. same;
+  piece = λ piece client hosts found fit same. same;
 }
 
 sent_by_taking : (sent : List Piece) (events : List HostEvent) → IsKeptByTaking events (λ hosts. hosts.sent ≡ sent)
@@ -46,26 +46,26 @@ octets_more id pieces piece =
     flat_map-append (λ (one : Piece). if one.id == id then one.octets else []) pieces (piece ∷ [])
     ∙ ap (λ more. octets_for id pieces ++ more) (append-nil (if piece.id == id then piece.octets else []))
 
-takes_given : (id : ℕ) (sent : List Piece) (line : Line) (before after : Offering) → Takes line before after
+takes_given : (id : ℕ) (sent : List Piece) (client : Client) (before after : Offering) → Takes client before after
     → HasGiven id sent before → HasGiven id sent after
-takes_given id sent line before after t given =
-    let taken : List ℕ = take t.took (front_of line.waiting) in
-    let part : List ℕ = if line.id == id then taken else [] in
+takes_given id sent client before after t given =
+    let taken : List ℕ = take t.took (front_of client.waiting) in
+    let part : List ℕ = if client.id == id then taken else [] in
     ap (λ (h : Hosts). octets_for id h.sent) t.rest ∙ octets_more id before.hosts.sent
-    (record { id = line.id; octets = taken })
+    (record { id = client.id; octets = taken })
     ∙ ap (λ octets. octets ++ part) given ∙ append_assoc (octets_for id sent) (taken_of id before.offers) part
     ∙ ap (λ more. octets_for id sent ++ more) (sym (ap (taken_of id) t.offered
-    ∙ taken_more id before.offers (record { id = line.id; octets = front_of line.waiting; took = t.took })))
+    ∙ taken_more id before.offers (record { id = client.id; octets = front_of client.waiting; took = t.took })))
 
-offered_given : (id : ℕ) (sent : List Piece) (line : Option Line) (before after : Offering)
-    → IsOfferedTo line before after → HasGiven id sent before → HasGiven id sent after
+offered_given : (id : ℕ) (sent : List Piece) (client : Option Client) (before after : Offering)
+    → IsOfferedTo client before after → HasGiven id sent before → HasGiven id sent after
 offered_given id sent None before after offered given = subst (HasGiven id sent) (sym offered) given
-offered_given id sent (Some line) before after offered given = elim offered [
+offered_given id sent (Some client) before after offered given = elim offered [
   | inl nothing ↦ subst (HasGiven id sent) (sym nothing.1) given
   | inr rest ↦ elim rest [
-    | inl takes ↦ takes_given id sent line before after takes.1 given
+    | inl takes ↦ takes_given id sent client before after takes.1 given
     | inr fails ↦
-        ap (octets_for id) (left_same (cutting line.id before.hosts) after.hosts fails.1.leave) ∙ given
+        ap (octets_for id) (left_same (cutting client.id before.hosts) after.hosts fails.1.leave) ∙ given
         ∙ ap (λ offers. octets_for id sent ++ taken_of id offers) (sym fails.1.offered)
   ]
 ]
@@ -74,7 +74,7 @@ all_given : (id : ℕ) (sent : List Piece) (ids : List ℕ) (before after : Offe
     → HasGiven id sent before → HasGiven id sent after
 all_given id sent [] before after run given = subst (HasGiven id sent) (sym run) given
 all_given id sent (one ∷ ids) before after run given =
-    all_given id sent ids run.0 after run.2 (offered_given id sent (line_of one before.hosts.lines)
+    all_given id sent ids run.0 after run.2 (offered_given id sent (client_of one before.hosts.clients)
     before run.0 run.1 given)
 
 -- each connection was sent what it took of the offers so far
@@ -96,6 +96,6 @@ pub part_given : (asked : Asked) (before after : Hosts) → IsHostPart asked bef
     → octets_for id after.sent ≡ octets_for id before.sent ++ taken_of id asked.offers
 part_given asked before after p id =
     ap (λ (h : Hosts). octets_for id h.sent) p.done
-    ∙ offers_given id asked.events (ids_of_lines p.taken.lines)
+    ∙ offers_given id asked.events (ids_of_clients p.taken.clients)
     before p.tried p.taken p.offered p.tries p.takes p.offers
     ∙ ap (λ offers. octets_for id before.sent ++ taken_of id offers) p.told.0

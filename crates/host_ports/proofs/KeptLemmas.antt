@@ -1,21 +1,21 @@
 -- What each change of hosts keeps, each step keeps, and so does each part of a turn.
 use Rattle.host_ports.proofs.Common.{zero, suc, true, false, List, ◌∷◌, Option, Some, None, list_any, sym, ◌∙◌, ap}
 use Rattle.host_ports.proofs.Common.{subst, inl, inr, cases_Bool, cond-true, cond-false, or_left, or_right, StationState}
-use Rattle.host_ports.proofs.Common.{HostEvent, Joined, Bytes, Left, Piece, Turn, Line, Untaken, Hosts, without, closing}
+use Rattle.host_ports.proofs.Common.{HostEvent, Joined, Bytes, Left, Piece, Turn, Client, Untaken, Hosts, without, closing}
 use Rattle.host_ports.proofs.Common.{cutting, waiting_too, with_waiting, fits, appending, appending_one, appending_to}
-use Rattle.host_ports.proofs.Common.{closing_one, closing_all, line_of, is_among, is_there, was_there, IsDelivered}
+use Rattle.host_ports.proofs.Common.{closing_one, closing_all, client_of, is_among, is_there, was_there, IsDelivered}
 use Rattle.host_ports.proofs.Common.{HaveLeft, AllHaveLeft, IsStep, Asked, Offering, InOrder, IsTried, AreTried}
-use Rattle.host_ports.proofs.Common.{AreTaken, IsTaken, IsOffered, IsOfferedTo, IsHostPart, joining, ids_of_lines}
+use Rattle.host_ports.proofs.Common.{AreTaken, IsTaken, IsOffered, IsOfferedTo, IsHostPart, joining, ids_of_clients}
 use Rattle.host_ports.proofs.Common.{is_joining_of, after_sending, front_of}
 use Rattle.std.specs.Prelude.{◌≡◌, ℕ, [], ◌++◌, take, refl}
-use Rattle.host_ports.proofs.LineLemmas.{there_line, found_id}
+use Rattle.host_ports.proofs.ClientLemmas.{there_client, found_id}
 use Rattle.host_ports.proofs.NamedLemmas.{itself}
 
 -- the connection takes so many octets of its front piece
-abbrev pub sending : Line → ℕ → Hosts → Hosts
-sending line count hosts = record hosts {
-  lines = with_waiting line.id (after_sending count line.waiting) hosts.lines;
-  sent = hosts.sent ++ (record { id = line.id; octets = take count (front_of line.waiting) }) ∷ [];
+abbrev pub sending : Client → ℕ → Hosts → Hosts
+sending client count hosts = record hosts {
+  clients = with_waiting client.id (after_sending count client.waiting) hosts.clients;
+  sent = hosts.sent ++ (record { id = client.id; octets = take count (front_of client.waiting) }) ∷ [];
 }
 
 -- what each change keeps that a step makes
@@ -24,8 +24,8 @@ pub record IsKeptByStep (P : Hosts → Type 0) : Type 0 where
   pub left : (id : ℕ) (hosts : Hosts) → P hosts → P (without id hosts)
   pub shut : (id : ℕ) (hosts : Hosts) → is_there id hosts ≡ true → P hosts → P (closing id hosts)
   pub leaving : (ids : List ℕ) (hosts : Hosts) → P hosts → P (record hosts { leaving = ids })
-  pub piece : (piece : Piece) (line : Line) (hosts : Hosts) → line_of piece.id hosts.lines ≡ Some line
-      → fits piece.octets line.waiting ≡ true → P hosts → P (waiting_too piece line hosts)
+  pub piece : (piece : Piece) (client : Client) (hosts : Hosts) → client_of piece.id hosts.clients ≡ Some client
+      → fits piece.octets client.waiting ≡ true → P hosts → P (waiting_too piece client hosts)
 
 -- and each that comes of events
 pub record IsKeptByTaking (events : List HostEvent) (P : Hosts → Type 0) : Type 0 where
@@ -37,8 +37,8 @@ pub record IsKeptByTaking (events : List HostEvent) (P : Hosts → Type 0) : Typ
 -- and each that a part of a turn makes
 pub record IsKeptByPart (events : List HostEvent) (P : Hosts → Type 0) : Type 0 where
   pub taking : IsKeptByTaking events P
-  pub sent : (line : Line) (count : ℕ) (hosts : Hosts) → line_of line.id hosts.lines ≡ Some line → P hosts
-      → P (sending line count hosts)
+  pub sent : (client : Client) (count : ℕ) (hosts : Hosts) → client_of client.id hosts.clients ≡ Some client → P hosts
+      → P (sending client count hosts)
 
 -- ---- a step
 
@@ -47,29 +47,29 @@ module _ (P : Hosts → Type 0) (k : IsKeptByStep P) where
   kept_cutting id hosts there p = k.leaving ((closing id hosts).leaving ++ id ∷ []) (closing id hosts)
       (k.shut id hosts there p)
 
-  kept_appending_to : (line : Option Line) (piece : Piece) (hosts : Hosts) → line_of piece.id hosts.lines ≡ line
-      → P hosts → P (appending_to line piece hosts)
+  kept_appending_to : (client : Option Client) (piece : Piece) (hosts : Hosts) → client_of piece.id hosts.clients ≡ client
+      → P hosts → P (appending_to client piece hosts)
   kept_appending_to None piece hosts found p = p
-  kept_appending_to (Some line) piece hosts found p = elim (cases_Bool (fits piece.octets line.waiting)) [
-    | inl is ↦ subst P (sym (cond-true (fits piece.octets line.waiting) (waiting_too piece line hosts)
-        (cutting line.id hosts) is)) (k.piece piece line hosts found is p)
+  kept_appending_to (Some client) piece hosts found p = elim (cases_Bool (fits piece.octets client.waiting)) [
+    | inl is ↦ subst P (sym (cond-true (fits piece.octets client.waiting) (waiting_too piece client hosts)
+        (cutting client.id hosts) is)) (k.piece piece client hosts found is p)
     | inr isnt ↦
-        let there : is_there line.id hosts ≡ true =
-        there_line line.id hosts.lines line (ap (λ n. line_of n hosts.lines) (found_id piece.id hosts.lines line found)
+        let there : is_there client.id hosts ≡ true =
+        there_client client.id hosts.clients client (ap (λ n. client_of n hosts.clients) (found_id piece.id hosts.clients client found)
         ∙ found) in
-        subst P (sym (cond-false (fits piece.octets line.waiting) (waiting_too piece line hosts) (cutting line.id hosts)
-        isnt)) (kept_cutting line.id hosts there p)
+        subst P (sym (cond-false (fits piece.octets client.waiting) (waiting_too piece client hosts) (cutting client.id hosts)
+        isnt)) (kept_cutting client.id hosts there p)
   ]
 
   kept_appending_one : (closed : List ℕ) (piece : Piece) (hosts : Hosts) → P hosts
       → P (appending_one closed piece hosts)
   kept_appending_one closed piece hosts p = elim (cases_Bool (is_among piece.id closed)) [
     | inl is ↦ subst P (sym (cond-true (is_among piece.id closed) hosts
-        (appending_to (line_of piece.id hosts.lines) piece hosts) is)) p
+        (appending_to (client_of piece.id hosts.clients) piece hosts) is)) p
     | inr isnt ↦
         subst P (sym (cond-false (is_among piece.id closed) hosts
-        (appending_to (line_of piece.id hosts.lines) piece hosts) isnt))
-        (kept_appending_to (line_of piece.id hosts.lines) piece hosts refl p)
+        (appending_to (client_of piece.id hosts.clients) piece hosts) isnt))
+        (kept_appending_to (client_of piece.id hosts.clients) piece hosts refl p)
   ]
 
   kept_appending : (closed : List ℕ) (pieces : List Piece) (hosts : Hosts) → P hosts → P (appending closed pieces hosts)
@@ -162,18 +162,18 @@ module _ (all : List HostEvent) (P : Hosts → Type 0) (k : IsKeptByTaking all P
   kept_takes before after run p = kept_events all (λ id joins. joins) before after run p
 
 module _ (all : List HostEvent) (P : Hosts → Type 0) (k : IsKeptByPart all P) where
-  kept_offered_to : (id : ℕ) (line : Option Line) (before after : Offering) → line_of id before.hosts.lines ≡ line
-      → IsOfferedTo line before after → P before.hosts → P after.hosts
+  kept_offered_to : (id : ℕ) (client : Option Client) (before after : Offering) → client_of id before.hosts.clients ≡ client
+      → IsOfferedTo client before after → P before.hosts → P after.hosts
   kept_offered_to id None before after found offered p = subst (λ (s : Offering). P s.hosts) (sym offered) p
-  kept_offered_to id (Some line) before after found offered p =
-      let own : line_of line.id before.hosts.lines ≡ Some line =
-      ap (λ n. line_of n before.hosts.lines) (found_id id before.hosts.lines line found) ∙ found in
+  kept_offered_to id (Some client) before after found offered p =
+      let own : client_of client.id before.hosts.clients ≡ Some client =
+      ap (λ n. client_of n before.hosts.clients) (found_id id before.hosts.clients client found) ∙ found in
       elim offered [
         | inl nothing ↦ subst (λ (s : Offering). P s.hosts) (sym nothing.1) p
         | inr rest ↦ elim rest [
-          | inl takes ↦ subst P (sym takes.1.rest) (k.sent line takes.1.took before.hosts own p)
-          | inr fails ↦ kept_left P k.taking.steps (cutting line.id before.hosts) after.hosts fails.1.leave
-              (kept_cutting P k.taking.steps line.id before.hosts (there_line line.id before.hosts.lines line own) p)
+          | inl takes ↦ subst P (sym takes.1.rest) (k.sent client takes.1.took before.hosts own p)
+          | inr fails ↦ kept_left P k.taking.steps (cutting client.id before.hosts) after.hosts fails.1.leave
+              (kept_cutting P k.taking.steps client.id before.hosts (there_client client.id before.hosts.clients client own) p)
         ]
       ]
 
@@ -181,13 +181,13 @@ module _ (all : List HostEvent) (P : Hosts → Type 0) (k : IsKeptByPart all P) 
       → P after.hosts
   kept_offers ids before after run p =
       kept_in_order (λ (s : Offering). P s.hosts) IsOffered
-      (λ id b a o. kept_offered_to id (line_of id b.hosts.lines) b a refl o) ids before after run p
+      (λ id b a o. kept_offered_to id (client_of id b.hosts.clients) b a refl o) ids before after run p
 
 -- up to what is sent
 pub kept_part : (asked : Asked) (P : Hosts → Type 0) (before after : Hosts) → (p : IsHostPart asked before after)
     → IsKeptByPart asked.events P → P before → P p.offered.hosts
 kept_part asked P before after p k h =
-    kept_offers asked.events P k (ids_of_lines p.taken.lines) (record { hosts = p.taken; offers = []; failed = [] })
+    kept_offers asked.events P k (ids_of_clients p.taken.clients) (record { hosts = p.taken; offers = []; failed = [] })
     p.offered p.offers
     (kept_takes asked.events P k.taking p.tried p.taken p.takes
     (kept_tried asked.events P k.taking before p.tried p.tries h))

@@ -1,7 +1,7 @@
 -- The station is told of the connections that were shut, one after another.
 use Rattle.host_ports.proofs.Common.{suc, ◌==◌, true, List, ◌∷◌, Some, list_any, slice_get, ◌∙◌, ap, or_left, or_right}
 use Rattle.host_ports.proofs.Common.{Left, IsHostTurn, HostParts, ReportLine, AreParts, Moves, MovesBy, IsKnown}
-use Rattle.host_ports.proofs.Common.{is_known, Hosts, without, is_line_of, is_among, IsDelivered, HaveLeft}
+use Rattle.host_ports.proofs.Common.{is_known, Hosts, without, is_client_of, is_among, IsDelivered, HaveLeft}
 use Rattle.std.specs.Prelude.{◌≡◌, ℕ, [], drop}
 use Rattle.host_ports.proofs.NamedLemmas.{itself}
 
@@ -27,5 +27,5 @@ first_among ids others id is = ap (is_among id) is ∙ or_left (id == id) (is_am
 
 -- who leaves is known
 pub leaving_known : (id : ℕ) (a : HostParts) → IsKnown a → is_among id a.leaving.items ≡ true → is_known id a ≡ true
-leaving_known id a known leaves = known.known id (or_right (list_any (is_line_of id) a.lines.items)
+leaving_known id a known leaves = known.known id (or_right (list_any (is_client_of id) a.clients.items)
     (is_among id a.leaving.items) leaves)

@@ -2,7 +2,7 @@ pub mod Common
 pub mod RealLemmas
 pub mod OutgoingLemmas
 pub mod ScriptLemmas
-pub mod LineLemmas
+pub mod ClientLemmas
 pub mod NamedLemmas
 pub mod MoveLemmas
 pub mod ShutLemmas

@@ -3,14 +3,14 @@ use Rattle.host_ports.proofs.Common.{◌==◌, ◌&&◌, ◌||◌, Bool, true, f
 use Rattle.host_ports.proofs.Common.{subst, arith, inl, inr, or_cases, or_left, or_right, cases_Bool, true≢false}
 use Rattle.host_ports.proofs.Common.{HostEvent, ids_of, ids_after, StationState, Out, Turn, HostParts, ReportLine}
 use Rattle.host_ports.proofs.Common.{AreParts, Moves, MovesBy, Narrows, IsKnown, IsAtRest, is_named, joins, leaves}
-use Rattle.host_ports.proofs.Common.{Hosts, delivering, is_line_of, is_among, IsDelivered, IsStep, AllHaveLeft}
+use Rattle.host_ports.proofs.Common.{Hosts, delivering, is_client_of, is_among, IsDelivered, IsStep, AllHaveLeft}
 use Rattle.host_ports.proofs.Common.{is_within}
 use Rattle.std.specs.Prelude.{◌≡◌, ℕ, ◌≤◌, length, refl}
 use Rattle.station.specs.Held.{Held}
 use Rattle.station.specs.StandsFor.{StandsFor as StandsForStation}
 use Rattle.station.specs.Turn.{begin}
 use Rattle.host_ports.specs.HeldHosts.{IsKnownBefore}
-use Rattle.host_ports.proofs.NamedLemmas.{lines_without, ids_without, still_known, was_known}
+use Rattle.host_ports.proofs.NamedLemmas.{clients_without, ids_without, still_known, was_known}
 
 -- ---- one after another
 
@@ -39,18 +39,18 @@ shared true b c = refl
 shared false b c = refl
 
 pub named_without : (a b : HostParts) (id other : ℕ)
-    → b.lines.items ≡ filter (λ line. not (line.id == id)) a.lines.items
+    → b.clients.items ≡ filter (λ client. not (client.id == id)) a.clients.items
     → b.leaving.items ≡ filter (λ one. not (one == id)) a.leaving.items
     → is_named other b ≡ (not (other == id) && is_named other a)
-named_without a b id other lines leaving =
-    ap (λ ls. list_any (is_line_of other) ls || is_among other b.leaving.items) lines
-    ∙ ap (λ ids. list_any (is_line_of other) (filter (λ line. not (line.id == id)) a.lines.items) || is_among other ids)
+named_without a b id other clients leaving =
+    ap (λ ls. list_any (is_client_of other) ls || is_among other b.leaving.items) clients
+    ∙ ap (λ ids. list_any (is_client_of other) (filter (λ client. not (client.id == id)) a.clients.items) || is_among other ids)
     leaving
     ∙ ap (λ t. t || is_among other (filter (λ one. not (one == id)) a.leaving.items))
-    (lines_without id other a.lines.items)
-    ∙ ap (λ t. (not (other == id) && list_any (is_line_of other) a.lines.items) || t)
+    (clients_without id other a.clients.items)
+    ∙ ap (λ t. (not (other == id) && list_any (is_client_of other) a.clients.items) || t)
     (ids_without id other a.leaving.items)
-    ∙ shared (not (other == id)) (list_any (is_line_of other) a.lines.items) (is_among other a.leaving.items)
+    ∙ shared (not (other == id)) (list_any (is_client_of other) a.clients.items) (is_among other a.leaving.items)
 
 -- ---- the station
 
@@ -76,7 +76,7 @@ pub with_station : (a : HostParts) (station : Held) (printed : List ReportLine) 
 with_station a station printed hosts next stands h = record {
   station = stands;
   came = h.came;
-  lines = h.lines;
+  clients = h.clients;
   untaken = h.untaken;
   report = h.report;
   to_shut = h.to_shut;
@@ -85,17 +85,17 @@ with_station a station printed hosts next stands h = record {
 
 -- the station knows exactly who it should after an event
 pub known_after : (event : HostEvent) (closed : List ℕ) (a b c : HostParts) → IsKnownBefore event a → b.came ≡ a.came
-    → b.lines ≡ a.lines → b.leaving ≡ a.leaving → b.untaken ≡ a.untaken
+    → b.clients ≡ a.clients → b.leaving ≡ a.leaving → b.untaken ≡ a.untaken
     → ids_of b.station ≡ ids_after event closed (ids_of a.station) → Narrows b c
     → ((id : ℕ) → is_among id closed ≡ true → is_named id c ≡ false) → IsKnown c
-known_after event closed a b c before came lines leaving untaken ids narrows gone =
+known_after event closed a b c before came clients leaving untaken ids narrows gone =
     let same_station : ids_of c.station ≡ ids_after event closed (ids_of a.station) = ap ids_of narrows.station
     ∙ ids in
     record {
       known = λ id named.
           let was : is_named id a ≡ true =
-          sym (ap (λ ls. list_any (is_line_of id) ls.items || is_among id b.leaving.items) lines
-          ∙ ap (λ ids'. list_any (is_line_of id) a.lines.items || is_among id ids'.items) leaving)
+          sym (ap (λ ls. list_any (is_client_of id) ls.items || is_among id b.leaving.items) clients
+          ∙ ap (λ ids'. list_any (is_client_of id) a.clients.items || is_among id ids'.items) leaving)
           ∙ narrows.named id named in
           let not_closed : is_among id closed ≡ false = elim (cases_Bool (is_among id closed)) [
             | inl holds ↦ absurd (true≢false (sym named ∙ gone id holds))

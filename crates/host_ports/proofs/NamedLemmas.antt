@@ -2,7 +2,7 @@
 use Rattle.host_ports.proofs.Common.{◌≢◌, zero, suc, ◌==◌, ◌&&◌, ◌||◌, Bool, true, false, not, List, ◌∷◌, filter, All}
 use Rattle.host_ports.proofs.Common.{cond, list_any, sym, ◌∙◌, ap, arith, inl, inr, eqb-true, eq-eqb, ne_eqb, and_parts}
 use Rattle.host_ports.proofs.Common.{or_parts, cases_Bool, false≢true, true≢false, list_any-append, HostEvent, Joined}
-use Rattle.host_ports.proofs.Common.{Bytes, Left, ids_after, Line, joins, leaves, is_line_of, is_among}
+use Rattle.host_ports.proofs.Common.{Bytes, Left, ids_after, Client, joins, leaves, is_client_of, is_among}
 use Rattle.std.specs.Prelude.{◌≡◌, ℕ, ◌+◌, ◌≤◌, [], ◌++◌, length, Any, refl}
 use Rattle.std.proofs.lemmas.Bool.{and_from, not_from_false}
 use Rattle.std.proofs.lemmas.List.Folds.{Any-from_list_any}
@@ -11,12 +11,12 @@ use Rattle.station.specs.Held.{without_ids}
 
 -- ---- one connection is left out
 
-pub lines_without : (id other : ℕ) (lines : List Line)
-    → list_any (is_line_of other) (filter (λ line. not (line.id == id)) lines)
-    ≡ (not (other == id) && list_any (is_line_of other) lines)
-lines_without id other lines =
-    any-filter_same (is_line_of other) (λ line. not (line.id == id)) (not (other == id))
-    (λ line same. ap (λ n. not (n == id)) (eqb-true line.id other same)) lines
+pub clients_without : (id other : ℕ) (clients : List Client)
+    → list_any (is_client_of other) (filter (λ client. not (client.id == id)) clients)
+    ≡ (not (other == id) && list_any (is_client_of other) clients)
+clients_without id other clients =
+    any-filter_same (is_client_of other) (λ client. not (client.id == id)) (not (other == id))
+    (λ client same. ap (λ n. not (n == id)) (eqb-true client.id other same)) clients
 
 pub ids_without : (id other : ℕ) (ids : List ℕ) → is_among other (filter (λ one. not (one == id)) ids)
     ≡ (not (other == id) && is_among other ids)
@@ -37,11 +37,11 @@ length_step : {X : Type 0} (b : Bool) (x : X) (kept xs : List X) → length kept
 length_step true x kept xs less = omega arith
 length_step false x kept xs less = omega arith
 
-pub length_without_lines : (id : ℕ) (lines : List Line) → length (filter (λ line. not (line.id == id)) lines)
-    ≤ length lines
-length_without_lines id [] = omega arith
-length_without_lines id (line ∷ lines) = length_step (line.id == id) line (filter (λ one. not (one.id == id)) lines)
-    lines (length_without_lines id lines)
+pub length_without_clients : (id : ℕ) (clients : List Client) → length (filter (λ client. not (client.id == id)) clients)
+    ≤ length clients
+length_without_clients id [] = omega arith
+length_without_clients id (client ∷ clients) = length_step (client.id == id) client (filter (λ one. not (one.id == id)) clients)
+    clients (length_without_clients id clients)
 
 rest_found : (a b : Bool) → a ≡ false → (a || b) ≡ true → b ≡ true
 rest_found true b here found = absurd (true≢false here)
@@ -52,12 +52,12 @@ fewer_step : {X : Type 0} (b : Bool) (x : X) (kept xs : List X) → length kept 
 fewer_step true x kept xs less fewer = omega arith
 fewer_step false x kept xs less fewer = let e = fewer refl in omega (arith, e)
 
-pub fewer_lines : (id : ℕ) (lines : List Line) → list_any (is_line_of id) lines ≡ true
-    → length (filter (λ line. not (line.id == id)) lines) + 1 ≤ length lines
-fewer_lines id [] found = absurd (false≢true found)
-fewer_lines id (line ∷ lines) found =
-    fewer_step (line.id == id) line (filter (λ one. not (one.id == id)) lines) lines (length_without_lines id lines)
-    (λ here. fewer_lines id lines (rest_found (line.id == id) (list_any (is_line_of id) lines) here found))
+pub fewer_clients : (id : ℕ) (clients : List Client) → list_any (is_client_of id) clients ≡ true
+    → length (filter (λ client. not (client.id == id)) clients) + 1 ≤ length clients
+fewer_clients id [] found = absurd (false≢true found)
+fewer_clients id (client ∷ clients) found =
+    fewer_step (client.id == id) client (filter (λ one. not (one.id == id)) clients) clients (length_without_clients id clients)
+    (λ here. fewer_clients id clients (rest_found (client.id == id) (list_any (is_client_of id) clients) here found))
 
 pub length_without_ids : (id : ℕ) (ids : List ℕ) → length (filter (λ one. not (one == id)) ids) ≤ length ids
 length_without_ids id [] = omega arith

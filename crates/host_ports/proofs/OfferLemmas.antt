@@ -1,8 +1,8 @@
 -- What connections are offered, one after another.
 use Rattle.host_ports.proofs.Common.{◌≢◌, ◌==◌, ◌||◌, Bool, true, false, List, ◌∷◌, Option, Some, sym, ◌∙◌, ap, subst}
 use Rattle.host_ports.proofs.Common.{arith, inl, inr, get_or, eqb-true, eq-eqb, cases_Bool, false≢true, true≢false}
-use Rattle.host_ports.proofs.Common.{take_more, list_any-append, HasRisen, Piece, HostParts, Line, ReportLine, Told}
-use Rattle.host_ports.proofs.Common.{AreOffered, AreShut, AreParts, MovesBy, Hosts, cutting, with_waiting, line_of}
+use Rattle.host_ports.proofs.Common.{take_more, list_any-append, HasRisen, Piece, HostParts, Client, ReportLine, Told}
+use Rattle.host_ports.proofs.Common.{AreOffered, AreShut, AreParts, MovesBy, Hosts, cutting, with_waiting, client_of}
 use Rattle.host_ports.proofs.Common.{is_among, AllHaveLeft, Offer, Offering, IsOffered, IsOfferedTo, InOrder, Poll, Send}
 use Rattle.host_ports.proofs.Common.{has_come, front_of, after_sending}
 use Rattle.std.specs.Prelude.{◌≡◌, ℕ, ◌+◌, ◌<◌, ◌≤◌, [], ◌++◌, length, take, refl}
@@ -18,9 +18,9 @@ OffersTo id a t b u =
     → (next : Offering) × IsOffered id before next × AreParts b printed next.hosts
     × AreOffered next.offers next.failed start u
 
-as_offered : (id : ℕ) (line : Option Line) (before next : Offering) → line_of id before.hosts.lines ≡ line
-    → IsOfferedTo line before next → IsOffered id before next
-as_offered id line before next is offered = subst (λ l. IsOfferedTo l before next) (sym is) offered
+as_offered : (id : ℕ) (client : Option Client) (before next : Offering) → client_of id before.hosts.clients ≡ client
+    → IsOfferedTo client before next → IsOffered id before next
+as_offered id client before next is offered = subst (λ l. IsOfferedTo l before next) (sym is) offered
 
 -- what was sent so far is told by the definitions alone
 with_sent : (a : HostParts) (printed : List ReportLine) (hosts : Hosts) (sent : List Piece) → AreParts a printed hosts
@@ -28,7 +28,7 @@ with_sent : (a : HostParts) (printed : List ReportLine) (hosts : Hosts) (sent : 
 with_sent a printed hosts sent h = record {
   station = h.station;
   came = h.came;
-  lines = h.lines;
+  clients = h.clients;
   untaken = h.untaken;
   report = h.report;
   to_shut = h.to_shut;
@@ -36,65 +36,65 @@ with_sent a printed hosts sent h = record {
 }
 
 -- a first part is taken
-pub offers_part : (id : ℕ) (line : Line) (took : ℕ) (a b : HostParts) (t u : Told)
-    → line_of id a.lines.items ≡ Some line → line.id ≡ id → line.waiting ≢ [] → took ≤ length (front_of line.waiting)
-    → Waits id (after_sending took line.waiting) a b → u.polls ≡ t.polls
+pub offers_part : (id : ℕ) (client : Client) (took : ℕ) (a b : HostParts) (t u : Told)
+    → client_of id a.clients.items ≡ Some client → client.id ≡ id → client.waiting ≢ [] → took ≤ length (front_of client.waiting)
+    → Waits id (after_sending took client.waiting) a b → u.polls ≡ t.polls
     → ((polls : List Poll) (sends : List Send) → t.polls ≡ Some polls → t.sends ≡ Some sends
     → u.sends ≡ Some (sends ++ (record {
       id = id;
       polls = length polls;
-      offered = length (front_of line.waiting);
+      offered = length (front_of client.waiting);
       took = took;
     }) ∷ []))
-    → ((octets : List ℕ) → t.sent id ≡ Some octets → u.sent id ≡ Some (octets ++ take took (front_of line.waiting)))
+    → ((octets : List ℕ) → t.sent id ≡ Some octets → u.sent id ≡ Some (octets ++ take took (front_of client.waiting)))
     → ((other : ℕ) → other ≢ id → u.sent other ≡ t.sent other) → ((other : ℕ) → u.is_shut other ≡ t.is_shut other)
     → t.faults ≤ u.faults
     → OffersTo id a t b u
-offers_part id line took a b t u found same some part waits polled sends sent others shut later =
+offers_part id client took a b t u found same some part waits polled sends sent others shut later =
     λ printed before start h was.
-    let front : List ℕ = front_of line.waiting in
+    let front : List ℕ = front_of client.waiting in
     let offer : Offer = record { id = id; octets = front; took = took } in
-    let rest : List (List ℕ) = after_sending took line.waiting in
+    let rest : List (List ℕ) = after_sending took client.waiting in
     let next : Offering = record {
       hosts = record before.hosts {
-        lines = with_waiting id rest before.hosts.lines;
+        clients = with_waiting id rest before.hosts.clients;
         sent = before.hosts.sent ++ (record { id = id; octets = take took front }) ∷ [];
       };
       offers = before.offers ++ offer ∷ [];
       failed = before.failed;
     } in (
       next,
-      as_offered id (Some line) before next (ap (line_of id) h.lines ∙ found) (inr (inl (
+      as_offered id (Some client) before next (ap (client_of id) h.clients ∙ found) (inr (inl (
         some,
         record {
           took = took;
           part = part;
           rest = ap (λ n. record before.hosts {
-            lines = with_waiting n rest before.hosts.lines;
+            clients = with_waiting n rest before.hosts.clients;
             sent = before.hosts.sent ++ (record { id = n; octets = take took front }) ∷ [];
           }) (sym same);
           offered = ap (λ n. before.offers ++ (record { id = n; octets = front; took = took }) ∷ []) (sym same);
           no_failure = refl;
         },
       ))),
-      with_sent b printed (record before.hosts { lines = with_waiting id rest before.hosts.lines })
+      with_sent b printed (record before.hosts { clients = with_waiting id rest before.hosts.clients })
           (before.hosts.sent ++ (record { id = id; octets = take took front }) ∷ [])
           (waits_stands id rest a b waits printed before.hosts h),
       offered_more before.offers before.failed offer start t u was polled sends sent others shut later,
     )
 
 -- its send fails
-pub offers_in_vain : (id : ℕ) (line : Line) (a b : HostParts) (t u : Told) → line_of id a.lines.items ≡ Some line
-    → line.id ≡ id → line.waiting ≢ []
+pub offers_in_vain : (id : ℕ) (client : Client) (a b : HostParts) (t u : Told) → client_of id a.clients.items ≡ Some client
+    → client.id ≡ id → client.waiting ≢ []
     → MovesBy (λ before after. AllHaveLeft (cutting id before) after) a b
     → u.polls ≡ t.polls → u.sends ≡ t.sends → ((other : ℕ) → u.sent other ≡ t.sent other)
     → ((other : ℕ) → u.is_shut other ≡ t.is_shut other) → HasRisen t.faults u.faults → t.faults ≤ u.faults
     → OffersTo id a t b u
-offers_in_vain id line a b t u found same some moves polled sends sent shut rises later = λ printed before start h was.
+offers_in_vain id client a b t u found same some moves polled sends sent shut rises later = λ printed before start h was.
     let m = moves printed before.hosts h in
     let next : Offering = record { hosts = m.0; offers = before.offers; failed = before.failed ++ id ∷ [] } in (
       next,
-      as_offered id (Some line) before next (ap (line_of id) h.lines ∙ found) (inr (inr (
+      as_offered id (Some client) before next (ap (client_of id) h.clients ∙ found) (inr (inr (
         some,
         record {
           leave = subst (λ n. AllHaveLeft (cutting n before.hosts) m.0) (sym same) m.1;

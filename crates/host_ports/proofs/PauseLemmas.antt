@@ -1,7 +1,7 @@
 -- The connections that a poll pauses.
 use Rattle.host_ports.proofs.Common.{◌==◌, ◌||◌, ◌↔◌, Bool, true, false, List, ◌∷◌, Contains, IsTrue, list_any, sym, ◌∙◌}
 use Rattle.host_ports.proofs.Common.{ap, subst, inl, inr, get_or, eqb-true, eq-eqb, ne_eqb, cases_Bool, or_cases}
-use Rattle.host_ports.proofs.Common.{or_left, or_right, true≢false, take_more, list_any-append, Line, Hosts, is_line_of}
+use Rattle.host_ports.proofs.Common.{or_left, or_right, true≢false, take_more, list_any-append, Client, Hosts, is_client_of}
 use Rattle.host_ports.proofs.Common.{ArePaused, HasToWait}
 use Rattle.std.specs.Prelude.{◌≡◌, ℕ, ◌+◌, ◌<◌, [], ◌++◌, length, take, IsPermutation, refl}
 use Rattle.std.specs.Cmp.{IsEquivalence}
@@ -46,61 +46,61 @@ are_paused waiting sorted ids hosts are same back rising is = record {
   );
 }
 
--- ---- line by line
+-- ---- client by client
 
-abbrev pub AreWaitingOf : List ℕ → List Line → Hosts → Type 0
-AreWaitingOf ids lines hosts = (id : ℕ) → Contains ids id
-    ↔ (IsTrue (list_any (is_line_of id) lines) × HasToWait id hosts)
+abbrev pub AreWaitingOf : List ℕ → List Client → Hosts → Type 0
+AreWaitingOf ids clients hosts = (id : ℕ) → Contains ids id
+    ↔ (IsTrue (list_any (is_client_of id) clients) × HasToWait id hosts)
 
 or_nothing : (b : Bool) → (b || false) ≡ b
 or_nothing true = refl
 or_nothing false = refl
 
-any_more : (id i : ℕ) (lines : List Line) (d : Line) → i < length lines
-    → list_any (is_line_of id) (take (i + 1) lines)
-    ≡ (list_any (is_line_of id) (take i lines) || ((get_or lines i d).id == id))
-any_more id i lines d within =
-    ap (list_any (is_line_of id)) (take_more lines i d within)
-    ∙ list_any-append (is_line_of id) (take i lines) (get_or lines i d ∷ [])
-    ∙ ap (λ t. list_any (is_line_of id) (take i lines) || t) (or_nothing ((get_or lines i d).id == id))
+any_more : (id i : ℕ) (clients : List Client) (d : Client) → i < length clients
+    → list_any (is_client_of id) (take (i + 1) clients)
+    ≡ (list_any (is_client_of id) (take i clients) || ((get_or clients i d).id == id))
+any_more id i clients d within =
+    ap (list_any (is_client_of id)) (take_more clients i d within)
+    ∙ list_any-append (is_client_of id) (take i clients) (get_or clients i d ∷ [])
+    ∙ ap (λ t. list_any (is_client_of id) (take i clients) || t) (or_nothing ((get_or clients i d).id == id))
 
-pub one_waits : (i : ℕ) (ids next : List ℕ) (lines : List Line) (d : Line) (hosts : Hosts) → i < length lines
-    → AreWaitingOf ids (take i lines) hosts → HasToWait (get_or lines i d).id hosts
-    → next ≡ ids ++ (get_or lines i d).id ∷ []
-    → AreWaitingOf next (take (i + 1) lines) hosts
-one_waits i ids next lines d hosts within are waits is id =
-    let one : ℕ = (get_or lines i d).id in (
+pub one_waits : (i : ℕ) (ids next : List ℕ) (clients : List Client) (d : Client) (hosts : Hosts) → i < length clients
+    → AreWaitingOf ids (take i clients) hosts → HasToWait (get_or clients i d).id hosts
+    → next ≡ ids ++ (get_or clients i d).id ∷ []
+    → AreWaitingOf next (take (i + 1) clients) hosts
+one_waits i ids next clients d hosts within are waits is id =
+    let one : ℕ = (get_or clients i d).id in (
       λ has. elim (Contains-push_cases ids one id (subst (λ xs. Contains xs id) is has)) [
         | inl was ↦ (
-          any_more id i lines d within ∙ or_left (list_any (is_line_of id) (take i lines)) (one == id)
+          any_more id i clients d within ∙ or_left (list_any (is_client_of id) (take i clients)) (one == id)
               ((are id).0 was).0,
           ((are id).0 was).1,
         )
         | inr same ↦ (
-          any_more id i lines d within ∙ or_right (list_any (is_line_of id) (take i lines)) (one == id)
+          any_more id i clients d within ∙ or_right (list_any (is_client_of id) (take i clients)) (one == id)
               (eq-eqb one id same),
           subst (λ n. HasToWait n hosts) same waits,
         )
       ],
       λ both. subst (λ xs. Contains xs id) (sym is)
-          (elim (or_cases (list_any (is_line_of id) (take i lines)) (one == id) (sym (any_more id i lines d within)
+          (elim (or_cases (list_any (is_client_of id) (take i clients)) (one == id) (sym (any_more id i clients d within)
           ∙ both.0)) [
             | inl was ↦ Contains-append_left ids (one ∷ []) id ((are id).1 (was, both.1))
             | inr same ↦ subst (λ n. Contains (ids ++ one ∷ []) n) (eqb-true one id same) (Contains-push ids one)
           ]),
     )
 
-pub one_goes : (i : ℕ) (ids : List ℕ) (lines : List Line) (d : Line) (hosts : Hosts) → i < length lines
-    → AreWaitingOf ids (take i lines) hosts → ¬ HasToWait (get_or lines i d).id hosts
-    → AreWaitingOf ids (take (i + 1) lines) hosts
-one_goes i ids lines d hosts within are goes id =
-    let one : ℕ = (get_or lines i d).id in (
+pub one_goes : (i : ℕ) (ids : List ℕ) (clients : List Client) (d : Client) (hosts : Hosts) → i < length clients
+    → AreWaitingOf ids (take i clients) hosts → ¬ HasToWait (get_or clients i d).id hosts
+    → AreWaitingOf ids (take (i + 1) clients) hosts
+one_goes i ids clients d hosts within are goes id =
+    let one : ℕ = (get_or clients i d).id in (
       λ has. (
-        any_more id i lines d within ∙ or_left (list_any (is_line_of id) (take i lines)) (one == id)
+        any_more id i clients d within ∙ or_left (list_any (is_client_of id) (take i clients)) (one == id)
             ((are id).0 has).0,
         ((are id).0 has).1,
       ),
-      λ both. elim (or_cases (list_any (is_line_of id) (take i lines)) (one == id) (sym (any_more id i lines d within)
+      λ both. elim (or_cases (list_any (is_client_of id) (take i clients)) (one == id) (sym (any_more id i clients d within)
           ∙ both.0)) [
             | inl was ↦ (are id).1 (was, both.1)
             | inr same ↦ absurd (goes (subst (λ n. HasToWait n hosts) (sym (eqb-true one id same)) both.1))

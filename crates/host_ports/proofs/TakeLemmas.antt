@@ -2,7 +2,7 @@
 use Rattle.host_ports.proofs.Common.{◌==◌, ◌||◌, Bool, true, false, List, ◌∷◌, list_any, sym, ◌∙◌, ap, subst, arith, inl}
 use Rattle.host_ports.proofs.Common.{inr, or_left, append-nil}
 use Rattle.host_ports.proofs.Common.{list_any-append, Joined, Bytes, Left, PortKind, IsHostTurn, HostParts, ReportLine}
-use Rattle.host_ports.proofs.Common.{AreParts, Moves, MovesBy, IsKnown, is_known, Hosts, without, was_there, is_line_of}
+use Rattle.host_ports.proofs.Common.{AreParts, Moves, MovesBy, IsKnown, is_known, Hosts, without, was_there, is_client_of}
 use Rattle.host_ports.proofs.Common.{is_among, IsStep, InOrder, HasToWait, AreTaken, joining, is_within}
 use Rattle.std.specs.Prelude.{◌≡◌, ℕ, [], ◌++◌, length, refl}
 use Rattle.station.specs.StandsFor.{StandsFor as StandsForStation}
@@ -19,22 +19,22 @@ in_order-snoc step (y ∷ xs) x a b c run one = (run.0, run.1, in_order-snoc ste
 pub record Holds (id : ℕ) (octets : List ℕ) (a b : HostParts) : Type 0 where
   pub station : b.station ≡ a.station
   pub came : b.came ≡ a.came
-  pub lines : b.lines ≡ a.lines
+  pub clients : b.clients ≡ a.clients
   pub untaken : b.untaken.items ≡ a.untaken.items ++ (record { id = id; octets = octets }) ∷ []
   pub report : b.report ≡ a.report
   pub to_shut : b.to_shut ≡ a.to_shut
   pub leaving : b.leaving ≡ a.leaving
 
-pub holds_on : (id : ℕ) (octets : List ℕ) (a b : HostParts) → list_any (is_line_of id) a.lines.items ≡ true
+pub holds_on : (id : ℕ) (octets : List ℕ) (a b : HostParts) → list_any (is_client_of id) a.clients.items ≡ true
     → ((printed : List ReportLine) (hosts : Hosts) → AreParts a printed hosts → HasToWait id hosts)
     → Holds id octets a b → MovesBy (AreTaken id octets) a b
 holds_on id octets a b there waits s = λ printed hosts h. (
   holding id octets hosts,
-  inr (inl (ap (list_any (is_line_of id)) h.lines ∙ there, waits printed hosts h, refl)),
+  inr (inl (ap (list_any (is_client_of id)) h.clients ∙ there, waits printed hosts h, refl)),
   record {
     station = subst (λ t. StandsForStation t hosts.station) (sym s.station) h.station;
     came = λ other. ap (λ ranges. is_within other ranges.items) s.came ∙ h.came other;
-    lines = h.lines ∙ ap (λ lines. lines.items) (sym s.lines);
+    clients = h.clients ∙ ap (λ clients. clients.items) (sym s.clients);
     untaken = ap (λ all. all ++ (record { id = id; octets = octets }) ∷ []) h.untaken ∙ sym s.untaken;
     report = h.report ∙ ap (λ report. printed ++ report.items) (sym s.report);
     to_shut = h.to_shut ∙ ap (λ ids. ids.items) (sym s.to_shut);
@@ -42,26 +42,26 @@ holds_on id octets a b there waits s = λ printed hosts h. (
   },
 )
 
-pub takes_now : (id : ℕ) (octets : List ℕ) (a b : HostParts) → list_any (is_line_of id) a.lines.items ≡ true
+pub takes_now : (id : ℕ) (octets : List ℕ) (a b : HostParts) → list_any (is_client_of id) a.clients.items ≡ true
     → ((printed : List ReportLine) (hosts : Hosts) → AreParts a printed hosts → ¬ HasToWait id hosts)
     → MovesBy (IsStep (IsHostTurn (Bytes id octets))) a b → MovesBy (AreTaken id octets) a b
 takes_now id octets a b there goes moves = λ printed hosts h.
     let m = moves printed hosts h in
-    (m.0, inr (inr (ap (list_any (is_line_of id)) h.lines ∙ there, goes printed hosts h, m.1)), m.2)
+    (m.0, inr (inr (ap (list_any (is_client_of id)) h.clients ∙ there, goes printed hosts h, m.1)), m.2)
 
 -- who is there is known
-pub there_known : (id : ℕ) (a : HostParts) → IsKnown a → list_any (is_line_of id) a.lines.items ≡ true
+pub there_known : (id : ℕ) (a : HostParts) → IsKnown a → list_any (is_client_of id) a.clients.items ≡ true
     → is_known id a ≡ true
-there_known id a known there = known.known id (or_left (list_any (is_line_of id) a.lines.items)
+there_known id a known there = known.known id (or_left (list_any (is_client_of id) a.clients.items)
     (is_among id a.leaving.items) there)
 
 -- ---- a connection leaves
 
-pub left_there : (id : ℕ) (a b c : HostParts) → list_any (is_line_of id) a.lines.items ≡ true → Moves (without id) a b
+pub left_there : (id : ℕ) (a b c : HostParts) → list_any (is_client_of id) a.clients.items ≡ true → Moves (without id) a b
     → MovesBy (IsStep (IsHostTurn (Left id))) b c → MovesBy (HasLeft id) a c
 left_there id a b c there first second = λ printed hosts h.
     let m = second printed (without id hosts) (first printed hosts h) in
-    (m.0, inr (ap (list_any (is_line_of id)) h.lines ∙ there, m.1), m.2)
+    (m.0, inr (ap (list_any (is_client_of id)) h.clients ∙ there, m.1), m.2)
 
 -- ---- a connection joins
 
@@ -69,7 +69,7 @@ left_there id a b c there first second = λ printed hosts h.
 pub record JoinsParts (id : ℕ) (a b : HostParts) : Type 0 where
   pub station : b.station ≡ a.station
   pub came : (other : ℕ) → is_within other b.came.items ≡ (is_within other a.came.items || (id == other))
-  pub lines : b.lines.items ≡ a.lines.items ++ (record { id = id; waiting = [] }) ∷ []
+  pub clients : b.clients.items ≡ a.clients.items ++ (record { id = id; waiting = [] }) ∷ []
   pub untaken : b.untaken ≡ a.untaken
   pub report : b.report ≡ a.report
   pub to_shut : b.to_shut ≡ a.to_shut
@@ -86,7 +86,7 @@ joins_moves id a b s = λ printed hosts h. record {
       s.came other ∙ ap (λ t. t || (id == other)) (h.came other)
       ∙ ap (λ t. was_there other hosts || t) (sym (or_nothing (id == other)))
       ∙ sym (list_any-append (λ one. one == other) hosts.came (id ∷ []));
-  lines = ap (λ all. all ++ (record { id = id; waiting = [] }) ∷ []) h.lines ∙ sym s.lines;
+  clients = ap (λ all. all ++ (record { id = id; waiting = [] }) ∷ []) h.clients ∙ sym s.clients;
   untaken = h.untaken ∙ ap (λ all. all.items) (sym s.untaken);
   report = h.report ∙ ap (λ report. printed ++ report.items) (sym s.report);
   to_shut = h.to_shut ∙ ap (λ ids. ids.items) (sym s.to_shut);
@@ -110,12 +110,12 @@ runs_more step xs x a b c first second = λ printed hosts h.
 
 -- what was not taken is put aside
 pub put_aside : (a b : HostParts) (printed : List ReportLine) (hosts : Hosts) → b.station ≡ a.station → b.came ≡ a.came
-    → b.lines ≡ a.lines → b.report ≡ a.report → b.to_shut ≡ a.to_shut → b.leaving ≡ a.leaving → b.untaken.items ≡ []
+    → b.clients ≡ a.clients → b.report ≡ a.report → b.to_shut ≡ a.to_shut → b.leaving ≡ a.leaving → b.untaken.items ≡ []
     → AreParts a printed hosts → AreParts b printed (record hosts { untaken = [] })
-put_aside a b printed hosts station came lines report to_shut leaving none h = record {
+put_aside a b printed hosts station came clients report to_shut leaving none h = record {
   station = subst (λ t. StandsForStation t hosts.station) (sym station) h.station;
   came = λ other. ap (λ ranges. is_within other ranges.items) came ∙ h.came other;
-  lines = h.lines ∙ ap (λ all. all.items) (sym lines);
+  clients = h.clients ∙ ap (λ all. all.items) (sym clients);
   untaken = sym none;
   report = h.report ∙ ap (λ all. printed ++ all.items) (sym report);
   to_shut = h.to_shut ∙ ap (λ ids. ids.items) (sym to_shut);

@@ -3,7 +3,7 @@ use Rattle.std.specs.Prelude.{◌≡◌, ℕ, ◌⊎◌, List, [], ◌++◌}
 use Rattle.host_ports.specs.AskedPorts.{Told, AreUnasked, IsAsked}
 use Rattle.host_ports.specs.Hosts.{Hosts}
 use Rattle.host_ports.specs.HostTurns.{Asked, Offering, ArePaused, AreTried, InOrder, IsTaken, IsOffered, IsHostPart}
-use Rattle.host_ports.specs.HostTurns.{ids_of_lines}
+use Rattle.host_ports.specs.HostTurns.{ids_of_clients}
 
 -- It is cut short when it takes what waits and what came: the ports were polled, and nothing is sent.
 pub record IsCutInTaking (asked : Asked) (before reached : Hosts) : Type 0 where
@@ -20,7 +20,7 @@ pub record IsCutInSending (asked : Asked) (before reached : Hosts) : Type 0 wher
   pub takes : InOrder IsTaken asked.events tried taken
   pub first : List ℕ
   pub others : List ℕ
-  pub parts : ids_of_lines taken.lines ≡ first ++ others
+  pub parts : ids_of_clients taken.clients ≡ first ++ others
   pub offered : Offering
   pub offers : InOrder IsOffered first (record { hosts = taken; offers = []; failed = [] }) offered
   pub told : (offered.offers ≡ asked.offers) × (offered.failed ≡ asked.failed) × (asked.shut ≡ [])

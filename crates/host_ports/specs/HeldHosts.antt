@@ -8,7 +8,7 @@ use Rattle.station.specs.Held.{ids_of}
 use Rattle.station.specs.StandsFor.{StandsFor as StandsForStation}
 use Rattle.host_ports.specs.declared.host_parts.HostParts.{HostParts}
 use Rattle.host_ports.specs.declared.report_line.ReportLine.{ReportLine}
-use Rattle.host_ports.specs.Hosts.{Hosts, is_line_of, is_among, is_there, was_there}
+use Rattle.host_ports.specs.Hosts.{Hosts, is_client_of, is_among, is_there, was_there}
 use Rattle.host_ports.specs.HostTurns.{HasToWait}
 use Rattle.host_ports.specs.SentSoFar.{IsOrderly}
 use Rattle.host_ports.specs.IdRanges.{is_within}
@@ -22,7 +22,7 @@ pub record HeldHosts : Type 0 where
 pub record AreParts (parts : HostParts) (printed : List ReportLine) (hosts : Hosts) : Type 0 where
   pub station : StandsForStation parts.station hosts.station
   pub came : (id : ℕ) → is_within id parts.came.items ≡ was_there id hosts
-  pub lines : hosts.lines ≡ parts.lines.items
+  pub clients : hosts.clients ≡ parts.clients.items
   pub untaken : hosts.untaken ≡ parts.untaken.items
   pub report : hosts.report ≡ printed ++ parts.report.items
   pub to_shut : hosts.to_shut ≡ parts.to_shut.items
@@ -35,7 +35,7 @@ pub record StandsFor (held : HeldHosts) (printed : List ReportLine) (hosts : Hos
 
 -- the connection is there, or was shut and the station is not told yet that it left
 abbrev pub is_named : ℕ → HostParts → Bool
-is_named id parts = list_any (is_line_of id) parts.lines.items || is_among id parts.leaving.items
+is_named id parts = list_any (is_client_of id) parts.clients.items || is_among id parts.leaving.items
 
 -- the station knows the connection
 abbrev pub is_known : ℕ → HostParts → Bool
@@ -68,7 +68,7 @@ MovesBy step before after =
 
 -- how many steps are left at most in which the station is told of a connection that it left
 abbrev pub weight : HostParts → ℕ
-weight parts = 2 * length parts.lines.items + length parts.leaving.items
+weight parts = 2 * length parts.clients.items + length parts.leaving.items
 
 -- nobody is named anew, and nothing came
 pub record Narrows (before after : HostParts) : Type 0 where

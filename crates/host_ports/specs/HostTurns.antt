@@ -9,9 +9,9 @@ use Rattle.station.specs.declared.host_event.HostEvent.TheVariants.{Joined, Byte
 use Rattle.station.specs.declared.host_event.PortKind.{PortKind}
 use Rattle.station.specs.Host.{IsHostTurn}
 use Rattle.station.specs.State.{Accepts}
-use Rattle.host_ports.specs.declared.line.Line.{Line}
+use Rattle.host_ports.specs.declared.client.Client.{Client}
 use Rattle.host_ports.specs.declared.untaken.Untaken.{Untaken}
-use Rattle.host_ports.specs.Hosts.{Hosts, is_there, was_there, without, cutting, with_waiting, line_of, IsStep}
+use Rattle.host_ports.specs.Hosts.{Hosts, is_there, was_there, without, cutting, with_waiting, client_of, IsStep}
 use Rattle.host_ports.specs.Hosts.{AllHaveLeft}
 use Rattle.host_ports.specs.Waiting.{front_of, after_sending}
 
@@ -63,7 +63,7 @@ AreTried before after = InOrder IsTried before.untaken (record before { untaken 
 abbrev pub joining : ℕ → Hosts → Hosts
 joining id hosts = record hosts {
   came = hosts.came ++ id ∷ [];
-  lines = hosts.lines ++ (record { id = id; waiting = [] }) ∷ [];
+  clients = hosts.clients ++ (record { id = id; waiting = [] }) ∷ [];
 }
 
 -- one that was there before is passed over
@@ -98,32 +98,32 @@ pub record Offering : Type 0 where
   pub failed : List ℕ
 
 -- a connection takes a first part of what it is offered
-pub record Takes (line : Line) (before after : Offering) : Type 0 where
+pub record Takes (client : Client) (before after : Offering) : Type 0 where
   pub took : ℕ
-  pub part : took ≤ length (front_of line.waiting)
+  pub part : took ≤ length (front_of client.waiting)
   pub rest : after.hosts ≡ record before.hosts {
-    lines = with_waiting line.id (after_sending took line.waiting) before.hosts.lines;
-    sent = before.hosts.sent ++ (record { id = line.id; octets = take took (front_of line.waiting) }) ∷ [];
+    clients = with_waiting client.id (after_sending took client.waiting) before.hosts.clients;
+    sent = before.hosts.sent ++ (record { id = client.id; octets = take took (front_of client.waiting) }) ∷ [];
   }
-  pub offered : after.offers ≡ before.offers ++ (record { id = line.id; octets = front_of line.waiting; took = took })
+  pub offered : after.offers ≡ before.offers ++ (record { id = client.id; octets = front_of client.waiting; took = took })
       ∷ []
   pub no_failure : after.failed ≡ before.failed
 
 -- its send fails, and it is shut
-pub record Fails (line : Line) (before after : Offering) : Type 0 where
-  pub leave : AllHaveLeft (cutting line.id before.hosts) after.hosts
+pub record Fails (client : Client) (before after : Offering) : Type 0 where
+  pub leave : AllHaveLeft (cutting client.id before.hosts) after.hosts
   pub offered : after.offers ≡ before.offers
-  pub failure : after.failed ≡ before.failed ++ line.id ∷ []
+  pub failure : after.failed ≡ before.failed ++ client.id ∷ []
 
 -- A connection for which something waits is offered the rest of the front piece, once.
-abbrev pub IsOfferedTo : Option Line → Offering → Offering → Type 0
+abbrev pub IsOfferedTo : Option Client → Offering → Offering → Type 0
 IsOfferedTo None before after = after ≡ before
-IsOfferedTo (Some line) before after =
-    ((line.waiting ≡ []) × (after ≡ before)) ⊎ ((line.waiting ≢ []) × Takes line before after)
-    ⊎ ((line.waiting ≢ []) × Fails line before after)
+IsOfferedTo (Some client) before after =
+    ((client.waiting ≡ []) × (after ≡ before)) ⊎ ((client.waiting ≢ []) × Takes client before after)
+    ⊎ ((client.waiting ≢ []) × Fails client before after)
 
 abbrev pub IsOffered : ℕ → Offering → Offering → Type 0
-IsOffered id before after = IsOfferedTo (line_of id before.hosts.lines) before after
+IsOffered id before after = IsOfferedTo (client_of id before.hosts.clients) before after
 
 -- ---- the part of a turn that is for hosts
 
@@ -137,8 +137,8 @@ pub record Asked : Type 0 where
   -- the connections that were shut, in order
   pub shut : List ℕ
 
-abbrev pub ids_of_lines : List Line → List ℕ
-ids_of_lines lines = map (λ line. line.id) lines
+abbrev pub ids_of_clients : List Client → List ℕ
+ids_of_clients clients = map (λ client. client.id) clients
 
 pub record IsHostPart (asked : Asked) (before after : Hosts) : Type 0 where
   pub pauses : ArePaused before asked.paused
@@ -147,6 +147,6 @@ pub record IsHostPart (asked : Asked) (before after : Hosts) : Type 0 where
   pub taken : Hosts
   pub takes : InOrder IsTaken asked.events tried taken
   pub offered : Offering
-  pub offers : InOrder IsOffered (ids_of_lines taken.lines) (record { hosts = taken; offers = []; failed = [] }) offered
+  pub offers : InOrder IsOffered (ids_of_clients taken.clients) (record { hosts = taken; offers = []; failed = [] }) offered
   pub told : (offered.offers ≡ asked.offers) × (offered.failed ≡ asked.failed) × (offered.hosts.to_shut ≡ asked.shut)
   pub done : after ≡ record offered.hosts { to_shut = [] }

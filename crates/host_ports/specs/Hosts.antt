@@ -12,7 +12,7 @@ use Rattle.station.specs.Host.{IsHostTurn}
 use Rattle.station.specs.State.{StationState, new_station}
 use Rattle.station.specs.Ticks.{IsTick, air_of}
 use Rattle.station.specs.Turn.{Out, Turn, begin}
-use Rattle.host_ports.specs.declared.line.Line.{Line}
+use Rattle.host_ports.specs.declared.client.Client.{Client}
 use Rattle.host_ports.specs.declared.report_line.ReportLine.{ReportLine}
 use Rattle.host_ports.specs.declared.report_line.ReportLine.TheVariants.{ClosedLine}
 use Rattle.host_ports.specs.declared.untaken.Untaken.{Untaken}
@@ -23,7 +23,7 @@ pub record Hosts : Type 0 where
   -- every id that joined so far
   pub came : List ℕ
   -- the connections that are there, in the order in which they joined, each with the pieces that wait for it
-  pub lines : List Line
+  pub clients : List Client
   -- octets of connections that the station has not taken yet, in the order in which they came
   pub untaken : List Untaken
   -- the lines of the report so far
@@ -41,7 +41,7 @@ abbrev pub new_hosts : Config → ℕ → Hosts
 new_hosts config seed = record {
   station = new_station config seed;
   came = [];
-  lines = [];
+  clients = [];
   untaken = [];
   report = [];
   appended = [];
@@ -52,14 +52,14 @@ new_hosts config seed = record {
 
 -- ---- which connections are there
 
-abbrev pub is_line_of : ℕ → Line → Bool
-is_line_of id line = line.id == id
+abbrev pub is_client_of : ℕ → Client → Bool
+is_client_of id client = client.id == id
 
-abbrev pub line_of : ℕ → List Line → Option Line
-line_of id lines = find (is_line_of id) lines
+abbrev pub client_of : ℕ → List Client → Option Client
+client_of id clients = find (is_client_of id) clients
 
 abbrev pub is_there : ℕ → Hosts → Bool
-is_there id hosts = list_any (is_line_of id) hosts.lines
+is_there id hosts = list_any (is_client_of id) hosts.clients
 
 abbrev pub is_among : ℕ → List ℕ → Bool
 is_among id ids = list_any (λ other. other == id) ids
@@ -70,7 +70,7 @@ was_there id hosts = is_among id hosts.came
 -- nothing of the connection is left
 abbrev pub without : ℕ → Hosts → Hosts
 without id hosts = record hosts {
-  lines = filter (λ line. not (line.id == id)) hosts.lines;
+  clients = filter (λ client. not (client.id == id)) hosts.clients;
   untaken = filter (λ one. not (one.id == id)) hosts.untaken;
   leaving = filter (λ other. not (other == id)) hosts.leaving;
 }
@@ -89,32 +89,32 @@ cutting id hosts = let shut = closing id hosts in record shut { leaving = shut.l
 
 -- ---- what a step says to them
 
--- the line of a connection, with these pieces
-abbrev pub with_waiting : ℕ → List (List ℕ) → List Line → List Line
+-- the client of a connection, with these pieces
+abbrev pub with_waiting : ℕ → List (List ℕ) → List Client → List Client
 with_waiting id waiting [] = []
-with_waiting id waiting (line ∷ lines) =
-    if line.id == id then record line { waiting = waiting } ∷ lines else line ∷ with_waiting id waiting lines
+with_waiting id waiting (client ∷ clients) =
+    if client.id == id then record client { waiting = waiting } ∷ clients else client ∷ with_waiting id waiting clients
 
 abbrev pub fits : List ℕ → List (List ℕ) → Bool
 fits piece waiting = nat_le (length (octets_of waiting) + length piece) most_octets
 
 -- a piece waits whole for its connection
-abbrev pub waiting_too : Piece → Line → Hosts → Hosts
-waiting_too piece line hosts = record hosts {
-  lines = with_waiting line.id (with_piece piece.octets line.waiting) hosts.lines;
+abbrev pub waiting_too : Piece → Client → Hosts → Hosts
+waiting_too piece client hosts = record hosts {
+  clients = with_waiting client.id (with_piece piece.octets client.waiting) hosts.clients;
   appended = hosts.appended ++ piece ∷ [];
 }
 
 -- or it does not fit, and the connection is shut
-abbrev pub appending_to : Option Line → Piece → Hosts → Hosts
+abbrev pub appending_to : Option Client → Piece → Hosts → Hosts
 appending_to None piece hosts = hosts
-appending_to (Some line) piece hosts =
-    if fits piece.octets line.waiting then waiting_too piece line hosts else cutting line.id hosts
+appending_to (Some client) piece hosts =
+    if fits piece.octets client.waiting then waiting_too piece client hosts else cutting client.id hosts
 
 -- what is said to a connection that the same step closes is dropped
 abbrev pub appending_one : List ℕ → Piece → Hosts → Hosts
 appending_one closed piece hosts =
-    if is_among piece.id closed then hosts else appending_to (line_of piece.id hosts.lines) piece hosts
+    if is_among piece.id closed then hosts else appending_to (client_of piece.id hosts.clients) piece hosts
 
 abbrev pub appending : List ℕ → List Piece → Hosts → Hosts
 appending closed [] hosts = hosts

@@ -2,10 +2,10 @@
 ghost use Rattle.std.specs.Prelude.{◌≡◌, false, true, ℕ, OnOk};
 ghost use Rattle.host_ports.specs.HeldHosts.{Moves, Narrows, is_named};
 ghost use Rattle.host_ports.specs.Hosts.{appending, appending_one, appending_to, closing_all, closing_one, delivering};
-ghost use Rattle.host_ports.specs.Hosts.{is_among, line_of};
+ghost use Rattle.host_ports.specs.Hosts.{is_among, client_of};
 
+use crate::clients::{is_among, is_there, place_of};
 use crate::host_parts::HostParts;
-use crate::lines::{is_among, is_there, place_of};
 use crate::outgoing::AppendFault;
 use station::{HostOut, Piece};
 use tnc_base::OutOfMemory;
@@ -45,13 +45,13 @@ impl HostParts {
     /// A piece waits whole for its connection, or the connection is shut.
     fn append(&mut self, piece: &Piece) -> Result<(), OutOfMemory>
         ensures moves { OnOk result (Moves
-            (λ hosts. appending_to (line_of piece.now.id hosts.lines) piece.now hosts) self.old self.new) }
+            (λ hosts. appending_to (client_of piece.now.id hosts.clients) piece.now hosts) self.old self.new) }
         ensures narrows { OnOk result (Narrows self.old self.new) }
     {
-        let Some(at) = place_of(piece.id, &self.lines) else {
+        let Some(at) = place_of(piece.id, &self.clients) else {
             return Ok(());
         };
-        match self.lines[at].waiting.append(piece.octets.as_slice()) {
+        match self.clients[at].waiting.append(piece.octets.as_slice()) {
             Ok(()) => Ok(()),
             Err(AppendFault::Full) => self.cut(piece.id),
             Err(AppendFault::Memory) => Err(OutOfMemory),
@@ -75,7 +75,7 @@ impl HostParts {
         ensures narrows { OnOk result (Narrows self.old self.new) }
         ensures gone { OnOk result (is_named id self.new ≡ false) }
     {
-        if is_there(id, &self.lines) {
+        if is_there(id, &self.clients) {
             self.close(id)
         } else {
             self.forget(id);

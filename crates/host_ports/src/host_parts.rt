@@ -1,7 +1,7 @@
 //! The parts of the hosts' side of a live station.
 
+use crate::client::Client;
 use crate::id_range::IdRange;
-use crate::line::Line;
 use crate::report_line::ReportLine;
 use crate::untaken::Untaken;
 use station::Station;
@@ -14,7 +14,7 @@ pub struct HostParts {
     /// The ids that came.
     pub came: Vec<IdRange>,
     /// The connections that are there, in the order in which they joined.
-    pub lines: Vec<Line>,
+    pub clients: Vec<Client>,
     /// What came and is not taken yet, in the order in which it came.
     pub untaken: Vec<Untaken>,
     /// The lines of the report that are not printed yet.

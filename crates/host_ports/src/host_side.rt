@@ -72,7 +72,7 @@ impl HostSide {
             parts: HostParts {
                 station,
                 came: Vec::new(alloc),
-                lines: Vec::new(alloc),
+                clients: Vec::new(alloc),
                 untaken: Vec::new(alloc),
                 report: Vec::new(alloc),
                 to_shut: Vec::new(alloc),
@@ -168,7 +168,7 @@ impl HostSide {
     {
         Standing {
             dropped: self.parts.station.dropped(),
-            hosts: self.parts.lines.len() as u64,
+            hosts: self.parts.clients.len() as u64,
             links: self.parts.station.links(),
         }
     }

@@ -6,6 +6,8 @@
 //! paused host gives no octets.
 #![tactic(auto)]
 
+mod client;
+mod clients;
 mod delivering;
 mod dialing;
 mod door;
@@ -14,8 +16,6 @@ mod health_note;
 mod host_parts;
 mod host_side;
 mod id_range;
-mod line;
-mod lines;
 mod mem_ports;
 mod offering;
 mod outgoing;
@@ -33,12 +33,12 @@ mod taking;
 mod telling;
 mod untaken;
 
+pub use client::Client;
 pub use health::{Health, Standing};
 pub use health_note::{Counts, HealthNote, HealthNotes};
 pub use host_parts::HostParts;
 pub use host_side::HostSide;
 pub use id_range::IdRange;
-pub use line::Line;
 pub use mem_ports::MemPorts;
 pub use outgoing::{AppendFault, Outgoing};
 pub use ports::{PollFault, Ports};

@@ -4,10 +4,10 @@ ghost use Rattle.host_ports.specs.declared.report_line.ReportLine.{ReportLine};
 ghost use Rattle.host_ports.specs.AskedPorts.{Told, AreOffered, AreShut, told_by};
 ghost use Rattle.host_ports.specs.HeldHosts.{AreParts, IsAtRest};
 ghost use Rattle.host_ports.specs.Hosts.{Hosts};
-ghost use Rattle.host_ports.specs.HostTurns.{Offer, Offering, IsOffered, InOrder, ids_of_lines};
+ghost use Rattle.host_ports.specs.HostTurns.{Offer, Offering, IsOffered, InOrder, ids_of_clients};
 
+use crate::clients::place_of;
 use crate::host_parts::HostParts;
-use crate::lines::place_of;
 use crate::ports::Ports;
 use crate::sending::{OfferFault, offer};
 use std::alloc::Global;
@@ -25,12 +25,12 @@ impl HostParts {
         requires rest { IsAtRest self.old }
         ensures offers { (printed : List ReportLine) (hosts : Hosts) → AreParts self.old printed hosts
             → OnOk result ((next : Offering)
-            × InOrder IsOffered (ids_of_lines hosts.lines) (record { hosts = hosts; offers = []; failed = [] }) next
+            × InOrder IsOffered (ids_of_clients hosts.clients) (record { hosts = hosts; offers = []; failed = [] }) next
             × AreParts self.new printed next.hosts
             × AreOffered next.offers next.failed (told_by N.polls N.sends N.sent N.is_shut N.faults ports.old)
             (told_by N.polls N.sends N.sent N.is_shut N.faults ports.new)) }
         ensures cut { (printed : List ReportLine) (hosts : Hosts) → AreParts self.old printed hosts
-            → OnErr result ((first others : List ℕ) × (next : Offering) × (ids_of_lines hosts.lines ≡ first ++ others)
+            → OnErr result ((first others : List ℕ) × (next : Offering) × (ids_of_clients hosts.clients ≡ first ++ others)
             × InOrder IsOffered first (record { hosts = hosts; offers = []; failed = [] }) next
             × AreOffered next.offers next.failed (told_by N.polls N.sends N.sent N.is_shut N.faults ports.old)
             (told_by N.polls N.sends N.sent N.is_shut N.faults ports.new)) }
@@ -48,11 +48,11 @@ impl HostParts {
 
     /// The connections that are there.
     fn ids(&self, alloc: Global) -> Result<Vec<u32>, OutOfMemory>
-        ensures { IfOk result (λ ids. ids.items ≡ ids_of_lines self.now.lines.items) }
+        ensures { IfOk result (λ ids. ids.items ≡ ids_of_clients self.now.clients.items) }
     {
         let mut ids = Vec::new(alloc);
-        for line in &self.lines {
-            ids.push(line.id)?;
+        for client in &self.clients {
+            ids.push(client.id)?;
         }
         Ok(ids)
     }
@@ -80,13 +80,13 @@ impl HostParts {
         ensures dials { N.dials ports.new ≡ N.dials ports.old }
         ensures later { N.faults ports.old ≤ N.faults ports.new }
     {
-        let Some(at) = place_of(id, &self.lines) else {
+        let Some(at) = place_of(id, &self.clients) else {
             return Ok(());
         };
-        if self.lines[at].waiting.is_empty() {
+        if self.clients[at].waiting.is_empty() {
             return Ok(());
         }
-        match offer(rt, alloc, ports, id, &mut self.lines[at].waiting) {
+        match offer(rt, alloc, ports, id, &mut self.clients[at].waiting) {
             Ok(_) => Ok(()),
             Err(OfferFault::Failed) => self.cut_off(id),
             Err(OfferFault::Memory) => Err(OutOfMemory),

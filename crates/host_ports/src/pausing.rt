@@ -51,9 +51,9 @@ impl HostParts {
             → IfOk result (λ ids. AreWaiting ids.items hosts) }
     {
         let mut ids = Vec::new(alloc);
-        for line in &self.lines {
-            if self.has_to_wait(line.id) {
-                ids.push(line.id)?;
+        for client in &self.clients {
+            if self.has_to_wait(client.id) {
+                ids.push(client.id)?;
             }
         }
         Ok(ids)

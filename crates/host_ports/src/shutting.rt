@@ -2,10 +2,10 @@
 ghost use Rattle.std.specs.Prelude.{◌≡◌, ◌≤◌, ◌+◌, ◌==◌, not, filter, false, true, OnOk};
 ghost use Rattle.std.specs.List.{list_any};
 ghost use Rattle.host_ports.specs.HeldHosts.{Moves, Narrows, is_named, weight};
-ghost use Rattle.host_ports.specs.Hosts.{without, closing, cutting, is_line_of, is_among};
+ghost use Rattle.host_ports.specs.Hosts.{without, closing, cutting, is_client_of, is_among};
 
+use crate::client::Client;
 use crate::host_parts::HostParts;
-use crate::line::Line;
 use crate::report_line::ReportLine;
 use crate::untaken::Untaken;
 use tnc_base::OutOfMemory;
@@ -17,10 +17,10 @@ impl HostParts {
         ensures narrows { Narrows self.old self.new }
         ensures gone { is_named id self.new ≡ false }
         ensures one_less { is_among id self.old.leaving.items ≡ true → weight self.new + 1 ≤ weight self.old }
-        ensures two_less { list_any (is_line_of id) self.old.lines.items ≡ true
+        ensures two_less { list_any (is_client_of id) self.old.clients.items ≡ true
             → weight self.new + 2 ≤ weight self.old }
     {
-        remove_line(id, &mut self.lines);
+        remove_client(id, &mut self.clients);
         remove_untaken(id, &mut self.untaken);
         remove_id(id, &mut self.leaving);
     }
@@ -30,7 +30,7 @@ impl HostParts {
         ensures moves { OnOk result (Moves (closing id) self.old self.new) }
         ensures narrows { OnOk result (Narrows self.old self.new) }
         ensures gone { OnOk result (is_named id self.new ≡ false) }
-        ensures two_less { list_any (is_line_of id) self.old.lines.items ≡ true
+        ensures two_less { list_any (is_client_of id) self.old.clients.items ≡ true
             → OnOk result (weight self.new + 2 ≤ weight self.old) }
     {
         self.forget(id);
@@ -41,7 +41,7 @@ impl HostParts {
 
     /// A connection that is there is shut because its octets do not fit or its send failed.
     pub(crate) fn cut(&mut self, id: u32) -> Result<(), OutOfMemory>
-        requires there { list_any (is_line_of id) self.old.lines.items ≡ true }
+        requires there { list_any (is_client_of id) self.old.clients.items ≡ true }
         ensures moves { OnOk result (Moves (cutting id) self.old self.new) }
         ensures narrows { OnOk result (Narrows self.old self.new) }
     {
@@ -51,10 +51,10 @@ impl HostParts {
     }
 }
 
-fn remove_line(id: u32, lines: &mut Vec<Line>)
-    ensures { lines.new.items ≡ filter (λ line. not (line.id == id)) lines.old.items }
+fn remove_client(id: u32, clients: &mut Vec<Client>)
+    ensures { clients.new.items ≡ filter (λ client. not (client.id == id)) clients.old.items }
 {
-    lines.retain(|line| line.id != id);
+    clients.retain(|client| client.id != id);
 }
 
 fn remove_untaken(id: u32, untaken: &mut Vec<Untaken>)

@@ -8,7 +8,7 @@ ghost use Rattle.host_ports.specs.Hosts.{is_among};
 ghost use Rattle.host_ports.specs.RealSockets.{ids_of_sockets, joined_ids};
 ghost use Rattle.host_ports.specs.Sockets.{MayCome};
 
-use crate::lines::is_among;
+use crate::clients::is_among;
 use crate::socket::Socket;
 use mio::net::TcpStream;
 use mio::{Interest, Poll, Token};

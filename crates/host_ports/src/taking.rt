@@ -6,10 +6,10 @@ ghost use Rattle.host_ports.specs.Hosts.{Hosts};
 ghost use Rattle.host_ports.specs.HostTurns.{InOrder, IsTried, AreTaken, HasJoined, HasLeft, IsTaken, AreTried};
 ghost use Rattle.host_ports.specs.Sockets.{IsWholePiece};
 
+use crate::client::Client;
+use crate::clients::is_there;
 use crate::host_parts::HostParts;
 use crate::id_range;
-use crate::line::Line;
-use crate::lines::is_there;
 use crate::outgoing::Outgoing;
 use crate::untaken::Untaken;
 use station::{HostEvent, PortKind};
@@ -72,7 +72,7 @@ impl HostParts {
         }
         id_range::add(&mut self.came, id)?;
         let waiting = Outgoing::new(alloc)?;
-        self.lines.push(Line { id, waiting })?;
+        self.clients.push(Client { id, waiting })?;
         self.step(HostEvent::Joined { id, kind })
     }
 
@@ -83,7 +83,7 @@ impl HostParts {
         ensures moves { OnOk result (MovesBy (AreTaken id octets) self.old self.new) }
         ensures rest { OnOk result (IsAtRest self.new) }
     {
-        if !is_there(id, &self.lines) {
+        if !is_there(id, &self.clients) {
             return Ok(());
         }
         if self.has_to_wait(id) {
@@ -99,7 +99,7 @@ impl HostParts {
         ensures moves { OnOk result (MovesBy (HasLeft id) self.old self.new) }
         ensures rest { OnOk result (IsAtRest self.new) }
     {
-        if !is_there(id, &self.lines) {
+        if !is_there(id, &self.clients) {
             return Ok(());
         }
         self.forget(id);

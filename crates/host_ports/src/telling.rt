@@ -6,7 +6,7 @@ ghost use Rattle.station.specs.Heard.{IsHeard};
 ghost use Rattle.station.specs.Held.{IsAdmitted};
 ghost use Rattle.station.specs.Host.{IsHostTurn};
 ghost use Rattle.host_ports.specs.HeldHosts.{MovesBy, IsKnown, IsKnownBefore, IsAtRest, weight};
-ghost use Rattle.host_ports.specs.Hosts.{is_line_of, cutting, IsDelivered, AllHaveLeft, IsHeardStep, IsTickStep, IsStep};
+ghost use Rattle.host_ports.specs.Hosts.{is_client_of, cutting, IsDelivered, AllHaveLeft, IsHeardStep, IsTickStep, IsStep};
 
 use crate::host_parts::HostParts;
 use channel_access::AirTick;
@@ -53,7 +53,7 @@ impl HostParts {
 
     /// A connection that is there is shut because its send failed, and the station is told.
     pub(crate) fn cut_off(&mut self, id: u32) -> Result<(), OutOfMemory>
-        requires there { list_any (is_line_of id) self.old.lines.items ≡ true }
+        requires there { list_any (is_client_of id) self.old.clients.items ≡ true }
         requires rest { IsAtRest self.old }
         ensures moves { OnOk result (MovesBy (λ before after. AllHaveLeft
             (cutting id before) after) self.old self.new) }

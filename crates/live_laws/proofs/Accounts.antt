@@ -179,7 +179,7 @@ account_joining id other steps hosts new account = elim (cases_eq other id) [
 ]
   where
     there_more : is_there id (joining other hosts) ≡ (is_there id hosts || ((other == id) || false))
-    there_more = list_any-append (λ line. line.id == id) hosts.lines ((record { id = other; waiting = [] }) ∷ [])
+    there_more = list_any-append (λ client. client.id == id) hosts.clients ((record { id = other; waiting = [] }) ∷ [])
 
     came_more : was_there id (joining other hosts) ≡ (was_there id hosts || ((other == id) || false))
     came_more = list_any-append (λ one. one == id) hosts.came (other ∷ [])

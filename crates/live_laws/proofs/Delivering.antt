@@ -5,14 +5,14 @@ use Rattle.tnc_ports.proofs.Common.{Option, Some, None, refl, sym, ap, ◌∙◌
 use Rattle.tnc_ports.proofs.Common.{append_assoc, eq-eqb, ne_eqb, cases_eq, false≢true, true≢false}
 use Rattle.tnc_ports.proofs.Common.{or_parts, Out, Piece, Hosts, without, closing, cutting}
 use Rattle.tnc_ports.proofs.Common.{waiting_too, fits, appending, appending_one, appending_to}
-use Rattle.tnc_ports.proofs.Common.{closing_one, closing_all, delivering, line_of, is_among, is_line_of, is_there, was_there}
+use Rattle.tnc_ports.proofs.Common.{closing_one, closing_all, delivering, client_of, is_among, is_client_of, is_there, was_there}
 use Rattle.tnc_ports.proofs.Common.{with_piece, length, most_octets, octets_of, arith, ◌+◌, ◌≤◌}
-use Rattle.host_ports.specs.declared.line.Line.{Line}
+use Rattle.host_ports.specs.declared.client.Client.{Client}
 use Rattle.std.specs.List.{AllByRecursion as Each}
 use Rattle.std.specs.Prelude.{◌&&◌}
 use Rattle.std.proofs.lemmas.Bool.{leb-true}
-use Rattle.host_ports.proofs.LineLemmas.{found_id, there_line, waiting_names}
-use Rattle.host_ports.proofs.NamedLemmas.{ids_without, lines_without, not_itself}
+use Rattle.host_ports.proofs.ClientLemmas.{found_id, there_client, waiting_names}
+use Rattle.host_ports.proofs.NamedLemmas.{ids_without, clients_without, not_itself}
 use Rattle.tnc_ports.proofs.ServedLemmas.{among_snoc}
 use Rattle.call_laws.specs.Client.{pieces_for}
 use Rattle.call_laws.proofs.Sayings.{pieces_both}
@@ -52,7 +52,7 @@ or_nothing false c is = is
 pub stands_without : (id other : ℕ) (hosts : Hosts) → (other ≡ id → ⊥) → Stands id hosts (without other hosts)
 stands_without id other hosts differs = record {
   appended = refl;
-  there = lines_without other id hosts.lines
+  there = clients_without other id hosts.clients
       ∙ drops_none (id == other) (is_there id hosts) (not_same id other differs);
   came = refl;
   leaves = ids_without other id hosts.leaving
@@ -78,18 +78,18 @@ stands_cutting id other hosts differs =
 -- ---- one that is taken away is not there
 
 pub gone_without : (id : ℕ) (hosts : Hosts) → is_there id (without id hosts) ≡ false
-gone_without id hosts = lines_without id id hosts.lines ∙ not_itself id (is_there id hosts)
+gone_without id hosts = clients_without id id hosts.clients ∙ not_itself id (is_there id hosts)
 
 unheard_without : (id : ℕ) (hosts : Hosts) → is_among id (without id hosts).leaving ≡ false
 unheard_without id hosts = ids_without id id hosts.leaving ∙ not_itself id (is_among id hosts.leaving)
 
-no_line_there : (id : ℕ) (lines : List Line) → line_of id lines ≡ None → list_any (is_line_of id) lines ≡ false
-no_line_there id [] none = refl
-no_line_there id (line ∷ lines) none = go (line.id == id) none (no_line_there id lines)
+no_client_there : (id : ℕ) (clients : List Client) → client_of id clients ≡ None → list_any (is_client_of id) clients ≡ false
+no_client_there id [] none = refl
+no_client_there id (client ∷ clients) none = go (client.id == id) none (no_client_there id clients)
   where
-    go : (b : Bool) → cond b (Some line) (line_of id lines) ≡ None
-        → (line_of id lines ≡ None → list_any (is_line_of id) lines ≡ false)
-        → (b || list_any (is_line_of id) lines) ≡ false
+    go : (b : Bool) → cond b (Some client) (client_of id clients) ≡ None
+        → (client_of id clients ≡ None → list_any (is_client_of id) clients ≡ false)
+        → (b || list_any (is_client_of id) clients) ≡ false
     go true is rest = absurd (cc)
     go false is rest = rest is
 
@@ -110,35 +110,35 @@ piece_stands : (id : ℕ) (closed : List ℕ) (piece : Piece) (hosts : Hosts) �
     → Stands id hosts (appending_one closed piece hosts)
 piece_stands id closed piece hosts differs = by_closed (is_among piece.id closed)
   where
-    by_fit : (line : Line) → (line.id ≡ id → ⊥) → (b : Bool)
-        → Stands id hosts (cond b (waiting_too piece line hosts) (cutting line.id hosts))
-    by_fit line other true = record {
+    by_fit : (client : Client) → (client.id ≡ id → ⊥) → (b : Bool)
+        → Stands id hosts (cond b (waiting_too piece client hosts) (cutting client.id hosts))
+    by_fit client other true = record {
       appended = pieces_both id hosts.appended (piece ∷ [])
           ∙ ap (λ ps. pieces_for id hosts.appended ++ ps) (for_other id piece [] differs)
           ∙ append-nil (pieces_for id hosts.appended);
-      there = waiting_names line.id id (with_piece piece.octets line.waiting) hosts.lines;
+      there = waiting_names client.id id (with_piece piece.octets client.waiting) hosts.clients;
       came = refl;
       leaves = refl;
     }
-    by_fit line other false = stands_cutting id line.id hosts other
+    by_fit client other false = stands_cutting id client.id hosts other
 
-    by_line : (line : Option Line) → line_of piece.id hosts.lines ≡ line
-        → Stands id hosts (appending_to line piece hosts)
-    by_line None is = stands_same id hosts
-    by_line (Some line) is =
-        by_fit line (λ e. differs (sym (found_id piece.id hosts.lines line is) ∙ e)) (fits piece.octets line.waiting)
+    by_client : (client : Option Client) → client_of piece.id hosts.clients ≡ client
+        → Stands id hosts (appending_to client piece hosts)
+    by_client None is = stands_same id hosts
+    by_client (Some client) is =
+        by_fit client (λ e. differs (sym (found_id piece.id hosts.clients client is) ∙ e)) (fits piece.octets client.waiting)
 
     by_closed : (b : Bool)
-        → Stands id hosts (cond b hosts (appending_to (line_of piece.id hosts.lines) piece hosts))
+        → Stands id hosts (cond b hosts (appending_to (client_of piece.id hosts.clients) piece hosts))
     by_closed true = stands_same id hosts
-    by_closed false = by_line (line_of piece.id hosts.lines) refl
+    by_closed false = by_client (client_of piece.id hosts.clients) refl
 
 -- for one that the step closes
 closed_stands : (id : ℕ) (closed : List ℕ) (piece : Piece) (hosts : Hosts) → is_among id closed ≡ true
     → Stands id hosts (appending_one closed piece hosts)
 closed_stands id closed piece hosts closes = elim (cases_eq piece.id id) [
   | inl same ↦
-      subst (λ b. Stands id hosts (cond b hosts (appending_to (line_of piece.id hosts.lines) piece hosts)))
+      subst (λ b. Stands id hosts (cond b hosts (appending_to (client_of piece.id hosts.clients) piece hosts)))
       (sym (ap (λ n. is_among n closed) same ∙ closes)) (stands_same id hosts)
   | inr differs ↦ piece_stands id closed piece hosts differs
 ]
@@ -151,17 +151,17 @@ absent_stands id closed piece hosts absent = elim (cases_eq piece.id id) [
   | inr differs ↦ piece_stands id closed piece hosts differs
 ]
   where
-    by_line : (same : piece.id ≡ id) (line : Option Line) → line_of piece.id hosts.lines ≡ line
-        → Stands id hosts (appending_to line piece hosts)
-    by_line same None is = stands_same id hosts
-    by_line same (Some line) is =
-        absurd (true≢false (sym (there_line id hosts.lines line (ap (λ n. line_of n hosts.lines) (sym same) ∙ is))
+    by_client : (same : piece.id ≡ id) (client : Option Client) → client_of piece.id hosts.clients ≡ client
+        → Stands id hosts (appending_to client piece hosts)
+    by_client same None is = stands_same id hosts
+    by_client same (Some client) is =
+        absurd (true≢false (sym (there_client id hosts.clients client (ap (λ n. client_of n hosts.clients) (sym same) ∙ is))
         ∙ absent))
 
     by_closed : (same : piece.id ≡ id) (b : Bool)
-        → Stands id hosts (cond b hosts (appending_to (line_of piece.id hosts.lines) piece hosts))
+        → Stands id hosts (cond b hosts (appending_to (client_of piece.id hosts.clients) piece hosts))
     by_closed same true = stands_same id hosts
-    by_closed same false = by_line same (line_of piece.id hosts.lines) refl
+    by_closed same false = by_client same (client_of piece.id hosts.clients) refl
 
 -- ---- all pieces
 
@@ -241,13 +241,13 @@ hears_all id closed (piece ∷ pieces) hosts open_still there free = elim (cases
         → Hears id pieces next (appending closed pieces next)
 
     -- it fits, or it does not
-    by_fit : Rest → piece.id ≡ id → (line : Line) → line.id ≡ id → (b : Bool) → fits piece.octets line.waiting ≡ b
+    by_fit : Rest → piece.id ≡ id → (client : Client) → client.id ≡ id → (b : Bool) → fits piece.octets client.waiting ≡ b
         → Hears id (piece ∷ pieces) hosts
-        (appending closed pieces (cond b (waiting_too piece line hosts) (cutting line.id hosts)))
-    by_fit later same line own_line true room =
-        let next = waiting_too piece line hosts in
+        (appending closed pieces (cond b (waiting_too piece client hosts) (cutting client.id hosts)))
+    by_fit later same client own_client true room =
+        let next = waiting_too piece client hosts in
         let rest = later next
-        (waiting_names line.id id (with_piece piece.octets line.waiting) hosts.lines ∙ there) free in
+        (waiting_names client.id id (with_piece piece.octets client.waiting) hosts.clients ∙ there) free in
         record {
           first = piece ∷ rest.first;
           more = rest.more;
@@ -256,14 +256,14 @@ hears_all id closed (piece ∷ pieces) hosts open_still there free = elim (cases
               ∙ ap (λ ps. ps ++ rest.first) (pieces_both id hosts.appended (piece ∷ [])
               ∙ ap (λ ps. pieces_for id hosts.appended ++ ps) (for_own id piece [] same))
               ∙ append_assoc (pieces_for id hosts.appended) (piece ∷ []) rest.first;
-          short = (fits_short piece line.waiting room, rest.short);
+          short = (fits_short piece client.waiting room, rest.short);
           came = rest.came;
           now = rest.now;
         }
-    by_fit later same line own_line false full =
-        let next = cutting line.id hosts in
+    by_fit later same client own_client false full =
+        let next = cutting client.id hosts in
         let gone : is_there id next ≡ false =
-        subst (λ n. is_there id (without n hosts) ≡ false) (sym own_line) (gone_without id hosts) in
+        subst (λ n. is_there id (without n hosts) ≡ false) (sym own_client) (gone_without id hosts) in
         let rest = absent_all id closed pieces next gone in
         record {
           first = [];
@@ -275,18 +275,18 @@ hears_all id closed (piece ∷ pieces) hosts open_still there free = elim (cases
           now = inr (rest.there ∙ gone);
         }
 
-    by_line : Rest → piece.id ≡ id → (line : Option Line) → line_of piece.id hosts.lines ≡ line
-        → Hears id (piece ∷ pieces) hosts (appending closed pieces (appending_to line piece hosts))
-    by_line later same None is =
-        absurd (true≢false (sym there ∙ no_line_there id hosts.lines (ap (λ n. line_of n hosts.lines) (sym same) ∙ is)))
-    by_line later same (Some line) is =
-        by_fit later same line (found_id piece.id hosts.lines line is ∙ same) (fits piece.octets line.waiting) refl
+    by_client : Rest → piece.id ≡ id → (client : Option Client) → client_of piece.id hosts.clients ≡ client
+        → Hears id (piece ∷ pieces) hosts (appending closed pieces (appending_to client piece hosts))
+    by_client later same None is =
+        absurd (true≢false (sym there ∙ no_client_there id hosts.clients (ap (λ n. client_of n hosts.clients) (sym same) ∙ is)))
+    by_client later same (Some client) is =
+        by_fit later same client (found_id piece.id hosts.clients client is ∙ same) (fits piece.octets client.waiting) refl
 
     own : Rest → piece.id ≡ id → Hears id (piece ∷ pieces) hosts (appending closed (piece ∷ pieces) hosts)
     own later same =
         subst (λ b. Hears id (piece ∷ pieces) hosts (appending closed pieces
-        (cond b hosts (appending_to (line_of piece.id hosts.lines) piece hosts))))
-        (sym (ap (λ n. is_among n closed) same ∙ open_still)) (by_line later same (line_of piece.id hosts.lines) refl)
+        (cond b hosts (appending_to (client_of piece.id hosts.clients) piece hosts))))
+        (sym (ap (λ n. is_among n closed) same ∙ open_still)) (by_client later same (client_of piece.id hosts.clients) refl)
 
 -- ---- the connections that the step closes
 
@@ -432,12 +432,12 @@ delivers_heard id out hosts open_still there free =
 
 -- ---- the station
 
-station_cutting : (piece : Piece) (line : Option Line) (hosts : Hosts)
-    → (appending_to line piece hosts).station ≡ hosts.station
+station_cutting : (piece : Piece) (client : Option Client) (hosts : Hosts)
+    → (appending_to client piece hosts).station ≡ hosts.station
 station_cutting piece None hosts = refl
-station_cutting piece (Some line) hosts = go (fits piece.octets line.waiting)
+station_cutting piece (Some client) hosts = go (fits piece.octets client.waiting)
   where
-    go : (b : Bool) → (cond b (waiting_too piece line hosts) (cutting line.id hosts)).station ≡ hosts.station
+    go : (b : Bool) → (cond b (waiting_too piece client hosts) (cutting client.id hosts)).station ≡ hosts.station
     go true = refl
     go false = refl
 
@@ -448,9 +448,9 @@ station_appending closed (piece ∷ pieces) hosts =
     station_appending closed pieces (appending_one closed piece hosts) ∙ go (is_among piece.id closed)
   where
     go : (b : Bool)
-        → (cond b hosts (appending_to (line_of piece.id hosts.lines) piece hosts)).station ≡ hosts.station
+        → (cond b hosts (appending_to (client_of piece.id hosts.clients) piece hosts)).station ≡ hosts.station
     go true = refl
-    go false = station_cutting piece (line_of piece.id hosts.lines) hosts
+    go false = station_cutting piece (client_of piece.id hosts.clients) hosts
 
 station_closing : (ids : List ℕ) (hosts : Hosts) → (closing_all ids hosts).station ≡ hosts.station
 station_closing [] hosts = refl

@@ -5,12 +5,12 @@ use Rattle.tnc_ports.proofs.Common.{Turn, HostEvent, Joined, Bytes, Left, PortKi
 use Rattle.tnc_ports.proofs.Common.{Candidate, IsDelivered, IsStep, HaveLeft, AllHaveLeft, InOrder, IsTried}
 use Rattle.tnc_ports.proofs.Common.{AreTaken, IsTaken, IsOffered, IsOfferedTo, IsHostPart, Asked, Offering, joining}
 use Rattle.tnc_ports.proofs.Common.{cutting, without}
-use Rattle.tnc_ports.proofs.Common.{line_of, is_among, is_there, was_there}
-use Rattle.tnc_ports.proofs.Common.{ids_of_lines, after_sending, with_lines, AreHeard, Live, AreTicked}
+use Rattle.tnc_ports.proofs.Common.{client_of, is_among, is_there, was_there}
+use Rattle.tnc_ports.proofs.Common.{ids_of_clients, after_sending, with_lines, AreHeard, Live, AreTicked}
 use Rattle.tnc_ports.proofs.Common.{HearsAll, MakesAll, IsKeyTurn, LanesReadOn, IsTurn, AreTurns, IsRun, IsCutTurn}
 use Rattle.tnc_ports.proofs.Common.{IsCutRun, new_live, new_hosts, TicksKeyIf, TurnsKeyIf}
 use Rattle.tnc_ports.proofs.Common.{Whole, StationState, gap_line, is_held, map, octets_sent}
-use Rattle.host_ports.specs.declared.line.Line.{Line}
+use Rattle.host_ports.specs.declared.client.Client.{Client}
 use Rattle.host_ports.specs.declared.report_line.ReportLine.{ReportLine}
 use Rattle.host_ports.specs.declared.untaken.Untaken.{Untaken}
 use Rattle.tnc_ports.specs.declared.serve_words.ServeWords.{ServeWords}
@@ -30,10 +30,10 @@ use Rattle.host_ports.specs.Hosts.{FirstHasLeft}
 use Rattle.tnc_ports.specs.Sampled.{IsTicked}
 use Rattle.tnc_ports.specs.SampledRun.{AreAskedInTurns}
 use Rattle.host_ports.proofs.LeftLemmas.{first_among}
-use Rattle.host_ports.proofs.LineLemmas.{found_id, there_line, waiting_names}
+use Rattle.host_ports.proofs.ClientLemmas.{found_id, there_client, waiting_names}
 use Rattle.live_laws.specs.LiveSteps.{OwnStep, all_left_steps, cut_part_steps, cut_steps, delivered_step, event_steps}
 use Rattle.live_laws.specs.LiveSteps.{events_steps, gone_steps, heard_steps, hearing_steps, host_part_steps, joined_steps}
-use Rattle.live_laws.specs.LiveSteps.{last_steps, left_step, left_steps, line_steps, making_steps, offered_steps}
+use Rattle.live_laws.specs.LiveSteps.{last_steps, left_step, left_steps, client_steps, making_steps, offered_steps}
 use Rattle.live_laws.specs.LiveSteps.{sending_steps, steps_of_cut_run, steps_of_run, steps_of_step, taken_steps}
 use Rattle.live_laws.specs.LiveSteps.{tick_steps, ticks_steps, tried_steps, turn_made, turn_steps, turns_steps}
 use Rattle.live_laws.specs.Taken.{IsChain, state_after}
@@ -336,42 +336,42 @@ events_walk (event ∷ events) before after h =
 
 -- ---- what hosts are sent
 
-takes_walks : (line : Line) (before after : Offering) → Takes line before after → Walks before.hosts after.hosts []
-takes_walks line before after h =
+takes_walks : (client : Client) (before after : Offering) → Takes client before after → Walks before.hosts after.hosts []
+takes_walks client before after h =
     subst (λ x. Walks before.hosts x []) (sym h.rest)
     (walks_still before.hosts _ refl (λ id. record {
       appended = refl;
-      there = waiting_names line.id id (after_sending h.took line.waiting) before.hosts.lines;
+      there = waiting_names client.id id (after_sending h.took client.waiting) before.hosts.clients;
       came = refl;
       leaves = refl;
     }))
 
-line_walks : (id : ℕ) (line : Option Line) (before after : Offering) → line_of id before.hosts.lines ≡ line
-    → (h : IsOfferedTo line before after) → Walks before.hosts after.hosts (line_steps line before after h)
-line_walks id None before after is h =
+client_walks : (id : ℕ) (client : Option Client) (before after : Offering) → client_of id before.hosts.clients ≡ client
+    → (h : IsOfferedTo client before after) → Walks before.hosts after.hosts (client_steps client before after h)
+client_walks id None before after is h =
     walks_nothing before.hosts after.hosts (ap (λ (o : Offering). o.hosts) h)
-line_walks id (Some line) before after is (inl none) =
+client_walks id (Some client) before after is (inl none) =
     walks_nothing before.hosts after.hosts (ap (λ (o : Offering). o.hosts) none.1)
-line_walks id (Some line) before after is (inr (inl takes)) = takes_walks line before after takes.1
-line_walks id (Some line) before after is (inr (inr fails)) =
-    let w = all_left (cutting line.id before.hosts) after.hosts fails.1.leave in
-    let there : is_there line.id before.hosts ≡ true =
-    there_line line.id before.hosts.lines line
-    (ap (λ n. line_of n before.hosts.lines) (found_id id before.hosts.lines line is) ∙ is) in
+client_walks id (Some client) before after is (inr (inl takes)) = takes_walks client before after takes.1
+client_walks id (Some client) before after is (inr (inr fails)) =
+    let w = all_left (cutting client.id before.hosts) after.hosts fails.1.leave in
+    let there : is_there client.id before.hosts ≡ true =
+    there_client client.id before.hosts.clients client
+    (ap (λ n. client_of n before.hosts.clients) (found_id id before.hosts.clients client is) ∙ is) in
     record {
       chain = w.chain;
       last = w.last;
       octets = w.octets;
       accounts = λ other earlier account.
-          w.accounts other earlier (account_cutting other line.id earlier before.hosts there account);
+          w.accounts other earlier (account_cutting other client.id earlier before.hosts there account);
     }
 
 offered_walk : (ids : List ℕ) (before after : Offering) (h : InOrder IsOffered ids before after)
     → Walks before.hosts after.hosts (offered_steps ids before after h)
 offered_walk [] before after h = walks_nothing before.hosts after.hosts (ap (λ (o : Offering). o.hosts) h)
 offered_walk (id ∷ ids) before after h =
-    walks_on before.hosts h.0.hosts after.hosts (line_steps (line_of id before.hosts.lines) before h.0 h.1)
-    (offered_steps ids h.0 after h.2) (line_walks id (line_of id before.hosts.lines) before h.0 refl h.1)
+    walks_on before.hosts h.0.hosts after.hosts (client_steps (client_of id before.hosts.clients) before h.0 h.1)
+    (offered_steps ids h.0 after h.2) (client_walks id (client_of id before.hosts.clients) before h.0 refl h.1)
     (offered_walk ids h.0 after h.2)
 
 sending_walks :
@@ -394,7 +394,7 @@ part_walks : (asked : Asked) (before after : Hosts) (h : IsHostPart asked before
     → Walks before after (host_part_steps asked before after h)
 part_walks asked before after h =
     let steps = host_part_steps asked before after h in
-    let w = sending_walks before h.tried h.taken asked.events (ids_of_lines h.taken.lines) h.offered h.tries h.takes
+    let w = sending_walks before h.tried h.taken asked.events (ids_of_clients h.taken.clients) h.offered h.tries h.takes
     h.offers in
     subst (λ x. Walks before x steps) (sym h.done)
     (record { chain = w.chain; last = w.last; octets = w.octets; accounts = w.accounts })

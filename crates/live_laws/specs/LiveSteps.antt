@@ -10,12 +10,12 @@ use Rattle.station.specs.State.{StationState}
 use Rattle.station.specs.Turn.{Turn, begin}
 use Rattle.station_laws.specs.JointRun.{Input, IsTurn}
 use Rattle.station_laws.specs.JointRun.Input.{FromHost, OffAir, OfClock}
-use Rattle.host_ports.specs.declared.line.Line.{Line}
+use Rattle.host_ports.specs.declared.client.Client.{Client}
 use Rattle.tnc_ports.specs.declared.serve_words.ServeWords.{ServeWords}
 use Rattle.host_ports.specs.declared.untaken.Untaken.{Untaken}
-use Rattle.host_ports.specs.Hosts.{Hosts, IsDelivered, IsStep, HaveLeft, FirstHasLeft, AllHaveLeft, cutting, line_of, without}
+use Rattle.host_ports.specs.Hosts.{Hosts, IsDelivered, IsStep, HaveLeft, FirstHasLeft, AllHaveLeft, cutting, client_of, without}
 use Rattle.host_ports.specs.HostTurns.{Asked, InOrder, AreTaken, HasJoined, HasLeft, IsTaken, IsTried, joining}
-use Rattle.host_ports.specs.HostTurns.{IsHostPart, IsOffered, IsOfferedTo, Offering, ids_of_lines}
+use Rattle.host_ports.specs.HostTurns.{IsHostPart, IsOffered, IsOfferedTo, Offering, ids_of_clients}
 use Rattle.host_ports.specs.CutPart.{IsCutPart}
 use Rattle.tnc_ports.specs.KeyTurns.{is_held}
 use Rattle.tnc_ports.specs.Sampled.{Live, new_live, AreHeard, HearsAll, IsTicked, AreTicked, MakesAll}
@@ -129,18 +129,18 @@ events_steps (event ∷ events) before after h =
 
 -- ---- what hosts are sent: one whose send fails leaves
 
-abbrev pub line_steps : (line : Option Line) → (before after : Offering) → IsOfferedTo line before after → List OwnStep
-line_steps None before after h = []
-line_steps (Some line) before after (inl none) = []
-line_steps (Some line) before after (inr (inl takes)) = []
-line_steps (Some line) before after (inr (inr fails)) =
-    all_left_steps (cutting line.id before.hosts) after.hosts fails.1.leave
+abbrev pub client_steps : (client : Option Client) → (before after : Offering) → IsOfferedTo client before after → List OwnStep
+client_steps None before after h = []
+client_steps (Some client) before after (inl none) = []
+client_steps (Some client) before after (inr (inl takes)) = []
+client_steps (Some client) before after (inr (inr fails)) =
+    all_left_steps (cutting client.id before.hosts) after.hosts fails.1.leave
 
 abbrev pub offered_steps : (ids : List ℕ) → (before after : Offering) → InOrder IsOffered ids before after
     → List OwnStep
 offered_steps [] before after h = []
 offered_steps (id ∷ ids) before after h =
-    line_steps (line_of id before.hosts.lines) before h.0 h.1 ++ offered_steps ids h.0 after h.2
+    client_steps (client_of id before.hosts.clients) before h.0 h.1 ++ offered_steps ids h.0 after h.2
 
 -- what waited, what came, and the first of the connections that are offered something
 abbrev pub sending_steps :
@@ -154,7 +154,7 @@ sending_steps before tried taken events ids offered tries takes offers =
 
 abbrev pub host_part_steps : (asked : Asked) → (before after : Hosts) → IsHostPart asked before after → List OwnStep
 host_part_steps asked before after h =
-    sending_steps before h.tried h.taken asked.events (ids_of_lines h.taken.lines) h.offered h.tries h.takes h.offers
+    sending_steps before h.tried h.taken asked.events (ids_of_clients h.taken.clients) h.offered h.tries h.takes h.offers
 
 -- The part for hosts is cut short. What was taken before memory was wanted is no part of the run then.
 abbrev pub cut_part_steps : (asked : Asked) → (before reached : Hosts) → IsCutPart asked before reached → List OwnStep
@@ -162,7 +162,7 @@ cut_part_steps asked before reached (inl taking) = []
 cut_part_steps asked before reached (inr (inl h)) =
     sending_steps before h.tried h.taken asked.events h.first h.offered h.tries h.takes h.offers
 cut_part_steps asked before reached (inr (inr h)) =
-    sending_steps before h.tried h.taken asked.events (ids_of_lines h.taken.lines) h.offered h.tries h.takes h.offers
+    sending_steps before h.tried h.taken asked.events (ids_of_clients h.taken.clients) h.offered h.tries h.takes h.offers
 
 -- ---- turns
 

@@ -45,11 +45,11 @@ pub use Rattle.host_ports.specs.AskedPorts.{AreUnasked, IsAsked, Told, poll_of, 
 pub use Rattle.host_ports.specs.CutPart.{IsCutInSending}
 pub use Rattle.host_ports.specs.HeldHosts.{StandsFor}
 pub use Rattle.host_ports.specs.HostTurns.{AreTaken, AreTried, Asked, InOrder, IsHostPart}
-pub use Rattle.host_ports.specs.HostTurns.{IsOffered, IsOfferedTo, IsTaken, IsTried, Offer, Offering, ids_of_lines}
+pub use Rattle.host_ports.specs.HostTurns.{IsOffered, IsOfferedTo, IsTaken, IsTried, Offer, Offering, ids_of_clients}
 pub use Rattle.host_ports.specs.HostTurns.{joining}
 pub use Rattle.host_ports.specs.Hosts.{AllHaveLeft, HaveLeft, Hosts, IsDelivered, IsStep, appending, appending_one}
 pub use Rattle.host_ports.specs.Hosts.{appending_to, closing, closing_all, closing_one, cutting, delivering, fits}
-pub use Rattle.host_ports.specs.Hosts.{is_among, is_line_of, is_there, line_of, new_hosts, waiting_too, was_there}
+pub use Rattle.host_ports.specs.Hosts.{is_among, is_client_of, is_there, client_of, new_hosts, waiting_too, was_there}
 pub use Rattle.host_ports.specs.Hosts.{with_waiting, without}
 pub use Rattle.tnc_ports.specs.Inlet.{Step}
 pub use Rattle.tnc_ports.specs.Inlet.Step.{Publishes}
@@ -71,7 +71,7 @@ pub use Rattle.host_ports.specs.SentSoFar.{IsOrderly, octets_for}
 pub use Rattle.tnc_ports.specs.ServedHosts.{IsShutHavingCome, NoneTwice, closed_by, ids_closed, octets_to}
 pub use Rattle.host_ports.specs.Sockets.{MayCome, Poll, has_come, is_joining_of}
 pub use Rattle.host_ports.specs.Waiting.{after_sending, front_of, most_octets, octets_of, with_piece}
-pub use Rattle.host_ports.specs.declared.line.Line.{Line}
+pub use Rattle.host_ports.specs.declared.client.Client.{Client}
 pub use Rattle.tnc_ports.specs.declared.looping.LoopEnd.TheVariants.{Memory}
 pub use Rattle.tnc_ports.specs.declared.pumping.PumpEnd.TheVariants.{InputEnd, ReadFault, TooLong}
 pub use Rattle.host_ports.specs.declared.report_line.ReportLine.{ReportLine}

@@ -9,10 +9,10 @@ use Rattle.station.specs.Ticks.{IsTick, asked_links}
 use Rattle.station.specs.Turn.{begin}
 use Rattle.tnc_ports.proofs.Common.{AirTick, AllHaveLeft, AreHeard, AreTaken, AreTried, Asked, Bytes, Candidate, HaveLeft}
 use Rattle.tnc_ports.proofs.Common.{HostEvent, Hosts, InOrder, IsDelivered, IsFrameHeard, IsHostPart, IsHostTurn, IsOffered}
-use Rattle.tnc_ports.proofs.Common.{IsOfferedTo, IsStep, IsTaken, IsTickMade, IsTried, Joined, Left, Line, Offering, Out}
+use Rattle.tnc_ports.proofs.Common.{IsOfferedTo, IsStep, IsTaken, IsTickMade, IsTried, Joined, Left, Client, Offering, Out}
 use Rattle.tnc_ports.proofs.Common.{Piece, PortKind, StationState, Turn, Untaken, appending, appending_one, appending_to}
-use Rattle.tnc_ports.proofs.Common.{closing, closing_all, closing_one, cutting, delivering, fits, ids_of_lines, is_among}
-use Rattle.tnc_ports.proofs.Common.{is_there, joining, line_of, waiting_too, with_lines, without}
+use Rattle.tnc_ports.proofs.Common.{closing, closing_all, closing_one, cutting, delivering, fits, ids_of_clients, is_among}
+use Rattle.tnc_ports.proofs.Common.{is_there, joining, client_of, waiting_too, with_lines, without}
 use Rattle.host_ports.specs.Hosts.{FirstHasLeft}
 use Rattle.host_ports.specs.HostTurns.{HasJoined, HasLeft}
 use Rattle.tnc_ports.proofs.AirKept.{heard_keeps, host_keeps}
@@ -23,12 +23,12 @@ on_air hosts = hosts.station.channel.air
 
 -- ---- what a step says is delivered, which the station does not change by
 
-appending_to_same : (line : Option Line) (piece : Piece) (hosts : Hosts)
-    → (appending_to line piece hosts).station ≡ hosts.station
+appending_to_same : (client : Option Client) (piece : Piece) (hosts : Hosts)
+    → (appending_to client piece hosts).station ≡ hosts.station
 appending_to_same None piece hosts = refl
-appending_to_same (Some line) piece hosts =
-    either (λ (h : Hosts). h.station) (fits piece.octets line.waiting) (waiting_too piece line hosts)
-    (cutting line.id hosts) hosts.station refl refl
+appending_to_same (Some client) piece hosts =
+    either (λ (h : Hosts). h.station) (fits piece.octets client.waiting) (waiting_too piece client hosts)
+    (cutting client.id hosts) hosts.station refl refl
 
 appending_same : (closed : List ℕ) (pieces : List Piece) (hosts : Hosts)
     → (appending closed pieces hosts).station ≡ hosts.station
@@ -36,8 +36,8 @@ appending_same closed [] hosts = refl
 appending_same closed (piece ∷ pieces) hosts =
     appending_same closed pieces (appending_one closed piece hosts)
     ∙ either (λ (h : Hosts). h.station) (is_among piece.id closed) hosts
-    (appending_to (line_of piece.id hosts.lines) piece hosts) hosts.station refl
-    (appending_to_same (line_of piece.id hosts.lines) piece hosts)
+    (appending_to (client_of piece.id hosts.clients) piece hosts) hosts.station refl
+    (appending_to_same (client_of piece.id hosts.clients) piece hosts)
 
 closing_same : (ids : List ℕ) (hosts : Hosts) → (closing_all ids hosts).station ≡ hosts.station
 closing_same [] hosts = refl
@@ -128,19 +128,19 @@ event_taken_keeps (Joined id kind) before after h = joined_keeps id kind before 
 event_taken_keeps (Bytes id octets) before after h = taken_keeps id octets before after h
 event_taken_keeps (Left id) before after h = gone_keeps id before after h
 
-offered_to_keeps : (line : Option Line) (before after : Offering) → IsOfferedTo line before after
+offered_to_keeps : (client : Option Client) (before after : Offering) → IsOfferedTo client before after
     → on_air after.hosts ≡ on_air before.hosts
 offered_to_keeps None before after is = ap (λ (o : Offering). on_air o.hosts) is
-offered_to_keeps (Some line) before after (inl (none, is)) = ap (λ (o : Offering). on_air o.hosts) is
-offered_to_keeps (Some line) before after (inr (inl (some, takes))) = ap on_air takes.rest
-offered_to_keeps (Some line) before after (inr (inr (some, fails))) =
-    leave_keeps (cutting line.id before.hosts) after.hosts fails.leave
+offered_to_keeps (Some client) before after (inl (none, is)) = ap (λ (o : Offering). on_air o.hosts) is
+offered_to_keeps (Some client) before after (inr (inl (some, takes))) = ap on_air takes.rest
+offered_to_keeps (Some client) before after (inr (inr (some, fails))) =
+    leave_keeps (cutting client.id before.hosts) after.hosts fails.leave
 
 pub part_keeps : (asked : Asked) (before after : Hosts) → IsHostPart asked before after → on_air after ≡ on_air before
 part_keeps asked before after h =
     ap on_air h.done
     ∙ orderly (λ (o : Offering). on_air o.hosts) IsOffered
-    (λ id b a. offered_to_keeps (line_of id b.hosts.lines) b a) (ids_of_lines h.taken.lines)
+    (λ id b a. offered_to_keeps (client_of id b.hosts.clients) b a) (ids_of_clients h.taken.clients)
     (record { hosts = h.taken; offers = []; failed = [] }) h.offered h.offers
     ∙ orderly on_air IsTaken event_taken_keeps asked.events h.tried h.taken h.takes
     ∙ orderly on_air IsTried (λ (one : Untaken) b a. taken_keeps one.id one.octets b a) before.untaken

@@ -2,10 +2,10 @@
 use Rattle.tnc_ports.proofs.Common.{◌⊎◌, zero, suc, ◌==◌, ◌||◌, Bool, true, false, List, ◌∷◌, All, Option, Some, None}
 use Rattle.tnc_ports.proofs.Common.{list_any, sym, ◌∙◌, ap, subst, arith, inl, inr, append_assoc, cases_Bool, or_parts}
 use Rattle.tnc_ports.proofs.Common.{or_cases, or_left, or_right, false≢true, true≢false, eqb-true, ne_eqb, eq-eqb}
-use Rattle.tnc_ports.proofs.Common.{flat_map-append, append-nil, map-append, All-append, list_any-append, Line}
+use Rattle.tnc_ports.proofs.Common.{flat_map-append, append-nil, map-append, All-append, list_any-append, Client}
 use Rattle.tnc_ports.proofs.Common.{ReportLine, ReceivedLine, SentLine, poll_of, taken_of, IsCutInSending, Hosts}
-use Rattle.tnc_ports.proofs.Common.{line_of, is_among, was_there, Asked, Offer, Offering, InOrder, AreTried, IsTaken}
-use Rattle.tnc_ports.proofs.Common.{IsOffered, IsOfferedTo, IsHostPart, ids_of_lines, octets_for, IsOrderly, NoneTwice}
+use Rattle.tnc_ports.proofs.Common.{client_of, is_among, was_there, Asked, Offer, Offering, InOrder, AreTried, IsTaken}
+use Rattle.tnc_ports.proofs.Common.{IsOffered, IsOfferedTo, IsHostPart, ids_of_clients, octets_for, IsOrderly, NoneTwice}
 use Rattle.tnc_ports.proofs.Common.{octets_to, ids_closed, closed_by, IsShutHavingCome, Poll, has_come, is_joining_of}
 use Rattle.std.specs.Prelude.{◌≡◌, ℕ, [], ◌++◌, map, refl}
 use Rattle.keying.specs.declared.report.Report.{Report}
@@ -16,7 +16,7 @@ use Rattle.tnc_ports.specs.KeyTurns.{key_line}
 use Rattle.tnc_ports.specs.ServedHosts.{ids_sent_to, ids_shut, AreSentInTurns, AreShutInTurns}
 use Rattle.host_ports.proofs.GivenLemmas.{offers_given}
 use Rattle.host_ports.proofs.KeptLemmas.{IsKeptByStep, IsKeptByPart, kept_tried, kept_takes, kept_offers}
-use Rattle.host_ports.proofs.LineLemmas.{found_id}
+use Rattle.host_ports.proofs.ClientLemmas.{found_id}
 use Rattle.tnc_ports.proofs.LiveKept.{IsKeptByFrames}
 use Rattle.host_ports.proofs.SentLemmas.{orderly_by_step, orderly_by_part}
 use Rattle.tnc_ports.proofs.StepLemmas.{FewWait, few_by_step, few_by_part}
@@ -128,15 +128,15 @@ offered_none id ids offers more is h =
       left = h.left.1;
     })
 
-offered_to_once : (id : ℕ) (ids : List ℕ) (line : Option Line) (before after : Offering)
-    → line_of id before.hosts.lines ≡ line → IsOfferedTo line before after
+offered_to_once : (id : ℕ) (ids : List ℕ) (client : Option Client) (before after : Offering)
+    → client_of id before.hosts.clients ≡ client → IsOfferedTo client before after
     → AreOfferedOnce (id ∷ ids) before.offers → AreOfferedOnce ids after.offers
 offered_to_once id ids None before after found offered h =
     offered_none id ids before.offers after.offers (ap (λ (s : Offering). s.offers) offered) h
-offered_to_once id ids (Some line) before after found offered h = elim offered [
+offered_to_once id ids (Some client) before after found offered h = elim offered [
   | inl nothing ↦ offered_none id ids before.offers after.offers (ap (λ (s : Offering). s.offers) nothing.1) h
   | inr rest ↦ elim rest [
-    | inl takes ↦ offered_more id ids before.offers after.offers _ (found_id id before.hosts.lines line found)
+    | inl takes ↦ offered_more id ids before.offers after.offers _ (found_id id before.hosts.clients client found)
         takes.1.offered h
     | inr fails ↦ offered_none id ids before.offers after.offers fails.1.offered h
   ]
@@ -147,7 +147,7 @@ offers_once : (ids : List ℕ) (before after : Offering) → InOrder IsOffered i
 unfolding ids_offered
 offers_once [] before after run h = subst (λ (s : Offering). NoneTwice (ids_offered s.offers)) (sym run) h.once
 offers_once (id ∷ ids) before after run h = offers_once ids run.0 after run.2
-    (offered_to_once id ids (line_of id before.hosts.lines) before run.0 refl run.1 h)
+    (offered_to_once id ids (client_of id before.hosts.clients) before run.0 refl run.1 h)
 
 -- ---- the account of all turns
 
@@ -211,8 +211,8 @@ accounted_by_step turns =
           (s.shut id hosts there h.sound) refl refl h;
       leaving = λ ids hosts h. moved turns hosts _ (o.leaving ids hosts h.orderly) (f.leaving ids hosts h.few)
           (s.leaving ids hosts h.sound) refl refl h;
-      piece = λ piece line hosts found fit h. moved turns hosts _ (o.piece piece line hosts found fit h.orderly)
-          (f.piece piece line hosts found fit h.few) (s.piece piece line hosts found fit h.sound) refl refl h;
+      piece = λ piece client hosts found fit h. moved turns hosts _ (o.piece piece client hosts found fit h.orderly)
+          (f.piece piece client hosts found fit h.few) (s.piece piece client hosts found fit h.sound) refl refl h;
     }
 
 pub accounted_relined : (turns : List Asked) (report : List ReportLine) (hosts : Hosts)
@@ -271,7 +271,7 @@ only P x p (suc k) d within = absurd (omega (arith, within))
 
 sending_of : (turns : List Asked) (asked : Asked) (first others : List ℕ) (before tried taken : Hosts)
     (offered : Offering) → AreTried before tried → InOrder IsTaken asked.events tried taken
-    → ids_of_lines taken.lines ≡ first ++ others → InOrder IsOffered first
+    → ids_of_clients taken.clients ≡ first ++ others → InOrder IsOffered first
     (record { hosts = taken; offers = []; failed = [] }) offered → offered.offers ≡ asked.offers
     → IsAccounted turns before → IsSending turns asked offered.hosts
 unfolding ids_offered
@@ -300,7 +300,7 @@ sending_of turns asked first others before tried taken offered tries takes parts
           (only (λ (one : Asked). NoneTwice (ids_sent_to one)) asked
           (subst (λ (all : List Offer). NoneTwice (map (λ (one : Offer). one.id) all)) same
           (once_offered first start offered offers (none_twice-front first others
-          (subst NoneTwice parts sound.one_line)) refl)));
+          (subst NoneTwice parts sound.one_client)) refl)));
       sound = kept_offers asked.events (IsSound gone) (sound_by_part gone asked.events)
           first start offered offers sound;
       came = kept_offers asked.events came k first start offered offers
@@ -319,7 +319,7 @@ sending_of turns asked first others before tried taken offered tries takes parts
           left = λ id hosts came. came;
           shut = λ id hosts there came. came;
           leaving = λ ids hosts came. came;
-          piece = λ piece line hosts found fit came. came;
+          piece = λ piece client hosts found fit came. came;
         };
         untaken = λ untaken hosts came. came;
         joined = λ id hosts joins new came other was. elim
@@ -329,7 +329,7 @@ sending_of turns asked first others before tried taken offered tries takes parts
                   (eqb-true id other same) joins)
             ];
       };
-      sent = λ line count hosts found came. came;
+      sent = λ client count hosts found came. came;
     }
 
     once_offered : (ids : List ℕ) (start after : Offering) → InOrder IsOffered ids start after → NoneTwice ids
@@ -345,7 +345,7 @@ sending_of turns asked first others before tried taken offered tries takes parts
 pub accounted_part : (turns : List Asked) (asked : Asked) (before after : Hosts) → IsHostPart asked before after
     → IsAccounted turns before → IsAccounted (turns ++ asked ∷ []) after
 accounted_part turns asked before after p h =
-    let ids : List ℕ = ids_of_lines p.taken.lines in
+    let ids : List ℕ = ids_of_clients p.taken.clients in
     let s = sending_of turns asked ids [] before p.tried p.taken p.offered p.tries p.takes (sym (append-nil ids))
     p.offers p.told.0 h in
     let shut : ids_shut turns ++ p.offered.hosts.to_shut ≡ ids_shut (turns ++ asked ∷ []) =

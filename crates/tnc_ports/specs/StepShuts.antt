@@ -2,19 +2,19 @@
 use Rattle.std.specs.Prelude.{◌≡◌, ℕ, ◌+◌, ◌<◌, ◌≤◌, ◌⊎◌, ◌↔◌, true, false, IsTrue, List, [], ◌++◌, length, Option}
 use Rattle.std.specs.Prelude.{Some, None}
 use Rattle.station.specs.Turn.{Out}
-use Rattle.host_ports.specs.declared.line.Line.{Line}
-use Rattle.host_ports.specs.Hosts.{Hosts, line_of, is_among, is_there, delivering}
+use Rattle.host_ports.specs.declared.client.Client.{Client}
+use Rattle.host_ports.specs.Hosts.{Hosts, client_of, is_among, is_there, delivering}
 use Rattle.host_ports.specs.SentSoFar.{octets_for}
 use Rattle.host_ports.specs.Waiting.{most_octets, octets_of}
 
 -- the octets that wait for a connection
-abbrev pub octets_waiting : Option Line → List ℕ
+abbrev pub octets_waiting : Option Client → List ℕ
 octets_waiting None = []
-octets_waiting (Some line) = octets_of line.waiting
+octets_waiting (Some client) = octets_of client.waiting
 
 -- the same by its id
 abbrev pub octets_waiting_for : ℕ → Hosts → List ℕ
-octets_waiting_for id hosts = octets_waiting (line_of id hosts.lines)
+octets_waiting_for id hosts = octets_waiting (client_of id hosts.clients)
 
 -- The step closes the connection, or all that it says to it is more than may wait, with what waits already.
 abbrev pub IsShutBy : ℕ → Out → Hosts → Type 0

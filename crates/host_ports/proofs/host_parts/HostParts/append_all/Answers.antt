@@ -1,6 +1,6 @@
 use Rattle.host_ports.proofs.Common.{subst, arith, Moves, appending, appending_one}
 use Rattle.host_ports.proofs.DeliverLemmas.{append_more}
-use Rattle.host_ports.proofs.LineLemmas.{take_end}
+use Rattle.host_ports.proofs.ClientLemmas.{take_end}
 use Rattle.host_ports.proofs.MoveLemmas.{narrows_then}
 use Rattle.host_ports.proofs.host_parts.HostParts.append_all.Goals as goal
 

@@ -1,6 +1,6 @@
 use Rattle.host_ports.proofs.Common.{subst, arith, Moves, closing_all}
 use Rattle.host_ports.proofs.DeliverLemmas.{close_more, gone_more}
-use Rattle.host_ports.proofs.LineLemmas.{take_end}
+use Rattle.host_ports.proofs.ClientLemmas.{take_end}
 use Rattle.host_ports.proofs.MoveLemmas.{narrows_then}
 use Rattle.host_ports.proofs.host_parts.HostParts.close_all.Goals as goal
 

@@ -5,7 +5,7 @@ use Rattle.host_ports.proofs.host_parts.HostParts.forget.Goals as goal
 -- the parts without the connection
 abbrev after : goal.After-remove_id → HostParts
 after c = record c.args.self.now {
-  lines = c.remove_line.new.lines;
+  clients = c.remove_client.new.clients;
   untaken = c.remove_untaken.new.untaken;
   leaving = c.remove_id.new.ids;
 }
@@ -14,7 +14,7 @@ forgets : (c : goal.After-remove_id) → Forgets c.args.id c.args.self.now (afte
 forgets c = record {
   station = refl;
   came = refl;
-  lines = c.remove_line.ensures;
+  clients = c.remove_client.ensures;
   untaken = c.remove_untaken.ensures;
   report = refl;
   to_shut = refl;

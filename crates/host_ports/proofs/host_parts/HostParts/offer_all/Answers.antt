@@ -1,8 +1,8 @@
 use Rattle.host_ports.proofs.Common.{◌≡◌, ℕ, ◌++◌, take, drop, [], sym, ap, subst, ◌∙◌, arith, take-append-drop}
-use Rattle.host_ports.proofs.Common.{Offering, InOrder, IsOffered, ids_of_lines}
+use Rattle.host_ports.proofs.Common.{Offering, InOrder, IsOffered, ids_of_clients}
 use Rattle.std.proofs.Common.{List}
 use Rattle.host_ports.proofs.AskedLemmas.{offered_nothing}
-use Rattle.host_ports.proofs.LineLemmas.{take_end}
+use Rattle.host_ports.proofs.ClientLemmas.{take_end}
 use Rattle.host_ports.proofs.ResultLemmas.{on_err}
 use Rattle.host_ports.proofs.OfferLemmas.{offers_more}
 use Rattle.host_ports.proofs.host_parts.HostParts.offer_all.Goals as goal
@@ -21,9 +21,9 @@ loop-id-preserved g c = record {
 pub returns-in_err-offer_to-clause-cut : goal.returns-in_err-offer_to-clause-cut
 returns-in_err-offer_to-clause-cut g c = λ printed hosts h.
     let ids : List ℕ = c.deref-id-items.result.now in
-    let parts : take c.loop-id.id-index ids ++ drop c.loop-id.id-index ids ≡ ids_of_lines hosts.lines =
+    let parts : take c.loop-id.id-index ids ++ drop c.loop-id.id-index ids ≡ ids_of_clients hosts.clients =
     take-append-drop c.loop-id.id-index ids ∙ c.deref-id-items.ensures.value ∙ c.in_ok-ids.ensures
-    ∙ ap ids_of_lines (sym h.lines) in
+    ∙ ap ids_of_clients (sym h.clients) in
     let start : Offering = record { hosts = hosts; offers = []; failed = [] } in
     let o = c.loop-id.invariant.offers printed start h (offered_nothing _) in
     on_err c.from_residual-in_err-offer_to.result _ (
@@ -38,9 +38,9 @@ returns-in_err-offer_to-clause-cut g c = λ printed hosts h.
 pub returns-clause-offers : goal.returns-clause-offers
 returns-clause-offers g c = λ printed hosts h.
     let ids : List ℕ = c.deref-id-items.result.now in
-    let all : take c.loop-id.id-index ids ≡ ids_of_lines hosts.lines =
+    let all : take c.loop-id.id-index ids ≡ ids_of_clients hosts.clients =
     take_end ids c.loop-id.id-index c.loop-id-test.false ∙ c.deref-id-items.ensures.value ∙ c.in_ok-ids.ensures
-    ∙ ap ids_of_lines (sym h.lines) in
+    ∙ ap ids_of_clients (sym h.clients) in
     let start : Offering = record { hosts = hosts; offers = []; failed = [] } in
     let o = c.loop-id.invariant.offers printed start h (offered_nothing _) in
     (o.0, subst (λ some. InOrder IsOffered some start o.0) all o.1, o.2, o.3)

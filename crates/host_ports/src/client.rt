@@ -4,7 +4,7 @@ use crate::outgoing::Outgoing;
 
 /// A connection, and what waits to be sent to it.
 #[derive(Drop)]
-pub struct Line {
+pub struct Client {
     /// The connection.
     pub id: u32,
     /// The pieces that wait.
