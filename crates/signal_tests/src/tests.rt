@@ -1,7 +1,7 @@
 //! Tests of frames as signals, each in a file of its own.
 
-mod assertions;
 mod bits;
+mod carrier;
 mod framer;
 mod hf_tones;
 mod letters;

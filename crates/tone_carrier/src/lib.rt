@@ -13,8 +13,6 @@ mod carrier_lane;
 mod comparison;
 mod heard_window;
 mod laws;
-#[cfg(test)]
-mod tests;
 mod window_power;
 
 pub use carrier::Carrier;

@@ -2,7 +2,7 @@
 ghost use Rattle.hdlc_framer.specs.FrameLength.{HasFrameLength};
 
 use super::script::{Script, came};
-use crate::assertions::assert_equal;
+use assertions::assert_equal;
 use host_ports::{HostSide, ReportLine};
 use link_machine::Params;
 use station::{Config, PortKind};

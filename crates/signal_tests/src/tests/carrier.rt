@@ -1,17 +1,12 @@
 //! What is heard in windows, and where tones are found and lost, as a second program computed them from the
 //! definition.
 
-use crate::{Carrier, CarrierLane, HeardWindow, power};
+use assertions::assert_equal;
 use nrzi_bits::NrziOut;
 use offset_slicers::{correlate, decide};
-use std::fmt::Debug;
 use std::process::Abort;
+use tone_carrier::{Carrier, CarrierLane, HeardWindow, power};
 use tone_table::{Tone, sine, step};
-
-/// Equality as a call: it is proved faster than the text of `assert_eq!` in each test.
-fn assert_equal<R: Abort, T: PartialEq + Debug>(rt: &R, got: &T, wanted: &T) {
-    assert_eq!(*rt; *got, *wanted);
-}
 
 /// Eight samples, and what is heard of them: the first two windows of mark and space at level 10,000 and at level 10,
 /// silence, constants, and the loudest window.
