@@ -10,7 +10,7 @@ use Rattle.frame_merge.specs.Merged.{below}
 use Rattle.frame_merge.proofs.Merging.{merged-rising, All-merged}
 use Rattle.frame_merge.proofs.Ordering.{rising_ends}
 use Rattle.frame_merge.proofs.Taking.{least-one}
-use Rattle.slicer_bank.specs.Candidates.{AreCandidates, AreCandidatesBehind, IsCandidate}
+use Rattle.slicer_bank.specs.Candidates.{AreCandidates, AreCandidatesAfter, IsCandidate}
 use Rattle.slicer_bank.specs.Held.{StandsFor as BankStandsFor}
 use Rattle.slicer_bank.proofs.CandidateLemmas.{candidates_none, candidates_join}
 use Rattle.slicer_bank.proofs.MergingLemmas.{in_order-strictly, is_in_order}
@@ -30,7 +30,7 @@ ear_none held bank flags count marks merger = record {
 }
 
 -- candidates that end past some samples end past their mark
-past_mark : (x y : List ℤ) (found : List Candidate) → AreCandidatesBehind (length x) (x ++ y) found
+past_mark : (x y : List ℤ) (found : List Candidate) → AreCandidatesAfter (length x) (x ++ y) found
     → All (λ item. mark_of x ≤ item.end) found
 past_mark x y found h k d l = let e = h.each k d l in let past = e.1 in omega arith
 
@@ -41,7 +41,7 @@ rising_merged x items are = merged-rising (λ y. y.end) [] items (rising_ends it
 module _ (x y : List ℤ) (before after : PlainEar) (put marked : HeldMerger) (found ready : List Candidate)
     (room : length (x ++ y) < 2 ^ 48)
     (heard : BankStandsFor before.bank x
-    → BankStandsFor after.bank (x ++ y) × AreCandidatesBehind (length x) (x ++ y) found)
+    → BankStandsFor after.bank (x ++ y) × AreCandidatesAfter (length x) (x ++ y) found)
     (flags : after.bank.flags ≡ before.bank.flags)
     (count : after.count ≡ before.count + length y)
     (puts : (puts given : List Candidate) → MergerStandsFor before.merger puts given

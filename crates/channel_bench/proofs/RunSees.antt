@@ -348,9 +348,9 @@ tick_leads w = (
 -- ---- a run
 
 -- at first, and after each tick
-abbrev pub Behind : BenchWords → ℕ → BenchState → Type 0
-Behind w zero bench = bench ≡ new_bench w
-Behind w (suc count) bench = Stands w made bench
+abbrev pub After : BenchWords → ℕ → BenchState → Type 0
+After w zero bench = bench ≡ new_bench w
+After w (suc count) bench = Stands w made bench
 
 pub new_stands : (w : BenchWords) → Stands w begins (new_bench w)
 new_stands w = (new_holds w, λ p. (refl, refl))
@@ -367,7 +367,7 @@ later_parts w tick h =
 
 tick_stands :
     (w : BenchWords) (count : ℕ) (before bench : BenchState) → ArePartsMade w (parts_of w before.ticks) before bench
-    → IsCalm bench → Behind w count before → Stands w made bench
+    → IsCalm bench → After w count before → Stands w made bench
 tick_stands w zero before bench made_parts calm is =
     parts_lead w begins made (parts_of w before.ticks)
     (first_parts w before.ticks (ap (λ (b : BenchState). b.ticks) is))
@@ -377,7 +377,7 @@ tick_stands w (suc count) before bench made_parts calm stands =
     stands.0
 
 pub following_ticks : (w : BenchWords) (count : ℕ) (bench : BenchState) → AreTicks w count bench → IsCalm bench
-    → Behind w count bench
+    → After w count bench
 unfolding IsTick
 following_ticks w zero bench h calm = h
 following_ticks w (suc count) bench h calm =

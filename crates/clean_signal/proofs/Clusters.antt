@@ -21,7 +21,7 @@ pub record IsIn (c : Cluster) (item : Candidate) : Type 0 where
   pub high : item.end ≤ c.high
 
 -- a cluster is at most 15 wide, and more than 15 after a place
-pub record IsBehind (place : ℕ) (c : Cluster) : Type 0 where
+pub record IsAfter (place : ℕ) (c : Cluster) : Type 0 where
   pub far : place + 15 < c.low
   pub rising : c.low ≤ c.high
   pub narrow : c.high ≤ c.low + 15
@@ -29,7 +29,7 @@ pub record IsBehind (place : ℕ) (c : Cluster) : Type 0 where
 -- each cluster is after the one before
 abbrev pub AreApart : ℕ → List Cluster → Type 0
 AreApart place [] = Unit {0}
-AreApart place (c ∷ cs) = IsBehind place c × AreApart c.high cs
+AreApart place (c ∷ cs) = IsAfter place c × AreApart c.high cs
 
 abbrev pub IsInOne : List Cluster → Candidate → Type 0
 IsInOne [] item = ⊥
@@ -153,7 +153,7 @@ known_kept before place cs item (next ∷ items) known = (kept known.0, known_ke
 -- the first cluster to come becomes the one under way with its first item
 known_next : (before : List Candidate) (place : ℕ) (c : Cluster) (cs : List Cluster) (item : Candidate)
     (items : List Candidate)
-    → IsBehind place c → IsIn c item → Known before place (c ∷ cs) items → Known (before ++ item ∷ []) c.high cs items
+    → IsAfter place c → IsIn c item → Known before place (c ∷ cs) items → Known (before ++ item ∷ []) c.high cs items
 known_next before place c cs item [] following is known = tt
 known_next before place c cs item (next ∷ items) following is known =
     (now known.0, known_next before place c cs item items following is known.1)

@@ -18,12 +18,12 @@ ghost use Rattle.fx25_receiver.specs.Coming.{HearsBlock};
 ghost use Rattle.fx25_receiver.specs.Held.{IsFresh, LaneStandsFor, LanesStandFor};
 ghost use Rattle.fx25_receiver.specs.Known.{KnowsNumbers};
 
-use crate::eight::{octet_of, tones_of};
 use crate::plain_frames::PlainFrames;
 use crate::resting_reader::RestingReader;
 use crate::window_certainty::certainty;
 use fx25_blocks::{BlockFrame, Certainties};
 use nrzi_bits::NrziIn;
+use slicer_bank::{octet_of, tones_of};
 use std::alloc::Global;
 use std::marker::Model;
 use tnc_base::OutOfMemory;

@@ -7,7 +7,6 @@
 #![tactic(auto)]
 
 mod ahead;
-mod eight;
 mod heard;
 mod hearing;
 mod lane;
@@ -16,7 +15,6 @@ mod merging;
 mod plain_frames;
 mod receiver;
 mod resting_reader;
-mod seven;
 #[cfg(test)]
 mod tests;
 mod window_certainty;

@@ -22,16 +22,16 @@ pub record IsIn (c : Cluster) (item : Heard) : Type 0 where
   pub last : item.end ≤ c.last
 
 -- a cluster is at most 15 wide, ends at most 20,000 after that, and is more than 15 after a place
-pub record IsBehind (place : ℕ) (c : Cluster) : Type 0 where
+pub record IsAfter (place : ℕ) (c : Cluster) : Type 0 where
   pub far : place + 15 < c.low
   pub rising : c.low ≤ c.last
   pub narrow : c.high ≤ c.low + 15
   pub short : c.last ≤ c.low + 20000
 
 -- each cluster is after the one before
-abbrev pub AreBehind : ℕ → List Cluster → Type 0
-AreBehind place [] = Unit {0}
-AreBehind place (c ∷ cs) = IsBehind place c × AreBehind c.last cs
+abbrev pub AreAfter : ℕ → List Cluster → Type 0
+AreAfter place [] = Unit {0}
+AreAfter place (c ∷ cs) = IsAfter place c × AreAfter c.last cs
 
 abbrev pub IsInOne : List Cluster → Heard → Type 0
 IsInOne [] item = ⊥
@@ -70,7 +70,7 @@ or_true true = refl
 or_true false = refl
 
 -- two items of one cluster: the later one repeats the earlier
-repeats_last : (place : ℕ) (c : Cluster) (item earlier : Heard) (before : List Heard) → IsBehind place c
+repeats_last : (place : ℕ) (c : Cluster) (item earlier : Heard) (before : List Heard) → IsAfter place c
     → IsIn c earlier → IsIn c item → list_any (repeats item) (before ++ earlier ∷ []) ≡ true
 repeats_last place c item earlier before following first second =
     let narrow = following.narrow in
@@ -117,7 +117,7 @@ below_more place more (earlier ∷ before) item le below at =
     let first = below.0 in (omega arith, below_more place more before item le below.1 at)
 
 -- an item of a cluster to come has its plain end far after the place, and its end no earlier
-later_end : (place : ℕ) (cs : List Cluster) (item : Heard) → AreBehind place cs → IsInOne cs item
+later_end : (place : ℕ) (cs : List Cluster) (item : Heard) → AreAfter place cs → IsInOne cs item
     → (place + 15 < item.at) × (item.at ≤ item.end)
 later_end place [] item apart is = absurd is
 later_end place (c ∷ cs) item apart (inl is) = (omega (arith, apart.0.far, is.low), is.waits)
@@ -139,7 +139,7 @@ has_one_later item items c early (inl is) = absurd (omega (arith, is.low, is.wai
 has_one_later item items c early (inr has) = has
 
 have_one_later : (item : Heard) (items : List Heard) (place : ℕ) (cs : List Cluster) → item.end ≤ place
-    → AreBehind place cs → AllByRecursion (HasOne (item ∷ items)) cs → AllByRecursion (HasOne items) cs
+    → AreAfter place cs → AllByRecursion (HasOne (item ∷ items)) cs → AllByRecursion (HasOne items) cs
 have_one_later item items place [] early apart has = tt
 have_one_later item items place (c ∷ cs) early apart has =
     let first = apart.0 in (
@@ -167,7 +167,7 @@ known_kept before place cs item (next ∷ items) known = (kept known.0, known_ke
 
 -- the first cluster to come becomes the one under way with its first item
 known_next : (before : List Heard) (place : ℕ) (c : Cluster) (cs : List Cluster) (item : Heard) (items : List Heard)
-    → IsBehind place c → IsIn c item → Known before place (c ∷ cs) items → Known (before ++ item ∷ []) c.last cs items
+    → IsAfter place c → IsIn c item → Known before place (c ∷ cs) items → Known (before ++ item ∷ []) c.last cs items
 known_next before place c cs item [] following is known = tt
 known_next before place c cs item (next ∷ items) following is known =
     (now known.0, known_next before place c cs item items following is known.1)
@@ -206,7 +206,7 @@ kept item items before octets frames is_none is rest =
 abbrev pub Keeps : List Heard → Type 0
 Keeps items =
     (before : List Heard) (place from : ℕ) (cs : List Cluster)
-    → Below place before → Rising from items → Known before place cs items → AreBehind place cs
+    → Below place before → Rising from items → Known before place cs items → AreAfter place cs
     → AllByRecursion (HasOne items) cs
     → map (λ item. item.octets) (merged_after before items) ≡ map (λ c. c.octets) cs
 

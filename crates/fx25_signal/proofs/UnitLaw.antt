@@ -11,7 +11,7 @@ use Rattle.fx25_receiver.specs.Certainty.{certainties}
 use Rattle.fx25_receiver.proofs.TakenLemmas.{unsure_block_bounds}
 use Rattle.offset_slicers.specs.Windows.{bits}
 use Rattle.std.proofs.Common.{take}
-use Rattle.fx25_signal.proofs.Clusters.{AreBehind, Cluster, HasOne, IsIn, IsInOne, Known, Rising, merge_keeps}
+use Rattle.fx25_signal.proofs.Clusters.{AreAfter, Cluster, HasOne, IsIn, IsInOne, Known, Rising, merge_keeps}
 use Rattle.fx25_signal.proofs.FoundUnits.{block_in_unit, block_to_frame, found}
 
 -- what can be heard of a unit
@@ -48,7 +48,7 @@ lengths_of x unit comes = elim comes.comes [
 ]
 
 apart_of : (x : List ℤ) (units : List SentUnit) (place : ℕ) → AreApart place units → AllByRecursion (Comes x) units
-    → AreBehind (place + 7) (map cluster_of units)
+    → AreAfter (place + 7) (map cluster_of units)
 apart_of x [] place apart come = tt
 apart_of x (unit ∷ units) place apart come =
     let far = apart.0 in

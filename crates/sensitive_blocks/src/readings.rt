@@ -1,9 +1,10 @@
 //! Which lanes read a bit that ends with a sample.
 ghost use Rattle.std.specs.Prelude.{◌≡◌, ◌<◌, ◌≤◌, ℤ, List, length};
-ghost use Rattle.sensitive_receiver.specs.Lanes.{delay_of, list_of};
+ghost use Rattle.sensitive_receiver.specs.Lanes.{list_of};
 ghost use Rattle.sensitive_blocks.specs.Bits.{reads};
 ghost use Rattle.sensitive_blocks.specs.Held.{AreKept};
 
+use sensitive_receiver::delay_of;
 use tone_tracking::Reach;
 
 /// The first of the lanes that are added to one for each offset of a bit.
@@ -70,24 +71,5 @@ pub(crate) fn list_of(lane: u8) -> Reach
         Reach::Near
     } else {
         Reach::Alone
-    }
-}
-
-/// How many places before the last one an added lane reads.
-pub(crate) fn delay_of(lane: u8) -> u8
-    requires { lane < 26 }
-    ensures delay { result ≡ delay_of lane }
-    ensures bound { result ≤ 2 }
-{
-    if lane < 16 {
-        0
-    } else if lane < 19 {
-        lane - 16
-    } else if lane < 22 {
-        lane - 19
-    } else if lane < 23 {
-        1
-    } else {
-        lane - 23
     }
 }

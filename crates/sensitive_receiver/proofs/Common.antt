@@ -24,7 +24,7 @@ pub use Rattle.sensitive_receiver.specs.declared.decided_place.DecidedPlace.{Dec
 pub use Rattle.slicer_bank.proofs.CandidateLemmas.{AllPairs-append, end_within}
 pub use Rattle.slicer_bank.proofs.MergedLemmas.{next_is}
 pub use Rattle.slicer_bank.proofs.OrderingLemmas.{below_more}
-pub use Rattle.slicer_bank.specs.Candidates.{AreCandidatesBehind, IsCandidate}
+pub use Rattle.slicer_bank.specs.Candidates.{AreCandidatesAfter, IsCandidate}
 pub use Rattle.slicer_bank.specs.Held.{HeldBank}
 pub use Rattle.std.proofs.Common.{Bool, List, [], ap, append_assoc, arith, drop, false, get_or, inl, inr, length}
 pub use Rattle.std.proofs.Common.{length-append, map, pos, refl, replicate, set, subst, suc, sym, take, true, zero, ℕ}

@@ -1,7 +1,7 @@
 -- A decoder with a block more, and at its end.
 use Rattle.sensitive_receiver.proofs.Common.{◌≡◌, ◌+◌, ◌-◌, ◌^◌, ◌<◌, ℤ, List, [], ◌++◌, length, replicate, refl, ap}
 use Rattle.sensitive_receiver.proofs.Common.{sym, subst, ◌∙◌, arith, length-append, append_assoc, fold, Candidate}
-use Rattle.sensitive_receiver.proofs.Common.{place, in_order, merged, below, not_below, AreCandidatesBehind, HeldBank}
+use Rattle.sensitive_receiver.proofs.Common.{place, in_order, merged, below, not_below, AreCandidatesAfter, HeldBank}
 use Rattle.sensitive_receiver.proofs.Common.{next_is, below_more, added_places, AreHeard, AreAddedBetween, HaveTaken}
 use Rattle.sensitive_receiver.proofs.Common.{settled, AreMergedBetween}
 use Rattle.std.proofs.lemmas.List.Sums.{fold-append}
@@ -33,7 +33,7 @@ module _ (x y : List ℤ) (old new : HeldBank) (before after : HeldAdded) (was m
     (found added ready : List Candidate)
     (room : length (x ++ y) < 2 ^ 48)
     (h : HaveTaken old before was x)
-    (heard : BankStandsFor old x → BankStandsFor new (x ++ y) × AreCandidatesBehind (length x) (x ++ y) found)
+    (heard : BankStandsFor old x → BankStandsFor new (x ++ y) × AreCandidatesAfter (length x) (x ++ y) found)
     (read : AddedStandsFor before x → AddedStandsFor after (x ++ y) × AreAddedBetween (added_places (length x))
     (added_places (length (x ++ y))) (x ++ y) added)
     (puts : (p given : List Candidate) → MergerStandsFor was p given
@@ -43,7 +43,7 @@ module _ (x y : List ℤ) (old new : HeldBank) (before after : HeldAdded) (was m
     → MergerStandsFor now p (given ++ ready) × (given ++ ready ≡ below (least marked.marks) (merged (in_order p))))
     (keeps : (p given : List Candidate) → MergerStandsFor marked p given
     → now.items ≡ not_below (least marked.marks - 15) (in_order p)) where
-  bank : BankStandsFor new (x ++ y) × AreCandidatesBehind (length x) (x ++ y) found
+  bank : BankStandsFor new (x ++ y) × AreCandidatesAfter (length x) (x ++ y) found
   bank = heard h.samples
 
   lanes : AddedStandsFor after (x ++ y) × AreAddedBetween (added_places (length x)) (added_places (length (x ++ y)))

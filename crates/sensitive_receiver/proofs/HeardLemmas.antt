@@ -2,7 +2,7 @@
 use Rattle.sensitive_receiver.proofs.Common.{◌≢◌, ℕ, ◌<◌, ◌≤◌, ℤ, List, [], ◌++◌, length, get_or, arith, inl, inr}
 use Rattle.sensitive_receiver.proofs.Common.{length-append, fold, All, AllPairs, cases_lt, All-append, All-nil}
 use Rattle.sensitive_receiver.proofs.Common.{Contains-append_left, Contains-append_right, Candidate, standing, place}
-use Rattle.sensitive_receiver.proofs.Common.{IsCandidate, AreCandidatesBehind, AllPairs-append, end_within, added_places}
+use Rattle.sensitive_receiver.proofs.Common.{IsCandidate, AreCandidatesAfter, AllPairs-append, end_within, added_places}
 use Rattle.sensitive_receiver.proofs.Common.{EndsAtPlace, IsHeard, AreHeard, AreAddedBetween, settled}
 use Rattle.std.specs.List.{Contains}
 use Rattle.frame_merge.specs.Order.{IsInOrder}
@@ -35,7 +35,7 @@ heard_more x y item (inr h) =
 
 -- what the lanes hear in more samples
 module _ (x y : List ℤ) (candidates found added : List Candidate) (are : AreHeard x candidates)
-    (new : AreCandidatesBehind (length x) (x ++ y) found)
+    (new : AreCandidatesAfter (length x) (x ++ y) found)
     (late : AreAddedBetween (added_places (length x)) (added_places (length (x ++ y))) (x ++ y) added) where
   abbrev pub all_of : List Candidate
   all_of = fold (λ ordered item. place item ordered) candidates (found ++ added)

@@ -3,7 +3,7 @@ use Rattle.sensitive_receiver.proofs.Common.{◌≡◌, ℕ, ◌+◌, ◌-◌, �
 use Rattle.sensitive_receiver.proofs.Common.{get_or, refl, inl, inr, ap, sym, ◌∙◌, arith, nat_le, nat_lt, ◌&&◌, All}
 use Rattle.sensitive_receiver.proofs.Common.{ltb-true, leb-true, lt-ltb, and_parts, All-weaker, All-head, All-tail}
 use Rattle.sensitive_receiver.proofs.Common.{All-filter, filter_passes, AllPairs-filter, Candidate, standing, merged}
-use Rattle.sensitive_receiver.proofs.Common.{below, not_below, IsCandidate, AreCandidatesBehind, next_is, below_more}
+use Rattle.sensitive_receiver.proofs.Common.{below, not_below, IsCandidate, AreCandidatesAfter, next_is, below_more}
 use Rattle.sensitive_receiver.proofs.Common.{added_places, delay_of, EndsAtPlace, IsHeard, AreHeard, AreAddedBetween}
 use Rattle.sensitive_receiver.proofs.Common.{settled, AreMergedBetween}
 use Rattle.std.proofs.Common.{cond}
@@ -93,7 +93,7 @@ module _ (x y : List ℤ) (items all : List Candidate) (are : AreHeard x items) 
   unfolding is_late
   late_passes item h following = (λ i. lt-ltb item.offset 8 h.offset i && lt-ltb (length x) item.end following i)
 
-  late_are : AreCandidatesBehind (length x) (x ++ y) late
+  late_are : AreCandidatesAfter (length x) (x ++ y) late
   unfolding late
   late_are = record {
     each = λ k d l. late_one (get_or late k d) (All-filter is_late (IsHeard (x ++ y)) all whole.each k d l)

@@ -4,7 +4,7 @@ ghost use Rattle.std.specs.Prelude.{◌≡◌, ◌+◌, ◌<◌, ◌≤◌, ◌^
 ghost use Rattle.std.specs.Prelude.{OnOk, OnErr};
 ghost use Rattle.std.specs.List.{All};
 ghost use Rattle.std.specs.Thread.{IsSync};
-ghost use Rattle.slicer_bank.specs.Candidates.{AreCandidatesBehind};
+ghost use Rattle.slicer_bank.specs.Candidates.{AreCandidatesAfter};
 ghost use Rattle.slicer_bank.specs.Held.{HeldBank, StandsFor as BankStandsFor};
 ghost use Rattle.slicer_bank.specs.Merging.{CanBePut as CanBePutOfEight, AllPast};
 ghost use Rattle.slicer_bank.specs.Progress.{Finishes, TakesBlock};
@@ -128,7 +128,7 @@ impl SensitiveDecoder {
         ensures given { IfOk result (λ items. (before : HeldBank) (other : HeldAdded) (x y : List ℤ)
             → self.old.finished ≡ false → length x ≡ self.old.position → length y ≡ count
             → (BankStandsFor before x → BankStandsFor self.old.bank (x ++ y)
-            × AreCandidatesBehind (length x) (x ++ y) found.items)
+            × AreCandidatesAfter (length x) (x ++ y) found.items)
             → (AddedStandsFor other x → AddedStandsFor self.old.added (x ++ y)
             × AreAddedBetween (added_places (length x)) (added_places (length (x ++ y))) (x ++ y) added.items)
             → HaveTaken before other self.old.merger x
@@ -183,7 +183,7 @@ fn hear_beside<R: Threads + Sync>(
     requires bank { bank.old.position + length block.now < 2 ^ 48 }
     requires added { added.old.position + length block.now < 2 ^ 48 }
     ensures found { IfOk result.0 (λ found. (x : List ℤ) → BankStandsFor bank.old x
-        → BankStandsFor bank.new (x ++ block.now) × AreCandidatesBehind (length x) (x ++ block.now) found.items) }
+        → BankStandsFor bank.new (x ++ block.now) × AreCandidatesAfter (length x) (x ++ block.now) found.items) }
     ensures bounds { IfOk result.0 (λ found. All CanBePutOfEight found.items) }
     ensures past { IfOk result.0 (λ found. AllPast bank.old.position found.items) }
     ensures position { OnOk result.0 (bank.new.position ≡ bank.old.position + length block.now) }

@@ -13,7 +13,7 @@ pub(crate) const FIRST: u8 = 8;
 pub const LANES: u8 = 26;
 
 /// How many places before the last one a lane reads.
-pub(crate) fn delay_of(lane: u8) -> u8
+pub fn delay_of(lane: u8) -> u8
     requires { lane < 26 }
     ensures delay { result ≡ delay_of lane }
     ensures bound { result ≤ 2 }

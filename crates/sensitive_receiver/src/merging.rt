@@ -4,7 +4,7 @@ ghost use Rattle.std.specs.Prelude.{◌≡◌, ◌+◌, ◌<◌, ◌^◌, ℤ, L
 ghost use Rattle.std.specs.List.{All};
 ghost use Rattle.frame_merge.specs.declared.candidate.Candidate.{Candidate};
 ghost use Rattle.frame_merge.specs.Held.{StandsFor};
-ghost use Rattle.slicer_bank.specs.Candidates.{AreCandidatesBehind};
+ghost use Rattle.slicer_bank.specs.Candidates.{AreCandidatesAfter};
 ghost use Rattle.slicer_bank.specs.Held.{HeldBank, StandsFor as BankStandsFor};
 ghost use Rattle.slicer_bank.specs.Merging.{CanBePut as CanBePutOfEight, AllPast, AreInTime};
 ghost use Rattle.sensitive_receiver.specs.Found.{AreAddedBetween, CanBePut, HasRoom, IsAddedFrom};
@@ -36,7 +36,7 @@ pub(crate) fn merge_block(
     requires marks { merger.old.marks ≡ replicate 26 (settled position) }
     ensures given { IfOk result (λ ready. (old new : HeldBank) (before after : HeldAdded) (x y : List ℤ)
         → length x ≡ position → length y ≡ count
-        → (BankStandsFor old x → BankStandsFor new (x ++ y) × AreCandidatesBehind (length x) (x ++ y) found.items)
+        → (BankStandsFor old x → BankStandsFor new (x ++ y) × AreCandidatesAfter (length x) (x ++ y) found.items)
         → (AddedStandsFor before x → AddedStandsFor after (x ++ y)
         × AreAddedBetween (added_places (length x)) (added_places (length (x ++ y))) (x ++ y) added.items)
         → HaveTaken old before merger.old x

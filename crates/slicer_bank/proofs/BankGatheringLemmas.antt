@@ -2,7 +2,7 @@
 use Rattle.slicer_bank.proofs.Common.{◌≡◌, ℕ, ◌+◌, ◌<◌, ℤ, List, [], length, get_or, Option, Some, None, refl, ap, sym}
 use Rattle.slicer_bank.proofs.Common.{arith, subst, All, flat_map, IsPermutation, IsNonDecreasingBy}
 use Rattle.slicer_bank.proofs.Common.{Contains-permutation, All-permutation, windows_in, Candidate, IsCandidate}
-use Rattle.slicer_bank.proofs.Common.{AreCandidatesBehind, HeldLane, AreOfWindows, LanesKeep, LanesKeepFit}
+use Rattle.slicer_bank.proofs.Common.{AreCandidatesAfter, HeldLane, AreOfWindows, LanesKeep, LanesKeepFit}
 use Rattle.slicer_bank.proofs.Common.{CanBePutPast}
 use Rattle.slicer_bank.specs.Heard.{AreAlike}
 use Rattle.slicer_bank.proofs.CandidateLemmas.{end_within}
@@ -28,7 +28,7 @@ module _ (lanes : List HeldLane) (eight : length lanes ≡ 8) (heard : (k : ℕ)
       subst (All (CanBePutPast position)) (sym (ap items_of h.1)) (keep k d h.0 (omega arith) h.1)))
 
   pub lanes_in_order : (position : ℕ) (x : List ℤ) → IsNonDecreasingBy (λ item. item.end) sorted
-      → LanesKeep position x lanes → AreCandidatesBehind position x sorted
+      → LanesKeep position x lanes → AreCandidatesAfter position x sorted
   lanes_in_order position x rises keep =
       let P : Candidate → Type 0 = λ item. IsCandidate x item × (position < item.end) in
       record {

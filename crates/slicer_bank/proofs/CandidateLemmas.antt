@@ -3,7 +3,7 @@ use Rattle.slicer_bank.proofs.Common.{◌≡◌, ℕ, ◌+◌, ◌-◌, ◌<◌,
 use Rattle.slicer_bank.proofs.Common.{arith, subst, length-append, inl, inr, AllPairs, cases_lt, take_all}
 use Rattle.slicer_bank.proofs.Common.{get_or_append_left, get_or-append-add, All-append, All-nil, Contains-append_left}
 use Rattle.slicer_bank.proofs.Common.{Contains-append_right, bits, windows_in, length-bits, EndsFrame, Candidate}
-use Rattle.slicer_bank.proofs.Common.{standing, IsCandidate, AreCandidatesBehind}
+use Rattle.slicer_bank.proofs.Common.{standing, IsCandidate, AreCandidatesAfter}
 use Rattle.offset_slicers.proofs.TonesOfWindows.{first_of}
 use Rattle.offset_slicers.proofs.WindowLemmas.{bits-append}
 use Rattle.slicer_bank.specs.Candidates.{EndsWith}
@@ -83,7 +83,7 @@ candidate_at_last x item small e h =
     }
 
 -- no candidate ends after the samples
-pub candidates_none : (x : List ℤ) → AreCandidatesBehind (length x) x []
+pub candidates_none : (x : List ℤ) → AreCandidatesAfter (length x) x []
 candidates_none x = record {
   each = All-nil (λ item. IsCandidate x item × (length x < item.end));
   whole = λ item h l. let e = end_within x item h in absurd (omega arith);
@@ -120,9 +120,9 @@ AllPairs-append R xs ys a b across i j d ij jl =
 -- the candidates of the first samples, and those of all that end after them
 pub candidates_join : (position : ℕ) (x y : List ℤ) (found more : List Candidate)
     → position ≤ length x
-    → AreCandidatesBehind position x found
-    → AreCandidatesBehind (length x) (x ++ y) more
-    → AreCandidatesBehind position (x ++ y) (found ++ more)
+    → AreCandidatesAfter position x found
+    → AreCandidatesAfter (length x) (x ++ y) more
+    → AreCandidatesAfter position (x ++ y) (found ++ more)
 candidates_join position x y found more le h new =
     let P : Candidate → Type 0 = λ item. IsCandidate (x ++ y) item × (position < item.end) in
     record {

@@ -29,7 +29,7 @@ pub use Rattle.sample_ring.specs.declared.got.Got.{Got}
 pub use Rattle.sample_ring.specs.declared.got.Got.TheVariants.{Empty, End, Gap, Item}
 pub use Rattle.sample_ring.specs.declared.reader.Reader.{Reader}
 pub use Rattle.slicer_bank.specs.Busy.{HearsCarrier}
-pub use Rattle.slicer_bank.specs.Candidates.{AreCandidates, AreCandidatesBehind, IsCandidate}
+pub use Rattle.slicer_bank.specs.Candidates.{AreCandidates, AreCandidatesAfter, IsCandidate}
 pub use Rattle.slicer_bank.specs.Heard.{Adds, AreOfWindows, HearsAlone, LaneHears, LanesKeep, LanesKeepFit}
 pub use Rattle.slicer_bank.specs.Heard.{candidate_at}
 pub use Rattle.slicer_bank.specs.HeardOnRing.{IsBusyOnRing, IsHeardIn, IsHeardOnRing, lane_of, lane_positions}

@@ -1,7 +1,7 @@
 -- A decoder with a block more, and at its end.
 use Rattle.slicer_bank.proofs.Common.{◌≡◌, ◌+◌, ◌-◌, ◌^◌, ◌<◌, ℤ, List, [], ◌++◌, length, replicate, ap, ◌∙◌, arith}
 use Rattle.slicer_bank.proofs.Common.{subst, Candidate, least, in_order, merged, below, not_below, AreCandidates}
-use Rattle.slicer_bank.proofs.Common.{AreCandidatesBehind, HeldBank, HaveTaken, AreMergedBetween}
+use Rattle.slicer_bank.proofs.Common.{AreCandidatesAfter, HeldBank, HaveTaken, AreMergedBetween}
 use Rattle.frame_merge.specs.Held.{Held as HeldMerger, StandsFor as MergerStandsFor}
 use Rattle.frame_merge.proofs.Taking.{least-one}
 use Rattle.slicer_bank.specs.Held.{StandsFor as BankStandsFor}
@@ -23,7 +23,7 @@ taken_none bank merger b m = record {
 -- a merger that gives what is ready, with all lanes marked at one position
 module _ (x y : List ℤ) (old new : HeldBank) (was marked now : HeldMerger) (found ready : List Candidate)
     (room : length (x ++ y) < 2 ^ 48)
-    (heard : BankStandsFor old x → BankStandsFor new (x ++ y) × AreCandidatesBehind (length x) (x ++ y) found)
+    (heard : BankStandsFor old x → BankStandsFor new (x ++ y) × AreCandidatesAfter (length x) (x ++ y) found)
     (puts : (puts given : List Candidate) → MergerStandsFor was puts given
     → MergerStandsFor marked (puts ++ found) given)
     (marks : marked.marks ≡ replicate 8 (length (x ++ y)))

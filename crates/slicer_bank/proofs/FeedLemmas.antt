@@ -1,7 +1,7 @@
 -- A bank that was fed a block, on one thread or on two.
 use Rattle.slicer_bank.proofs.Common.{◌≡◌, ℕ, ◌+◌, ℤ, List, ◌++◌, ap, sym, ◌∙◌, subst, length, length-append, take}
 use Rattle.slicer_bank.proofs.Common.{drop, IfOk, OnOk, All, take-append_seam, All-weaker, IfOk-weaker, Candidate}
-use Rattle.slicer_bank.proofs.Common.{AreCandidatesBehind, ◌<◌, Some, get_or, bits_of, flags_asked, tones_at, HeldBank}
+use Rattle.slicer_bank.proofs.Common.{AreCandidatesAfter, ◌<◌, Some, get_or, bits_of, flags_asked, tones_at, HeldBank}
 use Rattle.slicer_bank.proofs.Common.{HeldLane, LanesStandFor, AsksFor, last_seven, HearsAlone, LanesKeep, CanBePut}
 use Rattle.slicer_bank.proofs.Common.{CanBePutPast, AllPast}
 use Rattle.std.specs.Prelude.{Result}
@@ -32,11 +32,11 @@ module _ {V : Type 0} (items_of : V → List Candidate) (was new : HeldBank) (le
   abbrev pub Hears : V → Type 0
   Hears found = (x : List ℤ) → length x ≡ was.position → was.recent ≡ last_seven x → LanesStandFor lent x
       → LanesStandFor back (x ++ block) × (recent ≡ last_seven (x ++ block))
-      × AreCandidatesBehind was.position (x ++ block) (items_of found)
+      × AreCandidatesAfter was.position (x ++ block) (items_of found)
 
   abbrev pub Feeds : V → Type 0
   Feeds found = (x : List ℤ) → StandsFor was x → StandsFor new (x ++ block)
-      × AreCandidatesBehind (length x) (x ++ block) (items_of found)
+      × AreCandidatesAfter (length x) (x ++ block) (items_of found)
 
   by_result : {E : Type 0} (result : Result V E) → OnOk result (new ≡ counted was taken recent (length block))
       → IfOk result Hears
@@ -53,7 +53,7 @@ module _ {V : Type 0} (items_of : V → List Candidate) (was new : HeldBank) (le
             (asks was.flags (subst (All (AsksFor was.flags)) (sym lent_is) h.asks));
       } in (
         subst (λ bank. StandsFor bank (x ++ block)) (sym counts) stands,
-        subst (λ t. AreCandidatesBehind t (x ++ block) (items_of found)) h.count heard.2,
+        subst (λ t. AreCandidatesAfter t (x ++ block) (items_of found)) h.count heard.2,
       )
 
   pub fed : {E : Type 0} (result heard : Result V E) → result ≡ heard
@@ -97,10 +97,10 @@ pub gathered : {V E : Type 0} (items_of : V → List Candidate) (position : ℕ)
     → (result : Result V E)
     → OnOk result ((k : ℕ) (d : HeldLane) → k < 8 → (items : List Candidate) × ((get_or mid k d).heard ≡ Some items))
     → OnOk result (LanesAreAlike new mid)
-    → IfOk result (λ found. (at : ℕ) (x : List ℤ) → LanesKeep at x mid → AreCandidatesBehind at x (items_of found))
+    → IfOk result (λ found. (at : ℕ) (x : List ℤ) → LanesKeep at x mid → AreCandidatesAfter at x (items_of found))
     → IfOk result (λ found. (x : List ℤ) → length x ≡ position → recent ≡ last_seven x → LanesStandFor old x
     → LanesStandFor new (x ++ block) × (after ≡ last_seven (x ++ block))
-    × AreCandidatesBehind position (x ++ block) (items_of found))
+    × AreCandidatesAfter position (x ++ block) (items_of found))
 gathered items_of position old mid new recent after block each last (Err e) kept alike are = tt
 gathered items_of position old mid new recent after block each last (Ok found) kept alike are = λ x size is stand. (
   each_stands position old mid new recent block each kept alike x size is stand,

@@ -1,7 +1,7 @@
 -- What is heard of one window, and of one sample more.
 use Rattle.slicer_bank.proofs.Common.{◌≡◌, ℕ, ◌+◌, ◌<◌, ℤ, List, [], ◌∷◌, ◌++◌, Bool, length, map, ap, sym, ◌∙◌, arith}
 use Rattle.slicer_bank.proofs.Common.{refl, subst, All, append-nil, length_push, All-nil, All-cons, All-head, bits}
-use Rattle.slicer_bank.proofs.Common.{EndsWindow, EndsFrame, Candidate, IsCandidate, AreCandidatesBehind, candidate_at}
+use Rattle.slicer_bank.proofs.Common.{EndsWindow, EndsFrame, Candidate, IsCandidate, AreCandidatesAfter, candidate_at}
 use Rattle.slicer_bank.proofs.Common.{Adds}
 use Rattle.slicer_bank.proofs.CandidateLemmas.{candidate_at_last, ends_with_last, end_within}
 
@@ -9,7 +9,7 @@ use Rattle.slicer_bank.proofs.CandidateLemmas.{candidate_at_last, ends_with_last
 pub record HearsMore (x more : List ℤ) (before after : List Candidate) : Type 0 where
   pub heard : List Candidate
   pub found : after ≡ before ++ heard
-  pub are : AreCandidatesBehind (length x) (x ++ more) heard
+  pub are : AreCandidatesAfter (length x) (x ++ more) heard
 
 -- a lane at which no frame ends adds nothing
 pub adds_nothing : (offset end : ℕ) (b : List Bool) (before : List Candidate) → ((o : List ℕ) → EndsFrame b o → ⊥)
@@ -50,7 +50,7 @@ module _ (offset : ℕ) (x : List ℤ) (sample : ℤ) (small : offset < 8) (wind
 
     one_heard : (octets : List ℕ) → EndsFrame (bits offset all) octets
         → ((o : List ℕ) → EndsFrame (bits offset all) o → octets ≡ o)
-        → AreCandidatesBehind (length x) all (candidate_at (length all) offset octets ∷ [])
+        → AreCandidatesAfter (length x) all (candidate_at (length all) offset octets ∷ [])
     one_heard octets ends unique =
         let item : Candidate = candidate_at (length all) offset octets in
         let P : Candidate → Type 0 = λ i. IsCandidate all i × (length x < i.end) in
@@ -73,7 +73,7 @@ module _ (offset : ℕ) (x : List ℤ) (sample : ℤ) (small : offset < 8) (wind
           order = λ i j d ij jl. absurd (omega arith);
         }
 
-    none_heard : ((o : List ℕ) → EndsFrame (bits offset all) o → ⊥) → AreCandidatesBehind (length x) all []
+    none_heard : ((o : List ℕ) → EndsFrame (bits offset all) o → ⊥) → AreCandidatesAfter (length x) all []
     none_heard never =
         let more : length all ≡ length x + 1 = length_push x sample in
         record {
@@ -94,18 +94,18 @@ module _ (offset : ℕ) (x : List ℤ) (sample : ℤ) (small : offset < 8) (wind
         record {
           heard = map (candidate_at end offset) h.octets;
           found = h.found;
-          are = subst (λ e. AreCandidatesBehind (length x) all (map (candidate_at e offset) h.octets)) (sym is)
+          are = subst (λ e. AreCandidatesAfter (length x) all (map (candidate_at e offset) h.octets)) (sym is)
               (by_count h.octets h.each h.whole);
         }
       where
         by_count : (octets : List (List ℕ)) → All (λ o. EndsFrame (bits offset all) o) octets
             → ((o : List ℕ) → EndsFrame (bits offset all) o → octets ≡ o ∷ [])
-            → AreCandidatesBehind (length x) all (map (candidate_at (length all) offset) octets)
+            → AreCandidatesAfter (length x) all (map (candidate_at (length all) offset) octets)
         by_count [] each whole = none_heard (λ o e. let same : [] ≡ o ∷ [] = whole o e in cc)
         by_count (o ∷ rest) each whole =
             let ends : EndsFrame (bits offset all) o = All-head (λ t. EndsFrame (bits offset all) t) o rest each in
             let one : o ∷ rest ≡ o ∷ [] = whole o ends in
-            subst (λ t. AreCandidatesBehind (length x) all (map (candidate_at (length all) offset) t)) (sym one)
+            subst (λ t. AreCandidatesAfter (length x) all (map (candidate_at (length all) offset) t)) (sym one)
             (one_heard o ends (λ other e. let same : o ∷ rest ≡ other ∷ [] = whole other e in cc))
 
 -- before the eighth sample no window ends, and nothing is heard

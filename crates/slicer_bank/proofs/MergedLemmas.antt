@@ -4,7 +4,7 @@ use Rattle.slicer_bank.proofs.Common.{arith, subst, refl, length-append, get_or,
 use Rattle.slicer_bank.proofs.Common.{nat_le, All, Contains, IsNonDecreasingBy, append-nil, append_cancel_left}
 use Rattle.slicer_bank.proofs.Common.{All-weaker, All-head, All-tail, All-filter, filter_passes, Contains-append_right}
 use Rattle.slicer_bank.proofs.Common.{AllPairs-filter, Candidate, standing, merged, below, not_below, rising_ends}
-use Rattle.slicer_bank.proofs.Common.{merged-rising, below_then_rest, IsCandidate, AreCandidates, AreCandidatesBehind}
+use Rattle.slicer_bank.proofs.Common.{merged-rising, below_then_rest, IsCandidate, AreCandidates, AreCandidatesAfter}
 use Rattle.slicer_bank.proofs.Common.{AreMergedBetween}
 use Rattle.std.proofs.Common.{cond}
 use Rattle.std.specs.Prelude.{nat_lt}
@@ -30,7 +30,7 @@ ends_within : (x : List ℤ) (items : List Candidate) → AreCandidates x items 
 ends_within x items are k d l = let e = are.each k d l in let within = end_within x (get_or items k d) e.0 in
     omega arith
 
-ends_following : (x y : List ℤ) (found : List Candidate) → AreCandidatesBehind (length x) (x ++ y) found
+ends_following : (x y : List ℤ) (found : List Candidate) → AreCandidatesAfter (length x) (x ++ y) found
     → All (λ item. length x ≤ item.end) found
 ends_following x y found are k d l = let e = are.each k d l in let following = e.1 in omega arith
 
@@ -53,7 +53,7 @@ next_is from to given ready zs le rises before total =
 
 -- what a block settles
 pub block_gives : (x y : List ℤ) (items found ready : List Candidate) → AreCandidates x items
-    → AreCandidatesBehind (length x) (x ++ y) found
+    → AreCandidatesAfter (length x) (x ++ y) found
     → AreCandidates (x ++ y) (items ++ found)
     → below (length x) (merged items) ++ ready ≡ below (length (x ++ y)) (merged (items ++ found))
     → AreMergedBetween (length x) (length (x ++ y)) (x ++ y) ready
@@ -114,7 +114,7 @@ begins : (x y : List ℤ) (items all : List Candidate) → AreCandidates x items
 begins x y items all are whole =
     let late : List Candidate = filter (λ item. nat_lt (length x) item.end) all in
     let passes = filter_passes (λ item. nat_lt (length x) item.end) all in
-    let following : AreCandidatesBehind (length x) (x ++ y) late = record {
+    let following : AreCandidatesAfter (length x) (x ++ y) late = record {
       each = λ k d l.
           let e = All-filter (λ item. nat_lt (length x) item.end) (λ item. IsCandidate (x ++ y) item × (0 < item.end))
           all whole.each k d l in

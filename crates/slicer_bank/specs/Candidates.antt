@@ -21,14 +21,14 @@ pub record IsCandidate (x : List ℤ) (item : Candidate) : Type 0 where
   pub ends : EndsAtBit x item index
 
 -- the items are the candidates of the samples that end after a position, each once, by end and then offset
-pub record AreCandidatesBehind (position : ℕ) (x : List ℤ) (items : List Candidate) : Type 0 where
+pub record AreCandidatesAfter (position : ℕ) (x : List ℤ) (items : List Candidate) : Type 0 where
   pub each : All (λ item. IsCandidate x item × (position < item.end)) items
   pub whole : (item : Candidate) → IsCandidate x item → position < item.end → Contains items item
   pub order : AllPairs (λ item later. standing item < standing later) items
 
 -- the items are all candidates of the samples
 abbrev pub AreCandidates : List ℤ → List Candidate → Type 0
-AreCandidates x items = AreCandidatesBehind 0 x items
+AreCandidates x items = AreCandidatesAfter 0 x items
 
 -- a frame ends with the last of the samples, as the slicer at an offset hears it
 pub record EndsWith (offset : ℕ) (x : List ℤ) (octets : List ℕ) : Type 0 where

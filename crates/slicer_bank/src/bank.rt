@@ -5,7 +5,7 @@ ghost use Rattle.std.specs.Prelude.{OnErr, IsErr, IsTrue};
 ghost use Rattle.std.specs.List.{All};
 ghost use Rattle.slicer_bank.specs.Busy.{HearsCarrier};
 ghost use Rattle.slicer_bank.specs.Held.{StandsFor};
-ghost use Rattle.slicer_bank.specs.Candidates.{AreCandidatesBehind};
+ghost use Rattle.slicer_bank.specs.Candidates.{AreCandidatesAfter};
 ghost use Rattle.slicer_bank.specs.Merging.{CanBePut, AllPast};
 
 use crate::gate::Gate;
@@ -77,7 +77,7 @@ impl Bank {
     pub fn feed(&mut self, block: &[i16]) -> Result<Vec<Candidate>, OutOfMemory>
         requires { self.old.position + length block.now < 2 ^ 48 }
         ensures found { IfOk result (λ found. (x : List ℤ) → StandsFor self.old x
-            → StandsFor self.new (x ++ block.now) × AreCandidatesBehind (length x) (x ++ block.now) found.items) }
+            → StandsFor self.new (x ++ block.now) × AreCandidatesAfter (length x) (x ++ block.now) found.items) }
         ensures bounds { IfOk result (λ found. All CanBePut found.items) }
         ensures past { IfOk result (λ found. AllPast self.old.position found.items) }
         ensures position { OnOk result (self.new.position ≡ self.old.position + length block.now) }
@@ -107,7 +107,7 @@ impl Bank {
     ) -> Result<Vec<Candidate>, OutOfMemory>
         requires { self.old.position + length block.now < 2 ^ 48 }
         ensures found { IfOk result (λ found. (x : List ℤ) → StandsFor self.old x
-            → StandsFor self.new (x ++ block.now) × AreCandidatesBehind (length x) (x ++ block.now) found.items) }
+            → StandsFor self.new (x ++ block.now) × AreCandidatesAfter (length x) (x ++ block.now) found.items) }
         ensures bounds { IfOk result (λ found. All CanBePut found.items) }
         ensures past { IfOk result (λ found. AllPast self.old.position found.items) }
         ensures position { OnOk result (self.new.position ≡ self.old.position + length block.now) }

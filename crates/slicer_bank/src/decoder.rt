@@ -3,7 +3,7 @@
 ghost use Rattle.std.specs.Prelude.{◌≡◌, ◌+◌, ◌<◌, ◌≤◌, ◌^◌, ℤ, List, [], ◌++◌, length, replicate, true, false, IfOk};
 ghost use Rattle.std.specs.Prelude.{OnOk, OnErr};
 ghost use Rattle.std.specs.List.{All};
-ghost use Rattle.slicer_bank.specs.Candidates.{AreCandidatesBehind};
+ghost use Rattle.slicer_bank.specs.Candidates.{AreCandidatesAfter};
 ghost use Rattle.slicer_bank.specs.Held.{HeldBank, StandsFor as BankStandsFor};
 ghost use Rattle.slicer_bank.specs.HeldDecoder.{HaveTaken, StandsFor, progress};
 ghost use Rattle.slicer_bank.specs.Merging.{CanBePut, AllPast};
@@ -107,7 +107,7 @@ impl Decoder {
         ensures given { IfOk result (λ items. (before : HeldBank) (x y : List ℤ) → self.old.finished ≡ false
             → length x ≡ self.old.position → length y ≡ count
             → (BankStandsFor before x → BankStandsFor self.old.bank (x ++ y)
-            × AreCandidatesBehind (length x) (x ++ y) found.items)
+            × AreCandidatesAfter (length x) (x ++ y) found.items)
             → HaveTaken before self.old.merger x
             → StandsFor self.new (x ++ y) × AreMergedBetween (length x) (length (x ++ y)) (x ++ y) items.items) }
         ensures position { OnOk result (self.new.position ≡ self.old.position + count) }

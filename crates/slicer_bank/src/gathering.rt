@@ -6,14 +6,14 @@ ghost use Rattle.std.specs.List.{All};
 ghost use Rattle.frame_merge.specs.declared.candidate.Candidate.{Candidate};
 ghost use Rattle.hdlc_framer.specs.Held.{flags_asked};
 ghost use Rattle.slicer_bank.specs.Held.{AsksFor, LanesStandFor, last_seven};
-ghost use Rattle.slicer_bank.specs.Candidates.{AreCandidatesBehind};
+ghost use Rattle.slicer_bank.specs.Candidates.{AreCandidatesAfter};
 ghost use Rattle.slicer_bank.specs.Heard.{HearsAlone, LanesAreAlike, LanesKeep, LanesKeepFit};
 ghost use Rattle.slicer_bank.specs.Merging.{CanBePutPast};
 
 use crate::gate::Gate;
 use crate::job::hear_alone;
 use crate::lane::Lane;
-use crate::window_hearing::keep_last;
+use crate::seven::keep_last;
 use frame_merge::Candidate;
 use std::alloc::Global;
 use std::thread;
@@ -45,7 +45,7 @@ pub(crate) fn hear_block(
     ensures found { IfOk result (λ found. (x : List ℤ) → length x ≡ position
         → recent.old ≡ last_seven x → LanesStandFor lanes.old x
         → LanesStandFor lanes.new (x ++ block.now) × (recent.new ≡ last_seven (x ++ block.now))
-        × AreCandidatesBehind position (x ++ block.now) found.items) }
+        × AreCandidatesAfter position (x ++ block.now) found.items) }
     ensures bounds { IfOk result (λ found. All (CanBePutPast position) found.items) }
     ensures asks { OnOk result ((flags : ℕ) → All (AsksFor flags) lanes.old → All (AsksFor flags) lanes.new) }
 {
@@ -70,7 +70,7 @@ pub(crate) fn hear_block_threads<R: Threads + Sync, G: Gate>(
     ensures found { IfOk result (λ found. (x : List ℤ) → length x ≡ position
         → recent.old ≡ last_seven x → LanesStandFor lanes.old x
         → LanesStandFor lanes.new (x ++ block.now) × (recent.new ≡ last_seven (x ++ block.now))
-        × AreCandidatesBehind position (x ++ block.now) found.items) }
+        × AreCandidatesAfter position (x ++ block.now) found.items) }
     ensures bounds { IfOk result (λ found. All (CanBePutPast position) found.items) }
     ensures asks { OnOk result ((flags : ℕ) → All (AsksFor flags) lanes.old → All (AsksFor flags) lanes.new) }
 {
@@ -146,7 +146,7 @@ fn gather(alloc: Global, lanes: &mut [Lane]) -> Result<Vec<Candidate>, OutOfMemo
     ensures kept { OnOk result ((offset : ℕ) (d : _) → offset < 8 → (items : List Candidate)
         × ((slice_index_or lanes.old offset d).heard ≡ Some items)) }
     ensures found { IfOk result (λ found. (position : ℕ) (x : List ℤ) → LanesKeep position x lanes.old
-        → AreCandidatesBehind position x found.items) }
+        → AreCandidatesAfter position x found.items) }
     ensures bounds { IfOk result (λ found. (position : ℕ) → LanesKeepFit position lanes.old
         → All (CanBePutPast position) found.items) }
 {

@@ -10,7 +10,8 @@ ghost use Rattle.slicer_bank.specs.Heard.{AreOfWindows, HearsAlone, LaneHears};
 ghost use Rattle.slicer_bank.specs.Merging.{CanBePutPast};
 
 use crate::lane::{LANES, Lane};
-use crate::window_hearing::{bridge, hear, hear_eight};
+use crate::seven::bridge;
+use crate::window_hearing::{hear, hear_eight};
 use frame_merge::Candidate;
 use std::alloc::Global;
 use tnc_base::OutOfMemory;

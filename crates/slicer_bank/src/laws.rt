@@ -4,7 +4,7 @@ ghost use Rattle.std.specs.Prelude.{◌≡◌, ◌↔◌, ◌+◌, ◌<◌, ◌�
 ghost use Rattle.sample_ring.specs.declared.got.Got.{Got};
 ghost use Rattle.tone_carrier.specs.Tones.{HasTones};
 ghost use Rattle.frame_merge.specs.declared.candidate.Candidate.{Candidate};
-ghost use Rattle.slicer_bank.specs.Candidates.{AreCandidates, AreCandidatesBehind};
+ghost use Rattle.slicer_bank.specs.Candidates.{AreCandidates, AreCandidatesAfter};
 ghost use Rattle.slicer_bank.specs.declared.detection.Detection.TheVariants.{Tones};
 ghost use Rattle.slicer_bank.specs.HeardOnRing.{IsBusyOnRing, lane_of};
 ghost use Rattle.slicer_bank.specs.Stretches.{Stretch, last_stretch};
@@ -19,7 +19,7 @@ pub fn one_list_of_candidates()
 /// The candidates of a block that follow those of the samples before it are, with them, those of all samples.
 pub fn blocks_join()
     ensures { (x block : List ℤ) (items found : List Candidate) → AreCandidates x items
-        → AreCandidatesBehind (length x) (x ++ block) found → AreCandidates (x ++ block) (items ++ found) }
+        → AreCandidatesAfter (length x) (x ++ block) found → AreCandidates (x ++ block) (items ++ found) }
 {}
 
 /// The items of samples that end below a position, and the next ones, which more samples gave, are those of all

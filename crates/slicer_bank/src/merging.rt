@@ -6,7 +6,7 @@ ghost use Rattle.frame_merge.specs.declared.candidate.Candidate.{Candidate};
 ghost use Rattle.frame_merge.specs.Held.{StandsFor};
 ghost use Rattle.frame_merge.specs.Merged.{merged};
 ghost use Rattle.frame_merge.specs.Order.{standing};
-ghost use Rattle.slicer_bank.specs.Candidates.{AreCandidatesBehind};
+ghost use Rattle.slicer_bank.specs.Candidates.{AreCandidatesAfter};
 ghost use Rattle.slicer_bank.specs.Held.{HeldBank, StandsFor as BankStandsFor};
 ghost use Rattle.slicer_bank.specs.HeldDecoder.{HaveTaken};
 ghost use Rattle.slicer_bank.specs.MergedItems.{AreMergedBetween};
@@ -45,7 +45,7 @@ pub(crate) fn merge_block(
     requires marks { merger.old.marks ≡ replicate 8 position }
     ensures given { IfOk result (λ ready. (before after : HeldBank) (x y : List ℤ) → length x ≡ position → length y
         ≡ count
-        → (BankStandsFor before x → BankStandsFor after (x ++ y) × AreCandidatesBehind (length x) (x ++ y) found.items)
+        → (BankStandsFor before x → BankStandsFor after (x ++ y) × AreCandidatesAfter (length x) (x ++ y) found.items)
         → HaveTaken before merger.old x
         → HaveTaken after merger.new (x ++ y) × AreMergedBetween (length x) (length (x ++ y)) (x ++ y) ready.items) }
     ensures marks { OnOk result (merger.new.marks ≡ replicate 8 (position + count)) }

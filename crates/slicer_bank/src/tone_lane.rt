@@ -1,15 +1,14 @@
 //! A lane that takes tones: the rule of the line and the deframer of its bits.
 
-ghost use Rattle.std.specs.Prelude.{◌≡◌, ◌<◌, ◌≤◌, ◌↔◌, ℕ, ◌+◌, ◌*◌, List, [], ◌∷◌, ◌++◌, length, take, true, false};
-ghost use Rattle.std.specs.Prelude.{IsTrue, if◌then◌else◌};
+ghost use Rattle.std.specs.Prelude.{◌≡◌, ◌<◌, ◌≤◌, ◌↔◌, ℕ, ◌+◌, List, [], ◌∷◌, ◌++◌, length, take, true, false, IsTrue};
 ghost use Rattle.tone_table.specs.declared.tone.Tone.{Tone};
-ghost use Rattle.nrzi_bits.specs.Line.{bits_from, bits_of, same_tone};
-ghost use Rattle.hdlc_framer.specs.BitOrder.{octet_bits};
+ghost use Rattle.nrzi_bits.specs.Line.{bits_of};
 ghost use Rattle.hdlc_framer.specs.Carrier.{HoldsCarrier};
 ghost use Rattle.hdlc_framer.specs.Frames.{IsFrame, EndsFrame};
 ghost use Rattle.hdlc_framer.specs.Held.{HoldsFrame, flags_asked};
 ghost use Rattle.slicer_bank.specs.ToneLanes.{ToneLaneStandsFor};
 
+use crate::eight::octet_of;
 use hdlc_framer::{Deframer, Event};
 use nrzi_bits::NrziIn;
 use std::marker::Model;
@@ -100,30 +99,4 @@ impl ToneLane {
     {
         self.deframer.busy()
     }
-}
-
-/// The bits of eight tones, the first one in the lowest place, if they come after a tone.
-fn octet_of(before: Tone, eight: &[Tone; 8]) -> u8
-    ensures { octet_bits result ≡ bits_from before eight.now }
-{
-    let [a, b, c, d, e, f, g, h] = *eight;
-    let last = with_bit(agree(f, g), with_bit(agree(g, h), 0));
-    let later = with_bit(agree(d, e), with_bit(agree(e, f), last));
-    let early = with_bit(agree(b, c), with_bit(agree(c, d), later));
-    with_bit(agree(before, a), with_bit(agree(a, b), early))
-}
-
-/// A bit, and bits in the places above it.
-fn with_bit(bit: bool, above: u8) -> u8
-    requires { above < 128 }
-    ensures value { result ≡ 2 * above + (if bit then 1 else 0) }
-{
-    2 * above + u8::from(bit)
-}
-
-/// Whether two tones agree.
-fn agree(before: Tone, tone: Tone) -> bool
-    ensures { result ≡ same_tone before tone }
-{
-    before == tone
 }

@@ -1,45 +1,23 @@
-//! What a lane hears in its windows, and the seven samples that are kept for the windows to come.
+//! What a lane hears in its windows.
 
-ghost use Rattle.std.specs.Prelude.{◌≡◌, ℕ, ◌+◌, ◌-◌, ◌<◌, ◌≤◌, ◌^◌, ℤ, List, [], ◌∷◌, ◌++◌, length, take, drop, ◌*◌, OnOk};
+ghost use Rattle.std.specs.Prelude.{◌≡◌, ℕ, ◌-◌, ◌<◌, ◌^◌, List, [], ◌∷◌, ◌++◌, OnOk};
 ghost use Rattle.std.specs.List.{All};
 ghost use Rattle.tone_table.specs.declared.tone.Tone.{Tone};
 ghost use Rattle.nrzi_bits.specs.Line.{bits_of};
 ghost use Rattle.offset_slicers.specs.Decision.{tone_of};
 ghost use Rattle.hdlc_framer.specs.Frames.{IsFrame};
 ghost use Rattle.hdlc_framer.specs.Held.{HoldsFrame, flags_asked};
-ghost use Rattle.slicer_bank.specs.Held.{LaneStandsFor, last_seven};
+ghost use Rattle.slicer_bank.specs.Held.{LaneStandsFor};
 ghost use Rattle.slicer_bank.specs.Heard.{Adds, AddsAll, candidate_at, tones_in};
 ghost use Rattle.slicer_bank.specs.Merging.{CanBePutPast};
 
+use crate::eight::tones_of;
 use crate::lane::Lane;
 use frame_merge::Candidate;
 use offset_slicers::decide;
 use std::alloc::Global;
 use tnc_base::{Octets, OutOfMemory};
 use tone_table::Tone;
-
-/// Keeps the last seven samples of those before a block and the block.
-pub(crate) fn keep_last(recent: &mut [i16; 7], block: &[i16])
-    ensures { (x : List ℤ) → recent.old ≡ last_seven x → recent.new ≡ last_seven (x ++ block.now) }
-{
-    if block.len() < 7 {
-        let bridge = bridge(recent, block);
-        recent.copy_from_slice(&bridge[block.len()..block.len() + 7]);
-    } else {
-        recent.copy_from_slice(&block[block.len() - 7..]);
-    }
-}
-
-/// Seven samples and what follows them.
-pub(crate) fn bridge(recent: &[i16; 7], first: &[i16]) -> [i16; 14]
-    requires { length first.now ≤ 7 }
-    ensures { take (7 + length first.now) result ≡ recent.now ++ first.now }
-{
-    let mut bridge = [0; 14];
-    bridge[..7].copy_from_slice(recent);
-    bridge[7..7 + first.len()].copy_from_slice(first);
-    bridge
-}
 
 /// Gives a lane its next eight windows, the first of which ends at `end`, and adds to `found` the frames that end with
 /// them. Mostly none does, and then the lane takes their bits at once.
@@ -65,30 +43,6 @@ pub(crate) fn hear_eight(
         return Ok(());
     }
     hear_tones(alloc, lane, offset, end, &tones, found)
-}
-
-/// The tones of eight windows in a row.
-fn tones_of(windows: &[i16; 64]) -> [Tone; 8]
-    ensures { result ≡ tones_in 8 windows.now }
-{
-    [
-        tone_at(windows, 0),
-        tone_at(windows, 1),
-        tone_at(windows, 2),
-        tone_at(windows, 3),
-        tone_at(windows, 4),
-        tone_at(windows, 5),
-        tone_at(windows, 6),
-        tone_at(windows, 7),
-    ]
-}
-
-/// The tone of one of eight windows in a row.
-fn tone_at(windows: &[i16; 64], index: usize) -> Tone
-    requires { index < 8 }
-    ensures { result ≡ tone_of (take 8 (drop (8 * index) windows.now)) }
-{
-    decide(windows[8 * index..].first_chunk().unwrap())
 }
 
 /// Gives a lane eight tones one by one.

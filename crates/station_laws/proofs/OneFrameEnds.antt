@@ -285,14 +285,14 @@ count_bad : (header following : List ℕ) → length header ≡ 36 → 4096 < to
 count_bad header following size long = ap (λ (r : Reading). length r.messages) (reading_bad header following size long)
 
 -- a header, what stands after it, and octets more
-record Behind (header following octets : List ℕ) : Type 0 where
+record Following (header following octets : List ℕ) : Type 0 where
   one : length (messages_in (header ++ (following ++ octets))) ≤ length (messages_in (header ++ following)) + 1
 
 after_one :
     (header following octets : List ℕ) → length header ≡ 36 → length octets ≤ 17
     → ((more : List ℕ) → length more ≤ length following
     → length (messages_in (more ++ octets)) ≤ length (messages_in more) + 1)
-    → Behind header following octets
+    → Following header following octets
 after_one header following octets size few rest = elim (cases_lt 4096 told) [
   | inl long ↦ record { one = let a = count_bad header (following ++ octets) size long in omega arith }
   | inr fits ↦ elim (cases_lt (length following) told) [

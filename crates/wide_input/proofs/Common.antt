@@ -5,7 +5,7 @@ pub use Rattle.frame_merge.specs.declared.candidate.Candidate.{Candidate}
 pub use Rattle.slicer_bank.proofs.CandidateLemmas.{end_within}
 pub use Rattle.slicer_bank.proofs.MergingLemmas.{HasPut}
 pub use Rattle.slicer_bank.proofs.OrderingLemmas.{below_more}
-pub use Rattle.slicer_bank.specs.Candidates.{AreCandidatesBehind, IsCandidate}
+pub use Rattle.slicer_bank.specs.Candidates.{AreCandidatesAfter, IsCandidate}
 pub use Rattle.slicer_bank.specs.Held.{HeldBank}
 pub use Rattle.slicer_bank.specs.Merging.{AllPast}
 pub use Rattle.std.proofs.Common.{List, Some, [], ap, append-nil, append_assoc, arith, drop, false, get_or, inl, inr}

@@ -1,7 +1,7 @@
 -- The streams of samples that come in pieces, and how many samples they have.
 use Rattle.wide_input.proofs.Common.{◌≡◌, ℕ, zero, suc, ◌+◌, ◌-◌, ◌*◌, ◌/◌, ◌<◌, ◌≤◌, ℤ, List, [], ◌∷◌, ◌++◌, length}
 use Rattle.wide_input.proofs.Common.{get_or, ◌^◌, take, append-nil, pos, Some, refl, ap, sym, subst, ◌∙◌, arith, OnOk}
-use Rattle.wide_input.proofs.Common.{IfOk, option_map, take_more, Candidate, AreCandidatesBehind, HeldBank, stream}
+use Rattle.wide_input.proofs.Common.{IfOk, option_map, take_more, Candidate, AreCandidatesAfter, HeldBank, stream}
 use Rattle.wide_input.proofs.Common.{least_count, AllPast, HeldStream, StreamStandsFor, HasFound, IsAbreast, TakesPart}
 use Rattle.wide_input.proofs.Common.{AreAlike, next_skipped}
 use Rattle.std.proofs.Common.{Option, None, Result, Ok, Err}
@@ -87,10 +87,10 @@ pub heard_part : (old : HeldStream) (new : HeldBank) (kept : Option (List Candid
     (x block part : List ℤ) (items : List Candidate)
     → part ≡ stream old.skipped block → left ≡ next_skipped old.skipped block
     → ((s : List ℤ) → BankStandsFor old.bank s → BankStandsFor new (s ++ part)
-    × AreCandidatesBehind (length s) (s ++ part) items)
+    × AreCandidatesAfter (length s) (s ++ part) items)
     → StreamStandsFor number old x
     → StreamStandsFor number (record { bank = new; skipped = left; found = kept }) (x ++ block)
-    × AreCandidatesBehind (length (stream number x)) (stream number (x ++ block)) items
+    × AreCandidatesAfter (length (stream number x)) (stream number (x ++ block)) items
 heard_part old new kept left number x block part items is after fed h =
     let s : List ℤ = stream number x in
     let whole : s ++ part ≡ stream number (x ++ block) = ap (λ t. s ++ t) (is ∙ ap (λ n. stream n block) h.skipped)
@@ -100,7 +100,7 @@ heard_part old new kept left number x block part items is after fed h =
         bank = subst (BankStandsFor new) whole f.0;
         skipped = after ∙ ap (λ n. next_skipped n block) h.skipped ∙ sym (next_skipped-append number x block);
       },
-      subst (λ t. AreCandidatesBehind (length s) t items) whole f.1,
+      subst (λ t. AreCandidatesAfter (length s) t items) whole f.1,
     )
 
 -- where a bank stands past a block, whether or not it wanted memory

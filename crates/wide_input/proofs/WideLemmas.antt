@@ -2,7 +2,7 @@
 use Rattle.wide_input.proofs.Common.{◌≡◌, ℕ, suc, ◌+◌, ◌*◌, ◌<◌, ◌≤◌, ℤ, List, [], ◌∷◌, ◌++◌, length, get_or, map}
 use Rattle.wide_input.proofs.Common.{append_assoc, refl, ap, sym, subst, ◌∙◌, arith, inl, inr, fold, All, cases_lt}
 use Rattle.wide_input.proofs.Common.{get_or-map, length-map, All-nil, All-append, Candidate, standing, place, merged}
-use Rattle.wide_input.proofs.Common.{below, IsCandidate, AreCandidatesBehind, end_within, below_more, stream}
+use Rattle.wide_input.proofs.Common.{below, IsCandidate, AreCandidatesAfter, end_within, below_more, stream}
 use Rattle.wide_input.proofs.Common.{least_count, in_stream, IsWideCandidate, AreWideCandidates, brought, next_skipped}
 use Rattle.std.proofs.Common.{◌≢◌}
 use Rattle.std.specs.List.{AllPairs, Contains}
@@ -139,22 +139,22 @@ brought-append number (found ∷ founds) more =
 -- each stream from a number on found what its part of more samples brings
 abbrev pub HaveFound : List ℤ → List ℤ → ℕ → List (List Candidate) → Type 0
 HaveFound x y number founds = (k : ℕ) (d : List Candidate) → k < length founds
-    → AreCandidatesBehind (length (stream (number + k) x)) (stream (number + k) (x ++ y)) (get_or founds k d)
+    → AreCandidatesAfter (length (stream (number + k) x)) (stream (number + k) (x ++ y)) (get_or founds k d)
 
 module _ (x y : List ℤ) where
   next_found : (number : ℕ) (found : List Candidate) (founds : List (List Candidate))
       → HaveFound x y number (found ∷ founds) → HaveFound x y (suc number) founds
   next_found number found founds h k d l =
       let e : number + suc k ≡ suc number + k = omega arith in
-      subst (λ n. AreCandidatesBehind (length (stream n x)) (stream n (x ++ y)) (get_or founds k d)) e
+      subst (λ n. AreCandidatesAfter (length (stream n x)) (stream n (x ++ y)) (get_or founds k d)) e
       (h (suc k) d (omega arith))
 
   first_found : (number : ℕ) (found : List Candidate) (founds : List (List Candidate))
       → HaveFound x y number (found ∷ founds)
-      → AreCandidatesBehind (length (stream number x)) (stream number (x ++ y)) found
+      → AreCandidatesAfter (length (stream number x)) (stream number (x ++ y)) found
   first_found number found founds h =
       let e : number + 0 ≡ number = omega arith in
-      subst (λ n. AreCandidatesBehind (length (stream n x)) (stream n (x ++ y)) found) e (h 0 found (omega arith))
+      subst (λ n. AreCandidatesAfter (length (stream n x)) (stream n (x ++ y)) found) e (h 0 found (omega arith))
 
   -- what is brought by streams from a number on is of their lanes
   abbrev IsOfLanes : ℕ → Candidate → Type 0

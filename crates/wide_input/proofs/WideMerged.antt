@@ -1,7 +1,7 @@
 -- The merged candidates of forty lanes, and of these with more samples.
 use Rattle.wide_input.proofs.Common.{◌≡◌, ℕ, zero, suc, ◌<◌, ◌≤◌, ℤ, List, [], ◌∷◌, ◌++◌, length, get_or, refl, ap, ◌∙◌}
 use Rattle.wide_input.proofs.Common.{arith, nat_lt, ltb-true, Candidate, standing, merged, below, IsCandidate}
-use Rattle.wide_input.proofs.Common.{AreCandidatesBehind, below_more, stream, least_count, AreWideCandidates, brought}
+use Rattle.wide_input.proofs.Common.{AreCandidatesAfter, below_more, stream, least_count, AreWideCandidates, brought}
 use Rattle.std.specs.List.{filter}
 use Rattle.std.proofs.lemmas.Bool.{lt-ltb}
 use Rattle.std.proofs.lemmas.List.Elements.{All-filter, filter_passes}
@@ -23,7 +23,7 @@ one_wide x items others a b =
     (λ k d l. a.whole (get_or others k d) (b.each k d l))
 
 -- the candidates of a stream that end after a position
-after_of : (position : ℕ) (x : List ℤ) → (found : List Candidate) × AreCandidatesBehind position x found
+after_of : (position : ℕ) (x : List ℤ) → (found : List Candidate) × AreCandidatesAfter position x found
 after_of position x =
     let some = some_list x in
     let all : List Candidate = some.0 in
@@ -47,7 +47,7 @@ module _ (x y : List ℤ) where
   found_in : ℕ → List Candidate
   found_in number = (after_of (length (stream number x)) (stream number (x ++ y))).0
 
-  found_is : (number : ℕ) → AreCandidatesBehind (length (stream number x)) (stream number (x ++ y)) (found_in number)
+  found_is : (number : ℕ) → AreCandidatesAfter (length (stream number x)) (stream number (x ++ y)) (found_in number)
   unfolding found_in
   found_is number = (after_of (length (stream number x)) (stream number (x ++ y))).1
 

@@ -1,7 +1,7 @@
 -- A wide bank with a block more, and at its end.
 use Rattle.wide_input.proofs.Common.{◌≡◌, ℕ, ◌+◌, ◌/◌, ◌^◌, ◌<◌, ◌≤◌, ℤ, List, [], ◌++◌, length, get_or, map, replicate}
 use Rattle.wide_input.proofs.Common.{refl, ap, sym, subst, ◌∙◌, arith, length-append, fold, All, get_or-map, length-map}
-use Rattle.wide_input.proofs.Common.{All-nil, Candidate, in_order, place, merged, below, AreCandidatesBehind, HeldBank}
+use Rattle.wide_input.proofs.Common.{All-nil, Candidate, in_order, place, merged, below, AreCandidatesAfter, HeldBank}
 use Rattle.wide_input.proofs.Common.{end_within, stream, least_count, IsWideCandidate, AreWideCandidates}
 use Rattle.wide_input.proofs.Common.{AreWideMergedBetween, AreWideRest, HeldStream, StreamStandsFor, HearsBlock}
 use Rattle.wide_input.proofs.Common.{HasFound, AreAlike, HaveTaken, items_of, found_by, brought}
@@ -79,13 +79,13 @@ module _ (x y : List ℤ) (before mid : List HeldStream) (was : HeldMerger) (siz
       let n = length-map mid found_by in
       let small : k < 5 = omega arith in
       let found = kept k one (omega arith) in
-      let there : AreCandidatesBehind (length (stream k x)) (stream k (x ++ y)) found.0 =
+      let there : AreCandidatesAfter (length (stream k x)) (stream k (x ++ y)) found.0 =
       (heard k one small k x found.0 found.1 (h.samples k one small)).1 in
       let at : found.0 ≡ get_or (map found_by mid) k d = sym (get_or-map found_by mid k one d (omega arith)
       ∙ ap items_of found.1) in
       let number : k ≡ 0 + k = sym (zero-add k) in
-      subst (λ i. AreCandidatesBehind (length (stream i x)) (stream i (x ++ y)) (get_or (map found_by mid) k d)) number
-      (subst (AreCandidatesBehind (length (stream k x)) (stream k (x ++ y))) at there)
+      subst (λ i. AreCandidatesAfter (length (stream i x)) (stream i (x ++ y)) (get_or (map found_by mid) k d)) number
+      (subst (AreCandidatesAfter (length (stream k x)) (stream k (x ++ y))) at there)
 
   abbrev pub items : List Candidate
   items = brought 0 (map found_by mid)

@@ -7,7 +7,7 @@ use Rattle.frame_merge.specs.Held.{Held as HeldMerger, StandsFor as MergerStands
 use Rattle.frame_merge.specs.Merged.{merged, below}
 use Rattle.frame_merge.specs.Order.{in_order}
 use Rattle.slicer_bank.specs.declared.progress.Progress.{Progress}
-use Rattle.slicer_bank.specs.Candidates.{AreCandidatesBehind}
+use Rattle.slicer_bank.specs.Candidates.{AreCandidatesAfter}
 use Rattle.slicer_bank.specs.Held.{HeldBank, StandsFor as BankStandsFor}
 use Rattle.slicer_bank.specs.Merging.{CanBePut, AllPast}
 use Rattle.wide_input.specs.Streams.{stream, least_count}
@@ -35,7 +35,7 @@ pub record StreamStandsFor (number : ℕ) (held : HeldStream) (x : List ℤ) : T
 abbrev pub HearsBlock : List ℤ → HeldStream → HeldStream → Type 0
 HearsBlock block was now = (number : ℕ) (x : List ℤ) (found : List Candidate) → now.found ≡ Some found
     → StreamStandsFor number was x
-    → StreamStandsFor number now (x ++ block) × AreCandidatesBehind (length (stream number x))
+    → StreamStandsFor number now (x ++ block) × AreCandidatesAfter (length (stream number x))
     (stream number (x ++ block)) found
 
 -- what a stream heard can be put into the lanes of its bank

@@ -3,7 +3,7 @@
 ghost use Rattle.std.specs.Prelude.{◌≡◌, ℕ, ◌+◌, ◌<◌, ◌≤◌, ◌^◌, ℤ, List, [], ◌∷◌, ◌++◌, length, Some, IfOk, OnOk};
 ghost use Rattle.std.specs.List.{All};
 ghost use Rattle.frame_merge.specs.declared.candidate.Candidate.{Candidate};
-ghost use Rattle.slicer_bank.specs.Candidates.{AreCandidatesBehind};
+ghost use Rattle.slicer_bank.specs.Candidates.{AreCandidatesAfter};
 ghost use Rattle.slicer_bank.specs.Merging.{CanBePut, AllPast};
 ghost use Rattle.wide_input.specs.Streams.{stream};
 ghost use Rattle.wide_input.specs.Held.{next_skipped};
@@ -74,7 +74,7 @@ impl Stream {
         requires room { self.old.bank.position + length block.now < 2 ^ 48 }
         ensures heard { IfOk result (λ found. (number : ℕ) (x : List ℤ) → StreamStandsFor number self.old x
             → StreamStandsFor number self.new (x ++ block.now)
-            × AreCandidatesBehind (length (stream number x)) (stream number (x ++ block.now)) found.items) }
+            × AreCandidatesAfter (length (stream number x)) (stream number (x ++ block.now)) found.items) }
         ensures fits { IfOk result (λ found. All CanBePut found.items) }
         ensures past { IfOk result (λ found. AllPast self.old.bank.position found.items) }
         ensures abreast { OnOk result ((position : ℕ) → IsAbreast position self.old

@@ -1,5 +1,5 @@
 use Rattle.sensitive_receiver.proofs.Common.{◌≡◌, ◌∙◌, ℤ, List, ◌++◌, sym, subst, refl, length, false, IfOk, IfOk-weaker}
-use Rattle.sensitive_receiver.proofs.Common.{AreCandidatesBehind, HeldBank, HeldDecoder, HaveTaken, StandsFor}
+use Rattle.sensitive_receiver.proofs.Common.{AreCandidatesAfter, HeldBank, HeldDecoder, HaveTaken, StandsFor}
 use Rattle.sensitive_receiver.proofs.Common.{AreMergedBetween, settled}
 use Rattle.slicer_bank.specs.Held.{StandsFor as BankStandsFor}
 use Rattle.sensitive_receiver.specs.Found.{AreAddedBetween}
@@ -24,7 +24,7 @@ returns-clause-given c =
     subst P c.self.view_is (IfOk-weaker c.settle.result
     (λ items. (before : HeldBank) (other : HeldAdded) (x y : List ℤ) → c.begin.new.self.finished ≡ false
     → length x ≡ c.begin.new.self.position → length y ≡ length block
-    → (BankStandsFor before x → BankStandsFor c.feed.new.self (x ++ y) × AreCandidatesBehind (length x)
+    → (BankStandsFor before x → BankStandsFor c.feed.new.self (x ++ y) × AreCandidatesAfter (length x)
     (x ++ y) c.in_ok-found.found.items)
     → (AddedStandsFor other x → AddedStandsFor c.feed-2.new.self (x ++ y)
     × AreAddedBetween (added_places (length x)) (added_places (length (x ++ y))) (x ++ y) c.in_ok-added.added.items)

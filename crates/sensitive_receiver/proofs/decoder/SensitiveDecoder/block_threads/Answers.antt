@@ -1,5 +1,5 @@
 use Rattle.sensitive_receiver.proofs.Common.{◌≡◌, ◌∙◌, ℤ, List, ◌++◌, sym, subst, refl, length, false, IfOk, IfOk-weaker}
-use Rattle.sensitive_receiver.proofs.Common.{AreCandidatesBehind, HeldBank, HeldDecoder, HaveTaken, StandsFor}
+use Rattle.sensitive_receiver.proofs.Common.{AreCandidatesAfter, HeldBank, HeldDecoder, HaveTaken, StandsFor}
 use Rattle.sensitive_receiver.proofs.Common.{AreMergedBetween, settled}
 use Rattle.slicer_bank.specs.Held.{StandsFor as BankStandsFor}
 use Rattle.sensitive_receiver.specs.Found.{AreAddedBetween}
@@ -20,7 +20,7 @@ returns-clause-given g c =
     } in
     let found = subst (λ r. IfOk r (λ found. (x : List ℤ) → BankStandsFor c.self.inside.bank x
     → BankStandsFor c.hear_beside-heard.new.bank (x ++ block)
-    × AreCandidatesBehind (length x) (x ++ block) found.items)) c.in_ok-found.was c.hear_beside-heard.ensures.found in
+    × AreCandidatesAfter (length x) (x ++ block) found.items)) c.in_ok-found.was c.hear_beside-heard.ensures.found in
     let added = subst (λ r. IfOk r (λ found. (x : List ℤ) → AddedStandsFor c.self.inside.added x
     → AddedStandsFor c.hear_beside-heard.new.added (x ++ block)
     × AreAddedBetween (added_places (length x)) (added_places (length (x ++ block))) (x ++ block) found.items))
@@ -31,7 +31,7 @@ returns-clause-given g c =
     subst P c.self.view_is (IfOk-weaker c.settle.result
     (λ items. (before : HeldBank) (other : HeldAdded) (x y : List ℤ) → c.begin.new.self.finished ≡ false
     → length x ≡ c.begin.new.self.position → length y ≡ length block
-    → (BankStandsFor before x → BankStandsFor c.hear_beside-heard.new.bank (x ++ y) × AreCandidatesBehind (length x)
+    → (BankStandsFor before x → BankStandsFor c.hear_beside-heard.new.bank (x ++ y) × AreCandidatesAfter (length x)
     (x ++ y) c.in_ok-found.found.items)
     → (AddedStandsFor other x → AddedStandsFor c.hear_beside-heard.new.added (x ++ y)
     × AreAddedBetween (added_places (length x)) (added_places (length (x ++ y))) (x ++ y) c.in_ok-added.added.items)

@@ -1,5 +1,5 @@
 use Rattle.sensitive_receiver.proofs.Common.{◌≡◌, ◌+◌, ◌∙◌, sym, subst, length, length-append, ◌++◌, ℤ, List}
-use Rattle.sensitive_receiver.proofs.Common.{false, AreCandidatesBehind, HeldBank, HeldDecoder, HaveTaken, StandsFor}
+use Rattle.sensitive_receiver.proofs.Common.{false, AreCandidatesAfter, HeldBank, HeldDecoder, HaveTaken, StandsFor}
 use Rattle.sensitive_receiver.proofs.Common.{AreMergedBetween, settled}
 use Rattle.slicer_bank.specs.Held.{StandsFor as BankStandsFor}
 use Rattle.sensitive_receiver.specs.Found.{AreAddedBetween}
@@ -19,7 +19,7 @@ returns-clause-given c =
     } in
     let P : HeldDecoder → Type 0 = λ old. (before : HeldBank) (other : HeldAdded) (x y : List ℤ) → old.finished ≡ false
     → length x ≡ old.position → length y ≡ c.args.count
-    → (BankStandsFor before x → BankStandsFor old.bank (x ++ y) × AreCandidatesBehind (length x)
+    → (BankStandsFor before x → BankStandsFor old.bank (x ++ y) × AreCandidatesAfter (length x)
     (x ++ y) c.args.found.items)
     → (AddedStandsFor other x → AddedStandsFor old.added (x ++ y)
     × AreAddedBetween (added_places (length x)) (added_places (length (x ++ y))) (x ++ y) c.args.added.items)

@@ -1,4 +1,4 @@
-use Rattle.slicer_bank.proofs.Common.{◌≡◌, ℤ, List, ◌++◌, sym, ◌∙◌, subst, length, IfOk, AreCandidatesBehind, HeldBank}
+use Rattle.slicer_bank.proofs.Common.{◌≡◌, ℤ, List, ◌++◌, sym, ◌∙◌, subst, length, IfOk, AreCandidatesAfter, HeldBank}
 use Rattle.slicer_bank.proofs.Common.{AllPast}
 use Rattle.slicer_bank.specs.Held.{StandsFor}
 use Rattle.slicer_bank.proofs.FeedLemmas.{given_back, fed, bounds_of, past_of}
@@ -8,7 +8,7 @@ pub returns-clause-found : goal.returns-clause-found
 returns-clause-found g c =
     let P : HeldBank → Type 0 = λ old. IfOk c.settle.result (λ found. (x : List ℤ) → StandsFor old x
     → StandsFor c.settle.new.self (x ++ c.args.block.now)
-    × AreCandidatesBehind (length x) (x ++ c.args.block.now) found.items) in
+    × AreCandidatesAfter (length x) (x ++ c.args.block.now) found.items) in
     let full : c.self.inside.lanes.len ≡ length c.hear_block_threads-heard.new.lanes =
     sym (c.hear_block_threads-heard.auto.lanes ∙ c.deref_mut.ensures.len) in
     subst P c.self.view_is

@@ -1,5 +1,5 @@
 use Rattle.slicer_bank.proofs.Common.{◌≡◌, ◌∙◌, ℤ, List, ◌++◌, sym, subst, refl, length, false, IfOk, IfOk-weaker}
-use Rattle.slicer_bank.proofs.Common.{AreCandidatesBehind, HeldBank, HeldDecoder, HaveTaken, StandsFor}
+use Rattle.slicer_bank.proofs.Common.{AreCandidatesAfter, HeldBank, HeldDecoder, HaveTaken, StandsFor}
 use Rattle.slicer_bank.proofs.Common.{AreMergedBetween}
 use Rattle.slicer_bank.specs.Held.{StandsFor as BankStandsFor}
 use Rattle.slicer_bank.proofs.decoder.Decoder.block_threads.Goals as goal
@@ -13,7 +13,7 @@ returns-clause-given g c =
     (λ items. (before : HeldBank) (x y : List ℤ) → c.begin.new.self.finished ≡ false
     → length x ≡ c.begin.new.self.position → length y ≡ length c.args.block.now
     → (BankStandsFor before x → BankStandsFor c.feed_threads.new.self (x ++ y)
-    × AreCandidatesBehind (length x) (x ++ y) c.in_ok-found.found.items)
+    × AreCandidatesAfter (length x) (x ++ y) c.in_ok-found.found.items)
     → HaveTaken before c.self.inside.merger x
     → StandsFor c.settle.new.self (x ++ y) × AreMergedBetween (length x) (length (x ++ y)) (x ++ y) items.items)
     (λ items. (x : List ℤ) → StandsFor (record {

@@ -1,5 +1,5 @@
 use Rattle.slicer_bank.proofs.Common.{◌≡◌, ◌+◌, ◌∙◌, ap, sym, subst, length, length-append, ◌++◌, ℤ, List, false}
-use Rattle.slicer_bank.proofs.Common.{AreCandidatesBehind, HeldBank, HeldDecoder, HaveTaken, StandsFor}
+use Rattle.slicer_bank.proofs.Common.{AreCandidatesAfter, HeldBank, HeldDecoder, HaveTaken, StandsFor}
 use Rattle.slicer_bank.proofs.Common.{AreMergedBetween}
 use Rattle.slicer_bank.specs.Held.{StandsFor as BankStandsFor}
 use Rattle.slicer_bank.proofs.decoder.Decoder.settle.Goals as goal
@@ -16,7 +16,7 @@ returns-clause-given c =
     let P : HeldDecoder → Type 0 = λ old. (before : HeldBank) (x y : List ℤ) → old.finished ≡ false
     → length x ≡ old.position → length y ≡ c.args.count
     → (BankStandsFor before x → BankStandsFor old.bank (x ++ y)
-    × AreCandidatesBehind (length x) (x ++ y) c.args.found.items)
+    × AreCandidatesAfter (length x) (x ++ y) c.args.found.items)
     → HaveTaken before old.merger x
     → StandsFor now (x ++ y) × AreMergedBetween (length x) (length (x ++ y)) (x ++ y) c.in_ok-items.items.items in
     subst P c.self.view_is (λ before x y unfinished size more heard h.

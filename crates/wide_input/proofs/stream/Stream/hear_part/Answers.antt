@@ -1,5 +1,5 @@
 use Rattle.wide_input.proofs.Common.{◌≡◌, ◌+◌, ◌≤◌, ◌++◌, ◌∙◌, ℕ, ℤ, List, ap, sym, subst, length, IfOk, OnOk}
-use Rattle.wide_input.proofs.Common.{option_map, IfOk-weaker, AreCandidatesBehind, AllPast, stream, HeldStream}
+use Rattle.wide_input.proofs.Common.{option_map, IfOk-weaker, AreCandidatesAfter, AllPast, stream, HeldStream}
 use Rattle.wide_input.proofs.Common.{StreamStandsFor, IsAbreast}
 use Rattle.slicer_bank.specs.Held.{StandsFor as BankStandsFor}
 use Rattle.wide_input.proofs.StreamLemmas.{heard_part, position_past, stays_abreast, stream-few, part_fits, part_ends}
@@ -33,14 +33,14 @@ returns-clause-heard c =
     } in
     let P : HeldStream → Type 0 = λ old. IfOk c.feed.result (λ found. (number : ℕ) (x : List ℤ)
     → StreamStandsFor number old x
-    → StreamStandsFor number now (x ++ block) × AreCandidatesBehind (length (stream number x))
+    → StreamStandsFor number now (x ++ block) × AreCandidatesAfter (length (stream number x))
     (stream number (x ++ block)) found.items) in
     subst P c.self.view_is (IfOk-weaker c.feed.result
     (λ found. (s : List ℤ) → BankStandsFor c.self.inside.bank s
     → BankStandsFor c.feed.new.self (s ++ c.deref.result.now)
-    × AreCandidatesBehind (length s) (s ++ c.deref.result.now) found.items)
+    × AreCandidatesAfter (length s) (s ++ c.deref.result.now) found.items)
     (λ found. (number : ℕ) (x : List ℤ) → StreamStandsFor number was x
-    → StreamStandsFor number now (x ++ block) × AreCandidatesBehind (length (stream number x))
+    → StreamStandsFor number now (x ++ block) × AreCandidatesAfter (length (stream number x))
     (stream number (x ++ block)) found.items)
     (λ found fed number x h. heard_part was c.feed.new.self now.found c.in_ok-self-inside.field-0 number x block
     c.deref.result.now found.items part c.in_ok-self-inside.ensures.skipped fed h)

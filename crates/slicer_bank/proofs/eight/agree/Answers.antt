@@ -1,9 +1,9 @@
-use Rattle.fx25_receiver.proofs.Common.{◌≡◌, ◌∙◌, refl, Tone}
+use Rattle.slicer_bank.proofs.Common.{◌≡◌, ◌∙◌, refl, Tone}
 use denote.Enum.Bare.{sameb}
 use Rattle.tone_table.specs.declared.tone.Tone.TheVariants.{Mark, Space}
 use Rattle.tone_table.specs.contracts.tone.Tone.{the_type}
 use Rattle.nrzi_bits.specs.Line.{same_tone}
-use Rattle.fx25_receiver.proofs.eight.agree.Goals as goal
+use Rattle.slicer_bank.proofs.eight.agree.Goals as goal
 
 -- the derived test says whether two tones agree
 sameb-the_type : (a b : Tone) → sameb the_type a b ≡ same_tone a b

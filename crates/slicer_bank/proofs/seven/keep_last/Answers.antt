@@ -1,6 +1,6 @@
 use Rattle.slicer_bank.proofs.Common.{◌∙◌, ap, ◌++◌}
 use Rattle.slicer_bank.proofs.SevenLemmas.{seven_after_short, seven_after_long}
-use Rattle.slicer_bank.proofs.window_hearing.keep_last.Goals as goal
+use Rattle.slicer_bank.proofs.seven.keep_last.Goals as goal
 
 pub returns-then-block-lt7 : goal.returns-then-block-lt7
 returns-then-block-lt7 c = λ x is.

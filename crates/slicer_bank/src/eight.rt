@@ -9,7 +9,7 @@ use offset_slicers::decide;
 use tone_table::Tone;
 
 /// The tones of eight windows in a row.
-pub(crate) fn tones_of(windows: &[i16; 64]) -> [Tone; 8]
+pub fn tones_of(windows: &[i16; 64]) -> [Tone; 8]
     ensures { result ≡ tones_in 8 windows.now }
 {
     [
@@ -33,7 +33,7 @@ fn tone_at(windows: &[i16; 64], index: usize) -> Tone
 }
 
 /// The bits of eight tones, the first one in the lowest place, if they come after a tone.
-pub(crate) fn octet_of(before: Tone, tones: &[Tone; 8]) -> u8
+pub fn octet_of(before: Tone, tones: &[Tone; 8]) -> u8
     ensures { octet_bits result ≡ bits_from before tones.now }
 {
     let [a, b, c, d, e, f, g, h] = *tones;

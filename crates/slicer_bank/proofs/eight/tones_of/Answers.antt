@@ -1,8 +1,6 @@
-use Rattle.fx25_receiver.proofs.Common.{◌≡◌, ◌∙◌, ◌∷◌, [], List, ℤ, take, drop, ap, sym, Tone}
-use Rattle.std.proofs.lemmas.List.{drop-drop}
-use Rattle.offset_slicers.specs.Decision.{tone_of}
+use Rattle.slicer_bank.proofs.Common.{◌≡◌, ◌∙◌, ◌∷◌, [], List, ℤ, take, drop, ap, sym, drop-drop, Tone, tone_of}
 unfoldable use Rattle.slicer_bank.specs.Heard.{tones_in}
-use Rattle.fx25_receiver.proofs.eight.tones_of.Goals as goal
+use Rattle.slicer_bank.proofs.eight.tones_of.Goals as goal
 
 all_eight : {a b c d e f g h i j k l m n o p : Tone} → a ≡ i → b ≡ j → c ≡ k → d ≡ l → e ≡ m → f ≡ n → g ≡ o → h ≡ p
     → (a ∷ b ∷ c ∷ d ∷ e ∷ f ∷ g ∷ h ∷ []) ≡ (i ∷ j ∷ k ∷ l ∷ m ∷ n ∷ o ∷ p ∷ [])

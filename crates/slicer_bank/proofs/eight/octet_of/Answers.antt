@@ -4,7 +4,7 @@ use Rattle.tone_table.specs.declared.tone.Tone.TheVariants.{Mark}
 use Rattle.nrzi_bits.specs.Line.{bits_from, same_tone}
 use Rattle.hdlc_framer.specs.BitOrder.{number_of}
 use Rattle.slicer_bank.proofs.EightLemmas.{bit_above, eight_tones, octet_is}
-use Rattle.slicer_bank.proofs.tone_lane.octet_of.Goals as goal
+use Rattle.slicer_bank.proofs.eight.octet_of.Goals as goal
 
 -- a bit that says whether two tones agree, above others
 one_more : (bit : Bool) (above given : ℕ) (bits : List Bool) (before tone : Tone) → bit ≡ same_tone before tone

@@ -3,7 +3,7 @@ ghost use Rattle.std.specs.Prelude.{◌≡◌, ◌+◌, ◌≤◌, ℤ, List, �
 ghost use Rattle.slicer_bank.specs.Held.{last_seven};
 
 /// Keeps the last seven of the samples up to the end of a block.
-pub(crate) fn keep_last(recent: &mut [i16; 7], block: &[i16])
+pub fn keep_last(recent: &mut [i16; 7], block: &[i16])
     ensures { (x : List ℤ) → recent.old ≡ last_seven x → recent.new ≡ last_seven (x ++ block.now) }
 {
     if block.len() < 7 {
@@ -15,7 +15,7 @@ pub(crate) fn keep_last(recent: &mut [i16; 7], block: &[i16])
 }
 
 /// Seven samples and what follows them.
-pub(crate) fn bridge(recent: &[i16; 7], first: &[i16]) -> [i16; 14]
+pub fn bridge(recent: &[i16; 7], first: &[i16]) -> [i16; 14]
     requires { length first.now ≤ 7 }
     ensures { take (7 + length first.now) result ≡ recent.now ++ first.now }
 {
