@@ -10,7 +10,7 @@ passed=0 failed=0 skipped=0
 room=$(mktemp -d)
 trap 'rm -rf "$room"' EXIT
 
-# Says how one check went: NAME, and whether the command behind it holds.
+# Says how one check went: NAME, and whether the command after it holds.
 check() {
     if "${@:2}"; then
         passed=$((passed + 1))
