@@ -15,7 +15,7 @@ one_more bit above given bits before tone agrees is rest =
 pub returns : goal.returns
 returns c =
     let before = c.args.before in
-    let at : ℕ → Tone = λ k. get_or c.args.eight.now k Mark in
+    let at : ℕ → Tone = λ k. get_or c.args.tones.now k Mark in
     let eight = one_more c.agree-2.result 0 c.with_bit.result [] (at 6) (at 7) c.agree-2.ensures c.with_bit.ensures.value
     refl in
     let seven = one_more c.agree.result c.with_bit.result c.with_bit-last.result (bits_from (at 6) (at 7 ∷ [])) (at 5) (at 6)
@@ -37,4 +37,4 @@ returns c =
     c.with_bit-5.ensures.value two in
     octet_is c.with_bit-5.result
     (bits_from before (at 0 ∷ at 1 ∷ at 2 ∷ at 3 ∷ at 4 ∷ at 5 ∷ at 6 ∷ at 7 ∷ [])) refl one
-    ∙ ap (bits_from before) (sym (eight_tones c.args.eight.now Mark c.told-eight))
+    ∙ ap (bits_from before) (sym (eight_tones c.args.tones.now Mark c.told-tones))
