@@ -1,5 +1,6 @@
 //! Tests of the commands, each in a file of its own.
 
+mod assertions;
 mod base;
 mod bench;
 mod decode;

@@ -1,4 +1,5 @@
 //! Tests of keying, each in a file of its own.
 
+mod assertions;
 mod line;
 mod machine;

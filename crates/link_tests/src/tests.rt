@@ -1,6 +1,7 @@
 //! Tests of frames and links, each in a file of its own.
 
 mod address;
+mod assertions;
 mod frames;
 mod incoming;
 mod machine;

@@ -1,5 +1,6 @@
 //! Tests of the receivers, each in a file of its own.
 
+mod assertions;
 mod bank;
 mod block_decoder;
 mod blocks;

@@ -5,6 +5,8 @@
 //! thread that made the calls, so waiting for a processor is no part of it.
 #![tactic(auto)]
 
+#[cfg(test)]
+mod assertions;
 mod in_turns;
 mod on_threads;
 mod publishing;

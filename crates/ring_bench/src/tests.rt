@@ -1,8 +1,8 @@
 //! How costs are printed, and how many calls are counted.
+use crate::assertions::assert_equal;
 use crate::in_turns::in_turns;
 use crate::on_threads::on_threads;
 use crate::rates::{Rates, Spent};
-use assertions::assert_equal;
 use std::test::Fail;
 use std::time::Duration;
 

@@ -1,5 +1,6 @@
 //! Tests of frames as signals, each in a file of its own.
 
+mod assertions;
 mod bits;
 mod carrier;
 mod framer;

@@ -5,8 +5,12 @@
 //! Counts of ticks and places of samples are worked out beside the tests from the lengths of the frames.
 #![tactic(auto)]
 
+#[cfg(test)]
+mod assertions;
 mod messages;
 #[cfg(test)]
 mod tests;
 
+#[cfg(test)]
+pub(crate) use assertions::assert_equal;
 pub use messages::{field, message, message_with_pid};

@@ -3,6 +3,8 @@
 //! that are handed in, whose contract says what each exit status stands for and which octets are written.
 #![tactic(auto)]
 
+#[cfg(test)]
+mod assertions;
 mod batch;
 mod calling;
 mod laws;

@@ -1,6 +1,6 @@
 //! Runs over memory, by their statuses, what they write, and their reports.
+use crate::assertions::assert_equal;
 use crate::program::run;
-use assertions::assert_equal;
 use std::alloc::Global;
 use std::net::Net;
 use std::process::Abort;

@@ -4,7 +4,7 @@ use super::octets::{
     CALL, CONNECTED, ENDED, LEAVE, NOT_REGISTERED, REGISTER, REGISTERED, SAYS_HI, TEXT, TOO_LONG,
 };
 use super::words::words;
-use assertions::assert_equal;
+use crate::assertions::assert_equal;
 use host_ports::MemPorts;
 use station::HostEvent;
 use std::alloc::Global;

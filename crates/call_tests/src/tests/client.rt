@@ -5,8 +5,8 @@ use super::octets::{
     TOO_LONG,
 };
 use super::words::words;
+use crate::assertions::assert_equal;
 use agwpe_client::{Client, ClientFault};
-use assertions::assert_equal;
 use std::alloc::Global;
 use std::marker::Model;
 use std::test::Fail;

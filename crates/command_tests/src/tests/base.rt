@@ -1,7 +1,7 @@
 //! Octet lists, the hash, and streams in memory and of std.
 ghost use Rattle.std.specs.Prelude.{◌<◌};
 
-use assertions::assert_equal;
+use crate::tests::assertions::assert_equal;
 use std::alloc::Global;
 use std::io::{self, ErrorKind, Read};
 use std::process::Abort;

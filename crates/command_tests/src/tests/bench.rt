@@ -1,6 +1,6 @@
 //! The command `bench`. The hashes of texts were computed apart from the program, from words of PCG XSH RR 64/32 and by
 //! FNV-1a.
-use assertions::assert_equal;
+use crate::tests::assertions::assert_equal;
 use std::alloc::Global;
 use std::process::Abort;
 use std::test::Fail;

@@ -1,6 +1,6 @@
 //! The shortest transmission as raw PCM, from sources that cut it in several ways and from a slow sender.
 
-use assertions::assert_equal;
+use crate::tests::assertions::assert_equal;
 use std::alloc::{AllocError, Global};
 use std::process::Abort;
 use std::test::Fail;

@@ -1,7 +1,7 @@
 //! Frames in several forms and the samples that come of them. Counts of octets and hashes were computed apart from the
 //! program.
 
-use assertions::assert_equal;
+use crate::tests::assertions::assert_equal;
 use std::alloc::Global;
 use std::process::Abort;
 use std::test::Fail;

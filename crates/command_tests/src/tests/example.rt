@@ -1,6 +1,6 @@
 //! An example to read first: `encode` makes sound of a line of hexadecimal digits, and `decode` prints the line again.
 
-use assertions::assert_equal;
+use crate::tests::assertions::assert_equal;
 use std::test::Fail;
 use tnc_base::{MemSink, MemSource};
 use tnc_decode::decode;

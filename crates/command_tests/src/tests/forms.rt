@@ -1,6 +1,6 @@
 //! Lines of hexadecimal digits read whole and in pieces, what is printed, and inputs that are read.
 
-use assertions::assert_equal;
+use crate::tests::assertions::assert_equal;
 use std::alloc::Global;
 use std::test::Fail;
 use tnc_base::{MemSource, Octets};

@@ -1,5 +1,5 @@
 //! The command `loop`, and which candidates are stray.
-use assertions::assert_equal;
+use crate::tests::assertions::assert_equal;
 use clean_signal::{TrueEnd, is_sent};
 use frame_merge::Candidate;
 use std::alloc::Global;

@@ -1,5 +1,5 @@
 //! Inputs and their lines.
-use assertions::assert_equal;
+use crate::tests::assertions::assert_equal;
 use ax25_frames::Modulus;
 use std::alloc::Global;
 use std::process::Abort;

@@ -1,5 +1,5 @@
 //! Files and heads from outside.
-use assertions::assert_equal;
+use crate::tests::assertions::assert_equal;
 use std::alloc::{AllocError, Global};
 use std::process::Abort;
 use std::test::Fail;

@@ -1,5 +1,5 @@
 //! What words ask for, and which words are refused.
-use assertions::assert_equal;
+use crate::tests::assertions::assert_equal;
 use std::alloc::Global;
 use std::process::Abort;
 use std::test::Fail;

@@ -1,6 +1,6 @@
 //! A line over a script, and one on loopback.
 
-use assertions::assert_equal;
+use crate::tests::assertions::assert_equal;
 use key_port::{
     KeyCame, KeyOutcome, KeyPort, KeyReports, KeySide, KeyStep, KeyWrite, MemKeyPort, RealKeyPort,
 };

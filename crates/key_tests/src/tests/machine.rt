@@ -3,7 +3,7 @@
 mod cases;
 mod script;
 
-use assertions::assert_equal;
+use crate::tests::assertions::assert_equal;
 use cases::CASES;
 use keying::{Command, OffWhy, Report, Why};
 use script::run;

@@ -1,6 +1,6 @@
 //! Calls and paths against values from outside: the examples of AX.25 2.2 and frames on the air.
+use crate::tests::assertions::assert_equal;
 use arrayvec::ArrayVec;
-use assertions::assert_equal;
 use ax25_address::{AddrFault, Call, CallFault, Hop, Path, Role, read_path, reversed, write_path};
 use std::process::Abort;
 use std::test::Fail;

@@ -1,5 +1,5 @@
 //! Frames against octets and lines from outside.
-use assertions::assert_equal;
+use crate::tests::assertions::assert_equal;
 use ax25_frames::{
     Frame, FrameFault, Kind, Modulus, is_command, read_frame, text_of, text_of_fault, write_frame,
 };

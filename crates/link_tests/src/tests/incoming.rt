@@ -2,8 +2,8 @@
 ghost use Rattle.std.specs.Prelude.{◌≡◌};
 ghost use Rattle.selective_reject.specs.Incoming.{IsIncoming};
 
+use crate::tests::assertions::assert_equal;
 use crate::tests::packets::{is_named, packet};
-use assertions::assert_equal;
 use selective_reject::{BadWindow, InStore, Mode, StoreFault, Took, check_window};
 use std::alloc::Global;
 use std::process::Abort;

@@ -1,5 +1,5 @@
 //! Texts of frames as other programs write them.
-use assertions::assert_equal;
+use crate::tests::assertions::assert_equal;
 use ax25_address::Call;
 use ax25_frames::{Frame, Modulus, read_frame};
 use frame_monitor::{HeardStation, hear_station, heard_text, monitor_letter, monitor_text};

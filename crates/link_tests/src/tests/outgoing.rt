@@ -1,6 +1,6 @@
 //! Worked cases of what a sender keeps, by the numbers of AX.25 2.2.
+use crate::tests::assertions::assert_equal;
 use crate::tests::packets::{is_named, packet};
-use assertions::assert_equal;
 use selective_reject::{BadNr, InStore, Mode, OutStore, Took};
 use std::alloc::Global;
 use std::process::Abort;

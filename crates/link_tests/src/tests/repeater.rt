@@ -1,5 +1,5 @@
 //! Frames that are repeated in turn and once, by the octets of the field that is set.
-use assertions::assert_equal;
+use crate::tests::assertions::assert_equal;
 use ax25_address::Call;
 use digipeater::repeat;
 use std::test::Fail;

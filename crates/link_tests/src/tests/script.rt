@@ -1,5 +1,5 @@
 //! Exchanges as lines of text: words that happen in order, a bar, and what is seen at the last of them.
-use assertions::assert_equal;
+use crate::tests::assertions::assert_equal;
 use link_machine::{Told, Why};
 use std::alloc::Global;
 use std::process::Abort;

@@ -5,9 +5,9 @@
 //! (packets of the octets 0, 1 and 2), `disconnect`, `ticks/200`, `turns/4` (the channel takes
 //! four frames), `hears/2` (the next two frames), and `loses/0`, the
 //! frame at that place of those towards the end.
+use crate::tests::assertions::assert_equal;
 use crate::tests::packets::packet;
 use crate::tests::script::{Subject, assert_exchange, octet, parts, push_told};
-use assertions::assert_equal;
 use link_machine::{NewFault, Params};
 use link_world::{End, Event, World, prefix_law, tags_do_not_matter};
 use selective_reject::Mode;

@@ -2,7 +2,7 @@
 ghost use Rattle.std.specs.Prelude.{◌≤◌};
 ghost use Rattle.channel_bench.specs.Words.{AreInRange};
 
-use assertions::assert_equal;
+use crate::assertions::assert_equal;
 use channel_access::CheckOctets;
 use channel_bench::{BenchReport, BenchWords, bench};
 use std::test::Fail;

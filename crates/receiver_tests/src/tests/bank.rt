@@ -2,10 +2,10 @@
 
 ghost use Rattle.std.specs.Prelude.{◌+◌, ◌<◌, ◌≤◌, ◌^◌, length as count};
 
+use crate::tests::assertions::assert_equal;
 use crate::tests::meeting::Meeting;
 use crate::tests::places::note;
 use crate::tests::worked_signal::transmission;
-use assertions::assert_equal;
 use slicer_bank::Bank;
 use std::alloc::Global;
 use std::process::Abort;

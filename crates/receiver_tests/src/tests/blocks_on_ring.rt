@@ -1,8 +1,8 @@
 //! A receiver of blocks over a ring, with the eight lanes and with all 26.
 
+use crate::tests::assertions::assert_equal;
 use crate::tests::blocks_by_all_lanes::fast_block;
 use crate::tests::publishing::{publish, publish_silence};
-use assertions::assert_equal;
 use fx25_ring::Fx25RingReceiver;
 use sample_ring::{Ring, RingFault, Writer};
 use std::alloc::Global;

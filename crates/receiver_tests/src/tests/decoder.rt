@@ -2,11 +2,11 @@
 
 ghost use Rattle.std.specs.Prelude.{◌≡◌, length as count, false};
 
+use crate::tests::assertions::assert_equal;
 use crate::tests::block_decoder::BlockDecoder;
 use crate::tests::blocks::items_in_blocks;
 use crate::tests::meeting::Meeting;
 use crate::tests::worked_signal::transmission;
-use assertions::assert_equal;
 use slicer_bank::Decoder;
 use std::process::Abort;
 use std::test::Fail;

@@ -1,8 +1,8 @@
 //! An example to read first: a frame becomes samples, and the samples give the frame.
 
+use crate::tests::assertions::assert_equal;
 use crate::tests::worked_signal::SHORTEST;
 use afsk_modulator::transmission;
-use assertions::assert_equal;
 use slicer_bank::Decoder;
 use std::test::Fail;
 use tnc_base::Octets;

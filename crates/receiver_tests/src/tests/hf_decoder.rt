@@ -1,9 +1,9 @@
 //! Tones, bits and frames on short wave.
 
+use crate::tests::assertions::assert_equal;
 use crate::tests::blocks::items_in_blocks;
 use crate::tests::worked_signal::{SHORTEST, transmission};
 use afsk_modulator::ModFault;
-use assertions::assert_equal;
 use hf_modem::{HfDecoder, HfSlicer, hf_decide};
 use hf_sender::hf_transmission;
 use std::test::Fail;

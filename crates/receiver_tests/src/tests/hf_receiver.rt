@@ -1,8 +1,8 @@
 //! A receiver of short wave over a ring, with the 32 lanes alone and with all 59.
 
+use crate::tests::assertions::assert_equal;
 use crate::tests::publishing::{publish, publish_silence};
 use crate::tests::worked_signal::SHORTEST;
-use assertions::assert_equal;
 use hf_sender::hf_transmission;
 use live_receiver::HfReceiver;
 use sample_ring::{Ring, RingFault, Writer};

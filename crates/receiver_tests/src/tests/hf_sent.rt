@@ -1,7 +1,7 @@
 //! How far from its true end a frame on short wave is heard.
 
+use crate::tests::assertions::assert_equal;
 use crate::tests::worked_signal::SHORTEST;
-use assertions::assert_equal;
 use clean_signal::TrueEnd;
 use frame_merge::Candidate;
 use hf_signal::hf_is_sent;

@@ -1,7 +1,7 @@
 //! Where frames are heard.
 
+use crate::tests::assertions::assert_equal;
 use crate::tests::worked_signal::SHORTEST;
-use assertions::assert_equal;
 use frame_merge::Candidate;
 use std::process::Abort;
 use tnc_base::OutOfMemory;

@@ -2,11 +2,11 @@
 
 ghost use Rattle.std.specs.Prelude.{◌≡◌, length as count};
 
+use crate::tests::assertions::assert_equal;
 use crate::tests::noisy_signal::in_noise;
 use crate::tests::places::note;
 use crate::tests::publishing::publish;
 use crate::tests::worked_signal::transmission;
-use assertions::assert_equal;
 use ring_receiver::{Heard, RingReceiver, readers_wanted};
 use sample_ring::{Ring, RingFault, Writer};
 use slicer_bank::{Detection, OpenGate};

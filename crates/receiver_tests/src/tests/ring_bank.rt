@@ -6,11 +6,11 @@ ghost use Rattle.std.specs.List.{All};
 ghost use Rattle.slicer_bank.specs.Detection.{CanBeAsked};
 ghost use Rattle.slicer_bank.specs.Merging.{CanBePut};
 
+use crate::tests::assertions::assert_equal;
 use crate::tests::meeting::Meeting;
 use crate::tests::places::note;
 use crate::tests::publishing::{publish, publish_silence};
 use crate::tests::worked_signal::transmission;
-use assertions::assert_equal;
 use frame_merge::{Candidate, Merger};
 use nrzi_bits::NrziOut;
 use sample_ring::{Ring, RingFault, Writer};

@@ -2,11 +2,11 @@
 
 ghost use Rattle.std.specs.Prelude.{◌≡◌, ◌+◌, ◌<◌, ◌≤◌, ◌^◌, length as count, false, OnOk};
 
+use crate::tests::assertions::assert_equal;
 use crate::tests::blocks::items_in_blocks;
 use crate::tests::noisy_signal::{SILENCE, in_noise, slow};
 use crate::tests::places::note;
 use crate::tests::worked_signal::transmission;
-use assertions::assert_equal;
 use sensitive_receiver::{AddedBank, SensitiveDecoder};
 use slicer_bank::Bank;
 use std::alloc::Global;

@@ -2,9 +2,9 @@
 
 ghost use Rattle.std.specs.Prelude.{◌<◌, ◌^◌, length as count};
 
+use crate::tests::assertions::assert_equal;
 use crate::tests::worked_signal::{SHORTEST, transmission as worked};
 use afsk_modulator::transmission;
-use assertions::assert_equal;
 use clean_signal::{TrueEnd, is_sent};
 use frame_merge::Candidate;
 use slicer_bank::Bank;

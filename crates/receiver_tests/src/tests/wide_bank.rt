@@ -1,9 +1,9 @@
 //! The worked transmission at 48,000 samples a second, on one thread and on two.
 
+use crate::tests::assertions::assert_equal;
 use crate::tests::blocks::items_in_blocks;
 use crate::tests::meeting::Meeting;
 use crate::tests::worked_signal::{transmission, wide};
-use assertions::assert_equal;
 use clean_signal::TrueEnd;
 use frame_merge::Candidate;
 use std::test::Fail;

@@ -3,7 +3,7 @@ ghost use Rattle.std.specs.Prelude.{◌≡◌, ◌≤◌};
 ghost use Rattle.sample_ring.specs.Ends.{ring_id, writer_ring};
 
 use super::wave::wave;
-use assertions::assert_equal;
+use crate::assertions::assert_equal;
 use ring_recorder::{Loss, Recorded, Recorder};
 use sample_ring::{Ring, RingFault, Writer};
 use std::alloc::Global;

@@ -2,8 +2,8 @@
 ghost use Rattle.std.specs.Prelude.{◌≤◌};
 
 use super::wave::wave;
+use crate::assertions::assert_equal;
 use afsk_modulator::transmission;
-use assertions::assert_equal;
 use std::alloc::Global;
 use std::marker::Model;
 use std::process::Abort;

@@ -1,6 +1,6 @@
 //! The line of a worked transmission, sent and heard.
+use crate::tests::assertions::assert_equal;
 use crate::tests::letters::letter;
-use assertions::assert_equal;
 use nrzi_bits::{NrziIn, NrziOut, each_undoes_the_other};
 
 #[test]

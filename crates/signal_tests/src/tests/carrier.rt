@@ -1,7 +1,7 @@
 //! What is heard in windows, and where tones are found and lost, as a second program computed them from the
 //! definition.
 
-use assertions::assert_equal;
+use crate::tests::assertions::assert_equal;
 use nrzi_bits::NrziOut;
 use offset_slicers::{correlate, decide};
 use std::process::Abort;

@@ -2,8 +2,8 @@
 
 ghost use Rattle.std.specs.Prelude.{◌<◌};
 
+use crate::tests::assertions::assert_equal;
 use crate::tests::letters::letter;
-use assertions::assert_equal;
 use hf_tracking::HfTones;
 use std::process::Abort;
 

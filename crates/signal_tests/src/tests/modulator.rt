@@ -1,7 +1,7 @@
 //! Worked windows and transmissions, and the rules that a transmission must keep.
+use crate::tests::assertions::assert_equal;
 use crate::tests::shortest_frame::SHORTEST;
 use afsk_modulator::{ModFault, Modulator, transmission, transmission_at};
-use assertions::assert_equal;
 use std::alloc::Global;
 use std::test::Fail;
 use tnc_base::Octets;

@@ -1,6 +1,6 @@
 //! A live station's sound at its two rates. A second program computed the samples at 48,000 by the sums over all taps.
 
-use assertions::assert_equal;
+use crate::tests::assertions::assert_equal;
 use sound_rate::{Incoming, Outgoing, Rate};
 use std::alloc::Global;
 use std::test::Fail;

@@ -1,7 +1,7 @@
 //! The filter between 48,000 and 9600 samples a second. A second program computed the expected samples by the sums over
 //! all taps.
 
-use assertions::assert_equal;
+use crate::tests::assertions::assert_equal;
 use resampler::{Decimator, Interpolator, LowPass};
 use std::test::Fail;
 

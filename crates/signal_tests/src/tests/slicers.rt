@@ -1,5 +1,5 @@
 //! Windows whose correlations, energies and tones a second program computed, and where slicers end windows.
-use assertions::assert_equal;
+use crate::tests::assertions::assert_equal;
 use offset_slicers::{
     Decision, SlicedBit, Slicer, correlate, decide, energies, near_windows, pure_windows,
 };

@@ -1,5 +1,5 @@
 //! Windows of the two tones, against the samples of a sine.
-use assertions::assert_equal;
+use crate::tests::assertions::assert_equal;
 use tone_table::{Tone, advance, sine, step};
 
 #[test]

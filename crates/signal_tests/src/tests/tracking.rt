@@ -2,8 +2,8 @@
 
 ghost use Rattle.std.specs.Prelude.{◌≡◌, ◌+◌, ◌<◌, ◌^◌, OnOk, length};
 
+use crate::tests::assertions::assert_equal;
 use crate::tests::letters::letter;
-use assertions::assert_equal;
 use std::alloc::AllocError;
 use std::test::Fail;
 use tone_table::Tone;

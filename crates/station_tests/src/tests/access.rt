@@ -2,8 +2,8 @@
 ghost use Rattle.std.specs.Prelude.{IfOk};
 ghost use Rattle.hdlc_framer.specs.FrameLength.{HasFrameLength};
 
+use crate::assert_equal;
 use afsk_modulator::transmission;
-use assertions::assert_equal;
 use channel_access::{
     Access, CheckOctets, Modem, Param, a_tick_is_a_part_of_the_whole, decisions_add_bits,
     the_end_is_a_transmission,

@@ -1,7 +1,7 @@
 //! AGWPE: streams and messages from outside.
 
+use crate::assert_equal;
 use agwpe_port::{AgwFault, AgwIn, AgwMessage, call_text, read_messages, write_agw};
-use assertions::assert_equal;
 use ax25_address::Call;
 use std::alloc::{AllocError, Global};
 use std::process::Abort;

@@ -1,6 +1,6 @@
 //! An example to read first: a host joins by KISS, and is shown a frame that the station hears.
 
-use assertions::assert_equal;
+use crate::assert_equal;
 use link_machine::Params;
 use station::{Config, HostEvent, PortKind, Station};
 use std::test::Fail;

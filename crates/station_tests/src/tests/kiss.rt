@@ -1,6 +1,6 @@
 //! KISS: streams and items from outside.
 
-use assertions::assert_equal;
+use crate::assert_equal;
 use kiss_port::{KissFault, KissHostIn, KissIn, KissItem, write_kiss};
 use std::alloc::Global;
 use std::slice;

@@ -1,6 +1,6 @@
 //! The station: what a new one is, and the modulus of its links.
 
-use assertions::assert_equal;
+use crate::assert_equal;
 use ax25_frames::Modulus;
 use link_machine::{NewFault, Params};
 use script::Sight::{Frames, ReadsBy};

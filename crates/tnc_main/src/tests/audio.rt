@@ -1,6 +1,6 @@
 //! What `encode` sends and `decode` hears.
 use super::{NEVER, SHORTEST, assert_ended, run_failing, run_over};
-use assertions::assert_equal;
+use crate::assertions::assert_equal;
 use std::alloc::Global;
 use std::net::Net;
 use std::process::Abort;

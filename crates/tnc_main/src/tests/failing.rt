@@ -1,6 +1,6 @@
 //! Streams that fail: what had ended before stands written.
 use super::{NEVER, Outcome, assert_ended, run_failing, run_over};
-use assertions::assert_equal;
+use crate::assertions::assert_equal;
 use std::alloc::Global;
 use std::net::Net;
 use std::sync::Wait;

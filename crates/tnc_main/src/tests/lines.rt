@@ -1,6 +1,6 @@
 //! Lines of hexadecimal digits, sent by `encode` and shown by `show`.
 use super::{assert_ended, run_over};
-use assertions::assert_equal;
+use crate::assertions::assert_equal;
 use std::test::Fail;
 
 // Each row: the lines, how many octets are sent, the status and the report.

@@ -1,6 +1,6 @@
 //! A live station to whose ports no host connects.
 use super::{NEVER, assert_ended, run_live};
-use assertions::assert_equal;
+use crate::assertions::assert_equal;
 use std::test::Fail;
 
 // Each row: how many samples of silence come, what fails, the status, how many octets come out, the report, and how

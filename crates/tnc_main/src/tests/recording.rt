@@ -1,6 +1,6 @@
 //! `record`: the last of the sound, and the frames in it.
 use super::{NEVER, Outcome, SHORTEST, input_of, output_of, run_over, run_streams, split};
-use assertions::assert_equal;
+use crate::assertions::assert_equal;
 use std::alloc::Global;
 use std::net::Net;
 use std::sync::Wait;

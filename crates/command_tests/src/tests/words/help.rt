@@ -1,6 +1,6 @@
 //! `help` and `version`.
 use super::assert_asked;
-use assertions::assert_equal;
+use crate::tests::assertions::assert_equal;
 use std::test::Fail;
 use tnc_words::{Command, Topic, help_text, version_line};
 

@@ -1,6 +1,6 @@
 //! Words that are refused.
 use super::assert_none_taken;
-use assertions::assert_equal;
+use crate::tests::assertions::assert_equal;
 use std::alloc::Global;
 use std::test::Fail;
 use tnc_words::{WordsFault, read_words};

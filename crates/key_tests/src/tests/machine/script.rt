@@ -1,6 +1,6 @@
 //! A script, and a run of it that writes down each answer.
 
-use assertions::assert_equal;
+use crate::tests::assertions::assert_equal;
 use keying::{Command, End, Ending, Keying, Next, Report, Try, Turn, Words};
 use std::alloc::{AllocError, Global};
 use std::process::Abort;

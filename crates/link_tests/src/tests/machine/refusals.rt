@@ -1,7 +1,7 @@
 //! What a link refuses.
 use super::link::{idle, path};
+use crate::tests::assertions::assert_equal;
 use crate::tests::packets::packet;
-use assertions::assert_equal;
 use link_machine::{Link, LinkFault, LinkState, NewFault, Params};
 use selective_reject::Mode;
 use std::alloc::Global;

@@ -1,6 +1,6 @@
 //! How links are set up and released.
 use super::link::{assert_rows, path, wide};
-use assertions::assert_equal;
+use crate::tests::assertions::assert_equal;
 use ax25_frames::{Kind, write_frame};
 use link_machine::{Link, Params, SentFrame};
 use selective_reject::Mode;

@@ -3,7 +3,7 @@
 use super::outcome::{EIGHT, NONE, Outcome, served_as, silence, words};
 use super::script::Script;
 use super::serving::{a_call, with_registration};
-use assertions::assert_equal;
+use crate::assertions::assert_equal;
 use station::PortKind;
 use station_tests::message;
 use std::alloc::Global;

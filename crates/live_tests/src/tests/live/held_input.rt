@@ -2,7 +2,7 @@
 ghost use Rattle.std.specs.Prelude.{None};
 
 use super::outcome::{EIGHT, words};
-use assertions::assert_equal;
+use crate::assertions::assert_equal;
 use host_ports::{Listen, PollFault, Ports};
 use key_port::{MemKeyPort, RealKeyPort};
 use station::HostEvent;

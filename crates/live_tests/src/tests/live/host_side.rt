@@ -2,7 +2,7 @@
 ghost use Rattle.hdlc_framer.specs.FrameLength.{HasFrameLength};
 
 use super::script::{Script, came};
-use assertions::assert_equal;
+use crate::assertions::assert_equal;
 use host_ports::{HostSide, ReportLine};
 use link_machine::Params;
 use station::{Config, PortKind};

@@ -5,7 +5,7 @@ ghost use Rattle.live_receiver.specs.Listening.{CanBeAskedBy};
 
 use super::outcome::{EIGHT, Failing, NONE, Outcome, served_as, silence, words};
 use super::script::Script;
-use assertions::assert_equal;
+use crate::assertions::assert_equal;
 use key_port::{KeyOutcome, KeyStep, MemKeyPort};
 use keying::{Command, Words};
 use station::PortKind;

@@ -1,7 +1,7 @@
 //! What waits for a connection is offered piece by piece.
 
 use super::script::Script;
-use assertions::assert_equal;
+use crate::assertions::assert_equal;
 use host_ports::{MemPorts, Outgoing, offer};
 use std::alloc::Global;
 use std::net::Net;

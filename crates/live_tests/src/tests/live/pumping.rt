@@ -2,7 +2,7 @@
 ghost use Rattle.std.specs.Prelude.{◌≡◌, [], IfOk};
 ghost use Rattle.sample_ring.specs.Ends.{ring_id, writer_ring, reader_ring, published_by};
 
-use assertions::assert_equal;
+use crate::assertions::assert_equal;
 use sample_ring::{Got, Reader, Ring, RingFault, Writer};
 use sound_rate::Rate;
 use std::alloc::Global;

@@ -1,7 +1,7 @@
 //! Sockets on loopback.
 
 use super::script::names;
-use assertions::assert_equal;
+use crate::assertions::assert_equal;
 use host_ports::{Listen, Ports, RealPorts};
 use std::alloc::Global;
 use std::io::{Read, Write};

@@ -1,6 +1,6 @@
 //! A script of events, and how sockets in memory give it.
 
-use assertions::assert_equal;
+use crate::assertions::assert_equal;
 use host_ports::{Dial, MemPorts, Ports};
 use station::{HostEvent, PortKind};
 use std::alloc::Global;

@@ -5,8 +5,8 @@ use super::outcome::{
     served_by, silence,
 };
 use super::script::Script;
+use crate::assertions::assert_equal;
 use afsk_modulator::transmission;
-use assertions::assert_equal;
 use fx25_sender::fx25_transmission;
 use hf_sender::hf_transmission;
 use host_ports::MemPorts;

@@ -1,6 +1,6 @@
 //! Two jobs, beside each other or one after the other.
 
-use assertions::assert_equal;
+use crate::assertions::assert_equal;
 use std::sync::Wait;
 use std::sync::atomic::{AtomicU64, Ordering};
 use std::thread;

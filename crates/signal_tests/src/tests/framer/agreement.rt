@@ -1,8 +1,8 @@
 //! Each bit ends what the slow program finds.
 use super::definition::event_at_end;
 use super::line::{frame_of, next_word, sent};
+use crate::tests::assertions::assert_equal;
 use crate::tests::shortest_frame::SHORTEST;
-use assertions::assert_equal;
 use hdlc_framer::Deframer;
 use std::alloc::{AllocError, Global};
 use std::process::Abort;

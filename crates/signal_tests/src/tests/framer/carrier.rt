@@ -1,5 +1,5 @@
 //! From which bit on a deframer is busy, and until when.
-use assertions::assert_equal;
+use crate::tests::assertions::assert_equal;
 use hdlc_framer::Deframer;
 
 /// Is it busy after these bits, a text of 0 and 1, and so many zeros?

@@ -1,8 +1,8 @@
 //! Check sequences, and frames that are sent and found.
 use super::definition::flip;
 use super::line::{frame_of, sent};
+use crate::tests::assertions::assert_equal;
 use crate::tests::shortest_frame::SHORTEST;
-use assertions::assert_equal;
 use hdlc_framer::{Deframer, Event, fcs, stuff};
 use std::alloc::Global;
 use std::process::Abort;

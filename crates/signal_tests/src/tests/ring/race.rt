@@ -3,7 +3,7 @@ ghost use Rattle.std.specs.Prelude.{◌≡◌, ◌<◌, IfOk};
 ghost use Rattle.sample_ring.specs.Ends.{ring_id, writer_ring, reader_ring, done_ring};
 
 use super::published::{publish_to, sample_at};
-use assertions::assert_equal;
+use crate::tests::assertions::assert_equal;
 use sample_ring::{Got, Reader, Ring, RingEnd, RingFault, Writer, WriterDone};
 use std::alloc::{AllocError, Global};
 use std::test::Fail;

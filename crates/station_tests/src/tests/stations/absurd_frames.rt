@@ -4,7 +4,7 @@ use super::desk::Desk;
 use super::script::Sight::{Kinds, Links, Sends};
 use super::script::Step::{Forgets, Hears, Registers, SendsAtOnce, Ticks};
 use super::script::{Made, Row, desk, each_plays};
-use assertions::assert_equal;
+use crate::assert_equal;
 use std::alloc::Global;
 use std::test::Fail;
 

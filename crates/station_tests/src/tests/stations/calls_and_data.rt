@@ -6,7 +6,7 @@ use super::script::Step::{
     Asks, Calls, Fills, Forgets, Hears, Leaves, Registers, SendsAtOnce, Ticks,
 };
 use super::script::{Ends, Fields, Made, Row, each_plays, plays};
-use assertions::assert_equal;
+use crate::assert_equal;
 use link_machine::Params;
 use std::alloc::Global;
 use std::test::Fail;

@@ -4,7 +4,7 @@ use super::desk::{Desk, filled};
 use super::script::Sight::{Message, Tells};
 use super::script::Step::{Asks, Gives, Hears, Ticks};
 use super::script::{Ends, Made, Row, plays};
-use assertions::assert_equal;
+use crate::assert_equal;
 use link_machine::Params;
 use std::alloc::Global;
 use std::process::Abort;

@@ -7,7 +7,7 @@ use super::script::Step::{
     Ticks,
 };
 use super::script::{Ends, Made, Row, each_plays, plays, whole_call};
-use assertions::assert_equal;
+use crate::assert_equal;
 use channel_access::Parameters;
 use link_machine::Params;
 use station::PortKind;
