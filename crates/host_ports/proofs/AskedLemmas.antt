@@ -1,7 +1,7 @@
 -- What sockets tell of a turn, call by call.
 use Rattle.host_ports.proofs.Common.{◌≢◌, ◌==◌, Bool, true, false, if◌then◌else◌, List, ◌∷◌, All, Some, sym, ◌∙◌, ap}
 use Rattle.host_ports.proofs.Common.{subst, arith, inl, inr, append_assoc, eqb-true, eq-eqb, cases_Bool, true≢false}
-use Rattle.host_ports.proofs.Common.{flat_map-append, append-nil, length-append, HasRisen, HostEvent, Told, AreUnasked}
+use Rattle.host_ports.proofs.Common.{flat_map-append, append-nil, length-append, HasRisen, HostEvent, PortsTold, AreUnasked}
 use Rattle.host_ports.proofs.Common.{IsAsked, AreOffered, AreShut, send_of, taken_of, Offer, Poll, Send, MayCome}
 use Rattle.std.specs.Prelude.{◌≡◌, ℕ, ◌≤◌, [], ◌++◌, length, map, take, refl}
 use Rattle.host_ports.specs.AskedPorts.{poll_wait}
@@ -10,7 +10,7 @@ pub risen_later : (a b c d : ℕ) → a ≤ b → HasRisen b c → c ≤ d → H
 risen_later a b c d before rises after = grind (arith)
 
 -- no send yet
-pub offered_nothing : (t : Told) → AreOffered [] [] t t
+pub offered_nothing : (t : PortsTold) → AreOffered [] [] t t
 offered_nothing t = record {
   polled = refl;
   sends = λ polls sends p s. s ∙ ap Some (sym (append-nil sends));
@@ -20,7 +20,7 @@ offered_nothing t = record {
   failed = λ some. absurd (some refl);
 }
 
-pub unasked : (t : Told) → AreUnasked t t
+pub unasked : (t : PortsTold) → AreUnasked t t
 unasked t = record { polled = refl; sends = refl; sent = λ id. refl; shut = λ id. refl; later = omega arith }
 
 map_snoc : {A B : Type 0} (f : A → B) (xs : List A) (x : A) → map f (xs ++ x ∷ []) ≡ map f xs ++ f x ∷ []
@@ -38,7 +38,7 @@ taken_one id offer b is = append-nil (if offer.id == id then take offer.took off
     ∙ ap (λ c. if c then take offer.took offer.octets else []) is
 
 -- a send that did not fail
-pub offered_more : (offers : List Offer) (failing : List ℕ) (offer : Offer) (t a b : Told)
+pub offered_more : (offers : List Offer) (failing : List ℕ) (offer : Offer) (t a b : PortsTold)
     → AreOffered offers failing t a
     → b.polls ≡ a.polls
     → ((polls : List Poll) (sends : List Send) → a.polls ≡ Some polls → a.sends ≡ Some sends
@@ -75,7 +75,7 @@ offered_more offers failing offer t a b before polled sends sent others shut lat
 }
 
 -- one that failed
-pub offered_in_vain : (offers : List Offer) (failing : List ℕ) (id : ℕ) (t a b : Told) → AreOffered offers failing t a
+pub offered_in_vain : (offers : List Offer) (failing : List ℕ) (id : ℕ) (t a b : PortsTold) → AreOffered offers failing t a
     → b.polls ≡ a.polls → b.sends ≡ a.sends → ((other : ℕ) → b.sent other ≡ a.sent other)
     → ((other : ℕ) → b.is_shut other ≡ a.is_shut other) → HasRisen a.faults b.faults → a.faults ≤ b.faults
     → AreOffered offers (failing ++ id ∷ []) t b
@@ -90,7 +90,7 @@ offered_in_vain offers failing id t a b before polled sends sent shut rises late
 
 -- a turn as a whole
 pub asked_all : (paused : List ℕ) (events : List HostEvent) (offers : List Offer) (failing shut : List ℕ)
-    (a b c d : Told) → All (MayCome paused) events
+    (a b c d : PortsTold) → All (MayCome paused) events
     → ((polls : List Poll) → a.polls ≡ Some polls → b.polls
     ≡ Some (polls ++ (record { wait = poll_wait; paused = paused; events = events }) ∷ []))
     → b.sends ≡ a.sends → ((id : ℕ) → b.sent id ≡ a.sent id) → ((id : ℕ) → b.is_shut id ≡ a.is_shut id)

@@ -28,8 +28,7 @@ pub use Rattle.std.specs.Prelude.{All, Bool, Contains, Err, IsTrue, List, None, 
 pub use Rattle.std.specs.Prelude.{cond, false, filter, if◌then◌else◌, not, suc, true, zero, ◌&&◌}
 pub use Rattle.std.specs.Prelude.{◌==◌, ◌||◌, ◌↔◌, ◌∷◌, ◌≢◌}
 pub use Rattle.tnc_base.specs.Faults.{HasRisen}
-pub use Rattle.host_ports.specs.AskedPorts.{AreOffered, AreShut, AreUnasked, IsAsked, Told, send_of, taken_of}
-pub use Rattle.host_ports.specs.AskedPorts.{told_by}
+pub use Rattle.host_ports.specs.AskedPorts.{AreOffered, AreShut, AreUnasked, IsAsked, send_of, taken_of}
 pub use Rattle.host_ports.specs.CutPart.{IsCutInSending}
 pub use Rattle.host_ports.specs.HeldHosts.{AreParts, IsAtRest, IsKnown, Moves, MovesBy, Narrows, StandsFor, is_known}
 pub use Rattle.host_ports.specs.HeldHosts.{is_named, joins, leaves, weight}
@@ -46,7 +45,7 @@ pub use Rattle.host_ports.specs.Scripts.{PortsView, due_of, given_of, has_to_wai
 pub use Rattle.host_ports.specs.Scripts.{shut_one, waiting_of, was_shut, with_shut}
 pub use Rattle.host_ports.specs.SentSoFar.{IsOrderly, octets_for}
 pub use Rattle.host_ports.specs.Sockets.{IsWholePiece, MayCome, Poll, Send, has_come, has_dialed, is_joining_of}
-pub use Rattle.host_ports.specs.Sockets.{is_octets_of}
+pub use Rattle.host_ports.specs.Sockets.{PortsTold, is_octets_of}
 pub use Rattle.host_ports.specs.Waiting.{after_sending, following, cut, front_of, most_octets, octets_of, with_piece}
 pub use Rattle.host_ports.specs.declared.host_parts.HostParts.{HostParts}
 pub use Rattle.host_ports.specs.declared.client.Client.{Client}

@@ -1,7 +1,7 @@
 -- What connections are offered, one after another.
 use Rattle.host_ports.proofs.Common.{◌≢◌, ◌==◌, ◌||◌, Bool, true, false, List, ◌∷◌, Option, Some, sym, ◌∙◌, ap, subst}
 use Rattle.host_ports.proofs.Common.{arith, inl, inr, get_or, eqb-true, eq-eqb, cases_Bool, false≢true, true≢false}
-use Rattle.host_ports.proofs.Common.{take_more, list_any-append, HasRisen, Piece, HostParts, Client, ReportLine, Told}
+use Rattle.host_ports.proofs.Common.{take_more, list_any-append, HasRisen, Piece, HostParts, Client, ReportLine, PortsTold}
 use Rattle.host_ports.proofs.Common.{AreOffered, AreShut, AreParts, MovesBy, Hosts, cutting, with_waiting, client_of}
 use Rattle.host_ports.proofs.Common.{is_among, AllHaveLeft, Offer, Offering, IsOffered, IsOfferedTo, InOrder, Poll, Send}
 use Rattle.host_ports.proofs.Common.{has_come, front_of, after_sending}
@@ -11,9 +11,9 @@ use Rattle.host_ports.proofs.DeliverLemmas.{Waits, waits_stands}
 use Rattle.host_ports.proofs.TakeLemmas.{in_order-snoc}
 
 -- whatever was offered before, the connection is offered what it should, and the sockets tell it
-abbrev pub OffersTo : ℕ → HostParts → Told → HostParts → Told → Type 0
+abbrev pub OffersTo : ℕ → HostParts → PortsTold → HostParts → PortsTold → Type 0
 OffersTo id a t b u =
-    (printed : List ReportLine) (before : Offering) (start : Told) → AreParts a printed before.hosts
+    (printed : List ReportLine) (before : Offering) (start : PortsTold) → AreParts a printed before.hosts
     → AreOffered before.offers before.failed start t
     → (next : Offering) × IsOffered id before next × AreParts b printed next.hosts
     × AreOffered next.offers next.failed start u
@@ -36,7 +36,7 @@ with_sent a printed hosts sent h = record {
 }
 
 -- a first part is taken
-pub offers_part : (id : ℕ) (client : Client) (took : ℕ) (a b : HostParts) (t u : Told)
+pub offers_part : (id : ℕ) (client : Client) (took : ℕ) (a b : HostParts) (t u : PortsTold)
     → client_of id a.clients.items ≡ Some client → client.id ≡ id → client.waiting ≢ [] → took ≤ length (front_of client.waiting)
     → Waits id (after_sending took client.waiting) a b → u.polls ≡ t.polls
     → ((polls : List Poll) (sends : List Send) → t.polls ≡ Some polls → t.sends ≡ Some sends
@@ -84,7 +84,7 @@ offers_part id client took a b t u found same some part waits polled sends sent 
     )
 
 -- its send fails
-pub offers_in_vain : (id : ℕ) (client : Client) (a b : HostParts) (t u : Told) → client_of id a.clients.items ≡ Some client
+pub offers_in_vain : (id : ℕ) (client : Client) (a b : HostParts) (t u : PortsTold) → client_of id a.clients.items ≡ Some client
     → client.id ≡ id → client.waiting ≢ []
     → MovesBy (λ before after. AllHaveLeft (cutting id before) after) a b
     → u.polls ≡ t.polls → u.sends ≡ t.sends → ((other : ℕ) → u.sent other ≡ t.sent other)
@@ -107,14 +107,14 @@ offers_in_vain id client a b t u found same some moves polled sends sent shut ri
     )
 
 -- all of them so far
-abbrev pub OffersAll : List ℕ → HostParts → Told → HostParts → Told → Type 0
+abbrev pub OffersAll : List ℕ → HostParts → PortsTold → HostParts → PortsTold → Type 0
 OffersAll ids a t b u =
     (printed : List ReportLine) (before : Offering) → AreParts a printed before.hosts
     → AreOffered before.offers before.failed t t
     → (next : Offering) × InOrder IsOffered ids before next × AreParts b printed next.hosts
     × AreOffered next.offers next.failed t u
 
-pub offers_more : (ids : List ℕ) (i : ℕ) (a b c : HostParts) (t u v : Told) → i < length ids
+pub offers_more : (ids : List ℕ) (i : ℕ) (a b c : HostParts) (t u v : PortsTold) → i < length ids
     → OffersAll (take i ids) a t b u → OffersTo (get_or ids i 0) b u c v → OffersAll (take (i + 1) ids) a t c v
 offers_more ids i a b c t u v within first second = λ printed before h was.
     let one = first printed before h was in
@@ -143,7 +143,7 @@ among_more id ids one all is =
     ∙ ap (λ t. is_among id ids || t) (or_nothing (one == id))
 
 -- a connection that is told of stays told of
-shut_or_not : {ids : List ℕ} {a b : Told} → AreShut ids a b → (polls : List Poll) (id : ℕ) (was : Bool)
+shut_or_not : {ids : List ℕ} {a b : PortsTold} → AreShut ids a b → (polls : List Poll) (id : ℕ) (was : Bool)
     → a.polls ≡ Some polls → has_come id polls ≡ true → a.is_shut id ≡ Some was
     → (state : Bool) × (b.is_shut id ≡ Some state)
 shut_or_not {ids} {a} {b} before polls id was p come is = elim (cases_Bool (is_among id ids)) [
@@ -151,7 +151,7 @@ shut_or_not {ids} {a} {b} before polls id was p come is = elim (cases_Bool (is_a
   | inr fails ↦ (was, before.others id fails ∙ is)
 ]
 
-pub shut_more : (ids : List ℕ) (i : ℕ) (a b c : Told) → i < length ids → AreShut (take i ids) a b
+pub shut_more : (ids : List ℕ) (i : ℕ) (a b c : PortsTold) → i < length ids → AreShut (take i ids) a b
     → ((polls : List Poll) → b.polls ≡ Some polls → has_come (get_or ids i 0) polls ≡ true → (was : Bool)
     → b.is_shut (get_or ids i 0) ≡ Some was → c.is_shut (get_or ids i 0) ≡ Some true)
     → ((other : ℕ) → other ≢ get_or ids i 0 → c.is_shut other ≡ b.is_shut other) → c.polls ≡ b.polls → c.sends ≡ b.sends
@@ -182,7 +182,7 @@ shut_more ids i a b c within before shut others polled sends sent later =
       later = let e = before.later in omega (arith, later);
     }
 
-pub shut_nobody : (t : Told) → AreShut [] t t
+pub shut_nobody : (t : PortsTold) → AreShut [] t t
 shut_nobody t = record {
   polled = refl;
   sends = refl;

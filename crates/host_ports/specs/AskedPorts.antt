@@ -1,11 +1,11 @@
 -- What the sockets tell of a turn in which they were asked so.
 use Rattle.std.specs.Prelude.{◌≡◌, ◌≢◌, ℕ, ◌≤◌, ◌+◌, ◌==◌, Bool, true, false, if◌then◌else◌, List, [], ◌∷◌, ◌++◌, All}
-use Rattle.std.specs.Prelude.{length, map, take, Option, Some}
+use Rattle.std.specs.Prelude.{length, map, take, Some}
 use Rattle.std.specs.List.{flat_map}
 use Rattle.tnc_base.specs.Faults.{HasRisen}
 use Rattle.host_ports.specs.Hosts.{is_among}
 use Rattle.host_ports.specs.HostTurns.{Asked, Offer}
-use Rattle.host_ports.specs.Sockets.{Poll, Send, MayCome, has_come}
+use Rattle.host_ports.specs.Sockets.{Poll, PortsTold, Send, MayCome, has_come}
 
 -- how long a poll waits, in milliseconds
 abbrev pub poll_wait : ℕ
@@ -21,27 +21,8 @@ send_of polls offer = record { id = offer.id; polls = polls; offered = length of
 abbrev pub taken_of : ℕ → List Offer → List ℕ
 taken_of id offers = flat_map (λ offer. if offer.id == id then take offer.took offer.octets else []) offers
 
--- what sockets tell, as far as they do
-pub record Told : Type 0 where
-  pub polls : Option (List Poll)
-  pub sends : Option (List Send)
-  -- the octets that each connection was sent
-  pub sent : ℕ → Option (List ℕ)
-  pub is_shut : ℕ → Option Bool
-  pub faults : ℕ
-
-abbrev pub told_by : {P : Type 0} → (P → Option (List Poll)) → (P → Option (List Send)) → (P → ℕ → Option (List ℕ))
-    → (P → ℕ → Option Bool) → (P → ℕ) → P → Told
-told_by polls sends sent is_shut faults ports = record {
-  polls = polls ports;
-  sends = sends ports;
-  sent = sent ports;
-  is_shut = is_shut ports;
-  faults = faults ports;
-}
-
 -- there was no poll and no send, and nobody was shut
-pub record AreUnasked (before after : Told) : Type 0 where
+pub record AreUnasked (before after : PortsTold) : Type 0 where
   pub polled : after.polls ≡ before.polls
   pub sends : after.sends ≡ before.sends
   pub sent : (id : ℕ) → after.sent id ≡ before.sent id
@@ -49,7 +30,7 @@ pub record AreUnasked (before after : Told) : Type 0 where
   pub later : before.faults ≤ after.faults
 
 -- since a poll there were these sends, and these that failed
-pub record AreOffered (offers : List Offer) (failing : List ℕ) (before after : Told) : Type 0 where
+pub record AreOffered (offers : List Offer) (failing : List ℕ) (before after : PortsTold) : Type 0 where
   pub polled : after.polls ≡ before.polls
   pub sends : (polls : List Poll) (sends : List Send) → before.polls ≡ Some polls → before.sends ≡ Some sends
       → after.sends ≡ Some (sends ++ map (send_of (length polls)) offers)
@@ -60,7 +41,7 @@ pub record AreOffered (offers : List Offer) (failing : List ℕ) (before after :
   pub failed : failing ≢ [] → HasRisen before.faults after.faults
 
 -- these connections, and no others, are told to be shut, as far as they came
-pub record AreShut (ids : List ℕ) (before after : Told) : Type 0 where
+pub record AreShut (ids : List ℕ) (before after : PortsTold) : Type 0 where
   pub polled : after.polls ≡ before.polls
   pub sends : after.sends ≡ before.sends
   pub sent : (id : ℕ) → after.sent id ≡ before.sent id
@@ -71,7 +52,7 @@ pub record AreShut (ids : List ℕ) (before after : Told) : Type 0 where
 
 -- The sockets were asked so in a turn: one poll, and after it the sends. Exactly the connections that are shut in this
 -- turn are told to be.
-pub record IsAsked (asked : Asked) (before after : Told) : Type 0 where
+pub record IsAsked (asked : Asked) (before after : PortsTold) : Type 0 where
   pub may_come : All (MayCome asked.paused) asked.events
   pub polled : (polls : List Poll) → before.polls ≡ Some polls → after.polls ≡ Some (polls ++ poll_of asked ∷ [])
   pub sends : (polls : List Poll) (sends : List Send) → before.polls ≡ Some polls → before.sends ≡ Some sends

@@ -1,9 +1,10 @@
 -- The part of a turn that is for hosts, if memory is wanted in it and not given.
 use Rattle.std.specs.Prelude.{◌≡◌, ℕ, ◌⊎◌, List, [], ◌++◌}
-use Rattle.host_ports.specs.AskedPorts.{Told, AreUnasked, IsAsked}
+use Rattle.host_ports.specs.AskedPorts.{AreUnasked, IsAsked}
 use Rattle.host_ports.specs.Hosts.{Hosts}
 use Rattle.host_ports.specs.HostTurns.{Asked, Offering, ArePaused, AreTried, InOrder, IsTaken, IsOffered, IsHostPart}
 use Rattle.host_ports.specs.HostTurns.{ids_of_clients}
+use Rattle.host_ports.specs.Sockets.{PortsTold}
 
 -- It is cut short when it takes what waits and what came: the ports were polled, and nothing is sent.
 pub record IsCutInTaking (asked : Asked) (before reached : Hosts) : Type 0 where
@@ -33,7 +34,7 @@ IsCutPart asked before reached = IsCutInTaking asked before reached ⊎ IsCutInS
     ⊎ IsHostPart asked before reached
 
 -- The ports were asked nothing, or what a part asks that is cut short.
-abbrev pub HasCutPart : Hosts → Told → Told → Type 0
+abbrev pub HasCutPart : Hosts → PortsTold → PortsTold → Type 0
 HasCutPart before told told' =
     AreUnasked told told' ⊎ ((asked : Asked) × (reached : Hosts) × IsCutPart asked before reached
     × IsAsked asked told told')

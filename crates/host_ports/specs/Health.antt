@@ -80,7 +80,7 @@ after_tick busy sent health = record health { busy = more_if busy health.busy; s
 abbrev pub standing_of : Hosts → Standing
 standing_of hosts = record {
   dropped = hosts.station.dropped;
-  hosts = length hosts.lines;
+  hosts = length hosts.clients;
   links = count_of_links hosts.station.links;
 }
 

@@ -1,10 +1,11 @@
 -- What contracts see of sockets: which ports were opened and dialed, what each poll asked and gave, and what each
 -- connection was sent.
-use Rattle.std.specs.Prelude.{⊤, ℕ, ◌<◌, ◌≤◌, ◌==◌, ◌≢◌, Bool, true, false, List, length, All}
+use Rattle.std.specs.Prelude.{⊤, ℕ, ◌<◌, ◌≤◌, ◌==◌, ◌≢◌, Bool, true, false, List, Option, length, All}
 use Rattle.std.specs.List.{list_any}
 use Rattle.station.specs.declared.host_event.HostEvent.{HostEvent}
 use Rattle.station.specs.declared.host_event.HostEvent.TheVariants.{Joined, Bytes, Left}
 use Rattle.host_ports.specs.declared.records.Dial.{Dial}
+use Rattle.host_ports.specs.declared.records.Listen.{Listen}
 
 -- a poll: how many milliseconds it waits, the ids that it pauses, and the events that it gives, of which one that
 -- failed has none
@@ -19,6 +20,21 @@ pub record Send : Type 0 where
   pub polls : ℕ
   pub offered : ℕ
   pub took : ℕ
+
+-- what sockets tell, as far as they do, and how often a call of theirs has failed
+pub record PortsTold : Type 0 where
+  -- the ports of each listen that did not fail
+  pub listens : Option (List Listen)
+  -- the dials that did not fail
+  pub dials : Option (List Dial)
+  pub polls : Option (List Poll)
+  -- the sends that did not fail
+  pub sends : Option (List Send)
+  -- the octets that the connection of an id was sent
+  pub sent : ℕ → Option (List ℕ)
+  -- whether the connection of an id came or was dialed, and was shut
+  pub is_shut : ℕ → Option Bool
+  pub faults : ℕ
 
 -- the connection of an event
 abbrev pub id_of : HostEvent → ℕ

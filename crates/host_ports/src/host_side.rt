@@ -11,7 +11,7 @@ ghost use Rattle.link_machine.specs.declared.fault.NewFault.{NewFault};
 ghost use Rattle.link_machine.specs.Params.{IsRefusedWindow};
 ghost use Rattle.station.specs.Monitored.{modulus_between};
 ghost use Rattle.host_ports.specs.declared.report_line.ReportLine.{ReportLine};
-ghost use Rattle.host_ports.specs.AskedPorts.{IsAsked, taken_of, told_by};
+ghost use Rattle.host_ports.specs.AskedPorts.{IsAsked, taken_of};
 ghost use Rattle.host_ports.specs.CutPart.{HasCutPart};
 ghost use Rattle.host_ports.specs.Health.{standing_of};
 ghost use Rattle.host_ports.specs.HeldHosts.{StandsFor};
@@ -126,15 +126,15 @@ impl HostSide {
             → IfOk result (λ _.
             (asked : Asked) × (next : Hosts) × IsHostPart asked hosts next × StandsFor self.new printed next
             × ((id : ℕ) → octets_for id next.sent ≡ octets_for id hosts.sent ++ taken_of id asked.offers)
-            × IsAsked asked (told_by N.polls N.sends N.sent N.is_shut N.faults ports.old)
-            (told_by N.polls N.sends N.sent N.is_shut N.faults ports.new)) }
+            × IsAsked asked (N.told ports.old)
+            (N.told ports.new)) }
         ensures cut { (hosts : Hosts) (printed : List ReportLine) → StandsFor self.old printed hosts
             → OnErr result (HasCutPart hosts
-            (told_by N.polls N.sends N.sent N.is_shut N.faults ports.old)
-            (told_by N.polls N.sends N.sent N.is_shut N.faults ports.new)) }
-        ensures listens { N.listens ports.new ≡ N.listens ports.old }
-        ensures dials { N.dials ports.new ≡ N.dials ports.old }
-        ensures later { N.faults ports.old ≤ N.faults ports.new }
+            (N.told ports.old)
+            (N.told ports.new)) }
+        ensures listens { (N.told ports.new).listens ≡ (N.told ports.old).listens }
+        ensures dials { (N.told ports.new).dials ≡ (N.told ports.old).dials }
+        ensures later { (N.told ports.old).faults ≤ (N.told ports.new).faults }
         ensures spent { OnErr result (self.new.spent ≡ true) }
         ensures stays_spent { self.old.spent ≡ true → IsErr result }
     {
@@ -210,15 +210,15 @@ fn polled<R: Net, N: Ports>(
     paused: &[u32],
 ) -> Result<Vec<HostEvent>, OutOfMemory>
     ensures events { IfOk result (λ events. All (MayCome paused.now) events.items) }
-    ensures polled { (before : List Poll) → N.polls ports.old ≡ Some before → IfOk result (λ events. N.polls ports.new
+    ensures polled { (before : List Poll) → (N.told ports.old).polls ≡ Some before → IfOk result (λ events. (N.told ports.new).polls
         ≡ Some (before ++ (record { wait = 10; paused = paused.now; events = events.items }) ∷ [])) }
-    ensures unpolled { OnErr result (N.polls ports.new ≡ N.polls ports.old) }
-    ensures listens { N.listens ports.new ≡ N.listens ports.old }
-    ensures dials { N.dials ports.new ≡ N.dials ports.old }
-    ensures shut { (id : ℕ) → N.is_shut ports.new id ≡ N.is_shut ports.old id }
-    ensures sent { (id : ℕ) → N.sent ports.new id ≡ N.sent ports.old id }
-    ensures sends { N.sends ports.new ≡ N.sends ports.old }
-    ensures later { N.faults ports.old ≤ N.faults ports.new }
+    ensures unpolled { OnErr result ((N.told ports.new).polls ≡ (N.told ports.old).polls) }
+    ensures listens { (N.told ports.new).listens ≡ (N.told ports.old).listens }
+    ensures dials { (N.told ports.new).dials ≡ (N.told ports.old).dials }
+    ensures shut { (id : ℕ) → (N.told ports.new).is_shut id ≡ (N.told ports.old).is_shut id }
+    ensures sent { (id : ℕ) → (N.told ports.new).sent id ≡ (N.told ports.old).sent id }
+    ensures sends { (N.told ports.new).sends ≡ (N.told ports.old).sends }
+    ensures later { (N.told ports.old).faults ≤ (N.told ports.new).faults }
 {
     match ports.poll(rt, WAIT, paused) {
         Ok(events) => Ok(events),

@@ -242,19 +242,15 @@ impl MemPorts {
 }
 
 impl Ports for MemPorts {
-    ghost listens = { λ s. Some s.listens };
-
-    ghost dials = { λ s. Some s.dials };
-
-    ghost polls = { λ s. Some s.polls };
-
-    ghost is_shut = { λ s id. Some (was_shut s.came id) };
-
-    ghost sent = { λ s id. Some (sent_to id s.sends) };
-
-    ghost sends = { λ s. Some (map as_told s.sends) };
-
-    ghost faults = { λ s. s.faults };
+    ghost told = { λ s. record {
+      listens = Some s.listens;
+      dials = Some s.dials;
+      polls = Some s.polls;
+      sends = Some (map as_told s.sends);
+      sent = λ id. Some (sent_to id s.sends);
+      is_shut = λ id. Some (was_shut s.came id);
+      faults = s.faults;
+    } };
 
     fn listen<R: Net>(&mut self, _rt: &R, at: Listen) -> Result<(), Failed>
         ensures fails { Contains self.old.failing self.old.calls → IsErr result }

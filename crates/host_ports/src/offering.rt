@@ -1,7 +1,8 @@
 //! What is sent to connections in a turn: each is offered the rest of one piece.
 ghost use Rattle.std.specs.Prelude.{◌≡◌, ◌≤◌, ℕ, List, [], ◌++◌, IfOk, OnOk, OnErr};
 ghost use Rattle.host_ports.specs.declared.report_line.ReportLine.{ReportLine};
-ghost use Rattle.host_ports.specs.AskedPorts.{Told, AreOffered, AreShut, told_by};
+ghost use Rattle.host_ports.specs.AskedPorts.{AreOffered, AreShut};
+ghost use Rattle.host_ports.specs.Sockets.{PortsTold};
 ghost use Rattle.host_ports.specs.HeldHosts.{AreParts, IsAtRest};
 ghost use Rattle.host_ports.specs.Hosts.{Hosts};
 ghost use Rattle.host_ports.specs.HostTurns.{Offer, Offering, IsOffered, InOrder, ids_of_clients};
@@ -27,17 +28,17 @@ impl HostParts {
             → OnOk result ((next : Offering)
             × InOrder IsOffered (ids_of_clients hosts.clients) (record { hosts = hosts; offers = []; failed = [] }) next
             × AreParts self.new printed next.hosts
-            × AreOffered next.offers next.failed (told_by N.polls N.sends N.sent N.is_shut N.faults ports.old)
-            (told_by N.polls N.sends N.sent N.is_shut N.faults ports.new)) }
+            × AreOffered next.offers next.failed (N.told ports.old)
+            (N.told ports.new)) }
         ensures cut { (printed : List ReportLine) (hosts : Hosts) → AreParts self.old printed hosts
             → OnErr result ((first others : List ℕ) × (next : Offering) × (ids_of_clients hosts.clients ≡ first ++ others)
             × InOrder IsOffered first (record { hosts = hosts; offers = []; failed = [] }) next
-            × AreOffered next.offers next.failed (told_by N.polls N.sends N.sent N.is_shut N.faults ports.old)
-            (told_by N.polls N.sends N.sent N.is_shut N.faults ports.new)) }
+            × AreOffered next.offers next.failed (N.told ports.old)
+            (N.told ports.new)) }
         ensures rest { OnOk result (IsAtRest self.new) }
-        ensures listens { N.listens ports.new ≡ N.listens ports.old }
-        ensures dials { N.dials ports.new ≡ N.dials ports.old }
-        ensures later { N.faults ports.old ≤ N.faults ports.new }
+        ensures listens { (N.told ports.new).listens ≡ (N.told ports.old).listens }
+        ensures dials { (N.told ports.new).dials ≡ (N.told ports.old).dials }
+        ensures later { (N.told ports.old).faults ≤ (N.told ports.new).faults }
     {
         let ids = self.ids(alloc)?;
         for id in &ids {
@@ -66,19 +67,19 @@ impl HostParts {
         id: u32,
     ) -> Result<(), OutOfMemory>
         requires rest { IsAtRest self.old }
-        ensures offers { (printed : List ReportLine) (before : Offering) (start : Told)
+        ensures offers { (printed : List ReportLine) (before : Offering) (start : PortsTold)
             → AreParts self.old printed before.hosts
-            → AreOffered before.offers before.failed start (told_by N.polls N.sends N.sent N.is_shut N.faults ports.old)
+            → AreOffered before.offers before.failed start (N.told ports.old)
             → OnOk result ((next : Offering) × IsOffered id before next × AreParts self.new printed next.hosts
-            × AreOffered next.offers next.failed start (told_by N.polls N.sends N.sent N.is_shut N.faults ports.new)) }
-        ensures cut { (offers : List Offer) (failing : List ℕ) (start : Told)
-            → AreOffered offers failing start (told_by N.polls N.sends N.sent N.is_shut N.faults ports.old)
+            × AreOffered next.offers next.failed start (N.told ports.new)) }
+        ensures cut { (offers : List Offer) (failing : List ℕ) (start : PortsTold)
+            → AreOffered offers failing start (N.told ports.old)
             → OnErr result (AreOffered offers failing start
-            (told_by N.polls N.sends N.sent N.is_shut N.faults ports.new)) }
+            (N.told ports.new)) }
         ensures rest { OnOk result (IsAtRest self.new) }
-        ensures listens { N.listens ports.new ≡ N.listens ports.old }
-        ensures dials { N.dials ports.new ≡ N.dials ports.old }
-        ensures later { N.faults ports.old ≤ N.faults ports.new }
+        ensures listens { (N.told ports.new).listens ≡ (N.told ports.old).listens }
+        ensures dials { (N.told ports.new).dials ≡ (N.told ports.old).dials }
+        ensures later { (N.told ports.old).faults ≤ (N.told ports.new).faults }
     {
         let Some(at) = place_of(id, &self.clients) else {
             return Ok(());
@@ -97,11 +98,11 @@ impl HostParts {
     pub(crate) fn shut_all<N: Ports>(&mut self, ports: &mut N)
         ensures parts { (printed : List ReportLine) (hosts : Hosts) → AreParts self.old printed hosts
             → AreParts self.new printed (record hosts { to_shut = [] }) }
-        ensures shut { AreShut self.old.to_shut.items (told_by N.polls N.sends N.sent N.is_shut N.faults ports.old)
-            (told_by N.polls N.sends N.sent N.is_shut N.faults ports.new) }
+        ensures shut { AreShut self.old.to_shut.items (N.told ports.old)
+            (N.told ports.new) }
         ensures rest { IsAtRest self.old → IsAtRest self.new }
-        ensures listens { N.listens ports.new ≡ N.listens ports.old }
-        ensures dials { N.dials ports.new ≡ N.dials ports.old }
+        ensures listens { (N.told ports.new).listens ≡ (N.told ports.old).listens }
+        ensures dials { (N.told ports.new).dials ≡ (N.told ports.old).dials }
     {
         tell_shut(&self.to_shut, ports);
         self.to_shut.clear();
@@ -109,10 +110,10 @@ impl HostParts {
 }
 
 fn tell_shut<N: Ports>(ids: &[u32], ports: &mut N)
-    ensures shut { AreShut ids.now (told_by N.polls N.sends N.sent N.is_shut N.faults ports.old)
-        (told_by N.polls N.sends N.sent N.is_shut N.faults ports.new) }
-    ensures listens { N.listens ports.new ≡ N.listens ports.old }
-    ensures dials { N.dials ports.new ≡ N.dials ports.old }
+    ensures shut { AreShut ids.now (N.told ports.old)
+        (N.told ports.new) }
+    ensures listens { (N.told ports.new).listens ≡ (N.told ports.old).listens }
+    ensures dials { (N.told ports.new).dials ≡ (N.told ports.old).dials }
 {
     for id in ids {
         ports.shut(*id);

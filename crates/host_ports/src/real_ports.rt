@@ -47,7 +47,7 @@ pub struct RealPorts {
 impl RealPorts {
     /// Sockets of which none is open.
     pub fn new(alloc: Global) -> RealPorts
-        ensures { ⟦<RealPorts as Ports>⟧.faults result ≡ 0 }
+        ensures { (⟦<RealPorts as Ports>⟧.told result).faults ≡ 0 }
     {
         RealPorts {
             alloc,
@@ -100,19 +100,15 @@ impl RealPorts {
 }
 
 impl Ports for RealPorts {
-    ghost listens = { λ _. None };
-
-    ghost dials = { λ _. None };
-
-    ghost polls = { λ _. None };
-
-    ghost is_shut = { λ _ _. None };
-
-    ghost sent = { λ _ _. None };
-
-    ghost sends = { λ _. None };
-
-    ghost faults = { λ s. s.faults };
+    ghost told = { λ s. record {
+      listens = None;
+      dials = None;
+      polls = None;
+      sends = None;
+      sent = λ _. None;
+      is_shut = λ _. None;
+      faults = s.faults;
+    } };
 
     fn listen<R: Net>(&mut self, rt: &R, at: Listen) -> Result<(), Failed> {
         match self.open(rt, at) {

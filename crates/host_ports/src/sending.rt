@@ -53,24 +53,24 @@ pub fn offer<R: Net, N: Ports>(
     ensures rest { IfOk result (λ count. (count ≤ length (front_of waiting.old))
         × (waiting.new ≡ after_sending count waiting.old)) }
     ensures kept { OnErr result (waiting.new ≡ waiting.old) }
-    ensures sent { (before : List ℕ) → N.sent ports.old id ≡ Some before
-        → IfOk result (λ count. N.sent ports.new id ≡ Some (before ++ take count (front_of waiting.old))) }
-    ensures others { (other : ℕ) → other ≢ id → N.sent ports.new other ≡ N.sent ports.old other }
-    ensures told { (polled : List Poll) (before : List Send) → N.polls ports.old ≡ Some polled
-        → N.sends ports.old ≡ Some before → IfOk result (λ count. N.sends ports.new ≡ Some (before ++ (record {
+    ensures sent { (before : List ℕ) → (N.told ports.old).sent id ≡ Some before
+        → IfOk result (λ count. (N.told ports.new).sent id ≡ Some (before ++ take count (front_of waiting.old))) }
+    ensures others { (other : ℕ) → other ≢ id → (N.told ports.new).sent other ≡ (N.told ports.old).sent other }
+    ensures told { (polled : List Poll) (before : List Send) → (N.told ports.old).polls ≡ Some polled
+        → (N.told ports.old).sends ≡ Some before → IfOk result (λ count. (N.told ports.new).sends ≡ Some (before ++ (record {
           id = id;
           polls = length polled;
           offered = length (front_of waiting.old);
           took = count;
         }) ∷ [])) }
-    ensures refused { OnErr result ((N.sent ports.new id ≡ N.sent ports.old id)
-        × (N.sends ports.new ≡ N.sends ports.old)) }
-    ensures listens { N.listens ports.new ≡ N.listens ports.old }
-    ensures dials { N.dials ports.new ≡ N.dials ports.old }
-    ensures polls { N.polls ports.new ≡ N.polls ports.old }
-    ensures shut { (other : ℕ) → N.is_shut ports.new other ≡ N.is_shut ports.old other }
-    ensures later { N.faults ports.old ≤ N.faults ports.new }
-    ensures failed { IsErrOf result OfferFault.Failed → HasRisen (N.faults ports.old) (N.faults ports.new) }
+    ensures refused { OnErr result (((N.told ports.new).sent id ≡ (N.told ports.old).sent id)
+        × ((N.told ports.new).sends ≡ (N.told ports.old).sends)) }
+    ensures listens { (N.told ports.new).listens ≡ (N.told ports.old).listens }
+    ensures dials { (N.told ports.new).dials ≡ (N.told ports.old).dials }
+    ensures polls { (N.told ports.new).polls ≡ (N.told ports.old).polls }
+    ensures shut { (other : ℕ) → (N.told ports.new).is_shut other ≡ (N.told ports.old).is_shut other }
+    ensures later { (N.told ports.old).faults ≤ (N.told ports.new).faults }
+    ensures failed { IsErrOf result OfferFault.Failed → HasRisen (N.told ports.old).faults (N.told ports.new).faults }
 {
     let count = send_front(rt, alloc, ports, id, waiting)?;
     waiting.advance(count);
@@ -86,24 +86,24 @@ fn send_front<R: Net, N: Ports>(
     waiting: &Outgoing,
 ) -> Result<usize, OfferFault>
     ensures bound { IfOk result (λ count. count ≤ length (front_of waiting.now)) }
-    ensures sent { (before : List ℕ) → N.sent ports.old id ≡ Some before
-        → IfOk result (λ count. N.sent ports.new id ≡ Some (before ++ take count (front_of waiting.now))) }
-    ensures others { (other : ℕ) → other ≢ id → N.sent ports.new other ≡ N.sent ports.old other }
-    ensures told { (polled : List Poll) (before : List Send) → N.polls ports.old ≡ Some polled
-        → N.sends ports.old ≡ Some before → IfOk result (λ count. N.sends ports.new ≡ Some (before ++ (record {
+    ensures sent { (before : List ℕ) → (N.told ports.old).sent id ≡ Some before
+        → IfOk result (λ count. (N.told ports.new).sent id ≡ Some (before ++ take count (front_of waiting.now))) }
+    ensures others { (other : ℕ) → other ≢ id → (N.told ports.new).sent other ≡ (N.told ports.old).sent other }
+    ensures told { (polled : List Poll) (before : List Send) → (N.told ports.old).polls ≡ Some polled
+        → (N.told ports.old).sends ≡ Some before → IfOk result (λ count. (N.told ports.new).sends ≡ Some (before ++ (record {
           id = id;
           polls = length polled;
           offered = length (front_of waiting.now);
           took = count;
         }) ∷ [])) }
-    ensures refused { OnErr result ((N.sent ports.new id ≡ N.sent ports.old id)
-        × (N.sends ports.new ≡ N.sends ports.old)) }
-    ensures listens { N.listens ports.new ≡ N.listens ports.old }
-    ensures dials { N.dials ports.new ≡ N.dials ports.old }
-    ensures polls { N.polls ports.new ≡ N.polls ports.old }
-    ensures shut { (other : ℕ) → N.is_shut ports.new other ≡ N.is_shut ports.old other }
-    ensures later { N.faults ports.old ≤ N.faults ports.new }
-    ensures failed { IsErrOf result OfferFault.Failed → HasRisen (N.faults ports.old) (N.faults ports.new) }
+    ensures refused { OnErr result (((N.told ports.new).sent id ≡ (N.told ports.old).sent id)
+        × ((N.told ports.new).sends ≡ (N.told ports.old).sends)) }
+    ensures listens { (N.told ports.new).listens ≡ (N.told ports.old).listens }
+    ensures dials { (N.told ports.new).dials ≡ (N.told ports.old).dials }
+    ensures polls { (N.told ports.new).polls ≡ (N.told ports.old).polls }
+    ensures shut { (other : ℕ) → (N.told ports.new).is_shut other ≡ (N.told ports.old).is_shut other }
+    ensures later { (N.told ports.old).faults ≤ (N.told ports.new).faults }
+    ensures failed { IsErrOf result OfferFault.Failed → HasRisen (N.told ports.old).faults (N.told ports.new).faults }
 {
     let (first, second) = waiting.front();
     if second.is_empty() {

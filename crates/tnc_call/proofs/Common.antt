@@ -21,8 +21,8 @@ pub use Rattle.tnc_base.specs.Streams.{WrotePart}
 pub use Rattle.tnc_call.specs.CallEnding.{HasCalled, HasLeft, HasSendFailed, IsCalled, IsEnded, IsPartPrinted, count_of}
 pub use Rattle.tnc_call.specs.CallEnding.{plan_of}
 pub use Rattle.tnc_call.specs.CallInput.{text_limit}
-pub use Rattle.tnc_call.specs.CallTrace.{CallPorts, CallTrace, IsAlike, IsTraced, event_octets, events_in, no_trace}
-pub use Rattle.tnc_call.specs.CallTrace.{octets_in, octets_of, ports_by}
+pub use Rattle.tnc_call.specs.CallTrace.{CallTrace, IsAlike, IsTraced, event_octets, events_in, no_trace}
+pub use Rattle.tnc_call.specs.CallTrace.{octets_in, octets_of}
 pub use Rattle.tnc_call.specs.HeldTalk.{GoesOn, HasBegun, HasOffered, HasTalked, IsRunning, Stops, StopsBy}
 pub use Rattle.tnc_call.specs.declared.call_end.CallEnd.{CallEnd}
 pub use Rattle.tnc_call.specs.declared.call_end.CallEnd.TheVariants.{Broken, Done, GaveUp, HostLost, Memory, NoHost}
@@ -30,5 +30,5 @@ pub use Rattle.tnc_call.specs.declared.call_end.CallEnd.TheVariants.{ReadFault, 
 pub use Rattle.tnc_call.specs.declared.call_words.CallWords.{CallWords}
 pub use Rattle.tnc_call.specs.declared.talk.Talk.{Talk}
 pub use Rattle.tnc_ports.specs.SampledRun.{GrowsBy}
-pub use Rattle.host_ports.specs.Sockets.{Poll}
+pub use Rattle.host_ports.specs.Sockets.{Poll, PortsTold}
 pub use Rattle.host_ports.specs.declared.records.Dial.{Dial}

@@ -4,7 +4,7 @@ use Rattle.tnc_call.proofs.Common.{sym, inl, inr, arith, Option, Some, false, le
 use Rattle.tnc_call.proofs.Common.{HostEvent, Left, Dial, Poll, CallState, Asking, Calling, Up, CallPlan, is_over}
 use Rattle.tnc_call.proofs.Common.{state_after, printed_after, CallWords, CallEnd, Done, TooLong, Memory, ReadFault}
 use Rattle.tnc_call.proofs.Common.{WriteFault, NoHost, Refused, HostLost, Broken, GaveUp, HasCalled, HasLeft}
-use Rattle.tnc_call.proofs.Common.{HasSendFailed, IsCalled, IsEnded, count_of, plan_of, CallPorts, CallTrace, events_in}
+use Rattle.tnc_call.proofs.Common.{HasSendFailed, IsCalled, IsEnded, count_of, plan_of, PortsTold, CallTrace, events_in}
 use Rattle.tnc_call.proofs.Common.{octets_in}
 use Rattle.std.proofs.lemmas.List.{append_cancel_left}
 use Rattle.agwpe_client.specs.declared.call_state.CallState.TheVariants.{Done as DoneState, Refused as RefusedState}
@@ -36,7 +36,7 @@ gives_up DoneState got most going = absurd cc
 gives_up RefusedState got most going = absurd cc
 gives_up (BrokenState len) got most going = absurd cc
 
-module _ (words : CallWords) (text before : List ℕ) (written : Option (List ℕ)) (start now : CallPorts) (id : ℕ)
+module _ (words : CallWords) (text before : List ℕ) (written : Option (List ℕ)) (start now : PortsTold) (id : ℕ)
     (polls : List Poll) where
   abbrev plan : CallPlan
   plan = plan_of words text

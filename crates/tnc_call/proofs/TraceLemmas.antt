@@ -2,7 +2,7 @@
 use Rattle.tnc_call.proofs.Common.{◌≡◌, ◌≢◌, ℕ, ◌+◌, ◌<◌, ◌≤◌, ◌⊎◌, eqb, Bool, true, false, List, [], ◌∷◌, ◌++◌, All}
 use Rattle.tnc_call.proofs.Common.{length, take, drop, get_or, refl, ap, subst, ◌∙◌, sym, inl, inr, arith, append_assoc}
 use Rattle.tnc_call.proofs.Common.{append-nil, length-append, Some, get_or-append_seam, eq-eqb, flat_map-append}
-use Rattle.tnc_call.proofs.Common.{length_push, All-push, GrowsBy, Poll, CallPlan, sent_after, CallPorts, CallTrace}
+use Rattle.tnc_call.proofs.Common.{length_push, All-push, GrowsBy, Poll, CallPlan, sent_after, PortsTold, CallTrace}
 use Rattle.tnc_call.proofs.Common.{IsTraced, IsAlike, octets_in, octets_of, events_in, event_octets}
 use Rattle.std.proofs.Common.{suc, leb, cond, map}
 use Rattle.std.specs.Prelude.{Any, filter}
@@ -83,14 +83,14 @@ sends_of_offer id polls more offered took = by_test (eqb offered 0)
     by_test false = refl
 
 -- the sockets tell of the offer
-pub record IsOfferTold (id polls offered taken took : ℕ) (octets : List ℕ) (before after : CallPorts) : Type 0 where
+pub record IsOfferTold (id polls offered taken took : ℕ) (octets : List ℕ) (before after : PortsTold) : Type 0 where
   pub same : after.polls ≡ before.polls
   pub sends : (polled : List Poll) (was : List Send) → before.polls ≡ Some polled → before.sends ≡ Some was
       → after.sends ≡ Some (was ++ sends_of id (length polled) offered took)
   pub sent : (was : List ℕ) → before.sent id ≡ Some was → after.sent id ≡ Some (was ++ take took (drop taken octets))
   pub others : (other : ℕ) → other ≢ id → after.sent other ≡ before.sent other
 
-pub traced_offer : (id : ℕ) (octets : List ℕ) (trace : CallTrace) (start before after : CallPorts)
+pub traced_offer : (id : ℕ) (octets : List ℕ) (trace : CallTrace) (start before after : PortsTold)
     (offered taken took : ℕ) → IsTraced id octets trace start before → taken ≡ count_taken trace.offers
     → took ≤ offered → taken + took ≤ length octets
     → IsOfferTold id (length trace.polls) offered taken took octets before after
@@ -122,7 +122,7 @@ traced_offer id octets trace start before after offered taken took traced is fit
 
 -- ---- one poll more
 
-pub traced_poll : (id : ℕ) (octets : List ℕ) (trace : CallTrace) (poll : Poll) (start before after : CallPorts)
+pub traced_poll : (id : ℕ) (octets : List ℕ) (trace : CallTrace) (poll : Poll) (start before after : PortsTold)
     → IsTraced id octets trace start before → GrowsBy (poll ∷ []) before.polls after.polls
     → after.sends ≡ before.sends → ((other : ℕ) → after.sent other ≡ before.sent other)
     → IsTraced id octets (with_poll poll trace) start after
@@ -136,7 +136,7 @@ traced_poll id octets trace poll start before after traced polls sends sent = re
 }
 
 -- nothing more is told
-pub traced_same : (id : ℕ) (octets : List ℕ) (trace : CallTrace) (start before after : CallPorts)
+pub traced_same : (id : ℕ) (octets : List ℕ) (trace : CallTrace) (start before after : PortsTold)
     → IsTraced id octets trace start before → after.polls ≡ before.polls → after.sends ≡ before.sends
     → ((other : ℕ) → after.sent other ≡ before.sent other) → IsTraced id octets trace start after
 traced_same id octets trace start before after traced polls sends sent = record {
@@ -148,7 +148,7 @@ traced_same id octets trace start before after traced polls sends sent = record 
 }
 
 -- more is to be sent
-pub traced_more : (id : ℕ) (octets more : List ℕ) (trace : CallTrace) (start now : CallPorts)
+pub traced_more : (id : ℕ) (octets more : List ℕ) (trace : CallTrace) (start now : PortsTold)
     → IsTraced id octets trace start now → IsTraced id (octets ++ more) trace start now
 traced_more id octets more trace start now traced = record {
   polls = traced.polls;
@@ -159,7 +159,7 @@ traced_more id octets more trace start now traced = record {
   others = traced.others;
 }
 
-pub alike_on : (first second third : CallPorts) → IsAlike first second → IsAlike second third → IsAlike first third
+pub alike_on : (first second third : PortsTold) → IsAlike first second → IsAlike second third → IsAlike first third
 alike_on first second third one two = record {
   listens = two.listens ∙ one.listens;
   dials = two.dials ∙ one.dials;

@@ -4,7 +4,7 @@ use Rattle.tnc_call.proofs.Common.{inl, inr, arith, append_assoc, append-nil, Op
 use Rattle.tnc_call.proofs.Common.{flat_map-append, length_push, All-push, HasRisen, HostEvent, Left, GrowsBy, Poll}
 use Rattle.tnc_call.proofs.Common.{CallPlan, call_run, is_over, state_after, sent_after, Grows, run_grows, Talk}
 use Rattle.tnc_call.proofs.Common.{CallEnd, Done, TooLong, Memory, ReadFault, WriteFault, NoHost, Refused, HostLost}
-use Rattle.tnc_call.proofs.Common.{Broken, GaveUp, IsEnded, IsPartPrinted, CallPorts, CallTrace, IsTraced, IsAlike}
+use Rattle.tnc_call.proofs.Common.{Broken, GaveUp, IsEnded, IsPartPrinted, PortsTold, CallTrace, IsTraced, IsAlike}
 use Rattle.tnc_call.proofs.Common.{octets_of, octets_in, events_in, HasBegun, GoesOn, Stops, StopsBy, IsRunning}
 use Rattle.tnc_call.proofs.Common.{HasOffered, HasTalked, count_of, no_trace, CallRun}
 use Rattle.tnc_call.specs.CallTrace.{IsCallPoll}
@@ -20,9 +20,9 @@ use Rattle.tnc_call.proofs.TraceLemmas.{early_again, offered_now, always_with_po
 abbrev pub with_taken : ℕ → Talk → Talk
 with_taken taken talk = record talk { taken = taken }
 
-module _ (talk : Talk) (plan : CallPlan) (id : ℕ) (before : List ℕ) (written : Option (List ℕ)) (start old : CallPorts)
+module _ (talk : Talk) (plan : CallPlan) (id : ℕ) (before : List ℕ) (written : Option (List ℕ)) (start old : PortsTold)
     (trace : CallTrace) (running : IsRunning talk plan id before written start old trace) where
-  pub has_offered : (taken : ℕ) (now : CallPorts) → talk.taken ≤ taken → taken ≤ length talk.sent.items
+  pub has_offered : (taken : ℕ) (now : PortsTold) → talk.taken ≤ taken → taken ≤ length talk.sent.items
       → talk.taken ≤ length talk.sent.items
       → IsOfferTold id (length trace.polls) (length talk.sent.items - talk.taken) talk.taken (taken - talk.taken)
       talk.sent.items old now
@@ -56,7 +56,7 @@ module _ (talk : Talk) (plan : CallPlan) (id : ℕ) (before : List ℕ) (written
   rose : (a b c : ℕ) → a ≤ b → HasRisen b c → HasRisen a c
   rose a b c le risen = omega arith
 
-  pub send_failed : (now : CallPorts) → now.polls ≡ old.polls → now.sends ≡ old.sends
+  pub send_failed : (now : PortsTold) → now.polls ≡ old.polls → now.sends ≡ old.sends
       → ((other : ℕ) → now.sent other ≡ old.sent other) → IsAlike old now → HasRisen old.faults now.faults
       → talk.taken ≢ length talk.sent.items → talk.taken ≤ length talk.sent.items
       → HasStopped plan id before written start now (length trace.polls) HostLost
@@ -81,7 +81,7 @@ module _ (talk : Talk) (plan : CallPlan) (id : ℕ) (before : List ℕ) (written
 
 -- ---- the poll
 
-module _ (talk : Talk) (plan : CallPlan) (id : ℕ) (before : List ℕ) (start old : CallPorts) (trace : CallTrace)
+module _ (talk : Talk) (plan : CallPlan) (id : ℕ) (before : List ℕ) (start old : PortsTold) (trace : CallTrace)
     (written : Option (List ℕ)) (offered : HasOffered talk plan id before written start old trace) where
   abbrev host : List ℕ
   host = octets_in id trace.polls
@@ -100,7 +100,7 @@ module _ (talk : Talk) (plan : CallPlan) (id : ℕ) (before : List ℕ) (start o
       ∙ ap (λ xs. sent_after plan xs) (sym whole))
       (traced_more id talk.sent.items grows.more_sent trace start old traced)
 
-  module _ (poll : Poll) (quiet : IsCallPoll poll) (now : CallPorts) (polls : GrowsBy (poll ∷ []) old.polls now.polls)
+  module _ (poll : Poll) (quiet : IsCallPoll poll) (now : PortsTold) (polls : GrowsBy (poll ∷ []) old.polls now.polls)
       (sends : now.sends ≡ old.sends) (sent : (other : ℕ) → now.sent other ≡ old.sent other) (alike : IsAlike old now)
     where
       abbrev next : CallTrace
@@ -183,7 +183,7 @@ module _ (talk : Talk) (plan : CallPlan) (id : ℕ) (before : List ℕ) (start o
       turn_goes heard output (Some end) kept stops = turn_stops output end stops
 
   -- no memory for the events
-  pub no_memory : (now : CallPorts) → now.polls ≡ old.polls → now.sends ≡ old.sends
+  pub no_memory : (now : PortsTold) → now.polls ≡ old.polls → now.sends ≡ old.sends
       → ((other : ℕ) → now.sent other ≡ old.sent other) → IsAlike old now
       → HasStopped plan id before written start now (length trace.polls) Memory
   no_memory now polls sends sent alike = record {
@@ -201,7 +201,7 @@ module _ (talk : Talk) (plan : CallPlan) (id : ℕ) (before : List ℕ) (start o
 
 -- before the first turn
 pub running_begins : (talk : Talk) (plan : CallPlan) (id : ℕ) (before : List ℕ) (written : Option (List ℕ))
-    (start : CallPorts) → HasBegun plan talk → written ≡ Some before
+    (start : PortsTold) → HasBegun plan talk → written ≡ Some before
     → IsRunning talk plan id before written start start no_trace
 running_begins talk plan id before written start begun is = record {
   goes_on = record {
@@ -227,7 +227,7 @@ running_begins talk plan id before written start begun is = record {
 }
 
 -- the call ends in a turn
-pub talked : (plan : CallPlan) (most id : ℕ) (before : List ℕ) (written : Option (List ℕ)) (start now : CallPorts)
+pub talked : (plan : CallPlan) (most id : ℕ) (before : List ℕ) (written : Option (List ℕ)) (start now : PortsTold)
     (made : ℕ) (end : CallEnd) → made < most → HasStopped plan id before written start now made end
     → HasTalked plan most id before written start now end
 talked plan most id before written start now made end fits stopped = record {
@@ -242,7 +242,7 @@ talked plan most id before written start now made end fits stopped = record {
 
 -- it does not end in so many turns
 pub gave_up : (talk : Talk) (plan : CallPlan) (most id : ℕ) (before : List ℕ) (written : Option (List ℕ))
-    (start now : CallPorts) (trace : CallTrace) → length trace.polls ≡ most
+    (start now : PortsTold) (trace : CallTrace) → length trace.polls ≡ most
     → IsRunning talk plan id before written start now trace
     → HasTalked plan most id before written start now (GaveUp most)
 gave_up talk plan most id before written start now trace count running = record {

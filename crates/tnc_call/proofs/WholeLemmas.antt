@@ -3,14 +3,14 @@ use Rattle.tnc_call.proofs.Common.{◌≡◌, ◌≢◌, ℕ, ◌≤◌, ◌⊎�
 use Rattle.tnc_call.proofs.Common.{◌∙◌, inl, inr, arith, Option, Some, eq-eqb, HasRisen, Dial, GrowsBy, CallPlan}
 use Rattle.tnc_call.proofs.Common.{CallWords, CallEnd, Done, TooLong, Memory, ReadFault, WriteFault, NoHost, Refused}
 use Rattle.tnc_call.proofs.Common.{HostLost, Broken, GaveUp, text_limit, IsEnded, HasLeft, HasSendFailed, HasCalled}
-use Rattle.tnc_call.proofs.Common.{IsCalled, plan_of, CallPorts, CallTrace, events_in, HasTalked}
+use Rattle.tnc_call.proofs.Common.{IsCalled, plan_of, PortsTold, CallTrace, events_in, HasTalked}
 use Rattle.std.proofs.Common.{◌||◌}
 use Rattle.std.proofs.lemmas.List.Folds.{list_any-append}
 use Rattle.host_ports.specs.Sockets.{has_dialed}
 use Rattle.tnc_call.specs.CallInput.{IsTalkEnd}
 
 -- what a dial leaves as it was, and what a shut does
-pub record IsUntouched (before after : CallPorts) : Type 0 where
+pub record IsUntouched (before after : PortsTold) : Type 0 where
   pub polls : after.polls ≡ before.polls
   pub sends : after.sends ≡ before.sends
   pub sent : (id : ℕ) → after.sent id ≡ before.sent id
@@ -55,7 +55,7 @@ dialed_last id port dials =
     ∙ or_true (has_dialed id dials) (has_dialed id ((record { port = port; id = id }) ∷ []))
     (or_left (eqb id id) _ (eq-eqb id id refl))
 
-module _ (words : CallWords) (text before : List ℕ) (written : Option (List ℕ)) (start dialed polled now : CallPorts)
+module _ (words : CallWords) (text before : List ℕ) (written : Option (List ℕ)) (start dialed polled now : PortsTold)
     (id : ℕ) (end : CallEnd) (fits : length text ≤ text_limit)
     (dials : GrowsBy ((record { port = words.agw; id = id }) ∷ []) start.dials dialed.dials)
     (dial : IsUntouched start dialed) (dial_shut : (other : ℕ) → dialed.is_shut other ≡ start.is_shut other)

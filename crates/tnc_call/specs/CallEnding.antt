@@ -16,7 +16,8 @@ use Rattle.tnc_call.specs.declared.call_end.CallEnd.{CallEnd}
 use Rattle.tnc_call.specs.declared.call_end.CallEnd.TheVariants.{Done, TooLong, Memory, ReadFault, WriteFault, NoHost}
 use Rattle.tnc_call.specs.declared.call_end.CallEnd.TheVariants.{Refused, HostLost, Broken, GaveUp}
 use Rattle.tnc_call.specs.CallInput.{text_limit}
-use Rattle.tnc_call.specs.CallTrace.{CallPorts, CallTrace, IsTraced, IsAlike, IsAlwaysOffered, IsCallPoll}
+use Rattle.host_ports.specs.Sockets.{PortsTold}
+use Rattle.tnc_call.specs.CallTrace.{CallTrace, IsTraced, IsAlike, IsAlwaysOffered, IsCallPoll}
 use Rattle.tnc_call.specs.CallTrace.{octets_of, octets_in, events_in, count_taken}
 
 -- ---- what is printed
@@ -87,7 +88,7 @@ plan_of words text = call_plan words.own words.remote words.via.items text words
 -- The port of the words is dialed, once. Each poll waits up to 100 ms and pauses nobody, and before it nothing waits
 -- that the host would have taken. What the host took is the first of what is to be sent to it. In the end its
 -- connection is shut, and no other one.
-pub record HasCalled (words : CallWords) (text before : List ℕ) (written : Option (List ℕ)) (start now : CallPorts)
+pub record HasCalled (words : CallWords) (text before : List ℕ) (written : Option (List ℕ)) (start now : PortsTold)
     (end : CallEnd) : Type 0 where
   pub fits : length text ≤ text_limit
   pub id : ℕ
@@ -104,11 +105,11 @@ pub record HasCalled (words : CallWords) (text before : List ℕ) (written : Opt
   pub listens : now.listens ≡ start.listens
 
 -- nothing was done
-abbrev pub IsUncalled : List ℕ → Option (List ℕ) → CallPorts → CallPorts → Type 0
+abbrev pub IsUncalled : List ℕ → Option (List ℕ) → PortsTold → PortsTold → Type 0
 IsUncalled before written start now = (written ≡ Some before) × (now ≡ start)
 
 -- the port could not be dialed, and nothing else was done
-pub record HasNoHost (text before : List ℕ) (written : Option (List ℕ)) (start now : CallPorts) : Type 0 where
+pub record HasNoHost (text before : List ℕ) (written : Option (List ℕ)) (start now : PortsTold) : Type 0 where
   pub fits : length text ≤ text_limit
   pub is_written : written ≡ Some before
   pub failed : HasRisen start.faults now.faults
@@ -118,7 +119,7 @@ pub record HasNoHost (text before : List ℕ) (written : Option (List ℕ)) (sta
   pub sent : (id : ℕ) → now.sent id ≡ start.sent id
 
 -- A call, if the input is this text, and the output was this before.
-abbrev pub IsCalled : CallWords → List ℕ → List ℕ → Option (List ℕ) → CallPorts → CallPorts → CallEnd → Type 0
+abbrev pub IsCalled : CallWords → List ℕ → List ℕ → Option (List ℕ) → PortsTold → PortsTold → CallEnd → Type 0
 IsCalled words text before written start now (Done got) = HasCalled words text before written start now (Done got)
 IsCalled words text before written start now TooLong =
     (text_limit < length text) × IsUncalled before written start now

@@ -1,39 +1,12 @@
 -- What a call did with the sockets: its polls, and what it offered the host before each of them.
 use Rattle.std.specs.Prelude.{◌≡◌, ◌≢◌, ℕ, ◌+◌, ◌<◌, ◌≤◌, ◌⊎◌, ◌==◌, nat_le, Bool, if◌then◌else◌, List, [], ◌∷◌}
-use Rattle.std.specs.Prelude.{Any, length, map, filter, sum_by, take, Option, Some}
+use Rattle.std.specs.Prelude.{Any, length, map, filter, sum_by, take, Some}
 use Rattle.std.specs.List.{flat_map}
 use Rattle.station.specs.declared.host_event.HostEvent.{HostEvent}
 use Rattle.station.specs.declared.host_event.HostEvent.TheVariants.{Joined, Bytes, Left}
-use Rattle.host_ports.specs.declared.records.Dial.{Dial}
-use Rattle.host_ports.specs.declared.records.Listen.{Listen}
 use Rattle.tnc_ports.specs.SampledRun.{GrowsBy}
-use Rattle.host_ports.specs.Sockets.{Poll, Send}
+use Rattle.host_ports.specs.Sockets.{Poll, PortsTold, Send}
 use Rattle.agwpe_client.specs.CallRun.{CallPlan, sent_after}
-
--- ---- what the sockets tell
-
--- as far as they do
-pub record CallPorts : Type 0 where
-  pub listens : Option (List Listen)
-  pub dials : Option (List Dial)
-  pub polls : Option (List Poll)
-  pub sends : Option (List Send)
-  -- the octets that each connection was sent
-  pub sent : ℕ → Option (List ℕ)
-  pub is_shut : ℕ → Option Bool
-  pub faults : ℕ
-
-abbrev pub ports_by : {P : Type 0} → (P → Option (List Listen)) → (P → Option (List Dial)) → (P → Option (List Poll))
-    → (P → Option (List Send)) → (P → ℕ → Option (List ℕ)) → (P → ℕ → Option Bool) → (P → ℕ) → P → CallPorts
-ports_by listens dials polls sends sent is_shut faults ports = record {
-  listens = listens ports;
-  dials = dials ports;
-  polls = polls ports;
-  sends = sends ports;
-  sent = sent ports;
-  is_shut = is_shut ports;
-  faults = faults ports;
-}
 
 -- ---- what came
 
@@ -106,7 +79,7 @@ sends_of id polls offered took =
 
 -- The sockets tell of these polls and offers, and the host took so much of what was to be sent to it. No other
 -- connection was sent anything.
-pub record IsTraced (id : ℕ) (octets : List ℕ) (trace : CallTrace) (before after : CallPorts) : Type 0 where
+pub record IsTraced (id : ℕ) (octets : List ℕ) (trace : CallTrace) (before after : PortsTold) : Type 0 where
   pub polls : GrowsBy trace.polls before.polls after.polls
   pub sends : (was : List Poll) → before.polls ≡ Some was
       → GrowsBy (map (send_of id (length was)) trace.offers) before.sends after.sends
@@ -115,7 +88,7 @@ pub record IsTraced (id : ℕ) (octets : List ℕ) (trace : CallTrace) (before a
   pub others : (other : ℕ) → other ≢ id → after.sent other ≡ before.sent other
 
 -- nothing was opened, dialed or shut
-pub record IsAlike (before after : CallPorts) : Type 0 where
+pub record IsAlike (before after : PortsTold) : Type 0 where
   pub listens : after.listens ≡ before.listens
   pub dials : after.dials ≡ before.dials
   pub shut : (other : ℕ) → after.is_shut other ≡ before.is_shut other

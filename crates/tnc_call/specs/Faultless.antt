@@ -3,7 +3,7 @@ use Rattle.std.specs.Prelude.{◌≡◌, ◌≢◌, ℕ, ◌≤◌, ◌⊎◌, L
 use Rattle.tnc_base.specs.Faults.{HasRisen}
 use Rattle.station.specs.declared.host_event.HostEvent.TheVariants.{Left}
 use Rattle.host_ports.specs.declared.records.Dial.{Dial}
-use Rattle.host_ports.specs.Sockets.{Poll}
+use Rattle.host_ports.specs.Sockets.{Poll, PortsTold}
 use Rattle.agwpe_client.specs.declared.call_state.CallState.{CallState}
 use Rattle.agwpe_client.specs.declared.call_state.CallState.TheVariants.{Asking, Calling, Up, Done as DoneState}
 use Rattle.agwpe_client.specs.declared.call_state.CallState.TheVariants.{Refused as RefusedState}
@@ -15,11 +15,11 @@ use Rattle.tnc_call.specs.declared.call_end.CallEnd.TheVariants.{Done, Memory, R
 use Rattle.tnc_call.specs.declared.call_end.CallEnd.TheVariants.{GaveUp}
 use Rattle.tnc_call.specs.CallInput.{text_limit}
 use Rattle.tnc_call.specs.CallEnding.{IsCalled, count_of, plan_of}
-use Rattle.tnc_call.specs.CallTrace.{CallPorts, events_in, octets_in}
+use Rattle.tnc_call.specs.CallTrace.{events_in, octets_in}
 
 -- The text is within its limit, no read, write or call of the sockets failed, and the host, which was dialed under this
 -- id, did not leave in the polls of the call, which are these.
-pub record IsFaultless (words : CallWords) (text : List ℕ) (start now : CallPorts) (id : ℕ) (polls : List Poll)
+pub record IsFaultless (words : CallWords) (text : List ℕ) (start now : PortsTold) (id : ℕ) (polls : List Poll)
     (end : CallEnd) : Type 0 where
   pub fits : length text ≤ text_limit
   pub reads : end ≢ ReadFault
@@ -44,7 +44,7 @@ end_in (BrokenState len) got most = Broken len
 
 -- If nothing fails, the octets of the host decide how the call ends, unless memory is wanted.
 abbrev pub FaultlessEnds : Type 0
-FaultlessEnds = (words : CallWords) (text before : List ℕ) (written : Option (List ℕ)) (start now : CallPorts) (id : ℕ)
+FaultlessEnds = (words : CallWords) (text before : List ℕ) (written : Option (List ℕ)) (start now : PortsTold) (id : ℕ)
     (polls : List Poll) (end : CallEnd) → IsCalled words text before written start now end
     → IsFaultless words text start now id polls end
     → let plan = plan_of words text in let host = octets_in id polls in

@@ -12,7 +12,8 @@ use Rattle.tnc_call.specs.declared.call_end.CallEnd.TheVariants.{Done, TooLong, 
 use Rattle.tnc_call.specs.declared.call_end.CallEnd.TheVariants.{Refused, HostLost, Broken, GaveUp}
 use Rattle.tnc_call.specs.CallEnding.{IsPrinted, IsPartPrinted, IsDone, IsRefused, IsBroken, HasLeft, IsEnded}
 use Rattle.tnc_call.specs.CallEnding.{count_of}
-use Rattle.tnc_call.specs.CallTrace.{CallPorts, CallTrace, IsTraced, IsAlike, IsAlwaysOffered, IsCallPoll}
+use Rattle.host_ports.specs.Sockets.{PortsTold}
+use Rattle.tnc_call.specs.CallTrace.{CallTrace, IsTraced, IsAlike, IsAlwaysOffered, IsCallPoll}
 use Rattle.tnc_call.specs.CallTrace.{octets_of, octets_in, count_taken, TookLess}
 
 -- these octets of the host were taken, and the call is not over
@@ -74,7 +75,7 @@ StopsBy plan id host events before written (GaveUp polls) = ⊥
 
 -- between two turns
 pub record IsRunning (talk : Talk) (plan : CallPlan) (id : ℕ) (before : List ℕ) (written : Option (List ℕ))
-    (start now : CallPorts) (trace : CallTrace) : Type 0 where
+    (start now : PortsTold) (trace : CallTrace) : Type 0 where
   pub goes_on : GoesOn talk plan (octets_in id trace.polls) before written
   pub traced : IsTraced id talk.sent.items trace start now
   pub alike : IsAlike start now
@@ -85,7 +86,7 @@ pub record IsRunning (talk : Talk) (plan : CallPlan) (id : ℕ) (before : List �
 
 -- in a turn, between the offer and the poll
 pub record HasOffered (talk : Talk) (plan : CallPlan) (id : ℕ) (before : List ℕ) (written : Option (List ℕ))
-    (start now : CallPorts) (trace : CallTrace) : Type 0 where
+    (start now : PortsTold) (trace : CallTrace) : Type 0 where
   pub goes_on : GoesOn talk plan (octets_in id trace.polls) before written
   pub traced : IsTraced id talk.sent.items trace start now
   pub alike : IsAlike start now
@@ -98,13 +99,13 @@ pub record HasOffered (talk : Talk) (plan : CallPlan) (id : ℕ) (before : List 
 
 -- a turn more was made, after so many polls
 pub record TurnsOn (talk : Talk) (plan : CallPlan) (id : ℕ) (before : List ℕ) (written : Option (List ℕ))
-    (start now : CallPorts) (made : ℕ) : Type 0 where
+    (start now : PortsTold) (made : ℕ) : Type 0 where
   pub next : CallTrace
   pub count : length next.polls ≡ made + 1
   pub running : IsRunning talk plan id before written start now next
 
 -- the call ended in a turn, after so many polls
-pub record HasStopped (plan : CallPlan) (id : ℕ) (before : List ℕ) (written : Option (List ℕ)) (start now : CallPorts)
+pub record HasStopped (plan : CallPlan) (id : ℕ) (before : List ℕ) (written : Option (List ℕ)) (start now : PortsTold)
     (made : ℕ) (end : CallEnd) : Type 0 where
   pub next : CallTrace
   pub count : length next.polls ≤ made + 1
@@ -116,7 +117,7 @@ pub record HasStopped (plan : CallPlan) (id : ℕ) (before : List ℕ) (written 
 
 -- the call ended within so many turns
 pub record HasTalked (plan : CallPlan) (most id : ℕ) (before : List ℕ) (written : Option (List ℕ))
-    (start now : CallPorts) (end : CallEnd) : Type 0 where
+    (start now : PortsTold) (end : CallEnd) : Type 0 where
   pub trace : CallTrace
   pub count : length trace.polls ≤ most
   pub traced : IsTraced id (sent_after plan (octets_in id trace.polls)) trace start now

@@ -4,7 +4,7 @@ ghost use Rattle.tnc_base.specs.Faults.{HasRisen};
 ghost use Rattle.agwpe_client.specs.CallRun.{CallPlan};
 ghost use Rattle.tnc_call.specs.CallEnding.{IsCalled, plan_of};
 ghost use Rattle.tnc_call.specs.CallInput.{text_limit, IsReadingEnd, IsTalkEnd};
-ghost use Rattle.tnc_call.specs.CallTrace.{CallPorts, ports_by};
+ghost use Rattle.host_ports.specs.Sockets.{PortsTold};
 ghost use Rattle.tnc_call.specs.HeldTalk.{HasBegun, HasTalked};
 
 use crate::call_end::CallEnd;
@@ -29,13 +29,13 @@ pub fn call<R: Net, I: Source, O: Sink, N: Ports>(
 ) -> CallEnd
     ensures called { (text before : List ℕ) → I.left input.old ≡ Some text → O.written output.old ≡ Some before
         → IsCalled words text before (O.written output.new)
-        (ports_by N.listens N.dials N.polls N.sends N.sent N.is_shut N.faults ports.old)
-        (ports_by N.listens N.dials N.polls N.sends N.sent N.is_shut N.faults ports.new) result }
+        (N.told ports.old)
+        (N.told ports.new) result }
     ensures read { result ≡ CallEnd.ReadFault → HasRisen (I.faults input.old) (I.faults input.new) }
     ensures no_read { result ≢ CallEnd.ReadFault → I.faults input.new ≡ I.faults input.old }
     ensures write { result ≡ CallEnd.WriteFault → HasRisen (O.faults output.old) (O.faults output.new) }
     ensures no_write { result ≢ CallEnd.WriteFault → O.faults output.new ≡ O.faults output.old }
-    ensures no_host { result ≡ CallEnd.NoHost → HasRisen (N.faults ports.old) (N.faults ports.new) }
+    ensures no_host { result ≡ CallEnd.NoHost → HasRisen (N.told ports.old).faults (N.told ports.new).faults }
 {
     let most = words.polls;
     let agw = words.agw;
@@ -81,8 +81,8 @@ fn converse<R: Net, O: Sink, N: Ports>(
     requires within { talk.old.taken ≤ length talk.old.sent.items }
     ensures talked { (plan : CallPlan) (before : List ℕ) → HasBegun plan talk.old
         → O.written output.old ≡ Some before → HasTalked plan most id before (O.written output.new)
-        (ports_by N.listens N.dials N.polls N.sends N.sent N.is_shut N.faults ports.old)
-        (ports_by N.listens N.dials N.polls N.sends N.sent N.is_shut N.faults ports.new) result }
+        (N.told ports.old)
+        (N.told ports.new) result }
     ensures only { IsTalkEnd result }
     ensures write { result ≡ CallEnd.WriteFault → HasRisen (O.faults output.old) (O.faults output.new) }
     ensures no_write { result ≢ CallEnd.WriteFault → O.faults output.new ≡ O.faults output.old }

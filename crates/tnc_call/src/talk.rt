@@ -10,7 +10,8 @@ ghost use Rattle.agwpe_client.specs.HeldCall.{StandsFor};
 ghost use Rattle.agwpe_client.specs.declared.call_state.CallState.TheVariants.{Done as DoneState};
 ghost use Rattle.tnc_call.specs.CallEnding.{plan_of};
 ghost use Rattle.tnc_call.specs.CallInput.{IsTalkEnd};
-ghost use Rattle.tnc_call.specs.CallTrace.{event_octets, octets_of, sends_of, ports_by, CallPorts};
+ghost use Rattle.tnc_call.specs.CallTrace.{event_octets, octets_of, sends_of};
+ghost use Rattle.host_ports.specs.Sockets.{PortsTold};
 ghost use Rattle.tnc_call.specs.CallTrace.{CallTrace};
 ghost use Rattle.tnc_call.specs.HeldTalk.{HasBegun, GoesOn, IsAhead, Stops, StopsBy, IsRunning, HasOffered, TurnsOn};
 ghost use Rattle.tnc_call.specs.HeldTalk.{HasStopped};
@@ -75,13 +76,13 @@ impl Talk {
         ports: &mut N,
     ) -> Option<CallEnd>
         requires within { self.old.taken ≤ length self.old.sent.items }
-        ensures turned { (plan : CallPlan) (before : List ℕ) (start : CallPorts) (trace : CallTrace)
+        ensures turned { (plan : CallPlan) (before : List ℕ) (start : PortsTold) (trace : CallTrace)
             → IsRunning self.old plan id before (O.written output.old) start
-            (ports_by N.listens N.dials N.polls N.sends N.sent N.is_shut N.faults ports.old) trace
+            (N.told ports.old) trace
             → MatchOption result (TurnsOn self.new plan id before (O.written output.new) start
-            (ports_by N.listens N.dials N.polls N.sends N.sent N.is_shut N.faults ports.new) (length trace.polls))
+            (N.told ports.new) (length trace.polls))
             (HasStopped plan id before (O.written output.new) start
-            (ports_by N.listens N.dials N.polls N.sends N.sent N.is_shut N.faults ports.new) (length trace.polls)) }
+            (N.told ports.new) (length trace.polls)) }
         ensures within { self.new.taken ≤ length self.new.sent.items }
         ensures only { IfSome result IsTalkEnd }
         ensures write { result ≡ Some CallEnd.WriteFault → HasRisen (O.faults output.old) (O.faults output.new) }
@@ -102,13 +103,13 @@ impl Talk {
         ports: &mut N,
     ) -> Option<CallEnd>
         requires within { self.old.taken ≤ length self.old.sent.items }
-        ensures heard { (plan : CallPlan) (before : List ℕ) (start : CallPorts) (trace : CallTrace)
+        ensures heard { (plan : CallPlan) (before : List ℕ) (start : PortsTold) (trace : CallTrace)
             → HasOffered self.old plan id before (O.written output.old) start
-            (ports_by N.listens N.dials N.polls N.sends N.sent N.is_shut N.faults ports.old) trace
+            (N.told ports.old) trace
             → MatchOption result (TurnsOn self.new plan id before (O.written output.new) start
-            (ports_by N.listens N.dials N.polls N.sends N.sent N.is_shut N.faults ports.new) (length trace.polls))
+            (N.told ports.new) (length trace.polls))
             (HasStopped plan id before (O.written output.new) start
-            (ports_by N.listens N.dials N.polls N.sends N.sent N.is_shut N.faults ports.new) (length trace.polls)) }
+            (N.told ports.new) (length trace.polls)) }
         ensures within { self.new.taken ≤ length self.new.sent.items }
         ensures only { IfSome result IsTalkEnd }
         ensures write { result ≡ Some CallEnd.WriteFault → HasRisen (O.faults output.old) (O.faults output.new) }
@@ -128,21 +129,21 @@ impl Talk {
         ensures failed { OnErr result (self.new.taken ≡ self.old.taken) }
         ensures taken { self.old.taken ≤ self.new.taken }
         ensures within { self.new.taken ≤ length self.old.sent.items }
-        ensures sends { (polled : List Poll) (before : List Send) → N.polls ports.old ≡ Some polled
-            → N.sends ports.old ≡ Some before → OnOk result (N.sends ports.new ≡ Some (before ++ sends_of id
+        ensures sends { (polled : List Poll) (before : List Send) → (N.told ports.old).polls ≡ Some polled
+            → (N.told ports.old).sends ≡ Some before → OnOk result ((N.told ports.new).sends ≡ Some (before ++ sends_of id
             (length polled) (length self.old.sent.items - self.old.taken) (self.new.taken - self.old.taken))) }
-        ensures sent { (before : List ℕ) → N.sent ports.old id ≡ Some before
-            → OnOk result (N.sent ports.new id ≡ Some (before
+        ensures sent { (before : List ℕ) → (N.told ports.old).sent id ≡ Some before
+            → OnOk result ((N.told ports.new).sent id ≡ Some (before
             ++ take (self.new.taken - self.old.taken) (drop self.old.taken self.old.sent.items))) }
-        ensures refused { OnErr result (((other : ℕ) → N.sent ports.new other ≡ N.sent ports.old other)
-            × (N.sends ports.new ≡ N.sends ports.old) × (self.old.taken ≢ length self.old.sent.items)) }
-        ensures others { (other : ℕ) → other ≢ id → N.sent ports.new other ≡ N.sent ports.old other }
-        ensures listens { N.listens ports.new ≡ N.listens ports.old }
-        ensures dials { N.dials ports.new ≡ N.dials ports.old }
-        ensures polls { N.polls ports.new ≡ N.polls ports.old }
-        ensures shut { (other : ℕ) → N.is_shut ports.new other ≡ N.is_shut ports.old other }
-        ensures later { N.faults ports.old ≤ N.faults ports.new }
-        ensures rose { OnErr result (HasRisen (N.faults ports.old) (N.faults ports.new)) }
+        ensures refused { OnErr result (((other : ℕ) → (N.told ports.new).sent other ≡ (N.told ports.old).sent other)
+            × ((N.told ports.new).sends ≡ (N.told ports.old).sends) × (self.old.taken ≢ length self.old.sent.items)) }
+        ensures others { (other : ℕ) → other ≢ id → (N.told ports.new).sent other ≡ (N.told ports.old).sent other }
+        ensures listens { (N.told ports.new).listens ≡ (N.told ports.old).listens }
+        ensures dials { (N.told ports.new).dials ≡ (N.told ports.old).dials }
+        ensures polls { (N.told ports.new).polls ≡ (N.told ports.old).polls }
+        ensures shut { (other : ℕ) → (N.told ports.new).is_shut other ≡ (N.told ports.old).is_shut other }
+        ensures later { (N.told ports.old).faults ≤ (N.told ports.new).faults }
+        ensures rose { OnErr result (HasRisen (N.told ports.old).faults (N.told ports.new).faults) }
     {
         if self.taken == self.sent.len() {
             return Ok(());

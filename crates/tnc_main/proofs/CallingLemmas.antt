@@ -5,7 +5,7 @@ use Rattle.tnc_main.proofs.Common.{IsLiveCode}
 use Rattle.tnc_call.specs.declared.call_end.CallEnd.{CallEnd}
 use Rattle.tnc_call.specs.declared.call_end.CallEnd.TheVariants.{Done, TooLong, Memory, ReadFault, WriteFault, NoHost}
 use Rattle.tnc_call.specs.declared.call_end.CallEnd.TheVariants.{Refused, HostLost, Broken, GaveUp}
-use Rattle.tnc_call.specs.CallTrace.{CallPorts}
+use Rattle.host_ports.specs.Sockets.{PortsTold}
 use Rattle.tnc_main.specs.declared.status.Status.TheVariants.{Done as WellDone, Memory as NoMemory}
 use Rattle.tnc_main.specs.declared.status.Status.TheVariants.{ReadFault as InputFailed, WriteFault as OutputFailed}
 use Rattle.tnc_main.specs.declared.status.Status.TheVariants.{NoHost as FoundNoHost}
@@ -177,7 +177,7 @@ module _ (end : CallEnd) (status : Status) (before after : Stream)
 
 -- a call that was made as some words ask for it was made as equal ones ask for it
 pub called_as : (words other : CallWords) (code : ℕ) (text before : List ℕ) (written : Option (List ℕ))
-    (start now : CallPorts) (report after : Stream) → words ≡ other
+    (start now : PortsTold) (report after : Stream) → words ≡ other
     → (status : Status) × (code ≡ code_of status) × Calls words text before written start now status report after
     → (status : Status) × (code ≡ code_of status) × Calls other text before written start now status report after
 called_as words other code text before written start now report after same h =
@@ -185,7 +185,7 @@ called_as words other code text before written start now report after same h =
 
 -- a call that was made from a report on was made from an equal one on
 pub called_from : (words : CallWords) (code : ℕ) (text before : List ℕ) (written : Option (List ℕ))
-    (start now : CallPorts) (was report after : Stream) → was ≡ report
+    (start now : PortsTold) (was report after : Stream) → was ≡ report
     → (status : Status) × (code ≡ code_of status) × Calls words text before written start now status was after
     → (status : Status) × (code ≡ code_of status) × Calls words text before written start now status report after
 called_from words code text before written start now was report after same h =

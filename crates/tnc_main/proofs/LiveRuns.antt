@@ -27,7 +27,7 @@ module _ (words : ServeWords) (code : ℕ) (input left : InputSide) (before afte
   pub write_fault : code ≡ 5 → WritesFailed before after
   write_fault is = at_write_fault words input left before h.2.between after h.0 h.2.end ends (status_is WriteFault is)
 
-  pub no_port : code ≡ 10 → HasRisen before.port_faults after.port_faults
+  pub no_port : code ≡ 10 → HasRisen before.ports.faults after.ports.faults
   no_port is = at_no_port words input left before h.2.between after h.0 h.2.end ends (status_is NoPort is)
 
   pub own : IsLiveCode code
@@ -46,7 +46,7 @@ module _ (words : ServeWords) (code : ℕ) (input left : InputSide) (before afte
 
   pub complete : (octets : List ℕ) → input.left ≡ Some octets → length octets ≤ input_limit
       → (HasRisen input.faults left.faults → ⊥) → (HasRisen before.output_faults after.output_faults → ⊥)
-      → (HasRisen before.report_faults after.report_faults → ⊥) → (HasRisen before.port_faults after.port_faults → ⊥)
+      → (HasRisen before.report_faults after.report_faults → ⊥) → (HasRisen before.ports.faults after.ports.faults → ⊥)
       → (code ≡ 0) ⊎ (code ≡ 3)
   complete octets tells few no_read no_write no_report no_port =
       elim (ends_well words input left before h.2.between after h.0 h.2.end ends octets tells few no_read no_write

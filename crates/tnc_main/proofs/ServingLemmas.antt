@@ -154,7 +154,7 @@ module _ (words : ServeWords) (input left : InputSide) (before between after : O
   at_write_fault NoPort (served, inl (is, more)) e = let both : OutputFailed ≡ PortsFailed = sym e ∙ is in cc both
   at_write_fault NoPort (served, inr (is, less)) e = cut_line _ before between after served.1.only.report_faults less
 
-  pub at_no_port : (end : ServeEnd) → Ends end → status ≡ PortsFailed → HasRisen before.port_faults after.port_faults
+  pub at_no_port : (end : ServeEnd) → Ends end → status ≡ PortsFailed → HasRisen before.ports.faults after.ports.faults
   at_no_port Done (served, (is, same)) e = let both : PortsFailed ≡ WellDone = sym e ∙ is in cc both
   at_no_port TooLong (served, inl (is, more)) e = let both : PortsFailed ≡ BadInput = sym e ∙ is in cc both
   at_no_port TooLong (served, inr (is, less)) e = let both : PortsFailed ≡ OutputFailed = sym e ∙ is in cc both
@@ -163,14 +163,14 @@ module _ (words : ServeWords) (input left : InputSide) (before between after : O
   at_no_port ReadFault (served, (is, same)) e = let both : PortsFailed ≡ InputFailed = sym e ∙ is in cc both
   at_no_port WriteFault (served, (is, same)) e = let both : PortsFailed ≡ OutputFailed = sym e ∙ is in cc both
   at_no_port NoPort (served, inl (is, more)) e =
-      subst (λ n. HasRisen before.port_faults n) (sym (ap (λ (o : Outside). o.port_faults) more.others)) served.1.failed
+      subst (λ n. HasRisen before.ports.faults n) (sym (ap (λ (o : Outside). o.ports.faults) more.others)) served.1.failed
   at_no_port NoPort (served, inr (is, less)) e = let both : PortsFailed ≡ OutputFailed = sym e ∙ is in cc both
 
   -- good words, an input that is not too long, and no count that rises
   pub ends_well : (end : ServeEnd) → Ends end → (octets : List ℕ) → input.left ≡ Some octets
       → length octets ≤ input_limit
       → (HasRisen input.faults left.faults → ⊥) → (HasRisen before.output_faults after.output_faults → ⊥)
-      → (HasRisen before.report_faults after.report_faults → ⊥) → (HasRisen before.port_faults after.port_faults → ⊥)
+      → (HasRisen before.report_faults after.report_faults → ⊥) → (HasRisen before.ports.faults after.ports.faults → ⊥)
       → (status ≡ WellDone) ⊎ (status ≡ NoMemory)
   ends_well Done (served, (is, same)) octets tells few no_read no_write no_report no_port = inl is
   ends_well TooLong (served, told) octets tells few no_read no_write no_report no_port =

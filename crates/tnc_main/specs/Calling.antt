@@ -7,7 +7,7 @@ use Rattle.tnc_call.specs.declared.call_end.CallEnd.TheVariants.{Done, TooLong, 
 use Rattle.tnc_call.specs.declared.call_end.CallEnd.TheVariants.{Refused, HostLost, Broken, GaveUp}
 use Rattle.tnc_call.specs.declared.call_words.CallWords.{CallWords}
 use Rattle.tnc_call.specs.CallEnding.{IsCalled}
-use Rattle.tnc_call.specs.CallTrace.{CallPorts}
+use Rattle.host_ports.specs.Sockets.{PortsTold}
 use Rattle.tnc_main.specs.declared.status.Status.{Status}
 use Rattle.tnc_main.specs.declared.status.Status.TheVariants.{Done as WellDone, BadInput, Memory as NoMemory}
 use Rattle.tnc_main.specs.declared.status.Status.TheVariants.{ReadFault as InputFailed, WriteFault as OutputFailed}
@@ -57,14 +57,14 @@ line_of_end (GaveUp polls) = Some (gave_up_line polls)
 -- ---- a run
 
 -- The input is this text, and the output was this before: a call was made until an end, which was told.
-pub record Calls (words : CallWords) (text before : List ℕ) (written : Option (List ℕ)) (start now : CallPorts)
+pub record Calls (words : CallWords) (text before : List ℕ) (written : Option (List ℕ)) (start now : PortsTold)
     (status : Status) (report after : Stream) : Type 0 where
   pub end : CallEnd
   pub called : IsCalled words text before written start now end
   pub told : IsEndToldOrWanted (line_of_end end) (status_of_end end) status report after
 
 -- there was no memory for the words, and nothing was done
-pub record HasNotCalled (before : List ℕ) (written : Option (List ℕ)) (start now : CallPorts) (status : Status)
+pub record HasNotCalled (before : List ℕ) (written : Option (List ℕ)) (start now : PortsTold) (status : Status)
     (report after : Stream) : Type 0 where
   pub memory : status ≡ NoMemory
   pub unwritten : written ≡ Some before
@@ -72,7 +72,7 @@ pub record HasNotCalled (before : List ℕ) (written : Option (List ℕ)) (start
   pub untold : after ≡ report
 
 -- The options are those of `call`: the call was made, or there was no memory to begin.
-abbrev pub RunsCall : CallOptions → List ℕ → List ℕ → Option (List ℕ) → CallPorts → CallPorts → Status → Stream
+abbrev pub RunsCall : CallOptions → List ℕ → List ℕ → Option (List ℕ) → PortsTold → PortsTold → Status → Stream
     → Stream → Type 0
 RunsCall options text before written start now status report after =
     HasNotCalled before written start now status report after

@@ -2,7 +2,6 @@
 ghost use Rattle.std.specs.Prelude.{◌≡◌, ◌≢◌, ◌⊎◌, ℕ, List, Some};
 ghost use Rattle.tnc_base.specs.Faults.{HasRisen};
 ghost use Rattle.tnc_ports.specs.SampledWrites.{stream_of};
-ghost use Rattle.tnc_call.specs.CallTrace.{ports_by};
 ghost use Rattle.tnc_main.specs.declared.status.Status.{Status};
 ghost use Rattle.tnc_main.specs.Calling.{Calls, line_of_end, status_of_end, words_of};
 ghost use Rattle.tnc_main.specs.EndTold.{IsEndToldOrWanted};
@@ -32,8 +31,8 @@ pub(crate) fn call<Rt: Net, I: Source, O: Sink, E: Sink, N: Ports>(
     ensures called { (text before : List ℕ) → I.left input.old ≡ Some text → O.written output.old ≡ Some before
         → (status : Status) × (result ≡ code_of status)
         × Calls words text before (O.written output.new)
-        (ports_by N.listens N.dials N.polls N.sends N.sent N.is_shut N.faults ports.old)
-        (ports_by N.listens N.dials N.polls N.sends N.sent N.is_shut N.faults ports.new) status
+        (N.told ports.old)
+        (N.told ports.new) status
         (stream_of E.written E.faults report.old) (stream_of E.written E.faults report.new) }
 
     // each status and its cause
@@ -45,7 +44,7 @@ pub(crate) fn call<Rt: Net, I: Source, O: Sink, E: Sink, N: Ports>(
     ensures write_fault { result ≡ 5
         → HasRisen (O.faults output.old) (O.faults output.new) ⊎ HasRisen (E.faults report.old) (E.faults report.new) }
     ensures listens_not { result ≢ 10 }
-    ensures no_host { result ≡ 11 → HasRisen (N.faults ports.old) (N.faults ports.new) }
+    ensures no_host { result ≡ 11 → HasRisen (N.told ports.old).faults (N.told ports.new).faults }
 {
     let end = tnc_call::call(rt, alloc, words, input, output, ports);
     tell_end(alloc, end, report).code()

@@ -8,7 +8,6 @@ ghost use Rattle.tnc_forms.specs.Reading.{input_limit};
 ghost use Rattle.tnc_ports.specs.SampledRun.{outside_by};
 ghost use Rattle.tnc_ports.specs.SampledWrites.{stream_of};
 ghost use Rattle.tnc_ports.specs.ServeRun.{input_by};
-ghost use Rattle.tnc_call.specs.CallTrace.{ports_by};
 ghost use Rattle.tnc_main.specs.declared.status.Status.{Status};
 ghost use Rattle.tnc_main.specs.Calling.{Calls, words_of as call_words_of};
 ghost use Rattle.tnc_main.specs.RecordRuns.{Records, words_of as record_words_of};
@@ -52,10 +51,10 @@ pub(crate) fn run_live<
         → (status : Status) × (result ≡ code_of status)
         × Serves (words_of options live.old.seed) status (input_by I.left I.faults input.old)
         (input_by I.left I.faults input.new)
-        (outside_by N.listens N.polls N.sends N.sent N.is_shut N.faults K.lines K.faults O.written O.faults
-        E.written E.faults live.old.ports live.old.key output.old report.old)
-        (outside_by N.listens N.polls N.sends N.sent N.is_shut N.faults K.lines K.faults O.written O.faults
-        E.written E.faults live.new.ports live.new.key output.new report.new) }
+        (outside_by N.told K.lines K.faults O.written O.faults E.written E.faults
+        live.old.ports live.old.key output.old report.old)
+        (outside_by N.told K.lines K.faults O.written O.faults E.written E.faults
+        live.new.ports live.new.key output.new report.new) }
 
     ensures recorded { (options : RecordOptions) → command ≡ LiveCommand.Record options
         → (status : Status) × (result ≡ code_of status)
@@ -69,8 +68,8 @@ pub(crate) fn run_live<
         → I.left input.old ≡ Some text → O.written output.old ≡ Some before
         → (status : Status) × (result ≡ code_of status)
         × Calls (call_words_of options) text before (O.written output.new)
-        (ports_by N.listens N.dials N.polls N.sends N.sent N.is_shut N.faults live.old.ports)
-        (ports_by N.listens N.dials N.polls N.sends N.sent N.is_shut N.faults live.new.ports) status
+        (N.told live.old.ports)
+        (N.told live.new.ports) status
         (stream_of E.written E.faults report.old) (stream_of E.written E.faults report.new) }
 
     // each status and its cause
@@ -84,14 +83,14 @@ pub(crate) fn run_live<
     ensures want { (options : ServeOptions) → command ≡ LiveCommand.Serve options → result ≡ 3
         → IsServedInWant (words_of options live.old.seed) (W.faults live.old.spawner) (W.faults live.new.spawner)
         (input_by I.left I.faults input.old) (input_by I.left I.faults input.new)
-        (outside_by N.listens N.polls N.sends N.sent N.is_shut N.faults K.lines K.faults O.written O.faults
-        E.written E.faults live.old.ports live.old.key output.old report.old)
-        (outside_by N.listens N.polls N.sends N.sent N.is_shut N.faults K.lines K.faults O.written O.faults
-        E.written E.faults live.new.ports live.new.key output.new report.new) }
+        (outside_by N.told K.lines K.faults O.written O.faults E.written E.faults
+        live.old.ports live.old.key output.old report.old)
+        (outside_by N.told K.lines K.faults O.written O.faults E.written E.faults
+        live.new.ports live.new.key output.new report.new) }
     ensures no_port { result ≡ 10 → (options : ServeOptions) × (command ≡ LiveCommand.Serve options)
-        × HasRisen (N.faults live.old.ports) (N.faults live.new.ports) }
+        × HasRisen (N.told live.old.ports).faults (N.told live.new.ports).faults }
     ensures of_call { 11 ≤ result → (options : CallOptions) × (command ≡ LiveCommand.Call options) }
-    ensures no_host { result ≡ 11 → HasRisen (N.faults live.old.ports) (N.faults live.new.ports) }
+    ensures no_host { result ≡ 11 → HasRisen (N.told live.old.ports).faults (N.told live.new.ports).faults }
 
     // completeness: an input that is not too long, and no fault of the outside
     ensures complete_recorded { (options : RecordOptions) → command ≡ LiveCommand.Record options
@@ -102,7 +101,7 @@ pub(crate) fn run_live<
         → (octets : List ℕ) → I.left input.old ≡ Some octets → length octets ≤ input_limit
         → ¬ HasRisen (I.faults input.old) (I.faults input.new) → ¬ HasRisen (O.faults output.old) (O.faults output.new)
         → ¬ HasRisen (E.faults report.old) (E.faults report.new)
-        → ¬ HasRisen (N.faults live.old.ports) (N.faults live.new.ports) → (result ≡ 0) ⊎ (result ≡ 3) }
+        → ¬ HasRisen (N.told live.old.ports).faults (N.told live.new.ports).faults → (result ≡ 0) ⊎ (result ≡ 3) }
 {
     match command {
         LiveCommand::Serve(options) => {

@@ -28,7 +28,6 @@ ghost use Rattle.tnc_bench.specs.Reported.{report_text, words_of as bench_words}
 ghost use Rattle.tnc_ports.specs.SampledRun.{outside_by};
 ghost use Rattle.tnc_ports.specs.SampledWrites.{stream_of};
 ghost use Rattle.tnc_ports.specs.ServeRun.{input_by};
-ghost use Rattle.tnc_call.specs.CallTrace.{ports_by};
 ghost use Rattle.tnc_main.specs.declared.status.Status.{Status};
 ghost use Rattle.tnc_main.specs.Calling.{RunsCall};
 ghost use Rattle.tnc_main.specs.RecordRuns.{RunsRecord};
@@ -123,10 +122,10 @@ pub fn run<
         → (status : Status) × (result ≡ code_of status)
         × RunsLive options live.old.seed status (input_by I.left I.faults input.old)
         (input_by I.left I.faults input.new)
-        (outside_by N.listens N.polls N.sends N.sent N.is_shut N.faults K.lines K.faults O.written O.faults
-        E.written E.faults live.old.ports live.old.key output.old report.old)
-        (outside_by N.listens N.polls N.sends N.sent N.is_shut N.faults K.lines K.faults O.written O.faults
-        E.written E.faults live.new.ports live.new.key output.new report.new) }
+        (outside_by N.told K.lines K.faults O.written O.faults E.written E.faults
+        live.old.ports live.old.key output.old report.old)
+        (outside_by N.told K.lines K.faults O.written O.faults E.written E.faults
+        live.new.ports live.new.key output.new report.new) }
 
     ensures keyed { (options : ServeOptions) → (ptt : PttOptions) → (was : List KeyLine) → (out : List ℕ)
         → IsServe (map string_bytes words.now) options → options.ptt ≡ Some ptt
@@ -134,10 +133,10 @@ pub fn run<
         → (status : Status) × (result ≡ code_of status)
         × RunsKeyed options ptt live.old.seed was out status (input_by I.left I.faults input.old)
         (input_by I.left I.faults input.new)
-        (outside_by N.listens N.polls N.sends N.sent N.is_shut N.faults K.lines K.faults O.written O.faults
-        E.written E.faults live.old.ports live.old.key output.old report.old)
-        (outside_by N.listens N.polls N.sends N.sent N.is_shut N.faults K.lines K.faults O.written O.faults
-        E.written E.faults live.new.ports live.new.key output.new report.new) }
+        (outside_by N.told K.lines K.faults O.written O.faults E.written E.faults
+        live.old.ports live.old.key output.old report.old)
+        (outside_by N.told K.lines K.faults O.written O.faults E.written E.faults
+        live.new.ports live.new.key output.new report.new) }
     ensures unkeyed { (options : ServeOptions) → IsServe (map string_bytes words.now) options → options.ptt ≡ None
         → (K.lines live.new.key ≡ K.lines live.old.key) × (K.faults live.new.key ≡ K.faults live.old.key) }
 
@@ -150,8 +149,8 @@ pub fn run<
         → I.left input.old ≡ Some text → O.written output.old ≡ Some before
         → (status : Status) × (result ≡ code_of status)
         × RunsCall options text before (O.written output.new)
-        (ports_by N.listens N.dials N.polls N.sends N.sent N.is_shut N.faults live.old.ports)
-        (ports_by N.listens N.dials N.polls N.sends N.sent N.is_shut N.faults live.new.ports) status
+        (N.told live.old.ports)
+        (N.told live.new.ports) status
         (stream_of E.written E.faults report.old) (stream_of E.written E.faults report.new) }
 
     // what the words may be: if they ask for nothing, nothing is touched but the report, and no command but a live one
@@ -195,14 +194,14 @@ pub fn run<
     ensures no_thread { (options : ServeOptions) → IsServe (map string_bytes words.now) options → result ≡ 3
         → IsInWant options live.old.seed (W.faults live.old.spawner) (W.faults live.new.spawner)
         (input_by I.left I.faults input.old) (input_by I.left I.faults input.new)
-        (outside_by N.listens N.polls N.sends N.sent N.is_shut N.faults K.lines K.faults O.written O.faults
-        E.written E.faults live.old.ports live.old.key output.old report.old)
-        (outside_by N.listens N.polls N.sends N.sent N.is_shut N.faults K.lines K.faults O.written O.faults
-        E.written E.faults live.new.ports live.new.key output.new report.new) }
+        (outside_by N.told K.lines K.faults O.written O.faults E.written E.faults
+        live.old.ports live.old.key output.old report.old)
+        (outside_by N.told K.lines K.faults O.written O.faults E.written E.faults
+        live.new.ports live.new.key output.new report.new) }
     ensures no_port { result ≡ 10 → (options : ServeOptions) × IsServe (map string_bytes words.now) options
-        × HasRisen (N.faults live.old.ports) (N.faults live.new.ports) }
+        × HasRisen (N.told live.old.ports).faults (N.told live.new.ports).faults }
     ensures of_call { 11 ≤ result → (options : CallOptions) × IsCall (map string_bytes words.now) options }
-    ensures no_host { result ≡ 11 → HasRisen (N.faults live.old.ports) (N.faults live.new.ports) }
+    ensures no_host { result ≡ 11 → HasRisen (N.told live.old.ports).faults (N.told live.new.ports).faults }
 
     // what is told; a live command tells more while it runs
     ensures silent { AskNoLive (map string_bytes words.now) → (result ≡ 0) ⊎ ((result ≡ 3) ⊎ (result ≡ 4))
@@ -224,7 +223,7 @@ pub fn run<
         → (octets : List ℕ) → I.left input.old ≡ Some octets → length octets ≤ input_limit
         → ¬ HasRisen (I.faults input.old) (I.faults input.new) → ¬ HasRisen (O.faults output.old) (O.faults output.new)
         → ¬ HasRisen (E.faults report.old) (E.faults report.new)
-        → ¬ HasRisen (N.faults live.old.ports) (N.faults live.new.ports) → (result ≡ 0) ⊎ (result ≡ 3) }
+        → ¬ HasRisen (N.told live.old.ports).faults (N.told live.new.ports).faults → (result ≡ 0) ⊎ (result ≡ 3) }
     ensures complete_recorded { (options : RecordOptions) → IsRecord (map string_bytes words.now) options
         → (octets : List ℕ) → I.left input.old ≡ Some octets → length octets ≤ input_limit
         → ¬ HasRisen (I.faults input.old) (I.faults input.new) → ¬ HasRisen (O.faults output.old) (O.faults output.new)

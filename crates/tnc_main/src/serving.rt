@@ -53,10 +53,10 @@ pub(crate) fn serve<
     requires dcd { CanBeAskedBy words.listening words.dcd }
     ensures served { (status : Status) × (result ≡ code_of status)
         × Serves words status (input_by I.left I.faults input.old) (input_by I.left I.faults input.new)
-        (outside_by N.listens N.polls N.sends N.sent N.is_shut N.faults K.lines K.faults O.written O.faults
-        E.written E.faults live.old.ports live.old.key output.old report.old)
-        (outside_by N.listens N.polls N.sends N.sent N.is_shut N.faults K.lines K.faults O.written O.faults
-        E.written E.faults live.new.ports live.new.key output.new report.new) }
+        (outside_by N.told K.lines K.faults O.written O.faults E.written E.faults
+        live.old.ports live.old.key output.old report.old)
+        (outside_by N.told K.lines K.faults O.written O.faults E.written E.faults
+        live.new.ports live.new.key output.new report.new) }
 
     // each status and its cause
     ensures own { IsLiveCode result }
@@ -67,16 +67,16 @@ pub(crate) fn serve<
         → HasRisen (O.faults output.old) (O.faults output.new) ⊎ HasRisen (E.faults report.old) (E.faults report.new) }
     ensures want { result ≡ 3 → IsServedInWant words (W.faults live.old.spawner) (W.faults live.new.spawner)
         (input_by I.left I.faults input.old) (input_by I.left I.faults input.new)
-        (outside_by N.listens N.polls N.sends N.sent N.is_shut N.faults K.lines K.faults O.written O.faults
-        E.written E.faults live.old.ports live.old.key output.old report.old)
-        (outside_by N.listens N.polls N.sends N.sent N.is_shut N.faults K.lines K.faults O.written O.faults
-        E.written E.faults live.new.ports live.new.key output.new report.new) }
-    ensures no_port { result ≡ 10 → HasRisen (N.faults live.old.ports) (N.faults live.new.ports) }
+        (outside_by N.told K.lines K.faults O.written O.faults E.written E.faults
+        live.old.ports live.old.key output.old report.old)
+        (outside_by N.told K.lines K.faults O.written O.faults E.written E.faults
+        live.new.ports live.new.key output.new report.new) }
+    ensures no_port { result ≡ 10 → HasRisen (N.told live.old.ports).faults (N.told live.new.ports).faults }
     ensures not_called { result ≤ 10 }
     ensures complete { (octets : List ℕ) → I.left input.old ≡ Some octets → length octets ≤ input_limit
         → ¬ HasRisen (I.faults input.old) (I.faults input.new) → ¬ HasRisen (O.faults output.old) (O.faults output.new)
         → ¬ HasRisen (E.faults report.old) (E.faults report.new)
-        → ¬ HasRisen (N.faults live.old.ports) (N.faults live.new.ports) → (result ≡ 0) ⊎ (result ≡ 3) }
+        → ¬ HasRisen (N.told live.old.ports).faults (N.told live.new.ports).faults → (result ≡ 0) ⊎ (result ≡ 3) }
 {
     let end = tnc_ports::serve(rt, alloc, words, input, output, report, live);
     tell_end(end, report).code()

@@ -41,7 +41,7 @@ pub use Rattle.std.specs.Prelude.{cond, false, filter, if◌then◌else◌, is_e
 pub use Rattle.std.specs.Prelude.{◌==◌, ◌||◌, ◌↔◌, ◌∷◌, ◌≢◌, ◌⊎◌}
 pub use Rattle.tnc_base.specs.Faults.{HasRisen}
 pub use Rattle.tnc_base.specs.Streams.{Gives, WrotePart}
-pub use Rattle.host_ports.specs.AskedPorts.{AreUnasked, IsAsked, Told, poll_of, send_of, taken_of}
+pub use Rattle.host_ports.specs.AskedPorts.{AreUnasked, IsAsked, poll_of, send_of, taken_of}
 pub use Rattle.host_ports.specs.CutPart.{IsCutInSending}
 pub use Rattle.host_ports.specs.HeldHosts.{StandsFor}
 pub use Rattle.host_ports.specs.HostTurns.{AreTaken, AreTried, Asked, InOrder, IsHostPart}
@@ -63,13 +63,13 @@ pub use Rattle.tnc_ports.specs.Sampled.{IsKeyTurn, gap_line, new_live, octets_se
 pub use Rattle.tnc_ports.specs.SampledFrames.{AreReceivedLines, AreSentLines, IsFrameHeard, IsTickMade, with_lines}
 pub use Rattle.tnc_ports.specs.SampledHeld.{HearsFrames, HearsSome, IsCutOff, Keeps, Reads, Runs, ServesAll}
 pub use Rattle.tnc_ports.specs.SampledHeld.{From, KeyedSince, RunsOut, StandsForLive, Ticks, TicksAll, Turns, TurnsTheKey}
-pub use Rattle.tnc_ports.specs.SampledHeld.{from_of, told_in}
+pub use Rattle.tnc_ports.specs.SampledHeld.{from_of}
 pub use Rattle.tnc_ports.specs.SampledRun.{AllIsWritten, AreTurns, IsCutInReading, IsCutInServing, IsCutRun, IsCutTurn}
 pub use Rattle.tnc_ports.specs.SampledRun.{IsLooped, IsRun, Outside, PortsTell}
 pub use Rattle.tnc_ports.specs.SampledWrites.{Puts, ReportsMore, Stream, WritesMore, stream_of}
 pub use Rattle.host_ports.specs.SentSoFar.{IsOrderly, octets_for}
 pub use Rattle.tnc_ports.specs.ServedHosts.{IsShutHavingCome, NoneTwice, closed_by, ids_closed, octets_to}
-pub use Rattle.host_ports.specs.Sockets.{MayCome, Poll, has_come, is_joining_of}
+pub use Rattle.host_ports.specs.Sockets.{MayCome, Poll, PortsTold, has_come, is_joining_of}
 pub use Rattle.host_ports.specs.Waiting.{after_sending, front_of, most_octets, octets_of, with_piece}
 pub use Rattle.host_ports.specs.declared.client.Client.{Client}
 pub use Rattle.tnc_ports.specs.declared.looping.LoopEnd.TheVariants.{Memory}

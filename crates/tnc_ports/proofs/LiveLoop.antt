@@ -1,8 +1,8 @@
 -- All turns of a live station, from the first to the last.
 use Rattle.tnc_ports.proofs.Common.{Bool, true, false, Some, ◌≡◌, ℕ, ◌≤◌, [], ◌++◌, refl, sym, ap, subst, inl, inr, ◌∙◌}
-use Rattle.tnc_ports.proofs.Common.{arith, Reader, LiveReceiver, answers_in, WrotePart, Memory, ServeWords, Turning, Told}
+use Rattle.tnc_ports.proofs.Common.{arith, Reader, LiveReceiver, answers_in, WrotePart, Memory, ServeWords, Turning, PortsTold}
 use Rattle.tnc_ports.proofs.Common.{output_octets, report_text, Live, new_live, IsTurn, StandsForLive, Turns, IsCutOff}
-use Rattle.tnc_ports.proofs.Common.{Runs, told_in, Outside, IsRun, IsCutRun, IsCutTurn, IsCutInServing, PortsTell}
+use Rattle.tnc_ports.proofs.Common.{Runs, Outside, IsRun, IsCutRun, IsCutTurn, IsCutInServing, PortsTell}
 use Rattle.tnc_ports.proofs.Common.{AllIsWritten, Stream, WritesMore}
 use Rattle.std.proofs.Common.{suc, ◌⊎◌, ◌∷◌}
 use Rattle.slicer_bank.specs.RingLanes.{answers_of}
@@ -23,7 +23,7 @@ use Rattle.tnc_ports.proofs.LiveServed.{served_run, served_cut, all_told}
 use Rattle.tnc_ports.proofs.LiveTold.{tells_nothing, tells_more, tells_still}
 use Rattle.tnc_ports.proofs.LiveWrites.{no_write, writes_more}
 
-stay_stay : (x y z : Outside) → PortsStay x y → z.listens ≡ y.listens → y.port_faults ≤ z.port_faults → PortsStay x z
+stay_stay : (x y z : Outside) → PortsStay x y → z.ports.listens ≡ y.ports.listens → y.ports.faults ≤ z.ports.faults → PortsStay x z
 stay_stay x y z h same le = record { listens = same ∙ h.listens; faults = let f = h.faults in omega (arith, f, le) }
 
 -- ---- the key before the first turn
@@ -111,8 +111,8 @@ runs_first words turning len receiver start stands same none key = record {
 pub runs_more : (words : ServeWords) (a b : Turning) (len : ℕ) (old receiver : LiveReceiver) (start x y : Outside)
     → (h : Runs words a len old start x)
     → Turns (from_of start) false a b len receiver h.live (output_of x) (output_of y) (report_of x) (report_of y)
-    (told_in x) (told_in y) y.line
-    → b.words ≡ a.words → y.listens ≡ x.listens → x.port_faults ≤ y.port_faults → Runs words b len receiver start y
+    x.ports y.ports y.line
+    → b.words ≡ a.words → y.ports.listens ≡ x.ports.listens → x.ports.faults ≤ y.ports.faults → Runs words b len receiver start y
 runs_more words a b len old receiver start x y h t same listens later = record {
   count = suc h.count;
   live = t.next;
@@ -171,8 +171,8 @@ answered_by len receiver reader live lanes sound =
 whole : (words : ServeWords) (a b : Turning) (len : ℕ) (old receiver : LiveReceiver) (start x y : Outside)
     → (h : Runs words a len old start x)
     → (t : Turns (from_of start) true a b len receiver h.live (output_of x) (output_of y) (report_of x) (report_of y)
-    (told_in x) (told_in y) y.line)
-    → y.listens ≡ x.listens → x.port_faults ≤ y.port_faults
+    x.ports y.ports y.line)
+    → y.ports.listens ≡ x.ports.listens → x.ports.faults ≤ y.ports.faults
     → IsWhole words (answers_with len receiver b.meter.reader) t.next start y
     × WritesMore false b.failed (new_live words) t.next (output_of start) (output_of y) (report_of start)
     (report_of y)
@@ -216,8 +216,8 @@ as_told words b live start y same none key all = record {
 pub loop_done : (words : ServeWords) (a b : Turning) (len : ℕ) (old receiver : LiveReceiver) (start x y : Outside)
     → (h : Runs words a len old start x)
     → Turns (from_of start) true a b len receiver h.live (output_of x) (output_of y) (report_of x) (report_of y)
-    (told_in x) (told_in y) y.line
-    → b.words ≡ a.words → y.listens ≡ x.listens → x.port_faults ≤ y.port_faults → b.failed ≡ false
+    x.ports y.ports y.line
+    → b.words ≡ a.words → y.ports.listens ≡ x.ports.listens → x.ports.faults ≤ y.ports.faults → b.failed ≡ false
     → RunsOut words Done (answers_with len receiver b.meter.reader) b start y
 loop_done words a b len old receiver start x y h t same listens later none =
     let w = whole words a b len old receiver start x y h t listens later in
@@ -233,8 +233,8 @@ loop_done words a b len old receiver start x y h t same listens later none =
 pub loop_fault : (words : ServeWords) (a b : Turning) (len : ℕ) (old receiver : LiveReceiver) (start x y : Outside)
     → (h : Runs words a len old start x)
     → Turns (from_of start) true a b len receiver h.live (output_of x) (output_of y) (report_of x) (report_of y)
-    (told_in x) (told_in y) y.line
-    → b.words ≡ a.words → y.listens ≡ x.listens → x.port_faults ≤ y.port_faults → b.failed ≡ true
+    x.ports y.ports y.line
+    → b.words ≡ a.words → y.ports.listens ≡ x.ports.listens → x.ports.faults ≤ y.ports.faults → b.failed ≡ true
     → RunsOut words WriteFault (answers_with len receiver b.meter.reader) b start y
 loop_fault words a b len old receiver start x y h t same listens later some =
     let w = whole words a b len old receiver start x y h t listens later in (
@@ -256,8 +256,8 @@ either words b live start now true e same key h = inr h
 pub loop_memory : (words : ServeWords) (a b : Turning) (len : ℕ) (old receiver : LiveReceiver) (start x y : Outside)
     → (h : Runs words a len old start x)
     → IsCutOff (from_of start) a b len receiver h.live (output_of x) (output_of y) (report_of x) (report_of y)
-    (told_in x) (told_in y) y.line
-    → b.words ≡ a.words → y.listens ≡ x.listens → x.port_faults ≤ y.port_faults
+    x.ports y.ports y.line
+    → b.words ≡ a.words → y.ports.listens ≡ x.ports.listens → x.ports.faults ≤ y.ports.faults
     → RunsOut words Memory (answers_with len receiver b.meter.reader) b start y
 loop_memory words a b len old receiver start x y h t same listens later =
     let all = writes_more false a.failed b.failed (new_live words) h.live t.next (output_of start) (output_of x)
@@ -317,14 +317,14 @@ loop_memory words a b len old receiver start x y h t same listens later =
 -- ---- whether a turn was the last
 
 pub turned_over : (from : From) (ended : Bool) (a b : Turning) (len : ℕ) (receiver : LiveReceiver) (live : Live)
-    (o o' r r' : Stream) (t t' : Told) (line : LineTold) → ended ≡ true
+    (o o' r r' : Stream) (t t' : PortsTold) (line : LineTold) → ended ≡ true
     → Turns from ended a b len receiver live o o' r r' t t' line
     → Turns from true a b len receiver live o o' r r' t t' line
 turned_over from ended a b len receiver live o o' r r' t t' line e h =
     subst (λ x. Turns from x a b len receiver live o o' r r' t t' line) e h
 
 pub turned_on : (from : From) (ended : Bool) (a b : Turning) (len : ℕ) (receiver : LiveReceiver) (live : Live)
-    (o o' r r' : Stream) (t t' : Told) (line : LineTold) → ended ≡ false
+    (o o' r r' : Stream) (t t' : PortsTold) (line : LineTold) → ended ≡ false
     → Turns from ended a b len receiver live o o' r r' t t' line
     → Turns from false a b len receiver live o o' r r' t t' line
 turned_on from ended a b len receiver live o o' r r' t t' line e h =

@@ -247,8 +247,8 @@ served words LoopFault pump end input left before after e h =
 -- the ports are opened if listening is no error
 pub has_opened : {T E : Type 0} → (words : ServeWords) (before after : Outside) (r : Result T E) (failed : Bool)
     → failed ≡ is_err r → failed ≡ false
-    → ((was : List Listen) → before.listens ≡ Some was
-    → OnOk r (after.listens ≡ Some (was ++ words.listen ∷ [])))
+    → ((was : List Listen) → before.ports.listens ≡ Some was
+    → OnOk r (after.ports.listens ≡ Some (was ++ words.listen ∷ [])))
     → OnlyListens before after → HasOpened words before after
 has_opened words before after (Ok v) failed e f opens only = record { opened = opens; only = only }
 has_opened words before after (Err x) failed e f opens only = absurd (false≢true (sym f ∙ e))

@@ -2,7 +2,7 @@
 use Rattle.tnc_ports.proofs.Common.{Bool, true, false, Option, Some, Result, Ok, Err, OnErr, ◌≡◌, ℕ, ◌+◌, ◌-◌, ◌<◌, ◌≤◌}
 use Rattle.tnc_ports.proofs.Common.{[], ◌++◌, length, take, drop, get_or, refl, sym, ap, subst, ◌∙◌, arith}
 use Rattle.tnc_ports.proofs.Common.{append_assoc, append-nil, take_more, take-append-drop, Sent, Links, AirTick}
-use Rattle.tnc_ports.proofs.Common.{Candidate, Got, ReportLine, Turning, Told, IsAsked, taken_of, octets_for, StandsFor}
+use Rattle.tnc_ports.proofs.Common.{Candidate, Got, ReportLine, Turning, PortsTold, IsAsked, taken_of, octets_for, StandsFor}
 use Rattle.tnc_ports.proofs.Common.{Hosts, Asked, IsHostPart, report_text, Live, AreHeard, AreTicked}
 use Rattle.tnc_ports.proofs.Common.{IsTurn, ReceivedLine, SentLine, with_lines, AreReceivedLines, AreSentLines}
 use Rattle.tnc_ports.proofs.Common.{IsFrameHeard, Keeps, HearsFrames, HearsSome, Ticks, TicksAll, ServesAll}
@@ -328,7 +328,7 @@ ticks_some from busy count len first before after live o o' o'' r r' r'' line li
 -- ---- hosts
 
 pub serves_all : (before after : Turning) (between : HeldHosts) (hosts : Hosts) (taken : List ReportLine)
-    (text : List ℕ) (report report' : Stream) (told told' : Told)
+    (text : List ℕ) (report report' : Stream) (told told' : PortsTold)
     → Keeps before.hosts hosts
     → ((hosts : Hosts) (printed : List ReportLine) → StandsFor before.hosts printed hosts
     → (asked : Asked) × (next : Hosts) × IsHostPart asked hosts next × StandsFor between printed next

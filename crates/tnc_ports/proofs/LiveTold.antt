@@ -2,7 +2,7 @@
 use Rattle.tnc_ports.proofs.Common.{Bool, true, false, Some, ◌||◌, ◌≢◌, All, ◌≡◌, inl, inr, ℕ, ◌+◌, ◌≤◌, rules, []}
 use Rattle.tnc_ports.proofs.Common.{◌++◌, length, map, refl, sym, ap, subst, ◌∙◌, arith, append_assoc, list_any}
 use Rattle.tnc_ports.proofs.Common.{flat_map, append-nil, map-append, false≢true, All-append, flat_map-append, poll_of}
-use Rattle.tnc_ports.proofs.Common.{send_of, taken_of, AreUnasked, IsAsked, is_among, Asked, told_in, Outside}
+use Rattle.tnc_ports.proofs.Common.{send_of, taken_of, AreUnasked, IsAsked, is_among, Asked, Outside}
 use Rattle.tnc_ports.proofs.Common.{PortsTell, octets_to, IsShutHavingCome, Poll, MayCome, has_come, is_joining_of}
 use Rattle.std.proofs.Common.{◌⊎◌, zero, suc, List, ◌∷◌, length-append}
 use Rattle.tnc_ports.specs.SampledRun.{sends_from}
@@ -91,8 +91,8 @@ tells_nothing x = record {
 }
 
 -- nothing more was told
-pub tells_still : (turns : List Asked) (x y z : Outside) → x.port_faults ≤ y.port_faults → PortsTell turns x y
-    → AreUnasked (told_in y) (told_in z) → PortsTell turns x z
+pub tells_still : (turns : List Asked) (x y z : Outside) → x.ports.faults ≤ y.ports.faults → PortsTell turns x y
+    → AreUnasked y.ports z.ports → PortsTell turns x z
 tells_still turns x y z sofar h g = record {
   polls = λ was e. g.polled ∙ h.polls was e;
   sends = λ was e sends es. g.sends ∙ h.sends was e sends es;
@@ -100,7 +100,7 @@ tells_still turns x y z sofar h g = record {
   shut = λ id was told e s b. g.shut id ∙ h.shut id was told e s b;
   not_shut = λ id none. g.shut id ∙ h.not_shut id none;
   may_come = h.may_come;
-  failed = λ some. risen_later x.port_faults x.port_faults y.port_faults z.port_faults (omega arith) (h.failed some)
+  failed = λ some. risen_later x.ports.faults x.ports.faults y.ports.faults z.ports.faults (omega arith) (h.failed some)
       g.later;
 }
 
@@ -118,9 +118,9 @@ some_failed : (before last all : List ℕ) → all ≡ before ++ last → all �
 some_failed [] last all is some = inr (λ none. some (is ∙ none))
 some_failed (id ∷ before) last all is some = inl (λ none. cc none)
 
-pub tells_more : (turns : List Asked) (asked : Asked) (x y z : Outside) → x.port_faults ≤ y.port_faults
-    → y.port_faults ≤ z.port_faults
-    → PortsTell turns x y → IsAsked asked (told_in y) (told_in z) → PortsTell (turns ++ asked ∷ []) x z
+pub tells_more : (turns : List Asked) (asked : Asked) (x y z : Outside) → x.ports.faults ≤ y.ports.faults
+    → y.ports.faults ≤ z.ports.faults
+    → PortsTell turns x y → IsAsked asked y.ports z.ports → PortsTell (turns ++ asked ∷ []) x z
 unfolding shut_in all_failed
 tells_more turns asked x y z sofar later h g = record {
   polls = λ was e.
@@ -141,7 +141,7 @@ tells_more turns asked x y z sofar later h g = record {
       ∙ ap Some (append_assoc was (octets_to id turns) (taken_of id asked.offers)
       ∙ ap (λ o. was ++ o) (sym (octets-more id turns asked)));
   shut = λ id was told e s b.
-      let polled : z.polls ≡ Some (was ++ map poll_of (turns ++ asked ∷ [])) =
+      let polled : z.ports.polls ≡ Some (was ++ map poll_of (turns ++ asked ∷ [])) =
       g.polled (was ++ map poll_of turns) (h.polls was e)
       ∙ ap Some (append_assoc was (map poll_of turns) (poll_of asked ∷ [])
       ∙ ap (λ p. was ++ p) (sym (map-append poll_of turns (asked ∷ [])))) in
@@ -164,16 +164,16 @@ tells_more turns asked x y z sofar later h g = record {
   failed = λ some. elim (some_failed (all_failed turns) asked.failed (all_failed (turns ++ asked ∷ []))
       (failed_more turns asked) some) [
         | inl before ↦
-            risen_later x.port_faults x.port_faults y.port_faults z.port_faults (omega arith) (h.failed before) later
+            risen_later x.ports.faults x.ports.faults y.ports.faults z.ports.faults (omega arith) (h.failed before) later
         | inr now ↦
-            risen_later x.port_faults y.port_faults z.port_faults z.port_faults sofar (g.failed now) (omega arith)
+            risen_later x.ports.faults y.ports.faults z.ports.faults z.ports.faults sofar (g.failed now) (omega arith)
       ];
 }
   where
-    stays_shut : (id : ℕ) (among : Bool) → y.is_shut id ≡ Some true
-        → (is_among id asked.shut ≡ true → z.is_shut id ≡ Some true)
-        → (is_among id asked.shut ≡ false → z.is_shut id ≡ Some true) → is_among id asked.shut ≡ among
-        → z.is_shut id ≡ Some true
+    stays_shut : (id : ℕ) (among : Bool) → y.ports.is_shut id ≡ Some true
+        → (is_among id asked.shut ≡ true → z.ports.is_shut id ≡ Some true)
+        → (is_among id asked.shut ≡ false → z.ports.is_shut id ≡ Some true) → is_among id asked.shut ≡ among
+        → z.ports.is_shut id ≡ Some true
     stays_shut id true was now later e = now e
     stays_shut id false was now later e = later e
 

@@ -2,7 +2,7 @@
 use Rattle.tnc_ports.proofs.Common.{append-nil, Bool, IsTrue, ◌↔◌, ◌≡◌, ℕ, ◌+◌, ◌-◌, ◌*◌, ◌/◌, ◌<◌, ◌≤◌, [], ◌++◌, refl, sym, ap}
 use Rattle.tnc_ports.proofs.Common.{subst, inl, inr, ◌∙◌, arith, Candidate, least_position, AreDueBy, LiveReceiver, detection_of}
 use Rattle.tnc_ports.proofs.Common.{listening_of}
-use Rattle.tnc_ports.proofs.Common.{answers_in, LanesListen, Turning, ServeWords, Told, AreUnasked, IsAsked, Hosts}
+use Rattle.tnc_ports.proofs.Common.{answers_in, LanesListen, Turning, ServeWords, PortsTold, AreUnasked, IsAsked, Hosts}
 use Rattle.tnc_ports.proofs.Common.{Asked, Live, HaveEnded, with_hosts, AreHeard, AreTicked, HearsAll, MakesAll, Keeps}
 use Rattle.tnc_ports.proofs.Common.{StandsForLive, HearsFrames, HearsSome, Ticks, TicksAll, ServesAll, Reads, Turns}
 use Rattle.tnc_ports.proofs.Common.{IsCutOff, IsCutInReading, IsCutInServing, Stream, WritesMore}
@@ -267,7 +267,7 @@ all_made from ended busy least items before a b k c len old receiver live o o' r
     }
 
 pub whole_turn : (from : From) (ended : Bool) (before c d : Turning) (len : ℕ) (receiver : LiveReceiver) (live : Live)
-    (o o' r0 r3 r4 : Stream) (told told' : Told) (line : LineTold)
+    (o o' r0 r3 r4 : Stream) (told told' : PortsTold) (line : LineTold)
     → Makes from ended before c len receiver live o o' r0 r3 line
     → ((hosts : Hosts) → Keeps c.hosts hosts → ServesAll c d hosts r3 r4 told told')
     → d.ticks ≡ c.ticks → c.words ≡ before.words → d.words ≡ c.words → d.key ≡ c.key → d.meter ≡ c.meter
@@ -323,7 +323,7 @@ measured_so len rate before after live next same h sound = (
 )
 
 pub cut_reading : (from : From) (before a : Turning) (len : ℕ) (receiver : LiveReceiver) (live : Live) (o r0 r1 : Stream)
-    (told : Told) (line : LineTold)
+    (told : PortsTold) (line : LineTold)
     → KeyedSince from before live o r0 line
     → IsCutInReading before.words live (record live { lanes = answers_in len receiver }) → a.failed ≡ before.failed
     → a.words ≡ before.words → a.key ≡ before.key → r1 ≡ r0
@@ -352,7 +352,7 @@ cut_reading from before a len receiver live o r0 r1 told line key cut failed wor
 }
 
 pub cut_hearing : (from : From) (ended : Bool) (least : ℕ) (items : List Candidate) (before a b : Turning) (len : ℕ)
-    (receiver : LiveReceiver) (live : Live) (o r0 r1 r2 : Stream) (told : Told) (line : LineTold)
+    (receiver : LiveReceiver) (live : Live) (o r0 r1 r2 : Stream) (told : PortsTold) (line : LineTold)
     → KeyedSince from before live o r0 line
     → Reads ended least items before a len receiver live r0 r1
     → ((hosts : Hosts) → Keeps a.hosts hosts → HearsSome items a b hosts r1 r2)
@@ -392,7 +392,7 @@ cut_hearing from ended least items before a b len receiver live o r0 r1 r2 told 
     }
 
 pub cut_ticking : (from : From) (ended busy : Bool) (least : ℕ) (items : List Candidate) (before a b k c : Turning)
-    (len : ℕ) (old receiver : LiveReceiver) (live : Live) (o o' r0 r1 r2 r3 r4 : Stream) (told : Told)
+    (len : ℕ) (old receiver : LiveReceiver) (live : Live) (o o' r0 r1 r2 r3 r4 : Stream) (told : PortsTold)
     (line line1 line2 : LineTold)
     → StandsForLive before len old live → KeyedSince from before live o r0 line
     → Reads ended least items before a len receiver live r0 r1
@@ -436,7 +436,7 @@ cut_ticking from ended busy least items before a b k c len old receiver live o o
       tells = inl (unasked told);
     }
 
-in_serving : (words : ServeWords) (ended : Bool) (before made : Live) (told told' : Told)
+in_serving : (words : ServeWords) (ended : Bool) (before made : Live) (told told' : PortsTold)
     → MakesAll words ended before made → HasCutPart made.hosts told told'
     → AreUnasked told told' ⊎ ((asked : Asked) × (reached : Hosts) × IsCutInServing words before made asked reached
     × IsAsked asked told told')
@@ -445,7 +445,7 @@ in_serving words ended before made told told' makes (inr some) =
     inr (some.0, some.1, record { ended = ended; makes = makes; part = some.2 }, some.3)
 
 pub cut_serving : (from : From) (ended : Bool) (before c d : Turning) (len : ℕ) (receiver : LiveReceiver) (live : Live)
-    (o o' r0 r3 r4 : Stream) (told told' : Told) (line : LineTold)
+    (o o' r0 r3 r4 : Stream) (told told' : PortsTold) (line : LineTold)
     → Makes from ended before c len receiver live o o' r0 r3 line
     → d.failed ≡ c.failed → d.words ≡ c.words → d.key ≡ c.key → r4 ≡ r3
     → ((hosts : Hosts) → Keeps c.hosts hosts → HasCutPart hosts told told') → d.meter ≡ c.meter

@@ -22,7 +22,8 @@ use Rattle.tnc_ports.specs.declared.looping.LoopEnd.TheVariants.{Done, Memory, W
 use Rattle.tnc_ports.specs.declared.serve_words.KeyWords.{KeyWords}
 use Rattle.tnc_ports.specs.declared.serve_words.ServeWords.{ServeWords}
 use Rattle.tnc_ports.specs.declared.turning.Turning.{Turning}
-use Rattle.host_ports.specs.AskedPorts.{Told, AreUnasked, IsAsked}
+use Rattle.host_ports.specs.AskedPorts.{AreUnasked, IsAsked}
+use Rattle.host_ports.specs.Sockets.{PortsTold}
 use Rattle.host_ports.specs.HeldHosts.{HeldHosts, StandsFor}
 use Rattle.tnc_ports.specs.HeldMeter.{HasMeasured, Measures}
 use Rattle.host_ports.specs.Hosts.{Hosts}
@@ -188,7 +189,7 @@ pub record TicksAll (from : From) (busy : Bool) (count len : ℕ) (before after 
 
 -- ---- hosts
 
-pub record ServesAll (before after : Turning) (hosts : Hosts) (report report' : Stream) (told told' : Told)
+pub record ServesAll (before after : Turning) (hosts : Hosts) (report report' : Stream) (told told' : PortsTold)
     : Type 0 where
   pub asked : Asked
   pub next : Hosts
@@ -234,7 +235,7 @@ pub record Makes (from : From) (ended : Bool) (before after : Turning) (len : �
   pub writes : WritesMore before.failed after.failed live made output output' report report'
 
 pub record Turns (from : From) (ended : Bool) (before after : Turning) (len : ℕ) (receiver : LiveReceiver) (live : Live)
-    (output output' report report' : Stream) (told told' : Told) (line' : LineTold) : Type 0 where
+    (output output' report report' : Stream) (told told' : PortsTold) (line' : LineTold) : Type 0 where
   -- what is kept after the part that is not for hosts, and the report then: it has written all that it had to, and
   -- only then the part for hosts asks the ports
   pub between : Turning
@@ -254,7 +255,7 @@ pub record Turns (from : From) (ended : Bool) (before after : Turning) (len : �
   pub tells : IsAsked asked told told'
 
 pub record IsCutOff (from : From) (before after : Turning) (len : ℕ) (receiver : LiveReceiver) (live : Live)
-    (output output' report report' : Stream) (told told' : Told) (line' : LineTold) : Type 0 where
+    (output output' report report' : Stream) (told told' : PortsTold) (line' : LineTold) : Type 0 where
   pub next : Live
   pub cut : IsCutTurn before.words live next
   pub lanes : answers_in len receiver ≡ next.lanes
@@ -273,9 +274,6 @@ output_of o = record { written = o.output; faults = o.output_faults }
 
 abbrev pub report_of : Outside → Stream
 report_of o = record { written = o.report; faults = o.report_faults }
-
-abbrev pub told_in : Outside → Told
-told_in o = record { polls = o.polls; sends = o.sends; sent = o.sent_to; is_shut = o.is_shut; faults = o.port_faults }
 
 -- where the outside stood when a run began
 abbrev pub from_of : Outside → From

@@ -16,7 +16,6 @@ use Rattle.key_port.specs.KeyTasks.{LineTold, line_told, CountsIf}
 use Rattle.sound_rate.specs.Rates.{written_at}
 use Rattle.tnc_base.specs.Faults.{HasRisen}
 use Rattle.tnc_base.specs.Streams.{WrotePart}
-use Rattle.host_ports.specs.declared.records.Listen.{Listen}
 use Rattle.tnc_ports.specs.declared.serve_words.KeyWords.{KeyWords}
 use Rattle.tnc_ports.specs.declared.serve_words.ServeWords.{ServeWords}
 use Rattle.tnc_ports.specs.declared.looping.LoopEnd.{LoopEnd}
@@ -30,7 +29,7 @@ use Rattle.tnc_ports.specs.ReportText.{output_octets, report_text}
 use Rattle.tnc_ports.specs.Sampled.{Live, new_live, with_hosts, HaveEnded, LanesReadOn, AreHeard, HearsAll, MakesTicks}
 use Rattle.tnc_ports.specs.Sampled.{MakesAll, IsTurn, IsKeyTurn, answers_of_all, octets_sent, tick_samples}
 use Rattle.tnc_ports.specs.ServedHosts.{octets_to, ids_shut, IsShutHavingCome, AreSentInTurns, AreShutInTurns}
-use Rattle.host_ports.specs.Sockets.{Poll, Send, MayCome}
+use Rattle.host_ports.specs.Sockets.{Poll, PortsTold, Send, MayCome}
 
 -- ---- a whole run
 
@@ -96,31 +95,18 @@ pub record IsCutRun (words : ServeWords) (live : Live) : Type 0 where
 
 -- what the ports, the key's line, the output and the report tell of the calls so far, and how often they failed
 pub record Outside : Type 0 where
-  pub listens : Option (List Listen)
-  pub polls : Option (List Poll)
-  pub sends : Option (List Send)
-  pub sent_to : ℕ → Option (List ℕ)
-  pub is_shut : ℕ → Option Bool
-  pub port_faults : ℕ
+  pub ports : PortsTold
   pub line : LineTold
   pub output : Option (List ℕ)
   pub output_faults : ℕ
   pub report : Option (List ℕ)
   pub report_faults : ℕ
 
-abbrev pub outside_by : {P K O E : Type 0} → (P → Option (List Listen)) → (P → Option (List Poll))
-    → (P → Option (List Send)) → (P → ℕ → Option (List ℕ)) → (P → ℕ → Option Bool) → (P → ℕ)
-    → (K → Option (List KeyLine)) → (K → ℕ)
+abbrev pub outside_by : {P K O E : Type 0} → (P → PortsTold) → (K → Option (List KeyLine)) → (K → ℕ)
     → (O → Option (List ℕ)) → (O → ℕ) → (E → Option (List ℕ)) → (E → ℕ) → P → K → O → E → Outside
-outside_by listens polls sends sent is_shut port_faults lines line_faults written faults reported report_faults
-    ports key output report =
+outside_by told lines line_faults written faults reported report_faults ports key output report =
     record {
-      listens = listens ports;
-      polls = polls ports;
-      sends = sends ports;
-      sent_to = sent ports;
-      is_shut = is_shut ports;
-      port_faults = port_faults ports;
+      ports = told ports;
       line = line_told lines line_faults key;
       output = written output;
       output_faults = faults output;
@@ -141,20 +127,20 @@ sends_from poll (asked ∷ turns) = map (send_of poll) asked.offers ++ sends_fro
 -- shut is shut, and one that no turn shut is as it was. What came are whole pieces, none of a connection that was
 -- paused. A send that failed is a fault of theirs.
 pub record PortsTell (turns : List Asked) (before after : Outside) : Type 0 where
-  pub polls : GrowsBy (map poll_of turns) before.polls after.polls
-  pub sends : (was : List Poll) → before.polls ≡ Some was
-      → GrowsBy (sends_from (length was + 1) turns) before.sends after.sends
-  pub sent_to : (id : ℕ) → GrowsBy (octets_to id turns) (before.sent_to id) (after.sent_to id)
-  pub shut : (id : ℕ) (was : List Poll) (told : Bool) → before.polls ≡ Some was → IsShutHavingCome id was turns
-      → before.is_shut id ≡ Some told → after.is_shut id ≡ Some true
-  pub not_shut : (id : ℕ) → is_among id (ids_shut turns) ≡ false → after.is_shut id ≡ before.is_shut id
+  pub polls : GrowsBy (map poll_of turns) before.ports.polls after.ports.polls
+  pub sends : (was : List Poll) → before.ports.polls ≡ Some was
+      → GrowsBy (sends_from (length was + 1) turns) before.ports.sends after.ports.sends
+  pub sent_to : (id : ℕ) → GrowsBy (octets_to id turns) (before.ports.sent id) (after.ports.sent id)
+  pub shut : (id : ℕ) (was : List Poll) (told : Bool) → before.ports.polls ≡ Some was → IsShutHavingCome id was turns
+      → before.ports.is_shut id ≡ Some told → after.ports.is_shut id ≡ Some true
+  pub not_shut : (id : ℕ) → is_among id (ids_shut turns) ≡ false → after.ports.is_shut id ≡ before.ports.is_shut id
   pub may_come : All (λ asked. All (MayCome asked.paused) asked.events) turns
-  pub failed : flat_map (λ asked. asked.failed) turns ≢ [] → HasRisen before.port_faults after.port_faults
+  pub failed : flat_map (λ asked. asked.failed) turns ≢ [] → HasRisen before.ports.faults after.ports.faults
 
 -- the ports did not listen, and their count of faults did not fall
 pub record PortsStay (before after : Outside) : Type 0 where
-  pub listens : after.listens ≡ before.listens
-  pub faults : before.port_faults ≤ after.port_faults
+  pub listens : after.ports.listens ≡ before.ports.listens
+  pub faults : before.ports.faults ≤ after.ports.faults
 
 -- All that there was to write when the key was last told that no write has failed is written. So a write that fails is
 -- told to the key after the samples of the tick in which it fails, or of the next one.

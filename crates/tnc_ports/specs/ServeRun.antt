@@ -50,11 +50,11 @@ end_of LoopFault pump = WriteFault
 
 -- The ports are lent, and do nothing but listen; nothing is written.
 pub record OnlyListens (before after : Outside) : Type 0 where
-  pub polls : after.polls ≡ before.polls
-  pub sends : after.sends ≡ before.sends
-  pub sent_to : (id : ℕ) → after.sent_to id ≡ before.sent_to id
-  pub is_shut : (id : ℕ) → after.is_shut id ≡ before.is_shut id
-  pub faults : before.port_faults ≤ after.port_faults
+  pub polls : after.ports.polls ≡ before.ports.polls
+  pub sends : after.ports.sends ≡ before.ports.sends
+  pub sent_to : (id : ℕ) → after.ports.sent id ≡ before.ports.sent id
+  pub is_shut : (id : ℕ) → after.ports.is_shut id ≡ before.ports.is_shut id
+  pub faults : before.ports.faults ≤ after.ports.faults
   pub line : after.line ≡ before.line
   pub output : after.output ≡ before.output
   pub output_faults : after.output_faults ≡ before.output_faults
@@ -63,14 +63,14 @@ pub record OnlyListens (before after : Outside) : Type 0 where
 
 -- the ports of the words are opened
 pub record HasOpened (words : ServeWords) (before after : Outside) : Type 0 where
-  pub opened : GrowsBy (words.listen ∷ []) before.listens after.listens
+  pub opened : GrowsBy (words.listen ∷ []) before.ports.listens after.ports.listens
   pub only : OnlyListens before after
 
 -- the ports could not be opened
 pub record HasNoPort (before after : Outside) : Type 0 where
-  pub listens : after.listens ≡ before.listens
+  pub listens : after.ports.listens ≡ before.ports.listens
   pub only : OnlyListens before after
-  pub failed : HasRisen before.port_faults after.port_faults
+  pub failed : HasRisen before.ports.faults after.ports.faults
 
 -- The ports are opened. The pump publishes the modem's samples of what it reads of the input, and beside it the loop's
 -- readers read what is published.

@@ -55,12 +55,12 @@ pub fn station_loop<R: Threads + Wait + Net + Sync, O: Sink, E: Sink, N: Ports, 
     requires sound { IsFreshSound ring.now sound.old }
     ensures sound { IsSoundOf ring.now sound.new }
     ensures readers { All (λ reader. reader_ring reader ≡ ring_id ring.now) (readers_in receiver.new) }
-    ensures dials { N.dials ports.new ≡ N.dials ports.old }
+    ensures dials { (N.told ports.new).dials ≡ (N.told ports.old).dials }
     ensures looped { IsLooped words.now result (answers_if (ring_len ring.now) receiver.new sound.new)
-        (outside_by N.listens N.polls N.sends N.sent N.is_shut N.faults K.lines K.faults O.written O.faults
-        E.written E.faults ports.old key.old output.old report.old)
-        (outside_by N.listens N.polls N.sends N.sent N.is_shut N.faults K.lines K.faults O.written O.faults
-        E.written E.faults ports.new key.new output.new report.new) }
+        (outside_by N.told K.lines K.faults O.written O.faults E.written E.faults
+        ports.old key.old output.old report.old)
+        (outside_by N.told K.lines K.faults O.written O.faults E.written E.faults
+        ports.new key.new output.new report.new) }
 {
     let mut side = key_of(words.key);
     let Ok(hosts) = HostSide::new(alloc, words.config, words.seed) else {
@@ -108,14 +108,14 @@ fn run<R: Threads + Wait + Net + Sync, O: Sink, E: Sink, N: Ports, K: KeyPort<O>
     requires failed { turning.old.failed ≡ false }
     requires key { KeyStands turning.old.words.key turning.old.key [] }
     ensures readers { All (λ reader. reader_ring reader ≡ ring_id ring.now) (readers_in receiver.new) }
-    ensures dials { N.dials ports.new ≡ N.dials ports.old }
+    ensures dials { (N.told ports.new).dials ≡ (N.told ports.old).dials }
     ensures meter { reader_ring turning.new.meter.reader ≡ ring_id ring.now }
     ensures run { RunsOut turning.old.words result
         (answers_with (ring_len ring.now) receiver.new turning.new.meter.reader) turning.new
-        (outside_by N.listens N.polls N.sends N.sent N.is_shut N.faults K.lines K.faults O.written O.faults
-        E.written E.faults ports.old key.old output.old report.old)
-        (outside_by N.listens N.polls N.sends N.sent N.is_shut N.faults K.lines K.faults O.written O.faults
-        E.written E.faults ports.new key.new output.new report.new) }
+        (outside_by N.told K.lines K.faults O.written O.faults E.written E.faults
+        ports.old key.old output.old report.old)
+        (outside_by N.told K.lines K.faults O.written O.faults E.written E.faults
+        ports.new key.new output.new report.new) }
 {
     'turns: for _ in rt.forever() {
         match turning.turn(rt, ring, receiver, output, report, ports, key) {

@@ -82,13 +82,13 @@ pub fn serve<
     requires window { (window : ℕ) → ¬ IsRefusedWindow words.config.params window }
     requires dcd { CanBeAskedBy words.listening words.dcd }
     ensures served { IsServed words result (input_by I.left I.faults input.old) (input_by I.left I.faults input.new)
-        (outside_by N.listens N.polls N.sends N.sent N.is_shut N.faults K.lines K.faults O.written O.faults
-        E.written E.faults live.old.ports live.old.key output.old report.old)
-        (outside_by N.listens N.polls N.sends N.sent N.is_shut N.faults K.lines K.faults O.written O.faults
-        E.written E.faults live.new.ports live.new.key output.new report.new) }
+        (outside_by N.told K.lines K.faults O.written O.faults E.written E.faults
+        live.old.ports live.old.key output.old report.old)
+        (outside_by N.told K.lines K.faults O.written O.faults E.written E.faults
+        live.new.ports live.new.key output.new report.new) }
     ensures no_thread { result ≡ ServeEnd.NoThread → HasRisen (W.faults live.old.spawner) (W.faults live.new.spawner) }
     ensures thread { result ≢ ServeEnd.NoThread → W.faults live.new.spawner ≡ W.faults live.old.spawner }
-    ensures dials { N.dials live.new.ports ≡ N.dials live.old.ports }
+    ensures dials { (N.told live.new.ports).dials ≡ (N.told live.old.ports).dials }
 {
     let Live {
         ports,
@@ -169,12 +169,12 @@ fn run_beside<
     ensures sound { IsSoundOf ring.now sound.new }
     ensures looped { IsLoopedIf (is_some result) words.now end.new
         (answers_if (ring_len ring.now) receiver.new sound.new)
-        (outside_by N.listens N.polls N.sends N.sent N.is_shut N.faults K.lines K.faults O.written O.faults
-        E.written E.faults ports.old key.old output.old report.old)
-        (outside_by N.listens N.polls N.sends N.sent N.is_shut N.faults K.lines K.faults O.written O.faults
-        E.written E.faults ports.new key.new output.new report.new) }
+        (outside_by N.told K.lines K.faults O.written O.faults E.written E.faults
+        ports.old key.old output.old report.old)
+        (outside_by N.told K.lines K.faults O.written O.faults E.written E.faults
+        ports.new key.new output.new report.new) }
     ensures counted { CountsUnless (is_some result) (W.faults spawner.old) (W.faults spawner.new) }
-    ensures dials { N.dials ports.new ≡ N.dials ports.old }
+    ensures dials { (N.told ports.new).dials ≡ (N.told ports.old).dials }
 {
     pump_beside(
         rt,
@@ -191,11 +191,11 @@ fn run_beside<
                 × IsSoundOf ring.entry.now sound.exit.now
                 × IsLoopedIf begins words.entry.now end.exit.now
                 (answers_if (ring_len ring.entry.now) receiver.exit.now sound.exit.now)
-                (outside_by N.listens N.polls N.sends N.sent N.is_shut N.faults K.lines K.faults O.written
-                O.faults E.written E.faults ports.entry.now key.entry.now output.entry.now report.entry.now)
-                (outside_by N.listens N.polls N.sends N.sent N.is_shut N.faults K.lines K.faults O.written
-                O.faults E.written E.faults ports.exit.now key.exit.now output.exit.now report.exit.now)
-                × (N.dials ports.exit.now ≡ N.dials ports.entry.now) }
+                (outside_by N.told K.lines K.faults O.written O.faults E.written E.faults
+                ports.entry.now key.entry.now output.entry.now report.entry.now)
+                (outside_by N.told K.lines K.faults O.written O.faults E.written E.faults
+                ports.exit.now key.exit.now output.exit.now report.exit.now)
+                × ((N.told ports.exit.now).dials ≡ (N.told ports.entry.now).dials) }
         {
             loop_if(
                 begins, rt, alloc, words, ring, receiver, sound, end, output, report, ports, key,
@@ -225,11 +225,11 @@ fn loop_if<R: Threads + Wait + Net + Sync, O: Sink, E: Sink, N: Ports, K: KeyPor
     ensures readers { All (λ reader. reader_ring reader ≡ ring_id ring.now) (readers_in receiver.new) }
     ensures sound { IsSoundOf ring.now sound.new }
     ensures looped { IsLoopedIf begins words.now end.new (answers_if (ring_len ring.now) receiver.new sound.new)
-        (outside_by N.listens N.polls N.sends N.sent N.is_shut N.faults K.lines K.faults O.written O.faults
-        E.written E.faults ports.old key.old output.old report.old)
-        (outside_by N.listens N.polls N.sends N.sent N.is_shut N.faults K.lines K.faults O.written O.faults
-        E.written E.faults ports.new key.new output.new report.new) }
-    ensures dials { N.dials ports.new ≡ N.dials ports.old }
+        (outside_by N.told K.lines K.faults O.written O.faults E.written E.faults
+        ports.old key.old output.old report.old)
+        (outside_by N.told K.lines K.faults O.written O.faults E.written E.faults
+        ports.new key.new output.new report.new) }
+    ensures dials { (N.told ports.new).dials ≡ (N.told ports.old).dials }
 {
     if begins {
         *end = station_loop(

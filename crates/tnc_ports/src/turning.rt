@@ -18,7 +18,7 @@ ghost use Rattle.sample_ring.specs.declared.got.Got.{Got};
 ghost use Rattle.slicer_bank.specs.RingLanes.{answers_of};
 ghost use Rattle.station.specs.Heard.{IsPathOf};
 ghost use Rattle.station.specs.Monitored.{heard_modulus, sent_modulus};
-ghost use Rattle.host_ports.specs.AskedPorts.{Told, told_by};
+ghost use Rattle.host_ports.specs.Sockets.{PortsTold};
 ghost use Rattle.host_ports.specs.CutPart.{HasCutPart};
 ghost use Rattle.host_ports.specs.declared.report_line.ReportLine.{ReportLine};
 ghost use Rattle.tnc_ports.specs.declared.serve_words.KeyWords.{KeyWords};
@@ -102,23 +102,23 @@ impl Turning {
             → IfOk result (λ ended. Turns from ended self.old self.new (ring_len ring.now) receiver.new live
             (stream_of O.written O.faults output.old) (stream_of O.written O.faults output.new)
             (stream_of E.written E.faults report.old) (stream_of E.written E.faults report.new)
-            (told_by N.polls N.sends N.sent N.is_shut N.faults ports.old)
-            (told_by N.polls N.sends N.sent N.is_shut N.faults ports.new) (line_told K.lines K.faults key.new)) }
+            (N.told ports.old)
+            (N.told ports.new) (line_told K.lines K.faults key.new)) }
         ensures cut { (from : From) (live : Live) → StandsForLive self.old (ring_len ring.now) receiver.old live
             → KeyedSince from self.old live (stream_of O.written O.faults output.old)
             (stream_of E.written E.faults report.old) (line_told K.lines K.faults key.old)
             → OnErr result (IsCutOff from self.old self.new (ring_len ring.now) receiver.new live
             (stream_of O.written O.faults output.old) (stream_of O.written O.faults output.new)
             (stream_of E.written E.faults report.old) (stream_of E.written E.faults report.new)
-            (told_by N.polls N.sends N.sent N.is_shut N.faults ports.old)
-            (told_by N.polls N.sends N.sent N.is_shut N.faults ports.new) (line_told K.lines K.faults key.new)) }
+            (N.told ports.old)
+            (N.told ports.new) (line_told K.lines K.faults key.new)) }
         ensures words { self.new.words ≡ self.old.words }
         ensures readers { All (λ reader. reader_ring reader ≡ ring_id ring.now) (readers_in receiver.new) }
         ensures detection { detection_of receiver.new ≡ detection_of receiver.old }
         ensures meter { reader_ring self.new.meter.reader ≡ ring_id ring.now }
-        ensures listens { N.listens ports.new ≡ N.listens ports.old }
-        ensures dials { N.dials ports.new ≡ N.dials ports.old }
-        ensures later { N.faults ports.old ≤ N.faults ports.new }
+        ensures listens { (N.told ports.new).listens ≡ (N.told ports.old).listens }
+        ensures dials { (N.told ports.new).dials ≡ (N.told ports.old).dials }
+        ensures later { (N.told ports.old).faults ≤ (N.told ports.new).faults }
     {
         let ended = self.make(rt, ring, receiver, output, report, key)?;
         self.serve_hosts(rt, report, ports)?;
@@ -151,7 +151,7 @@ impl Turning {
         ensures cut { (from : From) (live : Live) → StandsForLive self.old (ring_len ring.now) receiver.old live
             → KeyedSince from self.old live (stream_of O.written O.faults output.old)
             (stream_of E.written E.faults report.old) (line_told K.lines K.faults key.old)
-            → OnErr result ((told : Told) → IsCutOff from self.old self.new (ring_len ring.now) receiver.new live
+            → OnErr result ((told : PortsTold) → IsCutOff from self.old self.new (ring_len ring.now) receiver.new live
             (stream_of O.written O.faults output.old) (stream_of O.written O.faults output.new)
             (stream_of E.written E.faults report.old) (stream_of E.written E.faults report.new) told told
             (line_told K.lines K.faults key.new)) }
@@ -434,17 +434,17 @@ impl Turning {
         ensures served { (hosts : Hosts) → Keeps self.old.hosts hosts
             → OnOk result (ServesAll self.old self.new hosts
             (stream_of E.written E.faults report.old) (stream_of E.written E.faults report.new)
-            (told_by N.polls N.sends N.sent N.is_shut N.faults ports.old)
-            (told_by N.polls N.sends N.sent N.is_shut N.faults ports.new)) }
+            (N.told ports.old)
+            (N.told ports.new)) }
         ensures cut { (hosts : Hosts) → Keeps self.old.hosts hosts → OnErr result (HasCutPart hosts
-            (told_by N.polls N.sends N.sent N.is_shut N.faults ports.old)
-            (told_by N.polls N.sends N.sent N.is_shut N.faults ports.new)) }
+            (N.told ports.old)
+            (N.told ports.new)) }
         ensures unwritten { OnErr result ((report.new ≡ report.old) × (self.new.failed ≡ self.old.failed)) }
         ensures rest { (self.new.words ≡ self.old.words) × (self.new.ticks ≡ self.old.ticks)
             × (self.new.key ≡ self.old.key) × (self.new.meter ≡ self.old.meter) }
-        ensures listens { N.listens ports.new ≡ N.listens ports.old }
-        ensures dials { N.dials ports.new ≡ N.dials ports.old }
-        ensures later { N.faults ports.old ≤ N.faults ports.new }
+        ensures listens { (N.told ports.new).listens ≡ (N.told ports.old).listens }
+        ensures dials { (N.told ports.new).dials ≡ (N.told ports.old).dials }
+        ensures later { (N.told ports.old).faults ≤ (N.told ports.new).faults }
     {
         self.hosts.part(rt, ports)?;
         let lines = self.hosts.take_lines();

@@ -4,7 +4,7 @@ ghost use Rattle.std.specs.Prelude.{None};
 use super::outcome::{EIGHT, words};
 use crate::assertions::assert_equal;
 use host_ports::{Listen, PollFault, Ports};
-use key_port::{MemKeyPort, RealKeyPort};
+use key_port::{KeyPort, MemKeyPort, RealKeyPort};
 use station::HostEvent;
 use std::alloc::Global;
 use std::net::Net;
@@ -26,19 +26,15 @@ struct CountingPorts<'a> {
 }
 
 impl Ports for CountingPorts<'_> {
-    ghost listens = { λ _. None };
-
-    ghost dials = { λ _. None };
-
-    ghost polls = { λ _. None };
-
-    ghost is_shut = { λ _ _. None };
-
-    ghost sent = { λ _ _. None };
-
-    ghost sends = { λ _. None };
-
-    ghost faults = { λ _. 0 };
+    ghost told = { λ _. record {
+      listens = None;
+      dials = None;
+      polls = None;
+      sends = None;
+      sent = λ _. None;
+      is_shut = λ _. None;
+      faults = 0;
+    } };
 
     fn listen<R: Net>(&mut self, _rt: &R, _at: Listen) -> Result<(), Failed> {
         Ok(())
@@ -118,13 +114,42 @@ impl Sink for CountingSink<'_> {
     }
 }
 
+/// How a station ends, and whether its input gave up waiting.
+fn ended<R: Threads + Wait + Net + Clock + Sync, O: Sink, K: KeyPort<O>>(
+    rt: &R,
+    alloc: Global,
+    mut source: HeldSource<'_>,
+    output: &mut O,
+    ports: CountingPorts<'_>,
+    key: K,
+) -> Result<(ServeEnd, bool), OutOfMemory> {
+    let mut live = Live {
+        ports,
+        spawner: RealSpawner::new(),
+        key,
+        seed: 1,
+    };
+    let mut report = MemSink::new(alloc, 1000, Vec::new(alloc))?;
+    let words = words(false, EIGHT);
+    let end = serve(
+        rt,
+        alloc,
+        words,
+        &mut source,
+        output,
+        &mut report,
+        &mut live,
+    );
+    Ok((end, source.gave_up))
+}
+
 /// How a station ends whose input of a tick ends only once something was written, and whether it gave up waiting.
 fn written<R: Threads + Wait + Net + Clock + Sync>(
     rt: &R,
     alloc: Global,
 ) -> Result<(ServeEnd, bool), OutOfMemory> {
     let (polls, writes) = (AtomicU64::new(0), AtomicU64::new(0));
-    let mut source = HeldSource {
+    let source = HeldSource {
         octets: 192,
         count: &writes,
         least: 1,
@@ -136,27 +161,8 @@ fn written<R: Threads + Wait + Net + Clock + Sync>(
         polls: &polls,
         most: u64::MAX,
     };
-    let spawner = RealSpawner::new();
-    let key = RealKeyPort::new(rt);
-    let mut live = Live {
-        ports,
-        spawner,
-        key,
-        seed: 1,
-    };
     let mut output = CountingSink { writes: &writes };
-    let mut report = MemSink::new(alloc, 1000, Vec::new(alloc))?;
-    let words = words(false, EIGHT);
-    let end = serve(
-        rt,
-        alloc,
-        words,
-        &mut source,
-        &mut output,
-        &mut report,
-        &mut live,
-    );
-    Ok((end, source.gave_up))
+    ended(rt, alloc, source, &mut output, ports, RealKeyPort::new(rt))
 }
 
 /// How a station ends whose sockets want memory after so many polls, and whether its input gave up waiting for polls.
@@ -166,7 +172,7 @@ fn held<R: Threads + Wait + Net + Clock + Sync>(
     most: u64,
 ) -> Result<(ServeEnd, bool), OutOfMemory> {
     let polls = AtomicU64::new(0);
-    let mut source = HeldSource {
+    let source = HeldSource {
         octets: 2,
         count: &polls,
         least: 2,
@@ -178,27 +184,9 @@ fn held<R: Threads + Wait + Net + Clock + Sync>(
         polls: &polls,
         most,
     };
-    let spawner = RealSpawner::new();
     let key = MemKeyPort::new(alloc, Vec::new(alloc), 0);
-    let mut live = Live {
-        ports,
-        spawner,
-        key,
-        seed: 1,
-    };
     let mut output = MemSink::new(alloc, 1000, Vec::new(alloc))?;
-    let mut report = MemSink::new(alloc, 1000, Vec::new(alloc))?;
-    let words = words(false, EIGHT);
-    let end = serve(
-        rt,
-        alloc,
-        words,
-        &mut source,
-        &mut output,
-        &mut report,
-        &mut live,
-    );
-    Ok((end, source.gave_up))
+    ended(rt, alloc, source, &mut output, ports, key)
 }
 
 #[test]

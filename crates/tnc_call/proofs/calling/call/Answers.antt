@@ -1,11 +1,9 @@
-use Rattle.tnc_call.proofs.Common.{ports_by}
 use Rattle.tnc_call.proofs.WholeLemmas.{whole_call}
 use Rattle.tnc_call.proofs.calling.call.Goals as goal
 
 pub returns-clause-called : goal.returns-clause-called
 returns-clause-called g c = λ text before is_text is.
-    let told = ports_by g.N.Ports.listens g.N.Ports.dials g.N.Ports.polls g.N.Ports.sends g.N.Ports.sent
-    g.N.Ports.is_shut g.N.Ports.faults in
+    let told = g.N.Ports.told in
     let begun = c.in-Ok.ensures.begun text is_text in
     let dial = c.in-Ok-dial.ensures in
     let shut = c.shut.ensures in

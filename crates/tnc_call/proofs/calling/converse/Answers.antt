@@ -1,4 +1,4 @@
-use Rattle.tnc_call.proofs.Common.{◌+◌, ◌∙◌, length, refl, ap, None, arith, WriteFault, no_trace, ports_by}
+use Rattle.tnc_call.proofs.Common.{◌+◌, ◌∙◌, length, refl, ap, None, arith, WriteFault, no_trace}
 use Rattle.tnc_call.proofs.HeardLemmas.{none_is_no_end}
 use Rattle.tnc_call.proofs.TurnLemmas.{running_begins, talked, gave_up}
 use Rattle.tnc_call.proofs.calling.converse.Goals as goal
@@ -9,8 +9,7 @@ loop-turn-init g c = record {
     no_trace,
     refl,
     running_begins c.args.talk.now plan c.args.id before
-        (g.O.Sink.written c.args.output.now) (ports_by g.N.Ports.listens g.N.Ports.dials g.N.Ports.polls g.N.Ports.sends
-        g.N.Ports.sent g.N.Ports.is_shut g.N.Ports.faults c.args.ports.now) begun is,
+        (g.O.Sink.written c.args.output.now) (g.N.Ports.told c.args.ports.now) begun is,
   );
   within = c.requires.within;
   faultless = refl;

@@ -1,4 +1,4 @@
-use Rattle.tnc_call.proofs.Common.{◌≡◌, ◌≤◌, List, ℕ, Some, length, CallPlan, CallTrace, ports_by, HasBegun, IsRunning}
+use Rattle.tnc_call.proofs.Common.{◌≡◌, ◌≤◌, List, ℕ, Some, length, CallPlan, CallTrace, HasBegun, IsRunning}
 use Rattle.tnc_call.proofs.calling.converse.Given as goal
 
 -- so many turns were made
@@ -8,10 +8,8 @@ invariant-loop-turn g l = record {
       → g.O.Sink.written l.fn.output ≡ Some before
       → (trace : CallTrace) × (length trace.polls ≡ l._turn)
       × IsRunning l.talk plan l.id before (g.O.Sink.written l.output)
-      (ports_by g.N.Ports.listens g.N.Ports.dials g.N.Ports.polls g.N.Ports.sends g.N.Ports.sent g.N.Ports.is_shut
-      g.N.Ports.faults l.fn.ports)
-      (ports_by g.N.Ports.listens g.N.Ports.dials g.N.Ports.polls g.N.Ports.sends g.N.Ports.sent g.N.Ports.is_shut
-      g.N.Ports.faults l.ports) trace;
+      (g.N.Ports.told l.fn.ports)
+      (g.N.Ports.told l.ports) trace;
   within : l.talk.taken ≤ length l.talk.sent.items;
   faultless : g.O.Sink.faults l.output ≡ g.O.Sink.faults l.fn.output;
 }

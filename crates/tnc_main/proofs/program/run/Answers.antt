@@ -25,11 +25,11 @@ returns-in-Ok-clause-served g c = λ options asked.
         memory = refl;
         unread = ap (input_by g.I.Source.left g.I.Source.faults) kept.1;
         untouched =
-            ap (λ output. outside_by g.N.Ports.listens g.N.Ports.polls g.N.Ports.sends g.N.Ports.sent g.N.Ports.is_shut
-            g.N.Ports.faults g.K.KeyPort.lines g.K.KeyPort.faults g.O.Sink.written g.O.Sink.faults g.E.Sink.written g.E.Sink.faults
+            ap (λ output. outside_by g.N.Ports.told g.K.KeyPort.lines g.K.KeyPort.faults
+            g.O.Sink.written g.O.Sink.faults g.E.Sink.written g.E.Sink.faults
             c.args.live.now.ports c.args.live.now.key output c.run_batch.new.report) kept.2
-            ∙ ap (outside_by g.N.Ports.listens g.N.Ports.polls g.N.Ports.sends g.N.Ports.sent g.N.Ports.is_shut
-            g.N.Ports.faults g.K.KeyPort.lines g.K.KeyPort.faults g.O.Sink.written g.O.Sink.faults g.E.Sink.written g.E.Sink.faults
+            ∙ ap (outside_by g.N.Ports.told g.K.KeyPort.lines g.K.KeyPort.faults
+            g.O.Sink.written g.O.Sink.faults g.E.Sink.written g.E.Sink.faults
             c.args.live.now.ports c.args.live.now.key c.args.output.now) kept.3;
       }),
     )
@@ -104,11 +104,11 @@ returns-in-Err-clause-served g c = λ options asked.
     (LiveServe options) asked in
     let kept = c.in-Err.ensures.untouched in
     rebased options c.args.live.now.seed c.run_live.result _ _ _ _ _ _ (ap (input_by g.I.Source.left g.I.Source.faults) kept.0)
-    (ap (λ output. outside_by g.N.Ports.listens g.N.Ports.polls g.N.Ports.sends g.N.Ports.sent g.N.Ports.is_shut
-    g.N.Ports.faults g.K.KeyPort.lines g.K.KeyPort.faults g.O.Sink.written g.O.Sink.faults g.E.Sink.written g.E.Sink.faults
+    (ap (λ output. outside_by g.N.Ports.told g.K.KeyPort.lines g.K.KeyPort.faults
+    g.O.Sink.written g.O.Sink.faults g.E.Sink.written g.E.Sink.faults
     c.args.live.now.ports c.args.live.now.key output c.run_batch.new.report) kept.1
-    ∙ ap (outside_by g.N.Ports.listens g.N.Ports.polls g.N.Ports.sends g.N.Ports.sent g.N.Ports.is_shut
-    g.N.Ports.faults g.K.KeyPort.lines g.K.KeyPort.faults g.O.Sink.written g.O.Sink.faults g.E.Sink.written g.E.Sink.faults
+    ∙ ap (outside_by g.N.Ports.told g.K.KeyPort.lines g.K.KeyPort.faults
+    g.O.Sink.written g.O.Sink.faults g.E.Sink.written g.E.Sink.faults
     c.args.live.now.ports c.args.live.now.key c.args.output.now) kept.2)
     (c.run_live.ensures.served options same)
 
@@ -121,11 +121,11 @@ returns-in-Ok-clause-no_thread g c = λ options asked three.
         memory = refl;
         unread = ap (input_by g.I.Source.left g.I.Source.faults) kept.1;
         untouched =
-            ap (λ output. outside_by g.N.Ports.listens g.N.Ports.polls g.N.Ports.sends g.N.Ports.sent g.N.Ports.is_shut
-            g.N.Ports.faults g.K.KeyPort.lines g.K.KeyPort.faults g.O.Sink.written g.O.Sink.faults g.E.Sink.written g.E.Sink.faults
+            ap (λ output. outside_by g.N.Ports.told g.K.KeyPort.lines g.K.KeyPort.faults
+            g.O.Sink.written g.O.Sink.faults g.E.Sink.written g.E.Sink.faults
             c.args.live.now.ports c.args.live.now.key output c.run_batch.new.report) kept.2
-            ∙ ap (outside_by g.N.Ports.listens g.N.Ports.polls g.N.Ports.sends g.N.Ports.sent g.N.Ports.is_shut
-            g.N.Ports.faults g.K.KeyPort.lines g.K.KeyPort.faults g.O.Sink.written g.O.Sink.faults g.E.Sink.written g.E.Sink.faults
+            ∙ ap (outside_by g.N.Ports.told g.K.KeyPort.lines g.K.KeyPort.faults
+            g.O.Sink.written g.O.Sink.faults g.E.Sink.written g.E.Sink.faults
             c.args.live.now.ports c.args.live.now.key c.args.output.now) kept.3;
       },
     )
@@ -136,11 +136,11 @@ returns-in-Err-clause-no_thread g c = λ options asked three.
     (LiveServe options) asked in
     let kept = c.in-Err.ensures.untouched in
     want_from options _ _ _ _ _ _ _ _ _ (ap (input_by g.I.Source.left g.I.Source.faults) kept.0)
-    (ap (λ output. outside_by g.N.Ports.listens g.N.Ports.polls g.N.Ports.sends g.N.Ports.sent g.N.Ports.is_shut
-    g.N.Ports.faults g.K.KeyPort.lines g.K.KeyPort.faults g.O.Sink.written g.O.Sink.faults g.E.Sink.written g.E.Sink.faults
+    (ap (λ output. outside_by g.N.Ports.told g.K.KeyPort.lines g.K.KeyPort.faults
+    g.O.Sink.written g.O.Sink.faults g.E.Sink.written g.E.Sink.faults
     c.args.live.now.ports c.args.live.now.key output c.run_batch.new.report) kept.1
-    ∙ ap (outside_by g.N.Ports.listens g.N.Ports.polls g.N.Ports.sends g.N.Ports.sent g.N.Ports.is_shut
-    g.N.Ports.faults g.K.KeyPort.lines g.K.KeyPort.faults g.O.Sink.written g.O.Sink.faults g.E.Sink.written g.E.Sink.faults
+    ∙ ap (outside_by g.N.Ports.told g.K.KeyPort.lines g.K.KeyPort.faults
+    g.O.Sink.written g.O.Sink.faults g.E.Sink.written g.E.Sink.faults
     c.args.live.now.ports c.args.live.now.key c.args.output.now) kept.2)
     (c.run_live.ensures.want options same three)
 

@@ -6,13 +6,13 @@ use Rattle.tnc_ports.proofs.looping.run.Given as goal
 abbrev pub invariant-turns : goal.invariant-turns
 invariant-turns g l =
     Runs l.initial.turning.words l.turning (ring_len l.ring) l.receiver
-    (outside_by g.N.Ports.listens g.N.Ports.polls g.N.Ports.sends g.N.Ports.sent g.N.Ports.is_shut g.N.Ports.faults
+    (outside_by g.N.Ports.told
     g.K.KeyPort.lines g.K.KeyPort.faults g.O.Sink.written g.O.Sink.faults g.E.Sink.written g.E.Sink.faults
     l.initial.ports l.initial.key l.initial.output l.initial.report)
-    (outside_by g.N.Ports.listens g.N.Ports.polls g.N.Ports.sends g.N.Ports.sent g.N.Ports.is_shut g.N.Ports.faults
+    (outside_by g.N.Ports.told
     g.K.KeyPort.lines g.K.KeyPort.faults g.O.Sink.written g.O.Sink.faults g.E.Sink.written g.E.Sink.faults
     l.ports l.key l.output l.report)
     × All (λ reader. reader_ring reader ≡ ring_id l.ring) (readers_in l.receiver)
     × (detection_of l.receiver ≡ l.initial.turning.words.dcd)
-    × (g.N.Ports.dials l.ports ≡ g.N.Ports.dials l.initial.ports)
+    × ((g.N.Ports.told l.ports).dials ≡ (g.N.Ports.told l.initial.ports).dials)
     × (reader_ring l.turning.meter.reader ≡ ring_id l.ring)

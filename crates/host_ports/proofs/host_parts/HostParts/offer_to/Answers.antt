@@ -49,7 +49,7 @@ returns-in-Err-Failed-clause-offers g c =
     (stands_still c.args.id client a _ shown hosts there.found waits stands))
     c.in-Err-Failed.ensures.polls c.in-Err-Failed.ensures.refused.1
     (λ other. elim (cases_eq other c.args.id) [
-      | inl is ↦ subst (λ n. g.N.Ports.sent c.offer.new.ports n ≡ g.N.Ports.sent c.args.ports.now n) (sym is)
+      | inl is ↦ subst (λ n. (g.N.Ports.told c.offer.new.ports).sent n ≡ (g.N.Ports.told c.args.ports.now).sent n) (sym is)
           c.in-Err-Failed.ensures.refused.0
       | inr isnt ↦ c.in-Err-Failed.ensures.others other isnt
     ])

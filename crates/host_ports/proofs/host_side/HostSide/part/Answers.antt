@@ -1,4 +1,4 @@
-use Rattle.host_ports.proofs.Common.{ℕ, [], refl, sym, subst, inl, inr, HostEvent, AreShut, told_by, StandsFor, AreParts}
+use Rattle.host_ports.proofs.Common.{ℕ, [], refl, sym, subst, inl, inr, HostEvent, AreShut, StandsFor, AreParts}
 use Rattle.host_ports.proofs.Common.{Hosts, IsCutInSending, Asked, Offering, ArePaused, IsHostPart}
 use Rattle.std.proofs.Common.{List}
 use Rattle.host_ports.proofs.AskedLemmas.{asked_all, offered_nothing}
@@ -39,9 +39,9 @@ returns-clause-part g c = λ hosts printed s.
       told = (refl, refl, refl);
       done = refl;
     } in
-    let before = told_by g.N.Ports.polls g.N.Ports.sends g.N.Ports.sent g.N.Ports.is_shut g.N.Ports.faults
+    let before = g.N.Ports.told
     c.offer_all.new.ports in
-    let after = told_by g.N.Ports.polls g.N.Ports.sends g.N.Ports.sent g.N.Ports.is_shut g.N.Ports.faults
+    let after = g.N.Ports.told
     c.shut_all.new.ports in
     let told : AreShut offered.0.hosts.to_shut before after =
     subst (λ ids. AreShut ids before after) (sym offered.2.to_shut) c.shut_all.ensures.shut in (

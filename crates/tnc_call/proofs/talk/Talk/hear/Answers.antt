@@ -1,12 +1,11 @@
 use Rattle.tnc_call.proofs.Common.{◌++◌, ℕ, List, [], Err, refl, ap, subst, sym, append-nil, MatchOption, HostEvent}
-use Rattle.tnc_call.proofs.Common.{Poll, ports_by, octets_in, octets_of, GoesOn, StopsBy}
+use Rattle.tnc_call.proofs.Common.{Poll, octets_in, octets_of, GoesOn, StopsBy}
 use Rattle.tnc_call.proofs.TurnLemmas.{turn_goes, turns_on, no_memory}
 use Rattle.tnc_call.proofs.talk.Talk.hear.Goals as goal
 
 pub returns-in-Ok-clause-heard : goal.returns-in-Ok-clause-heard
 returns-in-Ok-clause-heard g c = λ plan before start trace offered.
-    let told = ports_by g.N.Ports.listens g.N.Ports.dials g.N.Ports.polls g.N.Ports.sends g.N.Ports.sent
-    g.N.Ports.is_shut g.N.Ports.faults in
+    let told = g.N.Ports.told in
     let arm = c.in-Ok.ensures in
     let id : ℕ = c.args.id in
     let poll : Poll = record { wait = 100; paused = []; events = c.in-Ok.events.items } in
@@ -23,8 +22,7 @@ returns-in-Ok-clause-heard g c = λ plan before start trace offered.
 
 pub returns-in-Err-Failed-clause-heard : goal.returns-in-Err-Failed-clause-heard
 returns-in-Err-Failed-clause-heard g c = λ plan before start trace offered.
-    let told = ports_by g.N.Ports.listens g.N.Ports.dials g.N.Ports.polls g.N.Ports.sends g.N.Ports.sent
-    g.N.Ports.is_shut g.N.Ports.faults in
+    let told = g.N.Ports.told in
     let arm = c.in-Err-Failed.ensures in
     let id : ℕ = c.args.id in
     let poll : Poll = record { wait = 100; paused = []; events = [] } in
@@ -39,8 +37,7 @@ returns-in-Err-Failed-clause-heard g c = λ plan before start trace offered.
 
 pub returns-in-Err-Memory-clause-heard : goal.returns-in-Err-Memory-clause-heard
 returns-in-Err-Memory-clause-heard g c = λ plan before start trace offered.
-    let told = ports_by g.N.Ports.listens g.N.Ports.dials g.N.Ports.polls g.N.Ports.sends g.N.Ports.sent
-    g.N.Ports.is_shut g.N.Ports.faults in
+    let told = g.N.Ports.told in
     let arm = c.in-Err-Memory.ensures in
     no_memory c.args.self.now plan c.args.id before start (told c.args.ports.now) trace
     (g.O.Sink.written c.args.output.now) offered (told c.poll.new.self)

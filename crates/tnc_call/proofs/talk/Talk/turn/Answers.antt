@@ -1,12 +1,11 @@
-use Rattle.tnc_call.proofs.Common.{◌-◌, ℕ, length, subst, sym, Talk, CallTrace, ports_by, HasOffered}
+use Rattle.tnc_call.proofs.Common.{◌-◌, ℕ, length, subst, sym, Talk, CallTrace, HasOffered}
 use Rattle.tnc_call.proofs.TraceLemmas.{with_offer}
 use Rattle.tnc_call.proofs.TurnLemmas.{has_offered, send_failed}
 use Rattle.tnc_call.proofs.talk.Talk.turn.Goals as goal
 
 pub returns-in-Ok-clause-turned : goal.returns-in-Ok-clause-turned
 returns-in-Ok-clause-turned g c = λ plan before start trace running.
-    let told = ports_by g.N.Ports.listens g.N.Ports.dials g.N.Ports.polls g.N.Ports.sends g.N.Ports.sent
-    g.N.Ports.is_shut g.N.Ports.faults in
+    let told = g.N.Ports.told in
     let talk : Talk = c.args.self.now in
     let arm = c.in-Ok.ensures in
     let taken : ℕ = c.offer.new.self.taken in
@@ -28,8 +27,7 @@ returns-in-Ok-clause-turned g c = λ plan before start trace running.
 
 pub returns-in-Err-clause-turned : goal.returns-in-Err-clause-turned
 returns-in-Err-clause-turned g c = λ plan before start trace running.
-    let told = ports_by g.N.Ports.listens g.N.Ports.dials g.N.Ports.polls g.N.Ports.sends g.N.Ports.sent
-    g.N.Ports.is_shut g.N.Ports.faults in
+    let told = g.N.Ports.told in
     let arm = c.in-Err.ensures in
     send_failed c.args.self.now plan c.args.id before (g.O.Sink.written c.args.output.now) start (told c.args.ports.now)
     trace running (told c.offer.new.ports) arm.polls arm.refused.1 arm.refused.0
