@@ -162,9 +162,9 @@ module _ (rates : Rates) where
       → tells (unless (field_fault rates fields (place + 8) (following ++ more))
       (formatted (rate_at_front (following ++ more)) others')) ≡ Some shown) where
     format_stays : (place size : ℕ) (name following more : List ℕ) (others others' : List Chunk) (shown : X)
-        → tells (of_format rates (record { place = place; name = name; size = size; following = following }) others)
+        → tells (of_format rates (record { place = place; name = name; size = size; trailing = following }) others)
         ≡ Some shown
-        → tells (of_format rates (record { place = place; name = name; size = size; following = following ++ more }) others')
+        → tells (of_format rates (record { place = place; name = name; size = size; trailing = following ++ more }) others')
         ≡ Some shown
     format_stays place size name following more others others' shown e =
         (elim (nat_lt size 16)
@@ -206,7 +206,7 @@ module _ (rates : Rates) where
           place = place;
           name = name;
           size = size;
-          following = following;
+          trailing = following;
         } in
         let next : ℕ → List ℕ → List Chunk = λ size following. chunks (place + 8 + padded size) (drop (padded size) following)
         in
@@ -382,12 +382,12 @@ module _ (rates : Rates) where
               | true ↦
                   elim (nat_lt chunk.size 16) as (λ t. IsSilent (if t then failed
                   (NoFormat (told_place (chunk.place + 7))) else unless
-                  (field_fault rates fields (chunk.place + 8) chunk.following)
-                  (formatted (rate_at_front chunk.following) others))) [
+                  (field_fault rates fields (chunk.place + 8) chunk.trailing)
+                  (formatted (rate_at_front chunk.trailing) others))) [
                     | true ↦ λ shown e. refl
                     | false ↦ silent_unless (field_fault rates fields (chunk.place + 8)
-                        chunk.following) (formatted (rate_at_front chunk.following) others)
-                        (silent_formatted (rate_at_front chunk.following) others)
+                        chunk.trailing) (formatted (rate_at_front chunk.trailing) others)
+                        (silent_formatted (rate_at_front chunk.trailing) others)
                   ]
               | false ↦ silent_unformatted others
             ]
@@ -430,9 +430,9 @@ module _ (rates : Rates) where
 
   -- a chunk before those that tell no sample
   quiet_chunk : (place : ℕ) (chunk : Chunk) → chunk.place ≡ place
-      → IsQuiet (unformatted rates (chunks (place + 8 + padded chunk.size) (drop (padded chunk.size) chunk.following)))
+      → IsQuiet (unformatted rates (chunks (place + 8 + padded chunk.size) (drop (padded chunk.size) chunk.trailing)))
       → IsQuiet (unformatted rates (chunk ∷ chunks (place + 8 + padded chunk.size)
-      (drop (padded chunk.size) chunk.following)))
+      (drop (padded chunk.size) chunk.trailing)))
   quiet_chunk place chunk at again =
       elim (is_data chunk) as (λ t. IsQuiet (if t then failed (NoFormat (told_place (chunk.place + 7)))
       else (if is_format chunk then of_format rates chunk others else unformatted rates others))) [
@@ -445,17 +445,17 @@ module _ (rates : Rates) where
       ]
     where
       others : List Chunk
-      others = chunks (place + 8 + padded chunk.size) (drop (padded chunk.size) chunk.following)
+      others = chunks (place + 8 + padded chunk.size) (drop (padded chunk.size) chunk.trailing)
 
       by_size : (b : Bool) → nat_lt chunk.size 16 ≡ b
           → IsQuiet (if b then failed (NoFormat (told_place (chunk.place + 7)))
-          else unless (field_fault rates fields (chunk.place + 8) chunk.following)
-          (formatted (rate_at_front chunk.following) others))
+          else unless (field_fault rates fields (chunk.place + 8) chunk.trailing)
+          (formatted (rate_at_front chunk.trailing) others))
       by_size true is = λ e. refl
       by_size false is =
-          quiet_unless (field_fault rates fields (chunk.place + 8) chunk.following)
-          (formatted (rate_at_front chunk.following) others)
-          (quiet_formatted (place + 8 + padded chunk.size) chunk.size chunk.following (ltb-false chunk.size 16 is))
+          quiet_unless (field_fault rates fields (chunk.place + 8) chunk.trailing)
+          (formatted (rate_at_front chunk.trailing) others)
+          (quiet_formatted (place + 8 + padded chunk.size) chunk.size chunk.trailing (ltb-false chunk.size 16 is))
 
   quiet_chunks : (n place : ℕ) (octets : List ℕ) → length octets ≤ n → IsQuiet (unformatted rates (chunks place octets))
   quiet_chunks zero place octets fits = λ e. ap (λ list. (unformatted rates list).heard)
@@ -467,8 +467,8 @@ module _ (rates : Rates) where
             let chunk : Chunk = chunk_at place octets in
             subst (λ list. IsQuiet (unformatted rates list)) (sym (chunks_whole place octets whole))
             (quiet_chunk place chunk refl (quiet_chunks n (place + 8 + padded chunk.size)
-            (drop (padded chunk.size) chunk.following)
-            (omega (arith, length-drop (padded chunk.size) chunk.following, length-drop 8 octets))))
+            (drop (padded chunk.size) chunk.trailing)
+            (omega (arith, length-drop (padded chunk.size) chunk.trailing, length-drop 8 octets))))
       ]
 
   pub quiet_before : (octets : List ℕ) → rate_in rates octets ≡ None → samples_in rates octets ≡ []
