@@ -4,7 +4,6 @@ ghost use Rattle.tnc_base.specs.Faults.{HasRisen};
 ghost use Rattle.agwpe_client.specs.CallRun.{CallPlan};
 ghost use Rattle.tnc_call.specs.CallEnding.{IsCalled, plan_of};
 ghost use Rattle.tnc_call.specs.CallInput.{text_limit, IsReadingEnd, IsTalkEnd};
-ghost use Rattle.host_ports.specs.Sockets.{PortsTold};
 ghost use Rattle.tnc_call.specs.HeldTalk.{HasBegun, HasTalked};
 
 use crate::call_end::CallEnd;
