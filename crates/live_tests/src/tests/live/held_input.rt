@@ -115,7 +115,7 @@ impl Sink for CountingSink<'_> {
 }
 
 /// How a station ends, and whether its input gave up waiting.
-fn ended<R: Threads + Wait + Net + Clock + Sync, O: Sink, K: KeyPort<O>>(
+fn ended<R: Threads + Wait + Net + Clock + Sync, O: Sink, K: KeyPort<O> + Drop>(
     rt: &R,
     alloc: Global,
     mut source: HeldSource<'_>,
