@@ -7,6 +7,7 @@
 #![tactic(auto)]
 
 mod ahead;
+mod candidates;
 mod heard;
 mod hearing;
 mod lane;
@@ -19,6 +20,7 @@ mod resting_reader;
 mod tests;
 mod window_certainty;
 
+pub use candidates::candidates;
 pub use heard::Heard;
 pub use lane::Lane;
 pub use laws::{
