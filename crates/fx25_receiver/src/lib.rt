@@ -7,7 +7,7 @@
 #![tactic(auto)]
 
 mod ahead;
-mod candidates;
+mod candidate_list;
 mod heard;
 mod hearing;
 mod lane;
@@ -20,7 +20,7 @@ mod resting_reader;
 mod tests;
 mod window_certainty;
 
-pub use candidates::candidates;
+pub use candidate_list::candidates;
 pub use heard::Heard;
 pub use lane::Lane;
 pub use laws::{
