@@ -2,6 +2,9 @@ pub mod Common
 pub mod LaneLemmas
 pub mod ListNumbers
 pub mod FoundLemmas
+pub mod FixedLemmas
+pub mod FixedLines
+pub mod FlagInTime
 pub mod PlaceLanes
 pub mod VisitedLanes
 pub mod ListLemmas

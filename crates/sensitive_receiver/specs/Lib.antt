@@ -5,6 +5,7 @@ pub mod Candidates
 pub mod MergedItems
 pub mod HeldLanes
 pub mod HeldList
+pub mod FixedLanes
 pub mod Found
 pub mod Hearing
 pub mod HeldDecoder
