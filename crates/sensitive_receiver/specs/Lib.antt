@@ -7,6 +7,8 @@ pub mod HeldLanes
 pub mod HeldList
 pub mod Found
 pub mod Hearing
+pub mod FixedLanes
+pub mod FourBanks
 pub mod HeldDecoder
 pub mod Stray
 pub mod LateLanes
