@@ -3,7 +3,7 @@ use Rattle.sensitive_receiver.proofs.Common.{◌≡◌, ℕ, ◌+◌, ◌<◌, �
 use Rattle.sensitive_receiver.proofs.Common.{ap, sym, subst, ◌∙◌, arith, Tone, Candidate, Pull, Slow, Fast, Bool}
 use Rattle.sensitive_receiver.proofs.Common.{Near, clock_after, reads, tones, without_mean}
 use Rattle.sensitive_receiver.proofs.Common.{AddsIn, DecidedPlace, HasRead, HeldLane, HeldList, HeldRing}
-use Rattle.sensitive_receiver.proofs.Common.{IsLastPlace, LanesHaveRead, list_of, refl, suc}
+use Rattle.sensitive_receiver.proofs.Common.{IsClockedOn, IsLastPlace, LanesHaveRead, refl, suc}
 use Rattle.std.proofs.Math.Seq.{take-append_seam}
 use Rattle.tone_tracking.specs.declared.correlation.Correlations.{Correlations}
 use Rattle.tone_tracking.specs.declared.place_tones.PlaceTones.{PlaceTones}
@@ -117,7 +117,7 @@ fed_none initial line =
       place = omega arith;
       reach = refl;
       read = λ x are h. h;
-      found = λ x are h. adds_none (λ p l. ((at ≤ p) × (p < at)) × (list_of l ≡ initial.ring.reach)) x []
+      found = λ x are h. adds_none (λ p l. ((at ≤ p) × (p < at)) × IsClockedOn initial.ring.reach l) x []
           (λ item place of ends. let low = of.0.0 in let high = of.0.1 in absurd (omega arith));
     }
 

@@ -8,6 +8,8 @@ pub mod HeldList
 pub mod FixedLanes
 pub mod Found
 pub mod Hearing
+pub mod FixedLanes
+pub mod FourBanks
 pub mod HeldDecoder
 pub mod Stray
 pub mod LateLanes
