@@ -4,9 +4,7 @@ use Rattle.sensitive_receiver.proofs.Common.{ℤ, List, [], ◌∷◌, ◌++◌,
 use Rattle.sensitive_receiver.proofs.Common.{inl, inr, cases_lt, true≢false, eqb-true, append_assoc, append-nil, ◌==◌}
 use Rattle.sensitive_receiver.proofs.Common.{Tone, Candidate, EndsFrame, EndsAtPlace, HasPath, AddsAt, is_in_time, bits_of}
 use Rattle.sensitive_receiver.proofs.Common.{Far, tones, list_of, delay_of, is_read_at, tone_read, lane_tones, lane_bits}
-unfoldable use Rattle.sensitive_receiver.specs.Lanes.{readings_at}
 use Rattle.std.proofs.Common.{add-one}
-use Rattle.std.proofs.lemmas.Bool.{eq-eqb, ne_eqb}
 use Rattle.std.proofs.lemmas.List.{take_more}
 use Rattle.hdlc_framer.specs.Frames.{IsFrame}
 use Rattle.hdlc_framer.specs.Held.{HoldsFrame}
@@ -21,52 +19,17 @@ use Rattle.sensitive_receiver.specs.FixedLanes.{Reports}
 use Rattle.sensitive_receiver.specs.Hearing.{AreTonesOf}
 use Rattle.sensitive_receiver.specs.Found.{AddsWhere}
 use Rattle.sensitive_receiver.proofs.FoundLemmas.{adds_join, adds_none, adds_one}
-use Rattle.sensitive_receiver.proofs.LaneLemmas.{lane_tones-read, lane_tones-not}
+use Rattle.sensitive_receiver.proofs.FlagInTime.{fixed_next, fixed_rest, fixed_tone, fixed_turn, turn_reads}
+use Rattle.sensitive_receiver.proofs.LaneLemmas.{lane_tones-read}
 
 module _ (x : List ℤ) (lane : ℕ) (least : 8 ≤ lane) (most : lane < 16) where
-  -- ---- when it reads, and what
-
-  reads_is : (place : ℕ) → is_read_at x lane place ≡ (place % 8 == lane - 8)
-  unfolding readings_at
-  reads_is place = grind arith
-
-  pub turn_reads : (place : ℕ) → place % 8 ≡ lane - 8 → is_read_at x lane place ≡ true
-  turn_reads place turn = reads_is place ∙ eq-eqb (place % 8) (lane - 8) turn
-
-  pub reads_turn : (place : ℕ) → is_read_at x lane place ≡ true → place % 8 ≡ lane - 8
-  reads_turn place reads = eqb-true (place % 8) (lane - 8) (sym (reads_is place) ∙ reads)
-
-  not_turn : (place : ℕ) → place % 8 ≢ lane - 8 → is_read_at x lane place ≡ false
-  not_turn place other = reads_is place ∙ ne_eqb (place % 8) (lane - 8) other
-
-  tone_is : (place : ℕ) → tone_read x lane place ≡ tones Far x place
-  tone_is place =
-      let list : list_of lane ≡ Far = grind arith in
-      let delay : delay_of lane ≡ 0 = grind arith in
-      let here : place + 1 - 1 - 0 ≡ place = omega arith in
-      grind arith
-
-  -- no tone is read at places between
-  pub none_between : (from n : ℕ) → ((j : ℕ) → j < n → (from + j) % 8 ≢ lane - 8)
-      → lane_tones x lane (from + n) ≡ lane_tones x lane from
-  none_between from zero never = ap (lane_tones x lane) (let e : from + 0 ≡ from = omega arith in e)
-  none_between from (suc n) never =
-      ap (lane_tones x lane) (let e : from + suc n ≡ from + n + 1 = omega arith in e)
-      ∙ lane_tones-not x lane (from + n) (not_turn (from + n) (never n (omega arith)))
-      ∙ none_between from n (λ j l. never j (omega arith))
-
   -- after a place of its own the lane has one tone more, until its next place
   pub one_more : (place n : ℕ) → place % 8 ≡ lane - 8 → n < 8
       → lane_tones x lane (place + 1 + n) ≡ lane_tones x lane place ++ tones Far x place ∷ []
   one_more place n turn few =
-      none_between (place + 1) n (λ j l same. omega arith)
-      ∙ lane_tones-read x lane place (turn_reads place turn)
-      ∙ ap (λ t. lane_tones x lane place ++ t ∷ []) (tone_is place)
-
-  pub next_turn : (place : ℕ) → place % 8 ≡ lane - 8
-      → lane_tones x lane (place + 8) ≡ lane_tones x lane place ++ tones Far x place ∷ []
-  next_turn place turn = ap (lane_tones x lane) (let e : place + 8 ≡ place + 1 + 7 = omega arith in e)
-      ∙ one_more place 7 turn (omega arith)
+      fixed_rest x lane least most (place + 1) n (λ j l same. omega arith)
+      ∙ lane_tones-read x lane place (turn_reads x lane least most place turn)
+      ∙ ap (λ t. lane_tones x lane place ++ t ∷ []) (fixed_tone x lane least most place)
 
   -- ---- one place of its own
 
@@ -82,7 +45,7 @@ module _ (x : List ℤ) (lane : ℕ) (least : 8 ≤ lane) (most : lane < 16) whe
       whole = λ item p of ends.
           let low = of.0.0 in
           let high = of.0.1 in
-          let own = reads_turn p (ap (λ l. is_read_at x l p) (sym of.1) ∙ ends.reads) in
+          let own = fixed_turn x lane least most p (ap (λ l. is_read_at x l p) (sym of.1) ∙ ends.reads) in
           a.are.whole item p ((let at : p ≡ place = omega arith in at), of.1) ends;
       apart = a.are.apart;
     };
@@ -142,7 +105,7 @@ module _ (x : List ℤ) (lane : ℕ) (least : 8 ≤ lane) (most : lane < 16) whe
         (record {
           least = least;
           most = (let m : lane < 26 = omega arith in m);
-          reads = turn_reads place turn;
+          reads = turn_reads x lane least most place turn;
           end_of = (let e : end ≡ place + 8 - delay_of lane = omega arith in e);
           frame = ends;
           path = one.0;
@@ -162,7 +125,7 @@ module _ (x : List ℤ) (lane : ℕ) (least : 8 ≤ lane) (most : lane < 16) whe
         let d = tones Far x at in
         let own : at % 8 ≡ lane - 8 = omega arith in
         ap (lane_tones x lane) (let e : place + 8 * suc n ≡ at + 8 = omega arith in e)
-        ∙ next_turn at own
+        ∙ fixed_next x lane least most at own
         ∙ (λ i. some_read n (omega arith) i ++ sym (are n d (omega arith)) i ∷ [])
         ∙ append_assoc (lane_tones x lane place) (take n eight) (get_or eight n d ∷ [])
         ∙ ap (λ t. lane_tones x lane place ++ t) (sym (take_more eight n d (omega arith)))
@@ -174,7 +137,7 @@ module _ (x : List ℤ) (lane : ℕ) (least : 8 ≤ lane) (most : lane < 16) whe
         let at = place + 8 * k in
         let own : at % 8 ≡ lane - 8 = omega arith in
         ap (lane_tones x lane) (let e : at + 1 ≡ at + 1 + 0 = omega arith in e)
-        ∙ one_more at 0 own (omega arith) ∙ sym (next_turn at own)
+        ∙ one_more at 0 own (omega arith) ∙ sym (fixed_next x lane least most at own)
         ∙ ap (lane_tones x lane) (let e : at + 8 ≡ place + 8 * (k + 1) = omega arith in e)
         ∙ some_read (k + 1) (omega arith)
 
@@ -187,7 +150,7 @@ module _ (x : List ℤ) (lane : ℕ) (least : 8 ≤ lane) (most : lane < 16) whe
         (λ item p of ends.
         let low = of.0.0 in
         let high = of.0.1 in
-        let own = reads_turn p (ap (λ l. is_read_at x l p) (sym of.1) ∙ ends.reads) in
+        let own = fixed_turn x lane least most p (ap (λ l. is_read_at x l p) (sym of.1) ∙ ends.reads) in
         let k = (p - place) / 8 in
         let few : k < 8 = omega arith in
         let at : p + 1 ≡ place + 8 * k + 1 = omega arith in

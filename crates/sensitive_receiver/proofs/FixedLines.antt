@@ -1,15 +1,16 @@
 -- A lane at a fixed offset over a line of tones, stretch by stretch, and all of them lane by lane.
 use Rattle.sensitive_receiver.proofs.Common.{◌≡◌, ◌≢◌, ℕ, ◌+◌, ◌-◌, ◌*◌, ◌%◌, ◌<◌, ◌≤◌, ◌⊎◌, ℤ, List, [], ◌∷◌, ◌++◌, length}
 use Rattle.sensitive_receiver.proofs.Common.{get_or, set, take, refl, ap, sym, subst, ◌∙◌, arith, inl, inr, cases_lt, cases_eq}
-use Rattle.sensitive_receiver.proofs.Common.{Tone, Candidate, Far, tones, is_read_at, lane_tones, EndsAtPlace}
+use Rattle.sensitive_receiver.proofs.Common.{Tone, Candidate, All, Far, tones, is_read_at, lane_tones, EndsAtPlace, HasRoomFrom}
 use Rattle.std.proofs.Common.{get_or-set_same, get_or-set_other}
 use Rattle.std.proofs.lemmas.List.{get_or_default, take_all}
 use Rattle.slicer_bank.specs.ToneLanes.{HeldToneLane, ToneLaneStandsFor}
 use Rattle.tone_tracking.specs.declared.place_tones.PlaceTones.{PlaceTones}
-use Rattle.sensitive_receiver.specs.FixedLanes.{LaneReads, LanesRead, TakesEight}
-use Rattle.sensitive_receiver.specs.Found.{AddsWhere}
+use Rattle.sensitive_receiver.specs.FixedLanes.{FixedReadsLine, LaneReads, LanesRead, TakesEight}
+use Rattle.sensitive_receiver.specs.Found.{AddsWhere, AreAddedWhere}
 use Rattle.sensitive_receiver.specs.Hearing.{AreTonesOf}
-use Rattle.sensitive_receiver.proofs.FixedLemmas.{line_tone, none_between, quiet_eight, reads_turn, some_read}
+use Rattle.sensitive_receiver.proofs.FixedLemmas.{line_tone, quiet_eight, some_read}
+use Rattle.sensitive_receiver.proofs.FlagInTime.{fixed_rest, fixed_turn}
 use Rattle.sensitive_receiver.proofs.FoundLemmas.{adds_join, adds_none}
 
 -- ---- one lane
@@ -22,14 +23,14 @@ module _ (number first : ℕ) (line : List PlaceTones) (least : 8 ≤ number) (m
   -- an item of the lane ends at a place of the lane's own
   own_place : (x : List ℤ) (item : Candidate) (p : ℕ) → item.offset ≡ number → EndsAtPlace x item p
       → p % 8 ≡ number - 8
-  own_place x item p of ends = reads_turn x number least most p (ap (λ l. is_read_at x l p) (sym of) ∙ ends.reads)
+  own_place x item p of ends = fixed_turn x number least most p (ap (λ l. is_read_at x l p) (sym of) ∙ ends.reads)
 
   -- up to its first place it reads nothing
   pub reads_none : (n : ℕ) (lane : HeldToneLane) (found : List Candidate) → n < 8 → (first + n) % 8 ≡ number - 8
       → LaneReads number first line first (first + n) lane lane found found
   reads_none n lane found few turn = record {
     read = λ x are h. subst (ToneLaneStandsFor lane)
-        (sym (none_between x number least most first n (λ j l same. omega arith))) h;
+        (sym (fixed_rest x number least most first n (λ j l same. omega arith))) h;
     found = λ x are h. adds_none (λ p l. ((first ≤ p) × (p < first + n)) × (l ≡ number)) x found
         (λ item p of ends.
         let low = of.0.0 in
@@ -92,7 +93,7 @@ module _ (number first : ℕ) (line : List PlaceTones) (least : 8 ≤ number) (m
       record {
         read = λ x are h. subst (ToneLaneStandsFor new)
             (ap (lane_tones x number) (let e : first + at ≡ end + over = omega arith in e)
-            ∙ none_between x number least most end over (λ j l same. omega arith))
+            ∙ fixed_rest x number least most end over (λ j l same. omega arith))
             (a.read x are h);
         found = λ x are h.
             let adds = a.found x are h in
@@ -137,24 +138,24 @@ module _ (first : ℕ) (line : List PlaceTones) where
   }
 
   -- one lane more
-  pub lanes_more : (n : ℕ) (old now : List HeldToneLane) (was lane : HeldToneLane) (before found after : List Candidate)
-      → n < 8 → length now ≡ 8 → was ≡ get_or now n was → LanesRead n first line old now before found
-      → LaneReads (8 + n) first line first (first + length line) was lane found after
+  pub lanes_more : (n : ℕ) (old now : List HeldToneLane) (lane e : HeldToneLane) (before found after : List Candidate)
+      → n < 8 → length now ≡ 8 → LanesRead n first line old now before found
+      → LaneReads (8 + n) first line first (first + length line) (get_or now n e) lane found after
       → LanesRead (n + 1) first line old (set now n lane) before after
-  lanes_more n old now was lane before found after few size was_is a b =
+  lanes_more n old now lane e before found after few size a b =
       let end = first + length line in
       let start : (x : List ℤ) (d : HeldToneLane) → ToneLaneStandsFor (get_or old n d) (lane_tones x (8 + n) first)
-      → ToneLaneStandsFor was (lane_tones x (8 + n) first)
+      → ToneLaneStandsFor (get_or now n e) (lane_tones x (8 + n) first)
       = λ x d. subst (λ l. ToneLaneStandsFor l (lane_tones x (8 + n) first))
       (sym (a.rest n d (let le : n ≤ n = omega arith in le))
-      ∙ get_or_default now n d was (let l : n < length now = omega arith in l) ∙ sym was_is) in
+      ∙ get_or_default now n d e (let l : n < length now = omega arith in l)) in
       record {
         read = λ x k d l are h. elim (cases_eq k n) [
-          | inl e ↦ subst (λ i. ToneLaneStandsFor (get_or (set now n lane) i d) (lane_tones x (8 + i) end)) (sym e)
+          | inl same ↦ subst (λ i. ToneLaneStandsFor (get_or (set now n lane) i d) (lane_tones x (8 + i) end)) (sym same)
               (subst (λ t. ToneLaneStandsFor t (lane_tones x (8 + n) end))
               (sym (get_or-set_same now n lane d (omega arith)))
               (b.read x are (start x d
-              (subst (λ i. ToneLaneStandsFor (get_or old i d) (lane_tones x (8 + i) first)) e h))))
+              (subst (λ i. ToneLaneStandsFor (get_or old i d) (lane_tones x (8 + i) first)) same h))))
           | inr ne ↦ subst (λ t. ToneLaneStandsFor t (lane_tones x (8 + k) end))
               (sym (get_or-set_other now n k lane d ne)) (a.read x k d (omega arith) are h)
         ];
@@ -162,7 +163,7 @@ module _ (first : ℕ) (line : List PlaceTones) where
         found = λ x are h. adds_join (λ p l. ((first ≤ p) × (p < end)) × (l < 8 + n))
             (λ p l. ((first ≤ p) × (p < end)) × (l ≡ 8 + n)) (λ p l. ((first ≤ p) × (p < end)) × (l < 8 + (n + 1))) x
             before found after (a.found x are (λ k d l. h k d (omega arith)))
-            (b.found x are (start x was (h n was (omega arith))))
+            (b.found x are (start x e (h n e (omega arith))))
             (λ p l of. (of.0, (let small = of.1 in omega arith)))
             (λ p l of. (of.0, (let same = of.1 in omega arith)))
             (λ p l of. elim (cases_lt l (8 + n)) [
@@ -171,3 +172,16 @@ module _ (first : ℕ) (line : List PlaceTones) where
             ])
             (λ p l of also. let small = of.1 in let same = also.1 in omega arith);
       }
+
+-- the whole bank
+pub bank_reads : (place : ℕ) (line : List PlaceTones) (old new : List HeldToneLane) (items : List Candidate)
+    → LanesRead 8 place line old new [] items → All (HasRoomFrom (place + 6)) items
+    → FixedReadsLine (record { place = place; lanes = old }) (record { place = place + length line; lanes = new }) line items
+bank_reads place line old new items a bounds = record {
+  place = refl;
+  read = λ x are h. record { lanes = λ k d l. a.read x k d l are (h.lanes k d l) };
+  found = λ x are h.
+      let adds = a.found x are h.lanes in
+      subst (AreAddedWhere (λ p l. ((place ≤ p) × (p < place + length line)) × (l < 16)) x) (sym adds.found) adds.are;
+  bounds = bounds;
+}

@@ -4,9 +4,9 @@ pub mod ListNumbers
 pub mod FoundLemmas
 pub mod FixedLemmas
 pub mod FixedLines
-pub mod FlagInTime
 pub mod PlaceLanes
 pub mod VisitedLanes
+pub mod FlagInTime
 pub mod ListLemmas
 pub mod BankLemmas
 pub mod PrefixLemmas

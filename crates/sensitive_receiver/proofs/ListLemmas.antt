@@ -22,7 +22,7 @@ abbrev pub list_of_parts : HeldRing → Pull × Clock → Pull × Clock → List
 list_of_parts ring slow fast lanes = record { ring = ring; slow = slow; fast = fast; lanes = lanes }
 
 -- what was lent comes back as it was left
-pub given_back : (n : ℕ) (lanes before : List HeldLane) → n ≡ length lanes
+pub given_back : {X : Type 0} (n : ℕ) (lanes before : List X) → n ≡ length lanes
     → take n (lanes ++ drop (length lanes) before) ≡ lanes
 given_back n lanes before full = ap (λ m. take m (lanes ++ drop (length lanes) before)) full
     ∙ take-append_seam lanes (drop (length lanes) before)

@@ -8,7 +8,6 @@ pub mod HeldList
 pub mod FixedLanes
 pub mod Found
 pub mod Hearing
-pub mod FixedLanes
 pub mod FourBanks
 pub mod HeldDecoder
 pub mod Stray

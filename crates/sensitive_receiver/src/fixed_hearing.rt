@@ -121,7 +121,8 @@ fn take_eight(lane: &mut ToneLane, line: &[PlaceTones], at: usize) -> bool
 #[inline(always)]
 fn eight_at(line: &[PlaceTones], at: usize) -> [Tone; 8]
     requires { at + 56 < length line.now }
-    ensures { (k : ℕ) (d : Tone) (e : PlaceTones) → k < 8
+    ensures size { length result ≡ 8 }
+    ensures are { (k : ℕ) (d : Tone) (e : PlaceTones) → k < 8
         → slice_index_or result k d ≡ tone_of Far (slice_index_or line.now (at + 8 * k) e) }
 {
     let mut tones = [Tone::Mark; 8];

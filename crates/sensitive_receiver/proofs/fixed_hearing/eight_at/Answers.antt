@@ -29,5 +29,5 @@ loop-k-preserved c =
       ];
     }
 
-pub returns : goal.returns
-returns c = λ k d e l. let past = c.loop-k-test.false in c.loop-k.invariant.are k d e (omega arith)
+pub returns-clause-are : goal.returns-clause-are
+returns-clause-are c = λ k d e l. let past = c.loop-k-test.false in c.loop-k.invariant.are k d e (omega arith)

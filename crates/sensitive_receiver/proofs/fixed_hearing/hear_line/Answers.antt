@@ -4,12 +4,12 @@ use Rattle.sensitive_receiver.proofs.fixed_hearing.hear_line.Goals as goal
 
 pub loop-at-init : goal.loop-at-init
 loop-at-init c =
-    let near = c.first_turn.ensures.near in
+    let near = c.first_turn-at.ensures.near in
     record {
       near = omega arith;
-      turn = c.first_turn.ensures.turn;
+      turn = c.first_turn-at.ensures.turn;
       reads = reads_none c.args.number c.args.place c.args.line.now c.requires.number.0 c.requires.number.1
-          c.first_turn.result c.args.lane.now c.args.found.now.items c.first_turn.ensures.near c.first_turn.ensures.turn;
+          c.first_turn-at.result c.args.lane.now c.args.found.now.items c.first_turn-at.ensures.near c.first_turn-at.ensures.turn;
       bounds = λ low under all. all;
     }
 
@@ -17,16 +17,16 @@ pub loop-at-preserved : goal.loop-at-preserved
 loop-at-preserved c =
     let at = c.loop-at.at in
     let before = c.loop-at.invariant in
-    let next = c.in_ok-read_on.ensures.next in
+    let next = c.in_ok-at.ensures.next in
     let further = next.0 in
     record {
-      near = next.1.0;
-      turn = next.1.1;
+      near = next.1;
+      turn = next.2;
       reads = reads_on c.args.number c.args.place c.args.line.now c.requires.number.0 c.requires.number.1
-          c.args.place (c.args.place + at) (c.args.place + c.in_ok-read_on.field-0) c.args.lane.now c.loop-at.lane
+          c.args.place (c.args.place + at) (c.args.place + c.in_ok-at.at) c.args.lane.now c.loop-at.lane
           c.read_on.new.lane c.args.found.now.items c.loop-at.found.items c.read_on.new.found.items
-          (omega arith) (omega arith) before.reads c.in_ok-read_on.ensures.read;
-      bounds = λ low under all. c.in_ok-read_on.ensures.bounds low under (before.bounds low under all);
+          (omega arith) (omega arith) before.reads c.in_ok-at.ensures.read;
+      bounds = λ low under all. c.in_ok-at.ensures.bounds low under (before.bounds low under all);
     }
 
 pub returns-clause-read : goal.returns-clause-read

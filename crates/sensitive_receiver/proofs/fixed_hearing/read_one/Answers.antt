@@ -1,8 +1,8 @@
 use Rattle.sensitive_receiver.proofs.Common.{◌≡◌, ◌+◌, ◌∙◌, ℤ, List, ap, sym, refl, arith, true≢false, on_ok_weaker}
 use Rattle.sensitive_receiver.proofs.Common.{Far, tones, lane_tones}
 use Rattle.sensitive_receiver.specs.Hearing.{AreTonesOf}
-use Rattle.sensitive_receiver.proofs.FixedLemmas.{line_tone, one_read, no_frame, some_frame, turn_reads}
-use Rattle.sensitive_receiver.proofs.FlagInTime.{flag_in_time}
+use Rattle.sensitive_receiver.proofs.FixedLemmas.{line_tone, one_read, no_frame, some_frame}
+use Rattle.sensitive_receiver.proofs.FlagInTime.{flag_in_time, turn_reads}
 use Rattle.sensitive_receiver.proofs.fixed_hearing.read_one.Goals as goal
 
 pub returns-then-not-push-clause-read : goal.returns-then-not-push-clause-read

@@ -7,8 +7,8 @@ returns-clause-taken c = λ yes.
     record {
       inside = omega arith;
       eight = c.eight_at.result;
-      size = c.eight_at.auto.result;
-      are = c.eight_at.ensures;
+      size = c.eight_at.ensures.size;
+      are = c.eight_at.ensures.are;
       taken = λ tones h. c.push_eight.ensures.taken tones h yes;
       quiet = λ tones k octets h few. c.push_eight.ensures.quiet tones k octets h yes few;
     }
