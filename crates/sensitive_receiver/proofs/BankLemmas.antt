@@ -2,19 +2,20 @@
 use Rattle.sensitive_receiver.proofs.Common.{◌≡◌, ℕ, ◌+◌, ◌-◌, ◌<◌, ◌≤◌, Bool, ℤ, List, [], ◌∷◌, ◌++◌, length, get_or, refl}
 use Rattle.sensitive_receiver.proofs.Common.{true, false, ap, sym, subst, ◌∙◌, arith, inl, inr, ◌⊎◌, append_assoc, append-nil}
 use Rattle.sensitive_receiver.proofs.Common.{length-append, cases_lt, true≢false, Candidate, All, All-append, All-nil, All-weaker}
-use Rattle.sensitive_receiver.proofs.Common.{Reach, Near, Far, Alone, added_places, HeldList, AreAddedBetween, AreAddedIn}
-use Rattle.sensitive_receiver.proofs.Common.{HasRead, HasRoomFrom, list_of}
+use Rattle.sensitive_receiver.proofs.Common.{Reach, Near, Far, Alone, IsClockedOn, list_of, added_places, HeldList, AreAddedBetween, AreAddedIn}
+use Rattle.sensitive_receiver.proofs.Common.{HasRead, HasRoomFrom}
 use Rattle.tone_tracking.specs.declared.place_tones.PlaceTones.{PlaceTones}
 use Rattle.tone_tracking.specs.HeldLine.{HeldLine, HasTaken as LineHasTaken, TakesBlock as LineTakesBlock, decided_in}
-use Rattle.sensitive_receiver.specs.Found.{HasRoom, IsAddedFrom}
+use Rattle.sensitive_receiver.specs.Found.{AreAddedWhere, HasRoom, IsAddedFrom}
+use Rattle.sensitive_receiver.specs.FixedLanes.{FixedHasRead, HeldFixed}
+use Rattle.sensitive_receiver.specs.FourBanks.{AllReadLine, AreAt, HaveRead}
 use Rattle.sensitive_receiver.specs.HeardBlock.{HearsBlock}
-use Rattle.sensitive_receiver.specs.Hearing.{AllReadLine, AreTonesOf, ReadsLine}
+use Rattle.sensitive_receiver.specs.Hearing.{AreTonesOf, ReadsLine}
 use Rattle.sensitive_receiver.specs.HeldLanes.{HeldBank, StandsFor, bank_of}
-use Rattle.sensitive_receiver.specs.HeldList.{AreAt, HaveRead}
 use Rattle.sensitive_receiver.proofs.FoundLemmas.{where_join, where_none}
-use Rattle.sensitive_receiver.proofs.PrefixLanes.{ends-append, ends-take, list_read-append}
+use Rattle.sensitive_receiver.proofs.PrefixLanes.{ends-append, ends-take, fixed_read-append, list_read-append}
 
--- ---- what the lists find, joined
+-- ---- what the banks find, joined
 
 abbrev is_alone : Reach → Bool
 is_alone Alone = true
@@ -26,30 +27,70 @@ is_far Alone = false
 is_far Near = false
 is_far Far = true
 
-some_list : (reach : Reach) → ((reach ≡ Alone) ⊎ (reach ≡ Near)) ⊎ (reach ≡ Far)
-some_list Alone = inl (inl refl)
-some_list Near = inl (inr refl)
-some_list Far = inr refl
+-- a lane of the lists that reach less far, or one of the far list
+abbrev IsShort : ℕ → Type 0
+IsShort l = IsClockedOn Alone l ⊎ IsClockedOn Near l
 
-pub lists_join : (from to : ℕ) (x : List ℤ) (alone near far : List Candidate) → AreAddedIn Alone from to x alone
-    → AreAddedIn Near from to x near → AreAddedIn Far from to x far
-    → AreAddedBetween from to x ((alone ++ near) ++ far)
-lists_join from to x alone near far a n f =
+abbrev IsOfFar : ℕ → Type 0
+IsOfFar l = (l < 16) ⊎ IsClockedOn Far l
+
+clocked_lane : (l : ℕ) (reach : Reach) → 16 ≤ l → list_of l ≡ reach → IsShort l ⊎ IsOfFar l
+clocked_lane l Alone least is = inl (inl (least, is))
+clocked_lane l Near least is = inl (inr (least, is))
+clocked_lane l Far least is = inr (inr (least, is))
+
+some_lane : (l : ℕ) → IsShort l ⊎ IsOfFar l
+some_lane l = elim (cases_lt l 16) [
+  | inl fixed ↦ inr (inl fixed)
+  | inr clocked ↦ clocked_lane l (list_of l) clocked refl
+]
+
+-- no lane is both
+not_far : (l : ℕ) (reach : Reach) → is_far reach ≡ false → IsClockedOn reach l → IsOfFar l → ⊥
+not_far l reach other of far = elim far [
+  | inl fixed ↦ (let least = of.0 in omega arith)
+  | inr clocked ↦ true≢false (sym (ap is_far (sym of.1 ∙ clocked.1)) ∙ other)
+]
+
+short_not_far : (l : ℕ) → IsShort l → IsOfFar l → ⊥
+short_not_far l short far = elim short [
+  | inl of ↦ not_far l Alone refl of far
+  | inr of ↦ not_far l Near refl of far
+]
+
+short_join : (from to : ℕ) (x : List ℤ) (alone near : List Candidate) → AreAddedIn Alone from to x alone
+    → AreAddedIn Near from to x near
+    → AreAddedWhere (λ p l. ((from ≤ p) × (p < to)) × IsShort l) x (alone ++ near)
+short_join from to x alone near a n =
     let Here : ℕ → Type 0 = λ p. (from ≤ p) × (p < to) in
-    where_join (λ p l. Here p × ((list_of l ≡ Alone) ⊎ (list_of l ≡ Near))) (λ p l. Here p × (list_of l ≡ Far))
-    (λ p l. Here p) x (alone ++ near) far
-    (where_join (λ p l. Here p × (list_of l ≡ Alone)) (λ p l. Here p × (list_of l ≡ Near))
-    (λ p l. Here p × ((list_of l ≡ Alone) ⊎ (list_of l ≡ Near))) x alone near a n
+    where_join (λ p l. Here p × IsClockedOn Alone l) (λ p l. Here p × IsClockedOn Near l)
+    (λ p l. Here p × IsShort l) x alone near a n
     (λ p l h. (h.0, inl h.1)) (λ p l h. (h.0, inr h.1))
     (λ p l h. elim h.1 [ inl is ↦ inl (h.0, is) | inr is ↦ inr (h.0, is) ])
-    (λ p l h k. true≢false (ap is_alone (sym h.1 ∙ k.1))))
-    f
+    (λ p l h k. true≢false (ap is_alone (sym h.1.1 ∙ k.1.1)))
+
+far_join : (from to : ℕ) (x : List ℤ) (fixed far : List Candidate)
+    → AreAddedWhere (λ p l. ((from ≤ p) × (p < to)) × (l < 16)) x fixed → AreAddedIn Far from to x far
+    → AreAddedWhere (λ p l. ((from ≤ p) × (p < to)) × IsOfFar l) x (fixed ++ far)
+far_join from to x fixed far i f =
+    let Here : ℕ → Type 0 = λ p. (from ≤ p) × (p < to) in
+    where_join (λ p l. Here p × (l < 16)) (λ p l. Here p × IsClockedOn Far l)
+    (λ p l. Here p × IsOfFar l) x fixed far i f
+    (λ p l h. (h.0, inl h.1)) (λ p l h. (h.0, inr h.1))
+    (λ p l h. elim h.1 [ inl is ↦ inl (h.0, is) | inr is ↦ inr (h.0, is) ])
+    (λ p l h k. let small = h.1 in let least = k.1.0 in omega arith)
+
+banks_join : (from to : ℕ) (x : List ℤ) (alone near fixed far : List Candidate)
+    → AreAddedIn Alone from to x alone → AreAddedIn Near from to x near
+    → AreAddedWhere (λ p l. ((from ≤ p) × (p < to)) × (l < 16)) x fixed → AreAddedIn Far from to x far
+    → AreAddedBetween from to x ((alone ++ near) ++ (fixed ++ far))
+banks_join from to x alone near fixed far a n i f =
+    let Here : ℕ → Type 0 = λ p. (from ≤ p) × (p < to) in
+    where_join (λ p l. Here p × IsShort l) (λ p l. Here p × IsOfFar l) (λ p l. Here p) x (alone ++ near) (fixed ++ far)
+    (short_join from to x alone near a n) (far_join from to x fixed far i f)
     (λ p l h. h.0) (λ p l h. h.0)
-    (λ p l h. elim (some_list (list_of l)) [ inl is ↦ inl (h, is) | inr is ↦ inr (h, is) ])
-    (λ p l h k. elim h.1 [
-      | inl is ↦ true≢false (sym (ap is_far (sym is ∙ k.1)))
-      | inr is ↦ true≢false (sym (ap is_far (sym is ∙ k.1)))
-    ])
+    (λ p l h. elim (some_lane l) [ inl is ↦ inl (h, is) | inr is ↦ inr (h, is) ])
+    (λ p l h k. short_not_far l h.1 k.1)
 
 -- what is found of the first samples is found of all
 found-append : (x y : List ℤ) (from to : ℕ) (items : List Candidate) → to ≤ added_places (length x)
@@ -78,40 +119,56 @@ found_more x y from middle to items more le le' inside a b =
 
 -- ---- one piece
 
--- what all lists hear has room
-all_bounds : (place low : ℕ) (a n f a' n' f' : HeldList) (row : List PlaceTones) (items : List Candidate)
-    → AreAt place a n f → low ≤ place + 6 → AllReadLine a n f a' n' f' row items → All (HasRoomFrom low) items
-all_bounds place low a n f a' n' f' row items at le reads =
+-- the items are those of each bank
+all_joined : (a n : HeldList) (i : HeldFixed) (f a' n' : HeldList) (i' : HeldFixed) (f' : HeldList) (row : List PlaceTones) (items : List Candidate)
+    (reads : AllReadLine a n i f a' n' i' f' row items)
+    → items ≡ (reads.short_read.alone_heard ++ reads.short_read.near_heard)
+    ++ (reads.all_far_read.fixed_heard ++ reads.all_far_read.far_heard)
+all_joined a n i f a' n' i' f' row items reads =
+    reads.joined ∙ ap (λ t. t ++ reads.all_far_heard) reads.short_read.joined
+    ∙ ap (λ t. (reads.short_read.alone_heard ++ reads.short_read.near_heard) ++ t) reads.all_far_read.joined
+
+-- what all banks hear has room
+all_bounds : (place low : ℕ) (a n : HeldList) (i : HeldFixed) (f a' n' : HeldList) (i' : HeldFixed) (f' : HeldList) (row : List PlaceTones) (items : List Candidate)
+    → AreAt place a n i f → low ≤ place + 6 → AllReadLine a n i f a' n' i' f' row items → All (HasRoomFrom low) items
+all_bounds place low a n i f a' n' i' f' row items at le reads =
     let P : Candidate → Type 0 = HasRoomFrom low in
+    let l = reads.short_read in
+    let h = reads.all_far_read in
     let weaker : (from : ℕ) (some : List Candidate) → from ≡ place → All (HasRoomFrom (from + 6)) some → All P some
     = λ from some is all k d l.
     let one = all k d l in
     let end = one.from.end in
     record { room = one.room; from = record { lane = one.from.lane; end = omega arith } } in
-    subst (All P) (sym (reads.joined ∙ ap (λ t. t ++ reads.far_heard) reads.both_read.joined))
-    (All-append P (reads.both_read.alone_heard ++ reads.both_read.near_heard) reads.far_heard
-    (All-append P reads.both_read.alone_heard reads.both_read.near_heard
-    (weaker a.ring.place reads.both_read.alone_heard at.alone_place reads.both_read.alone_reads.bounds)
-    (weaker n.ring.place reads.both_read.near_heard at.near_place reads.both_read.near_reads.bounds))
-    (weaker f.ring.place reads.far_heard at.far_place reads.far_reads.bounds))
+    subst (All P) (sym (all_joined a n i f a' n' i' f' row items reads))
+    (All-append P (l.alone_heard ++ l.near_heard) (h.fixed_heard ++ h.far_heard)
+    (All-append P l.alone_heard l.near_heard
+    (weaker a.ring.place l.alone_heard at.alone_place l.alone_reads.bounds)
+    (weaker n.ring.place l.near_heard at.near_place l.near_reads.bounds))
+    (All-append P h.fixed_heard h.far_heard
+    (weaker i.place h.fixed_heard at.fixed_place h.fixed_reads.bounds)
+    (weaker f.ring.place h.far_heard at.far_place h.far_reads.bounds)))
 
--- where the lists are when they have read a line
-all_at : (place count : ℕ) (a n f a' n' f' : HeldList) (row : List PlaceTones) (items : List Candidate)
-    → AreAt place a n f → count ≡ place + length row → AllReadLine a n f a' n' f' row items → AreAt count a' n' f'
-all_at place count a n f a' n' f' row items at is reads =
-    let one = at.alone_place in
-    let two = at.near_place in
-    let three = at.far_place in
-    let first = reads.both_read.alone_reads.place in
-    let second = reads.both_read.near_reads.place in
-    let third = reads.far_reads.place in
+-- where the banks are when they have read a line
+all_at : (place count : ℕ) (a n : HeldList) (i : HeldFixed) (f a' n' : HeldList) (i' : HeldFixed) (f' : HeldList) (row : List PlaceTones) (items : List Candidate)
+    → AreAt place a n i f → count ≡ place + length row → AllReadLine a n i f a' n' i' f' row items
+    → AreAt count a' n' i' f'
+all_at place count a n i f a' n' i' f' row items at is reads =
+    let next : (was now : HeldList) (heard : List Candidate) → was.ring.place ≡ place → ReadsLine was now row heard
+    → now.ring.place ≡ count
+    = λ was now heard here line. let end = line.place in omega arith in
+    let l = reads.short_read in
+    let h = reads.all_far_read in
+    let here = at.fixed_place in
+    let end = h.fixed_reads.place in
     record {
-      alone_list = reads.both_read.alone_reads.list ∙ at.alone_list;
-      near_list = reads.both_read.near_reads.list ∙ at.near_list;
-      far_list = reads.far_reads.list ∙ at.far_list;
-      alone_place = omega arith;
-      near_place = omega arith;
-      far_place = omega arith;
+      alone_list = l.alone_reads.list ∙ at.alone_list;
+      near_list = l.near_reads.list ∙ at.near_list;
+      far_list = h.far_reads.list ∙ at.far_list;
+      alone_place = next a a' l.alone_heard at.alone_place l.alone_reads;
+      near_place = next n n' l.near_heard at.near_place l.near_reads;
+      fixed_place = omega arith;
+      far_place = next f f' h.far_heard at.far_place h.far_reads;
     }
 
 -- items that have room, and are late enough
@@ -121,16 +178,16 @@ have_room low items all = All-weaker (HasRoomFrom low) HasRoom (λ item one. one
 are_late : (low : ℕ) (items : List Candidate) → All (HasRoomFrom low) items → All (IsAddedFrom low) items
 are_late low items all = All-weaker (HasRoomFrom low) (IsAddedFrom low) (λ item one. one.from) items all
 
--- the lists read the line of a piece, by the samples with it
-module _ (line : HeldLine) (alone near far a n f : HeldList) (row : List PlaceTones) (piece : List ℤ)
+-- the banks read the line of a piece, by the samples with it
+module _ (line : HeldLine) (alone near : HeldList) (fixed : HeldFixed) (far a n : HeldList) (i : HeldFixed) (f : HeldList) (row : List PlaceTones) (piece : List ℤ)
     (items : List Candidate) (x : List ℤ)
     (first : line.first ≡ added_places (length x))
     (taken : LineHasTaken line (x ++ piece))
     (are : AreTonesOf line.first row (x ++ piece))
     (size : line.first + length row ≡ decided_in line.count)
-    (reads : AllReadLine alone near far a n f row items)
-    (at : AreAt (added_places (length x)) alone near far)
-    (read : HaveRead alone near far x) where
+    (reads : AllReadLine alone near fixed far a n i f row items)
+    (at : AreAt (added_places (length x)) alone near fixed far)
+    (read : HaveRead alone near fixed far x) where
   abbrev now : List ℤ
   now = x ++ piece
 
@@ -149,19 +206,24 @@ module _ (line : HeldLine) (alone near far a n f : HeldList) (row : List PlaceTo
       let more = length-append x piece in
       omega arith
 
-  pub row_at_end : AreAt to a n f
-  row_at_end = all_at from to alone near far a n f row items at reach_to reads
+  pub row_at_end : AreAt to a n i f
+  row_at_end = all_at from to alone near fixed far a n i f row items at reach_to reads
 
   were : (held : HeldList) → held.ring.place ≡ from → HasRead held x → HasRead held now
   were held is old = list_read-append x piece held is old
 
-  pub row_read : HaveRead a n f now
+  fixed_were : FixedHasRead fixed now
+  fixed_were = fixed_read-append x piece fixed at.fixed_place read.fixed_read
+
+  pub row_read : HaveRead a n i f now
   row_read = record {
-    alone_read = reads.both_read.alone_reads.read now (row_at alone.ring.place at.alone_place)
+    alone_read = reads.short_read.alone_reads.read now (row_at alone.ring.place at.alone_place)
         (were alone at.alone_place read.alone_read);
-    near_read = reads.both_read.near_reads.read now (row_at near.ring.place at.near_place)
+    near_read = reads.short_read.near_reads.read now (row_at near.ring.place at.near_place)
         (were near at.near_place read.near_read);
-    far_read = reads.far_reads.read now (row_at far.ring.place at.far_place) (were far at.far_place read.far_read);
+    fixed_read = reads.all_far_read.fixed_reads.read now (row_at fixed.place at.fixed_place) fixed_were;
+    far_read = reads.all_far_read.far_reads.read now (row_at far.ring.place at.far_place)
+        (were far at.far_place read.far_read);
   }
 
   list_found : (reach : Reach) (was held : HeldList) (heard : List Candidate) → ReadsLine was held row heard
@@ -173,29 +235,39 @@ module _ (line : HeldLine) (alone near far a n f : HeldList) (row : List PlaceTo
       (subst (λ p. AreAddedIn was.ring.reach was.ring.place p now heard) end_is
       (line_read.found now (row_at was.ring.place place_is) (were was place_is old))))
 
+  fixed_found : i.place ≡ to
+      → AreAddedWhere (λ p l. ((from ≤ p) × (p < to)) × (l < 16)) now reads.all_far_read.fixed_heard
+  fixed_found end_is =
+      let heard : List Candidate = reads.all_far_read.fixed_heard in
+      let Found : ℕ → ℕ → Type 0 = λ low high. AreAddedWhere (λ p l. ((low ≤ p) × (p < high)) × (l < 16)) now heard in
+      subst (λ p. Found p to) at.fixed_place
+      (subst (λ p. Found fixed.place p) end_is
+      (reads.all_far_read.fixed_reads.found now (row_at fixed.place at.fixed_place) fixed_were))
+
   pub row_found : AreAddedBetween from to now items
   row_found =
       let end = row_at_end in
-      subst (AreAddedBetween from to now) (sym (reads.joined ∙ ap (λ t. t ++ reads.far_heard) reads.both_read.joined))
-      (lists_join from to now reads.both_read.alone_heard reads.both_read.near_heard reads.far_heard
-      (list_found Alone alone a reads.both_read.alone_heard reads.both_read.alone_reads at.alone_place at.alone_list
-      end.alone_place read.alone_read)
-      (list_found Near near n reads.both_read.near_heard reads.both_read.near_reads at.near_place at.near_list
-      end.near_place read.near_read)
-      (list_found Far far f reads.far_heard reads.far_reads at.far_place at.far_list end.far_place read.far_read))
+      let l = reads.short_read in
+      let h = reads.all_far_read in
+      subst (AreAddedBetween from to now) (sym (all_joined alone near fixed far a n i f row items reads))
+      (banks_join from to now l.alone_heard l.near_heard h.fixed_heard h.far_heard
+      (list_found Alone alone a l.alone_heard l.alone_reads at.alone_place at.alone_list end.alone_place read.alone_read)
+      (list_found Near near n l.near_heard l.near_reads at.near_place at.near_list end.near_place read.near_read)
+      (fixed_found end.fixed_place)
+      (list_found Far far f h.far_heard h.far_reads at.far_place at.far_list end.far_place read.far_read))
 
 -- the line that a piece makes is read
-piece_fed : (old line : HeldLine) (alone near far a n f : HeldList) (row : List PlaceTones) (piece : List ℤ)
+piece_fed : (old line : HeldLine) (alone near : HeldList) (fixed : HeldFixed) (far a n : HeldList) (i : HeldFixed) (f : HeldList) (row : List PlaceTones) (piece : List ℤ)
     (items : List Candidate) (x : List ℤ)
     → ((y : List ℤ) → LineHasTaken old y → LineHasTaken line (y ++ piece))
     → line.first ≡ decided_in old.count
     → ((y : List ℤ) → LineHasTaken line y → AreTonesOf line.first row y)
     → line.first + length row ≡ decided_in line.count
-    → AllReadLine alone near far a n f row items
-    → StandsFor (bank_of old alone near far) x
-    → StandsFor (bank_of line a n f) (x ++ piece)
+    → AllReadLine alone near fixed far a n i f row items
+    → StandsFor (bank_of old alone near fixed far) x
+    → StandsFor (bank_of line a n i f) (x ++ piece)
     × AreAddedBetween (added_places (length x)) (added_places (length (x ++ piece))) (x ++ piece) items
-piece_fed old line alone near far a n f row piece items x stands first are size reads h =
+piece_fed old line alone near fixed far a n i f row piece items x stands first are size reads h =
     let taken = stands x h.line in
     let count = h.line.count in
     let here : line.first ≡ added_places (length x) = omega arith in
@@ -203,52 +275,52 @@ piece_fed old line alone near far a n f row piece items x stands first are size 
       record {
         position = taken.count;
         line = taken;
-        at = row_at_end line alone near far a n f row piece items x here taken row_are size reads h.at h.read;
-        read = row_read line alone near far a n f row piece items x here taken row_are size reads h.at h.read;
+        at = row_at_end line alone near fixed far a n i f row piece items x here taken row_are size reads h.at h.read;
+        read = row_read line alone near fixed far a n i f row piece items x here taken row_are size reads h.at h.read;
       },
-      row_found line alone near far a n f row piece items x here taken row_are size reads h.at h.read,
+      row_found line alone near fixed far a n i f row piece items x here taken row_are size reads h.at h.read,
     )
 
--- where the lists are then
-piece_at : (old line : HeldLine) (alone near far a n f : HeldList) (row : List PlaceTones) (piece : List ℤ)
+-- where the banks are then
+piece_at : (old line : HeldLine) (alone near : HeldList) (fixed : HeldFixed) (far a n : HeldList) (i : HeldFixed) (f : HeldList) (row : List PlaceTones) (piece : List ℤ)
     (items : List Candidate)
     → line.count ≡ old.count + length piece → line.first ≡ decided_in old.count
-    → line.first + length row ≡ decided_in line.count → AllReadLine alone near far a n f row items
-    → AreAt (decided_in old.count) alone near far → AreAt (decided_in line.count) a n f
-piece_at old line alone near far a n f row piece items count first size reads at =
-    all_at (decided_in old.count) (decided_in line.count) alone near far a n f row items at (omega arith) reads
+    → line.first + length row ≡ decided_in line.count → AllReadLine alone near fixed far a n i f row items
+    → AreAt (decided_in old.count) alone near fixed far → AreAt (decided_in line.count) a n i f
+piece_at old line alone near fixed far a n i f row piece items count first size reads at =
+    all_at (decided_in old.count) (decided_in line.count) alone near fixed far a n i f row items at (omega arith) reads
 
 -- ---- piece after piece
 
--- what was found so far of a block, and where the lists are then
+-- what was found so far of a block, and where the banks are then
 pub record HasFed (initial later : HeldBank) (done : List ℤ) (items : List Candidate) : Type 0 where
   pub heard : HearsBlock initial later done items
-  pub at : AreAt (decided_in later.line.count) later.alone later.near later.far
+  pub at : AreAt (decided_in later.line.count) later.alone later.near later.fixed later.far
 
 -- the line that a piece makes is read, so the piece is heard
-pub piece_heard : (old line : HeldLine) (alone near far a n f : HeldList) (row : List PlaceTones) (piece : List ℤ)
+pub piece_heard : (old line : HeldLine) (alone near : HeldList) (fixed : HeldFixed) (far a n : HeldList) (i : HeldFixed) (f : HeldList) (row : List PlaceTones) (piece : List ℤ)
     (items : List Candidate)
     → LineTakesBlock old line piece
     → ((y : List ℤ) → LineHasTaken line y → AreTonesOf line.first row y)
     → line.first + length row ≡ decided_in line.count
-    → AllReadLine alone near far a n f row items
-    → AreAt (decided_in old.count) alone near far
-    → HasFed (bank_of old alone near far) (bank_of line a n f) piece items
-piece_heard old line alone near far a n f row piece items takes are size reads at =
+    → AllReadLine alone near fixed far a n i f row items
+    → AreAt (decided_in old.count) alone near fixed far
+    → HasFed (bank_of old alone near fixed far) (bank_of line a n i f) piece items
+piece_heard old line alone near fixed far a n i f row piece items takes are size reads at =
     let low : ℕ = old.count - 32 in
-    let bounds = all_bounds (decided_in old.count) low alone near far a n f row items at (omega arith) reads in
+    let bounds = all_bounds (decided_in old.count) low alone near fixed far a n i f row items at (omega arith) reads in
     record {
       heard = record {
-        found = λ x h. piece_fed old line alone near far a n f row piece items x takes.has_taken takes.first are size
+        found = λ x h. piece_fed old line alone near fixed far a n i f row piece items x takes.has_taken takes.first are size
             reads h;
         bounds = have_room low items bounds;
         late = are_late low items bounds;
         position = takes.count;
       };
-      at = piece_at old line alone near far a n f row piece items takes.count takes.first size reads at;
+      at = piece_at old line alone near fixed far a n i f row piece items takes.count takes.first size reads at;
     }
 
-pub fed_none : (initial : HeldBank) → AreAt (decided_in initial.line.count) initial.alone initial.near initial.far
+pub fed_none : (initial : HeldBank) → AreAt (decided_in initial.line.count) initial.alone initial.near initial.fixed initial.far
     → HasFed initial initial [] []
 fed_none initial at = record {
   heard = record {

@@ -2,7 +2,7 @@
 use Rattle.sensitive_receiver.proofs.Common.{◌≡◌, ℕ, ◌+◌, ◌-◌, ◌<◌, ◌≤◌, true, false, ℤ, List, [], ◌∷◌, ◌++◌, refl}
 use Rattle.sensitive_receiver.proofs.Common.{sym, subst, ◌∙◌, arith, true≢false, Tone, bits_of, EndsFrame, Candidate}
 use Rattle.sensitive_receiver.proofs.Common.{DecidedPlace, HeldRing, tone_before, delay_of, is_told}
-use Rattle.sensitive_receiver.proofs.Common.{list_of, is_read_at, tone_read, lane_tones, lane_bits}
+use Rattle.sensitive_receiver.proofs.Common.{IsClockedOn, is_read_at, tone_read, lane_tones, lane_bits}
 use Rattle.sensitive_receiver.proofs.Common.{EndsAtPlace, HasPath, is_in_time, AddsAt, HeldLane, LaneStandsFor}
 use Rattle.sensitive_receiver.proofs.Common.{IsLastPlace, without_mean}
 use Rattle.hdlc_framer.specs.Frames.{IsFrame}
@@ -17,14 +17,14 @@ use Rattle.sensitive_receiver.proofs.FoundLemmas.{adds_none, adds_one}
 
 -- a lane of the list reads at the place, as it is told
 is_reading : (ring : HeldRing) (at : DecidedPlace) (x : List ℤ) (number : ℕ) → IsLastPlace ring at x
-    → list_of number ≡ ring.reach → is_told number at ≡ true → is_read_at x number at.place ≡ true
+    → IsClockedOn ring.reach number → is_told number at ≡ true → is_read_at x number at.place ≡ true
 is_reading ring at x number last list reads = sym (last.told number list) ∙ reads
 
 -- ---- the tone that it reads
 
 module _ (ring : HeldRing) (at : DecidedPlace) (x : List ℤ) (number : ℕ) (old new : HeldLane)
     (tone : Tone) (delay : ℕ)
-    (last : IsLastPlace ring at x) (list : list_of number ≡ ring.reach) (reads : is_told number at ≡ true)
+    (last : IsLastPlace ring at x) (list : IsClockedOn ring.reach number) (reads : is_told number at ≡ true)
     (tone_is : (windows : ℕ → Correlations) → RingStandsFor ring windows
     → tone ≡ tone_before (tone_at ring.reach windows) ring.place delay)
     (delay_is : delay ≡ delay_of number)
@@ -34,7 +34,7 @@ module _ (ring : HeldRing) (at : DecidedPlace) (x : List ℤ) (number : ℕ) (ol
 
   tone_there : tone ≡ tone_read x number place
   tone_there = tone_is_back x number place ring.place 0 delay ring.reach tone
-      (tone_is (correlations (without_mean x)) last.decided) (sym list) last.last (delay_is ∙ omega arith)
+      (tone_is (correlations (without_mean x)) last.decided) (sym list.1) last.last (delay_is ∙ omega arith)
 
   pushed : lane_tones x number (place + 1) ≡ lane_tones x number place ++ tone ∷ []
   pushed = tones-pushed x number place tone (is_reading ring at x number last list reads) tone_there
@@ -67,7 +67,7 @@ module _ (ring : HeldRing) (at : DecidedPlace) (x : List ℤ) (number : ℕ) (ol
 -- ---- the frame that ends with it
 
 module _ (ring : HeldRing) (at : DecidedPlace) (x : List ℤ) (number : ℕ) (lane : HeldLane)
-    (last : IsLastPlace ring at x) (list : list_of number ≡ ring.reach) (reads : is_told number at ≡ true)
+    (last : IsLastPlace ring at x) (list : IsClockedOn ring.reach number) (reads : is_told number at ≡ true)
     (frame : HoldsFrameOf lane (lane_bits x number (at.place + 1))) where
   abbrev here : ℕ
   here = at.place
@@ -97,18 +97,18 @@ module _ (ring : HeldRing) (at : DecidedPlace) (x : List ℤ) (number : ℕ) (la
       lacks (subst HasPath (sym (given item.octets there.2 (frame.holds item.octets there))) ends.path))
 
   -- it keeps both rules
-  pub one_frame : (found after : List Candidate) (octets : List ℕ) (end : ℕ) → 8 ≤ number → number < 26
+  pub one_frame : (found after : List Candidate) (octets : List ℕ) (end : ℕ) → number < 26
       → after ≡ found ++ (record { end = end; offset = number; octets = octets }) ∷ []
       → end ≡ here + 8 - delay_of number
       → ((o : List ℕ) → IsFrame o → HoldsFrame lane.deframer o → octets ≡ o)
       → HasPath octets → is_in_time x number here ≡ true
       → AddsAt here number x found after
-  one_frame found after octets end least most is end_is given path in_time =
+  one_frame found after octets end most is end_is given path in_time =
       let unique : (o : List ℕ) → EndsFrame (lane_bits x number (here + 1)) o → octets ≡ o
       = λ o ends. given o ends.2 (frame.holds o ends) in
       adds_one x here number found after (record { end = end; offset = number; octets = octets }) is refl
       (record {
-        least = least;
+        least = (let first = list.0 in omega arith);
         most = most;
         reads = is_reading ring at x number last list reads;
         end_of = end_is;

@@ -2,8 +2,11 @@ pub mod Common
 pub mod LaneLemmas
 pub mod ListNumbers
 pub mod FoundLemmas
+pub mod FixedLemmas
+pub mod FixedLines
 pub mod PlaceLanes
 pub mod VisitedLanes
+pub mod FlagInTime
 pub mod ListLemmas
 pub mod BankLemmas
 pub mod PrefixLemmas

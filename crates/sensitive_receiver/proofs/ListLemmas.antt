@@ -3,7 +3,7 @@ use Rattle.sensitive_receiver.proofs.Common.{◌≡◌, ℕ, ◌+◌, ◌<◌, �
 use Rattle.sensitive_receiver.proofs.Common.{ap, sym, subst, ◌∙◌, arith, Tone, Candidate, Pull, Slow, Fast, Bool}
 use Rattle.sensitive_receiver.proofs.Common.{Near, clock_after, reads, tones, without_mean}
 use Rattle.sensitive_receiver.proofs.Common.{AddsIn, DecidedPlace, HasRead, HeldLane, HeldList, HeldRing}
-use Rattle.sensitive_receiver.proofs.Common.{IsLastPlace, LanesHaveRead, list_of, refl, suc}
+use Rattle.sensitive_receiver.proofs.Common.{IsClockedOn, IsLastPlace, LanesHaveRead, refl, suc}
 use Rattle.std.proofs.Math.Seq.{take-append_seam}
 use Rattle.tone_tracking.specs.declared.correlation.Correlations.{Correlations}
 use Rattle.tone_tracking.specs.declared.place_tones.PlaceTones.{PlaceTones}
@@ -22,7 +22,7 @@ abbrev pub list_of_parts : HeldRing → Pull × Clock → Pull × Clock → List
 list_of_parts ring slow fast lanes = record { ring = ring; slow = slow; fast = fast; lanes = lanes }
 
 -- what was lent comes back as it was left
-pub given_back : (n : ℕ) (lanes before : List HeldLane) → n ≡ length lanes
+pub given_back : {X : Type 0} (n : ℕ) (lanes before : List X) → n ≡ length lanes
     → take n (lanes ++ drop (length lanes) before) ≡ lanes
 given_back n lanes before full = ap (λ m. take m (lanes ++ drop (length lanes) before)) full
     ∙ take-append_seam lanes (drop (length lanes) before)
@@ -117,7 +117,7 @@ fed_none initial line =
       place = omega arith;
       reach = refl;
       read = λ x are h. h;
-      found = λ x are h. adds_none (λ p l. ((at ≤ p) × (p < at)) × (list_of l ≡ initial.ring.reach)) x []
+      found = λ x are h. adds_none (λ p l. ((at ≤ p) × (p < at)) × IsClockedOn initial.ring.reach l) x []
           (λ item place of ends. let low = of.0.0 in let high = of.0.1 in absurd (omega arith));
     }
 

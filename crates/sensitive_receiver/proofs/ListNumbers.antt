@@ -1,7 +1,7 @@
--- The numbers of the lanes of a list, and when they read.
+-- The numbers of the clocked lanes of a list, and when they read.
 use Rattle.sensitive_receiver.proofs.Common.{◌≡◌, ℕ, ℤ, List, ◌+◌, ◌-◌, ◌<◌, ◌≤◌, ◌∙◌, ap, sym, subst, arith}
 use Rattle.sensitive_receiver.proofs.Common.{inl, inr, cases_lt, Reach, Alone, Near, Far, Slow, Fast, DecidedPlace}
-use Rattle.sensitive_receiver.proofs.Common.{is_read_at, is_told, lane_of, lanes_in, list_of, tones}
+use Rattle.sensitive_receiver.proofs.Common.{IsClockedOn, is_read_at, is_told, lane_of, lanes_in, list_of, tones}
 unfoldable use Rattle.sensitive_receiver.specs.Lanes.{readings_at}
 use Rattle.tone_tracking.specs.Clock.{is_reading}
 
@@ -10,12 +10,6 @@ near_low k l = grind arith
 
 near_high : (k : ℕ) → 3 ≤ k → lane_of Near k ≡ 19 + k
 near_high k l = grind arith
-
-far_low : (k : ℕ) → k < 8 → lane_of Far k ≡ 8 + k
-far_low k l = grind arith
-
-far_high : (k : ℕ) → 8 ≤ k → lane_of Far k ≡ 11 + k
-far_high k l = grind arith
 
 -- they rise
 pub lane_of-rises : (reach : Reach) (j k : ℕ) → j < k → k < lanes_in reach → lane_of reach j < lane_of reach k
@@ -27,18 +21,9 @@ lane_of-rises Near j k less few = elim (cases_lt k 3) [
     | inr also ↦ (let a = near_high j also in omega arith)
   ])
 ]
-lane_of-rises Far j k less few = elim (cases_lt k 8) [
-  | inl low ↦ (let a = far_low j (omega arith) in let b = far_low k low in omega arith)
-  | inr high ↦ (let b = far_high k high in elim (cases_lt j 8) [
-    | inl low ↦ (let a = far_low j low in omega arith)
-    | inr also ↦ (let a = far_high j also in omega arith)
-  ])
-]
+lane_of-rises Far j k less few = omega arith
 
 -- ---- which list a lane reads
-
-below_16 : (lane : ℕ) → lane < 16 → list_of lane ≡ Far
-below_16 lane l = grind arith
 
 below_19 : (lane : ℕ) → 16 ≤ lane → lane < 19 → list_of lane ≡ Near
 below_19 lane least l = grind arith
@@ -52,44 +37,42 @@ at_22 lane least l = grind arith
 from_23 : (lane : ℕ) → 23 ≤ lane → list_of lane ≡ Alone
 from_23 lane l = grind arith
 
--- the lanes of a list read it
-pub list_of-lane : (reach : Reach) (k : ℕ) → k < lanes_in reach → list_of (lane_of reach k) ≡ reach
-list_of-lane Alone k few = from_23 (23 + k) (omega arith)
-list_of-lane Near k few = elim (cases_lt k 3) [
-  | inl low ↦ ap list_of (near_low k low) ∙ below_19 (16 + k) (omega arith) (omega arith)
-  | inr high ↦ ap list_of (near_high k high) ∙ at_22 (19 + k) (omega arith) (omega arith)
+-- the lanes of a list follow a clock on it
+pub lane_of-clocked : (reach : Reach) (k : ℕ) → k < lanes_in reach → IsClockedOn reach (lane_of reach k)
+lane_of-clocked Alone k few = (omega arith, from_23 (23 + k) (omega arith))
+lane_of-clocked Near k few = elim (cases_lt k 3) [
+  | inl low ↦ (
+    let n = near_low k low in omega arith,
+    ap list_of (near_low k low) ∙ below_19 (16 + k) (omega arith) (omega arith),
+  )
+  | inr high ↦ (
+    let n = near_high k high in omega arith,
+    ap list_of (near_high k high) ∙ at_22 (19 + k) (omega arith) (omega arith),
+  )
 ]
-list_of-lane Far k few = elim (cases_lt k 8) [
-  | inl low ↦ ap list_of (far_low k low) ∙ below_16 (8 + k) (omega arith)
-  | inr high ↦ ap list_of (far_high k high) ∙ below_22 (11 + k) (omega arith) (omega arith)
-]
+lane_of-clocked Far k few = (omega arith, below_22 (19 + k) (omega arith) (omega arith))
 
 abbrev IsAmong : ℕ → Reach → Type 0
 IsAmong lane reach = (k : ℕ) × (k < lanes_in reach) × (lane ≡ lane_of reach k)
 
-among : (lane : ℕ) → 8 ≤ lane → lane < 26 → IsAmong lane (list_of lane)
-among lane least most = elim (cases_lt lane 16) [
-  | inl l ↦ subst (IsAmong lane) (sym (below_16 lane l))
-      (lane - 8, omega arith, (let n = far_low (lane - 8) (omega arith) in omega arith))
-  | inr m ↦ elim (cases_lt lane 19) [
-    | inl l ↦ subst (IsAmong lane) (sym (below_19 lane m l))
-        (lane - 16, omega arith, (let n = near_low (lane - 16) (omega arith) in omega arith))
-    | inr m ↦ elim (cases_lt lane 22) [
-      | inl l ↦ subst (IsAmong lane) (sym (below_22 lane m l))
-          (lane - 11, omega arith, (let n = far_high (lane - 11) (omega arith) in omega arith))
-      | inr m ↦ elim (cases_lt lane 23) [
-        | inl l ↦ subst (IsAmong lane) (sym (at_22 lane m l))
-            (lane - 19, omega arith, (let n = near_high (lane - 19) (omega arith) in omega arith))
-        | inr m ↦ subst (IsAmong lane) (sym (from_23 lane m)) (lane - 23, omega arith, omega arith)
-      ]
+among : (lane : ℕ) → 16 ≤ lane → lane < 26 → IsAmong lane (list_of lane)
+among lane least most = elim (cases_lt lane 19) [
+  | inl l ↦ subst (IsAmong lane) (sym (below_19 lane least l))
+      (lane - 16, omega arith, (let n = near_low (lane - 16) (omega arith) in omega arith))
+  | inr m ↦ elim (cases_lt lane 22) [
+    | inl l ↦ subst (IsAmong lane) (sym (below_22 lane m l)) (lane - 19, omega arith, omega arith)
+    | inr m ↦ elim (cases_lt lane 23) [
+      | inl l ↦ subst (IsAmong lane) (sym (at_22 lane m l))
+          (lane - 19, omega arith, (let n = near_high (lane - 19) (omega arith) in omega arith))
+      | inr m ↦ subst (IsAmong lane) (sym (from_23 lane m)) (lane - 23, omega arith, omega arith)
     ]
   ]
 ]
 
--- an added lane that reads a list is one of the list's
-pub lane_among : (reach : Reach) (lane : ℕ) → 8 ≤ lane → lane < 26 → list_of lane ≡ reach
+-- a lane that follows a clock on a list is one of the list's
+pub lane_among : (reach : Reach) (lane : ℕ) → lane < 26 → IsClockedOn reach lane
     → (k : ℕ) × (k < lanes_in reach) × (lane ≡ lane_of reach k)
-lane_among reach lane least most is = subst (IsAmong lane) is (among lane least most)
+lane_among reach lane most of = subst (IsAmong lane) of.1 (among lane of.0 most)
 
 -- ---- when they read
 
@@ -99,10 +82,6 @@ module _ (x : List ℤ) (reach : Reach) (at : DecidedPlace)
     (fast : reach ≡ Near → at.fast ≡ is_reading Fast (tones Near x) at.place) where
   slow_of : (r : Reach) → r ≡ reach → at.slow ≡ is_reading Slow (tones r x) at.place
   slow_of r is = slow ∙ ap (λ q. is_reading Slow (tones q x) at.place) (sym is)
-
-  fixed_is : (lane : ℕ) → lane < 16 → is_told lane at ≡ is_read_at x lane at.place
-  unfolding readings_at
-  fixed_is lane l = grind arith
 
   near_is : (lane : ℕ) → 16 ≤ lane → lane < 19 → at.slow ≡ is_reading Slow (tones Near x) at.place
       → is_told lane at ≡ is_read_at x lane at.place
@@ -136,17 +115,14 @@ module _ (x : List ℤ) (reach : Reach) (at : DecidedPlace)
       let read : is_reading Slow (tones Alone x) at.place ≡ is_read_at x lane at.place = grind arith in
       told ∙ same ∙ read
 
-  pub told_is_read : (lane : ℕ) → list_of lane ≡ reach → is_told lane at ≡ is_read_at x lane at.place
-  told_is_read lane is = elim (cases_lt lane 16) [
-    | inl l ↦ fixed_is lane l
-    | inr m ↦ elim (cases_lt lane 19) [
-      | inl l ↦ near_is lane m l (slow_of Near (sym (below_19 lane m l) ∙ is))
-      | inr m ↦ elim (cases_lt lane 22) [
-        | inl l ↦ far_is lane m l (slow_of Far (sym (below_22 lane m l) ∙ is))
-        | inr m ↦ elim (cases_lt lane 23) [
-          | inl l ↦ fast_is lane m l (fast (sym is ∙ at_22 lane m l))
-          | inr m ↦ alone_is lane m (slow_of Alone (sym (from_23 lane m) ∙ is))
-        ]
+  pub told_is_read : (lane : ℕ) → IsClockedOn reach lane → is_told lane at ≡ is_read_at x lane at.place
+  told_is_read lane of = elim (cases_lt lane 19) [
+    | inl l ↦ near_is lane of.0 l (slow_of Near (sym (below_19 lane of.0 l) ∙ of.1))
+    | inr m ↦ elim (cases_lt lane 22) [
+      | inl l ↦ far_is lane m l (slow_of Far (sym (below_22 lane m l) ∙ of.1))
+      | inr m ↦ elim (cases_lt lane 23) [
+        | inl l ↦ fast_is lane m l (fast (sym of.1 ∙ at_22 lane m l))
+        | inr m ↦ alone_is lane m (slow_of Alone (sym (from_23 lane m) ∙ of.1))
       ]
     ]
   ]

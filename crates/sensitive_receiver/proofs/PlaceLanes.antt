@@ -4,13 +4,13 @@ use Rattle.sensitive_receiver.proofs.Common.{set, ap, sym, subst, ◌∙◌, ari
 use Rattle.sensitive_receiver.proofs.Common.{cases_lt, cases_eq, lt-ltb, eqb-true, true≢false, Candidate, DecidedPlace}
 use Rattle.sensitive_receiver.proofs.Common.{EndsAtPlace, AddsAmong, AddsAt, AddsIn, HeldLane, HeldRing, IsLastPlace}
 use Rattle.sensitive_receiver.proofs.Common.{LaneStandsFor, LanesAreAt, LanesHaveRead, Reach, Far, is_read_at, is_told}
-use Rattle.sensitive_receiver.proofs.Common.{lane_of, lane_tones, lanes_in, list_of}
+use Rattle.sensitive_receiver.proofs.Common.{IsClockedOn, lane_of, lane_tones, lanes_in}
 use Rattle.std.proofs.Common.{get_or-set_same, get_or-set_other}
 use Rattle.std.proofs.lemmas.Bool.{le-ltb, ne_eqb}
 use Rattle.sensitive_receiver.specs.HeldList.{places_read}
 use Rattle.sensitive_receiver.proofs.FoundLemmas.{adds_join, adds_none}
 use Rattle.sensitive_receiver.proofs.LaneLemmas.{lane_tones-not}
-use Rattle.sensitive_receiver.proofs.ListNumbers.{lane_of-rises, list_of-lane, lane_among}
+use Rattle.sensitive_receiver.proofs.ListNumbers.{lane_of-clocked, lane_of-rises, lane_among}
 
 -- ---- how many places they have read
 
@@ -76,7 +76,7 @@ module _ (ring : HeldRing) (at : DecidedPlace) (first end : ℕ) (lanes : List H
   reach = ring.reach
 
   silent : (k : ℕ) → first ≤ k → k < end → is_read_at x (lane_of reach k) at.place ≡ false
-  silent k least small = sym (last.told (lane_of reach k) (list_of-lane reach k (omega arith))) ∙ not_read k least small
+  silent k least small = sym (last.told (lane_of reach k) (lane_of-clocked reach k (omega arith))) ∙ not_read k least small
 
   pub lanes_silent : LanesAreAt reach first lanes at.place x → LanesAreAt reach end lanes at.place x
   lanes_silent h k d m = elim (cases_lt k first) [
@@ -166,107 +166,21 @@ module _ (reach : Reach) (place : ℕ) (x : List ℤ) where
       each = λ k d l.
           let e = a.are.each k d l in
           let at = e.1.0 in
-          let inside = e.1.1.2 in
-          (e.0, ((omega arith, omega arith), ap list_of e.1.1.3 ∙ list_of-lane reach e.1.1.0 (omega arith)), e.2);
+          let inside = e.1.1.2 in (
+            e.0,
+            (
+              (omega arith, omega arith),
+              subst (IsClockedOn reach) (sym e.1.1.3) (lane_of-clocked reach e.1.1.0 (omega arith)),
+            ),
+            e.2,
+          );
       whole = λ item p of ends.
           let low = of.0.0 in
           let high = of.0.1 in
-          let lane = lane_among reach item.offset ends.least ends.most of.1 in
+          let lane = lane_among reach item.offset ends.most of.1 in
           let small = lane.1 in
           let here : p ≡ place = omega arith in
           a.are.whole item p (here, (lane.0, omega arith, omega arith, lane.2)) ends;
       apart = a.are.apart;
     };
   }
-
--- ---- lanes 8 to 15
-
--- they read at the place whose turn it is
-pub fixed_told : (lane : ℕ) (at : DecidedPlace) → lane < 16 → is_told lane at ≡ (at.place % 8 == lane - 8)
-fixed_told lane at small =
-    ap (λ b. if b then at.place % 8 == lane - 8
-    else if nat_lt lane 22 then at.slow else if nat_lt lane 23 then at.fast else at.slow)
-    (lt-ltb lane 16 small)
-
--- no other than the one whose turn it is reads
-pub fixed_not : (at : DecidedPlace) (k : ℕ) → k < 8 → k ≢ at.place % 8 → is_told (8 + k) at ≡ false
-fixed_not at k small other =
-    fixed_told (8 + k) at (omega arith)
-    ∙ ne_eqb (at.place % 8) (8 + k - 8) (λ e. other (let same : k ≡ at.place % 8 = omega arith in same))
-
--- what the lane whose turn it is adds is what all of them add
-module _ (ring : HeldRing) (at : DecidedPlace) (k : ℕ) (x : List ℤ) (k_is : k ≡ at.place % 8)
-    (reach_is : ring.reach ≡ Far) (last : IsLastPlace ring at x) where
-  far_of : (j : ℕ) → j < 8 → lane_of ring.reach j ≡ 8 + j
-  far_of j small = ap (λ r. lane_of r j) reach_is ∙ ap (λ b. if b then 8 + j else 11 + j) (lt-ltb j 8 small)
-
-  told : (j : ℕ) → j < 8 → is_told (8 + j) at ≡ is_read_at x (8 + j) at.place
-  told j small = last.told (8 + j)
-      (sym (ap list_of (far_of j small)) ∙ list_of-lane ring.reach j
-      (subst (λ r. j < lanes_in r) (sym reach_is) (let few : j < 11 = omega arith in few)))
-
-  -- an item of one of these lanes is one of that lane
-  turn : (item : Candidate) (p j : ℕ) → p ≡ at.place → j < 8 → item.offset ≡ lane_of ring.reach j
-      → EndsAtPlace x item p → item.offset ≡ 8 + k
-  turn item p j here small lane ends =
-      let number = lane ∙ far_of j small in
-      let reads : is_told (8 + j) at ≡ true
-      = told j small ∙ (λ i. is_read_at x (sym number i) (sym here i)) ∙ ends.reads in
-      let same = eqb-true (at.place % 8) (8 + j - 8) (sym (fixed_told (8 + j) at (omega arith)) ∙ reads) in
-      omega arith
-
-  pub adds_fixed : (before after : List Candidate) → AddsAt at.place (8 + k) x before after
-      → AddsAmong ring.reach at.place 0 8 x before after
-  adds_fixed before after a =
-      let few : k < 8 = omega arith in
-      record {
-        heard = a.heard;
-        found = a.found;
-        are = record {
-          each = λ i d l. let e = a.are.each i d l in
-              (e.0, (e.1.0, (k, (let le : 0 ≤ k = omega arith in le), few, e.1.1 ∙ sym (far_of k few))), e.2);
-          whole = λ item p of ends. a.are.whole item p (of.0, turn item p of.1.0 of.0 of.1.2 of.1.3 ends) ends;
-          apart = a.are.apart;
-        };
-      }
-
-  -- it has not read yet
-  pub fixed_before : (lanes : List HeldLane) (was : HeldLane) → LanesAreAt ring.reach 0 lanes at.place x
-      → LaneStandsFor (get_or lanes k was) (lane_tones x (8 + k) at.place)
-  fixed_before lanes was h =
-      let few : k < 8 = omega arith in
-      let inside : k < lanes_in ring.reach = subst (λ r. k < lanes_in r) (sym reach_is)
-      (let e : k < 11 = omega arith in e) in
-      subst (λ n. LaneStandsFor (get_or lanes k was) (lane_tones x n at.place)) (far_of k few)
-      (before_lanes ring.reach x at.place lanes h k was inside)
-
-  -- and that lane alone reads
-  pub lanes_fixed : (lanes : List HeldLane) (was lane : HeldLane) → length lanes ≡ 11
-      → (LaneStandsFor (get_or lanes k was) (lane_tones x (8 + k) at.place)
-      → LaneStandsFor lane (lane_tones x (8 + k) (at.place + 1)))
-      → LanesAreAt ring.reach 0 lanes at.place x → LanesAreAt ring.reach 8 (set lanes k lane) at.place x
-  lanes_fixed lanes was lane size reads h i d m =
-      let before = before_lanes ring.reach x at.place lanes h in
-      let few : k < 8 = omega arith in
-      let number = far_of k few in
-      elim (cases_eq i k) [
-        | inl e ↦ subst (λ j. At ring.reach x j (get_or (set lanes k lane) j d) (places_read 8 at.place j)) (sym e)
-            (subst (λ t. At ring.reach x k t (places_read 8 at.place k))
-            (sym (get_or-set_same lanes k lane d (omega arith)))
-            (subst (At ring.reach x k lane) (sym (places_read-below 8 at.place k few))
-            (subst (λ n. LaneStandsFor lane (lane_tones x n (at.place + 1))) (sym number)
-            (reads (fixed_before lanes was h)))))
-        | inr ne ↦ subst (λ t. At ring.reach x i t (places_read 8 at.place i))
-            (sym (get_or-set_other lanes k i lane d ne))
-            (elim (cases_lt i 8) [
-              | inl lt ↦ subst (LaneStandsFor (get_or lanes i d))
-                  (ap (λ n. lane_tones x n at.place) (far_of i lt)
-                  ∙ sym (lane_tones-not x (8 + i) at.place
-                  (sym (told i lt) ∙ fixed_not at i lt (λ e. ne (e ∙ sym k_is))))
-                  ∙ ap (λ n. lane_tones x n (at.place + 1)) (sym (far_of i lt))
-                  ∙ ap (lane_tones x (lane_of ring.reach i)) (sym (places_read-below 8 at.place i lt)))
-                  (before i d m)
-              | inr ge ↦ subst (At ring.reach x i (get_or lanes i d))
-                  (sym (places_read-from 8 at.place i ge)) (before i d m)
-            ])
-      ]

@@ -5,6 +5,8 @@ use Rattle.sensitive_receiver.proofs.Common.{EndsFrame, Candidate, Slow, Fast, A
 use Rattle.sensitive_receiver.proofs.Common.{reads, added_places, delay_of, list_of, is_read_by}
 use Rattle.sensitive_receiver.proofs.Common.{is_read_at, readings_at, tone_back, lane_tones, EndsAtPlace, is_in_time}
 use Rattle.sensitive_receiver.proofs.Common.{HasRead, HeldList, LaneStandsFor, lane_of, places_in, without_mean}
+use Rattle.slicer_bank.specs.ToneLanes.{ToneLaneStandsFor}
+use Rattle.sensitive_receiver.specs.FixedLanes.{FixedHasRead, HeldFixed}
 use Rattle.std.proofs.Common.{add-one}
 use Rattle.tone_tracking.specs.Correlation.{correlations}
 use Rattle.tone_tracking.specs.HeldRing.{StandsFor as RingStandsFor}
@@ -107,3 +109,11 @@ module _ (x y : List ℤ) where
         lanes = λ k d l. subst (λ tones. LaneStandsFor (get_or held.lanes k d) tones)
             (lane_tones-append (lane_of held.ring.reach k) place (omega arith)) (h.lanes k d l);
       }
+
+  -- so have the lanes at fixed offsets
+  pub fixed_read-append : (held : HeldFixed) → held.place ≡ added_places (length x) → FixedHasRead held x
+      → FixedHasRead held (x ++ y)
+  fixed_read-append held all h = record {
+    lanes = λ k d l. subst (ToneLaneStandsFor (get_or held.lanes k d))
+        (lane_tones-append (8 + k) held.place (omega arith)) (h.lanes k d l);
+  }

@@ -1,5 +1,5 @@
 -- What the lanes of a list hear when a place is decided.
-use Rattle.std.specs.Prelude.{◌≡◌, ℕ, ◌+◌, ℤ, List, ◌++◌, length}
+use Rattle.std.specs.Prelude.{◌≡◌, ℕ, ◌+◌, ℤ, List, length}
 use Rattle.std.specs.List.{All}
 use Rattle.frame_merge.specs.declared.candidate.Candidate.{Candidate}
 use Rattle.tone_tracking.specs.declared.place_tones.PlaceTones.{PlaceTones}
@@ -35,20 +35,3 @@ pub record ReadsLine (old new : HeldList) (line : List PlaceTones) (items : List
   pub found : (x : List ℤ) → AreTonesOf old.ring.place line x → HasRead old x
       → AreAddedIn old.ring.reach old.ring.place new.ring.place x items
   pub bounds : All (HasRoomFrom (old.ring.place + 6)) items
-
--- the banks of two lists have read a line, and the items are what the lanes of each hear there, list by list
-pub record BothReadLine (alone near alone_new near_new : HeldList) (line : List PlaceTones) (items : List Candidate) : Type 0 where
-  pub alone_heard : List Candidate
-  pub near_heard : List Candidate
-  pub alone_reads : ReadsLine alone alone_new line alone_heard
-  pub near_reads : ReadsLine near near_new line near_heard
-  pub joined : items ≡ alone_heard ++ near_heard
-
--- so have the banks of all lists
-pub record AllReadLine (alone near far alone_new near_new far_new : HeldList) (line : List PlaceTones)
-    (items : List Candidate) : Type 0 where
-  pub both_heard : List Candidate
-  pub far_heard : List Candidate
-  pub both_read : BothReadLine alone near alone_new near_new line both_heard
-  pub far_reads : ReadsLine far far_new line far_heard
-  pub joined : items ≡ both_heard ++ far_heard

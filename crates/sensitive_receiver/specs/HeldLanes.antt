@@ -3,7 +3,9 @@ use Rattle.std.specs.Prelude.{◌≡◌, ℕ, ℤ, List, length, Bool}
 use Rattle.hdlc_framer.specs.Frames.{EndsFrame}
 use Rattle.hdlc_framer.specs.Held.{HoldsFrame}
 use Rattle.tone_tracking.specs.HeldLine.{HeldLine, HasTaken as LineHasTaken}
-use Rattle.sensitive_receiver.specs.HeldList.{AreAt, HaveRead, HeldList}
+use Rattle.sensitive_receiver.specs.FixedLanes.{HeldFixed}
+use Rattle.sensitive_receiver.specs.FourBanks.{AreAt, HaveRead}
+use Rattle.sensitive_receiver.specs.HeldList.{HeldList}
 use Rattle.sensitive_receiver.specs.Lanes.{added_places}
 pub use Rattle.sensitive_receiver.specs.LateLanes.{HeldLane, LaneStandsFor}
 
@@ -13,21 +15,29 @@ pub record HoldsFrameOf (held : HeldLane) (bits : List Bool) : Type 0 where
   pub ends : EndsFrame bits octets
   pub holds : (frame : List ℕ) → EndsFrame bits frame → HoldsFrame held.deframer frame
 
--- how many samples were taken, the line of tones, and the lanes of each list
+-- how many samples were taken, the line of tones, and the four banks of lanes
 pub record HeldBank : Type 0 where
   pub position : ℕ
   pub line : HeldLine
   pub alone : HeldList
   pub near : HeldList
+  pub fixed : HeldFixed
   pub far : HeldList
 
 -- a bank with this line, which has counted the samples
-abbrev pub bank_of : HeldLine → HeldList → HeldList → HeldList → HeldBank
-bank_of line alone near far = record { position = line.count; line = line; alone = alone; near = near; far = far }
+abbrev pub bank_of : HeldLine → HeldList → HeldList → HeldFixed → HeldList → HeldBank
+bank_of line alone near fixed far = record {
+  position = line.count;
+  line = line;
+  alone = alone;
+  near = near;
+  fixed = fixed;
+  far = far;
+}
 
 -- the bank has taken these samples
 pub record StandsFor (held : HeldBank) (x : List ℤ) : Type 0 where
   pub position : held.position ≡ length x
   pub line : LineHasTaken held.line x
-  pub at : AreAt (added_places (length x)) held.alone held.near held.far
-  pub read : HaveRead held.alone held.near held.far x
+  pub at : AreAt (added_places (length x)) held.alone held.near held.fixed held.far
+  pub read : HaveRead held.alone held.near held.fixed held.far x

@@ -1,17 +1,17 @@
--- What a bank of the lanes of one list of tones keeps, and what that stands for.
+-- What a bank of the clocked lanes of one list of tones keeps, and what that stands for.
 use Rattle.std.specs.Prelude.{◌≡◌, ℕ, ◌+◌, ◌<◌, nat_lt, if◌then◌else◌, ℤ, List, slice_index_or}
 use Rattle.tone_tracking.specs.declared.bit_clock.Pull.{Pull}
 use Rattle.tone_tracking.specs.declared.bit_clock.Pull.TheVariants.{Slow, Fast}
 use Rattle.tone_tracking.specs.declared.reach.Reach.{Reach}
-use Rattle.tone_tracking.specs.declared.reach.Reach.TheVariants.{Alone, Near, Far}
+use Rattle.tone_tracking.specs.declared.reach.Reach.TheVariants.{Near}
 use Rattle.tone_tracking.specs.Clock.{Clock, clock_after}
 use Rattle.tone_tracking.specs.Correlation.{correlations}
 use Rattle.tone_tracking.specs.HeldRing.{HeldRing, StandsFor as RingStandsFor}
 use Rattle.tone_tracking.specs.WithoutMean.{without_mean}
 use Rattle.sensitive_receiver.specs.declared.decided_place.DecidedPlace.{DecidedPlace}
 use Rattle.sensitive_receiver.specs.LateLanes.{HeldLane, LaneStandsFor}
-use Rattle.sensitive_receiver.specs.Lanes.{is_read_at, lane_tones, list_of, tones}
-use Rattle.sensitive_receiver.specs.ListLanes.{is_told, lane_of, lanes_in}
+use Rattle.sensitive_receiver.specs.Lanes.{is_read_at, lane_tones, tones}
+use Rattle.sensitive_receiver.specs.ListLanes.{IsClockedOn, is_told, lane_of, lanes_in}
 
 -- the last tones of the list, the clocks on them, and its lanes
 pub record HeldList : Type 0 where
@@ -54,21 +54,4 @@ LanesAreAt reach first lanes place x =
 pub record IsLastPlace (ring : HeldRing) (at : DecidedPlace) (x : List ℤ) : Type 0 where
   pub decided : HasDecided ring x
   pub last : ring.place ≡ at.place + 1
-  pub told : (lane : ℕ) → list_of lane ≡ ring.reach → is_told lane at ≡ is_read_at x lane at.place
-
--- ---- the three lists
-
--- the banks of the three lists are at a place
-pub record AreAt (place : ℕ) (alone near far : HeldList) : Type 0 where
-  pub alone_list : alone.ring.reach ≡ Alone
-  pub near_list : near.ring.reach ≡ Near
-  pub far_list : far.ring.reach ≡ Far
-  pub alone_place : alone.ring.place ≡ place
-  pub near_place : near.ring.place ≡ place
-  pub far_place : far.ring.place ≡ place
-
--- each of them has read all places before its own
-pub record HaveRead (alone near far : HeldList) (x : List ℤ) : Type 0 where
-  pub alone_read : HasRead alone x
-  pub near_read : HasRead near x
-  pub far_read : HasRead far x
+  pub told : (lane : ℕ) → IsClockedOn ring.reach lane → is_told lane at ≡ is_read_at x lane at.place

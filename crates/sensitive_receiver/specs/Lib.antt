@@ -5,8 +5,10 @@ pub mod Candidates
 pub mod MergedItems
 pub mod HeldLanes
 pub mod HeldList
+pub mod FixedLanes
 pub mod Found
 pub mod Hearing
+pub mod FourBanks
 pub mod HeldDecoder
 pub mod Stray
 pub mod LateLanes

@@ -4,6 +4,7 @@ ghost use Rattle.std.specs.Prelude.{◌≡◌, ◌+◌, ◌<◌, ◌≤◌, ◌^
 ghost use Rattle.sensitive_receiver.specs.HeardBlock.{HearsBlock};
 ghost use Rattle.sensitive_receiver.specs.HeldLanes.{StandsFor};
 
+use crate::fixed_bank::FixedBank;
 use crate::list_bank::ListBank;
 use crate::pieces::feed_block;
 use crate::reading::{InTurn, OnThreads, Reading};
@@ -20,7 +21,7 @@ const PIECE: usize = 2048;
 /// The fewest samples of a block of which each thread has more to do than it takes to start one.
 const LONG: usize = 16384;
 
-/// The tones of samples without their mean, and the lanes of three lists that read them: `new`, then `feed` for
+/// The tones of samples without their mean, and the four banks of lanes that read them: `new`, then `feed` for
 /// each block of samples. After want of memory it is spent: each later `feed` wants memory, too.
 #[derive(Drop)]
 pub struct AddedBank {
@@ -29,6 +30,7 @@ pub struct AddedBank {
     line: ToneLine,
     alone: ListBank,
     near: ListBank,
+    fixed: FixedBank,
     far: ListBank,
 }
 
@@ -36,7 +38,7 @@ impl Model for AddedBank {
     ghost use Rattle.std.specs.Prelude.{◌≡◌, false};
     ghost use Rattle.tone_tracking.specs.HeldLine.{decided_in};
     ghost use Rattle.sensitive_receiver.specs.HeldLanes.{HeldBank};
-    ghost use Rattle.sensitive_receiver.specs.HeldList.{AreAt};
+    ghost use Rattle.sensitive_receiver.specs.FourBanks.{AreAt};
 
     ghost Value = { HeldBank };
 
@@ -45,10 +47,11 @@ impl Model for AddedBank {
       line = s.line;
       alone = s.alone;
       near = s.near;
+      fixed = s.fixed;
       far = s.far;
     } };
 
-    ghost invariant = { λ s. s.spent ≡ false → AreAt (decided_in s.line.count) s.alone s.near s.far };
+    ghost invariant = { λ s. s.spent ≡ false → AreAt (decided_in s.line.count) s.alone s.near s.fixed s.far };
 }
 
 impl AddedBank {
@@ -63,6 +66,7 @@ impl AddedBank {
             line: ToneLine::new(alloc)?,
             alone: ListBank::new(alloc, Reach::Alone)?,
             near: ListBank::new(alloc, Reach::Near)?,
+            fixed: FixedBank::new(alloc)?,
             far: ListBank::new(alloc, Reach::Far)?,
         })
     }
@@ -114,6 +118,7 @@ impl AddedBank {
             &mut self.line,
             &mut self.alone,
             &mut self.near,
+            &mut self.fixed,
             &mut self.far,
             block,
         )?;

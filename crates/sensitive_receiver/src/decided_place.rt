@@ -3,8 +3,6 @@
 ghost use Rattle.std.specs.Prelude.{◌≡◌, ◌<◌, ◌≤◌};
 ghost use Rattle.sensitive_receiver.specs.ListLanes.{is_told};
 
-use crate::lanes::FIRST;
-
 /// A place, and whether the clocks on its list of tones say that a bit is read there. The fast clock runs on the near
 /// list alone.
 #[derive(Clone, Copy, PartialEq, Eq, Debug)]
@@ -15,14 +13,12 @@ pub(crate) struct DecidedPlace {
 }
 
 impl DecidedPlace {
-    /// Whether a lane of the list reads a bit there.
+    /// Whether a lane that follows a clock on the list reads a bit there.
     pub(crate) fn is_read_by(&self, lane: u8) -> bool
-        requires { (8 ≤ lane) × (lane < 26) }
+        requires { (16 ≤ lane) × (lane < 26) }
         ensures { result ≡ is_told lane self.now }
     {
-        if lane < 16 {
-            self.place % 8 == u64::from(lane - FIRST)
-        } else if lane < 22 {
+        if lane < 22 {
             self.slow
         } else if lane < 23 {
             self.fast

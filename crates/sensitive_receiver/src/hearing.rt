@@ -1,4 +1,4 @@
-//! What the lanes of a list of tones hear when a place is decided.
+//! What the clocked lanes of a list of tones hear when a place is decided.
 
 ghost use Rattle.std.specs.Prelude.{◌≡◌, true, ◌+◌, ◌-◌, ◌<◌, ◌≤◌, ◌^◌, ℕ, ℤ, List, length, OnOk};
 ghost use Rattle.std.specs.List.{All};
@@ -6,7 +6,6 @@ ghost use Rattle.hdlc_framer.specs.Frames.{IsFrame};
 ghost use Rattle.hdlc_framer.specs.Held.{HoldsFrame};
 ghost use Rattle.tone_table.specs.declared.tone.Tone.{Tone};
 ghost use Rattle.tone_tracking.specs.Clock.{changes};
-ghost use Rattle.tone_tracking.specs.declared.reach.Reach.TheVariants.{Far};
 ghost use Rattle.sensitive_receiver.specs.AddedCandidates.{is_in_time};
 ghost use Rattle.sensitive_receiver.specs.Found.{AddsAt, AddsIn, HasRoomFrom};
 ghost use Rattle.sensitive_receiver.specs.HeldLanes.{HoldsFrameOf};
@@ -18,7 +17,7 @@ ghost use Rattle.sensitive_receiver.specs.ListLanes.{is_told, lane_of, lanes_in}
 
 use crate::added_lane::has_path;
 use crate::decided_place::DecidedPlace;
-use crate::lanes::{FIRST, delay_of};
+use crate::lanes::delay_of;
 use crate::late_lane::LateLane;
 use frame_merge::Candidate;
 use std::alloc::Global;
@@ -26,7 +25,7 @@ use tnc_base::{Octets, OutOfMemory};
 use tone_table::Tone;
 use tone_tracking::{Reach, ToneRing};
 
-/// Has each lane of a list read its bit, if it reads one at the place that was decided last, and adds what they hear to
+/// Has each clocked lane of a list read its bit, if it reads one at the place that was decided last, and adds what they hear to
 /// `found`.
 #[inline(always)]
 pub(crate) fn hear_place(
@@ -57,34 +56,8 @@ pub(crate) fn hear_place(
             hear_clocked(alloc, ring, lanes, 0, 3, 16, 0, at, found)?;
             hear_clocked(alloc, ring, lanes, 3, 4, 22, 1, at, found)
         }
-        Reach::Far => {
-            hear_fixed(alloc, ring, lanes, at, found)?;
-            hear_clocked(alloc, ring, lanes, 8, 11, 19, 0, at, found)
-        }
+        Reach::Far => hear_clocked(alloc, ring, lanes, 0, 3, 19, 0, at, found),
     }
-}
-
-/// Has one of lanes 8 to 15 read its bit: the one whose turn it is at the place.
-#[inline(always)]
-fn hear_fixed(
-    alloc: Global,
-    ring: &ToneRing,
-    lanes: &mut [LateLane],
-    at: &DecidedPlace,
-    found: &mut Vec<Candidate>,
-) -> Result<(), OutOfMemory>
-    requires reach { ring.now.reach ≡ Far }
-    requires lanes { length lanes.old ≡ 11 }
-    requires room { ring.now.place < 2 ^ 49 }
-    requires place { at.now.place < 2 ^ 48 }
-    ensures lanes { length lanes.new ≡ 11 }
-    ensures hear { OnOk result (LanesHear 0 8 ring.now at.now lanes.old lanes.new found.old.items found.new.items) }
-    ensures bounds { (low : ℕ) → low ≤ at.now.place + 6
-        → OnOk result (All (HasRoomFrom low) found.old.items → All (HasRoomFrom low) found.new.items) }
-{
-    let index = (at.place % 8) as u8;
-    let lane = &mut lanes[usize::from(index)];
-    hear(alloc, ring, lane, FIRST + index, 0, at, found)
 }
 
 /// Has some lanes of a list, from one to below another in their order, read their bits if the clock that they share says
@@ -149,7 +122,7 @@ fn hear(
     at: &DecidedPlace,
     found: &mut Vec<Candidate>,
 ) -> Result<(), OutOfMemory>
-    requires number { (8 ≤ number) × (number < 26) }
+    requires number { (16 ≤ number) × (number < 26) }
     requires list { list_of number ≡ ring.now.reach }
     requires delay { delay ≡ delay_of number }
     requires few { delay ≤ 2 }
@@ -184,7 +157,7 @@ fn add_frame(
     at: &DecidedPlace,
     found: &mut Vec<Candidate>,
 ) -> Result<(), OutOfMemory>
-    requires number { (8 ≤ number) × (number < 26) }
+    requires number { (16 ≤ number) × (number < 26) }
     requires list { list_of number ≡ ring.now.reach }
     requires reads { is_told number at.now ≡ true }
     requires holds { (octets : List ℕ) × IsFrame octets × HoldsFrame lane.now.deframer octets }

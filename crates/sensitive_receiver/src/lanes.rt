@@ -31,13 +31,12 @@ pub fn delay_of(lane: u8) -> u8
     }
 }
 
-/// How many lanes read a list.
+/// How many lanes follow a clock on a list.
 pub(crate) fn lanes_in(reach: Reach) -> u64
     ensures { result ≡ lanes_in reach }
 {
     match reach {
-        Reach::Alone => 3,
+        Reach::Alone | Reach::Far => 3,
         Reach::Near => 4,
-        Reach::Far => 11,
     }
 }

@@ -17,6 +17,8 @@ mod added_bank;
 mod added_lane;
 mod decided_place;
 mod decoder;
+mod fixed_bank;
+mod fixed_hearing;
 mod hearing;
 mod lanes;
 mod late_lane;

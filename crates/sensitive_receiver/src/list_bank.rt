@@ -1,4 +1,4 @@
-//! The added lanes that read one list of tones.
+//! The added lanes that follow a clock on one list of tones.
 
 ghost use Rattle.std.specs.Prelude.{◌≡◌, ◌+◌, ◌-◌, ◌<◌, ◌≤◌, ◌^◌, ℕ, ℤ, List, [], length, IfOk, OnOk};
 ghost use Rattle.std.specs.List.{All};

@@ -51,32 +51,21 @@ returns-in_ok-hear_clocked-in-Near-clause-bounds c = λ low under.
     bounds (c.in_ok-hear_clocked-in-Near.ensures.bounds low under all))
     (c.hear_clocked-in-Near-2.ensures.bounds low under)
 
-pub returns-in_ok-hear_fixed-in-Far-clause-read : goal.returns-in_ok-hear_fixed-in-Far-clause-read
-returns-in_ok-hear_fixed-in-Far-clause-read c =
+pub returns-in-Far-clause-read : goal.returns-in-Far-clause-read
+returns-in-Far-clause-read c =
     let reach = c.args.ring.now.reach in
     let place = c.args.at.now.place in
-    let all : 11 ≡ lanes_in reach = subst (λ r. 11 ≡ lanes_in r) (sym c.in-Far.is ∙ c.requires.reach) refl in
+    let all : 3 ≡ lanes_in reach = subst (λ r. 3 ≡ lanes_in r) (sym c.in-Far.is ∙ c.requires.reach) refl in
     on_ok_weaker c.hear_clocked-in-Far.result (λ hear x last h.
-    lanes_after reach x place 11 c.hear_clocked-in-Far.new.lanes all
-    (hear.read x last (c.in_ok-hear_fixed-in-Far.ensures.hear.read x last
-    (lanes_before reach x place c.args.lanes.now h))))
+    lanes_after reach x place 3 c.hear_clocked-in-Far.new.lanes all
+    (hear.read x last (lanes_before reach x place c.args.lanes.now h)))
     c.hear_clocked-in-Far.ensures.hear
 
-pub returns-in_ok-hear_fixed-in-Far-clause-found : goal.returns-in_ok-hear_fixed-in-Far-clause-found
-returns-in_ok-hear_fixed-in-Far-clause-found c =
+pub returns-in-Far-clause-found : goal.returns-in-Far-clause-found
+returns-in-Far-clause-found c =
     let reach = c.args.ring.now.reach in
     let place = c.args.at.now.place in
-    let all : 11 ≡ lanes_in reach = subst (λ r. 11 ≡ lanes_in r) (sym c.in-Far.is ∙ c.requires.reach) refl in
+    let all : 3 ≡ lanes_in reach = subst (λ r. 3 ≡ lanes_in r) (sym c.in-Far.is ∙ c.requires.reach) refl in
     on_ok_weaker c.hear_clocked-in-Far.result (λ hear x last h.
-    let start = lanes_before reach x place c.args.lanes.now h in
-    adds_all reach place x 11 _ _ all
-    (adds_join_among reach place x 0 8 11 _ _ _ (omega arith) (omega arith) (omega arith)
-    (c.in_ok-hear_fixed-in-Far.ensures.hear.found x last start)
-    (hear.found x last (c.in_ok-hear_fixed-in-Far.ensures.hear.read x last start))))
+    adds_all reach place x 3 _ _ all (hear.found x last (lanes_before reach x place c.args.lanes.now h)))
     c.hear_clocked-in-Far.ensures.hear
-
-pub returns-in_ok-hear_fixed-in-Far-clause-bounds : goal.returns-in_ok-hear_fixed-in-Far-clause-bounds
-returns-in_ok-hear_fixed-in-Far-clause-bounds c = λ low under.
-    on_ok_weaker c.hear_clocked-in-Far.result (λ bounds all.
-    bounds (c.in_ok-hear_fixed-in-Far.ensures.bounds low under all))
-    (c.hear_clocked-in-Far.ensures.bounds low under)

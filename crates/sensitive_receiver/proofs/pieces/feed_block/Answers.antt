@@ -9,7 +9,7 @@ use Rattle.sensitive_receiver.proofs.pieces.feed_block.Goals as goal
 
 pub loop-piece-init : goal.loop-piece-init
 loop-piece-init g c =
-    let old : HeldBank = bank_of c.args.line.now c.args.alone.now c.args.near.now c.args.far.now in (
+    let old : HeldBank = bank_of c.args.line.now c.args.alone.now c.args.near.now c.args.fixed.now c.args.far.now in (
       search rules,
       search rules,
       search rules,
@@ -27,9 +27,9 @@ loop-piece-preserved g c =
     let done : List ℤ = before.3 in
     let steps = c.in-Some.ensures.steps in
     let whole : done ++ (piece ++ rest) ≡ c.args.block.now = ap (λ t. done ++ t) (sym steps.1.0) ∙ before.4 in
-    let old : HeldBank = bank_of c.args.line.now c.args.alone.now c.args.near.now c.args.far.now in
-    let was : HeldBank = bank_of c.loop-piece.line c.loop-piece.alone c.loop-piece.near c.loop-piece.far in
-    let now : HeldBank = bank_of c.feed_piece.new.line c.feed_piece.new.alone c.feed_piece.new.near
+    let old : HeldBank = bank_of c.args.line.now c.args.alone.now c.args.near.now c.args.fixed.now c.args.far.now in
+    let was : HeldBank = bank_of c.loop-piece.line c.loop-piece.alone c.loop-piece.near c.loop-piece.fixed c.loop-piece.far in
+    let now : HeldBank = bank_of c.feed_piece.new.line c.feed_piece.new.alone c.feed_piece.new.near c.feed_piece.new.fixed
     c.feed_piece.new.far in (
       search rules,
       tt,
@@ -47,8 +47,8 @@ returns-clause-heard g c =
     let before = c.loop-piece.invariant in
     let whole = all_done before.3 (chunks_rest c.loop-piece.piece-iterator) c.args.block.now before.4
     c.in-None.ensures.steps.1.0 in
-    let old : HeldBank = bank_of c.args.line.now c.args.alone.now c.args.near.now c.args.far.now in
-    let now : HeldBank = bank_of c.loop-piece.line c.loop-piece.alone c.loop-piece.near c.loop-piece.far in
+    let old : HeldBank = bank_of c.args.line.now c.args.alone.now c.args.near.now c.args.fixed.now c.args.far.now in
+    let now : HeldBank = bank_of c.loop-piece.line c.loop-piece.alone c.loop-piece.near c.loop-piece.fixed c.loop-piece.far in
     subst (λ done. HearsBlock old now done c.loop-piece.found.items) whole before.5.heard
 
 pub returns-clause-at : goal.returns-clause-at

@@ -10,5 +10,5 @@ invariant-loop-piece g l =
     × (goal.iterator-loop-piece g).is_finite l.piece-iterator
     × (chunks_size l.piece-iterator ≡ l.size)
     × (done : List ℤ) × (done ++ chunks_rest l.piece-iterator ≡ l.block)
-    × HasFed (bank_of l.initial.line l.initial.alone l.initial.near l.initial.far)
-    (bank_of l.line l.alone l.near l.far) done l.found.items
+    × HasFed (bank_of l.initial.line l.initial.alone l.initial.near l.initial.fixed l.initial.far)
+    (bank_of l.line l.alone l.near l.fixed l.far) done l.found.items
