@@ -12,4 +12,4 @@ mod sending;
 
 pub use fault::ModFault;
 pub use modulator::Modulator;
-pub use sending::{first_bad_length, transmission, transmission_at};
+pub use sending::{first_bad_length, modulated, transmission, transmission_at};

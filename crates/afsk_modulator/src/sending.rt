@@ -77,8 +77,8 @@ pub fn first_bad_length(frames: &[Octets]) -> Option<usize>
     None
 }
 
-/// The wave of bits on a line that stands at mark, from where a modulator stands.
-fn modulated(
+/// The samples of bits on a line that stands at mark, by inverted NRZ, from where a modulator stands: eight a bit.
+pub fn modulated(
     alloc: Global,
     mut modulator: Modulator,
     bits: &[bool],

@@ -1,18 +1,17 @@
 //! What a station hears that reads blocks of FX.25.
-ghost use Rattle.std.specs.Prelude.{◌≡◌, ◌<◌, ◌^◌, ◌↔◌, ℤ, List, [], ◌++◌, length, map, IfOk, IsTrue, OnErr, true};
+ghost use Rattle.std.specs.Prelude.{◌≡◌, ◌<◌, ◌^◌, ◌↔◌, ℤ, List, [], ◌++◌, length, IfOk, IsTrue, OnErr, true};
 ghost use Rattle.std.specs.List.{All};
 ghost use Rattle.hdlc_framer.specs.FrameLength.{HasFrameLength};
-ghost use Rattle.fx25_receiver.specs.WithoutBlocks.{candidate_of};
 ghost use Rattle.channel_bench.specs.Hearing.{AreReadyInBlocks, HearsStation};
 ghost use Rattle.channel_bench.specs.Sounding.{mark_of};
 
 use crate::plain_ear::mark_after;
 use frame_merge::Candidate;
-use fx25_receiver::{Fx25Receiver, Heard};
+use fx25_receiver::{Fx25Receiver, candidates};
 use slicer_bank::Bank;
 use station::Memory;
 use std::alloc::Global;
-use tnc_base::{Octets, OutOfMemory};
+use tnc_base::OutOfMemory;
 
 /// A receiver of FX.25, and a bank of slicers that hears whether another station sends.
 #[derive(Drop)]
@@ -78,25 +77,4 @@ impl BlockEar {
         let items = memory.took(candidates(self.alloc, &heard))?;
         Ok(items)
     }
-}
-
-/// What was heard, without tags and places where blocks' frames would have ended.
-fn candidates(alloc: Global, heard: &[Heard]) -> Result<Vec<Candidate>, OutOfMemory>
-    ensures { IfOk result (λ items. items.items ≡ map candidate_of heard.now) }
-{
-    let mut items = Vec::new(alloc);
-    for item in heard {
-        items.push(candidate(alloc, item)?)?;
-    }
-    Ok(items)
-}
-
-fn candidate(alloc: Global, item: &Heard) -> Result<Candidate, OutOfMemory>
-    ensures { IfOk result (λ candidate. candidate ≡ candidate_of item.now) }
-{
-    Ok(Candidate {
-        end: item.end,
-        offset: item.lane,
-        octets: Octets::from_slice(alloc, item.octets.as_slice())?,
-    })
 }

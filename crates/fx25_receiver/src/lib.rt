@@ -7,6 +7,7 @@
 #![tactic(auto)]
 
 mod ahead;
+mod candidate_list;
 mod heard;
 mod hearing;
 mod lane;
@@ -19,6 +20,7 @@ mod resting_reader;
 mod tests;
 mod window_certainty;
 
+pub use candidate_list::candidates;
 pub use heard::Heard;
 pub use lane::Lane;
 pub use laws::{

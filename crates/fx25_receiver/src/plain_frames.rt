@@ -4,14 +4,14 @@
 //! of which nearly all can be taken at once, or until a flag comes. The bits that wait are the last of those that the
 //! reader of blocks keeps, so a caller names them.
 ghost use Rattle.std.specs.Prelude.{◌≡◌, ◌+◌, ◌<◌, ◌≤◌, ◌/◌, ◌^◌, ℕ, Bool, List, [], ◌∷◌, ◌++◌, drop, take, true, false};
-ghost use Rattle.hdlc_framer.specs.BitOrder.{low_bits, octet_bits};
+ghost use Rattle.hdlc_framer.specs.BitOrder.{octet_bits};
 ghost use Rattle.hdlc_framer.specs.Frames.{IsFrame, EndsFrame};
 ghost use Rattle.hdlc_framer.specs.Held.{HoldsFrame, StandsFor as DeframerStandsFor};
 ghost use Rattle.hdlc_framer.specs.Late.{StandsFor};
 ghost use Rattle.fx25_receiver.specs.Resting.{IsLast64};
 
 use crate::resting_reader::may_end_frame_in;
-use hdlc_framer::{Deframer, Event};
+use hdlc_framer::{Deframer, Event, push_bits, push_whole_octet};
 use std::marker::Model;
 
 /// The flag as an octet.
@@ -82,7 +82,7 @@ impl PlainFrames {
         ensures room { self.new.waiting < 8 }
     {
         if self.waiting == MOST_WAITING {
-            push_octet(&mut self.deframer, last);
+            push_whole_octet(&mut self.deframer, last);
             self.waiting = 0;
         }
     }
@@ -167,25 +167,5 @@ impl PlainFrames {
             → result.now ≡ octets }
     {
         self.deframer.octets()
-    }
-}
-
-/// Gives a deframer the bits of an octet: at once, if nothing ends with any of them and none is an inserted 0.
-fn push_octet(deframer: &mut Deframer, octet: u8)
-    ensures { (b : List Bool) → DeframerStandsFor deframer.old b → DeframerStandsFor deframer.new (b ++ octet_bits octet) }
-{
-    if !deframer.push_octet(octet) {
-        push_bits(deframer, octet, 0, MOST_WAITING);
-    }
-}
-
-/// Gives a deframer the bits of an octet from a place to before another.
-fn push_bits(deframer: &mut Deframer, octet: u8, first: u8, end: u8)
-    requires { (first ≤ end) × (end ≤ 8) }
-    ensures { (b : List Bool) → DeframerStandsFor deframer.old b
-        → DeframerStandsFor deframer.new (b ++ drop first (low_bits end octet)) }
-{
-    for place in first..end {
-        deframer.push((octet >> place) & 1 == 1);
     }
 }

@@ -1,16 +1,14 @@
 //! Frames as the samples of one transmission.
 ghost use Rattle.std.specs.Prelude.{◌≡◌, ℕ, ◌↔◌, All, IfOk, OnOk, IsErrOf};
-ghost use Rattle.nrzi_bits.specs.Line.{line};
-ghost use Rattle.afsk_modulator.specs.Modulation.{wave_of, IsLevel};
+ghost use Rattle.afsk_modulator.specs.Modulation.{IsLevel};
 ghost use Rattle.afsk_modulator.specs.Transmission.{AreFewFlags, IsFirstBadLength};
 ghost use Rattle.hdlc_framer.specs.FrameLength.{IsBadLength};
 ghost use Rattle.fx25_sender.specs.Transmission.{fx25_transmission};
 
 use crate::body::fx25_body;
-use afsk_modulator::{ModFault, Modulator, first_bad_length};
-use nrzi_bits::NrziOut;
+use afsk_modulator::{ModFault, Modulator, first_bad_length, modulated};
 use std::alloc::Global;
-use tnc_base::{Octets, OutOfMemory};
+use tnc_base::Octets;
 
 /// The fewest flags that open a transmission.
 const LEAST_OPENING: u16 = 2;
@@ -47,20 +45,4 @@ pub fn fx25_transmission(
     }
     let bits = fx25_body(alloc, checks, frames, opening, closing)?;
     Ok(modulated(alloc, Modulator::start(0, level), &bits)?)
-}
-
-/// The wave of bits on a line that stands at mark, from where a modulator stands.
-fn modulated(
-    alloc: Global,
-    mut modulator: Modulator,
-    bits: &[bool],
-) -> Result<Vec<i16>, OutOfMemory>
-    ensures { IfOk result (λ samples. samples.items ≡ wave_of modulator (line bits.now)) }
-{
-    let mut line = NrziOut::new();
-    let mut samples = Vec::new(alloc);
-    for bit in bits {
-        samples.extend_from_slice(modulator.next(line.step(*bit)).as_slice())?;
-    }
-    Ok(samples)
 }

@@ -83,7 +83,7 @@ impl LateDeframer {
         ensures room { self.new.waiting < 8 }
     {
         if self.waiting == MOST_WAITING {
-            push_octet(&mut self.deframer, self.last);
+            push_whole_octet(&mut self.deframer, self.last);
             self.waiting = 0;
         }
     }
@@ -129,8 +129,9 @@ impl LateDeframer {
     }
 }
 
-/// Gives a deframer the bits of an octet: at once, if nothing ends with any of them and none is an inserted 0.
-fn push_octet(deframer: &mut Deframer, octet: u8)
+/// Gives a deframer the bits of an octet, the lowest first: at once, if nothing ends with any of them and none is an
+/// inserted 0. It tells no event.
+pub fn push_whole_octet(deframer: &mut Deframer, octet: u8)
     ensures { (b : List Bool) → DeframerStandsFor deframer.old b → DeframerStandsFor deframer.new (b ++ octet_bits octet) }
 {
     if !deframer.push_octet(octet) {
@@ -138,8 +139,8 @@ fn push_octet(deframer: &mut Deframer, octet: u8)
     }
 }
 
-/// Gives a deframer the bits of an octet from a place to before another.
-fn push_bits(deframer: &mut Deframer, octet: u8, first: u8, end: u8)
+/// Gives a deframer the bits of an octet from a place to before another, of which the lowest is 0. It tells no event.
+pub fn push_bits(deframer: &mut Deframer, octet: u8, first: u8, end: u8)
     requires { (first ≤ end) × (end ≤ 8) }
     ensures { (b : List Bool) → DeframerStandsFor deframer.old b
         → DeframerStandsFor deframer.new (b ++ drop first (low_bits end octet)) }

@@ -22,6 +22,6 @@ pub use check_sequence::fcs;
 pub use deframer::Deframer;
 pub use event::Event;
 pub use frame_length::{LEAST_FRAME_LENGTH, MOST_FRAME_LENGTH, has_frame_length};
-pub use late_deframer::LateDeframer;
+pub use late_deframer::{LateDeframer, push_bits, push_whole_octet};
 pub use laws::{one_event_comes, one_flag_makes_busy, one_frame_ends, remainder_is_of_division};
 pub use stuffing::stuff;

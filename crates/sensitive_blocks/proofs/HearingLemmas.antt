@@ -1,8 +1,7 @@
 -- Lane after lane of an end, and tag after tag of a bit.
-use Rattle.sensitive_blocks.proofs.Common.{◌≡◌, ℕ, ◌+◌, ◌*◌, ◌<◌, true, ℤ, List, ◌++◌, length, set, ◌∙◌}
-use Rattle.sensitive_blocks.proofs.Common.{Heard, HasTakenBelow, HeldLane, LaneHasRead, ends, get_or, lane_certainties, lane_tones, reads}
+use Rattle.sensitive_blocks.proofs.Common.{◌≡◌, ℕ, ◌+◌, ◌*◌, ◌<◌, ℤ, List, ◌++◌, length, set, ◌∙◌}
+use Rattle.sensitive_blocks.proofs.Common.{Heard, HasTakenBelow, HeldLane, LaneHasRead, ends, get_or, lane_certainties, lane_tones}
 use Rattle.std.proofs.lemmas.List.{length-set}
-use Rattle.sensitive_blocks.specs.declared.hearing.Bit.{Bit}
 use Rattle.sensitive_blocks.specs.declared.hearing.Moment.{Moment}
 use Rattle.sensitive_blocks.specs.Held.{HeldFollower, LanesAreAt, LanesHaveRead}
 use Rattle.sensitive_blocks.specs.Moments.{IsAt}
@@ -43,11 +42,3 @@ heard_more moment follower end old now was lane kept given later more last all n
   heard = λ x before at start taken.
       hear x before at (lane_before end n now was x small (h.read x at start)) (h.heard x before at start taken);
 }
-
--- what has been taken of the blocks of so many tags
-abbrev pub HasHeardTags : HeldLane → Bit → List Heard → List Heard → List Heard → List Heard → ℕ → Type 0
-HasHeardTags lane bit kept given now more count = (x : List ℤ) (before : List Heard) → reads x bit.lane bit.end ≡ true
-    → LaneHasRead lane (lane_tones x bit.lane (bit.end + 1)) (lane_certainties x bit.lane (bit.end + 1))
-    (ends x bit.lane (bit.end + 1))
-    → HasTakenBelow bit.end (256 * bit.lane + 1) kept x (before ++ given)
-    → HasTakenBelow bit.end (256 * bit.lane + (count + 1)) now x (before ++ more)

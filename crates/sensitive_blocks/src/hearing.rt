@@ -14,6 +14,7 @@ ghost use Rattle.sensitive_blocks.specs.Heard.{IsTold};
 ghost use Rattle.sensitive_blocks.specs.Held.{LanesHaveRead};
 ghost use Rattle.sensitive_blocks.specs.HeldLane.{LaneHasRead};
 ghost use Rattle.sensitive_blocks.specs.Moments.{IsAt};
+ghost use Rattle.sensitive_blocks.specs.Ranks.{TakesRanks};
 ghost use Rattle.sensitive_blocks.specs.Taken.{HasTakenBelow};
 
 use crate::follower::Follower;
@@ -244,11 +245,8 @@ fn hear_blocks(
     given: &mut Vec<Heard>,
 ) -> Result<(), OutOfMemory>
     requires lane { bit.lane < 26 }
-    ensures { OnOk result ((x : List ℤ) (before : List Heard) → reads x bit.lane bit.end ≡ true
-        → LaneHasRead lane.now (lane_tones x bit.lane (bit.end + 1)) (lane_certainties x bit.lane (bit.end + 1))
-        (ends x bit.lane (bit.end + 1))
-        → HasTakenBelow bit.end (256 * bit.lane + 1) kept.old.items x (before ++ given.old.items)
-        → HasTakenBelow bit.end (256 * (bit.lane + 1)) kept.new.items x (before ++ given.new.items)) }
+    ensures { OnOk result (TakesRanks lane.now bit (256 * bit.lane + 1) (256 * (bit.lane + 1))
+        kept.old.items given.old.items kept.new.items given.new.items) }
 {
     if lane.is_idle() {
         Ok(())
@@ -266,11 +264,8 @@ fn hear_tags(
     given: &mut Vec<Heard>,
 ) -> Result<(), OutOfMemory>
     requires lane { bit.lane < 26 }
-    ensures { OnOk result ((x : List ℤ) (before : List Heard) → reads x bit.lane bit.end ≡ true
-        → LaneHasRead lane.now (lane_tones x bit.lane (bit.end + 1)) (lane_certainties x bit.lane (bit.end + 1))
-        (ends x bit.lane (bit.end + 1))
-        → HasTakenBelow bit.end (256 * bit.lane + 1) kept.old.items x (before ++ given.old.items)
-        → HasTakenBelow bit.end (256 * (bit.lane + 1)) kept.new.items x (before ++ given.new.items)) }
+    ensures { OnOk result (TakesRanks lane.now bit (256 * bit.lane + 1) (256 * (bit.lane + 1))
+        kept.old.items given.old.items kept.new.items given.new.items) }
 {
     for below in 0..TAGS {
         let tag = below + 1;

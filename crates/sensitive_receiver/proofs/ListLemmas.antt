@@ -13,6 +13,7 @@ use Rattle.tone_tracking.specs.Clock.{Clock, is_reading, next_clock}
 use Rattle.tone_tracking.specs.Correlation.{correlations}
 use Rattle.tone_tracking.specs.Heard.{tone_at}
 use Rattle.tone_tracking.specs.Slots.{place_tones, tone_of}
+use Rattle.tone_tracking.proofs.SlotLemmas.{tone_of_place}
 use Rattle.sensitive_receiver.specs.Hearing.{AreTonesOf}
 use Rattle.tone_tracking.specs.HeldRing.{StandsFor as RingStandsFor}
 use Rattle.sensitive_receiver.proofs.FoundLemmas.{adds_none, adds_next_places}
@@ -120,13 +121,6 @@ fed_none initial line =
       found = λ x are h. adds_none (λ p l. ((at ≤ p) × (p < at)) × (list_of l ≡ initial.ring.reach)) x []
           (λ item place of ends. let low = of.0.0 in let high = of.0.1 in absurd (omega arith));
     }
-
--- the tone of a list is that which is decided in it
-tone_of_place : (reach : Reach) (windows : ℕ → Correlations) (place : ℕ)
-    → tone_of reach (place_tones windows place) ≡ tone_at reach windows place
-tone_of_place Alone windows place = refl
-tone_of_place Near windows place = refl
-tone_of_place Far windows place = refl
 
 module _ (initial was now : HeldList) (line : List PlaceTones) (found after : List Candidate) (n : ℕ)
     (d : PlaceTones) (reach : Reach) (tone : Tone)

@@ -1,6 +1,7 @@
 pub mod Candidates
 pub mod ToneLanes
 pub mod Held
+pub mod Feeding
 pub mod Busy
 pub mod Merging
 pub mod Heard

@@ -1,11 +1,11 @@
 //! The bank of eight lanes.
 
-ghost use Rattle.std.specs.Prelude.{◌≡◌, ◌↔◌, ◌+◌, ◌<◌, ◌≤◌, ◌^◌, ℤ, List, [], ◌++◌, length, true, false, IfOk, OnOk};
+ghost use Rattle.std.specs.Prelude.{◌≡◌, ◌↔◌, ◌+◌, ◌<◌, ◌≤◌, ◌^◌, ℤ, List, [], length, true, false, IfOk, OnOk};
 ghost use Rattle.std.specs.Prelude.{OnErr, IsErr, IsTrue};
 ghost use Rattle.std.specs.List.{All};
 ghost use Rattle.slicer_bank.specs.Busy.{HearsCarrier};
 ghost use Rattle.slicer_bank.specs.Held.{StandsFor};
-ghost use Rattle.slicer_bank.specs.Candidates.{AreCandidatesAfter};
+ghost use Rattle.slicer_bank.specs.Feeding.{FeedsBlock};
 ghost use Rattle.slicer_bank.specs.Merging.{CanBePut, AllPast};
 
 use crate::gate::Gate;
@@ -76,8 +76,7 @@ impl Bank {
     /// Takes a block of samples, and gives the candidates that end in it, by end and then offset.
     pub fn feed(&mut self, block: &[i16]) -> Result<Vec<Candidate>, OutOfMemory>
         requires { self.old.position + length block.now < 2 ^ 48 }
-        ensures found { IfOk result (λ found. (x : List ℤ) → StandsFor self.old x
-            → StandsFor self.new (x ++ block.now) × AreCandidatesAfter (length x) (x ++ block.now) found.items) }
+        ensures found { IfOk result (λ found. FeedsBlock self.old self.new block.now found.items) }
         ensures bounds { IfOk result (λ found. All CanBePut found.items) }
         ensures past { IfOk result (λ found. AllPast self.old.position found.items) }
         ensures position { OnOk result (self.new.position ≡ self.old.position + length block.now) }
@@ -106,8 +105,7 @@ impl Bank {
         gate: &G,
     ) -> Result<Vec<Candidate>, OutOfMemory>
         requires { self.old.position + length block.now < 2 ^ 48 }
-        ensures found { IfOk result (λ found. (x : List ℤ) → StandsFor self.old x
-            → StandsFor self.new (x ++ block.now) × AreCandidatesAfter (length x) (x ++ block.now) found.items) }
+        ensures found { IfOk result (λ found. FeedsBlock self.old self.new block.now found.items) }
         ensures bounds { IfOk result (λ found. All CanBePut found.items) }
         ensures past { IfOk result (λ found. AllPast self.old.position found.items) }
         ensures position { OnOk result (self.new.position ≡ self.old.position + length block.now) }

@@ -17,7 +17,7 @@ use crate::modem::Modem;
 use tnc_base::OutOfMemory;
 use tnc_forms::{Fault, InputFault};
 use tnc_words::{AudioForm, DecodeWords, Receiving, SampleRate};
-use wav_file::WavIn;
+use wav_file::{WavIn, sample_of};
 
 /// The samples a second of a file whose rate is the wide one.
 const WIDE_RATE: u32 = 48_000;
@@ -134,7 +134,7 @@ fn take_pcm(low: &mut Option<u8>, octets: &[u8], samples: &mut Vec<i16>) -> Resu
         (None, octets) => take_pairs(octets, samples)?,
         (Some(first), []) => Some(first),
         (Some(first), [second, rest @ ..]) => {
-            append(samples, i16::from_le_bytes([first, *second]))?;
+            append(samples, sample_of(first, *second))?;
             take_pairs(rest, samples)?
         }
     };
@@ -142,7 +142,6 @@ fn take_pcm(low: &mut Option<u8>, octets: &[u8], samples: &mut Vec<i16>) -> Resu
 }
 
 /// Appends the samples of octets by twos, and gives an odd octet after them.
-#[tactic(auto, unfolding(wav_file::specs::Samples::sample_of))]
 fn take_pairs(octets: &[u8], samples: &mut Vec<i16>) -> Result<Option<u8>, OutOfMemory>
     ensures odd { IfOk result (λ odd. odd ≡ odd_octet octets.now) }
     ensures samples { OnOk result (samples.new.items ≡ samples.old.items ++ samples_in_pairs octets.now) }
@@ -154,7 +153,7 @@ fn take_pairs(octets: &[u8], samples: &mut Vec<i16>) -> Result<Option<u8>, OutOf
             append_eight(samples, front)?;
             rest = later;
         } else {
-            append(samples, i16::from_le_bytes([*low, *high]))?;
+            append(samples, sample_of(*low, *high))?;
             rest = after;
         }
     }
@@ -250,12 +249,11 @@ fn append_eight(samples: &mut Vec<i16>, octets: &[u8; 16]) -> Result<(), OutOfMe
 }
 
 /// The sample that begins at a place.
-#[tactic(auto, unfolding(wav_file::specs::Samples::sample_of))]
 fn sample_at(octets: &[u8; 16], place: usize) -> i16
     requires { place < 15 }
     ensures { result ≡ sample_of (slice_index_or octets.now place 0) (slice_index_or octets.now (place + 1) 0) }
 {
-    i16::from_le_bytes([octets[place], octets[place + 1]])
+    sample_of(octets[place], octets[place + 1])
 }
 
 /// Appends a sample.

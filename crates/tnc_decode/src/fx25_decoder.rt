@@ -5,10 +5,10 @@ ghost use Rattle.fx25_receiver.specs.Held.{StandsFor};
 ghost use Rattle.fx25_receiver.specs.WithoutBlocks.{candidate_of};
 
 use frame_merge::Candidate;
-use fx25_receiver::{Fx25Receiver, Heard};
+use fx25_receiver::{Fx25Receiver, candidates};
 use std::alloc::Global;
 use std::marker::Model;
-use tnc_base::{Octets, OutOfMemory};
+use tnc_base::OutOfMemory;
 
 /// A receiver whose items are candidates.
 #[derive(Drop)]
@@ -56,26 +56,4 @@ impl Fx25Decoder {
     {
         Vec::new(self.alloc)
     }
-}
-
-/// Items as candidates.
-pub(crate) fn candidates(alloc: Global, heard: &[Heard]) -> Result<Vec<Candidate>, OutOfMemory>
-    ensures { IfOk result (λ items. items.items ≡ map candidate_of heard.now) }
-{
-    let mut items = Vec::new(alloc);
-    for item in heard {
-        items.push(candidate(alloc, item)?)?;
-    }
-    Ok(items)
-}
-
-/// An item as a candidate.
-fn candidate(alloc: Global, item: &Heard) -> Result<Candidate, OutOfMemory>
-    ensures { IfOk result (λ candidate. candidate ≡ candidate_of item.now) }
-{
-    Ok(Candidate {
-        end: item.end,
-        offset: item.lane,
-        octets: Octets::from_slice(alloc, item.octets.as_slice())?,
-    })
 }

@@ -5,8 +5,8 @@ ghost use Rattle.fx25_receiver.specs.WithoutBlocks.{candidate_of};
 ghost use Rattle.sensitive_blocks.specs.Heard.{AreMerged};
 ghost use Rattle.sensitive_blocks.specs.Held.{StandsFor};
 
-use crate::fx25_decoder::candidates;
 use frame_merge::Candidate;
+use fx25_receiver::candidates;
 use sensitive_blocks::SensitiveBlocksReceiver;
 use std::alloc::Global;
 use std::marker::Model;

@@ -14,10 +14,10 @@ ghost use Rattle.tnc_ports.specs.Pumped.{IsPumped};
 ghost use Rattle.tnc_ports.specs.OddOctet.{odd_after, ended};
 
 use crate::inlet::{Inlet, RingInlet};
-use byteorder::{ByteOrder, LittleEndian};
 use sample_ring::{Ring, Writer, WriterDone};
 use sound_rate::{Incoming, Rate};
 use tnc_base::Source;
+use wav_file::sample_of;
 
 /// The most octets of an input.
 const MOST_INPUT: usize = 1 << 40;
@@ -195,13 +195,12 @@ fn push_octet<T: Inlet>(inlet: &mut T, low: &mut Option<u8>, incoming: &mut Inco
 }
 
 /// The sample whose high octet comes with this, if a low octet came before.
-#[tactic(auto, unfolding(wav_file::specs::Samples::sample_of))]
 fn take_octet(low: &mut Option<u8>, octet: u8) -> Option<i16>
     ensures sample { result ≡ option_map (λ first. sample_of first octet) low.old }
     ensures rest { low.new ≡ odd_after low.old octet }
 {
     match low.take() {
-        Some(first) => Some(LittleEndian::read_i16(&[first, octet])),
+        Some(first) => Some(sample_of(first, octet)),
         None => {
             *low = Some(octet);
             None

@@ -1,10 +1,11 @@
 -- The tones of a slot, window by window.
 use Rattle.tone_tracking.proofs.Common.{◌≡◌, ℕ, ◌+◌, ◌*◌, ◌/◌, ◌%◌, ◌<◌, ◌≤◌, ℤ, List, length, get_or, set, ap, sym, subst, ◌∙◌}
-use Rattle.tone_tracking.proofs.Common.{arith, inl, inr, cases_eq, get_or-set_same, get_or-set_other, ◌≢◌, Tone, Phasor, Correlations}
+use Rattle.tone_tracking.proofs.Common.{arith, inl, inr, cases_eq, get_or-set_same, get_or-set_other, ◌≢◌, refl, Mark, Space, Tone, Phasor, Correlations}
 use Rattle.tone_tracking.proofs.Common.{correlations, decided, open_of, passed, past_at, tone_at}
 use Rattle.tone_tracking.specs.declared.place_tones.PlaceTones.{PlaceTones}
 use Rattle.tone_tracking.specs.declared.reach.Reach.{Reach}
-use Rattle.tone_tracking.specs.Slots.{HeldSlot, place_tones}
+use Rattle.tone_tracking.specs.declared.reach.Reach.TheVariants.{Alone, Near, Far}
+use Rattle.tone_tracking.specs.Slots.{HeldSlot, packed, place_tones, tone_of}
 use Rattle.tone_tracking.proofs.TrackerLemmas.{past_at-next}
 
 -- a window is decided by the past there and its correlations and the next two
@@ -71,3 +72,42 @@ row_more slots line first n one inside row here i d e below = elim (cases_eq i n
       ∙ ap (λ k. get_or (get_or slots ((first + k) % 8) e).tones (k / 8) d) (sym is)
   | inr ne ↦ get_or-set_other line n i one d ne ∙ row i d e (omega arith)
 ]
+
+-- ---- three tones in one octet
+
+alone_of : (alone near far : Tone) → tone_of Alone (packed alone near far) ≡ alone
+alone_of Mark Mark Mark = refl
+alone_of Mark Mark Space = refl
+alone_of Mark Space Mark = refl
+alone_of Mark Space Space = refl
+alone_of Space Mark Mark = refl
+alone_of Space Mark Space = refl
+alone_of Space Space Mark = refl
+alone_of Space Space Space = refl
+
+near_of : (alone near far : Tone) → tone_of Near (packed alone near far) ≡ near
+near_of Mark Mark Mark = refl
+near_of Mark Mark Space = refl
+near_of Mark Space Mark = refl
+near_of Mark Space Space = refl
+near_of Space Mark Mark = refl
+near_of Space Mark Space = refl
+near_of Space Space Mark = refl
+near_of Space Space Space = refl
+
+far_of : (alone near far : Tone) → tone_of Far (packed alone near far) ≡ far
+far_of Mark Mark Mark = refl
+far_of Mark Mark Space = refl
+far_of Mark Space Mark = refl
+far_of Mark Space Space = refl
+far_of Space Mark Mark = refl
+far_of Space Mark Space = refl
+far_of Space Space Mark = refl
+far_of Space Space Space = refl
+
+-- the tone of a list is that which is decided in it
+pub tone_of_place : (reach : Reach) (windows : ℕ → Correlations) (place : ℕ)
+    → tone_of reach (place_tones windows place) ≡ tone_at reach windows place
+tone_of_place Alone windows place = alone_of (tone_at Alone windows place) (tone_at Near windows place) (tone_at Far windows place)
+tone_of_place Near windows place = near_of (tone_at Alone windows place) (tone_at Near windows place) (tone_at Far windows place)
+tone_of_place Far windows place = far_of (tone_at Alone windows place) (tone_at Near windows place) (tone_at Far windows place)

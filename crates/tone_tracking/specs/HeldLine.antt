@@ -1,5 +1,5 @@
 -- What a line of tones keeps of samples, and what that stands for.
-use Rattle.std.specs.Prelude.{◌≡◌, ◌-◌, ℕ, ℤ, List, ◌++◌, length, drop}
+use Rattle.std.specs.Prelude.{◌≡◌, ◌+◌, ◌-◌, ℕ, ℤ, List, ◌++◌, length, drop}
 use Rattle.tone_tracking.specs.declared.place_tones.PlaceTones.{PlaceTones}
 use Rattle.tone_tracking.specs.Correlation.{correlations}
 use Rattle.tone_tracking.specs.Slots.{AreTonesFrom, HeldSlot, SlotsHaveDecided}
@@ -28,6 +28,12 @@ pub record HasTaken (held : HeldLine) (x : List ℤ) : Type 0 where
   pub levels : held.levels ≡ drop held.first (without_mean x)
   pub slots : SlotsHaveDecided held.slots (correlations (without_mean x)) (decided_in (length x))
   pub line : AreTonesFrom held.first held.line (correlations (without_mean x))
+
+-- The line takes a block, and makes the tones of the places that it decides.
+pub record TakesBlock (old new : HeldLine) (block : List ℤ) : Type 0 where
+  pub has_taken : (x : List ℤ) → HasTaken old x → HasTaken new (x ++ block)
+  pub count : new.count ≡ old.count + length block
+  pub first : new.first ≡ decided_in old.count
 
 -- A remover that has taken samples takes a block more, and what that settles is added to the levels.
 abbrev pub Settles : HeldMean → HeldMean → List ℤ → List ℤ → List ℤ → Type 0

@@ -1,7 +1,8 @@
 -- Tones slot by slot. Eight places make a bit, and a slot has the places of one remainder: what is decided at a place asks
 -- for windows of its own slot alone.
-use Rattle.std.specs.Prelude.{◌≡◌, ℕ, ◌+◌, ◌-◌, ◌*◌, ◌/◌, ◌%◌, ◌<◌, ◌≤◌, List, length, slice_index_or}
+use Rattle.std.specs.Prelude.{◌≡◌, ℕ, ◌+◌, ◌-◌, ◌*◌, ◌/◌, ◌%◌, ◌<◌, ◌≤◌, ◌==◌, if◌then◌else◌, List, length, slice_index_or}
 use Rattle.tone_table.specs.declared.tone.Tone.{Tone}
+use Rattle.tone_table.specs.declared.tone.Tone.TheVariants.{Mark, Space}
 use Rattle.tone_tracking.specs.declared.correlation.Correlations.{Correlations}
 use Rattle.tone_tracking.specs.declared.pasts.Pasts.{Pasts}
 use Rattle.tone_tracking.specs.declared.place_tones.PlaceTones.{PlaceTones}
@@ -12,19 +13,28 @@ use Rattle.tone_tracking.specs.Heard.{past_at, tone_at}
 use Rattle.tone_tracking.specs.Phasors.{IsWithin}
 use Rattle.std.specs.Prelude.{ℤ}
 
+-- the bit of a tone
+abbrev pub tone_bit : Tone → ℕ
+tone_bit Mark = 0
+tone_bit Space = 1
+
+-- the tone of the lowest bit
+abbrev pub bit_tone : ℕ → Tone
+bit_tone bits = if bits % 2 == 0 then Mark else Space
+
+-- the tones of the three lists in one octet
+abbrev pub packed : Tone → Tone → Tone → PlaceTones
+packed alone near far = record { bits = tone_bit alone + 2 * tone_bit near + 4 * tone_bit far }
+
 -- the tone of a list at a place
 abbrev pub tone_of : Reach → PlaceTones → Tone
-tone_of Alone tones = tones.alone
-tone_of Near tones = tones.near
-tone_of Far tones = tones.far
+tone_of Alone tones = bit_tone tones.bits
+tone_of Near tones = bit_tone (tones.bits / 2)
+tone_of Far tones = bit_tone (tones.bits / 4)
 
 -- the tones of all lists at a place
 abbrev pub place_tones : (ℕ → Correlations) → ℕ → PlaceTones
-place_tones windows place = record {
-  alone = tone_at Alone windows place;
-  near = tone_at Near windows place;
-  far = tone_at Far windows place;
-}
+place_tones windows place = packed (tone_at Alone windows place) (tone_at Near windows place) (tone_at Far windows place)
 
 -- these are the pasts at a place
 pub record ArePastsAt (pasts : Pasts) (windows : ℕ → Correlations) (place : ℕ) : Type 0 where

@@ -15,6 +15,7 @@
 mod bit_clock;
 mod block_mean;
 mod correlation;
+mod deciding;
 mod decision;
 mod mean_remover;
 mod pasts;

@@ -50,5 +50,5 @@ pub(crate) fn decide_place(
     let far = decide(Reach::Far, pasts.far, now, next, later);
     pasts.near = pass(Reach::Near, near, now, pasts.near);
     pasts.far = pass(Reach::Far, far, now, pasts.far);
-    PlaceTones { alone, near, far }
+    PlaceTones::new(alone, near, far)
 }

@@ -7,21 +7,18 @@ ghost use Rattle.std.specs.Prelude.{slice_index_or, unsigned_abs};
 ghost use Rattle.std.specs.List.{All};
 ghost use Rattle.tone_tracking.specs.declared.place_tones.PlaceTones.{PlaceTones};
 ghost use Rattle.tone_tracking.specs.Correlation.{correlations};
-ghost use Rattle.tone_tracking.specs.HeldLine.{HasTaken, decided_in};
+ghost use Rattle.tone_tracking.specs.HeldLine.{HasTaken, TakesBlock, decided_in};
 ghost use Rattle.tone_tracking.specs.HeldMean.{StandsFor as MeanStandsFor};
-ghost use Rattle.tone_tracking.specs.Slots.{AreTonesFrom, Decides, Fits, HasDecidedNone, HeldSlot, IsPrepared, ahead_of};
+ghost use Rattle.tone_tracking.specs.Slots.{AreTonesFrom, HasDecidedNone, HeldSlot, IsPrepared, ahead_of};
 ghost use Rattle.tone_tracking.specs.WithoutMean.{without_mean};
 
 use crate::block_mean::BlockMean;
+use crate::deciding::{Deciding, InTurn, OnThreads};
 use crate::place_tones::PlaceTones;
 use crate::slot_tracker::SlotTracker;
 use std::alloc::{AllocError, Global};
 use std::marker::Model;
-use std::thread;
 use std::thread::Threads;
-
-/// How many threads share the slots.
-const THREADS: usize = 4;
 
 /// Takes samples block by block, and decides the places that they settle: `new`, then `feed` and `line` for each block. It
 /// keeps the last samples without their mean, and its memory from block to block.
@@ -76,32 +73,9 @@ impl ToneLine {
     /// it gives.
     pub fn feed(&mut self, block: &[i16]) -> Result<(), AllocError>
         requires { self.old.count + length block.now < 2 ^ 48 }
-        ensures has_taken { OnOk result ((x : List ℤ) → HasTaken self.old x → HasTaken self.new (x ++ block.now)) }
-        ensures count { OnOk result (self.new.count ≡ self.old.count + length block.now) }
-        ensures first { OnOk result (self.new.first ≡ decided_in self.old.count) }
+        ensures { OnOk result (TakesBlock self.old self.new block.now) }
     {
-        let place = self.count.saturating_sub(38);
-        if let Err(fault) = prepare(
-            &mut self.remover,
-            &mut self.levels,
-            &mut self.slots,
-            &mut self.line,
-            place,
-            block,
-        ) {
-            forget(
-                self.alloc,
-                &mut self.remover,
-                &mut self.levels,
-                &mut self.line,
-            );
-            self.count = 0;
-            return Err(fault);
-        }
-        decide_in_turn(&self.levels, &mut self.slots);
-        put_in_row(&self.slots, place, &mut self.line);
-        self.count += block.len() as u64;
-        Ok(())
+        self.feed_by(&InTurn, block)
     }
 
     /// Does what [`ToneLine::feed`] does, with the slots on threads.
@@ -111,9 +85,16 @@ impl ToneLine {
         block: &[i16],
     ) -> Result<(), AllocError>
         requires { self.old.count + length block.now < 2 ^ 48 }
-        ensures has_taken { OnOk result ((x : List ℤ) → HasTaken self.old x → HasTaken self.new (x ++ block.now)) }
-        ensures count { OnOk result (self.new.count ≡ self.old.count + length block.now) }
-        ensures first { OnOk result (self.new.first ≡ decided_in self.old.count) }
+        ensures { OnOk result (TakesBlock self.old self.new block.now) }
+    {
+        self.feed_by(&OnThreads { rt }, block)
+    }
+
+    /// Takes a block, with the slots decided in some way.
+    fn feed_by<D: Deciding>(&mut self, deciding: &D, block: &[i16]) -> Result<(), AllocError>
+        requires can { D.can deciding.now }
+        requires room { self.old.count + length block.now < 2 ^ 48 }
+        ensures { OnOk result (TakesBlock self.old self.new block.now) }
     {
         let place = self.count.saturating_sub(38);
         if let Err(fault) = prepare(
@@ -133,7 +114,7 @@ impl ToneLine {
             self.count = 0;
             return Err(fault);
         }
-        decide_on_threads(rt, &self.levels, &mut self.slots);
+        deciding.decide(&self.levels, &mut self.slots);
         put_in_row(&self.slots, place, &mut self.line);
         self.count += block.len() as u64;
         Ok(())
@@ -237,41 +218,6 @@ fn prepare_slots(slots: &mut [SlotTracker], place: u64, count: usize) -> Result<
         slot.prepare(first, (count + 7 - first) / 8)?;
     }
     Ok(())
-}
-
-/// Has each slot decide its places, one slot after another.
-fn decide_in_turn(levels: &[i32], slots: &mut [SlotTracker])
-    requires levels { All (λ level. unsigned_abs level ≤ 262144) levels.now }
-    requires slots { length slots.old ≡ 8 }
-    requires fits { All (Fits (length levels.now)) slots.old }
-    ensures slots { length slots.new ≡ 8 }
-    ensures decided { (slot : ℕ) (d : HeldSlot) → slot < 8
-        → Decides levels.now (slice_index_or slots.old slot d) (slice_index_or slots.new slot d) }
-{
-    for index in 0..8 {
-        let slot = &mut slots[index];
-        slot.decide(levels);
-    }
-}
-
-/// Has each slot decide its places, the slots shared out over threads.
-fn decide_on_threads<R: Threads + Sync>(rt: &R, levels: &[i32], slots: &mut [SlotTracker])
-    requires levels { All (λ level. unsigned_abs level ≤ 262144) levels.now }
-    requires slots { length slots.old ≡ 8 }
-    requires fits { All (Fits (length levels.now)) slots.old }
-    ensures slots { length slots.new ≡ 8 }
-    ensures decided { (slot : ℕ) (d : HeldSlot) → slot < 8
-        → Decides levels.now (slice_index_or slots.old slot d) (slice_index_or slots.new slot d) }
-{
-    thread::for_each_mut(
-        rt,
-        slots,
-        THREADS,
-        &|_, slot: &mut SlotTracker|
-            requires { All (λ level. unsigned_abs level ≤ 262144) levels.now × Fits (length levels.now) slot.old }
-            ensures { Decides levels.entry.now slot.old slot.new }
-        { slot.decide(levels) },
-    );
 }
 
 /// Puts the tones of the slots in a row, from a place on.

@@ -11,7 +11,9 @@ mod head;
 mod part;
 mod rates;
 mod reader;
+mod sample;
 
 pub use fault::{TooLong, WavFault};
 pub use head::wav_head;
 pub use reader::WavIn;
+pub use sample::sample_of;

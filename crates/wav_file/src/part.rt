@@ -3,11 +3,11 @@
 ghost use Rattle.std.specs.Prelude.{◌≡◌, ◌<◌, ◌≢◌, ◌≤◌, ℕ, length, take, drop, Some};
 ghost use Rattle.byteorder.specs.Endian.{little_number};
 ghost use Rattle.wav_file.specs.Chunks.{padded};
-ghost use Rattle.wav_file.specs.Samples.{sample_of};
 
 use crate::fault::WavFault;
 use crate::field::Field;
 use crate::rates::Rates;
+use crate::sample::sample_of;
 use byteorder::{ByteOrder, LittleEndian};
 
 // The first letters of a RIFF file, and the word after its size.
@@ -115,7 +115,7 @@ impl Part {
                 (Part::Data { rate, left, low }, None)
             }
             Some(low) => {
-                let sample = sample(low, octet);
+                let sample = sample_of(low, octet);
                 (
                     Part::Data {
                         rate,
@@ -269,12 +269,4 @@ fn padded(size: u32) -> u64
     ensures { result ≡ padded size }
 {
     u64::from(size) + u64::from(size % 2)
-}
-
-// The sample of two octets.
-#[tactic(auto, unfolding(crate::specs::Samples::sample_of))]
-fn sample(low: u8, high: u8) -> i16
-    ensures { result ≡ sample_of low high }
-{
-    i16::from_le_bytes([low, high])
 }

@@ -109,7 +109,7 @@ fn samples_without_their_mean_are_those_of_a_second_program(rt: HostRuntime) {
 
 /// The tones of a place.
 fn tones(near: Tone, far: Tone, alone: Tone) -> Option<PlaceTones> {
-    Some(PlaceTones { alone, near, far })
+    Some(PlaceTones::new(alone, near, far))
 }
 
 /// How many tones a line has past a block, and the last of them.

@@ -20,7 +20,7 @@ returns-in_ok-low-in-Some-len1-up-clause-takes c =
     let rest : take (length octets - 1) (drop 1 octets) ≡ drop 1 octets =
     take_all (length octets - 1) (drop 1 octets) (omega arith) in
     let pushed = c.in_ok-append-in-Some-len1-up.ensures.appended in
-    let value = c.from_le_bytes.ensures in
+    let value = c.sample_of.ensures in
     let first : c.append.new.samples.items ≡ c.args.samples.now.items
     ++ sample_of c.in-Some-len1-up.first (get_or octets 0 0) ∷ [] = grind (arith, common_steps) in
     odd_given octets (take (length octets - 1) (drop 1 octets))

@@ -1,5 +1,6 @@
-use Rattle.tone_tracking.proofs.Common.{sym}
+use Rattle.tone_tracking.proofs.Common.{sym, ◌∙◌}
 use Rattle.tone_tracking.specs.declared.reach.Reach.TheVariants.{Alone, Near, Far}
+use Rattle.tone_tracking.specs.Slots.{packed}
 use Rattle.tone_tracking.proofs.PastLemmas.{past_alone}
 use Rattle.tone_tracking.proofs.SlotLemmas.{slot_past, slot_tone}
 use Rattle.tone_tracking.proofs.pasts.decide_place.Goals as goal
@@ -22,4 +23,4 @@ returns-clause-tones c = λ windows place first second third h.
     c.decide-near.result h.near first second third c.decide-near.ensures in
     let far = slot_tone Far windows place c.args.pasts.now.far c.args.now.now c.args.next.now c.args.later.now
     c.decide-far.result h.far first second third c.decide-far.ensures in
-    λ i. record { alone = alone i; near = near i; far = far i }
+    c.new.ensures ∙ (λ i. packed (alone i) (near i) (far i))

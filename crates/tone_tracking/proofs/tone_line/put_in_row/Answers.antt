@@ -1,4 +1,4 @@
-use Rattle.tone_tracking.proofs.Common.{ℕ, ◌+◌, ◌/◌, ◌%◌, ◌<◌, List, length, get_or, arith, ap, ◌∙◌, length-set, Mark}
+use Rattle.tone_tracking.proofs.Common.{ℕ, ◌+◌, ◌/◌, ◌%◌, ◌<◌, List, length, get_or, arith, ap, ◌∙◌, length-set}
 use Rattle.std.proofs.lemmas.List.{get_or_default}
 use Rattle.tone_tracking.specs.declared.place_tones.PlaceTones.{PlaceTones}
 use Rattle.tone_tracking.specs.Slots.{HeldSlot}
@@ -17,7 +17,7 @@ loop-index-preserved c =
     let eight = c.requires.slots in
     let q : ℕ = (first + n) % 8 in
     let slot : HeldSlot = c.index-slots-first.result in
-    let rest : PlaceTones = record { alone = Mark; near = Mark; far = Mark } in
+    let rest : PlaceTones = record { bits = 0 } in
     let count = c.requires.tones q slot (omega arith) in
     let there : n / 8 < length (get_or slots q slot).tones = omega arith in
     let one : PlaceTones = get_or c.tones.result.now (n / 8) rest in

@@ -7,7 +7,7 @@ use Rattle.fx25_receiver.proofs.plain_frames.PlainFrames.make_room.Goals as goal
 pub returns-then-self-eq-MOST_WAITING-clause-stands_for : goal.returns-then-self-eq-MOST_WAITING-clause-stands_for
 returns-then-self-eq-MOST_WAITING-clause-stands_for c =
     let P : HeldFrames → Type 0 = λ old. (b : List Bool) → StandsFor old.deframer c.args.last old.waiting b
-    → StandsFor c.push_octet.new.deframer c.args.last 0 b in
+    → StandsFor c.push_whole_octet.new.deframer c.args.last 0 b in
     subst P c.self.view_is (λ b s.
-    late_eight c.self.inside.deframer c.push_octet.new.deframer c.args.last c.self.inside.waiting b
-    c.if-self-eq-MOST_WAITING.true c.push_octet.ensures s)
+    late_eight c.self.inside.deframer c.push_whole_octet.new.deframer c.args.last c.self.inside.waiting b
+    c.if-self-eq-MOST_WAITING.true c.push_whole_octet.ensures s)

@@ -1,13 +1,12 @@
 use Rattle.sensitive_receiver.proofs.Common.{◌+◌, ◌∙◌, List, sym, subst, arith, All, All-nil, Candidate}
 use Rattle.sensitive_receiver.proofs.Common.{AreAddedIn, HasRoomFrom, HeldList}
 use Rattle.sensitive_receiver.proofs.ListLemmas.{HasFed, fed_none, fed_more}
-use Rattle.tone_table.specs.declared.tone.Tone.TheVariants.{Mark}
 use Rattle.tone_tracking.specs.declared.place_tones.PlaceTones.{PlaceTones}
 use Rattle.sensitive_receiver.proofs.list_bank.ListBank.feed_reach.Goals as goal
 
 -- what stands where there is nothing
 abbrev rest : PlaceTones
-rest = record { alone = Mark; near = Mark; far = Mark }
+rest = record { bits = 0 }
 
 pub loop-index-init : goal.loop-index-init
 loop-index-init c = record {

@@ -2,7 +2,7 @@ use Rattle.tone_tracking.proofs.Common.{◌<◌, List, length, arith, subst, ◌
 use Rattle.std.proofs.lemmas.List.{get_or_default}
 use Rattle.tone_tracking.specs.Slots.{Decides, HeldSlot}
 use Rattle.tone_tracking.proofs.SlotLemmas.{slots_more, slots_rest}
-use Rattle.tone_tracking.proofs.tone_line.decide_in_turn.Goals as goal
+use Rattle.tone_tracking.proofs.deciding.InTurnDeciding.decide.Goals as goal
 
 pub loop-index-preserved : goal.loop-index-preserved
 loop-index-preserved c =

@@ -1,8 +1,8 @@
-use Rattle.fx25_receiver.proofs.Common.{◌++◌}
+use Rattle.hdlc_framer.proofs.Common.{◌++◌}
 use Rattle.hdlc_framer.proofs.LateLemmas.{all_bits}
 use Rattle.hdlc_framer.specs.Held.{StandsFor}
-use Rattle.fx25_receiver.proofs.Common.{ap, subst}
-use Rattle.fx25_receiver.proofs.plain_frames.push_octet.Goals as goal
+use Rattle.hdlc_framer.proofs.Common.{ap, subst}
+use Rattle.hdlc_framer.proofs.late_deframer.push_whole_octet.Goals as goal
 
 pub returns-then-not-push_octet : goal.returns-then-not-push_octet
 returns-then-not-push_octet c = λ b s.

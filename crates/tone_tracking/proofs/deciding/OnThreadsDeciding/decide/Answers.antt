@@ -1,7 +1,7 @@
 use Rattle.tone_tracking.proofs.Common.{◌<◌, length, arith, subst}
 use Rattle.std.proofs.Common.{slice_index_or}
 use Rattle.tone_tracking.specs.Slots.{Decides, HeldSlot}
-use Rattle.tone_tracking.proofs.tone_line.decide_on_threads.Goals as goal
+use Rattle.tone_tracking.proofs.deciding.OnThreadsDeciding.decide.Goals as goal
 
 pub returns-clause-decided : goal.returns-clause-decided
 returns-clause-decided g c = λ slot d below.

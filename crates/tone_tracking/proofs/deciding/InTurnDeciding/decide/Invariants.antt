@@ -1,6 +1,6 @@
 use Rattle.tone_tracking.proofs.Common.{◌≡◌, ℕ, ◌<◌, ◌≤◌, length, get_or}
 use Rattle.tone_tracking.specs.Slots.{Decides, HeldSlot}
-use Rattle.tone_tracking.proofs.tone_line.decide_in_turn.Given as goal
+use Rattle.tone_tracking.proofs.deciding.InTurnDeciding.decide.Given as goal
 
 abbrev pub invariant-loop-index : goal.invariant-loop-index
 invariant-loop-index l = record {
